@@ -1,0 +1,7 @@
+pub mod Whole
+pub mod Ring
+pub mod Powers
+pub mod Domain
+pub mod ProportionalLemmas
+pub mod BitLemmas
+pub mod SumLemmas

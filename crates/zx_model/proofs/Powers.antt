@@ -1,0 +1,57 @@
+-- The powers of the root: w is an eighth root of one, so exponents are phases.
+use Rattle.std.proofs.Common.{◌≡◌, ◌≢◌, ℕ, zero as nought, suc, ◌+◌, ◌-◌, ◌*◌, ◌/◌, ◌%◌, ◌≤◌, sym, ◌∙◌, ap, arith, refl, suc-add, suc-mul, zero-add, zero-mul}
+use Rattle.zx_model.specs.Number.{zero, one, root, neg, mul, root_power}
+use Rattle.zx_model.specs.Phase.{turn, half_turn, sum_of_phases, opposite_phase}
+use Rattle.zx_model.proofs.Ring as Ring
+use Rattle.zx_model.proofs.Ring.{one-mul, mul_assoc, unit-nonzero}
+
+pub root_power-zero : root_power 0 ≡ one
+unfolding root_power
+root_power-zero = refl
+
+pub root_power-suc : (k : ℕ) → root_power (suc k) ≡ mul root (root_power k)
+unfolding root_power
+root_power-suc k = refl
+
+pub root_power-one : root_power 1 ≡ root
+root_power-one = root_power-suc 0 ∙ ap (mul root) root_power-zero ∙ Ring.mul-one root
+
+pub root_power-add : (j k : ℕ) → root_power (j + k) ≡ mul (root_power j) (root_power k)
+root_power-add nought k = ap root_power (zero-add k) ∙ sym (one-mul (root_power k)) ∙ ap (λ x. mul x (root_power k)) (sym root_power-zero)
+root_power-add (suc j) k =
+    ap root_power (suc-add j k) ∙ root_power-suc (j + k) ∙ ap (mul root) (root_power-add j k) ∙ sym (mul_assoc root (root_power j) (root_power k)) ∙ ap (λ x. mul x (root_power k)) (sym (root_power-suc j))
+
+pub root_power-half_turn : root_power half_turn ≡ neg one
+unfolding root_power mul neg
+root_power-half_turn = refl
+
+pub root_power-turn : root_power turn ≡ one
+unfolding root_power mul
+root_power-turn = refl
+
+-- whole turns change nothing
+root_power-turns : (n : ℕ) → root_power (n * turn) ≡ one
+root_power-turns nought = ap root_power (zero-mul turn) ∙ root_power-zero
+root_power-turns (suc n) =
+    ap root_power (suc-mul n turn) ∙ root_power-add (n * turn) turn ∙ ap (λ x. mul x (root_power turn)) (root_power-turns n) ∙ one-mul (root_power turn) ∙ root_power-turn
+
+pub root_power-mod : (k : ℕ) → root_power (k % turn) ≡ root_power k
+root_power-mod k =
+    let split : k ≡ k / turn * turn + k % turn = omega arith in
+    sym (ap root_power split ∙ root_power-add (k / turn * turn) (k % turn) ∙ ap (λ x. mul x (root_power (k % turn))) (root_power-turns (k / turn)) ∙ one-mul (root_power (k % turn)))
+
+pub root_power-sum_of_phases : (j k : ℕ) → root_power (sum_of_phases j k) ≡ mul (root_power j) (root_power k)
+root_power-sum_of_phases j k = root_power-mod (j + k) ∙ root_power-add j k
+
+pub root_power-opposite_phase : (k : ℕ) → k ≤ turn → mul (root_power (opposite_phase k)) (root_power k) ≡ one
+root_power-opposite_phase k below =
+    let whole : (turn - k) + k ≡ turn = omega arith in
+    ap (λ x. mul x (root_power k)) (root_power-mod (turn - k)) ∙ sym (root_power-add (turn - k) k) ∙ ap root_power whole ∙ root_power-turn
+
+pub root_power-nonzero : (k : ℕ) → root_power k ≢ zero
+root_power-nonzero k e =
+    let phase : k % turn ≤ turn = omega arith in
+    unit-nonzero _ _ (root_power-opposite_phase (k % turn) phase) (root_power-mod k ∙ e)
+
+pub root-nonzero : root ≢ zero
+root-nonzero e = root_power-nonzero 1 (root_power-one ∙ e)

@@ -1,0 +1,16 @@
+-- Bits and lists of bits.
+use Rattle.std.specs.Prelude.{ℕ, Bool, true, false, not, ◌||◌, eqb, List, [], ◌∷◌, get_or}
+
+-- the sum of two bits modulo 2
+abbrev pub xor : Bool → Bool → Bool
+xor true b = not b
+xor false b = b
+
+-- whether a number stands in a list
+abbrev pub member : ℕ → List ℕ → Bool
+member x [] = false
+member x (y ∷ ys) = eqb x y || member x ys
+
+-- the bit at a place
+abbrev pub bit : List Bool → ℕ → Bool
+bit bits place = get_or bits place false

@@ -1,0 +1,5 @@
+pub mod Phase
+pub mod Number
+pub mod Bits
+pub mod Sums
+pub mod Proportional

@@ -1,0 +1,27 @@
+-- Phases, counted in eighth turns: whole numbers modulo 8. A phase k stands for the angle k*pi/4.
+use Rattle.std.specs.Prelude.{ℕ, ◌+◌, ◌-◌, ◌%◌, Bool, ◌==◌, IsTrue}
+
+-- a whole turn
+abbrev pub turn : ℕ
+turn = 8
+
+-- the phase of a Z gate
+abbrev pub half_turn : ℕ
+half_turn = 4
+
+-- the phase of an S gate
+abbrev pub quarter_turn : ℕ
+quarter_turn = 2
+
+abbrev pub sum_of_phases : ℕ → ℕ → ℕ
+sum_of_phases j k = (j + k) % turn
+
+abbrev pub opposite_phase : ℕ → ℕ
+opposite_phase k = (turn - k) % turn
+
+-- a phase is odd where it isn't a whole number of quarter turns
+abbrev pub is_odd : ℕ → Bool
+is_odd k = (k % quarter_turn == 1)
+
+abbrev pub IsOdd : ℕ → Type 0
+IsOdd k = IsTrue (is_odd k)

@@ -1,0 +1,73 @@
+//! The laws of the exact numbers, of proportionality, of bits and of sums over labels. The functions do
+//! nothing: their contracts are the laws.
+
+ghost use Rattle.std.specs.Prelude.{◌≡◌, ◌≢◌, ◌<◌, ℕ, Bool, false, ◌&&◌, List, ◌∷◌, ◌++◌, map, length};
+ghost use Rattle.zx_model.specs.Number.{Number, zero, one, add, neg, mul, root_power, sign};
+ghost use Rattle.zx_model.specs.Phase.{turn, half_turn, sum_of_phases, opposite_phase};
+ghost use Rattle.zx_model.specs.Bits.{xor};
+ghost use Rattle.zx_model.specs.Sums.{total, all_labels, label_of, over, sum_over};
+ghost use Rattle.zx_model.specs.Proportional.{Proportional};
+
+/// Numbers form a commutative ring.
+pub fn numbers_form_a_commutative_ring()
+    ensures sum_commutes { (a b : Number) → add a b ≡ add b a }
+    ensures sum_associates { (a b c : Number) → add (add a b) c ≡ add a (add b c) }
+    ensures zero_is_neutral { (a : Number) → add a zero ≡ a }
+    ensures opposites { (a : Number) → add a (neg a) ≡ zero }
+
+    ensures product_commutes { (a b : Number) → mul a b ≡ mul b a }
+    ensures product_associates { (a b c : Number) → mul (mul a b) c ≡ mul a (mul b c) }
+    ensures one_is_neutral { (a : Number) → mul a one ≡ a }
+    ensures product_distributes { (a b c : Number) → mul a (add b c) ≡ add (mul a b) (mul a c) }
+{}
+
+/// The powers of w are the values exp(i*pi/4*k): a half turn is minus one, a whole turn is one, and phases add.
+pub fn root_is_a_primitive_eighth_root()
+    ensures half_turn_is_minus_one { root_power half_turn ≡ neg one }
+    ensures whole_turn_is_one { root_power turn ≡ one }
+    ensures phases_add { (j k : ℕ) → root_power (sum_of_phases j k) ≡ mul (root_power j) (root_power k) }
+    ensures opposite_phases_cancel { (k : ℕ) → k < turn → mul (root_power (opposite_phase k)) (root_power k) ≡ one }
+    ensures powers_are_nonzero { (k : ℕ) → root_power k ≢ zero }
+{}
+
+/// A product is zero only where a factor is, so that factors other than zero cancel.
+pub fn numbers_have_no_zero_divisors()
+    ensures one_is_nonzero { one ≢ zero }
+    ensures product_is_nonzero { (a b : Number) → a ≢ zero → b ≢ zero → mul a b ≢ zero }
+    ensures factor_cancels { (a b c : Number) → a ≢ zero → mul a b ≡ mul a c → b ≡ c }
+{}
+
+/// Being equal up to a scalar other than zero is an equivalence.
+pub fn proportionality_is_an_equivalence()
+    ensures reflexive { (n m : ℕ) (f : List Bool → List Bool → Number) → Proportional n m f f }
+    ensures symmetric { (n m : ℕ) (f g : List Bool → List Bool → Number) → Proportional n m f g → Proportional n m g f }
+    ensures transitive { (n m : ℕ) (f g h : List Bool → List Bool → Number) →
+        Proportional n m f g → Proportional n m g h → Proportional n m f h }
+{}
+
+/// Bits form a field, with `xor` as the sum and `&&` as the product; `sign` takes their sum to a product.
+pub fn bits_form_a_field()
+    ensures sum_commutes { (a b : Bool) → xor a b ≡ xor b a }
+    ensures sum_associates { (a b c : Bool) → xor (xor a b) c ≡ xor a (xor b c) }
+    ensures each_is_its_opposite { (a : Bool) → xor a a ≡ false }
+    ensures product_distributes { (a b c : Bool) → (a && xor b c) ≡ xor (a && b) (a && c) }
+    ensures signs_multiply { (a b : Bool) → mul (sign a) (sign b) ≡ sign (xor a b) }
+{}
+
+/// Sums over the labels of named things.
+pub fn sums_over_labels()
+    // The sum over all lists of bits, read as labels of the listed names, is the sum name by name.
+    ensures all_lists { (vs : List ℕ) (f : (ℕ → Bool) → Number) →
+        total (map (λ hs. f (label_of vs hs)) (all_labels (length vs))) ≡ sum_over vs f }
+
+    // The order of summation doesn't matter, whether or not the names differ.
+    ensures order { (u v : ℕ) (f : (ℕ → Bool) → Number) (label : ℕ → Bool) →
+        over u (over v f) label ≡ over v (over u f) label }
+    ensures pulled_to_the_front { (pre : List ℕ) (u : ℕ) (post : List ℕ) (f : (ℕ → Bool) → Number) →
+        sum_over (pre ++ u ∷ post) f ≡ sum_over (pre ++ post) (over u f) }
+
+    // A constant factor of each summand is one of the sum.
+    ensures scaled { (c d : Number) (vs : List ℕ) (f g : (ℕ → Bool) → Number) →
+        ((label : ℕ → Bool) → mul c (f label) ≡ mul d (g label)) →
+        mul c (sum_over vs f) ≡ mul d (sum_over vs g) }
+{}
