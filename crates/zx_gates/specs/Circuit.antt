@@ -1,0 +1,39 @@
+-- Circuits as lists of gates, the first to act first.
+use Rattle.std.specs.Prelude.{◌≢◌, ◌≤◌, ◌<◌, ℕ, Bool, false, List}
+use Rattle.std.specs.List.{All, count_by}
+use Rattle.zx_model.specs.Phase.{is_odd}
+use Rattle.zx_gates.specs.declared.gate.Gate.{Gate}
+use Rattle.zx_gates.specs.declared.gate.Gate.TheVariants.{H, Phase, Cz, Cx, Not}
+
+-- a number of qubits, and gates on them
+pub record Circuit : Type 0 where
+  pub qubits : ℕ
+  pub gates : List Gate
+
+-- the most qubits that a circuit may have
+abbrev pub most_qubits : ℕ
+most_qubits = 1024
+
+-- the gate's qubits are below the number n and differ, and a phase gate turns by some phase other than 0
+abbrev pub IsGateOn : ℕ → Gate → Type 0
+IsGateOn n (H q) = q < n
+IsGateOn n (Phase q k) = (q < n) × (k ≢ 0)
+IsGateOn n (Cz q r) = (q < n) × (r < n) × (q ≢ r)
+IsGateOn n (Cx control target) = (control < n) × (target < n) × (control ≢ target)
+IsGateOn n (Not q) = q < n
+
+pub record IsCircuit (c : Circuit) : Type 0 where
+  pub few_qubits : c.qubits ≤ most_qubits
+  pub on_qubits : All (IsGateOn c.qubits) c.gates
+
+-- whether a gate is a phase gate of an odd phase, as T is: these are the dear gates
+abbrev pub is_odd_phase : Gate → Bool
+is_odd_phase (H q) = false
+is_odd_phase (Phase q k) = is_odd k
+is_odd_phase (Cz q r) = false
+is_odd_phase (Cx control target) = false
+is_odd_phase (Not q) = false
+
+-- how many phase gates of odd phases there are
+abbrev pub odd_count : List Gate → ℕ
+odd_count gates = count_by is_odd_phase gates
