@@ -1,0 +1,4 @@
+pub mod MergeLemmas
+pub mod ReadLemmas
+pub mod OutcomeLemmas
+pub mod OptimiseLemmas

@@ -1,0 +1,7 @@
+-- The merged circuit is what is written.
+use Rattle.zx_run.proofs.OptimiseLemmas.{output_for}
+use Rattle.zx_run.proofs.optimise.optimised_text.Goals as goal
+
+pub returns-clause-output : goal.returns-clause-output
+returns-clause-output c =
+    output_for _ _ _ _ c.in_ok-read.ensures.faultless c.in_ok-read.ensures.circuit c.in_ok-merged.ensures.qubits c.in_ok-merged.ensures.merged c.in_ok-output.ensures

@@ -1,0 +1,57 @@
+-- The line about an answer that goes to the error output.
+use Rattle.std.specs.Prelude.{ℕ, ◌++◌, List, [], codes, decimal, Option, None, Some}
+use Rattle.zx_run.specs.declared.status.Fault.{Fault}
+use Rattle.zx_run.specs.declared.status.Fault.TheVariants.{TooLong, BadByte, Syntax, Version, Include, Unsupported, Redeclared, EmptyRegister, TooManyQubits, Unknown, WrongCount, Index, Sizes, SameQubit, Divide, AngleTooLarge, NotEighthTurn, TooDeep, TooManyGates, SecondVersion, BadLine}
+use Rattle.zx_run.specs.declared.status.Status.{Status}
+use Rattle.zx_run.specs.declared.status.Status.TheVariants.{Done, Refused, Usage, ReadFault, WriteFault, NoMemory, No}
+
+-- where something stands, if that is told
+abbrev pub place_text : Option ℕ → List ℕ
+place_text None = []
+place_text (Some at) = codes " at " ++ decimal at
+
+abbrev pub at_place : List ℕ → ℕ → List ℕ
+at_place name at = name ++ place_text (Some at)
+
+-- a fault's number and name, and where it stands, if that is told
+abbrev pub fault_text : Fault → List ℕ
+fault_text TooLong = codes "1 TooLong"
+fault_text (BadByte at) = at_place (codes "2 BadByte") at
+fault_text (Syntax at) = at_place (codes "3 Syntax") at
+fault_text Version = codes "4 Version"
+fault_text (Include at) = at_place (codes "5 Include") at
+fault_text (Unsupported at) = at_place (codes "6 Unsupported") at
+fault_text (Redeclared at) = at_place (codes "7 Redeclared") at
+fault_text (EmptyRegister at) = at_place (codes "8 EmptyRegister") at
+fault_text (TooManyQubits at) = at_place (codes "9 TooManyQubits") at
+fault_text (Unknown at) = at_place (codes "10 Unknown") at
+fault_text (WrongCount at) = at_place (codes "11 WrongCount") at
+fault_text (Index at) = at_place (codes "12 Index") at
+fault_text (Sizes at) = at_place (codes "13 Sizes") at
+fault_text (SameQubit at) = at_place (codes "14 SameQubit") at
+fault_text (Divide at) = at_place (codes "15 Divide") at
+fault_text (AngleTooLarge at) = at_place (codes "16 AngleTooLarge") at
+fault_text (NotEighthTurn at) = at_place (codes "17 NotEighthTurn") at
+fault_text (TooDeep at) = at_place (codes "18 TooDeep") at
+fault_text (TooManyGates at) = at_place (codes "19 TooManyGates") at
+fault_text (SecondVersion at) = at_place (codes "20 SecondVersion") at
+fault_text (BadLine line) = at_place (codes "21 BadLine") line
+
+-- the line, with its line end; none for an answer that is no refusal
+abbrev pub error_line : Status → List ℕ
+error_line Done = []
+error_line (Refused fault) = codes "zxopt: fault " ++ fault_text fault ++ codes "\n"
+error_line Usage = codes "usage: zxopt opt [--best] [--report] | reduce | flow | graph | gen SEED QUBITS GATES\n"
+error_line ReadFault = codes "zxopt: read fault\n"
+error_line WriteFault = codes "zxopt: write fault\n"
+error_line NoMemory = codes "zxopt: no memory\n"
+error_line No = []
+
+abbrev pub IsNoRefusal : Status → Type 0
+IsNoRefusal (Refused fault) = ⊥
+IsNoRefusal Done = Unit {0}
+IsNoRefusal Usage = Unit {0}
+IsNoRefusal ReadFault = Unit {0}
+IsNoRefusal WriteFault = Unit {0}
+IsNoRefusal NoMemory = Unit {0}
+IsNoRefusal No = Unit {0}

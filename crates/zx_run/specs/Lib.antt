@@ -1,0 +1,7 @@
+pub mod Command
+pub mod Written
+pub mod Merging
+pub mod Reading
+pub mod Optimising
+pub mod Outcome
+pub mod ErrorLine

@@ -1,0 +1,63 @@
+-- What a run did to the output, and what its answer says.
+use Rattle.std.specs.Prelude.{◌≡◌, ◌≢◌, ◌≤◌, ◌⊎◌, ◌++◌, ℕ, List, [], length, take, Option, None, Some}
+use Rattle.zx_io.specs.Causes.{Rose}
+use Rattle.zx_gates.specs.Circuit.{Circuit}
+use Rattle.zx_run.specs.declared.status.Status.{Status}
+use Rattle.zx_run.specs.declared.status.Status.TheVariants.{Done, Refused, Usage, ReadFault, WriteFault, NoMemory, No}
+use Rattle.zx_run.specs.declared.status.Fault.TheVariants.{TooLong}
+use Rattle.zx_run.specs.Written.{written}
+use Rattle.zx_run.specs.Reading.{first_fault, circuit_of}
+use Rattle.zx_run.specs.Optimising.{Optimises}
+
+-- The bytes are what `opt` may write for a text: the text has no fault, and they are the text of a circuit
+-- that optimises the one that is meant, with one gate at most.
+pub record IsOutputFor (text bytes : List ℕ) : Type 0 where
+  pub circuit : Circuit
+  pub faultless : first_fault text ≡ None
+  pub optimises : Optimises (circuit_of text) circuit
+  pub one_gate : length circuit.gates ≤ 1
+  pub spelled : bytes ≡ written circuit
+
+-- what was told as taken gained all of these bytes
+abbrev pub Gains : Option (List ℕ) → Option (List ℕ) → List ℕ → Type 0
+Gains old new bytes = (before : List ℕ) → old ≡ Some before → new ≡ Some (before ++ bytes)
+
+-- what was told as taken gained a front of these bytes
+abbrev pub GainsFront : Option (List ℕ) → Option (List ℕ) → List ℕ → Type 0
+GainsFront old new bytes = (before : List ℕ) → old ≡ Some before → (k : ℕ) × (new ≡ Some (before ++ take k bytes))
+
+-- the answers after which the output is as it was
+abbrev pub LeavesOutput : Status → Type 0
+LeavesOutput Done = ⊥
+LeavesOutput (Refused fault) = Unit {0}
+LeavesOutput Usage = Unit {0}
+LeavesOutput ReadFault = Unit {0}
+LeavesOutput WriteFault = ⊥
+LeavesOutput NoMemory = Unit {0}
+LeavesOutput No = ⊥
+
+-- the answer is passed on; only in place of a refusal memory may be missing
+abbrev pub PassesOn : Status → Status → Type 0
+PassesOn (Refused fault) result = (result ≡ Refused fault) ⊎ (result ≡ NoMemory)
+PassesOn Done result = result ≡ Done
+PassesOn Usage result = result ≡ Usage
+PassesOn ReadFault result = result ≡ ReadFault
+PassesOn WriteFault result = result ≡ WriteFault
+PassesOn NoMemory result = result ≡ NoMemory
+PassesOn No result = result ≡ No
+
+-- What an answer says of a source, by its bytes left and its count of faults before and after, and of a sink, by its
+-- bytes taken and its count of faults before and after.
+abbrev pub IsAnswer : Option (List ℕ) → Option (List ℕ) → ℕ → ℕ → Option (List ℕ) → Option (List ℕ) → ℕ → ℕ → Status → Type 0
+IsAnswer left left' faults faults' taken taken' missed missed' Done =
+    (faults' ≡ faults) × (missed' ≡ missed) × ((text : List ℕ) → left ≡ Some text →
+    (left' ≡ Some []) × ((bytes : List ℕ) × IsOutputFor text bytes × Gains taken taken' bytes))
+IsAnswer left left' faults faults' taken taken' missed missed' (Refused fault) =
+    (faults' ≡ faults) × ((text : List ℕ) → left ≡ Some text → (first_fault text ≡ Some fault) × (fault ≢ TooLong → left' ≡ Some []))
+IsAnswer left left' faults faults' taken taken' missed missed' Usage = Unit {0}
+IsAnswer left left' faults faults' taken taken' missed missed' ReadFault = Rose faults faults'
+IsAnswer left left' faults faults' taken taken' missed missed' WriteFault =
+    Rose missed missed' × (faults' ≡ faults) × ((text : List ℕ) → left ≡ Some text →
+    (bytes : List ℕ) × IsOutputFor text bytes × GainsFront taken taken' bytes)
+IsAnswer left left' faults faults' taken taken' missed missed' NoMemory = Unit {0}
+IsAnswer left left' faults faults' taken taken' missed missed' No = ⊥

@@ -1,0 +1,17 @@
+//! The optimiser from bytes to bytes: words and an OpenQASM text in, an optimised text out.
+#![tactic(auto)]
+
+mod error_line;
+mod merge;
+mod optimise;
+mod program;
+mod reader;
+pub mod status;
+mod stopped;
+#[cfg(test)]
+mod tests;
+mod words;
+mod writer;
+
+pub use program::run;
+pub use status::{Fault, Status};

@@ -1,0 +1,115 @@
+//! A run of the program, over any source and sinks.
+
+ghost use Rattle.std.specs.Prelude.{◌≡◌, ◌≢◌, ◌⊎◌, ◌↔◌, List, ℕ, [], map, None, Some};
+ghost use Rattle.zx_io.specs.Causes.{Rose};
+ghost use Rattle.zx_run.specs.declared.status.Fault.{Fault};
+ghost use Rattle.zx_run.specs.declared.words.Command.TheVariants.{Optimise};
+ghost use Rattle.zx_run.specs.Command.{command_of};
+ghost use Rattle.zx_run.specs.Reading.{first_fault};
+ghost use Rattle.zx_run.specs.Outcome.{IsOutputFor, Gains, GainsFront, LeavesOutput, IsAnswer};
+ghost use Rattle.zx_run.specs.ErrorLine.{error_line};
+
+use crate::error_line::report;
+use crate::optimise::optimised_text;
+use crate::status::{Fault, Status};
+use crate::stopped::Stopped;
+use crate::words::{Command, command_from};
+use std::alloc::Global;
+use zx_io::{ReadError, Sink, Source, WriteFault, read_all, write_all};
+
+/// The most bytes that are read.
+const MOST_BYTES: usize = 16_777_216;
+
+/// Runs the command that the words give, those after the program's name: `opt` reads a text from `source`
+/// to its end, and writes the text of the optimised circuit to `out`. A line about any other answer than
+/// Done goes to `err`, whose failures change nothing.
+///
+/// Want of memory may take the place of each answer but Usage, ReadFault and WriteFault.
+pub fn run<'a, S: Source, O: Sink, E: Sink>(
+    alloc: Global,
+    words: &'a [&'a str],
+    source: &mut S,
+    out: &mut O,
+    err: &mut E,
+) -> Status
+    // Done: no end failed, and the output gained the text of an optimised circuit.
+    ensures done { result ≡ Status.Done → (S.faults source.new ≡ S.faults source.old) × (O.faults out.new ≡ O.faults out.old) }
+    ensures done_output { result ≡ Status.Done → (text : List ℕ) → S.left source.old ≡ Some text →
+        (bytes : List ℕ) × IsOutputFor text bytes × Gains (O.taken out.old) (O.taken out.new) bytes }
+
+    // Usage: exactly where the words are no command. Nothing is read then.
+    ensures usage { result ≡ Status.Usage ↔ command_of (map (λ word. word.now) words.now) ≡ None }
+    ensures usage_unread { result ≡ Status.Usage → source.new ≡ source.old }
+
+    // Refused: exactly where no read failed and the fault is the first one of the text.
+    ensures refused { (fault : Fault) → result ≡ Status.Refused fault → S.faults source.new ≡ S.faults source.old }
+    ensures refused_first { (fault : Fault) (text : List ℕ) → result ≡ Status.Refused fault → S.left source.old ≡ Some text →
+        first_fault text ≡ Some fault }
+    ensures refused_where { (fault : Fault) (text : List ℕ) → command_of (map (λ word. word.now) words.now) ≡ Some Optimise →
+        S.left source.old ≡ Some text → first_fault text ≡ Some fault → ¬ Rose (S.faults source.old) (S.faults source.new) →
+        (result ≡ Status.Refused fault) ⊎ (result ≡ Status.NoMemory) }
+
+    // ReadFault and WriteFault: only where that end failed in this call.
+    ensures read_fault { result ≡ Status.ReadFault → Rose (S.faults source.old) (S.faults source.new) }
+    ensures write_fault { result ≡ Status.WriteFault →
+        Rose (O.faults out.old) (O.faults out.new) × (S.faults source.new ≡ S.faults source.old) }
+    ensures write_fault_output { result ≡ Status.WriteFault → (text : List ℕ) → S.left source.old ≡ Some text →
+        (bytes : List ℕ) × IsOutputFor text bytes × GainsFront (O.taken out.old) (O.taken out.new) bytes }
+    ensures never_no { result ≢ Status.No }
+
+    // A text without fault is optimised, unless an end fails or memory runs out.
+    ensures complete { (text : List ℕ) → command_of (map (λ word. word.now) words.now) ≡ Some Optimise →
+        S.left source.old ≡ Some text → first_fault text ≡ None →
+        ¬ Rose (S.faults source.old) (S.faults source.new) → ¬ Rose (O.faults out.old) (O.faults out.new) →
+        (result ≡ Status.Done) ⊎ (result ≡ Status.NoMemory) }
+
+    // What stands after the answer.
+    ensures read_to_end { (text : List ℕ) → S.left source.old ≡ Some text →
+        (result ≡ Status.Done) ⊎ ((fault : Fault) × (fault ≢ Fault.TooLong) × (result ≡ Status.Refused fault)) →
+        S.left source.new ≡ Some [] }
+    ensures out_kept { LeavesOutput result → out.new ≡ out.old }
+    ensures err_front { GainsFront (E.taken err.old) (E.taken err.new) (error_line result) }
+    ensures err_whole { ¬ Rose (E.faults err.old) (E.faults err.new) →
+        Gains (E.taken err.old) (E.taken err.new) (error_line result) }
+{
+    let status = answer(alloc, words, source, out);
+    report(alloc, status, err)
+}
+
+/// The answer, without its line.
+fn answer<S: Source, O: Sink>(alloc: Global, words: &[&str], source: &mut S, out: &mut O) -> Status
+    ensures usage { result ≡ Status.Usage ↔ command_of (map (λ word. word.now) words.now) ≡ None }
+    ensures unread { result ≡ Status.Usage → source.new ≡ source.old }
+    ensures out_kept { LeavesOutput result → out.new ≡ out.old }
+    ensures answers { IsAnswer (S.left source.old) (S.left source.new) (S.faults source.old) (S.faults source.new)
+        (O.taken out.old) (O.taken out.new) (O.faults out.old) (O.faults out.new) result }
+{
+    match command_from(words) {
+        None => Status::Usage,
+        Some(Command::Optimise) => optimise_from(alloc, source, out),
+    }
+}
+
+/// Reads a text, and writes the text of the optimised circuit.
+fn optimise_from<S: Source, O: Sink>(alloc: Global, source: &mut S, out: &mut O) -> Status
+    ensures no_usage { result ≢ Status.Usage }
+    ensures out_kept { LeavesOutput result → out.new ≡ out.old }
+    ensures answers { IsAnswer (S.left source.old) (S.left source.new) (S.faults source.old) (S.faults source.new)
+        (O.taken out.old) (O.taken out.new) (O.faults out.old) (O.faults out.new) result }
+{
+    let text = match read_all(alloc, source, MOST_BYTES) {
+        Ok(text) => text,
+        Err(ReadError::ReadFault) => return Status::ReadFault,
+        Err(ReadError::TooLong) => return Status::Refused(Fault::TooLong),
+        Err(ReadError::NoMemory) => return Status::NoMemory,
+    };
+    let output = match optimised_text(alloc, &text) {
+        Ok(output) => output,
+        Err(Stopped::Fault(fault)) => return Status::Refused(fault),
+        Err(Stopped::NoMemory) => return Status::NoMemory,
+    };
+    match write_all(out, &output) {
+        Ok(()) => Status::Done,
+        Err(WriteFault) => Status::WriteFault,
+    }
+}

@@ -1,0 +1,106 @@
+//! The text of a circuit.
+
+ghost use Rattle.std.specs.Prelude.{◌≡◌, ◌++◌, IfOk, OnOk, codes, decimal};
+ghost use Rattle.zx_run.specs.Written.{written, gate_line, on_one, on_two, qubit, phase_name, register_line};
+
+use itoa::Buffer;
+use std::alloc::{AllocError, Global};
+use zx_gates::{Gate, GateList, Qubit};
+use zx_model::Eighth;
+
+/// The circuit as an OpenQASM text.
+#[tactic(auto, unfolding(crate::specs::Written::written))]
+pub fn write_text(alloc: Global, list: &GateList) -> Result<Vec<u8>, AllocError>
+    ensures { IfOk result (λ text. text.items ≡ written list.now) }
+{
+    let mut text = Vec::new(alloc);
+    text.extend_from_slice(b"OPENQASM 2.0;\ninclude \"qelib1.inc\";\n")?;
+    push_register(&mut text, list.qubits())?;
+    for gate in list.gates() {
+        push_gate(&mut text, *gate)?;
+    }
+    Ok(text)
+}
+
+/// Adds the line of the register.
+fn push_register(text: &mut Vec<u8>, qubits: Qubit) -> Result<(), AllocError>
+    ensures { OnOk result (text.new.items ≡ text.old.items ++ register_line qubits) }
+{
+    if qubits == 0 {
+        return Ok(());
+    }
+    text.extend_from_slice(b"qreg q[")?;
+    push_number(text, qubits)?;
+    text.extend_from_slice(b"];\n")?;
+    Ok(())
+}
+
+/// Adds the line of a gate.
+fn push_gate(text: &mut Vec<u8>, gate: Gate) -> Result<(), AllocError>
+    ensures { OnOk result (text.new.items ≡ text.old.items ++ gate_line gate) }
+{
+    match gate {
+        Gate::H(q) => push_on_one(text, b"h", q),
+        Gate::Phase(q, phase) => push_on_one(text, name_of_phase(phase), q),
+        Gate::Cz(q, r) => push_on_two(text, b"cz", q, r),
+        Gate::Cx { control, target } => push_on_two(text, b"cx", control, target),
+        Gate::Not(q) => push_on_one(text, b"x", q),
+    }
+}
+
+/// The name of a phase gate.
+fn name_of_phase(phase: Eighth) -> &'static [u8]
+    ensures { result.now ≡ phase_name phase }
+{
+    match phase.get() {
+        1 => b"t",
+        2 => b"s",
+        3 => b"u1(3*pi/4)",
+        4 => b"z",
+        5 => b"u1(5*pi/4)",
+        6 => b"sdg",
+        _ => b"tdg",
+    }
+}
+
+/// Adds the line of a gate on one qubit.
+fn push_on_one(text: &mut Vec<u8>, name: &[u8], q: Qubit) -> Result<(), AllocError>
+    ensures { OnOk result (text.new.items ≡ text.old.items ++ on_one name.now q) }
+{
+    text.extend_from_slice(name)?;
+    text.extend_from_slice(b" ")?;
+    push_qubit(text, q)?;
+    text.extend_from_slice(b";\n")?;
+    Ok(())
+}
+
+/// Adds the line of a gate on two qubits.
+fn push_on_two(text: &mut Vec<u8>, name: &[u8], q: Qubit, r: Qubit) -> Result<(), AllocError>
+    ensures { OnOk result (text.new.items ≡ text.old.items ++ on_two name.now q r) }
+{
+    text.extend_from_slice(name)?;
+    text.extend_from_slice(b" ")?;
+    push_qubit(text, q)?;
+    text.extend_from_slice(b",")?;
+    push_qubit(text, r)?;
+    text.extend_from_slice(b";\n")?;
+    Ok(())
+}
+
+/// Adds a qubit of the register.
+fn push_qubit(text: &mut Vec<u8>, q: Qubit) -> Result<(), AllocError>
+    ensures { OnOk result (text.new.items ≡ text.old.items ++ qubit q) }
+{
+    text.extend_from_slice(b"q[")?;
+    push_number(text, q)?;
+    text.extend_from_slice(b"]")?;
+    Ok(())
+}
+
+/// Adds a number in decimal digits.
+fn push_number(text: &mut Vec<u8>, number: u16) -> Result<(), AllocError>
+    ensures { OnOk result (text.new.items ≡ text.old.items ++ decimal number) }
+{
+    let mut buffer = Buffer::new();
+    text.extend_from_slice(buffer.format(number).as_bytes())
+}
