@@ -1,7 +1,7 @@
 -- The exact numbers that linear maps of Clifford+T circuits are made of: a + b*w + c*w^2 + d*w^3 with
 -- whole a, b, c, d, where w is the primitive eighth root of unity exp(i*pi/4), so w^4 = -1.
 -- This is the ring Z[w] of Giles and Selinger, "Exact synthesis of multiqubit Clifford+T circuits"
--- (Phys. Rev. A 87, 032332, 2013), section 2.
+-- (Phys. Rev. A 87, 032332, 2013).
 use Rattle.std.specs.Prelude.{ℕ, zero as nought, suc, Bool, if◌then◌else◌, ℤ, pos, ◌+ℤ◌, ◌-ℤ◌, ◌*ℤ◌, neg_ℤ}
 
 -- c0 + c1*w + c2*w^2 + c3*w^3

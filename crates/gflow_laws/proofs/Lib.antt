@@ -1,0 +1,14 @@
+pub mod Linear
+pub mod Corrects
+pub mod Complement
+pub mod Removal
+pub mod Growth
+pub mod Lists
+pub mod Flows
+pub mod TableLaws
+pub mod Views
+pub mod PivotViews
+pub mod SplitViews
+pub mod Steps
+pub mod Seeing
+pub mod Same

@@ -1,0 +1,49 @@
+-- What a generalised flow sees of an open graph: its vertices, what is adjacent, the planes, and the places of
+-- the ends. It sees no phase. Backens, Miller-Bakewell, de Felice, Lobski and van de Wetering, "There and back
+-- again: a circuit extraction tale" (Quantum 5, 421, 2021).
+use Rattle.std.specs.Prelude.{ℕ, Bool, cond, not, ◌&&◌, eqb, List}
+use Rattle.zx_model.specs.Bits.{xor, member}
+use Rattle.zx_calculus.specs.Graph.{Plane, XY, XZ, YZ, Graph, ids, joined, places, plane_of}
+use Rattle.zx_calculus.specs.Parity.{masked}
+
+pub record Seen : Type 0 where
+  pub ids : List ℕ
+  pub adjacent : ℕ → ℕ → Bool
+  pub plane : ℕ → Plane
+  pub input : ℕ → Bool
+  pub output : ℕ → Bool
+
+abbrev pub seen : Graph → Seen
+seen g = record {
+  ids = ids g.vertices;
+  adjacent = joined g.edges;
+  plane = plane_of g;
+  input = λ v. member v (places g.inputs);
+  output = λ v. member v (places g.outputs);
+}
+
+-- Odd(A): whether v has an odd number of neighbours in the set
+abbrev pub odd : Seen → (ℕ → Bool) → ℕ → Bool
+odd s set v = masked (s.adjacent v) s.ids set
+
+-- the plane of a vertex after a local complement about it
+abbrev pub complemented_plane : Plane → Plane
+complemented_plane XY = XZ
+complemented_plane XZ = XY
+complemented_plane YZ = YZ
+
+-- the plane of a vertex after a quarter turn
+abbrev pub turned_plane : Plane → Plane
+turned_plane XY = XY
+turned_plane XZ = YZ
+turned_plane YZ = XZ
+
+-- what a flow sees after a local complement about u
+abbrev pub complemented : Seen → ℕ → Seen
+complemented s u = record {
+  ids = s.ids;
+  adjacent = λ p q. not (eqb p q) && xor (s.adjacent p q) (s.adjacent u p && s.adjacent u q);
+  plane = λ p. cond (eqb p u) (complemented_plane (s.plane p)) (cond (s.adjacent u p) (turned_plane (s.plane p)) (s.plane p));
+  input = s.input;
+  output = s.output;
+}

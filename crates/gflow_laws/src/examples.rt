@@ -1,0 +1,92 @@
+//! The definitions, tried on small graphs.
+
+ghost use Rattle.std.specs.Prelude.{◌≡◌, true, false, [], ◌∷◌};
+ghost use Rattle.zx_calculus.specs.Steps.{LocalComplement, Delete, Pivot, DropLone, FuseInto, FuseTwin, SplitInput, SplitOutput};
+ghost use Rattle.zx_calculus.specs.After.{after};
+ghost use Rattle.zx_calculus.specs.Worked.{path_of_three, path_complemented, path_deleted, path_of_four, path_pivoted, twins, twins_reduced, small_gadgets, small_gadgets_reduced};
+ghost use Rattle.gflow_laws.specs.Seen.{seen};
+ghost use Rattle.gflow_laws.specs.Flow.{IsFlow, input_holds, order_holds, odd_holds, XY_holds, XZ_holds, YZ_holds};
+ghost use Rattle.gflow_laws.specs.Tables.{split_input_table, split_output_table, table_after};
+ghost use Rattle.gflow_laws.specs.Examples.{apart, linked, first_by_second, path_table, path_complemented_table, path_deleted_table, path_of_four_table, path_pivoted_table, by_itself};
+
+/// An input apart from an output has no flow by this table: at vertex 0 the condition of its plane fails, and
+/// no other does. With an edge between them the table is a flow.
+pub fn two_ends_need_an_edge()
+    ensures input { input_holds (seen apart) (1 ∷ []) ≡ true }
+    ensures order { order_holds (0 ∷ []) 0 (1 ∷ []) ≡ true }
+    ensures odd { odd_holds (seen apart) (0 ∷ []) 0 (1 ∷ []) ≡ true }
+    ensures plane { XY_holds (seen apart) 0 (1 ∷ []) ≡ false }
+    ensures no_flow { IsFlow apart first_by_second → ⊥ }
+    ensures flow { IsFlow linked first_by_second }
+{}
+
+/// Each condition of a flow can fail.
+pub fn each_condition_can_fail()
+    // An input in the set.
+    ensures input { input_holds (seen path_of_three) (0 ∷ []) ≡ false }
+
+    // A member of the set that doesn't come after the vertex.
+    ensures order { order_holds (0 ∷ 1 ∷ 2 ∷ []) 2 (1 ∷ []) ≡ false }
+
+    // A vertex with an odd number of neighbours in the set that doesn't come after the vertex.
+    ensures odd { odd_holds (seen path_of_four) (2 ∷ 0 ∷ 1 ∷ []) 0 (1 ∷ []) ≡ false }
+    ensures odd_in_order { odd_holds (seen path_of_four) (0 ∷ 1 ∷ 2 ∷ []) 0 (1 ∷ []) ≡ true }
+
+    ensures XY { XY_holds (seen path_of_three) 1 (1 ∷ []) ≡ false }
+    ensures XZ { XZ_holds (seen path_complemented) 1 (2 ∷ []) ≡ false }
+    ensures YZ { YZ_holds (seen small_gadgets) 1 (2 ∷ []) ≡ false }
+{}
+
+/// The flow of a path of three, whose middle is complemented about, then deleted.
+pub fn flow_of_a_path_of_three()
+    ensures before { IsFlow path_of_three path_table }
+    ensures table_complemented { table_after path_of_three (LocalComplement 1) path_complemented path_table ≡
+        path_complemented_table }
+    ensures complemented { IsFlow path_complemented path_complemented_table }
+    ensures table_deleted { table_after path_complemented (Delete 1) path_deleted path_complemented_table ≡
+        path_deleted_table }
+    ensures deleted { IsFlow path_deleted path_deleted_table }
+{}
+
+/// The flow of a path of four, whose middle two are pivoted.
+pub fn flow_of_a_path_of_four()
+    ensures before { IsFlow path_of_four path_of_four_table }
+    ensures table_pivoted { table_after path_of_four (Pivot 1 2) path_pivoted path_of_four_table ≡
+        path_pivoted_table }
+    ensures pivoted { IsFlow path_pivoted path_pivoted_table }
+{}
+
+/// The ends of a path of three are split.
+pub fn flow_of_split_ends()
+    ensures table_input { table_after path_of_three (SplitInput 0) (after (SplitInput 0) path_of_three) path_table ≡
+        split_input_table 0 3 path_table }
+    ensures input { IsFlow (after (SplitInput 0) path_of_three) (split_input_table 0 3 path_table) }
+    ensures table_output { table_after path_of_three (SplitOutput 2) (after (SplitOutput 2) path_of_three) path_table ≡
+        split_output_table 2 3 path_table }
+    ensures output { IsFlow (after (SplitOutput 2) path_of_three) (split_output_table 2 3 path_table) }
+{}
+
+/// Phase gadgets correct themselves: twins that are fused, complemented about and deleted.
+pub fn flow_of_twin_gadgets()
+    ensures before { IsFlow twins (by_itself 2 ∷ by_itself 3 ∷ []) }
+    ensures table_fused { table_after twins (FuseTwin 2 3) (after (FuseTwin 2 3) twins) (by_itself 2 ∷ by_itself 3 ∷ []) ≡
+        by_itself 2 ∷ [] }
+    ensures fused { IsFlow (after (FuseTwin 2 3) twins) (by_itself 2 ∷ []) }
+    ensures table_complemented { table_after (after (FuseTwin 2 3) twins) (LocalComplement 2) (after (LocalComplement 2) (after (FuseTwin 2 3) twins)) (by_itself 2 ∷ []) ≡
+        by_itself 2 ∷ [] }
+    ensures complemented { IsFlow (after (LocalComplement 2) (after (FuseTwin 2 3) twins)) (by_itself 2 ∷ []) }
+    ensures table_deleted { table_after (after (LocalComplement 2) (after (FuseTwin 2 3) twins)) (Delete 2) twins_reduced (by_itself 2 ∷ []) ≡
+        [] }
+    ensures deleted { IsFlow twins_reduced [] }
+{}
+
+/// A gadget without neighbours is dropped, one with one neighbour is fused into it.
+pub fn flow_of_small_gadgets()
+    ensures before { IsFlow small_gadgets (by_itself 1 ∷ by_itself 2 ∷ []) }
+    ensures table_dropped { table_after small_gadgets (DropLone 2) (after (DropLone 2) small_gadgets) (by_itself 1 ∷ by_itself 2 ∷ []) ≡
+        by_itself 1 ∷ [] }
+    ensures dropped { IsFlow (after (DropLone 2) small_gadgets) (by_itself 1 ∷ []) }
+    ensures table_fused { table_after (after (DropLone 2) small_gadgets) (FuseInto 1) small_gadgets_reduced (by_itself 1 ∷ []) ≡
+        [] }
+    ensures fused { IsFlow small_gadgets_reduced [] }
+{}

@@ -1,0 +1,15 @@
+pub mod Graph
+pub mod Sum
+pub mod Parity
+pub mod Turns
+pub mod Scalars
+pub mod Complement
+pub mod Pivots
+pub mod Boundary
+pub mod Gadgets
+pub mod Steps
+pub mod Factors
+pub mod Reduced
+pub mod After
+pub mod Worked
+pub mod Tables

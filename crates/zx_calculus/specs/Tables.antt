@@ -1,0 +1,53 @@
+-- Tables of the factors of a vertex, computed apart from the definitions, and sums of small graphs.
+use Rattle.std.specs.Prelude.{ℕ, ℤ, pos, negsuc, List, [], ◌∷◌}
+use Rattle.zx_model.specs.Number.{Number}
+use Rattle.zx_calculus.specs.Graph.{XY, YZ, Graph}
+use Rattle.zx_calculus.specs.Worked.{vertex, edge, plain, graph}
+
+abbrev pub number : ℤ → ℤ → ℤ → ℤ → Number
+number a b c d = record { c0 = a; c1 = b; c2 = c; c3 = d }
+
+abbrev pub all_phases : List ℕ
+all_phases = 0 ∷ 1 ∷ 2 ∷ 3 ∷ 4 ∷ 5 ∷ 6 ∷ 7 ∷ []
+
+-- the root of two: w - w^3
+abbrev pub root_of_two : Number
+root_of_two = number (pos 0) (pos 1) (pos 0) (negsuc 0)
+
+-- labels 0 in XY, at each phase
+abbrev pub factors_XY_0 : List Number
+factors_XY_0 =
+    number (pos 1) (pos 0) (pos 0) (pos 0) ∷ number (pos 1) (pos 0) (pos 0) (pos 0) ∷ number (pos 1) (pos 0) (pos 0) (pos 0) ∷ number (pos 1) (pos 0) (pos 0) (pos 0) ∷ number (pos 1) (pos 0) (pos 0) (pos 0) ∷ number (pos 1) (pos 0) (pos 0) (pos 0) ∷ number (pos 1) (pos 0) (pos 0) (pos 0) ∷ number (pos 1) (pos 0) (pos 0) (pos 0) ∷ []
+
+-- labels 1 in XY, at each phase
+abbrev pub factors_XY_1 : List Number
+factors_XY_1 =
+    number (pos 1) (pos 0) (pos 0) (pos 0) ∷ number (pos 0) (pos 1) (pos 0) (pos 0) ∷ number (pos 0) (pos 0) (pos 1) (pos 0) ∷ number (pos 0) (pos 0) (pos 0) (pos 1) ∷ number (negsuc 0) (pos 0) (pos 0) (pos 0) ∷ number (pos 0) (negsuc 0) (pos 0) (pos 0) ∷ number (pos 0) (pos 0) (negsuc 0) (pos 0) ∷ number (pos 0) (pos 0) (pos 0) (negsuc 0) ∷ []
+
+-- labels 0 in XZ, at each phase
+abbrev pub factors_XZ_0 : List Number
+factors_XZ_0 =
+    number (pos 2) (pos 0) (pos 0) (pos 0) ∷ number (pos 1) (pos 1) (pos 0) (pos 0) ∷ number (pos 1) (pos 0) (pos 1) (pos 0) ∷ number (pos 1) (pos 0) (pos 0) (pos 1) ∷ number (pos 0) (pos 0) (pos 0) (pos 0) ∷ number (pos 1) (negsuc 0) (pos 0) (pos 0) ∷ number (pos 1) (pos 0) (negsuc 0) (pos 0) ∷ number (pos 1) (pos 0) (pos 0) (negsuc 0) ∷ []
+
+-- labels 1 in XZ, at each phase
+abbrev pub factors_XZ_1 : List Number
+factors_XZ_1 =
+    number (pos 0) (pos 0) (pos 0) (pos 0) ∷ number (pos 0) (pos 0) (pos 1) (negsuc 0) ∷ number (pos 1) (pos 0) (pos 1) (pos 0) ∷ number (pos 0) (pos 1) (pos 1) (pos 0) ∷ number (pos 0) (pos 0) (pos 2) (pos 0) ∷ number (pos 0) (pos 0) (pos 1) (pos 1) ∷ number (negsuc 0) (pos 0) (pos 1) (pos 0) ∷ number (pos 0) (negsuc 0) (pos 1) (pos 0) ∷ []
+
+-- labels 0 in YZ, at each phase
+abbrev pub factors_YZ_0 : List Number
+factors_YZ_0 =
+    number (pos 2) (pos 0) (pos 0) (pos 0) ∷ number (pos 1) (pos 1) (pos 0) (pos 0) ∷ number (pos 1) (pos 0) (pos 1) (pos 0) ∷ number (pos 1) (pos 0) (pos 0) (pos 1) ∷ number (pos 0) (pos 0) (pos 0) (pos 0) ∷ number (pos 1) (negsuc 0) (pos 0) (pos 0) ∷ number (pos 1) (pos 0) (negsuc 0) (pos 0) ∷ number (pos 1) (pos 0) (pos 0) (negsuc 0) ∷ []
+
+-- labels 1 in YZ, at each phase
+abbrev pub factors_YZ_1 : List Number
+factors_YZ_1 =
+    number (pos 0) (pos 0) (pos 0) (pos 0) ∷ number (pos 1) (negsuc 0) (pos 0) (pos 0) ∷ number (pos 1) (pos 0) (negsuc 0) (pos 0) ∷ number (pos 1) (pos 0) (pos 0) (negsuc 0) ∷ number (pos 2) (pos 0) (pos 0) (pos 0) ∷ number (pos 1) (pos 1) (pos 0) (pos 0) ∷ number (pos 1) (pos 0) (pos 1) (pos 0) ∷ number (pos 1) (pos 0) (pos 0) (pos 1) ∷ []
+
+-- two spiders joined by an edge: a Hadamard gate
+abbrev pub hadamard_wire : Graph
+hadamard_wire = graph (vertex 0 XY 0 ∷ vertex 1 XY 0 ∷ []) (edge 0 1 ∷ []) (plain 0 ∷ []) (plain 1 ∷ [])
+
+-- a spider with a gadget of three eighth turns: twice a phase gate
+abbrev pub gadget_wire : Graph
+gadget_wire = graph (vertex 0 XY 0 ∷ vertex 1 YZ 3 ∷ []) (edge 0 1 ∷ []) (plain 0 ∷ []) (plain 0 ∷ [])
