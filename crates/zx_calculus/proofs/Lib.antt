@@ -18,5 +18,7 @@ pub mod OddPhases
 pub mod EdgeLists
 pub mod Results
 pub mod Programs
+pub mod PhaseGateSum
+pub mod StepIdentities
 pub mod Twice
 pub mod WorkedSums

@@ -20,12 +20,12 @@ opposite_back k h = omega arith
 quarter_back : (k : ℕ) → k < turn → sum_of_phases quarter_turn (opposite_phase (sum_of_phases quarter_turn (opposite_phase k))) ≡ k
 quarter_back k h = omega arith
 
-half_turned-half_turned : (plane : Plane) (k : ℕ) → k < turn → half_turned (half_turned_in plane k) ≡ in_plane plane k
+pub half_turned-half_turned : (plane : Plane) (k : ℕ) → k < turn → half_turned (half_turned_in plane k) ≡ in_plane plane k
 half_turned-half_turned XY k h = ap (in_plane XY) (half_back k h)
 half_turned-half_turned XZ k h = ap (in_plane XZ) (opposite_back k h)
 half_turned-half_turned YZ k h = ap (in_plane YZ) (opposite_back k h)
 
-pivoted-pivoted : (plane : Plane) (k : ℕ) → k < turn → pivoted (pivoted_in plane k) ≡ in_plane plane k
+pub pivoted-pivoted : (plane : Plane) (k : ℕ) → k < turn → pivoted (pivoted_in plane k) ≡ in_plane plane k
 pivoted-pivoted XY k h = refl
 pivoted-pivoted XZ k h = ap (in_plane XZ) (quarter_back k h)
 pivoted-pivoted YZ k h = refl

@@ -12,4 +12,5 @@ pub mod Factors
 pub mod Reduced
 pub mod After
 pub mod Worked
+pub mod PhaseGates
 pub mod Tables

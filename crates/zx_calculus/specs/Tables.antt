@@ -1,7 +1,7 @@
 -- Tables of the factors of a vertex, computed apart from the definitions, and sums of small graphs.
 use Rattle.std.specs.Prelude.{ℕ, ℤ, pos, negsuc, List, [], ◌∷◌}
 use Rattle.zx_model.specs.Number.{Number}
-use Rattle.zx_calculus.specs.Graph.{XY, YZ, Graph}
+use Rattle.zx_calculus.specs.Graph.{XY, Graph}
 use Rattle.zx_calculus.specs.Worked.{vertex, edge, plain, graph}
 
 abbrev pub number : ℤ → ℤ → ℤ → ℤ → Number
@@ -47,7 +47,3 @@ factors_YZ_1 =
 -- two spiders joined by an edge: a Hadamard gate
 abbrev pub hadamard_wire : Graph
 hadamard_wire = graph (vertex 0 XY 0 ∷ vertex 1 XY 0 ∷ []) (edge 0 1 ∷ []) (plain 0 ∷ []) (plain 1 ∷ [])
-
--- a spider with a gadget of three eighth turns: twice a phase gate
-abbrev pub gadget_wire : Graph
-gadget_wire = graph (vertex 0 XY 0 ∷ vertex 1 YZ 3 ∷ []) (edge 0 1 ∷ []) (plain 0 ∷ []) (plain 0 ∷ [])

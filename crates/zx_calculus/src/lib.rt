@@ -4,6 +4,8 @@
 //! its contract.
 #![tactic(auto)]
 
+pub mod facts;
+
 ghost use Rattle.std.specs.Prelude.{◌≡◌, ◌≢◌, ◌≤◌, ℕ, Bool, List, [], ◌∷◌, length, map, true, false, cond, ◌&&◌};
 ghost use Rattle.zx_model.specs.Number.{zero, mul, root, sign};
 ghost use Rattle.zx_model.specs.Bits.{member, xor};
@@ -18,7 +20,7 @@ ghost use Rattle.zx_calculus.specs.Factors.{left_factor, right_factor};
 ghost use Rattle.zx_calculus.specs.Reduced.{odd_phases};
 ghost use Rattle.zx_calculus.specs.After.{allowed, after, after_with};
 ghost use Rattle.zx_calculus.specs.Worked.{path_of_three, path_complemented, path_deleted, path_of_four, path_pivoted, twins, twins_reduced, small_gadgets, small_gadgets_reduced};
-ghost use Rattle.zx_calculus.specs.Tables.{all_phases, factors_XY_0, factors_XY_1, factors_XZ_0, factors_XZ_1, factors_YZ_0, factors_YZ_1, root_of_two, hadamard_wire, gadget_wire};
+ghost use Rattle.zx_calculus.specs.Tables.{all_phases, factors_XY_0, factors_XY_1, factors_XZ_0, factors_XZ_1, factors_YZ_0, factors_YZ_1, root_of_two, hadamard_wire};
 
 /// Each rewrite keeps the sum, with the exact factors of its kind, and neither factor is zero.
 pub fn step_keeps_sum()
@@ -81,7 +83,7 @@ pub fn program_is_step()
 {}
 
 /// The factor of a vertex in each plane, at each phase and label, against a table; scalars in terms of the root
-/// of two; and two whole sums.
+/// of two; and the sum of a graph.
 pub fn worked_sums()
     ensures XY_0 { map (λ k. factor (in_plane XY k) false) all_phases ≡ factors_XY_0 }
     ensures XY_1 { map (λ k. factor (in_plane XY k) true) all_phases ≡ factors_XY_1 }
@@ -93,8 +95,6 @@ pub fn worked_sums()
     ensures one_plus_i { one_plus_i ≡ mul root_of_two root }
     ensures one_minus_i { mul one_minus_i root ≡ root_of_two }
     ensures hadamard { (x y : Bool) → sum hadamard_wire (x ∷ []) (y ∷ []) ≡ sign (x && y) }
-    ensures gadget { (x y : Bool) →
-        sum gadget_wire (x ∷ []) (y ∷ []) ≡ cond (xor x y) zero (mul two (spider 3 x)) }
 {}
 
 /// A pivot done twice gives the graph back.

@@ -1,6 +1,6 @@
 use Rattle.std.proofs.Common.{refl}
 use Rattle.zx_model.specs.Number.{add, neg, mul, root_power}
-use Rattle.zx_calculus.proofs.WorkedSums.{hadamard_sum, gadget_sum}
+use Rattle.zx_calculus.proofs.WorkedSums.{hadamard_sum}
 use Rattle.zx_calculus.proofs.worked_sums.Goals as goal
 
 pub returns-clause-XY_0 : goal.returns-clause-XY_0
@@ -41,6 +41,3 @@ returns-clause-one_minus_i c = refl
 
 pub returns-clause-hadamard : goal.returns-clause-hadamard
 returns-clause-hadamard c = hadamard_sum
-
-pub returns-clause-gadget : goal.returns-clause-gadget
-returns-clause-gadget c = gadget_sum
