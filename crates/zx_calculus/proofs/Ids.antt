@@ -2,6 +2,7 @@
 use Rattle.std.proofs.Common.{◌≡◌, ◌≢◌, refl, sym, ◌∙◌, ap, ap₂, ℕ, ◌<◌, Bool, true, false, cond, not, ◌&&◌, ◌||◌, eqb, ltb, List, [], ◌∷◌, true≢false, eqb-true, eq-eqb, ne_eqb, ltb-true, arith}
 use Rattle.std.proofs.lemmas.Bool.{eqb-false}
 use Rattle.std.specs.List.{list_all}
+pub use Rattle.zx_model.proofs.BitLemmas.{and-left, and-right}
 use Rattle.zx_model.specs.Bits.{xor, member}
 use Rattle.zx_calculus.specs.Parity.{masked, quad}
 use Rattle.zx_calculus.specs.Graph.{in_order, different}
@@ -20,14 +21,6 @@ eqb-self u = eq-eqb u u refl
 
 pub eqb_comm : (u v : ℕ) → eqb u v ≡ eqb v u
 eqb_comm u v = by_equal u v (λ t e. t ∙ sym (eq-eqb v u (sym e))) (λ f n. f ∙ sym (ne_eqb v u (λ e. n (sym e))))
-
-pub and-left : (a b : Bool) → (a && b) ≡ true → a ≡ true
-and-left true b e = refl
-and-left false b e = e
-
-pub and-right : (a b : Bool) → (a && b) ≡ true → b ≡ true
-and-right true b e = e
-and-right false b e = absurd (true≢false (sym e))
 
 pub or-left : (a b : Bool) → (a || b) ≡ false → a ≡ false
 or-left true b e = e

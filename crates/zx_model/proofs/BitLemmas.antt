@@ -96,6 +96,15 @@ xor-and true false true = refl
 xor-and true true false = refl
 xor-and true true true = refl
 
+-- what a conjunction that holds says of its parts
+pub and-left : (a b : Bool) → (a && b) ≡ true → a ≡ true
+and-left true b h = refl
+and-left false b h = h
+
+pub and-right : (a b : Bool) → (a && b) ≡ true → b ≡ true
+and-right true b h = h
+and-right false b h = cc
+
 -- By this set `simp` proves each identity of bits in `xor` and `&&`: both sides become sums of products, sorted,
 -- and equal terms cancel.
 pub ruleset expand = (false-and, and-false, true-and, and-true, false-xor, xor-false, and-xor, xor-and, and_assoc, and-same, and-and, and_comm, and_left_comm, xor_assoc, xor-same, xor-xor, xor_comm, xor_left_comm)

@@ -13,16 +13,9 @@ use Rattle.zx_gates.specs.declared.gate.Gate.{Gate}
 use Rattle.zx_gates.specs.declared.gate.Gate.TheVariants.{H, Phase, Cz, Cx, Not}
 use Rattle.zx_gates.specs.Circuit.{odd_count, is_odd_phase}
 use Rattle.zx_gates.specs.Maps.{act, acts}
+use Rattle.zx_model.proofs.BitLemmas.{and-left, and-right}
 use Rattle.zx_gates.proofs.MapLemmas.{acts-append, act-phase-phase, act-phase-zero}
 use Rattle.zx_run.specs.Merging.{MergesTo, IsAtMostOnePhase, is_phase_on, phase_together, phase_gates}
-
-pub and_left : (a b : Bool) → (a && b) ≡ true → a ≡ true
-and_left true b h = refl
-and_left false b h = h
-
-pub and_right : (a b : Bool) → (a && b) ≡ true → b ≡ true
-and_right true b h = h
-and_right false b h = cc
 
 -- a list is what stands before its last element, and that
 pub split_last : {A : Type 0} (xs : List A) (i : ℕ) (d : A) → i + 1 ≡ length xs → xs ≡ take i xs ++ get_or xs i d ∷ []
@@ -106,7 +99,7 @@ merges-push read merged gate apart m =
       length = omega (arith, m.length, length-append read (gate ∷ []), length-append merged (gate ∷ []));
       single = λ q h.
           let both : (list_all (is_phase_on q) read && list_all (is_phase_on q) (gate ∷ [])) ≡ true = sym (list_all-append (is_phase_on q) read (gate ∷ [])) ∙ h in
-          single-push q merged gate apart (m.single q (and_left _ _ both)) (and_left _ _ (and_right _ _ both));
+          single-push q merged gate apart (m.single q (and-left _ _ both)) (and-left _ _ (and-right _ _ both));
     }
 
 single-together : (q p j s : ℕ) (front : List Gate) → IsAtMostOnePhase q (front ++ Phase p j ∷ []) → IsAtMostOnePhase q (front ++ phase_gates (p, s))
@@ -135,7 +128,7 @@ merges-together read front p j k m =
       length = omega (arith, m.length, length-append read (Phase p k ∷ []), length-append front (Phase p j ∷ []), length-append front gates, length-phase_gates p (sum_of_phases j k));
       single = λ q h.
           let both : (list_all (is_phase_on q) read && list_all (is_phase_on q) (Phase p k ∷ [])) ≡ true = sym (list_all-append (is_phase_on q) read (Phase p k ∷ [])) ∙ h in
-          single-together q p j (sum_of_phases j k) front (m.single q (and_left _ _ both));
+          single-together q p j (sum_of_phases j k) front (m.single q (and-left _ _ both));
     }
 
 -- two phase gates on one qubit, and what they are together

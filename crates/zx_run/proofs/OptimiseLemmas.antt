@@ -8,7 +8,7 @@ use Rattle.zx_gates.specs.declared.gate.Gate.TheVariants.{Phase}
 use Rattle.zx_gates.specs.Circuit.{Circuit}
 use Rattle.zx_gates.specs.Maps.{amp}
 use Rattle.zx_gates.proofs.MapLemmas.{amp-acts}
-use Rattle.zx_run.proofs.MergeLemmas.{and_left, and_right}
+use Rattle.zx_model.proofs.BitLemmas.{and-left, and-right}
 use Rattle.zx_run.specs.Written.{written, gate_line}
 use Rattle.zx_run.specs.Reading.{pieces_of, gate_of_line, first_fault, circuit_of}
 use Rattle.zx_run.specs.Merging.{MergesTo, IsAtMostOnePhase, is_phase_on}
@@ -25,7 +25,7 @@ find-step P x g false rest e later is = later is
 find-all : (P t : Gate → Bool) (xs : List Gate) (g : Gate) → list_all P xs ≡ true → find t xs ≡ Some g → P g ≡ true
 find-all P t [] g all is = absurd (let h : ◌≡◌ {A = Option Gate} None (Some g) = is in cc)
 find-all P t (x ∷ xs) g all is =
-    find-step P x g (t x) (find t xs) (and_left _ _ all) (find-all P t xs g (and_right _ _ all)) is
+    find-step P x g (t x) (find t xs) (and-left _ _ all) (find-all P t xs g (and-right _ _ all)) is
 
 -- each line that writes a gate writes a phase gate on qubit 0
 phase_on_zero : (line : List ℕ) (g : Gate) → gate_of_line line ≡ Some g → is_phase_on 0 g ≡ true
