@@ -1,6 +1,9 @@
 //! The program `zxopt`: the standard streams, the words, and the exit status.
 #![tactic(auto)]
 
+ghost use Rattle.std.specs.Prelude.{◌≡◌};
+ghost use Rattle.zxopt.specs.ExitStatus.{exit_status_of};
+
 use std::alloc::AllocError;
 use std::env;
 use std::process::ExitCode;
@@ -33,7 +36,9 @@ fn started(rt: &HostRuntime, words: &[String]) -> Result<Status, AllocError> {
 }
 
 /// The exit status of an answer.
-fn exit_status(status: Status) -> u8 {
+fn exit_status(status: Status) -> u8
+    ensures { result ≡ exit_status_of status }
+{
     match status {
         Status::Done => 0,
         Status::Refused(_) => 1,
