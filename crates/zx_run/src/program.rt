@@ -33,20 +33,23 @@ pub fn run<'a, S: Source, O: Sink, E: Sink>(
     err: &mut E,
 ) -> Status
     // Done: no end failed, and the output gained the text of an optimised circuit.
-    ensures done { result ≡ Status.Done → (S.faults source.new ≡ S.faults source.old) × (O.faults out.new ≡ O.faults out.old) }
+    ensures done { result ≡ Status.Done →
+        (S.faults source.new ≡ S.faults source.old) × (O.faults out.new ≡ O.faults out.old) }
     ensures done_output { result ≡ Status.Done → (text : List ℕ) → S.left source.old ≡ Some text →
         (bytes : List ℕ) × IsOutputFor text bytes × Gains (O.taken out.old) (O.taken out.new) bytes }
 
     // Usage: exactly where the words are no command. Nothing is read then.
-    ensures usage { result ≡ Status.Usage ↔ command_of (map (λ word. word.now) words.now) ≡ None }
+    ensures usage { (result ≡ Status.Usage) ↔ (command_of (map (λ word. word.now) words.now) ≡ None) }
     ensures usage_unread { result ≡ Status.Usage → source.new ≡ source.old }
 
     // Refused: exactly where no read failed and the fault is the first one of the text.
     ensures refused { (fault : Fault) → result ≡ Status.Refused fault → S.faults source.new ≡ S.faults source.old }
-    ensures refused_first { (fault : Fault) (text : List ℕ) → result ≡ Status.Refused fault → S.left source.old ≡ Some text →
-        first_fault text ≡ Some fault }
-    ensures refused_where { (fault : Fault) (text : List ℕ) → command_of (map (λ word. word.now) words.now) ≡ Some Optimise →
-        S.left source.old ≡ Some text → first_fault text ≡ Some fault → ¬ Rose (S.faults source.old) (S.faults source.new) →
+    ensures refused_first { (fault : Fault) (text : List ℕ) → result ≡ Status.Refused fault →
+        S.left source.old ≡ Some text → first_fault text ≡ Some fault }
+    ensures refused_where { (fault : Fault) (text : List ℕ) →
+        command_of (map (λ word. word.now) words.now) ≡ Some Optimise →
+        S.left source.old ≡ Some text → first_fault text ≡ Some fault →
+        ¬ Rose (S.faults source.old) (S.faults source.new) →
         (result ≡ Status.Refused fault) ⊎ (result ≡ Status.NoMemory) }
 
     // ReadFault and WriteFault: only where that end failed in this call.
@@ -78,7 +81,7 @@ pub fn run<'a, S: Source, O: Sink, E: Sink>(
 
 /// The answer, without its line.
 fn answer<S: Source, O: Sink>(alloc: Global, words: &[&str], source: &mut S, out: &mut O) -> Status
-    ensures usage { result ≡ Status.Usage ↔ command_of (map (λ word. word.now) words.now) ≡ None }
+    ensures usage { (result ≡ Status.Usage) ↔ (command_of (map (λ word. word.now) words.now) ≡ None) }
     ensures unread { result ≡ Status.Usage → source.new ≡ source.old }
     ensures out_kept { LeavesOutput result → out.new ≡ out.old }
     ensures answers { IsAnswer (S.left source.old) (S.left source.new) (S.faults source.old) (S.faults source.new)
