@@ -1,5 +1,5 @@
 -- Worked graphs, for facts by computation.
-use Rattle.std.specs.Prelude.{ℕ, ◌+◌, false, List, [], ◌∷◌}
+use Rattle.std.specs.Prelude.{ℕ, ◌+◌, true, false, List, [], ◌∷◌}
 use Rattle.zx_model.specs.Phase.{half_turn, quarter_turn}
 use Rattle.zx_calculus.specs.Graph.{Plane, XY, XZ, YZ, Vertex, Edge, End, Graph}
 use Rattle.zx_calculus.specs.Turns.{in_plane}
@@ -55,3 +55,25 @@ small_gadgets = graph (vertex 0 XY 0 ∷ (vertex 1 YZ 3 ∷ (vertex 2 YZ 5 ∷ [
 
 abbrev pub small_gadgets_reduced : Graph
 small_gadgets_reduced = graph (vertex 0 XY 3 ∷ []) [] (plain 0 ∷ []) (plain 0 ∷ [])
+
+-- a path of three with a triangle: the last vertex is adjacent to both in the middle
+abbrev pub triangle : Graph
+triangle =
+    graph (vertex 0 XY 0 ∷ vertex 1 XY 0 ∷ vertex 2 XY 0 ∷ vertex 3 XY 0 ∷ []) (edge 0 1 ∷ edge 1 2 ∷ edge 1 3 ∷ edge 2 3 ∷ []) (plain 0 ∷ []) (plain 3 ∷ [])
+
+-- after a pivot of the middle two their common neighbour has a half turn
+abbrev pub triangle_pivoted : Graph
+triangle_pivoted =
+    graph (vertex 0 XY 0 ∷ vertex 1 YZ 0 ∷ vertex 2 YZ 0 ∷ vertex 3 XY half_turn ∷ []) (edge 0 2 ∷ edge 0 3 ∷ edge 1 2 ∷ edge 1 3 ∷ edge 2 3 ∷ [])
+    (plain 0 ∷ []) (plain 3 ∷ [])
+
+-- the path of three with its input split
+abbrev pub path_split : Graph
+path_split =
+    graph (vertex 0 XY 0 ∷ vertex 1 XY quarter_turn ∷ vertex 2 XY 0 ∷ vertex 3 XY 0 ∷ []) (edge 0 1 ∷ edge 0 3 ∷ edge 1 2 ∷ [])
+    (record { vertex = 3; hadamard = true } ∷ []) (plain 2 ∷ [])
+
+-- two gadgets that share one neighbour of two
+abbrev pub overlapping_gadgets : Graph
+overlapping_gadgets =
+    graph (vertex 0 XY 0 ∷ vertex 1 XY 0 ∷ vertex 2 YZ 1 ∷ vertex 3 YZ 1 ∷ []) (edge 0 2 ∷ edge 0 3 ∷ edge 1 3 ∷ []) (plain 0 ∷ plain 1 ∷ []) (plain 0 ∷ plain 1 ∷ [])

@@ -15,11 +15,11 @@ ghost use Rattle.zx_calculus.specs.Sum.{sum, factor, spider};
 ghost use Rattle.zx_calculus.specs.Turns.{in_plane};
 ghost use Rattle.zx_calculus.specs.Scalars.{two, one_plus_i, one_minus_i};
 ghost use Rattle.zx_calculus.specs.Pivots.{IsPivot};
-ghost use Rattle.zx_calculus.specs.Steps.{Step, LocalComplement, Delete, Pivot, DropLone, FuseInto, FuseTwin, IsStep, IsRun};
+ghost use Rattle.zx_calculus.specs.Steps.{Step, LocalComplement, Delete, Pivot, SplitInput, DropLone, FuseInto, FuseTwin, IsStep, IsRun};
 ghost use Rattle.zx_calculus.specs.Factors.{left_factor, right_factor};
 ghost use Rattle.zx_calculus.specs.Reduced.{odd_phases};
 ghost use Rattle.zx_calculus.specs.After.{allowed, after, after_with};
-ghost use Rattle.zx_calculus.specs.Worked.{path_of_three, path_complemented, path_deleted, path_of_four, path_pivoted, twins, twins_reduced, small_gadgets, small_gadgets_reduced};
+ghost use Rattle.zx_calculus.specs.Worked.{path_of_three, path_complemented, path_deleted, path_of_four, path_pivoted, twins, twins_reduced, small_gadgets, small_gadgets_reduced, triangle, triangle_pivoted, path_split, overlapping_gadgets};
 ghost use Rattle.zx_calculus.specs.Tables.{all_phases, factors_XY_0, factors_XY_1, factors_XZ_0, factors_XZ_1, factors_YZ_0, factors_YZ_1, root_of_two, hadamard_wire};
 
 /// Each rewrite keeps the sum, with the exact factors of its kind, and neither factor is zero.
@@ -63,12 +63,15 @@ pub fn worked_rewrites()
     ensures complemented { after (LocalComplement 1) path_of_three ≡ path_complemented }
     ensures deleted { after (Delete 1) path_complemented ≡ path_deleted }
     ensures pivoted { after (Pivot 1 2) path_of_four ≡ path_pivoted }
+    ensures common_neighbour { after (Pivot 1 2) triangle ≡ triangle_pivoted }
+    ensures split { after (SplitInput 0) path_of_three ≡ path_split }
     ensures twins { after (Delete 2) (after (LocalComplement 2) (after (FuseTwin 2 3) twins)) ≡
         twins_reduced }
     ensures small_gadgets { after (FuseInto 1) (after (DropLone 2) small_gadgets) ≡ small_gadgets_reduced }
     ensures boundary { allowed path_of_three (Pivot 0 2) ≡ false }
     ensures allowed { allowed path_of_three (LocalComplement 1) ≡ true }
     ensures twins_allowed { allowed twins (FuseTwin 2 3) ≡ true }
+    ensures no_twins { allowed overlapping_gadgets (FuseTwin 2 3) ≡ false }
 {}
 
 /// The program makes what the rewrites state, exactly where its test allows them; a split may take any new id.
