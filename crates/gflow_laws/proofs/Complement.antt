@@ -5,6 +5,7 @@ use Rattle.std.proofs.lemmas.Bool.{cases_Bool, cases_eq, eqb-true, and_parts}
 use Rattle.zx_model.specs.Bits.{xor, member}
 use Rattle.zx_calculus.specs.Graph.{Plane, XY, XZ, YZ}
 use Rattle.zx_calculus.specs.Parity.{masked}
+use Rattle.zx_calculus.proofs.Ids.{eqb_comm}
 use Rattle.zx_calculus.proofs.Booleans.{parities, xor-false, and_comm, and-false}
 use Rattle.zx_calculus.proofs.Parity.{masked-xor, masked-and}
 use Rattle.gflow_laws.specs.Seen.{Seen, odd, complemented, complemented_plane, turned_plane}
@@ -23,16 +24,13 @@ masked_swapped n vs A = masked-same n A vs A n (λ w _. and_comm (n w) (A w))
 gathered : (x c y z : Bool) → xor x (xor (c && y) (c && z)) ≡ xor x (c && xor y z)
 gathered x c y z = simp parities
 
-eqb_flip : (v w : ℕ) → eqb v w ≡ eqb w v
-eqb_flip v w = ⊎_elim (λ e. eq-eqb v w e ∙ sym (eq-eqb w v (sym e))) (λ ne. ne_eqb v w ne ∙ sym (ne_eqb w v (λ e. ne (sym e)))) (cases_eq v w)
-
 -- who has an odd number of neighbours in a set, after a local complement
 pub odd-complemented : (s : Seen) (u : ℕ) (A : ℕ → Bool) (v : ℕ) → Simple s → member v s.ids ≡ true →
     odd (complemented s u) A v ≡ xor (odd s A v) (s.adjacent u v && xor (odd s A u) (A v))
 odd-complemented s u A v simple there =
     masked-same ((complemented s u).adjacent v) (λ w. xor (s.adjacent v w) (xor (s.adjacent u v && s.adjacent u w) (s.adjacent u v && eqb w v))) s.ids A A
     (λ w _. ap (λ b. b && A w)
-    (ap (λ b. not b && xor (s.adjacent v w) (s.adjacent u v && s.adjacent u w)) (eqb_flip v w)
+    (ap (λ b. not b && xor (s.adjacent v w) (s.adjacent u v && s.adjacent u w)) (eqb_comm v w)
     ∙ off_diagonal (eqb w v) (s.adjacent v w) (s.adjacent u v) (s.adjacent u w)
     (λ e. (ap (s.adjacent v) (eqb-true w v e) ∙ simple.no_loop v, ap (s.adjacent u) (sym (eqb-true w v e))))))
     ∙ masked-xor (s.adjacent v) (λ w. xor (s.adjacent u v && s.adjacent u w) (s.adjacent u v && eqb w v)) s.ids A

@@ -4,6 +4,7 @@ use Rattle.std.proofs.lemmas.Bool.{eqb-true, or_right, or_left, cases_eq, true�
 use Rattle.zx_model.specs.Bits.{xor, member}
 use Rattle.zx_calculus.specs.Parity.{masked}
 use Rattle.zx_calculus.proofs.Booleans.{parities, and-false, and_comm}
+pub use Rattle.zx_calculus.proofs.Ids.{removed, Distinct-removed}
 use Rattle.gflow_laws.specs.Correcting.{Distinct}
 
 both_sides : (n a b x y : Bool) → xor (n && xor a b) (xor x y) ≡ xor (xor (n && a) x) (xor (n && b) y)
@@ -54,14 +55,6 @@ masked-one n (v ∷ vs) u distinct there = ⊎_elim
     ∙ ap (λ a. xor a (n u)) (and-false (n v)))
     (cases_eq v u)
 
--- the list without u
-abbrev pub removed : ℕ → List ℕ → List ℕ
-removed u [] = []
-removed u (v ∷ vs) = cond (eqb u v) (removed u vs) (v ∷ removed u vs)
-
-eqb_sym : (a b : ℕ) → eqb a b ≡ eqb b a
-eqb_sym a b = ⊎_elim (λ e. eq-eqb a b e ∙ sym (eq-eqb b a (sym e))) (λ ne. ne_eqb a b ne ∙ sym (ne_eqb b a (λ e. ne (sym e)))) (cases_eq a b)
-
 skipped : (b m : Bool) → (not b && m) ≡ (not b && (b || m))
 skipped true m = refl
 skipped false m = refl
@@ -85,16 +78,6 @@ member-removed w u (v ∷ vs) = ⊎_elim
     (λ ne.
     ap (λ b. member w (cond b (removed u vs) (v ∷ removed u vs))) (ne_eqb u v ne) ∙ ap (λ b. eqb w v || b) (member-removed w u vs)
     ∙ kept (eqb w v) (eqb w u) (member w vs) (eqb-apart w u v ne))
-    (cases_eq u v)
-
-pub Distinct-removed : (u : ℕ) (vs : List ℕ) → Distinct vs → Distinct (removed u vs)
-Distinct-removed u [] distinct = tt
-Distinct-removed u (v ∷ vs) distinct = ⊎_elim
-    (λ e.
-    subst (λ b. Distinct (cond b (removed u vs) (v ∷ removed u vs))) (sym (eq-eqb u v e)) (Distinct-removed u vs distinct.1))
-    (λ ne.
-    subst (λ b. Distinct (cond b (removed u vs) (v ∷ removed u vs))) (sym (ne_eqb u v ne))
-    (member-removed v u vs ∙ ap (λ b. not (eqb v u) && b) distinct.0 ∙ and-false (not (eqb v u)), Distinct-removed u vs distinct.1))
     (cases_eq u v)
 
 pub masked-of-removed : (n : ℕ → Bool) (u : ℕ) (vs : List ℕ) (A : ℕ → Bool) → masked n (removed u vs) A ≡ masked n vs (λ w. not (eqb w u) && A w)

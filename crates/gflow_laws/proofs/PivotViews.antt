@@ -5,19 +5,17 @@ use Rattle.zx_model.specs.Bits.{xor, member}
 use Rattle.zx_calculus.specs.Graph.{Plane, XY, XZ, YZ, Kind, Graph, ids, kind_of, joined, places}
 use Rattle.zx_calculus.specs.Turns.{half_turned, pivoted_in}
 use Rattle.zx_calculus.specs.Pivots.{pivot_kind, IsPivot}
+use Rattle.zx_calculus.proofs.Ids.{eqb_comm}
 use Rattle.zx_calculus.proofs.Booleans.{parities, and_comm, xor-false}
 use Rattle.gflow_laws.specs.Seen.{Seen, seen, complemented, complemented_plane, turned_plane}
 use Rattle.gflow_laws.specs.Correcting.{Alike, Simple}
-use Rattle.gflow_laws.proofs.Views.{ids-with_kinds, kind_of-with_kinds, joined_sym, joined-self, half_kept}
-
-eqb_flip : (v w : ℕ) → eqb v w ≡ eqb w v
-eqb_flip v w = ⊎_elim (λ e. eq-eqb v w e ∙ sym (eq-eqb w v (sym e))) (λ ne. ne_eqb v w ne ∙ sym (ne_eqb w v (λ e. ne (sym e)))) (cases_eq v w)
+use Rattle.gflow_laws.proofs.Views.{ids-with_kinds, kind_of-with_kinds, joined_comm, joined-self, half_kept}
 
 -- a local complement leads to a simple graph
 pub Simple-complemented : (s : Seen) (u : ℕ) → Simple s → Simple (complemented s u)
 Simple-complemented s u simple = record {
   distinct = simple.distinct;
-  symmetric = λ p q. ap₂ (λ e x. not e && xor x (s.adjacent u p && s.adjacent u q)) (eqb_flip p q) (simple.symmetric p q)
+  symmetric = λ p q. ap₂ (λ e x. not e && xor x (s.adjacent u p && s.adjacent u q)) (eqb_comm p q) (simple.symmetric p q)
       ∙ ap (λ x. not (eqb q p) && xor (s.adjacent q p) x) (and_comm (s.adjacent u p) (s.adjacent u q));
   no_loop = λ p. ap (λ e. not e && xor (s.adjacent p p) (s.adjacent u p && s.adjacent u p)) (eq-eqb p p refl);
 }
@@ -153,7 +151,7 @@ pub Alike-pivot : (g : Graph) (u v : ℕ) (h : Graph) → Simple (seen g) → Is
 Alike-pivot g u v h simple step = record {
   ids = λ x. ap (member x) (sym (ap ids step.vertices ∙ ids-with_kinds change g.vertices));
   adjacent = λ p q _ _. adjacent p q;
-  plane = λ x there. plane x (cases_eq x u) (cases_eq x v) ∙ sym (ap (λ vs. (kind_of vs x).plane) step.vertices ∙ ap (λ k. k.plane) (kind_of-with_kinds change g.vertices x there));
+  plane = λ x there. plane x (cases_eq x u) (cases_eq x v) ∙ sym (ap (λ vs. (kind_of vs x).plane) step.vertices ∙ ap (λ k. k.plane) (kind_of-with_kinds change x g.vertices there));
   input = λ x _. ap (λ l. member x (places l)) (sym step.inputs);
   output = λ x _. ap (λ l. member x (places l)) (sym step.outputs);
 }
@@ -176,11 +174,11 @@ Alike-pivot g u v h simple step = record {
 
     of_v : (q : ℕ) → q ≢ v → (q ≡ u) ⊎ (q ≡ u → ⊥) → after_three.adjacent v q ≡ joined h.edges v q
     of_v q qv (inl e) = subst (λ x. after_three.adjacent v x ≡ joined h.edges v x) (sym e)
-        (simple_three.symmetric v u ∙ third_uv (seen g) u v simple uv ∙ sym (joined_sym h.edges v u ∙ step.still_adjacent))
+        (simple_three.symmetric v u ∙ third_uv (seen g) u v simple uv ∙ sym (joined_comm h.edges v u ∙ step.still_adjacent))
     of_v q qv (inr qu) = third_v (seen g) u v simple uv q qu qv ∙ sym (step.of_v q qu qv)
 
     swapped : (p q : ℕ) → after_three.adjacent p q ≡ joined h.edges p q → after_three.adjacent q p ≡ joined h.edges q p
-    swapped p q e = simple_three.symmetric q p ∙ e ∙ joined_sym h.edges p q
+    swapped p q e = simple_three.symmetric q p ∙ e ∙ joined_comm h.edges p q
 
     apart_from : (p q : ℕ) → p ≢ q → (p ≡ u) ⊎ (p ≡ u → ⊥) → (p ≡ v) ⊎ (p ≡ v → ⊥) → (q ≡ u) ⊎ (q ≡ u → ⊥) → (q ≡ v) ⊎ (q ≡ v → ⊥) →
         after_three.adjacent p q ≡ joined h.edges p q

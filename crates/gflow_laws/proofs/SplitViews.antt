@@ -10,7 +10,7 @@ use Rattle.gflow_laws.specs.Tables.{new_id}
 use Rattle.gflow_laws.specs.Correcting.{Distinct}
 use Rattle.gflow_laws.proofs.Growth.{Grown}
 use Rattle.gflow_laws.proofs.Lists.{list_all-at}
-use Rattle.gflow_laws.proofs.Views.{member-insert_vertex, Distinct-insert_vertex, Distinct-rising, kind_of-insert_vertex, joined_sym, joined-outside, is_XY-true}
+use Rattle.gflow_laws.proofs.Views.{member-insert, Distinct-insert_vertex, Distinct-rising, kind_of-insert_vertex, joined_comm, joined-absent, is_XY-true}
 
 -- a new vertex, adjacent to b alone
 pub Grown-split : (g : Graph) (b new : ℕ) (h : Graph) → WellFormed g → member new (ids g.vertices) ≡ false → member b (ids g.vertices) ≡ true →
@@ -21,12 +21,12 @@ Grown-split g b new h wf fresh there vertices edges = record {
   distinct_after = subst (λ vs. Distinct (ids vs)) (sym vertices) (Distinct-insert_vertex (spider_of_phase_zero new) g.vertices fresh distinct);
   fresh = fresh;
   there = there;
-  ids = λ v. ap (λ vs. member v (ids vs)) vertices ∙ member-insert_vertex (spider_of_phase_zero new) g.vertices v;
+  ids = λ v. ap (λ vs. member v (ids vs)) vertices ∙ member-insert v (spider_of_phase_zero new) g.vertices;
   adjacent = λ p q in_p in_q. edges p q ∙ ap (λ x. joined g.edges p q || x)
       (ap₂ (λ x y. (eqb p b && x) || (y && eqb q b)) (ne_eqb q new (old q in_q)) (ne_eqb p new (old p in_p)) ∙ ap (λ x. x || false) (and-false (eqb p b)))
       ∙ or-false (joined g.edges p q);
   of_new = of_new;
-  to_new = λ p. joined_sym h.edges p new ∙ of_new p;
+  to_new = λ p. joined_comm h.edges p new ∙ of_new p;
   plane = λ v in_v. ap (λ vs. (kind_of vs v).plane) vertices
       ∙ ap (λ k. k.plane) (kind_of-insert_vertex (spider_of_phase_zero new) g.vertices v fresh ∙ ap (λ x. cond x (spider_of_phase_zero new).kind (kind_of g.vertices v)) (ne_eqb v new (old v in_v)));
 }
@@ -45,7 +45,7 @@ Grown-split g b new h wf fresh there vertices edges = record {
     of_new p =
         edges new p
         ∙ ap₂ (λ x y. x || ((y && eqb p new) || (eqb new new && eqb p b)))
-        (joined-outside (ids g.vertices) g.edges new p wf.edges.lower_there wf.edges.higher_there fresh) (ne_eqb new b (λ e. old b there (sym e)))
+        (joined-absent (ids g.vertices) g.edges new p wf.edges.lower_there wf.edges.higher_there fresh) (ne_eqb new b (λ e. old b there (sym e)))
         ∙ ap (λ x. x && eqb p b) (eq-eqb new new refl)
 
 -- the new vertex is XY

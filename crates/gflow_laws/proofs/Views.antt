@@ -1,68 +1,27 @@
 -- What a flow sees of the graph that a rewrite leads to.
-use Rattle.std.proofs.Common.{◌≡◌, ◌≢◌, refl, sym, ◌∙◌, ap, ap₂, subst, ⊎_elim, ℕ, ◌<◌, Bool, true, false, cond, not, ◌&&◌, ◌||◌, eqb, ltb, List, [], ◌∷◌, eq-eqb, ne_eqb, arith}
-use Rattle.std.specs.List.{list_all}
-use Rattle.std.proofs.lemmas.Bool.{cases_Bool, cases_eq, true≢false, and_parts, eqb-true, eqb-false, ltb-true, false_from_ne_true, or_cases, or_parts}
+use Rattle.std.proofs.Common.{◌≡◌, ◌≢◌, refl, sym, ◌∙◌, ap, ap₂, subst, ⊎_elim, ℕ, Bool, true, false, cond, not, ◌&&◌, ◌||◌, eqb, ltb, List, [], ◌∷◌, eq-eqb, ne_eqb}
+use Rattle.std.proofs.lemmas.Bool.{cases_Bool, cases_eq, true≢false, eqb-false, false_from_ne_true, or_parts}
 use Rattle.zx_model.specs.Bits.{xor, member}
-use Rattle.zx_calculus.specs.Graph.{Plane, XY, XZ, YZ, Kind, Vertex, Edge, End, Graph, ids, kind_of, joins, joined, places, in_order, is_XY, OrderedEnds, WellFormed, with_kinds, without, insert_vertex}
+use Rattle.zx_calculus.specs.Graph.{Plane, XY, XZ, YZ, Kind, Vertex, End, Graph, ids, kind_of, joined, places, is_XY, OrderedEnds, WellFormed, with_kinds, without, insert_vertex}
 use Rattle.zx_calculus.specs.Turns.{quarter_turned_in, half_turned_in, complemented_in, half_turned}
 use Rattle.zx_calculus.specs.Complement.{complement_kind, IsLocalComplement}
-use Rattle.zx_calculus.proofs.Booleans.{and-false}
+pub use Rattle.zx_calculus.proofs.Ids.{Distinct-rising}
+pub use Rattle.zx_calculus.proofs.Edges.{joined_comm}
+pub use Rattle.zx_calculus.proofs.Forms.{ids-without}
+pub use Rattle.zx_calculus.proofs.Vertices.{ids-with_kinds, kind_of-with_kinds, kind_of-without, member-insert}
+pub use Rattle.zx_calculus.proofs.Splitting.{joined-self, joined-absent}
 use Rattle.gflow_laws.specs.Seen.{seen, complemented, complemented_plane, turned_plane}
 use Rattle.gflow_laws.specs.Correcting.{Alike, Distinct, Simple}
 use Rattle.gflow_laws.proofs.Linear.{removed, member-removed}
 use Rattle.gflow_laws.proofs.Removal.{removed_from}
 use Rattle.gflow_laws.proofs.Lists.{list_all-at}
 
-pub ids-with_kinds : (change : ℕ → Kind → Kind) (vs : List Vertex) → ids (with_kinds change vs) ≡ ids vs
-ids-with_kinds change [] = refl
-ids-with_kinds change (v ∷ vs) = ap (λ l. v.id ∷ l) (ids-with_kinds change vs)
-
-pub kind_of-with_kinds : (change : ℕ → Kind → Kind) (vs : List Vertex) (u : ℕ) → member u (ids vs) ≡ true → kind_of (with_kinds change vs) u ≡ change u (kind_of vs u)
-kind_of-with_kinds change [] u there = absurd (true≢false (sym there))
-kind_of-with_kinds change (v ∷ vs) u there = ⊎_elim
-    (λ e. ap (λ b. cond b (change v.id v.kind) (kind_of (with_kinds change vs) u)) e ∙ ap (λ x. change x v.kind) (sym (eqb-true u v.id e))
-    ∙ ap (λ b. change u (cond b v.kind (kind_of vs u))) (sym e))
-    (λ e. ap (λ b. cond b (change v.id v.kind) (kind_of (with_kinds change vs) u)) e
-    ∙ kind_of-with_kinds change vs u (sym (ap (λ b. b || member u (ids vs)) e) ∙ there)
-    ∙ ap (λ b. change u (cond b v.kind (kind_of vs u))) (sym e))
-    (cases_Bool (eqb u v.id))
-
-pub ids-without : (u : ℕ) (vs : List Vertex) → ids (without u vs) ≡ removed u (ids vs)
-ids-without u [] = refl
-ids-without u (v ∷ vs) = ⊎_elim
-    (λ e. ap (λ b. ids (cond b (without u vs) (v ∷ without u vs))) e ∙ ids-without u vs
-    ∙ ap (λ b. cond b (removed u (ids vs)) (v.id ∷ removed u (ids vs))) (sym e))
-    (λ e. ap (λ b. ids (cond b (without u vs) (v ∷ without u vs))) e ∙ ap (λ l. v.id ∷ l) (ids-without u vs)
-    ∙ ap (λ b. cond b (removed u (ids vs)) (v.id ∷ removed u (ids vs))) (sym e))
-    (cases_Bool (eqb u v.id))
-
-pub kind_of-without : (u : ℕ) (vs : List Vertex) (w : ℕ) → w ≢ u → kind_of (without u vs) w ≡ kind_of vs w
-kind_of-without u [] w ne = refl
-kind_of-without u (v ∷ vs) w ne = ⊎_elim
-    (λ e. ap (λ b. kind_of (cond b (without u vs) (v ∷ without u vs)) w) e ∙ kind_of-without u vs w ne
-    ∙ sym (ap (λ b. cond b v.kind (kind_of vs w)) (ne_eqb w v.id (λ f. ne (f ∙ sym (eqb-true u v.id e))))))
-    (λ e. ap (λ b. kind_of (cond b (without u vs) (v ∷ without u vs)) w) e ∙ ap (λ k. cond (eqb w v.id) v.kind k) (kind_of-without u vs w ne))
-    (cases_Bool (eqb u v.id))
-
-or_left_comm : (a b c : Bool) → (a || (b || c)) ≡ (b || (a || c))
-or_left_comm true true c = refl
-or_left_comm true false c = refl
-or_left_comm false b c = refl
-
-pub member-insert_vertex : (n : Vertex) (vs : List Vertex) (w : ℕ) → member w (ids (insert_vertex n vs)) ≡ (eqb w n.id || member w (ids vs))
-member-insert_vertex n [] w = refl
-member-insert_vertex n (v ∷ vs) w = ⊎_elim
-    (λ e. ap (λ b. member w (ids (cond b (n ∷ (v ∷ vs)) (v ∷ insert_vertex n vs)))) e)
-    (λ e. ap (λ b. member w (ids (cond b (n ∷ (v ∷ vs)) (v ∷ insert_vertex n vs)))) e
-    ∙ ap (λ m. eqb w v.id || m) (member-insert_vertex n vs w) ∙ or_left_comm (eqb w v.id) (eqb w n.id) (member w (ids vs)))
-    (cases_Bool (ltb n.id v.id))
-
 pub Distinct-insert_vertex : (n : Vertex) (vs : List Vertex) → member n.id (ids vs) ≡ false → Distinct (ids vs) → Distinct (ids (insert_vertex n vs))
 Distinct-insert_vertex n [] fresh d = (refl, tt)
 Distinct-insert_vertex n (v ∷ vs) fresh d = ⊎_elim
     (λ e. subst (λ b. Distinct (ids (cond b (n ∷ (v ∷ vs)) (v ∷ insert_vertex n vs)))) (sym e) (fresh, d))
     (λ e. subst (λ b. Distinct (ids (cond b (n ∷ (v ∷ vs)) (v ∷ insert_vertex n vs)))) (sym e) (
-      member-insert_vertex n vs v.id ∙ ap₂ (λ a b. a || b) (ne_eqb v.id n.id (λ f. eqb-false n.id v.id (or_parts (eqb n.id v.id) (member n.id (ids vs)) fresh).0 (sym f))) d.0,
+      member-insert v.id n vs ∙ ap₂ (λ a b. a || b) (ne_eqb v.id n.id (λ f. eqb-false n.id v.id (or_parts (eqb n.id v.id) (member n.id (ids vs)) fresh).0 (sym f))) d.0,
       Distinct-insert_vertex n vs (or_parts (eqb n.id v.id) (member n.id (ids vs)) fresh).1 d.1,
     ))
     (cases_Bool (ltb n.id v.id))
@@ -83,63 +42,11 @@ kind_of-insert_vertex n (v ∷ vs) w fresh = ⊎_elim
     (λ ne. ap (λ b. b && eqb w n.id) (ne_eqb w v.id ne)) (cases_eq w v.id)))
     (cases_Bool (ltb n.id v.id))
 
--- rising numbers differ
-pub Distinct-rising : (vs : List ℕ) → in_order ltb vs ≡ true → Distinct vs
-Distinct-rising [] e = tt
-Distinct-rising (v ∷ vs) e = (
-  false_from_ne_true (member v vs) (λ h.
-      let less : v < v = ltb-true v v (list_all-at (ltb v) vs v (and_parts (list_all (ltb v) vs) (in_order ltb vs) e).0 h) in absurd (omega arith)),
-  Distinct-rising vs (and_parts (list_all (ltb v) vs) (in_order ltb vs) e).1,
-)
-
-or_comm : (a b : Bool) → (a || b) ≡ (b || a)
-or_comm true true = refl
-or_comm true false = refl
-or_comm false true = refl
-or_comm false false = refl
-
-joins_sym : (e : Edge) (p q : ℕ) → joins e p q ≡ joins e q p
-joins_sym e p q = or_comm (eqb p e.lower && eqb q e.higher) (eqb q e.lower && eqb p e.higher)
-
-pub joined_sym : (es : List Edge) (p q : ℕ) → joined es p q ≡ joined es q p
-joined_sym [] p q = refl
-joined_sym (e ∷ es) p q = ap₂ (λ a b. a || b) (joins_sym e p q) (joined_sym es p q)
-
-joins-self : (e : Edge) (p : ℕ) → e.lower < e.higher → joins e p p ≡ false
-joins-self e p less = false_from_ne_true (joins e p p) (λ h.
-    ⊎_elim
-    (λ f. apart (eqb-true p e.lower (and_parts (eqb p e.lower) (eqb p e.higher) f).0) (eqb-true p e.higher (and_parts (eqb p e.lower) (eqb p e.higher) f).1))
-    (λ f. apart (eqb-true p e.lower (and_parts (eqb p e.lower) (eqb p e.higher) f).0) (eqb-true p e.higher (and_parts (eqb p e.lower) (eqb p e.higher) f).1))
-    (or_cases (eqb p e.lower && eqb p e.higher) (eqb p e.lower && eqb p e.higher) h))
-  where
-    apart : p ≡ e.lower → p ≡ e.higher → ⊥
-    apart low high = omega arith
-
--- no edge joins a vertex with itself
-pub joined-self : (es : List Edge) (p : ℕ) → list_all (λ e. ltb e.lower e.higher) es ≡ true → joined es p p ≡ false
-joined-self [] p all = refl
-joined-self (e ∷ es) p all =
-    ap₂ (λ a b. a || b) (joins-self e p (ltb-true e.lower e.higher (and_parts (ltb e.lower e.higher) (list_all (λ d. ltb d.lower d.higher) es) all).0))
-    (joined-self es p (and_parts (ltb e.lower e.higher) (list_all (λ d. ltb d.lower d.higher) es) all).1)
-
--- edges join listed vertices
-pub joined-outside : (vs : List ℕ) (es : List Edge) (p q : ℕ) → list_all (λ e. member e.lower vs) es ≡ true → list_all (λ e. member e.higher vs) es ≡ true →
-    member p vs ≡ false → joined es p q ≡ false
-joined-outside vs [] p q low high out = refl
-joined-outside vs (e ∷ es) p q low high out =
-    ap₂ (λ a b. a || b)
-    (ap₂ (λ a b. a || b)
-    (ap (λ a. a && eqb q e.higher) (ne_eqb p e.lower (λ f. true≢false (sym (and_parts (member e.lower vs) (list_all (λ d. member d.lower vs) es) low).0 ∙ ap (λ x. member x vs) (sym f) ∙ out))))
-    (ap (λ a. eqb q e.lower && a) (ne_eqb p e.higher (λ f. true≢false (sym (and_parts (member e.higher vs) (list_all (λ d. member d.higher vs) es) high).0 ∙ ap (λ x. member x vs) (sym f) ∙ out)))
-    ∙ and-false (eqb q e.lower)))
-    (joined-outside vs es p q (and_parts (member e.lower vs) (list_all (λ d. member d.lower vs) es) low).1
-    (and_parts (member e.higher vs) (list_all (λ d. member d.higher vs) es) high).1 out)
-
 -- a well-formed graph is simple
 pub Simple-seen : (g : Graph) → WellFormed g → Simple (seen g)
 Simple-seen g wf = record {
   distinct = Distinct-rising (ids g.vertices) wf.vertices_rising;
-  symmetric = joined_sym g.edges;
+  symmetric = joined_comm g.edges;
   no_loop = λ p. joined-self g.edges p wf.edges.lower_first;
 }
 
@@ -168,10 +75,6 @@ plane-complement XY k = refl
 plane-complement XZ k = refl
 plane-complement YZ k = refl
 
-pub plane_cond : (b : Bool) (j k : Kind) → (cond b j k).plane ≡ cond b j.plane k.plane
-plane_cond true j k = refl
-plane_cond false j k = refl
-
 pub half_kept : (b : Bool) (k : Kind) → (cond b (half_turned k) k).plane ≡ k.plane
 half_kept true k = plane-half k.plane k.phase
 half_kept false k = refl
@@ -186,7 +89,7 @@ Alike-complement g u h step = record {
       (λ ne. ap (λ b. not b && xor (joined g.edges p q) (joined g.edges u p && joined g.edges u q)) (ne_eqb p q ne) ∙ sym (step.edges p q ne))
       (cases_eq p q);
   plane = λ v there. sym (ap (λ vs. (kind_of vs v).plane) step.vertices
-      ∙ ap (λ k. k.plane) (kind_of-with_kinds (complement_kind u (joined g.edges u)) g.vertices v there)
+      ∙ ap (λ k. k.plane) (kind_of-with_kinds (complement_kind u (joined g.edges u)) v g.vertices there)
       ∙ changed (eqb v u) (joined g.edges u v) (kind_of g.vertices v));
   input = λ v _. ap (λ l. member v (places l)) (sym step.inputs);
   output = λ v _. ap (λ l. member v (places l)) (sym step.outputs);
@@ -206,8 +109,8 @@ Alike-removed g u h change vertices keeps edges inputs outputs = record {
   ids = λ v. ap (member v) (sym same_ids);
   adjacent = λ p q in_p in_q. sym (edges p q (stays p in_p) (stays q in_q));
   plane = λ v within. sym (ap (λ vs. (kind_of vs v).plane) vertices
-      ∙ ap (λ k. k.plane) (kind_of-with_kinds change (without u g.vertices) v (ap (member v) (ids-without u g.vertices) ∙ within))
-      ∙ keeps v (kind_of (without u g.vertices) v) ∙ ap (λ k. k.plane) (kind_of-without u g.vertices v (stays v within)));
+      ∙ ap (λ k. k.plane) (kind_of-with_kinds change v (without u g.vertices) (ap (member v) (ids-without u g.vertices) ∙ within))
+      ∙ keeps v (kind_of (without u g.vertices) v) ∙ ap (λ k. k.plane) (kind_of-without v u g.vertices (stays v within)));
   input = λ v _. ap (λ l. member v (places l)) (sym inputs);
   output = λ v _. ap (λ l. member v (places l)) (sym outputs);
 }

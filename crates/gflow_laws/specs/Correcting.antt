@@ -1,15 +1,11 @@
 -- Flows with sets and orders as functions, for proofs: what it means that a set corrects a vertex, and when two
 -- views of graphs agree.
-use Rattle.std.specs.Prelude.{◌≡◌, ◌≢◌, ℕ, Bool, true, false, not, ◌&&◌, List, [], ◌∷◌}
+use Rattle.std.specs.Prelude.{◌≡◌, ◌≢◌, ℕ, Bool, true, false, not, ◌&&◌, List}
 use Rattle.zx_model.specs.Bits.{member}
+pub use Rattle.zx_calculus.specs.Graph.{Distinct}
 use Rattle.zx_calculus.specs.Graph.{Plane, XY, XZ, YZ}
 use Rattle.gflow_laws.specs.Seen.{Seen, odd}
 use Rattle.gflow_laws.specs.Flow.{Correction, order_of, set_of, is_in, after}
-
--- each listed number stands once
-abbrev pub Distinct : List ℕ → Type 0
-Distinct [] = Unit {0}
-Distinct (v ∷ vs) = (member v vs ≡ false) × Distinct vs
 
 -- a simple graph
 pub record Simple (s : Seen) : Type 0 where

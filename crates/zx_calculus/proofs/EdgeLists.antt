@@ -19,7 +19,7 @@ joined-append (e ∷ es) fs p q = ap (λ b. joins e p q || b) (joined-append es 
     or_assoc false b c = refl
 
 -- where a test holds, what it stands before may be replaced
-under : (b c d : Bool) → (b ≡ true → c ≡ d) → (b && c) ≡ (b && d)
+pub under : (b c d : Bool) → (b ≡ true → c ≡ d) → (b && c) ≡ (b && d)
 under true c d h = h refl
 under false c d h = refl
 

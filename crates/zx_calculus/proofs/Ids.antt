@@ -3,6 +3,7 @@ use Rattle.std.proofs.Common.{◌≡◌, ◌≢◌, refl, sym, ◌∙◌, ap, ap
 use Rattle.std.proofs.lemmas.Bool.{eqb-false}
 use Rattle.std.specs.List.{list_all}
 pub use Rattle.zx_model.proofs.BitLemmas.{and-left, and-right}
+pub use Rattle.zx_calculus.specs.Graph.{Distinct}
 use Rattle.zx_model.specs.Bits.{xor, member}
 use Rattle.zx_calculus.specs.Parity.{masked, quad}
 use Rattle.zx_calculus.specs.Graph.{in_order, different}
@@ -33,11 +34,6 @@ or-right false b e = e
 pub not-true : (a : Bool) → not a ≡ true → a ≡ false
 not-true true e = sym e
 not-true false e = refl
-
--- the ids differ
-abbrev pub Distinct : List ℕ → Type 0
-Distinct [] = Unit {0}
-Distinct (v ∷ vs) = (member v vs ≡ false) × Distinct vs
 
 pub member-different : (u : ℕ) (vs : List ℕ) → list_all (different u) vs ≡ true → member u vs ≡ false
 member-different u [] h = refl

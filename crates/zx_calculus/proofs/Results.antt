@@ -17,7 +17,7 @@ use Rattle.zx_calculus.proofs.Edges.{joined_comm}
 use Rattle.zx_calculus.proofs.Vertices.{ids-with_kinds}
 use Rattle.zx_calculus.proofs.Splitting.{off_XY, no_loop, joined-absent, distinct, member-without}
 use Rattle.zx_calculus.proofs.Kept.{both, step_kept}
-use Rattle.zx_calculus.proofs.EdgeLists.{joined-edges_of, OrderedEdges-edges_of, edges_ext}
+use Rattle.zx_calculus.proofs.EdgeLists.{under, joined-edges_of, OrderedEdges-edges_of, edges_ext}
 
 -- ---- the side condition
 
@@ -82,10 +82,6 @@ restrict vs es p q o =
     (λ s. by_test (member q vs) (λ t. rw (s, t) refl)
     (λ f. rw (s, f) (joined_comm es p q ∙ joined-absent vs es q p o.lower_there o.higher_there f)))
     (λ f. rw f (joined-absent vs es p q o.lower_there o.higher_there f))
-
-pub under : (b c d : Bool) → (b ≡ true → c ≡ d) → (b && c) ≡ (b && d)
-under true c d h = h refl
-under false c d h = refl
 
 -- edges in order are those of their adjacency
 edges_are : (h : Graph) (adjacent : ℕ → ℕ → Bool) → WellFormed h → Symmetric adjacent →

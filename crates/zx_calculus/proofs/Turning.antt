@@ -18,10 +18,6 @@ use Rattle.zx_calculus.proofs.Forms.{transform}
 pub i-squared : mul i i ≡ neg one
 i-squared = sym (root_power-add quarter_turn quarter_turn) ∙ root_power-half_turn
 
--- i*i*x
-pub i-i-mul : (x : Number) → mul i (mul i x) ≡ neg x
-i-i-mul x = sym (mul_assoc i i x) ∙ ap (λ y. mul y x) i-squared ∙ simp expand
-
 inverse : (k : ℕ) → k < turn → mul (root_power (opposite_phase k)) (root_power k) ≡ one
 inverse k below = root_power-opposite_phase k (omega arith)
 

@@ -84,6 +84,11 @@ in_order before (x ∷ xs) = list_all (before x) xs && in_order before xs
 abbrev pub different : ℕ → ℕ → Bool
 different p q = not (eqb p q)
 
+-- each listed id stands once
+abbrev pub Distinct : List ℕ → Type 0
+Distinct [] = Unit {0}
+Distinct (v ∷ vs) = (member v vs ≡ false) × Distinct vs
+
 -- the order of pairs by first, then second part
 abbrev pub edge_before : Edge → Edge → Bool
 edge_before d e = ltb d.lower e.lower || (eqb d.lower e.lower && ltb d.higher e.higher)

@@ -1,8 +1,7 @@
 -- From merged gates to what is written for a text.
 use Rattle.std.proofs.Common.{◌≡◌, ◌≤◌, ℕ, Bool, true, false, cond, List, [], ◌∷◌, length, refl, sym, ap, ◌∙◌, subst, arith, Option, None, Some, drop}
 use Rattle.std.specs.List.{list_all, find, filter_map, cons_option}
-use Rattle.zx_model.specs.Number.{one, mul}
-use Rattle.zx_model.proofs.Ring.{one_nonzero}
+use Rattle.zx_model.proofs.ProportionalLemmas.{proportional_of_equal}
 use Rattle.zx_gates.specs.declared.gate.Gate.{Gate}
 use Rattle.zx_gates.specs.declared.gate.Gate.TheVariants.{Phase}
 use Rattle.zx_gates.specs.Circuit.{Circuit}
@@ -53,13 +52,7 @@ amp-merged read merged m x y =
 pub optimises-merged : (read merged : Circuit) → merged.qubits ≡ read.qubits → MergesTo read.gates merged.gates → Optimises read merged
 optimises-merged read merged qubits m = record {
   qubits = qubits;
-  map = record {
-    left = one;
-    right = one;
-    left_nonzero = one_nonzero;
-    right_nonzero = one_nonzero;
-    equal = λ x y lx ly. ap (mul one) (amp-merged read.gates merged.gates m x y);
-  };
+  map = proportional_of_equal read.qubits read.qubits (amp read.gates) (amp merged.gates) (λ x y lx ly. amp-merged read.gates merged.gates m x y);
   odd = m.odd;
   length = m.length;
 }
