@@ -1,2 +1,4 @@
+pub mod LoweringLemmas
 pub mod MapLemmas
+pub mod UnitaryLemmas
 pub mod WorkedLemmas

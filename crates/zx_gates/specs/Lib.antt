@@ -1,2 +1,6 @@
 pub mod Circuit
+pub mod Counting
+pub mod Elementary
+pub mod ElementaryMaps
+pub mod Lowering
 pub mod Maps

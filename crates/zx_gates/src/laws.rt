@@ -1,7 +1,13 @@
-//! What the definitions of linear maps say of small circuits, for anyone to check by hand.
+//! What the definitions of linear maps say of small circuits, for anyone to check by hand, and the laws of lowering.
 
-ghost use Rattle.std.specs.Prelude.{[], ◌∷◌};
+ghost use Rattle.std.specs.Prelude.{◌≡◌, ℕ, List, [], ◌∷◌};
+ghost use Rattle.std.specs.List.{All};
 ghost use Rattle.zx_model.specs.Proportional.{Proportional};
+ghost use Rattle.zx_gates.specs.declared.elementary.ElementaryGate.{ElementaryGate};
+ghost use Rattle.zx_gates.specs.Circuit.{odd_count};
+ghost use Rattle.zx_gates.specs.Elementary.{IsElementaryGateOn, elementary_odd_count};
+ghost use Rattle.zx_gates.specs.ElementaryMaps.{amp_elementary};
+ghost use Rattle.zx_gates.specs.Lowering.{lowered};
 ghost use Rattle.zx_gates.specs.Maps.{amp, swap_two};
 
 use crate::gate::Gate;
@@ -28,4 +34,11 @@ pub fn worked_maps()
     ensures cz_is_symmetric { Proportional 2 2 (amp (Gate.Cz 0 1 ∷ [])) (amp (Gate.Cz 1 0 ∷ [])) }
     ensures two_cx { Proportional 2 2 (amp (Gate.Cx 0 1 ∷ Gate.Cx 0 1 ∷ [])) (amp []) }
     ensures three_cx_exchange { Proportional 2 2 (amp (Gate.Cx 0 1 ∷ Gate.Cx 1 0 ∷ Gate.Cx 0 1 ∷ [])) swap_two }
+{}
+
+/// Lowering keeps the linear map up to a nonzero scalar, and the number of odd phases.
+pub fn lowering_keeps_map_and_odd_phases()
+    ensures map { (n : ℕ) (gates : List ElementaryGate) → All (IsElementaryGateOn n) gates →
+        Proportional n n (amp_elementary gates) (amp (lowered gates)) }
+    ensures odd { (gates : List ElementaryGate) → odd_count (lowered gates) ≡ elementary_odd_count gates }
 {}

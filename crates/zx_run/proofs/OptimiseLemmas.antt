@@ -8,7 +8,7 @@ use Rattle.zx_gates.specs.Circuit.{Circuit}
 use Rattle.zx_gates.specs.Maps.{amp}
 use Rattle.zx_gates.proofs.MapLemmas.{amp-acts}
 use Rattle.zx_model.proofs.BitLemmas.{and-left, and-right}
-use Rattle.zx_run.specs.Written.{written, gate_line}
+use Rattle.qasm_writer.specs.Written.{written, gate_line}
 use Rattle.zx_run.specs.Reading.{pieces_of, gate_of_line, first_fault, circuit_of}
 use Rattle.zx_run.specs.Merging.{MergesTo, IsAtMostOnePhase, is_phase_on}
 use Rattle.zx_run.specs.Optimising.{Optimises}

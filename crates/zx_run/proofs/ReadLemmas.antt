@@ -6,7 +6,7 @@ use Rattle.std.specs.Fmt.{digits}
 use Rattle.std.proofs.lemmas.Bool.Decides.{leb_tells}
 use Rattle.std.proofs.Math.Seq.{take-length, drop-length}
 use Rattle.zx_gates.specs.declared.gate.Gate.TheVariants.{Phase}
-use Rattle.zx_run.specs.Written.{version_line, include_line, register_line}
+use Rattle.qasm_writer.specs.Written.{version_line, include_line, register_line}
 use Rattle.std.specs.Option.{option_map}
 use Rattle.zx_run.specs.declared.status.Fault.TheVariants.{Unsupported, TooLong}
 use Rattle.zx_run.specs.Reading.{pieces_of, gate_of_line, onto_first, misfit, head_lines, most_bytes, first_fault}

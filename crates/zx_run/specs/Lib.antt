@@ -1,5 +1,4 @@
 pub mod Command
-pub mod Written
 pub mod Merging
 pub mod Reading
 pub mod Optimising

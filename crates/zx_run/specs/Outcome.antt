@@ -5,7 +5,7 @@ use Rattle.zx_gates.specs.Circuit.{Circuit}
 use Rattle.zx_run.specs.declared.status.Status.{Status}
 use Rattle.zx_run.specs.declared.status.Status.TheVariants.{Done, Refused, Usage, ReadFault, WriteFault, NoMemory, No}
 use Rattle.zx_run.specs.declared.status.Fault.TheVariants.{TooLong}
-use Rattle.zx_run.specs.Written.{written}
+use Rattle.qasm_writer.specs.Written.{written}
 use Rattle.zx_run.specs.Reading.{first_fault, circuit_of}
 use Rattle.zx_run.specs.Optimising.{Optimises}
 

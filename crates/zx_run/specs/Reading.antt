@@ -8,7 +8,7 @@ use Rattle.zx_gates.specs.declared.gate.Gate.TheVariants.{Phase}
 use Rattle.zx_gates.specs.Circuit.{Circuit}
 use Rattle.zx_run.specs.declared.status.Fault.{Fault}
 use Rattle.zx_run.specs.declared.status.Fault.TheVariants.{TooLong, Unsupported}
-use Rattle.zx_run.specs.Written.{version_line, include_line, register_line, gate_line}
+use Rattle.qasm_writer.specs.Written.{version_line, include_line, register_line, gate_line}
 
 -- the most bytes that a text may have
 abbrev pub most_bytes : ℕ

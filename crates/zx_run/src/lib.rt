@@ -11,7 +11,6 @@ mod stopped;
 #[cfg(test)]
 mod tests;
 mod words;
-mod writer;
 
 pub use program::run;
 pub use status::{Fault, Status};

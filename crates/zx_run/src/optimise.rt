@@ -8,7 +8,7 @@ ghost use Rattle.zx_run.specs.Outcome.{IsOutputFor};
 use crate::merge::merge_phases;
 use crate::reader::read_circuit;
 use crate::stopped::Stopped;
-use crate::writer::write_text;
+use qasm_writer::write_text;
 use std::alloc::Global;
 
 /// The text of the optimised circuit, or the first fault of the text that is read.

@@ -6,7 +6,7 @@ ghost use Rattle.std.specs.List.{filter_map};
 ghost use Rattle.std.specs.Option.{option_map};
 ghost use Rattle.std.specs.Str.{bytes_eq};
 ghost use Rattle.zx_model.specs.Phase.{turn};
-ghost use Rattle.zx_run.specs.Written.{version_line, include_line, register_line};
+ghost use Rattle.qasm_writer.specs.Written.{version_line, include_line, register_line};
 ghost use Rattle.zx_run.specs.declared.status.Fault.{Fault};
 ghost use Rattle.zx_run.specs.Reading.{most_bytes, pieces_of, first_fault, circuit_of, gate_of_line, misfit, head_lines};
 

@@ -2,7 +2,7 @@
 use Rattle.std.proofs.Common.{◌∷◌, ◌-◌, length, ap, ◌∙◌, arith}
 use Rattle.std.specs.Fmt.{digits}
 use Rattle.std.proofs.lemmas.Result.{err_from_is_err_and}
-use Rattle.zx_run.specs.Written.{version_line, include_line}
+use Rattle.qasm_writer.specs.Written.{version_line, include_line}
 use Rattle.zx_run.specs.Reading.{pieces_of}
 use Rattle.zx_run.proofs.ReadLemmas.{misfit-first, misfit-second, misfit-third, IfOk-weaker, IfErr-weaker}
 use Rattle.zx_run.proofs.reader.after_head.Goals as goal

@@ -1,22 +1,23 @@
 //! The text of a circuit.
 
 ghost use Rattle.std.specs.Prelude.{◌≡◌, ◌++◌, IfOk, OnOk, codes, decimal};
-ghost use Rattle.zx_run.specs.Written.{written, gate_line, on_one, on_two, qubit, phase_name, register_line};
+ghost use Rattle.qasm_writer.specs.Written.{written, gate_line, on_one, on_two, qubit, phase_name, register_line};
 
 use itoa::Buffer;
 use std::alloc::{AllocError, Global};
 use zx_gates::{Gate, GateList, Qubit};
 use zx_model::Eighth;
 
-/// The circuit as an OpenQASM text.
+/// The circuit as an OpenQASM 2.0 text: the version, the include, the register where there is a qubit, and a line
+/// for each gate, the first to act first. Each line ends with a line feed.
 #[tactic(auto, unfolding(crate::specs::Written::written))]
-pub fn write_text(alloc: Global, list: &GateList) -> Result<Vec<u8>, AllocError>
-    ensures { IfOk result (λ text. text.items ≡ written list.now) }
+pub fn write_text(alloc: Global, g: &GateList) -> Result<Vec<u8>, AllocError>
+    ensures { IfOk result (λ text. text.items ≡ written g.now) }
 {
     let mut text = Vec::new(alloc);
     text.extend_from_slice(b"OPENQASM 2.0;\ninclude \"qelib1.inc\";\n")?;
-    push_register(&mut text, list.qubits())?;
-    for gate in list.gates() {
+    push_register(&mut text, g.qubits())?;
+    for gate in g.gates() {
         push_gate(&mut text, *gate)?;
     }
     Ok(text)

@@ -1,0 +1,8 @@
+//! The OpenQASM 2.0 text of a circuit.
+#![tactic(auto)]
+
+#[cfg(test)]
+mod tests;
+mod writer;
+
+pub use writer::write_text;

@@ -1,0 +1,56 @@
+//! That writing succeeds with ample memory, and the text of every kind of gate.
+use crate::write_text;
+use std::test::Fail;
+use zx_gates::{Gate, GateList};
+use zx_model::Eighth;
+
+#[test]
+fn every_gate_has_its_line(rt: HostRuntime) -> Result<(), Fail> {
+    let mut list = GateList::new(rt.alloc(), 12);
+    list.push(Gate::H(0))?;
+    list.push(Gate::Not(11))?;
+    list.push(Gate::Cz(3, 10))?;
+    list.push(Gate::Cx {
+        control: 10,
+        target: 2,
+    })?;
+    list.push(Gate::Phase(1, Eighth::new(1)))?;
+    list.push(Gate::Phase(1, Eighth::new(2)))?;
+    list.push(Gate::Phase(1, Eighth::new(3)))?;
+    list.push(Gate::Phase(1, Eighth::new(4)))?;
+    list.push(Gate::Phase(1, Eighth::new(5)))?;
+    list.push(Gate::Phase(1, Eighth::new(6)))?;
+    list.push(Gate::Phase(1, Eighth::new(7)))?;
+    let lines: [&[u8]; 14] = [
+        b"OPENQASM 2.0;\n",
+        b"include \"qelib1.inc\";\n",
+        b"qreg q[12];\n",
+        b"h q[0];\n",
+        b"x q[11];\n",
+        b"cz q[3],q[10];\n",
+        b"cx q[10],q[2];\n",
+        b"t q[1];\n",
+        b"s q[1];\n",
+        b"u1(3*pi/4) q[1];\n",
+        b"z q[1];\n",
+        b"u1(5*pi/4) q[1];\n",
+        b"sdg q[1];\n",
+        b"tdg q[1];\n",
+    ];
+    let mut text = Vec::new(rt.alloc());
+    for line in lines {
+        text.extend_from_slice(line)?;
+    }
+    assert_eq!(rt; write_text(rt.alloc(), &list)?.as_slice(), text.as_slice());
+    Ok(())
+}
+
+#[test]
+fn a_circuit_without_qubits_has_no_register(rt: HostRuntime) -> Result<(), Fail> {
+    let text = write_text(rt.alloc(), &GateList::new(rt.alloc(), 0))?;
+    assert_eq!(rt;
+        text.as_slice(),
+        b"OPENQASM 2.0;\ninclude \"qelib1.inc\";\n".as_slice()
+    );
+    Ok(())
+}

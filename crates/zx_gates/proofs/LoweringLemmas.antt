@@ -1,0 +1,415 @@
+-- Lowering keeps the linear map up to a nonzero scalar, and the number of odd phases.
+use Rattle.std.proofs.Common.{◌≡◌, ◌≢◌, ℕ, ◌+◌, ◌<◌, ◌≤◌, take, ◌%◌, Bool, true, false, cond, eqb, List, [], ◌∷◌, ◌++◌, length, set, refl, sym, ap, ap₂, ◌∙◌, arith, pos, negsuc, ℤ}
+use Rattle.std.specs.List.{All}
+use Rattle.std.proofs.Math.Seq.{take-length}
+use Rattle.std.proofs.lemmas.List.{length-set}
+use Rattle.std.proofs.lemmas.List.Elements.{All-head, All-tail}
+use Rattle.std.proofs.lemmas.List.Sums.{sum_by-append, sum_by-cons}
+use Rattle.std.proofs.lemmas.Bool.{eqb-true, ne_eqb, eqb-false}
+use Rattle.zx_model.specs.Phase.{turn, half_turn, quarter_turn, sum_of_phases, opposite_phase}
+use Rattle.zx_model.specs.Number.{Number, zero, one, add, neg, mul, root_power}
+use Rattle.zx_model.specs.Bits.{bit}
+use Rattle.zx_model.specs.Proportional.{Proportional}
+use Rattle.zx_model.proofs.Ring.{expand, sorted, one_nonzero, one-mul, mul_assoc, mul_comm, mul-zero, add-neg}
+use Rattle.zx_model.proofs.Powers.{root_power-add, root_power-mod, root_power-sum_of_phases, root_power-half_turn, root_power-zero, root_power-nonzero}
+use Rattle.zx_model.proofs.Domain.{mul-nonzero}
+use Rattle.zx_model.proofs.ProportionalLemmas.{proportional_of_scaled}
+use Rattle.zx_gates.specs.Circuit.{odd_count, is_odd_phase}
+use Rattle.zx_gates.specs.Maps.{Matrix, amp, act, acts, act_on}
+use Rattle.zx_gates.specs.Elementary.{IsElementaryGateOn, difference_of_phases, odd_of, odd_elementary, elementary_odd_count}
+use Rattle.zx_gates.specs.ElementaryMaps.{unitary, act_elementary, acts_elementary, amp_elementary}
+use Rattle.zx_gates.specs.Lowering.{phase_gates, lowered_gate, lowered}
+use Rattle.zx_gates.specs.declared.gate.Gate.{Gate}
+use Rattle.zx_gates.specs.declared.gate.Gate.TheVariants.{H, Phase, Not}
+use Rattle.zx_gates.specs.declared.elementary.ElementaryGate.{ElementaryGate}
+use Rattle.zx_gates.specs.declared.elementary.ElementaryGate.TheVariants.{U, Cx}
+use Rattle.zx_gates.proofs.MapLemmas.{amp-acts, acts-append, act-phase-zero}
+use Rattle.zx_gates.proofs.WorkedLemmas.{two_nonzero}
+use Rattle.zx_gates.proofs.UnitaryLemmas.{HasRows, act_on-rows, turned, mixed, exchanged, set_phase, set_hadamard, set_exchange, at_phase, none_mixed, one_mixed, two_mixed, one_exchanged}
+
+-- ---- the five lists
+choose : {A : Type 0} (P : A → Type 0) (t : Bool) (x y : A) → (t ≡ true → P x) → (t ≡ false → P y) → P (cond t x y)
+choose P true x y h k = h refl
+choose P false x y h k = k refl
+
+-- a phase gate, H, and a phase gate
+abbrev turn_gates : ℕ → ℕ → ℕ → List Gate
+turn_gates q j k = phase_gates q j ++ H q ∷ phase_gates q k
+
+-- what holds of each of the five lists, where it is the one, holds of the list that stands for U
+pub by_angle : (P : List Gate → Type 0) (q a b c : ℕ)
+    → (a ≡ 0 → P (phase_gates q (sum_of_phases b c)))
+    → (a ≡ quarter_turn → P (turn_gates q (sum_of_phases c half_turn) b))
+    → (a ≡ half_turn → P (phase_gates q (sum_of_phases (difference_of_phases c b) half_turn) ++ Not q ∷ []))
+    → (a ≡ half_turn + quarter_turn → P (turn_gates q c (sum_of_phases b half_turn)))
+    → (a ≢ 0 → a ≢ half_turn → P (turn_gates q (sum_of_phases c (opposite_phase quarter_turn)) a ++ H q ∷ phase_gates q (sum_of_phases b quarter_turn)))
+    → P (lowered_gate (U q a b c))
+by_angle P q a b c none quarter half three other =
+    choose P (eqb a 0) _ _ (λ e. none (eqb-true a 0 e)) (λ not_none.
+    choose P (eqb a quarter_turn) _ _ (λ e. quarter (eqb-true a quarter_turn e)) (λ _.
+    choose P (eqb a half_turn) _ _ (λ e. half (eqb-true a half_turn e)) (λ not_half.
+    choose P (eqb a (half_turn + quarter_turn)) _ _ (λ e. three (eqb-true a (half_turn + quarter_turn) e)) (λ _.
+    other (eqb-false a 0 not_none) (eqb-false a half_turn not_half)))))
+
+-- ---- odd phases
+pub odd_count-append : (xs ys : List Gate) → odd_count (xs ++ ys) ≡ odd_count xs + odd_count ys
+odd_count-append xs ys = sum_by-append (λ g. cond (is_odd_phase g) 1 0) xs ys
+
+odd-phase_gates : (q k : ℕ) → odd_count (phase_gates q k) ≡ odd_of k
+odd-phase_gates q k =
+    choose (λ gs. odd_count gs ≡ odd_of k) (eqb k 0) _ _ (λ e. ap odd_of (sym (eqb-true k 0 e))) (λ _. omega arith)
+
+odd-turn_gates : (q j k : ℕ) → odd_count (turn_gates q j k) ≡ odd_of j + odd_of k
+odd-turn_gates q j k =
+    omega (arith, odd_count-append (phase_gates q j) (H q ∷ phase_gates q k), odd-phase_gates q j, odd-phase_gates q k)
+
+same_odd : (j k : ℕ) → j % quarter_turn ≡ k % quarter_turn → odd_of j ≡ odd_of k
+same_odd j k e = ap (λ r. cond (eqb r 1) 1 0) e
+
+odd-half : (k : ℕ) → odd_of (sum_of_phases k half_turn) ≡ odd_of k
+odd-half k = same_odd (sum_of_phases k half_turn) k (omega arith)
+
+odd-quarter : (k : ℕ) → odd_of (sum_of_phases k quarter_turn) ≡ odd_of k
+odd-quarter k = same_odd (sum_of_phases k quarter_turn) k (omega arith)
+
+odd-minus_quarter : (k : ℕ) → odd_of (sum_of_phases k (opposite_phase quarter_turn)) ≡ odd_of k
+odd-minus_quarter k = same_odd (sum_of_phases k (opposite_phase quarter_turn)) k (omega arith)
+
+odd-two_turns : (q a b c : ℕ)
+    → odd_count (turn_gates q (sum_of_phases c (opposite_phase quarter_turn)) a ++ H q ∷ phase_gates q (sum_of_phases b quarter_turn))
+    ≡ odd_of a + odd_of b + odd_of c
+odd-two_turns q a b c =
+    omega (
+      arith,
+      odd_count-append (turn_gates q (sum_of_phases c (opposite_phase quarter_turn)) a) (H q ∷ phase_gates q (sum_of_phases b quarter_turn)),
+      odd-turn_gates q (sum_of_phases c (opposite_phase quarter_turn)) a,
+      odd-phase_gates q (sum_of_phases b quarter_turn),
+      odd-minus_quarter c,
+      odd-quarter b,
+    )
+
+odd_elementary-other : (q a b c : ℕ) → a ≢ 0 → a ≢ half_turn → odd_elementary (U q a b c) ≡ odd_of a + odd_of b + odd_of c
+odd_elementary-other q a b c not_none not_half = rw (ne_eqb a 0 not_none, ne_eqb a half_turn not_half) refl
+
+odd_lowered_gate : (gate : ElementaryGate) → odd_count (lowered_gate gate) ≡ odd_elementary gate
+odd_lowered_gate (Cx control target) = refl
+odd_lowered_gate (U q a b c) =
+    by_angle (λ gs. odd_count gs ≡ odd_elementary (U q a b c)) q a b c
+    (λ e. rw e (odd-phase_gates q (sum_of_phases b c)))
+    (λ e. rw e (omega (arith, odd-turn_gates q (sum_of_phases c half_turn) b, odd-half c)))
+    (λ e. rw e (omega (arith, odd_count-append (phase_gates q (sum_of_phases (difference_of_phases c b) half_turn)) (Not q ∷ []), odd-phase_gates q (sum_of_phases (difference_of_phases c b) half_turn), odd-half (difference_of_phases c b))))
+    (λ e. rw e (omega (arith, odd-turn_gates q c (sum_of_phases b half_turn), odd-half b)))
+    (λ not_none not_half. odd-two_turns q a b c ∙ sym (odd_elementary-other q a b c not_none not_half))
+
+pub odd_lowered : (gates : List ElementaryGate) → odd_count (lowered gates) ≡ elementary_odd_count gates
+odd_lowered [] = refl
+odd_lowered (gate ∷ gates) =
+    odd_count-append (lowered_gate gate) (lowered gates)
+    ∙ ap₂ (λ m n. m + n) (odd_lowered_gate gate) (odd_lowered gates)
+    ∙ sym (sum_by-cons odd_elementary gate gates)
+
+-- ---- maps
+-- the one map is a number other than 0 times the other, on lists of n bits
+pub record Multiple (n : ℕ) (F G : (List Bool → Number) → List Bool → Number) : Type 0 where
+  pub factor : Number
+  pub nonzero : factor ≢ zero
+  pub equal : (f : List Bool → Number) (x : List Bool) → length x ≡ n → F f x ≡ mul factor (G f x)
+
+acts-phase_gates : (q k : ℕ) (f : List Bool → Number) → acts (phase_gates q k) f ≡ act (Phase q k) f
+acts-phase_gates q k f =
+    choose (λ gs. acts gs f ≡ act (Phase q k) f) (eqb k 0) _ _ (λ e. sym (act-phase-zero q f) ∙ ap (λ j. act (Phase q j) f) (sym (eqb-true k 0 e))) (λ _. refl)
+
+acts-turn_gates : (q j k : ℕ) (f : List Bool → Number) → acts (turn_gates q j k) f ≡ act (Phase q j) (act (H q) (act (Phase q k) f))
+acts-turn_gates q j k f =
+    acts-append (phase_gates q j) (H q ∷ phase_gates q k) f
+    ∙ acts-phase_gates q j (act (H q) (acts (phase_gates q k) f))
+    ∙ ap (λ g. act (Phase q j) (act (H q) g)) (acts-phase_gates q k f)
+
+by_phase : (n q : ℕ) (m : Matrix) (d : Number) (k : ℕ) → q < n → d ≢ zero → HasRows m d zero zero (mul d (root_power k))
+    → Multiple n (act_on m q) (acts (phase_gates q k))
+by_phase n q m d k below nonzero rows = record {
+  factor = d;
+  nonzero = nonzero;
+  equal = λ f x l.
+      act_on-rows m d zero zero (mul d (root_power k)) rows q f x
+      ∙ none_mixed d (root_power k) (λ b. f (set x q b)) (bit x q)
+      ∙ ap (mul d) (sym (at_phase q k f (λ b. f (set x q b)) x (λ b. refl)) ∙ ap (λ g. g x) (sym (acts-phase_gates q k f)));
+}
+
+by_exchange : (n q : ℕ) (m : Matrix) (d : Number) (k : ℕ) → q < n → d ≢ zero → HasRows m zero (mul d (root_power k)) d zero
+    → Multiple n (act_on m q) (acts (phase_gates q k ++ Not q ∷ []))
+by_exchange n q m d k below nonzero rows = record {
+  factor = d;
+  nonzero = nonzero;
+  equal = λ f x l. let within : q < length x = omega arith in
+      act_on-rows m zero (mul d (root_power k)) d zero rows q f x
+      ∙ one_exchanged d (root_power k) (λ b. f (set x q b)) (bit x q)
+      ∙ ap (mul d) (sym (at_phase q k (act (Not q) f) (exchanged (λ b. f (set x q b))) x (set_exchange q f (λ b. f (set x q b)) x within (λ b. refl)))
+      ∙ ap (λ g. g x) (sym (acts-append (phase_gates q k) (Not q ∷ []) f ∙ acts-phase_gates q k (act (Not q) f))));
+}
+
+by_turn : (n q : ℕ) (m : Matrix) (d : Number) (j k : ℕ) → q < n → d ≢ zero
+    → HasRows m d (mul d (root_power j)) (mul d (root_power k)) (neg (mul d (mul (root_power j) (root_power k))))
+    → Multiple n (act_on m q) (acts (turn_gates q j k))
+by_turn n q m d j k below nonzero rows = record {
+  factor = d;
+  nonzero = nonzero;
+  equal = λ f x l. let within : q < length x = omega arith in
+      let g : Bool → Number = λ b. f (set x q b) in
+      act_on-rows m _ _ _ _ rows q f x
+      ∙ one_mixed d (root_power j) (root_power k) g (bit x q)
+      ∙ ap (mul d) (sym (at_phase q j (act (H q) (act (Phase q k) f)) (mixed (turned (root_power k) g)) x
+      (set_hadamard q (act (Phase q k) f) (turned (root_power k) g) x within
+      (set_phase q k f g x within (λ b. refl))))
+      ∙ ap (λ h. h x) (sym (acts-turn_gates q j k f)));
+}
+
+by_two_turns : (n q : ℕ) (m : Matrix) (j k l : ℕ) → q < n
+    → HasRows m (add one (root_power k)) (neg (mul (root_power j) (add (root_power k) (neg one)))) (neg (mul (root_power l) (add (root_power k) (neg one)))) (mul (mul (root_power j) (root_power l)) (add one (root_power k)))
+    → Multiple n (act_on m q) (acts (turn_gates q j k ++ H q ∷ phase_gates q l))
+by_two_turns n q m j k l below rows = record {
+  factor = one;
+  nonzero = one_nonzero;
+  equal = λ f x lx. let within : q < length x = omega arith in
+      let g : Bool → Number = λ b. f (set x q b) in
+      let last : List Bool → Number = act (H q) (act (Phase q l) f) in
+      let at_last : (b : Bool) → last (set x q b) ≡ mixed (turned (root_power l) g) b =
+      set_hadamard q (act (Phase q l) f) (turned (root_power l) g) x within (set_phase q l f g x within (λ b. refl)) in
+      act_on-rows m _ _ _ _ rows q f x
+      ∙ two_mixed (root_power j) (root_power k) (root_power l) g (bit x q)
+      ∙ ap (mul one) (sym (at_phase q j (act (H q) (act (Phase q k) last)) (mixed (turned (root_power k) (mixed (turned (root_power l) g)))) x
+      (set_hadamard q (act (Phase q k) last) (turned (root_power k) (mixed (turned (root_power l) g))) x within
+      (set_phase q k last (mixed (turned (root_power l) g)) x within at_last)))
+      ∙ ap (λ h. h x) (sym (acts-append (turn_gates q j k) (H q ∷ phase_gates q l) f
+      ∙ ap (λ h. acts (turn_gates q j k) (act (H q) h)) (acts-phase_gates q l f)
+      ∙ acts-turn_gates q j k last)));
+}
+
+-- ---- the rows of U, by w^a, w^b and w^c
+power_of_six : root_power (half_turn + quarter_turn) ≡ neg (root_power quarter_turn)
+power_of_six = root_power-add half_turn quarter_turn ∙ ap (λ s. mul s (root_power quarter_turn)) root_power-half_turn ∙ simp expand
+
+square : mul (root_power quarter_turn) (root_power quarter_turn) ≡ neg one
+square = sym (root_power-add quarter_turn quarter_turn) ∙ root_power-half_turn
+
+power-half : (k : ℕ) → root_power (sum_of_phases k half_turn) ≡ neg (root_power k)
+power-half k = root_power-sum_of_phases k half_turn ∙ ap (mul (root_power k)) root_power-half_turn ∙ simp expand
+
+power-six : (k : ℕ) → root_power (k + (half_turn + quarter_turn)) ≡ mul (root_power k) (neg (root_power quarter_turn))
+power-six k = root_power-add k (half_turn + quarter_turn) ∙ ap (mul (root_power k)) power_of_six
+
+power-minus_quarter : (k : ℕ) → root_power (sum_of_phases k (opposite_phase quarter_turn)) ≡ mul (root_power k) (neg (root_power quarter_turn))
+power-minus_quarter k = root_power-sum_of_phases k (opposite_phase quarter_turn) ∙ ap (mul (root_power k)) power_of_six
+
+-- products of phases around i, where i*i = -1
+apart : (b c i : Number) → mul (mul c (neg i)) (mul b i) ≡ neg (mul (mul b c) (mul i i))
+apart b c i = simp expand
+
+together : (b c i : Number) → mul i i ≡ neg one → mul b c ≡ mul (mul c (neg i)) (mul b i)
+together b c i e = sym (apart b c i ∙ ap (λ s. neg (mul (mul b c) s)) e ∙ simp expand)
+
+spread : (c j : Number) → mul (mul c j) (add j (neg one)) ≡ add (mul c (mul j j)) (neg (mul c j))
+spread c j = simp expand
+
+gathered : (c j : Number) → mul j j ≡ neg one → mul (mul c j) (add j (neg one)) ≡ mul (add one j) (neg c)
+gathered c j e = spread c j ∙ ap (λ s. add (mul c s) (neg (mul c j))) e ∙ simp expand
+
+neg_out : (c i s : Number) → mul (mul c i) s ≡ neg (mul (mul c (neg i)) s)
+neg_out c i s = simp expand
+
+neg_in : (b i s : Number) → mul (mul b (neg i)) s ≡ neg (mul (mul b i) s)
+neg_in b i s = simp expand
+
+rows_of_two_turns : (a b c : ℕ) → (p r : Number) → p ≡ mul (root_power c) (neg (root_power quarter_turn)) → r ≡ mul (root_power b) (root_power quarter_turn)
+    → HasRows (unitary a b c) (add one (root_power a)) (neg (mul p (add (root_power a) (neg one)))) (neg (mul r (add (root_power a) (neg one)))) (mul (mul p r) (add one (root_power a)))
+rows_of_two_turns a b c p r ep er = record {
+  first = refl;
+  second = ap (λ s. mul s (add (root_power a) (neg one))) (root_power-add c quarter_turn)
+      ∙ neg_out (root_power c) (root_power quarter_turn) (add (root_power a) (neg one))
+      ∙ ap (λ s. neg (mul s (add (root_power a) (neg one)))) (sym ep);
+  third = ap (λ s. mul s (add (root_power a) (neg one))) (power-six b)
+      ∙ neg_in (root_power b) (root_power quarter_turn) (add (root_power a) (neg one))
+      ∙ ap (λ s. neg (mul s (add (root_power a) (neg one)))) (sym er);
+  fourth = ap (λ s. mul s (add one (root_power a))) (root_power-add b c ∙ together (root_power b) (root_power c) (root_power quarter_turn) square ∙ ap₂ mul (sym ep) (sym er));
+}
+
+-- the rows where w^a is j
+rows_of_turn : (a b c : ℕ) (j p r : Number) → root_power a ≡ j
+    → mul (root_power (c + quarter_turn)) (add j (neg one)) ≡ mul (add one j) p
+    → mul (root_power (b + (half_turn + quarter_turn))) (add j (neg one)) ≡ mul (add one j) r
+    → mul (root_power b) (root_power c) ≡ neg (mul p r)
+    → HasRows (unitary a b c) (add one j) (mul (add one j) p) (mul (add one j) r) (neg (mul (add one j) (mul p r)))
+rows_of_turn a b c j p r is second third product = record {
+  first = ap (add one) is;
+  second = ap (λ s. mul (root_power (c + quarter_turn)) (add s (neg one))) is ∙ second;
+  third = ap (λ s. mul (root_power (b + (half_turn + quarter_turn))) (add s (neg one))) is ∙ third;
+  fourth = ap₂ mul (root_power-add b c) (ap (add one) is) ∙ ap (λ s. mul s (add one j)) product ∙ simp expand;
+}
+
+double_neg : (d b : Number) → neg (mul d (neg b)) ≡ mul d b
+double_neg d b = simp expand
+
+-- a quarter turn about the y axis
+rows_of_quarter : (a b c : ℕ) → a ≡ quarter_turn → (d : Number) → d ≡ add one (root_power quarter_turn)
+    → HasRows (unitary a b c) d (mul d (root_power (sum_of_phases c half_turn))) (mul d (root_power b)) (neg (mul d (mul (root_power (sum_of_phases c half_turn)) (root_power b))))
+rows_of_quarter a b c e d is = rw is (rows_of_turn a b c (root_power quarter_turn) (root_power (sum_of_phases c half_turn)) (root_power b) (ap root_power e)
+    (ap (λ s. mul s (add (root_power quarter_turn) (neg one))) (root_power-add c quarter_turn)
+    ∙ gathered (root_power c) (root_power quarter_turn) square
+    ∙ ap (mul (add one (root_power quarter_turn))) (sym (power-half c)))
+    (ap (λ s. mul s (add (root_power quarter_turn) (neg one))) (power-six b)
+    ∙ neg_in (root_power b) (root_power quarter_turn) (add (root_power quarter_turn) (neg one))
+    ∙ ap neg (gathered (root_power b) (root_power quarter_turn) square)
+    ∙ double_neg (add one (root_power quarter_turn)) (root_power b))
+    (mul_comm (root_power b) (root_power c) ∙ minus_left (root_power c) (root_power b) ∙ ap (λ s. neg (mul s (root_power b))) (sym (power-half c))))
+  where
+    minus_left : (c b : Number) → mul c b ≡ neg (mul (neg c) b)
+    minus_left c b = simp expand
+
+-- three quarter turns
+rows_of_three_quarters : (a b c : ℕ) → a ≡ half_turn + quarter_turn → (d : Number) → d ≡ add one (neg (root_power quarter_turn))
+    → HasRows (unitary a b c) d (mul d (root_power c)) (mul d (root_power (sum_of_phases b half_turn))) (neg (mul d (mul (root_power c) (root_power (sum_of_phases b half_turn)))))
+rows_of_three_quarters a b c e d is = rw is (rows_of_turn a b c j (root_power c) (root_power (sum_of_phases b half_turn)) (ap root_power e ∙ power_of_six)
+    (ap (λ s. mul s (add j (neg one))) (root_power-add c quarter_turn)
+    ∙ neg_out (root_power c) (root_power quarter_turn) (add j (neg one))
+    ∙ ap neg (gathered (root_power c) j square_j)
+    ∙ double_neg (add one j) (root_power c))
+    (ap (λ s. mul s (add j (neg one))) (power-six b)
+    ∙ gathered (root_power b) j square_j
+    ∙ ap (mul (add one j)) (sym (power-half b)))
+    (mul_comm (root_power b) (root_power c) ∙ minus_right (root_power c) (root_power b) ∙ ap (λ s. neg (mul (root_power c) s)) (sym (power-half b))))
+  where
+    j : Number
+    j = neg (root_power quarter_turn)
+
+    minus_right : (c b : Number) → mul c b ≡ neg (mul c (neg b))
+    minus_right c b = simp expand
+
+    squares : (i : Number) → mul (neg i) (neg i) ≡ mul i i
+    squares i = simp expand
+
+    square_j : mul j j ≡ neg one
+    square_j = squares (root_power quarter_turn) ∙ square
+
+-- no turn
+rows_of_none : (a b c : ℕ) → a ≡ 0 → HasRows (unitary a b c) (add one one) zero zero (mul (add one one) (root_power (sum_of_phases b c)))
+rows_of_none a b c e =
+    let is : root_power a ≡ one = ap root_power e ∙ root_power-zero in
+    record {
+      first = ap (add one) is;
+      second = ap (λ s. mul (root_power (c + quarter_turn)) (add s (neg one))) is ∙ ap (mul (root_power (c + quarter_turn))) (add-neg one) ∙ mul-zero (root_power (c + quarter_turn));
+      third = ap (λ s. mul (root_power (b + (half_turn + quarter_turn))) (add s (neg one))) is ∙ ap (mul (root_power (b + (half_turn + quarter_turn)))) (add-neg one) ∙ mul-zero (root_power (b + (half_turn + quarter_turn)));
+      fourth = ap₂ mul (sym (root_power-mod (b + c))) (ap (add one) is) ∙ mul_comm (root_power (sum_of_phases b c)) (add one one);
+    }
+
+-- half a turn
+crossed : (b c : ℕ) → root_power (c + quarter_turn) ≡ mul (root_power (b + (half_turn + quarter_turn))) (root_power (sum_of_phases (difference_of_phases c b) half_turn))
+crossed b c =
+    sym (root_power-mod (c + quarter_turn))
+    ∙ ap root_power (let h : (c + quarter_turn) % turn ≡ ((b + (half_turn + quarter_turn)) + sum_of_phases (difference_of_phases c b) half_turn) % turn = omega arith in h)
+    ∙ root_power-mod ((b + (half_turn + quarter_turn)) + sum_of_phases (difference_of_phases c b) half_turn)
+    ∙ root_power-add (b + (half_turn + quarter_turn)) (sum_of_phases (difference_of_phases c b) half_turn)
+
+rows_of_half : (a b c : ℕ) → a ≡ half_turn → (d : Number) → d ≡ mul (root_power (b + (half_turn + quarter_turn))) (add (neg one) (neg one))
+    → HasRows (unitary a b c) zero (mul d (root_power (sum_of_phases (difference_of_phases c b) half_turn))) d zero
+rows_of_half a b c e d d_is =
+    let is : root_power a ≡ neg one = ap root_power e ∙ root_power-half_turn in
+    record {
+      first = ap (add one) is ∙ add-neg one;
+      second = ap (λ s. mul (root_power (c + quarter_turn)) (add s (neg one))) is
+          ∙ ap (λ s. mul s (add (neg one) (neg one))) (crossed b c)
+          ∙ turned_about (root_power (b + (half_turn + quarter_turn))) (root_power (sum_of_phases (difference_of_phases c b) half_turn)) (add (neg one) (neg one))
+          ∙ ap (λ s. mul s (root_power (sum_of_phases (difference_of_phases c b) half_turn))) (sym d_is);
+      third = ap (λ s. mul (root_power (b + (half_turn + quarter_turn))) (add s (neg one))) is ∙ sym d_is;
+      fourth = ap (λ s. mul (root_power (b + c)) (add one s)) is ∙ ap (mul (root_power (b + c))) (add-neg one) ∙ mul-zero (root_power (b + c));
+    }
+  where
+    turned_about : (s t u : Number) → mul (mul s t) u ≡ mul (mul s u) t
+    turned_about s t u = simp sorted
+
+-- ---- the factors
+minus_two_nonzero : add (neg one) (neg one) ≢ zero
+unfolding add neg
+minus_two_nonzero e = let h : ◌≡◌ {A = ℤ} (negsuc 1) (pos 0) = ap (λ (s : Number). s.c0) e in cc
+
+one_and_i_nonzero : add one (root_power quarter_turn) ≢ zero
+unfolding add root_power mul
+one_and_i_nonzero e = let h : pos 1 ≡ pos 0 = ap (λ (s : Number). s.c0) e in cc
+
+one_without_i_nonzero : add one (neg (root_power quarter_turn)) ≢ zero
+unfolding add root_power mul neg
+one_without_i_nonzero e = let h : pos 1 ≡ pos 0 = ap (λ (s : Number). s.c0) e in cc
+
+-- ---- gates and lists
+multiple_unitary : (n q a b c : ℕ) → q < n → Multiple n (act_on (unitary a b c) q) (acts (lowered_gate (U q a b c)))
+multiple_unitary n q a b c below =
+    by_angle (λ gs. Multiple n (act_on (unitary a b c) q) (acts gs)) q a b c
+    (λ e. by_phase n q (unitary a b c) (add one one) (sum_of_phases b c) below two_nonzero (rows_of_none a b c e))
+    (λ e. by_turn n q (unitary a b c) (add one (root_power quarter_turn)) (sum_of_phases c half_turn) b below one_and_i_nonzero (rows_of_quarter a b c e _ refl))
+    (λ e. by_exchange n q (unitary a b c) (mul (root_power (b + (half_turn + quarter_turn))) (add (neg one) (neg one))) (sum_of_phases (difference_of_phases c b) half_turn) below
+    (mul-nonzero _ _ (root_power-nonzero (b + (half_turn + quarter_turn))) minus_two_nonzero) (rows_of_half a b c e _ refl))
+    (λ e. by_turn n q (unitary a b c) (add one (neg (root_power quarter_turn))) c (sum_of_phases b half_turn) below one_without_i_nonzero (rows_of_three_quarters a b c e _ refl))
+    (λ _ _. by_two_turns n q (unitary a b c) (sum_of_phases c (opposite_phase quarter_turn)) a (sum_of_phases b quarter_turn) below
+    (rows_of_two_turns a b c _ _ (power-minus_quarter c) (root_power-sum_of_phases b quarter_turn)))
+
+pub multiple_gate : (n : ℕ) (gate : ElementaryGate) → IsElementaryGateOn n gate → Multiple n (act_elementary gate) (acts (lowered_gate gate))
+multiple_gate n (U q a b c) on = multiple_unitary n q a b c on
+multiple_gate n (Cx control target) on = record {
+  factor = one;
+  nonzero = one_nonzero;
+  equal = λ f x l. sym (one-mul _);
+}
+
+factored : (s t d f g : Number) → add (mul s (mul d f)) (mul t (mul d g)) ≡ mul d (add (mul s f) (mul t g))
+factored s t d f g = simp expand
+
+-- a factor of what follows is one of what is before
+act_elementary-multiple : (n : ℕ) (gate : ElementaryGate) (d : Number) (f g : List Bool → Number) → ((z : List Bool) → length z ≡ n → f z ≡ mul d (g z))
+    → (x : List Bool) → length x ≡ n → act_elementary gate f x ≡ mul d (act_elementary gate g x)
+act_elementary-multiple n (U q a b c) d f g e x l =
+    ap₂ (λ s t. add (mul (unitary a b c false (bit x q)) s) (mul (unitary a b c true (bit x q)) t)) (e (set x q false) (length-set x q false ∙ l)) (e (set x q true) (length-set x q true ∙ l))
+    ∙ factored (unitary a b c false (bit x q)) (unitary a b c true (bit x q)) d (g (set x q false)) (g (set x q true))
+act_elementary-multiple n (Cx control target) d f g e x l = e _ (length-set x target _ ∙ l)
+
+-- a gate in front of a list
+multiple_more : (n : ℕ) (gate : ElementaryGate) (gates : List ElementaryGate)
+    → Multiple n (act_elementary gate) (acts (lowered_gate gate)) → Multiple n (acts_elementary gates) (acts (lowered gates))
+    → Multiple n (acts_elementary (gate ∷ gates)) (acts (lowered (gate ∷ gates)))
+multiple_more n gate gates first rest = record {
+  factor = mul rest.factor first.factor;
+  nonzero = mul-nonzero rest.factor first.factor rest.nonzero first.nonzero;
+  equal = λ f x l.
+      act_elementary-multiple n gate rest.factor (acts_elementary gates f) (acts (lowered gates) f) (λ z lz. rest.equal f z lz) x l
+      ∙ ap (mul rest.factor) (first.equal (acts (lowered gates) f) x l)
+      ∙ sym (mul_assoc rest.factor first.factor (acts (lowered_gate gate) (acts (lowered gates) f) x))
+      ∙ ap (λ h. mul (mul rest.factor first.factor) (h x)) (sym (acts-append (lowered_gate gate) (lowered gates) f));
+}
+
+-- the map of a list of gates, and that of the list that stands for it
+pub multiple_gates : (n : ℕ) (gates : List ElementaryGate) → All (IsElementaryGateOn n) gates → Multiple n (acts_elementary gates) (acts (lowered gates))
+multiple_gates n [] on = record {
+  factor = one;
+  nonzero = one_nonzero;
+  equal = λ f x l. sym (one-mul (f x));
+}
+multiple_gates n (gate ∷ gates) on =
+    multiple_more n gate gates (multiple_gate n gate (All-head (IsElementaryGateOn n) gate gates on)) (multiple_gates n gates (All-tail (IsElementaryGateOn n) gate gates on))
+
+-- an entry is what the gates make of the entry of the empty list
+pub amp_elementary-acts : (gates : List ElementaryGate) (x y : List Bool) → amp_elementary gates x y ≡ acts_elementary gates (λ z. amp_elementary [] z y) x
+amp_elementary-acts [] x y = refl
+amp_elementary-acts (gate ∷ gates) x y = λ i. act_elementary gate (λ z. amp_elementary-acts gates z y i) x
+
+pub proportional_lowered : (n : ℕ) (gates : List ElementaryGate) → All (IsElementaryGateOn n) gates → Proportional n n (amp_elementary gates) (amp (lowered gates))
+proportional_lowered n gates on =
+    proportional_of_scaled n n (amp_elementary gates) (amp (lowered gates)) one m.factor one_nonzero m.nonzero
+    (λ x y lx ly. one-mul (amp_elementary gates x y) ∙ amp_elementary-acts gates x y ∙ m.equal (λ z. amp [] z y) x lx ∙ ap (mul m.factor) (sym (amp-acts (lowered gates) x y)))
+  where
+    m : Multiple n (acts_elementary gates) (acts (lowered gates))
+    m = multiple_gates n gates on
+
+-- what the loop over the gates has done in the end
+pub all_lowered : (list : List Gate) (items gates : List ElementaryGate) (i : ℕ) → list ≡ lowered (take i gates) → items ≡ gates
+    → length items ≤ i → i ≤ length items → list ≡ lowered gates
+all_lowered list items gates i done same up down =
+    let whole : i ≡ length gates = omega (arith, ap length same) in
+    done ∙ ap lowered (ap (λ k. take k gates) whole ∙ take-length gates)

@@ -1,0 +1,37 @@
+-- Circuits of the two gates that are built into OpenQASM 2.0.
+use Rattle.std.specs.Prelude.{◌≢◌, ◌≤◌, ◌<◌, ◌==◌, ◌+◌, ◌%◌, ℕ, List, if◌then◌else◌}
+use Rattle.std.specs.List.{All, sum_by}
+use Rattle.zx_model.specs.Phase.{turn, half_turn, sum_of_phases, opposite_phase, is_odd}
+use Rattle.zx_gates.specs.Circuit.{most_qubits}
+use Rattle.zx_gates.specs.declared.elementary.Elementary.{Elementary}
+use Rattle.zx_gates.specs.declared.elementary.ElementaryGate.{ElementaryGate}
+use Rattle.zx_gates.specs.declared.elementary.ElementaryGate.TheVariants.{U, Cx}
+
+-- the gate's qubits are below the number n and differ
+abbrev pub IsElementaryGateOn : ℕ → ElementaryGate → Type 0
+IsElementaryGateOn n (U q theta phi lambda) = q < n
+IsElementaryGateOn n (Cx control target) = (control < n) × (target < n) × (control ≢ target)
+
+pub record IsElementary (circuit : Elementary) : Type 0 where
+  pub few_qubits : circuit.qubits ≤ most_qubits
+  pub on_qubits : All (IsElementaryGateOn circuit.qubits) circuit.gates
+
+-- the first phase without the second
+abbrev pub difference_of_phases : ℕ → ℕ → ℕ
+difference_of_phases j k = sum_of_phases j (opposite_phase (k % turn))
+
+-- 1 for an odd phase, and 0 for any other
+abbrev pub odd_of : ℕ → ℕ
+odd_of k = if is_odd k then 1 else 0
+
+-- How many phase gates of odd phases a gate costs. Where theta is 0, U is a phase gate of phi + lambda; where theta is a
+-- half turn, it is one of lambda - phi, and a NOT.
+abbrev pub odd_elementary : ElementaryGate → ℕ
+odd_elementary (U q theta phi lambda) =
+    if theta == 0 then odd_of (sum_of_phases phi lambda) else
+    if theta == half_turn then odd_of (difference_of_phases lambda phi) else
+    odd_of theta + odd_of phi + odd_of lambda
+odd_elementary (Cx control target) = 0
+
+abbrev pub elementary_odd_count : List ElementaryGate → ℕ
+elementary_odd_count gates = sum_by odd_elementary gates
