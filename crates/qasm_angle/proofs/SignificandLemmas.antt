@@ -1,0 +1,89 @@
+-- Reading digits one after the other.
+use Rattle.std.proofs.Common.{◌≡◌, ℕ, zero, suc, ◌+◌, ◌-◌, ◌*◌, ◌^◌, ◌<◌, ◌≤◌, Bool, true, false, not, ◌&&◌, ◌||◌, cond, eqb, ltb, leb, List, [], ◌∷◌, length, get_or, drop, Option, Some, None, drop-cons, refl, sym, ◌∙◌, ap, subst, arith}
+use Rattle.std.specs.Prelude.{IfSome}
+use Rattle.std.specs.Char.{is_ascii_digit}
+use Rattle.std.proofs.lemmas.Bool.Decides.{nat_tests}
+use Rattle.std.proofs.Math.Nat.{pow-succ'}
+use Rattle.std.proofs.Math.Numerals.{add-one}
+use Rattle.qasm_angle.proofs.DecimalLemmas.{ten_pow_mono}
+use Rattle.qasm_angle.specs.Literals.{is_digit, digits_of, number_from, significant, most_significant, count_to_last}
+use Rattle.qasm_angle.specs.Significands.{next_count, overlong, IsSignificand, Keeps}
+use Rattle.qasm_angle.specs.declared.significand.Significand.{Significand}
+
+-- how many digits there are up to the last one other than 0, where so many stand in front
+abbrev reach : ℕ → ℕ → ℕ
+reach count last = cond (eqb last 0) 0 (count + last)
+
+reach-step : (none : Bool) (last count : ℕ) → 0 < count →
+    ((not none && leb 38 count) || ltb 38 (reach (count + 1) last)) ≡ ltb 38 (reach count (cond (none && eqb last 0) 0 (last + 1)))
+reach-step true zero count p = grind (arith, nat_tests)
+reach-step false zero count p = grind (arith, nat_tests)
+reach-step true (suc last) count p = grind (arith, nat_tests)
+reach-step false (suc last) count p = grind (arith, nat_tests)
+
+next_count-some : (count d : ℕ) → 0 < count → next_count count d ≡ count + 1
+next_count-some count d p = grind (arith, nat_tests)
+
+overlong-reach : (count : ℕ) (digits : List ℕ) → 0 < count → overlong count digits ≡ ltb 38 (reach count (count_to_last digits))
+overlong-reach count [] p = refl
+overlong-reach count (d ∷ digits) p =
+    ap (λ b. (not (eqb d 0) && leb 38 count) || b) (ap (λ n. overlong n digits) (next_count-some count d p) ∙ overlong-reach (count + 1) digits (omega arith))
+    ∙ reach-step (eqb d 0) (count_to_last digits) count p
+
+reach-one : (last : ℕ) → ltb 38 (reach 1 last) ≡ ltb 38 (last + 1)
+reach-one zero = refl
+reach-one (suc last) = grind (arith, nat_tests)
+
+first-step : (d : ℕ) (digits : List ℕ) (none : Bool) → eqb d 0 ≡ none → overlong 0 digits ≡ ltb 38 (significant digits) → overlong 0 (d ∷ digits) ≡ ltb 38 (significant (d ∷ digits))
+first-step d digits true e h = rw e h
+first-step d digits false e h = rw (e, e) (overlong-reach 1 digits (omega arith) ∙ reach-one (count_to_last digits))
+
+-- a digit comes too late exactly where too many are significant
+pub overlong-significant : (digits : List ℕ) → overlong 0 digits ≡ ltb 38 (significant digits)
+overlong-significant [] = refl
+overlong-significant (d ∷ digits) = first-step d digits (eqb d 0) refl (overlong-significant digits)
+
+ten_more : (k : ℕ) → 10 ^ (k + 1) ≡ 10 * 10 ^ k
+ten_more k = ap (λ n. 10 ^ n) (add-one k) ∙ pow-succ' 10 k
+
+-- a zero behind the front
+pub Keeps-zero : (s : Significand) (d : ℕ) (rest digits : List ℕ) → most_significant ≤ s.count → d ≡ 0 →
+    Keeps s (d ∷ rest) digits → Keeps (record { front = s.front; count = s.count; zeros = s.zeros + 1 }) rest digits
+Keeps-zero s d rest digits full e h =
+    let longer : s.front * 10 ^ (s.zeros + 1) ≡ 10 * (s.front * 10 ^ s.zeros) + d = omega (arith, ap (λ x. s.front * x) (ten_more s.zeros)) in
+    let one_more : s.count + (s.zeros + 1) ≡ next_count (s.count + s.zeros) d = omega (arith, next_count-some (s.count + s.zeros) d (omega arith)) in
+    let none : eqb d 0 ≡ true = grind arith in
+    let front = ap (λ b. (not b && leb 38 (s.count + s.zeros)) || overlong (next_count (s.count + s.zeros) d) rest) none in
+    record {
+      number = ap (λ n. number_from n rest) longer ∙ h.number;
+      length = ap (λ n. overlong n rest) one_more ∙ sym front ∙ h.length;
+    }
+
+-- a number below a power of ten, with a digit behind it
+pub more_digits : (front count digit : ℕ) → front < 10 ^ count → count < 38 → digit < 10 → front * 10 + digit < 10 ^ 38
+more_digits front count digit h p q = omega (arith, ten_pow_mono count 37 (omega arith))
+
+-- before the first digit
+pub IsSignificand-start : IsSignificand (record { front = 0; count = 0; zeros = 0 })
+IsSignificand-start = record { small = omega arith; few = omega arith; nonzero = λ h. absurd (omega arith); full = λ h. absurd (omega arith) }
+
+pub Keeps-start : (digits : List ℕ) → Keeps (record { front = 0; count = 0; zeros = 0 }) digits digits
+Keeps-start digits = record { number = refl; length = overlong-significant digits }
+
+pub is_digit-ascii : (b : ℕ) → is_ascii_digit b ≡ true → is_digit b ≡ true
+is_digit-ascii b h = grind (arith, nat_tests)
+
+digits_of-digit : (b : ℕ) (rest : List ℕ) → is_digit b ≡ true → digits_of (b ∷ rest) ≡ (b - 48) ∷ digits_of rest
+digits_of-digit b rest e = ap (λ d. cond d ((b - 48) ∷ digits_of rest) (digits_of rest)) e
+
+-- a byte that is a digit is that digit
+pub Keeps-digit : (s : Significand) (b : ℕ) (r : Option Significand) → is_digit b ≡ true →
+    IfSome r (λ t. (rest digits : List ℕ) → Keeps s ((b - 48) ∷ rest) digits → Keeps t rest digits) →
+    IfSome r (λ t. (rest digits : List ℕ) → Keeps s (digits_of (b ∷ rest)) digits → Keeps t (digits_of rest) digits)
+Keeps-digit s b None e h = tt
+Keeps-digit s b (Some t) e h = λ rest digits k. h (digits_of rest) digits (subst (λ ds. Keeps s ds digits) (digits_of-digit b rest e) k)
+
+-- the first of the bytes that are left
+pub Keeps-next : (s : Significand) (bytes digits : List ℕ) (i : ℕ) → i < length bytes → Keeps s (digits_of (drop i bytes)) digits → Keeps s (digits_of (get_or bytes i 0 ∷ drop (i + 1) bytes)) digits
+Keeps-next s bytes digits i h k =
+    subst (λ rest. Keeps s (digits_of rest) digits) (drop-cons bytes i 0 h ∙ ap (λ n. get_or bytes i 0 ∷ drop n bytes) (sym (add-one i))) k

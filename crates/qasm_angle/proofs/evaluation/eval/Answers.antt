@@ -1,0 +1,31 @@
+use Rattle.std.proofs.lemmas.Result.{err_from_is_err_and}
+use Rattle.std.proofs.Common.{sym, ◌∙◌, ap, Err}
+use Rattle.qasm_angle.specs.declared.errors.Cause.TheVariants.{Divide, TooLarge, NotAnAngle}
+use Rattle.qasm_angle.proofs.EvaluationLemmas.{value-finished, never_empty, value-failed, Err_same}
+use Rattle.qasm_angle.proofs.evaluation.eval.Goals as goal
+
+pub returns-in_err-push_step-clause-divide : goal.returns-in_err-push_step-clause-divide
+returns-in_err-push_step-clause-divide c =
+    let p = err_from_is_err_and c.from_residual.result c.from_residual.ensures.1 in
+    λ e. value-failed c.args.e.now _ _ _ _ c.steps-step-items.ensures c.loop-step.invariant c.step-item.result Divide c.loop-step-test.true c.step-item.is
+    (c.in_err-push_step.ensures.cause Divide (ap Err (sym p.2 ∙ Err_same (sym p.1 ∙ e))))
+
+pub returns-in_err-push_step-clause-too_large : goal.returns-in_err-push_step-clause-too_large
+returns-in_err-push_step-clause-too_large c =
+    let p = err_from_is_err_and c.from_residual.result c.from_residual.ensures.1 in
+    λ e. value-failed c.args.e.now _ _ _ _ c.steps-step-items.ensures c.loop-step.invariant c.step-item.result TooLarge c.loop-step-test.true c.step-item.is
+    (c.in_err-push_step.ensures.cause TooLarge (ap Err (sym p.2 ∙ Err_same (sym p.1 ∙ e))))
+
+pub returns-in_err-push_step-clause-not_an_angle : goal.returns-in_err-push_step-clause-not_an_angle
+returns-in_err-push_step-clause-not_an_angle c =
+    let p = err_from_is_err_and c.from_residual.result c.from_residual.ensures.1 in
+    λ e. value-failed c.args.e.now _ _ _ _ c.steps-step-items.ensures c.loop-step.invariant c.step-item.result NotAnAngle c.loop-step-test.true c.step-item.is
+    (c.in_err-push_step.ensures.cause NotAnAngle (ap Err (sym p.2 ∙ Err_same (sym p.1 ∙ e))))
+
+pub returns-in_err-angle-clause-not_an_angle : goal.returns-in_err-angle-clause-not_an_angle
+returns-in_err-angle-clause-not_an_angle c =
+    λ _. absurd (never_empty c.args.e.now _ _ _ _ c.steps-step-items.ensures c.loop-step.invariant c.loop-step-test.false c.in_err-angle.ensures.none.1)
+
+pub returns-clause-value : goal.returns-clause-value
+returns-clause-value c =
+    value-finished c.args.e.now _ _ _ _ c.steps-step-items.ensures c.loop-step.invariant c.loop-step-test.false _ _ c.in_ok-angle.ensures.found

@@ -1,0 +1,78 @@
+//! The angle of an expression.
+
+ghost use Rattle.std.specs.Prelude.{◌≡◌, ◌∷◌, [], reverse, Ok, Err, IfOk, IfErr, OnOk};
+ghost use Rattle.qasm_angle.specs.Values.{value, of_number};
+ghost use Rattle.qasm_angle.specs.Errors.{error_of};
+ghost use Rattle.qasm_angle.specs.Stack.{stepped, on_top};
+ghost use Rattle.qasm_angle.specs.declared.errors.Cause.{Cause};
+ghost use Rattle.qasm_angle.specs.declared.errors.Cause.TheVariants as cause;
+
+use crate::angle::Angle;
+use crate::errors::{AngleError, Cause};
+use crate::expression::{Expr, Step};
+use crate::literal::Literal;
+use std::alloc::Global;
+
+/// The angle of an expression, where the parameter of index i is the angle `args[i]`. For an expression that has
+/// none, the first step in postfix order that gives no angle decides the error.
+pub fn eval(alloc: Global, e: &Expr, args: &[Angle]) -> Result<Angle, AngleError>
+    ensures value { IfOk result (λ angle. value e.now args.now ≡ Ok angle) }
+    ensures divide { result ≡ Err AngleError.Divide → value e.now args.now ≡ Err cause.Divide }
+    ensures too_large { result ≡ Err AngleError.TooLarge → value e.now args.now ≡ Err cause.TooLarge }
+    ensures not_an_angle { result ≡ Err AngleError.NotAnAngle → value e.now args.now ≡ Err cause.NotAnAngle }
+{
+    let mut angles = Vec::new(alloc);
+    for step in e.steps() {
+        push_step(&mut angles, step, args)?;
+    }
+    let angle = pop_angle(&mut angles)?;
+    Ok(angle)
+}
+
+/// Takes the operands of a step from the end of the angles, and adds what it gives.
+fn push_step(angles: &mut Vec<Angle>, step: &Step, args: &[Angle]) -> Result<(), AngleError>
+    ensures angles { OnOk result (stepped step.now args.now (reverse angles.old.items) ≡ Ok (reverse angles.new.items)) }
+    ensures cause { (c : Cause) → result ≡ Err (error_of c) → stepped step.now args.now (reverse angles.old.items) ≡ Err c }
+{
+    let angle = take_step(angles, step, args)?;
+    angles.push(angle)?;
+    Ok(())
+}
+
+/// Takes the operands of a step from the end of the angles, and gives the step's angle.
+fn take_step(angles: &mut Vec<Angle>, step: &Step, args: &[Angle]) -> Result<Angle, Cause>
+    ensures { on_top result (reverse angles.new.items) ≡ stepped step.now args.now (reverse angles.old.items) }
+{
+    match step {
+        Step::Number(literal) => number(literal),
+        Step::Pi => Ok(Angle::pi()),
+        Step::Parameter(i) => args.get(*i).copied().ok_or(Cause::NotAnAngle),
+        Step::Negate => {
+            let a = pop_angle(angles)?;
+            Ok(a.opposite())
+        }
+        Step::Binary(operator) => {
+            let b = pop_angle(angles)?;
+            let a = pop_angle(angles)?;
+            a.apply(*operator, &b)
+        }
+    }
+}
+
+/// The angle of a number.
+fn number(literal: &Literal) -> Result<Angle, Cause>
+    ensures { result ≡ of_number literal.now }
+{
+    match literal.value() {
+        Some(value) => Ok(Angle::number(value)),
+        None => Err(Cause::TooLarge),
+    }
+}
+
+/// Takes the last angle. The steps of an expression never lack one.
+fn pop_angle(angles: &mut Vec<Angle>) -> Result<Angle, Cause>
+    ensures found { IfOk result (λ a. reverse angles.old.items ≡ a ∷ reverse angles.new.items) }
+    ensures none { IfErr result (λ c. (c ≡ cause.NotAnAngle) × (reverse angles.old.items ≡ [])) }
+{
+    angles.pop().ok_or(Cause::NotAnAngle)
+}

@@ -1,0 +1,171 @@
+-- Cuts of texts whose words, numbers and signs are known, put together from the end: what follows a piece is cut
+-- already, and begins at the place `next`.
+use Rattle.std.proofs.Common.{◌≡◌, ℕ, ◌+◌, ◌/◌, ◌%◌, ◌^◌, ◌<◌, ◌≤◌, Bool, true, false, ◌&&◌, ◌||◌, not, eqb, leb, List, [], ◌∷◌, ◌++◌, length, refl, sym, ap, ◌∙◌, subst, arith, inl, inr, Option, None, Some, append_assoc, length-append, decimal}
+use Rattle.std.specs.Option.{is_some, is_none, option_map, option_to_list}
+use Rattle.std.specs.List.{list_all, concat}
+use Rattle.std.proofs.lemmas.Bool.{false≢true, and_parts, and_from, le-leb, ne_eqb, both_ways, not-true, or_parts, not_from_false, cases_eq}
+use Rattle.qasm_lexer.proofs.Runs.{begins_append}
+use Rattle.std.proofs.lemmas.Fmt.{decimal_by_steps}
+use Rattle.qasm_lexer.specs.declared.token.TokenKind.{TokenKind}
+use Rattle.qasm_lexer.specs.declared.token.TokenKind.TheVariants.{Natural, Text}
+use Rattle.qasm_lexer.specs.Forms.{begins, is_digit, is_letter, is_space, is_word_byte, is_word, is_natural}
+use Rattle.qasm_lexer.specs.Tokens.{signs, kind_in, kind_of, word_kind, IsPiece, Lexeme, IsCut}
+use Rattle.qasm_lexer.specs.FirstPiece.{is_inside}
+use Rattle.qasm_lexer.proofs.Leads.{table_all}
+use Rattle.qasm_lexer.proofs.Pieces as pieces
+use Rattle.qasm_lexer.proofs.Pieces.{ends_number, ends_sign}
+use Rattle.qasm_lexer.proofs.Cuts.{IsCutUpTo-none}
+
+-- the empty text
+pub IsCut-nil : (place : ℕ) → IsCut place [] []
+IsCut-nil place = IsCutUpTo-none place []
+
+-- a piece before a cut
+piece_before : (place : ℕ) (piece after : List ℕ) (tokens : List Lexeme) → IsPiece piece after → IsCut (place + length piece) after tokens
+    → IsCut place (piece ++ after)
+    (option_to_list (option_map (λ kind. record { kind = kind; text = piece; place = place }) (kind_of piece)) ++ tokens)
+piece_before place piece after tokens p c =
+    let here : List Lexeme = option_to_list (option_map (λ kind. record { kind = kind; text = piece; place = place }) (kind_of piece)) in
+    record {
+      pieces = piece ∷ c.pieces;
+      whole = ap (λ r. piece ++ r) c.whole ∙ sym (append_assoc piece (concat c.pieces) []);
+      each = (subst (λ r. IsPiece piece r) c.whole p, c.each);
+      tokens_are = ap (λ r. here ++ r) c.tokens_are;
+    }
+
+pub IsCut-token : (place : ℕ) (piece after : List ℕ) (kind : TokenKind) (tokens : List Lexeme) → IsPiece piece after × (kind_of piece ≡ Some kind)
+    → IsCut (place + length piece) after tokens → IsCut place (piece ++ after) (record { kind = kind; text = piece; place = place } ∷ tokens)
+IsCut-token place piece after kind tokens p c =
+    subst (λ o. IsCut place (piece ++ after) (option_to_list (option_map (λ kind. record { kind = kind; text = piece; place = place }) o) ++ tokens)) p.1
+    (piece_before place piece after tokens p.0 c)
+
+pub IsCut-blank : (place : ℕ) (piece after : List ℕ) (tokens : List Lexeme) → IsPiece piece after → kind_of piece ≡ None
+    → IsCut (place + length piece) after tokens → IsCut place (piece ++ after) tokens
+IsCut-blank place piece after tokens p none c =
+    subst (λ o. IsCut place (piece ++ after) (option_to_list (option_map (λ kind. record { kind = kind; text = piece; place = place }) o) ++ tokens)) none
+    (piece_before place piece after tokens p c)
+
+-- a byte of white space
+pub IsCut-space : {place : ℕ} {after : List ℕ} {tokens : List Lexeme} (b next : ℕ) → is_space b ≡ true → next ≡ place + 1
+    → IsCut next after tokens → IsCut place (b ∷ after) tokens
+IsCut-space {place} {after} {tokens} b next e there c =
+    IsCut-blank place (b ∷ []) after tokens (pieces.white_piece b after e) (pieces.white_kind b e) (subst (λ k. IsCut k after tokens) there c)
+
+-- a word, before a byte that no word has, or the end
+pub IsCut-word : {place : ℕ} {after : List ℕ} {kind : TokenKind} {tokens : List Lexeme} (word : List ℕ) (next : ℕ) → is_word word ≡ true
+    → word_kind word ≡ Some kind → begins is_word_byte after ≡ false → next ≡ place + length word → IsCut next after tokens
+    → IsCut place (word ++ after) (record { kind = kind; text = word; place = place } ∷ tokens)
+IsCut-word [] next e is stop there c = absurd (false≢true e)
+IsCut-word {place} {after} {kind} {tokens} (b ∷ p) next e is stop there c =
+    let h : (is_letter b ≡ true) × (list_all is_word_byte p ≡ true) = and_parts (is_letter b) (list_all is_word_byte p) e in
+    IsCut-token place (b ∷ p) after kind tokens (pieces.word_piece b p after kind h.0 h.1 stop is) (subst (λ k. IsCut k after tokens) there c)
+
+-- decimal digits without a leading zero, before what isn't a digit or a point, or the end
+pub IsCut-natural : {place : ℕ} {after : List ℕ} {tokens : List Lexeme} (digits : List ℕ) (next : ℕ) → list_all is_digit digits ≡ true
+    → is_natural digits ≡ true → ends_number after ≡ true → next ≡ place + length digits → IsCut next after tokens
+    → IsCut place (digits ++ after) (record { kind = Natural; text = digits; place = place } ∷ tokens)
+IsCut-natural [] next all e ends there c = absurd (false≢true e)
+IsCut-natural {place} {after} {tokens} (b ∷ p) next all e ends there c =
+    IsCut-token place (b ∷ p) after Natural tokens (pieces.natural_piece b p after all e ends) (subst (λ k. IsCut k after tokens) there c)
+
+-- a sign of one byte, where no longer sign and no comment begins
+pub IsCut-sign : {place : ℕ} {after : List ℕ} {kind : TokenKind} {tokens : List Lexeme} (a next : ℕ) → kind_in signs (a ∷ []) ≡ Some kind
+    → ends_sign a after ≡ true → next ≡ place + 1 → IsCut next after tokens
+    → IsCut place (a ∷ after) (record { kind = kind; text = a ∷ []; place = place } ∷ tokens)
+IsCut-sign {place} {after} {kind} {tokens} a next is ends there c =
+    IsCut-token place (a ∷ []) after kind tokens (pieces.short_sign_piece a after kind is ends) (subst (λ k. IsCut k after tokens) there c)
+
+-- a sign of two bytes
+pub IsCut-long_sign : {place : ℕ} {after : List ℕ} {kind : TokenKind} {tokens : List Lexeme} (a b next : ℕ) → kind_in signs (a ∷ b ∷ []) ≡ Some kind
+    → (eqb a 47 && eqb b 47) ≡ false → next ≡ place + 2 → IsCut next after tokens
+    → IsCut place (a ∷ b ∷ after) (record { kind = kind; text = a ∷ b ∷ []; place = place } ∷ tokens)
+IsCut-long_sign {place} {after} {kind} {tokens} a b next is apart there c =
+    IsCut-token place (a ∷ b ∷ []) after kind tokens (pieces.long_sign_piece a b after kind is apart) (subst (λ k. IsCut k after tokens) there c)
+
+-- bytes between quotes
+pub IsCut-text : {place : ℕ} {after : List ℕ} {tokens : List Lexeme} (inside : List ℕ) (next : ℕ) → list_all is_inside inside ≡ true
+    → next ≡ place + length inside + 2 → IsCut next after tokens
+    → IsCut place (34 ∷ (inside ++ (34 ∷ after))) (record { kind = Text; text = 34 ∷ (inside ++ 34 ∷ []); place = place } ∷ tokens)
+IsCut-text {place} {after} {tokens} inside next e there c =
+    let token : Lexeme = record { kind = Text; text = 34 ∷ (inside ++ 34 ∷ []); place = place } in
+    let n : next ≡ place + length (34 ∷ (inside ++ 34 ∷ [])) = there ∙ omega (arith, length-append inside (34 ∷ [])) in
+    subst (λ r. IsCut place (34 ∷ r) (token ∷ tokens)) (append_assoc inside (34 ∷ []) after)
+    (IsCut-token place (34 ∷ (inside ++ 34 ∷ [])) after Text tokens (pieces.text_piece inside after e) (subst (λ k. IsCut k after tokens) n c))
+
+-- a sign that begins no longer sign and no comment
+abbrev pub is_plain : ℕ → Bool
+is_plain a = not (eqb a 45 || eqb a 61 || eqb a 47)
+
+abbrev begins_long : List ℕ → Bool
+begins_long [] = true
+begins_long (a ∷ []) = true
+begins_long (a ∷ b ∷ rest) = eqb a 45 || eqb a 61
+
+none_since : {T : Type 0} (o : Option T) → (is_some o ≡ true → ⊥) → is_none o ≡ true
+none_since None n = refl
+none_since (Some x) n = absurd (n refl)
+
+pub ends_sign-plain : (a : ℕ) (after : List ℕ) → is_plain a ≡ true → ends_sign a after ≡ true
+ends_sign-plain a [] e = refl
+ends_sign-plain a (b ∷ rest) e =
+    let p : ((eqb a 45 || eqb a 61) ≡ false) × (eqb a 47 ≡ false) = or_parts (eqb a 45 || eqb a 61) (eqb a 47) (not-true (eqb a 45 || eqb a 61 || eqb a 47) e) in
+    and_from (not (eqb a 47 && eqb b 47)) (is_none (kind_in signs (a ∷ b ∷ []))) (rw p.1 refl)
+    (none_since (kind_in signs (a ∷ b ∷ [])) (λ s. both_ways (eqb a 45 || eqb a 61) p.0 (table_all begins_long signs refl (a ∷ b ∷ []) s)))
+
+-- such a sign, whatever follows it
+pub IsCut-plain_sign : {place : ℕ} {after : List ℕ} {kind : TokenKind} {tokens : List Lexeme} (a next : ℕ) → kind_in signs (a ∷ []) ≡ Some kind
+    → is_plain a ≡ true → next ≡ place + 1 → IsCut next after tokens
+    → IsCut place (a ∷ after) (record { kind = kind; text = a ∷ []; place = place } ∷ tokens)
+IsCut-plain_sign {place} {after} {kind} {tokens} a next is plain there c = IsCut-sign a next is (ends_sign-plain a after plain) there c
+
+abbrev is_nonzero : ℕ → Bool
+is_nonzero b = not (eqb b 48)
+
+record IsDecimal (n : ℕ) (ds : List ℕ) : Type 0 where
+  pub digits : list_all is_digit ds ≡ true
+  pub some : 0 < n → begins is_nonzero ds ≡ true
+  pub none : n ≡ 0 → ds ≡ 48 ∷ []
+
+digit_glyph : (d : ℕ) → d < 10 → is_digit (48 + d) ≡ true
+digit_glyph d h = and_from (leb 48 (48 + d)) (leb (48 + d) 57) (le-leb 48 (48 + d) (omega arith)) (le-leb (48 + d) 57 (omega arith))
+
+all_append : (test : ℕ → Bool) (xs ys : List ℕ) → list_all test xs ≡ true → list_all test ys ≡ true → list_all test (xs ++ ys) ≡ true
+all_append test [] ys e f = f
+all_append test (b ∷ xs) ys e f =
+    let p : (test b ≡ true) × (list_all test xs ≡ true) = and_parts (test b) (list_all test xs) e in
+    and_from (test b) (list_all test (xs ++ ys)) p.0 (all_append test xs ys p.1 f)
+
+decimal_is : (n : ℕ) → n < 2 ^ 64 → IsDecimal n (decimal n)
+decimal_is n small = decimal_by_steps IsDecimal one more n small where
+  one : (n : ℕ) → n < 10 → IsDecimal n ((48 + n) ∷ [])
+  one n h = record {
+    digits = and_from (is_digit (48 + n)) true (digit_glyph n h) refl;
+    some = λ k. not_from_false (eqb (48 + n) 48) (ne_eqb (48 + n) 48 (λ z. omega arith));
+    none = λ z. ap (λ m. (48 + m) ∷ []) z;
+  }
+
+  more : (n : ℕ) (ds : List ℕ) → 10 ≤ n → IsDecimal (n / 10) ds → IsDecimal n (ds ++ ((48 + n % 10) ∷ []))
+  more n ds h d = record {
+    digits = all_append is_digit ds ((48 + n % 10) ∷ []) d.digits (and_from (is_digit (48 + n % 10)) true (digit_glyph (n % 10) (omega arith)) refl);
+    some = λ k. begins_append is_nonzero ds ((48 + n % 10) ∷ []) (d.some (omega arith));
+    none = λ z. absurd (omega arith);
+  }
+
+pub digits_decimal : (n : ℕ) → n < 2 ^ 64 → list_all is_digit (decimal n) ≡ true
+digits_decimal n small = (decimal_is n small).digits
+
+pub is_natural-decimal : (n : ℕ) → n < 2 ^ 64 → is_natural (decimal n) ≡ true
+is_natural-decimal n small = elim (cases_eq n 0) [
+  | inl z ↦ ap is_natural ((decimal_is n small).none z)
+  | inr z ↦ nonzero_natural (decimal n) ((decimal_is n small).some (omega arith)) (digits_decimal n small)
+] where
+  nonzero_natural : (ds : List ℕ) → begins is_nonzero ds ≡ true → list_all is_digit ds ≡ true → is_natural ds ≡ true
+  nonzero_natural [] e all = absurd (false≢true e)
+  nonzero_natural (b ∷ ds) e all = rw (not-true (eqb b 48) e) all
+
+-- the decimal numeral of a number, before what isn't a digit or a point, or the end
+pub IsCut-decimal : {place : ℕ} {after : List ℕ} {tokens : List Lexeme} (n next : ℕ) → n < 2 ^ 64 → ends_number after ≡ true
+    → next ≡ place + length (decimal n) → IsCut next after tokens
+    → IsCut place (decimal n ++ after) (record { kind = Natural; text = decimal n; place = place } ∷ tokens)
+IsCut-decimal n next small ends there c =
+    IsCut-natural (decimal n) next (digits_decimal n small) (is_natural-decimal n small) ends there c

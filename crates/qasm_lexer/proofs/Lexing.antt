@@ -1,0 +1,49 @@
+-- The steps of the loop of `lex`.
+use Rattle.std.proofs.Common.{◌≡◌, ℕ, ◌+◌, ◌-◌, ◌<◌, ◌≤◌, List, ◌++◌, length, take, drop, sym, ap, ◌∙◌, subst, arith, Option, None, Some, length-drop}
+use Rattle.std.proofs.lemmas.List.{take_rest, drop-drop, length-take-le}
+use Rattle.qasm_lexer.specs.declared.first_piece.Sort.{Sort}
+use Rattle.qasm_lexer.specs.Tokens.{Lexeme, IsCutUpTo, IsBadByte}
+use Rattle.qasm_lexer.specs.FirstPiece.{first_piece, piece_tokens}
+use Rattle.qasm_lexer.proofs.Cuts.{IsCutUpTo-then}
+use Rattle.qasm_lexer.proofs.First.{IsFirst, IsFirstPiece, first_piece_is, first_cut, first_fits}
+
+-- the first piece at a place of a text, of which the code takes the slice from there on
+module _ (text : List ℕ) (place : ℕ) (here : place < length text) (o : Option (Sort × ℕ))
+    (found : o ≡ first_piece (take (length text - place) (drop place text))) where
+  first_of_rest : IsFirstPiece (drop place text) o
+  first_of_rest =
+      subst (λ p. IsFirstPiece (drop place text) p) (sym (found ∙ ap first_piece (take_rest text place)))
+      (first_piece_is (drop place text) (omega (arith, length-drop place text)))
+
+  pub bad_here : (tokens : List Lexeme) → o ≡ None → IsCutUpTo 0 text (drop place text) tokens → IsBadByte text place
+  bad_here tokens is c = record {
+    tokens = tokens;
+    before = c;
+    stuck = (omega (arith, length-drop place text), subst (λ p. IsFirstPiece (drop place text) p) is first_of_rest);
+  }
+
+  module _ (sort : Sort) (count : ℕ) (is : o ≡ Some (sort, count)) where
+    first_is : IsFirst (drop place text) sort count
+    first_is = subst (λ p. IsFirstPiece (drop place text) p) is first_of_rest
+
+    pub piece_fits : (0 < count) × (place + count ≤ length text)
+    piece_fits =
+        let n : (0 < count) × (count ≤ length (drop place text)) = first_fits (drop place text) sort count first_is in
+        (n.0, omega (arith, n.1, length-drop place text))
+
+    pub piece_length : count ≡ length (take count (take (length text - place) (drop place text)))
+    piece_length =
+        sym (ap (λ r. length (take count r)) (take_rest text place) ∙ length-take-le count (drop place text) (first_fits (drop place text) sort count first_is).1)
+
+    pub cut_more : (tokens more : List Lexeme) → IsCutUpTo 0 text (drop place text) tokens
+        → more ≡ tokens ++ piece_tokens sort place (take count (take (length text - place) (drop place text)))
+        → IsCutUpTo 0 text (drop (place + count) text) more
+    cut_more tokens more c more_is =
+        let behind : IsCutUpTo place (drop place text) (drop count (drop place text)) (piece_tokens sort place (take count (drop place text))) =
+        first_cut place (drop place text) sort count first_is in
+        let both : IsCutUpTo 0 text (drop count (drop place text)) (tokens ++ piece_tokens sort place (take count (drop place text))) =
+        IsCutUpTo-then 0 place text (drop place text) (drop count (drop place text)) tokens (piece_tokens sort place (take count (drop place text))) c behind
+        (omega (arith, length-drop place text)) in
+        subst (λ r. IsCutUpTo 0 text r more) (drop-drop count place text)
+        (subst (λ ts. IsCutUpTo 0 text (drop count (drop place text)) ts)
+        (ap (λ r. tokens ++ piece_tokens sort place (take count r)) (sym (take_rest text place)) ∙ sym more_is) both)

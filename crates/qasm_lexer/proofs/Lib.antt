@@ -1,0 +1,10 @@
+pub mod Cuts
+pub mod Runs
+pub mod Reals
+pub mod Leads
+pub mod Pieces
+pub mod First
+pub mod Scan
+pub mod Lexing
+pub mod Feeds
+pub mod Building

@@ -1,0 +1,103 @@
+-- What may stand as one piece in an OpenQASM text: white space, comments, words, numbers, texts and signs.
+-- The tokens are those of the appendix of Cross, Bishop, Smolin, Gambetta, "Open quantum assembly language"
+-- (arXiv 1707.03429): identifiers, keywords, nonnegative integers, reals, file names and signs.
+use Rattle.std.specs.Prelude.{ℕ, Bool, true, false, not, ◌&&◌, ◌||◌, ◌==◌, nat_le, List, [], ◌∷◌, if◌then◌else◌}
+use Rattle.std.specs.List.{list_all}
+
+abbrev pub is_digit : ℕ → Bool
+is_digit b = nat_le 48 b && nat_le b 57
+
+abbrev pub is_small_letter : ℕ → Bool
+is_small_letter b = nat_le 97 b && nat_le b 122
+
+abbrev pub is_capital : ℕ → Bool
+is_capital b = nat_le 65 b && nat_le b 90
+
+abbrev pub is_letter : ℕ → Bool
+is_letter b = is_small_letter b || is_capital b
+
+-- letters, digits and `_`
+abbrev pub is_word_byte : ℕ → Bool
+is_word_byte b = is_letter b || is_digit b || b == 95
+
+-- space, tab, carriage return and line feed
+abbrev pub is_space : ℕ → Bool
+is_space b = b == 32 || b == 9 || b == 13 || b == 10
+
+abbrev pub is_no_feed : ℕ → Bool
+is_no_feed b = not (b == 10)
+
+abbrev pub is_empty : List ℕ → Bool
+is_empty [] = true
+is_empty (b ∷ rest) = false
+
+-- one byte of white space
+abbrev pub is_white : List ℕ → Bool
+is_white [] = false
+is_white (b ∷ rest) = is_space b && is_empty rest
+
+-- `//` and bytes other than a line feed
+abbrev pub is_comment : List ℕ → Bool
+is_comment [] = false
+is_comment (a ∷ []) = false
+is_comment (a ∷ b ∷ rest) = a == 47 && b == 47 && list_all is_no_feed rest
+
+-- [A-Za-z][A-Za-z0-9_]*
+abbrev pub is_word : List ℕ → Bool
+is_word [] = false
+is_word (b ∷ rest) = is_letter b && list_all is_word_byte rest
+
+-- 0|[1-9][0-9]*
+abbrev pub is_natural : List ℕ → Bool
+is_natural [] = false
+is_natural (b ∷ rest) = if b == 48 then is_empty rest else is_digit b && list_all is_digit rest
+
+-- what follows the bytes at the front that pass a test
+abbrev pub behind : (ℕ → Bool) → List ℕ → List ℕ
+behind test [] = []
+behind test (b ∷ rest) = if test b then behind test rest else b ∷ rest
+
+abbrev pub begins : (ℕ → Bool) → List ℕ → Bool
+begins test [] = false
+begins test (b ∷ rest) = test b
+
+-- [0-9]+
+abbrev pub are_digits : List ℕ → Bool
+are_digits bytes = begins is_digit bytes && list_all is_digit bytes
+
+-- e or E
+abbrev pub is_mark : ℕ → Bool
+is_mark b = b == 101 || b == 69
+
+-- + or -
+abbrev pub is_sign_byte : ℕ → Bool
+is_sign_byte b = b == 43 || b == 45
+
+-- what follows a sign, if one stands at the front
+abbrev pub after_sign : List ℕ → List ℕ
+after_sign [] = []
+after_sign (b ∷ rest) = if is_sign_byte b then rest else b ∷ rest
+
+-- ([eE][-+]?[0-9]+)?
+abbrev pub is_exponent : List ℕ → Bool
+is_exponent [] = true
+is_exponent (b ∷ rest) = is_mark b && are_digits (after_sign rest)
+
+-- a point, digits and maybe an exponent; with no digits before the point there is one behind it
+abbrev pub is_fraction : Bool → List ℕ → Bool
+is_fraction digits_before [] = false
+is_fraction digits_before (b ∷ rest) = b == 46 && (digits_before || begins is_digit rest) && is_exponent (behind is_digit rest)
+
+-- ([0-9]+\.[0-9]*|[0-9]*\.[0-9]+)([eE][-+]?[0-9]+)?
+abbrev pub is_real : List ℕ → Bool
+is_real form = is_fraction (begins is_digit form) (behind is_digit form)
+
+-- bytes other than `"` and a line feed, and a `"` at the end
+abbrev pub is_closed : List ℕ → Bool
+is_closed [] = false
+is_closed (b ∷ rest) = if b == 34 then is_empty rest else is_no_feed b && is_closed rest
+
+-- the same behind a `"`
+abbrev pub is_text : List ℕ → Bool
+is_text [] = false
+is_text (b ∷ rest) = b == 34 && is_closed rest

@@ -1,0 +1,88 @@
+//! The cutting of a text into tokens.
+ghost use Rattle.std.specs.Prelude.{◌≡◌, ◌<◌, ◌+◌, ◌^◌, ◌⊎◌, ◌∷◌, [], ◌++◌, ℕ, List, length, OnOk, IfOk, IfErr, IsErrAnd, MatchResult};
+ghost use Rattle.qasm_lexer.specs.declared.errors.LexError.TheVariants.{BadByte, NoMemory};
+ghost use Rattle.qasm_lexer.specs.Tokens.{Lexeme, lexemes, IsCut, IsBadByte};
+ghost use Rattle.qasm_lexer.specs.FirstPiece.{piece_tokens, naturals, natural_tokens};
+
+use crate::errors::LexError;
+use crate::first_piece::{Sort, first_piece};
+use crate::token::{Token, TokenKind};
+use std::alloc::{AllocError, Global};
+
+/// The tokens of a text, in their order. White space and comments are left out.
+pub fn lex<'a>(alloc: Global, text: &'a [u8]) -> Result<Vec<Token<'a>>, LexError>
+    // The text is cut into these tokens.
+    ensures found { IfOk result (λ tokens. IsCut 0 text.now (lexemes tokens.items)) }
+    // Tokens that it can be cut into are given, unless memory runs out.
+    ensures only { (tokens : List Lexeme) → IsCut 0 text.now tokens
+        → MatchResult result (λ given. lexemes given.items ≡ tokens) (λ error. error ≡ NoMemory) }
+    // A bad byte stands where it is told,
+    ensures bad_byte { (at : ℕ) → IfErr result (λ error. error ≡ BadByte at → IsBadByte text.now at) }
+    // and where there is one, it is told, unless memory runs out.
+    ensures bad_byte_only { (at : ℕ) → IsBadByte text.now at
+        → IsErrAnd result (λ error. (error ≡ BadByte at) ⊎ (error ≡ NoMemory)) }
+{
+    let mut tokens = Vec::new(alloc);
+    let mut place = 0;
+    while place < text.len() {
+        let rest = &text[place..];
+        let Some((sort, count)) = first_piece(rest) else {
+            return Err(LexError::BadByte { at: place });
+        };
+        push_piece(&mut tokens, sort, &rest[..count], place)?;
+        place += count;
+    }
+    Ok(tokens)
+}
+
+/// Adds the tokens of a piece that stands at a place.
+fn push_piece<'a>(
+    tokens: &mut Vec<Token<'a>>,
+    sort: Sort,
+    piece: &'a [u8],
+    place: usize,
+) -> Result<(), AllocError>
+    requires { place + length piece.now < 2 ^ 64 }
+    ensures { OnOk result (lexemes tokens.new.items ≡ lexemes tokens.old.items ++ piece_tokens sort place piece.now) }
+{
+    match sort {
+        Sort::Blank => Ok(()),
+        Sort::Digits => push_naturals(tokens, piece, place),
+        Sort::Token(kind) => push_token(tokens, kind, piece, place),
+    }
+}
+
+/// Adds the naturals that digits are: each 0 at the front alone, and the others together.
+fn push_naturals<'a>(
+    tokens: &mut Vec<Token<'a>>,
+    digits: &'a [u8],
+    place: usize,
+) -> Result<(), AllocError>
+    requires { place + length digits.now < 2 ^ 64 }
+    ensures { OnOk result (lexemes tokens.new.items ≡ lexemes tokens.old.items ++ natural_tokens place (naturals digits.now)) }
+{
+    let mut rest = digits;
+    let mut place = place;
+    while rest.first() == Some(&b'0') {
+        push_token(tokens, TokenKind::Natural, &rest[..1], place)?;
+        rest = &rest[1..];
+        place += 1;
+    }
+    if !rest.is_empty() {
+        push_token(tokens, TokenKind::Natural, rest, place)?;
+    }
+    Ok(())
+}
+
+/// Adds one token.
+fn push_token<'a>(
+    tokens: &mut Vec<Token<'a>>,
+    kind: TokenKind,
+    slice: &'a [u8],
+    place: usize,
+) -> Result<(), AllocError>
+    ensures { OnOk result (lexemes tokens.new.items ≡ lexemes tokens.old.items ++ record { kind = kind; text = slice.now; place = place } ∷ []) }
+{
+    tokens.push(Token { kind, slice, place })?;
+    Ok(())
+}

@@ -1,0 +1,11 @@
+pub mod Answering
+pub mod Completing
+pub mod Depths
+pub mod Expressions
+pub mod Lists
+pub mod Loops
+pub mod Programs
+pub mod Reading
+pub mod Statements
+pub mod Steps
+pub mod Turns

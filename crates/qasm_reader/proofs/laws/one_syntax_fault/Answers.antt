@@ -1,0 +1,8 @@
+use Rattle.qasm_reader.proofs.Programs.{one_fault, program_no_fault}
+use Rattle.qasm_reader.proofs.laws.one_syntax_fault.Goals as goal
+
+pub returns-clause-one : goal.returns-clause-one
+returns-clause-one c = one_fault
+
+pub returns-clause-none : goal.returns-clause-none
+returns-clause-none c = program_no_fault

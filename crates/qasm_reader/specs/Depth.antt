@@ -1,0 +1,44 @@
+-- How deep parentheses are nested.
+use Rattle.std.specs.Prelude.{◌≡◌, ℕ, ◌+◌, ◌-◌, ◌<◌, ◌≤◌, List, [], ◌∷◌, ◌++◌, Option, None, Some, nat_lt, if◌then◌else◌}
+use Rattle.qasm_lexer.specs.declared.token.TokenKind.{TokenKind}
+use Rattle.qasm_lexer.specs.declared.token.TokenKind.TheVariants.{LeftParenthesis, RightParenthesis, Semicolon, LeftBrace, RightBrace}
+use Rattle.qasm_lexer.specs.Tokens.{Lexeme}
+
+-- how many parentheses may be open
+abbrev pub most_open : ℕ
+most_open = 256
+
+-- how many are open behind a token, where so many were before it
+abbrev pub open_after : ℕ → TokenKind → ℕ
+open_after n LeftParenthesis = n + 1
+open_after n RightParenthesis = n - 1
+open_after n Semicolon = 0
+open_after n LeftBrace = 0
+open_after n RightBrace = 0
+open_after n _ = n
+
+-- the place of the first token behind which more are open than may be, where so many were before
+abbrev pub too_deep_from : ℕ → List Lexeme → Option ℕ
+too_deep_from n [] = None
+too_deep_from n (t ∷ ts) = if nat_lt most_open (open_after n t.kind) then Some t.place else too_deep_from (open_after n t.kind) ts
+
+-- the place of the first left parenthesis with which more than that many are open, if there is one
+abbrev pub too_deep : List Lexeme → Option ℕ
+too_deep = too_deep_from 0
+
+-- ---- the same by fronts
+
+-- how many are open at the end of these tokens, where so many were before them
+abbrev pub open_at_end : ℕ → List Lexeme → ℕ
+open_at_end n [] = n
+open_at_end n (t ∷ ts) = open_at_end (open_after n t.kind) ts
+
+-- no front of the tokens has more open than may be
+abbrev pub IsShallow : List Lexeme → Type 0
+IsShallow ts = (front more : List Lexeme) → ts ≡ front ++ more → open_at_end 0 front ≤ most_open
+
+-- a left parenthesis at this place is one too many, and none before it is
+abbrev pub IsTooDeep : List Lexeme → ℕ → Type 0
+IsTooDeep ts at =
+    (before : List Lexeme) × (left : Lexeme) × (more : List Lexeme) × (ts ≡ before ++ left ∷ more) × (left.kind ≡ LeftParenthesis) × (left.place ≡ at)
+    × IsShallow before × (most_open < open_at_end 0 (before ++ left ∷ []))

@@ -1,0 +1,9 @@
+pub mod Depth
+pub mod Grammar
+pub mod Items
+pub mod Machine
+pub mod Parsing
+pub mod Postfix
+pub mod Syntax
+pub mod Taking
+pub mod Views

@@ -1,0 +1,48 @@
+-- What the answer of the parser means.
+use Rattle.std.specs.Prelude.{◌≡◌, ℕ, List, Option, None, Some, Result, Ok, Err}
+use denote.Ref.{Bor}
+use Rattle.qasm_lexer.specs.declared.token.Token.{Token}
+use Rattle.qasm_lexer.specs.Tokens.{Lexeme, lexemes}
+use Rattle.qasm_reader.specs.declared.error.ParseError.{ParseError}
+use Rattle.qasm_reader.specs.declared.error.ParseError.TheVariants.{Syntax, TooDeep, NoMemory}
+use Rattle.qasm_reader.specs.declared.program.Program.{Program}
+use Rattle.qasm_reader.specs.declared.program.Statement.{Statement}
+use Rattle.qasm_reader.specs.Syntax.{Placed, Sentence}
+use Rattle.qasm_reader.specs.Views.{sentence, statements_of}
+use Rattle.qasm_reader.specs.Depth.{too_deep}
+use Rattle.qasm_reader.specs.Grammar.{IsProgram, IsSyntaxFault}
+
+-- the answer is the program of these statements, unless memory ran out
+abbrev pub AnswersProgram : List Placed → Result Program ParseError → Type 0
+AnswersProgram statements (Ok program) = statements_of program ≡ statements
+AnswersProgram statements (Err NoMemory) = Unit {0}
+AnswersProgram statements (Err (Syntax at)) = ⊥
+AnswersProgram statements (Err (TooDeep at)) = ⊥
+
+-- the answer is this fault, unless memory ran out
+abbrev pub AnswersFault : ParseError → Result Program ParseError → Type 0
+AnswersFault fault (Ok program) = ⊥
+AnswersFault fault (Err NoMemory) = Unit {0}
+AnswersFault fault (Err (Syntax at)) = fault ≡ Syntax at
+AnswersFault fault (Err (TooDeep at)) = fault ≡ TooDeep at
+
+-- what each answer says of the tokens
+abbrev pub IsAnswer : List Lexeme → Result Program ParseError → Type 0
+IsAnswer ts (Ok program) = (too_deep ts ≡ None) × IsProgram ts (statements_of program)
+IsAnswer ts (Err NoMemory) = Unit {0}
+IsAnswer ts (Err (Syntax at)) = (too_deep ts ≡ None) × IsSyntaxFault ts at
+IsAnswer ts (Err (TooDeep at)) = too_deep ts ≡ Some at
+
+-- what the answer says of one statement, which begins at this place
+abbrev pub IsStep : ℕ → Result (Statement × Bor (List Token)) ParseError → Option (Sentence × List Lexeme) → Type 0
+IsStep place (Ok x) read = (x.0.place ≡ place) × (read ≡ Some (sentence x.0.kind, lexemes x.1.now))
+IsStep place (Err NoMemory) read = Unit {0}
+IsStep place (Err (Syntax at)) read = (at ≡ place) × (read ≡ None)
+IsStep place (Err (TooDeep at)) read = ⊥
+
+-- what the answer says of how deep parentheses are
+abbrev pub IsDepthAnswer : List Token → Result (Bor (List Token)) ParseError → Type 0
+IsDepthAnswer tokens (Ok rest) = (rest.now ≡ tokens) × (too_deep (lexemes tokens) ≡ None)
+IsDepthAnswer tokens (Err NoMemory) = ⊥
+IsDepthAnswer tokens (Err (Syntax at)) = ⊥
+IsDepthAnswer tokens (Err (TooDeep at)) = too_deep (lexemes tokens) ≡ Some at

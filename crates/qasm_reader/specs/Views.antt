@@ -1,0 +1,65 @@
+-- What the types of the reader are as the statements of Syntax.
+use Rattle.std.specs.Prelude.{List, map}
+use Rattle.std.specs.Option.{option_map}
+use Rattle.qasm_reader.specs.declared.program.Program.{Program}
+use Rattle.qasm_reader.specs.declared.program.Statement.{Statement}
+use Rattle.qasm_reader.specs.declared.program.StatementKind.{StatementKind}
+use Rattle.qasm_reader.specs.declared.program.StatementKind.TheVariants.{Version, Include, QubitRegister, BitRegister, Gate, Opaque, If, Barrier, Operation}
+use Rattle.qasm_reader.specs.declared.program.GateDeclaration.{GateDeclaration}
+use Rattle.qasm_reader.specs.declared.program.GateName.{GateName}
+use Rattle.qasm_reader.specs.declared.program.GateName.TheVariants.{Declared, U, Cx}
+use Rattle.qasm_reader.specs.declared.program.Argument.{Argument}
+use Rattle.qasm_reader.specs.declared.program.Application.{Application}
+use Rattle.qasm_reader.specs.declared.program.Operation as operation
+use Rattle.qasm_reader.specs.declared.program.Operation.TheVariants.{Apply, Measure, Reset}
+use Rattle.qasm_reader.specs.declared.program.BodyStatement.{BodyStatement}
+use Rattle.qasm_reader.specs.declared.program.BodyStatement.TheVariants as body
+use Rattle.qasm_reader.specs.Postfix.{formula_of}
+use Rattle.qasm_reader.specs.Syntax as syntax
+
+-- the bytes that a name stands for
+abbrev pub callee : GateName → syntax.Callee
+callee (Declared name) = syntax.Declared name.now
+callee U = syntax.U
+callee Cx = syntax.Cx
+
+abbrev pub operand : Argument → syntax.Operand
+operand argument = record { register = argument.register.now; index = option_map (λ index. index.now) argument.index }
+
+abbrev pub application : Application → syntax.Apply
+application a = record { gate = callee a.gate; angles = map formula_of a.angles.items; qubits = map operand a.qubits.items }
+
+abbrev pub action : operation.Operation → syntax.Action
+action (Apply a) = syntax.Applied (application a)
+action (Measure from to) = syntax.Measured (operand from) (operand to)
+action (Reset argument) = syntax.Reset (operand argument)
+
+abbrev pub body_sentence : BodyStatement → syntax.BodySentence
+body_sentence (body.Apply a) = syntax.BodyApplied (record { gate = callee a.gate; angles = map formula_of a.angles.items; qubits = map (λ name. name.now) a.qubits.items })
+body_sentence (body.Barrier qubits) = syntax.BodyBarrier (map (λ name. name.now) qubits.items)
+
+abbrev pub gate_form : GateDeclaration → syntax.GateForm
+gate_form gate = record {
+  name = gate.name.now;
+  parameters = map (λ name. name.now) gate.parameters.items;
+  qubits = map (λ name. name.now) gate.qubits.items;
+  body = map body_sentence gate.body.items;
+}
+
+abbrev pub sentence : StatementKind → syntax.Sentence
+sentence (Version real) = syntax.Version real.now
+sentence (Include text) = syntax.Include text.now
+sentence (QubitRegister name size) = syntax.QubitRegister name.now size.now
+sentence (BitRegister name size) = syntax.BitRegister name.now size.now
+sentence (Gate gate) = syntax.DeclareGate (gate_form gate)
+sentence (Opaque gate) = syntax.Opaque gate.name.now (map (λ name. name.now) gate.parameters.items) (map (λ name. name.now) gate.qubits.items)
+sentence (If register value operation) = syntax.If register.now value.now (action operation)
+sentence (Barrier arguments) = syntax.Barrier (map operand arguments.items)
+sentence (Operation operation) = syntax.Act (action operation)
+
+abbrev pub placed : Statement → syntax.Placed
+placed statement = record { place = statement.place; sentence = sentence statement.kind }
+
+-- the statements of a program
+abbrev pub statements_of : Program → List syntax.Placed
+statements_of program = map placed program.statements.items

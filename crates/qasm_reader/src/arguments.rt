@@ -1,0 +1,187 @@
+//! Names, arguments and lists of them.
+
+ghost use Rattle.std.specs.Prelude.{◌≡◌, map};
+ghost use Rattle.std.specs.Option.{option_map};
+ghost use Rattle.qasm_lexer.specs.Tokens.{lexemes};
+ghost use Rattle.qasm_reader.specs.Postfix.{formula_of};
+ghost use Rattle.qasm_reader.specs.Views.{callee, operand};
+ghost use Rattle.qasm_reader.specs.Taking.{Gives};
+ghost use Rattle.qasm_reader.specs.Taking as spec;
+ghost use Rattle.qasm_reader.specs.Machine.{take_expression};
+
+use crate::expression::Expression;
+use crate::machine::expression;
+use crate::program::{Argument, GateName};
+use crate::stopped::Stopped;
+use crate::tokens::{after, sign, text};
+use qasm_lexer::{Token, TokenKind};
+use std::alloc::Global;
+
+/// The identifier at the front of the tokens, and what follows.
+pub(crate) fn identifier<'t, 'a>(
+    tokens: &'t [Token<'a>],
+) -> Result<(&'a [u8], &'t [Token<'a>]), Stopped>
+    ensures { Gives (λ x. (x.0.now, lexemes x.1.now)) result (spec.identifier (lexemes tokens.now)) }
+{
+    text(tokens, TokenKind::Identifier)
+}
+
+/// The whole number at the front of the tokens, and what follows.
+pub(crate) fn natural<'t, 'a>(
+    tokens: &'t [Token<'a>],
+) -> Result<(&'a [u8], &'t [Token<'a>]), Stopped>
+    ensures { Gives (λ x. (x.0.now, lexemes x.1.now)) result (spec.natural (lexemes tokens.now)) }
+{
+    text(tokens, TokenKind::Natural)
+}
+
+/// The name of a gate at the front of the tokens, and what follows.
+#[tactic(auto, unfolding(crate::specs::Taking::gate_name))]
+pub(crate) fn gate_name<'t, 'a>(
+    tokens: &'t [Token<'a>],
+) -> Result<(GateName<'a>, &'t [Token<'a>]), Stopped>
+    ensures { Gives (λ x. (callee x.0, lexemes x.1.now)) result (spec.gate_name (lexemes tokens.now)) }
+{
+    let [first, rest @ ..] = tokens else {
+        return Err(Stopped::Misfit);
+    };
+    match callee_of(first) {
+        Some(gate) => Ok((gate, rest)),
+        None => Err(Stopped::Misfit),
+    }
+}
+
+/// The gate that a token names.
+fn callee_of<'a>(token: &Token<'a>) -> Option<GateName<'a>>
+    ensures { option_map callee result ≡ spec.callee_of token.now.kind token.now.slice.now }
+{
+    match token.kind {
+        TokenKind::Identifier => Some(GateName::Declared(token.slice)),
+        TokenKind::U => Some(GateName::U),
+        TokenKind::Cx => Some(GateName::Cx),
+        _ => None,
+    }
+}
+
+/// The argument at the front of the tokens, and what follows.
+#[tactic(auto, unfolding(crate::specs::Taking::argument))]
+pub(crate) fn argument<'t, 'a>(
+    tokens: &'t [Token<'a>],
+) -> Result<(Argument<'a>, &'t [Token<'a>]), Stopped>
+    ensures { Gives (λ x. (operand x.0, lexemes x.1.now)) result (spec.argument (lexemes tokens.now)) }
+{
+    let (register, rest) = identifier(tokens)?;
+    let Some(inside) = after(rest, TokenKind::LeftBracket) else {
+        return Ok((
+            Argument {
+                register,
+                index: None,
+            },
+            rest,
+        ));
+    };
+    let (index, behind) = natural(inside)?;
+    let end = sign(behind, TokenKind::RightBracket)?;
+    Ok((
+        Argument {
+            register,
+            index: Some(index),
+        },
+        end,
+    ))
+}
+
+/// The identifiers at the front of the tokens, with commas between them, and what follows.
+#[tactic(auto, unfolding(crate::specs::Taking::identifiers, crate::specs::Taking::comma_list))]
+pub(crate) fn identifiers<'t, 'a>(
+    alloc: Global,
+    tokens: &'t [Token<'a>],
+) -> Result<(Vec<&'a [u8]>, &'t [Token<'a>]), Stopped>
+    ensures { Gives (λ x. (map (λ name. name.now) x.0.items, lexemes x.1.now)) result (spec.identifiers (lexemes tokens.now)) }
+{
+    let mut names = Vec::new(alloc);
+    let (first, mut rest) = identifier(tokens)?;
+    names.push(first)?;
+    while let Some(behind) = after(rest, TokenKind::Comma) {
+        let (name, end) = identifier(behind)?;
+        names.push(name)?;
+        rest = end;
+    }
+    Ok((names, rest))
+}
+
+/// The arguments at the front of the tokens, with commas between them, and what follows.
+#[tactic(auto, unfolding(crate::specs::Taking::arguments, crate::specs::Taking::comma_list))]
+pub(crate) fn arguments<'t, 'a>(
+    alloc: Global,
+    tokens: &'t [Token<'a>],
+) -> Result<(Vec<Argument<'a>>, &'t [Token<'a>]), Stopped>
+    ensures { Gives (λ x. (map operand x.0.items, lexemes x.1.now)) result (spec.arguments (lexemes tokens.now)) }
+{
+    let mut found = Vec::new(alloc);
+    let (first, mut rest) = argument(tokens)?;
+    found.push(first)?;
+    while let Some(behind) = after(rest, TokenKind::Comma) {
+        let (next, end) = argument(behind)?;
+        found.push(next)?;
+        rest = end;
+    }
+    Ok((found, rest))
+}
+
+/// The expressions at the front of the tokens, with commas between them, and what follows.
+#[tactic(auto, unfolding(crate::specs::Taking::comma_list))]
+fn expressions<'t, 'a>(
+    alloc: Global,
+    tokens: &'t [Token<'a>],
+) -> Result<(Vec<Expression<'a>>, &'t [Token<'a>]), Stopped>
+    ensures { Gives (λ x. (map formula_of x.0.items, lexemes x.1.now)) result (spec.comma_list take_expression (lexemes tokens.now)) }
+{
+    let mut found = Vec::new(alloc);
+    let (first, mut rest) = expression(alloc, tokens)?;
+    found.push(first)?;
+    while let Some(behind) = after(rest, TokenKind::Comma) {
+        let (next, end) = expression(alloc, behind)?;
+        found.push(next)?;
+        rest = end;
+    }
+    Ok((found, rest))
+}
+
+/// The identifiers between parentheses at the front of the tokens, if parentheses stand there, and what follows.
+#[tactic(auto, unfolding(crate::specs::Taking::parameters, crate::specs::Taking::optional_list, crate::specs::Taking::identifiers))]
+pub(crate) fn parameters<'t, 'a>(
+    alloc: Global,
+    tokens: &'t [Token<'a>],
+) -> Result<(Vec<&'a [u8]>, &'t [Token<'a>]), Stopped>
+    ensures { Gives (λ x. (map (λ name. name.now) x.0.items, lexemes x.1.now)) result (spec.parameters (lexemes tokens.now)) }
+{
+    let Some(inside) = after(tokens, TokenKind::LeftParenthesis) else {
+        return Ok((Vec::new(alloc), tokens));
+    };
+    if let Some(rest) = after(inside, TokenKind::RightParenthesis) {
+        return Ok((Vec::new(alloc), rest));
+    }
+    let (names, behind) = identifiers(alloc, inside)?;
+    let rest = sign(behind, TokenKind::RightParenthesis)?;
+    Ok((names, rest))
+}
+
+/// The expressions between parentheses at the front of the tokens, if parentheses stand there, and what follows.
+#[tactic(auto, unfolding(crate::specs::Taking::angles, crate::specs::Taking::optional_list))]
+pub(crate) fn angles<'t, 'a>(
+    alloc: Global,
+    tokens: &'t [Token<'a>],
+) -> Result<(Vec<Expression<'a>>, &'t [Token<'a>]), Stopped>
+    ensures { Gives (λ x. (map formula_of x.0.items, lexemes x.1.now)) result (spec.angles (lexemes tokens.now)) }
+{
+    let Some(inside) = after(tokens, TokenKind::LeftParenthesis) else {
+        return Ok((Vec::new(alloc), tokens));
+    };
+    if let Some(rest) = after(inside, TokenKind::RightParenthesis) {
+        return Ok((Vec::new(alloc), rest));
+    }
+    let (found, behind) = expressions(alloc, inside)?;
+    let rest = sign(behind, TokenKind::RightParenthesis)?;
+    Ok((found, rest))
+}

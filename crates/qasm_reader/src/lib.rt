@@ -1,0 +1,24 @@
+//! The statements of OpenQASM 2.0.
+#![tactic(auto)]
+
+mod arguments;
+mod depth;
+pub mod error;
+pub mod expression;
+pub mod laws;
+mod machine;
+pub mod parser;
+pub mod program;
+mod statement;
+mod stopped;
+#[cfg(test)]
+mod tests;
+mod tokens;
+
+pub use error::ParseError;
+pub use expression::{Expression, Function, Item, Operator};
+pub use parser::parse;
+pub use program::{
+    Application, Argument, BodyApplication, BodyStatement, GateDeclaration, GateName,
+    OpaqueDeclaration, Operation, Program, Statement, StatementKind,
+};

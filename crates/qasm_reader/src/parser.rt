@@ -1,0 +1,79 @@
+//! The parser: from tokens to a program.
+
+ghost use Rattle.std.specs.Prelude.{◌≡◌, List, None, Some, Err, IfOk, OnOk, ℕ};
+ghost use Rattle.qasm_lexer.specs.Tokens.{lexemes};
+ghost use Rattle.qasm_reader.specs.Depth.{too_deep};
+ghost use Rattle.qasm_reader.specs.Grammar.{IsProgram, IsSyntaxFault};
+ghost use Rattle.qasm_reader.specs.Parsing.{AnswersProgram, AnswersFault, IsAnswer, IsStep, IsDepthAnswer};
+ghost use Rattle.qasm_reader.specs.Syntax.{Placed};
+ghost use Rattle.qasm_reader.specs.Taking as spec;
+ghost use Rattle.qasm_reader.specs.Views.{statements_of};
+
+use crate::depth::too_deep;
+use crate::error::ParseError;
+use crate::program::{Program, Statement};
+use crate::statement::statement;
+use crate::stopped::Stopped;
+use qasm_lexer::Token;
+use std::alloc::Global;
+
+/// The program that the tokens are.
+///
+/// # Errors
+///
+/// `TooDeep` where more than 256 parentheses are open, with the first such place; else `Syntax` where the tokens
+/// are no program, with the place where the first statement would begin that is none; and `NoMemory` where memory
+/// runs out.
+pub fn parse<'a>(alloc: Global, tokens: &[Token<'a>]) -> Result<Program<'a>, ParseError>
+    // What is answered is what the tokens say.
+    ensures found { IfOk result (λ program. IsProgram (lexemes tokens.now) (statements_of program)) }
+    ensures shallow { OnOk result (too_deep (lexemes tokens.now) ≡ None) }
+    // What the tokens say is answered, unless memory runs out.
+    ensures only { (statements : List Placed) → IsProgram (lexemes tokens.now) statements → too_deep (lexemes tokens.now) ≡ None → AnswersProgram statements result }
+    // Which fault it is, both ways.
+    ensures deep { (at : ℕ) → result ≡ Err (ParseError.TooDeep at) → too_deep (lexemes tokens.now) ≡ Some at }
+    ensures only_deep { (at : ℕ) → too_deep (lexemes tokens.now) ≡ Some at → AnswersFault (ParseError.TooDeep at) result }
+    ensures syntax { (at : ℕ) → result ≡ Err (ParseError.Syntax at) → (too_deep (lexemes tokens.now) ≡ None) × IsSyntaxFault (lexemes tokens.now) at }
+    ensures only_syntax { (at : ℕ) → IsSyntaxFault (lexemes tokens.now) at → too_deep (lexemes tokens.now) ≡ None → AnswersFault (ParseError.Syntax at) result }
+{
+    program(alloc, tokens)
+}
+
+/// The program that the tokens are.
+fn program<'a>(alloc: Global, tokens: &[Token<'a>]) -> Result<Program<'a>, ParseError>
+    ensures { IsAnswer (lexemes tokens.now) result }
+{
+    let mut rest = shallow(tokens)?;
+    let mut statements = Vec::new(alloc);
+    while let [first, ..] = rest {
+        let (statement, end) = placed_statement(alloc, first.place, rest)?;
+        statements.push(statement)?;
+        rest = end;
+    }
+    Ok(Program { statements })
+}
+
+/// The tokens, if parentheses are not too deep.
+fn shallow<'t, 'a>(tokens: &'t [Token<'a>]) -> Result<&'t [Token<'a>], ParseError>
+    ensures { IsDepthAnswer tokens.now result }
+{
+    match too_deep(tokens) {
+        Some(at) => Err(ParseError::TooDeep { at }),
+        None => Ok(tokens),
+    }
+}
+
+/// The statement at the front of the tokens, with its place, and what follows.
+fn placed_statement<'t, 'a>(
+    alloc: Global,
+    place: usize,
+    tokens: &'t [Token<'a>],
+) -> Result<(Statement<'a>, &'t [Token<'a>]), ParseError>
+    ensures { IsStep place result (spec.statement (lexemes tokens.now)) }
+{
+    match statement(alloc, tokens) {
+        Ok((kind, rest)) => Ok((Statement { place, kind }, rest)),
+        Err(Stopped::Misfit) => Err(ParseError::Syntax { at: place }),
+        Err(Stopped::NoMemory) => Err(ParseError::NoMemory),
+    }
+}

@@ -1,0 +1,150 @@
+//! Programs as lists of statements. Names, numbers and texts are slices of the source.
+
+use crate::expression::Expression;
+
+/// A program.
+#[derive(Drop)]
+pub struct Program<'a> {
+    /// Its statements, in order.
+    pub statements: Vec<Statement<'a>>,
+}
+
+/// A statement and where it begins.
+#[derive(Drop)]
+pub struct Statement<'a> {
+    /// The place of its first byte in the text.
+    pub place: usize,
+    /// What it says.
+    pub kind: StatementKind<'a>,
+}
+
+/// What a statement says.
+#[derive(Drop)]
+pub enum StatementKind<'a> {
+    /// `OPENQASM real;`
+    Version(&'a [u8]),
+    /// `include "text";`, the text with its quotes.
+    Include(&'a [u8]),
+    /// `qreg name[size];`
+    QubitRegister {
+        /// The register's name.
+        name: &'a [u8],
+        /// Its size, a whole number as it is spelled.
+        size: &'a [u8],
+    },
+    /// `creg name[size];`
+    BitRegister {
+        /// The register's name.
+        name: &'a [u8],
+        /// Its size, a whole number as it is spelled.
+        size: &'a [u8],
+    },
+    /// `gate name(parameters) qubits { body }`
+    Gate(GateDeclaration<'a>),
+    /// `opaque name(parameters) qubits;`
+    Opaque(OpaqueDeclaration<'a>),
+    /// `if (register == value) operation`
+    If {
+        /// The register's name.
+        register: &'a [u8],
+        /// The value, a whole number as it is spelled.
+        value: &'a [u8],
+        /// What is done where the register has that value.
+        operation: Operation<'a>,
+    },
+    /// `barrier arguments;`
+    Barrier(Vec<Argument<'a>>),
+    /// An operation on qubits.
+    Operation(Operation<'a>),
+}
+
+/// The declaration of a gate.
+#[derive(Drop)]
+pub struct GateDeclaration<'a> {
+    /// Its name.
+    pub name: &'a [u8],
+    /// The names of its parameters.
+    pub parameters: Vec<&'a [u8]>,
+    /// The names of its qubits.
+    pub qubits: Vec<&'a [u8]>,
+    /// Its body.
+    pub body: Vec<BodyStatement<'a>>,
+}
+
+/// The declaration of a gate without a body.
+#[derive(Drop)]
+pub struct OpaqueDeclaration<'a> {
+    /// Its name.
+    pub name: &'a [u8],
+    /// The names of its parameters.
+    pub parameters: Vec<&'a [u8]>,
+    /// The names of its qubits.
+    pub qubits: Vec<&'a [u8]>,
+}
+
+/// The name of a gate that is applied.
+#[derive(Clone, Copy, Debug)]
+pub enum GateName<'a> {
+    /// A declared gate.
+    Declared(&'a [u8]),
+    /// The built-in gate `U`.
+    U,
+    /// The built-in gate `CX`.
+    Cx,
+}
+
+/// A register, or one element of it.
+#[derive(Clone, Copy, Debug)]
+pub struct Argument<'a> {
+    /// The register's name.
+    pub register: &'a [u8],
+    /// The element's index, a whole number as it is spelled, or none for the whole register.
+    pub index: Option<&'a [u8]>,
+}
+
+/// An application of a gate.
+#[derive(Drop)]
+pub struct Application<'a> {
+    /// The gate.
+    pub gate: GateName<'a>,
+    /// Its angles.
+    pub angles: Vec<Expression<'a>>,
+    /// Its qubits.
+    pub qubits: Vec<Argument<'a>>,
+}
+
+/// An operation on qubits.
+#[derive(Drop)]
+pub enum Operation<'a> {
+    /// `gate(angles) qubits;`
+    Apply(Application<'a>),
+    /// `measure from -> to;`
+    Measure {
+        /// What is measured.
+        from: Argument<'a>,
+        /// Where the result goes.
+        to: Argument<'a>,
+    },
+    /// `reset argument;`
+    Reset(Argument<'a>),
+}
+
+/// An application of a gate in the body of another.
+#[derive(Drop)]
+pub struct BodyApplication<'a> {
+    /// The gate.
+    pub gate: GateName<'a>,
+    /// Its angles.
+    pub angles: Vec<Expression<'a>>,
+    /// The names of its qubits.
+    pub qubits: Vec<&'a [u8]>,
+}
+
+/// A statement of a gate's body.
+#[derive(Drop)]
+pub enum BodyStatement<'a> {
+    /// `gate(angles) qubits;`
+    Apply(BodyApplication<'a>),
+    /// `barrier qubits;`
+    Barrier(Vec<&'a [u8]>),
+}

@@ -1,0 +1,280 @@
+//! What no clause says: that parsing succeeds with ample memory, that long expressions take neither stack nor much
+//! time, and worked examples.
+
+use crate::{Item, Operation, Operator, ParseError, Program, StatementKind, parse};
+use qasm_lexer::{Token, TokenKind};
+use std::alloc::Global;
+use std::test::Fail;
+
+// The words with a kind of their own that the examples use.
+const KINDS: [(&[u8], TokenKind); 31] = [
+    (b"OPENQASM", TokenKind::Openqasm),
+    (b"U", TokenKind::U),
+    (b"CX", TokenKind::Cx),
+    (b"include", TokenKind::Include),
+    (b"qreg", TokenKind::Qreg),
+    (b"creg", TokenKind::Creg),
+    (b"gate", TokenKind::Gate),
+    (b"opaque", TokenKind::Opaque),
+    (b"if", TokenKind::If),
+    (b"barrier", TokenKind::Barrier),
+    (b"measure", TokenKind::Measure),
+    (b"reset", TokenKind::Reset),
+    (b"pi", TokenKind::Pi),
+    (b"sin", TokenKind::Sin),
+    (b"sqrt", TokenKind::Sqrt),
+    (b"2", TokenKind::Natural),
+    (b"2.0", TokenKind::Real),
+    (b"\"qelib1.inc\"", TokenKind::Text),
+    (b";", TokenKind::Semicolon),
+    (b",", TokenKind::Comma),
+    (b"(", TokenKind::LeftParenthesis),
+    (b")", TokenKind::RightParenthesis),
+    (b"[", TokenKind::LeftBracket),
+    (b"]", TokenKind::RightBracket),
+    (b"{", TokenKind::LeftBrace),
+    (b"}", TokenKind::RightBrace),
+    (b"+", TokenKind::Plus),
+    (b"-", TokenKind::Minus),
+    (b"*", TokenKind::Star),
+    (b"/", TokenKind::Slash),
+    (b"^", TokenKind::Caret),
+];
+
+// The kind of a word.
+fn kind_of(word: &[u8]) -> TokenKind {
+    if word == b"->".as_slice() {
+        return TokenKind::Arrow;
+    }
+    if word == b"==".as_slice() {
+        return TokenKind::Equals;
+    }
+    for row in &KINDS {
+        if row.0 == word {
+            return row.1;
+        }
+    }
+    TokenKind::Identifier
+}
+
+// The tokens of a text with a space between each two.
+fn tokens_of<'a>(alloc: Global, text: &'a [u8]) -> Result<Vec<Token<'a>>, Fail> {
+    let mut tokens = Vec::new(alloc);
+    let mut place = 0usize;
+    for slice in text.split(|b| *b == b' ') {
+        if !slice.is_empty() {
+            let kind = kind_of(slice);
+            tokens.push(Token { kind, slice, place })?;
+        }
+        place = place.saturating_add(slice.len()).saturating_add(1);
+    }
+    Ok(tokens)
+}
+
+// The word for an item in postfix order.
+fn word_of<'a>(item: &Item<'a>) -> &'a [u8] {
+    match item {
+        Item::Number(text) => text,
+        Item::Pi => b"pi",
+        Item::Name(name) => name,
+        Item::Negate => b"~",
+        Item::Binary(Operator::Add) => b"+",
+        Item::Binary(Operator::Subtract) => b"-",
+        Item::Binary(Operator::Multiply) => b"*",
+        Item::Binary(Operator::Divide) => b"/",
+        Item::Binary(Operator::Power) => b"^",
+        Item::Call(_) => b"f",
+    }
+}
+
+// The angles of the applications in a program, in postfix order, with a space behind each word.
+fn angles_of(alloc: Global, program: &Program<'_>) -> Result<Vec<u8>, Fail> {
+    let mut text = Vec::new(alloc);
+    for statement in &program.statements {
+        if let StatementKind::Operation(Operation::Apply(application)) = &statement.kind {
+            for angle in &application.angles {
+                for item in angle.items() {
+                    text.extend_from_slice(word_of(item))?;
+                    text.push(b' ')?;
+                }
+            }
+        }
+    }
+    Ok(text)
+}
+
+#[test]
+fn operators_bind_as_the_grammar_says(rt: HostRuntime) -> Result<(), Fail> {
+    let alloc = rt.alloc();
+    let rows: [(&[u8], &[u8]); 10] = [
+        (b"g ( a - b - c ) q ;", b"a b - c - "),
+        (b"g ( a / b / c ) q ;", b"a b / c / "),
+        (b"g ( a ^ b ^ c ) q ;", b"a b c ^ ^ "),
+        (b"g ( - a ^ b ) q ;", b"a ~ b ^ "),
+        (b"g ( - a * b + c ) q ;", b"a ~ b * c + "),
+        (b"g ( a + b * c - d / 2 ) q ;", b"a b c * + d 2 / - "),
+        (b"g ( ( a + b ) * - - c ) q ;", b"a b + c ~ ~ * "),
+        (b"g ( sin ( pi / 2 ) ^ 2 ) q ;", b"pi 2 / f 2 ^ "),
+        (
+            b"g ( - ( a ) ^ - 2.0 , sqrt ( b ) ) q ;",
+            b"a ~ 2.0 ~ ^ b f ",
+        ),
+        (b"g ( ) q ; g q ; U ( a , b , c ) q ;", b"a b c "),
+    ];
+    for (text, angles) in rows {
+        let tokens = tokens_of(alloc, text)?;
+        let program = parse(alloc, &tokens).ok().ok_or("no program")?;
+        assert_eq!(rt; angles_of(alloc, &program)?.as_slice(), angles);
+    }
+    Ok(())
+}
+
+// The number of a statement's form, in the order of the forms.
+fn form_of(kind: &StatementKind<'_>) -> usize {
+    match kind {
+        StatementKind::Version(_) => 0,
+        StatementKind::Include(_) => 1,
+        StatementKind::QubitRegister { .. } => 2,
+        StatementKind::BitRegister { .. } => 3,
+        StatementKind::Gate(_) => 4,
+        StatementKind::Opaque(_) => 5,
+        StatementKind::If { .. } => 6,
+        StatementKind::Barrier(_) => 7,
+        StatementKind::Operation(Operation::Apply(_)) => 8,
+        StatementKind::Operation(Operation::Measure { .. }) => 9,
+        StatementKind::Operation(Operation::Reset(_)) => 10,
+    }
+}
+
+#[test]
+fn each_form_of_statement_is_read(rt: HostRuntime) -> Result<(), Fail> {
+    let alloc = rt.alloc();
+    let rows: [(&[u8], usize); 16] = [
+        (b"OPENQASM 2.0 ;", 0),
+        (b"include \"qelib1.inc\" ;", 1),
+        (b"qreg q [ 2 ] ;", 2),
+        (b"creg c [ 2 ] ;", 3),
+        (b"gate g a { }", 4),
+        (
+            b"gate g ( ) a , b { barrier a , b ; U ( 2 , pi , x ) a ; }",
+            4,
+        ),
+        (b"gate g ( x , y ) a { CX a , a ; h a ; r ( ) a ; }", 4),
+        (b"opaque g a ;", 5),
+        (b"opaque g ( x ) a , b ;", 5),
+        (b"if ( c == 2 ) x q ;", 6),
+        (b"if ( c == 2 ) measure q -> c ;", 6),
+        (b"barrier q , r [ 2 ] ;", 7),
+        (b"CX q [ 2 ] , r ;", 8),
+        (b"measure q [ 2 ] -> c [ 2 ] ;", 9),
+        (b"measure q -> c ;", 9),
+        (b"reset q ;", 10),
+    ];
+    for (text, form) in rows {
+        let tokens = tokens_of(alloc, text)?;
+        let program = parse(alloc, &tokens).ok().ok_or("no program")?;
+        assert_eq!(rt; program.statements.len(), 1);
+        for statement in &program.statements {
+            assert_eq!(rt; form_of(&statement.kind), form);
+        }
+    }
+    Ok(())
+}
+
+#[test]
+fn other_tokens_are_refused_where_the_statement_begins(rt: HostRuntime) -> Result<(), Fail> {
+    let alloc = rt.alloc();
+    let rows: [(&[u8], usize); 18] = [
+        (b"gate g a { } ;", 13),
+        (b"qreg q [ 2 ] ; x q", 15),
+        (b"qreg q [ 2 ] ; x q , ;", 15),
+        (b"qreg q [ 2.0 ] ;", 0),
+        (b"creg c [ 2 ]", 0),
+        (b"OPENQASM 2 ;", 0),
+        (b"gate g { }", 0),
+        (b"gate g a { measure a -> a ; }", 0),
+        (b"gate g a { h a [ 2 ] ; }", 0),
+        (b"gate U a { }", 0),
+        (b"opaque g ( x a ;", 0),
+        (b"if ( c == 2 ) if ( c == 2 ) x q ;", 0),
+        (b"if ( c == 2 ) barrier q ;", 0),
+        (b"measure q ;", 0),
+        (b"g ( a b ) q ;", 0),
+        (b"g ( a , ) q ;", 0),
+        (b"g ( ( a ) q ;", 0),
+        (b"g ( sin a ) q ;", 0),
+    ];
+    for (text, at) in rows {
+        let tokens = tokens_of(alloc, text)?;
+        assert_eq!(rt;
+            parse(alloc, &tokens).err(),
+            Some(ParseError::Syntax { at })
+        );
+    }
+    Ok(())
+}
+
+// An application with the words repeated before its one angle, and behind it.
+fn repeated<'a>(
+    alloc: Global,
+    count: usize,
+    before: &[Token<'a>],
+    behind: &[Token<'a>],
+) -> Result<Vec<Token<'a>>, Fail> {
+    let mut tokens = tokens_of(alloc, b"g (")?;
+    for _ in 0..count {
+        tokens.extend_from_slice(before)?;
+    }
+    tokens.extend_from_slice(&tokens_of(alloc, b"a")?)?;
+    for _ in 0..count {
+        tokens.extend_from_slice(behind)?;
+    }
+    tokens.extend_from_slice(&tokens_of(alloc, b") q ;")?)?;
+    Ok(tokens)
+}
+
+#[test]
+fn long_expressions_are_read(rt: HostRuntime) -> Result<(), Fail> {
+    let alloc = rt.alloc();
+    let rows: [(&[u8], &[u8]); 4] = [
+        (b"-", b""),
+        (b"a ^", b""),
+        (b"", b"+ a"),
+        (b"a ^ a *", b"- a"),
+    ];
+    for (before, behind) in rows {
+        let before = tokens_of(alloc, before)?;
+        let behind = tokens_of(alloc, behind)?;
+        let tokens = repeated(alloc, 100_000, &before, &behind)?;
+        assert_eq!(rt; parse(alloc, &tokens).err(), None);
+    }
+    Ok(())
+}
+
+#[test]
+fn more_than_256_open_parentheses_are_too_deep(rt: HostRuntime) -> Result<(), Fail> {
+    let alloc = rt.alloc();
+    let before = tokens_of(alloc, b"(")?;
+    let behind = tokens_of(alloc, b")")?;
+    let last = tokens_of(alloc, b"      (")?;
+    let most = repeated(alloc, 255, &before, &behind)?;
+    assert_eq!(rt; parse(alloc, &most).err(), None);
+    let over = repeated(alloc, 256, &before, &behind)?;
+    assert_eq!(rt;
+        parse(alloc, &over).err(),
+        Some(ParseError::TooDeep { at: 0 })
+    );
+    let mut two = repeated(alloc, 255, &before, &[])?;
+    two.extend_from_slice(&repeated(alloc, 255, &before, &[])?)?;
+    assert_eq!(rt;
+        parse(alloc, &two).err(),
+        Some(ParseError::Syntax { at: 0 })
+    );
+    let mut later = repeated(alloc, 255, &before, &behind)?;
+    later.extend_from_slice(&repeated(alloc, 255, &before, &last)?)?;
+    assert_eq!(rt;
+        parse(alloc, &later).err(),
+        Some(ParseError::TooDeep { at: 6 })
+    );
+    Ok(())
+}
