@@ -2,73 +2,13 @@
 //! time, and worked examples.
 
 use crate::{Item, Operation, Operator, ParseError, Program, StatementKind, parse};
-use qasm_lexer::{Token, TokenKind};
+use qasm_lexer::{LexError, Token, lex};
 use std::alloc::Global;
 use std::test::Fail;
 
-// The words with a kind of their own that the examples use.
-const KINDS: [(&[u8], TokenKind); 31] = [
-    (b"OPENQASM", TokenKind::Openqasm),
-    (b"U", TokenKind::U),
-    (b"CX", TokenKind::Cx),
-    (b"include", TokenKind::Include),
-    (b"qreg", TokenKind::Qreg),
-    (b"creg", TokenKind::Creg),
-    (b"gate", TokenKind::Gate),
-    (b"opaque", TokenKind::Opaque),
-    (b"if", TokenKind::If),
-    (b"barrier", TokenKind::Barrier),
-    (b"measure", TokenKind::Measure),
-    (b"reset", TokenKind::Reset),
-    (b"pi", TokenKind::Pi),
-    (b"sin", TokenKind::Sin),
-    (b"sqrt", TokenKind::Sqrt),
-    (b"2", TokenKind::Natural),
-    (b"2.0", TokenKind::Real),
-    (b"\"qelib1.inc\"", TokenKind::Text),
-    (b";", TokenKind::Semicolon),
-    (b",", TokenKind::Comma),
-    (b"(", TokenKind::LeftParenthesis),
-    (b")", TokenKind::RightParenthesis),
-    (b"[", TokenKind::LeftBracket),
-    (b"]", TokenKind::RightBracket),
-    (b"{", TokenKind::LeftBrace),
-    (b"}", TokenKind::RightBrace),
-    (b"+", TokenKind::Plus),
-    (b"-", TokenKind::Minus),
-    (b"*", TokenKind::Star),
-    (b"/", TokenKind::Slash),
-    (b"^", TokenKind::Caret),
-];
-
-// The kind of a word.
-fn kind_of(word: &[u8]) -> TokenKind {
-    if word == b"->".as_slice() {
-        return TokenKind::Arrow;
-    }
-    if word == b"==".as_slice() {
-        return TokenKind::Equals;
-    }
-    for row in &KINDS {
-        if row.0 == word {
-            return row.1;
-        }
-    }
-    TokenKind::Identifier
-}
-
-// The tokens of a text with a space between each two.
+// The tokens of a text.
 fn tokens_of<'a>(alloc: Global, text: &'a [u8]) -> Result<Vec<Token<'a>>, Fail> {
-    let mut tokens = Vec::new(alloc);
-    let mut place = 0usize;
-    for slice in text.split(|b| *b == b' ') {
-        if !slice.is_empty() {
-            let kind = kind_of(slice);
-            tokens.push(Token { kind, slice, place })?;
-        }
-        place = place.saturating_add(slice.len()).saturating_add(1);
-    }
-    Ok(tokens)
+    Ok(lex(alloc, text).ok().ok_or("a bad byte")?)
 }
 
 // The word for an item in postfix order.
@@ -276,5 +216,58 @@ fn more_than_256_open_parentheses_are_too_deep(rt: HostRuntime) -> Result<(), Fa
         parse(alloc, &later).err(),
         Some(ParseError::TooDeep { at: 6 })
     );
+    Ok(())
+}
+
+// What a text is: so many statements, or no tokens, or no statements.
+#[derive(Clone, Copy, Debug, PartialEq, Eq)]
+enum Told {
+    Statements(usize),
+    BadByte(usize),
+    Syntax(usize),
+    Other,
+}
+
+// What a text is.
+fn reading_of(alloc: Global, text: &[u8]) -> Told {
+    match lex(alloc, text) {
+        Ok(tokens) => match parse(alloc, &tokens) {
+            Ok(program) => Told::Statements(program.statements.len()),
+            Err(ParseError::Syntax { at }) => Told::Syntax(at),
+            Err(_) => Told::Other,
+        },
+        Err(LexError::BadByte { at }) => Told::BadByte(at),
+        Err(LexError::NoMemory) => Told::Other,
+    }
+}
+
+#[test]
+fn each_front_of_a_text_is_told(rt: HostRuntime) -> Result<(), Fail> {
+    let text: &[u8] = b"OPENQASM 2.0;\ninclude \"qelib1.inc\";\nqreg q[1];\nt q[0];\nt q[0];\n";
+    // The first and the last length of the fronts of one kind.
+    let rows: [(usize, usize, Told); 14] = [
+        (0, 0, Told::Statements(0)),
+        (1, 7, Told::BadByte(0)),
+        (8, 12, Told::Syntax(0)),
+        (13, 14, Told::Statements(1)),
+        (15, 22, Told::Syntax(14)),
+        (23, 33, Told::BadByte(22)),
+        (34, 34, Told::Syntax(14)),
+        (35, 36, Told::Statements(2)),
+        (37, 45, Told::Syntax(36)),
+        (46, 47, Told::Statements(3)),
+        (48, 53, Told::Syntax(47)),
+        (54, 55, Told::Statements(4)),
+        (56, 61, Told::Syntax(55)),
+        (62, 63, Told::Statements(5)),
+    ];
+    for (first, last, expected) in rows {
+        for length in first..=last {
+            if let Some(front) = text.get(..length) {
+                assert_eq!(rt; reading_of(rt.alloc(), front), expected, "{length} bytes");
+            }
+        }
+    }
+    assert_eq!(rt; text.len(), 63);
     Ok(())
 }

@@ -1,27 +1,22 @@
--- Merging of neighbouring phase gates keeps the linear map and makes nothing larger.
-use Rattle.std.proofs.Common.{suc, ◌≡◌, ◌≢◌, ◌⊎◌, ℕ, ◌+◌, ◌-◌, ◌≤◌, ◌<◌, Bool, true, false, cond, ◌&&◌, eqb, List, [], ◌∷◌, ◌++◌, length, get_or, take, set, refl, sym, ap, ◌∙◌, inl, inr, subst, arith, length-append, Option, None, Some, OnOk, Result, Ok, Err}
-use Rattle.std.proofs.Math.Seq.{drop-cons, drop-length, get_or-append_seam}
-use Rattle.std.proofs.lemmas.List.{take-append-drop, take_more, take-set, get_or-set_same, length-set}
+-- Merging of phase gates keeps the linear map and the other gates, and makes nothing larger.
+use Rattle.std.proofs.Common.{◌≡◌, ◌⊎◌, ℕ, ◌+◌, ◌≤◌, Bool, true, false, not, cond, ◌&&◌, eqb, List, [], ◌∷◌, ◌++◌, length, refl, sym, ap, ◌∙◌, inl, inr, arith, length-append, Option, None, Some, is_some}
 use Rattle.std.proofs.lemmas.List.Sums.{sum_by-append}
-use Rattle.std.proofs.lemmas.List.Folds.{list_all-append}
-use Rattle.std.proofs.lemmas.Bool.{eqb-true, eq-eqb}
+use Rattle.std.proofs.lemmas.List.Elements.{filter-append}
+use Rattle.std.proofs.lemmas.List.Filters.{length-filter_both, sum_by-filter_both}
+use Rattle.std.proofs.lemmas.Bool.{eqb-true, and_from, and_parts, not_from_false, not-true}
 use Rattle.std.proofs.lemmas.Bool.Decides.{eqb_tells, nat_tests}
-use Rattle.std.specs.List.{list_all}
+use Rattle.std.specs.List.{filter}
 use Rattle.zx_model.specs.Phase.{sum_of_phases, is_odd}
 use Rattle.zx_model.specs.Number.{Number}
 use Rattle.zx_gates.specs.declared.gate.Gate.{Gate}
 use Rattle.zx_gates.specs.declared.gate.Gate.TheVariants.{H, Phase, Cz, Cx, Not}
 use Rattle.zx_gates.specs.Circuit.{odd_count, is_odd_phase}
+use Rattle.zx_gates.specs.Counting.{is_phase}
 use Rattle.zx_gates.specs.Maps.{act, acts}
-use Rattle.zx_model.proofs.BitLemmas.{and-left, and-right}
 use Rattle.zx_gates.proofs.MapLemmas.{acts-append, act-phase-phase, act-phase-zero}
-use Rattle.zx_run.specs.Merging.{MergesTo, IsAtMostOnePhase, is_phase_on, phase_together, phase_gates}
-
--- a list is what stands before its last element, and that
-pub split_last : {A : Type 0} (xs : List A) (i : ℕ) (d : A) → i + 1 ≡ length xs → xs ≡ take i xs ++ get_or xs i d ∷ []
-split_last xs i d h =
-    sym (take-append-drop i xs) ∙ ap (λ ys. take i xs ++ ys)
-    (drop-cons xs i d (omega arith) ∙ ap (λ ys. get_or xs i d ∷ ys) (rw (let e : suc i ≡ length xs = omega arith in e) (drop-length xs)))
+use Rattle.zx_run.specs.Merging.{MergesTo, is_on, next_is_phase, is_apart, is_settled, others}
+use Rattle.zx_run.specs.MergeSteps.{is_idle, place_of_phase}
+use Rattle.zx_run.proofs.PhaseLemmas.{AreOff, acts-phase-past}
 
 -- a phase counts one where it is odd
 odd_value : ℕ → ℕ
@@ -34,182 +29,183 @@ odd_value-sum j k = grind (arith, nat_tests)
 odd_count-append : (xs ys : List Gate) → odd_count (xs ++ ys) ≡ odd_count xs + odd_count ys
 odd_count-append xs ys = sum_by-append (λ g. cond (is_odd_phase g) 1 0) xs ys
 
--- the phase gate of a phase, or nothing where the phase is 0
-gates_cases : (p s : ℕ) → ((phase_gates (p, s) ≡ []) × (s ≡ 0)) ⊎ (phase_gates (p, s) ≡ Phase p s ∷ [])
-gates_cases p s = elim (eqb_tells s 0) [ inl w ↦ inl (rw w.0 refl, w.1) | inr w ↦ inr (rw w.0 refl) ]
-
-acts-phase_gates : (p s : ℕ) (f : List Bool → Number) → acts (phase_gates (p, s)) f ≡ act (Phase p s) f
-acts-phase_gates p s f =
-    elim (gates_cases p s) [
-      | inl w ↦ ap (λ gs. acts gs f) w.0 ∙ sym (ap (λ k. act (Phase p k) f) w.1 ∙ act-phase-zero p f)
-      | inr w ↦ ap (λ gs. acts gs f) w
-    ]
-
-odd_count-phase_gates : (p s : ℕ) → odd_count (phase_gates (p, s)) ≤ odd_value s
-unfolding odd_value
-odd_count-phase_gates p s = elim (gates_cases p s) [ inl w ↦ rw w.0 (omega arith) | inr w ↦ rw w (omega arith) ]
-
-length-phase_gates : (p s : ℕ) → length (phase_gates (p, s)) ≤ 1
-length-phase_gates p s = elim (gates_cases p s) [ inl w ↦ rw w.0 (omega arith) | inr w ↦ rw w (omega arith) ]
-
-single-phase_gates : (q p s : ℕ) → eqb p q ≡ true → IsAtMostOnePhase q (phase_gates (p, s))
-single-phase_gates q p s h =
-    elim (gates_cases p s) [
-      | inl w ↦ (let P : List Gate → Type 0 = IsAtMostOnePhase q in subst P (sym w.0) tt)
-      | inr w ↦ (let P : List Gate → Type 0 = IsAtMostOnePhase q in subst P (sym w) h)
-    ]
-
 pub merges-nil : MergesTo [] []
-merges-nil = record { map = λ f. refl; odd = omega arith; length = omega arith; single = λ q h. tt }
+merges-nil = record { map = λ f. refl; odd = omega arith; length = omega arith; settled = refl; others = refl }
 
--- the last gate isn't turned together with this one
-pub record Apart (merged : List Gate) (gate : Gate) : Type 0 where
-  pub apart : (front : List Gate) (last : Gate) → merged ≡ front ++ last ∷ [] → phase_together last gate ≡ None
+-- a gate stands before the others
+pub merges-cons : (read merged : List Gate) (gate : Gate) → is_apart gate merged ≡ true → MergesTo read merged → MergesTo (gate ∷ read) (gate ∷ merged)
+merges-cons read merged gate apart m = record {
+  map = λ f. ap (act gate) (m.map f);
+  odd = omega (arith, m.odd, odd_count-append (gate ∷ []) read, odd_count-append (gate ∷ []) merged);
+  length = omega (arith, m.length);
+  settled = and_from _ _ apart m.settled;
+  others = ap (λ gates. cond (not (is_phase gate)) (gate ∷ gates) gates) m.others;
+}
 
-some_not_none : (b : Bool) (x : ℕ × ℕ) → b ≡ true → cond b (Some x) None ≡ None → ⊥
-some_not_none true x h e = cc
-some_not_none false x h e = cc
+-- the place of the next phase gate says whether there is one
+some_cond : (on turns later : Bool) (n : ℕ) (place : Option ℕ) → later ≡ is_some place
+    → cond on turns later ≡ is_some (cond on (cond turns (Some n) None) place)
+some_cond true true later n place e = refl
+some_cond true false later n place e = refl
+some_cond false turns later n place e = e
 
--- two phase gates on one qubit would be turned together
-not_apart : (q : ℕ) (last gate : Gate) → is_phase_on q last ≡ true → is_phase_on q gate ≡ true → phase_together last gate ≡ None → ⊥
-not_apart q (H p) gate a b e = absurd (let h : false ≡ true = a in cc)
-not_apart q (Cz p r) gate a b e = absurd (let h : false ≡ true = a in cc)
-not_apart q (Cx p r) gate a b e = absurd (let h : false ≡ true = a in cc)
-not_apart q (Not p) gate a b e = absurd (let h : false ≡ true = a in cc)
-not_apart q (Phase p j) (H r) a b e = absurd (let h : false ≡ true = b in cc)
-not_apart q (Phase p j) (Cz r r') a b e = absurd (let h : false ≡ true = b in cc)
-not_apart q (Phase p j) (Cx r r') a b e = absurd (let h : false ≡ true = b in cc)
-not_apart q (Phase p j) (Not r) a b e = absurd (let h : false ≡ true = b in cc)
-not_apart q (Phase p j) (Phase r k) a b e =
-    some_not_none (eqb p r) (r, sum_of_phases j k) (eq-eqb p r (eqb-true p q a ∙ sym (eqb-true r q b))) e
+next_is_some : (q : ℕ) (gates : List Gate) → next_is_phase q gates ≡ is_some (place_of_phase q gates)
+next_is_some q [] = refl
+next_is_some q (gate ∷ gates) =
+    some_cond (is_on q gate) (is_phase gate) (next_is_phase q gates) (length gates) (place_of_phase q gates) (next_is_some q gates)
 
-single-push : (q : ℕ) (merged : List Gate) (gate : Gate) → Apart merged gate
-    → IsAtMostOnePhase q merged → is_phase_on q gate ≡ true → IsAtMostOnePhase q (merged ++ gate ∷ [])
-single-push q [] gate apart one on = on
-single-push q (last ∷ []) gate apart one on = absurd (not_apart q last gate one on (apart.apart [] last refl))
-single-push q (a ∷ b ∷ merged) gate apart one on = one
+pub no_next : (q : ℕ) (gates : List Gate) → place_of_phase q gates ≡ None → next_is_phase q gates ≡ false
+no_next q gates none = next_is_some q gates ∙ ap is_some none
 
--- a gate is added that isn't turned together with the last one
-pub merges-push : (read merged : List Gate) (gate : Gate) → Apart merged gate
-    → MergesTo read merged → MergesTo (read ++ gate ∷ []) (merged ++ gate ∷ [])
-merges-push read merged gate apart m =
-    record {
-      map = λ f. acts-append read (gate ∷ []) f ∙ m.map (act gate f) ∙ sym (acts-append merged (gate ∷ []) f);
-      odd = omega (arith, m.odd, odd_count-append read (gate ∷ []), odd_count-append merged (gate ∷ []));
-      length = omega (arith, m.length, length-append read (gate ∷ []), length-append merged (gate ∷ []));
-      single = λ q h.
-          let both : (list_all (is_phase_on q) read && list_all (is_phase_on q) (gate ∷ [])) ≡ true = sym (list_all-append (is_phase_on q) read (gate ∷ [])) ∙ h in
-          single-push q merged gate apart (m.single q (and-left _ _ both)) (and-left _ _ (and-right _ _ both));
-    }
+-- another phase at a place changes no place
+pub place-turned : (r q j k : ℕ) (front back : List Gate) → place_of_phase r (front ++ Phase q j ∷ back) ≡ place_of_phase r (front ++ Phase q k ∷ back)
+place-turned r q j k [] back = refl
+place-turned r q j k (gate ∷ front) back =
+    ap (λ n. cond (is_on r gate) (cond (is_phase gate) (Some n) None) (place_of_phase r (front ++ Phase q j ∷ back)))
+    (length-append front (Phase q j ∷ back) ∙ sym (length-append front (Phase q k ∷ back)))
+    ∙ ap (cond (is_on r gate) (cond (is_phase gate) (Some (length (front ++ Phase q k ∷ back))) None)) (place-turned r q j k front back)
 
-single-together : (q p j s : ℕ) (front : List Gate) → IsAtMostOnePhase q (front ++ Phase p j ∷ []) → IsAtMostOnePhase q (front ++ phase_gates (p, s))
-single-together q p j s [] one = single-phase_gates q p s one
-single-together q p j s (a ∷ []) one = absurd one
-single-together q p j s (a ∷ b ∷ front) one = absurd one
+apart-turned : (gate : Gate) (xs ys : List Gate) → ((r : ℕ) → place_of_phase r xs ≡ place_of_phase r ys) → is_apart gate xs ≡ is_apart gate ys
+apart-turned (H p) xs ys e = refl
+apart-turned (Phase p k) xs ys e = ap not (next_is_some p xs ∙ ap is_some (e p) ∙ sym (next_is_some p ys))
+apart-turned (Cz p r) xs ys e = refl
+apart-turned (Cx c t) xs ys e = refl
+apart-turned (Not p) xs ys e = refl
 
--- a phase gate is turned together with the last one
-merges-together : (read front : List Gate) (p j k : ℕ)
-    → MergesTo read (front ++ Phase p j ∷ []) → MergesTo (read ++ Phase p k ∷ []) (front ++ phase_gates (p, sum_of_phases j k))
+settled-turned : (q j k : ℕ) (front back : List Gate) → is_settled (front ++ Phase q j ∷ back) ≡ is_settled (front ++ Phase q k ∷ back)
+settled-turned q j k [] back = refl
+settled-turned q j k (gate ∷ front) back =
+    ap (λ b. b && is_settled (front ++ Phase q j ∷ back)) (apart-turned gate _ _ (λ r. place-turned r q j k front back))
+    ∙ ap (λ b. is_apart gate (front ++ Phase q k ∷ back) && b) (settled-turned q j k front back)
+
+others-turned : (q j k : ℕ) (front back : List Gate) → others (front ++ Phase q j ∷ back) ≡ others (front ++ Phase q k ∷ back)
+others-turned q j k front back =
+    filter-append (λ gate. not (is_phase gate)) front (Phase q j ∷ back) ∙ sym (filter-append (λ gate. not (is_phase gate)) front (Phase q k ∷ back))
+
+-- a phase gate is added to the next one on its qubit
+pub merges-turned : (read front back : List Gate) (q j k : ℕ) → AreOff q front
+    → MergesTo read (front ++ Phase q j ∷ back) → MergesTo (Phase q k ∷ read) (front ++ Phase q (sum_of_phases k j) ∷ back)
 unfolding odd_value
-merges-together read front p j k m =
-    let gates : List Gate = phase_gates (p, sum_of_phases j k) in
+merges-turned read front back q j k off m =
+    let sum : ℕ = sum_of_phases k j in
     record {
-      map = λ f. acts-append read (Phase p k ∷ []) f ∙ m.map (act (Phase p k) f) ∙ acts-append front (Phase p j ∷ []) (act (Phase p k) f)
-          ∙ ap (acts front) (act-phase-phase p j k f ∙ sym (acts-phase_gates p (sum_of_phases j k) f)) ∙ sym (acts-append front gates f);
+      map = λ f. ap (act (Phase q k)) (m.map f ∙ acts-append front (Phase q j ∷ back) f)
+          ∙ acts-phase-past q k front (act (Phase q j) (acts back f)) off
+          ∙ ap (acts front) (act-phase-phase q k j (acts back f))
+          ∙ sym (acts-append front (Phase q sum ∷ back) f);
       odd = omega (
         arith,
         m.odd,
-        odd_count-append read (Phase p k ∷ []),
-        odd_count-append front (Phase p j ∷ []),
-        odd_count-append front gates,
-        odd_count-phase_gates p (sum_of_phases j k),
-        odd_value-sum j k,
+        odd_count-append (Phase q k ∷ []) read,
+        odd_count-append front (Phase q j ∷ back),
+        odd_count-append (Phase q j ∷ []) back,
+        odd_count-append front (Phase q sum ∷ back),
+        odd_count-append (Phase q sum ∷ []) back,
+        odd_value-sum k j,
       );
-      length = omega (arith, m.length, length-append read (Phase p k ∷ []), length-append front (Phase p j ∷ []), length-append front gates, length-phase_gates p (sum_of_phases j k));
-      single = λ q h.
-          let both : (list_all (is_phase_on q) read && list_all (is_phase_on q) (Phase p k ∷ [])) ≡ true = sym (list_all-append (is_phase_on q) read (Phase p k ∷ [])) ∙ h in
-          single-together q p j (sum_of_phases j k) front (m.single q (and-left _ _ both));
+      length = omega (arith, m.length, length-append front (Phase q j ∷ back), length-append front (Phase q sum ∷ back));
+      settled = settled-turned q sum j front back ∙ m.settled;
+      others = others-turned q sum j front back ∙ m.others;
     }
 
--- two phase gates on one qubit, and what they are together
-record ArePhases (last gate : Gate) (turned : ℕ × ℕ) : Type 0 where
-  p : ℕ
-  j : ℕ
-  k : ℕ
-  last_is : last ≡ Phase p j
-  gate_is : gate ≡ Phase p k
-  turned_is : turned ≡ (p, sum_of_phases j k)
+-- the next phase gate on a qubit, in its list
+pub record NextPhase (q : ℕ) (gates : List Gate) (place : ℕ) : Type 0 where
+  pub front : List Gate
+  pub back : List Gate
+  pub phase : ℕ
+  pub splits : gates ≡ front ++ Phase q phase ∷ back
+  pub off : AreOff q front
+  pub at : place ≡ length back
 
-chosen : (b : Bool) (x y : ℕ × ℕ) → cond b (Some x) None ≡ Some y → (b ≡ true) × (x ≡ y)
-chosen true x y h = (refl, cc)
-chosen false x y h = absurd cc
+phase_is : (q : ℕ) (gate : Gate) → is_on q gate ≡ true → is_phase gate ≡ true → (k : ℕ) × (gate ≡ Phase q k)
+phase_is q (H p) on turns = absurd (let h : false ≡ true = turns in cc)
+phase_is q (Phase p k) on turns = (k, ap (λ r. Phase r k) (eqb-true p q on))
+phase_is q (Cz p r) on turns = absurd (let h : false ≡ true = turns in cc)
+phase_is q (Cx c t) on turns = absurd (let h : false ≡ true = turns in cc)
+phase_is q (Not p) on turns = absurd (let h : false ≡ true = turns in cc)
 
-phases_from_together : (last gate : Gate) (turned : ℕ × ℕ) → phase_together last gate ≡ Some turned → ArePhases last gate turned
-phases_from_together (H p) gate turned e = absurd (let h : ◌≡◌ {A = Option (ℕ × ℕ)} None (Some turned) = e in cc)
-phases_from_together (Cz p r) gate turned e = absurd (let h : ◌≡◌ {A = Option (ℕ × ℕ)} None (Some turned) = e in cc)
-phases_from_together (Cx p r) gate turned e = absurd (let h : ◌≡◌ {A = Option (ℕ × ℕ)} None (Some turned) = e in cc)
-phases_from_together (Not p) gate turned e = absurd (let h : ◌≡◌ {A = Option (ℕ × ℕ)} None (Some turned) = e in cc)
-phases_from_together (Phase p j) (H q) turned e = absurd (let h : ◌≡◌ {A = Option (ℕ × ℕ)} None (Some turned) = e in cc)
-phases_from_together (Phase p j) (Cz q r) turned e = absurd (let h : ◌≡◌ {A = Option (ℕ × ℕ)} None (Some turned) = e in cc)
-phases_from_together (Phase p j) (Cx q r) turned e = absurd (let h : ◌≡◌ {A = Option (ℕ × ℕ)} None (Some turned) = e in cc)
-phases_from_together (Phase p j) (Not q) turned e = absurd (let h : ◌≡◌ {A = Option (ℕ × ℕ)} None (Some turned) = e in cc)
-phases_from_together (Phase p j) (Phase q k) turned e =
-    let w = chosen (eqb p q) (q, sum_of_phases j k) turned e in
-    record { p = q; j = j; k = k; last_is = ap (λ r. Phase r j) (eqb-true p q w.0); gate_is = refl; turned_is = sym w.1 }
+next_in : (q : ℕ) (gate : Gate) (gates : List Gate) (place : ℕ) (on turns : Bool) → is_on q gate ≡ on → is_phase gate ≡ turns
+    → cond on (cond turns (Some (length gates)) None) (place_of_phase q gates) ≡ Some place
+    → (place_of_phase q gates ≡ Some place → NextPhase q gates place) → NextPhase q (gate ∷ gates) place
+next_in q gate gates place true true on turns is later =
+    let w = phase_is q gate on turns in
+    record { front = []; back = gates; phase = w.0; splits = ap (λ g. g ∷ gates) w.1; off = tt; at = cc }
+next_in q gate gates place true false on turns is later = absurd (let h : ◌≡◌ {A = Option ℕ} None (Some place) = is in cc)
+next_in q gate gates place false b on turns is later =
+    let next = later is in
+    record { front = gate ∷ next.front; back = next.back; phase = next.phase; splits = ap (λ gs. gate ∷ gs) next.splits; off = (on, next.off); at = next.at }
 
--- the last element, by its place
-last_is_at : {A : Type 0} (xs front : List A) (last d : A) → xs ≡ front ++ last ∷ [] → get_or xs (length xs - 1) d ≡ last
-last_is_at xs front last d e =
-    let at : length xs - 1 ≡ length front = omega (arith, ap length e, length-append front (last ∷ [])) in
-    ap (λ i. get_or xs i d) at ∙ ap (λ ys. get_or ys (length front) d) e ∙ get_or-append_seam front last [] d
+pub next_phase : (q : ℕ) (gates : List Gate) (place : ℕ) → place_of_phase q gates ≡ Some place → NextPhase q gates place
+next_phase q [] place is = absurd (let h : ◌≡◌ {A = Option ℕ} None (Some place) = is in cc)
+next_phase q (gate ∷ gates) place is =
+    next_in q gate gates place (is_on q gate) (is_phase gate) refl refl is (next_phase q gates place)
 
-pub apart-nil : (merged : List Gate) (gate : Gate) → length merged ≡ 0 → Apart merged gate
-apart-nil merged gate h = record { apart = λ front last e. absurd (omega (arith, ap length e, length-append front (last ∷ []))) }
+-- the gates that aren't phase gates of phase 0
+abbrev kept : List Gate → List Gate
+kept gates = filter (λ gate. not (is_idle gate)) gates
 
-pub apart-last : (merged : List Gate) (last gate : Gate) → last ≡ get_or merged (length merged - 1) last → phase_together last gate ≡ None → Apart merged gate
-apart-last merged last gate at e =
-    record { apart = λ front last' is. ap (λ g. phase_together g gate) (sym (at ∙ last_is_at merged front last' last is)) ∙ e }
+kept_cases : (gate : Gate) (gates : List Gate) → (kept (gate ∷ gates) ≡ gate ∷ kept gates) ⊎ ((q : ℕ) × (gate ≡ Phase q 0) × (kept (gate ∷ gates) ≡ kept gates))
+kept_cases (H p) gates = inl refl
+kept_cases (Phase p k) gates = elim (eqb_tells k 0) [ inl w ↦ inr (p, ap (Phase p) w.1, rw w.0 refl) | inr w ↦ inl (rw w.0 refl) ]
+kept_cases (Cz p r) gates = inl refl
+kept_cases (Cx c t) gates = inl refl
+kept_cases (Not p) gates = inl refl
 
-pub merges-last : (read old new : List Gate) (last gate : Gate) (turned : ℕ × ℕ)
-    → 0 < length old → last ≡ get_or old (length old - 1) last → phase_together last gate ≡ Some turned
-    → new ≡ take (length old - 1) old ++ phase_gates turned → MergesTo read old → MergesTo (read ++ gate ∷ []) new
-merges-last read old new last gate turned some at e is m =
-    let w = phases_from_together last gate turned e in
-    let front : List Gate = take (length old - 1) old in
-    let split : old ≡ front ++ Phase w.p w.j ∷ [] =
-    split_last old (length old - 1) last (omega arith) ∙ ap (λ g. front ++ g ∷ []) (sym at ∙ w.last_is) in
-    let merged : MergesTo (read ++ Phase w.p w.k ∷ []) (front ++ phase_gates (w.p, sum_of_phases w.j w.k)) =
-    merges-together read front w.p w.j w.k (subst (MergesTo read) split m) in
-    let target : new ≡ front ++ phase_gates (w.p, sum_of_phases w.j w.k) = is ∙ ap (λ t. front ++ phase_gates t) w.turned_is in
-    subst (λ (gs : List Gate). MergesTo (read ++ gate ∷ []) gs) (sym target)
-    (subst (λ (g : Gate). MergesTo (read ++ g ∷ []) (front ++ phase_gates (w.p, sum_of_phases w.j w.k))) (sym w.gate_is) merged)
+acts-kept : (gates : List Gate) (f : List Bool → Number) → acts (kept gates) f ≡ acts gates f
+acts-kept [] f = refl
+acts-kept (gate ∷ gates) f =
+    elim (kept_cases gate gates) [
+      | inl e ↦ ap (λ gs. acts gs f) e ∙ ap (act gate) (acts-kept gates f)
+      | inr w ↦ ap (λ gs. acts gs f) w.2 ∙ acts-kept gates f ∙ sym (ap (λ g. act g (acts gates f)) w.1 ∙ act-phase-zero w.0 (acts gates f))
+    ]
 
-pub pushed : {A E : Type 0} (r : Result A E) (old new : List Gate) (gate : Gate) → Apart old gate → OnOk r (new ≡ old ++ gate ∷ [])
-    → OnOk r ((read : List Gate) → MergesTo read old → MergesTo (read ++ gate ∷ []) new)
-pushed (Ok x) old new gate apart h = λ read m. subst (λ (gs : List Gate). MergesTo (read ++ gate ∷ []) gs) (sym h) (merges-push read old gate apart m)
-pushed (Err e) old new gate apart h = tt
+cond_step : (on turns x y : Bool) → (x ≡ false → y ≡ false) → cond on turns x ≡ false → cond on turns y ≡ false
+cond_step true turns x y step h = h
+cond_step false turns x y step h = step h
 
--- the last place is written
-pub set_last : {A : Type 0} (xs : List A) (i : ℕ) (y : A) → i + 1 ≡ length xs → set xs i y ≡ take i xs ++ y ∷ []
-set_last xs i y h =
-    let within : i < length xs = omega arith in
-    split_last (set xs i y) i y (h ∙ sym (length-set xs i y))
-    ∙ ap (λ front. front ++ get_or (set xs i y) i y ∷ []) (take-set xs i y)
-    ∙ ap (λ z. take i xs ++ z ∷ []) (get_or-set_same xs i y y within)
+cond_later : (on x y : Bool) → (x ≡ false → y ≡ false) → cond on true x ≡ false → y ≡ false
+cond_later true x y step h = absurd (let e : true ≡ false = h in cc)
+cond_later false x y step h = step h
 
-pub phase_gates-turned : (p s : ℕ) → s ≢ 0 → phase_gates (p, s) ≡ Phase p s ∷ []
-phase_gates-turned p s h = elim (gates_cases p s) [ inl w ↦ absurd (h w.1) | inr w ↦ w ]
+next-kept : (q : ℕ) (gates : List Gate) → next_is_phase q gates ≡ false → next_is_phase q (kept gates) ≡ false
+next-kept q [] none = refl
+next-kept q (gate ∷ gates) none =
+    elim (kept_cases gate gates) [
+      | inl e ↦ ap (next_is_phase q) e ∙ cond_step (is_on q gate) (is_phase gate) (next_is_phase q gates) (next_is_phase q (kept gates)) (next-kept q gates) none
+      | inr w ↦ ap (next_is_phase q) w.2
+          ∙ cond_later (eqb w.0 q) (next_is_phase q gates) (next_is_phase q (kept gates)) (next-kept q gates) (ap (λ g. next_is_phase q (g ∷ gates)) (sym w.1) ∙ none)
+    ]
 
--- a step of the loop over the gates
-pub merges-more : (gates old new : List Gate) (i : ℕ) (gate : Gate) → i < length gates → gate ≡ get_or gates i gate
-    → ((read : List Gate) → MergesTo read old → MergesTo (read ++ gate ∷ []) new) → MergesTo (take i gates) old → MergesTo (take (i + 1) gates) new
-merges-more gates old new i gate within at step m =
-    let front : take (i + 1) gates ≡ take i gates ++ gate ∷ [] = take_more gates i gate within ∙ ap (λ g. take i gates ++ g ∷ []) (sym at) in
-    subst (λ (gs : List Gate). MergesTo gs new) (sym front) (step (take i gates) m)
+apart-kept : (gate : Gate) (gates : List Gate) → is_apart gate gates ≡ true → is_apart gate (kept gates) ≡ true
+apart-kept (H p) gates h = refl
+apart-kept (Phase p k) gates h = not_from_false _ (next-kept p gates (not-true _ h))
+apart-kept (Cz p r) gates h = refl
+apart-kept (Cx c t) gates h = refl
+apart-kept (Not p) gates h = refl
 
-pub replaced : (old new : List Gate) (i p s : ℕ) → new ≡ set old i (Phase p s) → i + 1 ≡ length old → s ≢ 0
-    → new ≡ take (length old - 1) old ++ phase_gates (p, s)
-replaced old new i p s is last turned =
-    is ∙ set_last old i (Phase p s) last
-    ∙ ap (λ k. take k old ++ Phase p s ∷ []) (let e : i ≡ length old - 1 = omega arith in e)
-    ∙ ap (λ gs. take (length old - 1) old ++ gs) (sym (phase_gates-turned p s turned))
+settled-kept : (gates : List Gate) → is_settled gates ≡ true → is_settled (kept gates) ≡ true
+settled-kept [] h = refl
+settled-kept (gate ∷ gates) h =
+    let both = and_parts (is_apart gate gates) (is_settled gates) h in
+    elim (kept_cases gate gates) [
+      | inl e ↦ ap is_settled e ∙ and_from _ _ (apart-kept gate gates both.0) (settled-kept gates both.1)
+      | inr w ↦ ap is_settled w.2 ∙ settled-kept gates both.1
+    ]
+
+others-kept : (gates : List Gate) → others (kept gates) ≡ others gates
+others-kept [] = refl
+others-kept (gate ∷ gates) =
+    elim (kept_cases gate gates) [
+      | inl e ↦ ap others e ∙ ap (λ gs. cond (not (is_phase gate)) (gate ∷ gs) gs) (others-kept gates)
+      | inr w ↦ ap others w.2 ∙ others-kept gates ∙ ap (λ g. others (g ∷ gates)) (sym w.1)
+    ]
+
+-- phase gates of phase 0 are left out
+pub merges-kept : (read merged : List Gate) → MergesTo read merged → MergesTo read (filter (λ gate. not (is_idle gate)) merged)
+merges-kept read merged m = record {
+  map = λ f. m.map f ∙ sym (acts-kept merged f);
+  odd = omega (arith, m.odd, sum_by-filter_both (λ gate. not (is_idle gate)) (λ gate. not (not (is_idle gate))) (λ gate. refl) (λ g. cond (is_odd_phase g) 1 0) merged);
+  length = omega (arith, m.length, length-filter_both (λ gate. not (is_idle gate)) (λ gate. not (not (is_idle gate))) (λ gate. refl) merged);
+  settled = settled-kept merged m.settled;
+  others = others-kept merged ∙ m.others;
+}

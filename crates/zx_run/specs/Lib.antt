@@ -1,5 +1,6 @@
 pub mod Command
 pub mod Merging
+pub mod MergeSteps
 pub mod Reading
 pub mod Optimising
 pub mod Outcome

@@ -1,45 +1,44 @@
--- Neighbouring phase gates on one qubit become one.
-use Rattle.std.specs.Prelude.{◌≡◌, ◌≤◌, ◌==◌, ℕ, Bool, false, IsTrue, List, [], ◌∷◌, length, Option, None, Some, if◌then◌else◌}
-use Rattle.std.specs.List.{list_all}
-use Rattle.zx_model.specs.Phase.{sum_of_phases}
+-- Phase gates on one qubit with only gates of other qubits between them become one.
+use Rattle.std.specs.Prelude.{◌≡◌, ◌≤◌, ◌==◌, ◌&&◌, ◌||◌, not, ℕ, Bool, true, false, IsTrue, List, [], ◌∷◌, length, if◌then◌else◌}
+use Rattle.std.specs.List.{filter}
 use Rattle.zx_model.specs.Number.{Number}
 use Rattle.zx_gates.specs.declared.gate.Gate.{Gate}
 use Rattle.zx_gates.specs.declared.gate.Gate.TheVariants.{H, Phase, Cz, Cx, Not}
 use Rattle.zx_gates.specs.Circuit.{odd_count}
+use Rattle.zx_gates.specs.Counting.{is_phase}
 use Rattle.zx_gates.specs.Maps.{acts}
 
--- the qubit and the phase of two gates together, where both are phase gates on one qubit
-abbrev pub phase_together : Gate → Gate → Option (ℕ × ℕ)
-phase_together (H p) gate = None
-phase_together (Cz p r) gate = None
-phase_together (Cx control target) gate = None
-phase_together (Not p) gate = None
-phase_together (Phase p j) (H q) = None
-phase_together (Phase p j) (Cz q r) = None
-phase_together (Phase p j) (Cx control target) = None
-phase_together (Phase p j) (Not q) = None
-phase_together (Phase p j) (Phase q k) = if p == q then Some (q, sum_of_phases j k) else None
+-- whether a gate is on the qubit
+abbrev pub is_on : ℕ → Gate → Bool
+is_on q (H p) = (p == q)
+is_on q (Phase p k) = (p == q)
+is_on q (Cz p r) = ((p == q) || (r == q))
+is_on q (Cx control target) = ((control == q) || (target == q))
+is_on q (Not p) = (p == q)
 
-abbrev pub is_phase_on : ℕ → Gate → Bool
-is_phase_on q (H p) = false
-is_phase_on q (Phase p k) = (p == q)
-is_phase_on q (Cz p r) = false
-is_phase_on q (Cx control target) = false
-is_phase_on q (Not p) = false
+-- whether the next gate on the qubit is a phase gate
+abbrev pub next_is_phase : ℕ → List Gate → Bool
+next_is_phase q [] = false
+next_is_phase q (gate ∷ gates) = if is_on q gate then is_phase gate else next_is_phase q gates
 
--- the phase gate as a list, empty where the phase is 0
-abbrev pub phase_gates : ℕ × ℕ → List Gate
-phase_gates turned = if turned.1 == 0 then [] else Phase turned.0 turned.1 ∷ []
+-- whether a gate, with these behind it, is no phase gate that a phase gate follows on its qubit
+abbrev pub is_apart : Gate → List Gate → Bool
+is_apart (Phase q k) gates = not (next_is_phase q gates)
+is_apart other gates = true
 
--- no gate, or one phase gate on the qubit
-abbrev pub IsAtMostOnePhase : ℕ → List Gate → Type 0
-IsAtMostOnePhase q [] = Unit {0}
-IsAtMostOnePhase q (gate ∷ []) = IsTrue (is_phase_on q gate)
-IsAtMostOnePhase q (gate ∷ next ∷ gates) = ⊥
+-- whether no two phase gates on one qubit have only gates of other qubits between them
+abbrev pub is_settled : List Gate → Bool
+is_settled [] = true
+is_settled (gate ∷ gates) = is_apart gate gates && is_settled gates
 
--- the linear map stays, nothing grows, and phases on one qubit alone become one at most
+-- the gates that are no phase gates
+abbrev pub others : List Gate → List Gate
+others gates = filter (λ gate. not (is_phase gate)) gates
+
+-- the linear map stays, nothing grows, no two phase gates are left to merge, and all other gates stay in their order
 pub record MergesTo (read merged : List Gate) : Type 0 where
   pub map : (f : List Bool → Number) → acts read f ≡ acts merged f
   pub odd : odd_count merged ≤ odd_count read
   pub length : length merged ≤ length read
-  pub single : (q : ℕ) → IsTrue (list_all (is_phase_on q) read) → IsAtMostOnePhase q merged
+  pub settled : IsTrue (is_settled merged)
+  pub others : others merged ≡ others read

@@ -1,71 +1,141 @@
-//! Merging of neighbouring phase gates.
+//! Merging of phase gates on one qubit that have only gates of other qubits between them.
 
-ghost use Rattle.std.specs.Prelude.{◌≡◌, ◌<◌, ◌-◌, ◌++◌, ◌∷◌, [], List, take, length, IfOk, OnOk};
+ghost use Rattle.std.specs.Prelude.{◌≡◌, ◌<◌, ◌≤◌, ◌∷◌, [], not, ℕ, List, None, length, reverse, get_or, if◌then◌else◌, IfOk, OnOk};
+ghost use Rattle.std.specs.List.{All, filter};
 ghost use Rattle.zx_gates.specs.declared.gate.Gate.{Gate};
-ghost use Rattle.zx_gates.specs.Circuit.{IsGateOn};
-ghost use Rattle.zx_run.specs.Merging.{MergesTo, phase_together, phase_gates};
+ghost use Rattle.zx_gates.specs.Circuit.{IsGateOn, most_qubits};
+ghost use Rattle.zx_run.specs.Merging.{MergesTo, is_on};
+ghost use Rattle.zx_run.specs.MergeSteps.{is_idle, turned, ArePlaces, IsKeptOn, IsMerging};
 
 use std::alloc::{AllocError, Global};
 use zx_gates::{Gate, GateList, Qubit};
 use zx_model::Eighth;
 
-/// The circuit with neighbouring phase gates on one qubit merged, until none are left.
+/// The circuit with phase gates on one qubit merged wherever only gates of other qubits stand between them. The
+/// merged gate stands at the later one's place, and is left out where the phases add up to 0.
 pub fn merge_phases(alloc: Global, read: &GateList) -> Result<GateList, AllocError>
     ensures qubits { IfOk result (λ merged. merged.qubits ≡ read.now.qubits) }
     ensures merged { IfOk result (λ merged. MergesTo read.now.gates merged.gates) }
 {
-    let mut merged = GateList::new(alloc, read.qubits());
-    for gate in read.gates() {
-        push_merged(&mut merged, *gate)?;
+    let gates = read.gates();
+    let mut merger = Merger::new(alloc, read.qubits())?;
+    for i in (0..gates.len()).rev() {
+        merger.prepend(gates[i])?;
     }
-    Ok(merged)
+    forwards(alloc, read.qubits(), merger.backwards)
 }
 
-/// Adds a gate at the end, or its phase to that of the last gate.
-fn push_merged(list: &mut GateList, gate: Gate) -> Result<(), AllocError>
-    requires { IsGateOn list.old.qubits gate }
-    ensures qubits { OnOk result (list.new.qubits ≡ list.old.qubits) }
-    ensures merged { OnOk result ((read : List Gate) → MergesTo read list.old.gates → MergesTo (read ++ gate ∷ []) list.new.gates) }
-{
-    let count = list.gates().len();
-    if count == 0 {
-        return list.push(gate);
+/// Gates that are merged from the last to the first.
+#[derive(Drop)]
+struct Merger {
+    /// The merged gates, the first to act last. A phase may be 0.
+    backwards: Vec<Gate>,
+    /// Of each qubit the place there of the gate on it that acts first, where that is a phase gate.
+    places: Vec<Option<usize>>,
+}
+
+impl Merger {
+    /// No gates, on that many qubits.
+    fn new(alloc: Global, qubits: Qubit) -> Result<Merger, AllocError>
+        ensures qubits { IfOk result (λ merger. length merger.places.items ≡ qubits) }
+        ensures merging { IfOk result (λ merger. IsMerging [] merger) }
+    {
+        let places = vec![in alloc; None; usize::from(qubits)]?;
+        Ok(Merger {
+            backwards: Vec::new(alloc),
+            places,
+        })
     }
-    let last = list.gates()[count - 1];
-    match together(&last, &gate) {
-        None => list.push(gate),
-        Some(turned) => {
-            let (qubit, phase) = turned;
-            replace_last(list, qubit, phase);
-            Ok(())
+
+    /// Adds a gate before the others.
+    fn prepend(&mut self, gate: Gate) -> Result<(), AllocError>
+        requires on_qubits { IsGateOn (length self.old.places.items) gate }
+        requires places { ArePlaces self.old.places.items (reverse self.old.backwards.items) }
+        ensures qubits { OnOk result (length self.new.places.items ≡ length self.old.places.items) }
+        ensures merging { OnOk result ((read : List Gate) → IsMerging read self.old → IsMerging (gate ∷ read) self.new) }
+    {
+        if let Gate::Phase(qubit, phase) = gate {
+            return self.prepend_phase(qubit, phase);
+        }
+        self.backwards.push(gate)?;
+        forget(&mut self.places, &gate);
+        Ok(())
+    }
+
+    /// Adds a phase gate before the others, or its phase to the next gate on its qubit.
+    fn prepend_phase(&mut self, qubit: Qubit, phase: Eighth) -> Result<(), AllocError>
+        requires on_qubits { IsGateOn (length self.old.places.items) (Gate.Phase qubit phase) }
+        requires places { ArePlaces self.old.places.items (reverse self.old.backwards.items) }
+        ensures qubits { OnOk result (length self.new.places.items ≡ length self.old.places.items) }
+        ensures merging { OnOk result ((read : List Gate) → IsMerging read self.old → IsMerging (Gate.Phase qubit phase ∷ read) self.new) }
+    {
+        match self.places[usize::from(qubit)] {
+            Some(place) => {
+                self.backwards[place] = with_phase(&self.backwards[place], phase);
+            }
+            None => {
+                let place = self.backwards.len();
+                self.backwards.push(Gate::Phase(qubit, phase))?;
+                self.places[usize::from(qubit)] = Some(place);
+            }
+        }
+        Ok(())
+    }
+}
+
+/// A phase gate with a phase added.
+fn with_phase(gate: &Gate, phase: Eighth) -> Gate
+    ensures { result ≡ turned phase gate.now }
+{
+    match *gate {
+        Gate::Phase(qubit, other) => Gate::Phase(qubit, phase.add(other)),
+        other => other,
+    }
+}
+
+/// Clears the places of a gate's qubits.
+fn forget(places: &mut [Option<usize>], gate: &Gate)
+    requires { IsGateOn (length places.old) gate.now }
+    ensures { (q : ℕ) → get_or places.new q None ≡ (if is_on q gate.now then None else get_or places.old q None) }
+{
+    match *gate {
+        Gate::H(qubit) | Gate::Phase(qubit, _) | Gate::Not(qubit) => {
+            places[usize::from(qubit)] = None;
+        }
+        Gate::Cz(p, q)
+        | Gate::Cx {
+            control: p,
+            target: q,
+        } => {
+            places[usize::from(p)] = None;
+            places[usize::from(q)] = None;
         }
     }
 }
 
-/// The qubit and the phase of two gates together, where both are phase gates on one qubit.
-fn together(first: &Gate, second: &Gate) -> Option<(Qubit, Eighth)>
-    ensures { result ≡ phase_together first.now second.now }
+/// Whether a gate is a phase gate of phase 0.
+fn is_without_effect(gate: &Gate) -> bool
+    ensures { result ≡ is_idle gate.now }
 {
-    let Gate::Phase(p, j) = *first else {
-        return None;
-    };
-    let Gate::Phase(q, k) = *second else {
-        return None;
-    };
-    if p == q { Some((q, j.add(k))) } else { None }
+    match *gate {
+        Gate::Phase(_, phase) => phase.get() == 0,
+        _ => false,
+    }
 }
 
-/// Puts a phase gate in the place of the last gate, or nothing where the phase is 0.
-fn replace_last(list: &mut GateList, qubit: Qubit, phase: Eighth)
-    requires some { 0 < length list.old.gates }
-    requires on_qubit { qubit < list.old.qubits }
-    ensures qubits { list.new.qubits ≡ list.old.qubits }
-    ensures gates { list.new.gates ≡ take (length list.old.gates - 1) list.old.gates ++ phase_gates (qubit, phase) }
+/// The circuit of gates that are given backwards, without phase gates of phase 0.
+fn forwards(alloc: Global, qubits: Qubit, backwards: Vec<Gate>) -> Result<GateList, AllocError>
+    requires few_qubits { qubits ≤ most_qubits }
+    requires on_qubits { All (IsKeptOn qubits) backwards.items }
+    ensures qubits { IfOk result (λ list. list.qubits ≡ qubits) }
+    ensures gates { IfOk result (λ list. list.gates ≡ filter (λ gate. not (is_idle gate)) (reverse backwards.items)) }
 {
-    let last = list.gates().len() - 1;
-    if phase.get() == 0 {
-        list.remove(last);
-    } else {
-        list.set(last, Gate::Phase(qubit, phase));
+    let mut list = GateList::new(alloc, qubits);
+    let mut left = backwards;
+    while let Some(gate) = left.pop() {
+        if !is_without_effect(&gate) {
+            list.push(gate)?;
+        }
     }
+    Ok(list)
 }

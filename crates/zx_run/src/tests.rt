@@ -1,10 +1,13 @@
 //! What no clause says: that runs succeed with ample memory, and the bytes of worked examples.
 ghost use Rattle.std.specs.Prelude.{◌≤◌};
 
+use crate::merge::merge_phases;
 use crate::{Fault, Status, run};
 use std::alloc::Global;
 use std::test::Fail;
+use zx_gates::{Gate, GateList};
 use zx_io::{MemSink, MemSource, NeverFailSink, NeverFailSource};
+use zx_model::Eighth;
 
 const USAGE: &[u8] =
     b"usage: zxopt opt [--best] [--report] | reduce | flow | graph | gen SEED QUBITS GATES\n";
@@ -53,6 +56,37 @@ fn phases_on_one_qubit_become_one(rt: HostRuntime) -> Result<(), Fail> {
         assert_eq!(rt; out.bytes(), with_head(alloc, written)?.as_slice());
         assert_eq!(rt; err.bytes(), b"".as_slice());
     }
+    Ok(())
+}
+
+#[test]
+fn phases_merge_past_gates_of_other_qubits(rt: HostRuntime) -> Result<(), Fail> {
+    let mut read = GateList::new(rt.alloc(), 2);
+    read.push(Gate::Phase(0, Eighth::new(2)))?;
+    read.push(Gate::Phase(1, Eighth::new(1)))?;
+    read.push(Gate::Phase(1, Eighth::new(7)))?;
+    read.push(Gate::Phase(0, Eighth::new(2)))?;
+    let merged = merge_phases(rt.alloc(), &read)?;
+    assert_eq!(rt; merged.gates(), [Gate::Phase(0, Eighth::new(4))].as_slice());
+    Ok(())
+}
+
+#[test]
+fn a_merged_phase_stands_at_the_later_place(rt: HostRuntime) -> Result<(), Fail> {
+    let mut read = GateList::new(rt.alloc(), 2);
+    read.push(Gate::Phase(0, Eighth::new(1)))?;
+    read.push(Gate::H(1))?;
+    read.push(Gate::Phase(0, Eighth::new(1)))?;
+    read.push(Gate::Cz(0, 1))?;
+    read.push(Gate::Phase(0, Eighth::new(1)))?;
+    let merged = merge_phases(rt.alloc(), &read)?;
+    let expected = [
+        Gate::H(1),
+        Gate::Phase(0, Eighth::new(2)),
+        Gate::Cz(0, 1),
+        Gate::Phase(0, Eighth::new(1)),
+    ];
+    assert_eq!(rt; merged.gates(), expected.as_slice());
     Ok(())
 }
 

@@ -1,10 +1,10 @@
--- The gates so far are merged.
-use Rattle.std.proofs.Common.{◌≡◌, take}
-use Rattle.zx_run.specs.Merging.{MergesTo}
+-- The gates from the place on are merged.
+use Rattle.std.proofs.Common.{◌≡◌, length, drop}
+use Rattle.zx_run.specs.MergeSteps.{IsMerging}
 use Rattle.zx_run.proofs.merge.merge_phases.Given as goal
 
-abbrev pub invariant-loop-gate : goal.invariant-loop-gate
-invariant-loop-gate l = record {
-  qubits : l.merged.qubits ≡ l.read.qubits;
-  gates : MergesTo (take l.gate-index l.read.gates) l.merged.gates;
+abbrev pub invariant-loop-i : goal.invariant-loop-i
+invariant-loop-i l = record {
+  qubits : length l.merger.places.items ≡ l.read.qubits;
+  merging : IsMerging (drop l.i l.gates) l.merger;
 }
