@@ -1,0 +1,15 @@
+pub mod Unrolling
+pub mod Evaluation
+pub mod Keeping
+pub mod Symbols
+pub mod Numbers
+pub mod Formulas
+pub mod PlaceLemmas
+pub mod CheckLemmas
+pub mod NumeralLemmas
+pub mod SpanLemmas
+pub mod EventLemmas
+pub mod HeaderLemmas
+pub mod SizeLemmas
+pub mod HeaderText
+pub mod HeaderScope

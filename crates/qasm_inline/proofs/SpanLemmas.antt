@@ -1,0 +1,85 @@
+-- Arguments by what names are kept as stand for what they stand for in the scope.
+use Rattle.std.proofs.Common.{◌≡◌, ℕ, ◌+◌, ◌-◌, ◌^◌, ◌<◌, ◌≤◌, min, Bool, true, false, not, if◌then◌else◌, List, [], ◌∷◌, Option, None, Some, refl, sym, ap, ◌∙◌, arith}
+use Rattle.std.specs.List.{list_any}
+use Rattle.std.specs.Option.{is_some}
+use Rattle.std.specs.Str.{bytes_eq}
+use Rattle.std.proofs.lemmas.Bool.Decides.{nat_tests}
+use Rattle.zx_gates.specs.Circuit.{most_qubits}
+use Rattle.qasm_reader.specs.Syntax.{Operand, Barrier}
+use Rattle.qasm_inline.specs.Applications.{Single, target_in, target_of}
+use Rattle.qasm_inline.specs.Checks.{Symbols, barrier_cause}
+use Rattle.qasm_inline.specs.Faults.{is_no_register, is_past, has_no_register, wrong_in}
+use Rattle.qasm_inline.specs.Kept.{register_in, symbol_register, IsSound, IsSoundMeaning}
+use Rattle.qasm_inline.specs.Scope.{Scope, Meaning, Qubits, Bits, Gate, meaning_of, numeral}
+use Rattle.qasm_inline.specs.Spans.{register_by, no_register_by, past_in, past_by, span_in, span_by}
+use Rattle.qasm_inline.proofs.CheckLemmas.{AreNames, list_any-same}
+use Rattle.qasm_inline.proofs.Symbols.{symbol-register}
+
+pub register-names : (symbols : Symbols) (scope : Scope) (o : Operand) → AreNames symbols scope → register_by symbols o ≡ register_in (meaning_of o.register scope)
+register-names symbols scope o h = ap symbol_register (h o.register) ∙ symbol-register o.register scope
+
+no_register-at : (m : Option Meaning) → not (is_some (register_in m)) ≡ is_no_register m
+no_register-at None = refl
+no_register-at (Some (Qubits first size)) = refl
+no_register-at (Some Bits) = refl
+no_register-at (Some (Gate form)) = refl
+
+pub no_register-names : (symbols : Symbols) (scope : Scope) (o : Operand) → AreNames symbols scope → no_register_by symbols o ≡ is_no_register (meaning_of o.register scope)
+no_register-names symbols scope o h = ap (λ r. not (is_some r)) (register-names symbols scope o h) ∙ no_register-at (meaning_of o.register scope)
+
+past-at : (m : Option Meaning) (index : Option (List ℕ)) → past_in (register_in m) index ≡ is_past m index
+past-at None index = refl
+past-at (Some (Qubits first size)) None = refl
+past-at (Some (Qubits first size)) (Some text) = refl
+past-at (Some Bits) index = refl
+past-at (Some (Gate form)) index = refl
+
+pub past-names : (symbols : Symbols) (scope : Scope) (o : Operand) → AreNames symbols scope → past_by symbols o ≡ is_past (meaning_of o.register scope) o.index
+past-names symbols scope o h = ap (λ r. past_in r o.index) (register-names symbols scope o h) ∙ past-at (meaning_of o.register scope) o.index
+
+-- a register of the scope has few qubits
+abbrev IsFew : Option Meaning → Type 0
+IsFew None = Unit {0}
+IsFew (Some (Qubits first size)) = first + size ≤ most_qubits
+IsFew (Some Bits) = Unit {0}
+IsFew (Some (Gate form)) = Unit {0}
+
+few-at : (b replaceable : Bool) (m : Meaning) (scope : Scope) (rest : Option Meaning) → IsSoundMeaning scope m replaceable → IsFew rest → IsFew (if b then Some m else rest)
+few-at true replaceable (Qubits first size) scope rest sound h = let few = sound.0.few in let place = sound.0.behind_others in omega arith
+few-at true replaceable Bits scope rest sound h = tt
+few-at true replaceable (Gate form) scope rest sound h = tt
+few-at false replaceable m scope rest sound h = h
+
+pub few-register : (name : List ℕ) (scope : Scope) → IsSound scope → IsFew (meaning_of name scope)
+few-register name [] sound = tt
+few-register name (d ∷ scope) sound = few-at (bytes_eq d.name name) d.replaceable d.meaning scope (meaning_of name scope) sound.0 (few-register name scope sound.2)
+
+span-none : (index : Option (List ℕ)) → span_in None index ≡ Single 0
+span-none None = refl
+span-none (Some text) = refl
+
+span-at : (m : Option Meaning) (index : Option (List ℕ)) → IsFew m → is_past m index ≡ false → span_in (register_in m) index ≡ target_in m index
+span-at None index few h = span-none index
+span-at (Some (Qubits first size)) None few h = refl
+span-at (Some (Qubits first size)) (Some text) few h =
+    let within : numeral text < size = grind (arith, nat_tests) in
+    let same : min (first + min (numeral text) (2 ^ 64 - 1)) (2 ^ 64 - 1) ≡ first + numeral text = omega arith in
+    ap Single same
+span-at (Some Bits) index few h = span-none index
+span-at (Some (Gate form)) index few h = span-none index
+
+-- an argument stands for its qubits
+pub span-names : (symbols : Symbols) (scope : Scope) (o : Operand) → AreNames symbols scope → IsSound scope → past_by symbols o ≡ false → span_by symbols o ≡ target_of scope o
+span-names symbols scope o h sound within =
+    ap (λ r. span_in r o.index) (register-names symbols scope o h)
+    ∙ span-at (meaning_of o.register scope) o.index (few-register o.register scope sound) (sym (past-names symbols scope o h) ∙ within)
+
+-- the causes of a barrier
+pub wrong_in-barrier : (symbols : Symbols) (scope : Scope) (operands : List Operand) → AreNames symbols scope
+    → barrier_cause (list_any (no_register_by symbols) operands) (list_any (past_by symbols) operands) ≡ wrong_in scope (Barrier operands)
+unfolding wrong_in
+wrong_in-barrier symbols scope operands h =
+    ap (λ b. barrier_cause b (list_any (past_by symbols) operands))
+    (list_any-same (no_register_by symbols) (λ o. is_no_register (meaning_of o.register scope)) operands (λ o. no_register-names symbols scope o h))
+    ∙ ap (λ b. barrier_cause (has_no_register scope operands) b)
+    (list_any-same (past_by symbols) (λ o. is_past (meaning_of o.register scope) o.index) operands (λ o. past-names symbols scope o h))

@@ -1,0 +1,60 @@
+-- What names stand for: the declarations that stand before a place in a text.
+-- Cross, Bishop, Smolin and Gambetta, "Open quantum assembly language" (arXiv 1707.03429), on registers, gates and includes.
+use Rattle.std.specs.Prelude.{ℕ, ◌+◌, ◌-◌, ◌*◌, Bool, false, ◌&&◌, not, if◌then◌else◌, List, [], ◌∷◌, Option, None, Some}
+use Rattle.std.specs.Str.{bytes_eq}
+use Rattle.std.specs.List.{list_any}
+use Rattle.qasm_reader.specs.Syntax.{GateForm}
+
+-- what a name stands for
+pub data Meaning : Type 0 where
+  -- a register of qubits: the number of its first qubit, and its size
+  Qubits : ℕ → ℕ → Meaning
+  -- a register of bits
+  Bits : Meaning
+  -- a gate
+  Gate : GateForm → Meaning
+
+pub record Declaration : Type 0 where
+  pub name : List ℕ
+  pub meaning : Meaning
+  -- whether a text may declare the name again: so are some names of the header
+  pub replaceable : Bool
+
+-- the declarations that stand before, the last one first
+abbrev pub Scope : Type 0
+Scope = List Declaration
+
+-- what a name stands for; of several declarations of it the last one counts
+abbrev pub meaning_of : List ℕ → Scope → Option Meaning
+meaning_of name [] = None
+meaning_of name (declaration ∷ scope) = if bytes_eq declaration.name name then Some declaration.meaning else meaning_of name scope
+
+-- the name is declared, whether or not it may be declared again
+abbrev pub is_declared : List ℕ → Scope → Bool
+is_declared name scope = list_any (λ declaration. bytes_eq declaration.name name) scope
+
+-- the name may not be declared again
+abbrev pub is_taken : List ℕ → Scope → Bool
+is_taken name scope = list_any (λ declaration. bytes_eq declaration.name name && not declaration.replaceable) scope
+
+-- the value of a numeral
+abbrev pub numeral_from : ℕ → List ℕ → ℕ
+numeral_from n [] = n
+numeral_from n (digit ∷ digits) = numeral_from (10 * n + (digit - 48)) digits
+
+unfoldable pub numeral : List ℕ → ℕ
+numeral digits = numeral_from 0 digits
+
+-- how many qubits are declared
+abbrev pub size_of : Meaning → ℕ
+size_of (Qubits first size) = size
+size_of Bits = 0
+size_of (Gate form) = 0
+
+abbrev pub qubit_count : Scope → ℕ
+qubit_count [] = 0
+qubit_count (declaration ∷ scope) = size_of declaration.meaning + qubit_count scope
+
+-- a declaration that can't be repeated
+abbrev pub declared : List ℕ → Meaning → Declaration
+declared name meaning = record { name = name; meaning = meaning; replaceable = false }

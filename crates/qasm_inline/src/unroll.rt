@@ -1,0 +1,258 @@
+//! Unrolling of calls, depth first, with a stack of its own.
+
+ghost use Rattle.std.specs.Prelude.{◌≡◌, ◌+◌, ◌-◌, ◌*◌, ◌<◌, ◌≤◌, ◌++◌, ◌∷◌, List, ℕ, length, Ok, Err, Some, None, IfOk, IfErr, OnOk, [], slice_get};
+ghost use Rattle.zx_gates.specs.declared.elementary.ElementaryGate.{ElementaryGate};
+ghost use Rattle.qasm_inline.specs.declared.error.Cause.{Cause};
+ghost use Rattle.qasm_inline.specs.Calls.{Event, Called, Undefined, applied, call_count, first_wrong, u_events, cx_events, after_angles};
+ghost use Rattle.qasm_inline.specs.KeptCalls.{Numbered, Unrolls, Continues, calls_events, stack_events, expand_target, target_call, gate_events, given, calls_of};
+ghost use Rattle.qasm_inline.specs.Meaning.{most_calls};
+
+use crate::error::Cause;
+use crate::gates::{GateBody, GateCall, Target};
+use crate::stopped::Stopped;
+use crate::values::{copied, eighth_of, evaluated, picked};
+use qasm_angle::Angle;
+use std::alloc::Global;
+use zx_gates::{ElementaryGate, Elements, Qubit};
+
+/// The most calls of a program.
+const MOST_CALLS: usize = 1_000_000;
+
+/// The deepest that calls may be nested.
+const DEEPEST: usize = 256;
+
+/// A gate that is being unrolled.
+#[derive(Drop)]
+struct Frame<'a> {
+    /// The calls in its body that are left.
+    calls: &'a [GateCall],
+    /// The values of its parameters.
+    angles: Vec<Angle>,
+    /// Its qubits.
+    qubits: Vec<Qubit>,
+}
+
+/// The built-in gates that act so far, and how many calls were made.
+#[derive(Drop)]
+pub struct Unrolled {
+    alloc: Global,
+    /// The built-in gates.
+    pub gates: Elements,
+    /// How many calls.
+    pub calls: usize,
+}
+
+impl Unrolled {
+    /// Nothing so far.
+    pub fn new(alloc: Global) -> Unrolled
+        ensures gates { result.gates ≡ [] }
+        ensures calls { result.calls ≡ 0 }
+    {
+        Unrolled {
+            alloc,
+            gates: Elements::new(alloc),
+            calls: 0,
+        }
+    }
+
+    /// An instance of an application: a call with these values, and all that it comes to.
+    pub fn instance(
+        &mut self,
+        gates: &[GateBody],
+        target: Target,
+        values: &Result<Vec<Angle>, Cause>,
+        qubits: &[Qubit],
+    ) -> Result<(), Stopped>
+        ensures ok { OnOk result ((numbered : Numbered) → Unrolls gates.now numbered
+            → Continues most_calls self.old.calls self.old.gates (target_call numbered target 1 (given values.now) qubits.now) self.new.calls self.new.gates []) }
+        ensures err { (cause : Cause) (numbered : Numbered) → result ≡ Err (Stopped.Wrong cause) → Unrolls gates.now numbered
+            → first_wrong most_calls self.old.calls (target_call numbered target 1 (given values.now) qubits.now) ≡ Some cause }
+    {
+        self.count(1)?;
+        match values {
+            Ok(values) => {
+                let values = copied(self.alloc, values)?;
+                let qubits = copied(self.alloc, qubits)?;
+                self.all(gates, target, values, qubits)
+            }
+            Err(cause) => Err(Stopped::Wrong(*cause)),
+        }
+    }
+
+    /// All that a gate comes to.
+    fn all(
+        &mut self,
+        gates: &[GateBody],
+        target: Target,
+        values: Vec<Angle>,
+        qubits: Vec<Qubit>,
+    ) -> Result<(), Stopped>
+        ensures ok { OnOk result ((numbered : Numbered) → Unrolls gates.now numbered
+            → Continues most_calls self.old.calls self.old.gates (expand_target numbered target 1 values.items qubits.items) self.new.calls self.new.gates []) }
+        ensures err { (cause : Cause) (numbered : Numbered) → result ≡ Err (Stopped.Wrong cause) → Unrolls gates.now numbered
+            → first_wrong most_calls self.old.calls (expand_target numbered target 1 values.items qubits.items) ≡ Some cause }
+    {
+        let mut frames = Vec::new(self.alloc);
+        self.enter(gates, &mut frames, target, values, qubits)?;
+        while let Some(frame) = frames.pop() {
+            self.step(gates, &mut frames, frame)?;
+        }
+        Ok(())
+    }
+
+    /// Counts a call at a depth.
+    fn count(&mut self, depth: usize) -> Result<(), Stopped>
+        ensures ok { OnOk result ((events : List Event) → first_wrong most_calls self.old.calls (Called depth ∷ events) ≡ first_wrong most_calls self.new.calls events) }
+        ensures calls { OnOk result (self.new.calls ≡ self.old.calls + 1) }
+        ensures most { OnOk result (self.new.calls ≤ most_calls) }
+        ensures gates { self.new.gates ≡ self.old.gates }
+        ensures err { (cause : Cause) (events : List Event) → result ≡ Err (Stopped.Wrong cause) → first_wrong most_calls self.old.calls (Called depth ∷ events) ≡ Some cause }
+    {
+        if self.calls >= MOST_CALLS {
+            return Err(Stopped::Wrong(Cause::TooManyGates));
+        }
+        self.calls += 1;
+        if depth > DEEPEST {
+            return Err(Stopped::Wrong(Cause::TooDeep));
+        }
+        Ok(())
+    }
+
+    /// The next call in the body of the gate that was on top, or nothing where its body is over.
+    fn step<'a>(
+        &mut self,
+        gates: &'a [GateBody],
+        frames: &mut Vec<Frame<'a>>,
+        frame: Frame<'a>,
+    ) -> Result<(), Stopped>
+        ensures ok { OnOk result ((numbered : Numbered) → Unrolls gates.now numbered
+            → Continues most_calls self.old.calls self.old.gates
+            (calls_events numbered (1 + length frames.old.items) frame.entry.angles.items frame.entry.qubits.items frame.entry.calls.now ++ stack_events numbered 1 frames.old.items)
+            self.new.calls self.new.gates (stack_events numbered 1 frames.new.items)) }
+        ensures err { (cause : Cause) (numbered : Numbered) → result ≡ Err (Stopped.Wrong cause) → Unrolls gates.now numbered
+            → first_wrong most_calls self.old.calls
+            (calls_events numbered (1 + length frames.old.items) frame.entry.angles.items frame.entry.qubits.items frame.entry.calls.now ++ stack_events numbered 1 frames.old.items)
+            ≡ Some cause }
+        ensures ends { OnOk result (2 * (most_calls - self.new.calls) + length frames.new.items < 2 * (most_calls - self.old.calls) + (1 + length frames.old.items)) }
+    {
+        let Some((call, rest)) = frame.calls.split_first() else {
+            return Ok(());
+        };
+        self.count(frames.len() + 2)?;
+        let values = evaluated(self.alloc, &call.angles, &frame.angles)?;
+        let qubits = picked(self.alloc, &call.qubits, &frame.qubits)?;
+        frames.push(Frame {
+            calls: rest,
+            ..frame
+        })?;
+        self.enter(gates, frames, call.target, values, qubits)
+    }
+
+    /// A built-in gate acts, and a declared one comes on top of the stack.
+    fn enter<'a>(
+        &mut self,
+        gates: &'a [GateBody],
+        frames: &mut Vec<Frame<'a>>,
+        target: Target,
+        angles: Vec<Angle>,
+        qubits: Vec<Qubit>,
+    ) -> Result<(), Stopped>
+        ensures ok { OnOk result ((numbered : Numbered) → Unrolls gates.now numbered
+            → Continues most_calls self.old.calls self.old.gates
+            (expand_target numbered target (1 + length frames.old.items) angles.items qubits.items ++ stack_events numbered 1 frames.old.items)
+            self.new.calls self.new.gates (stack_events numbered 1 frames.new.items)) }
+        ensures err { (cause : Cause) (numbered : Numbered) → result ≡ Err (Stopped.Wrong cause) → Unrolls gates.now numbered
+            → first_wrong most_calls self.old.calls
+            (expand_target numbered target (1 + length frames.old.items) angles.items qubits.items ++ stack_events numbered 1 frames.old.items)
+            ≡ Some cause }
+        ensures calls { OnOk result (self.new.calls ≡ self.old.calls) }
+        ensures frames { OnOk result (length frames.new.items ≤ length frames.old.items + 1) }
+    {
+        match target {
+            Target::U => match u_gate(&angles, &qubits) {
+                Ok(gate) => self.act(gate),
+                Err(cause) => Err(Stopped::Wrong(cause)),
+            },
+            Target::Cx => self.act(cx_gate(&qubits)),
+            Target::Gate(number) => {
+                frames.push(Frame {
+                    calls: calls_of(gates, number),
+                    angles,
+                    qubits,
+                })?;
+                Ok(())
+            }
+        }
+    }
+
+    /// A built-in gate acts, if there is one.
+    fn act(&mut self, gate: Option<ElementaryGate>) -> Result<(), Stopped>
+        ensures gates { OnOk result (self.new.gates ≡ self.old.gates ++ applied (gate_events gate)) }
+        ensures calls { self.new.calls ≡ self.old.calls }
+        ensures err { IfErr result (λ stopped. stopped ≡ Stopped.NoMemory) }
+    {
+        if let Some(gate) = gate {
+            self.gates.push(gate)?;
+        }
+        Ok(())
+    }
+}
+
+/// The calls in the body of a gate; none where there is no such gate.
+fn calls_of(gates: &[GateBody], number: usize) -> &[GateCall]
+    ensures { result.now ≡ calls_of (slice_get gates.now number) }
+{
+    if number < gates.len() {
+        &gates[number].calls
+    } else {
+        &[]
+    }
+}
+
+/// `U` with these angles, where they are whole eighth turns; none where it has another number of angles or qubits.
+fn u_gate(angles: &[Angle], qubits: &[Qubit]) -> Result<Option<ElementaryGate>, Cause>
+    ensures ok { IfOk result (λ gate. u_events angles.now qubits.now ≡ gate_events gate) }
+    ensures err { IfErr result (λ cause. u_events angles.now qubits.now ≡ Undefined cause ∷ []) }
+{
+    if let [theta, phi, lambda] = angles {
+        if let [qubit] = qubits {
+            return u_of(theta, phi, lambda, *qubit);
+        }
+    }
+    Ok(None)
+}
+
+/// `U` with these angles, where they are whole eighth turns.
+fn u_of(
+    theta: &Angle,
+    phi: &Angle,
+    lambda: &Angle,
+    qubit: Qubit,
+) -> Result<Option<ElementaryGate>, Cause>
+    ensures ok { IfOk result (λ gate. u_events (theta.now ∷ phi.now ∷ lambda.now ∷ []) (qubit ∷ []) ≡ gate_events gate) }
+    ensures err { IfErr result (λ cause. u_events (theta.now ∷ phi.now ∷ lambda.now ∷ []) (qubit ∷ []) ≡ Undefined cause ∷ []) }
+{
+    let theta = eighth_of(theta)?;
+    let phi = eighth_of(phi)?;
+    let lambda = eighth_of(lambda)?;
+    Ok(Some(ElementaryGate::U {
+        qubit,
+        theta,
+        phi,
+        lambda,
+    }))
+}
+
+/// `CX` on these qubits; none where it has another number of qubits.
+fn cx_gate(qubits: &[Qubit]) -> Option<ElementaryGate>
+    ensures { cx_events qubits.now ≡ gate_events result }
+{
+    if let [control, target] = qubits {
+        Some(ElementaryGate::Cx {
+            control: *control,
+            target: *target,
+        })
+    } else {
+        None
+    }
+}

@@ -1,0 +1,83 @@
+//! Values of expressions, and qubits by their places.
+
+ghost use Rattle.std.specs.Prelude.{◌≡◌, Ok, Err, Some, None, IfOk, IfErr, slice_index_or};
+ghost use Rattle.qasm_angle.specs.Eighths.{phase_of};
+ghost use Rattle.qasm_angle.specs.Values.{value};
+ghost use Rattle.qasm_inline.specs.Angles.{with_cause};
+ghost use Rattle.qasm_inline.specs.KeptCalls.{picked, values_of};
+
+use crate::error::Cause;
+use crate::stopped::Stopped;
+use qasm_angle::{Angle, AngleError, Expr, eval, to_eighth};
+use std::alloc::{AllocError, Global};
+use zx_gates::Qubit;
+use zx_model::Eighth;
+
+/// The angle in eighth turns.
+pub fn eighth_of(angle: &Angle) -> Result<Eighth, Cause>
+    ensures ok { IfOk result (λ turns. phase_of angle.now ≡ Some turns) }
+    ensures err { IfErr result (λ cause. (phase_of angle.now ≡ None) × (cause ≡ Cause.NotEighthTurn)) }
+{
+    match to_eighth(angle) {
+        Some(turns) => Ok(turns),
+        None => Err(Cause::NotEighthTurn),
+    }
+}
+
+/// The same items in memory of their own.
+pub fn copied<T: Copy>(alloc: Global, items: &[T]) -> Result<Vec<T>, AllocError>
+    ensures { IfOk result (λ copy. copy.items ≡ items.now) }
+{
+    Vec::from_slice(alloc, items)
+}
+
+/// The qubits at these places; where there is none, 0.
+pub fn picked(alloc: Global, places: &[usize], qubits: &[Qubit]) -> Result<Vec<Qubit>, AllocError>
+    ensures { IfOk result (λ copy. copy.items ≡ picked qubits.now places.now) }
+{
+    places
+        .iter()
+        .map(|place| qubit_at(qubits, *place))
+        .collect(alloc)
+}
+
+/// The qubit at a place; where there is none, 0.
+fn qubit_at(qubits: &[Qubit], place: usize) -> Qubit
+    ensures { result ≡ slice_index_or qubits.now place 0 }
+{
+    if place < qubits.len() {
+        qubits[place]
+    } else {
+        0
+    }
+}
+
+/// The values of expressions, from left to right.
+pub fn evaluated(
+    alloc: Global,
+    expressions: &[Expr],
+    angles: &[Angle],
+) -> Result<Vec<Angle>, Stopped>
+    ensures ok { IfOk result (λ values. values_of expressions.now angles.now ≡ Ok values.items) }
+    ensures err { (cause : Cause) → result ≡ Err (Stopped.Wrong cause) → values_of expressions.now angles.now ≡ Err cause }
+{
+    let mut values = Vec::new(alloc);
+    for expression in expressions {
+        values.push(value_of(alloc, expression, angles)?)?;
+    }
+    Ok(values)
+}
+
+/// The value of an expression.
+fn value_of(alloc: Global, expression: &Expr, angles: &[Angle]) -> Result<Angle, Stopped>
+    ensures ok { IfOk result (λ angle. with_cause (value expression.now angles.now) ≡ Ok angle) }
+    ensures err { (cause : Cause) → result ≡ Err (Stopped.Wrong cause) → with_cause (value expression.now angles.now) ≡ Err cause }
+{
+    match eval(alloc, expression, angles) {
+        Ok(angle) => Ok(angle),
+        Err(AngleError::Divide) => Err(Stopped::Wrong(Cause::Divide)),
+        Err(AngleError::TooLarge) => Err(Stopped::Wrong(Cause::AngleTooLarge)),
+        Err(AngleError::NotAnAngle) => Err(Stopped::Wrong(Cause::NotEighthTurn)),
+        Err(AngleError::NoMemory) => Err(Stopped::NoMemory),
+    }
+}
