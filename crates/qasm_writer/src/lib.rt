@@ -1,6 +1,7 @@
 //! The OpenQASM 2.0 text of a circuit.
 #![tactic(auto)]
 
+pub mod laws;
 #[cfg(test)]
 mod tests;
 mod writer;

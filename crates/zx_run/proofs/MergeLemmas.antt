@@ -29,9 +29,6 @@ odd_value-sum j k = grind (arith, nat_tests)
 odd_count-append : (xs ys : List Gate) → odd_count (xs ++ ys) ≡ odd_count xs + odd_count ys
 odd_count-append xs ys = sum_by-append (λ g. cond (is_odd_phase g) 1 0) xs ys
 
-pub merges-nil : MergesTo [] []
-merges-nil = record { map = λ f. refl; odd = omega arith; length = omega arith; settled = refl; others = refl }
-
 -- a gate stands before the others
 pub merges-cons : (read merged : List Gate) (gate : Gate) → is_apart gate merged ≡ true → MergesTo read merged → MergesTo (gate ∷ read) (gate ∷ merged)
 merges-cons read merged gate apart m = record {

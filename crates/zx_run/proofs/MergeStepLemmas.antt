@@ -1,18 +1,17 @@
 -- Each gate that is read keeps the merged gates, kept backwards, and the places in them.
-use Rattle.std.proofs.Common.{◌≡◌, ◌⊎◌, ℕ, ◌<◌, true, false, not, cond, List, [], ◌∷◌, ◌++◌, append_assoc, length, get_or, set, reverse, replicate, refl, sym, ap, ◌∙◌, inl, inr, subst, arith, length-append, Option, None, Some}
-use Rattle.std.proofs.lemmas.List.{reverse-append, reverse-reverse, length-reverse, get_or_at, set_at, get_or-set_same, get_or-set_other, get_or-replicate}
-use Rattle.std.proofs.lemmas.List.Elements.{All-nil, All-push, All-set}
+use Rattle.std.proofs.Common.{◌≡◌, ◌⊎◌, ℕ, ◌<◌, true, not, cond, List, [], ◌∷◌, ◌++◌, append_assoc, length, get_or, set, reverse, sym, ap, ◌∙◌, inl, inr, subst, arith, length-append, Option, None, Some}
+use Rattle.std.proofs.lemmas.List.{reverse-append, reverse-reverse, length-reverse, get_or_at, set_at, get_or-set_same, get_or-set_other}
+use Rattle.std.proofs.lemmas.List.Elements.{All-push, All-set}
 use Rattle.std.proofs.lemmas.Bool.{eqb-false, cases_eq, eq-eqb, ne_eqb}
 use Rattle.std.specs.List.{All}
 use Rattle.zx_model.specs.Phase.{sum_of_phases}
 use Rattle.zx_gates.specs.declared.gate.Gate.{Gate}
-use Rattle.zx_gates.specs.declared.gate.Gate.TheVariants.{H, Phase, Cz, Cx, Not}
+use Rattle.zx_gates.specs.declared.gate.Gate.TheVariants.{Phase}
 use Rattle.zx_gates.specs.Circuit.{IsGateOn}
-use Rattle.zx_gates.specs.Counting.{is_phase}
 use Rattle.zx_run.specs.declared.merge.Merger.{Merger}
-use Rattle.zx_run.specs.Merging.{MergesTo, is_on, is_apart}
+use Rattle.zx_run.specs.Merging.{MergesTo, is_apart}
 use Rattle.zx_run.specs.MergeSteps.{turned, place_of_phase, ArePlaces, IsKeptOn, IsMerging}
-use Rattle.zx_run.proofs.MergeLemmas.{merges-nil, merges-cons, merges-turned, no_next, place-turned, next_phase}
+use Rattle.zx_run.proofs.MergeLemmas.{merges-cons, merges-turned, no_next, place-turned, next_phase}
 
 -- a list backwards is cut where the list is
 reversed : {A : Type 0} (front back : List A) (x : A) → reverse (front ++ x ∷ back) ≡ reverse back ++ x ∷ reverse front
@@ -20,15 +19,6 @@ reversed front back x =
     reverse-append front (x ∷ back)
     ∙ ap (λ xs. xs ++ reverse front) (reverse-append (x ∷ []) back)
     ∙ append_assoc (reverse back) (x ∷ []) (reverse front)
-
--- no gates and no places
-pub merging-nil : (merger : Merger) (n : ℕ) → merger.backwards.items ≡ [] → merger.places.items ≡ replicate n None → length merger.places.items ≡ n → IsMerging [] merger
-merging-nil merger n none places long = record {
-  merges = subst (λ (xs : List Gate). MergesTo [] (reverse xs)) (sym none) merges-nil;
-  places = λ q within.
-      ap (λ xs. get_or xs q None) places ∙ get_or-replicate n q None None (omega arith) ∙ ap (λ xs. place_of_phase q (reverse xs)) (sym none);
-  on_qubits = subst (All (IsKeptOn (length merger.places.items))) (sym none) (All-nil (IsKeptOn (length merger.places.items)));
-}
 
 -- a gate is added
 merging-pushed : (old new : Merger) (gate : Gate) (read : List Gate)
@@ -45,26 +35,6 @@ merging-pushed old new gate read items long on apart places m =
       places = subst (λ (xs : List Gate). ArePlaces new.places.items xs) (sym back) places;
       on_qubits = subst (λ n. All (IsKeptOn n) new.backwards.items) (sym long) kept_new;
     }
-
-apart_other : (gate : Gate) (gates : List Gate) → is_phase gate ≡ false → is_apart gate gates ≡ true
-apart_other (H p) gates h = refl
-apart_other (Phase p k) gates h = absurd (let e : true ≡ false = h in cc)
-apart_other (Cz p r) gates h = refl
-apart_other (Cx c t) gates h = refl
-apart_other (Not p) gates h = refl
-
--- a gate that is no phase gate is added, and the places of its qubits are cleared
-pub merging-other : (old new : Merger) (gate : Gate) → is_phase gate ≡ false → IsGateOn (length old.places.items) gate
-    → new.backwards.items ≡ old.backwards.items ++ gate ∷ [] → length new.places.items ≡ length old.places.items
-    → ((q : ℕ) → get_or new.places.items q None ≡ cond (is_on q gate) None (get_or old.places.items q None))
-    → (read : List Gate) → IsMerging read old → IsMerging (gate ∷ read) new
-merging-other old new gate other on items long cleared read m =
-    let gates : List Gate = reverse old.backwards.items in
-    merging-pushed old new gate read items long on (apart_other gate gates other)
-    (λ q within.
-    cleared q
-    ∙ ap (cond (is_on q gate) None) (m.places q (omega arith))
-    ∙ ap (λ b. cond (is_on q gate) (cond b (Some (length gates)) None) (place_of_phase q gates)) (sym other)) m
 
 -- a phase gate is added, and its place is kept
 pub merging-phase : (old new : Merger) (q k : ℕ) → IsGateOn (length old.places.items) (Phase q k)

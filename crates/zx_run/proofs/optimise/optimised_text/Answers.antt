@@ -6,4 +6,4 @@ use Rattle.zx_run.proofs.optimise.optimised_text.Goals as goal
 
 pub returns-clause-output : goal.returns-clause-output
 returns-clause-output c =
-    output_for _ _ _ _ c.in_ok-read.ensures.faultless c.in_ok-read.ensures.circuit c.in_ok-merged.ensures.qubits (subst IsCircuit c.merged.view_is c.merged.invariant) c.in_ok-merged.ensures.merged c.in_ok-output.ensures
+    output_for _ _ _ _ c.in_ok-read.ensures.faultless c.in_ok-read.ensures.circuit c.in_ok-merged.ensures.qubits (subst IsCircuit c.merged.view_is c.merged.invariant) c.in_ok-merged.ensures.merged c.in_ok-output.ensures.text

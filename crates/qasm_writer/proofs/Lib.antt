@@ -1,0 +1,5 @@
+pub mod Statements
+pub mod Lines
+pub mod Maps
+pub mod GateLines
+pub mod WrittenLemmas

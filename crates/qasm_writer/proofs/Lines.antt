@@ -1,0 +1,329 @@
+-- Each line of a circuit's text is one statement: its tokens, and their grammar.
+use Rattle.std.specs.Prelude.{◌≡◌, ◌<◌, ℕ, ◌+◌, ◌^◌, true, List, [], ◌∷◌, ◌++◌, length, codes, decimal, Some, None}
+use Rattle.std.proofs.Common.{refl, sym, ap, ◌∙◌, arith, subst, append_assoc, inl}
+use Rattle.std.specs.List.{list_all}
+use Rattle.qasm_lexer.specs.declared.token.TokenKind.TheVariants as kind
+use Rattle.qasm_lexer.specs.Forms.{is_digit, is_natural, is_word}
+use Rattle.qasm_lexer.specs.Tokens.{Lexeme, IsCut, word_kind}
+use Rattle.qasm_lexer.specs.Worked.{token}
+use Rattle.qasm_lexer.proofs.Building.{IsCut-nil, IsCut-space, IsCut-word, IsCut-sign, IsCut-plain_sign, IsCut-natural, IsCut-decimal}
+use Rattle.qasm_lexer.proofs.Feeds.{IsCut-append}
+use Rattle.qasm_lexer.proofs.Scan.{IsCut-tokens_of}
+use Rattle.qasm_reader.specs.Depth.{too_deep, too_deep_from}
+use Rattle.qasm_reader.specs.Grammar.{IsProgram, IsStatement, IsArgument, IsArguments, IsAngles, IsExpression, BeginsAt, OneTerm, Product, Quotient, OnePower, OneFactor, WholeNumber, PiWord}
+use Rattle.qasm_reader.specs.Syntax.{Formula, Operand, Sentence, Version, Include, QubitRegister, Placed}
+use Rattle.qasm_writer.specs.Written.{version_line, include_line, qubit, on_one, on_two}
+use Rattle.qasm_writer.proofs.Statements.{operand, application, quarters}
+
+-- ---- texts and programs
+-- the line at a place is this statement
+pub record IsLine (place : ℕ) (line : List ℕ) (s : Sentence) : Type 0 where
+  pub front : List ℕ
+  pub ends : line ≡ front ++ 10 ∷ []
+  pub tokens : List Lexeme
+  pub cut : IsCut place line tokens
+  pub begins : BeginsAt tokens place
+  pub closed : (rest : List Lexeme) → too_deep_from 0 (tokens ++ rest) ≡ too_deep_from 0 rest
+  pub statement : IsStatement s tokens
+
+-- the text at a place is this program
+pub record AreLines (place : ℕ) (text : List ℕ) (program : List Placed) : Type 0 where
+  pub tokens : List Lexeme
+  pub cut : IsCut place text tokens
+  pub shallow : too_deep tokens ≡ None
+  pub grammar : IsProgram tokens program
+
+pub no_line : (place : ℕ) → AreLines place [] []
+no_line place = record { tokens = []; cut = IsCut-nil place; shallow = refl; grammar = refl }
+
+pub line_then : (place : ℕ) (line after : List ℕ) (s : Sentence) (program : List Placed) → IsLine place line s → AreLines (place + length line) after program
+    → AreLines place (line ++ after) (record { place = place; sentence = s } ∷ program)
+line_then place line after s program l m = record {
+  tokens = l.tokens ++ m.tokens;
+  cut = IsCut-append place line after l.tokens m.tokens l.front l.ends l.cut m.cut;
+  shallow = l.closed m.tokens ∙ m.shallow;
+  grammar = (l.tokens, m.tokens, refl, l.begins, l.statement, m.grammar);
+}
+
+-- ---- grammar
+argument_is : (i : List ℕ) (a b c d : Lexeme) → a.kind ≡ kind.Identifier → a.text ≡ codes "q" → b.kind ≡ kind.LeftBracket
+    → c.kind ≡ kind.Natural → c.text ≡ i → d.kind ≡ kind.RightBracket → IsArgument (operand i) (a ∷ b ∷ c ∷ d ∷ [])
+argument_is i a b c d ka ta kb kc tc kd = (
+  a ∷ [],
+  b ∷ c ∷ d ∷ [],
+  refl,
+  (a, ka, ta, refl),
+  (b ∷ [], c ∷ d ∷ [], refl, (b, kb, refl), (c ∷ [], d ∷ [], refl, (c, kc, tc, refl), (d, kd, refl))),
+)
+
+applied_is : (name : List ℕ) (angles : List Formula) (operands : List Operand) (t s : Lexeme) (us vs : List Lexeme)
+    → t.kind ≡ kind.Identifier → t.text ≡ name → IsAngles angles us → IsArguments operands vs → s.kind ≡ kind.Semicolon
+    → IsStatement (application name angles operands) (t ∷ us ++ (vs ++ s ∷ []))
+applied_is name angles operands t s us vs k e a b l =
+    (t ∷ [], us ++ (vs ++ s ∷ []), refl, (t, k, e, refl), (us, vs ++ s ∷ [], refl, a, (vs, s ∷ [], refl, b, (s, l, refl))))
+
+-- the tokens of a qubit at a place
+abbrev qubit_tokens : ℕ → ℕ → List Lexeme
+qubit_tokens place q =
+    token kind.Identifier (codes "q") place ∷ token kind.LeftBracket (codes "[") (place + 1)
+    ∷ token kind.Natural (decimal q) (place + 2) ∷ token kind.RightBracket (codes "]") (place + 2 + length (decimal q)) ∷ []
+
+qubit_is : (place q : ℕ) → IsArgument (operand (decimal q)) (qubit_tokens place q)
+qubit_is place q = argument_is (decimal q) _ _ _ _ refl refl refl refl refl refl
+
+one_argument : (place q : ℕ) → IsArguments (operand (decimal q) ∷ []) (qubit_tokens place q)
+one_argument place q = (qubit_tokens place q, [], refl, qubit_is place q, refl)
+
+two_arguments : (place at next q r : ℕ) → IsArguments (operand (decimal q) ∷ operand (decimal r) ∷ [])
+    (qubit_tokens place q ++ token kind.Comma (codes ",") at ∷ qubit_tokens next r)
+two_arguments place at next q r =
+    let comma : Lexeme = token kind.Comma (codes ",") at in (
+      qubit_tokens place q,
+      comma ∷ qubit_tokens next r,
+      refl,
+      qubit_is place q,
+      (comma ∷ qubit_tokens next r, [], refl, (comma ∷ [], qubit_tokens next r, refl, (comma, refl, refl), qubit_is next r), refl),
+    )
+
+-- ---- cuts
+abbrev qubit_then : ℕ → List ℕ → List ℕ
+qubit_then q after = 113 ∷ 91 ∷ (decimal q ++ 93 ∷ after)
+
+qubit_cut : (place q next : ℕ) (after : List ℕ) (tokens : List Lexeme) → q < 2 ^ 64 → next ≡ place + 3 + length (decimal q)
+    → IsCut next after tokens → IsCut place (qubit_then q after) (qubit_tokens place q ++ tokens)
+qubit_cut place q next after tokens small there c =
+    IsCut-word (codes "q") (place + 1) refl refl refl (omega arith)
+    (IsCut-plain_sign 91 (place + 2) refl refl (omega arith)
+    (IsCut-decimal q (place + 2 + length (decimal q)) small refl refl
+    (IsCut-plain_sign 93 next refl refl (omega arith) c)))
+
+-- the end of a line
+end_cut : (place : ℕ) → IsCut place (59 ∷ 10 ∷ []) (token kind.Semicolon (codes ";") place ∷ [])
+end_cut place = IsCut-plain_sign 59 (place + 1) refl refl refl (IsCut-space 10 (place + 2) refl (omega arith) (IsCut-nil (place + 2)))
+
+-- behind the name of a gate
+abbrev one_tokens : ℕ → ℕ → List Lexeme
+one_tokens place q = qubit_tokens (place + 1) q ++ token kind.Semicolon (codes ";") (place + 4 + length (decimal q)) ∷ []
+
+one_cut : (place q : ℕ) → q < 2 ^ 64 → IsCut place (32 ∷ qubit_then q (59 ∷ 10 ∷ [])) (one_tokens place q)
+one_cut place q small =
+    IsCut-space 32 (place + 1) refl refl
+    (qubit_cut (place + 1) q (place + 4 + length (decimal q)) (59 ∷ 10 ∷ []) _ small (omega arith) (end_cut (place + 4 + length (decimal q))))
+
+abbrev two_tokens : ℕ → ℕ → ℕ → List Lexeme
+two_tokens place q r =
+    qubit_tokens (place + 1) q ++ token kind.Comma (codes ",") (place + 4 + length (decimal q))
+    ∷ qubit_tokens (place + 5 + length (decimal q)) r
+    ++ token kind.Semicolon (codes ";") (place + 8 + length (decimal q) + length (decimal r)) ∷ []
+
+two_cut : (place q r : ℕ) → q < 2 ^ 64 → r < 2 ^ 64
+    → IsCut place (32 ∷ qubit_then q (44 ∷ qubit_then r (59 ∷ 10 ∷ []))) (two_tokens place q r)
+two_cut place q r small slight =
+    let at : ℕ = place + 4 + length (decimal q) in
+    IsCut-space 32 (place + 1) refl refl
+    (qubit_cut (place + 1) q (place + 4 + length (decimal q)) (44 ∷ qubit_then r (59 ∷ 10 ∷ [])) _ small (omega arith)
+    (IsCut-plain_sign 44 (place + 5 + length (decimal q)) refl refl (omega arith)
+    (qubit_cut (place + 5 + length (decimal q)) r (place + 8 + length (decimal q) + length (decimal r)) (59 ∷ 10 ∷ []) _ slight (omega arith)
+    (end_cut (place + 8 + length (decimal q) + length (decimal r))))))
+
+-- ---- texts of lines
+abbrev one_text : List ℕ → ℕ → List ℕ
+one_text name q = name ++ 32 ∷ qubit_then q (59 ∷ 10 ∷ [])
+
+grouped : (a b c d : List ℕ) → a ++ b ++ c ++ d ≡ a ++ (b ++ (c ++ d))
+grouped a b c d = simp append_assoc
+
+on_one-text : (name : List ℕ) (q : ℕ) → on_one name q ≡ one_text name q
+on_one-text name q =
+    grouped name (codes " ") (qubit q) (codes ";\n")
+    ∙ ap (λ t. name ++ 32 ∷ 113 ∷ 91 ∷ t) (append_assoc (decimal q) (codes "]") (59 ∷ 10 ∷ []))
+
+abbrev two_text : List ℕ → ℕ → ℕ → List ℕ
+two_text name q r = name ++ 32 ∷ qubit_then q (44 ∷ qubit_then r (59 ∷ 10 ∷ []))
+
+on_two-text : (name : List ℕ) (q r : ℕ) → on_two name q r ≡ two_text name q r
+on_two-text name q r =
+    grouped (name ++ codes " " ++ qubit q) (codes ",") (qubit r) (codes ";\n")
+    ∙ grouped name (codes " ") (qubit q) (codes "," ++ (qubit r ++ codes ";\n"))
+    ∙ ap (λ t. name ++ 32 ∷ 113 ∷ 91 ∷ t) (append_assoc (decimal q) (codes "]") (44 ∷ (qubit r ++ 59 ∷ 10 ∷ [])))
+    ∙ ap (λ t. name ++ 32 ∷ qubit_then q (44 ∷ 113 ∷ 91 ∷ t)) (append_assoc (decimal r) (codes "]") (59 ∷ 10 ∷ []))
+
+-- a line without its end
+line_ends : (line : List ℕ) → line ++ codes ";\n" ≡ (line ++ codes ";") ++ 10 ∷ []
+line_ends line = sym (append_assoc line (codes ";") (10 ∷ []))
+
+-- ---- lines of gates whose name is a word
+module _ (place : ℕ) (name : List ℕ) (is : is_word name ≡ true) (identifier : word_kind name ≡ Some kind.Identifier) where
+  pub on_one_line : (q : ℕ) → q < 2 ^ 64 → IsLine place (on_one name q) (application name [] (operand (decimal q) ∷ []))
+  on_one_line q small =
+      let t : Lexeme = token kind.Identifier name place in
+      let c : IsCut place (one_text name q) (t ∷ one_tokens (place + length name) q) =
+      IsCut-word name (place + length name) is identifier refl refl (one_cut (place + length name) q small) in
+      record {
+        front = name ++ codes " " ++ qubit q ++ codes ";";
+        ends = line_ends (name ++ codes " " ++ qubit q);
+        tokens = t ∷ one_tokens (place + length name) q;
+        cut = subst (λ text. IsCut place text (t ∷ one_tokens (place + length name) q)) (sym (on_one-text name q)) c;
+        begins = (t, one_tokens (place + length name) q, refl, refl);
+        closed = λ rest. refl;
+        statement = applied_is name [] (operand (decimal q) ∷ []) t _ [] (qubit_tokens (place + length name + 1) q)
+            refl refl (inl refl) (one_argument (place + length name + 1) q) refl;
+      }
+
+  pub on_two_line : (q r : ℕ) → q < 2 ^ 64 → r < 2 ^ 64
+      → IsLine place (on_two name q r) (application name [] (operand (decimal q) ∷ operand (decimal r) ∷ []))
+  on_two_line q r small slight =
+      let t : Lexeme = token kind.Identifier name place in
+      let more : List Lexeme = two_tokens (place + length name) q r in
+      let c : IsCut place (two_text name q r) (t ∷ more) =
+      IsCut-word name (place + length name) is identifier refl refl (two_cut (place + length name) q r small slight) in
+      record {
+        front = name ++ codes " " ++ qubit q ++ codes "," ++ qubit r ++ codes ";";
+        ends = line_ends (name ++ codes " " ++ qubit q ++ codes "," ++ qubit r);
+        tokens = t ∷ more;
+        cut = subst (λ text. IsCut place text (t ∷ more)) (sym (on_two-text name q r)) c;
+        begins = (t, more, refl, refl);
+        closed = λ rest. refl;
+        statement = applied_is name [] (operand (decimal q) ∷ operand (decimal r) ∷ []) t _ []
+            (qubit_tokens (place + length name + 1) q ++ token kind.Comma (codes ",") (place + length name + 4 + length (decimal q))
+            ∷ qubit_tokens (place + length name + 5 + length (decimal q)) r)
+            refl refl (inl refl) (two_arguments (place + length name + 1) _ _ q r) refl;
+      }
+
+-- ---- lines of u1 at n*pi/4, for a digit n
+abbrev pub u1_text : ℕ → List ℕ
+u1_text n = 117 ∷ 49 ∷ 40 ∷ n ∷ 42 ∷ 112 ∷ 105 ∷ 47 ∷ 52 ∷ 41 ∷ []
+
+abbrev angle_tokens : ℕ → ℕ → List Lexeme
+angle_tokens place n =
+    token kind.LeftParenthesis (codes "(") (place + 2) ∷ token kind.Natural (n ∷ []) (place + 3) ∷ token kind.Star (codes "*") (place + 4)
+    ∷ token kind.Pi (codes "pi") (place + 5) ∷ token kind.Slash (codes "/") (place + 7) ∷ token kind.Natural (codes "4") (place + 8)
+    ∷ token kind.RightParenthesis (codes ")") (place + 9) ∷ []
+
+u1_cut : (place n : ℕ) (after : List ℕ) (tokens : List Lexeme) → list_all is_digit (n ∷ []) ≡ true → is_natural (n ∷ []) ≡ true
+    → IsCut (place + 10) after tokens
+    → IsCut place (u1_text n ++ after) (token kind.Identifier (codes "u1") place ∷ angle_tokens place n ++ tokens)
+u1_cut place n after tokens digit natural c =
+    IsCut-word (codes "u1") (place + 2) refl refl refl refl
+    (IsCut-plain_sign 40 (place + 3) refl refl (omega arith)
+    (IsCut-natural (n ∷ []) (place + 4) digit natural refl (omega arith)
+    (IsCut-plain_sign 42 (place + 5) refl refl (omega arith)
+    (IsCut-word (codes "pi") (place + 7) refl refl refl (omega arith)
+    (IsCut-sign 47 (place + 8) refl refl (omega arith)
+    (IsCut-natural (codes "4") (place + 9) refl refl refl (omega arith)
+    (IsCut-plain_sign 41 (place + 10) refl refl (omega arith) c)))))))
+
+angle_is : (place n : ℕ) → IsAngles (quarters (n ∷ []) ∷ []) (angle_tokens place n)
+angle_is place n =
+    let left : Lexeme = token kind.LeftParenthesis (codes "(") (place + 2) in
+    let count : Lexeme = token kind.Natural (n ∷ []) (place + 3) in
+    let star : Lexeme = token kind.Star (codes "*") (place + 4) in
+    let pi : Lexeme = token kind.Pi (codes "pi") (place + 5) in
+    let slash : Lexeme = token kind.Slash (codes "/") (place + 7) in
+    let four : Lexeme = token kind.Natural (codes "4") (place + 8) in
+    let close : Lexeme = token kind.RightParenthesis (codes ")") (place + 9) in
+    let inside : List Lexeme = count ∷ star ∷ pi ∷ slash ∷ four ∷ [] in
+    let f : IsExpression (quarters (n ∷ [])) inside =
+    OneTerm (Quotient slash (Product star (OnePower (OneFactor (WholeNumber count refl))) refl (OneFactor (PiWord pi refl))) refl (OneFactor (WholeNumber four refl))) in
+    (left ∷ [], inside ++ close ∷ [], refl, (left, refl, refl), (inside, close ∷ [], refl, (inside, [], refl, f, refl), (close, refl, refl)))
+
+pub u1_line : (place n q : ℕ) → list_all is_digit (n ∷ []) ≡ true → is_natural (n ∷ []) ≡ true → q < 2 ^ 64
+    → IsLine place (on_one (u1_text n) q) (application (codes "u1") (quarters (n ∷ []) ∷ []) (operand (decimal q) ∷ []))
+u1_line place n q digit natural small =
+    let t : Lexeme = token kind.Identifier (codes "u1") place in
+    let more : List Lexeme = angle_tokens place n ++ one_tokens (place + 10) q in
+    record {
+      front = u1_text n ++ codes " " ++ qubit q ++ codes ";";
+      ends = line_ends (u1_text n ++ codes " " ++ qubit q);
+      tokens = t ∷ more;
+      cut = subst (λ text. IsCut place text (t ∷ more)) (sym (on_one-text (u1_text n) q))
+          (u1_cut place n (32 ∷ qubit_then q (59 ∷ 10 ∷ [])) (one_tokens (place + 10) q) digit natural (one_cut (place + 10) q small));
+      begins = (t, more, refl, refl);
+      closed = λ rest. refl;
+      statement = applied_is (codes "u1") (quarters (n ∷ []) ∷ []) (operand (decimal q) ∷ []) t _ (angle_tokens place n)
+          (qubit_tokens (place + 10 + 1) q) refl refl (angle_is place n) (one_argument (place + 10 + 1) q) refl;
+    }
+
+-- ---- the lines at the head
+pub version_is : IsLine 0 version_line (Version (codes "2.0"))
+version_is =
+    let a : Lexeme = token kind.Openqasm (codes "OPENQASM") 0 in
+    let b : Lexeme = token kind.Real (codes "2.0") 9 in
+    let c : Lexeme = token kind.Semicolon (codes ";") 12 in
+    record {
+      front = codes "OPENQASM 2.0;";
+      ends = refl;
+      tokens = a ∷ b ∷ c ∷ [];
+      cut = IsCut-tokens_of 0 version_line (a ∷ b ∷ c ∷ []) refl;
+      begins = (a, b ∷ c ∷ [], refl, refl);
+      closed = λ rest. refl;
+      statement = (a ∷ [], b ∷ c ∷ [], refl, (a, refl, refl), (b ∷ [], c ∷ [], refl, (b, refl, refl, refl), (c, refl, refl)));
+    }
+
+pub include_is : IsLine 14 include_line (Include (codes "\"qelib1.inc\""))
+include_is =
+    let a : Lexeme = token kind.Include (codes "include") 14 in
+    let b : Lexeme = token kind.Text (codes "\"qelib1.inc\"") 22 in
+    let c : Lexeme = token kind.Semicolon (codes ";") 34 in
+    record {
+      front = codes "include \"qelib1.inc\";";
+      ends = refl;
+      tokens = a ∷ b ∷ c ∷ [];
+      cut = IsCut-tokens_of 14 include_line (a ∷ b ∷ c ∷ []) refl;
+      begins = (a, b ∷ c ∷ [], refl, refl);
+      closed = λ rest. refl;
+      statement = (a ∷ [], b ∷ c ∷ [], refl, (a, refl, refl), (b ∷ [], c ∷ [], refl, (b, refl, refl, refl), (c, refl, refl)));
+    }
+
+-- the line of a register
+abbrev pub register_text : ℕ → List ℕ
+register_text n = codes "qreg q[" ++ decimal n ++ codes "];\n"
+
+pub register_is : (place n : ℕ) → n < 2 ^ 64 → IsLine place (register_text n) (QubitRegister (codes "q") (decimal n))
+register_is place n small =
+    let a : Lexeme = token kind.Qreg (codes "qreg") place in
+    let b : Lexeme = token kind.Identifier (codes "q") (place + 5) in
+    let c : Lexeme = token kind.LeftBracket (codes "[") (place + 6) in
+    let d : Lexeme = token kind.Natural (decimal n) (place + 7) in
+    let e : Lexeme = token kind.RightBracket (codes "]") (place + 7 + length (decimal n)) in
+    let f : Lexeme = token kind.Semicolon (codes ";") (place + 8 + length (decimal n)) in
+    record {
+      front = codes "qreg q[" ++ (decimal n ++ codes "];");
+      ends = ap (λ t. codes "qreg q[" ++ t) (sym (append_assoc (decimal n) (codes "];") (10 ∷ [])));
+      tokens = a ∷ b ∷ c ∷ d ∷ e ∷ f ∷ [];
+      cut =
+          IsCut-word (codes "qreg") (place + 4) refl refl refl refl
+          (IsCut-space 32 (place + 5) refl (omega arith)
+          (IsCut-word (codes "q") (place + 6) refl refl refl (omega arith)
+          (IsCut-plain_sign 91 (place + 7) refl refl (omega arith)
+          (IsCut-decimal n (place + 7 + length (decimal n)) small refl refl
+          (IsCut-plain_sign 93 (place + 8 + length (decimal n)) refl refl (omega arith)
+          (end_cut (place + 8 + length (decimal n))))))));
+      begins = (a, b ∷ c ∷ d ∷ e ∷ f ∷ [], refl, refl);
+      closed = λ rest. refl;
+      statement = (
+        a ∷ [],
+        b ∷ c ∷ d ∷ e ∷ f ∷ [],
+        refl,
+        (a, refl, refl),
+        (
+          b ∷ [],
+          c ∷ d ∷ e ∷ f ∷ [],
+          refl,
+          (b, refl, refl, refl),
+          (
+            c ∷ [],
+            d ∷ e ∷ f ∷ [],
+            refl,
+            (c, refl, refl),
+            (
+              d ∷ [],
+              e ∷ f ∷ [],
+              refl,
+              (d, refl, refl, refl),
+              (e ∷ [], f ∷ [], refl, (e, refl, refl), (f, refl, refl)),
+            ),
+          ),
+        ),
+      );
+    }

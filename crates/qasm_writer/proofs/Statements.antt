@@ -1,0 +1,203 @@
+-- The statements that the lines of gates are: behind the header and the register they have no fault, and come to the
+-- built-in gates of `elements`.
+use Rattle.std.specs.Prelude.{◌≡◌, ◌≤◌, if◌then◌else◌, ℕ, ◌+◌, Bool, true, false, ◌&&◌, ◌||◌, not, List, [], ◌∷◌, codes, nat_le, nat_lt, ◌==◌, Some, None}
+use Rattle.std.proofs.Common.{refl, sym, ap, ap₂, ◌∙◌, arith}
+use Rattle.std.proofs.lemmas.Bool.{false≢true}
+use Rattle.zx_gates.specs.declared.elementary.ElementaryGate.{ElementaryGate}
+use Rattle.zx_gates.specs.declared.elementary.ElementaryGate.TheVariants as elementary
+use Rattle.qasm_reader.specs.declared.expression.Operator.TheVariants.{Multiply, Divide}
+use Rattle.qasm_reader.specs.Syntax.{Formula, Number, Pi, Binary, Operand, Declared, Sentence, Act}
+use Rattle.qasm_reader.specs.Syntax as syntax
+use Rattle.qasm_angle.specs.Ratio.{gcd, lowest, limited}
+use Rattle.qasm_angle.specs.Eighths.{phase_of}
+use Rattle.qasm_angle.specs.Literals as literals
+use Rattle.qasm_angle.specs.Values as values
+use Rattle.qasm_inline.specs.Angles.{angle_of}
+use Rattle.qasm_inline.specs.Calls.{Event, Called, Undefined, Applied, applied, call_count, deepest}
+use Rattle.qasm_inline.specs.declared.error.Cause.{Cause}
+use Rattle.qasm_inline.specs.declared.error.Cause.TheVariants as cause
+use Rattle.qasm_inline.specs.Faults.{wrong_in, first_cause, has_unsupported, has_unknown, has_wrong_count, has_wrong_index, has_other_sizes, has_same_qubit}
+use Rattle.qasm_inline.specs.Meaning.{with_header, events_of}
+use Rattle.qasm_inline.specs.Scope.{Scope, Qubits, declared, numeral}
+use Rattle.qasm_inline.specs.Texts.{instances_in}
+
+-- the qubit of the register at an index
+abbrev pub operand : List ℕ → Operand
+operand index = record { register = codes "q"; index = Some index }
+
+abbrev pub application : List ℕ → List Formula → List Operand → Sentence
+application name angles operands = Act (syntax.Applied (record { gate = Declared name; angles = angles; qubits = operands }))
+
+-- a multiple of pi/4
+abbrev pub quarters : List ℕ → Formula
+quarters n = Binary Divide (Binary Multiply (Number n) Pi) (Number (codes "4"))
+
+-- the scope behind the header and a register of n qubits
+abbrev pub register_scope : ℕ → Scope
+register_scope n = declared (codes "q") (Qubits 0 n) ∷ with_header []
+
+-- ---- where every test fails there is no cause
+abbrev pub AllFail : List (Bool × Cause) → Type 0
+AllFail [] = Unit {0}
+AllFail (test ∷ tests) = (test.0 ≡ false) × AllFail tests
+
+fails : (b : Bool) (cause : Cause) (tests : List (Bool × Cause)) → b ≡ false → first_cause tests ≡ None → (if b then Some cause else first_cause tests) ≡ None
+fails true cause tests e h = absurd (false≢true (sym e))
+fails false cause tests e h = h
+
+pub no_cause : (tests : List (Bool × Cause)) → AllFail tests → first_cause tests ≡ None
+no_cause [] h = refl
+no_cause (test ∷ tests) h = fails test.0 test.1 tests h.0 (no_cause tests h.1)
+
+-- the tests that an application may fail
+pub right : (scope : Scope) (name : List ℕ) (angles : List Formula) (operands : List Operand)
+    → has_unsupported (application name angles operands) ≡ false
+    → has_unknown scope (application name angles operands) ≡ false
+    → has_wrong_count scope (application name angles operands) ≡ false
+    → has_wrong_index scope (application name angles operands) ≡ false
+    → has_other_sizes scope (application name angles operands) ≡ false
+    → has_same_qubit scope (application name angles operands) ≡ false
+    → wrong_in scope (application name angles operands) ≡ None
+unfolding wrong_in
+right scope name angles operands unsupported unknown count index sizes twice =
+    let s : Sentence = application name angles operands in
+    no_cause (
+    (false, cause.Include)
+    ∷ (has_unsupported s, cause.Unsupported)
+    ∷ (false, cause.Redeclared)
+    ∷ (false, cause.EmptyRegister)
+    ∷ (false, cause.TooManyQubits)
+    ∷ (has_unknown scope s, cause.Unknown)
+    ∷ (has_wrong_count scope s, cause.WrongCount)
+    ∷ (has_wrong_index scope s, cause.Index)
+    ∷ (has_other_sizes scope s, cause.Sizes)
+    ∷ (has_same_qubit scope s, cause.SameQubit)
+    ∷ (false, cause.SecondVersion)
+    ∷ [])
+    (refl, (unsupported, (refl, (refl, (refl, (unknown, (count, (index, (sizes, (twice, (refl, tt)))))))))))
+
+-- ---- a statement without fault, its calls and its gates
+
+-- no angle without value, and no call too deep
+abbrev pub are_calm : List Event → Bool
+are_calm [] = true
+are_calm (Called depth ∷ events) = not (nat_lt deepest depth) && are_calm events
+are_calm (Undefined cause ∷ events) = false
+are_calm (Applied gate ∷ events) = are_calm events
+
+-- the most calls that a gate of the writer makes
+abbrev pub most_of_one : ℕ
+most_of_one = 9
+
+pub record Comes (scope : Scope) (s : Sentence) (gates : List ElementaryGate) : Type 0 where
+  pub fine : wrong_in scope s ≡ None
+  pub calm : are_calm (events_of scope s) ≡ true
+  pub few : call_count (events_of scope s) ≤ most_of_one
+  pub gates_are : applied (events_of scope s) ≡ gates
+  pub one : instances_in scope s ≡ 1
+
+module _ (n : ℕ) (i : List ℕ) (name : List ℕ) (angles : List Formula) (gate : ℕ → List ElementaryGate) (events : List Event) where
+  pub on_one_comes : (q : ℕ) → 0 + numeral i ≡ q → nat_le n (numeral i) ≡ false
+      → has_unsupported (application name angles (operand i ∷ [])) ≡ false
+      → has_unknown (register_scope n) (application name angles (operand i ∷ [])) ≡ false
+      → has_wrong_count (register_scope n) (application name angles (operand i ∷ [])) ≡ false
+      → events_of (register_scope n) (application name angles (operand i ∷ [])) ≡ events
+      → are_calm events ≡ true → call_count events ≤ most_of_one → applied events ≡ gate (0 + numeral i)
+      → Comes (register_scope n) (application name angles (operand i ∷ [])) (gate q)
+  on_one_comes q is below unsupported unknown count e calm few gates = record {
+    fine = right (register_scope n) name angles (operand i ∷ []) unsupported unknown count (ap (λ b. b || false) below) refl refl;
+    calm = ap are_calm e ∙ calm;
+    few = omega (arith, ap call_count e);
+    gates_are = ap applied e ∙ gates ∙ ap gate is;
+    one = refl;
+  }
+
+module _ (n : ℕ) (i j : List ℕ) (name : List ℕ) (gate : ℕ → ℕ → List ElementaryGate) (events : List Event) where
+  pub on_two_comes : (q r : ℕ) → 0 + numeral i ≡ q → 0 + numeral j ≡ r → nat_le n (numeral i) ≡ false → nat_le n (numeral j) ≡ false
+      → ((0 + numeral j) == (0 + numeral i)) ≡ false
+      → has_unknown (register_scope n) (application name [] (operand i ∷ operand j ∷ [])) ≡ false
+      → has_wrong_count (register_scope n) (application name [] (operand i ∷ operand j ∷ [])) ≡ false
+      → events_of (register_scope n) (application name [] (operand i ∷ operand j ∷ [])) ≡ events
+      → are_calm events ≡ true → call_count events ≤ most_of_one → applied events ≡ gate (0 + numeral i) (0 + numeral j)
+      → Comes (register_scope n) (application name [] (operand i ∷ operand j ∷ [])) (gate q r)
+  on_two_comes q r is are below under differ unknown count e calm few gates = record {
+    fine = right (register_scope n) name [] (operand i ∷ operand j ∷ []) refl unknown count
+        (ap₂ (λ b c. b || (c || false)) below under) refl (ap (λ b. ((b || false) || false) || false) differ);
+    calm = ap are_calm e ∙ calm;
+    few = omega (arith, ap call_count e);
+    gates_are = ap applied e ∙ gates ∙ ap₂ gate is are;
+    one = refl;
+  }
+
+-- ---- each gate, at an index i that is the number q
+module _ (n : ℕ) (i : List ℕ) (q : ℕ) (is : 0 + numeral i ≡ q) (below : nat_le n (numeral i) ≡ false) where
+  pub h_comes : Comes (register_scope n) (application (codes "h") [] (operand i ∷ [])) (elementary.U q 2 0 4 ∷ [])
+  unfolding with_header angle_of values.applied gcd lowest limited phase_of literals.literal_value literals.decimal
+  h_comes = on_one_comes n i (codes "h") [] (λ k. elementary.U k 2 0 4 ∷ [])
+      (Called 1 ∷ Called 2 ∷ Called 3 ∷ Applied (elementary.U (0 + numeral i) 2 0 4) ∷ [])
+      q is below refl refl refl refl refl (omega arith) refl
+
+  pub x_comes : Comes (register_scope n) (application (codes "x") [] (operand i ∷ [])) (elementary.U q 4 0 4 ∷ [])
+  unfolding with_header angle_of values.applied gcd lowest limited phase_of literals.literal_value literals.decimal
+  x_comes = on_one_comes n i (codes "x") [] (λ k. elementary.U k 4 0 4 ∷ [])
+      (Called 1 ∷ Called 2 ∷ Called 3 ∷ Applied (elementary.U (0 + numeral i) 4 0 4) ∷ [])
+      q is below refl refl refl refl refl (omega arith) refl
+
+  pub t_comes : Comes (register_scope n) (application (codes "t") [] (operand i ∷ [])) (elementary.U q 0 0 1 ∷ [])
+  unfolding with_header angle_of values.applied gcd lowest limited phase_of literals.literal_value literals.decimal
+  t_comes = on_one_comes n i (codes "t") [] (λ k. elementary.U k 0 0 1 ∷ [])
+      (Called 1 ∷ Called 2 ∷ Called 3 ∷ Applied (elementary.U (0 + numeral i) 0 0 1) ∷ [])
+      q is below refl refl refl refl refl (omega arith) refl
+
+  pub s_comes : Comes (register_scope n) (application (codes "s") [] (operand i ∷ [])) (elementary.U q 0 0 2 ∷ [])
+  unfolding with_header angle_of values.applied gcd lowest limited phase_of literals.literal_value literals.decimal
+  s_comes = on_one_comes n i (codes "s") [] (λ k. elementary.U k 0 0 2 ∷ [])
+      (Called 1 ∷ Called 2 ∷ Called 3 ∷ Applied (elementary.U (0 + numeral i) 0 0 2) ∷ [])
+      q is below refl refl refl refl refl (omega arith) refl
+
+  pub z_comes : Comes (register_scope n) (application (codes "z") [] (operand i ∷ [])) (elementary.U q 0 0 4 ∷ [])
+  unfolding with_header angle_of values.applied gcd lowest limited phase_of literals.literal_value literals.decimal
+  z_comes = on_one_comes n i (codes "z") [] (λ k. elementary.U k 0 0 4 ∷ [])
+      (Called 1 ∷ Called 2 ∷ Called 3 ∷ Applied (elementary.U (0 + numeral i) 0 0 4) ∷ [])
+      q is below refl refl refl refl refl (omega arith) refl
+
+  pub sdg_comes : Comes (register_scope n) (application (codes "sdg") [] (operand i ∷ [])) (elementary.U q 0 0 6 ∷ [])
+  unfolding with_header angle_of values.applied gcd lowest limited phase_of literals.literal_value literals.decimal
+  sdg_comes = on_one_comes n i (codes "sdg") [] (λ k. elementary.U k 0 0 6 ∷ [])
+      (Called 1 ∷ Called 2 ∷ Called 3 ∷ Applied (elementary.U (0 + numeral i) 0 0 6) ∷ [])
+      q is below refl refl refl refl refl (omega arith) refl
+
+  pub tdg_comes : Comes (register_scope n) (application (codes "tdg") [] (operand i ∷ [])) (elementary.U q 0 0 7 ∷ [])
+  unfolding with_header angle_of values.applied gcd lowest limited phase_of literals.literal_value literals.decimal
+  tdg_comes = on_one_comes n i (codes "tdg") [] (λ k. elementary.U k 0 0 7 ∷ [])
+      (Called 1 ∷ Called 2 ∷ Called 3 ∷ Applied (elementary.U (0 + numeral i) 0 0 7) ∷ [])
+      q is below refl refl refl refl refl (omega arith) refl
+
+  pub three_quarters_comes : Comes (register_scope n) (application (codes "u1") (quarters (codes "3") ∷ []) (operand i ∷ [])) (elementary.U q 0 0 3 ∷ [])
+  unfolding with_header angle_of values.applied gcd lowest limited phase_of literals.literal_value literals.decimal
+  three_quarters_comes = on_one_comes n i (codes "u1") (quarters (codes "3") ∷ []) (λ k. elementary.U k 0 0 3 ∷ [])
+      (Called 1 ∷ Called 2 ∷ Applied (elementary.U (0 + numeral i) 0 0 3) ∷ [])
+      q is below refl refl refl refl refl (omega arith) refl
+
+  pub five_quarters_comes : Comes (register_scope n) (application (codes "u1") (quarters (codes "5") ∷ []) (operand i ∷ [])) (elementary.U q 0 0 5 ∷ [])
+  unfolding with_header angle_of values.applied gcd lowest limited phase_of literals.literal_value literals.decimal
+  five_quarters_comes = on_one_comes n i (codes "u1") (quarters (codes "5") ∷ []) (λ k. elementary.U k 0 0 5 ∷ [])
+      (Called 1 ∷ Called 2 ∷ Applied (elementary.U (0 + numeral i) 0 0 5) ∷ [])
+      q is below refl refl refl refl refl (omega arith) refl
+
+module _ (n : ℕ) (i j : List ℕ) (q r : ℕ) (is : 0 + numeral i ≡ q) (are : 0 + numeral j ≡ r)
+    (below : nat_le n (numeral i) ≡ false) (under : nat_le n (numeral j) ≡ false) (differ : ((0 + numeral j) == (0 + numeral i)) ≡ false) where
+  pub cx_comes : Comes (register_scope n) (application (codes "cx") [] (operand i ∷ operand j ∷ [])) (elementary.Cx q r ∷ [])
+  unfolding with_header
+  cx_comes = on_two_comes n i j (codes "cx") (λ k l. elementary.Cx k l ∷ [])
+      (Called 1 ∷ Called 2 ∷ Applied (elementary.Cx (0 + numeral i) (0 + numeral j)) ∷ [])
+      q r is are below under differ refl refl refl refl (omega arith) refl
+
+  pub cz_comes : Comes (register_scope n) (application (codes "cz") [] (operand i ∷ operand j ∷ []))
+      (elementary.U r 2 0 4 ∷ elementary.Cx q r ∷ elementary.U r 2 0 4 ∷ [])
+  unfolding with_header angle_of values.applied gcd lowest limited phase_of literals.literal_value literals.decimal
+  cz_comes = on_two_comes n i j (codes "cz") (λ k l. elementary.U l 2 0 4 ∷ elementary.Cx k l ∷ elementary.U l 2 0 4 ∷ [])
+      (Called 1 ∷ Called 2 ∷ Called 3 ∷ Called 4 ∷ Applied (elementary.U (0 + numeral j) 2 0 4)
+      ∷ Called 2 ∷ Called 3 ∷ Applied (elementary.Cx (0 + numeral i) (0 + numeral j))
+      ∷ Called 2 ∷ Called 3 ∷ Called 4 ∷ Applied (elementary.U (0 + numeral j) 2 0 4) ∷ [])
+      q r is are below under differ refl refl refl refl (omega arith) refl

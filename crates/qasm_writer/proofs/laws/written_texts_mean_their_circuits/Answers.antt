@@ -1,0 +1,20 @@
+-- By induction over the gates: their lines, their statements, and their maps.
+use Rattle.qasm_writer.proofs.WrittenLemmas.{IsWritten, is_written, text_means, lowered_elements, odd_elements, same_map}
+use Rattle.qasm_writer.proofs.laws.written_texts_mean_their_circuits.Goals as goal
+
+pub returns-clause-means : goal.returns-clause-means
+returns-clause-means c = text_means
+
+pub returns-clause-size : goal.returns-clause-size
+returns-clause-size c = λ circuit is below.
+    let w : IsWritten circuit = is_written circuit is below in
+    (w.program, w.is, w.size)
+
+pub returns-clause-gates : goal.returns-clause-gates
+returns-clause-gates c = λ circuit is below. lowered_elements circuit.qubits circuit.gates is.on_qubits below
+
+pub returns-clause-odd : goal.returns-clause-odd
+returns-clause-odd c = λ circuit is below. odd_elements circuit.qubits circuit.gates is.on_qubits below
+
+pub returns-clause-map : goal.returns-clause-map
+returns-clause-map c = λ circuit is below. same_map circuit.qubits circuit.gates is.on_qubits below
