@@ -1,4 +1,5 @@
 OPENQASM 2.0;
 include "qelib1.inc";
 qreg q[1];
-x q[0];
+creg c[1];
+measure q[0] -> c[0];

@@ -1,20 +1,21 @@
 -- Events one after the other.
 use Rattle.std.proofs.Common.{◌≡◌, ℕ, ◌+◌, Bool, true, false, if◌then◌else◌, List, [], ◌∷◌, ◌++◌, map, Option, Some, nat_le, nat_lt, refl, sym, ap, ◌∙◌, append_assoc, append-nil, add-zero, arith}
 use Rattle.zx_gates.specs.declared.elementary.ElementaryGate.{ElementaryGate}
-use Rattle.qasm_inline.specs.declared.error.Cause.{Cause}
-use Rattle.qasm_inline.specs.declared.error.Cause.TheVariants.{TooDeep, TooManyGates}
-use Rattle.qasm_inline.specs.Calls.{Event, Called, Undefined, Applied, applied, call_count, deepest, first_wrong}
+use Rattle.qasm_scope.specs.declared.causes.Cause.{Cause}
+use Rattle.qasm_scope.specs.declared.causes.Cause.TheVariants.{TooDeep, TooManyGates}
+use Rattle.qasm_scope.specs.Calls.{Event, Called, Undefined, Applied, applied, call_count, deepest, first_wrong}
 use Rattle.std.specs.List.{flat_map}
 use Rattle.qasm_reader.specs.Syntax.{Apply}
-use Rattle.qasm_inline.specs.Angles.{angles_of, numbered}
-use Rattle.qasm_inline.specs.Applications.{application_events, instances, targets_of}
-use Rattle.qasm_inline.specs.Faults.{is_no_gate, shape_of}
-use Rattle.qasm_inline.specs.Kept.{expand_number, target_for}
+use Rattle.qasm_scope.specs.Angles.{angles_of, numbered}
+use Rattle.qasm_scope.specs.Applications.{application_events, instances, targets_of}
+use Rattle.qasm_scope.specs.Faults.{is_no_gate, shape_of}
+use Rattle.qasm_scope.specs.Kept.{target_for}
+use Rattle.qasm_inline.specs.KeptCalls.{expand_number}
 use Rattle.qasm_inline.specs.KeptCalls.{Continues, target_call, values_of}
-use Rattle.qasm_inline.specs.Scope.{Scope}
+use Rattle.qasm_scope.specs.Scope.{Scope}
 use Rattle.qasm_inline.proofs.Keeping.{call-same, Agrees-itself, numbered-angles}
 use Rattle.qasm_inline.proofs.Unrolling.{Continues-join}
-use Rattle.qasm_inline.specs.Meaning.{or_else}
+use Rattle.qasm_scope.specs.Meaning.{or_else}
 
 pub applied-append : (a b : List Event) → applied (a ++ b) ≡ applied a ++ applied b
 applied-append [] b = refl

@@ -1,40 +1,19 @@
 -- Gates by their number come to what they come to by name.
-use Rattle.std.proofs.Common.{◌≡◌, ℕ, ◌+◌, ◌<◌, ◌==◌, Bool, true, false, ◌||◌, slice_index_or, if◌then◌else◌, List, [], ◌∷◌, ◌++◌, map, Some, Result, Ok, Err, refl, sym, ap, ◌∙◌, arith}
+use Rattle.std.proofs.Common.{◌≡◌, ℕ, ◌+◌, ◌<◌, ◌==◌, Bool, true, false, slice_index_or, if◌then◌else◌, List, [], ◌∷◌, ◌++◌, map, Some, Result, Ok, Err, refl, sym, ap, ◌∙◌, arith}
 use Rattle.std.specs.List.{flat_map, list_any}
-use Rattle.std.proofs.lemmas.Bool.Decides.{nat_tests}
 use Rattle.std.specs.Str.{bytes_eq}
 use Rattle.qasm_angle.specs.declared.angle.Angle.{Angle}
 use Rattle.qasm_reader.specs.Syntax.{Formula, Callee, Declared, U, Cx, GateForm, BodySentence, BodyApplied, BodyBarrier}
-use Rattle.qasm_inline.specs.declared.error.Cause.{Cause}
-use Rattle.qasm_inline.specs.declared.gates.GateCall.{GateCall}
-use Rattle.qasm_inline.specs.Angles.{in_front, angle_of, angles_of, numbered, place_of}
-use Rattle.qasm_inline.specs.Calls.{Event, Called, after_angles, call, expand, body_call, expand_meaning, expand_declared}
-use Rattle.qasm_inline.specs.Faults.{shape_of, shape_in, is_no_gate, body_has_unknown}
-use Rattle.qasm_inline.specs.Kept.{KeptCall, kept_call, gate_count, gates_in, symbol_of, symbol_in, number_in, target_for, kept_calls, is_numbered, expand_number}
+use Rattle.qasm_scope.specs.declared.causes.Cause.{Cause}
+use Rattle.qasm_scope.specs.declared.gates.GateCall.{GateCall}
+use Rattle.qasm_scope.specs.Angles.{in_front, angle_of, angles_of, numbered, place_of}
+use Rattle.qasm_scope.specs.Calls.{Event, Called, after_angles, call, expand, body_call, expand_meaning, expand_declared}
+use Rattle.qasm_scope.specs.Faults.{shape_of, shape_in, is_no_gate, body_has_unknown}
+use Rattle.qasm_scope.specs.Kept.{KeptCall, kept_call, gate_count, gates_in, symbol_of, symbol_in, number_in, target_for, kept_calls}
+use Rattle.qasm_inline.specs.KeptCalls.{is_numbered, expand_number}
+use Rattle.qasm_scope.proofs.Tests.{if-true, if-false, or-first, or-second, same_number, other_number}
 use Rattle.qasm_inline.specs.KeptCalls.{Numbered, call_events, calls_events, expand_target, target_call, values_of, picked}
-use Rattle.qasm_inline.specs.Scope.{Scope, Declaration, Meaning, Qubits, Bits, Gate, meaning_of}
-
-pub if-true : {A : Type 0} (b : Bool) (x y : A) → b ≡ true → (if b then x else y) ≡ x
-if-true true x y h = refl
-if-true false x y h = absurd (cc)
-
-pub if-false : {A : Type 0} (b : Bool) (x y : A) → b ≡ false → (if b then x else y) ≡ y
-if-false true x y h = absurd (cc)
-if-false false x y h = refl
-
-pub or-first : (a b : Bool) → (a || b) ≡ false → a ≡ false
-or-first true b h = h
-or-first false b h = refl
-
-pub or-second : (a b : Bool) → (a || b) ≡ false → b ≡ false
-or-second true b h = absurd (cc)
-or-second false b h = h
-
-pub same_number : (n : ℕ) → (n == n) ≡ true
-same_number n = grind (arith, nat_tests)
-
-pub other_number : (m n : ℕ) → n < m → (m == n) ≡ false
-other_number m n h = grind (arith, nat_tests)
+use Rattle.qasm_scope.specs.Scope.{Scope, Declaration, Meaning, Qubits, Bits, Gate, meaning_of}
 
 -- a number below the count isn't that of the next gate
 pub not-numbered : (n count : ℕ) (m : Meaning) → n < count → is_numbered n count m ≡ false

@@ -2,11 +2,11 @@
 use Rattle.std.proofs.Common.{◌≡◌, ℕ, ◌+◌, ◌<◌, ◌==◌, Bool, true, false, ◌||◌, not, List, [], ◌∷◌, length, map, drop, get_or, Option, None, Some, refl, sym, ap, ◌∙◌, add-one}
 use Rattle.std.specs.List.{list_any, slice_get}
 use Rattle.std.proofs.Math.Seq.{drop-cons}
-use Rattle.qasm_inline.specs.Applications.{Target, register_size, register_sizes, instance_count}
-use Rattle.qasm_inline.specs.Faults.{has_other_size}
+use Rattle.qasm_scope.specs.Applications.{Target, register_size, register_sizes, instance_count}
+use Rattle.qasm_scope.specs.Faults.{has_other_size}
 use Rattle.qasm_inline.specs.Spans.{span_target}
 use Rattle.qasm_inline.specs.declared.applications.Span.{Span}
-use Rattle.qasm_inline.proofs.Keeping.{same_number}
+use Rattle.qasm_scope.proofs.Tests.{same_number}
 
 sizes-drop : (spans : List Span) (i : ℕ) (d : Span) → i < length spans
     → register_sizes (map span_target (drop i spans)) ≡ register_sizes (span_target (get_or spans i d) ∷ map span_target (drop (i + 1) spans))

@@ -6,14 +6,14 @@ use Rattle.std.specs.Str.{bytes_eq}
 use Rattle.std.proofs.lemmas.Bool.Decides.{nat_tests}
 use Rattle.zx_gates.specs.Circuit.{most_qubits}
 use Rattle.qasm_reader.specs.Syntax.{Operand, Barrier}
-use Rattle.qasm_inline.specs.Applications.{Single, target_in, target_of}
-use Rattle.qasm_inline.specs.Checks.{Symbols, barrier_cause}
-use Rattle.qasm_inline.specs.Faults.{is_no_register, is_past, has_no_register, wrong_in}
-use Rattle.qasm_inline.specs.Kept.{register_in, symbol_register, IsSound, IsSoundMeaning}
-use Rattle.qasm_inline.specs.Scope.{Scope, Meaning, Qubits, Bits, Gate, meaning_of, numeral}
+use Rattle.qasm_scope.specs.Applications.{Single, target_in, target_of}
+use Rattle.qasm_scope.specs.Checks.{Symbols, barrier_cause}
+use Rattle.qasm_scope.specs.Faults.{is_no_register, is_past, has_no_register, wrong_in}
+use Rattle.qasm_scope.specs.Kept.{register_in, symbol_register, IsSound, IsSoundMeaning}
+use Rattle.qasm_scope.specs.Scope.{Scope, Meaning, Qubits, Bits, Gate, meaning_of, numeral}
 use Rattle.qasm_inline.specs.Spans.{register_by, no_register_by, past_in, past_by, span_in, span_by}
-use Rattle.qasm_inline.proofs.CheckLemmas.{AreNames, list_any-same}
-use Rattle.qasm_inline.proofs.Symbols.{symbol-register}
+use Rattle.qasm_scope.proofs.CheckLemmas.{AreNames, list_any-same}
+use Rattle.qasm_scope.proofs.Symbols.{symbol-register}
 
 pub register-names : (symbols : Symbols) (scope : Scope) (o : Operand) → AreNames symbols scope → register_by symbols o ≡ register_in (meaning_of o.register scope)
 register-names symbols scope o h = ap symbol_register (h o.register) ∙ symbol-register o.register scope
@@ -38,7 +38,7 @@ pub past-names : (symbols : Symbols) (scope : Scope) (o : Operand) → AreNames 
 past-names symbols scope o h = ap (λ r. past_in r o.index) (register-names symbols scope o h) ∙ past-at (meaning_of o.register scope) o.index
 
 -- a register of the scope has few qubits
-abbrev IsFew : Option Meaning → Type 0
+abbrev pub IsFew : Option Meaning → Type 0
 IsFew None = Unit {0}
 IsFew (Some (Qubits first size)) = first + size ≤ most_qubits
 IsFew (Some Bits) = Unit {0}

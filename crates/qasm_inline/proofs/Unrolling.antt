@@ -2,13 +2,13 @@
 use Rattle.std.proofs.Common.{◌≡◌, ℕ, ◌+◌, List, [], ◌∷◌, ◌++◌, length, Ok, Err, sym, ap, ◌∙◌, append_assoc, append-nil, arith, length-append}
 use Rattle.zx_gates.specs.declared.elementary.ElementaryGate.{ElementaryGate}
 use Rattle.qasm_angle.specs.declared.angle.Angle.{Angle}
-use Rattle.qasm_inline.specs.declared.error.Cause.{Cause}
-use Rattle.qasm_inline.specs.declared.gates.GateCall.{GateCall}
+use Rattle.qasm_scope.specs.declared.causes.Cause.{Cause}
+use Rattle.qasm_scope.specs.declared.gates.GateCall.{GateCall}
 use Rattle.qasm_inline.specs.declared.unroll.Frame.{Frame}
-use Rattle.qasm_inline.specs.Calls.{Event, Called, Undefined, after_angles, applied, call_count, first_wrong}
-use Rattle.qasm_inline.specs.declared.gates.GateBody.{GateBody}
-use Rattle.qasm_inline.specs.declared.gates.Target.{Target}
-use Rattle.qasm_inline.specs.declared.gates.Target.TheVariants as target
+use Rattle.qasm_scope.specs.Calls.{Event, Called, Undefined, after_angles, applied, call_count, first_wrong}
+use Rattle.qasm_scope.specs.declared.gates.GateBody.{GateBody}
+use Rattle.qasm_scope.specs.declared.gates.Target.{Target}
+use Rattle.qasm_scope.specs.declared.gates.Target.TheVariants as target
 use Rattle.std.specs.List.{slice_get}
 use Rattle.qasm_inline.specs.KeptCalls.{Numbered, Unrolls, calls_of, Continues, calls_events, stack_events, expand_target, target_call, values_of, picked}
 

@@ -1,18 +1,20 @@
 -- What calls of kept gates come to: a private matter of the program. It is what calls by name come to.
-use Rattle.std.specs.Prelude.{◌≡◌, ℕ, ◌+◌, List, [], ◌∷◌, ◌++◌, map, Option, None, Some, Result, Ok, Err, slice_get, slice_index_or}
+use Rattle.std.specs.Prelude.{◌≡◌, ℕ, ◌+◌, ◌==◌, Bool, false, if◌then◌else◌, List, [], ◌∷◌, ◌++◌, map, Option, None, Some, Result, Ok, Err, slice_get, slice_index_or}
 use Rattle.std.specs.Prelude.{Vec}
 use Rattle.zx_gates.specs.declared.elementary.ElementaryGate.{ElementaryGate}
 use Rattle.qasm_angle.specs.declared.angle.Angle.{Angle}
 use Rattle.qasm_angle.specs.Trees.{Tree}
 use Rattle.qasm_angle.specs.Values.{value}
-use Rattle.qasm_inline.specs.declared.error.Cause.{Cause}
-use Rattle.qasm_inline.specs.declared.gates.GateBody.{GateBody}
-use Rattle.qasm_inline.specs.declared.gates.GateCall.{GateCall}
-use Rattle.qasm_inline.specs.declared.gates.Target.{Target}
-use Rattle.qasm_inline.specs.declared.gates.Target.TheVariants as target
+use Rattle.qasm_scope.specs.declared.causes.Cause.{Cause}
+use Rattle.qasm_scope.specs.declared.gates.GateBody.{GateBody}
+use Rattle.qasm_scope.specs.declared.gates.GateCall.{GateCall}
+use Rattle.qasm_scope.specs.declared.gates.Target.{Target}
+use Rattle.qasm_scope.specs.declared.gates.Target.TheVariants as target
 use Rattle.qasm_inline.specs.declared.unroll.Frame.{Frame}
-use Rattle.qasm_inline.specs.Angles.{in_front, with_cause}
-use Rattle.qasm_inline.specs.Calls.{Event, Called, Applied, u_events, cx_events, after_angles, applied, call_count, first_wrong}
+use Rattle.qasm_scope.specs.Angles.{in_front, with_cause}
+use Rattle.qasm_scope.specs.Kept.{gate_count}
+use Rattle.qasm_scope.specs.Scope.{Scope, Meaning, Qubits, Bits, Gate}
+use Rattle.qasm_scope.specs.Calls.{Event, Called, Applied, expand_meaning, expand_declared, u_events, cx_events, after_angles, applied, call_count, first_wrong}
 
 -- the values of expressions in numbered parameters
 abbrev pub values_of : List Tree → List Angle → Result (List Angle) Cause
@@ -77,3 +79,16 @@ gate_events (Some gate) = Applied gate ∷ []
 abbrev pub given : {A : Type 0} → Result (Vec Angle A) Cause → Result (List Angle) Cause
 given (Ok angles) = Ok angles.items
 given (Err cause) = Err cause
+
+-- the declaration is that of the gate of this number, behind so many gates
+abbrev pub is_numbered : ℕ → ℕ → Meaning → Bool
+is_numbered number count (Gate form) = count == number
+is_numbered number count (Qubits first size) = false
+is_numbered number count Bits = false
+
+abbrev pub expand_number : Scope → Numbered
+expand_number [] number depth angles qubits = []
+expand_number (declaration ∷ scope) number depth angles qubits =
+    if is_numbered number (gate_count scope) declaration.meaning
+    then expand_meaning (λ n d a q. expand_declared scope n d a q) declaration.meaning depth angles qubits
+    else expand_number scope number depth angles qubits

@@ -1,13 +1,3 @@
-pub mod Angles
-pub mod Applications
-pub mod Calls
-pub mod Checks
-pub mod Entries
-pub mod Faults
-pub mod Header
-pub mod Kept
+pub mod Circuits
 pub mod KeptCalls
-pub mod Meaning
-pub mod Scope
 pub mod Spans
-pub mod Texts

@@ -1,12 +1,18 @@
 -- Arguments of applications by what names are kept as: a private matter of the program.
-use Rattle.std.specs.Prelude.{ℕ, ◌+◌, ◌-◌, ◌^◌, Bool, false, not, List, min, Option, None, Some, nat_le}
+use Rattle.std.specs.Prelude.{ℕ, ◌+◌, ◌-◌, ◌^◌, ◌==◌, Bool, false, not, ◌&&◌, ◌||◌, List, [], ◌∷◌, map, length, min, Option, None, Some, nat_le, nat_lt}
+use Rattle.std.specs.List.{list_any, range_with_len}
 use Rattle.std.specs.Option.{is_some}
-use Rattle.qasm_reader.specs.Syntax.{Operand}
-use Rattle.qasm_inline.specs.Applications.{Target, Single, Register}
-use Rattle.qasm_inline.specs.Checks.{Symbols}
-use Rattle.qasm_inline.specs.Kept.{found, symbol_register}
-use Rattle.qasm_inline.specs.Scope.{numeral}
+use Rattle.qasm_reader.specs.Syntax.{Operand, Apply}
+use Rattle.qasm_scope.specs.Applications.{Target, Single, Register, qubit_at, register_sizes, instance_count, instances, has_twice}
+use Rattle.qasm_scope.specs.Angles.{is_unsupported}
+use Rattle.qasm_scope.specs.Checks.{Symbols, shape_by, application_cause}
+use Rattle.qasm_scope.specs.Entries.{has_unplaced}
+use Rattle.qasm_scope.specs.Faults.{is_no_gate, has_other_shape, has_other_size}
+use Rattle.qasm_scope.specs.Kept.{found, symbol_register}
+use Rattle.qasm_scope.specs.Scope.{numeral}
 use Rattle.qasm_inline.specs.declared.applications.Span.{Span}
+use Rattle.qasm_scope.specs.declared.causes.Cause.{Cause}
+use Rattle.qasm_scope.specs.declared.places.Places.{Places}
 use Rattle.qasm_inline.specs.declared.applications.Span.TheVariants as span
 
 abbrev pub span_target : Span → Target
@@ -35,3 +41,38 @@ span_in None index = Single 0
 
 abbrev pub span_by : Symbols → Operand → Target
 span_by symbols operand = span_in (register_by symbols operand) operand.index
+
+-- a qubit is one of so many from the first on
+abbrev pub is_within : ℕ → ℕ → ℕ → Bool
+is_within qubit first count = nat_le first qubit && nat_lt (qubit - first) count
+
+-- two targets are the same qubit in one of so many instances
+abbrev pub overlaps : ℕ → Target → Target → Bool
+overlaps count (Single qubit) (Single same) = same == qubit && nat_lt 0 count
+overlaps count (Single qubit) (Register first size) = is_within qubit first count
+overlaps count (Register first size) (Single qubit) = is_within qubit first count
+overlaps count (Register first size) (Register same size') = same == first && nat_lt 0 count
+
+abbrev pub any_overlap : ℕ → List Target → Bool
+any_overlap count [] = false
+any_overlap count (t ∷ targets) = list_any (overlaps count t) targets || any_overlap count targets
+
+-- the qubit of a target at an index, as a circuit's qubit: cut off at the largest one
+abbrev pub cut_qubit_at : ℕ → Target → ℕ
+cut_qubit_at index t = min (qubit_at index t) (2 ^ 16 - 1)
+
+abbrev pub cut_instance : List Target → ℕ → List ℕ
+cut_instance targets index = map (cut_qubit_at index) targets
+
+abbrev pub cut_instances : List Target → List (List ℕ)
+cut_instances targets = map (cut_instance targets) (range_with_len 0 (instance_count (register_sizes targets)))
+
+-- what is wrong with an application, in which these are the places of parameters
+abbrev pub wrong_application_by : Symbols → Places → Apply → Option Cause
+wrong_application_by symbols parameters a = application_cause
+    (list_any is_unsupported a.angles)
+    (is_no_gate (shape_by symbols a.gate) || list_any (has_unplaced parameters) a.angles || list_any (no_register_by symbols) a.qubits)
+    (has_other_shape (shape_by symbols a.gate) (length a.angles) (length a.qubits))
+    (list_any (past_by symbols) a.qubits)
+    (has_other_size (register_sizes (map (span_by symbols) a.qubits)))
+    (list_any has_twice (instances (map (span_by symbols) a.qubits)))

@@ -5,19 +5,19 @@ ghost use Rattle.std.specs.List.{list_any};
 ghost use Rattle.std.specs.Option.{option_map};
 ghost use Rattle.qasm_reader.specs.Syntax.{Barrier};
 ghost use Rattle.qasm_reader.specs.Views.{operand};
-ghost use Rattle.qasm_inline.specs.declared.error.Cause.{Cause};
-ghost use Rattle.qasm_inline.specs.Checks.{barrier_cause};
-ghost use Rattle.qasm_inline.specs.Kept.{Represents};
-ghost use Rattle.qasm_inline.specs.Applications.{register_size, register_sizes, instance_count};
-ghost use Rattle.qasm_inline.specs.Faults.{has_other_size, wrong_in};
-ghost use Rattle.qasm_inline.specs.Scope.{Scope, numeral};
+ghost use Rattle.qasm_scope.specs.declared.causes.Cause.{Cause};
+ghost use Rattle.qasm_scope.specs.Checks.{barrier_cause};
+ghost use Rattle.qasm_scope.specs.Kept.{Represents};
+ghost use Rattle.qasm_scope.specs.Applications.{register_size, register_sizes, instance_count};
+ghost use Rattle.qasm_scope.specs.Faults.{has_other_size, wrong_in};
+ghost use Rattle.qasm_scope.specs.Scope.{Scope, numeral};
 ghost use Rattle.qasm_inline.specs.Spans.{span_target, span_by, span_in, no_register_by, past_by, past_in};
 
-use crate::error::Cause;
-use crate::names::Names;
-use crate::numerals::number;
-use crate::stopped::Stopped;
 use qasm_reader::Argument;
+use qasm_scope::Cause;
+use qasm_scope::names::Names;
+use qasm_scope::numerals::number;
+use qasm_scope::stopped::Stopped;
 use std::alloc::{AllocError, Global};
 
 /// What an argument stands for.

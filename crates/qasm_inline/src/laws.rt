@@ -1,28 +1,17 @@
-//! Laws of the header.
+//! Laws of the circuits that programs mean.
 
-ghost use Rattle.std.specs.Prelude.{◌≡◌, false, ◌∷◌, ◌++◌, List, map, None};
-ghost use Rattle.std.specs.List.{list_any};
-ghost use Rattle.qasm_reader.specs.Syntax.{DeclareGate, GateForm, Placed};
-ghost use Rattle.qasm_inline.specs.Faults.{wrong_in};
-ghost use Rattle.qasm_inline.specs.Header.{header_text, first_gates, further_gates};
-ghost use Rattle.qasm_inline.specs.Meaning.{with_first, with_further};
-ghost use Rattle.qasm_inline.specs.Scope.{Scope, is_declared};
-ghost use Rattle.qasm_inline.specs.Texts.{IsProgramText};
+ghost use Rattle.std.specs.Prelude.{◌≤◌, ℕ, List};
+ghost use Rattle.std.specs.List.{All};
+ghost use Rattle.zx_gates.specs.declared.elementary.ElementaryGate.{ElementaryGate};
+ghost use Rattle.zx_gates.specs.Circuit.{most_qubits};
+ghost use Rattle.zx_gates.specs.Elementary.{IsElementaryGateOn};
+ghost use Rattle.qasm_reader.specs.Syntax.{Placed};
+ghost use Rattle.qasm_scope.specs.Meaning.{Means};
 
-/// The header's text is the program of the declarations of its gates.
-pub fn the_header_declares_its_gates()
-    ensures { (program : List Placed) × IsProgramText header_text program
-        × (map (λ s. s.sentence) program ≡ map DeclareGate (first_gates ++ further_gates)) }
-{}
-
-/// Where no name of the first gates is declared, no declaration of the header has a fault: neither a first gate behind
-/// those that stand before it, nor a further gate whose name is free behind those.
-pub fn the_header_is_faultless()
-    ensures first { (scope : Scope) (front : List GateForm) (form : GateForm) (back : List GateForm)
-        → list_any (λ form. is_declared form.name scope) first_gates ≡ false → first_gates ≡ front ++ form ∷ back
-        → wrong_in (with_first front scope) (DeclareGate form) ≡ None }
-    ensures further { (scope : Scope) (front : List GateForm) (form : GateForm) (back : List GateForm)
-        → further_gates ≡ front ++ form ∷ back
-        → is_declared form.name (with_further front (with_first first_gates scope)) ≡ false
-        → wrong_in (with_further front (with_first first_gates scope)) (DeclareGate form) ≡ None }
+/// The circuit that a program means has few qubits, its gates act on them, and the two qubits of a CX differ.
+pub fn meant_circuits_are_elementary()
+    ensures few { (program : List Placed) (qubits : ℕ) (gates : List ElementaryGate)
+        → Means program qubits gates → qubits ≤ most_qubits }
+    ensures on_qubits { (program : List Placed) (qubits : ℕ) (gates : List ElementaryGate)
+        → Means program qubits gates → All (IsElementaryGateOn qubits) gates }
 {}

@@ -2,18 +2,15 @@
 #![tactic(auto)]
 
 mod applications;
-mod bodies;
-mod declarations;
+mod applying;
 pub mod error;
-mod expressions;
-mod gates;
+mod instances;
 pub mod laws;
-mod names;
-mod numerals;
-mod places;
-mod registers;
-mod stopped;
+pub mod meaning;
+mod overlaps;
+mod statements;
 mod unroll;
 mod values;
 
-pub use error::{Cause, InlineError};
+pub use error::InlineError;
+pub use meaning::inline;

@@ -2,16 +2,16 @@
 
 ghost use Rattle.std.specs.Prelude.{◌≡◌, ◌+◌, ◌-◌, ◌*◌, ◌<◌, ◌≤◌, ◌++◌, ◌∷◌, List, ℕ, length, Ok, Err, Some, None, IfOk, IfErr, OnOk, [], slice_get};
 ghost use Rattle.zx_gates.specs.declared.elementary.ElementaryGate.{ElementaryGate};
-ghost use Rattle.qasm_inline.specs.declared.error.Cause.{Cause};
-ghost use Rattle.qasm_inline.specs.Calls.{Event, Called, Undefined, applied, call_count, first_wrong, u_events, cx_events, after_angles};
+ghost use Rattle.qasm_scope.specs.declared.causes.Cause.{Cause};
+ghost use Rattle.qasm_scope.specs.Calls.{Event, Called, Undefined, applied, call_count, first_wrong, u_events, cx_events, after_angles};
 ghost use Rattle.qasm_inline.specs.KeptCalls.{Numbered, Unrolls, Continues, calls_events, stack_events, expand_target, target_call, gate_events, given, calls_of};
-ghost use Rattle.qasm_inline.specs.Meaning.{most_calls};
+ghost use Rattle.qasm_scope.specs.Meaning.{most_calls};
 
-use crate::error::Cause;
-use crate::gates::{GateBody, GateCall, Target};
-use crate::stopped::Stopped;
 use crate::values::{copied, eighth_of, evaluated, picked};
 use qasm_angle::Angle;
+use qasm_scope::Cause;
+use qasm_scope::gates::{GateBody, GateCall, Target};
+use qasm_scope::stopped::Stopped;
 use std::alloc::Global;
 use zx_gates::{ElementaryGate, Elements, Qubit};
 

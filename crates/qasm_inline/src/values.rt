@@ -3,12 +3,12 @@
 ghost use Rattle.std.specs.Prelude.{◌≡◌, Ok, Err, Some, None, IfOk, IfErr, slice_index_or};
 ghost use Rattle.qasm_angle.specs.Eighths.{phase_of};
 ghost use Rattle.qasm_angle.specs.Values.{value};
-ghost use Rattle.qasm_inline.specs.Angles.{with_cause};
+ghost use Rattle.qasm_scope.specs.Angles.{with_cause};
 ghost use Rattle.qasm_inline.specs.KeptCalls.{picked, values_of};
 
-use crate::error::Cause;
-use crate::stopped::Stopped;
 use qasm_angle::{Angle, AngleError, Expr, eval, to_eighth};
+use qasm_scope::Cause;
+use qasm_scope::stopped::Stopped;
 use std::alloc::{AllocError, Global};
 use zx_gates::Qubit;
 use zx_model::Eighth;

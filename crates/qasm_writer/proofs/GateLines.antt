@@ -15,13 +15,13 @@ use Rattle.qasm_lexer.specs.declared.token.TokenKind.TheVariants.{Identifier}
 use Rattle.qasm_lexer.specs.Forms.{is_digit, is_natural, is_word}
 use Rattle.qasm_lexer.specs.Tokens.{word_kind}
 use Rattle.qasm_reader.specs.Syntax.{Formula, Operand, Sentence, Placed}
-use Rattle.qasm_inline.specs.Calls.{Event, Called, Undefined, Applied, call_count, deepest, first_wrong}
-use Rattle.qasm_inline.specs.declared.error.Cause.{Cause}
-use Rattle.qasm_inline.specs.declared.error.Cause.TheVariants as causes
-use Rattle.qasm_inline.specs.Faults.{wrong_in}
-use Rattle.qasm_inline.specs.Meaning.{events_of, or_else, placed_or, fault_behind, scope_behind, gates_behind}
-use Rattle.qasm_inline.specs.Scope.{numeral, numeral_from}
-use Rattle.qasm_inline.specs.Texts.{size_behind}
+use Rattle.qasm_scope.specs.Calls.{Event, Called, Undefined, Applied, call_count, deepest, first_wrong}
+use Rattle.qasm_scope.specs.declared.causes.Cause.{Cause}
+use Rattle.qasm_scope.specs.declared.causes.Cause.TheVariants as causes
+use Rattle.qasm_scope.specs.Faults.{wrong_in}
+use Rattle.qasm_scope.specs.Meaning.{events_of, or_else, placed_or, fault_behind, scope_behind, gates_behind}
+use Rattle.qasm_scope.specs.Scope.{numeral, numeral_from}
+use Rattle.qasm_scope.specs.Texts.{size_behind}
 use Rattle.qasm_writer.specs.Elements.{elements, elements_of, IsBelowATurn}
 use Rattle.qasm_writer.specs.Written.{gate_line, on_one, on_two}
 use Rattle.qasm_writer.proofs.Lines.{IsLine, AreLines, no_line, line_then, on_one_line, on_two_line, u1_line, u1_text}

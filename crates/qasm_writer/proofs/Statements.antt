@@ -12,14 +12,14 @@ use Rattle.qasm_angle.specs.Ratio.{gcd, lowest, limited}
 use Rattle.qasm_angle.specs.Eighths.{phase_of}
 use Rattle.qasm_angle.specs.Literals as literals
 use Rattle.qasm_angle.specs.Values as values
-use Rattle.qasm_inline.specs.Angles.{angle_of}
-use Rattle.qasm_inline.specs.Calls.{Event, Called, Undefined, Applied, applied, call_count, deepest}
-use Rattle.qasm_inline.specs.declared.error.Cause.{Cause}
-use Rattle.qasm_inline.specs.declared.error.Cause.TheVariants as cause
-use Rattle.qasm_inline.specs.Faults.{wrong_in, first_cause, has_unsupported, has_unknown, has_wrong_count, has_wrong_index, has_other_sizes, has_same_qubit}
-use Rattle.qasm_inline.specs.Meaning.{with_header, events_of}
-use Rattle.qasm_inline.specs.Scope.{Scope, Qubits, declared, numeral}
-use Rattle.qasm_inline.specs.Texts.{instances_in}
+use Rattle.qasm_scope.specs.Angles.{angle_of}
+use Rattle.qasm_scope.specs.Calls.{Event, Called, Undefined, Applied, applied, call_count, deepest}
+use Rattle.qasm_scope.specs.declared.causes.Cause.{Cause}
+use Rattle.qasm_scope.specs.declared.causes.Cause.TheVariants as cause
+use Rattle.qasm_scope.specs.Faults.{wrong_in, first_cause, has_unsupported, has_unknown, has_wrong_count, has_wrong_index, has_other_sizes, has_same_qubit}
+use Rattle.qasm_scope.specs.Meaning.{with_header, events_of}
+use Rattle.qasm_scope.specs.Scope.{Scope, Qubits, declared, numeral}
+use Rattle.qasm_scope.specs.Texts.{instances_in}
 
 -- the qubit of the register at an index
 abbrev pub operand : List ℕ → Operand

@@ -19,11 +19,11 @@ use Rattle.zx_gates.specs.declared.gate.Gate.{Gate}
 use Rattle.zx_gates.specs.declared.gate.Gate.TheVariants.{H, Phase, Cz, Cx, Not}
 use Rattle.zx_gates.proofs.LoweringLemmas.{proportional_lowered, odd_lowered, odd_count-append}
 use Rattle.qasm_reader.specs.Syntax.{Sentence, Version, Include, QubitRegister, Placed}
-use Rattle.qasm_inline.specs.declared.error.Cause.TheVariants as cause
-use Rattle.qasm_inline.specs.Faults.{wrong_in, has_too_many_qubits, is_empty_register}
-use Rattle.qasm_inline.specs.Meaning.{Means, with_header, behind, fault_behind, scope_behind, gates_behind, first_fault}
-use Rattle.qasm_inline.specs.Scope.{Qubits, declared, numeral, qubit_count}
-use Rattle.qasm_inline.specs.Texts.{IsProgramText, TextMeans, size_behind, program_size}
+use Rattle.qasm_scope.specs.declared.causes.Cause.TheVariants as cause
+use Rattle.qasm_scope.specs.Faults.{wrong_in, has_too_many_qubits, is_empty_register}
+use Rattle.qasm_scope.specs.Meaning.{Means, with_header, behind, fault_behind, scope_behind, gates_behind, first_fault}
+use Rattle.qasm_scope.specs.Scope.{Qubits, declared, numeral, qubit_count}
+use Rattle.qasm_scope.specs.Texts.{IsProgramText, TextMeans, size_behind, program_size}
 use Rattle.qasm_writer.specs.Elements.{h, elements, elements_of, gate_without_cz, without_cz, IsBelowATurn}
 use Rattle.qasm_writer.specs.Written.{gate_line, register_line, version_line, include_line, written}
 use Rattle.qasm_writer.proofs.Lines.{AreLines, no_line, line_then, version_is, include_is, register_is, register_text}

@@ -9,7 +9,7 @@ ghost use Rattle.zx_gates.specs.ElementaryMaps.{amp_elementary};
 ghost use Rattle.zx_gates.specs.Lowering.{lowered};
 ghost use Rattle.zx_gates.specs.Maps.{amp};
 ghost use Rattle.qasm_reader.specs.Syntax.{Placed};
-ghost use Rattle.qasm_inline.specs.Texts.{IsProgramText, TextMeans, program_size};
+ghost use Rattle.qasm_scope.specs.Texts.{IsProgramText, TextMeans, program_size};
 ghost use Rattle.qasm_writer.specs.Elements.{IsBelowATurn, elements_of, without_cz};
 ghost use Rattle.qasm_writer.specs.Written.{written};
 

@@ -4,7 +4,7 @@ ghost use Rattle.std.specs.Prelude.{◌≡◌, ◌<◌, ◌++◌, IfOk, OnOk, co
 ghost use Rattle.std.specs.List.{All};
 ghost use Rattle.zx_model.specs.Phase.{turn};
 ghost use Rattle.qasm_writer.specs.Elements.{IsBelowATurn, elements_of};
-ghost use Rattle.qasm_inline.specs.Texts.{TextMeans};
+ghost use Rattle.qasm_scope.specs.Texts.{TextMeans};
 ghost use Rattle.qasm_writer.specs.Written.{written, gate_line, on_one, on_two, qubit, phase_name, register_line};
 
 use itoa::Buffer;

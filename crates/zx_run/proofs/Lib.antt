@@ -1,6 +1,7 @@
 pub mod PhaseLemmas
 pub mod MergeLemmas
 pub mod MergeStepLemmas
-pub mod ReadLemmas
 pub mod OutcomeLemmas
 pub mod OptimiseLemmas
+pub mod FaultLemmas
+pub mod AnswerLemmas

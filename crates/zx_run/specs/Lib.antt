@@ -1,7 +1,8 @@
 pub mod Command
 pub mod Merging
 pub mod MergeSteps
-pub mod Reading
+pub mod FirstFault
 pub mod Optimising
 pub mod Outcome
 pub mod ErrorLine
+pub mod Parsing

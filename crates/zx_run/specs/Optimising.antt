@@ -1,12 +1,17 @@
 -- What the optimiser may make of a circuit.
-use Rattle.std.specs.Prelude.{◌≡◌, ◌≤◌, length}
+use Rattle.std.specs.Prelude.{◌≡◌, ◌≤◌, IsTrue, ℕ, List}
 use Rattle.zx_model.specs.Proportional.{Proportional}
+use Rattle.zx_gates.specs.declared.elementary.ElementaryGate.{ElementaryGate}
 use Rattle.zx_gates.specs.Circuit.{Circuit, odd_count}
+use Rattle.zx_gates.specs.Elementary.{elementary_odd_count}
+use Rattle.zx_gates.specs.ElementaryMaps.{amp_elementary}
 use Rattle.zx_gates.specs.Maps.{amp}
+use Rattle.zx_run.specs.Merging.{is_settled}
 
--- a circuit on the same qubits, with a proportional linear map, and with no more gates and odd phases
-pub record Optimises (read written : Circuit) : Type 0 where
-  pub qubits : written.qubits ≡ read.qubits
-  pub map : Proportional read.qubits read.qubits (amp read.gates) (amp written.gates)
-  pub odd : odd_count written.gates ≤ odd_count read.gates
-  pub length : length written.gates ≤ length read.gates
+-- a circuit on the same qubits, with a proportional linear map, with no more odd phases than the read gates cost, and
+-- without phase gates that could be merged
+pub record Optimises (qubits : ℕ) (read : List ElementaryGate) (written : Circuit) : Type 0 where
+  pub as_many_qubits : written.qubits ≡ qubits
+  pub map : Proportional qubits qubits (amp_elementary read) (amp written.gates)
+  pub odd : odd_count written.gates ≤ elementary_odd_count read
+  pub settled : IsTrue (is_settled written.gates)

@@ -1,22 +1,33 @@
 -- What a run did to the output, and what its answer says.
-use Rattle.std.specs.Prelude.{◌≡◌, ◌≢◌, ◌≤◌, ◌⊎◌, ◌++◌, ℕ, List, [], length, take, Option, None, Some}
+use Rattle.std.specs.Prelude.{◌≡◌, ◌≢◌, ◌≤◌, ◌⊎◌, ◌++◌, ℕ, List, [], take, Option, Some}
 use Rattle.zx_io.specs.Causes.{Rose}
+use Rattle.zx_gates.specs.declared.elementary.ElementaryGate.{ElementaryGate}
 use Rattle.zx_gates.specs.Circuit.{Circuit}
+use Rattle.zx_gates.specs.Elementary.{elementary_odd_count}
+use Rattle.zx_gates.specs.ElementaryMaps.{amp_elementary}
+use Rattle.zx_model.specs.Proportional.{Proportional}
+use Rattle.qasm_scope.specs.Texts.{TextMeans}
+use Rattle.qasm_writer.specs.Elements.{elements_of}
 use Rattle.zx_run.specs.declared.status.Status.{Status}
 use Rattle.zx_run.specs.declared.status.Status.TheVariants.{Done, Refused, Usage, ReadFault, WriteFault, NoMemory, No}
 use Rattle.zx_run.specs.declared.status.Fault.TheVariants.{TooLong}
 use Rattle.qasm_writer.specs.Written.{written}
-use Rattle.zx_run.specs.Reading.{first_fault, circuit_of}
+use Rattle.zx_run.specs.FirstFault.{IsAccepted, IsFirstFault}
 use Rattle.zx_run.specs.Optimising.{Optimises}
 
--- The bytes are what `opt` may write for a text: the text has no fault, and they are the text of a circuit
--- that optimises the one that is meant, with one gate at most.
+-- The bytes are what `opt` may write for a text: the text has no fault, and they are the text of a circuit that
+-- optimises the one that is meant. Read again, they mean the same linear map up to a nonzero scalar, with no more odd
+-- phases.
 pub record IsOutputFor (text bytes : List ℕ) : Type 0 where
+  pub qubits : ℕ
+  pub read : List ElementaryGate
   pub circuit : Circuit
-  pub faultless : first_fault text ≡ None
-  pub optimises : Optimises (circuit_of text) circuit
-  pub one_gate : length circuit.gates ≤ 1
+  pub accepted : IsAccepted text qubits read
+  pub optimises : Optimises qubits read circuit
   pub spelled : bytes ≡ written circuit
+  pub means : TextMeans bytes qubits (elements_of circuit.gates)
+  pub same_map : Proportional qubits qubits (amp_elementary read) (amp_elementary (elements_of circuit.gates))
+  pub no_more_odd : elementary_odd_count (elements_of circuit.gates) ≤ elementary_odd_count read
 
 -- what was told as taken gained all of these bytes
 abbrev pub Gains : Option (List ℕ) → Option (List ℕ) → List ℕ → Type 0
@@ -53,7 +64,7 @@ IsAnswer left left' faults faults' taken taken' missed missed' Done =
     (faults' ≡ faults) × (missed' ≡ missed) × ((text : List ℕ) → left ≡ Some text →
     (left' ≡ Some []) × ((bytes : List ℕ) × IsOutputFor text bytes × Gains taken taken' bytes))
 IsAnswer left left' faults faults' taken taken' missed missed' (Refused fault) =
-    (faults' ≡ faults) × ((text : List ℕ) → left ≡ Some text → (first_fault text ≡ Some fault) × (fault ≢ TooLong → left' ≡ Some []))
+    (faults' ≡ faults) × ((text : List ℕ) → left ≡ Some text → IsFirstFault text fault × (fault ≢ TooLong → left' ≡ Some []))
 IsAnswer left left' faults faults' taken taken' missed missed' Usage = Unit {0}
 IsAnswer left left' faults faults' taken taken' missed missed' ReadFault = Rose faults faults'
 IsAnswer left left' faults faults' taken taken' missed missed' WriteFault =

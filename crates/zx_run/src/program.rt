@@ -5,7 +5,8 @@ ghost use Rattle.zx_io.specs.Causes.{Rose};
 ghost use Rattle.zx_run.specs.declared.status.Fault.{Fault};
 ghost use Rattle.zx_run.specs.declared.words.Command.TheVariants.{Optimise};
 ghost use Rattle.zx_run.specs.Command.{command_of};
-ghost use Rattle.zx_run.specs.Reading.{first_fault};
+ghost use Rattle.zx_gates.specs.declared.elementary.ElementaryGate.{ElementaryGate};
+ghost use Rattle.zx_run.specs.FirstFault.{IsAccepted, IsFirstFault};
 ghost use Rattle.zx_run.specs.Outcome.{IsOutputFor, Gains, GainsFront, LeavesOutput, IsAnswer};
 ghost use Rattle.zx_run.specs.ErrorLine.{error_line};
 
@@ -45,10 +46,10 @@ pub fn run<'a, S: Source, O: Sink, E: Sink>(
     // Refused: exactly where no read failed and the fault is the first one of the text.
     ensures refused { (fault : Fault) → result ≡ Status.Refused fault → S.faults source.new ≡ S.faults source.old }
     ensures refused_first { (fault : Fault) (text : List ℕ) → result ≡ Status.Refused fault →
-        S.left source.old ≡ Some text → first_fault text ≡ Some fault }
+        S.left source.old ≡ Some text → IsFirstFault text fault }
     ensures refused_where { (fault : Fault) (text : List ℕ) →
         command_of (map (λ word. word.now) words.now) ≡ Some Optimise →
-        S.left source.old ≡ Some text → first_fault text ≡ Some fault →
+        S.left source.old ≡ Some text → IsFirstFault text fault →
         ¬ Rose (S.faults source.old) (S.faults source.new) →
         (result ≡ Status.Refused fault) ⊎ (result ≡ Status.NoMemory) }
 
@@ -61,8 +62,9 @@ pub fn run<'a, S: Source, O: Sink, E: Sink>(
     ensures never_no { result ≢ Status.No }
 
     // A text without fault is optimised, unless an end fails or memory runs out.
-    ensures complete { (text : List ℕ) → command_of (map (λ word. word.now) words.now) ≡ Some Optimise →
-        S.left source.old ≡ Some text → first_fault text ≡ None →
+    ensures complete { (text : List ℕ) (qubits : ℕ) (gates : List ElementaryGate) →
+        command_of (map (λ word. word.now) words.now) ≡ Some Optimise →
+        S.left source.old ≡ Some text → IsAccepted text qubits gates →
         ¬ Rose (S.faults source.old) (S.faults source.new) → ¬ Rose (O.faults out.old) (O.faults out.new) →
         (result ≡ Status.Done) ⊎ (result ≡ Status.NoMemory) }
 

@@ -1,18 +1,19 @@
 //! What no clause says: that runs succeed with ample memory, and the bytes of worked examples.
 ghost use Rattle.std.specs.Prelude.{◌≤◌};
 
-use crate::merge::merge_phases;
+use crate::reader::read_circuit;
 use crate::{Fault, Status, run};
 use std::alloc::Global;
 use std::test::Fail;
-use zx_gates::{Gate, GateList};
+use zx_gates::{counts, lower};
 use zx_io::{MemSink, MemSource, NeverFailSink, NeverFailSource};
-use zx_model::Eighth;
 
 const USAGE: &[u8] =
     b"usage: zxopt opt [--best] [--report] | reduce | flow | graph | gen SEED QUBITS GATES\n";
 
 const HEAD: &[u8] = b"OPENQASM 2.0;\ninclude \"qelib1.inc\";\nqreg q[1];\n";
+
+const SHORT_HEAD: &[u8] = b"OPENQASM 2.0;\ninclude \"qelib1.inc\";\n";
 
 // The head and these lines.
 fn with_head(alloc: Global, lines: &[u8]) -> Result<Vec<u8>, Fail> {
@@ -30,28 +31,59 @@ fn run_with(
 ) -> Result<(Status, MemSink, MemSink), Fail> {
     let [read_fails, write_fails, err_fails] = fails;
     let mut source = MemSource::new(text, 20, read_fails.to_vec(alloc)?);
-    let mut out = MemSink::new(alloc, 1000, 20, write_fails.to_vec(alloc)?)?;
+    let mut out = MemSink::new(alloc, 4000, 20, write_fails.to_vec(alloc)?)?;
     let mut err = MemSink::new(alloc, 1000, 20, err_fails.to_vec(alloc)?)?;
     let status = run(alloc, words, &mut source, &mut out, &mut err);
     Ok((status, out, err))
 }
 
+// Both texts, one behind the other.
+fn joined(alloc: Global, front: &[u8], back: &[u8]) -> Result<Vec<u8>, Fail> {
+    let mut text = front.to_vec(alloc)?;
+    text.extend_from_slice(back)?;
+    Ok(text)
+}
+
+// What `opt` answers to a text, and what it writes on the output and on the error output.
+fn opt(alloc: Global, text: &[u8]) -> Result<(Status, MemSink, MemSink), Fail> {
+    run_with(alloc, &["opt"], text.to_vec(alloc)?, [&[], &[], &[]])
+}
+
 #[test]
-fn phases_on_one_qubit_become_one(rt: HostRuntime) -> Result<(), Fail> {
+fn texts_are_optimised(rt: HostRuntime) -> Result<(), Fail> {
     let alloc = rt.alloc();
-    let rows: [(&[u8], &[u8]); 8] = [
+    // What follows the head of a text, and of what is written for it.
+    let rows: [(&[u8], &[u8]); 15] = [
         (b"", b""),
         (b"t q[0];\nt q[0];\n", b"s q[0];\n"),
         (b"t q[0];\nt q[0];\nt q[0];\n", b"u1(3*pi/4) q[0];\n"),
-        (b"u1(3*pi/4) q[0];\nt q[0];\n", b"z q[0];\n"),
         (b"z q[0];\nt q[0];\n", b"u1(5*pi/4) q[0];\n"),
-        (b"sdg q[0];\n", b"sdg q[0];\n"),
-        (b"s q[0];\nu1(5*pi/4) q[0];\n", b"tdg q[0];\n"),
         (b"t q[0];\ntdg q[0];\ns q[0];\nsdg q[0];\n", b""),
+        (b"x q[0];\n", b"x q[0];\n"),
+        (b"rz(0.25*pi) q[0];\n", b"t q[0];\n"),
+        (
+            b"ry(pi/4) q[0];\n",
+            b"sdg q[0];\nh q[0];\nt q[0];\nh q[0];\ns q[0];\n",
+        ),
+        (
+            b"gate g(x) a { U(0,0,x/2) a; }\ng(pi/2) q[0];\n",
+            b"t q[0];\n",
+        ),
+        (b"gate g a { U(0,0,pi/0) a; }\n", b""),
+        (b"u1(1152921504606846976*pi) q[0];\n", b""),
+        (b"// t q[0];\r\n\tt q[0] ; t q [ 0 ];// end", b"s q[0];\n"),
+        (
+            b"gate sx a { sx a; sx a; }\nsx q[0];\n",
+            b"sdg q[0];\nh q[0];\nz q[0];\nh q[0];\nsdg q[0];\n",
+        ),
+        (b"gate p(x) a { }\np(pi/3) q[0];\n", b""),
+        (
+            b"creg c[3];\nbarrier q;\nbarrier q[0],q;\nu(0,0,-pi/4) q[0];\n",
+            b"tdg q[0];\n",
+        ),
     ];
     for (lines, written) in rows {
-        let text = with_head(alloc, lines)?;
-        let (status, out, err) = run_with(alloc, &["opt"], text, [&[], &[], &[]])?;
+        let (status, out, err) = opt(alloc, &with_head(alloc, lines)?)?;
         assert_eq!(rt; status, Status::Done);
         assert_eq!(rt; out.bytes(), with_head(alloc, written)?.as_slice());
         assert_eq!(rt; err.bytes(), b"".as_slice());
@@ -60,77 +92,220 @@ fn phases_on_one_qubit_become_one(rt: HostRuntime) -> Result<(), Fail> {
 }
 
 #[test]
-fn phases_merge_past_gates_of_other_qubits(rt: HostRuntime) -> Result<(), Fail> {
-    let mut read = GateList::new(rt.alloc(), 2);
-    read.push(Gate::Phase(0, Eighth::new(2)))?;
-    read.push(Gate::Phase(1, Eighth::new(1)))?;
-    read.push(Gate::Phase(1, Eighth::new(7)))?;
-    read.push(Gate::Phase(0, Eighth::new(2)))?;
-    let merged = merge_phases(rt.alloc(), &read)?;
-    assert_eq!(rt; merged.gates(), [Gate::Phase(0, Eighth::new(4))].as_slice());
-    Ok(())
-}
-
-#[test]
-fn a_merged_phase_stands_at_the_later_place(rt: HostRuntime) -> Result<(), Fail> {
-    let mut read = GateList::new(rt.alloc(), 2);
-    read.push(Gate::Phase(0, Eighth::new(1)))?;
-    read.push(Gate::H(1))?;
-    read.push(Gate::Phase(0, Eighth::new(1)))?;
-    read.push(Gate::Cz(0, 1))?;
-    read.push(Gate::Phase(0, Eighth::new(1)))?;
-    let merged = merge_phases(rt.alloc(), &read)?;
-    let expected = [
-        Gate::H(1),
-        Gate::Phase(0, Eighth::new(2)),
-        Gate::Cz(0, 1),
-        Gate::Phase(0, Eighth::new(1)),
+fn other_heads_are_read(rt: HostRuntime) -> Result<(), Fail> {
+    let alloc = rt.alloc();
+    // A whole text, and what follows the short head of what is written for it.
+    let rows: [(&[u8], &[u8]); 8] = [
+        (b"OPENQASM 2.0;", b""),
+        (
+            b"OPENQASM 2.0;\nqreg q[1];\nU(pi/2,0,pi) q[0];\n",
+            b"qreg q[1];\nh q[0];\n",
+        ),
+        (
+            b"OPENQASM 2.0;\ninclude \"qelib1.inc\";\nqreg q[2];\nt q;\n",
+            b"qreg q[2];\nt q[0];\nt q[1];\n",
+        ),
+        (
+            b"OPENQASM 2.0;\ninclude \"qelib1.inc\";\nqreg u[2];\ngate swap a,b { }\nswap u[0],u[1];\n",
+            b"qreg q[2];\n",
+        ),
+        (
+            b"OPENQASM 2.0;\ninclude \"qelib1.inc\";\nqreg q[1024];\n",
+            b"qreg q[1024];\n",
+        ),
+        (
+            b"OPENQASM 2.0;\ngate swap a,b { CX b,a; }\ninclude \"qelib1.inc\";\nqreg a[1];\nqreg b[2];\nswap a[0],b;\n",
+            b"qreg q[3];\ncx q[1],q[0];\ncx q[2],q[0];\n",
+        ),
+        (
+            b"OPENQASM 2.0;\ninclude \"qelib1.inc\";\ngate swap a,b { swap b,a; }\nqreg q[2];\nswap q[0],q[1];\n",
+            b"qreg q[2];\ncx q[1],q[0];\ncx q[0],q[1];\ncx q[1],q[0];\n",
+        ),
+        (
+            b"OPENQASM 2.0;\ninclude \"qelib1.inc\";\nqreg q[2];\ns q[0];\nt q[1];\ntdg q[1];\ns q[0];\n",
+            b"qreg q[2];\nz q[0];\n",
+        ),
     ];
-    assert_eq!(rt; merged.gates(), expected.as_slice());
+    for (text, written) in rows {
+        let (status, out, _) = opt(alloc, text)?;
+        assert_eq!(rt; status, Status::Done);
+        assert_eq!(rt; out.bytes(), joined(alloc, SHORT_HEAD, written)?.as_slice());
+    }
     Ok(())
 }
 
 #[test]
 fn other_texts_are_refused_at_their_first_fault(rt: HostRuntime) -> Result<(), Fail> {
     let alloc = rt.alloc();
-    let rows: [(&[u8], usize, &[u8]); 7] = [
-        (b"", 0, b"zxopt: fault 6 Unsupported at 0\n"),
+    // What follows the head.
+    let rows: [(&[u8], &[u8]); 24] = [
+        (b"@", b"zxopt: fault 2 BadByte at 47\n"),
+        (b"h q[0]", b"zxopt: fault 3 Syntax at 47\n"),
         (
-            b"OPENQASM 2.0;\n",
-            14,
-            b"zxopt: fault 6 Unsupported at 14\n",
+            b"creg c[1];\nmeasure q[0] -> c[0];\n",
+            b"zxopt: fault 6 Unsupported at 58\n",
+        ),
+        (b"u1(pi^2) r[9];\n", b"zxopt: fault 6 Unsupported at 47\n"),
+        (b"qreg q[2];\n", b"zxopt: fault 7 Redeclared at 47\n"),
+        (b"gate g(a) a { }\n", b"zxopt: fault 7 Redeclared at 47\n"),
+        (b"gate h a { }\n", b"zxopt: fault 7 Redeclared at 47\n"),
+        (b"qreg r[0];\n", b"zxopt: fault 8 EmptyRegister at 47\n"),
+        (b"qreg r[1024];\n", b"zxopt: fault 9 TooManyQubits at 47\n"),
+        (
+            b"cu3(0,0,0) q[0],q[0];\n",
+            b"zxopt: fault 10 Unknown at 47\n",
+        ),
+        (b"gate g a { g a; }\n", b"zxopt: fault 10 Unknown at 47\n"),
+        (b"cx q[0];\n", b"zxopt: fault 11 WrongCount at 47\n"),
+        (
+            b"gate g a { CX a,a; CX a; }\n",
+            b"zxopt: fault 11 WrongCount at 47\n",
+        ),
+        (b"h q[1];\n", b"zxopt: fault 12 Index at 47\n"),
+        (
+            b"qreg a[2];\nqreg b[3];\ncx a,b;\n",
+            b"zxopt: fault 13 Sizes at 69\n",
+        ),
+        (b"cx q[0],q[0];\n", b"zxopt: fault 14 SameQubit at 47\n"),
+        (b"cx q[0],q;\n", b"zxopt: fault 14 SameQubit at 47\n"),
+        (b"u1(pi/0) q[0];\n", b"zxopt: fault 15 Divide at 47\n"),
+        (
+            b"gate g(x) a { }\ng(1/0) q[0];\n",
+            b"zxopt: fault 15 Divide at 63\n",
         ),
         (
-            b"OPENQASM 2.0;\ninclude \"qelib1.inc\";\n",
-            36,
-            b"zxopt: fault 6 Unsupported at 36\n",
+            b"u1(1152921504606846977*pi) q[0];\n",
+            b"zxopt: fault 16 AngleTooLarge at 47\n",
         ),
         (
-            b"OPENQASM 2.0;\nqreg q[1];\n",
-            14,
-            b"zxopt: fault 6 Unsupported at 14\n",
+            b"u1(0.7853981633974483) q[0];\n",
+            b"zxopt: fault 17 NotEighthTurn at 47\n",
         ),
         (
-            b"OPENQASM 2.0;\ninclude \"qelib1.inc\";\nqreg q[1];\nx q[0];\n",
-            47,
-            b"zxopt: fault 6 Unsupported at 47\n",
+            b"qreg r[2];\ncu1(pi/4) r[0],r[1];\n",
+            b"zxopt: fault 17 NotEighthTurn at 58\n",
         ),
+        (b"OPENQASM 2.0;\n", b"zxopt: fault 20 SecondVersion at 47\n"),
         (
-            b"OPENQASM 2.0;\ninclude \"qelib1.inc\";\nqreg q[1];\nt q[0];\nt q[0];",
-            55,
-            b"zxopt: fault 6 Unsupported at 55\n",
-        ),
-        (
-            b"OPENQASM 2.0;\ninclude \"qelib1.inc\";\nqreg q[1];\nt q[0];\n\n",
-            55,
-            b"zxopt: fault 6 Unsupported at 55\n",
+            b"include \"qelib1.inc\";\n",
+            b"zxopt: fault 7 Redeclared at 47\n",
         ),
     ];
-    for (text, at, line) in rows {
-        let (status, out, err) = run_with(alloc, &["opt"], text.to_vec(alloc)?, [&[], &[], &[]])?;
-        assert_eq!(rt; status, Status::Refused(Fault::Unsupported { at }));
+    for (lines, line) in rows {
+        let (status, out, err) = opt(alloc, &with_head(alloc, lines)?)?;
+        assert!(rt; matches!(status, Status::Refused(_)));
         assert_eq!(rt; out.bytes(), b"".as_slice());
         assert_eq!(rt; err.bytes(), line);
+    }
+    let whole: [(&[u8], &[u8]); 4] = [
+        (b"", b"zxopt: fault 4 Version\n"),
+        (b"OPENQASM 3.0;\n", b"zxopt: fault 4 Version\n"),
+        (
+            b"OPENQASM 2.0;\ninclude \"other.inc\";\n",
+            b"zxopt: fault 5 Include at 14\n",
+        ),
+        (
+            b"OPENQASM 2.0;\nqreg q[1025];\n",
+            b"zxopt: fault 9 TooManyQubits at 14\n",
+        ),
+    ];
+    for (text, line) in whole {
+        let (_, _, err) = opt(alloc, text)?;
+        assert_eq!(rt; err.bytes(), line);
+    }
+    Ok(())
+}
+
+// A text with so many parentheses around an angle.
+fn nested(alloc: Global, count: usize) -> Result<Vec<u8>, Fail> {
+    let mut text = with_head(alloc, b"u1")?;
+    text.extend_from_slice(&vec![in alloc; b'('; count]?)?;
+    text.extend_from_slice(b"pi")?;
+    text.extend_from_slice(&vec![in alloc; b')'; count]?)?;
+    text.extend_from_slice(b" q[0];\n")?;
+    Ok(text)
+}
+
+// A text with gates of which each calls the one before it twice, and an application of the last one.
+fn doubling(alloc: Global, last: usize) -> Result<Vec<u8>, Fail> {
+    let mut text = with_head(alloc, b"gate g0 a { }\n")?;
+    for k in 1..=last {
+        let j = k.saturating_sub(1);
+        text.extend_from_slice(format!(in alloc;
+            "gate g{k} a {{ g{j} a; g{j} a; }}\n"
+        )?.as_bytes())?;
+    }
+    text.extend_from_slice(format!(in alloc; "g{last} q[0];\n")?.as_bytes())?;
+    Ok(text)
+}
+
+#[test]
+fn limits_are_told(rt: HostRuntime) -> Result<(), Fail> {
+    let alloc = rt.alloc();
+    let (_, out, _) = opt(alloc, &nested(alloc, 256)?)?;
+    assert_eq!(rt; out.bytes(), with_head(alloc, b"z q[0];\n")?.as_slice());
+    let (_, _, err) = opt(alloc, &nested(alloc, 257)?)?;
+    assert_eq!(rt; err.bytes(), b"zxopt: fault 18 TooDeep at 305\n".as_slice());
+    let (_, out, _) = opt(alloc, &doubling(alloc, 18)?)?;
+    assert_eq!(rt; out.bytes(), HEAD);
+    let (status, _, _) = opt(alloc, &doubling(alloc, 24)?)?;
+    assert!(rt; matches!(status, Status::Refused(Fault::TooManyGates { .. })));
+    Ok(())
+}
+
+// How many qubits and odd phases the circuit of a text has, lowered and not merged.
+fn size_of(alloc: Global, text: &[u8]) -> Result<(u16, u64), Fail> {
+    if text.len() > 10_000 {
+        return Ok((0, 0));
+    }
+    let read = read_circuit(alloc, text).ok().ok_or("refused")?;
+    let lowered = lower(alloc, &read)?;
+    Ok((read.qubits, counts(&lowered).odd))
+}
+
+#[test]
+fn circuits_of_the_field_are_read(rt: HostRuntime) -> Result<(), Fail> {
+    let alloc = rt.alloc();
+    // What follows the short head, and how many qubits and odd phases the circuit has.
+    let rows: [(&[u8], u16, u64); 8] = [
+        // Toffoli, Fredkin, controlled Hadamard
+        (b"qreg q[3]; ccx q[0],q[1],q[2];", 3, 7),
+        (b"qreg q[3]; cswap q[0],q[1],q[2];", 3, 7),
+        (b"qreg q[2]; ch q[0],q[1];", 2, 2),
+        // a full adder of one bit
+        (
+            b"qreg a[1]; qreg b[1]; qreg c[2]; ccx a[0],b[0],c[1]; cx a[0],b[0]; ccx b[0],c[0],c[1]; cx b[0],c[0];",
+            4,
+            14,
+        ),
+        // Cuccaro's adder of two bits
+        (
+            b"gate maj a,b,c { cx c,b; cx c,a; ccx a,b,c; } gate uma a,b,c { ccx a,b,c; cx c,a; cx a,b; } qreg c[1]; qreg a[2]; qreg b[2]; qreg w[1]; maj c[0],b[0],a[0]; maj a[0],b[1],a[1]; cx a[1],w[0]; uma a[0],b[1],a[1]; uma c[0],b[0],a[0];",
+            6,
+            28,
+        ),
+        // Grover's search on two qubits
+        (
+            b"qreg q[2]; h q; cz q[0],q[1]; h q; x q; cz q[0],q[1]; x q; h q;",
+            2,
+            0,
+        ),
+        // the Fourier transform of two qubits
+        (
+            b"qreg q[2]; h q[1]; cu1(pi/2) q[0],q[1]; h q[0]; swap q[0],q[1];",
+            2,
+            3,
+        ),
+        // teleportation of a T state, with controlled corrections
+        (
+            b"qreg q[3]; h q[0]; t q[0]; h q[1]; cx q[1],q[2]; cx q[0],q[1]; h q[0]; cx q[1],q[2]; cz q[0],q[2];",
+            3,
+            1,
+        ),
+    ];
+    for (lines, qubits, odd) in rows {
+        let size = size_of(alloc, &joined(alloc, SHORT_HEAD, lines)?)?;
+        assert_eq!(rt; size, (qubits, odd));
     }
     Ok(())
 }
@@ -138,8 +313,8 @@ fn other_texts_are_refused_at_their_first_fault(rt: HostRuntime) -> Result<(), F
 #[test]
 fn a_text_of_more_than_16_mib_is_too_long(rt: HostRuntime) -> Result<(), Fail> {
     let alloc = rt.alloc();
-    for (spaces, too_long) in [(16_777_202, false), (16_777_203, true)] {
-        let mut text = b"OPENQASM 2.0;\n".to_vec(alloc)?;
+    for (spaces, too_long) in [(16_777_203usize, false), (16_777_204, true)] {
+        let mut text = b"OPENQASM 2.0;".to_vec(alloc)?;
         text.extend_from_slice(&vec![in alloc; b' '; spaces]?)?;
         let mut source = NeverFailSource::new(text);
         let mut err = MemSink::new(alloc, 100, 100, Vec::new(alloc))?;
@@ -150,14 +325,11 @@ fn a_text_of_more_than_16_mib_is_too_long(rt: HostRuntime) -> Result<(), Fail> {
             &mut NeverFailSink::new(),
             &mut err,
         );
-        let refused = if too_long {
-            Fault::TooLong
-        } else {
-            Fault::Unsupported { at: 14 }
-        };
-        assert_eq!(rt; status, Status::Refused(refused));
         if too_long {
+            assert_eq!(rt; status, Status::Refused(Fault::TooLong));
             assert_eq!(rt; err.bytes(), b"zxopt: fault 1 TooLong\n".as_slice());
+        } else {
+            assert_eq!(rt; status, Status::Done);
         }
     }
     Ok(())
@@ -231,7 +403,7 @@ fn failing_ends_are_told(rt: HostRuntime) -> Result<(), Fail> {
     }
     // A failing error output changes no answer.
     let (status, _, err) = run_with(alloc, &["opt"], b"x".to_vec(alloc)?, [&[], &[], &[1]])?;
-    assert_eq!(rt; status, Status::Refused(Fault::Unsupported { at: 0 }));
+    assert_eq!(rt; status, Status::Refused(Fault::Syntax { at: 0 }));
     assert_eq!(rt; err.bytes(), b"".as_slice());
     Ok(())
 }

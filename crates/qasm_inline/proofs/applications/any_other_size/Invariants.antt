@@ -1,6 +1,6 @@
 use Rattle.std.proofs.Common.{◌≡◌, ◌==◌, not, map, drop}
 use Rattle.std.specs.List.{list_any}
-use Rattle.qasm_inline.specs.Applications.{register_sizes}
+use Rattle.qasm_scope.specs.Applications.{register_sizes}
 use Rattle.qasm_inline.specs.Spans.{span_target}
 use Rattle.qasm_inline.proofs.applications.any_other_size.Given as goal
 

@@ -1,5 +1,5 @@
 use Rattle.std.proofs.Common.{map, sym, ◌∙◌}
-use Rattle.qasm_inline.specs.Applications.{register_sizes}
+use Rattle.qasm_scope.specs.Applications.{register_sizes}
 use Rattle.qasm_inline.specs.Spans.{span_target}
 use Rattle.qasm_inline.proofs.SizeLemmas.{count-some, count-none}
 use Rattle.qasm_inline.proofs.applications.instance_count.Goals as goal

@@ -1,6 +1,6 @@
 use Rattle.std.proofs.Common.{◌-◌, ◌^◌, nat_le, ap, ◌∙◌, arith}
-use Rattle.qasm_inline.specs.Scope.{numeral}
-use Rattle.qasm_inline.proofs.NumeralLemmas.{le-cut}
+use Rattle.qasm_scope.specs.Scope.{numeral}
+use Rattle.qasm_scope.proofs.NumeralLemmas.{le-cut}
 use Rattle.qasm_inline.proofs.applications.reaches.Goals as goal
 
 pub returns : goal.returns

@@ -2,7 +2,7 @@ use Rattle.std.proofs.Common.{◌≡◌, ◌++◌, ◌∷◌, [], map, take, sym
 use Rattle.std.proofs.lemmas.List.{map-append}
 use Rattle.qasm_reader.specs.Views.{operand}
 use Rattle.qasm_inline.specs.Spans.{span_target, span_by}
-use Rattle.qasm_inline.proofs.PlaceLemmas.{map-map-more}
+use Rattle.qasm_scope.proofs.PlaceLemmas.{map-map-more}
 use Rattle.qasm_inline.proofs.applications.spans.Goals as goal
 
 pub loop-argument-preserved : goal.loop-argument-preserved

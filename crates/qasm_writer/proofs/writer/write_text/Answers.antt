@@ -6,7 +6,7 @@ use Rattle.std.proofs.lemmas.List.Elements.{All-more}
 use Rattle.std.proofs.lemmas.List.{take_all}
 use Rattle.zx_gates.specs.Circuit.{Circuit, IsCircuit}
 use Rattle.zx_gates.specs.declared.gate.Gate.{Gate}
-use Rattle.qasm_inline.specs.Texts.{TextMeans}
+use Rattle.qasm_scope.specs.Texts.{TextMeans}
 use Rattle.qasm_writer.specs.Elements.{IsBelowATurn, elements_of}
 use Rattle.qasm_writer.specs.Written.{written, version_line, include_line, register_line, gate_line}
 use Rattle.qasm_writer.proofs.WrittenLemmas.{text_means}

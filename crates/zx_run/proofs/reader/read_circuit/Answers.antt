@@ -1,20 +1,14 @@
--- The head and the gates' lines together decide.
-use Rattle.std.proofs.Common.{Err, ap, sym, ◌∙◌, arith}
-use Rattle.std.specs.Option.{option_map}
-use Rattle.std.proofs.lemmas.Result.{err_from_is_err_and}
-use Rattle.zx_run.specs.declared.status.Fault.TheVariants.{Unsupported}
-use Rattle.zx_run.specs.Reading.{pieces_of}
-use Rattle.zx_run.proofs.ReadLemmas.{first_fault-gates, Err_same}
+-- What is wrong with the tokens is the text's first fault.
+use Rattle.std.proofs.Common.{◌≡◌, None, Some, ap, sym, ◌∙◌, subst, Err}
+use Rattle.qasm_lexer.specs.Tokens.{lexemes}
+use Rattle.qasm_reader.specs.Depth.{too_deep}
+use Rattle.qasm_reader.specs.Grammar.{IsSyntaxFault}
+use Rattle.zx_run.proofs.FaultLemmas.{parse_first, Err_same}
 use Rattle.zx_run.proofs.reader.read_circuit.Goals as goal
 
-pub returns-in_err-push_phases-clause-fault : goal.returns-in_err-push_phases-clause-fault
-returns-in_err-push_phases-clause-fault c =
-    let p = err_from_is_err_and c.from_residual-in_err-push_phases.result c.from_residual-in_err-push_phases.ensures.1 in
-    λ fault e.
-    first_fault-gates c.args.text.now (pieces_of c.in_ok-rest.rest.now) _ c.requires c.in_ok-rest.ensures.pieces (omega (arith, c.in_ok-rest.ensures.length))
-    ∙ c.in_err-push_phases.ensures.fault fault (ap Err (sym p.2 ∙ Err_same (sym p.1 ∙ e)))
-
-pub returns-clause-faultless : goal.returns-clause-faultless
-returns-clause-faultless c =
-    first_fault-gates c.args.text.now (pieces_of c.in_ok-rest.rest.now) _ c.requires c.in_ok-rest.ensures.pieces (omega (arith, c.in_ok-rest.ensures.length))
-    ∙ ap (option_map (λ place. Unsupported place)) c.in_ok-push_phases.ensures.faultless
+pub returns-in-Err-clause-fault : goal.returns-in-Err-clause-fault
+returns-in-Err-clause-fault c = λ fault is.
+    parse_first _ _ c.requires c.in-Ok.ensures.found c.in-Err.error
+    (λ at told. subst (λ ts. too_deep (lexemes ts) ≡ Some at) c.deref.ensures.value (c.in-Err.ensures.deep at (ap Err told)))
+    (λ at told. subst (λ ts. (too_deep (lexemes ts) ≡ None) × IsSyntaxFault (lexemes ts) at) c.deref.ensures.value (c.in-Err.ensures.syntax at (ap Err told)))
+    fault (sym c.stopped_by.ensures ∙ Err_same is)

@@ -1,9 +1,9 @@
 use Rattle.std.proofs.Common.{◌≡◌, ◌++◌, ◌∷◌, [], Err, ap, sym, ◌∙◌, rules}
 use Rattle.std.proofs.lemmas.Result.{err_from_is_err_and}
-use Rattle.qasm_inline.specs.declared.stopped.Stopped.TheVariants.{Wrong}
-use Rattle.qasm_inline.specs.Calls.{first_wrong}
+use Rattle.qasm_scope.specs.declared.stopped.Stopped.TheVariants.{Wrong}
+use Rattle.qasm_scope.specs.Calls.{first_wrong}
 use Rattle.qasm_inline.specs.KeptCalls.{stack_events}
-use Rattle.qasm_inline.specs.Meaning.{most_calls}
+use Rattle.qasm_scope.specs.Meaning.{most_calls}
 use Rattle.qasm_inline.proofs.Unrolling.{stack-push, first_events, Continues-same, Continues-join}
 use Rattle.qasm_inline.proofs.unroll.Unrolled.all.Goals as goal
 

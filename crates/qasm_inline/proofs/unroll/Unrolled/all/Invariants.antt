@@ -1,6 +1,6 @@
 use Rattle.std.proofs.Common.{◌+◌, ◌-◌, ◌*◌, length}
 use Rattle.qasm_inline.specs.KeptCalls.{Numbered, Unrolls, Continues, stack_events, expand_target}
-use Rattle.qasm_inline.specs.Meaning.{most_calls}
+use Rattle.qasm_scope.specs.Meaning.{most_calls}
 use Rattle.qasm_inline.proofs.unroll.Unrolled.all.Given as goal
 
 abbrev pub invariant-loop-frame : goal.invariant-loop-frame

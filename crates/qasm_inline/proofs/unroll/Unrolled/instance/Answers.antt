@@ -1,9 +1,9 @@
 use Rattle.std.proofs.Common.{◌≡◌, Ok, Err, ap, sym, ◌∙◌, rules}
 use Rattle.std.proofs.lemmas.Result.{err_from_is_err_and}
-use Rattle.qasm_inline.specs.declared.stopped.Stopped.TheVariants.{Wrong}
-use Rattle.qasm_inline.specs.Calls.{first_wrong, after_angles}
+use Rattle.qasm_scope.specs.declared.stopped.Stopped.TheVariants.{Wrong}
+use Rattle.qasm_scope.specs.Calls.{first_wrong, after_angles}
 use Rattle.qasm_inline.specs.KeptCalls.{expand_target, given}
-use Rattle.qasm_inline.specs.Meaning.{most_calls}
+use Rattle.qasm_scope.specs.Meaning.{most_calls}
 use Rattle.qasm_inline.proofs.unroll.Unrolled.instance.Goals as goal
 
 pub returns-in_err-count-clause-err : goal.returns-in_err-count-clause-err

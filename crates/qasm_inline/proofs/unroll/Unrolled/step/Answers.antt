@@ -1,10 +1,10 @@
 use Rattle.std.proofs.Common.{◌≡◌, ◌+◌, ◌++◌, ◌∷◌, [], length, Ok, Err, ap, sym, refl, ◌∙◌, rules, arith}
 use Rattle.std.proofs.lemmas.Result.{err_from_is_err_and, on_ok_weaker}
-use Rattle.qasm_inline.specs.declared.stopped.Stopped.TheVariants.{Wrong}
+use Rattle.qasm_scope.specs.declared.stopped.Stopped.TheVariants.{Wrong}
 use Rattle.qasm_inline.specs.declared.unroll.Frame.{Frame}
-use Rattle.qasm_inline.specs.Calls.{first_wrong}
+use Rattle.qasm_scope.specs.Calls.{first_wrong}
 use Rattle.qasm_inline.specs.KeptCalls.{values_of, picked, expand_target, stack_events}
-use Rattle.qasm_inline.specs.Meaning.{most_calls}
+use Rattle.qasm_scope.specs.Meaning.{most_calls}
 use Rattle.qasm_inline.proofs.Unrolling.{next_call, next_call_first, Continues-counted}
 use Rattle.qasm_inline.proofs.unroll.Unrolled.step.Goals as goal
 

@@ -1,0 +1,10 @@
+pub mod Paths
+pub mod Certificates
+pub mod Comes
+pub mod Phases
+pub mod Halves
+pub mod PlainGates
+pub mod AngleGates
+pub mod HalfGates
+pub mod Scopes
+pub mod Definitions

@@ -1,7 +1,0 @@
-use Rattle.std.proofs.Common.{◌≡◌, map, take}
-use Rattle.qasm_inline.specs.Angles.{place_or_zero}
-use Rattle.qasm_inline.specs.Entries.{place_in}
-use Rattle.qasm_inline.proofs.bodies.places_of.Given as goal
-
-abbrev pub invariant-loop-name : goal.invariant-loop-name
-invariant-loop-name l = l.found.items ≡ map (λ name. place_or_zero (place_in l.places name)) (map (λ name. name.now) (take l.name-index l.names))

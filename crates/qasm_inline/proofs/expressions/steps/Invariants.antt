@@ -1,7 +1,0 @@
-use Rattle.std.proofs.Common.{◌≡◌, map, take}
-use Rattle.qasm_reader.specs.Items.{entry}
-use Rattle.qasm_inline.specs.Entries.{step_of}
-use Rattle.qasm_inline.proofs.expressions.steps.Given as goal
-
-abbrev pub invariant-loop-item : goal.invariant-loop-item
-invariant-loop-item l = l.steps.items ≡ map (step_of l.places) (map entry (take l.item-index l.items))

@@ -1,0 +1,78 @@
+//! The instances of an application, one after the other.
+
+ghost use Rattle.std.specs.Prelude.{◌≡◌, [], map, IfOk, OnOk, Err, Some};
+ghost use Rattle.std.specs.List.{flat_map};
+ghost use Rattle.qasm_scope.specs.Calls.{first_wrong};
+ghost use Rattle.qasm_inline.specs.KeptCalls.{Numbered, Unrolls, Continues, target_call, given, values_of};
+ghost use Rattle.qasm_scope.specs.Meaning.{most_calls};
+ghost use Rattle.qasm_inline.specs.Spans.{span_target, cut_instance, cut_instances, cut_qubit_at};
+ghost use Rattle.qasm_scope.specs.declared.causes.Cause.{Cause};
+
+use crate::applications::{Span, instance_count};
+use crate::unroll::Unrolled;
+use crate::values::evaluated;
+use qasm_angle::{Angle, Expr};
+use qasm_scope::Cause;
+use qasm_scope::gates::{GateBody, Target};
+use qasm_scope::numerals::cut;
+use qasm_scope::stopped::Stopped;
+use std::alloc::{AllocError, Global};
+use zx_gates::Qubit;
+
+/// The values of expressions without parameters, or what is wrong with the first that has none.
+pub fn constant_values(
+    alloc: Global,
+    expressions: &[Expr],
+) -> Result<Result<Vec<Angle>, Cause>, AllocError>
+    ensures { IfOk result (λ values. given values ≡ values_of expressions.now []) }
+{
+    match evaluated(alloc, expressions, &[]) {
+        Ok(values) => Ok(Ok(values)),
+        Err(Stopped::Wrong(cause)) => Ok(Err(cause)),
+        Err(Stopped::NoMemory) => Err(AllocError),
+    }
+}
+
+/// Calls a gate in each instance.
+pub fn call_instances(
+    alloc: Global,
+    unrolled: &mut Unrolled,
+    gates: &[GateBody],
+    target: Target,
+    values: &Result<Vec<Angle>, Cause>,
+    spans: &[Span],
+) -> Result<(), Stopped>
+    ensures ok { OnOk result ((numbered : Numbered) → Unrolls gates.now numbered
+        → Continues most_calls unrolled.old.calls unrolled.old.gates
+        (flat_map (target_call numbered target 1 (given values.now)) (cut_instances (map span_target spans.now))) unrolled.new.calls unrolled.new.gates []) }
+    ensures err { (cause : Cause) (numbered : Numbered) → result ≡ Err (Stopped.Wrong cause) → Unrolls gates.now numbered
+        → first_wrong most_calls unrolled.old.calls
+        (flat_map (target_call numbered target 1 (given values.now)) (cut_instances (map span_target spans.now))) ≡ Some cause }
+{
+    for index in 0..instance_count(spans) {
+        let qubits = instance_qubits(alloc, spans, index)?;
+        unrolled.instance(gates, target, values, &qubits)?;
+    }
+    Ok(())
+}
+
+/// The qubits of the instance at an index.
+fn instance_qubits(alloc: Global, spans: &[Span], index: usize) -> Result<Vec<Qubit>, AllocError>
+    ensures { IfOk result (λ qubits. qubits.items ≡ cut_instance (map span_target spans.now) index) }
+{
+    let mut qubits = Vec::new(alloc);
+    for span in spans {
+        qubits.push(qubit_at(span, index))?;
+    }
+    Ok(qubits)
+}
+
+/// The qubit of an argument in the instance at an index.
+fn qubit_at(span: &Span, index: usize) -> Qubit
+    ensures { result ≡ cut_qubit_at index (span_target span.now) }
+{
+    match span {
+        Span::Single(qubit) => cut(*qubit),
+        Span::Register { first, .. } => cut(first.saturating_add(index)),
+    }
+}

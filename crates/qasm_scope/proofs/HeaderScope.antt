@@ -1,0 +1,199 @@
+-- The gates of the header are faultless where they are declared, in any scope in which no first name is declared.
+use Rattle.std.proofs.Common.{◌≡◌, Bool, true, false, ◌||◌, not, List, [], ◌∷◌, ◌++◌, length, Option, None, Some, refl, sym, ap, ap₂, ◌∙◌, subst, inl, inr, ℕ}
+use Rattle.std.specs.Prelude.{if◌then◌else◌}
+use Rattle.std.specs.List.{list_any, list_all}
+use Rattle.std.specs.Str.{bytes_eq}
+use Rattle.std.proofs.lemmas.Bool.{false≢true, and_parts, or_parts, cases_Bool}
+use Rattle.std.proofs.lemmas.Slice.Eq.{bytes_eq-Decides}
+use Rattle.qasm_reader.specs.Syntax.{Callee, Declared, U, Cx, BodySentence, BodyApplied, BodyBarrier, GateForm, DeclareGate}
+use Rattle.qasm_scope.specs.declared.causes.Cause.{Cause}
+use Rattle.qasm_scope.specs.declared.causes.Cause.TheVariants as cause
+use Rattle.qasm_scope.specs.Faults.{has_unsupported, has_name_twice, has_unknown, has_wrong_count, body_has_unknown, body_has_wrong_count, body_has_same_qubit, is_hidden, is_no_gate, is_in, has_other_name, has_other_shape, shape_in, shape_of, first_cause, wrong_in}
+use Rattle.qasm_scope.specs.Header.{first_gates, further_gates}
+use Rattle.qasm_scope.specs.Meaning.{with_first, with_further}
+use Rattle.qasm_scope.specs.Scope.{Scope, Declaration, Gate, meaning_of, is_declared, is_taken, declared}
+use Rattle.qasm_scope.proofs.Symbols.{free-taken}
+
+-- ---- what is wrong with a declaration, where its name may be declared
+abbrev tests : Bool → Bool → Bool → GateForm → Option Cause
+tests taken unknown count form = first_cause (
+    (has_unsupported (DeclareGate form), cause.Unsupported)
+    ∷ (taken || has_name_twice (form.parameters ++ form.qubits), cause.Redeclared)
+    ∷ (unknown, cause.Unknown)
+    ∷ (count, cause.WrongCount)
+    ∷ (list_any body_has_same_qubit form.body, cause.SameQubit)
+    ∷ [])
+
+abbrev pub wrong_but_name : Scope → GateForm → Option Cause
+wrong_but_name scope form = tests false (has_unknown scope (DeclareGate form)) (has_wrong_count scope (DeclareGate form)) form
+
+wrong_in_is : (scope : Scope) (form : GateForm)
+    → wrong_in scope (DeclareGate form) ≡ tests (is_taken form.name scope) (has_unknown scope (DeclareGate form)) (has_wrong_count scope (DeclareGate form)) form
+unfolding wrong_in
+wrong_in_is scope form = refl
+
+pub faultless : (scope : Scope) (form : GateForm) → is_taken form.name scope ≡ false → wrong_but_name scope form ≡ None → wrong_in scope (DeclareGate form) ≡ None
+faultless scope form free e =
+    wrong_in_is scope form ∙ ap (λ taken. tests taken (has_unknown scope (DeclareGate form)) (has_wrong_count scope (DeclareGate form)) form) free ∙ e
+
+-- ---- the first gates
+abbrev AreFree : Scope → List GateForm → Type 0
+AreFree scope [] = Unit {0}
+AreFree scope (form ∷ forms) = (is_taken form.name scope ≡ false) × AreFree scope forms
+
+are_free : (scope : Scope) (forms : List GateForm) → list_any (λ form. is_declared form.name scope) forms ≡ false → AreFree scope forms
+are_free scope [] e = tt
+are_free scope (form ∷ forms) e =
+    let p : (is_declared form.name scope ≡ false) × (list_any (λ form. is_declared form.name scope) forms ≡ false) =
+    or_parts (is_declared form.name scope) (list_any (λ form. is_declared form.name scope) forms) e in
+    (free-taken form.name scope p.0, are_free scope forms p.1)
+
+-- each form is faultless in the scope behind those before it
+abbrev pub AreFirstFaultless : List GateForm → Scope → Type 0
+AreFirstFaultless [] scope = Unit {0}
+AreFirstFaultless (form ∷ forms) scope = (wrong_in scope (DeclareGate form) ≡ None) × AreFirstFaultless forms (declared form.name (Gate form) ∷ scope)
+
+-- declared among those before it, a form's name is as free as in the scope before all, and nothing else is wrong with it
+abbrev AreFirstSound : Scope → Scope → List GateForm → Type 0
+AreFirstSound all scope [] = Unit {0}
+AreFirstSound all scope (form ∷ forms) =
+    (is_taken form.name scope ≡ is_taken form.name all) × (wrong_but_name scope form ≡ None)
+    × AreFirstSound all (declared form.name (Gate form) ∷ scope) forms
+
+first_are : (all scope : Scope) (forms : List GateForm) → AreFree all forms → AreFirstSound all scope forms → AreFirstFaultless forms scope
+first_are all scope [] free s = tt
+first_are all scope (form ∷ forms) free s =
+    (faultless scope form (s.0 ∙ free.0) s.1, first_are all (declared form.name (Gate form) ∷ scope) forms free.1 s.2)
+
+first_sound : (scope : Scope) → AreFirstSound scope scope first_gates
+first_sound scope = (refl, refl, (refl, refl, (refl, refl, (refl, refl, (refl, refl, (refl, refl, (refl, refl, (refl, refl, (refl, refl, (refl, refl, (refl, refl, (refl, refl, (refl, refl, (refl, refl, (refl, refl, (refl, refl, (refl, refl, (refl, refl, (refl, refl, (refl, refl, (refl, refl, (refl, refl, tt))))))))))))))))))))))
+
+pub first_faultless : (scope : Scope) → list_any (λ form. is_declared form.name scope) first_gates ≡ false → AreFirstFaultless first_gates scope
+first_faultless scope none = first_are scope scope first_gates (are_free scope first_gates none) (first_sound scope)
+
+first_behind : (front : List GateForm) (form : GateForm) (back : List GateForm) (scope : Scope) → AreFirstFaultless (front ++ form ∷ back) scope
+    → wrong_in (with_first front scope) (DeclareGate form) ≡ None
+first_behind [] form back scope f = f.0
+first_behind (x ∷ front) form back scope f = first_behind front form back (declared x.name (Gate x) ∷ scope) f.1
+
+-- the same by what stands before a form
+pub first_gate_faultless : (scope : Scope) (front : List GateForm) (form : GateForm) (back : List GateForm)
+    → list_any (λ form. is_declared form.name scope) first_gates ≡ false → first_gates ≡ front ++ form ∷ back
+    → wrong_in (with_first front scope) (DeclareGate form) ≡ None
+first_gate_faultless scope front form back none e =
+    first_behind front form back scope (subst (λ forms. AreFirstFaultless forms scope) e (first_faultless scope none))
+
+-- ---- scopes in which the names of another one mean the same
+pub record Keeps (before after : Scope) : Type 0 where
+  pub still : (name : List ℕ) → is_declared name before ≡ true → is_declared name after ≡ true
+  pub same : (name : List ℕ) → is_declared name before ≡ true → meaning_of name after ≡ meaning_of name before
+
+pub keeps_itself : (scope : Scope) → Keeps scope scope
+keeps_itself scope = record { still = λ name e. e; same = λ name e. refl }
+
+other_name : (a b : List ℕ) (scope : Scope) → is_declared a scope ≡ false → is_declared b scope ≡ true → bytes_eq a b ≡ false
+other_name a b scope e f = elim (cases_Bool (bytes_eq a b)) [
+  | inl same ↦ absurd (false≢true (sym e ∙ ap (λ name. is_declared name scope) ((bytes_eq-Decides a b).0 same) ∙ f))
+  | inr other ↦ other
+]
+
+-- a declaration of a free name keeps the names
+pub keeps_more : (before after : Scope) (d : Declaration) → is_declared d.name after ≡ false → Keeps before after → Keeps before (d ∷ after)
+keeps_more before after d free k = record {
+  still = λ name e. ap₂ (λ same declared. same || declared) (other_name d.name name after free (k.still name e)) (k.still name e);
+  same = λ name e. ap (λ same. if same then Some d.meaning else meaning_of name after) (other_name d.name name after free (k.still name e)) ∙ k.same name e;
+}
+
+abbrev pub replaceable : GateForm → Declaration
+replaceable form = record { name = form.name; meaning = Gate form; replaceable = true }
+
+pub keeps_step : (before after : Scope) (form : GateForm) → Keeps before after
+    → Keeps before (if is_declared form.name after then after else replaceable form ∷ after)
+keeps_step before after form k = go (is_declared form.name after) refl where
+  go : (o : Bool) → is_declared form.name after ≡ o → Keeps before (if o then after else replaceable form ∷ after)
+  go true e = k
+  go false e = keeps_more before after (replaceable form) e k
+
+-- the further gates keep all names
+pub keeps_further : (before after : Scope) (forms : List GateForm) → Keeps before after → Keeps before (with_further forms after)
+keeps_further before after [] k = k
+keeps_further before after (form ∷ forms) k = keeps_further before (if is_declared form.name after then after else replaceable form ∷ after) forms (keeps_step before after form k)
+
+-- ---- a body whose gates are declared has the same faults where their names mean the same
+abbrev knows_gate : Scope → Callee → Bool
+knows_gate scope (Declared name) = is_declared name scope
+knows_gate scope U = true
+knows_gate scope Cx = true
+
+abbrev knows : Scope → BodySentence → Bool
+knows scope (BodyApplied a) = knows_gate scope a.gate
+knows scope (BodyBarrier names) = true
+
+module _ (before after : Scope) (k : Keeps before after) where
+  same_shape : (gate : Callee) → knows_gate before gate ≡ true → shape_of after gate ≡ shape_of before gate
+  same_shape (Declared name) e = ap shape_in (k.same name e)
+  same_shape U e = refl
+  same_shape Cx e = refl
+
+  same_unknown : (form : GateForm) (b : BodySentence) → knows before b ≡ true → body_has_unknown after form b ≡ body_has_unknown before form b
+  same_unknown form (BodyApplied a) e =
+      ap (λ shape. is_hidden form a.gate || is_no_gate shape || list_any (has_other_name form.parameters) a.angles || list_any (λ name. not (is_in form.qubits name)) a.qubits)
+      (same_shape a.gate e)
+  same_unknown form (BodyBarrier names) e = refl
+
+  same_count : (b : BodySentence) → knows before b ≡ true → body_has_wrong_count after b ≡ body_has_wrong_count before b
+  same_count (BodyApplied a) e = ap (λ shape. has_other_shape shape (length a.angles) (length a.qubits)) (same_shape a.gate e)
+  same_count (BodyBarrier names) e = refl
+
+  same_any : (f g : BodySentence → Bool) → ((b : BodySentence) → knows before b ≡ true → f b ≡ g b) → (body : List BodySentence)
+      → list_all (knows before) body ≡ true → list_any f body ≡ list_any g body
+  same_any f g each [] e = refl
+  same_any f g each (b ∷ body) e =
+      let p : (knows before b ≡ true) × (list_all (knows before) body ≡ true) = and_parts (knows before b) (list_all (knows before) body) e in
+      ap₂ (λ x y. x || y) (each b p.0) (same_any f g each body p.1)
+
+  same_wrong : (form : GateForm) → list_all (knows before) form.body ≡ true → wrong_but_name after form ≡ wrong_but_name before form
+  same_wrong form e =
+      ap₂ (λ unknown count. tests false unknown count form)
+      (same_any (body_has_unknown after form) (body_has_unknown before form) (same_unknown form) form.body e)
+      (same_any (body_has_wrong_count after) (body_has_wrong_count before) same_count form.body e)
+
+-- ---- the further gates
+abbrev AreSound : Scope → List GateForm → Type 0
+AreSound scope [] = Unit {0}
+AreSound scope (form ∷ forms) = (list_all (knows scope) form.body ≡ true) × (wrong_but_name scope form ≡ None) × AreSound scope forms
+
+-- each form whose name is free is faultless in the scope behind those before it
+abbrev pub AreFurtherFaultless : List GateForm → Scope → Type 0
+AreFurtherFaultless [] scope = Unit {0}
+AreFurtherFaultless (form ∷ forms) scope =
+    (is_declared form.name scope ≡ false → wrong_in scope (DeclareGate form) ≡ None)
+    × AreFurtherFaultless forms (if is_declared form.name scope then scope else replaceable form ∷ scope)
+
+further_are : (before after : Scope) (forms : List GateForm) → AreSound before forms → Keeps before after → AreFurtherFaultless forms after
+further_are before after [] s k = tt
+further_are before after (form ∷ forms) s k = (
+  λ free. faultless after form (free-taken form.name after free) (same_wrong before after k form s.0 ∙ s.1),
+  further_are before (if is_declared form.name after then after else replaceable form ∷ after) forms s.2 (keeps_step before after form k),
+)
+
+further_sound : (scope : Scope) → AreSound (with_first first_gates scope) further_gates
+further_sound scope = (refl, refl, (refl, refl, (refl, refl, (refl, refl, (refl, refl, (refl, refl, (refl, refl, (refl, refl, (refl, refl, (refl, refl, (refl, refl, tt)))))))))))
+
+pub further_faultless : (scope : Scope) → AreFurtherFaultless further_gates (with_first first_gates scope)
+further_faultless scope =
+    further_are (with_first first_gates scope) (with_first first_gates scope) further_gates (further_sound scope) (keeps_itself (with_first first_gates scope))
+
+further_behind : (front : List GateForm) (form : GateForm) (back : List GateForm) (scope : Scope) → AreFurtherFaultless (front ++ form ∷ back) scope
+    → is_declared form.name (with_further front scope) ≡ false → wrong_in (with_further front scope) (DeclareGate form) ≡ None
+further_behind [] form back scope f free = f.0 free
+further_behind (x ∷ front) form back scope f free =
+    further_behind front form back (if is_declared x.name scope then scope else replaceable x ∷ scope) f.1 free
+
+-- the same by what stands before a form
+pub further_gate_faultless : (scope : Scope) (front : List GateForm) (form : GateForm) (back : List GateForm) → further_gates ≡ front ++ form ∷ back
+    → is_declared form.name (with_further front (with_first first_gates scope)) ≡ false
+    → wrong_in (with_further front (with_first first_gates scope)) (DeclareGate form) ≡ None
+further_gate_faultless scope front form back e =
+    further_behind front form back (with_first first_gates scope)
+    (subst (λ forms. AreFurtherFaultless forms (with_first first_gates scope)) e (further_faultless scope))

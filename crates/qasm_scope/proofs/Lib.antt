@@ -1,0 +1,9 @@
+pub mod Tests
+pub mod Formulas
+pub mod Symbols
+pub mod PlaceLemmas
+pub mod CheckLemmas
+pub mod NumeralLemmas
+pub mod Including
+pub mod HeaderText
+pub mod HeaderScope

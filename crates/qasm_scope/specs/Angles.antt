@@ -1,0 +1,79 @@
+-- Values of expressions in which parameters have names.
+use Rattle.std.specs.Prelude.{ℕ, Bool, true, false, ◌||◌, List, [], ◌∷◌, Option, None, Some, Result, Ok, Err, position}
+use Rattle.std.specs.Str.{bytes_eq}
+use Rattle.qasm_angle.specs.declared.angle.Angle.{Angle}
+use Rattle.qasm_angle.specs.declared.errors.Cause as angle_cause
+use Rattle.qasm_angle.specs.declared.errors.Cause.TheVariants as angle_causes
+use Rattle.qasm_angle.specs.declared.expression.Operator.TheVariants as operators
+use Rattle.qasm_angle.specs.Literals.{literal_value}
+use Rattle.qasm_angle.specs.Trees as tree
+use Rattle.qasm_angle.specs.Values.{value}
+use Rattle.qasm_reader.specs.declared.expression.Operator.{Operator}
+use Rattle.qasm_reader.specs.declared.expression.Operator.TheVariants.{Add, Subtract, Multiply, Divide, Power}
+use Rattle.qasm_reader.specs.Syntax.{Formula, Number, Pi, Name, Negate, Binary, Call}
+use Rattle.qasm_scope.specs.declared.causes.Cause.{Cause}
+use Rattle.qasm_scope.specs.declared.causes.Cause.TheVariants as causes
+
+-- the expression holds `^` or a function
+abbrev pub is_power : Operator → Bool
+is_power Add = false
+is_power Subtract = false
+is_power Multiply = false
+is_power Divide = false
+is_power Power = true
+
+abbrev pub is_unsupported : Formula → Bool
+is_unsupported (Number text) = false
+is_unsupported Pi = false
+is_unsupported (Name name) = false
+is_unsupported (Negate f) = is_unsupported f
+is_unsupported (Binary operator f g) = is_power operator || is_unsupported f || is_unsupported g
+is_unsupported (Call function f) = true
+
+-- the place of a name among the formal names, or 0
+abbrev pub place_or_zero : Option ℕ → ℕ
+place_or_zero None = 0
+place_or_zero (Some i) = i
+
+abbrev pub place_of : List ℕ → List (List ℕ) → ℕ
+place_of name names = place_or_zero (position (λ other. bytes_eq other name) names)
+
+-- the operation on two values, for the operators other than `^`
+abbrev pub binary : Operator → tree.Tree → tree.Tree → tree.Tree
+binary Add a b = tree.Binary operators.Add a b
+binary Subtract a b = tree.Binary operators.Subtract a b
+binary Multiply a b = tree.Binary operators.Multiply a b
+binary Divide a b = tree.Binary operators.Divide a b
+binary Power a b = a
+
+-- an expression without `^` and functions, its parameters by their place among the names
+abbrev pub numbered : List (List ℕ) → Formula → tree.Tree
+numbered names (Number text) = tree.Number (literal_value text)
+numbered names Pi = tree.Pi
+numbered names (Name name) = tree.Parameter (place_of name names)
+numbered names (Negate f) = tree.Negate (numbered names f)
+numbered names (Binary operator f g) = binary operator (numbered names f) (numbered names g)
+numbered names (Call function f) = numbered names f
+
+abbrev pub cause_of : angle_cause.Cause → Cause
+cause_of angle_causes.Divide = causes.Divide
+cause_of angle_causes.TooLarge = causes.AngleTooLarge
+cause_of angle_causes.NotAnAngle = causes.NotEighthTurn
+
+abbrev pub with_cause : Result Angle angle_cause.Cause → Result Angle Cause
+with_cause (Ok angle) = Ok angle
+with_cause (Err cause) = Err (cause_of cause)
+
+-- the value of an expression where the parameters of these names have these values
+unfoldable pub angle_of : List (List ℕ) → List Angle → Formula → Result Angle Cause
+angle_of names angles f = with_cause (value (numbered names f) angles)
+
+-- the values of expressions, or what is wrong with the first that has none
+abbrev pub in_front : Result Angle Cause → Result (List Angle) Cause → Result (List Angle) Cause
+in_front (Err cause) rest = Err cause
+in_front (Ok angle) (Err cause) = Err cause
+in_front (Ok angle) (Ok angles) = Ok (angle ∷ angles)
+
+abbrev pub angles_of : List (List ℕ) → List Angle → List Formula → Result (List Angle) Cause
+angles_of names angles [] = Ok []
+angles_of names angles (f ∷ fs) = in_front (angle_of names angles f) (angles_of names angles fs)

@@ -1,0 +1,183 @@
+-- What is wrong with a statement, in the scope before it. Each test is about one cause.
+use Rattle.std.specs.Prelude.{ℕ, ◌+◌, ◌==◌, Bool, true, false, ◌||◌, not, if◌then◌else◌, List, [], ◌∷◌, ◌++◌, length, Option, None, Some, nat_le, nat_lt, codes}
+use Rattle.std.specs.List.{list_any}
+use Rattle.std.specs.Str.{bytes_eq}
+use Rattle.zx_gates.specs.Circuit.{most_qubits}
+use Rattle.qasm_reader.specs.Syntax.{Formula, Number, Pi, Name, Negate, Binary, Call, Operand, Callee, Declared, U, Cx, Applied, Measured, Reset, BodySentence, BodyApplied, BodyBarrier, GateForm, Sentence, Version, Include, QubitRegister, BitRegister, DeclareGate, Opaque, If, Barrier, Act}
+use Rattle.qasm_scope.specs.declared.causes.Cause.{Cause}
+use Rattle.qasm_scope.specs.declared.causes.Cause.TheVariants as cause
+use Rattle.qasm_scope.specs.Angles.{is_unsupported}
+use Rattle.qasm_scope.specs.Applications.{instances, targets_of, register_sizes, has_twice}
+use Rattle.qasm_scope.specs.Header.{first_gates}
+use Rattle.qasm_scope.specs.Scope.{Scope, Meaning, Qubits, Bits, Gate, meaning_of, is_taken, is_declared, numeral, qubit_count}
+
+-- the file that the header stands for
+abbrev pub header_name : List ℕ
+header_name = codes "\"qelib1.inc\""
+
+abbrev pub is_other_include : Sentence → Bool
+is_other_include (Include text) = not (bytes_eq text header_name)
+is_other_include sentence = false
+
+-- an expression in a body or an application holds `^` or a function
+abbrev pub body_is_unsupported : BodySentence → Bool
+body_is_unsupported (BodyApplied a) = list_any is_unsupported a.angles
+body_is_unsupported (BodyBarrier names) = false
+
+abbrev pub has_unsupported : Sentence → Bool
+has_unsupported (DeclareGate form) = list_any body_is_unsupported form.body
+has_unsupported (Opaque name parameters qubits) = true
+has_unsupported (If register value action) = true
+has_unsupported (Act (Applied a)) = list_any is_unsupported a.angles
+has_unsupported (Act (Measured from to)) = true
+has_unsupported (Act (Reset operand)) = true
+has_unsupported sentence = false
+
+-- a name stands twice in a list
+abbrev pub has_name_twice : List (List ℕ) → Bool
+has_name_twice [] = false
+has_name_twice (name ∷ names) = list_any (λ other. bytes_eq other name) names || has_name_twice names
+
+abbrev pub is_redeclared : Scope → Sentence → Bool
+is_redeclared scope (QubitRegister name size) = is_taken name scope
+is_redeclared scope (BitRegister name size) = is_taken name scope
+is_redeclared scope (DeclareGate form) = is_taken form.name scope || has_name_twice (form.parameters ++ form.qubits)
+is_redeclared scope (Include text) = list_any (λ form. is_declared form.name scope) first_gates
+is_redeclared scope sentence = false
+
+abbrev pub is_empty_register : Sentence → Bool
+is_empty_register (QubitRegister name size) = numeral size == 0
+is_empty_register (BitRegister name size) = numeral size == 0
+is_empty_register sentence = false
+
+abbrev pub has_too_many_qubits : Scope → Sentence → Bool
+has_too_many_qubits scope (QubitRegister name size) = nat_lt most_qubits (qubit_count scope + numeral size)
+has_too_many_qubits scope sentence = false
+
+-- a gate of that name: how many angles and qubits it has
+abbrev pub shape_in : Option Meaning → Option (ℕ × ℕ)
+shape_in (Some (Gate form)) = Some (length form.parameters, length form.qubits)
+shape_in (Some (Qubits first size)) = None
+shape_in (Some Bits) = None
+shape_in None = None
+
+abbrev pub shape_of : Scope → Callee → Option (ℕ × ℕ)
+shape_of scope (Declared name) = shape_in (meaning_of name scope)
+shape_of scope U = Some (3, 1)
+shape_of scope Cx = Some (0, 2)
+
+abbrev pub is_no_gate : Option (ℕ × ℕ) → Bool
+is_no_gate None = true
+is_no_gate (Some shape) = false
+
+-- a name in an expression isn't among the parameters
+abbrev pub is_in : List (List ℕ) → List ℕ → Bool
+is_in names name = list_any (λ other. bytes_eq other name) names
+
+abbrev pub has_other_name : List (List ℕ) → Formula → Bool
+has_other_name names (Number text) = false
+has_other_name names Pi = false
+has_other_name names (Name name) = not (is_in names name)
+has_other_name names (Negate f) = has_other_name names f
+has_other_name names (Binary operator f g) = has_other_name names f || has_other_name names g
+has_other_name names (Call function f) = has_other_name names f
+
+abbrev pub is_no_register : Option Meaning → Bool
+is_no_register (Some (Qubits first size)) = false
+is_no_register (Some Bits) = true
+is_no_register (Some (Gate form)) = true
+is_no_register None = true
+
+-- in a body, formal names hide others
+abbrev pub is_hidden : GateForm → Callee → Bool
+is_hidden form (Declared name) = is_in (form.parameters ++ form.qubits) name
+is_hidden form U = false
+is_hidden form Cx = false
+
+abbrev pub body_has_unknown : Scope → GateForm → BodySentence → Bool
+body_has_unknown scope form (BodyApplied a) =
+    is_hidden form a.gate || is_no_gate (shape_of scope a.gate)
+    || list_any (has_other_name form.parameters) a.angles || list_any (λ name. not (is_in form.qubits name)) a.qubits
+body_has_unknown scope form (BodyBarrier names) = list_any (λ name. not (is_in form.qubits name)) names
+
+abbrev pub has_no_register : Scope → List Operand → Bool
+has_no_register scope operands = list_any (λ operand. is_no_register (meaning_of operand.register scope)) operands
+
+abbrev pub has_unknown : Scope → Sentence → Bool
+has_unknown scope (DeclareGate form) = list_any (body_has_unknown scope form) form.body
+has_unknown scope (Barrier operands) = has_no_register scope operands
+has_unknown scope (Act (Applied a)) =
+    is_no_gate (shape_of scope a.gate) || list_any (has_other_name []) a.angles || has_no_register scope a.qubits
+has_unknown scope sentence = false
+
+abbrev pub has_other_shape : Option (ℕ × ℕ) → ℕ → ℕ → Bool
+has_other_shape None angles qubits = false
+has_other_shape (Some shape) angles qubits = not (angles == shape.0) || not (qubits == shape.1)
+
+abbrev pub body_has_wrong_count : Scope → BodySentence → Bool
+body_has_wrong_count scope (BodyApplied a) = has_other_shape (shape_of scope a.gate) (length a.angles) (length a.qubits)
+body_has_wrong_count scope (BodyBarrier names) = false
+
+abbrev pub has_wrong_count : Scope → Sentence → Bool
+has_wrong_count scope (DeclareGate form) = list_any (body_has_wrong_count scope) form.body
+has_wrong_count scope (Act (Applied a)) = has_other_shape (shape_of scope a.gate) (length a.angles) (length a.qubits)
+has_wrong_count scope sentence = false
+
+-- an index isn't below its register's size
+abbrev pub is_past : Option Meaning → Option (List ℕ) → Bool
+is_past (Some (Qubits first size)) (Some index) = nat_le size (numeral index)
+is_past (Some (Qubits first size)) None = false
+is_past (Some Bits) index = false
+is_past (Some (Gate form)) index = false
+is_past None index = false
+
+abbrev pub has_past_index : Scope → List Operand → Bool
+has_past_index scope operands = list_any (λ operand. is_past (meaning_of operand.register scope) operand.index) operands
+
+abbrev pub has_wrong_index : Scope → Sentence → Bool
+has_wrong_index scope (Barrier operands) = has_past_index scope operands
+has_wrong_index scope (Act (Applied a)) = has_past_index scope a.qubits
+has_wrong_index scope sentence = false
+
+-- two sizes differ
+abbrev pub has_other_size : List ℕ → Bool
+has_other_size [] = false
+has_other_size (size ∷ sizes) = list_any (λ other. not (other == size)) sizes
+
+abbrev pub has_other_sizes : Scope → Sentence → Bool
+has_other_sizes scope (Act (Applied a)) = has_other_size (register_sizes (targets_of scope a.qubits))
+has_other_sizes scope sentence = false
+
+abbrev pub body_has_same_qubit : BodySentence → Bool
+body_has_same_qubit (BodyApplied a) = has_name_twice a.qubits
+body_has_same_qubit (BodyBarrier names) = false
+
+abbrev pub has_same_qubit : Scope → Sentence → Bool
+has_same_qubit scope (DeclareGate form) = list_any body_has_same_qubit form.body
+has_same_qubit scope (Act (Applied a)) = list_any has_twice (instances (targets_of scope a.qubits))
+has_same_qubit scope sentence = false
+
+abbrev pub is_second_version : Sentence → Bool
+is_second_version (Version real) = true
+is_second_version sentence = false
+
+-- the first cause, in this order
+abbrev pub first_cause : List (Bool × Cause) → Option Cause
+first_cause [] = None
+first_cause (test ∷ tests) = if test.0 then Some test.1 else first_cause tests
+
+-- what is wrong with a statement behind the first one, calls and angles aside
+unfoldable pub wrong_in : Scope → Sentence → Option Cause
+wrong_in scope sentence = first_cause (
+    (is_other_include sentence, cause.Include)
+    ∷ (has_unsupported sentence, cause.Unsupported)
+    ∷ (is_redeclared scope sentence, cause.Redeclared)
+    ∷ (is_empty_register sentence, cause.EmptyRegister)
+    ∷ (has_too_many_qubits scope sentence, cause.TooManyQubits)
+    ∷ (has_unknown scope sentence, cause.Unknown)
+    ∷ (has_wrong_count scope sentence, cause.WrongCount)
+    ∷ (has_wrong_index scope sentence, cause.Index)
+    ∷ (has_other_sizes scope sentence, cause.Sizes)
+    ∷ (has_same_qubit scope sentence, cause.SameQubit)
+    ∷ (is_second_version sentence, cause.SecondVersion)
+    ∷ [])

@@ -1,0 +1,91 @@
+-- The first fault of a program, and the circuit that a program without one means.
+use Rattle.std.specs.Prelude.{◌≡◌, ℕ, ◌+◌, Bool, true, false, if◌then◌else◌, List, [], ◌∷◌, ◌++◌, Option, None, Some, codes}
+use Rattle.std.specs.Str.{bytes_eq}
+use Rattle.zx_gates.specs.declared.elementary.ElementaryGate.{ElementaryGate}
+use Rattle.qasm_reader.specs.Syntax.{Applied, GateForm, Sentence, Version, Include, QubitRegister, BitRegister, DeclareGate, Act, Placed}
+use Rattle.qasm_scope.specs.declared.causes.Cause.{Cause}
+use Rattle.qasm_scope.specs.declared.causes.Cause.TheVariants as cause
+use Rattle.qasm_scope.specs.Applications.{application_events}
+use Rattle.qasm_scope.specs.Calls.{Event, applied, call_count, first_wrong}
+use Rattle.qasm_scope.specs.Faults.{wrong_in}
+use Rattle.qasm_scope.specs.Header.{first_gates, further_gates}
+use Rattle.qasm_scope.specs.Scope.{Scope, Qubits, Bits, Gate, declared, is_declared, numeral, qubit_count}
+
+-- the declarations of the header's gates: of the further ones those whose names are free
+abbrev pub with_first : List GateForm → Scope → Scope
+with_first [] scope = scope
+with_first (form ∷ forms) scope = with_first forms (declared form.name (Gate form) ∷ scope)
+
+abbrev pub with_further : List GateForm → Scope → Scope
+with_further [] scope = scope
+with_further (form ∷ forms) scope =
+    with_further forms (if is_declared form.name scope then scope
+    else record { name = form.name; meaning = Gate form; replaceable = true } ∷ scope)
+
+unfoldable pub with_header : Scope → Scope
+with_header scope = with_further further_gates (with_first first_gates scope)
+
+-- the scope behind a statement
+abbrev pub behind : Scope → Sentence → Scope
+behind scope (Include text) = with_header scope
+behind scope (QubitRegister name size) = declared name (Qubits (qubit_count scope) (numeral size)) ∷ scope
+behind scope (BitRegister name size) = declared name Bits ∷ scope
+behind scope (DeclareGate form) = declared form.name (Gate form) ∷ scope
+behind scope sentence = scope
+
+-- what a statement comes to
+abbrev pub events_of : Scope → Sentence → List Event
+events_of scope (Act (Applied a)) = application_events scope a
+events_of scope sentence = []
+
+-- what is wrong with a statement behind the first one, where so many calls were made before and at most so many may be
+abbrev pub or_else : Option Cause → Option Cause → Option Cause
+or_else None other = other
+or_else (Some cause) other = Some cause
+
+abbrev pub wrong_with : ℕ → Scope → ℕ → Sentence → Option Cause
+wrong_with most scope calls sentence = or_else (wrong_in scope sentence) (first_wrong most calls (events_of scope sentence))
+
+-- a cause, and the place of the statement that has it
+abbrev pub placed_or : Option Cause → ℕ → Option (Cause × ℕ) → Option (Cause × ℕ)
+placed_or None place other = other
+placed_or (Some cause) place other = Some (cause, place)
+
+-- the first fault of the statements behind the first one
+abbrev pub fault_behind : ℕ → Scope → ℕ → List Placed → Option (Cause × ℕ)
+fault_behind most scope calls [] = None
+fault_behind most scope calls (s ∷ statements) =
+    placed_or (wrong_with most scope calls s.sentence) s.place
+    (fault_behind most (behind scope s.sentence) (calls + call_count (events_of scope s.sentence)) statements)
+
+-- the statement is `OPENQASM 2.0;`
+abbrev pub is_version : Sentence → Bool
+is_version (Version real) = bytes_eq real (codes "2.0")
+is_version sentence = false
+
+-- the first fault of a program in which at most so many calls may be made
+unfoldable pub first_fault : ℕ → List Placed → Option (Cause × ℕ)
+first_fault most [] = Some (cause.Version, 0)
+first_fault most (s ∷ statements) =
+    if is_version s.sentence then fault_behind most [] 0 statements else Some (cause.Version, s.place)
+
+-- the most calls that a program that is read may make
+abbrev pub most_calls : ℕ
+most_calls = 1000000
+
+-- the scope behind all statements
+abbrev pub scope_behind : Scope → List Placed → Scope
+scope_behind scope [] = scope
+scope_behind scope (s ∷ statements) = scope_behind (behind scope s.sentence) statements
+
+-- the built-in gates that act, in order
+abbrev pub gates_behind : Scope → List Placed → List ElementaryGate
+gates_behind scope [] = []
+gates_behind scope (s ∷ statements) = applied (events_of scope s.sentence) ++ gates_behind (behind scope s.sentence) statements
+
+-- The program means the circuit of so many qubits and these gates: it has no fault but that it may make any number of calls.
+pub record Means (program : List Placed) (qubits : ℕ) (gates : List ElementaryGate) : Type 0 where
+  pub most : ℕ
+  pub faultless : first_fault most program ≡ None
+  pub as_many_qubits : qubits ≡ qubit_count (scope_behind [] program)
+  pub same_gates : gates ≡ gates_behind [] program

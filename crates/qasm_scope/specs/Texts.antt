@@ -1,0 +1,35 @@
+-- What a text means: its tokens, the program of these, and the circuit of that.
+use Rattle.std.specs.Prelude.{◌≡◌, ℕ, ◌+◌, List, [], ◌∷◌, length, None}
+use Rattle.zx_gates.specs.declared.elementary.ElementaryGate.{ElementaryGate}
+use Rattle.qasm_lexer.specs.Tokens.{Lexeme, IsCut}
+use Rattle.qasm_reader.specs.Depth.{too_deep}
+use Rattle.qasm_reader.specs.Grammar.{IsProgram}
+use Rattle.qasm_reader.specs.Syntax.{Applied, Sentence, Act, Placed}
+use Rattle.qasm_scope.specs.Applications.{instances, targets_of}
+use Rattle.qasm_scope.specs.Meaning.{Means, behind}
+use Rattle.qasm_scope.specs.Scope.{Scope}
+
+-- the text is this program
+pub record IsProgramText (text : List ℕ) (program : List Placed) : Type 0 where
+  pub tokens : List Lexeme
+  pub cut : IsCut 0 text tokens
+  pub shallow : too_deep tokens ≡ None
+  pub grammar : IsProgram tokens program
+
+-- The text means the circuit of so many qubits and these gates. It may make any number of calls.
+pub record TextMeans (text : List ℕ) (qubits : ℕ) (gates : List ElementaryGate) : Type 0 where
+  pub program : List Placed
+  pub is : IsProgramText text program
+  pub means : Means program qubits gates
+
+-- how many gates a program applies in its statements: the instances of its applications
+abbrev pub instances_in : Scope → Sentence → ℕ
+instances_in scope (Act (Applied a)) = length (instances (targets_of scope a.qubits))
+instances_in scope sentence = 0
+
+abbrev pub size_behind : Scope → List Placed → ℕ
+size_behind scope [] = 0
+size_behind scope (s ∷ statements) = instances_in scope s.sentence + size_behind (behind scope s.sentence) statements
+
+abbrev pub program_size : List Placed → ℕ
+program_size program = size_behind [] program

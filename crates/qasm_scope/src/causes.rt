@@ -1,0 +1,41 @@
+//! What is wrong with statements.
+
+/// What is wrong with a statement. Of several causes in one statement the first in this order is told, but that
+/// those from `Divide` to `TooManyGates` are looked for last, along the calls in the order in which they are made.
+#[derive(Clone, Copy, Debug, PartialEq, Eq)]
+pub enum Cause {
+    /// The program doesn't begin with `OPENQASM 2.0;`.
+    Version,
+    /// A file other than `qelib1.inc` is included.
+    Include,
+    /// `measure`, `reset`, `if`, `opaque`, or an expression with `^` or a function.
+    Unsupported,
+    /// A name is declared again, or two formal names of a gate are equal.
+    Redeclared,
+    /// A register has the size 0.
+    EmptyRegister,
+    /// With this register there are more than 1,024 qubits.
+    TooManyQubits,
+    /// A name isn't declared as what is needed there.
+    Unknown,
+    /// Angles or qubits differ in number from the gate's declaration.
+    WrongCount,
+    /// An index isn't below its register's size.
+    Index,
+    /// Registers of different size stand in one application.
+    Sizes,
+    /// One qubit stands twice in one application.
+    SameQubit,
+    /// A divisor is 0.
+    Divide,
+    /// A number of an angle is past the limits.
+    AngleTooLarge,
+    /// A value isn't a whole number of eighth turns, or can't be an angle.
+    NotEighthTurn,
+    /// A call is nested deeper than 256.
+    TooDeep,
+    /// A call is the 1,000,001st.
+    TooManyGates,
+    /// The version stands again.
+    SecondVersion,
+}

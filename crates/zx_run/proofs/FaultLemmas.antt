@@ -1,0 +1,114 @@
+-- A text has one first fault at most, and none where it is accepted.
+use Rattle.std.proofs.Common.{◌≡◌, ◌≤◌, ℕ, List, length, inl, inr, sym, ap, ◌∙◌, subst, arith, Option, None, Some, refl, Result, Err}
+use Rattle.zx_gates.specs.declared.elementary.ElementaryGate.{ElementaryGate}
+use Rattle.qasm_lexer.specs.Tokens.{Lexeme, IsCut, IsBadByte}
+use Rattle.qasm_lexer.proofs.Cuts.{same_tokens, same_byte, not_both}
+use Rattle.qasm_reader.specs.Depth.{too_deep}
+use Rattle.qasm_reader.specs.Grammar.{IsProgram, IsSyntaxFault}
+use Rattle.qasm_reader.specs.Syntax.{Placed}
+use Rattle.qasm_reader.proofs.Programs.{one_program, one_fault, program_no_fault}
+use Rattle.qasm_scope.specs.declared.causes.Cause.{Cause}
+use Rattle.qasm_scope.specs.Meaning.{first_fault, most_calls}
+use Rattle.qasm_scope.specs.Texts.{IsProgramText}
+use Rattle.zx_run.specs.declared.status.Fault.{Fault}
+use Rattle.zx_run.specs.declared.status.Fault.TheVariants.{BadByte, TooDeep, Syntax}
+use Rattle.qasm_reader.specs.declared.error.ParseError.{ParseError}
+use Rattle.qasm_reader.specs.declared.error.ParseError.TheVariants as errors
+use Rattle.zx_run.specs.Parsing.{stopped_by}
+use Rattle.zx_run.specs.declared.stopped.Stopped.TheVariants as stopped
+use Rattle.zx_run.specs.FirstFault.{most_bytes, IsFirstFault, IsShortFault, IsAccepted, HasDeepParenthesis, HasSyntaxFault, HasWrongStatement, fault_of}
+
+-- the tokens of a text can't be too deep and not
+deep_or_shallow : (text : List ℕ) (ts us : List Lexeme) (at : ℕ) → IsCut 0 text ts → IsCut 0 text us → too_deep ts ≡ Some at → too_deep us ≡ None → ⊥
+deep_or_shallow text ts us at a b deep shallow =
+    absurd (let h : ◌≡◌ {A = Option ℕ} (Some at) None = sym deep ∙ ap too_deep (same_tokens text 0 ts us a b) ∙ shallow in cc)
+
+bad_or_deep : (text : List ℕ) (m n : ℕ) → IsBadByte text m → HasDeepParenthesis text n → ⊥
+bad_or_deep text m n bad d = not_both text d.tokens m d.cut bad
+
+bad_or_syntax : (text : List ℕ) (m n : ℕ) → IsBadByte text m → HasSyntaxFault text n → ⊥
+bad_or_syntax text m n bad s = not_both text s.tokens m s.cut bad
+
+bad_or_program : (text : List ℕ) (m : ℕ) (program : List Placed) → IsBadByte text m → IsProgramText text program → ⊥
+bad_or_program text m program bad p = not_both text p.tokens m p.cut bad
+
+deep_or_syntax : (text : List ℕ) (m n : ℕ) → HasDeepParenthesis text m → HasSyntaxFault text n → ⊥
+deep_or_syntax text m n d s = deep_or_shallow text d.tokens s.tokens m d.cut s.cut d.deep s.shallow
+
+deep_or_program : (text : List ℕ) (m : ℕ) (program : List Placed) → HasDeepParenthesis text m → IsProgramText text program → ⊥
+deep_or_program text m program d p = deep_or_shallow text d.tokens p.tokens m d.cut p.cut d.deep p.shallow
+
+syntax_or_program : (text : List ℕ) (m : ℕ) (program : List Placed) → HasSyntaxFault text m → IsProgramText text program → ⊥
+syntax_or_program text m program s p =
+    program_no_fault p.tokens program m p.grammar (subst (λ ts. IsSyntaxFault ts m) (same_tokens text 0 s.tokens p.tokens s.cut p.cut) s.fault)
+
+same_program : (text : List ℕ) (a b : List Placed) → IsProgramText text a → IsProgramText text b → a ≡ b
+same_program text a b p q =
+    one_program q.tokens a b (subst (λ ts. IsProgram ts a) (same_tokens text 0 p.tokens q.tokens p.cut q.cut) p.grammar) q.grammar
+
+same_deep : (text : List ℕ) (m n : ℕ) → HasDeepParenthesis text m → HasDeepParenthesis text n → m ≡ n
+same_deep text m n d e =
+    let h : ◌≡◌ {A = Option ℕ} (Some m) (Some n) = sym d.deep ∙ ap too_deep (same_tokens text 0 d.tokens e.tokens d.cut e.cut) ∙ e.deep in cc
+
+same_syntax : (text : List ℕ) (m n : ℕ) → HasSyntaxFault text m → HasSyntaxFault text n → m ≡ n
+same_syntax text m n s r =
+    one_fault r.tokens m n (subst (λ ts. IsSyntaxFault ts m) (same_tokens text 0 s.tokens r.tokens s.cut r.cut) s.fault) r.fault
+
+same_wrong : (text : List ℕ) (c d : Cause) (m n : ℕ) → HasWrongStatement text c m → HasWrongStatement text d n → fault_of c m ≡ fault_of d n
+same_wrong text c d m n w v =
+    let h : ◌≡◌ {A = Option (Cause × ℕ)} (Some (c, m)) (Some (d, n)) =
+    sym w.first ∙ ap (first_fault most_calls) (same_program text w.program v.program w.is v.is) ∙ v.first in
+    let pair : ◌≡◌ {A = Cause × ℕ} (c, m) (d, n) = cc in ap (λ p. fault_of p.0 p.1) pair
+
+one_short : (text : List ℕ) (f g : Fault) → IsShortFault text f → IsShortFault text g → f ≡ g
+one_short text f g (inl a) (inl b) = a.2 ∙ ap BadByte (same_byte text a.0 b.0 a.1 b.1) ∙ sym b.2
+one_short text f g (inl a) (inr (inl b)) = absurd (bad_or_deep text a.0 b.0 a.1 b.1)
+one_short text f g (inl a) (inr (inr (inl b))) = absurd (bad_or_syntax text a.0 b.0 a.1 b.1)
+one_short text f g (inl a) (inr (inr (inr b))) = absurd (bad_or_program text a.0 b.2.program a.1 b.2.is)
+one_short text f g (inr (inl a)) (inl b) = absurd (bad_or_deep text b.0 a.0 b.1 a.1)
+one_short text f g (inr (inl a)) (inr (inl b)) = a.2 ∙ ap TooDeep (same_deep text a.0 b.0 a.1 b.1) ∙ sym b.2
+one_short text f g (inr (inl a)) (inr (inr (inl b))) = absurd (deep_or_syntax text a.0 b.0 a.1 b.1)
+one_short text f g (inr (inl a)) (inr (inr (inr b))) = absurd (deep_or_program text a.0 b.2.program a.1 b.2.is)
+one_short text f g (inr (inr (inl a))) (inl b) = absurd (bad_or_syntax text b.0 a.0 b.1 a.1)
+one_short text f g (inr (inr (inl a))) (inr (inl b)) = absurd (deep_or_syntax text b.0 a.0 b.1 a.1)
+one_short text f g (inr (inr (inl a))) (inr (inr (inl b))) = a.2 ∙ ap Syntax (same_syntax text a.0 b.0 a.1 b.1) ∙ sym b.2
+one_short text f g (inr (inr (inl a))) (inr (inr (inr b))) = absurd (syntax_or_program text a.0 b.2.program a.1 b.2.is)
+one_short text f g (inr (inr (inr a))) (inl b) = absurd (bad_or_program text b.0 a.2.program b.1 a.2.is)
+one_short text f g (inr (inr (inr a))) (inr (inl b)) = absurd (deep_or_program text b.0 a.2.program b.1 a.2.is)
+one_short text f g (inr (inr (inr a))) (inr (inr (inl b))) = absurd (syntax_or_program text b.0 a.2.program b.1 a.2.is)
+one_short text f g (inr (inr (inr a))) (inr (inr (inr b))) = a.3 ∙ same_wrong text a.0 b.0 a.1 b.1 a.2 b.2 ∙ sym b.3
+
+pub one_first_fault : (text : List ℕ) (f g : Fault) → IsFirstFault text f → IsFirstFault text g → f ≡ g
+one_first_fault text f g (inl a) (inl b) = a.1 ∙ sym b.1
+one_first_fault text f g (inl a) (inr b) = let long = a.0 in let short = b.0 in absurd (omega (arith, long, short))
+one_first_fault text f g (inr a) (inl b) = let long = b.0 in let short = a.0 in absurd (omega (arith, long, short))
+one_first_fault text f g (inr a) (inr b) = one_short text f g a.1 b.1
+
+short_not_accepted : (text : List ℕ) (f : Fault) (n : ℕ) (gates : List ElementaryGate) → IsShortFault text f → IsAccepted text n gates → ⊥
+short_not_accepted text f n gates (inl a) k = bad_or_program text a.0 k.program a.1 k.is
+short_not_accepted text f n gates (inr (inl a)) k = deep_or_program text a.0 k.program a.1 k.is
+short_not_accepted text f n gates (inr (inr (inl a))) k = syntax_or_program text a.0 k.program a.1 k.is
+short_not_accepted text f n gates (inr (inr (inr a))) k =
+    absurd (let h : ◌≡◌ {A = Option (Cause × ℕ)} (Some (a.0, a.1)) None =
+    sym a.2.first ∙ ap (first_fault most_calls) (same_program text a.2.program k.program a.2.is k.is) ∙ k.faultless in cc)
+
+pub not_accepted : (text : List ℕ) (f : Fault) (n : ℕ) (gates : List ElementaryGate) → IsFirstFault text f → IsAccepted text n gates → ⊥
+not_accepted text f n gates (inl a) k = let long = a.0 in let short = k.short in absurd (omega (arith, long, short))
+not_accepted text f n gates (inr a) k = short_not_accepted text f n gates a.1 k
+
+-- what the tokens' fault says of the text
+module _ (text : List ℕ) (tokens : List Lexeme) (short : length text ≤ most_bytes) (cut : IsCut 0 text tokens) where
+  pub parse_first : (error : ParseError) → ((at : ℕ) → error ≡ errors.TooDeep at → too_deep tokens ≡ Some at)
+      → ((at : ℕ) → error ≡ errors.Syntax at → (too_deep tokens ≡ None) × IsSyntaxFault tokens at)
+      → (fault : Fault) → stopped_by error ≡ stopped.Fault fault → IsFirstFault text fault
+  parse_first (errors.TooDeep at) deep syntax fault is =
+      let same : TooDeep at ≡ fault = (let h : stopped.Fault (TooDeep at) ≡ stopped.Fault fault = is in cc) in
+      inr (short, inr (inl (at, record { tokens = tokens; cut = cut; deep = deep at refl }, sym same)))
+  parse_first (errors.Syntax at) deep syntax fault is =
+      let same : Syntax at ≡ fault = (let h : stopped.Fault (Syntax at) ≡ stopped.Fault fault = is in cc) in
+      inr (short, inr (inr (inl (at, record { tokens = tokens; cut = cut; shallow = (syntax at refl).0; fault = (syntax at refl).1 }, sym same))))
+  parse_first errors.NoMemory deep syntax fault is = absurd (let h : stopped.NoMemory ≡ stopped.Fault fault = is in cc)
+
+-- equal errors in answers are equal
+pub Err_same : {T E : Type 0} {a b : E} → ◌≡◌ {A = Result T E} (Err a) (Err b) → a ≡ b
+Err_same h = cc
