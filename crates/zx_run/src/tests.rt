@@ -106,7 +106,7 @@ fn other_heads_are_read(rt: HostRuntime) -> Result<(), Fail> {
             b"qreg q[2];\nt q[0];\nt q[1];\n",
         ),
         (
-            b"OPENQASM 2.0;\ninclude \"qelib1.inc\";\nqreg u[2];\ngate swap a,b { }\nswap u[0],u[1];\n",
+            b"OPENQASM 2.0;\ninclude \"qelib1.inc\";\nqreg u[2];\ngate swap a,b { }\n",
             b"qreg q[2];\n",
         ),
         (
@@ -138,7 +138,7 @@ fn other_heads_are_read(rt: HostRuntime) -> Result<(), Fail> {
 fn other_texts_are_refused_at_their_first_fault(rt: HostRuntime) -> Result<(), Fail> {
     let alloc = rt.alloc();
     // What follows the head.
-    let rows: [(&[u8], &[u8]); 24] = [
+    let rows: [(&[u8], &[u8]); 19] = [
         (b"@", b"zxopt: fault 2 BadByte at 47\n"),
         (b"h q[0]", b"zxopt: fault 3 Syntax at 47\n"),
         (
@@ -149,7 +149,6 @@ fn other_texts_are_refused_at_their_first_fault(rt: HostRuntime) -> Result<(), F
         (b"qreg q[2];\n", b"zxopt: fault 7 Redeclared at 47\n"),
         (b"gate g(a) a { }\n", b"zxopt: fault 7 Redeclared at 47\n"),
         (b"gate h a { }\n", b"zxopt: fault 7 Redeclared at 47\n"),
-        (b"qreg r[0];\n", b"zxopt: fault 8 EmptyRegister at 47\n"),
         (b"qreg r[1024];\n", b"zxopt: fault 9 TooManyQubits at 47\n"),
         (
             b"cu3(0,0,0) q[0],q[0];\n",
@@ -162,11 +161,6 @@ fn other_texts_are_refused_at_their_first_fault(rt: HostRuntime) -> Result<(), F
             b"zxopt: fault 11 WrongCount at 47\n",
         ),
         (b"h q[1];\n", b"zxopt: fault 12 Index at 47\n"),
-        (
-            b"qreg a[2];\nqreg b[3];\ncx a,b;\n",
-            b"zxopt: fault 13 Sizes at 69\n",
-        ),
-        (b"cx q[0],q[0];\n", b"zxopt: fault 14 SameQubit at 47\n"),
         (b"cx q[0],q;\n", b"zxopt: fault 14 SameQubit at 47\n"),
         (b"u1(pi/0) q[0];\n", b"zxopt: fault 15 Divide at 47\n"),
         (
@@ -182,11 +176,6 @@ fn other_texts_are_refused_at_their_first_fault(rt: HostRuntime) -> Result<(), F
             b"zxopt: fault 17 NotEighthTurn at 47\n",
         ),
         (
-            b"qreg r[2];\ncu1(pi/4) r[0],r[1];\n",
-            b"zxopt: fault 17 NotEighthTurn at 58\n",
-        ),
-        (b"OPENQASM 2.0;\n", b"zxopt: fault 20 SecondVersion at 47\n"),
-        (
             b"include \"qelib1.inc\";\n",
             b"zxopt: fault 7 Redeclared at 47\n",
         ),
@@ -197,20 +186,95 @@ fn other_texts_are_refused_at_their_first_fault(rt: HostRuntime) -> Result<(), F
         assert_eq!(rt; out.bytes(), b"".as_slice());
         assert_eq!(rt; err.bytes(), line);
     }
+    // What follows the short head.
+    let short: [(&[u8], &[u8]); 6] = [
+        (b"qreg q[0];\n", b"zxopt: fault 8 EmptyRegister at 36\n"),
+        (b"qreg q[1025];\n", b"zxopt: fault 9 TooManyQubits at 36\n"),
+        (
+            b"qreg a[2];\nqreg b[3];\ncx a,b;\n",
+            b"zxopt: fault 13 Sizes at 58\n",
+        ),
+        (
+            b"qreg q[2];\ncx q[0],q[0];\n",
+            b"zxopt: fault 14 SameQubit at 47\n",
+        ),
+        (
+            b"qreg q[2];\ncu1(pi/4) q[0],q[1];\n",
+            b"zxopt: fault 17 NotEighthTurn at 47\n",
+        ),
+        (b"OPENQASM 2.0;\n", b"zxopt: fault 20 SecondVersion at 36\n"),
+    ];
+    for (lines, line) in short {
+        let (_, _, err) = opt(alloc, &joined(alloc, SHORT_HEAD, lines)?)?;
+        assert_eq!(rt; err.bytes(), line);
+    }
     let whole: [(&[u8], &[u8]); 4] = [
         (b"", b"zxopt: fault 4 Version\n"),
         (b"OPENQASM 3.0;\n", b"zxopt: fault 4 Version\n"),
+        (b"include \"other.inc\";\n", b"zxopt: fault 4 Version\n"),
         (
             b"OPENQASM 2.0;\ninclude \"other.inc\";\n",
             b"zxopt: fault 5 Include at 14\n",
         ),
-        (
-            b"OPENQASM 2.0;\nqreg q[1025];\n",
-            b"zxopt: fault 9 TooManyQubits at 14\n",
-        ),
     ];
     for (text, line) in whole {
         let (_, _, err) = opt(alloc, text)?;
+        assert_eq!(rt; err.bytes(), line);
+    }
+    Ok(())
+}
+
+#[test]
+fn of_two_faults_the_first_is_told(rt: HostRuntime) -> Result<(), Fail> {
+    let alloc = rt.alloc();
+    // What follows the head. A bad byte comes before all others, then syntax, then the first statement with a fault.
+    let rows: [(&[u8], &[u8]); 16] = [
+        (b"h q[0] @", b"zxopt: fault 2 BadByte at 54\n"),
+        (b"h q[1];\nh q[0]", b"zxopt: fault 3 Syntax at 55\n"),
+        (
+            b"h r[0];\ncx q[0],q[0];\n",
+            b"zxopt: fault 10 Unknown at 47\n",
+        ),
+        // In one statement they come in the order of their numbers, the version's and those of calls last.
+        (
+            b"gate h a { U(pi^2,0,0) a; }\n",
+            b"zxopt: fault 6 Unsupported at 47\n",
+        ),
+        (b"qreg q[0];\n", b"zxopt: fault 7 Redeclared at 47\n"),
+        (b"qreg q[1025];\n", b"zxopt: fault 7 Redeclared at 47\n"),
+        (b"gate h a { k a; }\n", b"zxopt: fault 7 Redeclared at 47\n"),
+        (
+            b"gate g a { CX a; k a; }\n",
+            b"zxopt: fault 10 Unknown at 47\n",
+        ),
+        (b"cx q[1];\n", b"zxopt: fault 11 WrongCount at 47\n"),
+        (
+            b"creg c[1];\nccx q[0],q[1],c[0];\n",
+            b"zxopt: fault 10 Unknown at 58\n",
+        ),
+        (b"cx q[1],q[1];\n", b"zxopt: fault 12 Index at 47\n"),
+        (
+            b"qreg b[3];\nqreg c[2];\nccx b,c,c[2];\n",
+            b"zxopt: fault 12 Index at 69\n",
+        ),
+        (
+            b"qreg b[3];\nqreg c[2];\nccx b,c,c;\n",
+            b"zxopt: fault 13 Sizes at 69\n",
+        ),
+        (
+            b"gate g(x) a,b { }\ng(1/0) q[0],q[0];\n",
+            b"zxopt: fault 14 SameQubit at 65\n",
+        ),
+        // The angles of a call come before what the gate makes of them, and go from left to right.
+        (b"U(0.1,pi/0,0) q[0];\n", b"zxopt: fault 15 Divide at 47\n"),
+        (
+            b"u2(1152921504606846977*pi,pi/0) q[0];\n",
+            b"zxopt: fault 16 AngleTooLarge at 47\n",
+        ),
+    ];
+    for (lines, line) in rows {
+        let (_, out, err) = opt(alloc, &with_head(alloc, lines)?)?;
+        assert_eq!(rt; out.bytes(), b"".as_slice());
         assert_eq!(rt; err.bytes(), line);
     }
     Ok(())
@@ -248,8 +312,11 @@ fn limits_are_told(rt: HostRuntime) -> Result<(), Fail> {
     assert_eq!(rt; err.bytes(), b"zxopt: fault 18 TooDeep at 305\n".as_slice());
     let (_, out, _) = opt(alloc, &doubling(alloc, 18)?)?;
     assert_eq!(rt; out.bytes(), HEAD);
-    let (status, _, _) = opt(alloc, &doubling(alloc, 24)?)?;
-    assert!(rt; matches!(status, Status::Refused(Fault::TooManyGates { .. })));
+    // The application is the last line, of ten bytes.
+    let text = doubling(alloc, 24)?;
+    let at = text.len().saturating_sub(10);
+    let (status, _, _) = opt(alloc, &text)?;
+    assert_eq!(rt; status, Status::Refused(Fault::TooManyGates { at }));
     Ok(())
 }
 
