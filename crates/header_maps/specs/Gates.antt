@@ -2,7 +2,8 @@
 -- eighth roots of one. Sources: Nielsen and Chuang, "Quantum Computation and Quantum Information", sections 1.3, 4.2 and
 -- 4.3, for the Pauli matrices, H, S, T, rotations and controlled gates; Cross, Bishop, Smolin and Gambetta, "Open quantum
 -- assembly language" (arXiv 1707.03429), for U as three rotations; Cross and others, "OpenQASM 3: A broader and deeper
--- quantum assembly language" (arXiv 2104.14722), for the roots of X. Angles are counted in eighth turns, pi/4.
+-- quantum assembly language" (arXiv 2104.14722), for the roots of X. The rotation about ZZ is the evolution under a product
+-- of two Z, section 4.7 of the first, and the exchange of two qubits its section 1.3.4. Angles are counted in eighth turns, pi/4.
 use Rattle.std.specs.Prelude.{ℕ, Bool, true, false, if◌then◌else◌, List, ◌∷◌}
 use Rattle.zx_model.specs.Phase.{quarter_turn}
 use Rattle.zx_model.specs.Number.{Number, zero, one, root, add, neg, mul, root_power}

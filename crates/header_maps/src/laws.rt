@@ -53,9 +53,11 @@ pub fn gates_with_angles()
     ensures rz { (a : Angle) (k : ℕ) → phase_of a ≡ Some k → HasMap (codes "rz") (a ∷ []) (0 ∷ []) (single (rotation_z k)) }
     ensures u2 { (a b : Angle) (j k : ℕ) → phase_of a ≡ Some j → phase_of b ≡ Some k →
         HasMap (codes "u2") (a ∷ b ∷ []) (0 ∷ []) (single (three_rotations 2 j k)) }
-    ensures u3 { (a b c : Angle) (i j k : ℕ) → phase_of a ≡ Some i → phase_of b ≡ Some j → phase_of c ≡ Some k →
+    ensures u3 { (a b c : Angle) (i j k : ℕ) → phase_of a ≡ Some i → phase_of b ≡ Some j
+        → phase_of c ≡ Some k →
         HasMap (codes "u3") (a ∷ b ∷ c ∷ []) (0 ∷ []) (single (three_rotations i j k)) }
-    ensures u { (a b c : Angle) (i j k : ℕ) → phase_of a ≡ Some i → phase_of b ≡ Some j → phase_of c ≡ Some k →
+    ensures u { (a b c : Angle) (i j k : ℕ) → phase_of a ≡ Some i → phase_of b ≡ Some j
+        → phase_of c ≡ Some k →
         HasMap (codes "u") (a ∷ b ∷ c ∷ []) (0 ∷ []) (single (three_rotations i j k)) }
 
     // on two qubits
@@ -81,20 +83,27 @@ pub fn gates_with_half_angles()
 pub fn the_header_means_the_same_in_each_scope()
     ensures { (scope : Scope) (name : List ℕ) → is_declared name scope ≡ false →
         (depth : ℕ) (angles : List Angle) (qubits : List ℕ) →
-        expand_declared (with_header scope) name depth angles qubits ≡ expand_declared (with_header []) name depth angles qubits }
+        expand_declared (with_header scope) name depth angles qubits
+        ≡ expand_declared (with_header []) name depth angles qubits }
 {}
 
 /// The definitions in other words.
 pub fn worked_definitions()
     ensures i_is_a_root_of_minus_one { mul i i ≡ neg one }
     ensures root_of_two_squared { mul root_of_two root_of_two ≡ two }
-    ensures hadamard_squared { (row column : Bool) → product hadamard hadamard row column ≡ mul two (identity row column) }
-    ensures x_y { (row column : Bool) → product pauli_x pauli_y row column ≡ mul i (pauli_z row column) }
-    ensures root_of_x_squared { (row column : Bool) → product root_of_x root_of_x row column ≡ mul two (mul two (pauli_x row column)) }
-    ensures roots_of_x { (row column : Bool) → product root_of_x other_root_of_x row column ≡ mul two (mul two (identity row column)) }
+    ensures hadamard_squared { (row column : Bool)
+        → product hadamard hadamard row column ≡ mul two (identity row column) }
+    ensures x_y { (row column : Bool)
+        → product pauli_x pauli_y row column ≡ mul i (pauli_z row column) }
+    ensures root_of_x_squared { (row column : Bool)
+        → product root_of_x root_of_x row column ≡ mul two (mul two (pauli_x row column)) }
+    ensures roots_of_x { (row column : Bool)
+        → product root_of_x other_root_of_x row column ≡ mul two (mul two (identity row column)) }
     // half a turn about x and about y, times 2*exp(i*pi/2) = 2*i
-    ensures half_turn_x { (row column : Bool) → rotation_x 4 row column ≡ mul two (pauli_x row column) }
-    ensures half_turn_y { (row column : Bool) → rotation_y 4 row column ≡ mul two (pauli_y row column) }
+    ensures half_turn_x { (row column : Bool)
+        → rotation_x 4 row column ≡ mul two (pauli_x row column) }
+    ensures half_turn_y { (row column : Bool)
+        → rotation_y 4 row column ≡ mul two (pauli_y row column) }
     // the third bit changes where the others are 1
     ensures toffoli { (x y : List Bool) → length x ≡ 3 → length y ≡ 3 →
         controlled one (controlled one (single pauli_x)) x y

@@ -46,7 +46,7 @@ pub fn any_no_register<'a>(names: &Names<'a>, arguments: &[Argument<'a>]) -> boo
     false
 }
 
-/// Whether the argument isn't.
+/// Whether the argument isn't a register of qubits or one of its qubits.
 fn is_no_register<'a>(names: &Names<'a>, argument: &Argument<'a>) -> bool
     ensures { result ≡ no_register_by names.now.symbols (operand argument.now) }
 {
@@ -65,7 +65,7 @@ pub fn any_past_index<'a>(names: &Names<'a>, arguments: &[Argument<'a>]) -> bool
     false
 }
 
-/// Whether the index isn't.
+/// Whether the argument's index isn't below its register's size.
 fn is_past<'a>(names: &Names<'a>, argument: &Argument<'a>) -> bool
     ensures { result ≡ past_by names.now.symbols (operand argument.now) }
 {
@@ -75,9 +75,10 @@ fn is_past<'a>(names: &Names<'a>, argument: &Argument<'a>) -> bool
     }
 }
 
-/// Whether the index isn't below the size.
+/// Whether an index, if there is one, isn't below the size.
 fn is_past_size(size: usize, index: Option<&[u8]>) -> bool
-    ensures { (first : ℕ) → result ≡ past_in (Some (first, size)) (option_map (λ text. text.now) index.entry) }
+    ensures { (first : ℕ)
+        → result ≡ past_in (Some (first, size)) (option_map (λ text. text.now) index.entry) }
 {
     match index {
         Some(text) => reaches(text, size),
@@ -98,7 +99,8 @@ pub fn spans<'a>(
     names: &Names<'a>,
     arguments: &[Argument<'a>],
 ) -> Result<Vec<Span>, AllocError>
-    ensures { IfOk result (λ spans. map span_target spans.items ≡ map (span_by names.now.symbols) (map operand arguments.now)) }
+    ensures { IfOk result (λ spans. map span_target spans.items
+        ≡ map (span_by names.now.symbols) (map operand arguments.now)) }
 {
     let mut spans = Vec::new(alloc);
     for argument in arguments {
@@ -119,7 +121,8 @@ fn argument_span<'a>(names: &Names<'a>, argument: &Argument<'a>) -> Span
 
 /// A register, or the qubit of it at the index.
 fn span_of(register: (usize, usize), index: Option<&[u8]>) -> Span
-    ensures { span_target result ≡ span_in (Some register) (option_map (λ text. text.now) index.entry) }
+    ensures { span_target result
+        ≡ span_in (Some register) (option_map (λ text. text.now) index.entry) }
 {
     match index {
         Some(text) => Span::Single(register.0.saturating_add(number(text))),
@@ -174,7 +177,8 @@ fn size_of(span: &Span) -> Option<usize>
 
 /// Whether a register has another size.
 fn any_other_size(spans: &[Span], size: usize) -> bool
-    ensures { result ≡ list_any (λ other. not (other == size)) (register_sizes (map span_target spans.now)) }
+    ensures { result
+        ≡ list_any (λ other. not (other == size)) (register_sizes (map span_target spans.now)) }
 {
     for span in spans {
         if is_other_size(span, size) {
@@ -186,7 +190,8 @@ fn any_other_size(spans: &[Span], size: usize) -> bool
 
 /// Whether it is a register of another size.
 fn is_other_size(span: &Span, size: usize) -> bool
-    ensures { result ≡ list_any (λ other. not (other == size)) (register_sizes (span_target span.now ∷ [])) }
+    ensures { result
+        ≡ list_any (λ other. not (other == size)) (register_sizes (span_target span.now ∷ [])) }
 {
     match span {
         Span::Single(_) => false,
@@ -196,7 +201,8 @@ fn is_other_size(span: &Span, size: usize) -> bool
 
 /// What is wrong with a barrier.
 pub fn wrong_barrier<'a>(names: &Names<'a>, arguments: &[Argument<'a>]) -> Option<Cause>
-    ensures { result ≡ barrier_cause (list_any (no_register_by names.now.symbols) (map operand arguments.now)) (list_any (past_by names.now.symbols) (map operand arguments.now)) }
+    ensures { result
+        ≡ barrier_cause (list_any (no_register_by names.now.symbols) (map operand arguments.now)) (list_any (past_by names.now.symbols) (map operand arguments.now)) }
 {
     if any_no_register(names, arguments) {
         Some(Cause::Unknown)
@@ -208,9 +214,17 @@ pub fn wrong_barrier<'a>(names: &Names<'a>, arguments: &[Argument<'a>]) -> Optio
 }
 
 /// What is wrong with a barrier, in each scope that the names are of.
+///
+/// # Errors
+///
+/// `Wrong(Unknown)` where an argument is no register of qubits nor one of its qubits, else `Wrong(Index)` where an
+/// index isn't below its register's size.
 pub fn barrier<'a>(names: &Names<'a>, arguments: &[Argument<'a>]) -> Result<(), Stopped>
-    ensures ok { OnOk result ((scope : Scope) → Represents names.now scope → wrong_in scope (Barrier (map operand arguments.now)) ≡ None) }
-    ensures err { (cause : Cause) (scope : Scope) → result ≡ Err (Stopped.Wrong cause) → Represents names.now scope → wrong_in scope (Barrier (map operand arguments.now)) ≡ Some cause }
+    ensures ok { OnOk result ((scope : Scope) → Represents names.now scope
+        → wrong_in scope (Barrier (map operand arguments.now)) ≡ None) }
+    ensures err { (cause : Cause) (scope : Scope) → result ≡ Err (Stopped.Wrong cause)
+        → Represents names.now scope
+        → wrong_in scope (Barrier (map operand arguments.now)) ≡ Some cause }
 {
     match wrong_barrier(names, arguments) {
         Some(cause) => Err(Stopped::Wrong(cause)),

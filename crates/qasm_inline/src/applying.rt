@@ -26,16 +26,23 @@ use qasm_scope::stopped::Stopped;
 use std::alloc::Global;
 
 /// Applies a gate, where nothing is wrong with the application.
+///
+/// # Errors
+///
+/// `Wrong` with the first cause: of the statement itself, or else of the calls that it makes, in their order; and
+/// `NoMemory` where memory runs out.
 pub fn apply<'a>(
     alloc: Global,
     names: &Names<'a>,
     unrolled: &mut Unrolled,
     application: &Application<'a>,
 ) -> Result<(), Stopped>
-    ensures ok { OnOk result ((scope : Scope) → Represents names.now scope → wrong_in scope (Act (Applied (views.application application.now))) ≡ None) }
+    ensures ok { OnOk result ((scope : Scope) → Represents names.now scope
+        → wrong_in scope (Act (Applied (views.application application.now))) ≡ None) }
     ensures events { OnOk result ((scope : Scope) → Represents names.now scope
         → Continues most_calls unrolled.old.calls unrolled.old.gates (application_events scope (views.application application.now)) unrolled.new.calls unrolled.new.gates []) }
-    ensures err { (cause : Cause) (scope : Scope) → result ≡ Err (Stopped.Wrong cause) → Represents names.now scope
+    ensures err { (cause : Cause) (scope : Scope) → result ≡ Err (Stopped.Wrong cause)
+        → Represents names.now scope
         → wrong_with most_calls scope unrolled.old.calls (Act (Applied (views.application application.now))) ≡ Some cause }
 {
     let parameters = Places::none(alloc);
@@ -56,7 +63,8 @@ fn wrong_application<'a>(
     application: &Application<'a>,
     spans: &[Span],
 ) -> Option<Cause>
-    ensures { map span_target spans.now ≡ map (span_by names.now.symbols) (views.application application.now).qubits
+    ensures { map span_target spans.now
+        ≡ map (span_by names.now.symbols) (views.application application.now).qubits
         → result ≡ wrong_application_by names.now.symbols parameters.now (views.application application.now) }
 {
     let shape = names.shape(&application.gate);

@@ -14,7 +14,7 @@ use crate::values::evaluated;
 use qasm_angle::{Angle, Expr};
 use qasm_scope::Cause;
 use qasm_scope::gates::{GateBody, Target};
-use qasm_scope::numerals::cut;
+use qasm_scope::numerals::clamped;
 use qasm_scope::stopped::Stopped;
 use std::alloc::{AllocError, Global};
 use zx_gates::Qubit;
@@ -45,7 +45,8 @@ pub fn call_instances(
     ensures ok { OnOk result ((numbered : Numbered) → Unrolls gates.now numbered
         → Continues most_calls unrolled.old.calls unrolled.old.gates
         (flat_map (target_call numbered target 1 (given values.now)) (cut_instances (map span_target spans.now))) unrolled.new.calls unrolled.new.gates []) }
-    ensures err { (cause : Cause) (numbered : Numbered) → result ≡ Err (Stopped.Wrong cause) → Unrolls gates.now numbered
+    ensures err { (cause : Cause) (numbered : Numbered) → result ≡ Err (Stopped.Wrong cause)
+        → Unrolls gates.now numbered
         → first_wrong most_calls unrolled.old.calls
         (flat_map (target_call numbered target 1 (given values.now)) (cut_instances (map span_target spans.now))) ≡ Some cause }
 {
@@ -58,7 +59,8 @@ pub fn call_instances(
 
 /// The qubits of the instance at an index.
 fn instance_qubits(alloc: Global, spans: &[Span], index: usize) -> Result<Vec<Qubit>, AllocError>
-    ensures { IfOk result (λ qubits. qubits.items ≡ cut_instance (map span_target spans.now) index) }
+    ensures { IfOk result (λ qubits. qubits.items
+        ≡ cut_instance (map span_target spans.now) index) }
 {
     let mut qubits = Vec::new(alloc);
     for span in spans {
@@ -72,7 +74,7 @@ fn qubit_at(span: &Span, index: usize) -> Qubit
     ensures { result ≡ cut_qubit_at index (span_target span.now) }
 {
     match span {
-        Span::Single(qubit) => cut(*qubit),
-        Span::Register { first, .. } => cut(first.saturating_add(index)),
+        Span::Single(qubit) => clamped(*qubit),
+        Span::Register { first, .. } => clamped(first.saturating_add(index)),
     }
 }

@@ -17,7 +17,7 @@ use crate::unroll::Unrolled;
 use qasm_reader::{Program, Statement, StatementKind};
 use qasm_scope::Cause;
 use qasm_scope::names::Names;
-use qasm_scope::numerals::cut;
+use qasm_scope::numerals::clamped;
 use qasm_scope::stopped::Stopped;
 use std::alloc::Global;
 use zx_gates::Elementary;
@@ -35,7 +35,8 @@ pub fn inline(alloc: Global, program: &Program<'_>) -> Result<Elementary, Inline
     // The first fault is told, and a program that has one is refused.
     ensures fault { (cause : Cause) (at : ℕ) → result ≡ Err (InlineError.Fault cause at)
         → first_fault most_calls (statements_of program.now) ≡ Some (cause, at) }
-    ensures refused { (cause : Cause) (at : ℕ) → first_fault most_calls (statements_of program.now) ≡ Some (cause, at)
+    ensures refused { (cause : Cause) (at : ℕ)
+        → first_fault most_calls (statements_of program.now) ≡ Some (cause, at)
         → (result ≡ Err InlineError.NoMemory) ⊎ (result ≡ Err (InlineError.Fault cause at)) }
 {
     circuit(alloc, &program.statements)
@@ -52,7 +53,7 @@ fn circuit(alloc: Global, statements: &[Statement<'_>]) -> Result<Elementary, In
         take_in(alloc, &mut names, &mut unrolled, statement)?;
     }
     Ok(Elementary {
-        qubits: cut(names.qubits),
+        qubits: clamped(names.qubits),
         gates: unrolled.gates,
     })
 }
@@ -103,12 +104,16 @@ fn take_in<'a>(
     unrolled: &mut Unrolled,
     statement: &Statement<'a>,
 ) -> Result<(), InlineError>
-    ensures ok { OnOk result ((scope : Scope) → Represents names.old scope → wrong_with most_calls scope unrolled.old.calls (placed statement.now).sentence ≡ None) }
-    ensures behind { OnOk result ((scope : Scope) → Represents names.old scope → Represents names.new (behind scope (placed statement.now).sentence)) }
+    ensures ok { OnOk result ((scope : Scope) → Represents names.old scope
+        → wrong_with most_calls scope unrolled.old.calls (placed statement.now).sentence ≡ None) }
+    ensures behind { OnOk result ((scope : Scope) → Represents names.old scope
+        → Represents names.new (behind scope (placed statement.now).sentence)) }
     ensures events { OnOk result ((scope : Scope) → Represents names.old scope
         → Continues most_calls unrolled.old.calls unrolled.old.gates (events_of scope (placed statement.now).sentence) unrolled.new.calls unrolled.new.gates []) }
-    ensures err { (cause : Cause) (at : ℕ) (scope : Scope) → result ≡ Err (InlineError.Fault cause at) → Represents names.old scope
-        → (wrong_with most_calls scope unrolled.old.calls (placed statement.now).sentence ≡ Some cause) × (at ≡ (placed statement.now).place) }
+    ensures err { (cause : Cause) (at : ℕ) (scope : Scope)
+        → result ≡ Err (InlineError.Fault cause at) → Represents names.old scope
+        → (wrong_with most_calls scope unrolled.old.calls (placed statement.now).sentence
+        ≡ Some cause) × (at ≡ (placed statement.now).place) }
 {
     match read_statement(alloc, names, unrolled, &statement.kind) {
         Ok(()) => Ok(()),

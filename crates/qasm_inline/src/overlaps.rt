@@ -30,7 +30,8 @@ fn any_overlap(spans: &[Span], count: usize) -> bool
 
 /// Whether an argument is the same qubit as one of the others is in one of so many instances.
 fn overlaps_any(span: &Span, others: &[Span], count: usize) -> bool
-    ensures { result ≡ list_any (overlaps count (span_target span.now)) (map span_target others.now) }
+    ensures { result
+        ≡ list_any (overlaps count (span_target span.now)) (map span_target others.now) }
 {
     for other in others {
         if overlaps(span, other, count) {

@@ -28,11 +28,14 @@ pub fn read_statement<'a>(
     unrolled: &mut Unrolled,
     kind: &StatementKind<'a>,
 ) -> Result<(), Stopped>
-    ensures ok { OnOk result ((scope : Scope) → Represents names.old scope → wrong_with most_calls scope unrolled.old.calls (sentence kind.now) ≡ None) }
-    ensures behind { OnOk result ((scope : Scope) → Represents names.old scope → Represents names.new (behind scope (sentence kind.now))) }
+    ensures ok { OnOk result ((scope : Scope) → Represents names.old scope
+        → wrong_with most_calls scope unrolled.old.calls (sentence kind.now) ≡ None) }
+    ensures behind { OnOk result ((scope : Scope) → Represents names.old scope
+        → Represents names.new (behind scope (sentence kind.now))) }
     ensures events { OnOk result ((scope : Scope) → Represents names.old scope
         → Continues most_calls unrolled.old.calls unrolled.old.gates (events_of scope (sentence kind.now)) unrolled.new.calls unrolled.new.gates []) }
-    ensures err { (cause : Cause) (scope : Scope) → result ≡ Err (Stopped.Wrong cause) → Represents names.old scope
+    ensures err { (cause : Cause) (scope : Scope) → result ≡ Err (Stopped.Wrong cause)
+        → Represents names.old scope
         → wrong_with most_calls scope unrolled.old.calls (sentence kind.now) ≡ Some cause }
 {
     match kind {
@@ -55,10 +58,12 @@ fn operate<'a>(
     unrolled: &mut Unrolled,
     operation: &Operation<'a>,
 ) -> Result<(), Stopped>
-    ensures ok { OnOk result ((scope : Scope) → Represents names.now scope → wrong_with most_calls scope unrolled.old.calls (Act (action operation.now)) ≡ None) }
+    ensures ok { OnOk result ((scope : Scope) → Represents names.now scope
+        → wrong_with most_calls scope unrolled.old.calls (Act (action operation.now)) ≡ None) }
     ensures events { OnOk result ((scope : Scope) → Represents names.now scope
         → Continues most_calls unrolled.old.calls unrolled.old.gates (events_of scope (Act (action operation.now))) unrolled.new.calls unrolled.new.gates []) }
-    ensures err { (cause : Cause) (scope : Scope) → result ≡ Err (Stopped.Wrong cause) → Represents names.now scope
+    ensures err { (cause : Cause) (scope : Scope) → result ≡ Err (Stopped.Wrong cause)
+        → Represents names.now scope
         → wrong_with most_calls scope unrolled.old.calls (Act (action operation.now)) ≡ Some cause }
 {
     match operation {

@@ -65,7 +65,8 @@ impl Unrolled {
     ) -> Result<(), Stopped>
         ensures ok { OnOk result ((numbered : Numbered) → Unrolls gates.now numbered
             → Continues most_calls self.old.calls self.old.gates (target_call numbered target 1 (given values.now) qubits.now) self.new.calls self.new.gates []) }
-        ensures err { (cause : Cause) (numbered : Numbered) → result ≡ Err (Stopped.Wrong cause) → Unrolls gates.now numbered
+        ensures err { (cause : Cause) (numbered : Numbered)
+            → result ≡ Err (Stopped.Wrong cause) → Unrolls gates.now numbered
             → first_wrong most_calls self.old.calls (target_call numbered target 1 (given values.now) qubits.now) ≡ Some cause }
     {
         self.count(1)?;
@@ -89,7 +90,8 @@ impl Unrolled {
     ) -> Result<(), Stopped>
         ensures ok { OnOk result ((numbered : Numbered) → Unrolls gates.now numbered
             → Continues most_calls self.old.calls self.old.gates (expand_target numbered target 1 values.items qubits.items) self.new.calls self.new.gates []) }
-        ensures err { (cause : Cause) (numbered : Numbered) → result ≡ Err (Stopped.Wrong cause) → Unrolls gates.now numbered
+        ensures err { (cause : Cause) (numbered : Numbered)
+            → result ≡ Err (Stopped.Wrong cause) → Unrolls gates.now numbered
             → first_wrong most_calls self.old.calls (expand_target numbered target 1 values.items qubits.items) ≡ Some cause }
     {
         let mut frames = Vec::new(self.alloc);
@@ -102,11 +104,15 @@ impl Unrolled {
 
     /// Counts a call at a depth.
     fn count(&mut self, depth: usize) -> Result<(), Stopped>
-        ensures ok { OnOk result ((events : List Event) → first_wrong most_calls self.old.calls (Called depth ∷ events) ≡ first_wrong most_calls self.new.calls events) }
+        ensures ok { OnOk result ((events : List Event)
+            → first_wrong most_calls self.old.calls (Called depth ∷ events)
+            ≡ first_wrong most_calls self.new.calls events) }
         ensures calls { OnOk result (self.new.calls ≡ self.old.calls + 1) }
         ensures most { OnOk result (self.new.calls ≤ most_calls) }
         ensures gates { self.new.gates ≡ self.old.gates }
-        ensures err { (cause : Cause) (events : List Event) → result ≡ Err (Stopped.Wrong cause) → first_wrong most_calls self.old.calls (Called depth ∷ events) ≡ Some cause }
+        ensures err { (cause : Cause) (events : List Event)
+            → result ≡ Err (Stopped.Wrong cause)
+            → first_wrong most_calls self.old.calls (Called depth ∷ events) ≡ Some cause }
     {
         if self.calls >= MOST_CALLS {
             return Err(Stopped::Wrong(Cause::TooManyGates));
@@ -129,7 +135,8 @@ impl Unrolled {
             → Continues most_calls self.old.calls self.old.gates
             (calls_events numbered (1 + length frames.old.items) frame.entry.angles.items frame.entry.qubits.items frame.entry.calls.now ++ stack_events numbered 1 frames.old.items)
             self.new.calls self.new.gates (stack_events numbered 1 frames.new.items)) }
-        ensures err { (cause : Cause) (numbered : Numbered) → result ≡ Err (Stopped.Wrong cause) → Unrolls gates.now numbered
+        ensures err { (cause : Cause) (numbered : Numbered)
+            → result ≡ Err (Stopped.Wrong cause) → Unrolls gates.now numbered
             → first_wrong most_calls self.old.calls
             (calls_events numbered (1 + length frames.old.items) frame.entry.angles.items frame.entry.qubits.items frame.entry.calls.now ++ stack_events numbered 1 frames.old.items)
             ≡ Some cause }
@@ -161,7 +168,8 @@ impl Unrolled {
             → Continues most_calls self.old.calls self.old.gates
             (expand_target numbered target (1 + length frames.old.items) angles.items qubits.items ++ stack_events numbered 1 frames.old.items)
             self.new.calls self.new.gates (stack_events numbered 1 frames.new.items)) }
-        ensures err { (cause : Cause) (numbered : Numbered) → result ≡ Err (Stopped.Wrong cause) → Unrolls gates.now numbered
+        ensures err { (cause : Cause) (numbered : Numbered)
+            → result ≡ Err (Stopped.Wrong cause) → Unrolls gates.now numbered
             → first_wrong most_calls self.old.calls
             (expand_target numbered target (1 + length frames.old.items) angles.items qubits.items ++ stack_events numbered 1 frames.old.items)
             ≡ Some cause }
@@ -187,7 +195,8 @@ impl Unrolled {
 
     /// A built-in gate acts, if there is one.
     fn act(&mut self, gate: Option<ElementaryGate>) -> Result<(), Stopped>
-        ensures gates { OnOk result (self.new.gates ≡ self.old.gates ++ applied (gate_events gate)) }
+        ensures gates { OnOk result (self.new.gates
+            ≡ self.old.gates ++ applied (gate_events gate)) }
         ensures calls { self.new.calls ≡ self.old.calls }
         ensures err { IfErr result (λ stopped. stopped ≡ Stopped.NoMemory) }
     {

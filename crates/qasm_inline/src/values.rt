@@ -16,7 +16,8 @@ use zx_model::Eighth;
 /// The angle in eighth turns.
 pub fn eighth_of(angle: &Angle) -> Result<Eighth, Cause>
     ensures ok { IfOk result (λ turns. phase_of angle.now ≡ Some turns) }
-    ensures err { IfErr result (λ cause. (phase_of angle.now ≡ None) × (cause ≡ Cause.NotEighthTurn)) }
+    ensures err { IfErr result (λ cause. (phase_of angle.now ≡ None) × (cause
+        ≡ Cause.NotEighthTurn)) }
 {
     match to_eighth(angle) {
         Some(turns) => Ok(turns),
@@ -59,7 +60,8 @@ pub fn evaluated(
     angles: &[Angle],
 ) -> Result<Vec<Angle>, Stopped>
     ensures ok { IfOk result (λ values. values_of expressions.now angles.now ≡ Ok values.items) }
-    ensures err { (cause : Cause) → result ≡ Err (Stopped.Wrong cause) → values_of expressions.now angles.now ≡ Err cause }
+    ensures err { (cause : Cause) → result ≡ Err (Stopped.Wrong cause)
+        → values_of expressions.now angles.now ≡ Err cause }
 {
     let mut values = Vec::new(alloc);
     for expression in expressions {
@@ -71,7 +73,8 @@ pub fn evaluated(
 /// The value of an expression.
 fn value_of(alloc: Global, expression: &Expr, angles: &[Angle]) -> Result<Angle, Stopped>
     ensures ok { IfOk result (λ angle. with_cause (value expression.now angles.now) ≡ Ok angle) }
-    ensures err { (cause : Cause) → result ≡ Err (Stopped.Wrong cause) → with_cause (value expression.now angles.now) ≡ Err cause }
+    ensures err { (cause : Cause) → result ≡ Err (Stopped.Wrong cause)
+        → with_cause (value expression.now angles.now) ≡ Err cause }
 {
     match eval(alloc, expression, angles) {
         Ok(angle) => Ok(angle),

@@ -10,6 +10,11 @@ use crate::token::{Token, TokenKind};
 use std::alloc::{AllocError, Global};
 
 /// The tokens of a text, in their order. White space and comments are left out.
+///
+/// # Errors
+///
+/// `BadByte` with the lowest place at which no token, white space or comment begins, where there is one; and
+/// `NoMemory` where memory runs out.
 pub fn lex<'a>(alloc: Global, text: &'a [u8]) -> Result<Vec<Token<'a>>, LexError>
     // The text is cut into these tokens.
     ensures found { IfOk result (λ tokens. IsCut 0 text.now (lexemes tokens.items)) }

@@ -1,6 +1,6 @@
 -- Programs statement by statement: no statement begins another, so there is one program at most, and one place of a
 -- fault.
-use Rattle.std.proofs.Common.{◌≡◌, ℕ, ◌<◌, List, [], ◌∷◌, ◌++◌, length, length-append, Option, None, Some, refl, sym, ap, ◌∙◌, subst, append_assoc, append-nil, arith}
+use Rattle.std.proofs.Common.{◌≡◌, ◌⊎◌, inl, inr, ℕ, zero, suc, ◌<◌, ◌≤◌, List, [], ◌∷◌, ◌++◌, length, length-append, Option, None, Some, refl, sym, ap, ◌∙◌, subst, append_assoc, append-nil, arith}
 use Rattle.qasm_lexer.specs.Tokens.{Lexeme}
 use Rattle.qasm_reader.specs.Syntax.{Sentence, Placed}
 use Rattle.qasm_reader.specs.Grammar.{IsStatement, BeginsAt, IsProgram, BeginsWithStatement, IsSyntaxFault}
@@ -131,3 +131,25 @@ front_fault all rest statements t more f is e =
 
 pub front_done : (all : List Lexeme) (statements : List Placed) → IsFront all [] statements → IsProgram all statements
 front_done all statements f = subst (λ (x : List Lexeme). IsProgram x statements) (sym (f.1 ∙ append-nil f.0)) f.2
+
+-- ---- a program or a fault
+
+abbrev IsDecided : List Lexeme → Type 0
+IsDecided all = ((program : List Placed) × IsProgram all program) ⊎ ((at : ℕ) × IsSyntaxFault all at)
+
+-- the statement at the front of what is left is taken, if there is one
+take_front : (all : List Lexeme) (t : Lexeme) (more : List Lexeme) (statements : List Placed) (o : Option (Sentence × List Lexeme)) → statement (t ∷ more) ≡ o
+    → IsFront all (t ∷ more) statements → ((end : List Lexeme) (later : List Placed) → length end < length (t ∷ more) → IsFront all end later → IsDecided all) → IsDecided all
+take_front all t more statements None e f go = inr (t.place, front_fault all (t ∷ more) statements t more f refl e)
+take_front all t more statements (Some (s, end)) e f go =
+    go end (statements ++ record { place = t.place; sentence = s } ∷ []) (statement_shrinks (t ∷ more) s end e)
+    (front_more all (t ∷ more) end statements s t more f refl e)
+
+decide : (all : List Lexeme) (fuel : ℕ) (rest : List Lexeme) (statements : List Placed) → length rest ≤ fuel → IsFront all rest statements → IsDecided all
+decide all fuel [] statements h f = inl (statements, front_done all statements f)
+decide all zero (t ∷ more) statements h f = absurd (omega (arith, h))
+decide all (suc fuel) (t ∷ more) statements h f =
+    take_front all t more statements (statement (t ∷ more)) refl f (λ end later shorter g. decide all fuel end later (omega (arith, h, shorter)) g)
+
+pub program_or_fault : (ts : List Lexeme) → ((program : List Placed) × IsProgram ts program) ⊎ ((at : ℕ) × IsSyntaxFault ts at)
+program_or_fault ts = decide ts (length ts) ts [] (omega arith) ([], refl, refl)

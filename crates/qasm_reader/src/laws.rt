@@ -1,6 +1,6 @@
 //! Laws of the grammar.
 
-ghost use Rattle.std.specs.Prelude.{◌≡◌, ◌↔◌, ◌++◌, List, ℕ, None, Some};
+ghost use Rattle.std.specs.Prelude.{◌≡◌, ◌↔◌, ◌⊎◌, ◌++◌, List, ℕ, None, Some};
 ghost use Rattle.qasm_lexer.specs.Tokens.{Lexeme};
 ghost use Rattle.qasm_reader.specs.Depth.{too_deep, IsShallow, IsTooDeep};
 ghost use Rattle.qasm_reader.specs.Grammar.{IsExpression, IsStatement, IsProgram, IsSyntaxFault};
@@ -22,8 +22,9 @@ pub fn no_statement_begins_another()
     ensures { (a b : Sentence) (us vs x y : List Lexeme) → IsStatement a us → IsStatement b vs → us ++ x ≡ vs ++ y → (a ≡ b) × (us ≡ vs) × (x ≡ y) }
 {}
 
-/// Tokens have one syntax fault at most, and a program has none.
+/// Tokens are a program or have a syntax fault, never both, and one syntax fault at most.
 pub fn one_syntax_fault()
+    ensures either { (ts : List Lexeme) → ((statements : List Placed) × IsProgram ts statements) ⊎ ((at : ℕ) × IsSyntaxFault ts at) }
     ensures one { (ts : List Lexeme) (m n : ℕ) → IsSyntaxFault ts m → IsSyntaxFault ts n → m ≡ n }
     ensures none { (ts : List Lexeme) (statements : List Placed) (n : ℕ) → IsProgram ts statements → IsSyntaxFault ts n → ⊥ }
 {}

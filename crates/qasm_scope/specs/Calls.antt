@@ -47,11 +47,12 @@ expand declared U depth angles qubits = u_events angles qubits
 expand declared Cx depth angles qubits = cx_events qubits
 expand declared (Declared name) depth angles qubits = declared name depth angles qubits
 
--- A call: it is made, its angles are evaluated from left to right, and the gate is expanded.
+-- what comes about once the angles are evaluated
 abbrev pub after_angles : Result (List Angle) Cause → (List Angle → List Event) → List Event
 after_angles (Err cause) expansion = Undefined cause ∷ []
 after_angles (Ok angles) expansion = expansion angles
 
+-- A call: it is made, its angles are evaluated from left to right, and the gate is expanded.
 abbrev pub call : Expansion → Callee → ℕ → Result (List Angle) Cause → List ℕ → List Event
 call declared gate depth angles qubits =
     Called depth ∷ after_angles angles (λ values. expand declared gate depth values qubits)

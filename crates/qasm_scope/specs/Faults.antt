@@ -70,10 +70,11 @@ abbrev pub is_no_gate : Option (ℕ × ℕ) → Bool
 is_no_gate None = true
 is_no_gate (Some shape) = false
 
--- a name in an expression isn't among the parameters
+-- a name is among these
 abbrev pub is_in : List (List ℕ) → List ℕ → Bool
 is_in names name = list_any (λ other. bytes_eq other name) names
 
+-- a name in an expression isn't among the parameters
 abbrev pub has_other_name : List (List ℕ) → Formula → Bool
 has_other_name names (Number text) = false
 has_other_name names Pi = false

@@ -1,6 +1,6 @@
 -- The header that `include "qelib1.inc";` stands for: this project's own text, with the gates of the header that
--- Cross, Bishop, Smolin and Gambetta, "Open quantum assembly language" (arXiv 1707.03429) print, and further ones
--- that later headers have.
+-- Cross, Bishop, Smolin and Gambetta, "Open quantum assembly language" (arXiv 1707.03429) print, but for `cu3`, to which
+-- headers in use give different maps; and further gates in use.
 use Rattle.std.specs.Prelude.{ℕ, List, [], ◌∷◌, ◌++◌, codes}
 use Rattle.qasm_reader.specs.declared.expression.Operator.TheVariants.{Divide}
 use Rattle.qasm_reader.specs.Syntax.{Formula, Number, Pi, Name, Negate, Binary, Callee, Declared, U, Cx, GateForm, BodySentence, BodyApplied}

@@ -1,4 +1,4 @@
--- The first fault of a program, and the circuit that a program without one means.
+-- The first fault of a program, and the circuit that it means, however many calls it makes.
 use Rattle.std.specs.Prelude.{◌≡◌, ℕ, ◌+◌, Bool, true, false, if◌then◌else◌, List, [], ◌∷◌, ◌++◌, Option, None, Some, codes}
 use Rattle.std.specs.Str.{bytes_eq}
 use Rattle.zx_gates.specs.declared.elementary.ElementaryGate.{ElementaryGate}
@@ -38,15 +38,16 @@ abbrev pub events_of : Scope → Sentence → List Event
 events_of scope (Act (Applied a)) = application_events scope a
 events_of scope sentence = []
 
--- what is wrong with a statement behind the first one, where so many calls were made before and at most so many may be
+-- a cause, or another one where there is none
 abbrev pub or_else : Option Cause → Option Cause → Option Cause
 or_else None other = other
 or_else (Some cause) other = Some cause
 
+-- what is wrong with a statement behind the first one, where so many calls were made before and at most so many may be
 abbrev pub wrong_with : ℕ → Scope → ℕ → Sentence → Option Cause
 wrong_with most scope calls sentence = or_else (wrong_in scope sentence) (first_wrong most calls (events_of scope sentence))
 
--- a cause, and the place of the statement that has it
+-- a cause and the place of the statement that has it, or what is wrong further on
 abbrev pub placed_or : Option Cause → ℕ → Option (Cause × ℕ) → Option (Cause × ℕ)
 placed_or None place other = other
 placed_or (Some cause) place other = Some (cause, place)

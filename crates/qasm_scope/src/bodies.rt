@@ -30,7 +30,7 @@ pub fn has_unsupported(body: &[BodyStatement<'_>]) -> bool
     false
 }
 
-/// Whether an expression in a statement of a body does.
+/// Whether an expression in a statement of a body holds `^` or a function.
 fn is_unsupported(statement: &BodyStatement<'_>) -> bool
     ensures { result ≡ body_is_unsupported (body_sentence statement.now) }
 {
@@ -47,7 +47,8 @@ pub fn has_unknown<'a>(
     qubits: &Places<'a>,
     body: &[BodyStatement<'a>],
 ) -> bool
-    ensures { result ≡ list_any (unknown_by names.now.symbols parameters.now qubits.now) (map body_sentence body.now) }
+    ensures { result
+        ≡ list_any (unknown_by names.now.symbols parameters.now qubits.now) (map body_sentence body.now) }
 {
     for statement in body {
         if is_unknown(names, parameters, qubits, statement) {
@@ -57,14 +58,15 @@ pub fn has_unknown<'a>(
     false
 }
 
-/// Whether a name in a statement of a body isn't.
+/// Whether a name in a statement of a body isn't known, or isn't what is needed there.
 fn is_unknown<'a>(
     names: &Names<'a>,
     parameters: &Places<'a>,
     qubits: &Places<'a>,
     statement: &BodyStatement<'a>,
 ) -> bool
-    ensures { result ≡ unknown_by names.now.symbols parameters.now qubits.now (body_sentence statement.now) }
+    ensures { result
+        ≡ unknown_by names.now.symbols parameters.now qubits.now (body_sentence statement.now) }
 {
     match statement {
         BodyStatement::Apply(application) => {
@@ -120,7 +122,7 @@ pub fn has_wrong_count<'a>(names: &Names<'a>, body: &[BodyStatement<'a>]) -> boo
     false
 }
 
-/// Whether angles or qubits in a statement of a body do.
+/// Whether angles or qubits in a statement of a body differ in number from a gate's declaration.
 fn is_wrong_count<'a>(names: &Names<'a>, statement: &BodyStatement<'a>) -> bool
     ensures { result ≡ wrong_count_by names.now.symbols (body_sentence statement.now) }
 {
@@ -146,7 +148,8 @@ pub fn has_other_shape(shape: Option<(usize, usize)>, angles: usize, qubits: usi
 
 /// Whether a qubit stands twice in one application of a body.
 pub fn has_same_qubit(alloc: Global, body: &[BodyStatement<'_>]) -> Result<bool, AllocError>
-    ensures { IfOk result (λ found. found ≡ list_any body_has_same_qubit (map body_sentence body.now)) }
+    ensures { IfOk result (λ found. found
+        ≡ list_any body_has_same_qubit (map body_sentence body.now)) }
 {
     for statement in body {
         if is_same_qubit(alloc, statement)? {
@@ -175,7 +178,8 @@ pub fn kept<'a>(
     body: &[BodyStatement<'a>],
 ) -> Result<GateBody, AllocError>
     requires { list_any body_is_unsupported (map body_sentence body.now) ≡ false }
-    ensures { IfOk result (λ kept. kept_body kept ≡ calls_by names.now.symbols parameters.now qubits.now (map body_sentence body.now)) }
+    ensures { IfOk result (λ kept. kept_body kept
+        ≡ calls_by names.now.symbols parameters.now qubits.now (map body_sentence body.now)) }
 {
     let mut calls = Vec::new(alloc);
     for statement in body {
@@ -195,7 +199,8 @@ fn kept_call<'a>(
     application: &BodyApplication<'a>,
 ) -> Result<GateCall, AllocError>
     requires { list_any is_unsupported (map formula_of application.now.angles.items) ≡ false }
-    ensures { IfOk result (λ call. kept_call call ∷ [] ≡ calls_by names.now.symbols parameters.now qubits.now (body_sentence (BodyStatement.Apply application.now) ∷ [])) }
+    ensures { IfOk result (λ call. kept_call call ∷ []
+        ≡ calls_by names.now.symbols parameters.now qubits.now (body_sentence (BodyStatement.Apply application.now) ∷ [])) }
 {
     Ok(GateCall {
         target: names.target(&application.gate),
@@ -210,7 +215,8 @@ fn places_of<'a>(
     places: &Places<'a>,
     names: &[&'a [u8]],
 ) -> Result<Vec<usize>, AllocError>
-    ensures { IfOk result (λ found. found.items ≡ map (λ name. place_or_zero (place_in places.now name)) (map (λ name. name.now) names.now)) }
+    ensures { IfOk result (λ found. found.items
+        ≡ map (λ name. place_or_zero (place_in places.now name)) (map (λ name. name.now) names.now)) }
 {
     let mut found = Vec::new(alloc);
     for name in names {

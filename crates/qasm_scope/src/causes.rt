@@ -10,7 +10,8 @@ pub enum Cause {
     Include,
     /// `measure`, `reset`, `if`, `opaque`, or an expression with `^` or a function.
     Unsupported,
-    /// A name is declared again, or two formal names of a gate are equal.
+    /// A name is declared again, a first name of the header is declared where the header is included, or two formal
+    /// names of a gate are equal.
     Redeclared,
     /// A register has the size 0.
     EmptyRegister,
@@ -28,9 +29,10 @@ pub enum Cause {
     SameQubit,
     /// A divisor is 0.
     Divide,
-    /// A number of an angle is past the limits.
+    /// A number has more than 38 digits from its first to its last that isn't 0, or a part of a fraction is above
+    /// 2^60.
     AngleTooLarge,
-    /// A value isn't a whole number of eighth turns, or can't be an angle.
+    /// An angle of `U` isn't a whole number of eighth turns, two values with pi are multiplied, or a divisor has pi.
     NotEighthTurn,
     /// A call is nested deeper than 256.
     TooDeep,

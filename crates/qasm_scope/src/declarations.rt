@@ -48,7 +48,8 @@ pub fn wrong_gate<'a>(
     formals: &Formals<'a>,
     declaration: &GateDeclaration<'a>,
 ) -> Result<Option<Cause>, AllocError>
-    ensures { IfOk result (λ cause. cause ≡ wrong_gate_by names.now.symbols formals.now.parameters formals.now.qubits (gate_form declaration.now)) }
+    ensures { IfOk result (λ cause. cause
+        ≡ wrong_gate_by names.now.symbols formals.now.parameters formals.now.qubits (gate_form declaration.now)) }
 {
     let parameters = &formals.parameters;
     let qubits = &formals.qubits;
@@ -76,7 +77,9 @@ fn is_redeclared<'a>(
     names: &Names<'a>,
     declaration: &GateDeclaration<'a>,
 ) -> Result<bool, AllocError>
-    ensures { IfOk result (λ answer. answer ≡ (symbol_taken (found declaration.now.name.now names.now.symbols) || has_name_twice ((gate_form declaration.now).parameters ++ (gate_form declaration.now).qubits))) }
+    ensures { IfOk result (λ answer. answer
+        ≡ (symbol_taken (found declaration.now.name.now names.now.symbols)
+        || has_name_twice ((gate_form declaration.now).parameters ++ (gate_form declaration.now).qubits))) }
 {
     if names.is_taken(declaration.name) {
         Ok(true)
@@ -87,7 +90,8 @@ fn is_redeclared<'a>(
 
 /// Whether two formal names of a gate are equal.
 fn repeats(alloc: Global, declaration: &GateDeclaration<'_>) -> Result<bool, AllocError>
-    ensures { IfOk result (λ twice. twice ≡ has_name_twice ((gate_form declaration.now).parameters ++ (gate_form declaration.now).qubits)) }
+    ensures { IfOk result (λ twice. twice
+        ≡ has_name_twice ((gate_form declaration.now).parameters ++ (gate_form declaration.now).qubits)) }
 {
     let mut names = Vec::new(alloc);
     names.extend_from_slice(&declaration.parameters)?;
@@ -105,8 +109,10 @@ pub fn declare<'a>(
 ) -> Result<(), AllocError>
     requires supported { list_any body_is_unsupported (gate_form declaration.now).body ≡ false }
     ensures { OnOk result ((scope : Scope) → Represents names.old scope
-        → ArePlaces formals.now.parameters (gate_form declaration.now).parameters → ArePlaces formals.now.qubits (gate_form declaration.now).qubits
-        → IsSoundGate scope (gate_form declaration.now) → IsFresh declaration.now.name.now replaceable scope
+        → ArePlaces formals.now.parameters (gate_form declaration.now).parameters
+        → ArePlaces formals.now.qubits (gate_form declaration.now).qubits
+        → IsSoundGate scope (gate_form declaration.now)
+        → IsFresh declaration.now.name.now replaceable scope
         → Represents names.new (record { name = declaration.now.name.now; meaning = Gate (gate_form declaration.now); replaceable = replaceable } ∷ scope)) }
 {
     let body = bodies::kept(
@@ -126,15 +132,22 @@ pub fn declare<'a>(
 }
 
 /// Declares a gate, where nothing is wrong with its declaration.
+///
+/// # Errors
+///
+/// `Wrong` with the first cause of `Unsupported`, `Redeclared`, `Unknown`, `WrongCount` and `SameQubit`; and `NoMemory`
+/// where memory runs out.
 pub fn declare_checked<'a>(
     alloc: Global,
     names: &mut Names<'a>,
     declaration: &GateDeclaration<'a>,
 ) -> Result<(), Stopped>
-    ensures ok { OnOk result ((scope : Scope) → Represents names.old scope → wrong_in scope (DeclareGate (gate_form declaration.now)) ≡ None) }
+    ensures ok { OnOk result ((scope : Scope) → Represents names.old scope
+        → wrong_in scope (DeclareGate (gate_form declaration.now)) ≡ None) }
     ensures declared { OnOk result ((scope : Scope) → Represents names.old scope
         → Represents names.new (declared declaration.now.name.now (Gate (gate_form declaration.now)) ∷ scope)) }
-    ensures err { (cause : Cause) (scope : Scope) → result ≡ Err (Stopped.Wrong cause) → Represents names.old scope
+    ensures err { (cause : Cause) (scope : Scope) → result ≡ Err (Stopped.Wrong cause)
+        → Represents names.old scope
         → wrong_in scope (DeclareGate (gate_form declaration.now)) ≡ Some cause }
 {
     let formals = Formals::new(alloc, declaration)?;

@@ -19,7 +19,7 @@ pub fn is_unsupported(expression: &Expression<'_>) -> bool
     has_unsupported_item(expression.items())
 }
 
-/// Whether one of the expressions does.
+/// Whether one of the expressions holds `^` or a function.
 pub fn any_unsupported(expressions: &[Expression<'_>]) -> bool
     ensures { result ≡ list_any is_unsupported (map formula_of expressions.now) }
 {
@@ -53,7 +53,7 @@ fn is_unsupported_item(item: &Item<'_>) -> bool
     }
 }
 
-/// Whether one of the expressions holds another name than these.
+/// Whether one of the expressions holds a name that isn't among these.
 pub fn any_other_name<'a>(places: &Places<'a>, expressions: &[Expression<'a>]) -> bool
     ensures { result ≡ list_any (has_unplaced places.now) (map formula_of expressions.now) }
 {
@@ -101,7 +101,8 @@ pub fn all_numbered<'a>(
     expressions: &[Expression<'a>],
 ) -> Result<Vec<Expr>, AllocError>
     requires { list_any is_unsupported (map formula_of expressions.now) ≡ false }
-    ensures { IfOk result (λ exprs. exprs.items ≡ map (placed places.now) (map formula_of expressions.now)) }
+    ensures { IfOk result (λ exprs. exprs.items
+        ≡ map (placed places.now) (map formula_of expressions.now)) }
 {
     let mut exprs = Vec::new(alloc);
     for expression in expressions {

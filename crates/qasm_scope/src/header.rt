@@ -68,10 +68,18 @@ gate rzz(theta) a,b { cx a,b; u1(theta) b; cx a,b; }
 ";
 
 /// Declares the gates of the header, where nothing is wrong with an include.
+///
+/// # Errors
+///
+/// `Wrong(Include)` where the file is another one, else `Wrong(Redeclared)` where a name of the first gates is
+/// declared; and `NoMemory` where memory runs out.
 pub fn include<'a>(alloc: Global, names: &mut Names<'a>, text: &'a [u8]) -> Result<(), Stopped>
-    ensures ok { OnOk result ((scope : Scope) → Represents names.old scope → wrong_in scope (Include text.now) ≡ None) }
-    ensures behind { OnOk result ((scope : Scope) → Represents names.old scope → Represents names.new (with_header scope)) }
-    ensures err { (cause : Cause) (scope : Scope) → result ≡ Err (Stopped.Wrong cause) → Represents names.old scope
+    ensures ok { OnOk result ((scope : Scope) → Represents names.old scope
+        → wrong_in scope (Include text.now) ≡ None) }
+    ensures behind { OnOk result ((scope : Scope) → Represents names.old scope
+        → Represents names.new (with_header scope)) }
+    ensures err { (cause : Cause) (scope : Scope) → result ≡ Err (Stopped.Wrong cause)
+        → Represents names.old scope
         → wrong_in scope (Include text.now) ≡ Some cause }
 {
     if !is_header(text) {
@@ -89,7 +97,8 @@ fn declare_all<'a>(
 ) -> Result<(), Stopped>
     requires { forms_of gates.now ≡ first_gates ++ further_gates }
     ensures ok { OnOk result (any_declared_by names.old.symbols first_gates ≡ false) }
-    ensures behind { OnOk result ((scope : Scope) → Represents names.old scope → Represents names.new (with_header scope)) }
+    ensures behind { OnOk result ((scope : Scope) → Represents names.old scope
+        → Represents names.new (with_header scope)) }
     ensures err { (cause : Cause) → result ≡ Err (Stopped.Wrong cause)
         → (cause ≡ Cause.Redeclared) × (any_declared_by names.old.symbols first_gates ≡ true) }
 {
@@ -118,7 +127,8 @@ fn gates<'a>(alloc: Global) -> Result<Vec<GateDeclaration<'a>>, AllocError>
 
 /// The header's text as a program.
 fn program<'a>(alloc: Global) -> Result<Program<'a>, AllocError>
-    ensures { IfOk result (λ program. gates_of (statements_of program) ≡ first_gates ++ further_gates) }
+    ensures { IfOk result (λ program. gates_of (statements_of program)
+        ≡ first_gates ++ further_gates) }
 {
     let tokens = tokens(alloc)?;
     match parse(alloc, &tokens) {
@@ -192,7 +202,8 @@ fn declare_first<'a>(
     gates: &[GateDeclaration<'a>],
 ) -> Result<(), AllocError>
     requires supported { any_unsupported (forms_of gates.now) ≡ false }
-    ensures { OnOk result ((scope : Scope) → Represents names.old scope → AreSoundFirst (forms_of gates.now) scope
+    ensures { OnOk result ((scope : Scope) → Represents names.old scope
+        → AreSoundFirst (forms_of gates.now) scope
         → Represents names.new (with_first (forms_of gates.now) scope)) }
 {
     for gate in gates {
@@ -208,7 +219,8 @@ fn declare_further<'a>(
     gates: &[GateDeclaration<'a>],
 ) -> Result<(), AllocError>
     requires supported { any_unsupported (forms_of gates.now) ≡ false }
-    ensures { OnOk result ((scope : Scope) → Represents names.old scope → AreSoundFurther (forms_of gates.now) scope
+    ensures { OnOk result ((scope : Scope) → Represents names.old scope
+        → AreSoundFurther (forms_of gates.now) scope
         → Represents names.new (with_further (forms_of gates.now) scope)) }
 {
     for gate in gates {

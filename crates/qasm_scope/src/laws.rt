@@ -19,7 +19,8 @@ pub fn the_header_declares_its_gates()
 /// those that stand before it, nor a further gate whose name is free behind those.
 pub fn the_header_is_faultless()
     ensures first { (scope : Scope) (front : List GateForm) (form : GateForm) (back : List GateForm)
-        → list_any (λ form. is_declared form.name scope) first_gates ≡ false → first_gates ≡ front ++ form ∷ back
+        → list_any (λ form. is_declared form.name scope) first_gates ≡ false
+        → first_gates ≡ front ++ form ∷ back
         → wrong_in (with_first front scope) (DeclareGate form) ≡ None }
     ensures further { (scope : Scope) (front : List GateForm) (form : GateForm) (back : List GateForm)
         → further_gates ≡ front ++ form ∷ back

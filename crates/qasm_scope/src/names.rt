@@ -131,7 +131,8 @@ impl<'a> Names<'a> {
 
     /// Declares a register of bits.
     pub fn declare_bits(&mut self, name: &'a [u8]) -> Result<(), AllocError>
-        ensures { OnOk result ((scope : Scope) → Represents self.old scope → Represents self.new (declared name.now Bits ∷ scope)) }
+        ensures { OnOk result ((scope : Scope) → Represents self.old scope
+            → Represents self.new (declared name.now Bits ∷ scope)) }
     {
         self.symbols.insert(name, Symbol::Bits)?;
         Ok(())
@@ -140,7 +141,8 @@ impl<'a> Names<'a> {
     /// Declares a register of qubits behind all others.
     pub fn declare_qubits(&mut self, name: &'a [u8], size: usize) -> Result<(), AllocError>
         requires { self.old.qubits + size ≤ most_qubits }
-        ensures { OnOk result ((scope : Scope) → Represents self.old scope → Represents self.new (declared name.now (Qubits (qubit_count scope) size) ∷ scope)) }
+        ensures { OnOk result ((scope : Scope) → Represents self.old scope
+            → Represents self.new (declared name.now (Qubits (qubit_count scope) size) ∷ scope)) }
     {
         let first = self.qubits;
         self.symbols.insert(name, Symbol::Qubits { first, size })?;
@@ -158,7 +160,8 @@ impl<'a> Names<'a> {
         replaceable: bool,
     ) -> Result<(), AllocError>
         ensures { OnOk result ((scope : Scope) (form : GateForm) → Represents self.old scope
-            → name.now ≡ form.name → angles ≡ length form.parameters → qubits ≡ length form.qubits → kept_body body ≡ kept_calls scope form form.body
+            → name.now ≡ form.name → angles ≡ length form.parameters
+            → qubits ≡ length form.qubits → kept_body body ≡ kept_calls scope form form.body
             → IsSoundGate scope form → IsFresh form.name replaceable scope
             → Represents self.new (record { name = form.name; meaning = Gate form; replaceable = replaceable } ∷ scope)) }
     {

@@ -17,7 +17,9 @@ pub fn number(text: &[u8]) -> usize
 
 /// A number with one more digit, or the largest one where that is larger.
 fn with_digit(number: usize, digit: u8) -> usize
-    ensures { (rest : List ℕ) → min (numeral_from result rest) (2 ^ 64 - 1) ≡ min (numeral_from number (digit ∷ rest)) (2 ^ 64 - 1) }
+    ensures { (rest : List ℕ)
+        → min (numeral_from result rest) (2 ^ 64 - 1)
+        ≡ min (numeral_from number (digit ∷ rest)) (2 ^ 64 - 1) }
 {
     number
         .saturating_mul(10)
@@ -25,7 +27,7 @@ fn with_digit(number: usize, digit: u8) -> usize
 }
 
 /// A number as one of 16 bits, or the largest of these where it is larger.
-pub fn cut(number: usize) -> u16
+pub fn clamped(number: usize) -> u16
     ensures { result ≡ min number (2 ^ 16 - 1) }
 {
     u16::try_from(number).unwrap_or(u16::MAX)

@@ -44,7 +44,8 @@ impl<'a> Places<'a> {
 
     /// Puts a name at a place, unless it has one.
     fn put(&mut self, name: &'a [u8], place: usize) -> Result<(), AllocError>
-        ensures { OnOk result ((before : List (List ℕ)) → length before ≡ place → ArePlaces self.old before → ArePlaces self.new (before ++ name.now ∷ [])) }
+        ensures { OnOk result ((before : List (List ℕ)) → length before ≡ place
+            → ArePlaces self.old before → ArePlaces self.new (before ++ name.now ∷ [])) }
     {
         match self.find(name) {
             Some(_) => Ok(()),

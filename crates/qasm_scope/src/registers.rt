@@ -19,14 +19,21 @@ use crate::stopped::Stopped;
 const MOST_QUBITS: usize = 1024;
 
 /// Declares a register of qubits, where nothing is wrong with it.
+///
+/// # Errors
+///
+/// `Wrong` with the first cause of `Redeclared`, `EmptyRegister` and `TooManyQubits`; and `NoMemory` where memory runs out.
 pub fn declare_qubits<'a>(
     names: &mut Names<'a>,
     name: &'a [u8],
     size: &'a [u8],
 ) -> Result<(), Stopped>
-    ensures ok { OnOk result ((scope : Scope) → Represents names.old scope → wrong_in scope (QubitRegister name.now size.now) ≡ None) }
-    ensures declared { OnOk result ((scope : Scope) → Represents names.old scope → Represents names.new (behind scope (QubitRegister name.now size.now))) }
-    ensures err { (cause : Cause) (scope : Scope) → result ≡ Err (Stopped.Wrong cause) → Represents names.old scope
+    ensures ok { OnOk result ((scope : Scope) → Represents names.old scope
+        → wrong_in scope (QubitRegister name.now size.now) ≡ None) }
+    ensures declared { OnOk result ((scope : Scope) → Represents names.old scope
+        → Represents names.new (behind scope (QubitRegister name.now size.now))) }
+    ensures err { (cause : Cause) (scope : Scope) → result ≡ Err (Stopped.Wrong cause)
+        → Represents names.old scope
         → wrong_in scope (QubitRegister name.now size.now) ≡ Some cause }
 {
     let count = number(size);
@@ -39,14 +46,21 @@ pub fn declare_qubits<'a>(
 }
 
 /// Declares a register of bits, where nothing is wrong with it.
+///
+/// # Errors
+///
+/// `Wrong` with the first cause of `Redeclared` and `EmptyRegister`; and `NoMemory` where memory runs out.
 pub fn declare_bits<'a>(
     names: &mut Names<'a>,
     name: &'a [u8],
     size: &'a [u8],
 ) -> Result<(), Stopped>
-    ensures ok { OnOk result ((scope : Scope) → Represents names.old scope → wrong_in scope (BitRegister name.now size.now) ≡ None) }
-    ensures declared { OnOk result ((scope : Scope) → Represents names.old scope → Represents names.new (behind scope (BitRegister name.now size.now))) }
-    ensures err { (cause : Cause) (scope : Scope) → result ≡ Err (Stopped.Wrong cause) → Represents names.old scope
+    ensures ok { OnOk result ((scope : Scope) → Represents names.old scope
+        → wrong_in scope (BitRegister name.now size.now) ≡ None) }
+    ensures declared { OnOk result ((scope : Scope) → Represents names.old scope
+        → Represents names.new (behind scope (BitRegister name.now size.now))) }
+    ensures err { (cause : Cause) (scope : Scope) → result ≡ Err (Stopped.Wrong cause)
+        → Represents names.old scope
         → wrong_in scope (BitRegister name.now size.now) ≡ Some cause }
 {
     if let Some(cause) = wrong_register(names, name, number(size), false) {
@@ -63,7 +77,8 @@ fn wrong_register<'a>(
     size: usize,
     too_many: bool,
 ) -> Option<Cause>
-    ensures { result ≡ register_cause (symbol_taken (found name.now names.now.symbols)) (size == 0) too_many }
+    ensures { result
+        ≡ register_cause (symbol_taken (found name.now names.now.symbols)) (size == 0) too_many }
 {
     if names.is_taken(name) {
         Some(Cause::Redeclared)

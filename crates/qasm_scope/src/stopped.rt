@@ -1,4 +1,4 @@
-//! Why a statement has no circuit.
+//! Why a statement isn't taken in.
 
 ghost use Rattle.std.specs.Prelude.{◌≡◌};
 ghost use Rattle.qasm_scope.specs.declared.stopped.Stopped.TheVariants.{NoMemory};
@@ -6,7 +6,7 @@ ghost use Rattle.qasm_scope.specs.declared.stopped.Stopped.TheVariants.{NoMemory
 use crate::causes::Cause;
 use std::alloc::{AllocError, AllocFailed};
 
-/// Why a statement has no circuit.
+/// Why a statement isn't taken in.
 #[derive(Clone, Copy, Debug, PartialEq, Eq)]
 pub enum Stopped {
     /// This is wrong with it.

@@ -16,11 +16,15 @@ ghost use Rattle.qasm_writer.specs.Written.{written};
 /// The text of a circuit means its elements, which have its map up to a nonzero scalar, as many odd phases as it, and
 /// which lower to its own gates but that each CZ is H, CX and H. The text has as many statements of gates as it has gates.
 pub fn written_texts_mean_their_circuits()
-    ensures means { (c : Circuit) → IsCircuit c → All IsBelowATurn c.gates → TextMeans (written c) c.qubits (elements_of c.gates) }
+    ensures means { (c : Circuit) → IsCircuit c → All IsBelowATurn c.gates
+        → TextMeans (written c) c.qubits (elements_of c.gates) }
     ensures size { (c : Circuit) → IsCircuit c → All IsBelowATurn c.gates →
-        (program : List Placed) × IsProgramText (written c) program × (program_size program ≡ length c.gates) }
-    ensures gates { (c : Circuit) → IsCircuit c → All IsBelowATurn c.gates → lowered (elements_of c.gates) ≡ without_cz c.gates }
-    ensures odd { (c : Circuit) → IsCircuit c → All IsBelowATurn c.gates → elementary_odd_count (elements_of c.gates) ≡ odd_count c.gates }
+        (program : List Placed) × IsProgramText (written c) program × (program_size program
+        ≡ length c.gates) }
+    ensures gates { (c : Circuit) → IsCircuit c → All IsBelowATurn c.gates
+        → lowered (elements_of c.gates) ≡ without_cz c.gates }
+    ensures odd { (c : Circuit) → IsCircuit c → All IsBelowATurn c.gates
+        → elementary_odd_count (elements_of c.gates) ≡ odd_count c.gates }
     ensures map { (c : Circuit) → IsCircuit c → All IsBelowATurn c.gates →
         Proportional c.qubits c.qubits (amp_elementary (elements_of c.gates)) (amp c.gates) }
 {}

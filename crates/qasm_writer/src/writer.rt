@@ -14,6 +14,10 @@ use zx_model::Eighth;
 
 /// The circuit as an OpenQASM 2.0 text: the version, the include, the register where there is a qubit, and a line
 /// for each gate, the first to act first. Each line ends with a line feed.
+///
+/// # Errors
+///
+/// Only where memory runs out.
 #[tactic(auto, unfolding(crate::specs::Written::written))]
 pub fn write_text(alloc: Global, g: &GateList) -> Result<Vec<u8>, AllocError>
     ensures text { IfOk result (λ text. text.items ≡ written g.now) }

@@ -1,5 +1,5 @@
 -- The linear map of a circuit: the product of its gates' matrices, the first gate acting first.
--- H and Z are taken without the factor 1/sqrt 2, so a map is known up to a nonzero scalar.
+-- H is taken without its factor 1/sqrt 2, so a map is known up to a nonzero scalar.
 -- The matrices are those of Cross, Bishop, Smolin and Gambetta, "Open quantum assembly language"
 -- (arXiv 1707.03429).
 use Rattle.std.specs.Prelude.{ℕ, Bool, true, false, ◌&&◌, not, if◌then◌else◌, List, [], ◌∷◌, slice_set}

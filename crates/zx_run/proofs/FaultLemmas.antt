@@ -1,17 +1,20 @@
--- A text has one first fault at most, and none where it is accepted.
-use Rattle.std.proofs.Common.{◌≡◌, ◌≤◌, ℕ, List, length, inl, inr, sym, ap, ◌∙◌, subst, arith, Option, None, Some, refl, Result, Err}
+-- A text is accepted or has a first fault, never both, and one first fault at most.
+use Rattle.std.proofs.lemmas.Bool.{cases_lt}
+use Rattle.std.proofs.Common.{◌≡◌, ◌≤◌, ◌⊎◌, ℕ, List, [], length, inl, inr, sym, ap, ◌∙◌, subst, arith, Option, None, Some, refl, Result, Err}
 use Rattle.zx_gates.specs.declared.elementary.ElementaryGate.{ElementaryGate}
 use Rattle.qasm_lexer.specs.Tokens.{Lexeme, IsCut, IsBadByte}
 use Rattle.qasm_lexer.proofs.Cuts.{same_tokens, same_byte, not_both}
+use Rattle.qasm_lexer.proofs.Scan as scan
 use Rattle.qasm_reader.specs.Depth.{too_deep}
 use Rattle.qasm_reader.specs.Grammar.{IsProgram, IsSyntaxFault}
 use Rattle.qasm_reader.specs.Syntax.{Placed}
-use Rattle.qasm_reader.proofs.Programs.{one_program, one_fault, program_no_fault}
+use Rattle.qasm_reader.proofs.Programs.{one_program, one_fault, program_no_fault, program_or_fault}
 use Rattle.qasm_scope.specs.declared.causes.Cause.{Cause}
-use Rattle.qasm_scope.specs.Meaning.{first_fault, most_calls}
+use Rattle.qasm_scope.specs.Meaning.{first_fault, most_calls, scope_behind, gates_behind}
+use Rattle.qasm_scope.specs.Scope.{qubit_count}
 use Rattle.qasm_scope.specs.Texts.{IsProgramText}
 use Rattle.zx_run.specs.declared.status.Fault.{Fault}
-use Rattle.zx_run.specs.declared.status.Fault.TheVariants.{BadByte, TooDeep, Syntax}
+use Rattle.zx_run.specs.declared.status.Fault.TheVariants.{TooLong, BadByte, TooDeep, Syntax}
 use Rattle.qasm_reader.specs.declared.error.ParseError.{ParseError}
 use Rattle.qasm_reader.specs.declared.error.ParseError.TheVariants as errors
 use Rattle.zx_run.specs.Parsing.{stopped_by}
@@ -95,6 +98,52 @@ short_not_accepted text f n gates (inr (inr (inr a))) k =
 pub not_accepted : (text : List ℕ) (f : Fault) (n : ℕ) (gates : List ElementaryGate) → IsFirstFault text f → IsAccepted text n gates → ⊥
 not_accepted text f n gates (inl a) k = let long = a.0 in let short = k.short in absurd (omega (arith, long, short))
 not_accepted text f n gates (inr a) k = short_not_accepted text f n gates a.1 k
+
+pub one_circuit : (text : List ℕ) (m n : ℕ) (a b : List ElementaryGate) → IsAccepted text m a → IsAccepted text n b → (m ≡ n) × (a ≡ b)
+one_circuit text m n a b k l =
+    let same = same_program text k.program l.program k.is l.is in (
+      k.means.as_many_qubits ∙ ap (λ program. qubit_count (scope_behind [] program)) same ∙ sym l.means.as_many_qubits,
+      k.means.same_gates ∙ ap (gates_behind []) same ∙ sym l.means.same_gates,
+    )
+
+-- ---- each text is one of both
+abbrev pub IsDecided : List ℕ → Type 0
+IsDecided text = ((qubits : ℕ) × (gates : List ElementaryGate) × IsAccepted text qubits gates) ⊎ ((fault : Fault) × IsFirstFault text fault)
+
+program_decided : (text : List ℕ) (program : List Placed) (o : Option (Cause × ℕ)) → first_fault most_calls program ≡ o → length text ≤ most_bytes → IsProgramText text program → IsDecided text
+program_decided text program None e short is =
+    inl (
+      qubit_count (scope_behind [] program),
+      gates_behind [] program,
+      record {
+        short = short;
+        program = program;
+        is = is;
+        faultless = e;
+        means = record { most = most_calls; faultless = e; as_many_qubits = refl; same_gates = refl };
+      },
+    )
+program_decided text program (Some (cause, at)) e short is =
+    inr (fault_of cause at, inr (short, inr (inr (inr (cause, at, record { program = program; is = is; first = e }, refl)))))
+
+tokens_decided : (text : List ℕ) (tokens : List Lexeme) (o : Option ℕ) → too_deep tokens ≡ o → length text ≤ most_bytes → IsCut 0 text tokens → IsDecided text
+tokens_decided text tokens (Some at) e short cut = inr (TooDeep at, inr (short, inr (inl (at, record { tokens = tokens; cut = cut; deep = e }, refl))))
+tokens_decided text tokens None e short cut = elim (program_or_fault tokens) [
+  | inl p ↦ program_decided text p.0 (first_fault most_calls p.0) refl short (record { tokens = tokens; cut = cut; shallow = e; grammar = p.1 })
+  | inr f ↦ inr (Syntax f.0, inr (short, inr (inr (inl (f.0, record { tokens = tokens; cut = cut; shallow = e; fault = f.1 }, refl)))))
+]
+
+short_decided : (text : List ℕ) → length text ≤ most_bytes → IsDecided text
+short_decided text short = elim (scan.either text) [
+  | inl c ↦ tokens_decided text c.0 (too_deep c.0) refl short c.1
+  | inr b ↦ inr (BadByte b.0, inr (short, inl (b.0, b.1, refl)))
+]
+
+pub accepted_or_fault : (text : List ℕ) → IsDecided text
+accepted_or_fault text = elim (cases_lt most_bytes (length text)) [
+  | inl long ↦ inr (TooLong, inl (long, refl))
+  | inr short ↦ short_decided text short
+]
 
 -- what the tokens' fault says of the text
 module _ (text : List ℕ) (tokens : List Lexeme) (short : length text ≤ most_bytes) (cut : IsCut 0 text tokens) where

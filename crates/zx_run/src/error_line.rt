@@ -11,11 +11,12 @@ use std::alloc::{AllocError, Global};
 use zx_io::{Sink, write_all};
 
 /// Writes the line of an answer, and passes the answer on. The line of a refusal takes memory: where there
-/// is none, that is the answer.
+/// is none, NoMemory is the answer.
 pub fn report<E: Sink>(alloc: Global, status: Status, err: &mut E) -> Status
     ensures answer { PassesOn status result }
     ensures front { GainsFront (E.taken err.old) (E.taken err.new) (error_line result) }
-    ensures whole { ¬ Rose (E.faults err.old) (E.faults err.new) → Gains (E.taken err.old) (E.taken err.new) (error_line result) }
+    ensures whole { ¬ Rose (E.faults err.old) (E.faults err.new)
+        → Gains (E.taken err.old) (E.taken err.new) (error_line result) }
 {
     let Status::Refused(fault) = status else {
         write_line(err, fixed_line(&status));
@@ -36,7 +37,8 @@ pub fn report<E: Sink>(alloc: Global, status: Status, err: &mut E) -> Status
 /// Writes a line, or as much of it as is taken.
 fn write_line<E: Sink>(err: &mut E, line: &[u8])
     ensures front { GainsFront (E.taken err.old) (E.taken err.new) line.now }
-    ensures whole { ¬ Rose (E.faults err.old) (E.faults err.new) → Gains (E.taken err.old) (E.taken err.new) line.now }
+    ensures whole { ¬ Rose (E.faults err.old) (E.faults err.new)
+        → Gains (E.taken err.old) (E.taken err.new) line.now }
 {
     if !line.is_empty() {
         let _ = write_all(err, line);

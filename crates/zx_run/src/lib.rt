@@ -2,6 +2,7 @@
 #![tactic(auto)]
 
 mod error_line;
+pub mod laws;
 mod merge;
 mod optimise;
 mod program;

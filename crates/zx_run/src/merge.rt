@@ -52,7 +52,8 @@ impl Merger {
         requires on_qubits { IsGateOn (length self.old.places.items) gate }
         requires places { ArePlaces self.old.places.items (reverse self.old.backwards.items) }
         ensures qubits { OnOk result (length self.new.places.items ≡ length self.old.places.items) }
-        ensures merging { OnOk result ((read : List Gate) → IsMerging read self.old → IsMerging (gate ∷ read) self.new) }
+        ensures merging { OnOk result ((read : List Gate) → IsMerging read self.old
+            → IsMerging (gate ∷ read) self.new) }
     {
         if let Gate::Phase(qubit, phase) = gate {
             return self.prepend_phase(qubit, phase);
@@ -67,7 +68,8 @@ impl Merger {
         requires on_qubits { IsGateOn (length self.old.places.items) (Gate.Phase qubit phase) }
         requires places { ArePlaces self.old.places.items (reverse self.old.backwards.items) }
         ensures qubits { OnOk result (length self.new.places.items ≡ length self.old.places.items) }
-        ensures merging { OnOk result ((read : List Gate) → IsMerging read self.old → IsMerging (Gate.Phase qubit phase ∷ read) self.new) }
+        ensures merging { OnOk result ((read : List Gate) → IsMerging read self.old
+            → IsMerging (Gate.Phase qubit phase ∷ read) self.new) }
     {
         match self.places[usize::from(qubit)] {
             Some(place) => {
@@ -96,7 +98,8 @@ fn with_phase(gate: &Gate, phase: Eighth) -> Gate
 /// Clears the places of a gate's qubits.
 fn forget(places: &mut [Option<usize>], gate: &Gate)
     requires { IsGateOn (length places.old) gate.now }
-    ensures { (q : ℕ) → get_or places.new q None ≡ (if is_on q gate.now then None else get_or places.old q None) }
+    ensures { (q : ℕ)
+        → get_or places.new q None ≡ (if is_on q gate.now then None else get_or places.old q None) }
 {
     match *gate {
         Gate::H(qubit) | Gate::Phase(qubit, _) | Gate::Not(qubit) => {
@@ -128,7 +131,8 @@ fn forwards(alloc: Global, qubits: Qubit, backwards: Vec<Gate>) -> Result<GateLi
     requires few_qubits { qubits ≤ most_qubits }
     requires on_qubits { All (IsKeptOn qubits) backwards.items }
     ensures qubits { IfOk result (λ list. list.qubits ≡ qubits) }
-    ensures gates { IfOk result (λ list. list.gates ≡ filter (λ gate. not (is_idle gate)) (reverse backwards.items)) }
+    ensures gates { IfOk result (λ list. list.gates
+        ≡ filter (λ gate. not (is_idle gate)) (reverse backwards.items)) }
 {
     let mut list = GateList::new(alloc, qubits);
     let mut left = backwards;

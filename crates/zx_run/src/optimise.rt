@@ -16,7 +16,8 @@ use zx_gates::lower;
 pub fn optimised_text(alloc: Global, text: &[u8]) -> Result<Vec<u8>, Stopped>
     requires { length text.now ≤ most_bytes }
     ensures output { IfOk result (λ output. IsOutputFor text.now output.items) }
-    ensures fault { (fault : Fault) → result ≡ Err (Stopped.Fault fault) → IsFirstFault text.now fault }
+    ensures fault { (fault : Fault) → result ≡ Err (Stopped.Fault fault)
+        → IsFirstFault text.now fault }
 {
     let read = read_circuit(alloc, text)?;
     let lowered = lower(alloc, &read)?;

@@ -25,7 +25,8 @@ const MOST_BYTES: usize = 16_777_216;
 /// to its end, and writes the text of the optimised circuit to `out`. A line about any other answer than
 /// Done goes to `err`, whose failures change nothing.
 ///
-/// Want of memory may take the place of each answer but Usage, ReadFault and WriteFault.
+/// Want of memory may take the place of each answer but Usage. After a failed read or write the answer stays, since
+/// its line takes no memory.
 pub fn run<'a, S: Source, O: Sink, E: Sink>(
     alloc: Global,
     words: &'a [&'a str],
@@ -40,11 +41,13 @@ pub fn run<'a, S: Source, O: Sink, E: Sink>(
         (bytes : List ℕ) × IsOutputFor text bytes × Gains (O.taken out.old) (O.taken out.new) bytes }
 
     // Usage: exactly where the words are no command. Nothing is read then.
-    ensures usage { (result ≡ Status.Usage) ↔ (command_of (map (λ word. word.now) words.now) ≡ None) }
+    ensures usage { (result ≡ Status.Usage) ↔ (command_of (map (λ word. word.now) words.now)
+        ≡ None) }
     ensures usage_unread { result ≡ Status.Usage → source.new ≡ source.old }
 
-    // Refused: exactly where no read failed and the fault is the first one of the text.
-    ensures refused { (fault : Fault) → result ≡ Status.Refused fault → S.faults source.new ≡ S.faults source.old }
+    // Refused: exactly where no read failed and the fault is the first one of the text, unless memory runs out.
+    ensures refused { (fault : Fault) → result ≡ Status.Refused fault
+        → S.faults source.new ≡ S.faults source.old }
     ensures refused_first { (fault : Fault) (text : List ℕ) → result ≡ Status.Refused fault →
         S.left source.old ≡ Some text → IsFirstFault text fault }
     ensures refused_where { (fault : Fault) (text : List ℕ) →
@@ -54,10 +57,12 @@ pub fn run<'a, S: Source, O: Sink, E: Sink>(
         (result ≡ Status.Refused fault) ⊎ (result ≡ Status.NoMemory) }
 
     // ReadFault and WriteFault: only where that end failed in this call.
-    ensures read_fault { result ≡ Status.ReadFault → Rose (S.faults source.old) (S.faults source.new) }
+    ensures read_fault { result ≡ Status.ReadFault
+        → Rose (S.faults source.old) (S.faults source.new) }
     ensures write_fault { result ≡ Status.WriteFault →
         Rose (O.faults out.old) (O.faults out.new) × (S.faults source.new ≡ S.faults source.old) }
-    ensures write_fault_output { result ≡ Status.WriteFault → (text : List ℕ) → S.left source.old ≡ Some text →
+    ensures write_fault_output { result ≡ Status.WriteFault → (text : List ℕ)
+        → S.left source.old ≡ Some text →
         (bytes : List ℕ) × IsOutputFor text bytes × GainsFront (O.taken out.old) (O.taken out.new) bytes }
     ensures never_no { result ≢ Status.No }
 
@@ -65,12 +70,14 @@ pub fn run<'a, S: Source, O: Sink, E: Sink>(
     ensures complete { (text : List ℕ) (qubits : ℕ) (gates : List ElementaryGate) →
         command_of (map (λ word. word.now) words.now) ≡ Some Optimise →
         S.left source.old ≡ Some text → IsAccepted text qubits gates →
-        ¬ Rose (S.faults source.old) (S.faults source.new) → ¬ Rose (O.faults out.old) (O.faults out.new) →
+        ¬ Rose (S.faults source.old) (S.faults source.new)
+        → ¬ Rose (O.faults out.old) (O.faults out.new) →
         (result ≡ Status.Done) ⊎ (result ≡ Status.NoMemory) }
 
     // What stands after the answer.
     ensures read_to_end { (text : List ℕ) → S.left source.old ≡ Some text →
-        (result ≡ Status.Done) ⊎ ((fault : Fault) × (fault ≢ Fault.TooLong) × (result ≡ Status.Refused fault)) →
+        (result ≡ Status.Done) ⊎ ((fault : Fault) × (fault ≢ Fault.TooLong) × (result
+        ≡ Status.Refused fault)) →
         S.left source.new ≡ Some [] }
     ensures out_kept { LeavesOutput result → out.new ≡ out.old }
     ensures err_front { GainsFront (E.taken err.old) (E.taken err.new) (error_line result) }
@@ -83,7 +90,8 @@ pub fn run<'a, S: Source, O: Sink, E: Sink>(
 
 /// The answer, without its line.
 fn answer<S: Source, O: Sink>(alloc: Global, words: &[&str], source: &mut S, out: &mut O) -> Status
-    ensures usage { (result ≡ Status.Usage) ↔ (command_of (map (λ word. word.now) words.now) ≡ None) }
+    ensures usage { (result ≡ Status.Usage) ↔ (command_of (map (λ word. word.now) words.now)
+        ≡ None) }
     ensures unread { result ≡ Status.Usage → source.new ≡ source.old }
     ensures out_kept { LeavesOutput result → out.new ≡ out.old }
     ensures answers { IsAnswer (S.left source.old) (S.left source.new) (S.faults source.old) (S.faults source.new)

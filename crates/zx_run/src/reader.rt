@@ -20,7 +20,8 @@ pub fn read_circuit(alloc: Global, text: &[u8]) -> Result<Elementary, Stopped>
     requires { length text.now ≤ most_bytes }
     ensures accepted { IfOk result (λ circuit. IsAccepted text.now circuit.qubits circuit.gates) }
     ensures valid { IfOk result (λ circuit. IsElementary circuit) }
-    ensures fault { (fault : Fault) → result ≡ Err (Stopped.Fault fault) → IsFirstFault text.now fault }
+    ensures fault { (fault : Fault) → result ≡ Err (Stopped.Fault fault)
+        → IsFirstFault text.now fault }
 {
     let tokens = match lex(alloc, text) {
         Ok(tokens) => tokens,

@@ -1,7 +1,8 @@
 //! What a run of the program may answer.
 
-/// Why a text is refused. `at` is the place of a byte in the text, from 0, and `line` the number of a line,
-/// from 1.
+/// Why a text is refused. `at` is a place in the text, from 0: that of the first byte of the statement, but for
+/// `BadByte` that of the byte, and for `TooDeep` of parentheses that of the parenthesis. `line` is the number of a
+/// line, from 1.
 #[derive(Clone, Copy, Debug, PartialEq, Eq)]
 pub enum Fault {
     /// The input is longer than 16,777,216 bytes.
@@ -14,9 +15,10 @@ pub enum Fault {
     Version,
     /// A file other than `qelib1.inc` is included.
     Include { at: usize },
-    /// The statement is of a kind that is not taken.
+    /// `measure`, `reset`, `if`, `opaque`, or an expression with `^` or a function.
     Unsupported { at: usize },
-    /// A name is declared that exists already.
+    /// A name is declared again, a first name of the header is declared where the header is included, or two formal
+    /// names of a gate are equal.
     Redeclared { at: usize },
     /// A register has size 0.
     EmptyRegister { at: usize },
@@ -24,7 +26,7 @@ pub enum Fault {
     TooManyQubits { at: usize },
     /// A name is not declared as what is needed.
     Unknown { at: usize },
-    /// Parameters or qubits differ in number from the declaration's.
+    /// Angles or qubits differ in number from those of the gate's declaration.
     WrongCount { at: usize },
     /// An index is not below its register's size.
     Index { at: usize },
@@ -34,17 +36,18 @@ pub enum Fault {
     SameQubit { at: usize },
     /// A divisor is 0.
     Divide { at: usize },
-    /// A number of an angle is too large.
+    /// A number has more than 38 digits from its first to its last that isn't 0, or a part of a fraction is above
+    /// 2^60.
     AngleTooLarge { at: usize },
-    /// An angle is no whole number of eighth turns.
+    /// An angle of `U` isn't a whole number of eighth turns, two values with pi are multiplied, or a divisor has pi.
     NotEighthTurn { at: usize },
     /// Parentheses or calls are nested deeper than 256.
     TooDeep { at: usize },
-    /// More than 1,000,000 gates are called.
+    /// A call is the 1,000,001st.
     TooManyGates { at: usize },
     /// The version is stated a second time.
     SecondVersion { at: usize },
-    /// The line of a diagram's file does not fit.
+    /// The line of a diagram's file does not fit. `opt` never gives it.
     BadLine { line: usize },
 }
 
@@ -63,6 +66,6 @@ pub enum Status {
     WriteFault,
     /// Memory ran out.
     NoMemory,
-    /// The diagram's table is no flow.
+    /// The diagram's table is no flow. `opt` never gives it.
     No,
 }

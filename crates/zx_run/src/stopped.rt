@@ -1,4 +1,4 @@
-//! Why a circuit has no output.
+//! Why a text has no output.
 
 ghost use Rattle.std.specs.Prelude.{◌≡◌};
 ghost use Rattle.zx_run.specs.declared.stopped.Stopped.TheVariants.{NoMemory};

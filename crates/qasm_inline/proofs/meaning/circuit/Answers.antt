@@ -42,4 +42,4 @@ returns c =
     let i = c.loop-statement.invariant in
     done-circuit (map placed c.args.statements.now) (map placed c.in_ok-rest.rest.now) i.scope _ _ _ c.loop-statement.names.qubits c.in_ok-rest.ensures
     (Reaches-same _ _ _ _ _ _ (ap (map placed) (drop_of_length-le c.in_ok-rest.rest.now (omega (arith, c.loop-statement-test.false)))) i.reaches)
-    i.represents.same_qubits c.cut.ensures
+    i.represents.same_qubits c.clamped.ensures
