@@ -11,6 +11,7 @@ use Rattle.qasm_scope.specs.Angles.{angles_of, place_of}
 use Rattle.qasm_scope.specs.Calls.{Called, after_angles, expand, body_call, expand_meaning, expand_declared}
 use Rattle.qasm_scope.specs.Header.{first_gates, further_gates}
 use Rattle.qasm_scope.specs.Meaning.{with_header, with_first, with_further}
+use Rattle.qasm_scope.proofs.HeaderScope.{knows_gate, knows}
 use Rattle.qasm_scope.specs.Scope.{Scope, Declaration, Gate, is_declared, declared}
 
 -- a name is declared in both scopes or in none, and comes to the same
@@ -25,15 +26,6 @@ record Agree (known one other : Scope) : Type 0 where
   pub same : (name : List ℕ) → is_declared name known ≡ true → Same one other name
 
 -- ---- bodies whose gates are known
-abbrev knows_gate : Scope → Callee → Bool
-knows_gate known (Declared name) = is_declared name known
-knows_gate known U = true
-knows_gate known Cx = true
-
-abbrev knows : Scope → BodySentence → Bool
-knows known (BodyApplied a) = knows_gate known a.gate
-knows known (BodyBarrier names) = true
-
 abbrev knows_all : Scope → List GateForm → Bool
 knows_all known [] = true
 knows_all known (form ∷ forms) = list_all (knows known) form.body && knows_all known forms

@@ -1,11 +1,10 @@
 -- The unrolling of calls with a stack.
-use Rattle.std.proofs.Common.{◌≡◌, ℕ, ◌+◌, List, [], ◌∷◌, ◌++◌, length, Ok, Err, sym, ap, ◌∙◌, append_assoc, append-nil, arith, length-append}
+use Rattle.std.proofs.Common.{◌≡◌, ℕ, ◌+◌, List, [], ◌∷◌, ◌++◌, length, Ok, sym, ap, ◌∙◌, append_assoc, append-nil, arith, length-append}
 use Rattle.zx_gates.specs.declared.elementary.ElementaryGate.{ElementaryGate}
 use Rattle.qasm_angle.specs.declared.angle.Angle.{Angle}
-use Rattle.qasm_scope.specs.declared.causes.Cause.{Cause}
 use Rattle.qasm_scope.specs.declared.gates.GateCall.{GateCall}
 use Rattle.qasm_inline.specs.declared.unroll.Frame.{Frame}
-use Rattle.qasm_scope.specs.Calls.{Event, Called, Undefined, after_angles, applied, call_count, first_wrong}
+use Rattle.qasm_scope.specs.Calls.{Event, Called, after_angles, applied, call_count, first_wrong}
 use Rattle.qasm_scope.specs.declared.gates.GateBody.{GateBody}
 use Rattle.qasm_scope.specs.declared.gates.Target.{Target}
 use Rattle.qasm_scope.specs.declared.gates.Target.TheVariants as target
@@ -88,20 +87,6 @@ next_call numbered deep frames later f angles values qubits places call calls ed
     ∙ ap (λ events. Called deep ∷ (expand_target numbered call.target ((1 + length frames) + 1) values (picked qubits call.qubits.items) ++ events)) on_top
     ∙ ap (λ d. Called deep ∷ (expand_target numbered call.target d values (picked qubits call.qubits.items) ++ stack_events numbered 1 later)) (deeper ∙ ap (λ fs. 1 + length fs) (sym el))
     ∙ ap (λ ps. Called deep ∷ (expand_target numbered call.target (1 + length later) values ps ++ stack_events numbered 1 later)) (sym ep)
-
--- the same where an angle has no value
-pub next_call_undefined : (numbered : Numbered) (deep : ℕ) (frames : List Frame) (angles : List Angle) (qubits : List ℕ) (call : GateCall) (calls rest : List GateCall) (cause : Cause)
-    → deep ≡ length frames + 2 → calls ≡ call ∷ rest → values_of call.angles.items angles ≡ Err cause
-    → (events : List Event) × (calls_events numbered (1 + length frames) angles qubits calls ++ stack_events numbered 1 frames
-    ≡ Called deep ∷ Undefined cause ∷ events)
-next_call_undefined numbered deep frames angles qubits call calls rest cause ed ec ev =
-    let depth : (1 + length frames) + 1 ≡ deep = omega arith in
-    let after = calls_events numbered (1 + length frames) angles qubits rest ++ stack_events numbered 1 frames in (
-      after,
-      ap (λ cs. calls_events numbered (1 + length frames) angles qubits cs ++ stack_events numbered 1 frames) ec
-          ∙ ap (λ vs. (target_call numbered call.target ((1 + length frames) + 1) vs (picked qubits call.qubits.items) ++ calls_events numbered (1 + length frames) angles qubits rest) ++ stack_events numbered 1 frames) ev
-          ∙ ap (λ d. Called d ∷ Undefined cause ∷ after) depth,
-    )
 
 -- a call is made first
 pub next_call_first : (numbered : Numbered) (deep : ℕ) (frames : List Frame) (angles : List Angle) (qubits : List ℕ) (call : GateCall) (calls rest : List GateCall)

@@ -1,16 +1,15 @@
 -- Cuts of texts whose words, numbers and signs are known, put together from the end: what follows a piece is cut
 -- already, and begins at the place `next`.
-use Rattle.std.proofs.Common.{◌≡◌, ℕ, ◌+◌, ◌/◌, ◌%◌, ◌^◌, ◌<◌, ◌≤◌, Bool, true, false, ◌&&◌, ◌||◌, not, eqb, leb, List, [], ◌∷◌, ◌++◌, length, refl, sym, ap, ◌∙◌, subst, arith, inl, inr, Option, None, Some, append_assoc, length-append, decimal}
+use Rattle.std.proofs.Common.{◌≡◌, ℕ, ◌+◌, ◌/◌, ◌%◌, ◌^◌, ◌<◌, ◌≤◌, Bool, true, false, ◌&&◌, ◌||◌, not, eqb, leb, List, [], ◌∷◌, ◌++◌, length, refl, sym, ap, ◌∙◌, subst, arith, inl, inr, Option, None, Some, append_assoc, decimal}
 use Rattle.std.specs.Option.{is_some, is_none, option_map, option_to_list}
 use Rattle.std.specs.List.{list_all, concat}
 use Rattle.std.proofs.lemmas.Bool.{false≢true, and_parts, and_from, le-leb, ne_eqb, both_ways, not-true, or_parts, not_from_false, cases_eq}
 use Rattle.qasm_lexer.proofs.Runs.{begins_append}
 use Rattle.std.proofs.lemmas.Fmt.{decimal_by_steps}
 use Rattle.qasm_lexer.specs.declared.token.TokenKind.{TokenKind}
-use Rattle.qasm_lexer.specs.declared.token.TokenKind.TheVariants.{Natural, Text}
+use Rattle.qasm_lexer.specs.declared.token.TokenKind.TheVariants.{Natural}
 use Rattle.qasm_lexer.specs.Forms.{begins, is_digit, is_letter, is_space, is_word_byte, is_word, is_natural}
 use Rattle.qasm_lexer.specs.Tokens.{signs, kind_in, kind_of, word_kind, IsPiece, Lexeme, IsCut}
-use Rattle.qasm_lexer.specs.FirstPiece.{is_inside}
 use Rattle.qasm_lexer.proofs.Leads.{table_all}
 use Rattle.qasm_lexer.proofs.Pieces as pieces
 use Rattle.qasm_lexer.proofs.Pieces.{ends_number, ends_sign}
@@ -74,23 +73,6 @@ pub IsCut-sign : {place : ℕ} {after : List ℕ} {kind : TokenKind} {tokens : L
     → IsCut place (a ∷ after) (record { kind = kind; text = a ∷ []; place = place } ∷ tokens)
 IsCut-sign {place} {after} {kind} {tokens} a next is ends there c =
     IsCut-token place (a ∷ []) after kind tokens (pieces.short_sign_piece a after kind is ends) (subst (λ k. IsCut k after tokens) there c)
-
--- a sign of two bytes
-pub IsCut-long_sign : {place : ℕ} {after : List ℕ} {kind : TokenKind} {tokens : List Lexeme} (a b next : ℕ) → kind_in signs (a ∷ b ∷ []) ≡ Some kind
-    → (eqb a 47 && eqb b 47) ≡ false → next ≡ place + 2 → IsCut next after tokens
-    → IsCut place (a ∷ b ∷ after) (record { kind = kind; text = a ∷ b ∷ []; place = place } ∷ tokens)
-IsCut-long_sign {place} {after} {kind} {tokens} a b next is apart there c =
-    IsCut-token place (a ∷ b ∷ []) after kind tokens (pieces.long_sign_piece a b after kind is apart) (subst (λ k. IsCut k after tokens) there c)
-
--- bytes between quotes
-pub IsCut-text : {place : ℕ} {after : List ℕ} {tokens : List Lexeme} (inside : List ℕ) (next : ℕ) → list_all is_inside inside ≡ true
-    → next ≡ place + length inside + 2 → IsCut next after tokens
-    → IsCut place (34 ∷ (inside ++ (34 ∷ after))) (record { kind = Text; text = 34 ∷ (inside ++ 34 ∷ []); place = place } ∷ tokens)
-IsCut-text {place} {after} {tokens} inside next e there c =
-    let token : Lexeme = record { kind = Text; text = 34 ∷ (inside ++ 34 ∷ []); place = place } in
-    let n : next ≡ place + length (34 ∷ (inside ++ 34 ∷ [])) = there ∙ omega (arith, length-append inside (34 ∷ [])) in
-    subst (λ r. IsCut place (34 ∷ r) (token ∷ tokens)) (append_assoc inside (34 ∷ []) after)
-    (IsCut-token place (34 ∷ (inside ++ 34 ∷ [])) after Text tokens (pieces.text_piece inside after e) (subst (λ k. IsCut k after tokens) n c))
 
 -- a sign that begins no longer sign and no comment
 abbrev pub is_plain : ℕ → Bool

@@ -69,9 +69,6 @@ comment_piece p after e stop =
           let q : (eqb d 47 ≡ true) × (list_all is_no_feed o ≡ true) = and_parts (eqb d 47) (list_all is_no_feed o) f in
           rw (eqb-true d 47 q.0) q.1
 
-pub comment_kind : (p : List ℕ) → kind_of (47 ∷ 47 ∷ p) ≡ None
-comment_kind p = refl
-
 -- a word, before a byte that no word has, or the end
 pub word_longest : (b : ℕ) (p after : List ℕ) → is_letter b ≡ true → list_all is_word_byte p ≡ true → begins is_word_byte after ≡ false
     → IsLongest (b ∷ p) after

@@ -1,10 +1,10 @@
 -- The tokens of a text, computed piece by piece.
-use Rattle.std.proofs.Common.{◌≡◌, ℕ, ◌+◌, ◌<◌, ◌≤◌, List, [], ◌∷◌, ◌++◌, length, take, drop, refl, sym, ap, subst, arith, inl, inr, ◌⊎◌, Option, None, Some, Result, Ok, Err, length-drop}
+use Rattle.std.proofs.Common.{◌≡◌, ℕ, ◌+◌, ◌<◌, ◌≤◌, List, [], ◌∷◌, ◌++◌, length, take, drop, refl, sym, subst, arith, inl, inr, ◌⊎◌, Option, None, Some, Result, Ok, Err, length-drop}
 use Rattle.std.proofs.lemmas.List.{nil_from_length}
 use Rattle.qasm_lexer.specs.declared.first_piece.Sort.{Sort}
 use Rattle.qasm_lexer.specs.Tokens.{Lexeme, IsCut, IsCutUpTo, IsBadByte}
 use Rattle.qasm_lexer.specs.FirstPiece.{first_piece, piece_tokens}
-use Rattle.qasm_lexer.proofs.Cuts.{IsCutUpTo-then, IsCutUpTo-none, IsBadAt, IsBadByte-from, same_tokens, not_both_at}
+use Rattle.qasm_lexer.proofs.Cuts.{IsCutUpTo-then, IsCutUpTo-none, IsBadAt, IsBadByte-from}
 use Rattle.qasm_lexer.proofs.First.{IsFirstPiece, first_piece_is, first_cut, first_fits}
 
 abbrev pub with_tokens : List Lexeme → Result (List Lexeme) ℕ → Result (List Lexeme) ℕ
@@ -80,10 +80,3 @@ IsCut-tokens_of place text tokens e = go (scan text place text) (scan_is text pl
       → elim r as (λ r. Option (List Lexeme)) [ Ok tokens ↦ Some tokens | Err at ↦ None ] ≡ Some tokens → IsCut place text tokens
   go (Ok these) c f = let k : these ≡ tokens = cc in subst (λ ts. IsCut place text ts) k c
   go (Err at) b f = absurd (cc)
-
-pub tokens_of-IsCut : (place : ℕ) (text : List ℕ) (tokens : List Lexeme) → IsCut place text tokens → tokens_of place text ≡ Some tokens
-tokens_of-IsCut place text tokens c = go (scan text place text) (scan_is text place text (omega arith)) where
-  go : (r : Result (List Lexeme) ℕ) → IsScan place text r
-      → elim r as (λ r. Option (List Lexeme)) [ Ok tokens ↦ Some tokens | Err at ↦ None ] ≡ Some tokens
-  go (Ok these) d = ap Some (same_tokens text place these tokens d c)
-  go (Err at) b = absurd (not_both_at place text tokens at c b)

@@ -1,5 +1,5 @@
 -- What is wrong by what names are kept as is what is wrong by the scope.
-use Rattle.std.proofs.Common.{◌≡◌, ℕ, zero, suc, ◌+◌, ◌<◌, ◌≤◌, ◌==◌, min, nat_lt, inl, inr, arith, Bool, true, false, ◌||◌, not, List, [], ◌∷◌, ◌++◌, length, map, None, refl, sym, ap, ◌∙◌}
+use Rattle.std.proofs.Common.{◌≡◌, ℕ, zero, suc, ◌+◌, ◌<◌, ◌==◌, min, nat_lt, inl, inr, arith, Bool, true, false, ◌||◌, not, List, [], ◌∷◌, ◌++◌, length, map, None, refl, sym, ap, ◌∙◌}
 use Rattle.std.specs.List.{list_any}
 use Rattle.std.specs.Option.{is_some}
 use Rattle.std.specs.Str.{bytes_eq}
@@ -135,10 +135,6 @@ wrong_gate-names symbols scope parameters qubits form h sound k l =
     b (list_any body_has_same_qubit form.body)) counts
     ∙ sym (wrong_in-gate scope form)
 
--- a declaration that nothing is wrong with
-pub supported-from : (symbols : Symbols) (parameters qubits : Places) (form : GateForm) → wrong_gate_by symbols parameters qubits form ≡ None → list_any body_is_unsupported form.body ≡ false
-supported-from symbols parameters qubits form h = (gate_cause-none _ _ _ _ _ h).0
-
 pub sound-from : (scope : Scope) (form : GateForm) → wrong_in scope (DeclareGate form) ≡ None → IsSoundGate scope form
 sound-from scope form h =
     let parts = gate_cause-none _ _ _ _ _ (sym (wrong_in-gate scope form) ∙ h) in
@@ -159,12 +155,6 @@ lt-cut limit q n most h = elim (cases_lt most n) [
   | inl larger ↦ grind (arith, nat_tests)
   | inr fits ↦ (let e : min n most ≡ n = omega arith in ap (λ m. nat_lt limit (q + m)) e)
 ]
-
-register_cause-none : (a b c : Bool) → register_cause a b c ≡ None → (a ≡ false) × (b ≡ false) × (c ≡ false)
-register_cause-none true b c h = absurd (cc)
-register_cause-none false true c h = absurd (cc)
-register_cause-none false false true h = absurd (cc)
-register_cause-none false false false h = (refl, refl, refl)
 
 -- the causes of registers
 pub wrong_in-qubits : (symbols : Symbols) (scope : Scope) (name size : List ℕ) (qubits most count : ℕ) → AreNames symbols scope → IsSound scope → qubits ≡ qubit_count scope
@@ -189,9 +179,3 @@ wrong_in-bits symbols scope name size most count h sound large ec =
     let empty : (count == 0) ≡ (numeral size == 0) = ap (λ n. n == 0) ec ∙ zero-cut (numeral size) most large in
     ap (λ b. register_cause b (count == 0) false) taken
     ∙ ap (λ b. register_cause (is_taken name scope) b false) empty
-
--- a register that nothing is wrong with has few qubits
-pub few-from : (taken empty : Bool) (qubits count : ℕ) → register_cause taken empty (nat_lt most_qubits (qubits + count)) ≡ None → qubits + count ≤ most_qubits
-few-from taken empty qubits count h =
-    let few : nat_lt most_qubits (qubits + count) ≡ false = (register_cause-none taken empty _ h).2 in
-    grind (arith, nat_tests)

@@ -120,12 +120,12 @@ keeps_further before after [] k = k
 keeps_further before after (form ∷ forms) k = keeps_further before (if is_declared form.name after then after else replaceable form ∷ after) forms (keeps_step before after form k)
 
 -- ---- a body whose gates are declared has the same faults where their names mean the same
-abbrev knows_gate : Scope → Callee → Bool
+abbrev pub knows_gate : Scope → Callee → Bool
 knows_gate scope (Declared name) = is_declared name scope
 knows_gate scope U = true
 knows_gate scope Cx = true
 
-abbrev knows : Scope → BodySentence → Bool
+abbrev pub knows : Scope → BodySentence → Bool
 knows scope (BodyApplied a) = knows_gate scope a.gate
 knows scope (BodyBarrier names) = true
 
