@@ -6,7 +6,7 @@ use crate::{Fault, Status, run};
 use std::alloc::Global;
 use std::test::Fail;
 use zx_gates::{counts, lower};
-use zx_io::{MemSink, MemSource, NeverFailSink, NeverFailSource};
+use zx_io::{MemSink, MemSource, NeverFailSource};
 
 const USAGE: &[u8] =
     b"usage: zxopt opt [--best] [--report] | reduce | flow | graph | gen SEED QUBITS GATES\n";
@@ -315,8 +315,10 @@ fn limits_are_told(rt: HostRuntime) -> Result<(), Fail> {
     // The application is the last line, of ten bytes.
     let text = doubling(alloc, 24)?;
     let at = text.len().saturating_sub(10);
-    let (status, _, _) = opt(alloc, &text)?;
-    assert_eq!(rt; status, Status::Refused(Fault::TooManyGates { at }));
+    let (_, out, err) = opt(alloc, &text)?;
+    let line = format!(in alloc; "zxopt: fault 19 TooManyGates at {at}\n")?;
+    assert_eq!(rt; out.bytes(), b"".as_slice());
+    assert_eq!(rt; err.bytes(), line.as_bytes());
     Ok(())
 }
 
@@ -384,19 +386,16 @@ fn a_text_of_more_than_16_mib_is_too_long(rt: HostRuntime) -> Result<(), Fail> {
         let mut text = b"OPENQASM 2.0;".to_vec(alloc)?;
         text.extend_from_slice(&vec![in alloc; b' '; spaces]?)?;
         let mut source = NeverFailSource::new(text);
+        let mut out = MemSink::new(alloc, 100, 100, Vec::new(alloc))?;
         let mut err = MemSink::new(alloc, 100, 100, Vec::new(alloc))?;
-        let status = run(
-            alloc,
-            &["opt"],
-            &mut source,
-            &mut NeverFailSink::new(),
-            &mut err,
-        );
+        let status = run(alloc, &["opt"], &mut source, &mut out, &mut err);
         if too_long {
             assert_eq!(rt; status, Status::Refused(Fault::TooLong));
+            assert_eq!(rt; out.bytes(), b"".as_slice());
             assert_eq!(rt; err.bytes(), b"zxopt: fault 1 TooLong\n".as_slice());
         } else {
             assert_eq!(rt; status, Status::Done);
+            assert_eq!(rt; out.bytes(), SHORT_HEAD);
         }
     }
     Ok(())
