@@ -5,10 +5,13 @@ use Rattle.std.proofs.lemmas.Bool.{cases_eq, true≢false, and_parts, not-true, 
 use Rattle.zx_model.specs.Bits.{member}
 use Rattle.zx_calculus.specs.Graph.{Plane, XY, XZ, YZ}
 use Rattle.gflow_laws.specs.Seen.{Seen, odd}
-use Rattle.gflow_laws.specs.Flow.{Correction, order_of, set_of, is_in, after, plane_holds, IsFlowOf}
+use Rattle.gflow_laws.specs.Flow.{Correction, order_of, set_of, is_in, is_later, plane_holds, IsFlowOf}
 use Rattle.gflow_laws.specs.Correcting.{Alike, Distinct, FlowAsFunctions, inside_in, odd_in}
 use Rattle.gflow_laws.proofs.Corrects.{Corrects-alike}
-use Rattle.gflow_laws.proofs.Lists.{list_all-at, list_all-from, Distinct-from, in_order-from}
+use Rattle.zx_calculus.proofs.Ids.{Distinct-different}
+use Rattle.zx_calculus.proofs.Splitting.{all_at}
+use Rattle.zx_calculus.proofs.Kept.{all_by}
+use Rattle.gflow_laws.proofs.Lists.{in_order-from}
 
 -- a vertex of the order is a vertex of the graph
 pub live : (s : Seen) (table : List Correction) → FlowAsFunctions s table → (v : ℕ) → member v (order_of table) ≡ true → member v s.ids ≡ true
@@ -56,24 +59,24 @@ there_or_output m false l e f = e ∙ ap (λ a. a && true) f
 
 pub Flows-from : (s : Seen) (table : List Correction) → IsFlowOf s table → FlowAsFunctions s table
 Flows-from s table f = record {
-  each_once = Distinct-from (order_of table) f.is_table.each_once;
+  each_once = Distinct-different (order_of table) f.is_table.each_once;
   non_outputs = λ v. in_order_from_tests (member v s.ids) (s.input v) (s.output v) (member v (order_of table))
-      (λ e. list_all-at (λ w. member w s.ids && not (s.output w)) (order_of table) v f.is_table.no_others e)
-      (λ e. list_all-at (λ w. s.output w || member w (order_of table)) s.ids v f.is_table.all_there e);
+      (λ e. all_at (λ w. member w s.ids && not (s.output w)) (order_of table) v f.is_table.no_others e)
+      (λ e. all_at (λ w. s.output w || member w (order_of table)) s.ids v f.is_table.all_there e);
   corrects = λ v there. record {
-    members = λ w e. list_all-at (λ x. member x s.ids) (set_of table v) w
-        (list_all-at (λ x. list_all (λ y. member y s.ids) (set_of table x)) (order_of table) v f.is_table.vertices there) e;
-    input = λ w e. not-true (s.input w) (list_all-at (λ x. not (s.input x)) (set_of table v) w
-        (list_all-at (λ x. list_all (λ y. not (s.input y)) (set_of table x)) (order_of table) v f.input there) e);
-    order = λ w e ne. other_or (eqb w v) (after (order_of table) v w) (ne_eqb w v ne)
-        (list_all-at (λ x. eqb x v || after (order_of table) v x) (set_of table v) w
-        (list_all-at (λ x. list_all (λ y. eqb y x || after (order_of table) x y) (set_of table x)) (order_of table) v f.order there) e);
-    odd_order = λ w within e ne. other_or (eqb w v) (after (order_of table) v w) (ne_eqb w v ne)
-        (implied (odd s (is_in (set_of table v)) w) (eqb w v || after (order_of table) v w)
-        (list_all-at (λ x. not (odd s (is_in (set_of table v)) x) || (eqb x v || after (order_of table) v x)) s.ids w
-        (list_all-at (λ x. list_all (λ y. not (odd s (is_in (set_of table x)) y) || (eqb y x || after (order_of table) x y)) s.ids) (order_of table) v f.odd there) within) e);
-    inside = inside_from s (s.plane v) v (set_of table v) (list_all-at (λ x. plane_holds s (s.plane x) x (set_of table x)) (order_of table) v f.plane there);
-    odd_there = odd_from s (s.plane v) v (set_of table v) (list_all-at (λ x. plane_holds s (s.plane x) x (set_of table x)) (order_of table) v f.plane there);
+    members = λ w e. all_at (λ x. member x s.ids) (set_of table v) w
+        (all_at (λ x. list_all (λ y. member y s.ids) (set_of table x)) (order_of table) v f.is_table.vertices there) e;
+    input = λ w e. not-true (s.input w) (all_at (λ x. not (s.input x)) (set_of table v) w
+        (all_at (λ x. list_all (λ y. not (s.input y)) (set_of table x)) (order_of table) v f.input there) e);
+    order = λ w e ne. other_or (eqb w v) (is_later (order_of table) v w) (ne_eqb w v ne)
+        (all_at (λ x. eqb x v || is_later (order_of table) v x) (set_of table v) w
+        (all_at (λ x. list_all (λ y. eqb y x || is_later (order_of table) x y) (set_of table x)) (order_of table) v f.order there) e);
+    odd_order = λ w within e ne. other_or (eqb w v) (is_later (order_of table) v w) (ne_eqb w v ne)
+        (implied (odd s (is_in (set_of table v)) w) (eqb w v || is_later (order_of table) v w)
+        (all_at (λ x. not (odd s (is_in (set_of table v)) x) || (eqb x v || is_later (order_of table) v x)) s.ids w
+        (all_at (λ x. list_all (λ y. not (odd s (is_in (set_of table x)) y) || (eqb y x || is_later (order_of table) x y)) s.ids) (order_of table) v f.odd there) within) e);
+    inside = inside_from s (s.plane v) v (set_of table v) (all_at (λ x. plane_holds s (s.plane x) x (set_of table x)) (order_of table) v f.plane there);
+    odd_there = odd_from s (s.plane v) v (set_of table v) (all_at (λ x. plane_holds s (s.plane x) x (set_of table x)) (order_of table) v f.plane there);
   };
 }
 
@@ -84,22 +87,22 @@ pub IsFlowOf-from : (s : Seen) (table : List Correction) → FlowAsFunctions s t
 IsFlowOf-from s table f = record {
   is_table = record {
     each_once = in_order-from (order_of table) f.each_once;
-    no_others = list_all-from (λ w. member w s.ids && not (s.output w)) (order_of table) (λ v e. sym (f.non_outputs v) ∙ e);
-    all_there = list_all-from (λ w. s.output w || member w (order_of table)) s.ids
+    no_others = all_by (λ w. member w s.ids && not (s.output w)) (order_of table) (λ v e. sym (f.non_outputs v) ∙ e);
+    all_there = all_by (λ w. s.output w || member w (order_of table)) s.ids
         (λ v e. there_or_output (member v s.ids) (s.output v) (member v (order_of table)) (f.non_outputs v) e);
-    vertices = list_all-from (λ x. list_all (λ y. member y s.ids) (set_of table x)) (order_of table)
-        (λ v there. list_all-from (λ x. member x s.ids) (set_of table v) (λ w e. (f.corrects v there).members w e));
+    vertices = all_by (λ x. list_all (λ y. member y s.ids) (set_of table x)) (order_of table)
+        (λ v there. all_by (λ x. member x s.ids) (set_of table v) (λ w e. (f.corrects v there).members w e));
   };
-  input = list_all-from (λ x. list_all (λ y. not (s.input y)) (set_of table x)) (order_of table)
-      (λ v there. list_all-from (λ x. not (s.input x)) (set_of table v) (λ w e. ap not ((f.corrects v there).input w e)));
-  order = list_all-from (λ x. list_all (λ y. eqb y x || after (order_of table) x y) (set_of table x)) (order_of table)
-      (λ v there. list_all-from (λ x. eqb x v || after (order_of table) v x) (set_of table v)
-      (λ w e. or_other w v (after (order_of table) v w) ((f.corrects v there).order w e)));
-  odd = list_all-from (λ x. list_all (λ y. not (odd s (is_in (set_of table x)) y) || (eqb y x || after (order_of table) x y)) s.ids) (order_of table)
-      (λ v there. list_all-from (λ x. not (odd s (is_in (set_of table v)) x) || (eqb x v || after (order_of table) v x)) s.ids
-      (λ w e. implied_from (odd s (is_in (set_of table v)) w) (eqb w v || after (order_of table) v w)
-      (λ h. or_other w v (after (order_of table) v w) ((f.corrects v there).odd_order w e h))));
-  plane = list_all-from (λ x. plane_holds s (s.plane x) x (set_of table x)) (order_of table)
+  input = all_by (λ x. list_all (λ y. not (s.input y)) (set_of table x)) (order_of table)
+      (λ v there. all_by (λ x. not (s.input x)) (set_of table v) (λ w e. ap not ((f.corrects v there).input w e)));
+  order = all_by (λ x. list_all (λ y. eqb y x || is_later (order_of table) x y) (set_of table x)) (order_of table)
+      (λ v there. all_by (λ x. eqb x v || is_later (order_of table) v x) (set_of table v)
+      (λ w e. or_other w v (is_later (order_of table) v w) ((f.corrects v there).order w e)));
+  odd = all_by (λ x. list_all (λ y. not (odd s (is_in (set_of table x)) y) || (eqb y x || is_later (order_of table) x y)) s.ids) (order_of table)
+      (λ v there. all_by (λ x. not (odd s (is_in (set_of table v)) x) || (eqb x v || is_later (order_of table) v x)) s.ids
+      (λ w e. implied_from (odd s (is_in (set_of table v)) w) (eqb w v || is_later (order_of table) v w)
+      (λ h. or_other w v (is_later (order_of table) v w) ((f.corrects v there).odd_order w e h))));
+  plane = all_by (λ x. plane_holds s (s.plane x) x (set_of table x)) (order_of table)
       (λ v there. plane_from s (s.plane v) v (set_of table v) (f.corrects v there).inside (f.corrects v there).odd_there);
 }
 
@@ -112,6 +115,6 @@ pub Flows-alike : (s t : Seen) (table : List Correction) → Distinct s.ids → 
 Flows-alike s t table ds dt alike f = record {
   each_once = f.each_once;
   non_outputs = λ v. f.non_outputs v ∙ out_alike (member v s.ids) (member v t.ids) (s.output v) (t.output v) (alike.ids v) (alike.output v);
-  corrects = λ v there. Corrects-alike s t (after (order_of table)) (after (order_of table)) v (is_in (set_of table v)) (is_in (set_of table v))
+  corrects = λ v there. Corrects-alike s t (is_later (order_of table)) (is_later (order_of table)) v (is_in (set_of table v)) (is_in (set_of table v))
       ds dt alike (live s table f v there) (λ w. refl) (λ w e. e) (f.corrects v there);
 }

@@ -4,10 +4,11 @@ use Rattle.std.proofs.lemmas.Bool.{cases_eq, true≢false, eqb-true, false_from_
 use Rattle.zx_model.specs.Bits.{xor, member}
 use Rattle.zx_calculus.specs.Graph.{XY}
 use Rattle.zx_calculus.specs.Parity.{masked}
+use Rattle.zx_calculus.proofs.Ids.{masked_front}
 use Rattle.zx_calculus.proofs.Booleans.{and-false, and_comm}
 use Rattle.gflow_laws.specs.Seen.{Seen, odd}
 use Rattle.gflow_laws.specs.Correcting.{Corrects, Distinct, inside_in, odd_in}
-use Rattle.gflow_laws.proofs.Linear.{removed, member-removed, Distinct-removed, masked-pull, masked-members, masked-same, masked-one}
+use Rattle.gflow_laws.proofs.Linear.{removed, member-removed, Distinct-removed, masked-members, masked-same, masked-one}
 
 -- t is s with one more vertex, adjacent to b alone
 pub record Grown (s : Seen) (new b : ℕ) (t : Seen) : Type 0 where
@@ -20,9 +21,6 @@ pub record Grown (s : Seen) (new b : ℕ) (t : Seen) : Type 0 where
   pub of_new : (p : ℕ) → t.adjacent new p ≡ eqb p b
   pub to_new : (p : ℕ) → t.adjacent p new ≡ eqb p b
   pub plane : (v : ℕ) → member v s.ids ≡ true → t.plane v ≡ s.plane v
-
-pub not_new : (s : Seen) (new w : ℕ) → member new s.ids ≡ false → member w s.ids ≡ true → w ≢ new
-not_new s new w fresh there e = true≢false (sym there ∙ ap (λ x. member x s.ids) e ∙ fresh)
 
 pub old_there : (s t : Seen) (new b w : ℕ) → Grown s new b t → member w s.ids ≡ true → member w t.ids ≡ true
 old_there s t new b w grown there = grown.ids w ∙ or_right (eqb w new) (member w s.ids) there
@@ -41,7 +39,7 @@ outside s t new b A grown within = false_from_ne_true (A new) (λ e. true≢fals
 pub odd-grown : (s t : Seen) (new b : ℕ) (A : ℕ → Bool) (v : ℕ) → Grown s new b t → ((w : ℕ) → A w ≡ true → member w s.ids ≡ true) →
     member v s.ids ≡ true → odd t A v ≡ odd s A v
 odd-grown s t new b A v grown within there =
-    masked-pull (t.adjacent v) new t.ids A grown.distinct_after (new_there s t new b grown)
+    masked_front (t.adjacent v) new t.ids A grown.distinct_after (new_there s t new b grown)
     ∙ ap (λ c. xor c (masked (t.adjacent v) (removed new t.ids) A))
     (ap (λ c. t.adjacent v new && c) (outside s t new b A grown within) ∙ and-false (t.adjacent v new))
     ∙ masked-members (t.adjacent v) (removed new t.ids) s.ids A (Distinct-removed new t.ids grown.distinct_after) grown.distinct

@@ -12,3 +12,7 @@ pub mod SplitViews
 pub mod Steps
 pub mod Seeing
 pub mod Same
+pub mod Failing
+pub mod OutputLaws
+pub mod LastLaws
+pub mod AllEnds

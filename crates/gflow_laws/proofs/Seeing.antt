@@ -5,7 +5,7 @@ use Rattle.zx_model.specs.Bits.{member}
 use Rattle.zx_calculus.specs.Graph.{XY, Graph, ids, plane_of, joined, places, WellFormed}
 use Rattle.zx_calculus.specs.Parity.{masked}
 use Rattle.gflow_laws.specs.Seen.{seen}
-use Rattle.gflow_laws.specs.Flow.{Correction, order_of, set_of, is_in, after, IsFlowOf, IsFlow, SameSets}
+use Rattle.gflow_laws.specs.Flow.{Correction, order_of, set_of, is_in, is_later, IsFlowOf, IsFlow, SameSets}
 use Rattle.gflow_laws.specs.Correcting.{Alike, Corrects, FlowAsFunctions, odd_in}
 use Rattle.gflow_laws.proofs.Linear.{member-here, member-there}
 use Rattle.gflow_laws.proofs.Corrects.{xor_true}
@@ -26,7 +26,7 @@ pub has_neighbour : (g : Graph) (table : List Correction) (v : ℕ) → IsFlow g
     (w : ℕ) × (member w (ids g.vertices) ≡ true) × (joined g.edges v w ≡ true)
 has_neighbour g table v flow there no_output plane =
     let f : FlowAsFunctions (seen g) table = Flows-from (seen g) table flow in
-    let c : Corrects (seen g) (after (order_of table)) v (is_in (set_of table v)) = f.corrects v (listed (seen g) table f v there no_output) in
+    let c : Corrects (seen g) (is_later (order_of table)) v (is_in (set_of table v)) = f.corrects v (listed (seen g) table f v there no_output) in
     let (w, within, e) = masked-true (joined g.edges v) (ids g.vertices) (is_in (set_of table v)) (c.odd_there ∙ ap odd_in plane) in
     (w, within, (and_parts (joined g.edges v w) (is_in (set_of table v) w) e).0)
 
@@ -60,6 +60,6 @@ flow-same_sets g table table' same flow =
     IsFlowOf-from (seen g) table' record {
       each_once = rw (← same.order) f.each_once;
       non_outputs = λ v. ap (member v) (sym same.order) ∙ f.non_outputs v;
-      corrects = λ v there. subst (λ l. Corrects (seen g) (after l) v (is_in (set_of table' v))) same.order
-          (Corrects-same (seen g) (after (order_of table)) v (is_in (set_of table v)) (is_in (set_of table' v)) (same.members v) (f.corrects v (ap (member v) same.order ∙ there)));
+      corrects = λ v there. subst (λ l. Corrects (seen g) (is_later l) v (is_in (set_of table' v))) same.order
+          (Corrects-same (seen g) (is_later (order_of table)) v (is_in (set_of table v)) (is_in (set_of table' v)) (same.members v) (f.corrects v (ap (member v) same.order ∙ there)));
     }

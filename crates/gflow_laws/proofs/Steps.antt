@@ -1,8 +1,7 @@
 -- Each rewrite turns a flow of the old graph into a flow of the new one.
 use Rattle.std.proofs.Common.{◌≡◌, ◌≢◌, refl, sym, ◌∙◌, ap, subst, ℕ, Bool, true, false, cond, eqb, List, [], ◌∷◌}
-use Rattle.std.proofs.lemmas.Bool.{true≢false, false_from_ne_true}
 use Rattle.zx_model.specs.Bits.{member}
-use Rattle.zx_calculus.specs.Graph.{Plane, XY, XZ, YZ, Kind, Vertex, End, Graph, ids, plane_of, phase_of, joined, places, OrderedEnds, WellFormed, without, with_kinds}
+use Rattle.zx_calculus.specs.Graph.{Plane, XY, XZ, YZ, Kind, Graph, ids, plane_of, phase_of, joined, places, WellFormed, without, with_kinds}
 use Rattle.zx_calculus.specs.Turns.{with_phase_added}
 use Rattle.zx_calculus.specs.Complement.{complement_kind, delete_kind, IsLocalComplement, IsDelete}
 use Rattle.zx_calculus.specs.Pivots.{pivot_kind, IsPivot}
@@ -16,16 +15,19 @@ use Rattle.gflow_laws.specs.Seen.{seen, complemented}
 use Rattle.gflow_laws.specs.Flow.{Correction, IsFlow}
 use Rattle.gflow_laws.specs.Kept.{IsKept}
 use Rattle.gflow_laws.specs.Tables.{complement_table, pivot_table, removal_table, split_output_table, split_input_table, table_after}
+use Rattle.gflow_laws.specs.Outputs.{IsNewOutput}
 use Rattle.gflow_laws.specs.Correcting.{Alike, Distinct, Simple}
 use Rattle.gflow_laws.proofs.Linear.{removed, Distinct-removed}
 use Rattle.gflow_laws.proofs.Removal.{removed_from}
-use Rattle.gflow_laws.proofs.Growth.{Grown, not_new}
+use Rattle.gflow_laws.proofs.Growth.{Grown}
 use Rattle.gflow_laws.proofs.Flows.{Flows-from, IsFlowOf-from, Flows-alike}
 use Rattle.gflow_laws.proofs.TableLaws.{Flows-complement, Flows-removal, Flows-split_output, Flows-split_input}
-use Rattle.gflow_laws.proofs.Views.{ids-with_kinds, ids-without, Simple-seen, no_end, half_kept, Alike-complement, Alike-removed}
+use Rattle.gflow_laws.proofs.Views.{ids-with_kinds, ids-without, Simple-seen, half_kept, Alike-complement, Alike-removed}
 use Rattle.gflow_laws.proofs.PivotViews.{Simple-complemented, Alike-pivot}
 use Rattle.gflow_laws.proofs.SplitViews.{Grown-split, plane-new, plane_at_end, member-move_end, new_vertex-split}
-use Rattle.gflow_laws.proofs.Lists.{list_all-at}
+use Rattle.zx_calculus.proofs.Ids.{apart_of_member}
+use Rattle.zx_calculus.proofs.Vertices.{with_kinds-identity}
+use Rattle.zx_calculus.proofs.Splitting.{all_at, absent_from, interior_of, off_XY}
 
 pub local_complement_flow : (g : Graph) (u : ℕ) (h : Graph) (table : List Correction) → WellFormed g → IsLocalComplement g u h → IsFlow g table →
     IsFlow h (complement_table (seen g) u table)
@@ -64,7 +66,7 @@ removal_flow g u h table change wf there plane vertices alike flow =
     (Flows-alike (removed_from (seen g) u) (seen h) (removal_table u table) rest_distinct
     (subst Distinct (sym (ap ids vertices ∙ ids-with_kinds change (without u g.vertices) ∙ ids-without u g.vertices)) rest_distinct)
     alike
-    (Flows-removal (seen g) u table there plane (no_end g.vertices g.outputs u wf.outputs plane) (Flows-from (seen g) table flow)))
+    (Flows-removal (seen g) u table there plane (interior_of g u wf (off_XY (plane_of g u) plane)).no_output (Flows-from (seen g) table flow)))
   where
     rest_distinct : Distinct (removed u (ids g.vertices))
     rest_distinct = Distinct-removed u (ids g.vertices) (Simple-seen g wf).distinct
@@ -73,10 +75,6 @@ pub delete_flow : (g : Graph) (u : ℕ) (h : Graph) (table : List Correction) �
 delete_flow g u h table wf step flow =
     removal_flow g u h table (delete_kind _ (joined g.edges u)) wf step.there step.plane step.vertices
     (Alike-removed g u h (delete_kind _ (joined g.edges u)) step.vertices (λ p k. half_kept _ k) step.edges step.inputs step.outputs) flow
-
-with_kinds-same : (vs : List Vertex) → with_kinds (λ p k. k) vs ≡ vs
-with_kinds-same [] = refl
-with_kinds-same (v ∷ vs) = ap (λ l. v ∷ l) (with_kinds-same vs)
 
 fused_plane : (v k : ℕ) (p : ℕ) (kind : Kind) → (fuse_kind v k p kind).plane ≡ kind.plane
 fused_plane v k p kind = kept_either_way (eqb p v)
@@ -92,8 +90,8 @@ not_YZ YZ e f = cc
 
 pub drop_lone_flow : (g : Graph) (u : ℕ) (h : Graph) (table : List Correction) → WellFormed g → IsDropLone g u h → IsFlow g table → IsFlow h (removal_table u table)
 drop_lone_flow g u h table wf step flow =
-    removal_flow g u h table (λ p k. k) wf step.there (not_YZ (plane_of g u) step.plane) (step.vertices ∙ sym (with_kinds-same (without u g.vertices)))
-    (Alike-removed g u h (λ p k. k) (step.vertices ∙ sym (with_kinds-same (without u g.vertices))) (λ p k. refl) step.edges step.inputs step.outputs) flow
+    removal_flow g u h table (λ p k. k) wf step.there (not_YZ (plane_of g u) step.plane) (step.vertices ∙ sym (with_kinds-identity (without u g.vertices)))
+    (Alike-removed g u h (λ p k. k) (step.vertices ∙ sym (with_kinds-identity (without u g.vertices))) (λ p k. refl) step.edges step.inputs step.outputs) flow
 
 pub fuse_into_flow : (g : Graph) (u : ℕ) (h : Graph) (table : List Correction) → WellFormed g → IsFuseInto g u h → IsFlow g table → IsFlow h (removal_table u table)
 fuse_into_flow g u h table wf step flow =
@@ -105,26 +103,35 @@ fuse_twin_flow g u v h table wf step flow =
     removal_flow g v h table (fuse_kind u (phase_of g v)) wf step.there_too (not_YZ (plane_of g v) step.plane_too) step.vertices
     (Alike-removed g v h (fuse_kind u (phase_of g v)) step.vertices (fused_plane u (phase_of g v)) step.edges step.inputs step.outputs) flow
 
--- no end stands at what isn't a vertex
-no_end_outside : (vertices : List Vertex) (ends : List End) (u : ℕ) → OrderedEnds vertices ends → member u (ids vertices) ≡ false → member u (places ends) ≡ false
-no_end_outside vertices ends u ordered out = false_from_ne_true (member u (places ends))
-    (λ h. true≢false (sym (list_all-at (λ w. member w (ids vertices)) (places ends) u ordered.there h) ∙ out))
+-- a new vertex behind an output, which moves there
+pub new_output_flow : (g : Graph) (b : ℕ) (h : Graph) (table : List Correction) → WellFormed g → (step : IsNewOutput g b h) → IsFlow g table →
+    IsFlow h (split_output_table b step.new table)
+new_output_flow g b h table wf step flow =
+    IsFlowOf-from (seen h) (split_output_table b step.new table)
+    (Flows-split_output (seen g) (seen h) step.new b table grown step.has_output (plane_at_end g.vertices g.outputs b wf.outputs step.has_output)
+    (λ v. ap (member v) step.inputs)
+    (absent_from (ids g.vertices) (places g.inputs) step.new wf.inputs.there step.fresh)
+    (λ v. ap (member v) step.outputs ∙ member-move_end b step.new g.outputs v (apart_of_member b step.new (ids g.vertices) there step.fresh) step.has_output)
+    (Flows-from (seen g) table flow))
+  where
+    there : member b (ids g.vertices) ≡ true
+    there = all_at (λ w. member w (ids g.vertices)) (places g.outputs) b wf.outputs.there step.has_output
+
+    grown : Grown (seen g) step.new b (seen h)
+    grown = Grown-split g b step.new h wf step.fresh there step.vertices step.edges
 
 pub split_output_flow : (g : Graph) (b : ℕ) (h : Graph) (table : List Correction) → WellFormed g → (step : IsSplitOutput g b h) → IsFlow g table →
     IsFlow h (split_output_table b step.new table)
 split_output_flow g b h table wf step flow =
-    IsFlowOf-from (seen h) (split_output_table b step.new table)
-    (Flows-split_output (seen g) (seen h) step.new b table grown step.has_output (plane_at_end g.vertices g.outputs b wf.outputs step.has_output)
-    (λ v. ap (λ l. member v (places l)) step.inputs)
-    (no_end_outside g.vertices g.inputs step.new wf.inputs step.fresh)
-    (λ v. ap (λ l. member v (places l)) step.outputs ∙ member-move_end b step.new g.outputs v (not_new (seen g) step.new b step.fresh there) step.has_output)
-    (Flows-from (seen g) table flow))
-  where
-    there : member b (ids g.vertices) ≡ true
-    there = list_all-at (λ w. member w (ids g.vertices)) (places g.outputs) b wf.outputs.there step.has_output
-
-    grown : Grown (seen g) step.new b (seen h)
-    grown = Grown-split g b step.new h wf step.fresh there step.vertices step.edges
+    new_output_flow g b h table wf record {
+      new = step.new;
+      fresh = step.fresh;
+      has_output = step.has_output;
+      vertices = step.vertices;
+      edges = step.edges;
+      inputs = ap places step.inputs;
+      outputs = ap places step.outputs;
+    } flow
 
 pub split_input_flow : (g : Graph) (b : ℕ) (h : Graph) (table : List Correction) → WellFormed g → (step : IsSplitInput g b h) → IsFlow g table →
     IsFlow h (split_input_table b step.new table)
@@ -132,12 +139,12 @@ split_input_flow g b h table wf step flow =
     IsFlowOf-from (seen h) (split_input_table b step.new table)
     (Flows-split_input (seen g) (seen h) step.new b table grown step.has_input (plane-new g step.new h step.fresh step.vertices)
     (λ v. ap (λ l. member v (places l)) step.outputs)
-    (no_end_outside g.vertices g.outputs step.new wf.outputs step.fresh)
-    (λ v. ap (λ l. member v (places l)) step.inputs ∙ member-move_end b step.new g.inputs v (not_new (seen g) step.new b step.fresh there) step.has_input)
+    (absent_from (ids g.vertices) (places g.outputs) step.new wf.outputs.there step.fresh)
+    (λ v. ap (λ l. member v (places l)) step.inputs ∙ member-move_end b step.new g.inputs v (apart_of_member b step.new (ids g.vertices) there step.fresh) step.has_input)
     (Flows-from (seen g) table flow))
   where
     there : member b (ids g.vertices) ≡ true
-    there = list_all-at (λ w. member w (ids g.vertices)) (places g.inputs) b wf.inputs.there step.has_input
+    there = all_at (λ w. member w (ids g.vertices)) (places g.inputs) b wf.inputs.there step.has_input
 
     grown : Grown (seen g) step.new b (seen h)
     grown = Grown-split g b step.new h wf step.fresh there step.vertices step.edges

@@ -3,16 +3,17 @@ use Rattle.std.proofs.Common.{◌≡◌, ◌≢◌, ◌⊎◌, inl, inr, refl, s
 use Rattle.std.proofs.lemmas.Bool.{cases_Bool, cases_eq, true≢false, and_parts, eqb-true, or_right, or_left, or_cases, or_parts}
 use Rattle.zx_model.specs.Bits.{xor, member}
 use Rattle.zx_calculus.specs.Graph.{Plane, XY, XZ, YZ}
-use Rattle.zx_calculus.proofs.Booleans.{xor-false, and-false}
+use Rattle.zx_calculus.proofs.Booleans.{xor-false, and-false, or-true}
+use Rattle.zx_calculus.proofs.Ids.{apart_of_member}
 use Rattle.gflow_laws.specs.Seen.{Seen, odd, complemented}
-use Rattle.gflow_laws.specs.Flow.{Correction, order_of, set_of, is_in, after}
+use Rattle.gflow_laws.specs.Flow.{Correction, order_of, set_of, is_in, is_later}
 use Rattle.gflow_laws.specs.Tables.{symmetric_difference, with_sets, without_set, set_about, set_beside, complement_table, removal_table, split_output_table, split_input_table}
 use Rattle.gflow_laws.specs.Correcting.{Corrects, Distinct, FlowAsFunctions, Simple, odd_in}
 use Rattle.gflow_laws.proofs.Linear.{removed, member-removed, Distinct-removed}
 use Rattle.gflow_laws.proofs.Complement.{own_set, other_set, Corrects-own, Corrects-other}
 use Rattle.gflow_laws.proofs.Removal.{removed_from, cleared_set, Corrects-cleared}
-use Rattle.gflow_laws.proofs.Growth.{Grown, Corrects-grown, Corrects-one, not_new}
-use Rattle.gflow_laws.proofs.Lists.{is_in-symmetric_difference, is_in-one, after-strict, after-append, after-removed, after-outside, Distinct-append, member-append}
+use Rattle.gflow_laws.proofs.Growth.{Grown, Corrects-grown, Corrects-one}
+use Rattle.gflow_laws.proofs.Lists.{is_in-symmetric_difference, is_in-one, is_later-strict, is_later-append, is_later-removed, is_later-outside, Distinct-append, member-append}
 use Rattle.gflow_laws.proofs.Flows.{live, listed}
 
 pub order_of-with_sets : (change : ℕ → List ℕ → List ℕ) (table : List Correction) → order_of (with_sets change table) ≡ order_of table
@@ -79,94 +80,95 @@ is_in-set_beside s u own members w = ⊎_elim
     ∙ ap (λ b. cond b (xor (xor (is_in members w) (is_in own w)) (eqb w u)) (is_in members w)) (sym e))
     (cases_Bool (odd s (is_in members) u))
 
+-- a change of the sets alone
+pub Flows-with_sets : (t : Seen) (change : ℕ → List ℕ → List ℕ) (table : List Correction) → Distinct (order_of table) → ((v : ℕ) → member v (order_of table) ≡ (member v t.ids && not (t.output v))) →
+    ((v : ℕ) → member v (order_of table) ≡ true → Corrects t (is_later (order_of table)) v (is_in (change v (set_of table v)))) → FlowAsFunctions t (with_sets change table)
+Flows-with_sets t change table distinct non_outputs corrected = record {
+  each_once = subst Distinct (sym same) distinct;
+  non_outputs = λ v. ap (member v) same ∙ non_outputs v;
+  corrects = λ v h.
+      let there : member v (order_of table) ≡ true = ap (member v) (sym same) ∙ h in
+      subst (λ l. Corrects t (is_later l) v (is_in (set_of (with_sets change table) v))) (sym same)
+      (Corrects-same t (is_later (order_of table)) v (is_in (change v (set_of table v))) (is_in (set_of (with_sets change table) v)) (λ w. ap (λ l. is_in l w) (sym (set_of-with_sets change table v there))) (corrected v there));
+}
+  where
+    same : order_of (with_sets change table) ≡ order_of table
+    same = order_of-with_sets change table
+
 -- a local complement about a vertex without ends
 pub Flows-complement : (s : Seen) (u : ℕ) (table : List Correction) → Simple s → member u s.ids ≡ true → s.input u ≡ false → s.output u ≡ false →
     FlowAsFunctions s table → FlowAsFunctions (complemented s u) (complement_table s u table)
-Flows-complement s u table simple there_u no_input no_output f = record {
-  each_once = subst Distinct (sym same_order) f.each_once;
-  non_outputs = λ v. ap (member v) same_order ∙ f.non_outputs v;
-  corrects = λ v h.
-      let there : member v (order_of table) ≡ true = ap (member v) (sym same_order) ∙ h in
-      subst (λ l. Corrects (complemented s u) (after l) v (is_in (set_of (complement_table s u table) v))) (sym same_order) (corrected v there (cases_eq v u));
-}
+Flows-complement s u table simple there_u no_input no_output f =
+    Flows-with_sets (complemented s u) (λ v members. cond (eqb v u) own (set_beside s u own members)) table f.each_once f.non_outputs
+    (λ v there. corrected v there (cases_eq v u))
   where
     own : List ℕ
     own = set_about u (s.plane u) (set_of table u)
 
-    change : ℕ → List ℕ → List ℕ
-    change v members = cond (eqb v u) own (set_beside s u own members)
+    new : ℕ → List ℕ
+    new v = cond (eqb v u) own (set_beside s u own (set_of table v))
 
-    same_order : order_of (complement_table s u table) ≡ order_of table
-    same_order = order_of-with_sets change table
-
-    corrected : (v : ℕ) → member v (order_of table) ≡ true → (v ≡ u) ⊎ (v ≡ u → ⊥) → Corrects (complemented s u) (after (order_of table)) v (is_in (set_of (complement_table s u table) v))
+    corrected : (v : ℕ) → member v (order_of table) ≡ true → (v ≡ u) ⊎ (v ≡ u → ⊥) → Corrects (complemented s u) (is_later (order_of table)) v (is_in (new v))
     corrected v there (inl e) =
-        Corrects-same (complemented s u) (after (order_of table)) v (own_set s u (is_in (set_of table u))) (is_in (set_of (complement_table s u table) v))
-        (λ w. sym (ap (λ l. is_in l w) (set_of-with_sets change table v there ∙ ap (λ b. cond b own (set_beside s u own (set_of table v))) (eq-eqb v u e))
-        ∙ is_in-set_about u (s.plane u) (set_of table u) w))
-        (subst (λ x. Corrects (complemented s u) (after (order_of table)) x (own_set s u (is_in (set_of table u)))) (sym e)
-        (Corrects-own s (after (order_of table)) u (is_in (set_of table u)) simple there_u no_input (f.corrects u (listed s table f u there_u no_output))))
+        Corrects-same (complemented s u) (is_later (order_of table)) v (own_set s u (is_in (set_of table u))) (is_in (new v))
+        (λ w. sym (ap (λ b. is_in (cond b own (set_beside s u own (set_of table v))) w) (eq-eqb v u e) ∙ is_in-set_about u (s.plane u) (set_of table u) w))
+        (subst (λ x. Corrects (complemented s u) (is_later (order_of table)) x (own_set s u (is_in (set_of table u)))) (sym e)
+        (Corrects-own s (is_later (order_of table)) u (is_in (set_of table u)) simple there_u no_input (f.corrects u (listed s table f u there_u no_output))))
     corrected v there (inr ne) =
-        Corrects-same (complemented s u) (after (order_of table)) v (other_set s u (own_set s u (is_in (set_of table u))) (is_in (set_of table v))) (is_in (set_of (complement_table s u table) v))
-        (λ w. sym (ap (λ l. is_in l w) (set_of-with_sets change table v there ∙ ap (λ b. cond b own (set_beside s u own (set_of table v))) (ne_eqb v u ne))
+        Corrects-same (complemented s u) (is_later (order_of table)) v (other_set s u (own_set s u (is_in (set_of table u))) (is_in (set_of table v))) (is_in (new v))
+        (λ w. sym (ap (λ b. is_in (cond b own (set_beside s u own (set_of table v))) w) (ne_eqb v u ne)
         ∙ is_in-set_beside s u own (set_of table v) w
         ∙ ap (λ o. cond (odd s (is_in (set_of table v)) u) (xor (xor (is_in (set_of table v) w) o) (eqb w u)) (is_in (set_of table v) w)) (is_in-set_about u (s.plane u) (set_of table u) w)))
-        (Corrects-other s (after (order_of table)) u v (is_in (set_of table v)) (is_in (set_of table u)) (after-strict (order_of table)) simple there_u no_input
+        (Corrects-other s (is_later (order_of table)) u v (is_in (set_of table v)) (is_in (set_of table u)) (is_later-strict (order_of table)) simple there_u no_input
         (live s table f v there) (λ e. ne (sym e)) (f.corrects v there) (f.corrects u (listed s table f u there_u no_output)))
 
-gone_or_stays : (e m i o l : Bool) → l ≡ (i && not o) → (not e && l) ≡ ((not e && i) && not o)
-gone_or_stays true m i o l h = refl
-gone_or_stays false m i o l h = h
+gone_or_stays : (e i o l : Bool) → l ≡ (i && not o) → (not e && l) ≡ ((not e && i) && not o)
+gone_or_stays true i o l h = refl
+gone_or_stays false i o l h = h
 
 -- a vertex that isn't XY and has no output goes
 pub Flows-removal : (s : Seen) (u : ℕ) (table : List Correction) → member u s.ids ≡ true → s.plane u ≢ XY → s.output u ≡ false →
     FlowAsFunctions s table → FlowAsFunctions (removed_from s u) (removal_table u table)
-Flows-removal s u table there_u plane no_output f = record {
-  each_once = subst Distinct (sym same_order) (Distinct-removed u (order_of table) f.each_once);
-  non_outputs = λ v. ap (member v) same_order ∙ member-removed v u (order_of table)
-      ∙ gone_or_stays (eqb v u) false (member v s.ids) (s.output v) (member v (order_of table)) (f.non_outputs v)
-      ∙ ap (λ b. b && not (s.output v)) (sym (member-removed v u s.ids));
-  corrects = λ v h.
-      let both : (not (eqb v u) && member v (order_of table)) ≡ true = sym (ap (member v) same_order ∙ member-removed v u (order_of table)) ∙ h in
-      subst (λ l. Corrects (removed_from s u) (after l) v (is_in (set_of (removal_table u table) v))) (sym same_order)
-      (corrected v (ap (member v) (order_of-without_set u table) ∙ member-removed v u (order_of table) ∙ both)
-      (and_parts (not (eqb v u)) (member v (order_of table)) both).1 (stays v (and_parts (not (eqb v u)) (member v (order_of table)) both).0));
-}
+Flows-removal s u table there_u plane no_output f =
+    Flows-with_sets (removed_from s u) change (without_set u table) (subst Distinct (sym (order_of-without_set u table)) (Distinct-removed u (order_of table) f.each_once))
+    (λ v. listed_rest v ∙ gone_or_stays (eqb v u) (member v s.ids) (s.output v) (member v (order_of table)) (f.non_outputs v)
+    ∙ ap (λ b. b && not (s.output v)) (sym (member-removed v u s.ids)))
+    (λ v h.
+    let both : (not (eqb v u) && member v (order_of table)) ≡ true = sym (listed_rest v) ∙ h in
+    subst (λ l. Corrects (removed_from s u) (is_later l) v (is_in (change v (set_of (without_set u table) v)))) (sym (order_of-without_set u table))
+    (corrected v (and_parts (not (eqb v u)) (member v (order_of table)) both).1 (stays v (and_parts (not (eqb v u)) (member v (order_of table)) both).0)))
   where
     change : ℕ → List ℕ → List ℕ
     change v members = cond (is_in members u) (symmetric_difference members (set_of table u)) members
 
-    same_order : order_of (removal_table u table) ≡ removed u (order_of table)
-    same_order = order_of-with_sets change (without_set u table) ∙ order_of-without_set u table
+    listed_rest : (v : ℕ) → member v (order_of (without_set u table)) ≡ (not (eqb v u) && member v (order_of table))
+    listed_rest v = ap (member v) (order_of-without_set u table) ∙ member-removed v u (order_of table)
 
     stays : (v : ℕ) → not (eqb v u) ≡ true → v ≢ u
     stays v e f = true≢false (sym e ∙ ap not (eq-eqb v u f))
 
-    new_set : (v : ℕ) → member v (order_of (without_set u table)) ≡ true → v ≢ u → (w : ℕ) →
-        is_in (set_of (removal_table u table) v) w ≡ cleared_set u (is_in (set_of table u)) (is_in (set_of table v)) w
-    new_set v there ne w =
-        ap (λ l. is_in l w) (set_of-with_sets change (without_set u table) v there ∙ ap (change v) (set_of-without_set u table v ne))
-        ∙ ⊎_elim
-        (λ e. ap (λ b. is_in (cond b (symmetric_difference (set_of table v) (set_of table u)) (set_of table v)) w) e
-        ∙ is_in-symmetric_difference (set_of table v) (set_of table u) w
-        ∙ ap (λ b. cond b (xor (is_in (set_of table v) w) (is_in (set_of table u) w)) (is_in (set_of table v) w)) (sym e))
-        (λ e. ap (λ b. is_in (cond b (symmetric_difference (set_of table v) (set_of table u)) (set_of table v)) w) e
-        ∙ ap (λ b. cond b (xor (is_in (set_of table v) w) (is_in (set_of table u) w)) (is_in (set_of table v) w)) (sym e))
-        (cases_Bool (is_in (set_of table v) u))
+    cleared : (A : List ℕ) (w : ℕ) (b : Bool) → is_in (cond b (symmetric_difference A (set_of table u)) A) w ≡ cond b (xor (is_in A w) (is_in (set_of table u) w)) (is_in A w)
+    cleared A w true = is_in-symmetric_difference A (set_of table u) w
+    cleared A w false = refl
 
-    corrected : (v : ℕ) → member v (order_of (without_set u table)) ≡ true → member v (order_of table) ≡ true → v ≢ u →
-        Corrects (removed_from s u) (after (removed u (order_of table))) v (is_in (set_of (removal_table u table) v))
-    corrected v kept there ne =
-        Corrects-later (removed_from s u) (after (order_of table)) (after (removed u (order_of table))) v (is_in (set_of (removal_table u table) v))
-        (λ w e. after-removed u (order_of table) v w ne e)
-        (Corrects-same (removed_from s u) (after (order_of table)) v (cleared_set u (is_in (set_of table u)) (is_in (set_of table v))) (is_in (set_of (removal_table u table) v))
-        (λ w. sym (new_set v kept ne w))
-        (Corrects-cleared s (after (order_of table)) u v (is_in (set_of table v)) (is_in (set_of table u)) (after-strict (order_of table)) (live s table f v there) (λ e. ne (sym e)) plane
+    corrected : (v : ℕ) → member v (order_of table) ≡ true → v ≢ u →
+        Corrects (removed_from s u) (is_later (removed u (order_of table))) v (is_in (change v (set_of (without_set u table) v)))
+    corrected v there ne =
+        Corrects-later (removed_from s u) (is_later (order_of table)) (is_later (removed u (order_of table))) v (is_in (change v (set_of (without_set u table) v)))
+        (λ w e. is_later-removed u (order_of table) v w ne e)
+        (Corrects-same (removed_from s u) (is_later (order_of table)) v (cleared_set u (is_in (set_of table u)) (is_in (set_of table v))) (is_in (change v (set_of (without_set u table) v)))
+        (λ w. sym (ap (λ l. is_in (change v l) w) (set_of-without_set u table v ne) ∙ cleared (set_of table v) w (is_in (set_of table v) u)))
+        (Corrects-cleared s (is_later (order_of table)) u v (is_in (set_of table v)) (is_in (set_of table u)) (is_later-strict (order_of table)) (live s table f v there) (λ e. ne (sym e)) plane
         (f.corrects v there) (f.corrects u (listed s table f u there_u no_output))))
 
 pub order_of-append : (table : List Correction) (e : Correction) → order_of (table ++ e ∷ []) ≡ order_of table ++ e.vertex ∷ []
 order_of-append [] e = refl
 order_of-append (x ∷ xs) e = ap (λ l. x.vertex ∷ l) (order_of-append xs e)
+
+pub with_sets-append : (change : ℕ → List ℕ → List ℕ) (table : List Correction) (e : Correction) →
+    with_sets change (table ++ e ∷ []) ≡ with_sets change table ++ record { vertex = e.vertex; members = change e.vertex e.members } ∷ []
+with_sets-append change [] e = refl
+with_sets-append change (x ∷ xs) e = ap (λ l. record { vertex = x.vertex; members = change x.vertex x.members } ∷ l) (with_sets-append change xs e)
 
 pub set_of-append : (table : List Correction) (e : Correction) (v : ℕ) → member v (order_of table) ≡ true → set_of (table ++ e ∷ []) v ≡ set_of table v
 set_of-append [] e v there = absurd (true≢false (sym there))
@@ -176,26 +178,22 @@ set_of-append (x ∷ xs) e v there = ⊎_elim
     ∙ ap (λ b. cond b x.members (set_of xs v)) (sym f))
     (cases_Bool (eqb v x.vertex))
 
-set_of-last : (table : List Correction) (e : Correction) → member e.vertex (order_of table) ≡ false → set_of (table ++ e ∷ []) e.vertex ≡ e.members
+pub set_of-last : (table : List Correction) (e : Correction) → member e.vertex (order_of table) ≡ false → set_of (table ++ e ∷ []) e.vertex ≡ e.members
 set_of-last [] e out = ap (λ b. cond b e.members []) (eq-eqb e.vertex e.vertex refl)
 set_of-last (x ∷ xs) e out =
     ap (λ b. cond b x.members (set_of (xs ++ e ∷ []) e.vertex)) (or_parts (eqb e.vertex x.vertex) (member e.vertex (order_of xs)) out).0
     ∙ set_of-last xs e (or_parts (eqb e.vertex x.vertex) (member e.vertex (order_of xs)) out).1
 
 -- a vertex without a place in the order: it isn't listed, since it has an output or isn't there
-unlisted : (s : Seen) (table : List Correction) → FlowAsFunctions s table → (v : ℕ) → s.output v ≡ true → member v (order_of table) ≡ false
+pub unlisted : (s : Seen) (table : List Correction) → FlowAsFunctions s table → (v : ℕ) → s.output v ≡ true → member v (order_of table) ≡ false
 unlisted s table f v e = f.non_outputs v ∙ ap (λ b. member v s.ids && not b) e ∙ and-false (member v s.ids)
 
-absent : (s : Seen) (table : List Correction) → FlowAsFunctions s table → (v : ℕ) → member v s.ids ≡ false → member v (order_of table) ≡ false
+pub absent : (s : Seen) (table : List Correction) → FlowAsFunctions s table → (v : ℕ) → member v s.ids ≡ false → member v (order_of table) ≡ false
 absent s table f v e = f.non_outputs v ∙ ap (λ b. b && not (s.output v)) e
 
 last_one : (eb l en m o : Bool) → l ≡ (m && not o) → (eb ≡ true → (en ≡ false) × (m ≡ true)) → (en ≡ true → m ≡ false) →
     (l || eb) ≡ ((en || m) && not (cond eb false (cond en true o)))
 last_one true l en m o h b n = ap (λ x. l || x) refl ∙ or-true l ∙ sym (ap₂ (λ x y. (x || y) && true) (b refl).0 (b refl).1)
-  where
-    or-true : (x : Bool) → (x || true) ≡ true
-    or-true true = refl
-    or-true false = refl
 last_one false l true m o h b n = ap (λ x. x || false) (h ∙ ap (λ x. x && not o) (n refl))
 last_one false true false m o h b n = h
 last_one false false false m o h b n = h
@@ -211,7 +209,7 @@ Flows-split_output s t new b table grown at_output plane inputs new_input output
       (λ e. (ne_eqb v new (λ g. b_not_new (sym (eqb-true v b e) ∙ g)), ap (λ x. member x s.ids) (eqb-true v b e) ∙ grown.there))
       (λ e. ap (λ x. member x s.ids) (eqb-true v new e) ∙ grown.fresh)
       ∙ ap₂ (λ x y. x && not y) (sym (grown.ids v)) (sym (outputs v));
-  corrects = λ v h. subst (λ l. Corrects t (after l) v (is_in (set_of (split_output_table b new table) v))) (sym same_order)
+  corrects = λ v h. subst (λ l. Corrects t (is_later l) v (is_in (set_of (split_output_table b new table) v))) (sym same_order)
       (⊎_elim (old v) (λ e. last v (eqb-true v b (sym (is_in-one b v) ∙ e)))
       (or_cases (member v (order_of table)) (member v (b ∷ [])) (sym (ap (member v) same_order ∙ member-append v (order_of table) (b ∷ [])) ∙ h)));
 }
@@ -226,31 +224,31 @@ Flows-split_output s t new b table grown at_output plane inputs new_input output
     b_unlisted = unlisted s table f b at_output
 
     b_not_new : b ≢ new
-    b_not_new = not_new s new b grown.fresh grown.there
+    b_not_new = apart_of_member b new s.ids grown.there grown.fresh
 
     new_outside : member new (order_of table ++ b ∷ []) ≡ false
     new_outside = member-append new (order_of table) (b ∷ []) ∙ ap₂ (λ x y. x || y) (absent s table f new grown.fresh) (is_in-one b new ∙ ne_eqb new b (λ e. b_not_new (sym e)))
 
-    old : (v : ℕ) → member v (order_of table) ≡ true → Corrects t (after (order_of table ++ b ∷ [])) v (is_in (set_of (split_output_table b new table) v))
+    old : (v : ℕ) → member v (order_of table) ≡ true → Corrects t (is_later (order_of table ++ b ∷ [])) v (is_in (set_of (split_output_table b new table) v))
     old v there =
-        Corrects-same t (after (order_of table ++ b ∷ [])) v (is_in (set_of table v)) (is_in (set_of (split_output_table b new table) v))
+        Corrects-same t (is_later (order_of table ++ b ∷ [])) v (is_in (set_of table v)) (is_in (set_of (split_output_table b new table) v))
         (λ w. ap (λ l. is_in l w) (sym (set_of-append table entry v there)))
-        (Corrects-grown s t (after (order_of table)) (after (order_of table ++ b ∷ [])) new b v (is_in (set_of table v)) grown (live s table f v there)
+        (Corrects-grown s t (is_later (order_of table)) (is_later (order_of table ++ b ∷ [])) new b v (is_in (set_of table v)) grown (live s table f v there)
         (λ w _ e. inputs w ∙ e)
-        (λ w _ e. after-append (order_of table) (b ∷ []) v w e)
-        (λ _. after-outside (order_of table ++ b ∷ []) v new (member-append v (order_of table) (b ∷ []) ∙ or_left (member v (order_of table)) (member v (b ∷ [])) there) new_outside)
+        (λ w _ e. is_later-append (order_of table) (b ∷ []) v w e)
+        (λ _. is_later-outside (order_of table ++ b ∷ []) v new (member-append v (order_of table) (b ∷ []) ∙ or_left (member v (order_of table)) (member v (b ∷ [])) there) new_outside)
         (f.corrects v there))
 
-    last_b : Corrects t (after (order_of table ++ b ∷ [])) b (λ w. eqb w new)
-    last_b = Corrects-one t (after (order_of table ++ b ∷ [])) b new grown.distinct_after (grown.ids new ∙ or_left (eqb new new) (member new s.ids) (eq-eqb new new refl)) b_not_new
+    last_b : Corrects t (is_later (order_of table ++ b ∷ [])) b (λ w. eqb w new)
+    last_b = Corrects-one t (is_later (order_of table ++ b ∷ [])) b new grown.distinct_after (grown.ids new ∙ or_left (eqb new new) (member new s.ids) (eq-eqb new new refl)) b_not_new
         (grown.plane b grown.there ∙ plane) (grown.to_new b ∙ eq-eqb b b refl) (inputs new ∙ new_input)
-        (after-outside (order_of table ++ b ∷ []) b new
+        (is_later-outside (order_of table ++ b ∷ []) b new
         (member-append b (order_of table) (b ∷ []) ∙ or_right (member b (order_of table)) (member b (b ∷ [])) (is_in-one b b ∙ eq-eqb b b refl)) new_outside)
         (λ w _ e ne. absurd (ne (eqb-true w b (sym (grown.to_new w) ∙ e))))
 
-    last : (v : ℕ) → v ≡ b → Corrects t (after (order_of table ++ b ∷ [])) v (is_in (set_of (split_output_table b new table) v))
-    last v e = subst (λ x. Corrects t (after (order_of table ++ b ∷ [])) x (is_in (set_of (split_output_table b new table) x))) (sym e)
-        (Corrects-same t (after (order_of table ++ b ∷ [])) b (λ w. eqb w new) (is_in (set_of (split_output_table b new table) b))
+    last : (v : ℕ) → v ≡ b → Corrects t (is_later (order_of table ++ b ∷ [])) v (is_in (set_of (split_output_table b new table) v))
+    last v e = subst (λ x. Corrects t (is_later (order_of table ++ b ∷ [])) x (is_in (set_of (split_output_table b new table) x))) (sym e)
+        (Corrects-same t (is_later (order_of table ++ b ∷ [])) b (λ w. eqb w new) (is_in (set_of (split_output_table b new table) b))
         (λ w. sym (ap (λ l. is_in l w) (set_of-last table entry b_unlisted) ∙ is_in-one new w)) last_b)
 
 first_one : (en l m o : Bool) → l ≡ (m && not o) → (en ≡ true → o ≡ false) → (en || l) ≡ ((en || m) && not o)
@@ -270,31 +268,31 @@ Flows-split_input s t new b table grown at_input plane outputs new_output inputs
 }
   where
     b_not_new : b ≢ new
-    b_not_new = not_new s new b grown.fresh grown.there
+    b_not_new = apart_of_member b new s.ids grown.there grown.fresh
 
-    after_new : (w : ℕ) → w ≢ new → after (new ∷ order_of table) new w ≡ true
-    after_new w ne = ap₂ (λ x y. not x && (y || after (order_of table) new w)) (ne_eqb w new ne) (eq-eqb new new refl)
+    later_new : (w : ℕ) → w ≢ new → is_later (new ∷ order_of table) new w ≡ true
+    later_new w ne = ap₂ (λ x y. not x && (y || is_later (order_of table) new w)) (ne_eqb w new ne) (eq-eqb new new refl)
 
     old_set : (v : ℕ) → v ≢ new → set_of (split_input_table b new table) v ≡ set_of table v
     old_set v ne = ap (λ x. cond x (b ∷ []) (set_of table v)) (ne_eqb v new ne)
 
-    old : (v : ℕ) → member v (order_of table) ≡ true → Corrects t (after (new ∷ order_of table)) v (is_in (set_of (split_input_table b new table) v))
+    old : (v : ℕ) → member v (order_of table) ≡ true → Corrects t (is_later (new ∷ order_of table)) v (is_in (set_of (split_input_table b new table) v))
     old v there =
-        Corrects-same t (after (new ∷ order_of table)) v (is_in (set_of table v)) (is_in (set_of (split_input_table b new table) v))
-        (λ w. ap (λ l. is_in l w) (sym (old_set v (not_new s new v grown.fresh (live s table f v there)))))
-        (Corrects-grown s t (after (order_of table)) (after (new ∷ order_of table)) new b v (is_in (set_of table v)) grown (live s table f v there)
-        (λ w within e. inputs w ∙ ap₂ (λ x y. cond x false (cond y true (s.input w))) (ne_eqb w b (λ g. true≢false (sym at_input ∙ ap s.input (sym g) ∙ e))) (ne_eqb w new (not_new s new w grown.fresh within)) ∙ e)
-        (λ w within e. ap₂ (λ x y. not x && (y || after (order_of table) v w)) (ne_eqb w new (not_new s new w grown.fresh within)) (ne_eqb v new (not_new s new v grown.fresh (live s table f v there))) ∙ e)
+        Corrects-same t (is_later (new ∷ order_of table)) v (is_in (set_of table v)) (is_in (set_of (split_input_table b new table) v))
+        (λ w. ap (λ l. is_in l w) (sym (old_set v (apart_of_member v new s.ids (live s table f v there) grown.fresh))))
+        (Corrects-grown s t (is_later (order_of table)) (is_later (new ∷ order_of table)) new b v (is_in (set_of table v)) grown (live s table f v there)
+        (λ w within e. inputs w ∙ ap₂ (λ x y. cond x false (cond y true (s.input w))) (ne_eqb w b (λ g. true≢false (sym at_input ∙ ap s.input (sym g) ∙ e))) (ne_eqb w new (apart_of_member w new s.ids within grown.fresh)) ∙ e)
+        (λ w within e. ap₂ (λ x y. not x && (y || is_later (order_of table) v w)) (ne_eqb w new (apart_of_member w new s.ids within grown.fresh)) (ne_eqb v new (apart_of_member v new s.ids (live s table f v there) grown.fresh)) ∙ e)
         (λ e. absurd (true≢false (sym at_input ∙ (f.corrects v there).input b e)))
         (f.corrects v there))
 
-    first_new : Corrects t (after (new ∷ order_of table)) new (λ w. eqb w b)
-    first_new = Corrects-one t (after (new ∷ order_of table)) new b grown.distinct_after (grown.ids b ∙ or_right (eqb b new) (member b s.ids) grown.there) (λ e. b_not_new (sym e))
+    first_new : Corrects t (is_later (new ∷ order_of table)) new (λ w. eqb w b)
+    first_new = Corrects-one t (is_later (new ∷ order_of table)) new b grown.distinct_after (grown.ids b ∙ or_right (eqb b new) (member b s.ids) grown.there) (λ e. b_not_new (sym e))
         plane (grown.of_new b ∙ eq-eqb b b refl) (inputs b ∙ ap (λ x. cond x false (cond (eqb b new) true (s.input b))) (eq-eqb b b refl))
-        (after_new b b_not_new)
-        (λ w _ _ ne. after_new w ne)
+        (later_new b b_not_new)
+        (λ w _ _ ne. later_new w ne)
 
-    first : (v : ℕ) → v ≡ new → Corrects t (after (new ∷ order_of table)) v (is_in (set_of (split_input_table b new table) v))
-    first v e = subst (λ x. Corrects t (after (new ∷ order_of table)) x (is_in (set_of (split_input_table b new table) x))) (sym e)
-        (Corrects-same t (after (new ∷ order_of table)) new (λ w. eqb w b) (is_in (set_of (split_input_table b new table) new))
+    first : (v : ℕ) → v ≡ new → Corrects t (is_later (new ∷ order_of table)) v (is_in (set_of (split_input_table b new table) v))
+    first v e = subst (λ x. Corrects t (is_later (new ∷ order_of table)) x (is_in (set_of (split_input_table b new table) x))) (sym e)
+        (Corrects-same t (is_later (new ∷ order_of table)) new (λ w. eqb w b) (is_in (set_of (split_input_table b new table) new))
         (λ w. sym (ap (λ x. is_in (cond x (b ∷ []) (set_of table new)) w) (eq-eqb new new refl) ∙ is_in-one b w)) first_new)

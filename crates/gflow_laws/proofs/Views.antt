@@ -1,8 +1,8 @@
 -- What a flow sees of the graph that a rewrite leads to.
-use Rattle.std.proofs.Common.{◌≡◌, ◌≢◌, refl, sym, ◌∙◌, ap, ap₂, subst, ⊎_elim, ℕ, Bool, true, false, cond, not, ◌&&◌, ◌||◌, eqb, ltb, List, [], ◌∷◌, eq-eqb, ne_eqb}
-use Rattle.std.proofs.lemmas.Bool.{cases_Bool, cases_eq, true≢false, eqb-false, false_from_ne_true, or_parts}
+use Rattle.std.proofs.Common.{◌≡◌, ◌≢◌, refl, sym, ◌∙◌, ap, ⊎_elim, ℕ, Bool, true, false, cond, not, ◌&&◌, eqb, eq-eqb, ne_eqb}
+use Rattle.std.proofs.lemmas.Bool.{cases_eq, true≢false}
 use Rattle.zx_model.specs.Bits.{xor, member}
-use Rattle.zx_calculus.specs.Graph.{Plane, XY, XZ, YZ, Kind, Vertex, End, Graph, ids, kind_of, joined, places, is_XY, OrderedEnds, WellFormed, with_kinds, without, insert_vertex}
+use Rattle.zx_calculus.specs.Graph.{Plane, XY, XZ, YZ, Kind, Graph, ids, kind_of, joined, places, WellFormed, with_kinds, without}
 use Rattle.zx_calculus.specs.Turns.{quarter_turned_in, half_turned_in, complemented_in, half_turned}
 use Rattle.zx_calculus.specs.Complement.{complement_kind, IsLocalComplement}
 pub use Rattle.zx_calculus.proofs.Ids.{Distinct-rising}
@@ -11,36 +11,9 @@ pub use Rattle.zx_calculus.proofs.Forms.{ids-without}
 pub use Rattle.zx_calculus.proofs.Vertices.{ids-with_kinds, kind_of-with_kinds, kind_of-without, member-insert}
 pub use Rattle.zx_calculus.proofs.Splitting.{joined-self, joined-absent}
 use Rattle.gflow_laws.specs.Seen.{seen, complemented, complemented_plane, turned_plane}
-use Rattle.gflow_laws.specs.Correcting.{Alike, Distinct, Simple}
+use Rattle.gflow_laws.specs.Correcting.{Alike, Simple}
 use Rattle.gflow_laws.proofs.Linear.{removed, member-removed}
 use Rattle.gflow_laws.proofs.Removal.{removed_from}
-use Rattle.gflow_laws.proofs.Lists.{list_all-at}
-
-pub Distinct-insert_vertex : (n : Vertex) (vs : List Vertex) → member n.id (ids vs) ≡ false → Distinct (ids vs) → Distinct (ids (insert_vertex n vs))
-Distinct-insert_vertex n [] fresh d = (refl, tt)
-Distinct-insert_vertex n (v ∷ vs) fresh d = ⊎_elim
-    (λ e. subst (λ b. Distinct (ids (cond b (n ∷ (v ∷ vs)) (v ∷ insert_vertex n vs)))) (sym e) (fresh, d))
-    (λ e. subst (λ b. Distinct (ids (cond b (n ∷ (v ∷ vs)) (v ∷ insert_vertex n vs)))) (sym e) (
-      member-insert v.id n vs ∙ ap₂ (λ a b. a || b) (ne_eqb v.id n.id (λ f. eqb-false n.id v.id (or_parts (eqb n.id v.id) (member n.id (ids vs)) fresh).0 (sym f))) d.0,
-      Distinct-insert_vertex n vs (or_parts (eqb n.id v.id) (member n.id (ids vs)) fresh).1 d.1,
-    ))
-    (cases_Bool (ltb n.id v.id))
-
-two_tests : (a b : Bool) (x y z : Kind) → (a && b) ≡ false → cond a x (cond b y z) ≡ cond b y (cond a x z)
-two_tests true true x y z e = absurd (true≢false e)
-two_tests true false x y z e = refl
-two_tests false b x y z e = refl
-
-pub kind_of-insert_vertex : (n : Vertex) (vs : List Vertex) (w : ℕ) → member n.id (ids vs) ≡ false → kind_of (insert_vertex n vs) w ≡ cond (eqb w n.id) n.kind (kind_of vs w)
-kind_of-insert_vertex n [] w fresh = refl
-kind_of-insert_vertex n (v ∷ vs) w fresh = ⊎_elim
-    (λ e. ap (λ b. kind_of (cond b (n ∷ (v ∷ vs)) (v ∷ insert_vertex n vs)) w) e)
-    (λ e. ap (λ b. kind_of (cond b (n ∷ (v ∷ vs)) (v ∷ insert_vertex n vs)) w) e
-    ∙ ap (λ k. cond (eqb w v.id) v.kind k) (kind_of-insert_vertex n vs w (or_parts (eqb n.id v.id) (member n.id (ids vs)) fresh).1)
-    ∙ two_tests (eqb w v.id) (eqb w n.id) v.kind n.kind (kind_of vs w)
-    (⊎_elim (λ f. ap (λ b. b && eqb w n.id) (eq-eqb w v.id f) ∙ ne_eqb w n.id (λ g. eqb-false n.id v.id (or_parts (eqb n.id v.id) (member n.id (ids vs)) fresh).0 (sym g ∙ f)))
-    (λ ne. ap (λ b. b && eqb w n.id) (ne_eqb w v.id ne)) (cases_eq w v.id)))
-    (cases_Bool (ltb n.id v.id))
 
 -- a well-formed graph is simple
 pub Simple-seen : (g : Graph) → WellFormed g → Simple (seen g)
@@ -49,16 +22,6 @@ Simple-seen g wf = record {
   symmetric = joined_comm g.edges;
   no_loop = λ p. joined-self g.edges p wf.edges.lower_first;
 }
-
-pub is_XY-true : (p : Plane) → is_XY p ≡ true → p ≡ XY
-is_XY-true XY e = refl
-is_XY-true XZ e = absurd (true≢false (sym e))
-is_XY-true YZ e = absurd (true≢false (sym e))
-
--- a vertex that isn't XY holds no end
-pub no_end : (vertices : List Vertex) (ends : List End) (u : ℕ) → OrderedEnds vertices ends → (kind_of vertices u).plane ≢ XY → member u (places ends) ≡ false
-no_end vertices ends u ordered plane = false_from_ne_true (member u (places ends)) (λ h.
-    plane (is_XY-true (kind_of vertices u).plane (list_all-at (λ v. is_XY (kind_of vertices v).plane) (places ends) u ordered.at_XY h)))
 
 plane-quarter : (p : Plane) (k : ℕ) → (quarter_turned_in p k).plane ≡ turned_plane p
 plane-quarter XY k = refl

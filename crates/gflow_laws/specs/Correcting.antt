@@ -5,7 +5,7 @@ use Rattle.zx_model.specs.Bits.{member}
 pub use Rattle.zx_calculus.specs.Graph.{Distinct}
 use Rattle.zx_calculus.specs.Graph.{Plane, XY, XZ, YZ}
 use Rattle.gflow_laws.specs.Seen.{Seen, odd}
-use Rattle.gflow_laws.specs.Flow.{Correction, order_of, set_of, is_in, after}
+use Rattle.gflow_laws.specs.Flow.{Correction, order_of, set_of, is_in, is_later}
 
 -- a simple graph
 pub record Simple (s : Seen) : Type 0 where
@@ -51,4 +51,4 @@ pub record Alike (s t : Seen) : Type 0 where
 pub record FlowAsFunctions (s : Seen) (table : List Correction) : Type 0 where
   pub each_once : Distinct (order_of table)
   pub non_outputs : (v : ℕ) → member v (order_of table) ≡ (member v s.ids && not (s.output v))
-  pub corrects : (v : ℕ) → member v (order_of table) ≡ true → Corrects s (after (order_of table)) v (is_in (set_of table v))
+  pub corrects : (v : ℕ) → member v (order_of table) ≡ true → Corrects s (is_later (order_of table)) v (is_in (set_of table v))

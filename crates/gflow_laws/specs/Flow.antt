@@ -3,7 +3,7 @@
 -- computation" (New J. Phys. 9, 250, 2007); for three planes Backens, Miller-Bakewell, de Felice, Lobski and van
 -- de Wetering, "There and back again: a circuit extraction tale" (Quantum 5, 421, 2021). There the
 -- order is partial; here it is a list, in which the vertices stand by that order.
-use Rattle.std.specs.Prelude.{◌≡◌, ℕ, Bool, true, false, cond, not, ◌&&◌, ◌||◌, eqb, List, [], ◌∷◌}
+use Rattle.std.specs.Prelude.{◌≡◌, ℕ, Bool, true, false, if◌then◌else◌, not, ◌&&◌, ◌||◌, ◌==◌, List, [], ◌∷◌}
 use Rattle.std.specs.List.{list_all}
 use Rattle.zx_model.specs.Bits.{member}
 use Rattle.zx_calculus.specs.Graph.{Plane, XY, XZ, YZ, Graph, in_order, different}
@@ -22,7 +22,7 @@ order_of (e ∷ es) = e.vertex ∷ order_of es
 -- the correction set of v
 abbrev pub set_of : List Correction → ℕ → List ℕ
 set_of [] v = []
-set_of (e ∷ es) v = cond (eqb v e.vertex) e.members (set_of es v)
+set_of (e ∷ es) v = if v == e.vertex then e.members else set_of es v
 
 -- whether a number is among the members of a set
 abbrev pub is_in : List ℕ → ℕ → Bool
@@ -30,9 +30,9 @@ is_in members w = member w members
 
 -- whether w comes after v: v stands in the order, and w doesn't stand there up to v.
 -- So whatever isn't in the order, as the outputs, comes after all that is
-abbrev pub after : List ℕ → ℕ → ℕ → Bool
-after [] v w = false
-after (x ∷ xs) v w = not (eqb w x) && (eqb v x || after xs v w)
+abbrev pub is_later : List ℕ → ℕ → ℕ → Bool
+is_later [] v w = false
+is_later (x ∷ xs) v w = not (w == x) && ((v == x) || is_later xs v w)
 
 -- no member of the set is an input
 abbrev pub input_holds : Seen → List ℕ → Bool
@@ -40,11 +40,11 @@ input_holds s members = list_all (λ w. not (s.input w)) members
 
 -- each member of the set other than v comes after v
 abbrev pub order_holds : List ℕ → ℕ → List ℕ → Bool
-order_holds order v members = list_all (λ w. eqb w v || after order v w) members
+order_holds order v members = list_all (λ w. (w == v) || is_later order v w) members
 
 -- each vertex with an odd number of neighbours in the set, other than v, comes after v
 abbrev pub odd_holds : Seen → List ℕ → ℕ → List ℕ → Bool
-odd_holds s order v members = list_all (λ w. not (odd s (is_in members) w) || (eqb w v || after order v w)) s.ids
+odd_holds s order v members = list_all (λ w. not (odd s (is_in members) w) || ((w == v) || is_later order v w)) s.ids
 
 -- v isn't in the set, and has an odd number of neighbours in it
 abbrev pub XY_holds : Seen → ℕ → List ℕ → Bool

@@ -4,3 +4,4 @@ pub mod Tables
 pub mod Correcting
 pub mod Examples
 pub mod Kept
+pub mod Outputs

@@ -1,7 +1,7 @@
 -- What a generalised flow sees of an open graph: its vertices, what is adjacent, the planes, and the places of
 -- the ends. It sees no phase. Backens, Miller-Bakewell, de Felice, Lobski and van de Wetering, "There and back
 -- again: a circuit extraction tale" (Quantum 5, 421, 2021).
-use Rattle.std.specs.Prelude.{ℕ, Bool, cond, not, ◌&&◌, eqb, List}
+use Rattle.std.specs.Prelude.{ℕ, Bool, if◌then◌else◌, not, ◌&&◌, ◌==◌, List}
 use Rattle.zx_model.specs.Bits.{xor, member}
 use Rattle.zx_calculus.specs.Graph.{Plane, XY, XZ, YZ, Graph, ids, joined, places, plane_of}
 use Rattle.zx_calculus.specs.Parity.{masked}
@@ -42,8 +42,9 @@ turned_plane YZ = XZ
 abbrev pub complemented : Seen → ℕ → Seen
 complemented s u = record {
   ids = s.ids;
-  adjacent = λ p q. not (eqb p q) && xor (s.adjacent p q) (s.adjacent u p && s.adjacent u q);
-  plane = λ p. cond (eqb p u) (complemented_plane (s.plane p)) (cond (s.adjacent u p) (turned_plane (s.plane p)) (s.plane p));
+  adjacent = λ p q. not (p == q) && xor (s.adjacent p q) (s.adjacent u p && s.adjacent u q);
+  plane = λ p.
+      if p == u then complemented_plane (s.plane p) else if s.adjacent u p then turned_plane (s.plane p) else s.plane p;
   input = s.input;
   output = s.output;
 }

@@ -1,7 +1,7 @@
 -- What each rewrite of a graph makes of a flow of it.
 -- Backens, Miller-Bakewell, de Felice, Lobski and van de Wetering, "There and back again: a circuit extraction
 -- tale" (Quantum 5, 421, 2021), where rewrites that preserve the existence of a generalised flow are treated.
-use Rattle.std.specs.Prelude.{ℕ, cond, not, eqb, List, [], ◌∷◌, ◌++◌, filter}
+use Rattle.std.specs.Prelude.{ℕ, if◌then◌else◌, not, ◌==◌, List, [], ◌∷◌, ◌++◌, filter}
 use Rattle.zx_model.specs.Bits.{member}
 use Rattle.zx_calculus.specs.Graph.{Plane, XY, XZ, YZ, Graph, ids}
 use Rattle.zx_calculus.specs.Steps.{Step, LocalComplement, Delete, Pivot, SplitInput, SplitOutput, DropLone, FuseInto, FuseTwin}
@@ -20,7 +20,7 @@ with_sets change (e ∷ es) = record { vertex = e.vertex; members = change e.ver
 -- the table without the set of u
 abbrev pub without_set : ℕ → List Correction → List Correction
 without_set u [] = []
-without_set u (e ∷ es) = cond (eqb u e.vertex) (without_set u es) (e ∷ without_set u es)
+without_set u (e ∷ es) = if u == e.vertex then without_set u es else e ∷ without_set u es
 
 -- the set of u after a local complement about u: u is toggled where it was XY or XZ
 abbrev pub set_about : ℕ → Plane → List ℕ → List ℕ
@@ -32,10 +32,10 @@ set_about u YZ members = members
 -- number of neighbours in it, `own` and u are toggled
 abbrev pub set_beside : Seen → ℕ → List ℕ → List ℕ → List ℕ
 set_beside s u own members =
-    cond (odd s (is_in members) u) (symmetric_difference (symmetric_difference members own) (u ∷ [])) members
+    if odd s (is_in members) u then symmetric_difference (symmetric_difference members own) (u ∷ []) else members
 
 abbrev pub complement_sets : Seen → ℕ → List ℕ → List Correction → List Correction
-complement_sets s u own table = with_sets (λ v members. cond (eqb v u) own (set_beside s u own members)) table
+complement_sets s u own table = with_sets (λ v members. if v == u then own else set_beside s u own members) table
 
 -- the flow after a local complement about u; the order stays
 abbrev pub complement_table : Seen → ℕ → List Correction → List Correction
@@ -50,7 +50,8 @@ pivot_table s u v table =
 -- the flow after u went, which wasn't XY: where u is in a set, that of u is toggled
 abbrev pub removal_table : ℕ → List Correction → List Correction
 removal_table u table =
-    with_sets (λ v members. cond (is_in members u) (symmetric_difference members (set_of table u)) members) (without_set u table)
+    with_sets (λ v members. if is_in members u then symmetric_difference members (set_of table u) else members)
+    (without_set u table)
 
 -- the flow after the output at b moved to a new vertex: b comes last, corrected by the new vertex
 abbrev pub split_output_table : ℕ → ℕ → List Correction → List Correction
@@ -63,7 +64,7 @@ split_input_table b new table = record { vertex = new; members = b ∷ [] } ∷ 
 -- the first of the ids that isn't among the old ones
 abbrev pub new_id : List ℕ → List ℕ → ℕ
 new_id old [] = 0
-new_id old (v ∷ vs) = cond (member v old) (new_id old vs) v
+new_id old (v ∷ vs) = if member v old then new_id old vs else v
 
 -- the vertex that h has and g hasn't
 abbrev pub new_vertex : Graph → Graph → ℕ

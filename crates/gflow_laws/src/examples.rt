@@ -1,13 +1,15 @@
 //! The definitions, tried on small graphs.
 
-ghost use Rattle.std.specs.Prelude.{◌≡◌, true, false, [], ◌∷◌};
+ghost use Rattle.std.specs.Prelude.{◌≡◌, ℕ, true, false, List, [], ◌∷◌};
+ghost use Rattle.zx_calculus.specs.Graph.{XY, XZ, YZ, Graph};
 ghost use Rattle.zx_calculus.specs.Steps.{LocalComplement, Delete, Pivot, DropLone, FuseInto, FuseTwin, SplitInput, SplitOutput};
 ghost use Rattle.zx_calculus.specs.After.{after};
 ghost use Rattle.zx_calculus.specs.Worked.{path_of_three, path_complemented, path_deleted, path_of_four, path_pivoted, twins, twins_reduced, small_gadgets, small_gadgets_reduced};
-ghost use Rattle.gflow_laws.specs.Seen.{seen};
-ghost use Rattle.gflow_laws.specs.Flow.{IsFlow, input_holds, order_holds, odd_holds, XY_holds, XZ_holds, YZ_holds};
+ghost use Rattle.gflow_laws.specs.Seen.{seen, odd};
+ghost use Rattle.gflow_laws.specs.Flow.{Correction, is_in, IsFlowOf, IsFlow, input_holds, order_holds, odd_holds, XY_holds};
 ghost use Rattle.gflow_laws.specs.Tables.{split_input_table, split_output_table, table_after};
-ghost use Rattle.gflow_laws.specs.Examples.{apart, linked, first_by_second, path_table, path_complemented_table, path_deleted_table, path_of_four_table, path_pivoted_table, by_itself};
+ghost use Rattle.gflow_laws.specs.Outputs.{with_row_added, row_added_table, advanced, advanced_table};
+ghost use Rattle.gflow_laws.specs.Examples.{Condition, Input, Order, Odd, PlaneOf, FailsAlone, correct, apart, linked, beside_a_wire, pair, shared_output, beside_an_output, output_with_an_input, adjacent_outputs, by_both, each_by_the_other, first_by_second, path_table, path_complemented_table, path_deleted_table, path_of_four_table, path_pivoted_table, by_itself};
 
 /// An input apart from an output has no flow by this table: at vertex 0 the condition of its plane fails, and
 /// no other does. With an edge between them the table is a flow.
@@ -20,21 +22,30 @@ pub fn two_ends_need_an_edge()
     ensures flow { IsFlow linked first_by_second }
 {}
 
-/// Each condition of a flow can fail.
-pub fn each_condition_can_fail()
+/// Each condition of a flow can be the only one that fails. With the order turned round, or with a set that is right
+/// for the plane, there is a flow.
+pub fn each_condition_fails_alone()
+    // A table of which a condition fails is no flow.
+    ensures no_flow { (g : Graph) (table : List Correction) (v : ℕ) (condition : Condition) →
+        FailsAlone g table v condition → IsFlow g table → ⊥ }
+
     // An input in the set.
-    ensures input { input_holds (seen path_of_three) (0 ∷ []) ≡ false }
+    ensures input { FailsAlone beside_a_wire first_by_second 0 Input }
 
     // A member of the set that doesn't come after the vertex.
-    ensures order { order_holds (0 ∷ 1 ∷ 2 ∷ []) 2 (1 ∷ []) ≡ false }
+    ensures order { FailsAlone pair each_by_the_other 1 Order }
 
     // A vertex with an odd number of neighbours in the set that doesn't come after the vertex.
-    ensures odd { odd_holds (seen path_of_four) (2 ∷ 0 ∷ 1 ∷ []) 0 (1 ∷ []) ≡ false }
-    ensures odd_in_order { odd_holds (seen path_of_four) (0 ∷ 1 ∷ 2 ∷ []) 0 (1 ∷ []) ≡ true }
+    ensures odd { FailsAlone shared_output (correct 0 (3 ∷ []) ∷ correct 1 (2 ∷ []) ∷ []) 1 Odd }
+    ensures odd_in_order { IsFlow shared_output (correct 1 (2 ∷ []) ∷ correct 0 (3 ∷ []) ∷ []) }
 
-    ensures XY { XY_holds (seen path_of_three) 1 (1 ∷ []) ≡ false }
-    ensures XZ { XZ_holds (seen path_complemented) 1 (2 ∷ []) ≡ false }
-    ensures YZ { YZ_holds (seen small_gadgets) 1 (2 ∷ []) ≡ false }
+    // A set that is right for another plane.
+    ensures XY { FailsAlone (beside_an_output XY) by_both 0 (PlaneOf XY) }
+    ensures XZ { FailsAlone (beside_an_output XZ) (by_itself 0 ∷ []) 0 (PlaneOf XZ) }
+    ensures YZ { FailsAlone (beside_an_output YZ) by_both 0 (PlaneOf YZ) }
+    ensures flow_XY { IsFlow (beside_an_output XY) first_by_second }
+    ensures flow_XZ { IsFlow (beside_an_output XZ) by_both }
+    ensures flow_YZ { IsFlow (beside_an_output YZ) (by_itself 0 ∷ []) }
 {}
 
 /// The flow of a path of three, whose middle is complemented about, then deleted.
@@ -89,4 +100,27 @@ pub fn flow_of_small_gadgets()
     ensures table_fused { table_after (after (DropLone 2) small_gadgets) (FuseInto 1) small_gadgets_reduced (by_itself 1 ∷ []) ≡
         [] }
     ensures fused { IsFlow small_gadgets_reduced [] }
+{}
+
+/// Changes at the outputs: output 3 is added to output 2, and where an output has one neighbour, the last vertex
+/// becomes an output in its place.
+pub fn flow_at_the_outputs()
+    ensures table_added { row_added_table 3 2 (correct 1 (2 ∷ []) ∷ correct 0 (3 ∷ []) ∷ []) ≡
+        correct 1 (2 ∷ 3 ∷ []) ∷ correct 0 (3 ∷ []) ∷ [] }
+    ensures added { IsFlowOf (with_row_added (seen shared_output) 3 2)
+        (correct 1 (2 ∷ 3 ∷ []) ∷ correct 0 (3 ∷ []) ∷ []) }
+    ensures table_advanced { advanced_table 3 (correct 1 (2 ∷ 3 ∷ []) ∷ []) ≡ correct 1 (2 ∷ []) ∷ [] }
+    ensures advanced { IsFlowOf (advanced (with_row_added (seen shared_output) 3 2) 3 0) (correct 1 (2 ∷ []) ∷ []) }
+{}
+
+/// What the laws at the outputs suppose is needed.
+pub fn outputs_of_another_kind()
+    // A row that is added from an output with an input brings this input into a set.
+    ensures with_an_input { IsFlow output_with_an_input (correct 0 (2 ∷ []) ∷ []) }
+    ensures added { IsFlowOf (with_row_added (seen output_with_an_input) 1 2)
+        (row_added_table 1 2 (correct 0 (2 ∷ []) ∷ [])) → ⊥ }
+
+    // With an edge between outputs another than the last vertex has an odd number of neighbours in its set.
+    ensures adjacent { IsFlow adjacent_outputs first_by_second }
+    ensures odd { odd (seen adjacent_outputs) (is_in (1 ∷ [])) 2 ≡ true }
 {}

@@ -1,6 +1,6 @@
 //! The laws of flows.
 
-ghost use Rattle.std.specs.Prelude.{◌≡◌, ◌↔◌, ◌&&◌, ℕ, Bool, true, false, eqb, List};
+ghost use Rattle.std.specs.Prelude.{◌≡◌, ◌↔◌, ◌&&◌, ℕ, Bool, true, false, ◌==◌, List};
 ghost use Rattle.zx_model.specs.Bits.{xor, member};
 ghost use Rattle.zx_calculus.specs.Graph.{XY, Graph, ids, plane_of, joined, places, Live, WellFormed};
 ghost use Rattle.zx_calculus.specs.Complement.{IsLocalComplement, IsDelete};
@@ -109,10 +109,10 @@ pub fn sets_correct_their_vertices()
     // in the set.
     ensures complement { (s : Seen) (before : ℕ → ℕ → Bool) (u v : ℕ) (A : ℕ → Bool) →
         Simple s → member u s.ids ≡ true → s.input u ≡ false → member v s.ids ≡ true → Corrects s before v A →
-        Corrects (complemented s u) before v (λ w. xor (A w) (odd s A u && eqb w u)) }
+        Corrects (complemented s u) before v (λ w. xor (A w) (odd s A u && (w == u))) }
 
     // A set serves in each view that agrees on the vertices, and in each order that keeps what comes later.
-    ensures transport { (s t : Seen) (before after : ℕ → ℕ → Bool) (v : ℕ) (A B : ℕ → Bool) →
+    ensures transport { (s t : Seen) (before later : ℕ → ℕ → Bool) (v : ℕ) (A B : ℕ → Bool) →
         Distinct s.ids → Distinct t.ids → Alike s t → member v s.ids ≡ true → ((w : ℕ) → A w ≡ B w) →
-        ((w : ℕ) → before v w ≡ true → after v w ≡ true) → Corrects s before v A → Corrects t after v B }
+        ((w : ℕ) → before v w ≡ true → later v w ≡ true) → Corrects s before v A → Corrects t later v B }
 {}

@@ -19,18 +19,18 @@ lowest-cancel c a b p =
 pub ten_pow_pos : (k : ℕ) → 0 < 10 ^ k
 ten_pow_pos k = pow-le-pow_right (lit< tt) zero-le
 
-pub lowest-raised : (front down e : ℕ) → lowest (pos (front * 10 ^ (down + e))) (10 ^ down) ≡ lowest (pos (front * 10 ^ e)) 1
-lowest-raised front down e =
-    ap (λ x. lowest (pos x) (10 ^ down)) (ap (λ x. front * x) (pow-add 10 down e) ∙ regroup front (10 ^ down) (10 ^ e))
-    ∙ ap (lowest (pos (10 ^ down * (front * 10 ^ e)))) (sym (mul-one (10 ^ down)))
-    ∙ lowest-cancel (10 ^ down) (front * 10 ^ e) 1 (ten_pow_pos down)
+pub lowest-raised : (leading down e : ℕ) → lowest (pos (leading * 10 ^ (down + e))) (10 ^ down) ≡ lowest (pos (leading * 10 ^ e)) 1
+lowest-raised leading down e =
+    ap (λ x. lowest (pos x) (10 ^ down)) (ap (λ x. leading * x) (pow-add 10 down e) ∙ regroup leading (10 ^ down) (10 ^ e))
+    ∙ ap (lowest (pos (10 ^ down * (leading * 10 ^ e)))) (sym (mul-one (10 ^ down)))
+    ∙ lowest-cancel (10 ^ down) (leading * 10 ^ e) 1 (ten_pow_pos down)
   where
     regroup : (a b c : ℕ) → a * (b * c) ≡ b * (a * c)
     regroup a b c = omega arith
 
-pub lowest-lowered : (front up k : ℕ) → lowest (pos (front * 10 ^ up)) (10 ^ (up + k)) ≡ lowest (pos front) (10 ^ k)
-lowest-lowered front up k =
-    ap (λ x. lowest (pos x) (10 ^ (up + k))) (mul_comm front (10 ^ up)) ∙ ap (lowest (pos (10 ^ up * front))) (pow-add 10 up k) ∙ lowest-cancel (10 ^ up) front (10 ^ k) (ten_pow_pos up)
+pub lowest-lowered : (leading up k : ℕ) → lowest (pos (leading * 10 ^ up)) (10 ^ (up + k)) ≡ lowest (pos leading) (10 ^ k)
+lowest-lowered leading up k =
+    ap (λ x. lowest (pos x) (10 ^ (up + k))) (mul_comm leading (10 ^ up)) ∙ ap (lowest (pos (10 ^ up * leading))) (pow-add 10 up k) ∙ lowest-cancel (10 ^ up) leading (10 ^ k) (ten_pow_pos up)
 
 gcd-one : (n : ℕ) → gcd n 1 ≡ 1
 gcd-one n = eq-one_of_dvd-one (IsGcd-gcd n 1).1
@@ -86,17 +86,17 @@ module _ (m b t : ℕ) (positive : 0 < b) (some : 0 < t) where
 pub ten_pow_mono : (j k : ℕ) → j ≤ k → 10 ^ j ≤ 10 ^ k
 ten_pow_mono j k h = pow-le-pow_right (lit< tt) h
 
-pub none-raised : (front tens : ℕ) → 0 < front → (largest < front) ⊎ (18 < tens) → None ≡ limited (lowest (pos (front * 10 ^ tens)) 1)
-none-raised front tens p (inl h) = sym (none-whole _ (omega (arith, le-mul_of_pos_right front (ten_pow_pos tens))))
-none-raised front tens p (inr h) = sym (none-whole _ (omega (arith, ten_pow_mono 19 tens h, mul-le-mul_right (10 ^ tens) p, one-mul (10 ^ tens))))
+pub none-raised : (leading tens : ℕ) → 0 < leading → (largest < leading) ⊎ (18 < tens) → None ≡ limited (lowest (pos (leading * 10 ^ tens)) 1)
+none-raised leading tens p (inl h) = sym (none-whole _ (omega (arith, le-mul_of_pos_right leading (ten_pow_pos tens))))
+none-raised leading tens p (inr h) = sym (none-whole _ (omega (arith, ten_pow_mono 19 tens h, mul-le-mul_right (10 ^ tens) p, one-mul (10 ^ tens))))
 
-pub lowered_in_two : (front tens first second : ℕ) → 38 ≤ tens → first ≡ 10 ^ 38 → second ≡ 10 ^ (tens - 38) → limited (lowest (pos front) (first * second)) ≡ limited (lowest (pos front) (10 ^ tens))
-lowered_in_two front tens first second h e f =
+pub lowered_in_two : (leading tens first second : ℕ) → 38 ≤ tens → first ≡ 10 ^ 38 → second ≡ 10 ^ (tens - 38) → limited (lowest (pos leading) (first * second)) ≡ limited (lowest (pos leading) (10 ^ tens))
+lowered_in_two leading tens first second h e f =
     let sum : 38 + (tens - 38) ≡ tens = omega arith in
-    ap (λ x. limited (lowest (pos front) x)) (ap (λ x. x * second) e ∙ ap (λ x. 10 ^ 38 * x) f ∙ sym (pow-add 10 38 (tens - 38)) ∙ ap (λ x. 10 ^ x) sum)
+    ap (λ x. limited (lowest (pos leading) x)) (ap (λ x. x * second) e ∙ ap (λ x. 10 ^ 38 * x) f ∙ sym (pow-add 10 38 (tens - 38)) ∙ ap (λ x. 10 ^ x) sum)
 
-pub none-lowered : (front tens : ℕ) → 0 < front → front < 10 ^ 38 → 57 ≤ tens → None ≡ limited (lowest (pos front) (10 ^ tens))
-none-lowered front tens p h q = sym (none-small front (10 ^ tens) p (omega (arith, ten_pow_mono 57 tens q)))
+pub none-lowered : (leading tens : ℕ) → 0 < leading → leading < 10 ^ 38 → 57 ≤ tens → None ≡ limited (lowest (pos leading) (10 ^ tens))
+none-lowered leading tens p h q = sym (none-small leading (10 ^ tens) p (omega (arith, ten_pow_mono 57 tens q)))
 
 lowest-zero : (b : ℕ) → 0 < b → lowest (pos 0) b ≡ whole (pos 0)
 unfolding lowest
@@ -104,24 +104,24 @@ lowest-zero b p =
     let divisor : gcd 0 b ≡ b = gcd-step 0 b p ∙ ap (gcd b) (zero-mod b) ∙ gcd-zero b in
     rw (divisor, zero-div, div_self p) refl
 
-pub zero-scaled : (front raised lowered : ℕ) → front ≡ 0 → Some (whole (pos 0)) ≡ limited (lowest (pos (front * 10 ^ raised)) (10 ^ lowered))
-zero-scaled front raised lowered e =
-    let none : front * 10 ^ raised ≡ 0 = ap (λ x. x * 10 ^ raised) e ∙ zero-mul (10 ^ raised) in
+pub zero-scaled : (leading raised lowered : ℕ) → leading ≡ 0 → Some (whole (pos 0)) ≡ limited (lowest (pos (leading * 10 ^ raised)) (10 ^ lowered))
+zero-scaled leading raised lowered e =
+    let none : leading * 10 ^ raised ≡ 0 = ap (λ x. x * 10 ^ raised) e ∙ zero-mul (10 ^ raised) in
     rw (none, lowest-zero (10 ^ lowered) (ten_pow_pos lowered)) (sym (limited-some (whole (pos 0)) zero-le (lit≤ tt)))
 
-pub raised-scaled : (front raised lowered : ℕ) → lowered ≤ raised → limited (lowest (pos (front * 10 ^ (raised - lowered))) 1) ≡ limited (lowest (pos (front * 10 ^ raised)) (10 ^ lowered))
-raised-scaled front raised lowered h =
+pub raised-scaled : (leading raised lowered : ℕ) → lowered ≤ raised → limited (lowest (pos (leading * 10 ^ (raised - lowered))) 1) ≡ limited (lowest (pos (leading * 10 ^ raised)) (10 ^ lowered))
+raised-scaled leading raised lowered h =
     let sum : lowered + (raised - lowered) ≡ raised = omega arith in
-    ap limited (sym (lowest-raised front lowered (raised - lowered)) ∙ ap (λ x. lowest (pos (front * 10 ^ x)) (10 ^ lowered)) sum)
+    ap limited (sym (lowest-raised leading lowered (raised - lowered)) ∙ ap (λ x. lowest (pos (leading * 10 ^ x)) (10 ^ lowered)) sum)
 
-pub lowered-scaled : (front raised lowered : ℕ) → raised ≤ lowered → limited (lowest (pos front) (10 ^ (lowered - raised))) ≡ limited (lowest (pos (front * 10 ^ raised)) (10 ^ lowered))
-lowered-scaled front raised lowered h =
+pub lowered-scaled : (leading raised lowered : ℕ) → raised ≤ lowered → limited (lowest (pos leading) (10 ^ (lowered - raised))) ≡ limited (lowest (pos (leading * 10 ^ raised)) (10 ^ lowered))
+lowered-scaled leading raised lowered h =
     let sum : raised + (lowered - raised) ≡ lowered = omega arith in
-    ap limited (sym (lowest-lowered front raised (lowered - raised)) ∙ ap (λ x. lowest (pos (front * 10 ^ raised)) (10 ^ x)) sum)
+    ap limited (sym (lowest-lowered leading raised (lowered - raised)) ∙ ap (λ x. lowest (pos (leading * 10 ^ raised)) (10 ^ x)) sum)
 
 -- what the code computes by two divisions
-pub computed-twice : (front first second g : ℕ) → front < 2 ^ 127 → 0 < first → 0 < second → g ≡ gcd front first →
-    limited (lowest (to_z w128 (front / g)) ((first / g) * second)) ≡ limited (lowest (pos front) (first * second))
-computed-twice front first second g small p q e =
-    let fits : front / g < 2 ^ 127 = omega (arith, div-le_self front g) in
-    rw (to_z_pos w128 (front / g) fits, e) (ap limited (sym (lowest-twice front first second p q)))
+pub computed-twice : (leading first second g : ℕ) → leading < 2 ^ 127 → 0 < first → 0 < second → g ≡ gcd leading first →
+    limited (lowest (to_z w128 (leading / g)) ((first / g) * second)) ≡ limited (lowest (pos leading) (first * second))
+computed-twice leading first second g small p q e =
+    let fits : leading / g < 2 ^ 127 = omega (arith, div-le_self leading g) in
+    rw (to_z_pos w128 (leading / g) fits, e) (ap limited (sym (lowest-twice leading first second p q)))

@@ -6,3 +6,4 @@ pub mod DecimalLemmas
 pub mod SignificandLemmas
 pub mod LiteralLemmas
 pub mod LowestLemmas
+pub mod ShortCuts

@@ -6,9 +6,10 @@ use Rattle.std.proofs.lemmas.Nat.{pow-add}
 use Rattle.std.proofs.lemmas.Bool.{cases_lt, ltb-false}
 use Rattle.std.proofs.lemmas.Bool.Decides.{nat_tests}
 use Rattle.std.proofs.lemmas.List.Sums.{prefix_len-le-length}
+use Rattle.std.specs.Char.{is_ascii_digit}
 use Rattle.std.specs.List.{position, position_or_len}
 use Rattle.qasm_angle.specs.Ratio.{lowest, limited}
-use Rattle.qasm_angle.specs.Literals.{is_digit, digits_of, number_from, number_of, significant, most_significant, decimal, is_negative, size_of, places_of, value_of_parts}
+use Rattle.qasm_angle.specs.Literals.{digits_of, number_from, number_of, significant, most_significant, decimal, is_negative, size_of, places_of, value_of_parts}
 use Rattle.qasm_angle.proofs.DecimalLemmas.{ten_pow_mono, none-small, none-raised, raised-scaled, zero-scaled}
 
 some_by : (found : Bool) (n i : ℕ) → ◌≡◌ {A = Option ℕ} (Some i) (cond found (Some n) None) → i ≡ n
@@ -33,12 +34,12 @@ module _ (p : ℕ → Bool) (text : List ℕ) where
   pub place-within : (i : ℕ) → i ≡ position_or_len p text → i ≤ length text
   place-within i e = omega (arith, within, e)
 
--- the digits with zeros behind them
-pub decimal-from : (digits : List ℕ) (front zeros raised lowered : ℕ) → ltb most_significant (significant digits) ≡ false → number_of digits ≡ front * 10 ^ zeros →
-    limited (lowest (pos (front * 10 ^ (zeros + raised))) (10 ^ lowered)) ≡ decimal digits raised lowered
+-- the digits with zeros after them
+pub decimal-from : (digits : List ℕ) (leading zeros raised lowered : ℕ) → ltb most_significant (significant digits) ≡ false → number_of digits ≡ leading * 10 ^ zeros →
+    limited (lowest (pos (leading * 10 ^ (zeros + raised))) (10 ^ lowered)) ≡ decimal digits raised lowered
 unfolding decimal
-decimal-from digits front zeros raised lowered few number =
-    let regroup : front * 10 ^ (zeros + raised) ≡ number_of digits * 10 ^ raised = omega (arith, ap (λ x. front * x) (pow-add 10 zeros raised), ap (λ x. x * 10 ^ raised) number) in
+decimal-from digits leading zeros raised lowered few number =
+    let regroup : leading * 10 ^ (zeros + raised) ≡ number_of digits * 10 ^ raised = omega (arith, ap (λ x. leading * x) (pow-add 10 zeros raised), ap (λ x. x * 10 ^ raised) number) in
     rw few (ap (λ x. limited (lowest (pos x) (10 ^ lowered))) regroup)
 
 pub decimal-none : (digits : List ℕ) (raised lowered : ℕ) → ltb most_significant (significant digits) ≡ true → None ≡ decimal digits raised lowered
@@ -53,17 +54,17 @@ unfolding decimal
 decimal-same digits raised lowered raised' lowered' e = ap (λ r. cond (ltb most_significant (significant digits)) None r) e
 
 -- a number is below ten to the number of its bytes
-below_by : (digit : Bool) (b front : ℕ) (bytes : List ℕ) → is_digit b ≡ digit → ((n : ℕ) → number_from n (digits_of bytes) < (n + 1) * 10 ^ length bytes) →
-    number_from front (cond digit ((b - 48) ∷ digits_of bytes) (digits_of bytes)) < (front + 1) * 10 ^ suc (length bytes)
-below_by true b front bytes e h =
-    let small : (10 * front + (b - 48)) + 1 ≤ (front + 1) * 10 = grind (arith, nat_tests) in
-    omega (arith, h (10 * front + (b - 48)), mul-le-mul_right (10 ^ length bytes) small, ap (λ x. (front + 1) * x) (pow-succ' 10 (length bytes)))
-below_by false b front bytes e h =
-    omega (arith, h front, ap (λ x. (front + 1) * x) (pow-succ' 10 (length bytes)))
+below_by : (digit : Bool) (b leading : ℕ) (bytes : List ℕ) → is_ascii_digit b ≡ digit → ((n : ℕ) → number_from n (digits_of bytes) < (n + 1) * 10 ^ length bytes) →
+    number_from leading (cond digit ((b - 48) ∷ digits_of bytes) (digits_of bytes)) < (leading + 1) * 10 ^ suc (length bytes)
+below_by true b leading bytes e h =
+    let small : (10 * leading + (b - 48)) + 1 ≤ (leading + 1) * 10 = grind (arith, nat_tests) in
+    omega (arith, h (10 * leading + (b - 48)), mul-le-mul_right (10 ^ length bytes) small, ap (λ x. (leading + 1) * x) (pow-succ' 10 (length bytes)))
+below_by false b leading bytes e h =
+    omega (arith, h leading, ap (λ x. (leading + 1) * x) (pow-succ' 10 (length bytes)))
 
-number_below : (bytes : List ℕ) (front : ℕ) → number_from front (digits_of bytes) < (front + 1) * 10 ^ length bytes
-number_below [] front = omega arith
-number_below (b ∷ bytes) front = below_by (is_digit b) b front bytes refl (number_below bytes)
+number_below : (bytes : List ℕ) (leading : ℕ) → number_from leading (digits_of bytes) < (leading + 1) * 10 ^ length bytes
+number_below [] leading = omega arith
+number_below (b ∷ bytes) leading = below_by (is_ascii_digit b) b leading bytes refl (number_below bytes)
 
 -- far past the limit
 far_raised : (number raised lowered : ℕ) → 0 < number → lowered + 19 ≤ raised → limited (lowest (pos (number * 10 ^ raised)) (10 ^ lowered)) ≡ None
@@ -103,15 +104,15 @@ module _ (bytes : List ℕ) (size places most : ℕ) where
         | inr fits ↦ ap (λ x. decimal (digits_of bytes) 0 x) (omega arith)
       ]
 
--- digits behind a number make it no smaller
-number_from-le : (front : ℕ) (digits : List ℕ) → front ≤ number_from front digits
-number_from-le front [] = omega arith
-number_from-le front (d ∷ digits) = omega (arith, number_from-le (10 * front + d) digits)
+-- digits after a number make it no smaller
+number_from-le : (leading : ℕ) (digits : List ℕ) → leading ≤ number_from leading digits
+number_from-le leading [] = omega arith
+number_from-le leading (d ∷ digits) = omega (arith, number_from-le (10 * leading + d) digits)
 
 -- a number that is cut at the largest one may go on from there
-number_from-min : (front most : ℕ) (digits : List ℕ) → min (number_from (min front most) digits) most ≡ min (number_from front digits) most
-number_from-min front most digits = elim (cases_lt most front) [
-  | inl larger ↦ omega (arith, number_from-le front digits, number_from-le (min front most) digits)
+number_from-min : (leading most : ℕ) (digits : List ℕ) → min (number_from (min leading most) digits) most ≡ min (number_from leading digits) most
+number_from-min leading most digits = elim (cases_lt most leading) [
+  | inl larger ↦ omega (arith, number_from-le leading digits, number_from-le (min leading most) digits)
   | inr fits ↦ ap (λ x. min (number_from x digits) most) (omega arith)
 ]
 
@@ -120,7 +121,7 @@ pub size-digit : (size most digit : ℕ) (digits : List ℕ) → min (number_fro
 size-digit size most digit digits =
     ap (λ x. min (number_from x digits) most) (omega arith) ∙ number_from-min (10 * size + digit) most digits
 
-pub size-byte : (size most byte tens digit next : ℕ) → is_digit byte ≡ true → tens ≡ min (size * 10) most → digit ≡ byte - 48 → next ≡ min (tens + digit) most →
+pub size-byte : (size most byte tens digit next : ℕ) → is_ascii_digit byte ≡ true → tens ≡ min (size * 10) most → digit ≡ byte - 48 → next ≡ min (tens + digit) most →
     (rest : List ℕ) → min (number_from next (digits_of rest)) most ≡ min (number_from size (digits_of (byte ∷ rest))) most
 size-byte size most byte tens digit next is_one e f g rest =
     rw (g, f, e, is_one) (size-digit size most (byte - 48) (digits_of rest))

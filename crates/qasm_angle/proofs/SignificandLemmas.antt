@@ -6,11 +6,11 @@ use Rattle.std.proofs.lemmas.Bool.Decides.{nat_tests}
 use Rattle.std.proofs.Math.Nat.{pow-succ'}
 use Rattle.std.proofs.Math.Numerals.{add-one}
 use Rattle.qasm_angle.proofs.DecimalLemmas.{ten_pow_mono}
-use Rattle.qasm_angle.specs.Literals.{is_digit, digits_of, number_from, significant, most_significant, count_to_last}
-use Rattle.qasm_angle.specs.Significands.{next_count, overlong, IsSignificand, Keeps}
+use Rattle.qasm_angle.specs.Literals.{digits_of, number_from, significant, most_significant, count_to_last}
+use Rattle.qasm_angle.specs.Internal.Significands.{next_count, overlong, IsSignificand, Keeps}
 use Rattle.qasm_angle.specs.declared.significand.Significand.{Significand}
 
--- how many digits there are up to the last one other than 0, where so many stand in front
+-- how many digits there are up to the last one other than 0, where so many stand before
 abbrev reach : ℕ → ℕ → ℕ
 reach count last = cond (eqb last 0) 0 (count + last)
 
@@ -46,38 +46,35 @@ overlong-significant (d ∷ digits) = first-step d digits (eqb d 0) refl (overlo
 ten_more : (k : ℕ) → 10 ^ (k + 1) ≡ 10 * 10 ^ k
 ten_more k = ap (λ n. 10 ^ n) (add-one k) ∙ pow-succ' 10 k
 
--- a zero behind the front
+-- a zero after the prefix
 pub Keeps-zero : (s : Significand) (d : ℕ) (rest digits : List ℕ) → most_significant ≤ s.count → d ≡ 0 →
-    Keeps s (d ∷ rest) digits → Keeps (record { front = s.front; count = s.count; zeros = s.zeros + 1 }) rest digits
+    Keeps s (d ∷ rest) digits → Keeps (record { leading = s.leading; count = s.count; zeros = s.zeros + 1 }) rest digits
 Keeps-zero s d rest digits full e h =
-    let longer : s.front * 10 ^ (s.zeros + 1) ≡ 10 * (s.front * 10 ^ s.zeros) + d = omega (arith, ap (λ x. s.front * x) (ten_more s.zeros)) in
+    let longer : s.leading * 10 ^ (s.zeros + 1) ≡ 10 * (s.leading * 10 ^ s.zeros) + d = omega (arith, ap (λ x. s.leading * x) (ten_more s.zeros)) in
     let one_more : s.count + (s.zeros + 1) ≡ next_count (s.count + s.zeros) d = omega (arith, next_count-some (s.count + s.zeros) d (omega arith)) in
     let none : eqb d 0 ≡ true = grind arith in
-    let front = ap (λ b. (not b && leb 38 (s.count + s.zeros)) || overlong (next_count (s.count + s.zeros) d) rest) none in
+    let leading = ap (λ b. (not b && leb 38 (s.count + s.zeros)) || overlong (next_count (s.count + s.zeros) d) rest) none in
     record {
       number = ap (λ n. number_from n rest) longer ∙ h.number;
-      length = ap (λ n. overlong n rest) one_more ∙ sym front ∙ h.length;
+      length = ap (λ n. overlong n rest) one_more ∙ sym leading ∙ h.length;
     }
 
--- a number below a power of ten, with a digit behind it
-pub more_digits : (front count digit : ℕ) → front < 10 ^ count → count < 38 → digit < 10 → front * 10 + digit < 10 ^ 38
-more_digits front count digit h p q = omega (arith, ten_pow_mono count 37 (omega arith))
+-- a number below a power of ten, with a digit after it
+pub more_digits : (leading count digit : ℕ) → leading < 10 ^ count → count < 38 → digit < 10 → leading * 10 + digit < 10 ^ 38
+more_digits leading count digit h p q = omega (arith, ten_pow_mono count 37 (omega arith))
 
 -- before the first digit
-pub IsSignificand-start : IsSignificand (record { front = 0; count = 0; zeros = 0 })
+pub IsSignificand-start : IsSignificand (record { leading = 0; count = 0; zeros = 0 })
 IsSignificand-start = record { small = omega arith; few = omega arith; nonzero = λ h. absurd (omega arith); full = λ h. absurd (omega arith) }
 
-pub Keeps-start : (digits : List ℕ) → Keeps (record { front = 0; count = 0; zeros = 0 }) digits digits
+pub Keeps-start : (digits : List ℕ) → Keeps (record { leading = 0; count = 0; zeros = 0 }) digits digits
 Keeps-start digits = record { number = refl; length = overlong-significant digits }
 
-pub is_digit-ascii : (b : ℕ) → is_ascii_digit b ≡ true → is_digit b ≡ true
-is_digit-ascii b h = grind (arith, nat_tests)
-
-digits_of-digit : (b : ℕ) (rest : List ℕ) → is_digit b ≡ true → digits_of (b ∷ rest) ≡ (b - 48) ∷ digits_of rest
+digits_of-digit : (b : ℕ) (rest : List ℕ) → is_ascii_digit b ≡ true → digits_of (b ∷ rest) ≡ (b - 48) ∷ digits_of rest
 digits_of-digit b rest e = ap (λ d. cond d ((b - 48) ∷ digits_of rest) (digits_of rest)) e
 
 -- a byte that is a digit is that digit
-pub Keeps-digit : (s : Significand) (b : ℕ) (r : Option Significand) → is_digit b ≡ true →
+pub Keeps-digit : (s : Significand) (b : ℕ) (r : Option Significand) → is_ascii_digit b ≡ true →
     IfSome r (λ t. (rest digits : List ℕ) → Keeps s ((b - 48) ∷ rest) digits → Keeps t rest digits) →
     IfSome r (λ t. (rest digits : List ℕ) → Keeps s (digits_of (b ∷ rest)) digits → Keeps t (digits_of rest) digits)
 Keeps-digit s b None e h = tt

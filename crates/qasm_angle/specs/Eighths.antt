@@ -1,24 +1,24 @@
 -- Angles that are whole numbers of eighth turns, n*pi/4. The angle of a T gate is pi/4.
 use Rattle.std.specs.Prelude.{◌≡◌, ℕ, ◌/◌, ◌%◌, ◌==◌, ℤ, pos, ◌*ℤ◌, unsigned_abs, Option, Some, None, if◌then◌else◌, option_map}
 use Rattle.std.specs.Int.{int_rem_euclid}
-use Rattle.zx_model.specs.Phase.{turn}
+use Rattle.zx_model.specs.Phase.{turn, half_turn}
 use Rattle.qasm_angle.specs.Ratio.{Ratio, is_zero}
 use Rattle.qasm_angle.specs.declared.angle.Angle.{Angle}
 
--- the angle is n*pi/4
+-- the angle is n eighth turns, where pi is a half turn
 pub record IsEighths (a : Angle) (n : ℤ) : Type 0 where
   pub rational : a.rational.numerator ≡ pos 0
-  pub multiple : pos 4 *ℤ a.multiple.numerator ≡ n *ℤ pos a.multiple.denominator
+  pub multiple : pos half_turn *ℤ a.multiple.numerator ≡ n *ℤ pos a.multiple.denominator
 
--- 4*s, where it is whole: where the denominator of s in lowest terms divides 4
+-- a half turn times s, where it is whole: where the denominator of s in lowest terms divides a half turn
 abbrev pub quarters_of : Ratio → Option ℤ
-quarters_of s = if 4 % s.denominator == 0 then Some (s.numerator *ℤ pos (4 / s.denominator)) else None
+quarters_of s = if half_turn % s.denominator == 0 then Some (s.numerator *ℤ pos (half_turn / s.denominator)) else None
 
--- the n for which an angle in lowest terms is n*pi/4, if there is one
+-- the n for which an angle in lowest terms is n eighth turns, if there is one
 abbrev pub eighths_of : Angle → Option ℤ
 eighths_of a = if is_zero a.rational then quarters_of a.multiple else None
 
--- the whole number n without whole turns: n modulo 8, from 0 to 7 for negative n too
+-- the whole number n without whole turns, from 0 on for negative n too
 abbrev pub within_a_turn : ℤ → ℕ
 within_a_turn n = unsigned_abs (int_rem_euclid n (pos turn))
 

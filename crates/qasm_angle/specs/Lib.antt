@@ -1,10 +1,8 @@
+pub mod Eighths
+pub mod Errors
+pub mod Internal
+pub mod Literals
 pub mod Ratio
 pub mod Trees
-pub mod TreeCode
 pub mod Values
-pub mod Errors
-pub mod Stack
-pub mod Eighths
-pub mod Literals
-pub mod Significands
 pub mod Worked

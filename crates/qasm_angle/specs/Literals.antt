@@ -1,13 +1,10 @@
 -- The value of a number that a text spells: digits with or without a point, and with or without an exponent of ten, as
 -- `12`, `0.25`, `.5` and `2.5e-3` (OpenQASM 2: Cross, Bishop, Smolin, Gambetta, "Open quantum assembly language", arXiv
 -- 1707.03429). Every text has a value here: bytes that don't belong to such a spelling are passed over.
-use Rattle.std.specs.Prelude.{ℕ, ◌+◌, ◌-◌, ◌*◌, ◌^◌, Bool, ◌&&◌, ◌||◌, ◌==◌, nat_le, nat_lt, if◌then◌else◌, List, [], ◌∷◌, length, take, drop, pos, Option, None, slice_index}
+use Rattle.std.specs.Prelude.{ℕ, ◌+◌, ◌-◌, ◌*◌, ◌^◌, Bool, ◌&&◌, ◌||◌, ◌==◌, nat_lt, if◌then◌else◌, List, [], ◌∷◌, length, take, drop, pos, Option, None, slice_index}
+use Rattle.std.specs.Char.{is_ascii_digit}
 use Rattle.std.specs.List.{position_or_len}
 use Rattle.qasm_angle.specs.Ratio.{Ratio, lowest, limited}
-
--- `0` to `9`
-abbrev pub is_digit : ℕ → Bool
-is_digit b = nat_le 48 b && nat_le b 57
 
 -- `.`
 abbrev pub is_point : ℕ → Bool
@@ -17,22 +14,22 @@ is_point b = (b == 46)
 abbrev pub is_exponent_mark : ℕ → Bool
 is_exponent_mark b = (b == 101) || (b == 69)
 
--- what stands in front of the first byte that is a mark, and what stands behind it
+-- what stands before the first byte that is a mark, and what stands after it
 abbrev pub before : (ℕ → Bool) → List ℕ → List ℕ
 before is_mark text = take (position_or_len is_mark text) text
 
-abbrev pub behind : (ℕ → Bool) → List ℕ → List ℕ
-behind is_mark text = drop (position_or_len is_mark text + 1) text
+abbrev pub after : (ℕ → Bool) → List ℕ → List ℕ
+after is_mark text = drop (position_or_len is_mark text + 1) text
 
 -- the digits of a text, as numbers
 abbrev pub digits_of : List ℕ → List ℕ
 digits_of [] = []
-digits_of (b ∷ text) = if is_digit b then (b - 48) ∷ digits_of text else digits_of text
+digits_of (b ∷ text) = if is_ascii_digit b then (b - 48) ∷ digits_of text else digits_of text
 
--- the number that digits mean in base ten, behind a number that stands in front of them
+-- the number that digits mean in base ten, after a number that stands before them
 abbrev pub number_from : ℕ → List ℕ → ℕ
-number_from front [] = front
-number_from front (d ∷ digits) = number_from (10 * front + d) digits
+number_from leading [] = leading
+number_from leading (d ∷ digits) = number_from (10 * leading + d) digits
 
 abbrev pub number_of : List ℕ → ℕ
 number_of digits = number_from 0 digits
@@ -69,9 +66,9 @@ is_negative exponent = (slice_index exponent 0 == 45)
 abbrev pub size_of : List ℕ → ℕ
 size_of exponent = number_of (digits_of exponent)
 
--- how many digits stand behind the point
+-- how many digits stand after the point
 abbrev pub places_of : List ℕ → ℕ
-places_of mantissa = length (digits_of (behind is_point mantissa))
+places_of mantissa = length (digits_of (after is_point mantissa))
 
 -- the value of digits with a point, and an exponent with its sign
 abbrev pub value_of_parts : List ℕ → List ℕ → Option Ratio
@@ -81,4 +78,4 @@ value_of_parts mantissa exponent =
 
 -- the value of a number; none where it is past the limits
 unfoldable pub literal_value : List ℕ → Option Ratio
-literal_value text = value_of_parts (before is_exponent_mark text) (behind is_exponent_mark text)
+literal_value text = value_of_parts (before is_exponent_mark text) (after is_exponent_mark text)

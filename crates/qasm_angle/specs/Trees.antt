@@ -3,8 +3,8 @@ use Rattle.std.specs.Prelude.{◌≡◌, ℕ, List, [], ◌∷◌, ◌++◌, Opt
 use Rattle.std.proofs.Common.{append_assoc, append-nil, ap, sym, ◌∙◌}
 use Rattle.qasm_angle.specs.Ratio.{Ratio}
 use Rattle.qasm_angle.specs.declared.expression.Operator.{Operator}
-use Rattle.qasm_angle.specs.declared.expression.Step.{Step}
-use Rattle.qasm_angle.specs.declared.expression.Step.TheVariants as step
+use Rattle.qasm_angle.specs.declared.expression.ExprItem.{ExprItem}
+use Rattle.qasm_angle.specs.declared.expression.ExprItem.TheVariants as step
 
 -- An expression. A number is known by its value, or none where it is past the limits.
 pub data Tree : Type 0 where
@@ -14,16 +14,16 @@ pub data Tree : Type 0 where
   Negate : Tree → Tree
   Binary : Operator → Tree → Tree → Tree
 
--- the steps of an expression: each operator stands behind its operands
-abbrev pub postfix : Tree → List Step
+-- the steps of an expression: each operator stands after its operands
+abbrev pub postfix : Tree → List ExprItem
 postfix (Number value) = step.Number value ∷ []
 postfix Pi = step.Pi ∷ []
 postfix (Parameter i) = step.Parameter i ∷ []
 postfix (Negate a) = postfix a ++ step.Negate ∷ []
 postfix (Binary operator a b) = postfix a ++ postfix b ++ step.Binary operator ∷ []
 
--- The trees that are there after a step, the last one first. An operator takes its operands from the front.
-abbrev pub after_step : Step → List Tree → List Tree
+-- The trees that are there after a step, the last one first. An operator takes its operands from the start.
+abbrev pub after_step : ExprItem → List Tree → List Tree
 after_step (step.Number value) trees = Number value ∷ trees
 after_step step.Pi trees = Pi ∷ trees
 after_step (step.Parameter i) trees = Parameter i ∷ trees
@@ -33,7 +33,7 @@ after_step (step.Binary operator) [] = []
 after_step (step.Binary operator) (b ∷ []) = []
 after_step (step.Binary operator) (b ∷ a ∷ trees) = Binary operator a b ∷ trees
 
-abbrev pub after_steps : List Step → List Tree → List Tree
+abbrev pub after_steps : List ExprItem → List Tree → List Tree
 after_steps [] trees = trees
 after_steps (s ∷ steps) trees = after_steps steps (after_step s trees)
 
@@ -42,11 +42,11 @@ first_tree [] = Pi
 first_tree (t ∷ trees) = t
 
 -- the tree whose steps these are, where there is one
-unfoldable pub tree_of : List Step → Tree
+unfoldable pub tree_of : List ExprItem → Tree
 tree_of steps = first_tree (after_steps steps [])
 
 -- reading the steps of a tree adds that tree
-pub after_steps-postfix : (t : Tree) (steps : List Step) (trees : List Tree) → after_steps (postfix t ++ steps) trees ≡ after_steps steps (t ∷ trees)
+pub after_steps-postfix : (t : Tree) (steps : List ExprItem) (trees : List Tree) → after_steps (postfix t ++ steps) trees ≡ after_steps steps (t ∷ trees)
 after_steps-postfix (Number value) steps trees = refl
 after_steps-postfix Pi steps trees = refl
 after_steps-postfix (Parameter i) steps trees = refl
@@ -62,5 +62,5 @@ pub tree_of-postfix : (t : Tree) → tree_of (postfix t) ≡ t
 unfolding tree_of
 tree_of-postfix t = ap first_tree (ap (λ steps. after_steps steps []) (sym (append-nil (postfix t))) ∙ after_steps-postfix t [] [])
 
-pub tree_of-steps : (steps : List Step) (t : Tree) → steps ≡ postfix t → tree_of steps ≡ t
+pub tree_of-steps : (steps : List ExprItem) (t : Tree) → steps ≡ postfix t → tree_of steps ≡ t
 tree_of-steps steps t e = ap tree_of e ∙ tree_of-postfix t

@@ -1,17 +1,19 @@
 //! The angle of an expression.
 
 ghost use Rattle.std.specs.Prelude.{◌≡◌, ◌∷◌, [], reverse, Ok, Err, IfOk, IfErr, OnOk};
+ghost use Rattle.std.specs.List.{list_any};
 ghost use Rattle.qasm_angle.specs.Values.{value, of_number};
 ghost use Rattle.qasm_angle.specs.Errors.{error_of};
-ghost use Rattle.qasm_angle.specs.Stack.{stepped, on_top};
+ghost use Rattle.qasm_angle.specs.Internal.Constants.{is_parameter};
+ghost use Rattle.qasm_angle.specs.Internal.Stack.{stepped, on_top};
 ghost use Rattle.qasm_angle.specs.declared.errors.Cause.{Cause};
 ghost use Rattle.qasm_angle.specs.declared.errors.Cause.TheVariants as cause;
 
 use crate::angle::Angle;
 use crate::errors::{AngleError, Cause};
-use crate::expression::{Expr, Step};
+use crate::expression::{Expr, ExprItem};
 use crate::literal::Literal;
-use std::alloc::Global;
+use std::alloc::{AllocError, Global};
 
 /// The angle of an expression, where the parameter of index i is the angle `args[i]`. For an expression that has
 /// none, the first step in postfix order that gives no angle decides the error.
@@ -21,6 +23,9 @@ pub fn eval(alloc: Global, e: &Expr, args: &[Angle]) -> Result<Angle, AngleError
     ensures too_large { result ≡ Err AngleError.TooLarge → value e.now args.now ≡ Err cause.TooLarge }
     ensures not_an_angle { result ≡ Err AngleError.NotAnAngle → value e.now args.now ≡ Err cause.NotAnAngle }
 {
+    if let Some(angle) = e.constant() {
+        return Ok(angle);
+    }
     let mut angles = Vec::new(alloc);
     for step in e.steps() {
         push_step(&mut angles, step, args)?;
@@ -29,8 +34,32 @@ pub fn eval(alloc: Global, e: &Expr, args: &[Angle]) -> Result<Angle, AngleError
     Ok(angle)
 }
 
+/// The same expression, and where it is long and names no parameter, with its angle, so that `eval` finds it at
+/// once. What is wrong with an expression stays to be found by `eval`.
+pub fn folded(alloc: Global, e: Expr) -> Result<Expr, AllocError>
+    ensures { IfOk result (λ folded. folded ≡ e) }
+{
+    if e.steps().len() == 1 || names_parameter(e.steps()) {
+        return Ok(e);
+    }
+    match eval(alloc, &e, &[]) {
+        Ok(angle) => e.with_constant(alloc, angle),
+        Err(AngleError::NoMemory) => Err(AllocError),
+        Err(_) => Ok(e),
+    }
+}
+
+/// Whether a parameter is among the steps.
+fn names_parameter(steps: &[ExprItem]) -> bool
+    ensures { result ≡ list_any is_parameter steps.now }
+{
+    steps
+        .iter()
+        .any(|step| matches!(step, ExprItem::Parameter(_)))
+}
+
 /// Takes the operands of a step from the end of the angles, and adds what it gives.
-fn push_step(angles: &mut Vec<Angle>, step: &Step, args: &[Angle]) -> Result<(), AngleError>
+fn push_step(angles: &mut Vec<Angle>, step: &ExprItem, args: &[Angle]) -> Result<(), AngleError>
     ensures angles { OnOk result (stepped step.now args.now (reverse angles.old.items) ≡ Ok (reverse angles.new.items)) }
     ensures cause { (c : Cause) → result ≡ Err (error_of c) → stepped step.now args.now (reverse angles.old.items) ≡ Err c }
 {
@@ -40,18 +69,18 @@ fn push_step(angles: &mut Vec<Angle>, step: &Step, args: &[Angle]) -> Result<(),
 }
 
 /// Takes the operands of a step from the end of the angles, and gives the step's angle.
-fn take_step(angles: &mut Vec<Angle>, step: &Step, args: &[Angle]) -> Result<Angle, Cause>
+fn take_step(angles: &mut Vec<Angle>, step: &ExprItem, args: &[Angle]) -> Result<Angle, Cause>
     ensures { on_top result (reverse angles.new.items) ≡ stepped step.now args.now (reverse angles.old.items) }
 {
     match step {
-        Step::Number(literal) => number(literal),
-        Step::Pi => Ok(Angle::pi()),
-        Step::Parameter(i) => args.get(*i).copied().ok_or(Cause::NotAnAngle),
-        Step::Negate => {
+        ExprItem::Number(literal) => number(literal),
+        ExprItem::Pi => Ok(Angle::pi()),
+        ExprItem::Parameter(i) => args.get(*i).copied().ok_or(Cause::NotAnAngle),
+        ExprItem::Negate => {
             let a = pop_angle(angles)?;
             Ok(a.opposite())
         }
-        Step::Binary(operator) => {
+        ExprItem::Binary(operator) => {
             let b = pop_angle(angles)?;
             let a = pop_angle(angles)?;
             a.apply(*operator, &b)

@@ -1,9 +1,13 @@
 //! Expressions, as lists of steps.
 
-ghost use Rattle.std.specs.Prelude.{◌≡◌};
+ghost use Rattle.std.specs.Prelude.{◌≡◌, List, Ok, IfSome, IfOk};
 ghost use Rattle.qasm_angle.specs.Trees.{Tree, postfix};
+ghost use Rattle.qasm_angle.specs.Values.{value};
+ghost use Rattle.qasm_angle.specs.declared.angle.Angle.{Angle};
 
+use crate::angle::Angle;
 use crate::literal::Literal;
+use std::alloc::{AllocError, Global};
 use std::marker::Model;
 
 /// An operation on two angles.
@@ -21,7 +25,7 @@ pub enum Operator {
 
 /// A step of an expression. It takes its operands from what the steps before it gave.
 #[derive(Clone, Copy, Debug)]
-pub enum Step {
+pub enum ExprItem {
     /// A number.
     Number(Literal),
     /// The number pi.
@@ -34,16 +38,19 @@ pub enum Step {
     Binary(Operator),
 }
 
-/// An expression, as the list of its steps in postfix order: each operator stands behind its operands.
+/// An expression, as the list of its steps in postfix order: each operator stands after its operands. Of one without
+/// parameters the angle may be kept beside them, so that it isn't evaluated again.
 #[derive(Debug, Drop)]
 pub struct Expr {
-    steps: Vec<Step>,
+    steps: Vec<ExprItem>,
+    constant: Option<Box<Angle>>,
 }
 
 impl Model for Expr {
-    ghost use Rattle.std.specs.Prelude.{◌≡◌};
-    ghost use Rattle.qasm_angle.specs.Trees.{Tree, postfix, tree_of};
-    ghost use Rattle.qasm_angle.specs.TreeCode.{tree_code};
+    ghost use Rattle.std.specs.Prelude.{option_map, box_value};
+    ghost use Rattle.qasm_angle.specs.Trees.{Tree, tree_of};
+    ghost use Rattle.qasm_angle.specs.Internal.TreeCode.{tree_code};
+    ghost use Rattle.qasm_angle.specs.Internal.Constants.{IsExpr};
 
     ghost Value = { Tree };
 
@@ -51,21 +58,43 @@ impl Model for Expr {
 
     ghost view = { λ e. tree_of e.steps.items };
 
-    ghost invariant = { λ e. postfix (tree_of e.steps.items) ≡ e.steps.items };
+    ghost invariant = { λ e. IsExpr e.steps.items (option_map box_value e.constant) };
 }
 
 impl Expr {
     /// The expression of these steps, which are to be those of a tree in postfix order.
-    pub fn new(steps: Vec<Step>) -> Expr
+    pub fn new(steps: Vec<ExprItem>) -> Expr
         requires { (t : Tree) × (steps.items ≡ postfix t) }
         ensures tree { (t : Tree) → steps.items ≡ postfix t → result ≡ t }
         ensures steps { postfix result ≡ steps.items }
     {
-        Expr { steps }
+        Expr {
+            steps,
+            constant: None,
+        }
+    }
+
+    /// The same expression, with the angle that it has for all arguments.
+    pub(crate) fn with_constant(self, alloc: Global, angle: Angle) -> Result<Expr, AllocError>
+        requires { (args : List Angle) → value self args ≡ Ok angle }
+        ensures { IfOk result (λ e. e ≡ self) }
+    {
+        let constant = Some(Box::new(alloc, angle)?);
+        Ok(Expr {
+            steps: self.steps,
+            constant,
+        })
+    }
+
+    /// Its angle, where that is kept.
+    pub(crate) fn constant(&self) -> Option<Angle>
+        ensures { IfSome result (λ angle. (args : List Angle) → value self.now args ≡ Ok angle) }
+    {
+        self.constant.as_deref().copied()
     }
 
     /// Its steps.
-    pub fn steps(&self) -> &[Step]
+    pub fn steps(&self) -> &[ExprItem]
         ensures { result.now ≡ postfix self.now }
     {
         self.steps.as_slice()

@@ -8,6 +8,9 @@ use std::marker::Model;
 /// The size that no numerator and no denominator exceeds: 2^60.
 pub(crate) const LARGEST: u128 = 1 << 60;
 
+/// The largest number that fits into a word of the machine: division of larger ones is slow.
+const LONGEST_WORD: u128 = u64::MAX as u128;
+
 /// A fraction in lowest terms, whose numerator and denominator have at most the size 2^60. Zero is 0/1.
 #[derive(Clone, Copy, Debug, PartialEq, Eq)]
 pub struct Fraction {
@@ -87,6 +90,33 @@ impl Fraction {
     pub fn checked_add(self, other: Fraction) -> Option<Fraction>
         ensures { result ≡ limited (sum self other) }
     {
+        let is_common = self.denominator == other.denominator;
+        if other.numerator == 0 {
+            Some(self)
+        } else if self.numerator == 0 {
+            Some(other)
+        } else if is_common {
+            self.common_sum(other)
+        } else {
+            self.cross_sum(other)
+        }
+    }
+
+    /// The sum over the denominator that both have.
+    fn common_sum(self, other: Fraction) -> Option<Fraction>
+        requires { self.denominator ≡ other.denominator }
+        ensures { result ≡ limited (sum self other) }
+    {
+        reduced(
+            i128::from(self.numerator) + i128::from(other.numerator),
+            u128::from(self.denominator),
+        )
+    }
+
+    /// The sum over the product of the denominators.
+    fn cross_sum(self, other: Fraction) -> Option<Fraction>
+        ensures { result ≡ limited (sum self other) }
+    {
         let left = cross(self.numerator, other.denominator as i64);
         let right = cross(other.numerator, self.denominator as i64);
         reduced(
@@ -99,11 +129,11 @@ impl Fraction {
     pub fn checked_mul(self, other: Fraction) -> Option<Fraction>
         ensures { result ≡ limited (product self other) }
     {
-        let numerator = cross(self.numerator, other.numerator);
-        reduced(
-            numerator,
-            u128::from(self.denominator) * u128::from(other.denominator),
-        )
+        let below = u128::from(self.denominator) * u128::from(other.denominator);
+        if self.numerator == 0 || other.numerator == 0 {
+            return Some(Fraction::zero());
+        }
+        reduced(cross(self.numerator, other.numerator), below)
     }
 
     /// The quotient, or none where it is past the limit.
@@ -111,9 +141,11 @@ impl Fraction {
         requires { is_zero other ≡ false }
         ensures { result ≡ limited (quotient self other) }
     {
-        let numerator = cross(self.numerator, other.denominator as i64);
         let denominator = cross(self.denominator as i64, other.numerator);
-        reduced_over(numerator, denominator)
+        if self.numerator == 0 {
+            return Some(Fraction::zero());
+        }
+        reduced_over(cross(self.numerator, other.denominator as i64), denominator)
     }
 }
 
@@ -170,6 +202,23 @@ fn signed(negative: bool, size: u128) -> i64
 
 /// The greatest common divisor.
 pub(crate) fn gcd(a: u128, b: u128) -> u128
+    ensures { result ≡ gcd a b }
+{
+    let mut larger = a;
+    let mut smaller = b;
+    while smaller > LONGEST_WORD {
+        let rest = larger % smaller;
+        larger = smaller;
+        smaller = rest;
+    }
+    if smaller == 0 {
+        return larger;
+    }
+    u128::from(gcd_of_words(smaller as u64, (larger % smaller) as u64))
+}
+
+/// The greatest common divisor of numbers that fit into a word of the machine.
+fn gcd_of_words(a: u64, b: u64) -> u64
     ensures { result ≡ gcd a b }
 {
     let mut larger = a;

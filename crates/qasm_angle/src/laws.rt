@@ -13,7 +13,7 @@ ghost use Rattle.qasm_angle.specs.declared.angle.Angle.{Angle};
 ghost use Rattle.qasm_angle.specs.declared.errors.Cause.TheVariants as cause;
 ghost use Rattle.qasm_angle.specs.declared.expression.Operator.{Operator};
 ghost use Rattle.qasm_angle.specs.declared.expression.Operator.TheVariants as operator;
-ghost use Rattle.qasm_angle.specs.declared.expression.Step.TheVariants as step;
+ghost use Rattle.qasm_angle.specs.declared.expression.ExprItem.TheVariants as step;
 
 /// Lowest terms are those of school.
 pub fn lowest_terms()

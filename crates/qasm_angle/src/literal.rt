@@ -52,7 +52,7 @@ fn value_of(text: &[u8]) -> Option<Fraction>
     ensures { result ≡ literal_value text.now }
 {
     let mark = exponent_mark(text);
-    value_of_parts(&text[..mark], behind(text, mark))
+    value_of_parts(&text[..mark], after(text, mark))
 }
 
 /// The value of digits with a point, and an exponent with its sign.
@@ -75,7 +75,7 @@ fn decimal(mantissa: &[u8], raised: u128, lowered: u128) -> Option<Fraction>
     ensures { result ≡ decimal (digits_of mantissa.now) raised lowered }
 {
     let digits = read_digits(mantissa)?;
-    scaled(digits.front, digits.zeros as u128 + raised, lowered)
+    scaled(digits.leading, digits.zeros as u128 + raised, lowered)
 }
 
 /// The place of the mark that an exponent begins with, or the end.
@@ -115,7 +115,7 @@ fn first_point(text: &[u8]) -> Option<usize>
 }
 
 /// What follows the byte at a place; nothing where that is the end.
-fn behind(text: &[u8], mark: usize) -> &[u8]
+fn after(text: &[u8], mark: usize) -> &[u8]
     requires { mark ≤ length text.now }
     ensures { result.now ≡ drop (mark + 1) text.now }
 {
@@ -126,12 +126,12 @@ fn behind(text: &[u8], mark: usize) -> &[u8]
     }
 }
 
-/// How many digits stand behind the point.
+/// How many digits stand after the point.
 fn places(mantissa: &[u8]) -> usize
     ensures places { result ≡ places_of mantissa.now }
     ensures most { result ≤ length mantissa.now }
 {
-    count_digits(behind(mantissa, point(mantissa)))
+    count_digits(after(mantissa, point(mantissa)))
 }
 
 /// How many bytes are digits.

@@ -5,45 +5,45 @@ ghost use Rattle.qasm_angle.specs.Ratio.{lowest, limited};
 
 use crate::fraction::{Fraction, LARGEST, gcd, reduced};
 
-/// The most digits that a front of a number has.
+/// The most digits that a prefix of a number has.
 const DIGITS: u128 = 38;
 
 /// The number times 10^raised, divided by 10^lowered; none where that is past the limit.
-pub(crate) fn scaled(front: u128, raised: u128, lowered: u128) -> Option<Fraction>
-    requires { front < 10 ^ 38 }
-    ensures { result ≡ limited (lowest (pos (front * 10 ^ raised)) (10 ^ lowered)) }
+pub(crate) fn scaled(leading: u128, raised: u128, lowered: u128) -> Option<Fraction>
+    requires { leading < 10 ^ 38 }
+    ensures { result ≡ limited (lowest (pos (leading * 10 ^ raised)) (10 ^ lowered)) }
 {
-    if front == 0 {
+    if leading == 0 {
         Some(Fraction::zero())
     } else if lowered <= raised {
-        raised_by(front, raised - lowered)
+        raised_by(leading, raised - lowered)
     } else {
-        lowered_by(front, lowered - raised)
+        lowered_by(leading, lowered - raised)
     }
 }
 
 /// The number times a power of ten.
-fn raised_by(front: u128, tens: u128) -> Option<Fraction>
-    requires { 0 < front }
-    ensures { result ≡ limited (lowest (pos (front * 10 ^ tens)) 1) }
+fn raised_by(leading: u128, tens: u128) -> Option<Fraction>
+    requires { 0 < leading }
+    ensures { result ≡ limited (lowest (pos (leading * 10 ^ tens)) 1) }
 {
     // 10^19 is past the limit.
-    if front > LARGEST || tens > 18 {
+    if leading > LARGEST || tens > 18 {
         return None;
     }
-    reduced((front * power_of_ten(tens)) as i128, 1)
+    reduced((leading * power_of_ten(tens)) as i128, 1)
 }
 
 /// The number divided by a power of ten.
-fn lowered_by(front: u128, tens: u128) -> Option<Fraction>
-    requires some { 0 < front }
-    requires few_digits { front < 10 ^ 38 }
-    ensures { result ≡ limited (lowest (pos front) (10 ^ tens)) }
+fn lowered_by(leading: u128, tens: u128) -> Option<Fraction>
+    requires some { 0 < leading }
+    requires few_digits { leading < 10 ^ 38 }
+    ensures { result ≡ limited (lowest (pos leading) (10 ^ tens)) }
 {
     if tens <= DIGITS {
-        reduced(front as i128, power_of_ten(tens))
+        reduced(leading as i128, power_of_ten(tens))
     } else if tens - DIGITS <= 18 {
-        lowered_twice(front, power_of_ten(DIGITS), power_of_ten(tens - DIGITS))
+        lowered_twice(leading, power_of_ten(DIGITS), power_of_ten(tens - DIGITS))
     } else {
         // The quotient is less than 10^-19, so the denominator is past the limit.
         None
@@ -51,19 +51,19 @@ fn lowered_by(front: u128, tens: u128) -> Option<Fraction>
 }
 
 /// The number divided by one number and then by another, where the product may not fit.
-fn lowered_twice(front: u128, first: u128, second: u128) -> Option<Fraction>
-    requires small { front < 2 ^ 127 }
+fn lowered_twice(leading: u128, first: u128, second: u128) -> Option<Fraction>
+    requires small { leading < 2 ^ 127 }
     requires first { 0 < first }
     requires second { 0 < second }
     requires small_second { second ≤ 10 ^ 18 }
-    ensures { result ≡ limited (lowest (pos front) (first * second)) }
+    ensures { result ≡ limited (lowest (pos leading) (first * second)) }
 {
-    let divisor = gcd(front, first);
+    let divisor = gcd(leading, first);
     let below = first / divisor;
     if below > LARGEST {
         return None;
     }
-    reduced((front / divisor) as i128, below * second)
+    reduced((leading / divisor) as i128, below * second)
 }
 
 /// A power of ten.

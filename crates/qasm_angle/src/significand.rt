@@ -2,16 +2,16 @@
 
 ghost use Rattle.std.specs.Prelude.{◌≡◌, ◌+◌, ◌*◌, ◌^◌, ◌<◌, ◌≤◌, List, ℕ, [], ◌∷◌, true, false, nat_lt, length, IfSome, IfNone};
 ghost use Rattle.qasm_angle.specs.Literals.{digits_of, number_of, significant, most_significant};
-ghost use Rattle.qasm_angle.specs.Significands.{IsSignificand, Keeps};
+ghost use Rattle.qasm_angle.specs.Internal.Significands.{IsSignificand, Keeps};
 
 /// The most digits from the first one other than 0 to the last one other than 0.
 const MOST_SIGNIFICANT: u32 = 38;
 
-/// Digits, as the whole number `front` with `zeros` zeros behind it.
+/// Digits, as the whole number `prefix` with `zeros` zeros after it.
 #[derive(Clone, Copy)]
 pub(crate) struct Significand {
-    /// The first digits, without zeros in front, as a number.
-    pub(crate) front: u128,
+    /// The first digits, without leading zeros, as a number.
+    pub(crate) leading: u128,
     /// How many digits that number has; 0 for the number 0.
     pub(crate) count: u32,
     /// How many zeros follow it.
@@ -30,15 +30,15 @@ impl Significand {
         ensures none { IfNone result ((rest digits : List ℕ) → Keeps self (digit ∷ rest) digits → nat_lt most_significant (significant digits) ≡ true) }
     {
         if self.count < MOST_SIGNIFICANT {
-            let front = self.front * 10 + u128::from(digit);
+            let leading = self.leading * 10 + u128::from(digit);
             Some(Significand {
-                front,
-                count: if front > 0 { self.count + 1 } else { 0 },
+                leading,
+                count: if leading > 0 { self.count + 1 } else { 0 },
                 zeros: 0,
             })
         } else if digit == 0 {
             Some(Significand {
-                front: self.front,
+                leading: self.leading,
                 count: self.count,
                 zeros: self.zeros + 1,
             })
@@ -66,14 +66,14 @@ impl Significand {
 
 /// The digits of a mantissa; none where too many are significant.
 pub(crate) fn read_digits(mantissa: &[u8]) -> Option<Significand>
-    ensures number { IfSome result (λ s. number_of (digits_of mantissa.now) ≡ s.front * 10 ^ s.zeros) }
-    ensures small { IfSome result (λ s. s.front < 10 ^ 38) }
+    ensures number { IfSome result (λ s. number_of (digits_of mantissa.now) ≡ s.leading * 10 ^ s.zeros) }
+    ensures small { IfSome result (λ s. s.leading < 10 ^ 38) }
     ensures zeros { IfSome result (λ s. s.zeros < 2 ^ 63) }
     ensures some { IfSome result (λ _. nat_lt most_significant (significant (digits_of mantissa.now)) ≡ false) }
     ensures none { IfNone result (nat_lt most_significant (significant (digits_of mantissa.now)) ≡ true) }
 {
     let mut significand = Significand {
-        front: 0,
+        leading: 0,
         count: 0,
         zeros: 0,
     };

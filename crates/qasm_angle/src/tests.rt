@@ -2,7 +2,7 @@
 ghost use Rattle.std.specs.Prelude.{◌≡◌, ◌∷◌, []};
 ghost use Rattle.qasm_angle.specs.Trees.{Tree, postfix};
 
-use crate::{Angle, AngleError, Expr, Fraction, Literal, Operator, Step, eval, to_eighth};
+use crate::{Angle, AngleError, Expr, ExprItem, Fraction, Literal, Operator, eval, to_eighth};
 use std::alloc::{AllocError, Global};
 use std::test::Fail;
 
@@ -58,7 +58,7 @@ fn numbers_have_their_values(rt: HostRuntime) {
 }
 
 #[test]
-fn zeros_behind_the_point_are_cancelled_by_the_exponent(rt: HostRuntime) -> Result<(), Fail> {
+fn zeros_after_the_point_are_cancelled_by_the_exponent(rt: HostRuntime) -> Result<(), Fail> {
     let alloc = rt.alloc();
     let mut text = b"0.".to_vec(alloc)?;
     for _ in 0..5000 {
@@ -77,12 +77,12 @@ enum Operand {
 }
 
 // An operand as a step.
-fn step(operand: Operand) -> Step
+fn step(operand: Operand) -> ExprItem
     ensures { (t : Tree) × (postfix t ≡ result ∷ []) }
 {
     match operand {
-        Operand::Number(digit) => Step::Number(Literal::read(&[digit])),
-        Operand::Pi => Step::Pi,
+        Operand::Number(digit) => ExprItem::Number(Literal::read(&[digit])),
+        Operand::Pi => ExprItem::Pi,
     }
 }
 
@@ -93,7 +93,7 @@ fn operation(
     left: Operand,
     right: Operand,
 ) -> Result<Expr, AllocError> {
-    let steps = vec![in alloc; step(left), step(right), Step::Binary(operator)]?;
+    let steps = vec![in alloc; step(left), step(right), ExprItem::Binary(operator)]?;
     Ok(Expr::new(steps))
 }
 
@@ -125,10 +125,10 @@ fn operations_have_their_angles(rt: HostRuntime) -> Result<(), Fail> {
 // The expression -a/4 of one parameter a.
 fn minus_quarter(alloc: Global) -> Result<Expr, AllocError> {
     let steps = vec![in alloc;
-        Step::Parameter(0),
-        Step::Negate,
-        Step::Number(Literal::read(b"4")),
-        Step::Binary(Operator::Divide),
+        ExprItem::Parameter(0),
+        ExprItem::Negate,
+        ExprItem::Number(Literal::read(b"4")),
+        ExprItem::Binary(Operator::Divide),
     ]?;
     Ok(Expr::new(steps))
 }

@@ -7,11 +7,11 @@ use Rattle.qasm_scope.specs.Calls.{Event, Called, Undefined, Applied, applied, c
 use Rattle.std.specs.List.{flat_map}
 use Rattle.qasm_reader.specs.Syntax.{Apply}
 use Rattle.qasm_scope.specs.Angles.{angles_of, numbered}
-use Rattle.qasm_scope.specs.Applications.{application_events, instances, targets_of}
+use Rattle.qasm_scope.specs.Applications.{application_events, instances, ranges_of}
 use Rattle.qasm_scope.specs.Faults.{is_no_gate, shape_of}
-use Rattle.qasm_scope.specs.Kept.{target_for}
-use Rattle.qasm_inline.specs.KeptCalls.{expand_number}
-use Rattle.qasm_inline.specs.KeptCalls.{Continues, target_call, values_of}
+use Rattle.qasm_scope.specs.Internal.Kept.{called_for}
+use Rattle.qasm_inline.specs.Internal.KeptCalls.{expand_number}
+use Rattle.qasm_inline.specs.Internal.KeptCalls.{Continues, called_events, values_of}
 use Rattle.qasm_scope.specs.Scope.{Scope}
 use Rattle.qasm_inline.proofs.Keeping.{call-same, Agrees-itself, numbered-angles}
 use Rattle.qasm_inline.proofs.Unrolling.{Continues-join}
@@ -36,7 +36,7 @@ called-at true deep first second all h = refl
 called-at false true first second all h = refl
 called-at false false first second all h = h
 
--- what is wrong first among events is wrong first in the front, or else behind it
+-- what is wrong first among events is wrong first in the prefix, or else after it
 pub first_wrong-append : (most calls : ℕ) (a b : List Event) → first_wrong most calls (a ++ b) ≡ or_else (first_wrong most calls a) (first_wrong most (calls + call_count a) b)
 first_wrong-append most calls [] b = ap (λ n. first_wrong most n b) (sym (add-zero calls))
 first_wrong-append most calls (Undefined cause ∷ a) b = refl
@@ -46,7 +46,7 @@ first_wrong-append most calls (Called depth ∷ a) b =
     called-at (nat_le most calls) (nat_lt deepest depth) (first_wrong most (calls + 1) a) (first_wrong most (calls + (call_count a + 1)) b) (first_wrong most (calls + 1) (a ++ b))
     (first_wrong-append most (calls + 1) a b ∙ ap (λ n. or_else (first_wrong most (calls + 1) a) (first_wrong most n b)) same)
 
--- events that are done, and others behind them
+-- events that are done, and others after them
 pub Continues-before : (most calls : ℕ) (gates : List ElementaryGate) (a : List Event) (later : ℕ) (more : List ElementaryGate) (b : List Event)
     → Continues most calls gates a later more [] → Continues most calls gates (a ++ b) later more b
 Continues-before most calls gates a later more b h =
@@ -63,13 +63,13 @@ flat_map-same f g (x ∷ xs) h = ap (λ ys. ys ++ flat_map f xs) (h x) ∙ ap (�
 
 -- an application in a statement comes to calls of kept gates
 pub application-numbered : (scope : Scope) (a : Apply) → is_no_gate (shape_of scope a.gate) ≡ false
-    → application_events scope a ≡ flat_map (target_call (expand_number scope) (target_for scope a.gate) 1 (values_of (map (numbered []) a.angles) [])) (instances (targets_of scope a.qubits))
+    → application_events scope a ≡ flat_map (called_events (expand_number scope) (called_for scope a.gate) 1 (values_of (map (numbered []) a.angles) [])) (instances (ranges_of scope a.qubits))
 application-numbered scope a h =
-    flat_map-same _ _ (instances (targets_of scope a.qubits)) (λ qubits.
+    flat_map-same _ _ (instances (ranges_of scope a.qubits)) (λ qubits.
     call-same (expand_number scope) scope a.gate 1 (angles_of [] [] a.angles) qubits (Agrees-itself scope) h
-    ∙ ap (λ v. target_call (expand_number scope) (target_for scope a.gate) 1 v qubits) (numbered-angles [] [] a.angles))
+    ∙ ap (λ v. called_events (expand_number scope) (called_for scope a.gate) 1 v qubits) (numbered-angles [] [] a.angles))
 
--- an instance that is done, and those behind it
+-- an instance that is done, and those after it
 pub Continues-next : (most a : ℕ) (first : List ElementaryGate) (all : List Event) (b : ℕ) (second : List ElementaryGate) (e rest : List Event) (c : ℕ) (third : List ElementaryGate)
     → Continues most a first all b second (e ++ rest) → Continues most b second e c third [] → Continues most a first all c third rest
 Continues-next most a first all b second e rest c third h k =

@@ -4,7 +4,7 @@ use Rattle.std.specs.List.{flat_map, range_with_len}
 use Rattle.zx_gates.specs.declared.elementary.ElementaryGate.{ElementaryGate}
 use Rattle.qasm_scope.specs.declared.causes.Cause.{Cause}
 use Rattle.qasm_scope.specs.Calls.{Event, call_count, first_wrong}
-use Rattle.qasm_inline.specs.KeptCalls.{Continues}
+use Rattle.qasm_inline.specs.Internal.KeptCalls.{Continues}
 use Rattle.qasm_scope.specs.Meaning.{or_else}
 use Rattle.qasm_inline.proofs.EventLemmas.{first_wrong-append, Continues-next}
 use Rattle.qasm_inline.proofs.Unrolling.{Continues-same, Continues-join}

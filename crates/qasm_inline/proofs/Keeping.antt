@@ -6,13 +6,13 @@ use Rattle.qasm_angle.specs.declared.angle.Angle.{Angle}
 use Rattle.qasm_reader.specs.Syntax.{Formula, Callee, Declared, U, Cx, GateForm, BodySentence, BodyApplied, BodyBarrier}
 use Rattle.qasm_scope.specs.declared.causes.Cause.{Cause}
 use Rattle.qasm_scope.specs.declared.gates.GateCall.{GateCall}
-use Rattle.qasm_scope.specs.Angles.{in_front, angle_of, angles_of, numbered, place_of}
+use Rattle.qasm_scope.specs.Angles.{in_prefix, angle_of, angles_of, numbered, place_of}
 use Rattle.qasm_scope.specs.Calls.{Event, Called, after_angles, call, expand, body_call, expand_meaning, expand_declared}
 use Rattle.qasm_scope.specs.Faults.{shape_of, shape_in, is_no_gate, body_has_unknown}
-use Rattle.qasm_scope.specs.Kept.{KeptCall, kept_call, gate_count, gates_in, symbol_of, symbol_in, number_in, target_for, kept_calls}
-use Rattle.qasm_inline.specs.KeptCalls.{is_numbered, expand_number}
+use Rattle.qasm_scope.specs.Internal.Kept.{KeptCall, kept_call, gate_count, gates_in, symbol_of, symbol_in, number_in, called_for, kept_calls}
+use Rattle.qasm_inline.specs.Internal.KeptCalls.{is_numbered, expand_number}
 use Rattle.qasm_scope.proofs.Tests.{if-true, if-false, or-first, or-second, same_number, other_number}
-use Rattle.qasm_inline.specs.KeptCalls.{Numbered, call_events, calls_events, expand_target, target_call, values_of, picked}
+use Rattle.qasm_inline.specs.Internal.KeptCalls.{Numbered, call_events, calls_events, expand_called, called_events, values_of, picked}
 use Rattle.qasm_scope.specs.Scope.{Scope, Declaration, Meaning, Qubits, Bits, Gate, meaning_of}
 
 -- a number below the count isn't that of the next gate
@@ -21,10 +21,10 @@ not-numbered n count (Gate form) h = other_number count n h
 not-numbered n count (Qubits first size) h = refl
 not-numbered n count Bits h = refl
 
--- a number that is there means the same behind a further declaration
-pub number-behind : (d : Declaration) (scope : Scope) (n depth : ℕ) (angles : List Angle) (qubits : List ℕ) → n < gate_count scope
+-- a number that is there means the same after a further declaration
+pub number-after : (d : Declaration) (scope : Scope) (n depth : ℕ) (angles : List Angle) (qubits : List ℕ) → n < gate_count scope
     → expand_number (d ∷ scope) n depth angles qubits ≡ expand_number scope n depth angles qubits
-number-behind d scope n depth angles qubits h =
+number-after d scope n depth angles qubits h =
     if-false (is_numbered n (gate_count scope) d.meaning) _ _ (not-numbered n (gate_count scope) d.meaning h)
 
 -- a name of a gate has a number that is there
@@ -55,7 +55,7 @@ number-name-at true d (Gate form) name scope depth angles qubits e before h =
 number-name-at true d (Qubits first size) name scope depth angles qubits e before h = absurd (cc)
 number-name-at true d Bits name scope depth angles qubits e before h = absurd (cc)
 number-name-at false d m name scope depth angles qubits e before h =
-    before h ∙ sym (number-behind d scope (number_in (symbol_of name scope)) depth angles qubits (number-there name scope h))
+    before h ∙ sym (number-after d scope (number_in (symbol_of name scope)) depth angles qubits (number-there name scope h))
 
 pub number-name : (name : List ℕ) (scope : Scope) (depth : ℕ) (angles : List Angle) (qubits : List ℕ) → is_no_gate (shape_in (meaning_of name scope)) ≡ false
     → expand_declared scope name depth angles qubits ≡ expand_number scope (number_in (symbol_of name scope)) depth angles qubits
@@ -67,7 +67,7 @@ number-name name (d ∷ scope) depth angles qubits h =
 pub numbered-angles : (names : List (List ℕ)) (angles : List Angle) (fs : List Formula) → angles_of names angles fs ≡ values_of (map (numbered names) fs) angles
 unfolding angle_of
 numbered-angles names angles [] = refl
-numbered-angles names angles (f ∷ fs) = ap (in_front (angle_of names angles f)) (numbered-angles names angles fs)
+numbered-angles names angles (f ∷ fs) = ap (in_prefix (angle_of names angles f)) (numbered-angles names angles fs)
 
 -- qubits by their places
 pub picked-places : (qubits : List ℕ) (places names : List (List ℕ))
@@ -81,7 +81,7 @@ pub record Agrees (numbers : Numbered) (scope : Scope) : Type 0 where
 
 pub Agrees-before : (numbers : Numbered) (d : Declaration) (scope : Scope) → Agrees numbers (d ∷ scope) → Agrees numbers scope
 Agrees-before numbers d scope h = record {
-  on = λ n depth angles qubits k. h.on n depth angles qubits (omega arith) ∙ number-behind d scope n depth angles qubits k;
+  on = λ n depth angles qubits k. h.on n depth angles qubits (omega arith) ∙ number-after d scope n depth angles qubits k;
 }
 
 pub Agrees-itself : (scope : Scope) → Agrees (expand_number scope) scope
@@ -93,7 +93,7 @@ after_angles-same (Ok values) f g h = h values
 
 expand-same : (numbers : Numbered) (scope : Scope) (gate : Callee) (depth : ℕ) (angles : List Angle) (qubits : List ℕ)
     → Agrees numbers scope → is_no_gate (shape_of scope gate) ≡ false
-    → expand (λ n d a q. expand_declared scope n d a q) gate depth angles qubits ≡ expand_target numbers (target_for scope gate) depth angles qubits
+    → expand (λ n d a q. expand_declared scope n d a q) gate depth angles qubits ≡ expand_called numbers (called_for scope gate) depth angles qubits
 expand-same numbers scope U depth angles qubits h k = refl
 expand-same numbers scope Cx depth angles qubits h k = refl
 expand-same numbers scope (Declared name) depth angles qubits h k =
@@ -102,7 +102,7 @@ expand-same numbers scope (Declared name) depth angles qubits h k =
 -- a call by name is a call by number
 pub call-same : (numbers : Numbered) (scope : Scope) (gate : Callee) (depth : ℕ) (angles : Result (List Angle) Cause) (qubits : List ℕ)
     → Agrees numbers scope → is_no_gate (shape_of scope gate) ≡ false
-    → call (λ n d a q. expand_declared scope n d a q) gate depth angles qubits ≡ target_call numbers (target_for scope gate) depth angles qubits
+    → call (λ n d a q. expand_declared scope n d a q) gate depth angles qubits ≡ called_events numbers (called_for scope gate) depth angles qubits
 call-same numbers scope gate depth angles qubits h k =
     ap (λ events. Called depth ∷ events)
     (after_angles-same angles _ _ (λ values. expand-same numbers scope gate depth values qubits h k))
@@ -111,7 +111,7 @@ call-same numbers scope gate depth angles qubits h k =
 abbrev pub kept_events : Numbered → ℕ → List Angle → List ℕ → List KeptCall → List Event
 kept_events numbers depth angles qubits [] = []
 kept_events numbers depth angles qubits (c ∷ calls) =
-    target_call numbers c.target (depth + 1) (values_of c.angles angles) (picked qubits c.qubits) ++ kept_events numbers depth angles qubits calls
+    called_events numbers c.called (depth + 1) (values_of c.angles angles) (picked qubits c.qubits) ++ kept_events numbers depth angles qubits calls
 
 pub kept_events-calls : (numbers : Numbered) (depth : ℕ) (angles : List Angle) (qubits : List ℕ) (calls : List GateCall)
     → calls_events numbers depth angles qubits calls ≡ kept_events numbers depth angles qubits (map kept_call calls)
@@ -135,5 +135,5 @@ body-same numbers scope form depth angles qubits (BodyApplied a ∷ body) h k =
     ap (λ events. body_call (λ n d a q. expand_declared scope n d a q) form depth angles qubits (BodyApplied a) ++ events) rest
     ∙ ap (λ events. events ++ kept_events numbers depth angles qubits (kept_calls scope form body))
     (call-same numbers scope a.gate (depth + 1) (angles_of form.parameters angles a.angles) (map (λ name. slice_index_or qubits (place_of name form.qubits) 0) a.qubits) h known
-    ∙ ap (λ v. target_call numbers (target_for scope a.gate) (depth + 1) v (map (λ name. slice_index_or qubits (place_of name form.qubits) 0) a.qubits)) values
-    ∙ ap (λ p. target_call numbers (target_for scope a.gate) (depth + 1) (values_of (map (numbered form.parameters) a.angles) angles) p) places)
+    ∙ ap (λ v. called_events numbers (called_for scope a.gate) (depth + 1) v (map (λ name. slice_index_or qubits (place_of name form.qubits) 0) a.qubits)) values
+    ∙ ap (λ p. called_events numbers (called_for scope a.gate) (depth + 1) (values_of (map (numbered form.parameters) a.angles) angles) p) places)

@@ -2,19 +2,19 @@
 use Rattle.std.proofs.Common.{◌≡◌, ℕ, ◌+◌, ◌<◌, ◌==◌, Bool, true, false, ◌||◌, not, List, [], ◌∷◌, length, map, drop, get_or, Option, None, Some, refl, sym, ap, ◌∙◌, add-one}
 use Rattle.std.specs.List.{list_any, slice_get}
 use Rattle.std.proofs.Math.Seq.{drop-cons}
-use Rattle.qasm_scope.specs.Applications.{Target, register_size, register_sizes, instance_count}
+use Rattle.qasm_scope.specs.Applications.{QubitRange, register_size, register_sizes, instance_count}
 use Rattle.qasm_scope.specs.Faults.{has_other_size}
-use Rattle.qasm_inline.specs.Spans.{span_target}
+use Rattle.qasm_inline.specs.Internal.Spans.{span_range}
 use Rattle.qasm_inline.specs.declared.applications.Span.{Span}
 use Rattle.qasm_scope.proofs.Tests.{same_number}
 
 sizes-drop : (spans : List Span) (i : ℕ) (d : Span) → i < length spans
-    → register_sizes (map span_target (drop i spans)) ≡ register_sizes (span_target (get_or spans i d) ∷ map span_target (drop (i + 1) spans))
+    → register_sizes (map span_range (drop i spans)) ≡ register_sizes (span_range (get_or spans i d) ∷ map span_range (drop (i + 1) spans))
 sizes-drop spans i d h =
-    ap (λ rest. register_sizes (map span_target rest)) (drop-cons spans i d h)
-    ∙ ap (λ n. register_sizes (span_target (get_or spans i d) ∷ map span_target (drop n spans))) (sym (add-one i))
+    ap (λ rest. register_sizes (map span_range rest)) (drop-cons spans i d h)
+    ∙ ap (λ n. register_sizes (span_range (get_or spans i d) ∷ map span_range (drop n spans))) (sym (add-one i))
 
--- a size in front, if there is one, as filter_map puts it there
+-- a size before, if there is one, as filter_map puts it there
 abbrev sized : Option ℕ → List ℕ → List ℕ
 sized None rest = rest
 sized (Some size) rest = size ∷ rest
@@ -23,32 +23,32 @@ test-some : (a b : Bool) → (a || b) ≡ ((a || false) || b)
 test-some true b = refl
 test-some false b = refl
 
-with-size : (t : Target) (rest : List Target) (size : ℕ) → register_size t ≡ Some size → register_sizes (t ∷ rest) ≡ size ∷ register_sizes rest
+with-size : (t : QubitRange) (rest : List QubitRange) (size : ℕ) → register_size t ≡ Some size → register_sizes (t ∷ rest) ≡ size ∷ register_sizes rest
 with-size t rest size h = ap (λ o. sized o (register_sizes rest)) h
 
-pub sizes-some : (spans : List Span) (i : ℕ) (d : Span) (size : ℕ) → i < length spans → register_size (span_target (get_or spans i d)) ≡ Some size
-    → register_sizes (map span_target (drop i spans)) ≡ size ∷ register_sizes (map span_target (drop (i + 1) spans))
-sizes-some spans i d size h e = sizes-drop spans i d h ∙ with-size (span_target (get_or spans i d)) (map span_target (drop (i + 1) spans)) size e
+pub sizes-some : (spans : List Span) (i : ℕ) (d : Span) (size : ℕ) → i < length spans → register_size (span_range (get_or spans i d)) ≡ Some size
+    → register_sizes (map span_range (drop i spans)) ≡ size ∷ register_sizes (map span_range (drop (i + 1) spans))
+sizes-some spans i d size h e = sizes-drop spans i d h ∙ with-size (span_range (get_or spans i d)) (map span_range (drop (i + 1) spans)) size e
 
-pub sizes-none : (spans : List Span) (i : ℕ) (d : Span) → i < length spans → register_size (span_target (get_or spans i d)) ≡ None
-    → register_sizes (map span_target (drop i spans)) ≡ register_sizes (map span_target (drop (i + 1) spans))
-sizes-none spans i d h e = sizes-drop spans i d h ∙ ap (λ o. sized o (register_sizes (map span_target (drop (i + 1) spans)))) e
+pub sizes-none : (spans : List Span) (i : ℕ) (d : Span) → i < length spans → register_size (span_range (get_or spans i d)) ≡ None
+    → register_sizes (map span_range (drop i spans)) ≡ register_sizes (map span_range (drop (i + 1) spans))
+sizes-none spans i d h e = sizes-drop spans i d h ∙ ap (λ o. sized o (register_sizes (map span_range (drop (i + 1) spans)))) e
 
 test-at : (test : ℕ → Bool) (o : Option ℕ) (rest : List ℕ) → list_any test (sized o rest) ≡ (list_any test (sized o []) || list_any test rest)
 test-at test None rest = refl
 test-at test (Some size) rest = test-some (test size) (list_any test rest)
 
-pub sizes-found : (test : ℕ → Bool) (spans : List Span) (i : ℕ) (d : Span) → i < length spans → list_any test (register_sizes (span_target (get_or spans i d) ∷ [])) ≡ true
-    → list_any test (register_sizes (map span_target (drop i spans))) ≡ true
+pub sizes-found : (test : ℕ → Bool) (spans : List Span) (i : ℕ) (d : Span) → i < length spans → list_any test (register_sizes (span_range (get_or spans i d) ∷ [])) ≡ true
+    → list_any test (register_sizes (map span_range (drop i spans))) ≡ true
 sizes-found test spans i d h e =
-    ap (list_any test) (sizes-drop spans i d h) ∙ test-at test (register_size (span_target (get_or spans i d))) (register_sizes (map span_target (drop (i + 1) spans)))
-    ∙ ap (λ b. b || list_any test (register_sizes (map span_target (drop (i + 1) spans)))) e
+    ap (list_any test) (sizes-drop spans i d h) ∙ test-at test (register_size (span_range (get_or spans i d))) (register_sizes (map span_range (drop (i + 1) spans)))
+    ∙ ap (λ b. b || list_any test (register_sizes (map span_range (drop (i + 1) spans)))) e
 
-pub sizes-passed : (test : ℕ → Bool) (spans : List Span) (i : ℕ) (d : Span) → i < length spans → list_any test (register_sizes (span_target (get_or spans i d) ∷ [])) ≡ false
-    → list_any test (register_sizes (map span_target (drop i spans))) ≡ list_any test (register_sizes (map span_target (drop (i + 1) spans)))
+pub sizes-passed : (test : ℕ → Bool) (spans : List Span) (i : ℕ) (d : Span) → i < length spans → list_any test (register_sizes (span_range (get_or spans i d) ∷ [])) ≡ false
+    → list_any test (register_sizes (map span_range (drop i spans))) ≡ list_any test (register_sizes (map span_range (drop (i + 1) spans)))
 sizes-passed test spans i d h e =
-    ap (list_any test) (sizes-drop spans i d h) ∙ test-at test (register_size (span_target (get_or spans i d))) (register_sizes (map span_target (drop (i + 1) spans)))
-    ∙ ap (λ b. b || list_any test (register_sizes (map span_target (drop (i + 1) spans)))) e
+    ap (list_any test) (sizes-drop spans i d h) ∙ test-at test (register_size (span_range (get_or spans i d))) (register_sizes (map span_range (drop (i + 1) spans)))
+    ∙ ap (λ b. b || list_any test (register_sizes (map span_range (drop (i + 1) spans)))) e
 
 pub other-some : (sizes : List ℕ) (size : ℕ) → slice_get sizes 0 ≡ Some size → list_any (λ other. not (other == size)) sizes ≡ has_other_size sizes
 other-some [] size h = absurd (cc)

@@ -6,12 +6,12 @@ use Rattle.std.specs.Str.{bytes_eq}
 use Rattle.std.proofs.lemmas.Bool.Decides.{nat_tests}
 use Rattle.zx_gates.specs.Circuit.{most_qubits}
 use Rattle.qasm_reader.specs.Syntax.{Operand, Barrier}
-use Rattle.qasm_scope.specs.Applications.{Single, target_in, target_of}
-use Rattle.qasm_scope.specs.Checks.{Symbols, barrier_cause}
+use Rattle.qasm_scope.specs.Applications.{Single, range_in, range_of}
+use Rattle.qasm_scope.specs.Internal.Checks.{Symbols, barrier_cause}
 use Rattle.qasm_scope.specs.Faults.{is_no_register, is_past, has_no_register, wrong_in}
-use Rattle.qasm_scope.specs.Kept.{register_in, symbol_register, IsSound, IsSoundMeaning}
+use Rattle.qasm_scope.specs.Internal.Kept.{register_in, symbol_register, IsSound, IsSoundMeaning}
 use Rattle.qasm_scope.specs.Scope.{Scope, Meaning, Qubits, Bits, Gate, meaning_of, numeral}
-use Rattle.qasm_inline.specs.Spans.{register_by, no_register_by, past_in, past_by, span_in, span_by}
+use Rattle.qasm_inline.specs.Internal.Spans.{register_by, no_register_by, past_in, past_by, span_in, span_by}
 use Rattle.qasm_scope.proofs.CheckLemmas.{AreNames, list_any-same}
 use Rattle.qasm_scope.proofs.Symbols.{symbol-register}
 
@@ -45,7 +45,7 @@ IsFew (Some Bits) = Unit {0}
 IsFew (Some (Gate form)) = Unit {0}
 
 few-at : (b replaceable : Bool) (m : Meaning) (scope : Scope) (rest : Option Meaning) → IsSoundMeaning scope m replaceable → IsFew rest → IsFew (if b then Some m else rest)
-few-at true replaceable (Qubits first size) scope rest sound h = let few = sound.0.few in let place = sound.0.behind_others in omega arith
+few-at true replaceable (Qubits first size) scope rest sound h = let few = sound.0.few in let place = sound.0.after_others in omega arith
 few-at true replaceable Bits scope rest sound h = tt
 few-at true replaceable (Gate form) scope rest sound h = tt
 few-at false replaceable m scope rest sound h = h
@@ -58,7 +58,7 @@ span-none : (index : Option (List ℕ)) → span_in None index ≡ Single 0
 span-none None = refl
 span-none (Some text) = refl
 
-span-at : (m : Option Meaning) (index : Option (List ℕ)) → IsFew m → is_past m index ≡ false → span_in (register_in m) index ≡ target_in m index
+span-at : (m : Option Meaning) (index : Option (List ℕ)) → IsFew m → is_past m index ≡ false → span_in (register_in m) index ≡ range_in m index
 span-at None index few h = span-none index
 span-at (Some (Qubits first size)) None few h = refl
 span-at (Some (Qubits first size)) (Some text) few h =
@@ -69,7 +69,7 @@ span-at (Some Bits) index few h = span-none index
 span-at (Some (Gate form)) index few h = span-none index
 
 -- an argument stands for its qubits
-pub span-names : (symbols : Symbols) (scope : Scope) (o : Operand) → AreNames symbols scope → IsSound scope → past_by symbols o ≡ false → span_by symbols o ≡ target_of scope o
+pub span-names : (symbols : Symbols) (scope : Scope) (o : Operand) → AreNames symbols scope → IsSound scope → past_by symbols o ≡ false → span_by symbols o ≡ range_of scope o
 span-names symbols scope o h sound within =
     ap (λ r. span_in r o.index) (register-names symbols scope o h)
     ∙ span-at (meaning_of o.register scope) o.index (few-register o.register scope sound) (sym (past-names symbols scope o h) ∙ within)

@@ -6,10 +6,10 @@ use Rattle.qasm_scope.specs.declared.gates.GateCall.{GateCall}
 use Rattle.qasm_inline.specs.declared.unroll.Frame.{Frame}
 use Rattle.qasm_scope.specs.Calls.{Event, Called, after_angles, applied, call_count, first_wrong}
 use Rattle.qasm_scope.specs.declared.gates.GateBody.{GateBody}
-use Rattle.qasm_scope.specs.declared.gates.Target.{Target}
-use Rattle.qasm_scope.specs.declared.gates.Target.TheVariants as target
+use Rattle.qasm_scope.specs.declared.gates.CalledGate.{CalledGate}
+use Rattle.qasm_scope.specs.declared.gates.CalledGate.TheVariants as called_gate
 use Rattle.std.specs.List.{slice_get}
-use Rattle.qasm_inline.specs.KeptCalls.{Numbered, Unrolls, calls_of, Continues, calls_events, stack_events, expand_target, target_call, values_of, picked}
+use Rattle.qasm_inline.specs.Internal.KeptCalls.{Numbered, Unrolls, calls_of, Continues, calls_events, stack_events, expand_called, called_events, values_of, picked}
 
 -- a gate on top of a stack
 pub stack-push : (numbered : Numbered) (depth : ℕ) (frames : List Frame) (f : Frame)
@@ -24,12 +24,12 @@ stack-push numbered depth (g ∷ frames) f =
     ∙ ap (λ d. calls_events numbered d f.angles.items f.qubits.items f.calls.now ++ stack_events numbered depth (g ∷ frames)) same
 
 -- a declared gate comes on top
-pub entered : (numbered : Numbered) (gates : List GateBody) (called : Target) (number : ℕ) (frames later : List Frame) (f : Frame) (angles : List Angle) (qubits : List ℕ)
-    → Unrolls gates numbered → called ≡ target.Gate number → f.calls.now ≡ calls_of (slice_get gates number) → f.angles.items ≡ angles → f.qubits.items ≡ qubits
+pub entered : (numbered : Numbered) (gates : List GateBody) (called : CalledGate) (number : ℕ) (frames later : List Frame) (f : Frame) (angles : List Angle) (qubits : List ℕ)
+    → Unrolls gates numbered → called ≡ called_gate.Gate number → f.calls.now ≡ calls_of (slice_get gates number) → f.angles.items ≡ angles → f.qubits.items ≡ qubits
     → later ≡ frames ++ f ∷ []
-    → expand_target numbered called (1 + length frames) angles qubits ++ stack_events numbered 1 frames ≡ stack_events numbered 1 later
+    → expand_called numbered called (1 + length frames) angles qubits ++ stack_events numbered 1 frames ≡ stack_events numbered 1 later
 entered numbered gates called number frames later f angles qubits unrolls et ec ea eq el =
-    ap (λ t. expand_target numbered t (1 + length frames) angles qubits ++ stack_events numbered 1 frames) et
+    ap (λ t. expand_called numbered t (1 + length frames) angles qubits ++ stack_events numbered 1 frames) et
     ∙ ap (λ events. events ++ stack_events numbered 1 frames) (unrolls.each number (1 + length frames) angles qubits
     ∙ ap (λ cs. calls_events numbered (1 + length frames) angles qubits cs) (sym ec)
     ∙ ap (λ a. calls_events numbered (1 + length frames) a qubits f.calls.now) (sym ea)
@@ -69,7 +69,7 @@ pub next_call : (numbered : Numbered) (deep : ℕ) (frames later : List Frame) (
     → deep ≡ length frames + 2 → later ≡ frames ++ f ∷ [] → f.angles.items ≡ angles → f.qubits.items ≡ qubits → calls ≡ call ∷ f.calls.now
     → values_of call.angles.items angles ≡ Ok values → places ≡ picked qubits call.qubits.items
     → calls_events numbered (1 + length frames) angles qubits calls ++ stack_events numbered 1 frames
-    ≡ Called deep ∷ (expand_target numbered call.target (1 + length later) values places ++ stack_events numbered 1 later)
+    ≡ Called deep ∷ (expand_called numbered call.called (1 + length later) values places ++ stack_events numbered 1 later)
 next_call numbered deep frames later f angles values qubits places call calls ed el ea eq ec ev ep =
     let depth : (1 + length frames) + 1 ≡ deep = omega arith in
     let deeper : (1 + length frames) + 1 ≡ 1 + length (frames ++ f ∷ []) = omega (arith, length-append {A = Frame}) in
@@ -80,13 +80,13 @@ next_call numbered deep frames later f angles values qubits places call calls ed
     ∙ ap (λ q. calls_events numbered (1 + length frames) f.angles.items q f.calls.now ++ below) (sym eq)
     ∙ sym (stack-push numbered 1 frames f) ∙ ap (stack_events numbered 1) (sym el) in
     ap (λ cs. calls_events numbered (1 + length frames) angles qubits cs ++ below) ec
-    ∙ ap (λ vs. (target_call numbered call.target ((1 + length frames) + 1) vs (picked qubits call.qubits.items) ++ more) ++ below) ev
+    ∙ ap (λ vs. (called_events numbered call.called ((1 + length frames) + 1) vs (picked qubits call.qubits.items) ++ more) ++ below) ev
     ∙ ap (λ events. Called ((1 + length frames) + 1) ∷ events)
-    (append_assoc (expand_target numbered call.target ((1 + length frames) + 1) values (picked qubits call.qubits.items)) more below)
-    ∙ ap (λ d. Called d ∷ (expand_target numbered call.target ((1 + length frames) + 1) values (picked qubits call.qubits.items) ++ (more ++ below))) depth
-    ∙ ap (λ events. Called deep ∷ (expand_target numbered call.target ((1 + length frames) + 1) values (picked qubits call.qubits.items) ++ events)) on_top
-    ∙ ap (λ d. Called deep ∷ (expand_target numbered call.target d values (picked qubits call.qubits.items) ++ stack_events numbered 1 later)) (deeper ∙ ap (λ fs. 1 + length fs) (sym el))
-    ∙ ap (λ ps. Called deep ∷ (expand_target numbered call.target (1 + length later) values ps ++ stack_events numbered 1 later)) (sym ep)
+    (append_assoc (expand_called numbered call.called ((1 + length frames) + 1) values (picked qubits call.qubits.items)) more below)
+    ∙ ap (λ d. Called d ∷ (expand_called numbered call.called ((1 + length frames) + 1) values (picked qubits call.qubits.items) ++ (more ++ below))) depth
+    ∙ ap (λ events. Called deep ∷ (expand_called numbered call.called ((1 + length frames) + 1) values (picked qubits call.qubits.items) ++ events)) on_top
+    ∙ ap (λ d. Called deep ∷ (expand_called numbered call.called d values (picked qubits call.qubits.items) ++ stack_events numbered 1 later)) (deeper ∙ ap (λ fs. 1 + length fs) (sym el))
+    ∙ ap (λ ps. Called deep ∷ (expand_called numbered call.called (1 + length later) values ps ++ stack_events numbered 1 later)) (sym ep)
 
 -- a call is made first
 pub next_call_first : (numbered : Numbered) (deep : ℕ) (frames : List Frame) (angles : List Angle) (qubits : List ℕ) (call : GateCall) (calls rest : List GateCall)
@@ -95,7 +95,7 @@ pub next_call_first : (numbered : Numbered) (deep : ℕ) (frames : List Frame) (
     ≡ Called deep ∷ events)
 next_call_first numbered deep frames angles qubits call calls rest ed ec =
     let depth : (1 + length frames) + 1 ≡ deep = omega arith in
-    let after = (after_angles (values_of call.angles.items angles) (λ values. expand_target numbered call.target ((1 + length frames) + 1) values (picked qubits call.qubits.items))
+    let after = (after_angles (values_of call.angles.items angles) (λ values. expand_called numbered call.called ((1 + length frames) + 1) values (picked qubits call.qubits.items))
     ++ calls_events numbered (1 + length frames) angles qubits rest) ++ stack_events numbered 1 frames in (
       after,
       ap (λ cs. calls_events numbered (1 + length frames) angles qubits cs ++ stack_events numbered 1 frames) ec
@@ -103,8 +103,8 @@ next_call_first numbered deep frames angles qubits call calls rest ed ec =
     )
 
 -- with no gate on the stack
-pub first_events : (numbered : Numbered) (called : Target) (frames : List Frame) (values : List Angle) (qubits : List ℕ) → frames ≡ []
-    → expand_target numbered called 1 values qubits ≡ expand_target numbered called (1 + length frames) values qubits ++ stack_events numbered 1 frames
+pub first_events : (numbered : Numbered) (called : CalledGate) (frames : List Frame) (values : List Angle) (qubits : List ℕ) → frames ≡ []
+    → expand_called numbered called 1 values qubits ≡ expand_called numbered called (1 + length frames) values qubits ++ stack_events numbered 1 frames
 first_events numbered called frames values qubits e =
-    sym (append-nil (expand_target numbered called 1 values qubits))
-    ∙ ap (λ fs. expand_target numbered called (1 + length fs) values qubits ++ stack_events numbered 1 fs) (sym e)
+    sym (append-nil (expand_called numbered called 1 values qubits))
+    ∙ ap (λ fs. expand_called numbered called (1 + length fs) values qubits ++ stack_events numbered 1 fs) (sym e)

@@ -1,3 +1,1 @@
-pub mod Circuits
-pub mod KeptCalls
-pub mod Spans
+pub mod Internal

@@ -6,18 +6,18 @@ ghost use Rattle.std.specs.Option.{option_map};
 ghost use Rattle.qasm_reader.specs.Syntax.{Barrier};
 ghost use Rattle.qasm_reader.specs.Views.{operand};
 ghost use Rattle.qasm_scope.specs.declared.causes.Cause.{Cause};
-ghost use Rattle.qasm_scope.specs.Checks.{barrier_cause};
-ghost use Rattle.qasm_scope.specs.Kept.{Represents};
+ghost use Rattle.qasm_scope.specs.Internal.Checks.{barrier_cause};
+ghost use Rattle.qasm_scope.specs.Internal.Kept.{Represents};
 ghost use Rattle.qasm_scope.specs.Applications.{register_size, register_sizes, instance_count};
 ghost use Rattle.qasm_scope.specs.Faults.{has_other_size, wrong_in};
 ghost use Rattle.qasm_scope.specs.Scope.{Scope, numeral};
-ghost use Rattle.qasm_inline.specs.Spans.{span_target, span_by, span_in, no_register_by, past_by, past_in};
+ghost use Rattle.qasm_inline.specs.Internal.Spans.{span_range, span_by, span_in, no_register_by, past_by, past_in};
 
 use qasm_reader::Argument;
 use qasm_scope::Cause;
 use qasm_scope::names::Names;
 use qasm_scope::numerals::number;
-use qasm_scope::stopped::Stopped;
+use qasm_scope::statement_error::StatementError;
 use std::alloc::{AllocError, Global};
 
 /// What an argument stands for.
@@ -99,7 +99,7 @@ pub fn spans<'a>(
     names: &Names<'a>,
     arguments: &[Argument<'a>],
 ) -> Result<Vec<Span>, AllocError>
-    ensures { IfOk result (λ spans. map span_target spans.items
+    ensures { IfOk result (λ spans. map span_range spans.items
         ≡ map (span_by names.now.symbols) (map operand arguments.now)) }
 {
     let mut spans = Vec::new(alloc);
@@ -111,7 +111,7 @@ pub fn spans<'a>(
 
 /// What an argument stands for; a qubit past the largest number is that number.
 fn argument_span<'a>(names: &Names<'a>, argument: &Argument<'a>) -> Span
-    ensures { span_target result ≡ span_by names.now.symbols (operand argument.now) }
+    ensures { span_range result ≡ span_by names.now.symbols (operand argument.now) }
 {
     match names.register(argument.register) {
         Some(register) => span_of(register, argument.index),
@@ -121,7 +121,7 @@ fn argument_span<'a>(names: &Names<'a>, argument: &Argument<'a>) -> Span
 
 /// A register, or the qubit of it at the index.
 fn span_of(register: (usize, usize), index: Option<&[u8]>) -> Span
-    ensures { span_target result
+    ensures { span_range result
         ≡ span_in (Some register) (option_map (λ text. text.now) index.entry) }
 {
     match index {
@@ -135,7 +135,7 @@ fn span_of(register: (usize, usize), index: Option<&[u8]>) -> Span
 
 /// Whether two sizes of registers differ.
 pub fn has_other_sizes(spans: &[Span]) -> bool
-    ensures { result ≡ has_other_size (register_sizes (map span_target spans.now)) }
+    ensures { result ≡ has_other_size (register_sizes (map span_range spans.now)) }
 {
     match first_size(spans) {
         Some(size) => any_other_size(spans, size),
@@ -145,7 +145,7 @@ pub fn has_other_sizes(spans: &[Span]) -> bool
 
 /// How many instances there are: one for each index of the registers, or one alone.
 pub fn instance_count(spans: &[Span]) -> usize
-    ensures { result ≡ instance_count (register_sizes (map span_target spans.now)) }
+    ensures { result ≡ instance_count (register_sizes (map span_range spans.now)) }
 {
     match first_size(spans) {
         Some(size) => size,
@@ -155,7 +155,7 @@ pub fn instance_count(spans: &[Span]) -> usize
 
 /// The size of the first register.
 fn first_size(spans: &[Span]) -> Option<usize>
-    ensures { result ≡ slice_get (register_sizes (map span_target spans.now)) 0 }
+    ensures { result ≡ slice_get (register_sizes (map span_range spans.now)) 0 }
 {
     for span in spans {
         if let Some(size) = size_of(span) {
@@ -167,7 +167,7 @@ fn first_size(spans: &[Span]) -> Option<usize>
 
 /// The size of a register; none of one qubit.
 fn size_of(span: &Span) -> Option<usize>
-    ensures { result ≡ register_size (span_target span.now) }
+    ensures { result ≡ register_size (span_range span.now) }
 {
     match span {
         Span::Single(_) => None,
@@ -178,7 +178,7 @@ fn size_of(span: &Span) -> Option<usize>
 /// Whether a register has another size.
 fn any_other_size(spans: &[Span], size: usize) -> bool
     ensures { result
-        ≡ list_any (λ other. not (other == size)) (register_sizes (map span_target spans.now)) }
+        ≡ list_any (λ other. not (other == size)) (register_sizes (map span_range spans.now)) }
 {
     for span in spans {
         if is_other_size(span, size) {
@@ -191,7 +191,7 @@ fn any_other_size(spans: &[Span], size: usize) -> bool
 /// Whether it is a register of another size.
 fn is_other_size(span: &Span, size: usize) -> bool
     ensures { result
-        ≡ list_any (λ other. not (other == size)) (register_sizes (span_target span.now ∷ [])) }
+        ≡ list_any (λ other. not (other == size)) (register_sizes (span_range span.now ∷ [])) }
 {
     match span {
         Span::Single(_) => false,
@@ -219,15 +219,15 @@ pub fn wrong_barrier<'a>(names: &Names<'a>, arguments: &[Argument<'a>]) -> Optio
 ///
 /// `Wrong(Unknown)` where an argument is no register of qubits nor one of its qubits, else `Wrong(Index)` where an
 /// index isn't below its register's size.
-pub fn barrier<'a>(names: &Names<'a>, arguments: &[Argument<'a>]) -> Result<(), Stopped>
+pub fn barrier<'a>(names: &Names<'a>, arguments: &[Argument<'a>]) -> Result<(), StatementError>
     ensures ok { OnOk result ((scope : Scope) → Represents names.now scope
         → wrong_in scope (Barrier (map operand arguments.now)) ≡ None) }
-    ensures err { (cause : Cause) (scope : Scope) → result ≡ Err (Stopped.Wrong cause)
+    ensures err { (cause : Cause) (scope : Scope) → result ≡ Err (StatementError.Wrong cause)
         → Represents names.now scope
         → wrong_in scope (Barrier (map operand arguments.now)) ≡ Some cause }
 {
     match wrong_barrier(names, arguments) {
-        Some(cause) => Err(Stopped::Wrong(cause)),
+        Some(cause) => Err(StatementError::Wrong(cause)),
         None => Ok(()),
     }
 }

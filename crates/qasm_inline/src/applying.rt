@@ -4,12 +4,12 @@ ghost use Rattle.std.specs.Prelude.{◌≡◌, [], map, OnOk, None, Some, Err};
 ghost use Rattle.qasm_reader.specs.Syntax.{Act, Applied};
 ghost use Rattle.qasm_reader.specs.Views as views;
 ghost use Rattle.qasm_scope.specs.Applications.{application_events};
-ghost use Rattle.qasm_scope.specs.Kept.{Represents};
-ghost use Rattle.qasm_inline.specs.KeptCalls.{Continues};
+ghost use Rattle.qasm_scope.specs.Internal.Kept.{Represents};
+ghost use Rattle.qasm_inline.specs.Internal.KeptCalls.{Continues};
 ghost use Rattle.qasm_scope.specs.Faults.{wrong_in};
 ghost use Rattle.qasm_scope.specs.Meaning.{most_calls, wrong_with};
 ghost use Rattle.qasm_scope.specs.Scope.{Scope};
-ghost use Rattle.qasm_inline.specs.Spans.{span_target, span_by, wrong_application_by};
+ghost use Rattle.qasm_inline.specs.Internal.Spans.{span_range, span_by, wrong_application_by};
 ghost use Rattle.qasm_scope.specs.declared.causes.Cause.{Cause};
 
 use crate::applications::{Span, any_no_register, any_past_index, has_other_sizes, spans};
@@ -22,7 +22,7 @@ use qasm_scope::bodies::has_other_shape;
 use qasm_scope::expressions::{all_numbered, any_other_name, any_unsupported};
 use qasm_scope::names::Names;
 use qasm_scope::places::Places;
-use qasm_scope::stopped::Stopped;
+use qasm_scope::statement_error::StatementError;
 use std::alloc::Global;
 
 /// Applies a gate, where nothing is wrong with the application.
@@ -36,24 +36,24 @@ pub fn apply<'a>(
     names: &Names<'a>,
     unrolled: &mut Unrolled,
     application: &Application<'a>,
-) -> Result<(), Stopped>
+) -> Result<(), StatementError>
     ensures ok { OnOk result ((scope : Scope) → Represents names.now scope
         → wrong_in scope (Act (Applied (views.application application.now))) ≡ None) }
     ensures events { OnOk result ((scope : Scope) → Represents names.now scope
         → Continues most_calls unrolled.old.calls unrolled.old.gates (application_events scope (views.application application.now)) unrolled.new.calls unrolled.new.gates []) }
-    ensures err { (cause : Cause) (scope : Scope) → result ≡ Err (Stopped.Wrong cause)
+    ensures err { (cause : Cause) (scope : Scope) → result ≡ Err (StatementError.Wrong cause)
         → Represents names.now scope
         → wrong_with most_calls scope unrolled.old.calls (Act (Applied (views.application application.now))) ≡ Some cause }
 {
     let parameters = Places::none(alloc);
     let spans = spans(alloc, names, &application.qubits)?;
     if let Some(cause) = wrong_application(names, &parameters, application, &spans) {
-        return Err(Stopped::Wrong(cause));
+        return Err(StatementError::Wrong(cause));
     }
     let angles = all_numbered(alloc, &parameters, &application.angles)?;
     let values = constant_values(alloc, &angles)?;
-    let target = names.target(&application.gate);
-    call_instances(alloc, unrolled, &names.gates, target, &values, &spans)
+    let called = names.called(&application.gate);
+    call_instances(alloc, unrolled, &names.gates, called, &values, &spans)
 }
 
 /// What is wrong with an application.
@@ -63,7 +63,7 @@ fn wrong_application<'a>(
     application: &Application<'a>,
     spans: &[Span],
 ) -> Option<Cause>
-    ensures { map span_target spans.now
+    ensures { map span_range spans.now
         ≡ map (span_by names.now.symbols) (views.application application.now).qubits
         → result ≡ wrong_application_by names.now.symbols parameters.now (views.application application.now) }
 {

@@ -3,9 +3,9 @@
 ghost use Rattle.std.specs.Prelude.{◌≡◌, [], map, IfOk, OnOk, Err, Some};
 ghost use Rattle.std.specs.List.{flat_map};
 ghost use Rattle.qasm_scope.specs.Calls.{first_wrong};
-ghost use Rattle.qasm_inline.specs.KeptCalls.{Numbered, Unrolls, Continues, target_call, given, values_of};
+ghost use Rattle.qasm_inline.specs.Internal.KeptCalls.{Numbered, Unrolls, Continues, called_events, given, values_of};
 ghost use Rattle.qasm_scope.specs.Meaning.{most_calls};
-ghost use Rattle.qasm_inline.specs.Spans.{span_target, cut_instance, cut_instances, cut_qubit_at};
+ghost use Rattle.qasm_inline.specs.Internal.Spans.{span_range, cut_instance, cut_instances, cut_qubit_at};
 ghost use Rattle.qasm_scope.specs.declared.causes.Cause.{Cause};
 
 use crate::applications::{Span, instance_count};
@@ -13,9 +13,9 @@ use crate::unroll::Unrolled;
 use crate::values::evaluated;
 use qasm_angle::{Angle, Expr};
 use qasm_scope::Cause;
-use qasm_scope::gates::{GateBody, Target};
+use qasm_scope::gates::{CalledGate, GateBody};
 use qasm_scope::numerals::clamped;
-use qasm_scope::stopped::Stopped;
+use qasm_scope::statement_error::StatementError;
 use std::alloc::{AllocError, Global};
 use zx_gates::Qubit;
 
@@ -28,8 +28,8 @@ pub fn constant_values(
 {
     match evaluated(alloc, expressions, &[]) {
         Ok(values) => Ok(Ok(values)),
-        Err(Stopped::Wrong(cause)) => Ok(Err(cause)),
-        Err(Stopped::NoMemory) => Err(AllocError),
+        Err(StatementError::Wrong(cause)) => Ok(Err(cause)),
+        Err(StatementError::NoMemory) => Err(AllocError),
     }
 }
 
@@ -38,21 +38,21 @@ pub fn call_instances(
     alloc: Global,
     unrolled: &mut Unrolled,
     gates: &[GateBody],
-    target: Target,
+    called: CalledGate,
     values: &Result<Vec<Angle>, Cause>,
     spans: &[Span],
-) -> Result<(), Stopped>
+) -> Result<(), StatementError>
     ensures ok { OnOk result ((numbered : Numbered) → Unrolls gates.now numbered
         → Continues most_calls unrolled.old.calls unrolled.old.gates
-        (flat_map (target_call numbered target 1 (given values.now)) (cut_instances (map span_target spans.now))) unrolled.new.calls unrolled.new.gates []) }
-    ensures err { (cause : Cause) (numbered : Numbered) → result ≡ Err (Stopped.Wrong cause)
+        (flat_map (called_events numbered called 1 (given values.now)) (cut_instances (map span_range spans.now))) unrolled.new.calls unrolled.new.gates []) }
+    ensures err { (cause : Cause) (numbered : Numbered) → result ≡ Err (StatementError.Wrong cause)
         → Unrolls gates.now numbered
         → first_wrong most_calls unrolled.old.calls
-        (flat_map (target_call numbered target 1 (given values.now)) (cut_instances (map span_target spans.now))) ≡ Some cause }
+        (flat_map (called_events numbered called 1 (given values.now)) (cut_instances (map span_range spans.now))) ≡ Some cause }
 {
     for index in 0..instance_count(spans) {
         let qubits = instance_qubits(alloc, spans, index)?;
-        unrolled.instance(gates, target, values, &qubits)?;
+        unrolled.instance(gates, called, values, &qubits)?;
     }
     Ok(())
 }
@@ -60,7 +60,7 @@ pub fn call_instances(
 /// The qubits of the instance at an index.
 fn instance_qubits(alloc: Global, spans: &[Span], index: usize) -> Result<Vec<Qubit>, AllocError>
     ensures { IfOk result (λ qubits. qubits.items
-        ≡ cut_instance (map span_target spans.now) index) }
+        ≡ cut_instance (map span_range spans.now) index) }
 {
     let mut qubits = Vec::new(alloc);
     for span in spans {
@@ -71,7 +71,7 @@ fn instance_qubits(alloc: Global, spans: &[Span], index: usize) -> Result<Vec<Qu
 
 /// The qubit of an argument in the instance at an index.
 fn qubit_at(span: &Span, index: usize) -> Qubit
-    ensures { result ≡ cut_qubit_at index (span_target span.now) }
+    ensures { result ≡ cut_qubit_at index (span_range span.now) }
 {
     match span {
         Span::Single(qubit) => clamped(*qubit),

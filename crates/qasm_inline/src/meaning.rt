@@ -5,10 +5,10 @@ ghost use Rattle.std.specs.Str.{bytes_eq};
 ghost use Rattle.qasm_reader.specs.Views.{statements_of, placed, sentence};
 ghost use Rattle.zx_gates.specs.Elementary.{IsElementary};
 ghost use Rattle.qasm_scope.specs.declared.causes.Cause.{Cause};
-ghost use Rattle.qasm_inline.specs.Circuits.{IsCircuitAnswer, IsVersionAnswer};
-ghost use Rattle.qasm_scope.specs.Kept.{Represents};
-ghost use Rattle.qasm_inline.specs.KeptCalls.{Continues};
-ghost use Rattle.qasm_scope.specs.Meaning.{Means, behind, events_of, first_fault, is_version, most_calls, wrong_with};
+ghost use Rattle.qasm_inline.specs.Internal.Circuits.{IsCircuitAnswer, IsVersionAnswer};
+ghost use Rattle.qasm_scope.specs.Internal.Kept.{Represents};
+ghost use Rattle.qasm_inline.specs.Internal.KeptCalls.{Continues};
+ghost use Rattle.qasm_scope.specs.Meaning.{Means, after_statement, events_of, first_fault, is_version, most_calls, wrong_with};
 ghost use Rattle.qasm_scope.specs.Scope.{Scope};
 
 use crate::error::InlineError;
@@ -18,7 +18,7 @@ use qasm_reader::{Program, Statement, StatementKind};
 use qasm_scope::Cause;
 use qasm_scope::names::Names;
 use qasm_scope::numerals::clamped;
-use qasm_scope::stopped::Stopped;
+use qasm_scope::statement_error::StatementError;
 use std::alloc::Global;
 use zx_gates::Elementary;
 
@@ -46,7 +46,7 @@ pub fn inline(alloc: Global, program: &Program<'_>) -> Result<Elementary, Inline
 fn circuit(alloc: Global, statements: &[Statement<'_>]) -> Result<Elementary, InlineError>
     ensures { IsCircuitAnswer (map placed statements.now) result }
 {
-    let rest = behind_version(statements)?;
+    let rest = after_version(statements)?;
     let mut names = Names::new(alloc);
     let mut unrolled = Unrolled::new(alloc);
     for statement in rest {
@@ -58,8 +58,8 @@ fn circuit(alloc: Global, statements: &[Statement<'_>]) -> Result<Elementary, In
     })
 }
 
-/// The statements behind the version, which has to stand first.
-fn behind_version<'p, 'a>(
+/// The statements after the version, which has to stand first.
+fn after_version<'p, 'a>(
     statements: &'p [Statement<'a>],
 ) -> Result<&'p [Statement<'a>], InlineError>
     ensures { IsVersionAnswer (map placed statements.now) result }
@@ -97,7 +97,7 @@ fn is_two(real: &[u8]) -> bool
     real == b"2.0".as_slice()
 }
 
-/// Takes in a statement behind the first one, where nothing is wrong with it.
+/// Takes in a statement after the first one, where nothing is wrong with it.
 fn take_in<'a>(
     alloc: Global,
     names: &mut Names<'a>,
@@ -106,8 +106,8 @@ fn take_in<'a>(
 ) -> Result<(), InlineError>
     ensures ok { OnOk result ((scope : Scope) → Represents names.old scope
         → wrong_with most_calls scope unrolled.old.calls (placed statement.now).sentence ≡ None) }
-    ensures behind { OnOk result ((scope : Scope) → Represents names.old scope
-        → Represents names.new (behind scope (placed statement.now).sentence)) }
+    ensures after { OnOk result ((scope : Scope) → Represents names.old scope
+        → Represents names.new (after_statement scope (placed statement.now).sentence)) }
     ensures events { OnOk result ((scope : Scope) → Represents names.old scope
         → Continues most_calls unrolled.old.calls unrolled.old.gates (events_of scope (placed statement.now).sentence) unrolled.new.calls unrolled.new.gates []) }
     ensures err { (cause : Cause) (at : ℕ) (scope : Scope)
@@ -117,10 +117,10 @@ fn take_in<'a>(
 {
     match read_statement(alloc, names, unrolled, &statement.kind) {
         Ok(()) => Ok(()),
-        Err(Stopped::Wrong(cause)) => Err(InlineError::Fault {
+        Err(StatementError::Wrong(cause)) => Err(InlineError::Fault {
             cause,
             at: statement.place,
         }),
-        Err(Stopped::NoMemory) => Err(InlineError::NoMemory),
+        Err(StatementError::NoMemory) => Err(InlineError::NoMemory),
     }
 }

@@ -3,20 +3,20 @@
 ghost use Rattle.std.specs.Prelude.{◌≡◌, map};
 ghost use Rattle.std.specs.List.{list_any};
 ghost use Rattle.qasm_scope.specs.Applications.{has_twice, instances};
-ghost use Rattle.qasm_inline.specs.Spans.{span_target, is_within, overlaps, any_overlap};
+ghost use Rattle.qasm_inline.specs.Internal.Spans.{span_range, is_within, overlaps, any_overlap};
 
 use crate::applications::{Span, instance_count};
 
 /// Whether a qubit stands twice in an instance.
 pub fn has_same_qubit(spans: &[Span]) -> bool
-    ensures { result ≡ list_any has_twice (instances (map span_target spans.now)) }
+    ensures { result ≡ list_any has_twice (instances (map span_range spans.now)) }
 {
     any_overlap(spans, instance_count(spans))
 }
 
 /// Whether two arguments are the same qubit in one of so many instances.
 fn any_overlap(spans: &[Span], count: usize) -> bool
-    ensures { result ≡ any_overlap count (map span_target spans.now) }
+    ensures { result ≡ any_overlap count (map span_range spans.now) }
 {
     let mut rest = spans;
     while let [first, others @ ..] = rest {
@@ -31,7 +31,7 @@ fn any_overlap(spans: &[Span], count: usize) -> bool
 /// Whether an argument is the same qubit as one of the others is in one of so many instances.
 fn overlaps_any(span: &Span, others: &[Span], count: usize) -> bool
     ensures { result
-        ≡ list_any (overlaps count (span_target span.now)) (map span_target others.now) }
+        ≡ list_any (overlaps count (span_range span.now)) (map span_range others.now) }
 {
     for other in others {
         if overlaps(span, other, count) {
@@ -43,7 +43,7 @@ fn overlaps_any(span: &Span, others: &[Span], count: usize) -> bool
 
 /// Whether two arguments are the same qubit in one of so many instances.
 fn overlaps(one: &Span, other: &Span, count: usize) -> bool
-    ensures { result ≡ overlaps count (span_target one.now) (span_target other.now) }
+    ensures { result ≡ overlaps count (span_range one.now) (span_range other.now) }
 {
     match one {
         Span::Single(qubit) => match other {

@@ -3,9 +3,9 @@
 ghost use Rattle.std.specs.Prelude.{◌≡◌, [], OnOk, None, Some, Err};
 ghost use Rattle.qasm_reader.specs.Views.{sentence, action};
 ghost use Rattle.qasm_reader.specs.Syntax.{Act};
-ghost use Rattle.qasm_scope.specs.Kept.{Represents};
-ghost use Rattle.qasm_inline.specs.KeptCalls.{Continues};
-ghost use Rattle.qasm_scope.specs.Meaning.{behind, events_of, most_calls, wrong_with};
+ghost use Rattle.qasm_scope.specs.Internal.Kept.{Represents};
+ghost use Rattle.qasm_inline.specs.Internal.KeptCalls.{Continues};
+ghost use Rattle.qasm_scope.specs.Meaning.{after_statement, events_of, most_calls, wrong_with};
 ghost use Rattle.qasm_scope.specs.Scope.{Scope};
 ghost use Rattle.qasm_scope.specs.declared.causes.Cause.{Cause};
 
@@ -18,34 +18,34 @@ use qasm_scope::declarations::declare_checked;
 use qasm_scope::header::include;
 use qasm_scope::names::Names;
 use qasm_scope::registers::{declare_bits, declare_qubits};
-use qasm_scope::stopped::Stopped;
+use qasm_scope::statement_error::StatementError;
 use std::alloc::Global;
 
-/// Takes in a statement behind the first one, where nothing is wrong with it.
+/// Takes in a statement after the first one, where nothing is wrong with it.
 pub fn read_statement<'a>(
     alloc: Global,
     names: &mut Names<'a>,
     unrolled: &mut Unrolled,
     kind: &StatementKind<'a>,
-) -> Result<(), Stopped>
+) -> Result<(), StatementError>
     ensures ok { OnOk result ((scope : Scope) → Represents names.old scope
         → wrong_with most_calls scope unrolled.old.calls (sentence kind.now) ≡ None) }
-    ensures behind { OnOk result ((scope : Scope) → Represents names.old scope
-        → Represents names.new (behind scope (sentence kind.now))) }
+    ensures after { OnOk result ((scope : Scope) → Represents names.old scope
+        → Represents names.new (after_statement scope (sentence kind.now))) }
     ensures events { OnOk result ((scope : Scope) → Represents names.old scope
         → Continues most_calls unrolled.old.calls unrolled.old.gates (events_of scope (sentence kind.now)) unrolled.new.calls unrolled.new.gates []) }
-    ensures err { (cause : Cause) (scope : Scope) → result ≡ Err (Stopped.Wrong cause)
+    ensures err { (cause : Cause) (scope : Scope) → result ≡ Err (StatementError.Wrong cause)
         → Represents names.old scope
         → wrong_with most_calls scope unrolled.old.calls (sentence kind.now) ≡ Some cause }
 {
     match kind {
-        StatementKind::Version(_) => Err(Stopped::Wrong(Cause::SecondVersion)),
+        StatementKind::Version(_) => Err(StatementError::Wrong(Cause::SecondVersion)),
         StatementKind::Include(text) => include(alloc, names, *text),
         StatementKind::QubitRegister { name, size } => declare_qubits(names, *name, *size),
         StatementKind::BitRegister { name, size } => declare_bits(names, *name, *size),
         StatementKind::Gate(declaration) => declare_checked(alloc, names, declaration),
-        StatementKind::Opaque(_) => Err(Stopped::Wrong(Cause::Unsupported)),
-        StatementKind::If { .. } => Err(Stopped::Wrong(Cause::Unsupported)),
+        StatementKind::Opaque(_) => Err(StatementError::Wrong(Cause::Unsupported)),
+        StatementKind::If { .. } => Err(StatementError::Wrong(Cause::Unsupported)),
         StatementKind::Barrier(arguments) => barrier(names, arguments),
         StatementKind::Operation(operation) => operate(alloc, names, unrolled, operation),
     }
@@ -57,18 +57,18 @@ fn operate<'a>(
     names: &Names<'a>,
     unrolled: &mut Unrolled,
     operation: &Operation<'a>,
-) -> Result<(), Stopped>
+) -> Result<(), StatementError>
     ensures ok { OnOk result ((scope : Scope) → Represents names.now scope
         → wrong_with most_calls scope unrolled.old.calls (Act (action operation.now)) ≡ None) }
     ensures events { OnOk result ((scope : Scope) → Represents names.now scope
         → Continues most_calls unrolled.old.calls unrolled.old.gates (events_of scope (Act (action operation.now))) unrolled.new.calls unrolled.new.gates []) }
-    ensures err { (cause : Cause) (scope : Scope) → result ≡ Err (Stopped.Wrong cause)
+    ensures err { (cause : Cause) (scope : Scope) → result ≡ Err (StatementError.Wrong cause)
         → Represents names.now scope
         → wrong_with most_calls scope unrolled.old.calls (Act (action operation.now)) ≡ Some cause }
 {
     match operation {
         Operation::Apply(application) => apply(alloc, names, unrolled, application),
-        Operation::Measure { .. } => Err(Stopped::Wrong(Cause::Unsupported)),
-        Operation::Reset(_) => Err(Stopped::Wrong(Cause::Unsupported)),
+        Operation::Measure { .. } => Err(StatementError::Wrong(Cause::Unsupported)),
+        Operation::Reset(_) => Err(StatementError::Wrong(Cause::Unsupported)),
     }
 }

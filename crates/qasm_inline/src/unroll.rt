@@ -4,14 +4,14 @@ ghost use Rattle.std.specs.Prelude.{◌≡◌, ◌+◌, ◌-◌, ◌*◌, ◌<�
 ghost use Rattle.zx_gates.specs.declared.elementary.ElementaryGate.{ElementaryGate};
 ghost use Rattle.qasm_scope.specs.declared.causes.Cause.{Cause};
 ghost use Rattle.qasm_scope.specs.Calls.{Event, Called, Undefined, applied, call_count, first_wrong, u_events, cx_events, after_angles};
-ghost use Rattle.qasm_inline.specs.KeptCalls.{Numbered, Unrolls, Continues, calls_events, stack_events, expand_target, target_call, gate_events, given, calls_of};
+ghost use Rattle.qasm_inline.specs.Internal.KeptCalls.{Numbered, Unrolls, Continues, calls_events, stack_events, expand_called, called_events, gate_events, given, calls_of};
 ghost use Rattle.qasm_scope.specs.Meaning.{most_calls};
 
 use crate::values::{copied, eighth_of, evaluated, picked};
 use qasm_angle::Angle;
 use qasm_scope::Cause;
-use qasm_scope::gates::{GateBody, GateCall, Target};
-use qasm_scope::stopped::Stopped;
+use qasm_scope::gates::{CalledGate, GateBody, GateCall};
+use qasm_scope::statement_error::StatementError;
 use std::alloc::Global;
 use zx_gates::{ElementaryGate, Elements, Qubit};
 
@@ -59,43 +59,43 @@ impl Unrolled {
     pub fn instance(
         &mut self,
         gates: &[GateBody],
-        target: Target,
+        called: CalledGate,
         values: &Result<Vec<Angle>, Cause>,
         qubits: &[Qubit],
-    ) -> Result<(), Stopped>
+    ) -> Result<(), StatementError>
         ensures ok { OnOk result ((numbered : Numbered) → Unrolls gates.now numbered
-            → Continues most_calls self.old.calls self.old.gates (target_call numbered target 1 (given values.now) qubits.now) self.new.calls self.new.gates []) }
+            → Continues most_calls self.old.calls self.old.gates (called_events numbered called 1 (given values.now) qubits.now) self.new.calls self.new.gates []) }
         ensures err { (cause : Cause) (numbered : Numbered)
-            → result ≡ Err (Stopped.Wrong cause) → Unrolls gates.now numbered
-            → first_wrong most_calls self.old.calls (target_call numbered target 1 (given values.now) qubits.now) ≡ Some cause }
+            → result ≡ Err (StatementError.Wrong cause) → Unrolls gates.now numbered
+            → first_wrong most_calls self.old.calls (called_events numbered called 1 (given values.now) qubits.now) ≡ Some cause }
     {
         self.count(1)?;
         match values {
             Ok(values) => {
                 let values = copied(self.alloc, values)?;
                 let qubits = copied(self.alloc, qubits)?;
-                self.all(gates, target, values, qubits)
+                self.unroll(gates, called, values, qubits)
             }
-            Err(cause) => Err(Stopped::Wrong(*cause)),
+            Err(cause) => Err(StatementError::Wrong(*cause)),
         }
     }
 
     /// All that a gate comes to.
-    fn all(
+    fn unroll(
         &mut self,
         gates: &[GateBody],
-        target: Target,
+        called: CalledGate,
         values: Vec<Angle>,
         qubits: Vec<Qubit>,
-    ) -> Result<(), Stopped>
+    ) -> Result<(), StatementError>
         ensures ok { OnOk result ((numbered : Numbered) → Unrolls gates.now numbered
-            → Continues most_calls self.old.calls self.old.gates (expand_target numbered target 1 values.items qubits.items) self.new.calls self.new.gates []) }
+            → Continues most_calls self.old.calls self.old.gates (expand_called numbered called 1 values.items qubits.items) self.new.calls self.new.gates []) }
         ensures err { (cause : Cause) (numbered : Numbered)
-            → result ≡ Err (Stopped.Wrong cause) → Unrolls gates.now numbered
-            → first_wrong most_calls self.old.calls (expand_target numbered target 1 values.items qubits.items) ≡ Some cause }
+            → result ≡ Err (StatementError.Wrong cause) → Unrolls gates.now numbered
+            → first_wrong most_calls self.old.calls (expand_called numbered called 1 values.items qubits.items) ≡ Some cause }
     {
         let mut frames = Vec::new(self.alloc);
-        self.enter(gates, &mut frames, target, values, qubits)?;
+        self.enter(gates, &mut frames, called, values, qubits)?;
         while let Some(frame) = frames.pop() {
             self.step(gates, &mut frames, frame)?;
         }
@@ -103,7 +103,7 @@ impl Unrolled {
     }
 
     /// Counts a call at a depth.
-    fn count(&mut self, depth: usize) -> Result<(), Stopped>
+    fn count(&mut self, depth: usize) -> Result<(), StatementError>
         ensures ok { OnOk result ((events : List Event)
             → first_wrong most_calls self.old.calls (Called depth ∷ events)
             ≡ first_wrong most_calls self.new.calls events) }
@@ -111,15 +111,15 @@ impl Unrolled {
         ensures most { OnOk result (self.new.calls ≤ most_calls) }
         ensures gates { self.new.gates ≡ self.old.gates }
         ensures err { (cause : Cause) (events : List Event)
-            → result ≡ Err (Stopped.Wrong cause)
+            → result ≡ Err (StatementError.Wrong cause)
             → first_wrong most_calls self.old.calls (Called depth ∷ events) ≡ Some cause }
     {
         if self.calls >= MOST_CALLS {
-            return Err(Stopped::Wrong(Cause::TooManyGates));
+            return Err(StatementError::Wrong(Cause::TooManyGates));
         }
         self.calls += 1;
         if depth > DEEPEST {
-            return Err(Stopped::Wrong(Cause::TooDeep));
+            return Err(StatementError::Wrong(Cause::TooDeep));
         }
         Ok(())
     }
@@ -130,13 +130,13 @@ impl Unrolled {
         gates: &'a [GateBody],
         frames: &mut Vec<Frame<'a>>,
         frame: Frame<'a>,
-    ) -> Result<(), Stopped>
+    ) -> Result<(), StatementError>
         ensures ok { OnOk result ((numbered : Numbered) → Unrolls gates.now numbered
             → Continues most_calls self.old.calls self.old.gates
             (calls_events numbered (1 + length frames.old.items) frame.entry.angles.items frame.entry.qubits.items frame.entry.calls.now ++ stack_events numbered 1 frames.old.items)
             self.new.calls self.new.gates (stack_events numbered 1 frames.new.items)) }
         ensures err { (cause : Cause) (numbered : Numbered)
-            → result ≡ Err (Stopped.Wrong cause) → Unrolls gates.now numbered
+            → result ≡ Err (StatementError.Wrong cause) → Unrolls gates.now numbered
             → first_wrong most_calls self.old.calls
             (calls_events numbered (1 + length frames.old.items) frame.entry.angles.items frame.entry.qubits.items frame.entry.calls.now ++ stack_events numbered 1 frames.old.items)
             ≡ Some cause }
@@ -152,7 +152,7 @@ impl Unrolled {
             calls: rest,
             ..frame
         })?;
-        self.enter(gates, frames, call.target, values, qubits)
+        self.enter(gates, frames, call.called, values, qubits)
     }
 
     /// A built-in gate acts, and a declared one comes on top of the stack.
@@ -160,29 +160,29 @@ impl Unrolled {
         &mut self,
         gates: &'a [GateBody],
         frames: &mut Vec<Frame<'a>>,
-        target: Target,
+        called: CalledGate,
         angles: Vec<Angle>,
         qubits: Vec<Qubit>,
-    ) -> Result<(), Stopped>
+    ) -> Result<(), StatementError>
         ensures ok { OnOk result ((numbered : Numbered) → Unrolls gates.now numbered
             → Continues most_calls self.old.calls self.old.gates
-            (expand_target numbered target (1 + length frames.old.items) angles.items qubits.items ++ stack_events numbered 1 frames.old.items)
+            (expand_called numbered called (1 + length frames.old.items) angles.items qubits.items ++ stack_events numbered 1 frames.old.items)
             self.new.calls self.new.gates (stack_events numbered 1 frames.new.items)) }
         ensures err { (cause : Cause) (numbered : Numbered)
-            → result ≡ Err (Stopped.Wrong cause) → Unrolls gates.now numbered
+            → result ≡ Err (StatementError.Wrong cause) → Unrolls gates.now numbered
             → first_wrong most_calls self.old.calls
-            (expand_target numbered target (1 + length frames.old.items) angles.items qubits.items ++ stack_events numbered 1 frames.old.items)
+            (expand_called numbered called (1 + length frames.old.items) angles.items qubits.items ++ stack_events numbered 1 frames.old.items)
             ≡ Some cause }
         ensures calls { OnOk result (self.new.calls ≡ self.old.calls) }
         ensures frames { OnOk result (length frames.new.items ≤ length frames.old.items + 1) }
     {
-        match target {
-            Target::U => match u_gate(&angles, &qubits) {
+        match called {
+            CalledGate::U => match u_gate(&angles, &qubits) {
                 Ok(gate) => self.act(gate),
-                Err(cause) => Err(Stopped::Wrong(cause)),
+                Err(cause) => Err(StatementError::Wrong(cause)),
             },
-            Target::Cx => self.act(cx_gate(&qubits)),
-            Target::Gate(number) => {
+            CalledGate::Cx => self.act(cx_gate(&qubits)),
+            CalledGate::Gate(number) => {
                 frames.push(Frame {
                     calls: calls_of(gates, number),
                     angles,
@@ -194,11 +194,11 @@ impl Unrolled {
     }
 
     /// A built-in gate acts, if there is one.
-    fn act(&mut self, gate: Option<ElementaryGate>) -> Result<(), Stopped>
+    fn act(&mut self, gate: Option<ElementaryGate>) -> Result<(), StatementError>
         ensures gates { OnOk result (self.new.gates
             ≡ self.old.gates ++ applied (gate_events gate)) }
         ensures calls { self.new.calls ≡ self.old.calls }
-        ensures err { IfErr result (λ stopped. stopped ≡ Stopped.NoMemory) }
+        ensures err { IfErr result (λ stopped. stopped ≡ StatementError.NoMemory) }
     {
         if let Some(gate) = gate {
             self.gates.push(gate)?;

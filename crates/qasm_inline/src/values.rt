@@ -4,11 +4,11 @@ ghost use Rattle.std.specs.Prelude.{◌≡◌, Ok, Err, Some, None, IfOk, IfErr,
 ghost use Rattle.qasm_angle.specs.Eighths.{phase_of};
 ghost use Rattle.qasm_angle.specs.Values.{value};
 ghost use Rattle.qasm_scope.specs.Angles.{with_cause};
-ghost use Rattle.qasm_inline.specs.KeptCalls.{picked, values_of};
+ghost use Rattle.qasm_inline.specs.Internal.KeptCalls.{picked, values_of};
 
 use qasm_angle::{Angle, AngleError, Expr, eval, to_eighth};
 use qasm_scope::Cause;
-use qasm_scope::stopped::Stopped;
+use qasm_scope::statement_error::StatementError;
 use std::alloc::{AllocError, Global};
 use zx_gates::Qubit;
 use zx_model::Eighth;
@@ -58,9 +58,9 @@ pub fn evaluated(
     alloc: Global,
     expressions: &[Expr],
     angles: &[Angle],
-) -> Result<Vec<Angle>, Stopped>
+) -> Result<Vec<Angle>, StatementError>
     ensures ok { IfOk result (λ values. values_of expressions.now angles.now ≡ Ok values.items) }
-    ensures err { (cause : Cause) → result ≡ Err (Stopped.Wrong cause)
+    ensures err { (cause : Cause) → result ≡ Err (StatementError.Wrong cause)
         → values_of expressions.now angles.now ≡ Err cause }
 {
     let mut values = Vec::new(alloc);
@@ -71,16 +71,16 @@ pub fn evaluated(
 }
 
 /// The value of an expression.
-fn value_of(alloc: Global, expression: &Expr, angles: &[Angle]) -> Result<Angle, Stopped>
+fn value_of(alloc: Global, expression: &Expr, angles: &[Angle]) -> Result<Angle, StatementError>
     ensures ok { IfOk result (λ angle. with_cause (value expression.now angles.now) ≡ Ok angle) }
-    ensures err { (cause : Cause) → result ≡ Err (Stopped.Wrong cause)
+    ensures err { (cause : Cause) → result ≡ Err (StatementError.Wrong cause)
         → with_cause (value expression.now angles.now) ≡ Err cause }
 {
     match eval(alloc, expression, angles) {
         Ok(angle) => Ok(angle),
-        Err(AngleError::Divide) => Err(Stopped::Wrong(Cause::Divide)),
-        Err(AngleError::TooLarge) => Err(Stopped::Wrong(Cause::AngleTooLarge)),
-        Err(AngleError::NotAnAngle) => Err(Stopped::Wrong(Cause::NotEighthTurn)),
-        Err(AngleError::NoMemory) => Err(Stopped::NoMemory),
+        Err(AngleError::Divide) => Err(StatementError::Wrong(Cause::Divide)),
+        Err(AngleError::TooLarge) => Err(StatementError::Wrong(Cause::AngleTooLarge)),
+        Err(AngleError::NotAnAngle) => Err(StatementError::Wrong(Cause::NotEighthTurn)),
+        Err(AngleError::NoMemory) => Err(StatementError::NoMemory),
     }
 }

@@ -1,4 +1,4 @@
--- A text is cut in one manner at most, and cuts go on behind one another.
+-- A text is cut in one manner at most, and cuts go on after one another.
 use Rattle.std.proofs.Common.{◌≡◌, ℕ, ◌+◌, ◌-◌, ◌<◌, ◌≤◌, true, List, [], ◌∷◌, ◌++◌, length, take, drop, slice_range, refl, sym, ap, ◌∙◌, subst, arith, Option, None, Some, append_assoc, length-append, length-drop}
 use Rattle.std.specs.List.{concat}
 use Rattle.std.specs.Option.{option_map, option_to_list}
@@ -11,20 +11,20 @@ pub form_some : (form : List ℕ) → is_form form ≡ true → 0 < length form
 form_some [] e = absurd (false≢true e)
 form_some (b ∷ rest) e = omega arith
 
--- fronts as long as each other, and what follows them
-pub same_front : (a b x y : List ℕ) → a ++ x ≡ b ++ y → length a ≡ length b → (a ≡ b) × (x ≡ y)
-same_front [] [] x y e h = (refl, e)
-same_front [] (c ∷ b) x y e h = absurd (omega arith)
-same_front (c ∷ a) [] x y e h = absurd (omega arith)
-same_front (c ∷ a) (d ∷ b) x y e h =
+-- prefixes as long as each other, and what follows them
+pub same_prefix : (a b x y : List ℕ) → a ++ x ≡ b ++ y → length a ≡ length b → (a ≡ b) × (x ≡ y)
+same_prefix [] [] x y e h = (refl, e)
+same_prefix [] (c ∷ b) x y e h = absurd (omega arith)
+same_prefix (c ∷ a) [] x y e h = absurd (omega arith)
+same_prefix (c ∷ a) (d ∷ b) x y e h =
     let k : c ≡ d = cc in
     let t : a ++ x ≡ b ++ y = cc in
-    let r : (a ≡ b) × (x ≡ y) = same_front a b x y t (omega arith) in
+    let r : (a ≡ b) × (x ≡ y) = same_prefix a b x y t (omega arith) in
     (cc, r.1)
 
 -- the longest form at a place is one
 pub same_longest : (a b x y : List ℕ) → a ++ x ≡ b ++ y → IsLongest a x → IsLongest b y → (a ≡ b) × (x ≡ y)
-same_longest a b x y e l m = same_front a b x y e (omega (arith, l.longest b y (sym e) m.is, m.longest a x e l.is))
+same_longest a b x y e l m = same_prefix a b x y e (omega (arith, l.longest b y (sym e) m.is, m.longest a x e l.is))
 
 -- no piece begins here
 abbrev pub IsEnd : List ℕ → Type 0
@@ -68,7 +68,7 @@ pub concat-append : (ps qs : List (List ℕ)) → concat (ps ++ qs) ≡ concat p
 concat-append [] qs = refl
 concat-append (p ∷ ps) qs = ap (λ r. p ++ r) (concat-append ps qs) ∙ sym (append_assoc p (concat ps) (concat qs))
 
--- pieces behind pieces
+-- pieces after pieces
 pub ArePieces-append : (ps qs : List (List ℕ)) (rest : List ℕ) → ArePieces ps (concat qs ++ rest) → ArePieces qs rest → ArePieces (ps ++ qs) rest
 ArePieces-append [] qs rest a b = b
 ArePieces-append (p ∷ ps) qs rest a b = (
@@ -106,7 +106,7 @@ IsCutUpTo-more place at text middle rest tokens more ps c is each there more_are
 pub IsCutUpTo-none : (place : ℕ) (text : List ℕ) → IsCutUpTo place text text []
 IsCutUpTo-none place text = record { pieces = []; whole = refl; each = tt; tokens_are = refl }
 
--- one cut behind another
+-- one cut after another
 pub IsCutUpTo-then : (place at : ℕ) (text middle rest : List ℕ) (tokens more : List Lexeme) → IsCutUpTo place text middle tokens → IsCutUpTo at middle rest more
     → at + length middle ≡ place + length text → IsCutUpTo place text rest (tokens ++ more)
 IsCutUpTo-then place at text middle rest tokens more c d there =

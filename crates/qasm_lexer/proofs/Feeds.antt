@@ -3,7 +3,7 @@ use Rattle.std.proofs.Common.{◌≡◌, ℕ, ◌+◌, ◌<◌, ◌≤◌, Bool,
 use Rattle.std.specs.List.{list_all, concat}
 use Rattle.std.proofs.lemmas.Bool.{false≢true, and_parts, and_from, or_cases, cases_Bool, eqb-true, ne_eqb, not_from_false}
 use Rattle.std.proofs.lemmas.List.{append-nil}
-use Rattle.qasm_lexer.specs.Forms.{behind, begins, is_digit, is_letter, is_word_byte, is_no_feed, is_mark, is_sign_byte, after_sign, are_digits, is_exponent, is_fraction, is_closed, is_comment, is_empty}
+use Rattle.qasm_lexer.specs.Forms.{following, begins, is_digit, is_letter, is_word_byte, is_no_feed, is_mark, is_sign_byte, after_sign, are_digits, is_exponent, is_fraction, is_closed, is_comment, is_empty}
 use Rattle.qasm_lexer.specs.Tokens.{signs, is_form, IsLongest, ArePieces, Lexeme, IsCut, IsCutUpTo}
 use Rattle.qasm_lexer.proofs.Leads.{white, point, quote, lead, letter_range, digit_range, as_white, as_comment, as_word, as_real, as_point, as_natural, as_text, as_sign, seen, table_all}
 use Rattle.qasm_lexer.proofs.Cuts.{IsCutUpTo-then, form_some}
@@ -35,11 +35,11 @@ all_by p q each (b ∷ f) e =
     let h : (p b ≡ true) × (list_all p f ≡ true) = and_parts (p b) (list_all p f) e in
     and_from (q b) (list_all q f) (each b h.0) (all_by p q each f h.1)
 
--- a list that goes on with a digit test has no feed before where what is behind has none
-behind_no_feed : (f : List ℕ) → list_all is_no_feed (behind is_digit f) ≡ true → list_all is_no_feed f ≡ true
-behind_no_feed [] e = refl
-behind_no_feed (b ∷ f) e = elim (cases_Bool (is_digit b)) [
-  | inl d ↦ and_from (is_no_feed b) (list_all is_no_feed f) (digit_no_feed b d) (behind_no_feed f (rw d at e))
+-- a list that goes on with a digit test has no feed before where what is after has none
+after_no_feed : (f : List ℕ) → list_all is_no_feed (following is_digit f) ≡ true → list_all is_no_feed f ≡ true
+after_no_feed [] e = refl
+after_no_feed (b ∷ f) e = elim (cases_Bool (is_digit b)) [
+  | inl d ↦ and_from (is_no_feed b) (list_all is_no_feed f) (digit_no_feed b d) (after_no_feed f (rw d at e))
   | inr d ↦ rw d at e
 ]
 
@@ -62,11 +62,11 @@ exponent_no_feed (b ∷ o) e =
 fraction_no_feed : (some : Bool) (f : List ℕ) → is_fraction some f ≡ true → list_all is_no_feed f ≡ true
 fraction_no_feed some [] e = refl
 fraction_no_feed some (b ∷ o) e =
-    let p : ((eqb b 46 && (some || begins is_digit o)) ≡ true) × (is_exponent (behind is_digit o) ≡ true) =
-    and_parts (eqb b 46 && (some || begins is_digit o)) (is_exponent (behind is_digit o)) e in
+    let p : ((eqb b 46 && (some || begins is_digit o)) ≡ true) × (is_exponent (following is_digit o) ≡ true) =
+    and_parts (eqb b 46 && (some || begins is_digit o)) (is_exponent (following is_digit o)) e in
     let q : (eqb b 46 ≡ true) × ((some || begins is_digit o) ≡ true) = and_parts (eqb b 46) (some || begins is_digit o) p.0 in
     and_from (is_no_feed b) (list_all is_no_feed o) (no_feed_at b (λ z. omega (arith, eqb-true b 46 q.0)))
-    (behind_no_feed o (exponent_no_feed (behind is_digit o) p.1))
+    (after_no_feed o (exponent_no_feed (following is_digit o) p.1))
 
 closed_no_feed : (o : List ℕ) → is_closed o ≡ true → list_all is_no_feed o ≡ true
 closed_no_feed [] e = refl
@@ -99,8 +99,8 @@ form_no_feed c o e = elim (seen c o e) [
   | as_white l n ↦ inl n
   | as_comment l h ↦ inr (comment_no_feed c o h)
   | as_word l h ↦ inr (all_by is_word_byte is_no_feed word_no_feed (c ∷ o) h)
-  | as_real l h ↦ inr (behind_no_feed (c ∷ o) (fraction_no_feed (begins is_digit (c ∷ o)) (behind is_digit (c ∷ o)) h))
-  | as_point l h i ↦ inr (and_from (is_no_feed c) (list_all is_no_feed o) (point_lead c l) (behind_no_feed o (exponent_no_feed (behind is_digit o) i)))
+  | as_real l h ↦ inr (after_no_feed (c ∷ o) (fraction_no_feed (begins is_digit (c ∷ o)) (following is_digit (c ∷ o)) h))
+  | as_point l h i ↦ inr (and_from (is_no_feed c) (list_all is_no_feed o) (point_lead c l) (after_no_feed o (exponent_no_feed (following is_digit o) i)))
   | as_natural l h i ↦ inr (all_by is_digit is_no_feed digit_no_feed (c ∷ o) h)
   | as_text l h ↦ inr (and_from (is_no_feed c) (list_all is_no_feed o) (quote_lead c l) (closed_no_feed o h))
   | as_sign l n h ↦ inr (table_all (list_all is_no_feed) signs refl (c ∷ o) h)
@@ -117,14 +117,14 @@ feed_alone (c ∷ y) z e = elim (form_no_feed c (y ++ 10 ∷ z) e) [
   no_feed_before [] f = false≢true f
   no_feed_before (d ∷ x) f = no_feed_before x (and_parts (is_no_feed d) (list_all is_no_feed (x ++ 10 ∷ z)) f).1
 
--- two fronts of one list: one begins the other
-fronts : (a b x y : List ℕ) → a ++ x ≡ b ++ y → ((z : List ℕ) × (a ++ z ≡ b)) ⊎ ((z : List ℕ) × (b ++ z ≡ a) × (0 < length z))
-fronts [] b x y e = inl (b, refl)
-fronts (c ∷ a) [] x y e = inr (c ∷ a, refl, omega arith)
-fronts (c ∷ a) (d ∷ b) x y e =
+-- two prefixes of one list: one begins the other
+prefixes : (a b x y : List ℕ) → a ++ x ≡ b ++ y → ((z : List ℕ) × (a ++ z ≡ b)) ⊎ ((z : List ℕ) × (b ++ z ≡ a) × (0 < length z))
+prefixes [] b x y e = inl (b, refl)
+prefixes (c ∷ a) [] x y e = inr (c ∷ a, refl, omega arith)
+prefixes (c ∷ a) (d ∷ b) x y e =
     let k : c ≡ d = cc in
     let t : a ++ x ≡ b ++ y = cc in
-    elim (fronts a b x y t) [
+    elim (prefixes a b x y t) [
       | inl f ↦ (let r : a ++ f.0 ≡ b = f.1 in inl (f.0, cc))
       | inr f ↦ (let r : b ++ f.0 ≡ a = f.1 in inr (f.0, cc, f.2))
     ]
@@ -133,7 +133,7 @@ fronts (c ∷ a) (d ∷ b) x y e =
 longest_on : (form x y after : List ℕ) → form ++ x ≡ y ++ 10 ∷ [] → IsLongest form x → IsLongest form (x ++ after)
 longest_on form x y after e l = record { is = l.is; longest = each } where
   each : (other rest : List ℕ) → other ++ rest ≡ form ++ (x ++ after) → is_form other ≡ true → length other ≤ length form
-  each other rest t f = elim (fronts other (form ++ x) rest after (t ∙ sym (append_assoc form x after))) [
+  each other rest t f = elim (prefixes other (form ++ x) rest after (t ∙ sym (append_assoc form x after))) [
     | inl h ↦ l.longest other h.0 h.1 f
     | inr h ↦
         (let all : y ++ 10 ∷ h.0 ≡ other = sym (append_assoc y (10 ∷ []) h.0) ∙ ap (λ r. r ++ h.0) (sym e) ∙ h.1 in
@@ -141,7 +141,7 @@ longest_on form x y after e l = record { is = l.is; longest = each } where
         absurd (omega (arith, ap length none, h.2)))
   ]
 
--- the same end behind a front that is dropped
+-- the same end after a prefix that is dropped
 ends_on : (p : List ℕ) (x y : List ℕ) → p ++ x ≡ y ++ 10 ∷ [] → 0 < length x → (z : List ℕ) × (x ≡ z ++ 10 ∷ [])
 ends_on [] x y e some = (y, e)
 ends_on (c ∷ p) x [] e some = absurd (omega (arith, ap length e, length-append p x))

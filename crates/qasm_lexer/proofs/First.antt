@@ -8,10 +8,10 @@ use Rattle.qasm_lexer.specs.declared.first_piece.Sort.{Sort}
 use Rattle.qasm_lexer.specs.declared.first_piece.Sort.TheVariants.{Blank, Digits, Token}
 use Rattle.qasm_lexer.specs.declared.token.TokenKind.{TokenKind}
 use Rattle.qasm_lexer.specs.declared.token.TokenKind.TheVariants.{Real, Natural, Text}
-use Rattle.qasm_lexer.specs.Forms.{behind, begins, is_digit, is_letter, is_space, is_no_feed, is_word_byte, is_comment, is_natural, is_closed}
+use Rattle.qasm_lexer.specs.Forms.{following, begins, is_digit, is_letter, is_space, is_no_feed, is_word_byte, is_comment, is_natural, is_closed}
 use Rattle.qasm_lexer.specs.Tokens.{signs, kind_in, kind_of, word_kind, is_blank, IsLongest, IsPiece, ArePieces, tokens_in, IsCutUpTo}
-use Rattle.qasm_lexer.specs.FirstPiece.{first_piece, word_piece, as_token, number_piece, number, point_piece, text_piece, closing, sign_piece, two_or_one, is_inside, fraction_len, naturals, natural_tokens, piece_tokens}
-use Rattle.qasm_lexer.proofs.Runs.{front, front-behind, prefix_len-front, take-front, drop-behind, front_passes, behind_stops, behind_through, begins_some, begins_append}
+use Rattle.qasm_lexer.specs.Internal.FirstPiece.{first_piece, word_piece, as_token, number_piece, number, point_piece, text_piece, closing, sign_piece, two_or_one, is_inside, fraction_len, naturals, natural_tokens, piece_tokens}
+use Rattle.qasm_lexer.proofs.Runs.{prefix, prefix-following, prefix_len-prefix, take-prefix, drop-following, prefix_passes, after_stops, after_through, begins_some, begins_append}
 use Rattle.qasm_lexer.proofs.Reals.{real_fits, fraction_fits}
 use Rattle.qasm_lexer.proofs.Leads.{letter, other, lead, lead-letter, no_blank, kind-word, Seen, seen, point_only, quote_only, other_only}
 use Rattle.qasm_lexer.proofs.Cuts.{same_longest, IsEnd, form_some}
@@ -64,31 +64,31 @@ module _ (b : ℕ) (p after text : List ℕ) (count : ℕ) (whole : (b ∷ p) ++
 white_first : (b : ℕ) (t : List ℕ) → is_space b ≡ true → IsFirst (b ∷ t) Blank 1
 white_first b t e = one_blank b [] t (b ∷ t) 1 refl refl (pieces.white_piece b t e) (pieces.white_kind b e)
 
-word_by_kind : (b : ℕ) (t : List ℕ) (n : ℕ) → is_letter b ≡ true → n ≡ suc (length (front is_word_byte t)) → (k : Option TokenKind)
-    → word_kind (b ∷ front is_word_byte t) ≡ k → IsFirstPiece (b ∷ t) (as_token k n)
+word_by_kind : (b : ℕ) (t : List ℕ) (n : ℕ) → is_letter b ≡ true → n ≡ suc (length (prefix is_word_byte t)) → (k : Option TokenKind)
+    → word_kind (b ∷ prefix is_word_byte t) ≡ k → IsFirstPiece (b ∷ t) (as_token k n)
 word_by_kind b t n e n_is (Some k) is =
-    one_token b (front is_word_byte t) (behind is_word_byte t) (b ∷ t) n (ap (λ r. b ∷ r) (front-behind is_word_byte t)) (sym n_is) k
-    (pieces.word_piece b (front is_word_byte t) (behind is_word_byte t) k e (front_passes is_word_byte t) (behind_stops is_word_byte t) is)
+    one_token b (prefix is_word_byte t) (following is_word_byte t) (b ∷ t) n (ap (λ r. b ∷ r) (prefix-following is_word_byte t)) (sym n_is) k
+    (pieces.word_piece b (prefix is_word_byte t) (following is_word_byte t) k e (prefix_passes is_word_byte t) (after_stops is_word_byte t) is)
 word_by_kind b t n e n_is None is =
-    let p : List ℕ = front is_word_byte t in
+    let p : List ℕ = prefix is_word_byte t in
     let l : lead b ≡ letter = lead-letter b e in
-    let longest : IsLongest (b ∷ p) (behind is_word_byte t) =
-    pieces.word_longest b p (behind is_word_byte t) e (front_passes is_word_byte t) (behind_stops is_word_byte t) in
-    let kind : kind_of (b ∷ p) ≡ None = kind-word (b ∷ p) (and_from (is_letter b) (list_all is_word_byte p) e (front_passes is_word_byte t)) ∙ is in
+    let longest : IsLongest (b ∷ p) (following is_word_byte t) =
+    pieces.word_longest b p (following is_word_byte t) e (prefix_passes is_word_byte t) (after_stops is_word_byte t) in
+    let kind : kind_of (b ∷ p) ≡ None = kind-word (b ∷ p) (and_from (is_letter b) (list_all is_word_byte p) e (prefix_passes is_word_byte t)) ∙ is in
     let blank : is_blank (b ∷ p) ≡ false = no_blank b p (λ m. cc) (λ m. cc) in
     λ form after f piece.
     let same : form ≡ b ∷ p =
-    (same_longest form (b ∷ p) after (behind is_word_byte t) (f ∙ ap (λ r. b ∷ r) (sym (front-behind is_word_byte t))) piece.longest longest).0 in
+    (same_longest form (b ∷ p) after (following is_word_byte t) (f ∙ ap (λ r. b ∷ r) (sym (prefix-following is_word_byte t))) piece.longest longest).0 in
     let taken : (is_blank (b ∷ p) || is_some (kind_of (b ∷ p))) ≡ true = subst (λ r. (is_blank r || is_some (kind_of r)) ≡ true) same piece.taken in
     false≢true (rw (blank, kind) at taken)
 
 word_first : (b : ℕ) (t : List ℕ) → is_letter b ≡ true → IsFirstPiece (b ∷ t) (word_piece (b ∷ t))
 word_first b t e =
     let w : is_word_byte b ≡ true = or_left (is_letter b || is_digit b) (eqb b 95) (or_left (is_letter b) (is_digit b) e) in
-    let run : front is_word_byte (b ∷ t) ≡ b ∷ front is_word_byte t = rw w refl in
+    let run : prefix is_word_byte (b ∷ t) ≡ b ∷ prefix is_word_byte t = rw w refl in
     let n : ℕ = prefix_len is_word_byte (b ∷ t) in
-    let n_is : n ≡ suc (length (front is_word_byte t)) = prefix_len-front is_word_byte (b ∷ t) ∙ ap length run in
-    word_by_kind b t n e n_is (word_kind (take n (b ∷ t))) (ap word_kind (sym (take-front is_word_byte (b ∷ t) ∙ run)))
+    let n_is : n ≡ suc (length (prefix is_word_byte t)) = prefix_len-prefix is_word_byte (b ∷ t) ∙ ap length run in
+    word_by_kind b t n e n_is (word_kind (take n (b ∷ t))) (ap word_kind (sym (take-prefix is_word_byte (b ∷ t) ∙ run)))
 
 -- nothing begins where no form can
 end_by : (b : ℕ) (t : List ℕ) → ((o rest : List ℕ) → o ++ rest ≡ t → Seen b o → ⊥) → IsEnd (b ∷ t)
@@ -132,16 +132,16 @@ naturals_are (d ∷ ds) after all ends = elim (cases_Bool (eqb d 48)) [
   is_natural_here : (d : ℕ) (ds : List ℕ) → eqb d 48 ≡ false → list_all is_digit (d ∷ ds) ≡ true → is_natural (d ∷ ds) ≡ true
   is_natural_here d ds z all = rw z all
 
-digits_first : (b : ℕ) (u x : List ℕ) → is_digit b ≡ true → behind is_digit (b ∷ u) ≡ x → ends_number x ≡ true
+digits_first : (b : ℕ) (u x : List ℕ) → is_digit b ≡ true → following is_digit (b ∷ u) ≡ x → ends_number x ≡ true
     → IsFirst (b ∷ u) Digits (prefix_len is_digit (b ∷ u))
 digits_first b u x d is ends =
-    let ds : List ℕ = front is_digit (b ∷ u) in
-    let all : AreNaturals (naturals ds) x = naturals_are ds x (front_passes is_digit (b ∷ u)) ends in
+    let ds : List ℕ = prefix is_digit (b ∷ u) in
+    let all : AreNaturals (naturals ds) x = naturals_are ds x (prefix_passes is_digit (b ∷ u)) ends in
     record {
       piece = ds;
       after = x;
-      whole = ap (λ r. ds ++ r) (sym is) ∙ front-behind is_digit (b ∷ u);
-      count_is = sym (prefix_len-front is_digit (b ∷ u));
+      whole = ap (λ r. ds ++ r) (sym is) ∙ prefix-following is_digit (b ∷ u);
+      count_is = sym (prefix_len-prefix is_digit (b ∷ u));
       some = begins_some is_digit (b ∷ u) d;
       pieces = naturals ds;
       pieces_are = concat-naturals ds;
@@ -149,7 +149,7 @@ digits_first b u x d is ends =
       tokens_are = all.tokens;
     }
 
-number_by_rest : (b : ℕ) (u x : List ℕ) → is_digit b ≡ true → behind is_digit (b ∷ u) ≡ x
+number_by_rest : (b : ℕ) (u x : List ℕ) → is_digit b ≡ true → following is_digit (b ∷ u) ≡ x
     → IsFirst (b ∷ u) (number (prefix_len is_digit (b ∷ u)) x).0 (number (prefix_len is_digit (b ∷ u)) x).1
 number_by_rest b u [] d is = digits_first b u [] d is refl
 number_by_rest b u (c ∷ r) d is = elim (cases_Bool (eqb c 46)) [
@@ -157,9 +157,9 @@ number_by_rest b u (c ∷ r) d is = elim (cases_Bool (eqb c 46)) [
   | inr e ↦ rw e (digits_first b u (c ∷ r) d is (and_from (not (is_digit c)) (not (eqb c 46)) (not_from_false (is_digit c) no_digit) (not_from_false (eqb c 46) e)))
 ] where
   no_digit : is_digit c ≡ false
-  no_digit = ap (begins is_digit) (sym is) ∙ behind_stops is_digit (b ∷ u)
+  no_digit = ap (begins is_digit) (sym is) ∙ after_stops is_digit (b ∷ u)
 
-  real_here : behind is_digit (b ∷ u) ≡ 46 ∷ r → IsFirst (b ∷ u) (Token Real) (prefix_len is_digit (b ∷ u) + 1 + fraction_len r)
+  real_here : following is_digit (b ∷ u) ≡ 46 ∷ r → IsFirst (b ∷ u) (Token Real) (prefix_len is_digit (b ∷ u) + 1 + fraction_len r)
   real_here h =
       let m : ℕ = prefix_len is_digit (b ∷ u) + fraction_len r in
       let fits : m ≤ length u = omega (arith, real_fits (b ∷ u) r h) in
@@ -168,8 +168,8 @@ number_by_rest b u (c ∷ r) d is = elim (cases_Bool (eqb c 46)) [
 
 number_first : (b : ℕ) (u : List ℕ) → is_digit b ≡ true → IsFirst (b ∷ u) (number_piece (b ∷ u)).0 (number_piece (b ∷ u)).1
 number_first b u d =
-    subst (λ x. IsFirst (b ∷ u) (number (prefix_len is_digit (b ∷ u)) x).0 (number (prefix_len is_digit (b ∷ u)) x).1) (sym (drop-behind is_digit (b ∷ u)))
-    (number_by_rest b u (behind is_digit (b ∷ u)) d refl)
+    subst (λ x. IsFirst (b ∷ u) (number (prefix_len is_digit (b ∷ u)) x).0 (number (prefix_len is_digit (b ∷ u)) x).1) (sym (drop-following is_digit (b ∷ u)))
+    (number_by_rest b u (following is_digit (b ∷ u)) d refl)
 
 point_first : (r : List ℕ) → IsFirstPiece (46 ∷ r) (point_piece r)
 point_first r = elim (cases_Bool (begins is_digit r)) [
@@ -182,33 +182,33 @@ point_first r = elim (cases_Bool (begins is_digit r)) [
 ]
 
 -- what follows the bytes inside a text that is closed
-closed_behind : (r o rest : List ℕ) → o ++ rest ≡ r → is_closed o ≡ true → behind is_inside r ≡ 34 ∷ rest
-closed_behind r o rest t c =
+closed_after : (r o rest : List ℕ) → o ++ rest ≡ r → is_closed o ≡ true → following is_inside r ≡ 34 ∷ rest
+closed_after r o rest t c =
     let h : (q : List ℕ) × (o ≡ q ++ 34 ∷ []) × (list_all is_inside q ≡ true) = pieces.closed_parts o c in
-    ap (behind is_inside) (sym t ∙ ap (λ x. x ++ rest) h.1 ∙ append_assoc h.0 (34 ∷ []) rest) ∙ behind_through is_inside h.0 (34 ∷ rest) h.2
+    ap (following is_inside) (sym t ∙ ap (λ x. x ++ rest) h.1 ∙ append_assoc h.0 (34 ∷ []) rest) ∙ after_through is_inside h.0 (34 ∷ rest) h.2
 
-text_by_rest : (r x : List ℕ) → behind is_inside r ≡ x → IsFirstPiece (34 ∷ r) (closing (prefix_len is_inside r) x)
-text_by_rest r [] is = end_by 34 r (λ o rest t s. let e : [] ≡ 34 ∷ rest = sym is ∙ closed_behind r o rest t (quote_only 34 o refl s) in cc)
+text_by_rest : (r x : List ℕ) → following is_inside r ≡ x → IsFirstPiece (34 ∷ r) (closing (prefix_len is_inside r) x)
+text_by_rest r [] is = end_by 34 r (λ o rest t s. let e : [] ≡ 34 ∷ rest = sym is ∙ closed_after r o rest t (quote_only 34 o refl s) in cc)
 text_by_rest r (c ∷ after) is = elim (cases_Bool (eqb c 34)) [
   | inl e ↦ rw e (closed_here (is ∙ ap (λ x. x ∷ after) (eqb-true c 34 e)))
-  | inr e ↦ rw e (end_by 34 r (λ o rest t s. open_here e o rest (closed_behind r o rest t (quote_only 34 o refl s))))
+  | inr e ↦ rw e (end_by 34 r (λ o rest t s. open_here e o rest (closed_after r o rest t (quote_only 34 o refl s))))
 ] where
-  open_here : eqb c 34 ≡ false → (o rest : List ℕ) → behind is_inside r ≡ 34 ∷ rest → ⊥
+  open_here : eqb c 34 ≡ false → (o rest : List ℕ) → following is_inside r ≡ 34 ∷ rest → ⊥
   open_here e o rest h =
       let k : c ∷ after ≡ 34 ∷ rest = sym is ∙ h in
       let i : c ≡ 34 = cc in
       eqb-false c 34 e i
 
-  closed_here : behind is_inside r ≡ 34 ∷ after → IsFirst (34 ∷ r) (Token Text) (prefix_len is_inside r + 2)
+  closed_here : following is_inside r ≡ 34 ∷ after → IsFirst (34 ∷ r) (Token Text) (prefix_len is_inside r + 2)
   closed_here h =
-      let q : List ℕ = front is_inside r in
+      let q : List ℕ = prefix is_inside r in
       one_token 34 (q ++ 34 ∷ []) after (34 ∷ r) (prefix_len is_inside r + 2)
-      (ap (λ x. 34 ∷ x) (append_assoc q (34 ∷ []) after ∙ ap (λ x. q ++ x) (sym h) ∙ front-behind is_inside r))
-      (omega (arith, length-append q (34 ∷ []), prefix_len-front is_inside r)) Text (pieces.text_piece q after (front_passes is_inside r))
+      (ap (λ x. 34 ∷ x) (append_assoc q (34 ∷ []) after ∙ ap (λ x. q ++ x) (sym h) ∙ prefix-following is_inside r))
+      (omega (arith, length-append q (34 ∷ []), prefix_len-prefix is_inside r)) Text (pieces.text_piece q after (prefix_passes is_inside r))
 
 text_first : (r : List ℕ) → IsFirstPiece (34 ∷ r) (text_piece r)
 text_first r =
-    subst (λ x. IsFirstPiece (34 ∷ r) (closing (prefix_len is_inside r) x)) (sym (drop-behind is_inside r)) (text_by_rest r (behind is_inside r) refl)
+    subst (λ x. IsFirstPiece (34 ∷ r) (closing (prefix_len is_inside r) x)) (sym (drop-following is_inside r)) (text_by_rest r (following is_inside r) refl)
 
 sign_end : (b : ℕ) (t : List ℕ) → lead b ≡ other → kind_in signs (b ∷ []) ≡ None → pieces.ends_sign b t ≡ true → IsEnd (b ∷ t)
 sign_end b t l none ends = end_by b t (λ o rest e s. nothing o (pieces.longer_sign b o rest t e ends (other_only b o l s)) (other_only b o l s)) where
@@ -232,9 +232,9 @@ long_first b c t l apart None is =
 
 comment_first : (t : List ℕ) → IsFirst (47 ∷ 47 ∷ t) Blank (prefix_len is_no_feed (47 ∷ 47 ∷ t))
 comment_first t =
-    one_blank 47 (47 ∷ front is_no_feed t) (behind is_no_feed t) (47 ∷ 47 ∷ t) (prefix_len is_no_feed (47 ∷ 47 ∷ t))
-    (ap (λ r. 47 ∷ 47 ∷ r) (front-behind is_no_feed t)) (omega (arith, prefix_len-front is_no_feed t))
-    (pieces.comment_piece (front is_no_feed t) (behind is_no_feed t) (front_passes is_no_feed t) (behind_stops is_no_feed t)) refl
+    one_blank 47 (47 ∷ prefix is_no_feed t) (following is_no_feed t) (47 ∷ 47 ∷ t) (prefix_len is_no_feed (47 ∷ 47 ∷ t))
+    (ap (λ r. 47 ∷ 47 ∷ r) (prefix-following is_no_feed t)) (omega (arith, prefix_len-prefix is_no_feed t))
+    (pieces.comment_piece (prefix is_no_feed t) (following is_no_feed t) (prefix_passes is_no_feed t) (after_stops is_no_feed t)) refl
 
 sign_first : (b : ℕ) (t : List ℕ) → lead b ≡ other → IsFirstPiece (b ∷ t) (sign_piece (b ∷ t))
 sign_first b [] l = short_first b [] l refl (kind_in signs (b ∷ [])) refl
@@ -272,7 +272,7 @@ first_piece_is (b ∷ t) some =
 pub first_cut : (at : ℕ) (rest : List ℕ) (sort : Sort) (count : ℕ) → IsFirst rest sort count
     → IsCutUpTo at rest (drop count rest) (piece_tokens sort at (take count rest))
 first_cut at rest sort count f =
-    let front_is : take count rest ≡ f.piece = ap (take count) (sym f.whole) ∙ take_at f.piece f.after count f.count_is in
+    let prefix_is : take count rest ≡ f.piece = ap (take count) (sym f.whole) ∙ take_at f.piece f.after count f.count_is in
     let after_is : drop count rest ≡ f.after = ap (drop count) (sym f.whole) ∙ drop_at f.piece f.after count f.count_is in
     let c : IsCutUpTo at rest f.after (piece_tokens sort at f.piece) = record {
       pieces = f.pieces;
@@ -281,7 +281,7 @@ first_cut at rest sort count f =
       tokens_are = sym (f.tokens_are at);
     } in
     subst (λ r. IsCutUpTo at rest r (piece_tokens sort at (take count rest))) (sym after_is)
-    (subst (λ r. IsCutUpTo at rest f.after (piece_tokens sort at r)) (sym front_is) c)
+    (subst (λ r. IsCutUpTo at rest f.after (piece_tokens sort at r)) (sym prefix_is) c)
 
 pub first_fits : (rest : List ℕ) (sort : Sort) (count : ℕ) → IsFirst rest sort count → (0 < count) × (count ≤ length rest)
 first_fits rest sort count f = (f.some, omega (arith, f.count_is, ap length f.whole, length-append f.piece f.after))

@@ -6,7 +6,7 @@ use Rattle.std.specs.Str.{bytes_eq}
 use Rattle.std.proofs.lemmas.Bool.{false≢true, and_parts, and_from, or_cases, or_left, or_right, cases_Bool, eqb-true, leb-true, false_from_ne_true}
 use Rattle.std.proofs.lemmas.Slice.Eq.{bytes_eq-Decides}
 use Rattle.qasm_lexer.specs.declared.token.TokenKind.{TokenKind}
-use Rattle.qasm_lexer.specs.Forms.{behind, begins, is_digit, is_small_letter, is_capital, is_letter, is_space, is_no_feed, is_word_byte, is_empty, is_white, is_comment, is_word, is_natural, is_real, is_fraction, is_exponent, is_text, is_closed}
+use Rattle.qasm_lexer.specs.Forms.{following, begins, is_digit, is_small_letter, is_capital, is_letter, is_space, is_no_feed, is_word_byte, is_empty, is_white, is_comment, is_word, is_natural, is_real, is_fraction, is_exponent, is_text, is_closed}
 use Rattle.qasm_lexer.specs.declared.token.TokenKind.TheVariants.{Real, Natural, Text}
 use Rattle.qasm_lexer.specs.Tokens.{signs, kind_in, kind_of, word_kind, is_blank, is_form}
 
@@ -115,8 +115,8 @@ pub data Seen (c : ℕ) (o : List ℕ) : Type 0 where
   as_white : lead c ≡ white → o ≡ [] → Seen c o
   as_comment : lead c ≡ other → is_comment (c ∷ o) ≡ true → Seen c o
   as_word : lead c ≡ letter → list_all is_word_byte (c ∷ o) ≡ true → Seen c o
-  as_real : lead c ≡ digit → is_fraction (begins is_digit (c ∷ o)) (behind is_digit (c ∷ o)) ≡ true → Seen c o
-  as_point : lead c ≡ point → begins is_digit o ≡ true → is_exponent (behind is_digit o) ≡ true → Seen c o
+  as_real : lead c ≡ digit → is_fraction (begins is_digit (c ∷ o)) (following is_digit (c ∷ o)) ≡ true → Seen c o
+  as_point : lead c ≡ point → begins is_digit o ≡ true → is_exponent (following is_digit o) ≡ true → Seen c o
   as_natural : lead c ≡ digit → list_all is_digit (c ∷ o) ≡ true → is_natural (c ∷ o) ≡ true → Seen c o
   as_text : lead c ≡ quote → is_closed o ≡ true → Seen c o
   as_sign : lead c ≡ other → length o ≤ 1 → is_some (kind_in signs (c ∷ o)) ≡ true → Seen c o
@@ -144,8 +144,8 @@ see_real c o e = elim (cases_Bool (is_digit c)) [
   | inl d ↦ as_real (lead-digit c d) e
   | inr d ↦
       (let i : is_fraction false (c ∷ o) ≡ true = rw d at e in
-      let p : ((eqb c 46 && begins is_digit o) ≡ true) × (is_exponent (behind is_digit o) ≡ true) =
-      and_parts (eqb c 46 && begins is_digit o) (is_exponent (behind is_digit o)) i in
+      let p : ((eqb c 46 && begins is_digit o) ≡ true) × (is_exponent (following is_digit o) ≡ true) =
+      and_parts (eqb c 46 && begins is_digit o) (is_exponent (following is_digit o)) i in
       let q : (eqb c 46 ≡ true) × (begins is_digit o ≡ true) = and_parts (eqb c 46) (begins is_digit o) p.0 in
       as_point (lead-at c 46 point q.0 refl) q.1 p.1)
 ]
@@ -234,8 +234,8 @@ real_lead c o e = elim (cases_Bool (is_digit c)) [
   | inl d ↦ inl (lead-digit c d)
   | inr d ↦
       (let i : is_fraction false (c ∷ o) ≡ true = rw d at e in
-      let p : ((eqb c 46 && begins is_digit o) ≡ true) × (is_exponent (behind is_digit o) ≡ true) =
-      and_parts (eqb c 46 && begins is_digit o) (is_exponent (behind is_digit o)) i in
+      let p : ((eqb c 46 && begins is_digit o) ≡ true) × (is_exponent (following is_digit o) ≡ true) =
+      and_parts (eqb c 46 && begins is_digit o) (is_exponent (following is_digit o)) i in
       inr (lead-at c 46 point (and_parts (eqb c 46) (begins is_digit o) p.0).0 refl))
 ]
 
@@ -276,7 +276,7 @@ module _ (c : ℕ) (o : List ℕ) where
   ]
 
   pub digit_only : lead c ≡ digit → Seen c o
-      → (is_fraction (begins is_digit (c ∷ o)) (behind is_digit (c ∷ o)) ≡ true) ⊎ ((list_all is_digit (c ∷ o) ≡ true) × (is_natural (c ∷ o) ≡ true))
+      → (is_fraction (begins is_digit (c ∷ o)) (following is_digit (c ∷ o)) ≡ true) ⊎ ((list_all is_digit (c ∷ o) ≡ true) × (is_natural (c ∷ o) ≡ true))
   digit_only is s = elim s [
     | as_white l n ↦ cc
     | as_comment l h ↦ cc
@@ -288,7 +288,7 @@ module _ (c : ℕ) (o : List ℕ) where
     | as_sign l h i ↦ cc
   ]
 
-  pub point_only : lead c ≡ point → Seen c o → (begins is_digit o ≡ true) × (is_exponent (behind is_digit o) ≡ true)
+  pub point_only : lead c ≡ point → Seen c o → (begins is_digit o ≡ true) × (is_exponent (following is_digit o) ≡ true)
   point_only is s = elim s [
     | as_white l n ↦ cc
     | as_comment l h ↦ cc

@@ -3,7 +3,7 @@ use Rattle.std.proofs.Common.{◌≡◌, ℕ, ◌+◌, ◌-◌, ◌<◌, ◌≤�
 use Rattle.std.proofs.lemmas.List.{take_rest, drop-drop, length-take-le}
 use Rattle.qasm_lexer.specs.declared.first_piece.Sort.{Sort}
 use Rattle.qasm_lexer.specs.Tokens.{Lexeme, IsCutUpTo, IsBadByte}
-use Rattle.qasm_lexer.specs.FirstPiece.{first_piece, piece_tokens}
+use Rattle.qasm_lexer.specs.Internal.FirstPiece.{first_piece, piece_tokens}
 use Rattle.qasm_lexer.proofs.Cuts.{IsCutUpTo-then}
 use Rattle.qasm_lexer.proofs.First.{IsFirst, IsFirstPiece, first_piece_is, first_cut, first_fits}
 
@@ -39,10 +39,10 @@ module _ (text : List ℕ) (place : ℕ) (here : place < length text) (o : Optio
         → more ≡ tokens ++ piece_tokens sort place (take count (take (length text - place) (drop place text)))
         → IsCutUpTo 0 text (drop (place + count) text) more
     cut_more tokens more c more_is =
-        let behind : IsCutUpTo place (drop place text) (drop count (drop place text)) (piece_tokens sort place (take count (drop place text))) =
+        let following : IsCutUpTo place (drop place text) (drop count (drop place text)) (piece_tokens sort place (take count (drop place text))) =
         first_cut place (drop place text) sort count first_is in
         let both : IsCutUpTo 0 text (drop count (drop place text)) (tokens ++ piece_tokens sort place (take count (drop place text))) =
-        IsCutUpTo-then 0 place text (drop place text) (drop count (drop place text)) tokens (piece_tokens sort place (take count (drop place text))) c behind
+        IsCutUpTo-then 0 place text (drop place text) (drop count (drop place text)) tokens (piece_tokens sort place (take count (drop place text))) c following
         (omega (arith, length-drop place text)) in
         subst (λ r. IsCutUpTo 0 text r more) (drop-drop count place text)
         (subst (λ ts. IsCutUpTo 0 text (drop count (drop place text)) ts)

@@ -6,10 +6,10 @@ use Rattle.std.proofs.lemmas.Bool.{false≢true, and_parts, and_from, or_left, o
 use Rattle.std.proofs.lemmas.List.{nil_from_length, take-append-drop, length-take-le}
 use Rattle.qasm_lexer.specs.declared.token.TokenKind.{TokenKind}
 use Rattle.qasm_lexer.specs.declared.token.TokenKind.TheVariants.{Real, Natural, Text}
-use Rattle.qasm_lexer.specs.Forms.{behind, begins, is_digit, is_letter, is_space, is_no_feed, is_word_byte, is_white, is_comment, is_natural, is_real, is_fraction, is_exponent, is_text, is_closed, is_empty}
+use Rattle.qasm_lexer.specs.Forms.{following, begins, is_digit, is_letter, is_space, is_no_feed, is_word_byte, is_white, is_comment, is_natural, is_real, is_fraction, is_exponent, is_text, is_closed, is_empty}
 use Rattle.qasm_lexer.specs.Tokens.{signs, kind_in, kind_of, word_kind, is_blank, is_form, IsLongest, IsPiece}
-use Rattle.qasm_lexer.specs.FirstPiece.{is_inside, fraction_len}
-use Rattle.qasm_lexer.proofs.Runs.{run_longest, prefix_len_through, behind_through, behind_stopped, behind_all}
+use Rattle.qasm_lexer.specs.Internal.FirstPiece.{is_inside, fraction_len}
+use Rattle.qasm_lexer.proofs.Runs.{run_longest, prefix_len_through, after_through, after_stopped, after_all}
 use Rattle.qasm_lexer.proofs.Reals.{real_longest, real_is, real_fits, begins_fraction, fraction_longest, fraction_is, fraction_fits}
 use Rattle.qasm_lexer.proofs.Leads.{white, digit, other, lead, lead-space, lead-letter, lead-digit, Seen, seen, white_only, letter_only, digit_only, point_only, quote_only, other_only, no_word, no_real, no_natural, no_text, no_sign, sign_lead, kind-word, kind-real, kind-natural, kind-text, kind-sign, blank_form, word_form, real_form, natural_form, text_form, sign_form}
 
@@ -93,17 +93,17 @@ ends_digits (b ∷ rest) e = not-true (is_digit b) (and_parts (not (is_digit b))
 
 -- no real begins where no point follows the digits
 no_real_here : (some : Bool) (form rest ds after : List ℕ) → form ++ rest ≡ ds ++ after → list_all is_digit ds ≡ true → ends_number after ≡ true
-    → is_fraction some (behind is_digit form) ≡ true → ⊥
+    → is_fraction some (following is_digit form) ≡ true → ⊥
 no_real_here some form rest ds after e all ends real =
-    let r : (r : List ℕ) × (behind is_digit (form ++ rest) ≡ 46 ∷ r) × (length form ≤ _) = real_longest some form rest real in
+    let r : (r : List ℕ) × (following is_digit (form ++ rest) ≡ 46 ∷ r) × (length form ≤ _) = real_longest some form rest real in
     let is : after ≡ 46 ∷ r.0 =
-    sym (behind_stopped is_digit after (ends_digits after ends)) ∙ sym (behind_through is_digit ds after all) ∙ ap (behind is_digit) (sym e) ∙ r.1 in
+    sym (after_stopped is_digit after (ends_digits after ends)) ∙ sym (after_through is_digit ds after all) ∙ ap (following is_digit) (sym e) ∙ r.1 in
     false≢true (let k : ends_number (46 ∷ r.0) ≡ true = subst (λ s. ends_number s ≡ true) is ends in k)
 
 natural_kind : (b : ℕ) (p : List ℕ) → list_all is_digit (b ∷ p) ≡ true → is_natural (b ∷ p) ≡ true → kind_of (b ∷ p) ≡ Some Natural
 natural_kind b p all e =
     let l : lead b ≡ digit = lead-digit b (and_parts (is_digit b) (list_all is_digit p) all).0 in
-    let r : is_real (b ∷ p) ≡ false = ap (is_fraction (begins is_digit (b ∷ p))) (behind_all is_digit (b ∷ p) all) in
+    let r : is_real (b ∷ p) ≡ false = ap (is_fraction (begins is_digit (b ∷ p))) (after_all is_digit (b ∷ p) all) in
     kind-natural (b ∷ p) (no_word b p (λ m. cc)) r e
 
 -- a natural, before what doesn't go on as a number
@@ -246,7 +246,7 @@ long_sign_piece a b after kind e apart =
           both_ways (eqb a 47 && eqb b 47) apart (subst (λ x. (eqb a 47 && eqb x 47) ≡ true) k (no_comment a d o c))
 
 -- a real with digits before its point
-pub real_piece : (b : ℕ) (u r : List ℕ) (n : ℕ) → is_digit b ≡ true → behind is_digit (b ∷ u) ≡ 46 ∷ r → n ≡ prefix_len is_digit (b ∷ u) + fraction_len r
+pub real_piece : (b : ℕ) (u r : List ℕ) (n : ℕ) → is_digit b ≡ true → following is_digit (b ∷ u) ≡ 46 ∷ r → n ≡ prefix_len is_digit (b ∷ u) + fraction_len r
     → IsPiece (b ∷ take n u) (drop n u) × (kind_of (b ∷ take n u) ≡ Some Real)
 real_piece b u r n d is n_is =
     let f : is_real (b ∷ take n u) ≡ true = subst (λ k. is_real (b ∷ take k u) ≡ true) (sym n_is) (real_is (b ∷ u) r d is) in
@@ -263,13 +263,13 @@ real_piece b u r n d is n_is =
       fits = omega (arith, real_fits (b ∷ u) r is)
 
       no_longer : (o rest : List ℕ) → (b ∷ o) ++ rest ≡ b ∷ u
-          → (is_fraction (begins is_digit (b ∷ o)) (behind is_digit (b ∷ o)) ≡ true) ⊎ ((list_all is_digit (b ∷ o) ≡ true) × (is_natural (b ∷ o) ≡ true))
+          → (is_fraction (begins is_digit (b ∷ o)) (following is_digit (b ∷ o)) ≡ true) ⊎ ((list_all is_digit (b ∷ o) ≡ true) × (is_natural (b ∷ o) ≡ true))
           → length o ≤ length (take n u)
       no_longer o rest t f = elim f [
         | inl real ↦
-            (let h : (x : List ℕ) × (behind is_digit ((b ∷ o) ++ rest) ≡ 46 ∷ x) × (length (b ∷ o) ≤ prefix_len is_digit ((b ∷ o) ++ rest) + suc (fraction_len x)) =
+            (let h : (x : List ℕ) × (following is_digit ((b ∷ o) ++ rest) ≡ 46 ∷ x) × (length (b ∷ o) ≤ prefix_len is_digit ((b ∷ o) ++ rest) + suc (fraction_len x)) =
             real_longest (begins is_digit (b ∷ o)) (b ∷ o) rest real in
-            let same : 46 ∷ h.0 ≡ 46 ∷ r = sym h.1 ∙ ap (behind is_digit) t ∙ is in
+            let same : 46 ∷ h.0 ≡ 46 ∷ r = sym h.1 ∙ ap (following is_digit) t ∙ is in
             let x_is : h.0 ≡ r = cc in
             omega (arith, h.2, ap fraction_len x_is, ap (prefix_len is_digit) t, n_is, length-take-le n u fits))
         | inr natural ↦ omega (arith, run_longest is_digit (b ∷ o) rest natural.0, ap (prefix_len is_digit) t, n_is, length-take-le n u fits)
@@ -280,7 +280,7 @@ pub point_piece : (r : List ℕ) → begins is_digit r ≡ true
     → IsPiece (46 ∷ take (fraction_len r) r) (drop (fraction_len r) r) × (kind_of (46 ∷ take (fraction_len r) r) ≡ Some Real)
 point_piece r e =
     let x : List ℕ = take (fraction_len r) r in
-    let f : is_real (46 ∷ x) ≡ true = and_from (begins is_digit x) (is_exponent (behind is_digit x)) (begins_fraction r e) (fraction_is r) in
+    let f : is_real (46 ∷ x) ≡ true = and_from (begins is_digit x) (is_exponent (following is_digit x)) (begins_fraction r e) (fraction_is r) in
     let k : kind_of (46 ∷ x) ≡ Some Real = kind-real (46 ∷ x) refl f in (
       record {
         longest = longest_by 46 x (drop (fraction_len r) r) (real_form (46 ∷ x) f) (λ o rest t s.

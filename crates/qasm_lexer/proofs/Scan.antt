@@ -3,7 +3,7 @@ use Rattle.std.proofs.Common.{◌≡◌, ℕ, ◌+◌, ◌<◌, ◌≤◌, List,
 use Rattle.std.proofs.lemmas.List.{nil_from_length}
 use Rattle.qasm_lexer.specs.declared.first_piece.Sort.{Sort}
 use Rattle.qasm_lexer.specs.Tokens.{Lexeme, IsCut, IsCutUpTo, IsBadByte}
-use Rattle.qasm_lexer.specs.FirstPiece.{first_piece, piece_tokens}
+use Rattle.qasm_lexer.specs.Internal.FirstPiece.{first_piece, piece_tokens}
 use Rattle.qasm_lexer.proofs.Cuts.{IsCutUpTo-then, IsCutUpTo-none, IsBadAt, IsBadByte-from}
 use Rattle.qasm_lexer.proofs.First.{IsFirstPiece, first_piece_is, first_cut, first_fits}
 
@@ -30,7 +30,7 @@ abbrev IsScan : ℕ → List ℕ → Result (List Lexeme) ℕ → Type 0
 IsScan place text (Ok tokens) = IsCut place text tokens
 IsScan place text (Err at) = IsBadAt place text at
 
--- what is found behind a first piece
+-- what is found after a first piece
 scan_on : (place count : ℕ) (text : List ℕ) (tokens : List Lexeme) → count ≤ length text → IsCutUpTo place text (drop count text) tokens
     → (r : Result (List Lexeme) ℕ) → IsScan (place + count) (drop count text) r → IsScan place text (with_tokens tokens r)
 scan_on place count text tokens fits c (Ok more) d =

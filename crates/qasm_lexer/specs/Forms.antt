@@ -52,10 +52,10 @@ abbrev pub is_natural : List ℕ → Bool
 is_natural [] = false
 is_natural (b ∷ rest) = if b == 48 then is_empty rest else is_digit b && list_all is_digit rest
 
--- what follows the bytes at the front that pass a test
-abbrev pub behind : (ℕ → Bool) → List ℕ → List ℕ
-behind test [] = []
-behind test (b ∷ rest) = if test b then behind test rest else b ∷ rest
+-- what follows the bytes at the start that pass a test
+abbrev pub following : (ℕ → Bool) → List ℕ → List ℕ
+following test [] = []
+following test (b ∷ rest) = if test b then following test rest else b ∷ rest
 
 abbrev pub begins : (ℕ → Bool) → List ℕ → Bool
 begins test [] = false
@@ -73,7 +73,7 @@ is_mark b = b == 101 || b == 69
 abbrev pub is_sign_byte : ℕ → Bool
 is_sign_byte b = b == 43 || b == 45
 
--- what follows a sign, if one stands at the front
+-- what follows a sign, if one stands at the start
 abbrev pub after_sign : List ℕ → List ℕ
 after_sign [] = []
 after_sign (b ∷ rest) = if is_sign_byte b then rest else b ∷ rest
@@ -83,21 +83,21 @@ abbrev pub is_exponent : List ℕ → Bool
 is_exponent [] = true
 is_exponent (b ∷ rest) = is_mark b && are_digits (after_sign rest)
 
--- a point, digits and maybe an exponent; with no digits before the point there is one behind it
+-- a point, digits and maybe an exponent; with no digits before the point there is one after it
 abbrev pub is_fraction : Bool → List ℕ → Bool
 is_fraction digits_before [] = false
-is_fraction digits_before (b ∷ rest) = b == 46 && (digits_before || begins is_digit rest) && is_exponent (behind is_digit rest)
+is_fraction digits_before (b ∷ rest) = b == 46 && (digits_before || begins is_digit rest) && is_exponent (following is_digit rest)
 
 -- ([0-9]+\.[0-9]*|[0-9]*\.[0-9]+)([eE][-+]?[0-9]+)?
 abbrev pub is_real : List ℕ → Bool
-is_real form = is_fraction (begins is_digit form) (behind is_digit form)
+is_real form = is_fraction (begins is_digit form) (following is_digit form)
 
 -- bytes other than `"` and a line feed, and a `"` at the end
 abbrev pub is_closed : List ℕ → Bool
 is_closed [] = false
 is_closed (b ∷ rest) = if b == 34 then is_empty rest else is_no_feed b && is_closed rest
 
--- the same behind a `"`
+-- the same after a `"`
 abbrev pub is_text : List ℕ → Bool
 is_text [] = false
 is_text (b ∷ rest) = b == 34 && is_closed rest

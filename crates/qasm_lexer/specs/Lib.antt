@@ -1,4 +1,4 @@
 pub mod Forms
+pub mod Internal
 pub mod Tokens
-pub mod FirstPiece
 pub mod Worked

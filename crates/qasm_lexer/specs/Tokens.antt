@@ -61,7 +61,7 @@ is_blank form = is_white form || is_comment form
 abbrev pub is_form : List ℕ → Bool
 is_form form = is_blank form || is_word form || is_real form || is_natural form || is_text form || is_some (kind_in signs form)
 
--- a form, and the longest of those at the front of what begins with it and goes on with `after`
+-- a form, and the longest of those at the start of what begins with it and goes on with `after`
 pub record IsLongest (form after : List ℕ) : Type 0 where
   pub is : IsTrue (is_form form)
   pub longest : (other rest : List ℕ) → other ++ rest ≡ form ++ after → IsTrue (is_form other) → length other ≤ length form
@@ -71,7 +71,7 @@ pub record IsPiece (form after : List ℕ) : Type 0 where
   pub longest : IsLongest form after
   pub taken : IsTrue (is_blank form || is_some (kind_of form))
 
--- pieces one behind the other, and `after` behind the last
+-- pieces one after the other, and `after` after the last
 abbrev pub ArePieces : List (List ℕ) → List ℕ → Type 0
 ArePieces [] after = Unit {0}
 ArePieces (piece ∷ pieces) after = IsPiece piece (concat pieces ++ after) × ArePieces pieces after

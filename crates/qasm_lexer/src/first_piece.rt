@@ -2,7 +2,7 @@
 ghost use Rattle.std.specs.Prelude.{◌≡◌, ◌+◌, ◌<◌, ◌≤◌, ◌∷◌, Some, length, IfSome};
 ghost use Rattle.std.specs.List.{prefix_len};
 ghost use Rattle.qasm_lexer.specs.Forms.{is_digit, is_letter, is_word_byte, is_space, is_no_feed};
-ghost use Rattle.qasm_lexer.specs.FirstPiece.{word_piece, sign_len, exponent_len, fraction_len, number_piece, point_piece, is_inside, text_piece, sign_piece, first_piece};
+ghost use Rattle.qasm_lexer.specs.Internal.FirstPiece.{word_piece, sign_len, exponent_len, fraction_len, number_piece, point_piece, is_inside, text_piece, sign_piece, first_piece};
 
 use crate::tables::{long_sign, short_sign, word_kind};
 use crate::token::TokenKind;
@@ -39,7 +39,7 @@ pub(crate) fn first_piece(text: &[u8]) -> Option<(Sort, usize)>
     }
 }
 
-/// A word at the front.
+/// A word at the start.
 fn word_piece(text: &[u8]) -> Option<(Sort, usize)>
     ensures { result ≡ word_piece text.now }
 {
@@ -48,7 +48,7 @@ fn word_piece(text: &[u8]) -> Option<(Sort, usize)>
     Some((Sort::Token(kind), count))
 }
 
-/// How many letters, digits and `_` stand at the front.
+/// How many letters, digits and `_` stand at the start.
 fn word_bytes(text: &[u8]) -> usize
     ensures count { result ≡ prefix_len is_word_byte text.now }
     ensures within { result ≤ length text.now }
@@ -56,7 +56,7 @@ fn word_bytes(text: &[u8]) -> usize
     text.iter().take_while(|b| is_word_byte(**b)).count()
 }
 
-/// Digits at the front, or a real.
+/// Digits at the start, or a real.
 fn number_piece(text: &[u8]) -> (Sort, usize)
     ensures { result ≡ number_piece text.now }
 {
@@ -67,7 +67,7 @@ fn number_piece(text: &[u8]) -> (Sort, usize)
     }
 }
 
-/// A real behind its point, where no digit stands before that.
+/// A real after its point, where no digit stands before that.
 fn point_piece(rest: &[u8]) -> Option<(Sort, usize)>
     ensures { result ≡ point_piece rest.now }
 {
@@ -77,7 +77,7 @@ fn point_piece(rest: &[u8]) -> Option<(Sort, usize)>
     }
 }
 
-/// How many digits stand at the front.
+/// How many digits stand at the start.
 fn digits(text: &[u8]) -> usize
     ensures count { result ≡ prefix_len is_digit text.now }
     ensures within { result ≤ length text.now }
@@ -85,7 +85,7 @@ fn digits(text: &[u8]) -> usize
     text.iter().take_while(|b| is_digit(**b)).count()
 }
 
-/// How many bytes belong to a real behind its point.
+/// How many bytes belong to a real after its point.
 fn fraction(rest: &[u8]) -> usize
     ensures count { result ≡ fraction_len rest.now }
     ensures within { result ≤ length rest.now }
@@ -94,7 +94,7 @@ fn fraction(rest: &[u8]) -> usize
     count + exponent(&rest[count..])
 }
 
-/// How many bytes an exponent at the front has; 0 where there is none.
+/// How many bytes an exponent at the start has; 0 where there is none.
 fn exponent(text: &[u8]) -> usize
     ensures count { result ≡ exponent_len text.now }
     ensures within { result ≤ length text.now }
@@ -107,7 +107,7 @@ fn exponent(text: &[u8]) -> usize
     if count == 0 { 0 } else { 1 + sign + count }
 }
 
-/// How many bytes a sign of a number at the front has.
+/// How many bytes a sign of a number at the start has.
 fn sign(text: &[u8]) -> usize
     ensures count { result ≡ sign_len text.now }
     ensures within { result ≤ length text.now }
@@ -118,7 +118,7 @@ fn sign(text: &[u8]) -> usize
     }
 }
 
-/// A text behind its first quote.
+/// A text after its first quote.
 fn text_piece(rest: &[u8]) -> Option<(Sort, usize)>
     ensures { result ≡ text_piece rest.now }
 {
@@ -137,7 +137,7 @@ fn inside(rest: &[u8]) -> usize
     rest.iter().take_while(|b| is_inside(**b)).count()
 }
 
-/// A comment or a sign at the front.
+/// A comment or a sign at the start.
 fn sign_piece(text: &[u8]) -> Option<(Sort, usize)>
     ensures { result ≡ sign_piece text.now }
 {

@@ -18,7 +18,7 @@ pub fn cuts_of_lines_go_together()
         → IsCut (place + length (line ++ codes "\n")) after those → IsCut place ((line ++ codes "\n") ++ after) (these ++ those) }
 {}
 
-/// A line, a line with a number in it wherever it stands, and one behind the other.
+/// A line, a line with a number in it wherever it stands, and one after the other.
 pub fn worked_cuts()
     ensures line { IsCut 0 gate_line gate_line_tokens }
     ensures number { (place n : ℕ) → n < 2 ^ 64 → IsCut place (gate_on n) (gate_on_tokens place n) }

@@ -2,7 +2,7 @@
 ghost use Rattle.std.specs.Prelude.{◌≡◌, ◌<◌, ◌+◌, ◌^◌, ◌⊎◌, ◌∷◌, [], ◌++◌, ℕ, List, length, OnOk, IfOk, IfErr, IsErrAnd, MatchResult};
 ghost use Rattle.qasm_lexer.specs.declared.errors.LexError.TheVariants.{BadByte, NoMemory};
 ghost use Rattle.qasm_lexer.specs.Tokens.{Lexeme, lexemes, IsCut, IsBadByte};
-ghost use Rattle.qasm_lexer.specs.FirstPiece.{piece_tokens, naturals, natural_tokens};
+ghost use Rattle.qasm_lexer.specs.Internal.FirstPiece.{piece_tokens, naturals, natural_tokens};
 
 use crate::errors::LexError;
 use crate::first_piece::{Sort, first_piece};
@@ -57,7 +57,7 @@ fn push_piece<'a>(
     }
 }
 
-/// Adds the naturals that digits are: each 0 at the front alone, and the others together.
+/// Adds the naturals that digits are: each 0 at the start alone, and the others together.
 fn push_naturals<'a>(
     tokens: &mut Vec<Token<'a>>,
     digits: &'a [u8],

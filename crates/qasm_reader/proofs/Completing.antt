@@ -1,4 +1,4 @@
--- Every expression is read, whatever follows: behind its tokens the machine waits for an operator, and what it then
+-- Every expression is read, whatever follows: after its tokens the machine waits for an operator, and what it then
 -- puts out for an operator that binds no more than the expression's level is the expression in postfix order.
 use Rattle.std.proofs.Common.{◌≡◌, ℕ, ◌≤◌, true, List, [], ◌∷◌, ◌++◌, Option, None, Some, refl, sym, ap, ◌∙◌, append_assoc, arith, leb, le-leb, lit≤}
 use Rattle.qasm_lexer.specs.declared.token.TokenKind.{TokenKind}
@@ -13,7 +13,7 @@ use Rattle.qasm_reader.specs.declared.machine.Pending.{Pending}
 use Rattle.qasm_reader.specs.declared.machine.Pending.TheVariants as pending
 use Rattle.qasm_reader.specs.Syntax.{Formula, Number, Pi, Name, Binary}
 use Rattle.qasm_reader.specs.Postfix.{Entry, NumberEntry, PiEntry, NameEntry, NegateEntry, BinaryEntry, CallEntry, postfix}
-use Rattle.qasm_reader.specs.Machine.{State, operand_of, operator_of, is_left, strength, bound, released, release, closed, with_operator, step, run, go_on, on_operand, on_operator, on_left}
+use Rattle.qasm_reader.specs.Internal.Machine.{State, operand_of, operator_of, is_left, strength, bound, released, release, closed, with_operator, step, run, go_on, on_operand, on_operator, on_left}
 use Rattle.qasm_reader.specs.Grammar.{function_kind, IsExpression, OneTerm, Sum, Difference, IsTerm, OnePower, Product, Quotient, IsPower, OneFactor, ToThePower, IsFactor, Negative, RealNumber, WholeNumber, PiWord, Parameter, InParentheses, ValueOf}
 
 abbrev pub operand : List Entry → List Pending → State
@@ -136,7 +136,7 @@ single : (t : Lexeme) (f : Formula) (e : Entry) (rest : List Lexeme) (output : L
 single t f e rest output ps is post =
     (output ++ e ∷ [], ps, operand_step t rest e output ps is, λ b le. ap (λ (es : List Entry). release b (output ++ es) ps) (sym post))
 
--- behind a parenthesis that closes
+-- after a parenthesis that closes
 closes : (f : Formula) (us rest : List Lexeme) (right : Lexeme) (output : List Entry) (ps : List Pending) (opened : Pending) (closing : List Entry)
     → right.kind ≡ kind.RightParenthesis → Rests 1 (opened ∷ ps)
     → closed (output ++ postfix f, opened ∷ ps) ≡ (true, operator (output ++ closing) ps)

@@ -1,4 +1,4 @@
--- The first place that is too deep, by fronts of the tokens.
+-- The first place that is too deep, by prefixes of the tokens.
 use Rattle.std.proofs.Common.{◌≡◌, ℕ, ◌<◌, ◌≤◌, Bool, true, false, cond, ltb, ltb-true, ltb-false, lt-ltb, le-ltb, List, [], ◌∷◌, ◌++◌, Option, None, Some, refl, sym, ap, ◌∙◌, subst, arith}
 use Rattle.qasm_lexer.specs.declared.token.TokenKind.{TokenKind}
 use Rattle.qasm_lexer.specs.declared.token.TokenKind.TheVariants.{LeftParenthesis, RightParenthesis, Semicolon, LeftBrace, RightBrace}
@@ -6,7 +6,7 @@ use Rattle.qasm_lexer.specs.Tokens.{Lexeme}
 use Rattle.qasm_reader.specs.Depth.{most_open, open_after, too_deep_from, open_at_end}
 
 abbrev ShallowFrom : ℕ → List Lexeme → Type 0
-ShallowFrom n ts = (front more : List Lexeme) → ts ≡ front ++ more → open_at_end n front ≤ most_open
+ShallowFrom n ts = (prefix more : List Lexeme) → ts ≡ prefix ++ more → open_at_end n prefix ≤ most_open
 
 abbrev DeepFrom : ℕ → List Lexeme → ℕ → Type 0
 DeepFrom n ts at =
@@ -45,7 +45,7 @@ left_is LeftBrace n le lt = absurd (omega arith)
 left_is RightBrace n le lt = absurd (omega arith)
 left_is _ n le lt = absurd (omega arith)
 
--- one token more in front
+-- one token more before
 shallow_more : (n : ℕ) (t : Lexeme) (ts : List Lexeme) → n ≤ most_open → ShallowFrom (open_after n t.kind) ts → ShallowFrom n (t ∷ ts)
 shallow_more n t ts le s [] more e = le
 shallow_more n t ts le s (u ∷ us) more e =
@@ -78,10 +78,10 @@ deep_some [] left more ts n at e place shallow deep =
 deep_some (t ∷ before) left more ts n at e place shallow deep =
     ap (too_deep_from n) e
     ∙ ap (λ (b : Bool). cond b (Some t.place) (too_deep_from (open_after n t.kind) (before ++ left ∷ more))) (le-ltb _ _ (shallow (t ∷ []) before refl))
-    ∙ deep_some before left more (before ++ left ∷ more) (open_after n t.kind) at refl place (λ front rest is. shallow (t ∷ front) rest (ap (λ (x : List Lexeme). t ∷ x) is)) deep
+    ∙ deep_some before left more (before ++ left ∷ more) (open_after n t.kind) at refl place (λ prefix rest is. shallow (t ∷ prefix) rest (ap (λ (x : List Lexeme). t ∷ x) is)) deep
 
 pub shallow_is_none : (ts : List Lexeme) (n : ℕ) → ShallowFrom n ts → too_deep_from n ts ≡ None
 shallow_is_none [] n shallow = refl
 shallow_is_none (t ∷ ts) n shallow =
     ap (λ (b : Bool). cond b (Some t.place) (too_deep_from (open_after n t.kind) ts)) (le-ltb _ _ (shallow (t ∷ []) ts refl))
-    ∙ shallow_is_none ts (open_after n t.kind) (λ front rest is. shallow (t ∷ front) rest (ap (λ (x : List Lexeme). t ∷ x) is))
+    ∙ shallow_is_none ts (open_after n t.kind) (λ prefix rest is. shallow (t ∷ prefix) rest (ap (λ (x : List Lexeme). t ∷ x) is))

@@ -8,9 +8,9 @@ use Rattle.qasm_reader.specs.declared.expression.Function.TheVariants.{Sin, Cos,
 use Rattle.qasm_reader.specs.declared.machine.Pending.{Pending}
 use Rattle.qasm_reader.specs.Syntax.{Formula, Number, Pi, Name, Negate, Binary, Call}
 use Rattle.qasm_reader.specs.Postfix.{Entry, NegateEntry, BinaryEntry, CallEntry, postfix, push_entries, formula_of, first_or_pi, IsPostfix}
-use Rattle.qasm_reader.specs.Machine.{State, start, operator_of, is_right, release, closed, step, run, go_on, on_operator, on_right, finished, all_out, followed_by, entries_at, as_formula, take_entries, take_expression}
+use Rattle.qasm_reader.specs.Internal.Machine.{State, start, operator_of, is_right, release, closed, step, run, go_on, on_operator, on_right, finished, all_out, followed_by, entries_at, as_formula, take_entries, take_expression}
 use Rattle.qasm_reader.specs.Grammar.{function_kind, IsExpression, OneTerm, Sum, Difference, IsTerm, OnePower, Product, Quotient, IsPower, OneFactor, ToThePower, IsFactor, Negative, RealNumber, WholeNumber, PiWord, Parameter, InParentheses, ValueOf}
-use Rattle.qasm_reader.specs.Taking.{same_kind, after}
+use Rattle.qasm_reader.specs.Internal.Taking.{same_kind, after}
 use Rattle.qasm_reader.proofs.Completing.{operator, expression_runs}
 use Rattle.qasm_reader.proofs.Reading.{entries_read}
 use Rattle.qasm_reader.proofs.Steps.{Sound, Complete, Shrinks, same, after_other}

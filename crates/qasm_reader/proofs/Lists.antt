@@ -4,7 +4,7 @@ use Rattle.qasm_lexer.specs.declared.token.TokenKind.{TokenKind}
 use Rattle.qasm_lexer.specs.declared.token.TokenKind.TheVariants as kind
 use Rattle.qasm_lexer.specs.Tokens.{Lexeme}
 use Rattle.qasm_reader.specs.Grammar.{Sign, ◌⋅◌, Repeated, IsCommaList, IsOptionalList}
-use Rattle.qasm_reader.specs.Taking.{◌>>=◌, after, with_front, on_turn, turns, repeated, one_more, comma_turn, comma_items, comma_list, list_inside, list_behind, optional_list}
+use Rattle.qasm_reader.specs.Internal.Taking.{◌>>=◌, after, with_prefix, on_turn, turns, repeated, one_more, comma_turn, comma_items, comma_list, list_inside, list_after, optional_list}
 use Rattle.qasm_reader.proofs.Steps.{Took, took_then, Sound, Complete, Shrinks, same, bind_some, after_takes, after_again, after_shrinks, sign_last, item_then}
 
 -- ---- turns
@@ -19,7 +19,7 @@ on_turn_agrees : {A : Type 0} (o : Option (Option (A × List Lexeme))) (ts : Lis
     → ((a : A) (rest : List Lexeme) → o ≡ Some (Some (a, rest)) → go rest ≡ go' rest) → on_turn o ts go ≡ on_turn o ts go'
 on_turn_agrees None ts go go' h = refl
 on_turn_agrees (Some None) ts go go' h = refl
-on_turn_agrees (Some (Some x)) ts go go' h = ap (with_front (x.0 ∷ [])) (h x.0 x.1 refl)
+on_turn_agrees (Some (Some x)) ts go go' h = ap (with_prefix (x.0 ∷ [])) (h x.0 x.1 refl)
 
 turns_enough : {A : Type 0} (turn : Turn A) → TurnShrinks turn → (n m : ℕ) (ts : List Lexeme) → length ts < n → length ts < m → turns turn n ts ≡ turns turn m ts
 turns_enough turn s zero m ts p q = absurd (omega arith)
@@ -33,10 +33,10 @@ repeated_is turn s ts =
     on_turn_agrees (turn ts) ts (turns turn (length ts)) (λ x. turns turn (suc (length x)) x)
     (λ a rest e. turns_enough turn s (length ts) (suc (length rest)) rest (s ts a rest e) (omega arith))
 
-pub front_some : {A : Type 0} (front : List A) (o : Option (List A × List Lexeme)) (y : List A × List Lexeme) → with_front front o ≡ Some y
-    → (z : List A × List Lexeme) × (o ≡ Some z) × (◌≡◌ {A = List A × List Lexeme} (front ++ z.0, z.1) y)
-front_some front None y e = absurd cc
-front_some front (Some z) y e = (z, refl, same (front ++ z.0, z.1) y e)
+pub prefix_some : {A : Type 0} (prefix : List A) (o : Option (List A × List Lexeme)) (y : List A × List Lexeme) → with_prefix prefix o ≡ Some y
+    → (z : List A × List Lexeme) × (o ≡ Some z) × (◌≡◌ {A = List A × List Lexeme} (prefix ++ z.0, z.1) y)
+prefix_some prefix None y e = absurd cc
+prefix_some prefix (Some z) y e = (z, refl, same (prefix ++ z.0, z.1) y e)
 
 on_turn_takes : {A : Type 0} (Is : A → List Lexeme → Type 0) (o : Option (Option (A × List Lexeme))) (ts : List Lexeme) (go : List Lexeme → Option (List A × List Lexeme)) (xs : List A) (rest : List Lexeme)
     → ((a : A) (middle : List Lexeme) → o ≡ Some (Some (a, middle)) → Took (Is a) ts middle)
@@ -47,7 +47,7 @@ on_turn_takes Is (Some None) ts go xs rest item next e =
     let p = same ([], ts) (xs, rest) e in
     subst (λ (y : List _ × List Lexeme). Took (Repeated Is y.0) ts y.1) p ([], refl, refl)
 on_turn_takes {A = A} Is (Some (Some x)) ts go xs rest item next e =
-    let z = front_some (x.0 ∷ []) (go x.1) (xs, rest) e in
+    let z = prefix_some (x.0 ∷ []) (go x.1) (xs, rest) e in
     let r : z.0.1 ≡ rest = ap (λ (y : List A × List Lexeme). y.1) z.2 in
     let l : x.0 ∷ z.0.0 ≡ xs = ap (λ (y : List A × List Lexeme). y.0) z.2 in
     let tail : Took (Repeated Is z.0.0) x.1 rest = next x.1 z.0.0 (z.1 ∙ ap (λ (q : List Lexeme). Some (z.0.0, q)) r) in
@@ -84,7 +84,7 @@ repeated_again Is turn s Ends item begins (x ∷ xs) us rest r ends stops =
     ∙ ap (repeated turn) (append_assoc r.0 r.1 rest)
     ∙ repeated_is turn s (r.0 ++ (r.1 ++ rest))
     ∙ ap (λ o. on_turn o (r.0 ++ (r.1 ++ rest)) (repeated turn)) (item x r.0 (r.1 ++ rest) r.3 (ends_all Is Ends begins xs r.1 rest r.4 ends))
-    ∙ ap (with_front (x ∷ [])) (repeated_again Is turn s Ends item begins xs r.1 rest r.4 ends stops)
+    ∙ ap (with_prefix (x ∷ [])) (repeated_again Is turn s Ends item begins xs r.1 rest r.4 ends stops)
 
 pub one_more_some : {A : Type 0} (o : Option (A × List Lexeme)) (x : A × List Lexeme) → one_more o ≡ Some (Some x) → o ≡ Some x
 one_more_some None x e = absurd cc
@@ -120,8 +120,8 @@ comma_items_is item s ts = repeated_is (λ ts. comma_turn item (after kind.Comma
 pub comma_list_takes : {A : Type 0} (Is : A → List Lexeme → Type 0) (item : List Lexeme → Option (A × List Lexeme)) → Sound item Is → Sound (comma_list item) (IsCommaList Is)
 unfolding comma_list
 comma_list_takes {A = A} Is item sound ts xs rest e =
-    let a = bind_some (item ts) (λ first. with_front (first.0 ∷ []) (comma_items item first.1)) (xs, rest) e in
-    let z = front_some (a.0.0 ∷ []) (comma_items item a.0.1) (xs, rest) a.2 in
+    let a = bind_some (item ts) (λ first. with_prefix (first.0 ∷ []) (comma_items item first.1)) (xs, rest) e in
+    let z = prefix_some (a.0.0 ∷ []) (comma_items item a.0.1) (xs, rest) a.2 in
     let r : z.0.1 ≡ rest = ap (λ (y : List A × List Lexeme). y.1) z.2 in
     let l : a.0.0 ∷ z.0.0 ≡ xs = ap (λ (y : List A × List Lexeme). y.0) z.2 in
     let tail = comma_items_take Is item sound a.0.1 z.0.0 rest (z.1 ∙ ap (λ (q : List Lexeme). Some (z.0.0, q)) r) in
@@ -154,9 +154,9 @@ module _ {A : Type 0} (Is : A → List Lexeme → Type 0) (item : List Lexeme �
   unfolding comma_list
   comma_list_again [] us rest r ends = absurd r
   comma_list_again (x ∷ xs) us rest r ends =
-      item_then item Is Ends complete x (Repeated (λ y. Sign kind.Comma ⋅ Is y) xs) us rest (λ first. with_front (first.0 ∷ []) (comma_items item first.1)) (Some (x ∷ xs, rest)) r
+      item_then item Is Ends complete x (Repeated (λ y. Sign kind.Comma ⋅ Is y) xs) us rest (λ first. with_prefix (first.0 ∷ []) (comma_items item first.1)) (Some (x ∷ xs, rest)) r
       (ends_all (λ y. Sign kind.Comma ⋅ Is y) Ends comma_begins xs r.1 rest r.4 ends.0)
-      (ap (with_front (x ∷ [])) (comma_items_again xs r.1 rest r.4 ends))
+      (ap (with_prefix (x ∷ [])) (comma_items_again xs r.1 rest r.4 ends))
 
 -- ---- lists between parentheses, if parentheses stand there
 
@@ -179,17 +179,17 @@ list_inside_takes {A = A} Is item sound None ts inside xs rest left is e =
     subst (λ (y : List A × List Lexeme). Took (IsOptionalList Is y.0) ts y.1) p
     (inside_some Is a.0.0 ts inside b.0 left (took_then (IsCommaList Is a.0.0) (Sign kind.RightParenthesis) inside a.0.1 b.0 (comma_list_takes Is item sound inside a.0.0 a.0.1 a.1) (after_takes kind.RightParenthesis a.0.1 b.0 b.1)))
 
-list_behind_takes : {A : Type 0} (Is : A → List Lexeme → Type 0) (item : List Lexeme → Option (A × List Lexeme)) → Sound item Is
-    → (o : Option (List Lexeme)) (ts : List Lexeme) (xs : List A) (rest : List Lexeme) → after kind.LeftParenthesis ts ≡ o → list_behind item ts o ≡ Some (xs, rest) → Took (IsOptionalList Is xs) ts rest
-list_behind_takes {A = A} Is item sound None ts xs rest is e =
+list_after_takes : {A : Type 0} (Is : A → List Lexeme → Type 0) (item : List Lexeme → Option (A × List Lexeme)) → Sound item Is
+    → (o : Option (List Lexeme)) (ts : List Lexeme) (xs : List A) (rest : List Lexeme) → after kind.LeftParenthesis ts ≡ o → list_after item ts o ≡ Some (xs, rest) → Took (IsOptionalList Is xs) ts rest
+list_after_takes {A = A} Is item sound None ts xs rest is e =
     let p = same ([], ts) (xs, rest) e in
     subst (λ (y : List A × List Lexeme). Took (IsOptionalList Is y.0) ts y.1) p ([], refl, inl refl)
-list_behind_takes Is item sound (Some inside) ts xs rest is e =
+list_after_takes Is item sound (Some inside) ts xs rest is e =
     list_inside_takes Is item sound (after kind.RightParenthesis inside) ts inside xs rest (after_takes kind.LeftParenthesis ts inside is) refl e
 
 pub optional_list_takes : {A : Type 0} (Is : A → List Lexeme → Type 0) (item : List Lexeme → Option (A × List Lexeme)) → Sound item Is → Sound (optional_list item) (IsOptionalList Is)
 unfolding optional_list
-optional_list_takes Is item sound ts xs rest e = list_behind_takes Is item sound (after kind.LeftParenthesis ts) ts xs rest refl e
+optional_list_takes Is item sound ts xs rest e = list_after_takes Is item sound (after kind.LeftParenthesis ts) ts xs rest refl e
 
 -- the tokens of an item don't begin with a right parenthesis
 abbrev pub BeginsOpen : {A : Type 0} → (A → List Lexeme → Type 0) → Type 0
@@ -203,10 +203,10 @@ pub optional_list_again : {A : Type 0} (Is : A → List Lexeme → Type 0) (item
     → Complete (optional_list item) (IsOptionalList Is) EndsOptional
 unfolding optional_list
 optional_list_again Is item Ends complete begins right [] us rest (inl none) ends =
-    ap (λ (x : List Lexeme). list_behind item (x ++ rest) (after kind.LeftParenthesis (x ++ rest))) none ∙ ap (list_behind item rest) ends
+    ap (λ (x : List Lexeme). list_after item (x ++ rest) (after kind.LeftParenthesis (x ++ rest))) none ∙ ap (list_after item rest) ends
 optional_list_again Is item Ends complete begins right [] us rest (inr s) ends =
-    ap (λ (x : List Lexeme). list_behind item x (after kind.LeftParenthesis x)) (ap (λ (x : List Lexeme). x ++ rest) s.2 ∙ append_assoc s.0 s.1 rest)
-    ∙ ap (list_behind item (s.0 ++ (s.1 ++ rest))) (after_again kind.LeftParenthesis s.0 (s.1 ++ rest) s.3)
+    ap (λ (x : List Lexeme). list_after item x (after kind.LeftParenthesis x)) (ap (λ (x : List Lexeme). x ++ rest) s.2 ∙ append_assoc s.0 s.1 rest)
+    ∙ ap (list_after item (s.0 ++ (s.1 ++ rest))) (after_again kind.LeftParenthesis s.0 (s.1 ++ rest) s.3)
     ∙ ap (list_inside item (s.1 ++ rest)) (after_again kind.RightParenthesis s.1 rest s.4)
 optional_list_again Is item Ends complete begins right (x ∷ xs) us rest s ends =
     let t = s.4 in
@@ -214,8 +214,8 @@ optional_list_again Is item Ends complete begins right (x ∷ xs) us rest s ends
     let first = t.3 in
     let none : after kind.RightParenthesis (s.1 ++ rest) ≡ None =
     ap (after kind.RightParenthesis) (inside ∙ ap (λ (y : List Lexeme). y ++ (t.1 ++ rest)) first.2 ∙ append_assoc first.0 first.1 (t.1 ++ rest)) ∙ begins x first.0 (first.1 ++ (t.1 ++ rest)) first.3 in
-    ap (λ (y : List Lexeme). list_behind item y (after kind.LeftParenthesis y)) (ap (λ (y : List Lexeme). y ++ rest) s.2 ∙ append_assoc s.0 s.1 rest)
-    ∙ ap (list_behind item (s.0 ++ (s.1 ++ rest))) (after_again kind.LeftParenthesis s.0 (s.1 ++ rest) s.3)
+    ap (λ (y : List Lexeme). list_after item y (after kind.LeftParenthesis y)) (ap (λ (y : List Lexeme). y ++ rest) s.2 ∙ append_assoc s.0 s.1 rest)
+    ∙ ap (list_after item (s.0 ++ (s.1 ++ rest))) (after_again kind.LeftParenthesis s.0 (s.1 ++ rest) s.3)
     ∙ ap (list_inside item (s.1 ++ rest)) none
     ∙ item_then (comma_list item) (IsCommaList Is) (EndsList Ends) complete (x ∷ xs) (Sign kind.RightParenthesis) s.1 rest (λ items. after kind.RightParenthesis items.1 >>= λ rest. Some (items.0, rest)) (Some (x ∷ xs, rest)) t
     (subst (λ (y : List Lexeme). EndsList Ends (y ++ rest)) (sym t.4.2) (right t.4.0 rest t.4.1))

@@ -4,7 +4,7 @@ use Rattle.std.proofs.Common.{◌≡◌, ◌⊎◌, inl, inr, ℕ, zero, suc, �
 use Rattle.qasm_lexer.specs.Tokens.{Lexeme}
 use Rattle.qasm_reader.specs.Syntax.{Sentence, Placed}
 use Rattle.qasm_reader.specs.Grammar.{IsStatement, BeginsAt, IsProgram, BeginsWithStatement, IsSyntaxFault}
-use Rattle.qasm_reader.specs.Taking.{statement}
+use Rattle.qasm_reader.specs.Internal.Taking.{statement}
 use Rattle.qasm_reader.proofs.Steps.{same}
 use Rattle.qasm_reader.proofs.Statements.{statement_takes, statement_again}
 
@@ -19,19 +19,19 @@ cons_head t u ts us e = cc
 longer : (t : Lexeme) (us rest : List Lexeme) → rest ≡ (t ∷ us) ++ rest → ⊥
 longer t us rest e = absurd (let n = ap length e in omega (arith, length-append us rest, n))
 
--- what follows tells the front
-pub same_front : (us vs rest : List Lexeme) → us ++ rest ≡ vs ++ rest → us ≡ vs
-same_front [] [] rest e = refl
-same_front [] (v ∷ vs) rest e = absurd (longer v vs rest e)
-same_front (u ∷ us) [] rest e = absurd (longer u us rest (sym e))
-same_front (u ∷ us) (v ∷ vs) rest e =
-    ap (λ (t : Lexeme). t ∷ us) (cons_head u v (us ++ rest) (vs ++ rest) e) ∙ ap (λ (ts : List Lexeme). v ∷ ts) (same_front us vs rest (cons_tail u v (us ++ rest) (vs ++ rest) e))
+-- what follows tells the prefix
+pub same_prefix : (us vs rest : List Lexeme) → us ++ rest ≡ vs ++ rest → us ≡ vs
+same_prefix [] [] rest e = refl
+same_prefix [] (v ∷ vs) rest e = absurd (longer v vs rest e)
+same_prefix (u ∷ us) [] rest e = absurd (longer u us rest (sym e))
+same_prefix (u ∷ us) (v ∷ vs) rest e =
+    ap (λ (t : Lexeme). t ∷ us) (cons_head u v (us ++ rest) (vs ++ rest) e) ∙ ap (λ (ts : List Lexeme). v ∷ ts) (same_prefix us vs rest (cons_tail u v (us ++ rest) (vs ++ rest) e))
 
 pub one_statement : (s r : Sentence) (us vs x y : List Lexeme) → IsStatement s us → IsStatement r vs → us ++ x ≡ vs ++ y → (s ≡ r) × (us ≡ vs) × (x ≡ y)
 one_statement s r us vs x y a b e =
     let p = same (s, x) (r, y) (sym (statement_again s us x a tt) ∙ ap statement e ∙ statement_again r vs y b tt) in
     let rest : x ≡ y = ap (λ (q : Sentence × List Lexeme). q.1) p in
-    (ap (λ (q : Sentence × List Lexeme). q.0) p, same_front us vs y (ap (λ (z : List Lexeme). us ++ z) (sym rest) ∙ e), rest)
+    (ap (λ (q : Sentence × List Lexeme). q.0) p, same_prefix us vs y (ap (λ (z : List Lexeme). us ++ z) (sym rest) ∙ e), rest)
 
 -- ---- one program
 
@@ -41,14 +41,14 @@ same_place us m n a b = sym a.3 ∙ ap (λ (t : Lexeme). t.place) (cons_head a.0
 begins : (us : List Lexeme) (n : ℕ) → BeginsAt us n → us ≡ [] → ⊥
 begins us n b e = absurd (let h = sym e ∙ b.2 in let k = ap length h in omega arith)
 
-empty_front : (us vs : List Lexeme) → [] ≡ us ++ vs → us ≡ []
-empty_front [] vs e = refl
-empty_front (u ∷ us) vs e = absurd (let k = ap length e in omega arith)
+empty_prefix : (us vs : List Lexeme) → [] ≡ us ++ vs → us ≡ []
+empty_prefix [] vs e = refl
+empty_prefix (u ∷ us) vs e = absurd (let k = ap length e in omega arith)
 
 pub one_program : (ts : List Lexeme) (a b : List Placed) → IsProgram ts a → IsProgram ts b → a ≡ b
 one_program ts [] [] p q = refl
-one_program ts [] (s ∷ b) p q = absurd (begins q.0 s.place q.3 (empty_front q.0 q.1 (sym p ∙ q.2)))
-one_program ts (s ∷ a) [] p q = absurd (begins p.0 s.place p.3 (empty_front p.0 p.1 (sym q ∙ p.2)))
+one_program ts [] (s ∷ b) p q = absurd (begins q.0 s.place q.3 (empty_prefix q.0 q.1 (sym p ∙ q.2)))
+one_program ts (s ∷ a) [] p q = absurd (begins p.0 s.place p.3 (empty_prefix p.0 p.1 (sym q ∙ p.2)))
 one_program ts (s ∷ a) (r ∷ b) p q =
     let o = one_statement s.sentence r.sentence p.0 q.0 p.1 q.1 p.4 q.4 (sym p.2 ∙ q.2) in
     let place : s.place ≡ r.place = same_place q.0 s.place r.place (subst (λ (us : List Lexeme). BeginsAt us s.place) o.1 p.3) q.3 in
@@ -63,7 +63,7 @@ no_fault [] [] ts before rest e p n b none q = begins rest n b (sym (ap (λ (x :
 no_fault [] (r ∷ all) ts before rest e p n b none q =
     none (r.sentence, q.0, q.1, sym (ap (λ (x : List Lexeme). x ++ rest) p) ∙ sym e ∙ q.2, q.4)
 no_fault (s ∷ statements) [] ts before rest e p n b none q =
-    absurd (begins p.0 s.place p.3 (empty_front p.0 (p.1 ++ rest) (sym q ∙ e ∙ ap (λ (x : List Lexeme). x ++ rest) p.2 ∙ append_assoc p.0 p.1 rest)))
+    absurd (begins p.0 s.place p.3 (empty_prefix p.0 (p.1 ++ rest) (sym q ∙ e ∙ ap (λ (x : List Lexeme). x ++ rest) p.2 ∙ append_assoc p.0 p.1 rest)))
 no_fault (s ∷ statements) (r ∷ all) ts before rest e p n b none q =
     let o = one_statement s.sentence r.sentence p.0 q.0 (p.1 ++ rest) q.1 p.4 q.4 (sym (append_assoc p.0 p.1 rest) ∙ ap (λ (x : List Lexeme). x ++ rest) (sym p.2) ∙ sym e ∙ q.2) in
     no_fault statements all q.1 p.1 rest (sym o.2) p.5 n b none q.5
@@ -96,8 +96,8 @@ snoc before us (r ∷ statements) s p b d =
     (p.0, p.1 ++ us, ap (λ (x : List Lexeme). x ++ us) p.2 ∙ append_assoc p.0 p.1 us, p.3, p.4, snoc p.1 us statements s p.5 b d)
 
 -- whole statements stand before what is left
-abbrev pub IsFront : List Lexeme → List Lexeme → List Placed → Type 0
-IsFront all rest statements = (before : List Lexeme) × (all ≡ before ++ rest) × IsProgram before statements
+abbrev pub IsProgramPrefix : List Lexeme → List Lexeme → List Placed → Type 0
+IsProgramPrefix all rest statements = (before : List Lexeme) × (all ≡ before ++ rest) × IsProgram before statements
 
 some_begin : (us rest : List Lexeme) (t : Lexeme) (more : List Lexeme) → t ∷ more ≡ us ++ rest → 0 < length us → BeginsAt us t.place
 some_begin [] rest t more e some = absurd (omega arith)
@@ -113,9 +113,9 @@ statement_shrinks ts s end e =
     let t = statement_takes ts s end e in
     omega (arith, ap length t.1, length-append t.0 end, some_statement s t.0 t.2)
 
-pub front_more : (all rest end : List Lexeme) (statements : List Placed) (s : Sentence) (t : Lexeme) (more : List Lexeme) → IsFront all rest statements → rest ≡ t ∷ more → statement rest ≡ Some (s, end)
-    → IsFront all end (statements ++ record { place = t.place; sentence = s } ∷ [])
-front_more all rest end statements s t more f is e =
+pub prefix_more : (all rest end : List Lexeme) (statements : List Placed) (s : Sentence) (t : Lexeme) (more : List Lexeme) → IsProgramPrefix all rest statements → rest ≡ t ∷ more → statement rest ≡ Some (s, end)
+    → IsProgramPrefix all end (statements ++ record { place = t.place; sentence = s } ∷ [])
+prefix_more all rest end statements s t more f is e =
     let took = statement_takes rest s end e in (
       f.0 ++ took.0,
       f.1 ∙ ap (λ (x : List Lexeme). f.0 ++ x) took.1 ∙ sym (append_assoc f.0 took.0 end),
@@ -125,31 +125,31 @@ front_more all rest end statements s t more f is e =
 none_some : {A : Type 0} (x : A) → ◌≡◌ {A = Option A} None (Some x) → ⊥
 none_some x e = cc
 
-pub front_fault : (all rest : List Lexeme) (statements : List Placed) (t : Lexeme) (more : List Lexeme) → IsFront all rest statements → rest ≡ t ∷ more → statement rest ≡ None → IsSyntaxFault all t.place
-front_fault all rest statements t more f is e =
+pub prefix_fault : (all rest : List Lexeme) (statements : List Placed) (t : Lexeme) (more : List Lexeme) → IsProgramPrefix all rest statements → rest ≡ t ∷ more → statement rest ≡ None → IsSyntaxFault all t.place
+prefix_fault all rest statements t more f is e =
     (f.0, rest, statements, f.1, f.2, (t, more, is, refl), λ b. none_some (b.0, b.2) (sym e ∙ ap statement b.3 ∙ statement_again b.0 b.1 b.2 b.4 tt))
 
-pub front_done : (all : List Lexeme) (statements : List Placed) → IsFront all [] statements → IsProgram all statements
-front_done all statements f = subst (λ (x : List Lexeme). IsProgram x statements) (sym (f.1 ∙ append-nil f.0)) f.2
+pub prefix_done : (all : List Lexeme) (statements : List Placed) → IsProgramPrefix all [] statements → IsProgram all statements
+prefix_done all statements f = subst (λ (x : List Lexeme). IsProgram x statements) (sym (f.1 ∙ append-nil f.0)) f.2
 
 -- ---- a program or a fault
 
 abbrev IsDecided : List Lexeme → Type 0
 IsDecided all = ((program : List Placed) × IsProgram all program) ⊎ ((at : ℕ) × IsSyntaxFault all at)
 
--- the statement at the front of what is left is taken, if there is one
-take_front : (all : List Lexeme) (t : Lexeme) (more : List Lexeme) (statements : List Placed) (o : Option (Sentence × List Lexeme)) → statement (t ∷ more) ≡ o
-    → IsFront all (t ∷ more) statements → ((end : List Lexeme) (later : List Placed) → length end < length (t ∷ more) → IsFront all end later → IsDecided all) → IsDecided all
-take_front all t more statements None e f go = inr (t.place, front_fault all (t ∷ more) statements t more f refl e)
-take_front all t more statements (Some (s, end)) e f go =
+-- the statement at the start of what is left is taken, if there is one
+take_prefix : (all : List Lexeme) (t : Lexeme) (more : List Lexeme) (statements : List Placed) (o : Option (Sentence × List Lexeme)) → statement (t ∷ more) ≡ o
+    → IsProgramPrefix all (t ∷ more) statements → ((end : List Lexeme) (later : List Placed) → length end < length (t ∷ more) → IsProgramPrefix all end later → IsDecided all) → IsDecided all
+take_prefix all t more statements None e f go = inr (t.place, prefix_fault all (t ∷ more) statements t more f refl e)
+take_prefix all t more statements (Some (s, end)) e f go =
     go end (statements ++ record { place = t.place; sentence = s } ∷ []) (statement_shrinks (t ∷ more) s end e)
-    (front_more all (t ∷ more) end statements s t more f refl e)
+    (prefix_more all (t ∷ more) end statements s t more f refl e)
 
-decide : (all : List Lexeme) (fuel : ℕ) (rest : List Lexeme) (statements : List Placed) → length rest ≤ fuel → IsFront all rest statements → IsDecided all
-decide all fuel [] statements h f = inl (statements, front_done all statements f)
+decide : (all : List Lexeme) (fuel : ℕ) (rest : List Lexeme) (statements : List Placed) → length rest ≤ fuel → IsProgramPrefix all rest statements → IsDecided all
+decide all fuel [] statements h f = inl (statements, prefix_done all statements f)
 decide all zero (t ∷ more) statements h f = absurd (omega (arith, h))
 decide all (suc fuel) (t ∷ more) statements h f =
-    take_front all t more statements (statement (t ∷ more)) refl f (λ end later shorter g. decide all fuel end later (omega (arith, h, shorter)) g)
+    take_prefix all t more statements (statement (t ∷ more)) refl f (λ end later shorter g. decide all fuel end later (omega (arith, h, shorter)) g)
 
 pub program_or_fault : (ts : List Lexeme) → ((program : List Placed) × IsProgram ts program) ⊎ ((at : ℕ) × IsSyntaxFault ts at)
 program_or_fault ts = decide ts (length ts) ts [] (omega arith) ([], refl, refl)

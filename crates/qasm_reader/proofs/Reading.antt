@@ -14,7 +14,7 @@ use Rattle.qasm_reader.specs.declared.machine.Pending.{Pending}
 use Rattle.qasm_reader.specs.declared.machine.Pending.TheVariants as pending
 use Rattle.qasm_reader.specs.Syntax.{Formula, Number, Pi, Name, Negate, Binary, Call}
 use Rattle.qasm_reader.specs.Postfix.{Entry, NegateEntry, BinaryEntry, CallEntry, postfix}
-use Rattle.qasm_reader.specs.Machine.{State, Move, start, operand_of, prefix_of, function_of, operator_of, is_left, is_right, strength, bound, released, release, closed, step, step_by, run, go_on, on_operand, on_prefix, on_function, on_operator, on_left, on_right, finished, finished_by, all_out, followed_by, take_entries}
+use Rattle.qasm_reader.specs.Internal.Machine.{State, Move, start, operand_of, prefix_of, function_of, operator_of, is_left, is_right, strength, bound, released, release, closed, step, step_by, run, go_on, on_operand, on_prefix, on_function, on_operator, on_left, on_right, finished, finished_by, all_out, followed_by, take_entries}
 use Rattle.qasm_reader.specs.Grammar.{function_kind, IsExpression, OneTerm, Sum, Difference, IsTerm, OnePower, Product, Quotient, IsPower, OneFactor, ToThePower, IsFactor, Negative, RealNumber, WholeNumber, PiWord, Parameter, InParentheses, ValueOf}
 use Rattle.qasm_reader.proofs.Completing.{operand, operator}
 
@@ -172,7 +172,7 @@ demands_4 (pending.Binary op ∷ ps) = below_4 (right_of op)
 demands_4 (pending.Parenthesis ∷ ps) = lit≤ tt
 demands_4 (pending.Call f ∷ ps) = lit≤ tt
 
--- an operand is awaited behind these tokens, with these entries put out
+-- an operand is awaited after these tokens, with these entries put out
 abbrev Waits : List Pending → List Lexeme → List Entry → Type 0
 Waits [] us output = (us ≡ []) × (output ≡ [])
 Waits (pending.Negate ∷ ps) us output = (vs : List Lexeme) × (t : Lexeme) × (us ≡ vs ++ t ∷ []) × (t.kind ≡ kind.Minus) × Waits ps vs output
@@ -237,7 +237,7 @@ abbrev Stops : ℕ → List Pending → Type 0
 Stops b [] = Unit {0}
 Stops b (p ∷ ps) = released b p ≡ None
 
--- behind a release an operand is there that is at least so strong, and what waits is weaker
+-- after a release an operand is there that is at least so strong, and what waits is weaker
 record Released (b : ℕ) (us : List Lexeme) (r : List Entry × List Pending) : Type 0 where
   level : Level
   strong : b ≤ rank level
@@ -324,7 +324,7 @@ operand_reads (Some e) t us output ps is w =
       waits = w;
     }
 
--- behind the name of a function
+-- after the name of a function
 left_reads : (b : Bool) (f : Function) (t : Lexeme) (us : List Lexeme) (output : List Entry) (ps : List Pending) → is_left t.kind ≡ b → Good (awaited.Parenthesis f) us output ps
     → After (on_left b f (record { awaited = awaited.Parenthesis f; output = output; pending = ps })) us t
 left_reads false f t us output ps is g = tt

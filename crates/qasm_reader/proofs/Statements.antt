@@ -5,8 +5,8 @@ use Rattle.qasm_lexer.specs.declared.token.TokenKind.TheVariants as kind
 use Rattle.qasm_lexer.specs.Tokens.{Lexeme}
 use Rattle.qasm_reader.specs.Syntax.{Operand, Callee, Declared, U, Cx, Apply, Action, Applied, Measured, Reset, BodyApply, BodySentence, BodyApplied, BodyBarrier, GateForm, Sentence, Version, Include, QubitRegister, BitRegister, DeclareGate, Opaque, If, Barrier, Act}
 use Rattle.qasm_reader.specs.Grammar.{Sign, Word, ◌⋅◌, Repeated, IsCommaList, IsExpression, IsIdentifier, IsNatural, IsName, IsIndex, IsArgument, IsArguments, IsIdentifiers, IsAngles, IsParameters, IsQuantumOperation, IsBodyStatement, IsStatement}
-use Rattle.qasm_reader.specs.Machine.{operator_of, take_expression}
-use Rattle.qasm_reader.specs.Taking.{◌>>=◌, same_kind, after, text, on_turn, one_more, comma_list, identifier, natural, identifiers, parameters, callee_of, gate_name, index_behind, argument, arguments, angles, application, measure, reset, operation_by, operation, body_application, body_by, body_statement, body_turn, body, block, version, include, register, qubit_register, bit_register, heading, gate, opaque, condition, conditional, barrier, act, statement_by, statement}
+use Rattle.qasm_reader.specs.Internal.Machine.{operator_of, take_expression}
+use Rattle.qasm_reader.specs.Internal.Taking.{◌>>=◌, same_kind, after, text, on_turn, one_more, comma_list, identifier, natural, identifiers, parameters, callee_of, gate_name, index_after, argument, arguments, angles, application, measure, reset, operation_by, operation, body_application, body_by, body_statement, body_turn, body, block, version, include, register, qubit_register, bit_register, heading, gate, opaque, condition, conditional, barrier, act, statement_by, statement}
 use Rattle.qasm_reader.proofs.Steps.{Took, took_then, Sound, Complete, Shrinks, same, bind_some, bind_is, after_takes, after_again, after_other, text_takes, text_again, text_shrinks, sign_then, sign_last, item_then, sign_took, Opened, opened, sign_begins, word_begins, then_begins}
 use Rattle.qasm_reader.proofs.Lists.{EndsList, EndsOptional, comma_list_takes, comma_list_again, optional_list_takes, optional_list_again, repeated_takes, repeated_again, repeated_is, one_more_some, list_begins, TurnShrinks}
 use Rattle.qasm_reader.proofs.Expressions.{expression_takes, expression_again, expression_begins, expression_shrinks, EndsExpression}
@@ -89,7 +89,7 @@ gate_name_again Cx us rest w ends =
 abbrev pub EndsArgument : List Lexeme → Type 0
 EndsArgument rest = after kind.LeftBracket rest ≡ None
 
-index_takes : (o : Option (List Lexeme)) (name : List ℕ) (ts : List Lexeme) (a : Operand) (rest : List Lexeme) → after kind.LeftBracket ts ≡ o → index_behind name ts o ≡ Some (a, rest)
+index_takes : (o : Option (List Lexeme)) (name : List ℕ) (ts : List Lexeme) (a : Operand) (rest : List Lexeme) → after kind.LeftBracket ts ≡ o → index_after name ts o ≡ Some (a, rest)
     → (name ≡ a.register) × Took (IsIndex a.index) ts rest
 index_takes None name ts a rest is e =
     let p = same (record { register = name; index = None }, ts) (a, rest) e in
@@ -107,18 +107,18 @@ index_takes (Some inside) name ts a rest is e =
 pub argument_takes : Sound argument IsArgument
 unfolding argument
 argument_takes ts a rest e =
-    let n = bind_some (identifier ts) (λ (name : List ℕ × List Lexeme). index_behind name.0 name.1 (after kind.LeftBracket name.1)) (a, rest) e in
+    let n = bind_some (identifier ts) (λ (name : List ℕ × List Lexeme). index_after name.0 name.1 (after kind.LeftBracket name.1)) (a, rest) e in
     let i = index_takes (after kind.LeftBracket n.0.1) n.0.0 n.0.1 a rest refl n.2 in
     took_then (IsIdentifier a.register) (IsIndex a.index) ts n.0.1 rest
     (subst (λ (x : List ℕ). Took (IsIdentifier x) ts n.0.1) i.0 (text_takes kind.Identifier ts n.0.0 n.0.1 n.1)) i.1
 
 index_again : (name : List ℕ) (index : Option (List ℕ)) (us rest : List Lexeme) → IsIndex index us → EndsArgument rest
-    → index_behind name (us ++ rest) (after kind.LeftBracket (us ++ rest)) ≡ Some (record { register = name; index = index }, rest)
+    → index_after name (us ++ rest) (after kind.LeftBracket (us ++ rest)) ≡ Some (record { register = name; index = index }, rest)
 index_again name None us rest s ends =
-    ap (λ (x : List Lexeme). index_behind name (x ++ rest) (after kind.LeftBracket (x ++ rest))) s ∙ ap (index_behind name rest) ends
+    ap (λ (x : List Lexeme). index_after name (x ++ rest) (after kind.LeftBracket (x ++ rest))) s ∙ ap (index_after name rest) ends
 index_again name (Some index) us rest s ends =
     let o = opened kind.LeftBracket (IsNatural index ⋅ Sign kind.RightBracket) us rest s in
-    ap (index_behind name (us ++ rest)) (ap (after kind.LeftBracket) o.all ∙ after_again kind.LeftBracket (o.first ∷ []) (s.1 ++ rest) (o.first, o.is, refl))
+    ap (index_after name (us ++ rest)) (ap (after kind.LeftBracket) o.all ∙ after_again kind.LeftBracket (o.first ∷ []) (s.1 ++ rest) (o.first, o.is, refl))
     ∙ item_then natural IsNatural Anything (text_complete kind.Natural) index (Sign kind.RightBracket) s.1 rest _ _ s.4 tt (sign_last kind.RightBracket s.4.1 rest _ s.4.4)
 
 pub argument_again : Complete argument IsArgument EndsArgument
@@ -176,7 +176,7 @@ sign_ends Ends k us rest h s = subst (λ (x : List Lexeme). Ends (x ++ rest)) (s
 then_ends : (Ends : List Lexeme → Type 0) (k : TokenKind) (Back : List Lexeme → Type 0) (us rest : List Lexeme) → ((t : Lexeme) (ts : List Lexeme) → t.kind ≡ k → Ends (t ∷ ts)) → (Sign k ⋅ Back) us → Ends (us ++ rest)
 then_ends Ends k Back us rest h s = let o = opened k Back us rest s in subst Ends (sym o.all) (h o.first (s.1 ++ rest) o.is)
 
--- identifiers and arguments behind optional parentheses
+-- identifiers and arguments after optional parentheses
 identifiers_end : (xs : List (List ℕ)) (Back : List Lexeme → Type 0) (us rest : List Lexeme) → (IsIdentifiers xs ⋅ Back) us → EndsOptional (us ++ rest)
 unfolding same_kind
 identifiers_end xs Back us rest s =
@@ -391,7 +391,7 @@ some_name U us w = omega (arith, ap length w.2)
 some_name Cx us w = omega (arith, ap length w.2)
 
 some_then : (Front Back : List Lexeme → Type 0) (us : List Lexeme) → ((vs : List Lexeme) → Front vs → 0 < length vs) → (Front ⋅ Back) us → 0 < length us
-some_then Front Back us front s = omega (arith, ap length s.2, length-append s.0 s.1, front s.0 s.3)
+some_then Front Back us prefix s = omega (arith, ap length s.2, length-append s.0 s.1, prefix s.0 s.3)
 
 some_body : (a : BodySentence) (us : List Lexeme) → IsBodyStatement a us → 0 < length us
 some_body (BodyApplied a) us h = some_then (IsName a.gate) (IsAngles a.angles ⋅ IsIdentifiers a.qubits ⋅ Sign kind.Semicolon) us (λ vs w. some_name a.gate vs w) h
@@ -510,14 +510,14 @@ bits_take t ts a rest is e =
     subst (λ (y : Sentence × List Lexeme). Took (IsStatement y.0) (t ∷ ts) y.1) p
     (took_then (Sign kind.Creg) (IsRegister x.0.0.0 x.0.0.1) (t ∷ ts) ts x.0.1 (sign_took kind.Creg t ts is) (register_takes ts x.0.0 x.0.1 x.1))
 
--- what is behind the same tokens
+-- what is after the same tokens
 moved : {X : Type 0} (Back : List Lexeme → Type 0) (a b : X) (m n rest : List Lexeme) → ◌≡◌ {A = X × List Lexeme} (a, m) (b, n) → Took Back n rest → Took Back m rest
 moved {X = X} Back a b m n rest p t = subst (λ (x : List Lexeme). Took Back x rest) (sym (ap (λ (y : X × List Lexeme). y.1) p)) t
 
 abbrev Heading : Type 0
 Heading = List ℕ × (List (List ℕ) × List (List ℕ))
 
--- a heading, and what is behind it
+-- a heading, and what is after it
 heading_takes : (ts : List Lexeme) (a : Heading) (middle rest : List Lexeme) (Back : List Lexeme → Type 0) → heading ts ≡ Some (a, middle) → Took Back middle rest
     → Took (IsIdentifier a.0 ⋅ IsParameters a.1.0 ⋅ IsIdentifiers a.1.1 ⋅ Back) ts rest
 unfolding heading
@@ -526,11 +526,11 @@ heading_takes ts a middle rest Back e back =
     let x = bind_some (parameters n.0.1) _ (a, middle) n.2 in
     let q = bind_some (identifiers x.0.1) _ (a, middle) x.2 in
     let p = same ((n.0.0, (x.0.0, q.0.0)), q.0.1) (a, middle) q.2 in
-    let behind : Took Back q.0.1 rest = moved Back _ a q.0.1 middle rest p back in
+    let following : Took Back q.0.1 rest = moved Back _ a q.0.1 middle rest p back in
     subst (λ (y : Heading × List Lexeme). Took (IsIdentifier y.0.0 ⋅ IsParameters y.0.1.0 ⋅ IsIdentifiers y.0.1.1 ⋅ Back) ts rest) p
     (took_then (IsIdentifier n.0.0) (IsParameters x.0.0 ⋅ IsIdentifiers q.0.0 ⋅ Back) ts n.0.1 rest (text_takes kind.Identifier ts n.0.0 n.0.1 n.1)
     (took_then (IsParameters x.0.0) (IsIdentifiers q.0.0 ⋅ Back) n.0.1 x.0.1 rest (parameters_take n.0.1 x.0.0 x.0.1 x.1)
-    (took_then (IsIdentifiers q.0.0) Back x.0.1 q.0.1 rest (identifiers_take x.0.1 q.0.0 q.0.1 q.1) behind)))
+    (took_then (IsIdentifiers q.0.0) Back x.0.1 q.0.1 rest (identifiers_take x.0.1 q.0.0 q.0.1 q.1) following)))
 
 gate_takes : (t : Lexeme) (ts : List Lexeme) (a : Sentence) (rest : List Lexeme) → t.kind ≡ kind.Gate → gate ts ≡ Some (a, rest) → Took (IsStatement a) (t ∷ ts) rest
 unfolding gate
@@ -562,13 +562,13 @@ condition_takes ts a middle rest Back e back =
     let x = bind_some (natural q.0) _ (a, middle) q.2 in
     let r = bind_some (after kind.RightParenthesis x.0.1) _ (a, middle) x.2 in
     let p = same ((n.0.0, x.0.0), r.0) (a, middle) r.2 in
-    let behind : Took Back r.0 rest = moved Back _ a r.0 middle rest p back in
+    let following : Took Back r.0 rest = moved Back _ a r.0 middle rest p back in
     subst (λ (y : (List ℕ × List ℕ) × List Lexeme). Took (Sign kind.LeftParenthesis ⋅ IsIdentifier y.0.0 ⋅ Sign kind.Equals ⋅ IsNatural y.0.1 ⋅ Sign kind.RightParenthesis ⋅ Back) ts rest) p
     (took_then (Sign kind.LeftParenthesis) (IsIdentifier n.0.0 ⋅ Sign kind.Equals ⋅ IsNatural x.0.0 ⋅ Sign kind.RightParenthesis ⋅ Back) ts l.0 rest (after_takes kind.LeftParenthesis ts l.0 l.1)
     (took_then (IsIdentifier n.0.0) (Sign kind.Equals ⋅ IsNatural x.0.0 ⋅ Sign kind.RightParenthesis ⋅ Back) l.0 n.0.1 rest (text_takes kind.Identifier l.0 n.0.0 n.0.1 n.1)
     (took_then (Sign kind.Equals) (IsNatural x.0.0 ⋅ Sign kind.RightParenthesis ⋅ Back) n.0.1 q.0 rest (after_takes kind.Equals n.0.1 q.0 q.1)
     (took_then (IsNatural x.0.0) (Sign kind.RightParenthesis ⋅ Back) q.0 x.0.1 rest (text_takes kind.Natural q.0 x.0.0 x.0.1 x.1)
-    (took_then (Sign kind.RightParenthesis) Back x.0.1 r.0 rest (after_takes kind.RightParenthesis x.0.1 r.0 r.1) behind)))))
+    (took_then (Sign kind.RightParenthesis) Back x.0.1 r.0 rest (after_takes kind.RightParenthesis x.0.1 r.0 r.1) following)))))
 
 conditional_takes : (t : Lexeme) (ts : List Lexeme) (a : Sentence) (rest : List Lexeme) → t.kind ≡ kind.If → conditional ts ≡ Some (a, rest) → Took (IsStatement a) (t ∷ ts) rest
 unfolding conditional

@@ -6,9 +6,9 @@ use Rattle.qasm_lexer.specs.contracts.token.TokenKind.{the_type}
 use Rattle.qasm_lexer.specs.declared.token.TokenKind.{TokenKind}
 use Rattle.qasm_lexer.specs.Tokens.{Lexeme}
 use Rattle.qasm_reader.specs.Grammar.{Sign, Word, ◌⋅◌}
-use Rattle.qasm_reader.specs.Taking.{◌>>=◌, same_kind, after, text}
+use Rattle.qasm_reader.specs.Internal.Taking.{◌>>=◌, same_kind, after, text}
 
--- a front of the tokens is so, and the rest follows
+-- a prefix of the tokens is so, and the rest follows
 abbrev pub Took : (List Lexeme → Type 0) → List Lexeme → List Lexeme → Type 0
 Took Is ts rest = (us : List Lexeme) × (ts ≡ us ++ rest) × Is us
 
@@ -143,5 +143,5 @@ word_begins k l a us rest other s = ap (λ (x : List Lexeme). after k (x ++ rest
 
 pub then_begins : (k : TokenKind) (Front Back : List Lexeme → Type 0) → ((us rest : List Lexeme) → Front us → after k (us ++ rest) ≡ None)
     → (us rest : List Lexeme) → (Front ⋅ Back) us → after k (us ++ rest) ≡ None
-then_begins k Front Back front us rest s =
-    ap (after k) (ap (λ (x : List Lexeme). x ++ rest) s.2 ∙ append_assoc s.0 s.1 rest) ∙ front s.0 (s.1 ++ rest) s.3
+then_begins k Front Back prefix us rest s =
+    ap (after k) (ap (λ (x : List Lexeme). x ++ rest) s.2 ∙ append_assoc s.0 s.1 rest) ∙ prefix s.0 (s.1 ++ rest) s.3

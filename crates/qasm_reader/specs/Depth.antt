@@ -8,7 +8,7 @@ use Rattle.qasm_lexer.specs.Tokens.{Lexeme}
 abbrev pub most_open : ℕ
 most_open = 256
 
--- how many are open behind a token, where so many were before it
+-- how many are open after a token, where so many were before it
 abbrev pub open_after : ℕ → TokenKind → ℕ
 open_after n LeftParenthesis = n + 1
 open_after n RightParenthesis = n - 1
@@ -17,7 +17,7 @@ open_after n LeftBrace = 0
 open_after n RightBrace = 0
 open_after n _ = n
 
--- the place of the first token behind which more are open than may be, where so many were before
+-- the place of the first token after which more are open than may be, where so many were before
 abbrev pub too_deep_from : ℕ → List Lexeme → Option ℕ
 too_deep_from n [] = None
 too_deep_from n (t ∷ ts) = if nat_lt most_open (open_after n t.kind) then Some t.place else too_deep_from (open_after n t.kind) ts
@@ -26,16 +26,16 @@ too_deep_from n (t ∷ ts) = if nat_lt most_open (open_after n t.kind) then Some
 abbrev pub too_deep : List Lexeme → Option ℕ
 too_deep = too_deep_from 0
 
--- ---- the same by fronts
+-- ---- the same by prefixes
 
 -- how many are open at the end of these tokens, where so many were before them
 abbrev pub open_at_end : ℕ → List Lexeme → ℕ
 open_at_end n [] = n
 open_at_end n (t ∷ ts) = open_at_end (open_after n t.kind) ts
 
--- no front of the tokens has more open than may be
+-- no prefix of the tokens has more open than may be
 abbrev pub IsShallow : List Lexeme → Type 0
-IsShallow ts = (front more : List Lexeme) → ts ≡ front ++ more → open_at_end 0 front ≤ most_open
+IsShallow ts = (prefix more : List Lexeme) → ts ≡ prefix ++ more → open_at_end 0 prefix ≤ most_open
 
 -- a left parenthesis at this place is one too many, and none before it is
 abbrev pub IsTooDeep : List Lexeme → ℕ → Type 0

@@ -1,6 +1,6 @@
 -- The grammar of OpenQASM 2.0, a case for each of its lines: Cross, Bishop, Smolin and Gambetta, "Open quantum assembly
 -- language" (arXiv 1707.03429), appendix A. Signs look at a token's kind alone, and words take its text too.
--- The paper has the version once, in front of all; here it is a statement, and so is an include.
+-- Cross and others have the version once, before all; here it is a statement, and so is an include.
 use Rattle.std.specs.Prelude.{◌≡◌, ◌⊎◌, ℕ, List, [], ◌∷◌, ◌++◌, Option, None, Some}
 use Rattle.qasm_lexer.specs.declared.token.TokenKind.{TokenKind}
 use Rattle.qasm_lexer.specs.declared.token.TokenKind.TheVariants as kind
@@ -157,11 +157,11 @@ abbrev pub IsProgram : List Lexeme → List Placed → Type 0
 IsProgram ts [] = ts ≡ []
 IsProgram ts (s ∷ statements) = (us vs : List Lexeme) × (ts ≡ us ++ vs) × BeginsAt us s.place × IsStatement s.sentence us × IsProgram vs statements
 
--- a front of the tokens is a statement
+-- a prefix of the tokens is a statement
 abbrev pub BeginsWithStatement : List Lexeme → Type 0
 BeginsWithStatement ts = (s : Sentence) × (us more : List Lexeme) × (ts ≡ us ++ more) × IsStatement s us
 
--- behind whole statements stand tokens, the first of them at this place, of which no front is a statement
+-- after whole statements stand tokens, the first of them at this place, of which no prefix is a statement
 abbrev pub IsSyntaxFault : List Lexeme → ℕ → Type 0
 IsSyntaxFault ts at =
     (before rest : List Lexeme) × (statements : List Placed) × (ts ≡ before ++ rest) × IsProgram before statements × BeginsAt rest at × (BeginsWithStatement rest → ⊥)

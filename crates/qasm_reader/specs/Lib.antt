@@ -1,9 +1,7 @@
 pub mod Depth
 pub mod Grammar
+pub mod Internal
 pub mod Items
-pub mod Machine
-pub mod Parsing
 pub mod Postfix
 pub mod Syntax
-pub mod Taking
 pub mod Views

@@ -22,7 +22,7 @@ postfix (Negate f) = postfix f ++ NegateEntry ∷ []
 postfix (Binary operator f g) = postfix f ++ postfix g ++ BinaryEntry operator ∷ []
 postfix (Call function f) = postfix f ++ CallEntry function ∷ []
 
--- what stands on a stack of operands behind an item
+-- what stands on a stack of operands after an item
 abbrev pub push_entry : Entry → List Formula → List Formula
 push_entry (NumberEntry text) operands = Number text ∷ operands
 push_entry PiEntry operands = Pi ∷ operands

@@ -5,49 +5,49 @@ ghost use Rattle.std.specs.Option.{option_map};
 ghost use Rattle.qasm_lexer.specs.Tokens.{lexemes};
 ghost use Rattle.qasm_reader.specs.Postfix.{formula_of};
 ghost use Rattle.qasm_reader.specs.Views.{callee, operand};
-ghost use Rattle.qasm_reader.specs.Taking.{Gives};
-ghost use Rattle.qasm_reader.specs.Taking as spec;
-ghost use Rattle.qasm_reader.specs.Machine.{take_expression};
+ghost use Rattle.qasm_reader.specs.Internal.Taking.{Gives};
+ghost use Rattle.qasm_reader.specs.Internal.Taking as spec;
+ghost use Rattle.qasm_reader.specs.Internal.Machine.{take_expression};
 
 use crate::expression::Expression;
 use crate::machine::expression;
 use crate::program::{Argument, GateName};
-use crate::stopped::Stopped;
-use crate::tokens::{after, sign, text};
+use crate::step_error::StepError;
+use crate::tokens::{after, expect, text};
 use qasm_lexer::{Token, TokenKind};
 use std::alloc::Global;
 
-/// The identifier at the front of the tokens, and what follows.
+/// The identifier at the start of the tokens, and what follows.
 pub(crate) fn identifier<'t, 'a>(
     tokens: &'t [Token<'a>],
-) -> Result<(&'a [u8], &'t [Token<'a>]), Stopped>
+) -> Result<(&'a [u8], &'t [Token<'a>]), StepError>
     ensures { Gives (λ x. (x.0.now, lexemes x.1.now)) result (spec.identifier (lexemes tokens.now)) }
 {
     text(tokens, TokenKind::Identifier)
 }
 
-/// The whole number at the front of the tokens, and what follows.
+/// The whole number at the start of the tokens, and what follows.
 pub(crate) fn natural<'t, 'a>(
     tokens: &'t [Token<'a>],
-) -> Result<(&'a [u8], &'t [Token<'a>]), Stopped>
+) -> Result<(&'a [u8], &'t [Token<'a>]), StepError>
     ensures { Gives (λ x. (x.0.now, lexemes x.1.now)) result (spec.natural (lexemes tokens.now)) }
 {
     text(tokens, TokenKind::Natural)
 }
 
-/// The name of a gate at the front of the tokens, and what follows.
-#[tactic(auto, unfolding(crate::specs::Taking::gate_name))]
+/// The name of a gate at the start of the tokens, and what follows.
+#[tactic(auto, unfolding(crate::specs::Internal::Taking::gate_name))]
 pub(crate) fn gate_name<'t, 'a>(
     tokens: &'t [Token<'a>],
-) -> Result<(GateName<'a>, &'t [Token<'a>]), Stopped>
+) -> Result<(GateName<'a>, &'t [Token<'a>]), StepError>
     ensures { Gives (λ x. (callee x.0, lexemes x.1.now)) result (spec.gate_name (lexemes tokens.now)) }
 {
     let [first, rest @ ..] = tokens else {
-        return Err(Stopped::Misfit);
+        return Err(StepError::Misfit);
     };
     match callee_of(first) {
         Some(gate) => Ok((gate, rest)),
-        None => Err(Stopped::Misfit),
+        None => Err(StepError::Misfit),
     }
 }
 
@@ -63,11 +63,11 @@ fn callee_of<'a>(token: &Token<'a>) -> Option<GateName<'a>>
     }
 }
 
-/// The argument at the front of the tokens, and what follows.
-#[tactic(auto, unfolding(crate::specs::Taking::argument))]
+/// The argument at the start of the tokens, and what follows.
+#[tactic(auto, unfolding(crate::specs::Internal::Taking::argument))]
 pub(crate) fn argument<'t, 'a>(
     tokens: &'t [Token<'a>],
-) -> Result<(Argument<'a>, &'t [Token<'a>]), Stopped>
+) -> Result<(Argument<'a>, &'t [Token<'a>]), StepError>
     ensures { Gives (λ x. (operand x.0, lexemes x.1.now)) result (spec.argument (lexemes tokens.now)) }
 {
     let (register, rest) = identifier(tokens)?;
@@ -80,8 +80,8 @@ pub(crate) fn argument<'t, 'a>(
             rest,
         ));
     };
-    let (index, behind) = natural(inside)?;
-    let end = sign(behind, TokenKind::RightBracket)?;
+    let (index, following) = natural(inside)?;
+    let end = expect(following, TokenKind::RightBracket)?;
     Ok((
         Argument {
             register,
@@ -91,69 +91,69 @@ pub(crate) fn argument<'t, 'a>(
     ))
 }
 
-/// The identifiers at the front of the tokens, with commas between them, and what follows.
-#[tactic(auto, unfolding(crate::specs::Taking::identifiers, crate::specs::Taking::comma_list))]
+/// The identifiers at the start of the tokens, with commas between them, and what follows.
+#[tactic(auto, unfolding(crate::specs::Internal::Taking::identifiers, crate::specs::Internal::Taking::comma_list))]
 pub(crate) fn identifiers<'t, 'a>(
     alloc: Global,
     tokens: &'t [Token<'a>],
-) -> Result<(Vec<&'a [u8]>, &'t [Token<'a>]), Stopped>
+) -> Result<(Vec<&'a [u8]>, &'t [Token<'a>]), StepError>
     ensures { Gives (λ x. (map (λ name. name.now) x.0.items, lexemes x.1.now)) result (spec.identifiers (lexemes tokens.now)) }
 {
     let mut names = Vec::new(alloc);
     let (first, mut rest) = identifier(tokens)?;
     names.push(first)?;
-    while let Some(behind) = after(rest, TokenKind::Comma) {
-        let (name, end) = identifier(behind)?;
+    while let Some(following) = after(rest, TokenKind::Comma) {
+        let (name, end) = identifier(following)?;
         names.push(name)?;
         rest = end;
     }
     Ok((names, rest))
 }
 
-/// The arguments at the front of the tokens, with commas between them, and what follows.
-#[tactic(auto, unfolding(crate::specs::Taking::arguments, crate::specs::Taking::comma_list))]
+/// The arguments at the start of the tokens, with commas between them, and what follows.
+#[tactic(auto, unfolding(crate::specs::Internal::Taking::arguments, crate::specs::Internal::Taking::comma_list))]
 pub(crate) fn arguments<'t, 'a>(
     alloc: Global,
     tokens: &'t [Token<'a>],
-) -> Result<(Vec<Argument<'a>>, &'t [Token<'a>]), Stopped>
+) -> Result<(Vec<Argument<'a>>, &'t [Token<'a>]), StepError>
     ensures { Gives (λ x. (map operand x.0.items, lexemes x.1.now)) result (spec.arguments (lexemes tokens.now)) }
 {
     let mut found = Vec::new(alloc);
     let (first, mut rest) = argument(tokens)?;
     found.push(first)?;
-    while let Some(behind) = after(rest, TokenKind::Comma) {
-        let (next, end) = argument(behind)?;
+    while let Some(following) = after(rest, TokenKind::Comma) {
+        let (next, end) = argument(following)?;
         found.push(next)?;
         rest = end;
     }
     Ok((found, rest))
 }
 
-/// The expressions at the front of the tokens, with commas between them, and what follows.
-#[tactic(auto, unfolding(crate::specs::Taking::comma_list))]
+/// The expressions at the start of the tokens, with commas between them, and what follows.
+#[tactic(auto, unfolding(crate::specs::Internal::Taking::comma_list))]
 fn expressions<'t, 'a>(
     alloc: Global,
     tokens: &'t [Token<'a>],
-) -> Result<(Vec<Expression<'a>>, &'t [Token<'a>]), Stopped>
+) -> Result<(Vec<Expression<'a>>, &'t [Token<'a>]), StepError>
     ensures { Gives (λ x. (map formula_of x.0.items, lexemes x.1.now)) result (spec.comma_list take_expression (lexemes tokens.now)) }
 {
     let mut found = Vec::new(alloc);
     let (first, mut rest) = expression(alloc, tokens)?;
     found.push(first)?;
-    while let Some(behind) = after(rest, TokenKind::Comma) {
-        let (next, end) = expression(alloc, behind)?;
+    while let Some(following) = after(rest, TokenKind::Comma) {
+        let (next, end) = expression(alloc, following)?;
         found.push(next)?;
         rest = end;
     }
     Ok((found, rest))
 }
 
-/// The identifiers between parentheses at the front of the tokens, if parentheses stand there, and what follows.
-#[tactic(auto, unfolding(crate::specs::Taking::parameters, crate::specs::Taking::optional_list, crate::specs::Taking::identifiers))]
+/// The identifiers between parentheses at the start of the tokens, if parentheses stand there, and what follows.
+#[tactic(auto, unfolding(crate::specs::Internal::Taking::parameters, crate::specs::Internal::Taking::optional_list, crate::specs::Internal::Taking::identifiers))]
 pub(crate) fn parameters<'t, 'a>(
     alloc: Global,
     tokens: &'t [Token<'a>],
-) -> Result<(Vec<&'a [u8]>, &'t [Token<'a>]), Stopped>
+) -> Result<(Vec<&'a [u8]>, &'t [Token<'a>]), StepError>
     ensures { Gives (λ x. (map (λ name. name.now) x.0.items, lexemes x.1.now)) result (spec.parameters (lexemes tokens.now)) }
 {
     let Some(inside) = after(tokens, TokenKind::LeftParenthesis) else {
@@ -162,17 +162,17 @@ pub(crate) fn parameters<'t, 'a>(
     if let Some(rest) = after(inside, TokenKind::RightParenthesis) {
         return Ok((Vec::new(alloc), rest));
     }
-    let (names, behind) = identifiers(alloc, inside)?;
-    let rest = sign(behind, TokenKind::RightParenthesis)?;
+    let (names, following) = identifiers(alloc, inside)?;
+    let rest = expect(following, TokenKind::RightParenthesis)?;
     Ok((names, rest))
 }
 
-/// The expressions between parentheses at the front of the tokens, if parentheses stand there, and what follows.
-#[tactic(auto, unfolding(crate::specs::Taking::angles, crate::specs::Taking::optional_list))]
+/// The expressions between parentheses at the start of the tokens, if parentheses stand there, and what follows.
+#[tactic(auto, unfolding(crate::specs::Internal::Taking::angles, crate::specs::Internal::Taking::optional_list))]
 pub(crate) fn angles<'t, 'a>(
     alloc: Global,
     tokens: &'t [Token<'a>],
-) -> Result<(Vec<Expression<'a>>, &'t [Token<'a>]), Stopped>
+) -> Result<(Vec<Expression<'a>>, &'t [Token<'a>]), StepError>
     ensures { Gives (λ x. (map formula_of x.0.items, lexemes x.1.now)) result (spec.angles (lexemes tokens.now)) }
 {
     let Some(inside) = after(tokens, TokenKind::LeftParenthesis) else {
@@ -181,7 +181,7 @@ pub(crate) fn angles<'t, 'a>(
     if let Some(rest) = after(inside, TokenKind::RightParenthesis) {
         return Ok((Vec::new(alloc), rest));
     }
-    let (found, behind) = expressions(alloc, inside)?;
-    let rest = sign(behind, TokenKind::RightParenthesis)?;
+    let (found, following) = expressions(alloc, inside)?;
+    let rest = expect(following, TokenKind::RightParenthesis)?;
     Ok((found, rest))
 }

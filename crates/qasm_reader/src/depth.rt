@@ -24,7 +24,7 @@ pub(crate) fn too_deep(tokens: &[Token<'_>]) -> Option<usize>
     None
 }
 
-/// How many are open behind a token, where so many were before it.
+/// How many are open after a token, where so many were before it.
 fn open_after(count: usize, kind: TokenKind) -> usize
     requires { count ≤ most_open }
     ensures { result ≡ spec.open_after count kind }

@@ -29,8 +29,8 @@ pub fn one_syntax_fault()
     ensures none { (ts : List Lexeme) (statements : List Placed) (n : ℕ) → IsProgram ts statements → IsSyntaxFault ts n → ⊥ }
 {}
 
-/// What is too deep, said by fronts of the tokens.
-pub fn depth_by_fronts()
+/// What is too deep, said by prefixes of the tokens.
+pub fn depth_by_prefixes()
     ensures deep { (ts : List Lexeme) (at : ℕ) → (too_deep ts ≡ Some at) ↔ IsTooDeep ts at }
     ensures shallow { (ts : List Lexeme) → (too_deep ts ≡ None) ↔ IsShallow ts }
 {}

@@ -10,7 +10,7 @@ mod machine;
 pub mod parser;
 pub mod program;
 mod statement;
-mod stopped;
+mod step_error;
 #[cfg(test)]
 mod tests;
 mod tokens;

@@ -6,12 +6,12 @@ ghost use Rattle.std.specs.Option.{option_map};
 ghost use Rattle.qasm_lexer.specs.Tokens.{lexemes};
 ghost use Rattle.qasm_reader.specs.Items.{entry};
 ghost use Rattle.qasm_reader.specs.Postfix.{formula_of};
-ghost use Rattle.qasm_reader.specs.Taking.{Gives};
-ghost use Rattle.qasm_reader.specs.Machine.{state_of, start};
-ghost use Rattle.qasm_reader.specs.Machine as spec;
+ghost use Rattle.qasm_reader.specs.Internal.Taking.{Gives};
+ghost use Rattle.qasm_reader.specs.Internal.Machine.{state_of, start};
+ghost use Rattle.qasm_reader.specs.Internal.Machine as spec;
 
 use crate::expression::{Expression, Function, Item, Operator};
-use crate::stopped::Stopped;
+use crate::step_error::StepError;
 use qasm_lexer::{Token, TokenKind};
 use std::alloc::{AllocError, Global};
 
@@ -20,11 +20,11 @@ use std::alloc::{AllocError, Global};
 pub(crate) enum Pending {
     /// A minus sign before its operand.
     Negate,
-    /// An operator behind its left operand.
+    /// An operator after its left operand.
     Binary(Operator),
     /// An open parenthesis.
     Parenthesis,
-    /// An open parenthesis behind a function.
+    /// An open parenthesis after a function.
     Call(Function),
 }
 
@@ -33,7 +33,7 @@ pub(crate) enum Pending {
 pub(crate) enum Awaited {
     /// An operand.
     Operand,
-    /// The parenthesis behind this function.
+    /// The parenthesis after this function.
     Parenthesis(Function),
     /// An operator, a parenthesis that closes, or the end.
     Operator,
@@ -46,16 +46,16 @@ pub(crate) struct Machine<'a> {
     awaited: Awaited,
     /// The items that are put out.
     output: Vec<Item<'a>>,
-    /// What waits, the last that came behind all others.
+    /// What waits, the last that came after all others.
     pending: Vec<Pending>,
 }
 
-/// The expression at the front of the tokens, and what follows.
-#[tactic(auto, unfolding(crate::specs::Machine::take_entries, crate::specs::Machine::take_expression))]
+/// The expression at the start of the tokens, and what follows.
+#[tactic(auto, unfolding(crate::specs::Internal::Machine::take_entries, crate::specs::Internal::Machine::take_expression))]
 pub(crate) fn expression<'t, 'a>(
     alloc: Global,
     tokens: &'t [Token<'a>],
-) -> Result<(Expression<'a>, &'t [Token<'a>]), Stopped>
+) -> Result<(Expression<'a>, &'t [Token<'a>]), StepError>
     ensures { Gives (λ x. (formula_of x.0, lexemes x.1.now)) result (spec.take_expression (lexemes tokens.now)) }
 {
     let mut machine = Machine::new(alloc);
@@ -77,7 +77,7 @@ impl<'a> Machine<'a> {
     }
 
     /// Takes the tokens of an expression, and answers those that follow.
-    #[tactic(auto, unfolding(crate::specs::Machine::run))]
+    #[tactic(auto, unfolding(crate::specs::Internal::Machine::run))]
     fn run<'t>(&mut self, tokens: &'t [Token<'a>]) -> Result<&'t [Token<'a>], AllocError>
         ensures { IfOk result (λ rest. spec.run (lexemes tokens.now) (state_of self.old) ≡ (state_of self.new, lexemes rest.now)) }
     {
@@ -92,7 +92,7 @@ impl<'a> Machine<'a> {
     }
 
     /// Takes a token, and answers whether it belongs to the expression.
-    #[tactic(auto, unfolding(crate::specs::Machine::step))]
+    #[tactic(auto, unfolding(crate::specs::Internal::Machine::step))]
     fn step(&mut self, token: &Token<'a>) -> Result<bool, AllocError>
         ensures { IfOk result (λ belongs. spec.step (state_of self.old) token.now.kind token.now.slice.now ≡ (belongs, state_of self.new)) }
     {
@@ -120,7 +120,7 @@ impl<'a> Machine<'a> {
         Ok(true)
     }
 
-    /// Takes a token behind the name of a function.
+    /// Takes a token after the name of a function.
     fn parenthesis(&mut self, function: Function, kind: TokenKind) -> Result<bool, AllocError>
         ensures { IfOk result (λ belongs. spec.on_left (spec.is_left kind) function (state_of self.old) ≡ (belongs, state_of self.new)) }
     {
@@ -169,8 +169,8 @@ impl<'a> Machine<'a> {
     }
 
     /// The items of the expression, if it is whole.
-    #[tactic(auto, unfolding(crate::specs::Machine::finished))]
-    fn finish(self) -> Result<Vec<Item<'a>>, Stopped>
+    #[tactic(auto, unfolding(crate::specs::Internal::Machine::finished))]
+    fn finish(self) -> Result<Vec<Item<'a>>, StepError>
         ensures { Gives (λ items. map entry items.items) result (spec.finished (state_of self.entry)) }
     {
         let Machine {
@@ -179,13 +179,13 @@ impl<'a> Machine<'a> {
             mut pending,
         } = self;
         let Awaited::Operator = awaited else {
-            return Err(Stopped::Misfit);
+            return Err(StepError::Misfit);
         };
         release(1, &mut output, &mut pending)?;
         if pending.is_empty() {
             Ok(output)
         } else {
-            Err(Stopped::Misfit)
+            Err(StepError::Misfit)
         }
     }
 }

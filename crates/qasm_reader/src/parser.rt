@@ -4,16 +4,16 @@ ghost use Rattle.std.specs.Prelude.{◌≡◌, List, None, Some, Err, IfOk, OnOk
 ghost use Rattle.qasm_lexer.specs.Tokens.{lexemes};
 ghost use Rattle.qasm_reader.specs.Depth.{too_deep};
 ghost use Rattle.qasm_reader.specs.Grammar.{IsProgram, IsSyntaxFault};
-ghost use Rattle.qasm_reader.specs.Parsing.{AnswersProgram, AnswersFault, IsAnswer, IsStep, IsDepthAnswer};
+ghost use Rattle.qasm_reader.specs.Internal.Parsing.{AnswersProgram, AnswersFault, IsAnswer, IsStep, IsDepthAnswer};
 ghost use Rattle.qasm_reader.specs.Syntax.{Placed};
-ghost use Rattle.qasm_reader.specs.Taking as spec;
+ghost use Rattle.qasm_reader.specs.Internal.Taking as spec;
 ghost use Rattle.qasm_reader.specs.Views.{statements_of};
 
 use crate::depth::too_deep;
 use crate::error::ParseError;
 use crate::program::{Program, Statement};
 use crate::statement::statement;
-use crate::stopped::Stopped;
+use crate::step_error::StepError;
 use qasm_lexer::Token;
 use std::alloc::Global;
 
@@ -63,7 +63,7 @@ fn shallow<'t, 'a>(tokens: &'t [Token<'a>]) -> Result<&'t [Token<'a>], ParseErro
     }
 }
 
-/// The statement at the front of the tokens, with its place, and what follows.
+/// The statement at the start of the tokens, with its place, and what follows.
 fn placed_statement<'t, 'a>(
     alloc: Global,
     place: usize,
@@ -73,7 +73,7 @@ fn placed_statement<'t, 'a>(
 {
     match statement(alloc, tokens) {
         Ok((kind, rest)) => Ok((Statement { place, kind }, rest)),
-        Err(Stopped::Misfit) => Err(ParseError::Syntax { at: place }),
-        Err(Stopped::NoMemory) => Err(ParseError::NoMemory),
+        Err(StepError::Misfit) => Err(ParseError::Syntax { at: place }),
+        Err(StepError::NoMemory) => Err(ParseError::NoMemory),
     }
 }

@@ -3,8 +3,8 @@
 ghost use Rattle.std.specs.Prelude.{◌≡◌, map};
 ghost use Rattle.qasm_lexer.specs.Tokens.{lexemes};
 ghost use Rattle.qasm_reader.specs.Views.{action, body_sentence, sentence};
-ghost use Rattle.qasm_reader.specs.Taking.{Gives};
-ghost use Rattle.qasm_reader.specs.Taking as spec;
+ghost use Rattle.qasm_reader.specs.Internal.Taking.{Gives};
+ghost use Rattle.qasm_reader.specs.Internal.Taking as spec;
 
 use crate::arguments::{
     angles, argument, arguments, gate_name, identifier, identifiers, natural, parameters,
@@ -13,21 +13,21 @@ use crate::program::{
     Application, BodyApplication, BodyStatement, GateDeclaration, OpaqueDeclaration, Operation,
     StatementKind,
 };
-use crate::stopped::Stopped;
-use crate::tokens::{after, is_next, sign, text};
+use crate::step_error::StepError;
+use crate::tokens::{after, expect, is_next, text};
 use qasm_lexer::{Token, TokenKind};
 use std::alloc::Global;
 
-/// The statement at the front of the tokens, and what follows.
-#[tactic(auto, unfolding(crate::specs::Taking::statement))]
+/// The statement at the start of the tokens, and what follows.
+#[tactic(auto, unfolding(crate::specs::Internal::Taking::statement))]
 pub(crate) fn statement<'t, 'a>(
     alloc: Global,
     tokens: &'t [Token<'a>],
-) -> Result<(StatementKind<'a>, &'t [Token<'a>]), Stopped>
+) -> Result<(StatementKind<'a>, &'t [Token<'a>]), StepError>
     ensures { Gives (λ x. (sentence x.0, lexemes x.1.now)) result (spec.statement (lexemes tokens.now)) }
 {
     let [first, rest @ ..] = tokens else {
-        return Err(Stopped::Misfit);
+        return Err(StepError::Misfit);
     };
     match first.kind {
         TokenKind::Openqasm => version(rest),
@@ -43,44 +43,48 @@ pub(crate) fn statement<'t, 'a>(
 }
 
 /// What follows `OPENQASM`.
-#[tactic(auto, unfolding(crate::specs::Taking::version))]
-fn version<'t, 'a>(tokens: &'t [Token<'a>]) -> Result<(StatementKind<'a>, &'t [Token<'a>]), Stopped>
+#[tactic(auto, unfolding(crate::specs::Internal::Taking::version))]
+fn version<'t, 'a>(
+    tokens: &'t [Token<'a>],
+) -> Result<(StatementKind<'a>, &'t [Token<'a>]), StepError>
     ensures { Gives (λ x. (sentence x.0, lexemes x.1.now)) result (spec.version (lexemes tokens.now)) }
 {
     let (real, rest) = text(tokens, TokenKind::Real)?;
-    let rest = sign(rest, TokenKind::Semicolon)?;
+    let rest = expect(rest, TokenKind::Semicolon)?;
     Ok((StatementKind::Version(real), rest))
 }
 
 /// What follows `include`.
-#[tactic(auto, unfolding(crate::specs::Taking::include))]
-fn include<'t, 'a>(tokens: &'t [Token<'a>]) -> Result<(StatementKind<'a>, &'t [Token<'a>]), Stopped>
+#[tactic(auto, unfolding(crate::specs::Internal::Taking::include))]
+fn include<'t, 'a>(
+    tokens: &'t [Token<'a>],
+) -> Result<(StatementKind<'a>, &'t [Token<'a>]), StepError>
     ensures { Gives (λ x. (sentence x.0, lexemes x.1.now)) result (spec.include (lexemes tokens.now)) }
 {
     let (name, rest) = text(tokens, TokenKind::Text)?;
-    let rest = sign(rest, TokenKind::Semicolon)?;
+    let rest = expect(rest, TokenKind::Semicolon)?;
     Ok((StatementKind::Include(name), rest))
 }
 
 /// A register's name and size.
-#[tactic(auto, unfolding(crate::specs::Taking::register))]
+#[tactic(auto, unfolding(crate::specs::Internal::Taking::register))]
 fn register<'t, 'a>(
     tokens: &'t [Token<'a>],
-) -> Result<((&'a [u8], &'a [u8]), &'t [Token<'a>]), Stopped>
+) -> Result<((&'a [u8], &'a [u8]), &'t [Token<'a>]), StepError>
     ensures { Gives (λ x. ((x.0.0.now, x.0.1.now), lexemes x.1.now)) result (spec.register (lexemes tokens.now)) }
 {
     let (name, rest) = identifier(tokens)?;
-    let inside = sign(rest, TokenKind::LeftBracket)?;
-    let (size, behind) = natural(inside)?;
-    let behind = sign(behind, TokenKind::RightBracket)?;
-    let rest = sign(behind, TokenKind::Semicolon)?;
+    let inside = expect(rest, TokenKind::LeftBracket)?;
+    let (size, following) = natural(inside)?;
+    let following = expect(following, TokenKind::RightBracket)?;
+    let rest = expect(following, TokenKind::Semicolon)?;
     Ok(((name, size), rest))
 }
 
 /// What follows `qreg`.
 fn qubit_register<'t, 'a>(
     tokens: &'t [Token<'a>],
-) -> Result<(StatementKind<'a>, &'t [Token<'a>]), Stopped>
+) -> Result<(StatementKind<'a>, &'t [Token<'a>]), StepError>
     ensures { Gives (λ x. (sentence x.0, lexemes x.1.now)) result (spec.qubit_register (lexemes tokens.now)) }
 {
     let ((name, size), rest) = register(tokens)?;
@@ -90,7 +94,7 @@ fn qubit_register<'t, 'a>(
 /// What follows `creg`.
 fn bit_register<'t, 'a>(
     tokens: &'t [Token<'a>],
-) -> Result<(StatementKind<'a>, &'t [Token<'a>]), Stopped>
+) -> Result<(StatementKind<'a>, &'t [Token<'a>]), StepError>
     ensures { Gives (λ x. (sentence x.0, lexemes x.1.now)) result (spec.bit_register (lexemes tokens.now)) }
 {
     let ((name, size), rest) = register(tokens)?;
@@ -98,11 +102,11 @@ fn bit_register<'t, 'a>(
 }
 
 /// The name, the parameters and the qubits of a gate that is declared.
-#[tactic(auto, unfolding(crate::specs::Taking::heading))]
+#[tactic(auto, unfolding(crate::specs::Internal::Taking::heading))]
 fn heading<'t, 'a>(
     alloc: Global,
     tokens: &'t [Token<'a>],
-) -> Result<(OpaqueDeclaration<'a>, &'t [Token<'a>]), Stopped>
+) -> Result<(OpaqueDeclaration<'a>, &'t [Token<'a>]), StepError>
     ensures { Gives (λ x. ((x.0.name.now, (map (λ name. name.now) x.0.parameters.items, map (λ name. name.now) x.0.qubits.items)), lexemes x.1.now)) result (spec.heading (lexemes tokens.now)) }
 {
     let (name, rest) = identifier(tokens)?;
@@ -119,11 +123,11 @@ fn heading<'t, 'a>(
 }
 
 /// What follows `gate`.
-#[tactic(auto, unfolding(crate::specs::Taking::gate))]
+#[tactic(auto, unfolding(crate::specs::Internal::Taking::gate))]
 fn gate<'t, 'a>(
     alloc: Global,
     tokens: &'t [Token<'a>],
-) -> Result<(StatementKind<'a>, &'t [Token<'a>]), Stopped>
+) -> Result<(StatementKind<'a>, &'t [Token<'a>]), StepError>
     ensures { Gives (λ x. (sentence x.0, lexemes x.1.now)) result (spec.gate (lexemes tokens.now)) }
 {
     let (head, rest) = heading(alloc, tokens)?;
@@ -140,39 +144,39 @@ fn gate<'t, 'a>(
 }
 
 /// What follows `opaque`.
-#[tactic(auto, unfolding(crate::specs::Taking::opaque))]
+#[tactic(auto, unfolding(crate::specs::Internal::Taking::opaque))]
 fn opaque<'t, 'a>(
     alloc: Global,
     tokens: &'t [Token<'a>],
-) -> Result<(StatementKind<'a>, &'t [Token<'a>]), Stopped>
+) -> Result<(StatementKind<'a>, &'t [Token<'a>]), StepError>
     ensures { Gives (λ x. (sentence x.0, lexemes x.1.now)) result (spec.opaque (lexemes tokens.now)) }
 {
     let (head, rest) = heading(alloc, tokens)?;
-    let rest = sign(rest, TokenKind::Semicolon)?;
+    let rest = expect(rest, TokenKind::Semicolon)?;
     Ok((StatementKind::Opaque(head), rest))
 }
 
 /// The register and the value of a condition between parentheses.
-#[tactic(auto, unfolding(crate::specs::Taking::condition))]
+#[tactic(auto, unfolding(crate::specs::Internal::Taking::condition))]
 fn condition<'t, 'a>(
     tokens: &'t [Token<'a>],
-) -> Result<((&'a [u8], &'a [u8]), &'t [Token<'a>]), Stopped>
+) -> Result<((&'a [u8], &'a [u8]), &'t [Token<'a>]), StepError>
     ensures { Gives (λ x. ((x.0.0.now, x.0.1.now), lexemes x.1.now)) result (spec.condition (lexemes tokens.now)) }
 {
-    let inside = sign(tokens, TokenKind::LeftParenthesis)?;
+    let inside = expect(tokens, TokenKind::LeftParenthesis)?;
     let (register, rest) = identifier(inside)?;
-    let behind = sign(rest, TokenKind::Equals)?;
-    let (value, behind) = natural(behind)?;
-    let rest = sign(behind, TokenKind::RightParenthesis)?;
+    let following = expect(rest, TokenKind::Equals)?;
+    let (value, following) = natural(following)?;
+    let rest = expect(following, TokenKind::RightParenthesis)?;
     Ok(((register, value), rest))
 }
 
 /// What follows `if`.
-#[tactic(auto, unfolding(crate::specs::Taking::conditional))]
+#[tactic(auto, unfolding(crate::specs::Internal::Taking::conditional))]
 fn conditional<'t, 'a>(
     alloc: Global,
     tokens: &'t [Token<'a>],
-) -> Result<(StatementKind<'a>, &'t [Token<'a>]), Stopped>
+) -> Result<(StatementKind<'a>, &'t [Token<'a>]), StepError>
     ensures { Gives (λ x. (sentence x.0, lexemes x.1.now)) result (spec.conditional (lexemes tokens.now)) }
 {
     let ((register, value), rest) = condition(tokens)?;
@@ -188,15 +192,15 @@ fn conditional<'t, 'a>(
 }
 
 /// What follows `barrier`.
-#[tactic(auto, unfolding(crate::specs::Taking::barrier))]
+#[tactic(auto, unfolding(crate::specs::Internal::Taking::barrier))]
 fn barrier<'t, 'a>(
     alloc: Global,
     tokens: &'t [Token<'a>],
-) -> Result<(StatementKind<'a>, &'t [Token<'a>]), Stopped>
+) -> Result<(StatementKind<'a>, &'t [Token<'a>]), StepError>
     ensures { Gives (λ x. (sentence x.0, lexemes x.1.now)) result (spec.barrier (lexemes tokens.now)) }
 {
     let (qubits, rest) = arguments(alloc, tokens)?;
-    let rest = sign(rest, TokenKind::Semicolon)?;
+    let rest = expect(rest, TokenKind::Semicolon)?;
     Ok((StatementKind::Barrier(qubits), rest))
 }
 
@@ -204,23 +208,23 @@ fn barrier<'t, 'a>(
 fn act<'t, 'a>(
     alloc: Global,
     tokens: &'t [Token<'a>],
-) -> Result<(StatementKind<'a>, &'t [Token<'a>]), Stopped>
+) -> Result<(StatementKind<'a>, &'t [Token<'a>]), StepError>
     ensures { Gives (λ x. (sentence x.0, lexemes x.1.now)) result (spec.act (lexemes tokens.now)) }
 {
     let (operation, rest) = operation(alloc, tokens)?;
     Ok((StatementKind::Operation(operation), rest))
 }
 
-/// The operation on qubits at the front of the tokens, and what follows.
-#[tactic(auto, unfolding(crate::specs::Taking::operation))]
+/// The operation on qubits at the start of the tokens, and what follows.
+#[tactic(auto, unfolding(crate::specs::Internal::Taking::operation))]
 fn operation<'t, 'a>(
     alloc: Global,
     tokens: &'t [Token<'a>],
-) -> Result<(Operation<'a>, &'t [Token<'a>]), Stopped>
+) -> Result<(Operation<'a>, &'t [Token<'a>]), StepError>
     ensures { Gives (λ x. (action x.0, lexemes x.1.now)) result (spec.operation (lexemes tokens.now)) }
 {
     let [first, rest @ ..] = tokens else {
-        return Err(Stopped::Misfit);
+        return Err(StepError::Misfit);
     };
     match first.kind {
         TokenKind::Measure => measure(rest),
@@ -230,17 +234,17 @@ fn operation<'t, 'a>(
 }
 
 /// The application of a gate.
-#[tactic(auto, unfolding(crate::specs::Taking::application))]
+#[tactic(auto, unfolding(crate::specs::Internal::Taking::application))]
 fn application<'t, 'a>(
     alloc: Global,
     tokens: &'t [Token<'a>],
-) -> Result<(Operation<'a>, &'t [Token<'a>]), Stopped>
+) -> Result<(Operation<'a>, &'t [Token<'a>]), StepError>
     ensures { Gives (λ x. (action x.0, lexemes x.1.now)) result (spec.application (lexemes tokens.now)) }
 {
     let (gate, rest) = gate_name(tokens)?;
     let (angles, rest) = angles(alloc, rest)?;
     let (qubits, rest) = arguments(alloc, rest)?;
-    let rest = sign(rest, TokenKind::Semicolon)?;
+    let rest = expect(rest, TokenKind::Semicolon)?;
     Ok((
         Operation::Apply(Application {
             gate,
@@ -252,52 +256,52 @@ fn application<'t, 'a>(
 }
 
 /// What follows `measure`.
-#[tactic(auto, unfolding(crate::specs::Taking::measure))]
-fn measure<'t, 'a>(tokens: &'t [Token<'a>]) -> Result<(Operation<'a>, &'t [Token<'a>]), Stopped>
+#[tactic(auto, unfolding(crate::specs::Internal::Taking::measure))]
+fn measure<'t, 'a>(tokens: &'t [Token<'a>]) -> Result<(Operation<'a>, &'t [Token<'a>]), StepError>
     ensures { Gives (λ x. (action x.0, lexemes x.1.now)) result (spec.measure (lexemes tokens.now)) }
 {
     let (from, rest) = argument(tokens)?;
-    let rest = sign(rest, TokenKind::Arrow)?;
+    let rest = expect(rest, TokenKind::Arrow)?;
     let (to, rest) = argument(rest)?;
-    let rest = sign(rest, TokenKind::Semicolon)?;
+    let rest = expect(rest, TokenKind::Semicolon)?;
     Ok((Operation::Measure { from, to }, rest))
 }
 
 /// What follows `reset`.
-#[tactic(auto, unfolding(crate::specs::Taking::reset))]
-fn reset<'t, 'a>(tokens: &'t [Token<'a>]) -> Result<(Operation<'a>, &'t [Token<'a>]), Stopped>
+#[tactic(auto, unfolding(crate::specs::Internal::Taking::reset))]
+fn reset<'t, 'a>(tokens: &'t [Token<'a>]) -> Result<(Operation<'a>, &'t [Token<'a>]), StepError>
     ensures { Gives (λ x. (action x.0, lexemes x.1.now)) result (spec.reset (lexemes tokens.now)) }
 {
     let (argument, rest) = argument(tokens)?;
-    let rest = sign(rest, TokenKind::Semicolon)?;
+    let rest = expect(rest, TokenKind::Semicolon)?;
     Ok((Operation::Reset(argument), rest))
 }
 
 /// The statements of a gate's body between its braces, and what follows.
-#[tactic(auto, unfolding(crate::specs::Taking::block))]
+#[tactic(auto, unfolding(crate::specs::Internal::Taking::block))]
 fn block<'t, 'a>(
     alloc: Global,
     tokens: &'t [Token<'a>],
-) -> Result<(Vec<BodyStatement<'a>>, &'t [Token<'a>]), Stopped>
+) -> Result<(Vec<BodyStatement<'a>>, &'t [Token<'a>]), StepError>
     ensures { Gives (λ x. (map body_sentence x.0.items, lexemes x.1.now)) result (spec.block (lexemes tokens.now)) }
 {
     let mut statements = Vec::new(alloc);
-    let mut rest = sign(tokens, TokenKind::LeftBrace)?;
+    let mut rest = expect(tokens, TokenKind::LeftBrace)?;
     while !is_next(rest, TokenKind::RightBrace) {
         let (next, end) = body_statement(alloc, rest)?;
         statements.push(next)?;
         rest = end;
     }
-    let end = sign(rest, TokenKind::RightBrace)?;
+    let end = expect(rest, TokenKind::RightBrace)?;
     Ok((statements, end))
 }
 
-/// The statement of a gate's body at the front of the tokens, and what follows.
-#[tactic(auto, unfolding(crate::specs::Taking::body_statement))]
+/// The statement of a gate's body at the start of the tokens, and what follows.
+#[tactic(auto, unfolding(crate::specs::Internal::Taking::body_statement))]
 fn body_statement<'t, 'a>(
     alloc: Global,
     tokens: &'t [Token<'a>],
-) -> Result<(BodyStatement<'a>, &'t [Token<'a>]), Stopped>
+) -> Result<(BodyStatement<'a>, &'t [Token<'a>]), StepError>
     ensures { Gives (λ x. (body_sentence x.0, lexemes x.1.now)) result (spec.body_statement (lexemes tokens.now)) }
 {
     match after(tokens, TokenKind::Barrier) {
@@ -310,26 +314,26 @@ fn body_statement<'t, 'a>(
 fn body_barrier<'t, 'a>(
     alloc: Global,
     tokens: &'t [Token<'a>],
-) -> Result<(BodyStatement<'a>, &'t [Token<'a>]), Stopped>
+) -> Result<(BodyStatement<'a>, &'t [Token<'a>]), StepError>
     ensures { Gives (λ x. (body_sentence x.0, lexemes x.1.now)) result (spec.body_barrier (lexemes tokens.now)) }
 {
     let (qubits, rest) = identifiers(alloc, tokens)?;
-    let rest = sign(rest, TokenKind::Semicolon)?;
+    let rest = expect(rest, TokenKind::Semicolon)?;
     Ok((BodyStatement::Barrier(qubits), rest))
 }
 
 /// The application of a gate in a body.
-#[tactic(auto, unfolding(crate::specs::Taking::body_application))]
+#[tactic(auto, unfolding(crate::specs::Internal::Taking::body_application))]
 fn body_application<'t, 'a>(
     alloc: Global,
     tokens: &'t [Token<'a>],
-) -> Result<(BodyStatement<'a>, &'t [Token<'a>]), Stopped>
+) -> Result<(BodyStatement<'a>, &'t [Token<'a>]), StepError>
     ensures { Gives (λ x. (body_sentence x.0, lexemes x.1.now)) result (spec.body_application (lexemes tokens.now)) }
 {
     let (gate, rest) = gate_name(tokens)?;
     let (angles, rest) = angles(alloc, rest)?;
     let (qubits, rest) = identifiers(alloc, rest)?;
-    let rest = sign(rest, TokenKind::Semicolon)?;
+    let rest = expect(rest, TokenKind::Semicolon)?;
     Ok((
         BodyStatement::Apply(BodyApplication {
             gate,

@@ -27,7 +27,7 @@ fn word_of<'a>(item: &Item<'a>) -> &'a [u8] {
     }
 }
 
-// The angles of the applications in a program, in postfix order, with a space behind each word.
+// The angles of the applications in a program, in postfix order, with a space after each word.
 fn angles_of(alloc: Global, program: &Program<'_>) -> Result<Vec<u8>, Fail> {
     let mut text = Vec::new(alloc);
     for statement in &program.statements {
@@ -154,12 +154,12 @@ fn other_tokens_are_refused_where_the_statement_begins(rt: HostRuntime) -> Resul
     Ok(())
 }
 
-// An application with the words repeated before its one angle, and behind it.
+// An application with the words repeated before its one angle, and after it.
 fn repeated<'a>(
     alloc: Global,
     count: usize,
     before: &[Token<'a>],
-    behind: &[Token<'a>],
+    following: &[Token<'a>],
 ) -> Result<Vec<Token<'a>>, Fail> {
     let mut tokens = tokens_of(alloc, b"g (")?;
     for _ in 0..count {
@@ -167,7 +167,7 @@ fn repeated<'a>(
     }
     tokens.extend_from_slice(&tokens_of(alloc, b"a")?)?;
     for _ in 0..count {
-        tokens.extend_from_slice(behind)?;
+        tokens.extend_from_slice(following)?;
     }
     tokens.extend_from_slice(&tokens_of(alloc, b") q ;")?)?;
     Ok(tokens)
@@ -182,10 +182,10 @@ fn long_expressions_are_read(rt: HostRuntime) -> Result<(), Fail> {
         (b"", b"+ a"),
         (b"a ^ a *", b"- a"),
     ];
-    for (before, behind) in rows {
+    for (before, following) in rows {
         let before = tokens_of(alloc, before)?;
-        let behind = tokens_of(alloc, behind)?;
-        let tokens = repeated(alloc, 100_000, &before, &behind)?;
+        let following = tokens_of(alloc, following)?;
+        let tokens = repeated(alloc, 100_000, &before, &following)?;
         assert_eq!(rt; parse(alloc, &tokens).err(), None);
     }
     Ok(())
@@ -195,11 +195,11 @@ fn long_expressions_are_read(rt: HostRuntime) -> Result<(), Fail> {
 fn more_than_256_open_parentheses_are_too_deep(rt: HostRuntime) -> Result<(), Fail> {
     let alloc = rt.alloc();
     let before = tokens_of(alloc, b"(")?;
-    let behind = tokens_of(alloc, b")")?;
+    let following = tokens_of(alloc, b")")?;
     let last = tokens_of(alloc, b"      (")?;
-    let most = repeated(alloc, 255, &before, &behind)?;
+    let most = repeated(alloc, 255, &before, &following)?;
     assert_eq!(rt; parse(alloc, &most).err(), None);
-    let over = repeated(alloc, 256, &before, &behind)?;
+    let over = repeated(alloc, 256, &before, &following)?;
     assert_eq!(rt;
         parse(alloc, &over).err(),
         Some(ParseError::TooDeep { at: 0 })
@@ -210,7 +210,7 @@ fn more_than_256_open_parentheses_are_too_deep(rt: HostRuntime) -> Result<(), Fa
         parse(alloc, &two).err(),
         Some(ParseError::Syntax { at: 0 })
     );
-    let mut later = repeated(alloc, 255, &before, &behind)?;
+    let mut later = repeated(alloc, 255, &before, &following)?;
     later.extend_from_slice(&repeated(alloc, 255, &before, &last)?)?;
     assert_eq!(rt;
         parse(alloc, &later).err(),
@@ -242,9 +242,9 @@ fn reading_of(alloc: Global, text: &[u8]) -> Told {
 }
 
 #[test]
-fn each_front_of_a_text_is_told(rt: HostRuntime) -> Result<(), Fail> {
+fn each_prefix_of_a_text_is_told(rt: HostRuntime) -> Result<(), Fail> {
     let text: &[u8] = b"OPENQASM 2.0;\ninclude \"qelib1.inc\";\nqreg q[1];\nt q[0];\nt q[0];\n";
-    // The first and the last length of the fronts of one kind.
+    // The first and the last length of the prefixes of one kind.
     let rows: [(usize, usize, Told); 14] = [
         (0, 0, Told::Statements(0)),
         (1, 7, Told::BadByte(0)),
@@ -263,8 +263,8 @@ fn each_front_of_a_text_is_told(rt: HostRuntime) -> Result<(), Fail> {
     ];
     for (first, last, expected) in rows {
         for length in first..=last {
-            if let Some(front) = text.get(..length) {
-                assert_eq!(rt; reading_of(rt.alloc(), front), expected, "{length} bytes");
+            if let Some(prefix) = text.get(..length) {
+                assert_eq!(rt; reading_of(rt.alloc(), prefix), expected, "{length} bytes");
             }
         }
     }

@@ -1,16 +1,16 @@
-//! The steps that every other is made of: single tokens at the front.
+//! The steps that every other is made of: single tokens at the start.
 
 ghost use Rattle.std.specs.Prelude.{◌≡◌, is_some};
 ghost use Rattle.std.specs.Option.{option_map};
 ghost use Rattle.qasm_lexer.specs.Tokens.{lexemes};
-ghost use Rattle.qasm_reader.specs.Taking.{Gives};
-ghost use Rattle.qasm_reader.specs.Taking as spec;
+ghost use Rattle.qasm_reader.specs.Internal.Taking.{Gives};
+ghost use Rattle.qasm_reader.specs.Internal.Taking as spec;
 
-use crate::stopped::Stopped;
+use crate::step_error::StepError;
 use qasm_lexer::{Token, TokenKind};
 
 /// Whether two kinds are the same.
-#[tactic(auto, unfolding(crate::specs::Taking::same_kind))]
+#[tactic(auto, unfolding(crate::specs::Internal::Taking::same_kind))]
 fn same_kind(left: TokenKind, right: TokenKind) -> bool
     ensures { result ≡ spec.same_kind left right }
 {
@@ -18,7 +18,7 @@ fn same_kind(left: TokenKind, right: TokenKind) -> bool
 }
 
 /// What follows the first token, if it is of this kind.
-#[tactic(auto, unfolding(crate::specs::Taking::after))]
+#[tactic(auto, unfolding(crate::specs::Internal::Taking::after))]
 pub(crate) fn after<'t, 'a>(tokens: &'t [Token<'a>], kind: TokenKind) -> Option<&'t [Token<'a>]>
     ensures { option_map (λ rest. lexemes rest.now) result ≡ spec.after kind (lexemes tokens.now) }
 {
@@ -38,28 +38,28 @@ pub(crate) fn is_next(tokens: &[Token<'_>], kind: TokenKind) -> bool
 }
 
 /// What follows the first token, which is to be of this kind.
-pub(crate) fn sign<'t, 'a>(
+pub(crate) fn expect<'t, 'a>(
     tokens: &'t [Token<'a>],
     kind: TokenKind,
-) -> Result<&'t [Token<'a>], Stopped>
+) -> Result<&'t [Token<'a>], StepError>
     ensures { Gives (λ rest. lexemes rest.now) result (spec.after kind (lexemes tokens.now)) }
 {
     match after(tokens, kind) {
         Some(rest) => Ok(rest),
-        None => Err(Stopped::Misfit),
+        None => Err(StepError::Misfit),
     }
 }
 
 /// The bytes of the first token, which is to be of this kind, and what follows.
-#[tactic(auto, unfolding(crate::specs::Taking::text))]
+#[tactic(auto, unfolding(crate::specs::Internal::Taking::text))]
 pub(crate) fn text<'t, 'a>(
     tokens: &'t [Token<'a>],
     kind: TokenKind,
-) -> Result<(&'a [u8], &'t [Token<'a>]), Stopped>
+) -> Result<(&'a [u8], &'t [Token<'a>]), StepError>
     ensures { Gives (λ x. (x.0.now, lexemes x.1.now)) result (spec.text kind (lexemes tokens.now)) }
 {
     match tokens.split_first() {
         Some((first, rest)) if same_kind(first.kind, kind) => Ok((first.slice, rest)),
-        _ => Err(Stopped::Misfit),
+        _ => Err(StepError::Misfit),
     }
 }

@@ -8,12 +8,12 @@ use Rattle.std.proofs.lemmas.List.Folds.{list_any-append}
 use Rattle.qasm_reader.specs.Syntax.{Formula, Number, Pi, Name, Negate, Binary, Call, Callee, Declared, U, Cx, GateForm, BodySentence, BodyApplied, BodyBarrier, DeclareGate, QubitRegister, BitRegister}
 use Rattle.qasm_angle.specs.Trees as tree
 use Rattle.qasm_scope.specs.Angles.{numbered, binary, place_of, place_or_zero}
-use Rattle.qasm_scope.specs.Checks.{Symbols, shape_by, target_by, hidden_by, unplaced, unknown_by, wrong_count_by, calls_by, gate_cause, wrong_gate_by, register_cause}
-use Rattle.qasm_scope.specs.Entries.{place_in, has_unplaced, placed, ArePlaces}
+use Rattle.qasm_scope.specs.Internal.Checks.{Symbols, shape_by, called_by, hidden_by, unplaced, unknown_by, wrong_count_by, calls_by, gate_cause, wrong_gate_by, register_cause}
+use Rattle.qasm_scope.specs.Internal.Entries.{place_in, has_unplaced, placed, ArePlaces}
 use Rattle.qasm_scope.specs.Faults.{shape_of, is_no_gate, is_in, is_hidden, has_other_name, body_has_unknown, body_has_wrong_count, has_other_shape, wrong_in, has_name_twice, body_is_unsupported, body_has_same_qubit}
-use Rattle.qasm_scope.specs.Kept.{found, symbol_of, symbol_shape, number_in, target_for, kept_calls, symbol_taken, IsSound, IsSoundGate}
+use Rattle.qasm_scope.specs.Internal.Kept.{found, symbol_of, symbol_shape, number_in, called_for, kept_calls, symbol_taken, IsSound, IsSoundGate}
 use Rattle.qasm_scope.specs.Scope.{Scope, is_taken, numeral, qubit_count}
-use Rattle.qasm_scope.specs.declared.gates.Target.TheVariants as target
+use Rattle.qasm_scope.specs.declared.gates.CalledGate.TheVariants as called_gate
 use Rattle.qasm_scope.specs.declared.places.Places.{Places}
 use Rattle.qasm_scope.proofs.Formulas.{is_some-place, unplaced-names}
 use Rattle.qasm_scope.proofs.Symbols.{symbol-shape, symbol-taken}
@@ -31,10 +31,10 @@ shape-names symbols scope U h = refl
 shape-names symbols scope Cx h = refl
 shape-names symbols scope (Declared name) h = ap symbol_shape (h name) ∙ symbol-shape name scope
 
-pub target-names : (symbols : Symbols) (scope : Scope) (gate : Callee) → AreNames symbols scope → target_by symbols gate ≡ target_for scope gate
-target-names symbols scope U h = refl
-target-names symbols scope Cx h = refl
-target-names symbols scope (Declared name) h = ap (λ symbol. target.Gate (number_in symbol)) (h name)
+pub called-names : (symbols : Symbols) (scope : Scope) (gate : Callee) → AreNames symbols scope → called_by symbols gate ≡ called_for scope gate
+called-names symbols scope U h = refl
+called-names symbols scope Cx h = refl
+called-names symbols scope (Declared name) h = ap (λ symbol. called_gate.Gate (number_in symbol)) (h name)
 
 pub place-is_in : (places : Places) (names : List (List ℕ)) (name : List ℕ) → ArePlaces places names → is_some (place_in places name) ≡ is_in names name
 place-is_in places names name h = ap is_some (h name) ∙ is_some-place (λ other. bytes_eq other name) 0 names
@@ -94,13 +94,13 @@ pub calls-names : (symbols : Symbols) (scope : Scope) (parameters qubits : Place
 calls-names symbols scope parameters qubits form [] h k l = refl
 calls-names symbols scope parameters qubits form (BodyBarrier names ∷ body) h k l = calls-names symbols scope parameters qubits form body h k l
 calls-names symbols scope parameters qubits form (BodyApplied a ∷ body) h k l =
-    ap (λ t. record { target = t; angles = map (placed parameters) a.angles; qubits = map (λ name. place_or_zero (place_in qubits name)) a.qubits } ∷ calls_by symbols parameters qubits body)
-    (target-names symbols scope a.gate h)
-    ∙ ap (λ ts. record { target = target_for scope a.gate; angles = ts; qubits = map (λ name. place_or_zero (place_in qubits name)) a.qubits } ∷ calls_by symbols parameters qubits body)
+    ap (λ t. record { called = t; angles = map (placed parameters) a.angles; qubits = map (λ name. place_or_zero (place_in qubits name)) a.qubits } ∷ calls_by symbols parameters qubits body)
+    (called-names symbols scope a.gate h)
+    ∙ ap (λ ts. record { called = called_for scope a.gate; angles = ts; qubits = map (λ name. place_or_zero (place_in qubits name)) a.qubits } ∷ calls_by symbols parameters qubits body)
     (map-same (placed parameters) (numbered form.parameters) a.angles (λ f. placed-numbered parameters form.parameters f k))
-    ∙ ap (λ ps. record { target = target_for scope a.gate; angles = map (numbered form.parameters) a.angles; qubits = ps } ∷ calls_by symbols parameters qubits body)
+    ∙ ap (λ ps. record { called = called_for scope a.gate; angles = map (numbered form.parameters) a.angles; qubits = ps } ∷ calls_by symbols parameters qubits body)
     (map-same (λ name. place_or_zero (place_in qubits name)) (λ name. place_of name form.qubits) a.qubits (λ name. place-place_of qubits form.qubits name l))
-    ∙ ap (λ cs. record { target = target_for scope a.gate; angles = map (numbered form.parameters) a.angles; qubits = map (λ name. place_of name form.qubits) a.qubits } ∷ cs)
+    ∙ ap (λ cs. record { called = called_for scope a.gate; angles = map (numbered form.parameters) a.angles; qubits = map (λ name. place_of name form.qubits) a.qubits } ∷ cs)
     (calls-names symbols scope parameters qubits form body h k l)
 
 gate_cause-none : (a b c d e : Bool) → gate_cause a b c d e ≡ None → (a ≡ false) × (b ≡ false) × (c ≡ false) × (d ≡ false) × (e ≡ false)

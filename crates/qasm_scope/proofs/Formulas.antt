@@ -7,14 +7,14 @@ use Rattle.std.proofs.Math.Bool.{or-false}
 use Rattle.std.proofs.lemmas.List.{map-append}
 use Rattle.std.proofs.lemmas.List.Folds.{list_any-append}
 use Rattle.qasm_angle.specs.Trees as tree
-use Rattle.qasm_angle.specs.declared.expression.Step.TheVariants as step
+use Rattle.qasm_angle.specs.declared.expression.ExprItem.TheVariants as step
 use Rattle.qasm_reader.specs.declared.expression.Operator.{Operator}
 use Rattle.qasm_reader.specs.declared.expression.Operator.TheVariants.{Add, Subtract, Multiply, Divide, Power}
 use Rattle.qasm_reader.specs.Postfix.{Entry, NegateEntry, BinaryEntry, CallEntry, postfix, push_entries, formula_of, first_or_pi}
 use Rattle.qasm_reader.specs.Syntax.{Formula, Number, Pi, Name, Negate, Binary, Call}
 use Rattle.qasm_scope.specs.Angles.{is_power, is_unsupported, binary}
 use Rattle.qasm_scope.specs.declared.places.Places.{Places}
-use Rattle.qasm_scope.specs.Entries.{is_unsupported_entry, place_in, has_no_place, operator_of, step_of, has_unplaced, placed, ArePlaces}
+use Rattle.qasm_scope.specs.Internal.Entries.{is_unsupported_entry, place_in, has_no_place, operator_of, step_of, has_unplaced, placed, ArePlaces}
 use Rattle.qasm_scope.specs.Faults.{has_other_name}
 use Rattle.qasm_scope.proofs.Tests.{or-first, or-second}
 

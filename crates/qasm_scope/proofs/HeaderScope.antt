@@ -9,7 +9,7 @@ use Rattle.qasm_reader.specs.Syntax.{Callee, Declared, U, Cx, BodySentence, Body
 use Rattle.qasm_scope.specs.declared.causes.Cause.{Cause}
 use Rattle.qasm_scope.specs.declared.causes.Cause.TheVariants as cause
 use Rattle.qasm_scope.specs.Faults.{has_unsupported, has_name_twice, has_unknown, has_wrong_count, body_has_unknown, body_has_wrong_count, body_has_same_qubit, is_hidden, is_no_gate, is_in, has_other_name, has_other_shape, shape_in, shape_of, first_cause, wrong_in}
-use Rattle.qasm_scope.specs.Header.{first_gates, further_gates}
+use Rattle.qasm_scope.specs.HeaderGates.{first_gates, further_gates}
 use Rattle.qasm_scope.specs.Meaning.{with_first, with_further}
 use Rattle.qasm_scope.specs.Scope.{Scope, Declaration, Gate, meaning_of, is_declared, is_taken, declared}
 use Rattle.qasm_scope.proofs.Symbols.{free-taken}
@@ -48,7 +48,7 @@ are_free scope (form ∷ forms) e =
     or_parts (is_declared form.name scope) (list_any (λ form. is_declared form.name scope) forms) e in
     (free-taken form.name scope p.0, are_free scope forms p.1)
 
--- each form is faultless in the scope behind those before it
+-- each form is faultless in the scope after those before it
 abbrev pub AreFirstFaultless : List GateForm → Scope → Type 0
 AreFirstFaultless [] scope = Unit {0}
 AreFirstFaultless (form ∷ forms) scope = (wrong_in scope (DeclareGate form) ≡ None) × AreFirstFaultless forms (declared form.name (Gate form) ∷ scope)
@@ -71,17 +71,17 @@ first_sound scope = (refl, refl, (refl, refl, (refl, refl, (refl, refl, (refl, r
 pub first_faultless : (scope : Scope) → list_any (λ form. is_declared form.name scope) first_gates ≡ false → AreFirstFaultless first_gates scope
 first_faultless scope none = first_are scope scope first_gates (are_free scope first_gates none) (first_sound scope)
 
-first_behind : (front : List GateForm) (form : GateForm) (back : List GateForm) (scope : Scope) → AreFirstFaultless (front ++ form ∷ back) scope
-    → wrong_in (with_first front scope) (DeclareGate form) ≡ None
-first_behind [] form back scope f = f.0
-first_behind (x ∷ front) form back scope f = first_behind front form back (declared x.name (Gate x) ∷ scope) f.1
+first_after : (prefix : List GateForm) (form : GateForm) (back : List GateForm) (scope : Scope) → AreFirstFaultless (prefix ++ form ∷ back) scope
+    → wrong_in (with_first prefix scope) (DeclareGate form) ≡ None
+first_after [] form back scope f = f.0
+first_after (x ∷ prefix) form back scope f = first_after prefix form back (declared x.name (Gate x) ∷ scope) f.1
 
 -- the same by what stands before a form
-pub first_gate_faultless : (scope : Scope) (front : List GateForm) (form : GateForm) (back : List GateForm)
-    → list_any (λ form. is_declared form.name scope) first_gates ≡ false → first_gates ≡ front ++ form ∷ back
-    → wrong_in (with_first front scope) (DeclareGate form) ≡ None
-first_gate_faultless scope front form back none e =
-    first_behind front form back scope (subst (λ forms. AreFirstFaultless forms scope) e (first_faultless scope none))
+pub first_gate_faultless : (scope : Scope) (prefix : List GateForm) (form : GateForm) (back : List GateForm)
+    → list_any (λ form. is_declared form.name scope) first_gates ≡ false → first_gates ≡ prefix ++ form ∷ back
+    → wrong_in (with_first prefix scope) (DeclareGate form) ≡ None
+first_gate_faultless scope prefix form back none e =
+    first_after prefix form back scope (subst (λ forms. AreFirstFaultless forms scope) e (first_faultless scope none))
 
 -- ---- scopes in which the names of another one mean the same
 pub record Keeps (before after : Scope) : Type 0 where
@@ -163,7 +163,7 @@ abbrev AreSound : Scope → List GateForm → Type 0
 AreSound scope [] = Unit {0}
 AreSound scope (form ∷ forms) = (list_all (knows scope) form.body ≡ true) × (wrong_but_name scope form ≡ None) × AreSound scope forms
 
--- each form whose name is free is faultless in the scope behind those before it
+-- each form whose name is free is faultless in the scope after those before it
 abbrev pub AreFurtherFaultless : List GateForm → Scope → Type 0
 AreFurtherFaultless [] scope = Unit {0}
 AreFurtherFaultless (form ∷ forms) scope =
@@ -184,16 +184,16 @@ pub further_faultless : (scope : Scope) → AreFurtherFaultless further_gates (w
 further_faultless scope =
     further_are (with_first first_gates scope) (with_first first_gates scope) further_gates (further_sound scope) (keeps_itself (with_first first_gates scope))
 
-further_behind : (front : List GateForm) (form : GateForm) (back : List GateForm) (scope : Scope) → AreFurtherFaultless (front ++ form ∷ back) scope
-    → is_declared form.name (with_further front scope) ≡ false → wrong_in (with_further front scope) (DeclareGate form) ≡ None
-further_behind [] form back scope f free = f.0 free
-further_behind (x ∷ front) form back scope f free =
-    further_behind front form back (if is_declared x.name scope then scope else replaceable x ∷ scope) f.1 free
+further_after : (prefix : List GateForm) (form : GateForm) (back : List GateForm) (scope : Scope) → AreFurtherFaultless (prefix ++ form ∷ back) scope
+    → is_declared form.name (with_further prefix scope) ≡ false → wrong_in (with_further prefix scope) (DeclareGate form) ≡ None
+further_after [] form back scope f free = f.0 free
+further_after (x ∷ prefix) form back scope f free =
+    further_after prefix form back (if is_declared x.name scope then scope else replaceable x ∷ scope) f.1 free
 
 -- the same by what stands before a form
-pub further_gate_faultless : (scope : Scope) (front : List GateForm) (form : GateForm) (back : List GateForm) → further_gates ≡ front ++ form ∷ back
-    → is_declared form.name (with_further front (with_first first_gates scope)) ≡ false
-    → wrong_in (with_further front (with_first first_gates scope)) (DeclareGate form) ≡ None
-further_gate_faultless scope front form back e =
-    further_behind front form back (with_first first_gates scope)
+pub further_gate_faultless : (scope : Scope) (prefix : List GateForm) (form : GateForm) (back : List GateForm) → further_gates ≡ prefix ++ form ∷ back
+    → is_declared form.name (with_further prefix (with_first first_gates scope)) ≡ false
+    → wrong_in (with_further prefix (with_first first_gates scope)) (DeclareGate form) ≡ None
+further_gate_faultless scope prefix form back e =
+    further_after prefix form back (with_first first_gates scope)
     (subst (λ forms. AreFurtherFaultless forms (with_first first_gates scope)) e (further_faultless scope))

@@ -10,19 +10,20 @@ use Rattle.qasm_lexer.proofs.Feeds.{IsCut-append}
 use Rattle.qasm_lexer.proofs.Scan.{tokens_of, IsCut-tokens_of}
 use Rattle.qasm_reader.specs.Depth.{most_open, open_after, too_deep_from}
 use Rattle.qasm_reader.specs.Grammar.{BeginsAt, IsProgram, IsStatement}
-use Rattle.qasm_reader.specs.Machine.{step, finished, run, take_entries, take_expression}
+use Rattle.qasm_reader.specs.Internal.Machine.{step, finished, run, take_entries, take_expression}
 use Rattle.qasm_reader.specs.Syntax.{GateForm, Sentence, DeclareGate, Placed}
-use Rattle.qasm_reader.specs.Taking.{◌>>=◌, same_kind, after, text, repeated, comma_items, comma_list, optional_list, identifiers, parameters, gate_name, angles, body_application, body_statement, body, block, heading, gate, statement}
+use Rattle.qasm_reader.specs.Internal.Taking.{◌>>=◌, same_kind, after, text, repeated, comma_items, comma_list, optional_list, identifiers, parameters, gate_name, angles, body_application, body_statement, body, block, heading, gate, statement}
 use Rattle.qasm_reader.proofs.Statements.{statement_takes}
 use Rattle.qasm_reader.proofs.Steps.{bind_some}
-use Rattle.qasm_scope.specs.Header.{header_text, first_gates, further_gates}
+use Rattle.qasm_scope.specs.Header.{header_text}
+use Rattle.qasm_scope.specs.HeaderGates.{first_gates, further_gates}
 use Rattle.qasm_scope.specs.Texts.{IsProgramText}
 
 -- ---- lines and texts
 -- a line at a place declares a gate
 record IsLine (place : ℕ) (line : List ℕ) (form : GateForm) : Type 0 where
-  pub front : List ℕ
-  pub ends : line ≡ front ++ 10 ∷ []
+  pub prefix : List ℕ
+  pub ends : line ≡ prefix ++ 10 ∷ []
   pub tokens : List Lexeme
   pub cut : IsCut place line tokens
   pub at : ℕ
@@ -47,7 +48,7 @@ line_then : (place : ℕ) (line after : List ℕ) (form : GateForm) (forms : Lis
 line_then place line after form forms l m = record {
   program = record { place = l.at; sentence = DeclareGate form } ∷ m.program;
   tokens = l.tokens ++ m.tokens;
-  cut = IsCut-append place line after l.tokens m.tokens l.front l.ends l.cut m.cut;
+  cut = IsCut-append place line after l.tokens m.tokens l.prefix l.ends l.cut m.cut;
   shallow = l.closed m.tokens ∙ m.shallow;
   grammar = (l.tokens, m.tokens, refl, l.begins, l.statement, m.grammar);
   sentences = ap (λ (sentences : List Sentence). DeclareGate form ∷ sentences) m.sentences;
@@ -59,7 +60,7 @@ ends_with_feed [] = false
 ends_with_feed (b ∷ []) = eqb b 10
 ends_with_feed (b ∷ c ∷ line) = ends_with_feed (c ∷ line)
 
-ends_from : (line : List ℕ) → ends_with_feed line ≡ true → (front : List ℕ) × (line ≡ front ++ 10 ∷ [])
+ends_from : (line : List ℕ) → ends_with_feed line ≡ true → (prefix : List ℕ) × (line ≡ prefix ++ 10 ∷ [])
 ends_from [] e = absurd (false≢true e)
 ends_from (b ∷ []) e = ([], ap (λ c. c ∷ []) (eqb-true b 10 e))
 ends_from (b ∷ c ∷ line) e = let f = ends_from (c ∷ line) e in (b ∷ f.0, ap (λ (r : List ℕ). b ∷ r) f.1)
@@ -101,10 +102,10 @@ line_from place line form ends e =
     let read : (closes 0 found.0 ≡ true) × (statement found.0 ≡ Some (DeclareGate form, [])) = if_some (closes 0 found.0) (statement found.0) (DeclareGate form, []) found.2 in
     let took = statement_takes found.0 (DeclareGate form) [] read.1 in
     let begins = begins_from found.0 (DeclareGate form, []) read.1 in
-    let front = ends_from line ends in
+    let prefix = ends_from line ends in
     record {
-      front = front.0;
-      ends = front.1;
+      prefix = prefix.0;
+      ends = prefix.1;
       tokens = found.0;
       cut = IsCut-tokens_of place line found.0 found.1;
       at = begins.0;

@@ -15,9 +15,10 @@ use Rattle.qasm_reader.proofs.Programs.{program_no_fault}
 use Rattle.qasm_scope.specs.declared.causes.Cause.TheVariants as cause
 use Rattle.qasm_scope.specs.declared.names.Names.{Names}
 use Rattle.qasm_scope.specs.Faults.{wrong_in, header_name}
-use Rattle.qasm_scope.specs.Header.{header_text, first_gates, further_gates}
-use Rattle.qasm_scope.specs.Included.{gate_in, gates_of, forms_of, any_declared_by, AreSoundFirst, AreSoundFurther}
-use Rattle.qasm_scope.specs.Kept.{Represents, IsSound, IsSoundGate, IsFresh, found}
+use Rattle.qasm_scope.specs.Header.{header_text}
+use Rattle.qasm_scope.specs.HeaderGates.{first_gates, further_gates}
+use Rattle.qasm_scope.specs.Internal.Included.{gate_in, gates_of, forms_of, any_declared_by, AreSoundFirst, AreSoundFurther}
+use Rattle.qasm_scope.specs.Internal.Kept.{Represents, IsSound, IsSoundGate, IsFresh, found}
 use Rattle.qasm_scope.specs.Meaning.{with_first, with_further, with_header}
 use Rattle.qasm_scope.specs.Scope.{Scope, Gate, declared, is_declared}
 use Rattle.qasm_scope.proofs.CheckLemmas.{sound-from, list_any-same}
@@ -59,9 +60,9 @@ not_deep tokens at cut deep = absurd (let shallow = (program_of_tokens tokens cu
 pub no_syntax_fault : (tokens : List Token) (at : ℕ) → IsCut 0 header_text (lexemes tokens) → IsSyntaxFault (lexemes tokens) at → ⊥
 no_syntax_fault tokens at cut fault = program_no_fault (lexemes tokens) the_program at (program_of_tokens tokens cut).0 fault
 
--- the first gates, and those behind them
-pub front_is : (gates : List GateDeclaration) → forms_of gates ≡ first_gates ++ further_gates → forms_of (take 22 gates) ≡ first_gates
-front_is gates e = sym (take-map _ 22 gates) ∙ ap (λ forms. take 22 forms) e
+-- the first gates, and those after them
+pub prefix_is : (gates : List GateDeclaration) → forms_of gates ≡ first_gates ++ further_gates → forms_of (take 22 gates) ≡ first_gates
+prefix_is gates e = sym (take-map _ 22 gates) ∙ ap (λ forms. take 22 forms) e
 
 pub back_is : (gates : List GateDeclaration) → forms_of gates ≡ first_gates ++ further_gates → forms_of (drop 22 gates) ≡ further_gates
 back_is gates e = sym (drop-map _ 22 gates) ∙ ap (λ forms. drop 22 forms) e
@@ -108,7 +109,7 @@ further-sound (form ∷ forms) scope f =
 pub further_gates-sound : (scope : Scope) → AreSoundFurther further_gates (with_first first_gates scope)
 further_gates-sound scope = further-sound further_gates (with_first first_gates scope) (further_faultless scope)
 
--- the scope behind an include is sound
+-- the scope after an include is sound
 with_first-sound : (forms : List GateForm) (scope : Scope) → IsSound scope → AreSoundFirst forms scope → IsSound (with_first forms scope)
 with_first-sound [] scope sound f = sound
 with_first-sound (form ∷ forms) scope sound f = with_first-sound forms (declared form.name (Gate form) ∷ scope) (f.0, tt, sound) f.1
@@ -129,18 +130,18 @@ unfolding with_header
 with_header-sound scope sound none =
     with_further-sound further_gates (with_first first_gates scope) (with_first-sound first_gates scope sound (first_gates-sound scope none)) (further_gates-sound scope)
 
--- the names represent a scope that the gates left to declare bring to the one behind all
+-- the names represent a scope that the gates left to declare bring to the one after all
 pub record FirstLeft (names : Names) (forms : List GateForm) (end : Scope) : Type 0 where
   pub scope : Scope
   pub represents : Represents names scope
   pub sound : AreSoundFirst forms scope
-  pub behind : with_first forms scope ≡ end
+  pub after : with_first forms scope ≡ end
 
 pub record FurtherLeft (names : Names) (forms : List GateForm) (end : Scope) : Type 0 where
   pub scope : Scope
   pub represents : Represents names scope
   pub sound : AreSoundFurther forms scope
-  pub behind : with_further forms scope ≡ end
+  pub after : with_further forms scope ≡ end
 
 pub first-step : (before after : Names) (form : GateForm) (forms : List GateForm) (end : Scope)
     → ((scope : Scope) → Represents before scope → IsSoundGate scope form → IsFresh form.name false scope → Represents after (declared form.name (Gate form) ∷ scope))
@@ -149,7 +150,7 @@ first-step before after form forms end declares l = record {
   scope = declared form.name (Gate form) ∷ l.scope;
   represents = declares l.scope l.represents l.sound.0 tt;
   sound = l.sound.1;
-  behind = l.behind;
+  after = l.after;
 }
 
 pub further-step : (before after : Names) (form : GateForm) (forms : List GateForm) (end : Scope) → is_some (found form.name before.symbols) ≡ false
@@ -161,7 +162,7 @@ further-step before after form forms end free declares l =
       scope = replaceable form ∷ l.scope;
       represents = declares l.scope l.represents (l.sound.0 e) e;
       sound = subst (λ there. AreSoundFurther forms (if there then l.scope else replaceable form ∷ l.scope)) e l.sound.1;
-      behind = subst (λ there. with_further forms (if there then l.scope else replaceable form ∷ l.scope) ≡ end) e l.behind;
+      after = subst (λ there. with_further forms (if there then l.scope else replaceable form ∷ l.scope) ≡ end) e l.after;
     }
 
 pub further-skip : (names : Names) (form : GateForm) (forms : List GateForm) (end : Scope) → is_some (found form.name names.symbols) ≡ true
@@ -172,5 +173,5 @@ further-skip names form forms end there l =
       scope = l.scope;
       represents = l.represents;
       sound = subst (λ there. AreSoundFurther forms (if there then l.scope else replaceable form ∷ l.scope)) e l.sound.1;
-      behind = subst (λ there. with_further forms (if there then l.scope else replaceable form ∷ l.scope) ≡ end) e l.behind;
+      after = subst (λ there. with_further forms (if there then l.scope else replaceable form ∷ l.scope) ≡ end) e l.after;
     }

@@ -13,7 +13,7 @@ use Rattle.std.proofs.lemmas.List.Folds.{list_any-append}
 use Rattle.std.proofs.lemmas.Map.Text.{btree_map_updates_str}
 use Rattle.std.proofs.lemmas.Slice.Eq.{bytes_eq-Decides}
 use Rattle.qasm_scope.specs.declared.places.Places.{Places}
-use Rattle.qasm_scope.specs.Entries.{place_in, ArePlaces}
+use Rattle.qasm_scope.specs.Internal.Entries.{place_in, ArePlaces}
 use Rattle.qasm_scope.specs.Faults.{has_name_twice}
 use Rattle.qasm_scope.proofs.Tests.{or-first, or-second}
 use Rattle.qasm_scope.proofs.Formulas.{is_some-place}

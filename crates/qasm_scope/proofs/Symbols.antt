@@ -10,7 +10,7 @@ use Rattle.std.proofs.lemmas.Map.Text.{btree_map_updates_str}
 use Rattle.std.proofs.lemmas.Slice.Eq.{bytes_eq-Decides}
 use Rattle.qasm_scope.specs.declared.names.Symbol.{Symbol}
 use Rattle.qasm_scope.specs.Faults.{shape_in}
-use Rattle.qasm_scope.specs.Kept.{gate_count, gates_in, kept_gates, kept_in, symbol_of, symbol_in, symbol_shape, symbol_register, symbol_taken, register_in, found, IsSound, IsSoundMeaning, IsFresh}
+use Rattle.qasm_scope.specs.Internal.Kept.{gate_count, gates_in, kept_gates, kept_in, symbol_of, symbol_in, symbol_shape, symbol_register, symbol_taken, register_in, found, IsSound, IsSoundMeaning, IsFresh}
 use Rattle.qasm_scope.specs.Scope.{Scope, Declaration, Meaning, Qubits, Bits, Gate, meaning_of, is_declared, is_taken}
 use Rattle.qasm_scope.proofs.Tests.{or-second}
 

@@ -68,13 +68,13 @@ with_cause (Err cause) = Err (cause_of cause)
 unfoldable pub angle_of : List (List ℕ) → List Angle → Formula → Result Angle Cause
 angle_of names angles f = with_cause (value (numbered names f) angles)
 
--- a value in front of others; of two causes the first counts
-abbrev pub in_front : Result Angle Cause → Result (List Angle) Cause → Result (List Angle) Cause
-in_front (Err cause) rest = Err cause
-in_front (Ok angle) (Err cause) = Err cause
-in_front (Ok angle) (Ok angles) = Ok (angle ∷ angles)
+-- a value before others; of two causes the first counts
+abbrev pub in_prefix : Result Angle Cause → Result (List Angle) Cause → Result (List Angle) Cause
+in_prefix (Err cause) rest = Err cause
+in_prefix (Ok angle) (Err cause) = Err cause
+in_prefix (Ok angle) (Ok angles) = Ok (angle ∷ angles)
 
 -- the values of expressions, or what is wrong with the first that has none
 abbrev pub angles_of : List (List ℕ) → List Angle → List Formula → Result (List Angle) Cause
 angles_of names angles [] = Ok []
-angles_of names angles (f ∷ fs) = in_front (angle_of names angles f) (angles_of names angles fs)
+angles_of names angles (f ∷ fs) = in_prefix (angle_of names angles f) (angles_of names angles fs)

@@ -8,52 +8,52 @@ use Rattle.qasm_scope.specs.Calls.{Event, call, expand_declared}
 use Rattle.qasm_scope.specs.Scope.{Scope, Meaning, Qubits, Bits, Gate, meaning_of, numeral}
 
 -- what an argument stands for: one qubit, or a register by its first qubit and size
-pub data Target : Type 0 where
-  Single : ℕ → Target
-  Register : ℕ → ℕ → Target
+pub data QubitRange : Type 0 where
+  Single : ℕ → QubitRange
+  Register : ℕ → ℕ → QubitRange
 
-abbrev pub target_in : Option Meaning → Option (List ℕ) → Target
-target_in (Some (Qubits first size)) (Some index) = Single (first + numeral index)
-target_in (Some (Qubits first size)) None = Register first size
-target_in (Some Bits) index = Single 0
-target_in (Some (Gate form)) index = Single 0
-target_in None index = Single 0
+abbrev pub range_in : Option Meaning → Option (List ℕ) → QubitRange
+range_in (Some (Qubits first size)) (Some index) = Single (first + numeral index)
+range_in (Some (Qubits first size)) None = Register first size
+range_in (Some Bits) index = Single 0
+range_in (Some (Gate form)) index = Single 0
+range_in None index = Single 0
 
-abbrev pub target_of : Scope → Operand → Target
-target_of scope operand = target_in (meaning_of operand.register scope) operand.index
+abbrev pub range_of : Scope → Operand → QubitRange
+range_of scope operand = range_in (meaning_of operand.register scope) operand.index
 
 -- the sizes of the registers among them
-abbrev pub register_size : Target → Option ℕ
+abbrev pub register_size : QubitRange → Option ℕ
 register_size (Single qubit) = None
 register_size (Register first size) = Some size
 
-abbrev pub register_sizes : List Target → List ℕ
-register_sizes targets = filter_map register_size targets
+abbrev pub register_sizes : List QubitRange → List ℕ
+register_sizes ranges = filter_map register_size ranges
 
 -- how many instances there are: one for each index of the registers, or one alone
 abbrev pub instance_count : List ℕ → ℕ
 instance_count [] = 1
 instance_count (size ∷ sizes) = size
 
--- the qubit that stands for a target at an index
-abbrev pub qubit_at : ℕ → Target → ℕ
+-- the qubit that stands for a range at an index
+abbrev pub qubit_at : ℕ → QubitRange → ℕ
 qubit_at index (Single qubit) = qubit
 qubit_at index (Register first size) = first + index
 
 -- the instances, by rising index
-abbrev pub instances : List Target → List (List ℕ)
-instances targets = map (λ index. map (qubit_at index) targets) (range_with_len 0 (instance_count (register_sizes targets)))
+abbrev pub instances : List QubitRange → List (List ℕ)
+instances ranges = map (λ index. map (qubit_at index) ranges) (range_with_len 0 (instance_count (register_sizes ranges)))
 
 -- a number stands twice in a list
 abbrev pub has_twice : List ℕ → Bool
 has_twice [] = false
 has_twice (n ∷ ns) = list_any (λ m. m == n) ns || has_twice ns
 
-abbrev pub targets_of : Scope → List Operand → List Target
-targets_of scope operands = map (target_of scope) operands
+abbrev pub ranges_of : Scope → List Operand → List QubitRange
+ranges_of scope operands = map (range_of scope) operands
 
 -- what an application comes to: its instances, one after the other
 abbrev pub application_events : Scope → Apply → List Event
 application_events scope a =
     flat_map (λ qubits. call (expand_declared scope) a.gate 1 (angles_of [] [] a.angles) qubits)
-    (instances (targets_of scope a.qubits))
+    (instances (ranges_of scope a.qubits))

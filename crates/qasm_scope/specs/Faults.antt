@@ -7,8 +7,8 @@ use Rattle.qasm_reader.specs.Syntax.{Formula, Number, Pi, Name, Negate, Binary, 
 use Rattle.qasm_scope.specs.declared.causes.Cause.{Cause}
 use Rattle.qasm_scope.specs.declared.causes.Cause.TheVariants as cause
 use Rattle.qasm_scope.specs.Angles.{is_unsupported}
-use Rattle.qasm_scope.specs.Applications.{instances, targets_of, register_sizes, has_twice}
-use Rattle.qasm_scope.specs.Header.{first_gates}
+use Rattle.qasm_scope.specs.Applications.{instances, ranges_of, register_sizes, has_twice}
+use Rattle.qasm_scope.specs.HeaderGates.{first_gates}
 use Rattle.qasm_scope.specs.Scope.{Scope, Meaning, Qubits, Bits, Gate, meaning_of, is_taken, is_declared, numeral, qubit_count}
 
 -- the file that the header stands for
@@ -146,7 +146,7 @@ has_other_size [] = false
 has_other_size (size ∷ sizes) = list_any (λ other. not (other == size)) sizes
 
 abbrev pub has_other_sizes : Scope → Sentence → Bool
-has_other_sizes scope (Act (Applied a)) = has_other_size (register_sizes (targets_of scope a.qubits))
+has_other_sizes scope (Act (Applied a)) = has_other_size (register_sizes (ranges_of scope a.qubits))
 has_other_sizes scope sentence = false
 
 abbrev pub body_has_same_qubit : BodySentence → Bool
@@ -155,7 +155,7 @@ body_has_same_qubit (BodyBarrier names) = false
 
 abbrev pub has_same_qubit : Scope → Sentence → Bool
 has_same_qubit scope (DeclareGate form) = list_any body_has_same_qubit form.body
-has_same_qubit scope (Act (Applied a)) = list_any has_twice (instances (targets_of scope a.qubits))
+has_same_qubit scope (Act (Applied a)) = list_any has_twice (instances (ranges_of scope a.qubits))
 has_same_qubit scope sentence = false
 
 abbrev pub is_second_version : Sentence → Bool
@@ -167,9 +167,9 @@ abbrev pub first_cause : List (Bool × Cause) → Option Cause
 first_cause [] = None
 first_cause (test ∷ tests) = if test.0 then Some test.1 else first_cause tests
 
--- what is wrong with a statement behind the first one, calls and angles aside
-unfoldable pub wrong_in : Scope → Sentence → Option Cause
-wrong_in scope sentence = first_cause (
+-- the tests of a statement after the first one, calls and angles aside, each with the cause that it finds
+abbrev pub statement_tests : Scope → Sentence → List (Bool × Cause)
+statement_tests scope sentence =
     (is_other_include sentence, cause.Include)
     ∷ (has_unsupported sentence, cause.Unsupported)
     ∷ (is_redeclared scope sentence, cause.Redeclared)
@@ -181,4 +181,8 @@ wrong_in scope sentence = first_cause (
     ∷ (has_other_sizes scope sentence, cause.Sizes)
     ∷ (has_same_qubit scope sentence, cause.SameQubit)
     ∷ (is_second_version sentence, cause.SecondVersion)
-    ∷ [])
+    ∷ []
+
+-- what is wrong with it
+unfoldable pub wrong_in : Scope → Sentence → Option Cause
+wrong_in scope sentence = first_cause (statement_tests scope sentence)

@@ -1,12 +1,10 @@
 pub mod Angles
 pub mod Applications
 pub mod Calls
-pub mod Checks
-pub mod Entries
 pub mod Faults
 pub mod Header
-pub mod Included
-pub mod Kept
+pub mod HeaderGates
+pub mod Internal
 pub mod Meaning
 pub mod Scope
 pub mod Texts

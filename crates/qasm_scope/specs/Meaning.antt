@@ -8,7 +8,7 @@ use Rattle.qasm_scope.specs.declared.causes.Cause.TheVariants as cause
 use Rattle.qasm_scope.specs.Applications.{application_events}
 use Rattle.qasm_scope.specs.Calls.{Event, applied, call_count, first_wrong}
 use Rattle.qasm_scope.specs.Faults.{wrong_in}
-use Rattle.qasm_scope.specs.Header.{first_gates, further_gates}
+use Rattle.qasm_scope.specs.HeaderGates.{first_gates, further_gates}
 use Rattle.qasm_scope.specs.Scope.{Scope, Qubits, Bits, Gate, declared, is_declared, numeral, qubit_count}
 
 -- the declarations of the header's gates: of the further ones those whose names are free
@@ -25,13 +25,13 @@ with_further (form ∷ forms) scope =
 unfoldable pub with_header : Scope → Scope
 with_header scope = with_further further_gates (with_first first_gates scope)
 
--- the scope behind a statement
-abbrev pub behind : Scope → Sentence → Scope
-behind scope (Include text) = with_header scope
-behind scope (QubitRegister name size) = declared name (Qubits (qubit_count scope) (numeral size)) ∷ scope
-behind scope (BitRegister name size) = declared name Bits ∷ scope
-behind scope (DeclareGate form) = declared form.name (Gate form) ∷ scope
-behind scope sentence = scope
+-- the scope after a statement
+abbrev pub after_statement : Scope → Sentence → Scope
+after_statement scope (Include text) = with_header scope
+after_statement scope (QubitRegister name size) = declared name (Qubits (qubit_count scope) (numeral size)) ∷ scope
+after_statement scope (BitRegister name size) = declared name Bits ∷ scope
+after_statement scope (DeclareGate form) = declared form.name (Gate form) ∷ scope
+after_statement scope sentence = scope
 
 -- what a statement comes to
 abbrev pub events_of : Scope → Sentence → List Event
@@ -43,7 +43,7 @@ abbrev pub or_else : Option Cause → Option Cause → Option Cause
 or_else None other = other
 or_else (Some cause) other = Some cause
 
--- what is wrong with a statement behind the first one, where so many calls were made before and at most so many may be
+-- what is wrong with a statement after the first one, where so many calls were made before and at most so many may be
 abbrev pub wrong_with : ℕ → Scope → ℕ → Sentence → Option Cause
 wrong_with most scope calls sentence = or_else (wrong_in scope sentence) (first_wrong most calls (events_of scope sentence))
 
@@ -52,12 +52,12 @@ abbrev pub placed_or : Option Cause → ℕ → Option (Cause × ℕ) → Option
 placed_or None place other = other
 placed_or (Some cause) place other = Some (cause, place)
 
--- the first fault of the statements behind the first one
-abbrev pub fault_behind : ℕ → Scope → ℕ → List Placed → Option (Cause × ℕ)
-fault_behind most scope calls [] = None
-fault_behind most scope calls (s ∷ statements) =
+-- the first fault of the statements after the first one
+abbrev pub fault_after : ℕ → Scope → ℕ → List Placed → Option (Cause × ℕ)
+fault_after most scope calls [] = None
+fault_after most scope calls (s ∷ statements) =
     placed_or (wrong_with most scope calls s.sentence) s.place
-    (fault_behind most (behind scope s.sentence) (calls + call_count (events_of scope s.sentence)) statements)
+    (fault_after most (after_statement scope s.sentence) (calls + call_count (events_of scope s.sentence)) statements)
 
 -- the statement is `OPENQASM 2.0;`
 abbrev pub is_version : Sentence → Bool
@@ -68,25 +68,25 @@ is_version sentence = false
 unfoldable pub first_fault : ℕ → List Placed → Option (Cause × ℕ)
 first_fault most [] = Some (cause.Version, 0)
 first_fault most (s ∷ statements) =
-    if is_version s.sentence then fault_behind most [] 0 statements else Some (cause.Version, s.place)
+    if is_version s.sentence then fault_after most [] 0 statements else Some (cause.Version, s.place)
 
 -- the most calls that a program that is read may make
 abbrev pub most_calls : ℕ
 most_calls = 1000000
 
--- the scope behind all statements
-abbrev pub scope_behind : Scope → List Placed → Scope
-scope_behind scope [] = scope
-scope_behind scope (s ∷ statements) = scope_behind (behind scope s.sentence) statements
+-- the scope after all statements
+abbrev pub scope_after : Scope → List Placed → Scope
+scope_after scope [] = scope
+scope_after scope (s ∷ statements) = scope_after (after_statement scope s.sentence) statements
 
 -- the built-in gates that act, in order
-abbrev pub gates_behind : Scope → List Placed → List ElementaryGate
-gates_behind scope [] = []
-gates_behind scope (s ∷ statements) = applied (events_of scope s.sentence) ++ gates_behind (behind scope s.sentence) statements
+abbrev pub gates_after : Scope → List Placed → List ElementaryGate
+gates_after scope [] = []
+gates_after scope (s ∷ statements) = applied (events_of scope s.sentence) ++ gates_after (after_statement scope s.sentence) statements
 
 -- The program means the circuit of so many qubits and these gates: it has no fault but that it may make any number of calls.
 pub record Means (program : List Placed) (qubits : ℕ) (gates : List ElementaryGate) : Type 0 where
   pub most : ℕ
   pub faultless : first_fault most program ≡ None
-  pub as_many_qubits : qubits ≡ qubit_count (scope_behind [] program)
-  pub same_gates : gates ≡ gates_behind [] program
+  pub as_many_qubits : qubits ≡ qubit_count (scope_after [] program)
+  pub same_gates : gates ≡ gates_after [] program

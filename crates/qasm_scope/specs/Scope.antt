@@ -1,8 +1,9 @@
 -- What names stand for: the declarations that stand before a place in a text.
 -- Cross, Bishop, Smolin and Gambetta, "Open quantum assembly language" (arXiv 1707.03429), on registers, gates and includes.
-use Rattle.std.specs.Prelude.{ℕ, ◌+◌, ◌-◌, ◌*◌, Bool, false, ◌&&◌, not, if◌then◌else◌, List, [], ◌∷◌, Option, None, Some}
+use Rattle.std.specs.Prelude.{ℕ, ◌+◌, ◌-◌, Bool, false, ◌&&◌, not, if◌then◌else◌, List, [], ◌∷◌, map, Option, None, Some}
 use Rattle.std.specs.Str.{bytes_eq}
 use Rattle.std.specs.List.{list_any}
+use Rattle.qasm_angle.specs.Literals.{number_from}
 use Rattle.qasm_reader.specs.Syntax.{GateForm}
 
 -- what a name stands for
@@ -37,13 +38,13 @@ is_declared name scope = list_any (λ declaration. bytes_eq declaration.name nam
 abbrev pub is_taken : List ℕ → Scope → Bool
 is_taken name scope = list_any (λ declaration. bytes_eq declaration.name name && not declaration.replaceable) scope
 
--- the value of a numeral
+-- the value of a numeral, after a number that stands before it
 abbrev pub numeral_from : ℕ → List ℕ → ℕ
-numeral_from n [] = n
-numeral_from n (digit ∷ digits) = numeral_from (10 * n + (digit - 48)) digits
+numeral_from n text = number_from n (map (λ digit. digit - 48) text)
 
+-- the value of a numeral
 unfoldable pub numeral : List ℕ → ℕ
-numeral digits = numeral_from 0 digits
+numeral text = numeral_from 0 text
 
 -- how many qubits are declared
 abbrev pub size_of : Meaning → ℕ

@@ -5,8 +5,8 @@ use Rattle.qasm_lexer.specs.Tokens.{Lexeme, IsCut}
 use Rattle.qasm_reader.specs.Depth.{too_deep}
 use Rattle.qasm_reader.specs.Grammar.{IsProgram}
 use Rattle.qasm_reader.specs.Syntax.{Applied, Sentence, Act, Placed}
-use Rattle.qasm_scope.specs.Applications.{instances, targets_of}
-use Rattle.qasm_scope.specs.Meaning.{Means, behind}
+use Rattle.qasm_scope.specs.Applications.{instances, ranges_of}
+use Rattle.qasm_scope.specs.Meaning.{Means, after_statement}
 use Rattle.qasm_scope.specs.Scope.{Scope}
 
 -- the text is this program
@@ -24,12 +24,12 @@ pub record TextMeans (text : List ℕ) (qubits : ℕ) (gates : List ElementaryGa
 
 -- how many gates a program applies in its statements: the instances of its applications
 abbrev pub instances_in : Scope → Sentence → ℕ
-instances_in scope (Act (Applied a)) = length (instances (targets_of scope a.qubits))
+instances_in scope (Act (Applied a)) = length (instances (ranges_of scope a.qubits))
 instances_in scope sentence = 0
 
-abbrev pub size_behind : Scope → List Placed → ℕ
-size_behind scope [] = 0
-size_behind scope (s ∷ statements) = instances_in scope s.sentence + size_behind (behind scope s.sentence) statements
+abbrev pub size_after : Scope → List Placed → ℕ
+size_after scope [] = 0
+size_after scope (s ∷ statements) = instances_in scope s.sentence + size_after (after_statement scope s.sentence) statements
 
 abbrev pub program_size : List Placed → ℕ
-program_size program = size_behind [] program
+program_size program = size_after [] program

@@ -6,10 +6,10 @@ ghost use Rattle.qasm_reader.specs.Postfix.{formula_of};
 ghost use Rattle.qasm_reader.specs.Syntax.{BodyApplied};
 ghost use Rattle.qasm_reader.specs.Views.{callee, body_sentence};
 ghost use Rattle.qasm_scope.specs.Angles.{place_or_zero, is_unsupported};
-ghost use Rattle.qasm_scope.specs.Checks.{shape_by, hidden_by, unplaced, unknown_by, wrong_count_by, calls_by};
-ghost use Rattle.qasm_scope.specs.Entries.{place_in, has_unplaced, placed};
+ghost use Rattle.qasm_scope.specs.Internal.Checks.{shape_by, hidden_by, unplaced, unknown_by, wrong_count_by, calls_by};
+ghost use Rattle.qasm_scope.specs.Internal.Entries.{place_in, has_unplaced, placed};
 ghost use Rattle.qasm_scope.specs.Faults.{body_is_unsupported, body_has_same_qubit, has_other_shape};
-ghost use Rattle.qasm_scope.specs.Kept.{kept_call, kept_body};
+ghost use Rattle.qasm_scope.specs.Internal.Kept.{kept_call, kept_body};
 
 use crate::expressions::{all_numbered, any_other_name, any_unsupported};
 use crate::gates::{GateBody, GateCall};
@@ -203,7 +203,7 @@ fn kept_call<'a>(
         ≡ calls_by names.now.symbols parameters.now qubits.now (body_sentence (BodyStatement.Apply application.now) ∷ [])) }
 {
     Ok(GateCall {
-        target: names.target(&application.gate),
+        called: names.called(&application.gate),
         angles: all_numbered(alloc, parameters, &application.angles)?,
         qubits: places_of(alloc, qubits, &application.qubits)?,
     })

@@ -5,17 +5,17 @@ ghost use Rattle.std.specs.List.{list_any};
 ghost use Rattle.qasm_reader.specs.Syntax.{DeclareGate};
 ghost use Rattle.qasm_reader.specs.Views.{gate_form};
 ghost use Rattle.qasm_scope.specs.declared.causes.Cause.{Cause};
-ghost use Rattle.qasm_scope.specs.Checks.{wrong_gate_by};
-ghost use Rattle.qasm_scope.specs.Entries.{ArePlaces};
+ghost use Rattle.qasm_scope.specs.Internal.Checks.{wrong_gate_by};
+ghost use Rattle.qasm_scope.specs.Internal.Entries.{ArePlaces};
 ghost use Rattle.qasm_scope.specs.Faults.{wrong_in, has_name_twice, body_is_unsupported};
-ghost use Rattle.qasm_scope.specs.Kept.{Represents, IsSoundGate, IsFresh, found, symbol_taken};
+ghost use Rattle.qasm_scope.specs.Internal.Kept.{Represents, IsSoundGate, IsFresh, found, symbol_taken};
 ghost use Rattle.qasm_scope.specs.Scope.{Scope, Gate, declared};
 
 use crate::bodies;
 use crate::causes::Cause;
 use crate::names::Names;
 use crate::places::{Places, has_name_twice};
-use crate::stopped::Stopped;
+use crate::statement_error::StatementError;
 use qasm_reader::GateDeclaration;
 use std::alloc::{AllocError, Global};
 
@@ -141,18 +141,18 @@ pub fn declare_checked<'a>(
     alloc: Global,
     names: &mut Names<'a>,
     declaration: &GateDeclaration<'a>,
-) -> Result<(), Stopped>
+) -> Result<(), StatementError>
     ensures ok { OnOk result ((scope : Scope) → Represents names.old scope
         → wrong_in scope (DeclareGate (gate_form declaration.now)) ≡ None) }
     ensures declared { OnOk result ((scope : Scope) → Represents names.old scope
         → Represents names.new (declared declaration.now.name.now (Gate (gate_form declaration.now)) ∷ scope)) }
-    ensures err { (cause : Cause) (scope : Scope) → result ≡ Err (Stopped.Wrong cause)
+    ensures err { (cause : Cause) (scope : Scope) → result ≡ Err (StatementError.Wrong cause)
         → Represents names.old scope
         → wrong_in scope (DeclareGate (gate_form declaration.now)) ≡ Some cause }
 {
     let formals = Formals::new(alloc, declaration)?;
     if let Some(cause) = wrong_gate(alloc, names, &formals, declaration)? {
-        return Err(Stopped::Wrong(cause));
+        return Err(StatementError::Wrong(cause));
     }
     declare(alloc, names, &formals, declaration, false)?;
     Ok(())

@@ -5,10 +5,10 @@ ghost use Rattle.std.specs.List.{list_any};
 ghost use Rattle.qasm_reader.specs.Items.{entry};
 ghost use Rattle.qasm_reader.specs.Postfix.{formula_of};
 ghost use Rattle.qasm_scope.specs.Angles.{is_unsupported};
-ghost use Rattle.qasm_scope.specs.Entries.{is_unsupported_entry, has_no_place, has_unplaced, placed, operator_of, step_of};
+ghost use Rattle.qasm_scope.specs.Internal.Entries.{is_unsupported_entry, has_no_place, has_unplaced, placed, operator_of, step_of};
 
 use crate::places::Places;
-use qasm_angle::{Expr, Literal, Step};
+use qasm_angle::{Expr, ExprItem, Literal, folded};
 use qasm_reader::{Expression, Item, Operator};
 use std::alloc::{AllocError, Global};
 
@@ -121,7 +121,8 @@ fn numbered<'a>(
     ensures { IfOk result (λ expr. expr ≡ placed places.now (formula_of expression.now)) }
 {
     let steps = steps(alloc, places, expression.items())?;
-    Ok(Expr::new(steps))
+    let expr = folded(alloc, Expr::new(steps))?;
+    Ok(expr)
 }
 
 /// The steps that the items are.
@@ -129,7 +130,7 @@ fn steps<'a>(
     alloc: Global,
     places: &Places<'a>,
     items: &[Item<'a>],
-) -> Result<Vec<Step>, AllocError>
+) -> Result<Vec<ExprItem>, AllocError>
     ensures { IfOk result (λ steps. steps.items ≡ map (step_of places.now) (map entry items.now)) }
 {
     let mut steps = Vec::new(alloc);
@@ -140,15 +141,15 @@ fn steps<'a>(
 }
 
 /// The step that an item is; `^` and functions are none.
-fn step<'a>(places: &Places<'a>, item: &Item<'a>) -> Step
+fn step<'a>(places: &Places<'a>, item: &Item<'a>) -> ExprItem
     ensures { result ≡ step_of places.now (entry item.now) }
 {
     match item {
-        Item::Number(text) => Step::Number(Literal::read(text)),
-        Item::Pi | Item::Call(_) => Step::Pi,
-        Item::Name(name) => Step::Parameter(places.find(*name).unwrap_or(0)),
-        Item::Negate => Step::Negate,
-        Item::Binary(operator) => Step::Binary(operator_of(*operator)),
+        Item::Number(text) => ExprItem::Number(Literal::read(text)),
+        Item::Pi | Item::Call(_) => ExprItem::Pi,
+        Item::Name(name) => ExprItem::Parameter(places.find(*name).unwrap_or(0)),
+        Item::Negate => ExprItem::Negate,
+        Item::Binary(operator) => ExprItem::Binary(operator_of(*operator)),
     }
 }
 

@@ -4,7 +4,7 @@ use qasm_angle::Expr;
 
 /// The gate that is called.
 #[derive(Clone, Copy, Debug, PartialEq, Eq)]
-pub enum Target {
+pub enum CalledGate {
     /// The built-in `U`.
     U,
     /// The built-in `CX`.
@@ -17,7 +17,7 @@ pub enum Target {
 #[derive(Drop)]
 pub struct GateCall {
     /// The gate that is called.
-    pub target: Target,
+    pub called: CalledGate,
     /// Its angles, in the parameters of the gate whose body this is.
     pub angles: Vec<Expr>,
     /// The places of its qubits among those of that gate.

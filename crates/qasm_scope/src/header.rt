@@ -9,16 +9,17 @@ ghost use Rattle.qasm_reader.specs.Syntax.{Include};
 ghost use Rattle.qasm_reader.specs.Views.{gate_form, sentence, statements_of};
 ghost use Rattle.qasm_scope.specs.declared.causes.Cause.{Cause};
 ghost use Rattle.qasm_scope.specs.Faults.{wrong_in, body_is_unsupported, header_name};
-ghost use Rattle.qasm_scope.specs.Header.{header_text, first_gates, further_gates};
-ghost use Rattle.qasm_scope.specs.Included.{gate_in, gates_of, forms_of, any_unsupported, any_declared_by, AreSoundFirst, AreSoundFurther};
-ghost use Rattle.qasm_scope.specs.Kept.{Represents, IsSoundGate, IsFresh};
+ghost use Rattle.qasm_scope.specs.Header.{header_text};
+ghost use Rattle.qasm_scope.specs.HeaderGates.{first_gates, further_gates};
+ghost use Rattle.qasm_scope.specs.Internal.Included.{gate_in, gates_of, forms_of, any_unsupported, any_declared_by, AreSoundFirst, AreSoundFurther};
+ghost use Rattle.qasm_scope.specs.Internal.Kept.{Represents, IsSoundGate, IsFresh};
 ghost use Rattle.qasm_scope.specs.Meaning.{with_first, with_further, with_header};
 ghost use Rattle.qasm_scope.specs.Scope.{Scope, Gate};
 
 use crate::causes::Cause;
 use crate::declarations::{Formals, declare};
 use crate::names::Names;
-use crate::stopped::Stopped;
+use crate::statement_error::StatementError;
 use qasm_lexer::{LexError, Token, lex};
 use qasm_reader::{GateDeclaration, ParseError, Program, StatementKind, parse};
 use std::alloc::{AllocError, Global};
@@ -73,17 +74,21 @@ gate rzz(theta) a,b { cx a,b; u1(theta) b; cx a,b; }
 ///
 /// `Wrong(Include)` where the file is another one, else `Wrong(Redeclared)` where a name of the first gates is
 /// declared; and `NoMemory` where memory runs out.
-pub fn include<'a>(alloc: Global, names: &mut Names<'a>, text: &'a [u8]) -> Result<(), Stopped>
+pub fn include<'a>(
+    alloc: Global,
+    names: &mut Names<'a>,
+    text: &'a [u8],
+) -> Result<(), StatementError>
     ensures ok { OnOk result ((scope : Scope) → Represents names.old scope
         → wrong_in scope (Include text.now) ≡ None) }
-    ensures behind { OnOk result ((scope : Scope) → Represents names.old scope
+    ensures after { OnOk result ((scope : Scope) → Represents names.old scope
         → Represents names.new (with_header scope)) }
-    ensures err { (cause : Cause) (scope : Scope) → result ≡ Err (Stopped.Wrong cause)
+    ensures err { (cause : Cause) (scope : Scope) → result ≡ Err (StatementError.Wrong cause)
         → Represents names.old scope
         → wrong_in scope (Include text.now) ≡ Some cause }
 {
     if !is_header(text) {
-        return Err(Stopped::Wrong(Cause::Include));
+        return Err(StatementError::Wrong(Cause::Include));
     }
     let gates = gates(alloc)?;
     declare_all(alloc, names, &gates)
@@ -94,17 +99,17 @@ fn declare_all<'a>(
     alloc: Global,
     names: &mut Names<'a>,
     gates: &[GateDeclaration<'a>],
-) -> Result<(), Stopped>
+) -> Result<(), StatementError>
     requires { forms_of gates.now ≡ first_gates ++ further_gates }
     ensures ok { OnOk result (any_declared_by names.old.symbols first_gates ≡ false) }
-    ensures behind { OnOk result ((scope : Scope) → Represents names.old scope
+    ensures after { OnOk result ((scope : Scope) → Represents names.old scope
         → Represents names.new (with_header scope)) }
-    ensures err { (cause : Cause) → result ≡ Err (Stopped.Wrong cause)
+    ensures err { (cause : Cause) → result ≡ Err (StatementError.Wrong cause)
         → (cause ≡ Cause.Redeclared) × (any_declared_by names.old.symbols first_gates ≡ true) }
 {
     let (first, further) = gates.split_at(FIRST_GATES);
     if any_declared(names, first) {
-        return Err(Stopped::Wrong(Cause::Redeclared));
+        return Err(StatementError::Wrong(Cause::Redeclared));
     }
     declare_first(alloc, names, first)?;
     declare_further(alloc, names, further)?;

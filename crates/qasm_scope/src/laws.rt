@@ -4,7 +4,8 @@ ghost use Rattle.std.specs.Prelude.{◌≡◌, false, ◌∷◌, ◌++◌, List,
 ghost use Rattle.std.specs.List.{list_any};
 ghost use Rattle.qasm_reader.specs.Syntax.{DeclareGate, GateForm, Placed};
 ghost use Rattle.qasm_scope.specs.Faults.{wrong_in};
-ghost use Rattle.qasm_scope.specs.Header.{header_text, first_gates, further_gates};
+ghost use Rattle.qasm_scope.specs.Header.{header_text};
+ghost use Rattle.qasm_scope.specs.HeaderGates.{first_gates, further_gates};
 ghost use Rattle.qasm_scope.specs.Meaning.{with_first, with_further};
 ghost use Rattle.qasm_scope.specs.Scope.{Scope, is_declared};
 ghost use Rattle.qasm_scope.specs.Texts.{IsProgramText};
@@ -15,15 +16,15 @@ pub fn the_header_declares_its_gates()
         × (map (λ s. s.sentence) program ≡ map DeclareGate (first_gates ++ further_gates)) }
 {}
 
-/// Where no name of the first gates is declared, no declaration of the header has a fault: neither a first gate behind
-/// those that stand before it, nor a further gate whose name is free behind those.
+/// Where no name of the first gates is declared, no declaration of the header has a fault: neither a first gate after
+/// those that stand before it, nor a further gate whose name is free after those.
 pub fn the_header_is_faultless()
-    ensures first { (scope : Scope) (front : List GateForm) (form : GateForm) (back : List GateForm)
+    ensures first { (scope : Scope) (prefix : List GateForm) (form : GateForm) (back : List GateForm)
         → list_any (λ form. is_declared form.name scope) first_gates ≡ false
-        → first_gates ≡ front ++ form ∷ back
-        → wrong_in (with_first front scope) (DeclareGate form) ≡ None }
-    ensures further { (scope : Scope) (front : List GateForm) (form : GateForm) (back : List GateForm)
-        → further_gates ≡ front ++ form ∷ back
-        → is_declared form.name (with_further front (with_first first_gates scope)) ≡ false
-        → wrong_in (with_further front (with_first first_gates scope)) (DeclareGate form) ≡ None }
+        → first_gates ≡ prefix ++ form ∷ back
+        → wrong_in (with_first prefix scope) (DeclareGate form) ≡ None }
+    ensures further { (scope : Scope) (prefix : List GateForm) (form : GateForm) (back : List GateForm)
+        → further_gates ≡ prefix ++ form ∷ back
+        → is_declared form.name (with_further prefix (with_first first_gates scope)) ≡ false
+        → wrong_in (with_further prefix (with_first first_gates scope)) (DeclareGate form) ≡ None }
 {}

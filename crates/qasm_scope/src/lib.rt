@@ -12,6 +12,6 @@ pub mod names;
 pub mod numerals;
 pub mod places;
 pub mod registers;
-pub mod stopped;
+pub mod statement_error;
 
 pub use causes::Cause;

@@ -5,11 +5,11 @@ ghost use Rattle.zx_gates.specs.Circuit.{most_qubits};
 ghost use Rattle.qasm_reader.specs.Syntax.{GateForm};
 ghost use Rattle.qasm_reader.specs.Views.{callee};
 ghost use Rattle.std.specs.Option.{is_some};
-ghost use Rattle.qasm_scope.specs.Checks.{shape_by, target_by};
-ghost use Rattle.qasm_scope.specs.Kept.{Represents, IsSoundGate, IsFresh, found, number_in, kept_body, kept_calls, symbol_taken, symbol_shape, symbol_register};
+ghost use Rattle.qasm_scope.specs.Internal.Checks.{shape_by, called_by};
+ghost use Rattle.qasm_scope.specs.Internal.Kept.{Represents, IsSoundGate, IsFresh, found, number_in, kept_body, kept_calls, symbol_taken, symbol_shape, symbol_register};
 ghost use Rattle.qasm_scope.specs.Scope.{Scope, Qubits, Bits, Gate, declared, qubit_count};
 
-use crate::gates::{GateBody, Target};
+use crate::gates::{CalledGate, GateBody};
 use qasm_reader::GateName;
 use std::alloc::{AllocError, Global};
 use std::collections::BTreeMap;
@@ -102,13 +102,13 @@ impl<'a> Names<'a> {
     }
 
     /// The gate of a name.
-    pub fn target(&self, gate: &GateName<'a>) -> Target
-        ensures { result ≡ target_by self.now.symbols (callee gate.now) }
+    pub fn called(&self, gate: &GateName<'a>) -> CalledGate
+        ensures { result ≡ called_by self.now.symbols (callee gate.now) }
     {
         match gate {
-            GateName::U => Target::U,
-            GateName::Cx => Target::Cx,
-            GateName::Declared(name) => Target::Gate(self.number(*name)),
+            GateName::U => CalledGate::U,
+            GateName::Cx => CalledGate::Cx,
+            GateName::Declared(name) => CalledGate::Gate(self.number(*name)),
         }
     }
 
@@ -138,7 +138,7 @@ impl<'a> Names<'a> {
         Ok(())
     }
 
-    /// Declares a register of qubits behind all others.
+    /// Declares a register of qubits after all others.
     pub fn declare_qubits(&mut self, name: &'a [u8], size: usize) -> Result<(), AllocError>
         requires { self.old.qubits + size ≤ most_qubits }
         ensures { OnOk result ((scope : Scope) → Represents self.old scope

@@ -1,7 +1,7 @@
 //! Formal names by their places.
 
 ghost use Rattle.std.specs.Prelude.{◌≡◌, map, IfOk, OnOk, [], ◌++◌, ◌∷◌, List, ℕ, length};
-ghost use Rattle.qasm_scope.specs.Entries.{ArePlaces, place_in};
+ghost use Rattle.qasm_scope.specs.Internal.Entries.{ArePlaces, place_in};
 ghost use Rattle.qasm_scope.specs.Faults.{has_name_twice};
 
 use std::alloc::{AllocError, Global};

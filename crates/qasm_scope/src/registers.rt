@@ -4,16 +4,16 @@ ghost use Rattle.std.specs.Prelude.{◌≡◌, ◌+◌, ◌==◌, ◌∷◌, OnO
 ghost use Rattle.zx_gates.specs.Circuit.{most_qubits};
 ghost use Rattle.qasm_reader.specs.Syntax.{QubitRegister, BitRegister};
 ghost use Rattle.qasm_scope.specs.declared.causes.Cause.{Cause};
-ghost use Rattle.qasm_scope.specs.Checks.{register_cause};
+ghost use Rattle.qasm_scope.specs.Internal.Checks.{register_cause};
 ghost use Rattle.qasm_scope.specs.Faults.{wrong_in};
-ghost use Rattle.qasm_scope.specs.Kept.{Represents, found, symbol_taken};
-ghost use Rattle.qasm_scope.specs.Meaning.{behind};
+ghost use Rattle.qasm_scope.specs.Internal.Kept.{Represents, found, symbol_taken};
+ghost use Rattle.qasm_scope.specs.Meaning.{after_statement};
 ghost use Rattle.qasm_scope.specs.Scope.{Scope};
 
 use crate::causes::Cause;
 use crate::names::Names;
 use crate::numerals::number;
-use crate::stopped::Stopped;
+use crate::statement_error::StatementError;
 
 /// The most qubits that a circuit may have.
 const MOST_QUBITS: usize = 1024;
@@ -27,19 +27,19 @@ pub fn declare_qubits<'a>(
     names: &mut Names<'a>,
     name: &'a [u8],
     size: &'a [u8],
-) -> Result<(), Stopped>
+) -> Result<(), StatementError>
     ensures ok { OnOk result ((scope : Scope) → Represents names.old scope
         → wrong_in scope (QubitRegister name.now size.now) ≡ None) }
     ensures declared { OnOk result ((scope : Scope) → Represents names.old scope
-        → Represents names.new (behind scope (QubitRegister name.now size.now))) }
-    ensures err { (cause : Cause) (scope : Scope) → result ≡ Err (Stopped.Wrong cause)
+        → Represents names.new (after_statement scope (QubitRegister name.now size.now))) }
+    ensures err { (cause : Cause) (scope : Scope) → result ≡ Err (StatementError.Wrong cause)
         → Represents names.old scope
         → wrong_in scope (QubitRegister name.now size.now) ≡ Some cause }
 {
     let count = number(size);
     let too_many = is_too_many(names.qubits, count);
     if let Some(cause) = wrong_register(names, name, count, too_many) {
-        return Err(Stopped::Wrong(cause));
+        return Err(StatementError::Wrong(cause));
     }
     names.declare_qubits(name, count)?;
     Ok(())
@@ -54,17 +54,17 @@ pub fn declare_bits<'a>(
     names: &mut Names<'a>,
     name: &'a [u8],
     size: &'a [u8],
-) -> Result<(), Stopped>
+) -> Result<(), StatementError>
     ensures ok { OnOk result ((scope : Scope) → Represents names.old scope
         → wrong_in scope (BitRegister name.now size.now) ≡ None) }
     ensures declared { OnOk result ((scope : Scope) → Represents names.old scope
-        → Represents names.new (behind scope (BitRegister name.now size.now))) }
-    ensures err { (cause : Cause) (scope : Scope) → result ≡ Err (Stopped.Wrong cause)
+        → Represents names.new (after_statement scope (BitRegister name.now size.now))) }
+    ensures err { (cause : Cause) (scope : Scope) → result ≡ Err (StatementError.Wrong cause)
         → Represents names.old scope
         → wrong_in scope (BitRegister name.now size.now) ≡ Some cause }
 {
     if let Some(cause) = wrong_register(names, name, number(size), false) {
-        return Err(Stopped::Wrong(cause));
+        return Err(StatementError::Wrong(cause));
     }
     names.declare_bits(name)?;
     Ok(())

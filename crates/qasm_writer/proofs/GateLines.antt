@@ -19,10 +19,10 @@ use Rattle.qasm_scope.specs.Calls.{Event, Called, Undefined, Applied, call_count
 use Rattle.qasm_scope.specs.declared.causes.Cause.{Cause}
 use Rattle.qasm_scope.specs.declared.causes.Cause.TheVariants as causes
 use Rattle.qasm_scope.specs.Faults.{wrong_in}
-use Rattle.qasm_scope.specs.Meaning.{events_of, or_else, placed_or, fault_behind, scope_behind, gates_behind}
+use Rattle.qasm_scope.specs.Meaning.{events_of, or_else, placed_or, fault_after, scope_after, gates_after}
 use Rattle.qasm_scope.specs.Scope.{numeral, numeral_from}
-use Rattle.qasm_scope.specs.Texts.{size_behind}
-use Rattle.qasm_writer.specs.Elements.{elements, elements_of, IsBelowATurn}
+use Rattle.qasm_scope.specs.Texts.{size_after}
+use Rattle.qasm_writer.specs.Elements.{elements, elements_of}
 use Rattle.qasm_writer.specs.Written.{gate_line, on_one, on_two}
 use Rattle.qasm_writer.proofs.Lines.{IsLine, AreLines, no_line, line_then, on_one_line, on_two_line, u1_line, u1_text}
 use Rattle.qasm_writer.proofs.Statements.{application, operand, quarters, register_scope, Comes, are_calm, most_of_one, h_comes, x_comes, t_comes, s_comes, z_comes, sdg_comes, tdg_comes, three_quarters_comes, five_quarters_comes, cx_comes, cz_comes}
@@ -140,21 +140,21 @@ module _ (place n q r : ℕ) (few : n ≤ most_qubits) (below : q < n) (under : 
   cz_is = two_is (codes "cz") (Cz q r) refl refl refl
       (cz_comes n (decimal q) (decimal r) q r (is place n q few below) (is place n r few under) (in_range place n q few below) (in_range place n r few under) differ)
 
-pub gate_line_is : (place n : ℕ) → n ≤ most_qubits → (gate : Gate) → IsGateOn n gate → IsBelowATurn gate → IsGateLine place n gate
-gate_line_is place n few (H q) on below = h_is place n q few on
-gate_line_is place n few (Phase q k) on below = phase_is place n q few on.0 k on.1 below
-gate_line_is place n few (Cz q r) on below = cz_is place n q r few on.0 on.1 on.2
-gate_line_is place n few (Cx control target) on below = cx_is place n control target few on.0 on.1 on.2
-gate_line_is place n few (Not q) on below = not_is place n q few on
+pub gate_line_is : (place n : ℕ) → n ≤ most_qubits → (gate : Gate) → IsGateOn n gate → IsGateLine place n gate
+gate_line_is place n few (H q) on = h_is place n q few on.0
+gate_line_is place n few (Phase q k) on = phase_is place n q few on.0.0 k on.0.1 on.1
+gate_line_is place n few (Cz q r) on = cz_is place n q r few on.0.0 on.0.1 on.0.2
+gate_line_is place n few (Cx control target) on = cx_is place n control target few on.0.0 on.0.1 on.0.2
+gate_line_is place n few (Not q) on = not_is place n q few on.0
 
 -- ---- the lines of all gates
 pub record IsRest (place n : ℕ) (gates : List Gate) : Type 0 where
   pub program : List Placed
   pub lines : AreLines place (flat_map gate_line gates) program
-  pub faultless : (most calls : ℕ) → calls + most_of_one * length gates ≤ most → fault_behind most (register_scope n) calls program ≡ None
-  pub scope : scope_behind (register_scope n) program ≡ register_scope n
-  pub same_gates : elements_of gates ≡ gates_behind (register_scope n) program
-  pub size : size_behind (register_scope n) program ≡ length gates
+  pub faultless : (most calls : ℕ) → calls + most_of_one * length gates ≤ most → fault_after most (register_scope n) calls program ≡ None
+  pub scope : scope_after (register_scope n) program ≡ register_scope n
+  pub same_gates : elements_of gates ≡ gates_after (register_scope n) program
+  pub size : size_after (register_scope n) program ≡ length gates
 
 pub fine_then : (a b : Option Cause) (place : ℕ) (o : Option (Cause × ℕ)) → a ≡ None → b ≡ None → o ≡ None → placed_or (or_else a b) place o ≡ None
 fine_then a b place o e f g = ap₂ (λ a b. placed_or (or_else a b) place o) e f ∙ g
@@ -176,8 +176,8 @@ rest_then place n gate gates l r =
       size = omega (arith, l.comes.one, r.size);
     }
 
-pub rest_is : (place n : ℕ) → n ≤ most_qubits → (gates : List Gate) → All (IsGateOn n) gates → All IsBelowATurn gates → IsRest place n gates
-rest_is place n few [] on below = record {
+pub rest_is : (place n : ℕ) → n ≤ most_qubits → (gates : List Gate) → All (IsGateOn n) gates → IsRest place n gates
+rest_is place n few [] on = record {
   program = [];
   lines = no_line place;
   faultless = λ most calls enough. refl;
@@ -185,6 +185,6 @@ rest_is place n few [] on below = record {
   same_gates = refl;
   size = refl;
 }
-rest_is place n few (gate ∷ gates) on below =
-    rest_then place n gate gates (gate_line_is place n few gate (All-head (IsGateOn n) gate gates on) (All-head IsBelowATurn gate gates below))
-    (rest_is (place + length (gate_line gate)) n few gates (All-tail (IsGateOn n) gate gates on) (All-tail IsBelowATurn gate gates below))
+rest_is place n few (gate ∷ gates) on =
+    rest_then place n gate gates (gate_line_is place n few gate (All-head (IsGateOn n) gate gates on))
+    (rest_is (place + length (gate_line gate)) n few gates (All-tail (IsGateOn n) gate gates on))

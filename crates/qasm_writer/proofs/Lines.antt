@@ -18,8 +18,8 @@ use Rattle.qasm_writer.proofs.Statements.{operand, application, quarters}
 -- ---- texts and programs
 -- the line at a place is this statement
 pub record IsLine (place : ℕ) (line : List ℕ) (s : Sentence) : Type 0 where
-  pub front : List ℕ
-  pub ends : line ≡ front ++ 10 ∷ []
+  pub prefix : List ℕ
+  pub ends : line ≡ prefix ++ 10 ∷ []
   pub tokens : List Lexeme
   pub cut : IsCut place line tokens
   pub begins : BeginsAt tokens place
@@ -40,7 +40,7 @@ pub line_then : (place : ℕ) (line after : List ℕ) (s : Sentence) (program : 
     → AreLines place (line ++ after) (record { place = place; sentence = s } ∷ program)
 line_then place line after s program l m = record {
   tokens = l.tokens ++ m.tokens;
-  cut = IsCut-append place line after l.tokens m.tokens l.front l.ends l.cut m.cut;
+  cut = IsCut-append place line after l.tokens m.tokens l.prefix l.ends l.cut m.cut;
   shallow = l.closed m.tokens ∙ m.shallow;
   grammar = (l.tokens, m.tokens, refl, l.begins, l.statement, m.grammar);
 }
@@ -101,7 +101,7 @@ qubit_cut place q next after tokens small there c =
 end_cut : (place : ℕ) → IsCut place (59 ∷ 10 ∷ []) (token kind.Semicolon (codes ";") place ∷ [])
 end_cut place = IsCut-plain_sign 59 (place + 1) refl refl refl (IsCut-space 10 (place + 2) refl (omega arith) (IsCut-nil (place + 2)))
 
--- behind the name of a gate
+-- after the name of a gate
 abbrev one_tokens : ℕ → ℕ → List Lexeme
 one_tokens place q = qubit_tokens (place + 1) q ++ token kind.Semicolon (codes ";") (place + 4 + length (decimal q)) ∷ []
 
@@ -160,7 +160,7 @@ module _ (place : ℕ) (name : List ℕ) (is : is_word name ≡ true) (identifie
       let c : IsCut place (one_text name q) (t ∷ one_tokens (place + length name) q) =
       IsCut-word name (place + length name) is identifier refl refl (one_cut (place + length name) q small) in
       record {
-        front = name ++ codes " " ++ qubit q ++ codes ";";
+        prefix = name ++ codes " " ++ qubit q ++ codes ";";
         ends = line_ends (name ++ codes " " ++ qubit q);
         tokens = t ∷ one_tokens (place + length name) q;
         cut = subst (λ text. IsCut place text (t ∷ one_tokens (place + length name) q)) (sym (on_one-text name q)) c;
@@ -178,7 +178,7 @@ module _ (place : ℕ) (name : List ℕ) (is : is_word name ≡ true) (identifie
       let c : IsCut place (two_text name q r) (t ∷ more) =
       IsCut-word name (place + length name) is identifier refl refl (two_cut (place + length name) q r small slight) in
       record {
-        front = name ++ codes " " ++ qubit q ++ codes "," ++ qubit r ++ codes ";";
+        prefix = name ++ codes " " ++ qubit q ++ codes "," ++ qubit r ++ codes ";";
         ends = line_ends (name ++ codes " " ++ qubit q ++ codes "," ++ qubit r);
         tokens = t ∷ more;
         cut = subst (λ text. IsCut place text (t ∷ more)) (sym (on_two-text name q r)) c;
@@ -233,7 +233,7 @@ u1_line place n q digit natural small =
     let t : Lexeme = token kind.Identifier (codes "u1") place in
     let more : List Lexeme = angle_tokens place n ++ one_tokens (place + 10) q in
     record {
-      front = u1_text n ++ codes " " ++ qubit q ++ codes ";";
+      prefix = u1_text n ++ codes " " ++ qubit q ++ codes ";";
       ends = line_ends (u1_text n ++ codes " " ++ qubit q);
       tokens = t ∷ more;
       cut = subst (λ text. IsCut place text (t ∷ more)) (sym (on_one-text (u1_text n) q))
@@ -251,7 +251,7 @@ version_is =
     let b : Lexeme = token kind.Real (codes "2.0") 9 in
     let c : Lexeme = token kind.Semicolon (codes ";") 12 in
     record {
-      front = codes "OPENQASM 2.0;";
+      prefix = codes "OPENQASM 2.0;";
       ends = refl;
       tokens = a ∷ b ∷ c ∷ [];
       cut = IsCut-tokens_of 0 version_line (a ∷ b ∷ c ∷ []) refl;
@@ -266,7 +266,7 @@ include_is =
     let b : Lexeme = token kind.Text (codes "\"qelib1.inc\"") 22 in
     let c : Lexeme = token kind.Semicolon (codes ";") 34 in
     record {
-      front = codes "include \"qelib1.inc\";";
+      prefix = codes "include \"qelib1.inc\";";
       ends = refl;
       tokens = a ∷ b ∷ c ∷ [];
       cut = IsCut-tokens_of 14 include_line (a ∷ b ∷ c ∷ []) refl;
@@ -288,7 +288,7 @@ register_is place n small =
     let e : Lexeme = token kind.RightBracket (codes "]") (place + 7 + length (decimal n)) in
     let f : Lexeme = token kind.Semicolon (codes ";") (place + 8 + length (decimal n)) in
     record {
-      front = codes "qreg q[" ++ (decimal n ++ codes "];");
+      prefix = codes "qreg q[" ++ (decimal n ++ codes "];");
       ends = ap (λ t. codes "qreg q[" ++ t) (sym (append_assoc (decimal n) (codes "];") (10 ∷ [])));
       tokens = a ∷ b ∷ c ∷ d ∷ e ∷ f ∷ [];
       cut =

@@ -1,4 +1,4 @@
--- The statements that the lines of gates are: behind the header and the register they have no fault, and come to the
+-- The statements that the lines of gates are: after the header and the register they have no fault, and come to the
 -- built-in gates of `elements`.
 use Rattle.std.specs.Prelude.{◌≡◌, ◌≤◌, if◌then◌else◌, ℕ, ◌+◌, Bool, true, false, ◌&&◌, ◌||◌, not, List, [], ◌∷◌, codes, nat_le, nat_lt, ◌==◌, Some, None}
 use Rattle.std.proofs.Common.{refl, sym, ap, ap₂, ◌∙◌, arith}
@@ -32,7 +32,7 @@ application name angles operands = Act (syntax.Applied (record { gate = Declared
 abbrev pub quarters : List ℕ → Formula
 quarters n = Binary Divide (Binary Multiply (Number n) Pi) (Number (codes "4"))
 
--- the scope behind the header and a register of n qubits
+-- the scope after the header and a register of n qubits
 abbrev pub register_scope : ℕ → Scope
 register_scope n = declared (codes "q") (Qubits 0 n) ∷ with_header []
 

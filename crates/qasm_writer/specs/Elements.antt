@@ -1,9 +1,9 @@
 -- What the lines of a circuit's text come to through the header that it includes, in the two gates that are built into
 -- OpenQASM 2.0 (Cross, Bishop, Smolin and Gambetta, "Open quantum assembly language", arXiv 1707.03429): there h is
 -- U(pi/2,0,pi), x is U(pi,0,pi), z, s, sdg, t, tdg and u1 are U(0,0,lambda), and cz is h, cx and h.
-use Rattle.std.specs.Prelude.{ℕ, ◌<◌, List, [], ◌∷◌}
+use Rattle.std.specs.Prelude.{ℕ, List, [], ◌∷◌}
 use Rattle.std.specs.List.{flat_map}
-use Rattle.zx_model.specs.Phase.{turn, half_turn, quarter_turn}
+use Rattle.zx_model.specs.Phase.{half_turn, quarter_turn}
 use Rattle.zx_gates.specs.declared.elementary.ElementaryGate.{ElementaryGate}
 use Rattle.zx_gates.specs.declared.elementary.ElementaryGate.TheVariants as elementary
 use Rattle.zx_gates.specs.declared.gate.Gate.{Gate}
@@ -33,11 +33,3 @@ gate_without_cz (Not q) = Not q ∷ []
 
 abbrev pub without_cz : List Gate → List Gate
 without_cz gates = flat_map gate_without_cz gates
-
--- a phase is below a whole turn, as that of each `Eighth` is
-abbrev pub IsBelowATurn : Gate → Type 0
-IsBelowATurn (H q) = Unit {0}
-IsBelowATurn (Phase q k) = k < turn
-IsBelowATurn (Cz q r) = Unit {0}
-IsBelowATurn (Cx control target) = Unit {0}
-IsBelowATurn (Not q) = Unit {0}

@@ -1,9 +1,7 @@
 //! The text of a circuit.
 
-ghost use Rattle.std.specs.Prelude.{◌≡◌, ◌<◌, ◌++◌, IfOk, OnOk, codes, decimal};
-ghost use Rattle.std.specs.List.{All};
-ghost use Rattle.zx_model.specs.Phase.{turn};
-ghost use Rattle.qasm_writer.specs.Elements.{IsBelowATurn, elements_of};
+ghost use Rattle.std.specs.Prelude.{◌≡◌, ◌++◌, IfOk, OnOk, codes, decimal};
+ghost use Rattle.qasm_writer.specs.Elements.{elements_of};
 ghost use Rattle.qasm_scope.specs.Texts.{TextMeans};
 ghost use Rattle.qasm_writer.specs.Written.{written, gate_line, on_one, on_two, qubit, phase_name, register_line};
 
@@ -22,7 +20,6 @@ use zx_model::Eighth;
 pub fn write_text(alloc: Global, g: &GateList) -> Result<Vec<u8>, AllocError>
     ensures text { IfOk result (λ text. text.items ≡ written g.now) }
     ensures means { IfOk result (λ text. TextMeans text.items g.now.qubits (elements_of g.now.gates)) }
-    ensures phases { OnOk result (All IsBelowATurn g.now.gates) }
 {
     let mut text = Vec::new(alloc);
     text.extend_from_slice(b"OPENQASM 2.0;\ninclude \"qelib1.inc\";\n")?;
@@ -48,8 +45,7 @@ fn push_register(text: &mut Vec<u8>, qubits: Qubit) -> Result<(), AllocError>
 
 /// Adds the line of a gate.
 fn push_gate(text: &mut Vec<u8>, gate: Gate) -> Result<(), AllocError>
-    ensures line { OnOk result (text.new.items ≡ text.old.items ++ gate_line gate) }
-    ensures phase { OnOk result (IsBelowATurn gate) }
+    ensures { OnOk result (text.new.items ≡ text.old.items ++ gate_line gate) }
 {
     match gate {
         Gate::H(q) => push_on_one(text, b"h", q),
@@ -62,8 +58,7 @@ fn push_gate(text: &mut Vec<u8>, gate: Gate) -> Result<(), AllocError>
 
 /// The name of a phase gate.
 fn name_of_phase(phase: Eighth) -> &'static [u8]
-    ensures name { result.now ≡ phase_name phase }
-    ensures below_a_turn { phase < turn }
+    ensures { result.now ≡ phase_name phase }
 {
     match phase.get() {
         1 => b"t",

@@ -20,6 +20,10 @@ pub or-false : (a : Bool) → (a || false) ≡ a
 or-false true = refl
 or-false false = refl
 
+pub or_assoc : (a b c : Bool) → (a || (b || c)) ≡ ((a || b) || c)
+or_assoc true b c = refl
+or_assoc false b c = refl
+
 pub or_comm : (a b : Bool) → (a || b) ≡ (b || a)
 or_comm true b = sym (or-true b)
 or_comm false b = sym (or-false b)

@@ -4,8 +4,8 @@ use Rattle.std.specs.List.{list_all}
 use Rattle.zx_model.specs.Bits.{member}
 use Rattle.zx_calculus.specs.Graph.{Edge, joins, joined, in_order, edge_before, OrderedEdges}
 use Rattle.zx_calculus.specs.After.{edges_from, edges_of}
-use Rattle.zx_calculus.proofs.Booleans.{or-true, and-true, and-false}
-use Rattle.zx_calculus.proofs.Ids.{by_test, by_equal, and-left, and-right, or-left, or-right, Symmetric}
+use Rattle.zx_calculus.proofs.Booleans.{or-true, or_assoc, and-true, and-false}
+use Rattle.zx_calculus.proofs.Ids.{by_test, by_equal, and-left, and-right, or-left, or-right, member-here, member-there, Symmetric}
 use Rattle.zx_calculus.proofs.Edges.{joins-true, edge_before-true, apart_later}
 use Rattle.zx_calculus.proofs.Kept.{both, all_by}
 use Rattle.zx_calculus.proofs.Splitting.{all_at}
@@ -13,10 +13,6 @@ use Rattle.zx_calculus.proofs.Splitting.{all_at}
 joined-append : (es fs : List Edge) (p q : ℕ) → joined (es ++ fs) p q ≡ (joined es p q || joined fs p q)
 joined-append [] fs p q = refl
 joined-append (e ∷ es) fs p q = ap (λ b. joins e p q || b) (joined-append es fs p q) ∙ or_assoc (joins e p q) (joined es p q) (joined fs p q)
-  where
-    or_assoc : (a b c : Bool) → (a || (b || c)) ≡ ((a || b) || c)
-    or_assoc true b c = refl
-    or_assoc false b c = refl
 
 -- where a test holds, what it stands before may be replaced
 pub under : (b c d : Bool) → (b ≡ true → c ≡ d) → (b && c) ≡ (b && d)
@@ -125,11 +121,8 @@ all_edges_of : (t : Edge → Bool) (a : ℕ → ℕ → Bool) (vs : List ℕ) �
 all_edges_of t a [] h o = refl
 all_edges_of t a (v ∷ vs) h o =
     list_all-append t (edges_from a v vs) (edges_of a vs)
-    (list_all-edges_from t a v vs (all_by _ vs (λ w s. h v w (rw (eq-eqb v v refl)) (later w s) (ltb-true v w (all_at (ltb v) vs w (and-left _ _ o) s)))))
-    (all_edges_of t a vs (λ x w s r lt. h x w (later x s) (later w r) lt) (and-right _ _ o))
-  where
-    later : (w : ℕ) → member w vs ≡ true → member w (v ∷ vs) ≡ true
-    later w s = ap (λ b. eqb w v || b) s ∙ or-true (eqb w v)
+    (list_all-edges_from t a v vs (all_by _ vs (λ w s. h v w (member-here v vs) (member-there w v vs s) (ltb-true v w (all_at (ltb v) vs w (and-left _ _ o) s)))))
+    (all_edges_of t a vs (λ x w s r lt. h x w (member-there x v vs s) (member-there w v vs r) lt) (and-right _ _ o))
 
 pub OrderedEdges-edges_of : (a : ℕ → ℕ → Bool) (vs : List ℕ) → in_order ltb vs ≡ true → OrderedEdges vs (edges_of a vs)
 OrderedEdges-edges_of a vs o =

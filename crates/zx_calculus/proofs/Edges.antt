@@ -51,13 +51,13 @@ apart_later e (d ∷ es) p q first firsts before at_e =
     rw here (apart_later e es p q first (and-right _ _ firsts) (and-right _ _ before) at_e)
 
 -- an edge and the later ones add up without overlap
-joined-xor : (e : Edge) (es : List Edge) (p q : ℕ) → e.lower < e.higher → list_all (λ d. ltb d.lower d.higher) es ≡ true → list_all (edge_before e) es ≡ true → joined (e ∷ es) p q ≡ xor (joins e p q) (joined es p q)
+pub joined-xor : (e : Edge) (es : List Edge) (p q : ℕ) → e.lower < e.higher → list_all (λ d. ltb d.lower d.higher) es ≡ true → list_all (edge_before e) es ≡ true → joined (e ∷ es) p q ≡ xor (joins e p q) (joined es p q)
 joined-xor e es p q first firsts before =
     or-apart (joins e p q) (joined es p q)
     (by_test (joins e p q) (λ t. ap (λ b. joins e p q && b) (apart_later e es p q first firsts before t) ∙ and_comm (joins e p q) false) (λ f. ap (λ b. b && joined es p q) f))
 
 -- an edge as a pair of different ids
-joins-xor : (e : Edge) (p q : ℕ) → e.lower < e.higher → joins e p q ≡ xor (eqb p e.lower && eqb q e.higher) (eqb p e.higher && eqb q e.lower)
+pub joins-xor : (e : Edge) (p q : ℕ) → e.lower < e.higher → joins e p q ≡ xor (eqb p e.lower && eqb q e.higher) (eqb p e.higher && eqb q e.lower)
 joins-xor e p q first =
     or-apart (eqb p e.lower && eqb q e.higher) (eqb q e.lower && eqb p e.higher)
     (by_equal p e.lower

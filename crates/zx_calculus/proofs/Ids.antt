@@ -1,5 +1,5 @@
 -- Lists of different ids: one of them brought to the front.
-use Rattle.std.proofs.Common.{◌≡◌, ◌≢◌, refl, sym, ◌∙◌, ap, ap₂, ℕ, ◌<◌, Bool, true, false, cond, not, ◌&&◌, ◌||◌, eqb, ltb, List, [], ◌∷◌, true≢false, eqb-true, eq-eqb, ne_eqb, ltb-true, arith}
+use Rattle.std.proofs.Common.{◌≡◌, ◌≢◌, refl, sym, ◌∙◌, ap, ap₂, ℕ, ◌<◌, Bool, true, false, cond, not, ◌&&◌, ◌||◌, eqb, ltb, List, [], ◌∷◌, filter, true≢false, eqb-true, eq-eqb, ne_eqb, ltb-true, arith}
 use Rattle.std.proofs.lemmas.Bool.{eqb-false}
 use Rattle.std.specs.List.{list_all}
 pub use Rattle.zx_model.proofs.BitLemmas.{and-left, and-right}
@@ -7,7 +7,7 @@ pub use Rattle.zx_calculus.specs.Graph.{Distinct}
 use Rattle.zx_model.specs.Bits.{xor, member}
 use Rattle.zx_calculus.specs.Parity.{masked, quad}
 use Rattle.zx_calculus.specs.Graph.{in_order, different}
-use Rattle.zx_calculus.proofs.Booleans.{parities}
+use Rattle.zx_calculus.proofs.Booleans.{parities, or-true, and-false}
 
 -- a choice by a test, with what it says
 pub by_test : {P : Type 0} (b : Bool) → (b ≡ true → P) → (b ≡ false → P) → P
@@ -34,6 +34,19 @@ or-right false b e = e
 pub not-true : (a : Bool) → not a ≡ true → a ≡ false
 not-true true e = sym e
 not-true false e = refl
+
+pub member-here : (v : ℕ) (vs : List ℕ) → member v (v ∷ vs) ≡ true
+member-here v vs = ap (λ b. b || member v vs) (eqb-self v)
+
+pub member-there : (w v : ℕ) (vs : List ℕ) → member w vs ≡ true → member w (v ∷ vs) ≡ true
+member-there w v vs there = ap (λ b. eqb w v || b) there ∙ or-true (eqb w v)
+
+pub member-filter : (t : ℕ → Bool) (xs : List ℕ) (p : ℕ) → member p (filter t xs) ≡ (member p xs && t p)
+member-filter t [] p = refl
+member-filter t (x ∷ xs) p =
+    by_test (t x)
+    (λ s. rw s (by_equal p x (λ e same. rw e (sym (ap t same ∙ s))) (λ e n. rw e (member-filter t xs p))))
+    (λ f. rw f (by_equal p x (λ e same. rw e (member-filter t xs p ∙ ap (λ b. member p xs && b) (ap t same ∙ f) ∙ and-false (member p xs) ∙ sym (ap t same ∙ f))) (λ e n. rw e (member-filter t xs p))))
 
 pub member-different : (u : ℕ) (vs : List ℕ) → list_all (different u) vs ≡ true → member u vs ≡ false
 member-different u [] h = refl

@@ -11,9 +11,9 @@ use Rattle.zx_calculus.specs.Boundary.{IsSplitInput, IsSplitOutput, spider_of_ph
 use Rattle.zx_calculus.specs.Gadgets.{IsDropLone, IsFuseInto, IsFuseTwin, fuse_kind}
 use Rattle.zx_calculus.specs.Steps.{Step, LocalComplement, Delete, Pivot, SplitInput, SplitOutput, DropLone, FuseInto, FuseTwin, IsStep, IsRun}
 use Rattle.zx_calculus.proofs.Booleans.{or-true}
-use Rattle.zx_calculus.proofs.Ids.{by_test, by_equal, and-left, and-right, or-left, or-right, removed, apart_of_member, member-different, member-removed_other}
+use Rattle.zx_calculus.proofs.Ids.{by_test, by_equal, and-left, and-right, or-left, or-right, removed, apart_of_member, member-here, member-there, member-different, member-removed_other}
 use Rattle.zx_calculus.proofs.Forms.{ids-without}
-use Rattle.zx_calculus.proofs.Vertices.{ids-with_kinds, kind_of-with_kinds, kind_of-without, list_all-without, all_below_a_turn, member-insert, kind_of-insert}
+use Rattle.zx_calculus.proofs.Vertices.{ids-with_kinds, with_kinds-identity, kind_of-with_kinds, kind_of-without, list_all-without, all_below_a_turn, member-insert, kind_of-insert}
 use Rattle.zx_calculus.proofs.Splitting.{all_at, absent_from, interior_of, off_XY}
 use Rattle.zx_calculus.proofs.SplitSum.{move_end-absent}
 
@@ -24,7 +24,7 @@ both false b s t = s
 pub all_by : (q : ℕ → Bool) (xs : List ℕ) → ((x : ℕ) → member x xs ≡ true → q x ≡ true) → list_all q xs ≡ true
 all_by q [] h = refl
 all_by q (x ∷ xs) h =
-    both _ _ (h x (rw (eq-eqb x x refl))) (all_by q xs (λ y t. h y (ap (λ b. eqb y x || b) t ∙ or-true (eqb y x))))
+    both _ _ (h x (member-here x xs)) (all_by q xs (λ y t. h y (member-there y x xs t)))
 
 -- rising ids
 list_all-removed : (q : ℕ → Bool) (u : ℕ) (xs : List ℕ) → list_all q xs ≡ true → list_all q (removed u xs) ≡ true
@@ -70,12 +70,12 @@ pub with_kinds-below : (f : ℕ → Kind → Kind) (vs : List Vertex) → Below 
 with_kinds-below f [] keeps h = refl
 with_kinds-below f (v ∷ vs) keeps h = both _ _ (lt-ltb _ turn (keeps v.id v.kind (ltb-true v.kind.phase turn (and-left _ _ h)))) (with_kinds-below f vs keeps (and-right _ _ h))
 
-insert-below : (n : Vertex) (vs : List Vertex) → n.kind.phase < turn → all_below_a_turn vs ≡ true → all_below_a_turn (insert_vertex n vs) ≡ true
+pub insert-below : (n : Vertex) (vs : List Vertex) → n.kind.phase < turn → all_below_a_turn vs ≡ true → all_below_a_turn (insert_vertex n vs) ≡ true
 insert-below n [] lt h = both _ _ (lt-ltb _ turn lt) refl
 insert-below n (v ∷ vs) lt h =
     by_test (ltb n.id v.id) (λ t. rw t (both _ _ (lt-ltb _ turn lt) h)) (λ f. rw f (both _ _ (and-left _ _ h) (insert-below n vs lt (and-right _ _ h))))
 
-sum_below : (j k : ℕ) → sum_of_phases j k < turn
+pub sum_below : (j k : ℕ) → sum_of_phases j k < turn
 sum_below j k = omega arith
 
 opposite_below : (k : ℕ) → opposite_phase k < turn
@@ -114,7 +114,7 @@ pivot_kind_below u v near_u near_v p k h = cond_below (eqb p u || eqb p v) _ _ (
 delete_kind_below : (phase : ℕ) (near : ℕ → Bool) → Below (delete_kind phase near)
 delete_kind_below phase near p k h = cond_below (eqb phase half_turn && near p) _ _ (half_below k.plane k.phase h) h
 
-fuse_kind_below : (v j : ℕ) → Below (fuse_kind v j)
+pub fuse_kind_below : (v j : ℕ) → Below (fuse_kind v j)
 fuse_kind_below v j p k h = cond_below (eqb p v) _ _ (sum_below k.phase j) h
 
 -- an XY vertex stays one
@@ -148,19 +148,19 @@ ends_kept vs ws ends o keeps =
     both_of : (p : ℕ) → member p (places ends) ≡ true → (member p (ids ws) ≡ true) × (is_XY (kind_of ws p).plane ≡ true)
     both_of p t = keeps p t (all_at (λ u. member u (ids vs)) (places ends) p o.there t) (all_at (λ u. is_XY (kind_of vs u).plane) (places ends) p o.at_XY t)
 
-ends_with_kinds : (f : ℕ → Kind → Kind) (vs : List Vertex) (ends : List End) → OrderedEnds vs ends → ((p : ℕ) → member p (places ends) ≡ true → KeepsXY f p) → OrderedEnds (with_kinds f vs) ends
+pub ends_with_kinds : (f : ℕ → Kind → Kind) (vs : List Vertex) (ends : List End) → OrderedEnds vs ends → ((p : ℕ) → member p (places ends) ≡ true → KeepsXY f p) → OrderedEnds (with_kinds f vs) ends
 ends_with_kinds f vs ends o keeps =
     ends_kept vs (with_kinds f vs) ends o
     (λ p t there plane. (ap (member p) (ids-with_kinds f vs) ∙ there, ap (λ k. is_XY k.plane) (kind_of-with_kinds f p vs there) ∙ keeps p t (kind_of vs p) plane))
 
-ends_without : (u : ℕ) (vs : List Vertex) (ends : List End) → OrderedEnds vs ends → member u (places ends) ≡ false → OrderedEnds (without u vs) ends
+pub ends_without : (u : ℕ) (vs : List Vertex) (ends : List End) → OrderedEnds vs ends → member u (places ends) ≡ false → OrderedEnds (without u vs) ends
 ends_without u vs ends o absent =
     ends_kept vs (without u vs) ends o
     (λ p t there plane. let apart : p ≢ u = apart_of_member p u (places ends) t absent in
     (ap (member p) (ids-without u vs) ∙ member-removed_other p u (ids vs) apart ∙ there, ap (λ k. is_XY k.plane) (kind_of-without p u vs apart) ∙ plane))
 
 -- a graph with the same ends, its vertices changed
-kept_kinds : (g : Graph) (f : ℕ → Kind → Kind) (h : Graph) → WellFormed g → Below f → ((p : ℕ) → member p (places g.inputs) ≡ true → KeepsXY f p) → ((p : ℕ) → member p (places g.outputs) ≡ true → KeepsXY f p) →
+pub kept_kinds : (g : Graph) (f : ℕ → Kind → Kind) (h : Graph) → WellFormed g → Below f → ((p : ℕ) → member p (places g.inputs) ≡ true → KeepsXY f p) → ((p : ℕ) → member p (places g.outputs) ≡ true → KeepsXY f p) →
     h.vertices ≡ with_kinds f g.vertices → OrderedEdges (ids h.vertices) h.edges → h.inputs ≡ g.inputs → h.outputs ≡ g.outputs → WellFormed h
 kept_kinds g f h w below ins outs vertices ordered inputs outputs =
     record {
@@ -172,7 +172,7 @@ kept_kinds g f h w below ins outs vertices ordered inputs outputs =
     }
 
 -- a graph with the same ends, a vertex without ends gone and the others changed
-kept_removal : (g : Graph) (u : ℕ) (f : ℕ → Kind → Kind) (h : Graph) → WellFormed g → Interior g u → Below f → ((p : ℕ) → KeepsXY f p) →
+pub kept_removal : (g : Graph) (u : ℕ) (f : ℕ → Kind → Kind) (h : Graph) → WellFormed g → Interior g u → Below f → ((p : ℕ) → KeepsXY f p) →
     h.vertices ≡ with_kinds f (without u g.vertices) → OrderedEdges (ids h.vertices) h.edges → h.inputs ≡ g.inputs → h.outputs ≡ g.outputs → WellFormed h
 kept_removal g u f h w interior below keeps vertices ordered inputs outputs =
     record {
@@ -214,15 +214,11 @@ delete_kept g u h w c =
     (λ p k t. cond_XY (eqb (phase_of g u) half_turn && joined g.edges u p) (half_turned k) k (half_XY k.plane k.phase t) t)
     c.vertices c.ordered c.inputs c.outputs
 
-same_kinds : (vs : List Vertex) → vs ≡ with_kinds (λ p k. k) vs
-same_kinds [] = refl
-same_kinds (v ∷ vs) = ap (λ r. v ∷ r) (same_kinds vs)
-
 pub drop_lone_kept : (g : Graph) (u : ℕ) (h : Graph) → WellFormed g → IsDropLone g u h → WellFormed h
 drop_lone_kept g u h w c =
-    kept_removal g u (λ p k. k) h w (interior_of g u w (ap is_XY c.plane)) (λ p k t. t) (λ p k t. t) (c.vertices ∙ same_kinds (without u g.vertices)) c.ordered c.inputs c.outputs
+    kept_removal g u (λ p k. k) h w (interior_of g u w (ap is_XY c.plane)) (λ p k t. t) (λ p k t. t) (c.vertices ∙ sym (with_kinds-identity (without u g.vertices))) c.ordered c.inputs c.outputs
 
-fuse_XY : (v j : ℕ) (p : ℕ) → KeepsXY (fuse_kind v j) p
+pub fuse_XY : (v j : ℕ) (p : ℕ) → KeepsXY (fuse_kind v j) p
 fuse_XY v j p k t = cond_XY (eqb p v) (with_phase_added j k) k t t
 
 pub fuse_into_kept : (g : Graph) (u : ℕ) (h : Graph) → WellFormed g → IsFuseInto g u h → WellFormed h
@@ -241,7 +237,7 @@ member-move b new x (e ∷ es) h =
   where
     later : (x ≡ new) ⊎ (member x (places es) ≡ true) → (x ≡ new) ⊎ (member x (e.vertex ∷ places es) ≡ true)
     later (inl e') = inl e'
-    later (inr m) = inr (ap (λ c. eqb x e.vertex || c) m ∙ or-true (eqb x e.vertex))
+    later (inr m) = inr (member-there x e.vertex (places es) m)
 
     moved : (member x (places (move_end b new es)) ≡ true → (x ≡ new) ⊎ (member x (places es) ≡ true)) → (eqb x new || member x (places (move_end b new es))) ≡ true → (x ≡ new) ⊎ (member x (e.vertex ∷ places es) ≡ true)
     moved again m = by_equal x new (λ t s. inl s) (λ t n. later (again (rw t at m)))
@@ -275,13 +271,13 @@ one_each-move b new (e ∷ es) fresh h =
     rw t
     (both _ _ (different-all e.vertex _ (absent-move b new e.vertex es apart (member-different e.vertex (places es) (and-left _ _ h)))) (one_each-move b new es (or-right _ _ fresh) (and-right _ _ h))))
 
-kind_of-insert_other : (p : ℕ) (n : Vertex) (vs : List Vertex) → p ≢ n.id → kind_of (insert_vertex n vs) p ≡ kind_of vs p
+pub kind_of-insert_other : (p : ℕ) (n : Vertex) (vs : List Vertex) → p ≢ n.id → kind_of (insert_vertex n vs) p ≡ kind_of vs p
 kind_of-insert_other p n [] apart = ap (λ b. cond b n.kind (record { plane = XY; phase = 0 })) (ne_eqb p n.id apart)
 kind_of-insert_other p n (v ∷ vs) apart =
     by_test (ltb n.id v.id) (λ t. rw t (ap (λ b. cond b n.kind (kind_of (v ∷ vs) p)) (ne_eqb p n.id apart)))
     (λ f. rw f (ap (cond (eqb p v.id) v.kind) (kind_of-insert_other p n vs apart)))
 
-ends_insert : (n : Vertex) (vs : List Vertex) (ends : List End) → member n.id (ids vs) ≡ false → OrderedEnds vs ends → OrderedEnds (insert_vertex n vs) ends
+pub ends_insert : (n : Vertex) (vs : List Vertex) (ends : List End) → member n.id (ids vs) ≡ false → OrderedEnds vs ends → OrderedEnds (insert_vertex n vs) ends
 ends_insert n vs ends fresh o =
     ends_kept vs (insert_vertex n vs) ends o
     (λ p t there plane. (

@@ -2,11 +2,13 @@ pub mod Booleans
 pub mod Parity
 pub mod Ids
 pub mod Edges
+pub mod Pairs
 pub mod Labels
 pub mod Forms
 pub mod Turning
 pub mod Vertices
 pub mod Splitting
+pub mod Reinsertion
 pub mod ComplementSum
 pub mod RemovalSum
 pub mod TwinSum
@@ -14,7 +16,11 @@ pub mod SplitSum
 pub mod PivotSum
 pub mod Kept
 pub mod StepSum
+pub mod MovedEnds
+pub mod CountLemmas
+pub mod StepCounts
 pub mod OddPhases
+pub mod ReducedLemmas
 pub mod EdgeLists
 pub mod Results
 pub mod Programs

@@ -1,8 +1,9 @@
 -- `masked` and `quad` are linear in what is adjacent, and don't mind the order of the list.
-use Rattle.std.proofs.Common.{◌≡◌, refl, ◌∙◌, ap, ap₂, ℕ, Bool, true, false, ◌&&◌, ◌||◌, eqb, List, [], ◌∷◌, eq-eqb}
+use Rattle.std.proofs.Common.{◌≡◌, refl, ◌∙◌, ap, ap₂, ℕ, Bool, true, false, ◌&&◌, List, [], ◌∷◌}
 use Rattle.zx_model.specs.Bits.{xor, member}
 use Rattle.zx_calculus.specs.Parity.{masked, quad}
-use Rattle.zx_calculus.proofs.Booleans.{parities, or-true}
+use Rattle.zx_calculus.proofs.Booleans.{parities}
+use Rattle.zx_calculus.proofs.Ids.{member-here, member-there}
 
 both_apart : (a b l x y : Bool) → xor (xor a b && l) (xor x y) ≡ xor (xor (a && l) x) (xor (b && l) y)
 both_apart a b l x y = simp parities
@@ -50,25 +51,20 @@ cross_identity a b (v ∷ vs) label =
     (masked-xor (λ q. a v && b q) (λ q. b v && a q) vs label ∙ ap₂ xor (masked-and (a v) b vs label) (masked-and (b v) a vs label))
     ∙ cross_step (a v) (b v) (label v) (masked a vs label) (masked b vs label) _ _ (cross_identity a b vs label)
 
-pub masked_same : (m n : ℕ → Bool) (vs : List ℕ) (label : ℕ → Bool) → ((p : ℕ) → member p vs ≡ true → m p ≡ n p) → masked m vs label ≡ masked n vs label
-masked_same m n [] label h = refl
-masked_same m n (v ∷ vs) label h =
-    ap₂ (λ b r. xor (b && label v) r) (h v (member-first v vs)) (masked_same m n vs label (λ p t. h p (member-later p v vs t)))
-  where
-    member-first : (v : ℕ) (vs : List ℕ) → member v (v ∷ vs) ≡ true
-    member-first v vs = rw (eq-eqb v v refl)
+-- what stands for each listed number decides
+pub masked-same : (m n : ℕ → Bool) (vs : List ℕ) (k l : ℕ → Bool) → ((p : ℕ) → member p vs ≡ true → (m p && k p) ≡ (n p && l p)) → masked m vs k ≡ masked n vs l
+masked-same m n [] k l h = refl
+masked-same m n (v ∷ vs) k l h = ap₂ xor (h v (member-here v vs)) (masked-same m n vs k l (λ p t. h p (member-there p v vs t)))
 
-    member-later : (p v : ℕ) (vs : List ℕ) → member p vs ≡ true → member p (v ∷ vs) ≡ true
-    member-later p v vs t = ap (λ b. eqb p v || b) t ∙ or-true (eqb p v)
+pub masked_same : (m n : ℕ → Bool) (vs : List ℕ) (label : ℕ → Bool) → ((p : ℕ) → member p vs ≡ true → m p ≡ n p) → masked m vs label ≡ masked n vs label
+masked_same m n vs label h = masked-same m n vs label label (λ p t. ap (λ b. b && label p) (h p t))
 
 pub masked_labels : (n : ℕ → Bool) (vs : List ℕ) (k l : ℕ → Bool) → ((p : ℕ) → member p vs ≡ true → k p ≡ l p) → masked n vs k ≡ masked n vs l
-masked_labels n [] k l h = refl
-masked_labels n (v ∷ vs) k l h =
-    ap₂ (λ b r. xor (n v && b) r) (h v (rw (eq-eqb v v refl))) (masked_labels n vs k l (λ p t. h p (ap (λ b. eqb p v || b) t ∙ or-true (eqb p v))))
+masked_labels n vs k l h = masked-same n n vs k l (λ p t. ap (λ b. n p && b) (h p t))
 
 pub quad_labels : (a : ℕ → ℕ → Bool) (vs : List ℕ) (k l : ℕ → Bool) → ((p : ℕ) → member p vs ≡ true → k p ≡ l p) → quad a vs k ≡ quad a vs l
 quad_labels a [] k l h = refl
 quad_labels a (v ∷ vs) k l h =
-    let later : (p : ℕ) → member p vs ≡ true → k p ≡ l p = λ p t. h p (ap (λ b. eqb p v || b) t ∙ or-true (eqb p v)) in
-    ap (λ b. xor (b && masked (a v) vs k) (quad a vs k)) (h v (rw (eq-eqb v v refl)))
+    let later : (p : ℕ) → member p vs ≡ true → k p ≡ l p = λ p t. h p (member-there p v vs t) in
+    ap (λ b. xor (b && masked (a v) vs k) (quad a vs k)) (h v (member-here v vs))
     ∙ ap₂ (λ m r. xor (l v && m) r) (masked_labels (a v) vs k l later) (quad_labels a vs k l later)

@@ -9,7 +9,8 @@ use Rattle.zx_calculus.specs.Parity.{masked, quad}
 use Rattle.zx_calculus.specs.Graph.{Kind, Vertex, Graph, ids, kind_of, plane_of, phase_of, joined, with_kinds, without, WellFormed, Live, Interior}
 use Rattle.zx_calculus.specs.Sum.{sum, factor, vertex_product}
 use Rattle.zx_calculus.specs.Turns.{half_turned, pivoted}
-use Rattle.zx_calculus.specs.Scalars.{two, half_cost, pivot_right_in, product_of}
+use Rattle.zx_model.specs.Constants.{two}
+use Rattle.zx_calculus.specs.Scalars.{half_cost, pivot_right_in, product_of}
 use Rattle.zx_calculus.specs.Pivots.{IsPivot, pivot_kind}
 use Rattle.zx_calculus.specs.Factors.{pivot_right}
 use Rattle.zx_calculus.proofs.Booleans.{xor_comm, or-true, and-false}

@@ -1,5 +1,5 @@
 -- Where its test allows a rewrite, what the program makes is the rewrite's result.
-use Rattle.std.proofs.Common.{◌≡◌, ◌≢◌, ◌⊎◌, inl, inr, refl, sym, ◌∙◌, ap, ap₂, ℕ, Bool, true, false, not, ◌&&◌, ◌||◌, eqb, ltb, List, [], ◌∷◌, filter, true≢false, ne_eqb, eqb-true}
+use Rattle.std.proofs.Common.{◌≡◌, ◌≢◌, ◌⊎◌, inl, inr, refl, sym, ◌∙◌, ap, ap₂, ℕ, Bool, true, false, not, ◌&&◌, ◌||◌, eqb, ltb, List, [], ◌∷◌, true≢false, ne_eqb, eqb-true}
 use Rattle.std.proofs.lemmas.Bool.{eqb-false}
 use Rattle.std.specs.List.{list_all}
 use Rattle.zx_model.specs.Phase.{half_turn}
@@ -12,14 +12,14 @@ use Rattle.zx_calculus.specs.Gadgets.{IsDropLone, IsFuseInto, IsFuseTwin, fuse_k
 use Rattle.zx_calculus.specs.Steps.{Step, LocalComplement, Delete, Pivot, SplitInput, SplitOutput, DropLone, FuseInto, FuseTwin, IsStep}
 use Rattle.zx_calculus.specs.After.{edges_of, pivot_adjacent, is_YZ, is_one_XY, first_of_list, is_empty, allowed, after_with, after, above_all, split_vertices}
 use Rattle.zx_calculus.proofs.Booleans.{or-false, and-false}
-use Rattle.zx_calculus.proofs.Ids.{by_test, by_equal, and-left, and-right, or-left, or-right, not-true, removed, Symmetric, apart_of_member, eqb-self, member-removed_other}
+use Rattle.zx_calculus.proofs.Ids.{by_test, by_equal, and-left, and-right, or-left, or-right, not-true, removed, Symmetric, apart_of_member, eqb-self, member-filter, member-removed_other}
 use Rattle.zx_calculus.proofs.Edges.{joined_comm}
 use Rattle.zx_calculus.proofs.Forms.{ids-without}
 use Rattle.zx_calculus.proofs.Vertices.{ids-with_kinds, member-insert}
-use Rattle.zx_calculus.proofs.Splitting.{all_at, no_loop, joined-self, joined-absent}
+use Rattle.zx_calculus.proofs.Splitting.{all_at, plane_XY, no_loop, joined-self, joined-absent}
 use Rattle.zx_calculus.proofs.Kept.{in_order-removed, in_order-insert}
 use Rattle.zx_calculus.proofs.EdgeLists.{joined-edges_of, OrderedEdges-edges_of}
-use Rattle.zx_calculus.proofs.Results.{above_all-fresh, interior_from, restrict, complement_symmetric, split_symmetric, pivot_symmetric, pivot_at_u, pivot_at_v, pivot_between, pivot_together}
+use Rattle.zx_calculus.proofs.Results.{above_all-fresh, interior_from, restrict, complement_symmetric, is_pair-self, split_symmetric, pivot_symmetric, pivot_at_u, pivot_at_v, pivot_between, pivot_together}
 
 edges_full : (adjacent : ℕ → ℕ → Bool) (vs : List ℕ) (p q : ℕ) → Symmetric adjacent → p ≢ q → (member p vs ≡ false → adjacent p q ≡ false) → (member q vs ≡ false → adjacent p q ≡ false) → joined (edges_of adjacent vs) p q ≡ adjacent p q
 edges_full adjacent vs p q s n no_p no_q =
@@ -95,19 +95,7 @@ module _ (g : Graph) (w : WellFormed g) where
   plane_YZ XZ h = absurd (true≢false (sym h))
   plane_YZ YZ h = refl
 
-  plane_XY : (plane : Plane) → is_XY plane ≡ true → plane ≡ XY
-  plane_XY XY h = refl
-  plane_XY XZ h = absurd (true≢false (sym h))
-  plane_XY YZ h = absurd (true≢false (sym h))
-
-  member-filter : (t : ℕ → Bool) (xs : List ℕ) (p : ℕ) → member p (filter t xs) ≡ (member p xs && t p)
-  member-filter t [] p = refl
-  member-filter t (x ∷ xs) p =
-      by_test (t x)
-      (λ s. rw s (by_equal p x (λ e same. rw e (sym (ap t same ∙ s))) (λ e n. rw e (member-filter t xs p))))
-      (λ f. rw f (by_equal p x (λ e same. rw e (member-filter t xs p ∙ ap (λ b. member p xs && b) (ap t same ∙ f) ∙ and-false (member p xs) ∙ sym (ap t same ∙ f))) (λ e n. rw e (member-filter t xs p))))
-
-  neighbour : (u p : ℕ) → joined g.edges u p ≡ member p (neighbours g u)
+  pub neighbour : (u p : ℕ) → joined g.edges u p ≡ member p (neighbours g u)
   neighbour u p =
       by_test (member p (ids g.vertices))
       (λ t. sym (member-filter (joined g.edges u) (ids g.vertices) p ∙ ap (λ b. b && joined g.edges u p) t))
@@ -259,16 +247,10 @@ module _ (g : Graph) (w : WellFormed g) where
         by_equal p q
         (λ t same. ap (λ r. joined (edges_of (λ p q. joined g.edges p q || is_pair b new p q) (ids (split_vertices g new))) r q) same
         ∙ joined-self _ q (OrderedEdges-edges_of (λ p q. joined g.edges p q || is_pair b new p q) (ids (split_vertices g new)) rising_split).lower_first
-        ∙ sym (ap (λ r. joined g.edges r q || is_pair b new r q) same ∙ ap (λ x. x || is_pair b new q q) (no_loop g q w) ∙ no_self q))
+        ∙ sym (ap (λ r. joined g.edges r q || is_pair b new r q) same ∙ ap (λ x. x || is_pair b new q q) (no_loop g q w) ∙ is_pair-self b new b≢new q))
         (λ f n. edges_full (λ p q. joined g.edges p q || is_pair b new p q) (ids (split_vertices g new)) p q (split_symmetric g b new) n
         (λ f. ap₂ (λ x y. x || y) (absent_left p q (neither p f).1) (no_pair p q f))
         (λ f. split_symmetric g b new p q ∙ ap₂ (λ x y. x || y) (absent_left q p (neither q f).1) (no_pair q p f)))
-      where
-        no_self : (q : ℕ) → is_pair b new q q ≡ false
-        no_self q =
-            by_equal q b
-            (λ t e. let other : eqb q new ≡ false = ne_eqb q new (λ e'. b≢new (sym e ∙ e')) in ap₂ (λ x y. (eqb q b && x) || (y && eqb q b)) other other ∙ ap (λ x. x || false) (and-false (eqb q b)))
-            (λ f n. ap₂ (λ x y. (x && eqb q new) || (eqb q new && y)) f f ∙ and-false (eqb q new))
 
   end_there : (b : ℕ) (ends : List End) → list_all (λ u. member u (ids g.vertices)) (places ends) ≡ true → member b (places ends) ≡ true → member b (ids g.vertices) ≡ true
   end_there b ends there t = all_at (λ u. member u (ids g.vertices)) (places ends) b there t

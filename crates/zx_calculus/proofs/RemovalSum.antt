@@ -11,7 +11,8 @@ use Rattle.zx_calculus.specs.Parity.{masked, quad}
 use Rattle.zx_calculus.specs.Graph.{Plane, XY, XZ, YZ, Kind, Vertex, Graph, ids, kind_of, plane_of, phase_of, joined, with_kinds, without, is_XY, WellFormed, Live, Interior}
 use Rattle.zx_calculus.specs.Sum.{sum, spider, factor_in, factor, vertex_product}
 use Rattle.zx_calculus.specs.Turns.{half_turned, in_plane, with_phase_added}
-use Rattle.zx_calculus.specs.Scalars.{two, i, half_cost, delete_half_in, product_of}
+use Rattle.zx_model.specs.Constants.{two, i}
+use Rattle.zx_calculus.specs.Scalars.{half_cost, delete_half_in, product_of}
 use Rattle.zx_calculus.specs.Complement.{IsDelete, delete_kind}
 use Rattle.zx_calculus.specs.Gadgets.{IsDropLone, IsFuseInto, fuse_kind}
 use Rattle.zx_calculus.specs.Factors.{delete_right}
@@ -155,7 +156,7 @@ fused_factor plane j k b e = rw e (at b)
     at false = sym (one-mul one)
 
 -- one vertex's phase grows
-fused_product : (v k : ℕ) (ws : List Vertex) (label : ℕ → Bool) → Distinct (ids ws) → member v (ids ws) ≡ true → (kind_of ws v).plane ≡ XY →
+pub fused_product : (v k : ℕ) (ws : List Vertex) (label : ℕ → Bool) → Distinct (ids ws) → member v (ids ws) ≡ true → (kind_of ws v).plane ≡ XY →
     vertex_product (with_kinds (fuse_kind v k) ws) label ≡ mul (spider k (label v)) (vertex_product ws label)
 fused_product v k ws label d there plane =
     vertex_product_front v (with_kinds (fuse_kind v k) ws) label (rw (ids-with_kinds (fuse_kind v k) ws) d) (ap (member v) (ids-with_kinds (fuse_kind v k) ws) ∙ there)

@@ -11,7 +11,7 @@ use Rattle.zx_calculus.specs.Gadgets.{IsFuseInto, fuse_kind}
 use Rattle.zx_calculus.specs.Reduced.{is_interior}
 use Rattle.zx_calculus.specs.Steps.{Step, LocalComplement, Delete, Pivot, SplitInput, SplitOutput, DropLone, FuseInto, FuseTwin, IsStep}
 use Rattle.zx_calculus.specs.After.{edges_of, pivot_adjacent, is_YZ, is_one_XY, first_of_list, is_empty, allowed, after_with, above_all}
-use Rattle.zx_calculus.proofs.Booleans.{or-true, xor-same, and_comm, or_comm, parities}
+use Rattle.zx_calculus.proofs.Booleans.{or-true, xor-same, and_comm, and-false, or_comm, parities}
 use Rattle.zx_calculus.proofs.Ids.{by_test, by_equal, and-left, and-right, or-left, or-right, not-true, Symmetric, Distinct, apart_of_member, eqb-self}
 use Rattle.zx_calculus.proofs.Edges.{joined_comm}
 use Rattle.zx_calculus.proofs.Vertices.{ids-with_kinds}
@@ -101,10 +101,18 @@ edges_are h adjacent w s law =
 pub complement_symmetric : (g : Graph) (u : ℕ) → Symmetric (λ p q. xor (joined g.edges p q) (joined g.edges u p && joined g.edges u q))
 complement_symmetric g u p q = ap₂ xor (joined_comm g.edges p q) (and_comm (joined g.edges u p) (joined g.edges u q))
 
+pub is_pair_comm : (b new : ℕ) → Symmetric (is_pair b new)
+is_pair_comm b new p q = or_comm (eqb p b && eqb q new) (eqb p new && eqb q b) ∙ ap₂ (λ x y. x || y) (and_comm (eqb p new) (eqb q b)) (and_comm (eqb p b) (eqb q new))
+
+pub is_pair-self : (b new : ℕ) → b ≢ new → (q : ℕ) → is_pair b new q q ≡ false
+is_pair-self b new apart q =
+    by_equal q b
+    (λ t e. let other : eqb q new ≡ false = ne_eqb q new (λ e'. apart (sym e ∙ e')) in ap₂ (λ x y. (eqb q b && x) || (y && eqb q b)) other other ∙ ap (λ x. x || false) (and-false (eqb q b)))
+    (λ f n. ap₂ (λ x y. (x && eqb q new) || (eqb q new && y)) f f ∙ and-false (eqb q new))
+
 pub split_symmetric : (g : Graph) (b new : ℕ) → Symmetric (λ p q. joined g.edges p q || is_pair b new p q)
 split_symmetric g b new p q =
-    ap₂ (λ x y. x || y) (joined_comm g.edges p q)
-    (or_comm (eqb p b && eqb q new) (eqb p new && eqb q b) ∙ ap₂ (λ x y. x || y) (and_comm (eqb p new) (eqb q b)) (and_comm (eqb p b) (eqb q new)))
+    ap₂ (λ x y. x || y) (joined_comm g.edges p q) (is_pair_comm b new p q)
 
 -- a pivot's adjacency, case by case
 pub pivot_at_u : (a : ℕ → ℕ → Bool) (u v p : ℕ) → p ≢ v → pivot_adjacent a u v u p ≡ a v p

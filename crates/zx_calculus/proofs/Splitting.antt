@@ -14,8 +14,11 @@ use Rattle.zx_calculus.proofs.Forms.{value, form, at_ends, at_ends-ignores, sum_
 pub distinct : (g : Graph) → WellFormed g → Distinct (ids g.vertices)
 distinct g w = Distinct-rising (ids g.vertices) w.vertices_rising
 
+pub Distinct-without : (u : ℕ) (vs : List Vertex) → Distinct (ids vs) → Distinct (ids (without u vs))
+Distinct-without u vs d = rw (ids-without u vs) (Distinct-removed u (ids vs) d)
+
 pub distinct_without : (g : Graph) (u : ℕ) → WellFormed g → Distinct (ids (without u g.vertices))
-distinct_without g u w = rw (ids-without u g.vertices) (Distinct-removed u (ids g.vertices) (distinct g w))
+distinct_without g u w = Distinct-without u g.vertices (distinct g w)
 
 pub member-without : (u : ℕ) (vs : List Vertex) → member u (ids (without u vs)) ≡ false
 member-without u vs = ap (member u) (ids-without u vs) ∙ member-removed u (ids vs)
@@ -57,6 +60,11 @@ pub off_XY : (plane : Plane) → plane ≢ XY → is_XY plane ≡ false
 off_XY XY n = absurd (n refl)
 off_XY XZ n = refl
 off_XY YZ n = refl
+
+pub plane_XY : (plane : Plane) → is_XY plane ≡ true → plane ≡ XY
+plane_XY XY h = refl
+plane_XY XZ h = absurd (true≢false (sym h))
+plane_XY YZ h = absurd (true≢false (sym h))
 
 pub all_at : (p : ℕ → Bool) (xs : List ℕ) (u : ℕ) → list_all p xs ≡ true → member u xs ≡ true → p u ≡ true
 all_at p [] u h there = absurd (true≢false (sym there))

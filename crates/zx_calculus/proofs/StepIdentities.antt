@@ -5,10 +5,11 @@ use Rattle.zx_model.specs.Phase.{turn}
 use Rattle.zx_model.specs.Bits.{xor, member}
 use Rattle.zx_model.proofs.BitLemmas.{expand}
 use Rattle.zx_model.proofs.Domain.{mul_left_cancel}
+use Rattle.zx_model.proofs.Ring.{two_nonzero}
 use Rattle.zx_calculus.specs.Graph.{Plane, XY, XZ, YZ, Kind, Vertex, Graph, ids, plane_of, joined, with_kinds, WellFormed}
 use Rattle.zx_calculus.specs.Turns.{in_plane, quarter_turned, quarter_turned_in, half_turned, half_turned_in, complemented, complemented_in, pivoted}
 use Rattle.zx_calculus.specs.Sum.{sum}
-use Rattle.zx_calculus.specs.Scalars.{two}
+use Rattle.zx_model.specs.Constants.{two}
 use Rattle.zx_calculus.specs.Complement.{IsLocalComplement, complement_kind}
 use Rattle.zx_calculus.specs.Pivots.{IsPivot, pivot_kind}
 use Rattle.zx_calculus.specs.Gadgets.{IsFuseTwin}
@@ -23,7 +24,7 @@ use Rattle.zx_calculus.proofs.EdgeLists.{edges_ext}
 use Rattle.zx_calculus.proofs.Vertices.{all_below_a_turn, with_kinds_same}
 use Rattle.zx_calculus.proofs.Kept.{step_kept}
 use Rattle.zx_calculus.proofs.Twice.{half_turned-half_turned as half_turned_in-twice, pivoted-pivoted as pivoted_in-twice}
-use Rattle.zx_calculus.proofs.StepSum.{step_sum, two-nonzero}
+use Rattle.zx_calculus.proofs.StepSum.{step_sum}
 
 -- ---- turns of kinds
 
@@ -58,7 +59,7 @@ pivot_allowed_comm g u v =
 
 pub fuse_twin_sum_comm : (g : Graph) (u v : ℕ) (h k : Graph) (x y : List Bool) → WellFormed g → IsFuseTwin g u v h → IsFuseTwin g v u k → length x ≡ length g.inputs → length y ≡ length g.outputs → sum h x y ≡ sum k x y
 fuse_twin_sum_comm g u v h k x y w c d m n =
-    mul_left_cancel two (sum h x y) (sum k x y) two-nonzero
+    mul_left_cancel two (sum h x y) (sum k x y) two_nonzero
     (sym (step_sum g (FuseTwin u v) h x y w c m n) ∙ step_sum g (FuseTwin v u) k x y w d m n)
 
 cross_comm : (r a b c d : Bool) → xor r (xor (a && b) (c && d)) ≡ xor r (xor (c && d) (a && b))

@@ -1,16 +1,16 @@
 -- Every step keeps the sum, with its exact factor; so every run keeps it up to a nonzero scalar.
-use Rattle.std.proofs.Common.{◌≡◌, ◌≢◌, refl, sym, ◌∙◌, ap, subst, ℕ, suc, Bool, true, false, cond, ◌&&◌, eqb, List, [], ◌∷◌, length, arith}
-use borrow.Author.Differences.{up}
+use Rattle.std.proofs.Common.{◌≡◌, ◌≢◌, refl, sym, ◌∙◌, ap, subst, ℕ, suc, Bool, true, false, cond, ◌&&◌, eqb, List, [], ◌∷◌, length}
 use Rattle.zx_model.specs.Phase.{half_turn, quarter_turn}
 use Rattle.zx_model.specs.Number.{Number, zero, one, add, mul, neg}
 use Rattle.zx_model.specs.Proportional.{Proportional}
-use Rattle.zx_model.proofs.Ring.{one_nonzero, zero-mul, mul-zero, expand}
+use Rattle.zx_model.proofs.Ring.{one_nonzero, two_nonzero, zero-mul, mul-zero, expand}
 use Rattle.zx_model.proofs.Powers.{root_power-nonzero}
 use Rattle.zx_model.proofs.Domain.{mul-nonzero}
 use Rattle.zx_model.proofs.ProportionalLemmas.{proportional_of_scaled, proportional_refl, proportional_trans}
 use Rattle.zx_calculus.specs.Graph.{Plane, XY, XZ, YZ, Kind, Vertex, End, Graph, joined, plane_of, phase_of, WellFormed}
 use Rattle.zx_calculus.specs.Sum.{sum}
-use Rattle.zx_calculus.specs.Scalars.{two, i, one_plus_i, one_minus_i, quarter_cost, half_cost, quarter_cost_in, half_cost_in, complement_left_in, complement_right_in, pivot_right_in, delete_half_in, split_left, product_of}
+use Rattle.zx_model.specs.Constants.{two, i}
+use Rattle.zx_calculus.specs.Scalars.{one_plus_i, one_minus_i, quarter_cost, half_cost, quarter_cost_in, half_cost_in, complement_left_in, complement_right_in, pivot_right_in, delete_half_in, split_left, product_of}
 use Rattle.zx_calculus.specs.Boundary.{move_end}
 use Rattle.zx_calculus.specs.Factors.{mark_of, left_factor, right_factor}
 use Rattle.zx_calculus.specs.Steps.{Step, LocalComplement, Delete, Pivot, SplitInput, SplitOutput, DropLone, FuseInto, FuseTwin, IsStep, IsRun}
@@ -32,19 +32,15 @@ step_sum g (DropLone u) h x y w c m n = drop_lone_sum g u h x y w (step_kept g (
 step_sum g (FuseInto u) h x y w c m n = fuse_into_sum g u h x y w (step_kept g (FuseInto u) h w c) c
 step_sum g (FuseTwin u v) h x y w c m n = fuse_twin_sum g u v h w (step_kept g (FuseTwin u v) h w c) c x y
 
-pub two-nonzero : two ≢ zero
-unfolding add
-two-nonzero e = omega (arith, ap (λ (n : Number). up n.c0) e)
-
 -- (1+i)(1-i) is 2
 norm : (j : Number) → mul j j ≡ neg one → mul (add one j) (add one (neg j)) ≡ two
 norm j e = simp (expand, e)
 
 pub one_plus_i-nonzero : one_plus_i ≢ zero
-one_plus_i-nonzero e = two-nonzero (sym (norm i i-squared) ∙ ap (λ z. mul z one_minus_i) e ∙ zero-mul one_minus_i)
+one_plus_i-nonzero e = two_nonzero (sym (norm i i-squared) ∙ ap (λ z. mul z one_minus_i) e ∙ zero-mul one_minus_i)
 
 pub one_minus_i-nonzero : one_minus_i ≢ zero
-one_minus_i-nonzero e = two-nonzero (sym (norm i i-squared) ∙ ap (mul one_plus_i) e ∙ mul-zero one_plus_i)
+one_minus_i-nonzero e = two_nonzero (sym (norm i i-squared) ∙ ap (mul one_plus_i) e ∙ mul-zero one_plus_i)
 
 product_of-nonzero : (near : ℕ → Bool) (cost : Kind → Number) (vs : List Vertex) → ((k : Kind) → cost k ≢ zero) → product_of near cost vs ≢ zero
 product_of-nonzero near cost [] nonzero = one_nonzero
@@ -77,16 +73,16 @@ complement_right-nonzero YZ k = one_nonzero
 pivot_right-nonzero : (plane : Plane) (k : ℕ) → pivot_right_in plane k ≢ zero
 pivot_right-nonzero XY k = one_nonzero
 pivot_right-nonzero XZ k = mul-nonzero _ _ one_minus_i-nonzero (root_power-nonzero k)
-pivot_right-nonzero YZ k = two-nonzero
+pivot_right-nonzero YZ k = two_nonzero
 
 delete_half-nonzero : (plane : Plane) → delete_half_in plane ≢ zero
-delete_half-nonzero XY = two-nonzero
-delete_half-nonzero XZ = mul-nonzero _ _ two-nonzero (root_power-nonzero quarter_turn)
-delete_half-nonzero YZ = two-nonzero
+delete_half-nonzero XY = two_nonzero
+delete_half-nonzero XZ = mul-nonzero _ _ two_nonzero (root_power-nonzero quarter_turn)
+delete_half-nonzero YZ = two_nonzero
 
 split_left-nonzero : (b : Bool) → split_left b ≢ zero
 split_left-nonzero true = one_nonzero
-split_left-nonzero false = two-nonzero
+split_left-nonzero false = two_nonzero
 
 choice-nonzero : (b : Bool) (m n : Number) → m ≢ zero → n ≢ zero → cond b m n ≢ zero
 choice-nonzero true m n p q = p
@@ -95,7 +91,7 @@ choice-nonzero false m n p q = q
 pub left-nonzero : (g : Graph) (s : Step) → left_factor g s ≢ zero
 left-nonzero g (LocalComplement u) = complement_left-nonzero (plane_of g u)
 left-nonzero g (Delete u) = one_nonzero
-left-nonzero g (Pivot u v) = two-nonzero
+left-nonzero g (Pivot u v) = two_nonzero
 left-nonzero g (SplitInput b) = split_left-nonzero (mark_of g.inputs b)
 left-nonzero g (SplitOutput b) = split_left-nonzero (mark_of g.outputs b)
 left-nonzero g (DropLone u) = one_nonzero
@@ -107,15 +103,15 @@ right-nonzero g (LocalComplement u) =
     mul-nonzero _ _ (complement_right-nonzero (plane_of g u) (phase_of g u)) (product_of-nonzero (joined g.edges u) quarter_cost g.vertices (λ k. quarter_cost-nonzero k.plane k.phase))
 right-nonzero g (Delete u) =
     choice-nonzero (eqb (phase_of g u) half_turn) _ _
-    (mul-nonzero _ _ (delete_half-nonzero (plane_of g u)) (product_of-nonzero (joined g.edges u) half_cost g.vertices (λ k. half_cost-nonzero k.plane k.phase))) two-nonzero
+    (mul-nonzero _ _ (delete_half-nonzero (plane_of g u)) (product_of-nonzero (joined g.edges u) half_cost g.vertices (λ k. half_cost-nonzero k.plane k.phase))) two_nonzero
 right-nonzero g (Pivot u v) =
     mul-nonzero _ _ (mul-nonzero _ _ (pivot_right-nonzero (plane_of g u) (phase_of g u)) (pivot_right-nonzero (plane_of g v) (phase_of g v)))
     (product_of-nonzero (λ p. joined g.edges u p && joined g.edges v p) half_cost g.vertices (λ k. half_cost-nonzero k.plane k.phase))
 right-nonzero g (SplitInput b) = one_nonzero
 right-nonzero g (SplitOutput b) = one_nonzero
-right-nonzero g (DropLone u) = two-nonzero
-right-nonzero g (FuseInto u) = two-nonzero
-right-nonzero g (FuseTwin u v) = two-nonzero
+right-nonzero g (DropLone u) = two_nonzero
+right-nonzero g (FuseInto u) = two_nonzero
+right-nonzero g (FuseTwin u v) = two_nonzero
 
 pub step_proportional : (g : Graph) (s : Step) (h : Graph) → WellFormed g → IsStep g s h → Proportional (length g.inputs) (length g.outputs) (sum g) (sum h)
 step_proportional g s h w c =

@@ -8,7 +8,7 @@ use Rattle.zx_calculus.specs.Parity.{masked, quad}
 use Rattle.zx_calculus.specs.Graph.{XY, Kind, Vertex, Graph, ids, kind_of, phase_of, joined, with_kinds, without, is_XY, WellFormed}
 use Rattle.zx_calculus.specs.Sum.{sum, spider, vertex_product}
 use Rattle.zx_calculus.specs.Turns.{with_phase_added}
-use Rattle.zx_calculus.specs.Scalars.{two}
+use Rattle.zx_model.specs.Constants.{two}
 use Rattle.zx_calculus.specs.Gadgets.{IsFuseTwin, fuse_kind}
 use Rattle.zx_calculus.proofs.Ids.{apart_of_member, eqb-self, removed, member-removed_other, masked_front}
 use Rattle.zx_calculus.proofs.Parity.{masked_same}

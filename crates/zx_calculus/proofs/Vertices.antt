@@ -8,8 +8,7 @@ use Rattle.zx_model.proofs.Ring.{sorted, one-mul}
 use Rattle.zx_calculus.specs.Graph.{Kind, Vertex, ids, kind_of, with_kinds, without, insert_vertex}
 use Rattle.zx_calculus.specs.Sum.{factor, vertex_product}
 use Rattle.zx_calculus.specs.Scalars.{product_of}
-use Rattle.zx_calculus.proofs.Ids.{by_test, by_equal, and-left, and-right, or-left, or-right}
-use Rattle.zx_calculus.proofs.Booleans.{or-true}
+use Rattle.zx_calculus.proofs.Ids.{by_test, by_equal, and-left, and-right, or-left, or-right, member-here, member-there}
 use Rattle.zx_calculus.proofs.Forms.{without-absent, at_front}
 use Rattle.zx_calculus.proofs.Turning.{picked_spiders}
 
@@ -34,18 +33,15 @@ at_front-with_kinds f u vs h = ap₂ (λ k r. record { id = u; kind = k } ∷ r)
 pub with_kinds_same : (f g : ℕ → Kind → Kind) (vs : List Vertex) → ((p : ℕ) (k : Kind) → member p (ids vs) ≡ true → f p k ≡ g p k) → with_kinds f vs ≡ with_kinds g vs
 with_kinds_same f g [] h = refl
 with_kinds_same f g (v ∷ vs) h =
-    ap₂ (λ k r. record { id = v.id; kind = k } ∷ r) (h v.id v.kind (first v.id (ids vs)))
-    (with_kinds_same f g vs (λ p k t. h p k (ap (λ b. eqb p v.id || b) t ∙ or-true (eqb p v.id))))
-  where
-    first : (v : ℕ) (vs : List ℕ) → member v (v ∷ vs) ≡ true
-    first v vs = rw (eq-eqb v v refl)
+    ap₂ (λ k r. record { id = v.id; kind = k } ∷ r) (h v.id v.kind (member-here v.id (ids vs)))
+    (with_kinds_same f g vs (λ p k t. h p k (member-there p v.id (ids vs) t)))
+
+pub with_kinds-identity : (vs : List Vertex) → with_kinds (λ p k. k) vs ≡ vs
+with_kinds-identity [] = refl
+with_kinds-identity (v ∷ vs) = ap (λ r. v ∷ r) (with_kinds-identity vs)
 
 pub with_kinds-unchanged : (f : ℕ → Kind → Kind) (vs : List Vertex) → ((p : ℕ) (k : Kind) → member p (ids vs) ≡ true → f p k ≡ k) → with_kinds f vs ≡ vs
-with_kinds-unchanged f vs h = with_kinds_same f (λ p k. k) vs h ∙ identity vs
-  where
-    identity : (vs : List Vertex) → with_kinds (λ p k. k) vs ≡ vs
-    identity [] = refl
-    identity (v ∷ vs) = ap (λ r. v ∷ r) (identity vs)
+with_kinds-unchanged f vs h = with_kinds_same f (λ p k. k) vs h ∙ with_kinds-identity vs
 
 abbrev pub all_below_a_turn : List Vertex → Bool
 all_below_a_turn vs = list_all (λ v. ltb v.kind.phase turn) vs

@@ -1,12 +1,32 @@
 -- Whole sums of small graphs, at all bits.
-use Rattle.std.proofs.Common.{◌≡◌, refl, Bool, true, false, ◌&&◌, [], ◌∷◌}
-use Rattle.zx_model.specs.Number.{add, neg, mul, root_power, sign}
-use Rattle.zx_calculus.specs.Sum.{sum}
-use Rattle.zx_calculus.specs.Tables.{hadamard_wire}
+use Rattle.std.proofs.Common.{◌≡◌, refl, ℕ, Bool, true, false, ◌&&◌, ◌||◌, cond, [], ◌∷◌}
+use Rattle.zx_model.specs.Number.{zero, one, add, neg, mul, root_power, sign}
+use Rattle.zx_model.specs.Bits.{xor}
+use Rattle.zx_model.proofs.Ring.{expand}
+use Rattle.zx_calculus.specs.Sum.{sum, term, spider}
+use Rattle.zx_calculus.specs.Tables.{hadamard_wire, controlled_z, crossing, marked_spider}
+
+-- at each pair of bits
+pub each_two : (P : Bool → Bool → Type 0) → P false false → P false true → P true false → P true true → (x y : Bool) → P x y
+each_two P a b c d false false = a
+each_two P a b c d false true = b
+each_two P a b c d true false = c
+each_two P a b c d true true = d
 
 pub hadamard_sum : (x y : Bool) → sum hadamard_wire (x ∷ []) (y ∷ []) ≡ sign (x && y)
 unfolding add neg mul root_power
-hadamard_sum true true = refl
-hadamard_sum true false = refl
-hadamard_sum false true = refl
-hadamard_sum false false = refl
+hadamard_sum = each_two _ refl refl refl refl
+
+pub marked_sum : (k : ℕ) (x y : Bool) → sum (marked_spider k) (x ∷ []) (y ∷ []) ≡ mul (spider k x) (sign (x && y))
+marked_sum k false false = simp (term, expand)
+marked_sum k false true = simp (term, expand)
+marked_sum k true false = simp (term, expand)
+marked_sum k true true = simp (term, expand)
+
+pub controlled_z_sum : (x0 x1 y0 y1 : Bool) → sum controlled_z (x0 ∷ x1 ∷ []) (y0 ∷ y1 ∷ []) ≡ cond (xor x0 y0 || xor x1 y1) zero (sign (x0 && x1))
+unfolding add neg mul root_power
+controlled_z_sum = each_two _ (each_two _ refl refl refl refl) (each_two _ refl refl refl refl) (each_two _ refl refl refl refl) (each_two _ refl refl refl refl)
+
+pub crossing_sum : (x0 x1 y0 y1 : Bool) → sum crossing (x0 ∷ x1 ∷ []) (y0 ∷ y1 ∷ []) ≡ cond (xor x0 y1 || xor x1 y0) zero one
+unfolding add neg mul root_power
+crossing_sum = each_two _ (each_two _ refl refl refl refl) (each_two _ refl refl refl refl) (each_two _ refl refl refl refl) (each_two _ refl refl refl refl)

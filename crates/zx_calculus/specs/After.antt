@@ -1,5 +1,5 @@
 -- The rewrites as a program: the side condition as a test, and the graph that the rewrite makes.
-use Rattle.std.specs.Prelude.{ℕ, suc, max, Bool, true, false, cond, not, ◌&&◌, ◌||◌, eqb, List, [], ◌∷◌, ◌++◌}
+use Rattle.std.specs.Prelude.{ℕ, suc, max, Bool, true, false, if◌then◌else◌, not, ◌&&◌, ◌||◌, ◌==◌, List, [], ◌∷◌, ◌++◌}
 use Rattle.std.specs.List.{list_all}
 use Rattle.zx_model.specs.Phase.{half_turn}
 use Rattle.zx_model.specs.Bits.{xor, member}
@@ -14,7 +14,8 @@ use Rattle.zx_calculus.specs.Steps.{Step, LocalComplement, Delete, Pivot, SplitI
 -- the edges from v to those listed that are adjacent to it
 abbrev pub edges_from : (ℕ → ℕ → Bool) → ℕ → List ℕ → List Edge
 edges_from adjacent v [] = []
-edges_from adjacent v (w ∷ ws) = cond (adjacent v w) (record { lower = v; higher = w } ∷ edges_from adjacent v ws) (edges_from adjacent v ws)
+edges_from adjacent v (w ∷ ws) =
+    if adjacent v w then record { lower = v; higher = w } ∷ edges_from adjacent v ws else edges_from adjacent v ws
 
 -- each adjacent pair of listed ones once, in the order of the list
 abbrev pub edges_of : (ℕ → ℕ → Bool) → List ℕ → List Edge
@@ -29,9 +30,11 @@ above_all (v ∷ vs) = max (suc v) (above_all vs)
 -- the adjacency after a pivot of u and v
 abbrev pub pivot_adjacent : (ℕ → ℕ → Bool) → ℕ → ℕ → ℕ → ℕ → Bool
 pivot_adjacent a u v p q =
-    cond (eqb p u) (cond (eqb q v) true (a v q))
-    (cond (eqb p v) (cond (eqb q u) true (a u q))
-    (cond (eqb q u) (a v p) (cond (eqb q v) (a u p) (xor (a p q) (xor (a u p && a v q) (a v p && a u q))))))
+    if p == u then (if q == v then true else a v q)
+    else if p == v then (if q == u then true else a u q)
+    else if q == u then a v p
+    else if q == v then a u p
+    else xor (a p q) (xor (a u p && a v q) (a v p && a u q))
 
 abbrev pub is_YZ : Plane → Bool
 is_YZ XY = false
@@ -55,14 +58,14 @@ is_empty (v ∷ vs) = false
 -- the side condition of a rewrite
 abbrev pub allowed : Graph → Step → Bool
 allowed g (LocalComplement u) = member u (ids g.vertices) && is_interior g u
-allowed g (Delete u) = (member u (ids g.vertices) && not (is_XY (plane_of g u))) && (eqb (phase_of g u) 0 || eqb (phase_of g u) half_turn)
+allowed g (Delete u) = (member u (ids g.vertices) && not (is_XY (plane_of g u))) && ((phase_of g u == 0) || (phase_of g u == half_turn))
 allowed g (Pivot u v) = (member u (ids g.vertices) && member v (ids g.vertices)) && ((is_interior g u && is_interior g v) && joined g.edges u v)
 allowed g (SplitInput b) = member b (places g.inputs)
 allowed g (SplitOutput b) = member b (places g.outputs)
 allowed g (DropLone u) = (member u (ids g.vertices) && is_YZ (plane_of g u)) && is_empty (neighbours g u)
 allowed g (FuseInto u) = (member u (ids g.vertices) && is_YZ (plane_of g u)) && is_one_XY g (neighbours g u)
 allowed g (FuseTwin u v) =
-    ((member u (ids g.vertices) && member v (ids g.vertices)) && (not (eqb u v) && (is_YZ (plane_of g u) && is_YZ (plane_of g v))))
+    ((member u (ids g.vertices) && member v (ids g.vertices)) && (not (u == v) && (is_YZ (plane_of g u) && is_YZ (plane_of g v))))
     && (not (joined g.edges u v) && list_all (λ p. not (xor (joined g.edges u p) (joined g.edges v p))) (ids g.vertices))
 
 -- g with other vertices, adjacent as stated

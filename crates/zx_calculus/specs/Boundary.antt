@@ -1,7 +1,7 @@
 -- The split of an end: an identity spider between a vertex and its input or output wire.
 -- Duncan and others (Quantum 4, 279, 2020), on boundary pivots; Backens and others (Quantum 5, 421, 2021), on
 -- inserting identity spiders at inputs and outputs.
-use Rattle.std.specs.Prelude.{◌≡◌, ℕ, Bool, true, false, cond, not, ◌&&◌, ◌||◌, eqb, List, [], ◌∷◌}
+use Rattle.std.specs.Prelude.{◌≡◌, ℕ, Bool, true, false, if◌then◌else◌, not, ◌&&◌, ◌||◌, ◌==◌, List, [], ◌∷◌}
 use Rattle.zx_model.specs.Bits.{member}
 use Rattle.zx_calculus.specs.Graph.{XY, Vertex, End, Graph, ids, joined, places, OrderedEdges, insert_vertex}
 use Rattle.zx_calculus.specs.Turns.{in_plane}
@@ -13,11 +13,11 @@ spider_of_phase_zero new = record { id = new; kind = in_plane XY 0 }
 -- the end at b moves to the new vertex, its mark toggled
 abbrev pub move_end : ℕ → ℕ → List End → List End
 move_end b new [] = []
-move_end b new (e ∷ es) = cond (eqb b e.vertex) (record { vertex = new; hadamard = not e.hadamard }) e ∷ move_end b new es
+move_end b new (e ∷ es) = (if b == e.vertex then record { vertex = new; hadamard = not e.hadamard } else e) ∷ move_end b new es
 
 -- p and q are the two ends of the edge between b and the new vertex
 abbrev pub is_pair : ℕ → ℕ → ℕ → ℕ → Bool
-is_pair b new p q = (eqb p b && eqb q new) || (eqb p new && eqb q b)
+is_pair b new p q = ((p == b) && (q == new)) || ((p == new) && (q == b))
 
 -- h is g after the input at b moved to a new XY vertex of phase 0, adjacent to b alone, with its mark toggled
 pub record IsSplitInput (g : Graph) (b : ℕ) (h : Graph) : Type 0 where

@@ -1,5 +1,5 @@
 -- Local complementation, and the deletion of a vertex of whole half turns.
-use Rattle.std.specs.Prelude.{◌≡◌, ◌≢◌, ◌⊎◌, ℕ, Bool, cond, ◌&&◌, eqb}
+use Rattle.std.specs.Prelude.{◌≡◌, ◌≢◌, ◌⊎◌, ℕ, Bool, if◌then◌else◌, ◌&&◌, ◌==◌}
 use Rattle.zx_model.specs.Phase.{half_turn}
 use Rattle.zx_model.specs.Bits.{xor}
 use Rattle.zx_calculus.specs.Graph.{XY, Kind, Graph, ids, joined, plane_of, phase_of, Live, Interior, OrderedEdges, with_kinds, without}
@@ -7,7 +7,7 @@ use Rattle.zx_calculus.specs.Turns.{quarter_turned, half_turned, complemented}
 
 -- each neighbour of u gets a quarter turn, and u its own change
 abbrev pub complement_kind : ℕ → (ℕ → Bool) → ℕ → Kind → Kind
-complement_kind u near p kind = cond (eqb p u) (complemented kind) (cond (near p) (quarter_turned kind) kind)
+complement_kind u near p kind = if p == u then complemented kind else if near p then quarter_turned kind else kind
 
 -- h is g after a local complement about the interior vertex u: every edge between two neighbours of u is
 -- toggled, each neighbour gets a quarter turn, and u its own change. Duncan and others (Quantum 4, 279, 2020),
@@ -23,7 +23,7 @@ pub record IsLocalComplement (g : Graph) (u : ℕ) (h : Graph) : Type 0 where
 
 -- where the deleted vertex has a half turn, each of its neighbours gets one
 abbrev pub delete_kind : ℕ → (ℕ → Bool) → ℕ → Kind → Kind
-delete_kind phase near p kind = cond (eqb phase half_turn && near p) (half_turned kind) kind
+delete_kind phase near p kind = if (phase == half_turn) && near p then half_turned kind else kind
 
 -- h is g after u went, an XZ or YZ vertex of phase 0 or of a half turn, which then each of its neighbours gets.
 -- Backens and others (Quantum 5, 421, 2021), on eliminating Clifford vertices.

@@ -1,15 +1,16 @@
 -- The exact factors by which each rewrite changes the sum: left times the old sum is right times the new one.
-use Rattle.std.specs.Prelude.{ℕ, Bool, false, cond, ◌&&◌, eqb, List, [], ◌∷◌}
+use Rattle.std.specs.Prelude.{ℕ, Bool, false, if◌then◌else◌, ◌&&◌, ◌==◌, List, [], ◌∷◌}
 use Rattle.zx_model.specs.Phase.{half_turn}
 use Rattle.zx_model.specs.Number.{Number, one, mul}
 use Rattle.zx_calculus.specs.Graph.{End, Graph, joined, plane_of, phase_of}
-use Rattle.zx_calculus.specs.Scalars.{two, quarter_cost, half_cost, complement_left_in, complement_right_in, pivot_right_in, delete_half_in, split_left, product_of}
+use Rattle.zx_model.specs.Constants.{two}
+use Rattle.zx_calculus.specs.Scalars.{quarter_cost, half_cost, complement_left_in, complement_right_in, pivot_right_in, delete_half_in, split_left, product_of}
 use Rattle.zx_calculus.specs.Steps.{Step, LocalComplement, Delete, Pivot, SplitInput, SplitOutput, DropLone, FuseInto, FuseTwin}
 
 -- the mark of the end at b
 abbrev pub mark_of : List End → ℕ → Bool
 mark_of [] b = false
-mark_of (e ∷ es) b = cond (eqb b e.vertex) e.hadamard (mark_of es b)
+mark_of (e ∷ es) b = if b == e.vertex then e.hadamard else mark_of es b
 
 -- each neighbour's quarter turn, and the vertex's own change
 abbrev pub complement_right : Graph → ℕ → Number
@@ -18,7 +19,7 @@ complement_right g u = mul (complement_right_in (plane_of g u) (phase_of g u)) (
 -- with a half turn, each neighbour's half turn too
 abbrev pub delete_right : Graph → ℕ → Number
 delete_right g u =
-    cond (eqb (phase_of g u) half_turn) (mul (delete_half_in (plane_of g u)) (product_of (joined g.edges u) half_cost g.vertices)) two
+    if phase_of g u == half_turn then mul (delete_half_in (plane_of g u)) (product_of (joined g.edges u) half_cost g.vertices) else two
 
 -- each common neighbour's half turn, and the two vertices' own changes
 abbrev pub pivot_right : Graph → ℕ → ℕ → Number

@@ -1,13 +1,13 @@
 -- Phase gadgets: a YZ vertex adds its phase where the labels of its neighbours have odd parity.
 -- Kissinger and van de Wetering, "Reducing T-count with the ZX-calculus" (arXiv 1903.10477, 2020), on phase
 -- gadgets.
-use Rattle.std.specs.Prelude.{◌≡◌, ◌≢◌, ℕ, false, cond, eqb}
+use Rattle.std.specs.Prelude.{◌≡◌, ◌≢◌, ℕ, false, if◌then◌else◌, ◌==◌}
 use Rattle.zx_calculus.specs.Graph.{XY, YZ, Kind, Graph, ids, joined, plane_of, phase_of, Live, OrderedEdges, with_kinds, without}
 use Rattle.zx_calculus.specs.Turns.{with_phase_added}
 
 -- v's phase gains k
 abbrev pub fuse_kind : ℕ → ℕ → ℕ → Kind → Kind
-fuse_kind v k p kind = cond (eqb p v) (with_phase_added k kind) kind
+fuse_kind v k p kind = if p == v then with_phase_added k kind else kind
 
 -- h is g after the YZ vertex u went, which had no neighbours
 pub record IsDropLone (g : Graph) (u : ℕ) (h : Graph) : Type 0 where
@@ -28,7 +28,7 @@ pub record IsFuseInto (g : Graph) (u : ℕ) (h : Graph) : Type 0 where
   pub plane : plane_of g u ≡ YZ
   pub into_there : Live g into
   pub into_plane : plane_of g into ≡ XY
-  pub only_neighbour : (p : ℕ) → joined g.edges u p ≡ eqb p into
+  pub only_neighbour : (p : ℕ) → joined g.edges u p ≡ (p == into)
   pub vertices : h.vertices ≡ with_kinds (fuse_kind into (phase_of g u)) (without u g.vertices)
   pub ordered : OrderedEdges (ids h.vertices) h.edges
   pub edges : (p q : ℕ) → p ≢ u → q ≢ u → joined h.edges p q ≡ joined g.edges p q

@@ -3,7 +3,7 @@
 -- extraction tale" (Quantum 5, 421, 2021), on labelled open graphs; that a vertex carries a plane and a phase together
 -- stands there for a spider with its measurement effect. All edges are Hadamard edges, as in the graph-like
 -- diagrams of Duncan, Kissinger, Perdrix and van de Wetering (Quantum 4, 279, 2020).
-use Rattle.std.specs.Prelude.{◌≡◌, ℕ, Bool, true, false, cond, not, ◌&&◌, ◌||◌, eqb, ltb, List, [], ◌∷◌, filter}
+use Rattle.std.specs.Prelude.{◌≡◌, ℕ, Bool, true, false, if◌then◌else◌, not, ◌&&◌, ◌||◌, ◌==◌, ltb, List, [], ◌∷◌, filter}
 use Rattle.std.specs.List.{list_all}
 use Rattle.zx_model.specs.Phase.{turn}
 use Rattle.zx_model.specs.Bits.{member}
@@ -45,7 +45,7 @@ ids (v ∷ vs) = v.id ∷ ids vs
 -- plane and phase of the vertex with an id
 abbrev pub kind_of : List Vertex → ℕ → Kind
 kind_of [] u = record { plane = XY; phase = 0 }
-kind_of (v ∷ vs) u = cond (eqb u v.id) v.kind (kind_of vs u)
+kind_of (v ∷ vs) u = if u == v.id then v.kind else kind_of vs u
 
 abbrev pub plane_of : Graph → ℕ → Plane
 plane_of g u = (kind_of g.vertices u).plane
@@ -55,7 +55,7 @@ phase_of g u = (kind_of g.vertices u).phase
 
 -- whether an edge joins p and q, in either order
 abbrev pub joins : Edge → ℕ → ℕ → Bool
-joins e p q = (eqb p e.lower && eqb q e.higher) || (eqb q e.lower && eqb p e.higher)
+joins e p q = ((p == e.lower) && (q == e.higher)) || ((q == e.lower) && (p == e.higher))
 
 -- whether some listed edge joins p and q
 abbrev pub joined : List Edge → ℕ → ℕ → Bool
@@ -82,7 +82,7 @@ in_order before [] = true
 in_order before (x ∷ xs) = list_all (before x) xs && in_order before xs
 
 abbrev pub different : ℕ → ℕ → Bool
-different p q = not (eqb p q)
+different p q = not (p == q)
 
 -- each listed id stands once
 abbrev pub Distinct : List ℕ → Type 0
@@ -91,7 +91,7 @@ Distinct (v ∷ vs) = (member v vs ≡ false) × Distinct vs
 
 -- the order of pairs by first, then second part
 abbrev pub edge_before : Edge → Edge → Bool
-edge_before d e = ltb d.lower e.lower || (eqb d.lower e.lower && ltb d.higher e.higher)
+edge_before d e = ltb d.lower e.lower || ((d.lower == e.lower) && ltb d.higher e.higher)
 
 -- edges between listed vertices: each joins two different ones, none stands twice, and they stand in order
 pub record OrderedEdges (vertices : List ℕ) (edges : List Edge) : Type 0 where
@@ -132,9 +132,9 @@ with_kinds change (v ∷ vs) = record { id = v.id; kind = change v.id v.kind } �
 -- the vertices other than u
 abbrev pub without : ℕ → List Vertex → List Vertex
 without u [] = []
-without u (v ∷ vs) = cond (eqb u v.id) (without u vs) (v ∷ without u vs)
+without u (v ∷ vs) = if u == v.id then without u vs else v ∷ without u vs
 
 -- one more vertex, at its place in the order
 abbrev pub insert_vertex : Vertex → List Vertex → List Vertex
 insert_vertex n [] = n ∷ []
-insert_vertex n (v ∷ vs) = cond (ltb n.id v.id) (n ∷ (v ∷ vs)) (v ∷ insert_vertex n vs)
+insert_vertex n (v ∷ vs) = if ltb n.id v.id then n ∷ (v ∷ vs) else v ∷ insert_vertex n vs

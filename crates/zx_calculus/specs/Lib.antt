@@ -10,6 +10,8 @@ pub mod Gadgets
 pub mod Steps
 pub mod Factors
 pub mod Reduced
+pub mod Counts
+pub mod Moves
 pub mod After
 pub mod Worked
 pub mod PhaseGates

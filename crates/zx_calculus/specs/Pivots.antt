@@ -1,5 +1,5 @@
 -- The pivot along an edge.
-use Rattle.std.specs.Prelude.{◌≡◌, ◌≢◌, ℕ, Bool, true, cond, ◌&&◌, ◌||◌, eqb}
+use Rattle.std.specs.Prelude.{◌≡◌, ◌≢◌, ℕ, Bool, true, if◌then◌else◌, ◌&&◌, ◌||◌, ◌==◌}
 use Rattle.zx_model.specs.Bits.{xor}
 use Rattle.zx_calculus.specs.Graph.{Kind, Graph, ids, joined, Live, Interior, OrderedEdges, with_kinds}
 use Rattle.zx_calculus.specs.Turns.{half_turned, pivoted}
@@ -7,7 +7,7 @@ use Rattle.zx_calculus.specs.Turns.{half_turned, pivoted}
 -- u and v get their own change, and each common neighbour a half turn
 abbrev pub pivot_kind : ℕ → ℕ → (ℕ → Bool) → (ℕ → Bool) → ℕ → Kind → Kind
 pivot_kind u v near_u near_v p kind =
-    cond (eqb p u || eqb p v) (pivoted kind) (cond (near_u p && near_v p) (half_turned kind) kind)
+    if (p == u) || (p == v) then pivoted kind else if near_u p && near_v p then half_turned kind else kind
 
 -- h is g after a pivot of the adjacent interior vertices u and v: they exchange their other neighbours, edges
 -- are toggled between the three classes (adjacent to u alone, to v alone, to both), and the common neighbours

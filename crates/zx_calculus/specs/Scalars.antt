@@ -1,15 +1,9 @@
 -- The scalars of the rewrites. With i = w^quarter_turn, 1+i is the root of two times w, and 1-i the root of two
 -- times the inverse of w.
-use Rattle.std.specs.Prelude.{ℕ, Bool, cond, List, [], ◌∷◌}
-use Rattle.zx_model.specs.Phase.{quarter_turn}
+use Rattle.std.specs.Prelude.{ℕ, Bool, if◌then◌else◌, List, [], ◌∷◌}
 use Rattle.zx_model.specs.Number.{Number, one, add, neg, mul, root_power}
+use Rattle.zx_model.specs.Constants.{two, i}
 use Rattle.zx_calculus.specs.Graph.{Plane, XY, XZ, YZ, Kind, Vertex}
-
-abbrev pub two : Number
-two = add one one
-
-abbrev pub i : Number
-i = root_power quarter_turn
 
 abbrev pub one_plus_i : Number
 one_plus_i = add one i
@@ -61,8 +55,8 @@ delete_half_in YZ = two
 -- the product over those vertices that `near` picks
 abbrev pub product_of : (ℕ → Bool) → (Kind → Number) → List Vertex → Number
 product_of near cost [] = one
-product_of near cost (v ∷ vs) = mul (cond (near v.id) (cost v.kind) one) (product_of near cost vs)
+product_of near cost (v ∷ vs) = mul (if near v.id then cost v.kind else one) (product_of near cost vs)
 
 -- of the split of an end: 2 at a plain one, on the sum before
 abbrev pub split_left : Bool → Number
-split_left hadamard = cond hadamard one two
+split_left hadamard = if hadamard then one else two

@@ -3,7 +3,7 @@
 -- vertex with the effect of that plane. Backens and others (Quantum 5, 421, 2021), and
 -- Kissinger and van de Wetering, "Reducing T-count with the ZX-calculus" (arXiv 1903.10477, 2020).
 -- The scalar of the XZ plane is a convention of this project.
-use Rattle.std.specs.Prelude.{ℕ, Bool, cond, ◌&&◌, List, [], ◌∷◌, map, length}
+use Rattle.std.specs.Prelude.{ℕ, Bool, if◌then◌else◌, ◌&&◌, List, [], ◌∷◌, map, length}
 use Rattle.zx_model.specs.Phase.{quarter_turn}
 use Rattle.zx_model.specs.Number.{Number, zero, one, add, mul, root_power, sign}
 use Rattle.zx_model.specs.Bits.{xor}
@@ -12,7 +12,7 @@ use Rattle.zx_calculus.specs.Graph.{Plane, XY, XZ, YZ, Kind, Vertex, Edge, End, 
 
 -- the power w^(k*h)
 abbrev pub spider : ℕ → Bool → Number
-spider k h = cond h (root_power k) one
+spider k h = if h then root_power k else one
 
 -- the factor of a vertex with label h: w^(k*h) in XY, 1+(-1)^h*w^k in YZ, (1+(-1)^h*w^k)*i^h in XZ
 abbrev pub factor_in : Plane → ℕ → Bool → Number
@@ -34,7 +34,7 @@ edge_product (e ∷ es) label = mul (sign (label e.lower && label e.higher)) (ed
 
 -- a plain end gives 1 where label and bit are equal, else 0; one with a Hadamard gives (-1)^(label*bit)
 abbrev pub end_factor : Bool → Bool → Bool → Number
-end_factor hadamard label bit = cond hadamard (sign (label && bit)) (cond (xor label bit) zero one)
+end_factor hadamard label bit = if hadamard then sign (label && bit) else if xor label bit then zero else one
 
 abbrev pub end_product : List End → List Bool → (ℕ → Bool) → Number
 end_product [] bits label = one

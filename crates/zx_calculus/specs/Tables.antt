@@ -1,5 +1,5 @@
 -- Tables of the factors of a vertex, computed apart from the definitions, and sums of small graphs.
-use Rattle.std.specs.Prelude.{ℕ, ℤ, pos, negsuc, List, [], ◌∷◌}
+use Rattle.std.specs.Prelude.{ℕ, ℤ, pos, negsuc, true, List, [], ◌∷◌}
 use Rattle.zx_model.specs.Number.{Number}
 use Rattle.zx_calculus.specs.Graph.{XY, Graph}
 use Rattle.zx_calculus.specs.Worked.{vertex, edge, plain, graph}
@@ -9,10 +9,6 @@ number a b c d = record { c0 = a; c1 = b; c2 = c; c3 = d }
 
 abbrev pub all_phases : List ℕ
 all_phases = 0 ∷ 1 ∷ 2 ∷ 3 ∷ 4 ∷ 5 ∷ 6 ∷ 7 ∷ []
-
--- the root of two: w - w^3
-abbrev pub root_of_two : Number
-root_of_two = number (pos 0) (pos 1) (pos 0) (negsuc 0)
 
 -- labels 0 in XY, at each phase
 abbrev pub factors_XY_0 : List Number
@@ -47,3 +43,15 @@ factors_YZ_1 =
 -- two spiders joined by an edge: a Hadamard gate
 abbrev pub hadamard_wire : Graph
 hadamard_wire = graph (vertex 0 XY 0 ∷ vertex 1 XY 0 ∷ []) (edge 0 1 ∷ []) (plain 0 ∷ []) (plain 1 ∷ [])
+
+-- two wires with an edge between them: a controlled Z
+abbrev pub controlled_z : Graph
+controlled_z = graph (vertex 0 XY 0 ∷ vertex 1 XY 0 ∷ []) (edge 0 1 ∷ []) (plain 0 ∷ plain 1 ∷ []) (plain 0 ∷ plain 1 ∷ [])
+
+-- two wires that cross
+abbrev pub crossing : Graph
+crossing = graph (vertex 0 XY 0 ∷ vertex 1 XY 0 ∷ []) [] (plain 0 ∷ plain 1 ∷ []) (plain 1 ∷ plain 0 ∷ [])
+
+-- a spider with a Hadamard on its output
+abbrev pub marked_spider : ℕ → Graph
+marked_spider k = graph (vertex 0 XY k ∷ []) [] (plain 0 ∷ []) (record { vertex = 0; hadamard = true } ∷ [])

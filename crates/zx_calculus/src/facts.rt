@@ -1,11 +1,11 @@
 //! What the definitions say of single vertices and small graphs, for anyone to check by hand.
 
-ghost use Rattle.std.specs.Prelude.{◌≡◌, ◌<◌, ℕ, Bool, cond, List, [], ◌∷◌, length};
+ghost use Rattle.std.specs.Prelude.{◌≡◌, ◌<◌, ℕ, Bool, if◌then◌else◌, List, [], ◌∷◌, length};
 ghost use Rattle.zx_model.specs.Number.{zero, one, mul, root_power};
 ghost use Rattle.zx_model.specs.Phase.{turn};
 ghost use Rattle.zx_model.specs.Bits.{xor};
 ghost use Rattle.zx_calculus.specs.Graph.{Kind, Graph, WellFormed};
-ghost use Rattle.zx_calculus.specs.Scalars.{two};
+ghost use Rattle.zx_model.specs.Constants.{two};
 ghost use Rattle.zx_calculus.specs.Sum.{sum};
 ghost use Rattle.zx_calculus.specs.Turns.{quarter_turned, half_turned, pivoted};
 ghost use Rattle.zx_calculus.specs.Complement.{IsLocalComplement};
@@ -18,9 +18,9 @@ ghost use Rattle.zx_calculus.specs.PhaseGates.{phase_graph, gadget_graph};
 /// The phase gates, as a spider and as a gadget on one, with its scalar.
 pub fn sums_of_phase_gates()
     ensures spider { (k : ℕ) (x y : Bool) →
-        sum (phase_graph k) (x ∷ []) (y ∷ []) ≡ cond (xor x y) zero (cond x (root_power k) one) }
+        sum (phase_graph k) (x ∷ []) (y ∷ []) ≡ (if xor x y then zero else if x then root_power k else one) }
     ensures gadget { (k : ℕ) (x y : Bool) →
-        sum (gadget_graph k) (x ∷ []) (y ∷ []) ≡ cond (xor x y) zero (mul two (cond x (root_power k) one)) }
+        sum (gadget_graph k) (x ∷ []) (y ∷ []) ≡ (if xor x y then zero else (mul two (if x then root_power k else one))) }
 {}
 
 /// Identities of the field that the rewrites keep to: which turns undo one another, and which rewrites agree.

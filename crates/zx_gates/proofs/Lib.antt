@@ -1,4 +1,5 @@
 pub mod LoweringLemmas
 pub mod MapLemmas
+pub mod Multiples
 pub mod UnitaryLemmas
 pub mod WorkedLemmas

@@ -1,5 +1,5 @@
 -- Lowering keeps the linear map up to a nonzero scalar, and the number of odd phases.
-use Rattle.std.proofs.Common.{◌≡◌, ◌≢◌, ℕ, ◌+◌, ◌<◌, ◌≤◌, take, ◌%◌, Bool, true, false, cond, eqb, List, [], ◌∷◌, ◌++◌, length, set, refl, sym, ap, ap₂, ◌∙◌, arith, pos, negsuc, ℤ}
+use Rattle.std.proofs.Common.{◌≡◌, ◌≢◌, ℕ, ◌+◌, ◌<◌, ◌≤◌, take, ◌%◌, Bool, true, false, cond, eqb, List, [], ◌∷◌, ◌++◌, length, set, refl, sym, ap, ap₂, ◌∙◌, subst, arith, pos, negsuc, ℤ}
 use Rattle.std.specs.List.{All}
 use Rattle.std.proofs.Math.Seq.{take-length}
 use Rattle.std.proofs.lemmas.List.{length-set}
@@ -8,23 +8,24 @@ use Rattle.std.proofs.lemmas.List.Sums.{sum_by-append, sum_by-cons}
 use Rattle.std.proofs.lemmas.Bool.{eqb-true, ne_eqb, eqb-false}
 use Rattle.zx_model.specs.Phase.{turn, half_turn, quarter_turn, sum_of_phases, opposite_phase}
 use Rattle.zx_model.specs.Number.{Number, zero, one, add, neg, mul, root_power}
-use Rattle.zx_model.specs.Bits.{bit}
+use Rattle.zx_model.specs.Constants.{two}
+use Rattle.zx_model.specs.Bits.{bit, one_if}
 use Rattle.zx_model.specs.Proportional.{Proportional}
-use Rattle.zx_model.proofs.Ring.{expand, sorted, one_nonzero, one-mul, mul_assoc, mul_comm, mul-zero, add-neg}
+use Rattle.zx_model.proofs.Ring.{expand, sorted, one_nonzero, two_nonzero, mul_comm, mul-zero, add-neg}
+use Rattle.zx_model.proofs.Odd.{is_odd-sum_half, is_odd-sum_quarter, is_odd-minus_quarter}
 use Rattle.zx_model.proofs.Powers.{root_power-add, root_power-mod, root_power-sum_of_phases, root_power-half_turn, root_power-zero, root_power-nonzero}
 use Rattle.zx_model.proofs.Domain.{mul-nonzero}
-use Rattle.zx_model.proofs.ProportionalLemmas.{proportional_of_scaled}
-use Rattle.zx_gates.specs.Circuit.{odd_count, is_odd_phase}
+use Rattle.zx_gates.specs.Circuit.{gate_odd_phases, is_odd_phase}
 use Rattle.zx_gates.specs.Maps.{Matrix, amp, act, acts, act_on}
-use Rattle.zx_gates.specs.Elementary.{IsElementaryGateOn, difference_of_phases, odd_of, odd_elementary, elementary_odd_count}
+use Rattle.zx_gates.specs.Elementary.{IsElementaryGateOn, difference_of_phases, odd_of, odd_elementary, elementary_odd_phases}
 use Rattle.zx_gates.specs.ElementaryMaps.{unitary, act_elementary, acts_elementary, amp_elementary}
 use Rattle.zx_gates.specs.Lowering.{phase_gates, lowered_gate, lowered}
 use Rattle.zx_gates.specs.declared.gate.Gate.{Gate}
 use Rattle.zx_gates.specs.declared.gate.Gate.TheVariants.{H, Phase, Not}
 use Rattle.zx_gates.specs.declared.elementary.ElementaryGate.{ElementaryGate}
 use Rattle.zx_gates.specs.declared.elementary.ElementaryGate.TheVariants.{U, Cx}
-use Rattle.zx_gates.proofs.MapLemmas.{amp-acts, acts-append, act-phase-zero}
-use Rattle.zx_gates.proofs.WorkedLemmas.{two_nonzero}
+use Rattle.zx_gates.proofs.MapLemmas.{acts-append, act-phase-zero}
+use Rattle.zx_gates.proofs.Multiples.{Multiple, TakesOutFactors, multiple-refl, multiple-then, act_on-factor, proportional_of_multiple}
 use Rattle.zx_gates.proofs.UnitaryLemmas.{HasRows, act_on-rows, turned, mixed, exchanged, set_phase, set_hadamard, set_exchange, at_phase, none_mixed, one_mixed, two_mixed, one_exchanged}
 
 -- ---- the five lists
@@ -52,36 +53,33 @@ by_angle P q a b c none quarter half three other =
     other (eqb-false a 0 not_none) (eqb-false a half_turn not_half)))))
 
 -- ---- odd phases
-pub odd_count-append : (xs ys : List Gate) → odd_count (xs ++ ys) ≡ odd_count xs + odd_count ys
-odd_count-append xs ys = sum_by-append (λ g. cond (is_odd_phase g) 1 0) xs ys
+pub gate_odd_phases-append : (xs ys : List Gate) → gate_odd_phases (xs ++ ys) ≡ gate_odd_phases xs + gate_odd_phases ys
+gate_odd_phases-append xs ys = sum_by-append (λ g. cond (is_odd_phase g) 1 0) xs ys
 
-odd-phase_gates : (q k : ℕ) → odd_count (phase_gates q k) ≡ odd_of k
+odd-phase_gates : (q k : ℕ) → gate_odd_phases (phase_gates q k) ≡ odd_of k
 odd-phase_gates q k =
-    choose (λ gs. odd_count gs ≡ odd_of k) (eqb k 0) _ _ (λ e. ap odd_of (sym (eqb-true k 0 e))) (λ _. omega arith)
+    choose (λ gs. gate_odd_phases gs ≡ odd_of k) (eqb k 0) _ _ (λ e. ap odd_of (sym (eqb-true k 0 e))) (λ _. omega arith)
 
-odd-turn_gates : (q j k : ℕ) → odd_count (turn_gates q j k) ≡ odd_of j + odd_of k
+odd-turn_gates : (q j k : ℕ) → gate_odd_phases (turn_gates q j k) ≡ odd_of j + odd_of k
 odd-turn_gates q j k =
-    omega (arith, odd_count-append (phase_gates q j) (H q ∷ phase_gates q k), odd-phase_gates q j, odd-phase_gates q k)
-
-same_odd : (j k : ℕ) → j % quarter_turn ≡ k % quarter_turn → odd_of j ≡ odd_of k
-same_odd j k e = ap (λ r. cond (eqb r 1) 1 0) e
+    omega (arith, gate_odd_phases-append (phase_gates q j) (H q ∷ phase_gates q k), odd-phase_gates q j, odd-phase_gates q k)
 
 odd-half : (k : ℕ) → odd_of (sum_of_phases k half_turn) ≡ odd_of k
-odd-half k = same_odd (sum_of_phases k half_turn) k (omega arith)
+odd-half k = ap one_if (is_odd-sum_half k)
 
 odd-quarter : (k : ℕ) → odd_of (sum_of_phases k quarter_turn) ≡ odd_of k
-odd-quarter k = same_odd (sum_of_phases k quarter_turn) k (omega arith)
+odd-quarter k = ap one_if (is_odd-sum_quarter k)
 
 odd-minus_quarter : (k : ℕ) → odd_of (sum_of_phases k (opposite_phase quarter_turn)) ≡ odd_of k
-odd-minus_quarter k = same_odd (sum_of_phases k (opposite_phase quarter_turn)) k (omega arith)
+odd-minus_quarter k = ap one_if (is_odd-minus_quarter k)
 
 odd-two_turns : (q a b c : ℕ)
-    → odd_count (turn_gates q (sum_of_phases c (opposite_phase quarter_turn)) a ++ H q ∷ phase_gates q (sum_of_phases b quarter_turn))
+    → gate_odd_phases (turn_gates q (sum_of_phases c (opposite_phase quarter_turn)) a ++ H q ∷ phase_gates q (sum_of_phases b quarter_turn))
     ≡ odd_of a + odd_of b + odd_of c
 odd-two_turns q a b c =
     omega (
       arith,
-      odd_count-append (turn_gates q (sum_of_phases c (opposite_phase quarter_turn)) a) (H q ∷ phase_gates q (sum_of_phases b quarter_turn)),
+      gate_odd_phases-append (turn_gates q (sum_of_phases c (opposite_phase quarter_turn)) a) (H q ∷ phase_gates q (sum_of_phases b quarter_turn)),
       odd-turn_gates q (sum_of_phases c (opposite_phase quarter_turn)) a,
       odd-phase_gates q (sum_of_phases b quarter_turn),
       odd-minus_quarter c,
@@ -91,30 +89,24 @@ odd-two_turns q a b c =
 odd_elementary-other : (q a b c : ℕ) → a ≢ 0 → a ≢ half_turn → odd_elementary (U q a b c) ≡ odd_of a + odd_of b + odd_of c
 odd_elementary-other q a b c not_none not_half = rw (ne_eqb a 0 not_none, ne_eqb a half_turn not_half) refl
 
-odd_lowered_gate : (gate : ElementaryGate) → odd_count (lowered_gate gate) ≡ odd_elementary gate
+odd_lowered_gate : (gate : ElementaryGate) → gate_odd_phases (lowered_gate gate) ≡ odd_elementary gate
 odd_lowered_gate (Cx control target) = refl
 odd_lowered_gate (U q a b c) =
-    by_angle (λ gs. odd_count gs ≡ odd_elementary (U q a b c)) q a b c
+    by_angle (λ gs. gate_odd_phases gs ≡ odd_elementary (U q a b c)) q a b c
     (λ e. rw e (odd-phase_gates q (sum_of_phases b c)))
     (λ e. rw e (omega (arith, odd-turn_gates q (sum_of_phases c half_turn) b, odd-half c)))
-    (λ e. rw e (omega (arith, odd_count-append (phase_gates q (sum_of_phases (difference_of_phases c b) half_turn)) (Not q ∷ []), odd-phase_gates q (sum_of_phases (difference_of_phases c b) half_turn), odd-half (difference_of_phases c b))))
+    (λ e. rw e (omega (arith, gate_odd_phases-append (phase_gates q (sum_of_phases (difference_of_phases c b) half_turn)) (Not q ∷ []), odd-phase_gates q (sum_of_phases (difference_of_phases c b) half_turn), odd-half (difference_of_phases c b))))
     (λ e. rw e (omega (arith, odd-turn_gates q c (sum_of_phases b half_turn), odd-half b)))
     (λ not_none not_half. odd-two_turns q a b c ∙ sym (odd_elementary-other q a b c not_none not_half))
 
-pub odd_lowered : (gates : List ElementaryGate) → odd_count (lowered gates) ≡ elementary_odd_count gates
+pub odd_lowered : (gates : List ElementaryGate) → gate_odd_phases (lowered gates) ≡ elementary_odd_phases gates
 odd_lowered [] = refl
 odd_lowered (gate ∷ gates) =
-    odd_count-append (lowered_gate gate) (lowered gates)
+    gate_odd_phases-append (lowered_gate gate) (lowered gates)
     ∙ ap₂ (λ m n. m + n) (odd_lowered_gate gate) (odd_lowered gates)
     ∙ sym (sum_by-cons odd_elementary gate gates)
 
 -- ---- maps
--- the one map is a number other than 0 times the other, on lists of n bits
-pub record Multiple (n : ℕ) (F G : (List Bool → Number) → List Bool → Number) : Type 0 where
-  pub factor : Number
-  pub nonzero : factor ≢ zero
-  pub equal : (f : List Bool → Number) (x : List Bool) → length x ≡ n → F f x ≡ mul factor (G f x)
-
 acts-phase_gates : (q k : ℕ) (f : List Bool → Number) → acts (phase_gates q k) f ≡ act (Phase q k) f
 acts-phase_gates q k f =
     choose (λ gs. acts gs f ≡ act (Phase q k) f) (eqb k 0) _ _ (λ e. sym (act-phase-zero q f) ∙ ap (λ j. act (Phase q j) f) (sym (eqb-true k 0 e))) (λ _. refl)
@@ -343,7 +335,7 @@ one_without_i_nonzero e = let h : pos 1 ≡ pos 0 = ap (λ (s : Number). s.c0) e
 multiple_unitary : (n q a b c : ℕ) → q < n → Multiple n (act_on (unitary a b c) q) (acts (lowered_gate (U q a b c)))
 multiple_unitary n q a b c below =
     by_angle (λ gs. Multiple n (act_on (unitary a b c) q) (acts gs)) q a b c
-    (λ e. by_phase n q (unitary a b c) (add one one) (sum_of_phases b c) below two_nonzero (rows_of_none a b c e))
+    (λ e. by_phase n q (unitary a b c) two (sum_of_phases b c) below two_nonzero (rows_of_none a b c e))
     (λ e. by_turn n q (unitary a b c) (add one (root_power quarter_turn)) (sum_of_phases c half_turn) b below one_and_i_nonzero (rows_of_quarter a b c e _ refl))
     (λ e. by_exchange n q (unitary a b c) (mul (root_power (b + (half_turn + quarter_turn))) (add (neg one) (neg one))) (sum_of_phases (difference_of_phases c b) half_turn) below
     (mul-nonzero _ _ (root_power-nonzero (b + (half_turn + quarter_turn))) minus_two_nonzero) (rows_of_half a b c e _ refl))
@@ -353,46 +345,19 @@ multiple_unitary n q a b c below =
 
 pub multiple_gate : (n : ℕ) (gate : ElementaryGate) → IsElementaryGateOn n gate → Multiple n (act_elementary gate) (acts (lowered_gate gate))
 multiple_gate n (U q a b c) on = multiple_unitary n q a b c on
-multiple_gate n (Cx control target) on = record {
-  factor = one;
-  nonzero = one_nonzero;
-  equal = λ f x l. sym (one-mul _);
-}
+multiple_gate n (Cx control target) on = multiple-refl n (act_elementary (Cx control target))
 
-factored : (s t d f g : Number) → add (mul s (mul d f)) (mul t (mul d g)) ≡ mul d (add (mul s f) (mul t g))
-factored s t d f g = simp expand
-
--- a factor of what follows is one of what is before
-act_elementary-multiple : (n : ℕ) (gate : ElementaryGate) (d : Number) (f g : List Bool → Number) → ((z : List Bool) → length z ≡ n → f z ≡ mul d (g z))
-    → (x : List Bool) → length x ≡ n → act_elementary gate f x ≡ mul d (act_elementary gate g x)
-act_elementary-multiple n (U q a b c) d f g e x l =
-    ap₂ (λ s t. add (mul (unitary a b c false (bit x q)) s) (mul (unitary a b c true (bit x q)) t)) (e (set x q false) (length-set x q false ∙ l)) (e (set x q true) (length-set x q true ∙ l))
-    ∙ factored (unitary a b c false (bit x q)) (unitary a b c true (bit x q)) d (g (set x q false)) (g (set x q true))
-act_elementary-multiple n (Cx control target) d f g e x l = e _ (length-set x target _ ∙ l)
-
--- a gate in front of a list
-multiple_more : (n : ℕ) (gate : ElementaryGate) (gates : List ElementaryGate)
-    → Multiple n (act_elementary gate) (acts (lowered_gate gate)) → Multiple n (acts_elementary gates) (acts (lowered gates))
-    → Multiple n (acts_elementary (gate ∷ gates)) (acts (lowered (gate ∷ gates)))
-multiple_more n gate gates first rest = record {
-  factor = mul rest.factor first.factor;
-  nonzero = mul-nonzero rest.factor first.factor rest.nonzero first.nonzero;
-  equal = λ f x l.
-      act_elementary-multiple n gate rest.factor (acts_elementary gates f) (acts (lowered gates) f) (λ z lz. rest.equal f z lz) x l
-      ∙ ap (mul rest.factor) (first.equal (acts (lowered gates) f) x l)
-      ∙ sym (mul_assoc rest.factor first.factor (acts (lowered_gate gate) (acts (lowered gates) f) x))
-      ∙ ap (λ h. mul (mul rest.factor first.factor) (h x)) (sym (acts-append (lowered_gate gate) (lowered gates) f));
-}
+act_elementary-factor : (n : ℕ) (gate : ElementaryGate) → TakesOutFactors n (act_elementary gate)
+act_elementary-factor n (U q a b c) = act_on-factor n (unitary a b c) q
+act_elementary-factor n (Cx control target) = λ d f g e x l. e _ (length-set x target _ ∙ l)
 
 -- the map of a list of gates, and that of the list that stands for it
 pub multiple_gates : (n : ℕ) (gates : List ElementaryGate) → All (IsElementaryGateOn n) gates → Multiple n (acts_elementary gates) (acts (lowered gates))
-multiple_gates n [] on = record {
-  factor = one;
-  nonzero = one_nonzero;
-  equal = λ f x l. sym (one-mul (f x));
-}
+multiple_gates n [] on = multiple-refl n (λ f. f)
 multiple_gates n (gate ∷ gates) on =
-    multiple_more n gate gates (multiple_gate n gate (All-head (IsElementaryGateOn n) gate gates on)) (multiple_gates n gates (All-tail (IsElementaryGateOn n) gate gates on))
+    subst (Multiple n (acts_elementary (gate ∷ gates))) (λ i f. sym (acts-append (lowered_gate gate) (lowered gates) f) i)
+    (multiple-then n (act_elementary gate) (acts_elementary gates) (acts (lowered_gate gate)) (acts (lowered gates)) (act_elementary-factor n gate)
+    (multiple_gate n gate (All-head (IsElementaryGateOn n) gate gates on)) (multiple_gates n gates (All-tail (IsElementaryGateOn n) gate gates on)))
 
 -- an entry is what the gates make of the entry of the empty list
 pub amp_elementary-acts : (gates : List ElementaryGate) (x y : List Bool) → amp_elementary gates x y ≡ acts_elementary gates (λ z. amp_elementary [] z y) x
@@ -401,11 +366,7 @@ amp_elementary-acts (gate ∷ gates) x y = λ i. act_elementary gate (λ z. amp_
 
 pub proportional_lowered : (n : ℕ) (gates : List ElementaryGate) → All (IsElementaryGateOn n) gates → Proportional n n (amp_elementary gates) (amp (lowered gates))
 proportional_lowered n gates on =
-    proportional_of_scaled n n (amp_elementary gates) (amp (lowered gates)) one m.factor one_nonzero m.nonzero
-    (λ x y lx ly. one-mul (amp_elementary gates x y) ∙ amp_elementary-acts gates x y ∙ m.equal (λ z. amp [] z y) x lx ∙ ap (mul m.factor) (sym (amp-acts (lowered gates) x y)))
-  where
-    m : Multiple n (acts_elementary gates) (acts (lowered gates))
-    m = multiple_gates n gates on
+    proportional_of_multiple n (amp_elementary gates) (acts_elementary gates) (lowered gates) (amp_elementary-acts gates) (multiple_gates n gates on)
 
 -- what the loop over the gates has done in the end
 pub all_lowered : (list : List Gate) (items gates : List ElementaryGate) (i : ℕ) → list ≡ lowered (take i gates) → items ≡ gates

@@ -8,7 +8,7 @@ use Rattle.zx_gates.specs.Maps.{Matrix, hadamard, phase, exchange, act_on, act}
 use Rattle.zx_gates.specs.declared.gate.Gate.TheVariants.{H, Phase, Not}
 
 -- ---- one bit
--- what a matrix makes of a function of the bit behind it
+-- what a matrix makes of a function of the bit after it
 abbrev pub apply : Matrix → (Bool → Number) → Bool → Number
 apply m g b = add (mul (m false b) (g false)) (mul (m true b) (g true))
 

@@ -49,10 +49,6 @@ on_two_qubits c d p q f g entries = record {
       (λ a a'. two_bits (λ y'. mul c (f (a ∷ a' ∷ []) y') ≡ mul d (g (a ∷ a' ∷ []) y')) y ly (λ b b'. entries a a' b b'));
 }
 
-pub two_nonzero : add one one ≢ zero
-unfolding add
-two_nonzero e = let h : pos 2 ≡ pos 0 = ap (λ x. x.c0) e in cc
-
 pub root_nonzero : root_power 1 ≢ zero
 unfolding root_power mul
 root_nonzero e = let h : pos 1 ≡ pos 0 = ap (λ x. x.c1) e in cc

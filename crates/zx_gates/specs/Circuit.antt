@@ -1,7 +1,7 @@
 -- Circuits as lists of gates, the first to act first.
 use Rattle.std.specs.Prelude.{◌≢◌, ◌≤◌, ◌<◌, ℕ, Bool, false, List}
 use Rattle.std.specs.List.{All, count_by}
-use Rattle.zx_model.specs.Phase.{is_odd}
+use Rattle.zx_model.specs.Phase.{turn, is_odd}
 use Rattle.zx_gates.specs.declared.gate.Gate.{Gate}
 use Rattle.zx_gates.specs.declared.gate.Gate.TheVariants.{H, Phase, Cz, Cx, Not}
 
@@ -15,12 +15,21 @@ abbrev pub most_qubits : ℕ
 most_qubits = 1024
 
 -- the gate's qubits are below the number n and differ, and a phase gate turns by some phase other than 0
+abbrev pub IsOnQubits : ℕ → Gate → Type 0
+IsOnQubits n (H q) = q < n
+IsOnQubits n (Phase q k) = (q < n) × (k ≢ 0)
+IsOnQubits n (Cz q r) = (q < n) × (r < n) × (q ≢ r)
+IsOnQubits n (Cx control target) = (control < n) × (target < n) × (control ≢ target)
+IsOnQubits n (Not q) = q < n
+
+-- a phase is below a whole turn, as that of each `Eighth` is
+abbrev pub IsBelowATurn : Gate → Type 0
+IsBelowATurn (Phase q k) = k < turn
+IsBelowATurn other = Unit {0}
+
+-- what holds of each gate of a circuit of n qubits
 abbrev pub IsGateOn : ℕ → Gate → Type 0
-IsGateOn n (H q) = q < n
-IsGateOn n (Phase q k) = (q < n) × (k ≢ 0)
-IsGateOn n (Cz q r) = (q < n) × (r < n) × (q ≢ r)
-IsGateOn n (Cx control target) = (control < n) × (target < n) × (control ≢ target)
-IsGateOn n (Not q) = q < n
+IsGateOn n gate = IsOnQubits n gate × IsBelowATurn gate
 
 pub record IsCircuit (c : Circuit) : Type 0 where
   pub few_qubits : c.qubits ≤ most_qubits
@@ -35,5 +44,5 @@ is_odd_phase (Cx control target) = false
 is_odd_phase (Not q) = false
 
 -- how many phase gates of odd phases there are
-abbrev pub odd_count : List Gate → ℕ
-odd_count gates = count_by is_odd_phase gates
+abbrev pub gate_odd_phases : List Gate → ℕ
+gate_odd_phases gates = count_by is_odd_phase gates

@@ -2,6 +2,7 @@
 use Rattle.std.specs.Prelude.{◌≢◌, ◌≤◌, ◌<◌, ◌==◌, ◌+◌, ◌%◌, ℕ, List, if◌then◌else◌}
 use Rattle.std.specs.List.{All, sum_by}
 use Rattle.zx_model.specs.Phase.{turn, half_turn, sum_of_phases, opposite_phase, is_odd}
+use Rattle.zx_model.specs.Bits.{one_if}
 use Rattle.zx_gates.specs.Circuit.{most_qubits}
 use Rattle.zx_gates.specs.declared.elementary.Elementary.{Elementary}
 use Rattle.zx_gates.specs.declared.elementary.ElementaryGate.{ElementaryGate}
@@ -22,7 +23,7 @@ difference_of_phases j k = sum_of_phases j (opposite_phase (k % turn))
 
 -- 1 for an odd phase, and 0 for any other
 abbrev pub odd_of : ℕ → ℕ
-odd_of k = if is_odd k then 1 else 0
+odd_of k = one_if (is_odd k)
 
 -- How many phase gates of odd phases a gate costs. Where theta is 0, U is a phase gate of phi + lambda; where theta is a
 -- half turn, it is one of lambda - phi, and a NOT.
@@ -33,5 +34,5 @@ odd_elementary (U q theta phi lambda) =
     odd_of theta + odd_of phi + odd_of lambda
 odd_elementary (Cx control target) = 0
 
-abbrev pub elementary_odd_count : List ElementaryGate → ℕ
-elementary_odd_count gates = sum_by odd_elementary gates
+abbrev pub elementary_odd_phases : List ElementaryGate → ℕ
+elementary_odd_phases gates = sum_by odd_elementary gates

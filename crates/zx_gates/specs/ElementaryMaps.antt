@@ -18,7 +18,7 @@ unitary a b c false true = mul (root_power (c + quarter_turn)) (add (root_power 
 unitary a b c true false = mul (root_power (b + (half_turn + quarter_turn))) (add (root_power a) (neg one))
 unitary a b c true true = mul (root_power (b + c)) (add one (root_power a))
 
--- What follows a gate is a function f of the bits behind it. Before the gate it is this function.
+-- What follows a gate is a function f of the bits after it. Before the gate it is this function.
 abbrev pub act_elementary : ElementaryGate → (List Bool → Number) → List Bool → Number
 act_elementary (U q theta phi lambda) f x = act_on (unitary theta phi lambda) q f x
 -- the control's bit is added to the target's

@@ -33,7 +33,7 @@ exchange true true = zero
 exchange false true = one
 exchange true false = one
 
--- What follows a gate is a function f of the bits behind it. Before the gate it is this function: for a
+-- What follows a gate is a function f of the bits after it. Before the gate it is this function: for a
 -- matrix on one qubit, the sum over what the qubit's bit may become.
 abbrev pub act_on : Matrix → ℕ → (List Bool → Number) → List Bool → Number
 act_on matrix q f x =

@@ -55,7 +55,7 @@ impl Elements {
         }
     }
 
-    /// Adds a gate behind all others. Where memory runs out the list stays as it was.
+    /// Adds a gate after all others. Where memory runs out the list stays as it was.
     pub fn push(&mut self, gate: ElementaryGate) -> Result<(), AllocError>
         ensures ok { OnOk result (self.new ≡ self.old ++ gate ∷ []) }
         ensures err { OnErr result (self.new ≡ self.old) }

@@ -2,14 +2,14 @@
 
 ghost use Rattle.std.specs.Prelude.{◌≡◌, ◌<◌, ◌≤◌, ◌++◌, [], ◌∷◌, length, slice_set, OnOk, OnErr};
 ghost use Rattle.std.specs.List.{remove};
-ghost use Rattle.zx_gates.specs.Circuit.{Circuit, IsCircuit, IsGateOn, most_qubits};
+ghost use Rattle.zx_gates.specs.Circuit.{Circuit, IsCircuit, IsOnQubits, most_qubits};
 
 use crate::gate::{Gate, Qubit};
 use std::alloc::{AllocError, Global};
 use std::marker::Model;
 
 /// A circuit: a number of qubits, at most 1,024, and the gates on them, the first to act first. The qubits
-/// of a gate are below that number and differ, and no phase gate has the phase 0.
+/// of a gate are below that number and differ, no phase gate has the phase 0, and phases are below a whole turn.
 #[derive(Drop)]
 pub struct GateList {
     qubits: Qubit,
@@ -54,9 +54,9 @@ impl GateList {
         &self.gates
     }
 
-    /// Adds a gate behind all others. Where memory runs out the list stays as it was.
+    /// Adds a gate after all others. Where memory runs out the list stays as it was.
     pub fn push(&mut self, gate: Gate) -> Result<(), AllocError>
-        requires { IsGateOn self.old.qubits gate }
+        requires { IsOnQubits self.old.qubits gate }
         ensures qubits { self.new.qubits ≡ self.old.qubits }
         ensures ok { OnOk result (self.new.gates ≡ self.old.gates ++ gate ∷ []) }
         ensures err { OnErr result (self.new ≡ self.old) }
@@ -68,7 +68,7 @@ impl GateList {
     /// Replaces the gate at a place.
     pub fn set(&mut self, i: usize, gate: Gate)
         requires in_range { i < length self.old.gates }
-        requires on_qubits { IsGateOn self.old.qubits gate }
+        requires on_qubits { IsOnQubits self.old.qubits gate }
         ensures { self.new ≡ record self.old { gates = slice_set self.old.gates i gate } }
     {
         self.gates[i] = gate;

@@ -4,8 +4,8 @@ ghost use Rattle.std.specs.Prelude.{◌≡◌, ℕ, List, [], ◌∷◌};
 ghost use Rattle.std.specs.List.{All};
 ghost use Rattle.zx_model.specs.Proportional.{Proportional};
 ghost use Rattle.zx_gates.specs.declared.elementary.ElementaryGate.{ElementaryGate};
-ghost use Rattle.zx_gates.specs.Circuit.{odd_count};
-ghost use Rattle.zx_gates.specs.Elementary.{IsElementaryGateOn, elementary_odd_count};
+ghost use Rattle.zx_gates.specs.Circuit.{gate_odd_phases};
+ghost use Rattle.zx_gates.specs.Elementary.{IsElementaryGateOn, elementary_odd_phases};
 ghost use Rattle.zx_gates.specs.ElementaryMaps.{amp_elementary};
 ghost use Rattle.zx_gates.specs.Lowering.{lowered};
 ghost use Rattle.zx_gates.specs.Maps.{amp, swap_two};
@@ -40,5 +40,5 @@ pub fn worked_maps()
 pub fn lowering_keeps_map_and_odd_phases()
     ensures map { (n : ℕ) (gates : List ElementaryGate) → All (IsElementaryGateOn n) gates →
         Proportional n n (amp_elementary gates) (amp (lowered gates)) }
-    ensures odd { (gates : List ElementaryGate) → odd_count (lowered gates) ≡ elementary_odd_count gates }
+    ensures odd { (gates : List ElementaryGate) → gate_odd_phases (lowered gates) ≡ elementary_odd_phases gates }
 {}

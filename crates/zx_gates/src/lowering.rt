@@ -2,9 +2,9 @@
 
 ghost use Rattle.std.specs.Prelude.{◌≡◌, ◌<◌, ◌++◌, ◌∷◌, IfOk, OnOk};
 ghost use Rattle.zx_model.specs.Proportional.{Proportional};
-ghost use Rattle.zx_gates.specs.Circuit.{odd_count};
+ghost use Rattle.zx_gates.specs.Circuit.{gate_odd_phases};
 ghost use Rattle.zx_gates.specs.Maps.{amp};
-ghost use Rattle.zx_gates.specs.Elementary.{IsElementary, IsElementaryGateOn, elementary_odd_count};
+ghost use Rattle.zx_gates.specs.Elementary.{IsElementary, IsElementaryGateOn, elementary_odd_phases};
 ghost use Rattle.zx_gates.specs.ElementaryMaps.{amp_elementary};
 ghost use Rattle.zx_gates.specs.Lowering.{lowered, lowered_gate, phase_gates};
 ghost use Rattle.zx_gates.specs.declared.elementary.ElementaryGate.TheVariants.{U};
@@ -22,7 +22,7 @@ pub fn lower(alloc: Global, e: &Elementary) -> Result<GateList, AllocError>
     ensures list { IfOk result (λ list. list.gates ≡ lowered e.now.gates) }
     ensures map { IfOk result (λ list.
         Proportional e.now.qubits e.now.qubits (amp_elementary e.now.gates) (amp list.gates)) }
-    ensures odd { IfOk result (λ list. odd_count list.gates ≡ elementary_odd_count e.now.gates) }
+    ensures odd { IfOk result (λ list. gate_odd_phases list.gates ≡ elementary_odd_phases e.now.gates) }
 {
     let mut list = GateList::new(alloc, e.qubits);
     for gate in e.gates.as_slice() {

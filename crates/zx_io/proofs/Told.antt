@@ -34,12 +34,12 @@ Appends-take a b c bytes done count fits p q =
     let short : take count (take (length bytes - done) (drop done bytes)) ≡ take count (drop done bytes) = take-take count (length bytes - done) (drop done bytes) (omega arith) in
     subst (Appends a c) (sym (take-add done count bytes)) (Appends-trans a b c (take done bytes) (take count (drop done bytes)) p (subst (Appends b c) short q))
 
--- count bytes of those from a place on were moved into the front of a buffer: the rest is left
+-- count bytes of those from a place on were moved into the start of a buffer: the rest is left
 pub drop-moved : (bytes buffer moved : List ℕ) (at count : ℕ) → at + count ≤ length bytes
     → moved ≡ take count (take (length bytes - at) (drop at bytes)) → drop at bytes ≡ take count (moved ++ drop count buffer) ++ drop (at + count) bytes
 drop-moved bytes buffer moved at count fits e =
     let short = e ∙ take-take count (length bytes - at) (drop at bytes) (omega arith) in
     let size : length moved ≡ count = ap length short ∙ length-take count (drop at bytes) ∙ grind (arith, common_steps) in
-    let front : take count (moved ++ drop count buffer) ≡ moved = subst (λ n. take n (moved ++ drop count buffer) ≡ moved) size (take-append_seam moved (drop count buffer)) in
-    sym (take-append-drop count (drop at bytes)) ∙ ap (λ l. l ++ drop count (drop at bytes)) (sym short ∙ sym front)
+    let prefix : take count (moved ++ drop count buffer) ≡ moved = subst (λ n. take n (moved ++ drop count buffer) ≡ moved) size (take-append_seam moved (drop count buffer)) in
+    sym (take-append-drop count (drop at bytes)) ∙ ap (λ l. l ++ drop count (drop at bytes)) (sym short ∙ sym prefix)
     ∙ ap (λ l. take count (moved ++ drop count buffer) ++ l) (drop-drop count at bytes)

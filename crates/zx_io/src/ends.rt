@@ -18,7 +18,7 @@ pub trait Source {
     // How many calls failed. It never falls, and stands still at its end.
     ghost faults: { Self → ℕ };
 
-    /// Moves some of the bytes left into the front of `buf`, and answers how many. `Ok(0)` is the end.
+    /// Moves some of the bytes left into the start of `buf`, and answers how many. `Ok(0)` is the end.
     fn read(&mut self, buf: &mut [u8]) -> Result<usize, Failed>
         requires { 0 < length buf.old }
         ensures bound { ReadsAtMost result buf.new }
@@ -39,7 +39,7 @@ pub trait Sink {
     // How many bytes were taken that no flush passed on, where that is told.
     ghost pending: { Self → ℕ } = { λ _. 0 };
 
-    /// Takes some bytes of the front of `piece`, at least one, and answers how many.
+    /// Takes some bytes from the start of `piece`, at least one, and answers how many.
     fn write(&mut self, piece: &[u8]) -> Result<usize, Failed>
         requires { 0 < length piece.now }
         ensures bound { WritesAtMost result piece.now }

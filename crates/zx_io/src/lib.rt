@@ -5,9 +5,9 @@
 pub mod adapters;
 pub mod ends;
 pub mod errors;
-mod front;
 pub mod loops;
 pub mod memory;
+mod moving;
 pub mod never_fail;
 #[cfg(test)]
 mod tests;

@@ -6,7 +6,7 @@ ghost use Rattle.zx_io.specs.Causes.{Rose};
 ghost use Rattle.zx_io.specs.Memory.{SourceInMemory, SinkInMemory, SourceFails, SinkFails, source_moved, source_failed, sink_took, sink_flushed, sink_failed, place_left};
 
 use crate::ends::{Failed, Sink, Source};
-use crate::front::move_front;
+use crate::moving::move_bytes;
 use std::alloc::{AllocError, Global};
 use std::marker::Model;
 
@@ -68,7 +68,7 @@ impl Source for MemSource {
             self.faults = self.faults.saturating_add(1);
             return Err(Failed);
         }
-        let count = move_front(&self.bytes, self.at, self.piece, buf);
+        let count = move_bytes(&self.bytes, self.at, self.piece, buf);
         self.at += count;
         Ok(count)
     }

@@ -5,7 +5,7 @@ ghost use Rattle.std.specs.Io.KnownBytes.{Keeps, ReadConsumes, WriteAppends};
 ghost use Rattle.zx_io.specs.Causes.{Rose};
 
 use crate::ends::{Failed, Sink, Source};
-use crate::front::move_front;
+use crate::moving::move_bytes;
 use std::marker::Model;
 
 /// Bytes in memory, of which each read moves as many as there is room for.
@@ -46,7 +46,7 @@ impl Source for NeverFailSource {
         ensures moved { IfOk result (λ k. buf.new ≡ take k self.old ++ drop k buf.old) }
         ensures rest { IfOk result (λ k. self.new ≡ drop k self.old) }
     {
-        let count = move_front(&self.bytes, self.at, usize::MAX, buf);
+        let count = move_bytes(&self.bytes, self.at, usize::MAX, buf);
         self.at += count;
         Ok(count)
     }

@@ -5,3 +5,4 @@ pub mod Domain
 pub mod ProportionalLemmas
 pub mod BitLemmas
 pub mod SumLemmas
+pub mod Odd

@@ -3,6 +3,7 @@ use Rattle.std.proofs.Common.{◌≡◌, ◌≢◌, sym, ◌∙◌, ap, arith, B
 use lib.IntN.{+ℤ_comm, +ℤ_assoc, +ℤ_idr, +ℤ_invr, neg_ℤ-neg_ℤ, neg_ℤ-+ℤ}
 use borrow.Author.Differences.{up}
 use Rattle.zx_model.specs.Number.{Number, zero, one, add, neg, mul, sign}
+use Rattle.zx_model.specs.Constants.{two}
 use Rattle.zx_model.specs.Bits.{xor}
 use Rattle.zx_model.proofs.Whole.{units, expand as expand_whole}
 
@@ -116,6 +117,10 @@ pub ruleset sorted = (zero-mul, mul-zero, one-mul, mul-one, zero-add, add-zero, 
 
 pub one_nonzero : one ≢ zero
 one_nonzero e = omega (arith, ap (λ (n : Number). up n.c0) e)
+
+pub two_nonzero : two ≢ zero
+unfolding add
+two_nonzero e = omega (arith, ap (λ (n : Number). up n.c0) e)
 
 pub neg-nonzero : (a : Number) → a ≢ zero → neg a ≢ zero
 neg-nonzero a nonzero e = nonzero (sym (neg-neg a) ∙ ap neg e ∙ neg-zero)

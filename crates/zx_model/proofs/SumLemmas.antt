@@ -12,7 +12,7 @@ total-append (x ∷ xs) ys = ap (add x) (total-append xs ys) ∙ sym (add_assoc 
 interchange : (a b c d : Number) → add (add a b) (add c d) ≡ add (add a c) (add b d)
 interchange a b c d = simp sorted
 
-total-map_add : (f g : List Bool → Number) (hs : List (List Bool)) → total (map (λ h. add (f h) (g h)) hs) ≡ add (total (map f hs)) (total (map g hs))
+pub total-map_add : (f g : List Bool → Number) (hs : List (List Bool)) → total (map (λ h. add (f h) (g h)) hs) ≡ add (total (map f hs)) (total (map g hs))
 total-map_add f g [] = sym (zero-add zero)
 total-map_add f g (h ∷ hs) =
     ap (add (add (f h) (g h))) (total-map_add f g hs) ∙ interchange (f h) (g h) (total (map f hs)) (total (map g hs))

@@ -1,5 +1,6 @@
 pub mod Phase
 pub mod Number
+pub mod Constants
 pub mod Bits
 pub mod Sums
 pub mod Proportional

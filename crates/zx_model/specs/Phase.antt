@@ -1,5 +1,5 @@
 -- Phases, counted in eighth turns: whole numbers modulo 8. A phase k stands for the angle k*pi/4.
-use Rattle.std.specs.Prelude.{ℕ, ◌+◌, ◌-◌, ◌%◌, Bool, ◌==◌, IsTrue}
+use Rattle.std.specs.Prelude.{ℕ, ◌+◌, ◌-◌, ◌%◌, Bool, not, ◌==◌, IsTrue}
 
 -- a whole turn
 abbrev pub turn : ℕ
@@ -21,7 +21,7 @@ opposite_phase k = (turn - k) % turn
 
 -- a phase is odd where it isn't a whole number of quarter turns
 abbrev pub is_odd : ℕ → Bool
-is_odd k = (k % quarter_turn == 1)
+is_odd k = not (k % quarter_turn == 0)
 
 abbrev pub IsOdd : ℕ → Type 0
 IsOdd k = IsTrue (is_odd k)

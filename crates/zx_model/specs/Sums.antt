@@ -1,5 +1,5 @@
 -- Sums over bits, and over labels of things that numbers name.
-use Rattle.std.specs.Prelude.{ℕ, zero as nought, suc, Bool, true, false, cond, eqb, List, [], ◌∷◌, ◌++◌, map}
+use Rattle.std.specs.Prelude.{ℕ, zero as nought, suc, Bool, true, false, if◌then◌else◌, ◌==◌, List, [], ◌∷◌, ◌++◌, map}
 use Rattle.zx_model.specs.Number.{Number, zero, add}
 
 -- the sum of a list of numbers
@@ -14,7 +14,7 @@ all_labels (suc n) = map (λ hs. false ∷ hs) (all_labels n) ++ map (λ hs. tru
 
 -- the labels with that of v being h
 abbrev pub labelled : (ℕ → Bool) → ℕ → Bool → ℕ → Bool
-labelled label v h u = cond (eqb u v) h (label u)
+labelled label v h u = if u == v then h else label u
 
 -- f with the label of v summed over both values
 abbrev pub over : ℕ → ((ℕ → Bool) → Number) → (ℕ → Bool) → Number

@@ -63,6 +63,6 @@ impl Eighth {
     pub fn is_odd(self) -> bool
         ensures { IsTrue result ↔ IsOdd self }
     {
-        self.turns % 2 == 1
+        self.turns % 2 != 0
     }
 }

@@ -3,7 +3,7 @@
 
 ghost use Rattle.std.specs.Prelude.{◌≡◌, ◌≢◌, ◌<◌, ℕ, Bool, false, ◌&&◌, List, ◌∷◌, ◌++◌, map, length};
 ghost use Rattle.zx_model.specs.Number.{Number, zero, one, add, neg, mul, root_power, sign};
-ghost use Rattle.zx_model.specs.Phase.{turn, half_turn, sum_of_phases, opposite_phase};
+ghost use Rattle.zx_model.specs.Phase.{turn, half_turn, quarter_turn, sum_of_phases, opposite_phase, is_odd};
 ghost use Rattle.zx_model.specs.Bits.{xor};
 ghost use Rattle.zx_model.specs.Sums.{total, all_labels, label_of, over, sum_over};
 ghost use Rattle.zx_model.specs.Proportional.{Proportional};
@@ -28,6 +28,13 @@ pub fn root_is_a_primitive_eighth_root()
     ensures phases_add { (j k : ℕ) → root_power (sum_of_phases j k) ≡ mul (root_power j) (root_power k) }
     ensures opposite_phases_cancel { (k : ℕ) → k < turn → mul (root_power (opposite_phase k)) (root_power k) ≡ one }
     ensures powers_are_nonzero { (k : ℕ) → root_power k ≢ zero }
+{}
+
+/// Which phases are odd: a phase is even where it is a sum of quarter turns.
+pub fn which_phases_are_odd()
+    ensures quarter { (k : ℕ) → is_odd (sum_of_phases k quarter_turn) ≡ is_odd k }
+    ensures opposite { (k : ℕ) → k < turn → is_odd (opposite_phase k) ≡ is_odd k }
+    ensures sum { (j k : ℕ) → is_odd (sum_of_phases j k) ≡ xor (is_odd j) (is_odd k) }
 {}
 
 /// A product is zero only where a factor is, so that factors other than zero cancel.

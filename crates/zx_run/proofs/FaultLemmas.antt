@@ -10,15 +10,15 @@ use Rattle.qasm_reader.specs.Grammar.{IsProgram, IsSyntaxFault}
 use Rattle.qasm_reader.specs.Syntax.{Placed}
 use Rattle.qasm_reader.proofs.Programs.{one_program, one_fault, program_no_fault, program_or_fault}
 use Rattle.qasm_scope.specs.declared.causes.Cause.{Cause}
-use Rattle.qasm_scope.specs.Meaning.{first_fault, most_calls, scope_behind, gates_behind}
+use Rattle.qasm_scope.specs.Meaning.{first_fault, most_calls, scope_after, gates_after}
 use Rattle.qasm_scope.specs.Scope.{qubit_count}
-use Rattle.qasm_scope.specs.Texts.{IsProgramText}
+use Rattle.qasm_scope.specs.Texts.{IsProgramText, TextMeans}
 use Rattle.zx_run.specs.declared.status.Fault.{Fault}
 use Rattle.zx_run.specs.declared.status.Fault.TheVariants.{TooLong, BadByte, TooDeep, Syntax}
 use Rattle.qasm_reader.specs.declared.error.ParseError.{ParseError}
 use Rattle.qasm_reader.specs.declared.error.ParseError.TheVariants as errors
-use Rattle.zx_run.specs.Parsing.{stopped_by}
-use Rattle.zx_run.specs.declared.stopped.Stopped.TheVariants as stopped
+use Rattle.zx_run.specs.Internal.Parsing.{no_output_by}
+use Rattle.zx_run.specs.declared.no_output.NoOutput.TheVariants as none
 use Rattle.zx_run.specs.FirstFault.{most_bytes, IsFirstFault, IsShortFault, IsAccepted, HasDeepParenthesis, HasSyntaxFault, HasWrongStatement, fault_of}
 
 -- the tokens of a text can't be too deep and not
@@ -99,12 +99,20 @@ pub not_accepted : (text : List ℕ) (f : Fault) (n : ℕ) (gates : List Element
 not_accepted text f n gates (inl a) k = let long = a.0 in let short = k.short in absurd (omega (arith, long, short))
 not_accepted text f n gates (inr a) k = short_not_accepted text f n gates a.1 k
 
-pub one_circuit : (text : List ℕ) (m n : ℕ) (a b : List ElementaryGate) → IsAccepted text m a → IsAccepted text n b → (m ≡ n) × (a ≡ b)
-one_circuit text m n a b k l =
+-- a text means one circuit at most, however many calls it makes
+pub one_meaning : (text : List ℕ) (m n : ℕ) (a b : List ElementaryGate) → TextMeans text m a → TextMeans text n b → (m ≡ n) × (a ≡ b)
+one_meaning text m n a b k l =
     let same = same_program text k.program l.program k.is l.is in (
-      k.means.as_many_qubits ∙ ap (λ program. qubit_count (scope_behind [] program)) same ∙ sym l.means.as_many_qubits,
-      k.means.same_gates ∙ ap (gates_behind []) same ∙ sym l.means.same_gates,
+      k.means.as_many_qubits ∙ ap (λ program. qubit_count (scope_after [] program)) same ∙ sym l.means.as_many_qubits,
+      k.means.same_gates ∙ ap (gates_after []) same ∙ sym l.means.same_gates,
     )
+
+-- a text that is accepted means its circuit
+accepted_means : (text : List ℕ) (n : ℕ) (gates : List ElementaryGate) → IsAccepted text n gates → TextMeans text n gates
+accepted_means text n gates k = record { program = k.program; is = k.is; means = k.means }
+
+pub one_circuit : (text : List ℕ) (m n : ℕ) (a b : List ElementaryGate) → IsAccepted text m a → IsAccepted text n b → (m ≡ n) × (a ≡ b)
+one_circuit text m n a b k l = one_meaning text m n a b (accepted_means text m a k) (accepted_means text n b l)
 
 -- ---- each text is one of both
 abbrev pub IsDecided : List ℕ → Type 0
@@ -113,8 +121,8 @@ IsDecided text = ((qubits : ℕ) × (gates : List ElementaryGate) × IsAccepted 
 program_decided : (text : List ℕ) (program : List Placed) (o : Option (Cause × ℕ)) → first_fault most_calls program ≡ o → length text ≤ most_bytes → IsProgramText text program → IsDecided text
 program_decided text program None e short is =
     inl (
-      qubit_count (scope_behind [] program),
-      gates_behind [] program,
+      qubit_count (scope_after [] program),
+      gates_after [] program,
       record {
         short = short;
         program = program;
@@ -149,14 +157,14 @@ accepted_or_fault text = elim (cases_lt most_bytes (length text)) [
 module _ (text : List ℕ) (tokens : List Lexeme) (short : length text ≤ most_bytes) (cut : IsCut 0 text tokens) where
   pub parse_first : (error : ParseError) → ((at : ℕ) → error ≡ errors.TooDeep at → too_deep tokens ≡ Some at)
       → ((at : ℕ) → error ≡ errors.Syntax at → (too_deep tokens ≡ None) × IsSyntaxFault tokens at)
-      → (fault : Fault) → stopped_by error ≡ stopped.Fault fault → IsFirstFault text fault
+      → (fault : Fault) → no_output_by error ≡ none.Fault fault → IsFirstFault text fault
   parse_first (errors.TooDeep at) deep syntax fault is =
-      let same : TooDeep at ≡ fault = (let h : stopped.Fault (TooDeep at) ≡ stopped.Fault fault = is in cc) in
+      let same : TooDeep at ≡ fault = (let h : none.Fault (TooDeep at) ≡ none.Fault fault = is in cc) in
       inr (short, inr (inl (at, record { tokens = tokens; cut = cut; deep = deep at refl }, sym same)))
   parse_first (errors.Syntax at) deep syntax fault is =
-      let same : Syntax at ≡ fault = (let h : stopped.Fault (Syntax at) ≡ stopped.Fault fault = is in cc) in
+      let same : Syntax at ≡ fault = (let h : none.Fault (Syntax at) ≡ none.Fault fault = is in cc) in
       inr (short, inr (inr (inl (at, record { tokens = tokens; cut = cut; shallow = (syntax at refl).0; fault = (syntax at refl).1 }, sym same))))
-  parse_first errors.NoMemory deep syntax fault is = absurd (let h : stopped.NoMemory ≡ stopped.Fault fault = is in cc)
+  parse_first errors.NoMemory deep syntax fault is = absurd (let h : none.NoMemory ≡ none.Fault fault = is in cc)
 
 -- equal errors in answers are equal
 pub Err_same : {T E : Type 0} {a b : E} → ◌≡◌ {A = Result T E} (Err a) (Err b) → a ≡ b

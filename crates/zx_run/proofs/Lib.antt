@@ -1,7 +1,6 @@
 pub mod PhaseLemmas
 pub mod MergeLemmas
 pub mod MergeStepLemmas
-pub mod OutcomeLemmas
 pub mod OptimiseLemmas
 pub mod FaultLemmas
 pub mod AnswerLemmas

@@ -1,39 +1,30 @@
 -- Merging of phase gates keeps the linear map and the other gates, and makes nothing larger.
-use Rattle.std.proofs.Common.{◌≡◌, ◌⊎◌, ℕ, ◌+◌, ◌≤◌, Bool, true, false, not, cond, ◌&&◌, eqb, List, [], ◌∷◌, ◌++◌, length, refl, sym, ap, ◌∙◌, inl, inr, arith, length-append, Option, None, Some, is_some}
-use Rattle.std.proofs.lemmas.List.Sums.{sum_by-append}
+use Rattle.std.proofs.Common.{◌≡◌, ◌⊎◌, ℕ, Bool, true, false, not, cond, ◌&&◌, eqb, List, [], ◌∷◌, ◌++◌, length, refl, sym, ap, ◌∙◌, inl, inr, arith, length-append, Option, None, Some, is_some}
 use Rattle.std.proofs.lemmas.List.Elements.{filter-append}
 use Rattle.std.proofs.lemmas.List.Filters.{length-filter_both, sum_by-filter_both}
 use Rattle.std.proofs.lemmas.Bool.{eqb-true, and_from, and_parts, not_from_false, not-true}
-use Rattle.std.proofs.lemmas.Bool.Decides.{eqb_tells, nat_tests}
+use Rattle.std.proofs.lemmas.Bool.Decides.{eqb_tells}
 use Rattle.std.specs.List.{filter}
-use Rattle.zx_model.specs.Phase.{sum_of_phases, is_odd}
+use Rattle.zx_model.specs.Phase.{sum_of_phases}
 use Rattle.zx_model.specs.Number.{Number}
+use Rattle.zx_model.proofs.Odd.{one_if-odd_sum}
 use Rattle.zx_gates.specs.declared.gate.Gate.{Gate}
 use Rattle.zx_gates.specs.declared.gate.Gate.TheVariants.{H, Phase, Cz, Cx, Not}
-use Rattle.zx_gates.specs.Circuit.{odd_count, is_odd_phase}
+use Rattle.zx_gates.specs.Circuit.{is_odd_phase}
 use Rattle.zx_gates.specs.Counting.{is_phase}
 use Rattle.zx_gates.specs.Maps.{act, acts}
+use Rattle.zx_gates.proofs.LoweringLemmas.{gate_odd_phases-append}
 use Rattle.zx_gates.proofs.MapLemmas.{acts-append, act-phase-phase, act-phase-zero}
-use Rattle.zx_run.specs.Merging.{MergesTo, is_on, next_is_phase, is_apart, is_settled, others}
-use Rattle.zx_run.specs.MergeSteps.{is_idle, place_of_phase}
+use Rattle.zx_run.specs.Merging.{is_on, next_is_phase, is_apart, is_settled}
+use Rattle.zx_run.specs.Internal.Merges.{MergesTo, others}
+use Rattle.zx_run.specs.Internal.MergeSteps.{is_idle, place_of_phase}
 use Rattle.zx_run.proofs.PhaseLemmas.{AreOff, acts-phase-past}
-
--- a phase counts one where it is odd
-odd_value : ℕ → ℕ
-odd_value k = cond (is_odd k) 1 0
-
-odd_value-sum : (j k : ℕ) → odd_value (sum_of_phases j k) ≤ odd_value j + odd_value k
-unfolding odd_value
-odd_value-sum j k = grind (arith, nat_tests)
-
-odd_count-append : (xs ys : List Gate) → odd_count (xs ++ ys) ≡ odd_count xs + odd_count ys
-odd_count-append xs ys = sum_by-append (λ g. cond (is_odd_phase g) 1 0) xs ys
 
 -- a gate stands before the others
 pub merges-cons : (read merged : List Gate) (gate : Gate) → is_apart gate merged ≡ true → MergesTo read merged → MergesTo (gate ∷ read) (gate ∷ merged)
 merges-cons read merged gate apart m = record {
   map = λ f. ap (act gate) (m.map f);
-  odd = omega (arith, m.odd, odd_count-append (gate ∷ []) read, odd_count-append (gate ∷ []) merged);
+  odd = omega (arith, m.odd, gate_odd_phases-append (gate ∷ []) read, gate_odd_phases-append (gate ∷ []) merged);
   length = omega (arith, m.length);
   settled = and_from _ _ apart m.settled;
   others = ap (λ gates. cond (not (is_phase gate)) (gate ∷ gates) gates) m.others;
@@ -55,12 +46,12 @@ pub no_next : (q : ℕ) (gates : List Gate) → place_of_phase q gates ≡ None 
 no_next q gates none = next_is_some q gates ∙ ap is_some none
 
 -- another phase at a place changes no place
-pub place-turned : (r q j k : ℕ) (front back : List Gate) → place_of_phase r (front ++ Phase q j ∷ back) ≡ place_of_phase r (front ++ Phase q k ∷ back)
+pub place-turned : (r q j k : ℕ) (prefix back : List Gate) → place_of_phase r (prefix ++ Phase q j ∷ back) ≡ place_of_phase r (prefix ++ Phase q k ∷ back)
 place-turned r q j k [] back = refl
-place-turned r q j k (gate ∷ front) back =
-    ap (λ n. cond (is_on r gate) (cond (is_phase gate) (Some n) None) (place_of_phase r (front ++ Phase q j ∷ back)))
-    (length-append front (Phase q j ∷ back) ∙ sym (length-append front (Phase q k ∷ back)))
-    ∙ ap (cond (is_on r gate) (cond (is_phase gate) (Some (length (front ++ Phase q k ∷ back))) None)) (place-turned r q j k front back)
+place-turned r q j k (gate ∷ prefix) back =
+    ap (λ n. cond (is_on r gate) (cond (is_phase gate) (Some n) None) (place_of_phase r (prefix ++ Phase q j ∷ back)))
+    (length-append prefix (Phase q j ∷ back) ∙ sym (length-append prefix (Phase q k ∷ back)))
+    ∙ ap (cond (is_on r gate) (cond (is_phase gate) (Some (length (prefix ++ Phase q k ∷ back))) None)) (place-turned r q j k prefix back)
 
 apart-turned : (gate : Gate) (xs ys : List Gate) → ((r : ℕ) → place_of_phase r xs ≡ place_of_phase r ys) → is_apart gate xs ≡ is_apart gate ys
 apart-turned (H p) xs ys e = refl
@@ -69,49 +60,48 @@ apart-turned (Cz p r) xs ys e = refl
 apart-turned (Cx c t) xs ys e = refl
 apart-turned (Not p) xs ys e = refl
 
-settled-turned : (q j k : ℕ) (front back : List Gate) → is_settled (front ++ Phase q j ∷ back) ≡ is_settled (front ++ Phase q k ∷ back)
+settled-turned : (q j k : ℕ) (prefix back : List Gate) → is_settled (prefix ++ Phase q j ∷ back) ≡ is_settled (prefix ++ Phase q k ∷ back)
 settled-turned q j k [] back = refl
-settled-turned q j k (gate ∷ front) back =
-    ap (λ b. b && is_settled (front ++ Phase q j ∷ back)) (apart-turned gate _ _ (λ r. place-turned r q j k front back))
-    ∙ ap (λ b. is_apart gate (front ++ Phase q k ∷ back) && b) (settled-turned q j k front back)
+settled-turned q j k (gate ∷ prefix) back =
+    ap (λ b. b && is_settled (prefix ++ Phase q j ∷ back)) (apart-turned gate _ _ (λ r. place-turned r q j k prefix back))
+    ∙ ap (λ b. is_apart gate (prefix ++ Phase q k ∷ back) && b) (settled-turned q j k prefix back)
 
-others-turned : (q j k : ℕ) (front back : List Gate) → others (front ++ Phase q j ∷ back) ≡ others (front ++ Phase q k ∷ back)
-others-turned q j k front back =
-    filter-append (λ gate. not (is_phase gate)) front (Phase q j ∷ back) ∙ sym (filter-append (λ gate. not (is_phase gate)) front (Phase q k ∷ back))
+others-turned : (q j k : ℕ) (prefix back : List Gate) → others (prefix ++ Phase q j ∷ back) ≡ others (prefix ++ Phase q k ∷ back)
+others-turned q j k prefix back =
+    filter-append (λ gate. not (is_phase gate)) prefix (Phase q j ∷ back) ∙ sym (filter-append (λ gate. not (is_phase gate)) prefix (Phase q k ∷ back))
 
 -- a phase gate is added to the next one on its qubit
-pub merges-turned : (read front back : List Gate) (q j k : ℕ) → AreOff q front
-    → MergesTo read (front ++ Phase q j ∷ back) → MergesTo (Phase q k ∷ read) (front ++ Phase q (sum_of_phases k j) ∷ back)
-unfolding odd_value
-merges-turned read front back q j k off m =
+pub merges-turned : (read prefix back : List Gate) (q j k : ℕ) → AreOff q prefix
+    → MergesTo read (prefix ++ Phase q j ∷ back) → MergesTo (Phase q k ∷ read) (prefix ++ Phase q (sum_of_phases k j) ∷ back)
+merges-turned read prefix back q j k off m =
     let sum : ℕ = sum_of_phases k j in
     record {
-      map = λ f. ap (act (Phase q k)) (m.map f ∙ acts-append front (Phase q j ∷ back) f)
-          ∙ acts-phase-past q k front (act (Phase q j) (acts back f)) off
-          ∙ ap (acts front) (act-phase-phase q k j (acts back f))
-          ∙ sym (acts-append front (Phase q sum ∷ back) f);
+      map = λ f. ap (act (Phase q k)) (m.map f ∙ acts-append prefix (Phase q j ∷ back) f)
+          ∙ acts-phase-past q k prefix (act (Phase q j) (acts back f)) off
+          ∙ ap (acts prefix) (act-phase-phase q k j (acts back f))
+          ∙ sym (acts-append prefix (Phase q sum ∷ back) f);
       odd = omega (
         arith,
         m.odd,
-        odd_count-append (Phase q k ∷ []) read,
-        odd_count-append front (Phase q j ∷ back),
-        odd_count-append (Phase q j ∷ []) back,
-        odd_count-append front (Phase q sum ∷ back),
-        odd_count-append (Phase q sum ∷ []) back,
-        odd_value-sum k j,
+        gate_odd_phases-append (Phase q k ∷ []) read,
+        gate_odd_phases-append prefix (Phase q j ∷ back),
+        gate_odd_phases-append (Phase q j ∷ []) back,
+        gate_odd_phases-append prefix (Phase q sum ∷ back),
+        gate_odd_phases-append (Phase q sum ∷ []) back,
+        one_if-odd_sum k j,
       );
-      length = omega (arith, m.length, length-append front (Phase q j ∷ back), length-append front (Phase q sum ∷ back));
-      settled = settled-turned q sum j front back ∙ m.settled;
-      others = others-turned q sum j front back ∙ m.others;
+      length = omega (arith, m.length, length-append prefix (Phase q j ∷ back), length-append prefix (Phase q sum ∷ back));
+      settled = settled-turned q sum j prefix back ∙ m.settled;
+      others = others-turned q sum j prefix back ∙ m.others;
     }
 
 -- the next phase gate on a qubit, in its list
 pub record NextPhase (q : ℕ) (gates : List Gate) (place : ℕ) : Type 0 where
-  pub front : List Gate
+  pub prefix : List Gate
   pub back : List Gate
   pub phase : ℕ
-  pub splits : gates ≡ front ++ Phase q phase ∷ back
-  pub off : AreOff q front
+  pub splits : gates ≡ prefix ++ Phase q phase ∷ back
+  pub off : AreOff q prefix
   pub at : place ≡ length back
 
 phase_is : (q : ℕ) (gate : Gate) → is_on q gate ≡ true → is_phase gate ≡ true → (k : ℕ) × (gate ≡ Phase q k)
@@ -126,11 +116,11 @@ next_in : (q : ℕ) (gate : Gate) (gates : List Gate) (place : ℕ) (on turns : 
     → (place_of_phase q gates ≡ Some place → NextPhase q gates place) → NextPhase q (gate ∷ gates) place
 next_in q gate gates place true true on turns is later =
     let w = phase_is q gate on turns in
-    record { front = []; back = gates; phase = w.0; splits = ap (λ g. g ∷ gates) w.1; off = tt; at = cc }
+    record { prefix = []; back = gates; phase = w.0; splits = ap (λ g. g ∷ gates) w.1; off = tt; at = cc }
 next_in q gate gates place true false on turns is later = absurd (let h : ◌≡◌ {A = Option ℕ} None (Some place) = is in cc)
 next_in q gate gates place false b on turns is later =
     let next = later is in
-    record { front = gate ∷ next.front; back = next.back; phase = next.phase; splits = ap (λ gs. gate ∷ gs) next.splits; off = (on, next.off); at = next.at }
+    record { prefix = gate ∷ next.prefix; back = next.back; phase = next.phase; splits = ap (λ gs. gate ∷ gs) next.splits; off = (on, next.off); at = next.at }
 
 pub next_phase : (q : ℕ) (gates : List Gate) (place : ℕ) → place_of_phase q gates ≡ Some place → NextPhase q gates place
 next_phase q [] place is = absurd (let h : ◌≡◌ {A = Option ℕ} None (Some place) = is in cc)

@@ -4,11 +4,12 @@ use Rattle.std.proofs.lemmas.List.{get_or-set_other}
 use Rattle.std.proofs.lemmas.Bool.{eqb-false, or_parts}
 use Rattle.zx_model.specs.Number.{Number, add, mul, sign}
 use Rattle.zx_model.specs.Bits.{bit, xor}
-use Rattle.zx_model.proofs.Ring.{expand, mul_left_comm}
+use Rattle.zx_model.proofs.Ring.{mul_left_comm}
 use Rattle.zx_gates.specs.Maps.{Matrix, hadamard, exchange, phase, act, acts, act_on}
 use Rattle.zx_gates.specs.declared.gate.Gate.{Gate}
 use Rattle.zx_gates.specs.declared.gate.Gate.TheVariants.{H, Phase, Cz, Cx, Not}
 use Rattle.zx_gates.proofs.MapLemmas.{act-phase}
+use Rattle.zx_gates.proofs.Multiples.{factored}
 use Rattle.zx_run.specs.Merging.{is_on}
 
 -- no gate is on the qubit
@@ -20,9 +21,6 @@ AreOff q (gate ∷ gates) = (is_on q gate ≡ false) × AreOff q gates
 abbrev scaled : ℕ → (Bool → Number) → (List Bool → Number) → List Bool → Number
 scaled q s f x = mul (s (bit x q)) (f x)
 
-distributed : (s a b u v : Number) → mul s (add (mul a u) (mul b v)) ≡ add (mul a (mul s u)) (mul b (mul s v))
-distributed s a b u v = simp expand
-
 -- writing another bit leaves the number
 scaled-set : (q p : ℕ) (s : Bool → Number) (f : List Bool → Number) (x : List Bool) (b : Bool) → eqb p q ≡ false
     → mul (s (bit x q)) (f (set x p b)) ≡ scaled q s f (set x p b)
@@ -32,7 +30,7 @@ scaled-set q p s f x b off =
 scaled-act_on : (q p : ℕ) (s : Bool → Number) (m : Matrix) (f : List Bool → Number) (x : List Bool) → eqb p q ≡ false
     → scaled q s (act_on m p f) x ≡ act_on m p (scaled q s f) x
 scaled-act_on q p s m f x off =
-    distributed (s (bit x q)) (m false (bit x p)) (m true (bit x p)) (f (set x p false)) (f (set x p true))
+    sym (factored (m false (bit x p)) (m true (bit x p)) (s (bit x q)) (f (set x p false)) (f (set x p true)))
     ∙ ap (λ t. add (mul (m false (bit x p)) t) (mul (m true (bit x p)) (mul (s (bit x q)) (f (set x p true))))) (scaled-set q p s f x false off)
     ∙ ap (λ t. add (mul (m false (bit x p)) (scaled q s f (set x p false))) (mul (m true (bit x p)) t)) (scaled-set q p s f x true off)
 

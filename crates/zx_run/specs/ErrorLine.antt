@@ -10,6 +10,7 @@ abbrev pub place_text : Option ℕ → List ℕ
 place_text None = []
 place_text (Some at) = codes " at " ++ decimal at
 
+-- a name, and the place after it
 abbrev pub at_place : List ℕ → ℕ → List ℕ
 at_place name at = name ++ place_text (Some at)
 
@@ -37,7 +38,7 @@ fault_text (TooManyGates at) = at_place (codes "19 TooManyGates") at
 fault_text (SecondVersion at) = at_place (codes "20 SecondVersion") at
 fault_text (BadLine line) = at_place (codes "21 BadLine") line
 
--- the line, with its line end; none for an answer that is no refusal
+-- the line, with its line end; Done and No have none
 abbrev pub error_line : Status → List ℕ
 error_line Done = []
 error_line (Refused fault) = codes "zxopt: fault " ++ fault_text fault ++ codes "\n"
@@ -46,12 +47,3 @@ error_line ReadFault = codes "zxopt: read fault\n"
 error_line WriteFault = codes "zxopt: write fault\n"
 error_line NoMemory = codes "zxopt: no memory\n"
 error_line No = []
-
-abbrev pub IsNoRefusal : Status → Type 0
-IsNoRefusal (Refused fault) = ⊥
-IsNoRefusal Done = Unit {0}
-IsNoRefusal Usage = Unit {0}
-IsNoRefusal ReadFault = Unit {0}
-IsNoRefusal WriteFault = Unit {0}
-IsNoRefusal NoMemory = Unit {0}
-IsNoRefusal No = Unit {0}

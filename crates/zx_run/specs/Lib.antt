@@ -1,8 +1,7 @@
 pub mod Command
 pub mod Merging
-pub mod MergeSteps
 pub mod FirstFault
 pub mod Optimising
 pub mod Outcome
 pub mod ErrorLine
-pub mod Parsing
+pub mod Internal

@@ -1,12 +1,8 @@
 -- Phase gates on one qubit with only gates of other qubits between them become one.
-use Rattle.std.specs.Prelude.{◌≡◌, ◌≤◌, ◌==◌, ◌&&◌, ◌||◌, not, ℕ, Bool, true, false, IsTrue, List, [], ◌∷◌, length, if◌then◌else◌}
-use Rattle.std.specs.List.{filter}
-use Rattle.zx_model.specs.Number.{Number}
+use Rattle.std.specs.Prelude.{◌==◌, ◌&&◌, ◌||◌, not, ℕ, Bool, true, false, List, [], ◌∷◌, if◌then◌else◌}
 use Rattle.zx_gates.specs.declared.gate.Gate.{Gate}
 use Rattle.zx_gates.specs.declared.gate.Gate.TheVariants.{H, Phase, Cz, Cx, Not}
-use Rattle.zx_gates.specs.Circuit.{odd_count}
 use Rattle.zx_gates.specs.Counting.{is_phase}
-use Rattle.zx_gates.specs.Maps.{acts}
 
 -- whether a gate is on the qubit
 abbrev pub is_on : ℕ → Gate → Bool
@@ -21,7 +17,7 @@ abbrev pub next_is_phase : ℕ → List Gate → Bool
 next_is_phase q [] = false
 next_is_phase q (gate ∷ gates) = if is_on q gate then is_phase gate else next_is_phase q gates
 
--- whether a gate, with these behind it, is no phase gate that a phase gate follows on its qubit
+-- whether a gate, with these after it, is no phase gate that a phase gate follows on its qubit
 abbrev pub is_apart : Gate → List Gate → Bool
 is_apart (Phase q k) gates = not (next_is_phase q gates)
 is_apart other gates = true
@@ -30,15 +26,3 @@ is_apart other gates = true
 abbrev pub is_settled : List Gate → Bool
 is_settled [] = true
 is_settled (gate ∷ gates) = is_apart gate gates && is_settled gates
-
--- the gates that are no phase gates
-abbrev pub others : List Gate → List Gate
-others gates = filter (λ gate. not (is_phase gate)) gates
-
--- the linear map stays, nothing grows, no two phase gates are left to merge, and all other gates stay in their order
-pub record MergesTo (read merged : List Gate) : Type 0 where
-  pub map : (f : List Bool → Number) → acts read f ≡ acts merged f
-  pub odd : odd_count merged ≤ odd_count read
-  pub length : length merged ≤ length read
-  pub settled : IsTrue (is_settled merged)
-  pub others : others merged ≡ others read

@@ -2,8 +2,8 @@
 use Rattle.std.specs.Prelude.{◌≡◌, ◌≤◌, IsTrue, ℕ, List}
 use Rattle.zx_model.specs.Proportional.{Proportional}
 use Rattle.zx_gates.specs.declared.elementary.ElementaryGate.{ElementaryGate}
-use Rattle.zx_gates.specs.Circuit.{Circuit, odd_count}
-use Rattle.zx_gates.specs.Elementary.{elementary_odd_count}
+use Rattle.zx_gates.specs.Circuit.{Circuit, gate_odd_phases}
+use Rattle.zx_gates.specs.Elementary.{elementary_odd_phases}
 use Rattle.zx_gates.specs.ElementaryMaps.{amp_elementary}
 use Rattle.zx_gates.specs.Maps.{amp}
 use Rattle.zx_run.specs.Merging.{is_settled}
@@ -13,5 +13,5 @@ use Rattle.zx_run.specs.Merging.{is_settled}
 pub record Optimises (qubits : ℕ) (read : List ElementaryGate) (written : Circuit) : Type 0 where
   pub as_many_qubits : written.qubits ≡ qubits
   pub map : Proportional qubits qubits (amp_elementary read) (amp written.gates)
-  pub odd : odd_count written.gates ≤ elementary_odd_count read
+  pub odd : gate_odd_phases written.gates ≤ elementary_odd_phases read
   pub settled : IsTrue (is_settled written.gates)

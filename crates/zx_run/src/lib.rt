@@ -4,11 +4,11 @@
 mod error_line;
 pub mod laws;
 mod merge;
+mod no_output;
 mod optimise;
 mod program;
 mod reader;
 pub mod status;
-mod stopped;
 #[cfg(test)]
 mod tests;
 mod words;

@@ -3,9 +3,10 @@
 ghost use Rattle.std.specs.Prelude.{◌≡◌, ◌<◌, ◌≤◌, ◌∷◌, [], not, ℕ, List, None, length, reverse, get_or, if◌then◌else◌, IfOk, OnOk};
 ghost use Rattle.std.specs.List.{All, filter};
 ghost use Rattle.zx_gates.specs.declared.gate.Gate.{Gate};
-ghost use Rattle.zx_gates.specs.Circuit.{IsGateOn, most_qubits};
-ghost use Rattle.zx_run.specs.Merging.{MergesTo, is_on};
-ghost use Rattle.zx_run.specs.MergeSteps.{is_idle, turned, ArePlaces, IsKeptOn, IsMerging};
+ghost use Rattle.zx_gates.specs.Circuit.{IsOnQubits, most_qubits};
+ghost use Rattle.zx_run.specs.Merging.{is_on};
+ghost use Rattle.zx_run.specs.Internal.Merges.{MergesTo};
+ghost use Rattle.zx_run.specs.Internal.MergeSteps.{is_idle, turned, ArePlaces, IsKeptOn, IsMerging};
 
 use std::alloc::{AllocError, Global};
 use zx_gates::{Gate, GateList, Qubit};
@@ -49,7 +50,7 @@ impl Merger {
 
     /// Adds a gate before the others.
     fn prepend(&mut self, gate: Gate) -> Result<(), AllocError>
-        requires on_qubits { IsGateOn (length self.old.places.items) gate }
+        requires on_qubits { IsOnQubits (length self.old.places.items) gate }
         requires places { ArePlaces self.old.places.items (reverse self.old.backwards.items) }
         ensures qubits { OnOk result (length self.new.places.items ≡ length self.old.places.items) }
         ensures merging { OnOk result ((read : List Gate) → IsMerging read self.old
@@ -65,7 +66,7 @@ impl Merger {
 
     /// Adds a phase gate before the others, or its phase to the next gate on its qubit.
     fn prepend_phase(&mut self, qubit: Qubit, phase: Eighth) -> Result<(), AllocError>
-        requires on_qubits { IsGateOn (length self.old.places.items) (Gate.Phase qubit phase) }
+        requires on_qubits { IsOnQubits (length self.old.places.items) (Gate.Phase qubit phase) }
         requires places { ArePlaces self.old.places.items (reverse self.old.backwards.items) }
         ensures qubits { OnOk result (length self.new.places.items ≡ length self.old.places.items) }
         ensures merging { OnOk result ((read : List Gate) → IsMerging read self.old
@@ -97,7 +98,7 @@ fn with_phase(gate: &Gate, phase: Eighth) -> Gate
 
 /// Clears the places of a gate's qubits.
 fn forget(places: &mut [Option<usize>], gate: &Gate)
-    requires { IsGateOn (length places.old) gate.now }
+    requires { IsOnQubits (length places.old) gate.now }
     ensures { (q : ℕ)
         → get_or places.new q None ≡ (if is_on q gate.now then None else get_or places.old q None) }
 {

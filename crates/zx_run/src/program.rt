@@ -1,19 +1,21 @@
 //! A run of the program, over any source and sinks.
 
-ghost use Rattle.std.specs.Prelude.{◌≡◌, ◌≢◌, ◌⊎◌, ◌↔◌, List, ℕ, [], map, None, Some};
+ghost use Rattle.std.specs.Prelude.{◌≡◌, ◌≢◌, ◌⊎◌, ◌↔◌, List, ℕ, [], None, Some};
 ghost use Rattle.zx_io.specs.Causes.{Rose};
 ghost use Rattle.zx_run.specs.declared.status.Fault.{Fault};
+ghost use Rattle.zx_run.specs.declared.words.Command.{Command};
 ghost use Rattle.zx_run.specs.declared.words.Command.TheVariants.{Optimise};
-ghost use Rattle.zx_run.specs.Command.{command_of};
+ghost use Rattle.zx_run.specs.Command.{command_in};
 ghost use Rattle.zx_gates.specs.declared.elementary.ElementaryGate.{ElementaryGate};
 ghost use Rattle.zx_run.specs.FirstFault.{IsAccepted, IsFirstFault};
-ghost use Rattle.zx_run.specs.Outcome.{IsOutputFor, Gains, GainsFront, LeavesOutput, IsAnswer};
+ghost use Rattle.zx_run.specs.Outcome.{IsOutputFor, Gains, GainsPrefix, LeavesOutput, SaysEnd};
 ghost use Rattle.zx_run.specs.ErrorLine.{error_line};
+ghost use Rattle.zx_run.specs.Internal.Answers.{IsAnswer, ends};
 
 use crate::error_line::report;
+use crate::no_output::NoOutput;
 use crate::optimise::optimised_text;
 use crate::status::{Fault, Status};
-use crate::stopped::Stopped;
 use crate::words::{Command, command_from};
 use std::alloc::Global;
 use zx_io::{ReadError, Sink, Source, WriteFault, read_all, write_all};
@@ -25,8 +27,7 @@ const MOST_BYTES: usize = 16_777_216;
 /// to its end, and writes the text of the optimised circuit to `out`. A line about any other answer than
 /// Done goes to `err`, whose failures change nothing.
 ///
-/// Want of memory may take the place of each answer but Usage. After a failed read or write the answer stays, since
-/// its line takes no memory.
+/// Want of memory may take the place of Done and of a refusal, and of no other answer.
 pub fn run<'a, S: Source, O: Sink, E: Sink>(
     alloc: Global,
     words: &'a [&'a str],
@@ -34,68 +35,67 @@ pub fn run<'a, S: Source, O: Sink, E: Sink>(
     out: &mut O,
     err: &mut E,
 ) -> Status
-    // Done: no end failed, and the output gained the text of an optimised circuit.
+    // Done: no end failed, the output was flushed, and it gained what the command may write for the text.
     ensures done { result ≡ Status.Done →
         (S.faults source.new ≡ S.faults source.old) × (O.faults out.new ≡ O.faults out.old) }
-    ensures done_output { result ≡ Status.Done → (text : List ℕ) → S.left source.old ≡ Some text →
-        (bytes : List ℕ) × IsOutputFor text bytes × Gains (O.taken out.old) (O.taken out.new) bytes }
+    ensures done_flushed { result ≡ Status.Done → O.pending out.new ≡ 0 }
+    ensures done_output { (command : Command) (text : List ℕ) → result ≡ Status.Done →
+        command_in words.now ≡ Some command → S.left source.old ≡ Some text →
+        (bytes : List ℕ) × IsOutputFor command text bytes × Gains (O.taken out.old) (O.taken out.new) bytes }
 
     // Usage: exactly where the words are no command. Nothing is read then.
-    ensures usage { (result ≡ Status.Usage) ↔ (command_of (map (λ word. word.now) words.now)
-        ≡ None) }
+    ensures usage { (result ≡ Status.Usage) ↔ (command_in words.now ≡ None) }
     ensures usage_unread { result ≡ Status.Usage → source.new ≡ source.old }
 
-    // Refused: exactly where no read failed and the fault is the first one of the text, unless memory runs out.
+    // Refused: no read failed. Of `opt` exactly where the fault is the first one of the text, unless memory runs out.
     ensures refused { (fault : Fault) → result ≡ Status.Refused fault
         → S.faults source.new ≡ S.faults source.old }
     ensures refused_first { (fault : Fault) (text : List ℕ) → result ≡ Status.Refused fault →
-        S.left source.old ≡ Some text → IsFirstFault text fault }
-    ensures refused_where { (fault : Fault) (text : List ℕ) →
-        command_of (map (λ word. word.now) words.now) ≡ Some Optimise →
+        command_in words.now ≡ Some Optimise → S.left source.old ≡ Some text → IsFirstFault text fault }
+    ensures refused_where { (fault : Fault) (text : List ℕ) → command_in words.now ≡ Some Optimise →
         S.left source.old ≡ Some text → IsFirstFault text fault →
         ¬ Rose (S.faults source.old) (S.faults source.new) →
         (result ≡ Status.Refused fault) ⊎ (result ≡ Status.NoMemory) }
 
-    // ReadFault and WriteFault: only where that end failed in this call.
+    // ReadFault and WriteFault: only where that end failed in this call, and always where its count tells so.
     ensures read_fault { result ≡ Status.ReadFault
         → Rose (S.faults source.old) (S.faults source.new) }
+    ensures read_fault_where { S.faults source.new ≢ S.faults source.old → result ≡ Status.ReadFault }
     ensures write_fault { result ≡ Status.WriteFault →
         Rose (O.faults out.old) (O.faults out.new) × (S.faults source.new ≡ S.faults source.old) }
-    ensures write_fault_output { result ≡ Status.WriteFault → (text : List ℕ)
-        → S.left source.old ≡ Some text →
-        (bytes : List ℕ) × IsOutputFor text bytes × GainsFront (O.taken out.old) (O.taken out.new) bytes }
-    ensures never_no { result ≢ Status.No }
+    ensures write_fault_where { O.faults out.new ≢ O.faults out.old → result ≡ Status.WriteFault }
+    ensures write_fault_output { (command : Command) (text : List ℕ) → result ≡ Status.WriteFault →
+        command_in words.now ≡ Some command → S.left source.old ≡ Some text →
+        (bytes : List ℕ) × IsOutputFor command text bytes × GainsPrefix (O.taken out.old) (O.taken out.new) bytes }
+    ensures never_no { command_in words.now ≡ Some Optimise → result ≢ Status.No }
 
     // A text without fault is optimised, unless an end fails or memory runs out.
     ensures complete { (text : List ℕ) (qubits : ℕ) (gates : List ElementaryGate) →
-        command_of (map (λ word. word.now) words.now) ≡ Some Optimise →
-        S.left source.old ≡ Some text → IsAccepted text qubits gates →
-        ¬ Rose (S.faults source.old) (S.faults source.new)
-        → ¬ Rose (O.faults out.old) (O.faults out.new) →
+        command_in words.now ≡ Some Optimise → S.left source.old ≡ Some text →
+        IsAccepted text qubits gates → ¬ Rose (S.faults source.old) (S.faults source.new) →
+        ¬ Rose (O.faults out.old) (O.faults out.new) →
         (result ≡ Status.Done) ⊎ (result ≡ Status.NoMemory) }
 
     // What stands after the answer.
-    ensures read_to_end { (text : List ℕ) → S.left source.old ≡ Some text →
-        (result ≡ Status.Done) ⊎ ((fault : Fault) × (fault ≢ Fault.TooLong) × (result
-        ≡ Status.Refused fault)) →
-        S.left source.new ≡ Some [] }
+    ensures read_to_end { (text : List ℕ) → command_in words.now ≡ Some Optimise →
+        S.left source.old ≡ Some text → SaysEnd result → S.left source.new ≡ Some [] }
     ensures out_kept { LeavesOutput result → out.new ≡ out.old }
-    ensures err_front { GainsFront (E.taken err.old) (E.taken err.new) (error_line result) }
+    ensures err_prefix { GainsPrefix (E.taken err.old) (E.taken err.new) (error_line result) }
     ensures err_whole { ¬ Rose (E.faults err.old) (E.faults err.new) →
         Gains (E.taken err.old) (E.taken err.new) (error_line result) }
 {
     let status = answer(alloc, words, source, out);
-    report(alloc, status, err)
+    report(status, err)
 }
 
 /// The answer, without its line.
 fn answer<S: Source, O: Sink>(alloc: Global, words: &[&str], source: &mut S, out: &mut O) -> Status
-    ensures usage { (result ≡ Status.Usage) ↔ (command_of (map (λ word. word.now) words.now)
-        ≡ None) }
+    ensures usage { (result ≡ Status.Usage) ↔ (command_in words.now ≡ None) }
     ensures unread { result ≡ Status.Usage → source.new ≡ source.old }
     ensures out_kept { LeavesOutput result → out.new ≡ out.old }
-    ensures answers { IsAnswer (S.left source.old) (S.left source.new) (S.faults source.old) (S.faults source.new)
-        (O.taken out.old) (O.taken out.new) (O.faults out.old) (O.faults out.new) result }
+    ensures answers { IsAnswer (command_in words.now)
+        (ends (S.left source.old) (S.faults source.old) (O.taken out.old) (O.faults out.old) (O.pending out.old))
+        (ends (S.left source.new) (S.faults source.new) (O.taken out.new) (O.faults out.new) (O.pending out.new)) result }
 {
     match command_from(words) {
         None => Status::Usage,
@@ -107,8 +107,9 @@ fn answer<S: Source, O: Sink>(alloc: Global, words: &[&str], source: &mut S, out
 fn optimise_from<S: Source, O: Sink>(alloc: Global, source: &mut S, out: &mut O) -> Status
     ensures no_usage { result ≢ Status.Usage }
     ensures out_kept { LeavesOutput result → out.new ≡ out.old }
-    ensures answers { IsAnswer (S.left source.old) (S.left source.new) (S.faults source.old) (S.faults source.new)
-        (O.taken out.old) (O.taken out.new) (O.faults out.old) (O.faults out.new) result }
+    ensures answers { IsAnswer (Some Optimise)
+        (ends (S.left source.old) (S.faults source.old) (O.taken out.old) (O.faults out.old) (O.pending out.old))
+        (ends (S.left source.new) (S.faults source.new) (O.taken out.new) (O.faults out.new) (O.pending out.new)) result }
 {
     let text = match read_all(alloc, source, MOST_BYTES) {
         Ok(text) => text,
@@ -118,8 +119,8 @@ fn optimise_from<S: Source, O: Sink>(alloc: Global, source: &mut S, out: &mut O)
     };
     let output = match optimised_text(alloc, &text) {
         Ok(output) => output,
-        Err(Stopped::Fault(fault)) => return Status::Refused(fault),
-        Err(Stopped::NoMemory) => return Status::NoMemory,
+        Err(NoOutput::Fault(fault)) => return Status::Refused(fault),
+        Err(NoOutput::NoMemory) => return Status::NoMemory,
     };
     match write_all(out, &output) {
         Ok(()) => Status::Done,

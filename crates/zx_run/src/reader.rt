@@ -4,10 +4,10 @@ ghost use Rattle.std.specs.Prelude.{◌≡◌, ◌≤◌, length, Err, IfOk};
 ghost use Rattle.zx_gates.specs.Elementary.{IsElementary};
 ghost use Rattle.zx_run.specs.declared.status.Fault.{Fault};
 ghost use Rattle.zx_run.specs.FirstFault.{IsAccepted, IsFirstFault, fault_of, most_bytes};
-ghost use Rattle.zx_run.specs.Parsing.{stopped_by};
+ghost use Rattle.zx_run.specs.Internal.Parsing.{no_output_by};
 
+use crate::no_output::NoOutput;
 use crate::status::Fault;
-use crate::stopped::Stopped;
 use qasm_inline::{InlineError, inline};
 use qasm_lexer::{LexError, lex};
 use qasm_reader::{ParseError, parse};
@@ -16,37 +16,37 @@ use std::alloc::Global;
 use zx_gates::Elementary;
 
 /// The circuit that a text means, or the text's first fault.
-pub fn read_circuit(alloc: Global, text: &[u8]) -> Result<Elementary, Stopped>
+pub fn read_circuit(alloc: Global, text: &[u8]) -> Result<Elementary, NoOutput>
     requires { length text.now ≤ most_bytes }
     ensures accepted { IfOk result (λ circuit. IsAccepted text.now circuit.qubits circuit.gates) }
     ensures valid { IfOk result (λ circuit. IsElementary circuit) }
-    ensures fault { (fault : Fault) → result ≡ Err (Stopped.Fault fault)
+    ensures fault { (fault : Fault) → result ≡ Err (NoOutput.Fault fault)
         → IsFirstFault text.now fault }
 {
     let tokens = match lex(alloc, text) {
         Ok(tokens) => tokens,
-        Err(LexError::BadByte { at }) => return Err(Stopped::Fault(Fault::BadByte { at })),
-        Err(LexError::NoMemory) => return Err(Stopped::NoMemory),
+        Err(LexError::BadByte { at }) => return Err(NoOutput::Fault(Fault::BadByte { at })),
+        Err(LexError::NoMemory) => return Err(NoOutput::NoMemory),
     };
     let program = match parse(alloc, &tokens) {
         Ok(program) => program,
-        Err(error) => return Err(stopped_by(error)),
+        Err(error) => return Err(no_output_by(error)),
     };
     match inline(alloc, &program) {
         Ok(circuit) => Ok(circuit),
-        Err(InlineError::Fault { cause, at }) => Err(Stopped::Fault(fault_of(cause, at))),
-        Err(InlineError::NoMemory) => Err(Stopped::NoMemory),
+        Err(InlineError::Fault { cause, at }) => Err(NoOutput::Fault(fault_of(cause, at))),
+        Err(InlineError::NoMemory) => Err(NoOutput::NoMemory),
     }
 }
 
 /// Why tokens are no program.
-fn stopped_by(error: ParseError) -> Stopped
-    ensures { result ≡ stopped_by error }
+fn no_output_by(error: ParseError) -> NoOutput
+    ensures { result ≡ no_output_by error }
 {
     match error {
-        ParseError::TooDeep { at } => Stopped::Fault(Fault::TooDeep { at }),
-        ParseError::Syntax { at } => Stopped::Fault(Fault::Syntax { at }),
-        ParseError::NoMemory => Stopped::NoMemory,
+        ParseError::TooDeep { at } => NoOutput::Fault(Fault::TooDeep { at }),
+        ParseError::Syntax { at } => NoOutput::Fault(Fault::Syntax { at }),
+        ParseError::NoMemory => NoOutput::NoMemory,
     }
 }
 

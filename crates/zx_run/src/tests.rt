@@ -37,9 +37,9 @@ fn run_with(
     Ok((status, out, err))
 }
 
-// Both texts, one behind the other.
-fn joined(alloc: Global, front: &[u8], back: &[u8]) -> Result<Vec<u8>, Fail> {
-    let mut text = front.to_vec(alloc)?;
+// Both texts, one after the other.
+fn joined(alloc: Global, prefix: &[u8], back: &[u8]) -> Result<Vec<u8>, Fail> {
+    let mut text = prefix.to_vec(alloc)?;
     text.extend_from_slice(back)?;
     Ok(text)
 }
@@ -467,9 +467,13 @@ fn failing_ends_are_told(rt: HostRuntime) -> Result<(), Fail> {
         assert!(rt; written.starts_with(answer.1.bytes()));
         assert_eq!(rt; answer.2.bytes(), b"zxopt: write fault\n".as_slice());
     }
-    // A failing error output changes no answer.
-    let (status, _, err) = run_with(alloc, &["opt"], b"x".to_vec(alloc)?, [&[], &[], &[1]])?;
-    assert_eq!(rt; status, Status::Refused(Fault::Syntax { at: 0 }));
-    assert_eq!(rt; err.bytes(), b"".as_slice());
+    // A failing error output changes no answer. The line takes two writes, and the flush is the third call.
+    let line: &[u8] = b"zxopt: fault 3 Syntax at 0\n";
+    for (call, kept) in [(1, 0), (2, 20), (3, 27)] {
+        let answer = run_with(alloc, &["opt"], b"x".to_vec(alloc)?, [&[], &[], &[call]])?;
+        assert_eq!(rt; answer.0, Status::Refused(Fault::Syntax { at: 0 }));
+        assert_eq!(rt; answer.2.bytes().len(), kept);
+        assert!(rt; line.starts_with(answer.2.bytes()));
+    }
     Ok(())
 }

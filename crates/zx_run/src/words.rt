@@ -1,7 +1,7 @@
 //! The words after the program's name.
 
-ghost use Rattle.std.specs.Prelude.{◌≡◌, map};
-ghost use Rattle.zx_run.specs.Command.{command_of};
+ghost use Rattle.std.specs.Prelude.{◌≡◌};
+ghost use Rattle.zx_run.specs.Command.{command_in};
 
 /// What the program is asked to do.
 #[derive(Clone, Copy)]
@@ -12,7 +12,7 @@ pub enum Command {
 
 /// The command that the words give, if they give one.
 pub fn command_from(words: &[&str]) -> Option<Command>
-    ensures { result ≡ command_of (map (λ word. word.now) words.now) }
+    ensures { result ≡ command_in words.now }
 {
     match words {
         [word] if *word == "opt" => Some(Command::Optimise),

@@ -1,13 +1,18 @@
--- The exit status by which the program tells its answer.
-use Rattle.std.specs.Prelude.{ℕ}
+-- The exit status by which the program tells how it ended.
+use Rattle.std.specs.Prelude.{ℕ, Result, Ok, Err}
 use Rattle.zx_run.specs.declared.status.Status.{Status}
 use Rattle.zx_run.specs.declared.status.Status.TheVariants.{Done, Refused, Usage, ReadFault, WriteFault, NoMemory, No}
+use Rattle.zxopt.specs.declared.ending.NoRun.{NoRun}
+use Rattle.zxopt.specs.declared.ending.NoRun.TheVariants as none
 
-abbrev pub exit_status_of : Status → ℕ
-exit_status_of Done = 0
-exit_status_of (Refused fault) = 1
-exit_status_of Usage = 2
-exit_status_of ReadFault = 3
-exit_status_of WriteFault = 4
-exit_status_of NoMemory = 5
-exit_status_of No = 6
+-- of an answer, or where nothing was run: without memory for the words, or where the system doesn't give them
+abbrev pub exit_status_of : Result Status NoRun → ℕ
+exit_status_of (Ok Done) = 0
+exit_status_of (Ok (Refused fault)) = 1
+exit_status_of (Ok Usage) = 2
+exit_status_of (Ok ReadFault) = 3
+exit_status_of (Ok WriteFault) = 4
+exit_status_of (Ok NoMemory) = 5
+exit_status_of (Ok No) = 6
+exit_status_of (Err none.NoMemory) = 5
+exit_status_of (Err none.NoWords) = 7

@@ -7,15 +7,15 @@ use Rattle.qasm_angle.proofs.scaling.lowered_twice.Goals as goal
 pub nonzero_div-below : goal.nonzero_div-below
 nonzero_div-below c = rw c.gcd-divisor.ensures (gcd_pos _ _ c.requires.first)
 
-pub nonzero_div-front : goal.nonzero_div-front
-nonzero_div-front c = rw c.gcd-divisor.ensures (gcd_pos _ _ c.requires.first)
+pub nonzero_div-leading : goal.nonzero_div-leading
+nonzero_div-leading c = rw c.gcd-divisor.ensures (gcd_pos _ _ c.requires.first)
 
 pub returns-then-below-gt-LARGEST : goal.returns-then-below-gt-LARGEST
 returns-then-below-gt-LARGEST c =
-    sym (none-twice c.args.front c.args.first c.args.second c.requires.first c.requires.second (rw c.gcd-divisor.ensures at c.if-below-gt-LARGEST.true))
+    sym (none-twice c.args.leading c.args.first c.args.second c.requires.first c.requires.second (rw c.gcd-divisor.ensures at c.if-below-gt-LARGEST.true))
 
 pub reduced-requires : goal.reduced-requires
-reduced-requires c = rw c.gcd-divisor.ensures (mul-pos (quotient_pos c.args.front c.args.first c.requires.first) c.requires.second)
+reduced-requires c = rw c.gcd-divisor.ensures (mul-pos (quotient_pos c.args.leading c.args.first c.requires.first) c.requires.second)
 
 pub returns : goal.returns
-returns c = c.reduced.ensures ∙ computed-twice c.args.front c.args.first c.args.second _ c.requires.small c.requires.first c.requires.second c.gcd-divisor.ensures
+returns c = c.reduced.ensures ∙ computed-twice c.args.leading c.args.first c.args.second _ c.requires.small c.requires.first c.requires.second c.gcd-divisor.ensures

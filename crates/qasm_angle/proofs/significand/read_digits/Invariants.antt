@@ -1,6 +1,6 @@
 use Rattle.std.proofs.Common.{◌≤◌, drop}
 use Rattle.qasm_angle.specs.Literals.{digits_of}
-use Rattle.qasm_angle.specs.Significands.{IsSignificand, Keeps}
+use Rattle.qasm_angle.specs.Internal.Significands.{IsSignificand, Keeps}
 use Rattle.qasm_angle.proofs.significand.read_digits.Given as goal
 
 abbrev pub invariant-loop-b : goal.invariant-loop-b

@@ -1,7 +1,7 @@
 use Rattle.std.proofs.Common.{◌≡◌, map, drop}
 use Rattle.std.specs.List.{list_any}
 use Rattle.qasm_reader.specs.Views.{operand}
-use Rattle.qasm_inline.specs.Spans.{no_register_by}
+use Rattle.qasm_inline.specs.Internal.Spans.{no_register_by}
 use Rattle.qasm_inline.proofs.applications.any_no_register.Given as goal
 
 abbrev pub invariant-loop-argument : goal.invariant-loop-argument

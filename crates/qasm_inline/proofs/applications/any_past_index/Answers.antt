@@ -1,7 +1,7 @@
 use Rattle.std.proofs.Common.{◌+◌, ◌||◌, map, drop, sym, ap, ◌∙◌}
 use Rattle.std.specs.List.{list_any}
 use Rattle.qasm_reader.specs.Views.{operand}
-use Rattle.qasm_inline.specs.Spans.{past_by}
+use Rattle.qasm_inline.specs.Internal.Spans.{past_by}
 use Rattle.qasm_scope.proofs.PlaceLemmas.{any-drop}
 use Rattle.qasm_inline.proofs.applications.any_past_index.Goals as goal
 

@@ -2,8 +2,8 @@ use Rattle.std.proofs.Common.{[], Err, Some, map, sym, ap, subst, ◌∙◌, ari
 use Rattle.std.proofs.lemmas.Result.{err_from_is_err_and}
 use Rattle.std.proofs.Math.ListN.{drop_of_length-le}
 use Rattle.qasm_reader.specs.Views.{placed}
-use Rattle.qasm_inline.specs.Circuits.{IsCircuitAnswer}
-use Rattle.qasm_scope.specs.Meaning.{behind}
+use Rattle.qasm_inline.specs.Internal.Circuits.{IsCircuitAnswer}
+use Rattle.qasm_scope.specs.Meaning.{after_statement}
 use Rattle.qasm_inline.proofs.CircuitLemmas.{Reaches-first, Reaches-same, Reaches-next, Reaches-wrong, next-placed, done-circuit, refused-circuit}
 use Rattle.qasm_inline.proofs.meaning.circuit.Goals as goal
 
@@ -18,8 +18,8 @@ pub loop-statement-preserved : goal.loop-statement-preserved
 loop-statement-preserved c =
     let i = c.loop-statement.invariant in
     record {
-      scope = behind i.scope (placed c.statement-item.result).sentence;
-      represents = c.in_ok-take_in.ensures.behind i.scope i.represents;
+      scope = after_statement i.scope (placed c.statement-item.result).sentence;
+      represents = c.in_ok-take_in.ensures.after i.scope i.represents;
       reaches = Reaches-next _ i.scope _ _ (placed c.statement-item.result) _ _ _
           (Reaches-same _ _ _ _ _ _ (next-placed c.in_ok-rest.rest.now c.loop-statement.statement-index c.statement-item.result c.loop-statement-test.true c.statement-item.is) i.reaches)
           (c.in_ok-take_in.ensures.ok i.scope i.represents) (c.in_ok-take_in.ensures.events i.scope i.represents);

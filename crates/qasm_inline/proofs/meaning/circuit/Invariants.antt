@@ -1,6 +1,6 @@
 use Rattle.std.proofs.Common.{map, drop}
 use Rattle.qasm_reader.specs.Views.{placed}
-use Rattle.qasm_scope.specs.Kept.{Represents}
+use Rattle.qasm_scope.specs.Internal.Kept.{Represents}
 use Rattle.qasm_scope.specs.Scope.{Scope}
 use Rattle.qasm_inline.proofs.CircuitLemmas.{Reaches}
 use Rattle.qasm_inline.proofs.meaning.circuit.Given as goal

@@ -1,5 +1,5 @@
 use Rattle.std.proofs.Common.{◌≡◌, Err, Some, rules, ap, ◌∙◌}
-use Rattle.qasm_scope.specs.declared.stopped.Stopped.TheVariants.{Wrong}
+use Rattle.qasm_scope.specs.declared.statement_error.StatementError.TheVariants.{Wrong}
 use Rattle.qasm_inline.proofs.meaning.take_in.Goals as goal
 
 pub returns-in-Err-Wrong-clause-err : goal.returns-in-Err-Wrong-clause-err

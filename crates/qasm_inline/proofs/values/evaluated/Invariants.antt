@@ -1,5 +1,5 @@
 use Rattle.std.proofs.Common.{◌≡◌, drop}
-use Rattle.qasm_inline.specs.KeptCalls.{values_of}
+use Rattle.qasm_inline.specs.Internal.KeptCalls.{values_of}
 use Rattle.qasm_inline.proofs.Evaluation.{followed}
 use Rattle.qasm_inline.proofs.values.evaluated.Given as goal
 

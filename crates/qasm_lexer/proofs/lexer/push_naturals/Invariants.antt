@@ -1,7 +1,7 @@
 -- The tokens so far, and the naturals in the digits that are left, are the old tokens and the naturals in all digits.
 use Rattle.std.proofs.Common.{◌≡◌, ◌+◌, ◌++◌, length}
 use Rattle.qasm_lexer.specs.Tokens.{lexemes}
-use Rattle.qasm_lexer.specs.FirstPiece.{naturals, natural_tokens}
+use Rattle.qasm_lexer.specs.Internal.FirstPiece.{naturals, natural_tokens}
 use Rattle.qasm_lexer.proofs.lexer.push_naturals.Given as goal
 
 abbrev pub invariant-loop-tokens : goal.invariant-loop-tokens

@@ -2,12 +2,12 @@
 use Rattle.std.proofs.Common.{◌≡◌, map, length}
 use Rattle.qasm_lexer.specs.Tokens.{lexemes}
 use Rattle.qasm_reader.specs.Views.{operand}
-use Rattle.qasm_reader.specs.Taking as spec
+use Rattle.qasm_reader.specs.Internal.Taking as spec
 use Rattle.qasm_reader.proofs.arguments.arguments.Given as goal
 
-abbrev pub invariant-loop-behind : goal.invariant-loop-behind
-invariant-loop-behind l =
-    spec.with_front (map operand l.found.items) (spec.comma_items spec.argument (lexemes l.rest)) ≡ spec.arguments (lexemes l.tokens)
+abbrev pub invariant-loop-following : goal.invariant-loop-following
+invariant-loop-following l =
+    spec.with_prefix (map operand l.found.items) (spec.comma_items spec.argument (lexemes l.rest)) ≡ spec.arguments (lexemes l.tokens)
 
-abbrev pub decreases-loop-behind : goal.decreases-loop-behind
-decreases-loop-behind l = length l.rest
+abbrev pub decreases-loop-following : goal.decreases-loop-following
+decreases-loop-following l = length l.rest

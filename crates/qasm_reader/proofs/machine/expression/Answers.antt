@@ -2,7 +2,7 @@
 use Rattle.std.proofs.Common.{map}
 use Rattle.qasm_lexer.specs.Tokens.{lexemes}
 use Rattle.qasm_reader.specs.Items.{entry}
-use Rattle.qasm_reader.specs.Machine.{state_of}
+use Rattle.qasm_reader.specs.Internal.Machine.{state_of}
 use Rattle.qasm_reader.proofs.Expressions.{run_postfix}
 use Rattle.qasm_reader.proofs.machine.expression.Goals as goal
 

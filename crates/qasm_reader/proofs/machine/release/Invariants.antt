@@ -1,7 +1,7 @@
 -- What is left to be put out gives what all did.
 use Rattle.std.proofs.Common.{◌≡◌, map, reverse, length}
 use Rattle.qasm_reader.specs.Items.{entry}
-use Rattle.qasm_reader.specs.Machine as spec
+use Rattle.qasm_reader.specs.Internal.Machine as spec
 use Rattle.qasm_reader.proofs.machine.release.Given as goal
 
 abbrev pub invariant-loop-last : goal.invariant-loop-last

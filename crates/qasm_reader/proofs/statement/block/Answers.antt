@@ -3,7 +3,7 @@ use Rattle.std.proofs.Common.{map}
 use Rattle.std.proofs.lemmas.Result.{err_from_is_err_and}
 use Rattle.qasm_lexer.specs.Tokens.{lexemes}
 use Rattle.qasm_reader.specs.Views.{body_sentence}
-use Rattle.qasm_reader.specs.Taking as spec
+use Rattle.qasm_reader.specs.Internal.Taking as spec
 use Rattle.qasm_reader.proofs.Loops.{body_smaller, body_goes_on, block_fails, block_stops}
 use Rattle.qasm_reader.proofs.statement.block.Goals as goal
 

@@ -2,11 +2,11 @@
 use Rattle.std.proofs.Common.{◌≡◌, map, length}
 use Rattle.qasm_lexer.specs.Tokens.{lexemes}
 use Rattle.qasm_reader.specs.Views.{body_sentence}
-use Rattle.qasm_reader.specs.Taking as spec
+use Rattle.qasm_reader.specs.Internal.Taking as spec
 use Rattle.qasm_reader.proofs.statement.block.Given as goal
 
 abbrev pub invariant-loop-alloc : goal.invariant-loop-alloc
-invariant-loop-alloc l = spec.with_front (map body_sentence l.statements.items) (spec.body (lexemes l.rest)) ≡ spec.body (lexemes l.initial.rest)
+invariant-loop-alloc l = spec.with_prefix (map body_sentence l.statements.items) (spec.body (lexemes l.rest)) ≡ spec.body (lexemes l.initial.rest)
 
 abbrev pub decreases-loop-alloc : goal.decreases-loop-alloc
 decreases-loop-alloc l = length l.rest

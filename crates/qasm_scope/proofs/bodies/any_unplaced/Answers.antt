@@ -1,6 +1,6 @@
 use Rattle.std.proofs.Common.{◌+◌, ◌||◌, map, drop, sym, ap, ◌∙◌}
 use Rattle.std.specs.List.{list_any}
-use Rattle.qasm_scope.specs.Checks.{unplaced}
+use Rattle.qasm_scope.specs.Internal.Checks.{unplaced}
 use Rattle.qasm_scope.proofs.PlaceLemmas.{any-drop}
 use Rattle.qasm_scope.proofs.bodies.any_unplaced.Goals as goal
 

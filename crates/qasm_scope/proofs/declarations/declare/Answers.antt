@@ -2,7 +2,7 @@ use Rattle.std.proofs.Common.{◌≡◌, length, map, refl, ap, ◌∙◌, arith
 use Rattle.std.proofs.lemmas.List.{length-map}
 use Rattle.std.proofs.lemmas.Result.{on_ok_weaker}
 use Rattle.qasm_reader.specs.Views.{gate_form, body_sentence}
-use Rattle.qasm_scope.specs.Checks.{calls_by}
+use Rattle.qasm_scope.specs.Internal.Checks.{calls_by}
 use Rattle.qasm_scope.proofs.CheckLemmas.{calls-names}
 use Rattle.qasm_scope.proofs.declarations.declare.Goals as goal
 

@@ -1,6 +1,6 @@
 use Rattle.std.proofs.Common.{◌≡◌, Some, None, sym, ap, ◌∙◌, rules}
 use Rattle.qasm_reader.specs.Views.{gate_form}
-use Rattle.qasm_scope.specs.Checks.{wrong_gate_by}
+use Rattle.qasm_scope.specs.Internal.Checks.{wrong_gate_by}
 use Rattle.qasm_scope.proofs.CheckLemmas.{wrong_gate-names, sound-from}
 use Rattle.qasm_scope.proofs.declarations.declare_checked.Goals as goal
 

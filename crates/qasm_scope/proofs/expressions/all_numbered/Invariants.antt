@@ -2,7 +2,7 @@ use Rattle.std.proofs.Common.{◌≡◌, map, take, drop, false}
 use Rattle.std.specs.List.{list_any}
 use Rattle.qasm_reader.specs.Postfix.{formula_of}
 use Rattle.qasm_scope.specs.Angles.{is_unsupported}
-use Rattle.qasm_scope.specs.Entries.{placed}
+use Rattle.qasm_scope.specs.Internal.Entries.{placed}
 use Rattle.qasm_scope.proofs.expressions.all_numbered.Given as goal
 
 abbrev pub invariant-loop-expression : goal.invariant-loop-expression

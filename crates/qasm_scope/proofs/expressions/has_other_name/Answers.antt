@@ -1,6 +1,6 @@
 use Rattle.std.proofs.Common.{ap, sym, ◌∙◌}
 use Rattle.std.specs.List.{list_any}
-use Rattle.qasm_scope.specs.Entries.{has_no_place, has_unplaced}
+use Rattle.qasm_scope.specs.Internal.Entries.{has_no_place, has_unplaced}
 use Rattle.qasm_reader.specs.Postfix.{formula_of}
 use Rattle.qasm_scope.proofs.Formulas.{unplaced-items, formula-postfix}
 use Rattle.qasm_scope.proofs.expressions.has_other_name.Goals as goal

@@ -1,7 +1,7 @@
 use Rattle.std.proofs.Common.{ap, sym, ◌∙◌}
 use Rattle.std.specs.List.{list_any}
 use Rattle.qasm_scope.specs.Angles.{is_unsupported}
-use Rattle.qasm_scope.specs.Entries.{is_unsupported_entry}
+use Rattle.qasm_scope.specs.Internal.Entries.{is_unsupported_entry}
 use Rattle.qasm_reader.specs.Postfix.{formula_of}
 use Rattle.qasm_scope.proofs.Formulas.{unsupported-items, formula-postfix}
 use Rattle.qasm_scope.proofs.expressions.is_unsupported.Goals as goal

@@ -1,6 +1,6 @@
 use Rattle.std.proofs.Common.{◌≡◌, map, take}
 use Rattle.qasm_reader.specs.Items.{entry}
-use Rattle.qasm_scope.specs.Entries.{step_of}
+use Rattle.qasm_scope.specs.Internal.Entries.{step_of}
 use Rattle.qasm_scope.proofs.expressions.steps.Given as goal
 
 abbrev pub invariant-loop-item : goal.invariant-loop-item

@@ -1,5 +1,5 @@
 use Rattle.std.proofs.Common.{◌≡◌, drop}
-use Rattle.qasm_scope.specs.Included.{forms_of, any_declared_by}
+use Rattle.qasm_scope.specs.Internal.Included.{forms_of, any_declared_by}
 use Rattle.qasm_scope.proofs.header.any_declared.Given as goal
 
 abbrev pub invariant-loop-gate : goal.invariant-loop-gate

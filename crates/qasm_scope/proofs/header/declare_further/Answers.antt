@@ -3,7 +3,7 @@ use Rattle.std.specs.List.{list_any}
 use Rattle.std.proofs.lemmas.List.{drop_more}
 use Rattle.qasm_reader.specs.Views.{gate_form}
 use Rattle.qasm_scope.specs.Faults.{body_is_unsupported}
-use Rattle.qasm_scope.specs.Included.{forms_of, any_unsupported}
+use Rattle.qasm_scope.specs.Internal.Included.{forms_of, any_unsupported}
 use Rattle.qasm_scope.specs.Meaning.{with_further}
 use Rattle.qasm_scope.proofs.Including.{FurtherLeft, further-step, further-skip}
 use Rattle.qasm_scope.proofs.Tests.{or-second}

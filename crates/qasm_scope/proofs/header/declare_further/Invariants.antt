@@ -1,6 +1,6 @@
 use Rattle.std.proofs.Common.{◌≡◌, drop, false}
-use Rattle.qasm_scope.specs.Included.{forms_of, any_unsupported, AreSoundFurther}
-use Rattle.qasm_scope.specs.Kept.{Represents}
+use Rattle.qasm_scope.specs.Internal.Included.{forms_of, any_unsupported, AreSoundFurther}
+use Rattle.qasm_scope.specs.Internal.Kept.{Represents}
 use Rattle.qasm_scope.specs.Scope.{Scope}
 use Rattle.qasm_scope.specs.Meaning.{with_further}
 use Rattle.qasm_scope.proofs.Including.{FurtherLeft}

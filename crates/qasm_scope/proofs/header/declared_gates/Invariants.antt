@@ -1,7 +1,7 @@
 use Rattle.std.proofs.Common.{◌≡◌, ◌++◌, map}
 use Rattle.std.specs.Vec.Iter.{into_iter_items}
 use Rattle.qasm_reader.specs.Views.{placed, statements_of}
-use Rattle.qasm_scope.specs.Included.{forms_of, gates_of}
+use Rattle.qasm_scope.specs.Internal.Included.{forms_of, gates_of}
 use Rattle.qasm_scope.proofs.header.declared_gates.Given as goal
 
 abbrev pub invariant-loop-statement : goal.invariant-loop-statement

@@ -1,6 +1,6 @@
 use Rattle.std.proofs.Common.{true, false, Some, sym, ap, ◌∙◌}
 use Rattle.std.proofs.lemmas.Result.{on_ok_weaker}
-use Rattle.qasm_scope.specs.Header.{first_gates}
+use Rattle.qasm_scope.specs.HeaderGates.{first_gates}
 use Rattle.qasm_scope.proofs.Including.{other_file, header_cause, any-names}
 use Rattle.qasm_scope.proofs.header.include.Goals as goal
 

@@ -1,7 +1,7 @@
 use Rattle.std.proofs.Common.{Err, sym, ap, subst, ◌∙◌}
 use Rattle.qasm_lexer.specs.Tokens.{IsCut, lexemes}
 use Rattle.qasm_scope.specs.Header.{header_text}
-use Rattle.qasm_scope.specs.Included.{gates_of}
+use Rattle.qasm_scope.specs.Internal.Included.{gates_of}
 use Rattle.qasm_scope.proofs.Including.{the_program, the_gates, program_of_tokens, not_deep, no_syntax_fault}
 use Rattle.qasm_scope.proofs.header.program.Goals as goal
 

@@ -1,5 +1,5 @@
 use Rattle.std.proofs.Common.{◌≡◌, map, take, false}
-use Rattle.qasm_scope.specs.Entries.{ArePlaces}
+use Rattle.qasm_scope.specs.Internal.Entries.{ArePlaces}
 use Rattle.qasm_scope.specs.Faults.{has_name_twice}
 use Rattle.qasm_scope.proofs.places.has_name_twice.Given as goal
 

@@ -1,6 +1,6 @@
 use Rattle.std.proofs.Common.{◌≡◌, ◌==◌, ◌-◌, ◌^◌, Some, None, sym, ap, ◌∙◌, rules, arith}
-use Rattle.qasm_scope.specs.Checks.{register_cause}
-use Rattle.qasm_scope.specs.Kept.{found, symbol_taken}
+use Rattle.qasm_scope.specs.Internal.Checks.{register_cause}
+use Rattle.qasm_scope.specs.Internal.Kept.{found, symbol_taken}
 use Rattle.qasm_scope.proofs.CheckLemmas.{wrong_in-qubits}
 use Rattle.qasm_scope.proofs.registers.declare_qubits.Goals as goal
 

@@ -6,15 +6,15 @@ pub returns-clause-means : goal.returns-clause-means
 returns-clause-means c = text_means
 
 pub returns-clause-size : goal.returns-clause-size
-returns-clause-size c = λ circuit is below.
-    let w : IsWritten circuit = is_written circuit is below in
+returns-clause-size c = λ circuit is.
+    let w : IsWritten circuit = is_written circuit is in
     (w.program, w.is, w.size)
 
 pub returns-clause-gates : goal.returns-clause-gates
-returns-clause-gates c = λ circuit is below. lowered_elements circuit.qubits circuit.gates is.on_qubits below
+returns-clause-gates c = λ circuit is. lowered_elements circuit.qubits circuit.gates is.on_qubits
 
 pub returns-clause-odd : goal.returns-clause-odd
-returns-clause-odd c = λ circuit is below. odd_elements circuit.qubits circuit.gates is.on_qubits below
+returns-clause-odd c = λ circuit is. odd_elements circuit.qubits circuit.gates is.on_qubits
 
 pub returns-clause-map : goal.returns-clause-map
-returns-clause-map c = λ circuit is below. same_map circuit.qubits circuit.gates is.on_qubits below
+returns-clause-map c = λ circuit is. same_map circuit.qubits circuit.gates is.on_qubits

@@ -1,24 +1,25 @@
 -- Each map is compared at every entry.
 use Rattle.std.proofs.Common.{refl}
 use Rattle.zx_model.specs.Number.{one, add, mul, neg, root_power}
-use Rattle.zx_model.proofs.Ring.{one_nonzero}
-use Rattle.zx_gates.proofs.WorkedLemmas.{on_one_qubit, on_two_qubits, each_pair, two_nonzero, root_nonzero, not_proportional}
+use Rattle.zx_model.specs.Constants.{two}
+use Rattle.zx_model.proofs.Ring.{one_nonzero, two_nonzero}
+use Rattle.zx_gates.proofs.WorkedLemmas.{on_one_qubit, on_two_qubits, each_pair, root_nonzero, not_proportional}
 use Rattle.zx_gates.proofs.laws.worked_maps.Goals as goal
 
 pub returns-clause-two_hadamards : goal.returns-clause-two_hadamards
 unfolding add mul neg root_power
 returns-clause-two_hadamards c =
-    on_one_qubit one (add one one) one_nonzero two_nonzero _ _ (each_pair _ refl refl refl refl)
+    on_one_qubit one two one_nonzero two_nonzero _ _ (each_pair _ refl refl refl refl)
 
 pub returns-clause-hadamard_z_hadamard : goal.returns-clause-hadamard_z_hadamard
 unfolding add mul neg root_power
 returns-clause-hadamard_z_hadamard c =
-    on_one_qubit one (add one one) one_nonzero two_nonzero _ _ (each_pair _ refl refl refl refl)
+    on_one_qubit one two one_nonzero two_nonzero _ _ (each_pair _ refl refl refl refl)
 
 pub returns-clause-hadamard_x_hadamard : goal.returns-clause-hadamard_x_hadamard
 unfolding add mul neg root_power
 returns-clause-hadamard_x_hadamard c =
-    on_one_qubit one (add one one) one_nonzero two_nonzero _ _ (each_pair _ refl refl refl refl)
+    on_one_qubit one two one_nonzero two_nonzero _ _ (each_pair _ refl refl refl refl)
 
 pub returns-clause-two_nots : goal.returns-clause-two_nots
 unfolding add mul neg root_power
@@ -43,7 +44,7 @@ returns-clause-t_between_nots_undoes_t c =
 pub returns-clause-cz_by_cx : goal.returns-clause-cz_by_cx
 unfolding add mul neg root_power
 returns-clause-cz_by_cx c =
-    on_two_qubits (add one one) one two_nonzero one_nonzero _ _ (each_pair _ (each_pair _ refl refl refl refl) (each_pair _ refl refl refl refl) (each_pair _ refl refl refl refl) (each_pair _ refl refl refl refl))
+    on_two_qubits two one two_nonzero one_nonzero _ _ (each_pair _ (each_pair _ refl refl refl refl) (each_pair _ refl refl refl refl) (each_pair _ refl refl refl refl) (each_pair _ refl refl refl refl))
 
 pub returns-clause-cz_is_symmetric : goal.returns-clause-cz_is_symmetric
 unfolding add mul neg root_power

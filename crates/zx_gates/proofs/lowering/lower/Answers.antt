@@ -1,7 +1,7 @@
 -- All gates are lowered, and lowering keeps the map and the odd phases.
 use Rattle.std.proofs.Common.{◌∙◌, ap, sym, subst}
 use Rattle.zx_model.specs.Proportional.{Proportional}
-use Rattle.zx_gates.specs.Circuit.{odd_count}
+use Rattle.zx_gates.specs.Circuit.{gate_odd_phases}
 use Rattle.zx_gates.specs.Maps.{amp}
 use Rattle.zx_gates.specs.ElementaryMaps.{amp_elementary}
 use Rattle.zx_gates.proofs.LoweringLemmas.{proportional_lowered, odd_lowered, all_lowered}
@@ -15,5 +15,5 @@ returns-clause-map c =
 
 pub returns-clause-odd : goal.returns-clause-odd
 returns-clause-odd c =
-    ap odd_count (all_lowered c.loop-gate.list.gates _ c.args.e.now.gates _ c.loop-gate.invariant.gates c.as_slice-gate-items.ensures c.loop-gate-test.false c.loop-gate.auto.gate-index-end)
+    ap gate_odd_phases (all_lowered c.loop-gate.list.gates _ c.args.e.now.gates _ c.loop-gate.invariant.gates c.as_slice-gate-items.ensures c.loop-gate-test.false c.loop-gate.auto.gate-index-end)
     ∙ odd_lowered c.args.e.now.gates

@@ -1,4 +1,4 @@
--- what was read is the front of what was left, and no call failed
+-- what was read is the prefix of what was left, and no call failed
 use Rattle.std.proofs.Common.{◌≡◌, ◌+◌, ◌-◌, ◌<◌, ◌≤◌, length, vec_len}
 use Rattle.std.specs.Io.KnownBytes.{Consumes}
 use Rattle.zx_io.proofs.loops.read_all.Given as goal

@@ -1,4 +1,4 @@
--- what was taken is the front of the bytes, and no call failed
+-- what was taken is the prefix of the bytes, and no call failed
 use Rattle.std.proofs.Common.{◌≡◌, ◌-◌, ◌≤◌, length, take}
 use Rattle.std.specs.Io.KnownBytes.{Appends}
 use Rattle.zx_io.proofs.loops.write_all.Given as goal

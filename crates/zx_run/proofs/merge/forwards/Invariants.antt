@@ -1,7 +1,7 @@
 -- What is pushed, and what is left backwards, are all gates that are kept.
 use Rattle.std.proofs.Common.{◌≡◌, ◌++◌, not, reverse, vec_len}
 use Rattle.std.specs.List.{All, filter}
-use Rattle.zx_run.specs.MergeSteps.{is_idle, IsKeptOn}
+use Rattle.zx_run.specs.Internal.MergeSteps.{is_idle, IsKeptOn}
 use Rattle.zx_run.proofs.merge.forwards.Given as goal
 
 abbrev pub invariant-loop-gate : goal.invariant-loop-gate

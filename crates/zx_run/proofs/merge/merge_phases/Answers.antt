@@ -3,8 +3,8 @@ use Rattle.std.proofs.Common.{◌≡◌, not, List, reverse, drop, Result, Ok, E
 use Rattle.std.specs.List.{filter}
 use Rattle.zx_gates.specs.declared.gate.Gate.{Gate}
 use Rattle.zx_gates.specs.Circuit.{Circuit}
-use Rattle.zx_run.specs.Merging.{MergesTo}
-use Rattle.zx_run.specs.MergeSteps.{is_idle}
+use Rattle.zx_run.specs.Internal.Merges.{MergesTo}
+use Rattle.zx_run.specs.Internal.MergeSteps.{is_idle}
 use Rattle.zx_run.proofs.MergeLemmas.{merges-kept}
 use Rattle.zx_run.proofs.merge.merge_phases.Goals as goal
 

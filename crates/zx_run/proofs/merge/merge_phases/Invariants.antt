@@ -1,6 +1,6 @@
 -- The gates from the place on are merged.
 use Rattle.std.proofs.Common.{◌≡◌, length, drop}
-use Rattle.zx_run.specs.MergeSteps.{IsMerging}
+use Rattle.zx_run.specs.Internal.MergeSteps.{IsMerging}
 use Rattle.zx_run.proofs.merge.merge_phases.Given as goal
 
 abbrev pub invariant-loop-i : goal.invariant-loop-i

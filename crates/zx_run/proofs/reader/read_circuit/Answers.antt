@@ -11,4 +11,4 @@ returns-in-Err-clause-fault c = λ fault is.
     parse_first _ _ c.requires c.in-Ok.ensures.found c.in-Err.error
     (λ at told. subst (λ ts. too_deep (lexemes ts) ≡ Some at) c.deref.ensures.value (c.in-Err.ensures.deep at (ap Err told)))
     (λ at told. subst (λ ts. (too_deep (lexemes ts) ≡ None) × IsSyntaxFault (lexemes ts) at) c.deref.ensures.value (c.in-Err.ensures.syntax at (ap Err told)))
-    fault (sym c.stopped_by.ensures ∙ Err_same is)
+    fault (sym c.no_output_by.ensures ∙ Err_same is)

@@ -4,5 +4,5 @@ use Rattle.qasm_inline.proofs.unroll.Unrolled.enter.Goals as goal
 
 pub returns-clause-ok : goal.returns-clause-ok
 returns-clause-ok c = λ numbered unrolls.
-    Continues-same _ _ _ _ _ (entered numbered c.args.gates.now c.args.target c.in-Gate.number c.args.frames.now.items c.push.new.self.items
+    Continues-same _ _ _ _ _ (entered numbered c.args.gates.now c.args.called c.in-Gate.number c.args.frames.now.items c.push.new.self.items
     (record { calls = c.calls_of.result; angles = c.args.angles; qubits = c.args.qubits }) _ _ unrolls c.in-Gate.is c.calls_of.ensures refl refl (search rules))

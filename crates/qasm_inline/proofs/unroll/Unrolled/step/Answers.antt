@@ -1,9 +1,9 @@
 use Rattle.std.proofs.Common.{◌≡◌, ◌+◌, ◌++◌, ◌∷◌, [], length, Ok, Err, ap, sym, refl, ◌∙◌, rules, arith}
 use Rattle.std.proofs.lemmas.Result.{err_from_is_err_and, on_ok_weaker}
-use Rattle.qasm_scope.specs.declared.stopped.Stopped.TheVariants.{Wrong}
+use Rattle.qasm_scope.specs.declared.statement_error.StatementError.TheVariants.{Wrong}
 use Rattle.qasm_inline.specs.declared.unroll.Frame.{Frame}
 use Rattle.qasm_scope.specs.Calls.{first_wrong}
-use Rattle.qasm_inline.specs.KeptCalls.{values_of, picked, expand_target, stack_events}
+use Rattle.qasm_inline.specs.Internal.KeptCalls.{values_of, picked, expand_called, stack_events}
 use Rattle.qasm_scope.specs.Meaning.{most_calls}
 use Rattle.qasm_inline.proofs.Unrolling.{next_call, next_call_first, Continues-counted}
 use Rattle.qasm_inline.proofs.unroll.Unrolled.step.Goals as goal
@@ -28,7 +28,7 @@ returns-clause-ok c = on_ok_weaker c.enter.result
     let el : c.push.new.self.items ≡ c.args.frames.now.items ++ f ∷ [] = search rules in
     Continues-counted most_calls _ _ _ _ _ _ _ _ _ _
     (next_call numbered (c.len.result + 2) c.args.frames.now.items c.push.new.self.items f c.args.frame.angles.items c.in_ok-values.values.items c.args.frame.qubits.items c.in_ok-qubits.qubits.items c.in-Some.call.now c.args.frame.calls.now deep el refl refl split ev ep)
-    (c.in_ok-count.ensures.ok (expand_target numbered c.in-Some.call.now.target (1 + length c.push.new.self.items) c.in_ok-values.values.items c.in_ok-qubits.qubits.items ++ stack_events numbered 1 c.push.new.self.items)) c.in_ok-count.ensures.calls c.in_ok-count.ensures.gates (h numbered unrolls))
+    (c.in_ok-count.ensures.ok (expand_called numbered c.in-Some.call.now.called (1 + length c.push.new.self.items) c.in_ok-values.values.items c.in_ok-qubits.qubits.items ++ stack_events numbered 1 c.push.new.self.items)) c.in_ok-count.ensures.calls c.in_ok-count.ensures.gates (h numbered unrolls))
     c.enter.ensures.ok
 
 pub returns-clause-err : goal.returns-clause-err
@@ -41,5 +41,5 @@ returns-clause-err c = λ cause numbered e unrolls.
     let el : c.push.new.self.items ≡ c.args.frames.now.items ++ f ∷ [] = search rules in
     let next = next_call numbered (c.len.result + 2) c.args.frames.now.items c.push.new.self.items f c.args.frame.angles.items c.in_ok-values.values.items c.args.frame.qubits.items c.in_ok-qubits.qubits.items c.in-Some.call.now c.args.frame.calls.now deep el refl refl split ev ep in
     ap (first_wrong most_calls c.args.self.now.calls) next
-    ∙ c.in_ok-count.ensures.ok (expand_target numbered c.in-Some.call.now.target (1 + length c.push.new.self.items) c.in_ok-values.values.items c.in_ok-qubits.qubits.items ++ stack_events numbered 1 c.push.new.self.items)
+    ∙ c.in_ok-count.ensures.ok (expand_called numbered c.in-Some.call.now.called (1 + length c.push.new.self.items) c.in_ok-values.values.items c.in_ok-qubits.qubits.items ++ stack_events numbered 1 c.push.new.self.items)
     ∙ c.enter.ensures.err cause numbered e unrolls

@@ -1,8 +1,8 @@
 -- What is left is read as all was.
 use Rattle.std.proofs.Common.{◌≡◌, length}
 use Rattle.qasm_lexer.specs.Tokens.{lexemes}
-use Rattle.qasm_reader.specs.Machine.{state_of}
-use Rattle.qasm_reader.specs.Machine as spec
+use Rattle.qasm_reader.specs.Internal.Machine.{state_of}
+use Rattle.qasm_reader.specs.Internal.Machine as spec
 use Rattle.qasm_reader.proofs.machine.Machine.run.Given as goal
 
 abbrev pub invariant-loop-rest : goal.invariant-loop-rest

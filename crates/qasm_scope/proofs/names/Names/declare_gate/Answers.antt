@@ -1,6 +1,6 @@
 use Rattle.std.proofs.Common.{◌≡◌, ◌∷◌, [], ◌++◌, length, map, sym, ap, ◌∙◌, arith, rules}
 use Rattle.std.proofs.lemmas.List.{map-append, length-map}
-use Rattle.qasm_scope.specs.Kept.{gate_count, kept_body, kept_gates}
+use Rattle.qasm_scope.specs.Internal.Kept.{gate_count, kept_body, kept_gates}
 use Rattle.qasm_scope.specs.declared.names.Symbol.TheVariants as symbol
 use Rattle.qasm_scope.specs.Scope.{Gate}
 use Rattle.qasm_scope.proofs.Symbols.{found-declared, kept-length}

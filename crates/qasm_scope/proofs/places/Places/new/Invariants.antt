@@ -1,5 +1,5 @@
 use Rattle.std.proofs.Common.{map, take}
-use Rattle.qasm_scope.specs.Entries.{ArePlaces}
+use Rattle.qasm_scope.specs.Internal.Entries.{ArePlaces}
 use Rattle.qasm_scope.proofs.places.Places.new.Given as goal
 
 abbrev pub invariant-loop-place : goal.invariant-loop-place

@@ -1,0 +1,15 @@
+pub mod Totals
+pub mod Places
+pub mod Leaving
+pub mod Composing
+pub mod Settling
+pub mod Advancing
+pub mod ByHadamards
+pub mod Keeping
+pub mod Counts
+pub mod Wires
+pub mod Rows
+pub mod Gadgets
+pub mod Taken
+pub mod Small
+pub mod GateLists

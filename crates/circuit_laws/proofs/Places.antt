@@ -1,0 +1,71 @@
+-- Places of ends, and one end of a list replaced.
+use Rattle.std.proofs.Common.{◌≡◌, ◌≢◌, sym, ◌∙◌, ap, refl, ℕ, zero as nought, suc, true, ◌||◌, eqb, List, [], ◌∷◌, set, eq-eqb, true≢false}
+use Rattle.std.specs.Prelude.{slice_get, Some}
+use Rattle.std.specs.List.{list_all}
+use Rattle.zx_model.specs.Bits.{member}
+use Rattle.zx_calculus.specs.Graph.{Vertex, End, Graph, ids, places, in_order, different, WellFormed, OrderedEnds, XY, plane_of, kind_of, is_XY}
+use Rattle.zx_calculus.proofs.Booleans.{or-true}
+use Rattle.zx_calculus.proofs.Ids.{and-left, and-right, not-true}
+use Rattle.zx_calculus.proofs.Splitting.{all_at, plane_XY}
+
+pub first_is : (e d : End) → Some e ≡ Some d → e ≡ d
+first_is e d h = cc
+
+-- the vertex of an end is among the places
+pub member-places : (es : List End) (q : ℕ) (e : End) → slice_get es q ≡ Some e → member e.vertex (places es) ≡ true
+member-places [] q e h = cc
+member-places (d ∷ es) nought e h = ap (λ b. b || member e.vertex (places es)) (eq-eqb e.vertex d.vertex (sym (ap (λ (c : End). c.vertex) (first_is d e h))))
+member-places (d ∷ es) (suc q) e h = ap (λ b. eqb e.vertex d.vertex || b) (member-places es q e h) ∙ or-true (eqb e.vertex d.vertex)
+
+pub output_there : (g : Graph) (q : ℕ) (e : End) → WellFormed g → slice_get g.outputs q ≡ Some e →
+    member e.vertex (ids g.vertices) ≡ true
+output_there g q e w h = all_at (λ u. member u (ids g.vertices)) (places g.outputs) e.vertex w.outputs.there (member-places g.outputs q e h)
+
+pub output_plane : (g : Graph) (q : ℕ) (e : End) → WellFormed g → slice_get g.outputs q ≡ Some e → plane_of g e.vertex ≡ XY
+output_plane g q e w h = plane_XY _ (all_at (λ u. is_XY (kind_of g.vertices u).plane) (places g.outputs) e.vertex w.outputs.at_XY (member-places g.outputs q e h))
+
+-- an end is replaced by one at the same vertex
+pub places-same : (es : List End) (q : ℕ) (e d : End) → slice_get es q ≡ Some e → e.vertex ≡ d.vertex →
+    places (set es q d) ≡ places es
+places-same [] q e d h same = refl
+places-same (c ∷ es) nought e d h same = ap (λ v. v ∷ places es) (sym same ∙ sym (ap (λ (c : End). c.vertex) (first_is c e h)))
+places-same (c ∷ es) (suc q) e d h same = ap (λ r. c.vertex ∷ r) (places-same es q e d h same)
+
+pub slice_get-set : (es : List End) (q : ℕ) (e d : End) → slice_get es q ≡ Some e → slice_get (set es q d) q ≡ Some d
+slice_get-set [] q e d h = cc
+slice_get-set (c ∷ es) nought e d h = refl
+slice_get-set (c ∷ es) (suc q) e d h = slice_get-set es q e d h
+
+pub set_same : (es : List End) (q : ℕ) (e : End) → slice_get es q ≡ Some e → set es q e ≡ es
+set_same [] q e h = refl
+set_same (c ∷ es) nought e h = ap (λ d. d ∷ es) (sym (first_is c e h))
+set_same (c ∷ es) (suc q) e h = ap (λ r. c ∷ r) (set_same es q e h)
+
+-- an end at a later place stands at another vertex
+pub apart_from : (u : ℕ) (ds : List End) (q : ℕ) (e : End) → list_all (different u) (places ds) ≡ true →
+    slice_get ds q ≡ Some e → u ≢ e.vertex
+apart_from u [] q e o there same = cc
+apart_from u (d ∷ ds) nought e o there same =
+    true≢false (sym (eq-eqb u d.vertex (same ∙ sym (ap (λ (c : End). c.vertex) (first_is d e there)))) ∙ not-true (eqb u d.vertex) (and-left _ _ o))
+apart_from u (d ∷ ds) (suc q) e o there same = apart_from u ds q e (and-right _ _ o) there same
+
+-- ends at the same vertices are in order where the others are
+pub ordered_by_places : (vs : List Vertex) (es ds : List End) → places ds ≡ places es → OrderedEnds vs es →
+    OrderedEnds vs ds
+ordered_by_places vs es ds same o = record { one_each = rw same o.one_each; there = rw same o.there; at_XY = rw same o.at_XY }
+
+pub slice_get-set_other : (es : List End) (i j : ℕ) (d : End) → j ≢ i → slice_get (set es i d) j ≡ slice_get es j
+slice_get-set_other [] i j d n = refl
+slice_get-set_other (c ∷ es) nought nought d n = absurd (n refl)
+slice_get-set_other (c ∷ es) nought (suc j) d n = refl
+slice_get-set_other (c ∷ es) (suc i) nought d n = refl
+slice_get-set_other (c ∷ es) (suc i) (suc j) d n = slice_get-set_other es i j d (λ e. n (ap (λ k. suc k) e))
+
+-- ends at one vertex stand at one place
+pub one_place : (es : List End) (p q : ℕ) (d e : End) → in_order different (places es) ≡ true →
+    slice_get es p ≡ Some d → slice_get es q ≡ Some e → d.vertex ≡ e.vertex → p ≡ q
+one_place [] p q d e once h i same = cc
+one_place (c ∷ es) nought nought d e once h i same = refl
+one_place (c ∷ es) nought (suc q) d e once h i same = absurd (apart_from c.vertex es q e (and-left _ _ once) i (ap (λ (b : End). b.vertex) (first_is c d h) ∙ same))
+one_place (c ∷ es) (suc p) nought d e once h i same = absurd (apart_from c.vertex es p d (and-left _ _ once) h (ap (λ (b : End). b.vertex) (first_is c e i) ∙ sym same))
+one_place (c ∷ es) (suc p) (suc q) d e once h i same = ap (λ k. suc k) (one_place es p q d e (and-right _ _ once) h i same)

@@ -1,0 +1,4 @@
+pub mod Followed
+pub mod Gates
+pub mod Peeling
+pub mod Worked

@@ -1,0 +1,6 @@
+-- The law, by its lemma.
+use Rattle.gflow_laws.proofs.Steps.{new_output_flow}
+use Rattle.gflow_laws.proofs.outputs.new_output.Goals as goal
+
+pub returns : goal.returns
+returns c = new_output_flow

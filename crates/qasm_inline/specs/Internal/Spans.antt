@@ -1,0 +1,78 @@
+-- Arguments of applications by what names are kept as: a private matter of the program.
+use Rattle.std.specs.Prelude.{ℕ, ◌+◌, ◌-◌, ◌^◌, ◌==◌, Bool, false, not, ◌&&◌, ◌||◌, List, [], ◌∷◌, map, length, min, Option, None, Some, nat_le, nat_lt}
+use Rattle.std.specs.List.{list_any, range_with_len}
+use Rattle.std.specs.Option.{is_some}
+use Rattle.qasm_reader.specs.Syntax.{Operand, Apply}
+use Rattle.qasm_scope.specs.Applications.{QubitRange, Single, Register, qubit_at, register_sizes, instance_count, instances, has_twice}
+use Rattle.qasm_scope.specs.Angles.{is_unsupported}
+use Rattle.qasm_scope.specs.Internal.Checks.{Symbols, shape_by, application_cause}
+use Rattle.qasm_scope.specs.Internal.Entries.{has_unplaced}
+use Rattle.qasm_scope.specs.Faults.{is_no_gate, has_other_shape, has_other_size}
+use Rattle.qasm_scope.specs.Internal.Kept.{found, symbol_register}
+use Rattle.qasm_scope.specs.Scope.{numeral}
+use Rattle.qasm_inline.specs.declared.applications.Span.{Span}
+use Rattle.qasm_scope.specs.declared.causes.Cause.{Cause}
+use Rattle.qasm_scope.specs.declared.places.Places.{Places}
+use Rattle.qasm_inline.specs.declared.applications.Span.TheVariants as span
+
+abbrev pub span_range : Span → QubitRange
+span_range (span.Single qubit) = Single qubit
+span_range (span.Register first size) = Register first size
+
+abbrev pub register_by : Symbols → Operand → Option (ℕ × ℕ)
+register_by symbols operand = symbol_register (found operand.register symbols)
+
+abbrev pub no_register_by : Symbols → Operand → Bool
+no_register_by symbols operand = not (is_some (register_by symbols operand))
+
+abbrev pub past_in : Option (ℕ × ℕ) → Option (List ℕ) → Bool
+past_in (Some register) (Some index) = nat_le register.1 (numeral index)
+past_in (Some register) None = false
+past_in None index = false
+
+abbrev pub past_by : Symbols → Operand → Bool
+past_by symbols operand = past_in (register_by symbols operand) operand.index
+
+-- sums past the largest number of the program are cut off there
+abbrev pub span_in : Option (ℕ × ℕ) → Option (List ℕ) → QubitRange
+span_in (Some register) (Some index) = Single (min (register.0 + min (numeral index) (2 ^ 64 - 1)) (2 ^ 64 - 1))
+span_in (Some register) None = Register register.0 register.1
+span_in None index = Single 0
+
+abbrev pub span_by : Symbols → Operand → QubitRange
+span_by symbols operand = span_in (register_by symbols operand) operand.index
+
+-- a qubit is one of so many from the first on
+abbrev pub is_within : ℕ → ℕ → ℕ → Bool
+is_within qubit first count = nat_le first qubit && nat_lt (qubit - first) count
+
+-- two ranges are the same qubit in one of so many instances
+abbrev pub overlaps : ℕ → QubitRange → QubitRange → Bool
+overlaps count (Single qubit) (Single same) = same == qubit && nat_lt 0 count
+overlaps count (Single qubit) (Register first size) = is_within qubit first count
+overlaps count (Register first size) (Single qubit) = is_within qubit first count
+overlaps count (Register first size) (Register same size') = same == first && nat_lt 0 count
+
+abbrev pub any_overlap : ℕ → List QubitRange → Bool
+any_overlap count [] = false
+any_overlap count (t ∷ ranges) = list_any (overlaps count t) ranges || any_overlap count ranges
+
+-- the qubit of a range at an index, as a circuit's qubit: cut off at the largest one
+abbrev pub cut_qubit_at : ℕ → QubitRange → ℕ
+cut_qubit_at index t = min (qubit_at index t) (2 ^ 16 - 1)
+
+abbrev pub cut_instance : List QubitRange → ℕ → List ℕ
+cut_instance ranges index = map (cut_qubit_at index) ranges
+
+abbrev pub cut_instances : List QubitRange → List (List ℕ)
+cut_instances ranges = map (cut_instance ranges) (range_with_len 0 (instance_count (register_sizes ranges)))
+
+-- what is wrong with an application, in which these are the places of parameters
+abbrev pub wrong_application_by : Symbols → Places → Apply → Option Cause
+wrong_application_by symbols parameters a = application_cause
+    (list_any is_unsupported a.angles)
+    (is_no_gate (shape_by symbols a.gate) || list_any (has_unplaced parameters) a.angles || list_any (no_register_by symbols) a.qubits)
+    (has_other_shape (shape_by symbols a.gate) (length a.angles) (length a.qubits))
+    (list_any (past_by symbols) a.qubits)
+    (has_other_size (register_sizes (map (span_by symbols) a.qubits)))
+    (list_any has_twice (instances (map (span_by symbols) a.qubits)))

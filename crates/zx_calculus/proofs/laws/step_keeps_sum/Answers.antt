@@ -1,0 +1,14 @@
+use Rattle.zx_calculus.proofs.StepSum.{step_sum, left-nonzero, right-nonzero, step_proportional}
+use Rattle.zx_calculus.proofs.laws.step_keeps_sum.Goals as goal
+
+pub returns-clause-exact : goal.returns-clause-exact
+returns-clause-exact c = step_sum
+
+pub returns-clause-left_nonzero : goal.returns-clause-left_nonzero
+returns-clause-left_nonzero c = left-nonzero
+
+pub returns-clause-right_nonzero : goal.returns-clause-right_nonzero
+returns-clause-right_nonzero c = right-nonzero
+
+pub returns-clause-proportional : goal.returns-clause-proportional
+returns-clause-proportional c = step_proportional

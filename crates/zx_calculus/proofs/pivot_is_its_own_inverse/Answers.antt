@@ -1,5 +1,0 @@
-use Rattle.zx_calculus.proofs.Twice.{pivot_twice}
-use Rattle.zx_calculus.proofs.pivot_is_its_own_inverse.Goals as goal
-
-pub returns : goal.returns
-returns c = pivot_twice

@@ -1,5 +1,0 @@
-use Rattle.zx_calculus.proofs.StepSum.{run_proportional}
-use Rattle.zx_calculus.proofs.run_keeps_sum.Goals as goal
-
-pub returns : goal.returns
-returns c = run_proportional

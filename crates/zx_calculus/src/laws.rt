@@ -1,0 +1,108 @@
+//! The laws of rewrites and of the sums that they keep.
+
+ghost use Rattle.std.specs.Prelude.{◌≡◌, ◌≢◌, ◌≤◌, ℕ, Bool, List, [], ◌∷◌, length, map, true, false, ◌&&◌, ◌||◌, if◌then◌else◌};
+ghost use Rattle.zx_model.specs.Number.{zero, one, mul, root, sign};
+ghost use Rattle.zx_model.specs.Bits.{member, xor};
+ghost use Rattle.zx_model.specs.Proportional.{Proportional};
+ghost use Rattle.zx_calculus.specs.Graph.{XY, XZ, YZ, Graph, ids, WellFormed};
+ghost use Rattle.zx_calculus.specs.Sum.{sum, factor, spider};
+ghost use Rattle.zx_calculus.specs.Turns.{in_plane};
+ghost use Rattle.zx_model.specs.Constants.{two, root_of_two};
+ghost use Rattle.zx_calculus.specs.Scalars.{one_plus_i, one_minus_i};
+ghost use Rattle.zx_calculus.specs.Pivots.{IsPivot};
+ghost use Rattle.zx_calculus.specs.Steps.{Step, LocalComplement, Delete, Pivot, SplitInput, DropLone, FuseInto, FuseTwin, IsStep, IsRun};
+ghost use Rattle.zx_calculus.specs.Factors.{left_factor, right_factor};
+ghost use Rattle.zx_calculus.specs.Reduced.{odd_phases};
+ghost use Rattle.zx_calculus.specs.After.{allowed, after, after_with};
+ghost use Rattle.zx_calculus.specs.Worked.{path_of_three, path_complemented, path_deleted, path_of_four, path_pivoted, twins, twins_reduced, small_gadgets, small_gadgets_reduced, triangle, triangle_pivoted, path_split, overlapping_gadgets};
+ghost use Rattle.zx_calculus.specs.Tables.{all_phases, factors_XY_0, factors_XY_1, factors_XZ_0, factors_XZ_1, factors_YZ_0, factors_YZ_1, hadamard_wire, controlled_z, crossing, marked_spider};
+
+/// Each rewrite keeps the sum, with the exact factors of its kind, and neither factor is zero.
+pub fn step_keeps_sum()
+    ensures exact { (g : Graph) (s : Step) (h : Graph) (x y : List Bool) → WellFormed g →
+        IsStep g s h → length x ≡ length g.inputs → length y ≡ length g.outputs →
+        mul (left_factor g s) (sum g x y) ≡ mul (right_factor g s) (sum h x y) }
+    ensures left_nonzero { (g : Graph) (s : Step) → left_factor g s ≢ zero }
+    ensures right_nonzero { (g : Graph) (s : Step) → right_factor g s ≢ zero }
+    ensures proportional { (g : Graph) (s : Step) (h : Graph) → WellFormed g → IsStep g s h →
+        Proportional (length g.inputs) (length g.outputs) (sum g) (sum h) }
+{}
+
+/// Every list of rewrites keeps the sum up to a nonzero scalar.
+pub fn run_keeps_sum()
+    ensures { (g : Graph) (steps : List Step) (h : Graph) → WellFormed g → IsRun g steps h →
+        Proportional (length g.inputs) (length g.outputs) (sum g) (sum h) }
+{}
+
+/// Each rewrite, and so every list of them, keeps well-formedness and the numbers of inputs and outputs.
+pub fn step_keeps_form()
+    ensures step { (g : Graph) (s : Step) (h : Graph) → WellFormed g → IsStep g s h → WellFormed h }
+    ensures run { (g : Graph) (steps : List Step) (h : Graph) → WellFormed g → IsRun g steps h →
+        WellFormed h }
+    ensures inputs { (g : Graph) (steps : List Step) (h : Graph) → IsRun g steps h →
+        length h.inputs ≡ length g.inputs }
+    ensures outputs { (g : Graph) (steps : List Step) (h : Graph) → IsRun g steps h →
+        length h.outputs ≡ length g.outputs }
+{}
+
+/// No rewrite, and so no list of them, raises the number of odd phases.
+pub fn step_raises_no_odd_phases()
+    ensures step { (g : Graph) (s : Step) (h : Graph) → WellFormed g → IsStep g s h →
+        odd_phases h ≤ odd_phases g }
+    ensures run { (g : Graph) (steps : List Step) (h : Graph) → WellFormed g → IsRun g steps h →
+        odd_phases h ≤ odd_phases g }
+{}
+
+/// Rewrites of small graphs, by computation.
+pub fn worked_rewrites()
+    ensures complemented { after (LocalComplement 1) path_of_three ≡ path_complemented }
+    ensures deleted { after (Delete 1) path_complemented ≡ path_deleted }
+    ensures pivoted { after (Pivot 1 2) path_of_four ≡ path_pivoted }
+    ensures common_neighbour { after (Pivot 1 2) triangle ≡ triangle_pivoted }
+    ensures split { after (SplitInput 0) path_of_three ≡ path_split }
+    ensures twins { after (Delete 2) (after (LocalComplement 2) (after (FuseTwin 2 3) twins)) ≡
+        twins_reduced }
+    ensures small_gadgets { after (FuseInto 1) (after (DropLone 2) small_gadgets) ≡ small_gadgets_reduced }
+    ensures boundary { allowed path_of_three (Pivot 0 2) ≡ false }
+    ensures allowed { allowed path_of_three (LocalComplement 1) ≡ true }
+    ensures twins_allowed { allowed twins (FuseTwin 2 3) ≡ true }
+    ensures no_twins { allowed overlapping_gadgets (FuseTwin 2 3) ≡ false }
+{}
+
+/// The program makes what the rewrites state, exactly where its test allows them; a split may take any new id.
+pub fn program_is_step()
+    ensures allowed { (g : Graph) (s : Step) (h : Graph) → WellFormed g → IsStep g s h →
+        allowed g s ≡ true }
+    ensures made { (g : Graph) (s : Step) → WellFormed g → allowed g s ≡ true → IsStep g s (after s g) }
+    ensures made_with { (g : Graph) (s : Step) (new : ℕ) → WellFormed g → allowed g s ≡ true →
+        member new (ids g.vertices) ≡ false → IsStep g s (after_with new s g) }
+    ensures only { (g : Graph) (s : Step) (h : Graph) → WellFormed g → IsStep g s h →
+        (new : ℕ) × (member new (ids g.vertices) ≡ false) × (h ≡ after_with new s g) }
+{}
+
+/// The factor of a vertex in each plane, at each phase and label, against a table; scalars in terms of the root
+/// of two; and the sum of a graph.
+pub fn worked_sums()
+    ensures XY_0 { map (λ k. factor (in_plane XY k) false) all_phases ≡ factors_XY_0 }
+    ensures XY_1 { map (λ k. factor (in_plane XY k) true) all_phases ≡ factors_XY_1 }
+    ensures XZ_0 { map (λ k. factor (in_plane XZ k) false) all_phases ≡ factors_XZ_0 }
+    ensures XZ_1 { map (λ k. factor (in_plane XZ k) true) all_phases ≡ factors_XZ_1 }
+    ensures YZ_0 { map (λ k. factor (in_plane YZ k) false) all_phases ≡ factors_YZ_0 }
+    ensures YZ_1 { map (λ k. factor (in_plane YZ k) true) all_phases ≡ factors_YZ_1 }
+    ensures two { two ≡ mul root_of_two root_of_two }
+    ensures one_plus_i { one_plus_i ≡ mul root_of_two root }
+    ensures one_minus_i { mul one_minus_i root ≡ root_of_two }
+    ensures hadamard { (x y : Bool) → sum hadamard_wire (x ∷ []) (y ∷ []) ≡ sign (x && y) }
+    ensures marked { (k : ℕ) (x y : Bool) →
+        sum (marked_spider k) (x ∷ []) (y ∷ []) ≡ mul (spider k x) (sign (x && y)) }
+    ensures controlled_z { (x0 x1 y0 y1 : Bool) → sum controlled_z (x0 ∷ x1 ∷ []) (y0 ∷ y1 ∷ []) ≡
+        (if xor x0 y0 || xor x1 y1 then zero else sign (x0 && x1)) }
+    ensures crossing { (x0 x1 y0 y1 : Bool) → sum crossing (x0 ∷ x1 ∷ []) (y0 ∷ y1 ∷ []) ≡
+        (if xor x0 y1 || xor x1 y0 then zero else one) }
+{}
+
+/// A pivot done twice gives the graph back.
+pub fn pivot_is_its_own_inverse()
+    ensures { (g : Graph) (u v : ℕ) (h k : Graph) → WellFormed g → IsPivot g u v h → IsPivot h u v k →
+        k ≡ g }
+{}
