@@ -36,7 +36,7 @@ same_members (x ∷ xs) ys d short inside w =
     within : (v : ℕ) → member v xs ≡ true → member v (removed x ys) ≡ true
     within v t = member-removed v x ys ∙ ap₂ (λ a b. not a && b) (by_equal v x (λ s same. absurd (true≢false (sym t ∙ ap (λ y. member y xs) same ∙ d.0))) (λ f ne. f)) (inside v (member-there v x xs t))
 
-length-places : (ends : List End) → length (places ends) ≡ length ends
+pub length-places : (ends : List End) → length (places ends) ≡ length ends
 length-places [] = refl
 length-places (e ∷ es) = ap suc (length-places es)
 

@@ -13,7 +13,7 @@ use Rattle.gflow_laws.proofs.Complement.{other_set}
 use Rattle.gflow_laws.proofs.Lists.{is_in-symmetric_difference}
 use Rattle.gflow_laws.proofs.TableLaws.{order_of-with_sets, set_of-with_sets, order_of-without_set, set_of-without_set, is_in-set_about, is_in-set_beside, order_of-append}
 
-set_of-outside : (table : List Correction) (v : ℕ) → member v (order_of table) ≡ false → set_of table v ≡ []
+pub set_of-outside : (table : List Correction) (v : ℕ) → member v (order_of table) ≡ false → set_of table v ≡ []
 set_of-outside [] v out = refl
 set_of-outside (e ∷ es) v out =
     ap (λ b. cond b e.members (set_of es v)) (or_parts (eqb v e.vertex) (member v (order_of es)) out).0

@@ -39,7 +39,7 @@ in_order-removed u (x ∷ xs) h =
     by_equal u x (λ t e. rw t (in_order-removed u xs (and-right _ _ h)))
     (λ t n. rw t (both _ _ (list_all-removed (ltb x) u xs (and-left _ _ h)) (in_order-removed u xs (and-right _ _ h))))
 
-below_all : (p q : ℕ) (xs : List ℕ) → p < q → list_all (ltb q) xs ≡ true → list_all (ltb p) xs ≡ true
+pub below_all : (p q : ℕ) (xs : List ℕ) → p < q → list_all (ltb q) xs ≡ true → list_all (ltb p) xs ≡ true
 below_all p q [] lt h = refl
 below_all p q (x ∷ xs) lt h =
     let there : q < x = ltb-true q x (and-left _ _ h) in both _ _ (lt-ltb p x (omega arith)) (below_all p q xs lt (and-right _ _ h))

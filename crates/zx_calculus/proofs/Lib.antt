@@ -24,6 +24,9 @@ pub mod ReducedLemmas
 pub mod EdgeLists
 pub mod Results
 pub mod Programs
+pub mod Extensionality
+pub mod Edits
+pub mod EditPrograms
 pub mod PhaseGateSum
 pub mod StepIdentities
 pub mod Twice

@@ -21,7 +21,7 @@ use Rattle.zx_calculus.proofs.Kept.{in_order-removed, in_order-insert}
 use Rattle.zx_calculus.proofs.EdgeLists.{joined-edges_of, OrderedEdges-edges_of}
 use Rattle.zx_calculus.proofs.Results.{above_all-fresh, interior_from, restrict, complement_symmetric, is_pair-self, split_symmetric, pivot_symmetric, pivot_at_u, pivot_at_v, pivot_between, pivot_together}
 
-edges_full : (adjacent : ℕ → ℕ → Bool) (vs : List ℕ) (p q : ℕ) → Symmetric adjacent → p ≢ q → (member p vs ≡ false → adjacent p q ≡ false) → (member q vs ≡ false → adjacent p q ≡ false) → joined (edges_of adjacent vs) p q ≡ adjacent p q
+pub edges_full : (adjacent : ℕ → ℕ → Bool) (vs : List ℕ) (p q : ℕ) → Symmetric adjacent → p ≢ q → (member p vs ≡ false → adjacent p q ≡ false) → (member q vs ≡ false → adjacent p q ≡ false) → joined (edges_of adjacent vs) p q ≡ adjacent p q
 edges_full adjacent vs p q s n no_p no_q =
     joined-edges_of adjacent vs p q s n
     ∙ by_test (member p vs)
@@ -43,7 +43,7 @@ module _ (g : Graph) (w : WellFormed g) where
   rising_without f u = ap (in_order ltb) (ids-with_kinds f (without u g.vertices) ∙ ids-without u g.vertices) ∙ in_order-removed u (ids g.vertices) w.vertices_rising
 
   -- the edges that stay where u goes
-  removal_edges : (u : ℕ) (vs : List ℕ) → vs ≡ removed u (ids g.vertices) → in_order ltb vs ≡ true → (p q : ℕ) → p ≢ u → q ≢ u → joined (edges_of (joined g.edges) vs) p q ≡ joined g.edges p q
+  pub removal_edges : (u : ℕ) (vs : List ℕ) → vs ≡ removed u (ids g.vertices) → in_order ltb vs ≡ true → (p q : ℕ) → p ≢ u → q ≢ u → joined (edges_of (joined g.edges) vs) p q ≡ joined g.edges p q
   removal_edges u vs e rising p q i j =
       by_equal p q
       (λ t same. ap (λ r. joined (edges_of (joined g.edges) vs) r q) same ∙ joined-self _ q (OrderedEdges-edges_of (joined g.edges) vs rising).lower_first ∙ sym (no_loop g q w) ∙ ap (λ r. joined g.edges r q) (sym same))

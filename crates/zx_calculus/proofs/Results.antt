@@ -84,7 +84,7 @@ restrict vs es p q o =
     (λ f. rw f (joined-absent vs es p q o.lower_there o.higher_there f))
 
 -- edges in order are those of their adjacency
-edges_are : (h : Graph) (adjacent : ℕ → ℕ → Bool) → WellFormed h → Symmetric adjacent →
+pub edges_are : (h : Graph) (adjacent : ℕ → ℕ → Bool) → WellFormed h → Symmetric adjacent →
     ((p q : ℕ) → p ≢ q → member p (ids h.vertices) ≡ true → member q (ids h.vertices) ≡ true → joined h.edges p q ≡ adjacent p q) → h.edges ≡ edges_of adjacent (ids h.vertices)
 edges_are h adjacent w s law =
     edges_ext h.edges (edges_of adjacent vs) w.edges.lower_first ordered.lower_first w.edges.rising ordered.rising
@@ -168,7 +168,7 @@ pivot_law g u v h c n p q m =
     (λ g' k. by_equal q v (λ t e. rw e (joined_comm h.edges p v ∙ c.of_v p i j ∙ sym (pivot_to_v (joined g.edges) u v p n i j)))
     (λ g'' l. c.between p q i j k l m ∙ sym (pivot_between (joined g.edges) u v p q i j k l)))))
 
-graph_is : (h : Graph) (vs : List Vertex) (adjacent : ℕ → ℕ → Bool) (inputs outputs : List End) → h.vertices ≡ vs → h.edges ≡ edges_of adjacent (ids h.vertices) → h.inputs ≡ inputs → h.outputs ≡ outputs →
+pub graph_is : (h : Graph) (vs : List Vertex) (adjacent : ℕ → ℕ → Bool) (inputs outputs : List End) → h.vertices ≡ vs → h.edges ≡ edges_of adjacent (ids h.vertices) → h.inputs ≡ inputs → h.outputs ≡ outputs →
     h ≡ record { vertices = vs; edges = edges_of adjacent (ids vs); inputs = inputs; outputs = outputs }
 graph_is h vs adjacent inputs outputs vertices edges ins outs =
     λ j. record { vertices = vertices j; edges = (edges ∙ ap (λ ws. edges_of adjacent (ids ws)) vertices) j; inputs = ins j; outputs = outs j }

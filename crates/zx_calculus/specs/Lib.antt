@@ -13,6 +13,7 @@ pub mod Reduced
 pub mod Counts
 pub mod Moves
 pub mod After
+pub mod Edits
 pub mod Worked
 pub mod PhaseGates
 pub mod Tables

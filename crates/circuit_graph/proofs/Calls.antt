@@ -1,0 +1,181 @@
+-- What the calls of a graph's methods make of a translation under way.
+use Rattle.std.proofs.Common.{◌≡◌, ◌≢◌, refl, sym, ◌∙◌, ap, ap₂, subst, ℕ, zero, suc, ◌+◌, ◌<◌, Bool, true, false, not, ◌&&◌, ◌||◌, eqb, List, [], ◌∷◌, ◌++◌, length, set, remove, get_or, eqb-true, true≢false}
+use Rattle.std.proofs.lemmas.Option.{slice_get-get_or}
+use Rattle.std.proofs.lemmas.List.Folds.{list_all_at}
+use Rattle.std.specs.Prelude.{slice_get, Some, Result, Ok, Err, OnOk}
+use Rattle.zx_model.specs.Bits.{xor, member}
+use Rattle.zx_calculus.specs.Graph.{XY, Plane, Kind, End, Graph, ids, kind_of, plane_of, joined, places, with_kinds, insert_vertex, Live, OrderedEdges, WellFormed}
+use Rattle.zx_calculus.specs.Boundary.{spider_of_phase_zero, is_pair}
+use Rattle.zx_calculus.specs.Turns.{in_plane, with_phase_added}
+use Rattle.zx_calculus.specs.Edits.{IsToggle, at_vertex}
+use Rattle.zx_calculus.specs.Worked.{plain}
+use Rattle.zx_calculus.proofs.Booleans.{or-true, or-apart}
+use Rattle.zx_calculus.proofs.Ids.{by_test, eqb-self, or-left, or-right, apart_of_member}
+use Rattle.zx_calculus.proofs.Edges.{joined_comm}
+use Rattle.zx_calculus.proofs.Vertices.{member-insert, kind_of-insert}
+use Rattle.zx_calculus.proofs.Splitting.{absent_from, joined-absent}
+use Rattle.zx_calculus.proofs.Edits.{with_kinds-at}
+use Rattle.gflow_laws.specs.Seen.{seen}
+use Rattle.gflow_laws.specs.Flow.{order_of, SameSets}
+use Rattle.gflow_laws.specs.Tables.{split_output_table}
+use Rattle.gflow_laws.proofs.Flows.{Flows-from}
+use Rattle.gflow_laws.proofs.TableLaws.{unlisted}
+use Rattle.circuit_laws.specs.Peeling.{HasPlainOutput}
+use Rattle.circuit_laws.proofs.Places.{member-places, output_there, one_place}
+use Rattle.circuit_graph.specs.Translation.{are_plain}
+use Rattle.circuit_graph.proofs.Beginning.{one_more_wire}
+use Rattle.circuit_graph.specs.Internal.Runs.{State, IsReady, IsBegun, IsSpiderStep, IsPhaseStep, IsToggleStep}
+
+pub on_ok : {A B P Q : Type 0} (r : Result A B) → (P → Q) → OnOk r P → OnOk r Q
+on_ok (Ok x) f h = f h
+on_ok (Err e) f h = h
+
+-- the end at a place, where all are plain
+pub plain_at : (es : List End) (q : ℕ) (d : End) → are_plain es ≡ true → q < length es → slice_get es q ≡ Some (plain (get_or es q d).vertex)
+plain_at es q d all within =
+    slice_get-get_or es q d within ∙ ap (λ b. Some record { vertex = (get_or es q d).vertex; hadamard = b }) unmarked
+  where
+    unmarked : (get_or es q d).hadamard ≡ false
+    unmarked = by_test (get_or es q d).hadamard (λ t. absurd (true≢false (sym all ∙ list_all_at (λ e. not e.hadamard) es q d within (ap not t)))) (λ f. f)
+
+pub here_live : (g : Graph) (q u : ℕ) → WellFormed g → HasPlainOutput g q u → Live g u
+here_live g q u w h = output_there g q (plain u) w h
+
+absent-remove : (v : ℕ) (es : List End) (i : ℕ) → member v (places es) ≡ false → member v (places (remove es i)) ≡ false
+absent-remove v [] zero h = refl
+absent-remove v [] (suc i) h = refl
+absent-remove v (e ∷ es) zero h = or-right (eqb v e.vertex) _ h
+absent-remove v (e ∷ es) (suc i) h = ap₂ (λ a b. a || b) (or-left (eqb v e.vertex) _ h) (absent-remove v es i (or-right (eqb v e.vertex) _ h))
+
+-- of a pair that the new vertex is in no edge is an edge
+pair_absent : (j p_here v_next p_next v_here : Bool) → (v_next ≡ true → j ≡ false) → (p_next ≡ true → j ≡ false) → (j && ((p_here && v_next) || (p_next && v_here))) ≡ false
+pair_absent false a b c d f g = refl
+pair_absent true a true c d f g = absurd (true≢false (f refl))
+pair_absent true a b true d f g = absurd (true≢false (g refl))
+pair_absent true true false false d f g = refl
+pair_absent true false false false d f g = refl
+
+-- ---- H: a vertex is added, joined to the present spider, and takes the output over
+module _ (s : State) (q here next phase : ℕ) (g : Graph) (r : IsReady s) (output : HasPlainOutput s.graph q here) (fresh : member next (ids s.graph.vertices) ≡ false)
+    (zero_phase : phase ≡ 0) (added : g ≡ record { vertices = insert_vertex (record { id = next; kind = in_plane XY phase }) s.graph.vertices; edges = s.graph.edges; inputs = s.graph.inputs; outputs = s.graph.outputs }) where
+  vertices_are : g.vertices ≡ insert_vertex (spider_of_phase_zero next) s.graph.vertices
+  vertices_are = ap (λ (h : Graph). h.vertices) added ∙ ap (λ k. insert_vertex (record { id = next; kind = in_plane XY k }) s.graph.vertices) zero_phase
+
+  member_is : (p : ℕ) → member p (ids g.vertices) ≡ (eqb p next || member p (ids s.graph.vertices))
+  member_is p = ap (λ vs. member p (ids vs)) vertices_are ∙ member-insert p (spider_of_phase_zero next) s.graph.vertices
+
+  pub here_still_live : Live g here
+  here_still_live = member_is here ∙ ap (λ b. eqb here next || b) (here_live s.graph q here r.well_formed output) ∙ or-true (eqb here next)
+
+  pub next_live : Live g next
+  next_live = member_is next ∙ ap (λ b. b || member next (ids s.graph.vertices)) (eqb-self next)
+
+  pub here_apart : here ≢ next
+  here_apart = apart_of_member here next (ids s.graph.vertices) (here_live s.graph q here r.well_formed output) fresh
+
+  module _ (h : Graph) (toggle : IsToggle g here next h) where
+    pub next_still_live : Live h next
+    next_still_live = ap (λ vs. member next (ids vs)) toggle.vertices ∙ next_live
+
+    pub next_plane : plane_of h next ≡ XY
+    next_plane = ap (λ vs. (kind_of vs next).plane) (toggle.vertices ∙ vertices_are) ∙ ap (λ (k : Kind). k.plane) (kind_of-insert (spider_of_phase_zero next) s.graph.vertices fresh)
+
+    outputs_are : h.outputs ≡ s.graph.outputs
+    outputs_are = toggle.outputs ∙ ap (λ (h : Graph). h.outputs) added
+
+    pub next_free : (i : ℕ) → member next (places (remove h.outputs i)) ≡ false
+    next_free i = absent-remove next h.outputs i
+        (ap (λ es. member next (places es)) outputs_are ∙ absent_from (ids s.graph.vertices) (places s.graph.outputs) next r.well_formed.outputs.there fresh)
+
+    pub here_uncorrected : member here (order_of s.table) ≡ false
+    here_uncorrected = unlisted (seen s.graph) s.table (Flows-from (seen s.graph) s.table r.flow) here (member-places s.graph.outputs q (plain here) output)
+
+    pub spider_step : (t : State) → t.graph ≡ record { vertices = h.vertices; edges = h.edges; inputs = h.inputs; outputs = set h.outputs q (plain next) } →
+        SameSets t.table (split_output_table here next s.table) → IsSpiderStep s q t
+    spider_step t moved same = record {
+      peel = record {
+        spider = next;
+        next = here;
+        fresh = fresh;
+        output = output;
+        vertices = ap (λ (h : Graph). h.vertices) moved ∙ toggle.vertices ∙ vertices_are;
+        ordered = subst (λ (h : Graph). OrderedEdges (ids h.vertices) h.edges) (sym moved) toggle.ordered;
+        ordered_too = r.well_formed.edges;
+        edges = λ p v. ap (λ (h : Graph). joined h.edges p v) moved ∙ toggle.edges p v ∙ ap (λ (h : Graph). xor (joined h.edges p v) (is_pair here next p v)) added ∙ sym (or-apart (joined s.graph.edges p v) (is_pair here next p v) (none p v));
+        inputs = ap (λ (h : Graph). h.inputs) moved ∙ toggle.inputs ∙ ap (λ (h : Graph). h.inputs) added;
+        outputs = ap (λ (h : Graph). h.outputs) moved ∙ ap (λ es. set es q (plain next)) outputs_are;
+      };
+      table = same;
+    }
+      where
+        -- a new vertex has no edges
+        none : (p v : ℕ) → (joined s.graph.edges p v && is_pair here next p v) ≡ false
+        none p v = pair_absent (joined s.graph.edges p v) (eqb p here) (eqb v next) (eqb p next) (eqb v here) (λ e. joined_comm s.graph.edges p v ∙ no_edge v p e) (λ e. no_edge p v e)
+          where
+            no_edge : (a b : ℕ) → eqb a next ≡ true → joined s.graph.edges a b ≡ false
+            no_edge a b e = joined-absent (ids s.graph.vertices) s.graph.edges a b r.well_formed.edges.lower_there r.well_formed.edges.higher_there
+                (ap (λ u. member u (ids s.graph.vertices)) (eqb-true a next e) ∙ fresh)
+
+-- ---- Phase
+pub phase_step : (s : State) (q here k before after : ℕ) (plane : Plane) (t : State) → IsReady s → HasPlainOutput s.graph q here →
+    in_plane plane before ≡ kind_of s.graph.vertices here → in_plane plane after ≡ with_phase_added k (in_plane plane before) →
+    t.graph ≡ record { vertices = with_kinds (at_vertex here (λ _. in_plane plane after)) s.graph.vertices; edges = s.graph.edges; inputs = s.graph.inputs; outputs = s.graph.outputs } →
+    t.table ≡ s.table → IsPhaseStep s q k t
+phase_step s q here k before after plane t r output was becomes set same = record {
+  peel = record {
+    vertex = here;
+    output = ap (λ (h : Graph). slice_get h.outputs q) set ∙ output;
+    vertices = ap (λ (h : Graph). h.vertices) set ∙ ap (λ kind. with_kinds (at_vertex here (λ _. kind)) s.graph.vertices) (becomes ∙ ap (with_phase_added k) was)
+        ∙ with_kinds-at here (with_phase_added k) s.graph.vertices r.well_formed.vertices_rising;
+    edges = ap (λ (h : Graph). h.edges) set;
+    inputs = ap (λ (h : Graph). h.inputs) set;
+    outputs = ap (λ (h : Graph). h.outputs) set;
+  };
+  table = same;
+}
+
+-- ---- Cz
+pub wires_apart : (g : Graph) (p q u v : ℕ) → WellFormed g → HasPlainOutput g p u → HasPlainOutput g q v → p ≢ q → u ≢ v
+wires_apart g p q u v w h i n e = n (one_place g.outputs p q (plain u) (plain v) w.outputs.one_each h i e)
+
+pub toggle_step : (s : State) (p q u v : ℕ) (t : State) → IsReady s → HasPlainOutput s.graph p u → HasPlainOutput s.graph q v → p ≢ q →
+    IsToggle s.graph u v t.graph → t.table ≡ s.table → IsToggleStep s p q t
+toggle_step s p q u v t r h i n toggle same = record {
+  peel = record {
+    first = u;
+    second = v;
+    different = wires_apart s.graph p q u v r.well_formed h i n;
+    output = ap (λ es. slice_get es p) toggle.outputs ∙ h;
+    output_too = ap (λ es. slice_get es q) toggle.outputs ∙ i;
+    vertices = toggle.vertices;
+    ordered = toggle.ordered;
+    ordered_too = r.well_formed.edges;
+    edges = λ a b _. toggle.edges a b;
+    inputs = toggle.inputs;
+    outputs = toggle.outputs;
+  };
+  table = same;
+}
+
+-- ---- wires without gates: a vertex takes an input and an output
+module _ (n : ℕ) (s : Graph) (v phase : ℕ) (g : Graph) (b : IsBegun n s) (fresh : member v (ids s.vertices) ≡ false)
+    (zero_phase : phase ≡ 0) (added : g ≡ record { vertices = insert_vertex (record { id = v; kind = in_plane XY phase }) s.vertices; edges = s.edges; inputs = s.inputs; outputs = s.outputs }) where
+  inserted : g.vertices ≡ insert_vertex (spider_of_phase_zero v) s.vertices
+  inserted = ap (λ (h : Graph). h.vertices) added ∙ ap (λ k. insert_vertex (record { id = v; kind = in_plane XY k }) s.vertices) zero_phase
+
+  pub new_live : Live g v
+  new_live = ap (λ vs. member v (ids vs)) inserted ∙ member-insert v (spider_of_phase_zero v) s.vertices ∙ ap (λ c. c || member v (ids s.vertices)) (eqb-self v)
+
+  pub new_plane : plane_of g v ≡ XY
+  new_plane = ap (λ vs. (kind_of vs v).plane) inserted ∙ ap (λ (k : Kind). k.plane) (kind_of-insert (spider_of_phase_zero v) s.vertices fresh)
+
+  pub begun_more : (end : End) (with_input h : Graph) → end ≡ plain v →
+      with_input ≡ record { vertices = g.vertices; edges = g.edges; inputs = g.inputs ++ end ∷ []; outputs = g.outputs } →
+      h ≡ record { vertices = with_input.vertices; edges = with_input.edges; inputs = with_input.inputs; outputs = with_input.outputs ++ end ∷ [] } → IsBegun (n + 1) h
+  begun_more end with_input h same with_i with_o =
+      subst (IsBegun (n + 1))
+      (sym (with_o
+      ∙ ap (λ (k : Graph). record { vertices = k.vertices; edges = k.edges; inputs = k.inputs; outputs = k.outputs ++ end ∷ [] }) with_i
+      ∙ ap (λ (k : Graph). record { vertices = k.vertices; edges = k.edges; inputs = k.inputs ++ end ∷ []; outputs = k.outputs ++ end ∷ [] }) added
+      ∙ ap₂ (λ k e. record { vertices = insert_vertex (record { id = v; kind = in_plane XY k }) s.vertices; edges = s.edges; inputs = s.inputs ++ e ∷ []; outputs = s.outputs ++ e ∷ [] }) zero_phase same))
+      (one_more_wire n s v b fresh)

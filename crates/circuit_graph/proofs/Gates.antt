@@ -1,0 +1,186 @@
+-- What each gate does to a translation under way.
+use Rattle.std.proofs.Common.{◌≡◌, refl, sym, ◌∙◌, ap, ap₂, subst, ℕ, zero, suc, ◌+◌, Bool, true, false, cond, not, ltb, eqb, List, [], ◌∷◌, length, set, le_of_eq, arith}
+use Rattle.std.proofs.Math.ListN.{length-set}
+use Rattle.std.proofs.lemmas.List.{set-set}
+use Rattle.std.specs.Prelude.{slice_get, Some}
+use Rattle.zx_model.specs.Bits.{xor, member}
+use Rattle.zx_calculus.specs.Graph.{XY, Kind, Vertex, End, Graph, ids, kind_of, plane_of, places, in_order, different, with_kinds, insert_vertex, WellFormed}
+use Rattle.zx_calculus.specs.Boundary.{spider_of_phase_zero, move_end}
+use Rattle.zx_calculus.specs.Gadgets.{fuse_kind}
+use Rattle.zx_calculus.specs.Turns.{with_phase_added}
+use Rattle.zx_calculus.specs.Worked.{plain}
+use Rattle.zx_calculus.proofs.Ids.{by_equal, and-left, and-right}
+use Rattle.zx_calculus.proofs.Vertices.{ids-with_kinds, kind_of-insert}
+use Rattle.zx_calculus.proofs.Splitting.{no_loop}
+use Rattle.zx_calculus.proofs.Results.{is_pair-self}
+use Rattle.zx_calculus.proofs.Kept.{both, kind_of-insert_other}
+use Rattle.zx_calculus.proofs.Edits.{set-move_end}
+use Rattle.gflow_laws.specs.Seen.{seen}
+use Rattle.gflow_laws.specs.Flow.{IsFlow}
+use Rattle.gflow_laws.specs.Outputs.{toggled, IsNewOutput}
+use Rattle.gflow_laws.specs.Correcting.{Alike}
+use Rattle.gflow_laws.proofs.Seeing.{phases_unseen, flow-same_sets}
+use Rattle.gflow_laws.proofs.OutputLaws.{toggled_flow}
+use Rattle.gflow_laws.proofs.Steps.{new_output_flow}
+use Rattle.zx_gates.specs.declared.gate.Gate.{Gate}
+use Rattle.zx_gates.specs.declared.gate.Gate.TheVariants.{H, Phase, Cz, Cx, Not}
+use Rattle.circuit_laws.specs.Peeling.{IsSpiderPeel, IsEdgePeel, marked}
+use Rattle.circuit_laws.proofs.Places.{member-places, places-same, slice_get-set}
+use Rattle.circuit_laws.proofs.Keeping.{spider_formed, phase_formed, edge_formed}
+use Rattle.circuit_laws.proofs.Counts.{same_vertices, phase_odd, spider_odd}
+use Rattle.circuit_laws.proofs.Settling.{phase_peels, edge_peels}
+use Rattle.circuit_laws.proofs.Advancing.{spider_peels}
+use Rattle.circuit_graph.specs.Translation.{are_plain}
+use Rattle.circuit_graph.specs.Internal.Runs.{State, IsReady, IsSpiderStep, IsPhaseStep, IsToggleStep, IsGateStep, Comes}
+
+pub length-insert : (n : Vertex) (vs : List Vertex) → length (insert_vertex n vs) ≡ length vs + 1
+length-insert n [] = refl
+length-insert n (v ∷ vs) = at (ltb n.id v.id) (length-insert n vs)
+  where
+    at : (b : Bool) → length (insert_vertex n vs) ≡ length vs + 1 → length (cond b (n ∷ (v ∷ vs)) (v ∷ insert_vertex n vs)) ≡ length (v ∷ vs) + 1
+    at true again = omega arith
+    at false again = omega arith
+
+pub length-with_kinds : (f : ℕ → Kind → Kind) (vs : List Vertex) → length (with_kinds f vs) ≡ length vs
+length-with_kinds f [] = refl
+length-with_kinds f (v ∷ vs) = ap (λ n. suc n) (length-with_kinds f vs)
+
+-- an added phase changes no plane
+plane-fused : (u k p : ℕ) (kind : Kind) → (fuse_kind u k p kind).plane ≡ kind.plane
+plane-fused u k p kind = at (eqb p u)
+  where
+    at : (b : Bool) → (cond b (with_phase_added k kind) kind).plane ≡ kind.plane
+    at true = refl
+    at false = refl
+
+planes-fused : (u k : ℕ) (vs : List Vertex) (p : ℕ) → (kind_of (with_kinds (fuse_kind u k) vs) p).plane ≡ (kind_of vs p).plane
+planes-fused u k [] p = refl
+planes-fused u k (v ∷ vs) p = at (eqb p v.id) (planes-fused u k vs p)
+  where
+    at : (b : Bool) → (kind_of (with_kinds (fuse_kind u k) vs) p).plane ≡ (kind_of vs p).plane →
+        (cond b (fuse_kind u k v.id v.kind) (kind_of (with_kinds (fuse_kind u k) vs) p)).plane ≡ (cond b v.kind (kind_of vs p)).plane
+    at true again = plane-fused u k v.id v.kind
+    at false again = again
+
+plain-set : (es : List End) (q v : ℕ) → are_plain es ≡ true → are_plain (set es q (plain v)) ≡ true
+plain-set [] q v h = refl
+plain-set (e ∷ es) zero v h = and-right (not e.hadamard) (are_plain es) h
+plain-set (e ∷ es) (suc q) v h = both _ _ (and-left (not e.hadamard) (are_plain es) h) (plain-set es q v (and-right (not e.hadamard) (are_plain es) h))
+
+places-set : (es : List End) (q u v : ℕ) → in_order different (places es) ≡ true → slice_get es q ≡ Some (plain u) →
+    places (set es q (plain v)) ≡ places (move_end u v es)
+places-set es q u v once h =
+    sym (places-same (set es q (plain v)) q (plain v) (marked v) (slice_get-set es q (plain u) (plain v) h) refl)
+    ∙ ap places (set-set es q (plain v) (marked v) ∙ set-move_end es q (plain u) v once h)
+
+planes-inserted : (new : ℕ) (vs : List Vertex) → member new (ids vs) ≡ false → ((u : ℕ) → (kind_of vs u).plane ≡ XY) →
+    (u : ℕ) → (kind_of (insert_vertex (spider_of_phase_zero new) vs) u).plane ≡ XY
+planes-inserted new vs fresh planes u =
+    by_equal u new
+    (λ t e. ap (λ p. (kind_of (insert_vertex (spider_of_phase_zero new) vs) p).plane) e ∙ ap (λ (k : Kind). k.plane) (kind_of-insert (spider_of_phase_zero new) vs fresh))
+    (λ f n. ap (λ (k : Kind). k.plane) (kind_of-insert_other u (spider_of_phase_zero new) vs n) ∙ planes u)
+
+pub as_many : {a b : ℕ} → a ≡ b → a ≡ b + 0
+as_many e = omega arith
+
+-- ---- H
+is_new_output : (s : Graph) (q : ℕ) (t : Graph) → WellFormed s → (c : IsSpiderPeel t q s) → IsNewOutput s c.next t
+is_new_output s q t w c = record {
+  new = c.spider;
+  fresh = c.fresh;
+  has_output = member-places s.outputs q (plain c.next) c.output;
+  vertices = c.vertices;
+  edges = c.edges;
+  inputs = ap places c.inputs;
+  outputs = ap places c.outputs ∙ places-set s.outputs q c.next c.spider w.outputs.one_each c.output;
+}
+
+spider_ready : (s : State) (q : ℕ) (t : State) → IsReady s → IsSpiderStep s q t → IsReady t
+unfolding is_new_output
+spider_ready s q t r c = record {
+  well_formed = spider_formed t.graph q s.graph r.well_formed c.peel;
+  planes = λ u. ap (λ vs. (kind_of vs u).plane) c.peel.vertices ∙ planes-inserted c.peel.spider s.graph.vertices c.peel.fresh r.planes u;
+  flow = flow-same_sets t.graph _ _ (record { order = sym c.table.order; members = λ v w. sym (c.table.members v w) })
+      (new_output_flow s.graph c.peel.next t.graph s.table r.well_formed (is_new_output s.graph q t.graph r.well_formed c.peel) r.flow);
+  plain = ap are_plain c.peel.outputs ∙ plain-set s.graph.outputs q c.peel.spider r.plain;
+}
+
+spider_comes : (s : State) (q : ℕ) (t : State) → IsReady s → IsSpiderStep s q t → Comes s (H q ∷ []) t
+spider_comes s q t r c =
+    let ready : IsReady t = spider_ready s q t r c in
+    record {
+      ready = ready;
+      map = spider_peels t.graph q s.graph r.well_formed c.peel ready.well_formed;
+      spiders = ap length c.peel.vertices ∙ length-insert (spider_of_phase_zero c.peel.spider) s.graph.vertices;
+      odd = le_of_eq (as_many (spider_odd t.graph q s.graph c.peel));
+      inputs = c.peel.inputs;
+      outputs = ap length c.peel.outputs ∙ length-set s.graph.outputs q (plain c.peel.spider);
+    }
+
+-- ---- Phase
+phase_comes : (s : State) (q k : ℕ) (t : State) → IsReady s → IsPhaseStep s q k t → Comes s (Phase q k ∷ []) t
+phase_comes s q k t r c = record {
+  ready = record {
+    well_formed = formed;
+    planes = λ u. same_planes u ∙ r.planes u;
+    flow = subst (IsFlow t.graph) (sym c.table) (phases_unseen s.graph t.graph s.table (sym same_ids) (λ u. sym (same_planes u)) (sym c.peel.edges) (ap places (sym c.peel.inputs)) (ap places (sym c.peel.outputs)) r.flow);
+    plain = ap are_plain c.peel.outputs ∙ r.plain;
+  };
+  map = phase_peels t.graph q k s.graph formed r.well_formed c.peel;
+  spiders = as_many (ap length c.peel.vertices ∙ length-with_kinds (fuse_kind c.peel.vertex k) s.graph.vertices);
+  odd = phase_odd t.graph q k s.graph r.well_formed c.peel;
+  inputs = c.peel.inputs;
+  outputs = ap length c.peel.outputs;
+}
+  where
+    formed : WellFormed t.graph
+    formed = phase_formed t.graph q k s.graph r.well_formed c.peel
+
+    same_ids : ids t.graph.vertices ≡ ids s.graph.vertices
+    same_ids = ap ids c.peel.vertices ∙ ids-with_kinds (fuse_kind c.peel.vertex k) s.graph.vertices
+
+    same_planes : (u : ℕ) → plane_of t.graph u ≡ plane_of s.graph u
+    same_planes u = ap (λ vs. (kind_of vs u).plane) c.peel.vertices ∙ planes-fused c.peel.vertex k s.graph.vertices u
+
+-- ---- Cz
+is_toggled : (s : Graph) (p q : ℕ) (t : Graph) → WellFormed s → WellFormed t → (c : IsEdgePeel t p q s) →
+    Alike (toggled (seen s) c.first c.second) (seen t)
+is_toggled s p q t ws wt c = record {
+  ids = λ v. ap (λ vs. member v (ids vs)) (sym c.vertices);
+  adjacent = λ v w _ _. by_equal v w
+      (λ _ e. rw e (ap₂ xor (no_loop s w ws) (is_pair-self c.first c.second c.different w) ∙ sym (no_loop t w wt)))
+      (λ _ n. sym (c.edges v w n));
+  plane = λ v _. ap (λ vs. (kind_of vs v).plane) (sym c.vertices);
+  input = λ v _. ap (λ es. member v (places es)) (sym c.inputs);
+  output = λ v _. ap (λ es. member v (places es)) (sym c.outputs);
+}
+
+toggle_comes : (s : State) (p q : ℕ) (t : State) → IsReady s → IsToggleStep s p q t → Comes s (Cz p q ∷ []) t
+toggle_comes s p q t r c = record {
+  ready = record {
+    well_formed = formed;
+    planes = λ u. ap (λ vs. (kind_of vs u).plane) c.peel.vertices ∙ r.planes u;
+    flow = subst (IsFlow t.graph) (sym c.table)
+        (toggled_flow s.graph c.peel.first c.peel.second t.graph s.table r.well_formed formed (is_toggled s.graph p q t.graph r.well_formed formed c.peel)
+        (at_output p c.peel.first c.peel.output) (at_output q c.peel.second c.peel.output_too) r.flow);
+    plain = ap are_plain c.peel.outputs ∙ r.plain;
+  };
+  map = edge_peels t.graph p q s.graph formed r.well_formed c.peel;
+  spiders = as_many (ap length c.peel.vertices);
+  odd = le_of_eq (as_many (same_vertices t.graph s.graph c.peel.vertices));
+  inputs = c.peel.inputs;
+  outputs = ap length c.peel.outputs;
+}
+  where
+    formed : WellFormed t.graph
+    formed = edge_formed t.graph p q s.graph r.well_formed c.peel
+
+    at_output : (i u : ℕ) → slice_get t.graph.outputs i ≡ Some (plain u) → member u (places s.graph.outputs) ≡ true
+    at_output i u h = ap (λ es. member u (places es)) (sym c.peel.outputs) ∙ member-places t.graph.outputs i (plain u) h
+
+pub gate_comes : (s : State) (gate : Gate) (t : State) → IsReady s → IsGateStep s gate t → Comes s (gate ∷ []) t
+gate_comes s (H q) t = spider_comes s q t
+gate_comes s (Phase q k) t = phase_comes s q k t
+gate_comes s (Cz p q) t = toggle_comes s p q t
+gate_comes s (Cx control target) t = λ r c. absurd c
+gate_comes s (Not q) t = λ r c. absurd c

@@ -1,0 +1,7 @@
+pub mod Gates
+pub mod RunLemmas
+pub mod WrittenOut
+pub mod Beginning
+pub mod Naming
+pub mod Whole
+pub mod Calls

@@ -1,0 +1,77 @@
+-- What becomes of a circuit's numbers and map when Cx and Not are written out.
+use Rattle.std.proofs.Common.{◌≡◌, ◌≢◌, refl, sym, ◌∙◌, ap, ℕ, ◌+◌, ◌*◌, Bool, cond, List, [], ◌∷◌, ◌++◌, arith}
+use Rattle.std.specs.List.{All, count_by}
+use Rattle.std.proofs.lemmas.List.Elements.{All-head, All-tail}
+use Rattle.std.proofs.lemmas.List.Sums.{sum_by-append}
+use Rattle.zx_model.specs.Number.{Number, zero, mul}
+use Rattle.zx_model.proofs.Ring.{one-mul, one_nonzero, two_nonzero, mul_assoc}
+use Rattle.zx_model.proofs.Domain.{mul-nonzero}
+use Rattle.zx_gates.specs.Circuit.{IsOnQubits, gate_odd_phases, is_odd_phase}
+use Rattle.zx_gates.specs.Counting.{is_h, is_cx, is_not}
+use Rattle.zx_gates.specs.Maps.{acts}
+use Rattle.zx_gates.specs.declared.gate.Gate.{Gate}
+use Rattle.zx_gates.specs.declared.gate.Gate.TheVariants.{H, Phase, Cz, Cx, Not}
+use Rattle.zx_gates.proofs.MapLemmas.{acts-append}
+use Rattle.zx_gates.proofs.Multiples.{act-factor}
+use Rattle.circuit_laws.specs.Followed.{IsMultiple}
+use Rattle.circuit_laws.proofs.ByHadamards.{cx_by_three, not_by_three}
+use Rattle.circuit_graph.specs.Translation.{by_hadamards, written_out, gate_scalar, scalar_of}
+
+pub count-cons : (p : Gate → Bool) (gate : Gate) (gates : List Gate) →
+    count_by p (gate ∷ gates) ≡ count_by p (gate ∷ []) + count_by p gates
+count-cons p gate gates = sum_by-append (λ g. cond (p g) 1 0) (gate ∷ []) gates
+
+count-append : (p : Gate → Bool) (first second : List Gate) → count_by p (first ++ second) ≡ count_by p first + count_by p second
+count-append p first second = sum_by-append (λ g. cond (p g) 1 0) first second
+
+-- a gate's spiders, and its odd phase
+spiders-gate : (gate : Gate) → count_by is_h (by_hadamards gate) ≡ count_by is_h (gate ∷ []) + 2 * count_by is_cx (gate ∷ []) + 2 * count_by is_not (gate ∷ [])
+spiders-gate (H q) = refl
+spiders-gate (Phase q k) = refl
+spiders-gate (Cz p q) = refl
+spiders-gate (Cx control target) = refl
+spiders-gate (Not q) = refl
+
+odd-gate : (gate : Gate) → gate_odd_phases (by_hadamards gate) ≡ gate_odd_phases (gate ∷ [])
+odd-gate (H q) = refl
+odd-gate (Phase q k) = refl
+odd-gate (Cz p q) = refl
+odd-gate (Cx control target) = refl
+odd-gate (Not q) = refl
+
+pub spiders-written : (gates : List Gate) → count_by is_h (written_out gates) ≡ count_by is_h gates + 2 * count_by is_cx gates + 2 * count_by is_not gates
+spiders-written [] = refl
+spiders-written (gate ∷ gates) =
+    omega (arith, spiders-written gates, spiders-gate gate, count-append is_h (by_hadamards gate) (written_out gates), count-cons is_h gate gates, count-cons is_cx gate gates, count-cons is_not gate gates)
+
+pub odd-written : (gates : List Gate) → gate_odd_phases (written_out gates) ≡ gate_odd_phases gates
+odd-written [] = refl
+odd-written (gate ∷ gates) =
+    omega (arith, odd-written gates, odd-gate gate, count-append is_odd_phase (by_hadamards gate) (written_out gates), count-cons is_odd_phase gate gates)
+
+-- a gate's map, when it is written out
+gate-written : (n : ℕ) (gate : Gate) → IsOnQubits n gate → IsMultiple (gate_scalar gate) n (by_hadamards gate) (gate ∷ [])
+gate-written n (H q) on f z l = sym (one-mul _)
+gate-written n (Phase q k) on f z l = sym (one-mul _)
+gate-written n (Cz p q) on f z l = sym (one-mul _)
+gate-written n (Cx control target) on f z l = cx_by_three n control target on.1 on.2 f z l
+gate-written n (Not q) on f z l = not_by_three n q on f z l
+
+pub map-written : (n : ℕ) (gates : List Gate) → All (IsOnQubits n) gates → IsMultiple (scalar_of gates) n (written_out gates) gates
+map-written n [] all f z l = sym (one-mul (f z))
+map-written n (gate ∷ gates) all f z l =
+    ap (λ (h : List Bool → Number). h z) (acts-append (by_hadamards gate) (written_out gates) f)
+    ∙ gate-written n gate (All-head (IsOnQubits n) gate gates all) (acts (written_out gates) f) z l
+    ∙ ap (mul (gate_scalar gate)) (act-factor n gate (scalar_of gates) (acts (written_out gates) f) (acts gates f) (map-written n gates (All-tail (IsOnQubits n) gate gates all) f) z l)
+    ∙ sym (mul_assoc (gate_scalar gate) (scalar_of gates) (acts (gate ∷ gates) f z))
+
+gate_scalar-nonzero : (gate : Gate) → gate_scalar gate ≢ zero
+gate_scalar-nonzero (H q) = one_nonzero
+gate_scalar-nonzero (Phase q k) = one_nonzero
+gate_scalar-nonzero (Cz p q) = one_nonzero
+gate_scalar-nonzero (Cx control target) = two_nonzero
+gate_scalar-nonzero (Not q) = two_nonzero
+
+pub scalar_of-nonzero : (gates : List Gate) → scalar_of gates ≢ zero
+scalar_of-nonzero [] = one_nonzero
+scalar_of-nonzero (gate ∷ gates) = mul-nonzero (gate_scalar gate) (scalar_of gates) (gate_scalar-nonzero gate) (scalar_of-nonzero gates)

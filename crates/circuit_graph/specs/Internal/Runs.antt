@@ -1,0 +1,90 @@
+-- A translation under way: the graph so far, and the corrections of the spiders that the wires have left.
+use Rattle.std.specs.Prelude.{◌≡◌, ℕ, ◌+◌, ◌≤◌, Bool, true, List, [], ◌∷◌, length}
+use Rattle.std.specs.List.{count_by}
+use Rattle.zx_model.specs.Number.{one, mul}
+use Rattle.zx_calculus.specs.Sum.{sum}
+use Rattle.zx_calculus.specs.Graph.{XY, Graph, ids, kind_of, plane_of, places, WellFormed}
+use Rattle.zx_calculus.specs.Turns.{in_plane}
+use Rattle.zx_model.specs.Bits.{member}
+use Rattle.zx_calculus.specs.Reduced.{odd_phases}
+use Rattle.zx_gates.specs.Circuit.{Circuit, gate_odd_phases}
+use Rattle.zx_gates.specs.Maps.{amp}
+use Rattle.zx_gates.specs.Counting.{is_h}
+use Rattle.zx_gates.specs.declared.gate.Gate.{Gate}
+use Rattle.zx_gates.specs.declared.gate.Gate.TheVariants.{H, Phase, Cz}
+use Rattle.gflow_laws.specs.Flow.{Correction, IsFlow, SameSets}
+use Rattle.gflow_laws.specs.Tables.{split_output_table}
+use Rattle.circuit_laws.specs.Followed.{PeelsAt}
+use Rattle.circuit_laws.specs.Peeling.{IsSpiderPeel, IsPhasePeel, IsEdgePeel}
+use Rattle.circuit_graph.specs.Translation.{are_plain, wires, spiders_of, scalar_of, IsTranslation}
+
+pub record State : Type 0 where
+  pub graph : Graph
+  pub table : List Correction
+
+-- what holds between gates
+pub record IsReady (s : State) : Type 0 where
+  pub well_formed : WellFormed s.graph
+  pub planes : (u : ℕ) → plane_of s.graph u ≡ XY
+  pub flow : IsFlow s.graph s.table
+  pub plain : are_plain s.graph.outputs ≡ true
+
+-- H: the old spider is corrected by the new one, and comes last
+pub record IsSpiderStep (s : State) (q : ℕ) (t : State) : Type 0 where
+  pub peel : IsSpiderPeel t.graph q s.graph
+  pub table : SameSets t.table (split_output_table peel.next peel.spider s.table)
+
+pub record IsPhaseStep (s : State) (q k : ℕ) (t : State) : Type 0 where
+  pub peel : IsPhasePeel t.graph q k s.graph
+  pub table : t.table ≡ s.table
+
+pub record IsToggleStep (s : State) (p q : ℕ) (t : State) : Type 0 where
+  pub peel : IsEdgePeel t.graph p q s.graph
+  pub table : t.table ≡ s.table
+
+-- t is s after a gate of circuits with Cx and Not written out
+abbrev pub IsGateStep : State → Gate → State → Type 0
+IsGateStep s (H q) t = IsSpiderStep s q t
+IsGateStep s (Phase q k) t = IsPhaseStep s q k t
+IsGateStep s (Cz p q) t = IsToggleStep s p q t
+IsGateStep s other t = ⊥
+
+-- t is s after the gates, one after the other
+abbrev pub IsRun : State → List Gate → State → Type 0
+IsRun s [] t = s ≡ t
+IsRun s (gate ∷ gates) t = (u : State) × IsGateStep s gate u × IsRun u gates t
+
+-- what t is after the gates
+pub record Comes (s : State) (gates : List Gate) (t : State) : Type 0 where
+  pub ready : IsReady t
+  pub map : PeelsAt one t.graph gates s.graph
+  pub spiders : length t.graph.vertices ≡ length s.graph.vertices + count_by is_h gates
+  pub odd : odd_phases t.graph ≤ odd_phases s.graph + gate_odd_phases gates
+  pub inputs : t.graph.inputs ≡ s.graph.inputs
+  pub outputs : length t.graph.outputs ≡ length s.graph.outputs
+
+-- wires alone, so many of them
+pub record IsBegun (n : ℕ) (g : Graph) : Type 0 where
+  pub graph : g ≡ wires (places g.inputs)
+  pub count : length g.inputs ≡ n
+  pub spiders : length g.vertices ≡ n
+  pub ends : g.outputs ≡ g.inputs
+  pub plain : are_plain g.inputs ≡ true
+  pub places : (u : ℕ) → member u (ids g.vertices) ≡ member u (places g.inputs)
+  pub kinds : (u : ℕ) → kind_of g.vertices u ≡ in_plane XY 0
+  pub edges : g.edges ≡ []
+  pub odd : odd_phases g ≡ 0
+
+-- all that is promised of the graph of a circuit
+pub record Translates (c : Circuit) (t : State) : Type 0 where
+  pub graph : IsTranslation c t.graph
+  pub well_formed : WellFormed t.graph
+  pub flow : IsFlow t.graph t.table
+  pub spiders : length t.graph.vertices ≡ spiders_of c
+  pub planes : (u : ℕ) → plane_of t.graph u ≡ XY
+  pub odd : odd_phases t.graph ≤ gate_odd_phases c.gates
+  pub inputs : length t.graph.inputs ≡ c.qubits
+  pub outputs : length t.graph.outputs ≡ c.qubits
+  pub plain_inputs : are_plain t.graph.inputs ≡ true
+  pub plain_outputs : are_plain t.graph.outputs ≡ true
+  pub sum : (x y : List Bool) → length x ≡ c.qubits → length y ≡ c.qubits → sum t.graph x y ≡ mul (scalar_of c.gates) (amp c.gates x y)

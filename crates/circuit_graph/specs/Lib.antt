@@ -1,0 +1,3 @@
+pub mod Translation
+pub mod Worked
+pub mod Internal

@@ -1,0 +1,101 @@
+-- The open graph of a circuit: each wire is a path of spiders, which its Hadamard gates join.
+-- Duncan, Kissinger, Perdrix and van de Wetering, "Graph-theoretic simplification of quantum circuits with the
+-- ZX-calculus" (Quantum 4, 279, 2020), on graph-like diagrams.
+use Rattle.std.specs.Prelude.{◌≡◌, ℕ, ◌+◌, ◌*◌, Bool, not, List, [], ◌∷◌, ◌++◌, length, get_or, take, slice_set}
+use Rattle.std.specs.List.{list_all, count_by, flat_map, fold}
+use Rattle.zx_model.specs.Bits.{xor}
+use Rattle.zx_model.specs.Phase.{half_turn}
+use Rattle.zx_model.specs.Number.{Number, one, mul}
+use Rattle.zx_model.specs.Constants.{two}
+use Rattle.zx_calculus.specs.Graph.{End, Graph, Distinct, joined, places, with_kinds, insert_vertex}
+use Rattle.zx_calculus.specs.Boundary.{spider_of_phase_zero, is_pair}
+use Rattle.zx_calculus.specs.Gadgets.{fuse_kind}
+use Rattle.zx_calculus.specs.After.{adjacent_graph, split_vertices, split_edges}
+use Rattle.zx_calculus.specs.Worked.{plain}
+use Rattle.zx_gates.specs.Circuit.{Circuit}
+use Rattle.zx_gates.specs.Counting.{is_h, is_cx, is_not}
+use Rattle.zx_gates.specs.declared.gate.Gate.{Gate}
+use Rattle.zx_gates.specs.declared.gate.Gate.TheVariants.{H, Phase, Cz, Cx, Not}
+
+-- Cx as H, Cz and H, and Not as H, a half turn and H
+abbrev pub by_hadamards : Gate → List Gate
+by_hadamards (Cx control target) = H target ∷ Cz control target ∷ H target ∷ []
+by_hadamards (Not q) = H q ∷ Phase q half_turn ∷ H q ∷ []
+by_hadamards other = other ∷ []
+
+-- the gates with each Cx and Not written out
+abbrev pub written_out : List Gate → List Gate
+written_out gates = flat_map by_hadamards gates
+
+-- how many spiders the graph of a circuit has: one for each qubit and each H, and two for each Cx and Not
+abbrev pub spiders_of : Circuit → ℕ
+spiders_of c = c.qubits + count_by is_h c.gates + 2 * count_by is_cx c.gates + 2 * count_by is_not c.gates
+
+-- H, Cz and H are two times Cx, and likewise for Not
+abbrev pub gate_scalar : Gate → Number
+gate_scalar (Cx control target) = two
+gate_scalar (Not q) = two
+gate_scalar other = one
+
+-- the number that the sum of a circuit's graph is times the circuit's map
+abbrev pub scalar_of : List Gate → Number
+scalar_of [] = one
+scalar_of (gate ∷ gates) = mul (gate_scalar gate) (scalar_of gates)
+
+-- all ends are plain
+abbrev pub are_plain : List End → Bool
+are_plain ends = list_all (λ e. not e.hadamard) ends
+
+-- the present spider of a wire, which holds its output
+abbrev pub present : Graph → ℕ → ℕ
+present g q = get_or (places g.outputs) q 0
+
+-- one more wire, a spider of phase 0 with both ends
+abbrev pub with_wire : Graph → ℕ → Graph
+with_wire g new = record {
+  vertices = insert_vertex (spider_of_phase_zero new) g.vertices;
+  edges = g.edges;
+  inputs = g.inputs ++ plain new ∷ [];
+  outputs = g.outputs ++ plain new ∷ [];
+}
+
+-- wires alone
+abbrev pub wires : List ℕ → Graph
+wires made = fold with_wire (record { vertices = []; edges = []; inputs = []; outputs = [] }) made
+
+-- H: an edge joins the present spider to a new one of phase 0, which is the present one from there on
+abbrev pub with_spider : ℕ → ℕ → Graph → Graph
+with_spider new q g = record {
+  vertices = split_vertices g new;
+  edges = split_edges g (present g q) new;
+  inputs = g.inputs;
+  outputs = slice_set g.outputs q (plain new);
+}
+
+-- a phase is added to the present spider
+abbrev pub with_phase : ℕ → ℕ → Graph → Graph
+with_phase q k g = record g { vertices = with_kinds (fuse_kind (present g q) k) g.vertices }
+
+-- Cz: an edge between the present spiders comes where there is none, and goes where there is one
+abbrev pub with_toggle : ℕ → ℕ → Graph → Graph
+with_toggle p q g =
+    adjacent_graph g g.vertices (λ v w. xor (joined g.edges v w) (is_pair (present g p) (present g q) v w))
+
+-- A gate where Cx and Not are written out. The spiders take their ids from a list, in the order of making: a new one takes
+-- that at the number of those before.
+abbrev pub with_gate : List ℕ → Graph → Gate → Graph
+with_gate made g (H q) = with_spider (get_or made (length g.vertices) 0) q g
+with_gate made g (Phase q k) = with_phase q k g
+with_gate made g (Cz p q) = with_toggle p q g
+with_gate made g other = g
+
+-- the graph of a circuit, whose spiders have these ids in the order of making, the first of each qubit before all others
+abbrev pub translated : Circuit → List ℕ → Graph
+translated c made = fold (with_gate made) (wires (take c.qubits made)) (written_out c.gates)
+
+-- the graph is that of the circuit, with some ids
+pub record IsTranslation (c : Circuit) (g : Graph) : Type 0 where
+  pub ids : List ℕ
+  pub different : Distinct ids
+  pub count : length ids ≡ spiders_of c
+  pub graph : g ≡ translated c ids

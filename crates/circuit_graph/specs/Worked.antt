@@ -1,0 +1,32 @@
+-- Circuits and their graphs, written down by hand.
+use Rattle.std.specs.Prelude.{[], ◌∷◌}
+use Rattle.zx_calculus.specs.Graph.{XY, Graph}
+use Rattle.zx_calculus.specs.Worked.{vertex, edge, plain, graph}
+use Rattle.zx_gates.specs.Circuit.{Circuit}
+use Rattle.zx_gates.specs.declared.gate.Gate.TheVariants.{H, Phase, Cz, Cx}
+
+-- a Bell pair: H, then Cx
+abbrev pub bell_circuit : Circuit
+bell_circuit = record { qubits = 2; gates = H 0 ∷ Cx 0 1 ∷ [] }
+
+-- the first wire is a path of two spiders, the second one of three; the edge between the wires is that of Cz
+abbrev pub bell_graph : Graph
+bell_graph =
+    graph (vertex 0 XY 0 ∷ vertex 1 XY 0 ∷ vertex 2 XY 0 ∷ vertex 3 XY 0 ∷ vertex 4 XY 0 ∷ [])
+    (edge 0 2 ∷ edge 1 3 ∷ edge 2 3 ∷ edge 3 4 ∷ [])
+    (plain 0 ∷ plain 1 ∷ []) (plain 2 ∷ plain 4 ∷ [])
+
+-- Cz twice, with phases between that add up
+abbrev pub double_cz : Circuit
+double_cz = record { qubits = 2; gates = Cz 0 1 ∷ Phase 0 3 ∷ Phase 0 7 ∷ Cz 1 0 ∷ [] }
+
+abbrev pub double_cz_graph : Graph
+double_cz_graph = graph (vertex 0 XY 2 ∷ vertex 1 XY 0 ∷ []) [] (plain 0 ∷ plain 1 ∷ []) (plain 0 ∷ plain 1 ∷ [])
+
+-- H on one qubit
+abbrev pub hadamard_circuit : Circuit
+hadamard_circuit = record { qubits = 1; gates = H 0 ∷ [] }
+
+-- vertices stand by rising id, whichever was made first
+abbrev pub hadamard_graph : Graph
+hadamard_graph = graph (vertex 2 XY 0 ∷ vertex 5 XY 0 ∷ []) (edge 2 5 ∷ []) (plain 5 ∷ []) (plain 2 ∷ [])

@@ -1,0 +1,63 @@
+//! The graph of a circuit, with its flow.
+
+ghost use Rattle.std.specs.Prelude.{◌≡◌, ◌≤◌, ℕ, true, Bool, List, length, IfOk};
+ghost use Rattle.zx_model.specs.Number.{mul};
+ghost use Rattle.zx_model.specs.Proportional.{Proportional};
+ghost use Rattle.zx_calculus.specs.Graph.{plane_of, Live, WellFormed};
+ghost use Rattle.zx_calculus.specs.Graph as zx;
+ghost use Rattle.zx_calculus.specs.Sum.{sum};
+ghost use Rattle.zx_calculus.specs.Reduced.{odd_phases};
+ghost use Rattle.gflow_laws.specs.Flow.{IsFlow};
+ghost use Rattle.zx_gates.specs.Circuit.{gate_odd_phases};
+ghost use Rattle.zx_gates.specs.Maps.{amp};
+ghost use Rattle.circuit_graph.specs.Translation.{spiders_of, scalar_of, are_plain, IsTranslation};
+ghost use Rattle.circuit_graph.specs.Internal.Wires.{state_of};
+ghost use Rattle.circuit_graph.specs.Internal.Runs.{Translates};
+
+use crate::wires::Wires;
+use open_graph::OpenGraph;
+use std::alloc::{AllocError, Global};
+use zx_flow::Flow;
+use zx_gates::GateList;
+
+/// The open graph of a circuit, and a flow of it: each spider but the last of a wire is corrected by the next one, in
+/// the order in which the wires leave them.
+pub fn translate(alloc: Global, circuit: &GateList) -> Result<(OpenGraph, Flow), AllocError>
+    ensures graph { IfOk result (λ made. IsTranslation circuit.now made.0.graph) }
+    ensures well_formed { IfOk result (λ made. WellFormed made.0.graph) }
+    ensures flow { IfOk result (λ made. IsFlow made.0.graph made.1.flow) }
+
+    // The map is kept: the sum is the circuit's map times a number other than 0.
+    ensures map { IfOk result (λ made.
+        Proportional circuit.now.qubits circuit.now.qubits (sum made.0.graph) (amp circuit.now.gates)) }
+    ensures exact { IfOk result (λ made. (x y : List Bool) →
+        length x ≡ circuit.now.qubits → length y ≡ circuit.now.qubits →
+        sum made.0.graph x y ≡ mul (scalar_of circuit.now.gates) (amp circuit.now.gates x y)) }
+
+    // Its vertices.
+    ensures spiders { IfOk result (λ made. length made.0.graph.vertices ≡ spiders_of circuit.now) }
+    ensures planes { IfOk result (λ made. (v : ℕ) → Live made.0.graph v → plane_of made.0.graph v ≡ zx.XY) }
+    ensures odd { IfOk result (λ made. odd_phases made.0.graph ≤ gate_odd_phases circuit.now.gates) }
+
+    // Its ends.
+    ensures inputs { IfOk result (λ made. length made.0.graph.inputs ≡ circuit.now.qubits) }
+    ensures outputs { IfOk result (λ made. length made.0.graph.outputs ≡ circuit.now.qubits) }
+    ensures plain_inputs { IfOk result (λ made. are_plain made.0.graph.inputs ≡ true) }
+    ensures plain_outputs { IfOk result (λ made. are_plain made.0.graph.outputs ≡ true) }
+{
+    let wires = wires_of(alloc, circuit)?;
+    let graph = wires.graph;
+    let flow = Flow::of_table(&graph, wires.table)?;
+    Ok((graph, flow))
+}
+
+// The wires with all gates.
+fn wires_of(alloc: Global, circuit: &GateList) -> Result<Wires, AllocError>
+    ensures { IfOk result (λ w. Translates circuit.now (state_of w)) }
+{
+    let mut wires = Wires::begin(alloc, circuit.qubits())?;
+    for gate in circuit.gates() {
+        wires.add_gate(*gate)?;
+    }
+    Ok(wires)
+}

@@ -1,0 +1,145 @@
+//! A translation under way.
+
+ghost use Rattle.std.specs.Prelude.{◌≡◌, ◌≢◌, ◌<◌, false, [], length, IfOk, OnOk};
+ghost use Rattle.zx_calculus.specs.Graph.{WellFormed};
+ghost use Rattle.circuit_laws.specs.Peeling.{HasPlainOutput};
+ghost use Rattle.zx_gates.specs.Circuit.{IsOnQubits};
+ghost use Rattle.circuit_graph.specs.Translation.{by_hadamards};
+ghost use Rattle.circuit_graph.specs.Internal.Wires.{state_of};
+ghost use Rattle.circuit_graph.specs.Internal.Runs.{IsReady, IsBegun, IsSpiderStep, IsPhaseStep, IsToggleStep, IsRun};
+
+use open_graph::{End, OpenGraph, Plane, VertexId};
+use std::alloc::{AllocError, Global};
+use zx_flow::FlowTable;
+use zx_gates::{Gate, Qubit};
+use zx_model::Eighth;
+
+/// The graph so far, whose outputs stand at the present spiders of the wires, and the corrections of the spiders that
+/// the wires have left.
+#[derive(Drop)]
+pub(crate) struct Wires {
+    pub(crate) graph: OpenGraph,
+    pub(crate) table: FlowTable,
+}
+
+// An end without a Hadamard.
+fn plain(vertex: VertexId) -> End
+    ensures { result ≡ record { vertex = vertex; hadamard = false } }
+{
+    End {
+        vertex,
+        hadamard: false,
+    }
+}
+
+// So many wires without gates.
+fn without_gates(alloc: Global, qubits: Qubit) -> Result<OpenGraph, AllocError>
+    ensures begun { IfOk result (λ g. IsBegun qubits g.graph) }
+    ensures well_formed { IfOk result (λ g. WellFormed g.graph) }
+{
+    let mut graph = OpenGraph::new(alloc);
+    for _ in 0..qubits {
+        let first = graph.add_vertex(Plane::XY, Eighth::new(0))?;
+        let end = plain(first);
+        graph.add_input(end)?;
+        graph.add_output(end)?;
+    }
+    Ok(graph)
+}
+
+impl Wires {
+    // So many wires without gates.
+    pub(crate) fn begin(alloc: Global, qubits: Qubit) -> Result<Wires, AllocError>
+        ensures begun { IfOk result (λ w. IsBegun qubits w.graph.graph) }
+        ensures well_formed { IfOk result (λ w. WellFormed w.graph.graph) }
+        ensures table { IfOk result (λ w. w.table.flow ≡ []) }
+    {
+        let graph = without_gates(alloc, qubits)?;
+        Ok(Wires {
+            graph,
+            table: FlowTable::new(alloc),
+        })
+    }
+
+    // Adds a gate; Cx and Not are written out.
+    pub(crate) fn add_gate(&mut self, gate: Gate) -> Result<(), AllocError>
+        requires ready { IsReady (state_of self.old) }
+        requires on_wires { IsOnQubits (length self.old.graph.graph.outputs) gate }
+        ensures run { OnOk result (IsRun (state_of self.old) (by_hadamards gate) (state_of self.new)) }
+        ensures ready { OnOk result (IsReady (state_of self.new)) }
+        ensures outputs { OnOk result (length self.new.graph.graph.outputs ≡ length self.old.graph.graph.outputs) }
+    {
+        match gate {
+            Gate::H(q) => self.add_hadamard(q),
+            Gate::Phase(q, phase) => {
+                self.add_phase(q, phase);
+                Ok(())
+            }
+            Gate::Cz(p, q) => self.toggle(p, q),
+            Gate::Cx { control, target } => {
+                self.add_hadamard(target)?;
+                self.toggle(control, target)?;
+                self.add_hadamard(target)
+            }
+            Gate::Not(q) => {
+                self.add_hadamard(q)?;
+                self.add_phase(q, Eighth::new(4));
+                self.add_hadamard(q)
+            }
+        }
+    }
+
+    // The present spider of a wire.
+    fn present(&self, q: Qubit) -> VertexId
+        requires ready { IsReady (state_of self.now) }
+        requires on_wires { q < length self.now.graph.graph.outputs }
+        ensures { HasPlainOutput self.now.graph.graph q result }
+    {
+        let outputs = self.graph.outputs();
+        let output = outputs[usize::from(q)];
+        output.vertex
+    }
+
+    // An edge joins the present spider to a new one of phase 0, which is the present one from here on, and corrects it.
+    fn add_hadamard(&mut self, q: Qubit) -> Result<(), AllocError>
+        requires ready { IsReady (state_of self.old) }
+        requires on_wires { q < length self.old.graph.graph.outputs }
+        ensures step { OnOk result (IsSpiderStep (state_of self.old) q (state_of self.new)) }
+        ensures ready { OnOk result (IsReady (state_of self.new)) }
+        ensures outputs { OnOk result (length self.new.graph.graph.outputs ≡ length self.old.graph.graph.outputs) }
+    {
+        let here = self.present(q);
+        let next = self.graph.add_vertex(Plane::XY, Eighth::new(0))?;
+        self.graph.toggle_edge(here, next)?;
+        self.graph.move_output(usize::from(q), plain(next));
+        self.table.add(here, &[next])
+    }
+
+    // A phase is added to the present spider.
+    fn add_phase(&mut self, q: Qubit, phase: Eighth)
+        requires ready { IsReady (state_of self.old) }
+        requires on_wires { q < length self.old.graph.graph.outputs }
+        ensures step { IsPhaseStep (state_of self.old) q phase (state_of self.new) }
+        ensures ready { IsReady (state_of self.new) }
+        ensures outputs { length self.new.graph.graph.outputs ≡ length self.old.graph.graph.outputs }
+    {
+        let here = self.present(q);
+        let (plane, before) = self.graph.weight(here);
+        self.graph.set_weight(here, plane, before.add(phase));
+    }
+
+    // The edge between the present spiders comes where there is none, and goes where there is one.
+    fn toggle(&mut self, p: Qubit, q: Qubit) -> Result<(), AllocError>
+        requires ready { IsReady (state_of self.old) }
+        requires p_on_wires { p < length self.old.graph.graph.outputs }
+        requires q_on_wires { q < length self.old.graph.graph.outputs }
+        requires apart { p ≢ q }
+        ensures step { OnOk result (IsToggleStep (state_of self.old) p q (state_of self.new)) }
+        ensures ready { OnOk result (IsReady (state_of self.new)) }
+        ensures outputs { OnOk result (length self.new.graph.graph.outputs ≡ length self.old.graph.graph.outputs) }
+    {
+        let first = self.present(p);
+        let second = self.present(q);
+        self.graph.toggle_edge(first, second)
+    }
+}

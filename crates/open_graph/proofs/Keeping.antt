@@ -1,0 +1,356 @@
+-- Slots that tell the lists of a graph: of a graph that is changed, they tell the changed one.
+use Rattle.std.proofs.Common.{◌≡◌, ◌≢◌, refl, sym, ◌∙◌, ap, ap₂, subst, ℕ, ◌<◌, true, false, ◌||◌, cond, eqb, List, [], ◌∷◌, ◌++◌, length, get_or, set, remove, Option, Some, None, IsSome, slice_index_or, true≢false, ne_eqb}
+use Rattle.zx_model.specs.Phase.{turn}
+use Rattle.zx_model.specs.Bits.{xor, member}
+use Rattle.zx_calculus.specs.Graph.{XY, Kind, Vertex, End, Graph, ids, kind_of, plane_of, is_XY, places, insert_vertex, with_kinds, Live, WellFormed}
+use Rattle.zx_calculus.specs.Boundary.{is_pair}
+use Rattle.zx_calculus.specs.Edits.{at_vertex}
+use Rattle.zx_calculus.specs.Reduced.{is_interior}
+use Rattle.zx_calculus.proofs.Booleans.{or-false, xor-false}
+use Rattle.zx_calculus.proofs.Ids.{by_equal, eqb-self, removed, Symmetric}
+use Rattle.zx_calculus.proofs.Edges.{joined_comm}
+use Rattle.zx_calculus.proofs.Splitting.{all_at, no_loop}
+use Rattle.zx_calculus.proofs.Vertices.{ids-with_kinds, kind_of-with_kinds, member-insert, kind_of-insert}
+use Rattle.zx_calculus.proofs.Kept.{kind_of-insert_other}
+use Rattle.zx_calculus.proofs.Edits.{toggle_kept, insert_kept, kind_kept, inputs_kept, outputs_kept, ends_pushed, ends_set}
+use Rattle.zx_calculus.proofs.EdgeLists.{edges_ext, OrderedEdges-edges_of}
+use Rattle.zx_calculus.proofs.EditPrograms.{toggled, toggled_is_toggle}
+use Rattle.zx_calculus.proofs.Extensionality.{vertices_ext}
+use Rattle.slab.specs.Slab.{Slab, get, Updates}
+use Rattle.open_graph.specs.declared.slot.Slot.{Slot}
+use Rattle.open_graph.specs.Internal.Rows.{inserted}
+use Rattle.open_graph.specs.Internal.Slots.{Told, nothing, told_by, told, vertices_of, adjacent, graph_of, place_of, IsSound}
+use Rattle.open_graph.specs.Internal.Changes.{Puts, SameTold, Keeps}
+use Rattle.open_graph.proofs.PlaceLemmas.{place_of-push, place_of-set, member-place}
+use Rattle.open_graph.proofs.RowLemmas.{removed-inserted}
+use Rattle.open_graph.proofs.SlotLemmas.{member-vertices, kind_of-vertices, rising_vertices, joined-edges, some_of_live, contains_live}
+
+pub sound_keeps : (slots : List (Option Slot)) (inputs outputs : List End) → IsSound slots inputs outputs → Keeps slots (graph_of slots inputs outputs)
+sound_keeps slots inputs outputs sound =
+    record {
+      live = λ p. sym (member-vertices slots p);
+      kind = λ p t. sym (kind_of-vertices slots p);
+      adjacent = λ p q. sym (joined-edges slots sound.symmetric sound.no_loop p q);
+      input = sound.input_places;
+      output = sound.output_places;
+    }
+
+module _ (slots : List (Option Slot)) (h : Graph) (w : WellFormed h) (k : Keeps slots h) where
+  symmetric : Symmetric (adjacent slots)
+  symmetric p q = k.adjacent p q ∙ joined_comm h.edges p q ∙ sym (k.adjacent q p)
+
+  loopless : (p : ℕ) → adjacent slots p p ≡ false
+  loopless p = k.adjacent p p ∙ no_loop h p w
+
+  vertices_kept : vertices_of slots ≡ h.vertices
+  vertices_kept =
+      vertices_ext (vertices_of slots) h.vertices (rising_vertices 0 slots) w.vertices_rising (λ p. member-vertices slots p ∙ k.live p)
+      (λ p t. kind_of-vertices slots p ∙ k.kind p (sym (member-vertices slots p) ∙ t))
+
+  -- the graph of these slots is the one whose lists they tell
+  pub keeps_graph : graph_of slots h.inputs h.outputs ≡ h
+  keeps_graph =
+      let built = OrderedEdges-edges_of (adjacent slots) (ids (vertices_of slots)) (rising_vertices 0 slots) in
+      let edges = edges_ext _ h.edges built.lower_first w.edges.lower_first built.rising w.edges.rising (λ p q n. joined-edges slots symmetric loopless p q ∙ k.adjacent p q) in
+      λ j. record { vertices = vertices_kept j; edges = edges j; inputs = h.inputs; outputs = h.outputs }
+
+  pub keeps_sound : IsSound slots h.inputs h.outputs
+  keeps_sound =
+      record { symmetric = symmetric; no_loop = loopless; input_places = k.input; output_places = k.output; well_formed = subst WellFormed (sym keeps_graph) w }
+
+-- what slots tell of the changed id, and of others
+pub puts_at : (old new : List (Option Slot)) (u : ℕ) (t : Told) → Puts old new u t → told new u ≡ t
+puts_at old new u t puts = puts u ∙ ap (λ b. cond b t (told old u)) (eqb-self u)
+
+pub puts_other : (old new : List (Option Slot)) (u : ℕ) (t : Told) (p : ℕ) → Puts old new u t → p ≢ u → told new p ≡ told old p
+puts_other old new u t p puts n = puts p ∙ ap (λ b. cond b t (told old p)) (ne_eqb p u n)
+
+-- where there is no vertex nothing is told
+told_of_dead : (slot : Option Slot) → (told_by slot).live ≡ false → told_by slot ≡ nothing
+told_of_dead None dead = refl
+told_of_dead (Some s) dead = absurd (true≢false dead)
+
+-- slots that tell the same
+pub keeps_same : (old new : List (Option Slot)) (h : Graph) → SameTold old new → Keeps old h → Keeps new h
+keeps_same old new h same k =
+    record {
+      live = λ p. ap (λ t. t.live) (same p) ∙ k.live p;
+      kind = λ p t. ap (λ t. t.kind) (same p) ∙ k.kind p (sym (ap (λ t. t.live) (same p)) ∙ t);
+      adjacent = λ p q. ap (λ t. member q t.row) (same p) ∙ k.adjacent p q;
+      input = λ p. ap (λ t. t.input) (same p) ∙ k.input p;
+      output = λ p. ap (λ t. t.output) (same p) ∙ k.output p;
+    }
+
+-- a new vertex
+pub keeps_added : (old new : List (Option Slot)) (h : Graph) (u : ℕ) (kind : Kind) → (told old u).live ≡ false → Puts old new u (record nothing { live = true; kind = kind }) → Keeps old h →
+    Keeps new (record h { vertices = insert_vertex (record { id = u; kind = kind }) h.vertices })
+keeps_added old new h u kind dead puts k =
+    record {
+      live = λ p. by_equal p u
+          (λ t e. ap (λ x. x.live) (at p e) ∙ sym (member-insert p n h.vertices ∙ ap (λ b. b || member p (ids h.vertices)) t))
+          (λ f m. ap (λ x. x.live) (off p m) ∙ k.live p ∙ sym (member-insert p n h.vertices ∙ ap (λ b. b || member p (ids h.vertices)) f));
+      kind = λ p t. by_equal p u
+          (λ s e. ap (λ x. x.kind) (at p e) ∙ sym (ap (kind_of (insert_vertex n h.vertices)) e ∙ kind_of-insert n h.vertices (sym (k.live u) ∙ dead)))
+          (λ f m. ap (λ x. x.kind) (off p m) ∙ k.kind p (sym (ap (λ x. x.live) (off p m)) ∙ t) ∙ sym (kind_of-insert_other p n h.vertices m));
+      adjacent = λ p q. ap (member q) (by_equal p u (λ t e. ap (λ x. x.row) (at p e) ∙ sym (ap (λ x. x.row) (gone p e))) (λ f m. ap (λ x. x.row) (off p m))) ∙ k.adjacent p q;
+      input = λ p. by_equal p u (λ t e. ap (λ x. x.input) (at p e) ∙ sym (ap (λ x. x.input) (gone p e))) (λ f m. ap (λ x. x.input) (off p m)) ∙ k.input p;
+      output = λ p. by_equal p u (λ t e. ap (λ x. x.output) (at p e) ∙ sym (ap (λ x. x.output) (gone p e))) (λ f m. ap (λ x. x.output) (off p m)) ∙ k.output p;
+    }
+  where
+    n : Vertex
+    n = record { id = u; kind = kind }
+
+    at : (p : ℕ) → p ≡ u → told new p ≡ record nothing { live = true; kind = kind }
+    at p e = ap (told new) e ∙ puts_at old new u _ puts
+
+    off : (p : ℕ) → p ≢ u → told new p ≡ told old p
+    off p m = puts_other old new u _ p puts m
+
+    gone : (p : ℕ) → p ≡ u → told old p ≡ nothing
+    gone p e = ap (told old) e ∙ told_of_dead _ dead
+
+-- only a row changes
+put_row : (old new : List (Option Slot)) (u : ℕ) (row : List ℕ) → Puts old new u (record (told old u) { row = row }) → (p : ℕ) → told new p ≡ record (told old p) { row = (told new p).row }
+put_row old new u row puts p =
+    by_equal p u
+    (λ t e. at e ∙ ap₂ {A = Told} {C = Told} (λ x r. record x { row = r }) (ap (told old) (sym e)) (sym (ap (λ x. x.row) (at e))))
+    (λ f n. let off = puts_other old new u _ p puts n in off ∙ ap {B = Told} (λ r. record (told old p) { row = r }) (sym (ap (λ x. x.row) off)))
+  where
+    at : p ≡ u → told new p ≡ record (told old u) { row = row }
+    at e = ap (told new) e ∙ puts_at old new u _ puts
+
+-- an edge toggled in both rows
+pub keeps_toggled : (old mid new : List (Option Slot)) (u v : ℕ) (row_u row_v : List ℕ) → u ≢ v →
+    Puts old mid u (record (told old u) { row = row_u }) → Puts mid new v (record (told mid v) { row = row_v }) →
+    ((q : ℕ) → member q row_u ≡ xor (member q (told old u).row) (eqb q v)) → ((q : ℕ) → member q row_v ≡ xor (member q (told mid v).row) (eqb q u)) →
+    (h : Graph) → WellFormed h → Live h u → Live h v → Keeps old h → Keeps new (toggled h u v)
+keeps_toggled old mid new u v row_u row_v apart first second at_u at_v h w u_there v_there k =
+    record {
+      live = λ p. ap (λ x. x.live) (same p) ∙ k.live p;
+      kind = λ p t. ap (λ x. x.kind) (same p) ∙ k.kind p (sym (ap (λ x. x.live) (same p)) ∙ t);
+      adjacent = λ p q. pair p q ∙ ap (λ b. xor b (is_pair u v p q)) (k.adjacent p q) ∙ sym ((toggled_is_toggle h u v w u_there v_there apart).edges p q);
+      input = λ p. ap (λ x. x.input) (same p) ∙ k.input p;
+      output = λ p. ap (λ x. x.output) (same p) ∙ k.output p;
+    }
+  where
+    same : (p : ℕ) → told new p ≡ record (told old p) { row = (told new p).row }
+    same p = put_row mid new v row_v second p ∙ ap {A = Told} {B = Told} (λ x. record x { row = (told new p).row }) (put_row old mid u row_u first p)
+
+    v_before : told mid v ≡ told old v
+    v_before = puts_other old mid u _ v first (λ e. apart (sym e))
+
+    pair : (p q : ℕ) → adjacent new p q ≡ xor (adjacent old p q) (is_pair u v p q)
+    pair p q =
+        by_equal p u
+        (λ t e.
+        let other : eqb p v ≡ false = ne_eqb p v (λ e'. apart (sym e ∙ e')) in
+        rw (t, other)
+        (ap (λ x. member q x.row) (puts_other mid new v _ p second (λ e'. apart (sym e ∙ e')) ∙ ap (told mid) e ∙ puts_at old mid u _ first)
+        ∙ at_u q ∙ ap₂ (λ x b. xor (member q x.row) b) (ap (told old) (sym e)) (sym (or-false (eqb q v)))))
+        (λ f n. by_equal p v
+        (λ t e.
+        rw (f, t)
+        (ap (λ x. member q x.row) (ap (told new) e ∙ puts_at mid new v _ second)
+        ∙ at_v q ∙ ap (λ x. xor (member q x.row) (eqb q u)) (v_before ∙ ap (told old) (sym e))))
+        (λ g m.
+        rw (f, g)
+        (ap (λ x. member q x.row) (puts_other mid new v _ p second m ∙ puts_other old mid u _ p first n) ∙ sym (xor-false (adjacent old p q)))))
+
+-- a row that is changed and changed back
+pub same_back : (old mid fail new : List (Option Slot)) (u v : ℕ) → adjacent old u v ≡ false →
+    Puts old mid u (record (told old u) { row = inserted v (told old u).row }) → SameTold mid fail → Puts fail new u (record (told fail u) { row = removed v (told fail u).row }) → SameTold old new
+same_back old mid fail new u v absent first same last p =
+    by_equal p u
+    (λ t e. ap (told new) e ∙ puts_at fail new u _ last
+    ∙ ap {A = Told} {B = Told} (λ x. record x { row = removed v x.row }) (same u ∙ puts_at old mid u _ first)
+    ∙ ap {B = Told} (λ r. record (told old u) { row = r }) (removed-inserted v (told old u).row absent)
+    ∙ ap (told old) (sym e))
+    (λ f n. puts_other fail new u _ p last n ∙ same p ∙ puts_other old mid u _ p first n)
+
+-- another kind at one vertex
+pub keeps_kind : (old new : List (Option Slot)) (h : Graph) (v : ℕ) (kind : Kind) → Puts old new v (record (told old v) { kind = kind }) → Keeps old h → Keeps new (record h { vertices = with_kinds (at_vertex v (λ _. kind)) h.vertices })
+keeps_kind old new h v kind puts k =
+    record {
+      live = λ p. ap (λ x. x.live) (same p) ∙ k.live p ∙ ap (member p) (sym (ids-with_kinds (at_vertex v (λ _. kind)) h.vertices));
+      kind = λ p t. let live : (told old p).live ≡ true = sym (ap (λ x. x.live) (same p)) ∙ t in
+          kinds p live ∙ sym (kind_of-with_kinds (at_vertex v (λ _. kind)) p h.vertices (sym (k.live p) ∙ live));
+      adjacent = λ p q. ap (λ x. member q x.row) (same p) ∙ k.adjacent p q;
+      input = λ p. ap (λ x. x.input) (same p) ∙ k.input p;
+      output = λ p. ap (λ x. x.output) (same p) ∙ k.output p;
+    }
+  where
+    at : (p : ℕ) → p ≡ v → told new p ≡ record (told old v) { kind = kind }
+    at p e = ap (told new) e ∙ puts_at old new v _ puts
+
+    same : (p : ℕ) → told new p ≡ record (told old p) { kind = (told new p).kind }
+    same p =
+        by_equal p v (λ t e. at p e ∙ ap₂ {A = Told} {C = Told} (λ x c. record x { kind = c }) (ap (told old) (sym e)) (sym (ap (λ x. x.kind) (at p e))))
+        (λ f n. let off = puts_other old new v _ p puts n in off ∙ ap {B = Told} (λ c. record (told old p) { kind = c }) (sym (ap (λ x. x.kind) off)))
+
+    kinds : (p : ℕ) → (told old p).live ≡ true → (told new p).kind ≡ at_vertex v (λ _. kind) p (kind_of h.vertices p)
+    kinds p live = by_equal p v (λ t e. rw t (ap (λ x. x.kind) (at p e))) (λ f n. rw f (ap (λ x. x.kind) (puts_other old new v _ p puts n) ∙ k.kind p live))
+
+-- other places of inputs, and of outputs
+pub keeps_inputs : (old new : List (Option Slot)) (h : Graph) (inputs : List End) → ((p : ℕ) → told new p ≡ record (told old p) { input = place_of p inputs }) → Keeps old h → Keeps new (record h { inputs = inputs })
+keeps_inputs old new h inputs same k =
+    record {
+      live = λ p. ap (λ x. x.live) (same p) ∙ k.live p;
+      kind = λ p t. ap (λ x. x.kind) (same p) ∙ k.kind p (sym (ap (λ x. x.live) (same p)) ∙ t);
+      adjacent = λ p q. ap (λ x. member q x.row) (same p) ∙ k.adjacent p q;
+      input = λ p. ap (λ x. x.input) (same p);
+      output = λ p. ap (λ x. x.output) (same p) ∙ k.output p;
+    }
+
+pub keeps_outputs : (old new : List (Option Slot)) (h : Graph) (outputs : List End) → ((p : ℕ) → told new p ≡ record (told old p) { output = place_of p outputs }) → Keeps old h → Keeps new (record h { outputs = outputs })
+keeps_outputs old new h outputs same k =
+    record {
+      live = λ p. ap (λ x. x.live) (same p) ∙ k.live p;
+      kind = λ p t. ap (λ x. x.kind) (same p) ∙ k.kind p (sym (ap (λ x. x.live) (same p)) ∙ t);
+      adjacent = λ p q. ap (λ x. member q x.row) (same p) ∙ k.adjacent p q;
+      input = λ p. ap (λ x. x.input) (same p) ∙ k.input p;
+      output = λ p. ap (λ x. x.output) (same p);
+    }
+
+-- a change of one field of what is told, at one id, and at two ids one after the other
+module _ (with : Option ℕ → Told → Told) (field : Told → Option ℕ) (itself : (t : Told) → t ≡ with (field t) t) (twice : (i j : Option ℕ) (t : Told) → with i (with j t) ≡ with i t)
+    (old : List (Option Slot)) (place : ℕ → Option ℕ) (places_before : (p : ℕ) → field (told old p) ≡ place p) where
+  pub field_put : (new : List (Option Slot)) (v : ℕ) (i : Option ℕ) (after : ℕ → Option ℕ) → Puts old new v (with i (told old v)) → ((p : ℕ) → after p ≡ cond (eqb p v) i (place p)) → (p : ℕ) → told new p ≡ with (after p) (told old p)
+  field_put new v i after puts law p =
+      by_equal p v
+      (λ t e. ap (told new) e ∙ puts_at old new v _ puts ∙ ap₂ with (sym (law p ∙ ap (λ b. cond b i (place p)) t)) (ap (told old) (sym e)))
+      (λ f n. puts_other old new v _ p puts n ∙ itself (told old p) ∙ ap (λ x. with x (told old p)) (places_before p ∙ sym (law p ∙ ap (λ b. cond b i (place p)) f)))
+
+  pub field_moved : (mid new : List (Option Slot)) (a v : ℕ) (i j : Option ℕ) (after : ℕ → Option ℕ) → Puts old mid a (with i (told old a)) → Puts mid new v (with j (told mid v)) →
+      ((p : ℕ) → after p ≡ cond (eqb p v) j (cond (eqb p a) i (place p))) → (p : ℕ) → told new p ≡ with (after p) (told old p)
+  field_moved mid new a v i j after first second law p =
+      by_equal p v
+      (λ t e. ap (told new) e ∙ puts_at mid new v _ second ∙ ap (λ q. with j (told mid q)) (sym e) ∙ ap (with j) (between p) ∙ twice j _ (told old p)
+      ∙ ap (λ x. with x (told old p)) (sym (law p ∙ ap (λ b. cond b j (cond (eqb p a) i (place p))) t)))
+      (λ f n. puts_other mid new v _ p second n ∙ between p ∙ ap (λ x. with x (told old p)) (sym (law p ∙ ap (λ b. cond b j (cond (eqb p a) i (place p))) f)))
+    where
+      between : (p : ℕ) → told mid p ≡ with (cond (eqb p a) i (place p)) (told old p)
+      between p = field_put mid a i (λ p. cond (eqb p a) i (place p)) first (λ p. refl) p
+
+abbrev pub with_input : Option ℕ → Told → Told
+with_input i t = record t { input = i }
+
+abbrev pub with_output : Option ℕ → Told → Told
+with_output i t = record t { output = i }
+
+-- slots and ends are sound, and are those of this graph
+pub record Becomes (slots : List (Option Slot)) (inputs outputs : List End) (h : Graph) : Type 0 where
+  pub sound : IsSound slots inputs outputs
+  pub graph : graph_of slots inputs outputs ≡ h
+
+pub becomes : (slots : List (Option Slot)) (h : Graph) → WellFormed h → Keeps slots h → Becomes slots h.inputs h.outputs h
+becomes slots h w k = record { sound = keeps_sound slots h w k; graph = keeps_graph slots h w k }
+
+module _ (old new : List (Option Slot)) (inputs outputs : List End) (sound : IsSound old inputs outputs) where
+  pub becomes_same : SameTold old new → Becomes new inputs outputs (graph_of old inputs outputs)
+  becomes_same same = becomes new (graph_of old inputs outputs) sound.well_formed (keeps_same old new _ same (sound_keeps old inputs outputs sound))
+
+  pub becomes_toggled : (u v : ℕ) → Live (graph_of old inputs outputs) u → Live (graph_of old inputs outputs) v → u ≢ v →
+      ((h : Graph) → WellFormed h → Live h u → Live h v → Keeps old h → Keeps new (toggled h u v)) → Becomes new inputs outputs (toggled (graph_of old inputs outputs) u v)
+  becomes_toggled u v u_there v_there apart keeps =
+      becomes new (toggled (graph_of old inputs outputs) u v)
+      (toggle_kept (graph_of old inputs outputs) u v _ sound.well_formed (toggled_is_toggle (graph_of old inputs outputs) u v sound.well_formed u_there v_there apart))
+      (keeps (graph_of old inputs outputs) sound.well_formed u_there v_there (sound_keeps old inputs outputs sound))
+
+  pub becomes_added : (u : ℕ) (kind : Kind) → slice_index_or old u None ≡ None → kind.phase < turn → Puts old new u (record nothing { live = true; kind = kind }) →
+      Becomes new inputs outputs (record (graph_of old inputs outputs) { vertices = insert_vertex (record { id = u; kind = kind }) (vertices_of old) })
+  becomes_added u kind vacant below puts =
+      becomes new _ (insert_kept (graph_of old inputs outputs) (record { id = u; kind = kind }) sound.well_formed (member-vertices old u ∙ dead) below)
+      (keeps_added old new (graph_of old inputs outputs) u kind dead puts (sound_keeps old inputs outputs sound))
+    where
+      dead : (told old u).live ≡ false
+      dead = ap (λ o. (told_by o).live) vacant
+
+pub puts_of_update : (s t : Slab Slot) (key : ℕ) (slot : Option Slot) → Updates s t key slot → Puts s.slots t.slots key (told_by slot)
+puts_of_update s t key slot u p = by_equal p key (λ b e. rw b (ap told_by (ap (get t) e ∙ u.changed))) (λ b n. rw b (ap told_by (u.others p n)))
+
+-- ends that the vertices of a graph may hold
+abbrev pub MayHold : Graph → List End → End → Type 0
+MayHold g others e = (member e.vertex (ids g.vertices) ≡ true) × (plane_of g e.vertex ≡ XY) × (member e.vertex (places others) ≡ false)
+
+module _ (old : List (Option Slot)) (inputs outputs : List End) (sound : IsSound old inputs outputs) where
+  abbrev g : Graph
+  g = graph_of old inputs outputs
+
+  k : Keeps old g
+  k = sound_keeps old inputs outputs sound
+
+  pub becomes_weight : (new : List (Option Slot)) (v : ℕ) (kind : Kind) → kind.phase < turn → (is_interior g v ≡ false → kind.plane ≡ XY) → Puts old new v (record (told old v) { kind = kind }) →
+      Becomes new inputs outputs (record g { vertices = with_kinds (at_vertex v (λ _. kind)) (vertices_of old) })
+  becomes_weight new v kind below at_boundary puts = becomes new _ (kind_kept g v kind sound.well_formed below at_boundary) (keeps_kind old new g v kind puts k)
+
+  input_added : (new : List (Option Slot)) (e : End) → MayHold g inputs e → Puts old new e.vertex (with_input (Some (length inputs)) (told old e.vertex)) →
+      Becomes new (inputs ++ e ∷ []) outputs (record g { inputs = inputs ++ e ∷ [] })
+  input_added new e may puts =
+      becomes new (record g { inputs = inputs ++ e ∷ [] }) (inputs_kept g (inputs ++ e ∷ []) sound.well_formed (ends_pushed (vertices_of old) inputs e sound.well_formed.inputs may.0 (ap is_XY may.1) may.2))
+      (keeps_inputs old new g (inputs ++ e ∷ [])
+      (field_put with_input (λ t. t.input) (λ t. refl) (λ i j t. refl) old (λ p. place_of p inputs) sound.input_places new e.vertex (Some (length inputs)) (λ p. place_of p (inputs ++ e ∷ [])) puts (place_of-push inputs e may.2)) k)
+
+  output_added : (new : List (Option Slot)) (e : End) → MayHold g outputs e → Puts old new e.vertex (with_output (Some (length outputs)) (told old e.vertex)) →
+      Becomes new inputs (outputs ++ e ∷ []) (record g { outputs = outputs ++ e ∷ [] })
+  output_added new e may puts =
+      becomes new (record g { outputs = outputs ++ e ∷ [] }) (outputs_kept g (outputs ++ e ∷ []) sound.well_formed (ends_pushed (vertices_of old) outputs e sound.well_formed.outputs may.0 (ap is_XY may.1) may.2))
+      (keeps_outputs old new g (outputs ++ e ∷ [])
+      (field_put with_output (λ t. t.output) (λ t. refl) (λ i j t. refl) old (λ p. place_of p outputs) sound.output_places new e.vertex (Some (length outputs)) (λ p. place_of p (outputs ++ e ∷ [])) puts (place_of-push outputs e may.2)) k)
+
+  input_moved : (mid new : List (Option Slot)) (i : ℕ) (e d : End) → i < length inputs → MayHold g (remove inputs i) e →
+      Puts old mid (get_or inputs i d).vertex (with_input None (told old (get_or inputs i d).vertex)) → Puts mid new e.vertex (with_input (Some i) (told mid e.vertex)) →
+      Becomes new (set inputs i e) outputs (record g { inputs = set inputs i e })
+  input_moved mid new i e d lt may first second =
+      becomes new (record g { inputs = set inputs i e }) (inputs_kept g (set inputs i e) sound.well_formed (ends_set (vertices_of old) inputs i e sound.well_formed.inputs may.0 (ap is_XY may.1) may.2))
+      (keeps_inputs old new g (set inputs i e)
+      (field_moved with_input (λ t. t.input) (λ t. refl) (λ i j t. refl) old (λ p. place_of p inputs) sound.input_places mid new (get_or inputs i d).vertex e.vertex None (Some i) (λ p. place_of p (set inputs i e)) first second
+      (place_of-set inputs i e d lt sound.well_formed.inputs.one_each may.2)) k)
+
+  output_moved : (mid new : List (Option Slot)) (i : ℕ) (e d : End) → i < length outputs → MayHold g (remove outputs i) e →
+      Puts old mid (get_or outputs i d).vertex (with_output None (told old (get_or outputs i d).vertex)) → Puts mid new e.vertex (with_output (Some i) (told mid e.vertex)) →
+      Becomes new inputs (set outputs i e) (record g { outputs = set outputs i e })
+  output_moved mid new i e d lt may first second =
+      becomes new (record g { outputs = set outputs i e }) (outputs_kept g (set outputs i e) sound.well_formed (ends_set (vertices_of old) outputs i e sound.well_formed.outputs may.0 (ap is_XY may.1) may.2))
+      (keeps_outputs old new g (set outputs i e)
+      (field_moved with_output (λ t. t.output) (λ t. refl) (λ i j t. refl) old (λ p. place_of p outputs) sound.output_places mid new (get_or outputs i d).vertex e.vertex None (Some i) (λ p. place_of p (set outputs i e)) first second
+      (place_of-set outputs i e d lt sound.well_formed.outputs.one_each may.2)) k)
+
+  -- the same, in the words of the code
+  pub becomes_input_added : (new : List (Option Slot)) (items : List End) (e : End) (v place : ℕ) → items ≡ inputs ++ e ∷ [] → v ≡ e.vertex → place ≡ length inputs → MayHold g inputs e → Puts old new v (with_input (Some place) (told old v)) →
+      Becomes new items outputs (record g { inputs = inputs ++ e ∷ [] })
+  becomes_input_added new items e v place items_are v_is place_is may puts =
+      subst (λ (xs : List End). Becomes new xs outputs (record g { inputs = inputs ++ e ∷ [] })) (sym items_are)
+      (input_added new e may (subst (λ (n : ℕ). Puts old new e.vertex (with_input (Some n) (told old e.vertex))) place_is (subst (λ (w : ℕ). Puts old new w (with_input (Some place) (told old w))) v_is puts)))
+
+  pub becomes_input_moved : (mid new : List (Option Slot)) (i : ℕ) (e d : End) (b v : ℕ) → i < length inputs → b ≡ (get_or inputs i d).vertex → v ≡ e.vertex → MayHold g (remove inputs i) e →
+      Puts old mid b (with_input None (told old b)) → Puts mid new v (with_input (Some i) (told mid v)) → Becomes new (set inputs i e) outputs (record g { inputs = set inputs i e })
+  becomes_input_moved mid new i e d b v lt b_is v_is may first second =
+      input_moved mid new i e d lt may (subst (λ (w : ℕ). Puts old mid w (with_input None (told old w))) b_is first) (subst (λ (w : ℕ). Puts mid new w (with_input (Some i) (told mid w))) v_is second)
+
+  -- the vertex of an end is there
+  pub input_contained : (i : ℕ) (d : End) (b : ℕ) → i < length inputs → b ≡ (get_or inputs i d).vertex → IsSome (slice_index_or old b None)
+  input_contained i d b lt b_is =
+      contains_live old b (all_at (λ u. member u (ids (vertices_of old))) (places inputs) b sound.well_formed.inputs.there (ap (λ v. member v (places inputs)) b_is ∙ member-place inputs i d lt))
+
+  -- the same, in the words of the code
+  pub becomes_output_added : (new : List (Option Slot)) (items : List End) (e : End) (v place : ℕ) → items ≡ outputs ++ e ∷ [] → v ≡ e.vertex → place ≡ length outputs → MayHold g outputs e → Puts old new v (with_output (Some place) (told old v)) →
+      Becomes new inputs items (record g { outputs = outputs ++ e ∷ [] })
+  becomes_output_added new items e v place items_are v_is place_is may puts =
+      subst (λ (xs : List End). Becomes new inputs xs (record g { outputs = outputs ++ e ∷ [] })) (sym items_are)
+      (output_added new e may (subst (λ (n : ℕ). Puts old new e.vertex (with_output (Some n) (told old e.vertex))) place_is (subst (λ (w : ℕ). Puts old new w (with_output (Some place) (told old w))) v_is puts)))
+
+  pub becomes_output_moved : (mid new : List (Option Slot)) (i : ℕ) (e d : End) (b v : ℕ) → i < length outputs → b ≡ (get_or outputs i d).vertex → v ≡ e.vertex → MayHold g (remove outputs i) e →
+      Puts old mid b (with_output None (told old b)) → Puts mid new v (with_output (Some i) (told mid v)) → Becomes new inputs (set outputs i e) (record g { outputs = set outputs i e })
+  becomes_output_moved mid new i e d b v lt b_is v_is may first second =
+      output_moved mid new i e d lt may (subst (λ (w : ℕ). Puts old mid w (with_output None (told old w))) b_is first) (subst (λ (w : ℕ). Puts mid new w (with_output (Some i) (told mid w))) v_is second)
+
+  -- the vertex of an end is there
+  pub output_contained : (i : ℕ) (d : End) (b : ℕ) → i < length outputs → b ≡ (get_or outputs i d).vertex → IsSome (slice_index_or old b None)
+  output_contained i d b lt b_is =
+      contains_live old b (all_at (λ u. member u (ids (vertices_of old))) (places outputs) b sound.well_formed.outputs.there (ap (λ v. member v (places outputs)) b_is ∙ member-place outputs i d lt))
+
+  pub contained_after : (mid : List (Option Slot)) (a : ℕ) (t : Told) (v : ℕ) → Puts old mid a t → t.live ≡ (told old a).live → member v (ids (vertices_of old)) ≡ true → IsSome (slice_index_or mid v None)
+  contained_after mid a t v puts live there =
+      some_of_live (slice_index_or mid v None)
+      (by_equal v a (λ s e. ap (λ x. x.live) (ap (told mid) e ∙ puts_at old mid a t puts) ∙ live ∙ ap (λ q. (told old q).live) (sym e)) (λ f n. ap (λ x. x.live) (puts_other old mid a t v puts n))
+      ∙ sym (member-vertices old v) ∙ there)

@@ -1,0 +1,5 @@
+pub mod RowLemmas
+pub mod PlaceLemmas
+pub mod SlotLemmas
+pub mod Keeping
+pub mod Removing

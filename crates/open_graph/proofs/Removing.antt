@@ -1,0 +1,145 @@
+-- A vertex removed from slots, and from the rows of its neighbours one after the other.
+use Rattle.std.proofs.Common.{◌≡◌, ◌≢◌, refl, sym, ◌∙◌, ap, ℕ, zero, suc, ◌<◌, Bool, true, false, cond, ◌||◌, eqb, List, [], ◌∷◌, length, get_or, take, Option, None, IsSome, slice_index_or, true≢false, eq-eqb, ne_eqb, arith}
+use Rattle.zx_model.specs.Bits.{member}
+use Rattle.zx_calculus.specs.Graph.{End, Graph, ids, joined, without, WellFormed, Interior}
+use Rattle.zx_calculus.specs.Edits.{IsRemoval}
+use Rattle.zx_calculus.proofs.Booleans.{or-true}
+use Rattle.zx_calculus.proofs.Ids.{by_test, by_equal, removed, removed-absent, member-removed, member-removed_other, Symmetric}
+use Rattle.zx_calculus.proofs.Edges.{joined_comm}
+use Rattle.zx_calculus.proofs.Forms.{ids-without}
+use Rattle.zx_calculus.proofs.Vertices.{kind_of-without}
+use Rattle.zx_calculus.proofs.Splitting.{joined-absent, member-without}
+use Rattle.zx_calculus.proofs.Edits.{removal_kept}
+use Rattle.zx_calculus.proofs.EditPrograms.{removal, removal_is_removal}
+use Rattle.open_graph.specs.declared.slot.Slot.{Slot}
+use Rattle.open_graph.specs.Internal.Slots.{Told, nothing, told, adjacent, graph_of, place_of, IsSound}
+use Rattle.open_graph.specs.Internal.Changes.{Puts, Keeps, without_neighbour, RemovedFrom}
+use Rattle.open_graph.proofs.PlaceLemmas.{place_of-absent}
+use Rattle.open_graph.proofs.SlotLemmas.{row_of_dead, some_of_live}
+use Rattle.open_graph.proofs.Keeping.{puts_at, puts_other, sound_keeps, becomes, Becomes}
+
+-- an item of a list is a member
+pub member-item : (xs : List ℕ) (k w : ℕ) → k < length xs → w ≡ get_or xs k w → member w xs ≡ true
+member-item [] k w lt is = absurd (omega arith)
+member-item (x ∷ xs) zero w lt is = ap (λ b. b || member w xs) (eq-eqb w x is)
+member-item (x ∷ xs) (suc k) w lt is = ap (λ b. eqb w x || b) (member-item xs k w (omega arith) is) ∙ or-true (eqb w x)
+
+-- membership in one more of a list
+pub member-take_more : (xs : List ℕ) (k w : ℕ) → k < length xs → w ≡ get_or xs k w → (p : ℕ) → member p (take (suc k) xs) ≡ (eqb p w || member p (take k xs))
+member-take_more [] k w lt is p = absurd (omega arith)
+member-take_more (x ∷ xs) zero w lt is p = ap (λ y. eqb p y || false) (sym is)
+member-take_more (x ∷ xs) (suc k) w lt is p = ap (λ b. eqb p x || b) (member-take_more xs k w (omega arith) is p) ∙ or_swap (eqb p x) (eqb p w) (member p (take k xs))
+  where
+    or_swap : (a b c : Bool) → (a || (b || c)) ≡ (b || (a || c))
+    or_swap true true c = refl
+    or_swap true false c = refl
+    or_swap false b c = refl
+
+without_twice : (v : ℕ) (t : Told) → without_neighbour v (without_neighbour v t) ≡ without_neighbour v t
+without_twice v t = ap {B = Told} (λ r. record t { row = r }) (removed-absent v (removed v t.row) (member-removed v t.row))
+
+-- its mention is taken out of one more row
+pub removed_next : (old now new : List (Option Slot)) (v w : ℕ) (rows more : List ℕ) → w ≢ v → ((p : ℕ) → member p more ≡ (eqb p w || member p rows)) →
+    RemovedFrom old now v rows → Puts now new w (without_neighbour v (told now w)) → RemovedFrom old new v more
+removed_next old now new v w rows more apart grows before puts p =
+    by_equal p v
+    (λ t e. rw t (puts_other now new w _ p puts (λ e'. apart (sym e' ∙ e)) ∙ before p ∙ ap (λ b. cond b nothing (cond (member p rows) (without_neighbour v (told old p)) (told old p))) t))
+    (λ f n. rw (f, grows p)
+    (by_equal p w
+    (λ t e. rw t (ap (told new) e ∙ puts_at now new w _ puts ∙ ap (without_neighbour v) (ap (told now) (sym e) ∙ before p ∙ ap (λ b. cond b nothing (cond (member p rows) (without_neighbour v (told old p)) (told old p))) f) ∙ again (member p rows) (told old p)))
+    (λ g m. rw g (puts_other now new w _ p puts m ∙ before p ∙ ap (λ b. cond b nothing (cond (member p rows) (without_neighbour v (told old p)) (told old p))) f))))
+  where
+    again : (b : Bool) (t : Told) → without_neighbour v (cond b (without_neighbour v t) t) ≡ without_neighbour v t
+    again true t = without_twice v t
+    again false t = refl
+
+module _ (old : List (Option Slot)) (v : ℕ) (symmetric : (p q : ℕ) → adjacent old p q ≡ adjacent old q p) (no_loop : (p : ℕ) → adjacent old p p ≡ false) where
+  pub neighbour_apart : (w : ℕ) → adjacent old v w ≡ true → w ≢ v
+  neighbour_apart w near e = true≢false (sym near ∙ ap (adjacent old v) e ∙ no_loop v)
+
+  -- a neighbour still has its slot
+  pub neighbour_contained : (now : List (Option Slot)) (w : ℕ) (rows : List ℕ) → RemovedFrom old now v rows → adjacent old v w ≡ true → IsSome (slice_index_or now w None)
+  neighbour_contained now w rows before near =
+      some_of_live (slice_index_or now w None)
+      (ap (λ t. t.live) (before w ∙ ap (λ b. cond b nothing (cond (member w rows) (without_neighbour v (told old w)) (told old w))) (ne_eqb w v (neighbour_apart w near)))
+      ∙ either (member w rows) (told old w)
+      ∙ by_test (told old w).live (λ t. t) (λ f. absurd (true≢false (sym near ∙ symmetric v w ∙ ap (member v) (row_of_dead _ f)))))
+    where
+      either : (b : Bool) (t : Told) → (cond b (without_neighbour v t) t).live ≡ t.live
+      either true t = refl
+      either false t = refl
+
+-- with its mention gone from the rows of all neighbours, slots tell the graph without the vertex
+keeps_removed : (old new : List (Option Slot)) (h : Graph) (v : ℕ) → WellFormed h → Interior h v → Keeps old h → RemovedFrom old new v (told old v).row → Keeps new (removal h v)
+keeps_removed old new h v w interior k gone =
+    record {
+      live = λ p. by_equal p v
+          (λ t e. ap (λ x. x.live) (at p t) ∙ sym (ap (λ q. member q (ids (without v h.vertices))) e ∙ member-without v h.vertices))
+          (λ f n. ap (λ x. x.live) (off p f) ∙ live_either (member p (told old v).row) (told old p) ∙ k.live p ∙ sym (ap (member p) (ids-without v h.vertices) ∙ member-removed_other p v (ids h.vertices) n));
+      kind = λ p t. by_equal p v (λ s e. absurd (true≢false (sym t ∙ ap (λ x. x.live) (at p s))))
+          (λ f n. ap (λ x. x.kind) (off p f) ∙ kind_either (member p (told old v).row) (told old p)
+          ∙ k.kind p (sym (ap (λ x. x.live) (off p f) ∙ live_either (member p (told old v).row) (told old p)) ∙ t) ∙ sym (kind_of-without p v h.vertices n));
+      adjacent = rows;
+      input = λ p. by_equal p v
+          (λ t e. ap (λ x. x.input) (at p t) ∙ sym (ap (λ q. place_of q h.inputs) e ∙ place_of-absent v h.inputs interior.no_input))
+          (λ f n. ap (λ x. x.input) (off p f) ∙ input_either (member p (told old v).row) (told old p) ∙ k.input p);
+      output = λ p. by_equal p v
+          (λ t e. ap (λ x. x.output) (at p t) ∙ sym (ap (λ q. place_of q h.outputs) e ∙ place_of-absent v h.outputs interior.no_output))
+          (λ f n. ap (λ x. x.output) (off p f) ∙ output_either (member p (told old v).row) (told old p) ∙ k.output p);
+    }
+  where
+    at : (p : ℕ) → eqb p v ≡ true → told new p ≡ nothing
+    at p t = gone p ∙ ap (λ b. cond b nothing (cond (member p (told old v).row) (without_neighbour v (told old p)) (told old p))) t
+
+    off : (p : ℕ) → eqb p v ≡ false → told new p ≡ cond (member p (told old v).row) (without_neighbour v (told old p)) (told old p)
+    off p f = gone p ∙ ap (λ b. cond b nothing (cond (member p (told old v).row) (without_neighbour v (told old p)) (told old p))) f
+
+    live_either : (b : Bool) (t : Told) → (cond b (without_neighbour v t) t).live ≡ t.live
+    live_either true t = refl
+    live_either false t = refl
+
+    kind_either : (b : Bool) (t : Told) → (cond b (without_neighbour v t) t).kind ≡ t.kind
+    kind_either true t = refl
+    kind_either false t = refl
+
+    input_either : (b : Bool) (t : Told) → (cond b (without_neighbour v t) t).input ≡ t.input
+    input_either true t = refl
+    input_either false t = refl
+
+    output_either : (b : Bool) (t : Told) → (cond b (without_neighbour v t) t).output ≡ t.output
+    output_either true t = refl
+    output_either false t = refl
+
+    after : IsRemoval h v (removal h v)
+    after = removal_is_removal h v w
+
+    not_there : (q : ℕ) → joined (removal h v).edges v q ≡ false
+    not_there q = joined-absent (ids (without v h.vertices)) (removal h v).edges v q after.ordered.lower_there after.ordered.higher_there (member-without v h.vertices)
+
+    symmetric : Symmetric (adjacent old)
+    symmetric p q = k.adjacent p q ∙ joined_comm h.edges p q ∙ sym (k.adjacent q p)
+
+    -- v stands in no row that is left
+    mention : (b : Bool) (t : Told) → member v t.row ≡ b → member v (cond b (without_neighbour v t) t).row ≡ false
+    mention true t m = member-removed v t.row
+    mention false t m = m
+
+    others : (b : Bool) (t : Told) (q : ℕ) → q ≢ v → member q (cond b (without_neighbour v t) t).row ≡ member q t.row
+    others true t q n = member-removed_other q v t.row n
+    others false t q n = refl
+
+    rows : (p q : ℕ) → adjacent new p q ≡ joined (removal h v).edges p q
+    rows p q =
+        by_equal p v
+        (λ t e. ap (λ x. member q x.row) (at p t) ∙ sym (ap (λ r. joined (removal h v).edges r q) e ∙ not_there q))
+        (λ f n. by_equal q v
+        (λ s e. ap (λ x. member q x.row) (off p f)
+        ∙ ap (λ r. member r (cond (member p (told old v).row) (without_neighbour v (told old p)) (told old p)).row) e
+        ∙ mention (member p (told old v).row) (told old p) (symmetric p v)
+        ∙ sym (ap (joined (removal h v).edges p) e ∙ joined_comm (removal h v).edges p v ∙ not_there p))
+        (λ s m. ap (λ x. member q x.row) (off p f) ∙ others (member p (told old v).row) (told old p) q m ∙ k.adjacent p q ∙ sym (after.edges p q n m)))
+
+pub becomes_removed : (old new : List (Option Slot)) (inputs outputs : List End) → IsSound old inputs outputs → (v : ℕ) → Interior (graph_of old inputs outputs) v → RemovedFrom old new v (told old v).row → Becomes new inputs outputs (removal (graph_of old inputs outputs) v)
+becomes_removed old new inputs outputs sound v interior gone =
+    let g : Graph = graph_of old inputs outputs in
+    becomes new (removal g v) (removal_kept g v (removal g v) sound.well_formed interior (removal_is_removal g v sound.well_formed)) (keeps_removed old new g v sound.well_formed interior (sound_keeps old inputs outputs sound) gone)

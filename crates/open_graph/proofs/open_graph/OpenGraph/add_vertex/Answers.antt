@@ -1,0 +1,42 @@
+use Rattle.std.proofs.Common.{◌∙◌, sym, ap, rules}
+use Rattle.std.proofs.lemmas.Result.{err_from_is_err_and}
+use Rattle.zx_model.specs.Bits.{member}
+use Rattle.zx_calculus.specs.Graph.{ids, insert_vertex}
+use Rattle.zx_calculus.specs.Turns.{in_plane}
+use Rattle.open_graph.specs.Planes.{plane_named}
+use Rattle.open_graph.specs.Internal.Slots.{told_by}
+use Rattle.open_graph.proofs.SlotLemmas.{member-vertices}
+use Rattle.open_graph.proofs.Keeping.{becomes_same, becomes_added}
+use Rattle.open_graph.proofs.open_graph.OpenGraph.add_vertex.Goals as goal
+
+pub invariant_of-self : goal.invariant_of-self
+invariant_of-self c =
+    (becomes_same c.self.inside.slots.slots c.add.new.slots.slots c.self.inside.inputs.items c.self.inside.outputs.items c.self.invariant c.in_err-v.ensures.err).sound
+
+pub returns-in_err-v-clause-err : goal.returns-in_err-v-clause-err
+returns-in_err-v-clause-err c =
+    let p = err_from_is_err_and c.from_residual.result c.from_residual.ensures.1 in
+    let made = becomes_same c.self.inside.slots.slots c.add.new.slots.slots c.self.inside.inputs.items c.self.inside.outputs.items c.self.invariant c.in_err-v.ensures.err in
+    rw p.1 (made.graph ∙ ap (λ g. g.graph) c.self.view_is)
+
+pub returns-in_err-v-clause-valid : goal.returns-in_err-v-clause-valid
+returns-in_err-v-clause-valid c =
+    (becomes_same c.self.inside.slots.slots c.add.new.slots.slots c.self.inside.inputs.items c.self.inside.outputs.items c.self.invariant c.in_err-v.ensures.err).sound.well_formed
+
+pub invariant_of-self-2 : goal.invariant_of-self-2
+invariant_of-self-2 c =
+    (becomes_added c.self.inside.slots.slots c.add.new.slots.slots c.self.inside.inputs.items c.self.inside.outputs.items c.self.invariant c.in_ok-v.v _ c.in_ok-v.ensures.vacant (search rules) c.in_ok-v.ensures.ok).sound
+
+pub returns-clause-fresh : goal.returns-clause-fresh
+returns-clause-fresh c =
+    ap (λ g. member c.in_ok-v.v (ids g.graph.vertices)) (sym c.self.view_is)
+    ∙ member-vertices c.self.inside.slots.slots c.in_ok-v.v ∙ ap (λ o. (told_by o).live) c.in_ok-v.ensures.vacant
+
+pub returns-clause-ok : goal.returns-clause-ok
+returns-clause-ok c =
+    (becomes_added c.self.inside.slots.slots c.add.new.slots.slots c.self.inside.inputs.items c.self.inside.outputs.items c.self.invariant c.in_ok-v.v _ c.in_ok-v.ensures.vacant (search rules) c.in_ok-v.ensures.ok).graph
+    ∙ ap (λ g. record g.graph { vertices = insert_vertex (record { id = c.in_ok-v.v; kind = in_plane (plane_named c.args.plane) c.args.phase }) g.graph.vertices }) c.self.view_is
+
+pub returns-clause-valid : goal.returns-clause-valid
+returns-clause-valid c =
+    (becomes_added c.self.inside.slots.slots c.add.new.slots.slots c.self.inside.inputs.items c.self.inside.outputs.items c.self.invariant c.in_ok-v.v _ c.in_ok-v.ensures.vacant (search rules) c.in_ok-v.ensures.ok).sound.well_formed

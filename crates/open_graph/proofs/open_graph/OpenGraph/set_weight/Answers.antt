@@ -1,0 +1,29 @@
+use Rattle.std.proofs.Common.{◌∙◌, sym, ap, rules}
+use Rattle.zx_model.specs.Bits.{member}
+use Rattle.zx_calculus.specs.Graph.{ids, with_kinds}
+use Rattle.zx_calculus.specs.Turns.{in_plane}
+use Rattle.zx_calculus.specs.Reduced.{is_interior}
+use Rattle.zx_calculus.specs.Edits.{at_vertex}
+use Rattle.open_graph.specs.Planes.{plane_named}
+use Rattle.open_graph.proofs.SlotLemmas.{contains_live}
+use Rattle.open_graph.proofs.Keeping.{becomes_weight}
+use Rattle.open_graph.proofs.open_graph.OpenGraph.set_weight.Goals as goal
+
+pub set_kind-requires : goal.set_kind-requires
+set_kind-requires c = contains_live c.self.inside.slots.slots c.args.v (ap (λ g. member c.args.v (ids g.graph.vertices)) c.self.view_is ∙ c.requires.live)
+
+pub invariant_of-self : goal.invariant_of-self
+invariant_of-self c =
+    (becomes_weight c.self.inside.slots.slots c.self.inside.inputs.items c.self.inside.outputs.items c.self.invariant c.set_kind.new.slots.slots c.args.v (in_plane (plane_named c.args.plane) c.args.phase)
+    (search rules) (λ e. c.requires.plane (ap (λ g. is_interior g.graph c.args.v) (sym c.self.view_is) ∙ e)) c.set_kind.ensures).sound
+
+pub returns-clause-ok : goal.returns-clause-ok
+returns-clause-ok c =
+    let made = becomes_weight c.self.inside.slots.slots c.self.inside.inputs.items c.self.inside.outputs.items c.self.invariant c.set_kind.new.slots.slots c.args.v (in_plane (plane_named c.args.plane) c.args.phase)
+    (search rules) (λ e. c.requires.plane (ap (λ g. is_interior g.graph c.args.v) (sym c.self.view_is) ∙ e)) c.set_kind.ensures in
+    made.graph ∙ ap (λ g. record g.graph { vertices = with_kinds (at_vertex c.args.v (λ _. in_plane (plane_named c.args.plane) c.args.phase)) g.graph.vertices }) c.self.view_is
+
+pub returns-clause-valid : goal.returns-clause-valid
+returns-clause-valid c =
+    (becomes_weight c.self.inside.slots.slots c.self.inside.inputs.items c.self.inside.outputs.items c.self.invariant c.set_kind.new.slots.slots c.args.v (in_plane (plane_named c.args.plane) c.args.phase)
+    (search rules) (λ e. c.requires.plane (ap (λ g. is_interior g.graph c.args.v) (sym c.self.view_is) ∙ e)) c.set_kind.ensures).sound.well_formed

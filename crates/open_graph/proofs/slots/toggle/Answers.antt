@@ -1,0 +1,33 @@
+use Rattle.std.proofs.Common.{◌≡◌, ◌∙◌, sym, ap, true, false}
+use Rattle.zx_model.specs.Bits.{member}
+use Rattle.open_graph.specs.Internal.Slots.{told, adjacent}
+use Rattle.open_graph.proofs.RowLemmas.{removed_toggles, inserted_toggles}
+use Rattle.open_graph.proofs.Keeping.{keeps_toggled, same_back, puts_other}
+use Rattle.open_graph.proofs.slots.toggle.Goals as goal
+
+pub returns-then-joins-clause-ok : goal.returns-then-joins-clause-ok
+returns-then-joins-clause-ok c =
+    let there : adjacent c.args.slots.now.slots c.args.u c.args.v ≡ true = sym c.joins.ensures ∙ c.if-joins.true in
+    let back : adjacent c.remove_neighbour.new.slots.slots c.args.v c.args.u ≡ true =
+    ap (λ t. member c.args.u t.row) (puts_other c.args.slots.now.slots c.remove_neighbour.new.slots.slots c.args.u _ c.args.v c.remove_neighbour.ensures (λ e. c.requires.different (sym e)))
+    ∙ sym c.requires.symmetric ∙ there in
+    keeps_toggled c.args.slots.now.slots c.remove_neighbour.new.slots.slots c.remove_neighbour-then-joins.new.slots.slots c.args.u c.args.v _ _ c.requires.different
+    c.remove_neighbour.ensures c.remove_neighbour-then-joins.ensures
+    (removed_toggles c.args.v (told c.args.slots.now.slots c.args.u).row there)
+    (removed_toggles c.args.u (told c.remove_neighbour.new.slots.slots c.args.v).row back)
+
+pub returns-in-Err-clause-err : goal.returns-in-Err-clause-err
+returns-in-Err-clause-err c =
+    same_back c.args.slots.now.slots c.add_neighbour.new.slots.slots c.add_neighbour-2.new.slots.slots c.remove_neighbour-in-Err.new.slots.slots c.args.u c.args.v
+    (sym c.joins.ensures ∙ c.if-joins.false) c.in_ok-add_neighbour.ensures.ok c.in-Err.ensures.err c.remove_neighbour-in-Err.ensures
+
+pub returns-clause-ok : goal.returns-clause-ok
+returns-clause-ok c =
+    let absent : adjacent c.args.slots.now.slots c.args.u c.args.v ≡ false = sym c.joins.ensures ∙ c.if-joins.false in
+    let back : adjacent c.add_neighbour.new.slots.slots c.args.v c.args.u ≡ false =
+    ap (λ t. member c.args.u t.row) (puts_other c.args.slots.now.slots c.add_neighbour.new.slots.slots c.args.u _ c.args.v c.in_ok-add_neighbour.ensures.ok (λ e. c.requires.different (sym e)))
+    ∙ sym c.requires.symmetric ∙ absent in
+    keeps_toggled c.args.slots.now.slots c.add_neighbour.new.slots.slots c.add_neighbour-2.new.slots.slots c.args.u c.args.v _ _ c.requires.different
+    c.in_ok-add_neighbour.ensures.ok c.in_default.ensures.ok
+    (inserted_toggles c.args.v (told c.args.slots.now.slots c.args.u).row absent)
+    (inserted_toggles c.args.u (told c.add_neighbour.new.slots.slots c.args.v).row back)

@@ -1,0 +1,30 @@
+-- Changes of what slots tell.
+use Rattle.std.specs.Prelude.{◌≡◌, ℕ, true, if◌then◌else◌, ◌==◌, List, Option}
+use Rattle.zx_model.specs.Bits.{member}
+use Rattle.zx_calculus.specs.Graph.{Graph, ids, kind_of, joined}
+use Rattle.zx_calculus.proofs.Ids.{removed}
+use Rattle.open_graph.specs.declared.slot.Slot.{Slot}
+use Rattle.open_graph.specs.Internal.Slots.{Told, nothing, told, adjacent, place_of}
+
+-- of u the new slots tell this, and of any other id what the old ones did
+abbrev pub Puts : List (Option Slot) → List (Option Slot) → ℕ → Told → Type 0
+Puts old new u t = (p : ℕ) → told new p ≡ (if p == u then t else told old p)
+
+abbrev pub SameTold : List (Option Slot) → List (Option Slot) → Type 0
+SameTold old new = (p : ℕ) → told new p ≡ told old p
+
+-- slots tell the lists of h
+pub record Keeps (slots : List (Option Slot)) (h : Graph) : Type 0 where
+  pub live : (p : ℕ) → (told slots p).live ≡ member p (ids h.vertices)
+  pub kind : (p : ℕ) → (told slots p).live ≡ true → (told slots p).kind ≡ kind_of h.vertices p
+  pub adjacent : (p q : ℕ) → adjacent slots p q ≡ joined h.edges p q
+  pub input : (p : ℕ) → (told slots p).input ≡ place_of p h.inputs
+  pub output : (p : ℕ) → (told slots p).output ≡ place_of p h.outputs
+
+-- the same without v among the neighbours
+abbrev pub without_neighbour : ℕ → Told → Told
+without_neighbour v t = record t { row = removed v t.row }
+
+-- v is gone, and so is its mention in the rows of these vertices
+abbrev pub RemovedFrom : List (Option Slot) → List (Option Slot) → ℕ → List ℕ → Type 0
+RemovedFrom old new v rows = (p : ℕ) → told new p ≡ (if p == v then nothing else if member p rows then without_neighbour v (told old p) else told old p)

@@ -1,0 +1,296 @@
+//! Open graphs.
+
+ghost use Rattle.std.specs.Prelude.{◌≡◌, ◌≢◌, ◌<◌, ◌++◌, ℕ, [], ◌∷◌, true, false, length, slice_set, remove, is_some, slice_get, OnOk, OnErr, IfOk, IfSome};
+ghost use Rattle.zx_model.specs.Bits.{member};
+ghost use Rattle.zx_calculus.specs.Graph.{ids, kind_of, plane_of, joined, places, insert_vertex, with_kinds, Live, WellFormed, Interior};
+ghost use Rattle.zx_calculus.specs.Graph as zx;
+ghost use Rattle.zx_calculus.specs.Turns.{in_plane, quarter_turned};
+ghost use Rattle.zx_calculus.specs.Reduced.{is_interior};
+ghost use Rattle.zx_calculus.specs.Edits.{IsToggle, IsRemoval, at_vertex};
+ghost use Rattle.open_graph.specs.Planes.{plane_named};
+ghost use Rattle.open_graph.specs.Internal.Slots.{Tells};
+
+use crate::end::End;
+use crate::id::VertexId;
+use crate::plane::Plane;
+use crate::slot::Slot;
+use crate::slots;
+use crate::vertices::Vertices;
+use slab::Slab;
+use std::alloc::{AllocError, Global};
+use std::marker::Model;
+use zx_model::Eighth;
+
+/// An open graph: vertices with planes and phases, edges, and lists of inputs and outputs.
+#[derive(Drop)]
+pub struct OpenGraph {
+    alloc: Global,
+    slots: Slab<Slot>,
+    inputs: Vec<End>,
+    outputs: Vec<End>,
+}
+
+impl Model for OpenGraph {
+    ghost use Rattle.open_graph.specs.OpenGraph.{OpenGraph as Seen};
+
+    ghost Value = { Seen };
+
+    ghost use Rattle.open_graph.specs.Internal.Slots.{graph_of, IsSound};
+
+    ghost view = { λ g. record { graph = graph_of g.slots.slots g.inputs.items g.outputs.items } };
+
+    ghost invariant = { λ g. IsSound g.slots.slots g.inputs.items g.outputs.items };
+}
+
+impl OpenGraph {
+    /// The graph without vertices and ends.
+    pub fn new(alloc: Global) -> OpenGraph
+        ensures { result.graph ≡ record { vertices = []; edges = []; inputs = []; outputs = [] } }
+    {
+        OpenGraph {
+            alloc,
+            slots: Slab::new(alloc),
+            inputs: Vec::new(alloc),
+            outputs: Vec::new(alloc),
+        }
+    }
+
+    /// Adds a vertex without edges and ends. Where memory runs out the graph stays as it was.
+    pub fn add_vertex(&mut self, plane: Plane, phase: Eighth) -> Result<VertexId, AllocError>
+        ensures fresh { IfOk result (λ v. member v (ids self.old.graph.vertices) ≡ false) }
+        ensures ok { IfOk result (λ v. self.new.graph ≡ record self.old.graph {
+          vertices = insert_vertex (record { id = v; kind = in_plane (plane_named plane) phase }) self.old.graph.vertices;
+        }) }
+        ensures err { OnErr result (self.new.graph ≡ self.old.graph) }
+        ensures valid { WellFormed self.new.graph }
+    {
+        let v = slots::add(&mut self.slots, self.alloc, plane, phase)?;
+        Ok(v)
+    }
+
+    /// Adds an input after all others. Where memory runs out the graph stays as it was.
+    pub fn add_input(&mut self, end: End) -> Result<(), AllocError>
+        requires live { Live self.old.graph end.vertex }
+        requires plane { plane_of self.old.graph end.vertex ≡ zx.XY }
+        requires free { member end.vertex (places self.old.graph.inputs) ≡ false }
+        ensures ok { OnOk result (self.new.graph ≡ record self.old.graph { inputs = self.old.graph.inputs ++ end ∷ [] }) }
+        ensures err { OnErr result (self.new.graph ≡ self.old.graph) }
+        ensures valid { WellFormed self.new.graph }
+    {
+        let place = self.inputs.len();
+        self.inputs.push(end)?;
+        slots::set_input(&mut self.slots, end.vertex, Some(place));
+        Ok(())
+    }
+
+    /// Adds an output after all others. Where memory runs out the graph stays as it was.
+    pub fn add_output(&mut self, end: End) -> Result<(), AllocError>
+        requires live { Live self.old.graph end.vertex }
+        requires plane { plane_of self.old.graph end.vertex ≡ zx.XY }
+        requires free { member end.vertex (places self.old.graph.outputs) ≡ false }
+        ensures ok { OnOk result (self.new.graph ≡ record self.old.graph { outputs = self.old.graph.outputs ++ end ∷ [] }) }
+        ensures err { OnErr result (self.new.graph ≡ self.old.graph) }
+        ensures valid { WellFormed self.new.graph }
+    {
+        let place = self.outputs.len();
+        self.outputs.push(end)?;
+        slots::set_output(&mut self.slots, end.vertex, Some(place));
+        Ok(())
+    }
+
+    /// Replaces the input at a place.
+    pub fn move_input(&mut self, i: usize, end: End)
+        requires in_range { i < length self.old.graph.inputs }
+        requires live { Live self.old.graph end.vertex }
+        requires plane { plane_of self.old.graph end.vertex ≡ zx.XY }
+        requires free { member end.vertex (places (remove self.old.graph.inputs i)) ≡ false }
+        ensures ok { self.new.graph ≡ record self.old.graph { inputs = slice_set self.old.graph.inputs i end } }
+        ensures valid { WellFormed self.new.graph }
+    {
+        let before = self.inputs[i];
+        slots::set_input(&mut self.slots, before.vertex, None);
+        slots::set_input(&mut self.slots, end.vertex, Some(i));
+        self.inputs[i] = end;
+    }
+
+    /// Replaces the output at a place.
+    pub fn move_output(&mut self, i: usize, end: End)
+        requires in_range { i < length self.old.graph.outputs }
+        requires live { Live self.old.graph end.vertex }
+        requires plane { plane_of self.old.graph end.vertex ≡ zx.XY }
+        requires free { member end.vertex (places (remove self.old.graph.outputs i)) ≡ false }
+        ensures ok { self.new.graph ≡ record self.old.graph { outputs = slice_set self.old.graph.outputs i end } }
+        ensures valid { WellFormed self.new.graph }
+    {
+        let before = self.outputs[i];
+        slots::set_output(&mut self.slots, before.vertex, None);
+        slots::set_output(&mut self.slots, end.vertex, Some(i));
+        self.outputs[i] = end;
+    }
+
+    /// Removes a vertex without ends, and its edges.
+    pub fn remove_vertex(&mut self, v: VertexId)
+        requires live { Live self.old.graph v }
+        requires interior { Interior self.old.graph v }
+        ensures ok { IsRemoval self.old.graph v self.new.graph }
+        ensures valid { WellFormed self.new.graph }
+    {
+        slots::remove(&mut self.slots, v);
+    }
+
+    /// Adds the edge between two vertices where there is none, and takes it out where there is one. Where memory runs
+    /// out the graph stays as it was.
+    pub fn toggle_edge(&mut self, u: VertexId, v: VertexId) -> Result<(), AllocError>
+        requires u_live { Live self.old.graph u }
+        requires v_live { Live self.old.graph v }
+        requires different { u ≢ v }
+        ensures ok { OnOk result (IsToggle self.old.graph u v self.new.graph) }
+        ensures err { OnErr result (self.new.graph ≡ self.old.graph) }
+        ensures valid { WellFormed self.new.graph }
+    {
+        slots::toggle(&mut self.slots, u, v)?;
+        Ok(())
+    }
+
+    /// Gives a vertex another plane and phase. A vertex with an end stays XY.
+    pub fn set_weight(&mut self, v: VertexId, plane: Plane, phase: Eighth)
+        requires live { Live self.old.graph v }
+        requires plane { is_interior self.old.graph v ≡ false → plane_named plane ≡ zx.XY }
+        ensures ok { self.new.graph ≡ record self.old.graph {
+          vertices = with_kinds (at_vertex v (λ _. in_plane (plane_named plane) phase)) self.old.graph.vertices;
+        } }
+        ensures valid { WellFormed self.new.graph }
+    {
+        slots::set_kind(&mut self.slots, v, plane, phase);
+    }
+
+    /// Turns a vertex by a quarter about the Z axis.
+    pub fn add_quarter(&mut self, v: VertexId)
+        requires { Live self.old.graph v }
+        ensures ok { self.new.graph ≡ record self.old.graph {
+          vertices = with_kinds (at_vertex v quarter_turned) self.old.graph.vertices;
+        } }
+        ensures valid { WellFormed self.new.graph }
+    {
+        let (plane, phase) = self.weight(v);
+        let (plane, phase) = plane.with_quarter(phase);
+        self.set_weight(v, plane, phase);
+    }
+
+    /// Makes room for so many more vertices.
+    pub fn reserve(&mut self, vertices: usize) -> Result<(), AllocError>
+        ensures same { self.new.graph ≡ self.old.graph }
+        ensures valid { WellFormed self.new.graph }
+    {
+        self.slots.reserve(vertices)
+    }
+
+    /// The same graph once more.
+    pub fn copy(&self) -> Result<OpenGraph, AllocError>
+        ensures ok { IfOk result (λ copy. copy.graph ≡ self.now.graph) }
+        ensures valid { WellFormed self.now.graph }
+    {
+        Ok(OpenGraph {
+            alloc: self.alloc,
+            slots: self.slots.clone()?,
+            inputs: Vec::from_slice(self.alloc, &self.inputs)?,
+            outputs: Vec::from_slice(self.alloc, &self.outputs)?,
+        })
+    }
+
+    fn slot(&self, v: VertexId) -> &Slot
+        requires { Live self.now.graph v }
+        ensures { Tells self.now.graph v result.now }
+    {
+        &self.slots[v.get()]
+    }
+
+    /// Whether an edge joins two vertices.
+    pub fn has_edge(&self, u: VertexId, v: VertexId) -> bool
+        requires { Live self.now.graph u }
+        ensures { result ≡ joined self.now.graph.edges u v }
+    {
+        self.slot(u).row.contains(v)
+    }
+
+    /// The vertices adjacent to a vertex, by rising id.
+    pub fn neighbours(&self, v: VertexId) -> &[VertexId]
+        requires { Live self.now.graph v }
+        ensures value { result.now ≡ zx.neighbours self.now.graph v }
+        ensures valid { WellFormed self.now.graph }
+    {
+        self.slot(v).row.as_slice()
+    }
+
+    /// Plane and phase of a vertex.
+    pub fn weight(&self, v: VertexId) -> (Plane, Eighth)
+        requires { Live self.now.graph v }
+        ensures value { in_plane (plane_named result.0) result.1 ≡ kind_of self.now.graph.vertices v }
+        ensures valid { WellFormed self.now.graph }
+    {
+        let slot = self.slot(v);
+        (slot.plane, slot.phase)
+    }
+
+    /// Whether a vertex has neither an input nor an output.
+    pub fn is_interior(&self, v: VertexId) -> bool
+        requires { Live self.now.graph v }
+        ensures { result ≡ is_interior self.now.graph v }
+    {
+        let slot = self.slot(v);
+        slot.input.is_none() && slot.output.is_none()
+    }
+
+    /// Whether an id is that of a vertex.
+    pub fn is_live(&self, v: VertexId) -> bool
+        ensures { result ≡ member v (ids self.now.graph.vertices) }
+    {
+        self.slots.contains(v.get())
+    }
+
+    /// The place of a vertex's input among the inputs, where it has one.
+    pub fn input_at(&self, v: VertexId) -> Option<usize>
+        requires { Live self.now.graph v }
+        ensures found { is_some result ≡ member v (places self.now.graph.inputs) }
+        ensures place { IfSome result (λ i. slice_get (places self.now.graph.inputs) i ≡ Some v) }
+        ensures valid { WellFormed self.now.graph }
+    {
+        self.slot(v).input
+    }
+
+    /// The place of a vertex's output among the outputs, where it has one.
+    pub fn output_at(&self, v: VertexId) -> Option<usize>
+        requires { Live self.now.graph v }
+        ensures found { is_some result ≡ member v (places self.now.graph.outputs) }
+        ensures place { IfSome result (λ i. slice_get (places self.now.graph.outputs) i ≡ Some v) }
+        ensures valid { WellFormed self.now.graph }
+    {
+        self.slot(v).output
+    }
+
+    /// The inputs, in their order.
+    pub fn inputs(&self) -> &[End]
+        ensures value { result.now ≡ self.now.graph.inputs }
+        ensures valid { WellFormed self.now.graph }
+    {
+        &self.inputs
+    }
+
+    /// The outputs, in their order.
+    pub fn outputs(&self) -> &[End]
+        ensures value { result.now ≡ self.now.graph.outputs }
+        ensures valid { WellFormed self.now.graph }
+    {
+        &self.outputs
+    }
+
+    /// The vertices, by rising id.
+    pub fn vertices(&self) -> Vertices<'_>
+        ensures value { result ≡ ids self.now.graph.vertices }
+        ensures valid { WellFormed self.now.graph }
+    {
+        Vertices {
+            entries: self.slots.iter(),
+        }
+    }
+}

@@ -1,0 +1,32 @@
+//! Planes of measurement.
+
+ghost use Rattle.std.specs.Prelude.{◌≡◌};
+ghost use Rattle.zx_calculus.specs.Turns.{in_plane, quarter_turned};
+
+use zx_model::Eighth;
+
+/// The plane of the Bloch sphere in which a vertex is measured.
+#[derive(Clone, Copy, Debug, PartialEq, Eq)]
+pub enum Plane {
+    /// The plane of the X and Y axes.
+    XY,
+    /// The plane of the X and Z axes.
+    XZ,
+    /// The plane of the Y and Z axes.
+    YZ,
+}
+
+impl Plane {
+    ghost use Rattle.open_graph.specs.Planes.{plane_named};
+
+    // Plane and phase after a quarter turn about the Z axis.
+    pub(crate) fn with_quarter(self, phase: Eighth) -> (Plane, Eighth)
+        ensures { in_plane (plane_named result.0) result.1 ≡ quarter_turned (in_plane (plane_named self) phase) }
+    {
+        match self {
+            Plane::XY => (Plane::XY, phase.add(Eighth::new(2))),
+            Plane::XZ => (Plane::YZ, phase.neg()),
+            Plane::YZ => (Plane::XZ, phase),
+        }
+    }
+}

@@ -1,0 +1,32 @@
+//! What is kept of a vertex.
+
+ghost use Rattle.std.specs.Prelude.{◌≡◌};
+
+use crate::plane::Plane;
+use crate::row::Row;
+use std::alloc::AllocError;
+use zx_model::Eighth;
+
+/// A vertex: its plane and phase, its neighbours, and the places of its ends among inputs and outputs.
+#[derive(Drop)]
+pub(crate) struct Slot {
+    pub(crate) plane: Plane,
+    pub(crate) phase: Eighth,
+    pub(crate) row: Row,
+    pub(crate) input: Option<usize>,
+    pub(crate) output: Option<usize>,
+}
+
+impl Clone for Slot {
+    ghost is_clone = { λ slot copy. copy ≡ slot };
+
+    fn clone(&self) -> Result<Slot, AllocError> {
+        Ok(Slot {
+            plane: self.plane,
+            phase: self.phase,
+            row: self.row.copy()?,
+            input: self.input,
+            output: self.output,
+        })
+    }
+}

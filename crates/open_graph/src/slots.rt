@@ -1,0 +1,139 @@
+//! Changes of one slot.
+
+ghost use Rattle.std.specs.Prelude.{◌≡◌, ◌≢◌, ℕ, Some, None, true, false, IfOk, OnOk, OnErr};
+ghost use Rattle.slab.specs.Slab.{get, ContainsKey};
+ghost use Rattle.zx_calculus.specs.Turns.{in_plane};
+ghost use Rattle.zx_calculus.specs.Graph.{Graph, Live, WellFormed};
+ghost use Rattle.zx_calculus.proofs.Ids.{removed};
+ghost use Rattle.zx_calculus.proofs.EditPrograms.{toggled};
+ghost use Rattle.open_graph.specs.Planes.{plane_named};
+ghost use Rattle.open_graph.specs.Internal.Rows.{inserted};
+ghost use Rattle.open_graph.specs.Internal.Slots.{nothing, told, adjacent};
+ghost use Rattle.open_graph.specs.Internal.Changes.{Puts, SameTold, Keeps, RemovedFrom};
+
+use crate::id::VertexId;
+use crate::plane::Plane;
+use crate::row::Row;
+use crate::slot::Slot;
+use slab::Slab;
+use std::alloc::{AllocError, Global};
+use zx_model::Eighth;
+
+// Adds a vertex without neighbours and ends.
+pub(crate) fn add(
+    slots: &mut Slab<Slot>,
+    alloc: Global,
+    plane: Plane,
+    phase: Eighth,
+) -> Result<VertexId, AllocError>
+    ensures vacant { IfOk result (λ v. get slots.old v ≡ None) }
+    ensures ok { IfOk result (λ v. Puts slots.old.slots slots.new.slots v
+        (record nothing { live = true; kind = in_plane (plane_named plane) phase })) }
+    ensures err { OnErr result (SameTold slots.old.slots slots.new.slots) }
+{
+    let key = slots.insert(Slot {
+        plane,
+        phase,
+        row: Row::new(alloc),
+        input: None,
+        output: None,
+    })?;
+    Ok(VertexId::new(key))
+}
+
+// Whether a vertex stands among the neighbours of another.
+fn joins(slots: &Slab<Slot>, u: VertexId, v: VertexId) -> bool
+    requires { ContainsKey slots.now u }
+    ensures { result ≡ adjacent slots.now.slots u v }
+{
+    slots[u.get()].row.contains(v)
+}
+
+// Adds a vertex to the neighbours of another.
+pub(crate) fn add_neighbour(
+    slots: &mut Slab<Slot>,
+    u: VertexId,
+    v: VertexId,
+) -> Result<(), AllocError>
+    requires live { ContainsKey slots.old u }
+    requires apart { adjacent slots.old.slots u v ≡ false }
+    ensures ok { OnOk result (let t = told slots.old.slots u in
+        Puts slots.old.slots slots.new.slots u (record t { row = inserted v t.row })) }
+    ensures err { OnErr result (SameTold slots.old.slots slots.new.slots) }
+{
+    slots[u.get()].row.insert(v)
+}
+
+// Takes a vertex out of the neighbours of another.
+pub(crate) fn remove_neighbour(slots: &mut Slab<Slot>, u: VertexId, v: VertexId)
+    requires { ContainsKey slots.old u }
+    ensures { let t = told slots.old.slots u in
+        Puts slots.old.slots slots.new.slots u (record t { row = removed v t.row }) }
+{
+    slots[u.get()].row.remove(v);
+}
+
+// Toggles the edge between two vertices in both rows. Where memory runs out, the rows are as they were.
+pub(crate) fn toggle(slots: &mut Slab<Slot>, u: VertexId, v: VertexId) -> Result<(), AllocError>
+    requires u_live { ContainsKey slots.old u }
+    requires v_live { ContainsKey slots.old v }
+    requires different { u ≢ v }
+    requires symmetric { adjacent slots.old.slots u v ≡ adjacent slots.old.slots v u }
+    ensures ok { OnOk result ((h : Graph) → WellFormed h → Live h u → Live h v
+        → Keeps slots.old.slots h → Keeps slots.new.slots (toggled h u v)) }
+    ensures err { OnErr result (SameTold slots.old.slots slots.new.slots) }
+{
+    if joins(slots, u, v) {
+        remove_neighbour(slots, u, v);
+        remove_neighbour(slots, v, u);
+        return Ok(());
+    }
+    add_neighbour(slots, u, v)?;
+    if let Err(error) = add_neighbour(slots, v, u) {
+        remove_neighbour(slots, u, v);
+        return Err(error);
+    }
+    Ok(())
+}
+
+// Gives a vertex another plane and phase.
+pub(crate) fn set_kind(slots: &mut Slab<Slot>, v: VertexId, plane: Plane, phase: Eighth)
+    requires { ContainsKey slots.old v }
+    ensures { let t = told slots.old.slots v in
+        Puts slots.old.slots slots.new.slots v (record t { kind = in_plane (plane_named plane) phase }) }
+{
+    let slot = &mut slots[v.get()];
+    slot.plane = plane;
+    slot.phase = phase;
+}
+
+// Gives the input of a vertex another place, or none.
+pub(crate) fn set_input(slots: &mut Slab<Slot>, v: VertexId, place: Option<usize>)
+    requires { ContainsKey slots.old v }
+    ensures { let t = told slots.old.slots v in
+        Puts slots.old.slots slots.new.slots v (record t { input = place }) }
+{
+    slots[v.get()].input = place;
+}
+
+// Gives the output of a vertex another place, or none.
+pub(crate) fn set_output(slots: &mut Slab<Slot>, v: VertexId, place: Option<usize>)
+    requires { ContainsKey slots.old v }
+    ensures { let t = told slots.old.slots v in
+        Puts slots.old.slots slots.new.slots v (record t { output = place }) }
+{
+    slots[v.get()].output = place;
+}
+
+// Removes a vertex, and it from the rows of its neighbours.
+pub(crate) fn remove(slots: &mut Slab<Slot>, v: VertexId)
+    requires live { ContainsKey slots.old v }
+    requires symmetric { (p q : ℕ) → adjacent slots.old.slots p q ≡ adjacent slots.old.slots q p }
+    requires no_loop { (p : ℕ) → adjacent slots.old.slots p p ≡ false }
+    ensures { RemovedFrom slots.old.slots slots.new.slots v (told slots.old.slots v).row }
+{
+    let slot = slots.remove(v.get());
+    for w in slot.row.as_slice() {
+        remove_neighbour(slots, *w, v);
+    }
+}

@@ -1,0 +1,140 @@
+//! That calls succeed with ample memory, on graphs of three vertices.
+use crate::{End, OpenGraph, Plane, VertexId};
+use std::alloc::Global;
+use std::process::Abort;
+use std::test::Fail;
+use zx_model::Eighth;
+
+// Three vertices without edges: XY(1), XY(0) and YZ(2).
+fn three_vertices(alloc: Global) -> Result<OpenGraph, Fail> {
+    let mut graph = OpenGraph::new(alloc);
+    graph.reserve(3)?;
+    graph.add_vertex(Plane::XY, Eighth::new(1))?;
+    graph.add_vertex(Plane::XY, Eighth::new(0))?;
+    graph.add_vertex(Plane::YZ, Eighth::new(2))?;
+    Ok(graph)
+}
+
+fn toggle(rt: &impl Abort, graph: &mut OpenGraph, u: usize, v: usize) -> Result<(), Fail> {
+    let (u, v) = (VertexId::new(u), VertexId::new(v));
+    assert!(rt; graph.is_live(u));
+    assert!(rt; graph.is_live(v));
+    assert!(rt; u != v);
+    graph.toggle_edge(u, v)?;
+    Ok(())
+}
+
+fn has_edge(rt: &impl Abort, graph: &OpenGraph, u: usize, v: usize) -> bool {
+    assert!(rt; graph.is_live(VertexId::new(u)));
+    graph.has_edge(VertexId::new(u), VertexId::new(v))
+}
+
+// The neighbours of a vertex, as the digits of a number.
+fn neighbours(rt: &impl Abort, graph: &OpenGraph, v: usize) -> usize {
+    assert!(rt; graph.is_live(VertexId::new(v)));
+    let mut digits = 0usize;
+    for w in graph.neighbours(VertexId::new(v)) {
+        digits = digits.wrapping_mul(10).wrapping_add(w.get());
+    }
+    digits
+}
+
+#[test]
+fn edges_join_neighbours(rt: HostRuntime) -> Result<(), Fail> {
+    let mut graph = three_vertices(rt.alloc())?;
+    toggle(&rt, &mut graph, 0, 1)?;
+    toggle(&rt, &mut graph, 2, 1)?;
+    toggle(&rt, &mut graph, 0, 2)?;
+    assert_eq!(rt; neighbours(&rt, &graph, 0), 12);
+    assert_eq!(rt; neighbours(&rt, &graph, 1), 2);
+    assert!(rt; has_edge(&rt, &graph, 2, 0));
+
+    // A controlled Z twice is none.
+    toggle(&rt, &mut graph, 0, 2)?;
+    assert_eq!(rt; neighbours(&rt, &graph, 0), 1);
+    assert_eq!(rt; neighbours(&rt, &graph.copy()?, 1), 2);
+    Ok(())
+}
+
+fn add_input(rt: &impl Abort, graph: &mut OpenGraph, end: End) -> Result<(), Fail> {
+    assert!(rt; graph.is_live(end.vertex));
+    assert!(rt; matches!(graph.weight(end.vertex).0, Plane::XY));
+    assert!(rt; graph.input_at(end.vertex).is_none());
+    graph.add_input(end)?;
+    Ok(())
+}
+
+fn add_output(rt: &impl Abort, graph: &mut OpenGraph, end: End) -> Result<(), Fail> {
+    assert!(rt; graph.is_live(end.vertex));
+    assert!(rt; matches!(graph.weight(end.vertex).0, Plane::XY));
+    assert!(rt; graph.output_at(end.vertex).is_none());
+    graph.add_output(end)?;
+    Ok(())
+}
+
+fn move_input(rt: &impl Abort, graph: &mut OpenGraph, end: End) {
+    assert!(rt; graph.is_live(end.vertex));
+    assert!(rt; matches!(graph.weight(end.vertex).0, Plane::XY));
+    assert!(rt; graph.input_at(end.vertex).is_none());
+    assert!(rt; graph.inputs().len() == 1);
+    graph.move_input(0, end);
+}
+
+fn move_output(rt: &impl Abort, graph: &mut OpenGraph, end: End) {
+    assert!(rt; graph.is_live(end.vertex));
+    assert!(rt; matches!(graph.weight(end.vertex).0, Plane::XY));
+    assert!(rt; graph.output_at(end.vertex).is_none());
+    assert!(rt; graph.outputs().len() == 1);
+    graph.move_output(0, end);
+}
+
+#[test]
+fn ends_are_added_and_moved(rt: HostRuntime) -> Result<(), Fail> {
+    let mut graph = three_vertices(rt.alloc())?;
+    let end = End {
+        vertex: VertexId::new(1),
+        hadamard: true,
+    };
+    add_input(&rt, &mut graph, end)?;
+    add_output(&rt, &mut graph, end)?;
+    let copy = graph.copy()?;
+    assert_eq!(rt; copy.inputs(), [end].as_slice());
+    assert_eq!(rt; copy.outputs(), [end].as_slice());
+    let other = End {
+        vertex: VertexId::new(0),
+        hadamard: false,
+    };
+    move_input(&rt, &mut graph, other);
+    move_output(&rt, &mut graph, other);
+    assert_eq!(rt; graph.inputs(), [other].as_slice());
+    assert_eq!(rt; graph.outputs(), [other].as_slice());
+    Ok(())
+}
+
+fn turn(rt: &impl Abort, graph: &mut OpenGraph, v: VertexId) -> Plane {
+    assert!(rt; graph.is_live(v));
+    graph.add_quarter(v);
+    assert!(rt; graph.is_live(v));
+    graph.weight(v).0
+}
+
+fn remove(rt: &impl Abort, graph: &mut OpenGraph, v: VertexId) {
+    assert!(rt; graph.is_live(v));
+    assert!(rt; graph.is_interior(v));
+    graph.remove_vertex(v);
+}
+
+#[test]
+fn vertices_are_turned_and_removed(rt: HostRuntime) -> Result<(), Fail> {
+    let mut graph = three_vertices(rt.alloc())?;
+    assert!(rt; matches!(turn(&rt, &mut graph, VertexId::new(2)), Plane::XZ));
+    remove(&rt, &mut graph, VertexId::new(1));
+    let mut left = 0usize;
+    for v in graph.vertices() {
+        left = left.wrapping_mul(10).wrapping_add(v.get());
+    }
+
+    // Vertices 0 and 2 are left.
+    assert_eq!(rt; left, 2);
+    Ok(())
+}

@@ -1,0 +1,118 @@
+//! The members of a correction set, by rising id.
+
+ghost use Rattle.std.specs.Prelude.{◌≡◌, ℕ, true, ◌==◌, [], ◌∷◌, IfOk, OnOk, ltb, count_by};
+ghost use Rattle.zx_model.specs.Bits.{xor, member};
+ghost use Rattle.zx_calculus.specs.Graph.{in_order, Distinct};
+ghost use Rattle.open_graph.specs.Internal.Rows.{IsPlace};
+
+use open_graph::VertexId;
+use smallvec::SmallVec;
+use std::alloc::{AllocError, Global};
+use std::marker::Model;
+
+/// Ids by rising number, few of them in most sets.
+#[derive(Drop)]
+pub(crate) struct Members {
+    ids: SmallVec<VertexId, 4>,
+}
+
+impl Model for Members {
+    ghost use Rattle.std.specs.Prelude.{◌≡◌, ℕ, List, true, ltb};
+    ghost use Rattle.zx_calculus.specs.Graph.{in_order};
+
+    ghost Value = { List ℕ };
+
+    ghost view = { λ set. set.ids.items };
+
+    ghost invariant = { λ set. in_order ltb set.ids.items ≡ true };
+}
+
+impl Clone for Members {
+    ghost is_clone = { λ set copy. copy ≡ set };
+
+    fn clone(&self) -> Result<Members, AllocError> {
+        self.copy()
+    }
+}
+
+// Where an id stands, or where it would have to stand.
+fn place(ids: &[VertexId], id: VertexId) -> Result<usize, usize>
+    requires { in_order ltb ids.now ≡ true }
+    ensures { IsPlace ids.now id result }
+{
+    ids.binary_search_by_key(&id.get(), |other| other.get())
+}
+
+impl Members {
+    pub(crate) fn new(alloc: Global) -> Members
+        ensures { result ≡ [] }
+    {
+        Members {
+            ids: SmallVec::new(alloc),
+        }
+    }
+
+    pub(crate) fn one(alloc: Global, id: VertexId) -> Result<Members, AllocError>
+        ensures { IfOk result (λ set. set ≡ id ∷ []) }
+    {
+        Ok(Members {
+            ids: SmallVec::from_slice(alloc, &[id])?,
+        })
+    }
+
+    pub(crate) fn copy(&self) -> Result<Members, AllocError>
+        ensures { IfOk result (λ set. set ≡ self.now) }
+    {
+        Ok(Members {
+            ids: SmallVec::from_slice(*self.ids.allocator(), self.ids.as_slice())?,
+        })
+    }
+
+    pub(crate) fn as_slice(&self) -> &[VertexId]
+        ensures value { result.now ≡ self.now }
+        ensures rising { in_order ltb self.now ≡ true }
+    {
+        self.ids.as_slice()
+    }
+
+    pub(crate) fn contains(&self, id: VertexId) -> bool
+        ensures { result ≡ member id self.now }
+    {
+        place(self.ids.as_slice(), id).is_ok()
+    }
+
+    // How many of these are members.
+    pub(crate) fn count_of(&self, ids: &[VertexId]) -> usize
+        ensures { result ≡ count_by (λ id. member id self.now) ids.now }
+    {
+        ids.iter().filter(|id| self.contains(**id)).count()
+    }
+
+    // Adds an id that isn't there, and takes out one that is.
+    pub(crate) fn toggle(&mut self, id: VertexId) -> Result<(), AllocError>
+        ensures { OnOk result ((w : ℕ) → member w self.new ≡ xor (member w self.old) (w == id)) }
+    {
+        match place(self.ids.as_slice(), id) {
+            Ok(i) => {
+                self.ids.remove(i);
+                Ok(())
+            }
+            Err(i) => {
+                self.ids.insert(i, id)?;
+                Ok(())
+            }
+        }
+    }
+
+    // Toggles each of these.
+    pub(crate) fn toggle_all(&mut self, ids: &[VertexId]) -> Result<(), AllocError>
+        requires { Distinct ids.now }
+        ensures { OnOk result ((w : ℕ) →
+            member w self.new ≡ xor (member w self.old) (member w ids.now)) }
+    {
+        for id in ids {
+            self.toggle(*id)?;
+        }
+        Ok(())
+    }
+}

@@ -1,0 +1,70 @@
+//! Tables of corrections.
+
+ghost use Rattle.std.specs.Prelude.{◌≡◌, ◌++◌, true, false, [], ◌∷◌, OnOk, OnErr, ltb};
+ghost use Rattle.zx_model.specs.Bits.{member};
+ghost use Rattle.zx_calculus.specs.Graph.{in_order, Distinct};
+ghost use Rattle.gflow_laws.specs.Flow.{order_of, set_of, SameSets};
+
+use crate::corrections::Corrections;
+use crate::members::Members;
+use open_graph::VertexId;
+use std::alloc::{AllocError, Global};
+use std::marker::Model;
+
+/// An order of vertices, each with a set. It needn't be a flow of any graph.
+#[derive(Drop)]
+pub struct FlowTable {
+    pub(crate) alloc: Global,
+    pub(crate) corrections: Corrections,
+}
+
+impl Model for FlowTable {
+    ghost use Rattle.zx_flow.specs.Flows.{FlowTable as Seen};
+
+    ghost Value = { Seen };
+
+    ghost view = { λ t. record { flow = t.corrections } };
+}
+
+impl FlowTable {
+    /// The table without vertices.
+    pub fn new(alloc: Global) -> FlowTable
+        ensures { result.flow ≡ [] }
+    {
+        FlowTable {
+            alloc,
+            corrections: Corrections::new(alloc),
+        }
+    }
+
+    /// Adds a vertex after all others, with its set. Where memory runs out the table stays as
+    /// it was.
+    pub fn add(&mut self, v: VertexId, members: &[VertexId]) -> Result<(), AllocError>
+        requires fresh { member v (order_of self.old.flow) ≡ false }
+        requires differ { Distinct members.now }
+        ensures ok { OnOk result (SameSets self.new.flow
+            (self.old.flow ++ record { vertex = v; members = members.now } ∷ [])) }
+        ensures err { OnErr result (self.new.flow ≡ self.old.flow) }
+    {
+        let mut set = Members::new(self.alloc);
+        set.toggle_all(members)?;
+        self.corrections.add_last(v, set)
+    }
+
+    /// The vertices in their order.
+    pub fn order(&self) -> &[VertexId]
+        ensures value { result.now ≡ order_of self.now.flow }
+        ensures valid { Distinct (order_of self.now.flow) }
+    {
+        self.corrections.order()
+    }
+
+    /// The set of a vertex, by rising id.
+    pub fn correction(&self, v: VertexId) -> &[VertexId]
+        requires { member v (order_of self.now.flow) ≡ true }
+        ensures value { result.now ≡ set_of self.now.flow v }
+        ensures valid { in_order ltb (set_of self.now.flow v) ≡ true }
+    {
+        self.corrections.set(v).as_slice()
+    }
+}
