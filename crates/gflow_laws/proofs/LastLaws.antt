@@ -22,7 +22,7 @@ use Rattle.gflow_laws.proofs.Views.{Simple-seen}
 
 -- ---- a list with one more at its end
 
-Distinct-front : (xs : List ℕ) (v : ℕ) → Distinct (xs ++ v ∷ []) → Distinct xs × (member v xs ≡ false)
+pub Distinct-front : (xs : List ℕ) (v : ℕ) → Distinct (xs ++ v ∷ []) → Distinct xs × (member v xs ≡ false)
 Distinct-front [] v d = (tt, refl)
 Distinct-front (x ∷ xs) v d =
     let rest : Distinct xs × (member v xs ≡ false) = Distinct-front xs v d.1 in
@@ -53,14 +53,14 @@ is_later-front (x ∷ xs) ys v w there e = carried_on (eqb w x) (eqb v x) (membe
 -- ---- the last correction
 
 -- its vertex is listed, once
-last_listed : (pre : List Correction) (e : Correction) → member e.vertex (order_of (pre ++ e ∷ [])) ≡ true
+pub last_listed : (pre : List Correction) (e : Correction) → member e.vertex (order_of (pre ++ e ∷ [])) ≡ true
 last_listed pre e = ap (member e.vertex) (order_of-append pre e) ∙ member-append e.vertex (order_of pre) (e.vertex ∷ [])
     ∙ ap (λ b. member e.vertex (order_of pre) || b) (member-here e.vertex []) ∙ or-true (member e.vertex (order_of pre))
 
 front : (s : Seen) (pre : List Correction) (e : Correction) → FlowAsFunctions s (pre ++ e ∷ []) → Distinct (order_of pre) × (member e.vertex (order_of pre) ≡ false)
 front s pre e f = Distinct-front (order_of pre) e.vertex (subst Distinct (order_of-append pre e) f.each_once)
 
-last_corrects : (s : Seen) (pre : List Correction) (e : Correction) → FlowAsFunctions s (pre ++ e ∷ []) → Corrects s (is_later (order_of (pre ++ e ∷ []))) e.vertex (is_in e.members)
+pub last_corrects : (s : Seen) (pre : List Correction) (e : Correction) → FlowAsFunctions s (pre ++ e ∷ []) → Corrects s (is_later (order_of (pre ++ e ∷ []))) e.vertex (is_in e.members)
 last_corrects s pre e f =
     subst (λ l. Corrects s (is_later (order_of (pre ++ e ∷ []))) e.vertex (is_in l)) (set_of-last pre e (front s pre e f).1) (f.corrects e.vertex (last_listed pre e))
 
@@ -184,7 +184,7 @@ alone-YZ s pre e last plane none w within near = by_test (s.output w) (λ t. t)
 
 -- ---- the last vertex becomes an output, or goes
 
-filter-removed : (u : ℕ) (vs : List ℕ) → filter (different u) vs ≡ removed u vs
+pub filter-removed : (u : ℕ) (vs : List ℕ) → filter (different u) vs ≡ removed u vs
 filter-removed u [] = refl
 filter-removed u (v ∷ vs) = by_test (eqb u v) (λ t. rw t (filter-removed u vs)) (λ f. rw f (ap (λ r. v ∷ r) (filter-removed u vs)))
 

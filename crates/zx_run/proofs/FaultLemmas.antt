@@ -19,7 +19,7 @@ use Rattle.qasm_reader.specs.declared.error.ParseError.{ParseError}
 use Rattle.qasm_reader.specs.declared.error.ParseError.TheVariants as errors
 use Rattle.zx_run.specs.Internal.Parsing.{no_output_by}
 use Rattle.zx_run.specs.declared.no_output.NoOutput.TheVariants as none
-use Rattle.zx_run.specs.FirstFault.{most_bytes, IsFirstFault, IsShortFault, IsAccepted, HasDeepParenthesis, HasSyntaxFault, HasWrongStatement, fault_of}
+use Rattle.zx_run.specs.FirstFault.{most_bytes, IsFirstFault, IsShortFault, IsAccepted, IsFaultless, HasDeepParenthesis, HasSyntaxFault, HasWrongStatement, fault_of}
 
 -- the tokens of a text can't be too deep and not
 deep_or_shallow : (text : List ℕ) (ts us : List Lexeme) (at : ℕ) → IsCut 0 text ts → IsCut 0 text us → too_deep ts ≡ Some at → too_deep us ≡ None → ⊥
@@ -95,9 +95,12 @@ short_not_accepted text f n gates (inr (inr (inr a))) k =
     absurd (let h : ◌≡◌ {A = Option (Cause × ℕ)} (Some (a.0, a.1)) None =
     sym a.2.first ∙ ap (first_fault most_calls) (same_program text a.2.program k.program a.2.is k.is) ∙ k.faultless in cc)
 
-pub not_accepted : (text : List ℕ) (f : Fault) (n : ℕ) (gates : List ElementaryGate) → IsFirstFault text f → IsAccepted text n gates → ⊥
+not_accepted : (text : List ℕ) (f : Fault) (n : ℕ) (gates : List ElementaryGate) → IsFirstFault text f → IsAccepted text n gates → ⊥
 not_accepted text f n gates (inl a) k = let long = a.0 in let short = k.short in absurd (omega (arith, long, short))
 not_accepted text f n gates (inr a) k = short_not_accepted text f n gates a.1 k
+
+pub not_faultless : (text : List ℕ) (f : Fault) → IsFirstFault text f → IsFaultless text → ⊥
+not_faultless text f first (n, gates, accepted) = not_accepted text f n gates first accepted
 
 -- a text means one circuit at most, however many calls it makes
 pub one_meaning : (text : List ℕ) (m n : ℕ) (a b : List ElementaryGate) → TextMeans text m a → TextMeans text n b → (m ≡ n) × (a ≡ b)
@@ -116,7 +119,7 @@ one_circuit text m n a b k l = one_meaning text m n a b (accepted_means text m a
 
 -- ---- each text is one of both
 abbrev pub IsDecided : List ℕ → Type 0
-IsDecided text = ((qubits : ℕ) × (gates : List ElementaryGate) × IsAccepted text qubits gates) ⊎ ((fault : Fault) × IsFirstFault text fault)
+IsDecided text = IsFaultless text ⊎ ((fault : Fault) × IsFirstFault text fault)
 
 program_decided : (text : List ℕ) (program : List Placed) (o : Option (Cause × ℕ)) → first_fault most_calls program ≡ o → length text ≤ most_bytes → IsProgramText text program → IsDecided text
 program_decided text program None e short is =

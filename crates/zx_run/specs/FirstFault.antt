@@ -75,3 +75,7 @@ pub record IsAccepted (text : List ℕ) (qubits : ℕ) (gates : List ElementaryG
   pub is : IsProgramText text program
   pub faultless : first_fault most_calls program ≡ None
   pub means : Means program qubits gates
+
+-- the text has no fault
+abbrev pub IsFaultless : List ℕ → Type 0
+IsFaultless text = (qubits : ℕ) × (gates : List ElementaryGate) × IsAccepted text qubits gates

@@ -1,5 +1,4 @@
 pub mod Command
-pub mod Merging
 pub mod FirstFault
 pub mod Optimising
 pub mod Outcome

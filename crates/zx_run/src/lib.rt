@@ -3,9 +3,11 @@
 
 mod error_line;
 pub mod laws;
-mod merge;
+#[cfg(test)]
+mod matrices;
 mod no_output;
-mod optimise;
+mod optimiser;
+mod output;
 mod program;
 mod reader;
 pub mod status;
@@ -13,5 +15,6 @@ pub mod status;
 mod tests;
 mod words;
 
+pub use optimiser::optimise;
 pub use program::run;
 pub use status::{Fault, Status};

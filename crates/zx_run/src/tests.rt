@@ -1,6 +1,8 @@
-//! What no clause says: that runs succeed with ample memory, and the bytes of worked examples.
+//! What no clause says: that runs succeed with ample memory, the bytes of worked examples, and the
+//! maps of others.
 ghost use Rattle.std.specs.Prelude.{◌≤◌};
 
+use crate::matrices::{are_proportional, matrix_of, odd_phases_of};
 use crate::reader::read_circuit;
 use crate::{Fault, Status, run};
 use std::alloc::Global;
@@ -31,7 +33,7 @@ fn run_with(
 ) -> Result<(Status, MemSink, MemSink), Fail> {
     let [read_fails, write_fails, err_fails] = fails;
     let mut source = MemSource::new(text, 20, read_fails.to_vec(alloc)?);
-    let mut out = MemSink::new(alloc, 4000, 20, write_fails.to_vec(alloc)?)?;
+    let mut out = MemSink::new(alloc, 100_000, 20, write_fails.to_vec(alloc)?)?;
     let mut err = MemSink::new(alloc, 1000, 20, err_fails.to_vec(alloc)?)?;
     let status = run(alloc, words, &mut source, &mut out, &mut err);
     Ok((status, out, err))
@@ -50,21 +52,16 @@ fn opt(alloc: Global, text: &[u8]) -> Result<(Status, MemSink, MemSink), Fail> {
 }
 
 #[test]
-fn texts_are_optimised(rt: HostRuntime) -> Result<(), Fail> {
+fn phases_on_one_qubit_become_one(rt: HostRuntime) -> Result<(), Fail> {
     let alloc = rt.alloc();
-    // What follows the head of a text, and of what is written for it.
-    let rows: [(&[u8], &[u8]); 15] = [
+    // What follows the head of a text, and of what is written for it: one phase at most.
+    let rows: [(&[u8], &[u8]); 12] = [
         (b"", b""),
         (b"t q[0];\nt q[0];\n", b"s q[0];\n"),
         (b"t q[0];\nt q[0];\nt q[0];\n", b"u1(3*pi/4) q[0];\n"),
         (b"z q[0];\nt q[0];\n", b"u1(5*pi/4) q[0];\n"),
         (b"t q[0];\ntdg q[0];\ns q[0];\nsdg q[0];\n", b""),
-        (b"x q[0];\n", b"x q[0];\n"),
         (b"rz(0.25*pi) q[0];\n", b"t q[0];\n"),
-        (
-            b"ry(pi/4) q[0];\n",
-            b"sdg q[0];\nh q[0];\nt q[0];\nh q[0];\ns q[0];\n",
-        ),
         (
             b"gate g(x) a { U(0,0,x/2) a; }\ng(pi/2) q[0];\n",
             b"t q[0];\n",
@@ -72,10 +69,6 @@ fn texts_are_optimised(rt: HostRuntime) -> Result<(), Fail> {
         (b"gate g a { U(0,0,pi/0) a; }\n", b""),
         (b"u1(1152921504606846976*pi) q[0];\n", b""),
         (b"// t q[0];\r\n\tt q[0] ; t q [ 0 ];// end", b"s q[0];\n"),
-        (
-            b"gate sx a { sx a; sx a; }\nsx q[0];\n",
-            b"sdg q[0];\nh q[0];\nz q[0];\nh q[0];\nsdg q[0];\n",
-        ),
         (b"gate p(x) a { }\np(pi/3) q[0];\n", b""),
         (
             b"creg c[3];\nbarrier q;\nbarrier q[0],q;\nu(0,0,-pi/4) q[0];\n",
@@ -92,19 +85,11 @@ fn texts_are_optimised(rt: HostRuntime) -> Result<(), Fail> {
 }
 
 #[test]
-fn other_heads_are_read(rt: HostRuntime) -> Result<(), Fail> {
+fn circuits_without_gates_have_no_lines(rt: HostRuntime) -> Result<(), Fail> {
     let alloc = rt.alloc();
     // A whole text, and what follows the short head of what is written for it.
-    let rows: [(&[u8], &[u8]); 8] = [
+    let rows: [(&[u8], &[u8]); 3] = [
         (b"OPENQASM 2.0;", b""),
-        (
-            b"OPENQASM 2.0;\nqreg q[1];\nU(pi/2,0,pi) q[0];\n",
-            b"qreg q[1];\nh q[0];\n",
-        ),
-        (
-            b"OPENQASM 2.0;\ninclude \"qelib1.inc\";\nqreg q[2];\nt q;\n",
-            b"qreg q[2];\nt q[0];\nt q[1];\n",
-        ),
         (
             b"OPENQASM 2.0;\ninclude \"qelib1.inc\";\nqreg u[2];\ngate swap a,b { }\n",
             b"qreg q[2];\n",
@@ -113,24 +98,129 @@ fn other_heads_are_read(rt: HostRuntime) -> Result<(), Fail> {
             b"OPENQASM 2.0;\ninclude \"qelib1.inc\";\nqreg q[1024];\n",
             b"qreg q[1024];\n",
         ),
-        (
-            b"OPENQASM 2.0;\ngate swap a,b { CX b,a; }\ninclude \"qelib1.inc\";\nqreg a[1];\nqreg b[2];\nswap a[0],b;\n",
-            b"qreg q[3];\ncx q[1],q[0];\ncx q[2],q[0];\n",
-        ),
-        (
-            b"OPENQASM 2.0;\ninclude \"qelib1.inc\";\ngate swap a,b { swap b,a; }\nqreg q[2];\nswap q[0],q[1];\n",
-            b"qreg q[2];\ncx q[1],q[0];\ncx q[0],q[1];\ncx q[1],q[0];\n",
-        ),
-        (
-            b"OPENQASM 2.0;\ninclude \"qelib1.inc\";\nqreg q[2];\ns q[0];\nt q[1];\ntdg q[1];\ns q[0];\n",
-            b"qreg q[2];\nz q[0];\n",
-        ),
     ];
     for (text, written) in rows {
         let (status, out, _) = opt(alloc, text)?;
         assert_eq!(rt; status, Status::Done);
         assert_eq!(rt; out.bytes(), joined(alloc, SHORT_HEAD, written)?.as_slice());
     }
+    Ok(())
+}
+
+// The lines of gates that `opt` writes for a text on so many qubits, a digit. They are read again
+// without fault.
+fn gates_for(alloc: Global, text: &[u8], qubits: u8) -> Result<Vec<u8>, Fail> {
+    let (status, out, _) = opt(alloc, text)?;
+    let (again, _, _) = opt(alloc, out.bytes())?;
+    if status != Status::Done || again != Status::Done {
+        return Err(Fail::new("another answer than Done"));
+    }
+    let mut head = joined(alloc, SHORT_HEAD, b"qreg q[")?;
+    head.push(qubits)?;
+    head.extend_from_slice(b"];\n")?;
+    let lines = out
+        .bytes()
+        .strip_prefix(head.as_slice())
+        .ok_or("another head")?;
+    Ok(lines.to_vec(alloc)?)
+}
+
+// Whether what `opt` writes for a text has the map of these lines, with so many odd phases at most.
+fn keeps(alloc: Global, text: &[u8], qubits: u8, lines: &[u8], odd: usize) -> Result<bool, Fail> {
+    let written = gates_for(alloc, text, qubits)?;
+    let this = matrix_of(alloc, qubits, &written)?;
+    let that = matrix_of(alloc, qubits, lines)?;
+    Ok(are_proportional(&this, &that) && odd_phases_of(&written) <= odd)
+}
+
+#[test]
+fn maps_are_kept(rt: HostRuntime) -> Result<(), Fail> {
+    let alloc = rt.alloc();
+    // What follows the short head, on how many qubits it is, lines with its map, and how many odd
+    // phases it has.
+    let rows: [(&[u8], u8, &[u8], usize); 18] = [
+        (b"qreg q[1]; h q[0]; h q[0];", b'1', b"", 0),
+        (
+            b"qreg q[1]; t q[0]; h q[0]; h q[0]; t q[0];",
+            b'1',
+            b"s q[0];",
+            2,
+        ),
+        (b"qreg q[2]; cx q[0],q[1]; cx q[0],q[1];", b'2', b"", 0),
+        (
+            b"qreg q[1]; s q[0]; h q[0]; s q[0]; h q[0]; s q[0];",
+            b'1',
+            b"h q[0];",
+            0,
+        ),
+        (b"qreg q[1]; x q[0];", b'1', b"x q[0];", 0),
+        (b"qreg q[1]; y q[0];", b'1', b"x q[0];\nz q[0];", 0),
+        (
+            b"qreg q[1]; ry(pi/4) q[0];",
+            b'1',
+            b"sdg q[0];\nh q[0];\nt q[0];\nh q[0];\ns q[0];",
+            1,
+        ),
+        (b"qreg q[1]; U(pi/2,0,pi) q[0];", b'1', b"h q[0];", 0),
+        (
+            b"qreg q[1]; sx q[0];",
+            b'1',
+            b"h q[0];\ns q[0];\nh q[0];",
+            0,
+        ),
+        (
+            b"gate sx a { sx a; sx a; } qreg q[1]; sx q[0];",
+            b'1',
+            b"x q[0];",
+            0,
+        ),
+        (b"qreg q[2]; t q;", b'2', b"t q[0];\nt q[1];", 2),
+        (b"qreg q[2]; cx q[1],q[0];", b'2', b"cx q[1],q[0];", 0),
+        (
+            b"qreg q[2]; s q[0]; t q[1]; tdg q[1]; s q[0];",
+            b'2',
+            b"z q[0];",
+            2,
+        ),
+        (
+            b"qreg q[2]; h q; cz q[0],q[1]; h q;",
+            b'2',
+            b"h q[0];\nh q[1];\ncz q[0],q[1];\nh q[0];\nh q[1];",
+            0,
+        ),
+        (
+            b"qreg q[3]; swap q[0],q[1]; swap q[1],q[2];",
+            b'3',
+            b"cx q[0],q[1];\ncx q[1],q[0];\ncx q[0],q[1];\ncx q[1],q[2];\ncx q[2],q[1];\ncx q[1],q[2];",
+            0,
+        ),
+        (
+            b"gate swap a,b { swap b,a; } qreg q[2]; swap q[0],q[1];",
+            b'2',
+            b"cx q[1],q[0];\ncx q[0],q[1];\ncx q[1],q[0];",
+            0,
+        ),
+        (
+            b"qreg q[2]; rzz(pi/4) q[0],q[1];",
+            b'2',
+            b"cx q[0],q[1];\nt q[1];\ncx q[0],q[1];",
+            1,
+        ),
+        (
+            b"qreg q[2]; crz(pi/2) q[0],q[1];",
+            b'2',
+            b"tdg q[0];\ncs q[0],q[1];",
+            2,
+        ),
+    ];
+    for (i, (lines, qubits, map, odd)) in rows.into_iter().enumerate() {
+        let text = joined(alloc, SHORT_HEAD, lines)?;
+        assert!(rt; keeps(alloc, &text, qubits, map, odd)?, "row {i}");
+    }
+    // A gate that is declared before the header, and applied to a qubit and a register.
+    let text =
+        b"OPENQASM 2.0;\ngate swap a,b { CX b,a; }\ninclude \"qelib1.inc\";\nqreg a[1];\nqreg b[2];\nswap a[0],b;\n";
+    assert!(rt; keeps(alloc, text, b'3', b"cx q[1],q[0];\ncx q[2],q[0];", 0)?);
     Ok(())
 }
 
@@ -322,59 +412,118 @@ fn limits_are_told(rt: HostRuntime) -> Result<(), Fail> {
     Ok(())
 }
 
-// How many qubits and odd phases the circuit of a text has, lowered and not merged.
-fn size_of(alloc: Global, text: &[u8]) -> Result<(u16, u64), Fail> {
+// How many odd phases the circuit of a text has, lowered.
+fn odd_phases_in(alloc: Global, text: &[u8]) -> Result<u64, Fail> {
     if text.len() > 10_000 {
-        return Ok((0, 0));
+        return Ok(0);
     }
     let read = read_circuit(alloc, text).ok().ok_or("refused")?;
     let lowered = lower(alloc, &read)?;
-    Ok((read.qubits, counts(&lowered).odd))
+    Ok(counts(&lowered).odd)
 }
 
 #[test]
-fn circuits_of_the_field_are_read(rt: HostRuntime) -> Result<(), Fail> {
+fn circuits_of_the_field_keep_their_maps(rt: HostRuntime) -> Result<(), Fail> {
     let alloc = rt.alloc();
-    // What follows the short head, and how many qubits and odd phases the circuit has.
-    let rows: [(&[u8], u16, u64); 8] = [
+    // What follows the short head, on how many qubits it is, lines with its map, and how many odd
+    // phases it has.
+    let rows: [(&[u8], u8, &[u8], u64); 8] = [
         // Toffoli, Fredkin, controlled Hadamard
-        (b"qreg q[3]; ccx q[0],q[1],q[2];", 3, 7),
-        (b"qreg q[3]; cswap q[0],q[1],q[2];", 3, 7),
-        (b"qreg q[2]; ch q[0],q[1];", 2, 2),
+        (
+            b"qreg q[3]; ccx q[0],q[1],q[2];",
+            b'3',
+            b"ccx q[0],q[1],q[2];",
+            7,
+        ),
+        (
+            b"qreg q[3]; cswap q[0],q[1],q[2];",
+            b'3',
+            b"cx q[2],q[1];\nccx q[0],q[1],q[2];\ncx q[2],q[1];",
+            7,
+        ),
+        (
+            b"qreg q[2]; ch q[0],q[1];",
+            b'2',
+            b"s q[1];\nh q[1];\nt q[1];\ncx q[0],q[1];\ntdg q[1];\nh q[1];\nsdg q[1];",
+            2,
+        ),
         // a full adder of one bit
         (
             b"qreg a[1]; qreg b[1]; qreg c[2]; ccx a[0],b[0],c[1]; cx a[0],b[0]; ccx b[0],c[0],c[1]; cx b[0],c[0];",
-            4,
+            b'4',
+            b"ccx q[0],q[1],q[3];\ncx q[0],q[1];\nccx q[1],q[2],q[3];\ncx q[1],q[2];",
             14,
         ),
         // Cuccaro's adder of two bits
         (
             b"gate maj a,b,c { cx c,b; cx c,a; ccx a,b,c; } gate uma a,b,c { ccx a,b,c; cx c,a; cx a,b; } qreg c[1]; qreg a[2]; qreg b[2]; qreg w[1]; maj c[0],b[0],a[0]; maj a[0],b[1],a[1]; cx a[1],w[0]; uma a[0],b[1],a[1]; uma c[0],b[0],a[0];",
-            6,
+            b'6',
+            b"cx q[1],q[3];\ncx q[1],q[0];\nccx q[0],q[3],q[1];\ncx q[2],q[4];\ncx q[2],q[1];\nccx q[1],q[4],q[2];\ncx q[2],q[5];\nccx q[1],q[4],q[2];\ncx q[2],q[1];\ncx q[1],q[4];\nccx q[0],q[3],q[1];\ncx q[1],q[0];\ncx q[0],q[3];",
             28,
         ),
         // Grover's search on two qubits
         (
             b"qreg q[2]; h q; cz q[0],q[1]; h q; x q; cz q[0],q[1]; x q; h q;",
-            2,
+            b'2',
+            b"h q[0];\nh q[1];\ncz q[0],q[1];\nh q[0];\nh q[1];\nx q[0];\nx q[1];\ncz q[0],q[1];\nx q[0];\nx q[1];\nh q[0];\nh q[1];",
             0,
         ),
         // the Fourier transform of two qubits
         (
             b"qreg q[2]; h q[1]; cu1(pi/2) q[0],q[1]; h q[0]; swap q[0],q[1];",
-            2,
+            b'2',
+            b"h q[1];\ncs q[0],q[1];\nh q[0];\ncx q[0],q[1];\ncx q[1],q[0];\ncx q[0],q[1];",
             3,
         ),
         // teleportation of a T state, with controlled corrections
         (
             b"qreg q[3]; h q[0]; t q[0]; h q[1]; cx q[1],q[2]; cx q[0],q[1]; h q[0]; cx q[1],q[2]; cz q[0],q[2];",
-            3,
+            b'3',
+            b"h q[0];\nt q[0];\nh q[1];\ncx q[1],q[2];\ncx q[0],q[1];\nh q[0];\ncx q[1],q[2];\ncz q[0],q[2];",
             1,
         ),
     ];
-    for (lines, qubits, odd) in rows {
-        let size = size_of(alloc, &joined(alloc, SHORT_HEAD, lines)?)?;
-        assert_eq!(rt; size, (qubits, odd));
+    for (i, (lines, qubits, map, odd)) in rows.into_iter().enumerate() {
+        let text = joined(alloc, SHORT_HEAD, lines)?;
+        assert_eq!(rt; odd_phases_in(alloc, &text)?, odd, "row {i}");
+        assert!(rt; keeps(alloc, &text, qubits, map, odd as usize)?, "row {i}");
+    }
+    Ok(())
+}
+
+// So many gates on four qubits, drawn by a seed, one a line.
+fn drawn(alloc: Global, seed: u64, gates: usize) -> Result<Vec<u8>, Fail> {
+    let mut text = Vec::new(alloc);
+    let mut state = seed;
+    for _ in 0..gates {
+        state = state
+            .wrapping_mul(6_364_136_223_846_793_005)
+            .wrapping_add(1_442_695_040_888_963_407);
+        let word = state >> 33;
+        let (q, other) = (word % 4, (word / 4) % 3);
+        let r = if other < q { other } else { other + 1 };
+        let line = match (word / 12) % 7 {
+            0 | 1 => format!(in alloc; "h q[{q}];\n")?,
+            2 => format!(in alloc; "t q[{q}];\n")?,
+            3 => format!(in alloc; "sdg q[{q}];\n")?,
+            4 => format!(in alloc; "x q[{q}];\n")?,
+            5 => format!(in alloc; "cz q[{q}],q[{r}];\n")?,
+            _ => format!(in alloc; "cx q[{q}],q[{r}];\n")?,
+        };
+        text.extend_from_slice(line.as_bytes())?;
+    }
+    Ok(text)
+}
+
+#[test]
+fn drawn_circuits_keep_their_maps(rt: HostRuntime) -> Result<(), Fail> {
+    let alloc = rt.alloc();
+    let head = joined(alloc, SHORT_HEAD, b"qreg q[4];\n")?;
+    for seed in 0..40 {
+        let lines = drawn(alloc, seed, 40)?;
+        let text = joined(alloc, &head, &lines)?;
+        let odd = odd_phases_of(&lines);
+        assert!(rt; keeps(alloc, &text, b'4', &lines, odd)?, "seed {seed}");
     }
     Ok(())
 }

@@ -14,6 +14,6 @@ returns-in-Some-Optimise-clause-answers g c =
     let s = c.args in
     let t = c.optimise_from.new in
     subst (λ given. IsAnswer given
-    (ends (g.S.Source.left s.source.now) (g.S.Source.faults s.source.now) (g.O.Sink.taken s.out.now) (g.O.Sink.faults s.out.now) (g.O.Sink.pending s.out.now))
-    (ends (g.S.Source.left t.source) (g.S.Source.faults t.source) (g.O.Sink.taken t.out) (g.O.Sink.faults t.out) (g.O.Sink.pending t.out))
+    (ends g.S.Source.left g.S.Source.faults g.O.Sink.taken g.O.Sink.faults g.O.Sink.pending s.source.now s.out.now)
+    (ends g.S.Source.left g.S.Source.faults g.O.Sink.taken g.O.Sink.faults g.O.Sink.pending t.source t.out)
     c.optimise_from.result) gives c.optimise_from.ensures.answers

@@ -10,10 +10,13 @@ use Rattle.zx_run.proofs.program.run.Goals as goal
 
 -- the ends before and after
 abbrev before : (g : Over) → goal.After-report g → Ends
-before g c = ends (g.S.Source.left c.args.source.now) (g.S.Source.faults c.args.source.now) (g.O.Sink.taken c.args.out.now) (g.O.Sink.faults c.args.out.now) (g.O.Sink.pending c.args.out.now)
+before g c =
+    ends g.S.Source.left g.S.Source.faults g.O.Sink.taken g.O.Sink.faults g.O.Sink.pending c.args.source.now c.args.out.now
 
 abbrev after : (g : Over) → goal.After-report g → Ends
-after g c = let s = c.answer-status.new in ends (g.S.Source.left s.source) (g.S.Source.faults s.source) (g.O.Sink.taken s.out) (g.O.Sink.faults s.out) (g.O.Sink.pending s.out)
+after g c =
+    let s = c.answer-status.new in
+    ends g.S.Source.left g.S.Source.faults g.O.Sink.taken g.O.Sink.faults g.O.Sink.pending s.source s.out
 
 -- the line changes no answer
 told : (g : Over) (c : goal.After-report g) → IsAnswer (command_in c.args.words.now) (before g c) (after g c) c.report.result
@@ -43,9 +46,9 @@ pub returns-clause-write_fault_output : goal.returns-clause-write_fault_output
 returns-clause-write_fault_output g c = answers.write_fault_output _ (before g c) (after g c) _ (told g c)
 
 pub returns-clause-complete : goal.returns-clause-complete
-returns-clause-complete g c = λ text qubits gates command.
+returns-clause-complete g c = λ text faultless command.
     answers.complete _ (before g c) (after g c) _ (told g c)
-    (λ usage. not_none _ command (c.answer-status.ensures.usage.0 (sym c.report.ensures.answer ∙ usage))) text qubits gates command
+    (λ usage. not_none _ command (c.answer-status.ensures.usage.0 (sym c.report.ensures.answer ∙ usage))) text faultless command
 
 pub returns-clause-read_to_end : goal.returns-clause-read_to_end
 returns-clause-read_to_end g c = answers.read_to_end _ (before g c) (after g c) _ (told g c)

@@ -1,0 +1,28 @@
+-- The parts of which the changes of a graph are made.
+use Rattle.std.specs.Prelude.{◌≡◌, ◌≢◌, ℕ, Bool, if◌then◌else◌, ◌&&◌, ◌==◌, List}
+use Rattle.zx_model.specs.Bits.{xor, member}
+use Rattle.zx_calculus.specs.Graph.{Kind, Graph, ids, joined, OrderedEdges, with_kinds}
+
+-- h is g, with each edge between two different vertices toggled where the pair is picked
+pub record IsToggled (g : Graph) (picked : ℕ → ℕ → Bool) (h : Graph) : Type 0 where
+  pub vertices : h.vertices ≡ g.vertices
+  pub ordered : OrderedEdges (ids h.vertices) h.edges
+  pub edges : (p q : ℕ) → p ≢ q → joined h.edges p q ≡ xor (joined g.edges p q) (picked p q)
+  pub inputs : h.inputs ≡ g.inputs
+  pub outputs : h.outputs ≡ g.outputs
+
+-- a pair of listed ones
+abbrev pub among : List ℕ → ℕ → ℕ → Bool
+among near p q = member p near && member q near
+
+-- a pair of x and a listed one
+abbrev pub from_to : ℕ → List ℕ → ℕ → ℕ → Bool
+from_to x near p q = xor ((p == x) && member q near) ((q == x) && member p near)
+
+-- plane and phase of the listed vertices change
+abbrev pub changed_in : List ℕ → (Kind → Kind) → ℕ → Kind → Kind
+changed_in near change p kind = if member p near then change kind else kind
+
+-- g with other planes and phases
+abbrev pub with_changed : (ℕ → Kind → Kind) → Graph → Graph
+with_changed change g = record g { vertices = with_kinds change g.vertices }

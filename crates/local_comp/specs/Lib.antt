@@ -1,0 +1,3 @@
+pub mod Rewrites
+pub mod Sets
+pub mod Internal

@@ -1,0 +1,3 @@
+mod Spiders
+mod Splits
+mod Calls

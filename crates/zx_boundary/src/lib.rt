@@ -1,0 +1,10 @@
+//! The split of an end: an identity spider between a vertex and its input or output wire.
+#![tactic(auto)]
+
+pub mod flow;
+pub mod graph;
+pub mod rewrite;
+#[cfg(test)]
+mod tests;
+
+pub use rewrite::{split_input, split_output};

@@ -1,0 +1,22 @@
+mod Leads
+mod Counting
+mod Places
+mod Lasts
+mod Settled
+mod SettledOutputs
+mod Rows
+mod Calls
+mod RowToggles
+mod LastVertex
+mod Advancing
+mod VertexCalls
+mod Legs
+mod Removing
+mod Taking
+mod Exchanges
+mod Whole
+pub mod HoldersTables
+pub mod HoldersMerging
+pub mod HoldersTurning
+pub mod HoldersCounting
+pub mod HoldersAdding

@@ -1,0 +1,7 @@
+-- What only private contracts and proofs cite: nobody has to read it to trust a promise of this
+-- crate.
+pub mod Frontiers
+pub mod Holders
+pub mod Leading
+pub mod Lists
+pub mod Steps

@@ -1,0 +1,203 @@
+//! A graph from whose outputs gates are taken off.
+
+ghost use Rattle.std.specs.Prelude.{◌≡◌, ◌≢◌, ◌<◌, ◌≤◌, ℕ, true, false, [], ◌∷◌, ◌++◌, length, slice_get, Some, IfOk, OnOk};
+ghost use Rattle.zx_model.specs.Bits.{member};
+ghost use Rattle.zx_calculus.specs.Graph.{plane_of, places, Distinct, Live, WellFormed};
+ghost use Rattle.zx_calculus.specs.Graph as zx;
+ghost use Rattle.gflow_laws.specs.Flow.{IsFlow, SameSets};
+ghost use Rattle.zx_gates.specs.Circuit.{most_qubits};
+ghost use Rattle.circuit_laws.specs.Gates.{phase_gates};
+ghost use Rattle.circuit_laws.specs.Peeling.{HasPlainOutput};
+ghost use Rattle.zx_extract.specs.Internal.Leading.{IsGiven, IsReady, IsFrontier, Leads};
+ghost use Rattle.zx_extract.specs.Internal.Lists.{IsPlainAt};
+ghost use Rattle.zx_extract.specs.Internal.Steps.{IsPhaseTaken, IsUnjoined, IsRowAdded, IsRowToggled};
+ghost use Rattle.zx_extract.specs.Internal.Frontiers.{state_of};
+
+use crate::holders::Holders;
+use open_graph::{End, OpenGraph, Plane, VertexId};
+use std::alloc::{AllocError, Global};
+use zx_flow::Flow;
+use zx_gates::{Gate, Qubit};
+use zx_model::Eighth;
+
+/// What is left of a graph and of its flow, and the gates that were taken off, the last one first.
+#[derive(Drop)]
+pub(crate) struct Frontier {
+    pub(crate) alloc: Global,
+    pub(crate) graph: OpenGraph,
+    pub(crate) flow: Holders,
+    pub(crate) gates: Vec<Gate>,
+}
+
+// An end without a Hadamard.
+pub(crate) fn plain(vertex: VertexId) -> End
+    ensures { result ≡ record { vertex = vertex; hadamard = false } }
+{
+    End {
+        vertex,
+        hadamard: false,
+    }
+}
+
+// Toggles the edges between a vertex and each of a row.
+fn toggle_row(graph: &mut OpenGraph, t: VertexId, row: &[VertexId]) -> Result<(), AllocError>
+    requires valid { WellFormed graph.old.graph }
+    requires live { Live graph.old.graph t }
+    requires row_live { (w : ℕ) → member w row.now ≡ true → Live graph.old.graph w }
+    requires apart { member t row.now ≡ false }
+    requires once { Distinct row.now }
+    ensures { OnOk result (IsRowToggled graph.old.graph t row.now graph.new.graph) }
+{
+    for w in row {
+        graph.toggle_edge(t, *w)?;
+    }
+    Ok(())
+}
+
+impl Frontier {
+    // A graph from which nothing was taken yet.
+    pub(crate) fn begin(
+        alloc: Global,
+        graph: OpenGraph,
+        flow: &Flow,
+    ) -> Result<Frontier, AllocError>
+        requires flow { IsFlow graph.graph flow.now.flow }
+        requires planes { (v : ℕ) → Live graph.graph v → plane_of graph.graph v ≢ zx.XZ }
+        requires few { length graph.graph.outputs ≤ most_qubits }
+        ensures given { IfOk result (λ f. IsGiven (state_of f)) }
+        ensures graph { IfOk result (λ f. f.graph.graph ≡ graph.graph) }
+        ensures gates { IfOk result (λ f. f.gates.items ≡ []) }
+    {
+        let _ends = graph.inputs();
+        let flow = Holders::of_flow(alloc, flow)?;
+        Ok(Frontier {
+            alloc,
+            graph,
+            flow,
+            gates: Vec::new(alloc),
+        })
+    }
+
+    // How many outputs there are.
+    pub(crate) fn qubits(&self) -> Qubit
+        requires { IsGiven (state_of self.now) }
+        ensures { result ≡ length self.now.graph.graph.outputs }
+    {
+        self.graph.outputs().len() as Qubit
+    }
+
+    // An output.
+    fn output(&self, q: Qubit) -> End
+        requires { q < length self.now.graph.graph.outputs }
+        ensures { slice_get self.now.graph.graph.outputs q ≡ Some result }
+    {
+        let outputs = self.graph.outputs();
+        outputs[usize::from(q)]
+    }
+
+    // The vertex of a plain output.
+    pub(crate) fn present(&self, q: Qubit) -> VertexId
+        requires ready { IsReady (state_of self.now) }
+        requires on_wires { q < length self.now.graph.graph.outputs }
+        ensures { HasPlainOutput self.now.graph.graph q result }
+    {
+        let output = self.output(q);
+        output.vertex
+    }
+
+    // Writes a gate before all that were taken off so far.
+    pub(crate) fn write(&mut self, gate: Gate) -> Result<(), AllocError>
+        ensures { OnOk result (state_of self.new ≡ record (state_of self.old) {
+          gates = gate ∷ (state_of self.old).gates;
+        }) }
+    {
+        self.gates.push(gate)?;
+        Ok(())
+    }
+
+    // Writes a controlled NOT gate.
+    pub(crate) fn write_cx(&mut self, control: Qubit, target: Qubit) -> Result<(), AllocError>
+        ensures { OnOk result (state_of self.new ≡ record (state_of self.old) {
+          gates = Gate.Cx control target ∷ (state_of self.old).gates;
+        }) }
+    {
+        self.write(Gate::Cx { control, target })
+    }
+
+    // Writes a phase gate, unless its phase is 0.
+    pub(crate) fn write_phase(&mut self, q: Qubit, phase: Eighth) -> Result<(), AllocError>
+        ensures { OnOk result (state_of self.new ≡ record (state_of self.old) {
+          gates = phase_gates q phase ++ (state_of self.old).gates;
+        }) }
+    {
+        if phase.get() == 0 {
+            return Ok(());
+        }
+        self.write(Gate::Phase(q, phase))
+    }
+
+    // Takes off the Hadamard of an output, where it carries one.
+    pub(crate) fn take_mark(&mut self, q: Qubit) -> Result<(), AllocError>
+        requires given { IsGiven (state_of self.old) }
+        requires on_wires { q < length self.old.graph.graph.outputs }
+        ensures leads { OnOk result (Leads (state_of self.old) 1 0 0 (state_of self.new)) }
+        ensures given { OnOk result (IsGiven (state_of self.new)) }
+        ensures plain { OnOk result (IsPlainAt self.new.graph.graph.outputs q) }
+        ensures others { OnOk result ((p : ℕ) → IsPlainAt self.old.graph.graph.outputs p →
+            IsPlainAt self.new.graph.graph.outputs p) }
+    {
+        let output = self.output(q);
+        if !output.hadamard {
+            return Ok(());
+        }
+        self.graph.move_output(usize::from(q), plain(output.vertex));
+        self.write(Gate::H(q))
+    }
+
+    // Takes off the phase of an output.
+    pub(crate) fn take_phase(&mut self, q: Qubit) -> Result<(), AllocError>
+        requires ready { IsReady (state_of self.old) }
+        requires on_wires { q < length self.old.graph.graph.outputs }
+        ensures { OnOk result (IsPhaseTaken (state_of self.old) q (state_of self.new)) }
+    {
+        let here = self.present(q);
+        let (plane, phase) = self.graph.weight(here);
+        self.graph.set_weight(here, plane, Eighth::new(0));
+        self.write_phase(q, phase)
+    }
+
+    // Takes off the edge between two outputs, where there is one.
+    pub(crate) fn take_edge(&mut self, p: Qubit, q: Qubit) -> Result<(), AllocError>
+        requires ready { IsReady (state_of self.old) }
+        requires p_on_wires { p < length self.old.graph.graph.outputs }
+        requires q_on_wires { q < length self.old.graph.graph.outputs }
+        ensures { OnOk result (IsUnjoined (state_of self.old) p q (state_of self.new)) }
+    {
+        let first = self.present(p);
+        let second = self.present(q);
+        if !self.graph.has_edge(first, second) {
+            return Ok(());
+        }
+        self.graph.toggle_edge(first, second)?;
+        self.write(Gate::Cz(p, q))
+    }
+
+    // Adds the row of output c, which has no input, to that of output t.
+    pub(crate) fn add_row(&mut self, c: Qubit, t: Qubit) -> Result<(), AllocError>
+        requires ready { IsReady (state_of self.old) }
+        requires frontier { IsFrontier self.old.graph.graph }
+        requires c_on_wires { c < length self.old.graph.graph.outputs }
+        requires t_on_wires { t < length self.old.graph.graph.outputs }
+        requires apart { c ≢ t }
+        requires no_input { (u : ℕ) → HasPlainOutput self.old.graph.graph c u →
+            member u (places self.old.graph.graph.inputs) ≡ false }
+        ensures { OnOk result (IsRowAdded (state_of self.old) c t (state_of self.new)) }
+    {
+        let added = self.present(c);
+        let to = self.present(t);
+        let row = Vec::from_slice(self.alloc, self.graph.neighbours(added))?;
+        toggle_row(&mut self.graph, to, &row)?;
+        self.flow.add_row(added, to)?;
+        self.write_cx(t, c)
+    }
+}

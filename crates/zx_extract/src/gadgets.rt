@@ -1,0 +1,83 @@
+//! Phase gadgets on outputs.
+
+ghost use Rattle.std.specs.Prelude.{◌≡◌, ◌≢◌, ◌<◌, ℕ, ◌++◌, length, IfOk, OnOk};
+ghost use Rattle.zx_calculus.specs.Graph.{Live};
+ghost use Rattle.circuit_laws.specs.Gates.{gadget_on, gadget_gates, linked_gadget_gates};
+ghost use Rattle.zx_extract.specs.Internal.Frontiers.{state_of};
+ghost use Rattle.zx_extract.specs.Internal.Leading.{IsReady};
+ghost use Rattle.zx_extract.specs.Internal.Steps.{AreLegs};
+
+use crate::frontier::Frontier;
+use open_graph::VertexId;
+use std::alloc::AllocError;
+use zx_gates::{Gate, Qubit};
+use zx_model::Eighth;
+
+impl Frontier {
+    // The outputs whose vertices are adjacent to a vertex.
+    pub(crate) fn legs(&self, v: VertexId) -> Result<Vec<Qubit>, AllocError>
+        requires ready { IsReady (state_of self.now) }
+        requires live { Live self.now.graph.graph v }
+        ensures { IfOk result (λ qubits. AreLegs self.now.graph.graph v
+            (length self.now.graph.graph.outputs) qubits.items) }
+    {
+        let mut legs = Vec::new(self.alloc);
+        for q in 0..self.qubits() {
+            if !self.graph.has_edge(v, self.present(q)) {
+                continue;
+            }
+            legs.push(q)?;
+        }
+        Ok(legs)
+    }
+
+    // Writes a phase on the target, to which the bits of others are added before, and taken off
+    // again.
+    fn write_gadget_on(
+        &mut self,
+        phase: Eighth,
+        target: Qubit,
+        others: &[Qubit],
+    ) -> Result<(), AllocError>
+        ensures { OnOk result (state_of self.new ≡ record (state_of self.old) {
+          gates = gadget_on phase target others.now ++ (state_of self.old).gates;
+        }) }
+    {
+        match others {
+            [] => self.write_phase(target, phase),
+            [control, rest @ ..] => {
+                self.write_cx(*control, target)?;
+                self.write_gadget_on(phase, target, rest)?;
+                self.write_cx(*control, target)
+            }
+        }
+    }
+
+    // Writes a phase gadget.
+    pub(crate) fn write_gadget(&mut self, phase: Eighth, qubits: &[Qubit]) -> Result<(), AllocError>
+        ensures { OnOk result (state_of self.new ≡ record (state_of self.old) {
+          gates = gadget_gates phase qubits.now ++ (state_of self.old).gates;
+        }) }
+    {
+        match qubits {
+            [] => Ok(()),
+            [target, others @ ..] => self.write_gadget_on(phase, *target, others),
+        }
+    }
+
+    // Writes a phase gadget whose first qubit is turned by H before and after.
+    pub(crate) fn write_linked_gadget(
+        &mut self,
+        phase: Eighth,
+        link: Qubit,
+        others: &[Qubit],
+    ) -> Result<(), AllocError>
+        ensures { OnOk result (state_of self.new ≡ record (state_of self.old) {
+          gates = linked_gadget_gates phase link others.now ++ (state_of self.old).gates;
+        }) }
+    {
+        self.write(Gate::H(link))?;
+        self.write_gadget_on(phase, link, others)?;
+        self.write(Gate::H(link))
+    }
+}

@@ -1,0 +1,118 @@
+//! Vertices taken off a graph in the order of its flow, the last one first.
+
+ghost use Rattle.std.specs.Prelude.{◌≡◌, ◌<◌, ◌+◌, ℕ, List, [], length, OnOk};
+ghost use Rattle.zx_calculus.specs.Graph.{plane_of};
+ghost use Rattle.zx_calculus.specs.Graph as zx;
+ghost use Rattle.zx_extract.specs.Internal.Frontiers.{state_of};
+ghost use Rattle.zx_extract.specs.Internal.Leading.{IsReady, IsFrontier, IsTaken};
+ghost use Rattle.zx_extract.specs.Internal.Steps.{HasLast, IsPicked, HasNoOutput, HasOneOutput, IsAdvanced, IsGadgetTaken, IsLinkedGadgetTaken, AreLegs};
+
+use crate::frontier::{Frontier, plain};
+use open_graph::{Plane, VertexId};
+use std::alloc::AllocError;
+use zx_gates::{Gate, Qubit};
+
+impl Frontier {
+    // The last vertex, which is in the XY plane, takes the place of the output that alone is in
+    // its set.
+    fn advance(&mut self, v: VertexId, q: Qubit) -> Result<(), AllocError>
+        requires ready { IsReady (state_of self.old) }
+        requires frontier { IsFrontier self.old.graph.graph }
+        requires last { HasLast self.old.flow.flow v }
+        requires plane { plane_of self.old.graph.graph v ≡ zx.XY }
+        requires on_wires { q < length self.old.graph.graph.outputs }
+        requires gathered { HasOneOutput (state_of self.old) q }
+        ensures { OnOk result (IsAdvanced (state_of self.old) v q (state_of self.new)) }
+    {
+        let here = self.present(q);
+        self.graph.move_output(usize::from(q), plain(v));
+        self.graph.remove_vertex(here);
+        self.flow.advance(here);
+        self.write(Gate::H(q))
+    }
+
+    // Takes off the last vertex, which is in the YZ plane, where no output is in its set.
+    fn take_gadget(&mut self, v: VertexId) -> Result<(), AllocError>
+        requires ready { IsReady (state_of self.old) }
+        requires frontier { IsFrontier self.old.graph.graph }
+        requires last { HasLast self.old.flow.flow v }
+        requires plane { plane_of self.old.graph.graph v ≡ zx.YZ }
+        requires alone { HasNoOutput (state_of self.old) }
+        ensures { OnOk result ((qubits : List ℕ)
+            × AreLegs self.old.graph.graph v (length self.old.graph.graph.outputs) qubits
+            × IsGadgetTaken (state_of self.old) v qubits (state_of self.new)) }
+    {
+        let (_plane, phase) = self.graph.weight(v);
+        let legs = self.legs(v)?;
+        self.graph.remove_vertex(v);
+        self.flow.take_alone();
+        self.write_gadget(phase, &legs)
+    }
+
+    // Takes off the last vertex, which is in the YZ plane, where of the outputs one is in its set.
+    fn take_linked_gadget(&mut self, v: VertexId, q: Qubit) -> Result<(), AllocError>
+        requires ready { IsReady (state_of self.old) }
+        requires frontier { IsFrontier self.old.graph.graph }
+        requires last { HasLast self.old.flow.flow v }
+        requires plane { plane_of self.old.graph.graph v ≡ zx.YZ }
+        requires on_wires { q < length self.old.graph.graph.outputs }
+        requires gathered { HasOneOutput (state_of self.old) q }
+        ensures { OnOk result ((qubits : List ℕ)
+            × AreLegs self.old.graph.graph v (length self.old.graph.graph.outputs) qubits
+            × IsLinkedGadgetTaken (state_of self.old) v q qubits (state_of self.new)) }
+    {
+        let (_plane, phase) = self.graph.weight(v);
+        let legs = self.legs(v)?;
+        let link = self.present(q);
+        self.graph.remove_vertex(v);
+        self.flow.take_linked(link)?;
+        self.write_linked_gadget(phase, q, &legs)
+    }
+
+    // Takes off the last vertex, with the rows of its set gathered at an output in it.
+    fn take_through(&mut self, v: VertexId, q: Qubit) -> Result<(), AllocError>
+        requires ready { IsReady (state_of self.old) }
+        requires frontier { IsFrontier self.old.graph.graph }
+        requires last { HasLast self.old.flow.flow v }
+        requires picked { IsPicked (state_of self.old) q }
+        ensures taken { OnOk result (IsTaken (state_of self.old) (state_of self.new)) }
+        ensures shorter { OnOk result (length self.new.flow.flow + 1 ≡ length self.old.flow.flow) }
+    {
+        self.gather(q)?;
+        let (plane, _phase) = self.graph.weight(v);
+        match plane {
+            Plane::YZ => self.take_linked_gadget(v, q),
+            _ => {
+                self.advance(v, q)?;
+                self.settle(q, self.qubits())
+            }
+        }
+    }
+
+    // Takes off the last vertex.
+    fn take_vertex(&mut self, v: VertexId) -> Result<(), AllocError>
+        requires ready { IsReady (state_of self.old) }
+        requires frontier { IsFrontier self.old.graph.graph }
+        requires last { HasLast self.old.flow.flow v }
+        ensures taken { OnOk result (IsTaken (state_of self.old) (state_of self.new)) }
+        ensures shorter { OnOk result (length self.new.flow.flow + 1 ≡ length self.old.flow.flow) }
+    {
+        match self.pick() {
+            Some(q) => self.take_through(v, q),
+            None => self.take_gadget(v),
+        }
+    }
+
+    // Takes off all vertices of the order.
+    pub(crate) fn take_vertices(&mut self) -> Result<(), AllocError>
+        requires ready { IsReady (state_of self.old) }
+        requires frontier { IsFrontier self.old.graph.graph }
+        ensures taken { OnOk result (IsTaken (state_of self.old) (state_of self.new)) }
+        ensures all { OnOk result (self.new.flow.flow ≡ []) }
+    {
+        while let Some(v) = self.flow.last() {
+            self.take_vertex(v)?;
+        }
+        Ok(())
+    }
+}

@@ -1,0 +1,4 @@
+pub mod Commuting
+pub mod Tidy
+pub mod Doubling
+pub mod Internal

@@ -1,0 +1,6 @@
+mod Rows
+mod Loops
+mod Rewiring
+mod Halves
+mod PivotSteps
+mod StageLemmas

@@ -1,0 +1,10 @@
+//! Pivots along an edge: of graphs, of flows, and of both.
+#![tactic(auto)]
+
+pub mod flow;
+pub mod graph;
+pub mod rewrite;
+#[cfg(test)]
+mod tests;
+
+pub use rewrite::pivot;

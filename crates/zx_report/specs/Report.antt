@@ -1,0 +1,29 @@
+-- The lines that report how many gates of each kind a circuit had when it was read, and when it was
+-- written. They are comments of OpenQASM 2.0, so they may follow its text. The form is this project's
+-- own:
+-- // read gates A odd B two-qubit C h D phase E cz F cx G not I
+-- // written gates A odd B two-qubit C h D phase E cz F cx G not I
+use Rattle.std.specs.Prelude.{ℕ, ◌++◌, List, codes, decimal}
+use Rattle.zx_gates.specs.declared.tally.Counts.{Counts}
+
+-- the name of a kind of gates, and how many there are
+abbrev pub count_of : List ℕ → ℕ → List ℕ
+count_of kind count = codes " " ++ kind ++ codes " " ++ decimal count
+
+-- the line of a circuit
+abbrev pub report_line : List ℕ → Counts → List ℕ
+report_line circuit counts =
+    codes "// " ++ circuit
+    ++ count_of (codes "gates") counts.total
+    ++ count_of (codes "odd") counts.odd
+    ++ count_of (codes "two-qubit") counts.two_qubit
+    ++ count_of (codes "h") counts.h
+    ++ count_of (codes "phase") counts.phase
+    ++ count_of (codes "cz") counts.cz
+    ++ count_of (codes "cx") counts.cx
+    ++ count_of (codes "not") counts.nots
+    ++ codes "\n"
+
+-- both lines
+abbrev pub report_lines : Counts → Counts → List ℕ
+report_lines read written = report_line (codes "read") read ++ report_line (codes "written") written
