@@ -1,1 +1,6 @@
 mod AppliedSteps
+mod SearchTests
+mod SearchPairs
+mod SearchKinds
+mod SearchLaws
+mod SearchWalks

@@ -1,3 +1,5 @@
 pub mod Steps
 pub mod Traces
 pub mod Applied
+pub mod Search
+pub mod Internal

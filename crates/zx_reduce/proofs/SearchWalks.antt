@@ -1,0 +1,79 @@
+-- Walks over lists, as far as they have come.
+use Rattle.std.proofs.Common.{Option, Some, None, ◌≡◌, ◌⊎◌, inl, inr, sym, ◌∙◌, ap, subst, ℕ, suc, ◌<◌, true, false, ◌||◌, eqb, List, [], ◌∷◌, ◌++◌, length, take, get_or, IfSome, IfNone, append_assoc, append-nil, eqb-true}
+use Rattle.std.proofs.Math.Seq.{take-length}
+use Rattle.std.specs.Iterator.{YieldsFirst}
+use Rattle.zx_model.specs.Bits.{member}
+use Rattle.zx_calculus.specs.Graph.{Graph, neighbours}
+use Rattle.zx_calculus.proofs.Booleans.{or-true, or-false}
+use Rattle.zx_calculus.proofs.Ids.{by_test, eqb-self}
+use Rattle.open_graph.proofs.Removing.{member-take_more}
+use Rattle.zx_reduce.specs.Internal.Searching.{is_inner}
+
+-- what a call of `next` says, by its answer
+pub next_some : (r : Option ℕ) (s t : List ℕ) (u : ℕ) → YieldsFirst (λ rest. rest) s r t → r ≡ Some u → s ≡ u ∷ t
+next_some r s t u h e = rw e at h
+
+pub next_none : (r : Option ℕ) (s t : List ℕ) → YieldsFirst (λ rest. rest) s r t → r ≡ None → s ≡ []
+next_none r s t h e = (rw e at h).0
+
+pub member-middle : (before after : List ℕ) (u : ℕ) → member u (before ++ u ∷ after) ≡ true
+member-middle [] after u = ap (λ b. b || member u after) (eqb-self u)
+member-middle (x ∷ xs) after u = ap (λ b. eqb u x || b) (member-middle xs after u) ∙ or-true (eqb u x)
+
+pub member-last : (xs : List ℕ) (u p : ℕ) → member p (xs ++ u ∷ []) ≡ true → (p ≡ u) ⊎ (member p xs ≡ true)
+member-last [] u p h = inl (eqb-true p u (sym (or-false (eqb p u)) ∙ h))
+member-last (x ∷ xs) u p h =
+    by_test (eqb p x)
+    (λ t. inr (ap (λ b. b || member p xs) t))
+    (λ f. elim (member-last xs u p (sym (ap (λ b. b || member p (xs ++ u ∷ [])) f) ∙ h)) [
+      | inl e ↦ inl e
+      | inr m ↦ inr (ap (λ b. eqb p x || b) m ∙ or-true (eqb p x))
+    ])
+
+-- the vertex that comes next is one of all
+pub next_there : (before rest after all : List ℕ) (u : ℕ) → before ++ rest ≡ all → rest ≡ u ∷ after → member u all ≡ true
+next_there before rest after all u e f =
+    let whole : all ≡ before ++ u ∷ after = sym e ∙ ap (λ xs. before ++ xs) f in
+    ap (member u) whole ∙ member-middle before after u
+
+pub next_all : (before rest after all : List ℕ) (u : ℕ) → before ++ rest ≡ all → rest ≡ u ∷ after → (before ++ u ∷ []) ++ after ≡ all
+next_all before rest after all u e f = append_assoc before (u ∷ []) after ∙ sym (ap (λ xs. before ++ xs) f) ∙ e
+
+pub next_passed : (P : ℕ → Type 0) (before : List ℕ) (u : ℕ) → ((p : ℕ) → member p before ≡ true → P p) → P u → (p : ℕ) → member p (before ++ u ∷ []) ≡ true → P p
+next_passed P before u passed here p m =
+    elim (member-last before u p m) [ inl e ↦ subst P (sym e) here | inr b ↦ passed p b ]
+
+-- all have come
+pub all_passed : (P : ℕ → Type 0) (before rest all : List ℕ) → before ++ rest ≡ all → rest ≡ [] → ((p : ℕ) → member p before ≡ true → P p) → (p : ℕ) → member p all ≡ true → P p
+all_passed P before rest all e f passed p m =
+    let whole : all ≡ before = sym e ∙ ap (λ xs. before ++ xs) f ∙ append-nil before in
+    passed p (sym (ap (member p) whole) ∙ m)
+
+-- ---- the best so far
+pub best_found : (g : Graph) (u : ℕ) (best next : Option ℕ) (v : ℕ) → member v (neighbours g u) ≡ true
+    → IfSome best (λ w. (member w (neighbours g u) ≡ true) × (is_inner g w ≡ true))
+    → IfSome next (λ w. ((w ≡ v) × (is_inner g v ≡ true)) ⊎ (best ≡ Some w))
+    → IfSome next (λ w. (member w (neighbours g u) ≡ true) × (is_inner g w ≡ true))
+best_found g u best None v near some step = tt
+best_found g u best (Some w) v near some (inl e) =
+    (subst (λ (y : ℕ). member y (neighbours g u) ≡ true) (sym e.0) near, subst (λ (y : ℕ). is_inner g y ≡ true) (sym e.0) e.1)
+best_found g u best (Some w) v near some (inr e) = subst (λ (o : Option ℕ). IfSome o (λ w. (member w (neighbours g u) ≡ true) × (is_inner g w ≡ true))) e some
+
+pub best_none : (g : Graph) (best next : Option ℕ) (items : List ℕ) (i v : ℕ) → i < length items → v ≡ get_or items i v
+    → IfNone best ((p : ℕ) → member p (take i items) ≡ true → is_inner g p ≡ false)
+    → IfNone next ((best ≡ None) × (is_inner g v ≡ false))
+    → IfNone next ((p : ℕ) → member p (take (suc i) items) ≡ true → is_inner g p ≡ false)
+best_none g best (Some w) items i v lt is none step = tt
+best_none g best None items i v lt is none step =
+    let before : (p : ℕ) → member p (take i items) ≡ true → is_inner g p ≡ false =
+    subst (λ (o : Option ℕ). IfNone o ((p : ℕ) → member p (take i items) ≡ true → is_inner g p ≡ false)) step.0 none in
+    λ p m. by_test (eqb p v)
+    (λ t. ap (is_inner g) (eqb-true p v t) ∙ step.1)
+    (λ f. before p (sym (ap (λ b. b || member p (take i items)) f) ∙ sym (member-take_more items i v lt is p) ∙ m))
+
+pub best_end : (g : Graph) (best : Option ℕ) (items xs : List ℕ) (i : ℕ) → items ≡ xs → i ≡ length items
+    → IfNone best ((p : ℕ) → member p (take i items) ≡ true → is_inner g p ≡ false)
+    → IfNone best ((p : ℕ) → member p xs ≡ true → is_inner g p ≡ false)
+best_end g (Some w) items xs i same all none = tt
+best_end g None items xs i same all none =
+    λ p m. none p (ap (λ n. member p (take n items)) all ∙ ap (member p) (take-length items) ∙ ap (member p) same ∙ m)

@@ -1,0 +1,128 @@
+//! The next move of small graphs, drawn by hand: new vertices have the ids 0, 1, 2 and so on.
+
+use crate::{Move, next_move};
+use open_graph::{End, OpenGraph, Plane, VertexId};
+use std::alloc::Global;
+use std::test::Fail;
+use zx_model::Eighth;
+
+fn id(number: usize) -> VertexId {
+    VertexId::new(number)
+}
+
+fn xy(graph: &mut OpenGraph, phase: Eighth) -> Result<(), Fail> {
+    graph.add_vertex(Plane::XY, phase)?;
+    Ok(())
+}
+
+fn yz(graph: &mut OpenGraph, phase: Eighth) -> Result<(), Fail> {
+    graph.add_vertex(Plane::YZ, phase)?;
+    Ok(())
+}
+
+// Joins two vertices.
+fn join(graph: &mut OpenGraph, u: usize, v: usize) -> Result<(), Fail> {
+    let (u, v) = (id(u), id(v));
+    if graph.is_live(u) && graph.is_live(v) && u != v {
+        graph.toggle_edge(u, v)?;
+    }
+    Ok(())
+}
+
+// Adds an input at a vertex that has none.
+fn input(graph: &mut OpenGraph, v: usize) -> Result<(), Fail> {
+    let end = End {
+        vertex: id(v),
+        hadamard: false,
+    };
+    if !graph.is_live(end.vertex) {
+        return Ok(());
+    }
+    let free = graph.input_at(end.vertex).is_none();
+    if free && matches!(graph.weight(end.vertex).0, Plane::XY) {
+        graph.add_input(end)?;
+    }
+    Ok(())
+}
+
+#[test]
+fn vertices_that_go_by_themselves(rt: HostRuntime) -> Result<(), Fail> {
+    // A spider of a quarter turn, interior.
+    let mut graph = OpenGraph::new(rt.alloc());
+    assert_eq!(rt; next_move(&graph), None);
+    xy(&mut graph, Eighth::new(1))?;
+    assert_eq!(rt; next_move(&graph), None);
+    xy(&mut graph, Eighth::new(6))?;
+    join(&mut graph, 0, 1)?;
+    assert_eq!(rt; next_move(&graph), Some(Move::QuarterSpider(id(1))));
+
+    // Earlier kinds at later vertices come first.
+    graph.add_vertex(Plane::XZ, Eighth::new(3))?;
+    join(&mut graph, 0, 2)?;
+    assert_eq!(rt; next_move(&graph), Some(Move::FromXZ(id(2))));
+    yz(&mut graph, Eighth::new(2))?;
+    join(&mut graph, 0, 3)?;
+    assert_eq!(rt; next_move(&graph), Some(Move::QuarterGadget(id(3))));
+    yz(&mut graph, Eighth::new(4))?;
+    join(&mut graph, 0, 4)?;
+    assert_eq!(rt; next_move(&graph), Some(Move::Delete(id(4))));
+    Ok(())
+}
+
+#[test]
+fn pivots(rt: HostRuntime) -> Result<(), Fail> {
+    // A spider of half a turn beside a vertex with an input.
+    let mut graph = OpenGraph::new(rt.alloc());
+    xy(&mut graph, Eighth::new(4))?;
+    xy(&mut graph, Eighth::new(0))?;
+    input(&mut graph, 1)?;
+    join(&mut graph, 0, 1)?;
+    assert_eq!(rt; next_move(&graph), Some(Move::BoundaryPivot(id(0), id(1))));
+
+    // Two interior neighbours: the second has fewer neighbours.
+    xy(&mut graph, Eighth::new(1))?;
+    xy(&mut graph, Eighth::new(3))?;
+    join(&mut graph, 0, 2)?;
+    join(&mut graph, 0, 3)?;
+    join(&mut graph, 2, 1)?;
+    assert_eq!(rt; next_move(&graph), Some(Move::InnerPivot(id(0), id(3))));
+
+    // Two gadgets.
+    let mut graph = OpenGraph::new(rt.alloc());
+    yz(&mut graph, Eighth::new(1))?;
+    assert_eq!(rt; next_move(&graph), Some(Move::LoneGadget(id(0))));
+    yz(&mut graph, Eighth::new(3))?;
+    join(&mut graph, 0, 1)?;
+    assert_eq!(rt; next_move(&graph), Some(Move::GadgetPair(id(0), id(1))));
+    Ok(())
+}
+
+// The spiders 0, 1 and 2, and gadgets on them: 3 on 0 and 1, and 4 on 0 and 2.
+fn gadgets(alloc: Global) -> Result<OpenGraph, Fail> {
+    let mut graph = OpenGraph::new(alloc);
+    xy(&mut graph, Eighth::new(1))?;
+    xy(&mut graph, Eighth::new(3))?;
+    xy(&mut graph, Eighth::new(5))?;
+    yz(&mut graph, Eighth::new(7))?;
+    join(&mut graph, 3, 0)?;
+    join(&mut graph, 3, 1)?;
+    yz(&mut graph, Eighth::new(1))?;
+    join(&mut graph, 4, 0)?;
+    join(&mut graph, 4, 2)?;
+    Ok(graph)
+}
+
+#[test]
+fn gadgets_are_fused(rt: HostRuntime) -> Result<(), Fail> {
+    // No two have equal neighbours.
+    let mut graph = gadgets(rt.alloc())?;
+    assert_eq!(rt; next_move(&graph), None);
+
+    // One more on 0, and then on 0 and 1.
+    yz(&mut graph, Eighth::new(3))?;
+    join(&mut graph, 5, 0)?;
+    assert_eq!(rt; next_move(&graph), Some(Move::SingleGadget(id(5))));
+    join(&mut graph, 5, 1)?;
+    assert_eq!(rt; next_move(&graph), Some(Move::Twins(id(3), id(5))));
+    Ok(())
+}
