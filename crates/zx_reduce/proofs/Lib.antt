@@ -4,3 +4,4 @@ mod SearchPairs
 mod SearchKinds
 mod SearchLaws
 mod SearchWalks
+mod Fusing

@@ -7,6 +7,7 @@ use Rattle.zx_calculus.specs.Graph.{Plane, XY, XZ, YZ, Graph, ids, is_XY, plane_
 use Rattle.zx_calculus.specs.Counts.{has_input, has_output}
 use Rattle.zx_calculus.specs.After.{allowed, is_YZ, is_one_XY, is_empty}
 use Rattle.zx_calculus.specs.Reduced.{is_interior}
+use Rattle.zx_calculus.specs.Moves.{AreTwins}
 use Rattle.zx_calculus.specs.Steps as calculus
 use Rattle.zx_calculus.proofs.Booleans.{xor-same}
 use Rattle.zx_calculus.proofs.Ids.{by_test, member-here}
@@ -65,6 +66,17 @@ module _ (g : Graph) (w : WellFormed g) where
       ap (λ b. not (xor b (joined g.edges v p))) (neighbour g w u p ∙ ap (member p) e ∙ sym (neighbour g w v p))
       ∙ ap not (xor-same (joined g.edges v p))
 
+  pub twins_allowed : (u v : ℕ) → AreTwins g u v → joined g.edges u v ≡ false → allowed g (calculus.FuseTwin u v) ≡ true
+  twins_allowed u v a apart =
+      and_both ((member u (ids g.vertices) && member v (ids g.vertices)) && (not (eqb u v) && (is_YZ (plane_of g u) && is_YZ (plane_of g v))))
+      (not (joined g.edges u v) && list_all (λ p. not (xor (joined g.edges u p) (joined g.edges v p))) (ids g.vertices))
+      (and_both (member u (ids g.vertices) && member v (ids g.vertices)) (not (eqb u v) && (is_YZ (plane_of g u) && is_YZ (plane_of g v)))
+      (and_both (member u (ids g.vertices)) (member v (ids g.vertices)) a.there a.there_too)
+      (and_both (not (eqb u v)) (is_YZ (plane_of g u) && is_YZ (plane_of g v)) (ap not (ne_eqb u v a.different))
+      (and_both (is_YZ (plane_of g u)) (is_YZ (plane_of g v)) (ap is_YZ a.plane) (ap is_YZ a.plane_too))))
+      (and_both (not (joined g.edges u v)) (list_all (λ p. not (xor (joined g.edges u p) (joined g.edges v p))) (ids g.vertices)) (ap not apart)
+      (all_true (λ p. not (xor (joined g.edges u p) (joined g.edges v p))) (ids g.vertices) (same_row u v a.equal_neighbours)))
+
   pub found_allowed : (m : Move) → AppliesAt g m → IsOfFirstKind g m → allowed g (first_step g m) ≡ true
   found_allowed (moves.Delete u) a first =
       and_both (member u (ids g.vertices) && not (is_XY (plane_of g u))) (eqb (phase_of g u) 0 || eqb (phase_of g u) half_turn)
@@ -91,11 +103,4 @@ module _ (g : Graph) (w : WellFormed g) where
       by_test (joined g.edges u v)
       (λ t. absurd (first (moves.GadgetPair u v) (lit< tt) (record { there = a.there; there_too = a.there_too; plane = a.plane; plane_too = a.plane_too; adjacent = t })))
       (λ f. f) in
-      and_both ((member u (ids g.vertices) && member v (ids g.vertices)) && (not (eqb u v) && (is_YZ (plane_of g u) && is_YZ (plane_of g v))))
-      (not (joined g.edges u v) && list_all (λ p. not (xor (joined g.edges u p) (joined g.edges v p))) (ids g.vertices))
-      (and_both (member u (ids g.vertices) && member v (ids g.vertices)) (not (eqb u v) && (is_YZ (plane_of g u) && is_YZ (plane_of g v)))
-      (and_both (member u (ids g.vertices)) (member v (ids g.vertices)) a.there a.there_too)
-      (and_both (not (eqb u v)) (is_YZ (plane_of g u) && is_YZ (plane_of g v)) (ap not (ne_eqb u v a.different))
-      (and_both (is_YZ (plane_of g u)) (is_YZ (plane_of g v)) (ap is_YZ a.plane) (ap is_YZ a.plane_too))))
-      (and_both (not (joined g.edges u v)) (list_all (λ p. not (xor (joined g.edges u p) (joined g.edges v p))) (ids g.vertices)) (ap not apart)
-      (all_true (λ p. not (xor (joined g.edges u p) (joined g.edges v p))) (ids g.vertices) (same_row u v a.equal_neighbours)))
+      twins_allowed u v a apart

@@ -25,10 +25,10 @@ first-none : (xs : List ℕ) → slice_get xs 0 ≡ None → xs ≡ []
 first-none [] e = refl
 first-none (x ∷ xs) e = cc
 
-equal_lists : (xs ys : List ℕ) → pointwise nat_eq xs ys ≡ true → xs ≡ ys
+pub equal_lists : (xs ys : List ℕ) → pointwise nat_eq xs ys ≡ true → xs ≡ ys
 equal_lists xs ys h = (slice_eq-Decides Decides-eqb xs ys (pointwise nat_eq xs ys) refl).0 h
 
-lists_equal : (xs ys : List ℕ) → xs ≡ ys → pointwise nat_eq xs ys ≡ true
+pub lists_equal : (xs ys : List ℕ) → xs ≡ ys → pointwise nat_eq xs ys ≡ true
 lists_equal xs ys e = (slice_eq-Decides Decides-eqb xs ys (pointwise nat_eq xs ys) refl).1 e
 
 module _ (g : Graph) (w : WellFormed g) (u : ℕ) where

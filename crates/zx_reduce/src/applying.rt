@@ -18,6 +18,7 @@ use open_graph::OpenGraph;
 use std::alloc::AllocError;
 use zx_boundary::{split_input, split_output};
 use zx_flow::Flow;
+use zx_gadgets::{drop_lone, fuse_into, fuse_twin};
 use zx_pivot::pivot;
 
 /// Does a step on a graph with its flow, where it is allowed: where its ids are those of vertices,
@@ -56,6 +57,7 @@ pub fn apply(g: &mut OpenGraph, f: &mut Flow, step: Step) -> Result<(), StepRefu
 // Does a step that is allowed.
 fn rewrite(g: &mut OpenGraph, f: &mut Flow, step: &Step) -> Result<(), AllocError>
     requires flow { IsFlow g.old.graph f.old.flow }
+    requires valid { WellFormed g.old.graph }
     requires allowed { allowed g.old.graph (step_named step.now) ≡ true }
     ensures step { OnOk result (IsStep g.old.graph (step_named step.now) g.new.graph) }
     ensures table { OnOk result (SameSets f.new.flow
@@ -69,5 +71,8 @@ fn rewrite(g: &mut OpenGraph, f: &mut Flow, step: &Step) -> Result<(), AllocErro
         Step::Pivot(u, v) => pivot(g, f, *u, *v),
         Step::SplitInput(b) => split_input(g, f, *b),
         Step::SplitOutput(b) => split_output(g, f, *b),
+        Step::DropLone(u) => drop_lone(g, f, *u),
+        Step::FuseInto(u) => fuse_into(g, f, *u),
+        Step::FuseTwin(u, v) => fuse_twin(g, f, *u, *v),
     }
 }

@@ -316,7 +316,7 @@ fn is_inner(g: &OpenGraph, v: VertexId) -> bool
     g.is_live(v) && g.is_interior(v)
 }
 
-fn is_gadget(g: &OpenGraph, v: VertexId) -> bool
+pub(crate) fn is_gadget(g: &OpenGraph, v: VertexId) -> bool
     ensures { result ≡ is_gadget g.now.graph v }
 {
     if !g.is_live(v) {

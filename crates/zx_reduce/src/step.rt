@@ -1,10 +1,11 @@
 //! Rewrites by their names.
 
 ghost use Rattle.std.specs.Prelude.{◌≡◌};
-ghost use Rattle.zx_calculus.specs.Graph.{WellFormed};
+ghost use Rattle.zx_calculus.specs.Graph.{is_XY, plane_of, Live, WellFormed};
 ghost use Rattle.zx_calculus.specs.Steps as calculus;
 ghost use Rattle.zx_calculus.specs.After.{allowed};
 
+use crate::search::is_gadget;
 use open_graph::{OpenGraph, Plane, VertexId};
 
 /// A rewrite with the vertices that it is about.
@@ -20,6 +21,12 @@ pub enum Step {
     SplitInput(VertexId),
     /// A new spider between a vertex and its output.
     SplitOutput(VertexId),
+    /// The removal of a YZ vertex without neighbours.
+    DropLone(VertexId),
+    /// The fusion of a YZ vertex into its only neighbour, an XY vertex.
+    FuseInto(VertexId),
+    /// The fusion of two YZ vertices with equal neighbours, of which the second goes.
+    FuseTwin(VertexId, VertexId),
 }
 
 impl Step {
@@ -38,6 +45,9 @@ impl Step {
             Step::Pivot(u, v) => may_pivot(g, *u, *v),
             Step::SplitInput(b) => may_split_input(g, *b),
             Step::SplitOutput(b) => may_split_output(g, *b),
+            Step::DropLone(u) => may_drop(g, *u),
+            Step::FuseInto(u) => may_fuse(g, *u),
+            Step::FuseTwin(u, v) => may_fuse_twin(g, *u, *v),
         }
     }
 }
@@ -76,4 +86,51 @@ fn may_split_output(g: &OpenGraph, b: VertexId) -> bool
     ensures { result ≡ allowed g.now.graph (calculus.SplitOutput b) }
 {
     g.is_live(b) && g.output_at(b).is_some()
+}
+
+fn may_drop(g: &OpenGraph, u: VertexId) -> bool
+    ensures { result ≡ allowed g.now.graph (calculus.DropLone u) }
+{
+    is_gadget(g, u) && g.neighbours(u).is_empty()
+}
+
+fn may_fuse(g: &OpenGraph, u: VertexId) -> bool
+    requires { WellFormed g.now.graph }
+    ensures { result ≡ allowed g.now.graph (calculus.FuseInto u) }
+{
+    if !is_gadget(g, u) {
+        return false;
+    }
+    match g.neighbours(u) {
+        [leg] => is_xy(g, *leg),
+        _ => false,
+    }
+}
+
+fn may_fuse_twin(g: &OpenGraph, u: VertexId, v: VertexId) -> bool
+    requires { WellFormed g.now.graph }
+    ensures { result ≡ allowed g.now.graph (calculus.FuseTwin u v) }
+{
+    if !is_gadget(g, u) {
+        return false;
+    }
+    if !is_gadget(g, v) {
+        return false;
+    }
+    if u == v {
+        return false;
+    }
+    if g.has_edge(u, v) {
+        return false;
+    }
+    g.neighbours(u) == g.neighbours(v)
+}
+
+// Whether a vertex is XY.
+fn is_xy(g: &OpenGraph, v: VertexId) -> bool
+    requires { Live g.now.graph v }
+    ensures { result ≡ is_XY (plane_of g.now.graph v) }
+{
+    let (plane, _) = g.weight(v);
+    matches!(plane, Plane::XY)
 }
