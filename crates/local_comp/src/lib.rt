@@ -5,7 +5,5 @@
 pub mod flow;
 pub mod graph;
 pub mod rewrite;
-#[cfg(test)]
-mod tests;
 
 pub use rewrite::{delete, local_complement};

@@ -1,23 +1,27 @@
 -- A program's statements one after the other.
-use Rattle.std.proofs.Common.{◌≡◌, ℕ, suc, ◌+◌, ◌-◌, ◌^◌, ◌<◌, ◌≤◌, min, true, false, List, [], ◌∷◌, ◌++◌, length, map, take, drop, get_or, slice_index_or, None, Some, Result, Ok, Err, refl, sym, ap, subst, ◌∙◌, append_assoc, append-nil, add-zero, add-one, arith}
-use Rattle.std.specs.Prelude.{IfOk, if◌then◌else◌}
+use Rattle.std.proofs.Common.{◌≡◌, ◌⊎◌, inl, inr, Option, ℕ, ◌<◌, length, map, take, get_or, add-one, ◌+◌, ◌-◌, ◌^◌, min, Bool, true, false, List, [], ◌∷◌, ◌++◌, None, Some, Result, Ok, Err, refl, sym, ap, subst, ◌∙◌, append_assoc, append-nil, add-zero, arith}
+use Rattle.std.specs.Prelude.{IfOk, OnOk, if◌then◌else◌}
 use Rattle.std.specs.List.{All}
-use Rattle.std.proofs.Math.Seq.{drop-cons}
-use Rattle.std.proofs.lemmas.List.{take_rest}
+use Rattle.std.proofs.Math.Seq.{take-suc}
+use Rattle.std.proofs.lemmas.List.{map-append}
+use Rattle.qasm_reader.specs.declared.program.Statement.{Statement}
+use Rattle.qasm_reader.specs.Views.{placed}
 use Rattle.zx_gates.specs.declared.elementary.Elementary.{Elementary}
 use Rattle.zx_gates.specs.declared.elementary.ElementaryGate.{ElementaryGate}
 use Rattle.zx_gates.specs.Elementary.{IsElementary, IsElementaryGateOn}
-use Rattle.qasm_reader.specs.declared.program.Statement.{Statement}
 use Rattle.qasm_reader.specs.Syntax.{Sentence, Version, Include, QubitRegister, BitRegister, DeclareGate, Opaque, If, Barrier, Act, Placed}
-use Rattle.qasm_reader.specs.Views.{placed}
 use Rattle.qasm_scope.specs.declared.causes.Cause.{Cause}
 use Rattle.qasm_scope.specs.declared.causes.Cause.TheVariants as cause
+use Rattle.qasm_scope.specs.declared.names.Names.{Names}
+use Rattle.qasm_inline.specs.declared.circuit.Stage.{Stage}
+use Rattle.qasm_inline.specs.declared.circuit.Stage.TheVariants.{Open, Stopped}
 use Rattle.qasm_inline.specs.declared.error.InlineError.{InlineError}
 use Rattle.qasm_inline.specs.declared.error.InlineError.TheVariants.{Fault, NoMemory}
+use Rattle.qasm_inline.specs.declared.unroll.Unrolled.{Unrolled}
 use Rattle.qasm_scope.specs.Calls.{applied, call_count}
-use Rattle.qasm_inline.specs.Internal.Circuits.{IsCircuitAnswer, IsAfterVersion}
+use Rattle.qasm_inline.specs.Internal.Circuits.{HasTakenAt, IsCircuitAnswer, IsEmpty, LeadsTo}
 use Rattle.qasm_inline.specs.Internal.KeptCalls.{Continues}
-use Rattle.qasm_scope.specs.Meaning.{after_statement, events_of, fault_after, first_fault, gates_after, is_version, most_calls, placed_or, scope_after, wrong_with}
+use Rattle.qasm_scope.specs.Meaning.{Means, after_statement, events_of, fault_after, first_fault, gates_after, is_version, most_calls, placed_or, scope_after, wrong_with}
 use Rattle.qasm_scope.specs.Scope.{Scope, qubit_count}
 use Rattle.qasm_inline.proofs.MeantLemmas.{faultless-few, faultless-on}
 
@@ -25,10 +29,6 @@ use Rattle.qasm_inline.proofs.MeantLemmas.{faultless-few, faultless-on}
 pub no_statement : first_fault most_calls [] ≡ Some (cause.Version, 0)
 unfolding first_fault
 no_statement = refl
-
-pub other_first : (s : Placed) (rest : List Placed) → is_version s.sentence ≡ false → first_fault most_calls (s ∷ rest) ≡ Some (cause.Version, s.place)
-unfolding first_fault
-other_first s rest h = ap (λ b. if b then fault_after most_calls [] 0 rest else Some (cause.Version, s.place)) h
 
 version-idle : (s : Sentence) → is_version s ≡ true → (after_statement [] s ≡ []) × (events_of [] s ≡ [])
 version-idle (Version real) h = (refl, refl)
@@ -41,71 +41,70 @@ version-idle (If register value action) h = absurd (cc)
 version-idle (Barrier operands) h = absurd (cc)
 version-idle (Act action) h = absurd (cc)
 
-pub version_first : (s : Placed) (rest : List Placed) → is_version s.sentence ≡ true → IsAfterVersion (s ∷ rest) rest
+first_is : (s : Placed) (more : List Placed) (b : Bool) → is_version s.sentence ≡ b
+    → first_fault most_calls (s ∷ more) ≡ (if b then fault_after most_calls [] 0 more else Some (cause.Version, s.place))
 unfolding first_fault
-version_first s rest h = record {
-  same_fault = ap (λ b. if b then fault_after most_calls [] 0 rest else Some (cause.Version, s.place)) h;
-  same_scope = ap (λ scope. scope_after scope rest) (version-idle s.sentence h).0;
-  same_gates = ap (λ events. applied events ++ gates_after (after_statement [] s.sentence) rest) (version-idle s.sentence h).1
-      ∙ ap (λ scope. gates_after scope rest) (version-idle s.sentence h).0;
+first_is s more b h = ap (λ c. if c then fault_after most_calls [] 0 more else Some (cause.Version, s.place)) h
+
+leads-version : (s : Placed) (calls : ℕ) (gates : List ElementaryGate) → is_version s.sentence ≡ true → calls ≡ 0 → gates ≡ [] → LeadsTo (s ∷ []) [] calls gates
+leads-version s calls gates h uncalled empty = record {
+  same_fault = λ more. first_is s more true h ∙ ap (λ n. fault_after most_calls [] n more) (sym uncalled);
+  same_scope = λ more. ap (λ scope. scope_after scope more) (version-idle s.sentence h).0;
+  same_gates = λ more. ap (λ events. applied events ++ gates_after (after_statement [] s.sentence) more) (version-idle s.sentence h).1
+      ∙ ap (λ scope. gates_after scope more) (version-idle s.sentence h).0 ∙ ap (λ gs. gs ++ gates_after [] more) (sym empty);
 }
 
-pub prefix : {A : Type 0} (xs : List A) (x : A) → 1 ≤ length xs → x ≡ slice_index_or xs 0 x → xs ≡ x ∷ take (length xs - 1) (drop 1 xs)
-prefix [] x h e = absurd (omega (arith, h))
-prefix (y ∷ ys) x h e = ap (λ z. z ∷ ys) (sym e) ∙ ap (λ zs. x ∷ zs) (sym (take_rest (y ∷ ys) 1))
+first_by : (s : Placed) (names : Names) (unrolled : Unrolled) (b : Bool) → is_version s.sentence ≡ b → IsEmpty [] names unrolled
+    → HasTakenAt (if b then Open else Stopped (Fault cause.Version s.place)) (s ∷ []) names unrolled
+first_by s names unrolled true h e = record {
+  scope = [];
+  represents = e.represents;
+  leads = leads-version s unrolled.calls unrolled.gates h e.no_calls e.no_gates;
+}
+first_by s names unrolled false h e = λ more. first_is s more false h
+
+-- the first statement is taken in
+pub first-taken : (s : Placed) (stage : Stage) (program : List Placed) (names : Names) (unrolled : Unrolled)
+    → stage ≡ (if is_version s.sentence then Open else Stopped (Fault cause.Version s.place)) → IsEmpty program names unrolled
+    → HasTakenAt stage (program ++ s ∷ []) names unrolled
+first-taken s stage program names unrolled h e =
+    let start : IsEmpty [] names unrolled = record { none = refl; represents = e.represents; no_calls = e.no_calls; no_gates = e.no_gates } in
+    subst (λ x. HasTakenAt x (program ++ s ∷ []) names unrolled) (sym h)
+    (subst (λ ss. HasTakenAt (if is_version s.sentence then Open else Stopped (Fault cause.Version s.place)) (ss ++ s ∷ []) names unrolled) (sym e.none)
+    (first_by s names unrolled (is_version s.sentence) refl start))
 
 -- ---- statements after it
--- From the first of the statements the others are reached, in this scope, with so many calls and these gates.
-pub record Reaches (statements : List Placed) (scope : Scope) (calls : ℕ) (gates : List ElementaryGate) (rest : List Placed) : Type 0 where
-  pub same_fault : fault_after most_calls [] 0 statements ≡ fault_after most_calls scope calls rest
-  pub same_scope : scope_after [] statements ≡ scope_after scope rest
-  pub same_gates : gates_after [] statements ≡ gates ++ gates_after scope rest
-
-pub Reaches-first : (statements : List Placed) (calls : ℕ) (gates : List ElementaryGate) → calls ≡ 0 → gates ≡ [] → Reaches statements [] calls gates statements
-Reaches-first statements calls gates ec eg = record {
-  same_fault = ap (λ n. fault_after most_calls [] n statements) (sym ec);
-  same_scope = refl;
-  same_gates = ap (λ gs. gs ++ gates_after [] statements) (sym eg);
-}
-
-pub Reaches-same : (statements : List Placed) (scope : Scope) (calls : ℕ) (gates : List ElementaryGate) (rest more : List Placed) → rest ≡ more
-    → Reaches statements scope calls gates rest → Reaches statements scope calls gates more
-Reaches-same statements scope calls gates rest more e h = record {
-  same_fault = h.same_fault ∙ ap (fault_after most_calls scope calls) e;
-  same_scope = h.same_scope ∙ ap (scope_after scope) e;
-  same_gates = h.same_gates ∙ ap (λ ss. gates ++ gates_after scope ss) e;
-}
-
-pub Reaches-next : (statements : List Placed) (scope : Scope) (calls : ℕ) (gates : List ElementaryGate) (s : Placed) (rest : List Placed) (later : ℕ) (more : List ElementaryGate)
-    → Reaches statements scope calls gates (s ∷ rest) → wrong_with most_calls scope calls s.sentence ≡ None
-    → Continues most_calls calls gates (events_of scope s.sentence) later more [] → Reaches statements (after_statement scope s.sentence) later more rest
-Reaches-next statements scope calls gates s rest later more h right k =
+pub leads-next : (program : List Placed) (scope : Scope) (calls : ℕ) (gates : List ElementaryGate) (s : Placed) (later : ℕ) (others : List ElementaryGate)
+    → LeadsTo program scope calls gates → wrong_with most_calls scope calls s.sentence ≡ None
+    → Continues most_calls calls gates (events_of scope s.sentence) later others [] → LeadsTo (program ++ s ∷ []) (after_statement scope s.sentence) later others
+leads-next program scope calls gates s later others h right k =
     let events = events_of scope s.sentence in
     let count : calls + call_count events ≡ later = k.same_calls ∙ add-zero later in
     record {
-      same_fault = h.same_fault
-          ∙ ap (λ c. placed_or c s.place (fault_after most_calls (after_statement scope s.sentence) (calls + call_count events) rest)) right
-          ∙ ap (λ n. fault_after most_calls (after_statement scope s.sentence) n rest) count;
-      same_scope = h.same_scope;
-      same_gates = h.same_gates ∙ sym (append_assoc gates (applied events) (gates_after (after_statement scope s.sentence) rest))
-          ∙ ap (λ gs. gs ++ gates_after (after_statement scope s.sentence) rest) (k.same_gates ∙ append-nil more);
+      same_fault = λ more. ap (first_fault most_calls) (append_assoc program (s ∷ []) more) ∙ h.same_fault (s ∷ more)
+          ∙ ap (λ c. placed_or c s.place (fault_after most_calls (after_statement scope s.sentence) (calls + call_count events) more)) right
+          ∙ ap (λ n. fault_after most_calls (after_statement scope s.sentence) n more) count;
+      same_scope = λ more. ap (scope_after []) (append_assoc program (s ∷ []) more) ∙ h.same_scope (s ∷ more);
+      same_gates = λ more. ap (gates_after []) (append_assoc program (s ∷ []) more) ∙ h.same_gates (s ∷ more)
+          ∙ sym (append_assoc gates (applied events) (gates_after (after_statement scope s.sentence) more))
+          ∙ ap (λ gs. gs ++ gates_after (after_statement scope s.sentence) more) (k.same_gates ∙ append-nil others);
     }
 
-pub Reaches-wrong : (statements : List Placed) (scope : Scope) (calls : ℕ) (gates : List ElementaryGate) (s : Placed) (rest : List Placed) (what : Cause)
-    → Reaches statements scope calls gates (s ∷ rest) → wrong_with most_calls scope calls s.sentence ≡ Some what → fault_after most_calls [] 0 statements ≡ Some (what, s.place)
-Reaches-wrong statements scope calls gates s rest what h wrong =
-    h.same_fault
-    ∙ ap (λ c. placed_or c s.place (fault_after most_calls (after_statement scope s.sentence) (calls + call_count (events_of scope s.sentence)) rest)) wrong
+pub leads-wrong : (program : List Placed) (scope : Scope) (calls : ℕ) (gates : List ElementaryGate) (s : Placed) (what : Cause)
+    → LeadsTo program scope calls gates → wrong_with most_calls scope calls s.sentence ≡ Some what
+    → (more : List Placed) → first_fault most_calls ((program ++ s ∷ []) ++ more) ≡ Some (what, s.place)
+leads-wrong program scope calls gates s what h wrong more =
+    ap (first_fault most_calls) (append_assoc program (s ∷ []) more) ∙ h.same_fault (s ∷ more)
+    ∙ ap (λ c. placed_or c s.place (fault_after most_calls (after_statement scope s.sentence) (calls + call_count (events_of scope s.sentence)) more)) wrong
 
-pub next-placed : (statements : List Statement) (i : ℕ) (s : Statement) → i < length statements → s ≡ get_or statements i s
-    → map placed (drop i statements) ≡ placed s ∷ map placed (drop (i + 1) statements)
-next-placed statements i s h e =
-    ap (map placed) (drop-cons statements i s h)
-    ∙ ap (λ x. placed x ∷ map placed (drop (suc i) statements)) (sym e)
-    ∙ ap (λ n. placed s ∷ map placed (drop n statements)) (sym (add-one i))
+-- once it has stopped, a circuit stays so
+pub stays-stopped : (error : InlineError) (program : List Placed) (s : Placed) (names : Names) (unrolled : Unrolled)
+    → HasTakenAt (Stopped error) program names unrolled → HasTakenAt (Stopped error) (program ++ s ∷ []) names unrolled
+stays-stopped (Fault what at) program s names unrolled h = λ more. ap (first_fault most_calls) (append_assoc program (s ∷ []) more) ∙ h (s ∷ more)
+stays-stopped NoMemory program s names unrolled h = tt
 
 -- ---- circuits
-pub few-cut : (program : List Placed) (qubits count : ℕ) → first_fault most_calls program ≡ None → count ≡ qubit_count (scope_after [] program)
+few-cut : (program : List Placed) (qubits count : ℕ) → first_fault most_calls program ≡ None → count ≡ qubit_count (scope_after [] program)
     → qubits ≡ min count (2 ^ 16 - 1) → qubits ≡ qubit_count (scope_after [] program)
 few-cut program qubits count right ec eq = let few = faultless-few most_calls program right in omega (arith, few, ec, eq)
 
@@ -118,24 +117,55 @@ elementary program circuit h = record {
       (subst (λ gs. All (IsElementaryGateOn (qubit_count (scope_after [] program))) gs) (sym h.2) on);
 }
 
-pub done-circuit : (program statements : List Placed) (scope : Scope) (calls : ℕ) (gates : List ElementaryGate) (qubits count : ℕ)
-    → IsAfterVersion program statements → Reaches statements scope calls gates [] → count ≡ qubit_count scope → qubits ≡ min count (2 ^ 16 - 1)
+pub done-circuit : (program : List Placed) (scope : Scope) (calls : ℕ) (gates : List ElementaryGate) (qubits count : ℕ)
+    → LeadsTo program scope calls gates → count ≡ qubit_count scope → qubits ≡ min count (2 ^ 16 - 1)
     → (first_fault most_calls program ≡ None) × (qubits ≡ qubit_count (scope_after [] program)) × (gates ≡ gates_after [] program)
-done-circuit program statements scope calls gates qubits count version h ec eq =
-    let right : first_fault most_calls program ≡ None = version.same_fault ∙ h.same_fault in
-    let last : scope_after [] program ≡ scope = version.same_scope ∙ h.same_scope in
-    (right, few-cut program qubits count right (ec ∙ ap qubit_count (sym last)) eq, sym (version.same_gates ∙ h.same_gates ∙ append-nil gates))
+done-circuit program scope calls gates qubits count h ec eq =
+    let same = sym (append-nil program) in
+    let right : first_fault most_calls program ≡ None = ap (first_fault most_calls) same ∙ h.same_fault [] in
+    let last : scope_after [] program ≡ scope = ap (scope_after []) same ∙ h.same_scope [] in
+    (right, few-cut program qubits count right (ec ∙ ap qubit_count (sym last)) eq, sym (ap (gates_after []) same ∙ h.same_gates [] ∙ append-nil gates))
 
-pub refused-circuit : (program statements : List Placed) (error : InlineError) → IsAfterVersion program statements
-    → ((what : Cause) (at : ℕ) → error ≡ Fault what at → fault_after most_calls [] 0 statements ≡ Some (what, at)) → IsCircuitAnswer program (Err error)
-refused-circuit program statements (Fault what at) version h = version.same_fault ∙ h what at refl
-refused-circuit program statements NoMemory version h = tt
+pub empty-circuit : (program : List Placed) (names : Names) (unrolled : Unrolled) → IsEmpty program names unrolled
+    → first_fault most_calls program ≡ Some (cause.Version, 0)
+empty-circuit program names unrolled e = ap (first_fault most_calls) e.none ∙ no_statement
+
+pub refused-circuit : (program : List Placed) (error : InlineError) (names : Names) (unrolled : Unrolled)
+    → HasTakenAt (Stopped error) program names unrolled → IsCircuitAnswer program (Err error)
+refused-circuit program (Fault what at) names unrolled h = ap (first_fault most_calls) (sym (append-nil program)) ∙ h []
+refused-circuit program NoMemory names unrolled h = tt
 
 pub valid-from : (program : List Placed) (result : Result Elementary InlineError) → IsCircuitAnswer program result → IfOk result (λ circuit. IsElementary circuit)
 valid-from program (Ok circuit) h = elementary program circuit h
 valid-from program (Err (Fault what at)) h = tt
 valid-from program (Err NoMemory) h = tt
 
-pub none-below : {A : Type 0} (xs : List A) → length xs < 1 → xs ≡ []
-none-below [] h = refl
-none-below (x ∷ xs) h = absurd (omega (arith, h))
+pub faultless-from : (program : List Placed) (result : Result Elementary InlineError) → IsCircuitAnswer program result → OnOk result (first_fault most_calls program ≡ None)
+faultless-from program (Ok circuit) h = h.0
+faultless-from program (Err error) h = tt
+
+pub means-from : (program : List Placed) (result : Result Elementary InlineError) → IsCircuitAnswer program result → IfOk result (λ circuit. Means program circuit.qubits circuit.gates)
+means-from program (Ok circuit) h = record { most = most_calls; faultless = h.0; as_many_qubits = h.1; same_gates = h.2 }
+means-from program (Err error) h = tt
+
+pub fault-from : (program : List Placed) (result : Result Elementary InlineError) → IsCircuitAnswer program result → (what : Cause) (at : ℕ) → result ≡ Err (Fault what at)
+    → first_fault most_calls program ≡ Some (what, at)
+fault-from program result h what at e = subst (IsCircuitAnswer program) e h
+
+pub refused-from : (program : List Placed) (result : Result Elementary InlineError) → IsCircuitAnswer program result → (what : Cause) (at : ℕ)
+    → first_fault most_calls program ≡ Some (what, at) → (result ≡ Err NoMemory) ⊎ (result ≡ Err (Fault what at))
+refused-from program (Ok circuit) h what at e = absurd (let k : ◌≡◌ {A = Option (Cause × ℕ)} None (Some (what, at)) = sym h.0 ∙ e in cc)
+refused-from program (Err (Fault this place)) h what at e =
+    let k : ◌≡◌ {A = Option (Cause × ℕ)} (Some (this, place)) (Some (what, at)) = sym h ∙ e in
+    let both : ◌≡◌ {A = Cause × ℕ} (this, place) (what, at) = cc in
+    inr (ap (λ p. Err (Fault p.0 p.1)) both)
+refused-from program (Err NoMemory) h what at e = inl refl
+
+-- ---- the loop over statements
+pub next-placed : (statements : List Statement) (i : ℕ) (s : Statement) → i < length statements → s ≡ get_or statements i s
+    → map placed (take i statements) ++ placed s ∷ [] ≡ map placed (take (i + 1) statements)
+next-placed statements i s h e =
+    ap (λ x. map placed (take i statements) ++ placed x ∷ []) e
+    ∙ sym (map-append placed (take i statements) (get_or statements i s ∷ []))
+    ∙ ap (map placed) (sym (take-suc statements i s h))
+    ∙ ap (λ n. map placed (take n statements)) (sym (add-one i))

@@ -12,3 +12,4 @@ pub mod CallLemmas
 pub mod MeantLemmas
 pub mod StatementLemmas
 pub mod CircuitLemmas
+pub mod ReadingLemmas

@@ -5,7 +5,7 @@ ghost use Rattle.qasm_reader.specs.Syntax.{Act, Applied};
 ghost use Rattle.qasm_reader.specs.Views as views;
 ghost use Rattle.qasm_scope.specs.Applications.{application_events};
 ghost use Rattle.qasm_scope.specs.Internal.Kept.{Represents};
-ghost use Rattle.qasm_inline.specs.Internal.KeptCalls.{Continues};
+ghost use Rattle.qasm_inline.specs.Internal.KeptCalls.{ComesTo};
 ghost use Rattle.qasm_scope.specs.Faults.{wrong_in};
 ghost use Rattle.qasm_scope.specs.Meaning.{most_calls, wrong_with};
 ghost use Rattle.qasm_scope.specs.Scope.{Scope};
@@ -40,7 +40,7 @@ pub fn apply<'a>(
     ensures ok { OnOk result ((scope : Scope) → Represents names.now scope
         → wrong_in scope (Act (Applied (views.application application.now))) ≡ None) }
     ensures events { OnOk result ((scope : Scope) → Represents names.now scope
-        → Continues most_calls unrolled.old.calls unrolled.old.gates (application_events scope (views.application application.now)) unrolled.new.calls unrolled.new.gates []) }
+        → ComesTo unrolled.old (application_events scope (views.application application.now)) unrolled.new []) }
     ensures err { (cause : Cause) (scope : Scope) → result ≡ Err (StatementError.Wrong cause)
         → Represents names.now scope
         → wrong_with most_calls scope unrolled.old.calls (Act (Applied (views.application application.now))) ≡ Some cause }

@@ -1,11 +1,8 @@
 //! The instances of an application, one after the other.
 
 ghost use Rattle.std.specs.Prelude.{◌≡◌, [], map, IfOk, OnOk, Err, Some};
-ghost use Rattle.std.specs.List.{flat_map};
-ghost use Rattle.qasm_scope.specs.Calls.{first_wrong};
-ghost use Rattle.qasm_inline.specs.Internal.KeptCalls.{Numbered, Unrolls, Continues, called_events, given, values_of};
-ghost use Rattle.qasm_scope.specs.Meaning.{most_calls};
-ghost use Rattle.qasm_inline.specs.Internal.Spans.{span_range, cut_instance, cut_instances, cut_qubit_at};
+ghost use Rattle.qasm_inline.specs.Internal.KeptCalls.{Numbered, Unrolls, ComesTo, given, values_of, wrong_from};
+ghost use Rattle.qasm_inline.specs.Internal.Spans.{span_range, cut_instance, cut_qubit_at, instances_events};
 ghost use Rattle.qasm_scope.specs.declared.causes.Cause.{Cause};
 
 use crate::applications::{Span, instance_count};
@@ -43,16 +40,14 @@ pub fn call_instances(
     spans: &[Span],
 ) -> Result<(), StatementError>
     ensures ok { OnOk result ((numbered : Numbered) → Unrolls gates.now numbered
-        → Continues most_calls unrolled.old.calls unrolled.old.gates
-        (flat_map (called_events numbered called 1 (given values.now)) (cut_instances (map span_range spans.now))) unrolled.new.calls unrolled.new.gates []) }
+        → ComesTo unrolled.old (instances_events numbered called (given values.now) (map span_range spans.now)) unrolled.new []) }
     ensures err { (cause : Cause) (numbered : Numbered) → result ≡ Err (StatementError.Wrong cause)
         → Unrolls gates.now numbered
-        → first_wrong most_calls unrolled.old.calls
-        (flat_map (called_events numbered called 1 (given values.now)) (cut_instances (map span_range spans.now))) ≡ Some cause }
+        → wrong_from unrolled.old (instances_events numbered called (given values.now) (map span_range spans.now)) ≡ Some cause }
 {
     for index in 0..instance_count(spans) {
         let qubits = instance_qubits(alloc, spans, index)?;
-        unrolled.instance(gates, called, values, &qubits)?;
+        unrolled.instance(gates, called, values, qubits)?;
     }
     Ok(())
 }

@@ -3,14 +3,18 @@
 
 mod applications;
 mod applying;
+pub mod circuit;
 pub mod error;
 mod instances;
 pub mod laws;
 pub mod meaning;
 mod overlaps;
+pub mod reading;
 mod statements;
 mod unroll;
 mod values;
 
-pub use error::InlineError;
+pub use circuit::Circuit;
+pub use error::{InlineError, ReadError};
 pub use meaning::inline;
+pub use reading::read;

@@ -4,7 +4,7 @@ ghost use Rattle.std.specs.Prelude.{◌≡◌, [], OnOk, None, Some, Err};
 ghost use Rattle.qasm_reader.specs.Views.{sentence, action};
 ghost use Rattle.qasm_reader.specs.Syntax.{Act};
 ghost use Rattle.qasm_scope.specs.Internal.Kept.{Represents};
-ghost use Rattle.qasm_inline.specs.Internal.KeptCalls.{Continues};
+ghost use Rattle.qasm_inline.specs.Internal.KeptCalls.{ComesTo};
 ghost use Rattle.qasm_scope.specs.Meaning.{after_statement, events_of, most_calls, wrong_with};
 ghost use Rattle.qasm_scope.specs.Scope.{Scope};
 ghost use Rattle.qasm_scope.specs.declared.causes.Cause.{Cause};
@@ -33,7 +33,7 @@ pub fn read_statement<'a>(
     ensures after { OnOk result ((scope : Scope) → Represents names.old scope
         → Represents names.new (after_statement scope (sentence kind.now))) }
     ensures events { OnOk result ((scope : Scope) → Represents names.old scope
-        → Continues most_calls unrolled.old.calls unrolled.old.gates (events_of scope (sentence kind.now)) unrolled.new.calls unrolled.new.gates []) }
+        → ComesTo unrolled.old (events_of scope (sentence kind.now)) unrolled.new []) }
     ensures err { (cause : Cause) (scope : Scope) → result ≡ Err (StatementError.Wrong cause)
         → Represents names.old scope
         → wrong_with most_calls scope unrolled.old.calls (sentence kind.now) ≡ Some cause }
@@ -61,7 +61,7 @@ fn operate<'a>(
     ensures ok { OnOk result ((scope : Scope) → Represents names.now scope
         → wrong_with most_calls scope unrolled.old.calls (Act (action operation.now)) ≡ None) }
     ensures events { OnOk result ((scope : Scope) → Represents names.now scope
-        → Continues most_calls unrolled.old.calls unrolled.old.gates (events_of scope (Act (action operation.now))) unrolled.new.calls unrolled.new.gates []) }
+        → ComesTo unrolled.old (events_of scope (Act (action operation.now))) unrolled.new []) }
     ensures err { (cause : Cause) (scope : Scope) → result ≡ Err (StatementError.Wrong cause)
         → Represents names.now scope
         → wrong_with most_calls scope unrolled.old.calls (Act (action operation.now)) ≡ Some cause }

@@ -4,7 +4,7 @@ ghost use Rattle.std.specs.Prelude.{◌≡◌, ◌+◌, ◌-◌, ◌*◌, ◌<�
 ghost use Rattle.zx_gates.specs.declared.elementary.ElementaryGate.{ElementaryGate};
 ghost use Rattle.qasm_scope.specs.declared.causes.Cause.{Cause};
 ghost use Rattle.qasm_scope.specs.Calls.{Event, Called, Undefined, applied, call_count, first_wrong, u_events, cx_events, after_angles};
-ghost use Rattle.qasm_inline.specs.Internal.KeptCalls.{Numbered, Unrolls, Continues, calls_events, stack_events, expand_called, called_events, gate_events, given, calls_of};
+ghost use Rattle.qasm_inline.specs.Internal.KeptCalls.{Numbered, Unrolls, ComesTo, entered_events, left_events, stack_events, expand_called, called_events, gate_events, given, calls_of, wrong_from};
 ghost use Rattle.qasm_scope.specs.Meaning.{most_calls};
 
 use crate::values::{copied, eighth_of, evaluated, picked};
@@ -61,19 +61,18 @@ impl Unrolled {
         gates: &[GateBody],
         called: CalledGate,
         values: &Result<Vec<Angle>, Cause>,
-        qubits: &[Qubit],
+        qubits: Vec<Qubit>,
     ) -> Result<(), StatementError>
         ensures ok { OnOk result ((numbered : Numbered) → Unrolls gates.now numbered
-            → Continues most_calls self.old.calls self.old.gates (called_events numbered called 1 (given values.now) qubits.now) self.new.calls self.new.gates []) }
+            → ComesTo self.old (called_events numbered called 1 (given values.now) qubits.items) self.new []) }
         ensures err { (cause : Cause) (numbered : Numbered)
             → result ≡ Err (StatementError.Wrong cause) → Unrolls gates.now numbered
-            → first_wrong most_calls self.old.calls (called_events numbered called 1 (given values.now) qubits.now) ≡ Some cause }
+            → wrong_from self.old (called_events numbered called 1 (given values.now) qubits.items) ≡ Some cause }
     {
         self.count(1)?;
         match values {
             Ok(values) => {
                 let values = copied(self.alloc, values)?;
-                let qubits = copied(self.alloc, qubits)?;
                 self.unroll(gates, called, values, qubits)
             }
             Err(cause) => Err(StatementError::Wrong(*cause)),
@@ -89,10 +88,10 @@ impl Unrolled {
         qubits: Vec<Qubit>,
     ) -> Result<(), StatementError>
         ensures ok { OnOk result ((numbered : Numbered) → Unrolls gates.now numbered
-            → Continues most_calls self.old.calls self.old.gates (expand_called numbered called 1 values.items qubits.items) self.new.calls self.new.gates []) }
+            → ComesTo self.old (expand_called numbered called 1 values.items qubits.items) self.new []) }
         ensures err { (cause : Cause) (numbered : Numbered)
             → result ≡ Err (StatementError.Wrong cause) → Unrolls gates.now numbered
-            → first_wrong most_calls self.old.calls (expand_called numbered called 1 values.items qubits.items) ≡ Some cause }
+            → wrong_from self.old (expand_called numbered called 1 values.items qubits.items) ≡ Some cause }
     {
         let mut frames = Vec::new(self.alloc);
         self.enter(gates, &mut frames, called, values, qubits)?;
@@ -132,15 +131,13 @@ impl Unrolled {
         frame: Frame<'a>,
     ) -> Result<(), StatementError>
         ensures ok { OnOk result ((numbered : Numbered) → Unrolls gates.now numbered
-            → Continues most_calls self.old.calls self.old.gates
-            (calls_events numbered (1 + length frames.old.items) frame.entry.angles.items frame.entry.qubits.items frame.entry.calls.now ++ stack_events numbered 1 frames.old.items)
-            self.new.calls self.new.gates (stack_events numbered 1 frames.new.items)) }
+            → ComesTo self.old (left_events numbered frame.entry frames.old.items)
+            self.new (stack_events numbered 1 frames.new.items)) }
         ensures err { (cause : Cause) (numbered : Numbered)
             → result ≡ Err (StatementError.Wrong cause) → Unrolls gates.now numbered
-            → first_wrong most_calls self.old.calls
-            (calls_events numbered (1 + length frames.old.items) frame.entry.angles.items frame.entry.qubits.items frame.entry.calls.now ++ stack_events numbered 1 frames.old.items)
-            ≡ Some cause }
-        ensures ends { OnOk result (2 * (most_calls - self.new.calls) + length frames.new.items < 2 * (most_calls - self.old.calls) + (1 + length frames.old.items)) }
+            → wrong_from self.old (left_events numbered frame.entry frames.old.items) ≡ Some cause }
+        ensures ends { OnOk result (2 * (most_calls - self.new.calls) + length frames.new.items
+            < 2 * (most_calls - self.old.calls) + (1 + length frames.old.items)) }
     {
         let Some((call, rest)) = frame.calls.split_first() else {
             return Ok(());
@@ -165,14 +162,11 @@ impl Unrolled {
         qubits: Vec<Qubit>,
     ) -> Result<(), StatementError>
         ensures ok { OnOk result ((numbered : Numbered) → Unrolls gates.now numbered
-            → Continues most_calls self.old.calls self.old.gates
-            (expand_called numbered called (1 + length frames.old.items) angles.items qubits.items ++ stack_events numbered 1 frames.old.items)
-            self.new.calls self.new.gates (stack_events numbered 1 frames.new.items)) }
+            → ComesTo self.old (entered_events numbered called angles.items qubits.items frames.old.items)
+            self.new (stack_events numbered 1 frames.new.items)) }
         ensures err { (cause : Cause) (numbered : Numbered)
             → result ≡ Err (StatementError.Wrong cause) → Unrolls gates.now numbered
-            → first_wrong most_calls self.old.calls
-            (expand_called numbered called (1 + length frames.old.items) angles.items qubits.items ++ stack_events numbered 1 frames.old.items)
-            ≡ Some cause }
+            → wrong_from self.old (entered_events numbered called angles.items qubits.items frames.old.items) ≡ Some cause }
         ensures calls { OnOk result (self.new.calls ≡ self.old.calls) }
         ensures frames { OnOk result (length frames.new.items ≤ length frames.old.items + 1) }
     {

@@ -1,10 +1,12 @@
 -- The steps of the loop of `lex`.
-use Rattle.std.proofs.Common.{◌≡◌, ℕ, ◌+◌, ◌-◌, ◌<◌, ◌≤◌, List, ◌++◌, length, take, drop, sym, ap, ◌∙◌, subst, arith, Option, None, Some, length-drop}
+use Rattle.std.proofs.Common.{◌≡◌, ◌⊎◌, inl, inr, ℕ, ◌+◌, ◌-◌, ◌<◌, ◌≤◌, List, ◌++◌, length, take, drop, refl, sym, ap, ◌∙◌, subst, arith, Option, None, Some, length-drop, append_assoc}
 use Rattle.std.proofs.lemmas.List.{take_rest, drop-drop, length-take-le}
 use Rattle.qasm_lexer.specs.declared.first_piece.Sort.{Sort}
-use Rattle.qasm_lexer.specs.Tokens.{Lexeme, IsCutUpTo, IsBadByte}
+use Rattle.qasm_lexer.specs.Tokens.{Lexeme, IsCut, IsCutUpTo, IsBadByte, IsBegun}
+use Rattle.qasm_lexer.specs.declared.errors.LexError.{LexError}
+use Rattle.qasm_lexer.specs.declared.errors.LexError.TheVariants.{BadByte, NoMemory}
 use Rattle.qasm_lexer.specs.Internal.FirstPiece.{first_piece, piece_tokens}
-use Rattle.qasm_lexer.proofs.Cuts.{IsCutUpTo-then}
+use Rattle.qasm_lexer.proofs.Cuts.{IsCutUpTo-then, not_both, same_byte}
 use Rattle.qasm_lexer.proofs.First.{IsFirst, IsFirstPiece, first_piece_is, first_cut, first_fits}
 
 -- the first piece at a place of a text, of which the code takes the slice from there on
@@ -47,3 +49,21 @@ module _ (text : List ℕ) (place : ℕ) (here : place < length text) (o : Optio
         subst (λ r. IsCutUpTo 0 text r more) (drop-drop count place text)
         (subst (λ ts. IsCutUpTo 0 text (drop count (drop place text)) ts)
         (ap (λ r. tokens ++ piece_tokens sort place (take count r)) (sym (take_rest text place)) ∙ sym more_is) both)
+
+-- ---- errors
+pub only_memory : (text : List ℕ) (tokens : List Lexeme) (error : LexError) → ((at : ℕ) → error ≡ BadByte at → IsBadByte text at) → IsCut 0 text tokens → error ≡ NoMemory
+only_memory text tokens (BadByte at) bad cut = absurd (not_both text tokens at cut (bad at refl))
+only_memory text tokens NoMemory bad cut = refl
+
+pub bad_or_memory : (text : List ℕ) (error : LexError) → ((at : ℕ) → error ≡ BadByte at → IsBadByte text at) → (at : ℕ) → IsBadByte text at
+    → (error ≡ BadByte at) ⊎ (error ≡ NoMemory)
+bad_or_memory text (BadByte this) bad at b = inl (ap BadByte (same_byte text this at (bad this refl) b))
+bad_or_memory text NoMemory bad at b = inr refl
+
+-- ---- pieces one after the other
+pub begun_further : (a b c : List Lexeme) → IsBegun a b → IsBegun b c → IsBegun a c
+begun_further a b c (more, is) (further, are) = (more ++ further, are ∙ ap (λ ts. ts ++ further) is ∙ append_assoc a more further)
+
+pub gets_on : {A : Type 0} (place end later : ℕ) → (place < end) ⊎ ((end ≡ place) × A) → end < later → place < later
+gets_on place end later (inl h) l = omega (arith, h, l)
+gets_on place end later (inr h) l = omega (arith, h.0, l)

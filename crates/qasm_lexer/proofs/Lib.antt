@@ -8,3 +8,4 @@ pub mod Scan
 pub mod Lexing
 pub mod Feeds
 pub mod Building
+pub mod Words

@@ -106,6 +106,14 @@ pub record IsCutUpTo (place : ℕ) (text rest : List ℕ) (tokens : List Lexeme)
 abbrev pub IsCut : ℕ → List ℕ → List Lexeme → Type 0
 IsCut place text tokens = IsCutUpTo place text [] tokens
 
+-- up to the place the whole text is pieces with these tokens
+abbrev pub IsCutAt : List ℕ → ℕ → List Lexeme → Type 0
+IsCutAt text place tokens = IsCutUpTo 0 text (drop place text) tokens
+
+-- these tokens begin with those
+abbrev pub IsBegun : List Lexeme → List Lexeme → Type 0
+IsBegun those these = (more : List Lexeme) × (these ≡ those ++ more)
+
 -- no piece begins here, and the text isn't over
 abbrev pub IsStuck : List ℕ → Type 0
 IsStuck rest = (0 < length rest) × ((form after : List ℕ) → form ++ after ≡ rest → IsPiece form after → ⊥)

@@ -1,7 +1,7 @@
 //! The cutting of a text into tokens.
-ghost use Rattle.std.specs.Prelude.{◌≡◌, ◌<◌, ◌+◌, ◌^◌, ◌⊎◌, ◌∷◌, [], ◌++◌, ℕ, List, length, OnOk, IfOk, IfErr, IsErrAnd, MatchResult};
+ghost use Rattle.std.specs.Prelude.{◌≡◌, ◌<◌, ◌≤◌, ◌+◌, ◌^◌, ◌⊎◌, ◌∷◌, [], ◌++◌, ℕ, List, length, OnOk, IfOk, IfErr, IsErrAnd, MatchResult, Err};
 ghost use Rattle.qasm_lexer.specs.declared.errors.LexError.TheVariants.{BadByte, NoMemory};
-ghost use Rattle.qasm_lexer.specs.Tokens.{Lexeme, lexemes, IsCut, IsBadByte};
+ghost use Rattle.qasm_lexer.specs.Tokens.{Lexeme, lexemes, IsCut, IsCutAt, IsBadByte, IsBegun};
 ghost use Rattle.qasm_lexer.specs.Internal.FirstPiece.{piece_tokens, naturals, natural_tokens};
 
 use crate::errors::LexError;
@@ -30,14 +30,67 @@ pub fn lex<'a>(alloc: Global, text: &'a [u8]) -> Result<Vec<Token<'a>>, LexError
     let mut tokens = Vec::new(alloc);
     let mut place = 0;
     while place < text.len() {
-        let rest = &text[place..];
-        let Some((sort, count)) = first_piece(rest) else {
-            return Err(LexError::BadByte { at: place });
-        };
-        push_piece(&mut tokens, sort, &rest[..count], place)?;
-        place += count;
+        place = push_next(text, place, &mut tokens)?;
     }
     Ok(tokens)
+}
+
+/// Cuts a text that is cut up to a place further on, until the list has so many tokens or the text is over. The
+/// tokens are added to the list, and the new place is given.
+///
+/// # Errors
+///
+/// `BadByte` with the place that was come to, where no token, white space or comment begins there; and `NoMemory`
+/// where memory runs out.
+pub fn lex_further<'a>(
+    text: &'a [u8],
+    place: usize,
+    tokens: &mut Vec<Token<'a>>,
+    count: usize,
+) -> Result<usize, LexError>
+    requires { place ≤ length text.now }
+    // Behind what was cut before, the text is cut up to the new place into the tokens that are added.
+    ensures cut { (before : List Lexeme) → IsCutAt text.now place (before ++ lexemes tokens.old.items)
+        → IfOk result (λ end. IsCutAt text.now end (before ++ lexemes tokens.new.items)) }
+    ensures added { OnOk result (IsBegun (lexemes tokens.old.items) (lexemes tokens.new.items)) }
+    // It comes to the end or to so many tokens, and gets on.
+    ensures within { IfOk result (λ end. end ≤ length text.now) }
+    ensures enough { IfOk result (λ end. (end ≡ length text.now) ⊎ (count ≤ length tokens.new.items)) }
+    ensures further { IfOk result (λ end. place < length text.now → length tokens.old.items < count
+        → place < end) }
+    // A bad byte that is told is the text's.
+    ensures bad_byte { (before : List Lexeme) (at : ℕ)
+        → IsCutAt text.now place (before ++ lexemes tokens.old.items)
+        → result ≡ Err (BadByte at) → IsBadByte text.now at }
+{
+    let mut end = place;
+    while end < text.len() && tokens.len() < count {
+        end = push_next(text, end, tokens)?;
+    }
+    Ok(end)
+}
+
+/// Adds the tokens of the piece at a place, and gives the place behind it.
+fn push_next<'a>(
+    text: &'a [u8],
+    place: usize,
+    tokens: &mut Vec<Token<'a>>,
+) -> Result<usize, LexError>
+    requires { place < length text.now }
+    ensures cut { (before : List Lexeme) → IsCutAt text.now place (before ++ lexemes tokens.old.items)
+        → IfOk result (λ end. IsCutAt text.now end (before ++ lexemes tokens.new.items)) }
+    ensures added { OnOk result (IsBegun (lexemes tokens.old.items) (lexemes tokens.new.items)) }
+    ensures further { IfOk result (λ end. (place < end) × (end ≤ length text.now)) }
+    ensures bad_byte { (before : List Lexeme) (at : ℕ)
+        → IsCutAt text.now place before
+        → result ≡ Err (BadByte at) → IsBadByte text.now at }
+{
+    let rest = &text[place..];
+    let Some((sort, count)) = first_piece(rest) else {
+        return Err(LexError::BadByte { at: place });
+    };
+    push_piece(tokens, sort, &rest[..count], place)?;
+    Ok(place + count)
 }
 
 /// Adds the tokens of a piece that stands at a place.

@@ -12,5 +12,5 @@ pub mod token;
 
 pub use errors::LexError;
 pub use laws::{cuts_of_lines_go_together, one_cut, worked_cuts};
-pub use lexer::lex;
+pub use lexer::{lex, lex_further};
 pub use token::{Token, TokenKind};

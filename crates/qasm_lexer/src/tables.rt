@@ -5,28 +5,51 @@ ghost use Rattle.std.specs.Str.{bytes_eq};
 
 use crate::token::TokenKind;
 
-/// The words that have a kind of their own.
-const WORDS: [(&[u8], TokenKind); 19] = [
-    (b"OPENQASM", TokenKind::Openqasm),
-    (b"U", TokenKind::U),
+/// A word and the kind that it has of its own.
+type Row = (&'static [u8], TokenKind);
+
+/// The words of one byte that have a kind of their own.
+const WORDS_OF_1: [Row; 1] = [(b"U", TokenKind::U)];
+
+/// Those of two bytes.
+const WORDS_OF_2: [Row; 4] = [
     (b"CX", TokenKind::Cx),
-    (b"include", TokenKind::Include),
-    (b"qreg", TokenKind::Qreg),
-    (b"creg", TokenKind::Creg),
-    (b"gate", TokenKind::Gate),
-    (b"opaque", TokenKind::Opaque),
     (b"if", TokenKind::If),
-    (b"barrier", TokenKind::Barrier),
-    (b"measure", TokenKind::Measure),
-    (b"reset", TokenKind::Reset),
     (b"pi", TokenKind::Pi),
+    (b"ln", TokenKind::Ln),
+];
+
+/// Those of three bytes.
+const WORDS_OF_3: [Row; 4] = [
     (b"sin", TokenKind::Sin),
     (b"cos", TokenKind::Cos),
     (b"tan", TokenKind::Tan),
     (b"exp", TokenKind::Exp),
-    (b"ln", TokenKind::Ln),
+];
+
+/// Those of four bytes.
+const WORDS_OF_4: [Row; 4] = [
+    (b"qreg", TokenKind::Qreg),
+    (b"creg", TokenKind::Creg),
+    (b"gate", TokenKind::Gate),
     (b"sqrt", TokenKind::Sqrt),
 ];
+
+/// That of five bytes.
+const WORDS_OF_5: [Row; 1] = [(b"reset", TokenKind::Reset)];
+
+/// That of six bytes.
+const WORDS_OF_6: [Row; 1] = [(b"opaque", TokenKind::Opaque)];
+
+/// Those of seven bytes.
+const WORDS_OF_7: [Row; 3] = [
+    (b"include", TokenKind::Include),
+    (b"barrier", TokenKind::Barrier),
+    (b"measure", TokenKind::Measure),
+];
+
+/// That of eight bytes.
+const WORDS_OF_8: [Row; 1] = [(b"OPENQASM", TokenKind::Openqasm)];
 
 /// The kind of a word, if it is a token.
 pub(crate) fn word_kind(word: &[u8]) -> Option<TokenKind>
@@ -45,7 +68,17 @@ pub(crate) fn word_kind(word: &[u8]) -> Option<TokenKind>
 fn keyword(word: &[u8]) -> Option<TokenKind>
     ensures { result ≡ kind_in words word.now }
 {
-    kind_in(&WORDS, word)
+    match word.len() {
+        1 => kind_in(&WORDS_OF_1, word),
+        2 => kind_in(&WORDS_OF_2, word),
+        3 => kind_in(&WORDS_OF_3, word),
+        4 => kind_in(&WORDS_OF_4, word),
+        5 => kind_in(&WORDS_OF_5, word),
+        6 => kind_in(&WORDS_OF_6, word),
+        7 => kind_in(&WORDS_OF_7, word),
+        8 => kind_in(&WORDS_OF_8, word),
+        _ => None,
+    }
 }
 
 /// The kind that the first row with these bytes gives.

@@ -18,7 +18,7 @@ by_value : (b : Bool) (m : ℕ) (P : Type 0) → ltb most_open m ≡ b → (most
 by_value true m P e deep shallow = deep (ltb-true _ _ e) e
 by_value false m P e deep shallow = shallow (ltb-false _ _ e) e
 
-by_test : (m : ℕ) (P : Type 0) → (most_open < m → ltb most_open m ≡ true → P) → (m ≤ most_open → ltb most_open m ≡ false → P) → P
+pub by_test : (m : ℕ) (P : Type 0) → (most_open < m → ltb most_open m ≡ true → P) → (m ≤ most_open → ltb most_open m ≡ false → P) → P
 by_test m P deep shallow = by_value (ltb most_open m) m P refl deep shallow
 
 head_is : (t u : Lexeme) (ts us : List Lexeme) → t ∷ ts ≡ u ∷ us → t ≡ u

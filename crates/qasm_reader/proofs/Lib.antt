@@ -9,3 +9,4 @@ pub mod Reading
 pub mod Statements
 pub mod Steps
 pub mod Turns
+pub mod DepthSteps

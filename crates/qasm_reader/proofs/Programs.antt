@@ -3,7 +3,7 @@
 use Rattle.std.proofs.Common.{◌≡◌, ◌⊎◌, inl, inr, ℕ, zero, suc, ◌<◌, ◌≤◌, List, [], ◌∷◌, ◌++◌, length, length-append, Option, None, Some, refl, sym, ap, ◌∙◌, subst, append_assoc, append-nil, arith}
 use Rattle.qasm_lexer.specs.Tokens.{Lexeme}
 use Rattle.qasm_reader.specs.Syntax.{Sentence, Placed}
-use Rattle.qasm_reader.specs.Grammar.{IsStatement, BeginsAt, IsProgram, BeginsWithStatement, IsSyntaxFault}
+use Rattle.qasm_reader.specs.Grammar.{IsStatement, BeginsAt, IsProgram, IsFirstStatement, BeginsWithStatement, IsSyntaxFault}
 use Rattle.qasm_reader.specs.Internal.Taking.{statement}
 use Rattle.qasm_reader.proofs.Steps.{same}
 use Rattle.qasm_reader.proofs.Statements.{statement_takes, statement_again}
@@ -131,6 +131,43 @@ prefix_fault all rest statements t more f is e =
 
 pub prefix_done : (all : List Lexeme) (statements : List Placed) → IsProgramPrefix all [] statements → IsProgram all statements
 prefix_done all statements f = subst (λ (x : List Lexeme). IsProgram x statements) (sym (f.1 ∙ append-nil f.0)) f.2
+
+-- ---- the statement at the start
+
+begins_some : (us : List Lexeme) (n : ℕ) → BeginsAt us n → 0 < length us
+begins_some [] n b = absurd (begins [] n b refl)
+begins_some (u ∷ us) n b = omega arith
+
+pub first_found : (ts : List Lexeme) (place : ℕ) (s : Sentence) (rest : List Lexeme) → BeginsAt ts place → statement ts ≡ Some (s, rest)
+    → IsFirstStatement (record { place = place; sentence = s }) ts rest
+first_found ts place s rest b e =
+    let took = statement_takes ts s rest e in (
+      took.0,
+      took.1,
+      subst (BeginsAt took.0) b.3 (some_begin took.0 rest b.0 b.1 (sym b.2 ∙ took.1) (some_statement s took.0 took.2)),
+      took.2,
+    )
+
+pub none_begins : (ts : List Lexeme) → statement ts ≡ None → BeginsWithStatement ts → ⊥
+none_begins ts e b = none_some (b.0, b.2) (sym e ∙ ap statement b.3 ∙ statement_again b.0 b.1 b.2 b.4 tt)
+
+pub none_in_none : BeginsWithStatement [] → ⊥
+none_in_none b = absurd (let n = ap length b.3 in omega (arith, n, length-append b.1 b.2, some_statement b.0 b.1 b.4))
+
+pub first_shrinks : (s : Placed) (ts rest : List Lexeme) → IsFirstStatement s ts rest → length rest < length ts
+first_shrinks s ts rest f = omega (arith, ap length f.1, length-append f.0 rest, begins_some f.0 s.place f.2)
+
+pub prefix_first : (all ts rest : List Lexeme) (statements : List Placed) (s : Placed) → IsProgramPrefix all ts statements → IsFirstStatement s ts rest
+    → IsProgramPrefix all rest (statements ++ s ∷ [])
+prefix_first all ts rest statements s f g = (
+  f.0 ++ g.0,
+  f.1 ∙ ap (λ (x : List Lexeme). f.0 ++ x) g.1 ∙ sym (append_assoc f.0 g.0 rest),
+  snoc f.0 g.0 statements s f.2 g.2 g.3,
+)
+
+pub prefix_ends : (all rest : List Lexeme) (statements : List Placed) (place : ℕ) → IsProgramPrefix all rest statements → BeginsAt rest place
+    → (BeginsWithStatement rest → ⊥) → IsSyntaxFault all place
+prefix_ends all rest statements place f b none = (f.0, rest, statements, f.1, f.2, b, none)
 
 -- ---- a program or a fault
 

@@ -157,6 +157,10 @@ abbrev pub IsProgram : List Lexeme → List Placed → Type 0
 IsProgram ts [] = ts ≡ []
 IsProgram ts (s ∷ statements) = (us vs : List Lexeme) × (ts ≡ us ++ vs) × BeginsAt us s.place × IsStatement s.sentence us × IsProgram vs statements
 
+-- the tokens begin with this statement, and these are behind it
+abbrev pub IsFirstStatement : Placed → List Lexeme → List Lexeme → Type 0
+IsFirstStatement s ts rest = (us : List Lexeme) × (ts ≡ us ++ rest) × BeginsAt us s.place × IsStatement s.sentence us
+
 -- a prefix of the tokens is a statement
 abbrev pub BeginsWithStatement : List Lexeme → Type 0
 BeginsWithStatement ts = (s : Sentence) × (us more : List Lexeme) × (ts ≡ us ++ more) × IsStatement s us

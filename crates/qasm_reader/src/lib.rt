@@ -2,7 +2,7 @@
 #![tactic(auto)]
 
 mod arguments;
-mod depth;
+pub mod depth;
 pub mod error;
 pub mod expression;
 pub mod laws;
@@ -15,9 +15,10 @@ mod step_error;
 mod tests;
 mod tokens;
 
+pub use depth::Depth;
 pub use error::ParseError;
 pub use expression::{Expression, Function, Item, Operator};
-pub use parser::parse;
+pub use parser::{next_statement, parse};
 pub use program::{
     Application, Argument, BodyApplication, BodyStatement, GateDeclaration, GateName,
     OpaqueDeclaration, Operation, Program, Statement, StatementKind,

@@ -1,21 +1,20 @@
 //! The parser: from tokens to a program.
 
-ghost use Rattle.std.specs.Prelude.{◌≡◌, List, None, Some, Err, IfOk, OnOk, ℕ};
+ghost use Rattle.std.specs.Prelude.{◌≡◌, List, None, Some, Ok, Err, IfOk, IfSome, OnOk, ℕ};
 ghost use Rattle.qasm_lexer.specs.Tokens.{lexemes};
 ghost use Rattle.qasm_reader.specs.Depth.{too_deep};
-ghost use Rattle.qasm_reader.specs.Grammar.{IsProgram, IsSyntaxFault};
-ghost use Rattle.qasm_reader.specs.Internal.Parsing.{AnswersProgram, AnswersFault, IsAnswer, IsStep, IsDepthAnswer};
+ghost use Rattle.qasm_reader.specs.Grammar.{BeginsWithStatement, IsFirstStatement, IsProgram, IsSyntaxFault};
+ghost use Rattle.qasm_reader.specs.Internal.Parsing.{AnswersProgram, AnswersFault, IsAnswer, IsNext, IsDepthAnswer};
 ghost use Rattle.qasm_reader.specs.Syntax.{Placed};
-ghost use Rattle.qasm_reader.specs.Internal.Taking as spec;
-ghost use Rattle.qasm_reader.specs.Views.{statements_of};
+ghost use Rattle.qasm_reader.specs.Views.{placed, statements_of};
 
-use crate::depth::too_deep;
+use crate::depth::Depth;
 use crate::error::ParseError;
 use crate::program::{Program, Statement};
 use crate::statement::statement;
 use crate::step_error::StepError;
 use qasm_lexer::Token;
-use std::alloc::Global;
+use std::alloc::{AllocError, Global};
 
 /// The program that the tokens are.
 ///
@@ -45,35 +44,59 @@ fn program<'a>(alloc: Global, tokens: &[Token<'a>]) -> Result<Program<'a>, Parse
 {
     let mut rest = shallow(tokens)?;
     let mut statements = Vec::new(alloc);
-    while let [first, ..] = rest {
-        let (statement, end) = placed_statement(alloc, first.place, rest)?;
+    while let Some((statement, end)) = next_statement(alloc, rest)? {
         statements.push(statement)?;
         rest = end;
     }
-    Ok(Program { statements })
+    match rest.first() {
+        Some(first) => Err(ParseError::Syntax { at: first.place }),
+        None => Ok(Program { statements }),
+    }
+}
+
+/// The statement at the start of the tokens and the tokens behind it; `None` where no statement begins them.
+///
+/// # Errors
+///
+/// Where memory runs out.
+pub fn next_statement<'t, 'a>(
+    alloc: Global,
+    tokens: &'t [Token<'a>],
+) -> Result<Option<(Statement<'a>, &'t [Token<'a>])>, AllocError>
+    ensures found { IfOk result (λ read. IfSome read (λ x.
+        IsFirstStatement (placed x.0) (lexemes tokens.now) (lexemes x.1.now))) }
+    ensures none { result ≡ Ok None → BeginsWithStatement (lexemes tokens.now) → ⊥ }
+{
+    placed_statement(alloc, tokens)
 }
 
 /// The tokens, if parentheses are not too deep.
 fn shallow<'t, 'a>(tokens: &'t [Token<'a>]) -> Result<&'t [Token<'a>], ParseError>
     ensures { IsDepthAnswer tokens.now result }
 {
-    match too_deep(tokens) {
-        Some(at) => Err(ParseError::TooDeep { at }),
-        None => Ok(tokens),
+    match Depth::start().after(tokens) {
+        Depth::TooDeep(at) => Err(ParseError::TooDeep { at }),
+        Depth::Open(_) => Ok(tokens),
     }
 }
 
 /// The statement at the start of the tokens, with its place, and what follows.
+#[tactic(auto, unfolding(crate::specs::Internal::Taking::statement))]
 fn placed_statement<'t, 'a>(
     alloc: Global,
-    place: usize,
     tokens: &'t [Token<'a>],
-) -> Result<(Statement<'a>, &'t [Token<'a>]), ParseError>
-    ensures { IsStep place result (spec.statement (lexemes tokens.now)) }
+) -> Result<Option<(Statement<'a>, &'t [Token<'a>])>, AllocError>
+    ensures { IsNext (lexemes tokens.now) result }
 {
+    let Some(first) = tokens.first() else {
+        return Ok(None);
+    };
     match statement(alloc, tokens) {
-        Ok((kind, rest)) => Ok((Statement { place, kind }, rest)),
-        Err(StepError::Misfit) => Err(ParseError::Syntax { at: place }),
-        Err(StepError::NoMemory) => Err(ParseError::NoMemory),
+        Ok((kind, rest)) => {
+            let place = first.place;
+            Ok(Some((Statement { place, kind }, rest)))
+        }
+        Err(StepError::Misfit) => Ok(None),
+        Err(StepError::NoMemory) => Err(AllocError),
     }
 }

@@ -181,7 +181,7 @@ pub fn kept<'a>(
     ensures { IfOk result (λ kept. kept_body kept
         ≡ calls_by names.now.symbols parameters.now qubits.now (map body_sentence body.now)) }
 {
-    let mut calls = Vec::new(alloc);
+    let mut calls = Vec::with_capacity(alloc, body.len())?;
     for statement in body {
         if let BodyStatement::Apply(application) = statement {
             calls.push(kept_call(alloc, names, parameters, qubits, application)?)?;
@@ -218,7 +218,7 @@ fn places_of<'a>(
     ensures { IfOk result (λ found. found.items
         ≡ map (λ name. place_or_zero (place_in places.now name)) (map (λ name. name.now) names.now)) }
 {
-    let mut found = Vec::new(alloc);
+    let mut found = Vec::with_capacity(alloc, names.len())?;
     for name in names {
         found.push(place_of(places, name))?;
     }

@@ -104,7 +104,7 @@ pub fn all_numbered<'a>(
     ensures { IfOk result (λ exprs. exprs.items
         ≡ map (placed places.now) (map formula_of expressions.now)) }
 {
-    let mut exprs = Vec::new(alloc);
+    let mut exprs = Vec::with_capacity(alloc, expressions.len())?;
     for expression in expressions {
         exprs.push(numbered(alloc, places, expression)?)?;
     }
@@ -133,7 +133,7 @@ fn steps<'a>(
 ) -> Result<Vec<ExprItem>, AllocError>
     ensures { IfOk result (λ steps. steps.items ≡ map (step_of places.now) (map entry items.now)) }
 {
-    let mut steps = Vec::new(alloc);
+    let mut steps = Vec::with_capacity(alloc, items.len())?;
     for item in items {
         steps.push(step(places, item))?;
     }

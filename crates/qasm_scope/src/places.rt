@@ -58,9 +58,13 @@ impl<'a> Places<'a> {
 }
 
 /// Whether a name stands twice in a list.
+#[tactic(auto, using(crate::proofs::PlaceLemmas::few_names))]
 pub fn has_name_twice<'a>(alloc: Global, names: &[&'a [u8]]) -> Result<bool, AllocError>
     ensures { IfOk result (λ twice. twice ≡ has_name_twice (map (λ name. name.now) names.now)) }
 {
+    if names.len() < 2 {
+        return Ok(false);
+    }
     let mut places = Places::none(alloc);
     for (place, name) in names.iter().enumerate() {
         if places.find(*name).is_some() {

@@ -3,7 +3,5 @@
 
 pub mod graph;
 pub mod rewrite;
-#[cfg(test)]
-mod tests;
 
 pub use rewrite::{drop_lone, fuse_into, fuse_twin};

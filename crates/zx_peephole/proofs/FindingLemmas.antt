@@ -1,24 +1,28 @@
 -- What the gates that stop a gate on its way to the front say of pairs and triples that it ends.
-use Rattle.std.proofs.Common.{◌≡◌, inl, inr, ℕ, ◌+◌, ◌<◌, ◌≤◌, true, false, not, List, [], ◌∷◌, ◌++◌, append_assoc, length, get_or, take, drop, refl, sym, ap, ap₂, ◌∙◌, subst, arith, Option, None, Some}
+use Rattle.std.proofs.Common.{◌≡◌, inl, inr, ℕ, true, false, not, List, [], ◌∷◌, ◌++◌, append_assoc, length, get_or}
+use Rattle.std.proofs.Common.{take, refl, sym, ap, ap₂, ◌∙◌, arith, Option, None, Some}
 use Rattle.std.specs.List.{list_all}
 use Rattle.std.specs.Prelude.{IfNone}
-use Rattle.std.proofs.lemmas.Bool.{eqb-true, eq-eqb, or_left, or_right, or_from, or_parts, cases_Bool, not-true, not-false, not_from_true, not_from_false, false_from_ne_true, both_ways}
-use Rattle.std.proofs.lemmas.List.{take_more, take-append-drop, drop_more, length-append, length-take-le, get_or_at, get_or-take, take-take, take_at}
+use Rattle.std.proofs.lemmas.Bool.{eqb-true, eq-eqb, or_left, or_right, or_from, or_parts, cases_Bool, not-true}
+use Rattle.std.proofs.lemmas.Bool.{not-false, not_from_true, not_from_false, false_from_ne_true, both_ways}
+use Rattle.std.proofs.lemmas.List.{length-append, get_or_at, get_or-take, take_at}
 use Rattle.zx_gates.specs.declared.gate.Gate.{Gate}
 use Rattle.zx_gates.specs.declared.gate.Gate.TheVariants.{H}
 use Rattle.zx_peephole.specs.Commuting.{is_on, commutes}
-use Rattle.zx_peephole.specs.Tidy.{is_pair, is_turned, is_off, IsPair, IsTriple, IsTidy}
+use Rattle.zx_peephole.specs.Tidy.{is_pair, is_turned, is_off, IsTidy}
+use Rattle.zx_peephole.specs.Internal.Changes.{EndsPair, EndsTriple}
 use Rattle.zx_peephole.specs.Internal.Stops.{stops, is_free, turns, IsLastStop}
 use Rattle.zx_peephole.proofs.Cuts.{cut_cases, cut_head, last_cut, all_at, all_weaker}
 use Rattle.zx_peephole.proofs.CommutingLemmas.{alike, commutes_comm, commutes_off, off_commutes, turned_on}
-use Rattle.zx_peephole.proofs.TidyLemmas.{EndsPair, EndsTriple, tidy-more}
+use Rattle.zx_peephole.proofs.TidyLemmas.{tidy-more}
 
 -- ---- what stops a gate
 pair_stops : (g x : Gate) → is_pair x g ≡ true → stops g x ≡ true
 pair_stops g x pair = or_left (is_pair x g) (not (commutes x g)) pair
 
 free_commutes : (g x : Gate) → not (stops g x) ≡ true → commutes x g ≡ true
-free_commutes g x free = not-false (commutes x g) ((or_parts (is_pair x g) (not (commutes x g)) (not-true (stops g x) free)).1)
+free_commutes g x free =
+    not-false (commutes x g) ((or_parts (is_pair x g) (not (commutes x g)) (not-true (stops g x) free)).1)
 
 -- a gate that is a pair with H is H
 pub pair_with_hadamard : (q : ℕ) (x : Gate) → is_pair x (H q) ≡ true → x ≡ H q
@@ -36,39 +40,51 @@ hadamard_stopped q x stopped =
   where
     unpaired : is_on q x ≡ false → is_pair x (H q) ≡ false
     unpaired off =
-        false_from_ne_true (is_pair x (H q)) (λ pair. both_ways (is_on q x) off (ap (is_on q) (pair_with_hadamard q x pair) ∙ eq-eqb q q refl))
+        false_from_ne_true (is_pair x (H q))
+        (λ pair. both_ways (is_on q x) off (ap (is_on q) (pair_with_hadamard q x pair) ∙ eq-eqb q q refl))
 
 on_stops : (q : ℕ) (x : Gate) → is_on q x ≡ true → stops (H q) x ≡ true
 on_stops q x on =
     or_right (is_pair x (H q)) (not (commutes x (H q)))
-    (not_from_false (commutes x (H q)) (false_from_ne_true (commutes x (H q)) (λ passed. both_ways (is_on q x) (commutes_off q x (commutes_comm (H q) x ∙ passed)) on)))
+    (not_from_false (commutes x (H q))
+    (false_from_ne_true (commutes x (H q))
+    (λ passed. both_ways (is_on q x) (commutes_off q x (commutes_comm (H q) x ∙ passed)) on)))
 
 free_off : (q : ℕ) (gates : List Gate) → is_free (H q) gates ≡ true → list_all (is_off q) gates ≡ true
 free_off q gates free =
     all_weaker (λ x. not (stops (H q) x)) (is_off q)
-    (λ x h. not_from_false (is_on q x) (false_from_ne_true (is_on q x) (λ on. both_ways (stops (H q) x) (not-true (stops (H q) x) h) (on_stops q x on)))) gates free
+    (λ x h. not_from_false (is_on q x)
+    (false_from_ne_true (is_on q x)
+    (λ on. both_ways (stops (H q) x) (not-true (stops (H q) x) h) (on_stops q x on)))) gates free
 
 off_free : (q : ℕ) (gates : List Gate) → list_all (is_off q) gates ≡ true → is_free (H q) gates ≡ true
 off_free q gates off =
     all_weaker (is_off q) (λ x. not (stops (H q) x))
-    (λ x h. not_from_false (stops (H q) x) (false_from_ne_true (stops (H q) x) (λ s. both_ways (is_on q x) (not-true (is_on q x) h) (hadamard_stopped q x s)))) gates off
+    (λ x h. not_from_false (stops (H q) x)
+    (false_from_ne_true (stops (H q) x)
+    (λ s. both_ways (is_on q x) (not-true (is_on q x) h) (hadamard_stopped q x s)))) gates off
 
 -- ---- no pair
 -- nothing is free that would stop the gate
-in_free : (g x : Gate) (gates before after : List Gate) → gates ≡ before ++ x ∷ after → is_free g gates ≡ true → stops g x ≡ true → ⊥
+in_free : (g x : Gate) (gates before after : List Gate) → gates ≡ before ++ x ∷ after → is_free g gates ≡ true
+    → stops g x ≡ true → ⊥
 in_free g x gates before after cut free stopped =
     both_ways (stops g x) (not-true (stops g x) (all_at (λ y. not (stops g y)) gates before after x cut free)) stopped
 
-free_no_pair : (front : List Gate) (g : Gate) → is_free g front ≡ true → EndsPair front g → ⊥
-free_no_pair front g free e = in_free g e.first front e.before e.between e.cut free (pair_stops g e.first e.merge)
+free_no_pair : (front : List Gate) (g : Gate) → is_free g front ≡ true → (m : ℕ) → EndsPair front g m → ⊥
+free_no_pair front g free m e = in_free g e.first front e.before e.between e.cut free (pair_stops g e.first e.merge)
 
-stop_no_pair : (front : List Gate) (g : Gate) (i : ℕ) (s : IsLastStop g front i) → is_pair s.stop g ≡ false → EndsPair front g → ⊥
-stop_no_pair front g i s apart e =
+stop_no_pair : (front : List Gate) (g : Gate) (i : ℕ) (s : IsLastStop g front i) → is_pair s.stop g ≡ false → (m : ℕ)
+    → EndsPair front g m → ⊥
+stop_no_pair front g i s apart m e =
     elim (cut_cases s.before (s.stop ∷ s.between) e.before e.between e.first (sym s.cut ∙ e.cut)) [
       | inl c ↦
           let passes : commutes s.stop g ≡ true =
-          commutes_comm s.stop g ∙ sym (alike e.first g e.merge s.stop) ∙ all_at (commutes e.first) e.between c.rest s.between s.stop c.second e.commute in
-          both_ways (stops g s.stop) (or_from (is_pair s.stop g) (not (commutes s.stop g)) apart (not_from_true (commutes s.stop g) passes)) s.stopped
+          commutes_comm s.stop g ∙ sym (alike e.first g e.merge s.stop)
+          ∙ all_at (commutes e.first) e.between c.rest s.between s.stop c.second e.commute in
+          both_ways (stops g s.stop)
+          (or_from (is_pair s.stop g) (not (commutes s.stop g)) apart
+          (not_from_true (commutes s.stop g) passes)) s.stopped
       | inr c ↦ elim (cut_head s.stop e.first s.between c.rest e.between c.second) [
         | inl h ↦ both_ways (is_pair s.stop g) apart (ap (λ x. is_pair x g) h.1 ∙ e.merge)
         | inr h ↦ in_free g e.first s.between h.rest e.between h.later s.free (pair_stops g e.first e.merge)
@@ -84,10 +100,12 @@ record Triples (q : ℕ) (before : List Gate) (stop : Gate) : Type 0 where
   cut : before ≡ first_before ++ H q ∷ left
   left_off : list_all (is_off q) left ≡ true
 
-triples : (front : List Gate) (g : Gate) (i : ℕ) (s : IsLastStop g front i) (e : EndsTriple front g) → Triples e.qubit s.before s.stop
-triples front g i s e =
+triples : (front : List Gate) (g : Gate) (i : ℕ) (s : IsLastStop g front i) (m n : ℕ) (e : EndsTriple front g m n)
+    → Triples e.qubit s.before s.stop
+triples front g i s m n e =
     let q : ℕ = e.qubit in
-    let middle_stops : stops g e.middle ≡ true = ap (λ x. stops x e.middle) e.is ∙ on_stops q e.middle (turned_on q e.middle e.turned) in
+    let middle_stops : stops g e.middle ≡ true =
+    ap (λ x. stops x e.middle) e.is ∙ on_stops q e.middle (turned_on q e.middle e.turned) in
     let right_free : is_free g e.right ≡ true = ap (λ x. is_free x e.right) e.is ∙ off_free q e.right e.right_off in
     let same = last_cut (stops g) s.before s.between (e.before ++ H q ∷ e.left) e.right s.stop e.middle
     (sym s.cut ∙ e.cut ∙ simp append_assoc) s.stopped middle_stops s.free right_free in
@@ -99,8 +117,8 @@ triples front g i s e =
       left_off = e.left_off;
     }
 
-free_no_triple : (front : List Gate) (g : Gate) → is_free g front ≡ true → EndsTriple front g → ⊥
-free_no_triple front g free e =
+free_no_triple : (front : List Gate) (g : Gate) → is_free g front ≡ true → (m n : ℕ) → EndsTriple front g m n → ⊥
+free_no_triple front g free m n e =
     in_free g e.middle front (e.before ++ H e.qubit ∷ e.left) e.right (e.cut ∙ simp append_assoc) free
     (ap (λ x. stops x e.middle) e.is ∙ on_stops e.qubit e.middle (turned_on e.qubit e.middle e.turned))
 
@@ -114,11 +132,13 @@ pub free_extends : (front : List Gate) (g : Gate) → is_free g front ≡ true �
 free_extends front g free = tidy-more front g (free_no_pair front g free) (free_no_triple front g free)
 
 -- the gate that stops it is neither a pair with it nor the middle of a triple
-pub stop_extends : (front : List Gate) (g : Gate) (i : ℕ) (s : IsLastStop g front i) → is_pair s.stop g ≡ false → turns g s.stop ≡ false
+pub stop_extends : (front : List Gate) (g : Gate) (i : ℕ) (s : IsLastStop g front i) → is_pair s.stop g ≡ false
+    → turns g s.stop ≡ false
     → Extends front g
 stop_extends front g i s apart straight =
     tidy-more front g (stop_no_pair front g i s apart)
-    (λ e. both_ways (is_turned e.qubit s.stop) (ap (λ x. turns x s.stop) (sym e.is) ∙ straight) (triples front g i s e).turned)
+    (λ m n e. both_ways (is_turned e.qubit s.stop) (ap (λ x. turns x s.stop) (sym e.is) ∙ straight)
+    (triples front g i s m n e).turned)
 
 hadamard_stops_itself : (q : ℕ) → stops (H q) (H q) ≡ true
 hadamard_stops_itself q = pair_stops (H q) (H q) (eq-eqb q q refl)
@@ -128,88 +148,29 @@ pub free_stop_extends : (front : List Gate) (g : Gate) (i : ℕ) (s : IsLastStop
     → is_free g s.before ≡ true → Extends front g
 free_stop_extends front g i s apart free =
     tidy-more front g (stop_no_pair front g i s apart)
-    (λ e. let t = triples front g i s e in
-    in_free g (H e.qubit) s.before t.first_before t.left t.cut free (ap (λ x. stops x (H e.qubit)) e.is ∙ hadamard_stops_itself e.qubit))
+    (λ m n e. let t = triples front g i s m n e in
+    in_free g (H e.qubit) s.before t.first_before t.left t.cut free
+    (ap (λ x. stops x (H e.qubit)) e.is ∙ hadamard_stops_itself e.qubit))
 
 -- the gate before the middle one that stops it isn't H
 pub stops_extend : (front : List Gate) (g : Gate) (i k : ℕ) (s : IsLastStop g front i) → is_pair s.stop g ≡ false
     → (r : IsLastStop g s.before k) → is_pair r.stop g ≡ false → Extends front g
 stops_extend front g i k s apart r other = tidy-more front g (stop_no_pair front g i s apart) none
   where
-    none : EndsTriple front g → ⊥
-    none e =
+    none : (m n : ℕ) → EndsTriple front g m n → ⊥
+    none m n e =
         let q : ℕ = e.qubit in
-        let t = triples front g i s e in
-        let same = last_cut (stops g) r.before r.between t.first_before t.left r.stop (H q) (sym r.cut ∙ t.cut) r.stopped
-        (ap (λ x. stops x (H q)) e.is ∙ hadamard_stops_itself q) r.free (ap (λ x. is_free x t.left) e.is ∙ off_free q t.left t.left_off) in
+        let t = triples front g i s m n e in
+        let same = last_cut (stops g) r.before r.between t.first_before t.left r.stop (H q)
+        (sym r.cut ∙ t.cut) r.stopped
+        (ap (λ x. stops x (H q)) e.is ∙ hadamard_stops_itself q) r.free
+        (ap (λ x. is_free x t.left) e.is ∙ off_free q t.left t.left_off) in
         both_ways (is_pair r.stop g) other (ap₂ is_pair same.1 e.is ∙ eq-eqb q q refl)
 
 -- ---- the gate ends a pair or a triple
--- a list that goes on behind the gate
-module _ (gates : List Gate) (place : ℕ) (g d : Gate) (within : place < length gates) (is : get_or gates place d ≡ g) where
-  goes_on : gates ≡ take place gates ++ g ∷ drop (place + 1) gates
-  goes_on = sym (take-append-drop place gates) ∙ ap (λ xs. take place gates ++ xs) (drop_more gates place d within ∙ ap (λ x. x ∷ drop (place + 1) gates) is)
-
-  pub taken : take (place + 1) gates ≡ take place gates ++ g ∷ []
-  taken = take_more gates place d within ∙ ap (λ x. take place gates ++ x ∷ []) is
-
-  pub pair_found : (i : ℕ) (s : IsLastStop g (take place gates) i) → is_pair s.stop g ≡ true → IsPair gates i place
-  pair_found i s pair = record {
-    before = s.before;
-    first = s.stop;
-    between = s.between;
-    second = g;
-    after = drop (place + 1) gates;
-    cut = goes_on ∙ ap (λ xs. xs ++ g ∷ drop (place + 1) gates) s.cut ∙ simp append_assoc;
-    at_first = s.at;
-    at_second = omega (arith, s.at, ap length s.cut, length-append s.before (s.stop ∷ s.between), length-take-le place gates (omega arith));
-    merge = pair;
-    commute = all_weaker (λ x. not (stops g x)) (commutes s.stop) (λ x free. alike s.stop g pair x ∙ commutes_comm g x ∙ free_commutes g x free) s.between s.free;
-  }
-
-  -- with the qubit of H
-  found_at : (q i k : ℕ) → g ≡ H q → (s : IsLastStop g (take place gates) i) → is_turned q s.stop ≡ true
-      → (r : IsLastStop g s.before k) → is_pair r.stop g ≡ true → IsTriple gates k i place
-  found_at q i k h s turned r pair = record {
-    qubit = q;
-    before = r.before;
-    left = r.between;
-    middle = s.stop;
-    right = s.between;
-    after = drop (place + 1) gates;
-    cut = goes_on
-        ∙ ap₂ (λ xs x. xs ++ x ∷ drop (place + 1) gates) (s.cut ∙ ap (λ xs. xs ++ s.stop ∷ s.between) (r.cut ∙ ap (λ x. r.before ++ x ∷ r.between) first)) h
-        ∙ simp append_assoc;
-    at_first = r.at;
-    at_middle = omega (arith, r.at, s.at, ap length r.cut, length-append r.before (r.stop ∷ r.between));
-    at_last = omega (arith, s.at, ap length s.cut, length-append s.before (s.stop ∷ s.between), length-take-le place gates (omega arith));
-    turned = turned;
-    left_off = free_off q r.between (ap (λ x. is_free x r.between) (sym h) ∙ r.free);
-    right_off = free_off q s.between (ap (λ x. is_free x s.between) (sym h) ∙ s.free);
-  }
-    where
-      first : r.stop ≡ H q
-      first = pair_with_hadamard q r.stop (ap (is_pair r.stop) (sym h) ∙ pair)
-
 turns_hadamard : (g x : Gate) → turns g x ≡ true → (q : ℕ) × (g ≡ H q) × (is_turned q x ≡ true)
 turns_hadamard (H q) x turned = (q, refl, turned)
 turns_hadamard g x turned = absurd (let h : false ≡ true = turned in cc)
-
-pub triple_found : (gates : List Gate) (place : ℕ) (g d : Gate) → place < length gates → get_or gates place d ≡ g
-    → (i k : ℕ) (s : IsLastStop g (take place gates) i) → turns g s.stop ≡ true
-    → (r : IsLastStop g s.before k) → is_pair r.stop g ≡ true → IsTriple gates k i place
-triple_found gates place g d within is i k s turned r pair =
-    let h = turns_hadamard g s.stop turned in found_at gates place g d within is h.0 i k h.1 s h.2 r pair
-
--- ---- the gate that stops another, in the list
-pub stop_at : (g : Gate) (gates : List Gate) (i : ℕ) (s : IsLastStop g gates i) (d : Gate) → get_or gates i d ≡ s.stop
-stop_at g gates i s d = ap (λ xs. get_or xs i d) s.cut ∙ get_or_at s.before s.stop s.between d i s.at
-
-pub stop_within : (g : Gate) (gates : List Gate) (i : ℕ) → IsLastStop g gates i → i < length gates
-stop_within g gates i s = omega (arith, s.at, ap length s.cut, length-append s.before (s.stop ∷ s.between))
-
-pub stop_before : (g : Gate) (gates : List Gate) (i : ℕ) (s : IsLastStop g gates i) → take i gates ≡ s.before
-stop_before g gates i s = ap (take i) s.cut ∙ take_at s.before (s.stop ∷ s.between) i s.at
 
 -- ---- as the search goes
 abbrev moved : (g : Gate) (xs ys : List Gate) → xs ≡ ys → (i : ℕ) → IsLastStop g xs i → IsLastStop g ys i
@@ -227,62 +188,78 @@ pub if_none : {X : Type 0} (o : Option X) (P : Type 0) → P → IfNone o P
 if_none None P p = p
 if_none (Some x) P p = tt
 
--- the gate at the place of the last stop, and the gates before it
-stop_is : (gates : List Gate) (n : ℕ) (g x : Gate) (i : ℕ) → n ≤ length gates → (s : IsLastStop g (take n gates) i)
-    → x ≡ get_or gates i x → x ≡ s.stop
-stop_is gates n g x i le s is =
-    is ∙ sym (get_or-take n gates i x (omega (arith, stop_within g (take n gates) i s, length-take-le n gates le))) ∙ stop_at g (take n gates) i s x
-
-before_is : (gates : List Gate) (n : ℕ) (g : Gate) (i : ℕ) → n ≤ length gates → (s : IsLastStop g (take n gates) i) → take i gates ≡ s.before
-before_is gates n g i le s =
-    sym (take-take i n gates (omega (arith, stop_within g (take n gates) i s, length-take-le n gates le))) ∙ stop_before g (take n gates) i s
-
--- the list stays tidy with one gate more
-abbrev pub Stays : List Gate → ℕ → Type 0
-Stays gates place = IsTidy (take place gates) → IsTidy (take (place + 1) gates)
-
-extended : (gates : List Gate) (place : ℕ) (g : Gate) → place < length gates → g ≡ get_or gates place g → Extends (take place gates) g → Stays gates place
-extended gates place g within here extends tidy = subst IsTidy (sym (taken gates place g g within (sym here))) (extends tidy)
-
-pub none_stops : (gates : List Gate) (place : ℕ) (g : Gate) → place < length gates → g ≡ get_or gates place g
-    → is_free g (take place gates) ≡ true → Stays gates place
-none_stops gates place g within here free = extended gates place g within here (free_extends (take place gates) g free)
-
 -- x is the gate that stops g
-module _ (gates : List Gate) (place : ℕ) (g : Gate) (within : place < length gates) (here : g ≡ get_or gates place g)
-    (i : ℕ) (s : IsLastStop g (take place gates) i) (x : Gate) (there : x ≡ get_or gates i x) where
+module _ (front : List Gate) (g : Gate) (i : ℕ) (s : IsLastStop g front i) (x : Gate)
+    (there : x ≡ get_or front i x) where
   same : x ≡ s.stop
-  same = stop_is gates place g x i (omega arith) s there
+  same = there ∙ ap (λ xs. get_or xs i x) s.cut ∙ get_or_at s.before s.stop s.between x i s.at
 
-  before : take i gates ≡ s.before
-  before = before_is gates place g i (omega arith) s
+  before : take i front ≡ s.before
+  before = ap (take i) s.cut ∙ take_at s.before (s.stop ∷ s.between) i s.at
 
-  pub stop_is_pair : is_pair x g ≡ true → IsPair gates i place
-  stop_is_pair pair = pair_found gates place g g within (sym here) i s (ap (λ y. is_pair y g) (sym same) ∙ pair)
+  pub stop_is_pair : is_pair x g ≡ true → EndsPair front g i
+  stop_is_pair pair = record {
+    before = s.before;
+    first = s.stop;
+    between = s.between;
+    cut = s.cut;
+    at = s.at;
+    merge = merge;
+    commute = all_weaker (λ y. not (stops g y)) (commutes s.stop)
+        (λ y free. alike s.stop g merge y ∙ commutes_comm g y ∙ free_commutes g y free) s.between s.free;
+  }
+    where
+      merge : is_pair s.stop g ≡ true
+      merge = ap (λ y. is_pair y g) (sym same) ∙ pair
 
-  pub stop_is_straight : is_pair x g ≡ false → turns g x ≡ false → Stays gates place
+  pub stop_is_straight : is_pair x g ≡ false → turns g x ≡ false → Extends front g
   stop_is_straight apart straight =
-      extended gates place g within here
-      (stop_extends (take place gates) g i s (ap (λ y. is_pair y g) (sym same) ∙ apart) (ap (turns g) (sym same) ∙ straight))
+      stop_extends front g i s (ap (λ y. is_pair y g) (sym same) ∙ apart) (ap (turns g) (sym same) ∙ straight)
 
-  pub none_stops_before : is_pair x g ≡ false → is_free g (take i gates) ≡ true → Stays gates place
+  pub none_stops_before : is_pair x g ≡ false → is_free g (take i front) ≡ true → Extends front g
   none_stops_before apart free =
-      extended gates place g within here
-      (free_stop_extends (take place gates) g i s (ap (λ y. is_pair y g) (sym same) ∙ apart) (ap (is_free g) (sym before) ∙ free))
+      free_stop_extends front g i s (ap (λ y. is_pair y g) (sym same) ∙ apart) (ap (is_free g) (sym before) ∙ free)
 
   -- y is the gate before that stops g
-  module _ (k : ℕ) (first : IsLastStop g (take i gates) k) (y : Gate) (at : y ≡ get_or gates k y) where
-    first_is : y ≡ first.stop
+  module _ (k : ℕ) (r : IsLastStop g (take i front) k) (y : Gate) (at : y ≡ get_or front k y) where
+    first_is : y ≡ r.stop
     first_is =
-        stop_is gates i g y k (omega (arith, stop_within g (take place gates) i s, length-take-le place gates (omega arith))) first at
+        at
+        ∙ sym (get_or-take i front k y
+        (omega (arith, r.at, s.at, ap length (sym before ∙ r.cut), length-append r.before (r.stop ∷ r.between))))
+        ∙ ap (λ xs. get_or xs k y) r.cut
+        ∙ get_or_at r.before r.stop r.between y k r.at
 
-    pub stop_is_triple : turns g x ≡ true → is_pair y g ≡ true → IsTriple gates k i place
+    pub stop_is_triple : turns g x ≡ true → is_pair y g ≡ true → EndsTriple front g k i
     stop_is_triple turned pair =
-        triple_found gates place g g within (sym here) i k s (ap (turns g) (sym same) ∙ turned)
-        (moved g (take i gates) s.before before k first) (ap (λ z. is_pair z g) (sym first_is) ∙ pair)
+        let h = turns_hadamard g x turned in
+        record {
+          qubit = h.0;
+          before = r.before;
+          left = r.between;
+          middle = s.stop;
+          right = s.between;
+          is = h.1;
+          cut = s.cut
+              ∙ ap (λ xs. xs ++ s.stop ∷ s.between) (sym before ∙ r.cut
+              ∙ ap (λ z. r.before ++ z ∷ r.between)
+              (pair_with_hadamard h.0 r.stop (ap₂ is_pair (sym first_is) (sym h.1) ∙ pair)))
+              ∙ simp append_assoc;
+          at_first = r.at;
+          at_middle = omega (
+            arith,
+            r.at,
+            s.at,
+            ap length (sym before ∙ r.cut),
+            length-append r.before
+                (r.stop ∷ r.between),
+          );
+          turned = ap (is_turned h.0) (sym same) ∙ h.2;
+          left_off = free_off h.0 r.between (ap (λ z. is_free z r.between) (sym h.1) ∙ r.free);
+          right_off = free_off h.0 s.between (ap (λ z. is_free z s.between) (sym h.1) ∙ s.free);
+        }
 
-    pub first_is_other : is_pair x g ≡ false → is_pair y g ≡ false → Stays gates place
+    pub first_is_other : is_pair x g ≡ false → is_pair y g ≡ false → Extends front g
     first_is_other apart other =
-        extended gates place g within here
-        (stops_extend (take place gates) g i k s (ap (λ z. is_pair z g) (sym same) ∙ apart)
-        (moved g (take i gates) s.before before k first) (ap (λ z. is_pair z g) (sym first_is) ∙ other))
+        stops_extend front g i k s (ap (λ z. is_pair z g) (sym same) ∙ apart)
+        (moved g (take i front) s.before before k r) (ap (λ z. is_pair z g) (sym first_is) ∙ other)

@@ -1,5 +1,6 @@
 -- What keeps a list of gates tidy.
-use Rattle.std.proofs.Common.{◌≡◌, inl, inr, ℕ, ◌+◌, true, List, [], ◌∷◌, ◌++◌, append_assoc, length, refl, sym, ap, ap₂, ◌∙◌}
+use Rattle.std.proofs.Common.{◌≡◌, inl, inr, ℕ, ◌+◌, true, List, [], ◌∷◌, ◌++◌, append_assoc, length, refl, sym, ap}
+use Rattle.std.proofs.Common.{ap₂, ◌∙◌}
 use Rattle.std.specs.List.{list_all}
 use Rattle.std.proofs.lemmas.Bool.{not_from_false}
 use Rattle.std.proofs.lemmas.List.{append-nil}
@@ -7,6 +8,7 @@ use Rattle.zx_gates.specs.declared.gate.Gate.{Gate}
 use Rattle.zx_gates.specs.declared.gate.Gate.TheVariants.{H}
 use Rattle.zx_peephole.specs.Commuting.{commutes}
 use Rattle.zx_peephole.specs.Tidy.{is_pair, is_turned, is_off, IsPair, IsTriple, IsTidy}
+use Rattle.zx_peephole.specs.Internal.Changes.{EndsPair, EndsTriple}
 use Rattle.zx_peephole.proofs.Cuts.{cut_cases, cut_one, cut_none, all_at, all_with}
 use Rattle.zx_peephole.proofs.CommutingLemmas.{alike, commutes_comm, commutes_off}
 
@@ -31,7 +33,8 @@ pub no_triple_at : (gates : List Gate) → IsTidy gates → (q : ℕ) (before le
     → gates ≡ before ++ H q ∷ (left ++ g ∷ (right ++ H q ∷ after)) → is_turned q g ≡ true
     → list_all (is_off q) left ≡ true → list_all (is_off q) right ≡ true → ⊥
 no_triple_at gates tidy q before left right after g cut turned left_off right_off =
-    tidy.no_triple (length before) (length before + 1 + length left) (length before + 1 + length left + 1 + length right) (record {
+    tidy.no_triple (length before) (length before + 1 + length left)
+    (length before + 1 + length left + 1 + length right) (record {
       qubit = q;
       before = before;
       left = left;
@@ -56,16 +59,20 @@ tidy-none = record {
 
 -- ---- a gate goes that commutes with all behind it
 -- The gates around it were a pair or triple before, with this gate among those between.
-module _ (front middle : List Gate) (g : Gate) (tidy : IsTidy (front ++ g ∷ middle)) (free : list_all (commutes g) middle ≡ true) where
-  no_pair_without : (before between after : List Gate) (a b : Gate) → front ++ middle ≡ before ++ a ∷ (between ++ b ∷ after)
+module _ (front middle : List Gate) (g : Gate) (tidy : IsTidy (front ++ g ∷ middle))
+    (free : list_all (commutes g) middle ≡ true) where
+  no_pair_without : (before between after : List Gate) (a b : Gate)
+      → front ++ middle ≡ before ++ a ∷ (between ++ b ∷ after)
       → is_pair a b ≡ true → list_all (commutes a) between ≡ true → ⊥
   no_pair_without before between after a b cut merge commute =
       elim (cut_cases front middle before (between ++ b ∷ after) a cut) [
         | inl c ↦ elim (cut_cases c.rest middle between after b (sym c.second)) [
           | inl d ↦ no_pair_at _ tidy before between (d.rest ++ g ∷ middle) a b
-              (ap (λ xs. xs ++ g ∷ middle) (c.first ∙ ap (λ xs. before ++ a ∷ xs) d.first) ∙ simp append_assoc) merge commute
+              (ap (λ xs. xs ++ g ∷ middle) (c.first ∙ ap (λ xs. before ++ a ∷ xs) d.first)
+              ∙ simp append_assoc) merge commute
           | inr d ↦
-              let passes : commutes a g ≡ true = alike a b merge g ∙ commutes_comm b g ∙ all_at (commutes g) middle d.rest after b d.second free in
+              let passes : commutes a g ≡ true =
+              alike a b merge g ∙ commutes_comm b g ∙ all_at (commutes g) middle d.rest after b d.second free in
               no_pair_at _ tidy before (c.rest ++ g ∷ d.rest) after a b
               (ap₂ (λ xs ys. xs ++ g ∷ ys) c.first d.second ∙ simp append_assoc) merge
               (all_with (commutes a) c.rest d.rest g (ap (list_all (commutes a)) (sym d.first) ∙ commute) passes)
@@ -76,7 +83,8 @@ module _ (front middle : List Gate) (g : Gate) (tidy : IsTidy (front ++ g ∷ mi
 
   -- H behind it shows that it isn't on the qubit
   off : (q : ℕ) (xs ys : List Gate) → middle ≡ xs ++ H q ∷ ys → is_off q g ≡ true
-  off q xs ys e = not_from_false _ (commutes_off q g (commutes_comm (H q) g ∙ all_at (commutes g) middle xs ys (H q) e free))
+  off q xs ys e = not_from_false _
+      (commutes_off q g (commutes_comm (H q) g ∙ all_at (commutes g) middle xs ys (H q) e free))
 
   no_triple_without : (q : ℕ) (before left right after : List Gate) (a : Gate)
       → front ++ middle ≡ before ++ H q ∷ (left ++ a ∷ (right ++ H q ∷ after)) → is_turned q a ≡ true
@@ -86,11 +94,15 @@ module _ (front middle : List Gate) (g : Gate) (tidy : IsTidy (front ++ g ∷ mi
         | inl c ↦ elim (cut_cases c.rest middle left (right ++ H q ∷ after) a (sym c.second)) [
           | inl d ↦ elim (cut_cases d.rest middle right after (H q) (sym d.second)) [
             | inl e ↦ no_triple_at _ tidy q before left right (e.rest ++ g ∷ middle) a
-                (ap (λ xs. xs ++ g ∷ middle) (c.first ∙ ap (λ xs. before ++ H q ∷ xs) (d.first ∙ ap (λ xs. left ++ a ∷ xs) e.first)) ∙ simp append_assoc)
+                (ap (λ xs. xs ++ g ∷ middle)
+                (c.first ∙ ap (λ xs. before ++ H q ∷ xs) (d.first ∙ ap (λ xs. left ++ a ∷ xs) e.first))
+                ∙ simp append_assoc)
                 turned left_off right_off
             | inr e ↦ no_triple_at _ tidy q before left (d.rest ++ g ∷ e.rest) after a
-                (ap₂ (λ xs ys. xs ++ g ∷ ys) (c.first ∙ ap (λ xs. before ++ H q ∷ xs) d.first) e.second ∙ simp append_assoc) turned left_off
-                (all_with (is_off q) d.rest e.rest g (ap (list_all (is_off q)) (sym e.first) ∙ right_off) (off q e.rest after e.second))
+                (ap₂ (λ xs ys. xs ++ g ∷ ys) (c.first ∙ ap (λ xs. before ++ H q ∷ xs) d.first) e.second
+                ∙ simp append_assoc) turned left_off
+                (all_with (is_off q) d.rest e.rest g (ap (list_all (is_off q)) (sym e.first) ∙ right_off)
+                (off q e.rest after e.second))
           ]
           | inr d ↦ no_triple_at _ tidy q before (c.rest ++ g ∷ d.rest) right after a
               (ap₂ (λ xs ys. xs ++ g ∷ ys) c.first d.second ∙ simp append_assoc) turned
@@ -109,39 +121,21 @@ module _ (front middle : List Gate) (g : Gate) (tidy : IsTidy (front ++ g ∷ mi
   }
 
 -- ---- one more gate
--- the gate makes a pair with one before it
-pub record EndsPair (front : List Gate) (g : Gate) : Type 0 where
-  pub before : List Gate
-  pub first : Gate
-  pub between : List Gate
-  pub cut : front ≡ before ++ first ∷ between
-  pub merge : is_pair first g ≡ true
-  pub commute : list_all (commutes first) between ≡ true
-
--- the gate makes a triple with two before it
-pub record EndsTriple (front : List Gate) (g : Gate) : Type 0 where
-  pub qubit : ℕ
-  pub before : List Gate
-  pub left : List Gate
-  pub middle : Gate
-  pub right : List Gate
-  pub is : g ≡ H qubit
-  pub cut : front ≡ before ++ H qubit ∷ (left ++ middle ∷ right)
-  pub turned : is_turned qubit middle ≡ true
-  pub left_off : list_all (is_off qubit) left ≡ true
-  pub right_off : list_all (is_off qubit) right ≡ true
-
-pub tidy-more : (front : List Gate) (g : Gate) → (EndsPair front g → ⊥) → (EndsTriple front g → ⊥) → IsTidy front → IsTidy (front ++ g ∷ [])
-tidy-more front g no_pair no_triple tidy = record { no_pair = λ i j p. pair i j p; no_triple = λ i j k t. triple i j k t }
+pub tidy-more : (front : List Gate) (g : Gate) → ((i : ℕ) → EndsPair front g i → ⊥)
+    → ((i j : ℕ) → EndsTriple front g i j → ⊥) → IsTidy front → IsTidy (front ++ g ∷ [])
+tidy-more front g no_pair no_triple tidy =
+    record { no_pair = λ i j p. pair i j p; no_triple = λ i j k t. triple i j k t }
   where
     pair : (i j : ℕ) → IsPair (front ++ g ∷ []) i j → ⊥
     pair i j p =
         elim (cut_cases front (g ∷ []) (p.before ++ p.first ∷ p.between) p.after p.second (p.cut ∙ simp append_assoc)) [
-          | inl c ↦ no_pair_at front tidy p.before p.between c.rest p.first p.second (c.first ∙ simp append_assoc) p.merge p.commute
+          | inl c ↦ no_pair_at front tidy p.before p.between c.rest p.first p.second
+              (c.first ∙ simp append_assoc) p.merge p.commute
           | inr c ↦
               let one = cut_one g p.second c.rest p.after c.second in
-              no_pair (record {
+              no_pair (length p.before) (record {
                 before = p.before;
+                at = refl;
                 first = p.first;
                 between = p.between;
                 cut = sym (c.first ∙ ap (λ r. front ++ r) one.0 ∙ append-nil front);
@@ -152,11 +146,15 @@ tidy-more front g no_pair no_triple tidy = record { no_pair = λ i j p. pair i j
 
     triple : (i j k : ℕ) → IsTriple (front ++ g ∷ []) i j k → ⊥
     triple i j k t =
-        elim (cut_cases front (g ∷ []) (t.before ++ H t.qubit ∷ (t.left ++ t.middle ∷ t.right)) t.after (H t.qubit) (t.cut ∙ simp append_assoc)) [
-          | inl c ↦ no_triple_at front tidy t.qubit t.before t.left t.right c.rest t.middle (c.first ∙ simp append_assoc) t.turned t.left_off t.right_off
+        elim (cut_cases front (g ∷ []) (t.before ++ H t.qubit ∷ (t.left ++ t.middle ∷ t.right)) t.after (H t.qubit)
+        (t.cut ∙ simp append_assoc)) [
+          | inl c ↦ no_triple_at front tidy t.qubit t.before t.left t.right c.rest t.middle
+              (c.first ∙ simp append_assoc) t.turned t.left_off t.right_off
           | inr c ↦
               let one = cut_one g (H t.qubit) c.rest t.after c.second in
-              no_triple (record {
+              no_triple (length t.before) (length t.before + 1 + length t.left) (record {
+                at_first = refl;
+                at_middle = refl;
                 qubit = t.qubit;
                 before = t.before;
                 left = t.left;

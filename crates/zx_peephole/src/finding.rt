@@ -1,6 +1,6 @@
-//! Pairs and triples that end at a gate.
+//! Pairs and triples that a gate makes with gates before it.
 
-ghost use Rattle.std.specs.Prelude.{◌≡◌, ◌+◌, ◌<◌, length, take, IsTrue, IfSome, IfNone};
+ghost use Rattle.std.specs.Prelude.{◌++◌, [], ◌∷◌, IsTrue, IfSome, IfNone};
 ghost use Rattle.zx_peephole.specs.Tidy.{IsTidy};
 ghost use Rattle.zx_peephole.specs.Internal.Stops.{is_free, IsLastStop};
 ghost use Rattle.zx_peephole.specs.Internal.Changes.{IsChange};
@@ -8,12 +8,12 @@ ghost use Rattle.zx_peephole.specs.Internal.Changes.{IsChange};
 use crate::pairs::{is_pair, stops, turns};
 use zx_gates::Gate;
 
-/// What ends at a gate, by the places of the gates before it.
+/// What a gate makes with gates before it, by their places.
 #[derive(Clone, Copy, Drop)]
 pub(crate) enum Change {
-    /// A pair, by its first gate.
+    /// A pair with that one.
     Pair(usize),
-    /// A triple, by its first gate and the middle one.
+    /// A triple with these two.
     Triple(usize, usize),
 }
 
@@ -30,23 +30,21 @@ fn last_stop(gates: &[Gate], gate: &Gate) -> Option<usize>
     None
 }
 
-/// A pair or triple that ends at the place, if there is one.
-pub(crate) fn find(gates: &[Gate], place: usize) -> Option<Change>
-    requires { place < length gates.now }
-    ensures found { IfSome result (IsChange gates.now place) }
-    ensures none { IfNone result (IsTidy (take place gates.now) → IsTidy (take (place + 1) gates.now)) }
+/// A pair or triple that a gate behind these makes with them, if there is one.
+pub(crate) fn find(front: &[Gate], gate: &Gate) -> Option<Change>
+    ensures found { IfSome result (IsChange front.now gate.now) }
+    ensures none { IfNone result (IsTidy front.now → IsTidy (front.now ++ gate.now ∷ [])) }
 {
-    let gate = &gates[place];
-    let stop = last_stop(&gates[..place], gate)?;
-    let earlier = &gates[stop];
+    let stop = last_stop(front, gate)?;
+    let earlier = &front[stop];
     if is_pair(earlier, gate) {
         return Some(Change::Pair(stop));
     }
     if !turns(gate, earlier) {
         return None;
     }
-    let first = last_stop(&gates[..stop], gate)?;
-    if is_pair(&gates[first], gate) {
+    let first = last_stop(&front[..stop], gate)?;
+    if is_pair(&front[first], gate) {
         Some(Change::Triple(first, stop))
     } else {
         None

@@ -4,7 +4,5 @@
 pub mod flow;
 pub mod graph;
 pub mod rewrite;
-#[cfg(test)]
-mod tests;
 
 pub use rewrite::pivot;

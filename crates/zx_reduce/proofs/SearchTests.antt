@@ -35,7 +35,7 @@ two_of_one : (k a b : ℕ) → (k ≡ a) ⊎ (k ≡ b) → (eqb k a || eqb k b) 
 two_of_one k a b (inl e) = ap (λ x. x || eqb k b) (eq-eqb k a e)
 two_of_one k a b (inr e) = ap (λ x. eqb k a || x) (eq-eqb k b e) ∙ or-true (eqb k a)
 
-half_turns_from : (k : ℕ) → is_half_turns k ≡ true → IsHalfTurns k
+pub half_turns_from : (k : ℕ) → is_half_turns k ≡ true → IsHalfTurns k
 half_turns_from k e = one_of_two k 0 half_turn e
 
 pub half_turns_to : (k : ℕ) → IsHalfTurns k → is_half_turns k ≡ true

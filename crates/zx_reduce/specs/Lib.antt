@@ -2,4 +2,5 @@ pub mod Steps
 pub mod Traces
 pub mod Applied
 pub mod Search
+pub mod Moving
 pub mod Internal

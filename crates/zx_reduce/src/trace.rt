@@ -1,6 +1,6 @@
 //! Traces of steps.
 
-ghost use Rattle.std.specs.Prelude.{◌≡◌, ◌++◌, [], ◌∷◌, OnOk, OnErr};
+ghost use Rattle.std.specs.Prelude.{◌≡◌, ◌++◌, [], ◌∷◌, IfOk, OnOk, OnErr};
 
 use crate::step::Step;
 use std::alloc::{AllocError, Global};
@@ -9,6 +9,7 @@ use std::marker::Model;
 /// The steps that were done, in their order.
 #[derive(Drop)]
 pub struct Trace {
+    alloc: Global,
     steps: Vec<Step>,
 }
 
@@ -26,6 +27,7 @@ impl Trace {
         ensures { result.steps ≡ [] }
     {
         Trace {
+            alloc,
             steps: Vec::new(alloc),
         }
     }
@@ -51,5 +53,19 @@ impl Trace {
     {
         self.steps.push(step)?;
         Ok(())
+    }
+    // The same trace once more.
+    pub(crate) fn copy(&self) -> Result<Trace, AllocError>
+        ensures { IfOk result (λ copy. copy.steps ≡ self.now.steps) }
+    {
+        Ok(Trace {
+            alloc: self.alloc,
+            steps: Vec::from_slice(self.alloc, &self.steps)?,
+        })
+    }
+
+    // Where its steps are kept.
+    pub(crate) fn alloc(&self) -> Global {
+        self.alloc
     }
 }

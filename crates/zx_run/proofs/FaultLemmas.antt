@@ -15,10 +15,6 @@ use Rattle.qasm_scope.specs.Scope.{qubit_count}
 use Rattle.qasm_scope.specs.Texts.{IsProgramText, TextMeans}
 use Rattle.zx_run.specs.declared.status.Fault.{Fault}
 use Rattle.zx_run.specs.declared.status.Fault.TheVariants.{TooLong, BadByte, TooDeep, Syntax}
-use Rattle.qasm_reader.specs.declared.error.ParseError.{ParseError}
-use Rattle.qasm_reader.specs.declared.error.ParseError.TheVariants as errors
-use Rattle.zx_run.specs.Internal.Parsing.{no_output_by}
-use Rattle.zx_run.specs.declared.no_output.NoOutput.TheVariants as none
 use Rattle.zx_run.specs.FirstFault.{most_bytes, IsFirstFault, IsShortFault, IsAccepted, IsFaultless, HasDeepParenthesis, HasSyntaxFault, HasWrongStatement, fault_of}
 
 -- the tokens of a text can't be too deep and not
@@ -155,19 +151,6 @@ accepted_or_fault text = elim (cases_lt most_bytes (length text)) [
   | inl long ↦ inr (TooLong, inl (long, refl))
   | inr short ↦ short_decided text short
 ]
-
--- what the tokens' fault says of the text
-module _ (text : List ℕ) (tokens : List Lexeme) (short : length text ≤ most_bytes) (cut : IsCut 0 text tokens) where
-  pub parse_first : (error : ParseError) → ((at : ℕ) → error ≡ errors.TooDeep at → too_deep tokens ≡ Some at)
-      → ((at : ℕ) → error ≡ errors.Syntax at → (too_deep tokens ≡ None) × IsSyntaxFault tokens at)
-      → (fault : Fault) → no_output_by error ≡ none.Fault fault → IsFirstFault text fault
-  parse_first (errors.TooDeep at) deep syntax fault is =
-      let same : TooDeep at ≡ fault = (let h : none.Fault (TooDeep at) ≡ none.Fault fault = is in cc) in
-      inr (short, inr (inl (at, record { tokens = tokens; cut = cut; deep = deep at refl }, sym same)))
-  parse_first (errors.Syntax at) deep syntax fault is =
-      let same : Syntax at ≡ fault = (let h : none.Fault (Syntax at) ≡ none.Fault fault = is in cc) in
-      inr (short, inr (inr (inl (at, record { tokens = tokens; cut = cut; shallow = (syntax at refl).0; fault = (syntax at refl).1 }, sym same))))
-  parse_first errors.NoMemory deep syntax fault is = absurd (let h : none.NoMemory ≡ none.Fault fault = is in cc)
 
 -- equal errors in answers are equal
 pub Err_same : {T E : Type 0} {a b : E} → ◌≡◌ {A = Result T E} (Err a) (Err b) → a ≡ b

@@ -1,3 +1,6 @@
+pub mod Simplified
+pub mod CountsLemmas
 pub mod OptimiseLemmas
 pub mod FaultLemmas
+pub mod ReadLemmas
 pub mod AnswerLemmas

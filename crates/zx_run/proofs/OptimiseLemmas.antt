@@ -1,51 +1,83 @@
 -- From what is read to what is written for it.
-use Rattle.std.proofs.Common.{◌≡◌, ◌≤◌, ℕ, List, sym, ap, ◌∙◌, subst}
+use Rattle.std.proofs.Common.{◌≡◌, ◌≤◌, ◌++◌, ℕ, Bool, true, List, length, sym, ap₂, subst}
 use Rattle.zx_model.specs.Proportional.{Proportional}
 use Rattle.zx_model.proofs.ProportionalLemmas.{proportional_sym, proportional_trans}
 use Rattle.zx_gates.specs.declared.elementary.ElementaryGate.{ElementaryGate}
+use Rattle.zx_gates.specs.declared.gate.Gate.{Gate}
 use Rattle.zx_gates.specs.Circuit.{Circuit, IsCircuit, gate_odd_phases}
 use Rattle.zx_gates.specs.Elementary.{elementary_odd_phases}
 use Rattle.zx_gates.specs.ElementaryMaps.{amp_elementary}
 use Rattle.zx_gates.specs.Lowering.{lowered}
 use Rattle.zx_gates.specs.Maps.{amp}
+use Rattle.zx_gen.specs.Generator.{generated}
+use Rattle.zx_report.specs.Report.{report_lines}
 use Rattle.qasm_scope.specs.Texts.{TextMeans}
 use Rattle.qasm_writer.specs.Elements.{elements_of}
 use Rattle.qasm_writer.specs.Written.{written}
 use Rattle.qasm_writer.proofs.WrittenLemmas.{odd_elements, same_map}
 use Rattle.zx_run.specs.FirstFault.{IsAccepted}
-use Rattle.zx_run.specs.Outcome.{IsOptimisedText}
-use Rattle.zx_run.specs.Optimising.{Optimises}
+use Rattle.zx_run.specs.Outcome.{circuit_on, report_if, generation_line, IsOptimisedText, IsGenerationReport}
+use Rattle.zx_run.specs.Optimising.{gate_bound, counts_of, Optimises, IsBest}
 
--- the text of a circuit that optimises the lowered one
-pub IsOptimisedText-written : (text bytes : List ℕ) (qubits : ℕ) (read : List ElementaryGate) (from circuit : Circuit)
+pub same_circuit : (c : Circuit) (qubits : ℕ) (gates : List Gate) → c.qubits ≡ qubits → c.gates ≡ gates → c ≡ circuit_on qubits gates
+same_circuit c qubits gates same_qubits same_gates = ap₂ circuit_on same_qubits same_gates
+
+-- the text of a circuit that optimises the lowered one, and its report
+IsOptimisedText-lowered : (best reported : Bool) (text bytes : List ℕ) (qubits : ℕ) (read : List ElementaryGate) (circuit : Circuit)
     → IsAccepted text qubits read
-    → from.qubits ≡ qubits → from.gates ≡ lowered read
-    → Proportional qubits qubits (amp_elementary read) (amp from.gates) → gate_odd_phases from.gates ≡ elementary_odd_phases read
-    → Optimises from circuit → IsCircuit circuit
-    → bytes ≡ written circuit → TextMeans bytes circuit.qubits (elements_of circuit.gates) → IsOptimisedText text bytes
-IsOptimisedText-written text bytes qubits read from circuit accepted same_qubits same_gates map odd better is spelled means =
+    → Proportional qubits qubits (amp_elementary read) (amp (lowered read))
+    → gate_odd_phases (lowered read) ≡ elementary_odd_phases read
+    → Optimises (circuit_on qubits (lowered read)) circuit
+    → (best ≡ true → IsBest (circuit_on qubits (lowered read)) circuit) → IsCircuit circuit
+    → bytes ≡ written circuit ++ report_if reported (lowered read) circuit.gates
+    → TextMeans (written circuit) circuit.qubits (elements_of circuit.gates) → IsOptimisedText best reported text bytes
+IsOptimisedText-lowered best reported text bytes qubits read circuit accepted map odd better is_best is spelled means =
     let again = elements_of circuit.gates in
-    let as_many : circuit.qubits ≡ qubits = better.qubits ∙ same_qubits in
+    let as_many : circuit.qubits ≡ qubits = better.qubits in
     let back : Proportional qubits qubits (amp circuit.gates) (amp_elementary again) =
     subst (λ n. Proportional n n (amp circuit.gates) (amp_elementary again)) as_many
     (proportional_sym circuit.qubits circuit.qubits (amp_elementary again) (amp circuit.gates) (same_map circuit.qubits circuit.gates is.on_qubits)) in
-    let kept : Proportional qubits qubits (amp from.gates) (amp circuit.gates) =
-    subst (λ n. Proportional n n (amp from.gates) (amp circuit.gates)) same_qubits better.map in
     record {
       qubits = qubits;
       read = read;
       circuit = circuit;
-      valid = is;
       accepted = accepted;
-      optimises = record {
-        qubits = as_many;
-        map = subst (λ gates. Proportional qubits qubits (amp gates) (amp circuit.gates)) same_gates kept;
-        odd = subst (λ gates. gate_odd_phases circuit.gates ≤ gate_odd_phases gates) same_gates better.odd;
-      };
       spelled = spelled;
-      means = subst (λ n. TextMeans bytes n again) as_many means;
+      means = subst (λ n. TextMeans (written circuit) n again) as_many means;
       same_map = proportional_trans qubits qubits (amp_elementary read) (amp circuit.gates) (amp_elementary again)
-          (proportional_trans qubits qubits (amp_elementary read) (amp from.gates) (amp circuit.gates) map kept) back;
+          (proportional_trans qubits qubits (amp_elementary read) (amp (lowered read)) (amp circuit.gates) map better.map) back;
       no_more_odd = subst (λ n. n ≤ elementary_odd_phases read) (sym (odd_elements circuit.qubits circuit.gates is.on_qubits))
           (subst (λ n. gate_odd_phases circuit.gates ≤ n) odd better.odd);
+      few_gates = subst (λ t. length circuit.gates ≤ gate_bound qubits t) odd better.few_gates;
+      valid = is;
+      optimises = better;
+      is_best = is_best;
+    }
+
+pub IsOptimisedText-written : (best reported : Bool) (text bytes : List ℕ) (qubits : ℕ) (read : List ElementaryGate) (from circuit : Circuit)
+    → IsAccepted text qubits read
+    → from.qubits ≡ qubits → from.gates ≡ lowered read
+    → Proportional qubits qubits (amp_elementary read) (amp from.gates) → gate_odd_phases from.gates ≡ elementary_odd_phases read
+    → Optimises from circuit → (best ≡ true → IsBest from circuit) → IsCircuit circuit
+    → bytes ≡ written circuit ++ report_if reported from.gates circuit.gates
+    → TextMeans (written circuit) circuit.qubits (elements_of circuit.gates) → IsOptimisedText best reported text bytes
+IsOptimisedText-written best reported text bytes qubits read from circuit accepted same_qubits same_gates map odd better is_best is spelled means =
+    let same = same_circuit from qubits (lowered read) same_qubits same_gates in
+    IsOptimisedText-lowered best reported text bytes qubits read circuit accepted
+    (subst (λ gates. Proportional qubits qubits (amp_elementary read) (amp gates)) same_gates map)
+    (subst (λ gates. gate_odd_phases gates ≡ elementary_odd_phases read) same_gates odd)
+    (subst (λ c. Optimises c circuit) same better)
+    (λ asked. subst (λ c. IsBest c circuit) same (is_best asked)) is
+    (subst (λ gates. bytes ≡ written circuit ++ report_if reported gates circuit.gates) same_gates spelled) means
+
+-- the report of a circuit that optimises the one of a seed
+pub IsGenerationReport-written : (seed qubits gates : ℕ) (bytes : List ℕ) (read made : Circuit)
+    → read.qubits ≡ qubits → read.gates ≡ generated seed qubits gates → Optimises read made
+    → bytes ≡ generation_line seed qubits gates ++ report_lines (counts_of read.gates) (counts_of made.gates)
+    → IsGenerationReport seed qubits gates bytes
+IsGenerationReport-written seed qubits gates bytes read made same_qubits same_gates better spelled =
+    record {
+      made = made;
+      optimises = subst (λ circuit. Optimises circuit made) (same_circuit read qubits (generated seed qubits gates) same_qubits same_gates) better;
+      spelled = subst (λ list. bytes ≡ generation_line seed qubits gates ++ report_lines (counts_of list) (counts_of made.gates)) same_gates spelled;
     }

@@ -1,4 +1,3 @@
-pub mod Command
 pub mod FirstFault
 pub mod Optimising
 pub mod Outcome

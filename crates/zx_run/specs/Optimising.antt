@@ -1,12 +1,67 @@
 -- What the optimiser may make of a circuit.
-use Rattle.std.specs.Prelude.{◌≡◌, ◌≤◌}
+use Rattle.std.specs.Prelude.{◌≡◌, ◌<◌, ◌≤◌, ◌⊎◌, ◌+◌, ◌*◌, ℕ, List, length}
+use Rattle.std.specs.List.{count_by}
 use Rattle.zx_model.specs.Proportional.{Proportional}
+use Rattle.zx_calculus.specs.Graph.{Graph}
+use Rattle.zx_calculus.specs.Steps.{Step, IsRun}
+use Rattle.zx_calculus.specs.Reduced.{odd_phases, IsReduced}
+use Rattle.zx_gates.specs.declared.gate.Gate.{Gate}
+use Rattle.zx_gates.specs.declared.tally.Counts.{Counts}
 use Rattle.zx_gates.specs.Circuit.{Circuit, gate_odd_phases}
+use Rattle.zx_gates.specs.Counting.{is_h, is_phase, is_cz, is_cx, is_not, is_two_qubit}
 use Rattle.zx_gates.specs.Maps.{amp}
+use Rattle.circuit_graph.specs.Translation.{IsTranslation}
+use Rattle.zx_peephole.specs.Tidy.{IsTidy}
 
--- the circuit that is made is on as many qubits as the read one, with a proportional linear map
--- and no more odd phases
+-- the most gates of the answer, for n qubits and t odd phases
+abbrev pub gate_bound : ℕ → ℕ → ℕ
+gate_bound n t = 4 * n * n + 6 * n + 3 * n * t
+
+-- the most gates of the answer to a circuit
+abbrev pub bound_of : Circuit → ℕ
+bound_of read = gate_bound read.qubits (gate_odd_phases read.gates)
+
+-- Rewrites lead from a graph of the circuit that is read to a reduced one, which has at least as many
+-- odd phases as the circuit that is made.
+pub record IsThroughReduced (read made : Circuit) : Type 0 where
+  pub start : Graph
+  pub steps : List Step
+  pub end : Graph
+  pub translation : IsTranslation read start
+  pub run : IsRun start steps end
+  pub reduced : IsReduced end
+  pub odd : gate_odd_phases made.gates ≤ odd_phases end
+
+-- The circuit that is made is on as many qubits as the read one, with a proportional linear map and no
+-- more odd phases. No gates in it cancel or merge, and it has no more than the bound.
 pub record Optimises (read made : Circuit) : Type 0 where
   pub qubits : made.qubits ≡ read.qubits
   pub map : Proportional read.qubits read.qubits (amp read.gates) (amp made.gates)
   pub odd : gate_odd_phases made.gates ≤ gate_odd_phases read.gates
+  pub tidy : IsTidy made.gates
+  pub few_gates : length made.gates ≤ bound_of read
+  pub reduced : IsThroughReduced read made
+
+-- how many gates of each kind there are
+abbrev pub counts_of : List Gate → Counts
+counts_of gates = record {
+  total = length gates;
+  odd = gate_odd_phases gates;
+  two_qubit = count_by is_two_qubit gates;
+  h = count_by is_h gates;
+  phase = count_by is_phase gates;
+  cz = count_by is_cz gates;
+  cx = count_by is_cx gates;
+  nots = count_by is_not gates;
+}
+
+-- Fewer odd phases; or as many of them and fewer gates on two qubits; or as many of both and no more gates
+-- in all.
+abbrev pub IsNoDearer : Counts → Counts → Type 0
+IsNoDearer a b =
+    (a.odd < b.odd) ⊎ ((a.odd ≡ b.odd)
+    × ((a.two_qubit < b.two_qubit) ⊎ ((a.two_qubit ≡ b.two_qubit) × (a.total ≤ b.total))))
+
+-- where the read circuit is within the bound, the one that is made is no dearer
+abbrev pub IsBest : Circuit → Circuit → Type 0
+IsBest read made = length read.gates ≤ bound_of read → IsNoDearer (counts_of made.gates) (counts_of read.gates)

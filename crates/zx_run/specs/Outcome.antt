@@ -1,42 +1,82 @@
 -- What a run may write, and what it did to the output.
-use Rattle.std.specs.Prelude.{◌≡◌, ◌≢◌, ◌≤◌, ◌⊎◌, ◌++◌, ℕ, List, take, Option, Some}
+use Rattle.std.specs.Prelude.{◌≡◌, ◌≢◌, ◌≤◌, ◌⊎◌, ◌++◌, ℕ, Bool, true, false, List, [], length, take, codes, decimal, Option, Some}
 use Rattle.zx_gates.specs.declared.elementary.ElementaryGate.{ElementaryGate}
+use Rattle.zx_gates.specs.declared.gate.Gate.{Gate}
 use Rattle.zx_gates.specs.Circuit.{Circuit, IsCircuit}
 use Rattle.zx_gates.specs.Elementary.{elementary_odd_phases}
 use Rattle.zx_gates.specs.ElementaryMaps.{amp_elementary}
 use Rattle.zx_gates.specs.Lowering.{lowered}
+use Rattle.zx_gen.specs.Generator.{generated}
 use Rattle.zx_model.specs.Proportional.{Proportional}
+use Rattle.zx_report.specs.Report.{report_lines}
+use Rattle.zx_words.specs.declared.words.Command.{Command}
+use Rattle.zx_words.specs.declared.words.Command.TheVariants.{Optimise, Generate}
 use Rattle.qasm_scope.specs.Texts.{TextMeans}
 use Rattle.qasm_writer.specs.Elements.{elements_of}
+use Rattle.qasm_writer.specs.Written.{written}
 use Rattle.zx_run.specs.declared.status.Status.{Status}
 use Rattle.zx_run.specs.declared.status.Status.TheVariants.{Done, Refused, Usage, ReadFault, WriteFault, NoMemory, No}
 use Rattle.zx_run.specs.declared.status.Fault.{Fault}
 use Rattle.zx_run.specs.declared.status.Fault.TheVariants.{TooLong}
-use Rattle.zx_run.specs.declared.words.Command.{Command}
-use Rattle.zx_run.specs.declared.words.Command.TheVariants.{Optimise}
-use Rattle.qasm_writer.specs.Written.{written}
 use Rattle.zx_run.specs.FirstFault.{IsAccepted}
-use Rattle.zx_run.specs.Optimising.{Optimises}
+use Rattle.zx_run.specs.Optimising.{Optimises, IsBest, gate_bound, counts_of}
 
--- The bytes are what `opt` may write for a text: the text has no fault, and they are the text of a
--- circuit that optimises the one that is meant, lowered. Read again, they mean the same linear map
--- up to a nonzero scalar, with no more odd phases.
-pub record IsOptimisedText (text bytes : List ℕ) : Type 0 where
+-- a number of qubits, and gates on them
+abbrev pub circuit_on : ℕ → List Gate → Circuit
+circuit_on qubits gates = record { qubits = qubits; gates = gates }
+
+-- the report of two lists of gates, where it is asked for
+abbrev pub report_if : Bool → List Gate → List Gate → List ℕ
+report_if true read made = report_lines (counts_of read) (counts_of made)
+report_if false read made = []
+
+-- The bytes are what `opt` may write for a text, with the flags `best` and `report` or without: the text
+-- has no fault, and they are the text of a circuit that optimises the one that is meant, lowered, and its
+-- report. That text means, with n qubits and t odd phases in the text that was read, the same linear map up
+-- to a nonzero scalar, with at most t odd phases and at most 4*n*n + 6*n + 3*n*t gates, each a line.
+pub record IsOptimisedText (best report : Bool) (text bytes : List ℕ) : Type 0 where
   pub qubits : ℕ
   pub read : List ElementaryGate
   pub circuit : Circuit
-  pub valid : IsCircuit circuit
   pub accepted : IsAccepted text qubits read
-  pub optimises : Optimises (record { qubits = qubits; gates = lowered read }) circuit
-  pub spelled : bytes ≡ written circuit
-  pub means : TextMeans bytes qubits (elements_of circuit.gates)
+  pub spelled : bytes ≡ written circuit ++ report_if report (lowered read) circuit.gates
+  -- the headline
+  pub means : TextMeans (written circuit) qubits (elements_of circuit.gates)
   pub same_map :
       Proportional qubits qubits (amp_elementary read) (amp_elementary (elements_of circuit.gates))
   pub no_more_odd : elementary_odd_phases (elements_of circuit.gates) ≤ elementary_odd_phases read
+  pub few_gates : length circuit.gates ≤ gate_bound qubits (elementary_odd_phases read)
+  -- what more is known of the circuit
+  pub valid : IsCircuit circuit
+  pub optimises : Optimises (circuit_on qubits (lowered read)) circuit
+  pub is_best : best ≡ true → IsBest (circuit_on qubits (lowered read)) circuit
 
--- the bytes are what a command may write for the text that it reads
-abbrev pub IsOutputFor : Command → List ℕ → List ℕ → Type 0
-IsOutputFor Optimise text bytes = IsOptimisedText text bytes
+-- the line of the words of `gen`
+abbrev pub generation_line : ℕ → ℕ → ℕ → List ℕ
+generation_line seed qubits gates =
+    codes "// gen " ++ decimal seed ++ codes " " ++ decimal qubits ++ codes " " ++ decimal gates ++ codes "\n"
+
+-- the bytes are what `gen` may write: its words, and the report of the circuit of the seed and of one that
+-- optimises it
+pub record IsGenerationReport (seed qubits gates : ℕ) (bytes : List ℕ) : Type 0 where
+  pub made : Circuit
+  pub optimises : Optimises (circuit_on qubits (generated seed qubits gates)) made
+  pub spelled : bytes ≡ generation_line seed qubits gates
+      ++ report_lines (counts_of (generated seed qubits gates)) (counts_of made.gates)
+
+-- the bytes are what a command may write, where this is told as left in the source
+abbrev pub IsOutputFor : Command → Option (List ℕ) → List ℕ → Type 0
+IsOutputFor (Optimise best report) left bytes =
+    (text : List ℕ) → left ≡ Some text → IsOptimisedText best report text bytes
+IsOutputFor (Generate seed qubits gates) left bytes = IsGenerationReport seed qubits gates bytes
+
+-- the words give `opt`, with or without its flags
+abbrev pub IsOpt : Option Command → Type 0
+IsOpt given = (best report : Bool) × (given ≡ Some (Optimise best report))
+
+-- the words give `gen`
+abbrev pub IsGen : Option Command → Type 0
+IsGen given = (seed qubits gates : ℕ) × (given ≡ Some (Generate seed qubits gates))
 
 -- what was told as taken gained all of these bytes
 abbrev pub Gains : Option (List ℕ) → Option (List ℕ) → List ℕ → Type 0
@@ -47,15 +87,15 @@ abbrev pub GainsPrefix : Option (List ℕ) → Option (List ℕ) → List ℕ �
 GainsPrefix old new bytes =
     (before : List ℕ) → old ≡ Some before → (k : ℕ) × (new ≡ Some (before ++ take k bytes))
 
--- the output gained all that the command may write for the text
-abbrev pub GainsOutputFor : Command → List ℕ → Option (List ℕ) → Option (List ℕ) → Type 0
-GainsOutputFor command text old new =
-    (bytes : List ℕ) × IsOutputFor command text bytes × Gains old new bytes
+-- the output gained all that the command may write, where this is told as left in the source
+abbrev pub GainsOutputFor : Command → Option (List ℕ) → Option (List ℕ) → Option (List ℕ) → Type 0
+GainsOutputFor command left old new =
+    (bytes : List ℕ) × IsOutputFor command left bytes × Gains old new bytes
 
--- the output gained a prefix of what the command may write for the text
-abbrev pub GainsPrefixFor : Command → List ℕ → Option (List ℕ) → Option (List ℕ) → Type 0
-GainsPrefixFor command text old new =
-    (bytes : List ℕ) × IsOutputFor command text bytes × GainsPrefix old new bytes
+-- the output gained a prefix of what the command may write
+abbrev pub GainsPrefixFor : Command → Option (List ℕ) → Option (List ℕ) → Option (List ℕ) → Type 0
+GainsPrefixFor command left old new =
+    (bytes : List ℕ) × IsOutputFor command left bytes × GainsPrefix old new bytes
 
 -- the answers after which the output is as it was
 abbrev pub LeavesOutput : Status → Type 0
@@ -74,3 +114,7 @@ IsOrNoMemory expected status = (status ≡ expected) ⊎ (status ≡ NoMemory)
 -- the answers of `opt` after which the source was read to its end
 abbrev pub SaysEnd : Status → Type 0
 SaysEnd status = (status ≡ Done) ⊎ ((fault : Fault) × (fault ≢ TooLong) × (status ≡ Refused fault))
+
+-- the answers that `gen` may give
+abbrev pub IsAnswerOfGen : Status → Type 0
+IsAnswerOfGen status = (status ≡ WriteFault) ⊎ IsOrNoMemory Done status

@@ -2,18 +2,17 @@
 #![tactic(auto)]
 
 mod error_line;
+mod generation;
 pub mod laws;
-#[cfg(test)]
-mod matrices;
 mod no_output;
 mod optimiser;
 mod output;
 mod program;
 mod reader;
+mod reporting;
 pub mod status;
 #[cfg(test)]
 mod tests;
-mod words;
 
 pub use optimiser::optimise;
 pub use program::run;

@@ -1,25 +1,123 @@
 //! Circuits through the graph and back.
 
-ghost use Rattle.std.specs.Prelude.{◌≡◌, ◌≤◌, IfOk};
+ghost use Rattle.std.specs.Prelude.{◌≡◌, ◌≤◌, ◌<◌, true, length, nat_le, IfOk};
 ghost use Rattle.zx_model.specs.Proportional.{Proportional};
 ghost use Rattle.zx_gates.specs.Circuit.{gate_odd_phases};
 ghost use Rattle.zx_gates.specs.Maps.{amp};
+ghost use Rattle.zx_peephole.specs.Tidy.{IsTidy};
+ghost use Rattle.zx_run.specs.Optimising.{bound_of, counts_of, gate_bound, IsBest, IsNoDearer, IsThroughReduced, Optimises};
+ghost use Rattle.zx_run.specs.Internal.Candidates.{IsCleaned, is_dearer};
 
 use circuit_graph::translate;
 use std::alloc::{AllocError, Global};
+use std::marker::Brand;
+use std::sync::ledger::{Blank, Ledger};
 use zx_extract::extract;
-use zx_gates::GateList;
+use zx_gates::{Counts, GateList, Qubit, counts};
+use zx_peephole::tidy;
+use zx_reduce::{Steps, Trace, reduce};
 
-/// The optimised circuit: its linear map is the read one's up to a nonzero scalar, and it has no
-/// more odd phases.
-pub fn optimise(alloc: Global, read: &GateList) -> Result<GateList, AllocError>
+/// The optimised circuit: its linear map is the read one's up to a nonzero scalar, it has no more odd
+/// phases, and few gates for these and its qubits.
+///
+/// With `best` the read circuit after cleanup is a candidate too, where that has few enough gates. The
+/// candidate with the fewest odd phases is taken, then that with the fewest gates on two qubits, then
+/// the shorter one.
+///
+/// # Errors
+///
+/// Only where memory runs out.
+pub fn optimise(alloc: Global, read: &GateList, best: bool) -> Result<GateList, AllocError>
     ensures qubits { IfOk result (λ made. made.qubits ≡ read.now.qubits) }
     ensures map { IfOk result (λ made.
         Proportional read.now.qubits read.now.qubits (amp read.now.gates) (amp made.gates)) }
     ensures odd { IfOk result (λ made. gate_odd_phases made.gates ≤ gate_odd_phases read.now.gates) }
+    ensures tidy { IfOk result (λ made. IsTidy made.gates) }
+    ensures few_gates { IfOk result (λ made. length made.gates ≤ bound_of read.now) }
+    ensures reduced { IfOk result (IsThroughReduced read.now) }
+    ensures best { best ≡ true → IfOk result (IsBest read.now) }
 {
-    let (graph, flow) = translate(alloc, read)?;
+    let simplified = simplify::<Brand>(alloc, read, Blank::new(1))?;
+    if best {
+        better(alloc, read, simplified)
+    } else {
+        Ok(simplified)
+    }
+}
+
+/// The circuit of the reduced graph, after cleanup. The moves are counted for nobody.
+fn simplify<L: Ledger>(alloc: Global, read: &GateList, blank: Blank) -> Result<GateList, AllocError>
+    requires name { blank.name ≡ L.name }
+    requires parts { blank.parts ≡ L.parts }
+    requires some { 0 < L.parts }
+    ensures { IfOk result (Optimises read.now) }
+{
     // A circuit has no more qubits than `extract` takes outputs.
     prove!(read.qubits() <= 1_024);
-    extract(alloc, graph, flow)
+    let (mut graph, mut flow) = translate(alloc, read)?;
+    let mut trace = Trace::new(alloc);
+    let mut moves = Steps::<L>::new(blank);
+    reduce(&mut graph, &mut flow, &mut trace, &mut moves)?;
+    let mut made = extract(alloc, graph, flow)?;
+    tidy(&mut made);
+    Ok(made)
+}
+
+/// The simplified circuit, or the read one after cleanup where that is within the bound and cheaper.
+fn better(alloc: Global, read: &GateList, simplified: GateList) -> Result<GateList, AllocError>
+    requires { Optimises read.now simplified }
+    ensures optimises { IfOk result (Optimises read.now) }
+    ensures best { IfOk result (IsBest read.now) }
+{
+    if !is_within_bound(read.qubits(), counts(read)) {
+        return Ok(simplified);
+    }
+    let cleaned = cleaned(alloc, read)?;
+    if is_dearer(counts(&simplified), counts(&cleaned)) {
+        Ok(cleaned)
+    } else {
+        Ok(simplified)
+    }
+}
+
+/// Whether so many qubits and gates are within the bound for what is written.
+fn is_within_bound(qubits: Qubit, read: Counts) -> bool
+    ensures { result ≡ nat_le read.total (gate_bound qubits read.odd) }
+{
+    let n = u128::from(qubits);
+    u128::from(read.total) <= 4 * n * n + 6 * n + 3 * n * u128::from(read.odd)
+}
+
+/// Whether one circuit has more odd phases than another, or as many and more gates on two qubits, or as
+/// many of both and more gates.
+fn is_dearer(this: Counts, that: Counts) -> bool
+    ensures { result ≡ is_dearer this that }
+{
+    if this.odd != that.odd {
+        return this.odd > that.odd;
+    }
+    if this.two_qubit != that.two_qubit {
+        return this.two_qubit > that.two_qubit;
+    }
+    this.total > that.total
+}
+
+/// The read circuit after cleanup.
+fn cleaned(alloc: Global, read: &GateList) -> Result<GateList, AllocError>
+    ensures { IfOk result (IsCleaned read.now) }
+{
+    let mut made = copied(alloc, read)?;
+    tidy(&mut made);
+    Ok(made)
+}
+
+/// An equal circuit.
+fn copied(alloc: Global, read: &GateList) -> Result<GateList, AllocError>
+    ensures { IfOk result (λ made. made ≡ read.now) }
+{
+    let mut made = GateList::new(alloc, read.qubits());
+    for gate in read.gates() {
+        made.push(*gate)?;
+    }
+    Ok(made)
 }

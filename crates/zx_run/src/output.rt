@@ -1,27 +1,51 @@
-//! From the text that is read to the text that is written.
+//! From the text that is read to what is written for it.
 
 ghost use Rattle.std.specs.Prelude.{◌≡◌, ◌≤◌, length, Err, IfOk};
 ghost use Rattle.zx_run.specs.declared.status.Fault.{Fault};
 ghost use Rattle.zx_run.specs.FirstFault.{IsFirstFault, most_bytes};
-ghost use Rattle.zx_run.specs.Outcome.{IsOptimisedText};
+ghost use Rattle.zx_run.specs.Outcome.{IsOptimisedText, report_if};
 
 use crate::no_output::NoOutput;
 use crate::optimiser::optimise;
 use crate::reader::read_circuit;
+use crate::reporting::report_of;
 use qasm_writer::write_text;
-use std::alloc::Global;
-use zx_gates::lower;
+use std::alloc::{AllocError, Global};
+use zx_gates::{GateList, lower};
 
-/// The text of the optimised circuit, or the first fault of the text that is read.
-pub fn optimised_text(alloc: Global, text: &[u8]) -> Result<Vec<u8>, NoOutput>
+/// The text of the optimised circuit, with a report where that is asked for, or the first fault of the
+/// text that is read.
+pub fn optimised_text(
+    alloc: Global,
+    text: &[u8],
+    best: bool,
+    reported: bool,
+) -> Result<Vec<u8>, NoOutput>
     requires { length text.now ≤ most_bytes }
-    ensures output { IfOk result (λ output. IsOptimisedText text.now output.items) }
+    ensures output { IfOk result (λ output. IsOptimisedText best reported text.now output.items) }
     ensures fault { (fault : Fault) → result ≡ Err (NoOutput.Fault fault)
         → IsFirstFault text.now fault }
 {
     let read = read_circuit(alloc, text)?;
     let lowered = lower(alloc, &read)?;
-    let optimised = optimise(alloc, &lowered)?;
-    let output = write_text(alloc, &optimised)?;
+    let optimised = optimise(alloc, &lowered, best)?;
+    let lines = report_if(alloc, reported, &lowered, &optimised)?;
+    let mut output = write_text(alloc, &optimised)?;
+    output.extend_from_slice(&lines)?;
     Ok(output)
+}
+
+/// The report of two circuits where it is asked for, and else nothing.
+fn report_if(
+    alloc: Global,
+    reported: bool,
+    read: &GateList,
+    made: &GateList,
+) -> Result<Vec<u8>, AllocError>
+    ensures { IfOk result (λ lines. lines.items ≡ report_if reported read.now.gates made.now.gates) }
+{
+    if !reported {
+        return Ok(Vec::new(alloc));
+    }
+    report_of(alloc, read, made)
 }

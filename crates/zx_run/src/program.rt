@@ -1,32 +1,34 @@
 //! A run of the program, over any source and sinks.
 
-ghost use Rattle.std.specs.Prelude.{◌≡◌, ◌≢◌, ◌↔◌, List, ℕ, [], None, Some};
+ghost use Rattle.std.specs.Prelude.{◌≡◌, ◌≢◌, List, ℕ, [], None, Some, IfOk, IfErr};
 ghost use Rattle.zx_io.specs.Causes.{Rose};
+ghost use Rattle.zx_words.specs.declared.words.Command.{Command};
+ghost use Rattle.zx_words.specs.declared.words.Command.TheVariants.{Optimise};
+ghost use Rattle.zx_words.specs.Command.{command_in};
 ghost use Rattle.zx_run.specs.declared.status.Fault.{Fault};
-ghost use Rattle.zx_run.specs.declared.words.Command.{Command};
-ghost use Rattle.zx_run.specs.declared.words.Command.TheVariants.{Optimise};
-ghost use Rattle.zx_run.specs.Command.{command_in};
 ghost use Rattle.zx_run.specs.FirstFault.{IsFaultless, IsFirstFault};
-ghost use Rattle.zx_run.specs.Outcome.{Gains, GainsOutputFor, GainsPrefix, GainsPrefixFor, IsOrNoMemory, LeavesOutput, SaysEnd};
+ghost use Rattle.zx_run.specs.Outcome.{Gains, GainsOutputFor, GainsPrefix, GainsPrefixFor, IsAnswerOfGen, IsGen, IsOpt, IsOrNoMemory, LeavesOutput, SaysEnd};
 ghost use Rattle.zx_run.specs.ErrorLine.{error_line};
-ghost use Rattle.zx_run.specs.Internal.Answers.{IsAnswer, ends};
+ghost use Rattle.zx_run.specs.Internal.Answers.{IsAnswer, IsFailure, IsMade, ends, told_output, told_source};
 
 use crate::error_line::report;
+use crate::generation::generation_report;
 use crate::no_output::NoOutput;
 use crate::output::optimised_text;
 use crate::status::{Fault, Status};
-use crate::words::{Command, command_from};
 use std::alloc::Global;
 use zx_io::{ReadError, Sink, Source, WriteFault, read_all, write_all};
+use zx_words::{Command, command_from};
 
 /// The most bytes that are read.
 const MOST_BYTES: usize = 16_777_216;
 
 /// Runs the command that the words give, those after the program's name: `opt` reads a text from
-/// `source` to its end, and writes the text of the optimised circuit to `out`. A line about any
+/// `source` to its end, and writes the text of the optimised circuit to `out`, with `--report` its
+/// report too; `gen` reads nothing, and writes the report of a circuit from a seed. A line about any
 /// other answer than Done goes to `err`, whose failures change nothing.
 ///
-/// Want of memory may take the place of Done and of a refusal, and of no other answer.
+/// Want of memory may take the place of Done, of Usage and of a refusal, and of no other answer.
 pub fn run<'a, S: Source, O: Sink, E: Sink>(
     alloc: Global,
     words: &'a [&'a str],
@@ -38,12 +40,14 @@ pub fn run<'a, S: Source, O: Sink, E: Sink>(
     ensures done { result ≡ Status.Done →
         (S.faults source.new ≡ S.faults source.old) × (O.faults out.new ≡ O.faults out.old) }
     ensures done_flushed { result ≡ Status.Done → O.pending out.new ≡ 0 }
-    ensures done_output { (command : Command) (text : List ℕ) → result ≡ Status.Done →
-        command_in words.now ≡ Some command → S.left source.old ≡ Some text →
-        GainsOutputFor command text (O.taken out.old) (O.taken out.new) }
+    ensures done_output { (command : Command) → result ≡ Status.Done →
+        command_in words.now ≡ Some command →
+        GainsOutputFor command (S.left source.old) (O.taken out.old) (O.taken out.new) }
 
-    // Usage: exactly where the words are no command. Nothing is read then.
-    ensures usage { (result ≡ Status.Usage) ↔ (command_in words.now ≡ None) }
+    // Usage: only where the words are no command, and always there, unless memory runs out. Nothing is
+    // read then.
+    ensures usage { result ≡ Status.Usage → command_in words.now ≡ None }
+    ensures usage_where { command_in words.now ≡ None → IsOrNoMemory Status.Usage result }
     ensures usage_unread { result ≡ Status.Usage → source.new ≡ source.old }
 
     // Refused: no read failed. Of `opt` exactly where the fault is the first one of the text,
@@ -51,9 +55,8 @@ pub fn run<'a, S: Source, O: Sink, E: Sink>(
     ensures refused { (fault : Fault) → result ≡ Status.Refused fault
         → S.faults source.new ≡ S.faults source.old }
     ensures refused_first { (fault : Fault) (text : List ℕ) → result ≡ Status.Refused fault →
-        command_in words.now ≡ Some Optimise → S.left source.old ≡ Some text →
-        IsFirstFault text fault }
-    ensures refused_where { (fault : Fault) (text : List ℕ) → command_in words.now ≡ Some Optimise →
+        IsOpt (command_in words.now) → S.left source.old ≡ Some text → IsFirstFault text fault }
+    ensures refused_where { (fault : Fault) (text : List ℕ) → IsOpt (command_in words.now) →
         S.left source.old ≡ Some text → ¬ Rose (S.faults source.old) (S.faults source.new) →
         IsFirstFault text fault → IsOrNoMemory (Status.Refused fault) result }
 
@@ -66,18 +69,24 @@ pub fn run<'a, S: Source, O: Sink, E: Sink>(
     ensures write_fault { result ≡ Status.WriteFault →
         Rose (O.faults out.old) (O.faults out.new) × (S.faults source.new ≡ S.faults source.old) }
     ensures write_fault_where { O.faults out.new ≢ O.faults out.old → result ≡ Status.WriteFault }
-    ensures write_fault_output { (command : Command) (text : List ℕ) → result ≡ Status.WriteFault →
-        command_in words.now ≡ Some command → S.left source.old ≡ Some text →
-        GainsPrefixFor command text (O.taken out.old) (O.taken out.new) }
-    ensures never_no { command_in words.now ≡ Some Optimise → result ≢ Status.No }
+    ensures write_fault_output { (command : Command) → result ≡ Status.WriteFault →
+        command_in words.now ≡ Some command →
+        GainsPrefixFor command (S.left source.old) (O.taken out.old) (O.taken out.new) }
+    ensures never_no { IsOpt (command_in words.now) → result ≢ Status.No }
 
     // A text without fault is optimised, unless an end fails or memory runs out.
-    ensures complete { (text : List ℕ) → IsFaultless text → command_in words.now ≡ Some Optimise →
+    ensures complete { (text : List ℕ) → IsFaultless text → IsOpt (command_in words.now) →
         S.left source.old ≡ Some text → ¬ Rose (S.faults source.old) (S.faults source.new) →
         ¬ Rose (O.faults out.old) (O.faults out.new) → IsOrNoMemory Status.Done result }
 
+    // `gen` reads nothing, and is done unless the output fails or memory runs out.
+    ensures gen_answers { IsGen (command_in words.now) → IsAnswerOfGen result }
+    ensures gen_complete { IsGen (command_in words.now) →
+        ¬ Rose (O.faults out.old) (O.faults out.new) → IsOrNoMemory Status.Done result }
+    ensures gen_unread { IsGen (command_in words.now) → source.new ≡ source.old }
+
     // What stands after the answer.
-    ensures read_to_end { (text : List ℕ) → command_in words.now ≡ Some Optimise →
+    ensures read_to_end { (text : List ℕ) → IsOpt (command_in words.now) →
         S.left source.old ≡ Some text → SaysEnd result → S.left source.new ≡ Some [] }
     ensures out_kept { LeavesOutput result → out.new ≡ out.old }
     ensures err_prefix { GainsPrefix (E.taken err.old) (E.taken err.new) (error_line result) }
@@ -88,42 +97,79 @@ pub fn run<'a, S: Source, O: Sink, E: Sink>(
     report(status, err)
 }
 
-/// The answer, without its line.
-fn answer<S: Source, O: Sink>(alloc: Global, words: &[&str], source: &mut S, out: &mut O) -> Status
-    ensures usage { (result ≡ Status.Usage) ↔ (command_in words.now ≡ None) }
-    ensures unread { result ≡ Status.Usage → source.new ≡ source.old }
+/// The answer, without its line. The whole output is made before the first byte is written.
+fn answer<'a, S: Source, O: Sink>(
+    alloc: Global,
+    words: &'a [&'a str],
+    source: &mut S,
+    out: &mut O,
+) -> Status
+    ensures unread { ¬ IsOpt (command_in words.now) → source.new ≡ source.old }
     ensures out_kept { LeavesOutput result → out.new ≡ out.old }
     ensures answers { IsAnswer (command_in words.now)
-        (ends S.left S.faults O.taken O.faults O.pending source.old out.old)
-        (ends S.left S.faults O.taken O.faults O.pending source.new out.new) result }
+        (ends (told_source S.left S.faults source.old) (told_output O.taken O.faults O.pending out.old))
+        (ends (told_source S.left S.faults source.new) (told_output O.taken O.faults O.pending out.new))
+        result }
 {
-    match command_from(words) {
-        None => Status::Usage,
-        Some(Command::Optimise) => optimise_from(alloc, source, out),
-    }
-}
-
-/// Reads a text, and writes the text of the optimised circuit.
-fn optimise_from<S: Source, O: Sink>(alloc: Global, source: &mut S, out: &mut O) -> Status
-    ensures no_usage { result ≢ Status.Usage }
-    ensures out_kept { LeavesOutput result → out.new ≡ out.old }
-    ensures answers { IsAnswer (Some Optimise)
-        (ends S.left S.faults O.taken O.faults O.pending source.old out.old)
-        (ends S.left S.faults O.taken O.faults O.pending source.new out.new) result }
-{
-    let text = match read_all(alloc, source, MOST_BYTES) {
-        Ok(text) => text,
-        Err(ReadError::ReadFault) => return Status::ReadFault,
-        Err(ReadError::TooLong) => return Status::Refused(Fault::TooLong),
-        Err(ReadError::NoMemory) => return Status::NoMemory,
-    };
-    let output = match optimised_text(alloc, &text) {
+    let output = match output_of(alloc, words, source) {
         Ok(output) => output,
-        Err(NoOutput::Fault(fault)) => return Status::Refused(fault),
-        Err(NoOutput::NoMemory) => return Status::NoMemory,
+        Err(status) => return status,
     };
     match write_all(out, &output) {
         Ok(()) => Status::Done,
         Err(WriteFault) => Status::WriteFault,
+    }
+}
+
+/// What the command that the words give writes, or the answer where there is nothing to write.
+fn output_of<'a, S: Source>(
+    alloc: Global,
+    words: &'a [&'a str],
+    source: &mut S,
+) -> Result<Vec<u8>, Status>
+    ensures unread { ¬ IsOpt (command_in words.now) → source.new ≡ source.old }
+    ensures made { IfOk result (λ output. IsMade (command_in words.now)
+        (told_source S.left S.faults source.old) (told_source S.left S.faults source.new) output.items) }
+    ensures failure { IfErr result (IsFailure (command_in words.now)
+        (told_source S.left S.faults source.old) (told_source S.left S.faults source.new)) }
+{
+    match command_from(alloc, words)? {
+        None => Err(Status::Usage),
+        Some(Command::Optimise { best, report }) => output_of_opt(alloc, best, report, source),
+        Some(
+            Command::Generate {
+                seed,
+                qubits,
+                gates,
+            },
+        ) => {
+            let output = generation_report(alloc, seed, qubits, gates)?;
+            Ok(output)
+        }
+    }
+}
+
+/// What `opt` writes for the text that the source gives.
+fn output_of_opt<S: Source>(
+    alloc: Global,
+    best: bool,
+    report: bool,
+    source: &mut S,
+) -> Result<Vec<u8>, Status>
+    ensures made { IfOk result (λ output. IsMade (Some (Optimise best report))
+        (told_source S.left S.faults source.old) (told_source S.left S.faults source.new) output.items) }
+    ensures failure { IfErr result (IsFailure (Some (Optimise best report))
+        (told_source S.left S.faults source.old) (told_source S.left S.faults source.new)) }
+{
+    let text = match read_all(alloc, source, MOST_BYTES) {
+        Ok(text) => text,
+        Err(ReadError::ReadFault) => return Err(Status::ReadFault),
+        Err(ReadError::TooLong) => return Err(Status::Refused(Fault::TooLong)),
+        Err(ReadError::NoMemory) => return Err(Status::NoMemory),
+    };
+    match optimised_text(alloc, &text, best, report) {
+        Ok(output) => Ok(output),
+        Err(NoOutput::Fault(fault)) => Err(Status::Refused(fault)),
+        Err(NoOutput::NoMemory) => Err(Status::NoMemory),
     }
 }

@@ -8,9 +8,7 @@ ghost use Rattle.zx_run.specs.Internal.Parsing.{no_output_by};
 
 use crate::no_output::NoOutput;
 use crate::status::Fault;
-use qasm_inline::{InlineError, inline};
-use qasm_lexer::{LexError, lex};
-use qasm_reader::{ParseError, parse};
+use qasm_inline::{ReadError, read};
 use qasm_scope::Cause;
 use std::alloc::Global;
 use zx_gates::Elementary;
@@ -23,30 +21,22 @@ pub fn read_circuit(alloc: Global, text: &[u8]) -> Result<Elementary, NoOutput>
     ensures fault { (fault : Fault) → result ≡ Err (NoOutput.Fault fault)
         → IsFirstFault text.now fault }
 {
-    let tokens = match lex(alloc, text) {
-        Ok(tokens) => tokens,
-        Err(LexError::BadByte { at }) => return Err(NoOutput::Fault(Fault::BadByte { at })),
-        Err(LexError::NoMemory) => return Err(NoOutput::NoMemory),
-    };
-    let program = match parse(alloc, &tokens) {
-        Ok(program) => program,
-        Err(error) => return Err(no_output_by(error)),
-    };
-    match inline(alloc, &program) {
+    match read(alloc, text) {
         Ok(circuit) => Ok(circuit),
-        Err(InlineError::Fault { cause, at }) => Err(NoOutput::Fault(fault_of(cause, at))),
-        Err(InlineError::NoMemory) => Err(NoOutput::NoMemory),
+        Err(error) => Err(no_output_by(error)),
     }
 }
 
-/// Why tokens are no program.
-fn no_output_by(error: ParseError) -> NoOutput
+/// Why a text has no circuit.
+fn no_output_by(error: ReadError) -> NoOutput
     ensures { result ≡ no_output_by error }
 {
     match error {
-        ParseError::TooDeep { at } => NoOutput::Fault(Fault::TooDeep { at }),
-        ParseError::Syntax { at } => NoOutput::Fault(Fault::Syntax { at }),
-        ParseError::NoMemory => NoOutput::NoMemory,
+        ReadError::BadByte { at } => NoOutput::Fault(Fault::BadByte { at }),
+        ReadError::TooDeep { at } => NoOutput::Fault(Fault::TooDeep { at }),
+        ReadError::Syntax { at } => NoOutput::Fault(Fault::Syntax { at }),
+        ReadError::Wrong { cause, at } => NoOutput::Fault(fault_of(cause, at)),
+        ReadError::NoMemory => NoOutput::NoMemory,
     }
 }
 

@@ -1,5 +1,10 @@
 //! What a run of the program may answer.
 
+ghost use Rattle.std.specs.Prelude.{◌≡◌};
+ghost use Rattle.zx_run.specs.declared.status.Status.TheVariants.{NoMemory};
+
+use std::alloc::AllocError;
+
 /// Why a text is refused. `at` is a place in the text, from 0: that of the first byte of the statement, but for
 /// `BadByte` that of the byte, and for `TooDeep` of parentheses that of the parenthesis. `line` is the number of a
 /// line, from 1.
@@ -68,4 +73,12 @@ pub enum Status {
     NoMemory,
     /// The diagram's table is no flow. `opt` never gives it.
     No,
+}
+
+impl From<AllocError> for Status {
+    ghost from_gives = { λ _ status. status ≡ NoMemory };
+
+    fn from(_error: AllocError) -> Status {
+        Status::NoMemory
+    }
 }

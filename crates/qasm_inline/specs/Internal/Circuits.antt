@@ -1,14 +1,18 @@
--- What the answers of the inliner say of a program: a private matter of the program.
-use Rattle.std.specs.Prelude.{◌≡◌, List, [], map, None, Some, Result, Ok, Err}
-use Rattle.std.specs.Borrow.{Bor}
+-- What a circuit that takes in statements keeps, and what its answer says of them: a private matter of the program.
+use Rattle.std.specs.Prelude.{◌≡◌, ℕ, List, [], ◌++◌, None, Some, Result, Ok, Err}
 use Rattle.zx_gates.specs.declared.elementary.Elementary.{Elementary}
-use Rattle.qasm_reader.specs.declared.program.Statement.{Statement}
+use Rattle.zx_gates.specs.declared.elementary.ElementaryGate.{ElementaryGate}
 use Rattle.qasm_reader.specs.Syntax.{Placed}
-use Rattle.qasm_reader.specs.Views.{placed}
+use Rattle.qasm_inline.specs.declared.circuit.Circuit.{Circuit}
+use Rattle.qasm_inline.specs.declared.circuit.Stage.{Stage}
+use Rattle.qasm_inline.specs.declared.circuit.Stage.TheVariants.{Empty, Open, Stopped}
 use Rattle.qasm_inline.specs.declared.error.InlineError.{InlineError}
 use Rattle.qasm_inline.specs.declared.error.InlineError.TheVariants.{Fault, NoMemory}
+use Rattle.qasm_inline.specs.declared.unroll.Unrolled.{Unrolled}
+use Rattle.qasm_scope.specs.declared.names.Names.{Names}
+use Rattle.qasm_scope.specs.Internal.Kept.{Represents}
 use Rattle.qasm_scope.specs.Meaning.{first_fault, fault_after, gates_after, most_calls, scope_after}
-use Rattle.qasm_scope.specs.Scope.{qubit_count}
+use Rattle.qasm_scope.specs.Scope.{Scope, qubit_count}
 
 -- the circuit of a program, or its first fault
 abbrev pub IsCircuitAnswer : List Placed → Result Elementary InlineError → Type 0
@@ -17,13 +21,33 @@ IsCircuitAnswer program (Ok circuit) =
 IsCircuitAnswer program (Err (Fault cause at)) = first_fault most_calls program ≡ Some (cause, at)
 IsCircuitAnswer program (Err NoMemory) = Unit {0}
 
--- the statements after the version mean what the program does
-pub record IsAfterVersion (program rest : List Placed) : Type 0 where
-  pub same_fault : first_fault most_calls program ≡ fault_after most_calls [] 0 rest
-  pub same_scope : scope_after [] program ≡ scope_after [] rest
-  pub same_gates : gates_after [] program ≡ gates_after [] rest
+-- Behind these statements, any others mean what they do from this scope, so many calls and these gates on.
+pub record LeadsTo (program : List Placed) (scope : Scope) (calls : ℕ) (gates : List ElementaryGate) : Type 0 where
+  pub same_fault : (more : List Placed) → first_fault most_calls (program ++ more) ≡ fault_after most_calls scope calls more
+  pub same_scope : (more : List Placed) → scope_after [] (program ++ more) ≡ scope_after scope more
+  pub same_gates : (more : List Placed) → gates_after [] (program ++ more) ≡ gates ++ gates_after scope more
 
-abbrev pub IsVersionAnswer : List Placed → Result (Bor (List Statement)) InlineError → Type 0
-IsVersionAnswer program (Ok rest) = IsAfterVersion program (map placed rest.now)
-IsVersionAnswer program (Err (Fault cause at)) = first_fault most_calls program ≡ Some (cause, at)
-IsVersionAnswer program (Err NoMemory) = Unit {0}
+-- the names and gates are those after these statements, which have no fault
+pub record IsOpen (program : List Placed) (names : Names) (unrolled : Unrolled) : Type 0 where
+  pub scope : Scope
+  pub represents : Represents names scope
+  pub leads : LeadsTo program scope unrolled.calls unrolled.gates
+
+-- there is no statement yet, and nothing is declared
+pub record IsEmpty (program : List Placed) (names : Names) (unrolled : Unrolled) : Type 0 where
+  pub none : program ≡ []
+  pub represents : Represents names []
+  pub no_calls : unrolled.calls ≡ 0
+  pub no_gates : unrolled.gates ≡ []
+
+-- what is kept at a stage is what these statements come to
+abbrev pub HasTakenAt : Stage → List Placed → Names → Unrolled → Type 0
+HasTakenAt Empty program names unrolled = IsEmpty program names unrolled
+HasTakenAt Open program names unrolled = IsOpen program names unrolled
+HasTakenAt (Stopped (Fault cause at)) program names unrolled =
+    (more : List Placed) → first_fault most_calls (program ++ more) ≡ Some (cause, at)
+HasTakenAt (Stopped NoMemory) program names unrolled = Unit {0}
+
+-- the circuit has taken in these statements
+abbrev pub HasTaken : Circuit → List Placed → Type 0
+HasTaken circuit program = HasTakenAt circuit.stage program circuit.names circuit.unrolled

@@ -1,5 +1,5 @@
 -- What calls of kept gates come to: a private matter of the program. It is what calls by name come to.
-use Rattle.std.specs.Prelude.{◌≡◌, ℕ, ◌+◌, ◌==◌, Bool, false, if◌then◌else◌, List, [], ◌∷◌, ◌++◌, map, Option, None, Some, Result, Ok, Err, slice_get, slice_index_or}
+use Rattle.std.specs.Prelude.{◌≡◌, ℕ, ◌+◌, ◌==◌, Bool, false, if◌then◌else◌, List, [], ◌∷◌, ◌++◌, length, map, Option, None, Some, Result, Ok, Err, slice_get, slice_index_or}
 use Rattle.std.specs.Prelude.{Vec}
 use Rattle.zx_gates.specs.declared.elementary.ElementaryGate.{ElementaryGate}
 use Rattle.qasm_angle.specs.declared.angle.Angle.{Angle}
@@ -11,6 +11,8 @@ use Rattle.qasm_scope.specs.declared.gates.GateCall.{GateCall}
 use Rattle.qasm_scope.specs.declared.gates.CalledGate.{CalledGate}
 use Rattle.qasm_scope.specs.declared.gates.CalledGate.TheVariants as called_gate
 use Rattle.qasm_inline.specs.declared.unroll.Frame.{Frame}
+use Rattle.qasm_inline.specs.declared.unroll.Unrolled.{Unrolled}
+use Rattle.qasm_scope.specs.Meaning.{most_calls}
 use Rattle.qasm_scope.specs.Angles.{in_prefix, with_cause}
 use Rattle.qasm_scope.specs.Internal.Kept.{gate_count}
 use Rattle.qasm_scope.specs.Scope.{Scope, Meaning, Qubits, Bits, Gate}
@@ -63,12 +65,31 @@ stack_events numbered depth [] = []
 stack_events numbered depth (f ∷ frames) =
     stack_events numbered (depth + 1) frames ++ calls_events numbered depth f.angles.items f.qubits.items f.calls.now
 
+-- what is left where a gate is on top of the stack
+abbrev pub left_events : Numbered → Frame → List Frame → List Event
+left_events numbered f frames =
+    calls_events numbered (1 + length frames) f.angles.items f.qubits.items f.calls.now ++ stack_events numbered 1 frames
+
+-- what is left where a gate is called above the stack
+abbrev pub entered_events : Numbered → CalledGate → List Angle → List ℕ → List Frame → List Event
+entered_events numbered called angles qubits frames =
+    expand_called numbered called (1 + length frames) angles qubits ++ stack_events numbered 1 frames
+
 -- From so many calls and these gates the events lead to what the others lead to from there.
 pub record Continues (most : ℕ) (calls : ℕ) (gates : List ElementaryGate) (events : List Event)
     (later_calls : ℕ) (later_gates : List ElementaryGate) (later_events : List Event) : Type 0 where
   pub same_wrong : first_wrong most calls events ≡ first_wrong most later_calls later_events
   pub same_gates : gates ++ applied events ≡ later_gates ++ applied later_events
   pub same_calls : calls + call_count events ≡ later_calls + call_count later_events
+
+-- from what is unrolled the events lead to what the later ones lead to from there
+abbrev pub ComesTo : Unrolled → List Event → Unrolled → List Event → Type 0
+ComesTo unrolled events later later_events =
+    Continues most_calls unrolled.calls unrolled.gates events later.calls later.gates later_events
+
+-- what is wrong first in the events from what is unrolled on
+abbrev pub wrong_from : Unrolled → List Event → Option Cause
+wrong_from unrolled events = first_wrong most_calls unrolled.calls events
 
 -- a gate that acts
 abbrev pub gate_events : Option ElementaryGate → List Event

@@ -1,6 +1,6 @@
 -- Arguments of applications by what names are kept as: a private matter of the program.
-use Rattle.std.specs.Prelude.{ℕ, ◌+◌, ◌-◌, ◌^◌, ◌==◌, Bool, false, not, ◌&&◌, ◌||◌, List, [], ◌∷◌, map, length, min, Option, None, Some, nat_le, nat_lt}
-use Rattle.std.specs.List.{list_any, range_with_len}
+use Rattle.std.specs.Prelude.{ℕ, ◌+◌, ◌-◌, ◌^◌, ◌==◌, Bool, false, not, ◌&&◌, ◌||◌, List, [], ◌∷◌, map, length, min, Option, None, Some, Result, nat_le, nat_lt}
+use Rattle.std.specs.List.{flat_map, list_any, range_with_len}
 use Rattle.std.specs.Option.{is_some}
 use Rattle.qasm_reader.specs.Syntax.{Operand, Apply}
 use Rattle.qasm_scope.specs.Applications.{QubitRange, Single, Register, qubit_at, register_sizes, instance_count, instances, has_twice}
@@ -10,7 +10,11 @@ use Rattle.qasm_scope.specs.Internal.Entries.{has_unplaced}
 use Rattle.qasm_scope.specs.Faults.{is_no_gate, has_other_shape, has_other_size}
 use Rattle.qasm_scope.specs.Internal.Kept.{found, symbol_register}
 use Rattle.qasm_scope.specs.Scope.{numeral}
+use Rattle.qasm_angle.specs.declared.angle.Angle.{Angle}
+use Rattle.qasm_scope.specs.Calls.{Event}
+use Rattle.qasm_scope.specs.declared.gates.CalledGate.{CalledGate}
 use Rattle.qasm_inline.specs.declared.applications.Span.{Span}
+use Rattle.qasm_inline.specs.Internal.KeptCalls.{Numbered, called_events}
 use Rattle.qasm_scope.specs.declared.causes.Cause.{Cause}
 use Rattle.qasm_scope.specs.declared.places.Places.{Places}
 use Rattle.qasm_inline.specs.declared.applications.Span.TheVariants as span
@@ -66,6 +70,10 @@ cut_instance ranges index = map (cut_qubit_at index) ranges
 
 abbrev pub cut_instances : List QubitRange → List (List ℕ)
 cut_instances ranges = map (cut_instance ranges) (range_with_len 0 (instance_count (register_sizes ranges)))
+
+-- what the calls of a gate in all instances come to
+abbrev pub instances_events : Numbered → CalledGate → Result (List Angle) Cause → List QubitRange → List Event
+instances_events numbered called values ranges = flat_map (called_events numbered called 1 values) (cut_instances ranges)
 
 -- what is wrong with an application, in which these are the places of parameters
 abbrev pub wrong_application_by : Symbols → Places → Apply → Option Cause

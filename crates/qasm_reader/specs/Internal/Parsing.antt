@@ -1,5 +1,5 @@
 -- What the answer of the parser means.
-use Rattle.std.specs.Prelude.{◌≡◌, ℕ, List, Option, None, Some, Result, Ok, Err}
+use Rattle.std.specs.Prelude.{◌≡◌, List, Option, None, Some, Result, Ok, Err}
 use denote.Ref.{Bor}
 use Rattle.qasm_lexer.specs.declared.token.Token.{Token}
 use Rattle.qasm_lexer.specs.Tokens.{Lexeme, lexemes}
@@ -7,10 +7,12 @@ use Rattle.qasm_reader.specs.declared.error.ParseError.{ParseError}
 use Rattle.qasm_reader.specs.declared.error.ParseError.TheVariants.{Syntax, TooDeep, NoMemory}
 use Rattle.qasm_reader.specs.declared.program.Program.{Program}
 use Rattle.qasm_reader.specs.declared.program.Statement.{Statement}
-use Rattle.qasm_reader.specs.Syntax.{Placed, Sentence}
+use Rattle.qasm_reader.specs.Syntax.{Placed}
 use Rattle.qasm_reader.specs.Views.{sentence, statements_of}
 use Rattle.qasm_reader.specs.Depth.{too_deep}
-use Rattle.qasm_reader.specs.Grammar.{IsProgram, IsSyntaxFault}
+use Rattle.qasm_reader.specs.Grammar.{BeginsAt, IsProgram, IsSyntaxFault}
+use Rattle.qasm_reader.specs.Internal.Taking.{statement}
+use Rattle.std.specs.declared.alloc.AllocError.{AllocError}
 
 -- the answer is the program of these statements, unless memory ran out
 abbrev pub AnswersProgram : List Placed → Result Program ParseError → Type 0
@@ -33,12 +35,11 @@ IsAnswer ts (Err NoMemory) = Unit {0}
 IsAnswer ts (Err (Syntax at)) = (too_deep ts ≡ None) × IsSyntaxFault ts at
 IsAnswer ts (Err (TooDeep at)) = too_deep ts ≡ Some at
 
--- what the answer says of one statement, which begins at this place
-abbrev pub IsStep : ℕ → Result (Statement × Bor (List Token)) ParseError → Option (Sentence × List Lexeme) → Type 0
-IsStep place (Ok x) read = (x.0.place ≡ place) × (read ≡ Some (sentence x.0.kind, lexemes x.1.now))
-IsStep place (Err NoMemory) read = Unit {0}
-IsStep place (Err (Syntax at)) read = (at ≡ place) × (read ≡ None)
-IsStep place (Err (TooDeep at)) read = ⊥
+-- what the answer says of the statement at the start
+abbrev pub IsNext : List Lexeme → Result (Option (Statement × Bor (List Token))) AllocError → Type 0
+IsNext ts (Ok (Some x)) = BeginsAt ts x.0.place × (statement ts ≡ Some (sentence x.0.kind, lexemes x.1.now))
+IsNext ts (Ok None) = statement ts ≡ None
+IsNext ts (Err error) = Unit {0}
 
 -- what the answer says of how deep parentheses are
 abbrev pub IsDepthAnswer : List Token → Result (Bor (List Token)) ParseError → Type 0

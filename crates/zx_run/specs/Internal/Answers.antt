@@ -1,71 +1,98 @@
 -- What the answer of a run says of the two ends.
-use Rattle.std.specs.Prelude.{◌≡◌, ◌≢◌, ℕ, List, [], Option, Some}
+use Rattle.std.specs.Prelude.{◌≡◌, ◌≢◌, ℕ, List, [], Option, None, Some}
 use Rattle.zx_io.specs.Causes.{Rose}
-use Rattle.zx_run.specs.declared.words.Command.{Command}
-use Rattle.zx_run.specs.declared.words.Command.TheVariants.{Optimise}
+use Rattle.zx_words.specs.declared.words.Command.{Command}
+use Rattle.zx_words.specs.declared.words.Command.TheVariants.{Optimise}
 use Rattle.zx_run.specs.declared.status.Status.{Status}
 use Rattle.zx_run.specs.declared.status.Status.TheVariants.{Done, Refused, Usage, ReadFault, WriteFault, NoMemory, No}
+use Rattle.zx_run.specs.declared.status.Fault.{Fault}
 use Rattle.zx_run.specs.declared.status.Fault.TheVariants.{TooLong}
 use Rattle.zx_run.specs.FirstFault.{IsFirstFault}
-use Rattle.zx_run.specs.Outcome.{GainsOutputFor, GainsPrefixFor}
+use Rattle.zx_run.specs.Outcome.{Gains, GainsPrefix, IsOutputFor}
 
--- what is told of the source and of the output at one moment: the bytes that are left, those that
--- were taken, how many calls of each failed, and how many bytes wait for a flush
-pub record Ends : Type 0 where
+-- what is told of a source: the bytes that are left, and how many calls failed
+pub record ToldSource : Type 0 where
   pub left : Option (List ℕ)
-  pub read_faults : ℕ
+  pub faults : ℕ
+
+-- what is told of an output: the bytes that were taken, how many calls failed, and how many bytes wait
+-- for a flush
+pub record ToldOutput : Type 0 where
   pub taken : Option (List ℕ)
-  pub write_faults : ℕ
+  pub faults : ℕ
   pub pending : ℕ
 
--- the same of a source and an output, by the functions that tell it of them
-abbrev pub ends : {S O : Type 0} → (S → Option (List ℕ)) → (S → ℕ)
-    → (O → Option (List ℕ)) → (O → ℕ) → (O → ℕ) → S → O → Ends
-ends left read_faults taken write_faults pending source out = record {
-  left = left source;
-  read_faults = read_faults source;
-  taken = taken out;
-  write_faults = write_faults out;
-  pending = pending out;
-}
+-- the same, by the functions that tell it
+abbrev pub told_source : {S : Type 0} → (S → Option (List ℕ)) → (S → ℕ) → S → ToldSource
+told_source left faults source = record { left = left source; faults = faults source }
 
--- the count of reads that failed stayed
-abbrev pub ReadsWell : Ends → Ends → Type 0
-ReadsWell before after = after.read_faults ≡ before.read_faults
+abbrev pub told_output : {O : Type 0} → (O → Option (List ℕ)) → (O → ℕ) → (O → ℕ) → O → ToldOutput
+told_output taken faults pending out = record { taken = taken out; faults = faults out; pending = pending out }
 
--- the count of writes and flushes that failed stayed
-abbrev pub WritesWell : Ends → Ends → Type 0
-WritesWell before after = after.write_faults ≡ before.write_faults
+-- the bytes are what was asked for
+abbrev pub IsOutputOf : Option Command → Option (List ℕ) → List ℕ → Type 0
+IsOutputOf None left bytes = ⊥
+IsOutputOf (Some command) left bytes = IsOutputFor command left bytes
 
--- the output took what the command may write for the text: all of it, or a prefix, as `Takes` says
-abbrev pub Writes : (Command → List ℕ → Option (List ℕ) → Option (List ℕ) → Type 0)
-    → Option Command → Ends → Ends → Type 0
-Writes Takes given before after =
-    (command : Command) → given ≡ Some command → (text : List ℕ) → before.left ≡ Some text →
-    Takes command text before.taken after.taken
+-- where `opt` is asked for, a text that is told as left was read to its end
+abbrev pub IsAllRead : Option Command → ToldSource → ToldSource → Type 0
+IsAllRead (Some (Optimise best report)) before after =
+    (text : List ℕ) → before.left ≡ Some text → after.left ≡ Some []
+IsAllRead other before after = Unit {0}
 
--- of a text that `opt` reads a fact holds
-abbrev pub OfText : (List ℕ → Type 0) → Option Command → Ends → Type 0
-OfText Fact given before =
-    given ≡ Some Optimise → (text : List ℕ) → before.left ≡ Some text → Fact text
+-- an output was made, and no read failed
+pub record IsMade (given : Option Command) (before after : ToldSource) (bytes : List ℕ) : Type 0 where
+  pub reads_well : after.faults ≡ before.faults
+  pub output : IsOutputOf given before.left bytes
+  pub all_read : IsAllRead given before after
 
--- the source was read to its end
-abbrev pub IsAtEnd : Ends → Type 0
-IsAtEnd after = after.left ≡ Some []
+-- `opt` is asked for, the fault is the first one of the text, and but for a text that is too long all was read
+abbrev pub IsRefused : Fault → Option Command → ToldSource → ToldSource → Type 0
+IsRefused fault (Some (Optimise best report)) before after =
+    (text : List ℕ) → before.left ≡ Some text →
+    IsFirstFault text fault × (fault ≢ TooLong → after.left ≡ Some [])
+IsRefused fault other before after = ⊥
+
+-- `opt` is asked for
+abbrev pub AsksForOpt : Option Command → Type 0
+AsksForOpt (Some (Optimise best report)) = Unit {0}
+AsksForOpt other = ⊥
+
+-- no output was made, for this reason
+abbrev pub IsFailure : Option Command → ToldSource → ToldSource → Status → Type 0
+IsFailure given before after Done = ⊥
+IsFailure given before after (Refused fault) =
+    (after.faults ≡ before.faults) × IsRefused fault given before after
+IsFailure given before after Usage = (after.faults ≡ before.faults) × (given ≡ None)
+IsFailure given before after ReadFault = Rose before.faults after.faults × AsksForOpt given
+IsFailure given before after WriteFault = ⊥
+IsFailure given before after NoMemory = after.faults ≡ before.faults
+IsFailure given before after No = ⊥
+
+-- all of the bytes were written and flushed
+pub record IsWritten (before after : ToldOutput) (bytes : List ℕ) : Type 0 where
+  pub writes_well : after.faults ≡ before.faults
+  pub flushed : after.pending ≡ 0
+  pub gains : Gains before.taken after.taken bytes
+
+-- a write or a flush failed
+pub record IsCutShort (before after : ToldOutput) (bytes : List ℕ) : Type 0 where
+  pub rose : Rose before.faults after.faults
+  pub gains : GainsPrefix before.taken after.taken bytes
+
+-- what is told of both ends at one moment
+pub record Ends : Type 0 where
+  pub source : ToldSource
+  pub output : ToldOutput
+
+abbrev pub ends : ToldSource → ToldOutput → Ends
+ends source output = record { source = source; output = output }
 
 -- what an answer says of the ends before and after a run of the command that was given
 abbrev pub IsAnswer : Option Command → Ends → Ends → Status → Type 0
 IsAnswer given before after Done =
-    ReadsWell before after × WritesWell before after × (after.pending ≡ 0)
-    × Writes GainsOutputFor given before after × OfText (λ _. IsAtEnd after) given before
-IsAnswer given before after (Refused fault) =
-    ReadsWell before after × WritesWell before after
-    × OfText (λ text. IsFirstFault text fault × (fault ≢ TooLong → IsAtEnd after)) given before
-IsAnswer given before after Usage = ReadsWell before after × WritesWell before after
-IsAnswer given before after ReadFault =
-    Rose before.read_faults after.read_faults × WritesWell before after
+    (bytes : List ℕ) × IsMade given before.source after.source bytes × IsWritten before.output after.output bytes
 IsAnswer given before after WriteFault =
-    Rose before.write_faults after.write_faults × ReadsWell before after
-    × Writes GainsPrefixFor given before after
-IsAnswer given before after NoMemory = ReadsWell before after × WritesWell before after
-IsAnswer given before after No = ⊥
+    (bytes : List ℕ) × IsMade given before.source after.source bytes × IsCutShort before.output after.output bytes
+IsAnswer given before after status =
+    IsFailure given before.source after.source status × (after.output ≡ before.output)

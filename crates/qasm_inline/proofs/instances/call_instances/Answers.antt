@@ -22,7 +22,7 @@ pub returns-in_err-instance-clause-err : goal.returns-in_err-instance-clause-err
 returns-in_err-instance-clause-err c = λ cause numbered e unrolls.
     let p = err_from_is_err_and c.from_residual-in_err-instance.result c.from_residual-in_err-instance.ensures.1 in
     let same : c.instance.result ≡ Err (Wrong cause) = c.in_err-instance.was ∙ ap Err (sym p.2) ∙ sym p.1 ∙ e in
-    let qubits : c.deref.result.now ≡ cut_instance (map span_range c.args.spans.now) c.loop-index.index = c.deref.ensures.value ∙ c.in_ok-qubits.ensures in
+    let qubits : c.in_ok-qubits.qubits.items ≡ cut_instance (map span_range c.args.spans.now) c.loop-index.index = c.in_ok-qubits.ensures in
     wrong-instance _ _ _ _ _ _ (λ index. called_events numbered c.args.called 1 (given c.args.values.now) (cut_instance (map span_range c.args.spans.now) index)) _ _ cause
     c.loop-index-test.true (c.loop-index.invariant numbered unrolls)
     (ap (λ q. first_wrong most_calls c.loop-index.unrolled.calls (called_events numbered c.args.called 1 (given c.args.values.now) q)) (sym qubits)
@@ -30,7 +30,7 @@ returns-in_err-instance-clause-err c = λ cause numbered e unrolls.
 
 pub loop-index-preserved : goal.loop-index-preserved
 loop-index-preserved c = λ numbered unrolls.
-    let qubits : c.deref.result.now ≡ cut_instance (map span_range c.args.spans.now) c.loop-index.index = c.deref.ensures.value ∙ c.in_ok-qubits.ensures in
+    let qubits : c.in_ok-qubits.qubits.items ≡ cut_instance (map span_range c.args.spans.now) c.loop-index.index = c.in_ok-qubits.ensures in
     Continues-instance _ _ _ _ _ _ _ _ (λ index. called_events numbered c.args.called 1 (given c.args.values.now) (cut_instance (map span_range c.args.spans.now) index)) _ _
     c.loop-index-test.true (c.loop-index.invariant numbered unrolls)
     (Continues-join _ _ _ _ _ _ _ _ _ _

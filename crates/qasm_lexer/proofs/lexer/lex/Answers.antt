@@ -1,39 +1,37 @@
 -- Each piece lengthens the cut; a place where none begins is a bad byte; and there is one cut or bad byte at most.
-use Rattle.std.proofs.Common.{◌≡◌, ap, arith, inl, subst, length-drop}
-use Rattle.qasm_lexer.specs.declared.errors.LexError.TheVariants.{BadByte}
+use Rattle.std.proofs.Common.{◌≡◌, ◌⊎◌, Err, ap, sym, ◌∙◌, subst, arith, length-drop, []}
+use Rattle.std.specs.Prelude.{IfErr, IsErrAnd, MatchResult}
+use Rattle.std.proofs.lemmas.Result.{err_from_is_err_and}
+use Rattle.qasm_lexer.specs.declared.errors.LexError.TheVariants.{BadByte, NoMemory}
 use Rattle.qasm_lexer.specs.Tokens.{IsBadByte, IsCut, lexemes}
-use Rattle.qasm_lexer.proofs.Cuts.{same_tokens, same_byte, not_both, cut_at_end}
-use Rattle.qasm_lexer.proofs.Lexing.{bad_here, piece_fits, piece_length, cut_more}
+use Rattle.qasm_lexer.proofs.Cuts.{same_tokens, not_both, cut_at_end}
+use Rattle.qasm_lexer.proofs.Lexing.{bad_or_memory, only_memory}
 use Rattle.qasm_lexer.proofs.lexer.lex.Goals as goal
-use Rattle.qasm_lexer.proofs.lexer.lex.Goals.{After-drop-tokens, After-loop-place}
-
--- the bad byte at the loop's place
-bad : (c : After-drop-tokens) → IsBadByte c.args.text.now c.loop-place.place
-bad c = bad_here _ _ c.loop-place-test.true _ c.first_piece.ensures _ c.in_default.is c.loop-place.invariant.cut
-
-pub returns-in_default-clause-only : goal.returns-in_default-clause-only
-returns-in_default-clause-only c = λ tokens cut. absurd (not_both _ tokens _ cut (bad c))
-
-pub returns-in_default-clause-bad_byte : goal.returns-in_default-clause-bad_byte
-returns-in_default-clause-bad_byte c = λ at e. let k : c.loop-place.place ≡ at = cc in subst (λ p. IsBadByte c.args.text.now p) k (bad c)
-
-pub returns-in_default-clause-bad_byte_only : goal.returns-in_default-clause-bad_byte_only
-returns-in_default-clause-bad_byte_only c = λ at b. inl (ap BadByte (same_byte _ _ at (bad c) b))
-
-pub slice_bounds-push_piece-end : goal.slice_bounds-push_piece-end
-slice_bounds-push_piece-end c = piece_length _ _ c.loop-place-test.true _ c.first_piece.ensures _ _ c.in-Some.is
-
-pub overflow_add-place : goal.overflow_add-place
-overflow_add-place c = omega (arith, piece_fits _ _ c.loop-place-test.true _ c.first_piece.ensures _ _ c.in-Some.is)
-
-pub loop-place-smaller : goal.loop-place-smaller
-loop-place-smaller c = omega (arith, piece_fits _ _ c.loop-place-test.true _ c.first_piece.ensures _ _ c.in-Some.is)
+use Rattle.qasm_lexer.proofs.lexer.lex.Goals.{After-loop-place}
 
 pub loop-place-preserved : goal.loop-place-preserved
 loop-place-preserved c = record {
-  cut = cut_more _ _ c.loop-place-test.true _ c.first_piece.ensures _ _ c.in-Some.is _ _ c.loop-place.invariant.cut c.in_ok-push_piece.ensures;
-  within = (piece_fits _ _ c.loop-place-test.true _ c.first_piece.ensures _ _ c.in-Some.is).1;
+  cut = c.in_ok-place.ensures.cut [] c.loop-place.invariant.cut;
+  within = c.in_ok-place.ensures.further.1;
 }
+
+pub returns-in_err-place-clause-only : goal.returns-in_err-place-clause-only
+returns-in_err-place-clause-only c = λ tokens cut.
+    let p = err_from_is_err_and c.from_residual.result c.from_residual.ensures.1 in
+    subst (λ r. MatchResult r (λ given. lexemes given.items ≡ tokens) (λ error. error ≡ NoMemory)) (ap Err (sym p.2) ∙ sym p.1)
+    (only_memory c.args.text.now tokens _ (λ at e. c.push_next.ensures.bad_byte (lexemes c.loop-place.tokens.items) at c.loop-place.invariant.cut (c.in_err-place.was ∙ ap Err e)) cut)
+
+pub returns-in_err-place-clause-bad_byte : goal.returns-in_err-place-clause-bad_byte
+returns-in_err-place-clause-bad_byte c = λ at.
+    let p = err_from_is_err_and c.from_residual.result c.from_residual.ensures.1 in
+    subst (λ r. IfErr r (λ error. error ≡ BadByte at → IsBadByte c.args.text.now at)) (ap Err (sym p.2) ∙ sym p.1)
+    (λ e. c.push_next.ensures.bad_byte (lexemes c.loop-place.tokens.items) at c.loop-place.invariant.cut (c.in_err-place.was ∙ ap Err e))
+
+pub returns-in_err-place-clause-bad_byte_only : goal.returns-in_err-place-clause-bad_byte_only
+returns-in_err-place-clause-bad_byte_only c = λ at b.
+    let p = err_from_is_err_and c.from_residual.result c.from_residual.ensures.1 in
+    subst (λ r. IsErrAnd r (λ error. (error ≡ BadByte at) ⊎ (error ≡ NoMemory))) (ap Err (sym p.2) ∙ sym p.1)
+    (bad_or_memory c.args.text.now _ (λ place e. c.push_next.ensures.bad_byte (lexemes c.loop-place.tokens.items) place c.loop-place.invariant.cut (c.in_err-place.was ∙ ap Err e)) at b)
 
 -- the cut that the loop has at its end
 done : (c : After-loop-place) → IsCut 0 c.args.text.now (lexemes c.loop-place.tokens.items)

@@ -5,8 +5,8 @@ use Rattle.qasm_reader.specs.Views.{placed}
 use Rattle.qasm_reader.proofs.Programs.{IsProgramPrefix}
 use Rattle.qasm_reader.proofs.parser.program.Given as goal
 
-abbrev pub invariant-loop-rest : goal.invariant-loop-rest
-invariant-loop-rest l = IsProgramPrefix (lexemes l.tokens) (lexemes l.rest) (map placed l.statements.items)
+abbrev pub invariant-loop-statements : goal.invariant-loop-statements
+invariant-loop-statements l = IsProgramPrefix (lexemes l.tokens) (lexemes l.rest) (map placed l.statements.items)
 
-abbrev pub decreases-loop-rest : goal.decreases-loop-rest
-decreases-loop-rest l = length l.rest
+abbrev pub decreases-loop-statements : goal.decreases-loop-statements
+decreases-loop-statements l = length l.rest

@@ -1,15 +1,16 @@
--- The gates before the next place are tidy, and the list has become no longer.
-use Rattle.std.proofs.Common.{◌-◌, ◌*◌, ◌≤◌, length, take}
+-- What is kept is tidy, and with what isn't read yet it is no longer than the list was.
+use Rattle.std.proofs.Common.{◌+◌, ◌-◌, ◌*◌, ◌≤◌, length, take}
 use Rattle.zx_peephole.specs.Tidy.{IsTidy}
-use Rattle.zx_peephole.specs.Internal.Changes.{IsShortened}
+use Rattle.zx_peephole.specs.Internal.Changes.{IsShortened, left_of}
 use Rattle.zx_peephole.proofs.tidying.tidy.Given as goal
 
-abbrev pub invariant-loop-next : goal.invariant-loop-next
-invariant-loop-next l = record {
-  tidy : IsTidy (take l.next l.g.gates);
-  within : l.next ≤ length l.g.gates;
-  shortened : IsShortened l.fn.g l.g;
+abbrev pub invariant-loop-progress : goal.invariant-loop-progress
+invariant-loop-progress l = record {
+  tidy : IsTidy (take l.progress.kept l.g.gates);
+  kept : l.progress.kept ≤ l.progress.next;
+  within : l.progress.next ≤ length l.g.gates;
+  shortened : IsShortened l.initial.g (left_of l.g l.progress);
 }
 
-abbrev pub decreases-loop-next : goal.decreases-loop-next
-decreases-loop-next l = 2 * length l.g.gates - l.next
+abbrev pub decreases-loop-progress : goal.decreases-loop-progress
+decreases-loop-progress l = l.progress.kept + 2 * (length l.g.gates - l.progress.next)

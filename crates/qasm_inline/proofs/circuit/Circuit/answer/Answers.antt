@@ -1,0 +1,20 @@
+-- The answer at each stage.
+use Rattle.std.proofs.Common.{◌∙◌, subst}
+use Rattle.qasm_inline.specs.Internal.Circuits.{HasTakenAt, IsOpen}
+use Rattle.qasm_inline.proofs.CircuitLemmas.{done-circuit, empty-circuit, refused-circuit}
+use Rattle.qasm_inline.proofs.circuit.Circuit.answer.Goals as goal
+
+pub returns-in-Empty : goal.returns-in-Empty
+returns-in-Empty c = λ program taken.
+    empty-circuit program _ _ (subst (λ stage. HasTakenAt stage program c.args.self.now.names c.args.self.now.unrolled) c.in-Empty.is taken)
+
+pub returns-in-Open : goal.returns-in-Open
+returns-in-Open c = λ program taken.
+    let is : IsOpen program c.args.self.now.names c.args.self.now.unrolled =
+    subst (λ stage. HasTakenAt stage program c.args.self.now.names c.args.self.now.unrolled) c.in-Open.is taken in
+    let done = done-circuit program is.scope _ _ _ c.args.self.now.names.qubits is.leads is.represents.same_qubits c.clamped.ensures in
+    (done.0, done.1, c.replace.ensures.value ∙ done.2)
+
+pub returns-in-Stopped : goal.returns-in-Stopped
+returns-in-Stopped c = λ program taken.
+    refused-circuit program _ _ _ (subst (λ stage. HasTakenAt stage program c.args.self.now.names c.args.self.now.unrolled) c.in-Stopped.is taken)

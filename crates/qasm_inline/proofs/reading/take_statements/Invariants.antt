@@ -1,0 +1,14 @@
+-- What was read off the tokens so far is taken in.
+use Rattle.std.proofs.Common.{List, ◌-◌, ◌≤◌, length, drop}
+use Rattle.qasm_lexer.specs.Tokens.{Lexeme, lexemes}
+use Rattle.qasm_inline.specs.Internal.Readings.{AreTaken}
+use Rattle.qasm_inline.proofs.reading.take_statements.Given as goal
+
+abbrev pub invariant-loop-count : goal.invariant-loop-count
+invariant-loop-count l = record {
+  within : l.taken ≤ length l.tokens.items;
+  read : (all : List Lexeme) → AreTaken all l.fn.circuit (lexemes l.tokens.items) → AreTaken all l.circuit (lexemes (drop l.taken l.tokens.items));
+}
+
+abbrev pub decreases-loop-count : goal.decreases-loop-count
+decreases-loop-count l = length l.tokens.items - l.taken

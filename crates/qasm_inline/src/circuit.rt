@@ -1,0 +1,163 @@
+//! A circuit that takes in the statements of a program one at a time.
+
+ghost use Rattle.std.specs.Prelude.{◌≡◌, ◌⊎◌, ◌∷◌, ◌++◌, [], List, ℕ, None, Some, Err, OnOk, IfOk, codes, if◌then◌else◌};
+ghost use Rattle.std.specs.Str.{bytes_eq};
+ghost use Rattle.qasm_reader.specs.Syntax.{Placed};
+ghost use Rattle.qasm_reader.specs.Views.{placed, sentence};
+ghost use Rattle.zx_gates.specs.Elementary.{IsElementary};
+ghost use Rattle.qasm_scope.specs.declared.causes.Cause.{Cause};
+ghost use Rattle.qasm_inline.specs.Internal.Circuits.{HasTaken, HasTakenAt, IsCircuitAnswer, IsOpen};
+ghost use Rattle.qasm_scope.specs.Meaning.{Means, first_fault, is_version, most_calls};
+
+use crate::error::InlineError;
+use crate::statements::read_statement;
+use crate::unroll::Unrolled;
+use qasm_reader::{Statement, StatementKind};
+use qasm_scope::Cause;
+use qasm_scope::names::Names;
+use qasm_scope::numerals::clamped;
+use qasm_scope::statement_error::StatementError;
+use std::alloc::Global;
+use std::mem::replace;
+use zx_gates::{Elementary, Elements};
+
+/// What a circuit awaits.
+#[derive(Clone, Copy, Debug)]
+enum Stage {
+    /// The version, which has to stand first.
+    Empty,
+    /// Statements after the version.
+    Open,
+    /// Nothing more: a statement was wrong, or memory ran out.
+    Stopped(InlineError),
+}
+
+/// A circuit of built-in gates that takes in the statements of a program, in their order.
+#[derive(Drop)]
+pub struct Circuit<'a> {
+    alloc: Global,
+    stage: Stage,
+    names: Names<'a>,
+    unrolled: Unrolled,
+}
+
+impl<'a> Circuit<'a> {
+    /// The circuit of no statements.
+    pub fn new(alloc: Global) -> Circuit<'a>
+        ensures { HasTaken result [] }
+    {
+        Circuit {
+            alloc,
+            stage: Stage::Empty,
+            names: Names::new(alloc),
+            unrolled: Unrolled::new(alloc),
+        }
+    }
+
+    /// Takes in the next statement. After a fault, or where memory ran out, it does nothing: `finish` tells it.
+    pub fn take(&mut self, statement: &Statement<'a>)
+        ensures { (program : List Placed) → HasTaken self.old program
+            → HasTaken self.new (program ++ placed statement.now ∷ []) }
+    {
+        match self.stage {
+            Stage::Empty => self.stage = after_first(statement),
+            Stage::Open => self.stage = self.after_next(statement),
+            Stage::Stopped(_) => {}
+        }
+    }
+
+    /// The circuit that the statements mean, or the first fault of them.
+    ///
+    /// # Errors
+    ///
+    /// `Fault` with the first statement that something is wrong with, and what; and `NoMemory` where memory ran out.
+    pub fn finish(mut self) -> Result<Elementary, InlineError>
+        // The program has no fault, and the circuit is what it means.
+        ensures faultless { (program : List Placed) → HasTaken self.entry program
+            → OnOk result (first_fault most_calls program ≡ None) }
+        ensures means { (program : List Placed) → HasTaken self.entry program
+            → IfOk result (λ circuit. Means program circuit.qubits circuit.gates) }
+        ensures valid { (program : List Placed) → HasTaken self.entry program
+            → IfOk result (λ circuit. IsElementary circuit) }
+        // The first fault is told, and a program that has one is refused.
+        ensures fault { (program : List Placed) (cause : Cause) (at : ℕ) → HasTaken self.entry program
+            → result ≡ Err (InlineError.Fault cause at)
+            → first_fault most_calls program ≡ Some (cause, at) }
+        ensures refused { (program : List Placed) (cause : Cause) (at : ℕ) → HasTaken self.entry program
+            → first_fault most_calls program ≡ Some (cause, at)
+            → (result ≡ Err InlineError.NoMemory) ⊎ (result ≡ Err (InlineError.Fault cause at)) }
+    {
+        self.answer()
+    }
+
+    /// The circuit that the statements mean, or the first fault of them. The gates are taken out.
+    fn answer(&mut self) -> Result<Elementary, InlineError>
+        ensures { (program : List Placed) → HasTaken self.old program
+            → IsCircuitAnswer program result }
+    {
+        match self.stage {
+            Stage::Empty => Err(InlineError::Fault {
+                cause: Cause::Version,
+                at: 0,
+            }),
+            Stage::Open => Ok(Elementary {
+                qubits: clamped(self.names.qubits),
+                gates: replace(&mut self.unrolled.gates, Elements::new(self.alloc)),
+            }),
+            Stage::Stopped(error) => Err(error),
+        }
+    }
+
+    /// The stage after a statement behind the version.
+    fn after_next(&mut self, statement: &Statement<'a>) -> Stage
+        ensures { (program : List Placed) → IsOpen program self.old.names self.old.unrolled
+            → HasTakenAt result (program ++ placed statement.now ∷ []) self.new.names self.new.unrolled }
+    {
+        match read_statement(
+            self.alloc,
+            &mut self.names,
+            &mut self.unrolled,
+            &statement.kind,
+        ) {
+            Ok(()) => Stage::Open,
+            Err(StatementError::Wrong(cause)) => Stage::Stopped(InlineError::Fault {
+                cause,
+                at: statement.place,
+            }),
+            Err(StatementError::NoMemory) => Stage::Stopped(InlineError::NoMemory),
+        }
+    }
+}
+
+/// The stage after the first statement.
+fn after_first(statement: &Statement<'_>) -> Stage
+    ensures { result
+        ≡ (if is_version (sentence statement.now.kind) then Stage.Open
+        else Stage.Stopped (InlineError.Fault Cause.Version statement.now.place)) }
+{
+    if is_version(&statement.kind) {
+        Stage::Open
+    } else {
+        Stage::Stopped(InlineError::Fault {
+            cause: Cause::Version,
+            at: statement.place,
+        })
+    }
+}
+
+/// Whether the statement is `OPENQASM 2.0;`.
+fn is_version(kind: &StatementKind<'_>) -> bool
+    ensures { result ≡ is_version (sentence kind.now) }
+{
+    match kind {
+        StatementKind::Version(real) => is_two(real),
+        _ => false,
+    }
+}
+
+/// Whether a number is spelled `2.0`.
+fn is_two(real: &[u8]) -> bool
+    ensures { result ≡ bytes_eq real.now (codes "2.0") }
+{
+    real == b"2.0".as_slice()
+}

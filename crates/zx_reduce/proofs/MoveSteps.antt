@@ -1,0 +1,366 @@
+-- Where a move of the first kind applies, each of its rewrites is allowed in the graph that those before it lead to.
+use Rattle.std.proofs.Common.{◌≡◌, ◌≢◌, ◌⊎◌, inl, inr, refl, sym, ◌∙◌, ap, ap₂, subst, ℕ, ◌+◌, ◌%◌, ◌<◌, Bool, true, false, if◌then◌else◌, not, ◌&&◌, ◌||◌, eqb, List, [], ◌∷◌, ◌++◌, true≢false, arith}
+use Rattle.std.proofs.lemmas.Bool.{cases_eq}
+use Rattle.zx_model.specs.Phase.{turn, half_turn, quarter_turn, opposite_phase, is_odd}
+use Rattle.zx_model.specs.Bits.{member}
+use Rattle.zx_model.proofs.Odd.{rest-even}
+use Rattle.zx_calculus.specs.Graph.{Plane, XY, XZ, YZ, Kind, Graph, ids, places, is_XY, kind_of, plane_of, phase_of, joined, without, insert_vertex, Live, Interior, WellFormed}
+use Rattle.zx_calculus.specs.Turns.{in_plane, half_turned, complemented, complemented_in, pivoted}
+use Rattle.zx_calculus.specs.Complement.{complement_kind, delete_kind, IsLocalComplement, IsDelete}
+use Rattle.zx_calculus.specs.Pivots.{pivot_kind, IsPivot}
+use Rattle.zx_calculus.specs.Boundary.{spider_of_phase_zero, is_pair, IsSplitInput, IsSplitOutput}
+use Rattle.zx_calculus.specs.After.{allowed, after}
+use Rattle.zx_calculus.specs.Counts.{has_input, has_output}
+use Rattle.zx_calculus.specs.Reduced.{is_interior}
+use Rattle.zx_calculus.specs.Moves.{IsHalfTurns, IsQuarterTurn, IsBoundaryPivot}
+use Rattle.zx_calculus.specs.Steps as calculus
+use Rattle.zx_calculus.specs.Steps.{IsStep, IsRun}
+use Rattle.zx_calculus.proofs.Booleans.{or-true}
+use Rattle.zx_calculus.proofs.Ids.{by_test, apart_of_member, eqb-self}
+use Rattle.zx_calculus.proofs.Vertices.{ids-with_kinds, kind_of-with_kinds, kind_of-without, member-insert, phase-kind_of}
+use Rattle.zx_calculus.proofs.Splitting.{interior_of, no_loop}
+use Rattle.zx_calculus.proofs.Kept.{step_kept, kind_of-insert_other}
+use Rattle.zx_calculus.proofs.MovedEnds.{member-move_end-old, member-move_end-other}
+use Rattle.zx_calculus.proofs.CountLemmas.{member-without_other}
+use Rattle.zx_calculus.proofs.Programs.{after_step}
+use Rattle.zx_reduce.specs.declared.search.Move.{Move}
+use Rattle.zx_reduce.specs.declared.search.Move.TheVariants as moves
+use Rattle.zx_reduce.specs.Search.{AppliesAt, IsOfFirstKind}
+use Rattle.zx_reduce.specs.Moving.{splits_of, removal_of, steps_of, IsMoved}
+use Rattle.zx_reduce.specs.Internal.Planning.{AreAllowed}
+use Rattle.zx_reduce.proofs.SearchTests.{and_both, half_turns_from, half_turns_to, XY_from, live_near, near_joined}
+use Rattle.zx_reduce.proofs.SearchLaws.{found_allowed}
+
+-- ---- side conditions
+delete_allowed : (g : Graph) (u : ℕ) (kind : Kind) → Live g u → kind_of g.vertices u ≡ kind
+    → is_XY kind.plane ≡ false → IsHalfTurns kind.phase → allowed g (calculus.Delete u) ≡ true
+delete_allowed g u kind there same plane phase =
+    and_both (member u (ids g.vertices) && not (is_XY (plane_of g u)))
+    (eqb (phase_of g u) 0 || eqb (phase_of g u) half_turn)
+    (and_both (member u (ids g.vertices)) (not (is_XY (plane_of g u))) there
+    (ap (λ k. not (is_XY k.plane)) same ∙ ap not plane))
+    (ap (λ k. eqb k.phase 0 || eqb k.phase half_turn) same ∙ half_turns_to kind.phase phase)
+
+interior_by : (g : Graph) (u : ℕ) → has_input g u ≡ false → has_output g u ≡ false → is_interior g u ≡ true
+interior_by g u e f = ap₂ (λ a b. not (a || b)) e f
+
+-- ---- phases
+quarter_turn_by : (k : ℕ) → k < turn → (eqb k 0 || eqb k half_turn) ≡ false → is_odd k ≡ false → IsQuarterTurn k
+quarter_turn_by k below half even = elim (cases_eq k quarter_turn) [
+  | inl e ↦ inl e
+  | inr n ↦ inr (last n (λ e. true≢false (sym (half_turns_to k (inl e)) ∙ half))
+      (λ e. true≢false (sym (half_turns_to k (inr e)) ∙ half))
+      (rest-even k even))
+]
+  where
+    last : k ≢ quarter_turn → k ≢ 0 → k ≢ half_turn → k % quarter_turn ≡ 0 → k ≡ half_turn + quarter_turn
+    last n z h e = omega (arith, n, z, h, e, below)
+
+opposite_half : (k : ℕ) → IsHalfTurns k → IsHalfTurns (opposite_phase k)
+opposite_half k (inl e) = inl (ap opposite_phase e)
+opposite_half k (inr e) = inr (ap opposite_phase e)
+
+opposite_quarter : (k : ℕ) → IsQuarterTurn k → IsQuarterTurn (opposite_phase k)
+opposite_quarter k (inl e) = inr (ap opposite_phase e)
+opposite_quarter k (inr e) = inl (ap opposite_phase e)
+
+-- a local complement about a vertex of a quarter turn, or three, makes it one of half turns
+complemented_phase : (plane : Plane) (k : ℕ) → plane ≢ XZ → IsQuarterTurn k
+    → (is_XY (complemented_in plane k).plane ≡ false) × IsHalfTurns (complemented_in plane k).phase
+complemented_phase XY k n (inl e) = (refl, inr (ap (λ i. (complemented_in XY i).phase) e))
+complemented_phase XY k n (inr e) = (refl, inl (ap (λ i. (complemented_in XY i).phase) e))
+complemented_phase XZ k n e = absurd (n refl)
+complemented_phase YZ k n (inl e) = (refl, inl (ap (λ i. (complemented_in YZ i).phase) e))
+complemented_phase YZ k n (inr e) = (refl, inr (ap (λ i. (complemented_in YZ i).phase) e))
+
+-- ---- what each rewrite leaves of a vertex
+complement_live : (g : Graph) (u : ℕ) (h : Graph) (p : ℕ) → IsLocalComplement g u h → Live g p → Live h p
+complement_live g u h p c there =
+    ap (λ vs. member p (ids vs)) c.vertices
+    ∙ ap (member p) (ids-with_kinds (complement_kind u (joined g.edges u)) g.vertices) ∙ there
+
+complement_kind_of : (g : Graph) (u : ℕ) (h : Graph) → IsLocalComplement g u h
+    → kind_of h.vertices u ≡ complemented (kind_of g.vertices u)
+complement_kind_of g u h c =
+    ap (λ vs. kind_of vs u) c.vertices
+    ∙ kind_of-with_kinds (complement_kind u (joined g.edges u)) u g.vertices c.there ∙ rw (eqb-self u) refl
+
+delete_after_complement : (g : Graph) (u : ℕ) (h : Graph) → plane_of g u ≢ XZ → IsQuarterTurn (phase_of g u)
+    → IsLocalComplement g u h → allowed h (calculus.Delete u) ≡ true
+delete_after_complement g u h plane phase c =
+    let gone = complemented_phase (plane_of g u) (phase_of g u) plane phase in
+    delete_allowed h u (complemented (kind_of g.vertices u)) (complement_live g u h u c c.there)
+    (complement_kind_of g u h c) gone.0 gone.1
+
+pivot_live : (g : Graph) (u v : ℕ) (h : Graph) (p : ℕ) → IsPivot g u v h → Live g p → Live h p
+pivot_live g u v h p c there =
+    ap (λ vs. member p (ids vs)) c.vertices
+    ∙ ap (member p) (ids-with_kinds (pivot_kind u v (joined g.edges u) (joined g.edges v)) g.vertices) ∙ there
+
+pivot_kind_of : (g : Graph) (u v : ℕ) (h : Graph) (p : ℕ) → IsPivot g u v h → Live g p → (eqb p u || eqb p v) ≡ true
+    → kind_of h.vertices p ≡ pivoted (kind_of g.vertices p)
+pivot_kind_of g u v h p c there one =
+    ap (λ vs. kind_of vs p) c.vertices
+    ∙ kind_of-with_kinds (pivot_kind u v (joined g.edges u) (joined g.edges v)) p g.vertices there ∙ rw one refl
+
+pivoted_first : (g : Graph) (u v : ℕ) (h : Graph) → IsPivot g u v h
+    → kind_of h.vertices u ≡ pivoted (kind_of g.vertices u)
+pivoted_first g u v h c = pivot_kind_of g u v h u c c.there (ap (λ b. b || eqb u v) (eqb-self u))
+
+pivoted_second : (g : Graph) (u v : ℕ) (h : Graph) → IsPivot g u v h
+    → kind_of h.vertices v ≡ pivoted (kind_of g.vertices v)
+pivoted_second g u v h c =
+    pivot_kind_of g u v h v c c.there_too (ap (λ b. eqb v u || b) (eqb-self v) ∙ or-true (eqb v u))
+
+in_XY : (g : Graph) (u : ℕ) → plane_of g u ≡ XY → kind_of g.vertices u ≡ in_plane XY (phase_of g u)
+in_XY g u e = ap (λ plane. in_plane plane (phase_of g u)) e
+
+-- an XY vertex of half turns can go after a pivot
+delete_after_pivot : (g : Graph) (u v : ℕ) (h : Graph) → plane_of g u ≡ XY → IsHalfTurns (phase_of g u)
+    → IsPivot g u v h → allowed h (calculus.Delete u) ≡ true
+delete_after_pivot g u v h plane phase c =
+    delete_allowed h u (in_plane YZ (phase_of g u)) (pivot_live g u v h u c c.there)
+    (pivoted_first g u v h c ∙ ap pivoted (in_XY g u plane)) refl phase
+
+-- ---- the boundary move
+-- a deletion leaves another YZ vertex there, of the same phase or the opposite one
+module _ (g : Graph) (u : ℕ) (h : Graph) (b k : ℕ) (c : IsDelete g u h) (other : b ≢ u) (there : Live g b)
+    (kind : kind_of g.vertices b ≡ in_plane YZ k) where
+  still_live : Live h b
+  still_live =
+      ap (λ vs. member b (ids vs)) c.vertices
+      ∙ ap (member b) (ids-with_kinds (delete_kind (phase_of g u) (joined g.edges u)) (without u g.vertices))
+      ∙ member-without_other b u g.vertices other ∙ there
+
+  left_kind : kind_of h.vertices b ≡ delete_kind (phase_of g u) (joined g.edges u) b (in_plane YZ k)
+  left_kind =
+      ap (λ vs. kind_of vs b) c.vertices
+      ∙ kind_of-with_kinds (delete_kind (phase_of g u) (joined g.edges u)) b (without u g.vertices)
+      (member-without_other b u g.vertices other ∙ there)
+      ∙ ap (delete_kind (phase_of g u) (joined g.edges u) b) (kind_of-without b u g.vertices other ∙ kind)
+
+  left_as : (j : ℕ) × (kind_of h.vertices b ≡ in_plane YZ j) × ((j ≡ k) ⊎ (j ≡ opposite_phase k))
+  left_as =
+      by_test (eqb (phase_of g u) half_turn && joined g.edges u b)
+      (λ t. (opposite_phase k, left_kind ∙ ap turned_where t, inr refl))
+      (λ f. (k, left_kind ∙ ap turned_where f, inl refl))
+    where
+      turned_where : Bool → Kind
+      turned_where t = if t then half_turned (in_plane YZ k) else in_plane YZ k
+
+either_half : (j k : ℕ) → (j ≡ k) ⊎ (j ≡ opposite_phase k) → IsHalfTurns k → IsHalfTurns j
+either_half j k (inl e) half = subst IsHalfTurns (sym e) half
+either_half j k (inr e) half = subst IsHalfTurns (sym e) (opposite_half k half)
+
+either_quarter : (j k : ℕ) → (j ≡ k) ⊎ (j ≡ opposite_phase k) → IsQuarterTurn k → IsQuarterTurn j
+either_quarter j k (inl e) quarter = subst IsQuarterTurn (sym e) quarter
+either_quarter j k (inr e) quarter = subst IsQuarterTurn (sym e) (opposite_quarter k quarter)
+
+-- how b goes, a YZ vertex whose phase is `phase` or the opposite of it
+removal_allowed : (g : Graph) (b j phase : ℕ) → Live g b → is_interior g b ≡ true → kind_of g.vertices b ≡ in_plane YZ j
+    → (j ≡ phase) ⊎ (j ≡ opposite_phase phase) → phase < turn → AreAllowed g (removal_of phase b)
+removal_allowed g b j phase there inside kind of_phase below =
+    by_phase (eqb phase 0 || eqb phase half_turn) (is_odd phase) refl refl
+  where
+    by_phase : (half odd : Bool) → (eqb phase 0 || eqb phase half_turn) ≡ half → is_odd phase ≡ odd
+        → AreAllowed g (if half then calculus.Delete b ∷ []
+        else if odd then [] else calculus.LocalComplement b ∷ calculus.Delete b ∷ [])
+    by_phase true odd e f =
+        let gone = either_half j phase of_phase (half_turns_from phase e) in
+        (delete_allowed g b (in_plane YZ j) there kind refl gone, λ h d. tt)
+    by_phase false true e f = tt
+    by_phase false false e f = (
+      and_both (member b (ids g.vertices)) (is_interior g b) there inside,
+      λ h c. (
+        delete_after_complement g b h (λ x. let y : YZ ≡ XZ = sym (ap (λ k. k.plane) kind) ∙ x in cc)
+            (subst IsQuarterTurn (ap (λ k. k.phase) (sym kind))
+            (either_quarter j phase of_phase (quarter_turn_by phase below e f))) c,
+        λ l d. tt,
+      ),
+    )
+
+-- an interior XY vertex u of half turns, and an XY neighbour b of this phase
+record Ready (g : Graph) (u b : ℕ) (phase : ℕ) : Type 0 where
+  well_formed : WellFormed g
+  there : Live g u
+  there_too : Live g b
+  interior : Interior g u
+  plane : plane_of g u ≡ XY
+  half : IsHalfTurns (phase_of g u)
+  kind : kind_of g.vertices b ≡ in_plane XY phase
+  adjacent : joined g.edges u b ≡ true
+
+-- where b holds no end
+rest_allowed : (g : Graph) (u b : ℕ) (phase : ℕ) → Ready g u b phase → has_input g b ≡ false → has_output g b ≡ false
+    → AreAllowed g (calculus.Pivot u b ∷ calculus.Delete u ∷ removal_of phase b)
+rest_allowed g u b phase r no_input no_output = (
+  and_both (member u (ids g.vertices) && member b (ids g.vertices))
+      ((is_interior g u && is_interior g b) && joined g.edges u b)
+      (and_both (member u (ids g.vertices)) (member b (ids g.vertices)) r.there r.there_too)
+      (and_both (is_interior g u && is_interior g b) (joined g.edges u b)
+      (and_both (is_interior g u) (is_interior g b) (interior_by g u r.interior.no_input r.interior.no_output)
+      (interior_by g b no_input no_output)) r.adjacent),
+  λ k c. (
+    delete_after_pivot g u b k r.plane r.half c,
+    λ h d.
+        let kind : kind_of k.vertices b ≡ in_plane YZ phase = pivoted_second g u b k c ∙ ap pivoted r.kind in
+        let live : Live k b = pivot_live g u b k b c r.there_too in
+        let left = left_as k u h b phase d apart live kind in
+        removal_allowed h b left.0 phase (still_live k u h b phase d apart live kind) (inside k h c d) left.1 left.2
+        (subst (λ i. i < turn) (ap (λ i. i.phase) r.kind)
+        (phase-kind_of b g.vertices r.well_formed.phases_below_a_turn)),
+  ),
+)
+  where
+    apart : b ≢ u
+    apart e = true≢false (sym r.adjacent ∙ ap (joined g.edges u) e ∙ no_loop g u r.well_formed)
+
+    inside : (k h : Graph) → IsPivot g u b k → IsDelete k u h → is_interior h b ≡ true
+    inside k h c d =
+        interior_by h b (ap (λ ends. member b (places ends)) (d.inputs ∙ c.inputs) ∙ no_input)
+        (ap (λ ends. member b (places ends)) (d.outputs ∙ c.outputs) ∙ no_output)
+
+-- u holds no end, and b does
+apart_by : (t : ℕ → Bool) (u b : ℕ) → t u ≡ false → t b ≡ true → u ≢ b
+apart_by t u b e f same = true≢false (sym f ∙ ap t (sym same) ∙ e)
+
+old_there : (g h : Graph) (new p : ℕ) → h.vertices ≡ insert_vertex (spider_of_phase_zero new) g.vertices
+    → Live g p → Live h p
+old_there g h new p vertices there =
+    ap (λ vs. member p (ids vs)) vertices ∙ member-insert p (spider_of_phase_zero new) g.vertices
+    ∙ ap (λ t. eqb p new || t) there ∙ or-true (eqb p new)
+
+old_kind : (g h : Graph) (new p : ℕ) → h.vertices ≡ insert_vertex (spider_of_phase_zero new) g.vertices
+    → member new (ids g.vertices) ≡ false → Live g p → kind_of h.vertices p ≡ kind_of g.vertices p
+old_kind g h new p vertices fresh there =
+    ap (λ vs. kind_of vs p) vertices
+    ∙ kind_of-insert_other p (spider_of_phase_zero new) g.vertices (apart_of_member p new (ids g.vertices) there fresh)
+
+module _ (g : Graph) (u b : ℕ) (phase : ℕ) (h : Graph) (r : Ready g u b phase) where
+  split_ready : (new : ℕ) → member new (ids g.vertices) ≡ false
+      → h.vertices ≡ insert_vertex (spider_of_phase_zero new) g.vertices
+      → ((p q : ℕ) → joined h.edges p q ≡ (joined g.edges p q || is_pair b new p q))
+      → WellFormed h → Interior h u → Ready h u b phase
+  split_ready new fresh vertices edges w inside = record {
+    well_formed = w;
+    there = old_there g h new u vertices r.there;
+    there_too = old_there g h new b vertices r.there_too;
+    interior = inside;
+    plane = ap (λ k. k.plane) (old_kind g h new u vertices fresh r.there) ∙ r.plane;
+    half = subst (λ k. IsHalfTurns k.phase) (sym (old_kind g h new u vertices fresh r.there)) r.half;
+    kind = old_kind g h new b vertices fresh r.there_too ∙ r.kind;
+    adjacent = edges u b ∙ ap (λ t. t || is_pair b new u b) r.adjacent;
+  }
+
+  split_input_ready : IsSplitInput g b h → Ready h u b phase
+  split_input_ready c =
+      split_ready c.new c.fresh c.vertices c.edges (step_kept g (calculus.SplitInput b) h r.well_formed c)
+      (record {
+        no_input = ap (λ ends. member u (places ends)) c.inputs
+            ∙ member-move_end-other b c.new g.inputs u (apart_by (has_input g) u b r.interior.no_input c.has_input)
+            (apart_of_member u c.new (ids g.vertices) r.there c.fresh)
+            ∙ r.interior.no_input;
+        no_output = ap (λ ends. member u (places ends)) c.outputs ∙ r.interior.no_output;
+      })
+
+  split_output_ready : IsSplitOutput g b h → Ready h u b phase
+  split_output_ready c =
+      split_ready c.new c.fresh c.vertices c.edges (step_kept g (calculus.SplitOutput b) h r.well_formed c)
+      (record {
+        no_input = ap (λ ends. member u (places ends)) c.inputs ∙ r.interior.no_input;
+        no_output = ap (λ ends. member u (places ends)) c.outputs
+            ∙ member-move_end-other b c.new g.outputs u (apart_by (has_output g) u b r.interior.no_output c.has_output)
+            (apart_of_member u c.new (ids g.vertices) r.there c.fresh)
+            ∙ r.interior.no_output;
+      })
+
+  input_went : IsSplitInput g b h → has_input h b ≡ false
+  input_went c =
+      ap (λ ends. member b (places ends)) c.inputs
+      ∙ member-move_end-old b c.new g.inputs (apart_of_member b c.new (ids g.vertices) r.there_too c.fresh)
+
+  output_went : IsSplitOutput g b h → has_output h b ≡ false
+  output_went c =
+      ap (λ ends. member b (places ends)) c.outputs
+      ∙ member-move_end-old b c.new g.outputs (apart_of_member b c.new (ids g.vertices) r.there_too c.fresh)
+
+boundary_allowed : (g : Graph) (u b : ℕ) (phase : ℕ) → Ready g u b phase
+    → AreAllowed g (splits_of g b ++ (calculus.Pivot u b ∷ calculus.Delete u ∷ removal_of phase b))
+boundary_allowed g u b phase r = by_ends (has_input g b) (has_output g b) refl refl
+  where
+    by_ends : (i o : Bool) → has_input g b ≡ i → has_output g b ≡ o
+        → AreAllowed g (((if i then calculus.SplitInput b ∷ [] else [])
+        ++ (if o then calculus.SplitOutput b ∷ [] else []))
+        ++ (calculus.Pivot u b ∷ calculus.Delete u ∷ removal_of phase b))
+    by_ends false false e f = rest_allowed g u b phase r e f
+    by_ends false true e f = (
+      f,
+      λ h c. rest_allowed h u b phase (split_output_ready g u b phase h r c)
+          (ap (λ ends. member b (places ends)) c.inputs ∙ e) (output_went g u b phase h r c),
+    )
+    by_ends true false e f = (
+      e,
+      λ h c. rest_allowed h u b phase (split_input_ready g u b phase h r c) (input_went g u b phase h r c)
+          (ap (λ ends. member b (places ends)) c.outputs ∙ f),
+    )
+    by_ends true true e f = (
+      e,
+      λ h c. (
+        ap (λ ends. member b (places ends)) c.outputs ∙ f,
+        λ k d.
+            let ready = split_input_ready g u b phase h r c in
+            rest_allowed k u b phase (split_output_ready h u b phase k ready d)
+            (ap (λ ends. member b (places ends)) d.inputs ∙ input_went g u b phase h r c)
+            (output_went h u b phase k ready d),
+      ),
+    )
+
+boundary_ready : (g : Graph) (u b : ℕ) → WellFormed g → IsBoundaryPivot g u b → Ready g u b (phase_of g b)
+boundary_ready g u b w a = record {
+  well_formed = w;
+  there = a.spider.there;
+  there_too = live_near g u b (near_joined g w u b a.adjacent);
+  interior = a.spider.interior;
+  plane = a.spider.plane;
+  half = a.spider.phase;
+  kind = in_XY g b (by_test (is_XY (plane_of g b)) (λ t. XY_from (plane_of g b) t)
+      (λ f. absurd (a.boundary b a.adjacent (interior_of g b w f))));
+  adjacent = a.adjacent;
+}
+
+-- ---- all kinds
+pub steps_allowed : (g : Graph) (m : Move) → WellFormed g → AppliesAt g m → IsOfFirstKind g m
+    → AreAllowed g (steps_of g m)
+steps_allowed g (moves.Delete u) w a first = (found_allowed g w (moves.Delete u) a first, λ h s. tt)
+steps_allowed g (moves.QuarterGadget u) w a first = (
+  found_allowed g w (moves.QuarterGadget u) a first,
+  λ k c. (delete_after_complement g u k (λ e. let y : YZ ≡ XZ = sym a.plane ∙ e in cc) a.phase c, λ h d. tt),
+)
+steps_allowed g (moves.FromXZ u) w a first = (found_allowed g w (moves.FromXZ u) a first, λ h s. tt)
+steps_allowed g (moves.QuarterSpider u) w a first = (
+  found_allowed g w (moves.QuarterSpider u) a first,
+  λ k c. (delete_after_complement g u k (λ e. let y : XY ≡ XZ = sym a.plane ∙ e in cc) a.phase c, λ h d. tt),
+)
+steps_allowed g (moves.InnerPivot u v) w a first = (
+  found_allowed g w (moves.InnerPivot u v) a first,
+  λ k c. (delete_after_pivot g u v k a.spider.plane a.spider.phase c, λ h d. tt),
+)
+steps_allowed g (moves.BoundaryPivot u b) w a first = boundary_allowed g u b (phase_of g b) (boundary_ready g u b w a)
+steps_allowed g (moves.GadgetPair u v) w a first = (found_allowed g w (moves.GadgetPair u v) a first, λ h s. tt)
+steps_allowed g (moves.LoneGadget u) w a first = (found_allowed g w (moves.LoneGadget u) a first, λ h s. tt)
+steps_allowed g (moves.SingleGadget u) w a first = (found_allowed g w (moves.SingleGadget u) a first, λ h s. tt)
+steps_allowed g (moves.Twins u v) w a first = (found_allowed g w (moves.Twins u v) a first, λ h s. tt)
+
+-- allowed steps lead somewhere
+allowed_run : (g : Graph) (steps : List calculus.Step) → WellFormed g → AreAllowed g steps
+    → (h : Graph) × IsRun g steps h
+allowed_run g [] w a = (g, refl)
+allowed_run g (s ∷ steps) w a =
+    let step : IsStep g s (after s g) = after_step g s w a.0 in
+    let later = allowed_run (after s g) steps (step_kept g s (after s g) w step) (a.1 (after s g) step) in
+    (later.0, (after s g, step, later.1))
+
+pub move_made : (g : Graph) (m : Move) → WellFormed g → AppliesAt g m → IsOfFirstKind g m → (h : Graph) × IsMoved g m h
+move_made g m w a first =
+    let made = allowed_run g (steps_of g m) w (steps_allowed g m w a first) in
+    (made.0, record { applies = a; first = first; run = made.1 })

@@ -1,0 +1,48 @@
+-- The moves one after the other, and what they come to at the end.
+use Rattle.zx_reduce.proofs.MoveCounts.{most_moves-move}
+use Rattle.zx_reduce.proofs.MoveEnds.{stuck-reduced}
+use Rattle.zx_reduce.proofs.MovesMade.{none_made, one_made, gained_run, gained_few_moves, gained_few_steps, gained_ends, gained_keeps}
+use Rattle.zx_reduce.proofs.reduction.reduce.Goals as goal
+
+pub loop-found-init : goal.loop-found-init
+loop-found-init g c =
+    none_made c.args.steps.now c.copy_of.ensures.valid c.requires.flow c.in_ok-work.ensures.graph
+    c.in_ok-work.ensures.flow c.in_ok-work.ensures.trace
+
+pub loop-found-smaller : goal.loop-found-smaller
+loop-found-smaller g c =
+    most_moves-move c.loop-found.work.graph.graph c.make.new.self.graph.graph c.in-Some.found
+    c.loop-found.invariant.valid c.in-Some.ensures.found c.in_ok-make.ensures.gains.run
+
+pub loop-found-preserved : goal.loop-found-preserved
+loop-found-preserved g c =
+    one_made {m = c.in-Some.found} c.loop-found.invariant c.in-Some.ensures.found c.in-Some.ensures.first
+    c.in_ok-make.ensures.gains c.in_ok-make.ensures.flow c.in_ok-make.ensures.valid c.tick.ensures
+
+pub returns-clause-reduced : goal.returns-clause-reduced
+returns-clause-reduced g c =
+    stuck-reduced c.loop-found.work.graph.graph c.loop-found.work.flow.flow c.loop-found.invariant.valid
+    c.loop-found.invariant.flow c.in_default.ensures.none
+
+pub returns-clause-map : goal.returns-clause-map
+returns-clause-map g c =
+    (gained_keeps c.loop-found.invariant.gains c.args.f.now.flow c.copy_of.ensures.valid c.requires.flow).proportional
+
+pub returns-clause-odd : goal.returns-clause-odd
+returns-clause-odd g c =
+    (gained_keeps c.loop-found.invariant.gains c.args.f.now.flow c.copy_of.ensures.valid c.requires.flow).no_more_odd
+
+pub returns-clause-inputs : goal.returns-clause-inputs
+returns-clause-inputs g c = (gained_ends c.loop-found.invariant.gains).0
+
+pub returns-clause-outputs : goal.returns-clause-outputs
+returns-clause-outputs g c = (gained_ends c.loop-found.invariant.gains).1
+
+pub returns-clause-run : goal.returns-clause-run
+returns-clause-run g c = gained_run c.loop-found.invariant.gains
+
+pub returns-clause-few_moves : goal.returns-clause-few_moves
+returns-clause-few_moves g c = gained_few_moves c.loop-found.invariant.gains c.copy_of.ensures.valid
+
+pub returns-clause-few_steps : goal.returns-clause-few_steps
+returns-clause-few_steps g c = gained_few_steps c.loop-found.invariant.gains

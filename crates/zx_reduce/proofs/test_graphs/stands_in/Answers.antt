@@ -1,0 +1,7 @@
+-- A list that is searched.
+use Rattle.std.proofs.Common.{◌∙◌}
+use Rattle.local_comp.proofs.Places.{any-member}
+use Rattle.zx_reduce.proofs.test_graphs.stands_in.Goals as goal
+
+pub returns : goal.returns
+returns c = c.contains.ensures.value ∙ any-member c.args.v c.args.order.now

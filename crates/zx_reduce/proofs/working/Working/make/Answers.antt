@@ -1,0 +1,38 @@
+-- The steps one after the other.
+use Rattle.std.proofs.Common.{◌≡◌, ◌∙◌, sym, ap, subst, map, add-one, arith}
+use Rattle.zx_reduce.specs.Steps.{step_named}
+use Rattle.zx_reduce.specs.Moving.{steps_of}
+use Rattle.zx_reduce.specs.Internal.Planning.{AreAllowed}
+use Rattle.zx_reduce.proofs.MoveSteps.{steps_allowed}
+use Rattle.zx_reduce.proofs.MovesMade.{begun, next_allowed, next_done, all_done}
+use Rattle.zx_reduce.proofs.working.Working.make.Goals as goal
+
+pub loop-step-init : goal.loop-step-init
+loop-step-init c =
+    let planned : map step_named c.deref-step-items.result.now ≡ steps_of c.args.self.now.graph.graph c.args.m.now =
+    ap (map step_named) c.deref-step-items.ensures.value ∙ c.in_ok-steps.ensures in
+    record {
+      planned = planned;
+      way = begun c.args.self.now.graph.graph c.deref-step-items.result.now c.args.self.now.trace.steps
+          (subst (AreAllowed c.args.self.now.graph.graph) (sym planned)
+          (steps_allowed c.args.self.now.graph.graph c.args.m.now c.requires.valid c.requires.applies
+          c.requires.first));
+      flow = c.requires.flow;
+      valid = c.requires.valid;
+    }
+
+pub loop-step-preserved : goal.loop-step-preserved
+loop-step-preserved c = record {
+  planned = c.loop-step.invariant.planned;
+  way = rw add-one (next_done c.step-item.result c.loop-step.invariant.way c.loop-step-test.true c.step-item.is
+      c.in_ok-do_step.ensures.step c.in_ok-do_step.ensures.trace);
+  flow = c.in_ok-do_step.ensures.flow;
+  valid = c.in_ok-do_step.ensures.valid;
+}
+
+pub do_step-requires-clause-allowed : goal.do_step-requires-clause-allowed
+do_step-requires-clause-allowed c =
+    next_allowed c.step-item.result c.loop-step.invariant.way c.loop-step-test.true c.step-item.is
+
+pub returns-clause-gains : goal.returns-clause-gains
+returns-clause-gains c = all_done c.loop-step.invariant.planned c.loop-step.invariant.way (omega arith)

@@ -1,0 +1,17 @@
+-- The steps so far are done, and those that are left can be done.
+use Rattle.std.proofs.Common.{◌≡◌, map}
+use Rattle.zx_calculus.specs.Graph.{WellFormed}
+use Rattle.gflow_laws.specs.Flow.{IsFlow}
+use Rattle.zx_reduce.specs.Steps.{step_named}
+use Rattle.zx_reduce.specs.Moving.{steps_of}
+use Rattle.zx_reduce.proofs.MovesMade.{IsUnderWay}
+use Rattle.zx_reduce.proofs.working.Working.make.Given as goal
+
+abbrev pub invariant-loop-step : goal.invariant-loop-step
+invariant-loop-step l = record {
+  planned : map step_named l.step-items ≡ steps_of l.fn.self.graph.graph l.fn.m;
+  way : IsUnderWay l.fn.self.graph.graph l.step-items l.step-index l.self.graph.graph l.fn.self.trace.steps
+      l.self.trace.steps;
+  flow : IsFlow l.self.graph.graph l.self.flow.flow;
+  valid : WellFormed l.self.graph.graph;
+}

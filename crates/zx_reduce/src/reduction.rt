@@ -1,0 +1,64 @@
+//! Simplification: moves until none is left.
+
+ghost use Rattle.std.specs.Prelude.{◌≡◌, ◌≤◌, ◌+◌, ◌*◌, length, OnOk, OnErr};
+ghost use Rattle.zx_calculus.specs.Graph.{WellFormed};
+ghost use Rattle.zx_calculus.specs.Reduced.{odd_phases, IsReduced};
+ghost use Rattle.gflow_laws.specs.Flow.{IsFlow};
+ghost use Rattle.local_comp.specs.Rewrites.{KeepsMap};
+ghost use Rattle.zx_reduce.specs.Moving.{most_moves, GainsMoves, GainsRun};
+
+use crate::search::next_move;
+use crate::steps::Steps;
+use crate::trace::Trace;
+use crate::working::Working;
+use open_graph::OpenGraph;
+use std::alloc::AllocError;
+use std::sync::ledger::Ledger;
+use zx_flow::Flow;
+
+/// Does moves on a graph with its flow until none applies, each time one of the first kind that
+/// applies anywhere. The trace gains the step of each rewrite, the counter one for each move.
+///
+/// # Errors
+///
+/// Only where memory runs out. Then graph, flow and trace stay as they were; the counter has the
+/// moves that were made on copies of them.
+pub fn reduce<L: Ledger>(
+    g: &mut OpenGraph,
+    f: &mut Flow,
+    trace: &mut Trace,
+    steps: &mut Steps<L>,
+) -> Result<(), AllocError>
+    requires flow { IsFlow g.old.graph f.old.flow }
+
+    // The graph is reduced, with a proportional sum, a flow and no more odd phases.
+    ensures reduced { OnOk result (IsReduced g.new.graph) }
+    ensures map { OnOk result (KeepsMap g.old.graph g.new.graph) }
+    ensures flow { OnOk result (IsFlow g.new.graph f.new.flow) }
+    ensures odd { OnOk result (odd_phases g.new.graph ≤ odd_phases g.old.graph) }
+    ensures inputs { OnOk result (length g.new.graph.inputs ≡ length g.old.graph.inputs) }
+    ensures outputs { OnOk result (length g.new.graph.outputs ≡ length g.old.graph.outputs) }
+
+    // The steps that the trace gained lead there, and are those of so many moves.
+    ensures run { OnOk result
+        (GainsRun g.old.graph g.new.graph trace.old.steps trace.new.steps) }
+    ensures moves { OnOk result
+        (GainsMoves g.old.graph g.new.graph trace.old.steps trace.new.steps steps.old steps.new) }
+    ensures few_moves { OnOk result (steps.new ≤ steps.old + most_moves g.old.graph) }
+    ensures few_steps { OnOk result
+        (length trace.new.steps + 6 * steps.old ≤ length trace.old.steps + 6 * steps.new) }
+
+    ensures err_graph { OnErr result ((g.new.graph ≡ g.old.graph) × (f.new.flow ≡ f.old.flow)) }
+    ensures err_trace { OnErr result (trace.new.steps ≡ trace.old.steps) }
+    ensures valid { WellFormed g.new.graph }
+{
+    let mut work = Working::copy_of(g, f, trace)?;
+    while let Some(found) = next_move(&work.graph) {
+        work.make(&found)?;
+        steps.tick();
+    }
+    *g = work.graph;
+    *f = work.flow;
+    *trace = work.trace;
+    Ok(())
+}

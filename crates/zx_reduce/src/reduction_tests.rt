@@ -1,0 +1,98 @@
+//! Graphs that are reduced, worked by hand.
+
+ghost use Rattle.std.specs.Prelude.{◌≡◌, ◌<◌, IfOk};
+ghost use Rattle.gflow_laws.specs.Flow.{IsFlow};
+
+use crate::test_graphs::{drawn, id, path_of_three, small_gadgets, twins, wire};
+use crate::{Step, Steps, Trace, apply, reduce};
+use open_graph::OpenGraph;
+use std::alloc::Global;
+use std::marker::Brand;
+use std::process::Abort;
+use std::sync::ledger::{Blank, Ledger};
+use std::test::Fail;
+use zx_flow::Flow;
+use zx_model::Eighth;
+
+// Input, 0, 1, 2, output, with an eighth of a turn at 0: the circuit T, H, H.
+fn path_after_an_eighth(alloc: Global) -> Result<(OpenGraph, Flow), Fail>
+    ensures { IfOk result (λ made. IsFlow made.0.graph made.1.flow) }
+{
+    let (mut graph, mut flow) = wire(alloc, Eighth::new(1), false, false)?;
+    apply(&mut graph, &mut flow, Step::SplitOutput(id(0)))?;
+    apply(&mut graph, &mut flow, Step::SplitOutput(id(1)))?;
+    Ok((graph, flow))
+}
+
+fn reduce_counted<L: Ledger>(
+    blank: Blank,
+    graph: &mut OpenGraph,
+    flow: &mut Flow,
+    trace: &mut Trace,
+) -> Result<(), Fail>
+    requires name { blank.name ≡ L.name }
+    requires parts { blank.parts ≡ L.parts }
+    requires some { 0 < L.parts }
+    requires flow { IsFlow graph.old.graph flow.old.flow }
+{
+    let mut steps = Steps::<L>::new(blank);
+    reduce(graph, flow, trace, &mut steps)?;
+    Ok(())
+}
+
+// What a graph with its flow is reduced to by these steps, where a, b and so on are 0, 1 and so on.
+fn reduced(
+    rt: &impl Abort,
+    alloc: Global,
+    start: (OpenGraph, Flow),
+    steps: &[Step],
+) -> Result<Vec<u8>, Fail>
+    requires { IsFlow start.0.graph start.1.flow }
+{
+    let (mut graph, mut flow) = start;
+    let mut trace = Trace::new(alloc);
+    reduce_counted::<Brand>(Blank::new(1), &mut graph, &mut flow, &mut trace)?;
+    assert!(rt; trace.as_slice() == steps);
+    drawn(alloc, b"abcd", &graph, &flow)
+}
+
+#[test]
+fn a_quarter_turn_goes(rt: HostRuntime) -> Result<(), Fail> {
+    let steps = [Step::LocalComplement(id(0)), Step::Delete(id(0))];
+    let text = reduced(&rt, rt.alloc(), path_of_three(rt.alloc())?, &steps)?;
+    assert_eq!(rt; text.as_slice(), b"66 bc:b>c< bc".as_slice());
+    Ok(())
+}
+
+#[test]
+fn a_pivot_at_the_boundary(rt: HostRuntime) -> Result<(), Fail> {
+    let steps = [
+        Step::SplitInput(id(0)),
+        Step::Pivot(id(1), id(0)),
+        Step::Delete(id(1)),
+        Step::FuseInto(id(0)),
+    ];
+    let text = reduced(&rt, rt.alloc(), path_after_an_eighth(rt.alloc())?, &steps)?;
+    assert_eq!(rt; text.as_slice(), b"10 cd:d->c< dc".as_slice());
+    Ok(())
+}
+
+#[test]
+fn twins_make_an_edge(rt: HostRuntime) -> Result<(), Fail> {
+    let steps = [
+        Step::FuseTwin(id(2), id(3)),
+        Step::LocalComplement(id(2)),
+        Step::Delete(id(2)),
+    ];
+    let text = reduced(&rt, rt.alloc(), twins(&rt, rt.alloc())?, &steps)?;
+    assert_eq!(rt; text.as_slice(), b"22 ab:ab>ab<".as_slice());
+    Ok(())
+}
+
+#[test]
+fn small_gadgets_go(rt: HostRuntime) -> Result<(), Fail> {
+    let steps = [Step::DropLone(id(2)), Step::FuseInto(id(1))];
+    let text = reduced(&rt, rt.alloc(), small_gadgets(&rt, rt.alloc())?, &steps)?;
+    assert_eq!(rt; text.as_slice(), b"3:a>a<".as_slice());
+    Ok(())
+}

@@ -1,0 +1,138 @@
+//! Rewrites of small graphs with their flows, drawn by hand.
+
+ghost use Rattle.gflow_laws.specs.Flow.{IsFlow};
+
+use crate::test_graphs::{drawn, id, path_of_four, path_of_three, small_gadgets, twins, wire};
+use crate::{Step, apply};
+use open_graph::OpenGraph;
+use std::alloc::Global;
+use std::process::Abort;
+use std::test::Fail;
+use zx_flow::Flow;
+use zx_model::Eighth;
+
+// Each step makes of the graph before it the graph that is drawn so.
+fn follows(
+    rt: &impl Abort,
+    alloc: Global,
+    start: (OpenGraph, Flow),
+    names: &[u8],
+    rows: &[(Step, &str)],
+) -> Result<(), Fail>
+    requires { IsFlow start.0.graph start.1.flow }
+{
+    let (mut graph, mut flow) = start;
+    for (step, text) in rows {
+        apply(&mut graph, &mut flow, *step)?;
+        let after = drawn(alloc, names, &graph, &flow)?;
+        assert_eq!(rt; after.as_slice(), text.as_bytes());
+    }
+    Ok(())
+}
+
+#[test]
+fn both_ends_of_a_wire_are_split(rt: HostRuntime) -> Result<(), Fail> {
+    let alloc = rt.alloc();
+    let start = wire(alloc, Eighth::new(1), false, true)?;
+    let rows = [
+        (Step::SplitInput(id(0)), "10 ab:b->a-< ba"),
+        (Step::SplitOutput(id(0)), "100 ab ac:b->c< ba ac"),
+    ];
+    follows(&rt, alloc, start, b"abc", &rows)?;
+
+    let start = wire(alloc, Eighth::new(0), true, false)?;
+    let rows = [
+        (Step::SplitOutput(id(0)), "00 ab:a->b-< ab"),
+        (Step::SplitInput(id(0)), "000 ab ac:c>b-< ca ab"),
+    ];
+    follows(&rt, alloc, start, b"abc", &rows)
+}
+
+#[test]
+fn the_middle_of_a_path_is_deleted(rt: HostRuntime) -> Result<(), Fail> {
+    let rows = [
+        (Step::LocalComplement(id(0)), "X422 ba bc ac:a>c< ab bbc"),
+        (Step::Delete(id(0)), "66 ac:a>c< ac"),
+    ];
+    follows(&rt, rt.alloc(), path_of_three(rt.alloc())?, b"bac", &rows)
+}
+
+// The second and the fourth are about an XZ vertex.
+#[test]
+fn four_local_complements(rt: HostRuntime) -> Result<(), Fail> {
+    let complement = Step::LocalComplement(id(0));
+    let rows = [
+        (complement, "X422 ba bc ac:a>c< ab bbc"),
+        (complement, "644 ba bc:a>c< ab bc"),
+        (complement, "X066 ba bc ac:a>c< ab bbc"),
+        (complement, "200 ba bc:a>c< ab bc"),
+    ];
+    follows(&rt, rt.alloc(), path_of_three(rt.alloc())?, b"bac", &rows)
+}
+
+// The third local complement is about a YZ vertex. In planes and edges the three are a pivot.
+#[test]
+fn two_in_the_middle(rt: HostRuntime) -> Result<(), Fail> {
+    let rows = [
+        (
+            Step::LocalComplement(id(1)),
+            "2X220 ab ac bc cd:a>d< ab bbc cd",
+        ),
+        (
+            Step::LocalComplement(id(2)),
+            "4Y6X42 ac ad bc bd cd:a>d< abd bbcd ccd",
+        ),
+        (
+            Step::LocalComplement(id(1)),
+            "4Y4Y44 ac ad bc bd:a>d< abc bbcd ccd",
+        ),
+        (Step::Delete(id(1)), "4Y40 ac ad:a>d< ad ccd"),
+        (Step::Delete(id(2)), "00 ad:a>d< ad"),
+    ];
+    follows(&rt, rt.alloc(), path_of_four(rt.alloc())?, b"abcd", &rows)
+}
+
+// Between two XY vertices, and back between two YZ vertices. A path has more flows than one.
+#[test]
+fn two_pivots(rt: HostRuntime) -> Result<(), Fail> {
+    let pivot = Step::Pivot(id(1), id(2));
+    let rows = [
+        (pivot, "0Y0Y00 ac ad bc bd:a>d< abc bbcd ccd"),
+        (pivot, "0000 ab bc cd:a>d< abd bcd cd"),
+    ];
+    follows(&rt, rt.alloc(), path_of_four(rt.alloc())?, b"abcd", &rows)
+}
+
+// Between an XZ and an XY vertex of a quarter turn each; vertex a is adjacent to both.
+#[test]
+fn a_common_neighbour(rt: HostRuntime) -> Result<(), Fail> {
+    let rows = [
+        (
+            Step::LocalComplement(id(1)),
+            "2X220 ab ac bc cd:a>d< ab bbc cd",
+        ),
+        (
+            Step::Pivot(id(1), id(2)),
+            "6X0Y20 ab ac ad bc bd:a>d< abcd bbc ccd",
+        ),
+    ];
+    follows(&rt, rt.alloc(), path_of_four(rt.alloc())?, b"abcd", &rows)
+}
+
+#[test]
+fn twins_are_fused(rt: HostRuntime) -> Result<(), Fail> {
+    let start = twins(&rt, rt.alloc())?;
+    let rows = [(Step::FuseTwin(id(2), id(3)), "00Y2 ac bc:ab>ab< cc")];
+    follows(&rt, rt.alloc(), start, b"abcd", &rows)
+}
+
+#[test]
+fn small_gadgets_are_taken_out(rt: HostRuntime) -> Result<(), Fail> {
+    let start = small_gadgets(&rt, rt.alloc())?;
+    let rows = [(Step::DropLone(id(2)), "0Y3 ab:a>a< bb")];
+    follows(&rt, rt.alloc(), start, b"abc", &rows)?;
+
+    let start = small_gadgets(&rt, rt.alloc())?;
+    let rows = [(Step::FuseInto(id(1)), "3Y5:a>a< cc")];
+    follows(&rt, rt.alloc(), start, b"abc", &rows)
+}

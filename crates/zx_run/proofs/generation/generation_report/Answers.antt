@@ -1,0 +1,11 @@
+-- The circuit of the seed is the one that is optimised.
+use Rattle.std.proofs.Common.{rules}
+use Rattle.zx_run.proofs.OptimiseLemmas.{IsGenerationReport-written}
+use Rattle.zx_run.proofs.generation.generation_report.Goals as goal
+
+pub returns : goal.returns
+returns c =
+    let made = c.in_ok-made.ensures in
+    IsGenerationReport-written _ _ _ _ c.in_ok-read.read c.in_ok-made.made c.in_ok-read.ensures.qubits c.in_ok-read.ensures.gates
+    (record { qubits = made.qubits; map = made.map; odd = made.odd; tidy = made.tidy; few_gates = made.few_gates; reduced = made.reduced })
+    (search rules)

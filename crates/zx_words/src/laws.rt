@@ -1,0 +1,49 @@
+//! Worked words.
+
+ghost use Rattle.std.specs.Prelude.{◌≡◌, ◌<◌, ◌≤◌, ◌^◌, ℕ, [], ◌∷◌, codes, decimal};
+ghost use Rattle.std.specs.Prelude.{Some, None, true, false};
+ghost use Rattle.clap.specs.Words.{Text};
+ghost use Rattle.zx_words.specs.declared.words.Command.TheVariants.{Optimise, Generate};
+ghost use Rattle.zx_words.specs.Command.{command_of, number_in};
+
+/// What some words give.
+pub fn worked_words()
+    ensures plain { command_of (codes "opt" ∷ []) ≡ Some (Optimise false false) }
+    ensures flags { command_of (codes "opt" ∷ codes "--report" ∷ codes "--best" ∷ [])
+        ≡ Some (Optimise true true) }
+    ensures twice { command_of (codes "opt" ∷ codes "--best" ∷ codes "--best" ∷ []) ≡ None }
+    ensures valued { command_of (codes "opt" ∷ codes "--best=true" ∷ []) ≡ None }
+    ensures no_word { command_of [] ≡ None }
+    ensures further { command_of (codes "opt" ∷ codes "x" ∷ []) ≡ None }
+    ensures help { command_of (codes "--help" ∷ []) ≡ None }
+    ensures separator { command_of (codes "opt" ∷ codes "--best" ∷ codes "--" ∷ [])
+        ≡ Some (Optimise true false) }
+    ensures help_of_opt { command_of (codes "opt" ∷ codes "--help" ∷ []) ≡ None }
+{}
+
+/// What some words of `gen` give.
+pub fn worked_numbers()
+    ensures numbers { command_of (codes "gen" ∷ codes "7" ∷ codes "1" ∷ codes "0" ∷ [])
+        ≡ Some (Generate 7 1 0) }
+    ensures greatest { command_of (codes "gen" ∷ codes "18446744073709551615" ∷ codes "1024"
+        ∷ codes "1000000" ∷ []) ≡ Some (Generate 18446744073709551615 1024 1000000) }
+    ensures seed { command_of (codes "gen" ∷ codes "18446744073709551616" ∷ codes "1"
+        ∷ codes "0" ∷ []) ≡ None }
+    ensures no_qubits { command_of (codes "gen" ∷ codes "7" ∷ codes "0" ∷ codes "0" ∷ []) ≡ None }
+    ensures qubits { command_of (codes "gen" ∷ codes "7" ∷ codes "1025" ∷ codes "0" ∷ []) ≡ None }
+    ensures gates { command_of (codes "gen" ∷ codes "7" ∷ codes "1" ∷ codes "1000001" ∷ [])
+        ≡ None }
+    ensures zero { command_of (codes "gen" ∷ codes "01" ∷ codes "1" ∷ codes "5" ∷ []) ≡ None }
+    ensures sign { command_of (codes "gen" ∷ codes "+1" ∷ codes "1" ∷ codes "5" ∷ []) ≡ None }
+    ensures too_few { command_of (codes "gen" ∷ codes "7" ∷ codes "1" ∷ []) ≡ None }
+    ensures too_many { command_of (codes "gen" ∷ codes "7" ∷ codes "1" ∷ codes "0" ∷ codes "0" ∷ [])
+        ≡ None }
+{}
+
+/// A number is read of its decimal digits alone.
+pub fn numbers_are_read_of_their_digits()
+    ensures read { (most number : ℕ) → number ≤ most → number < 2 ^ 64
+        → number_in most (decimal number) ≡ Some number }
+    ensures only { (most number : ℕ) (text : Text) → number_in most text ≡ Some number
+        → (text ≡ decimal number) × (number ≤ most) }
+{}

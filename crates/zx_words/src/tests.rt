@@ -1,0 +1,72 @@
+//! Worked words.
+use crate::{Command, command_from};
+use std::test::Fail;
+
+#[test]
+fn words_of_opt(rt: HostRuntime) -> Result<(), Fail> {
+    let plain = Some(Command::Optimise {
+        best: false,
+        report: false,
+    });
+    let both = Some(Command::Optimise {
+        best: true,
+        report: true,
+    });
+    let best = Some(Command::Optimise {
+        best: true,
+        report: false,
+    });
+    assert_eq!(rt; command_from(rt.alloc(), ["opt"].as_slice())?, plain);
+    assert_eq!(rt;
+        command_from(rt.alloc(), ["opt", "--best"].as_slice())?,
+        best
+    );
+    assert_eq!(rt;
+        command_from(rt.alloc(), ["opt", "--best", "--report"].as_slice())?,
+        both
+    );
+    assert_eq!(rt;
+        command_from(rt.alloc(), ["opt", "--report", "--best"].as_slice())?,
+        both
+    );
+    Ok(())
+}
+
+#[test]
+fn words_of_gen(rt: HostRuntime) -> Result<(), Fail> {
+    let command = Some(Command::Generate {
+        seed: 18446744073709551615,
+        qubits: 1024,
+        gates: 1000000,
+    });
+    let words = ["gen", "18446744073709551615", "1024", "1000000"];
+    assert_eq!(rt; command_from(rt.alloc(), words.as_slice())?, command);
+    Ok(())
+}
+
+#[test]
+fn other_words(rt: HostRuntime) -> Result<(), Fail> {
+    let none: [&[&str]; 17] = [
+        &[],
+        &["help"],
+        &["-h"],
+        &["--help"],
+        &["--version"],
+        &["opt", "x"],
+        &["opt", "--best", "--best"],
+        &["opt", "--best=true"],
+        &["opt", "--help"],
+        &["opt", "help"],
+        &["gen", "1", "0", "5"],
+        &["gen", "1", "1025", "0"],
+        &["gen", "01", "1", "5"],
+        &["gen", "+1", "1", "5"],
+        &["gen", "1", "1"],
+        &["gen", "18446744073709551616", "1", "1"],
+        &["gen", "1", "1", "1", "1"],
+    ];
+    for words in none {
+        assert_eq!(rt; command_from(rt.alloc(), words)?, None);
+    }
+    Ok(())
+}

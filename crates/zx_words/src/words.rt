@@ -1,0 +1,180 @@
+//! The words after the program's name.
+
+ghost use Rattle.std.specs.Prelude.{◌≡◌, ◌≤◌, IfOk, IfSome, false};
+ghost use Rattle.clap.specs.Words.{app_of, found_of, rule_of, rows_of};
+ghost use Rattle.clap.specs.Words.{subcommand_rows_of};
+ghost use Rattle.clap.specs.declared.builder.command.Command.TheViews.{out-Command};
+ghost use Rattle.zx_words.specs.Command.{IsWithinLimits, command_in, command_by, generation_by};
+ghost use Rattle.zx_words.specs.Command.{flag_rule, word_rule, opt_app, gen_app, zxopt_app, has_flag};
+ghost use Rattle.zx_words.specs.Command.{number_at, number_in};
+
+use clap::error::ErrorKind;
+use clap::{Arg, ArgAction, ArgMatches};
+use itoa::Buffer;
+use std::alloc::{AllocError, Global};
+
+/// What the program is asked to do.
+#[derive(Clone, Copy, Debug, PartialEq, Eq)]
+pub enum Command {
+    /// To optimise the circuit that is read.
+    Optimise {
+        /// Whether the read circuit, after cleanup, is a candidate too.
+        best: bool,
+        /// Whether the numbers of gates are told.
+        report: bool,
+    },
+    /// To make a circuit from a seed, and to optimise it.
+    Generate {
+        /// The seed.
+        seed: u64,
+        /// How many qubits, from 1 to 1,024.
+        qubits: u16,
+        /// How many gates, at most 1,000,000.
+        gates: u32,
+    },
+}
+
+/// The command that the words give, if they give one.
+///
+/// # Errors
+///
+/// Only where memory runs out.
+pub fn command_from<'a>(alloc: Global, words: &'a [&'a str]) -> Result<Option<Command>, AllocError>
+    ensures command { IfOk result (λ command. command ≡ command_in words.entry.now) }
+    ensures limits { IfOk result IsWithinLimits }
+{
+    let definition = definition(alloc)?;
+    match definition.try_get_matches_from(words) {
+        Ok(matches) => Ok(command_of(&matches)),
+        Err(error) => match error.kind() {
+            ErrorKind::OutOfMemory => Err(AllocError),
+            _ => Ok(None),
+        },
+    }
+}
+
+/// The command line, as it is defined.
+fn definition<'a>(alloc: Global) -> Result<clap::Command<'a>, AllocError>
+    ensures { IfOk result (λ command. app_of command ≡ zxopt_app) }
+{
+    let opt = opt_definition(alloc)?;
+    let generate = gen_definition(alloc)?;
+    let bare = clap::Command::new(alloc, "zxopt")
+        .no_binary_name(true)
+        .disable_help_flag(true)
+        .disable_help_subcommand(true)
+        .subcommand_required(true);
+    let with_opt = bare.subcommand(opt)?;
+    with_opt.subcommand(generate)
+}
+
+/// `opt`, with its flags.
+fn opt_definition<'a>(alloc: Global) -> Result<clap::Command<'a>, AllocError>
+    ensures app { IfOk result (λ command. app_of command ≡ opt_app) }
+    ensures local { IfOk result (λ command. (out-Command command).has_globals ≡ false) }
+{
+    let best = flag(alloc, "best");
+    let report = flag(alloc, "report");
+    let with_best = clap::Command::new(alloc, "opt").arg(best)?;
+    with_best.arg(report)
+}
+
+/// `gen`, with its words.
+fn gen_definition<'a>(alloc: Global) -> Result<clap::Command<'a>, AllocError>
+    ensures app { IfOk result (λ command. app_of command ≡ gen_app) }
+    ensures local { IfOk result (λ command. (out-Command command).has_globals ≡ false) }
+{
+    let seed = word(alloc, "seed");
+    let qubits = word(alloc, "qubits");
+    let gates = word(alloc, "gates");
+    let with_seed = clap::Command::new(alloc, "gen").arg(seed)?;
+    let with_qubits = with_seed.arg(qubits)?;
+    with_qubits.arg(gates)
+}
+
+/// A flag by its name, which may be given once.
+fn flag<'a>(alloc: Global, name: &'a str) -> Arg<'a>
+    ensures rule { rule_of result ≡ flag_rule name.entry.now }
+    ensures local { result.global ≡ false }
+{
+    Arg::new(alloc, name).long(name).action(ArgAction::SetTrue)
+}
+
+/// A word that has to be there.
+fn word<'a>(alloc: Global, name: &'a str) -> Arg<'a>
+    ensures rule { rule_of result ≡ word_rule name.entry.now }
+    ensures local { result.global ≡ false }
+{
+    Arg::new(alloc, name).required(true)
+}
+
+/// The command of a parse.
+fn command_of(matches: &ArgMatches) -> Option<Command>
+    ensures command { result ≡ command_by (subcommand_rows_of matches.now) }
+    ensures limits { IsWithinLimits result }
+{
+    let (name, given) = matches.subcommand()?;
+    if name == "opt" {
+        return Some(Command::Optimise {
+            best: is_given(given, "best"),
+            report: is_given(given, "report"),
+        });
+    }
+    if name == "gen" {
+        return generation_of(given);
+    }
+    None
+}
+
+/// Whether a flag is given.
+fn is_given(given: &ArgMatches, flag: &str) -> bool
+    ensures { result ≡ has_flag flag.now (rows_of (found_of given.now)) }
+{
+    match given.get_str(flag) {
+        Some(text) => text == "true",
+        None => false,
+    }
+}
+
+/// The command of the three words.
+fn generation_of(given: &ArgMatches) -> Option<Command>
+    ensures command { result ≡ generation_by (rows_of (found_of given.now)) }
+    ensures limits { IsWithinLimits result }
+{
+    let seed = number_of(given, "seed", u64::MAX)?;
+    let qubits = number_of(given, "qubits", 1024)?;
+    let gates = number_of(given, "gates", 1_000_000)?;
+    if qubits == 0 {
+        return None;
+    }
+    Some(Command::Generate {
+        seed,
+        qubits: qubits as u16,
+        gates: gates as u32,
+    })
+}
+
+/// A number that is given, up to the greatest one.
+fn number_of(given: &ArgMatches, name: &str, most: u64) -> Option<u64>
+    ensures value { result ≡ number_at name.now most (rows_of (found_of given.now)) }
+    ensures small { IfSome result (λ number. number ≤ most) }
+{
+    number_from(given.get_str(name)?, most)
+}
+
+/// The number that a text spells in decimal digits, without a leading zero, up to the greatest one.
+fn number_from(text: &str, most: u64) -> Option<u64>
+    ensures value { result ≡ number_in most text.now }
+    ensures small { IfSome result (λ number. number ≤ most) }
+{
+    match text.parse::<u64>() {
+        Ok(number) => {
+            if number <= most && Buffer::new().format(number) == text {
+                Some(number)
+            } else {
+                None
+            }
+        }
+        Err(_) => None,
+    }
+}
