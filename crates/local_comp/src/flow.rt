@@ -78,8 +78,8 @@ pub fn remove_set(f: &mut Flow, u: VertexId, own: &[VertexId]) -> Result<(), All
     Ok(())
 }
 
-// The vertex at a place of the order.
-fn vertex_at(f: &Flow, i: usize) -> VertexId
+/// The vertex at a place of the order.
+pub fn vertex_at(f: &Flow, i: usize) -> VertexId
     requires { i < length (order_of f.now.flow) }
     ensures value { result ≡ slice_index (order_of f.now.flow) i }
     ensures there { member result (order_of f.now.flow) ≡ true }

@@ -24,7 +24,7 @@ use zx_gates::Elementary;
 const BATCH: usize = 4096;
 
 /// The circuit that a text means, or the text's first fault. Tokens are kept a few thousand at a time, or as many as
-/// the longest statement has, twice over; all that follow are kept only behind a syntax fault.
+/// the longest statement has, eight times over; all that follow are kept only behind a syntax fault.
 ///
 /// # Errors
 ///
@@ -85,7 +85,7 @@ fn cut_further<'a>(
         → result ≡ Err error → IsTextAnswer text.now (Err error) }
 {
     let known = tokens.len();
-    let count = known.saturating_mul(2).saturating_add(BATCH);
+    let count = known.saturating_mul(8).saturating_add(BATCH);
     match lex_further(text, place, tokens, count) {
         Ok(end) => Ok((end, depth.after(&tokens[known..]))),
         Err(LexError::BadByte { at }) => Err(ReadError::BadByte { at }),

@@ -68,6 +68,15 @@ impl Flow {
         self.corrections.set(v).as_slice()
     }
 
+    /// A copy of the correction set of a vertex, by rising id.
+    pub fn copy_of_correction(&self, v: VertexId) -> Result<Vec<VertexId>, AllocError>
+        requires { member v (order_of self.now.flow) ≡ true }
+        ensures value { IfOk result (λ set. set.items ≡ set_of self.now.flow v) }
+        ensures valid { in_order ltb (set_of self.now.flow v) ≡ true }
+    {
+        Vec::from_slice(self.alloc, self.correction(v))
+    }
+
     /// Whether a vertex w is adjacent to an odd number of members of the set of v.
     pub fn odd_has(&self, g: &OpenGraph, v: VertexId, w: VertexId) -> bool
         requires { member v (order_of self.now.flow) ≡ true }

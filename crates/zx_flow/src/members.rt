@@ -43,6 +43,21 @@ fn place(ids: &[VertexId], id: VertexId) -> Result<usize, usize>
     ids.binary_search_by_key(&id.get(), |other| other.get())
 }
 
+fn stands_in(ids: &[VertexId], id: VertexId) -> bool
+    requires { in_order ltb ids.now ≡ true }
+    ensures { result ≡ member id ids.now }
+{
+    place(ids, id).is_ok()
+}
+
+// How many of the first stand among the others.
+fn count_among(ids: &[VertexId], others: &[VertexId]) -> usize
+    requires { in_order ltb others.now ≡ true }
+    ensures { result ≡ count_by (λ id. member id others.now) ids.now }
+{
+    ids.iter().filter(|id| stands_in(others, **id)).count()
+}
+
 impl Members {
     pub(crate) fn new(alloc: Global) -> Members
         ensures { result ≡ [] }
@@ -78,14 +93,20 @@ impl Members {
     pub(crate) fn contains(&self, id: VertexId) -> bool
         ensures { result ≡ member id self.now }
     {
-        place(self.ids.as_slice(), id).is_ok()
+        stands_in(self.ids.as_slice(), id)
     }
 
     // How many of these are members.
     pub(crate) fn count_of(&self, ids: &[VertexId]) -> usize
+        requires { in_order ltb ids.now ≡ true }
         ensures { result ≡ count_by (λ id. member id self.now) ids.now }
     {
-        ids.iter().filter(|id| self.contains(**id)).count()
+        let own = self.ids.as_slice();
+        if own.len() < ids.len() {
+            count_among(own, ids)
+        } else {
+            count_among(ids, own)
+        }
     }
 
     // Adds an id that isn't there, and takes out one that is.

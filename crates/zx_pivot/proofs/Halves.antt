@@ -1,7 +1,7 @@
 -- Common neighbours turned by a half, one after the other.
-use Rattle.std.proofs.Common.{◌≡◌, refl, sym, ◌∙◌, ap, ap₂, ℕ, suc, ◌<◌, Bool, true, false, cond, ◌&&◌, eqb, List, [], ◌∷◌, length, get_or, take, true≢false}
+use Rattle.std.proofs.Common.{◌≡◌, refl, sym, ◌∙◌, ap, ap₂, ℕ, suc, ◌<◌, Bool, true, false, cond, ◌&&◌, eqb, List, [], length, get_or, take}
 use Rattle.zx_model.specs.Bits.{xor, member}
-use Rattle.zx_calculus.specs.Graph.{Kind, Graph, Distinct, with_kinds}
+use Rattle.zx_calculus.specs.Graph.{Kind, Graph, Distinct}
 use Rattle.zx_calculus.specs.Edits.{at_vertex}
 use Rattle.zx_calculus.specs.Turns.{quarter_turned, half_turned}
 use Rattle.zx_calculus.proofs.Booleans.{xor-false}

@@ -1,13 +1,13 @@
 -- What the changes of a graph, one after the other, make of it: a pivot.
-use Rattle.std.proofs.Common.{◌≡◌, ◌≢◌, refl, sym, ◌∙◌, ap, ap₂, subst, ℕ, Bool, true, false, cond, ◌&&◌, ◌||◌, eqb, List, ne_eqb, true≢false}
-use Rattle.zx_model.specs.Bits.{xor, member}
+use Rattle.std.proofs.Common.{◌≡◌, ◌≢◌, refl, sym, ◌∙◌, ap, subst, ℕ, true, false, cond, ◌&&◌, eqb, List, ne_eqb, true≢false}
+use Rattle.zx_model.specs.Bits.{member}
 use Rattle.zx_calculus.specs.Graph.{Kind, Graph, ids, joined, neighbours, places, with_kinds, Live, Interior, WellFormed}
 use Rattle.zx_calculus.specs.Pivots.{IsPivot, pivot_kind}
 use Rattle.zx_calculus.specs.Steps.{Pivot}
 use Rattle.zx_calculus.specs.Edits.{at_vertex}
 use Rattle.zx_calculus.specs.Turns.{half_turned, pivoted}
 use Rattle.zx_calculus.proofs.Booleans.{and-false}
-use Rattle.zx_calculus.proofs.Ids.{by_equal, eqb-self}
+use Rattle.zx_calculus.proofs.Ids.{by_equal}
 use Rattle.zx_calculus.proofs.Vertices.{ids-with_kinds, with_kinds_same}
 use Rattle.zx_calculus.proofs.Splitting.{no_loop}
 use Rattle.gflow_laws.specs.Seen.{seen}

@@ -9,7 +9,7 @@ ghost use Rattle.gflow_laws.specs.Tables.{complement_table, pivot_table};
 ghost use Rattle.gflow_laws.specs.Correcting.{odd_in};
 ghost use Rattle.zx_pivot.specs.Internal.Stages.{view, plane_in};
 
-use local_comp::flow::complement_set;
+use local_comp::flow::{complement_set, vertex_at};
 use open_graph::{OpenGraph, Plane, VertexId};
 use std::alloc::AllocError;
 use zx_flow::Flow;
@@ -54,11 +54,11 @@ fn complement_sets(
     ensures order { OnOk result (order_of f.new.flow ≡ order_of f.old.flow) }
 {
     let changes = changes_plane(g, stage, u);
-    let before = f.copy()?;
-    let own = before.correction(u);
-    for x in before.order() {
-        let is_odd = odd_has(f, g, stage, u, w, *x);
-        complement_set(f, u, *x, own, changes, is_odd)?;
+    let own = f.copy_of_correction(u)?;
+    for i in 0..f.order().len() {
+        let x = vertex_at(f, i);
+        let is_odd = odd_has(f, g, stage, u, w, x);
+        complement_set(f, u, x, &own, changes, is_odd)?;
     }
     Ok(())
 }

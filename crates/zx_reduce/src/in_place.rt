@@ -15,7 +15,7 @@ use crate::step::Step;
 use local_comp::flow::{complement_sets, remove_set};
 use local_comp::graph::{complement, delete};
 use open_graph::{OpenGraph, VertexId};
-use std::alloc::{AllocError, Global};
+use std::alloc::AllocError;
 use zx_boundary::{flow as ends_flow, graph as ends_graph};
 use zx_flow::Flow;
 use zx_gadgets::graph::{drop_lone, fuse_into, fuse_twin};
@@ -23,12 +23,7 @@ use zx_pivot::flow::pivot_sets;
 use zx_pivot::graph::pivot;
 
 /// Does a step that is allowed. Where memory runs out, a part of it is done.
-pub(crate) fn rewrite(
-    alloc: Global,
-    g: &mut OpenGraph,
-    f: &mut Flow,
-    step: &Step,
-) -> Result<(), AllocError>
+pub(crate) fn rewrite(g: &mut OpenGraph, f: &mut Flow, step: &Step) -> Result<(), AllocError>
     requires flow { IsFlow g.old.graph f.old.flow }
     requires valid { WellFormed g.old.graph }
     requires allowed { allowed g.old.graph (step_named step.now) ≡ true }
@@ -38,9 +33,9 @@ pub(crate) fn rewrite(
     ensures valid { OnOk result (WellFormed g.new.graph) }
 {
     match step {
-        Step::LocalComplement(u) => complement_about(alloc, g, f, *u),
+        Step::LocalComplement(u) => complement_about(g, f, *u),
         Step::Delete(u) => {
-            remove(alloc, f, *u)?;
+            remove(f, *u)?;
             delete(g, *u);
             Ok(())
         }
@@ -57,17 +52,17 @@ pub(crate) fn rewrite(
             ends_flow::split_output(f, *b, new)
         }
         Step::DropLone(u) => {
-            remove(alloc, f, *u)?;
+            remove(f, *u)?;
             drop_lone(g, *u);
             Ok(())
         }
         Step::FuseInto(u) => {
-            remove(alloc, f, *u)?;
+            remove(f, *u)?;
             fuse_into(g, *u);
             Ok(())
         }
         Step::FuseTwin(u, v) => {
-            remove(alloc, f, *v)?;
+            remove(f, *v)?;
             fuse_twin(g, *u, *v);
             Ok(())
         }
@@ -75,12 +70,7 @@ pub(crate) fn rewrite(
 }
 
 // A local complement about an interior vertex.
-fn complement_about(
-    alloc: Global,
-    g: &mut OpenGraph,
-    f: &mut Flow,
-    u: VertexId,
-) -> Result<(), AllocError>
+fn complement_about(g: &mut OpenGraph, f: &mut Flow, u: VertexId) -> Result<(), AllocError>
     requires live { Live g.old.graph u }
     requires interior { Interior g.old.graph u }
     requires there { member u (order_of f.old.flow) ≡ true }
@@ -89,16 +79,16 @@ fn complement_about(
         (SameSets f.new.flow (complement_table (seen g.old.graph) u f.old.flow)) }
     ensures valid { OnOk result (WellFormed g.new.graph) }
 {
-    let own = Vec::from_slice(alloc, f.correction(u))?;
+    let own = f.copy_of_correction(u)?;
     complement_sets(f, g, u, &own)?;
     complement(g, u)
 }
 
 // Takes a vertex out of the order and out of all sets.
-fn remove(alloc: Global, f: &mut Flow, u: VertexId) -> Result<(), AllocError>
+fn remove(f: &mut Flow, u: VertexId) -> Result<(), AllocError>
     requires { member u (order_of f.old.flow) ≡ true }
     ensures { OnOk result (SameSets f.new.flow (removal_table u f.old.flow)) }
 {
-    let own = Vec::from_slice(alloc, f.correction(u))?;
+    let own = f.copy_of_correction(u)?;
     remove_set(f, u, &own)
 }

@@ -1,6 +1,6 @@
 //! The search for the next move of simplification.
 
-ghost use Rattle.std.specs.Prelude.{◌≡◌, ◌⊎◌, ℕ, true, false, IfSome, IfNone, slice_get, option_copied};
+ghost use Rattle.std.specs.Prelude.{◌≡◌, ◌⊎◌, ◌<◌, ◌≤◌, ℕ, true, false, IsTrue, IfSome, IfNone, slice_get, option_copied};
 ghost use Rattle.std.specs.List.{find};
 ghost use Rattle.zx_model.specs.Bits.{member};
 ghost use Rattle.zx_calculus.specs.Graph.{Graph, WellFormed, Live, neighbours};
@@ -8,7 +8,7 @@ ghost use Rattle.zx_calculus.specs.Moves.{IsStuck};
 ghost use Rattle.zx_calculus.specs.After.{allowed};
 ghost use Rattle.zx_reduce.specs.declared.search.Kind.TheVariants as kinds;
 ghost use Rattle.zx_reduce.specs.Search.{AppliesAt, IsOfFirstKind, first_step};
-ghost use Rattle.zx_reduce.specs.Internal.Searching.{is_half_turns, is_quarter_turn, is_deletable, is_quarter_gadget, is_in_XZ, is_quarter_spider, is_half_spider, is_gadget_of, is_inner, is_gadget, is_twin, IsMoveOf, NoneAt, NoneOf};
+ghost use Rattle.zx_reduce.specs.Internal.Searching.{is_half_turns, is_quarter_turn, is_deletable, is_quarter_gadget, is_in_XZ, is_quarter_spider, is_half_spider, is_gadget_of, is_inner, is_gadget, is_twin, IsMoveOf, IsMoveAt, IsSettled, NoneAt, NoneBefore};
 
 use open_graph::{OpenGraph, Plane, VertexId};
 use zx_model::Eighth;
@@ -75,12 +75,19 @@ pub fn next_move(g: &OpenGraph) -> Option<Move>
     ensures first { IfSome result (IsOfFirstKind g.now.graph) }
     ensures none { IfNone result (IsStuck g.now.graph) }
 {
-    for kind in KINDS {
-        if let Some(found) = first_of_kind(g, kind) {
-            return Some(found);
+    let mut best = None;
+    // Only kinds before the best so far are still looked for.
+    let mut limit = KINDS.len();
+    for u in g.vertices() {
+        if let Some((place, found)) = first_at(g, u, limit) {
+            best = Some(found);
+            limit = place;
+        }
+        if limit == 0 {
+            break;
         }
     }
-    None
+    best
 }
 
 /// Where a move is of the first kind that applies anywhere, the rewrite that it begins with is
@@ -90,18 +97,34 @@ pub fn found_moves_are_allowed()
         allowed g (first_step g m) ≡ true }
 {}
 
-// The first vertex at which a move of this kind applies, and the move.
-fn first_of_kind(g: &OpenGraph, kind: Kind) -> Option<Move>
-    ensures found { IfSome result (IsMoveOf g.now.graph kind) }
-    ensures none { IfNone result (NoneOf g.now.graph kind) }
-    ensures valid { WellFormed g.now.graph }
+// Of the kinds before a limit the first with a move at a vertex: its place, and the move.
+fn first_at(g: &OpenGraph, u: VertexId, limit: usize) -> Option<(usize, Move)>
+    requires valid { WellFormed g.now.graph }
+    requires live { Live g.now.graph u }
+    requires few { limit ≤ 10 }
+    ensures found { IfSome result (λ best. IsMoveAt g.now.graph best.0 best.1) }
+    ensures earlier { IfSome result (λ best. best.0 < limit) }
+    ensures none { IfSome result (λ best. NoneBefore g.now.graph best.0 u) }
+    ensures stuck { IfNone result (NoneBefore g.now.graph limit u) }
 {
-    for u in g.vertices() {
-        if let Some(found) = move_at(g, u, kind) {
-            return Some(found);
+    if is_settled(g, u) {
+        return None;
+    }
+    for i in 0..limit {
+        if let Some(found) = move_at(g, u, KINDS[i]) {
+            return Some((i, found));
         }
     }
     None
+}
+
+// Whether a vertex is XY and of an odd phase. No move begins there, and most vertices are such.
+fn is_settled(g: &OpenGraph, u: VertexId) -> bool
+    requires { Live g.now.graph u }
+    ensures { IsTrue result → IsSettled g.now.graph u }
+{
+    let (plane, phase) = g.weight(u);
+    matches!(plane, Plane::XY) && phase.is_odd()
 }
 
 // The move of this kind that applies at a vertex.

@@ -72,7 +72,7 @@ impl Working {
             (self.new.trace.steps ≡ self.old.trace.steps ++ step.now ∷ []) }
         ensures valid { OnOk result (WellFormed self.new.graph.graph) }
     {
-        rewrite(self.trace.alloc(), &mut self.graph, &mut self.flow, step)?;
+        rewrite(&mut self.graph, &mut self.flow, step)?;
         self.trace.push(*step)
     }
 }

@@ -1,7 +1,7 @@
 -- The parts of which a pivot of a graph is made.
 use Rattle.std.specs.Prelude.{◌≡◌, ◌≢◌, ℕ, Bool, true, if◌then◌else◌, ◌&&◌, List}
 use Rattle.zx_model.specs.Bits.{xor, member}
-use Rattle.zx_calculus.specs.Graph.{Kind, Graph, ids, joined, OrderedEdges}
+use Rattle.zx_calculus.specs.Graph.{Kind, Graph, joined}
 use Rattle.zx_calculus.specs.Turns.{half_turned}
 
 -- a pair of one of xs and one of ys; one that is it either way round counts twice, so isn't picked

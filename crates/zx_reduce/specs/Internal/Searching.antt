@@ -1,9 +1,9 @@
 -- What the search tests at a vertex, and what it finds by kinds.
-use Rattle.std.specs.Prelude.{◌≡◌, ℕ, ◌+◌, Bool, not, ◌&&◌, ◌||◌, ◌==◌, List, [], ◌∷◌, length, nat_eq}
+use Rattle.std.specs.Prelude.{◌≡◌, ◌<◌, ℕ, ◌+◌, Bool, not, ◌&&◌, ◌||◌, ◌==◌, length, nat_eq}
 use Rattle.std.specs.Cmp.Lexicographic.{pointwise}
-use Rattle.zx_model.specs.Phase.{half_turn, quarter_turn}
+use Rattle.zx_model.specs.Phase.{half_turn, quarter_turn, IsOdd}
 use Rattle.zx_model.specs.Bits.{member}
-use Rattle.zx_calculus.specs.Graph.{Graph, ids, is_XY, plane_of, phase_of, neighbours, Live}
+use Rattle.zx_calculus.specs.Graph.{XY, Graph, ids, is_XY, plane_of, phase_of, neighbours}
 use Rattle.zx_calculus.specs.Counts.{is_XZ}
 use Rattle.zx_calculus.specs.After.{is_YZ}
 use Rattle.zx_calculus.specs.Reduced.{is_interior}
@@ -12,7 +12,7 @@ use Rattle.zx_reduce.specs.declared.search.Move.{Move}
 use Rattle.zx_reduce.specs.declared.search.Move.TheVariants as moves
 use Rattle.zx_reduce.specs.declared.search.Kind.{Kind}
 use Rattle.zx_reduce.specs.declared.search.Kind.TheVariants as kinds
-use Rattle.zx_reduce.specs.Search.{AppliesAt}
+use Rattle.zx_reduce.specs.Search.{AppliesAt, kind_number}
 
 -- a phase is a whole number of half turns, or a quarter turn more
 abbrev pub is_half_turns : ℕ → Bool
@@ -76,10 +76,6 @@ place_of kinds.LoneGadget = 7
 place_of kinds.SingleGadget = 8
 place_of kinds.Twins = 9
 
-abbrev pub all_kinds : List Kind
-all_kinds = kinds.Delete ∷ kinds.QuarterGadget ∷ kinds.FromXZ ∷ kinds.QuarterSpider ∷ kinds.InnerPivot ∷ kinds.BoundaryPivot ∷ kinds.GadgetPair
-    ∷ kinds.LoneGadget ∷ kinds.SingleGadget ∷ kinds.Twins ∷ []
-
 -- a move of this kind that applies
 pub record IsMoveOf (g : Graph) (k : Kind) (m : Move) : Type 0 where
   pub applies : AppliesAt g m
@@ -98,6 +94,16 @@ NoneAt g kinds.LoneGadget u = ¬ IsGadgetOf g u 0
 NoneAt g kinds.SingleGadget u = ¬ IsGadgetOf g u 1
 NoneAt g kinds.Twins u = (v : ℕ) → ¬ IsGadgetOf g u 0 → ¬ AreTwins g u v
 
--- nor at any other vertex
-abbrev pub NoneOf : Graph → Kind → Type 0
-NoneOf g k = (u : ℕ) → Live g u → NoneAt g k u
+-- nor a move of a kind whose place is before n
+abbrev pub NoneBefore : Graph → ℕ → ℕ → Type 0
+NoneBefore g n u = (k : Kind) → place_of k < n → NoneAt g k u
+
+-- a move that applies, of the kind at this place
+pub record IsMoveAt (g : Graph) (place : ℕ) (m : Move) : Type 0 where
+  pub applies : AppliesAt g m
+  pub kind : kind_number m ≡ place
+
+-- u is XY and of an odd phase
+pub record IsSettled (g : Graph) (u : ℕ) : Type 0 where
+  pub plane : plane_of g u ≡ XY
+  pub phase : IsOdd (phase_of g u)

@@ -5,7 +5,7 @@ use Rattle.zx_calculus.specs.Edits.{at_vertex}
 use Rattle.zx_calculus.specs.Turns.{pivoted}
 use Rattle.local_comp.specs.Internal.Changes.{with_changed}
 use Rattle.zx_pivot.specs.Internal.Changes.{IsRewired, half_turned_in}
-use Rattle.zx_pivot.proofs.PivotSteps.{adjacent_apart, live_changed, rewired_live, rewired_interior, pivot_step}
+use Rattle.zx_pivot.proofs.PivotSteps.{adjacent_apart, live_changed, rewired_live, pivot_step}
 use Rattle.zx_pivot.proofs.graph.pivot.Goals as goal
 
 pub rewire-requires-clause-u_live : goal.rewire-requires-clause-u_live

@@ -1,6 +1,6 @@
 -- The vertex's own plane and phase.
 use Rattle.std.proofs.Common.{◌∙◌, ap}
-use Rattle.zx_calculus.specs.Graph.{Kind, with_kinds}
+use Rattle.zx_calculus.specs.Graph.{Kind}
 use Rattle.zx_calculus.specs.Turns.{pivoted}
 use Rattle.zx_calculus.specs.Edits.{at_vertex}
 use Rattle.zx_calculus.proofs.Edits.{with_kinds-at}

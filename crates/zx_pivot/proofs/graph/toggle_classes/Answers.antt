@@ -1,5 +1,5 @@
 -- The rows of u and v stay.
-use Rattle.std.proofs.Common.{◌≡◌, sym, ◌∙◌, ap, subst, ◌<◌, List, ℕ, length, get_or, add-one}
+use Rattle.std.proofs.Common.{sym, ◌∙◌, subst, ◌<◌, List, ℕ, length, get_or, add-one}
 use Rattle.zx_calculus.specs.Graph.{neighbours, Live}
 use Rattle.local_comp.specs.Internal.Changes.{IsToggled, from_to}
 use Rattle.zx_pivot.proofs.Loops.{at_place, place_live, u_stays, class_live, class_apart, class_next}

@@ -1,5 +1,5 @@
 -- The row that is gone through stays.
-use Rattle.std.proofs.Common.{◌≡◌, sym, ◌∙◌, ap, subst, ◌<◌, List, ℕ, length, get_or, add-one}
+use Rattle.std.proofs.Common.{sym, ◌∙◌, subst, ◌<◌, List, ℕ, length, get_or, add-one}
 use Rattle.zx_calculus.specs.Graph.{neighbours, Live}
 use Rattle.zx_calculus.specs.Edits.{IsToggle}
 use Rattle.zx_pivot.proofs.Loops.{at_place, same_from_test, place_live, row_stays, row_live, row_next, row_skip}

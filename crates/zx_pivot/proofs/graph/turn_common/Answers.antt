@@ -1,5 +1,5 @@
 -- Planes and phases change alone, so rows stay.
-use Rattle.std.proofs.Common.{◌≡◌, sym, ◌∙◌, subst, ◌<◌, List, ℕ, length, get_or, add-one}
+use Rattle.std.proofs.Common.{sym, ◌∙◌, subst, ◌<◌, List, ℕ, length, get_or, add-one}
 use Rattle.zx_calculus.specs.Graph.{joined, neighbours, Live}
 use Rattle.zx_pivot.proofs.Halves.{halves_none}
 use Rattle.zx_pivot.proofs.Loops.{at_place, place_live, turned_live, turned_row, turned_next, turned_skip}

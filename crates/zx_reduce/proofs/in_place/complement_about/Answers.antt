@@ -7,5 +7,5 @@ use Rattle.zx_reduce.proofs.in_place.complement_about.Goals as goal
 
 pub complement_sets-requires-clause-differ : goal.complement_sets-requires-clause-differ
 complement_sets-requires-clause-differ c =
-    subst Distinct (sym (c.deref.ensures.value ∙ (c.in_ok-own.ensures.items ∙ c.correction.ensures.value)))
-    (Distinct-rising (set_of c.args.f.now.flow c.args.u) c.correction.ensures.valid)
+    subst Distinct (sym (c.deref.ensures.value ∙ c.in_ok-own.ensures.value))
+    (Distinct-rising (set_of c.args.f.now.flow c.args.u) c.in_ok-own.ensures.valid)

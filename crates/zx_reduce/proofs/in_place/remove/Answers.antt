@@ -7,5 +7,5 @@ use Rattle.zx_reduce.proofs.in_place.remove.Goals as goal
 
 pub remove_set-requires-clause-differ : goal.remove_set-requires-clause-differ
 remove_set-requires-clause-differ c =
-    subst Distinct (sym (c.deref.ensures.value ∙ (c.in_ok-own.ensures.items ∙ c.correction.ensures.value)))
-    (Distinct-rising (set_of c.args.f.now.flow c.args.u) c.correction.ensures.valid)
+    subst Distinct (sym (c.deref.ensures.value ∙ c.in_ok-own.ensures.value))
+    (Distinct-rising (set_of c.args.f.now.flow c.args.u) c.in_ok-own.ensures.valid)

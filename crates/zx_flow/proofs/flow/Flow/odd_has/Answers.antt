@@ -1,9 +1,16 @@
-use Rattle.std.proofs.Common.{◌∙◌, sym, ap, ap₂, ℕ, List, eqb, ◌%◌}
+use Rattle.std.proofs.Common.{◌≡◌, ◌∙◌, sym, ap, ap₂, subst, ℕ, true, List, eqb, ltb, ◌%◌}
 use Rattle.std.specs.Prelude.{count_by}
-use Rattle.zx_calculus.specs.Graph.{ids, joined}
+use Rattle.zx_calculus.specs.Graph.{ids, joined, in_order}
+use Rattle.zx_calculus.proofs.Extensionality.{in_order-filter}
 use Rattle.gflow_laws.specs.Flow.{set_of, is_in}
 use Rattle.zx_flow.proofs.MemberLemmas.{parity-count, parity-absent}
 use Rattle.zx_flow.proofs.flow.Flow.odd_has.Goals as goal
+
+pub count_of-requires : goal.count_of-requires
+count_of-requires c =
+    let g = c.args.g.now.graph in
+    subst (λ (near : List ℕ). in_order ltb near ≡ true) (sym c.neighbours.ensures.value)
+    (in_order-filter (joined g.edges c.args.w) (ids g.vertices) c.neighbours.ensures.valid.vertices_rising)
 
 pub returns-then-is_live : goal.returns-then-is_live
 returns-then-is_live c =
