@@ -47,11 +47,16 @@ pub fn gates_without_angles()
 /// Gates with angles are the gates of their names, where their angles are whole numbers of eighth turns.
 pub fn gates_with_angles()
     // on one qubit
-    ensures u1 { (a : Angle) (k : ℕ) → phase_of a ≡ Some k → HasMap (codes "u1") (a ∷ []) (0 ∷ []) (single (phase k)) }
-    ensures p { (a : Angle) (k : ℕ) → phase_of a ≡ Some k → HasMap (codes "p") (a ∷ []) (0 ∷ []) (single (phase k)) }
-    ensures rx { (a : Angle) (k : ℕ) → phase_of a ≡ Some k → HasMap (codes "rx") (a ∷ []) (0 ∷ []) (single (rotation_x k)) }
-    ensures ry { (a : Angle) (k : ℕ) → phase_of a ≡ Some k → HasMap (codes "ry") (a ∷ []) (0 ∷ []) (single (rotation_y k)) }
-    ensures rz { (a : Angle) (k : ℕ) → phase_of a ≡ Some k → HasMap (codes "rz") (a ∷ []) (0 ∷ []) (single (rotation_z k)) }
+    ensures u1 { (a : Angle) (k : ℕ) → phase_of a ≡ Some k
+        → HasMap (codes "u1") (a ∷ []) (0 ∷ []) (single (phase k)) }
+    ensures p { (a : Angle) (k : ℕ) → phase_of a ≡ Some k
+        → HasMap (codes "p") (a ∷ []) (0 ∷ []) (single (phase k)) }
+    ensures rx { (a : Angle) (k : ℕ) → phase_of a ≡ Some k
+        → HasMap (codes "rx") (a ∷ []) (0 ∷ []) (single (rotation_x k)) }
+    ensures ry { (a : Angle) (k : ℕ) → phase_of a ≡ Some k
+        → HasMap (codes "ry") (a ∷ []) (0 ∷ []) (single (rotation_y k)) }
+    ensures rz { (a : Angle) (k : ℕ) → phase_of a ≡ Some k
+        → HasMap (codes "rz") (a ∷ []) (0 ∷ []) (single (rotation_z k)) }
     ensures u2 { (a b : Angle) (j k : ℕ) → phase_of a ≡ Some j → phase_of b ≡ Some k →
         HasMap (codes "u2") (a ∷ b ∷ []) (0 ∷ []) (single (three_rotations 2 j k)) }
     ensures u3 { (a b c : Angle) (i j k : ℕ) → phase_of a ≡ Some i → phase_of b ≡ Some j
@@ -62,18 +67,22 @@ pub fn gates_with_angles()
         HasMap (codes "u") (a ∷ b ∷ c ∷ []) (0 ∷ []) (single (three_rotations i j k)) }
 
     // on two qubits
-    ensures rzz { (a : Angle) (k : ℕ) → phase_of a ≡ Some k → HasMap (codes "rzz") (a ∷ []) (0 ∷ 1 ∷ []) (rotation_zz k) }
+    ensures rzz { (a : Angle) (k : ℕ) → phase_of a ≡ Some k
+        → HasMap (codes "rzz") (a ∷ []) (0 ∷ 1 ∷ []) (rotation_zz k) }
 {}
 
 /// Gates that halve an angle are the gates of their names, where the half is a whole number k of eighth turns. The angle
 /// is 2*k eighth turns then, up to two whole turns, and the scalar exp(i*angle/2) of the rotations is w^k.
 pub fn gates_with_half_angles()
-    ensures crx { (a half : Angle) (k : ℕ) → half_of a ≡ Ok half → phase_of half ≡ Some k →
-        HasMap (codes "crx") (a ∷ []) (0 ∷ 1 ∷ []) (controlled (mul two (root_power k)) (single (rotation_x (2 * k)))) }
-    ensures cry { (a half : Angle) (k : ℕ) → half_of a ≡ Ok half → phase_of half ≡ Some k →
-        HasMap (codes "cry") (a ∷ []) (0 ∷ 1 ∷ []) (controlled (mul two (root_power k)) (single (rotation_y (2 * k)))) }
-    ensures crz { (a half : Angle) (k : ℕ) → half_of a ≡ Ok half → phase_of half ≡ Some k →
-        HasMap (codes "crz") (a ∷ []) (0 ∷ 1 ∷ []) (controlled (root_power k) (single (rotation_z (2 * k)))) }
+    ensures crx { (a half : Angle) (k : ℕ) → half_of a ≡ Ok half → phase_of half ≡ Some k
+        → HasMap (codes "crx") (a ∷ []) (0 ∷ 1 ∷ [])
+        (controlled (mul two (root_power k)) (single (rotation_x (2 * k)))) }
+    ensures cry { (a half : Angle) (k : ℕ) → half_of a ≡ Ok half → phase_of half ≡ Some k
+        → HasMap (codes "cry") (a ∷ []) (0 ∷ 1 ∷ [])
+        (controlled (mul two (root_power k)) (single (rotation_y (2 * k)))) }
+    ensures crz { (a half : Angle) (k : ℕ) → half_of a ≡ Ok half → phase_of half ≡ Some k
+        → HasMap (codes "crz") (a ∷ []) (0 ∷ 1 ∷ [])
+        (controlled (root_power k) (single (rotation_z (2 * k)))) }
     ensures cu1 { (a half : Angle) (k : ℕ) → half_of a ≡ Ok half → phase_of half ≡ Some k →
         HasMap (codes "cu1") (a ∷ []) (0 ∷ 1 ∷ []) (controlled one (single (phase (2 * k)))) }
     ensures cp { (a half : Angle) (k : ℕ) → half_of a ≡ Ok half → phase_of half ≡ Some k →
@@ -110,9 +119,9 @@ pub fn worked_definitions()
         controlled one (controlled one (single pauli_x)) x y
         ≡ (if same_bits (bit x 0 ∷ bit x 1 ∷ xor (bit x 0 && bit x 1) (bit x 2) ∷ []) y then one else zero) }
     // the second and the third bit change places where the first is 1
-    ensures fredkin { (x y : List Bool) → length x ≡ 3 → length y ≡ 3 →
-        controlled one swap_two x y
-        ≡ (if same_bits (if bit x 0 then bit x 0 ∷ bit x 2 ∷ bit x 1 ∷ [] else x) y then one else zero) }
+    ensures fredkin { (x y : List Bool) → length x ≡ 3 → length y ≡ 3
+        → controlled one swap_two x y ≡ (if same_bits
+        (if bit x 0 then bit x 0 ∷ bit x 2 ∷ bit x 1 ∷ [] else x) y then one else zero) }
     // the sign changes where all bits are 1
     ensures controlled_z { (x y : List Bool) → length x ≡ 3 → length y ≡ 3 →
         controlled one (controlled one (single pauli_z)) x y

@@ -1,5 +1,5 @@
 -- Evaluation of the steps of a tree, one after the other, gives the tree's value.
-use Rattle.std.proofs.Common.{◌≡◌, ap₂, ◌||◌, false, true, Bool, ℕ, suc, ◌<◌, ◌≤◌, List, [], ◌∷◌, ◌++◌, length, get_or, drop, Result, Ok, Err, refl, sym, ◌∙◌, ap, append_assoc, append-nil, drop-cons}
+use Rattle.std.proofs.Common.{◌≡◌, ap₂, ◌||◌, false, true, Bool, ℕ, suc, ◌<◌, ◌≤◌, List, [], ◌∷◌, ◌++◌, length, get_or, drop, Result, Ok, Err, refl, sym, ◌∙◌, ap, append_assoc, append-nil, drop-cons, length-append, arith}
 use Rattle.std.specs.List.{list_any}
 use Rattle.std.proofs.lemmas.List.Folds.{list_any-append}
 use Rattle.std.proofs.Math.ListN.{drop_of_length-le}
@@ -8,7 +8,9 @@ use Rattle.qasm_angle.specs.Values.{value, of_opposite, of_operands}
 use Rattle.qasm_angle.specs.Internal.Constants.{is_parameter}
 use Rattle.qasm_angle.specs.Internal.Stack.{stepped, on_top}
 use Rattle.qasm_angle.specs.declared.angle.Angle.{Angle}
+use Rattle.qasm_angle.specs.Errors.{error_of}
 use Rattle.qasm_angle.specs.declared.errors.Cause.{Cause}
+use Rattle.qasm_angle.specs.declared.errors.Cause.TheVariants as cause
 use Rattle.qasm_angle.specs.declared.expression.Operator.{Operator}
 use Rattle.qasm_angle.specs.declared.expression.ExprItem.{ExprItem}
 use Rattle.qasm_angle.specs.declared.expression.ExprItem.TheVariants as step
@@ -63,35 +65,50 @@ alone args (Err c) = refl
 run-tree : (t : Tree) (args : List Angle) → run args (postfix t) [] ≡ on_top (value t args) []
 run-tree t args = ap (λ s. run args s []) (sym (append-nil (postfix t))) ∙ run-postfix t args [] [] ∙ alone args (value t args)
 
-on_top-ok : (r : Result Angle Cause) (a : Angle) (angles : List Angle) → on_top r [] ≡ Ok (a ∷ angles) → r ≡ Ok a
-on_top-ok (Ok b) a angles e = cc
-on_top-ok (Err c) a angles e = cc
+-- one list of steps after the other
+run-append : (args : List Angle) (first then : List ExprItem) (angles : List Angle) → run args (first ++ then) angles ≡ and_then (run args first angles) (run args then)
+run-append args [] then angles = refl
+run-append args (s ∷ first) then angles = go (stepped s args angles) (run-append args first then) where
+  go : (r : Result (List Angle) Cause) → ((next : List Angle) → run args (first ++ then) next ≡ and_then (run args first next) (run args then))
+      → and_then r (run args (first ++ then)) ≡ and_then (and_then r (run args first)) (run args then)
+  go (Ok next) same = same next
+  go (Err c) same = refl
+
+-- what is on top of nothing, and what is on top of others
+on_top-same : (args : List Angle) (a b : Result Angle Cause) (angles : List Angle) → on_top a [] ≡ and_then (on_top b angles) (run args []) → a ≡ b
+on_top-same args (Ok a) (Ok b) angles e = cc
+on_top-same args (Ok a) (Err c) angles e = cc
+on_top-same args (Err c) (Ok b) angles e = cc
+on_top-same args (Err c) (Err d) angles e = cc
 
 on_top-err : (r : Result Angle Cause) (c : Cause) → on_top r [] ≡ Err c → r ≡ Err c
 on_top-err (Ok b) c e = cc
 on_top-err (Err d) c e = cc
 
-on_top-none : (r : Result Angle Cause) → on_top r [] ≡ Ok [] → ⊥
-on_top-none (Ok b) e = cc
-on_top-none (Err d) e = cc
+pub some_steps : (t : Tree) → 0 < length (postfix t)
+some_steps (Number a) = omega arith
+some_steps Pi = omega arith
+some_steps (Parameter i) = omega arith
+some_steps (Negate a) = omega (arith, length-append (postfix a) (step.Negate ∷ []))
+some_steps (Binary operator a b) = omega (arith, length-append (postfix a ++ postfix b) (step.Binary operator ∷ []))
 
-module _ (t : Tree) (args : List Angle) (steps : List ExprItem) (i : ℕ) (angles : List Angle) (is : steps ≡ postfix t) (so_far : run args (drop i steps) angles ≡ run args steps []) where
-  -- all steps are done
-  pub finished : length steps ≤ i → Ok angles ≡ on_top (value t args) []
-  finished h = ap (λ s. run args s angles) (sym (drop_of_length-le steps h)) ∙ so_far ∙ ap (λ s. run args s []) is ∙ run-tree t args
+-- the steps before the last one, of which some are done
+module _ (t : Tree) (args : List Angle) (steps before : List ExprItem) (last : ExprItem) (i : ℕ) (angles : List Angle) (is : steps ≡ postfix t) (cut : steps ≡ before ++ last ∷ []) (so_far : run args (drop i before) angles ≡ run args before []) where
+  at_end : on_top (value t args) [] ≡ and_then (run args before []) (run args (last ∷ []))
+  at_end = sym (run-tree t args) ∙ ap (λ s. run args s []) (sym is ∙ cut) ∙ run-append args before (last ∷ []) []
 
-  pub value-finished : length steps ≤ i → (a : Angle) (rest : List Angle) → angles ≡ a ∷ rest → value t args ≡ Ok a
-  value-finished h a rest e = on_top-ok (value t args) a rest (sym (finished h) ∙ ap Ok e)
-
-  pub never_empty : length steps ≤ i → angles ≡ [] → ⊥
-  never_empty h e = on_top-none (value t args) (sym (finished h) ∙ ap Ok e)
+  -- what the last step puts on top is the value
+  pub value-last : length before ≤ i → (r : Result Angle Cause) (rest : List Angle) → on_top r rest ≡ stepped last args angles → value t args ≡ r
+  value-last h r rest e =
+      let done : run args before [] ≡ Ok angles = sym so_far ∙ ap (λ s. run args s angles) (drop_of_length-le before h) in
+      on_top-same args (value t args) r rest (at_end ∙ ap (λ q. and_then q (run args (last ∷ []))) done ∙ ap (λ q. and_then q (run args [])) (sym e))
 
   -- the next step fails
-  pub value-failed : (s : ExprItem) (c : Cause) → i < length steps → s ≡ get_or steps i s → stepped s args angles ≡ Err c → value t args ≡ Err c
+  pub value-failed : (s : ExprItem) (c : Cause) → i < length before → s ≡ get_or before i s → stepped s args angles ≡ Err c → value t args ≡ Err c
   value-failed s c h at e =
-      let next : run args (drop i steps) angles ≡ Err c =
-      ap (λ x. run args x angles) (drop-cons steps i s h ∙ ap (λ x. x ∷ drop (suc i) steps) (sym at)) ∙ ap (λ r. and_then r (run args (drop (suc i) steps))) e in
-      on_top-err (value t args) c (sym (run-tree t args) ∙ ap (λ x. run args x []) (sym is) ∙ sym so_far ∙ next)
+      let next : run args before [] ≡ Err c =
+      sym so_far ∙ ap (λ x. run args x angles) (drop-cons before i s h ∙ ap (λ x. x ∷ drop (suc i) before) (sym at)) ∙ ap (λ r. and_then r (run args (drop (suc i) before))) e in
+      on_top-err (value t args) c (at_end ∙ ap (λ q. and_then q (run args (last ∷ []))) next)
 
 -- neither of two tests
 neither : (a b : Bool) → (a || b) ≡ false → (a ≡ false) × (b ≡ false)
@@ -109,6 +126,18 @@ value-constant (Binary operator a b) args h =
     let both = neither _ _ (sym (list_any-append is_parameter (postfix a ++ postfix b) (step.Binary operator ∷ [])) ∙ h) in
     let each = neither _ _ (sym (list_any-append is_parameter (postfix a) (postfix b)) ∙ both.0) in
     ap₂ (of_operands operator) (value-constant a args each.0) (value-constant b args each.1)
+
+-- the cause that an error stands for
+pub error_of-same : (c d : Cause) → error_of c ≡ error_of d → c ≡ d
+error_of-same cause.Divide cause.Divide e = refl
+error_of-same cause.Divide cause.TooLarge e = cc
+error_of-same cause.Divide cause.NotAnAngle e = cc
+error_of-same cause.TooLarge cause.Divide e = cc
+error_of-same cause.TooLarge cause.TooLarge e = refl
+error_of-same cause.TooLarge cause.NotAnAngle e = cc
+error_of-same cause.NotAnAngle cause.Divide e = cc
+error_of-same cause.NotAnAngle cause.TooLarge e = cc
+error_of-same cause.NotAnAngle cause.NotAnAngle e = refl
 
 -- an error that two results of one type share
 pub Err_same : {T E : Type 0} {x y : E} → ◌≡◌ {A = Result T E} (Err x) (Err y) → x ≡ y

@@ -12,7 +12,8 @@ use zx_model::Eighth;
 #[tactic(auto, unfolding(crate::specs::Eighths::phase_of))]
 pub fn to_eighth(a: &Angle) -> Option<Eighth>
     ensures phase { result ≡ phase_of a.now }
-    ensures some { IfSome result (λ phase. (n : ℤ) × IsEighths a.now n × (phase ≡ within_a_turn n)) }
+    ensures some { IfSome result (λ phase. (n : ℤ) × IsEighths a.now n
+        × (phase ≡ within_a_turn n)) }
     ensures none { IfNone result ((n : ℤ) → IsEighths a.now n → ⊥) }
 {
     let turns = eighths(a)?;

@@ -20,17 +20,22 @@ use std::alloc::{AllocError, Global};
 pub fn eval(alloc: Global, e: &Expr, args: &[Angle]) -> Result<Angle, AngleError>
     ensures value { IfOk result (λ angle. value e.now args.now ≡ Ok angle) }
     ensures divide { result ≡ Err AngleError.Divide → value e.now args.now ≡ Err cause.Divide }
-    ensures too_large { result ≡ Err AngleError.TooLarge → value e.now args.now ≡ Err cause.TooLarge }
-    ensures not_an_angle { result ≡ Err AngleError.NotAnAngle → value e.now args.now ≡ Err cause.NotAnAngle }
+    ensures too_large { result ≡ Err AngleError.TooLarge
+        → value e.now args.now ≡ Err cause.TooLarge }
+    ensures not_an_angle { result ≡ Err AngleError.NotAnAngle
+        → value e.now args.now ≡ Err cause.NotAnAngle }
 {
     if let Some(angle) = e.constant() {
         return Ok(angle);
     }
+    let Some((last, before)) = e.steps().split_last() else {
+        return Err(AngleError::NotAnAngle);
+    };
     let mut angles = Vec::new(alloc);
-    for step in e.steps() {
+    for step in before {
         push_step(&mut angles, step, args)?;
     }
-    let angle = pop_angle(&mut angles)?;
+    let angle = take_step(&mut angles, last, args)?;
     Ok(angle)
 }
 
@@ -60,8 +65,10 @@ fn names_parameter(steps: &[ExprItem]) -> bool
 
 /// Takes the operands of a step from the end of the angles, and adds what it gives.
 fn push_step(angles: &mut Vec<Angle>, step: &ExprItem, args: &[Angle]) -> Result<(), AngleError>
-    ensures angles { OnOk result (stepped step.now args.now (reverse angles.old.items) ≡ Ok (reverse angles.new.items)) }
-    ensures cause { (c : Cause) → result ≡ Err (error_of c) → stepped step.now args.now (reverse angles.old.items) ≡ Err c }
+    ensures angles { OnOk result (stepped step.now args.now (reverse angles.old.items)
+        ≡ Ok (reverse angles.new.items)) }
+    ensures cause { (c : Cause) → result ≡ Err (error_of c)
+        → stepped step.now args.now (reverse angles.old.items) ≡ Err c }
 {
     let angle = take_step(angles, step, args)?;
     angles.push(angle)?;
@@ -70,7 +77,8 @@ fn push_step(angles: &mut Vec<Angle>, step: &ExprItem, args: &[Angle]) -> Result
 
 /// Takes the operands of a step from the end of the angles, and gives the step's angle.
 fn take_step(angles: &mut Vec<Angle>, step: &ExprItem, args: &[Angle]) -> Result<Angle, Cause>
-    ensures { on_top result (reverse angles.new.items) ≡ stepped step.now args.now (reverse angles.old.items) }
+    ensures { on_top result (reverse angles.new.items)
+        ≡ stepped step.now args.now (reverse angles.old.items) }
 {
     match step {
         ExprItem::Number(literal) => number(literal),

@@ -168,7 +168,8 @@ fn size(exponent: &[u8]) -> u64
 
 /// A size with one more byte, which is passed over where it is no digit; the largest number where that is larger.
 fn with_byte(size: u64, byte: u8) -> u64
-    ensures { (rest : List ℕ) → min (number_from result (digits_of rest)) (2 ^ 64 - 1) ≡ min (number_from size (digits_of (byte ∷ rest))) (2 ^ 64 - 1) }
+    ensures { (rest : List ℕ) → min (number_from result (digits_of rest)) (2 ^ 64 - 1)
+        ≡ min (number_from size (digits_of (byte ∷ rest))) (2 ^ 64 - 1) }
 {
     if byte.is_ascii_digit() {
         size.saturating_mul(10)

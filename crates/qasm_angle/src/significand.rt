@@ -26,8 +26,10 @@ impl Significand {
         requires room { self.zeros < 2 ^ 63 }
         ensures valid { IfSome result (λ s. IsSignificand s) }
         ensures zeros { IfSome result (λ s. s.zeros ≤ self.zeros + 1) }
-        ensures some { IfSome result (λ s. (rest digits : List ℕ) → Keeps self (digit ∷ rest) digits → Keeps s rest digits) }
-        ensures none { IfNone result ((rest digits : List ℕ) → Keeps self (digit ∷ rest) digits → nat_lt most_significant (significant digits) ≡ true) }
+        ensures some { IfSome result (λ s. (rest digits : List ℕ) → Keeps self (digit ∷ rest) digits
+            → Keeps s rest digits) }
+        ensures none { IfNone result ((rest digits : List ℕ) → Keeps self (digit ∷ rest) digits
+            → nat_lt most_significant (significant digits) ≡ true) }
     {
         if self.count < MOST_SIGNIFICANT {
             let leading = self.leading * 10 + u128::from(digit);
@@ -53,8 +55,11 @@ impl Significand {
         requires room { self.zeros < 2 ^ 63 }
         ensures valid { IfSome result (λ s. IsSignificand s) }
         ensures zeros { IfSome result (λ s. s.zeros ≤ self.zeros + 1) }
-        ensures some { IfSome result (λ s. (rest digits : List ℕ) → Keeps self (digits_of (byte ∷ rest)) digits → Keeps s (digits_of rest) digits) }
-        ensures none { IfNone result ((rest digits : List ℕ) → Keeps self (digits_of (byte ∷ rest)) digits → nat_lt most_significant (significant digits) ≡ true) }
+        ensures some { IfSome result (λ s. (rest digits : List ℕ)
+            → Keeps self (digits_of (byte ∷ rest)) digits → Keeps s (digits_of rest) digits) }
+        ensures none { IfNone result ((rest digits : List ℕ)
+            → Keeps self (digits_of (byte ∷ rest)) digits
+            → nat_lt most_significant (significant digits) ≡ true) }
     {
         if byte.is_ascii_digit() {
             self.push(byte - b'0')
@@ -66,11 +71,14 @@ impl Significand {
 
 /// The digits of a mantissa; none where too many are significant.
 pub(crate) fn read_digits(mantissa: &[u8]) -> Option<Significand>
-    ensures number { IfSome result (λ s. number_of (digits_of mantissa.now) ≡ s.leading * 10 ^ s.zeros) }
+    ensures number { IfSome result (λ s. number_of (digits_of mantissa.now)
+        ≡ s.leading * 10 ^ s.zeros) }
     ensures small { IfSome result (λ s. s.leading < 10 ^ 38) }
     ensures zeros { IfSome result (λ s. s.zeros < 2 ^ 63) }
-    ensures some { IfSome result (λ _. nat_lt most_significant (significant (digits_of mantissa.now)) ≡ false) }
-    ensures none { IfNone result (nat_lt most_significant (significant (digits_of mantissa.now)) ≡ true) }
+    ensures some { IfSome result (λ _. nat_lt most_significant
+        (significant (digits_of mantissa.now)) ≡ false) }
+    ensures none { IfNone result (nat_lt most_significant (significant (digits_of mantissa.now))
+        ≡ true) }
 {
     let mut significand = Significand {
         leading: 0,

@@ -1,25 +1,29 @@
 -- What is wrong with an application, and what it comes to, by what names are kept as.
-use Rattle.std.proofs.Common.{◌≡◌, ℕ, zero, suc, ◌+◌, ◌<◌, ◌≤◌, Bool, true, false, ◌||◌, List, [], ◌∷◌, length, map, Option, None, Some, Result, refl, sym, ap, ap₂, ◌∙◌, arith}
+use Rattle.std.proofs.Common.{◌≡◌, ℕ, zero, suc, ◌+◌, ◌<◌, ◌≤◌, Bool, true, false, ◌||◌, List, [], ◌∷◌, length, map, Option, None, Some, refl, sym, ap, ap₂, ◌∙◌, arith}
 use Rattle.std.specs.List.{list_any, flat_map, range_with_len}
 use Rattle.std.proofs.lemmas.Bool.Decides.{nat_tests}
 use Rattle.zx_gates.specs.Circuit.{most_qubits}
-use Rattle.qasm_angle.specs.declared.angle.Angle.{Angle}
-use Rattle.qasm_reader.specs.Syntax.{Apply, Operand, Act, Applied}
-use Rattle.qasm_scope.specs.declared.causes.Cause.{Cause}
+use Rattle.qasm_angle.specs.Trees.{Tree}
+use Rattle.qasm_reader.specs.Syntax.{Apply, Formula, Operand, Act, Applied}
+use Rattle.qasm_scope.specs.Calls.{Event}
+use Rattle.qasm_scope.specs.declared.gates.CalledGate.{CalledGate}
 use Rattle.qasm_scope.specs.Angles.{is_unsupported, numbered}
 use Rattle.qasm_scope.specs.Applications.{QubitRange, Single, Register, qubit_at, instances, instance_count, register_sizes, ranges_of, range_in, has_twice, application_events}
-use Rattle.qasm_scope.specs.Internal.Checks.{Symbols, shape_by, called_by, application_cause}
-use Rattle.qasm_scope.specs.Internal.Entries.{has_unplaced, placed, ArePlaces}
+use Rattle.qasm_scope.specs.Internal.Checks.{Symbols, gate_shape, shape_by, called_by, application_cause}
 use Rattle.qasm_scope.specs.Faults.{is_no_gate, shape_of, has_other_name, has_no_register, has_other_shape, has_past_index, has_other_size, is_past, wrong_in}
 use Rattle.qasm_scope.specs.Internal.Kept.{IsSound, called_for}
 use Rattle.qasm_inline.specs.Internal.KeptCalls.{expand_number}
 use Rattle.qasm_inline.specs.Internal.KeptCalls.{called_events, values_of}
 use Rattle.qasm_scope.specs.Scope.{Scope, Meaning, Qubits, Bits, Gate, meaning_of, numeral}
-use Rattle.qasm_inline.specs.Internal.Spans.{no_register_by, past_by, span_by, wrong_application_by, cut_qubit_at, cut_instance, cut_instances}
+use Rattle.qasm_inline.specs.Internal.Spans.{no_register_by, past_by, any_missing, span_by, unknown_by, wrong_count_by, AreSpans, IsResolved, is_unresolved, unresolved_cause, resolved_cause, cut_qubit_at, cut_instance, cut_instances, instances_events}
 use Rattle.qasm_scope.proofs.CheckLemmas.{AreNames, shape-names, called-names, placed-numbered, list_any-same, map-same}
-use Rattle.qasm_inline.proofs.EventLemmas.{application-numbered}
 use Rattle.qasm_scope.proofs.Formulas.{unplaced-names}
-use Rattle.qasm_scope.proofs.Tests.{or-first, or-second}
+use Rattle.qasm_scope.specs.Internal.Entries.{has_unplaced, any_other, placed as placed_by, ArePlaces, ArePlaced}
+use Rattle.qasm_scope.specs.declared.places.Places.{Places}
+use Rattle.qasm_scope.specs.declared.gates.KnownGate.{KnownGate}
+use Rattle.std.specs.Option.{option_map}
+use Rattle.qasm_inline.proofs.EventLemmas.{application-numbered}
+use Rattle.qasm_scope.proofs.Tests.{or-first, or-second, any_or}
 use Rattle.qasm_inline.proofs.SpanLemmas.{no_register-names, past-names, span-names, few-register, IsFew}
 
 -- ---- causes
@@ -31,20 +35,40 @@ wrong_in-application : (scope : Scope) (a : Apply) → wrong_in scope (Act (Appl
 unfolding wrong_in
 wrong_in-application scope a = refl
 
--- sizes and qubits matter only where no index is past its register
-late : (a b c d e f e' f' : Bool) → (d ≡ false → (e ≡ e') × (f ≡ f')) → application_cause a b c d e f ≡ application_cause a b c d e' f'
-late true b c d e f e' f' h = refl
-late false true c d e f e' f' h = refl
-late false false true d e f e' f' h = refl
-late false false false true e f e' f' h = refl
-late false false false false e f e' f' h = ap₂ (λ x y. application_cause false false false false x y) (h refl).0 (h refl).1
+same-tests : (u k k' w w' p p' s q : Bool) → k ≡ k' → w ≡ w' → p ≡ p' → application_cause u k w p s q ≡ application_cause u k' w' p' s q
+same-tests u k k' w w' p p' s q ek ew ep = ap (λ k. application_cause u k w p s q) ek ∙ ap₂ (λ w p. application_cause u k' w p s q) ew ep
 
-pub application_cause-none : (a b c d e f : Bool) → application_cause a b c d e f ≡ None → (a ≡ false) × (b ≡ false) × (d ≡ false)
-application_cause-none true b c d e f h = absurd (cc)
-application_cause-none false true c d e f h = absurd (cc)
-application_cause-none false false true d e f h = absurd (cc)
-application_cause-none false false false true e f h = absurd (cc)
-application_cause-none false false false false e f h = (refl, refl, refl)
+-- the same by what names are kept as
+wrong-kept : (symbols : Symbols) (scope : Scope) (a : Apply) → AreNames symbols scope → wrong_in scope (Act (Applied a))
+    ≡ application_cause (list_any is_unsupported a.angles) (unknown_by symbols a) (wrong_count_by symbols a) (list_any (past_by symbols) a.qubits)
+    (has_other_size (register_sizes (ranges_of scope a.qubits))) (list_any has_twice (instances (ranges_of scope a.qubits)))
+wrong-kept symbols scope a h =
+    let shape = sym (shape-names symbols scope a.gate h) in
+    wrong_in-application scope a
+    ∙ same-tests (list_any is_unsupported a.angles) _ _ _ _ _ _ (has_other_size (register_sizes (ranges_of scope a.qubits))) (list_any has_twice (instances (ranges_of scope a.qubits)))
+    (ap₂ (λ s r. is_no_gate s || list_any (has_other_name []) a.angles || r) shape (list_any-same _ (no_register_by symbols) a.qubits (λ o. sym (no_register-names symbols scope o h))))
+    (ap (λ s. has_other_shape s (length a.angles) (length a.qubits)) shape)
+    (list_any-same _ (past_by symbols) a.qubits (λ o. sym (past-names symbols scope o h)))
+
+unresolved-cause : (u k w p s q : Bool) → (u || k || w || p) ≡ true → application_cause u k w p s q ≡ Some (unresolved_cause u k w)
+unresolved-cause true k w p s q h = refl
+unresolved-cause false true w p s q h = refl
+unresolved-cause false false true p s q h = refl
+unresolved-cause false false false true s q h = refl
+unresolved-cause false false false false s q h = absurd (cc)
+
+-- what is wrong with an application that isn't resolved
+pub wrong-unresolved : (symbols : Symbols) (scope : Scope) (a : Apply) → AreNames symbols scope → is_unresolved symbols a ≡ true
+    → wrong_in scope (Act (Applied a)) ≡ Some (unresolved_cause (list_any is_unsupported a.angles) (unknown_by symbols a) (wrong_count_by symbols a))
+wrong-unresolved symbols scope a h unresolved = wrong-kept symbols scope a h ∙ unresolved-cause (list_any is_unsupported a.angles) (unknown_by symbols a) (wrong_count_by symbols a) (list_any (past_by symbols) a.qubits)
+    (has_other_size (register_sizes (ranges_of scope a.qubits))) (list_any has_twice (instances (ranges_of scope a.qubits))) unresolved
+
+clear-cause : (u k w p s q : Bool) → u ≡ false → k ≡ false → w ≡ false → p ≡ false → application_cause u k w p s q ≡ resolved_cause s q
+clear-cause false false false false s q eu ek ew ep = refl
+clear-cause true k w p s q eu ek ew ep = absurd (cc)
+clear-cause false true w p s q eu ek ew ep = absurd (cc)
+clear-cause false false true p s q eu ek ew ep = absurd (cc)
+clear-cause false false false true s q eu ek ew ep = absurd (cc)
 
 pub spans-ranges : (symbols : Symbols) (scope : Scope) (operands : List Operand) → AreNames symbols scope → IsSound scope
     → list_any (past_by symbols) operands ≡ false → map (span_by symbols) operands ≡ ranges_of scope operands
@@ -52,41 +76,77 @@ spans-ranges symbols scope [] h sound within = refl
 spans-ranges symbols scope (o ∷ operands) h sound within =
     ap₂ (λ t ts. t ∷ ts) (span-names symbols scope o h sound (or-first _ _ within)) (spans-ranges symbols scope operands h sound (or-second _ _ within))
 
-pub wrong_application-names : (symbols : Symbols) (scope : Scope) (parameters : _) (a : Apply) → AreNames symbols scope → IsSound scope → ArePlaces parameters []
-    → wrong_application_by symbols parameters a ≡ wrong_in scope (Act (Applied a))
-wrong_application-names symbols scope parameters a h sound none =
-    let shape = shape-names symbols scope a.gate h in
-    let past : list_any (past_by symbols) a.qubits ≡ has_past_index scope a.qubits =
-    list_any-same (past_by symbols) _ a.qubits (λ o. past-names symbols scope o h) in
-    let others = list_any-same (has_unplaced parameters) (has_other_name []) a.angles (λ f. unplaced-names parameters [] f none) in
-    let registers : list_any (no_register_by symbols) a.qubits ≡ has_no_register scope a.qubits =
-    list_any-same (no_register_by symbols) _ a.qubits (λ o. no_register-names symbols scope o h) in
-    late (list_any is_unsupported a.angles) (is_no_gate (shape_by symbols a.gate) || list_any (has_unplaced parameters) a.angles || list_any (no_register_by symbols) a.qubits)
-    (has_other_shape (shape_by symbols a.gate) (length a.angles) (length a.qubits)) (list_any (past_by symbols) a.qubits) _ _
-    (has_other_size (register_sizes (ranges_of scope a.qubits))) (list_any has_twice (instances (ranges_of scope a.qubits)))
-    (λ within. let same = spans-ranges symbols scope a.qubits h sound within in
-    (ap (λ ts. has_other_size (register_sizes ts)) same, ap (λ ts. list_any has_twice (instances ts)) same))
-    ∙ ap (λ s. application_cause (list_any is_unsupported a.angles) (is_no_gate s || list_any (has_unplaced parameters) a.angles || list_any (no_register_by symbols) a.qubits)
-    (has_other_shape s (length a.angles) (length a.qubits)) (list_any (past_by symbols) a.qubits)
-    (has_other_size (register_sizes (ranges_of scope a.qubits))) (list_any has_twice (instances (ranges_of scope a.qubits)))) shape
-    ∙ ap₂ (λ b c. application_cause (list_any is_unsupported a.angles) (is_no_gate (shape_of scope a.gate) || b || c)
-    (has_other_shape (shape_of scope a.gate) (length a.angles) (length a.qubits)) (list_any (past_by symbols) a.qubits)
-    (has_other_size (register_sizes (ranges_of scope a.qubits))) (list_any has_twice (instances (ranges_of scope a.qubits)))) others registers
-    ∙ ap (λ p. application_cause (list_any is_unsupported a.angles) (is_no_gate (shape_of scope a.gate) || list_any (has_other_name []) a.angles || has_no_register scope a.qubits)
-    (has_other_shape (shape_of scope a.gate) (length a.angles) (length a.qubits)) p
-    (has_other_size (register_sizes (ranges_of scope a.qubits))) (list_any has_twice (instances (ranges_of scope a.qubits)))) past
-    ∙ sym (wrong_in-application scope a)
+resolved-ranges : {symbols : Symbols} {a : Apply} {gate : CalledGate} {angles : List Tree} {ranges : List QubitRange} (scope : Scope)
+    → AreNames symbols scope → IsSound scope → IsResolved symbols a gate angles ranges → ranges ≡ ranges_of scope a.qubits
+resolved-ranges {symbols = symbols} {a = a} scope h sound r = r.same_spans ∙ spans-ranges symbols scope a.qubits h sound r.within
 
--- what an application without a cause has
-pub record IsClear (symbols : Symbols) (a : Apply) : Type 0 where
-  pub supported : list_any is_unsupported a.angles ≡ false
-  pub a_gate : is_no_gate (shape_by symbols a.gate) ≡ false
-  pub within : list_any (past_by symbols) a.qubits ≡ false
+-- and with one that is
+pub wrong-resolved : {symbols : Symbols} {a : Apply} {gate : CalledGate} {angles : List Tree} {ranges : List QubitRange} (scope : Scope)
+    → AreNames symbols scope → IsSound scope → IsResolved symbols a gate angles ranges
+    → wrong_in scope (Act (Applied a)) ≡ resolved_cause (has_other_size (register_sizes ranges)) (list_any has_twice (instances ranges))
+wrong-resolved {symbols = symbols} {a = a} scope h sound r =
+    wrong-kept symbols scope a h ∙ clear-cause _ _ _ _ (has_other_size (register_sizes (ranges_of scope a.qubits))) (list_any has_twice (instances (ranges_of scope a.qubits))) r.supported r.all_known r.same_counts r.within
+    ∙ ap (λ rs. resolved_cause (has_other_size (register_sizes rs)) (list_any has_twice (instances rs))) (sym (resolved-ranges scope h sound r))
 
-pub clear-from : (symbols : Symbols) (parameters : _) (a : Apply) → wrong_application_by symbols parameters a ≡ None → IsClear symbols a
-clear-from symbols parameters a h =
-    let parts = application_cause-none _ _ _ _ _ _ h in
-    record { supported = parts.0; a_gate = or-first _ _ (or-first _ _ parts.1); within = parts.2 }
+known-from : (a b c : Bool) → a ≡ false → b ≡ false → c ≡ false → (a || b || c) ≡ false
+known-from false false false ea eb ec = refl
+known-from true b c ea eb ec = absurd (cc)
+known-from false true c ea eb ec = absurd (cc)
+known-from false false true ea eb ec = absurd (cc)
+
+-- no parameters have places
+other-names : (parameters : Places) (fs : List Formula) → ArePlaces parameters [] → list_any (has_unplaced parameters) fs ≡ list_any (has_other_name []) fs
+other-names parameters fs none = list_any-same (has_unplaced parameters) (has_other_name []) fs (λ f. unplaced-names parameters [] f none)
+
+-- the names in an application of a gate
+pub unknown-kept : (symbols : Symbols) (a : Apply) (parameters : Places) (gate : KnownGate) → ArePlaces parameters [] → option_map gate_shape (Some gate) ≡ shape_by symbols a.gate
+    → unknown_by symbols a ≡ (list_any (has_unplaced parameters) a.angles || list_any (no_register_by symbols) a.qubits)
+unknown-kept symbols a parameters gate none shape =
+    ap₂ (λ s o. is_no_gate s || o || list_any (no_register_by symbols) a.qubits) (sym shape) (sym (other-names parameters a.angles none))
+
+or-angles : (u o g r w p : Bool) → (u || o) ≡ true → (u || (g || o || r) || w || p) ≡ true
+or-angles true o g r w p h = refl
+or-angles false true true r w p h = refl
+or-angles false true false r w p h = refl
+or-angles false false g r w p h = absurd (cc)
+
+-- an angle holds what no parameter and no operation stands for
+pub unresolved-angles : (symbols : Symbols) (a : Apply) (parameters : Places) → ArePlaces parameters []
+    → any_other parameters a.angles ≡ true → is_unresolved symbols a ≡ true
+unresolved-angles symbols a parameters none h =
+    or-angles (list_any is_unsupported a.angles) (list_any (has_other_name []) a.angles) (is_no_gate (shape_by symbols a.gate)) (list_any (no_register_by symbols) a.qubits)
+    (wrong_count_by symbols a) (list_any (past_by symbols) a.qubits)
+    (ap (λ b. list_any is_unsupported a.angles || b) (sym (other-names parameters a.angles none)) ∙ h)
+
+or-arguments : (u g o r w p : Bool) → (r || p) ≡ true → (u || (g || o || r) || w || p) ≡ true
+or-arguments true g o r w p h = refl
+or-arguments false true o r w p h = refl
+or-arguments false false true r w p h = refl
+or-arguments false false false true w p h = refl
+or-arguments false false false false true p h = refl
+or-arguments false false false false false p h = h
+
+-- an argument isn't there
+pub unresolved-arguments : (symbols : Symbols) (a : Apply) → any_missing symbols a.qubits ≡ true → is_unresolved symbols a ≡ true
+unresolved-arguments symbols a h =
+    or-arguments (list_any is_unsupported a.angles) (is_no_gate (shape_by symbols a.gate)) (list_any (has_other_name []) a.angles) (list_any (no_register_by symbols) a.qubits)
+    (wrong_count_by symbols a) (list_any (past_by symbols) a.qubits)
+    (sym (any_or (no_register_by symbols) (past_by symbols) a.qubits) ∙ h)
+
+-- what was found is an application with its names resolved
+pub resolved-from : (symbols : Symbols) (a : Apply) (parameters : Places) (gate : KnownGate) (angles : List Tree) (ranges : List QubitRange)
+    → ArePlaces parameters [] → option_map gate_shape (Some gate) ≡ shape_by symbols a.gate → wrong_count_by symbols a ≡ false → gate.called ≡ called_by symbols a.gate
+    → ArePlaced parameters a.angles angles → AreSpans symbols a.qubits ranges → IsResolved symbols a gate.called angles ranges
+resolved-from symbols a parameters gate angles ranges none shape counts called placed spans = record {
+  supported = placed.supported;
+  all_known = known-from (is_no_gate (shape_by symbols a.gate)) (list_any (has_other_name []) a.angles) (list_any (no_register_by symbols) a.qubits)
+      (ap is_no_gate (sym shape)) (sym (other-names parameters a.angles none) ∙ placed.all_placed) spans.all_registers;
+  same_counts = counts;
+  within = spans.all_within;
+  same_gate = called;
+  same_angles = placed.same ∙ map-same (placed_by parameters) (numbered []) a.angles (λ f. placed-numbered parameters [] f none);
+  same_spans = spans.same;
+}
 
 -- ---- qubits are few
 abbrev IsSmall : QubitRange → Type 0
@@ -134,14 +194,12 @@ cut-instances : (ranges : List QubitRange) → AreSmall ranges → cut_instances
 cut-instances ranges small = let few = small-count ranges small in cut-from ranges 0 (instance_count (register_sizes ranges)) small (omega arith)
 
 -- ---- what an application comes to
-pub application-kept : (symbols : Symbols) (scope : Scope) (parameters : _) (a : Apply) (ranges : List QubitRange) (values : Result (List Angle) Cause)
-    → AreNames symbols scope → IsSound scope → ArePlaces parameters [] → IsClear symbols a
-    → ranges ≡ map (span_by symbols) a.qubits → values ≡ values_of (map (placed parameters) a.angles) []
-    → flat_map (called_events (expand_number scope) (called_by symbols a.gate) 1 values) (cut_instances ranges) ≡ application_events scope a
-application-kept symbols scope parameters a ranges values h sound none clear et ev =
-    ap (λ t. flat_map (called_events (expand_number scope) t 1 values) (cut_instances ranges)) (called-names symbols scope a.gate h)
-    ∙ ap (λ ts. flat_map (called_events (expand_number scope) (called_for scope a.gate) 1 values) (cut_instances ts)) (et ∙ spans-ranges symbols scope a.qubits h sound clear.within)
-    ∙ ap (λ is. flat_map (called_events (expand_number scope) (called_for scope a.gate) 1 values) is) (cut-instances (ranges_of scope a.qubits) (small-ranges symbols scope a.qubits h sound clear.within))
-    ∙ ap (λ v. flat_map (called_events (expand_number scope) (called_for scope a.gate) 1 v) (instances (ranges_of scope a.qubits)))
-    (ev ∙ ap (λ ts. values_of ts []) (map-same (placed parameters) (numbered []) a.angles (λ f. placed-numbered parameters [] f none)))
-    ∙ sym (application-numbered scope a (ap is_no_gate (sym (shape-names symbols scope a.gate h)) ∙ clear.a_gate))
+pub resolved-events : {symbols : Symbols} {a : Apply} {gate : CalledGate} {angles : List Tree} {ranges : List QubitRange} (scope : Scope)
+    → AreNames symbols scope → IsSound scope → IsResolved symbols a gate angles ranges
+    → instances_events (expand_number scope) gate (values_of angles []) ranges ≡ application_events scope a
+resolved-events {symbols = symbols} {a = a} {ranges = ranges} scope h sound r =
+    let called : CalledGate → List Tree → List (List ℕ) → List Event = λ t ts is. flat_map (called_events (expand_number scope) t 1 (values_of ts [])) is in
+    ap₂ (λ t ts. called t ts (cut_instances ranges)) (r.same_gate ∙ called-names symbols scope a.gate h) r.same_angles
+    ∙ ap (called (called_for scope a.gate) (map (numbered []) a.angles))
+    (ap cut_instances (resolved-ranges scope h sound r) ∙ cut-instances (ranges_of scope a.qubits) (small-ranges symbols scope a.qubits h sound r.within))
+    ∙ sym (application-numbered scope a (ap is_no_gate (sym (shape-names symbols scope a.gate h)) ∙ or-first _ _ (or-first _ _ r.all_known)))

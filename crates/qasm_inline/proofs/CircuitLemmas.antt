@@ -9,7 +9,7 @@ use Rattle.qasm_reader.specs.Views.{placed}
 use Rattle.zx_gates.specs.declared.elementary.Elementary.{Elementary}
 use Rattle.zx_gates.specs.declared.elementary.ElementaryGate.{ElementaryGate}
 use Rattle.zx_gates.specs.Elementary.{IsElementary, IsElementaryGateOn}
-use Rattle.qasm_reader.specs.Syntax.{Sentence, Version, Include, QubitRegister, BitRegister, DeclareGate, Opaque, If, Barrier, Act, Placed}
+use Rattle.qasm_reader.specs.Syntax.{GateForm, Sentence, Version, Include, QubitRegister, BitRegister, DeclareGate, Opaque, If, Barrier, Act, Placed}
 use Rattle.qasm_scope.specs.declared.causes.Cause.{Cause}
 use Rattle.qasm_scope.specs.declared.causes.Cause.TheVariants as cause
 use Rattle.qasm_scope.specs.declared.names.Names.{Names}
@@ -19,10 +19,12 @@ use Rattle.qasm_inline.specs.declared.error.InlineError.{InlineError}
 use Rattle.qasm_inline.specs.declared.error.InlineError.TheVariants.{Fault, NoMemory}
 use Rattle.qasm_inline.specs.declared.unroll.Unrolled.{Unrolled}
 use Rattle.qasm_scope.specs.Calls.{applied, call_count}
-use Rattle.qasm_inline.specs.Internal.Circuits.{HasTakenAt, IsCircuitAnswer, IsEmpty, LeadsTo}
+use Rattle.qasm_inline.specs.Internal.Circuits.{HasTakenAt, IsCircuitAnswer, IsEmpty, IsOpen, LeadsTo, gate_at}
 use Rattle.qasm_inline.specs.Internal.KeptCalls.{Continues}
-use Rattle.qasm_scope.specs.Meaning.{Means, after_statement, events_of, fault_after, first_fault, gates_after, is_version, most_calls, placed_or, scope_after, wrong_with}
-use Rattle.qasm_scope.specs.Scope.{Scope, qubit_count}
+use Rattle.qasm_scope.specs.Faults.{wrong_in}
+use Rattle.qasm_scope.specs.Internal.Kept.{Represents}
+use Rattle.qasm_scope.specs.Meaning.{Means, after_statement, events_of, fault_after, first_fault, gates_after, is_version, most_calls, or_else, placed_or, scope_after, wrong_with}
+use Rattle.qasm_scope.specs.Scope.{Scope, Gate, declared, qubit_count}
 use Rattle.qasm_inline.proofs.MeantLemmas.{faultless-few, faultless-on}
 
 -- ---- the version
@@ -102,6 +104,28 @@ pub stays-stopped : (error : InlineError) (program : List Placed) (s : Placed) (
     → HasTakenAt (Stopped error) program names unrolled → HasTakenAt (Stopped error) (program ++ s ∷ []) names unrolled
 stays-stopped (Fault what at) program s names unrolled h = λ more. ap (first_fault most_calls) (append_assoc program (s ∷ []) more) ∙ h (s ∷ more)
 stays-stopped NoMemory program s names unrolled h = tt
+
+-- ---- gates behind these statements
+pub gate-first : (program : List Placed) (names : Names) (unrolled : Unrolled) (place : ℕ) (form : GateForm) → IsEmpty program names unrolled
+    → HasTakenAt (Stopped (Fault cause.Version place)) (program ++ gate_at place form ∷ []) names unrolled
+gate-first program names unrolled place form e = first-taken (gate_at place form) (Stopped (Fault cause.Version place)) program names unrolled refl e
+
+pub gate-declared : (program : List Placed) (names later : Names) (unrolled : Unrolled) (place : ℕ) (form : GateForm) → IsOpen program names unrolled
+    → ((scope : Scope) → Represents names scope → wrong_in scope (DeclareGate form) ≡ None)
+    → ((scope : Scope) → Represents names scope → Represents later (declared form.name (Gate form) ∷ scope))
+    → IsOpen (program ++ gate_at place form ∷ []) later unrolled
+gate-declared program names later unrolled place form is right represents = record {
+  scope = declared form.name (Gate form) ∷ is.scope;
+  represents = represents is.scope is.represents;
+  leads = leads-next program is.scope unrolled.calls unrolled.gates (gate_at place form) unrolled.calls unrolled.gates is.leads
+      (ap (λ o. or_else o None) (right is.scope is.represents)) (record { same_wrong = refl; same_gates = refl; same_calls = refl });
+}
+
+pub gate-wrong : (program : List Placed) (names : Names) (unrolled : Unrolled) (place : ℕ) (form : GateForm) (what : Cause) → IsOpen program names unrolled
+    → ((scope : Scope) → Represents names scope → wrong_in scope (DeclareGate form) ≡ Some what)
+    → (more : List Placed) → first_fault most_calls ((program ++ gate_at place form ∷ []) ++ more) ≡ Some (what, place)
+gate-wrong program names unrolled place form what is wrong =
+    leads-wrong program is.scope unrolled.calls unrolled.gates (gate_at place form) what is.leads (ap (λ o. or_else o None) (wrong is.scope is.represents))
 
 -- ---- circuits
 few-cut : (program : List Placed) (qubits count : ℕ) → first_fault most_calls program ≡ None → count ≡ qubit_count (scope_after [] program)

@@ -1,5 +1,5 @@
 pub mod Unrolling
-pub mod Evaluation
+pub mod StackLemmas
 pub mod Keeping
 pub mod Numbers
 pub mod SpanLemmas

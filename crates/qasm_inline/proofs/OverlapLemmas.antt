@@ -5,30 +5,17 @@ use Rattle.std.proofs.lemmas.Bool.Decides.{nat_tests}
 use Rattle.qasm_scope.specs.Applications.{QubitRange, Single, Register, qubit_at, has_twice}
 use Rattle.qasm_inline.specs.Internal.Spans.{is_within, overlaps, any_overlap}
 use Rattle.qasm_scope.proofs.CheckLemmas.{list_any-same}
-
-or-swap : (a b c d : Bool) → ((a || b) || (c || d)) ≡ ((a || c) || (b || d))
-or-swap true b c d = refl
-or-swap false true true d = refl
-or-swap false true false d = refl
-or-swap false false c d = refl
-
-any-or : {A : Type 0} (p q : A → Bool) (xs : List A) → list_any (λ x. p x || q x) xs ≡ (list_any p xs || list_any q xs)
-any-or p q [] = refl
-any-or p q (x ∷ xs) = ap (λ b. (p x || q x) || b) (any-or p q xs) ∙ or-swap (p x) (q x) (list_any p xs) (list_any q xs)
+use Rattle.qasm_scope.proofs.Tests.{any_map, any_or}
 
 any-none : {A : Type 0} (xs : List A) → list_any (λ x. false) xs ≡ false
 any-none [] = refl
 any-none (x ∷ xs) = any-none xs
 
-any-map : {A B : Type 0} (p : B → Bool) (f : A → B) (xs : List A) → list_any p (map f xs) ≡ list_any (λ x. p (f x)) xs
-any-map p f [] = refl
-any-map p f (x ∷ xs) = ap (λ b. p (f x) || b) (any-map p f xs)
-
 -- a test of two is met by some of the first and some of the second, in either order
 any-exchange : {A B : Type 0} (p : A → B → Bool) (xs : List A) (ys : List B) → list_any (λ x. list_any (p x) ys) xs ≡ list_any (λ y. list_any (λ x. p x y) xs) ys
 any-exchange p xs [] = any-none xs
 any-exchange p xs (y ∷ ys) =
-    any-or (λ x. p x y) (λ x. list_any (p x) ys) xs ∙ ap (λ b. list_any (λ x. p x y) xs || b) (any-exchange p xs ys)
+    any_or (λ x. p x y) (λ x. list_any (p x) ys) xs ∙ ap (λ b. list_any (λ x. p x y) xs || b) (any-exchange p xs ys)
 
 and-none : (b : Bool) → (b && false) ≡ false
 and-none true = refl
@@ -62,7 +49,7 @@ overlaps-any count (Register first size) (Register same size') =
 against : (count : ℕ) (t : QubitRange) (ranges : List QubitRange)
     → list_any (λ i. list_any (λ m. m == qubit_at i t) (map (qubit_at i) ranges)) (range_with_len 0 count) ≡ list_any (overlaps count t) ranges
 against count t ranges =
-    list_any-same _ (λ i. list_any (λ u. qubit_at i u == qubit_at i t) ranges) (range_with_len 0 count) (λ i. any-map (λ m. m == qubit_at i t) (qubit_at i) ranges)
+    list_any-same _ (λ i. list_any (λ u. qubit_at i u == qubit_at i t) ranges) (range_with_len 0 count) (λ i. any_map (λ m. m == qubit_at i t) (qubit_at i) ranges)
     ∙ any-exchange (λ i u. qubit_at i u == qubit_at i t) (range_with_len 0 count) ranges
     ∙ list_any-same _ (overlaps count t) ranges (overlaps-any count t)
 
@@ -70,10 +57,10 @@ twice-in : (count : ℕ) (ranges : List QubitRange)
     → list_any (λ i. has_twice (map (qubit_at i) ranges)) (range_with_len 0 count) ≡ any_overlap count ranges
 twice-in count [] = any-none (range_with_len 0 count)
 twice-in count (t ∷ ranges) =
-    any-or (λ i. list_any (λ m. m == qubit_at i t) (map (qubit_at i) ranges)) (λ i. has_twice (map (qubit_at i) ranges)) (range_with_len 0 count)
+    any_or (λ i. list_any (λ m. m == qubit_at i t) (map (qubit_at i) ranges)) (λ i. has_twice (map (qubit_at i) ranges)) (range_with_len 0 count)
     ∙ ap₂ (λ a b. a || b) (against count t ranges) (twice-in count ranges)
 
 -- a qubit stands twice in an instance where two ranges overlap
 pub twice-overlap : (count : ℕ) (ranges : List QubitRange)
     → any_overlap count ranges ≡ list_any has_twice (map (λ i. map (qubit_at i) ranges) (range_with_len 0 count))
-twice-overlap count ranges = sym (any-map has_twice (λ i. map (qubit_at i) ranges) (range_with_len 0 count) ∙ twice-in count ranges)
+twice-overlap count ranges = sym (any_map has_twice (λ i. map (qubit_at i) ranges) (range_with_len 0 count) ∙ twice-in count ranges)

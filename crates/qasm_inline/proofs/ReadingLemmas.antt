@@ -1,23 +1,27 @@
 -- The reader of a text, batch by batch.
-use Rattle.std.proofs.Common.{◌≡◌, ℕ, zero, suc, ◌-◌, ◌<◌, ◌≤◌, List, [], ◌∷◌, ◌++◌, length, take, drop, map, None, Result, Ok, Err, refl, sym, ap, ◌∙◌, subst, append_assoc, arith, length-append}
+use Rattle.std.proofs.Common.{◌≡◌, ℕ, zero, suc, ◌-◌, ◌<◌, ◌≤◌, List, [], ◌∷◌, ◌++◌, length, take, drop, map, Option, None, Some, Result, Ok, Err, refl, sym, ap, ◌∙◌, subst, append_assoc, append-nil, arith, length-append}
 use Rattle.std.specs.Prelude.{IfOk}
 use Rattle.std.proofs.lemmas.List.{length-map, take_rest}
 use Rattle.zx_gates.specs.declared.elementary.Elementary.{Elementary}
 use Rattle.zx_gates.specs.Elementary.{IsElementary}
 use Rattle.qasm_lexer.specs.declared.token.Token.{Token}
-use Rattle.qasm_lexer.specs.Tokens.{Lexeme, lexeme, lexemes, IsBegun}
-use Rattle.qasm_lexer.proofs.Cuts.{IsCutUpTo-none}
+use Rattle.qasm_lexer.specs.Tokens.{Lexeme, lexeme, lexemes, IsBegun, IsCut}
 use Rattle.qasm_reader.specs.declared.depth.Depth.{Depth}
-use Rattle.qasm_reader.specs.Grammar.{BeginsWithStatement, IsFirstStatement}
+use Rattle.qasm_reader.specs.Depth.{too_deep}
+use Rattle.qasm_reader.specs.Grammar.{BeginsAt, BeginsWithStatement, IsFirstStatement, IsProgram, IsSyntaxFault}
 use Rattle.qasm_reader.specs.Internal.Depths.{IsDepth}
-use Rattle.qasm_reader.specs.Syntax.{Placed}
-use Rattle.qasm_reader.proofs.Programs.{first_shrinks, none_in_none, prefix_first}
+use Rattle.qasm_reader.specs.Parts.{IsBehind, IsInBody}
+use Rattle.qasm_reader.specs.Syntax.{GateForm, Placed}
+use Rattle.qasm_reader.proofs.Programs.{none_in_none, prefix_first}
 use Rattle.qasm_scope.specs.Meaning.{Means, first_fault, most_calls}
 use Rattle.qasm_scope.specs.Texts.{IsProgramText}
 use Rattle.qasm_inline.specs.declared.circuit.Circuit.{Circuit}
+use Rattle.qasm_inline.specs.declared.circuit.OpenGate.{OpenGate}
+use Rattle.qasm_inline.specs.declared.reading.Reading.{Reading}
 use Rattle.qasm_inline.specs.declared.error.ReadError.{ReadError}
-use Rattle.qasm_inline.specs.Internal.Circuits.{HasTaken}
-use Rattle.qasm_inline.specs.Internal.Readings.{AreTaken, IsReadUpTo, IsTextAnswer}
+use Rattle.qasm_inline.specs.declared.error.ReadError.TheVariants.{BadByte, TooDeep, Syntax, Wrong, NoMemory}
+use Rattle.qasm_inline.specs.Internal.Circuits.{HasBegun, HasTaken, gate_at}
+use Rattle.qasm_inline.specs.Internal.Readings.{AreAllTaken, AreTaken, AreTakenAs, IsProgramAnswer, IsTakenNext, IsTextAnswer}
 use Rattle.qasm_inline.proofs.CircuitLemmas.{means-from, valid-from}
 
 -- ---- tokens behind tokens
@@ -44,49 +48,145 @@ pub deeper : (depth later : Depth) (before : List Lexeme) (old new : List Token)
 deeper depth later before old new n e begun step is =
     subst (IsDepth later) (append_assoc before (lexemes old) _ ∙ ap (λ ts. before ++ ts) (begun_rest old new n e begun)) (step (before ++ lexemes old) is)
 
--- ---- statements
-pub taken-next : (all : List Lexeme) (circuit later : Circuit) (s : Placed) (ts rest : List Lexeme) → AreTaken all circuit ts → IsFirstStatement s ts rest
-    → ((program : List Placed) → HasTaken circuit program → HasTaken later (program ++ s ∷ [])) → AreTaken all later rest
-taken-next all circuit later s ts rest r first step =
-    let p = prefix_first all ts rest r.statements s (r.before, r.same, r.program) first in
-    record { before = p.0; statements = r.statements ++ s ∷ []; same = p.1; program = p.2; taken = step r.statements r.taken }
-
-pub rest_is : (tokens rest : List Token) (s : Placed) → IsFirstStatement s (lexemes tokens) (lexemes rest)
+behind_front : (tokens rest : List Token) (front : List Lexeme) → lexemes tokens ≡ front ++ lexemes rest
     → lexemes (drop (length tokens - length rest) tokens) ≡ lexemes rest
-rest_is tokens rest s first =
-    let n : length (lexemes tokens) ≡ length (first.0 ++ lexemes rest) = ap length first.1 in
-    let count : length tokens - length rest ≡ length first.0 =
-    omega (arith, n, length-append first.0 (lexemes rest), length-map tokens lexeme, length-map rest lexeme) in
-    map_drop lexeme (length tokens - length rest) tokens ∙ ap (drop (length tokens - length rest)) first.1
-    ∙ ap (λ m. drop m (first.0 ++ lexemes rest)) count ∙ drop_behind first.0 (lexemes rest)
+behind_front tokens rest front e =
+    let n : length (lexemes tokens) ≡ length (front ++ lexemes rest) = ap length e in
+    let count : length tokens - length rest ≡ length front =
+    omega (arith, n, length-append front (lexemes rest), length-map tokens lexeme, length-map rest lexeme) in
+    map_drop lexeme (length tokens - length rest) tokens ∙ ap (drop (length tokens - length rest)) e
+    ∙ ap (λ m. drop m (front ++ lexemes rest)) count ∙ drop_behind front (lexemes rest)
 
-pub some_taken : (tokens rest : List Token) (s : Placed) → IsFirstStatement s (lexemes tokens) (lexemes rest)
-    → (0 < length tokens - length rest) × (length tokens - length rest ≤ length tokens) × (length rest ≤ length tokens)
-some_taken tokens rest s first =
-    let n = first_shrinks s (lexemes tokens) (lexemes rest) first in (
-      omega (arith, n, length-map tokens lexeme, length-map rest lexeme),
-      omega (arith, n, length-map tokens lexeme, length-map rest lexeme),
-      omega (arith, n, length-map tokens lexeme, length-map rest lexeme),
-    )
+pub rest_is : (tokens rest : List Token) → IsBehind (lexemes rest) (lexemes tokens) → lexemes (drop (length tokens - length rest) tokens) ≡ lexemes rest
+rest_is tokens rest b = behind_front tokens rest (b.0 ∷ b.1) b.2
 
-pub taken-one : (all : List Lexeme) (circuit later : Circuit) (s : Placed) (tokens rest : List Token) → AreTaken all circuit (lexemes tokens)
-    → IsFirstStatement s (lexemes tokens) (lexemes rest)
-    → ((program : List Placed) → HasTaken circuit program → HasTaken later (program ++ s ∷ []))
-    → AreTaken all later (lexemes (drop (length tokens - length rest) tokens))
-taken-one all circuit later s tokens rest r first step =
-    subst (AreTaken all later) (sym (rest_is tokens rest s first)) (taken-next all circuit later s (lexemes tokens) (lexemes rest) r first step)
+pub some_taken : (tokens rest : List Token) → IsBehind (lexemes rest) (lexemes tokens)
+    → (0 < length tokens - length rest) × (length tokens - length rest ≤ length tokens)
+some_taken tokens rest b =
+    let n = ap length b.2 in
+    let sum = length-append b.1 (lexemes rest) in
+    (omega (arith, n, sum, length-map tokens lexeme, length-map rest lexeme), omega (arith, n, sum, length-map tokens lexeme, length-map rest lexeme))
+
+-- ---- parts
+pub statement-taken : (all ts rest : List Lexeme) (gate : Option OpenGate) (circuit later : Circuit) (s : Placed) → gate ≡ None
+    → AreTaken all (record { circuit = circuit; gate = gate }) ts → IsFirstStatement s ts rest
+    → ((program : List Placed) → HasTaken circuit program → HasTaken later (program ++ s ∷ [])) → AreTaken all (record { circuit = later; gate = gate }) rest
+statement-taken all ts rest gate circuit later s e r first step =
+    let taken : (r.behind ≡ ts) × HasTaken circuit r.statements = subst (λ g. AreTakenAs g circuit r.statements r.behind ts) e r.taken in
+    let p = prefix_first all ts rest r.statements s (r.before, r.same ∙ ap (λ x. r.before ++ x) taken.0, r.program) first in
+    record {
+      before = p.0;
+      behind = rest;
+      statements = r.statements ++ s ∷ [];
+      same = p.1;
+      program = p.2;
+      taken = subst (λ g. AreTakenAs g later (r.statements ++ s ∷ []) rest rest) (sym e) (refl, step r.statements taken.1);
+    }
+
+pub end-taken : (all ts rest : List Lexeme) (circuit later : Circuit) (gate : OpenGate) (over : Option OpenGate) → over ≡ None
+    → AreTaken all (record { circuit = circuit; gate = Some gate }) ts
+    → ((form : GateForm) (behind : List Lexeme) → IsInBody gate.place form behind ts → IsFirstStatement (gate_at gate.place form) behind rest)
+    → ((program : List Placed) (form : GateForm) → HasBegun circuit gate program form → HasTaken later (program ++ gate_at gate.place form ∷ []))
+    → AreTaken all (record { circuit = later; gate = over }) rest
+end-taken all ts rest circuit later gate over e r first step =
+    let form = r.taken.0 in
+    let p = prefix_first all r.behind rest r.statements (gate_at gate.place form) (r.before, r.same, r.program) (first form r.behind r.taken.1) in
+    record {
+      before = p.0;
+      behind = rest;
+      statements = r.statements ++ gate_at gate.place form ∷ [];
+      same = p.1;
+      program = p.2;
+      taken = subst (λ g. AreTakenAs g later (r.statements ++ gate_at gate.place form ∷ []) rest rest) (sym e) (refl, step r.statements form r.taken.2);
+    }
+
+-- ---- no part
+pub none-between : (all ts : List Lexeme) (gate : Option OpenGate) (circuit : Circuit) → gate ≡ None → AreTaken all (record { circuit = circuit; gate = gate }) ts
+    → (BeginsWithStatement ts → ⊥) → AreAllTaken all (record { circuit = circuit; gate = gate }) ts
+none-between all ts gate circuit e r none =
+    let taken : (r.behind ≡ ts) × HasTaken circuit r.statements = subst (λ g. AreTakenAs g circuit r.statements r.behind ts) e r.taken in
+    record { read = r; none = subst (λ x. BeginsWithStatement x → ⊥) (sym taken.0) none }
+
+pub none-inside : (all ts : List Lexeme) (gate : OpenGate) (circuit : Circuit) → AreTaken all (record { circuit = circuit; gate = Some gate }) ts
+    → ((form : GateForm) (behind : List Lexeme) → IsInBody gate.place form behind ts → BeginsWithStatement behind → ⊥)
+    → AreAllTaken all (record { circuit = circuit; gate = Some gate }) ts
+none-inside all ts gate circuit r none = record { read = r; none = none r.taken.0 r.behind r.taken.1 }
+
+pub none-next : (all : List Lexeme) (count : Option ℕ) (reading : Reading) (tokens : List Token) → ((n : ℕ) → count ≡ Some n → ⊥)
+    → IsTakenNext all count reading tokens → AreAllTaken all reading (lexemes tokens)
+none-next all None reading tokens none h = h
+none-next all (Some n) reading tokens none h = absurd (none n refl)
 
 -- ---- batches
-pub read-start : (text : List ℕ) (depth : Depth) (circuit : Circuit) (tokens : List Token) → IsDepth depth [] → HasTaken circuit [] → tokens ≡ [] → IsReadUpTo text 0 depth tokens circuit
-read-start text depth circuit tokens deep taken e = record {
-  all = [];
-  cut = IsCutUpTo-none 0 text;
-  deep = deep;
-  read = record { before = []; statements = []; same = ap lexemes (sym e); program = refl; taken = taken };
-  none = subst (λ ts. BeginsWithStatement (lexemes ts) → ⊥) (sym e) none_in_none;
+pub read-start : (circuit : Circuit) → HasTaken circuit [] → AreAllTaken [] (record { circuit = circuit; gate = None }) []
+read-start circuit taken = record {
+  read = record { before = []; behind = []; statements = []; same = refl; program = refl; taken = (refl, taken) };
+  none = none_in_none;
 }
 
+-- what stands before the tokens that are left stands before others too
+before-rest : (all before behind rest : List Lexeme) (gate : Option OpenGate) (circuit : Circuit) (statements : List Placed) → all ≡ before ++ behind
+    → IsProgram before statements → AreTakenAs gate circuit statements behind rest
+    → (front : List Lexeme) × (all ≡ front ++ rest) × ((later : List Lexeme) → AreTaken (front ++ later) (record { circuit = circuit; gate = gate }) later)
+before-rest all before behind rest None circuit statements e program taken = (
+  before,
+  e ∙ ap (λ x. before ++ x) taken.0,
+  λ later. record { before = before; behind = later; statements = statements; same = refl; program = program; taken = (refl, taken.1) },
+)
+before-rest all before behind rest (Some gate) circuit statements e program (form, is, begun) = (
+  before ++ (is.heading ++ is.body),
+  e ∙ ap (λ x. before ++ x) is.same ∙ sym (append_assoc before (is.heading ++ is.body) rest),
+  λ later. record {
+    before = before;
+    behind = is.heading ++ is.body ++ later;
+    statements = statements;
+    same = append_assoc before (is.heading ++ is.body) later;
+    program = program;
+    taken = (
+      form,
+      record { heading = is.heading; body = is.body; same = refl; begins = is.begins; is_heading = is.is_heading; is_body = is.is_body },
+      begun,
+    );
+  },
+)
+
+pub before-left : (all rest : List Lexeme) (reading : Reading) → AreTaken all reading rest
+    → (front : List Lexeme) × (all ≡ front ++ rest) × ((later : List Lexeme) → AreTaken (front ++ later) reading later)
+before-left all rest reading r = before-rest all r.before r.behind rest reading.gate reading.circuit r.statements r.same r.program r.taken
+
+-- ---- the end of the text
+pub fault-inside : (all rest : List Lexeme) (gate : OpenGate) (circuit : Circuit) → AreAllTaken all (record { circuit = circuit; gate = Some gate }) rest → IsSyntaxFault all gate.place
+fault-inside all rest gate circuit r =
+    let is = r.read.taken.1 in
+    let begins : BeginsAt r.read.behind gate.place = (
+      is.begins.0,
+      is.begins.1 ++ is.body ++ rest,
+      is.same ∙ ap (λ x. x ++ is.body ++ rest) is.begins.2,
+      is.begins.3,
+    ) in
+    (r.read.before, r.read.behind, r.read.statements, r.read.same, r.read.program, begins, r.none)
+
+pub fault-between : (all rest : List Lexeme) (circuit : Circuit) (t : Lexeme) (more : List Lexeme) → rest ≡ t ∷ more
+    → AreAllTaken all (record { circuit = circuit; gate = None }) rest → IsSyntaxFault all t.place
+fault-between all rest circuit t more e r =
+    (r.read.before, r.read.behind, r.read.statements, r.read.same, r.read.program, (t, more, r.read.taken.0 ∙ e, refl), r.none)
+
+pub whole : (all rest : List Lexeme) (circuit : Circuit) → rest ≡ [] → AreAllTaken all (record { circuit = circuit; gate = None }) rest
+    → (statements : List Placed) × IsProgram all statements × HasTaken circuit statements
+whole all rest circuit e r =
+    let same : all ≡ r.read.before = r.read.same ∙ ap (λ x. r.read.before ++ x) (r.read.taken.0 ∙ e) ∙ append-nil r.read.before in
+    (r.read.statements, subst (λ ts. IsProgram ts r.read.statements) (sym same) r.read.program, r.read.taken.1)
+
 -- ---- answers
+pub text-answer : (text : List ℕ) (tokens : List Lexeme) (program : List Placed) (result : Result Elementary ReadError) → IsCut 0 text tokens → too_deep tokens ≡ None
+    → IsProgram tokens program → IsProgramAnswer program result → IsTextAnswer text result
+text-answer text tokens program (Ok circuit) cut shallow is h = (program, record { tokens = tokens; cut = cut; shallow = shallow; grammar = is }, h)
+text-answer text tokens program (Err (Wrong cause at)) cut shallow is h = (program, record { tokens = tokens; cut = cut; shallow = shallow; grammar = is }, h)
+text-answer text tokens program (Err NoMemory) cut shallow is h = tt
+text-answer text tokens program (Err (BadByte at)) cut shallow is h = absurd h
+text-answer text tokens program (Err (TooDeep at)) cut shallow is h = absurd h
+text-answer text tokens program (Err (Syntax at)) cut shallow is h = absurd h
+
 pub text-means : (text : List ℕ) (result : Result Elementary ReadError) → IsTextAnswer text result
     → IfOk result (λ circuit. (program : List Placed) × IsProgramText text program × (first_fault most_calls program ≡ None) × Means program circuit.qubits circuit.gates)
 text-means text (Ok circuit) (program, is, answer) = (program, is, answer.0, means-from program (Ok circuit) answer)

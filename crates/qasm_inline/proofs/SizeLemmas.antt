@@ -1,6 +1,6 @@
 -- Sizes of registers in an application.
-use Rattle.std.proofs.Common.{◌≡◌, ℕ, ◌+◌, ◌<◌, ◌==◌, Bool, true, false, ◌||◌, not, List, [], ◌∷◌, length, map, drop, get_or, Option, None, Some, refl, sym, ap, ◌∙◌, add-one}
-use Rattle.std.specs.List.{list_any, slice_get}
+use Rattle.std.proofs.Common.{◌≡◌, ℕ, ◌+◌, ◌<◌, ◌==◌, false, ◌||◌, not, List, [], ◌∷◌, length, map, drop, get_or, Option, None, Some, refl, sym, ap, ◌∙◌, add-one}
+use Rattle.std.specs.List.{list_any, filter_map, slice_get}
 use Rattle.std.proofs.Math.Seq.{drop-cons}
 use Rattle.qasm_scope.specs.Applications.{QubitRange, register_size, register_sizes, instance_count}
 use Rattle.qasm_scope.specs.Faults.{has_other_size}
@@ -19,10 +19,6 @@ abbrev sized : Option ℕ → List ℕ → List ℕ
 sized None rest = rest
 sized (Some size) rest = size ∷ rest
 
-test-some : (a b : Bool) → (a || b) ≡ ((a || false) || b)
-test-some true b = refl
-test-some false b = refl
-
 with-size : (t : QubitRange) (rest : List QubitRange) (size : ℕ) → register_size t ≡ Some size → register_sizes (t ∷ rest) ≡ size ∷ register_sizes rest
 with-size t rest size h = ap (λ o. sized o (register_sizes rest)) h
 
@@ -34,21 +30,9 @@ pub sizes-none : (spans : List Span) (i : ℕ) (d : Span) → i < length spans �
     → register_sizes (map span_range (drop i spans)) ≡ register_sizes (map span_range (drop (i + 1) spans))
 sizes-none spans i d h e = sizes-drop spans i d h ∙ ap (λ o. sized o (register_sizes (map span_range (drop (i + 1) spans)))) e
 
-test-at : (test : ℕ → Bool) (o : Option ℕ) (rest : List ℕ) → list_any test (sized o rest) ≡ (list_any test (sized o []) || list_any test rest)
-test-at test None rest = refl
-test-at test (Some size) rest = test-some (test size) (list_any test rest)
-
-pub sizes-found : (test : ℕ → Bool) (spans : List Span) (i : ℕ) (d : Span) → i < length spans → list_any test (register_sizes (span_range (get_or spans i d) ∷ [])) ≡ true
-    → list_any test (register_sizes (map span_range (drop i spans))) ≡ true
-sizes-found test spans i d h e =
-    ap (list_any test) (sizes-drop spans i d h) ∙ test-at test (register_size (span_range (get_or spans i d))) (register_sizes (map span_range (drop (i + 1) spans)))
-    ∙ ap (λ b. b || list_any test (register_sizes (map span_range (drop (i + 1) spans)))) e
-
-pub sizes-passed : (test : ℕ → Bool) (spans : List Span) (i : ℕ) (d : Span) → i < length spans → list_any test (register_sizes (span_range (get_or spans i d) ∷ [])) ≡ false
-    → list_any test (register_sizes (map span_range (drop i spans))) ≡ list_any test (register_sizes (map span_range (drop (i + 1) spans)))
-sizes-passed test spans i d h e =
-    ap (list_any test) (sizes-drop spans i d h) ∙ test-at test (register_size (span_range (get_or spans i d))) (register_sizes (map span_range (drop (i + 1) spans)))
-    ∙ ap (λ b. b || list_any test (register_sizes (map span_range (drop (i + 1) spans)))) e
+pub sizes-of : (spans : List Span) → register_sizes (map span_range spans) ≡ filter_map (λ span. register_size (span_range span)) spans
+sizes-of [] = refl
+sizes-of (span ∷ spans) = ap (sized (register_size (span_range span))) (sizes-of spans)
 
 pub other-some : (sizes : List ℕ) (size : ℕ) → slice_get sizes 0 ≡ Some size → list_any (λ other. not (other == size)) sizes ≡ has_other_size sizes
 other-some [] size h = absurd (cc)

@@ -1,5 +1,5 @@
 -- Arguments by what names are kept as stand for what they stand for in the scope.
-use Rattle.std.proofs.Common.{◌≡◌, ℕ, ◌+◌, ◌-◌, ◌^◌, ◌<◌, ◌≤◌, min, Bool, true, false, not, if◌then◌else◌, List, [], ◌∷◌, Option, None, Some, refl, sym, ap, ◌∙◌, arith}
+use Rattle.std.proofs.Common.{◌≡◌, ℕ, ◌+◌, ◌-◌, ◌^◌, ◌<◌, ◌≤◌, min, Bool, true, false, ◌||◌, not, if◌then◌else◌, List, [], ◌∷◌, Option, None, Some, refl, sym, ap, ap₂, ◌∙◌, arith}
 use Rattle.std.specs.List.{list_any}
 use Rattle.std.specs.Option.{is_some}
 use Rattle.std.specs.Str.{bytes_eq}
@@ -8,12 +8,14 @@ use Rattle.zx_gates.specs.Circuit.{most_qubits}
 use Rattle.qasm_reader.specs.Syntax.{Operand, Barrier}
 use Rattle.qasm_scope.specs.Applications.{Single, range_in, range_of}
 use Rattle.qasm_scope.specs.Internal.Checks.{Symbols, barrier_cause}
-use Rattle.qasm_scope.specs.Faults.{is_no_register, is_past, has_no_register, wrong_in}
+use Rattle.qasm_scope.specs.Faults.{is_no_register, is_past, wrong_in}
 use Rattle.qasm_scope.specs.Internal.Kept.{register_in, symbol_register, IsSound, IsSoundMeaning}
 use Rattle.qasm_scope.specs.Scope.{Scope, Meaning, Qubits, Bits, Gate, meaning_of, numeral}
-use Rattle.qasm_inline.specs.Internal.Spans.{register_by, no_register_by, past_in, past_by, span_in, span_by}
+use Rattle.qasm_inline.specs.Internal.Spans.{register_by, no_register_by, past_in, past_by, any_missing, span_in, span_by}
 use Rattle.qasm_scope.proofs.CheckLemmas.{AreNames, list_any-same}
 use Rattle.qasm_scope.proofs.Symbols.{symbol-register}
+use Rattle.qasm_scope.proofs.Tests.{any_or}
+use Rattle.qasm_scope.specs.declared.causes.Cause.TheVariants as cause
 
 pub register-names : (symbols : Symbols) (scope : Scope) (o : Operand) → AreNames symbols scope → register_by symbols o ≡ register_in (meaning_of o.register scope)
 register-names symbols scope o h = ap symbol_register (h o.register) ∙ symbol-register o.register scope
@@ -74,12 +76,31 @@ span-names symbols scope o h sound within =
     ap (λ r. span_in r o.index) (register-names symbols scope o h)
     ∙ span-at (meaning_of o.register scope) o.index (few-register o.register scope sound) (sym (past-names symbols scope o h) ∙ within)
 
--- the causes of a barrier
-pub wrong_in-barrier : (symbols : Symbols) (scope : Scope) (operands : List Operand) → AreNames symbols scope
-    → barrier_cause (list_any (no_register_by symbols) operands) (list_any (past_by symbols) operands) ≡ wrong_in scope (Barrier operands)
+-- what is wrong with a barrier
+barrier-at : (unknown past : Bool) → (unknown || past) ≡ true → barrier_cause unknown past ≡ Some (if unknown then cause.Unknown else cause.Index)
+barrier-at true past h = refl
+barrier-at false true h = refl
+barrier-at false false h = absurd (cc)
+
+barrier-clear : (unknown past : Bool) → (unknown || past) ≡ false → barrier_cause unknown past ≡ None
+barrier-clear true past h = absurd (cc)
+barrier-clear false true h = absurd (cc)
+barrier-clear false false h = refl
+
+barrier-kept : (symbols : Symbols) (scope : Scope) (operands : List Operand) → AreNames symbols scope
+    → wrong_in scope (Barrier operands) ≡ barrier_cause (list_any (no_register_by symbols) operands) (list_any (past_by symbols) operands)
 unfolding wrong_in
-wrong_in-barrier symbols scope operands h =
-    ap (λ b. barrier_cause b (list_any (past_by symbols) operands))
-    (list_any-same (no_register_by symbols) (λ o. is_no_register (meaning_of o.register scope)) operands (λ o. no_register-names symbols scope o h))
-    ∙ ap (λ b. barrier_cause (has_no_register scope operands) b)
-    (list_any-same (past_by symbols) (λ o. is_past (meaning_of o.register scope) o.index) operands (λ o. past-names symbols scope o h))
+barrier-kept symbols scope operands h = ap₂ barrier_cause
+    (list_any-same _ (no_register_by symbols) operands (λ o. sym (no_register-names symbols scope o h)))
+    (list_any-same _ (past_by symbols) operands (λ o. sym (past-names symbols scope o h)))
+
+pub wrong_in-barrier : (symbols : Symbols) (scope : Scope) (operands : List Operand) → AreNames symbols scope
+    → any_missing symbols operands ≡ true
+    → wrong_in scope (Barrier operands) ≡ Some (if list_any (no_register_by symbols) operands then cause.Unknown else cause.Index)
+wrong_in-barrier symbols scope operands h missing =
+    barrier-kept symbols scope operands h ∙ barrier-at (list_any (no_register_by symbols) operands) (list_any (past_by symbols) operands) (sym (any_or (no_register_by symbols) (past_by symbols) operands) ∙ missing)
+
+pub clear-barrier : (symbols : Symbols) (scope : Scope) (operands : List Operand) → AreNames symbols scope
+    → any_missing symbols operands ≡ false → wrong_in scope (Barrier operands) ≡ None
+clear-barrier symbols scope operands h clear =
+    barrier-kept symbols scope operands h ∙ barrier-clear (list_any (no_register_by symbols) operands) (list_any (past_by symbols) operands) (sym (any_or (no_register_by symbols) (past_by symbols) operands) ∙ clear)

@@ -1,17 +1,16 @@
 //! Applications in statements: what their arguments stand for, and what is wrong with them.
 
-ghost use Rattle.std.specs.Prelude.{◌≡◌, ◌==◌, ◌∷◌, [], ℕ, map, not, slice_get, IfOk, OnOk, Some, None, Err, nat_le};
+ghost use Rattle.std.specs.Prelude.{◌≡◌, ◌==◌, map, not, slice_get, IfOk, IfSome, IfNone, OnOk, Some, None, Err, true, false, nat_le};
 ghost use Rattle.std.specs.List.{list_any};
 ghost use Rattle.std.specs.Option.{option_map};
 ghost use Rattle.qasm_reader.specs.Syntax.{Barrier};
 ghost use Rattle.qasm_reader.specs.Views.{operand};
 ghost use Rattle.qasm_scope.specs.declared.causes.Cause.{Cause};
-ghost use Rattle.qasm_scope.specs.Internal.Checks.{barrier_cause};
 ghost use Rattle.qasm_scope.specs.Internal.Kept.{Represents};
 ghost use Rattle.qasm_scope.specs.Applications.{register_size, register_sizes, instance_count};
 ghost use Rattle.qasm_scope.specs.Faults.{has_other_size, wrong_in};
 ghost use Rattle.qasm_scope.specs.Scope.{Scope, numeral};
-ghost use Rattle.qasm_inline.specs.Internal.Spans.{span_range, span_by, span_in, no_register_by, past_by, past_in};
+ghost use Rattle.qasm_inline.specs.Internal.Spans.{span_range, span_by, span_in, no_register_by, is_missing, any_missing, IsSpan, AreSpans};
 
 use qasm_reader::Argument;
 use qasm_scope::Cause;
@@ -39,97 +38,70 @@ pub fn any_no_register<'a>(names: &Names<'a>, arguments: &[Argument<'a>]) -> boo
     ensures { result ≡ list_any (no_register_by names.now.symbols) (map operand arguments.now) }
 {
     for argument in arguments {
-        if is_no_register(names, argument) {
+        if names.register(argument.register).is_none() {
             return true;
         }
     }
     false
 }
 
-/// Whether the argument isn't a register of qubits or one of its qubits.
-fn is_no_register<'a>(names: &Names<'a>, argument: &Argument<'a>) -> bool
-    ensures { result ≡ no_register_by names.now.symbols (operand argument.now) }
-{
-    names.register(argument.register).is_none()
-}
-
-/// Whether an index isn't below its register's size.
-pub fn any_past_index<'a>(names: &Names<'a>, arguments: &[Argument<'a>]) -> bool
-    ensures { result ≡ list_any (past_by names.now.symbols) (map operand arguments.now) }
+/// Whether an argument isn't a register of qubits, nor one of the qubits that it has.
+fn any_missing<'a>(names: &Names<'a>, arguments: &[Argument<'a>]) -> bool
+    ensures { result ≡ any_missing names.now.symbols (map operand arguments.now) }
 {
     for argument in arguments {
-        if is_past(names, argument) {
+        if argument_span(names, argument).is_none() {
             return true;
         }
     }
     false
 }
 
-/// Whether the argument's index isn't below its register's size.
-fn is_past<'a>(names: &Names<'a>, argument: &Argument<'a>) -> bool
-    ensures { result ≡ past_by names.now.symbols (operand argument.now) }
-{
-    match names.register(argument.register) {
-        Some(register) => is_past_size(register.1, argument.index),
-        None => false,
-    }
-}
-
-/// Whether an index, if there is one, isn't below the size.
-fn is_past_size(size: usize, index: Option<&[u8]>) -> bool
-    ensures { (first : ℕ)
-        → result ≡ past_in (Some (first, size)) (option_map (λ text. text.now) index.entry) }
-{
-    match index {
-        Some(text) => reaches(text, size),
-        None => false,
-    }
-}
-
-/// Whether a text spells a number that isn't below the size.
-fn reaches(text: &[u8], size: usize) -> bool
-    ensures { result ≡ nat_le size (numeral text.now) }
-{
-    number(text) >= size
-}
-
-/// What the arguments stand for.
+/// What the arguments stand for; none where one of them is no register of qubits nor one of its qubits.
 pub fn spans<'a>(
     alloc: Global,
     names: &Names<'a>,
     arguments: &[Argument<'a>],
-) -> Result<Vec<Span>, AllocError>
-    ensures { IfOk result (λ spans. map span_range spans.items
-        ≡ map (span_by names.now.symbols) (map operand arguments.now)) }
+) -> Result<Option<Vec<Span>>, AllocError>
+    ensures some { IfOk result (λ found. IfSome found (λ spans.
+        AreSpans names.now.symbols (map operand arguments.now) (map span_range spans.items))) }
+    ensures none { IfOk result (λ found. IfNone found (
+        any_missing names.now.symbols (map operand arguments.now) ≡ true)) }
 {
-    let mut spans = Vec::new(alloc);
+    let mut spans = Vec::with_capacity(alloc, arguments.len())?;
     for argument in arguments {
-        spans.push(argument_span(names, argument))?;
+        let Some(span) = argument_span(names, argument) else {
+            return Ok(None);
+        };
+        spans.push(span)?;
     }
-    Ok(spans)
+    Ok(Some(spans))
 }
 
-/// What an argument stands for; a qubit past the largest number is that number.
-fn argument_span<'a>(names: &Names<'a>, argument: &Argument<'a>) -> Span
-    ensures { span_range result ≡ span_by names.now.symbols (operand argument.now) }
+/// What an argument stands for, if it is a register of qubits or one of the qubits that it has.
+fn argument_span<'a>(names: &Names<'a>, argument: &Argument<'a>) -> Option<Span>
+    ensures some { IfSome result (λ span.
+        IsSpan names.now.symbols (operand argument.now) (span_range span)) }
+    ensures none { IfNone result (is_missing names.now.symbols (operand argument.now) ≡ true) }
 {
-    match names.register(argument.register) {
-        Some(register) => span_of(register, argument.index),
-        None => Span::Single(0),
+    let (first, size) = names.register(argument.register)?;
+    match argument.index {
+        Some(text) => qubit_span(first, size, text),
+        None => Some(Span::Register { first, size }),
     }
 }
 
-/// A register, or the qubit of it at the index.
-fn span_of(register: (usize, usize), index: Option<&[u8]>) -> Span
-    ensures { span_range result
-        ≡ span_in (Some register) (option_map (λ text. text.now) index.entry) }
+/// The qubit of a register at the index that a text spells, if there is one.
+fn qubit_span(first: usize, size: usize, text: &[u8]) -> Option<Span>
+    ensures some { IfSome result (λ span. (nat_le size (numeral text.now) ≡ false)
+        × (span_range span ≡ span_in (Some (first, size)) (Some text.now))) }
+    ensures none { IfNone result (nat_le size (numeral text.now) ≡ true) }
 {
-    match index {
-        Some(text) => Span::Single(register.0.saturating_add(number(text))),
-        None => Span::Register {
-            first: register.0,
-            size: register.1,
-        },
+    let index = number(text);
+    if index < size {
+        Some(Span::Single(first.saturating_add(index)))
+    } else {
+        None
     }
 }
 
@@ -180,37 +152,7 @@ fn any_other_size(spans: &[Span], size: usize) -> bool
     ensures { result
         ≡ list_any (λ other. not (other == size)) (register_sizes (map span_range spans.now)) }
 {
-    for span in spans {
-        if is_other_size(span, size) {
-            return true;
-        }
-    }
-    false
-}
-
-/// Whether it is a register of another size.
-fn is_other_size(span: &Span, size: usize) -> bool
-    ensures { result
-        ≡ list_any (λ other. not (other == size)) (register_sizes (span_range span.now ∷ [])) }
-{
-    match span {
-        Span::Single(_) => false,
-        Span::Register { size: other, .. } => *other != size,
-    }
-}
-
-/// What is wrong with a barrier.
-pub fn wrong_barrier<'a>(names: &Names<'a>, arguments: &[Argument<'a>]) -> Option<Cause>
-    ensures { result
-        ≡ barrier_cause (list_any (no_register_by names.now.symbols) (map operand arguments.now)) (list_any (past_by names.now.symbols) (map operand arguments.now)) }
-{
-    if any_no_register(names, arguments) {
-        Some(Cause::Unknown)
-    } else if any_past_index(names, arguments) {
-        Some(Cause::Index)
-    } else {
-        None
-    }
+    spans.iter().filter_map(size_of).any(|other| other != size)
 }
 
 /// What is wrong with a barrier, in each scope that the names are of.
@@ -226,8 +168,11 @@ pub fn barrier<'a>(names: &Names<'a>, arguments: &[Argument<'a>]) -> Result<(), 
         → Represents names.now scope
         → wrong_in scope (Barrier (map operand arguments.now)) ≡ Some cause }
 {
-    match wrong_barrier(names, arguments) {
-        Some(cause) => Err(StatementError::Wrong(cause)),
-        None => Ok(()),
+    if !any_missing(names, arguments) {
+        Ok(())
+    } else if any_no_register(names, arguments) {
+        Err(StatementError::Wrong(Cause::Unknown))
+    } else {
+        Err(StatementError::Wrong(Cause::Index))
     }
 }

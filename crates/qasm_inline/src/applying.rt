@@ -1,29 +1,32 @@
 //! Applications of gates in statements.
 
-ghost use Rattle.std.specs.Prelude.{◌≡◌, [], map, OnOk, None, Some, Err};
+ghost use Rattle.std.specs.Prelude.{◌≡◌, [], map, IfOk, IfSome, IfNone, OnOk, None, Some, Err, true};
+ghost use Rattle.std.specs.List.{list_any};
 ghost use Rattle.qasm_reader.specs.Syntax.{Act, Applied};
 ghost use Rattle.qasm_reader.specs.Views as views;
-ghost use Rattle.qasm_scope.specs.Applications.{application_events};
+ghost use Rattle.qasm_scope.specs.Angles.{is_unsupported};
+ghost use Rattle.qasm_scope.specs.Applications.{application_events, has_twice, instances, register_sizes};
 ghost use Rattle.qasm_scope.specs.Internal.Kept.{Represents};
 ghost use Rattle.qasm_inline.specs.Internal.KeptCalls.{ComesTo};
-ghost use Rattle.qasm_scope.specs.Faults.{wrong_in};
+ghost use Rattle.qasm_scope.specs.Faults.{has_other_size, wrong_in};
 ghost use Rattle.qasm_scope.specs.Meaning.{most_calls, wrong_with};
 ghost use Rattle.qasm_scope.specs.Scope.{Scope};
-ghost use Rattle.qasm_inline.specs.Internal.Spans.{span_range, span_by, wrong_application_by};
+ghost use Rattle.qasm_inline.specs.Internal.Spans.{span_range, unknown_by, wrong_count_by, IsResolved, is_unresolved, unresolved_cause, resolved_cause};
 ghost use Rattle.qasm_scope.specs.declared.causes.Cause.{Cause};
 
-use crate::applications::{Span, any_no_register, any_past_index, has_other_sizes, spans};
-use crate::instances::{call_instances, constant_values};
+use crate::applications::{Span, any_no_register, has_other_sizes, spans};
+use crate::instances::call_instances;
 use crate::overlaps::has_same_qubit;
 use crate::unroll::Unrolled;
+use qasm_angle::Expr;
 use qasm_reader::Application;
 use qasm_scope::Cause;
-use qasm_scope::bodies::has_other_shape;
 use qasm_scope::expressions::{all_numbered, any_other_name, any_unsupported};
+use qasm_scope::gates::CalledGate;
 use qasm_scope::names::Names;
 use qasm_scope::places::Places;
 use qasm_scope::statement_error::StatementError;
-use std::alloc::Global;
+use std::alloc::{AllocError, Global};
 
 /// Applies a gate, where nothing is wrong with the application.
 ///
@@ -40,46 +43,116 @@ pub fn apply<'a>(
     ensures ok { OnOk result ((scope : Scope) → Represents names.now scope
         → wrong_in scope (Act (Applied (views.application application.now))) ≡ None) }
     ensures events { OnOk result ((scope : Scope) → Represents names.now scope
-        → ComesTo unrolled.old (application_events scope (views.application application.now)) unrolled.new []) }
+        → ComesTo unrolled.old (application_events scope (views.application application.now))
+        unrolled.new []) }
     ensures err { (cause : Cause) (scope : Scope) → result ≡ Err (StatementError.Wrong cause)
-        → Represents names.now scope
-        → wrong_with most_calls scope unrolled.old.calls (Act (Applied (views.application application.now))) ≡ Some cause }
+        → Represents names.now scope → wrong_with most_calls scope unrolled.old.calls
+        (Act (Applied (views.application application.now))) ≡ Some cause }
 {
-    let parameters = Places::none(alloc);
-    let spans = spans(alloc, names, &application.qubits)?;
-    if let Some(cause) = wrong_application(names, &parameters, application, &spans) {
+    let Some(resolved) = resolved(alloc, names, application)? else {
+        let cause = unresolved_cause(alloc, names, application);
+        return Err(StatementError::Wrong(cause));
+    };
+    if let Some(cause) = resolved_cause(&resolved.spans) {
         return Err(StatementError::Wrong(cause));
     }
-    let angles = all_numbered(alloc, &parameters, &application.angles)?;
-    let values = constant_values(alloc, &angles)?;
-    let called = names.called(&application.gate);
-    call_instances(alloc, unrolled, &names.gates, called, &values, &spans)
+    call_instances(
+        unrolled,
+        &names.gates,
+        resolved.gate,
+        &resolved.angles,
+        &resolved.spans,
+    )
 }
 
-/// What is wrong with an application.
-fn wrong_application<'a>(
+/// An application with its names resolved.
+#[derive(Drop)]
+struct ResolvedApplication {
+    /// The gate that is applied.
+    gate: CalledGate,
+    /// Its angles.
+    angles: Vec<Expr>,
+    /// What its arguments stand for.
+    spans: Vec<Span>,
+}
+
+/// An application with its names resolved; none where one of them isn't known, an expression isn't supported, the
+/// gate has another number of angles or qubits, or an index isn't below its register's size.
+fn resolved<'a>(
+    alloc: Global,
     names: &Names<'a>,
-    parameters: &Places<'a>,
     application: &Application<'a>,
-    spans: &[Span],
-) -> Option<Cause>
-    ensures { map span_range spans.now
-        ≡ map (span_by names.now.symbols) (views.application application.now).qubits
-        → result ≡ wrong_application_by names.now.symbols parameters.now (views.application application.now) }
+) -> Result<Option<ResolvedApplication>, AllocError>
+    ensures some { IfOk result (λ found. IfSome found (λ r. IsResolved names.now.symbols
+        (views.application application.now) r.gate r.angles.items (map span_range r.spans.items))) }
+    ensures none { IfOk result (λ found. IfNone found (
+        is_unresolved names.now.symbols (views.application application.now) ≡ true)) }
 {
-    let shape = names.shape(&application.gate);
+    let Some(gate) = names.gate(&application.gate) else {
+        return Ok(None);
+    };
+    if gate.has_other_shape(application.angles.len(), application.qubits.len()) {
+        return Ok(None);
+    }
+    let Some(angles) = all_numbered(alloc, &Places::none(alloc), &application.angles)? else {
+        return Ok(None);
+    };
+    let Some(spans) = spans(alloc, names, &application.qubits)? else {
+        return Ok(None);
+    };
+    Ok(Some(ResolvedApplication {
+        gate: gate.called,
+        angles,
+        spans,
+    }))
+}
+
+/// The first cause of an application that can't be resolved.
+fn unresolved_cause<'a>(alloc: Global, names: &Names<'a>, application: &Application<'a>) -> Cause
+    ensures { let a = views.application application.now in result
+        ≡ unresolved_cause (list_any is_unsupported a.angles) (unknown_by names.now.symbols a)
+        (wrong_count_by names.now.symbols a) }
+{
     if any_unsupported(&application.angles) {
-        Some(Cause::Unsupported)
-    } else if shape.is_none()
-        || any_other_name(parameters, &application.angles)
-        || any_no_register(names, &application.qubits)
-    {
-        Some(Cause::Unknown)
-    } else if has_other_shape(shape, application.angles.len(), application.qubits.len()) {
-        Some(Cause::WrongCount)
-    } else if any_past_index(names, &application.qubits) {
-        Some(Cause::Index)
-    } else if has_other_sizes(spans) {
+        Cause::Unsupported
+    } else if is_unknown(alloc, names, application) {
+        Cause::Unknown
+    } else if is_wrong_count(names, application) {
+        Cause::WrongCount
+    } else {
+        Cause::Index
+    }
+}
+
+/// Whether a name in an application isn't known, or isn't what is needed there.
+fn is_unknown<'a>(alloc: Global, names: &Names<'a>, application: &Application<'a>) -> bool
+    ensures { result ≡ unknown_by names.now.symbols (views.application application.now) }
+{
+    match names.gate(&application.gate) {
+        Some(_) => {
+            any_other_name(&Places::none(alloc), &application.angles)
+                || any_no_register(names, &application.qubits)
+        }
+        None => true,
+    }
+}
+
+/// Whether its angles or qubits differ in number from the gate's declaration.
+fn is_wrong_count<'a>(names: &Names<'a>, application: &Application<'a>) -> bool
+    ensures { result ≡ wrong_count_by names.now.symbols (views.application application.now) }
+{
+    match names.gate(&application.gate) {
+        Some(gate) => gate.has_other_shape(application.angles.len(), application.qubits.len()),
+        None => false,
+    }
+}
+
+/// The first cause of an application whose names are resolved.
+fn resolved_cause(spans: &[Span]) -> Option<Cause>
+    ensures { result ≡ resolved_cause (has_other_size (register_sizes (map span_range spans.now)))
+        (list_any has_twice (instances (map span_range spans.now))) }
+{
+    if has_other_sizes(spans) {
         Some(Cause::Sizes)
     } else if has_same_qubit(spans) {
         Some(Cause::SameQubit)

@@ -2,22 +2,24 @@
 
 ghost use Rattle.std.specs.Prelude.{◌≡◌, ◌⊎◌, ◌∷◌, ◌++◌, [], List, ℕ, None, Some, Err, OnOk, IfOk, codes, if◌then◌else◌};
 ghost use Rattle.std.specs.Str.{bytes_eq};
-ghost use Rattle.qasm_reader.specs.Syntax.{Placed};
-ghost use Rattle.qasm_reader.specs.Views.{placed, sentence};
+ghost use Rattle.qasm_reader.specs.Parts.{with_statement};
+ghost use Rattle.qasm_reader.specs.Syntax.{GateForm, Placed};
+ghost use Rattle.qasm_reader.specs.Views.{body_sentence, form_of, placed, sentence};
 ghost use Rattle.zx_gates.specs.Elementary.{IsElementary};
 ghost use Rattle.qasm_scope.specs.declared.causes.Cause.{Cause};
-ghost use Rattle.qasm_inline.specs.Internal.Circuits.{HasTaken, HasTakenAt, IsCircuitAnswer, IsOpen};
+ghost use Rattle.qasm_inline.specs.Internal.Circuits.{HasBegun, HasBegunAs, HasTaken, HasTakenAt, IsCircuitAnswer, IsOpen, gate_at};
 ghost use Rattle.qasm_scope.specs.Meaning.{Means, first_fault, is_version, most_calls};
 
 use crate::error::InlineError;
 use crate::statements::read_statement;
 use crate::unroll::Unrolled;
-use qasm_reader::{Statement, StatementKind};
+use qasm_reader::{BodyStatement, GateHeading, Statement, StatementKind};
 use qasm_scope::Cause;
+use qasm_scope::gate_in_progress::GateInProgress;
 use qasm_scope::names::Names;
 use qasm_scope::numerals::clamped;
 use qasm_scope::statement_error::StatementError;
-use std::alloc::Global;
+use std::alloc::{AllocError, Global};
 use std::mem::replace;
 use zx_gates::{Elementary, Elements};
 
@@ -39,6 +41,15 @@ pub struct Circuit<'a> {
     stage: Stage,
     names: Names<'a>,
     unrolled: Unrolled,
+}
+
+/// A gate's declaration that is taken in up to a statement of its body.
+#[derive(Drop)]
+pub(crate) struct OpenGate<'a> {
+    /// The place of the declaration's first byte in the text.
+    pub place: usize,
+    /// What is kept of it; nothing where the circuit takes in nothing more.
+    kept: Option<GateInProgress<'a>>,
 }
 
 impl<'a> Circuit<'a> {
@@ -66,6 +77,52 @@ impl<'a> Circuit<'a> {
         }
     }
 
+    /// Begins with a gate's declaration, whose first byte is at this place.
+    pub(crate) fn begin_gate(&mut self, place: usize, heading: &GateHeading<'a>) -> OpenGate<'a>
+        ensures begun { (program : List Placed) → HasTaken self.old program
+            → HasBegun self.new result program (form_of heading.now []) }
+        ensures place { result.place ≡ place }
+    {
+        match self.stage {
+            Stage::Empty => {
+                self.stage = without_version(place);
+                OpenGate { place, kept: None }
+            }
+            Stage::Open => OpenGate {
+                place,
+                kept: self.begun(heading),
+            },
+            Stage::Stopped(_) => OpenGate { place, kept: None },
+        }
+    }
+
+    /// Takes in the next statement of a gate's body.
+    pub(crate) fn take_in_gate(&mut self, gate: &mut OpenGate<'a>, statement: &BodyStatement<'a>)
+        ensures taken { (program : List Placed) (form : GateForm)
+            → HasBegun self.old gate.old program form → HasBegun self.new gate.new program
+            (with_statement form (body_sentence statement.now)) }
+        ensures place { gate.new.place ≡ gate.old.place }
+    {
+        if let Some(kept) = &mut gate.kept {
+            if let Err(AllocError) = kept.take(self.alloc, &self.names, statement) {
+                self.stage = Stage::Stopped(InlineError::NoMemory);
+                gate.kept = None;
+            }
+        }
+    }
+
+    /// Ends a gate's declaration. What is wrong with it is told from here on.
+    pub(crate) fn end_gate(&mut self, gate: OpenGate<'a>)
+        ensures { (program : List Placed) (form : GateForm)
+            → HasBegun self.old gate.entry program form
+            → HasTaken self.new (program ++ gate_at gate.entry.place form ∷ []) }
+    {
+        let OpenGate { place, kept } = gate;
+        if let Some(kept) = kept {
+            self.stage = self.after_gate(place, kept);
+        }
+    }
+
     /// The circuit that the statements mean, or the first fault of them.
     ///
     /// # Errors
@@ -80,11 +137,11 @@ impl<'a> Circuit<'a> {
         ensures valid { (program : List Placed) → HasTaken self.entry program
             → IfOk result (λ circuit. IsElementary circuit) }
         // The first fault is told, and a program that has one is refused.
-        ensures fault { (program : List Placed) (cause : Cause) (at : ℕ) → HasTaken self.entry program
-            → result ≡ Err (InlineError.Fault cause at)
+        ensures fault { (program : List Placed) (cause : Cause) (at : ℕ)
+            → HasTaken self.entry program → result ≡ Err (InlineError.Fault cause at)
             → first_fault most_calls program ≡ Some (cause, at) }
-        ensures refused { (program : List Placed) (cause : Cause) (at : ℕ) → HasTaken self.entry program
-            → first_fault most_calls program ≡ Some (cause, at)
+        ensures refused { (program : List Placed) (cause : Cause) (at : ℕ)
+            → HasTaken self.entry program → first_fault most_calls program ≡ Some (cause, at)
             → (result ≡ Err InlineError.NoMemory) ⊎ (result ≡ Err (InlineError.Fault cause at)) }
     {
         self.answer()
@@ -108,10 +165,41 @@ impl<'a> Circuit<'a> {
         }
     }
 
+    /// What is kept of a gate behind the version, before the first statement of its body.
+    fn begun(&mut self, heading: &GateHeading<'a>) -> Option<GateInProgress<'a>>
+        ensures { (program : List Placed) (place : ℕ)
+            → IsOpen program self.old.names self.old.unrolled
+            → HasBegunAs result self.new program place (form_of heading.now []) }
+    {
+        match GateInProgress::new(self.alloc, &self.names, heading) {
+            Ok(gate) => Some(gate),
+            Err(AllocError) => {
+                self.stage = Stage::Stopped(InlineError::NoMemory);
+                None
+            }
+        }
+    }
+
+    /// The stage after a gate behind the version.
+    fn after_gate(&mut self, place: usize, gate: GateInProgress<'a>) -> Stage
+        ensures { (program : List Placed) (form : GateForm)
+            → HasBegunAs (Some gate.entry) self.old program place form → HasTakenAt result
+            (program ++ gate_at place form ∷ []) self.new.names self.new.unrolled }
+    {
+        match gate.declare(&mut self.names) {
+            Ok(()) => Stage::Open,
+            Err(StatementError::Wrong(cause)) => {
+                Stage::Stopped(InlineError::Fault { cause, at: place })
+            }
+            Err(StatementError::NoMemory) => Stage::Stopped(InlineError::NoMemory),
+        }
+    }
+
     /// The stage after a statement behind the version.
     fn after_next(&mut self, statement: &Statement<'a>) -> Stage
         ensures { (program : List Placed) → IsOpen program self.old.names self.old.unrolled
-            → HasTakenAt result (program ++ placed statement.now ∷ []) self.new.names self.new.unrolled }
+            → HasTakenAt result (program ++ placed statement.now ∷ []) self.new.names
+            self.new.unrolled }
     {
         match read_statement(
             self.alloc,
@@ -138,11 +226,18 @@ fn after_first(statement: &Statement<'_>) -> Stage
     if is_version(&statement.kind) {
         Stage::Open
     } else {
-        Stage::Stopped(InlineError::Fault {
-            cause: Cause::Version,
-            at: statement.place,
-        })
+        without_version(statement.place)
     }
+}
+
+/// The stage after a first statement at this place that isn't the version.
+fn without_version(place: usize) -> Stage
+    ensures { result ≡ Stage.Stopped (InlineError.Fault Cause.Version place) }
+{
+    Stage::Stopped(InlineError::Fault {
+        cause: Cause::Version,
+        at: place,
+    })
 }
 
 /// Whether the statement is `OPENQASM 2.0;`.

@@ -33,12 +33,7 @@ fn overlaps_any(span: &Span, others: &[Span], count: usize) -> bool
     ensures { result
         ≡ list_any (overlaps count (span_range span.now)) (map span_range others.now) }
 {
-    for other in others {
-        if overlaps(span, other, count) {
-            return true;
-        }
-    }
-    false
+    others.iter().any(|other| overlaps(span, other, count))
 }
 
 /// Whether two arguments are the same qubit in one of so many instances.

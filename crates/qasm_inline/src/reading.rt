@@ -1,22 +1,25 @@
 //! Reading: from a text to the circuit that it means, in one pass over the text.
 
-ghost use Rattle.std.specs.Prelude.{◌≡◌, ◌<◌, ◌≤◌, ◌++◌, List, ℕ, length, drop, None, Some, Ok, Err, IfOk, IfSome, OnOk};
+ghost use Rattle.std.specs.Prelude.{◌≡◌, ◌<◌, ◌≤◌, ◌++◌, List, [], ℕ, length, None, Some, Ok, Err, IfOk, IfSome, OnOk};
+ghost use Rattle.std.specs.Borrow.{Bor};
 ghost use Rattle.zx_gates.specs.Elementary.{IsElementary};
+ghost use Rattle.qasm_lexer.specs.declared.token.Token.{Token};
 ghost use Rattle.qasm_lexer.specs.Tokens.{Lexeme, lexemes, IsCut, IsCutAt, IsBadByte};
 ghost use Rattle.qasm_reader.specs.Depth.{too_deep};
-ghost use Rattle.qasm_reader.specs.Grammar.{BeginsWithStatement, IsSyntaxFault};
+ghost use Rattle.qasm_reader.specs.Grammar.{IsSyntaxFault};
 ghost use Rattle.qasm_reader.specs.Internal.Depths.{IsDepth};
+ghost use Rattle.qasm_reader.specs.Parts.{IsFirstPart};
 ghost use Rattle.qasm_reader.specs.Syntax.{Placed};
 ghost use Rattle.qasm_scope.specs.declared.causes.Cause.{Cause};
 ghost use Rattle.qasm_scope.specs.Meaning.{Means, first_fault, most_calls};
 ghost use Rattle.qasm_scope.specs.Texts.{IsProgramText};
 ghost use Rattle.qasm_inline.specs.Internal.Circuits.{HasTaken};
-ghost use Rattle.qasm_inline.specs.Internal.Readings.{AreTaken, IsProgramAnswer, IsReadUpTo, IsTextAnswer};
+ghost use Rattle.qasm_inline.specs.Internal.Readings.{AreAllTaken, AreTaken, IsEnd, IsProgramAnswer, IsReadUpTo, IsNextOf, IsTakenNext, IsTextAnswer, TakesIn, inside};
 
-use crate::circuit::Circuit;
+use crate::circuit::{Circuit, OpenGate};
 use crate::error::{InlineError, ReadError};
 use qasm_lexer::{LexError, Token, lex_further};
-use qasm_reader::{Depth, next_statement};
+use qasm_reader::{BodyPart, Depth, Part, next_in_body, next_part};
 use std::alloc::{AllocError, Global};
 use zx_gates::Elementary;
 
@@ -24,7 +27,8 @@ use zx_gates::Elementary;
 const BATCH: usize = 4096;
 
 /// The circuit that a text means, or the text's first fault. Tokens are kept a few thousand at a time, or as many as
-/// the longest statement has, eight times over; all that follow are kept only behind a syntax fault.
+/// the longest part has, eight times over, where a gate's declaration is its heading and the statements of its body; all
+/// that follow are kept only behind a syntax fault.
 ///
 /// # Errors
 ///
@@ -49,21 +53,165 @@ pub fn read(alloc: Global, text: &[u8]) -> Result<Elementary, ReadError>
     read_batches(alloc, text)
 }
 
+/// What is read of a text so far.
+#[derive(Drop)]
+struct Reading<'a> {
+    /// The circuit, which has taken in what was read.
+    circuit: Circuit<'a>,
+    /// The gate whose declaration isn't over.
+    gate: Option<OpenGate<'a>>,
+}
+
+impl<'a> Reading<'a> {
+    /// Nothing is read.
+    fn new(alloc: Global) -> Reading<'a>
+        ensures { AreAllTaken [] result [] }
+    {
+        Reading {
+            circuit: Circuit::new(alloc),
+            gate: None,
+        }
+    }
+
+    /// Takes in the parts that the tokens begin with, and leaves the tokens behind them.
+    fn take_parts(&mut self, alloc: Global, tokens: &mut Vec<Token<'a>>) -> Result<(), AllocError>
+        ensures { OnOk result ((all : List Lexeme)
+            → AreTaken all self.old (lexemes tokens.old.items)
+            → AreAllTaken all self.new (lexemes tokens.new.items)) }
+    {
+        let mut taken = 0;
+        while let Some(count) = self.take_next(alloc, &tokens[taken..])? {
+            taken += count;
+        }
+        tokens.rotate_left(taken);
+        tokens.truncate(tokens.len() - taken);
+        Ok(())
+    }
+
+    /// Takes in the part that the tokens begin with, and tells how many tokens it has; `None` where no part begins them.
+    fn take_next(
+        &mut self,
+        alloc: Global,
+        tokens: &[Token<'a>],
+    ) -> Result<Option<usize>, AllocError>
+        ensures taken { (all : List Lexeme) → AreTaken all self.old (lexemes tokens.now)
+            → IfOk result (λ count. IsTakenNext all count self.new tokens.now) }
+        ensures some { IfOk result (λ count. IfSome count (λ n.
+            (0 < n) × (n ≤ length tokens.now))) }
+    {
+        match self.gate.take() {
+            None => self.take_next_part(alloc, tokens),
+            Some(gate) => self.take_next_in_body(alloc, gate, tokens),
+        }
+    }
+
+    /// Takes in the part that the tokens begin with, where no gate's declaration is open.
+    fn take_next_part(
+        &mut self,
+        alloc: Global,
+        tokens: &[Token<'a>],
+    ) -> Result<Option<usize>, AllocError>
+        requires { self.old.gate ≡ None }
+        ensures taken { (all : List Lexeme) → AreTaken all self.old (lexemes tokens.now)
+            → IfOk result (λ count. IsTakenNext all count self.new tokens.now) }
+        ensures some { IfOk result (λ count. IfSome count (λ n.
+            (0 < n) × (n ≤ length tokens.now))) }
+    {
+        match next_part(alloc, tokens)? {
+            Some((part, rest)) => {
+                self.take_part(part);
+                Ok(Some(tokens.len() - rest.len()))
+            }
+            None => Ok(None),
+        }
+    }
+
+    /// Takes in a part of a program.
+    fn take_part(&mut self, part: Part<'a>)
+        requires { self.old.gate ≡ None }
+        ensures { (ts rest : List Lexeme) → IsFirstPart part.entry ts rest
+            → TakesIn self.old ts self.new rest }
+    {
+        match part {
+            Part::Statement(statement) => self.circuit.take(&statement),
+            Part::Heading { place, heading } => {
+                self.gate = Some(self.circuit.begin_gate(place, &heading));
+            }
+        }
+    }
+
+    /// Takes in what the tokens begin with, where they are inside this gate's body.
+    fn take_next_in_body(
+        &mut self,
+        alloc: Global,
+        gate: OpenGate<'a>,
+        tokens: &[Token<'a>],
+    ) -> Result<Option<usize>, AllocError>
+        requires { self.old.gate ≡ None }
+        ensures taken { (all : List Lexeme)
+            → AreTaken all (inside self.old gate.entry) (lexemes tokens.now)
+            → IfOk result (λ count. IsTakenNext all count self.new tokens.now) }
+        ensures some { IfOk result (λ count. IfSome count (λ n.
+            (0 < n) × (n ≤ length tokens.now))) }
+    {
+        match next_in_body(alloc, tokens)? {
+            Some((part, rest)) => {
+                self.take_body_part(gate, part);
+                Ok(Some(tokens.len() - rest.len()))
+            }
+            None => {
+                self.gate = Some(gate);
+                Ok(None)
+            }
+        }
+    }
+
+    /// Takes in a part of this gate's body.
+    fn take_body_part(&mut self, mut gate: OpenGate<'a>, part: BodyPart<'a>)
+        requires { self.old.gate ≡ None }
+        ensures { (ts : List Lexeme) (rest : Bor (List Token))
+            → IsNextOf gate.entry.place ts (Some (part.entry, rest))
+            → TakesIn (inside self.old gate.entry) ts self.new (lexemes rest.now) }
+    {
+        match part {
+            BodyPart::Statement(statement) => {
+                self.circuit.take_in_gate(&mut gate, &statement);
+                self.gate = Some(gate);
+            }
+            BodyPart::End => self.circuit.end_gate(gate),
+        }
+    }
+
+    /// The place of the syntax fault, where the text is over and these tokens are left.
+    fn fault(&self, tokens: &[Token<'_>]) -> Option<usize>
+        ensures { (all : List Lexeme) → AreAllTaken all self.now (lexemes tokens.now)
+            → IsEnd all self.now.circuit result }
+    {
+        match &self.gate {
+            Some(gate) => Some(gate.place),
+            None => match tokens.first() {
+                Some(first) => Some(first.place),
+                None => None,
+            },
+        }
+    }
+}
+
 /// The circuit that a text means, or the text's first fault.
 fn read_batches(alloc: Global, text: &[u8]) -> Result<Elementary, ReadError>
     ensures { IsTextAnswer text.now result }
 {
-    let mut circuit = Circuit::new(alloc);
+    let mut reading = Reading::new(alloc);
     let mut tokens = Vec::new(alloc);
     let mut depth = Depth::start();
     let mut place = 0;
     while place < text.len() {
         let (end, behind) = cut_further(text, place, depth, &mut tokens)?;
-        take_statements(alloc, &mut circuit, &mut tokens)?;
+        reading.take_parts(alloc, &mut tokens)?;
         place = end;
         depth = behind;
     }
-    answer(depth, &tokens, circuit)
+    answer(depth, &tokens, reading)
 }
 
 /// Cuts a batch of tokens off the text at a place, where parentheses are so deep. The place and the depth behind the
@@ -76,7 +224,8 @@ fn cut_further<'a>(
 ) -> Result<(usize, Depth), ReadError>
     requires { place < length text.now }
     ensures further { IfOk result (λ end. (place < end.0) × (end.0 ≤ length text.now)) }
-    ensures cut { (before : List Lexeme) → IsCutAt text.now place (before ++ lexemes tokens.old.items)
+    ensures cut { (before : List Lexeme) → IsCutAt text.now place
+        (before ++ lexemes tokens.old.items)
         → IfOk result (λ end. IsCutAt text.now end.0 (before ++ lexemes tokens.new.items)) }
     ensures depth { (before : List Lexeme) → IsDepth depth (before ++ lexemes tokens.old.items)
         → IfOk result (λ end. IsDepth end.1 (before ++ lexemes tokens.new.items)) }
@@ -93,64 +242,24 @@ fn cut_further<'a>(
     }
 }
 
-/// Takes the statements that the tokens begin with into the circuit, and leaves the tokens behind them.
-fn take_statements<'a>(
-    alloc: Global,
-    circuit: &mut Circuit<'a>,
-    tokens: &mut Vec<Token<'a>>,
-) -> Result<(), AllocError>
-    ensures taken { OnOk result ((all : List Lexeme) → AreTaken all circuit.old (lexemes tokens.old.items)
-        → AreTaken all circuit.new (lexemes tokens.new.items)) }
-    ensures none { OnOk result (BeginsWithStatement (lexemes tokens.new.items) → ⊥) }
-{
-    let mut taken = 0;
-    while let Some(count) = take_statement(alloc, circuit, &tokens[taken..])? {
-        taken += count;
-    }
-    tokens.rotate_left(taken);
-    tokens.truncate(tokens.len() - taken);
-    Ok(())
-}
-
-/// Takes the statement that the tokens begin with into the circuit, and tells how many tokens it has; `None` where no
-/// statement begins them.
-fn take_statement<'a>(
-    alloc: Global,
-    circuit: &mut Circuit<'a>,
-    tokens: &[Token<'a>],
-) -> Result<Option<usize>, AllocError>
-    ensures taken { (all : List Lexeme) → AreTaken all circuit.old (lexemes tokens.now)
-        → IfOk result (λ count. IfSome count (λ n. AreTaken all circuit.new (lexemes (drop n tokens.now)))) }
-    ensures some { IfOk result (λ count. IfSome count (λ n. (0 < n) × (n ≤ length tokens.now))) }
-    ensures none { result ≡ Ok None → BeginsWithStatement (lexemes tokens.now) → ⊥ }
-    ensures same { result ≡ Ok None → circuit.new ≡ circuit.old }
-{
-    match next_statement(alloc, tokens)? {
-        Some((statement, rest)) => {
-            circuit.take(&statement);
-            Ok(Some(tokens.len() - rest.len()))
-        }
-        None => Ok(None),
-    }
-}
-
 /// What is answered where the text is over, and these tokens are left.
-fn answer(depth: Depth, tokens: &[Token<'_>], circuit: Circuit<'_>) -> Result<Elementary, ReadError>
-    ensures { (text : List ℕ) → IsReadUpTo text (length text) depth tokens.now circuit.entry
+fn answer(depth: Depth, tokens: &[Token<'_>], reading: Reading<'_>) -> Result<Elementary, ReadError>
+    ensures { (text : List ℕ) → IsReadUpTo text (length text) depth tokens.now reading.entry
         → IsTextAnswer text result }
 {
     match depth {
         Depth::TooDeep(at) => Err(ReadError::TooDeep { at }),
-        Depth::Open(_) => match tokens.first() {
-            Some(first) => Err(ReadError::Syntax { at: first.place }),
-            None => finished(circuit),
+        Depth::Open(_) => match reading.fault(tokens) {
+            Some(at) => Err(ReadError::Syntax { at }),
+            None => finished(reading.circuit),
         },
     }
 }
 
 /// The circuit, or its first fault.
 fn finished(circuit: Circuit<'_>) -> Result<Elementary, ReadError>
-    ensures { (program : List Placed) → HasTaken circuit.entry program → IsProgramAnswer program result }
+    ensures { (program : List Placed) → HasTaken circuit.entry program
+        → IsProgramAnswer program result }
 {
     match circuit.finish() {
         Ok(circuit) => Ok(circuit),

@@ -1,14 +1,16 @@
 //! Unrolling of calls, depth first, with a stack of its own.
 
-ghost use Rattle.std.specs.Prelude.{◌≡◌, ◌+◌, ◌-◌, ◌*◌, ◌<◌, ◌≤◌, ◌++◌, ◌∷◌, List, ℕ, length, Ok, Err, Some, None, IfOk, IfErr, OnOk, [], slice_get};
+ghost use Rattle.std.specs.Prelude.{◌≡◌, ◌+◌, ◌-◌, ◌*◌, ◌<◌, ◌≤◌, ◌++◌, ◌∷◌, List, ℕ, length, take, drop, Err, IfOk, IfErr, OnOk, [], slice_get};
 ghost use Rattle.zx_gates.specs.declared.elementary.ElementaryGate.{ElementaryGate};
 ghost use Rattle.qasm_scope.specs.declared.causes.Cause.{Cause};
-ghost use Rattle.qasm_scope.specs.Calls.{Event, Called, Undefined, applied, call_count, first_wrong, u_events, cx_events, after_angles};
-ghost use Rattle.qasm_inline.specs.Internal.KeptCalls.{Numbered, Unrolls, ComesTo, entered_events, left_events, stack_events, expand_called, called_events, gate_events, given, calls_of, wrong_from};
+ghost use Rattle.qasm_scope.specs.Calls.{Event, Called, Undefined, applied, first_wrong, u_events, cx_events};
+ghost use Rattle.qasm_inline.specs.Internal.KeptCalls.{Leads, StopsAt, IsBase, IsStacked, frames_of, first_events, entered_events, left_events, no_events, gate_events, calls_of};
+ghost use Rattle.qasm_inline.specs.Internal.Spans.{instance_events};
 ghost use Rattle.qasm_scope.specs.Meaning.{most_calls};
 
-use crate::values::{copied, eighth_of, evaluated, picked};
-use qasm_angle::Angle;
+use crate::applications::Span;
+use crate::values::{eighth_of, push_instance, push_picked, push_values};
+use qasm_angle::{Angle, Expr};
 use qasm_scope::Cause;
 use qasm_scope::gates::{CalledGate, GateBody, GateCall};
 use qasm_scope::statement_error::StatementError;
@@ -21,18 +23,25 @@ const MOST_CALLS: usize = 1_000_000;
 /// The deepest that calls may be nested.
 const DEEPEST: usize = 256;
 
-/// A gate that is being unrolled.
-#[derive(Drop)]
-struct Frame<'a> {
-    /// The calls in its body that are left.
-    calls: &'a [GateCall],
-    /// The values of its parameters.
-    angles: Vec<Angle>,
-    /// Its qubits.
-    qubits: Vec<Qubit>,
+/// How many angles and qubits lie on the stacks.
+#[derive(Clone, Copy)]
+struct Heights {
+    angles: usize,
+    qubits: usize,
 }
 
-/// The built-in gates that act so far, and how many calls were made.
+/// A gate that is being unrolled.
+#[derive(Clone, Copy)]
+struct Frame {
+    /// Its number.
+    gate: usize,
+    /// The index of the next call in its body.
+    next: usize,
+    /// What lies below its angles and qubits.
+    base: Heights,
+}
+
+/// The built-in gates that act so far, and how many calls were made. The stacks are kept between applications.
 #[derive(Drop)]
 pub struct Unrolled {
     alloc: Global,
@@ -40,6 +49,12 @@ pub struct Unrolled {
     pub gates: Elements,
     /// How many calls.
     pub calls: usize,
+    /// The gates that are being unrolled, each called by the one below it.
+    frames: Vec<Frame>,
+    /// Their angles, those of each gate above those of the gate that calls it.
+    angles: Vec<Angle>,
+    /// Their qubits, in the same way.
+    qubits: Vec<Qubit>,
 }
 
 impl Unrolled {
@@ -52,51 +67,51 @@ impl Unrolled {
             alloc,
             gates: Elements::new(alloc),
             calls: 0,
+            frames: Vec::new(alloc),
+            angles: Vec::new(alloc),
+            qubits: Vec::new(alloc),
         }
     }
 
-    /// An instance of an application: a call with these values, and all that it comes to.
+    /// The instance of an application at an index: a call with these angles on its qubits, and all that it comes to.
+    /// What an earlier application left on the stacks is taken off first.
     pub fn instance(
         &mut self,
         gates: &[GateBody],
         called: CalledGate,
-        values: &Result<Vec<Angle>, Cause>,
-        qubits: Vec<Qubit>,
+        angles: &[Expr],
+        spans: &[Span],
+        index: usize,
     ) -> Result<(), StatementError>
-        ensures ok { OnOk result ((numbered : Numbered) → Unrolls gates.now numbered
-            → ComesTo self.old (called_events numbered called 1 (given values.now) qubits.items) self.new []) }
-        ensures err { (cause : Cause) (numbered : Numbered)
-            → result ≡ Err (StatementError.Wrong cause) → Unrolls gates.now numbered
-            → wrong_from self.old (called_events numbered called 1 (given values.now) qubits.items) ≡ Some cause }
+        ensures ok { OnOk result (Leads gates.now
+            self.old (instance_events called angles.now spans.now index) self.new no_events) }
+        ensures err { (cause : Cause) → result ≡ Err (StatementError.Wrong cause)
+            → StopsAt gates.now self.old (instance_events called angles.now spans.now index) cause }
     {
         self.count(1)?;
-        match values {
-            Ok(values) => {
-                let values = copied(self.alloc, values)?;
-                self.unroll(gates, called, values, qubits)
-            }
-            Err(cause) => Err(StatementError::Wrong(*cause)),
-        }
+        self.frames.clear();
+        self.angles.clear();
+        self.qubits.clear();
+        push_values(self.alloc, angles, 0, &mut self.angles)?;
+        push_instance(spans, index, &mut self.qubits)?;
+        self.unroll(gates, called)
     }
 
-    /// All that a gate comes to.
-    fn unroll(
-        &mut self,
-        gates: &[GateBody],
-        called: CalledGate,
-        values: Vec<Angle>,
-        qubits: Vec<Qubit>,
-    ) -> Result<(), StatementError>
-        ensures ok { OnOk result ((numbered : Numbered) → Unrolls gates.now numbered
-            → ComesTo self.old (expand_called numbered called 1 values.items qubits.items) self.new []) }
-        ensures err { (cause : Cause) (numbered : Numbered)
-            → result ≡ Err (StatementError.Wrong cause) → Unrolls gates.now numbered
-            → wrong_from self.old (expand_called numbered called 1 values.items qubits.items) ≡ Some cause }
+    /// All that a gate comes to with the angles and qubits on the stacks.
+    fn unroll(&mut self, gates: &[GateBody], called: CalledGate) -> Result<(), StatementError>
+        requires { self.old.frames.items ≡ [] }
+        ensures ok { OnOk result (Leads gates.now
+            self.old (first_events called self.old) self.new no_events) }
+        ensures err { (cause : Cause) → result ≡ Err (StatementError.Wrong cause)
+            → StopsAt gates.now self.old (first_events called self.old) cause }
     {
-        let mut frames = Vec::new(self.alloc);
-        self.enter(gates, &mut frames, called, values, qubits)?;
-        while let Some(frame) = frames.pop() {
-            self.step(gates, &mut frames, frame)?;
+        let base = Heights {
+            angles: 0,
+            qubits: 0,
+        };
+        self.enter(gates, called, base)?;
+        while let Some(frame) = self.frames.pop() {
+            self.step(gates, frame)?;
         }
         Ok(())
     }
@@ -108,7 +123,7 @@ impl Unrolled {
             ≡ first_wrong most_calls self.new.calls events) }
         ensures calls { OnOk result (self.new.calls ≡ self.old.calls + 1) }
         ensures most { OnOk result (self.new.calls ≤ most_calls) }
-        ensures gates { self.new.gates ≡ self.old.gates }
+        ensures others { self.new ≡ record self.old { calls = self.new.calls } }
         ensures err { (cause : Cause) (events : List Event)
             → result ≡ Err (StatementError.Wrong cause)
             → first_wrong most_calls self.old.calls (Called depth ∷ events) ≡ Some cause }
@@ -124,80 +139,142 @@ impl Unrolled {
     }
 
     /// The next call in the body of the gate that was on top, or nothing where its body is over.
-    fn step<'a>(
-        &mut self,
-        gates: &'a [GateBody],
-        frames: &mut Vec<Frame<'a>>,
-        frame: Frame<'a>,
-    ) -> Result<(), StatementError>
-        ensures ok { OnOk result ((numbered : Numbered) → Unrolls gates.now numbered
-            → ComesTo self.old (left_events numbered frame.entry frames.old.items)
-            self.new (stack_events numbered 1 frames.new.items)) }
-        ensures err { (cause : Cause) (numbered : Numbered)
-            → result ≡ Err (StatementError.Wrong cause) → Unrolls gates.now numbered
-            → wrong_from self.old (left_events numbered frame.entry frames.old.items) ≡ Some cause }
-        ensures ends { OnOk result (2 * (most_calls - self.new.calls) + length frames.new.items
-            < 2 * (most_calls - self.old.calls) + (1 + length frames.old.items)) }
+    fn step(&mut self, gates: &[GateBody], frame: Frame) -> Result<(), StatementError>
+        requires { IsStacked (frame ∷ frames_of self.old) self.old }
+        ensures ok { OnOk result (Leads gates.now
+            self.old (left_events gates.now (frame ∷ frames_of self.old) self.old)
+            self.new (left_events gates.now (frames_of self.new) self.new)) }
+        ensures err { (cause : Cause) → result ≡ Err (StatementError.Wrong cause)
+            → StopsAt gates.now
+            self.old (left_events gates.now (frame ∷ frames_of self.old) self.old) cause }
+        ensures stacked { OnOk result (IsStacked (frames_of self.new) self.new) }
+        ensures ends { OnOk result (2 * (most_calls - self.new.calls) + length self.new.frames.items
+            < 2 * (most_calls - self.old.calls) + (1 + length self.old.frames.items)) }
     {
-        let Some((call, rest)) = frame.calls.split_first() else {
+        let Some(call) = calls_of(gates, frame.gate).get(frame.next) else {
+            self.take_off(frame.base);
             return Ok(());
         };
-        self.count(frames.len() + 2)?;
-        let values = evaluated(self.alloc, &call.angles, &frame.angles)?;
-        let qubits = picked(self.alloc, &call.qubits, &frame.qubits)?;
-        frames.push(Frame {
-            calls: rest,
+        let depth = self.depth() + 2;
+        self.count(depth)?;
+        let base = self.heights();
+        push_values(
+            self.alloc,
+            &call.angles,
+            frame.base.angles,
+            &mut self.angles,
+        )?;
+        push_picked(&call.qubits, frame.base.qubits, &mut self.qubits)?;
+        self.frames.push(Frame {
+            next: frame.next + 1,
             ..frame
         })?;
-        self.enter(gates, frames, call.called, values, qubits)
+        self.enter(gates, call.called, base)
     }
 
-    /// A built-in gate acts, and a declared one comes on top of the stack.
-    fn enter<'a>(
+    /// A built-in gate acts with the angles and qubits above the base, and a declared one comes on top of the stack.
+    fn enter(
         &mut self,
-        gates: &'a [GateBody],
-        frames: &mut Vec<Frame<'a>>,
+        gates: &[GateBody],
         called: CalledGate,
-        angles: Vec<Angle>,
-        qubits: Vec<Qubit>,
+        base: Heights,
     ) -> Result<(), StatementError>
-        ensures ok { OnOk result ((numbered : Numbered) → Unrolls gates.now numbered
-            → ComesTo self.old (entered_events numbered called angles.items qubits.items frames.old.items)
-            self.new (stack_events numbered 1 frames.new.items)) }
-        ensures err { (cause : Cause) (numbered : Numbered)
-            → result ≡ Err (StatementError.Wrong cause) → Unrolls gates.now numbered
-            → wrong_from self.old (entered_events numbered called angles.items qubits.items frames.old.items) ≡ Some cause }
+        requires { IsBase base self.old }
+        ensures ok { OnOk result (Leads gates.now
+            self.old (entered_events gates.now called base self.old)
+            self.new (left_events gates.now (frames_of self.new) self.new)) }
+        ensures err { (cause : Cause) → result ≡ Err (StatementError.Wrong cause)
+            → StopsAt gates.now self.old (entered_events gates.now called base self.old) cause }
+        ensures stacked { OnOk result (IsStacked (frames_of self.new) self.new) }
         ensures calls { OnOk result (self.new.calls ≡ self.old.calls) }
-        ensures frames { OnOk result (length frames.new.items ≤ length frames.old.items + 1) }
+        ensures frames { OnOk result
+            (length self.new.frames.items ≤ length self.old.frames.items + 1) }
     {
         match called {
-            CalledGate::U => match u_gate(&angles, &qubits) {
-                Ok(gate) => self.act(gate),
+            CalledGate::U => match self.top_u(base) {
+                Ok(gate) => self.act(gate, base),
                 Err(cause) => Err(StatementError::Wrong(cause)),
             },
-            CalledGate::Cx => self.act(cx_gate(&qubits)),
+            CalledGate::Cx => {
+                let gate = self.top_cx(base);
+                self.act(gate, base)
+            }
             CalledGate::Gate(number) => {
-                frames.push(Frame {
-                    calls: calls_of(gates, number),
-                    angles,
-                    qubits,
+                self.frames.push(Frame {
+                    gate: number,
+                    next: 0,
+                    base,
                 })?;
                 Ok(())
             }
         }
     }
 
-    /// A built-in gate acts, if there is one.
-    fn act(&mut self, gate: Option<ElementaryGate>) -> Result<(), StatementError>
+    /// A built-in gate acts, if there is one, and its angles and qubits are taken off the stacks.
+    fn act(&mut self, gate: Option<ElementaryGate>, base: Heights) -> Result<(), StatementError>
         ensures gates { OnOk result (self.new.gates
             ≡ self.old.gates ++ applied (gate_events gate)) }
+        ensures angles { OnOk result
+            (self.new.angles.items ≡ take base.angles self.old.angles.items) }
+        ensures qubits { OnOk result
+            (self.new.qubits.items ≡ take base.qubits self.old.qubits.items) }
+        ensures frames { self.new.frames ≡ self.old.frames }
         ensures calls { self.new.calls ≡ self.old.calls }
         ensures err { IfErr result (λ stopped. stopped ≡ StatementError.NoMemory) }
     {
         if let Some(gate) = gate {
             self.gates.push(gate)?;
         }
+        self.take_off(base);
         Ok(())
+    }
+
+    /// `U` with the angles and the qubits above the base.
+    fn top_u(&self, base: Heights) -> Result<Option<ElementaryGate>, Cause>
+        requires { IsBase base self.now }
+        ensures ok { IfOk result (λ gate. u_events (drop base.angles self.now.angles.items)
+            (drop base.qubits self.now.qubits.items) ≡ gate_events gate) }
+        ensures err { IfErr result (λ cause. u_events (drop base.angles self.now.angles.items)
+            (drop base.qubits self.now.qubits.items) ≡ Undefined cause ∷ []) }
+    {
+        u_gate(&self.angles[base.angles..], &self.qubits[base.qubits..])
+    }
+
+    /// `CX` on the qubits above the base.
+    fn top_cx(&self, base: Heights) -> Option<ElementaryGate>
+        requires { IsBase base self.now }
+        ensures { cx_events (drop base.qubits self.now.qubits.items) ≡ gate_events result }
+    {
+        cx_gate(&self.qubits[base.qubits..])
+    }
+
+    /// How many gates are on the stack.
+    fn depth(&self) -> usize
+        ensures { result ≡ length self.now.frames.items }
+    {
+        self.frames.len()
+    }
+
+    /// How many angles and qubits lie on the stacks.
+    fn heights(&self) -> Heights
+        ensures angles { result.angles ≡ length self.now.angles.items }
+        ensures qubits { result.qubits ≡ length self.now.qubits.items }
+    {
+        Heights {
+            angles: self.angles.len(),
+            qubits: self.qubits.len(),
+        }
+    }
+
+    /// Takes the angles and qubits above the base off the stacks.
+    fn take_off(&mut self, base: Heights)
+        ensures angles { self.new.angles.items ≡ take base.angles self.old.angles.items }
+        ensures qubits { self.new.qubits.items ≡ take base.qubits self.old.qubits.items }
+        ensures others { self.new
+            ≡ record self.old { angles = self.new.angles; qubits = self.new.qubits } }
+    {
+        self.angles.truncate(base.angles);
+        self.qubits.truncate(base.qubits);
     }
 }
 
@@ -232,8 +309,10 @@ fn u_of(
     lambda: &Angle,
     qubit: Qubit,
 ) -> Result<Option<ElementaryGate>, Cause>
-    ensures ok { IfOk result (λ gate. u_events (theta.now ∷ phi.now ∷ lambda.now ∷ []) (qubit ∷ []) ≡ gate_events gate) }
-    ensures err { IfErr result (λ cause. u_events (theta.now ∷ phi.now ∷ lambda.now ∷ []) (qubit ∷ []) ≡ Undefined cause ∷ []) }
+    ensures ok { IfOk result (λ gate. u_events
+        (theta.now ∷ phi.now ∷ lambda.now ∷ []) (qubit ∷ []) ≡ gate_events gate) }
+    ensures err { IfErr result (λ cause. u_events
+        (theta.now ∷ phi.now ∷ lambda.now ∷ []) (qubit ∷ []) ≡ Undefined cause ∷ []) }
 {
     let theta = eighth_of(theta)?;
     let phi = eighth_of(phi)?;

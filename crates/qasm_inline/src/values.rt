@@ -1,13 +1,16 @@
-//! Values of expressions, and qubits by their places.
+//! What calls push: values of expressions, and qubits by their places.
 
-ghost use Rattle.std.specs.Prelude.{◌≡◌, Ok, Err, Some, None, IfOk, IfErr, slice_index_or};
+ghost use Rattle.std.specs.Prelude.{◌≡◌, ◌≤◌, ◌++◌, Ok, Err, Some, None, IfOk, IfErr, OnOk, drop, length, map, slice_index_or};
 ghost use Rattle.qasm_angle.specs.Eighths.{phase_of};
 ghost use Rattle.qasm_angle.specs.Values.{value};
 ghost use Rattle.qasm_scope.specs.Angles.{with_cause};
-ghost use Rattle.qasm_inline.specs.Internal.KeptCalls.{picked, values_of};
+ghost use Rattle.qasm_inline.specs.Internal.KeptCalls.{followed, picked, values_of};
+ghost use Rattle.qasm_inline.specs.Internal.Spans.{span_range, cut_instance, cut_qubit_at};
 
+use crate::applications::Span;
 use qasm_angle::{Angle, AngleError, Expr, eval, to_eighth};
 use qasm_scope::Cause;
+use qasm_scope::numerals::clamped;
 use qasm_scope::statement_error::StatementError;
 use std::alloc::{AllocError, Global};
 use zx_gates::Qubit;
@@ -25,21 +28,40 @@ pub fn eighth_of(angle: &Angle) -> Result<Eighth, Cause>
     }
 }
 
-/// The same items in memory of their own.
-pub fn copied<T: Copy>(alloc: Global, items: &[T]) -> Result<Vec<T>, AllocError>
-    ensures { IfOk result (λ copy. copy.items ≡ items.now) }
+/// Pushes the values of expressions, from left to right, onto the angles, of which those above the base are the
+/// parameters' values.
+pub fn push_values(
+    alloc: Global,
+    expressions: &[Expr],
+    base: usize,
+    angles: &mut Vec<Angle>,
+) -> Result<(), StatementError>
+    requires { base ≤ length angles.old.items }
+    ensures ok { OnOk result (followed angles.old.items
+        (values_of expressions.now (drop base angles.old.items)) ≡ Ok angles.new.items) }
+    ensures err { (cause : Cause) → result ≡ Err (StatementError.Wrong cause)
+        → values_of expressions.now (drop base angles.old.items) ≡ Err cause }
 {
-    Vec::from_slice(alloc, items)
+    let top = angles.len();
+    for expression in expressions {
+        let value = value_of(alloc, expression, &angles[base..top])?;
+        angles.push(value)?;
+    }
+    Ok(())
 }
 
-/// The qubits at these places; where there is none, 0.
-pub fn picked(alloc: Global, places: &[usize], qubits: &[Qubit]) -> Result<Vec<Qubit>, AllocError>
-    ensures { IfOk result (λ copy. copy.items ≡ picked qubits.now places.now) }
+/// Pushes the qubits at these places among those above the base; where there is none, 0.
+pub fn push_picked(places: &[usize], base: usize, qubits: &mut Vec<Qubit>) -> Result<(), AllocError>
+    requires { base ≤ length qubits.old.items }
+    ensures { OnOk result (qubits.new.items
+        ≡ qubits.old.items ++ picked (drop base qubits.old.items) places.now) }
 {
-    places
-        .iter()
-        .map(|place| qubit_at(qubits, *place))
-        .collect(alloc)
+    let top = qubits.len();
+    for place in places {
+        let qubit = qubit_at(&qubits[base..top], *place);
+        qubits.push(qubit)?;
+    }
+    Ok(())
 }
 
 /// The qubit at a place; where there is none, 0.
@@ -53,21 +75,29 @@ fn qubit_at(qubits: &[Qubit], place: usize) -> Qubit
     }
 }
 
-/// The values of expressions, from left to right.
-pub fn evaluated(
-    alloc: Global,
-    expressions: &[Expr],
-    angles: &[Angle],
-) -> Result<Vec<Angle>, StatementError>
-    ensures ok { IfOk result (λ values. values_of expressions.now angles.now ≡ Ok values.items) }
-    ensures err { (cause : Cause) → result ≡ Err (StatementError.Wrong cause)
-        → values_of expressions.now angles.now ≡ Err cause }
+/// Pushes the qubits of the instance at an index.
+pub fn push_instance(
+    spans: &[Span],
+    index: usize,
+    qubits: &mut Vec<Qubit>,
+) -> Result<(), AllocError>
+    ensures { OnOk result (qubits.new.items
+        ≡ qubits.old.items ++ cut_instance (map span_range spans.now) index) }
 {
-    let mut values = Vec::new(alloc);
-    for expression in expressions {
-        values.push(value_of(alloc, expression, angles)?)?;
+    for span in spans {
+        qubits.push(instance_qubit(span, index))?;
     }
-    Ok(values)
+    Ok(())
+}
+
+/// The qubit of an argument in the instance at an index.
+fn instance_qubit(span: &Span, index: usize) -> Qubit
+    ensures { result ≡ cut_qubit_at index (span_range span.now) }
+{
+    match span {
+        Span::Single(qubit) => clamped(*qubit),
+        Span::Register { first, .. } => clamped(first.saturating_add(index)),
+    }
 }
 
 /// The value of an expression.

@@ -1,18 +1,18 @@
 -- Cuts of texts whose words, numbers and signs are known, put together from the end: what follows a piece is cut
 -- already, and begins at the place `next`.
-use Rattle.std.proofs.Common.{◌≡◌, ℕ, ◌+◌, ◌/◌, ◌%◌, ◌^◌, ◌<◌, ◌≤◌, Bool, true, false, ◌&&◌, ◌||◌, not, eqb, leb, List, [], ◌∷◌, ◌++◌, length, refl, sym, ap, ◌∙◌, subst, arith, inl, inr, Option, None, Some, append_assoc, decimal}
-use Rattle.std.specs.Option.{is_some, is_none, option_map, option_to_list}
+use Rattle.std.proofs.Common.{◌≡◌, ℕ, ◌+◌, ◌/◌, ◌%◌, ◌^◌, ◌<◌, ◌≤◌, Bool, true, false, not, eqb, leb, List, [], ◌∷◌, ◌++◌, length, refl, sym, ap, ◌∙◌, subst, arith, inl, inr, None, Some, append_assoc, decimal}
+use Rattle.std.specs.Option.{option_map, option_to_list}
 use Rattle.std.specs.List.{list_all, concat}
-use Rattle.std.proofs.lemmas.Bool.{false≢true, and_parts, and_from, le-leb, ne_eqb, both_ways, not-true, or_parts, not_from_false, cases_eq}
+use Rattle.std.proofs.lemmas.Bool.{false≢true, and_parts, and_from, le-leb, ne_eqb, not-true, not_from_false, cases_eq}
 use Rattle.qasm_lexer.proofs.Runs.{begins_append}
 use Rattle.std.proofs.lemmas.Fmt.{decimal_by_steps}
 use Rattle.qasm_lexer.specs.declared.token.TokenKind.{TokenKind}
 use Rattle.qasm_lexer.specs.declared.token.TokenKind.TheVariants.{Natural}
 use Rattle.qasm_lexer.specs.Forms.{begins, is_digit, is_letter, is_space, is_word_byte, is_word, is_natural}
 use Rattle.qasm_lexer.specs.Tokens.{signs, kind_in, kind_of, word_kind, IsPiece, Lexeme, IsCut}
-use Rattle.qasm_lexer.proofs.Leads.{table_all}
+use Rattle.qasm_lexer.specs.Internal.FirstPiece.{is_plain}
 use Rattle.qasm_lexer.proofs.Pieces as pieces
-use Rattle.qasm_lexer.proofs.Pieces.{ends_number, ends_sign}
+use Rattle.qasm_lexer.proofs.Pieces.{ends_number, ends_sign, ends_sign-plain}
 use Rattle.qasm_lexer.proofs.Cuts.{IsCutUpTo-none}
 
 -- the empty text
@@ -74,27 +74,7 @@ pub IsCut-sign : {place : ℕ} {after : List ℕ} {kind : TokenKind} {tokens : L
 IsCut-sign {place} {after} {kind} {tokens} a next is ends there c =
     IsCut-token place (a ∷ []) after kind tokens (pieces.short_sign_piece a after kind is ends) (subst (λ k. IsCut k after tokens) there c)
 
--- a sign that begins no longer sign and no comment
-abbrev pub is_plain : ℕ → Bool
-is_plain a = not (eqb a 45 || eqb a 61 || eqb a 47)
-
-abbrev begins_long : List ℕ → Bool
-begins_long [] = true
-begins_long (a ∷ []) = true
-begins_long (a ∷ b ∷ rest) = eqb a 45 || eqb a 61
-
-none_since : {T : Type 0} (o : Option T) → (is_some o ≡ true → ⊥) → is_none o ≡ true
-none_since None n = refl
-none_since (Some x) n = absurd (n refl)
-
-pub ends_sign-plain : (a : ℕ) (after : List ℕ) → is_plain a ≡ true → ends_sign a after ≡ true
-ends_sign-plain a [] e = refl
-ends_sign-plain a (b ∷ rest) e =
-    let p : ((eqb a 45 || eqb a 61) ≡ false) × (eqb a 47 ≡ false) = or_parts (eqb a 45 || eqb a 61) (eqb a 47) (not-true (eqb a 45 || eqb a 61 || eqb a 47) e) in
-    and_from (not (eqb a 47 && eqb b 47)) (is_none (kind_in signs (a ∷ b ∷ []))) (rw p.1 refl)
-    (none_since (kind_in signs (a ∷ b ∷ [])) (λ s. both_ways (eqb a 45 || eqb a 61) p.0 (table_all begins_long signs refl (a ∷ b ∷ []) s)))
-
--- such a sign, whatever follows it
+-- a sign that begins no longer sign and no comment, whatever follows it
 pub IsCut-plain_sign : {place : ℕ} {after : List ℕ} {kind : TokenKind} {tokens : List Lexeme} (a next : ℕ) → kind_in signs (a ∷ []) ≡ Some kind
     → is_plain a ≡ true → next ≡ place + 1 → IsCut next after tokens
     → IsCut place (a ∷ after) (record { kind = kind; text = a ∷ []; place = place } ∷ tokens)

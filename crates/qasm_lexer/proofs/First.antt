@@ -10,7 +10,7 @@ use Rattle.qasm_lexer.specs.declared.token.TokenKind.{TokenKind}
 use Rattle.qasm_lexer.specs.declared.token.TokenKind.TheVariants.{Real, Natural, Text}
 use Rattle.qasm_lexer.specs.Forms.{following, begins, is_digit, is_letter, is_space, is_no_feed, is_word_byte, is_comment, is_natural, is_closed}
 use Rattle.qasm_lexer.specs.Tokens.{signs, kind_in, kind_of, word_kind, is_blank, IsLongest, IsPiece, ArePieces, tokens_in, IsCutUpTo}
-use Rattle.qasm_lexer.specs.Internal.FirstPiece.{first_piece, word_piece, as_token, number_piece, number, point_piece, text_piece, closing, sign_piece, two_or_one, is_inside, fraction_len, naturals, natural_tokens, piece_tokens}
+use Rattle.qasm_lexer.specs.Internal.FirstPiece.{first_piece, word_piece, as_token, number_piece, number, point_piece, text_piece, closing, is_plain, plain_piece, sign_piece, two_or_one, is_inside, fraction_len, naturals, natural_tokens, piece_tokens}
 use Rattle.qasm_lexer.proofs.Runs.{prefix, prefix-following, prefix_len-prefix, take-prefix, drop-following, prefix_passes, after_stops, after_through, begins_some, begins_append}
 use Rattle.qasm_lexer.proofs.Reals.{real_fits, fraction_fits}
 use Rattle.qasm_lexer.proofs.Leads.{letter, other, lead, lead-letter, no_blank, kind-word, Seen, seen, point_only, quote_only, other_only}
@@ -247,6 +247,9 @@ sign_first b (c ∷ t) l = elim (cases_Bool (eqb b 47 && eqb c 47)) [
   | inr e ↦ rw e (long_first b c t l e (kind_in signs (b ∷ c ∷ [])) refl)
 ]
 
+plain_first : (b : ℕ) (t : List ℕ) → lead b ≡ other → is_plain b ≡ true → IsFirstPiece (b ∷ t) (plain_piece b)
+plain_first b t l e = short_first b t l (pieces.ends_sign-plain b t e) (kind_in signs (b ∷ [])) refl
+
 -- a choice by five tests
 by_five : {X : Type 0} (P : X → Type 0) (s l d p q : Bool) (x1 x2 x3 x4 x5 x6 : X) → (s ≡ true → P x1) → (l ≡ true → P x2) → (d ≡ true → P x3)
     → (p ≡ true → P x4) → (q ≡ true → P x5) → (s ≡ false → l ≡ false → d ≡ false → p ≡ false → q ≡ false → P x6)
@@ -258,15 +261,23 @@ by_five P false false false true q x1 x2 x3 x4 x5 x6 h1 h2 h3 h4 h5 h6 = h4 refl
 by_five P false false false false true x1 x2 x3 x4 x5 x6 h1 h2 h3 h4 h5 h6 = h5 refl
 by_five P false false false false false x1 x2 x3 x4 x5 x6 h1 h2 h3 h4 h5 h6 = h6 refl refl refl refl refl
 
+-- what no other sort begins
+other_first : (b : ℕ) (t : List ℕ) → lead b ≡ other → IsFirstPiece (b ∷ t) (cond (is_plain b) (plain_piece b) (sign_piece (b ∷ t)))
+other_first b t l = elim (cases_Bool (is_plain b)) [
+  | inl e ↦ rw e (plain_first b t l e)
+  | inr e ↦ rw e (sign_first b t l)
+]
+
 pub first_piece_is : (text : List ℕ) → 0 < length text → IsFirstPiece text (first_piece text)
 first_piece_is [] some = absurd (omega arith)
 first_piece_is (b ∷ t) some =
     by_five (IsFirstPiece (b ∷ t)) (is_space b) (is_letter b) (is_digit b) (eqb b 46) (eqb b 34)
-    (Some (Blank, 1)) (word_piece (b ∷ t)) (Some (number_piece (b ∷ t))) (point_piece t) (text_piece t) (sign_piece (b ∷ t))
+    (Some (Blank, 1)) (word_piece (b ∷ t)) (Some (number_piece (b ∷ t))) (point_piece t) (text_piece t)
+    (cond (is_plain b) (plain_piece b) (sign_piece (b ∷ t)))
     (white_first b t) (word_first b t) (number_first b t)
     (λ e. subst (λ x. IsFirstPiece (x ∷ t) (point_piece t)) (sym (eqb-true b 46 e)) (point_first t))
     (λ e. subst (λ x. IsFirstPiece (x ∷ t) (text_piece t)) (sym (eqb-true b 34 e)) (text_first t))
-    (λ s l d p q. sign_first b t (rw (s, l, d, p, q) refl))
+    (λ s l d p q. other_first b t (rw (s, l, d, p, q) refl))
 
 -- a first piece is a cut up to what follows it
 pub first_cut : (at : ℕ) (rest : List ℕ) (sort : Sort) (count : ℕ) → IsFirst rest sort count

@@ -2,16 +2,16 @@
 use Rattle.std.proofs.Common.{◌≡◌, ℕ, suc, ◌+◌, ◌≤◌, Bool, true, false, ◌&&◌, ◌||◌, not, eqb, List, [], ◌∷◌, ◌++◌, length, take, drop, refl, sym, ap, ◌∙◌, subst, arith, inl, inr, ◌⊎◌, Option, None, Some, append_assoc, length-append}
 use Rattle.std.specs.Option.{is_some, is_none}
 use Rattle.std.specs.List.{list_all, prefix_len}
-use Rattle.std.proofs.lemmas.Bool.{false≢true, and_parts, and_from, or_left, or_right, cases_Bool, eqb-true, not-true, both_ways}
+use Rattle.std.proofs.lemmas.Bool.{false≢true, or_parts, and_parts, and_from, or_left, or_right, cases_Bool, eqb-true, not-true, both_ways}
 use Rattle.std.proofs.lemmas.List.{nil_from_length, take-append-drop, length-take-le}
 use Rattle.qasm_lexer.specs.declared.token.TokenKind.{TokenKind}
 use Rattle.qasm_lexer.specs.declared.token.TokenKind.TheVariants.{Real, Natural, Text}
 use Rattle.qasm_lexer.specs.Forms.{following, begins, is_digit, is_letter, is_space, is_no_feed, is_word_byte, is_white, is_comment, is_natural, is_real, is_fraction, is_exponent, is_text, is_closed, is_empty}
 use Rattle.qasm_lexer.specs.Tokens.{signs, kind_in, kind_of, word_kind, is_blank, is_form, IsLongest, IsPiece}
-use Rattle.qasm_lexer.specs.Internal.FirstPiece.{is_inside, fraction_len}
+use Rattle.qasm_lexer.specs.Internal.FirstPiece.{is_inside, fraction_len, is_plain}
 use Rattle.qasm_lexer.proofs.Runs.{run_longest, prefix_len_through, after_through, after_stopped, after_all}
 use Rattle.qasm_lexer.proofs.Reals.{real_longest, real_is, real_fits, begins_fraction, fraction_longest, fraction_is, fraction_fits}
-use Rattle.qasm_lexer.proofs.Leads.{white, digit, other, lead, lead-space, lead-letter, lead-digit, Seen, seen, white_only, letter_only, digit_only, point_only, quote_only, other_only, no_word, no_real, no_natural, no_text, no_sign, sign_lead, kind-word, kind-real, kind-natural, kind-text, kind-sign, blank_form, word_form, real_form, natural_form, text_form, sign_form}
+use Rattle.qasm_lexer.proofs.Leads.{table_all, white, digit, other, lead, lead-space, lead-letter, lead-digit, Seen, seen, white_only, letter_only, digit_only, point_only, quote_only, other_only, no_word, no_real, no_natural, no_text, no_sign, sign_lead, kind-word, kind-real, kind-natural, kind-text, kind-sign, blank_form, word_form, real_form, natural_form, text_form, sign_form}
 
 -- the longest, from what its first byte begins
 longest_by : (b : ℕ) (p after : List ℕ) → is_form (b ∷ p) ≡ true
@@ -185,6 +185,22 @@ text_piece q after e =
 abbrev pub ends_sign : ℕ → List ℕ → Bool
 ends_sign a [] = true
 ends_sign a (b ∷ rest) = not (eqb a 47 && eqb b 47) && is_none (kind_in signs (a ∷ b ∷ []))
+
+abbrev begins_long : List ℕ → Bool
+begins_long [] = true
+begins_long (a ∷ []) = true
+begins_long (a ∷ b ∷ rest) = eqb a 45 || eqb a 61
+
+none_since : {T : Type 0} (o : Option T) → (is_some o ≡ true → ⊥) → is_none o ≡ true
+none_since None n = refl
+none_since (Some x) n = absurd (n refl)
+
+pub ends_sign-plain : (a : ℕ) (after : List ℕ) → is_plain a ≡ true → ends_sign a after ≡ true
+ends_sign-plain a [] e = refl
+ends_sign-plain a (b ∷ rest) e =
+    let p : ((eqb a 45 || eqb a 61) ≡ false) × (eqb a 47 ≡ false) = or_parts (eqb a 45 || eqb a 61) (eqb a 47) (not-true (eqb a 45 || eqb a 61 || eqb a 47) e) in
+    and_from (not (eqb a 47 && eqb b 47)) (is_none (kind_in signs (a ∷ b ∷ []))) (rw p.1 refl)
+    (none_since (kind_in signs (a ∷ b ∷ [])) (λ s. both_ways (eqb a 45 || eqb a 61) p.0 (table_all begins_long signs refl (a ∷ b ∷ []) s)))
 
 sign_kind : (a : ℕ) (p : List ℕ) → lead a ≡ other → kind_of (a ∷ p) ≡ kind_in signs (a ∷ p)
 sign_kind a p l = kind-sign (a ∷ p) (no_word a p (λ m. cc)) (no_real a p (λ m. cc) (λ m. cc)) (no_natural a p (λ m. cc)) (no_text a p (λ m. cc))

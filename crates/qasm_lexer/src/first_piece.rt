@@ -1,8 +1,8 @@
 //! What stands first in a text.
 ghost use Rattle.std.specs.Prelude.{◌≡◌, ◌+◌, ◌<◌, ◌≤◌, ◌∷◌, Some, length, IfSome};
 ghost use Rattle.std.specs.List.{prefix_len};
-ghost use Rattle.qasm_lexer.specs.Forms.{is_digit, is_letter, is_word_byte, is_space, is_no_feed};
-ghost use Rattle.qasm_lexer.specs.Internal.FirstPiece.{word_piece, sign_len, exponent_len, fraction_len, number_piece, point_piece, is_inside, text_piece, sign_piece, first_piece};
+ghost use Rattle.qasm_lexer.specs.Forms.{is_digit, is_letter, is_word_byte, is_no_feed};
+ghost use Rattle.qasm_lexer.specs.Internal.FirstPiece.{word_piece, sign_len, exponent_len, fraction_len, number_piece, point_piece, is_inside, text_piece, plain_piece, sign_piece, first_piece};
 
 use crate::tables::{long_sign, short_sign, word_kind};
 use crate::token::TokenKind;
@@ -23,19 +23,14 @@ pub(crate) fn first_piece(text: &[u8]) -> Option<(Sort, usize)>
     requires { 0 < length text.now }
     ensures { result ≡ first_piece text.now }
 {
-    let byte = text[0];
-    if is_space(byte) {
-        Some((Sort::Blank, 1))
-    } else if is_letter(byte) {
-        word_piece(text)
-    } else if is_digit(byte) {
-        Some(number_piece(text))
-    } else if byte == b'.' {
-        point_piece(&text[1..])
-    } else if byte == b'"' {
-        text_piece(&text[1..])
-    } else {
-        sign_piece(text)
+    match text[0] {
+        b' ' | b'\t' | b'\r' | b'\n' => Some((Sort::Blank, 1)),
+        b'a'..=b'z' | b'A'..=b'Z' => word_piece(text),
+        b'0'..=b'9' => Some(number_piece(text)),
+        b'.' => point_piece(&text[1..]),
+        b'"' => text_piece(&text[1..]),
+        b'/' | b'-' | b'=' => sign_piece(text),
+        byte => plain_piece(byte),
     }
 }
 
@@ -137,6 +132,14 @@ fn inside(rest: &[u8]) -> usize
     rest.iter().take_while(|b| is_inside(**b)).count()
 }
 
+/// A sign that is a byte which begins no longer sign and no comment.
+fn plain_piece(byte: u8) -> Option<(Sort, usize)>
+    ensures { result ≡ plain_piece byte }
+{
+    let kind = short_sign(byte)?;
+    Some((Sort::Token(kind), 1))
+}
+
 /// A comment or a sign at the start.
 fn sign_piece(text: &[u8]) -> Option<(Sort, usize)>
     ensures { result ≡ sign_piece text.now }
@@ -159,12 +162,6 @@ fn line(text: &[u8]) -> usize
     ensures { result ≡ prefix_len is_no_feed text.now }
 {
     text.iter().take_while(|b| **b != b'\n').count()
-}
-
-fn is_space(byte: u8) -> bool
-    ensures { result ≡ is_space byte }
-{
-    matches!(byte, b' ' | b'\t' | b'\r' | b'\n')
 }
 
 fn is_letter(byte: u8) -> bool

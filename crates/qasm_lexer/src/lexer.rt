@@ -22,7 +22,8 @@ pub fn lex<'a>(alloc: Global, text: &'a [u8]) -> Result<Vec<Token<'a>>, LexError
     ensures only { (tokens : List Lexeme) → IsCut 0 text.now tokens
         → MatchResult result (λ given. lexemes given.items ≡ tokens) (λ error. error ≡ NoMemory) }
     // A bad byte stands where it is told,
-    ensures bad_byte { (at : ℕ) → IfErr result (λ error. error ≡ BadByte at → IsBadByte text.now at) }
+    ensures bad_byte { (at : ℕ) → IfErr result (λ error. error ≡ BadByte at
+        → IsBadByte text.now at) }
     // and where there is one, it is told, unless memory runs out.
     ensures bad_byte_only { (at : ℕ) → IsBadByte text.now at
         → IsErrAnd result (λ error. (error ≡ BadByte at) ⊎ (error ≡ NoMemory)) }
@@ -50,12 +51,14 @@ pub fn lex_further<'a>(
 ) -> Result<usize, LexError>
     requires { place ≤ length text.now }
     // Behind what was cut before, the text is cut up to the new place into the tokens that are added.
-    ensures cut { (before : List Lexeme) → IsCutAt text.now place (before ++ lexemes tokens.old.items)
+    ensures cut { (before : List Lexeme) → IsCutAt text.now place
+        (before ++ lexemes tokens.old.items)
         → IfOk result (λ end. IsCutAt text.now end (before ++ lexemes tokens.new.items)) }
     ensures added { OnOk result (IsBegun (lexemes tokens.old.items) (lexemes tokens.new.items)) }
     // It comes to the end or to so many tokens, and gets on.
     ensures within { IfOk result (λ end. end ≤ length text.now) }
-    ensures enough { IfOk result (λ end. (end ≡ length text.now) ⊎ (count ≤ length tokens.new.items)) }
+    ensures enough { IfOk result (λ end. (end ≡ length text.now)
+        ⊎ (count ≤ length tokens.new.items)) }
     ensures further { IfOk result (λ end. place < length text.now → length tokens.old.items < count
         → place < end) }
     // A bad byte that is told is the text's.
@@ -77,7 +80,8 @@ fn push_next<'a>(
     tokens: &mut Vec<Token<'a>>,
 ) -> Result<usize, LexError>
     requires { place < length text.now }
-    ensures cut { (before : List Lexeme) → IsCutAt text.now place (before ++ lexemes tokens.old.items)
+    ensures cut { (before : List Lexeme) → IsCutAt text.now place
+        (before ++ lexemes tokens.old.items)
         → IfOk result (λ end. IsCutAt text.now end (before ++ lexemes tokens.new.items)) }
     ensures added { OnOk result (IsBegun (lexemes tokens.old.items) (lexemes tokens.new.items)) }
     ensures further { IfOk result (λ end. (place < end) × (end ≤ length text.now)) }
@@ -101,7 +105,8 @@ fn push_piece<'a>(
     place: usize,
 ) -> Result<(), AllocError>
     requires { place + length piece.now < 2 ^ 64 }
-    ensures { OnOk result (lexemes tokens.new.items ≡ lexemes tokens.old.items ++ piece_tokens sort place piece.now) }
+    ensures { OnOk result (lexemes tokens.new.items
+        ≡ lexemes tokens.old.items ++ piece_tokens sort place piece.now) }
 {
     match sort {
         Sort::Blank => Ok(()),
@@ -117,7 +122,8 @@ fn push_naturals<'a>(
     place: usize,
 ) -> Result<(), AllocError>
     requires { place + length digits.now < 2 ^ 64 }
-    ensures { OnOk result (lexemes tokens.new.items ≡ lexemes tokens.old.items ++ natural_tokens place (naturals digits.now)) }
+    ensures { OnOk result (lexemes tokens.new.items
+        ≡ lexemes tokens.old.items ++ natural_tokens place (naturals digits.now)) }
 {
     let mut rest = digits;
     let mut place = place;
@@ -139,7 +145,9 @@ fn push_token<'a>(
     slice: &'a [u8],
     place: usize,
 ) -> Result<(), AllocError>
-    ensures { OnOk result (lexemes tokens.new.items ≡ lexemes tokens.old.items ++ record { kind = kind; text = slice.now; place = place } ∷ []) }
+    ensures { OnOk result (lexemes tokens.new.items
+        ≡ lexemes tokens.old.items ++ record { kind = kind; text = slice.now; place = place } ∷
+        []) }
 {
     tokens.push(Token { kind, slice, place })?;
     Ok(())

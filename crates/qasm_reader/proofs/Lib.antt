@@ -4,6 +4,7 @@ pub mod Depths
 pub mod Expressions
 pub mod Lists
 pub mod Loops
+pub mod PartWise
 pub mod Programs
 pub mod Reading
 pub mod Statements

@@ -1,5 +1,5 @@
 -- Lists: what stands in the grammar is read turn by turn, and nothing else.
-use Rattle.std.proofs.Common.{◌≡◌, ℕ, zero, suc, ◌<◌, List, [], ◌∷◌, ◌++◌, length, Option, None, Some, refl, sym, ap, ◌∙◌, subst, append_assoc, arith, inl, inr}
+use Rattle.std.proofs.Common.{◌≡◌, ℕ, zero, suc, ◌<◌, List, [], ◌∷◌, ◌++◌, length, Option, None, Some, refl, sym, ap, ◌∙◌, subst, append_assoc, append-nil, arith, inl, inr}
 use Rattle.qasm_lexer.specs.declared.token.TokenKind.{TokenKind}
 use Rattle.qasm_lexer.specs.declared.token.TokenKind.TheVariants as kind
 use Rattle.qasm_lexer.specs.Tokens.{Lexeme}
@@ -73,18 +73,44 @@ ends_all Is Ends begins [] us rest r ends = subst (λ (x : List Lexeme). Ends (x
 ends_all Is Ends begins (x ∷ xs) us rest r ends =
     subst Ends (sym (ap (λ (y : List Lexeme). y ++ rest) r.2 ∙ append_assoc r.0 r.1 rest)) (begins x r.0 (r.1 ++ rest) r.3)
 
-pub repeated_again : {A : Type 0} (Is : A → List Lexeme → Type 0) (turn : Turn A) → TurnShrinks turn → (Ends : List Lexeme → Type 0)
+-- before the first turn
+pub no_prefix : {A : Type 0} (o : Option (List A × List Lexeme)) → with_prefix [] o ≡ o
+no_prefix None = refl
+no_prefix (Some x) = refl
+
+longer_prefix : {A : Type 0} (x : A) (xs : List A) (o : Option (List A × List Lexeme)) → with_prefix (x ∷ []) (with_prefix xs o) ≡ with_prefix (x ∷ xs) o
+longer_prefix x xs None = refl
+longer_prefix x xs (Some y) = refl
+
+-- items that stand there are read, and then what follows
+pub repeated_goes_on : {A : Type 0} (Is : A → List Lexeme → Type 0) (turn : Turn A) → TurnShrinks turn → (Ends : List Lexeme → Type 0)
     → ((a : A) (us rest : List Lexeme) → Is a us → Ends rest → turn (us ++ rest) ≡ Some (Some (a, rest)))
     → ((a : A) (us rest : List Lexeme) → Is a us → Ends (us ++ rest))
-    → (xs : List A) (us rest : List Lexeme) → Repeated Is xs us → Ends rest → turn rest ≡ Some None → repeated turn (us ++ rest) ≡ Some (xs, rest)
-repeated_again Is turn s Ends item begins [] us rest r ends stops =
-    ap (λ (x : List Lexeme). repeated turn (x ++ rest)) r ∙ repeated_is turn s rest ∙ ap (λ o. on_turn o rest (repeated turn)) stops
-repeated_again Is turn s Ends item begins (x ∷ xs) us rest r ends stops =
+    → (xs : List A) (us rest : List Lexeme) → Repeated Is xs us → Ends rest → repeated turn (us ++ rest) ≡ with_prefix xs (repeated turn rest)
+repeated_goes_on Is turn s Ends item begins [] us rest r ends =
+    ap (λ (x : List Lexeme). repeated turn (x ++ rest)) r ∙ sym (no_prefix (repeated turn rest))
+repeated_goes_on Is turn s Ends item begins (x ∷ xs) us rest r ends =
     ap (λ (y : List Lexeme). repeated turn (y ++ rest)) r.2
     ∙ ap (repeated turn) (append_assoc r.0 r.1 rest)
     ∙ repeated_is turn s (r.0 ++ (r.1 ++ rest))
     ∙ ap (λ o. on_turn o (r.0 ++ (r.1 ++ rest)) (repeated turn)) (item x r.0 (r.1 ++ rest) r.3 (ends_all Is Ends begins xs r.1 rest r.4 ends))
-    ∙ ap (with_prefix (x ∷ [])) (repeated_again Is turn s Ends item begins xs r.1 rest r.4 ends stops)
+    ∙ ap (with_prefix (x ∷ [])) (repeated_goes_on Is turn s Ends item begins xs r.1 rest r.4 ends)
+    ∙ longer_prefix x xs (repeated turn rest)
+
+pub repeated_again : {A : Type 0} (Is : A → List Lexeme → Type 0) (turn : Turn A) → TurnShrinks turn → (Ends : List Lexeme → Type 0)
+    → ((a : A) (us rest : List Lexeme) → Is a us → Ends rest → turn (us ++ rest) ≡ Some (Some (a, rest)))
+    → ((a : A) (us rest : List Lexeme) → Is a us → Ends (us ++ rest))
+    → (xs : List A) (us rest : List Lexeme) → Repeated Is xs us → Ends rest → turn rest ≡ Some None → repeated turn (us ++ rest) ≡ Some (xs, rest)
+repeated_again Is turn s Ends item begins xs us rest r ends stops =
+    repeated_goes_on Is turn s Ends item begins xs us rest r ends
+    ∙ ap (with_prefix xs) (repeated_is turn s rest ∙ ap (λ o. on_turn o rest (repeated turn)) stops)
+    ∙ ap (λ (ys : List _). Some (ys, rest)) (append-nil xs)
+
+-- one item more behind them
+pub repeated_then : {A : Type 0} (Is : A → List Lexeme → Type 0) (xs : List A) (x : A) (us vs : List Lexeme) → Repeated Is xs us → Is x vs → Repeated Is (xs ++ x ∷ []) (us ++ vs)
+repeated_then Is [] x us vs r last = (vs, [], ap (λ (y : List Lexeme). y ++ vs) r ∙ sym (append-nil vs), last, refl)
+repeated_then Is (y ∷ xs) x us vs r last =
+    (r.0, r.1 ++ vs, ap (λ (z : List Lexeme). z ++ vs) r.2 ∙ append_assoc r.0 r.1 vs, r.3, repeated_then Is xs x r.1 vs r.4 last)
 
 pub one_more_some : {A : Type 0} (o : Option (A × List Lexeme)) (x : A × List Lexeme) → one_more o ≡ Some (Some x) → o ≡ Some x
 one_more_some None x e = absurd cc

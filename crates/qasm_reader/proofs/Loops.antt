@@ -6,9 +6,9 @@ use Rattle.qasm_lexer.specs.declared.token.TokenKind.TheVariants as kind
 use Rattle.qasm_lexer.specs.Tokens.{Lexeme, lexeme, lexemes}
 use Rattle.qasm_reader.specs.declared.step_error.StepError.{StepError}
 use Rattle.qasm_reader.specs.declared.step_error.StepError.TheVariants.{Misfit, NoMemory}
-use Rattle.qasm_reader.specs.Syntax.{BodySentence}
-use Rattle.qasm_reader.specs.Internal.Taking.{Fails, after, with_prefix, on_turn, one_more, comma_turn, comma_items, body, block, body_turn, body_statement, ◌>>=◌}
-use Rattle.qasm_reader.proofs.Steps.{Shrinks, after_shrinks, bind_is}
+use Rattle.qasm_reader.specs.Syntax.{BodySentence, DeclareGate}
+use Rattle.qasm_reader.specs.Internal.Taking.{Fails, Heading, after, with_prefix, on_turn, one_more, comma_turn, comma_items, body, opening, gate, body_turn, body_statement}
+use Rattle.qasm_reader.proofs.Steps.{Shrinks, after_shrinks, bind_is, bind_none}
 use Rattle.qasm_reader.proofs.Lists.{comma_items_is}
 use Rattle.qasm_reader.proofs.Statements.{body_is, body_statement_shrinks}
 
@@ -85,21 +85,17 @@ pub body_stops : (prefix : List BodySentence) (b : Bool) (ts : List Lexeme) (tot
 body_stops prefix b ts total brace some so_far =
     sym so_far ∙ ap (with_prefix prefix) (body_is ts) ∙ stops_at (after kind.RightBrace ts) b prefix ts brace some ∙ ap (λ (xs : List _). Some (xs, ts)) (append-nil prefix)
 
--- before the first turn
-pub no_prefix : {A : Type 0} (o : Option (List A × List Lexeme)) → with_prefix [] o ≡ o
-no_prefix None = refl
-no_prefix (Some x) = refl
+pub gate_fails : (e : StepError) (prefix : List BodySentence) (b : Bool) (all : List Lexeme) (head : Heading) (inside ts : List Lexeme) → opening all ≡ Some (head, inside)
+    → b ≡ is_some (after kind.RightBrace ts) → b ≡ false → Fails e (body_statement ts) → with_prefix prefix (body ts) ≡ body inside → Fails e (gate all)
+unfolding gate
+gate_fails NoMemory prefix b all head inside ts opens brace none is so_far = tt
+gate_fails Misfit prefix b all head inside ts opens brace none is so_far =
+    bind_is (opening all) (head, inside) _ _ opens (bind_none (body inside) _ (body_fails Misfit prefix b ts (body inside) brace none is so_far))
 
-pub block_fails : (e : StepError) (prefix : List BodySentence) (b : Bool) (all inside ts : List Lexeme) → after kind.LeftBrace all ≡ Some inside
-    → b ≡ is_some (after kind.RightBrace ts) → b ≡ false → Fails e (body_statement ts) → with_prefix prefix (body ts) ≡ body inside → Fails e (block all)
-unfolding block
-block_fails NoMemory prefix b all inside ts left brace none is so_far = tt
-block_fails Misfit prefix b all inside ts left brace none is so_far =
-    bind_is (after kind.LeftBrace all) inside _ None left
-    (ap (λ (o : Option (List BodySentence × List Lexeme)). o >>= λ (found : List BodySentence × List Lexeme). after kind.RightBrace found.1 >>= λ (rest : List Lexeme). Some (found.0, rest)) (body_fails Misfit prefix b ts (body inside) brace none is so_far))
-
-pub block_stops : (prefix : List BodySentence) (b : Bool) (all inside ts end : List Lexeme) → after kind.LeftBrace all ≡ Some inside
-    → b ≡ is_some (after kind.RightBrace ts) → b ≡ true → with_prefix prefix (body ts) ≡ body inside → after kind.RightBrace ts ≡ Some end → block all ≡ Some (prefix, end)
-unfolding block
-block_stops prefix b all inside ts end left brace some so_far right =
-    bind_is (after kind.LeftBrace all) inside _ _ left (bind_is (body inside) (prefix, ts) _ _ (body_stops prefix b ts (body inside) brace some so_far) (bind_is (after kind.RightBrace ts) end _ _ right refl))
+pub gate_stops : (prefix : List BodySentence) (b : Bool) (all : List Lexeme) (head : Heading) (inside ts end : List Lexeme) → opening all ≡ Some (head, inside)
+    → b ≡ is_some (after kind.RightBrace ts) → b ≡ true → with_prefix prefix (body ts) ≡ body inside → after kind.RightBrace ts ≡ Some end
+    → gate all ≡ Some (DeclareGate (record { name = head.0; parameters = head.1.0; qubits = head.1.1; body = prefix }), end)
+unfolding gate
+gate_stops prefix b all head inside ts end opens brace some so_far right =
+    bind_is (opening all) (head, inside) _ _ opens
+    (bind_is (body inside) (prefix, ts) _ _ (body_stops prefix b ts (body inside) brace some so_far) (bind_is (after kind.RightBrace ts) end _ _ right refl))

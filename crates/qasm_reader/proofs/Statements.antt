@@ -1,14 +1,15 @@
 -- The parser of statements reads what stands in the grammar, and nothing else.
-use Rattle.std.proofs.Common.{◌≡◌, ℕ, ◌<◌, false, List, [], ◌∷◌, ◌++◌, length, length-append, Option, None, Some, refl, sym, ap, ◌∙◌, subst, append_assoc, arith}
+use Rattle.std.proofs.Common.{◌≡◌, ℕ, ◌<◌, false, List, [], ◌∷◌, ◌++◌, length, length-append, Option, None, Some, refl, sym, ap, ◌∙◌, subst, append_assoc, append-nil, arith}
 use Rattle.qasm_lexer.specs.declared.token.TokenKind.{TokenKind}
 use Rattle.qasm_lexer.specs.declared.token.TokenKind.TheVariants as kind
 use Rattle.qasm_lexer.specs.Tokens.{Lexeme}
 use Rattle.qasm_reader.specs.Syntax.{Operand, Callee, Declared, U, Cx, Apply, Action, Applied, Measured, Reset, BodyApply, BodySentence, BodyApplied, BodyBarrier, GateForm, Sentence, Version, Include, QubitRegister, BitRegister, DeclareGate, Opaque, If, Barrier, Act}
 use Rattle.qasm_reader.specs.Grammar.{Sign, Word, ◌⋅◌, Repeated, IsCommaList, IsExpression, IsIdentifier, IsNatural, IsName, IsIndex, IsArgument, IsArguments, IsIdentifiers, IsAngles, IsParameters, IsQuantumOperation, IsBodyStatement, IsStatement}
+use Rattle.qasm_reader.specs.Parts.{IsHeading}
 use Rattle.qasm_reader.specs.Internal.Machine.{operator_of, take_expression}
-use Rattle.qasm_reader.specs.Internal.Taking.{◌>>=◌, same_kind, after, text, on_turn, one_more, comma_list, identifier, natural, identifiers, parameters, callee_of, gate_name, index_after, argument, arguments, angles, application, measure, reset, operation_by, operation, body_application, body_by, body_statement, body_turn, body, block, version, include, register, qubit_register, bit_register, heading, gate, opaque, condition, conditional, barrier, act, statement_by, statement}
-use Rattle.qasm_reader.proofs.Steps.{Took, took_then, Sound, Complete, Shrinks, same, bind_some, bind_is, after_takes, after_again, after_other, text_takes, text_again, text_shrinks, sign_then, sign_last, item_then, sign_took, Opened, opened, sign_begins, word_begins, then_begins}
-use Rattle.qasm_reader.proofs.Lists.{EndsList, EndsOptional, comma_list_takes, comma_list_again, optional_list_takes, optional_list_again, repeated_takes, repeated_again, repeated_is, one_more_some, list_begins, TurnShrinks}
+use Rattle.qasm_reader.specs.Internal.Taking.{◌>>=◌, same_kind, after, text, with_prefix, on_turn, one_more, comma_list, identifier, natural, identifiers, parameters, callee_of, gate_name, index_after, argument, arguments, angles, application, measure, reset, operation_by, operation, body_application, body_by, body_statement, body_turn, body, version, include, register, qubit_register, bit_register, Heading, heading, opening, gate, opaque, condition, conditional, barrier, act, statement_by, statement}
+use Rattle.qasm_reader.proofs.Steps.{Took, took_then, deeper, Sound, Complete, Shrinks, same, bind_some, bind_is, bind_none, after_takes, after_again, after_other, text_takes, text_again, text_shrinks, sign_then, sign_last, item_then, sign_took, Opened, opened, sign_begins, word_begins, then_begins}
+use Rattle.qasm_reader.proofs.Lists.{EndsList, EndsOptional, comma_list_takes, comma_list_again, optional_list_takes, optional_list_again, repeated_takes, repeated_goes_on, repeated_is, one_more_some, list_begins, TurnShrinks}
 use Rattle.qasm_reader.proofs.Expressions.{expression_takes, expression_again, expression_begins, expression_shrinks, EndsExpression}
 
 -- anything may follow
@@ -393,7 +394,7 @@ some_name Cx us w = omega (arith, ap length w.2)
 some_then : (Front Back : List Lexeme → Type 0) (us : List Lexeme) → ((vs : List Lexeme) → Front vs → 0 < length vs) → (Front ⋅ Back) us → 0 < length us
 some_then Front Back us prefix s = omega (arith, ap length s.2, length-append s.0 s.1, prefix s.0 s.3)
 
-some_body : (a : BodySentence) (us : List Lexeme) → IsBodyStatement a us → 0 < length us
+pub some_body : (a : BodySentence) (us : List Lexeme) → IsBodyStatement a us → 0 < length us
 some_body (BodyApplied a) us h = some_then (IsName a.gate) (IsAngles a.angles ⋅ IsIdentifiers a.qubits ⋅ Sign kind.Semicolon) us (λ vs w. some_name a.gate vs w) h
 some_body (BodyBarrier qubits) us h = some_then (Sign kind.Barrier) (IsIdentifiers qubits ⋅ Sign kind.Semicolon) us (λ vs s. some_sign kind.Barrier vs s) h
 
@@ -425,36 +426,26 @@ body_takes =
 abbrev pub EndsBody : List Lexeme → Type 0
 EndsBody rest = (r : List Lexeme) × (after kind.RightBrace rest ≡ Some r)
 
-pub body_again : Complete body (Repeated IsBodyStatement) EndsBody
+body_goes_on : (xs : List BodySentence) (us rest : List Lexeme) → Repeated IsBodyStatement xs us → body (us ++ rest) ≡ with_prefix xs (body rest)
 unfolding body
-body_again xs us rest h ends =
-    repeated_again IsBodyStatement (λ ts. body_turn ts (after kind.RightBrace ts)) body_turn_shrinks Anything
+body_goes_on xs us rest h =
+    repeated_goes_on IsBodyStatement (λ ts. body_turn ts (after kind.RightBrace ts)) body_turn_shrinks Anything
     (λ a vs more s _. ap (λ (o : Option (List Lexeme)). body_turn (vs ++ more) o) (body_begins a vs more s) ∙ ap one_more (body_statement_again a vs more s tt))
-    (λ a vs more s. tt) xs us rest h tt (ap (body_turn rest) ends.1)
+    (λ a vs more s. tt) xs us rest h tt
 
-abbrev IsBlock : List BodySentence → List Lexeme → Type 0
-IsBlock xs = Sign kind.LeftBrace ⋅ Repeated IsBodyStatement xs ⋅ Sign kind.RightBrace
-
-block_takes : Sound block IsBlock
-unfolding block
-block_takes ts xs rest e =
-    let l = bind_some (after kind.LeftBrace ts) _ (xs, rest) e in
-    let b = bind_some (body l.0) _ (xs, rest) l.2 in
-    let s = bind_some (after kind.RightBrace b.0.1) _ (xs, rest) b.2 in
-    let p = same (b.0.0, s.0) (xs, rest) s.2 in
-    subst (λ (y : List BodySentence × List Lexeme). Took (IsBlock y.0) ts y.1) p
-    (took_then (Sign kind.LeftBrace) (Repeated IsBodyStatement b.0.0 ⋅ Sign kind.RightBrace) ts l.0 s.0 (after_takes kind.LeftBrace ts l.0 l.1)
-    (took_then (Repeated IsBodyStatement b.0.0) (Sign kind.RightBrace) l.0 b.0.1 s.0 (body_takes l.0 b.0.0 b.0.1 b.1) (after_takes kind.RightBrace b.0.1 s.0 s.1)))
+body_again : Complete body (Repeated IsBodyStatement) EndsBody
+body_again xs us rest h ends =
+    body_goes_on xs us rest h
+    ∙ ap (with_prefix xs) (body_is rest ∙ ap (λ o. on_turn (body_turn rest o) rest body) ends.1)
+    ∙ ap (λ (ys : List BodySentence). Some (ys, rest)) (append-nil xs)
 
 ends_body : (us rest : List Lexeme) → Sign kind.RightBrace us → EndsBody (us ++ rest)
 ends_body us rest s = (rest, after_again kind.RightBrace us rest s)
 
-block_again : (xs : List BodySentence) (us rest : List Lexeme) → IsBlock xs us → block (us ++ rest) ≡ Some (xs, rest)
-unfolding block
-block_again xs us rest h =
-    sign_then kind.LeftBrace _ us rest _ _ h
-    (item_then body (Repeated IsBodyStatement) EndsBody body_again xs _ h.1 rest _ _ h.4 (ends_body h.4.1 rest h.4.4)
-    (sign_last kind.RightBrace h.4.1 rest _ h.4.4))
+-- statements of a body, and then no other and no brace
+body_none : (xs : List BodySentence) (us rest : List Lexeme) → Repeated IsBodyStatement xs us → after kind.RightBrace rest ≡ None → body_statement rest ≡ None → body (us ++ rest) ≡ None
+body_none xs us rest h brace none =
+    body_goes_on xs us rest h ∙ ap (with_prefix xs) (body_is rest ∙ ap (λ o. on_turn (body_turn rest o) rest body) brace ∙ ap (λ o. on_turn (one_more o) rest body) none)
 
 -- ---- statements: what is read
 
@@ -514,9 +505,6 @@ bits_take t ts a rest is e =
 moved : {X : Type 0} (Back : List Lexeme → Type 0) (a b : X) (m n rest : List Lexeme) → ◌≡◌ {A = X × List Lexeme} (a, m) (b, n) → Took Back n rest → Took Back m rest
 moved {X = X} Back a b m n rest p t = subst (λ (x : List Lexeme). Took Back x rest) (sym (ap (λ (y : X × List Lexeme). y.1) p)) t
 
-abbrev Heading : Type 0
-Heading = List ℕ × (List (List ℕ) × List (List ℕ))
-
 -- a heading, and what is after it
 heading_takes : (ts : List Lexeme) (a : Heading) (middle rest : List Lexeme) (Back : List Lexeme → Type 0) → heading ts ≡ Some (a, middle) → Took Back middle rest
     → Took (IsIdentifier a.0 ⋅ IsParameters a.1.0 ⋅ IsIdentifiers a.1.1 ⋅ Back) ts rest
@@ -532,15 +520,47 @@ heading_takes ts a middle rest Back e back =
     (took_then (IsParameters x.0.0) (IsIdentifiers q.0.0 ⋅ Back) n.0.1 x.0.1 rest (parameters_take n.0.1 x.0.0 x.0.1 x.1)
     (took_then (IsIdentifiers q.0.0) Back x.0.1 q.0.1 rest (identifiers_take x.0.1 q.0.0 q.0.1 q.1) following)))
 
+-- what stands before the body of a gate
+abbrev pub IsOpening : Heading → List Lexeme → Type 0
+IsOpening a = IsIdentifier a.0 ⋅ IsParameters a.1.0 ⋅ IsIdentifiers a.1.1 ⋅ Sign kind.LeftBrace
+
+pub opening_takes : Sound opening IsOpening
+unfolding opening
+opening_takes ts a rest e =
+    let h = bind_some (heading ts) _ (a, rest) e in
+    let l = bind_some (after kind.LeftBrace h.0.1) _ (a, rest) h.2 in
+    let p = same (h.0.0, l.0) (a, rest) l.2 in
+    subst (λ (y : Heading × List Lexeme). Took (IsOpening y.0) ts y.1) p (heading_takes ts h.0.0 h.0.1 l.0 (Sign kind.LeftBrace) h.1 (after_takes kind.LeftBrace h.0.1 l.0 l.1))
+
+-- what begins as the declaration of a gate
+abbrev Begun : GateForm → (List Lexeme → Type 0) → List Lexeme → Type 0
+Begun gate Back = Sign kind.Gate ⋅ IsIdentifier gate.name ⋅ IsParameters gate.parameters ⋅ IsIdentifiers gate.qubits ⋅ Sign kind.LeftBrace ⋅ Back
+
+begun : (gate : GateForm) (Back : List Lexeme → Type 0) (us : List Lexeme) → (IsHeading gate ⋅ Back) us → Begun gate Back us
+begun g Back us s =
+    deeper (Sign kind.Gate) (IsOpening (g.name, (g.parameters, g.qubits))) Back _
+    (deeper (IsIdentifier g.name) (IsParameters g.parameters ⋅ IsIdentifiers g.qubits ⋅ Sign kind.LeftBrace) Back _
+    (deeper (IsParameters g.parameters) (IsIdentifiers g.qubits ⋅ Sign kind.LeftBrace) Back _
+    (deeper (IsIdentifiers g.qubits) (Sign kind.LeftBrace) Back _ (λ vs t. t)))) us s
+
+-- a heading, the body and the brace that closes it
+pub whole_gate : (gate : GateForm) (ts inside closing rest : List Lexeme) → Took (IsHeading gate) ts inside → Took (Repeated IsBodyStatement gate.body) inside closing → after kind.RightBrace closing ≡ Some rest
+    → Took (IsStatement (DeclareGate gate)) ts rest
+whole_gate g ts inside closing rest head statements brace =
+    let end = took_then (Repeated IsBodyStatement g.body) (Sign kind.RightBrace) inside closing rest statements (after_takes kind.RightBrace closing rest brace) in
+    let t = took_then (IsHeading g) (Repeated IsBodyStatement g.body ⋅ Sign kind.RightBrace) ts inside rest head end in
+    (t.0, t.1, begun g (Repeated IsBodyStatement g.body ⋅ Sign kind.RightBrace) t.0 t.2)
+
 gate_takes : (t : Lexeme) (ts : List Lexeme) (a : Sentence) (rest : List Lexeme) → t.kind ≡ kind.Gate → gate ts ≡ Some (a, rest) → Took (IsStatement a) (t ∷ ts) rest
 unfolding gate
 gate_takes t ts a rest is e =
-    let h = bind_some (heading ts) _ (a, rest) e in
-    let b = bind_some (block h.0.1) _ (a, rest) h.2 in
-    let p = same (DeclareGate (record { name = h.0.0.0; parameters = h.0.0.1.0; qubits = h.0.0.1.1; body = b.0.0 }), b.0.1) (a, rest) b.2 in
+    let h = bind_some (opening ts) _ (a, rest) e in
+    let b = bind_some (body h.0.1) _ (a, rest) h.2 in
+    let s = bind_some (after kind.RightBrace b.0.1) _ (a, rest) b.2 in
+    let g : GateForm = record { name = h.0.0.0; parameters = h.0.0.1.0; qubits = h.0.0.1.1; body = b.0.0 } in
+    let p = same (DeclareGate g, s.0) (a, rest) s.2 in
     subst (λ (y : Sentence × List Lexeme). Took (IsStatement y.0) (t ∷ ts) y.1) p
-    (took_then (Sign kind.Gate) (IsIdentifier h.0.0.0 ⋅ IsParameters h.0.0.1.0 ⋅ IsIdentifiers h.0.0.1.1 ⋅ IsBlock b.0.0) (t ∷ ts) ts b.0.1 (sign_took kind.Gate t ts is)
-    (heading_takes ts h.0.0 h.0.1 b.0.1 (IsBlock b.0.0) h.1 (block_takes h.0.1 b.0.0 b.0.1 b.1)))
+    (whole_gate g (t ∷ ts) h.0.1 b.0.1 s.0 (took_then (Sign kind.Gate) (IsOpening h.0.0) (t ∷ ts) ts h.0.1 (sign_took kind.Gate t ts is) (opening_takes ts h.0.0 h.0.1 h.1)) (body_takes h.0.1 b.0.0 b.0.1 b.1) s.1)
 
 opaque_takes : (t : Lexeme) (ts : List Lexeme) (a : Sentence) (rest : List Lexeme) → t.kind ≡ kind.Opaque → opaque ts ≡ Some (a, rest) → Took (IsStatement a) (t ∷ ts) rest
 unfolding opaque
@@ -659,14 +679,42 @@ include_again : (name : List ℕ) (us rest : List Lexeme) → (Word kind.Text na
 unfolding include
 include_again name us rest h = item_then (text kind.Text) (Word kind.Text) Anything (text_complete kind.Text) name _ us rest _ _ h tt (sign_last kind.Semicolon h.1 rest _ h.4)
 
-gate_again : (g : GateForm) (us rest : List Lexeme) → (IsIdentifier g.name ⋅ IsParameters g.parameters ⋅ IsIdentifiers g.qubits ⋅ IsBlock g.body) us → gate (us ++ rest) ≡ Some (DeclareGate g, rest)
+-- no heading, no statement
+pub opening_none : (t : Lexeme) (ts : List Lexeme) → t.kind ≡ kind.Gate → opening ts ≡ None → statement (t ∷ ts) ≡ None
 unfolding gate
+opening_none t ts is none =
+    statement_first kind.Gate (t ∷ ts) ts (record { first = t; is = is; all = refl }) (λ more all. gate more) (λ more all. refl) ∙ bind_none (opening ts) _ none
+
+-- the rest of a gate's declaration, from its body on
+abbrev rest_of_gate : GateForm → List Lexeme → Option (Sentence × List Lexeme)
+rest_of_gate g ts = do
+  body ← body ts
+  rest ← after kind.RightBrace body.1
+  Some (DeclareGate (record { name = g.name; parameters = g.parameters; qubits = g.qubits; body = body.0 }), rest)
+
+gate_first : (g : GateForm) (Back : List Lexeme → Type 0) (us rest : List Lexeme) (h : Begun g Back us) → statement (us ++ rest) ≡ rest_of_gate g (h.4.4.4.4.1 ++ rest)
+unfolding gate opening
+gate_first g Back us rest h =
+    let b = h.4.4.4 in
+    statement_first kind.Gate (us ++ rest) (h.1 ++ rest) (opened kind.Gate _ us rest h) (λ more all. gate more) (λ more all. refl)
+    ∙ bind_is (opening (h.1 ++ rest)) _ _ _
+    (bind_is (heading (h.1 ++ rest)) _ _ _
+    (heading_again (g.name, (g.parameters, g.qubits)) (Sign kind.LeftBrace ⋅ Back) h.1 rest h.4 (then_ends EndsIdentifiers kind.LeftBrace Back b.1 rest brace_identifiers b.4))
+    (sign_then kind.LeftBrace Back b.1 rest _ _ b.4 refl)) refl
+
+gate_again : (g : GateForm) (us rest : List Lexeme) → IsStatement (DeclareGate g) us → statement (us ++ rest) ≡ Some (DeclareGate g, rest)
 gate_again g us rest h =
-    let b = h.4.4 in
-    bind_is (heading (us ++ rest)) _ _ _
-    (heading_again (g.name, (g.parameters, g.qubits)) (IsBlock g.body) us rest h
-    (then_ends EndsIdentifiers kind.LeftBrace (Repeated IsBodyStatement g.body ⋅ Sign kind.RightBrace) b.1 rest brace_identifiers b.4))
-    (bind_is (block (b.1 ++ rest)) _ _ _ (block_again g.body b.1 rest b.4) refl)
+    let b = h.4.4.4.4 in
+    gate_first g (Repeated IsBodyStatement g.body ⋅ Sign kind.RightBrace) us rest h
+    ∙ item_then body (Repeated IsBodyStatement) EndsBody body_again g.body (Sign kind.RightBrace) b.1 rest _ _ b.4 (ends_body b.4.1 rest b.4.4) (sign_last kind.RightBrace b.4.1 rest _ b.4.4)
+
+-- a heading and statements of the body, and then no other and no brace
+pub gate_none : (g : GateForm) (ts middle rest : List Lexeme) → Took (IsHeading g) ts middle → Took (Repeated IsBodyStatement g.body) middle rest
+    → after kind.RightBrace rest ≡ None → body_statement rest ≡ None → statement ts ≡ None
+gate_none g ts middle rest head statements brace none =
+    let t = took_then (IsHeading g) (Repeated IsBodyStatement g.body) ts middle rest head statements in
+    let h = begun g (Repeated IsBodyStatement g.body) t.0 t.2 in
+    ap statement t.1 ∙ gate_first g (Repeated IsBodyStatement g.body) t.0 rest h ∙ bind_none (body (h.4.4.4.4.1 ++ rest)) _ (body_none g.body h.4.4.4.4.1 rest h.4.4.4.4.4 brace none)
 
 opaque_again : (name : List ℕ) (xs qs : List (List ℕ)) (us rest : List Lexeme) → (IsIdentifier name ⋅ IsParameters xs ⋅ IsIdentifiers qs ⋅ Sign kind.Semicolon) us → opaque (us ++ rest) ≡ Some (Opaque name xs qs, rest)
 unfolding opaque
@@ -695,6 +743,11 @@ named_first (Declared name) us rest o = statement_first kind.Identifier us rest 
 named_first U us rest o = statement_first kind.U us rest o (λ more all. act all) (λ more all. refl)
 named_first Cx us rest o = statement_first kind.Cx us rest o (λ more all. act all) (λ more all. refl)
 
+-- an identifier begins the application of a gate
+pub identifier_first : (t : Lexeme) (ts : List Lexeme) → t.kind ≡ kind.Identifier → statement (t ∷ ts) ≡ (application (t ∷ ts) >>= λ x. Some (Act x.0, x.1))
+identifier_first t ts is =
+    named_first (Declared t.text) (t ∷ ts) ts (record { first = t; is = is; all = refl }) ∙ ap (λ (o : Option (Action × List Lexeme)). o >>= λ x. Some (Act x.0, x.1)) (name_operation (Declared t.text) t ts is)
+
 -- an operation begins no other statement
 act_first : (a : Action) (us rest : List Lexeme) → IsQuantumOperation a us → statement (us ++ rest) ≡ act (us ++ rest)
 act_first (Applied a) us rest h = named_first a.gate (us ++ rest) (h.1 ++ rest) (named a.gate (IsAngles a.angles ⋅ IsArguments a.qubits ⋅ Sign kind.Semicolon) us rest h)
@@ -716,11 +769,7 @@ statement_again (QubitRegister name size) us rest h ends =
 statement_again (BitRegister name size) us rest h ends =
     statement_first kind.Creg (us ++ rest) (h.1 ++ rest) (opened kind.Creg (IsRegister name size) us rest h) (λ more all. bit_register more) (λ more all. refl)
     ∙ ap (λ (o : Option ((List ℕ × List ℕ) × List Lexeme)). o >>= λ (r : (List ℕ × List ℕ) × List Lexeme). Some (BitRegister r.0.0 r.0.1, r.1)) (register_again name size h.1 rest h.4)
-statement_again (DeclareGate g) us rest h ends =
-    statement_first kind.Gate (us ++ rest) (h.1 ++ rest)
-    (opened kind.Gate (IsIdentifier g.name ⋅ IsParameters g.parameters ⋅ IsIdentifiers g.qubits ⋅ Sign kind.LeftBrace ⋅ Repeated IsBodyStatement g.body ⋅ Sign kind.RightBrace) us rest h)
-    (λ more all. gate more) (λ more all. refl)
-    ∙ gate_again g h.1 rest h.4
+statement_again (DeclareGate g) us rest h ends = gate_again g us rest h
 statement_again (Opaque name xs qs) us rest h ends =
     statement_first kind.Opaque (us ++ rest) (h.1 ++ rest) (opened kind.Opaque (IsIdentifier name ⋅ IsParameters xs ⋅ IsIdentifiers qs ⋅ Sign kind.Semicolon) us rest h) (λ more all. opaque more) (λ more all. refl)
     ∙ opaque_again name xs qs h.1 rest h.4

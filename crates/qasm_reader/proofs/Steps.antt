@@ -16,6 +16,12 @@ pub took_then : (Front Back : List Lexeme → Type 0) (ts middle rest : List Lex
 took_then Front Back ts middle rest a b =
     (a.0 ++ b.0, a.1 ∙ ap (λ (x : List Lexeme). a.0 ++ x) b.1 ∙ sym (append_assoc a.0 b.0 rest), (a.0, b.0, refl, a.2, b.2))
 
+-- a list of three in the other grouping, where what its last two are is so too
+pub deeper : (Front Middle Back Rest : List Lexeme → Type 0) → ((vs : List Lexeme) → (Middle ⋅ Back) vs → Rest vs) → (us : List Lexeme) → ((Front ⋅ Middle) ⋅ Back) us → (Front ⋅ Rest) us
+deeper Front Middle Back Rest regroup us s =
+    let f = s.3 in
+    (f.0, f.1 ++ s.1, s.2 ∙ ap (λ (x : List Lexeme). x ++ s.1) f.2 ∙ append_assoc f.0 f.1 s.1, f.3, regroup (f.1 ++ s.1) (f.1, s.1, refl, f.4, s.4))
+
 -- what a step reads stands in the grammar
 abbrev pub Sound : {A : Type 0} → (List Lexeme → Option (A × List Lexeme)) → (A → List Lexeme → Type 0) → Type 0
 Sound {A = A} item Is = (ts : List Lexeme) (a : A) (rest : List Lexeme) → item ts ≡ Some (a, rest) → Took (Is a) ts rest
@@ -37,6 +43,9 @@ bind_some (Some x) f y e = (x, refl, e)
 
 pub bind_is : {A B : Type 0} (o : Option A) (x : A) (f : A → Option B) (r : Option B) → o ≡ Some x → f x ≡ r → (o >>= f) ≡ r
 bind_is o x f r is next = ap (λ (p : Option _). p >>= f) is ∙ next
+
+pub bind_none : {A B : Type 0} (o : Option A) (f : A → Option B) → o ≡ None → (o >>= f) ≡ None
+bind_none o f is = ap (λ (p : Option _). p >>= f) is
 
 -- ---- kinds
 

@@ -2,4 +2,5 @@
 pub mod Depths
 pub mod Machine
 pub mod Parsing
+pub mod PartReading
 pub mod Taking

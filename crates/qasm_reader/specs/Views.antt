@@ -6,6 +6,7 @@ use Rattle.qasm_reader.specs.declared.program.Statement.{Statement}
 use Rattle.qasm_reader.specs.declared.program.StatementKind.{StatementKind}
 use Rattle.qasm_reader.specs.declared.program.StatementKind.TheVariants.{Version, Include, QubitRegister, BitRegister, Gate, Opaque, If, Barrier, Operation}
 use Rattle.qasm_reader.specs.declared.program.GateDeclaration.{GateDeclaration}
+use Rattle.qasm_reader.specs.declared.program.GateHeading.{GateHeading}
 use Rattle.qasm_reader.specs.declared.program.GateName.{GateName}
 use Rattle.qasm_reader.specs.declared.program.GateName.TheVariants.{Declared, U, Cx}
 use Rattle.qasm_reader.specs.declared.program.Argument.{Argument}
@@ -38,13 +39,17 @@ abbrev pub body_sentence : BodyStatement → syntax.BodySentence
 body_sentence (body.Apply a) = syntax.BodyApplied (record { gate = callee a.gate; angles = map formula_of a.angles.items; qubits = map (λ name. name.now) a.qubits.items })
 body_sentence (body.Barrier qubits) = syntax.BodyBarrier (map (λ name. name.now) qubits.items)
 
-abbrev pub gate_form : GateDeclaration → syntax.GateForm
-gate_form gate = record {
-  name = gate.name.now;
-  parameters = map (λ name. name.now) gate.parameters.items;
-  qubits = map (λ name. name.now) gate.qubits.items;
-  body = map body_sentence gate.body.items;
+-- the gate with this heading and this body
+abbrev pub form_of : GateHeading → List syntax.BodySentence → syntax.GateForm
+form_of heading body = record {
+  name = heading.name.now;
+  parameters = map (λ name. name.now) heading.parameters.items;
+  qubits = map (λ name. name.now) heading.qubits.items;
+  body = body;
 }
+
+abbrev pub gate_form : GateDeclaration → syntax.GateForm
+gate_form gate = form_of gate.heading (map body_sentence gate.body.items)
 
 abbrev pub sentence : StatementKind → syntax.Sentence
 sentence (Version real) = syntax.Version real.now

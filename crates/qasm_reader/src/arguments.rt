@@ -21,7 +21,8 @@ use std::alloc::Global;
 pub(crate) fn identifier<'t, 'a>(
     tokens: &'t [Token<'a>],
 ) -> Result<(&'a [u8], &'t [Token<'a>]), StepError>
-    ensures { Gives (λ x. (x.0.now, lexemes x.1.now)) result (spec.identifier (lexemes tokens.now)) }
+    ensures { Gives (λ x. (x.0.now, lexemes x.1.now)) result
+        (spec.identifier (lexemes tokens.now)) }
 {
     text(tokens, TokenKind::Identifier)
 }
@@ -40,7 +41,8 @@ pub(crate) fn natural<'t, 'a>(
 pub(crate) fn gate_name<'t, 'a>(
     tokens: &'t [Token<'a>],
 ) -> Result<(GateName<'a>, &'t [Token<'a>]), StepError>
-    ensures { Gives (λ x. (callee x.0, lexemes x.1.now)) result (spec.gate_name (lexemes tokens.now)) }
+    ensures { Gives (λ x. (callee x.0, lexemes x.1.now)) result
+        (spec.gate_name (lexemes tokens.now)) }
 {
     let [first, rest @ ..] = tokens else {
         return Err(StepError::Misfit);
@@ -68,7 +70,8 @@ fn callee_of<'a>(token: &Token<'a>) -> Option<GateName<'a>>
 pub(crate) fn argument<'t, 'a>(
     tokens: &'t [Token<'a>],
 ) -> Result<(Argument<'a>, &'t [Token<'a>]), StepError>
-    ensures { Gives (λ x. (operand x.0, lexemes x.1.now)) result (spec.argument (lexemes tokens.now)) }
+    ensures { Gives (λ x. (operand x.0, lexemes x.1.now)) result
+        (spec.argument (lexemes tokens.now)) }
 {
     let (register, rest) = identifier(tokens)?;
     let Some(inside) = after(rest, TokenKind::LeftBracket) else {
@@ -97,7 +100,8 @@ pub(crate) fn identifiers<'t, 'a>(
     alloc: Global,
     tokens: &'t [Token<'a>],
 ) -> Result<(Vec<&'a [u8]>, &'t [Token<'a>]), StepError>
-    ensures { Gives (λ x. (map (λ name. name.now) x.0.items, lexemes x.1.now)) result (spec.identifiers (lexemes tokens.now)) }
+    ensures { Gives (λ x. (map (λ name. name.now) x.0.items, lexemes x.1.now)) result
+        (spec.identifiers (lexemes tokens.now)) }
 {
     let mut names = Vec::new(alloc);
     let (first, mut rest) = identifier(tokens)?;
@@ -116,7 +120,8 @@ pub(crate) fn arguments<'t, 'a>(
     alloc: Global,
     tokens: &'t [Token<'a>],
 ) -> Result<(Vec<Argument<'a>>, &'t [Token<'a>]), StepError>
-    ensures { Gives (λ x. (map operand x.0.items, lexemes x.1.now)) result (spec.arguments (lexemes tokens.now)) }
+    ensures { Gives (λ x. (map operand x.0.items, lexemes x.1.now)) result
+        (spec.arguments (lexemes tokens.now)) }
 {
     let mut found = Vec::new(alloc);
     let (first, mut rest) = argument(tokens)?;
@@ -135,7 +140,8 @@ fn expressions<'t, 'a>(
     alloc: Global,
     tokens: &'t [Token<'a>],
 ) -> Result<(Vec<Expression<'a>>, &'t [Token<'a>]), StepError>
-    ensures { Gives (λ x. (map formula_of x.0.items, lexemes x.1.now)) result (spec.comma_list take_expression (lexemes tokens.now)) }
+    ensures { Gives (λ x. (map formula_of x.0.items, lexemes x.1.now)) result
+        (spec.comma_list take_expression (lexemes tokens.now)) }
 {
     let mut found = Vec::new(alloc);
     let (first, mut rest) = expression(alloc, tokens)?;
@@ -154,7 +160,8 @@ pub(crate) fn parameters<'t, 'a>(
     alloc: Global,
     tokens: &'t [Token<'a>],
 ) -> Result<(Vec<&'a [u8]>, &'t [Token<'a>]), StepError>
-    ensures { Gives (λ x. (map (λ name. name.now) x.0.items, lexemes x.1.now)) result (spec.parameters (lexemes tokens.now)) }
+    ensures { Gives (λ x. (map (λ name. name.now) x.0.items, lexemes x.1.now)) result
+        (spec.parameters (lexemes tokens.now)) }
 {
     let Some(inside) = after(tokens, TokenKind::LeftParenthesis) else {
         return Ok((Vec::new(alloc), tokens));
@@ -173,7 +180,8 @@ pub(crate) fn angles<'t, 'a>(
     alloc: Global,
     tokens: &'t [Token<'a>],
 ) -> Result<(Vec<Expression<'a>>, &'t [Token<'a>]), StepError>
-    ensures { Gives (λ x. (map formula_of x.0.items, lexemes x.1.now)) result (spec.angles (lexemes tokens.now)) }
+    ensures { Gives (λ x. (map formula_of x.0.items, lexemes x.1.now)) result
+        (spec.angles (lexemes tokens.now)) }
 {
     let Some(inside) = after(tokens, TokenKind::LeftParenthesis) else {
         return Ok((Vec::new(alloc), tokens));

@@ -19,14 +19,17 @@ pub fn one_expression()
 
 /// No statement begins another: where two of them begin the same tokens, they are one, and so is what follows.
 pub fn no_statement_begins_another()
-    ensures { (a b : Sentence) (us vs x y : List Lexeme) → IsStatement a us → IsStatement b vs → us ++ x ≡ vs ++ y → (a ≡ b) × (us ≡ vs) × (x ≡ y) }
+    ensures { (a b : Sentence) (us vs x y : List Lexeme) → IsStatement a us → IsStatement b vs
+        → us ++ x ≡ vs ++ y → (a ≡ b) × (us ≡ vs) × (x ≡ y) }
 {}
 
 /// Tokens are a program or have a syntax fault, never both, and one syntax fault at most.
 pub fn one_syntax_fault()
-    ensures either { (ts : List Lexeme) → ((statements : List Placed) × IsProgram ts statements) ⊎ ((at : ℕ) × IsSyntaxFault ts at) }
+    ensures either { (ts : List Lexeme) → ((statements : List Placed) × IsProgram ts statements)
+        ⊎ ((at : ℕ) × IsSyntaxFault ts at) }
     ensures one { (ts : List Lexeme) (m n : ℕ) → IsSyntaxFault ts m → IsSyntaxFault ts n → m ≡ n }
-    ensures none { (ts : List Lexeme) (statements : List Placed) (n : ℕ) → IsProgram ts statements → IsSyntaxFault ts n → ⊥ }
+    ensures none { (ts : List Lexeme) (statements : List Placed) (n : ℕ) → IsProgram ts statements
+        → IsSyntaxFault ts n → ⊥ }
 {}
 
 /// What is too deep, said by prefixes of the tokens.

@@ -8,6 +8,7 @@ pub mod expression;
 pub mod laws;
 mod machine;
 pub mod parser;
+pub mod parts;
 pub mod program;
 mod statement;
 mod step_error;
@@ -19,7 +20,8 @@ pub use depth::Depth;
 pub use error::ParseError;
 pub use expression::{Expression, Function, Item, Operator};
 pub use parser::{next_statement, parse};
+pub use parts::{BodyPart, Part, next_in_body, next_part};
 pub use program::{
-    Application, Argument, BodyApplication, BodyStatement, GateDeclaration, GateName,
-    OpaqueDeclaration, Operation, Program, Statement, StatementKind,
+    Application, Argument, BodyApplication, BodyStatement, GateDeclaration, GateHeading, GateName,
+    Operation, Program, Statement, StatementKind,
 };

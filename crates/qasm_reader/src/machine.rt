@@ -56,7 +56,8 @@ pub(crate) fn expression<'t, 'a>(
     alloc: Global,
     tokens: &'t [Token<'a>],
 ) -> Result<(Expression<'a>, &'t [Token<'a>]), StepError>
-    ensures { Gives (λ x. (formula_of x.0, lexemes x.1.now)) result (spec.take_expression (lexemes tokens.now)) }
+    ensures { Gives (λ x. (formula_of x.0, lexemes x.1.now)) result
+        (spec.take_expression (lexemes tokens.now)) }
 {
     let mut machine = Machine::new(alloc);
     let rest = machine.run(tokens)?;
@@ -79,7 +80,8 @@ impl<'a> Machine<'a> {
     /// Takes the tokens of an expression, and answers those that follow.
     #[tactic(auto, unfolding(crate::specs::Internal::Machine::run))]
     fn run<'t>(&mut self, tokens: &'t [Token<'a>]) -> Result<&'t [Token<'a>], AllocError>
-        ensures { IfOk result (λ rest. spec.run (lexemes tokens.now) (state_of self.old) ≡ (state_of self.new, lexemes rest.now)) }
+        ensures { IfOk result (λ rest. spec.run (lexemes tokens.now) (state_of self.old)
+            ≡ (state_of self.new, lexemes rest.now)) }
     {
         let mut rest = tokens;
         while let [token, others @ ..] = rest {
@@ -94,7 +96,8 @@ impl<'a> Machine<'a> {
     /// Takes a token, and answers whether it belongs to the expression.
     #[tactic(auto, unfolding(crate::specs::Internal::Machine::step))]
     fn step(&mut self, token: &Token<'a>) -> Result<bool, AllocError>
-        ensures { IfOk result (λ belongs. spec.step (state_of self.old) token.now.kind token.now.slice.now ≡ (belongs, state_of self.new)) }
+        ensures { IfOk result (λ belongs. spec.step (state_of self.old) token.now.kind
+            token.now.slice.now ≡ (belongs, state_of self.new)) }
     {
         match self.awaited {
             Awaited::Operand => self.operand(token),
@@ -105,7 +108,9 @@ impl<'a> Machine<'a> {
 
     /// Takes a token where an operand may come.
     fn operand(&mut self, token: &Token<'a>) -> Result<bool, AllocError>
-        ensures { IfOk result (λ belongs. spec.on_operand (spec.operand_of token.now.kind token.now.slice.now) token.now.kind (state_of self.old) ≡ (belongs, state_of self.new)) }
+        ensures { IfOk result (λ belongs. spec.on_operand
+            (spec.operand_of token.now.kind token.now.slice.now) token.now.kind (state_of self.old)
+            ≡ (belongs, state_of self.new)) }
     {
         if let Some(item) = operand_of(token) {
             put_item(&mut self.output, item)?;
@@ -122,7 +127,8 @@ impl<'a> Machine<'a> {
 
     /// Takes a token after the name of a function.
     fn parenthesis(&mut self, function: Function, kind: TokenKind) -> Result<bool, AllocError>
-        ensures { IfOk result (λ belongs. spec.on_left (spec.is_left kind) function (state_of self.old) ≡ (belongs, state_of self.new)) }
+        ensures { IfOk result (λ belongs. spec.on_left (spec.is_left kind) function
+            (state_of self.old) ≡ (belongs, state_of self.new)) }
     {
         if !is_left(kind) {
             return Ok(false);
@@ -134,7 +140,8 @@ impl<'a> Machine<'a> {
 
     /// Takes a token where an operator may come.
     fn operator(&mut self, kind: TokenKind) -> Result<bool, AllocError>
-        ensures { IfOk result (λ belongs. spec.on_operator (spec.operator_of kind) kind (state_of self.old) ≡ (belongs, state_of self.new)) }
+        ensures { IfOk result (λ belongs. spec.on_operator (spec.operator_of kind) kind
+            (state_of self.old) ≡ (belongs, state_of self.new)) }
     {
         if let Some(operator) = operator_of(kind) {
             release(bound(operator), &mut self.output, &mut self.pending)?;
@@ -150,7 +157,8 @@ impl<'a> Machine<'a> {
 
     /// Closes a parenthesis, and answers whether one was open.
     fn close(&mut self) -> Result<bool, AllocError>
-        ensures { IfOk result (λ belongs. spec.on_right true (state_of self.old) ≡ (belongs, state_of self.new)) }
+        ensures { IfOk result (λ belongs. spec.on_right true (state_of self.old)
+            ≡ (belongs, state_of self.new)) }
     {
         release(1, &mut self.output, &mut self.pending)?;
         self.awaited = Awaited::Operator;
@@ -171,7 +179,8 @@ impl<'a> Machine<'a> {
     /// The items of the expression, if it is whole.
     #[tactic(auto, unfolding(crate::specs::Internal::Machine::finished))]
     fn finish(self) -> Result<Vec<Item<'a>>, StepError>
-        ensures { Gives (λ items. map entry items.items) result (spec.finished (state_of self.entry)) }
+        ensures { Gives (λ items. map entry items.items) result
+            (spec.finished (state_of self.entry)) }
     {
         let Machine {
             awaited,
@@ -196,7 +205,8 @@ fn release(
     output: &mut Vec<Item<'_>>,
     pending: &mut Vec<Pending>,
 ) -> Result<(), AllocError>
-    ensures { OnOk result (spec.release bound (map entry output.old.items) (reverse pending.old.items) ≡ (map entry output.new.items, reverse pending.new.items)) }
+    ensures { OnOk result (spec.release bound (map entry output.old.items)
+        (reverse pending.old.items) ≡ (map entry output.new.items, reverse pending.new.items)) }
 {
     while let Some(last) = pending.last() {
         let Some(item) = released(bound, *last) else {
@@ -210,7 +220,8 @@ fn release(
 
 /// Adds an item.
 fn put_item<'a>(output: &mut Vec<Item<'a>>, item: Item<'a>) -> Result<(), AllocError>
-    ensures { OnOk result (map entry output.new.items ≡ map entry output.old.items ++ entry item.entry ∷ []) }
+    ensures { OnOk result (map entry output.new.items
+        ≡ map entry output.old.items ++ entry item.entry ∷ []) }
 {
     output.push(item)?;
     Ok(())

@@ -25,15 +25,21 @@ use std::alloc::{AllocError, Global};
 /// runs out.
 pub fn parse<'a>(alloc: Global, tokens: &[Token<'a>]) -> Result<Program<'a>, ParseError>
     // What is answered is what the tokens say.
-    ensures found { IfOk result (λ program. IsProgram (lexemes tokens.now) (statements_of program)) }
+    ensures found { IfOk result (λ program. IsProgram (lexemes tokens.now)
+        (statements_of program)) }
     ensures shallow { OnOk result (too_deep (lexemes tokens.now) ≡ None) }
     // What the tokens say is answered, unless memory runs out.
-    ensures only { (statements : List Placed) → IsProgram (lexemes tokens.now) statements → too_deep (lexemes tokens.now) ≡ None → AnswersProgram statements result }
+    ensures only { (statements : List Placed) → IsProgram (lexemes tokens.now) statements
+        → too_deep (lexemes tokens.now) ≡ None → AnswersProgram statements result }
     // Which fault it is, both ways.
-    ensures deep { (at : ℕ) → result ≡ Err (ParseError.TooDeep at) → too_deep (lexemes tokens.now) ≡ Some at }
-    ensures only_deep { (at : ℕ) → too_deep (lexemes tokens.now) ≡ Some at → AnswersFault (ParseError.TooDeep at) result }
-    ensures syntax { (at : ℕ) → result ≡ Err (ParseError.Syntax at) → (too_deep (lexemes tokens.now) ≡ None) × IsSyntaxFault (lexemes tokens.now) at }
-    ensures only_syntax { (at : ℕ) → IsSyntaxFault (lexemes tokens.now) at → too_deep (lexemes tokens.now) ≡ None → AnswersFault (ParseError.Syntax at) result }
+    ensures deep { (at : ℕ) → result ≡ Err (ParseError.TooDeep at)
+        → too_deep (lexemes tokens.now) ≡ Some at }
+    ensures only_deep { (at : ℕ) → too_deep (lexemes tokens.now) ≡ Some at
+        → AnswersFault (ParseError.TooDeep at) result }
+    ensures syntax { (at : ℕ) → result ≡ Err (ParseError.Syntax at)
+        → (too_deep (lexemes tokens.now) ≡ None) × IsSyntaxFault (lexemes tokens.now) at }
+    ensures only_syntax { (at : ℕ) → IsSyntaxFault (lexemes tokens.now) at
+        → too_deep (lexemes tokens.now) ≡ None → AnswersFault (ParseError.Syntax at) result }
 {
     program(alloc, tokens)
 }

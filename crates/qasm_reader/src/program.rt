@@ -42,7 +42,7 @@ pub enum StatementKind<'a> {
     /// `gate name(parameters) qubits { body }`
     Gate(GateDeclaration<'a>),
     /// `opaque name(parameters) qubits;`
-    Opaque(OpaqueDeclaration<'a>),
+    Opaque(GateHeading<'a>),
     /// `if (register == value) operation`
     If {
         /// The register's name.
@@ -61,19 +61,15 @@ pub enum StatementKind<'a> {
 /// The declaration of a gate.
 #[derive(Drop)]
 pub struct GateDeclaration<'a> {
-    /// Its name.
-    pub name: &'a [u8],
-    /// The names of its parameters.
-    pub parameters: Vec<&'a [u8]>,
-    /// The names of its qubits.
-    pub qubits: Vec<&'a [u8]>,
+    /// What stands before its body.
+    pub heading: GateHeading<'a>,
     /// Its body.
     pub body: Vec<BodyStatement<'a>>,
 }
 
-/// The declaration of a gate without a body.
+/// What the declaration of a gate says before its body. An opaque gate has no more.
 #[derive(Drop)]
-pub struct OpaqueDeclaration<'a> {
+pub struct GateHeading<'a> {
     /// Its name.
     pub name: &'a [u8],
     /// The names of its parameters.

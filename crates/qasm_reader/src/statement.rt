@@ -1,16 +1,16 @@
 //! Statements, and the statements of gates' bodies.
 
-ghost use Rattle.std.specs.Prelude.{◌≡◌, map};
+ghost use Rattle.std.specs.Prelude.{◌≡◌};
 ghost use Rattle.qasm_lexer.specs.Tokens.{lexemes};
 ghost use Rattle.qasm_reader.specs.Views.{action, body_sentence, sentence};
-ghost use Rattle.qasm_reader.specs.Internal.Taking.{Gives};
+ghost use Rattle.qasm_reader.specs.Internal.Taking.{Gives, heading_of};
 ghost use Rattle.qasm_reader.specs.Internal.Taking as spec;
 
 use crate::arguments::{
     angles, argument, arguments, gate_name, identifier, identifiers, natural, parameters,
 };
 use crate::program::{
-    Application, BodyApplication, BodyStatement, GateDeclaration, OpaqueDeclaration, Operation,
+    Application, BodyApplication, BodyStatement, GateDeclaration, GateHeading, Operation,
     StatementKind,
 };
 use crate::step_error::StepError;
@@ -24,7 +24,8 @@ pub(crate) fn statement<'t, 'a>(
     alloc: Global,
     tokens: &'t [Token<'a>],
 ) -> Result<(StatementKind<'a>, &'t [Token<'a>]), StepError>
-    ensures { Gives (λ x. (sentence x.0, lexemes x.1.now)) result (spec.statement (lexemes tokens.now)) }
+    ensures { Gives (λ x. (sentence x.0, lexemes x.1.now)) result
+        (spec.statement (lexemes tokens.now)) }
 {
     let [first, rest @ ..] = tokens else {
         return Err(StepError::Misfit);
@@ -38,7 +39,10 @@ pub(crate) fn statement<'t, 'a>(
         TokenKind::Opaque => opaque(alloc, rest),
         TokenKind::If => conditional(alloc, rest),
         TokenKind::Barrier => barrier(alloc, rest),
-        _ => act(alloc, tokens),
+        _ => {
+            let (operation, rest) = operation(alloc, tokens)?;
+            Ok((StatementKind::Operation(operation), rest))
+        }
     }
 }
 
@@ -47,7 +51,8 @@ pub(crate) fn statement<'t, 'a>(
 fn version<'t, 'a>(
     tokens: &'t [Token<'a>],
 ) -> Result<(StatementKind<'a>, &'t [Token<'a>]), StepError>
-    ensures { Gives (λ x. (sentence x.0, lexemes x.1.now)) result (spec.version (lexemes tokens.now)) }
+    ensures { Gives (λ x. (sentence x.0, lexemes x.1.now)) result
+        (spec.version (lexemes tokens.now)) }
 {
     let (real, rest) = text(tokens, TokenKind::Real)?;
     let rest = expect(rest, TokenKind::Semicolon)?;
@@ -59,7 +64,8 @@ fn version<'t, 'a>(
 fn include<'t, 'a>(
     tokens: &'t [Token<'a>],
 ) -> Result<(StatementKind<'a>, &'t [Token<'a>]), StepError>
-    ensures { Gives (λ x. (sentence x.0, lexemes x.1.now)) result (spec.include (lexemes tokens.now)) }
+    ensures { Gives (λ x. (sentence x.0, lexemes x.1.now)) result
+        (spec.include (lexemes tokens.now)) }
 {
     let (name, rest) = text(tokens, TokenKind::Text)?;
     let rest = expect(rest, TokenKind::Semicolon)?;
@@ -71,7 +77,8 @@ fn include<'t, 'a>(
 fn register<'t, 'a>(
     tokens: &'t [Token<'a>],
 ) -> Result<((&'a [u8], &'a [u8]), &'t [Token<'a>]), StepError>
-    ensures { Gives (λ x. ((x.0.0.now, x.0.1.now), lexemes x.1.now)) result (spec.register (lexemes tokens.now)) }
+    ensures { Gives (λ x. ((x.0.0.now, x.0.1.now), lexemes x.1.now)) result
+        (spec.register (lexemes tokens.now)) }
 {
     let (name, rest) = identifier(tokens)?;
     let inside = expect(rest, TokenKind::LeftBracket)?;
@@ -85,7 +92,8 @@ fn register<'t, 'a>(
 fn qubit_register<'t, 'a>(
     tokens: &'t [Token<'a>],
 ) -> Result<(StatementKind<'a>, &'t [Token<'a>]), StepError>
-    ensures { Gives (λ x. (sentence x.0, lexemes x.1.now)) result (spec.qubit_register (lexemes tokens.now)) }
+    ensures { Gives (λ x. (sentence x.0, lexemes x.1.now)) result
+        (spec.qubit_register (lexemes tokens.now)) }
 {
     let ((name, size), rest) = register(tokens)?;
     Ok((StatementKind::QubitRegister { name, size }, rest))
@@ -95,7 +103,8 @@ fn qubit_register<'t, 'a>(
 fn bit_register<'t, 'a>(
     tokens: &'t [Token<'a>],
 ) -> Result<(StatementKind<'a>, &'t [Token<'a>]), StepError>
-    ensures { Gives (λ x. (sentence x.0, lexemes x.1.now)) result (spec.bit_register (lexemes tokens.now)) }
+    ensures { Gives (λ x. (sentence x.0, lexemes x.1.now)) result
+        (spec.bit_register (lexemes tokens.now)) }
 {
     let ((name, size), rest) = register(tokens)?;
     Ok((StatementKind::BitRegister { name, size }, rest))
@@ -106,20 +115,35 @@ fn bit_register<'t, 'a>(
 fn heading<'t, 'a>(
     alloc: Global,
     tokens: &'t [Token<'a>],
-) -> Result<(OpaqueDeclaration<'a>, &'t [Token<'a>]), StepError>
-    ensures { Gives (λ x. ((x.0.name.now, (map (λ name. name.now) x.0.parameters.items, map (λ name. name.now) x.0.qubits.items)), lexemes x.1.now)) result (spec.heading (lexemes tokens.now)) }
+) -> Result<(GateHeading<'a>, &'t [Token<'a>]), StepError>
+    ensures { Gives (λ x. (heading_of x.0, lexemes x.1.now)) result
+        (spec.heading (lexemes tokens.now)) }
 {
     let (name, rest) = identifier(tokens)?;
     let (parameters, rest) = parameters(alloc, rest)?;
     let (qubits, rest) = identifiers(alloc, rest)?;
     Ok((
-        OpaqueDeclaration {
+        GateHeading {
             name,
             parameters,
             qubits,
         },
         rest,
     ))
+}
+
+/// The name, the parameters and the qubits of a gate that is declared, and the brace behind them.
+#[tactic(auto, unfolding(crate::specs::Internal::Taking::opening))]
+pub(crate) fn opening<'t, 'a>(
+    alloc: Global,
+    tokens: &'t [Token<'a>],
+) -> Result<(GateHeading<'a>, &'t [Token<'a>]), StepError>
+    ensures { Gives (λ x. (heading_of x.0, lexemes x.1.now)) result
+        (spec.opening (lexemes tokens.now)) }
+{
+    let (heading, rest) = heading(alloc, tokens)?;
+    let inside = expect(rest, TokenKind::LeftBrace)?;
+    Ok((heading, inside))
 }
 
 /// What follows `gate`.
@@ -130,17 +154,15 @@ fn gate<'t, 'a>(
 ) -> Result<(StatementKind<'a>, &'t [Token<'a>]), StepError>
     ensures { Gives (λ x. (sentence x.0, lexemes x.1.now)) result (spec.gate (lexemes tokens.now)) }
 {
-    let (head, rest) = heading(alloc, tokens)?;
-    let (body, rest) = block(alloc, rest)?;
-    Ok((
-        StatementKind::Gate(GateDeclaration {
-            name: head.name,
-            parameters: head.parameters,
-            qubits: head.qubits,
-            body,
-        }),
-        rest,
-    ))
+    let (heading, mut rest) = opening(alloc, tokens)?;
+    let mut body = Vec::new(alloc);
+    while !is_next(rest, TokenKind::RightBrace) {
+        let (statement, end) = body_statement(alloc, rest)?;
+        body.push(statement)?;
+        rest = end;
+    }
+    let end = expect(rest, TokenKind::RightBrace)?;
+    Ok((StatementKind::Gate(GateDeclaration { heading, body }), end))
 }
 
 /// What follows `opaque`.
@@ -149,7 +171,8 @@ fn opaque<'t, 'a>(
     alloc: Global,
     tokens: &'t [Token<'a>],
 ) -> Result<(StatementKind<'a>, &'t [Token<'a>]), StepError>
-    ensures { Gives (λ x. (sentence x.0, lexemes x.1.now)) result (spec.opaque (lexemes tokens.now)) }
+    ensures { Gives (λ x. (sentence x.0, lexemes x.1.now)) result
+        (spec.opaque (lexemes tokens.now)) }
 {
     let (head, rest) = heading(alloc, tokens)?;
     let rest = expect(rest, TokenKind::Semicolon)?;
@@ -161,7 +184,8 @@ fn opaque<'t, 'a>(
 fn condition<'t, 'a>(
     tokens: &'t [Token<'a>],
 ) -> Result<((&'a [u8], &'a [u8]), &'t [Token<'a>]), StepError>
-    ensures { Gives (λ x. ((x.0.0.now, x.0.1.now), lexemes x.1.now)) result (spec.condition (lexemes tokens.now)) }
+    ensures { Gives (λ x. ((x.0.0.now, x.0.1.now), lexemes x.1.now)) result
+        (spec.condition (lexemes tokens.now)) }
 {
     let inside = expect(tokens, TokenKind::LeftParenthesis)?;
     let (register, rest) = identifier(inside)?;
@@ -177,7 +201,8 @@ fn conditional<'t, 'a>(
     alloc: Global,
     tokens: &'t [Token<'a>],
 ) -> Result<(StatementKind<'a>, &'t [Token<'a>]), StepError>
-    ensures { Gives (λ x. (sentence x.0, lexemes x.1.now)) result (spec.conditional (lexemes tokens.now)) }
+    ensures { Gives (λ x. (sentence x.0, lexemes x.1.now)) result
+        (spec.conditional (lexemes tokens.now)) }
 {
     let ((register, value), rest) = condition(tokens)?;
     let (operation, rest) = operation(alloc, rest)?;
@@ -197,22 +222,12 @@ fn barrier<'t, 'a>(
     alloc: Global,
     tokens: &'t [Token<'a>],
 ) -> Result<(StatementKind<'a>, &'t [Token<'a>]), StepError>
-    ensures { Gives (λ x. (sentence x.0, lexemes x.1.now)) result (spec.barrier (lexemes tokens.now)) }
+    ensures { Gives (λ x. (sentence x.0, lexemes x.1.now)) result
+        (spec.barrier (lexemes tokens.now)) }
 {
     let (qubits, rest) = arguments(alloc, tokens)?;
     let rest = expect(rest, TokenKind::Semicolon)?;
     Ok((StatementKind::Barrier(qubits), rest))
-}
-
-/// An operation as a statement.
-fn act<'t, 'a>(
-    alloc: Global,
-    tokens: &'t [Token<'a>],
-) -> Result<(StatementKind<'a>, &'t [Token<'a>]), StepError>
-    ensures { Gives (λ x. (sentence x.0, lexemes x.1.now)) result (spec.act (lexemes tokens.now)) }
-{
-    let (operation, rest) = operation(alloc, tokens)?;
-    Ok((StatementKind::Operation(operation), rest))
 }
 
 /// The operation on qubits at the start of the tokens, and what follows.
@@ -221,7 +236,8 @@ fn operation<'t, 'a>(
     alloc: Global,
     tokens: &'t [Token<'a>],
 ) -> Result<(Operation<'a>, &'t [Token<'a>]), StepError>
-    ensures { Gives (λ x. (action x.0, lexemes x.1.now)) result (spec.operation (lexemes tokens.now)) }
+    ensures { Gives (λ x. (action x.0, lexemes x.1.now)) result
+        (spec.operation (lexemes tokens.now)) }
 {
     let [first, rest @ ..] = tokens else {
         return Err(StepError::Misfit);
@@ -235,11 +251,12 @@ fn operation<'t, 'a>(
 
 /// The application of a gate.
 #[tactic(auto, unfolding(crate::specs::Internal::Taking::application))]
-fn application<'t, 'a>(
+pub(crate) fn application<'t, 'a>(
     alloc: Global,
     tokens: &'t [Token<'a>],
 ) -> Result<(Operation<'a>, &'t [Token<'a>]), StepError>
-    ensures { Gives (λ x. (action x.0, lexemes x.1.now)) result (spec.application (lexemes tokens.now)) }
+    ensures { Gives (λ x. (action x.0, lexemes x.1.now)) result
+        (spec.application (lexemes tokens.now)) }
 {
     let (gate, rest) = gate_name(tokens)?;
     let (angles, rest) = angles(alloc, rest)?;
@@ -258,7 +275,8 @@ fn application<'t, 'a>(
 /// What follows `measure`.
 #[tactic(auto, unfolding(crate::specs::Internal::Taking::measure))]
 fn measure<'t, 'a>(tokens: &'t [Token<'a>]) -> Result<(Operation<'a>, &'t [Token<'a>]), StepError>
-    ensures { Gives (λ x. (action x.0, lexemes x.1.now)) result (spec.measure (lexemes tokens.now)) }
+    ensures { Gives (λ x. (action x.0, lexemes x.1.now)) result
+        (spec.measure (lexemes tokens.now)) }
 {
     let (from, rest) = argument(tokens)?;
     let rest = expect(rest, TokenKind::Arrow)?;
@@ -277,32 +295,14 @@ fn reset<'t, 'a>(tokens: &'t [Token<'a>]) -> Result<(Operation<'a>, &'t [Token<'
     Ok((Operation::Reset(argument), rest))
 }
 
-/// The statements of a gate's body between its braces, and what follows.
-#[tactic(auto, unfolding(crate::specs::Internal::Taking::block))]
-fn block<'t, 'a>(
-    alloc: Global,
-    tokens: &'t [Token<'a>],
-) -> Result<(Vec<BodyStatement<'a>>, &'t [Token<'a>]), StepError>
-    ensures { Gives (λ x. (map body_sentence x.0.items, lexemes x.1.now)) result (spec.block (lexemes tokens.now)) }
-{
-    let mut statements = Vec::new(alloc);
-    let mut rest = expect(tokens, TokenKind::LeftBrace)?;
-    while !is_next(rest, TokenKind::RightBrace) {
-        let (next, end) = body_statement(alloc, rest)?;
-        statements.push(next)?;
-        rest = end;
-    }
-    let end = expect(rest, TokenKind::RightBrace)?;
-    Ok((statements, end))
-}
-
 /// The statement of a gate's body at the start of the tokens, and what follows.
 #[tactic(auto, unfolding(crate::specs::Internal::Taking::body_statement))]
-fn body_statement<'t, 'a>(
+pub(crate) fn body_statement<'t, 'a>(
     alloc: Global,
     tokens: &'t [Token<'a>],
 ) -> Result<(BodyStatement<'a>, &'t [Token<'a>]), StepError>
-    ensures { Gives (λ x. (body_sentence x.0, lexemes x.1.now)) result (spec.body_statement (lexemes tokens.now)) }
+    ensures { Gives (λ x. (body_sentence x.0, lexemes x.1.now)) result
+        (spec.body_statement (lexemes tokens.now)) }
 {
     match after(tokens, TokenKind::Barrier) {
         Some(rest) => body_barrier(alloc, rest),
@@ -315,7 +315,8 @@ fn body_barrier<'t, 'a>(
     alloc: Global,
     tokens: &'t [Token<'a>],
 ) -> Result<(BodyStatement<'a>, &'t [Token<'a>]), StepError>
-    ensures { Gives (λ x. (body_sentence x.0, lexemes x.1.now)) result (spec.body_barrier (lexemes tokens.now)) }
+    ensures { Gives (λ x. (body_sentence x.0, lexemes x.1.now)) result
+        (spec.body_barrier (lexemes tokens.now)) }
 {
     let (qubits, rest) = identifiers(alloc, tokens)?;
     let rest = expect(rest, TokenKind::Semicolon)?;
@@ -328,7 +329,8 @@ fn body_application<'t, 'a>(
     alloc: Global,
     tokens: &'t [Token<'a>],
 ) -> Result<(BodyStatement<'a>, &'t [Token<'a>]), StepError>
-    ensures { Gives (λ x. (body_sentence x.0, lexemes x.1.now)) result (spec.body_application (lexemes tokens.now)) }
+    ensures { Gives (λ x. (body_sentence x.0, lexemes x.1.now)) result
+        (spec.body_application (lexemes tokens.now)) }
 {
     let (gate, rest) = gate_name(tokens)?;
     let (angles, rest) = angles(alloc, rest)?;

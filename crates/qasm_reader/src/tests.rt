@@ -1,7 +1,10 @@
 //! What no clause says: that parsing succeeds with ample memory, that long expressions take neither stack nor much
 //! time, and worked examples.
 
-use crate::{Item, Operation, Operator, ParseError, Program, StatementKind, parse};
+use crate::{
+    BodyPart, BodyStatement, Item, Operation, Operator, ParseError, Part, Program, StatementKind,
+    next_in_body, next_part, parse,
+};
 use qasm_lexer::{LexError, Token, lex};
 use std::alloc::Global;
 use std::test::Fail;
@@ -118,6 +121,28 @@ fn each_form_of_statement_is_read(rt: HostRuntime) -> Result<(), Fail> {
             assert_eq!(rt; form_of(&statement.kind), form);
         }
     }
+    Ok(())
+}
+
+#[test]
+fn a_gate_is_read_part_by_part(rt: HostRuntime) -> Result<(), Fail> {
+    let alloc = rt.alloc();
+    let text = b"gate g a , b { h a ; barrier a , b ; CX a , b ; } g q , r ;";
+    let tokens = tokens_of(alloc, text)?;
+    let (part, mut rest) = next_part(alloc, &tokens)?.ok_or("no part")?;
+    assert!(rt; matches!(part, Part::Heading { place: 0, .. }));
+    for is_barrier in [false, true, false] {
+        let (part, end) = next_in_body(alloc, rest)?.ok_or("no statement")?;
+        match part {
+            BodyPart::Statement(BodyStatement::Apply(_)) => assert!(rt; !is_barrier),
+            BodyPart::Statement(BodyStatement::Barrier(_)) => assert!(rt; is_barrier),
+            BodyPart::End => return Err("the body ends early".into()),
+        }
+        rest = end;
+    }
+    let (part, rest) = next_in_body(alloc, rest)?.ok_or("no brace")?;
+    assert!(rt; matches!(part, BodyPart::End));
+    assert_eq!(rt; rest.len(), 5);
     Ok(())
 }
 

@@ -103,7 +103,7 @@ calls-names symbols scope parameters qubits form (BodyApplied a ∷ body) h k l 
     ∙ ap (λ cs. record { called = called_for scope a.gate; angles = map (numbered form.parameters) a.angles; qubits = map (λ name. place_of name form.qubits) a.qubits } ∷ cs)
     (calls-names symbols scope parameters qubits form body h k l)
 
-gate_cause-none : (a b c d e : Bool) → gate_cause a b c d e ≡ None → (a ≡ false) × (b ≡ false) × (c ≡ false) × (d ≡ false) × (e ≡ false)
+pub gate_cause-none : (a b c d e : Bool) → gate_cause a b c d e ≡ None → (a ≡ false) × (b ≡ false) × (c ≡ false) × (d ≡ false) × (e ≡ false)
 gate_cause-none true b c d e h = absurd (cc)
 gate_cause-none false true c d e h = absurd (cc)
 gate_cause-none false false true d e h = absurd (cc)

@@ -1,5 +1,5 @@
 -- Expressions and their items in postfix order.
-use Rattle.std.proofs.Common.{◌≡◌, ℕ, ◌+◌, Bool, true, false, ◌||◌, not, if◌then◌else◌, List, [], ◌∷◌, ◌++◌, map, Option, Some, refl, sym, ap, ◌∙◌, append_assoc, append-nil}
+use Rattle.std.proofs.Common.{◌≡◌, ℕ, ◌+◌, Bool, true, false, ◌||◌, not, if◌then◌else◌, List, [], ◌∷◌, ◌++◌, map, Option, Some, refl, sym, ap, ap₂, subst, ◌∙◌, append_assoc, append-nil}
 use Rattle.std.specs.List.{list_any, position_from}
 use Rattle.std.specs.Option.{is_some}
 use Rattle.std.specs.Str.{bytes_eq}
@@ -7,16 +7,17 @@ use Rattle.std.proofs.Math.Bool.{or-false}
 use Rattle.std.proofs.lemmas.List.{map-append}
 use Rattle.std.proofs.lemmas.List.Folds.{list_any-append}
 use Rattle.qasm_angle.specs.Trees as tree
+use Rattle.qasm_angle.specs.declared.expression.ExprItem.{ExprItem}
 use Rattle.qasm_angle.specs.declared.expression.ExprItem.TheVariants as step
 use Rattle.qasm_reader.specs.declared.expression.Operator.{Operator}
 use Rattle.qasm_reader.specs.declared.expression.Operator.TheVariants.{Add, Subtract, Multiply, Divide, Power}
-use Rattle.qasm_reader.specs.Postfix.{Entry, NegateEntry, BinaryEntry, CallEntry, postfix, push_entries, formula_of, first_or_pi}
+use Rattle.qasm_reader.specs.Postfix.{Entry, NegateEntry, BinaryEntry, CallEntry, postfix, push_entries, formula_of, first_or_pi, IsPostfix}
 use Rattle.qasm_reader.specs.Syntax.{Formula, Number, Pi, Name, Negate, Binary, Call}
 use Rattle.qasm_scope.specs.Angles.{is_power, is_unsupported, binary}
 use Rattle.qasm_scope.specs.declared.places.Places.{Places}
-use Rattle.qasm_scope.specs.Internal.Entries.{is_unsupported_entry, place_in, has_no_place, operator_of, step_of, has_unplaced, placed, ArePlaces}
+use Rattle.qasm_scope.specs.Internal.Entries.{is_unsupported_entry, place_in, has_no_place, is_other_entry, operator_of, step_of, has_unplaced, placed, AreSteps, IsPlaced, ArePlaces}
 use Rattle.qasm_scope.specs.Faults.{has_other_name}
-use Rattle.qasm_scope.proofs.Tests.{or-first, or-second}
+use Rattle.qasm_scope.proofs.Tests.{or-first, or-second, any_or}
 
 push-postfix : (f : Formula) (entries : List Entry) (operands : List Formula) → push_entries (postfix f ++ entries) operands ≡ push_entries entries (f ∷ operands)
 push-postfix (Number text) entries operands = refl
@@ -77,6 +78,20 @@ unplaced-items places (Binary operator f g) =
 unplaced-items places (Call function f) =
     list_any-append (has_no_place places) (postfix f) (CallEntry function ∷ []) ∙ or-end (list_any (has_no_place places) (postfix f)) false ∙ unplaced-items places f
 
+-- the same of items that are known to be those of an expression
+pub unsupported-entries : (entries : List Entry) → IsPostfix entries → list_any is_unsupported_entry entries ≡ is_unsupported (formula_of entries)
+unsupported-entries entries p =
+    ap (list_any is_unsupported_entry) p.1 ∙ unsupported-items p.0 ∙ ap is_unsupported (sym (ap formula_of p.1 ∙ formula-postfix p.0))
+
+pub unplaced-entries : (places : Places) (entries : List Entry) → IsPostfix entries → list_any (has_no_place places) entries ≡ has_unplaced places (formula_of entries)
+unplaced-entries places entries p =
+    ap (list_any (has_no_place places)) p.1 ∙ unplaced-items places p.0 ∙ ap (has_unplaced places) (sym (ap formula_of p.1 ∙ formula-postfix p.0))
+
+pub other-entries : (places : Places) (entries : List Entry) → IsPostfix entries
+    → list_any (is_other_entry places) entries ≡ (is_unsupported (formula_of entries) || has_unplaced places (formula_of entries))
+other-entries places entries p =
+    any_or is_unsupported_entry (has_no_place places) entries ∙ ap₂ ◌||◌ (unsupported-entries entries p) (unplaced-entries places entries p)
+
 binary-steps : (operator : Operator) (a b : tree.Tree) → is_power operator ≡ false
     → tree.postfix a ++ tree.postfix b ++ step.Binary (operator_of operator) ∷ [] ≡ tree.postfix (binary operator a b)
 binary-steps Add a b h = refl
@@ -99,6 +114,19 @@ placed-steps places (Binary operator f g) h =
     ∙ ap (λ steps. tree.postfix (placed places f) ++ steps) (placed-steps places g (or-second _ _ h)))
     ∙ binary-steps operator (placed places f) (placed places g) (or-first _ _ (or-first _ _ h))
 placed-steps places (Call function f) h = absurd (cc)
+
+pub steps-placed : (places : Places) (entries : List Entry) (steps : List ExprItem) → IsPostfix entries → AreSteps places entries steps
+    → steps ≡ tree.postfix (placed places (formula_of entries))
+steps-placed places entries steps p r =
+    let e = ap formula_of p.1 ∙ formula-postfix p.0 in
+    let supported = or-first _ _ (sym (other-entries places entries p) ∙ r.none_other) in
+    r.same ∙ ap (map (step_of places)) p.1 ∙ placed-steps places p.0 (subst (λ f. is_unsupported f ≡ false) e supported) ∙ ap (λ f. tree.postfix (placed places f)) (sym e)
+
+pub IsPlaced-steps : (places : Places) (entries : List Entry) (steps : List ExprItem) (t : tree.Tree) → IsPostfix entries → AreSteps places entries steps
+    → t ≡ placed places (formula_of entries) → IsPlaced places (formula_of entries) t
+IsPlaced-steps places entries steps t p r e =
+    let clear = sym (other-entries places entries p) ∙ r.none_other in
+    record { supported = or-first _ _ clear; all_placed = or-second _ _ clear; same = e }
 
 is_some-place-at : (b : Bool) (i : ℕ) (o : Option ℕ) (rest : Bool) → is_some o ≡ rest → is_some (if b then Some i else o) ≡ (b || rest)
 is_some-place-at true i o rest h = refl

@@ -10,6 +10,7 @@ use Rattle.qasm_scope.specs.declared.causes.Cause.{Cause}
 use Rattle.qasm_scope.specs.declared.causes.Cause.TheVariants as cause
 use Rattle.qasm_scope.specs.Faults.{has_unsupported, has_name_twice, has_unknown, has_wrong_count, body_has_unknown, body_has_wrong_count, body_has_same_qubit, is_hidden, is_no_gate, is_in, has_other_name, has_other_shape, shape_in, shape_of, first_cause, wrong_in}
 use Rattle.qasm_scope.specs.HeaderGates.{first_gates, further_gates}
+use Rattle.qasm_scope.specs.Internal.Included.{AreFirstFaultless, AreFurtherFaultless}
 use Rattle.qasm_scope.specs.Meaning.{with_first, with_further}
 use Rattle.qasm_scope.specs.Scope.{Scope, Declaration, Gate, meaning_of, is_declared, is_taken, declared}
 use Rattle.qasm_scope.proofs.Symbols.{free-taken}
@@ -47,11 +48,6 @@ are_free scope (form ∷ forms) e =
     let p : (is_declared form.name scope ≡ false) × (list_any (λ form. is_declared form.name scope) forms ≡ false) =
     or_parts (is_declared form.name scope) (list_any (λ form. is_declared form.name scope) forms) e in
     (free-taken form.name scope p.0, are_free scope forms p.1)
-
--- each form is faultless in the scope after those before it
-abbrev pub AreFirstFaultless : List GateForm → Scope → Type 0
-AreFirstFaultless [] scope = Unit {0}
-AreFirstFaultless (form ∷ forms) scope = (wrong_in scope (DeclareGate form) ≡ None) × AreFirstFaultless forms (declared form.name (Gate form) ∷ scope)
 
 -- declared among those before it, a form's name is as free as in the scope before all, and nothing else is wrong with it
 abbrev AreFirstSound : Scope → Scope → List GateForm → Type 0
@@ -162,13 +158,6 @@ module _ (before after : Scope) (k : Keeps before after) where
 abbrev AreSound : Scope → List GateForm → Type 0
 AreSound scope [] = Unit {0}
 AreSound scope (form ∷ forms) = (list_all (knows scope) form.body ≡ true) × (wrong_but_name scope form ≡ None) × AreSound scope forms
-
--- each form whose name is free is faultless in the scope after those before it
-abbrev pub AreFurtherFaultless : List GateForm → Scope → Type 0
-AreFurtherFaultless [] scope = Unit {0}
-AreFurtherFaultless (form ∷ forms) scope =
-    (is_declared form.name scope ≡ false → wrong_in scope (DeclareGate form) ≡ None)
-    × AreFurtherFaultless forms (if is_declared form.name scope then scope else replaceable form ∷ scope)
 
 further_are : (before after : Scope) (forms : List GateForm) → AreSound before forms → Keeps before after → AreFurtherFaultless forms after
 further_are before after [] s k = tt

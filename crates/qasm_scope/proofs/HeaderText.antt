@@ -12,7 +12,7 @@ use Rattle.qasm_reader.specs.Depth.{most_open, open_after, too_deep_from}
 use Rattle.qasm_reader.specs.Grammar.{BeginsAt, IsProgram, IsStatement}
 use Rattle.qasm_reader.specs.Internal.Machine.{step, finished, run, take_entries, take_expression}
 use Rattle.qasm_reader.specs.Syntax.{GateForm, Sentence, DeclareGate, Placed}
-use Rattle.qasm_reader.specs.Internal.Taking.{◌>>=◌, same_kind, after, text, repeated, comma_items, comma_list, optional_list, identifiers, parameters, gate_name, angles, body_application, body_statement, body, block, heading, gate, statement}
+use Rattle.qasm_reader.specs.Internal.Taking.{◌>>=◌, same_kind, after, text, repeated, comma_items, comma_list, optional_list, identifiers, parameters, gate_name, angles, body_application, body_statement, body, heading, opening, gate, statement}
 use Rattle.qasm_reader.proofs.Statements.{statement_takes}
 use Rattle.qasm_reader.proofs.Steps.{bind_some}
 use Rattle.qasm_scope.specs.Header.{header_text}
@@ -161,7 +161,7 @@ AreRead (line ∷ lines) (form ∷ forms) =
     (ends_with_feed line ≡ true) × ((place : ℕ) → reading place line ≡ Some (DeclareGate form, [])) × AreRead lines forms
 
 lines_read : AreRead lines (first_gates ++ further_gates)
-unfolding step finished run take_entries take_expression same_kind after text repeated comma_items comma_list optional_list identifiers parameters gate_name angles body_application body_statement body block heading gate statement
+unfolding step finished run take_entries take_expression same_kind after text repeated comma_items comma_list optional_list identifiers parameters gate_name angles body_application body_statement body heading opening gate statement
 lines_read = (refl, λ place. refl, (refl, λ place. refl, (refl, λ place. refl, (refl, λ place. refl, (refl, λ place. refl, (refl, λ place. refl, (refl, λ place. refl, (refl, λ place. refl, (refl, λ place. refl, (refl, λ place. refl, (refl, λ place. refl, (refl, λ place. refl, (refl, λ place. refl, (refl, λ place. refl, (refl, λ place. refl, (refl, λ place. refl, (refl, λ place. refl, (refl, λ place. refl, (refl, λ place. refl, (refl, λ place. refl, (refl, λ place. refl, (refl, λ place. refl, (refl, λ place. refl, (refl, λ place. refl, (refl, λ place. refl, (refl, λ place. refl, (refl, λ place. refl, (refl, λ place. refl, (refl, λ place. refl, (refl, λ place. refl, (refl, λ place. refl, (refl, λ place. refl, (refl, λ place. refl, tt)))))))))))))))))))))))))))))))))
 
 are_lines : (place : ℕ) (lines : List (List ℕ)) (forms : List GateForm) → AreRead lines forms → AreLines place (concat lines) forms

@@ -17,12 +17,13 @@ use Rattle.qasm_scope.specs.declared.names.Names.{Names}
 use Rattle.qasm_scope.specs.Faults.{wrong_in, header_name}
 use Rattle.qasm_scope.specs.Header.{header_text}
 use Rattle.qasm_scope.specs.HeaderGates.{first_gates, further_gates}
-use Rattle.qasm_scope.specs.Internal.Included.{gate_in, gates_of, forms_of, any_declared_by, AreSoundFirst, AreSoundFurther}
-use Rattle.qasm_scope.specs.Internal.Kept.{Represents, IsSound, IsSoundGate, IsFresh, found}
+use Rattle.qasm_scope.specs.Internal.Begun.{IsFaultless}
+use Rattle.qasm_scope.specs.Internal.Included.{gate_in, gates_of, forms_of, any_declared_by, AreFirstFaultless, AreFurtherFaultless}
+use Rattle.qasm_scope.specs.Internal.Kept.{Represents, IsSound, found}
 use Rattle.qasm_scope.specs.Meaning.{with_first, with_further, with_header}
 use Rattle.qasm_scope.specs.Scope.{Scope, Gate, declared, is_declared}
 use Rattle.qasm_scope.proofs.CheckLemmas.{sound-from, list_any-same}
-use Rattle.qasm_scope.proofs.HeaderScope.{AreFirstFaultless, AreFurtherFaultless, first_faultless, further_faultless, replaceable}
+use Rattle.qasm_scope.proofs.HeaderScope.{first_faultless, further_faultless, replaceable}
 use Rattle.qasm_scope.proofs.HeaderText.{header_is_its_gates}
 use Rattle.qasm_scope.proofs.Symbols.{symbol-declared}
 
@@ -93,33 +94,18 @@ any-names names scope forms r =
     (λ form. ap is_some (r.same_symbols form.name) ∙ symbol-declared form.name scope)
 
 -- ---- declarations
--- faultless declarations are sound
-first-sound : (forms : List GateForm) (scope : Scope) → AreFirstFaultless forms scope → AreSoundFirst forms scope
-first-sound [] scope f = tt
-first-sound (form ∷ forms) scope f = (sound-from scope form f.0, first-sound forms (declared form.name (Gate form) ∷ scope) f.1)
-
-pub first_gates-sound : (scope : Scope) → list_any (λ form. is_declared form.name scope) first_gates ≡ false → AreSoundFirst first_gates scope
-first_gates-sound scope none = first-sound first_gates scope (first_faultless scope none)
-
-further-sound : (forms : List GateForm) (scope : Scope) → AreFurtherFaultless forms scope → AreSoundFurther forms scope
-further-sound [] scope f = tt
-further-sound (form ∷ forms) scope f =
-    (λ free. sound-from scope form (f.0 free), further-sound forms (if is_declared form.name scope then scope else replaceable form ∷ scope) f.1)
-
-pub further_gates-sound : (scope : Scope) → AreSoundFurther further_gates (with_first first_gates scope)
-further_gates-sound scope = further-sound further_gates (with_first first_gates scope) (further_faultless scope)
-
 -- the scope after an include is sound
-with_first-sound : (forms : List GateForm) (scope : Scope) → IsSound scope → AreSoundFirst forms scope → IsSound (with_first forms scope)
+with_first-sound : (forms : List GateForm) (scope : Scope) → IsSound scope → AreFirstFaultless forms scope → IsSound (with_first forms scope)
 with_first-sound [] scope sound f = sound
-with_first-sound (form ∷ forms) scope sound f = with_first-sound forms (declared form.name (Gate form) ∷ scope) (f.0, tt, sound) f.1
+with_first-sound (form ∷ forms) scope sound f =
+    with_first-sound forms (declared form.name (Gate form) ∷ scope) (sound-from scope form f.0, tt, sound) f.1
 
 with_further-at : (b : Bool) (form : GateForm) (scope : Scope) → is_declared form.name scope ≡ b → IsSound scope
-    → (is_declared form.name scope ≡ false → IsSoundGate scope form) → IsSound (if b then scope else replaceable form ∷ scope)
+    → (is_declared form.name scope ≡ false → wrong_in scope (DeclareGate form) ≡ None) → IsSound (if b then scope else replaceable form ∷ scope)
 with_further-at true form scope e sound f = sound
-with_further-at false form scope e sound f = (f e, e, sound)
+with_further-at false form scope e sound f = (sound-from scope form (f e), e, sound)
 
-with_further-sound : (forms : List GateForm) (scope : Scope) → IsSound scope → AreSoundFurther forms scope → IsSound (with_further forms scope)
+with_further-sound : (forms : List GateForm) (scope : Scope) → IsSound scope → AreFurtherFaultless forms scope → IsSound (with_further forms scope)
 with_further-sound [] scope sound f = sound
 with_further-sound (form ∷ forms) scope sound f =
     with_further-sound forms (if is_declared form.name scope then scope else replaceable form ∷ scope)
@@ -128,40 +114,40 @@ with_further-sound (form ∷ forms) scope sound f =
 pub with_header-sound : (scope : Scope) → IsSound scope → list_any (λ form. is_declared form.name scope) first_gates ≡ false → IsSound (with_header scope)
 unfolding with_header
 with_header-sound scope sound none =
-    with_further-sound further_gates (with_first first_gates scope) (with_first-sound first_gates scope sound (first_gates-sound scope none)) (further_gates-sound scope)
+    with_further-sound further_gates (with_first first_gates scope) (with_first-sound first_gates scope sound (first_faultless scope none)) (further_faultless scope)
 
 -- the names represent a scope that the gates left to declare bring to the one after all
 pub record FirstLeft (names : Names) (forms : List GateForm) (end : Scope) : Type 0 where
   pub scope : Scope
   pub represents : Represents names scope
-  pub sound : AreSoundFirst forms scope
+  pub faultless : AreFirstFaultless forms scope
   pub after : with_first forms scope ≡ end
 
 pub record FurtherLeft (names : Names) (forms : List GateForm) (end : Scope) : Type 0 where
   pub scope : Scope
   pub represents : Represents names scope
-  pub sound : AreSoundFurther forms scope
+  pub faultless : AreFurtherFaultless forms scope
   pub after : with_further forms scope ≡ end
 
 pub first-step : (before after : Names) (form : GateForm) (forms : List GateForm) (end : Scope)
-    → ((scope : Scope) → Represents before scope → IsSoundGate scope form → IsFresh form.name false scope → Represents after (declared form.name (Gate form) ∷ scope))
+    → ((scope : Scope) → Represents before scope → IsFaultless scope form false → Represents after (declared form.name (Gate form) ∷ scope))
     → FirstLeft before (form ∷ forms) end → FirstLeft after forms end
 first-step before after form forms end declares l = record {
   scope = declared form.name (Gate form) ∷ l.scope;
-  represents = declares l.scope l.represents l.sound.0 tt;
-  sound = l.sound.1;
+  represents = declares l.scope l.represents (record { right = l.faultless.0; fresh = tt });
+  faultless = l.faultless.1;
   after = l.after;
 }
 
 pub further-step : (before after : Names) (form : GateForm) (forms : List GateForm) (end : Scope) → is_some (found form.name before.symbols) ≡ false
-    → ((scope : Scope) → Represents before scope → IsSoundGate scope form → IsFresh form.name true scope → Represents after (replaceable form ∷ scope))
+    → ((scope : Scope) → Represents before scope → IsFaultless scope form true → Represents after (replaceable form ∷ scope))
     → FurtherLeft before (form ∷ forms) end → FurtherLeft after forms end
 further-step before after form forms end free declares l =
     let e : is_declared form.name l.scope ≡ false = sym (ap is_some (l.represents.same_symbols form.name) ∙ symbol-declared form.name l.scope) ∙ free in
     record {
       scope = replaceable form ∷ l.scope;
-      represents = declares l.scope l.represents (l.sound.0 e) e;
-      sound = subst (λ there. AreSoundFurther forms (if there then l.scope else replaceable form ∷ l.scope)) e l.sound.1;
+      represents = declares l.scope l.represents (record { right = l.faultless.0 e; fresh = e });
+      faultless = subst (λ there. AreFurtherFaultless forms (if there then l.scope else replaceable form ∷ l.scope)) e l.faultless.1;
       after = subst (λ there. with_further forms (if there then l.scope else replaceable form ∷ l.scope) ≡ end) e l.after;
     }
 
@@ -172,6 +158,6 @@ further-skip names form forms end there l =
     record {
       scope = l.scope;
       represents = l.represents;
-      sound = subst (λ there. AreSoundFurther forms (if there then l.scope else replaceable form ∷ l.scope)) e l.sound.1;
+      faultless = subst (λ there. AreFurtherFaultless forms (if there then l.scope else replaceable form ∷ l.scope)) e l.faultless.1;
       after = subst (λ there. with_further forms (if there then l.scope else replaceable form ∷ l.scope) ≡ end) e l.after;
     }

@@ -1,5 +1,5 @@
 -- Places of names in a list, and names that stand twice.
-use Rattle.std.proofs.Common.{◌≡◌, ℕ, suc, ◌+◌, ◌<◌, Bool, true, false, ◌||◌, if◌then◌else◌, List, [], ◌∷◌, ◌++◌, length, map, take, drop, get_or, Option, None, Some, refl, sym, ap, ◌∙◌, arith, add-one}
+use Rattle.std.proofs.Common.{◌≡◌, ℕ, suc, ◌+◌, ◌<◌, Bool, true, false, ◌||◌, if◌then◌else◌, List, [], ◌∷◌, ◌++◌, length, map, take, drop, get_or, Option, None, Some, refl, sym, ap, ap₂, ◌∙◌, arith, add-one}
 use Rattle.std.specs.Borrow.{Bor}
 use Rattle.std.specs.BTreeMap.{UpdatesBy}
 use Rattle.std.specs.Cmp.Lexicographic.{slice_cmp}
@@ -15,7 +15,7 @@ use Rattle.std.proofs.lemmas.Slice.Eq.{bytes_eq-Decides}
 use Rattle.qasm_scope.specs.declared.places.Places.{Places}
 use Rattle.qasm_scope.specs.Internal.Entries.{place_in, ArePlaces}
 use Rattle.qasm_scope.specs.Faults.{has_name_twice}
-use Rattle.qasm_scope.proofs.Tests.{or-first, or-second}
+use Rattle.qasm_scope.proofs.Tests.{or-first, or-second, or-first-of}
 use Rattle.qasm_scope.proofs.Formulas.{is_some-place}
 
 abbrev or_place : Option ℕ → Option ℕ → Option ℕ
@@ -143,6 +143,21 @@ pub any-drop : {A B : Type 0} (p : B → Bool) (f : A → B) (xs : List A) (i : 
     → list_any p (map f (drop i xs)) ≡ (p (f (get_or xs i d)) || list_any p (map f (drop (i + 1) xs)))
 any-drop p f xs i d h =
     ap (λ rest. list_any p (map f rest)) (drop-cons xs i d h) ∙ ap (λ n. p (f (get_or xs i d)) || list_any p (map f (drop n xs))) (sym (add-one i))
+
+-- an element that meets the test, or doesn't
+pub any-here : {A B : Type 0} (p : B → Bool) (f : A → B) (xs : List A) (i : ℕ) (d : A) → i < length xs → p (f (get_or xs i d)) ≡ true
+    → list_any p (map f (drop i xs)) ≡ true
+any-here p f xs i d h e = any-drop p f xs i d h ∙ ap (λ b. b || list_any p (map f (drop (i + 1) xs))) e
+
+pub any-next : {A B : Type 0} (p : B → Bool) (f : A → B) (xs : List A) (i : ℕ) (d : A) → i < length xs → p (f (get_or xs i d)) ≡ false
+    → list_any p (map f (drop i xs)) ≡ list_any p (map f (drop (i + 1) xs))
+any-next p f xs i d h e = any-drop p f xs i d h ∙ ap (λ b. b || list_any p (map f (drop (i + 1) xs))) e
+
+-- an element that meets one of two tests
+pub any-either : {A B : Type 0} (p q : B → Bool) (f : A → B) (xs : List A) (i : ℕ) (d : A) → i < length xs → (p (f (get_or xs i d)) || q (f (get_or xs i d))) ≡ true
+    → (list_any p (map f (drop i xs)) || list_any q (map f (drop i xs))) ≡ true
+any-either p q f xs i d h e = ap₂ ◌||◌ (any-drop p f xs i d h) (any-drop q f xs i d h)
+    ∙ or-first-of (p (f (get_or xs i d))) (q (f (get_or xs i d))) (list_any p (map f (drop (i + 1) xs))) (list_any q (map f (drop (i + 1) xs))) e
 
 pub map-map-more : {A B C : Type 0} (g : B → C) (f : A → B) (xs : List A) (i : ℕ) (d : A) → i < length xs
     → map g (map f (take (i + 1) xs)) ≡ map g (map f (take i xs)) ++ g (f (get_or xs i d)) ∷ []

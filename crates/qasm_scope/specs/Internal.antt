@@ -1,4 +1,6 @@
 -- What only private contracts and proofs cite: nobody has to read it to trust a promise of this crate.
+pub mod Bodies
+pub mod Begun
 pub mod Checks
 pub mod Entries
 pub mod Included

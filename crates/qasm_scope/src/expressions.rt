@@ -1,11 +1,11 @@
 //! Expressions with names resolved.
 
-ghost use Rattle.std.specs.Prelude.{◌≡◌, map, IfOk, false};
+ghost use Rattle.std.specs.Prelude.{◌≡◌, map, IfOk, IfSome, IfNone, true, if◌then◌else◌, None, Some};
 ghost use Rattle.std.specs.List.{list_any};
 ghost use Rattle.qasm_reader.specs.Items.{entry};
 ghost use Rattle.qasm_reader.specs.Postfix.{formula_of};
-ghost use Rattle.qasm_scope.specs.Angles.{is_unsupported};
-ghost use Rattle.qasm_scope.specs.Internal.Entries.{is_unsupported_entry, has_no_place, has_unplaced, placed, operator_of, step_of};
+ghost use Rattle.qasm_scope.specs.Angles.{is_power, is_unsupported};
+ghost use Rattle.qasm_scope.specs.Internal.Entries.{has_no_place, has_unplaced, has_other, any_other, is_other_entry, operator_of, IsStep, AreSteps, IsPlaced, ArePlaced};
 
 use crate::places::Places;
 use qasm_angle::{Expr, ExprItem, Literal, folded};
@@ -16,41 +16,19 @@ use std::alloc::{AllocError, Global};
 pub fn is_unsupported(expression: &Expression<'_>) -> bool
     ensures { result ≡ is_unsupported (formula_of expression.now) }
 {
-    has_unsupported_item(expression.items())
+    expression.items().iter().any(|item| matches!(
+        item,
+        Item::Binary(Operator::Power) | Item::Call(_)
+    ))
 }
 
 /// Whether one of the expressions holds `^` or a function.
 pub fn any_unsupported(expressions: &[Expression<'_>]) -> bool
     ensures { result ≡ list_any is_unsupported (map formula_of expressions.now) }
 {
-    for expression in expressions {
-        if is_unsupported(expression) {
-            return true;
-        }
-    }
-    false
-}
-
-/// Whether an item is `^` or a function.
-fn has_unsupported_item(items: &[Item<'_>]) -> bool
-    ensures { result ≡ list_any is_unsupported_entry (map entry items.now) }
-{
-    for item in items {
-        if is_unsupported_item(item) {
-            return true;
-        }
-    }
-    false
-}
-
-/// Whether the item is `^` or a function.
-fn is_unsupported_item(item: &Item<'_>) -> bool
-    ensures { result ≡ is_unsupported_entry (entry item.now) }
-{
-    match item {
-        Item::Binary(Operator::Power) | Item::Call(_) => true,
-        _ => false,
-    }
+    expressions
+        .iter()
+        .any(|expression| is_unsupported(expression))
 }
 
 /// Whether one of the expressions holds a name that isn't among these.
@@ -69,14 +47,7 @@ pub fn any_other_name<'a>(places: &Places<'a>, expressions: &[Expression<'a>]) -
 fn has_other_name<'a>(places: &Places<'a>, expression: &Expression<'a>) -> bool
     ensures { result ≡ has_unplaced places.now (formula_of expression.now) }
 {
-    has_other_item(places, expression.items())
-}
-
-/// Whether an item is another name than these.
-fn has_other_item<'a>(places: &Places<'a>, items: &[Item<'a>]) -> bool
-    ensures { result ≡ list_any (has_no_place places.now) (map entry items.now) }
-{
-    for item in items {
+    for item in expression.items() {
         if is_other_name(places, item) {
             return true;
         }
@@ -94,73 +65,89 @@ fn is_other_name<'a>(places: &Places<'a>, item: &Item<'a>) -> bool
     }
 }
 
-/// The expressions in numbered parameters; they hold no `^` and no function.
+/// The expressions in numbered parameters; none where one of them holds `^`, a function or another name than these.
 pub fn all_numbered<'a>(
     alloc: Global,
     places: &Places<'a>,
     expressions: &[Expression<'a>],
-) -> Result<Vec<Expr>, AllocError>
-    requires { list_any is_unsupported (map formula_of expressions.now) ≡ false }
-    ensures { IfOk result (λ exprs. exprs.items
-        ≡ map (placed places.now) (map formula_of expressions.now)) }
+) -> Result<Option<Vec<Expr>>, AllocError>
+    ensures some { IfOk result (λ found. IfSome found (λ exprs.
+        ArePlaced places.now (map formula_of expressions.now) exprs.items)) }
+    ensures none { IfOk result (λ found. IfNone found (
+        any_other places.now (map formula_of expressions.now) ≡ true)) }
 {
     let mut exprs = Vec::with_capacity(alloc, expressions.len())?;
     for expression in expressions {
-        exprs.push(numbered(alloc, places, expression)?)?;
+        let Some(expr) = numbered(alloc, places, expression)? else {
+            return Ok(None);
+        };
+        exprs.push(expr)?;
     }
-    Ok(exprs)
+    Ok(Some(exprs))
 }
 
-/// The expression in numbered parameters; it holds no `^` and no function.
+/// The expression in numbered parameters; none where it holds `^`, a function or another name than these.
 fn numbered<'a>(
     alloc: Global,
     places: &Places<'a>,
     expression: &Expression<'a>,
-) -> Result<Expr, AllocError>
-    requires { is_unsupported (formula_of expression.now) ≡ false }
-    ensures { IfOk result (λ expr. expr ≡ placed places.now (formula_of expression.now)) }
+) -> Result<Option<Expr>, AllocError>
+    ensures some { IfOk result (λ found. IfSome found (λ expr.
+        IsPlaced places.now (formula_of expression.now) expr)) }
+    ensures none { IfOk result (λ found. IfNone found (
+        has_other places.now (formula_of expression.now) ≡ true)) }
 {
-    let steps = steps(alloc, places, expression.items())?;
-    let expr = folded(alloc, Expr::new(steps))?;
-    Ok(expr)
+    match steps(alloc, places, expression.items())? {
+        Some(steps) => Ok(Some(folded(alloc, Expr::new(steps))?)),
+        None => Ok(None),
+    }
 }
 
-/// The steps that the items are.
+/// The steps that the items are; none where one of them is `^`, a function or another name than these.
 fn steps<'a>(
     alloc: Global,
     places: &Places<'a>,
     items: &[Item<'a>],
-) -> Result<Vec<ExprItem>, AllocError>
-    ensures { IfOk result (λ steps. steps.items ≡ map (step_of places.now) (map entry items.now)) }
+) -> Result<Option<Vec<ExprItem>>, AllocError>
+    ensures some { IfOk result (λ found. IfSome found (λ steps.
+        AreSteps places.now (map entry items.now) steps.items)) }
+    ensures none { IfOk result (λ found. IfNone found (
+        list_any (is_other_entry places.now) (map entry items.now) ≡ true)) }
 {
     let mut steps = Vec::with_capacity(alloc, items.len())?;
     for item in items {
-        steps.push(step(places, item))?;
+        let Some(step) = step(places, item) else {
+            return Ok(None);
+        };
+        steps.push(step)?;
     }
-    Ok(steps)
+    Ok(Some(steps))
 }
 
-/// The step that an item is; `^` and functions are none.
-fn step<'a>(places: &Places<'a>, item: &Item<'a>) -> ExprItem
-    ensures { result ≡ step_of places.now (entry item.now) }
+/// The step that an item is; none for `^`, functions and other names than these.
+fn step<'a>(places: &Places<'a>, item: &Item<'a>) -> Option<ExprItem>
+    ensures some { IfSome result (λ step. IsStep places.now (entry item.now) step) }
+    ensures none { IfNone result (is_other_entry places.now (entry item.now) ≡ true) }
 {
     match item {
-        Item::Number(text) => ExprItem::Number(Literal::read(text)),
-        Item::Pi | Item::Call(_) => ExprItem::Pi,
-        Item::Name(name) => ExprItem::Parameter(places.find(*name).unwrap_or(0)),
-        Item::Negate => ExprItem::Negate,
-        Item::Binary(operator) => ExprItem::Binary(operator_of(*operator)),
+        Item::Number(text) => Some(ExprItem::Number(Literal::read(text))),
+        Item::Pi => Some(ExprItem::Pi),
+        Item::Name(name) => places.find(*name).map(ExprItem::Parameter),
+        Item::Negate => Some(ExprItem::Negate),
+        Item::Binary(operator) => operator_of(*operator).map(ExprItem::Binary),
+        Item::Call(_) => None,
     }
 }
 
 /// The operation on angles; `^` is none.
-fn operator_of(operator: Operator) -> qasm_angle::Operator
-    ensures { result ≡ operator_of operator }
+fn operator_of(operator: Operator) -> Option<qasm_angle::Operator>
+    ensures { result ≡ (if is_power operator then None else Some (operator_of operator)) }
 {
     match operator {
-        Operator::Add => qasm_angle::Operator::Add,
-        Operator::Subtract => qasm_angle::Operator::Subtract,
-        Operator::Multiply | Operator::Power => qasm_angle::Operator::Multiply,
-        Operator::Divide => qasm_angle::Operator::Divide,
+        Operator::Add => Some(qasm_angle::Operator::Add),
+        Operator::Subtract => Some(qasm_angle::Operator::Subtract),
+        Operator::Multiply => Some(qasm_angle::Operator::Multiply),
+        Operator::Divide => Some(qasm_angle::Operator::Divide),
+        Operator::Power => None,
     }
 }

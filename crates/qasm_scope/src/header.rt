@@ -1,23 +1,23 @@
 //! The header that `include "qelib1.inc";` stands for.
 
 ghost use Rattle.std.specs.Prelude.{◌≡◌, ◌++◌, ◌∷◌, IfOk, OnOk, false, true, None, Some, Err, map};
-ghost use Rattle.std.specs.List.{list_any};
 ghost use Rattle.std.specs.Option.{option_map};
 ghost use Rattle.std.specs.Str.{bytes_eq};
 ghost use Rattle.qasm_lexer.specs.Tokens.{IsCut, lexemes};
 ghost use Rattle.qasm_reader.specs.Syntax.{Include};
 ghost use Rattle.qasm_reader.specs.Views.{gate_form, sentence, statements_of};
 ghost use Rattle.qasm_scope.specs.declared.causes.Cause.{Cause};
-ghost use Rattle.qasm_scope.specs.Faults.{wrong_in, body_is_unsupported, header_name};
+ghost use Rattle.qasm_scope.specs.Faults.{wrong_in, header_name};
 ghost use Rattle.qasm_scope.specs.Header.{header_text};
 ghost use Rattle.qasm_scope.specs.HeaderGates.{first_gates, further_gates};
-ghost use Rattle.qasm_scope.specs.Internal.Included.{gate_in, gates_of, forms_of, any_unsupported, any_declared_by, AreSoundFirst, AreSoundFurther};
-ghost use Rattle.qasm_scope.specs.Internal.Kept.{Represents, IsSoundGate, IsFresh};
+ghost use Rattle.qasm_scope.specs.Internal.Begun.{IsFaultless};
+ghost use Rattle.qasm_scope.specs.Internal.Included.{gate_in, gates_of, forms_of, any_declared_by, AreFirstFaultless, AreFurtherFaultless};
+ghost use Rattle.qasm_scope.specs.Internal.Kept.{Represents, gate_declaration};
 ghost use Rattle.qasm_scope.specs.Meaning.{with_first, with_further, with_header};
-ghost use Rattle.qasm_scope.specs.Scope.{Scope, Gate};
+ghost use Rattle.qasm_scope.specs.Scope.{Scope};
 
 use crate::causes::Cause;
-use crate::declarations::{Formals, declare};
+use crate::gate_in_progress::GateInProgress;
 use crate::names::Names;
 use crate::statement_error::StatementError;
 use qasm_lexer::{LexError, Token, lex};
@@ -193,7 +193,7 @@ fn any_declared<'a>(names: &Names<'a>, gates: &[GateDeclaration<'a>]) -> bool
     ensures { result ≡ any_declared_by names.now.symbols (forms_of gates.now) }
 {
     for gate in gates {
-        if names.is_declared(gate.name) {
+        if names.is_declared(gate.heading.name) {
             return true;
         }
     }
@@ -206,13 +206,12 @@ fn declare_first<'a>(
     names: &mut Names<'a>,
     gates: &[GateDeclaration<'a>],
 ) -> Result<(), AllocError>
-    requires supported { any_unsupported (forms_of gates.now) ≡ false }
     ensures { OnOk result ((scope : Scope) → Represents names.old scope
-        → AreSoundFirst (forms_of gates.now) scope
+        → AreFirstFaultless (forms_of gates.now) scope
         → Represents names.new (with_first (forms_of gates.now) scope)) }
 {
     for gate in gates {
-        declare_sound(alloc, names, gate, false)?;
+        declare(alloc, names, gate, false)?;
     }
     Ok(())
 }
@@ -223,31 +222,29 @@ fn declare_further<'a>(
     names: &mut Names<'a>,
     gates: &[GateDeclaration<'a>],
 ) -> Result<(), AllocError>
-    requires supported { any_unsupported (forms_of gates.now) ≡ false }
     ensures { OnOk result ((scope : Scope) → Represents names.old scope
-        → AreSoundFurther (forms_of gates.now) scope
+        → AreFurtherFaultless (forms_of gates.now) scope
         → Represents names.new (with_further (forms_of gates.now) scope)) }
 {
     for gate in gates {
-        if !names.is_declared(gate.name) {
-            declare_sound(alloc, names, gate, true)?;
+        if !names.is_declared(gate.heading.name) {
+            declare(alloc, names, gate, true)?;
         }
     }
     Ok(())
 }
 
-/// Declares a gate that nothing is wrong with.
-fn declare_sound<'a>(
+/// Declares a gate with whose declaration nothing is wrong.
+fn declare<'a>(
     alloc: Global,
     names: &mut Names<'a>,
     gate: &GateDeclaration<'a>,
     replaceable: bool,
 ) -> Result<(), AllocError>
-    requires supported { list_any body_is_unsupported (gate_form gate.now).body ≡ false }
     ensures { OnOk result ((scope : Scope) → Represents names.old scope
-        → IsSoundGate scope (gate_form gate.now) → IsFresh gate.now.name.now replaceable scope
-        → Represents names.new (record { name = gate.now.name.now; meaning = Gate (gate_form gate.now); replaceable = replaceable } ∷ scope)) }
+        → IsFaultless scope (gate_form gate.now) replaceable
+        → Represents names.new (gate_declaration (gate_form gate.now) replaceable ∷ scope)) }
 {
-    let formals = Formals::new(alloc, gate)?;
-    declare(alloc, names, &formals, gate, replaceable)
+    let gate = GateInProgress::of_declaration(alloc, names, gate)?;
+    gate.declare_faultless(names, replaceable)
 }

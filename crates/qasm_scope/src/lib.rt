@@ -2,9 +2,12 @@
 #![tactic(auto)]
 
 pub mod bodies;
+pub mod body_faults;
 pub mod causes;
 pub mod declarations;
 pub mod expressions;
+pub mod formals;
+pub mod gate_in_progress;
 pub mod gates;
 pub mod header;
 pub mod laws;

@@ -1,15 +1,14 @@
 //! What names stand for.
 
-ghost use Rattle.std.specs.Prelude.{◌≡◌, ◌+◌, ◌≤◌, ◌∷◌, [], length, OnOk};
+ghost use Rattle.std.specs.Prelude.{◌≡◌, ◌+◌, ◌≤◌, ◌∷◌, [], OnOk, IfSome};
 ghost use Rattle.zx_gates.specs.Circuit.{most_qubits};
-ghost use Rattle.qasm_reader.specs.Syntax.{GateForm};
 ghost use Rattle.qasm_reader.specs.Views.{callee};
-ghost use Rattle.std.specs.Option.{is_some};
-ghost use Rattle.qasm_scope.specs.Internal.Checks.{shape_by, called_by};
-ghost use Rattle.qasm_scope.specs.Internal.Kept.{Represents, IsSoundGate, IsFresh, found, number_in, kept_body, kept_calls, symbol_taken, symbol_shape, symbol_register};
-ghost use Rattle.qasm_scope.specs.Scope.{Scope, Qubits, Bits, Gate, declared, qubit_count};
+ghost use Rattle.std.specs.Option.{is_some, option_map};
+ghost use Rattle.qasm_scope.specs.Internal.Checks.{gate_shape, shape_by, called_by};
+ghost use Rattle.qasm_scope.specs.Internal.Kept.{Represents, DeclaresGate, found, number_in, kept_body, symbol_taken, symbol_shape, symbol_register};
+ghost use Rattle.qasm_scope.specs.Scope.{Scope, Qubits, Bits, declared, qubit_count};
 
-use crate::gates::{CalledGate, GateBody};
+use crate::gates::{CalledGate, GateBody, KnownGate};
 use qasm_reader::GateName;
 use std::alloc::{AllocError, Global};
 use std::collections::BTreeMap;
@@ -83,42 +82,24 @@ impl<'a> Names<'a> {
         is_taken(self.find(name))
     }
 
-    /// How many angles and qubits a gate has; none where there is no such gate.
-    pub fn shape(&self, gate: &GateName<'a>) -> Option<(usize, usize)>
-        ensures { result ≡ shape_by self.now.symbols (callee gate.now) }
+    /// The gate of a name, if there is one.
+    pub fn gate(&self, gate: &GateName<'a>) -> Option<KnownGate>
+        ensures shape { option_map gate_shape result ≡ shape_by self.now.symbols (callee gate.now) }
+        ensures called { IfSome result (λ known. known.called
+            ≡ called_by self.now.symbols (callee gate.now)) }
     {
         match gate {
-            GateName::U => Some((3, 1)),
-            GateName::Cx => Some((0, 2)),
-            GateName::Declared(name) => self.declared_shape(*name),
-        }
-    }
-
-    /// How many angles and qubits a declared gate has; none where there is no such gate.
-    fn declared_shape(&self, name: &'a [u8]) -> Option<(usize, usize)>
-        ensures { result ≡ symbol_shape (found name.now self.now.symbols) }
-    {
-        shape(self.find(name))
-    }
-
-    /// The gate of a name.
-    pub fn called(&self, gate: &GateName<'a>) -> CalledGate
-        ensures { result ≡ called_by self.now.symbols (callee gate.now) }
-    {
-        match gate {
-            GateName::U => CalledGate::U,
-            GateName::Cx => CalledGate::Cx,
-            GateName::Declared(name) => CalledGate::Gate(self.number(*name)),
-        }
-    }
-
-    /// The number of a gate.
-    fn number(&self, name: &'a [u8]) -> usize
-        ensures { result ≡ number_in (found name.now self.now.symbols) }
-    {
-        match self.find(name) {
-            Some(Symbol::Gate { number, .. }) => number,
-            _ => 0,
+            GateName::U => Some(KnownGate {
+                called: CalledGate::U,
+                angles: 3,
+                qubits: 1,
+            }),
+            GateName::Cx => Some(KnownGate {
+                called: CalledGate::Cx,
+                angles: 0,
+                qubits: 2,
+            }),
+            GateName::Declared(name) => declared_gate(self.find(*name)),
         }
     }
 
@@ -159,11 +140,8 @@ impl<'a> Names<'a> {
         body: GateBody,
         replaceable: bool,
     ) -> Result<(), AllocError>
-        ensures { OnOk result ((scope : Scope) (form : GateForm) → Represents self.old scope
-            → name.now ≡ form.name → angles ≡ length form.parameters
-            → qubits ≡ length form.qubits → kept_body body ≡ kept_calls scope form form.body
-            → IsSoundGate scope form → IsFresh form.name replaceable scope
-            → Represents self.new (record { name = form.name; meaning = Gate form; replaceable = replaceable } ∷ scope)) }
+        ensures { OnOk result (DeclaresGate self.old self.new name.now angles qubits
+            (kept_body body) replaceable) }
     {
         let number = self.gates.len();
         self.gates.push(body)?;
@@ -191,12 +169,24 @@ fn is_taken(symbol: Option<Symbol>) -> bool
     }
 }
 
-/// How many angles and qubits a gate has.
-fn shape(symbol: Option<Symbol>) -> Option<(usize, usize)>
-    ensures { result ≡ symbol_shape symbol }
+/// The declared gate that a name stands for.
+fn declared_gate(symbol: Option<Symbol>) -> Option<KnownGate>
+    ensures shape { option_map gate_shape result ≡ symbol_shape symbol }
+    ensures called { IfSome result (λ known. known.called ≡ CalledGate.Gate (number_in symbol)) }
 {
     match symbol {
-        Some(Symbol::Gate { angles, qubits, .. }) => Some((angles, qubits)),
+        Some(
+            Symbol::Gate {
+                number,
+                angles,
+                qubits,
+                ..
+            },
+        ) => Some(KnownGate {
+            called: CalledGate::Gate(number),
+            angles,
+            qubits,
+        }),
         _ => None,
     }
 }

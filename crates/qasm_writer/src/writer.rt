@@ -19,7 +19,8 @@ use zx_model::Eighth;
 #[tactic(auto, unfolding(crate::specs::Written::written))]
 pub fn write_text(alloc: Global, g: &GateList) -> Result<Vec<u8>, AllocError>
     ensures text { IfOk result (λ text. text.items ≡ written g.now) }
-    ensures means { IfOk result (λ text. TextMeans text.items g.now.qubits (elements_of g.now.gates)) }
+    ensures means { IfOk result (λ text. TextMeans text.items g.now.qubits
+        (elements_of g.now.gates)) }
 {
     let mut text = Vec::new(alloc);
     text.extend_from_slice(b"OPENQASM 2.0;\ninclude \"qelib1.inc\";\n")?;

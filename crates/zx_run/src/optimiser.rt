@@ -31,7 +31,8 @@ pub fn optimise(alloc: Global, read: &GateList, best: bool) -> Result<GateList, 
     ensures qubits { IfOk result (λ made. made.qubits ≡ read.now.qubits) }
     ensures map { IfOk result (λ made.
         Proportional read.now.qubits read.now.qubits (amp read.now.gates) (amp made.gates)) }
-    ensures odd { IfOk result (λ made. gate_odd_phases made.gates ≤ gate_odd_phases read.now.gates) }
+    ensures odd { IfOk result (λ made. gate_odd_phases made.gates ≤ gate_odd_phases
+        read.now.gates) }
     ensures tidy { IfOk result (λ made. IsTidy made.gates) }
     ensures few_gates { IfOk result (λ made. length made.gates ≤ bound_of read.now) }
     ensures reduced { IfOk result (IsThroughReduced read.now) }

@@ -42,7 +42,8 @@ fn report_if(
     read: &GateList,
     made: &GateList,
 ) -> Result<Vec<u8>, AllocError>
-    ensures { IfOk result (λ lines. lines.items ≡ report_if reported read.now.gates made.now.gates) }
+    ensures { IfOk result (λ lines. lines.items
+        ≡ report_if reported read.now.gates made.now.gates) }
 {
     if !reported {
         return Ok(Vec::new(alloc));

@@ -129,7 +129,8 @@ fn output_of<'a, S: Source>(
 ) -> Result<Vec<u8>, Status>
     ensures unread { ¬ IsOpt (command_in words.now) → source.new ≡ source.old }
     ensures made { IfOk result (λ output. IsMade (command_in words.now)
-        (told_source S.left S.faults source.old) (told_source S.left S.faults source.new) output.items) }
+        (told_source S.left S.faults source.old) (told_source S.left S.faults source.new)
+        output.items) }
     ensures failure { IfErr result (IsFailure (command_in words.now)
         (told_source S.left S.faults source.old) (told_source S.left S.faults source.new)) }
 {
@@ -157,7 +158,8 @@ fn output_of_opt<S: Source>(
     source: &mut S,
 ) -> Result<Vec<u8>, Status>
     ensures made { IfOk result (λ output. IsMade (Some (Optimise best report))
-        (told_source S.left S.faults source.old) (told_source S.left S.faults source.new) output.items) }
+        (told_source S.left S.faults source.old) (told_source S.left S.faults source.new)
+        output.items) }
     ensures failure { IfErr result (IsFailure (Some (Optimise best report))
         (told_source S.left S.faults source.old) (told_source S.left S.faults source.new)) }
 {

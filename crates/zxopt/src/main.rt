@@ -28,7 +28,8 @@ fn run_on_streams(rt: &HostRuntime) -> Result<Status, NoRun> {
 
 /// The texts of the words, each whole.
 fn texts_of(alloc: Global, words: &[String]) -> Result<Vec<&str>, AllocError>
-    ensures { IfOk result (λ texts. map (λ text. text.now) texts.items ≡ map string_bytes words.now) }
+    ensures { IfOk result (λ texts. map (λ text. text.now) texts.items
+        ≡ map string_bytes words.now) }
 {
     let mut texts = Vec::with_capacity(alloc, words.len())?;
     for word in words {

@@ -1,15 +1,18 @@
 -- What a circuit that takes in statements keeps, and what its answer says of them: a private matter of the program.
-use Rattle.std.specs.Prelude.{◌≡◌, ℕ, List, [], ◌++◌, None, Some, Result, Ok, Err}
+use Rattle.std.specs.Prelude.{◌≡◌, ℕ, List, [], ◌∷◌, ◌++◌, Option, None, Some, Result, Ok, Err}
 use Rattle.zx_gates.specs.declared.elementary.Elementary.{Elementary}
 use Rattle.zx_gates.specs.declared.elementary.ElementaryGate.{ElementaryGate}
-use Rattle.qasm_reader.specs.Syntax.{Placed}
+use Rattle.qasm_reader.specs.Syntax.{DeclareGate, GateForm, Placed}
 use Rattle.qasm_inline.specs.declared.circuit.Circuit.{Circuit}
+use Rattle.qasm_inline.specs.declared.circuit.OpenGate.{OpenGate}
 use Rattle.qasm_inline.specs.declared.circuit.Stage.{Stage}
 use Rattle.qasm_inline.specs.declared.circuit.Stage.TheVariants.{Empty, Open, Stopped}
 use Rattle.qasm_inline.specs.declared.error.InlineError.{InlineError}
 use Rattle.qasm_inline.specs.declared.error.InlineError.TheVariants.{Fault, NoMemory}
 use Rattle.qasm_inline.specs.declared.unroll.Unrolled.{Unrolled}
+use Rattle.qasm_scope.specs.declared.gate_in_progress.GateInProgress.{GateInProgress}
 use Rattle.qasm_scope.specs.declared.names.Names.{Names}
+use Rattle.qasm_scope.specs.Internal.Begun.{IsBegun}
 use Rattle.qasm_scope.specs.Internal.Kept.{Represents}
 use Rattle.qasm_scope.specs.Meaning.{first_fault, fault_after, gates_after, most_calls, scope_after}
 use Rattle.qasm_scope.specs.Scope.{Scope, qubit_count}
@@ -51,3 +54,17 @@ HasTakenAt (Stopped NoMemory) program names unrolled = Unit {0}
 -- the circuit has taken in these statements
 abbrev pub HasTaken : Circuit → List Placed → Type 0
 HasTaken circuit program = HasTakenAt circuit.stage program circuit.names circuit.unrolled
+
+-- the declaration of this gate, at this place
+abbrev pub gate_at : ℕ → GateForm → Placed
+gate_at place form = record { place = place; sentence = DeclareGate form }
+
+-- Behind these statements a gate of this form so far is begun at this place. Where nothing is kept of it, the circuit is that
+-- of whatever its form may be.
+abbrev pub HasBegunAs : Option GateInProgress → Circuit → List Placed → ℕ → GateForm → Type 0
+HasBegunAs (Some gate) circuit program place form = IsOpen program circuit.names circuit.unrolled × IsBegun circuit.names gate form
+HasBegunAs None circuit program place form = (any : GateForm) → HasTaken circuit (program ++ gate_at place any ∷ [])
+
+-- the circuit has taken in these statements, and of a gate behind them the heading and what its body has so far
+abbrev pub HasBegun : Circuit → OpenGate → List Placed → GateForm → Type 0
+HasBegun circuit gate program form = HasBegunAs gate.kept circuit program gate.place form

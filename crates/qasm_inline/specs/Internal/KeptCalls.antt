@@ -1,6 +1,5 @@
 -- What calls of kept gates come to: a private matter of the program. It is what calls by name come to.
-use Rattle.std.specs.Prelude.{◌≡◌, ℕ, ◌+◌, ◌==◌, Bool, false, if◌then◌else◌, List, [], ◌∷◌, ◌++◌, length, map, Option, None, Some, Result, Ok, Err, slice_get, slice_index_or}
-use Rattle.std.specs.Prelude.{Vec}
+use Rattle.std.specs.Prelude.{◌≡◌, ℕ, ◌+◌, ◌≤◌, ◌==◌, Bool, false, if◌then◌else◌, List, [], ◌∷◌, ◌++◌, length, map, reverse, take, drop, Option, None, Some, Result, Ok, Err, slice_get, slice_index_or}
 use Rattle.zx_gates.specs.declared.elementary.ElementaryGate.{ElementaryGate}
 use Rattle.qasm_angle.specs.declared.angle.Angle.{Angle}
 use Rattle.qasm_angle.specs.Trees.{Tree}
@@ -11,6 +10,7 @@ use Rattle.qasm_scope.specs.declared.gates.GateCall.{GateCall}
 use Rattle.qasm_scope.specs.declared.gates.CalledGate.{CalledGate}
 use Rattle.qasm_scope.specs.declared.gates.CalledGate.TheVariants as called_gate
 use Rattle.qasm_inline.specs.declared.unroll.Frame.{Frame}
+use Rattle.qasm_inline.specs.declared.unroll.Heights.{Heights}
 use Rattle.qasm_inline.specs.declared.unroll.Unrolled.{Unrolled}
 use Rattle.qasm_scope.specs.Meaning.{most_calls}
 use Rattle.qasm_scope.specs.Angles.{in_prefix, with_cause}
@@ -59,21 +59,56 @@ pub record Unrolls (gates : List GateBody) (numbered : Numbered) : Type 0 where
   pub each : (number depth : ℕ) (angles : List Angle) (qubits : List ℕ)
       → numbered number depth angles qubits ≡ calls_events numbered depth angles qubits (calls_of (slice_get gates number))
 
--- what is left of the gates on a stack, the last one first; the first one has this depth
-abbrev pub stack_events : Numbered → ℕ → List Frame → List Event
-stack_events numbered depth [] = []
-stack_events numbered depth (f ∷ frames) =
-    stack_events numbered (depth + 1) frames ++ calls_events numbered depth f.angles.items f.qubits.items f.calls.now
+-- the calls of a gate on the stack that are left
+abbrev pub calls_left : List GateBody → Frame → List GateCall
+calls_left gates f = drop f.next (calls_of (slice_get gates f.gate))
 
--- what is left where a gate is on top of the stack
-abbrev pub left_events : Numbered → Frame → List Frame → List Event
-left_events numbered f frames =
-    calls_events numbered (1 + length frames) f.angles.items f.qubits.items f.calls.now ++ stack_events numbered 1 frames
+-- What is left of the gates on the stack, the top one first: its angles and qubits lie on top of those of the others.
+abbrev pub stack_events : Numbered → List GateBody → List Frame → List Angle → List ℕ → List Event
+stack_events numbered gates [] angles qubits = []
+stack_events numbered gates (f ∷ below) angles qubits =
+    calls_events numbered (1 + length below)
+    (drop f.base.angles angles) (drop f.base.qubits qubits) (calls_left gates f)
+    ++ stack_events numbered gates below (take f.base.angles angles) (take f.base.qubits qubits)
 
--- what is left where a gate is called above the stack
-abbrev pub entered_events : Numbered → CalledGate → List Angle → List ℕ → List Frame → List Event
-entered_events numbered called angles qubits frames =
-    expand_called numbered called (1 + length frames) angles qubits ++ stack_events numbered 1 frames
+-- the parts of the gates on the stack lie one behind the other, up to so many angles and qubits
+abbrev pub AreStacked : List Frame → ℕ → ℕ → Type 0
+AreStacked [] angles qubits = Unit {0}
+AreStacked (f ∷ below) angles qubits =
+    (f.base.angles ≤ angles) × (f.base.qubits ≤ qubits) × AreStacked below f.base.angles f.base.qubits
+
+-- so they do, with the top one first, on the stacks as they are
+abbrev pub IsStacked : List Frame → Unrolled → Type 0
+IsStacked frames unrolled =
+    AreStacked frames (length unrolled.angles.items) (length unrolled.qubits.items)
+
+-- the gates on the stack, the top one first
+abbrev pub frames_of : Unrolled → List Frame
+frames_of unrolled = reverse unrolled.frames.items
+
+-- what is left where these gates are on the stack, the top one first
+abbrev pub left_events : List GateBody → List Frame → Unrolled → Numbered → List Event
+left_events gates frames unrolled numbered =
+    stack_events numbered gates frames unrolled.angles.items unrolled.qubits.items
+
+-- what is left where a gate is called with all that lies above a base
+abbrev pub entered_events : List GateBody → CalledGate → Heights → Unrolled → Numbered → List Event
+entered_events gates called base unrolled numbered =
+    expand_called numbered called (1 + length (frames_of unrolled))
+    (drop base.angles unrolled.angles.items) (drop base.qubits unrolled.qubits.items)
+    ++ stack_events numbered gates (frames_of unrolled)
+    (take base.angles unrolled.angles.items) (take base.qubits unrolled.qubits.items)
+
+-- what a gate comes to that is called with all that lies on the stacks
+abbrev pub first_events : CalledGate → Unrolled → Numbered → List Event
+first_events called unrolled numbered =
+    expand_called numbered called 1 unrolled.angles.items unrolled.qubits.items
+
+-- what lies on the stacks above a base begins where the gates on the stack end
+pub record IsBase (base : Heights) (unrolled : Unrolled) : Type 0 where
+  pub angles_within : base.angles ≤ length unrolled.angles.items
+  pub qubits_within : base.qubits ≤ length unrolled.qubits.items
+  pub stacked : AreStacked (frames_of unrolled) base.angles base.qubits
 
 -- From so many calls and these gates the events lead to what the others lead to from there.
 pub record Continues (most : ℕ) (calls : ℕ) (gates : List ElementaryGate) (events : List Event)
@@ -87,19 +122,34 @@ abbrev pub ComesTo : Unrolled → List Event → Unrolled → List Event → Typ
 ComesTo unrolled events later later_events =
     Continues most_calls unrolled.calls unrolled.gates events later.calls later.gates later_events
 
+-- so they do for each way to unroll calls by number in which each gate is its body
+abbrev pub Leads : List GateBody → Unrolled → (Numbered → List Event)
+    → Unrolled → (Numbered → List Event) → Type 0
+Leads gates unrolled events later later_events = (numbered : Numbered) → Unrolls gates numbered
+    → ComesTo unrolled (events numbered) later (later_events numbered)
+
 -- what is wrong first in the events from what is unrolled on
 abbrev pub wrong_from : Unrolled → List Event → Option Cause
 wrong_from unrolled events = first_wrong most_calls unrolled.calls events
+
+-- this is wrong first for each way to unroll calls by number in which each gate is its body
+abbrev pub StopsAt : List GateBody → Unrolled → (Numbered → List Event) → Cause → Type 0
+StopsAt gates unrolled events cause =
+    (numbered : Numbered) → Unrolls gates numbered → wrong_from unrolled (events numbered) ≡ Some cause
+
+-- nothing is left
+abbrev pub no_events : Numbered → List Event
+no_events numbered = []
+
+-- values behind those that are there
+abbrev pub followed : List Angle → Result (List Angle) Cause → Result (List Angle) Cause
+followed done (Ok more) = Ok (done ++ more)
+followed done (Err cause) = Err cause
 
 -- a gate that acts
 abbrev pub gate_events : Option ElementaryGate → List Event
 gate_events None = []
 gate_events (Some gate) = Applied gate ∷ []
-
--- the same angles without where they lie in memory
-abbrev pub given : {A : Type 0} → Result (Vec Angle A) Cause → Result (List Angle) Cause
-given (Ok angles) = Ok angles.items
-given (Err cause) = Err cause
 
 -- the declaration is that of the gate of this number, after so many gates
 abbrev pub is_numbered : ℕ → ℕ → Meaning → Bool

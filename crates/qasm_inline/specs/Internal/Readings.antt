@@ -1,35 +1,74 @@
 -- What the reader of a text keeps, and what its answer says of the text: a private matter of the program.
-use Rattle.std.specs.Prelude.{◌≡◌, ℕ, List, ◌++◌, drop, None, Some, Result, Ok, Err}
+use Rattle.std.specs.Prelude.{◌≡◌, ℕ, List, ◌++◌, drop, Option, None, Some, Result, Ok, Err}
+use Rattle.std.specs.Borrow.{Bor}
 use Rattle.zx_gates.specs.declared.elementary.Elementary.{Elementary}
 use Rattle.qasm_lexer.specs.declared.token.Token.{Token}
 use Rattle.qasm_lexer.specs.Tokens.{Lexeme, lexemes, IsCut, IsCutUpTo, IsBadByte}
+use Rattle.qasm_reader.specs.declared.parts.BodyPart.{BodyPart}
 use Rattle.qasm_reader.specs.declared.depth.Depth.{Depth}
 use Rattle.qasm_reader.specs.Depth.{too_deep}
 use Rattle.qasm_reader.specs.Grammar.{BeginsWithStatement, IsProgram, IsSyntaxFault}
 use Rattle.qasm_reader.specs.Internal.Depths.{IsDepth}
-use Rattle.qasm_reader.specs.Syntax.{Placed}
+use Rattle.qasm_reader.specs.Parts.{IsInBody, IsNextInBody}
+use Rattle.qasm_reader.specs.Syntax.{GateForm, Placed}
 use Rattle.qasm_scope.specs.Meaning.{first_fault, most_calls}
 use Rattle.qasm_scope.specs.Texts.{IsProgramText}
 use Rattle.qasm_inline.specs.declared.circuit.Circuit.{Circuit}
+use Rattle.qasm_inline.specs.declared.circuit.OpenGate.{OpenGate}
+use Rattle.qasm_inline.specs.declared.reading.Reading.{Reading}
 use Rattle.qasm_inline.specs.declared.error.ReadError.{ReadError}
 use Rattle.qasm_inline.specs.declared.error.ReadError.TheVariants.{BadByte, TooDeep, Syntax, Wrong, NoMemory}
-use Rattle.qasm_inline.specs.Internal.Circuits.{HasTaken, IsCircuitAnswer}
+use Rattle.qasm_inline.specs.Internal.Circuits.{HasBegun, HasTaken, IsCircuitAnswer}
 
--- statements were read off all tokens and taken in, up to the rest
-pub record AreTaken (all : List Lexeme) (circuit : Circuit) (rest : List Lexeme) : Type 0 where
+-- Of the tokens behind whole statements those before the rest were taken in: none, or in a gate's declaration that isn't over
+-- those of its heading and of its body so far.
+abbrev pub AreTakenAs : Option OpenGate → Circuit → List Placed → List Lexeme → List Lexeme → Type 0
+AreTakenAs None circuit statements behind rest = (behind ≡ rest) × HasTaken circuit statements
+AreTakenAs (Some gate) circuit statements behind rest =
+    (form : GateForm) × IsInBody gate.place form behind rest × HasBegun circuit gate statements form
+
+-- all tokens up to the rest were read and taken in
+pub record AreTaken (all : List Lexeme) (reading : Reading) (rest : List Lexeme) : Type 0 where
   pub before : List Lexeme
+  pub behind : List Lexeme
   pub statements : List Placed
-  pub same : all ≡ before ++ rest
+  pub same : all ≡ before ++ behind
   pub program : IsProgram before statements
-  pub taken : HasTaken circuit statements
+  pub taken : AreTakenAs reading.gate reading.circuit statements behind rest
 
--- the text is cut up to the place, and all statements are taken in up to these tokens, which no statement begins
-pub record IsReadUpTo (text : List ℕ) (place : ℕ) (depth : Depth) (tokens : List Token) (circuit : Circuit) : Type 0 where
+-- so they were, and those behind whole statements begin with no further one
+pub record AreAllTaken (all : List Lexeme) (reading : Reading) (rest : List Lexeme) : Type 0 where
+  pub read : AreTaken all reading rest
+  pub none : BeginsWithStatement read.behind → ⊥
+
+-- the same reading inside this gate's declaration
+abbrev pub inside : Reading → OpenGate → Reading
+inside reading gate = record reading { gate = Some gate }
+
+-- this is next in whatever gate's body the tokens are, whose declaration begins at this place
+abbrev pub IsNextOf : ℕ → List Lexeme → Option (BodyPart × Bor (List Token)) → Type 0
+IsNextOf place ts read = (form : GateForm) (behind : List Lexeme) → IsInBody place form behind ts → IsNextInBody place form behind read
+
+-- the later reading has taken in what stands between these tokens and the rest
+abbrev pub TakesIn : Reading → List Lexeme → Reading → List Lexeme → Type 0
+TakesIn reading ts later rest = (all : List Lexeme) → AreTaken all reading ts → AreTaken all later rest
+
+-- so many of these tokens were taken in next, or none, where no part begins them
+abbrev pub IsTakenNext : List Lexeme → Option ℕ → Reading → List Token → Type 0
+IsTakenNext all (Some count) reading tokens = AreTaken all reading (lexemes (drop count tokens))
+IsTakenNext all None reading tokens = AreAllTaken all reading (lexemes tokens)
+
+-- all tokens are statements that were taken in, or there is a syntax fault at this place
+abbrev pub IsEnd : List Lexeme → Circuit → Option ℕ → Type 0
+IsEnd all circuit (Some at) = IsSyntaxFault all at
+IsEnd all circuit None = (statements : List Placed) × IsProgram all statements × HasTaken circuit statements
+
+-- the text is cut up to the place, and all parts are taken in up to these tokens
+pub record IsReadUpTo (text : List ℕ) (place : ℕ) (depth : Depth) (tokens : List Token) (reading : Reading) : Type 0 where
   pub all : List Lexeme
   pub cut : IsCutUpTo 0 text (drop place text) all
   pub deep : IsDepth depth all
-  pub read : AreTaken all circuit (lexemes tokens)
-  pub none : BeginsWithStatement (lexemes tokens) → ⊥
+  pub read : AreAllTaken all reading (lexemes tokens)
 
 -- the circuit of a program, or its first fault
 abbrev pub IsProgramAnswer : List Placed → Result Elementary ReadError → Type 0

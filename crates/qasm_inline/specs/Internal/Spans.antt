@@ -1,22 +1,23 @@
 -- Arguments of applications by what names are kept as: a private matter of the program.
-use Rattle.std.specs.Prelude.{ℕ, ◌+◌, ◌-◌, ◌^◌, ◌==◌, Bool, false, not, ◌&&◌, ◌||◌, List, [], ◌∷◌, map, length, min, Option, None, Some, Result, nat_le, nat_lt}
+use Rattle.std.specs.Prelude.{ℕ, ◌+◌, ◌-◌, ◌^◌, ◌==◌, Bool, false, not, ◌&&◌, ◌||◌, if◌then◌else◌, ◌≡◌, List, [], ◌∷◌, map, length, min, Option, None, Some, Result, nat_le, nat_lt}
 use Rattle.std.specs.List.{flat_map, list_any, range_with_len}
 use Rattle.std.specs.Option.{is_some}
 use Rattle.qasm_reader.specs.Syntax.{Operand, Apply}
-use Rattle.qasm_scope.specs.Applications.{QubitRange, Single, Register, qubit_at, register_sizes, instance_count, instances, has_twice}
-use Rattle.qasm_scope.specs.Angles.{is_unsupported}
-use Rattle.qasm_scope.specs.Internal.Checks.{Symbols, shape_by, application_cause}
-use Rattle.qasm_scope.specs.Internal.Entries.{has_unplaced}
-use Rattle.qasm_scope.specs.Faults.{is_no_gate, has_other_shape, has_other_size}
+use Rattle.qasm_scope.specs.Applications.{QubitRange, Single, Register, qubit_at, register_sizes, instance_count}
+use Rattle.qasm_scope.specs.Angles.{is_unsupported, numbered}
+use Rattle.qasm_scope.specs.Internal.Checks.{Symbols, shape_by, called_by}
+use Rattle.qasm_scope.specs.Faults.{is_no_gate, has_other_name, has_other_shape}
 use Rattle.qasm_scope.specs.Internal.Kept.{found, symbol_register}
 use Rattle.qasm_scope.specs.Scope.{numeral}
+use Rattle.qasm_angle.specs.Trees.{Tree}
 use Rattle.qasm_angle.specs.declared.angle.Angle.{Angle}
 use Rattle.qasm_scope.specs.Calls.{Event}
 use Rattle.qasm_scope.specs.declared.gates.CalledGate.{CalledGate}
 use Rattle.qasm_inline.specs.declared.applications.Span.{Span}
-use Rattle.qasm_inline.specs.Internal.KeptCalls.{Numbered, called_events}
+use Rattle.qasm_inline.specs.Internal.KeptCalls.{Numbered, called_events, values_of}
 use Rattle.qasm_scope.specs.declared.causes.Cause.{Cause}
-use Rattle.qasm_scope.specs.declared.places.Places.{Places}
+use Rattle.qasm_scope.specs.declared.causes.Cause.TheVariants as cause
+use Rattle.qasm_angle.specs.Trees.{Tree}
 use Rattle.qasm_inline.specs.declared.applications.Span.TheVariants as span
 
 abbrev pub span_range : Span → QubitRange
@@ -36,6 +37,14 @@ past_in None index = false
 
 abbrev pub past_by : Symbols → Operand → Bool
 past_by symbols operand = past_in (register_by symbols operand) operand.index
+
+-- the argument is no register of qubits, nor one of the qubits that it has
+abbrev pub is_missing : Symbols → Operand → Bool
+is_missing symbols operand = no_register_by symbols operand || past_by symbols operand
+
+-- one of the arguments isn't
+abbrev pub any_missing : Symbols → List Operand → Bool
+any_missing symbols operands = list_any (is_missing symbols) operands
 
 -- sums past the largest number of the program are cut off there
 abbrev pub span_in : Option (ℕ × ℕ) → Option (List ℕ) → QubitRange
@@ -71,16 +80,59 @@ cut_instance ranges index = map (cut_qubit_at index) ranges
 abbrev pub cut_instances : List QubitRange → List (List ℕ)
 cut_instances ranges = map (cut_instance ranges) (range_with_len 0 (instance_count (register_sizes ranges)))
 
+-- what the call of a gate with these angles in the instance at an index comes to
+abbrev pub instance_events : CalledGate → List Tree → List Span → ℕ → Numbered → List Event
+instance_events called angles spans index numbered =
+    called_events numbered called 1 (values_of angles []) (cut_instance (map span_range spans) index)
+
 -- what the calls of a gate in all instances come to
 abbrev pub instances_events : Numbered → CalledGate → Result (List Angle) Cause → List QubitRange → List Event
 instances_events numbered called values ranges = flat_map (called_events numbered called 1 values) (cut_instances ranges)
 
--- what is wrong with an application, in which these are the places of parameters
-abbrev pub wrong_application_by : Symbols → Places → Apply → Option Cause
-wrong_application_by symbols parameters a = application_cause
-    (list_any is_unsupported a.angles)
-    (is_no_gate (shape_by symbols a.gate) || list_any (has_unplaced parameters) a.angles || list_any (no_register_by symbols) a.qubits)
-    (has_other_shape (shape_by symbols a.gate) (length a.angles) (length a.qubits))
-    (list_any (past_by symbols) a.qubits)
-    (has_other_size (register_sizes (map (span_by symbols) a.qubits)))
-    (list_any has_twice (instances (map (span_by symbols) a.qubits)))
+-- the argument is one, and this is what it stands for
+pub record IsSpan (symbols : Symbols) (operand : Operand) (range : QubitRange) : Type 0 where
+  pub a_register : no_register_by symbols operand ≡ false
+  pub within : past_by symbols operand ≡ false
+  pub same : range ≡ span_by symbols operand
+
+-- each argument is a register of qubits or one of the qubits that it has, and these are what they stand for
+pub record AreSpans (symbols : Symbols) (operands : List Operand) (ranges : List QubitRange) : Type 0 where
+  pub all_registers : list_any (no_register_by symbols) operands ≡ false
+  pub all_within : list_any (past_by symbols) operands ≡ false
+  pub same : ranges ≡ map (span_by symbols) operands
+
+-- a name in an application isn't known, or isn't what is needed there
+abbrev pub unknown_by : Symbols → Apply → Bool
+unknown_by symbols a =
+    is_no_gate (shape_by symbols a.gate) || list_any (has_other_name []) a.angles || list_any (no_register_by symbols) a.qubits
+
+abbrev pub wrong_count_by : Symbols → Apply → Bool
+wrong_count_by symbols a = has_other_shape (shape_by symbols a.gate) (length a.angles) (length a.qubits)
+
+-- an application is that of this gate with these angles to these qubits, its sizes and repeated qubits aside
+pub record IsResolved (symbols : Symbols) (a : Apply) (gate : CalledGate) (angles : List Tree) (ranges : List QubitRange) : Type 0 where
+  pub supported : list_any is_unsupported a.angles ≡ false
+  pub all_known : unknown_by symbols a ≡ false
+  pub same_counts : wrong_count_by symbols a ≡ false
+  pub within : list_any (past_by symbols) a.qubits ≡ false
+  pub same_gate : gate ≡ called_by symbols a.gate
+  pub same_angles : angles ≡ map (numbered []) a.angles
+  pub same_spans : ranges ≡ map (span_by symbols) a.qubits
+
+-- something in it isn't known, isn't supported, or isn't there
+abbrev pub is_unresolved : Symbols → Apply → Bool
+is_unresolved symbols a =
+    list_any is_unsupported a.angles || unknown_by symbols a || wrong_count_by symbols a || list_any (past_by symbols) a.qubits
+
+-- the first cause of one that isn't resolved
+abbrev pub unresolved_cause : Bool → Bool → Bool → Cause
+unresolved_cause unsupported unknown wrong_count =
+    if unsupported then cause.Unsupported else
+    if unknown then cause.Unknown else
+    if wrong_count then cause.WrongCount else cause.Index
+
+-- and of one that is
+abbrev pub resolved_cause : Bool → Bool → Option Cause
+resolved_cause sizes same_qubit =
+    if sizes then Some cause.Sizes else
+    if same_qubit then Some cause.SameQubit else None

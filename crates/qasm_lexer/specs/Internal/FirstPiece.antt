@@ -1,6 +1,6 @@
 -- What stands first in a text, found from its first bytes: what the private functions find. The contract of
 -- `lex` cites none of it.
-use Rattle.std.specs.Prelude.{ℕ, ◌+◌, Bool, not, ◌&&◌, ◌==◌, List, [], ◌∷◌, length, take, drop, Option, None, Some, if◌then◌else◌}
+use Rattle.std.specs.Prelude.{ℕ, ◌+◌, Bool, not, ◌&&◌, ◌||◌, ◌==◌, List, [], ◌∷◌, length, take, drop, Option, None, Some, if◌then◌else◌}
 use Rattle.std.specs.List.{prefix_len}
 use Rattle.qasm_lexer.specs.declared.first_piece.Sort.{Sort}
 use Rattle.qasm_lexer.specs.declared.first_piece.Sort.TheVariants.{Blank, Digits, Token}
@@ -69,6 +69,14 @@ sign_piece (a ∷ b ∷ rest) =
     if a == 47 && b == 47 then Some (Blank, prefix_len is_no_feed (a ∷ b ∷ rest))
     else two_or_one (kind_in signs (a ∷ b ∷ [])) (kind_in signs (a ∷ []))
 
+-- a byte that begins no sign of two bytes and no comment
+abbrev pub is_plain : ℕ → Bool
+is_plain b = not (b == 45 || b == 61 || b == 47)
+
+-- such a byte, where it is a sign
+abbrev pub plain_piece : ℕ → Option (Sort × ℕ)
+plain_piece b = as_token (kind_in signs (b ∷ [])) 1
+
 -- the first piece of a text: its sort and length; digits that no point follows count as one piece, though they
 -- are several where the first of them is 0
 abbrev pub first_piece : List ℕ → Option (Sort × ℕ)
@@ -78,7 +86,8 @@ first_piece (b ∷ rest) =
     if is_letter b then word_piece (b ∷ rest) else
     if is_digit b then Some (number_piece (b ∷ rest)) else
     if b == 46 then point_piece rest else
-    if b == 34 then text_piece rest else sign_piece (b ∷ rest)
+    if b == 34 then text_piece rest else
+    if is_plain b then plain_piece b else sign_piece (b ∷ rest)
 
 -- the naturals that digits are which no point follows: each 0 at the start alone, and the others together
 abbrev pub naturals : List ℕ → List (List ℕ)

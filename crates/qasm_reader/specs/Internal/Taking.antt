@@ -1,10 +1,11 @@
 -- What each step of the parser answers: what it reads at the start of the tokens and the tokens that follow, or none.
-use Rattle.std.specs.Prelude.{◌≡◌, ℕ, zero, suc, List, [], ◌∷◌, ◌++◌, length, Bool, Option, None, Some, Result, Ok, Err, if◌then◌else◌}
+use Rattle.std.specs.Prelude.{◌≡◌, ℕ, zero, suc, List, [], ◌∷◌, ◌++◌, length, map, Bool, Option, None, Some, Result, Ok, Err, if◌then◌else◌}
 use denote.Enum.Bare.{sameb}
 use Rattle.qasm_lexer.specs.contracts.token.TokenKind.{the_type}
 use Rattle.qasm_lexer.specs.declared.token.TokenKind.{TokenKind}
 use Rattle.qasm_lexer.specs.declared.token.TokenKind.TheVariants as kind
 use Rattle.qasm_lexer.specs.Tokens.{Lexeme}
+use Rattle.qasm_reader.specs.declared.program.GateHeading.{GateHeading}
 use Rattle.qasm_reader.specs.declared.step_error.StepError.{StepError}
 use Rattle.qasm_reader.specs.declared.step_error.StepError.TheVariants.{Misfit, NoMemory}
 use Rattle.qasm_reader.specs.Syntax.{Formula, Operand, Callee, Declared, U, Cx, Action, Applied, Measured, Reset, BodySentence, BodyApplied, BodyBarrier, Sentence, Version, Include, QubitRegister, BitRegister, DeclareGate, Opaque, If, Barrier, Act}
@@ -198,14 +199,6 @@ body_turn ts None = one_more (body_statement ts)
 unfoldable pub body : List Lexeme → Option (List BodySentence × List Lexeme)
 body = repeated (λ ts. body_turn ts (after kind.RightBrace ts))
 
--- between the braces
-unfoldable pub block : List Lexeme → Option (List BodySentence × List Lexeme)
-block ts = do
-  inside ← after kind.LeftBrace ts
-  found ← body inside
-  rest ← after kind.RightBrace found.1
-  Some (found.0, rest)
-
 -- ---- statements, after the first word
 
 unfoldable pub version : List Lexeme → Option (Sentence × List Lexeme)
@@ -241,18 +234,32 @@ bit_register ts = do
   Some (BitRegister r.0.0 r.0.1, r.1)
 
 -- name, parameters and qubits
-unfoldable pub heading : List Lexeme → Option ((List ℕ × (List (List ℕ) × List (List ℕ))) × List Lexeme)
+abbrev pub Heading : Type 0
+Heading = List ℕ × (List (List ℕ) × List (List ℕ))
+
+abbrev pub heading_of : GateHeading → Heading
+heading_of heading = (heading.name.now, (map (λ name. name.now) heading.parameters.items, map (λ name. name.now) heading.qubits.items))
+
+unfoldable pub heading : List Lexeme → Option (Heading × List Lexeme)
 heading ts = do
   name ← identifier ts
   parameters ← parameters name.1
   qubits ← identifiers parameters.1
   Some ((name.0, (parameters.0, qubits.0)), qubits.1)
 
+-- with the left brace behind it
+unfoldable pub opening : List Lexeme → Option (Heading × List Lexeme)
+opening ts = do
+  head ← heading ts
+  inside ← after kind.LeftBrace head.1
+  Some (head.0, inside)
+
 unfoldable pub gate : List Lexeme → Option (Sentence × List Lexeme)
 gate ts = do
-  head ← heading ts
-  body ← block head.1
-  Some (DeclareGate (record { name = head.0.0; parameters = head.0.1.0; qubits = head.0.1.1; body = body.0 }), body.1)
+  head ← opening ts
+  body ← body head.1
+  rest ← after kind.RightBrace body.1
+  Some (DeclareGate (record { name = head.0.0; parameters = head.0.1.0; qubits = head.0.1.1; body = body.0 }), rest)
 
 unfoldable pub opaque : List Lexeme → Option (Sentence × List Lexeme)
 opaque ts = do

@@ -12,12 +12,17 @@ use Rattle.qasm_scope.specs.Internal.Kept.{KeptCall, found, symbol_shape, symbol
 use Rattle.qasm_scope.specs.declared.causes.Cause.{Cause}
 use Rattle.qasm_scope.specs.declared.causes.Cause.TheVariants as cause
 use Rattle.qasm_scope.specs.declared.gates.CalledGate.{CalledGate}
+use Rattle.qasm_scope.specs.declared.gates.KnownGate.{KnownGate}
 use Rattle.qasm_scope.specs.declared.gates.CalledGate.TheVariants as called_gate
 use Rattle.qasm_scope.specs.declared.names.Symbol.{Symbol}
 use Rattle.qasm_scope.specs.declared.places.Places.{Places}
 
 abbrev pub Symbols : Type 0
 Symbols = BTreeMap (Bor (List ℕ)) Symbol
+
+-- how many angles and qubits a gate has
+abbrev pub gate_shape : KnownGate → ℕ × ℕ
+gate_shape gate = (gate.angles, gate.qubits)
 
 abbrev pub shape_by : Symbols → Callee → Option (ℕ × ℕ)
 shape_by symbols (Declared name) = symbol_shape (found name symbols)
@@ -65,10 +70,14 @@ gate_cause unsupported redeclared unknown wrong_count same_qubit =
     if wrong_count then Some cause.WrongCount else
     if same_qubit then Some cause.SameQubit else None
 
+-- the gate's name is taken, or two formal names are equal
+abbrev pub is_redeclared_by : Symbols → GateForm → Bool
+is_redeclared_by symbols form = symbol_taken (found form.name symbols) || has_name_twice (form.parameters ++ form.qubits)
+
 abbrev pub wrong_gate_by : Symbols → Places → Places → GateForm → Option Cause
 wrong_gate_by symbols parameters qubits form = gate_cause
     (list_any body_is_unsupported form.body)
-    (symbol_taken (found form.name symbols) || has_name_twice (form.parameters ++ form.qubits))
+    (is_redeclared_by symbols form)
     (list_any (unknown_by symbols parameters qubits) form.body)
     (list_any (wrong_count_by symbols) form.body)
     (list_any body_has_same_qubit form.body)

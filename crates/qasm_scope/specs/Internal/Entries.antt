@@ -1,6 +1,6 @@
 -- Expressions by the items of their postfix order: a private matter of the program.
-use Rattle.std.specs.Prelude.{◌≡◌, ℕ, Bool, true, false, not, ◌||◌, List, Option}
-use Rattle.std.specs.List.{position_from}
+use Rattle.std.specs.Prelude.{◌≡◌, ℕ, Bool, true, false, not, ◌||◌, List, Option, map}
+use Rattle.std.specs.List.{list_any, position_from}
 use Rattle.std.specs.Option.{is_some}
 use Rattle.std.specs.Str.{bytes_eq}
 use Rattle.qasm_angle.specs.Literals.{literal_value}
@@ -13,7 +13,7 @@ use Rattle.qasm_reader.specs.declared.expression.Operator.TheVariants.{Add, Subt
 use Rattle.qasm_angle.specs.Trees as tree
 use Rattle.qasm_reader.specs.Syntax.{Formula, Number, Pi, Name, Negate, Binary, Call}
 use Rattle.qasm_reader.specs.Postfix.{Entry, NumberEntry, PiEntry, NameEntry, NegateEntry, BinaryEntry, CallEntry}
-use Rattle.qasm_scope.specs.Angles.{is_power, place_or_zero, binary}
+use Rattle.qasm_scope.specs.Angles.{is_power, is_unsupported, place_or_zero, binary}
 use Rattle.qasm_scope.specs.declared.places.Places.{Places}
 use Rattle.qasm_scope.specs.Internal.Kept.{found}
 
@@ -46,7 +46,11 @@ operator_of Multiply = operators.Multiply
 operator_of Divide = operators.Divide
 operator_of Power = operators.Multiply
 
--- the step that an item is; `^` and functions are none
+-- the item is `^`, a function or a name that has no place
+abbrev pub is_other_entry : Places → Entry → Bool
+is_other_entry places e = is_unsupported_entry e || has_no_place places e
+
+-- the step that an item is, but for those
 abbrev pub step_of : Places → Entry → ExprItem
 step_of places (NumberEntry text) = step.Number (literal_value text)
 step_of places PiEntry = step.Pi
@@ -64,6 +68,14 @@ has_unplaced places (Negate f) = has_unplaced places f
 has_unplaced places (Binary operator f g) = has_unplaced places f || has_unplaced places g
 has_unplaced places (Call function f) = has_unplaced places f
 
+-- an expression holds `^`, a function or a name that has no place
+abbrev pub has_other : Places → Formula → Bool
+has_other places f = is_unsupported f || has_unplaced places f
+
+-- one of the expressions does
+abbrev pub any_other : Places → List Formula → Bool
+any_other places fs = list_any is_unsupported fs || list_any (has_unplaced places) fs
+
 -- an expression without `^` and functions, its parameters by their places
 abbrev pub placed : Places → Formula → tree.Tree
 placed places (Number text) = tree.Number (literal_value text)
@@ -72,6 +84,28 @@ placed places (Name name) = tree.Parameter (place_or_zero (place_in places name)
 placed places (Negate f) = tree.Negate (placed places f)
 placed places (Binary operator f g) = binary operator (placed places f) (placed places g)
 placed places (Call function f) = placed places f
+
+-- the item is none of those, and is this step
+pub record IsStep (places : Places) (e : Entry) (item_step : ExprItem) : Type 0 where
+  pub none_other : is_other_entry places e ≡ false
+  pub same : item_step ≡ step_of places e
+
+-- the items, none of them `^`, a function or a name without a place, are these steps
+pub record AreSteps (places : Places) (entries : List Entry) (steps : List ExprItem) : Type 0 where
+  pub none_other : list_any (is_other_entry places) entries ≡ false
+  pub same : steps ≡ map (step_of places) entries
+
+-- the expression holds no `^`, no function and no name without a place, and is this tree with its parameters by their places
+pub record IsPlaced (places : Places) (f : Formula) (placed_tree : tree.Tree) : Type 0 where
+  pub supported : is_unsupported f ≡ false
+  pub all_placed : has_unplaced places f ≡ false
+  pub same : placed_tree ≡ placed places f
+
+-- the same of a list of expressions
+pub record ArePlaced (places : Places) (fs : List Formula) (trees : List tree.Tree) : Type 0 where
+  pub supported : list_any is_unsupported fs ≡ false
+  pub all_placed : list_any (has_unplaced places) fs ≡ false
+  pub same : trees ≡ map (placed places) fs
 
 -- the places are those of these names; of equal names the first counts
 abbrev pub ArePlaces : Places → List (List ℕ) → Type 0

@@ -6,9 +6,9 @@ use Rattle.qasm_reader.specs.Syntax.{GateForm, Sentence, DeclareGate, Placed}
 use Rattle.qasm_reader.specs.Views.{gate_form}
 use Rattle.qasm_reader.specs.declared.program.GateDeclaration.{GateDeclaration}
 use Rattle.qasm_scope.specs.Internal.Checks.{Symbols}
-use Rattle.qasm_scope.specs.Faults.{body_is_unsupported}
-use Rattle.qasm_scope.specs.Internal.Kept.{IsSoundGate, found}
-use Rattle.qasm_scope.specs.Scope.{Scope, Gate, declared, is_declared}
+use Rattle.qasm_scope.specs.Faults.{wrong_in}
+use Rattle.qasm_scope.specs.Internal.Kept.{gate_declaration, found}
+use Rattle.qasm_scope.specs.Scope.{Scope, is_declared}
 
 -- the gate that a statement declares
 abbrev pub gate_in : Sentence → Option GateForm
@@ -23,23 +23,18 @@ gates_of (s ∷ statements) = option_to_list (gate_in s.sentence) ++ gates_of st
 abbrev pub forms_of : List GateDeclaration → List GateForm
 forms_of gates = map gate_form gates
 
--- an expression of a gate holds `^` or a function
-abbrev pub any_unsupported : List GateForm → Bool
-any_unsupported forms = list_any (λ form. list_any body_is_unsupported form.body) forms
-
 -- one of the names is declared, by what names are kept as
 abbrev pub any_declared_by : Symbols → List GateForm → Bool
 any_declared_by symbols forms = list_any (λ form. is_some (found form.name symbols)) forms
 
--- each gate is sound after those before it
-abbrev pub AreSoundFirst : List GateForm → Scope → Type 0
-AreSoundFirst [] scope = Unit {0}
-AreSoundFirst (form ∷ forms) scope = IsSoundGate scope form × AreSoundFirst forms (declared form.name (Gate form) ∷ scope)
+-- nothing is wrong with each gate after those before it
+abbrev pub AreFirstFaultless : List GateForm → Scope → Type 0
+AreFirstFaultless [] scope = Unit {0}
+AreFirstFaultless (form ∷ forms) scope = (wrong_in scope (DeclareGate form) ≡ None) × AreFirstFaultless forms (gate_declaration form false ∷ scope)
 
--- each gate whose name is free is sound after those before it
-abbrev pub AreSoundFurther : List GateForm → Scope → Type 0
-AreSoundFurther [] scope = Unit {0}
-AreSoundFurther (form ∷ forms) scope =
-    (is_declared form.name scope ≡ false → IsSoundGate scope form)
-    × AreSoundFurther forms (if is_declared form.name scope then scope
-    else record { name = form.name; meaning = Gate form; replaceable = true } ∷ scope)
+-- nothing is wrong with each gate whose name is free after those before it
+abbrev pub AreFurtherFaultless : List GateForm → Scope → Type 0
+AreFurtherFaultless [] scope = Unit {0}
+AreFurtherFaultless (form ∷ forms) scope =
+    (is_declared form.name scope ≡ false → wrong_in scope (DeclareGate form) ≡ None)
+    × AreFurtherFaultless forms (if is_declared form.name scope then scope else gate_declaration form true ∷ scope)

@@ -11,7 +11,7 @@ use Rattle.qasm_angle.specs.Trees.{Tree}
 use Rattle.qasm_reader.specs.Syntax.{Callee, Declared, U, Cx, GateForm, BodySentence, BodyApplied, BodyBarrier, DeclareGate}
 use Rattle.qasm_scope.specs.Angles.{numbered, place_of}
 use Rattle.qasm_scope.specs.Faults.{has_unknown, has_wrong_count, has_same_qubit, has_name_twice}
-use Rattle.qasm_scope.specs.Scope.{Scope, Meaning, Qubits, Bits, Gate, is_declared, qubit_count}
+use Rattle.qasm_scope.specs.Scope.{Scope, Declaration, Meaning, Qubits, Bits, Gate, is_declared, qubit_count}
 use Rattle.qasm_scope.specs.declared.gates.GateBody.{GateBody}
 use Rattle.qasm_scope.specs.declared.gates.GateCall.{GateCall}
 use Rattle.qasm_scope.specs.declared.gates.CalledGate.{CalledGate}
@@ -41,6 +41,9 @@ gates_in Bits = 0
 abbrev pub gate_count : Scope → ℕ
 gate_count [] = 0
 gate_count (declaration ∷ scope) = gates_in declaration.meaning + gate_count scope
+
+abbrev pub gate_declaration : GateForm → Bool → Declaration
+gate_declaration form replaceable = record { name = form.name; meaning = Gate form; replaceable = replaceable }
 
 -- what a declaration is kept as, after so many gates
 abbrev pub symbol_in : ℕ → Bool → Meaning → Symbol
@@ -153,3 +156,9 @@ pub record Represents (names : Names) (scope : Scope) : Type 0 where
   pub same_gates : map kept_body names.gates.items ≡ kept_gates scope
   pub same_qubits : names.qubits ≡ qubit_count scope
   pub sound : IsSound scope
+
+-- in each scope in which this is how a sound gate is kept, it is declared
+abbrev pub DeclaresGate : Names → Names → List ℕ → ℕ → ℕ → List KeptCall → Bool → Type 0
+DeclaresGate before after name angles qubits body replaceable = (scope : Scope) (form : GateForm) → Represents before scope
+    → name ≡ form.name → angles ≡ length form.parameters → qubits ≡ length form.qubits → body ≡ kept_calls scope form form.body
+    → IsSoundGate scope form → IsFresh form.name replaceable scope → Represents after (gate_declaration form replaceable ∷ scope)

@@ -5,7 +5,7 @@ use Rattle.qasm_inline.proofs.reading.read_batches.Given as goal
 
 abbrev pub invariant-loop-place : goal.invariant-loop-place
 invariant-loop-place l = record {
-  read : IsReadUpTo l.text l.place l.depth l.tokens.items l.circuit;
+  read : IsReadUpTo l.text l.place l.depth l.tokens.items l.reading;
   within : l.place ≤ length l.text;
 }
 

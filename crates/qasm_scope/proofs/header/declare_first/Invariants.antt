@@ -1,5 +1,5 @@
-use Rattle.std.proofs.Common.{◌≡◌, drop, false}
-use Rattle.qasm_scope.specs.Internal.Included.{forms_of, any_unsupported, AreSoundFirst}
+use Rattle.std.proofs.Common.{drop}
+use Rattle.qasm_scope.specs.Internal.Included.{forms_of, AreFirstFaultless}
 use Rattle.qasm_scope.specs.Internal.Kept.{Represents}
 use Rattle.qasm_scope.specs.Scope.{Scope}
 use Rattle.qasm_scope.specs.Meaning.{with_first}
@@ -7,8 +7,6 @@ use Rattle.qasm_scope.proofs.Including.{FirstLeft}
 use Rattle.qasm_scope.proofs.header.declare_first.Given as goal
 
 abbrev pub invariant-loop-gate : goal.invariant-loop-gate
-invariant-loop-gate l = record {
-  supported : any_unsupported (forms_of (drop l.gate-index l.gates)) ≡ false;
-  left : (scope : Scope) → Represents l.initial.names scope → AreSoundFirst (forms_of l.gates) scope
-      → FirstLeft l.names (forms_of (drop l.gate-index l.gates)) (with_first (forms_of l.gates) scope);
-}
+invariant-loop-gate l =
+    (scope : Scope) → Represents l.initial.names scope → AreFirstFaultless (forms_of l.gates) scope
+    → FirstLeft l.names (forms_of (drop l.gate-index l.gates)) (with_first (forms_of l.gates) scope)

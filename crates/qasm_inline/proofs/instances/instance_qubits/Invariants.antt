@@ -1,6 +1,0 @@
-use Rattle.std.proofs.Common.{◌≡◌, map, take}
-use Rattle.qasm_inline.specs.Internal.Spans.{span_range, cut_qubit_at}
-use Rattle.qasm_inline.proofs.instances.instance_qubits.Given as goal
-
-abbrev pub invariant-loop-span : goal.invariant-loop-span
-invariant-loop-span l = l.qubits.items ≡ map (cut_qubit_at l.index) (map span_range (take l.span-index l.spans))
