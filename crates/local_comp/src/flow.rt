@@ -104,7 +104,7 @@ fn clear_set(f: &mut Flow, u: VertexId, v: VertexId, own: &[VertexId]) -> Result
     requires differ { Distinct own.now }
     ensures { OnOk result (AreChanged (removal_change u own.now) (v ∷ []) f.old.flow f.new.flow) }
 {
-    if f.correction(v).contains(&u) {
+    if f.has(v, u) {
         f.toggle(v, own)
     } else {
         Ok(())

@@ -16,7 +16,6 @@ mod Taking
 mod Exchanges
 mod Whole
 pub mod HoldersTables
-pub mod HoldersMerging
 pub mod HoldersTurning
 pub mod HoldersCounting
 pub mod HoldersAdding

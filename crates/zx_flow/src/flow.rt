@@ -77,6 +77,14 @@ impl Flow {
         Vec::from_slice(self.alloc, self.correction(v))
     }
 
+    /// Whether a vertex w is a member of the correction set of v.
+    pub fn has(&self, v: VertexId, w: VertexId) -> bool
+        requires { member v (order_of self.now.flow) ≡ true }
+        ensures { result ≡ is_in (set_of self.now.flow v) w }
+    {
+        self.corrections.set(v).contains(w)
+    }
+
     /// Whether a vertex w is adjacent to an odd number of members of the set of v.
     pub fn odd_has(&self, g: &OpenGraph, v: VertexId, w: VertexId) -> bool
         requires { member v (order_of self.now.flow) ≡ true }

@@ -8,7 +8,11 @@ ghost use Rattle.open_graph.specs.Internal.Rows.{IsPlace};
 use open_graph::VertexId;
 use smallvec::SmallVec;
 use std::alloc::{AllocError, Global};
+use std::cmp::Ordering;
 use std::marker::Model;
+
+// Fewer ids than these are toggled one by one, which is faster.
+const FEW: usize = 8;
 
 /// Ids by rising number, few of them in most sets.
 #[derive(Drop)]
@@ -48,6 +52,53 @@ fn stands_in(ids: &[VertexId], id: VertexId) -> bool
     ensures { result ≡ member id ids.now }
 {
     place(ids, id).is_ok()
+}
+
+// Whether each id is below the next.
+fn rises(ids: &[VertexId]) -> bool
+    ensures { result ≡ true → in_order ltb ids.now ≡ true }
+{
+    ids.is_sorted_by(|id, next| id.get() < next.get())
+}
+
+// The ids in one of two rising lists, but not in both.
+fn in_one_of(
+    alloc: Global,
+    left: &[VertexId],
+    right: &[VertexId],
+) -> Result<Vec<VertexId>, AllocError>
+    requires left_rising { in_order ltb left.now ≡ true }
+    requires right_rising { in_order ltb right.now ≡ true }
+    ensures rising { IfOk result (λ ids. in_order ltb ids.items ≡ true) }
+    ensures members { IfOk result (λ ids. (w : ℕ) →
+        member w ids.items ≡ xor (member w left.now) (member w right.now)) }
+{
+    let mut ids = Vec::with_capacity(alloc, left.len() + right.len())?;
+    let mut i = 0;
+    let mut j = 0;
+    'merge: while i < left.len() && j < right.len() {
+        let first = left[i];
+        let second = right[j];
+        let number = first.get();
+        let other = second.get();
+        match number.cmp(&other) {
+            Ordering::Less => {
+                ids.push(first)?;
+                i += 1;
+            }
+            Ordering::Greater => {
+                ids.push(second)?;
+                j += 1;
+            }
+            Ordering::Equal => {
+                i += 1;
+                j += 1;
+            }
+        }
+    }
+    ids.extend_from_slice(&left[i..])?;
+    ids.extend_from_slice(&right[j..])?;
+    Ok(ids)
 }
 
 // How many of the first stand among the others.
@@ -125,8 +176,8 @@ impl Members {
         }
     }
 
-    // Toggles each of these.
-    pub(crate) fn toggle_all(&mut self, ids: &[VertexId]) -> Result<(), AllocError>
+    // Toggles one after the other.
+    fn toggle_each(&mut self, ids: &[VertexId]) -> Result<(), AllocError>
         requires { Distinct ids.now }
         ensures { OnOk result ((w : ℕ) →
             member w self.new ≡ xor (member w self.old) (member w ids.now)) }
@@ -134,6 +185,20 @@ impl Members {
         for id in ids {
             self.toggle(*id)?;
         }
+        Ok(())
+    }
+
+    // Toggles each of these: many by one merge, where they rise.
+    pub(crate) fn toggle_all(&mut self, ids: &[VertexId]) -> Result<(), AllocError>
+        requires { Distinct ids.now }
+        ensures { OnOk result ((w : ℕ) →
+            member w self.new ≡ xor (member w self.old) (member w ids.now)) }
+    {
+        if ids.len() < FEW || !rises(ids) {
+            return self.toggle_each(ids);
+        }
+        let toggled = in_one_of(*self.ids.allocator(), self.ids.as_slice(), ids)?;
+        self.ids = SmallVec::from_vec(toggled);
         Ok(())
     }
 }

@@ -89,15 +89,7 @@ fn odd_has(f: &Flow, g: &OpenGraph, stage: Stage, u: VertexId, w: VertexId, x: V
 {
     match stage {
         Stage::First => f.odd_has(g, x, u),
-        Stage::Second => f.odd_has(g, x, u) ^ f.odd_has(g, x, w) ^ holds(f, x, u),
-        Stage::Third => f.odd_has(g, x, w) ^ holds(f, x, w) ^ holds(f, x, u),
+        Stage::Second => f.odd_has(g, x, u) ^ f.odd_has(g, x, w) ^ f.has(x, u),
+        Stage::Third => f.odd_has(g, x, w) ^ f.has(x, w) ^ f.has(x, u),
     }
-}
-
-// Whether v is in the set of x.
-fn holds(f: &Flow, x: VertexId, v: VertexId) -> bool
-    requires { member x (order_of f.now.flow) ≡ true }
-    ensures { result ≡ is_in (set_of f.now.flow x) v }
-{
-    f.correction(x).contains(&v)
 }

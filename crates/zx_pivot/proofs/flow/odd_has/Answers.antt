@@ -11,14 +11,14 @@ pub returns-in-Second : goal.returns-in-Second
 returns-in-Second c =
     let g = c.args.g.now.graph in
     second_parity (seen g) c.args.u c.args.w (Simple-seen g c.requires.well_formed) c.requires.u_live c.requires.w_live c.requires.adjacent
-    (is_in (set_of c.args.f.now.flow c.args.x)) c.odd_has-in-Second.result c.odd_has-in-Second-2.result c.holds.result
-    c.odd_has-in-Second.ensures c.odd_has-in-Second-2.ensures c.holds.ensures
+    (is_in (set_of c.args.f.now.flow c.args.x)) c.odd_has-in-Second.result c.odd_has-in-Second-2.result c.has.result
+    c.odd_has-in-Second.ensures c.odd_has-in-Second-2.ensures c.has.ensures
     ∙ ap (λ stage. odd (view stage (seen g) c.args.u c.args.w) (is_in (set_of c.args.f.now.flow c.args.x)) c.args.u) (sym c.in-Second.is)
 
 pub returns-in-Third : goal.returns-in-Third
 returns-in-Third c =
     let g = c.args.g.now.graph in
     third_parity (seen g) c.args.u c.args.w (Simple-seen g c.requires.well_formed) c.requires.u_live c.requires.w_live c.requires.adjacent
-    (is_in (set_of c.args.f.now.flow c.args.x)) c.odd_has-in-Third.result c.holds-in-Third.result c.holds-in-Third-2.result
-    c.odd_has-in-Third.ensures c.holds-in-Third.ensures c.holds-in-Third-2.ensures
+    (is_in (set_of c.args.f.now.flow c.args.x)) c.odd_has-in-Third.result c.has-in-Third.result c.has-in-Third-2.result
+    c.odd_has-in-Third.ensures c.has-in-Third.ensures c.has-in-Third-2.ensures
     ∙ ap (λ stage. odd (view stage (seen g) c.args.u c.args.w) (is_in (set_of c.args.f.now.flow c.args.x)) c.args.u) (sym c.in-Third.is)

@@ -2,7 +2,7 @@ use Rattle.std.proofs.Common.{◌≡◌, sym, ◌∙◌, ap, ap₂, subst, inl, 
 use Rattle.std.proofs.lemmas.Cmp.{ranked}
 use Rattle.std.proofs.lemmas.List.{take_rest, drop_all}
 use Rattle.zx_model.specs.Bits.{member}
-use Rattle.zx_extract.proofs.HoldersMerging.{MergingAt, next_left, next_right, next_both, ended}
+use Rattle.zx_flow.proofs.Merging.{MergingAt, next_left, next_right, next_both, ended}
 use Rattle.zx_extract.proofs.holders.Places.in_one_of.Goals as goal
 use Rattle.zx_extract.proofs.holders.Places.in_one_of.Goals.{then-merge-test+else-j-right, else-merge-test}
 

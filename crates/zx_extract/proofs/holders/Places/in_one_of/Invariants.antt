@@ -1,5 +1,5 @@
 use Rattle.std.proofs.Common.{◌+◌, ◌-◌, ◌≤◌, length, drop}
-use Rattle.zx_extract.proofs.HoldersMerging.{Merging}
+use Rattle.zx_flow.proofs.Merging.{Merging}
 use Rattle.zx_extract.proofs.holders.Places.in_one_of.Given as goal
 
 abbrev pub invariant-merge : goal.invariant-merge

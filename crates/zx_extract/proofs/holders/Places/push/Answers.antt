@@ -1,7 +1,7 @@
 use Rattle.std.proofs.Common.{sym, ◌∙◌, ap, ltb}
 use Rattle.zx_model.specs.Bits.{member}
 use Rattle.zx_calculus.specs.Graph.{in_order}
-use Rattle.zx_extract.proofs.HoldersMerging.{in_order-pushed}
+use Rattle.zx_flow.proofs.Merging.{in_order-pushed}
 use Rattle.zx_extract.proofs.holders.Places.push.Goals as goal
 
 pub invariant_of-self-2 : goal.invariant_of-self-2

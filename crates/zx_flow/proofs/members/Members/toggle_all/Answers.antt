@@ -1,9 +1,12 @@
-use Rattle.std.proofs.Common.{add-one}
-use Rattle.zx_flow.proofs.MemberLemmas.{toggled_more}
+use Rattle.std.proofs.Common.{◌∙◌, ap, ltb}
+use Rattle.zx_model.specs.Bits.{xor, member}
+use Rattle.zx_calculus.specs.Graph.{in_order}
 use Rattle.zx_flow.proofs.members.Members.toggle_all.Goals as goal
 
-pub loop-id-preserved : goal.loop-id-preserved
-loop-id-preserved c =
-    let more = toggled_more c.args.ids.now c.loop-id.id-index c.id-item.result c.args.self.now c.loop-id.self c.toggle.new.self c.loop-id-test.true c.id-item.is
-    c.loop-id.invariant.differ c.loop-id.invariant.toggled c.in_ok-toggle.ensures in
-    rw add-one (record { differ = more.0; toggled = more.1 })
+pub invariant_of-self : goal.invariant_of-self
+invariant_of-self c = ap (in_order ltb) c.from_vec.ensures.items ∙ c.in_ok-toggled.ensures.rising
+
+pub returns : goal.returns
+returns c w =
+    ap (member w) c.from_vec.ensures.items ∙ c.in_ok-toggled.ensures.members w
+    ∙ ap (λ l. xor (member w l) (member w c.args.ids.now)) (c.as_slice.ensures ∙ c.self.view_is)

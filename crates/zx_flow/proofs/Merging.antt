@@ -1,7 +1,7 @@
 -- Two rising lists merged into what stands in one of them, but not in both.
-use Rattle.std.proofs.Common.{◌≡◌, refl, sym, ◌∙◌, ap, ap₂, subst, ⊎_elim, ◌⊎◌, ℕ, ◌+◌, ◌<◌, Bool, true, false, not, ◌||◌, eqb, ltb, List, [], ◌∷◌, ◌++◌, length, get_or, drop, append_assoc, eqb-true, lt-ltb}
-use Rattle.std.proofs.lemmas.List.{append-nil, drop_more}
-use Rattle.std.specs.List.{list_all}
+use Rattle.std.proofs.Common.{◌≡◌, refl, sym, ◌∙◌, ap, ap₂, subst, ⊎_elim, ◌⊎◌, ℕ, ◌+◌, ◌<◌, Bool, true, false, not, ◌||◌, eqb, ltb, suc, List, [], ◌∷◌, ◌++◌, length, get_or, drop, append_assoc, eqb-true, lt-ltb, ltb-true, arith}
+use Rattle.std.proofs.lemmas.List.{append-nil, drop_more, get_or_read}
+use Rattle.std.specs.List.{list_all, AllAdjacentBelow}
 use Rattle.std.proofs.lemmas.List.Folds.{list_all-append}
 use Rattle.zx_model.specs.Bits.{xor, member}
 use Rattle.zx_calculus.specs.Graph.{in_order}
@@ -177,3 +177,38 @@ in_order-pushed (x ∷ xs) n rising below =
     both _ _ (list_all-append (ltb x) xs (n ∷ [])
     ∙ both _ _ (and-left _ _ rising) (both _ _ (lt-ltb x n (below x (member-here x xs))) refl))
     (in_order-pushed xs n (and-right _ _ rising) (λ p h. below p (member-there p x xs h)))
+
+-- ids each below the next rise
+pub in_order-adjacent : (xs : List ℕ) → AllAdjacentBelow (λ x y. true ≡ ltb x y) xs (length xs) → in_order ltb xs ≡ true
+in_order-adjacent [] below = refl
+in_order-adjacent (x ∷ []) below = refl
+in_order-adjacent (x ∷ (y ∷ ys)) below =
+    let rest = in_order-adjacent (y ∷ ys) (λ k d lt. let next : suc k + 1 ≡ suc (k + 1) = omega arith in
+    subst (λ n. true ≡ ltb (get_or (y ∷ ys) k d) (get_or (x ∷ (y ∷ ys)) n d)) next (below (suc k) d (omega (arith, lt)))) in
+    let lt : x < y = ltb-true x y (sym (below 0 0 (omega arith))) in
+    both _ _ (both _ _ (lt-ltb x y lt) (below_all x y ys lt (and-left _ _ rest))) rest
+
+-- the same of elements that were read
+pub takes_left_at : (left right merged : List ℕ) (i j l r : ℕ) → i < length left → j < length right →
+    l ≡ get_or left i l → r ≡ get_or right j r → l < r → MergingAt left right merged i j →
+    MergingAt left right (merged ++ l ∷ []) (i + 1) j
+takes_left_at left right merged i j l r a b is_l is_r lt m =
+    let read_l : l ≡ get_or left i 0 = get_or_read left i l a is_l 0 in
+    let read_r : r ≡ get_or right j 0 = get_or_read right j r b is_r 0 in
+    subst (λ x. MergingAt left right (merged ++ x ∷ []) (i + 1) j) (sym read_l)
+    (next_left left right merged i j a b (omega (arith, read_l, read_r, lt)) m)
+
+pub takes_right_at : (left right merged : List ℕ) (i j l r : ℕ) → i < length left → j < length right →
+    l ≡ get_or left i l → r ≡ get_or right j r → r < l → MergingAt left right merged i j →
+    MergingAt left right (merged ++ r ∷ []) i (j + 1)
+takes_right_at left right merged i j l r a b is_l is_r lt m =
+    let read_l : l ≡ get_or left i 0 = get_or_read left i l a is_l 0 in
+    let read_r : r ≡ get_or right j 0 = get_or_read right j r b is_r 0 in
+    subst (λ x. MergingAt left right (merged ++ x ∷ []) i (j + 1)) (sym read_r)
+    (next_right left right merged i j a b (omega (arith, read_l, read_r, lt)) m)
+
+pub drops_both_at : (left right merged : List ℕ) (i j l r : ℕ) → i < length left → j < length right →
+    l ≡ get_or left i l → r ≡ get_or right j r → l ≡ r → MergingAt left right merged i j →
+    MergingAt left right merged (i + 1) (j + 1)
+drops_both_at left right merged i j l r a b is_l is_r same m =
+    next_both left right merged i j a b (sym (get_or_read left i l a is_l 0) ∙ same ∙ get_or_read right j r b is_r 0) m
