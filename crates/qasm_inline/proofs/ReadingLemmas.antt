@@ -1,5 +1,5 @@
 -- The reader of a text, batch by batch.
-use Rattle.std.proofs.Common.{◌≡◌, ℕ, zero, suc, ◌-◌, ◌<◌, ◌≤◌, List, [], ◌∷◌, ◌++◌, length, take, drop, map, Option, None, Some, Result, Ok, Err, refl, sym, ap, ◌∙◌, subst, append_assoc, append-nil, arith, length-append}
+use Rattle.std.proofs.Common.{◌≡◌, ℕ, zero, suc, ◌-◌, ◌<◌, ◌≤◌, List, [], ◌∷◌, ◌++◌, length, take, drop, map, Option, None, Some, Result, Ok, Err, refl, sym, ap, ◌∙◌, subst, append_assoc, arith, length-append}
 use Rattle.std.specs.Prelude.{IfOk}
 use Rattle.std.proofs.lemmas.List.{length-map, take_rest}
 use Rattle.zx_gates.specs.declared.elementary.Elementary.{Elementary}
@@ -8,7 +8,7 @@ use Rattle.qasm_lexer.specs.declared.token.Token.{Token}
 use Rattle.qasm_lexer.specs.Tokens.{Lexeme, lexeme, lexemes, IsBegun, IsCut}
 use Rattle.qasm_reader.specs.declared.depth.Depth.{Depth}
 use Rattle.qasm_reader.specs.Depth.{too_deep}
-use Rattle.qasm_reader.specs.Grammar.{BeginsAt, BeginsWithStatement, IsFirstStatement, IsProgram, IsSyntaxFault}
+use Rattle.qasm_reader.specs.Grammar.{BeginsWithStatement, IsFirstStatement, IsProgram}
 use Rattle.qasm_reader.specs.Internal.Depths.{IsDepth}
 use Rattle.qasm_reader.specs.Parts.{IsBehind, IsInBody}
 use Rattle.qasm_reader.specs.Syntax.{GateForm, Placed}
@@ -153,29 +153,6 @@ before-rest all before behind rest (Some gate) circuit statements e program (for
 pub before-left : (all rest : List Lexeme) (reading : Reading) → AreTaken all reading rest
     → (front : List Lexeme) × (all ≡ front ++ rest) × ((later : List Lexeme) → AreTaken (front ++ later) reading later)
 before-left all rest reading r = before-rest all r.before r.behind rest reading.gate reading.circuit r.statements r.same r.program r.taken
-
--- ---- the end of the text
-pub fault-inside : (all rest : List Lexeme) (gate : OpenGate) (circuit : Circuit) → AreAllTaken all (record { circuit = circuit; gate = Some gate }) rest → IsSyntaxFault all gate.place
-fault-inside all rest gate circuit r =
-    let is = r.read.taken.1 in
-    let begins : BeginsAt r.read.behind gate.place = (
-      is.begins.0,
-      is.begins.1 ++ is.body ++ rest,
-      is.same ∙ ap (λ x. x ++ is.body ++ rest) is.begins.2,
-      is.begins.3,
-    ) in
-    (r.read.before, r.read.behind, r.read.statements, r.read.same, r.read.program, begins, r.none)
-
-pub fault-between : (all rest : List Lexeme) (circuit : Circuit) (t : Lexeme) (more : List Lexeme) → rest ≡ t ∷ more
-    → AreAllTaken all (record { circuit = circuit; gate = None }) rest → IsSyntaxFault all t.place
-fault-between all rest circuit t more e r =
-    (r.read.before, r.read.behind, r.read.statements, r.read.same, r.read.program, (t, more, r.read.taken.0 ∙ e, refl), r.none)
-
-pub whole : (all rest : List Lexeme) (circuit : Circuit) → rest ≡ [] → AreAllTaken all (record { circuit = circuit; gate = None }) rest
-    → (statements : List Placed) × IsProgram all statements × HasTaken circuit statements
-whole all rest circuit e r =
-    let same : all ≡ r.read.before = r.read.same ∙ ap (λ x. r.read.before ++ x) (r.read.taken.0 ∙ e) ∙ append-nil r.read.before in
-    (r.read.statements, subst (λ ts. IsProgram ts r.read.statements) (sym same) r.read.program, r.read.taken.1)
 
 -- ---- answers
 pub text-answer : (text : List ℕ) (tokens : List Lexeme) (program : List Placed) (result : Result Elementary ReadError) → IsCut 0 text tokens → too_deep tokens ≡ None
