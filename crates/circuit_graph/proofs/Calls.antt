@@ -1,51 +1,30 @@
 -- What the calls of a graph's methods make of a translation under way.
-use Rattle.std.proofs.Common.{◌≡◌, ◌≢◌, refl, sym, ◌∙◌, ap, ap₂, subst, ℕ, zero, suc, ◌+◌, ◌<◌, Bool, true, false, not, ◌&&◌, ◌||◌, eqb, List, [], ◌∷◌, ◌++◌, length, set, remove, get_or, eqb-true, true≢false}
-use Rattle.std.proofs.lemmas.Option.{slice_get-get_or}
-use Rattle.std.proofs.lemmas.List.Folds.{list_all_at}
-use Rattle.std.specs.Prelude.{slice_get, Some, Result, Ok, Err, OnOk}
+use Rattle.std.proofs.Common.{◌≡◌, ◌≢◌, refl, sym, ◌∙◌, ap, ap₂, subst, ℕ, ◌+◌, Bool, true, false, ◌&&◌, ◌||◌, eqb, [], ◌∷◌, ◌++◌, set, remove, eqb-true, true≢false}
+use Rattle.std.specs.Prelude.{slice_get}
 use Rattle.zx_model.specs.Bits.{xor, member}
-use Rattle.zx_calculus.specs.Graph.{XY, Plane, Kind, End, Graph, ids, kind_of, plane_of, joined, places, with_kinds, insert_vertex, Live, OrderedEdges, WellFormed}
-use Rattle.zx_calculus.specs.Boundary.{spider_of_phase_zero, is_pair}
+use Rattle.zx_calculus.specs.Graph.{XY, Plane, Kind, End, Graph, ids, kind_of, plane_of, joined, end_vertices, with_kinds, insert_vertex, Live, OrderedEdges, WellFormed}
+use Rattle.zx_calculus.specs.Splits.{spider_of_phase_zero}
+use Rattle.zx_calculus.specs.Edits.{is_pair, IsToggle, at_vertex}
 use Rattle.zx_calculus.specs.Turns.{in_plane, with_phase_added}
-use Rattle.zx_calculus.specs.Edits.{IsToggle, at_vertex}
 use Rattle.zx_calculus.specs.Worked.{plain}
 use Rattle.zx_calculus.proofs.Booleans.{or-true, or-apart}
-use Rattle.zx_calculus.proofs.Ids.{by_test, eqb-self, or-left, or-right, apart_of_member}
+use Rattle.zx_calculus.proofs.Ids.{eqb-self, apart_of_member}
 use Rattle.zx_calculus.proofs.Edges.{joined_comm}
 use Rattle.zx_calculus.proofs.Vertices.{member-insert, kind_of-insert}
 use Rattle.zx_calculus.proofs.Splitting.{absent_from, joined-absent}
 use Rattle.zx_calculus.proofs.Edits.{with_kinds-at}
 use Rattle.gflow_laws.specs.Seen.{seen}
 use Rattle.gflow_laws.specs.Flow.{order_of, SameSets}
-use Rattle.gflow_laws.specs.Tables.{split_output_table}
+use Rattle.gflow_laws.specs.Splits.{split_output_table}
 use Rattle.gflow_laws.proofs.Flows.{Flows-from}
-use Rattle.gflow_laws.proofs.TableLaws.{unlisted}
+use Rattle.gflow_laws.proofs.Tables.{unlisted}
 use Rattle.circuit_laws.specs.Peeling.{HasPlainOutput}
-use Rattle.circuit_laws.proofs.Places.{member-places, output_there, one_place}
-use Rattle.circuit_graph.specs.Translation.{are_plain}
+use Rattle.circuit_laws.proofs.Places.{member-places, output_there, one_place, absent-remove}
 use Rattle.circuit_graph.proofs.Beginning.{one_more_wire}
 use Rattle.circuit_graph.specs.Internal.Runs.{State, IsReady, IsBegun, IsSpiderStep, IsPhaseStep, IsToggleStep}
 
-pub on_ok : {A B P Q : Type 0} (r : Result A B) → (P → Q) → OnOk r P → OnOk r Q
-on_ok (Ok x) f h = f h
-on_ok (Err e) f h = h
-
--- the end at a place, where all are plain
-pub plain_at : (es : List End) (q : ℕ) (d : End) → are_plain es ≡ true → q < length es → slice_get es q ≡ Some (plain (get_or es q d).vertex)
-plain_at es q d all within =
-    slice_get-get_or es q d within ∙ ap (λ b. Some record { vertex = (get_or es q d).vertex; hadamard = b }) unmarked
-  where
-    unmarked : (get_or es q d).hadamard ≡ false
-    unmarked = by_test (get_or es q d).hadamard (λ t. absurd (true≢false (sym all ∙ list_all_at (λ e. not e.hadamard) es q d within (ap not t)))) (λ f. f)
-
 pub here_live : (g : Graph) (q u : ℕ) → WellFormed g → HasPlainOutput g q u → Live g u
 here_live g q u w h = output_there g q (plain u) w h
-
-absent-remove : (v : ℕ) (es : List End) (i : ℕ) → member v (places es) ≡ false → member v (places (remove es i)) ≡ false
-absent-remove v [] zero h = refl
-absent-remove v [] (suc i) h = refl
-absent-remove v (e ∷ es) zero h = or-right (eqb v e.vertex) _ h
-absent-remove v (e ∷ es) (suc i) h = ap₂ (λ a b. a || b) (or-left (eqb v e.vertex) _ h) (absent-remove v es i (or-right (eqb v e.vertex) _ h))
 
 -- of a pair that the new vertex is in no edge is an edge
 pair_absent : (j p_here v_next p_next v_here : Bool) → (v_next ≡ true → j ≡ false) → (p_next ≡ true → j ≡ false) → (j && ((p_here && v_next) || (p_next && v_here))) ≡ false
@@ -83,9 +62,9 @@ module _ (s : State) (q here next phase : ℕ) (g : Graph) (r : IsReady s) (outp
     outputs_are : h.outputs ≡ s.graph.outputs
     outputs_are = toggle.outputs ∙ ap (λ (h : Graph). h.outputs) added
 
-    pub next_free : (i : ℕ) → member next (places (remove h.outputs i)) ≡ false
+    pub next_free : (i : ℕ) → member next (end_vertices (remove h.outputs i)) ≡ false
     next_free i = absent-remove next h.outputs i
-        (ap (λ es. member next (places es)) outputs_are ∙ absent_from (ids s.graph.vertices) (places s.graph.outputs) next r.well_formed.outputs.there fresh)
+        (ap (λ es. member next (end_vertices es)) outputs_are ∙ absent_from (ids s.graph.vertices) (end_vertices s.graph.outputs) next r.well_formed.outputs.there fresh)
 
     pub here_uncorrected : member here (order_of s.table) ≡ false
     here_uncorrected = unlisted (seen s.graph) s.table (Flows-from (seen s.graph) s.table r.flow) here (member-places s.graph.outputs q (plain here) output)

@@ -1,19 +1,19 @@
 -- What each gate does to a translation under way.
-use Rattle.std.proofs.Common.{◌≡◌, refl, sym, ◌∙◌, ap, ap₂, subst, ℕ, zero, suc, ◌+◌, Bool, true, false, cond, not, ltb, eqb, List, [], ◌∷◌, length, set, le_of_eq, arith}
+use Rattle.std.proofs.Common.{◌≡◌, refl, sym, ◌∙◌, ap, ap₂, subst, ℕ, suc, ◌+◌, Bool, true, false, cond, ltb, eqb, List, [], ◌∷◌, length, set, le_of_eq, arith}
 use Rattle.std.proofs.Math.ListN.{length-set}
 use Rattle.std.proofs.lemmas.List.{set-set}
 use Rattle.std.specs.Prelude.{slice_get, Some}
 use Rattle.zx_model.specs.Bits.{xor, member}
-use Rattle.zx_calculus.specs.Graph.{XY, Kind, Vertex, End, Graph, ids, kind_of, plane_of, places, in_order, different, with_kinds, insert_vertex, WellFormed}
-use Rattle.zx_calculus.specs.Boundary.{spider_of_phase_zero, move_end}
+use Rattle.zx_calculus.specs.Graph.{XY, Kind, Vertex, End, Graph, ids, kind_of, plane_of, end_vertices, in_order, different, with_kinds, insert_vertex, WellFormed}
+use Rattle.zx_calculus.specs.Splits.{spider_of_phase_zero, move_end}
 use Rattle.zx_calculus.specs.Gadgets.{fuse_kind}
 use Rattle.zx_calculus.specs.Turns.{with_phase_added}
 use Rattle.zx_calculus.specs.Worked.{plain}
-use Rattle.zx_calculus.proofs.Ids.{by_equal, and-left, and-right}
+use Rattle.zx_calculus.proofs.Ids.{by_equal}
 use Rattle.zx_calculus.proofs.Vertices.{ids-with_kinds, kind_of-insert}
 use Rattle.zx_calculus.proofs.Splitting.{no_loop}
-use Rattle.zx_calculus.proofs.Results.{is_pair-self}
-use Rattle.zx_calculus.proofs.Kept.{both, kind_of-insert_other}
+use Rattle.zx_calculus.proofs.Splits.{is_pair-self}
+use Rattle.zx_calculus.proofs.Kept.{kind_of-insert_other}
 use Rattle.zx_calculus.proofs.Edits.{set-move_end}
 use Rattle.gflow_laws.specs.Seen.{seen}
 use Rattle.gflow_laws.specs.Flow.{IsFlow}
@@ -21,16 +21,15 @@ use Rattle.gflow_laws.specs.Outputs.{toggled, IsNewOutput}
 use Rattle.gflow_laws.specs.Correcting.{Alike}
 use Rattle.gflow_laws.proofs.Seeing.{phases_unseen, flow-same_sets}
 use Rattle.gflow_laws.proofs.OutputLaws.{toggled_flow}
-use Rattle.gflow_laws.proofs.Steps.{new_output_flow}
+use Rattle.gflow_laws.proofs.Splits.{new_output_flow}
 use Rattle.zx_gates.specs.declared.gate.Gate.{Gate}
 use Rattle.zx_gates.specs.declared.gate.Gate.TheVariants.{H, Phase, Cz, Cx, Not}
-use Rattle.circuit_laws.specs.Peeling.{IsSpiderPeel, IsEdgePeel, marked}
-use Rattle.circuit_laws.proofs.Places.{member-places, places-same, slice_get-set}
+use Rattle.circuit_laws.specs.Peeling.{IsSpiderPeel, IsEdgePeel, marked, are_plain}
+use Rattle.circuit_laws.proofs.Places.{member-places, places-same, slice_get-set, plain-set}
 use Rattle.circuit_laws.proofs.Keeping.{spider_formed, phase_formed, edge_formed}
 use Rattle.circuit_laws.proofs.Counts.{same_vertices, phase_odd, spider_odd}
 use Rattle.circuit_laws.proofs.Settling.{phase_peels, edge_peels}
 use Rattle.circuit_laws.proofs.Advancing.{spider_peels}
-use Rattle.circuit_graph.specs.Translation.{are_plain}
 use Rattle.circuit_graph.specs.Internal.Runs.{State, IsReady, IsSpiderStep, IsPhaseStep, IsToggleStep, IsGateStep, Comes}
 
 pub length-insert : (n : Vertex) (vs : List Vertex) → length (insert_vertex n vs) ≡ length vs + 1
@@ -62,16 +61,11 @@ planes-fused u k (v ∷ vs) p = at (eqb p v.id) (planes-fused u k vs p)
     at true again = plane-fused u k v.id v.kind
     at false again = again
 
-plain-set : (es : List End) (q v : ℕ) → are_plain es ≡ true → are_plain (set es q (plain v)) ≡ true
-plain-set [] q v h = refl
-plain-set (e ∷ es) zero v h = and-right (not e.hadamard) (are_plain es) h
-plain-set (e ∷ es) (suc q) v h = both _ _ (and-left (not e.hadamard) (are_plain es) h) (plain-set es q v (and-right (not e.hadamard) (are_plain es) h))
-
-places-set : (es : List End) (q u v : ℕ) → in_order different (places es) ≡ true → slice_get es q ≡ Some (plain u) →
-    places (set es q (plain v)) ≡ places (move_end u v es)
+places-set : (es : List End) (q u v : ℕ) → in_order different (end_vertices es) ≡ true → slice_get es q ≡ Some (plain u) →
+    end_vertices (set es q (plain v)) ≡ end_vertices (move_end u v es)
 places-set es q u v once h =
     sym (places-same (set es q (plain v)) q (plain v) (marked v) (slice_get-set es q (plain u) (plain v) h) refl)
-    ∙ ap places (set-set es q (plain v) (marked v) ∙ set-move_end es q (plain u) v once h)
+    ∙ ap end_vertices (set-set es q (plain v) (marked v) ∙ set-move_end es q (plain u) v once h)
 
 planes-inserted : (new : ℕ) (vs : List Vertex) → member new (ids vs) ≡ false → ((u : ℕ) → (kind_of vs u).plane ≡ XY) →
     (u : ℕ) → (kind_of (insert_vertex (spider_of_phase_zero new) vs) u).plane ≡ XY
@@ -91,8 +85,8 @@ is_new_output s q t w c = record {
   has_output = member-places s.outputs q (plain c.next) c.output;
   vertices = c.vertices;
   edges = c.edges;
-  inputs = ap places c.inputs;
-  outputs = ap places c.outputs ∙ places-set s.outputs q c.next c.spider w.outputs.one_each c.output;
+  inputs = ap end_vertices c.inputs;
+  outputs = ap end_vertices c.outputs ∙ places-set s.outputs q c.next c.spider w.outputs.one_each c.output;
 }
 
 spider_ready : (s : State) (q : ℕ) (t : State) → IsReady s → IsSpiderStep s q t → IsReady t
@@ -123,7 +117,7 @@ phase_comes s q k t r c = record {
   ready = record {
     well_formed = formed;
     planes = λ u. same_planes u ∙ r.planes u;
-    flow = subst (IsFlow t.graph) (sym c.table) (phases_unseen s.graph t.graph s.table (sym same_ids) (λ u. sym (same_planes u)) (sym c.peel.edges) (ap places (sym c.peel.inputs)) (ap places (sym c.peel.outputs)) r.flow);
+    flow = subst (IsFlow t.graph) (sym c.table) (phases_unseen s.graph t.graph s.table (sym same_ids) (λ u. sym (same_planes u)) (sym c.peel.edges) (ap end_vertices (sym c.peel.inputs)) (ap end_vertices (sym c.peel.outputs)) r.flow);
     plain = ap are_plain c.peel.outputs ∙ r.plain;
   };
   map = phase_peels t.graph q k s.graph formed r.well_formed c.peel;
@@ -151,8 +145,8 @@ is_toggled s p q t ws wt c = record {
       (λ _ e. rw e (ap₂ xor (no_loop s w ws) (is_pair-self c.first c.second c.different w) ∙ sym (no_loop t w wt)))
       (λ _ n. sym (c.edges v w n));
   plane = λ v _. ap (λ vs. (kind_of vs v).plane) (sym c.vertices);
-  input = λ v _. ap (λ es. member v (places es)) (sym c.inputs);
-  output = λ v _. ap (λ es. member v (places es)) (sym c.outputs);
+  input = λ v _. ap (λ es. member v (end_vertices es)) (sym c.inputs);
+  output = λ v _. ap (λ es. member v (end_vertices es)) (sym c.outputs);
 }
 
 toggle_comes : (s : State) (p q : ℕ) (t : State) → IsReady s → IsToggleStep s p q t → Comes s (Cz p q ∷ []) t
@@ -175,8 +169,8 @@ toggle_comes s p q t r c = record {
     formed : WellFormed t.graph
     formed = edge_formed t.graph p q s.graph r.well_formed c.peel
 
-    at_output : (i u : ℕ) → slice_get t.graph.outputs i ≡ Some (plain u) → member u (places s.graph.outputs) ≡ true
-    at_output i u h = ap (λ es. member u (places es)) (sym c.peel.outputs) ∙ member-places t.graph.outputs i (plain u) h
+    at_output : (i u : ℕ) → slice_get t.graph.outputs i ≡ Some (plain u) → member u (end_vertices s.graph.outputs) ≡ true
+    at_output i u h = ap (λ es. member u (end_vertices es)) (sym c.peel.outputs) ∙ member-places t.graph.outputs i (plain u) h
 
 pub gate_comes : (s : State) (gate : Gate) (t : State) → IsReady s → IsGateStep s gate t → Comes s (gate ∷ []) t
 gate_comes s (H q) t = spider_comes s q t

@@ -4,15 +4,17 @@ use Rattle.std.proofs.lemmas.List.{append-nil}
 use Rattle.std.proofs.Math.Seq.{take-append_seam, get_or-append_seam}
 use Rattle.std.specs.Prelude.{slice_get, Some, fold}
 use Rattle.zx_model.specs.Bits.{xor, member}
-use Rattle.zx_calculus.specs.Graph.{End, Graph, Distinct, ids, joined, places, with_kinds, WellFormed}
-use Rattle.zx_calculus.specs.Boundary.{spider_of_phase_zero, is_pair}
+use Rattle.zx_calculus.specs.Graph.{End, Graph, Distinct, ids, joined, end_vertices, with_kinds, WellFormed}
+use Rattle.zx_calculus.specs.Splits.{spider_of_phase_zero}
+use Rattle.zx_calculus.specs.Edits.{is_pair}
 use Rattle.zx_calculus.specs.Gadgets.{fuse_kind}
 use Rattle.zx_calculus.specs.Worked.{plain}
 use Rattle.zx_calculus.proofs.Booleans.{or_comm, or-false}
 use Rattle.zx_calculus.proofs.Ids.{Distinct-different}
 use Rattle.zx_calculus.proofs.Edges.{joined_comm}
 use Rattle.zx_calculus.proofs.Vertices.{ids-with_kinds, member-insert}
-use Rattle.zx_calculus.proofs.Results.{edges_are, graph_is, split_symmetric, is_pair_comm}
+use Rattle.zx_calculus.proofs.Results.{edges_are, graph_is}
+use Rattle.zx_calculus.proofs.Splits.{split_symmetric, is_pair_comm}
 use Rattle.gflow_laws.proofs.Lists.{member-append, Distinct-append}
 use Rattle.gflow_laws.proofs.AllEnds.{length-places}
 use Rattle.zx_gates.specs.Circuit.{Circuit}
@@ -27,7 +29,7 @@ use Rattle.circuit_graph.proofs.RunLemmas.{run_comes}
 use Rattle.circuit_graph.proofs.WrittenOut.{spiders-written}
 
 -- the present spider is the vertex at the output
-present_is : (es : List End) (q u : ℕ) → slice_get es q ≡ Some (plain u) → get_or (places es) q 0 ≡ u
+present_is : (es : List End) (q u : ℕ) → slice_get es q ≡ Some (plain u) → get_or (end_vertices es) q 0 ≡ u
 present_is [] q u h = cc
 present_is (e ∷ es) zero u h = ap (λ (d : End). d.vertex) (first_is e (plain u) h)
 present_is (e ∷ es) (suc q) u h = present_is es q u h
@@ -156,13 +158,13 @@ run_translated c s t b r run = record {
   graph = sym (ap (λ h. fold (with_gate named.all) h (written_out c.gates)) (ap wires front ∙ sym b.graph) ∙ named.graph named.all ([], sym (append-nil named.all)));
 }
   where
-    named : Named (places s.graph.inputs) s.graph (written_out c.gates) t.graph
-    named = run_named (places s.graph.inputs) s (written_out c.gates) t
+    named : Named (end_vertices s.graph.inputs) s.graph (written_out c.gates) t.graph
+    named = run_named (end_vertices s.graph.inputs) s (written_out c.gates) t
         (record {
-          different = Distinct-different (places s.graph.inputs) r.well_formed.inputs.one_each;
-          members = λ p. sym (b.places p);
+          different = Distinct-different (end_vertices s.graph.inputs) r.well_formed.inputs.one_each;
+          members = λ p. sym (b.end_vertices p);
           count = length-places s.graph.inputs ∙ b.count ∙ sym b.spiders;
         }) r run
 
-    front : take c.qubits named.all ≡ places s.graph.inputs
-    front = ap₂ (λ n l. take n l) (sym b.count ∙ sym (length-places s.graph.inputs)) named.grown.1 ∙ take-append_seam (places s.graph.inputs) named.grown.0
+    front : take c.qubits named.all ≡ end_vertices s.graph.inputs
+    front = ap₂ (λ n l. take n l) (sym b.count ∙ sym (length-places s.graph.inputs)) named.grown.1 ∙ take-append_seam (end_vertices s.graph.inputs) named.grown.0

@@ -10,12 +10,13 @@ use Rattle.zx_gates.specs.Maps.{amp}
 use Rattle.zx_gates.proofs.MapLemmas.{amp-acts}
 use Rattle.circuit_laws.specs.Followed.{EndsAt}
 use Rattle.circuit_laws.proofs.Composing.{peels_at_end, ends_at_sum}
-use Rattle.circuit_graph.specs.Translation.{are_plain, written_out, scalar_of}
+use Rattle.circuit_graph.specs.Translation.{written_out, scalar_of}
 use Rattle.circuit_graph.specs.Internal.Runs.{State, IsReady, IsRun, IsBegun, Comes, Translates}
 use Rattle.circuit_graph.proofs.RunLemmas.{run_comes}
 use Rattle.circuit_graph.proofs.WrittenOut.{odd-written, map-written, scalar_of-nonzero}
 use Rattle.circuit_graph.proofs.Beginning.{begun_ends}
 use Rattle.circuit_graph.proofs.Naming.{run_translated, spiders_run}
+use Rattle.circuit_laws.specs.Peeling.{are_plain}
 
 pub run_translates : (c : Circuit) (s t : State) → IsBegun c.qubits s.graph → IsReady s → All (IsOnQubits c.qubits) c.gates →
     IsRun s (written_out c.gates) t → Translates c t

@@ -1,16 +1,17 @@
 -- The open graph of a circuit: each wire is a path of spiders, which its Hadamard gates join.
 -- Duncan, Kissinger, Perdrix and van de Wetering, "Graph-theoretic simplification of quantum circuits with the
 -- ZX-calculus" (Quantum 4, 279, 2020), on graph-like diagrams.
-use Rattle.std.specs.Prelude.{◌≡◌, ℕ, ◌+◌, ◌*◌, Bool, not, List, [], ◌∷◌, ◌++◌, length, get_or, take, slice_set}
-use Rattle.std.specs.List.{list_all, count_by, flat_map, fold}
+use Rattle.std.specs.Prelude.{◌≡◌, ℕ, ◌+◌, ◌*◌, List, [], ◌∷◌, ◌++◌, length, get_or, take, slice_set}
+use Rattle.std.specs.List.{count_by, flat_map, fold}
 use Rattle.zx_model.specs.Bits.{xor}
 use Rattle.zx_model.specs.Phase.{half_turn}
 use Rattle.zx_model.specs.Number.{Number, one, mul}
 use Rattle.zx_model.specs.Constants.{two}
-use Rattle.zx_calculus.specs.Graph.{End, Graph, Distinct, joined, places, with_kinds, insert_vertex}
-use Rattle.zx_calculus.specs.Boundary.{spider_of_phase_zero, is_pair}
+use Rattle.zx_calculus.specs.Graph.{Graph, Distinct, joined, end_vertices, with_kinds, insert_vertex}
+use Rattle.zx_calculus.specs.Splits.{spider_of_phase_zero, split_vertices, split_edges}
+use Rattle.zx_calculus.specs.Edits.{is_pair}
 use Rattle.zx_calculus.specs.Gadgets.{fuse_kind}
-use Rattle.zx_calculus.specs.After.{adjacent_graph, split_vertices, split_edges}
+use Rattle.zx_calculus.specs.Adjacency.{adjacent_graph}
 use Rattle.zx_calculus.specs.Worked.{plain}
 use Rattle.zx_gates.specs.Circuit.{Circuit}
 use Rattle.zx_gates.specs.Counting.{is_h, is_cx, is_not}
@@ -42,13 +43,9 @@ abbrev pub scalar_of : List Gate → Number
 scalar_of [] = one
 scalar_of (gate ∷ gates) = mul (gate_scalar gate) (scalar_of gates)
 
--- all ends are plain
-abbrev pub are_plain : List End → Bool
-are_plain ends = list_all (λ e. not e.hadamard) ends
-
 -- the present spider of a wire, which holds its output
 abbrev pub present : Graph → ℕ → ℕ
-present g q = get_or (places g.outputs) q 0
+present g q = get_or (end_vertices g.outputs) q 0
 
 -- one more wire, a spider of phase 0 with both ends
 abbrev pub with_wire : Graph → ℕ → Graph
@@ -81,15 +78,16 @@ abbrev pub with_toggle : ℕ → ℕ → Graph → Graph
 with_toggle p q g =
     adjacent_graph g g.vertices (λ v w. xor (joined g.edges v w) (is_pair (present g p) (present g q) v w))
 
--- A gate where Cx and Not are written out. The spiders take their ids from a list, in the order of making: a new one takes
--- that at the number of those before.
+-- A gate where Cx and Not are written out. The spiders take their ids from a list, in the order of making: a new one
+-- takes that at the number of those before.
 abbrev pub with_gate : List ℕ → Graph → Gate → Graph
 with_gate made g (H q) = with_spider (get_or made (length g.vertices) 0) q g
 with_gate made g (Phase q k) = with_phase q k g
 with_gate made g (Cz p q) = with_toggle p q g
 with_gate made g other = g
 
--- the graph of a circuit, whose spiders have these ids in the order of making, the first of each qubit before all others
+-- The graph of a circuit, whose spiders have these ids in the order of making, the first of each qubit before all
+-- others.
 abbrev pub translated : Circuit → List ℕ → Graph
 translated c made = fold (with_gate made) (wires (take c.qubits made)) (written_out c.gates)
 

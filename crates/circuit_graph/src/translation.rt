@@ -6,11 +6,12 @@ ghost use Rattle.zx_model.specs.Proportional.{Proportional};
 ghost use Rattle.zx_calculus.specs.Graph.{plane_of, Live, WellFormed};
 ghost use Rattle.zx_calculus.specs.Graph as zx;
 ghost use Rattle.zx_calculus.specs.Sum.{sum};
-ghost use Rattle.zx_calculus.specs.Reduced.{odd_phases};
+ghost use Rattle.zx_calculus.specs.Counts.{odd_phases};
 ghost use Rattle.gflow_laws.specs.Flow.{IsFlow};
 ghost use Rattle.zx_gates.specs.Circuit.{gate_odd_phases};
 ghost use Rattle.zx_gates.specs.Maps.{amp};
-ghost use Rattle.circuit_graph.specs.Translation.{spiders_of, scalar_of, are_plain, IsTranslation};
+ghost use Rattle.circuit_laws.specs.Peeling.{are_plain};
+ghost use Rattle.circuit_graph.specs.Translation.{spiders_of, scalar_of, IsTranslation};
 ghost use Rattle.circuit_graph.specs.Internal.Wires.{state_of};
 ghost use Rattle.circuit_graph.specs.Internal.Runs.{Translates};
 
@@ -29,15 +30,18 @@ pub fn translate(alloc: Global, circuit: &GateList) -> Result<(OpenGraph, Flow),
 
     // The map is kept: the sum is the circuit's map times a number other than 0.
     ensures map { IfOk result (λ made.
-        Proportional circuit.now.qubits circuit.now.qubits (sum made.0.graph) (amp circuit.now.gates)) }
+        Proportional circuit.now.qubits circuit.now.qubits
+        (sum made.0.graph) (amp circuit.now.gates)) }
     ensures exact { IfOk result (λ made. (x y : List Bool) →
         length x ≡ circuit.now.qubits → length y ≡ circuit.now.qubits →
         sum made.0.graph x y ≡ mul (scalar_of circuit.now.gates) (amp circuit.now.gates x y)) }
 
     // Its vertices.
     ensures spiders { IfOk result (λ made. length made.0.graph.vertices ≡ spiders_of circuit.now) }
-    ensures planes { IfOk result (λ made. (v : ℕ) → Live made.0.graph v → plane_of made.0.graph v ≡ zx.XY) }
-    ensures odd { IfOk result (λ made. odd_phases made.0.graph ≤ gate_odd_phases circuit.now.gates) }
+    ensures planes { IfOk result (λ made. (v : ℕ) → Live made.0.graph v →
+        plane_of made.0.graph v ≡ zx.XY) }
+    ensures odd { IfOk result (λ made.
+        odd_phases made.0.graph ≤ gate_odd_phases circuit.now.gates) }
 
     // Its ends.
     ensures inputs { IfOk result (λ made. length made.0.graph.inputs ≡ circuit.now.qubits) }

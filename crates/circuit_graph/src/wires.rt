@@ -14,37 +14,12 @@ use zx_flow::FlowTable;
 use zx_gates::{Gate, Qubit};
 use zx_model::Eighth;
 
-/// The graph so far, whose outputs stand at the present spiders of the wires, and the corrections of the spiders that
-/// the wires have left.
+// The graph so far, whose outputs stand at the present spiders of the wires, and the corrections of the spiders that
+// the wires have left.
 #[derive(Drop)]
 pub(crate) struct Wires {
     pub(crate) graph: OpenGraph,
     pub(crate) table: FlowTable,
-}
-
-// An end without a Hadamard.
-fn plain(vertex: VertexId) -> End
-    ensures { result ≡ record { vertex = vertex; hadamard = false } }
-{
-    End {
-        vertex,
-        hadamard: false,
-    }
-}
-
-// So many wires without gates.
-fn without_gates(alloc: Global, qubits: Qubit) -> Result<OpenGraph, AllocError>
-    ensures begun { IfOk result (λ g. IsBegun qubits g.graph) }
-    ensures well_formed { IfOk result (λ g. WellFormed g.graph) }
-{
-    let mut graph = OpenGraph::new(alloc);
-    for _ in 0..qubits {
-        let first = graph.add_vertex(Plane::XY, Eighth::new(0))?;
-        let end = plain(first);
-        graph.add_input(end)?;
-        graph.add_output(end)?;
-    }
-    Ok(graph)
 }
 
 impl Wires {
@@ -52,7 +27,7 @@ impl Wires {
     pub(crate) fn begin(alloc: Global, qubits: Qubit) -> Result<Wires, AllocError>
         ensures begun { IfOk result (λ w. IsBegun qubits w.graph.graph) }
         ensures well_formed { IfOk result (λ w. WellFormed w.graph.graph) }
-        ensures table { IfOk result (λ w. w.table.flow ≡ []) }
+        ensures table { IfOk result (λ w. w.table.table ≡ []) }
     {
         let graph = without_gates(alloc, qubits)?;
         Ok(Wires {
@@ -65,9 +40,11 @@ impl Wires {
     pub(crate) fn add_gate(&mut self, gate: Gate) -> Result<(), AllocError>
         requires ready { IsReady (state_of self.old) }
         requires on_wires { IsOnQubits (length self.old.graph.graph.outputs) gate }
-        ensures run { OnOk result (IsRun (state_of self.old) (by_hadamards gate) (state_of self.new)) }
+        ensures run { OnOk result (IsRun (state_of self.old) (by_hadamards gate)
+            (state_of self.new)) }
         ensures ready { OnOk result (IsReady (state_of self.new)) }
-        ensures outputs { OnOk result (length self.new.graph.graph.outputs ≡ length self.old.graph.graph.outputs) }
+        ensures outputs { OnOk result (length self.new.graph.graph.outputs ≡
+            length self.old.graph.graph.outputs) }
     {
         match gate {
             Gate::H(q) => self.add_hadamard(q),
@@ -106,12 +83,13 @@ impl Wires {
         requires on_wires { q < length self.old.graph.graph.outputs }
         ensures step { OnOk result (IsSpiderStep (state_of self.old) q (state_of self.new)) }
         ensures ready { OnOk result (IsReady (state_of self.new)) }
-        ensures outputs { OnOk result (length self.new.graph.graph.outputs ≡ length self.old.graph.graph.outputs) }
+        ensures outputs { OnOk result (length self.new.graph.graph.outputs ≡
+            length self.old.graph.graph.outputs) }
     {
         let here = self.present(q);
         let next = self.graph.add_vertex(Plane::XY, Eighth::new(0))?;
         self.graph.toggle_edge(here, next)?;
-        self.graph.move_output(usize::from(q), plain(next));
+        self.graph.move_output(usize::from(q), End::plain(next));
         self.table.add(here, &[next])
     }
 
@@ -121,7 +99,8 @@ impl Wires {
         requires on_wires { q < length self.old.graph.graph.outputs }
         ensures step { IsPhaseStep (state_of self.old) q phase (state_of self.new) }
         ensures ready { IsReady (state_of self.new) }
-        ensures outputs { length self.new.graph.graph.outputs ≡ length self.old.graph.graph.outputs }
+        ensures outputs { length self.new.graph.graph.outputs ≡
+            length self.old.graph.graph.outputs }
     {
         let here = self.present(q);
         let (plane, before) = self.graph.weight(here);
@@ -136,10 +115,26 @@ impl Wires {
         requires apart { p ≢ q }
         ensures step { OnOk result (IsToggleStep (state_of self.old) p q (state_of self.new)) }
         ensures ready { OnOk result (IsReady (state_of self.new)) }
-        ensures outputs { OnOk result (length self.new.graph.graph.outputs ≡ length self.old.graph.graph.outputs) }
+        ensures outputs { OnOk result (length self.new.graph.graph.outputs ≡
+            length self.old.graph.graph.outputs) }
     {
         let first = self.present(p);
         let second = self.present(q);
         self.graph.toggle_edge(first, second)
     }
+}
+
+// So many wires without gates.
+fn without_gates(alloc: Global, qubits: Qubit) -> Result<OpenGraph, AllocError>
+    ensures begun { IfOk result (λ g. IsBegun qubits g.graph) }
+    ensures well_formed { IfOk result (λ g. WellFormed g.graph) }
+{
+    let mut graph = OpenGraph::new(alloc);
+    for _ in 0..qubits {
+        let first = graph.add_vertex(Plane::XY, Eighth::new(0))?;
+        let end = End::plain(first);
+        graph.add_input(end)?;
+        graph.add_output(end)?;
+    }
+    Ok(graph)
 }

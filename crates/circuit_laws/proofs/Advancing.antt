@@ -6,14 +6,12 @@ use Rattle.std.specs.Prelude.{slice_get, Some}
 use Rattle.zx_model.specs.Bits.{member}
 use Rattle.zx_model.specs.Number.{Number, one, mul}
 use Rattle.zx_model.proofs.Ring.{one-mul}
-use Rattle.zx_calculus.specs.Graph.{End, Graph, places, in_order, different, WellFormed}
+use Rattle.zx_calculus.specs.Graph.{End, Graph, end_vertices, in_order, different, WellFormed}
 use Rattle.zx_calculus.specs.Sum.{sum}
-use Rattle.zx_calculus.specs.Scalars.{split_left}
-use Rattle.zx_calculus.specs.Boundary.{IsSplitOutput, move_end}
-use Rattle.zx_calculus.specs.Factors.{mark_of}
+use Rattle.zx_calculus.specs.Splits.{split_left, IsSplitOutput, move_end, mark_of}
 use Rattle.zx_calculus.specs.Worked.{plain}
 use Rattle.zx_calculus.proofs.Ids.{and-left, and-right, member-different, eqb-self}
-use Rattle.zx_calculus.proofs.SplitSum.{move_end-absent, split_output_sum}
+use Rattle.zx_calculus.proofs.Splits.{move_end-absent, split_output_sum}
 use Rattle.zx_gates.specs.Maps.{act}
 use Rattle.zx_gates.specs.declared.gate.Gate.TheVariants.{H}
 use Rattle.circuit_laws.specs.Followed.{followed, PeelsAt}
@@ -23,17 +21,17 @@ use Rattle.circuit_laws.proofs.Places.{first_is, member-places, places-same, sli
 use Rattle.circuit_laws.proofs.Settling.{mark_peeled}
 
 -- the mark goes, and the end moves
-move_end-set : (es : List End) (q u new : ℕ) → in_order different (places es) ≡ true →
+move_end-set : (es : List End) (q u new : ℕ) → in_order different (end_vertices es) ≡ true →
     slice_get es q ≡ Some (plain u) → move_end u new (set es q (marked u)) ≡ set es q (plain new)
 move_end-set [] q u new once h = refl
 move_end-set (e ∷ es) nought u new once h =
-    let absent : member u (places es) ≡ false = ap (λ (d : End). member d.vertex (places es)) (sym (first_is e (plain u) h)) ∙ member-different e.vertex (places es) (and-left _ _ once) in
+    let absent : member u (end_vertices es) ≡ false = ap (λ (d : End). member d.vertex (end_vertices es)) (sym (first_is e (plain u) h)) ∙ member-different e.vertex (end_vertices es) (and-left _ _ once) in
     rw (eqb-self u) (ap (λ r. plain new ∷ r) (move_end-absent u new es absent))
 move_end-set (e ∷ es) (suc q) u new once h =
     rw (ne_eqb u e.vertex (λ s. apart_from e.vertex es q (plain u) (and-left _ _ once) h (sym s)))
     (ap (λ r. e ∷ r) (move_end-set es q u new (and-right _ _ once) h))
 
-mark_of-set : (es : List End) (q u : ℕ) → in_order different (places es) ≡ true → slice_get es q ≡ Some (plain u) →
+mark_of-set : (es : List End) (q u : ℕ) → in_order different (end_vertices es) ≡ true → slice_get es q ≡ Some (plain u) →
     mark_of (set es q (marked u)) u ≡ true
 mark_of-set [] q u once h = cc
 mark_of-set (e ∷ es) nought u once h = rw (eqb-self u)
@@ -45,7 +43,7 @@ module _ (g : Graph) (q : ℕ) (h : Graph) (wh : WellFormed h) (c : IsSpiderPeel
   abbrev pub with_mark : Graph
   with_mark = record { vertices = h.vertices; edges = h.edges; inputs = h.inputs; outputs = set h.outputs q (marked c.next) }
 
-  same_places : places with_mark.outputs ≡ places h.outputs
+  same_places : end_vertices with_mark.outputs ≡ end_vertices h.outputs
   same_places = places-same h.outputs q (plain c.next) (marked c.next) c.output refl
 
   pub with_mark_formed : WellFormed with_mark

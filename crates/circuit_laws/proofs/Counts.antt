@@ -1,5 +1,5 @@
 -- Odd phases of graphs and of the gates that are peeled off them.
-use Rattle.std.proofs.Common.{◌≡◌, sym, zero-add, ◌∙◌, ap, ap₂, refl, ℕ, ◌+◌, ◌≤◌, Bool, true, false, cond, List, [], ◌∷◌, arith, eqb, ne_eqb, eqb-true, le_of_eq, suc, ◌++◌}
+use Rattle.std.proofs.Common.{◌≡◌, sym, zero-add, ◌∙◌, ap, ap₂, refl, ℕ, ◌+◌, ◌≤◌, Bool, true, false, cond, List, [], ◌∷◌, arith, ne_eqb, le_of_eq, suc, ◌++◌}
 use Rattle.std.specs.Prelude.{slice_get}
 use Rattle.zx_model.specs.Phase.{sum_of_phases, is_odd}
 use Rattle.zx_model.specs.Bits.{member, one_if}
@@ -7,8 +7,8 @@ use Rattle.zx_model.proofs.Odd.{is_odd-sum, one_if-odd_sum}
 use Rattle.zx_calculus.specs.Graph.{Distinct, Vertex, End, Graph, ids, kind_of, phase_of, with_kinds, without, WellFormed}
 use Rattle.zx_calculus.specs.Turns.{with_phase_added}
 use Rattle.zx_calculus.specs.Gadgets.{fuse_kind}
-use Rattle.zx_calculus.specs.Boundary.{spider_of_phase_zero}
-use Rattle.zx_calculus.specs.Reduced.{odd_phases}
+use Rattle.zx_calculus.specs.Splits.{spider_of_phase_zero}
+use Rattle.zx_calculus.specs.Counts.{odd_phases}
 use Rattle.zx_calculus.specs.Worked.{plain}
 use Rattle.zx_calculus.proofs.Ids.{apart_of_member, eqb-self}
 use Rattle.zx_calculus.proofs.Vertices.{ids-with_kinds, with_kinds-unchanged, at_front-with_kinds}
@@ -16,9 +16,9 @@ use Rattle.zx_calculus.proofs.Splitting.{distinct, member-without}
 use Rattle.zx_calculus.proofs.CountLemmas.{Test, count, count-cons, count_front, count-insert}
 use Rattle.zx_gates.specs.Circuit.{gate_odd_phases as odd_gates}
 use Rattle.zx_gates.specs.declared.gate.Gate.TheVariants.{H, Phase, Cx}
-use Rattle.zx_gates.proofs.LoweringLemmas.{gate_odd_phases-append}
-use Rattle.circuit_laws.specs.Gates.{phase_gates, gadget_on, gadget_gates, linked_gadget_gates, hadamards_from}
-use Rattle.circuit_laws.specs.Peeling.{IsPhasePeel, IsSpiderPeel, IsRemoval, IsGadgetPeel, IsLinkedGadgetPeel}
+use Rattle.zx_gates.proofs.LoweringLemmas.{gate_odd_phases-append, odd-phase_gates}
+use Rattle.circuit_laws.specs.Gates.{gadget_on, gadget_gates, linked_gadget_gates, hadamards_from}
+use Rattle.circuit_laws.specs.Peeling.{IsPhasePeel, IsSpiderPeel, IsVertexRemoved, IsGadgetPeel, IsLinkedGadgetPeel}
 use Rattle.circuit_laws.proofs.Places.{output_there}
 
 abbrev odd_at : Test
@@ -79,13 +79,6 @@ pub spider_odd : (g : Graph) (q : ℕ) (h : Graph) → IsSpiderPeel g q h → od
 spider_odd g q h c = ap (count odd_at) c.vertices ∙ count-insert odd_at (spider_of_phase_zero c.spider) h.vertices ∙ zero-add (odd_phases h)
 
 -- ---- gadgets
-pub odd-phase_gates : (q k : ℕ) → odd_gates (phase_gates q k) ≡ one_if (is_odd k)
-odd-phase_gates q k = at (eqb k 0) refl
-  where
-    at : (b : Bool) → eqb k 0 ≡ b → odd_gates (cond b [] (Phase q k ∷ [])) ≡ one_if (is_odd k)
-    at true e = ap (λ j. one_if (is_odd j)) (sym (eqb-true k 0 e))
-    at false e = one_gate q k
-
 nothing_more : (a b m : ℕ) → a ≡ 0 + m → m ≡ b + 0 → a ≡ b
 nothing_more a b m e f = omega arith
 
@@ -98,7 +91,7 @@ odd-linked : (k q : ℕ) (qs : List ℕ) → odd_gates (linked_gadget_gates k q 
 odd-linked k q qs =
     nothing_more _ _ _ (gate_odd_phases-append (H q ∷ []) (gadget_on k q qs ++ H q ∷ [])) (gate_odd_phases-append (gadget_on k q qs) (H q ∷ [])) ∙ odd-gadget_on k q qs
 
-removal_odd : (g : Graph) (v : ℕ) (h : Graph) → WellFormed g → IsRemoval g v h →
+removal_odd : (g : Graph) (v : ℕ) (h : Graph) → WellFormed g → IsVertexRemoved g v h →
     odd_phases g ≡ one_if (is_odd (phase_of g v)) + odd_phases h
 removal_odd g v h w r =
     front_is v g.vertices (distinct g w) r.there

@@ -9,7 +9,7 @@ use Rattle.zx_model.proofs.Ring.{expand, sorted, one-mul, two_nonzero}
 use Rattle.zx_model.proofs.Powers.{root_power-zero}
 use Rattle.zx_model.proofs.SumLemmas.{labelled-same, labelled-other, labelled-labelled, sum_over_same, sum_over_mul}
 use Rattle.zx_calculus.specs.Parity.{masked, quad}
-use Rattle.zx_calculus.specs.Graph.{YZ, Vertex, End, Graph, ids, kind_of, plane_of, phase_of, joined, places, is_XY, in_order, different, without, Distinct, WellFormed, Interior}
+use Rattle.zx_calculus.specs.Graph.{YZ, Vertex, End, Graph, ids, kind_of, plane_of, phase_of, joined, end_vertices, is_XY, in_order, different, without, Distinct, WellFormed, Interior}
 use Rattle.zx_calculus.specs.Sum.{factor, spider, vertex_product, end_product}
 use Rattle.zx_model.specs.Constants.{two}
 use Rattle.zx_calculus.specs.Worked.{plain}
@@ -20,15 +20,16 @@ use Rattle.zx_calculus.proofs.Edges.{joined_comm, quad_same, masked-pick}
 use Rattle.zx_calculus.proofs.Forms.{form, value, form_front, sum_out, Ignores, ids-without, end_product-labelled, masked-labelled}
 use Rattle.zx_calculus.proofs.Vertices.{kind_of-without}
 use Rattle.zx_calculus.proofs.Splitting.{distinct, distinct_without, member-without, no_loop, interior_of, all_at}
-use Rattle.zx_calculus.proofs.RemovalSum.{gadget_at}
+use Rattle.zx_calculus.proofs.Gadgets.{gadget_at}
 use Rattle.zx_calculus.proofs.Turning.{around as turning_around}
 use Rattle.zx_calculus.proofs.Kept.{both}
 use Rattle.zx_gates.specs.Maps.{act, acts}
 use Rattle.zx_gates.specs.declared.gate.Gate.TheVariants.{H, Phase, Cx}
 use Rattle.zx_gates.proofs.MapLemmas.{acts-append}
 use Rattle.circuit_laws.specs.Followed.{followed, PeelsAt}
-use Rattle.circuit_laws.specs.Gates.{phase_gates, gadget_on, gadget_gates, linked_gadget_gates}
-use Rattle.circuit_laws.specs.Peeling.{IsRemoval, IsGadgetPeel, IsLinkedGadgetPeel}
+use Rattle.circuit_laws.specs.Gates.{gadget_on, gadget_gates, linked_gadget_gates}
+use Rattle.zx_gates.specs.Lowering.{phase_gates}
+use Rattle.circuit_laws.specs.Peeling.{IsVertexRemoved, IsGadgetPeel, IsLinkedGadgetPeel}
 use Rattle.circuit_laws.proofs.Composing.{peels_exactly}
 use Rattle.circuit_laws.proofs.Leaving.{leave, around, followed_is_form, leave-labelled, leave-phase, leave-cx, leave-h}
 use Rattle.circuit_laws.proofs.Places.{member-places}
@@ -61,12 +62,12 @@ masked-parity (u ∷ us) vs label d once there =
     not_both : (p : ℕ) → (eqb p u && member p us) ≡ false
     not_both p = by_equal p u (λ t e. ap (λ b. eqb p u && b) (ap (λ w. member w us) e ∙ once.0) ∙ simp parities) (λ f n. ap (λ b. b && member p us) f)
 
-pub legs-all : (test : ℕ → Bool) (es : List End) (qs us : List ℕ) → list_all test (places es) ≡ true →
+pub legs-all : (test : ℕ → Bool) (es : List End) (qs us : List ℕ) → list_all test (end_vertices es) ≡ true →
     AllZip (λ q u. slice_get es q ≡ Some (plain u)) qs us → list_all test us ≡ true
 legs-all test es [] [] h zip = refl
 legs-all test es [] (u ∷ us) h zip = absurd zip
 legs-all test es (q ∷ qs) [] h zip = absurd zip
-legs-all test es (q ∷ qs) (u ∷ us) h zip = both _ _ (all_at test (places es) u h (member-places es q (plain u) zip.0)) (legs-all test es qs us h zip.1)
+legs-all test es (q ∷ qs) (u ∷ us) h zip = both _ _ (all_at test (end_vertices es) u h (member-places es q (plain u) zip.0)) (legs-all test es qs us h zip.1)
 
 -- ---- the gates of a gadget
 leave-phase_gates : (es : List End) (q u k : ℕ) (f : List Bool → Number) (label : ℕ → Bool) →
@@ -84,7 +85,7 @@ leave-phase_gates es q u k f label h = at (eqb k 0) refl
     at false e = leave-phase es q u k f label h
 
 pub leave-gadget_on : (es : List End) (k target u : ℕ) (qs us : List ℕ) (f : List Bool → Number) (label : ℕ → Bool) →
-    in_order different (places es) ≡ true →
+    in_order different (end_vertices es) ≡ true →
     slice_get es target ≡ Some (plain u) → member u us ≡ false → AllZip (λ q w. slice_get es q ≡ Some (plain w)) qs us →
     leave es (acts (gadget_on k target qs) f) label ≡ mul (spider k (xor (label u) (parity us label))) (leave es f label)
 leave-gadget_on es k target u [] [] f label once h absent zip =
@@ -106,7 +107,7 @@ leave-gadget_on es k target u (q ∷ qs) (w ∷ us) f label once h absent zip =
     apart e = by_equal u w (λ t s. true≢false (sym t ∙ or-left _ _ absent)) (λ f n. n e)
 
 leave-gadget : (es : List End) (k : ℕ) (qs us : List ℕ) (f : List Bool → Number) (label : ℕ → Bool) →
-    in_order different (places es) ≡ true → Distinct us →
+    in_order different (end_vertices es) ≡ true → Distinct us →
     AllZip (λ q w. slice_get es q ≡ Some (plain w)) qs us → leave es (acts (gadget_gates k qs) f) label ≡ mul (spider k (parity us label)) (leave es f label)
 leave-gadget es k [] [] f label once d zip = sym (one-mul (leave es f label))
 leave-gadget es k [] (w ∷ us) f label once d zip = absurd zip
@@ -117,7 +118,7 @@ leave-gadget es k (q ∷ qs) (w ∷ us) f label once d zip = leave-gadget_on es 
 scalar_out : (t s v : Number) → mul (mul t s) v ≡ mul t (mul s v)
 scalar_out t s v = simp sorted
 
-module _ (g : Graph) (v : ℕ) (h : Graph) (wg : WellFormed g) (wh : WellFormed h) (plane : plane_of g v ≡ YZ) (r : IsRemoval g v h) where
+module _ (g : Graph) (v : ℕ) (h : Graph) (wg : WellFormed g) (wh : WellFormed h) (plane : plane_of g v ≡ YZ) (r : IsVertexRemoved g v h) where
   abbrev ws : List Vertex
   ws = without v g.vertices
 
@@ -148,8 +149,8 @@ module _ (g : Graph) (v : ℕ) (h : Graph) (wg : WellFormed g) (wh : WellFormed 
       (quad_same (joined h.edges) (joined g.edges) (ids ws) label (distinct_without g v wg)
       (λ p q s t n. r.edges p q (apart_of_member p v (ids ws) s (member-without v g.vertices)) (apart_of_member q v (ids ws) t (member-without v g.vertices))))))
 
-  pub outputs_left : list_all (λ u. member u (ids ws)) (places g.outputs) ≡ true
-  outputs_left = ap₂ (λ vs es. list_all (λ u. member u (ids vs)) (places es)) (sym r.vertices) (sym r.outputs) ∙ wh.outputs.there
+  pub outputs_left : list_all (λ u. member u (ids ws)) (end_vertices g.outputs) ≡ true
+  outputs_left = ap₂ (λ vs es. list_all (λ u. member u (ids vs)) (end_vertices es)) (sym r.vertices) (sym r.outputs) ∙ wh.outputs.there
 
 -- ---- on outputs alone
 phase_in : (s p q i o : Number) → mul s (mul p (mul q (mul i o))) ≡ mul p (mul q (mul i (mul s o)))
@@ -230,12 +231,12 @@ module _ (g : Graph) (v q : ℕ) (qubits : List ℕ) (h : Graph) (wg : WellForme
   left_distinct = distinct_without g v wg
 
   link_there : member c.link (ids left) ≡ true
-  link_there = all_at (λ u. member u (ids left)) (places g.outputs) c.link (outputs_left g v h wg wh c.plane c.removal) (member-places g.outputs q (plain c.link) c.output)
+  link_there = all_at (λ u. member u (ids left)) (end_vertices g.outputs) c.link (outputs_left g v h wg wh c.plane c.removal) (member-places g.outputs q (plain c.link) c.output)
 
   one_factor : (b : Bool) → factor (kind_of left c.link) b ≡ one
   one_factor b =
       ap (λ k. factor k b) (kind_of-without c.link v g.vertices (apart_of_member c.link v (ids left) link_there (member-without v g.vertices)))
-      ∙ factor-zero (kind_of g.vertices c.link) b (all_at (λ p. is_XY (kind_of g.vertices p).plane) (places g.outputs) c.link wg.outputs.at_XY (member-places g.outputs q (plain c.link) c.output)) c.phase
+      ∙ factor-zero (kind_of g.vertices c.link) b (all_at (λ p. is_XY (kind_of g.vertices p).plane) (end_vertices g.outputs) c.link wg.outputs.at_XY (member-places g.outputs q (plain c.link) c.output)) c.phase
 
   module _ (label : ℕ → Bool) where
     -- the labels with that of the link

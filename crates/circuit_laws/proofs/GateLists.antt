@@ -12,7 +12,8 @@ use Rattle.zx_calculus.proofs.Ids.{by_equal, or-left, or-right}
 use Rattle.zx_gates.specs.Circuit.{IsOnQubits}
 use Rattle.zx_gates.specs.declared.gate.Gate.{Gate}
 use Rattle.zx_gates.specs.declared.gate.Gate.TheVariants.{H, Phase, Cz, Cx}
-use Rattle.circuit_laws.specs.Gates.{hadamards_from, exchange_gates, phase_gates, gadget_on, gadget_gates, linked_gadget_gates}
+use Rattle.circuit_laws.specs.Gates.{hadamards_from, exchange_gates, gadget_on, gadget_gates, linked_gadget_gates}
+use Rattle.zx_gates.specs.Lowering.{phase_gates}
 use Rattle.circuit_laws.proofs.Places.{first_is}
 use Rattle.circuit_laws.specs.Peeling.{IsPhaseCleared, IsEdgePeel, IsMarkPeel, IsSpiderPeel, IsRowAddition, IsExchange, IsGadgetPeel, IsLinkedGadgetPeel, marked}
 

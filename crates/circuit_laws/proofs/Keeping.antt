@@ -4,8 +4,8 @@ use Rattle.std.proofs.lemmas.List.{set-set}
 use Rattle.std.specs.Prelude.{slice_get, Some}
 use Rattle.std.specs.List.{list_all}
 use Rattle.zx_model.specs.Bits.{member}
-use Rattle.zx_calculus.specs.Graph.{YZ, Vertex, End, Graph, ids, kind_of, plane_of, is_XY, places, in_order, different, without, WellFormed, OrderedEdges, OrderedEnds}
-use Rattle.zx_calculus.specs.Boundary.{spider_of_phase_zero}
+use Rattle.zx_calculus.specs.Graph.{YZ, Vertex, End, Graph, ids, kind_of, plane_of, is_XY, end_vertices, in_order, different, without, WellFormed, OrderedEdges, OrderedEnds}
+use Rattle.zx_calculus.specs.Splits.{spider_of_phase_zero}
 use Rattle.zx_calculus.specs.Gadgets.{fuse_kind}
 use Rattle.zx_calculus.specs.Worked.{plain}
 use Rattle.zx_calculus.proofs.Booleans.{or-true}
@@ -13,14 +13,16 @@ use Rattle.zx_calculus.proofs.Ids.{by_test, by_equal, and-left, and-right, or-le
 use Rattle.zx_calculus.proofs.Forms.{ids-without}
 use Rattle.zx_calculus.proofs.Vertices.{with_kinds-identity, ids-with_kinds, without-insert, list_all-without, all_below_a_turn, kind_of-without}
 use Rattle.zx_calculus.proofs.Splitting.{all_at, interior_of}
-use Rattle.zx_calculus.proofs.Kept.{both, all_by, in_order-removed, kept_kinds, kept_removal, fuse_kind_below, fuse_XY, split_output_kept, ends_without, different-all}
-use Rattle.circuit_laws.specs.Peeling.{IsPhasePeel, IsEdgePeel, IsMarkPeel, IsSpiderPeel, IsRowAddition, IsExchange, IsRemoval, IsGadgetPeel, IsLinkedGadgetPeel, marked}
+use Rattle.zx_calculus.proofs.Kept.{both, all_by, in_order-removed, kept_kinds, kept_removal, ends_without, different-all}
+use Rattle.zx_calculus.proofs.Gadgets.{fuse_kind_below, fuse_XY}
+use Rattle.zx_calculus.proofs.Splits.{split_output_kept}
+use Rattle.circuit_laws.specs.Peeling.{IsPhasePeel, IsEdgePeel, IsMarkPeel, IsSpiderPeel, IsRowAddition, IsExchange, IsVertexRemoved, IsGadgetPeel, IsLinkedGadgetPeel, marked}
 use Rattle.circuit_laws.proofs.Places.{first_is, member-places, places-same, slice_get-set, set_same, apart_from, ordered_by_places}
 use Rattle.circuit_laws.proofs.Advancing.{with_mark, with_mark_formed, is_split}
 
 -- with the same vertices, and ends at the same ones
 pub formed_from : (g h : Graph) → WellFormed h → g.vertices ≡ h.vertices → OrderedEdges (ids g.vertices) g.edges →
-    g.inputs ≡ h.inputs → places g.outputs ≡ places h.outputs → WellFormed g
+    g.inputs ≡ h.inputs → end_vertices g.outputs ≡ end_vertices h.outputs → WellFormed g
 formed_from g h w vertices ordered inputs outputs = record {
   vertices_rising = ap (λ vs. in_order ltb (ids vs)) vertices ∙ w.vertices_rising;
   phases_below_a_turn = ap all_below_a_turn vertices ∙ w.phases_below_a_turn;
@@ -39,13 +41,13 @@ phase_formed g q k h w c =
     c.vertices (same_edges g h w (ap ids c.vertices ∙ ids-with_kinds (fuse_kind c.vertex k) h.vertices) c.edges) c.inputs c.outputs
 
 pub edge_formed : (g : Graph) (p q : ℕ) (h : Graph) → WellFormed h → IsEdgePeel g p q h → WellFormed g
-edge_formed g p q h w c = formed_from g h w c.vertices c.ordered c.inputs (ap places c.outputs)
+edge_formed g p q h w c = formed_from g h w c.vertices c.ordered c.inputs (ap end_vertices c.outputs)
 
 pub edge_formed_back : (g : Graph) (p q : ℕ) (h : Graph) → WellFormed g → IsEdgePeel g p q h → WellFormed h
-edge_formed_back g p q h w c = formed_from h g w (sym c.vertices) c.ordered_too (sym c.inputs) (ap places (sym c.outputs))
+edge_formed_back g p q h w c = formed_from h g w (sym c.vertices) c.ordered_too (sym c.inputs) (ap end_vertices (sym c.outputs))
 
-mark_places : (g : Graph) (q : ℕ) (h : Graph) → (c : IsMarkPeel g q h) → places h.outputs ≡ places g.outputs
-mark_places g q h c = ap places c.outputs ∙ places-same g.outputs q (marked c.vertex) (plain c.vertex) c.output refl
+mark_places : (g : Graph) (q : ℕ) (h : Graph) → (c : IsMarkPeel g q h) → end_vertices h.outputs ≡ end_vertices g.outputs
+mark_places g q h c = ap end_vertices c.outputs ∙ places-same g.outputs q (marked c.vertex) (plain c.vertex) c.output refl
 
 pub mark_formed : (g : Graph) (q : ℕ) (h : Graph) → WellFormed h → IsMarkPeel g q h → WellFormed g
 mark_formed g q h w c = formed_from g h w c.vertices (same_edges g h w (ap ids c.vertices) c.edges) c.inputs (sym (mark_places g q h c))
@@ -57,65 +59,65 @@ pub spider_formed : (g : Graph) (q : ℕ) (h : Graph) → WellFormed h → IsSpi
 spider_formed g q h w c = split_output_kept (with_mark g q h w c) c.next g (with_mark_formed g q h w c) (is_split g q h w c)
 
 -- ---- an end that moves to another vertex
--- the places after it: the new one, and the old ones but that of the end
-member-set : (es : List End) (q : ℕ) (e d : End) (x : ℕ) → in_order different (places es) ≡ true →
-    slice_get es q ≡ Some e → member x (places (set es q d)) ≡ true →
-    (x ≡ d.vertex) ⊎ ((member x (places es) ≡ true) × (x ≢ e.vertex))
+-- the end_vertices after it: the new one, and the old ones but that of the end
+member-set : (es : List End) (q : ℕ) (e d : End) (x : ℕ) → in_order different (end_vertices es) ≡ true →
+    slice_get es q ≡ Some e → member x (end_vertices (set es q d)) ≡ true →
+    (x ≡ d.vertex) ⊎ ((member x (end_vertices es) ≡ true) × (x ≢ e.vertex))
 member-set [] q e d x once h t = cc
 member-set (c ∷ es) nought e d x once h t =
     by_equal x d.vertex (λ s same. inl same)
-    (λ s n. let later : member x (places es) ≡ true = rw s at t in
+    (λ s n. let later : member x (end_vertices es) ≡ true = rw s at t in
     inr (
       ap (λ b. eqb x c.vertex || b) later ∙ or-true (eqb x c.vertex),
-      apart_of_member x e.vertex (places es) later (ap (λ (b : End). member b.vertex (places es)) (sym (first_is c e h)) ∙ member-different c.vertex (places es) (and-left _ _ once)),
+      apart_of_member x e.vertex (end_vertices es) later (ap (λ (b : End). member b.vertex (end_vertices es)) (sym (first_is c e h)) ∙ member-different c.vertex (end_vertices es) (and-left _ _ once)),
     ))
 member-set (c ∷ es) (suc q) e d x once h t =
-    by_equal x c.vertex (λ s same. inr (ap (λ b. b || member x (places es)) s, λ same'. apart_from c.vertex es q e (and-left _ _ once) h (sym same ∙ same')))
-    (λ s n. let later : member x (places (set es q d)) ≡ true = rw s at t in from (member-set es q e d x (and-right _ _ once) h later))
+    by_equal x c.vertex (λ s same. inr (ap (λ b. b || member x (end_vertices es)) s, λ same'. apart_from c.vertex es q e (and-left _ _ once) h (sym same ∙ same')))
+    (λ s n. let later : member x (end_vertices (set es q d)) ≡ true = rw s at t in from (member-set es q e d x (and-right _ _ once) h later))
   where
-    from : (x ≡ d.vertex) ⊎ ((member x (places es) ≡ true) × (x ≢ e.vertex)) →
-        (x ≡ d.vertex) ⊎ ((member x (places (c ∷ es)) ≡ true) × (x ≢ e.vertex))
+    from : (x ≡ d.vertex) ⊎ ((member x (end_vertices es) ≡ true) × (x ≢ e.vertex)) →
+        (x ≡ d.vertex) ⊎ ((member x (end_vertices (c ∷ es)) ≡ true) × (x ≢ e.vertex))
     from (inl s) = inl s
     from (inr s) = inr (ap (λ b. eqb x c.vertex || b) s.0 ∙ or-true (eqb x c.vertex), s.1)
 
-one_each-set : (es : List End) (q : ℕ) (e d : End) → in_order different (places es) ≡ true → slice_get es q ≡ Some e →
-    member d.vertex (places es) ≡ false → in_order different (places (set es q d)) ≡ true
+one_each-set : (es : List End) (q : ℕ) (e d : End) → in_order different (end_vertices es) ≡ true → slice_get es q ≡ Some e →
+    member d.vertex (end_vertices es) ≡ false → in_order different (end_vertices (set es q d)) ≡ true
 one_each-set [] q e d once h absent = refl
-one_each-set (c ∷ es) nought e d once h absent = both _ _ (different-all d.vertex (places es) (or-right _ _ absent)) (and-right _ _ once)
+one_each-set (c ∷ es) nought e d once h absent = both _ _ (different-all d.vertex (end_vertices es) (or-right _ _ absent)) (and-right _ _ once)
 one_each-set (c ∷ es) (suc q) e d once h absent =
-    both _ _ (different-all c.vertex (places (set es q d)) (not_there (member-set es q e d c.vertex (and-right _ _ once) h)))
+    both _ _ (different-all c.vertex (end_vertices (set es q d)) (not_there (member-set es q e d c.vertex (and-right _ _ once) h)))
     (one_each-set es q e d (and-right _ _ once) h (or-right _ _ absent))
   where
-    not_there : (member c.vertex (places (set es q d)) ≡ true → (c.vertex ≡ d.vertex) ⊎ ((member c.vertex (places es) ≡ true) × (c.vertex ≢ e.vertex))) → member c.vertex (places (set es q d)) ≡ false
-    not_there cases = by_test (member c.vertex (places (set es q d))) (λ t. absurd (contrary (cases t))) (λ f. f)
+    not_there : (member c.vertex (end_vertices (set es q d)) ≡ true → (c.vertex ≡ d.vertex) ⊎ ((member c.vertex (end_vertices es) ≡ true) × (c.vertex ≢ e.vertex))) → member c.vertex (end_vertices (set es q d)) ≡ false
+    not_there cases = by_test (member c.vertex (end_vertices (set es q d))) (λ t. absurd (contrary (cases t))) (λ f. f)
       where
-        contrary : (c.vertex ≡ d.vertex) ⊎ ((member c.vertex (places es) ≡ true) × (c.vertex ≢ e.vertex)) → ⊥
+        contrary : (c.vertex ≡ d.vertex) ⊎ ((member c.vertex (end_vertices es) ≡ true) × (c.vertex ≢ e.vertex)) → ⊥
         contrary (inl s) = by_equal d.vertex c.vertex (λ t same. true≢false (sym t ∙ or-left _ _ absent)) (λ f n. n (sym s))
-        contrary (inr s) = true≢false (sym s.0 ∙ member-different c.vertex (places es) (and-left _ _ once))
+        contrary (inr s) = true≢false (sym s.0 ∙ member-different c.vertex (end_vertices es) (and-left _ _ once))
 
 -- the vertex of the end may go
 pub ends_moved_off : (vs : List Vertex) (es : List End) (q : ℕ) (e d : End) → OrderedEnds vs es →
-    slice_get es q ≡ Some e → member d.vertex (places es) ≡ false →
+    slice_get es q ≡ Some e → member d.vertex (end_vertices es) ≡ false →
     member d.vertex (ids (without e.vertex vs)) ≡ true → is_XY (kind_of (without e.vertex vs) d.vertex).plane ≡ true → OrderedEnds (without e.vertex vs) (set es q d)
 ends_moved_off vs es q e d o h absent there plane = record {
   one_each = one_each-set es q e d o.one_each h absent;
-  there = all_by _ (places (set es q d)) (λ p t. at_there p (member-set es q e d p o.one_each h t));
-  at_XY = all_by _ (places (set es q d)) (λ p t. at_plane p (member-set es q e d p o.one_each h t));
+  there = all_by _ (end_vertices (set es q d)) (λ p t. at_there p (member-set es q e d p o.one_each h t));
+  at_XY = all_by _ (end_vertices (set es q d)) (λ p t. at_plane p (member-set es q e d p o.one_each h t));
 }
   where
-    at_there : (p : ℕ) → (p ≡ d.vertex) ⊎ ((member p (places es) ≡ true) × (p ≢ e.vertex)) →
+    at_there : (p : ℕ) → (p ≡ d.vertex) ⊎ ((member p (end_vertices es) ≡ true) × (p ≢ e.vertex)) →
         member p (ids (without e.vertex vs)) ≡ true
     at_there p (inl s) = ap (λ w. member w (ids (without e.vertex vs))) s ∙ there
-    at_there p (inr s) = ap (member p) (ids-without e.vertex vs) ∙ member-removed_other p e.vertex (ids vs) s.1 ∙ all_at (λ u. member u (ids vs)) (places es) p o.there s.0
+    at_there p (inr s) = ap (member p) (ids-without e.vertex vs) ∙ member-removed_other p e.vertex (ids vs) s.1 ∙ all_at (λ u. member u (ids vs)) (end_vertices es) p o.there s.0
 
-    at_plane : (p : ℕ) → (p ≡ d.vertex) ⊎ ((member p (places es) ≡ true) × (p ≢ e.vertex)) →
+    at_plane : (p : ℕ) → (p ≡ d.vertex) ⊎ ((member p (end_vertices es) ≡ true) × (p ≢ e.vertex)) →
         is_XY (kind_of (without e.vertex vs) p).plane ≡ true
     at_plane p (inl s) = ap (λ w. is_XY (kind_of (without e.vertex vs) w).plane) s ∙ plane
-    at_plane p (inr s) = ap (λ k. is_XY k.plane) (kind_of-without p e.vertex vs s.1) ∙ all_at (λ u. is_XY (kind_of vs u).plane) (places es) p o.at_XY s.0
+    at_plane p (inr s) = ap (λ k. is_XY k.plane) (kind_of-without p e.vertex vs s.1) ∙ all_at (λ u. is_XY (kind_of vs u).plane) (end_vertices es) p o.at_XY s.0
 
 pub spider_formed_back : (g : Graph) (q : ℕ) (h : Graph) → WellFormed g → (c : IsSpiderPeel g q h) →
-    member c.spider (places g.inputs) ≡ false →
-    member c.next (ids h.vertices) ≡ true → is_XY (kind_of h.vertices c.next).plane ≡ true → member c.next (places g.outputs) ≡ false → WellFormed h
+    member c.spider (end_vertices g.inputs) ≡ false →
+    member c.next (ids h.vertices) ≡ true → is_XY (kind_of h.vertices c.next).plane ≡ true → member c.next (end_vertices g.outputs) ≡ false → WellFormed h
 spider_formed_back g q h w c no_input there plane no_output = record {
   vertices_rising = ap (in_order ltb) (ap ids gone ∙ ids-without c.spider g.vertices) ∙ in_order-removed c.spider (ids g.vertices) w.vertices_rising;
   phases_below_a_turn = ap all_below_a_turn gone ∙ list_all-without _ c.spider g.vertices w.phases_below_a_turn;
@@ -138,34 +140,34 @@ spider_formed_back g q h w c no_input there plane no_output = record {
 
 -- ---- a row, an exchange and gadgets
 pub row_formed : (g : Graph) (c t : ℕ) (h : Graph) → WellFormed h → IsRowAddition g c t h → WellFormed g
-row_formed g c t h w r = formed_from g h w r.vertices r.ordered r.inputs (ap places r.outputs)
+row_formed g c t h w r = formed_from g h w r.vertices r.ordered r.inputs (ap end_vertices r.outputs)
 
 pub row_formed_back : (g : Graph) (c t : ℕ) (h : Graph) → WellFormed g → IsRowAddition g c t h → WellFormed h
-row_formed_back g c t h w r = formed_from h g w (sym r.vertices) r.ordered_too (sym r.inputs) (ap places (sym r.outputs))
+row_formed_back g c t h w r = formed_from h g w (sym r.vertices) r.ordered_too (sym r.inputs) (ap end_vertices (sym r.outputs))
 
--- what holds at the places, and at that of the new end
+-- what holds at the end_vertices, and at that of the new end
 list_all-set : (test : ℕ → Bool) (es : List End) (q : ℕ) (d : End) → test d.vertex ≡ true →
-    list_all test (places es) ≡ true → list_all test (places (set es q d)) ≡ true
+    list_all test (end_vertices es) ≡ true → list_all test (end_vertices (set es q d)) ≡ true
 list_all-set test [] q d h k = refl
 list_all-set test (e ∷ es) nought d h k = both _ _ h (and-right _ _ k)
 list_all-set test (e ∷ es) (suc q) d h k = both _ _ (and-left _ _ k) (list_all-set test es q d h (and-right _ _ k))
 
 -- two ends exchanged stand at different vertices still: a place of the first stands before one of the second or after it
-exchanged_ahead : (e : End) (es : List End) (q : ℕ) (u v : ℕ) → in_order different (places (e ∷ es)) ≡ true →
+exchanged_ahead : (e : End) (es : List End) (q : ℕ) (u v : ℕ) → in_order different (end_vertices (e ∷ es)) ≡ true →
     e.vertex ≡ u → slice_get es q ≡ Some (plain v) →
-    in_order different (places (plain v ∷ set es q (plain u))) ≡ true
+    in_order different (end_vertices (plain v ∷ set es q (plain u))) ≡ true
 exchanged_ahead e es q u v once same h =
     both _ _
-    (different-all v (places (set es q (plain u))) (by_test (member v (places (set es q (plain u)))) (λ t. absurd (contrary (member-set es q (plain v) (plain u) v (and-right _ _ once) h t))) (λ f. f)))
-    (one_each-set es q (plain v) (plain u) (and-right _ _ once) h (ap (λ w. member w (places es)) (sym same) ∙ member-different e.vertex (places es) (and-left _ _ once)))
+    (different-all v (end_vertices (set es q (plain u))) (by_test (member v (end_vertices (set es q (plain u)))) (λ t. absurd (contrary (member-set es q (plain v) (plain u) v (and-right _ _ once) h t))) (λ f. f)))
+    (one_each-set es q (plain v) (plain u) (and-right _ _ once) h (ap (λ w. member w (end_vertices es)) (sym same) ∙ member-different e.vertex (end_vertices es) (and-left _ _ once)))
   where
-    contrary : (v ≡ u) ⊎ ((member v (places es) ≡ true) × (v ≢ v)) → ⊥
+    contrary : (v ≡ u) ⊎ ((member v (end_vertices es) ≡ true) × (v ≢ v)) → ⊥
     contrary (inl s) = apart_from e.vertex es q (plain v) (and-left _ _ once) h (same ∙ sym s)
     contrary (inr s) = s.1 refl
 
-one_each-exchanged : (es : List End) (p q u v : ℕ) → in_order different (places es) ≡ true → p ≢ q →
+one_each-exchanged : (es : List End) (p q u v : ℕ) → in_order different (end_vertices es) ≡ true → p ≢ q →
     slice_get es p ≡ Some (plain u) → slice_get es q ≡ Some (plain v) →
-    in_order different (places (set (set es p (plain v)) q (plain u))) ≡ true
+    in_order different (end_vertices (set (set es p (plain v)) q (plain u))) ≡ true
 one_each-exchanged [] p q u v once n h i = refl
 one_each-exchanged (e ∷ es) nought nought u v once n h i = absurd (n refl)
 one_each-exchanged (e ∷ es) nought (suc q) u v once n h i = exchanged_ahead e es q u v once (ap (λ (b : End). b.vertex) (first_is e (plain u) h)) i
@@ -189,13 +191,13 @@ exchange_formed_back g p q h w c = record {
   });
 }
   where
-    holds : (test : ℕ → Bool) → list_all test (places g.outputs) ≡ true →
-        list_all test (places (set (set g.outputs p (plain c.second)) q (plain c.first))) ≡ true
+    holds : (test : ℕ → Bool) → list_all test (end_vertices g.outputs) ≡ true →
+        list_all test (end_vertices (set (set g.outputs p (plain c.second)) q (plain c.first))) ≡ true
     holds test all =
-        list_all-set test (set g.outputs p (plain c.second)) q (plain c.first) (all_at test (places g.outputs) c.first all (member-places g.outputs p (plain c.first) c.output))
-        (list_all-set test g.outputs p (plain c.second) (all_at test (places g.outputs) c.second all (member-places g.outputs q (plain c.second) c.output_too)) all)
+        list_all-set test (set g.outputs p (plain c.second)) q (plain c.first) (all_at test (end_vertices g.outputs) c.first all (member-places g.outputs p (plain c.first) c.output))
+        (list_all-set test g.outputs p (plain c.second) (all_at test (end_vertices g.outputs) c.second all (member-places g.outputs q (plain c.second) c.output_too)) all)
 
-removal_formed : (g : Graph) (v : ℕ) (h : Graph) → WellFormed g → plane_of g v ≡ YZ → IsRemoval g v h → WellFormed h
+removal_formed : (g : Graph) (v : ℕ) (h : Graph) → WellFormed g → plane_of g v ≡ YZ → IsVertexRemoved g v h → WellFormed h
 removal_formed g v h w plane r =
     kept_removal g v (λ p k. k) h w (interior_of g v w (ap is_XY plane)) (λ p k t. t) (λ p k t. t) (r.vertices ∙ sym (with_kinds-identity (without v g.vertices))) r.ordered r.inputs r.outputs
 

@@ -7,7 +7,7 @@ use Rattle.zx_model.specs.Sums.{total, all_labels, labelled}
 use Rattle.zx_model.proofs.Ring.{expand, sorted, mul_assoc, one-mul}
 use Rattle.zx_model.proofs.SumLemmas.{labelled-same, labelled-other, sum_over_same}
 use Rattle.zx_calculus.specs.Parity.{quad}
-use Rattle.zx_calculus.specs.Graph.{End, Graph, ids, joined, places, in_order, different, WellFormed}
+use Rattle.zx_calculus.specs.Graph.{End, Graph, ids, joined, end_vertices, in_order, different, WellFormed}
 use Rattle.zx_calculus.specs.Sum.{spider, vertex_product, end_factor, end_product}
 use Rattle.zx_calculus.specs.Worked.{plain}
 use Rattle.zx_calculus.proofs.Ids.{by_equal, or-left, or-right, and-left, and-right, member-different}
@@ -114,7 +114,7 @@ leave-bit (e ∷ es) (suc q) u F label h =
 
 -- the label of a vertex that holds none of the ends doesn't matter
 pub leave-labelled : (es : List End) (u : ℕ) (f : List Bool → Number) (label : ℕ → Bool) (b : Bool) →
-    member u (places es) ≡ false → leave es f (labelled label u b) ≡ leave es f label
+    member u (end_vertices es) ≡ false → leave es f (labelled label u b) ≡ leave es f label
 leave-labelled [] u f label b absent = refl
 leave-labelled (e ∷ es) u f label b absent =
     ap₂ (λ l (p : Bool → Number). add (mul (end_factor e.hadamard l false) (p false)) (mul (end_factor e.hadamard l true) (p true)))
@@ -123,20 +123,20 @@ leave-labelled (e ∷ es) u f label b absent =
 
 -- a bit that is written after a plain output may be its label instead
 pub leave-set : (es : List End) (q u : ℕ) (f : List Bool → Number) (label : ℕ → Bool) (b : Bool) →
-    in_order different (places es) ≡ true → slice_get es q ≡ Some (plain u) →
+    in_order different (end_vertices es) ≡ true → slice_get es q ≡ Some (plain u) →
     leave es (λ z. f (set z q b)) label ≡ leave es f (labelled label u b)
 leave-set [] q u f label b once h = cc
 leave-set (e ∷ es) nought u f label b once h =
     subst (λ d. list_of d → leave (d ∷ es) (λ z. f (set z 0 b)) label ≡ leave (d ∷ es) f (labelled label u b)) (sym (first_is e (plain u) h)) at once
   where
     list_of : End → Type 0
-    list_of d = in_order different (places (d ∷ es)) ≡ true
+    list_of d = in_order different (end_vertices (d ∷ es)) ≡ true
 
-    at : in_order different (places (plain u ∷ es)) ≡ true →
+    at : in_order different (end_vertices (plain u ∷ es)) ≡ true →
         leave (plain u ∷ es) (λ z. f (set z 0 b)) label ≡ leave (plain u ∷ es) f (labelled label u b)
     at o =
         picked (label u) (λ c. leave es (λ z. f (b ∷ z)) label)
-        ∙ sym (leave-labelled es u (λ z. f (b ∷ z)) label b (member-different u (places es) (and-left _ _ o)))
+        ∙ sym (leave-labelled es u (λ z. f (b ∷ z)) label b (member-different u (end_vertices es) (and-left _ _ o)))
         ∙ sym (picked b (λ c. leave es (λ z. f (c ∷ z)) (labelled label u b)))
         ∙ ap (λ l. add (mul (end_factor false l false) (leave es (λ z. f (false ∷ z)) (labelled label u b))) (mul (end_factor false l true) (leave es (λ z. f (true ∷ z)) (labelled label u b)))) (sym (labelled-same label u b))
 leave-set (e ∷ es) (suc q) u f label b once h =
@@ -166,7 +166,7 @@ leave-cz es p q u v f label h i =
     ∙ leave-mul es (sign (label u && label v)) f label
 
 pub leave-cx : (es : List End) (c t u v : ℕ) (f : List Bool → Number) (label : ℕ → Bool) →
-    in_order different (places es) ≡ true → slice_get es c ≡ Some (plain u) → slice_get es t ≡ Some (plain v) →
+    in_order different (end_vertices es) ≡ true → slice_get es c ≡ Some (plain u) → slice_get es t ≡ Some (plain v) →
     leave es (act (Cx c t) f) label ≡ leave es f (labelled label v (xor (label u) (label v)))
 leave-cx es c t u v f label once h i =
     leave-bit es c u (λ b z. f (set z t (xor b (bit z t)))) label h
@@ -188,7 +188,7 @@ leave-h_bits es q u f label h =
     ∙ ap (add (leave es (λ z. f (set z q false)) label)) (leave-mul es (sign (label u)) (λ z. f (set z q true)) label)
 
 pub leave-h : (es : List End) (q u : ℕ) (f : List Bool → Number) (label : ℕ → Bool) →
-    in_order different (places es) ≡ true → slice_get es q ≡ Some (plain u) →
+    in_order different (end_vertices es) ≡ true → slice_get es q ≡ Some (plain u) →
     leave es (act (H q) f) label ≡ add (leave es f (labelled label u false)) (mul (sign (label u)) (leave es f (labelled label u true)))
 leave-h es q u f label once h =
     leave-h_bits es q u f label h

@@ -7,7 +7,7 @@ use Rattle.zx_model.specs.Sums.{labelled, sum_over}
 use Rattle.zx_model.proofs.Ring.{expand}
 use Rattle.zx_model.proofs.SumLemmas.{labelled-same, labelled-other, labelled-labelled, sum_over_same}
 use Rattle.zx_calculus.specs.Parity.{masked, quad}
-use Rattle.zx_calculus.specs.Graph.{Vertex, Graph, ids, kind_of, joined, places, is_XY, without, Distinct, WellFormed}
+use Rattle.zx_calculus.specs.Graph.{Vertex, Graph, ids, kind_of, joined, end_vertices, is_XY, without, Distinct, WellFormed}
 use Rattle.zx_calculus.specs.Sum.{factor, vertex_product, end_product}
 use Rattle.zx_calculus.specs.Worked.{plain}
 use Rattle.zx_calculus.proofs.Booleans.{parities, xor-false}
@@ -96,7 +96,7 @@ module _ (g : Graph) (c t : ℕ) (h : Graph) (wg : WellFormed g) (wh : WellForme
 
   one_factor : (b : Bool) → factor (kind_of h.vertices r.added) b ≡ one
   one_factor b =
-      factor-zero (kind_of h.vertices r.added) b (all_at (λ p. is_XY (kind_of h.vertices p).plane) (places h.outputs) r.added wh.outputs.at_XY (member-places h.outputs c (plain r.added) output))
+      factor-zero (kind_of h.vertices r.added) b (all_at (λ p. is_XY (kind_of h.vertices p).plane) (end_vertices h.outputs) r.added wh.outputs.at_XY (member-places h.outputs c (plain r.added) output))
       (ap (λ vs. (kind_of vs r.added).phase) (sym r.vertices) ∙ r.phase)
 
   -- what follows, with the bit of c
@@ -113,7 +113,7 @@ module _ (g : Graph) (c t : ℕ) (h : Graph) (wg : WellFormed g) (wh : WellForme
       ∙ ap (leave h.outputs f) (labelled-labelled label r.added b (xor (label r.to) b)))
     where
       unseen : (d : Bool) → end_product h.inputs x (labelled label r.added d) ≡ end_product h.inputs x label
-      unseen d = end_product-labelled r.added h.inputs x label d (ap (λ es. member r.added (places es)) (sym r.inputs) ∙ r.no_input)
+      unseen d = end_product-labelled r.added h.inputs x label d (ap (λ es. member r.added (end_vertices es)) (sym r.inputs) ∙ r.no_input)
 
   apart_from_added : (p : ℕ) → member p (ids ws) ≡ true → p ≢ r.added
   apart_from_added p s = apart_of_member p r.added (ids ws) s (member-without r.added h.vertices)

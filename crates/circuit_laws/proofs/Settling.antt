@@ -14,7 +14,7 @@ use Rattle.zx_calculus.specs.Worked.{plain}
 use Rattle.zx_calculus.proofs.Forms.{value}
 use Rattle.zx_calculus.proofs.Vertices.{ids-with_kinds}
 use Rattle.zx_calculus.proofs.Splitting.{distinct}
-use Rattle.zx_calculus.proofs.RemovalSum.{fused_product}
+use Rattle.zx_calculus.proofs.Gadgets.{fused_product}
 use Rattle.zx_calculus.proofs.Pairs.{quad-toggled}
 use Rattle.zx_gates.specs.Maps.{act}
 use Rattle.zx_gates.specs.declared.gate.Gate.TheVariants.{H, Phase, Cz}

@@ -1,10 +1,10 @@
 -- Changes as extraction makes them are the changes by which gates are peeled off.
-use Rattle.std.proofs.Common.{◌≡◌, ◌≢◌, sym, ◌∙◌, ap, ap₂, refl, ℕ, ◌<◌, Bool, true, false, cond, eqb, ◌||◌, List, [], ◌∷◌, set, arith, ne_eqb, ltb-true, true≢false, ◌+◌, length, eqb-true}
+use Rattle.std.proofs.Common.{◌≡◌, ◌≢◌, sym, ◌∙◌, ap, ap₂, refl, ℕ, ◌<◌, Bool, true, false, cond, eqb, ◌||◌, List, [], ◌∷◌, set, arith, ne_eqb, ltb-true, true≢false, ◌+◌, length}
 use Rattle.std.proofs.lemmas.List.{set-set}
 use Rattle.std.specs.Prelude.{slice_get}
 use Rattle.zx_model.specs.Phase.{turn, sum_of_phases}
 use Rattle.zx_model.specs.Bits.{member}
-use Rattle.zx_calculus.specs.Graph.{XY, Kind, Vertex, Graph, ids, kind_of, plane_of, phase_of, joined, places, is_XY, with_kinds, insert_vertex, WellFormed, Distinct}
+use Rattle.zx_calculus.specs.Graph.{XY, Kind, Vertex, Graph, ids, kind_of, plane_of, phase_of, joined, end_vertices, is_XY, with_kinds, insert_vertex, WellFormed, Distinct}
 use Rattle.zx_calculus.specs.Turns.{in_plane, with_phase_added}
 use Rattle.zx_calculus.specs.Gadgets.{fuse_kind}
 use Rattle.zx_calculus.specs.Worked.{plain}
@@ -16,21 +16,20 @@ use Rattle.zx_calculus.proofs.Vertices.{all_below_a_turn, kind_of-without, ids-w
 use Rattle.zx_calculus.proofs.Splitting.{distinct, member-without, no_loop, joined-absent}
 use Rattle.zx_calculus.proofs.Kept.{Below, KeepsXY, kept_kinds}
 use Rattle.zx_calculus.proofs.Reinsertion.{insert-without, joined-leaf}
-use Rattle.zx_calculus.specs.Reduced.{odd_phases}
+use Rattle.zx_calculus.specs.Counts.{odd_phases}
 use Rattle.zx_model.specs.Number.{Number, one}
 use Rattle.zx_gates.specs.Circuit.{gate_odd_phases as odd_gates}
-use Rattle.zx_gates.specs.Maps.{act, acts}
-use Rattle.zx_gates.specs.declared.gate.Gate.TheVariants.{H, Phase}
-use Rattle.zx_gates.proofs.MapLemmas.{act-phase-zero}
+use Rattle.zx_gates.specs.declared.gate.Gate.TheVariants.{H}
 use Rattle.circuit_laws.specs.Followed.{followed, PeelsAt}
-use Rattle.circuit_laws.specs.Gates.{phase_gates}
+use Rattle.zx_gates.specs.Lowering.{phase_gates}
 use Rattle.circuit_laws.proofs.Composing.{peels_exactly}
 use Rattle.circuit_laws.proofs.Settling.{phase_peeled}
 use Rattle.circuit_laws.proofs.Advancing.{spider_peels}
-use Rattle.circuit_laws.proofs.Counts.{one_gate, odd-phase_gates, phase_odd_exactly, spider_odd}
+use Rattle.circuit_laws.proofs.Counts.{one_gate, phase_odd_exactly, spider_odd}
 use Rattle.circuit_laws.specs.Peeling.{IsPhaseCleared, IsPhasePeel, IsAdvance, IsSpiderPeel, cleared_kind}
 use Rattle.circuit_laws.proofs.Places.{output_plane, output_there, slice_get-set, set_same}
 use Rattle.circuit_laws.proofs.Keeping.{same_edges, spider_formed_back}
+use Rattle.zx_gates.proofs.LoweringLemmas.{acts-phase_gates, odd-phase_gates}
 
 -- ---- a phase
 kind_back : (kind : Kind) → kind.phase < turn → with_phase_added kind.phase (in_plane kind.plane 0) ≡ kind
@@ -130,8 +129,8 @@ module _ (g : Graph) (q : ℕ) (h : Graph) (w : WellFormed g) (c : IsAdvance g q
   next_apart : c.next ≢ c.spider
   next_apart e = true≢false (sym at_next ∙ ap (λ p. joined g.edges p c.spider) e ∙ no_loop g c.spider w)
 
-  pub advanced_formed : member c.spider (places g.inputs) ≡ false → plane_of g c.next ≡ XY →
-      member c.next (places g.outputs) ≡ false → WellFormed h
+  pub advanced_formed : member c.spider (end_vertices g.inputs) ≡ false → plane_of g c.next ≡ XY →
+      member c.next (end_vertices g.outputs) ≡ false → WellFormed h
   unfolding advanced
   advanced_formed no_input plane no_output =
       spider_formed_back g q h w advanced no_input
@@ -140,18 +139,11 @@ module _ (g : Graph) (q : ℕ) (h : Graph) (w : WellFormed g) (c : IsAdvance g q
       no_output
 
 -- ---- their gates and their odd phases
-acts-phase_gates : (q k : ℕ) (f : List Bool → Number) → act (Phase q k) f ≡ acts (phase_gates q k) f
-acts-phase_gates q k f = at (eqb k 0) refl
-  where
-    at : (b : Bool) → eqb k 0 ≡ b → act (Phase q k) f ≡ acts (cond b [] (Phase q k ∷ [])) f
-    at true e = ap (λ j. act (Phase q j) f) (eqb-true k 0 e) ∙ act-phase-zero q f
-    at false e = refl
-
 pub cleared_gates : (g : Graph) (q : ℕ) (h : Graph) → WellFormed g → (c : IsPhaseCleared g q h) → PeelsAt one g (phase_gates q (phase_of g c.vertex)) h
 cleared_gates g q h w c =
     peels_exactly g (phase_gates q (phase_of g c.vertex)) h (ap length c.inputs) (ap length c.outputs)
     (λ f x. phase_peeled g q (phase_of g c.vertex) h f x w (phase_cleared_formed g q h w c) (phase_cleared g q h w c)
-    ∙ ap (λ (e : List Bool → Number). followed h e x) (acts-phase_gates q (phase_of g c.vertex) f))
+    ∙ ap (λ (e : List Bool → Number). followed h e x) (sym (acts-phase_gates q (phase_of g c.vertex) f)))
 
 pub cleared_odd : (g : Graph) (q : ℕ) (h : Graph) → WellFormed g → (c : IsPhaseCleared g q h) → odd_phases g ≡ odd_phases h + odd_gates (phase_gates q (phase_of g c.vertex))
 unfolding phase_cleared

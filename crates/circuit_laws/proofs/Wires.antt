@@ -11,7 +11,7 @@ use Rattle.zx_model.proofs.Ring.{expand, mul_assoc, one-mul, one_nonzero}
 use Rattle.zx_model.proofs.Powers.{root_power-zero}
 use Rattle.zx_model.proofs.SumLemmas.{labelled-same, labelled-other, sum_over_same, sum_over_add, sum_over_mul}
 use Rattle.zx_calculus.specs.Parity.{quad}
-use Rattle.zx_calculus.specs.Graph.{Plane, XY, XZ, YZ, Kind, Vertex, End, Graph, ids, kind_of, is_XY, joined, places, in_order, different, WellFormed}
+use Rattle.zx_calculus.specs.Graph.{Plane, XY, XZ, YZ, Kind, Vertex, End, Graph, ids, kind_of, is_XY, joined, end_vertices, in_order, different, WellFormed}
 use Rattle.zx_calculus.specs.Sum.{factor, factor_in, vertex_product, end_factor, end_product}
 use Rattle.zx_calculus.specs.Worked.{plain}
 use Rattle.zx_calculus.proofs.Booleans.{parities, or-true}
@@ -66,8 +66,8 @@ through (e ∷ es) f (b ∷ x) =
 
 -- each vertex of the list has one input and one output
 wires_through : (ins outs : List End) (vs : List ℕ) (f : List Bool → Number) (x : List Bool) → Distinct vs →
-    places ins ≡ places outs → in_order different (places outs) ≡ true →
-    ((u : ℕ) → member u vs ≡ member u (places outs)) → list_all (λ e. not e.hadamard) outs ≡ true →
+    end_vertices ins ≡ end_vertices outs → in_order different (end_vertices outs) ≡ true →
+    ((u : ℕ) → member u vs ≡ member u (end_vertices outs)) → list_all (λ e. not e.hadamard) outs ≡ true →
     length x ≡ length ins →
     sum_over vs (λ label. mul (end_product ins x label) (leave outs f label)) ≡ through ins f x
 wires_through [] [] [] f x d line once same unmarked l = one-mul (f [])
@@ -76,7 +76,7 @@ wires_through [] (o ∷ outs) vs f x d line once same unmarked l = cc
 wires_through (i ∷ ins) [] vs f x d line once same unmarked l = cc
 wires_through (i ∷ ins) (o ∷ outs) vs f [] d line once same unmarked l = absurd (omega arith)
 wires_through (i ∷ ins) (o ∷ outs) vs f (b ∷ x) d line once same unmarked l =
-    sum_over_front o.vertex vs whole d (same o.vertex ∙ ap (λ b. b || member o.vertex (places outs)) (eqb-self o.vertex))
+    sum_over_front o.vertex vs whole d (same o.vertex ∙ ap (λ b. b || member o.vertex (end_vertices outs)) (eqb-self o.vertex))
     ∙ sum_over_same (removed o.vertex vs) _ _ (λ label. ap₂ add (at label false) (at label true))
     ∙ sum_over_add (removed o.vertex vs) (λ label. mul (end_factor i.hadamard false b) (rest false label)) (λ label. mul (end_factor i.hadamard true b) (rest true label))
     ∙ ap₂ add (sum_over_mul (end_factor i.hadamard false b) (removed o.vertex vs) (rest false)) (sum_over_mul (end_factor i.hadamard true b) (removed o.vertex vs) (rest true))
@@ -93,16 +93,16 @@ wires_through (i ∷ ins) (o ∷ outs) vs f (b ∷ x) d line once same unmarked 
     same_place : i.vertex ≡ o.vertex
     same_place = cc
 
-    in_line : places ins ≡ places outs
+    in_line : end_vertices ins ≡ end_vertices outs
     in_line = cc
 
-    absent : member o.vertex (places outs) ≡ false
-    absent = member-different o.vertex (places outs) (and-left _ _ once)
+    absent : member o.vertex (end_vertices outs) ≡ false
+    absent = member-different o.vertex (end_vertices outs) (and-left _ _ once)
 
-    others : (u : ℕ) → member u (removed o.vertex vs) ≡ member u (places outs)
+    others : (u : ℕ) → member u (removed o.vertex vs) ≡ member u (end_vertices outs)
     others u =
-        by_equal u o.vertex (λ t e. ap (λ w. member w (removed o.vertex vs)) e ∙ member-removed o.vertex vs ∙ sym (ap (λ w. member w (places outs)) e ∙ absent))
-        (λ t n. member-removed_other u o.vertex vs n ∙ same u ∙ ap (λ c. c || member u (places outs)) t)
+        by_equal u o.vertex (λ t e. ap (λ w. member w (removed o.vertex vs)) e ∙ member-removed o.vertex vs ∙ sym (ap (λ w. member w (end_vertices outs)) e ∙ absent))
+        (λ t n. member-removed_other u o.vertex vs n ∙ same u ∙ ap (λ c. c || member u (end_vertices outs)) t)
 
     is_plain : o.hadamard ≡ false
     is_plain = not-true o.hadamard (and-left (not o.hadamard) (list_all (λ e. not e.hadamard) outs) unmarked)
@@ -166,12 +166,12 @@ acts-hadamards (e ∷ es) before (b ∷ x) f l =
 
 module _ (g : Graph) (w : WellFormed g) (c : IsWires g) where
   ones : (u : ℕ) (b : Bool) → member u (ids g.vertices) ≡ true → factor (kind_of g.vertices u) b ≡ one
-  ones u b t = factor-zero (kind_of g.vertices u) b (all_at (λ p. is_XY (kind_of g.vertices p).plane) (places g.outputs) u w.outputs.at_XY (c.output u t)) (c.phase u t)
+  ones u b t = factor-zero (kind_of g.vertices u) b (all_at (λ p. is_XY (kind_of g.vertices p).plane) (end_vertices g.outputs) u w.outputs.at_XY (c.output u t)) (c.phase u t)
 
-  members : (u : ℕ) → member u (ids g.vertices) ≡ member u (places g.outputs)
+  members : (u : ℕ) → member u (ids g.vertices) ≡ member u (end_vertices g.outputs)
   members u =
       by_test (member u (ids g.vertices)) (λ t. t ∙ sym (c.output u t))
-      (λ f. f ∙ sym (absent_from (ids g.vertices) (places g.outputs) u w.outputs.there f))
+      (λ f. f ∙ sym (absent_from (ids g.vertices) (end_vertices g.outputs) u w.outputs.there f))
 
   pub wires_peeled : (f : List Bool → Number) (x : List Bool) → length x ≡ length g.inputs →
       followed g f x ≡ acts (hadamards_from 0 g.inputs) f x
@@ -227,7 +227,7 @@ module _ (g : Graph) (p q : ℕ) (h : Graph) (wg : WellFormed g) (wh : WellForme
   apart e = c.different (one_place g.outputs p q (plain c.first) (plain c.second) wg.outputs.one_each c.output c.output_too (sym e))
 
   module _ (f : List Bool → Number) (label : ℕ → Bool) where
-    -- f with the labels written at the two places
+    -- f with the labels written at the two end_vertices
     abbrev written : List Bool → Number
     written z = f (set (set z p (label c.first)) q (label c.second))
 

@@ -1,8 +1,9 @@
 -- Lists of gates that stand for parts of a graph.
-use Rattle.std.specs.Prelude.{ℕ, suc, if◌then◌else◌, ◌==◌, List, [], ◌∷◌, ◌++◌}
+use Rattle.std.specs.Prelude.{ℕ, suc, if◌then◌else◌, List, [], ◌∷◌, ◌++◌}
 use Rattle.zx_calculus.specs.Graph.{End}
 use Rattle.zx_gates.specs.declared.gate.Gate.{Gate}
-use Rattle.zx_gates.specs.declared.gate.Gate.TheVariants.{H, Phase, Cx}
+use Rattle.zx_gates.specs.declared.gate.Gate.TheVariants.{H, Cx}
+use Rattle.zx_gates.specs.Lowering.{phase_gates}
 
 -- H for each end that carries a Hadamard, the first end on the qubit q and so on
 abbrev pub hadamards_from : ℕ → List End → List Gate
@@ -12,10 +13,6 @@ hadamards_from q (e ∷ es) = if e.hadamard then H q ∷ hadamards_from (suc q) 
 -- the exchange of two qubits
 abbrev pub exchange_gates : ℕ → ℕ → List Gate
 exchange_gates p q = Cx p q ∷ Cx q p ∷ Cx p q ∷ []
-
--- a phase gate, and none where the phase is 0
-abbrev pub phase_gates : ℕ → ℕ → List Gate
-phase_gates q k = if k == 0 then [] else Phase q k ∷ []
 
 -- a phase gate on the target, to which the bits of the other qubits are added before, and taken off again
 abbrev pub gadget_on : ℕ → ℕ → List ℕ → List Gate

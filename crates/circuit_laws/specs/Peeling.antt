@@ -1,15 +1,22 @@
 -- Changes at the outputs of a graph g by which a gate is taken off, which leaves h. Read from h to g, each puts its
 -- gate after h. Backens, Miller-Bakewell, de Felice, Lobski and van de Wetering (Quantum 5, 421, 2021), on the
 -- frontier of circuit extraction.
-use Rattle.std.specs.Prelude.{◌≡◌, ◌≢◌, ℕ, true, false, not, ◌||◌, List, ◌∷◌, slice_get, slice_set, Some, if◌then◌else◌, ◌==◌}
+use Rattle.std.specs.Prelude.{◌≡◌, ◌≢◌, ℕ, Bool, true, false, not, ◌||◌, List, ◌∷◌, slice_get, slice_set, Some}
+use Rattle.std.specs.Prelude.{if◌then◌else◌, ◌==◌}
 use Rattle.std.specs.List.{list_all, AllZip}
 use Rattle.zx_model.specs.Bits.{xor, member}
-use Rattle.zx_calculus.specs.Graph.{YZ, Kind, End, Graph, ids, joined, plane_of, phase_of, places, Live, Distinct, OrderedEdges, with_kinds, without, insert_vertex}
+use Rattle.zx_calculus.specs.Graph.{YZ, Kind, End, Graph, ids, joined, plane_of, phase_of, end_vertices, Live, Distinct}
+use Rattle.zx_calculus.specs.Graph.{OrderedEdges, with_kinds, without, insert_vertex}
 use Rattle.zx_calculus.specs.Turns.{in_plane}
-use Rattle.zx_calculus.specs.Boundary.{spider_of_phase_zero, is_pair}
+use Rattle.zx_calculus.specs.Splits.{spider_of_phase_zero}
+use Rattle.zx_calculus.specs.Edits.{is_pair}
 use Rattle.zx_calculus.specs.Gadgets.{fuse_kind}
 use Rattle.zx_calculus.specs.Worked.{plain}
 use Rattle.gflow_laws.specs.Outputs.{row_added}
+
+-- all ends are plain
+abbrev pub are_plain : List End → Bool
+are_plain ends = list_all (λ e. not e.hadamard) ends
 
 -- the output q is plain and stands at the vertex u
 abbrev pub HasPlainOutput : Graph → ℕ → ℕ → Type 0
@@ -100,7 +107,7 @@ pub record IsRowAddition (g : Graph) (c t : ℕ) (h : Graph) : Type 0 where
   pub output : HasPlainOutput g c added
   pub output_too : HasPlainOutput g t to
   pub phase : phase_of g added ≡ 0
-  pub no_input : member added (places g.inputs) ≡ false
+  pub no_input : member added (end_vertices g.inputs) ≡ false
   pub not_adjacent : joined g.edges added to ≡ false
   pub vertices : g.vertices ≡ h.vertices
   pub ordered : OrderedEdges (ids g.vertices) g.edges
@@ -125,13 +132,13 @@ pub record IsExchange (g : Graph) (p q : ℕ) (h : Graph) : Type 0 where
 -- edges, and the outputs are plain
 pub record IsWires (g : Graph) : Type 0 where
   pub phase : (u : ℕ) → Live g u → phase_of g u ≡ 0
-  pub output : (u : ℕ) → Live g u → member u (places g.outputs) ≡ true
-  pub in_line : places g.inputs ≡ places g.outputs
+  pub output : (u : ℕ) → Live g u → member u (end_vertices g.outputs) ≡ true
+  pub in_line : end_vertices g.inputs ≡ end_vertices g.outputs
   pub plain_outputs : list_all (λ e. not e.hadamard) g.outputs ≡ true
   pub no_edges : (p q : ℕ) → joined g.edges p q ≡ false
 
 -- h is g without the vertex v and its edges
-pub record IsRemoval (g : Graph) (v : ℕ) (h : Graph) : Type 0 where
+pub record IsVertexRemoved (g : Graph) (v : ℕ) (h : Graph) : Type 0 where
   pub there : Live g v
   pub vertices : h.vertices ≡ without v g.vertices
   pub ordered : OrderedEdges (ids h.vertices) h.edges
@@ -146,7 +153,7 @@ pub record IsGadgetPeel (g : Graph) (v : ℕ) (qubits : List ℕ) (h : Graph) : 
   pub once : Distinct legs
   pub at_outputs : AllZip (HasPlainOutput g) qubits legs
   pub neighbours : (p : ℕ) → joined g.edges v p ≡ member p legs
-  pub removal : IsRemoval g v h
+  pub removal : IsVertexRemoved g v h
 
 -- a gadget through an output: the YZ vertex v goes, whose neighbours are those of the vertex at the output q, which has
 -- phase 0 and no input, and the vertices at some other outputs
@@ -156,8 +163,8 @@ pub record IsLinkedGadgetPeel (g : Graph) (v q : ℕ) (qubits : List ℕ) (h : G
   pub plane : plane_of g v ≡ YZ
   pub output : HasPlainOutput g q link
   pub phase : phase_of g link ≡ 0
-  pub no_input : member link (places g.inputs) ≡ false
+  pub no_input : member link (end_vertices g.inputs) ≡ false
   pub once : Distinct (link ∷ legs)
   pub at_outputs : AllZip (HasPlainOutput g) qubits legs
   pub neighbours : (p : ℕ) → joined g.edges v p ≡ xor (joined g.edges link p) (member p legs)
-  pub removal : IsRemoval g v h
+  pub removal : IsVertexRemoved g v h

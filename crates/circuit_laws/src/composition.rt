@@ -10,7 +10,7 @@ ghost use Rattle.zx_calculus.specs.Sum.{sum};
 ghost use Rattle.zx_gates.specs.Maps.{amp};
 ghost use Rattle.circuit_laws.specs.Followed.{followed, Peels, PeelsAt, Ends, EndsAt, IsMultiple};
 
-use zx_gates::gate::Gate;
+use zx_gates::Gate;
 
 /// Gates that are peeled off one after the other, from the last one on, are the circuit. Others with the same map
 /// may stand in their place.

@@ -10,7 +10,7 @@ ghost use Rattle.circuit_laws.specs.Peeling.{IsMarkPeel, IsEdgePeel, IsGadgetPee
 ghost use Rattle.circuit_laws.specs.Gates.{exchange_gates, linked_gadget_gates};
 ghost use Rattle.circuit_laws.specs.Worked.{bell_pair, bell_unmarked, bell_wires, wires_with_gadget, two_wires, before_addition, after_addition, crossing, linked_gadget, unlinked, advanced_wires};
 
-use zx_gates::gate::Gate;
+use zx_gates::Gate;
 
 /// A Bell pair is made by H and Cx: entry by entry, and by what is peeled off its graph.
 pub fn bell_pair_is_h_and_cx()

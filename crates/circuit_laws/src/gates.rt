@@ -4,10 +4,11 @@ ghost use Rattle.std.specs.Prelude.{ℕ, ◌+◌, ◌*◌, ◌≤◌, List, leng
 ghost use Rattle.std.specs.List.{All};
 ghost use Rattle.zx_calculus.specs.Graph.{End, Graph, phase_of};
 ghost use Rattle.zx_gates.specs.Circuit.{IsOnQubits};
-ghost use Rattle.circuit_laws.specs.Gates.{hadamards_from, exchange_gates, phase_gates, gadget_gates, linked_gadget_gates};
+ghost use Rattle.circuit_laws.specs.Gates.{hadamards_from, exchange_gates, gadget_gates, linked_gadget_gates};
+ghost use Rattle.zx_gates.specs.Lowering.{phase_gates};
 ghost use Rattle.circuit_laws.specs.Peeling.{IsPhaseCleared, IsEdgePeel, IsMarkPeel, IsSpiderPeel, IsRowAddition, IsGadgetPeel, IsLinkedGadgetPeel, IsExchange};
 
-use zx_gates::gate::Gate;
+use zx_gates::Gate;
 
 /// Gates that are peeled off are on the qubits of the outputs, and the two of a gate differ.
 pub fn peeled_gates_are_on_the_outputs()

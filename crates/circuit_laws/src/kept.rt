@@ -2,14 +2,13 @@
 
 ghost use Rattle.std.specs.Prelude.{◌≡◌, ◌+◌, ◌≤◌, ℕ, false, List, [], ◌∷◌};
 ghost use Rattle.zx_model.specs.Bits.{member};
-ghost use Rattle.zx_calculus.specs.Graph.{XY, Graph, places, plane_of, phase_of, Live, WellFormed};
-ghost use Rattle.zx_calculus.specs.Reduced.{odd_phases};
+ghost use Rattle.zx_calculus.specs.Graph.{XY, Graph, end_vertices, plane_of, phase_of, Live, WellFormed, End};
+ghost use Rattle.zx_calculus.specs.Counts.{odd_phases};
 ghost use Rattle.zx_gates.specs.Circuit.{gate_odd_phases};
 ghost use Rattle.circuit_laws.specs.Gates.{hadamards_from, gadget_gates, linked_gadget_gates};
 ghost use Rattle.circuit_laws.specs.Peeling.{IsPhasePeel, IsEdgePeel, IsMarkPeel, IsSpiderPeel, IsRowAddition, IsGadgetPeel, IsLinkedGadgetPeel, IsExchange};
-ghost use Rattle.zx_calculus.specs.Graph.{End};
 
-use zx_gates::gate::Gate;
+use zx_gates::Gate;
 
 /// Putting a gate after a graph keeps well-formedness.
 pub fn added_gates_keep_form()
@@ -33,8 +32,8 @@ pub fn peeled_gates_keep_form()
     ensures mark { (g : Graph) (q : ℕ) (h : Graph) → WellFormed g → IsMarkPeel g q h →
         WellFormed h }
     ensures spider { (g : Graph) (q : ℕ) (h : Graph) → WellFormed g → (c : IsSpiderPeel g q h) →
-        member c.spider (places g.inputs) ≡ false → Live h c.next → plane_of h c.next ≡ XY →
-        member c.next (places g.outputs) ≡ false → WellFormed h }
+        member c.spider (end_vertices g.inputs) ≡ false → Live h c.next → plane_of h c.next ≡ XY →
+        member c.next (end_vertices g.outputs) ≡ false → WellFormed h }
     ensures row { (g : Graph) (c t : ℕ) (h : Graph) → WellFormed g → IsRowAddition g c t h →
         WellFormed h }
     ensures exchange { (g : Graph) (p q : ℕ) (h : Graph) → WellFormed g → IsExchange g p q h →
@@ -67,7 +66,7 @@ pub fn peeling_counts_odd_phases()
         IsGadgetPeel g v qubits h →
         odd_phases h + gate_odd_phases (gadget_gates (phase_of g v) qubits) ≤ odd_phases g }
     ensures linked_gadget { (g : Graph) (v q : ℕ) (qubits : List ℕ) (h : Graph) → WellFormed g →
-        IsLinkedGadgetPeel g v q qubits h →
-        odd_phases g ≡ odd_phases h + gate_odd_phases (linked_gadget_gates (phase_of g v) q qubits) }
+        IsLinkedGadgetPeel g v q qubits h → odd_phases g ≡
+        odd_phases h + gate_odd_phases (linked_gadget_gates (phase_of g v) q qubits) }
     ensures hadamards { (q : ℕ) (ends : List End) → gate_odd_phases (hadamards_from q ends) ≡ 0 }
 {}

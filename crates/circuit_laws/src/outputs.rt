@@ -9,7 +9,7 @@ ghost use Rattle.circuit_laws.specs.Followed.{PeelsAt, EndsAt};
 ghost use Rattle.circuit_laws.specs.Gates.{hadamards_from, exchange_gates, gadget_gates, linked_gadget_gates};
 ghost use Rattle.circuit_laws.specs.Peeling.{IsPhasePeel, IsEdgePeel, IsMarkPeel, IsSpiderPeel, IsRowAddition, IsGadgetPeel, IsLinkedGadgetPeel, IsExchange, IsWires};
 
-use zx_gates::gate::Gate;
+use zx_gates::Gate;
 
 /// A phase, an edge between two outputs and a Hadamard mark at an output.
 pub fn settled_outputs_are_gates()

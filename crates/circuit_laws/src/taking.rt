@@ -3,14 +3,14 @@
 ghost use Rattle.std.specs.Prelude.{◌≡◌, ◌+◌, ℕ, false, [], ◌∷◌};
 ghost use Rattle.zx_model.specs.Bits.{member};
 ghost use Rattle.zx_model.specs.Number.{one};
-ghost use Rattle.zx_calculus.specs.Graph.{XY, Graph, places, plane_of, phase_of, WellFormed};
-ghost use Rattle.zx_calculus.specs.Reduced.{odd_phases};
+ghost use Rattle.zx_calculus.specs.Graph.{XY, Graph, end_vertices, plane_of, phase_of, WellFormed};
+ghost use Rattle.zx_calculus.specs.Counts.{odd_phases};
 ghost use Rattle.zx_gates.specs.Circuit.{gate_odd_phases};
 ghost use Rattle.circuit_laws.specs.Followed.{PeelsAt};
-ghost use Rattle.circuit_laws.specs.Gates.{phase_gates};
+ghost use Rattle.zx_gates.specs.Lowering.{phase_gates};
 ghost use Rattle.circuit_laws.specs.Peeling.{IsPhaseCleared, IsPhasePeel, IsAdvance, IsSpiderPeel};
 
-use zx_gates::gate::Gate;
+use zx_gates::Gate;
 
 /// Taking the phase of an output away peels off its gate, where it isn't 0.
 pub fn clearing_a_phase_peels_it()
@@ -34,8 +34,8 @@ pub fn advancing_peels_a_spider()
     ensures odd { (g : Graph) (q : ℕ) (h : Graph) → WellFormed g → IsAdvance g q h →
         odd_phases g ≡ odd_phases h }
     ensures form { (g : Graph) (q : ℕ) (h : Graph) → WellFormed g → (c : IsAdvance g q h) →
-        member c.spider (places g.inputs) ≡ false → plane_of g c.next ≡ XY →
-        member c.next (places g.outputs) ≡ false → WellFormed h }
+        member c.spider (end_vertices g.inputs) ≡ false → plane_of g c.next ≡ XY →
+        member c.next (end_vertices g.outputs) ≡ false → WellFormed h }
     ensures peel { (g : Graph) (q : ℕ) (h : Graph) → WellFormed g → IsAdvance g q h →
         IsSpiderPeel g q h }
 {}

@@ -1,7 +1,7 @@
 -- Where every vertex is an output, and there are as many inputs, every vertex is an input.
 use Rattle.std.proofs.Common.{◌≡◌, refl, sym, ◌∙◌, ap, ap₂, ℕ, suc, ◌<◌, ◌≤◌, true, not, ◌&&◌, ◌||◌, eqb, List, [], ◌∷◌, length, true≢false, arith}
 use Rattle.zx_model.specs.Bits.{member}
-use Rattle.zx_calculus.specs.Graph.{End, Graph, ids, places, Distinct, WellFormed}
+use Rattle.zx_calculus.specs.Graph.{End, Graph, ids, end_vertices, Distinct, WellFormed}
 use Rattle.zx_calculus.proofs.Ids.{by_test, by_equal, removed, member-here, member-there, Distinct-different}
 use Rattle.zx_calculus.proofs.Splitting.{all_at}
 use Rattle.gflow_laws.specs.Seen.{seen}
@@ -36,20 +36,20 @@ same_members (x ∷ xs) ys d short inside w =
     within : (v : ℕ) → member v xs ≡ true → member v (removed x ys) ≡ true
     within v t = member-removed v x ys ∙ ap₂ (λ a b. not a && b) (by_equal v x (λ s same. absurd (true≢false (sym t ∙ ap (λ y. member y xs) same ∙ d.0))) (λ f ne. f)) (inside v (member-there v x xs t))
 
-pub length-places : (ends : List End) → length (places ends) ≡ length ends
+pub length-places : (ends : List End) → length (end_vertices ends) ≡ length ends
 length-places [] = refl
 length-places (e ∷ es) = ap suc (length-places es)
 
 pub all_ends : (g : Graph) → WellFormed g → IsFlow g [] → length g.inputs ≡ length g.outputs → (v : ℕ) → member v (ids g.vertices) ≡ true →
-    (member v (places g.inputs) ≡ true) × (member v (places g.outputs) ≡ true)
-all_ends g wf flow equal v there = (same_members (places g.inputs) (places g.outputs) (Distinct-different (places g.inputs) wf.inputs.one_each) short inside v ∙ output v there, output v there)
+    (member v (end_vertices g.inputs) ≡ true) × (member v (end_vertices g.outputs) ≡ true)
+all_ends g wf flow equal v there = (same_members (end_vertices g.inputs) (end_vertices g.outputs) (Distinct-different (end_vertices g.inputs) wf.inputs.one_each) short inside v ∙ output v there, output v there)
   where
-    output : (w : ℕ) → member w (ids g.vertices) ≡ true → member w (places g.outputs) ≡ true
-    output w within = by_test (member w (places g.outputs)) (λ t. t)
+    output : (w : ℕ) → member w (ids g.vertices) ≡ true → member w (end_vertices g.outputs) ≡ true
+    output w within = by_test (member w (end_vertices g.outputs)) (λ t. t)
         (λ f. absurd (true≢false (sym ((Flows-from (seen g) [] flow).non_outputs w ∙ ap₂ (λ a b. a && not b) within f))))
 
-    inside : (w : ℕ) → member w (places g.inputs) ≡ true → member w (places g.outputs) ≡ true
-    inside w t = output w (all_at (λ u. member u (ids g.vertices)) (places g.inputs) w wf.inputs.there t)
+    inside : (w : ℕ) → member w (end_vertices g.inputs) ≡ true → member w (end_vertices g.outputs) ≡ true
+    inside w t = output w (all_at (λ u. member u (ids g.vertices)) (end_vertices g.inputs) w wf.inputs.there t)
 
-    short : length (places g.outputs) ≤ length (places g.inputs)
+    short : length (end_vertices g.outputs) ≤ length (end_vertices g.inputs)
     short = omega (arith, length-places g.inputs, length-places g.outputs, equal)

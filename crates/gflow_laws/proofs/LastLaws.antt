@@ -2,21 +2,22 @@
 -- after its vertex became an output, or went.
 use Rattle.std.proofs.Common.{◌≡◌, ◌≢◌, inl, inr, refl, sym, ◌∙◌, ap, ap₂, subst, ℕ, Bool, true, false, cond, not, ◌&&◌, ◌||◌, eqb, List, [], ◌∷◌, ◌++◌, filter, eq-eqb, ne_eqb, true≢false, eqb-true}
 use Rattle.zx_model.specs.Bits.{xor, member}
-use Rattle.zx_calculus.specs.Graph.{XY, YZ, Graph, ids, joined, places, plane_of, WellFormed, different}
+use Rattle.zx_calculus.specs.Graph.{XY, YZ, Graph, ids, joined, end_vertices, plane_of, WellFormed, different}
 use Rattle.zx_calculus.proofs.Booleans.{parities, xor-false, and-false, and-true, or-true, or-false}
 use Rattle.zx_calculus.proofs.Ids.{by_test, by_equal, and-left, and-right, or-left, or-right, eqb-self, eqb_comm, member-here, member-filter, Distinct-removed, removed, apart_of_member}
 use Rattle.zx_calculus.proofs.Splitting.{interior_of, off_XY}
 use Rattle.zx_calculus.proofs.Kept.{both}
 use Rattle.gflow_laws.specs.Seen.{Seen, seen, odd}
 use Rattle.gflow_laws.specs.Flow.{Correction, order_of, set_of, is_in, is_later, IsFlow}
-use Rattle.gflow_laws.specs.Tables.{with_sets, without_set, symmetric_difference, removal_table}
+use Rattle.gflow_laws.specs.Tables.{with_sets, without_set, symmetric_difference}
+use Rattle.gflow_laws.specs.Removals.{removal_table}
 use Rattle.gflow_laws.specs.Correcting.{Alike, Corrects, Distinct, FlowAsFunctions, Simple, inside_in, odd_in}
 use Rattle.gflow_laws.specs.Outputs.{with_row_added, MayAddRow, row_added_set, row_added_table, IsLast, IsLeafOutput, others, without_vertex, advanced, advanced_table, last_removed_table}
 use Rattle.gflow_laws.proofs.Linear.{masked-same, masked-none, masked-of-xor, masked-one}
-use Rattle.gflow_laws.proofs.Removal.{removed_from, odd-removed}
+use Rattle.gflow_laws.proofs.Removals.{removed_from, odd-removed, Flows-removal}
 use Rattle.gflow_laws.proofs.Lists.{is_in-one, is_later-outside, member-append}
 use Rattle.gflow_laws.proofs.Flows.{live, Flows-from}
-use Rattle.gflow_laws.proofs.TableLaws.{Flows-removal, order_of-append, with_sets-append, set_of-append, set_of-last, Corrects-same, Flows-with_sets}
+use Rattle.gflow_laws.proofs.Tables.{order_of-append, with_sets-append, set_of-append, set_of-last, Corrects-same, Flows-with_sets}
 use Rattle.gflow_laws.proofs.OutputLaws.{Corrects-changed, no_output, not_output, flow_seen, Simple-row_added, Flows-row_added}
 use Rattle.gflow_laws.proofs.Views.{Simple-seen}
 
@@ -147,7 +148,7 @@ last-not_odd s pre e last plane =
 -- ---- rows added, one after the other, until one member is left
 
 pub last_of_graph : (g : Graph) (pre : List Correction) (e : Correction) → WellFormed g → IsFlow g (pre ++ e ∷ []) →
-    ((p q : ℕ) → member p (places g.outputs) ≡ true → member q (places g.outputs) ≡ true → joined g.edges p q ≡ false) → IsLast (seen g) pre e
+    ((p q : ℕ) → member p (end_vertices g.outputs) ≡ true → member q (end_vertices g.outputs) ≡ true → joined g.edges p q ≡ false) → IsLast (seen g) pre e
 last_of_graph g pre e wf flow apart = record { simple = Simple-seen g wf; flow = Flows-from (seen g) (pre ++ e ∷ []) flow; apart = apart }
 
 pub last-row_added : (s : Seen) (c t : ℕ) (pre : List Correction) (e : Correction) → MayAddRow s c t → IsLast s pre e →

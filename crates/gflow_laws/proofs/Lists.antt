@@ -3,7 +3,7 @@ use Rattle.std.proofs.Common.{◌≡◌, ◌≢◌, refl, sym, ◌∙◌, ap, ap
 use Rattle.std.proofs.lemmas.Bool.{cases_Bool, cases_eq, true≢false, eqb-false, or_parts, or_from}
 use Rattle.zx_model.specs.Bits.{xor, member}
 use Rattle.zx_calculus.specs.Graph.{in_order, different}
-use Rattle.zx_calculus.proofs.Booleans.{or_assoc}
+pub use Rattle.zx_calculus.proofs.Ids.{member-append}
 use Rattle.zx_calculus.proofs.Ids.{member-filter}
 use Rattle.zx_calculus.proofs.Kept.{both, different-all}
 use Rattle.gflow_laws.specs.Flow.{is_in, is_later}
@@ -14,10 +14,6 @@ use Rattle.gflow_laws.proofs.Linear.{removed}
 pub in_order-from : (vs : List ℕ) → Distinct vs → in_order different vs ≡ true
 in_order-from [] d = refl
 in_order-from (v ∷ vs) d = both _ _ (different-all v vs d.0) (in_order-from vs d.1)
-
-pub member-append : (w : ℕ) (xs ys : List ℕ) → member w (xs ++ ys) ≡ (member w xs || member w ys)
-member-append w [] ys = refl
-member-append w (x ∷ xs) ys = ap (λ b. eqb w x || b) (member-append w xs ys) ∙ or_assoc (eqb w x) (member w xs) (member w ys)
 
 one_of_two : (a b : Bool) → ((a && not b) || (b && not a)) ≡ xor a b
 one_of_two true true = refl

@@ -2,11 +2,11 @@
 -- the vertices without outputs count.
 use Rattle.std.proofs.Common.{◌≡◌, ◌≢◌, ◌⊎◌, inl, inr, refl, sym, ◌∙◌, ap, ap₂, ⊎_elim, ℕ, Bool, true, false, cond, ◌&&◌, ◌||◌, eqb, List, [], ◌∷◌, ne_eqb, true≢false, eqb-true}
 use Rattle.zx_model.specs.Bits.{xor, member}
-use Rattle.zx_calculus.specs.Graph.{Graph, places, WellFormed}
+use Rattle.zx_calculus.specs.Graph.{Graph, end_vertices, WellFormed}
 use Rattle.zx_calculus.proofs.Booleans.{parities, xor-false, xor-same, and-false, and_comm}
 use Rattle.zx_calculus.proofs.Ids.{by_test, and-right, eqb_comm}
 use Rattle.zx_calculus.proofs.Parity.{masked-xor, masked-and}
-use Rattle.zx_calculus.proofs.Results.{is_pair_comm, is_pair-self}
+use Rattle.zx_calculus.proofs.Splits.{is_pair_comm, is_pair-self}
 use Rattle.gflow_laws.specs.Seen.{Seen, seen, odd}
 use Rattle.gflow_laws.specs.Flow.{Correction, order_of, set_of, is_in, is_later, IsFlow}
 use Rattle.gflow_laws.specs.Tables.{symmetric_difference}
@@ -16,7 +16,7 @@ use Rattle.gflow_laws.proofs.Lists.{is_later-outside, is_in-symmetric_difference
 use Rattle.gflow_laws.proofs.Linear.{masked-same, masked-of-xor, masked-of-and, masked-one}
 use Rattle.gflow_laws.proofs.Corrects.{xor_true}
 use Rattle.gflow_laws.proofs.Flows.{Flows-from, IsFlowOf-from, Flows-alike}
-use Rattle.gflow_laws.proofs.TableLaws.{unlisted, Corrects-same, Flows-with_sets}
+use Rattle.gflow_laws.proofs.Tables.{unlisted, Corrects-same, Flows-with_sets}
 use Rattle.gflow_laws.proofs.Views.{Simple-seen}
 
 -- what has changed where it comes after v doesn't matter to v
@@ -78,7 +78,7 @@ Simple-toggled s p q ne simple = record {
 }
 
 pub toggled_flow : (g : Graph) (p q : ℕ) (h : Graph) (table : List Correction) → WellFormed g → WellFormed h → Alike (toggled (seen g) p q) (seen h) →
-    member p (places g.outputs) ≡ true → member q (places g.outputs) ≡ true → IsFlow g table → IsFlow h table
+    member p (end_vertices g.outputs) ≡ true → member q (end_vertices g.outputs) ≡ true → IsFlow g table → IsFlow h table
 toggled_flow g p q h table wg wh alike at_p at_q flow =
     flow_seen (toggled (seen g) p q) h table (Simple-seen g wg).distinct wh alike (Flows-toggled (seen g) p q table at_p at_q (Flows-from (seen g) table flow))
 

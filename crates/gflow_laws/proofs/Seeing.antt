@@ -2,7 +2,7 @@
 use Rattle.std.proofs.Common.{◌≡◌, sym, ◌∙◌, ap, subst, ⊎_elim, ℕ, Bool, true, false, ◌&&◌, List, [], ◌∷◌}
 use Rattle.std.proofs.lemmas.Bool.{true≢false, and_parts}
 use Rattle.zx_model.specs.Bits.{member}
-use Rattle.zx_calculus.specs.Graph.{XY, Graph, ids, plane_of, joined, places, WellFormed}
+use Rattle.zx_calculus.specs.Graph.{XY, Graph, ids, plane_of, joined, end_vertices, WellFormed}
 use Rattle.zx_calculus.specs.Parity.{masked}
 use Rattle.gflow_laws.specs.Seen.{seen}
 use Rattle.gflow_laws.specs.Flow.{Correction, order_of, set_of, is_in, is_later, IsFlowOf, IsFlow, SameSets}
@@ -10,7 +10,7 @@ use Rattle.gflow_laws.specs.Correcting.{Alike, Corrects, FlowAsFunctions, odd_in
 use Rattle.gflow_laws.proofs.Linear.{member-here, member-there}
 use Rattle.gflow_laws.proofs.Corrects.{xor_true}
 use Rattle.gflow_laws.proofs.Flows.{Flows-from, IsFlowOf-from, Flows-alike, listed}
-use Rattle.gflow_laws.proofs.TableLaws.{Corrects-same}
+use Rattle.gflow_laws.proofs.Tables.{Corrects-same}
 use Rattle.gflow_laws.proofs.Views.{Simple-seen}
 
 -- an odd parity has a summand
@@ -22,7 +22,7 @@ masked-true n (v ∷ vs) A e = ⊎_elim
     (xor_true (n v && A v) (masked n vs A) e)
 
 -- an XY vertex without an output has a neighbour, where there is a flow
-pub has_neighbour : (g : Graph) (table : List Correction) (v : ℕ) → IsFlow g table → member v (ids g.vertices) ≡ true → member v (places g.outputs) ≡ false → plane_of g v ≡ XY →
+pub has_neighbour : (g : Graph) (table : List Correction) (v : ℕ) → IsFlow g table → member v (ids g.vertices) ≡ true → member v (end_vertices g.outputs) ≡ false → plane_of g v ≡ XY →
     (w : ℕ) × (member w (ids g.vertices) ≡ true) × (joined g.edges v w ≡ true)
 has_neighbour g table v flow there no_output plane =
     let f : FlowAsFunctions (seen g) table = Flows-from (seen g) table flow in
@@ -30,7 +30,7 @@ has_neighbour g table v flow there no_output plane =
     let (w, within, e) = masked-true (joined g.edges v) (ids g.vertices) (is_in (set_of table v)) (c.odd_there ∙ ap odd_in plane) in
     (w, within, (and_parts (joined g.edges v w) (is_in (set_of table v) w) e).0)
 
-pub alone_without_flow : (g : Graph) (table : List Correction) (v : ℕ) → member v (ids g.vertices) ≡ true → member v (places g.outputs) ≡ false → plane_of g v ≡ XY →
+pub alone_without_flow : (g : Graph) (table : List Correction) (v : ℕ) → member v (ids g.vertices) ≡ true → member v (end_vertices g.outputs) ≡ false → plane_of g v ≡ XY →
     ((w : ℕ) → joined g.edges v w ≡ false) → IsFlow g table → ⊥
 alone_without_flow g table v there no_output plane alone flow =
     let (w, within, e) = has_neighbour g table v flow there no_output plane in true≢false (sym e ∙ alone w)
@@ -41,7 +41,7 @@ flow-alike g h table wg wh alike flow =
     IsFlowOf-from (seen h) table (Flows-alike (seen g) (seen h) table (Simple-seen g wg).distinct (Simple-seen h wh).distinct alike (Flows-from (seen g) table flow))
 
 pub phases_unseen : (g h : Graph) (table : List Correction) → ids g.vertices ≡ ids h.vertices → ((v : ℕ) → plane_of g v ≡ plane_of h v) → g.edges ≡ h.edges →
-    places g.inputs ≡ places h.inputs → places g.outputs ≡ places h.outputs → IsFlow g table → IsFlow h table
+    end_vertices g.inputs ≡ end_vertices h.inputs → end_vertices g.outputs ≡ end_vertices h.outputs → IsFlow g table → IsFlow h table
 phases_unseen g h table same_ids planes edges inputs outputs flow = subst (λ s. IsFlowOf s table) same flow
   where
     same : seen g ≡ seen h

@@ -51,4 +51,5 @@ pub record Alike (s t : Seen) : Type 0 where
 pub record FlowAsFunctions (s : Seen) (table : List Correction) : Type 0 where
   pub each_once : Distinct (order_of table)
   pub non_outputs : (v : ℕ) → member v (order_of table) ≡ (member v s.ids && not (s.output v))
-  pub corrects : (v : ℕ) → member v (order_of table) ≡ true → Corrects s (is_later (order_of table)) v (is_in (set_of table v))
+  pub corrects : (v : ℕ) → member v (order_of table) ≡ true →
+      Corrects s (is_later (order_of table)) v (is_in (set_of table v))

@@ -3,7 +3,8 @@ use Rattle.std.specs.Prelude.{◌≡◌, ℕ, Bool, if◌then◌else◌, List, [
 use Rattle.zx_calculus.specs.Graph.{Plane, XY, Edge, Graph}
 use Rattle.zx_calculus.specs.Worked.{vertex, edge, plain, graph}
 use Rattle.gflow_laws.specs.Seen.{Seen, seen}
-use Rattle.gflow_laws.specs.Flow.{Correction, order_of, set_of, input_holds, order_holds, odd_holds, plane_holds, IsTableOf}
+use Rattle.gflow_laws.specs.Flow.{Correction, order_of, set_of, input_holds, order_holds, odd_holds, plane_holds}
+use Rattle.gflow_laws.specs.Flow.{IsTableOf}
 
 abbrev pub correct : ℕ → List ℕ → Correction
 correct vertex members = record { vertex = vertex; members = members }
@@ -94,7 +95,8 @@ each_by_the_other = correct 0 (1 ∷ []) ∷ correct 1 (0 ∷ []) ∷ []
 -- two inputs: output 2 is adjacent to both, output 3 to the first alone
 abbrev pub shared_output : Graph
 shared_output =
-    graph (vertex 0 XY 0 ∷ vertex 1 XY 0 ∷ vertex 2 XY 0 ∷ vertex 3 XY 0 ∷ []) (edge 0 2 ∷ edge 0 3 ∷ edge 1 2 ∷ []) (plain 0 ∷ plain 1 ∷ []) (plain 2 ∷ plain 3 ∷ [])
+    graph (vertex 0 XY 0 ∷ vertex 1 XY 0 ∷ vertex 2 XY 0 ∷ vertex 3 XY 0 ∷ []) (edge 0 2 ∷ edge 0 3 ∷ edge 1 2 ∷ [])
+    (plain 0 ∷ plain 1 ∷ []) (plain 2 ∷ plain 3 ∷ [])
 
 -- a vertex of this plane beside an output
 abbrev pub beside_an_output : Plane → Graph
@@ -106,8 +108,11 @@ by_both = correct 0 (0 ∷ 1 ∷ []) ∷ []
 
 -- two outputs adjacent to 0, of which 1 is an input too
 abbrev pub output_with_an_input : Graph
-output_with_an_input = graph (vertex 0 XY 0 ∷ vertex 1 XY 0 ∷ vertex 2 XY 0 ∷ []) (edge 0 1 ∷ edge 0 2 ∷ []) (plain 1 ∷ []) (plain 1 ∷ plain 2 ∷ [])
+output_with_an_input =
+    graph (vertex 0 XY 0 ∷ vertex 1 XY 0 ∷ vertex 2 XY 0 ∷ []) (edge 0 1 ∷ edge 0 2 ∷ []) (plain 1 ∷ [])
+    (plain 1 ∷ plain 2 ∷ [])
 
 -- two outputs that are adjacent, one of them adjacent to 0
 abbrev pub adjacent_outputs : Graph
-adjacent_outputs = graph (vertex 0 XY 0 ∷ vertex 1 XY 0 ∷ vertex 2 XY 0 ∷ []) (edge 0 1 ∷ edge 1 2 ∷ []) [] (plain 1 ∷ plain 2 ∷ [])
+adjacent_outputs =
+    graph (vertex 0 XY 0 ∷ vertex 1 XY 0 ∷ vertex 2 XY 0 ∷ []) (edge 0 1 ∷ edge 1 2 ∷ []) [] (plain 1 ∷ plain 2 ∷ [])

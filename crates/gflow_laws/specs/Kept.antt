@@ -3,7 +3,7 @@ use Rattle.std.specs.Prelude.{◌≤◌, List, length}
 use Rattle.zx_model.specs.Proportional.{Proportional}
 use Rattle.zx_calculus.specs.Graph.{Graph, WellFormed}
 use Rattle.zx_calculus.specs.Sum.{sum}
-use Rattle.zx_calculus.specs.Reduced.{odd_phases}
+use Rattle.zx_calculus.specs.Counts.{odd_phases}
 use Rattle.gflow_laws.specs.Flow.{Correction, IsFlow}
 
 -- h is a well-formed graph with a flow and with no more odd phases than g, whose sum is that of g up to a nonzero

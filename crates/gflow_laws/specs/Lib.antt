@@ -1,7 +1,14 @@
 pub mod Seen
 pub mod Flow
 pub mod Tables
+pub mod Complements
+pub mod Pivots
+pub mod Removals
+pub mod Splits
+pub mod Steps
 pub mod Correcting
 pub mod Examples
 pub mod Kept
 pub mod Outputs
+pub mod Changes
+pub mod Rewritten

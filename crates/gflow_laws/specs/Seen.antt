@@ -1,9 +1,9 @@
--- What a generalised flow sees of an open graph: its vertices, what is adjacent, the planes, and the places of
+-- What a generalised flow sees of an open graph: its vertices, what is adjacent, the planes, and the end_vertices of
 -- the ends. It sees no phase. Backens, Miller-Bakewell, de Felice, Lobski and van de Wetering, "There and back
 -- again: a circuit extraction tale" (Quantum 5, 421, 2021).
 use Rattle.std.specs.Prelude.{ℕ, Bool, if◌then◌else◌, not, ◌&&◌, ◌==◌, List}
 use Rattle.zx_model.specs.Bits.{xor, member}
-use Rattle.zx_calculus.specs.Graph.{Plane, XY, XZ, YZ, Graph, ids, joined, places, plane_of}
+use Rattle.zx_calculus.specs.Graph.{Plane, XY, XZ, YZ, Graph, ids, joined, end_vertices, plane_of}
 use Rattle.zx_calculus.specs.Parity.{masked}
 
 pub record Seen : Type 0 where
@@ -18,8 +18,8 @@ seen g = record {
   ids = ids g.vertices;
   adjacent = joined g.edges;
   plane = plane_of g;
-  input = λ v. member v (places g.inputs);
-  output = λ v. member v (places g.outputs);
+  input = λ v. member v (end_vertices g.inputs);
+  output = λ v. member v (end_vertices g.outputs);
 }
 
 -- Odd(A): whether v has an odd number of neighbours in the set

@@ -2,12 +2,12 @@
 
 ghost use Rattle.std.specs.Prelude.{◌≡◌, ℕ, true, false, List, [], ◌∷◌};
 ghost use Rattle.zx_calculus.specs.Graph.{XY, XZ, YZ, Graph};
-ghost use Rattle.zx_calculus.specs.Steps.{LocalComplement, Delete, Pivot, DropLone, FuseInto, FuseTwin, SplitInput, SplitOutput};
-ghost use Rattle.zx_calculus.specs.After.{after};
+ghost use Rattle.zx_calculus.specs.Steps.{LocalComplement, Delete, Pivot, DropLone, FuseInto, FuseTwin, SplitInput, SplitOutput, after};
 ghost use Rattle.zx_calculus.specs.Worked.{path_of_three, path_complemented, path_deleted, path_of_four, path_pivoted, twins, twins_reduced, small_gadgets, small_gadgets_reduced};
 ghost use Rattle.gflow_laws.specs.Seen.{seen, odd};
 ghost use Rattle.gflow_laws.specs.Flow.{Correction, is_in, IsFlowOf, IsFlow, input_holds, order_holds, odd_holds, XY_holds};
-ghost use Rattle.gflow_laws.specs.Tables.{split_input_table, split_output_table, table_after};
+ghost use Rattle.gflow_laws.specs.Splits.{split_input_table, split_output_table};
+ghost use Rattle.gflow_laws.specs.Steps.{table_after};
 ghost use Rattle.gflow_laws.specs.Outputs.{with_row_added, row_added_table, advanced, advanced_table};
 ghost use Rattle.gflow_laws.specs.Examples.{Condition, Input, Order, Odd, PlaneOf, FailsAlone, correct, apart, linked, beside_a_wire, pair, shared_output, beside_an_output, output_with_an_input, adjacent_outputs, by_both, each_by_the_other, first_by_second, path_table, path_complemented_table, path_deleted_table, path_of_four_table, path_pivoted_table, by_itself};
 
@@ -72,33 +72,34 @@ pub fn flow_of_split_ends()
     ensures table_input { table_after path_of_three (SplitInput 0) (after (SplitInput 0) path_of_three) path_table ≡
         split_input_table 0 3 path_table }
     ensures input { IsFlow (after (SplitInput 0) path_of_three) (split_input_table 0 3 path_table) }
-    ensures table_output { table_after path_of_three (SplitOutput 2) (after (SplitOutput 2) path_of_three) path_table ≡
-        split_output_table 2 3 path_table }
+    ensures table_output { table_after path_of_three (SplitOutput 2) (after (SplitOutput 2) path_of_three) path_table
+        ≡ split_output_table 2 3 path_table }
     ensures output { IsFlow (after (SplitOutput 2) path_of_three) (split_output_table 2 3 path_table) }
 {}
 
 /// Phase gadgets correct themselves: twins that are fused, complemented about and deleted.
 pub fn flow_of_twin_gadgets()
     ensures before { IsFlow twins (by_itself 2 ∷ by_itself 3 ∷ []) }
-    ensures table_fused { table_after twins (FuseTwin 2 3) (after (FuseTwin 2 3) twins) (by_itself 2 ∷ by_itself 3 ∷ []) ≡
-        by_itself 2 ∷ [] }
+    ensures table_fused { table_after twins (FuseTwin 2 3) (after (FuseTwin 2 3) twins)
+        (by_itself 2 ∷ by_itself 3 ∷ []) ≡ by_itself 2 ∷ [] }
     ensures fused { IsFlow (after (FuseTwin 2 3) twins) (by_itself 2 ∷ []) }
-    ensures table_complemented { table_after (after (FuseTwin 2 3) twins) (LocalComplement 2) (after (LocalComplement 2) (after (FuseTwin 2 3) twins)) (by_itself 2 ∷ []) ≡
-        by_itself 2 ∷ [] }
+    ensures table_complemented { table_after (after (FuseTwin 2 3) twins) (LocalComplement 2)
+        (after (LocalComplement 2) (after (FuseTwin 2 3) twins)) (by_itself 2 ∷ [])
+        ≡ by_itself 2 ∷ [] }
     ensures complemented { IsFlow (after (LocalComplement 2) (after (FuseTwin 2 3) twins)) (by_itself 2 ∷ []) }
-    ensures table_deleted { table_after (after (LocalComplement 2) (after (FuseTwin 2 3) twins)) (Delete 2) twins_reduced (by_itself 2 ∷ []) ≡
-        [] }
+    ensures table_deleted { table_after (after (LocalComplement 2) (after (FuseTwin 2 3) twins)) (Delete 2)
+        twins_reduced (by_itself 2 ∷ []) ≡ [] }
     ensures deleted { IsFlow twins_reduced [] }
 {}
 
 /// A gadget without neighbours is dropped, one with one neighbour is fused into it.
 pub fn flow_of_small_gadgets()
     ensures before { IsFlow small_gadgets (by_itself 1 ∷ by_itself 2 ∷ []) }
-    ensures table_dropped { table_after small_gadgets (DropLone 2) (after (DropLone 2) small_gadgets) (by_itself 1 ∷ by_itself 2 ∷ []) ≡
-        by_itself 1 ∷ [] }
+    ensures table_dropped { table_after small_gadgets (DropLone 2) (after (DropLone 2) small_gadgets)
+        (by_itself 1 ∷ by_itself 2 ∷ []) ≡ by_itself 1 ∷ [] }
     ensures dropped { IsFlow (after (DropLone 2) small_gadgets) (by_itself 1 ∷ []) }
-    ensures table_fused { table_after (after (DropLone 2) small_gadgets) (FuseInto 1) small_gadgets_reduced (by_itself 1 ∷ []) ≡
-        [] }
+    ensures table_fused { table_after (after (DropLone 2) small_gadgets) (FuseInto 1)
+        small_gadgets_reduced (by_itself 1 ∷ []) ≡ [] }
     ensures fused { IsFlow small_gadgets_reduced [] }
 {}
 

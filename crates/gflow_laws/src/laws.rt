@@ -2,16 +2,22 @@
 
 ghost use Rattle.std.specs.Prelude.{◌≡◌, ◌↔◌, ◌&&◌, ℕ, Bool, true, false, ◌==◌, List};
 ghost use Rattle.zx_model.specs.Bits.{xor, member};
-ghost use Rattle.zx_calculus.specs.Graph.{XY, Graph, ids, plane_of, joined, places, Live, WellFormed};
-ghost use Rattle.zx_calculus.specs.Complement.{IsLocalComplement, IsDelete};
+ghost use Rattle.zx_calculus.specs.Graph.{XY, Graph, ids, plane_of, joined, end_vertices, Live, WellFormed};
+ghost use Rattle.zx_calculus.specs.Complements.{IsLocalComplement};
+ghost use Rattle.zx_calculus.specs.Deletions.{IsDelete};
 ghost use Rattle.zx_calculus.specs.Pivots.{IsPivot};
-ghost use Rattle.zx_calculus.specs.Boundary.{IsSplitInput, IsSplitOutput};
+ghost use Rattle.zx_calculus.specs.Splits.{IsSplitInput, IsSplitOutput};
 ghost use Rattle.zx_calculus.specs.Gadgets.{IsDropLone, IsFuseInto, IsFuseTwin};
 ghost use Rattle.zx_calculus.specs.Steps.{Step, IsStep, IsRun};
 ghost use Rattle.gflow_laws.specs.Seen.{Seen, seen, odd, complemented};
 ghost use Rattle.gflow_laws.specs.Flow.{Correction, is_in, IsFlowOf, IsFlow, SameSets};
 ghost use Rattle.gflow_laws.specs.Kept.{IsKept};
-ghost use Rattle.gflow_laws.specs.Tables.{symmetric_difference, complement_table, pivot_table, removal_table, split_input_table, split_output_table, new_vertex, table_after};
+ghost use Rattle.gflow_laws.specs.Tables.{symmetric_difference};
+ghost use Rattle.gflow_laws.specs.Complements.{complement_table};
+ghost use Rattle.gflow_laws.specs.Pivots.{pivot_table};
+ghost use Rattle.gflow_laws.specs.Removals.{removal_table};
+ghost use Rattle.gflow_laws.specs.Splits.{split_input_table, split_output_table, new_vertex};
+ghost use Rattle.gflow_laws.specs.Steps.{table_after};
 ghost use Rattle.gflow_laws.specs.Correcting.{Distinct, Simple, Strict, Corrects, Alike, FlowAsFunctions};
 
 /// Each rewrite turns a flow of the old graph into a flow of the new one.
@@ -67,20 +73,19 @@ pub fn parts_of_the_tables()
 /// An XY vertex without an output has a neighbour, in a graph with a flow.
 pub fn an_inner_vertex_has_a_neighbour()
     ensures neighbour { (g : Graph) (table : List Correction) (v : ℕ) →
-        IsFlow g table → Live g v → member v (places g.outputs) ≡ false → plane_of g v ≡ XY →
+        IsFlow g table → Live g v → member v (end_vertices g.outputs) ≡ false → plane_of g v ≡ XY →
         (w : ℕ) × (Live g w) × (joined g.edges v w ≡ true) }
     ensures alone { (g : Graph) (table : List Correction) (v : ℕ) →
-        Live g v → member v (places g.outputs) ≡ false → plane_of g v ≡ XY →
+        Live g v → member v (end_vertices g.outputs) ≡ false → plane_of g v ≡ XY →
         ((w : ℕ) → joined g.edges v w ≡ false) → IsFlow g table → ⊥ }
 {}
 
 /// A flow depends on planes, edges and places of ends alone. It depends neither on phases, nor on marks, nor on
 /// the order in which ends or the members of sets are listed.
 pub fn what_a_flow_depends_on()
-    ensures phases_unseen { (g h : Graph) (table : List Correction) →
-        ids g.vertices ≡ ids h.vertices → ((v : ℕ) → plane_of g v ≡ plane_of h v) → g.edges ≡ h.edges →
-        places g.inputs ≡ places h.inputs → places g.outputs ≡ places h.outputs →
-        IsFlow g table → IsFlow h table }
+    ensures phases_unseen { (g h : Graph) (table : List Correction) → ids g.vertices ≡ ids h.vertices →
+        ((v : ℕ) → plane_of g v ≡ plane_of h v) → g.edges ≡ h.edges → end_vertices g.inputs ≡ end_vertices h.inputs →
+        end_vertices g.outputs ≡ end_vertices h.outputs → IsFlow g table → IsFlow h table }
     ensures alike { (g h : Graph) (table : List Correction) →
         WellFormed g → WellFormed h → Alike (seen g) (seen h) → IsFlow g table → IsFlow h table }
     ensures same_sets { (g : Graph) (table other : List Correction) → SameSets table other →

@@ -2,10 +2,11 @@
 
 ghost use Rattle.std.specs.Prelude.{◌≡◌, ◌≢◌, ◌≤◌, ◌&&◌, ◌==◌, ℕ, true, false, not, List, [], ◌∷◌, ◌++◌, length};
 ghost use Rattle.zx_model.specs.Bits.{xor, member};
-ghost use Rattle.zx_calculus.specs.Graph.{XY, YZ, Graph, joined, plane_of, places, Distinct, Live, WellFormed};
+ghost use Rattle.zx_calculus.specs.Graph.{XY, YZ, Graph, joined, plane_of, end_vertices, Distinct, Live, WellFormed};
 ghost use Rattle.gflow_laws.specs.Seen.{Seen, seen, odd};
 ghost use Rattle.gflow_laws.specs.Flow.{Correction, is_in, order_of, IsFlow};
-ghost use Rattle.gflow_laws.specs.Tables.{removal_table, split_output_table};
+ghost use Rattle.gflow_laws.specs.Removals.{removal_table};
+ghost use Rattle.gflow_laws.specs.Splits.{split_output_table};
 ghost use Rattle.gflow_laws.specs.Correcting.{Simple, Alike, FlowAsFunctions};
 ghost use Rattle.gflow_laws.specs.Outputs.{toggled, with_row_added, MayAddRow, row_added_set, row_added_table, IsLast, IsLeafOutput, others, without_vertex, advanced, advanced_table, last_removed_table, IsNewOutput};
 
@@ -15,8 +16,8 @@ pub fn toggled_outputs()
         s.output q ≡ true → FlowAsFunctions s table → FlowAsFunctions (toggled s p q) table }
     ensures simple { (s : Seen) (p q : ℕ) → p ≢ q → Simple s → Simple (toggled s p q) }
     ensures graph { (g : Graph) (p q : ℕ) (h : Graph) (table : List Correction) → WellFormed g →
-        WellFormed h → Alike (toggled (seen g) p q) (seen h) → member p (places g.outputs) ≡ true →
-        member q (places g.outputs) ≡ true → IsFlow g table → IsFlow h table }
+        WellFormed h → Alike (toggled (seen g) p q) (seen h) → member p (end_vertices g.outputs) ≡ true →
+        member q (end_vertices g.outputs) ≡ true → IsFlow g table → IsFlow h table }
 {}
 
 /// The neighbours of an output c that has no input are toggled at another output t: c is toggled in the sets that
@@ -47,8 +48,8 @@ pub fn last_vertex()
     ensures YZ_itself { (s : Seen) (pre : List Correction) (e : Correction) → IsLast s pre e →
         s.plane e.vertex ≡ YZ → odd s (others e) e.vertex ≡ false }
     ensures graph { (g : Graph) (pre : List Correction) (e : Correction) → WellFormed g →
-        IsFlow g (pre ++ e ∷ []) → ((p q : ℕ) → member p (places g.outputs) ≡ true →
-        member q (places g.outputs) ≡ true → joined g.edges p q ≡ false) → IsLast (seen g) pre e }
+        IsFlow g (pre ++ e ∷ []) → ((p q : ℕ) → member p (end_vertices g.outputs) ≡ true →
+        member q (end_vertices g.outputs) ≡ true → joined g.edges p q ≡ false) → IsLast (seen g) pre e }
 {}
 
 /// The last vertex stays the last while rows are added. With one member left, the sum of the rows is the row of this
@@ -105,5 +106,5 @@ pub fn all_inputs()
         ((w : ℕ) → member w xs ≡ true → member w ys ≡ true) → (w : ℕ) → member w xs ≡ member w ys }
     ensures all_ends { (g : Graph) → WellFormed g → IsFlow g [] →
         length g.inputs ≡ length g.outputs → (v : ℕ) → Live g v →
-        (member v (places g.inputs) ≡ true) × (member v (places g.outputs) ≡ true) }
+        (member v (end_vertices g.inputs) ≡ true) × (member v (end_vertices g.outputs) ≡ true) }
 {}

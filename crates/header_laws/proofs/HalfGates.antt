@@ -8,8 +8,8 @@ use Rattle.zx_gates.specs.declared.elementary.ElementaryGate.{ElementaryGate}
 use Rattle.zx_gates.specs.declared.elementary.ElementaryGate.TheVariants.{U, Cx}
 use Rattle.zx_gates.specs.Maps.{phase}
 use Rattle.qasm_angle.specs.declared.angle.Angle.{Angle}
-use Rattle.qasm_angle.specs.declared.errors.Cause.{Cause}
-use Rattle.qasm_angle.specs.declared.expression.Operator.TheVariants.{Divide}
+use Rattle.qasm_angle.specs.declared.errors.AngleFault.{AngleFault}
+use Rattle.qasm_angle.specs.declared.expression.Operation.TheVariants.{Divide}
 use Rattle.qasm_angle.specs.Ratio.{gcd, lowest, limited, whole}
 use Rattle.qasm_angle.specs.Eighths.{phase_of}
 use Rattle.qasm_angle.specs.Literals.{literal_value, decimal}
@@ -60,7 +60,7 @@ abbrev inner : List ℕ → ℕ → List Angle → List ℕ → List Event
 inner name depth angles qubits = expand_declared (with_header []) name depth angles qubits
 
 -- a call with one angle, at a depth
-abbrev with_angle : List ℕ → ℕ → ℕ → Result Angle Cause → List Event
+abbrev with_angle : List ℕ → ℕ → ℕ → Result Angle AngleFault → List Event
 with_angle name depth q angle = Called depth ∷ after_angles (in_prefix (with_cause angle) (Ok [])) (λ angles. inner name depth angles (q ∷ []))
 
 abbrev cx_at : ℕ → List Event

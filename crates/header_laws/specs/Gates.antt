@@ -1,9 +1,10 @@
 -- The gates of the header as the literature has them, each times a number other than 0, so that its entries are sums of
--- eighth roots of one. Sources: Nielsen and Chuang, "Quantum Computation and Quantum Information", sections 1.3, 4.2 and
--- 4.3, for the Pauli matrices, H, S, T, rotations and controlled gates; Cross, Bishop, Smolin and Gambetta, "Open quantum
--- assembly language" (arXiv 1707.03429), for U as three rotations; Cross and others, "OpenQASM 3: A broader and deeper
--- quantum assembly language" (arXiv 2104.14722), for the roots of X. The rotation about ZZ is the evolution under a product
--- of two Z, section 4.7 of the first, and the exchange of two qubits its section 1.3.4. Angles are counted in eighth turns, pi/4.
+-- eighth roots of one. Sources: Nielsen and Chuang, "Quantum Computation and Quantum Information", sections 1.3, 4.2
+-- and 4.3, for the Pauli matrices, H, S, T, rotations and controlled gates; Cross, Bishop, Smolin and Gambetta, "Open
+-- quantum assembly language" (arXiv 1707.03429), for U as three rotations; Cross and others, "OpenQASM 3: A broader and
+-- deeper quantum assembly language" (arXiv 2104.14722), for the roots of X. The rotation about ZZ is the evolution
+-- under a product of two Z, section 4.7 of the first, and the exchange of two qubits its section 1.3.4. Angles are
+-- counted in eighth turns, pi/4.
 use Rattle.std.specs.Prelude.{ℕ, Bool, true, false, if◌then◌else◌, List, ◌∷◌}
 use Rattle.zx_model.specs.Number.{Number, zero, one, add, neg, mul, root_power}
 use Rattle.zx_model.specs.Constants.{i}
@@ -75,8 +76,8 @@ Map = List Bool → List Bool → Number
 abbrev pub single : Matrix → Map
 single m x y = m (bit y 0) (bit x 0)
 
--- c times the gate that acts on the further qubits where the first one is 1, and does nothing where it is 0; m is c times
--- the gate on the further qubits
+-- c times the gate that acts on the further qubits where the first one is 1, and does nothing where it is 0; m is c
+-- times the gate on the further qubits
 abbrev pub controlled : Number → Map → Map
 controlled c m (false ∷ x) (false ∷ y) = if same_bits x y then c else zero
 controlled c m (true ∷ x) (true ∷ y) = m x y

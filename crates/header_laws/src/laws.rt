@@ -91,9 +91,8 @@ pub fn gates_with_half_angles()
 
 /// Whatever is declared before the header, a name that isn't declared there comes to the same after the header.
 pub fn the_header_means_the_same_in_each_scope()
-    ensures { (scope : Scope) (name : List ℕ) → is_declared name scope ≡ false →
-        (depth : ℕ) (angles : List Angle) (qubits : List ℕ) →
-        expand_declared (with_header scope) name depth angles qubits
+    ensures { (scope : Scope) (name : List ℕ) → is_declared name scope ≡ false → (depth : ℕ)
+        (angles : List Angle) (qubits : List ℕ) → expand_declared (with_header scope) name depth angles qubits
         ≡ expand_declared (with_header []) name depth angles qubits }
 {}
 

@@ -1,18 +1,23 @@
 -- What the changes of a graph, one after the other, make of it.
-use Rattle.std.proofs.Common.{◌≡◌, refl, sym, ◌∙◌, ap, ap₂, subst, ℕ, false, cond, ◌&&◌, eqb}
+use Rattle.std.proofs.Common.{◌≡◌, refl, sym, ◌∙◌, ap, ap₂, subst, ℕ, true, false, cond, ◌&&◌, eqb, List}
 use Rattle.zx_model.specs.Phase.{half_turn}
 use Rattle.zx_model.specs.Bits.{xor, member}
-use Rattle.zx_calculus.specs.Graph.{Kind, Graph, joined, neighbours, places, plane_of, phase_of, with_kinds, Live, Interior, OrderedEdges, WellFormed}
-use Rattle.zx_calculus.specs.Complement.{IsLocalComplement, IsDelete, complement_kind, delete_kind}
-use Rattle.zx_calculus.specs.Moves.{IsDeletable}
+use Rattle.zx_calculus.specs.Graph.{Kind, Graph, joined, neighbours, end_vertices, plane_of, phase_of, with_kinds, Live, Interior, OrderedEdges, WellFormed}
+use Rattle.zx_calculus.specs.Complements.{IsLocalComplement, complement_kind}
+use Rattle.zx_calculus.specs.Deletions.{IsDelete, delete_kind}
+use Rattle.zx_calculus.specs.Steps.{allowed, after, Delete}
 use Rattle.zx_calculus.specs.Edits.{IsRemoval, at_vertex}
 use Rattle.zx_calculus.specs.Turns.{quarter_turned, half_turned, complemented}
 use Rattle.zx_calculus.proofs.Ids.{by_equal}
 use Rattle.zx_calculus.proofs.Vertices.{ids-with_kinds, with_kinds_same, with_kinds-unchanged, without-with_kinds}
 use Rattle.zx_calculus.proofs.Splitting.{no_loop, interior_of, off_XY}
-use Rattle.local_comp.specs.Internal.Changes.{IsToggled, among, changed_in, with_changed}
-use Rattle.local_comp.proofs.Toggling.{member-neighbours, row_stays}
-use Rattle.local_comp.proofs.Turning.{with_kinds-with_kinds, turned_neighbours, turned_twice}
+use Rattle.zx_calculus.specs.Toggles.{IsToggled, among, changed_in, with_changed}
+use Rattle.zx_calculus.proofs.Toggling.{member-neighbours, row_stays}
+use Rattle.zx_calculus.proofs.ChangedKinds.{with_kinds-with_kinds, turned_neighbours, turned_live, turned_twice}
+use Rattle.zx_calculus.proofs.Allowed.{delete_live}
+use Rattle.zx_calculus.proofs.Steps.{after_step}
+use Rattle.gflow_laws.specs.Flow.{Correction, order_of, IsFlow}
+use Rattle.gflow_laws.proofs.Rewriting.{measured_listed}
 
 -- edges, then the neighbours, then the vertex itself
 pub complement_step : (g h : Graph) (u : ℕ) → WellFormed g → Live g u → Interior g u →
@@ -79,26 +84,43 @@ no_half_turn_passed g u other =
     (sym (with_kinds-unchanged (delete_kind (phase_of g u) (joined g.edges u)) g.vertices
     (λ p k t. ap (λ b. cond (b && joined g.edges u p) (half_turned k) k) other)))
 
--- a vertex that can be deleted has no ends, whatever planes and phases become
-pub deletable_interior : (f : ℕ → Kind → Kind) (g h : Graph) (u : ℕ) → WellFormed g → h ≡ with_changed f g →
-    IsDeletable g u → Interior h u
-deletable_interior f g h u w e d =
-    let inside : Interior g u = interior_of g u w (off_XY (plane_of g u) d.plane) in
-    record {
-      no_input = ap (λ l. member u (places l.inputs)) e ∙ inside.no_input;
-      no_output = ap (λ l. member u (places l.outputs)) e ∙ inside.no_output;
-    }
+-- a vertex that is to be deleted stays one without ends while its half turn is passed on
+module _ (g h : Graph) (u : ℕ) where
+  pub deletable_live : h ≡ with_changed (delete_kind (phase_of g u) (joined g.edges u)) g →
+      allowed g (Delete u) ≡ true → Live h u
+  deletable_live e may = turned_live (delete_kind (phase_of g u) (joined g.edges u)) g h u e (delete_live g u may)
+
+  pub deletable_interior : WellFormed g → h ≡ with_changed (delete_kind (phase_of g u) (joined g.edges u)) g →
+      allowed g (Delete u) ≡ true → Interior h u
+  deletable_interior w e may =
+      let s : IsDelete g u (after (Delete u) g) = after_step g (Delete u) w may in
+      let inside : Interior g u = interior_of g u w (off_XY (plane_of g u) s.deletable.plane) in
+      record {
+        no_input = ap (λ l. member u (end_vertices l.inputs)) e ∙ inside.no_input;
+        no_output = ap (λ l. member u (end_vertices l.outputs)) e ∙ inside.no_output;
+      }
+
+-- and stands in the order
+pub deletable_listed : (g : Graph) (table : List Correction) (u : ℕ) → WellFormed g → IsFlow g table →
+    allowed g (Delete u) ≡ true → member u (order_of table) ≡ true
+deletable_listed g table u w flow may =
+    let s : IsDelete g u (after (Delete u) g) = after_step g (Delete u) w may in
+    measured_listed g table u w flow s.deletable.there s.deletable.plane
 
 -- the neighbours, then the removal
-pub delete_step : (g k : Graph) (u : ℕ) → IsDeletable g u →
-    IsRemoval (with_changed (delete_kind (phase_of g u) (joined g.edges u)) g) u k → IsDelete g u k
-delete_step g k u d c = record {
-  there = d.there;
-  plane = d.plane;
-  phase = d.phase;
-  vertices = c.vertices ∙ without-with_kinds (delete_kind (phase_of g u) (joined g.edges u)) u g.vertices;
-  ordered = c.ordered;
-  edges = c.edges;
-  inputs = c.inputs;
-  outputs = c.outputs;
-}
+pub delete_step : (g h k : Graph) (u : ℕ) → WellFormed g →
+    h ≡ with_changed (delete_kind (phase_of g u) (joined g.edges u)) g → allowed g (Delete u) ≡ true →
+    IsRemoval h u k → IsDelete g u k
+delete_step g h k u w e may c = removed (subst (λ (l : Graph). IsRemoval l u k) e c)
+  where
+    removed : IsRemoval (with_changed (delete_kind (phase_of g u) (joined g.edges u)) g) u k → IsDelete g u k
+    removed r =
+        let s : IsDelete g u (after (Delete u) g) = after_step g (Delete u) w may in
+        record {
+          deletable = s.deletable;
+          vertices = r.vertices ∙ without-with_kinds (delete_kind (phase_of g u) (joined g.edges u)) u g.vertices;
+          ordered = r.ordered;
+          edges = r.edges;
+          inputs = r.inputs;
+          outputs = r.outputs;
+        }

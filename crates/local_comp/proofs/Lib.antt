@@ -1,7 +1,1 @@
-pub mod Rewriting
-pub mod Places
-pub mod Toggling
-pub mod Turning
-pub mod GraphSteps
-pub mod SetChanges
-pub mod TableSteps
+mod GraphSteps

@@ -1,9 +1,22 @@
-//! Local complementation, and the deletion of a vertex of half turns: on graphs, on flows, and on
-//! both.
+//! Local complementation, and the deletion of a vertex of half turns, of a graph with its flow.
+//!
+//! Proved of `local_complement` about an interior vertex and `delete` of an XZ or YZ vertex of half
+//! turns: with Ok the graph is the rewritten one and the flow the table that `gflow_laws` gives for
+//! that, a flow of the new graph; the sum is kept with the exact factors of `zx_calculus`, and odd
+//! phases don't rise; want of memory leaves both as they were.
+//! `may_complement` and `may_delete` tell exactly where each is allowed. `local_complement_in_place`
+//! and `delete_in_place` make the same change without copies; where memory runs out they say nothing.
+//!
+//! ```rust
+//! if may_complement(&graph, u) {
+//!     local_complement(&mut graph, &mut flow, u)?;
+//! }
+//! ```
 #![tactic(auto)]
 
-pub mod flow;
-pub mod graph;
-pub mod rewrite;
+mod complement;
+mod deletion;
+mod neighbours;
 
-pub use rewrite::{delete, local_complement};
+pub use complement::{local_complement, local_complement_in_place, may_complement};
+pub use deletion::{delete, delete_in_place, may_delete};

@@ -2,10 +2,8 @@
 use Rattle.std.proofs.Common.{◌≡◌, ◌≢◌, refl, sym, ◌∙◌, ap, ap₂, subst, ℕ, ◌<◌, true, false, ◌||◌, cond, eqb, List, [], ◌∷◌, ◌++◌, length, get_or, set, remove, Option, Some, None, IsSome, slice_index_or, true≢false, ne_eqb}
 use Rattle.zx_model.specs.Phase.{turn}
 use Rattle.zx_model.specs.Bits.{xor, member}
-use Rattle.zx_calculus.specs.Graph.{XY, Kind, Vertex, End, Graph, ids, kind_of, plane_of, is_XY, places, insert_vertex, with_kinds, Live, WellFormed}
-use Rattle.zx_calculus.specs.Boundary.{is_pair}
-use Rattle.zx_calculus.specs.Edits.{at_vertex}
-use Rattle.zx_calculus.specs.Reduced.{is_interior}
+use Rattle.zx_calculus.specs.Graph.{XY, Kind, Vertex, End, Graph, ids, kind_of, plane_of, is_XY, end_vertices, insert_vertex, with_kinds, Live, OrderedEnds, WellFormed, is_interior}
+use Rattle.zx_calculus.specs.Edits.{is_pair, at_vertex}
 use Rattle.zx_calculus.proofs.Booleans.{or-false, xor-false}
 use Rattle.zx_calculus.proofs.Ids.{by_equal, eqb-self, removed, Symmetric}
 use Rattle.zx_calculus.proofs.Edges.{joined_comm}
@@ -16,10 +14,12 @@ use Rattle.zx_calculus.proofs.Edits.{toggle_kept, insert_kept, kind_kept, inputs
 use Rattle.zx_calculus.proofs.EdgeLists.{edges_ext, OrderedEdges-edges_of}
 use Rattle.zx_calculus.proofs.EditPrograms.{toggled, toggled_is_toggle}
 use Rattle.zx_calculus.proofs.Extensionality.{vertices_ext}
-use Rattle.slab.specs.Slab.{Slab, get, Updates}
 use Rattle.open_graph.specs.declared.slot.Slot.{Slot}
 use Rattle.open_graph.specs.Internal.Rows.{inserted}
 use Rattle.open_graph.specs.Internal.Slots.{Told, nothing, told_by, told, vertices_of, adjacent, graph_of, place_of, IsSound}
+use Rattle.open_graph.specs.declared.side.Side.{Side}
+use Rattle.open_graph.specs.declared.side.Side.TheVariants.{Input, Output}
+use Rattle.open_graph.specs.Internal.Sides.{ends_of, with_ends, with_place, Moves}
 use Rattle.open_graph.specs.Internal.Changes.{Puts, SameTold, Keeps}
 use Rattle.open_graph.proofs.PlaceLemmas.{place_of-push, place_of-set, member-place}
 use Rattle.open_graph.proofs.RowLemmas.{removed-inserted}
@@ -190,9 +190,14 @@ keeps_kind old new h v kind puts k =
     kinds : (p : ℕ) → (told old p).live ≡ true → (told new p).kind ≡ at_vertex v (λ _. kind) p (kind_of h.vertices p)
     kinds p live = by_equal p v (λ t e. rw t (ap (λ x. x.kind) (at p e))) (λ f n. rw f (ap (λ x. x.kind) (puts_other old new v _ p puts n) ∙ k.kind p live))
 
--- other places of inputs, and of outputs
-pub keeps_inputs : (old new : List (Option Slot)) (h : Graph) (inputs : List End) → ((p : ℕ) → told new p ≡ record (told old p) { input = place_of p inputs }) → Keeps old h → Keeps new (record h { inputs = inputs })
-keeps_inputs old new h inputs same k =
+-- the place that is told of the end of a side
+abbrev place_at : Side → Told → Option ℕ
+place_at Input t = t.input
+place_at Output t = t.output
+
+-- other end_vertices of the ends of a side
+keeps_ends : (side : Side) (old new : List (Option Slot)) (h : Graph) (ends : List End) → ((p : ℕ) → told new p ≡ with_place side (place_of p ends) (told old p)) → Keeps old h → Keeps new (with_ends side ends h)
+keeps_ends Input old new h ends same k =
     record {
       live = λ p. ap (λ x. x.live) (same p) ∙ k.live p;
       kind = λ p t. ap (λ x. x.kind) (same p) ∙ k.kind p (sym (ap (λ x. x.live) (same p)) ∙ t);
@@ -200,9 +205,7 @@ keeps_inputs old new h inputs same k =
       input = λ p. ap (λ x. x.input) (same p);
       output = λ p. ap (λ x. x.output) (same p) ∙ k.output p;
     }
-
-pub keeps_outputs : (old new : List (Option Slot)) (h : Graph) (outputs : List End) → ((p : ℕ) → told new p ≡ record (told old p) { output = place_of p outputs }) → Keeps old h → Keeps new (record h { outputs = outputs })
-keeps_outputs old new h outputs same k =
+keeps_ends Output old new h ends same k =
     record {
       live = λ p. ap (λ x. x.live) (same p) ∙ k.live p;
       kind = λ p t. ap (λ x. x.kind) (same p) ∙ k.kind p (sym (ap (λ x. x.live) (same p)) ∙ t);
@@ -211,31 +214,32 @@ keeps_outputs old new h outputs same k =
       output = λ p. ap (λ x. x.output) (same p);
     }
 
--- a change of one field of what is told, at one id, and at two ids one after the other
-module _ (with : Option ℕ → Told → Told) (field : Told → Option ℕ) (itself : (t : Told) → t ≡ with (field t) t) (twice : (i j : Option ℕ) (t : Told) → with i (with j t) ≡ with i t)
-    (old : List (Option Slot)) (place : ℕ → Option ℕ) (places_before : (p : ℕ) → field (told old p) ≡ place p) where
-  pub field_put : (new : List (Option Slot)) (v : ℕ) (i : Option ℕ) (after : ℕ → Option ℕ) → Puts old new v (with i (told old v)) → ((p : ℕ) → after p ≡ cond (eqb p v) i (place p)) → (p : ℕ) → told new p ≡ with (after p) (told old p)
-  field_put new v i after puts law p =
-      by_equal p v
-      (λ t e. ap (told new) e ∙ puts_at old new v _ puts ∙ ap₂ with (sym (law p ∙ ap (λ b. cond b i (place p)) t)) (ap (told old) (sym e)))
-      (λ f n. puts_other old new v _ p puts n ∙ itself (told old p) ∙ ap (λ x. with x (told old p)) (places_before p ∙ sym (law p ∙ ap (λ b. cond b i (place p)) f)))
+-- a change of the place of a side at one id, and at two ids one after the other
+module _ (side : Side) (old : List (Option Slot)) (place : ℕ → Option ℕ) (places_before : (p : ℕ) → place_at side (told old p) ≡ place p) where
+  itself : (s : Side) (t : Told) → t ≡ with_place s (place_at s t) t
+  itself Input t = refl
+  itself Output t = refl
 
-  pub field_moved : (mid new : List (Option Slot)) (a v : ℕ) (i j : Option ℕ) (after : ℕ → Option ℕ) → Puts old mid a (with i (told old a)) → Puts mid new v (with j (told mid v)) →
-      ((p : ℕ) → after p ≡ cond (eqb p v) j (cond (eqb p a) i (place p))) → (p : ℕ) → told new p ≡ with (after p) (told old p)
-  field_moved mid new a v i j after first second law p =
+  twice : (s : Side) (i j : Option ℕ) (t : Told) → with_place s i (with_place s j t) ≡ with_place s i t
+  twice Input i j t = refl
+  twice Output i j t = refl
+
+  place_put : (new : List (Option Slot)) (v : ℕ) (i : Option ℕ) (after : ℕ → Option ℕ) → Puts old new v (with_place side i (told old v)) → ((p : ℕ) → after p ≡ cond (eqb p v) i (place p)) → (p : ℕ) → told new p ≡ with_place side (after p) (told old p)
+  place_put new v i after puts law p =
       by_equal p v
-      (λ t e. ap (told new) e ∙ puts_at mid new v _ second ∙ ap (λ q. with j (told mid q)) (sym e) ∙ ap (with j) (between p) ∙ twice j _ (told old p)
-      ∙ ap (λ x. with x (told old p)) (sym (law p ∙ ap (λ b. cond b j (cond (eqb p a) i (place p))) t)))
-      (λ f n. puts_other mid new v _ p second n ∙ between p ∙ ap (λ x. with x (told old p)) (sym (law p ∙ ap (λ b. cond b j (cond (eqb p a) i (place p))) f)))
+      (λ t e. ap (told new) e ∙ puts_at old new v _ puts ∙ ap₂ (with_place side) (sym (law p ∙ ap (λ b. cond b i (place p)) t)) (ap (told old) (sym e)))
+      (λ f n. puts_other old new v _ p puts n ∙ itself side (told old p) ∙ ap (λ x. with_place side x (told old p)) (places_before p ∙ sym (law p ∙ ap (λ b. cond b i (place p)) f)))
+
+  place_moved : (mid new : List (Option Slot)) (a v : ℕ) (i j : Option ℕ) (after : ℕ → Option ℕ) → Puts old mid a (with_place side i (told old a)) → Puts mid new v (with_place side j (told mid v)) →
+      ((p : ℕ) → after p ≡ cond (eqb p v) j (cond (eqb p a) i (place p))) → (p : ℕ) → told new p ≡ with_place side (after p) (told old p)
+  place_moved mid new a v i j after first second law p =
+      by_equal p v
+      (λ t e. ap (told new) e ∙ puts_at mid new v _ second ∙ ap (λ q. with_place side j (told mid q)) (sym e) ∙ ap (with_place side j) (between p) ∙ twice side j _ (told old p)
+      ∙ ap (λ x. with_place side x (told old p)) (sym (law p ∙ ap (λ b. cond b j (cond (eqb p a) i (place p))) t)))
+      (λ f n. puts_other mid new v _ p second n ∙ between p ∙ ap (λ x. with_place side x (told old p)) (sym (law p ∙ ap (λ b. cond b j (cond (eqb p a) i (place p))) f)))
     where
-      between : (p : ℕ) → told mid p ≡ with (cond (eqb p a) i (place p)) (told old p)
-      between p = field_put mid a i (λ p. cond (eqb p a) i (place p)) first (λ p. refl) p
-
-abbrev pub with_input : Option ℕ → Told → Told
-with_input i t = record t { input = i }
-
-abbrev pub with_output : Option ℕ → Told → Told
-with_output i t = record t { output = i }
+      between : (p : ℕ) → told mid p ≡ with_place side (cond (eqb p a) i (place p)) (told old p)
+      between p = place_put mid a i (λ p. cond (eqb p a) i (place p)) first (λ p. refl) p
 
 -- slots and ends are sound, and are those of this graph
 pub record Becomes (slots : List (Option Slot)) (inputs outputs : List End) (h : Graph) : Type 0 where
@@ -265,12 +269,26 @@ module _ (old new : List (Option Slot)) (inputs outputs : List End) (sound : IsS
       dead : (told old u).live ≡ false
       dead = ap (λ o. (told_by o).live) vacant
 
-pub puts_of_update : (s t : Slab Slot) (key : ℕ) (slot : Option Slot) → Updates s t key slot → Puts s.slots t.slots key (told_by slot)
-puts_of_update s t key slot u p = by_equal p key (λ b e. rw b (ap told_by (ap (get t) e ∙ u.changed))) (λ b n. rw b (ap told_by (u.others p n)))
+-- of a vertex that stays, where another's place changed
+pub contained_put : (old mid : List (Option Slot)) (a v : ℕ) (side : Side) (i : Option ℕ) → Puts old mid a (with_place side i (told old a)) → IsSome (slice_index_or old v None) → IsSome (slice_index_or mid v None)
+contained_put old mid a v side i puts there = some_of_live (slice_index_or mid v None) (same ∙ live (slice_index_or old v None) there)
+  where
+    live : (o : Option Slot) → IsSome o → (told_by o).live ≡ true
+    live None h = absurd (true≢false (sym h))
+    live (Some s) h = refl
+
+    unchanged : (s : Side) (t : Told) → (with_place s i t).live ≡ t.live
+    unchanged Input t = refl
+    unchanged Output t = refl
+
+    same : (told mid v).live ≡ (told old v).live
+    same =
+        by_equal v a (λ t e. ap (λ x. x.live) (ap (told mid) e ∙ puts_at old mid a _ puts) ∙ unchanged side (told old a) ∙ ap (λ q. (told old q).live) (sym e))
+        (λ f n. ap (λ x. x.live) (puts_other old mid a _ v puts n))
 
 -- ends that the vertices of a graph may hold
 abbrev pub MayHold : Graph → List End → End → Type 0
-MayHold g others e = (member e.vertex (ids g.vertices) ≡ true) × (plane_of g e.vertex ≡ XY) × (member e.vertex (places others) ≡ false)
+MayHold g others e = (member e.vertex (ids g.vertices) ≡ true) × (plane_of g e.vertex ≡ XY) × (member e.vertex (end_vertices others) ≡ false)
 
 module _ (old : List (Option Slot)) (inputs outputs : List End) (sound : IsSound old inputs outputs) where
   abbrev g : Graph
@@ -283,74 +301,57 @@ module _ (old : List (Option Slot)) (inputs outputs : List End) (sound : IsSound
       Becomes new inputs outputs (record g { vertices = with_kinds (at_vertex v (λ _. kind)) (vertices_of old) })
   becomes_weight new v kind below at_boundary puts = becomes new _ (kind_kept g v kind sound.well_formed below at_boundary) (keeps_kind old new g v kind puts k)
 
-  input_added : (new : List (Option Slot)) (e : End) → MayHold g inputs e → Puts old new e.vertex (with_input (Some (length inputs)) (told old e.vertex)) →
-      Becomes new (inputs ++ e ∷ []) outputs (record g { inputs = inputs ++ e ∷ [] })
-  input_added new e may puts =
-      becomes new (record g { inputs = inputs ++ e ∷ [] }) (inputs_kept g (inputs ++ e ∷ []) sound.well_formed (ends_pushed (vertices_of old) inputs e sound.well_formed.inputs may.0 (ap is_XY may.1) may.2))
-      (keeps_inputs old new g (inputs ++ e ∷ [])
-      (field_put with_input (λ t. t.input) (λ t. refl) (λ i j t. refl) old (λ p. place_of p inputs) sound.input_places new e.vertex (Some (length inputs)) (λ p. place_of p (inputs ++ e ∷ [])) puts (place_of-push inputs e may.2)) k)
+  -- ends of either side
+  module _ (side : Side) where
+    abbrev ends : List End
+    ends = ends_of side g
 
-  output_added : (new : List (Option Slot)) (e : End) → MayHold g outputs e → Puts old new e.vertex (with_output (Some (length outputs)) (told old e.vertex)) →
-      Becomes new inputs (outputs ++ e ∷ []) (record g { outputs = outputs ++ e ∷ [] })
-  output_added new e may puts =
-      becomes new (record g { outputs = outputs ++ e ∷ [] }) (outputs_kept g (outputs ++ e ∷ []) sound.well_formed (ends_pushed (vertices_of old) outputs e sound.well_formed.outputs may.0 (ap is_XY may.1) may.2))
-      (keeps_outputs old new g (outputs ++ e ∷ [])
-      (field_put with_output (λ t. t.output) (λ t. refl) (λ i j t. refl) old (λ p. place_of p outputs) sound.output_places new e.vertex (Some (length outputs)) (λ p. place_of p (outputs ++ e ∷ [])) puts (place_of-push outputs e may.2)) k)
+    ordered : (s : Side) → OrderedEnds g.vertices (ends_of s g)
+    ordered Input = sound.well_formed.inputs
+    ordered Output = sound.well_formed.outputs
 
-  input_moved : (mid new : List (Option Slot)) (i : ℕ) (e d : End) → i < length inputs → MayHold g (remove inputs i) e →
-      Puts old mid (get_or inputs i d).vertex (with_input None (told old (get_or inputs i d).vertex)) → Puts mid new e.vertex (with_input (Some i) (told mid e.vertex)) →
-      Becomes new (set inputs i e) outputs (record g { inputs = set inputs i e })
-  input_moved mid new i e d lt may first second =
-      becomes new (record g { inputs = set inputs i e }) (inputs_kept g (set inputs i e) sound.well_formed (ends_set (vertices_of old) inputs i e sound.well_formed.inputs may.0 (ap is_XY may.1) may.2))
-      (keeps_inputs old new g (set inputs i e)
-      (field_moved with_input (λ t. t.input) (λ t. refl) (λ i j t. refl) old (λ p. place_of p inputs) sound.input_places mid new (get_or inputs i d).vertex e.vertex None (Some i) (λ p. place_of p (set inputs i e)) first second
-      (place_of-set inputs i e d lt sound.well_formed.inputs.one_each may.2)) k)
+    kept : (s : Side) (xs : List End) → OrderedEnds g.vertices xs → WellFormed (with_ends s xs g)
+    kept Input xs o = inputs_kept g xs sound.well_formed o
+    kept Output xs o = outputs_kept g xs sound.well_formed o
 
-  output_moved : (mid new : List (Option Slot)) (i : ℕ) (e d : End) → i < length outputs → MayHold g (remove outputs i) e →
-      Puts old mid (get_or outputs i d).vertex (with_output None (told old (get_or outputs i d).vertex)) → Puts mid new e.vertex (with_output (Some i) (told mid e.vertex)) →
-      Becomes new inputs (set outputs i e) (record g { outputs = set outputs i e })
-  output_moved mid new i e d lt may first second =
-      becomes new (record g { outputs = set outputs i e }) (outputs_kept g (set outputs i e) sound.well_formed (ends_set (vertices_of old) outputs i e sound.well_formed.outputs may.0 (ap is_XY may.1) may.2))
-      (keeps_outputs old new g (set outputs i e)
-      (field_moved with_output (λ t. t.output) (λ t. refl) (λ i j t. refl) old (λ p. place_of p outputs) sound.output_places mid new (get_or outputs i d).vertex e.vertex None (Some i) (λ p. place_of p (set outputs i e)) first second
-      (place_of-set outputs i e d lt sound.well_formed.outputs.one_each may.2)) k)
+    places_told : (s : Side) (p : ℕ) → place_at s (told old p) ≡ place_of p (ends_of s g)
+    places_told Input p = sound.input_places p
+    places_told Output p = sound.output_places p
 
-  -- the same, in the words of the code
-  pub becomes_input_added : (new : List (Option Slot)) (items : List End) (e : End) (v place : ℕ) → items ≡ inputs ++ e ∷ [] → v ≡ e.vertex → place ≡ length inputs → MayHold g inputs e → Puts old new v (with_input (Some place) (told old v)) →
-      Becomes new items outputs (record g { inputs = inputs ++ e ∷ [] })
-  becomes_input_added new items e v place items_are v_is place_is may puts =
-      subst (λ (xs : List End). Becomes new xs outputs (record g { inputs = inputs ++ e ∷ [] })) (sym items_are)
-      (input_added new e may (subst (λ (n : ℕ). Puts old new e.vertex (with_input (Some n) (told old e.vertex))) place_is (subst (λ (w : ℕ). Puts old new w (with_input (Some place) (told old w))) v_is puts)))
+    -- slots that tell the graph with these ends on the side
+    abbrev pub BecomesWith : List (Option Slot) → List End → Type 0
+    BecomesWith new xs = Becomes new (with_ends side xs g).inputs (with_ends side xs g).outputs (with_ends side xs g)
 
-  pub becomes_input_moved : (mid new : List (Option Slot)) (i : ℕ) (e d : End) (b v : ℕ) → i < length inputs → b ≡ (get_or inputs i d).vertex → v ≡ e.vertex → MayHold g (remove inputs i) e →
-      Puts old mid b (with_input None (told old b)) → Puts mid new v (with_input (Some i) (told mid v)) → Becomes new (set inputs i e) outputs (record g { inputs = set inputs i e })
-  becomes_input_moved mid new i e d b v lt b_is v_is may first second =
-      input_moved mid new i e d lt may (subst (λ (w : ℕ). Puts old mid w (with_input None (told old w))) b_is first) (subst (λ (w : ℕ). Puts mid new w (with_input (Some i) (told mid w))) v_is second)
+    end_added : (new : List (Option Slot)) (e : End) → MayHold g ends e → Puts old new e.vertex (with_place side (Some (length ends)) (told old e.vertex)) → BecomesWith new (ends ++ e ∷ [])
+    end_added new e may puts =
+        becomes new (with_ends side (ends ++ e ∷ []) g) (kept side (ends ++ e ∷ []) (ends_pushed (vertices_of old) ends e (ordered side) may.0 (ap is_XY may.1) may.2))
+        (keeps_ends side old new g (ends ++ e ∷ [])
+        (place_put side old (λ p. place_of p ends) (places_told side) new e.vertex (Some (length ends)) (λ p. place_of p (ends ++ e ∷ [])) puts (place_of-push ends e may.2)) k)
 
-  -- the vertex of an end is there
-  pub input_contained : (i : ℕ) (d : End) (b : ℕ) → i < length inputs → b ≡ (get_or inputs i d).vertex → IsSome (slice_index_or old b None)
-  input_contained i d b lt b_is =
-      contains_live old b (all_at (λ u. member u (ids (vertices_of old))) (places inputs) b sound.well_formed.inputs.there (ap (λ v. member v (places inputs)) b_is ∙ member-place inputs i d lt))
+    end_moved : (mid new : List (Option Slot)) (i : ℕ) (e d : End) → i < length ends → MayHold g (remove ends i) e →
+        Puts old mid (get_or ends i d).vertex (with_place side None (told old (get_or ends i d).vertex)) → Puts mid new e.vertex (with_place side (Some i) (told mid e.vertex)) →
+        BecomesWith new (set ends i e)
+    end_moved mid new i e d lt may first second =
+        becomes new (with_ends side (set ends i e) g) (kept side (set ends i e) (ends_set (vertices_of old) ends i e (ordered side) may.0 (ap is_XY may.1) may.2))
+        (keeps_ends side old new g (set ends i e)
+        (place_moved side old (λ p. place_of p ends) (places_told side) mid new (get_or ends i d).vertex e.vertex None (Some i) (λ p. place_of p (set ends i e)) first second
+        (place_of-set ends i e d lt (ordered side).one_each may.2)) k)
 
-  -- the same, in the words of the code
-  pub becomes_output_added : (new : List (Option Slot)) (items : List End) (e : End) (v place : ℕ) → items ≡ outputs ++ e ∷ [] → v ≡ e.vertex → place ≡ length outputs → MayHold g outputs e → Puts old new v (with_output (Some place) (told old v)) →
-      Becomes new inputs items (record g { outputs = outputs ++ e ∷ [] })
-  becomes_output_added new items e v place items_are v_is place_is may puts =
-      subst (λ (xs : List End). Becomes new inputs xs (record g { outputs = outputs ++ e ∷ [] })) (sym items_are)
-      (output_added new e may (subst (λ (n : ℕ). Puts old new e.vertex (with_output (Some n) (told old e.vertex))) place_is (subst (λ (w : ℕ). Puts old new w (with_output (Some place) (told old w))) v_is puts)))
+    -- where the code's list of ends is this one
+    pub becomes_end_added : (new : List (Option Slot)) (items : List End) (e : End) → items ≡ ends ++ e ∷ [] → MayHold g ends e →
+        Puts old new e.vertex (with_place side (Some (length ends)) (told old e.vertex)) →
+        Becomes new (with_ends side items g).inputs (with_ends side items g).outputs (with_ends side (ends ++ e ∷ []) g)
+    becomes_end_added new items e is may puts =
+        subst (λ (xs : List End). Becomes new (with_ends side xs g).inputs (with_ends side xs g).outputs (with_ends side (ends ++ e ∷ []) g)) (sym is) (end_added new e may puts)
 
-  pub becomes_output_moved : (mid new : List (Option Slot)) (i : ℕ) (e d : End) (b v : ℕ) → i < length outputs → b ≡ (get_or outputs i d).vertex → v ≡ e.vertex → MayHold g (remove outputs i) e →
-      Puts old mid b (with_output None (told old b)) → Puts mid new v (with_output (Some i) (told mid v)) → Becomes new inputs (set outputs i e) (record g { outputs = set outputs i e })
-  becomes_output_moved mid new i e d b v lt b_is v_is may first second =
-      output_moved mid new i e d lt may (subst (λ (w : ℕ). Puts old mid w (with_output None (told old w))) b_is first) (subst (λ (w : ℕ). Puts mid new w (with_output (Some i) (told mid w))) v_is second)
+    pub becomes_end_moved : (new : List (Option Slot)) (items : List End) (i : ℕ) (e : End) → items ≡ set ends i e → i < length ends → MayHold g (remove ends i) e →
+        Moves side i (get_or ends i e).vertex e.vertex old new →
+        Becomes new (with_ends side items g).inputs (with_ends side items g).outputs (with_ends side (set ends i e) g)
+    becomes_end_moved new items i e is lt may moves =
+        subst (λ (xs : List End). Becomes new (with_ends side xs g).inputs (with_ends side xs g).outputs (with_ends side (set ends i e) g)) (sym is)
+        (end_moved moves.0 new i e e lt may moves.1 moves.2)
 
-  -- the vertex of an end is there
-  pub output_contained : (i : ℕ) (d : End) (b : ℕ) → i < length outputs → b ≡ (get_or outputs i d).vertex → IsSome (slice_index_or old b None)
-  output_contained i d b lt b_is =
-      contains_live old b (all_at (λ u. member u (ids (vertices_of old))) (places outputs) b sound.well_formed.outputs.there (ap (λ v. member v (places outputs)) b_is ∙ member-place outputs i d lt))
-
-  pub contained_after : (mid : List (Option Slot)) (a : ℕ) (t : Told) (v : ℕ) → Puts old mid a t → t.live ≡ (told old a).live → member v (ids (vertices_of old)) ≡ true → IsSome (slice_index_or mid v None)
-  contained_after mid a t v puts live there =
-      some_of_live (slice_index_or mid v None)
-      (by_equal v a (λ s e. ap (λ x. x.live) (ap (told mid) e ∙ puts_at old mid a t puts) ∙ live ∙ ap (λ q. (told old q).live) (sym e)) (λ f n. ap (λ x. x.live) (puts_other old mid a t v puts n))
-      ∙ sym (member-vertices old v) ∙ there)
+    -- the vertex of an end is there
+    pub end_contained : (i : ℕ) (d : End) → i < length ends → IsSome (slice_index_or old (get_or ends i d).vertex None)
+    end_contained i d lt =
+        contains_live old (get_or ends i d).vertex (all_at (λ u. member u (ids (vertices_of old))) (end_vertices ends) (get_or ends i d).vertex (ordered side).there (member-place ends i d lt))

@@ -4,15 +4,11 @@ use Rattle.std.specs.List.{list_all}
 use Rattle.zx_model.specs.Bits.{xor, member}
 use Rattle.zx_calculus.specs.Graph.{in_order}
 use Rattle.zx_calculus.proofs.Booleans.{xor-false}
-use Rattle.zx_calculus.proofs.Ids.{by_test, by_equal, and-left, and-right, or-left, or-right, member-here, member-there, member-below, eqb-self, removed, removed-absent, member-removed, member-removed_other}
+use Rattle.zx_calculus.proofs.Ids.{by_test, by_equal, and-left, and-right, or-left, or-right, member-below, eqb-self, removed, removed-absent, member-removed, member-removed_other}
 use Rattle.zx_calculus.proofs.Kept.{both}
 use Rattle.zx_calculus.proofs.Splitting.{all_at}
+pub use Rattle.zx_calculus.proofs.Positions.{member-get_or}
 use Rattle.open_graph.specs.Internal.Rows.{inserted, IsPlace}
-
-pub member-get_or : (xs : List ℕ) (i : ℕ) → i < length xs → member (get_or xs i 0) xs ≡ true
-member-get_or [] i h = absurd (omega arith)
-member-get_or (x ∷ xs) zero h = member-here x xs
-member-get_or (x ∷ xs) (suc i) h = member-there _ x xs (member-get_or xs i (omega arith))
 
 -- an id that stands in a list has a place
 pub place-member : (v : ℕ) (xs : List ℕ) → member v xs ≡ true → (i : ℕ) × (i < length xs) × (get_or xs i 0 ≡ v)

@@ -4,7 +4,7 @@ use Rattle.std.specs.List.{list_all}
 use Rattle.zx_model.specs.Bits.{member}
 use Rattle.zx_calculus.specs.Graph.{XY, End, ids, kind_of, joined, in_order}
 use Rattle.zx_calculus.specs.Turns.{in_plane}
-use Rattle.zx_calculus.specs.After.{edges_of}
+use Rattle.zx_calculus.specs.Adjacency.{edges_of}
 use Rattle.zx_calculus.proofs.Ids.{by_test, by_equal, Symmetric}
 use Rattle.zx_calculus.proofs.Kept.{both}
 use Rattle.zx_calculus.proofs.Splitting.{joined-self}

@@ -2,3 +2,4 @@
 pub mod Rows
 pub mod Slots
 pub mod Changes
+pub mod Sides

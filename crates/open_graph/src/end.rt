@@ -21,3 +21,17 @@ impl Model for End {
 
     ghost inverse = { λ w. record { vertex = w.vertex; hadamard = w.hadamard } };
 }
+
+impl End {
+    ghost use Rattle.std.specs.Prelude.{◌≡◌, false};
+
+    /// An end without a Hadamard.
+    pub fn plain(vertex: VertexId) -> End
+        ensures { result ≡ record { vertex = vertex; hadamard = false } }
+    {
+        End {
+            vertex,
+            hadamard: false,
+        }
+    }
+}

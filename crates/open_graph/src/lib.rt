@@ -1,19 +1,32 @@
-//! Open graphs in memory: a slab of vertices, each with its neighbours by rising id.
+//! Open graphs in memory: vertices with planes and phases, edges, inputs and outputs.
+//!
+//! Proved: each call makes its one named change of the graph's lists, and all else stays; the graph
+//! stays well-formed; a new id wasn't live; readers tell the lists, neighbours and vertices by
+//! rising id; a copy has the same lists; want of memory leaves them as they were.
+//!
+//! ```rust
+//! let mut g = OpenGraph::new(alloc);
+//! let u = g.add_vertex(Plane::XY, Eighth::new(1))?;
+//! let v = g.add_vertex(Plane::XY, Eighth::new(0))?;
+//! g.toggle_edge(u, v)?;          // now g.has_edge(u, v)
+//! ```
 #![tactic(auto)]
 
-pub mod end;
-pub mod id;
-pub mod open_graph;
-pub mod plane;
-mod row;
+mod end;
+mod id;
+mod open_graph;
+mod plane;
+mod side;
 mod slot;
 mod slots;
 #[cfg(test)]
 mod tests;
-pub mod vertices;
+mod vertex_set;
+mod vertices;
 
 pub use end::End;
 pub use id::VertexId;
 pub use open_graph::OpenGraph;
 pub use plane::Plane;
+pub use vertex_set::VertexSet;
 pub use vertices::Vertices;

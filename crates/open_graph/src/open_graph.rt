@@ -1,11 +1,11 @@
 //! Open graphs.
 
-ghost use Rattle.std.specs.Prelude.{◌≡◌, ◌≢◌, ◌<◌, ◌++◌, ℕ, [], ◌∷◌, true, false, length, slice_set, remove, is_some, slice_get, OnOk, OnErr, IfOk, IfSome};
+ghost use Rattle.std.specs.Prelude.{◌≡◌, ◌≢◌, ◌<◌, ◌++◌, ℕ, [], ◌∷◌, true, false, length, slice_set, slice_index, remove, is_some, slice_get, OnOk, OnErr, IfOk, IfSome};
 ghost use Rattle.zx_model.specs.Bits.{member};
-ghost use Rattle.zx_calculus.specs.Graph.{ids, kind_of, plane_of, joined, places, insert_vertex, with_kinds, Live, WellFormed, Interior};
+ghost use Rattle.zx_calculus.specs.Graph.{ids, kind_of, plane_of, joined, end_vertices, insert_vertex, with_kinds, Live, WellFormed, Interior, is_interior};
 ghost use Rattle.zx_calculus.specs.Graph as zx;
 ghost use Rattle.zx_calculus.specs.Turns.{in_plane, quarter_turned};
-ghost use Rattle.zx_calculus.specs.Reduced.{is_interior};
+ghost use Rattle.zx_calculus.specs.Worked.{vertex};
 ghost use Rattle.zx_calculus.specs.Edits.{IsToggle, IsRemoval, at_vertex};
 ghost use Rattle.open_graph.specs.Planes.{plane_named};
 ghost use Rattle.open_graph.specs.Internal.Slots.{Tells};
@@ -13,6 +13,7 @@ ghost use Rattle.open_graph.specs.Internal.Slots.{Tells};
 use crate::end::End;
 use crate::id::VertexId;
 use crate::plane::Plane;
+use crate::side::{self, Side};
 use crate::slot::Slot;
 use crate::slots;
 use crate::vertices::Vertices;
@@ -59,7 +60,7 @@ impl OpenGraph {
     pub fn add_vertex(&mut self, plane: Plane, phase: Eighth) -> Result<VertexId, AllocError>
         ensures fresh { IfOk result (λ v. member v (ids self.old.graph.vertices) ≡ false) }
         ensures ok { IfOk result (λ v. self.new.graph ≡ record self.old.graph {
-          vertices = insert_vertex (record { id = v; kind = in_plane (plane_named plane) phase }) self.old.graph.vertices;
+          vertices = insert_vertex (vertex v (plane_named plane) phase) self.old.graph.vertices;
         }) }
         ensures err { OnErr result (self.new.graph ≡ self.old.graph) }
         ensures valid { WellFormed self.new.graph }
@@ -72,14 +73,13 @@ impl OpenGraph {
     pub fn add_input(&mut self, end: End) -> Result<(), AllocError>
         requires live { Live self.old.graph end.vertex }
         requires plane { plane_of self.old.graph end.vertex ≡ zx.XY }
-        requires free { member end.vertex (places self.old.graph.inputs) ≡ false }
-        ensures ok { OnOk result (self.new.graph ≡ record self.old.graph { inputs = self.old.graph.inputs ++ end ∷ [] }) }
+        requires free { member end.vertex (end_vertices self.old.graph.inputs) ≡ false }
+        ensures ok { OnOk result (self.new.graph ≡
+            record self.old.graph { inputs = self.old.graph.inputs ++ end ∷ [] }) }
         ensures err { OnErr result (self.new.graph ≡ self.old.graph) }
         ensures valid { WellFormed self.new.graph }
     {
-        let place = self.inputs.len();
-        self.inputs.push(end)?;
-        slots::set_input(&mut self.slots, end.vertex, Some(place));
+        side::add_end(&mut self.inputs, &mut self.slots, Side::Input, end)?;
         Ok(())
     }
 
@@ -87,14 +87,13 @@ impl OpenGraph {
     pub fn add_output(&mut self, end: End) -> Result<(), AllocError>
         requires live { Live self.old.graph end.vertex }
         requires plane { plane_of self.old.graph end.vertex ≡ zx.XY }
-        requires free { member end.vertex (places self.old.graph.outputs) ≡ false }
-        ensures ok { OnOk result (self.new.graph ≡ record self.old.graph { outputs = self.old.graph.outputs ++ end ∷ [] }) }
+        requires free { member end.vertex (end_vertices self.old.graph.outputs) ≡ false }
+        ensures ok { OnOk result (self.new.graph ≡
+            record self.old.graph { outputs = self.old.graph.outputs ++ end ∷ [] }) }
         ensures err { OnErr result (self.new.graph ≡ self.old.graph) }
         ensures valid { WellFormed self.new.graph }
     {
-        let place = self.outputs.len();
-        self.outputs.push(end)?;
-        slots::set_output(&mut self.slots, end.vertex, Some(place));
+        side::add_end(&mut self.outputs, &mut self.slots, Side::Output, end)?;
         Ok(())
     }
 
@@ -103,14 +102,11 @@ impl OpenGraph {
         requires in_range { i < length self.old.graph.inputs }
         requires live { Live self.old.graph end.vertex }
         requires plane { plane_of self.old.graph end.vertex ≡ zx.XY }
-        requires free { member end.vertex (places (remove self.old.graph.inputs i)) ≡ false }
+        requires free { member end.vertex (end_vertices (remove self.old.graph.inputs i)) ≡ false }
         ensures ok { self.new.graph ≡ record self.old.graph { inputs = slice_set self.old.graph.inputs i end } }
         ensures valid { WellFormed self.new.graph }
     {
-        let before = self.inputs[i];
-        slots::set_input(&mut self.slots, before.vertex, None);
-        slots::set_input(&mut self.slots, end.vertex, Some(i));
-        self.inputs[i] = end;
+        side::move_end(&mut self.inputs, &mut self.slots, Side::Input, i, end);
     }
 
     /// Replaces the output at a place.
@@ -118,14 +114,11 @@ impl OpenGraph {
         requires in_range { i < length self.old.graph.outputs }
         requires live { Live self.old.graph end.vertex }
         requires plane { plane_of self.old.graph end.vertex ≡ zx.XY }
-        requires free { member end.vertex (places (remove self.old.graph.outputs i)) ≡ false }
+        requires free { member end.vertex (end_vertices (remove self.old.graph.outputs i)) ≡ false }
         ensures ok { self.new.graph ≡ record self.old.graph { outputs = slice_set self.old.graph.outputs i end } }
         ensures valid { WellFormed self.new.graph }
     {
-        let before = self.outputs[i];
-        slots::set_output(&mut self.slots, before.vertex, None);
-        slots::set_output(&mut self.slots, end.vertex, Some(i));
-        self.outputs[i] = end;
+        side::move_end(&mut self.outputs, &mut self.slots, Side::Output, i, end);
     }
 
     /// Removes a vertex without ends, and its edges.
@@ -198,17 +191,11 @@ impl OpenGraph {
         })
     }
 
-    fn slot(&self, v: VertexId) -> &Slot
-        requires { Live self.now.graph v }
-        ensures { Tells self.now.graph v result.now }
-    {
-        &self.slots[v.get()]
-    }
-
     /// Whether an edge joins two vertices.
     pub fn has_edge(&self, u: VertexId, v: VertexId) -> bool
         requires { Live self.now.graph u }
-        ensures { result ≡ joined self.now.graph.edges u v }
+        ensures value { result ≡ joined self.now.graph.edges u v }
+        ensures valid { WellFormed self.now.graph }
     {
         self.slot(u).row.contains(v)
     }
@@ -220,6 +207,17 @@ impl OpenGraph {
         ensures valid { WellFormed self.now.graph }
     {
         self.slot(v).row.as_slice()
+    }
+
+    /// The vertex at a place among those adjacent to a vertex.
+    pub fn neighbour(&self, v: VertexId, i: usize) -> VertexId
+        requires live { Live self.now.graph v }
+        requires within { i < length (zx.neighbours self.now.graph v) }
+        ensures value { result ≡ slice_index (zx.neighbours self.now.graph v) i }
+        ensures live { Live self.now.graph result }
+        ensures valid { WellFormed self.now.graph }
+    {
+        self.neighbours(v)[i]
     }
 
     /// Plane and phase of a vertex.
@@ -235,7 +233,8 @@ impl OpenGraph {
     /// Whether a vertex has neither an input nor an output.
     pub fn is_interior(&self, v: VertexId) -> bool
         requires { Live self.now.graph v }
-        ensures { result ≡ is_interior self.now.graph v }
+        ensures value { result ≡ is_interior self.now.graph v }
+        ensures valid { WellFormed self.now.graph }
     {
         let slot = self.slot(v);
         slot.input.is_none() && slot.output.is_none()
@@ -243,7 +242,8 @@ impl OpenGraph {
 
     /// Whether an id is that of a vertex.
     pub fn is_live(&self, v: VertexId) -> bool
-        ensures { result ≡ member v (ids self.now.graph.vertices) }
+        ensures value { result ≡ member v (ids self.now.graph.vertices) }
+        ensures valid { WellFormed self.now.graph }
     {
         self.slots.contains(v.get())
     }
@@ -251,8 +251,8 @@ impl OpenGraph {
     /// The place of a vertex's input among the inputs, where it has one.
     pub fn input_at(&self, v: VertexId) -> Option<usize>
         requires { Live self.now.graph v }
-        ensures found { is_some result ≡ member v (places self.now.graph.inputs) }
-        ensures place { IfSome result (λ i. slice_get (places self.now.graph.inputs) i ≡ Some v) }
+        ensures found { is_some result ≡ member v (end_vertices self.now.graph.inputs) }
+        ensures place { IfSome result (λ i. slice_get (end_vertices self.now.graph.inputs) i ≡ Some v) }
         ensures valid { WellFormed self.now.graph }
     {
         self.slot(v).input
@@ -261,8 +261,8 @@ impl OpenGraph {
     /// The place of a vertex's output among the outputs, where it has one.
     pub fn output_at(&self, v: VertexId) -> Option<usize>
         requires { Live self.now.graph v }
-        ensures found { is_some result ≡ member v (places self.now.graph.outputs) }
-        ensures place { IfSome result (λ i. slice_get (places self.now.graph.outputs) i ≡ Some v) }
+        ensures found { is_some result ≡ member v (end_vertices self.now.graph.outputs) }
+        ensures place { IfSome result (λ i. slice_get (end_vertices self.now.graph.outputs) i ≡ Some v) }
         ensures valid { WellFormed self.now.graph }
     {
         self.slot(v).output
@@ -292,5 +292,13 @@ impl OpenGraph {
         Vertices {
             entries: self.slots.iter(),
         }
+    }
+
+    // What is kept of a vertex.
+    fn slot(&self, v: VertexId) -> &Slot
+        requires { Live self.now.graph v }
+        ensures { Tells self.now.graph v result.now }
+    {
+        &self.slots[v.get()]
     }
 }

@@ -3,16 +3,16 @@
 ghost use Rattle.std.specs.Prelude.{◌≡◌};
 
 use crate::plane::Plane;
-use crate::row::Row;
+use crate::vertex_set::VertexSet;
 use std::alloc::AllocError;
 use zx_model::Eighth;
 
-/// A vertex: its plane and phase, its neighbours, and the places of its ends among inputs and outputs.
+// A vertex: its plane and phase, its neighbours, and the places of its ends among inputs and outputs.
 #[derive(Drop)]
 pub(crate) struct Slot {
     pub(crate) plane: Plane,
     pub(crate) phase: Eighth,
-    pub(crate) row: Row,
+    pub(crate) row: VertexSet,
     pub(crate) input: Option<usize>,
     pub(crate) output: Option<usize>,
 }
@@ -24,7 +24,7 @@ impl Clone for Slot {
         Ok(Slot {
             plane: self.plane,
             phase: self.phase,
-            row: self.row.copy()?,
+            row: self.row.clone()?,
             input: self.input,
             output: self.output,
         })

@@ -9,12 +9,14 @@ ghost use Rattle.zx_calculus.proofs.EditPrograms.{toggled};
 ghost use Rattle.open_graph.specs.Planes.{plane_named};
 ghost use Rattle.open_graph.specs.Internal.Rows.{inserted};
 ghost use Rattle.open_graph.specs.Internal.Slots.{nothing, told, adjacent};
+ghost use Rattle.open_graph.specs.Internal.Sides.{with_place};
 ghost use Rattle.open_graph.specs.Internal.Changes.{Puts, SameTold, Keeps, RemovedFrom};
 
 use crate::id::VertexId;
 use crate::plane::Plane;
-use crate::row::Row;
+use crate::side::Side;
 use crate::slot::Slot;
+use crate::vertex_set::VertexSet;
 use slab::Slab;
 use std::alloc::{AllocError, Global};
 use zx_model::Eighth;
@@ -34,19 +36,11 @@ pub(crate) fn add(
     let key = slots.insert(Slot {
         plane,
         phase,
-        row: Row::new(alloc),
+        row: VertexSet::new(alloc),
         input: None,
         output: None,
     })?;
     Ok(VertexId::new(key))
-}
-
-// Whether a vertex stands among the neighbours of another.
-fn joins(slots: &Slab<Slot>, u: VertexId, v: VertexId) -> bool
-    requires { ContainsKey slots.now u }
-    ensures { result ≡ adjacent slots.now.slots u v }
-{
-    slots[u.get()].row.contains(v)
 }
 
 // Adds a vertex to the neighbours of another.
@@ -96,6 +90,14 @@ pub(crate) fn toggle(slots: &mut Slab<Slot>, u: VertexId, v: VertexId) -> Result
     Ok(())
 }
 
+// Whether a vertex stands among the neighbours of another.
+fn joins(slots: &Slab<Slot>, u: VertexId, v: VertexId) -> bool
+    requires { ContainsKey slots.now u }
+    ensures { result ≡ adjacent slots.now.slots u v }
+{
+    slots[u.get()].row.contains(v)
+}
+
 // Gives a vertex another plane and phase.
 pub(crate) fn set_kind(slots: &mut Slab<Slot>, v: VertexId, plane: Plane, phase: Eighth)
     requires { ContainsKey slots.old v }
@@ -107,22 +109,16 @@ pub(crate) fn set_kind(slots: &mut Slab<Slot>, v: VertexId, plane: Plane, phase:
     slot.phase = phase;
 }
 
-// Gives the input of a vertex another place, or none.
-pub(crate) fn set_input(slots: &mut Slab<Slot>, v: VertexId, place: Option<usize>)
+// Gives the end of a side of a vertex another place, or none.
+pub(crate) fn set_place(slots: &mut Slab<Slot>, v: VertexId, side: Side, place: Option<usize>)
     requires { ContainsKey slots.old v }
-    ensures { let t = told slots.old.slots v in
-        Puts slots.old.slots slots.new.slots v (record t { input = place }) }
+    ensures { Puts slots.old.slots slots.new.slots v (with_place side place (told slots.old.slots v)) }
 {
-    slots[v.get()].input = place;
-}
-
-// Gives the output of a vertex another place, or none.
-pub(crate) fn set_output(slots: &mut Slab<Slot>, v: VertexId, place: Option<usize>)
-    requires { ContainsKey slots.old v }
-    ensures { let t = told slots.old.slots v in
-        Puts slots.old.slots slots.new.slots v (record t { output = place }) }
-{
-    slots[v.get()].output = place;
+    let slot = &mut slots[v.get()];
+    match side {
+        Side::Input => slot.input = place,
+        Side::Output => slot.output = place,
+    }
 }
 
 // Removes a vertex, and it from the rows of its neighbours.

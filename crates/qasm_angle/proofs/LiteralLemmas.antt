@@ -25,14 +25,8 @@ module _ (p : ℕ → Bool) (text : List ℕ) where
   within : position_or_len p text ≤ length text
   within = prefix_len-le-length (λ x. not (p x)) text
 
-  pub place-some : (i : ℕ) → Some i ≡ position p text → i ≡ position_or_len p text
-  place-some i e = some_by (ltb (position_or_len p text) (length text)) (position_or_len p text) i e
-
   pub place-none : None ≡ position p text → length text ≡ position_or_len p text
   place-none e = none_by (ltb (position_or_len p text) (length text)) (position_or_len p text) (length text) refl e within
-
-  pub place-within : (i : ℕ) → i ≡ position_or_len p text → i ≤ length text
-  place-within i e = omega (arith, within, e)
 
 -- the digits with zeros after them
 pub decimal-from : (digits : List ℕ) (leading zeros raised lowered : ℕ) → ltb most_significant (significant digits) ≡ false → number_of digits ≡ leading * 10 ^ zeros →
@@ -41,10 +35,6 @@ unfolding decimal
 decimal-from digits leading zeros raised lowered few number =
     let regroup : leading * 10 ^ (zeros + raised) ≡ number_of digits * 10 ^ raised = omega (arith, ap (λ x. leading * x) (pow-add 10 zeros raised), ap (λ x. x * 10 ^ raised) number) in
     rw few (ap (λ x. limited (lowest (pos x) (10 ^ lowered))) regroup)
-
-pub decimal-none : (digits : List ℕ) (raised lowered : ℕ) → ltb most_significant (significant digits) ≡ true → None ≡ decimal digits raised lowered
-unfolding decimal
-decimal-none digits raised lowered many = rw many refl
 
 -- decimals are the same where the fractions are
 decimal-same : (digits : List ℕ) (raised lowered raised' lowered' : ℕ) →

@@ -1,5 +1,6 @@
 -- Angles that are whole numbers of eighth turns, n*pi/4. The angle of a T gate is pi/4.
-use Rattle.std.specs.Prelude.{◌≡◌, ℕ, ◌/◌, ◌%◌, ◌==◌, ℤ, pos, ◌*ℤ◌, unsigned_abs, Option, Some, None, if◌then◌else◌, option_map}
+use Rattle.std.specs.Prelude.{◌≡◌, ℕ, ◌/◌, ◌%◌, ◌==◌, ℤ, pos, ◌*ℤ◌, unsigned_abs, Option, Some, None, if◌then◌else◌}
+use Rattle.std.specs.Prelude.{option_map}
 use Rattle.std.specs.Int.{int_rem_euclid}
 use Rattle.zx_model.specs.Phase.{turn, half_turn}
 use Rattle.qasm_angle.specs.Ratio.{Ratio, is_zero}

@@ -1,7 +1,8 @@
 -- The value of a number that a text spells: digits with or without a point, and with or without an exponent of ten, as
 -- `12`, `0.25`, `.5` and `2.5e-3` (OpenQASM 2: Cross, Bishop, Smolin, Gambetta, "Open quantum assembly language", arXiv
 -- 1707.03429). Every text has a value here: bytes that don't belong to such a spelling are passed over.
-use Rattle.std.specs.Prelude.{ℕ, ◌+◌, ◌-◌, ◌*◌, ◌^◌, Bool, ◌&&◌, ◌||◌, ◌==◌, nat_lt, if◌then◌else◌, List, [], ◌∷◌, length, take, drop, pos, Option, None, slice_index}
+use Rattle.std.specs.Prelude.{ℕ, ◌+◌, ◌-◌, ◌*◌, ◌^◌, Bool, ◌&&◌, ◌||◌, ◌==◌, nat_lt, if◌then◌else◌, List, [], ◌∷◌}
+use Rattle.std.specs.Prelude.{length, take, drop, pos, Option, None, slice_index}
 use Rattle.std.specs.Char.{is_ascii_digit}
 use Rattle.std.specs.List.{position_or_len}
 use Rattle.qasm_angle.specs.Ratio.{Ratio, lowest, limited}

@@ -1,5 +1,7 @@
 -- Fractions of whole numbers, as in school: lowest terms, and the four operations on them.
-use Rattle.std.specs.Prelude.{◌≡◌, ℕ, zero, suc, ◌*◌, ◌/◌, ◌%◌, ◌^◌, ◌<◌, ◌≤◌, Bool, true, false, ◌&&◌, nat_le, ◌==◌, if◌then◌else◌, ℤ, pos, negsuc, ◌+ℤ◌, ◌*ℤ◌, neg_ℤ, unsigned_abs, int_div, Option, Some, None}
+use Rattle.std.specs.Prelude.{◌≡◌, ℕ, zero, suc, ◌*◌, ◌/◌, ◌%◌, ◌^◌, ◌<◌, ◌≤◌, Bool, true, false, ◌&&◌, nat_le, ◌==◌}
+use Rattle.std.specs.Prelude.{if◌then◌else◌, ℤ, pos, negsuc, ◌+ℤ◌, ◌*ℤ◌, neg_ℤ, unsigned_abs, int_div, Option, Some}
+use Rattle.std.specs.Prelude.{None}
 
 -- numerator / denominator
 pub record Ratio : Type 0 where
@@ -18,7 +20,8 @@ gcd a b = gcd_within (suc b) a b
 
 -- a / b in lowest terms, for a natural number b other than 0
 unfoldable pub lowest : ℤ → ℕ → Ratio
-lowest a b = let divisor = gcd (unsigned_abs a) b in record { numerator = int_div a (pos divisor); denominator = b / divisor }
+lowest a b =
+    let divisor = gcd (unsigned_abs a) b in record { numerator = int_div a (pos divisor); denominator = b / divisor }
 
 -- a / b in lowest terms, for a whole number b other than 0
 abbrev pub over : ℤ → ℤ → Ratio

@@ -2,7 +2,7 @@
 use Rattle.std.specs.Prelude.{◌≡◌, ℕ, List, [], ◌∷◌, ◌++◌, Option, refl}
 use Rattle.std.proofs.Common.{append_assoc, append-nil, ap, sym, ◌∙◌}
 use Rattle.qasm_angle.specs.Ratio.{Ratio}
-use Rattle.qasm_angle.specs.declared.expression.Operator.{Operator}
+use Rattle.qasm_angle.specs.declared.expression.Operation.{Operation}
 use Rattle.qasm_angle.specs.declared.expression.ExprItem.{ExprItem}
 use Rattle.qasm_angle.specs.declared.expression.ExprItem.TheVariants as step
 
@@ -12,7 +12,7 @@ pub data Tree : Type 0 where
   Pi : Tree
   Parameter : ℕ → Tree
   Negate : Tree → Tree
-  Binary : Operator → Tree → Tree → Tree
+  Binary : Operation → Tree → Tree → Tree
 
 -- the steps of an expression: each operator stands after its operands
 abbrev pub postfix : Tree → List ExprItem
@@ -46,21 +46,25 @@ unfoldable pub tree_of : List ExprItem → Tree
 tree_of steps = first_tree (after_steps steps [])
 
 -- reading the steps of a tree adds that tree
-pub after_steps-postfix : (t : Tree) (steps : List ExprItem) (trees : List Tree) → after_steps (postfix t ++ steps) trees ≡ after_steps steps (t ∷ trees)
+pub after_steps-postfix : (t : Tree) (steps : List ExprItem) (trees : List Tree) →
+    after_steps (postfix t ++ steps) trees ≡ after_steps steps (t ∷ trees)
 after_steps-postfix (Number value) steps trees = refl
 after_steps-postfix Pi steps trees = refl
 after_steps-postfix (Parameter i) steps trees = refl
 after_steps-postfix (Negate a) steps trees =
-    ap (λ s. after_steps s trees) (append_assoc (postfix a) (step.Negate ∷ []) steps) ∙ after_steps-postfix a (step.Negate ∷ steps) trees
+    ap (λ s. after_steps s trees) (append_assoc (postfix a) (step.Negate ∷ []) steps)
+    ∙ after_steps-postfix a (step.Negate ∷ steps) trees
 after_steps-postfix (Binary operator a b) steps trees =
-    ap (λ s. after_steps s trees) (append_assoc (postfix a ++ postfix b) (step.Binary operator ∷ []) steps ∙ append_assoc (postfix a) (postfix b) (step.Binary operator ∷ steps))
+    ap (λ s. after_steps s trees) (append_assoc (postfix a ++ postfix b) (step.Binary operator ∷ []) steps
+    ∙ append_assoc (postfix a) (postfix b) (step.Binary operator ∷ steps))
     ∙ after_steps-postfix a (postfix b ++ step.Binary operator ∷ steps) trees
     ∙ after_steps-postfix b (step.Binary operator ∷ steps) (a ∷ trees)
 
 -- the tree of a tree's steps is that tree
 pub tree_of-postfix : (t : Tree) → tree_of (postfix t) ≡ t
 unfolding tree_of
-tree_of-postfix t = ap first_tree (ap (λ steps. after_steps steps []) (sym (append-nil (postfix t))) ∙ after_steps-postfix t [] [])
+tree_of-postfix t =
+    ap first_tree (ap (λ steps. after_steps steps []) (sym (append-nil (postfix t))) ∙ after_steps-postfix t [] [])
 
 pub tree_of-steps : (steps : List ExprItem) (t : Tree) → steps ≡ postfix t → tree_of steps ≡ t
 tree_of-steps steps t e = ap tree_of e ∙ tree_of-postfix t

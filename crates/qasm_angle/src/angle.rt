@@ -4,8 +4,8 @@ ghost use Rattle.std.specs.Prelude.{◌≡◌, false};
 ghost use Rattle.qasm_angle.specs.Ratio.{is_zero, quotient, limited};
 ghost use Rattle.qasm_angle.specs.Values.{number, pi, of_parts, opposite_angle, sum_of_angles, scaled, divided, product_of_angles, quotient_of_angles, applied};
 
-use crate::errors::Cause;
-use crate::expression::Operator;
+use crate::errors::AngleFault;
+use crate::expression::Operation;
 use crate::fraction::Fraction;
 
 /// The angle `rational + multiple * pi`.
@@ -50,26 +50,26 @@ impl Angle {
 
     /// What the operation gives for this angle and another, or why it gives no angle.
     #[tactic(auto, unfolding(crate::specs::Values::applied))]
-    pub fn apply(&self, operator: Operator, other: &Angle) -> Result<Angle, Cause>
+    pub fn apply(&self, operator: Operation, other: &Angle) -> Result<Angle, AngleFault>
         ensures { result ≡ applied operator self.now other.now }
     {
         match operator {
-            Operator::Add => sum(self, other),
-            Operator::Subtract => sum(self, &other.opposite()),
-            Operator::Multiply => product(self, other),
-            Operator::Divide => quotient(self, other),
+            Operation::Add => sum_of_angles(self, other),
+            Operation::Subtract => sum_of_angles(self, &other.opposite()),
+            Operation::Multiply => product_of_angles(self, other),
+            Operation::Divide => quotient_of_angles(self, other),
         }
     }
 }
 
-fn sum(a: &Angle, b: &Angle) -> Result<Angle, Cause>
+fn sum_of_angles(a: &Angle, b: &Angle) -> Result<Angle, AngleFault>
     ensures { result ≡ sum_of_angles a.now b.now }
 {
     let rational = a.rational.checked_add(b.rational);
     of_parts(rational, a.multiple.checked_add(b.multiple))
 }
 
-fn product(a: &Angle, b: &Angle) -> Result<Angle, Cause>
+fn product_of_angles(a: &Angle, b: &Angle) -> Result<Angle, AngleFault>
     ensures { result ≡ product_of_angles a.now b.now }
 {
     if b.multiple.is_zero() {
@@ -77,45 +77,45 @@ fn product(a: &Angle, b: &Angle) -> Result<Angle, Cause>
     } else if a.multiple.is_zero() {
         scaled(b, a.rational)
     } else {
-        Err(Cause::NotAnAngle)
+        Err(AngleFault::NotAnAngle)
     }
 }
 
-fn quotient(a: &Angle, b: &Angle) -> Result<Angle, Cause>
+fn quotient_of_angles(a: &Angle, b: &Angle) -> Result<Angle, AngleFault>
     ensures { result ≡ quotient_of_angles a.now b.now }
 {
     if b.multiple.is_zero() {
         divided(a, b.rational)
     } else {
-        Err(Cause::NotAnAngle)
+        Err(AngleFault::NotAnAngle)
     }
 }
 
-/// The quotient of an angle by a number.
-fn divided(a: &Angle, divisor: Fraction) -> Result<Angle, Cause>
+// The quotient of an angle by a number.
+fn divided(a: &Angle, divisor: Fraction) -> Result<Angle, AngleFault>
     ensures { result ≡ divided a.now divisor }
 {
     if divisor.is_zero() {
-        return Err(Cause::Divide);
+        return Err(AngleFault::Divide);
     }
     let rational = a.rational.checked_div(divisor);
     of_parts(rational, a.multiple.checked_div(divisor))
 }
 
-/// The product of an angle and a number.
-fn scaled(a: &Angle, factor: Fraction) -> Result<Angle, Cause>
+// The product of an angle and a number.
+fn scaled(a: &Angle, factor: Fraction) -> Result<Angle, AngleFault>
     ensures { result ≡ scaled a.now factor }
 {
     let rational = a.rational.checked_mul(factor);
     of_parts(rational, a.multiple.checked_mul(factor))
 }
 
-/// The angle of two parts, or too large where one of them is none.
-fn of_parts(rational: Option<Fraction>, multiple: Option<Fraction>) -> Result<Angle, Cause>
+// The angle of two parts, or too large where one of them is none.
+fn of_parts(rational: Option<Fraction>, multiple: Option<Fraction>) -> Result<Angle, AngleFault>
     ensures { result ≡ of_parts rational multiple }
 {
     match (rational, multiple) {
         (Some(rational), Some(multiple)) => Ok(Angle { rational, multiple }),
-        _ => Err(Cause::TooLarge),
+        _ => Err(AngleFault::TooLarge),
     }
 }

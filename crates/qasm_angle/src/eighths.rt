@@ -16,25 +16,25 @@ pub fn to_eighth(a: &Angle) -> Option<Eighth>
         × (phase ≡ within_a_turn n)) }
     ensures none { IfNone result ((n : ℤ) → IsEighths a.now n → ⊥) }
 {
-    let turns = eighths(a)?;
+    let turns = eighths_of(a)?;
     Some(phase(turns))
 }
 
-/// The n for which the angle is n*pi/4.
-fn eighths(a: &Angle) -> Option<i64>
+// The n for which the angle is n*pi/4.
+fn eighths_of(a: &Angle) -> Option<i64>
     ensures eighths { result ≡ eighths_of a.now }
     ensures some { IfSome result (λ n. IsEighths a.now n) }
     ensures none { IfNone result ((n : ℤ) → IsEighths a.now n → ⊥) }
 {
     if a.rational.is_zero() {
-        quarters(a.multiple)
+        quarters_of(a.multiple)
     } else {
         None
     }
 }
 
-/// Four times the fraction, where that is whole.
-fn quarters(s: Fraction) -> Option<i64>
+// Four times the fraction, where that is whole.
+fn quarters_of(s: Fraction) -> Option<i64>
     ensures value { result ≡ quarters_of s }
     ensures lowest { IsFraction s }
 {
@@ -46,7 +46,7 @@ fn quarters(s: Fraction) -> Option<i64>
     }
 }
 
-/// The phase of that many eighth turns.
+// The phase of that many eighth turns.
 fn phase(turns: i64) -> Eighth
     ensures { result ≡ within_a_turn turns }
 {

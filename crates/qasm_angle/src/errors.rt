@@ -9,7 +9,7 @@ use thiserror::Error;
 
 /// Why an expression has no angle.
 #[derive(Debug, Clone, Copy, PartialEq, Eq)]
-pub enum Cause {
+pub enum AngleFault {
     /// A division by 0.
     Divide,
     /// A number past the limits: in lowest terms its numerator or denominator has a size above 2^60, or it is
@@ -53,14 +53,14 @@ impl<T: Drop> From<AllocFailed<T>> for AngleError {
     }
 }
 
-impl From<Cause> for AngleError {
+impl From<AngleFault> for AngleError {
     ghost from_gives = { λ cause e. e ≡ error_of cause };
 
-    fn from(cause: Cause) -> AngleError {
+    fn from(cause: AngleFault) -> AngleError {
         match cause {
-            Cause::Divide => AngleError::Divide,
-            Cause::TooLarge => AngleError::TooLarge,
-            Cause::NotAnAngle => AngleError::NotAnAngle,
+            AngleFault::Divide => AngleError::Divide,
+            AngleFault::TooLarge => AngleError::TooLarge,
+            AngleFault::NotAnAngle => AngleError::NotAnAngle,
         }
     }
 }

@@ -6,11 +6,11 @@ ghost use Rattle.qasm_angle.specs.Values.{value, of_number};
 ghost use Rattle.qasm_angle.specs.Errors.{error_of};
 ghost use Rattle.qasm_angle.specs.Internal.Constants.{is_parameter};
 ghost use Rattle.qasm_angle.specs.Internal.Stack.{stepped, on_top};
-ghost use Rattle.qasm_angle.specs.declared.errors.Cause.{Cause};
-ghost use Rattle.qasm_angle.specs.declared.errors.Cause.TheVariants as cause;
+ghost use Rattle.qasm_angle.specs.declared.errors.AngleFault.{AngleFault};
+ghost use Rattle.qasm_angle.specs.declared.errors.AngleFault.TheVariants as cause;
 
 use crate::angle::Angle;
-use crate::errors::{AngleError, Cause};
+use crate::errors::{AngleError, AngleFault};
 use crate::expression::{Expr, ExprItem};
 use crate::literal::Literal;
 use std::alloc::{AllocError, Global};
@@ -54,7 +54,7 @@ pub fn folded(alloc: Global, e: Expr) -> Result<Expr, AllocError>
     }
 }
 
-/// Whether a parameter is among the steps.
+// Whether a parameter is among the steps.
 fn names_parameter(steps: &[ExprItem]) -> bool
     ensures { result ≡ list_any is_parameter steps.now }
 {
@@ -63,11 +63,11 @@ fn names_parameter(steps: &[ExprItem]) -> bool
         .any(|step| matches!(step, ExprItem::Parameter(_)))
 }
 
-/// Takes the operands of a step from the end of the angles, and adds what it gives.
+// Takes the operands of a step from the end of the angles, and adds what it gives.
 fn push_step(angles: &mut Vec<Angle>, step: &ExprItem, args: &[Angle]) -> Result<(), AngleError>
     ensures angles { OnOk result (stepped step.now args.now (reverse angles.old.items)
         ≡ Ok (reverse angles.new.items)) }
-    ensures cause { (c : Cause) → result ≡ Err (error_of c)
+    ensures cause { (c : AngleFault) → result ≡ Err (error_of c)
         → stepped step.now args.now (reverse angles.old.items) ≡ Err c }
 {
     let angle = take_step(angles, step, args)?;
@@ -75,15 +75,15 @@ fn push_step(angles: &mut Vec<Angle>, step: &ExprItem, args: &[Angle]) -> Result
     Ok(())
 }
 
-/// Takes the operands of a step from the end of the angles, and gives the step's angle.
-fn take_step(angles: &mut Vec<Angle>, step: &ExprItem, args: &[Angle]) -> Result<Angle, Cause>
+// Takes the operands of a step from the end of the angles, and gives the step's angle.
+fn take_step(angles: &mut Vec<Angle>, step: &ExprItem, args: &[Angle]) -> Result<Angle, AngleFault>
     ensures { on_top result (reverse angles.new.items)
         ≡ stepped step.now args.now (reverse angles.old.items) }
 {
     match step {
         ExprItem::Number(literal) => number(literal),
         ExprItem::Pi => Ok(Angle::pi()),
-        ExprItem::Parameter(i) => args.get(*i).copied().ok_or(Cause::NotAnAngle),
+        ExprItem::Parameter(i) => args.get(*i).copied().ok_or(AngleFault::NotAnAngle),
         ExprItem::Negate => {
             let a = pop_angle(angles)?;
             Ok(a.opposite())
@@ -96,20 +96,20 @@ fn take_step(angles: &mut Vec<Angle>, step: &ExprItem, args: &[Angle]) -> Result
     }
 }
 
-/// The angle of a number.
-fn number(literal: &Literal) -> Result<Angle, Cause>
+// The angle of a number.
+fn number(literal: &Literal) -> Result<Angle, AngleFault>
     ensures { result ≡ of_number literal.now }
 {
     match literal.value() {
         Some(value) => Ok(Angle::number(value)),
-        None => Err(Cause::TooLarge),
+        None => Err(AngleFault::TooLarge),
     }
 }
 
-/// Takes the last angle. The steps of an expression never lack one.
-fn pop_angle(angles: &mut Vec<Angle>) -> Result<Angle, Cause>
+// Takes the last angle. The steps of an expression never lack one.
+fn pop_angle(angles: &mut Vec<Angle>) -> Result<Angle, AngleFault>
     ensures found { IfOk result (λ a. reverse angles.old.items ≡ a ∷ reverse angles.new.items) }
     ensures none { IfErr result (λ c. (c ≡ cause.NotAnAngle) × (reverse angles.old.items ≡ [])) }
 {
-    angles.pop().ok_or(Cause::NotAnAngle)
+    angles.pop().ok_or(AngleFault::NotAnAngle)
 }

@@ -12,7 +12,7 @@ use std::marker::Model;
 
 /// An operation on two angles.
 #[derive(Clone, Copy, Debug, PartialEq, Eq)]
-pub enum Operator {
+pub enum Operation {
     /// The sum.
     Add,
     /// The first minus the second.
@@ -35,7 +35,7 @@ pub enum ExprItem {
     /// The last angle with the other sign.
     Negate,
     /// The operation on the last two angles.
-    Binary(Operator),
+    Binary(Operation),
 }
 
 /// An expression, as the list of its steps in postfix order: each operator stands after its operands. Of one without
@@ -74,7 +74,7 @@ impl Expr {
         }
     }
 
-    /// The same expression, with the angle that it has for all arguments.
+    // The same expression, with the angle that it has for all arguments.
     pub(crate) fn with_constant(self, alloc: Global, angle: Angle) -> Result<Expr, AllocError>
         requires { (args : List Angle) → value self args ≡ Ok angle }
         ensures { IfOk result (λ e. e ≡ self) }
@@ -86,7 +86,7 @@ impl Expr {
         })
     }
 
-    /// Its angle, where that is kept.
+    // Its angle, where that is kept.
     pub(crate) fn constant(&self) -> Option<Angle>
         ensures { IfSome result (λ angle. (args : List Angle) → value self.now args ≡ Ok angle) }
     {

@@ -5,10 +5,10 @@ ghost use Rattle.qasm_angle.specs.Ratio.{gcd, lowest, over, limited, largest, wh
 
 use std::marker::Model;
 
-/// The size that no numerator and no denominator exceeds: 2^60.
+// The size that no numerator and no denominator exceeds: 2^60.
 pub(crate) const LARGEST: u128 = 1 << 60;
 
-/// The largest number that fits into a word of the machine: division of larger ones is slow.
+// The largest number that fits into a word of the machine: division of larger ones is slow.
 const LONGEST_WORD: u128 = u64::MAX as u128;
 
 /// A fraction in lowest terms, whose numerator and denominator have at most the size 2^60. Zero is 0/1.
@@ -102,7 +102,7 @@ impl Fraction {
         }
     }
 
-    /// The sum over the denominator that both have.
+    // The sum over the denominator that both have.
     fn common_sum(self, other: Fraction) -> Option<Fraction>
         requires { self.denominator ≡ other.denominator }
         ensures { result ≡ limited (sum self other) }
@@ -113,7 +113,7 @@ impl Fraction {
         )
     }
 
-    /// The sum over the product of the denominators.
+    // The sum over the product of the denominators.
     fn cross_sum(self, other: Fraction) -> Option<Fraction>
         ensures { result ≡ limited (sum self other) }
     {
@@ -149,7 +149,7 @@ impl Fraction {
     }
 }
 
-/// The product of two numbers of a fraction.
+// The product of two numbers of a fraction.
 fn cross(a: i64, b: i64) -> i128
     requires first { unsigned_abs a ≤ largest }
     requires second { unsigned_abs b ≤ largest }
@@ -159,7 +159,7 @@ fn cross(a: i64, b: i64) -> i128
     i128::from(a) * i128::from(b)
 }
 
-/// The quotient of two whole numbers in lowest terms, or none where it is past the limit.
+// The quotient of two whole numbers in lowest terms, or none where it is past the limit.
 fn reduced_over(numerator: i128, denominator: i128) -> Option<Fraction>
     requires nonzero { 0 < unsigned_abs denominator }
     requires small { unsigned_abs numerator ≤ largest * largest }
@@ -173,7 +173,7 @@ fn reduced_over(numerator: i128, denominator: i128) -> Option<Fraction>
     }
 }
 
-/// The quotient of a whole number and a natural number in lowest terms, or none where it is past the limit.
+// The quotient of a whole number and a natural number in lowest terms, or none where it is past the limit.
 pub(crate) fn reduced(numerator: i128, denominator: u128) -> Option<Fraction>
     requires { 0 < denominator }
     ensures { result ≡ limited (lowest numerator denominator) }
@@ -191,7 +191,7 @@ pub(crate) fn reduced(numerator: i128, denominator: u128) -> Option<Fraction>
     })
 }
 
-/// The number of that size with that sign.
+// The number of that size with that sign.
 fn signed(negative: bool, size: u128) -> i64
     requires { size ≤ largest }
     ensures { result ≡ signed negative size }
@@ -200,7 +200,7 @@ fn signed(negative: bool, size: u128) -> i64
     if negative { -size } else { size }
 }
 
-/// The greatest common divisor.
+// The greatest common divisor.
 pub(crate) fn gcd(a: u128, b: u128) -> u128
     ensures { result ≡ gcd a b }
 {
@@ -217,7 +217,7 @@ pub(crate) fn gcd(a: u128, b: u128) -> u128
     u128::from(gcd_of_words(smaller as u64, (larger % smaller) as u64))
 }
 
-/// The greatest common divisor of numbers that fit into a word of the machine.
+// The greatest common divisor of numbers that fit into a word of the machine.
 fn gcd_of_words(a: u64, b: u64) -> u64
     ensures { result ≡ gcd a b }
 {

@@ -10,9 +10,9 @@ ghost use Rattle.qasm_angle.specs.Values.{value};
 ghost use Rattle.qasm_angle.specs.Eighths.{IsEighths, phase_of};
 ghost use Rattle.qasm_angle.specs.Worked.{ratio, numeral, of_pi};
 ghost use Rattle.qasm_angle.specs.declared.angle.Angle.{Angle};
-ghost use Rattle.qasm_angle.specs.declared.errors.Cause.TheVariants as cause;
-ghost use Rattle.qasm_angle.specs.declared.expression.Operator.{Operator};
-ghost use Rattle.qasm_angle.specs.declared.expression.Operator.TheVariants as operator;
+ghost use Rattle.qasm_angle.specs.declared.errors.AngleFault.TheVariants as cause;
+ghost use Rattle.qasm_angle.specs.declared.expression.Operation.{Operation};
+ghost use Rattle.qasm_angle.specs.declared.expression.Operation.TheVariants as operator;
 ghost use Rattle.qasm_angle.specs.declared.expression.ExprItem.TheVariants as step;
 
 /// Lowest terms are those of school.
@@ -34,7 +34,7 @@ pub fn steps_of_trees()
     ensures back { (t : Tree) → tree_of (postfix t) ≡ t }
     ensures one_tree { (t u : Tree) → postfix t ≡ postfix u → t ≡ u }
     ensures negation { (a : Tree) → postfix (Negate a) ≡ postfix a ++ step.Negate ∷ [] }
-    ensures operation { (operator : Operator) (a b : Tree)
+    ensures operation { (operator : Operation) (a b : Tree)
         → postfix (Binary operator a b) ≡ postfix a ++ postfix b ++ step.Binary operator ∷ [] }
 {}
 
@@ -82,10 +82,8 @@ pub fn worked_angles()
     ensures past_the_limit { value (Binary operator.Add (numeral 1152921504606846976) (numeral 1))
         [] ≡ Err cause.TooLarge }
     ensures at_the_limit { value (Binary operator.Subtract (numeral 1152921504606846976)
-        (numeral 0)) [] ≡ Ok (record {
-          rational = ratio (pos 1152921504606846976) 1;
-          multiple = ratio (pos 0) 1;
-        }) }
+        (numeral 0)) [] ≡
+        Ok (record { rational = ratio (pos 1152921504606846976) 1; multiple = ratio (pos 0) 1 }) }
 {}
 
 /// Angles and their phases.

@@ -33,7 +33,7 @@ impl Literal {
         ensures { result ≡ literal_value text.now }
     {
         Literal {
-            value: value_of(text),
+            value: literal_value(text),
         }
     }
 
@@ -46,16 +46,16 @@ impl Literal {
     }
 }
 
-/// The value of the number that a text spells.
+// The value of the number that a text spells.
 #[tactic(auto, unfolding(crate::specs::Literals::literal_value))]
-fn value_of(text: &[u8]) -> Option<Fraction>
+fn literal_value(text: &[u8]) -> Option<Fraction>
     ensures { result ≡ literal_value text.now }
 {
     let mark = exponent_mark(text);
     value_of_parts(&text[..mark], after(text, mark))
 }
 
-/// The value of digits with a point, and an exponent with its sign.
+// The value of digits with a point, and an exponent with its sign.
 fn value_of_parts(mantissa: &[u8], exponent: &[u8]) -> Option<Fraction>
     ensures { result ≡ value_of_parts mantissa.now exponent.now }
 {
@@ -68,7 +68,7 @@ fn value_of_parts(mantissa: &[u8], exponent: &[u8]) -> Option<Fraction>
     }
 }
 
-/// The digits of a mantissa as a whole number, times 10^raised, divided by 10^lowered.
+// The digits of a mantissa as a whole number, times 10^raised, divided by 10^lowered.
 #[tactic(auto, unfolding(crate::specs::Literals::decimal))]
 fn decimal(mantissa: &[u8], raised: u128, lowered: u128) -> Option<Fraction>
     requires { raised ≤ 2 ^ 64 }
@@ -78,7 +78,7 @@ fn decimal(mantissa: &[u8], raised: u128, lowered: u128) -> Option<Fraction>
     scaled(digits.leading, digits.zeros as u128 + raised, lowered)
 }
 
-/// The place of the mark that an exponent begins with, or the end.
+// The place of the mark that an exponent begins with, or the end.
 fn exponent_mark(text: &[u8]) -> usize
     ensures place { result ≡ position_or_len is_exponent_mark text.now }
     ensures within { result ≤ length text.now }
@@ -89,14 +89,14 @@ fn exponent_mark(text: &[u8]) -> usize
     }
 }
 
-/// The place of the first mark that an exponent begins with.
+// The place of the first mark that an exponent begins with.
 fn first_exponent_mark(text: &[u8]) -> Option<usize>
     ensures { result ≡ position is_exponent_mark text.now }
 {
     text.iter().position(|b| *b == b'e' || *b == b'E')
 }
 
-/// The place of the point, or the end.
+// The place of the point, or the end.
 fn point(text: &[u8]) -> usize
     ensures place { result ≡ position_or_len is_point text.now }
     ensures within { result ≤ length text.now }
@@ -107,14 +107,14 @@ fn point(text: &[u8]) -> usize
     }
 }
 
-/// The place of the first point.
+// The place of the first point.
 fn first_point(text: &[u8]) -> Option<usize>
     ensures { result ≡ position is_point text.now }
 {
     text.iter().position(|b| *b == b'.')
 }
 
-/// What follows the byte at a place; nothing where that is the end.
+// What follows the byte at a place; nothing where that is the end.
 fn after(text: &[u8], mark: usize) -> &[u8]
     requires { mark ≤ length text.now }
     ensures { result.now ≡ drop (mark + 1) text.now }
@@ -126,7 +126,7 @@ fn after(text: &[u8], mark: usize) -> &[u8]
     }
 }
 
-/// How many digits stand after the point.
+// How many digits stand after the point.
 fn places(mantissa: &[u8]) -> usize
     ensures places { result ≡ places_of mantissa.now }
     ensures most { result ≤ length mantissa.now }
@@ -134,7 +134,7 @@ fn places(mantissa: &[u8]) -> usize
     count_digits(after(mantissa, point(mantissa)))
 }
 
-/// How many bytes are digits.
+// How many bytes are digits.
 fn count_digits(text: &[u8]) -> usize
     ensures count { result ≡ length (digits_of text.now) }
     ensures most { result ≤ length text.now }
@@ -148,14 +148,14 @@ fn count_digits(text: &[u8]) -> usize
     count
 }
 
-/// Whether an exponent begins with a minus.
+// Whether an exponent begins with a minus.
 fn is_negative(exponent: &[u8]) -> bool
     ensures { result ≡ is_negative exponent.now }
 {
     !exponent.is_empty() && exponent[0] == b'-'
 }
 
-/// The size of an exponent, or the largest number where that is larger.
+// The size of an exponent, or the largest number where that is larger.
 fn size(exponent: &[u8]) -> u64
     ensures { result ≡ min (size_of exponent.now) (2 ^ 64 - 1) }
 {
@@ -166,7 +166,7 @@ fn size(exponent: &[u8]) -> u64
     size
 }
 
-/// A size with one more byte, which is passed over where it is no digit; the largest number where that is larger.
+// A size with one more byte, which is passed over where it is no digit; the largest number where that is larger.
 fn with_byte(size: u64, byte: u8) -> u64
     ensures { (rest : List ℕ) → min (number_from result (digits_of rest)) (2 ^ 64 - 1)
         ≡ min (number_from size (digits_of (byte ∷ rest))) (2 ^ 64 - 1) }

@@ -5,10 +5,10 @@ ghost use Rattle.qasm_angle.specs.Ratio.{lowest, limited};
 
 use crate::fraction::{Fraction, LARGEST, gcd, reduced};
 
-/// The most digits that a prefix of a number has.
+// The most digits that a prefix of a number has.
 const DIGITS: u128 = 38;
 
-/// The number times 10^raised, divided by 10^lowered; none where that is past the limit.
+// The number times 10^raised, divided by 10^lowered; none where that is past the limit.
 pub(crate) fn scaled(leading: u128, raised: u128, lowered: u128) -> Option<Fraction>
     requires { leading < 10 ^ 38 }
     ensures { result ≡ limited (lowest (pos (leading * 10 ^ raised)) (10 ^ lowered)) }
@@ -22,7 +22,7 @@ pub(crate) fn scaled(leading: u128, raised: u128, lowered: u128) -> Option<Fract
     }
 }
 
-/// The number times a power of ten.
+// The number times a power of ten.
 fn raised_by(leading: u128, tens: u128) -> Option<Fraction>
     requires { 0 < leading }
     ensures { result ≡ limited (lowest (pos (leading * 10 ^ tens)) 1) }
@@ -34,7 +34,7 @@ fn raised_by(leading: u128, tens: u128) -> Option<Fraction>
     reduced((leading * power_of_ten(tens)) as i128, 1)
 }
 
-/// The number divided by a power of ten.
+// The number divided by a power of ten.
 fn lowered_by(leading: u128, tens: u128) -> Option<Fraction>
     requires some { 0 < leading }
     requires few_digits { leading < 10 ^ 38 }
@@ -50,7 +50,7 @@ fn lowered_by(leading: u128, tens: u128) -> Option<Fraction>
     }
 }
 
-/// The number divided by one number and then by another, where the product may not fit.
+// The number divided by one number and then by another, where the product may not fit.
 fn lowered_twice(leading: u128, first: u128, second: u128) -> Option<Fraction>
     requires small { leading < 2 ^ 127 }
     requires first { 0 < first }
@@ -66,7 +66,7 @@ fn lowered_twice(leading: u128, first: u128, second: u128) -> Option<Fraction>
     reduced((leading / divisor) as i128, below * second)
 }
 
-/// A power of ten.
+// A power of ten.
 fn power_of_ten(tens: u128) -> u128
     requires { tens ≤ 38 }
     ensures value { result ≡ 10 ^ tens }

@@ -4,22 +4,22 @@ ghost use Rattle.std.specs.Prelude.{◌≡◌, ◌+◌, ◌*◌, ◌^◌, ◌<�
 ghost use Rattle.qasm_angle.specs.Literals.{digits_of, number_of, significant, most_significant};
 ghost use Rattle.qasm_angle.specs.Internal.Significands.{IsSignificand, Keeps};
 
-/// The most digits from the first one other than 0 to the last one other than 0.
+// The most digits from the first one other than 0 to the last one other than 0.
 const MOST_SIGNIFICANT: u32 = 38;
 
-/// Digits, as the whole number `prefix` with `zeros` zeros after it.
+// Digits, as the whole number `prefix` with `zeros` zeros after it.
 #[derive(Clone, Copy)]
 pub(crate) struct Significand {
-    /// The first digits, without leading zeros, as a number.
+    // The first digits, without leading zeros, as a number.
     pub(crate) leading: u128,
-    /// How many digits that number has; 0 for the number 0.
+    // How many digits that number has; 0 for the number 0.
     pub(crate) count: u32,
-    /// How many zeros follow it.
+    // How many zeros follow it.
     pub(crate) zeros: usize,
 }
 
 impl Significand {
-    /// With one more digit; none where that is one significant digit too many.
+    // With one more digit; none where that is one significant digit too many.
     fn push(self, digit: u8) -> Option<Significand>
         requires digit { digit < 10 }
         requires valid { IsSignificand self }
@@ -49,7 +49,7 @@ impl Significand {
         }
     }
 
-    /// With one more byte, which is passed over where it is no digit.
+    // With one more byte, which is passed over where it is no digit.
     fn push_byte(self, byte: u8) -> Option<Significand>
         requires valid { IsSignificand self }
         requires room { self.zeros < 2 ^ 63 }
@@ -69,7 +69,7 @@ impl Significand {
     }
 }
 
-/// The digits of a mantissa; none where too many are significant.
+// The digits of a mantissa; none where too many are significant.
 pub(crate) fn read_digits(mantissa: &[u8]) -> Option<Significand>
     ensures number { IfSome result (λ s. number_of (digits_of mantissa.now)
         ≡ s.leading * 10 ^ s.zeros) }

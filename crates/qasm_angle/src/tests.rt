@@ -2,7 +2,7 @@
 ghost use Rattle.std.specs.Prelude.{◌≡◌, ◌∷◌, []};
 ghost use Rattle.qasm_angle.specs.Trees.{Tree, postfix};
 
-use crate::{Angle, AngleError, Expr, ExprItem, Fraction, Literal, Operator, eval, to_eighth};
+use crate::{Angle, AngleError, Expr, ExprItem, Fraction, Literal, Operation, eval, to_eighth};
 use std::alloc::{AllocError, Global};
 use std::test::Fail;
 
@@ -89,7 +89,7 @@ fn step(operand: Operand) -> ExprItem
 // An operation on two operands.
 fn operation(
     alloc: Global,
-    operator: Operator,
+    operator: Operation,
     left: Operand,
     right: Operand,
 ) -> Result<Expr, AllocError> {
@@ -103,13 +103,13 @@ fn operations_have_their_angles(rt: HostRuntime) -> Result<(), Fail> {
     let zero = Operand::Number(b'0');
     let pi = Operand::Pi;
     let rows = [
-        (Operator::Add, two, pi, Ok(((2, 1), (1, 1)))),
-        (Operator::Subtract, two, pi, Ok(((2, 1), (-1, 1)))),
-        (Operator::Multiply, two, pi, Ok(((0, 1), (2, 1)))),
-        (Operator::Divide, pi, two, Ok(((0, 1), (1, 2)))),
-        (Operator::Divide, pi, zero, Err(AngleError::Divide)),
-        (Operator::Multiply, pi, pi, Err(AngleError::NotAnAngle)),
-        (Operator::Divide, two, pi, Err(AngleError::NotAnAngle)),
+        (Operation::Add, two, pi, Ok(((2, 1), (1, 1)))),
+        (Operation::Subtract, two, pi, Ok(((2, 1), (-1, 1)))),
+        (Operation::Multiply, two, pi, Ok(((0, 1), (2, 1)))),
+        (Operation::Divide, pi, two, Ok(((0, 1), (1, 2)))),
+        (Operation::Divide, pi, zero, Err(AngleError::Divide)),
+        (Operation::Multiply, pi, pi, Err(AngleError::NotAnAngle)),
+        (Operation::Divide, two, pi, Err(AngleError::NotAnAngle)),
     ];
     for (operator, left, right, wanted) in rows {
         let e = operation(rt.alloc(), operator, left, right)?;
@@ -128,7 +128,7 @@ fn minus_quarter(alloc: Global) -> Result<Expr, AllocError> {
         ExprItem::Parameter(0),
         ExprItem::Negate,
         ExprItem::Number(Literal::read(b"4")),
-        ExprItem::Binary(Operator::Divide),
+        ExprItem::Binary(Operation::Divide),
     ]?;
     Ok(Expr::new(steps))
 }

@@ -15,7 +15,7 @@ use Rattle.qasm_scope.specs.Internal.Kept.{IsSound, called_for}
 use Rattle.qasm_inline.specs.Internal.KeptCalls.{expand_number}
 use Rattle.qasm_inline.specs.Internal.KeptCalls.{called_events, values_of}
 use Rattle.qasm_scope.specs.Scope.{Scope, Meaning, Qubits, Bits, Gate, meaning_of, numeral}
-use Rattle.qasm_inline.specs.Internal.Spans.{no_register_by, past_by, any_missing, span_by, unknown_by, wrong_count_by, AreSpans, IsResolved, is_unresolved, unresolved_cause, resolved_cause, cut_qubit_at, cut_instance, cut_instances, instances_events}
+use Rattle.qasm_inline.specs.Internal.Spans.{no_register_by, past_by, any_missing, span_by, is_unknown, is_wrong_count, AreSpans, IsResolved, is_unresolved, unresolved_cause, resolved_cause, cut_qubit_at, cut_instance, cut_instances, instances_events}
 use Rattle.qasm_scope.proofs.CheckLemmas.{AreNames, shape-names, called-names, placed-numbered, list_any-same, map-same}
 use Rattle.qasm_scope.proofs.Formulas.{unplaced-names}
 use Rattle.qasm_scope.specs.Internal.Entries.{has_unplaced, any_other, placed as placed_by, ArePlaces, ArePlaced}
@@ -40,7 +40,7 @@ same-tests u k k' w w' p p' s q ek ew ep = ap (λ k. application_cause u k w p s
 
 -- the same by what names are kept as
 wrong-kept : (symbols : Symbols) (scope : Scope) (a : Apply) → AreNames symbols scope → wrong_in scope (Act (Applied a))
-    ≡ application_cause (list_any is_unsupported a.angles) (unknown_by symbols a) (wrong_count_by symbols a) (list_any (past_by symbols) a.qubits)
+    ≡ application_cause (list_any is_unsupported a.angles) (is_unknown symbols a) (is_wrong_count symbols a) (list_any (past_by symbols) a.qubits)
     (has_other_size (register_sizes (ranges_of scope a.qubits))) (list_any has_twice (instances (ranges_of scope a.qubits)))
 wrong-kept symbols scope a h =
     let shape = sym (shape-names symbols scope a.gate h) in
@@ -59,8 +59,8 @@ unresolved-cause false false false false s q h = absurd (cc)
 
 -- what is wrong with an application that isn't resolved
 pub wrong-unresolved : (symbols : Symbols) (scope : Scope) (a : Apply) → AreNames symbols scope → is_unresolved symbols a ≡ true
-    → wrong_in scope (Act (Applied a)) ≡ Some (unresolved_cause (list_any is_unsupported a.angles) (unknown_by symbols a) (wrong_count_by symbols a))
-wrong-unresolved symbols scope a h unresolved = wrong-kept symbols scope a h ∙ unresolved-cause (list_any is_unsupported a.angles) (unknown_by symbols a) (wrong_count_by symbols a) (list_any (past_by symbols) a.qubits)
+    → wrong_in scope (Act (Applied a)) ≡ Some (unresolved_cause (list_any is_unsupported a.angles) (is_unknown symbols a) (is_wrong_count symbols a))
+wrong-unresolved symbols scope a h unresolved = wrong-kept symbols scope a h ∙ unresolved-cause (list_any is_unsupported a.angles) (is_unknown symbols a) (is_wrong_count symbols a) (list_any (past_by symbols) a.qubits)
     (has_other_size (register_sizes (ranges_of scope a.qubits))) (list_any has_twice (instances (ranges_of scope a.qubits))) unresolved
 
 clear-cause : (u k w p s q : Bool) → u ≡ false → k ≡ false → w ≡ false → p ≡ false → application_cause u k w p s q ≡ resolved_cause s q
@@ -100,7 +100,7 @@ other-names parameters fs none = list_any-same (has_unplaced parameters) (has_ot
 
 -- the names in an application of a gate
 pub unknown-kept : (symbols : Symbols) (a : Apply) (parameters : Places) (gate : KnownGate) → ArePlaces parameters [] → option_map gate_shape (Some gate) ≡ shape_by symbols a.gate
-    → unknown_by symbols a ≡ (list_any (has_unplaced parameters) a.angles || list_any (no_register_by symbols) a.qubits)
+    → is_unknown symbols a ≡ (list_any (has_unplaced parameters) a.angles || list_any (no_register_by symbols) a.qubits)
 unknown-kept symbols a parameters gate none shape =
     ap₂ (λ s o. is_no_gate s || o || list_any (no_register_by symbols) a.qubits) (sym shape) (sym (other-names parameters a.angles none))
 
@@ -115,7 +115,7 @@ pub unresolved-angles : (symbols : Symbols) (a : Apply) (parameters : Places) �
     → any_other parameters a.angles ≡ true → is_unresolved symbols a ≡ true
 unresolved-angles symbols a parameters none h =
     or-angles (list_any is_unsupported a.angles) (list_any (has_other_name []) a.angles) (is_no_gate (shape_by symbols a.gate)) (list_any (no_register_by symbols) a.qubits)
-    (wrong_count_by symbols a) (list_any (past_by symbols) a.qubits)
+    (is_wrong_count symbols a) (list_any (past_by symbols) a.qubits)
     (ap (λ b. list_any is_unsupported a.angles || b) (sym (other-names parameters a.angles none)) ∙ h)
 
 or-arguments : (u g o r w p : Bool) → (r || p) ≡ true → (u || (g || o || r) || w || p) ≡ true
@@ -130,12 +130,12 @@ or-arguments false false false false false p h = h
 pub unresolved-arguments : (symbols : Symbols) (a : Apply) → any_missing symbols a.qubits ≡ true → is_unresolved symbols a ≡ true
 unresolved-arguments symbols a h =
     or-arguments (list_any is_unsupported a.angles) (is_no_gate (shape_by symbols a.gate)) (list_any (has_other_name []) a.angles) (list_any (no_register_by symbols) a.qubits)
-    (wrong_count_by symbols a) (list_any (past_by symbols) a.qubits)
+    (is_wrong_count symbols a) (list_any (past_by symbols) a.qubits)
     (sym (any_or (no_register_by symbols) (past_by symbols) a.qubits) ∙ h)
 
 -- what was found is an application with its names resolved
 pub resolved-from : (symbols : Symbols) (a : Apply) (parameters : Places) (gate : KnownGate) (angles : List Tree) (ranges : List QubitRange)
-    → ArePlaces parameters [] → option_map gate_shape (Some gate) ≡ shape_by symbols a.gate → wrong_count_by symbols a ≡ false → gate.called ≡ called_by symbols a.gate
+    → ArePlaces parameters [] → option_map gate_shape (Some gate) ≡ shape_by symbols a.gate → is_wrong_count symbols a ≡ false → gate.called ≡ called_by symbols a.gate
     → ArePlaced parameters a.angles angles → AreSpans symbols a.qubits ranges → IsResolved symbols a gate.called angles ranges
 resolved-from symbols a parameters gate angles ranges none shape counts called placed spans = record {
   supported = placed.supported;

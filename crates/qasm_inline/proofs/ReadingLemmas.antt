@@ -18,8 +18,8 @@ use Rattle.qasm_scope.specs.Texts.{IsProgramText}
 use Rattle.qasm_inline.specs.declared.circuit.Circuit.{Circuit}
 use Rattle.qasm_inline.specs.declared.circuit.OpenGate.{OpenGate}
 use Rattle.qasm_inline.specs.declared.reading.Reading.{Reading}
-use Rattle.qasm_inline.specs.declared.error.ReadError.{ReadError}
-use Rattle.qasm_inline.specs.declared.error.ReadError.TheVariants.{BadByte, TooDeep, Syntax, Wrong, NoMemory}
+use Rattle.qasm_inline.specs.declared.error.TextError.{TextError}
+use Rattle.qasm_inline.specs.declared.error.TextError.TheVariants.{BadByte, TooDeep, Syntax, Wrong, NoMemory}
 use Rattle.qasm_inline.specs.Internal.Circuits.{HasBegun, HasTaken, gate_at}
 use Rattle.qasm_inline.specs.Internal.Readings.{AreAllTaken, AreTaken, AreTakenAs, IsProgramAnswer, IsTakenNext, IsTextAnswer}
 use Rattle.qasm_inline.proofs.CircuitLemmas.{means-from, valid-from}
@@ -155,7 +155,7 @@ pub before-left : (all rest : List Lexeme) (reading : Reading) → AreTaken all 
 before-left all rest reading r = before-rest all r.before r.behind rest reading.gate reading.circuit r.statements r.same r.program r.taken
 
 -- ---- answers
-pub text-answer : (text : List ℕ) (tokens : List Lexeme) (program : List Placed) (result : Result Elementary ReadError) → IsCut 0 text tokens → too_deep tokens ≡ None
+pub text-answer : (text : List ℕ) (tokens : List Lexeme) (program : List Placed) (result : Result Elementary TextError) → IsCut 0 text tokens → too_deep tokens ≡ None
     → IsProgram tokens program → IsProgramAnswer program result → IsTextAnswer text result
 text-answer text tokens program (Ok circuit) cut shallow is h = (program, record { tokens = tokens; cut = cut; shallow = shallow; grammar = is }, h)
 text-answer text tokens program (Err (Wrong cause at)) cut shallow is h = (program, record { tokens = tokens; cut = cut; shallow = shallow; grammar = is }, h)
@@ -164,11 +164,11 @@ text-answer text tokens program (Err (BadByte at)) cut shallow is h = absurd h
 text-answer text tokens program (Err (TooDeep at)) cut shallow is h = absurd h
 text-answer text tokens program (Err (Syntax at)) cut shallow is h = absurd h
 
-pub text-means : (text : List ℕ) (result : Result Elementary ReadError) → IsTextAnswer text result
+pub text-means : (text : List ℕ) (result : Result Elementary TextError) → IsTextAnswer text result
     → IfOk result (λ circuit. (program : List Placed) × IsProgramText text program × (first_fault most_calls program ≡ None) × Means program circuit.qubits circuit.gates)
 text-means text (Ok circuit) (program, is, answer) = (program, is, answer.0, means-from program (Ok circuit) answer)
 text-means text (Err error) h = tt
 
-pub text-valid : (text : List ℕ) (result : Result Elementary ReadError) → IsTextAnswer text result → IfOk result (λ circuit. IsElementary circuit)
+pub text-valid : (text : List ℕ) (result : Result Elementary TextError) → IsTextAnswer text result → IfOk result (λ circuit. IsElementary circuit)
 text-valid text (Ok circuit) (program, is, answer) = valid-from program (Ok circuit) answer
 text-valid text (Err error) h = tt

@@ -13,10 +13,7 @@ ghost use Rattle.qasm_scope.specs.Scope.{Scope, numeral};
 ghost use Rattle.qasm_inline.specs.Internal.Spans.{span_range, span_by, span_in, no_register_by, is_missing, any_missing, IsSpan, AreSpans};
 
 use qasm_reader::Argument;
-use qasm_scope::Cause;
-use qasm_scope::names::Names;
-use qasm_scope::numerals::number;
-use qasm_scope::statement_error::StatementError;
+use qasm_scope::{Cause, Names, StatementError, number};
 use std::alloc::{AllocError, Global};
 
 /// What an argument stands for.
@@ -45,18 +42,6 @@ pub fn any_no_register<'a>(names: &Names<'a>, arguments: &[Argument<'a>]) -> boo
     false
 }
 
-/// Whether an argument isn't a register of qubits, nor one of the qubits that it has.
-fn any_missing<'a>(names: &Names<'a>, arguments: &[Argument<'a>]) -> bool
-    ensures { result ≡ any_missing names.now.symbols (map operand arguments.now) }
-{
-    for argument in arguments {
-        if argument_span(names, argument).is_none() {
-            return true;
-        }
-    }
-    false
-}
-
 /// What the arguments stand for; none where one of them is no register of qubits nor one of its qubits.
 pub fn spans<'a>(
     alloc: Global,
@@ -76,33 +61,6 @@ pub fn spans<'a>(
         spans.push(span)?;
     }
     Ok(Some(spans))
-}
-
-/// What an argument stands for, if it is a register of qubits or one of the qubits that it has.
-fn argument_span<'a>(names: &Names<'a>, argument: &Argument<'a>) -> Option<Span>
-    ensures some { IfSome result (λ span.
-        IsSpan names.now.symbols (operand argument.now) (span_range span)) }
-    ensures none { IfNone result (is_missing names.now.symbols (operand argument.now) ≡ true) }
-{
-    let (first, size) = names.register(argument.register)?;
-    match argument.index {
-        Some(text) => qubit_span(first, size, text),
-        None => Some(Span::Register { first, size }),
-    }
-}
-
-/// The qubit of a register at the index that a text spells, if there is one.
-fn qubit_span(first: usize, size: usize, text: &[u8]) -> Option<Span>
-    ensures some { IfSome result (λ span. (nat_le size (numeral text.now) ≡ false)
-        × (span_range span ≡ span_in (Some (first, size)) (Some text.now))) }
-    ensures none { IfNone result (nat_le size (numeral text.now) ≡ true) }
-{
-    let index = number(text);
-    if index < size {
-        Some(Span::Single(first.saturating_add(index)))
-    } else {
-        None
-    }
 }
 
 /// Whether two sizes of registers differ.
@@ -125,36 +83,6 @@ pub fn instance_count(spans: &[Span]) -> usize
     }
 }
 
-/// The size of the first register.
-fn first_size(spans: &[Span]) -> Option<usize>
-    ensures { result ≡ slice_get (register_sizes (map span_range spans.now)) 0 }
-{
-    for span in spans {
-        if let Some(size) = size_of(span) {
-            return Some(size);
-        }
-    }
-    None
-}
-
-/// The size of a register; none of one qubit.
-fn size_of(span: &Span) -> Option<usize>
-    ensures { result ≡ register_size (span_range span.now) }
-{
-    match span {
-        Span::Single(_) => None,
-        Span::Register { size, .. } => Some(*size),
-    }
-}
-
-/// Whether a register has another size.
-fn any_other_size(spans: &[Span], size: usize) -> bool
-    ensures { result
-        ≡ list_any (λ other. not (other == size)) (register_sizes (map span_range spans.now)) }
-{
-    spans.iter().filter_map(size_of).any(|other| other != size)
-}
-
 /// What is wrong with a barrier, in each scope that the names are of.
 ///
 /// # Errors
@@ -175,4 +103,76 @@ pub fn barrier<'a>(names: &Names<'a>, arguments: &[Argument<'a>]) -> Result<(), 
     } else {
         Err(StatementError::Wrong(Cause::Index))
     }
+}
+
+// Whether an argument isn't a register of qubits, nor one of the qubits that it has.
+fn any_missing<'a>(names: &Names<'a>, arguments: &[Argument<'a>]) -> bool
+    ensures { result ≡ any_missing names.now.symbols (map operand arguments.now) }
+{
+    for argument in arguments {
+        if argument_span(names, argument).is_none() {
+            return true;
+        }
+    }
+    false
+}
+
+// What an argument stands for, if it is a register of qubits or one of the qubits that it has.
+fn argument_span<'a>(names: &Names<'a>, argument: &Argument<'a>) -> Option<Span>
+    ensures some { IfSome result (λ span.
+        IsSpan names.now.symbols (operand argument.now) (span_range span)) }
+    ensures none { IfNone result (is_missing names.now.symbols (operand argument.now) ≡ true) }
+{
+    let (first, size) = names.register(argument.register)?;
+    match argument.index {
+        Some(text) => qubit_span(first, size, text),
+        None => Some(Span::Register { first, size }),
+    }
+}
+
+// The qubit of a register at the index that a text spells, if there is one.
+fn qubit_span(first: usize, size: usize, text: &[u8]) -> Option<Span>
+    ensures some { IfSome result (λ span. (nat_le size (numeral text.now) ≡ false)
+        × (span_range span ≡ span_in (Some (first, size)) (Some text.now))) }
+    ensures none { IfNone result (nat_le size (numeral text.now) ≡ true) }
+{
+    let index = number(text);
+    if index < size {
+        Some(Span::Single(first.saturating_add(index)))
+    } else {
+        None
+    }
+}
+
+// The size of the first register.
+fn first_size(spans: &[Span]) -> Option<usize>
+    ensures { result ≡ slice_get (register_sizes (map span_range spans.now)) 0 }
+{
+    for span in spans {
+        if let Some(size) = register_size(span) {
+            return Some(size);
+        }
+    }
+    None
+}
+
+// The size of a register; none of one qubit.
+fn register_size(span: &Span) -> Option<usize>
+    ensures { result ≡ register_size (span_range span.now) }
+{
+    match span {
+        Span::Single(_) => None,
+        Span::Register { size, .. } => Some(*size),
+    }
+}
+
+// Whether a register has another size.
+fn any_other_size(spans: &[Span], size: usize) -> bool
+    ensures { result
+        ≡ list_any (λ other. not (other == size)) (register_sizes (map span_range spans.now)) }
+{
+    spans
+        .iter()
+        .filter_map(register_size)
+        .any(|other| other != size)
 }

@@ -11,7 +11,7 @@ ghost use Rattle.qasm_inline.specs.Internal.KeptCalls.{ComesTo};
 ghost use Rattle.qasm_scope.specs.Faults.{has_other_size, wrong_in};
 ghost use Rattle.qasm_scope.specs.Meaning.{most_calls, wrong_with};
 ghost use Rattle.qasm_scope.specs.Scope.{Scope};
-ghost use Rattle.qasm_inline.specs.Internal.Spans.{span_range, unknown_by, wrong_count_by, IsResolved, is_unresolved, unresolved_cause, resolved_cause};
+ghost use Rattle.qasm_inline.specs.Internal.Spans.{span_range, is_unknown, is_wrong_count, IsResolved, is_unresolved, unresolved_cause, resolved_cause};
 ghost use Rattle.qasm_scope.specs.declared.causes.Cause.{Cause};
 
 use crate::applications::{Span, any_no_register, has_other_sizes, spans};
@@ -20,13 +20,21 @@ use crate::overlaps::has_same_qubit;
 use crate::unroll::Unrolled;
 use qasm_angle::Expr;
 use qasm_reader::Application;
-use qasm_scope::Cause;
-use qasm_scope::expressions::{all_numbered, any_other_name, any_unsupported};
-use qasm_scope::gates::CalledGate;
-use qasm_scope::names::Names;
-use qasm_scope::places::Places;
-use qasm_scope::statement_error::StatementError;
+use qasm_scope::{
+    CalledGate, Cause, Names, Places, StatementError, all_numbered, any_other_name, any_unsupported,
+};
 use std::alloc::{AllocError, Global};
+
+// An application with its names resolved.
+#[derive(Drop)]
+struct ResolvedApplication {
+    // The gate that is applied.
+    gate: CalledGate,
+    // Its angles.
+    angles: Vec<Expr>,
+    // What its arguments stand for.
+    spans: Vec<Span>,
+}
 
 /// Applies a gate, where nothing is wrong with the application.
 ///
@@ -65,19 +73,8 @@ pub fn apply<'a>(
     )
 }
 
-/// An application with its names resolved.
-#[derive(Drop)]
-struct ResolvedApplication {
-    /// The gate that is applied.
-    gate: CalledGate,
-    /// Its angles.
-    angles: Vec<Expr>,
-    /// What its arguments stand for.
-    spans: Vec<Span>,
-}
-
-/// An application with its names resolved; none where one of them isn't known, an expression isn't supported, the
-/// gate has another number of angles or qubits, or an index isn't below its register's size.
+// An application with its names resolved; none where one of them isn't known, an expression isn't supported, the
+// gate has another number of angles or qubits, or an index isn't below its register's size.
 fn resolved<'a>(
     alloc: Global,
     names: &Names<'a>,
@@ -107,11 +104,11 @@ fn resolved<'a>(
     }))
 }
 
-/// The first cause of an application that can't be resolved.
+// The first cause of an application that can't be resolved.
 fn unresolved_cause<'a>(alloc: Global, names: &Names<'a>, application: &Application<'a>) -> Cause
     ensures { let a = views.application application.now in result
-        ≡ unresolved_cause (list_any is_unsupported a.angles) (unknown_by names.now.symbols a)
-        (wrong_count_by names.now.symbols a) }
+        ≡ unresolved_cause (list_any is_unsupported a.angles) (is_unknown names.now.symbols a)
+        (is_wrong_count names.now.symbols a) }
 {
     if any_unsupported(&application.angles) {
         Cause::Unsupported
@@ -124,9 +121,9 @@ fn unresolved_cause<'a>(alloc: Global, names: &Names<'a>, application: &Applicat
     }
 }
 
-/// Whether a name in an application isn't known, or isn't what is needed there.
+// Whether a name in an application isn't known, or isn't what is needed there.
 fn is_unknown<'a>(alloc: Global, names: &Names<'a>, application: &Application<'a>) -> bool
-    ensures { result ≡ unknown_by names.now.symbols (views.application application.now) }
+    ensures { result ≡ is_unknown names.now.symbols (views.application application.now) }
 {
     match names.gate(&application.gate) {
         Some(_) => {
@@ -137,9 +134,9 @@ fn is_unknown<'a>(alloc: Global, names: &Names<'a>, application: &Application<'a
     }
 }
 
-/// Whether its angles or qubits differ in number from the gate's declaration.
+// Whether its angles or qubits differ in number from the gate's declaration.
 fn is_wrong_count<'a>(names: &Names<'a>, application: &Application<'a>) -> bool
-    ensures { result ≡ wrong_count_by names.now.symbols (views.application application.now) }
+    ensures { result ≡ is_wrong_count names.now.symbols (views.application application.now) }
 {
     match names.gate(&application.gate) {
         Some(gate) => gate.has_other_shape(application.angles.len(), application.qubits.len()),
@@ -147,7 +144,7 @@ fn is_wrong_count<'a>(names: &Names<'a>, application: &Application<'a>) -> bool
     }
 }
 
-/// The first cause of an application whose names are resolved.
+// The first cause of an application whose names are resolved.
 fn resolved_cause(spans: &[Span]) -> Option<Cause>
     ensures { result ≡ resolved_cause (has_other_size (register_sizes (map span_range spans.now)))
         (list_any has_twice (instances (map span_range spans.now))) }

@@ -14,23 +14,19 @@ use crate::error::InlineError;
 use crate::statements::read_statement;
 use crate::unroll::Unrolled;
 use qasm_reader::{BodyStatement, GateHeading, Statement, StatementKind};
-use qasm_scope::Cause;
-use qasm_scope::gate_in_progress::GateInProgress;
-use qasm_scope::names::Names;
-use qasm_scope::numerals::clamped;
-use qasm_scope::statement_error::StatementError;
+use qasm_scope::{Cause, GateInProgress, Names, StatementError, clamped};
 use std::alloc::{AllocError, Global};
 use std::mem::replace;
 use zx_gates::{Elementary, Elements};
 
-/// What a circuit awaits.
+// What a circuit awaits.
 #[derive(Clone, Copy, Debug)]
 enum Stage {
-    /// The version, which has to stand first.
+    // The version, which has to stand first.
     Empty,
-    /// Statements after the version.
+    // Statements after the version.
     Open,
-    /// Nothing more: a statement was wrong, or memory ran out.
+    // Nothing more: a statement was wrong, or memory ran out.
     Stopped(InlineError),
 }
 
@@ -43,12 +39,12 @@ pub struct Circuit<'a> {
     unrolled: Unrolled,
 }
 
-/// A gate's declaration that is taken in up to a statement of its body.
+// A gate's declaration that is taken in up to a statement of its body.
 #[derive(Drop)]
 pub(crate) struct OpenGate<'a> {
-    /// The place of the declaration's first byte in the text.
+    // The place of the declaration's first byte in the text.
     pub place: usize,
-    /// What is kept of it; nothing where the circuit takes in nothing more.
+    // What is kept of it; nothing where the circuit takes in nothing more.
     kept: Option<GateInProgress<'a>>,
 }
 
@@ -77,7 +73,7 @@ impl<'a> Circuit<'a> {
         }
     }
 
-    /// Begins with a gate's declaration, whose first byte is at this place.
+    // Begins with a gate's declaration, whose first byte is at this place.
     pub(crate) fn begin_gate(&mut self, place: usize, heading: &GateHeading<'a>) -> OpenGate<'a>
         ensures begun { (program : List Placed) → HasTaken self.old program
             → HasBegun self.new result program (form_of heading.now []) }
@@ -96,7 +92,7 @@ impl<'a> Circuit<'a> {
         }
     }
 
-    /// Takes in the next statement of a gate's body.
+    // Takes in the next statement of a gate's body.
     pub(crate) fn take_in_gate(&mut self, gate: &mut OpenGate<'a>, statement: &BodyStatement<'a>)
         ensures taken { (program : List Placed) (form : GateForm)
             → HasBegun self.old gate.old program form → HasBegun self.new gate.new program
@@ -111,7 +107,7 @@ impl<'a> Circuit<'a> {
         }
     }
 
-    /// Ends a gate's declaration. What is wrong with it is told from here on.
+    // Ends a gate's declaration. What is wrong with it is told from here on.
     pub(crate) fn end_gate(&mut self, gate: OpenGate<'a>)
         ensures { (program : List Placed) (form : GateForm)
             → HasBegun self.old gate.entry program form
@@ -147,7 +143,7 @@ impl<'a> Circuit<'a> {
         self.answer()
     }
 
-    /// The circuit that the statements mean, or the first fault of them. The gates are taken out.
+    // The circuit that the statements mean, or the first fault of them. The gates are taken out.
     fn answer(&mut self) -> Result<Elementary, InlineError>
         ensures { (program : List Placed) → HasTaken self.old program
             → IsCircuitAnswer program result }
@@ -165,7 +161,7 @@ impl<'a> Circuit<'a> {
         }
     }
 
-    /// What is kept of a gate behind the version, before the first statement of its body.
+    // What is kept of a gate behind the version, before the first statement of its body.
     fn begun(&mut self, heading: &GateHeading<'a>) -> Option<GateInProgress<'a>>
         ensures { (program : List Placed) (place : ℕ)
             → IsOpen program self.old.names self.old.unrolled
@@ -180,7 +176,7 @@ impl<'a> Circuit<'a> {
         }
     }
 
-    /// The stage after a gate behind the version.
+    // The stage after a gate behind the version.
     fn after_gate(&mut self, place: usize, gate: GateInProgress<'a>) -> Stage
         ensures { (program : List Placed) (form : GateForm)
             → HasBegunAs (Some gate.entry) self.old program place form → HasTakenAt result
@@ -195,7 +191,7 @@ impl<'a> Circuit<'a> {
         }
     }
 
-    /// The stage after a statement behind the version.
+    // The stage after a statement behind the version.
     fn after_next(&mut self, statement: &Statement<'a>) -> Stage
         ensures { (program : List Placed) → IsOpen program self.old.names self.old.unrolled
             → HasTakenAt result (program ++ placed statement.now ∷ []) self.new.names
@@ -217,7 +213,7 @@ impl<'a> Circuit<'a> {
     }
 }
 
-/// The stage after the first statement.
+// The stage after the first statement.
 fn after_first(statement: &Statement<'_>) -> Stage
     ensures { result
         ≡ (if is_version (sentence statement.now.kind) then Stage.Open
@@ -230,7 +226,7 @@ fn after_first(statement: &Statement<'_>) -> Stage
     }
 }
 
-/// The stage after a first statement at this place that isn't the version.
+// The stage after a first statement at this place that isn't the version.
 fn without_version(place: usize) -> Stage
     ensures { result ≡ Stage.Stopped (InlineError.Fault Cause.Version place) }
 {
@@ -240,7 +236,7 @@ fn without_version(place: usize) -> Stage
     })
 }
 
-/// Whether the statement is `OPENQASM 2.0;`.
+// Whether the statement is `OPENQASM 2.0;`.
 fn is_version(kind: &StatementKind<'_>) -> bool
     ensures { result ≡ is_version (sentence kind.now) }
 {
@@ -250,7 +246,7 @@ fn is_version(kind: &StatementKind<'_>) -> bool
     }
 }
 
-/// Whether a number is spelled `2.0`.
+// Whether a number is spelled `2.0`.
 fn is_two(real: &[u8]) -> bool
     ensures { result ≡ bytes_eq real.now (codes "2.0") }
 {

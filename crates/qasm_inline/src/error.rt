@@ -2,7 +2,7 @@
 
 ghost use Rattle.std.specs.Prelude.{◌≡◌};
 ghost use Rattle.qasm_inline.specs.declared.error.InlineError.TheVariants.{NoMemory};
-ghost use Rattle.qasm_inline.specs.declared.error.ReadError.TheVariants as read;
+ghost use Rattle.qasm_inline.specs.declared.error.TextError.TheVariants as read;
 
 use qasm_scope::Cause;
 use std::alloc::AllocError;
@@ -34,7 +34,7 @@ impl From<AllocError> for InlineError {
 
 /// Why a text has no circuit.
 #[derive(Clone, Copy, Debug, PartialEq, Eq, Error)]
-pub enum ReadError {
+pub enum TextError {
     /// At this place no token, white space or comment begins.
     #[error("bad byte at {at}")]
     BadByte {
@@ -66,10 +66,10 @@ pub enum ReadError {
     NoMemory,
 }
 
-impl From<AllocError> for ReadError {
+impl From<AllocError> for TextError {
     ghost from_gives = { λ _ e. e ≡ read.NoMemory };
 
-    fn from(_error: AllocError) -> ReadError {
-        ReadError::NoMemory
+    fn from(_error: AllocError) -> TextError {
+        TextError::NoMemory
     }
 }

@@ -8,8 +8,7 @@ ghost use Rattle.qasm_scope.specs.declared.causes.Cause.{Cause};
 use crate::applications::{Span, instance_count};
 use crate::unroll::Unrolled;
 use qasm_angle::Expr;
-use qasm_scope::gates::{CalledGate, GateBody};
-use qasm_scope::statement_error::StatementError;
+use qasm_scope::{CalledGate, GateBody, StatementError};
 
 /// Calls a gate with these angles in each instance of an application.
 pub fn call_instances(

@@ -1,20 +1,30 @@
-//! The circuit that an OpenQASM 2.0 program means.
+//! The circuit of built-in gates that an OpenQASM 2.0 text or program means.
+//!
+//! Proved: `read` gives the circuit that a text means, or the text's first fault; `inline` the same
+//! of a program. A circuit is answered only where there is no fault, and a fault only where it is
+//! the first. What is meant has at most 1,024 qubits, its gates act on them, and a CX on two that
+//! differ.
+//!
+//! ```rust
+//! let circuit = read(alloc, b"OPENQASM 2.0; qreg q[1]; U(0,0,pi/4) q[0];")?;
+//! ```
 #![tactic(auto)]
 
 mod applications;
 mod applying;
-pub mod circuit;
-pub mod error;
+mod circuit;
+mod error;
 mod instances;
-pub mod laws;
-pub mod meaning;
+mod laws;
+mod meaning;
 mod overlaps;
-pub mod reading;
+mod reading;
 mod statements;
 mod unroll;
 mod values;
 
 pub use circuit::Circuit;
-pub use error::{InlineError, ReadError};
+pub use error::{InlineError, TextError};
+pub use laws::meant_circuits_are_elementary;
 pub use meaning::inline;
 pub use reading::read;

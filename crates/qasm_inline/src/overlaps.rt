@@ -14,7 +14,7 @@ pub fn has_same_qubit(spans: &[Span]) -> bool
     any_overlap(spans, instance_count(spans))
 }
 
-/// Whether two arguments are the same qubit in one of so many instances.
+// Whether two arguments are the same qubit in one of so many instances.
 fn any_overlap(spans: &[Span], count: usize) -> bool
     ensures { result ≡ any_overlap count (map span_range spans.now) }
 {
@@ -28,7 +28,7 @@ fn any_overlap(spans: &[Span], count: usize) -> bool
     false
 }
 
-/// Whether an argument is the same qubit as one of the others is in one of so many instances.
+// Whether an argument is the same qubit as one of the others is in one of so many instances.
 fn overlaps_any(span: &Span, others: &[Span], count: usize) -> bool
     ensures { result
         ≡ list_any (overlaps count (span_range span.now)) (map span_range others.now) }
@@ -36,7 +36,7 @@ fn overlaps_any(span: &Span, others: &[Span], count: usize) -> bool
     others.iter().any(|other| overlaps(span, other, count))
 }
 
-/// Whether two arguments are the same qubit in one of so many instances.
+// Whether two arguments are the same qubit in one of so many instances.
 fn overlaps(one: &Span, other: &Span, count: usize) -> bool
     ensures { result ≡ overlaps count (span_range one.now) (span_range other.now) }
 {
@@ -52,7 +52,7 @@ fn overlaps(one: &Span, other: &Span, count: usize) -> bool
     }
 }
 
-/// Whether a qubit is one of so many from the first on.
+// Whether a qubit is one of so many from the first on.
 fn is_within(qubit: usize, first: usize, count: usize) -> bool
     ensures { result ≡ is_within qubit first count }
 {

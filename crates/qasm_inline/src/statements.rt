@@ -13,12 +13,9 @@ use crate::applications::barrier;
 use crate::applying::apply;
 use crate::unroll::Unrolled;
 use qasm_reader::{Operation, StatementKind};
-use qasm_scope::Cause;
-use qasm_scope::declarations::declare_checked;
-use qasm_scope::header::include;
-use qasm_scope::names::Names;
-use qasm_scope::registers::{declare_bits, declare_qubits};
-use qasm_scope::statement_error::StatementError;
+use qasm_scope::{
+    Cause, Names, StatementError, declare_bits, declare_checked, declare_qubits, include,
+};
 use std::alloc::Global;
 
 /// Takes in a statement after the first one, where nothing is wrong with it.
@@ -51,7 +48,7 @@ pub fn read_statement<'a>(
     }
 }
 
-/// Applies a gate, where nothing is wrong with the application. There is no other operation in a circuit.
+// Applies a gate, where nothing is wrong with the application. There is no other operation in a circuit.
 fn operate<'a>(
     alloc: Global,
     names: &Names<'a>,

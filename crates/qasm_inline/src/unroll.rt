@@ -11,33 +11,31 @@ ghost use Rattle.qasm_scope.specs.Meaning.{most_calls};
 use crate::applications::Span;
 use crate::values::{eighth_of, push_instance, push_picked, push_values};
 use qasm_angle::{Angle, Expr};
-use qasm_scope::Cause;
-use qasm_scope::gates::{CalledGate, GateBody, GateCall};
-use qasm_scope::statement_error::StatementError;
+use qasm_scope::{CalledGate, Cause, GateBody, GateCall, StatementError};
 use std::alloc::Global;
 use zx_gates::{ElementaryGate, Elements, Qubit};
 
-/// The most calls of a program.
+// The most calls of a program.
 const MOST_CALLS: usize = 1_000_000;
 
-/// The deepest that calls may be nested.
+// The deepest that calls may be nested.
 const DEEPEST: usize = 256;
 
-/// How many angles and qubits lie on the stacks.
+// How many angles and qubits lie on the stacks.
 #[derive(Clone, Copy)]
 struct Heights {
     angles: usize,
     qubits: usize,
 }
 
-/// A gate that is being unrolled.
+// A gate that is being unrolled.
 #[derive(Clone, Copy)]
 struct Frame {
-    /// Its number.
+    // Its number.
     gate: usize,
-    /// The index of the next call in its body.
+    // The index of the next call in its body.
     next: usize,
-    /// What lies below its angles and qubits.
+    // What lies below its angles and qubits.
     base: Heights,
 }
 
@@ -97,7 +95,7 @@ impl Unrolled {
         self.unroll(gates, called)
     }
 
-    /// All that a gate comes to with the angles and qubits on the stacks.
+    // All that a gate comes to with the angles and qubits on the stacks.
     fn unroll(&mut self, gates: &[GateBody], called: CalledGate) -> Result<(), StatementError>
         requires { self.old.frames.items ≡ [] }
         ensures ok { OnOk result (Leads gates.now
@@ -116,7 +114,7 @@ impl Unrolled {
         Ok(())
     }
 
-    /// Counts a call at a depth.
+    // Counts a call at a depth.
     fn count(&mut self, depth: usize) -> Result<(), StatementError>
         ensures ok { OnOk result ((events : List Event)
             → first_wrong most_calls self.old.calls (Called depth ∷ events)
@@ -138,7 +136,7 @@ impl Unrolled {
         Ok(())
     }
 
-    /// The next call in the body of the gate that was on top, or nothing where its body is over.
+    // The next call in the body of the gate that was on top, or nothing where its body is over.
     fn step(&mut self, gates: &[GateBody], frame: Frame) -> Result<(), StatementError>
         requires { IsStacked (frame ∷ frames_of self.old) self.old }
         ensures ok { OnOk result (Leads gates.now
@@ -172,7 +170,7 @@ impl Unrolled {
         self.enter(gates, call.called, base)
     }
 
-    /// A built-in gate acts with the angles and qubits above the base, and a declared one comes on top of the stack.
+    // A built-in gate acts with the angles and qubits above the base, and a declared one comes on top of the stack.
     fn enter(
         &mut self,
         gates: &[GateBody],
@@ -210,7 +208,7 @@ impl Unrolled {
         }
     }
 
-    /// A built-in gate acts, if there is one, and its angles and qubits are taken off the stacks.
+    // A built-in gate acts, if there is one, and its angles and qubits are taken off the stacks.
     fn act(&mut self, gate: Option<ElementaryGate>, base: Heights) -> Result<(), StatementError>
         ensures gates { OnOk result (self.new.gates
             ≡ self.old.gates ++ applied (gate_events gate)) }
@@ -229,7 +227,7 @@ impl Unrolled {
         Ok(())
     }
 
-    /// `U` with the angles and the qubits above the base.
+    // `U` with the angles and the qubits above the base.
     fn top_u(&self, base: Heights) -> Result<Option<ElementaryGate>, Cause>
         requires { IsBase base self.now }
         ensures ok { IfOk result (λ gate. u_events (drop base.angles self.now.angles.items)
@@ -240,7 +238,7 @@ impl Unrolled {
         u_gate(&self.angles[base.angles..], &self.qubits[base.qubits..])
     }
 
-    /// `CX` on the qubits above the base.
+    // `CX` on the qubits above the base.
     fn top_cx(&self, base: Heights) -> Option<ElementaryGate>
         requires { IsBase base self.now }
         ensures { cx_events (drop base.qubits self.now.qubits.items) ≡ gate_events result }
@@ -248,14 +246,14 @@ impl Unrolled {
         cx_gate(&self.qubits[base.qubits..])
     }
 
-    /// How many gates are on the stack.
+    // How many gates are on the stack.
     fn depth(&self) -> usize
         ensures { result ≡ length self.now.frames.items }
     {
         self.frames.len()
     }
 
-    /// How many angles and qubits lie on the stacks.
+    // How many angles and qubits lie on the stacks.
     fn heights(&self) -> Heights
         ensures angles { result.angles ≡ length self.now.angles.items }
         ensures qubits { result.qubits ≡ length self.now.qubits.items }
@@ -266,7 +264,7 @@ impl Unrolled {
         }
     }
 
-    /// Takes the angles and qubits above the base off the stacks.
+    // Takes the angles and qubits above the base off the stacks.
     fn take_off(&mut self, base: Heights)
         ensures angles { self.new.angles.items ≡ take base.angles self.old.angles.items }
         ensures qubits { self.new.qubits.items ≡ take base.qubits self.old.qubits.items }
@@ -278,7 +276,7 @@ impl Unrolled {
     }
 }
 
-/// The calls in the body of a gate; none where there is no such gate.
+// The calls in the body of a gate; none where there is no such gate.
 fn calls_of(gates: &[GateBody], number: usize) -> &[GateCall]
     ensures { result.now ≡ calls_of (slice_get gates.now number) }
 {
@@ -289,7 +287,7 @@ fn calls_of(gates: &[GateBody], number: usize) -> &[GateCall]
     }
 }
 
-/// `U` with these angles, where they are whole eighth turns; none where it has another number of angles or qubits.
+// `U` with these angles, where they are whole eighth turns; none where it has another number of angles or qubits.
 fn u_gate(angles: &[Angle], qubits: &[Qubit]) -> Result<Option<ElementaryGate>, Cause>
     ensures ok { IfOk result (λ gate. u_events angles.now qubits.now ≡ gate_events gate) }
     ensures err { IfErr result (λ cause. u_events angles.now qubits.now ≡ Undefined cause ∷ []) }
@@ -302,7 +300,7 @@ fn u_gate(angles: &[Angle], qubits: &[Qubit]) -> Result<Option<ElementaryGate>, 
     Ok(None)
 }
 
-/// `U` with these angles, where they are whole eighth turns.
+// `U` with these angles, where they are whole eighth turns.
 fn u_of(
     theta: &Angle,
     phi: &Angle,
@@ -325,7 +323,7 @@ fn u_of(
     }))
 }
 
-/// `CX` on these qubits; none where it has another number of qubits.
+// `CX` on these qubits; none where it has another number of qubits.
 fn cx_gate(qubits: &[Qubit]) -> Option<ElementaryGate>
     ensures { cx_events qubits.now ≡ gate_events result }
 {

@@ -9,9 +9,7 @@ ghost use Rattle.qasm_inline.specs.Internal.Spans.{span_range, cut_instance, cut
 
 use crate::applications::Span;
 use qasm_angle::{Angle, AngleError, Expr, eval, to_eighth};
-use qasm_scope::Cause;
-use qasm_scope::numerals::clamped;
-use qasm_scope::statement_error::StatementError;
+use qasm_scope::{Cause, StatementError, clamped};
 use std::alloc::{AllocError, Global};
 use zx_gates::Qubit;
 use zx_model::Eighth;
@@ -64,17 +62,6 @@ pub fn push_picked(places: &[usize], base: usize, qubits: &mut Vec<Qubit>) -> Re
     Ok(())
 }
 
-/// The qubit at a place; where there is none, 0.
-fn qubit_at(qubits: &[Qubit], place: usize) -> Qubit
-    ensures { result ≡ slice_index_or qubits.now place 0 }
-{
-    if place < qubits.len() {
-        qubits[place]
-    } else {
-        0
-    }
-}
-
 /// Pushes the qubits of the instance at an index.
 pub fn push_instance(
     spans: &[Span],
@@ -90,7 +77,18 @@ pub fn push_instance(
     Ok(())
 }
 
-/// The qubit of an argument in the instance at an index.
+// The qubit at a place; where there is none, 0.
+fn qubit_at(qubits: &[Qubit], place: usize) -> Qubit
+    ensures { result ≡ slice_index_or qubits.now place 0 }
+{
+    if place < qubits.len() {
+        qubits[place]
+    } else {
+        0
+    }
+}
+
+// The qubit of an argument in the instance at an index.
 fn instance_qubit(span: &Span, index: usize) -> Qubit
     ensures { result ≡ cut_qubit_at index (span_range span.now) }
 {
@@ -100,7 +98,7 @@ fn instance_qubit(span: &Span, index: usize) -> Qubit
     }
 }
 
-/// The value of an expression.
+// The value of an expression.
 fn value_of(alloc: Global, expression: &Expr, angles: &[Angle]) -> Result<Angle, StatementError>
     ensures ok { IfOk result (λ angle. with_cause (value expression.now angles.now) ≡ Ok angle) }
     ensures err { (cause : Cause) → result ≡ Err (StatementError.Wrong cause)

@@ -5,7 +5,7 @@ use Rattle.std.specs.Option.{option_map, option_to_list}
 use Rattle.std.proofs.lemmas.Bool.{false≢true}
 use Rattle.std.proofs.lemmas.List.{drop_at, take_at, nil_from_length}
 use Rattle.qasm_lexer.specs.declared.token.TokenKind.{TokenKind}
-use Rattle.qasm_lexer.specs.Tokens.{is_form, kind_of, IsLongest, IsPiece, ArePieces, Lexeme, tokens_in, IsCutUpTo, IsCut, IsStuck, IsBadByte, AreInPlace}
+use Rattle.qasm_lexer.specs.Tokens.{is_form, kind_of, IsLongest, IsPiece, ArePieces, Lexeme, tokens_in, IsCutUpTo, IsCut, HasNoPiece, IsBadByte, AreInPlace}
 
 pub form_some : (form : List ℕ) → is_form form ≡ true → 0 < length form
 form_some [] e = absurd (false≢true e)
@@ -122,7 +122,7 @@ pub record IsBadAt (place : ℕ) (text : List ℕ) (at : ℕ) : Type 0 where
   pub tokens : List Lexeme
   pub before : IsCutUpTo place text rest tokens
   pub there : at + length rest ≡ place + length text
-  pub stuck : IsStuck rest
+  pub stuck : HasNoPiece rest
 
 pub IsBadByte-from : (text : List ℕ) (at : ℕ) → IsBadAt 0 text at → IsBadByte text at
 IsBadByte-from text at b =
@@ -131,13 +131,8 @@ IsBadByte-from text at b =
     record {
       tokens = b.tokens;
       before = subst (λ r. IsCutUpTo 0 text r b.tokens) is b.before;
-      stuck = subst (λ r. IsStuck r) is b.stuck;
+      stuck = subst (λ r. HasNoPiece r) is b.stuck;
     }
-
-pub not_both_at : (place : ℕ) (text : List ℕ) (tokens : List Lexeme) (at : ℕ) → IsCut place text tokens → IsBadAt place text at → ⊥
-not_both_at place text tokens at c b =
-    let r : [] ≡ b.rest = (one_cut_up_to place text [] b.rest tokens b.tokens c b.before IsEnd-nil b.stuck.1).1 in
-    omega (arith, ap length r, b.stuck.0)
 
 -- each token stands where it is told
 module _ (text : List ℕ) where

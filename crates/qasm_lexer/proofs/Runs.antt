@@ -65,10 +65,6 @@ module _ (test : ℕ → Bool) where
       let p : (test b ≡ true) × (list_all test a ≡ true) = and_parts (test b) (list_all test a) e in
       rw p.0 (after_through a t p.1)
 
-  pub prefix_stopped : (t : List ℕ) → begins test t ≡ false → prefix test t ≡ []
-  prefix_stopped [] e = refl
-  prefix_stopped (b ∷ rest) e = rw e refl
-
   pub after_stopped : (t : List ℕ) → begins test t ≡ false → following test t ≡ t
   after_stopped [] e = refl
   after_stopped (b ∷ rest) e = rw e refl

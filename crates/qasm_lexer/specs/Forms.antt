@@ -86,7 +86,8 @@ is_exponent (b ∷ rest) = is_mark b && are_digits (after_sign rest)
 -- a point, digits and maybe an exponent; with no digits before the point there is one after it
 abbrev pub is_fraction : Bool → List ℕ → Bool
 is_fraction digits_before [] = false
-is_fraction digits_before (b ∷ rest) = b == 46 && (digits_before || begins is_digit rest) && is_exponent (following is_digit rest)
+is_fraction digits_before (b ∷ rest) =
+    b == 46 && (digits_before || begins is_digit rest) && is_exponent (following is_digit rest)
 
 -- ([0-9]+\.[0-9]*|[0-9]*\.[0-9]+)([eE][-+]?[0-9]+)?
 abbrev pub is_real : List ℕ → Bool

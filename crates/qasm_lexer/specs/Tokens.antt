@@ -1,13 +1,19 @@
 -- How an OpenQASM text is cut into tokens: at each place the longest form that begins there is the next piece.
 -- The words and signs are those of Cross, Bishop, Smolin, Gambetta, "Open quantum assembly language"
 -- (arXiv 1707.03429).
-use Rattle.std.specs.Prelude.{◌≡◌, ◌<◌, ◌≤◌, ℕ, ◌+◌, Bool, false, ◌||◌, IsTrue, List, [], ◌∷◌, ◌++◌, length, drop, map, codes, Option, None, Some, is_some, if◌then◌else◌, slice_range}
+use Rattle.std.specs.Prelude.{◌≡◌, ◌<◌, ◌≤◌, ℕ, ◌+◌, Bool, false, ◌||◌, IsTrue, List, [], ◌∷◌, ◌++◌, length, drop, map}
+use Rattle.std.specs.Prelude.{codes, Option, None, Some, is_some, if◌then◌else◌, slice_range}
 use Rattle.std.specs.List.{concat}
 use Rattle.std.specs.Option.{option_map, option_to_list}
 use Rattle.std.specs.Str.{bytes_eq}
 use Rattle.qasm_lexer.specs.declared.token.Token.{Token}
 use Rattle.qasm_lexer.specs.declared.token.TokenKind.{TokenKind}
-use Rattle.qasm_lexer.specs.declared.token.TokenKind.TheVariants.{Openqasm, U, Cx, Include, Qreg, Creg, Gate, Opaque, If, Barrier, Measure, Reset, Pi, Sin, Cos, Tan, Exp, Ln, Sqrt, Identifier, Natural, Real, Text, Semicolon, Comma, LeftParenthesis, RightParenthesis, LeftBracket, RightBracket, LeftBrace, RightBrace, Plus, Minus, Star, Slash, Caret, Arrow, Equals}
+use Rattle.qasm_lexer.specs.declared.token.TokenKind.TheVariants.{Openqasm, U, Cx, Include, Qreg, Creg, Gate, Opaque}
+use Rattle.qasm_lexer.specs.declared.token.TokenKind.TheVariants.{If, Barrier, Measure, Reset, Pi, Sin, Cos, Tan, Exp}
+use Rattle.qasm_lexer.specs.declared.token.TokenKind.TheVariants.{Ln, Sqrt, Identifier, Natural, Real, Text, Semicolon}
+use Rattle.qasm_lexer.specs.declared.token.TokenKind.TheVariants.{Comma, LeftParenthesis, RightParenthesis, LeftBracket}
+use Rattle.qasm_lexer.specs.declared.token.TokenKind.TheVariants.{RightBracket, LeftBrace, RightBrace, Plus, Minus}
+use Rattle.qasm_lexer.specs.declared.token.TokenKind.TheVariants.{Star, Slash, Caret, Arrow, Equals}
 use Rattle.qasm_lexer.specs.Forms.{is_small_letter, is_white, is_comment, is_word, is_natural, is_real, is_text}
 
 -- the words with a kind of their own
@@ -59,12 +65,14 @@ abbrev pub is_blank : List ℕ → Bool
 is_blank form = is_white form || is_comment form
 
 abbrev pub is_form : List ℕ → Bool
-is_form form = is_blank form || is_word form || is_real form || is_natural form || is_text form || is_some (kind_in signs form)
+is_form form =
+    is_blank form || is_word form || is_real form || is_natural form || is_text form || is_some (kind_in signs form)
 
 -- a form, and the longest of those at the start of what begins with it and goes on with `after`
 pub record IsLongest (form after : List ℕ) : Type 0 where
   pub is : IsTrue (is_form form)
-  pub longest : (other rest : List ℕ) → other ++ rest ≡ form ++ after → IsTrue (is_form other) → length other ≤ length form
+  pub longest : (other rest : List ℕ) → other ++ rest ≡ form ++ after → IsTrue (is_form other) →
+      length other ≤ length form
 
 -- such a form is a piece, but for a word that is no token
 pub record IsPiece (form after : List ℕ) : Type 0 where
@@ -115,14 +123,14 @@ abbrev pub IsBegun : List Lexeme → List Lexeme → Type 0
 IsBegun those these = (more : List Lexeme) × (these ≡ those ++ more)
 
 -- no piece begins here, and the text isn't over
-abbrev pub IsStuck : List ℕ → Type 0
-IsStuck rest = (0 < length rest) × ((form after : List ℕ) → form ++ after ≡ rest → IsPiece form after → ⊥)
+abbrev pub HasNoPiece : List ℕ → Type 0
+HasNoPiece rest = (0 < length rest) × ((form after : List ℕ) → form ++ after ≡ rest → IsPiece form after → ⊥)
 
 -- the text is cut into pieces up to a place where no piece begins
 pub record IsBadByte (text : List ℕ) (at : ℕ) : Type 0 where
   pub tokens : List Lexeme
   pub before : IsCutUpTo 0 text (drop at text) tokens
-  pub stuck : IsStuck (drop at text)
+  pub stuck : HasNoPiece (drop at text)
 
 -- each token's text is what the text has at its place, and each begins where the one before it has ended, or later
 abbrev pub AreInPlace : ℕ → List ℕ → List Lexeme → Type 0

@@ -1,7 +1,9 @@
 -- Lines of OpenQASM and their tokens, by hand.
 use Rattle.std.specs.Prelude.{ℕ, ◌+◌, List, [], ◌∷◌, ◌++◌, length, codes, decimal}
 use Rattle.qasm_lexer.specs.declared.token.TokenKind.{TokenKind}
-use Rattle.qasm_lexer.specs.declared.token.TokenKind.TheVariants.{Gate, U, Identifier, Natural, Semicolon, Comma, LeftParenthesis, RightParenthesis, LeftBracket, RightBracket, LeftBrace, RightBrace}
+use Rattle.qasm_lexer.specs.declared.token.TokenKind.TheVariants.{Gate, U, Identifier, Natural, Semicolon, Comma}
+use Rattle.qasm_lexer.specs.declared.token.TokenKind.TheVariants.{LeftParenthesis, RightParenthesis, LeftBracket}
+use Rattle.qasm_lexer.specs.declared.token.TokenKind.TheVariants.{RightBracket, LeftBrace, RightBrace}
 use Rattle.qasm_lexer.specs.Tokens.{Lexeme}
 
 abbrev pub token : TokenKind → List ℕ → ℕ → Lexeme
@@ -28,6 +30,7 @@ gate_on n = codes "x q[" ++ decimal n ++ codes "];\n"
 -- its tokens where it stands at a place
 abbrev pub gate_on_tokens : ℕ → ℕ → List Lexeme
 gate_on_tokens place n =
-    token Identifier (codes "x") place ∷ token Identifier (codes "q") (place + 2) ∷ token LeftBracket (codes "[") (place + 3)
+    token Identifier (codes "x") place ∷ token Identifier (codes "q") (place + 2)
+    ∷ token LeftBracket (codes "[") (place + 3)
     ∷ token Natural (decimal n) (place + 4) ∷ token RightBracket (codes "]") (place + 4 + length (decimal n))
     ∷ token Semicolon (codes ";") (place + 5 + length (decimal n)) ∷ []

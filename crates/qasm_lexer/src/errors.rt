@@ -1,4 +1,5 @@
 //! Why a text has no tokens.
+
 ghost use Rattle.std.specs.Prelude.{◌≡◌};
 ghost use Rattle.qasm_lexer.specs.declared.errors.LexError.TheVariants.{NoMemory};
 

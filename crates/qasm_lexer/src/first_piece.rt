@@ -1,4 +1,5 @@
 //! What stands first in a text.
+
 ghost use Rattle.std.specs.Prelude.{◌≡◌, ◌+◌, ◌<◌, ◌≤◌, ◌∷◌, Some, length, IfSome};
 ghost use Rattle.std.specs.List.{prefix_len};
 ghost use Rattle.qasm_lexer.specs.Forms.{is_digit, is_letter, is_word_byte, is_no_feed};
@@ -7,18 +8,18 @@ ghost use Rattle.qasm_lexer.specs.Internal.FirstPiece.{word_piece, sign_len, exp
 use crate::tables::{long_sign, short_sign, word_kind};
 use crate::token::TokenKind;
 
-/// The sort of a first piece.
+// The sort of a first piece.
 #[derive(Clone, Copy)]
 pub(crate) enum Sort {
-    /// White space or a comment.
+    // White space or a comment.
     Blank,
-    /// Digits that no point follows: one natural, or several where the first digit is 0.
+    // Digits that no point follows: one natural, or several where the first digit is 0.
     Digits,
-    /// Another token.
+    // Another token.
     Token(TokenKind),
 }
 
-/// The sort and the length of what stands first in a text that isn't over, or `None` where nothing begins.
+// The sort and the length of what stands first in a text that isn't over, or `None` where nothing begins.
 pub(crate) fn first_piece(text: &[u8]) -> Option<(Sort, usize)>
     requires { 0 < length text.now }
     ensures { result ≡ first_piece text.now }
@@ -34,7 +35,7 @@ pub(crate) fn first_piece(text: &[u8]) -> Option<(Sort, usize)>
     }
 }
 
-/// A word at the start.
+// A word at the start.
 fn word_piece(text: &[u8]) -> Option<(Sort, usize)>
     ensures { result ≡ word_piece text.now }
 {
@@ -43,7 +44,7 @@ fn word_piece(text: &[u8]) -> Option<(Sort, usize)>
     Some((Sort::Token(kind), count))
 }
 
-/// How many letters, digits and `_` stand at the start.
+// How many letters, digits and `_` stand at the start.
 fn word_bytes(text: &[u8]) -> usize
     ensures count { result ≡ prefix_len is_word_byte text.now }
     ensures within { result ≤ length text.now }
@@ -51,7 +52,7 @@ fn word_bytes(text: &[u8]) -> usize
     text.iter().take_while(|b| is_word_byte(**b)).count()
 }
 
-/// Digits at the start, or a real.
+// Digits at the start, or a real.
 fn number_piece(text: &[u8]) -> (Sort, usize)
     ensures { result ≡ number_piece text.now }
 {
@@ -62,7 +63,7 @@ fn number_piece(text: &[u8]) -> (Sort, usize)
     }
 }
 
-/// A real after its point, where no digit stands before that.
+// A real after its point, where no digit stands before that.
 fn point_piece(rest: &[u8]) -> Option<(Sort, usize)>
     ensures { result ≡ point_piece rest.now }
 {
@@ -72,7 +73,7 @@ fn point_piece(rest: &[u8]) -> Option<(Sort, usize)>
     }
 }
 
-/// How many digits stand at the start.
+// How many digits stand at the start.
 fn digits(text: &[u8]) -> usize
     ensures count { result ≡ prefix_len is_digit text.now }
     ensures within { result ≤ length text.now }
@@ -80,7 +81,7 @@ fn digits(text: &[u8]) -> usize
     text.iter().take_while(|b| is_digit(**b)).count()
 }
 
-/// How many bytes belong to a real after its point.
+// How many bytes belong to a real after its point.
 fn fraction(rest: &[u8]) -> usize
     ensures count { result ≡ fraction_len rest.now }
     ensures within { result ≤ length rest.now }
@@ -89,7 +90,7 @@ fn fraction(rest: &[u8]) -> usize
     count + exponent(&rest[count..])
 }
 
-/// How many bytes an exponent at the start has; 0 where there is none.
+// How many bytes an exponent at the start has; 0 where there is none.
 fn exponent(text: &[u8]) -> usize
     ensures count { result ≡ exponent_len text.now }
     ensures within { result ≤ length text.now }
@@ -102,7 +103,7 @@ fn exponent(text: &[u8]) -> usize
     if count == 0 { 0 } else { 1 + sign + count }
 }
 
-/// How many bytes a sign of a number at the start has.
+// How many bytes a sign of a number at the start has.
 fn sign(text: &[u8]) -> usize
     ensures count { result ≡ sign_len text.now }
     ensures within { result ≤ length text.now }
@@ -113,7 +114,7 @@ fn sign(text: &[u8]) -> usize
     }
 }
 
-/// A text after its first quote.
+// A text after its first quote.
 fn text_piece(rest: &[u8]) -> Option<(Sort, usize)>
     ensures { result ≡ text_piece rest.now }
 {
@@ -124,7 +125,7 @@ fn text_piece(rest: &[u8]) -> Option<(Sort, usize)>
     }
 }
 
-/// How many bytes stand before the first quote or line feed.
+// How many bytes stand before the first quote or line feed.
 fn inside(rest: &[u8]) -> usize
     ensures count { result ≡ prefix_len is_inside rest.now }
     ensures within { result ≤ length rest.now }
@@ -132,7 +133,7 @@ fn inside(rest: &[u8]) -> usize
     rest.iter().take_while(|b| is_inside(**b)).count()
 }
 
-/// A sign that is a byte which begins no longer sign and no comment.
+// A sign that is a byte which begins no longer sign and no comment.
 fn plain_piece(byte: u8) -> Option<(Sort, usize)>
     ensures { result ≡ plain_piece byte }
 {
@@ -140,7 +141,7 @@ fn plain_piece(byte: u8) -> Option<(Sort, usize)>
     Some((Sort::Token(kind), 1))
 }
 
-/// A comment or a sign at the start.
+// A comment or a sign at the start.
 fn sign_piece(text: &[u8]) -> Option<(Sort, usize)>
     ensures { result ≡ sign_piece text.now }
 {
@@ -157,7 +158,7 @@ fn sign_piece(text: &[u8]) -> Option<(Sort, usize)>
     Some((Sort::Token(kind), 1))
 }
 
-/// How many bytes stand before the first line feed.
+// How many bytes stand before the first line feed.
 fn line(text: &[u8]) -> usize
     ensures { result ≡ prefix_len is_no_feed text.now }
 {

@@ -1,4 +1,5 @@
 //! What holds of the cuts of every text.
+
 ghost use Rattle.std.specs.Prelude.{◌≡◌, ◌⊎◌, ◌<◌, ◌+◌, ◌^◌, ◌++◌, ℕ, List, length, codes};
 ghost use Rattle.qasm_lexer.specs.Tokens.{Lexeme, IsCut, IsBadByte, AreInPlace};
 ghost use Rattle.qasm_lexer.specs.Worked.{gate_line, gate_line_tokens, gate_on, gate_on_tokens};
@@ -20,7 +21,8 @@ pub fn one_cut()
 /// A cut of a text that ends with a line feed, and a cut of what follows it, are a cut of both together.
 pub fn cuts_of_lines_go_together()
     ensures { (place : ℕ) (line after : List ℕ) (these those : List Lexeme) → IsCut place (line ++ codes "\n") these
-        → IsCut (place + length (line ++ codes "\n")) after those → IsCut place ((line ++ codes "\n") ++ after) (these ++ those) }
+        → IsCut (place + length (line ++ codes "\n")) after those
+        → IsCut place ((line ++ codes "\n") ++ after) (these ++ those) }
 {}
 
 /// A line, a line with a number in it wherever it stands, and one after the other.

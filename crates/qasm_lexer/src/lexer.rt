@@ -1,4 +1,5 @@
 //! The cutting of a text into tokens.
+
 ghost use Rattle.std.specs.Prelude.{◌≡◌, ◌<◌, ◌≤◌, ◌+◌, ◌^◌, ◌⊎◌, ◌∷◌, [], ◌++◌, ℕ, List, length, OnOk, IfOk, IfErr, IsErrAnd, MatchResult, Err};
 ghost use Rattle.qasm_lexer.specs.declared.errors.LexError.TheVariants.{BadByte, NoMemory};
 ghost use Rattle.qasm_lexer.specs.Tokens.{Lexeme, lexemes, IsCut, IsCutAt, IsBadByte, IsBegun};
@@ -73,7 +74,7 @@ pub fn lex_further<'a>(
     Ok(end)
 }
 
-/// Adds the tokens of the piece at a place, and gives the place behind it.
+// Adds the tokens of the piece at a place, and gives the place behind it.
 fn push_next<'a>(
     text: &'a [u8],
     place: usize,
@@ -97,7 +98,7 @@ fn push_next<'a>(
     Ok(place + count)
 }
 
-/// Adds the tokens of a piece that stands at a place.
+// Adds the tokens of a piece that stands at a place.
 fn push_piece<'a>(
     tokens: &mut Vec<Token<'a>>,
     sort: Sort,
@@ -115,7 +116,7 @@ fn push_piece<'a>(
     }
 }
 
-/// Adds the naturals that digits are: each 0 at the start alone, and the others together.
+// Adds the naturals that digits are: each 0 at the start alone, and the others together.
 fn push_naturals<'a>(
     tokens: &mut Vec<Token<'a>>,
     digits: &'a [u8],
@@ -138,7 +139,7 @@ fn push_naturals<'a>(
     Ok(())
 }
 
-/// Adds one token.
+// Adds one token.
 fn push_token<'a>(
     tokens: &mut Vec<Token<'a>>,
     kind: TokenKind,

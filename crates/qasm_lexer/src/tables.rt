@@ -1,17 +1,18 @@
 //! The words and signs of the language.
+
 ghost use Rattle.std.specs.Prelude.{◌≡◌, ◌∷◌, [], map};
 ghost use Rattle.qasm_lexer.specs.Tokens.{words, signs, kind_in, kind_or_identifier, word_kind};
 ghost use Rattle.std.specs.Str.{bytes_eq};
 
 use crate::token::TokenKind;
 
-/// A word and the kind that it has of its own.
+// A word and the kind that it has of its own.
 type Row = (&'static [u8], TokenKind);
 
-/// The words of one byte that have a kind of their own.
+// The words of one byte that have a kind of their own.
 const WORDS_OF_1: [Row; 1] = [(b"U", TokenKind::U)];
 
-/// Those of two bytes.
+// Those of two bytes.
 const WORDS_OF_2: [Row; 4] = [
     (b"CX", TokenKind::Cx),
     (b"if", TokenKind::If),
@@ -19,7 +20,7 @@ const WORDS_OF_2: [Row; 4] = [
     (b"ln", TokenKind::Ln),
 ];
 
-/// Those of three bytes.
+// Those of three bytes.
 const WORDS_OF_3: [Row; 4] = [
     (b"sin", TokenKind::Sin),
     (b"cos", TokenKind::Cos),
@@ -27,7 +28,7 @@ const WORDS_OF_3: [Row; 4] = [
     (b"exp", TokenKind::Exp),
 ];
 
-/// Those of four bytes.
+// Those of four bytes.
 const WORDS_OF_4: [Row; 4] = [
     (b"qreg", TokenKind::Qreg),
     (b"creg", TokenKind::Creg),
@@ -35,23 +36,23 @@ const WORDS_OF_4: [Row; 4] = [
     (b"sqrt", TokenKind::Sqrt),
 ];
 
-/// That of five bytes.
+// That of five bytes.
 const WORDS_OF_5: [Row; 1] = [(b"reset", TokenKind::Reset)];
 
-/// That of six bytes.
+// That of six bytes.
 const WORDS_OF_6: [Row; 1] = [(b"opaque", TokenKind::Opaque)];
 
-/// Those of seven bytes.
+// Those of seven bytes.
 const WORDS_OF_7: [Row; 3] = [
     (b"include", TokenKind::Include),
     (b"barrier", TokenKind::Barrier),
     (b"measure", TokenKind::Measure),
 ];
 
-/// That of eight bytes.
+// That of eight bytes.
 const WORDS_OF_8: [Row; 1] = [(b"OPENQASM", TokenKind::Openqasm)];
 
-/// The kind of a word, if it is a token.
+// The kind of a word, if it is a token.
 pub(crate) fn word_kind(word: &[u8]) -> Option<TokenKind>
     ensures { result ≡ word_kind word.now }
 {
@@ -64,7 +65,7 @@ pub(crate) fn word_kind(word: &[u8]) -> Option<TokenKind>
     }
 }
 
-/// The kind of a word that has one of its own.
+// The kind of a word that has one of its own.
 fn keyword(word: &[u8]) -> Option<TokenKind>
     ensures { result ≡ kind_in words word.now }
 {
@@ -81,7 +82,7 @@ fn keyword(word: &[u8]) -> Option<TokenKind>
     }
 }
 
-/// The kind that the first row with these bytes gives.
+// The kind that the first row with these bytes gives.
 fn kind_in(rows: &[(&[u8], TokenKind)], bytes: &[u8]) -> Option<TokenKind>
     ensures { result ≡ kind_in (map (λ row. (row.0.now, row.1)) rows.now) bytes.now }
 {
@@ -93,14 +94,14 @@ fn kind_in(rows: &[(&[u8], TokenKind)], bytes: &[u8]) -> Option<TokenKind>
     None
 }
 
-/// Whether two byte strings are the same.
+// Whether two byte strings are the same.
 fn same(word: &[u8], text: &[u8]) -> bool
     ensures { result ≡ bytes_eq word.now text.now }
 {
     word == text
 }
 
-/// The sign of one byte.
+// The sign of one byte.
 pub(crate) fn short_sign(byte: u8) -> Option<TokenKind>
     ensures { result ≡ kind_in signs (byte ∷ []) }
 {
@@ -122,7 +123,7 @@ pub(crate) fn short_sign(byte: u8) -> Option<TokenKind>
     }
 }
 
-/// The sign of two bytes.
+// The sign of two bytes.
 pub(crate) fn long_sign(first: u8, second: u8) -> Option<TokenKind>
     ensures { result ≡ kind_in signs (first ∷ second ∷ []) }
 {

@@ -165,10 +165,6 @@ prefix_first all ts rest statements s f g = (
   snoc f.0 g.0 statements s f.2 g.2 g.3,
 )
 
-pub prefix_ends : (all rest : List Lexeme) (statements : List Placed) (place : ℕ) → IsProgramPrefix all rest statements → BeginsAt rest place
-    → (BeginsWithStatement rest → ⊥) → IsSyntaxFault all place
-prefix_ends all rest statements place f b none = (f.0, rest, statements, f.1, f.2, b, none)
-
 -- ---- a program or a fault
 
 abbrev IsDecided : List Lexeme → Type 0

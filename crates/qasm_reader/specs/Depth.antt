@@ -1,7 +1,9 @@
 -- How deep parentheses are nested.
-use Rattle.std.specs.Prelude.{◌≡◌, ℕ, ◌+◌, ◌-◌, ◌<◌, ◌≤◌, List, [], ◌∷◌, ◌++◌, Option, None, Some, nat_lt, if◌then◌else◌}
+use Rattle.std.specs.Prelude.{◌≡◌, ℕ, ◌+◌, ◌-◌, ◌<◌, ◌≤◌, List, [], ◌∷◌, ◌++◌, Option, None, Some, nat_lt}
+use Rattle.std.specs.Prelude.{if◌then◌else◌}
 use Rattle.qasm_lexer.specs.declared.token.TokenKind.{TokenKind}
-use Rattle.qasm_lexer.specs.declared.token.TokenKind.TheVariants.{LeftParenthesis, RightParenthesis, Semicolon, LeftBrace, RightBrace}
+use Rattle.qasm_lexer.specs.declared.token.TokenKind.TheVariants.{LeftParenthesis, RightParenthesis, Semicolon}
+use Rattle.qasm_lexer.specs.declared.token.TokenKind.TheVariants.{LeftBrace, RightBrace}
 use Rattle.qasm_lexer.specs.Tokens.{Lexeme}
 
 -- how many parentheses may be open
@@ -20,7 +22,8 @@ open_after n _ = n
 -- the place of the first token after which more are open than may be, where so many were before
 abbrev pub too_deep_from : ℕ → List Lexeme → Option ℕ
 too_deep_from n [] = None
-too_deep_from n (t ∷ ts) = if nat_lt most_open (open_after n t.kind) then Some t.place else too_deep_from (open_after n t.kind) ts
+too_deep_from n (t ∷ ts) =
+    if nat_lt most_open (open_after n t.kind) then Some t.place else too_deep_from (open_after n t.kind) ts
 
 -- the place of the first left parenthesis with which more than that many are open, if there is one
 abbrev pub too_deep : List Lexeme → Option ℕ
@@ -40,5 +43,6 @@ IsShallow ts = (prefix more : List Lexeme) → ts ≡ prefix ++ more → open_at
 -- a left parenthesis at this place is one too many, and none before it is
 abbrev pub IsTooDeep : List Lexeme → ℕ → Type 0
 IsTooDeep ts at =
-    (before : List Lexeme) × (left : Lexeme) × (more : List Lexeme) × (ts ≡ before ++ left ∷ more) × (left.kind ≡ LeftParenthesis) × (left.place ≡ at)
+    (before : List Lexeme) × (left : Lexeme) × (more : List Lexeme) × (ts ≡ before ++ left ∷ more)
+    × (left.kind ≡ LeftParenthesis) × (left.place ≡ at)
     × IsShallow before × (most_open < open_at_end 0 (before ++ left ∷ []))

@@ -8,7 +8,10 @@ use Rattle.qasm_lexer.specs.Tokens.{Lexeme}
 use Rattle.qasm_reader.specs.declared.expression.Function.{Function}
 use Rattle.qasm_reader.specs.declared.expression.Function.TheVariants.{Sin, Cos, Tan, Exp, Ln, Sqrt}
 use Rattle.qasm_reader.specs.declared.expression.Operator.TheVariants.{Add, Subtract, Multiply, Divide, Power}
-use Rattle.qasm_reader.specs.Syntax.{Formula, Number, Pi, Name, Negate, Binary, Call, Operand, Callee, Declared, U, Cx, Action, Applied, Measured, Reset, BodySentence, BodyApplied, BodyBarrier, Sentence, Version, Include, QubitRegister, BitRegister, DeclareGate, Opaque, If, Barrier, Act, Placed}
+use Rattle.qasm_reader.specs.Syntax.{Formula, Number, Pi, Name, Negate, Binary, Call, Operand, Callee, Declared, U, Cx}
+use Rattle.qasm_reader.specs.Syntax.{Action, Applied, Measured, Reset, BodySentence, BodyApplied, BodyBarrier, Sentence}
+use Rattle.qasm_reader.specs.Syntax.{Version, Include, QubitRegister, BitRegister, DeclareGate, Opaque, If, Barrier}
+use Rattle.qasm_reader.specs.Syntax.{Act, Placed}
 
 -- ---- how lines are made
 
@@ -55,29 +58,38 @@ mutual
   -- expr = term { ("+" | "-") term }
   pub data IsExpression : Formula → List Lexeme → Type 0 where
     OneTerm : {f : Formula} {us : List Lexeme} → IsTerm f us → IsExpression f us
-    Sum : {f g : Formula} {us vs : List Lexeme} (plus : Lexeme) → IsExpression f us → plus.kind ≡ kind.Plus → IsTerm g vs → IsExpression (Binary Add f g) (us ++ plus ∷ vs)
-    Difference : {f g : Formula} {us vs : List Lexeme} (minus : Lexeme) → IsExpression f us → minus.kind ≡ kind.Minus → IsTerm g vs → IsExpression (Binary Subtract f g) (us ++ minus ∷ vs)
+    Sum : {f g : Formula} {us vs : List Lexeme} (plus : Lexeme) → IsExpression f us → plus.kind ≡ kind.Plus →
+        IsTerm g vs → IsExpression (Binary Add f g) (us ++ plus ∷ vs)
+    Difference : {f g : Formula} {us vs : List Lexeme} (minus : Lexeme) → IsExpression f us → minus.kind ≡ kind.Minus →
+        IsTerm g vs → IsExpression (Binary Subtract f g) (us ++ minus ∷ vs)
 
   -- term = power { ("*" | "/") power }
   pub data IsTerm : Formula → List Lexeme → Type 0 where
     OnePower : {f : Formula} {us : List Lexeme} → IsPower f us → IsTerm f us
-    Product : {f g : Formula} {us vs : List Lexeme} (star : Lexeme) → IsTerm f us → star.kind ≡ kind.Star → IsPower g vs → IsTerm (Binary Multiply f g) (us ++ star ∷ vs)
-    Quotient : {f g : Formula} {us vs : List Lexeme} (slash : Lexeme) → IsTerm f us → slash.kind ≡ kind.Slash → IsPower g vs → IsTerm (Binary Divide f g) (us ++ slash ∷ vs)
+    Product : {f g : Formula} {us vs : List Lexeme} (star : Lexeme) → IsTerm f us → star.kind ≡ kind.Star →
+        IsPower g vs → IsTerm (Binary Multiply f g) (us ++ star ∷ vs)
+    Quotient : {f g : Formula} {us vs : List Lexeme} (slash : Lexeme) → IsTerm f us → slash.kind ≡ kind.Slash →
+        IsPower g vs → IsTerm (Binary Divide f g) (us ++ slash ∷ vs)
 
   -- power = factor [ "^" power ]
   pub data IsPower : Formula → List Lexeme → Type 0 where
     OneFactor : {f : Formula} {us : List Lexeme} → IsFactor f us → IsPower f us
-    ToThePower : {f g : Formula} {us vs : List Lexeme} (caret : Lexeme) → IsFactor f us → caret.kind ≡ kind.Caret → IsPower g vs → IsPower (Binary Power f g) (us ++ caret ∷ vs)
+    ToThePower : {f g : Formula} {us vs : List Lexeme} (caret : Lexeme) → IsFactor f us → caret.kind ≡ kind.Caret →
+        IsPower g vs → IsPower (Binary Power f g) (us ++ caret ∷ vs)
 
   -- factor = "-" factor | real | nat | "pi" | id | "(" expr ")" | func "(" expr ")"
   pub data IsFactor : Formula → List Lexeme → Type 0 where
-    Negative : {f : Formula} {us : List Lexeme} (minus : Lexeme) → minus.kind ≡ kind.Minus → IsFactor f us → IsFactor (Negate f) (minus ∷ us)
+    Negative : {f : Formula} {us : List Lexeme} (minus : Lexeme) → minus.kind ≡ kind.Minus → IsFactor f us →
+        IsFactor (Negate f) (minus ∷ us)
     RealNumber : (real : Lexeme) → real.kind ≡ kind.Real → IsFactor (Number real.text) (real ∷ [])
     WholeNumber : (natural : Lexeme) → natural.kind ≡ kind.Natural → IsFactor (Number natural.text) (natural ∷ [])
     PiWord : (word : Lexeme) → word.kind ≡ kind.Pi → IsFactor Pi (word ∷ [])
     Parameter : (name : Lexeme) → name.kind ≡ kind.Identifier → IsFactor (Name name.text) (name ∷ [])
-    InParentheses : {f : Formula} {us : List Lexeme} (left right : Lexeme) → left.kind ≡ kind.LeftParenthesis → IsExpression f us → right.kind ≡ kind.RightParenthesis → IsFactor f (left ∷ us ++ right ∷ [])
-    ValueOf : {f : Formula} {us : List Lexeme} (function : Function) (word left right : Lexeme) → word.kind ≡ function_kind function → left.kind ≡ kind.LeftParenthesis → IsExpression f us → right.kind ≡ kind.RightParenthesis → IsFactor (Call function f) (word ∷ left ∷ us ++ right ∷ [])
+    InParentheses : {f : Formula} {us : List Lexeme} (left right : Lexeme) → left.kind ≡ kind.LeftParenthesis →
+        IsExpression f us → right.kind ≡ kind.RightParenthesis → IsFactor f (left ∷ us ++ right ∷ [])
+    ValueOf : {f : Formula} {us : List Lexeme} (function : Function) (word left right : Lexeme) →
+        word.kind ≡ function_kind function → left.kind ≡ kind.LeftParenthesis → IsExpression f us →
+        right.kind ≡ kind.RightParenthesis → IsFactor (Call function f) (word ∷ left ∷ us ++ right ∷ [])
 
 -- ---- statements
 
@@ -122,7 +134,8 @@ IsParameters = IsOptionalList IsIdentifier
 -- qop = name [ "(" [ exprs ] ")" ] args ";" | "measure" arg "->" arg ";" | "reset" arg ";"
 abbrev pub IsQuantumOperation : Action → List Lexeme → Type 0
 IsQuantumOperation (Applied a) = IsName a.gate ⋅ IsAngles a.angles ⋅ IsArguments a.qubits ⋅ Sign kind.Semicolon
-IsQuantumOperation (Measured from to) = Sign kind.Measure ⋅ IsArgument from ⋅ Sign kind.Arrow ⋅ IsArgument to ⋅ Sign kind.Semicolon
+IsQuantumOperation (Measured from to) =
+    Sign kind.Measure ⋅ IsArgument from ⋅ Sign kind.Arrow ⋅ IsArgument to ⋅ Sign kind.Semicolon
 IsQuantumOperation (Reset argument) = Sign kind.Reset ⋅ IsArgument argument ⋅ Sign kind.Semicolon
 
 -- body = name [ "(" [ exprs ] ")" ] ids ";" | "barrier" ids ";"
@@ -138,11 +151,20 @@ IsBodyStatement (BodyBarrier qubits) = Sign kind.Barrier ⋅ IsIdentifiers qubit
 abbrev pub IsStatement : Sentence → List Lexeme → Type 0
 IsStatement (Version real) = Sign kind.Openqasm ⋅ Word kind.Real real ⋅ Sign kind.Semicolon
 IsStatement (Include text) = Sign kind.Include ⋅ Word kind.Text text ⋅ Sign kind.Semicolon
-IsStatement (QubitRegister name size) = Sign kind.Qreg ⋅ IsIdentifier name ⋅ Sign kind.LeftBracket ⋅ IsNatural size ⋅ Sign kind.RightBracket ⋅ Sign kind.Semicolon
-IsStatement (BitRegister name size) = Sign kind.Creg ⋅ IsIdentifier name ⋅ Sign kind.LeftBracket ⋅ IsNatural size ⋅ Sign kind.RightBracket ⋅ Sign kind.Semicolon
-IsStatement (DeclareGate gate) = Sign kind.Gate ⋅ IsIdentifier gate.name ⋅ IsParameters gate.parameters ⋅ IsIdentifiers gate.qubits ⋅ Sign kind.LeftBrace ⋅ Repeated IsBodyStatement gate.body ⋅ Sign kind.RightBrace
-IsStatement (Opaque name parameters qubits) = Sign kind.Opaque ⋅ IsIdentifier name ⋅ IsParameters parameters ⋅ IsIdentifiers qubits ⋅ Sign kind.Semicolon
-IsStatement (If register value action) = Sign kind.If ⋅ Sign kind.LeftParenthesis ⋅ IsIdentifier register ⋅ Sign kind.Equals ⋅ IsNatural value ⋅ Sign kind.RightParenthesis ⋅ IsQuantumOperation action
+IsStatement (QubitRegister name size) =
+    Sign kind.Qreg ⋅ IsIdentifier name ⋅ Sign kind.LeftBracket ⋅ IsNatural size ⋅ Sign kind.RightBracket
+    ⋅ Sign kind.Semicolon
+IsStatement (BitRegister name size) =
+    Sign kind.Creg ⋅ IsIdentifier name ⋅ Sign kind.LeftBracket ⋅ IsNatural size ⋅ Sign kind.RightBracket
+    ⋅ Sign kind.Semicolon
+IsStatement (DeclareGate gate) =
+    Sign kind.Gate ⋅ IsIdentifier gate.name ⋅ IsParameters gate.parameters ⋅ IsIdentifiers gate.qubits
+    ⋅ Sign kind.LeftBrace ⋅ Repeated IsBodyStatement gate.body ⋅ Sign kind.RightBrace
+IsStatement (Opaque name parameters qubits) =
+    Sign kind.Opaque ⋅ IsIdentifier name ⋅ IsParameters parameters ⋅ IsIdentifiers qubits ⋅ Sign kind.Semicolon
+IsStatement (If register value action) =
+    Sign kind.If ⋅ Sign kind.LeftParenthesis ⋅ IsIdentifier register ⋅ Sign kind.Equals ⋅ IsNatural value
+    ⋅ Sign kind.RightParenthesis ⋅ IsQuantumOperation action
 IsStatement (Barrier arguments) = Sign kind.Barrier ⋅ IsArguments arguments ⋅ Sign kind.Semicolon
 IsStatement (Act action) = IsQuantumOperation action
 
@@ -155,7 +177,8 @@ BeginsAt ts place = (t : Lexeme) × (more : List Lexeme) × (ts ≡ t ∷ more) 
 -- program = { statement }, each with the place of its first token
 abbrev pub IsProgram : List Lexeme → List Placed → Type 0
 IsProgram ts [] = ts ≡ []
-IsProgram ts (s ∷ statements) = (us vs : List Lexeme) × (ts ≡ us ++ vs) × BeginsAt us s.place × IsStatement s.sentence us × IsProgram vs statements
+IsProgram ts (s ∷ statements) =
+    (us vs : List Lexeme) × (ts ≡ us ++ vs) × BeginsAt us s.place × IsStatement s.sentence us × IsProgram vs statements
 
 -- the tokens begin with this statement, and these are behind it
 abbrev pub IsFirstStatement : Placed → List Lexeme → List Lexeme → Type 0
@@ -168,4 +191,5 @@ BeginsWithStatement ts = (s : Sentence) × (us more : List Lexeme) × (ts ≡ us
 -- after whole statements stand tokens, the first of them at this place, of which no prefix is a statement
 abbrev pub IsSyntaxFault : List Lexeme → ℕ → Type 0
 IsSyntaxFault ts at =
-    (before rest : List Lexeme) × (statements : List Placed) × (ts ≡ before ++ rest) × IsProgram before statements × BeginsAt rest at × (BeginsWithStatement rest → ⊥)
+    (before rest : List Lexeme) × (statements : List Placed) × (ts ≡ before ++ rest) × IsProgram before statements
+    × BeginsAt rest at × (BeginsWithStatement rest → ⊥)

@@ -1,5 +1,6 @@
--- Programs part by part: a gate's declaration is its heading, each statement of its body, and the brace that closes it. The
--- grammar is that of Cross, Bishop, Smolin and Gambetta, "Open quantum assembly language" (arXiv 1707.03429), appendix A.
+-- Programs part by part: a gate's declaration is its heading, each statement of its body, and the brace that closes it.
+-- The grammar is that of Cross, Bishop, Smolin and Gambetta, "Open quantum assembly language" (arXiv 1707.03429),
+-- appendix A.
 use Rattle.std.specs.Prelude.{◌≡◌, ℕ, List, [], ◌∷◌, ◌++◌, Option, None, Some}
 use Rattle.std.specs.Borrow.{Bor}
 use Rattle.qasm_lexer.specs.declared.token.Token.{Token}
@@ -9,7 +10,8 @@ use Rattle.qasm_reader.specs.declared.parts.Part.{Part}
 use Rattle.qasm_reader.specs.declared.parts.Part.TheVariants as part
 use Rattle.qasm_reader.specs.declared.parts.BodyPart.{BodyPart}
 use Rattle.qasm_reader.specs.declared.parts.BodyPart.TheVariants.{Statement, End}
-use Rattle.qasm_reader.specs.Grammar.{◌⋅◌, Sign, Repeated, IsIdentifier, IsParameters, IsIdentifiers, IsBodyStatement, BeginsAt, BeginsWithStatement, IsFirstStatement}
+use Rattle.qasm_reader.specs.Grammar.{◌⋅◌, Sign, Repeated, IsIdentifier, IsParameters, IsIdentifiers, IsBodyStatement}
+use Rattle.qasm_reader.specs.Grammar.{BeginsAt, BeginsWithStatement, IsFirstStatement}
 use Rattle.qasm_reader.specs.Syntax.{GateForm, BodySentence, DeclareGate}
 use Rattle.qasm_reader.specs.Views.{body_sentence, form_of, placed}
 
@@ -19,7 +21,9 @@ IsBehind rest ts = (t : Lexeme) × (more : List Lexeme) × (ts ≡ t ∷ more ++
 
 -- "gate" id [ "(" [ ids ] ")" ] ids "{"
 abbrev pub IsHeading : GateForm → List Lexeme → Type 0
-IsHeading gate = Sign kind.Gate ⋅ IsIdentifier gate.name ⋅ IsParameters gate.parameters ⋅ IsIdentifiers gate.qubits ⋅ Sign kind.LeftBrace
+IsHeading gate =
+    Sign kind.Gate ⋅ IsIdentifier gate.name ⋅ IsParameters gate.parameters ⋅ IsIdentifiers gate.qubits
+    ⋅ Sign kind.LeftBrace
 
 -- the tokens begin, at this place, with a gate's heading and these statements of its body, and the rest is behind them
 pub record IsInBody (place : ℕ) (gate : GateForm) (ts rest : List Lexeme) : Type 0 where
@@ -44,9 +48,11 @@ with_statement gate statement = record {
   body = gate.body ++ statement ∷ [];
 }
 
--- what is next in the body of this gate, with which the tokens begin at this place: a statement, or the brace that makes the
--- gate whole, or none, where the tokens begin with no statement of a program
+-- what is next in the body of this gate, with which the tokens begin at this place: a statement, or the brace that
+-- makes the gate whole, or none, where the tokens begin with no statement of a program
 abbrev pub IsNextInBody : ℕ → GateForm → List Lexeme → Option (BodyPart × Bor (List Token)) → Type 0
 IsNextInBody place gate ts None = BeginsWithStatement ts → ⊥
-IsNextInBody place gate ts (Some (Statement statement, rest)) = IsInBody place (with_statement gate (body_sentence statement)) ts (lexemes rest.now)
-IsNextInBody place gate ts (Some (End, rest)) = IsFirstStatement (record { place = place; sentence = DeclareGate gate }) ts (lexemes rest.now)
+IsNextInBody place gate ts (Some (Statement statement, rest)) =
+    IsInBody place (with_statement gate (body_sentence statement)) ts (lexemes rest.now)
+IsNextInBody place gate ts (Some (End, rest)) =
+    IsFirstStatement (record { place = place; sentence = DeclareGate gate }) ts (lexemes rest.now)

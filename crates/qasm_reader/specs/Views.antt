@@ -4,7 +4,8 @@ use Rattle.std.specs.Option.{option_map}
 use Rattle.qasm_reader.specs.declared.program.Program.{Program}
 use Rattle.qasm_reader.specs.declared.program.Statement.{Statement}
 use Rattle.qasm_reader.specs.declared.program.StatementKind.{StatementKind}
-use Rattle.qasm_reader.specs.declared.program.StatementKind.TheVariants.{Version, Include, QubitRegister, BitRegister, Gate, Opaque, If, Barrier, Operation}
+use Rattle.qasm_reader.specs.declared.program.StatementKind.TheVariants.{Version, Include, QubitRegister, BitRegister}
+use Rattle.qasm_reader.specs.declared.program.StatementKind.TheVariants.{Gate, Opaque, If, Barrier, Operation}
 use Rattle.qasm_reader.specs.declared.program.GateDeclaration.{GateDeclaration}
 use Rattle.qasm_reader.specs.declared.program.GateHeading.{GateHeading}
 use Rattle.qasm_reader.specs.declared.program.GateName.{GateName}
@@ -28,7 +29,11 @@ abbrev pub operand : Argument → syntax.Operand
 operand argument = record { register = argument.register.now; index = option_map (λ index. index.now) argument.index }
 
 abbrev pub application : Application → syntax.Apply
-application a = record { gate = callee a.gate; angles = map formula_of a.angles.items; qubits = map operand a.qubits.items }
+application a = record {
+  gate = callee a.gate;
+  angles = map formula_of a.angles.items;
+  qubits = map operand a.qubits.items;
+}
 
 abbrev pub action : operation.Operation → syntax.Action
 action (Apply a) = syntax.Applied (application a)
@@ -36,7 +41,12 @@ action (Measure from to) = syntax.Measured (operand from) (operand to)
 action (Reset argument) = syntax.Reset (operand argument)
 
 abbrev pub body_sentence : BodyStatement → syntax.BodySentence
-body_sentence (body.Apply a) = syntax.BodyApplied (record { gate = callee a.gate; angles = map formula_of a.angles.items; qubits = map (λ name. name.now) a.qubits.items })
+body_sentence (body.Apply a) =
+    syntax.BodyApplied (record {
+      gate = callee a.gate;
+      angles = map formula_of a.angles.items;
+      qubits = map (λ name. name.now) a.qubits.items;
+    })
 body_sentence (body.Barrier qubits) = syntax.BodyBarrier (map (λ name. name.now) qubits.items)
 
 -- the gate with this heading and this body
@@ -57,7 +67,9 @@ sentence (Include text) = syntax.Include text.now
 sentence (QubitRegister name size) = syntax.QubitRegister name.now size.now
 sentence (BitRegister name size) = syntax.BitRegister name.now size.now
 sentence (Gate gate) = syntax.DeclareGate (gate_form gate)
-sentence (Opaque gate) = syntax.Opaque gate.name.now (map (λ name. name.now) gate.parameters.items) (map (λ name. name.now) gate.qubits.items)
+sentence (Opaque gate) =
+    syntax.Opaque gate.name.now (map (λ name. name.now) gate.parameters.items)
+    (map (λ name. name.now) gate.qubits.items)
 sentence (If register value operation) = syntax.If register.now value.now (action operation)
 sentence (Barrier arguments) = syntax.Barrier (map operand arguments.items)
 sentence (Operation operation) = syntax.Act (action operation)

@@ -17,7 +17,7 @@ use crate::tokens::{after, expect, text};
 use qasm_lexer::{Token, TokenKind};
 use std::alloc::Global;
 
-/// The identifier at the start of the tokens, and what follows.
+// The identifier at the start of the tokens, and what follows.
 pub(crate) fn identifier<'t, 'a>(
     tokens: &'t [Token<'a>],
 ) -> Result<(&'a [u8], &'t [Token<'a>]), StepError>
@@ -27,7 +27,7 @@ pub(crate) fn identifier<'t, 'a>(
     text(tokens, TokenKind::Identifier)
 }
 
-/// The whole number at the start of the tokens, and what follows.
+// The whole number at the start of the tokens, and what follows.
 pub(crate) fn natural<'t, 'a>(
     tokens: &'t [Token<'a>],
 ) -> Result<(&'a [u8], &'t [Token<'a>]), StepError>
@@ -36,7 +36,7 @@ pub(crate) fn natural<'t, 'a>(
     text(tokens, TokenKind::Natural)
 }
 
-/// The name of a gate at the start of the tokens, and what follows.
+// The name of a gate at the start of the tokens, and what follows.
 #[tactic(auto, unfolding(crate::specs::Internal::Taking::gate_name))]
 pub(crate) fn gate_name<'t, 'a>(
     tokens: &'t [Token<'a>],
@@ -53,7 +53,7 @@ pub(crate) fn gate_name<'t, 'a>(
     }
 }
 
-/// The gate that a token names.
+// The gate that a token names.
 fn callee_of<'a>(token: &Token<'a>) -> Option<GateName<'a>>
     ensures { option_map callee result ≡ spec.callee_of token.now.kind token.now.slice.now }
 {
@@ -65,7 +65,7 @@ fn callee_of<'a>(token: &Token<'a>) -> Option<GateName<'a>>
     }
 }
 
-/// The argument at the start of the tokens, and what follows.
+// The argument at the start of the tokens, and what follows.
 #[tactic(auto, unfolding(crate::specs::Internal::Taking::argument))]
 pub(crate) fn argument<'t, 'a>(
     tokens: &'t [Token<'a>],
@@ -94,7 +94,7 @@ pub(crate) fn argument<'t, 'a>(
     ))
 }
 
-/// The identifiers at the start of the tokens, with commas between them, and what follows.
+// The identifiers at the start of the tokens, with commas between them, and what follows.
 #[tactic(auto, unfolding(crate::specs::Internal::Taking::identifiers, crate::specs::Internal::Taking::comma_list))]
 pub(crate) fn identifiers<'t, 'a>(
     alloc: Global,
@@ -114,7 +114,7 @@ pub(crate) fn identifiers<'t, 'a>(
     Ok((names, rest))
 }
 
-/// The arguments at the start of the tokens, with commas between them, and what follows.
+// The arguments at the start of the tokens, with commas between them, and what follows.
 #[tactic(auto, unfolding(crate::specs::Internal::Taking::arguments, crate::specs::Internal::Taking::comma_list))]
 pub(crate) fn arguments<'t, 'a>(
     alloc: Global,
@@ -134,7 +134,7 @@ pub(crate) fn arguments<'t, 'a>(
     Ok((found, rest))
 }
 
-/// The expressions at the start of the tokens, with commas between them, and what follows.
+// The expressions at the start of the tokens, with commas between them, and what follows.
 #[tactic(auto, unfolding(crate::specs::Internal::Taking::comma_list))]
 fn expressions<'t, 'a>(
     alloc: Global,
@@ -154,7 +154,7 @@ fn expressions<'t, 'a>(
     Ok((found, rest))
 }
 
-/// The identifiers between parentheses at the start of the tokens, if parentheses stand there, and what follows.
+// The identifiers between parentheses at the start of the tokens, if parentheses stand there, and what follows.
 #[tactic(auto, unfolding(crate::specs::Internal::Taking::parameters, crate::specs::Internal::Taking::optional_list, crate::specs::Internal::Taking::identifiers))]
 pub(crate) fn parameters<'t, 'a>(
     alloc: Global,
@@ -174,7 +174,7 @@ pub(crate) fn parameters<'t, 'a>(
     Ok((names, rest))
 }
 
-/// The expressions between parentheses at the start of the tokens, if parentheses stand there, and what follows.
+// The expressions between parentheses at the start of the tokens, if parentheses stand there, and what follows.
 #[tactic(auto, unfolding(crate::specs::Internal::Taking::angles, crate::specs::Internal::Taking::optional_list))]
 pub(crate) fn angles<'t, 'a>(
     alloc: Global,

@@ -8,7 +8,7 @@ ghost use Rattle.qasm_reader.specs.Internal.Depths.{IsDepth};
 
 use qasm_lexer::{Token, TokenKind};
 
-/// How many parentheses may be open.
+// How many parentheses may be open.
 const MOST_OPEN: usize = 256;
 
 /// How deep parentheses are nested behind tokens.
@@ -40,7 +40,7 @@ impl Depth {
         depth
     }
 
-    /// The depth behind one more token.
+    // The depth behind one more token.
     fn behind(self, token: &Token<'_>) -> Depth
         ensures { (before : List Lexeme) → IsDepth self before
             → IsDepth result (before ++ lexeme token.now ∷ []) }
@@ -52,7 +52,7 @@ impl Depth {
     }
 }
 
-/// The depth at a place, where so many are open.
+// The depth at a place, where so many are open.
 fn depth_at(count: usize, place: usize) -> Depth
     ensures { result ≡ (if nat_lt most_open count then Depth.TooDeep place else Depth.Open count) }
 {
@@ -63,7 +63,7 @@ fn depth_at(count: usize, place: usize) -> Depth
     }
 }
 
-/// How many are open after a token, where so many were before it.
+// How many are open after a token, where so many were before it.
 fn open_after(count: usize, kind: TokenKind) -> usize
     ensures { count ≤ most_open → result ≡ spec.open_after count kind }
 {

@@ -1,15 +1,23 @@
-//! The statements of OpenQASM 2.0.
+//! The statements of OpenQASM 2.0, from tokens.
+//!
+//! Proved: tokens are one program or have one syntax fault, and `parse` answers it, or the first
+//! parenthesis that is too deep, or the place of the first statement that is none; `next_part` and
+//! `next_in_body` read the same statements with gates' bodies statement by statement.
+//!
+//! ```rust
+//! let program = parse(alloc, &lex(alloc, text)?)?;
+//! ```
 #![tactic(auto)]
 
 mod arguments;
-pub mod depth;
-pub mod error;
-pub mod expression;
-pub mod laws;
+mod depth;
+mod error;
+mod expression;
+mod laws;
 mod machine;
-pub mod parser;
-pub mod parts;
-pub mod program;
+mod parser;
+mod parts;
+mod program;
 mod statement;
 mod step_error;
 #[cfg(test)]
@@ -19,6 +27,10 @@ mod tokens;
 pub use depth::Depth;
 pub use error::ParseError;
 pub use expression::{Expression, Function, Item, Operator};
+pub use laws::{
+    depth_by_prefixes, no_statement_begins_another, one_expression, one_program, one_syntax_fault,
+    postfix_order_tells_the_expression,
+};
 pub use parser::{next_statement, parse};
 pub use parts::{BodyPart, Part, next_in_body, next_part};
 pub use program::{

@@ -15,58 +15,43 @@ use crate::step_error::StepError;
 use qasm_lexer::{Token, TokenKind};
 use std::alloc::{AllocError, Global};
 
-/// What waits for its operand, or for the parenthesis that closes it.
+// What waits for its operand, or for the parenthesis that closes it.
 #[derive(Clone, Copy, Debug)]
 pub(crate) enum Pending {
-    /// A minus sign before its operand.
+    // A minus sign before its operand.
     Negate,
-    /// An operator after its left operand.
+    // An operator after its left operand.
     Binary(Operator),
-    /// An open parenthesis.
+    // An open parenthesis.
     Parenthesis,
-    /// An open parenthesis after a function.
+    // An open parenthesis after a function.
     Call(Function),
 }
 
-/// What may come next.
+// What may come next.
 #[derive(Clone, Copy, Debug)]
 pub(crate) enum Awaited {
-    /// An operand.
+    // An operand.
     Operand,
-    /// The parenthesis after this function.
+    // The parenthesis after this function.
     Parenthesis(Function),
-    /// An operator, a parenthesis that closes, or the end.
+    // An operator, a parenthesis that closes, or the end.
     Operator,
 }
 
-/// An expression that is read in part.
+// An expression that is read in part.
 #[derive(Drop)]
 pub(crate) struct Machine<'a> {
-    /// What may come next.
+    // What may come next.
     awaited: Awaited,
-    /// The items that are put out.
+    // The items that are put out.
     output: Vec<Item<'a>>,
-    /// What waits, the last that came after all others.
+    // What waits, the last that came after all others.
     pending: Vec<Pending>,
 }
 
-/// The expression at the start of the tokens, and what follows.
-#[tactic(auto, unfolding(crate::specs::Internal::Machine::take_entries, crate::specs::Internal::Machine::take_expression))]
-pub(crate) fn expression<'t, 'a>(
-    alloc: Global,
-    tokens: &'t [Token<'a>],
-) -> Result<(Expression<'a>, &'t [Token<'a>]), StepError>
-    ensures { Gives (λ x. (formula_of x.0, lexemes x.1.now)) result
-        (spec.take_expression (lexemes tokens.now)) }
-{
-    let mut machine = Machine::new(alloc);
-    let rest = machine.run(tokens)?;
-    let items = machine.finish()?;
-    Ok((Expression::new(items), rest))
-}
-
 impl<'a> Machine<'a> {
-    /// A machine that has read nothing.
+    // A machine that has read nothing.
     fn new(alloc: Global) -> Machine<'a>
         ensures { state_of result ≡ start }
     {
@@ -77,7 +62,7 @@ impl<'a> Machine<'a> {
         }
     }
 
-    /// Takes the tokens of an expression, and answers those that follow.
+    // Takes the tokens of an expression, and answers those that follow.
     #[tactic(auto, unfolding(crate::specs::Internal::Machine::run))]
     fn run<'t>(&mut self, tokens: &'t [Token<'a>]) -> Result<&'t [Token<'a>], AllocError>
         ensures { IfOk result (λ rest. spec.run (lexemes tokens.now) (state_of self.old)
@@ -93,7 +78,7 @@ impl<'a> Machine<'a> {
         Ok(rest)
     }
 
-    /// Takes a token, and answers whether it belongs to the expression.
+    // Takes a token, and answers whether it belongs to the expression.
     #[tactic(auto, unfolding(crate::specs::Internal::Machine::step))]
     fn step(&mut self, token: &Token<'a>) -> Result<bool, AllocError>
         ensures { IfOk result (λ belongs. spec.step (state_of self.old) token.now.kind
@@ -106,7 +91,7 @@ impl<'a> Machine<'a> {
         }
     }
 
-    /// Takes a token where an operand may come.
+    // Takes a token where an operand may come.
     fn operand(&mut self, token: &Token<'a>) -> Result<bool, AllocError>
         ensures { IfOk result (λ belongs. spec.on_operand
             (spec.operand_of token.now.kind token.now.slice.now) token.now.kind (state_of self.old)
@@ -125,7 +110,7 @@ impl<'a> Machine<'a> {
         Ok(true)
     }
 
-    /// Takes a token after the name of a function.
+    // Takes a token after the name of a function.
     fn parenthesis(&mut self, function: Function, kind: TokenKind) -> Result<bool, AllocError>
         ensures { IfOk result (λ belongs. spec.on_left (spec.is_left kind) function
             (state_of self.old) ≡ (belongs, state_of self.new)) }
@@ -138,7 +123,7 @@ impl<'a> Machine<'a> {
         Ok(true)
     }
 
-    /// Takes a token where an operator may come.
+    // Takes a token where an operator may come.
     fn operator(&mut self, kind: TokenKind) -> Result<bool, AllocError>
         ensures { IfOk result (λ belongs. spec.on_operator (spec.operator_of kind) kind
             (state_of self.old) ≡ (belongs, state_of self.new)) }
@@ -155,7 +140,7 @@ impl<'a> Machine<'a> {
         self.close()
     }
 
-    /// Closes a parenthesis, and answers whether one was open.
+    // Closes a parenthesis, and answers whether one was open.
     fn close(&mut self) -> Result<bool, AllocError>
         ensures { IfOk result (λ belongs. spec.on_right true (state_of self.old)
             ≡ (belongs, state_of self.new)) }
@@ -176,7 +161,7 @@ impl<'a> Machine<'a> {
         }
     }
 
-    /// The items of the expression, if it is whole.
+    // The items of the expression, if it is whole.
     #[tactic(auto, unfolding(crate::specs::Internal::Machine::finished))]
     fn finish(self) -> Result<Vec<Item<'a>>, StepError>
         ensures { Gives (λ items. map entry items.items) result
@@ -199,7 +184,22 @@ impl<'a> Machine<'a> {
     }
 }
 
-/// Puts out all that wait and are at least so strong, from the last that came on.
+// The expression at the start of the tokens, and what follows.
+#[tactic(auto, unfolding(crate::specs::Internal::Machine::take_entries, crate::specs::Internal::Machine::take_expression))]
+pub(crate) fn expression<'t, 'a>(
+    alloc: Global,
+    tokens: &'t [Token<'a>],
+) -> Result<(Expression<'a>, &'t [Token<'a>]), StepError>
+    ensures { Gives (λ x. (formula_of x.0, lexemes x.1.now)) result
+        (spec.take_expression (lexemes tokens.now)) }
+{
+    let mut machine = Machine::new(alloc);
+    let rest = machine.run(tokens)?;
+    let items = machine.finish()?;
+    Ok((Expression::new(items), rest))
+}
+
+// Puts out all that wait and are at least so strong, from the last that came on.
 fn release(
     bound: u8,
     output: &mut Vec<Item<'_>>,
@@ -218,7 +218,7 @@ fn release(
     Ok(())
 }
 
-/// Adds an item.
+// Adds an item.
 fn put_item<'a>(output: &mut Vec<Item<'a>>, item: Item<'a>) -> Result<(), AllocError>
     ensures { OnOk result (map entry output.new.items
         ≡ map entry output.old.items ++ entry item.entry ∷ []) }
@@ -227,7 +227,7 @@ fn put_item<'a>(output: &mut Vec<Item<'a>>, item: Item<'a>) -> Result<(), AllocE
     Ok(())
 }
 
-/// Adds what waits.
+// Adds what waits.
 fn put_pending(pending: &mut Vec<Pending>, last: Pending) -> Result<(), AllocError>
     ensures { OnOk result (reverse pending.new.items ≡ last ∷ reverse pending.old.items) }
 {
@@ -235,7 +235,7 @@ fn put_pending(pending: &mut Vec<Pending>, last: Pending) -> Result<(), AllocErr
     Ok(())
 }
 
-/// The item of what waits, if it is at least so strong.
+// The item of what waits, if it is at least so strong.
 fn released<'a>(bound: u8, pending: Pending) -> Option<Item<'a>>
     ensures { option_map entry result ≡ spec.released bound pending }
 {
@@ -246,7 +246,7 @@ fn released<'a>(bound: u8, pending: Pending) -> Option<Item<'a>>
     }
 }
 
-/// How strongly an operator binds.
+// How strongly an operator binds.
 fn strength(operator: Operator) -> u8
     ensures { result ≡ spec.strength operator }
 {
@@ -257,7 +257,7 @@ fn strength(operator: Operator) -> u8
     }
 }
 
-/// How strong what waits has to be, to be applied before an operator comes.
+// How strong what waits has to be, to be applied before an operator comes.
 fn bound(operator: Operator) -> u8
     ensures { result ≡ spec.bound operator }
 {
@@ -268,7 +268,7 @@ fn bound(operator: Operator) -> u8
     }
 }
 
-/// The operand that a token is.
+// The operand that a token is.
 fn operand_of<'a>(token: &Token<'a>) -> Option<Item<'a>>
     ensures { option_map entry result ≡ spec.operand_of token.now.kind token.now.slice.now }
 {
@@ -280,7 +280,7 @@ fn operand_of<'a>(token: &Token<'a>) -> Option<Item<'a>>
     }
 }
 
-/// What stands before an operand.
+// What stands before an operand.
 fn prefix_of(kind: TokenKind) -> Option<Pending>
     ensures { result ≡ spec.prefix_of kind }
 {
@@ -291,7 +291,7 @@ fn prefix_of(kind: TokenKind) -> Option<Pending>
     }
 }
 
-/// The function that a word names.
+// The function that a word names.
 fn function_of(kind: TokenKind) -> Option<Function>
     ensures { result ≡ spec.function_of kind }
 {
@@ -306,7 +306,7 @@ fn function_of(kind: TokenKind) -> Option<Function>
     }
 }
 
-/// The operator that a sign stands for between two operands.
+// The operator that a sign stands for between two operands.
 fn operator_of(kind: TokenKind) -> Option<Operator>
     ensures { result ≡ spec.operator_of kind }
 {
@@ -320,14 +320,14 @@ fn operator_of(kind: TokenKind) -> Option<Operator>
     }
 }
 
-/// Whether a token is a left parenthesis.
+// Whether a token is a left parenthesis.
 fn is_left(kind: TokenKind) -> bool
     ensures { result ≡ spec.is_left kind }
 {
     matches!(kind, TokenKind::LeftParenthesis)
 }
 
-/// Whether a token is a right parenthesis.
+// Whether a token is a right parenthesis.
 fn is_right(kind: TokenKind) -> bool
     ensures { result ≡ spec.is_right kind }
 {

@@ -44,22 +44,6 @@ pub fn parse<'a>(alloc: Global, tokens: &[Token<'a>]) -> Result<Program<'a>, Par
     program(alloc, tokens)
 }
 
-/// The program that the tokens are.
-fn program<'a>(alloc: Global, tokens: &[Token<'a>]) -> Result<Program<'a>, ParseError>
-    ensures { IsAnswer (lexemes tokens.now) result }
-{
-    let mut rest = shallow(tokens)?;
-    let mut statements = Vec::new(alloc);
-    while let Some((statement, end)) = next_statement(alloc, rest)? {
-        statements.push(statement)?;
-        rest = end;
-    }
-    match rest.first() {
-        Some(first) => Err(ParseError::Syntax { at: first.place }),
-        None => Ok(Program { statements }),
-    }
-}
-
 /// The statement at the start of the tokens and the tokens behind it; `None` where no statement begins them.
 ///
 /// # Errors
@@ -76,7 +60,23 @@ pub fn next_statement<'t, 'a>(
     placed_statement(alloc, tokens)
 }
 
-/// The tokens, if parentheses are not too deep.
+// The program that the tokens are.
+fn program<'a>(alloc: Global, tokens: &[Token<'a>]) -> Result<Program<'a>, ParseError>
+    ensures { IsAnswer (lexemes tokens.now) result }
+{
+    let mut rest = shallow(tokens)?;
+    let mut statements = Vec::new(alloc);
+    while let Some((statement, end)) = next_statement(alloc, rest)? {
+        statements.push(statement)?;
+        rest = end;
+    }
+    match rest.first() {
+        Some(first) => Err(ParseError::Syntax { at: first.place }),
+        None => Ok(Program { statements }),
+    }
+}
+
+// The tokens, if parentheses are not too deep.
 fn shallow<'t, 'a>(tokens: &'t [Token<'a>]) -> Result<&'t [Token<'a>], ParseError>
     ensures { IsDepthAnswer tokens.now result }
 {
@@ -86,7 +86,7 @@ fn shallow<'t, 'a>(tokens: &'t [Token<'a>]) -> Result<&'t [Token<'a>], ParseErro
     }
 }
 
-/// The statement at the start of the tokens, with its place, and what follows.
+// The statement at the start of the tokens, with its place, and what follows.
 #[tactic(auto, unfolding(crate::specs::Internal::Taking::statement))]
 fn placed_statement<'t, 'a>(
     alloc: Global,

@@ -83,7 +83,7 @@ pub fn next_in_body<'t, 'a>(
     }
 }
 
-/// The part of a program at the start of the tokens, and what follows.
+// The part of a program at the start of the tokens, and what follows.
 fn first_part<'t, 'a>(
     alloc: Global,
     tokens: &'t [Token<'a>],
@@ -112,7 +112,7 @@ fn first_part<'t, 'a>(
     }
 }
 
-/// The part of a gate's body at the start of the tokens, and what follows.
+// The part of a gate's body at the start of the tokens, and what follows.
 fn body_part<'t, 'a>(
     alloc: Global,
     tokens: &'t [Token<'a>],

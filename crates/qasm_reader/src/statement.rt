@@ -18,7 +18,7 @@ use crate::tokens::{after, expect, is_next, text};
 use qasm_lexer::{Token, TokenKind};
 use std::alloc::Global;
 
-/// The statement at the start of the tokens, and what follows.
+// The statement at the start of the tokens, and what follows.
 #[tactic(auto, unfolding(crate::specs::Internal::Taking::statement))]
 pub(crate) fn statement<'t, 'a>(
     alloc: Global,
@@ -46,7 +46,7 @@ pub(crate) fn statement<'t, 'a>(
     }
 }
 
-/// What follows `OPENQASM`.
+// What follows `OPENQASM`.
 #[tactic(auto, unfolding(crate::specs::Internal::Taking::version))]
 fn version<'t, 'a>(
     tokens: &'t [Token<'a>],
@@ -59,7 +59,7 @@ fn version<'t, 'a>(
     Ok((StatementKind::Version(real), rest))
 }
 
-/// What follows `include`.
+// What follows `include`.
 #[tactic(auto, unfolding(crate::specs::Internal::Taking::include))]
 fn include<'t, 'a>(
     tokens: &'t [Token<'a>],
@@ -72,7 +72,7 @@ fn include<'t, 'a>(
     Ok((StatementKind::Include(name), rest))
 }
 
-/// A register's name and size.
+// A register's name and size.
 #[tactic(auto, unfolding(crate::specs::Internal::Taking::register))]
 fn register<'t, 'a>(
     tokens: &'t [Token<'a>],
@@ -88,7 +88,7 @@ fn register<'t, 'a>(
     Ok(((name, size), rest))
 }
 
-/// What follows `qreg`.
+// What follows `qreg`.
 fn qubit_register<'t, 'a>(
     tokens: &'t [Token<'a>],
 ) -> Result<(StatementKind<'a>, &'t [Token<'a>]), StepError>
@@ -99,7 +99,7 @@ fn qubit_register<'t, 'a>(
     Ok((StatementKind::QubitRegister { name, size }, rest))
 }
 
-/// What follows `creg`.
+// What follows `creg`.
 fn bit_register<'t, 'a>(
     tokens: &'t [Token<'a>],
 ) -> Result<(StatementKind<'a>, &'t [Token<'a>]), StepError>
@@ -110,7 +110,7 @@ fn bit_register<'t, 'a>(
     Ok((StatementKind::BitRegister { name, size }, rest))
 }
 
-/// The name, the parameters and the qubits of a gate that is declared.
+// The name, the parameters and the qubits of a gate that is declared.
 #[tactic(auto, unfolding(crate::specs::Internal::Taking::heading))]
 fn heading<'t, 'a>(
     alloc: Global,
@@ -132,7 +132,7 @@ fn heading<'t, 'a>(
     ))
 }
 
-/// The name, the parameters and the qubits of a gate that is declared, and the brace behind them.
+// The name, the parameters and the qubits of a gate that is declared, and the brace behind them.
 #[tactic(auto, unfolding(crate::specs::Internal::Taking::opening))]
 pub(crate) fn opening<'t, 'a>(
     alloc: Global,
@@ -146,7 +146,7 @@ pub(crate) fn opening<'t, 'a>(
     Ok((heading, inside))
 }
 
-/// What follows `gate`.
+// What follows `gate`.
 #[tactic(auto, unfolding(crate::specs::Internal::Taking::gate))]
 fn gate<'t, 'a>(
     alloc: Global,
@@ -165,7 +165,7 @@ fn gate<'t, 'a>(
     Ok((StatementKind::Gate(GateDeclaration { heading, body }), end))
 }
 
-/// What follows `opaque`.
+// What follows `opaque`.
 #[tactic(auto, unfolding(crate::specs::Internal::Taking::opaque))]
 fn opaque<'t, 'a>(
     alloc: Global,
@@ -179,7 +179,7 @@ fn opaque<'t, 'a>(
     Ok((StatementKind::Opaque(head), rest))
 }
 
-/// The register and the value of a condition between parentheses.
+// The register and the value of a condition between parentheses.
 #[tactic(auto, unfolding(crate::specs::Internal::Taking::condition))]
 fn condition<'t, 'a>(
     tokens: &'t [Token<'a>],
@@ -195,7 +195,7 @@ fn condition<'t, 'a>(
     Ok(((register, value), rest))
 }
 
-/// What follows `if`.
+// What follows `if`.
 #[tactic(auto, unfolding(crate::specs::Internal::Taking::conditional))]
 fn conditional<'t, 'a>(
     alloc: Global,
@@ -216,7 +216,7 @@ fn conditional<'t, 'a>(
     ))
 }
 
-/// What follows `barrier`.
+// What follows `barrier`.
 #[tactic(auto, unfolding(crate::specs::Internal::Taking::barrier))]
 fn barrier<'t, 'a>(
     alloc: Global,
@@ -230,7 +230,7 @@ fn barrier<'t, 'a>(
     Ok((StatementKind::Barrier(qubits), rest))
 }
 
-/// The operation on qubits at the start of the tokens, and what follows.
+// The operation on qubits at the start of the tokens, and what follows.
 #[tactic(auto, unfolding(crate::specs::Internal::Taking::operation))]
 fn operation<'t, 'a>(
     alloc: Global,
@@ -249,7 +249,7 @@ fn operation<'t, 'a>(
     }
 }
 
-/// The application of a gate.
+// The application of a gate.
 #[tactic(auto, unfolding(crate::specs::Internal::Taking::application))]
 pub(crate) fn application<'t, 'a>(
     alloc: Global,
@@ -272,7 +272,7 @@ pub(crate) fn application<'t, 'a>(
     ))
 }
 
-/// What follows `measure`.
+// What follows `measure`.
 #[tactic(auto, unfolding(crate::specs::Internal::Taking::measure))]
 fn measure<'t, 'a>(tokens: &'t [Token<'a>]) -> Result<(Operation<'a>, &'t [Token<'a>]), StepError>
     ensures { Gives (λ x. (action x.0, lexemes x.1.now)) result
@@ -285,7 +285,7 @@ fn measure<'t, 'a>(tokens: &'t [Token<'a>]) -> Result<(Operation<'a>, &'t [Token
     Ok((Operation::Measure { from, to }, rest))
 }
 
-/// What follows `reset`.
+// What follows `reset`.
 #[tactic(auto, unfolding(crate::specs::Internal::Taking::reset))]
 fn reset<'t, 'a>(tokens: &'t [Token<'a>]) -> Result<(Operation<'a>, &'t [Token<'a>]), StepError>
     ensures { Gives (λ x. (action x.0, lexemes x.1.now)) result (spec.reset (lexemes tokens.now)) }
@@ -295,7 +295,7 @@ fn reset<'t, 'a>(tokens: &'t [Token<'a>]) -> Result<(Operation<'a>, &'t [Token<'
     Ok((Operation::Reset(argument), rest))
 }
 
-/// The statement of a gate's body at the start of the tokens, and what follows.
+// The statement of a gate's body at the start of the tokens, and what follows.
 #[tactic(auto, unfolding(crate::specs::Internal::Taking::body_statement))]
 pub(crate) fn body_statement<'t, 'a>(
     alloc: Global,
@@ -310,7 +310,7 @@ pub(crate) fn body_statement<'t, 'a>(
     }
 }
 
-/// What follows `barrier` in a body.
+// What follows `barrier` in a body.
 fn body_barrier<'t, 'a>(
     alloc: Global,
     tokens: &'t [Token<'a>],
@@ -323,7 +323,7 @@ fn body_barrier<'t, 'a>(
     Ok((BodyStatement::Barrier(qubits), rest))
 }
 
-/// The application of a gate in a body.
+// The application of a gate in a body.
 #[tactic(auto, unfolding(crate::specs::Internal::Taking::body_application))]
 fn body_application<'t, 'a>(
     alloc: Global,

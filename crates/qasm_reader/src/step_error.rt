@@ -5,12 +5,12 @@ ghost use Rattle.qasm_reader.specs.declared.step_error.StepError.TheVariants.{No
 
 use std::alloc::{AllocError, AllocFailed};
 
-/// Why a step of the parser stopped.
+// Why a step of the parser stopped.
 #[derive(Debug, Clone, Copy)]
 pub(crate) enum StepError {
-    /// The tokens don't begin with what is read there.
+    // The tokens don't begin with what is read there.
     Misfit,
-    /// There was no memory.
+    // There was no memory.
     NoMemory,
 }
 

@@ -9,7 +9,7 @@ ghost use Rattle.qasm_reader.specs.Internal.Taking as spec;
 use crate::step_error::StepError;
 use qasm_lexer::{Token, TokenKind};
 
-/// Whether two kinds are the same.
+// Whether two kinds are the same.
 #[tactic(auto, unfolding(crate::specs::Internal::Taking::same_kind))]
 fn same_kind(left: TokenKind, right: TokenKind) -> bool
     ensures { result ≡ spec.same_kind left right }
@@ -17,7 +17,7 @@ fn same_kind(left: TokenKind, right: TokenKind) -> bool
     left == right
 }
 
-/// What follows the first token, if it is of this kind.
+// What follows the first token, if it is of this kind.
 #[tactic(auto, unfolding(crate::specs::Internal::Taking::after))]
 pub(crate) fn after<'t, 'a>(tokens: &'t [Token<'a>], kind: TokenKind) -> Option<&'t [Token<'a>]>
     ensures { option_map (λ rest. lexemes rest.now) result ≡ spec.after kind (lexemes tokens.now) }
@@ -30,14 +30,14 @@ pub(crate) fn after<'t, 'a>(tokens: &'t [Token<'a>], kind: TokenKind) -> Option<
     }
 }
 
-/// Whether the first token is of this kind.
+// Whether the first token is of this kind.
 pub(crate) fn is_next(tokens: &[Token<'_>], kind: TokenKind) -> bool
     ensures { result ≡ is_some (spec.after kind (lexemes tokens.now)) }
 {
     after(tokens, kind).is_some()
 }
 
-/// What follows the first token, which is to be of this kind.
+// What follows the first token, which is to be of this kind.
 pub(crate) fn expect<'t, 'a>(
     tokens: &'t [Token<'a>],
     kind: TokenKind,
@@ -50,7 +50,7 @@ pub(crate) fn expect<'t, 'a>(
     }
 }
 
-/// The bytes of the first token, which is to be of this kind, and what follows.
+// The bytes of the first token, which is to be of this kind, and what follows.
 #[tactic(auto, unfolding(crate::specs::Internal::Taking::text))]
 pub(crate) fn text<'t, 'a>(
     tokens: &'t [Token<'a>],

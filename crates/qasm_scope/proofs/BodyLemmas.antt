@@ -9,7 +9,7 @@ use Rattle.qasm_reader.specs.Syntax.{BodyApply, BodySentence, BodyApplied, BodyB
 use Rattle.qasm_scope.specs.Faults.{wrong_in, body_is_unsupported, body_has_same_qubit}
 use Rattle.qasm_scope.specs.Internal.Begun.{IsBegun}
 use Rattle.qasm_scope.specs.Internal.Bodies.{no_faults, is_faulty, joined, cause_of, statement_faults, faults_of, IsCall}
-use Rattle.qasm_scope.specs.Internal.Checks.{Symbols, unplaced, unknown_by, wrong_count_by, calls_by}
+use Rattle.qasm_scope.specs.Internal.Checks.{Symbols, unplaced, is_unknown, is_wrong_count, calls_by}
 use Rattle.qasm_scope.specs.Internal.Kept.{Represents, kept_call, kept_calls}
 use Rattle.qasm_scope.specs.Scope.{Scope}
 use Rattle.qasm_scope.specs.declared.body_faults.BodyFaults.{BodyFaults}
@@ -59,8 +59,8 @@ any-push p xs x = list_any-append p xs (x ∷ []) ∙ ap (λ b. list_any p xs ||
 faults-push : (symbols : Symbols) (formals : Formals) (body : List BodySentence) (s : BodySentence)
     → faults_of symbols formals (body ++ s ∷ []) ≡ joined (faults_of symbols formals body) (statement_faults symbols formals s)
 faults-push symbols formals body s =
-    same_faults (any-push body_is_unsupported body s) (any-push (unknown_by symbols formals.parameters formals.qubits) body s)
-    (any-push (wrong_count_by symbols) body s) (any-push body_has_same_qubit body s)
+    same_faults (any-push body_is_unsupported body s) (any-push (is_unknown symbols formals.parameters formals.qubits) body s)
+    (any-push (is_wrong_count symbols) body s) (any-push body_has_same_qubit body s)
 
 pub calls-append : (symbols : Symbols) (parameters qubits : Places) (body more : List BodySentence)
     → calls_by symbols parameters qubits (body ++ more) ≡ calls_by symbols parameters qubits body ++ calls_by symbols parameters qubits more

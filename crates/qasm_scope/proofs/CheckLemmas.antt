@@ -8,7 +8,7 @@ use Rattle.std.proofs.lemmas.List.Folds.{list_any-append}
 use Rattle.qasm_reader.specs.Syntax.{Formula, Number, Pi, Name, Negate, Binary, Call, Callee, Declared, U, Cx, GateForm, BodySentence, BodyApplied, BodyBarrier, DeclareGate, QubitRegister, BitRegister}
 use Rattle.qasm_angle.specs.Trees as tree
 use Rattle.qasm_scope.specs.Angles.{numbered, binary, place_of, place_or_zero}
-use Rattle.qasm_scope.specs.Internal.Checks.{Symbols, shape_by, called_by, hidden_by, unplaced, unknown_by, wrong_count_by, calls_by, gate_cause, wrong_gate_by, register_cause}
+use Rattle.qasm_scope.specs.Internal.Checks.{Symbols, shape_by, called_by, hidden_by, unplaced, is_unknown, is_wrong_count, calls_by, gate_cause, wrong_gate_by, register_cause}
 use Rattle.qasm_scope.specs.Internal.Entries.{place_in, has_unplaced, placed, ArePlaces}
 use Rattle.qasm_scope.specs.Faults.{shape_of, is_no_gate, is_in, is_hidden, has_other_name, body_has_unknown, body_has_wrong_count, has_other_shape, wrong_in, has_name_twice, body_is_unsupported, body_has_same_qubit}
 use Rattle.qasm_scope.specs.Internal.Kept.{found, symbol_of, symbol_shape, number_in, called_for, kept_calls, symbol_taken, IsSound, IsSoundGate}
@@ -61,7 +61,7 @@ unplaced-is_in qubits names name h = ap not (place-is_in qubits names name h)
 
 pub unknown-names : (symbols : Symbols) (scope : Scope) (parameters qubits : Places) (form : GateForm) (s : BodySentence)
     → AreNames symbols scope → ArePlaces parameters form.parameters → ArePlaces qubits form.qubits
-    → unknown_by symbols parameters qubits s ≡ body_has_unknown scope form s
+    → is_unknown symbols parameters qubits s ≡ body_has_unknown scope form s
 unknown-names symbols scope parameters qubits form (BodyBarrier names) h k l =
     list_any-same (unplaced qubits) (λ name. not (is_in form.qubits name)) names (λ name. unplaced-is_in qubits form.qubits name l)
 unknown-names symbols scope parameters qubits form (BodyApplied a) h k l =
@@ -72,7 +72,7 @@ unknown-names symbols scope parameters qubits form (BodyApplied a) h k l =
     ∙ ap (λ b. is_hidden form a.gate || is_no_gate (shape_of scope a.gate) || list_any (has_other_name form.parameters) a.angles || b)
     (list_any-same (unplaced qubits) (λ name. not (is_in form.qubits name)) a.qubits (λ name. unplaced-is_in qubits form.qubits name l))
 
-pub wrong_count-names : (symbols : Symbols) (scope : Scope) (s : BodySentence) → AreNames symbols scope → wrong_count_by symbols s ≡ body_has_wrong_count scope s
+pub wrong_count-names : (symbols : Symbols) (scope : Scope) (s : BodySentence) → AreNames symbols scope → is_wrong_count symbols s ≡ body_has_wrong_count scope s
 wrong_count-names symbols scope (BodyBarrier names) h = refl
 wrong_count-names symbols scope (BodyApplied a) h = ap (λ s. has_other_shape s (length a.angles) (length a.qubits)) (shape-names symbols scope a.gate h)
 
@@ -123,14 +123,14 @@ pub wrong_gate-names : (symbols : Symbols) (scope : Scope) (parameters qubits : 
     → wrong_gate_by symbols parameters qubits form ≡ wrong_in scope (DeclareGate form)
 wrong_gate-names symbols scope parameters qubits form h sound k l =
     let taken : symbol_taken (found form.name symbols) ≡ is_taken form.name scope = ap symbol_taken (h form.name) ∙ symbol-taken form.name scope sound in
-    let unknown : list_any (unknown_by symbols parameters qubits) form.body ≡ list_any (body_has_unknown scope form) form.body =
-    list_any-same (unknown_by symbols parameters qubits) (body_has_unknown scope form) form.body (λ s. unknown-names symbols scope parameters qubits form s h k l) in
-    let counts : list_any (wrong_count_by symbols) form.body ≡ list_any (body_has_wrong_count scope) form.body =
-    list_any-same (wrong_count_by symbols) (body_has_wrong_count scope) form.body (λ s. wrong_count-names symbols scope s h) in
-    ap (λ b. gate_cause (list_any body_is_unsupported form.body) (b || has_name_twice (form.parameters ++ form.qubits)) (list_any (unknown_by symbols parameters qubits) form.body)
-    (list_any (wrong_count_by symbols) form.body) (list_any body_has_same_qubit form.body)) taken
+    let unknown : list_any (is_unknown symbols parameters qubits) form.body ≡ list_any (body_has_unknown scope form) form.body =
+    list_any-same (is_unknown symbols parameters qubits) (body_has_unknown scope form) form.body (λ s. unknown-names symbols scope parameters qubits form s h k l) in
+    let counts : list_any (is_wrong_count symbols) form.body ≡ list_any (body_has_wrong_count scope) form.body =
+    list_any-same (is_wrong_count symbols) (body_has_wrong_count scope) form.body (λ s. wrong_count-names symbols scope s h) in
+    ap (λ b. gate_cause (list_any body_is_unsupported form.body) (b || has_name_twice (form.parameters ++ form.qubits)) (list_any (is_unknown symbols parameters qubits) form.body)
+    (list_any (is_wrong_count symbols) form.body) (list_any body_has_same_qubit form.body)) taken
     ∙ ap (λ b. gate_cause (list_any body_is_unsupported form.body) (is_taken form.name scope || has_name_twice (form.parameters ++ form.qubits)) b
-    (list_any (wrong_count_by symbols) form.body) (list_any body_has_same_qubit form.body)) unknown
+    (list_any (is_wrong_count symbols) form.body) (list_any body_has_same_qubit form.body)) unknown
     ∙ ap (λ b. gate_cause (list_any body_is_unsupported form.body) (is_taken form.name scope || has_name_twice (form.parameters ++ form.qubits)) (list_any (body_has_unknown scope form) form.body)
     b (list_any body_has_same_qubit form.body)) counts
     ∙ sym (wrong_in-gate scope form)

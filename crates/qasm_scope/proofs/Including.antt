@@ -17,8 +17,8 @@ use Rattle.qasm_scope.specs.declared.names.Names.{Names}
 use Rattle.qasm_scope.specs.Faults.{wrong_in, header_name}
 use Rattle.qasm_scope.specs.Header.{header_text}
 use Rattle.qasm_scope.specs.HeaderGates.{first_gates, further_gates}
-use Rattle.qasm_scope.specs.Internal.Begun.{IsFaultless}
-use Rattle.qasm_scope.specs.Internal.Included.{gate_in, gates_of, forms_of, any_declared_by, AreFirstFaultless, AreFurtherFaultless}
+use Rattle.qasm_scope.specs.Internal.Begun.{IsFaultlessGate}
+use Rattle.qasm_scope.specs.Internal.Included.{gate_in, gates_of, forms_of, any_declared, AreFirstFaultless, AreFurtherFaultless}
 use Rattle.qasm_scope.specs.Internal.Kept.{Represents, IsSound, found}
 use Rattle.qasm_scope.specs.Meaning.{with_first, with_further, with_header}
 use Rattle.qasm_scope.specs.Scope.{Scope, Gate, declared, is_declared}
@@ -88,7 +88,7 @@ header_cause scope text some e f =
     ∙ ap (λ some. if some then Some cause.Redeclared else None) f
 
 pub any-names : (names : Names) (scope : Scope) (forms : List GateForm) → Represents names scope
-    → any_declared_by names.symbols forms ≡ list_any (λ form. is_declared form.name scope) forms
+    → any_declared names.symbols forms ≡ list_any (λ form. is_declared form.name scope) forms
 any-names names scope forms r =
     list_any-same (λ form. is_some (found form.name names.symbols)) (λ form. is_declared form.name scope) forms
     (λ form. ap is_some (r.same_symbols form.name) ∙ symbol-declared form.name scope)
@@ -130,7 +130,7 @@ pub record FurtherLeft (names : Names) (forms : List GateForm) (end : Scope) : T
   pub after : with_further forms scope ≡ end
 
 pub first-step : (before after : Names) (form : GateForm) (forms : List GateForm) (end : Scope)
-    → ((scope : Scope) → Represents before scope → IsFaultless scope form false → Represents after (declared form.name (Gate form) ∷ scope))
+    → ((scope : Scope) → Represents before scope → IsFaultlessGate scope form false → Represents after (declared form.name (Gate form) ∷ scope))
     → FirstLeft before (form ∷ forms) end → FirstLeft after forms end
 first-step before after form forms end declares l = record {
   scope = declared form.name (Gate form) ∷ l.scope;
@@ -140,7 +140,7 @@ first-step before after form forms end declares l = record {
 }
 
 pub further-step : (before after : Names) (form : GateForm) (forms : List GateForm) (end : Scope) → is_some (found form.name before.symbols) ≡ false
-    → ((scope : Scope) → Represents before scope → IsFaultless scope form true → Represents after (replaceable form ∷ scope))
+    → ((scope : Scope) → Represents before scope → IsFaultlessGate scope form true → Represents after (replaceable form ∷ scope))
     → FurtherLeft before (form ∷ forms) end → FurtherLeft after forms end
 further-step before after form forms end free declares l =
     let e : is_declared form.name l.scope ≡ false = sym (ap is_some (l.represents.same_symbols form.name) ∙ symbol-declared form.name l.scope) ∙ free in

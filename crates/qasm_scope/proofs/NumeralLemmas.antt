@@ -32,10 +32,3 @@ unfolding numeral
 numeral-done n most digits all i small h e =
     let rest = ap (λ ds. min (numeral_from n ds) most) (drop_of_length-le digits h) in
     omega (arith, rest, e)
-
--- a bound below which nothing is cut off
-pub le-cut : (bound n most : ℕ) → bound ≤ most → nat_le bound (min n most) ≡ nat_le bound n
-le-cut bound n most h = elim (cases_lt most n) [
-  | inl larger ↦ grind (arith, nat_tests)
-  | inr fits ↦ (let e : min n most ≡ n = omega arith in ap (nat_le bound) e)
-]

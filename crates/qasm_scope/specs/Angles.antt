@@ -2,9 +2,9 @@
 use Rattle.std.specs.Prelude.{ℕ, Bool, true, false, ◌||◌, List, [], ◌∷◌, Option, None, Some, Result, Ok, Err, position}
 use Rattle.std.specs.Str.{bytes_eq}
 use Rattle.qasm_angle.specs.declared.angle.Angle.{Angle}
-use Rattle.qasm_angle.specs.declared.errors.Cause as angle_cause
-use Rattle.qasm_angle.specs.declared.errors.Cause.TheVariants as angle_causes
-use Rattle.qasm_angle.specs.declared.expression.Operator.TheVariants as operators
+use Rattle.qasm_angle.specs.declared.errors.AngleFault as angle_cause
+use Rattle.qasm_angle.specs.declared.errors.AngleFault.TheVariants as angle_causes
+use Rattle.qasm_angle.specs.declared.expression.Operation.TheVariants as operators
 use Rattle.qasm_angle.specs.Literals.{literal_value}
 use Rattle.qasm_angle.specs.Trees as tree
 use Rattle.qasm_angle.specs.Values.{value}
@@ -55,12 +55,12 @@ numbered names (Negate f) = tree.Negate (numbered names f)
 numbered names (Binary operator f g) = binary operator (numbered names f) (numbered names g)
 numbered names (Call function f) = numbered names f
 
-abbrev pub cause_of : angle_cause.Cause → Cause
+abbrev pub cause_of : angle_cause.AngleFault → Cause
 cause_of angle_causes.Divide = causes.Divide
 cause_of angle_causes.TooLarge = causes.AngleTooLarge
 cause_of angle_causes.NotAnAngle = causes.NotEighthTurn
 
-abbrev pub with_cause : Result Angle angle_cause.Cause → Result Angle Cause
+abbrev pub with_cause : Result Angle angle_cause.AngleFault → Result Angle Cause
 with_cause (Ok angle) = Ok angle
 with_cause (Err cause) = Err (cause_of cause)
 

@@ -1,5 +1,6 @@
 -- Applications in statements: the qubits that arguments stand for, and the instances of an application.
--- Cross, Bishop, Smolin and Gambetta, "Open quantum assembly language" (arXiv 1707.03429), on gates applied to registers.
+-- Cross, Bishop, Smolin and Gambetta, "Open quantum assembly language" (arXiv 1707.03429), on gates applied to
+-- registers.
 use Rattle.std.specs.Prelude.{ℕ, ◌+◌, ◌==◌, Bool, false, ◌||◌, List, [], ◌∷◌, map, Option, None, Some}
 use Rattle.std.specs.List.{list_any, flat_map, filter_map, range_with_len}
 use Rattle.qasm_reader.specs.Syntax.{Operand, Apply}
@@ -42,7 +43,8 @@ qubit_at index (Register first size) = first + index
 
 -- the instances, by rising index
 abbrev pub instances : List QubitRange → List (List ℕ)
-instances ranges = map (λ index. map (qubit_at index) ranges) (range_with_len 0 (instance_count (register_sizes ranges)))
+instances ranges =
+    map (λ index. map (qubit_at index) ranges) (range_with_len 0 (instance_count (register_sizes ranges)))
 
 -- a number stands twice in a list
 abbrev pub has_twice : List ℕ → Bool

@@ -1,6 +1,7 @@
 -- What a call of a gate comes to: the calls in it and the built-in gates, in the order in which they are made.
 -- Cross, Bishop, Smolin and Gambetta, "Open quantum assembly language" (arXiv 1707.03429), on gate declarations.
-use Rattle.std.specs.Prelude.{ℕ, ◌+◌, if◌then◌else◌, List, [], ◌∷◌, map, Option, None, Some, Result, Ok, Err, slice_index_or, nat_le, nat_lt}
+use Rattle.std.specs.Prelude.{ℕ, ◌+◌, if◌then◌else◌, List, [], ◌∷◌, map, Option, None, Some, Result, Ok, Err}
+use Rattle.std.specs.Prelude.{slice_index_or, nat_le, nat_lt}
 use Rattle.std.specs.List.{flat_map}
 use Rattle.std.specs.Str.{bytes_eq}
 use Rattle.zx_gates.specs.declared.elementary.ElementaryGate.{ElementaryGate}
@@ -65,7 +66,8 @@ body_call declared form depth angles qubits (BodyApplied a) =
 body_call declared form depth angles qubits (BodyBarrier names) = []
 
 abbrev pub expand_meaning : Expansion → Meaning → ℕ → List Angle → List ℕ → List Event
-expand_meaning declared (Gate form) depth angles qubits = flat_map (body_call declared form depth angles qubits) form.body
+expand_meaning declared (Gate form) depth angles qubits =
+    flat_map (body_call declared form depth angles qubits) form.body
 expand_meaning declared (Qubits first size) depth angles qubits = []
 expand_meaning declared Bits depth angles qubits = []
 
@@ -95,8 +97,8 @@ call_count (Applied gate ∷ events) = call_count events
 abbrev pub deepest : ℕ
 deepest = 256
 
--- What is wrong first, where so many calls were made before and at most so many may be made: a call is counted, then its
--- depth is looked at, then its angles are evaluated.
+-- What is wrong first, where so many calls were made before and at most so many may be made: a call is counted, then
+-- its depth is looked at, then its angles are evaluated.
 abbrev pub first_wrong : ℕ → ℕ → List Event → Option Cause
 first_wrong most calls [] = None
 first_wrong most calls (Called depth ∷ events) =

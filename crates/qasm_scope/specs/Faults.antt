@@ -1,15 +1,20 @@
 -- What is wrong with a statement, in the scope before it. Each test is about one cause.
-use Rattle.std.specs.Prelude.{ℕ, ◌+◌, ◌==◌, Bool, true, false, ◌||◌, not, if◌then◌else◌, List, [], ◌∷◌, ◌++◌, length, Option, None, Some, nat_le, nat_lt, codes}
+use Rattle.std.specs.Prelude.{ℕ, ◌+◌, ◌==◌, Bool, true, false, ◌||◌, not, if◌then◌else◌, List, [], ◌∷◌, ◌++◌, length}
+use Rattle.std.specs.Prelude.{Option, None, Some, nat_le, nat_lt, codes}
 use Rattle.std.specs.List.{list_any}
 use Rattle.std.specs.Str.{bytes_eq}
 use Rattle.zx_gates.specs.Circuit.{most_qubits}
-use Rattle.qasm_reader.specs.Syntax.{Formula, Number, Pi, Name, Negate, Binary, Call, Operand, Callee, Declared, U, Cx, Applied, Measured, Reset, BodySentence, BodyApplied, BodyBarrier, GateForm, Sentence, Version, Include, QubitRegister, BitRegister, DeclareGate, Opaque, If, Barrier, Act}
+use Rattle.qasm_reader.specs.Syntax.{Formula, Number, Pi, Name, Negate, Binary, Call, Operand, Callee, Declared, U, Cx}
+use Rattle.qasm_reader.specs.Syntax.{Applied, Measured, Reset, BodySentence, BodyApplied, BodyBarrier, GateForm}
+use Rattle.qasm_reader.specs.Syntax.{Sentence, Version, Include, QubitRegister, BitRegister, DeclareGate, Opaque, If}
+use Rattle.qasm_reader.specs.Syntax.{Barrier, Act}
 use Rattle.qasm_scope.specs.declared.causes.Cause.{Cause}
 use Rattle.qasm_scope.specs.declared.causes.Cause.TheVariants as cause
 use Rattle.qasm_scope.specs.Angles.{is_unsupported}
 use Rattle.qasm_scope.specs.Applications.{instances, ranges_of, register_sizes, has_twice}
 use Rattle.qasm_scope.specs.HeaderGates.{first_gates}
-use Rattle.qasm_scope.specs.Scope.{Scope, Meaning, Qubits, Bits, Gate, meaning_of, is_taken, is_declared, numeral, qubit_count}
+use Rattle.qasm_scope.specs.Scope.{Scope, Meaning, Qubits, Bits, Gate, meaning_of, is_taken, is_declared, numeral}
+use Rattle.qasm_scope.specs.Scope.{qubit_count}
 
 -- the file that the header stands for
 abbrev pub header_name : List ℕ

@@ -1,6 +1,6 @@
 -- The header that `include "qelib1.inc";` stands for: this project's own text, with the gates of the header that
--- Cross, Bishop, Smolin and Gambetta, "Open quantum assembly language" (arXiv 1707.03429) print, but for `cu3`, to which
--- headers in use give different maps; and further gates in use.
+-- Cross, Bishop, Smolin and Gambetta, "Open quantum assembly language" (arXiv 1707.03429) print, but for `cu3`, to
+-- which headers in use give different maps; and further gates in use.
 use Rattle.std.specs.Prelude.{ℕ, List, ◌++◌, codes}
 
 -- the text

@@ -1,8 +1,10 @@
 -- The first fault of a program, and the circuit that it means, however many calls it makes.
-use Rattle.std.specs.Prelude.{◌≡◌, ℕ, ◌+◌, Bool, true, false, if◌then◌else◌, List, [], ◌∷◌, ◌++◌, Option, None, Some, codes}
+use Rattle.std.specs.Prelude.{◌≡◌, ℕ, ◌+◌, Bool, true, false, if◌then◌else◌, List, [], ◌∷◌, ◌++◌, Option, None, Some}
+use Rattle.std.specs.Prelude.{codes}
 use Rattle.std.specs.Str.{bytes_eq}
 use Rattle.zx_gates.specs.declared.elementary.ElementaryGate.{ElementaryGate}
-use Rattle.qasm_reader.specs.Syntax.{Applied, GateForm, Sentence, Version, Include, QubitRegister, BitRegister, DeclareGate, Act, Placed}
+use Rattle.qasm_reader.specs.Syntax.{Applied, GateForm, Sentence, Version, Include, QubitRegister, BitRegister}
+use Rattle.qasm_reader.specs.Syntax.{DeclareGate, Act, Placed}
 use Rattle.qasm_scope.specs.declared.causes.Cause.{Cause}
 use Rattle.qasm_scope.specs.declared.causes.Cause.TheVariants as cause
 use Rattle.qasm_scope.specs.Applications.{application_events}
@@ -45,7 +47,8 @@ or_else (Some cause) other = Some cause
 
 -- what is wrong with a statement after the first one, where so many calls were made before and at most so many may be
 abbrev pub wrong_with : ℕ → Scope → ℕ → Sentence → Option Cause
-wrong_with most scope calls sentence = or_else (wrong_in scope sentence) (first_wrong most calls (events_of scope sentence))
+wrong_with most scope calls sentence =
+    or_else (wrong_in scope sentence) (first_wrong most calls (events_of scope sentence))
 
 -- a cause and the place of the statement that has it, or what is wrong further on
 abbrev pub placed_or : Option Cause → ℕ → Option (Cause × ℕ) → Option (Cause × ℕ)
@@ -82,9 +85,11 @@ scope_after scope (s ∷ statements) = scope_after (after_statement scope s.sent
 -- the built-in gates that act, in order
 abbrev pub gates_after : Scope → List Placed → List ElementaryGate
 gates_after scope [] = []
-gates_after scope (s ∷ statements) = applied (events_of scope s.sentence) ++ gates_after (after_statement scope s.sentence) statements
+gates_after scope (s ∷ statements) =
+    applied (events_of scope s.sentence) ++ gates_after (after_statement scope s.sentence) statements
 
--- The program means the circuit of so many qubits and these gates: it has no fault but that it may make any number of calls.
+-- The program means the circuit of so many qubits and these gates: it has no fault but that it may make any number of
+-- calls.
 pub record Means (program : List Placed) (qubits : ℕ) (gates : List ElementaryGate) : Type 0 where
   pub most : ℕ
   pub faultless : first_fault most program ≡ None

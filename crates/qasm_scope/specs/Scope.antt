@@ -1,6 +1,8 @@
 -- What names stand for: the declarations that stand before a place in a text.
--- Cross, Bishop, Smolin and Gambetta, "Open quantum assembly language" (arXiv 1707.03429), on registers, gates and includes.
-use Rattle.std.specs.Prelude.{ℕ, ◌+◌, ◌-◌, Bool, false, ◌&&◌, not, if◌then◌else◌, List, [], ◌∷◌, map, Option, None, Some}
+-- Cross, Bishop, Smolin and Gambetta, "Open quantum assembly language" (arXiv 1707.03429), on registers, gates and
+-- includes.
+use Rattle.std.specs.Prelude.{ℕ, ◌+◌, ◌-◌, Bool, false, ◌&&◌, not, if◌then◌else◌, List, [], ◌∷◌, map, Option, None}
+use Rattle.std.specs.Prelude.{Some}
 use Rattle.std.specs.Str.{bytes_eq}
 use Rattle.std.specs.List.{list_any}
 use Rattle.qasm_angle.specs.Literals.{number_from}
@@ -28,7 +30,8 @@ Scope = List Declaration
 -- what a name stands for; of several declarations of it the last one counts
 abbrev pub meaning_of : List ℕ → Scope → Option Meaning
 meaning_of name [] = None
-meaning_of name (declaration ∷ scope) = if bytes_eq declaration.name name then Some declaration.meaning else meaning_of name scope
+meaning_of name (declaration ∷ scope) =
+    if bytes_eq declaration.name name then Some declaration.meaning else meaning_of name scope
 
 -- the name is declared, whether or not it may be declared again
 abbrev pub is_declared : List ℕ → Scope → Bool

@@ -29,7 +29,8 @@ instances_in scope sentence = 0
 
 abbrev pub size_after : Scope → List Placed → ℕ
 size_after scope [] = 0
-size_after scope (s ∷ statements) = instances_in scope s.sentence + size_after (after_statement scope s.sentence) statements
+size_after scope (s ∷ statements) =
+    instances_in scope s.sentence + size_after (after_statement scope s.sentence) statements
 
 abbrev pub program_size : List Placed → ℕ
 program_size program = size_after [] program

@@ -4,7 +4,7 @@ ghost use Rattle.std.specs.Prelude.{◌≡◌, map, IfOk, IfSome, IfNone, true};
 ghost use Rattle.std.specs.List.{list_any};
 ghost use Rattle.qasm_reader.specs.Syntax.{BodyApplied};
 ghost use Rattle.qasm_scope.specs.Internal.Bodies.{apply_of, is_faulty, application_faults, is_miscalled, IsCalled, AreFound, IsCall};
-ghost use Rattle.qasm_scope.specs.Internal.Checks.{unplaced, unknown_by, wrong_count_by};
+ghost use Rattle.qasm_scope.specs.Internal.Checks.{unplaced, is_unknown, is_wrong_count};
 
 use crate::body_faults::BodyFaults;
 use crate::expressions::{all_numbered, any_other_name, any_unsupported};
@@ -47,8 +47,38 @@ pub fn call_of<'a>(
     }))
 }
 
-/// The gate that an application calls; none where a formal name hides it, where there is no such gate, and where angles
-/// or qubits differ in number from its declaration.
+/// What is wrong with an application in a body, by one pass for each fault.
+pub fn application_faults<'a>(
+    alloc: Global,
+    names: &Names<'a>,
+    formals: &Formals<'a>,
+    application: &BodyApplication<'a>,
+) -> Result<BodyFaults, AllocError>
+    ensures { IfOk result (λ faults. faults
+        ≡ application_faults names.now.symbols formals.now (apply_of application.now)) }
+{
+    Ok(BodyFaults {
+        unsupported: any_unsupported(&application.angles),
+        unknown: is_unknown(names, formals, application),
+        wrong_count: is_wrong_count(names, application),
+        same_qubit: has_name_twice(alloc, &application.qubits)?,
+    })
+}
+
+/// Whether one of the names has no place.
+pub fn any_unplaced<'a>(places: &Places<'a>, names: &[&'a [u8]]) -> bool
+    ensures { result ≡ list_any (unplaced places.now) (map (λ name. name.now) names.now) }
+{
+    for name in names {
+        if places.find(*name).is_none() {
+            return true;
+        }
+    }
+    false
+}
+
+// The gate that an application calls; none where a formal name hides it, where there is no such gate, and where angles
+// or qubits differ in number from its declaration.
 fn called<'a>(
     names: &Names<'a>,
     formals: &Formals<'a>,
@@ -69,7 +99,7 @@ fn called<'a>(
     Some(known.called)
 }
 
-/// The places of names; none where one of them has no place.
+// The places of names; none where one of them has no place.
 fn places_of<'a>(
     alloc: Global,
     places: &Places<'a>,
@@ -90,31 +120,13 @@ fn places_of<'a>(
     Ok(Some(found))
 }
 
-/// What is wrong with an application in a body, by one pass for each fault.
-pub fn application_faults<'a>(
-    alloc: Global,
-    names: &Names<'a>,
-    formals: &Formals<'a>,
-    application: &BodyApplication<'a>,
-) -> Result<BodyFaults, AllocError>
-    ensures { IfOk result (λ faults. faults
-        ≡ application_faults names.now.symbols formals.now (apply_of application.now)) }
-{
-    Ok(BodyFaults {
-        unsupported: any_unsupported(&application.angles),
-        unknown: is_unknown(names, formals, application),
-        wrong_count: is_wrong_count(names, application),
-        same_qubit: has_name_twice(alloc, &application.qubits)?,
-    })
-}
-
-/// Whether a name in an application isn't known, or isn't what is needed there.
+// Whether a name in an application isn't known, or isn't what is needed there.
 fn is_unknown<'a>(
     names: &Names<'a>,
     formals: &Formals<'a>,
     application: &BodyApplication<'a>,
 ) -> bool
-    ensures { result ≡ unknown_by names.now.symbols formals.now.parameters formals.now.qubits
+    ensures { result ≡ is_unknown names.now.symbols formals.now.parameters formals.now.qubits
         (BodyApplied (apply_of application.now)) }
 {
     formals.hide(&application.gate)
@@ -123,24 +135,12 @@ fn is_unknown<'a>(
         || any_unplaced(&formals.qubits, &application.qubits)
 }
 
-/// Whether angles or qubits of an application differ in number from the gate's declaration.
+// Whether angles or qubits of an application differ in number from the gate's declaration.
 fn is_wrong_count<'a>(names: &Names<'a>, application: &BodyApplication<'a>) -> bool
-    ensures { result ≡ wrong_count_by names.now.symbols (BodyApplied (apply_of application.now)) }
+    ensures { result ≡ is_wrong_count names.now.symbols (BodyApplied (apply_of application.now)) }
 {
     match names.gate(&application.gate) {
         Some(gate) => gate.has_other_shape(application.angles.len(), application.qubits.len()),
         None => false,
     }
-}
-
-/// Whether one of the names has no place.
-pub fn any_unplaced<'a>(places: &Places<'a>, names: &[&'a [u8]]) -> bool
-    ensures { result ≡ list_any (unplaced places.now) (map (λ name. name.now) names.now) }
-{
-    for name in names {
-        if places.find(*name).is_none() {
-            return true;
-        }
-    }
-    false
 }

@@ -43,28 +43,6 @@ pub fn any_other_name<'a>(places: &Places<'a>, expressions: &[Expression<'a>]) -
     false
 }
 
-/// Whether an expression holds another name than these.
-fn has_other_name<'a>(places: &Places<'a>, expression: &Expression<'a>) -> bool
-    ensures { result ≡ has_unplaced places.now (formula_of expression.now) }
-{
-    for item in expression.items() {
-        if is_other_name(places, item) {
-            return true;
-        }
-    }
-    false
-}
-
-/// Whether the item is another name than these.
-fn is_other_name<'a>(places: &Places<'a>, item: &Item<'a>) -> bool
-    ensures { result ≡ has_no_place places.now (entry item.now) }
-{
-    match item {
-        Item::Name(name) => places.find(*name).is_none(),
-        _ => false,
-    }
-}
-
 /// The expressions in numbered parameters; none where one of them holds `^`, a function or another name than these.
 pub fn all_numbered<'a>(
     alloc: Global,
@@ -86,7 +64,29 @@ pub fn all_numbered<'a>(
     Ok(Some(exprs))
 }
 
-/// The expression in numbered parameters; none where it holds `^`, a function or another name than these.
+// Whether an expression holds another name than these.
+fn has_other_name<'a>(places: &Places<'a>, expression: &Expression<'a>) -> bool
+    ensures { result ≡ has_unplaced places.now (formula_of expression.now) }
+{
+    for item in expression.items() {
+        if is_other_name(places, item) {
+            return true;
+        }
+    }
+    false
+}
+
+// Whether the item is another name than these.
+fn is_other_name<'a>(places: &Places<'a>, item: &Item<'a>) -> bool
+    ensures { result ≡ has_no_place places.now (entry item.now) }
+{
+    match item {
+        Item::Name(name) => places.find(*name).is_none(),
+        _ => false,
+    }
+}
+
+// The expression in numbered parameters; none where it holds `^`, a function or another name than these.
 fn numbered<'a>(
     alloc: Global,
     places: &Places<'a>,
@@ -103,7 +103,7 @@ fn numbered<'a>(
     }
 }
 
-/// The steps that the items are; none where one of them is `^`, a function or another name than these.
+// The steps that the items are; none where one of them is `^`, a function or another name than these.
 fn steps<'a>(
     alloc: Global,
     places: &Places<'a>,
@@ -124,7 +124,7 @@ fn steps<'a>(
     Ok(Some(steps))
 }
 
-/// The step that an item is; none for `^`, functions and other names than these.
+// The step that an item is; none for `^`, functions and other names than these.
 fn step<'a>(places: &Places<'a>, item: &Item<'a>) -> Option<ExprItem>
     ensures some { IfSome result (λ step. IsStep places.now (entry item.now) step) }
     ensures none { IfNone result (is_other_entry places.now (entry item.now) ≡ true) }
@@ -139,15 +139,15 @@ fn step<'a>(places: &Places<'a>, item: &Item<'a>) -> Option<ExprItem>
     }
 }
 
-/// The operation on angles; `^` is none.
-fn operator_of(operator: Operator) -> Option<qasm_angle::Operator>
+// The operation on angles; `^` is none.
+fn operator_of(operator: Operator) -> Option<qasm_angle::Operation>
     ensures { result ≡ (if is_power operator then None else Some (operator_of operator)) }
 {
     match operator {
-        Operator::Add => Some(qasm_angle::Operator::Add),
-        Operator::Subtract => Some(qasm_angle::Operator::Subtract),
-        Operator::Multiply => Some(qasm_angle::Operator::Multiply),
-        Operator::Divide => Some(qasm_angle::Operator::Divide),
+        Operator::Add => Some(qasm_angle::Operation::Add),
+        Operator::Subtract => Some(qasm_angle::Operation::Subtract),
+        Operator::Multiply => Some(qasm_angle::Operation::Multiply),
+        Operator::Divide => Some(qasm_angle::Operation::Divide),
         Operator::Power => None,
     }
 }

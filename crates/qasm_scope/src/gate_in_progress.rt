@@ -6,7 +6,7 @@ ghost use Rattle.qasm_reader.specs.Syntax.{BodyApplied, DeclareGate, GateForm};
 ghost use Rattle.qasm_reader.specs.Views.{body_sentence, form_of, gate_form};
 ghost use Rattle.qasm_scope.specs.declared.causes.Cause.{Cause};
 ghost use Rattle.qasm_scope.specs.Faults.{wrong_in, has_name_twice};
-ghost use Rattle.qasm_scope.specs.Internal.Begun.{IsBegun, IsFaultless};
+ghost use Rattle.qasm_scope.specs.Internal.Begun.{IsBegun, IsFaultlessGate};
 ghost use Rattle.qasm_scope.specs.Internal.Bodies.{apply_of};
 ghost use Rattle.qasm_scope.specs.Internal.Checks.{is_redeclared_by};
 ghost use Rattle.qasm_scope.specs.Internal.Kept.{Represents, gate_declaration};
@@ -93,7 +93,7 @@ impl<'a> GateInProgress<'a> {
         }
     }
 
-    /// Takes in an application. A call is kept of it as long as nothing is wrong.
+    // Takes in an application. A call is kept of it as long as nothing is wrong.
     fn take_application(
         &mut self,
         alloc: Global,
@@ -147,7 +147,7 @@ impl<'a> GateInProgress<'a> {
         replaceable: bool,
     ) -> Result<(), AllocError>
         ensures { OnOk result ((form : GateForm) (scope : Scope) → IsBegun names.old self.entry form
-            → Represents names.old scope → IsFaultless scope form replaceable
+            → Represents names.old scope → IsFaultlessGate scope form replaceable
             → Represents names.new (gate_declaration form replaceable ∷ scope)) }
     {
         let body = GateBody { calls: self.calls };
@@ -155,7 +155,7 @@ impl<'a> GateInProgress<'a> {
     }
 }
 
-/// Whether the gate's name is taken, or two formal names are equal.
+// Whether the gate's name is taken, or two formal names are equal.
 fn is_redeclared<'a>(
     alloc: Global,
     names: &Names<'a>,
@@ -171,7 +171,7 @@ fn is_redeclared<'a>(
     }
 }
 
-/// Whether two formal names of a gate are equal.
+// Whether two formal names of a gate are equal.
 fn repeats(alloc: Global, heading: &GateHeading<'_>) -> Result<bool, AllocError>
     ensures { IfOk result (λ twice. twice
         ≡ has_name_twice ((form_of heading.now []).parameters ++ (form_of heading.now []).qubits)) }

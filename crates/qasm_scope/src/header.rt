@@ -10,8 +10,8 @@ ghost use Rattle.qasm_scope.specs.declared.causes.Cause.{Cause};
 ghost use Rattle.qasm_scope.specs.Faults.{wrong_in, header_name};
 ghost use Rattle.qasm_scope.specs.Header.{header_text};
 ghost use Rattle.qasm_scope.specs.HeaderGates.{first_gates, further_gates};
-ghost use Rattle.qasm_scope.specs.Internal.Begun.{IsFaultless};
-ghost use Rattle.qasm_scope.specs.Internal.Included.{gate_in, gates_of, forms_of, any_declared_by, AreFirstFaultless, AreFurtherFaultless};
+ghost use Rattle.qasm_scope.specs.Internal.Begun.{IsFaultlessGate};
+ghost use Rattle.qasm_scope.specs.Internal.Included.{gate_in, gates_of, forms_of, any_declared, AreFirstFaultless, AreFurtherFaultless};
 ghost use Rattle.qasm_scope.specs.Internal.Kept.{Represents, gate_declaration};
 ghost use Rattle.qasm_scope.specs.Meaning.{with_first, with_further, with_header};
 ghost use Rattle.qasm_scope.specs.Scope.{Scope};
@@ -24,13 +24,13 @@ use qasm_lexer::{LexError, Token, lex};
 use qasm_reader::{GateDeclaration, ParseError, Program, StatementKind, parse};
 use std::alloc::{AllocError, Global};
 
-/// The file that the header stands for, as it is spelled.
+// The file that the header stands for, as it is spelled.
 const HEADER_NAME: &[u8] = b"\"qelib1.inc\"";
 
-/// How many gates the text's first part declares: no program that includes the header declares these names.
+// How many gates the text's first part declares: no program that includes the header declares these names.
 const FIRST_GATES: usize = 22;
 
-/// The header's text.
+// The header's text.
 const HEADER: &[u8] = b"\
 gate u3(theta,phi,lambda) q { U(theta,phi,lambda) q; }
 gate u2(phi,lambda) q { U(pi/2,phi,lambda) q; }
@@ -94,18 +94,18 @@ pub fn include<'a>(
     declare_all(alloc, names, &gates)
 }
 
-/// Declares the gates of the header, where none of the first ones' names is declared.
+// Declares the gates of the header, where none of the first ones' names is declared.
 fn declare_all<'a>(
     alloc: Global,
     names: &mut Names<'a>,
     gates: &[GateDeclaration<'a>],
 ) -> Result<(), StatementError>
     requires { forms_of gates.now ≡ first_gates ++ further_gates }
-    ensures ok { OnOk result (any_declared_by names.old.symbols first_gates ≡ false) }
+    ensures ok { OnOk result (any_declared names.old.symbols first_gates ≡ false) }
     ensures after { OnOk result ((scope : Scope) → Represents names.old scope
         → Represents names.new (with_header scope)) }
     ensures err { (cause : Cause) → result ≡ Err (StatementError.Wrong cause)
-        → (cause ≡ Cause.Redeclared) × (any_declared_by names.old.symbols first_gates ≡ true) }
+        → (cause ≡ Cause.Redeclared) × (any_declared names.old.symbols first_gates ≡ true) }
 {
     let (first, further) = gates.split_at(FIRST_GATES);
     if any_declared(names, first) {
@@ -116,21 +116,21 @@ fn declare_all<'a>(
     Ok(())
 }
 
-/// Whether a text with its quotes names the header.
+// Whether a text with its quotes names the header.
 fn is_header(text: &[u8]) -> bool
     ensures { result ≡ bytes_eq text.now header_name }
 {
     text == HEADER_NAME
 }
 
-/// The gates of the header, in order.
+// The gates of the header, in order.
 fn gates<'a>(alloc: Global) -> Result<Vec<GateDeclaration<'a>>, AllocError>
     ensures { IfOk result (λ gates. forms_of gates.items ≡ first_gates ++ further_gates) }
 {
     declared_gates(alloc, program(alloc)?)
 }
 
-/// The header's text as a program.
+// The header's text as a program.
 fn program<'a>(alloc: Global) -> Result<Program<'a>, AllocError>
     ensures { IfOk result (λ program. gates_of (statements_of program)
         ≡ first_gates ++ further_gates) }
@@ -144,7 +144,7 @@ fn program<'a>(alloc: Global) -> Result<Program<'a>, AllocError>
     }
 }
 
-/// The tokens of the header's text.
+// The tokens of the header's text.
 fn tokens<'a>(alloc: Global) -> Result<Vec<Token<'a>>, AllocError>
     ensures { IfOk result (λ tokens. IsCut 0 header_text (lexemes tokens.items)) }
 {
@@ -155,14 +155,14 @@ fn tokens<'a>(alloc: Global) -> Result<Vec<Token<'a>>, AllocError>
     }
 }
 
-/// The header's text.
+// The header's text.
 fn header<'a>() -> &'a [u8]
     ensures { result.now ≡ header_text }
 {
     HEADER
 }
 
-/// The gates that a program declares, in order.
+// The gates that a program declares, in order.
 fn declared_gates<'a>(
     alloc: Global,
     program: Program<'a>,
@@ -178,7 +178,7 @@ fn declared_gates<'a>(
     Ok(gates)
 }
 
-/// The gate that a statement declares.
+// The gate that a statement declares.
 fn declared_gate<'a>(kind: StatementKind<'a>) -> Option<GateDeclaration<'a>>
     ensures { option_map gate_form result ≡ gate_in (sentence kind.entry) }
 {
@@ -188,9 +188,9 @@ fn declared_gate<'a>(kind: StatementKind<'a>) -> Option<GateDeclaration<'a>>
     }
 }
 
-/// Whether the name of one of the gates is declared.
+// Whether the name of one of the gates is declared.
 fn any_declared<'a>(names: &Names<'a>, gates: &[GateDeclaration<'a>]) -> bool
-    ensures { result ≡ any_declared_by names.now.symbols (forms_of gates.now) }
+    ensures { result ≡ any_declared names.now.symbols (forms_of gates.now) }
 {
     for gate in gates {
         if names.is_declared(gate.heading.name) {
@@ -200,7 +200,7 @@ fn any_declared<'a>(names: &Names<'a>, gates: &[GateDeclaration<'a>]) -> bool
     false
 }
 
-/// Declares gates whose names may not be declared again.
+// Declares gates whose names may not be declared again.
 fn declare_first<'a>(
     alloc: Global,
     names: &mut Names<'a>,
@@ -216,7 +216,7 @@ fn declare_first<'a>(
     Ok(())
 }
 
-/// Declares those gates whose names are free. The program may declare these names again.
+// Declares those gates whose names are free. The program may declare these names again.
 fn declare_further<'a>(
     alloc: Global,
     names: &mut Names<'a>,
@@ -234,7 +234,7 @@ fn declare_further<'a>(
     Ok(())
 }
 
-/// Declares a gate with whose declaration nothing is wrong.
+// Declares a gate with whose declaration nothing is wrong.
 fn declare<'a>(
     alloc: Global,
     names: &mut Names<'a>,
@@ -242,7 +242,7 @@ fn declare<'a>(
     replaceable: bool,
 ) -> Result<(), AllocError>
     ensures { OnOk result ((scope : Scope) → Represents names.old scope
-        → IsFaultless scope (gate_form gate.now) replaceable
+        → IsFaultlessGate scope (gate_form gate.now) replaceable
         → Represents names.new (gate_declaration (gate_form gate.now) replaceable ∷ scope)) }
 {
     let gate = GateInProgress::of_declaration(alloc, names, gate)?;

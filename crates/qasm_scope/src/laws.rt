@@ -21,10 +21,8 @@ pub fn the_header_declares_its_gates()
 pub fn the_header_is_faultless()
     ensures first { (scope : Scope) (prefix : List GateForm) (form : GateForm) (back : List GateForm)
         → list_any (λ form. is_declared form.name scope) first_gates ≡ false
-        → first_gates ≡ prefix ++ form ∷ back
-        → wrong_in (with_first prefix scope) (DeclareGate form) ≡ None }
+        → first_gates ≡ prefix ++ form ∷ back → wrong_in (with_first prefix scope) (DeclareGate form) ≡ None }
     ensures further { (scope : Scope) (prefix : List GateForm) (form : GateForm) (back : List GateForm)
-        → further_gates ≡ prefix ++ form ∷ back
-        → is_declared form.name (with_further prefix (with_first first_gates scope)) ≡ false
-        → wrong_in (with_further prefix (with_first first_gates scope)) (DeclareGate form) ≡ None }
+        → further_gates ≡ prefix ++ form ∷ back → let before = with_further prefix (with_first first_gates scope) in
+        is_declared form.name before ≡ false → wrong_in before (DeclareGate form) ≡ None }
 {}

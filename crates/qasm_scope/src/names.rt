@@ -158,7 +158,7 @@ impl<'a> Names<'a> {
     }
 }
 
-/// Whether what a name stands for may not be declared again.
+// Whether what a name stands for may not be declared again.
 fn is_taken(symbol: Option<Symbol>) -> bool
     ensures { result ≡ symbol_taken symbol }
 {
@@ -169,7 +169,7 @@ fn is_taken(symbol: Option<Symbol>) -> bool
     }
 }
 
-/// The declared gate that a name stands for.
+// The declared gate that a name stands for.
 fn declared_gate(symbol: Option<Symbol>) -> Option<KnownGate>
     ensures shape { option_map gate_shape result ≡ symbol_shape symbol }
     ensures called { IfSome result (λ known. known.called ≡ CalledGate.Gate (number_in symbol)) }
@@ -191,7 +191,7 @@ fn declared_gate(symbol: Option<Symbol>) -> Option<KnownGate>
     }
 }
 
-/// The first qubit and the size of a register of qubits.
+// The first qubit and the size of a register of qubits.
 fn register(symbol: Option<Symbol>) -> Option<(usize, usize)>
     ensures { result ≡ symbol_register symbol }
 {

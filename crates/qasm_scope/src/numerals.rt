@@ -15,7 +15,14 @@ pub fn number(text: &[u8]) -> usize
     number
 }
 
-/// A number with one more digit, or the largest one where that is larger.
+/// A number as one of 16 bits, or the largest of these where it is larger.
+pub fn clamped(number: usize) -> u16
+    ensures { result ≡ min number (2 ^ 16 - 1) }
+{
+    u16::try_from(number).unwrap_or(u16::MAX)
+}
+
+// A number with one more digit, or the largest one where that is larger.
 fn with_digit(number: usize, digit: u8) -> usize
     ensures { (rest : List ℕ)
         → min (numeral_from result rest) (2 ^ 64 - 1)
@@ -24,11 +31,4 @@ fn with_digit(number: usize, digit: u8) -> usize
     number
         .saturating_mul(10)
         .saturating_add(usize::from(digit.saturating_sub(b'0')))
-}
-
-/// A number as one of 16 bits, or the largest of these where it is larger.
-pub fn clamped(number: usize) -> u16
-    ensures { result ≡ min number (2 ^ 16 - 1) }
-{
-    u16::try_from(number).unwrap_or(u16::MAX)
 }

@@ -42,7 +42,7 @@ impl<'a> Places<'a> {
         self.places.get(&name).copied()
     }
 
-    /// Puts a name at a place, unless it has one.
+    // Puts a name at a place, unless it has one.
     fn put(&mut self, name: &'a [u8], place: usize) -> Result<(), AllocError>
         ensures { OnOk result ((before : List (List ℕ)) → length before ≡ place
             → ArePlaces self.old before → ArePlaces self.new (before ++ name.now ∷ [])) }

@@ -15,7 +15,7 @@ use crate::names::Names;
 use crate::numerals::number;
 use crate::statement_error::StatementError;
 
-/// The most qubits that a circuit may have.
+// The most qubits that a circuit may have.
 const MOST_QUBITS: usize = 1024;
 
 /// Declares a register of qubits, where nothing is wrong with it.
@@ -70,7 +70,7 @@ pub fn declare_bits<'a>(
     Ok(())
 }
 
-/// What is wrong with a register of that size.
+// What is wrong with a register of that size.
 fn wrong_register<'a>(
     names: &Names<'a>,
     name: &'a [u8],
@@ -91,7 +91,7 @@ fn wrong_register<'a>(
     }
 }
 
-/// Whether there are too many qubits with so many more.
+// Whether there are too many qubits with so many more.
 fn is_too_many(qubits: usize, more: usize) -> bool
     ensures { result ≡ nat_lt most_qubits (qubits + more) }
 {

@@ -1,9 +1,18 @@
 //! The OpenQASM 2.0 text of a circuit.
+//!
+//! Proved of `write_text`: it gives exactly `written` of the circuit, byte by byte; that is a text
+//! of the language, the limits of bytes and calls aside, and means gates with the same map up to a
+//! nonzero scalar and as many odd phases.
+//!
+//! ```rust
+//! let text = write_text(alloc, &circuit)?;
+//! ```
 #![tactic(auto)]
 
-pub mod laws;
+mod laws;
 #[cfg(test)]
 mod tests;
 mod writer;
 
+pub use laws::written_texts_mean_their_circuits;
 pub use writer::write_text;

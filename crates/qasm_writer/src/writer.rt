@@ -31,7 +31,7 @@ pub fn write_text(alloc: Global, g: &GateList) -> Result<Vec<u8>, AllocError>
     Ok(text)
 }
 
-/// Adds the line of the register.
+// Adds the line of the register.
 fn push_register(text: &mut Vec<u8>, qubits: Qubit) -> Result<(), AllocError>
     ensures { OnOk result (text.new.items ≡ text.old.items ++ register_line qubits) }
 {
@@ -44,21 +44,21 @@ fn push_register(text: &mut Vec<u8>, qubits: Qubit) -> Result<(), AllocError>
     Ok(())
 }
 
-/// Adds the line of a gate.
+// Adds the line of a gate.
 fn push_gate(text: &mut Vec<u8>, gate: Gate) -> Result<(), AllocError>
     ensures { OnOk result (text.new.items ≡ text.old.items ++ gate_line gate) }
 {
     match gate {
         Gate::H(q) => push_on_one(text, b"h", q),
-        Gate::Phase(q, phase) => push_on_one(text, name_of_phase(phase), q),
+        Gate::Phase(q, phase) => push_on_one(text, phase_name(phase), q),
         Gate::Cz(q, r) => push_on_two(text, b"cz", q, r),
         Gate::Cx { control, target } => push_on_two(text, b"cx", control, target),
         Gate::Not(q) => push_on_one(text, b"x", q),
     }
 }
 
-/// The name of a phase gate.
-fn name_of_phase(phase: Eighth) -> &'static [u8]
+// The name of a phase gate.
+fn phase_name(phase: Eighth) -> &'static [u8]
     ensures { result.now ≡ phase_name phase }
 {
     match phase.get() {
@@ -72,7 +72,7 @@ fn name_of_phase(phase: Eighth) -> &'static [u8]
     }
 }
 
-/// Adds the line of a gate on one qubit.
+// Adds the line of a gate on one qubit.
 fn push_on_one(text: &mut Vec<u8>, name: &[u8], q: Qubit) -> Result<(), AllocError>
     ensures { OnOk result (text.new.items ≡ text.old.items ++ on_one name.now q) }
 {
@@ -83,7 +83,7 @@ fn push_on_one(text: &mut Vec<u8>, name: &[u8], q: Qubit) -> Result<(), AllocErr
     Ok(())
 }
 
-/// Adds the line of a gate on two qubits.
+// Adds the line of a gate on two qubits.
 fn push_on_two(text: &mut Vec<u8>, name: &[u8], q: Qubit, r: Qubit) -> Result<(), AllocError>
     ensures { OnOk result (text.new.items ≡ text.old.items ++ on_two name.now q r) }
 {
@@ -96,7 +96,7 @@ fn push_on_two(text: &mut Vec<u8>, name: &[u8], q: Qubit, r: Qubit) -> Result<()
     Ok(())
 }
 
-/// Adds a qubit of the register.
+// Adds a qubit of the register.
 fn push_qubit(text: &mut Vec<u8>, q: Qubit) -> Result<(), AllocError>
     ensures { OnOk result (text.new.items ≡ text.old.items ++ qubit q) }
 {
@@ -106,7 +106,7 @@ fn push_qubit(text: &mut Vec<u8>, q: Qubit) -> Result<(), AllocError>
     Ok(())
 }
 
-/// Adds a number in decimal digits.
+// Adds a number in decimal digits.
 fn push_number(text: &mut Vec<u8>, number: u16) -> Result<(), AllocError>
     ensures { OnOk result (text.new.items ≡ text.old.items ++ decimal number) }
 {

@@ -1,10 +1,10 @@
 -- What holds once a spider was added.
 use Rattle.std.proofs.Common.{◌≡◌, ◌≢◌, refl, sym, ◌∙◌, ap, ap₂, ℕ, zero, suc, Bool, true, false, ◌&&◌, ◌||◌, eqb, List, [], ◌∷◌, remove, eqb-true, true≢false}
 use Rattle.zx_model.specs.Bits.{xor, member}
-use Rattle.zx_calculus.specs.Graph.{XY, Kind, End, Graph, ids, kind_of, plane_of, joined, places, insert_vertex, Live, OrderedEnds, WellFormed}
-use Rattle.zx_calculus.specs.Boundary.{spider_of_phase_zero, is_pair}
+use Rattle.zx_calculus.specs.Graph.{XY, Kind, End, Graph, ids, kind_of, plane_of, joined, end_vertices, insert_vertex, Live, OrderedEnds, WellFormed}
+use Rattle.zx_calculus.specs.Splits.{spider_of_phase_zero}
+use Rattle.zx_calculus.specs.Edits.{is_pair, IsToggle}
 use Rattle.zx_calculus.specs.Turns.{in_plane}
-use Rattle.zx_calculus.specs.Edits.{IsToggle}
 use Rattle.zx_calculus.proofs.Booleans.{or-apart, or-true}
 use Rattle.zx_calculus.proofs.Ids.{eqb-self, or-left, or-right, apart_of_member}
 use Rattle.zx_calculus.proofs.Edges.{joined_comm}
@@ -13,8 +13,8 @@ use Rattle.zx_calculus.proofs.Splitting.{all_at, absent_from, joined-absent}
 use Rattle.zx_boundary.specs.Internal.Spiders.{IsSpiderAdded}
 
 -- the vertex of an end is live
-pub end_live : (g : Graph) (ends : List End) (b : ℕ) → OrderedEnds g.vertices ends → member b (places ends) ≡ true → Live g b
-end_live g ends b o there = all_at (λ u. member u (ids g.vertices)) (places ends) b o.there there
+pub end_live : (g : Graph) (ends : List End) (b : ℕ) → OrderedEnds g.vertices ends → member b (end_vertices ends) ≡ true → Live g b
+end_live g ends b o there = all_at (λ u. member u (ids g.vertices)) (end_vertices ends) b o.there there
 
 -- ---- g is the graph with the new vertex, before its edge
 module _ (old : Graph) (b new phase : ℕ) (g : Graph) (b_live : Live old b) (fresh : member new (ids old.vertices) ≡ false) (zero_phase : phase ≡ 0)
@@ -67,7 +67,7 @@ module _ (old : Graph) (b new : ℕ) (h : Graph) (s : IsSpiderAdded old b new h)
   pub new_plane : plane_of h new ≡ XY
   new_plane = ap (λ vs. (kind_of vs new).plane) s.vertices ∙ ap (λ (k : Kind). k.plane) (kind_of-insert (spider_of_phase_zero new) old.vertices s.fresh)
 
-absent-remove : (v : ℕ) (es : List End) (i : ℕ) → member v (places es) ≡ false → member v (places (remove es i)) ≡ false
+absent-remove : (v : ℕ) (es : List End) (i : ℕ) → member v (end_vertices es) ≡ false → member v (end_vertices (remove es i)) ≡ false
 absent-remove v [] zero absent = refl
 absent-remove v [] (suc i) absent = refl
 absent-remove v (e ∷ es) zero absent = or-right (eqb v e.vertex) _ absent
@@ -76,5 +76,5 @@ absent-remove v (e ∷ es) (suc i) absent =
 
 -- an end may move to the new vertex
 pub new_free : (old : Graph) (new : ℕ) (ends : List End) (i : ℕ) → OrderedEnds old.vertices ends → member new (ids old.vertices) ≡ false →
-    member new (places (remove ends i)) ≡ false
-new_free old new ends i o fresh = absent-remove new ends i (absent_from (ids old.vertices) (places ends) new o.there fresh)
+    member new (end_vertices (remove ends i)) ≡ false
+new_free old new ends i o fresh = absent-remove new ends i (absent_from (ids old.vertices) (end_vertices ends) new o.there fresh)

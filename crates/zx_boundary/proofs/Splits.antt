@@ -2,35 +2,35 @@
 use Rattle.std.proofs.Common.{◌≡◌, refl, sym, ◌∙◌, ap, subst, not, ℕ, zero, suc, ◌<◌, true, List, [], ◌∷◌, length, set, slice_get, get_or, Some}
 use Rattle.std.proofs.lemmas.Option.{slice_get-get_or, slice_get_within, same_Some}
 use Rattle.zx_model.specs.Bits.{member}
-use Rattle.zx_calculus.specs.Graph.{End, Graph, ids, joined, places, in_order, different, OrderedEdges}
-use Rattle.zx_calculus.specs.Boundary.{move_end, IsSplitInput, IsSplitOutput}
+use Rattle.zx_calculus.specs.Graph.{End, Graph, ids, joined, end_vertices, in_order, different, OrderedEdges}
+use Rattle.zx_calculus.specs.Splits.{move_end, IsSplitInput, IsSplitOutput}
 use Rattle.zx_calculus.proofs.Edits.{set-move_end}
-use Rattle.gflow_laws.specs.Tables.{new_vertex}
-use Rattle.gflow_laws.proofs.SplitViews.{new_vertex-split}
+use Rattle.gflow_laws.specs.Splits.{new_vertex}
+use Rattle.gflow_laws.proofs.Splits.{new_vertex-split}
 use Rattle.zx_boundary.specs.Internal.Spiders.{IsSpiderAdded}
 
-length-places : (ends : List End) → length (places ends) ≡ length ends
+length-places : (ends : List End) → length (end_vertices ends) ≡ length ends
 length-places [] = refl
 length-places (e ∷ es) = ap (λ n. suc n) (length-places es)
 
-slice_get-places : (ends : List End) (i : ℕ) (e : End) → slice_get ends i ≡ Some e → slice_get (places ends) i ≡ Some e.vertex
+slice_get-places : (ends : List End) (i : ℕ) (e : End) → slice_get ends i ≡ Some e → slice_get (end_vertices ends) i ≡ Some e.vertex
 slice_get-places [] i e found = cc
 slice_get-places (d ∷ ds) zero e found = ap (λ (c : End). Some c.vertex) (same_Some d e found)
 slice_get-places (d ∷ ds) (suc i) e found = slice_get-places ds i e found
 
 -- the place of an end is in range
-pub place_within : (ends : List End) (i b : ℕ) → slice_get (places ends) i ≡ Some b → i < length ends
-place_within ends i b found = subst (λ n. i < n) (length-places ends) (slice_get_within (places ends) i b found)
+pub place_within : (ends : List End) (i b : ℕ) → slice_get (end_vertices ends) i ≡ Some b → i < length ends
+place_within ends i b found = subst (λ n. i < n) (length-places ends) (slice_get_within (end_vertices ends) i b found)
 
 -- the end at its place, written back at the new vertex
-pub end_moved : (ends : List End) (i b new : ℕ) (e d : End) → in_order different (places ends) ≡ true → slice_get (places ends) i ≡ Some b → e ≡ get_or ends i e →
+pub end_moved : (ends : List End) (i b new : ℕ) (e d : End) → in_order different (end_vertices ends) ≡ true → slice_get (end_vertices ends) i ≡ Some b → e ≡ get_or ends i e →
     d ≡ record { vertex = new; hadamard = not e.hadamard } → set ends i d ≡ move_end b new ends
 end_moved ends i b new e d once found read written =
     let here : slice_get ends i ≡ Some e = slice_get-get_or ends i e (place_within ends i b found) ∙ ap Some (sym read) in
     let same : e.vertex ≡ b = same_Some e.vertex b (sym (slice_get-places ends i e here) ∙ found) in
     ap (λ c. set ends i c) written ∙ set-move_end ends i e new once here ∙ ap (λ v. move_end v new ends) same
 
-pub input_split : (old : Graph) (b new : ℕ) (h k : Graph) (inputs : List End) → IsSpiderAdded old b new h → member b (places old.inputs) ≡ true →
+pub input_split : (old : Graph) (b new : ℕ) (h k : Graph) (inputs : List End) → IsSpiderAdded old b new h → member b (end_vertices old.inputs) ≡ true →
     inputs ≡ move_end b new old.inputs → k ≡ record { vertices = h.vertices; edges = h.edges; inputs = inputs; outputs = h.outputs } → IsSplitInput old b k
 input_split old b new h k inputs s there moved made = record {
   new = new;
@@ -43,7 +43,7 @@ input_split old b new h k inputs s there moved made = record {
   outputs = ap (λ (g : Graph). g.outputs) made ∙ s.outputs;
 }
 
-pub output_split : (old : Graph) (b new : ℕ) (h k : Graph) (outputs : List End) → IsSpiderAdded old b new h → member b (places old.outputs) ≡ true →
+pub output_split : (old : Graph) (b new : ℕ) (h k : Graph) (outputs : List End) → IsSpiderAdded old b new h → member b (end_vertices old.outputs) ≡ true →
     outputs ≡ move_end b new old.outputs → k ≡ record { vertices = h.vertices; edges = h.edges; inputs = h.inputs; outputs = outputs } → IsSplitOutput old b k
 output_split old b new h k outputs s there moved made = record {
   new = new;

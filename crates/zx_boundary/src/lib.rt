@@ -1,8 +1,24 @@
-//! The split of an end: an identity spider between a vertex and its input or output wire.
+//! The split of an end, of a graph with its flow: a spider of phase 0 between a vertex and its
+//! input or output wire.
+//!
+//! Proved of `split_input` and `split_output` of a vertex with that end: with Ok the graph is the
+//! rewritten one and the flow the table that `gflow_laws` gives for that, a flow of the new graph;
+//! the sum is kept with the exact factors of `zx_calculus`, and odd phases don't rise; want of
+//! memory leaves both as they were.
+//! `may_split_input` and `may_split_output` tell exactly where each is allowed.
+//! `split_input_in_place` and `split_output_in_place` make the same change without copies; where
+//! memory runs out they say nothing.
+//!
+//! ```rust
+//! if may_split_output(&graph, b) {
+//!     split_output(&mut graph, &mut flow, b)?;
+//! }
+//! ```
 #![tactic(auto)]
 
-pub mod flow;
-pub mod graph;
-pub mod rewrite;
+mod inputs;
+mod outputs;
+mod spider;
 
-pub use rewrite::{split_input, split_output};
+pub use inputs::{may_split_input, split_input, split_input_in_place};
+pub use outputs::{may_split_output, split_output, split_output_in_place};

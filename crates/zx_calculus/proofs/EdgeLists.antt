@@ -3,7 +3,7 @@ use Rattle.std.proofs.Common.{◌≡◌, ◌≢◌, ◌⊎◌, inl, inr, refl, s
 use Rattle.std.specs.List.{list_all}
 use Rattle.zx_model.specs.Bits.{member}
 use Rattle.zx_calculus.specs.Graph.{Edge, joins, joined, in_order, edge_before, OrderedEdges}
-use Rattle.zx_calculus.specs.After.{edges_from, edges_of}
+use Rattle.zx_calculus.specs.Adjacency.{edges_from, edges_of}
 use Rattle.zx_calculus.proofs.Booleans.{or-true, or_assoc, and-true, and-false}
 use Rattle.zx_calculus.proofs.Ids.{by_test, by_equal, and-left, and-right, or-left, or-right, member-here, member-there, Symmetric}
 use Rattle.zx_calculus.proofs.Edges.{joins-true, edge_before-true, apart_later}

@@ -2,16 +2,15 @@
 use Rattle.std.proofs.Common.{◌≡◌, ◌≢◌, refl, sym, ◌∙◌, ap, ap₂, ℕ, Bool, true, false, ◌&&◌, ◌||◌, eqb, ltb, List, ne_eqb}
 use Rattle.zx_model.specs.Bits.{xor, member}
 use Rattle.zx_calculus.specs.Graph.{Graph, ids, joined, in_order, without, Live, WellFormed}
-use Rattle.zx_calculus.specs.Boundary.{is_pair}
-use Rattle.zx_calculus.specs.After.{adjacent_graph}
-use Rattle.zx_calculus.specs.Edits.{IsToggle, IsRemoval}
+use Rattle.zx_calculus.specs.Edits.{is_pair, IsToggle, IsRemoval}
+use Rattle.zx_calculus.specs.Adjacency.{adjacent_graph}
 use Rattle.zx_calculus.proofs.Ids.{by_equal, Symmetric, apart_of_member}
 use Rattle.zx_calculus.proofs.Edges.{joined_comm}
 use Rattle.zx_calculus.proofs.Forms.{ids-without}
 use Rattle.zx_calculus.proofs.Splitting.{joined-self, joined-absent, member-without, no_loop}
 use Rattle.zx_calculus.proofs.Kept.{in_order-removed}
 use Rattle.zx_calculus.proofs.EdgeLists.{OrderedEdges-edges_of, edges_ext}
-use Rattle.zx_calculus.proofs.Results.{is_pair_comm, is_pair-self}
+use Rattle.zx_calculus.proofs.Splits.{is_pair_comm, is_pair-self}
 use Rattle.zx_calculus.proofs.Programs.{edges_full, removal_edges}
 
 -- whether p and q are adjacent once the pair of u and v is toggled
@@ -66,19 +65,3 @@ pub toggle_unique : (g : Graph) (u v : ℕ) (h k : Graph) → IsToggle g u v h �
 toggle_unique g u v h k c d =
     let edges = edges_ext h.edges k.edges c.ordered.lower_first d.ordered.lower_first c.ordered.rising d.ordered.rising (λ p q n. c.edges p q ∙ sym (d.edges p q)) in
     λ j. record { vertices = (c.vertices ∙ sym d.vertices) j; edges = edges j; inputs = (c.inputs ∙ sym d.inputs) j; outputs = (c.outputs ∙ sym d.outputs) j }
-
-pub removal_unique : (g : Graph) (u : ℕ) (h k : Graph) → IsRemoval g u h → IsRemoval g u k → h ≡ k
-removal_unique g u h k c d =
-    let edges = edges_ext h.edges k.edges c.ordered.lower_first d.ordered.lower_first c.ordered.rising d.ordered.rising adjacent in
-    λ j. record { vertices = (c.vertices ∙ sym d.vertices) j; edges = edges j; inputs = (c.inputs ∙ sym d.inputs) j; outputs = (c.outputs ∙ sym d.outputs) j }
-  where
-    -- u is no end of an edge
-    gone : (x : Graph) → IsRemoval g u x → (q : ℕ) → joined x.edges u q ≡ false
-    gone x r q = joined-absent (ids x.vertices) x.edges u q r.ordered.lower_there r.ordered.higher_there (ap (λ vs. member u (ids vs)) r.vertices ∙ member-without u g.vertices)
-
-    adjacent : (p q : ℕ) → p ≢ q → joined h.edges p q ≡ joined k.edges p q
-    adjacent p q n =
-        by_equal p u (λ t e. ap (λ r. joined h.edges r q) e ∙ gone h c q ∙ sym (ap (λ r. joined k.edges r q) e ∙ gone k d q))
-        (λ f i. by_equal q u
-        (λ t e. ap (joined h.edges p) e ∙ joined_comm h.edges p u ∙ gone h c p ∙ sym (ap (joined k.edges p) e ∙ joined_comm k.edges p u ∙ gone k d p))
-        (λ f' j. c.edges p q i j ∙ sym (d.edges p q i j)))

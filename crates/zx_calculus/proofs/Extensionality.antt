@@ -70,13 +70,6 @@ kinds_ext (v ∷ vs) (w ∷ ws) d e h = ap₂ (λ z zs. z ∷ zs) (λ j. record 
 pub vertices_ext : (vs ws : List Vertex) → in_order ltb (ids vs) ≡ true → in_order ltb (ids ws) ≡ true → ((p : ℕ) → member p (ids vs) ≡ member p (ids ws)) → ((p : ℕ) → member p (ids vs) ≡ true → kind_of vs p ≡ kind_of ws p) → vs ≡ ws
 vertices_ext vs ws o o' members kinds = kinds_ext vs ws (Distinct-rising (ids vs) o) (rising_ext (ids vs) (ids ws) o o' members) kinds
 
-pub graph_ext : (g h : Graph) → WellFormed g → WellFormed h → ((p : ℕ) → member p (ids g.vertices) ≡ member p (ids h.vertices)) → ((p : ℕ) → member p (ids g.vertices) ≡ true → kind_of g.vertices p ≡ kind_of h.vertices p) →
-    ((p q : ℕ) → p ≢ q → joined g.edges p q ≡ joined h.edges p q) → g.inputs ≡ h.inputs → g.outputs ≡ h.outputs → g ≡ h
-graph_ext g h w w' members kinds adjacent inputs outputs =
-    let vertices = vertices_ext g.vertices h.vertices w.vertices_rising w'.vertices_rising members kinds in
-    let edges = edges_ext g.edges h.edges w.edges.lower_first w'.edges.lower_first w.edges.rising w'.edges.rising adjacent in
-    λ j. record { vertices = vertices j; edges = edges j; inputs = inputs j; outputs = outputs j }
-
 -- a rising list of those adjacent to u is the list of its neighbours
 pub neighbours_ext : (g : Graph) (u : ℕ) (row : List ℕ) → WellFormed g → in_order ltb row ≡ true → ((p : ℕ) → member p row ≡ joined g.edges u p) → row ≡ neighbours g u
 neighbours_ext g u row w rising tells =

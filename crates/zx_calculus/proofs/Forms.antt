@@ -6,7 +6,7 @@ use Rattle.zx_model.specs.Number.{Number, add, mul, sign}
 use Rattle.zx_model.specs.Sums.{total, all_labels, label_of, labelled, over, sum_over}
 use Rattle.zx_model.proofs.Ring.{mul-sign, mul_left_comm, expand}
 use Rattle.zx_calculus.specs.Parity.{masked, quad}
-use Rattle.zx_calculus.specs.Graph.{Kind, Vertex, End, Graph, ids, kind_of, joined, places, without, WellFormed}
+use Rattle.zx_calculus.specs.Graph.{Kind, Vertex, End, Graph, ids, kind_of, joined, end_vertices, without, WellFormed}
 use Rattle.zx_calculus.specs.Sum.{factor, vertex_product, end_product, end_factor, term, sum}
 use Rattle.zx_calculus.proofs.Ids.{by_equal, removed, Distinct, Distinct-rising, Symmetric, quad_front, or-left, or-right, apart_of_member}
 use Rattle.zx_calculus.proofs.Parity.{masked_labels, quad_labels}
@@ -90,7 +90,7 @@ vertex_product-labelled u (v ∷ vs) label h absent =
     eqb_of : (p q : ℕ) → p ≡ q → eqb p q ≡ true
     eqb_of p q e = by_equal p q (λ t s. t) (λ f n. absurd (n e))
 
-pub end_product-labelled : (u : ℕ) (ends : List End) (bits : List Bool) (label : ℕ → Bool) (h : Bool) → member u (places ends) ≡ false → end_product ends bits (labelled label u h) ≡ end_product ends bits label
+pub end_product-labelled : (u : ℕ) (ends : List End) (bits : List Bool) (label : ℕ → Bool) (h : Bool) → member u (end_vertices ends) ≡ false → end_product ends bits (labelled label u h) ≡ end_product ends bits label
 end_product-labelled u [] bits label h absent = refl
 end_product-labelled u (e ∷ es) [] label h absent = refl
 end_product-labelled u (e ∷ es) (b ∷ bits) label h absent =
@@ -99,7 +99,7 @@ end_product-labelled u (e ∷ es) (b ∷ bits) label h absent =
     (labelled-other label u h e.vertex (λ q. by_equal u e.vertex (λ t s. true≢false (sym t ∙ apart)) (λ f n. n (sym q))))
     (end_product-labelled u es bits label h (or-right _ _ absent))
 
-pub at_ends-ignores : (inputs outputs : List End) (x y : List Bool) (u : ℕ) → member u (places inputs) ≡ false → member u (places outputs) ≡ false → Ignores (at_ends inputs outputs x y) u
+pub at_ends-ignores : (inputs outputs : List End) (x y : List Bool) (u : ℕ) → member u (end_vertices inputs) ≡ false → member u (end_vertices outputs) ≡ false → Ignores (at_ends inputs outputs x y) u
 at_ends-ignores inputs outputs x y u no_input no_output label h =
     ap₂ mul (end_product-labelled u inputs x label h no_input) (end_product-labelled u outputs y label h no_output)
 

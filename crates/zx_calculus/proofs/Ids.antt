@@ -1,5 +1,5 @@
 -- Lists of different ids: one of them brought to the front.
-use Rattle.std.proofs.Common.{◌≡◌, ◌≢◌, refl, sym, ◌∙◌, ap, ap₂, ℕ, ◌<◌, Bool, true, false, cond, not, ◌&&◌, ◌||◌, eqb, ltb, List, [], ◌∷◌, filter, true≢false, eqb-true, eq-eqb, ne_eqb, ltb-true, arith}
+use Rattle.std.proofs.Common.{◌≡◌, ◌≢◌, refl, sym, ◌∙◌, ap, ap₂, ℕ, ◌<◌, Bool, true, false, cond, not, ◌&&◌, ◌||◌, eqb, ltb, List, [], ◌∷◌, ◌++◌, filter, true≢false, eqb-true, eq-eqb, ne_eqb, ltb-true, arith}
 use Rattle.std.proofs.lemmas.Bool.{eqb-false}
 use Rattle.std.specs.List.{list_all}
 pub use Rattle.zx_model.proofs.BitLemmas.{and-left, and-right}
@@ -7,7 +7,7 @@ pub use Rattle.zx_calculus.specs.Graph.{Distinct}
 use Rattle.zx_model.specs.Bits.{xor, member}
 use Rattle.zx_calculus.specs.Parity.{masked, quad}
 use Rattle.zx_calculus.specs.Graph.{in_order, different}
-use Rattle.zx_calculus.proofs.Booleans.{parities, or-true, and-false}
+use Rattle.zx_calculus.proofs.Booleans.{parities, or-true, or_assoc, and-false}
 
 -- a choice by a test, with what it says
 pub by_test : {P : Type 0} (b : Bool) → (b ≡ true → P) → (b ≡ false → P) → P
@@ -40,6 +40,10 @@ member-here v vs = ap (λ b. b || member v vs) (eqb-self v)
 
 pub member-there : (w v : ℕ) (vs : List ℕ) → member w vs ≡ true → member w (v ∷ vs) ≡ true
 member-there w v vs there = ap (λ b. eqb w v || b) there ∙ or-true (eqb w v)
+
+pub member-append : (w : ℕ) (xs ys : List ℕ) → member w (xs ++ ys) ≡ (member w xs || member w ys)
+member-append w [] ys = refl
+member-append w (x ∷ xs) ys = ap (λ b. eqb w x || b) (member-append w xs ys) ∙ or_assoc (eqb w x) (member w xs) (member w ys)
 
 pub member-filter : (t : ℕ → Bool) (xs : List ℕ) (p : ℕ) → member p (filter t xs) ≡ (member p xs && t p)
 member-filter t [] p = refl

@@ -2,7 +2,7 @@
 use Rattle.std.proofs.Common.{◌≡◌, ◌≢◌, sym, ◌∙◌, ap, ap₂, ℕ, Bool, true, false, ◌&&◌, eqb, List, ne_eqb}
 use Rattle.zx_model.specs.Bits.{xor, member}
 use Rattle.zx_calculus.specs.Parity.{quad}
-use Rattle.zx_calculus.specs.Boundary.{is_pair}
+use Rattle.zx_calculus.specs.Edits.{is_pair}
 use Rattle.zx_calculus.proofs.Booleans.{parities, or-apart, and-false}
 use Rattle.zx_calculus.proofs.Ids.{by_equal, Distinct}
 use Rattle.zx_calculus.proofs.Parity.{quad-xor, masked_same, masked-false, cross_identity}

@@ -1,20 +1,21 @@
 -- A graph in which no move is left is reduced, and a reduced graph has few vertices.
 use Rattle.std.proofs.Common.{◌≡◌, ◌≢◌, ◌⊎◌, inl, inr, refl, sym, ◌∙◌, ap, ap₂, subst, ℕ, suc, ◌+◌, ◌%◌, ◌<◌, ◌≤◌, Bool, true, false, not, ◌&&◌, ◌||◌, eqb, List, [], ◌∷◌, length, eq-eqb, true≢false, arith}
 use Rattle.std.specs.List.{list_all}
-use Rattle.zx_model.specs.Phase.{turn, half_turn, quarter_turn, is_odd}
+use Rattle.zx_model.specs.Phase.{turn, half_turn, quarter_turn, is_odd, IsHalfTurns, IsQuarterTurn}
 use Rattle.zx_model.specs.Bits.{member, one_if}
-use Rattle.zx_model.proofs.Odd.{rest-even}
-use Rattle.zx_calculus.specs.Graph.{Plane, XY, XZ, YZ, Vertex, End, Graph, ids, places, is_XY, kind_of, plane_of, phase_of, joined, neighbours, Live, Interior, WellFormed}
-use Rattle.zx_calculus.specs.Reduced.{is_interior, even_interior, odd_phases, not_XY, IsReduced}
-use Rattle.zx_calculus.specs.Counts.{XY_without_output}
-use Rattle.zx_calculus.specs.Moves.{IsHalfTurns, IsQuarterTurn, IsHalfSpider, IsStuck, HasInnerNeighbours}
+use Rattle.zx_model.proofs.Phases.{even_phases}
+use Rattle.zx_calculus.specs.Graph.{Plane, XY, XZ, YZ, Vertex, End, Graph, ids, end_vertices, is_XY, kind_of, plane_of, phase_of, joined, neighbours, Live, Interior, WellFormed, is_interior}
+use Rattle.zx_calculus.specs.Counts.{even_interior, odd_phases, not_XY, XY_without_output}
+use Rattle.zx_calculus.specs.Reduced.{IsReduced}
+use Rattle.zx_calculus.specs.Moves.{IsHalfSpider, IsStuck, HasInnerNeighbours}
 use Rattle.zx_calculus.proofs.Booleans.{or-true}
 use Rattle.zx_calculus.proofs.Ids.{by_test, by_equal, or-left, or-right, not-true, eqb-self, Distinct}
 use Rattle.zx_calculus.proofs.Vertices.{phase-kind_of}
 use Rattle.zx_calculus.proofs.Splitting.{distinct, interior_of, off_XY, all_at}
-use Rattle.zx_calculus.proofs.Results.{interior_from}
+use Rattle.zx_calculus.proofs.Results.{interior_from, interior_true}
 use Rattle.zx_calculus.proofs.Programs.{neighbour}
-use Rattle.zx_calculus.proofs.StepCounts.{interior_true, YZ_apart, half_turns_even}
+use Rattle.zx_calculus.proofs.Counting.{YZ_apart}
+use Rattle.zx_calculus.proofs.Deletions.{half_turns_even}
 use Rattle.zx_calculus.proofs.CountLemmas.{count, count-cons, count_at_most}
 
 -- ---- bounds
@@ -72,7 +73,7 @@ count_listed (x ∷ xs) vs d =
     together : (a b c d : ℕ) → a + b ≤ c + d → c ≤ 1 → d ≤ length xs → a ≤ suc (length xs)
     together a b c d e f g = omega arith
 
-length-places : (ends : List End) → length (places ends) ≡ length ends
+length-places : (ends : List End) → length (end_vertices ends) ≡ length ends
 length-places [] = refl
 length-places (e ∷ es) = ap (λ n. suc n) (length-places es)
 
@@ -85,9 +86,9 @@ by_plane YZ f g h = h refl
 -- an XY vertex without an output has an input or an odd phase
 pub reduced_few : (g : Graph) → WellFormed g → IsReduced g → XY_without_output g + not_XY g ≤ length g.inputs + odd_phases g
 reduced_few g w r =
-    few _ _ _ _ (count_at_most (λ p k. is_XY k.plane && not (member p (places g.outputs))) (λ p k. not (is_XY k.plane)) (λ p k. member p (places g.inputs)) (λ p k. is_odd k.phase)
+    few _ _ _ _ (count_at_most (λ p k. is_XY k.plane && not (member p (end_vertices g.outputs))) (λ p k. not (is_XY k.plane)) (λ p k. member p (end_vertices g.inputs)) (λ p k. is_odd k.phase)
     g.vertices (distinct g w) each)
-    (count_listed (places g.inputs) g.vertices (distinct g w)) (length-places g.inputs)
+    (count_listed (end_vertices g.inputs) g.vertices (distinct g w)) (length-places g.inputs)
   where
     at_least : (i b : Bool) → b ≡ true → 1 ≤ one_if i + one_if b
     at_least true true e = omega arith
@@ -97,26 +98,18 @@ reduced_few g w r =
     few : (a b c d : ℕ) → a ≤ b + c → b ≤ d → d ≡ length g.inputs → a ≤ length g.inputs + c
     few a b c d e f h = omega arith
 
-    by_ends : (p : ℕ) → Live g p → (xy i o : Bool) → is_XY (plane_of g p) ≡ xy → member p (places g.inputs) ≡ i → member p (places g.outputs) ≡ o
+    by_ends : (p : ℕ) → Live g p → (xy i o : Bool) → is_XY (plane_of g p) ≡ xy → member p (end_vertices g.inputs) ≡ i → member p (end_vertices g.outputs) ≡ o
         → one_if (xy && not o) + one_if (not xy) ≤ one_if i + one_if (is_odd (phase_of g p))
     by_ends p m true i true x y z = omega arith
     by_ends p m true true false x y z = omega arith
     by_ends p m true false false x y z = at_least false _ (r.odd p m (record { no_input = y; no_output = z }))
     by_ends p m false i o x y z = at_least i _ (r.odd p m (interior_of g p w x))
 
-    each : (p : ℕ) → Live g p → one_if (is_XY (plane_of g p) && not (member p (places g.outputs))) + one_if (not (is_XY (plane_of g p)))
-        ≤ one_if (member p (places g.inputs)) + one_if (is_odd (phase_of g p))
-    each p m = by_ends p m (is_XY (plane_of g p)) (member p (places g.inputs)) (member p (places g.outputs)) refl refl refl
+    each : (p : ℕ) → Live g p → one_if (is_XY (plane_of g p) && not (member p (end_vertices g.outputs))) + one_if (not (is_XY (plane_of g p)))
+        ≤ one_if (member p (end_vertices g.inputs)) + one_if (is_odd (phase_of g p))
+    each p m = by_ends p m (is_XY (plane_of g p)) (member p (end_vertices g.inputs)) (member p (end_vertices g.outputs)) refl refl refl
 
 -- ---- no move is left
--- an even phase is one of four
-even_phases : (k : ℕ) → k < turn → is_odd k ≡ false → IsHalfTurns k ⊎ IsQuarterTurn k
-even_phases k below e =
-    let rest : k % quarter_turn ≡ 0 = rest-even k e in
-    by_equal k 0 (λ _ z. inl (inl z)) (λ _ n.
-    by_equal k half_turn (λ _ z. inl (inr z)) (λ _ m.
-    by_equal k quarter_turn (λ _ z. inr (inl z)) (λ _ l. inr (inr (omega arith)))))
-
 not-false : (b : Bool) → not b ≡ false → b ≡ true
 not-false true h = refl
 not-false false h = absurd (true≢false h)

@@ -4,7 +4,7 @@ use Rattle.std.proofs.lemmas.Bool.{le-ltb}
 use Rattle.std.specs.List.{list_all}
 use Rattle.zx_model.specs.Bits.{member}
 use Rattle.zx_calculus.specs.Graph.{Vertex, ids, kind_of, in_order, without, insert_vertex}
-use Rattle.zx_calculus.specs.Boundary.{is_pair}
+use Rattle.zx_calculus.specs.Edits.{is_pair}
 use Rattle.zx_calculus.proofs.Ids.{by_equal, and-left, and-right, member-below, Symmetric}
 use Rattle.zx_calculus.proofs.Booleans.{or-false}
 use Rattle.zx_calculus.proofs.Forms.{without-absent}

@@ -5,7 +5,7 @@ use Rattle.zx_model.specs.Bits.{member}
 use Rattle.zx_model.specs.Number.{mul}
 use Rattle.zx_model.specs.Sums.{sum_over}
 use Rattle.zx_calculus.specs.Parity.{masked}
-use Rattle.zx_calculus.specs.Graph.{Plane, XY, XZ, YZ, Vertex, Edge, Graph, ids, kind_of, plane_of, is_XY, joins, joined, places, without, WellFormed, Live, Interior}
+use Rattle.zx_calculus.specs.Graph.{Plane, XY, XZ, YZ, Vertex, Edge, Graph, ids, kind_of, plane_of, is_XY, is_YZ, joins, joined, end_vertices, without, WellFormed, Live, Interior}
 use Rattle.zx_calculus.specs.Sum.{sum}
 use Rattle.zx_calculus.proofs.Ids.{by_test, by_equal, Distinct, Distinct-rising, Distinct-removed, member-removed, and-left, and-right}
 use Rattle.zx_calculus.proofs.Edges.{joined_comm, joins-true}
@@ -54,7 +54,7 @@ no_end vs (p ∷ ps) u h off =
     (λ t n. rw t (no_end vs ps u (and-right _ _ h) off))
 
 pub interior_of : (g : Graph) (u : ℕ) → WellFormed g → is_XY (plane_of g u) ≡ false → Interior g u
-interior_of g u w off = record { no_input = no_end g.vertices (places g.inputs) u w.inputs.at_XY off; no_output = no_end g.vertices (places g.outputs) u w.outputs.at_XY off }
+interior_of g u w off = record { no_input = no_end g.vertices (end_vertices g.inputs) u w.inputs.at_XY off; no_output = no_end g.vertices (end_vertices g.outputs) u w.outputs.at_XY off }
 
 pub off_XY : (plane : Plane) → plane ≢ XY → is_XY plane ≡ false
 off_XY XY n = absurd (n refl)
@@ -65,6 +65,11 @@ pub plane_XY : (plane : Plane) → is_XY plane ≡ true → plane ≡ XY
 plane_XY XY h = refl
 plane_XY XZ h = absurd (true≢false (sym h))
 plane_XY YZ h = absurd (true≢false (sym h))
+
+pub plane_YZ : (plane : Plane) → is_YZ plane ≡ true → plane ≡ YZ
+plane_YZ XY h = absurd (true≢false (sym h))
+plane_YZ XZ h = absurd (true≢false (sym h))
+plane_YZ YZ h = refl
 
 pub all_at : (p : ℕ → Bool) (xs : List ℕ) (u : ℕ) → list_all p xs ≡ true → member u xs ≡ true → p u ≡ true
 all_at p [] u h there = absurd (true≢false (sym there))

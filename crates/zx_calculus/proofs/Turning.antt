@@ -11,7 +11,9 @@ use Rattle.zx_calculus.specs.Graph.{Plane, XY, XZ, YZ}
 use Rattle.zx_calculus.specs.Sum.{factor, factor_in, spider}
 use Rattle.zx_calculus.specs.Turns.{in_plane, quarter_turned_in, half_turned_in, complemented_in, pivoted_in}
 use Rattle.zx_model.specs.Constants.{two, i}
-use Rattle.zx_calculus.specs.Scalars.{one_minus_i, quarter_cost_in, half_cost_in, complement_left_in, complement_right_in, pivot_right_in}
+use Rattle.zx_calculus.specs.Scalars.{one_minus_i, quarter_cost_in, half_cost_in}
+use Rattle.zx_calculus.specs.Complements.{complement_left_in, complement_right_in}
+use Rattle.zx_calculus.specs.Pivots.{pivot_right_in}
 use Rattle.zx_calculus.proofs.Booleans.{parities}
 use Rattle.zx_calculus.proofs.Parity.{masked-and}
 use Rattle.zx_calculus.proofs.Forms.{transform}

@@ -1,12 +1,15 @@
 -- Single changes of an open graph, of which rewrites are made.
-use Rattle.std.specs.Prelude.{◌≡◌, ◌≢◌, ℕ, if◌then◌else◌, ◌==◌}
+use Rattle.std.specs.Prelude.{◌≡◌, ◌≢◌, ℕ, Bool, if◌then◌else◌, ◌&&◌, ◌||◌, ◌==◌}
 use Rattle.zx_model.specs.Bits.{xor}
 use Rattle.zx_calculus.specs.Graph.{Kind, Graph, ids, joined, OrderedEdges, without}
-use Rattle.zx_calculus.specs.Boundary.{is_pair}
 
 -- plane and phase of u change, and those of no other vertex
 abbrev pub at_vertex : ℕ → (Kind → Kind) → ℕ → Kind → Kind
 at_vertex u change p kind = if p == u then change kind else kind
+
+-- p and q are u and v, in either order
+abbrev pub is_pair : ℕ → ℕ → ℕ → ℕ → Bool
+is_pair u v p q = ((p == u) && (q == v)) || ((p == v) && (q == u))
 
 -- h is g with an edge between u and v where there was none, and without it where there was one
 pub record IsToggle (g : Graph) (u v : ℕ) (h : Graph) : Type 0 where

@@ -3,7 +3,8 @@
 -- extraction tale" (Quantum 5, 421, 2021), on labelled open graphs; that a vertex carries a plane and a phase together
 -- stands there for a spider with its measurement effect. All edges are Hadamard edges, as in the graph-like
 -- diagrams of Duncan, Kissinger, Perdrix and van de Wetering (Quantum 4, 279, 2020).
-use Rattle.std.specs.Prelude.{◌≡◌, ℕ, Bool, true, false, if◌then◌else◌, not, ◌&&◌, ◌||◌, ◌==◌, ltb, List, [], ◌∷◌, filter}
+use Rattle.std.specs.Prelude.{◌≡◌, ℕ, Bool, true, false, if◌then◌else◌, not, ◌&&◌, ◌||◌, ◌==◌, ltb, List, [], ◌∷◌}
+use Rattle.std.specs.Prelude.{filter}
 use Rattle.std.specs.List.{list_all}
 use Rattle.zx_model.specs.Phase.{turn}
 use Rattle.zx_model.specs.Bits.{member}
@@ -63,9 +64,9 @@ joined [] p q = false
 joined (e ∷ es) p q = joins e p q || joined es p q
 
 -- the vertices that hold the listed ends
-abbrev pub places : List End → List ℕ
-places [] = []
-places (e ∷ es) = e.vertex ∷ places es
+abbrev pub end_vertices : List End → List ℕ
+end_vertices [] = []
+end_vertices (e ∷ es) = e.vertex ∷ end_vertices es
 
 -- u is a vertex of g
 abbrev pub Live : Graph → ℕ → Type 0
@@ -73,8 +74,12 @@ Live g u = member u (ids g.vertices) ≡ true
 
 -- u holds no end
 pub record Interior (g : Graph) (u : ℕ) : Type 0 where
-  pub no_input : member u (places g.inputs) ≡ false
-  pub no_output : member u (places g.outputs) ≡ false
+  pub no_input : member u (end_vertices g.inputs) ≡ false
+  pub no_output : member u (end_vertices g.outputs) ≡ false
+
+-- the test of the same
+abbrev pub is_interior : Graph → ℕ → Bool
+is_interior g u = not (member u (end_vertices g.inputs) || member u (end_vertices g.outputs))
 
 -- whether each element stands in this relation to all later ones
 abbrev pub in_order : {A : Type 0} → (A → A → Bool) → List A → Bool
@@ -105,11 +110,21 @@ is_XY XY = true
 is_XY XZ = false
 is_XY YZ = false
 
+abbrev pub is_XZ : Plane → Bool
+is_XZ XY = false
+is_XZ XZ = true
+is_XZ YZ = false
+
+abbrev pub is_YZ : Plane → Bool
+is_YZ XY = false
+is_YZ XZ = false
+is_YZ YZ = true
+
 -- ends at XY vertices, at most one at each
 pub record OrderedEnds (vertices : List Vertex) (ends : List End) : Type 0 where
-  pub one_each : in_order different (places ends) ≡ true
-  pub there : list_all (λ u. member u (ids vertices)) (places ends) ≡ true
-  pub at_XY : list_all (λ u. is_XY (kind_of vertices u).plane) (places ends) ≡ true
+  pub one_each : in_order different (end_vertices ends) ≡ true
+  pub there : list_all (λ u. member u (ids vertices)) (end_vertices ends) ≡ true
+  pub at_XY : list_all (λ u. is_XY (kind_of vertices u).plane) (end_vertices ends) ≡ true
 
 -- ids differ and vertices stand by rising id; edges join two different vertices, each pair once; a vertex has
 -- at most one input and at most one output, and is XY where it has an end; phases are below a turn

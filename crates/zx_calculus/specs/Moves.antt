@@ -1,24 +1,11 @@
 -- The moves of simplification: ten kinds of places at which rewrites make a graph simpler.
 -- Duncan, Kissinger, Perdrix and van de Wetering (Quantum 4, 279, 2020), on simplification by local complements and
--- pivots; Kissinger and van de Wetering (arXiv 1903.10477, 2020), on gadgets; Backens and others (Quantum 5, 421, 2021),
--- on the three planes.
-use Rattle.std.specs.Prelude.{◌≡◌, ◌≢◌, ◌⊎◌, ◌+◌, ℕ, true, length}
-use Rattle.zx_model.specs.Phase.{half_turn, quarter_turn}
+-- pivots; Kissinger and van de Wetering (arXiv 1903.10477, 2020), on gadgets; Backens and others (Quantum 5, 421,
+-- 2021), on the three planes.
+use Rattle.std.specs.Prelude.{◌≡◌, ◌≢◌, ℕ, true, length}
+use Rattle.zx_model.specs.Phase.{IsHalfTurns, IsQuarterTurn}
+use Rattle.zx_calculus.specs.Deletions.{IsDeletable}
 use Rattle.zx_calculus.specs.Graph.{XY, XZ, YZ, Graph, joined, plane_of, phase_of, neighbours, Live, Interior}
-
--- a phase is a whole number of half turns
-abbrev pub IsHalfTurns : ℕ → Type 0
-IsHalfTurns k = (k ≡ 0) ⊎ (k ≡ half_turn)
-
--- a phase is a quarter turn, or three
-abbrev pub IsQuarterTurn : ℕ → Type 0
-IsQuarterTurn k = (k ≡ quarter_turn) ⊎ (k ≡ half_turn + quarter_turn)
-
--- u is an XZ or YZ vertex of half turns: it can be deleted
-pub record IsDeletable (g : Graph) (u : ℕ) : Type 0 where
-  pub there : Live g u
-  pub plane : plane_of g u ≢ XY
-  pub phase : IsHalfTurns (phase_of g u)
 
 -- u is a YZ vertex of a quarter turn, or three: a local complement makes it deletable
 pub record IsQuarterGadget (g : Graph) (u : ℕ) : Type 0 where

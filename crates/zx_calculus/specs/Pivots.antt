@@ -1,8 +1,16 @@
 -- The pivot along an edge.
-use Rattle.std.specs.Prelude.{◌≡◌, ◌≢◌, ℕ, Bool, true, if◌then◌else◌, ◌&&◌, ◌||◌, ◌==◌}
-use Rattle.zx_model.specs.Bits.{xor}
-use Rattle.zx_calculus.specs.Graph.{Kind, Graph, ids, joined, Live, Interior, OrderedEdges, with_kinds}
+-- Duncan and others (Quantum 4, 279, 2020), on pivoting; Backens and others (Quantum 5, 421, 2021), on the same in all
+-- three planes.
+use Rattle.std.specs.Prelude.{◌≡◌, ◌≢◌, ◌+◌, ℕ, Bool, true, if◌then◌else◌, ◌&&◌, ◌||◌, ◌==◌}
+use Rattle.zx_model.specs.Bits.{xor, member, one_if}
+use Rattle.zx_model.specs.Number.{Number, one, mul, root_power}
+use Rattle.zx_model.specs.Constants.{two}
+use Rattle.zx_calculus.specs.Graph.{Plane, XY, XZ, YZ, Kind, Graph, ids, joined, plane_of, phase_of, is_XY, is_YZ}
+use Rattle.zx_calculus.specs.Graph.{is_interior, Live, Interior, OrderedEdges, with_kinds}
 use Rattle.zx_calculus.specs.Turns.{half_turned, pivoted}
+use Rattle.zx_calculus.specs.Adjacency.{adjacent_graph}
+use Rattle.zx_calculus.specs.Scalars.{one_minus_i, half_cost, product_of}
+use Rattle.zx_calculus.specs.Counts.{odd_phases, even_interior, not_XY}
 
 -- u and v get their own change, and each common neighbour a half turn
 abbrev pub pivot_kind : ℕ → ℕ → (ℕ → Bool) → (ℕ → Bool) → ℕ → Kind → Kind
@@ -11,8 +19,7 @@ pivot_kind u v near_u near_v p kind =
 
 -- h is g after a pivot of the adjacent interior vertices u and v: they exchange their other neighbours, edges
 -- are toggled between the three classes (adjacent to u alone, to v alone, to both), and the common neighbours
--- get a half turn. Duncan and others (Quantum 4, 279, 2020), on pivoting; Backens and others
--- (Quantum 5, 421, 2021), on the same in all three planes.
+-- get a half turn
 pub record IsPivot (g : Graph) (u v : ℕ) (h : Graph) : Type 0 where
   pub there : Live g u
   pub there_too : Live g v
@@ -25,6 +32,47 @@ pub record IsPivot (g : Graph) (u v : ℕ) (h : Graph) : Type 0 where
   pub of_u : (p : ℕ) → p ≢ u → p ≢ v → joined h.edges u p ≡ joined g.edges v p
   pub of_v : (p : ℕ) → p ≢ u → p ≢ v → joined h.edges v p ≡ joined g.edges u p
   pub between : (p q : ℕ) → p ≢ u → p ≢ v → q ≢ u → q ≢ v → p ≢ q →
-      joined h.edges p q ≡ xor (joined g.edges p q) (xor (joined g.edges u p && joined g.edges v q) (joined g.edges v p && joined g.edges u q))
+      joined h.edges p q ≡ xor (joined g.edges p q)
+      (xor (joined g.edges u p && joined g.edges v q) (joined g.edges v p && joined g.edges u q))
   pub inputs : h.inputs ≡ g.inputs
   pub outputs : h.outputs ≡ g.outputs
+
+-- whether it can be done: u and v are adjacent interior vertices
+abbrev pub may_pivot : Graph → ℕ → ℕ → Bool
+may_pivot g u v =
+    (member u (ids g.vertices) && member v (ids g.vertices))
+    && ((is_interior g u && is_interior g v) && joined g.edges u v)
+
+-- the adjacency after it
+abbrev pub pivot_adjacent : (ℕ → ℕ → Bool) → ℕ → ℕ → ℕ → ℕ → Bool
+pivot_adjacent a u v p q =
+    if p == u then (if q == v then true else a v q)
+    else if p == v then (if q == u then true else a u q)
+    else if q == u then a v p
+    else if q == v then a u p
+    else xor (a p q) (xor (a u p && a v q) (a v p && a u q))
+
+-- the graph that it makes
+abbrev pub pivoted_graph : Graph → ℕ → ℕ → Graph
+pivoted_graph g u v =
+    adjacent_graph g (with_kinds (pivot_kind u v (joined g.edges u) (joined g.edges v)) g.vertices)
+    (pivot_adjacent (joined g.edges) u v)
+
+-- what each of the two vertices gives to the factor of the sum after
+abbrev pub pivot_right_in : Plane → ℕ → Number
+pivot_right_in XY k = one
+pivot_right_in XZ k = mul one_minus_i (root_power k)
+pivot_right_in YZ k = two
+
+-- the factor of the sum after: each common neighbour's half turn, and the two vertices' own changes; before it is 2
+abbrev pub pivot_right : Graph → ℕ → ℕ → Number
+pivot_right g u v =
+    mul (mul (pivot_right_in (plane_of g u) (phase_of g u)) (pivot_right_in (plane_of g v) (phase_of g v)))
+    (product_of (λ p. joined g.edges u p && joined g.edges v p) half_cost g.vertices)
+
+-- what it does to the counts: XY and YZ are exchanged at u and v alone
+pub record CountsAfterPivot (g : Graph) (u v : ℕ) (h : Graph) : Type 0 where
+  pub odd_phases : odd_phases h ≡ odd_phases g
+  pub even_interior : even_interior h ≡ even_interior g
+  pub not_XY : not_XY h + one_if (is_YZ (plane_of g u)) + one_if (is_YZ (plane_of g v)) ≡
+      not_XY g + one_if (is_XY (plane_of g u)) + one_if (is_XY (plane_of g v))

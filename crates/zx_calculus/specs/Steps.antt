@@ -1,10 +1,18 @@
--- One rewrite of an open graph, and lists of rewrites.
-use Rattle.std.specs.Prelude.{◌≡◌, ℕ, List, [], ◌∷◌}
-use Rattle.zx_calculus.specs.Graph.{Graph}
-use Rattle.zx_calculus.specs.Complement.{IsLocalComplement, IsDelete}
-use Rattle.zx_calculus.specs.Pivots.{IsPivot}
-use Rattle.zx_calculus.specs.Boundary.{IsSplitInput, IsSplitOutput}
-use Rattle.zx_calculus.specs.Gadgets.{IsDropLone, IsFuseInto, IsFuseTwin}
+-- One rewrite of an open graph, and lists of rewrites: which it is, where it is allowed, what it makes, and by which
+-- exact factors it changes the sum.
+use Rattle.std.specs.Prelude.{◌≡◌, ℕ, Bool, List, [], ◌∷◌}
+use Rattle.zx_model.specs.Number.{Number, one}
+use Rattle.zx_model.specs.Constants.{two}
+use Rattle.zx_calculus.specs.Graph.{Graph, ids, plane_of}
+use Rattle.zx_calculus.specs.Complements.{IsLocalComplement, may_complement, complemented_graph, complement_left_in}
+use Rattle.zx_calculus.specs.Complements.{complement_right}
+use Rattle.zx_calculus.specs.Deletions.{IsDelete, may_delete, deleted_graph, delete_right}
+use Rattle.zx_calculus.specs.Pivots.{IsPivot, may_pivot, pivoted_graph, pivot_right}
+use Rattle.zx_calculus.specs.Splits.{IsSplitInput, IsSplitOutput, may_split_input, may_split_output, split_input_graph}
+use Rattle.zx_calculus.specs.Splits.{split_output_graph}
+use Rattle.zx_calculus.specs.Splits.{above_all, mark_of, split_left}
+use Rattle.zx_calculus.specs.Gadgets.{IsDropLone, IsFuseInto, IsFuseTwin, may_drop_lone, may_fuse_into, may_fuse_twin}
+use Rattle.zx_calculus.specs.Gadgets.{dropped_graph, fused_into_graph, fused_twin_graph}
 
 -- a rewrite by its name and the ids of the vertices that it is about
 pub data Step : Type 0 where
@@ -28,3 +36,51 @@ IsStep g (FuseTwin u v) h = IsFuseTwin g u v h
 abbrev pub IsRun : Graph → List Step → Graph → Type 0
 IsRun g [] h = g ≡ h
 IsRun g (s ∷ steps) h = (k : Graph) × (IsStep g s k) × IsRun k steps h
+
+-- the side condition of a rewrite
+abbrev pub allowed : Graph → Step → Bool
+allowed g (LocalComplement u) = may_complement g u
+allowed g (Delete u) = may_delete g u
+allowed g (Pivot u v) = may_pivot g u v
+allowed g (SplitInput b) = may_split_input g b
+allowed g (SplitOutput b) = may_split_output g b
+allowed g (DropLone u) = may_drop_lone g u
+allowed g (FuseInto u) = may_fuse_into g u
+allowed g (FuseTwin u v) = may_fuse_twin g u v
+
+-- the graph after a rewrite, where a split takes the id `new`
+abbrev pub after_with : ℕ → Step → Graph → Graph
+after_with new (LocalComplement u) g = complemented_graph g u
+after_with new (Delete u) g = deleted_graph g u
+after_with new (Pivot u v) g = pivoted_graph g u v
+after_with new (SplitInput b) g = split_input_graph new g b
+after_with new (SplitOutput b) g = split_output_graph new g b
+after_with new (DropLone u) g = dropped_graph g u
+after_with new (FuseInto u) g = fused_into_graph g u
+after_with new (FuseTwin u v) g = fused_twin_graph g u v
+
+-- the graph after a rewrite, where a split takes the least id above all others
+abbrev pub after : Step → Graph → Graph
+after s g = after_with (above_all (ids g.vertices)) s g
+
+-- what the sum before is multiplied by
+abbrev pub left_factor : Graph → Step → Number
+left_factor g (LocalComplement u) = complement_left_in (plane_of g u)
+left_factor g (Delete u) = one
+left_factor g (Pivot u v) = two
+left_factor g (SplitInput b) = split_left (mark_of g.inputs b)
+left_factor g (SplitOutput b) = split_left (mark_of g.outputs b)
+left_factor g (DropLone u) = one
+left_factor g (FuseInto u) = one
+left_factor g (FuseTwin u v) = one
+
+-- what the sum after is multiplied by
+abbrev pub right_factor : Graph → Step → Number
+right_factor g (LocalComplement u) = complement_right g u
+right_factor g (Delete u) = delete_right g u
+right_factor g (Pivot u v) = pivot_right g u v
+right_factor g (SplitInput b) = one
+right_factor g (SplitOutput b) = one
+right_factor g (DropLone u) = two
+right_factor g (FuseInto u) = two
+right_factor g (FuseTwin u v) = two

@@ -13,32 +13,50 @@ all_phases = 0 ∷ 1 ∷ 2 ∷ 3 ∷ 4 ∷ 5 ∷ 6 ∷ 7 ∷ []
 -- labels 0 in XY, at each phase
 abbrev pub factors_XY_0 : List Number
 factors_XY_0 =
-    number (pos 1) (pos 0) (pos 0) (pos 0) ∷ number (pos 1) (pos 0) (pos 0) (pos 0) ∷ number (pos 1) (pos 0) (pos 0) (pos 0) ∷ number (pos 1) (pos 0) (pos 0) (pos 0) ∷ number (pos 1) (pos 0) (pos 0) (pos 0) ∷ number (pos 1) (pos 0) (pos 0) (pos 0) ∷ number (pos 1) (pos 0) (pos 0) (pos 0) ∷ number (pos 1) (pos 0) (pos 0) (pos 0) ∷ []
+    number (pos 1) (pos 0) (pos 0) (pos 0) ∷ number (pos 1) (pos 0) (pos 0) (pos 0)
+    ∷ number (pos 1) (pos 0) (pos 0) (pos 0) ∷ number (pos 1) (pos 0) (pos 0) (pos 0)
+    ∷ number (pos 1) (pos 0) (pos 0) (pos 0) ∷ number (pos 1) (pos 0) (pos 0) (pos 0)
+    ∷ number (pos 1) (pos 0) (pos 0) (pos 0) ∷ number (pos 1) (pos 0) (pos 0) (pos 0) ∷ []
 
 -- labels 1 in XY, at each phase
 abbrev pub factors_XY_1 : List Number
 factors_XY_1 =
-    number (pos 1) (pos 0) (pos 0) (pos 0) ∷ number (pos 0) (pos 1) (pos 0) (pos 0) ∷ number (pos 0) (pos 0) (pos 1) (pos 0) ∷ number (pos 0) (pos 0) (pos 0) (pos 1) ∷ number (negsuc 0) (pos 0) (pos 0) (pos 0) ∷ number (pos 0) (negsuc 0) (pos 0) (pos 0) ∷ number (pos 0) (pos 0) (negsuc 0) (pos 0) ∷ number (pos 0) (pos 0) (pos 0) (negsuc 0) ∷ []
+    number (pos 1) (pos 0) (pos 0) (pos 0) ∷ number (pos 0) (pos 1) (pos 0) (pos 0)
+    ∷ number (pos 0) (pos 0) (pos 1) (pos 0) ∷ number (pos 0) (pos 0) (pos 0) (pos 1)
+    ∷ number (negsuc 0) (pos 0) (pos 0) (pos 0) ∷ number (pos 0) (negsuc 0) (pos 0) (pos 0)
+    ∷ number (pos 0) (pos 0) (negsuc 0) (pos 0) ∷ number (pos 0) (pos 0) (pos 0) (negsuc 0) ∷ []
 
 -- labels 0 in XZ, at each phase
 abbrev pub factors_XZ_0 : List Number
 factors_XZ_0 =
-    number (pos 2) (pos 0) (pos 0) (pos 0) ∷ number (pos 1) (pos 1) (pos 0) (pos 0) ∷ number (pos 1) (pos 0) (pos 1) (pos 0) ∷ number (pos 1) (pos 0) (pos 0) (pos 1) ∷ number (pos 0) (pos 0) (pos 0) (pos 0) ∷ number (pos 1) (negsuc 0) (pos 0) (pos 0) ∷ number (pos 1) (pos 0) (negsuc 0) (pos 0) ∷ number (pos 1) (pos 0) (pos 0) (negsuc 0) ∷ []
+    number (pos 2) (pos 0) (pos 0) (pos 0) ∷ number (pos 1) (pos 1) (pos 0) (pos 0)
+    ∷ number (pos 1) (pos 0) (pos 1) (pos 0) ∷ number (pos 1) (pos 0) (pos 0) (pos 1)
+    ∷ number (pos 0) (pos 0) (pos 0) (pos 0) ∷ number (pos 1) (negsuc 0) (pos 0) (pos 0)
+    ∷ number (pos 1) (pos 0) (negsuc 0) (pos 0) ∷ number (pos 1) (pos 0) (pos 0) (negsuc 0) ∷ []
 
 -- labels 1 in XZ, at each phase
 abbrev pub factors_XZ_1 : List Number
 factors_XZ_1 =
-    number (pos 0) (pos 0) (pos 0) (pos 0) ∷ number (pos 0) (pos 0) (pos 1) (negsuc 0) ∷ number (pos 1) (pos 0) (pos 1) (pos 0) ∷ number (pos 0) (pos 1) (pos 1) (pos 0) ∷ number (pos 0) (pos 0) (pos 2) (pos 0) ∷ number (pos 0) (pos 0) (pos 1) (pos 1) ∷ number (negsuc 0) (pos 0) (pos 1) (pos 0) ∷ number (pos 0) (negsuc 0) (pos 1) (pos 0) ∷ []
+    number (pos 0) (pos 0) (pos 0) (pos 0) ∷ number (pos 0) (pos 0) (pos 1) (negsuc 0)
+    ∷ number (pos 1) (pos 0) (pos 1) (pos 0) ∷ number (pos 0) (pos 1) (pos 1) (pos 0)
+    ∷ number (pos 0) (pos 0) (pos 2) (pos 0) ∷ number (pos 0) (pos 0) (pos 1) (pos 1)
+    ∷ number (negsuc 0) (pos 0) (pos 1) (pos 0) ∷ number (pos 0) (negsuc 0) (pos 1) (pos 0) ∷ []
 
 -- labels 0 in YZ, at each phase
 abbrev pub factors_YZ_0 : List Number
 factors_YZ_0 =
-    number (pos 2) (pos 0) (pos 0) (pos 0) ∷ number (pos 1) (pos 1) (pos 0) (pos 0) ∷ number (pos 1) (pos 0) (pos 1) (pos 0) ∷ number (pos 1) (pos 0) (pos 0) (pos 1) ∷ number (pos 0) (pos 0) (pos 0) (pos 0) ∷ number (pos 1) (negsuc 0) (pos 0) (pos 0) ∷ number (pos 1) (pos 0) (negsuc 0) (pos 0) ∷ number (pos 1) (pos 0) (pos 0) (negsuc 0) ∷ []
+    number (pos 2) (pos 0) (pos 0) (pos 0) ∷ number (pos 1) (pos 1) (pos 0) (pos 0)
+    ∷ number (pos 1) (pos 0) (pos 1) (pos 0) ∷ number (pos 1) (pos 0) (pos 0) (pos 1)
+    ∷ number (pos 0) (pos 0) (pos 0) (pos 0) ∷ number (pos 1) (negsuc 0) (pos 0) (pos 0)
+    ∷ number (pos 1) (pos 0) (negsuc 0) (pos 0) ∷ number (pos 1) (pos 0) (pos 0) (negsuc 0) ∷ []
 
 -- labels 1 in YZ, at each phase
 abbrev pub factors_YZ_1 : List Number
 factors_YZ_1 =
-    number (pos 0) (pos 0) (pos 0) (pos 0) ∷ number (pos 1) (negsuc 0) (pos 0) (pos 0) ∷ number (pos 1) (pos 0) (negsuc 0) (pos 0) ∷ number (pos 1) (pos 0) (pos 0) (negsuc 0) ∷ number (pos 2) (pos 0) (pos 0) (pos 0) ∷ number (pos 1) (pos 1) (pos 0) (pos 0) ∷ number (pos 1) (pos 0) (pos 1) (pos 0) ∷ number (pos 1) (pos 0) (pos 0) (pos 1) ∷ []
+    number (pos 0) (pos 0) (pos 0) (pos 0) ∷ number (pos 1) (negsuc 0) (pos 0) (pos 0)
+    ∷ number (pos 1) (pos 0) (negsuc 0) (pos 0) ∷ number (pos 1) (pos 0) (pos 0) (negsuc 0)
+    ∷ number (pos 2) (pos 0) (pos 0) (pos 0) ∷ number (pos 1) (pos 1) (pos 0) (pos 0)
+    ∷ number (pos 1) (pos 0) (pos 1) (pos 0) ∷ number (pos 1) (pos 0) (pos 0) (pos 1) ∷ []
 
 -- two spiders joined by an edge: a Hadamard gate
 abbrev pub hadamard_wire : Graph
@@ -46,7 +64,8 @@ hadamard_wire = graph (vertex 0 XY 0 ∷ vertex 1 XY 0 ∷ []) (edge 0 1 ∷ [])
 
 -- two wires with an edge between them: a controlled Z
 abbrev pub controlled_z : Graph
-controlled_z = graph (vertex 0 XY 0 ∷ vertex 1 XY 0 ∷ []) (edge 0 1 ∷ []) (plain 0 ∷ plain 1 ∷ []) (plain 0 ∷ plain 1 ∷ [])
+controlled_z =
+    graph (vertex 0 XY 0 ∷ vertex 1 XY 0 ∷ []) (edge 0 1 ∷ []) (plain 0 ∷ plain 1 ∷ []) (plain 0 ∷ plain 1 ∷ [])
 
 -- two wires that cross
 abbrev pub crossing : Graph

@@ -8,11 +8,10 @@ ghost use Rattle.zx_calculus.specs.Graph.{Kind, Graph, WellFormed};
 ghost use Rattle.zx_model.specs.Constants.{two};
 ghost use Rattle.zx_calculus.specs.Sum.{sum};
 ghost use Rattle.zx_calculus.specs.Turns.{quarter_turned, half_turned, pivoted};
-ghost use Rattle.zx_calculus.specs.Complement.{IsLocalComplement};
+ghost use Rattle.zx_calculus.specs.Complements.{IsLocalComplement};
 ghost use Rattle.zx_calculus.specs.Pivots.{IsPivot};
 ghost use Rattle.zx_calculus.specs.Gadgets.{IsFuseTwin};
-ghost use Rattle.zx_calculus.specs.Steps.{Pivot, FuseTwin};
-ghost use Rattle.zx_calculus.specs.After.{allowed};
+ghost use Rattle.zx_calculus.specs.Steps.{Pivot, FuseTwin, allowed};
 ghost use Rattle.zx_calculus.specs.PhaseGates.{phase_graph, gadget_graph};
 
 /// The phase gates, as a spider and as a gadget on one, with its scalar.
@@ -20,7 +19,8 @@ pub fn sums_of_phase_gates()
     ensures spider { (k : ℕ) (x y : Bool) →
         sum (phase_graph k) (x ∷ []) (y ∷ []) ≡ (if xor x y then zero else if x then root_power k else one) }
     ensures gadget { (k : ℕ) (x y : Bool) →
-        sum (gadget_graph k) (x ∷ []) (y ∷ []) ≡ (if xor x y then zero else (mul two (if x then root_power k else one))) }
+        sum (gadget_graph k) (x ∷ []) (y ∷ []) ≡
+        (if xor x y then zero else (mul two (if x then root_power k else one))) }
 {}
 
 /// Identities of the field that the rewrites keep to: which turns undo one another, and which rewrites agree.

@@ -10,10 +10,8 @@ ghost use Rattle.zx_calculus.specs.Turns.{in_plane};
 ghost use Rattle.zx_model.specs.Constants.{two, root_of_two};
 ghost use Rattle.zx_calculus.specs.Scalars.{one_plus_i, one_minus_i};
 ghost use Rattle.zx_calculus.specs.Pivots.{IsPivot};
-ghost use Rattle.zx_calculus.specs.Steps.{Step, LocalComplement, Delete, Pivot, SplitInput, DropLone, FuseInto, FuseTwin, IsStep, IsRun};
-ghost use Rattle.zx_calculus.specs.Factors.{left_factor, right_factor};
-ghost use Rattle.zx_calculus.specs.Reduced.{odd_phases};
-ghost use Rattle.zx_calculus.specs.After.{allowed, after, after_with};
+ghost use Rattle.zx_calculus.specs.Steps.{Step, LocalComplement, Delete, Pivot, SplitInput, DropLone, FuseInto, FuseTwin, IsStep, IsRun, left_factor, right_factor, allowed, after, after_with};
+ghost use Rattle.zx_calculus.specs.Counts.{odd_phases};
 ghost use Rattle.zx_calculus.specs.Worked.{path_of_three, path_complemented, path_deleted, path_of_four, path_pivoted, twins, twins_reduced, small_gadgets, small_gadgets_reduced, triangle, triangle_pivoted, path_split, overlapping_gadgets};
 ghost use Rattle.zx_calculus.specs.Tables.{all_phases, factors_XY_0, factors_XY_1, factors_XZ_0, factors_XZ_1, factors_YZ_0, factors_YZ_1, hadamard_wire, controlled_z, crossing, marked_spider};
 

@@ -4,10 +4,9 @@ use Rattle.std.specs.Prelude.{slice_get}
 use Rattle.std.proofs.Math.ListN.{length-set}
 use Rattle.std.proofs.lemmas.List.Elements.{All-cons, All-nil}
 use Rattle.zx_model.specs.Bits.{member, one_if}
-use Rattle.zx_calculus.specs.Graph.{XY, Kind, Vertex, ids, kind_of, plane_of, joined, places, is_XY, different, without, WellFormed}
+use Rattle.zx_calculus.specs.Graph.{XY, Kind, Vertex, ids, kind_of, plane_of, joined, end_vertices, is_XY, different, without, WellFormed}
 use Rattle.zx_calculus.specs.Worked.{plain}
-use Rattle.zx_calculus.specs.Reduced.{not_XY}
-use Rattle.zx_calculus.specs.Counts.{XY_without_output}
+use Rattle.zx_calculus.specs.Counts.{not_XY, XY_without_output}
 use Rattle.zx_calculus.proofs.Booleans.{and-false, and-true}
 use Rattle.zx_calculus.proofs.Ids.{and-left, and-right, eqb-self, member-filter, member-removed_other}
 use Rattle.zx_calculus.proofs.Forms.{ids-without}
@@ -18,21 +17,21 @@ use Rattle.gflow_laws.specs.Seen.{seen}
 use Rattle.gflow_laws.specs.Flow.{IsFlow}
 use Rattle.gflow_laws.specs.Outputs.{advanced, advanced_table, IsLeafOutput}
 use Rattle.gflow_laws.specs.Correcting.{Alike}
-use Rattle.gflow_laws.proofs.TableLaws.{order_of-with_sets}
+use Rattle.gflow_laws.proofs.Tables.{order_of-with_sets}
 use Rattle.gflow_laws.proofs.Seeing.{flow-same_sets}
 use Rattle.gflow_laws.proofs.LastLaws.{filter-removed, advanced_flow}
 use Rattle.zx_gates.specs.Circuit.{IsOnQubits, most_qubits}
 use Rattle.zx_gates.specs.declared.gate.Gate.TheVariants.{H}
-use Rattle.circuit_laws.specs.Peeling.{HasPlainOutput}
-use Rattle.circuit_laws.proofs.Places.{member-places, output_there, output_plane, slice_get-set_other}
+use Rattle.circuit_laws.specs.Peeling.{HasPlainOutput, are_plain}
+use Rattle.circuit_laws.proofs.Places.{member-places, output_there, output_plane, slice_get-set_other, plain-set}
 use Rattle.circuit_laws.proofs.Taken.{advanced_formed, advanced_gates, advanced_odd}
-use Rattle.zx_extract.specs.Internal.Lists.{are_plain}
 use Rattle.zx_extract.specs.Internal.Leading.{State, Leads, IsReady, IsFrontier, IsSettled}
 use Rattle.zx_extract.specs.Internal.Steps.{IsAdvanced, HasOneOutput}
-use Rattle.zx_extract.proofs.Places.{one_output, plain-set, member-places_set, slice_get_within}
+use Rattle.zx_extract.proofs.Places.{one_output, member-places_set}
 use Rattle.zx_extract.proofs.Lasts.{length-order}
 use Rattle.zx_extract.proofs.Rows.{same_sets_back}
 use Rattle.zx_extract.proofs.LastVertex.{last_live, last_no_output, only_neighbour, link_no_input}
+use Rattle.std.proofs.lemmas.Option.{slice_get_within}
 
 module _ (s : State) (v q : ℕ) (t : State) (r : IsReady s) (f : IsFrontier s.graph) (plane : plane_of s.graph v ≡ XY)
     (one : HasOneOutput s q) (a : IsAdvanced s v q t) where
@@ -46,13 +45,13 @@ module _ (s : State) (v q : ℕ) (t : State) (r : IsReady s) (f : IsFrontier s.g
   next_is = eqb-true a.advance.next v (sym (leaf a.advance.next) ∙ a.advance.only_neighbour a.advance.next
       ∙ eqb-self a.advance.next)
 
-  no_input : member u (places s.graph.inputs) ≡ false
+  no_input : member u (end_vertices s.graph.inputs) ≡ false
   no_input = link_no_input s v r f a.last q u one a.advance.output
 
   formed : WellFormed t.graph
   formed = advanced_formed s.graph q t.graph r.given.well_formed a.advance no_input (ap (plane_of s.graph) next_is
       ∙ plane)
-      (ap (λ x. member x (places s.graph.outputs)) next_is ∙ last_no_output s v r f a.last)
+      (ap (λ x. member x (end_vertices s.graph.outputs)) next_is ∙ last_no_output s v r f a.last)
 
   outputs_are : t.graph.outputs ≡ set s.graph.outputs q (plain v)
   outputs_are = a.advance.outputs ∙ ap (λ x. set s.graph.outputs q (plain x)) next_is
@@ -68,9 +67,9 @@ module _ (s : State) (v q : ℕ) (t : State) (r : IsReady s) (f : IsFrontier s.g
     adjacent = λ x y in_x in_y. sym (a.advance.edges x y (stays x in_x) (stays y in_y));
     plane = λ x within. sym (ap (λ vs. (kind_of vs x).plane) a.advance.vertices
         ∙ ap (λ (k : Kind). k.plane) (kind_of-without x u s.graph.vertices (stays x within)));
-    input = λ x _. ap (λ es. member x (places es)) (sym a.advance.inputs);
-    output = λ x _. ap (λ y. eqb x y || (member x (places s.graph.outputs) && different u x)) a.last.vertex
-        ∙ sym (ap (λ es. member x (places es)) outputs_are
+    input = λ x _. ap (λ es. member x (end_vertices es)) (sym a.advance.inputs);
+    output = λ x _. ap (λ y. eqb x y || (member x (end_vertices s.graph.outputs) && different u x)) a.last.vertex
+        ∙ sym (ap (λ es. member x (end_vertices es)) outputs_are
         ∙ member-places_set s.graph.outputs q u v x r.given.well_formed.outputs.one_each a.advance.output);
   }
 
@@ -99,15 +98,13 @@ module _ (s : State) (v q : ℕ) (t : State) (r : IsReady s) (f : IsFrontier s.g
   }
 
   -- ---- how many are left
-  XY_here : (k : Kind) → k.plane ≡ XY → is_XY k.plane ≡ true
-  XY_here k e = ap is_XY e
 
   at_u : is_XY (plane_of s.graph u) ≡ true
   at_u = ap is_XY (output_plane s.graph q (plain u) r.given.well_formed a.advance.output)
 
   v_stays : v ≢ u
   v_stays e = true≢false (sym (member-places s.graph.outputs q (plain u) a.advance.output)
-      ∙ ap (λ x. member x (places s.graph.outputs)) (sym e) ∙ last_no_output s v r f a.last)
+      ∙ ap (λ x. member x (end_vertices s.graph.outputs)) (sym e) ∙ last_no_output s v r f a.last)
 
   kind_left : (x : ℕ) → x ≢ u → kind_of (without u s.graph.vertices) x ≡ kind_of s.graph.vertices x
   kind_left x n = kind_of-without x u s.graph.vertices n
@@ -127,10 +124,10 @@ module _ (s : State) (v q : ℕ) (t : State) (r : IsReady s) (f : IsFrontier s.g
 
   -- whether a vertex counts before and after
   abbrev before : ℕ → Kind → Bool
-  before p k = is_XY k.plane && not (member p (places s.graph.outputs))
+  before p k = is_XY k.plane && not (member p (end_vertices s.graph.outputs))
 
   abbrev after : ℕ → Kind → Bool
-  after p k = is_XY k.plane && not (member p (places t.graph.outputs))
+  after p k = is_XY k.plane && not (member p (end_vertices t.graph.outputs))
 
   spiders_left : XY_without_output t.graph + 1 ≡ XY_without_output s.graph
   spiders_left =
@@ -159,19 +156,19 @@ module _ (s : State) (v q : ℕ) (t : State) (r : IsReady s) (f : IsFrontier s.g
           new + v_counts ≡ rest + v_after → v_counts ≡ 1 → v_after ≡ 0 → left ≡ new → left + 1 ≡ all
       summed all rest u_counts new v_counts v_after left a b c d e g = omega arith
 
-      v_output : member v (places t.graph.outputs) ≡ true
-      v_output = ap (λ es. member v (places es)) outputs_are
+      v_output : member v (end_vertices t.graph.outputs) ≡ true
+      v_output = ap (λ es. member v (end_vertices es)) outputs_are
           ∙ member-places_set s.graph.outputs q u v v r.given.well_formed.outputs.one_each a.advance.output
-          ∙ ap (λ b. b || (member v (places s.graph.outputs) && not (eqb u v))) (eqb-self v)
+          ∙ ap (λ b. b || (member v (end_vertices s.graph.outputs) && not (eqb u v))) (eqb-self v)
 
       same : (p : ℕ) → member p (ids (without u s.graph.vertices)) ≡ true → p ≢ v →
           after p (kind_of (without u s.graph.vertices) p) ≡ before p (kind_of (without u s.graph.vertices) p)
       same p within n = ap (λ c. is_XY (kind_of (without u s.graph.vertices) p).plane && not c)
-          (ap (λ es. member p (places es)) outputs_are
+          (ap (λ es. member p (end_vertices es)) outputs_are
           ∙ member-places_set s.graph.outputs q u v p r.given.well_formed.outputs.one_each a.advance.output
-          ∙ ap₂ (λ b c. b || (member p (places s.graph.outputs) && not c)) (ne_eqb p v n)
+          ∙ ap₂ (λ b c. b || (member p (end_vertices s.graph.outputs) && not c)) (ne_eqb p v n)
           (ne_eqb u p (λ e. stays p (in_rest p within) (sym e)))
-          ∙ and-true (member p (places s.graph.outputs)))
+          ∙ and-true (member p (end_vertices s.graph.outputs)))
         where
           in_rest : (p : ℕ) → member p (ids (without u s.graph.vertices)) ≡ true →
               member p (filter (different u) (ids s.graph.vertices)) ≡ true

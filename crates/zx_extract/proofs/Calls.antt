@@ -4,14 +4,13 @@ use Rattle.std.specs.Prelude.{slice_get, Some, Result, Ok, Err, OnOk, IfOk}
 use Rattle.zx_model.specs.Bits.{xor, one_if}
 use Rattle.zx_calculus.specs.Graph.{XY, Plane, Kind, End, Graph, kind_of, joined, with_kinds}
 use Rattle.zx_calculus.specs.Turns.{in_plane}
-use Rattle.zx_calculus.specs.Boundary.{is_pair}
-use Rattle.zx_calculus.specs.Edits.{IsToggle, at_vertex}
+use Rattle.zx_calculus.specs.Edits.{is_pair, IsToggle, at_vertex}
 use Rattle.zx_calculus.specs.Worked.{plain}
 use Rattle.zx_calculus.proofs.Ids.{by_equal}
 use Rattle.zx_calculus.proofs.Splitting.{no_loop}
 use Rattle.zx_calculus.proofs.Edits.{with_kinds-at}
 use Rattle.zx_gates.specs.declared.gate.Gate.TheVariants.{H, Cz}
-use Rattle.circuit_laws.specs.Gates.{phase_gates}
+use Rattle.zx_gates.specs.Lowering.{phase_gates}
 use Rattle.circuit_laws.specs.Peeling.{HasPlainOutput, IsEdgePeel, marked}
 use Rattle.circuit_laws.proofs.Places.{first_is, slice_get-set, slice_get-set_other, output_plane}
 use Rattle.zx_extract.specs.Internal.Lists.{IsPlainAt}
@@ -19,10 +18,6 @@ use Rattle.zx_extract.specs.Internal.Leading.{IsGiven, Leads, State, IsReady}
 use Rattle.zx_extract.specs.Internal.Steps.{IsMarkTaken, IsPhaseTaken, IsEdgeTaken, IsUnjoined}
 use Rattle.zx_extract.proofs.Places.{one_vertex}
 use Rattle.zx_extract.proofs.Settled.{mark_given, mark_leads, settles_nothing, settles_within, edge_settles, edge_gone}
-
-pub on_ok : {A B P Q : Type 0} (r : Result A B) → (P → Q) → OnOk r P → OnOk r Q
-on_ok (Ok x) f h = f h
-on_ok (Err e) f h = h
 
 pub if_ok : {A B : Type 0} {P Q : A → Type 0} (r : Result A B) → ((x : A) → P x → Q x) → IfOk r P → IfOk r Q
 if_ok (Ok x) f h = f x h

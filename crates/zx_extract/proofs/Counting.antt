@@ -1,15 +1,14 @@
 -- How many vertices of each kind are left.
 use Rattle.std.proofs.Common.{◌≡◌, refl, ◌∙◌, ap, ap₂, ℕ, Bool, true, false, cond, not, ◌&&◌, eqb, List, length, filter}
 use Rattle.zx_model.specs.Bits.{member}
-use Rattle.zx_calculus.specs.Graph.{Plane, Kind, Vertex, Graph, places, is_XY, with_kinds}
+use Rattle.zx_calculus.specs.Graph.{Plane, Kind, Vertex, Graph, end_vertices, is_XY, with_kinds}
 use Rattle.zx_calculus.specs.Turns.{in_plane}
-use Rattle.zx_calculus.specs.Reduced.{not_XY}
-use Rattle.zx_calculus.specs.Counts.{XY_without_output}
+use Rattle.zx_calculus.specs.Counts.{not_XY, XY_without_output}
 use Rattle.zx_calculus.proofs.CountLemmas.{count, count-with_kinds}
 use Rattle.circuit_laws.specs.Peeling.{cleared_kind}
 
 -- vertices in the same planes, and outputs at the same vertices
-pub as_many_XY : (g h : Graph) → h.vertices ≡ g.vertices → places h.outputs ≡ places g.outputs →
+pub as_many_XY : (g h : Graph) → h.vertices ≡ g.vertices → end_vertices h.outputs ≡ end_vertices g.outputs →
     XY_without_output h ≡ XY_without_output g
 as_many_XY g h vertices outputs =
     ap₂ (λ (vs : List Vertex) (us : List ℕ). length (filter
@@ -37,8 +36,8 @@ pub as_many_XY_cleared : (g h : Graph) (u : ℕ) → h.vertices ≡ with_kinds (
     h.outputs ≡ g.outputs → XY_without_output h ≡ XY_without_output g
 as_many_XY_cleared g h u vertices outputs =
     ap₂ (λ (vs : List Vertex) (us : List ℕ). length (filter
-    (λ (v : Vertex). is_XY v.kind.plane && not (member v.id us)) vs)) vertices (ap places outputs)
-    ∙ count_by_planes (λ p plane. is_XY plane && not (member p (places g.outputs))) u g.vertices
+    (λ (v : Vertex). is_XY v.kind.plane && not (member v.id us)) vs)) vertices (ap end_vertices outputs)
+    ∙ count_by_planes (λ p plane. is_XY plane && not (member p (end_vertices g.outputs))) u g.vertices
 
 pub as_many_others_cleared : (g h : Graph) (u : ℕ) → h.vertices ≡ with_kinds (cleared_kind u) g.vertices →
     not_XY h ≡ not_XY g

@@ -5,7 +5,7 @@ use Rattle.std.specs.List.{swap}
 use Rattle.std.proofs.Math.ListN.{length-set}
 use Rattle.std.proofs.lemmas.List.{map-set, take_all, take-set-le, take_more_set}
 use Rattle.zx_model.specs.Bits.{member}
-use Rattle.zx_calculus.specs.Graph.{Vertex, End, ids, places, is_XY, in_order, different, Live, Distinct, WellFormed}
+use Rattle.zx_calculus.specs.Graph.{Vertex, End, ids, end_vertices, is_XY, in_order, different, Live, Distinct, WellFormed}
 use Rattle.zx_calculus.specs.Worked.{plain}
 use Rattle.zx_calculus.specs.Counts.{XY_without_output}
 use Rattle.zx_calculus.proofs.Ids.{by_test, and-left, and-right, Distinct-different}
@@ -15,21 +15,21 @@ use Rattle.gflow_laws.specs.Flow.{IsFlow}
 use Rattle.gflow_laws.proofs.AllEnds.{same_members, length-places, all_ends}
 use Rattle.zx_gates.specs.declared.gate.Gate.{Gate}
 use Rattle.circuit_laws.specs.Gates.{exchange_gates}
-use Rattle.circuit_laws.specs.Peeling.{IsExchange}
+use Rattle.circuit_laws.specs.Peeling.{IsExchange, are_plain}
 use Rattle.circuit_laws.proofs.Keeping.{exchange_formed_back}
 use Rattle.circuit_laws.proofs.Wires.{exchange_peels}
 use Rattle.circuit_laws.proofs.GateLists.{exchange_on}
-use Rattle.zx_extract.specs.Internal.Lists.{are_plain, with_outputs, in_line}
+use Rattle.zx_extract.specs.Internal.Lists.{with_outputs, in_line}
 use Rattle.zx_extract.specs.Internal.Leading.{State, Leads, IsReady, IsFrontier}
 use Rattle.zx_extract.specs.Internal.Steps.{IsUncrossed}
 use Rattle.zx_extract.proofs.Leads.{leads_same, leads_nothing, leads_then, leads_within}
-use Rattle.zx_extract.proofs.Places.{plain_end}
+use Rattle.circuit_laws.proofs.Places.{plain_end}
 
-pub places-plain : (us : List ℕ) → places (map plain us) ≡ us
+pub places-plain : (us : List ℕ) → end_vertices (map plain us) ≡ us
 places-plain [] = refl
 places-plain (u ∷ us) = ap (λ r. u ∷ r) (places-plain us)
 
-plain-places : (es : List End) → are_plain es ≡ true → map plain (places es) ≡ es
+plain-places : (es : List End) → are_plain es ≡ true → map plain (end_vertices es) ≡ es
 plain-places [] h = refl
 plain-places (e ∷ es) h = ap₂ (λ d ds. d ∷ ds) (sym (plain_end e (and-left (not e.hadamard) (are_plain es) h)))
     (plain-places es (and-right (not e.hadamard) (are_plain es) h))
@@ -92,8 +92,8 @@ slice_get-plain (u ∷ us) (suc i) w h = slice_get-plain us i w h
 
 module _ (s : State) (r : IsReady s) (f : IsFrontier s.graph) (none : s.table ≡ [])
     (ends : length s.graph.inputs ≡ length s.graph.outputs) where
-  all : (v : ℕ) → Live s.graph v → (member v (places s.graph.inputs) ≡ true) ×
-      (member v (places s.graph.outputs) ≡ true)
+  all : (v : ℕ) → Live s.graph v → (member v (end_vertices s.graph.inputs) ≡ true) ×
+      (member v (end_vertices s.graph.outputs) ≡ true)
   all = all_ends s.graph r.given.well_formed (subst (IsFlow s.graph) none r.given.flow) ends
 
   differ : (us : List ℕ) → WellFormed (with_outputs us s.graph) → Distinct us
@@ -101,16 +101,16 @@ module _ (s : State) (r : IsReady s) (f : IsFrontier s.graph) (none : s.table �
 
   -- outputs elsewhere stand at the vertices of the inputs
   same : (us : List ℕ) → WellFormed (with_outputs us s.graph) → length us ≡ length s.graph.outputs → (x : ℕ) →
-      member x us ≡ member x (places s.graph.inputs)
-  same us w many x = same_members us (places s.graph.inputs) (differ us w)
+      member x us ≡ member x (end_vertices s.graph.inputs)
+  same us w many x = same_members us (end_vertices s.graph.inputs) (differ us w)
       (le_of_eq (length-places s.graph.inputs ∙ ends ∙ sym many))
-      (λ y t. (all y (all_at (λ u. member u (ids s.graph.vertices)) (places (map plain us)) y w.outputs.there
+      (λ y t. (all y (all_at (λ u. member u (ids s.graph.vertices)) (end_vertices (map plain us)) y w.outputs.there
       (ap (member y) (places-plain us) ∙ t))).0) x
 
-  same_graph : with_outputs (places s.graph.outputs) s.graph ≡ s.graph
+  same_graph : with_outputs (end_vertices s.graph.outputs) s.graph ≡ s.graph
   same_graph = ap (λ es. record s.graph { outputs = es }) (plain-places s.graph.outputs r.plain)
 
-  pub uncrossed_nothing : IsUncrossed s 0 (places s.graph.outputs) s.gates
+  pub uncrossed_nothing : IsUncrossed s 0 (end_vertices s.graph.outputs) s.gates
   uncrossed_nothing = record {
     formed = subst WellFormed (sym same_graph) r.given.well_formed;
     as_many = length-places s.graph.outputs;
@@ -121,17 +121,17 @@ module _ (s : State) (r : IsReady s) (f : IsFrontier s.graph) (none : s.table �
   }
 
   pub next_there : (i : ℕ) (us : List ℕ) (gates : List Gate) (w : ℕ) → IsUncrossed s i us gates →
-      slice_get (places s.graph.inputs) i ≡ Some w → member w us ≡ true
-  next_there i us gates w u h = same us u.formed u.as_many w ∙ slice_get-member (places s.graph.inputs) i w h
+      slice_get (end_vertices s.graph.inputs) i ≡ Some w → member w us ≡ true
+  next_there i us gates w u h = same us u.formed u.as_many w ∙ slice_get-member (end_vertices s.graph.inputs) i w h
 
-  more : (i : ℕ) (us : List ℕ) (w : ℕ) → slice_get us i ≡ Some w → slice_get (places s.graph.inputs) i ≡ Some w →
-      take i us ≡ take i (places s.graph.inputs) →
-      take (i + 1) us ≡ take (i + 1) (places s.graph.inputs)
+  more : (i : ℕ) (us : List ℕ) (w : ℕ) → slice_get us i ≡ Some w → slice_get (end_vertices s.graph.inputs) i ≡ Some w →
+      take i us ≡ take i (end_vertices s.graph.inputs) →
+      take (i + 1) us ≡ take (i + 1) (end_vertices s.graph.inputs)
   more i us w h k done = take-slice_get us i w h ∙ ap (λ l. l ++ w ∷ []) done
-      ∙ sym (take-slice_get (places s.graph.inputs) i w k)
+      ∙ sym (take-slice_get (end_vertices s.graph.inputs) i w k)
 
   pub uncrossed_stays : (i : ℕ) (us : List ℕ) (gates : List Gate) (w : ℕ) → IsUncrossed s i us gates →
-      slice_get us i ≡ Some w → slice_get (places s.graph.inputs) i ≡ Some w → IsUncrossed s (i + 1) us gates
+      slice_get us i ≡ Some w → slice_get (end_vertices s.graph.inputs) i ≡ Some w → IsUncrossed s (i + 1) us gates
   uncrossed_stays i us gates w u h k = record {
     formed = u.formed;
     as_many = u.as_many;
@@ -141,7 +141,7 @@ module _ (s : State) (r : IsReady s) (f : IsFrontier s.graph) (none : s.table �
 
   module _ (i j : ℕ) (us : List ℕ) (gates : List Gate) (w x : ℕ) (u : IsUncrossed s i us gates)
       (at_j : slice_get us j ≡ Some w) (at_i : slice_get us i ≡ Some x)
-      (k : slice_get (places s.graph.inputs) i ≡ Some w) (n : j ≢ i) where
+      (k : slice_get (end_vertices s.graph.inputs) i ≡ Some w) (n : j ≢ i) where
     swapped : swap us i j ≡ set (set us i w) j x
     swapped = swap-set us i j x w at_i at_j
 
@@ -174,9 +174,9 @@ module _ (s : State) (r : IsReady s) (f : IsFrontier s.graph) (none : s.table �
     later : i < j
     later = by_test (ltb j i)
         (λ t. let below : j < i = ltb-true j i t in
-        absurd (n (one_index (places s.graph.inputs) j i w
-        (Distinct-different (places s.graph.inputs) r.given.well_formed.inputs.one_each)
-        (sym (slice_get-take (places s.graph.inputs) i j below) ∙ ap (λ l. slice_get l j) (sym u.done)
+        absurd (n (one_index (end_vertices s.graph.inputs) j i w
+        (Distinct-different (end_vertices s.graph.inputs) r.given.well_formed.inputs.one_each)
+        (sym (slice_get-take (end_vertices s.graph.inputs) i j below) ∙ ap (λ l. slice_get l j) (sym u.done)
         ∙ slice_get-take us i j below ∙ at_j) k)))
         (λ t. let above : i ≤ j = ltb-false j i t in omega arith)
 
@@ -194,14 +194,14 @@ module _ (s : State) (r : IsReady s) (f : IsFrontier s.graph) (none : s.table �
           (omega arith) spiders refl refl));
       done = ap (take (i + 1)) swapped ∙ take-set-le (i + 1) (set us i w) j x (omega (arith, later))
           ∙ take_more_set us i w (slice_get_below us i x at_i)
-          ∙ ap (λ l. l ++ w ∷ []) u.done ∙ sym (take-slice_get (places s.graph.inputs) i w k);
+          ∙ ap (λ l. l ++ w ∷ []) u.done ∙ sym (take-slice_get (end_vertices s.graph.inputs) i w k);
     }
 
   -- ---- wires are left
   module _ (us : List ℕ) (gates : List Gate) (u : IsUncrossed s (length s.graph.outputs) us gates) where
-    in_place : us ≡ places s.graph.inputs
+    in_place : us ≡ end_vertices s.graph.inputs
     in_place = sym (take_all (length s.graph.outputs) us (le_of_eq u.as_many)) ∙ u.done
-        ∙ take_all (length s.graph.outputs) (places s.graph.inputs) (le_of_eq (length-places s.graph.inputs ∙ ends))
+        ∙ take_all (length s.graph.outputs) (end_vertices s.graph.inputs) (le_of_eq (length-places s.graph.inputs ∙ ends))
 
     pub uncrossed_leads : Leads s (3 * length s.graph.outputs) 0 0
         (record { graph = in_line s.graph; table = s.table; gates = gates })

@@ -1,4 +1,4 @@
--- Tables that are turned over: what changes among the places that are held, as a change of the sets.
+-- Tables that are turned over: what changes of the sets in which a vertex stands, as a change of the sets.
 use Rattle.std.proofs.Common.{◌≡◌, refl, sym, ◌∙◌, ap, ap₂, subst, ℕ, zero, suc, ◌+◌, ◌-◌, ◌<◌, ◌≤◌, Bool, true, false, cond, not, ◌&&◌, ◌||◌, eqb, ltb, List, [], ◌∷◌, ◌++◌, length, get_or, take, take_all, length-take, filter, true≢false, ltb-true, ltb-false, eqb-true, arith}
 use Rattle.std.specs.List.{range_with_len}
 use Rattle.std.specs.Prelude.{Option, Some, IfSome, slice_get}
@@ -6,23 +6,25 @@ use Rattle.std.proofs.lemmas.Option.{slice_get-get_or, slice_get_within, get_or_
 use Rattle.std.proofs.lemmas.List.{get_or_past, length_push, same_from_push}
 use Rattle.std.proofs.Math.Seq.{take-suc}
 use Rattle.zx_model.specs.Bits.{xor, member}
-use Rattle.zx_calculus.specs.Graph.{different}
+use Rattle.zx_calculus.specs.Graph.{Distinct, different}
 use Rattle.zx_calculus.proofs.Booleans.{and-false, and-true, xor-false, xor-same, or-false}
 use Rattle.zx_calculus.proofs.Ids.{by_test, by_equal, eqb-self, eqb_comm, member-filter, and-left}
 use Rattle.gflow_laws.specs.Flow.{Correction, order_of, set_of, is_in, SameSets}
 use Rattle.gflow_laws.specs.Tables.{symmetric_difference, with_sets}
 use Rattle.gflow_laws.specs.Outputs.{row_added_set, row_added_table, advanced_table, last_removed_table}
 use Rattle.gflow_laws.proofs.Lists.{is_in-symmetric_difference}
-use Rattle.gflow_laws.proofs.TableLaws.{order_of-with_sets}
+use Rattle.gflow_laws.proofs.Tables.{order_of-with_sets}
+use Rattle.zx_calculus.proofs.Ids.{member-append}
+use Rattle.gflow_laws.proofs.LastLaws.{Distinct-front}
 use Rattle.gflow_laws.proofs.OutputLaws.{is_in-row_added}
-use Rattle.zx_extract.specs.Internal.Holders.{holds, holders_of, table_from, IsHeldBelow, IsToggled, IsCleared}
+use Rattle.zx_extract.specs.Internal.Holders.{holds, holders_of, table_from, IsOrdered, IsToggled, IsCleared}
 
 member-range : (n a s : ℕ) → a ≤ s → s < a + n → member s (range_with_len a n) ≡ true
 member-range zero a s low high = absurd (omega arith)
 member-range (suc n) a s low high =
     by_equal s a (λ t e. rw t refl) (λ f apart. rw f (member-range n (a + 1) s (omega arith) (omega arith)))
 
--- those who hold a place are the members of the set there
+-- those who stand in the set of v are its members
 pub member-holders_of : (lists : List (List ℕ)) (place s : ℕ) →
     member s (holders_of lists place) ≡ holds lists s place
 member-holders_of lists place s =
@@ -41,33 +43,31 @@ member-holders_of lists place s =
         ap (λ b. member s (range_with_len 0 (length lists)) && b) none
         ∙ and-false (member s (range_with_len 0 (length lists))) ∙ sym none
 
-pub order_of-table_from : (lists : List (List ℕ)) (place : ℕ) (order : List ℕ) →
-    order_of (table_from lists place order) ≡ order
-order_of-table_from lists place [] = refl
-order_of-table_from lists place (v ∷ vs) = ap (λ r. v ∷ r) (order_of-table_from lists (suc place) vs)
+pub order_of-table_from : (lists : List (List ℕ)) (order : List ℕ) → order_of (table_from lists order) ≡ order
+order_of-table_from lists [] = refl
+order_of-table_from lists (v ∷ vs) = ap (λ r. v ∷ r) (order_of-table_from lists vs)
 
--- sets that change alike at each place
-SameSets-changed : (old new : List (List ℕ)) (change : List ℕ → List ℕ) (place : ℕ) (order : List ℕ) →
-    ((p w : ℕ) → member w (holders_of new p) ≡ member w (change (holders_of old p))) →
-    SameSets (table_from new place order) (with_sets (λ v members. change members) (table_from old place order))
-SameSets-changed old new change place order same =
+-- sets that change alike
+SameSets-changed : (old new : List (List ℕ)) (change : List ℕ → List ℕ) (order : List ℕ) →
+    ((v w : ℕ) → member w (holders_of new v) ≡ member w (change (holders_of old v))) →
+    SameSets (table_from new order) (with_sets (λ v members. change members) (table_from old order))
+SameSets-changed old new change order same =
     record {
-      order = order_of-table_from new place order
-          ∙ sym (order_of-with_sets (λ v members. change members) (table_from old place order)
-          ∙ order_of-table_from old place order);
-      members = at place order;
+      order = order_of-table_from new order
+          ∙ sym (order_of-with_sets (λ v members. change members) (table_from old order) ∙ order_of-table_from old order);
+      members = at order;
     }
   where
-    at : (p : ℕ) (vs : List ℕ) (v w : ℕ) →
-        is_in (set_of (table_from new p vs) v) w ≡
-        is_in (set_of (with_sets (λ u members. change members) (table_from old p vs)) v) w
-    at p [] v w = refl
-    at p (x ∷ xs) v w = by_test (eqb v x) (λ t. rw t (same p w)) (λ f. rw f (at (suc p) xs v w))
+    at : (vs : List ℕ) (v w : ℕ) →
+        is_in (set_of (table_from new vs) v) w ≡
+        is_in (set_of (with_sets (λ u members. change members) (table_from old vs)) v) w
+    at [] v w = refl
+    at (x ∷ xs) v w = by_test (eqb v x) (λ t. rw t (same x w)) (λ f. rw f (at xs v w))
 
 pub SameSets-toggled : (old new : List (List ℕ)) (c t : ℕ) (order : List ℕ) → IsToggled c t old new →
-    SameSets (table_from new 0 order) (row_added_table c t (table_from old 0 order))
+    SameSets (table_from new order) (row_added_table c t (table_from old order))
 SameSets-toggled old new c t order toggled =
-    SameSets-changed old new (row_added_set c t) 0 order
+    SameSets-changed old new (row_added_set c t) order
     (λ p w. member-holders_of new p w ∙ toggled w p
     ∙ ap₂ (λ a b. xor a (b && eqb w c)) (sym (member-holders_of old p w)) (sym (member-holders_of old p t))
     ∙ sym (is_in-row_added c t (holders_of old p) w))
@@ -75,23 +75,15 @@ SameSets-toggled old new c t order toggled =
 -- the last entry of the table, and those before it
 pub record Cut (lists : List (List ℕ)) (order : List ℕ) (before : List Correction) (e : Correction) : Type 0 where
   pub some : 0 < length order
-  pub front : before ≡ table_from lists 0 (take (length order - 1) order)
+  pub front : before ≡ table_from lists (take (length order - 1) order)
   pub vertex : e.vertex ≡ get_or order (length order - 1) 0
-  pub members : (s : ℕ) → is_in e.members s ≡ holds lists s (length order - 1)
+  pub members : (s : ℕ) → is_in e.members s ≡ holds lists s e.vertex
 
-table_from-append : (lists : List (List ℕ)) (place : ℕ) (vs : List ℕ) (v last : ℕ) → place + length vs ≡ last →
-    table_from lists place (vs ++ v ∷ []) ≡ table_from lists place vs ++ record {
-      vertex = v;
-      members = holders_of lists last;
-    } ∷ []
-table_from-append lists place [] v last e =
-    ap (λ p. record { vertex = v; members = holders_of lists p } ∷ []) (let same : place ≡ last = omega arith in
-    same)
-table_from-append lists place (x ∷ xs) v last e =
-    ap (λ r. record {
-      vertex = x;
-      members = holders_of lists place;
-    } ∷ r) (table_from-append lists (suc place) xs v last (omega arith))
+table_from-append : (lists : List (List ℕ)) (vs : List ℕ) (v : ℕ) →
+    table_from lists (vs ++ v ∷ []) ≡ table_from lists vs ++ record { vertex = v; members = holders_of lists v } ∷ []
+table_from-append lists [] v = refl
+table_from-append lists (x ∷ xs) v =
+    ap (λ r. record { vertex = x; members = holders_of lists x } ∷ r) (table_from-append lists xs v)
 
 split_last : (order : List ℕ) → 0 < length order →
     order ≡ take (length order - 1) order ++ get_or order (length order - 1) 0 ∷ []
@@ -100,18 +92,17 @@ split_last order some =
     ∙ take_all (suc (length order - 1)) order (omega arith))
 
 pub last_entry : (lists : List (List ℕ)) (order : List ℕ) → 0 < length order →
-    table_from lists 0 order ≡
-    table_from lists 0 (take (length order - 1) order) ++ record {
+    table_from lists order ≡
+    table_from lists (take (length order - 1) order) ++ record {
       vertex = get_or order (length order - 1) 0;
-      members = holders_of lists (length order - 1);
+      members = holders_of lists (get_or order (length order - 1) 0);
     } ∷ []
 last_entry lists order some =
-    ap (table_from lists 0) (split_last order some)
-    ∙ table_from-append lists 0 (take (length order - 1) order) (get_or order (length order - 1) 0)
-    (length order - 1) (simp length-take (omega arith))
+    ap (table_from lists) (split_last order some)
+    ∙ table_from-append lists (take (length order - 1) order) (get_or order (length order - 1) 0)
 
 pub cut : (lists : List (List ℕ)) (order : List ℕ) (before : List Correction) (e : Correction) →
-    table_from lists 0 order ≡ before ++ e ∷ [] → Cut lists order before e
+    table_from lists order ≡ before ++ e ∷ [] → Cut lists order before e
 cut lists [] before e is = absurd (nothing before is)
   where
     nothing : (es : List Correction) → [] ≡ es ++ e ∷ [] → ⊥
@@ -119,25 +110,26 @@ cut lists [] before e is = absurd (nothing before is)
     nothing (x ∷ xs) h = cc
 cut lists (v ∷ vs) before e is =
     let parts = same_from_push _ _ _ _ (sym is ∙ last_entry lists (v ∷ vs) (omega arith)) in
+    let vertex : e.vertex ≡ get_or (v ∷ vs) (length (v ∷ vs) - 1) 0 = ap (λ (c : Correction). c.vertex) parts.1 in
     record {
       some = omega arith;
       front = parts.0;
-      vertex = ap (λ (c : Correction). c.vertex) parts.1;
+      vertex = vertex;
       members = λ s. ap (λ (c : Correction). member s c.members) parts.1
-          ∙ member-holders_of lists (length (v ∷ vs) - 1) s;
+          ∙ member-holders_of lists (get_or (v ∷ vs) (length (v ∷ vs) - 1) 0) s ∙ ap (holds lists s) (sym vertex);
     }
 
 pub last_known : (lists : List (List ℕ)) (order : List ℕ) (r : Option ℕ) → r ≡ slice_get order (length order - 1) →
-    IfSome r (λ v. (before : List Correction) × (e : Correction) × (table_from lists 0 order ≡
+    IfSome r (λ v. (before : List Correction) × (e : Correction) × (table_from lists order ≡
     before ++ e ∷ []) × (e.vertex ≡ v))
 last_known lists [] r is = rw is tt
 last_known lists (x ∷ xs) r is =
     rw (is ∙ slice_get-get_or (x ∷ xs) (length (x ∷ xs) - 1) 0 (omega arith)) (
-      table_from lists 0 (take (length (x ∷ xs) - 1) (x ∷ xs)),
+      table_from lists (take (length (x ∷ xs) - 1) (x ∷ xs)),
       record {
         vertex = get_or (x ∷ xs)
             (length (x ∷ xs) - 1) 0;
-        members = holders_of lists (length (x ∷ xs) - 1);
+        members = holders_of lists (get_or (x ∷ xs) (length (x ∷ xs) - 1) 0);
       },
       last_entry lists (x ∷ xs) (omega arith),
       refl,
@@ -146,24 +138,48 @@ last_known lists (x ∷ xs) r is =
 -- the sets of those before, after x went from all
 pub SameSets-advanced : (old new : List (List ℕ)) (order : List ℕ) (x : ℕ) (before : List Correction)
     (e : Correction) → IsCleared x old new → Cut old order before e →
-    SameSets (table_from new 0 (take (length order - 1) order)) (advanced_table x before)
+    SameSets (table_from new (take (length order - 1) order)) (advanced_table x before)
 SameSets-advanced old new order x before e cleared at =
-    subst (λ b. SameSets (table_from new 0 (take (length order - 1) order)) (advanced_table x b)) (sym at.front)
-    (SameSets-changed old new (filter (different x)) 0 (take (length order - 1) order)
+    subst (λ b. SameSets (table_from new (take (length order - 1) order)) (advanced_table x b)) (sym at.front)
+    (SameSets-changed old new (filter (different x)) (take (length order - 1) order)
     (λ p w. member-holders_of new p w ∙ cleared w p ∙ ap (λ b. b && different x w) (sym (member-holders_of old p w))
     ∙ sym (member-filter (different x) (holders_of old p) w)))
 
--- where the last set has x alone, the last place is not held any more
-pub below_advanced : (old new : List (List ℕ)) (order : List ℕ) (x : ℕ) (before : List Correction)
-    (e : Correction) → IsCleared x old new → IsHeldBelow (length order) old →
-    Cut old order before e → ((y : ℕ) → is_in e.members y ≡ eqb y x) → IsHeldBelow (length order - 1) new
-below_advanced old new order x before e cleared below at alone s p h =
-    let lt : p < length order = below s p (and-left _ _ (sym (cleared s p) ∙ h)) in
-    by_equal p (length order - 1)
-    (λ t same. absurd (true≢false (sym h ∙ cleared s p
-    ∙ ap (λ b. b && different x s) (ap (holds old s) same ∙ sym (at.members s) ∙ alone s ∙ eqb_comm s x)
-    ∙ off (eqb x s))))
-    (λ f apart. omega arith)
+-- the order cut at its last vertex, which has no set any more
+module _ (old new : List (List ℕ)) (order : List ℕ) (before : List Correction) (e : Correction) (ordered : IsOrdered order old)
+    (at : Cut old order before e) where
+  ordered_front : ((s v : ℕ) → holds new s v ≡ true → member v order ≡ true) → ((s : ℕ) → holds new s e.vertex ≡ false) →
+      IsOrdered (take (length order - 1) order) new
+  ordered_front there gone =
+      record {
+        each_once = parts.0;
+        within = λ s v h.
+            by_equal v e.vertex (λ t same. absurd (true≢false (sym h ∙ ap (holds new s) same ∙ gone s)))
+            (λ f apart. in_front v f (there s v h));
+      }
+    where
+      front : List ℕ
+      front = take (length order - 1) order
+
+      split : order ≡ front ++ e.vertex ∷ []
+      split = split_last order at.some ∙ ap (λ u. front ++ u ∷ []) (sym at.vertex)
+
+      parts : Distinct front × (member e.vertex front ≡ false)
+      parts = Distinct-front front e.vertex (subst Distinct split ordered.each_once)
+
+      in_front : (v : ℕ) → eqb v e.vertex ≡ false → member v order ≡ true → member v front ≡ true
+      in_front v f there_too =
+          sym (or-false (member v front)) ∙ ap (λ b. member v front || (b || false)) (sym f)
+          ∙ sym (member-append v front (e.vertex ∷ [])) ∙ ap (member v) (sym split) ∙ there_too
+
+-- where the last set has x alone
+pub ordered_advanced : (old new : List (List ℕ)) (order : List ℕ) (x : ℕ) (before : List Correction)
+    (e : Correction) → IsCleared x old new → IsOrdered order old →
+    Cut old order before e → ((y : ℕ) → is_in e.members y ≡ eqb y x) → IsOrdered (take (length order - 1) order) new
+ordered_advanced old new order x before e cleared ordered at alone =
+    ordered_front old new order before e ordered at
+    (λ s v h. ordered.within s v (and-left _ _ (sym (cleared s v) ∙ h)))
+    (λ s. cleared s e.vertex ∙ ap (λ b. b && different x s) (sym (at.members s) ∙ alone s ∙ eqb_comm s x) ∙ off (eqb x s))
   where
     off : (b : Bool) → (b && not b) ≡ false
     off true = refl
@@ -185,33 +201,32 @@ is_in-removed v toggled members w = at (is_in members v)
 
 pub SameSets-removed : (old new : List (List ℕ)) (order : List ℕ) (before : List Correction) (e : Correction) →
     IsRemoved e.vertex e.members old new → Cut old order before e →
-    SameSets (table_from new 0 (take (length order - 1) order)) (last_removed_table e before)
+    SameSets (table_from new (take (length order - 1) order)) (last_removed_table e before)
 SameSets-removed old new order before e removed at =
-    subst (λ b. SameSets (table_from new 0 (take (length order - 1) order)) (last_removed_table e b)) (sym at.front)
+    subst (λ b. SameSets (table_from new (take (length order - 1) order)) (last_removed_table e b)) (sym at.front)
     (SameSets-changed old new
-    (λ members. cond (is_in members e.vertex) (symmetric_difference members e.members) members) 0
+    (λ members. cond (is_in members e.vertex) (symmetric_difference members e.members) members)
     (take (length order - 1) order)
     (λ p w. member-holders_of new p w ∙ removed w p
     ∙ ap₂ (λ a b. xor a (b && is_in e.members w)) (sym (member-holders_of old p w))
     (sym (member-holders_of old p e.vertex)) ∙ sym (is_in-removed e.vertex e.members (holders_of old p) w)))
 
-either : (p end : ℕ) (a b m : Bool) → (a ≡ true → p < end) → (b ≡ true → p < end) → xor a (b && m) ≡ true → p < end
-either p end true b m here there h = here refl
-either p end false true m here there h = there refl
-either p end false false m here there h = absurd (true≢false (sym h))
+either : {P : Type 0} (a b m : Bool) → (a ≡ true → P) → (b ≡ true → P) → xor a (b && m) ≡ true → P
+either true b m here there h = here refl
+either false true m here there h = there refl
+either false false m here there h = absurd (true≢false (sym h))
 
--- where the last vertex is in its own set, the last place is not held any more
-pub below_removed : (old new : List (List ℕ)) (order : List ℕ) (before : List Correction) (e : Correction) →
-    IsRemoved e.vertex e.members old new → IsHeldBelow (length order) old →
-    Cut old order before e → is_in e.members e.vertex ≡ true → IsHeldBelow (length order - 1) new
-below_removed old new order before e removed below at own s p h =
-    by_equal p (length order - 1)
-    (λ t same. absurd (true≢false (sym h ∙ removed s p
-    ∙ ap₂ (λ a b. xor a (b && is_in e.members s)) (ap (holds old s) same
-    ∙ sym (at.members s)) (ap (holds old e.vertex) same ∙ sym (at.members e.vertex) ∙ own)
-    ∙ xor-same (is_in e.members s))))
-    (λ f apart. let lt : p < length order = either p (length order) (holds old s p) (holds old e.vertex p)
-    (is_in e.members s) (below s p) (below e.vertex p) (sym (removed s p) ∙ h) in omega arith)
+-- where the last vertex is in its own set
+ordered_removed : (old new : List (List ℕ)) (order : List ℕ) (before : List Correction) (e : Correction) →
+    IsRemoved e.vertex e.members old new → IsOrdered order old →
+    Cut old order before e → is_in e.members e.vertex ≡ true → IsOrdered (take (length order - 1) order) new
+ordered_removed old new order before e removed ordered at own =
+    ordered_front old new order before e ordered at
+    (λ s v h. either (holds old s v) (holds old e.vertex v) (is_in e.members s) (ordered.within s v)
+    (ordered.within e.vertex v) (sym (removed s v) ∙ h))
+    (λ s. removed s e.vertex
+    ∙ ap₂ (λ a b. xor a (b && is_in e.members s)) (sym (at.members s)) (sym (at.members e.vertex) ∙ own)
+    ∙ xor-same (is_in e.members s))
 
 -- a bit that is toggled by another, where v's own goes
 gone : (own linked h hv : Bool) → (own ≡ true → h ≡ hv) →
@@ -235,19 +250,19 @@ removed_alone old new v members cleared alone s p =
     ∙ gone (eqb s v) false (holds old s p) (holds old v p) (λ t. ap (λ u. holds old u p) (eqb-true s v t))
     ∙ ap (λ b. xor (holds old s p) (holds old v p && b)) (or-false (eqb s v) ∙ sym (alone s))
 
--- the lists and the order after the last vertex went
+-- the sets and the order after the last vertex went
 pub record Taken (new : List (List ℕ)) (rest : List ℕ) (before : List Correction) (e : Correction) : Type 0 where
-  pub below : IsHeldBelow (length rest) new
-  pub sets : SameSets (table_from new 0 rest) (last_removed_table e before)
+  pub ordered : IsOrdered rest new
+  pub sets : SameSets (table_from new rest) (last_removed_table e before)
 
 taken : (old new : List (List ℕ)) (order rest : List ℕ) (v : ℕ) (before : List Correction) (e : Correction) →
-    order ≡ rest ++ v ∷ [] → IsHeldBelow (length order) old → table_from old 0 order ≡ before ++ e ∷ [] →
+    order ≡ rest ++ v ∷ [] → IsOrdered order old → table_from old order ≡ before ++ e ∷ [] →
     is_in e.members e.vertex ≡ true → (e.vertex ≡ v → IsRemoved e.vertex e.members old new) →
     Taken new rest before e
-taken old new order rest v before e is below table own removed =
+taken old new order rest v before e is ordered table own removed =
     record {
-      below = subst (λ n. IsHeldBelow n new) short (below_removed old new order before e gone_now below at own);
-      sets = subst (λ l. SameSets (table_from new 0 l) (last_removed_table e before)) (sym parts.0)
+      ordered = subst (λ l. IsOrdered l new) (sym parts.0) (ordered_removed old new order before e gone_now ordered at own);
+      sets = subst (λ l. SameSets (table_from new l) (last_removed_table e before)) (sym parts.0)
           (SameSets-removed old new order before e gone_now at);
     }
   where
@@ -257,9 +272,6 @@ taken old new order rest v before e is below table own removed =
     parts : (rest ≡ take (length order - 1) order) × (v ≡ get_or order (length order - 1) 0)
     parts = same_from_push _ _ _ _ (sym is ∙ split_last order (omega (arith, long)))
 
-    short : length order - 1 ≡ length rest
-    short = omega (arith, long)
-
     at : Cut old order before e
     at = cut old order before e table
 
@@ -267,20 +279,20 @@ taken old new order rest v before e is below table own removed =
     gone_now = removed (at.vertex ∙ sym parts.1)
 
 pub taken_alone : (old new : List (List ℕ)) (order rest : List ℕ) (v : ℕ) (before : List Correction)
-    (e : Correction) → order ≡ rest ++ v ∷ [] → IsHeldBelow (length order) old →
-    table_from old 0 order ≡ before ++ e ∷ [] →
+    (e : Correction) → order ≡ rest ++ v ∷ [] → IsOrdered order old →
+    table_from old order ≡ before ++ e ∷ [] →
     IsCleared v old new → ((y : ℕ) → is_in e.members y ≡ eqb y e.vertex) → Taken new rest before e
-taken_alone old new order rest v before e is below table cleared alone =
-    taken old new order rest v before e is below table (alone e.vertex ∙ eqb-self e.vertex)
+taken_alone old new order rest v before e is ordered table cleared alone =
+    taken old new order rest v before e is ordered table (alone e.vertex ∙ eqb-self e.vertex)
     (λ same. removed_alone old new e.vertex e.members (subst (λ u. IsCleared u old new) (sym same) cleared) alone)
 
 pub taken_linked : (old mid new : List (List ℕ)) (order rest : List ℕ) (x v : ℕ) (before : List Correction)
-    (e : Correction) → order ≡ rest ++ v ∷ [] → IsHeldBelow (length order) old →
-    table_from old 0 order ≡ before ++ e ∷ [] →
+    (e : Correction) → order ≡ rest ++ v ∷ [] → IsOrdered order old →
+    table_from old order ≡ before ++ e ∷ [] →
     IsToggled x v old mid → IsCleared v mid new → ((y : ℕ) → is_in e.members y ≡ (eqb y e.vertex || eqb y x)) →
     Taken new rest before e
-taken_linked old mid new order rest x v before e is below table toggled cleared linked =
-    taken old new order rest v before e is below table (linked e.vertex
+taken_linked old mid new order rest x v before e is ordered table toggled cleared linked =
+    taken old new order rest v before e is ordered table (linked e.vertex
     ∙ ap (λ b. b || eqb e.vertex x) (eqb-self e.vertex))
     (λ same. removed_linked old mid new x e.vertex e.members (subst (λ u. IsToggled x u old mid) (sym same) toggled)
     (subst (λ u. IsCleared u mid new) (sym same) cleared) linked)

@@ -1,7 +1,7 @@
 -- The last vertex of a flow, whose set has outputs beside itself: how many of them are left in it decides what it is.
 use Rattle.std.proofs.Common.{◌≡◌, ◌≢◌, refl, sym, ◌∙◌, ap, ap₂, subst, ℕ, Bool, true, false, not, ◌&&◌, ◌||◌, eqb, eqb-true, eq-eqb, ne_eqb, [], ◌∷◌, ◌++◌, true≢false}
 use Rattle.zx_model.specs.Bits.{member}
-use Rattle.zx_calculus.specs.Graph.{XY, XZ, YZ, Plane, ids, plane_of, joined, places, Live}
+use Rattle.zx_calculus.specs.Graph.{XY, XZ, YZ, Plane, ids, plane_of, joined, end_vertices, Live}
 use Rattle.zx_calculus.proofs.Booleans.{and-false}
 use Rattle.zx_calculus.proofs.Ids.{by_test, by_equal, eqb-self}
 use Rattle.zx_calculus.proofs.Edges.{joined_comm}
@@ -30,10 +30,10 @@ module _ (s : State) (v : ℕ) (r : IsReady s) (f : IsFrontier s.graph) (last : 
   functions = Flows-from (seen s.graph) (last.before ++ last.entry ∷ []) flow
 
   -- each output of the graph is plain, at some place
-  at_place : (u : ℕ) → member u (places s.graph.outputs) ≡ true → (p : ℕ) × HasPlainOutput s.graph p u
+  at_place : (u : ℕ) → member u (end_vertices s.graph.outputs) ≡ true → (p : ℕ) × HasPlainOutput s.graph p u
   at_place u there = place_of_output s.graph.outputs u r.plain there
 
-  pub outputs_apart : (u w : ℕ) → member u (places s.graph.outputs) ≡ true → member w (places s.graph.outputs) ≡ true →
+  pub outputs_apart : (u w : ℕ) → member u (end_vertices s.graph.outputs) ≡ true → member w (end_vertices s.graph.outputs) ≡ true →
       joined s.graph.edges u w ≡ false
   outputs_apart u w at_u at_w = f.apart (at_place u at_u).0 (at_place w at_w).0 refl refl u w (at_place u at_u).1
       (at_place w at_w).1
@@ -48,8 +48,8 @@ module _ (s : State) (v : ℕ) (r : IsReady s) (f : IsFrontier s.graph) (last : 
   last_live = ap (λ x. member x (ids s.graph.vertices)) (sym last.vertex)
       ∙ live (seen s.graph) (last.before ++ last.entry ∷ []) functions last.entry.vertex listed
 
-  pub last_no_output : member v (places s.graph.outputs) ≡ false
-  last_no_output = ap (λ x. member x (places s.graph.outputs)) (sym last.vertex)
+  pub last_no_output : member v (end_vertices s.graph.outputs) ≡ false
+  last_no_output = ap (λ x. member x (end_vertices s.graph.outputs)) (sym last.vertex)
       ∙ no_output (seen s.graph) (last.before ++ last.entry ∷ []) functions last.entry.vertex listed
 
   corrects : Corrects (seen s.graph) (is_later (order_of (last.before ++ last.entry ∷ []))) last.entry.vertex
@@ -69,13 +69,13 @@ module _ (s : State) (v : ℕ) (r : IsReady s) (f : IsFrontier s.graph) (last : 
 
   -- members other than v are outputs without inputs
   members_are : (w : ℕ) → is_in last.entry.members w ≡ true → w ≢ v →
-      (member w (places s.graph.outputs) ≡ true) × (member w (places s.graph.inputs) ≡ false)
+      (member w (end_vertices s.graph.outputs) ≡ true) × (member w (end_vertices s.graph.inputs) ≡ false)
   members_are w there n = last-members (seen s.graph) last.before last.entry is_last w there (λ e. n (e ∙ last.vertex))
 
-  pub picked_no_input : (u : ℕ) → member u (places s.graph.outputs) ≡ true → last_set s.table u ≡ true →
-      member u (places s.graph.inputs) ≡ false
+  pub picked_no_input : (u : ℕ) → member u (end_vertices s.graph.outputs) ≡ true → last_set s.table u ≡ true →
+      member u (end_vertices s.graph.inputs) ≡ false
   picked_no_input u at_u there = (members_are u (in_set u ∙ there)
-      (λ e. true≢false (sym at_u ∙ ap (λ x. member x (places s.graph.outputs)) e ∙ last_no_output))).1
+      (λ e. true≢false (sym at_u ∙ ap (λ x. member x (end_vertices s.graph.outputs)) e ∙ last_no_output))).1
 
   -- a vertex is adjacent to none that isn't there
   absent : (u w : ℕ) → member w (ids s.graph.vertices) ≡ false → joined s.graph.edges u w ≡ false
@@ -85,16 +85,16 @@ module _ (s : State) (v : ℕ) (r : IsReady s) (f : IsFrontier s.graph) (last : 
 
   -- ---- with one output in the set
   module _ (q u : ℕ) (one : HasOneOutput s q) (o : HasPlainOutput s.graph q u) where
-    at_u : member u (places s.graph.outputs) ≡ true
+    at_u : member u (end_vertices s.graph.outputs) ≡ true
     at_u = member-places s.graph.outputs q (record { vertex = u; hadamard = false }) o
 
     pub u_apart : u ≢ v
-    u_apart e = true≢false (sym at_u ∙ ap (λ x. member x (places s.graph.outputs)) e ∙ last_no_output)
+    u_apart e = true≢false (sym at_u ∙ ap (λ x. member x (end_vertices s.graph.outputs)) e ∙ last_no_output)
 
     u_in_set : last_set s.table u ≡ true
     u_in_set = one q u o ∙ eqb-self q
 
-    pub link_no_input : member u (places s.graph.inputs) ≡ false
+    pub link_no_input : member u (end_vertices s.graph.inputs) ≡ false
     link_no_input = picked_no_input u at_u u_in_set
 
     -- beside v the set has u alone
@@ -139,15 +139,15 @@ module _ (s : State) (v : ℕ) (r : IsReady s) (f : IsFrontier s.graph) (last : 
 
     -- u has those neighbours of v that aren't outputs
     pub linked : plane_of s.graph v ≡ YZ → (w : ℕ) → joined s.graph.edges u w ≡
-        (joined s.graph.edges v w && not (member w (places s.graph.outputs)))
+        (joined s.graph.edges v w && not (member w (end_vertices s.graph.outputs)))
     linked plane w = by_test (member w (ids s.graph.vertices))
         (λ within. gathered-YZ (seen s.graph) last.before last.entry is_last (at_entry YZ plane) u others_are w within
-        ∙ ap (λ x. joined s.graph.edges x w && not (member w (places s.graph.outputs))) last.vertex)
-        (λ out. absent u w out ∙ sym (ap (λ b. b && not (member w (places s.graph.outputs))) (absent v w out)))
+        ∙ ap (λ x. joined s.graph.edges x w && not (member w (end_vertices s.graph.outputs))) last.vertex)
+        (λ out. absent u w out ∙ sym (ap (λ b. b && not (member w (end_vertices s.graph.outputs))) (absent v w out)))
 
     pub link_not_adjacent : plane_of s.graph v ≡ YZ → joined s.graph.edges v u ≡ false
     link_not_adjacent plane = joined_comm s.graph.edges v u ∙ linked plane v
-        ∙ ap (λ b. b && not (member v (places s.graph.outputs))) (no_loop s.graph v r.given.well_formed)
+        ∙ ap (λ b. b && not (member v (end_vertices s.graph.outputs))) (no_loop s.graph v r.given.well_formed)
 
   -- ---- with no output in the set
   module _ (none : HasNoOutput s) where
@@ -187,7 +187,7 @@ module _ (s : State) (v : ℕ) (r : IsReady s) (f : IsFrontier s.graph) (last : 
         ∙ sym (eq-eqb w last.entry.vertex (e ∙ sym last.vertex)))
         (λ _ n. empty w n ∙ sym (ne_eqb w last.entry.vertex (λ e. n (e ∙ last.vertex))))
 
-    pub neighbours_are_outputs : (w : ℕ) → joined s.graph.edges v w ≡ true → member w (places s.graph.outputs) ≡ true
+    pub neighbours_are_outputs : (w : ℕ) → joined s.graph.edges v w ≡ true → member w (end_vertices s.graph.outputs) ≡ true
     neighbours_are_outputs w near = by_test (member w (ids s.graph.vertices))
         (λ within. alone-YZ (seen s.graph) last.before last.entry is_last (at_entry YZ only_YZ)
         (λ y. ap (λ b. b && not (eqb y last.entry.vertex)) (set_is_itself y)

@@ -4,7 +4,7 @@ use Rattle.zx_model.specs.Bits.{xor, member}
 use Rattle.zx_calculus.specs.Graph.{Distinct}
 use Rattle.gflow_laws.specs.Flow.{Correction, order_of, set_of, is_in, SameSets}
 use Rattle.gflow_laws.specs.Outputs.{row_added_table}
-use Rattle.gflow_laws.proofs.TableLaws.{order_of-append, set_of-last}
+use Rattle.gflow_laws.proofs.Tables.{order_of-append, set_of-last}
 use Rattle.gflow_laws.proofs.OutputLaws.{is_in-row_added}
 use Rattle.gflow_laws.proofs.LastLaws.{Distinct-front}
 use Rattle.zx_extract.specs.Internal.Lists.{last_set}

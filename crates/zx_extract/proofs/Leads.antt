@@ -1,30 +1,18 @@
 -- Gates that are taken off one after the other.
-use Rattle.std.proofs.Common.{◌≡◌, refl, sym, ◌∙◌, ap, subst, ℕ, zero as nought, suc, ◌+◌, ◌≤◌, cond, List, [], ◌++◌, length, length-append, append_assoc, zero-add, arith}
+use Rattle.std.proofs.Common.{◌≡◌, refl, sym, ◌∙◌, ap, subst, ℕ, ◌+◌, ◌≤◌, List, [], ◌++◌, length, length-append, append_assoc, arith}
 use Rattle.std.specs.List.{All}
 use Rattle.std.proofs.lemmas.List.Elements.{All-append, All-nil}
-use Rattle.std.proofs.lemmas.List.Sums.{sum_by-append}
-use Rattle.zx_model.specs.Number.{one, mul}
-use Rattle.zx_model.specs.Constants.{two}
-use Rattle.zx_model.proofs.Ring.{one-mul, mul_assoc}
-use Rattle.zx_calculus.specs.Reduced.{odd_phases, not_XY}
-use Rattle.zx_calculus.specs.Counts.{XY_without_output}
-use Rattle.zx_gates.specs.Circuit.{IsOnQubits, gate_odd_phases, is_odd_phase}
+use Rattle.zx_model.specs.Number.{one}
+use Rattle.zx_model.specs.Constants.{power_of_two}
+use Rattle.zx_calculus.specs.Counts.{odd_phases, not_XY, XY_without_output}
+use Rattle.zx_gates.specs.Circuit.{IsOnQubits, gate_odd_phases}
 use Rattle.zx_gates.specs.declared.gate.Gate.{Gate}
 use Rattle.gflow_laws.specs.Flow.{Correction}
 use Rattle.circuit_laws.specs.Followed.{PeelsAt}
 use Rattle.circuit_laws.proofs.Composing.{peels_nothing, peels_at_then}
-use Rattle.zx_extract.specs.Extraction.{power_of_two}
 use Rattle.zx_extract.specs.Internal.Leading.{State, Leads}
-
-pub power_of_two-add : (j k : ℕ) → power_of_two (j + k) ≡ mul (power_of_two j) (power_of_two k)
-power_of_two-add nought k = ap power_of_two (zero-add k) ∙ sym (one-mul (power_of_two k))
-power_of_two-add (suc j) k =
-    let more : suc j + k ≡ suc (j + k) = omega arith in
-    ap power_of_two more ∙ ap (mul two) (power_of_two-add j k) ∙ sym (mul_assoc two (power_of_two j) (power_of_two k))
-
-pub odd-append : (first second : List Gate) → gate_odd_phases
-    (first ++ second) ≡ gate_odd_phases first + gate_odd_phases second
-odd-append first second = sum_by-append (λ g. cond (is_odd_phase g) 1 0) first second
+use Rattle.zx_model.proofs.Powers.{power_of_two-add}
+use Rattle.zx_gates.proofs.LoweringLemmas.{gate_odd_phases-append}
 
 pub leads_nothing : (s : State) → Leads s 0 0 0 s
 leads_nothing s = record {
@@ -52,7 +40,7 @@ leads_then s k p q t l p' q' u a b = record {
       (peels_at_then (power_of_two a.doublings) (power_of_two b.doublings)
       s.graph t.graph u.graph b.taken a.taken a.map b.map);
   few_doublings = omega (arith, a.few_doublings, b.few_doublings);
-  odd = both_odd _ _ _ _ _ _ a.odd b.odd (odd-append b.taken a.taken);
+  odd = both_odd _ _ _ _ _ _ a.odd b.odd (gate_odd_phases-append b.taken a.taken);
   on_qubits = All-append (IsOnQubits (length s.graph.outputs)) b.taken a.taken
       (subst (λ n. All (IsOnQubits n) b.taken) a.outputs b.on_qubits) a.on_qubits;
   few = both_few _ _ _ _ _ a.few b.few (length-append b.taken a.taken);

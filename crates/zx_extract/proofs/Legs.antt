@@ -4,7 +4,7 @@ use Rattle.std.specs.Prelude.{slice_get, Some}
 use Rattle.std.proofs.lemmas.List.{take_all}
 use Rattle.std.proofs.lemmas.List.Elements.{AllZip-push}
 use Rattle.zx_model.specs.Bits.{member}
-use Rattle.zx_calculus.specs.Graph.{End, Graph, joined, places, in_order, different, WellFormed}
+use Rattle.zx_calculus.specs.Graph.{End, Graph, joined, end_vertices, in_order, different, WellFormed}
 use Rattle.zx_calculus.specs.Worked.{plain}
 use Rattle.zx_calculus.proofs.Booleans.{and-false, or-true, or-false}
 use Rattle.zx_calculus.proofs.Ids.{by_equal, and-left, and-right}
@@ -15,19 +15,9 @@ use Rattle.circuit_laws.proofs.Places.{apart_from}
 use Rattle.zx_extract.specs.Internal.Steps.{AreLegs}
 use Rattle.zx_extract.proofs.Places.{take-places, one_vertex}
 
-pub legs_nothing : (g : Graph) (v : ℕ) → AreLegs g v 0 []
-legs_nothing g v = record {
-  legs = [];
-  once = tt;
-  at_outputs = tt;
-  neighbours = λ u. sym (and-false (joined g.edges v u));
-  few = omega arith;
-  fewer = λ q u within. absurd (omega arith);
-}
-
 -- the vertex of the next output isn't among those of the ones before
-not_before : (es : List End) (i w : ℕ) → in_order different (places es) ≡ true → slice_get es i ≡ Some (plain w) →
-    member w (take i (places es)) ≡ false
+not_before : (es : List End) (i w : ℕ) → in_order different (end_vertices es) ≡ true → slice_get es i ≡ Some (plain w) →
+    member w (take i (end_vertices es)) ≡ false
 not_before [] i w once h = cc
 not_before (e ∷ es) zero w once h = refl
 not_before (e ∷ es) (suc i) w once h =
@@ -35,9 +25,9 @@ not_before (e ∷ es) (suc i) w once h =
     (sym same))) (not_before es i w (and-right _ _ once) h)
 
 member_more : (es : List End) (i w u : ℕ) → slice_get es i ≡ Some (plain w) →
-    member u (take (i + 1) (places es)) ≡ (member u (take i (places es)) || eqb u w)
-member_more es i w u h = ap (member u) (take-places es i w h) ∙ member-append u (take i (places es)) (w ∷ [])
-    ∙ ap (λ b. member u (take i (places es)) || b) (is_in-one w u)
+    member u (take (i + 1) (end_vertices es)) ≡ (member u (take i (end_vertices es)) || eqb u w)
+member_more es i w u h = ap (member u) (take-places es i w h) ∙ member-append u (take i (end_vertices es)) (w ∷ [])
+    ∙ ap (λ b. member u (take i (end_vertices es)) || b) (is_in-one w u)
 
 pub legs_more : (g : Graph) (v i w : ℕ) (qubits : List ℕ) → WellFormed g → HasPlainOutput g i w →
     joined g.edges v w ≡ true → AreLegs g v i qubits → AreLegs g v (i + 1) (qubits ++ i ∷ [])
@@ -49,14 +39,14 @@ legs_more g v i w qubits wf o near a = record {
   at_outputs = AllZip-push (HasPlainOutput g) qubits a.legs i w a.at_outputs o;
   neighbours = λ u. member-append u a.legs (w ∷ []) ∙ ap₂ (λ b c. b || c) (a.neighbours u) (is_in-one w u)
       ∙ by_equal u w
-      (λ t e. ap (λ b. (joined g.edges v u && member u (take i (places g.outputs))) || b) t
-      ∙ or-true (joined g.edges v u && member u (take i (places g.outputs)))
+      (λ t e. ap (λ b. (joined g.edges v u && member u (take i (end_vertices g.outputs))) || b) t
+      ∙ or-true (joined g.edges v u && member u (take i (end_vertices g.outputs)))
       ∙ sym (ap₂ (λ b c. b && c) (ap (joined g.edges v) e ∙ near) (member_more g.outputs i w u o
-      ∙ ap (λ c. member u (take i (places g.outputs)) || c) t ∙ or-true (member u (take i (places g.outputs))))))
-      (λ f n. ap (λ b. (joined g.edges v u && member u (take i (places g.outputs))) || b) f
-      ∙ or-false (joined g.edges v u && member u (take i (places g.outputs)))
+      ∙ ap (λ c. member u (take i (end_vertices g.outputs)) || c) t ∙ or-true (member u (take i (end_vertices g.outputs))))))
+      (λ f n. ap (λ b. (joined g.edges v u && member u (take i (end_vertices g.outputs))) || b) f
+      ∙ or-false (joined g.edges v u && member u (take i (end_vertices g.outputs)))
       ∙ sym (ap (λ c. joined g.edges v u && c) (member_more g.outputs i w u o
-      ∙ ap (λ c. member u (take i (places g.outputs)) || c) f ∙ or-false (member u (take i (places g.outputs))))));
+      ∙ ap (λ c. member u (take i (end_vertices g.outputs)) || c) f ∙ or-false (member u (take i (end_vertices g.outputs))))));
   few = more _ _ _ a.few (length-append qubits (i ∷ []));
   fewer = λ q u within at_q off. by_equal q i
       (λ _ e. absurd (true≢false (sym (ap (joined g.edges v)
@@ -77,16 +67,16 @@ legs_skip g v i w qubits o off a = record {
   once = a.once;
   at_outputs = a.at_outputs;
   neighbours = λ u. a.neighbours u ∙ by_equal u w
-      (λ t e. ap (λ b. b && member u (take i (places g.outputs))) (ap (joined g.edges v) e ∙ off)
-      ∙ sym (ap (λ b. b && member u (take (i + 1) (places g.outputs))) (ap (joined g.edges v) e ∙ off)))
+      (λ t e. ap (λ b. b && member u (take i (end_vertices g.outputs))) (ap (joined g.edges v) e ∙ off)
+      ∙ sym (ap (λ b. b && member u (take (i + 1) (end_vertices g.outputs))) (ap (joined g.edges v) e ∙ off)))
       (λ f n. ap (λ c. joined g.edges v u && c) (sym (member_more g.outputs i w u o
-      ∙ ap (λ c. member u (take i (places g.outputs)) || c) f ∙ or-false (member u (take i (places g.outputs))))));
+      ∙ ap (λ c. member u (take i (end_vertices g.outputs)) || c) f ∙ or-false (member u (take i (end_vertices g.outputs))))));
   few = omega (arith, a.few);
   fewer = λ q u within at_q off'. omega (arith, a.few);
 }
 
 -- all outputs were seen
 pub legs_all : (g : Graph) (v : ℕ) (qubits : List ℕ) (a : AreLegs g v (length g.outputs) qubits) (u : ℕ) →
-    member u a.legs ≡ (joined g.edges v u && member u (places g.outputs))
+    member u a.legs ≡ (joined g.edges v u && member u (end_vertices g.outputs))
 legs_all g v qubits a u = a.neighbours u ∙ ap (λ us. joined g.edges v u && member u us)
-    (take_all (length g.outputs) (places g.outputs) (le_of_eq (length-places g.outputs)))
+    (take_all (length g.outputs) (end_vertices g.outputs) (le_of_eq (length-places g.outputs)))

@@ -1,16 +1,16 @@
--- Outputs by their places.
-use Rattle.std.proofs.Common.{◌≡◌, refl, sym, ◌∙◌, ap, ap₂, ℕ, zero as nought, suc, ◌+◌, ◌<◌, Bool, true, false, not, ◌&&◌, ◌||◌, eqb, ne_eqb, List, [], ◌∷◌, ◌++◌, length, get_or, remove, set, take, add-one, true≢false, arith}
+-- Outputs by their end_vertices.
+use Rattle.std.proofs.Common.{◌≡◌, refl, sym, ◌∙◌, ap, ap₂, ℕ, zero as nought, suc, ◌+◌, ◌<◌, true, false, not, ◌&&◌, ◌||◌, eqb, ne_eqb, List, [], ◌∷◌, ◌++◌, length, get_or, remove, set, take, add-one, true≢false, arith}
 use Rattle.std.specs.Prelude.{slice_get, Some}
 use Rattle.std.proofs.lemmas.Option.{slice_get-get_or}
 use Rattle.std.proofs.Math.Seq.{take-suc}
 use Rattle.zx_model.specs.Bits.{member}
-use Rattle.zx_calculus.specs.Graph.{End, Graph, places, in_order, different, WellFormed}
+use Rattle.zx_calculus.specs.Graph.{End, Graph, end_vertices, in_order, different, WellFormed}
 use Rattle.zx_calculus.specs.Worked.{plain}
 use Rattle.zx_calculus.proofs.Ids.{by_equal, and-left, and-right, member-different}
 use Rattle.zx_calculus.proofs.Booleans.{and-false, and-true, or-true}
-use Rattle.circuit_laws.specs.Peeling.{HasPlainOutput}
-use Rattle.circuit_laws.proofs.Places.{first_is, one_place, apart_from}
-use Rattle.zx_extract.specs.Internal.Lists.{are_plain, IsPlainAt}
+use Rattle.circuit_laws.specs.Peeling.{HasPlainOutput, are_plain}
+use Rattle.circuit_laws.proofs.Places.{first_is, one_place, apart_from, plain_end}
+use Rattle.zx_extract.specs.Internal.Lists.{IsPlainAt}
 
 -- at an output there is one vertex
 pub one_vertex : (g : Graph) (q u v : ℕ) → HasPlainOutput g q u → HasPlainOutput g q v → u ≡ v
@@ -20,20 +20,8 @@ one_vertex g q u v h i = ap (λ (e : End). e.vertex) (first_is (plain u) (plain 
 pub one_output : (g : Graph) (p q u : ℕ) → WellFormed g → HasPlainOutput g p u → HasPlainOutput g q u → p ≡ q
 one_output g p q u w h i = one_place g.outputs p q (plain u) (plain u) w.outputs.one_each h i refl
 
-pub slice_get_within : (es : List End) (q : ℕ) (e : End) → slice_get es q ≡ Some e → q < length es
-slice_get_within [] q e h = cc
-slice_get_within (d ∷ es) nought e h = omega arith
-slice_get_within (d ∷ es) (suc q) e h = let rest : q < length es = slice_get_within es q e h in omega arith
-
-pub plain_end : (e : End) → not e.hadamard ≡ true → e ≡ plain e.vertex
-plain_end e h = at e.vertex e.hadamard h
-  where
-    at : (v : ℕ) (b : Bool) → not b ≡ true → record { vertex = v; hadamard = b } ≡ plain v
-    at v true h = absurd (true≢false (sym h))
-    at v false h = refl
-
--- each of the places is that of an output
-pub place_of_output : (es : List End) (u : ℕ) → are_plain es ≡ true → member u (places es) ≡ true →
+-- each of the end_vertices is that of an output
+pub place_of_output : (es : List End) (u : ℕ) → are_plain es ≡ true → member u (end_vertices es) ≡ true →
     (p : ℕ) × (slice_get es p ≡ Some (plain u))
 place_of_output [] u all there = absurd (true≢false (sym there))
 place_of_output (e ∷ es) u all there =
@@ -41,17 +29,8 @@ place_of_output (e ∷ es) u all there =
     (λ t same. (0, ap (λ d. Some d) (plain_end e (and-left (not e.hadamard) (are_plain es) all) ∙ ap plain (sym same))))
     (λ f n. let rest : (p : ℕ) × (slice_get es p ≡ Some (plain u)) =
     place_of_output es u (and-right (not e.hadamard) (are_plain es) all)
-    (ap (λ b. b || member u (places es)) (sym f) ∙ there) in
+    (ap (λ b. b || member u (end_vertices es)) (sym f) ∙ there) in
     (suc rest.0, rest.1))
-
--- the end at a place, where all are plain
-pub plain_at : (es : List End) (q : ℕ) (e : End) → are_plain es ≡ true → slice_get es q ≡ Some e →
-    slice_get es q ≡ Some (plain e.vertex)
-plain_at [] q e all h = cc
-plain_at (d ∷ es) nought e all h =
-    ap Some (plain_end d (and-left (not d.hadamard) (are_plain es) all)
-    ∙ ap (λ (c : End). plain c.vertex) (first_is d e h))
-plain_at (d ∷ es) (suc q) e all h = plain_at es q e (and-right (not d.hadamard) (are_plain es) all) h
 
 -- all ends are plain where each is
 pub all_plain : (es : List End) → ((p : ℕ) → p < length es → IsPlainAt es p) → are_plain es ≡ true
@@ -59,47 +38,41 @@ all_plain [] each = refl
 all_plain (e ∷ es) each =
     ap₂ (λ a b. not a && b) (each 0 (omega arith) e refl) (all_plain es (λ p within. each (suc p) (omega arith)))
 
-pub plain-set : (es : List End) (q v : ℕ) → are_plain es ≡ true → are_plain (set es q (plain v)) ≡ true
-plain-set [] q v h = refl
-plain-set (e ∷ es) nought v h = and-right (not e.hadamard) (are_plain es) h
-plain-set (e ∷ es) (suc q) v h = ap₂ (λ a b. a && b) (and-left (not e.hadamard) (are_plain es) h)
-    (plain-set es q v (and-right (not e.hadamard) (are_plain es) h))
-
--- the places after an end moved to another vertex
-pub member-places_set : (es : List End) (q u v x : ℕ) → in_order different (places es) ≡ true →
+-- the end_vertices after an end moved to another vertex
+pub member-places_set : (es : List End) (q u v x : ℕ) → in_order different (end_vertices es) ≡ true →
     slice_get es q ≡ Some (plain u) →
-    member x (places (set es q (plain v))) ≡ (eqb x v || (member x (places es) && not (eqb u x)))
+    member x (end_vertices (set es q (plain v))) ≡ (eqb x v || (member x (end_vertices es) && not (eqb u x)))
 member-places_set [] q u v x once h = cc
 member-places_set (c ∷ es) nought u v x once h =
     ap (λ b. eqb x v || b)
     (by_equal u x
-    (λ t e. absent e ∙ sym (ap (λ b. (eqb x c.vertex || member x (places es)) && not b) t
-    ∙ and-false (eqb x c.vertex || member x (places es))))
-    (λ f n. sym (ap₂ (λ a b. (a || member x (places es)) && not b) (ne_eqb x c.vertex (λ e. n (at_c ∙ sym e))) f
-    ∙ and-true (member x (places es)))))
+    (λ t e. absent e ∙ sym (ap (λ b. (eqb x c.vertex || member x (end_vertices es)) && not b) t
+    ∙ and-false (eqb x c.vertex || member x (end_vertices es))))
+    (λ f n. sym (ap₂ (λ a b. (a || member x (end_vertices es)) && not b) (ne_eqb x c.vertex (λ e. n (at_c ∙ sym e))) f
+    ∙ and-true (member x (end_vertices es)))))
   where
     at_c : u ≡ c.vertex
     at_c = ap (λ (e : End). e.vertex) (sym (first_is c (plain u) h))
 
-    absent : u ≡ x → member x (places es) ≡ false
-    absent e = ap (λ y. member y (places es)) (sym e ∙ at_c) ∙ member-different c.vertex (places es) (and-left _ _ once)
+    absent : u ≡ x → member x (end_vertices es) ≡ false
+    absent e = ap (λ y. member y (end_vertices es)) (sym e ∙ at_c) ∙ member-different c.vertex (end_vertices es) (and-left _ _ once)
 member-places_set (c ∷ es) (suc q) u v x once h =
     ap (λ b. eqb x c.vertex || b) (member-places_set es q u v x (and-right _ _ once) h)
     ∙ by_equal x c.vertex
-    (λ t e. ap (λ b. b || (eqb x v || (member x (places es) && not (eqb u x)))) t
-    ∙ sym (ap₂ (λ a b. eqb x v || ((a || member x (places es)) && not b)) t
+    (λ t e. ap (λ b. b || (eqb x v || (member x (end_vertices es) && not (eqb u x)))) t
+    ∙ sym (ap₂ (λ a b. eqb x v || ((a || member x (end_vertices es)) && not b)) t
     (ne_eqb u x (λ same. apart_from c.vertex es q (plain u) (and-left _ _ once) h (sym (same ∙ e))))
     ∙ or-true (eqb x v)))
-    (λ f n. ap (λ b. b || (eqb x v || (member x (places es) && not (eqb u x)))) f
-    ∙ sym (ap (λ a. eqb x v || ((a || member x (places es)) && not (eqb u x))) f))
+    (λ f n. ap (λ b. b || (eqb x v || (member x (end_vertices es) && not (eqb u x)))) f
+    ∙ sym (ap (λ a. eqb x v || ((a || member x (end_vertices es)) && not (eqb u x))) f))
 
--- one more of the places
+-- one more of the end_vertices
 pub take-places : (es : List End) (i w : ℕ) → slice_get es i ≡ Some (plain w) →
-    take (i + 1) (places es) ≡ take i (places es) ++ w ∷ []
+    take (i + 1) (end_vertices es) ≡ take i (end_vertices es) ++ w ∷ []
 take-places es i w h = rw add-one (at es i h)
   where
     at : (es : List End) (i : ℕ) → slice_get es i ≡ Some (plain w) →
-        take (suc i) (places es) ≡ take i (places es) ++ w ∷ []
+        take (suc i) (end_vertices es) ≡ take i (end_vertices es) ++ w ∷ []
     at [] i h = cc
     at (e ∷ es) nought h = ap (λ x. x ∷ []) (ap (λ (d : End). d.vertex) (first_is e (plain w) h))
     at (e ∷ es) (suc i) h = ap (λ r. e.vertex ∷ r) (at es i h)
@@ -110,26 +83,22 @@ pub read_at : {X : Type 0} (es fs : List X) (q i : ℕ) (e : X) → fs ≡ es �
 read_at es fs q i e same place within is =
     slice_get-get_or es q e within ∙ ap Some (ap₂ (λ ds j. get_or ds j e) (sym same) (sym place) ∙ sym is)
 
-pub not_false : (b : Bool) → not b ≡ false → b ≡ true
-not_false true h = refl
-not_false false h = sym h
-
 -- an end's vertex holds no other one
-pub once_removed : (es : List End) (q : ℕ) (e : End) → in_order different (places es) ≡ true →
-    slice_get es q ≡ Some e → member e.vertex (places (remove es q)) ≡ false
+pub once_removed : (es : List End) (q : ℕ) (e : End) → in_order different (end_vertices es) ≡ true →
+    slice_get es q ≡ Some e → member e.vertex (end_vertices (remove es q)) ≡ false
 once_removed [] q e once h = cc
-once_removed (c ∷ es) nought e once h = ap (λ (d : End). member d.vertex (places es)) (sym (first_is c e h))
-    ∙ member-different c.vertex (places es) (and-left _ _ once)
+once_removed (c ∷ es) nought e once h = ap (λ (d : End). member d.vertex (end_vertices es)) (sym (first_is c e h))
+    ∙ member-different c.vertex (end_vertices es) (and-left _ _ once)
 once_removed (c ∷ es) (suc q) e once h =
     ap₂ (λ a b. a || b) (ne_eqb e.vertex c.vertex (λ same. apart_from c.vertex es q e (and-left _ _ once) h
     (sym same))) (once_removed es q e (and-right _ _ once) h)
 
--- one more of the places of ends
+-- one more of the end_vertices of ends
 pub places_more : (es : List End) (i : ℕ) (e : End) (v : ℕ) → i < length es → e ≡ get_or es i e → v ≡ e.vertex →
-    places (take (i + 1) es) ≡ places (take i es) ++ v ∷ []
-places_more es i e v within is same = rw add-one (ap places (take-suc es i e within
-    ∙ ap (λ d. take i es ++ d ∷ []) (sym is)) ∙ pushed (take i es) ∙ ap (λ u. places (take i es) ++ u ∷ []) (sym same))
+    end_vertices (take (i + 1) es) ≡ end_vertices (take i es) ++ v ∷ []
+places_more es i e v within is same = rw add-one (ap end_vertices (take-suc es i e within
+    ∙ ap (λ d. take i es ++ d ∷ []) (sym is)) ∙ pushed (take i es) ∙ ap (λ u. end_vertices (take i es) ++ u ∷ []) (sym same))
   where
-    pushed : (ds : List End) → places (ds ++ e ∷ []) ≡ places ds ++ e.vertex ∷ []
+    pushed : (ds : List End) → end_vertices (ds ++ e ∷ []) ≡ end_vertices ds ++ e.vertex ∷ []
     pushed [] = refl
     pushed (d ∷ ds) = ap (λ r. d.vertex ∷ r) (pushed ds)

@@ -4,10 +4,9 @@ use Rattle.std.specs.Prelude.{slice_get}
 use Rattle.zx_model.specs.Bits.{member, one_if}
 use Rattle.zx_model.specs.Constants.{two}
 use Rattle.zx_model.proofs.Ring.{mul-one}
-use Rattle.zx_calculus.specs.Graph.{XY, YZ, Kind, Vertex, ids, kind_of, plane_of, phase_of, joined, places, is_XY, different, without, WellFormed}
+use Rattle.zx_calculus.specs.Graph.{XY, YZ, Kind, Vertex, ids, kind_of, plane_of, phase_of, joined, end_vertices, is_XY, different, without, WellFormed}
 use Rattle.zx_calculus.specs.Worked.{plain}
-use Rattle.zx_calculus.specs.Reduced.{not_XY}
-use Rattle.zx_calculus.specs.Counts.{XY_without_output}
+use Rattle.zx_calculus.specs.Counts.{not_XY, XY_without_output}
 use Rattle.zx_calculus.proofs.Ids.{and-left, and-right, member-filter}
 use Rattle.zx_calculus.proofs.Forms.{ids-without}
 use Rattle.zx_calculus.proofs.Vertices.{kind_of-without}
@@ -15,23 +14,23 @@ use Rattle.zx_calculus.proofs.Splitting.{distinct}
 use Rattle.zx_calculus.proofs.CountLemmas.{count, count_front}
 use Rattle.gflow_laws.specs.Seen.{seen}
 use Rattle.gflow_laws.specs.Flow.{is_in, IsFlow, SameSets}
-use Rattle.gflow_laws.specs.Tables.{symmetric_difference, removal_table}
+use Rattle.gflow_laws.specs.Tables.{symmetric_difference}
+use Rattle.gflow_laws.specs.Removals.{removal_table}
 use Rattle.gflow_laws.specs.Outputs.{without_vertex, last_removed_table}
 use Rattle.gflow_laws.specs.Correcting.{Alike}
 use Rattle.gflow_laws.proofs.Flows.{Flows-from}
-use Rattle.gflow_laws.proofs.TableLaws.{order_of-with_sets}
+use Rattle.gflow_laws.proofs.Tables.{order_of-with_sets}
 use Rattle.gflow_laws.proofs.Seeing.{flow-same_sets}
 use Rattle.gflow_laws.proofs.LastLaws.{filter-removed, without_vertex_flow, removal-last}
 use Rattle.zx_gates.specs.Circuit.{most_qubits}
 use Rattle.circuit_laws.specs.Followed.{PeelsAt}
 use Rattle.circuit_laws.specs.Gates.{gadget_gates, linked_gadget_gates}
-use Rattle.circuit_laws.specs.Peeling.{HasPlainOutput, IsRemoval}
+use Rattle.circuit_laws.specs.Peeling.{HasPlainOutput, IsVertexRemoved, are_plain}
 use Rattle.circuit_laws.proofs.Places.{member-places}
 use Rattle.circuit_laws.proofs.Keeping.{gadget_formed_back, linked_gadget_formed_back}
 use Rattle.circuit_laws.proofs.Counts.{gadget_odd, linked_gadget_odd}
 use Rattle.circuit_laws.proofs.Gadgets.{gadget_peels, linked_gadget_peels}
 use Rattle.circuit_laws.proofs.GateLists.{gadget_on_outputs, linked_gadget_on_outputs, gadget_few, linked_gadget_few}
-use Rattle.zx_extract.specs.Internal.Lists.{are_plain}
 use Rattle.zx_extract.specs.Internal.Leading.{State, Leads, IsReady, IsFrontier}
 use Rattle.zx_extract.specs.Internal.Steps.{IsGadgetTaken, IsLinkedGadgetTaken, HasLast, AreLegs}
 use Rattle.zx_extract.proofs.Lasts.{length-order}
@@ -40,11 +39,8 @@ use Rattle.zx_extract.proofs.LastVertex.{last_no_output}
 
 module _ (s : State) (v : ℕ) (t : State) (r : IsReady s) (f : IsFrontier s.graph) (last : HasLast s.table v)
     (plane : plane_of s.graph v ≡ YZ)
-    (removal : IsRemoval s.graph v t.graph) (formed : WellFormed t.graph)
+    (removal : IsVertexRemoved s.graph v t.graph) (formed : WellFormed t.graph)
     (table : SameSets t.table (last_removed_table last.entry last.before)) where
-  at_entry : last.entry.vertex ≡ v
-  at_entry = last.vertex
-
   off_XY : plane_of s.graph v ≢ XY
   off_XY e = yz_not_xy (sym plane ∙ e)
     where
@@ -62,8 +58,8 @@ module _ (s : State) (v : ℕ) (t : State) (r : IsReady s) (f : IsFrontier s.gra
     adjacent = λ x y in_x in_y. sym (removal.edges x y (stays x in_x) (stays y in_y));
     plane = λ x within. sym (ap (λ vs. (kind_of vs x).plane) removal.vertices
         ∙ ap (λ (k : Kind). k.plane) (kind_of-without x v s.graph.vertices (stays x within)));
-    input = λ x _. ap (λ es. member x (places es)) (sym removal.inputs);
-    output = λ x _. ap (λ es. member x (places es)) (sym removal.outputs);
+    input = λ x _. ap (λ es. member x (end_vertices es)) (sym removal.inputs);
+    output = λ x _. ap (λ es. member x (end_vertices es)) (sym removal.outputs);
   }
 
   flow_left : IsFlow t.graph (last_removed_table last.entry last.before)
@@ -91,7 +87,7 @@ module _ (s : State) (v : ℕ) (t : State) (r : IsReady s) (f : IsFrontier s.gra
 
   not_v : (p w : ℕ) → HasPlainOutput s.graph p w → w ≢ v
   not_v p w o e = true≢false (sym (member-places s.graph.outputs p (plain w) o)
-      ∙ ap (λ x. member x (places s.graph.outputs)) e ∙ last_no_output s v r f last)
+      ∙ ap (λ x. member x (end_vertices s.graph.outputs)) e ∙ last_no_output s v r f last)
 
   pub removed_frontier : IsFrontier t.graph
   removed_frontier = record {
@@ -126,11 +122,11 @@ module _ (s : State) (v : ℕ) (t : State) (r : IsReady s) (f : IsFrontier s.gra
   pub removed_XY : XY_without_output t.graph ≡ XY_without_output s.graph
   removed_XY =
       ap₂ (λ (vs : List Vertex) (us : List ℕ). length (filter
-      (λ (x : Vertex). is_XY x.kind.plane && not (member x.id us)) vs)) removal.vertices (ap places removal.outputs)
-      ∙ sym (count_front (λ p k. is_XY k.plane && not (member p (places s.graph.outputs))) v s.graph.vertices
+      (λ (x : Vertex). is_XY x.kind.plane && not (member x.id us)) vs)) removal.vertices (ap end_vertices removal.outputs)
+      ∙ sym (count_front (λ p k. is_XY k.plane && not (member p (end_vertices s.graph.outputs))) v s.graph.vertices
       (distinct s.graph r.given.well_formed) removal.there
-      ∙ ap (λ p. one_if (is_XY p && not (member v (places s.graph.outputs))) + count
-      (λ p k. is_XY k.plane && not (member p (places s.graph.outputs))) (without v s.graph.vertices)) plane
+      ∙ ap (λ p. one_if (is_XY p && not (member v (end_vertices s.graph.outputs))) + count
+      (λ p k. is_XY k.plane && not (member p (end_vertices s.graph.outputs))) (without v s.graph.vertices)) plane
       ∙ none_more _)
     where
       none_more : (n : ℕ) → 0 + n ≡ n

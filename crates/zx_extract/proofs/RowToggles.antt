@@ -2,9 +2,8 @@
 use Rattle.std.proofs.Common.{◌≡◌, ◌≢◌, refl, sym, ◌∙◌, ap, ap₂, subst, ℕ, zero as nought, suc, ◌+◌, ◌<◌, Bool, true, false, ◌&&◌, ◌||◌, eqb, eq-eqb, ne_eqb, eqb-true, List, [], ◌∷◌, ◌++◌, length, take, get_or, add-one, true≢false, arith}
 use Rattle.std.proofs.Math.Seq.{take-suc}
 use Rattle.zx_model.specs.Bits.{xor, member}
-use Rattle.zx_calculus.specs.Graph.{Graph, ids, joined, neighbours, places, Live, Distinct, WellFormed}
-use Rattle.zx_calculus.specs.Boundary.{is_pair}
-use Rattle.zx_calculus.specs.Edits.{IsToggle}
+use Rattle.zx_calculus.specs.Graph.{Graph, ids, joined, neighbours, end_vertices, Live, Distinct, WellFormed}
+use Rattle.zx_calculus.specs.Edits.{is_pair, IsToggle}
 use Rattle.zx_calculus.proofs.Booleans.{parities, or-apart, and-false, xor-false, or-true}
 use Rattle.zx_calculus.proofs.Ids.{Distinct-rising, by_test, by_equal, eqb_comm, and-left, member-filter}
 use Rattle.zx_calculus.proofs.Edges.{joined_comm}
@@ -114,7 +113,7 @@ module _ (s : State) (c t u v : ℕ) (r : IsReady s) (f : IsFrontier s.graph) (a
       (ids s.graph.vertices) r.given.well_formed.vertices_rising)
 
   pub row_added_step : (g : Graph) (row : List ℕ) (table : List Correction) (h : State) → row ≡ neighbours s.graph u →
-      member u (places s.graph.inputs) ≡ false → IsRowToggled s.graph v row g →
+      member u (end_vertices s.graph.inputs) ≡ false → IsRowToggled s.graph v row g →
       SameSets table (row_added_table u v s.table) → h ≡ record {
         graph = g;
         table = table;

@@ -4,7 +4,7 @@ use Rattle.std.specs.Prelude.{slice_get}
 use Rattle.std.proofs.lemmas.List.Elements.{All-cons, All-nil}
 use Rattle.std.proofs.lemmas.Bool.Decides.{nat_tests}
 use Rattle.zx_model.specs.Bits.{xor, member}
-use Rattle.zx_calculus.specs.Graph.{ids, kind_of, joined, places, WellFormed, Distinct}
+use Rattle.zx_calculus.specs.Graph.{ids, kind_of, joined, end_vertices, WellFormed, Distinct}
 use Rattle.zx_calculus.specs.Worked.{plain}
 use Rattle.zx_calculus.proofs.Booleans.{xor-same, and_comm}
 use Rattle.zx_calculus.proofs.Ids.{by_equal, eqb-self}
@@ -14,31 +14,32 @@ use Rattle.gflow_laws.specs.Flow.{Correction, order_of, SameSets}
 use Rattle.gflow_laws.specs.Outputs.{row_added, with_row_added, MayAddRow, row_added_table, row_added_set}
 use Rattle.gflow_laws.specs.Correcting.{Alike}
 use Rattle.gflow_laws.proofs.Flows.{Flows-from}
-use Rattle.gflow_laws.proofs.TableLaws.{order_of-with_sets}
+use Rattle.gflow_laws.proofs.Tables.{order_of-with_sets}
 use Rattle.gflow_laws.proofs.Seeing.{flow-same_sets}
 use Rattle.gflow_laws.proofs.OutputLaws.{row_added_flow}
 use Rattle.zx_gates.specs.Circuit.{IsOnQubits, most_qubits}
 use Rattle.zx_gates.specs.declared.gate.Gate.TheVariants.{Cx}
-use Rattle.circuit_laws.specs.Peeling.{HasPlainOutput}
+use Rattle.circuit_laws.specs.Peeling.{HasPlainOutput, are_plain}
 use Rattle.circuit_laws.proofs.Places.{member-places, output_there}
 use Rattle.circuit_laws.proofs.Keeping.{row_formed_back}
 use Rattle.circuit_laws.proofs.Counts.{same_vertices}
 use Rattle.circuit_laws.proofs.Rows.{row_peels}
 use Rattle.circuit_laws.proofs.GateLists.{row_on}
-use Rattle.zx_extract.specs.Internal.Lists.{are_plain, last_set, others_below}
+use Rattle.zx_extract.specs.Internal.Lists.{last_set, others_below}
 use Rattle.zx_extract.specs.Internal.Leading.{State, Leads, IsReady, IsFrontier}
 use Rattle.zx_extract.specs.Internal.Steps.{IsRowAdded, HasLast, IsPicked, IsGathered}
 use Rattle.zx_extract.proofs.Leads.{leads_same, leads_nothing, leads_then, leads_within}
 use Rattle.zx_extract.proofs.Counting.{as_many_XY, as_many_others}
-use Rattle.zx_extract.proofs.Places.{one_vertex, one_output, slice_get_within}
+use Rattle.zx_extract.proofs.Places.{one_vertex, one_output}
 use Rattle.zx_extract.proofs.Lasts.{last_set-row_added, last_set-same, keeps_last}
+use Rattle.std.proofs.lemmas.Option.{slice_get_within}
 
 -- tables with the same sets, the other way round
 pub same_sets_back : {table other : List Correction} → SameSets table other → SameSets other table
 same_sets_back same = record { order = sym same.order; members = λ v w. sym (same.members v w) }
 
 module _ (s : State) (c t : ℕ) (h : State) (r : IsReady s) (f : IsFrontier s.graph) (a : IsRowAdded s c t h) where
-  at_output : (q u : ℕ) → HasPlainOutput s.graph q u → member u (places s.graph.outputs) ≡ true
+  at_output : (q u : ℕ) → HasPlainOutput s.graph q u → member u (end_vertices s.graph.outputs) ≡ true
   at_output q u o = member-places s.graph.outputs q (plain u) o
 
   formed : WellFormed h.graph
@@ -73,8 +74,8 @@ module _ (s : State) (c t : ℕ) (h : State) (r : IsReady s) (f : IsFrontier s.g
     ids = λ v. ap (λ vs. member v (ids vs)) a.row.vertices;
     adjacent = λ p q _ _. sym (edges_are p q);
     plane = λ v _. ap (λ vs. (kind_of vs v).plane) a.row.vertices;
-    input = λ v _. ap (λ es. member v (places es)) a.row.inputs;
-    output = λ v _. ap (λ es. member v (places es)) a.row.outputs;
+    input = λ v _. ap (λ es. member v (end_vertices es)) a.row.inputs;
+    output = λ v _. ap (λ es. member v (end_vertices es)) a.row.outputs;
   }
 
   pub row_ready : IsReady h
@@ -96,7 +97,7 @@ module _ (s : State) (c t : ℕ) (h : State) (r : IsReady s) (f : IsFrontier s.g
       (omega (arith, same_vertices h.graph s.graph (sym a.row.vertices)))
       (All-cons (IsOnQubits (length s.graph.outputs)) (Cx t c) [] (row_on s.graph c t h.graph a.row)
       (All-nil (IsOnQubits (length s.graph.outputs))))
-      (omega arith) (as_many_XY s.graph h.graph (sym a.row.vertices) (ap places (sym a.row.outputs)))
+      (omega arith) (as_many_XY s.graph h.graph (sym a.row.vertices) (ap end_vertices (sym a.row.outputs)))
       (as_many_others s.graph h.graph (sym a.row.vertices)) (sym a.row.inputs)
 
   back : (q u : ℕ) → HasPlainOutput h.graph q u → HasPlainOutput s.graph q u
@@ -133,14 +134,8 @@ module _ (s : State) (c t : ℕ) (h : State) (r : IsReady s) (f : IsFrontier s.g
       ∙ last_set-row_added a.row.added a.row.to s.table w
 
 -- ---- gathering
-pub others_below-self : (q : ℕ) → others_below q (q + 1) ≡ others_below q q
-others_below-self q = grind (arith, nat_tests)
-
 pub others_below-more : (q i : ℕ) → i ≢ q → others_below q i + 1 ≤ others_below q (i + 1)
 others_below-more q i n = grind (arith, nat_tests)
-
-pub others_below-rises : (q i : ℕ) → others_below q i ≤ others_below q (i + 1)
-others_below-rises q i = grind (arith, nat_tests)
 
 pub gathered_nothing : (s : State) (q : ℕ) → IsReady s → IsFrontier s.graph → IsPicked s q → IsGathered s q 0 s
 gathered_nothing s q r f picked = record {
@@ -152,22 +147,6 @@ gathered_nothing s q r f picked = record {
   ends = refl;
   itself = picked.there;
   gone = λ p u within. absurd (omega arith);
-}
-
--- one more output, that isn't in the set
-pub gathered_skip : (s : State) (q i : ℕ) (t : State) → IsGathered s q i t →
-    (i ≢ q → (u : ℕ) → HasPlainOutput t.graph i u → last_set t.table u ≡ false) → IsGathered s q (i + 1) t
-gathered_skip s q i t g none = record {
-  leads = leads_within s (others_below q i) 0 0 (others_below q (i + 1)) t (others_below-rises q i) g.leads;
-  ready = g.ready;
-  frontier = g.frontier;
-  order = g.order;
-  same = g.same;
-  ends = g.ends;
-  itself = g.itself;
-  gone = λ p u within n o. by_equal p i
-      (λ _ e. none (λ same. n (e ∙ same)) u (subst (λ k. HasPlainOutput t.graph k u) e o))
-      (λ _ other. g.gone p u (omega arith) n o);
 }
 
 -- one more output, whose row was added

@@ -4,15 +4,15 @@ use Rattle.std.specs.Prelude.{slice_get}
 use Rattle.std.proofs.lemmas.Bool.{or_cases}
 use Rattle.std.proofs.lemmas.List.Elements.{All-cons, All-nil}
 use Rattle.zx_model.specs.Bits.{xor, member}
-use Rattle.zx_calculus.specs.Graph.{Vertex, Graph, ids, kind_of, plane_of, phase_of, joined, places, with_kinds, WellFormed}
+use Rattle.zx_calculus.specs.Graph.{Vertex, Graph, ids, kind_of, plane_of, phase_of, joined, end_vertices, with_kinds, WellFormed}
 use Rattle.zx_calculus.specs.Turns.{in_plane}
-use Rattle.zx_calculus.specs.Boundary.{is_pair}
+use Rattle.zx_calculus.specs.Edits.{is_pair}
 use Rattle.zx_calculus.specs.Worked.{plain}
 use Rattle.zx_calculus.proofs.Ids.{by_equal, and-left, and-right, eqb-self}
 use Rattle.zx_calculus.proofs.Edges.{joined_comm}
 use Rattle.zx_calculus.proofs.Vertices.{ids-with_kinds}
 use Rattle.zx_calculus.proofs.Splitting.{no_loop}
-use Rattle.zx_calculus.proofs.Results.{is_pair-self}
+use Rattle.zx_calculus.proofs.Splits.{is_pair-self}
 use Rattle.gflow_laws.specs.Seen.{seen}
 use Rattle.gflow_laws.specs.Flow.{IsFlow}
 use Rattle.gflow_laws.specs.Outputs.{toggled}
@@ -22,15 +22,14 @@ use Rattle.gflow_laws.proofs.OutputLaws.{toggled_flow}
 use Rattle.gflow_laws.proofs.AllEnds.{length-places}
 use Rattle.zx_gates.specs.Circuit.{IsOnQubits, most_qubits}
 use Rattle.zx_gates.specs.declared.gate.Gate.TheVariants.{H, Cz}
-use Rattle.circuit_laws.specs.Gates.{phase_gates}
-use Rattle.circuit_laws.specs.Peeling.{HasPlainOutput, cleared_kind, marked}
+use Rattle.zx_gates.specs.Lowering.{phase_gates}
+use Rattle.circuit_laws.specs.Peeling.{HasPlainOutput, cleared_kind, marked, are_plain}
 use Rattle.circuit_laws.proofs.Places.{member-places, places-same}
 use Rattle.circuit_laws.proofs.Keeping.{mark_formed_back, edge_formed_back}
 use Rattle.circuit_laws.proofs.Counts.{same_vertices}
 use Rattle.circuit_laws.proofs.Settling.{mark_peels, edge_peels}
 use Rattle.circuit_laws.proofs.GateLists.{mark_on, edge_on, cleared_on, gadget_on-few}
 use Rattle.circuit_laws.proofs.Taken.{phase_cleared_formed, phase_cleared_zero, cleared_gates, cleared_odd}
-use Rattle.zx_extract.specs.Internal.Lists.{are_plain}
 use Rattle.zx_extract.specs.Internal.Leading.{State, Leads, IsGiven, IsReady, Settles}
 use Rattle.zx_extract.specs.Internal.Steps.{IsMarkTaken, IsPhaseTaken, IsEdgeTaken}
 use Rattle.zx_extract.proofs.Places.{one_vertex}
@@ -40,8 +39,8 @@ use Rattle.zx_extract.proofs.Counting.{as_many_XY, as_many_others, as_many_XY_cl
 -- a graph that a flow sees alike
 given_seen : (s t : State) → IsGiven s → WellFormed t.graph → ids t.graph.vertices ≡ ids s.graph.vertices →
     ((v : ℕ) → plane_of t.graph v ≡ plane_of s.graph v) →
-    t.graph.edges ≡ s.graph.edges → places t.graph.inputs ≡ places s.graph.inputs →
-    places t.graph.outputs ≡ places s.graph.outputs → t.table ≡ s.table → IsGiven t
+    t.graph.edges ≡ s.graph.edges → end_vertices t.graph.inputs ≡ end_vertices s.graph.inputs →
+    end_vertices t.graph.outputs ≡ end_vertices s.graph.outputs → t.table ≡ s.table → IsGiven t
 given_seen s t r w same_ids planes edges inputs outputs table = record {
   well_formed = w;
   flow = subst (IsFlow t.graph) (sym table) (phases_unseen s.graph t.graph s.table (sym same_ids) (λ v. sym (planes v))
@@ -53,8 +52,8 @@ given_seen s t r w same_ids planes edges inputs outputs table = record {
 
 -- ---- a mark
 module _ (s : State) (q : ℕ) (t : State) (r : IsGiven s) (c : IsMarkTaken s q t) where
-  same_places : places t.graph.outputs ≡ places s.graph.outputs
-  same_places = ap places c.peel.outputs ∙ places-same s.graph.outputs q (marked c.peel.vertex)
+  same_places : end_vertices t.graph.outputs ≡ end_vertices s.graph.outputs
+  same_places = ap end_vertices c.peel.outputs ∙ places-same s.graph.outputs q (marked c.peel.vertex)
       (plain c.peel.vertex) c.peel.output refl
 
   mark_formed : WellFormed t.graph
@@ -63,7 +62,7 @@ module _ (s : State) (q : ℕ) (t : State) (r : IsGiven s) (c : IsMarkTaken s q 
   pub mark_given : IsGiven t
   mark_given = given_seen s t r mark_formed (ap ids (sym c.peel.vertices))
       (λ v. ap (λ vs. (kind_of vs v).plane) (sym c.peel.vertices))
-      (sym c.peel.edges) (ap places (sym c.peel.inputs)) same_places c.table
+      (sym c.peel.edges) (ap end_vertices (sym c.peel.inputs)) same_places c.table
 
   pub mark_leads : Leads s 1 0 0 t
   mark_leads = leads_same s t 1 (H q ∷ []) c.gates (mark_peels s.graph q t.graph r.well_formed mark_formed c.peel)
@@ -139,7 +138,7 @@ module _ (s : State) (q : ℕ) (t : State) (r : IsReady s) (c : IsPhaseTaken s q
     given = given_seen s t r.given (phase_cleared_formed s.graph q t.graph r.given.well_formed c.cleared)
         (ap ids c.cleared.vertices ∙ ids-with_kinds (cleared_kind c.cleared.vertex) s.graph.vertices)
         (λ v. ap (λ vs. (kind_of vs v).plane) c.cleared.vertices ∙ planes-cleared c.cleared.vertex s.graph.vertices v)
-        c.cleared.edges (ap places c.cleared.inputs) (ap places c.cleared.outputs) c.table;
+        c.cleared.edges (ap end_vertices c.cleared.inputs) (ap end_vertices c.cleared.outputs) c.table;
     plain = ap are_plain c.cleared.outputs ∙ r.plain;
   }
 
@@ -200,8 +199,8 @@ module _ (s : State) (p q : ℕ) (t : State) (r : IsReady s) (c : IsEdgeTaken s 
         (is_pair-self c.peel.first c.peel.second c.peel.different w) ∙ sym (no_loop t.graph w edge_formed)))
         (λ _ n. edges_toggled v w n);
     plane = λ v _. ap (λ vs. (kind_of vs v).plane) c.peel.vertices;
-    input = λ v _. ap (λ es. member v (places es)) c.peel.inputs;
-    output = λ v _. ap (λ es. member v (places es)) c.peel.outputs;
+    input = λ v _. ap (λ es. member v (end_vertices es)) c.peel.inputs;
+    output = λ v _. ap (λ es. member v (end_vertices es)) c.peel.outputs;
   }
 
   edge_ready : IsReady t
@@ -226,7 +225,7 @@ module _ (s : State) (p q : ℕ) (t : State) (r : IsReady s) (c : IsEdgeTaken s 
         (omega (arith, same_vertices t.graph s.graph (sym c.peel.vertices)))
         (All-cons (IsOnQubits (length s.graph.outputs)) (Cz p q) [] (edge_on s.graph p q t.graph c.peel)
         (All-nil (IsOnQubits (length s.graph.outputs))))
-        (omega arith) (as_many_XY s.graph t.graph (sym c.peel.vertices) (ap places (sym c.peel.outputs)))
+        (omega arith) (as_many_XY s.graph t.graph (sym c.peel.vertices) (ap end_vertices (sym c.peel.outputs)))
         (as_many_others s.graph t.graph (sym c.peel.vertices)) (sym c.peel.inputs);
     ready = edge_ready;
     table = c.table;

@@ -15,7 +15,8 @@ use Rattle.zx_extract.proofs.Settled.{phase_settles, phase_gone, settles_nothing
 use Rattle.zx_extract.proofs.Leads.{leads_nothing, leads_then, leads_within}
 use Rattle.zx_model.specs.Bits.{one_if}
 use Rattle.std.proofs.lemmas.Bool.Decides.{nat_tests}
-use Rattle.zx_extract.proofs.Places.{slice_get_within, one_vertex}
+use Rattle.zx_extract.proofs.Places.{one_vertex}
+use Rattle.std.proofs.lemmas.Option.{slice_get_within}
 
 pub settled_fewer : (g : Graph) (picked fewer : ℕ → Bool) →
     ((p u : ℕ) → fewer p ≡ true → HasPlainOutput g p u → picked p ≡ true) → IsSettled g picked → IsSettled g fewer

@@ -1,12 +1,12 @@
 -- What the calls that take the last vertex off ask, and what they make.
-use Rattle.std.proofs.Common.{◌≡◌, refl, sym, ◌∙◌, ap, ap₂, subst, ℕ, zero, suc, Bool, true, false, not, ◌&&◌, ◌||◌, eqb, ne_eqb, List, [], ◌∷◌, ◌++◌, length, remove, set}
+use Rattle.std.proofs.Common.{◌≡◌, refl, sym, ◌∙◌, ap, ap₂, subst, ℕ, Bool, true, false, not, ◌&&◌, ◌||◌, eqb, ne_eqb, List, [], ◌∷◌, ◌++◌, length, remove, set}
 use Rattle.zx_model.specs.Bits.{xor, member}
-use Rattle.zx_calculus.specs.Graph.{XY, YZ, Plane, Kind, End, Graph, ids, kind_of, plane_of, joined, places, without, Live, Interior}
+use Rattle.zx_calculus.specs.Graph.{XY, YZ, Plane, Kind, Graph, ids, kind_of, plane_of, joined, end_vertices, without, Live, Interior}
 use Rattle.zx_calculus.specs.Edits.{IsRemoval}
 use Rattle.zx_calculus.specs.Turns.{in_plane}
 use Rattle.zx_calculus.specs.Worked.{plain}
 use Rattle.zx_calculus.proofs.Booleans.{and-false}
-use Rattle.zx_calculus.proofs.Ids.{by_test, or-left, or-right, eqb-self}
+use Rattle.zx_calculus.proofs.Ids.{by_test, eqb-self}
 use Rattle.zx_calculus.proofs.Splitting.{interior_of, off_XY}
 use Rattle.gflow_laws.specs.Flow.{Correction, is_in, SameSets}
 use Rattle.gflow_laws.specs.Outputs.{advanced_table, last_removed_table}
@@ -14,22 +14,15 @@ use Rattle.zx_gates.specs.declared.gate.Gate.TheVariants.{H}
 use Rattle.circuit_laws.specs.Gates.{gadget_gates, linked_gadget_gates}
 use Rattle.circuit_laws.specs.Peeling.{HasPlainOutput, IsGadgetPeel, IsLinkedGadgetPeel}
 use Rattle.circuit_laws.specs.Peeling as peeling
-use Rattle.circuit_laws.proofs.Places.{output_there}
+use Rattle.circuit_laws.proofs.Places.{output_there, absent-remove}
 use Rattle.zx_extract.specs.Internal.Leading.{State, IsReady, IsFrontier}
 use Rattle.zx_extract.specs.Internal.Steps.{HasLast, HasNoOutput, HasOneOutput, IsAdvanced, IsGadgetTaken, IsLinkedGadgetTaken, AreLegs}
 use Rattle.zx_extract.proofs.Places.{member-places_set}
 use Rattle.zx_extract.proofs.LastVertex.{last_live, last_no_output, u_apart, only_neighbour, link_no_input, set_is_XY, set_is_YZ, linked, link_not_adjacent, set_is_itself, neighbours_are_outputs}
 use Rattle.zx_extract.proofs.Legs.{legs_all}
 
-absent-remove : (v : ℕ) (es : List End) (i : ℕ) → member v (places es) ≡ false → member v (places (remove es i)) ≡ false
-absent-remove v [] zero h = refl
-absent-remove v [] (suc i) h = refl
-absent-remove v (e ∷ es) zero h = or-right (eqb v e.vertex) _ h
-absent-remove v (e ∷ es) (suc i) h = ap₂ (λ a b. a || b) (or-left (eqb v e.vertex) _ h)
-    (absent-remove v es i (or-right (eqb v e.vertex) _ h))
-
 -- what a removal of vertices is to the laws of circuits
-removal_of : (g : Graph) (v : ℕ) (h : Graph) → Live g v → IsRemoval g v h → peeling.IsRemoval g v h
+removal_of : (g : Graph) (v : ℕ) (h : Graph) → Live g v → IsRemoval g v h → peeling.IsVertexRemoved g v h
 removal_of g v h live r = record {
   there = live;
   vertices = r.vertices;
@@ -43,7 +36,7 @@ removal_of g v h live r = record {
 -- ---- the last vertex takes the place of an output
 module _ (s : State) (v q u : ℕ) (r : IsReady s) (f : IsFrontier s.graph) (last : HasLast s.table v)
     (plane : plane_of s.graph v ≡ XY) (one : HasOneOutput s q) (o : HasPlainOutput s.graph q u) where
-  pub free : (i : ℕ) → member v (places (remove s.graph.outputs i)) ≡ false
+  pub free : (i : ℕ) → member v (end_vertices (remove s.graph.outputs i)) ≡ false
   free i = absent-remove v s.graph.outputs i (last_no_output s v r f last)
 
   pub spider_live : (g : Graph) → g ≡ record {
@@ -64,11 +57,11 @@ module _ (s : State) (v q u : ℕ) (r : IsReady s) (f : IsFrontier s.graph) (las
     outputs = set s.graph.outputs q (plain v);
   } → Interior g u
   spider_interior g moved = record {
-    no_input = ap (λ (h : Graph). member u (places h.inputs)) moved ∙ link_no_input s v r f last q u one o;
-    no_output = ap (λ (h : Graph). member u (places h.outputs)) moved
+    no_input = ap (λ (h : Graph). member u (end_vertices h.inputs)) moved ∙ link_no_input s v r f last q u one o;
+    no_output = ap (λ (h : Graph). member u (end_vertices h.outputs)) moved
         ∙ member-places_set s.graph.outputs q u v u r.given.well_formed.outputs.one_each o
-        ∙ ap₂ (λ a b. a || (member u (places s.graph.outputs) && not b)) (ne_eqb u v (u_apart s v r f last q u one o))
-        (eqb-self u) ∙ and-false (member u (places s.graph.outputs));
+        ∙ ap₂ (λ a b. a || (member u (end_vertices s.graph.outputs) && not b)) (ne_eqb u v (u_apart s v r f last q u one o))
+        (eqb-self u) ∙ and-false (member u (end_vertices s.graph.outputs));
   }
 
   pub advance_set : (before : List Correction) × (e : Correction) × (s.table ≡ before ++ e ∷ []) × ((y : ℕ) →
@@ -135,7 +128,7 @@ module _ (s : State) (v : ℕ) (r : IsReady s) (f : IsFrontier s.graph) (last : 
           at_outputs = legs.at_outputs;
           neighbours = λ p. sym (legs_all s.graph v qubits legs p ∙ by_test (joined s.graph.edges v p)
               (λ t. ap₂ (λ a b. a && b) t (neighbours_are_outputs s v r f last none p t) ∙ sym t)
-              (λ f. ap (λ a. a && member p (places s.graph.outputs)) f ∙ sym f));
+              (λ f. ap (λ a. a && member p (end_vertices s.graph.outputs)) f ∙ sym f));
           removal = removal_of s.graph v h (last_live s v r f last) removal;
         };
         table = sets last.before last.entry last.split;
@@ -167,13 +160,13 @@ module _ (s : State) (v q u : ℕ) (r : IsReady s) (f : IsFrontier s.graph) (las
           phase = f.phase q u refl o;
           no_input = link_no_input s v r f last q u one o;
           once = (
-            legs_all s.graph v qubits legs u ∙ ap (λ b. b && member u (places s.graph.outputs))
+            legs_all s.graph v qubits legs u ∙ ap (λ b. b && member u (end_vertices s.graph.outputs))
                 (link_not_adjacent s v r f last q u one o plane),
             legs.once,
           );
           at_outputs = legs.at_outputs;
           neighbours = λ p. sym (ap₂ xor (linked s v r f last q u one o plane p) (legs_all s.graph v qubits legs p)
-              ∙ either (joined s.graph.edges v p) (member p (places s.graph.outputs)));
+              ∙ either (joined s.graph.edges v p) (member p (end_vertices s.graph.outputs)));
           removal = removal_of s.graph v h (last_live s v r f last) removal;
         };
         table = sets last.before last.entry last.split;

@@ -7,10 +7,9 @@ use Rattle.zx_model.specs.Bits.{member}
 use Rattle.zx_model.specs.Number.{one, mul}
 use Rattle.zx_model.specs.Proportional.{Proportional}
 use Rattle.zx_model.proofs.Ring.{mul-one}
-use Rattle.zx_calculus.specs.Graph.{Graph, ids, joined, places, Live, WellFormed}
+use Rattle.zx_calculus.specs.Graph.{Graph, ids, joined, end_vertices, Live, WellFormed}
 use Rattle.zx_calculus.specs.Sum.{sum}
-use Rattle.zx_calculus.specs.Reduced.{odd_phases, not_XY}
-use Rattle.zx_calculus.specs.Counts.{XY_without_output}
+use Rattle.zx_calculus.specs.Counts.{odd_phases, not_XY, XY_without_output}
 use Rattle.zx_calculus.proofs.Ids.{by_test}
 use Rattle.zx_calculus.proofs.Edges.{joined_comm}
 use Rattle.zx_calculus.proofs.Splitting.{joined-absent}
@@ -26,12 +25,14 @@ use Rattle.circuit_laws.proofs.Composing.{peels_at_end, ends_at_sum, ends_propor
 use Rattle.circuit_laws.proofs.Counts.{hadamards_odd}
 use Rattle.circuit_laws.proofs.Wires.{wires_end}
 use Rattle.circuit_laws.proofs.GateLists.{hadamards_few}
-use Rattle.zx_extract.specs.Extraction.{power_of_two, HasExactMap, most_gates}
+use Rattle.zx_extract.specs.Extraction.{HasExactMap, most_extracted_gates}
 use Rattle.zx_extract.specs.Internal.Lists.{in_line}
 use Rattle.zx_extract.specs.Internal.Leading.{State, Leads, IsReady, IsFrontier, IsTaken}
-use Rattle.zx_extract.proofs.Leads.{leads_then, odd-append}
+use Rattle.zx_extract.proofs.Leads.{leads_then}
 use Rattle.zx_extract.proofs.Places.{place_of_output}
 use Rattle.zx_extract.proofs.Exchanges.{places-plain, plain-map}
+use Rattle.zx_model.specs.Constants.{power_of_two}
+use Rattle.zx_gates.proofs.LoweringLemmas.{gate_odd_phases-append}
 
 -- with the outputs in line, wires are left
 pub line_wires : (s : State) → IsReady s → IsFrontier s.graph → s.table ≡ [] →
@@ -39,9 +40,9 @@ pub line_wires : (s : State) → IsReady s → IsFrontier s.graph → s.table �
 line_wires s r f none ends = record {
   phase = λ u live. let place : (p : ℕ) × HasPlainOutput s.graph p u = at_place u live in
       f.phase place.0 u refl place.1;
-  output = λ u live. ap (member u) (places-plain (places s.graph.inputs)) ∙ (all u live).0;
-  in_line = sym (places-plain (places s.graph.inputs));
-  plain_outputs = plain-map (places s.graph.inputs);
+  output = λ u live. ap (member u) (places-plain (end_vertices s.graph.inputs)) ∙ (all u live).0;
+  in_line = sym (places-plain (end_vertices s.graph.inputs));
+  plain_outputs = plain-map (end_vertices s.graph.inputs);
   no_edges = λ p q. by_test (member p (ids s.graph.vertices))
       (λ in_p. by_test (member q (ids s.graph.vertices))
       (λ in_q. let at_p : (i : ℕ) × HasPlainOutput s.graph i p = at_place p in_p in
@@ -51,8 +52,8 @@ line_wires s r f none ends = record {
       (λ out. absent p q out);
 }
   where
-    all : (v : ℕ) → Live s.graph v → (member v (places s.graph.inputs) ≡ true) ×
-        (member v (places s.graph.outputs) ≡ true)
+    all : (v : ℕ) → Live s.graph v → (member v (end_vertices s.graph.inputs) ≡ true) ×
+        (member v (end_vertices s.graph.outputs) ≡ true)
     all = all_ends s.graph r.given.well_formed (subst (IsFlow s.graph) none r.given.flow) ends
 
     at_place : (u : ℕ) → Live s.graph u → (p : ℕ) × HasPlainOutput s.graph p u
@@ -89,7 +90,7 @@ module _ (s : State) (k p q : ℕ) (t : State) (a : Leads s k p q t) (none : s.g
   }
 
   pub whole_odd : gate_odd_phases (hadamards_from 0 s.graph.inputs ++ t.gates) ≤ odd_phases s.graph
-  whole_odd = no_more _ _ _ _ _ _ (odd-append (hadamards_from 0 s.graph.inputs) t.gates)
+  whole_odd = no_more _ _ _ _ _ _ (gate_odd_phases-append (hadamards_from 0 s.graph.inputs) t.gates)
       (hadamards_odd 0 s.graph.inputs) (ap gate_odd_phases all_taken) a.odd
     where
       no_more : (all first second taken left old : ℕ) → all ≡ first + second → first ≡ 0 → second ≡ taken →
@@ -106,7 +107,7 @@ module _ (s : State) (k p q : ℕ) (t : State) (a : Leads s k p q t) (none : s.g
 -- ---- how many gates there are
 pub few_in_all : (n k marks settled p q p0 q0 taken crossed inputs : ℕ) → marks ≡ n → settled ≡ n * (n - 1) / 2 + n →
     taken ≡ 2 * n * p + 3 * n * q → crossed ≡ 3 * n → inputs ≡ n →
-    p ≤ p0 → q ≤ q0 → k ≤ inputs + (marks + (settled + (taken + crossed))) → k ≤ most_gates n p0 q0
+    p ≤ p0 → q ≤ q0 → k ≤ inputs + (marks + (settled + (taken + crossed))) → k ≤ most_extracted_gates n p0 q0
 few_in_all n k marks settled p q p0 q0 taken crossed inputs a b c d e more_p more_q few =
     let spiders : 2 * n * p ≤ 2 * n * p0 = mul-le-mul_left (2 * n) more_p in
     let gadgets : 3 * n * q ≤ 3 * n * q0 = mul-le-mul_left (3 * n) more_q in
@@ -121,7 +122,7 @@ pub record IsExtracted (g : Graph) (gates : List Gate) : Type 0 where
   pub map : Proportional (length g.inputs) (length g.outputs) (sum g) (amp gates)
   pub exact : HasExactMap g gates
   pub odd : gate_odd_phases gates ≤ odd_phases g
-  pub few : length gates ≤ most_gates (length g.outputs) (XY_without_output g) (not_XY g)
+  pub few : length gates ≤ most_extracted_gates (length g.outputs) (XY_without_output g) (not_XY g)
 
 module _ (s0 s1 s2 s3 s4 : State) (none : s0.gates ≡ []) (ends : length s0.graph.inputs ≡ length s0.graph.outputs)
     (marks : Leads s0 (length s0.graph.outputs) 0 0 s1)

@@ -3,7 +3,7 @@
 ghost use Rattle.std.specs.Prelude.{◌≡◌, ◌≤◌, ◌<◌, ◌*◌, ◌++◌, true, [], ◌∷◌, length, reverse, slice_get, Some, IfOk, OnOk};
 ghost use Rattle.std.specs.List.{All};
 ghost use Rattle.zx_model.specs.Bits.{member};
-ghost use Rattle.zx_calculus.specs.Graph.{places, WellFormed};
+ghost use Rattle.zx_calculus.specs.Graph.{end_vertices, WellFormed};
 ghost use Rattle.zx_gates.specs.Circuit.{IsOnQubits, most_qubits};
 ghost use Rattle.circuit_laws.specs.Gates.{hadamards_from, exchange_gates};
 ghost use Rattle.zx_extract.specs.Internal.Frontiers.{state_of};
@@ -14,6 +14,56 @@ use crate::frontier::Frontier;
 use open_graph::{End, VertexId};
 use std::alloc::{AllocError, Global};
 use zx_gates::{Gate, GateList, Qubit};
+
+impl Frontier {
+    // Writes the exchange of two outputs.
+    fn write_exchange(&mut self, p: Qubit, q: Qubit) -> Result<(), AllocError>
+        ensures { OnOk result (state_of self.new ≡ record (state_of self.old) {
+          gates = exchange_gates p q ++ (state_of self.old).gates;
+        }) }
+    {
+        self.write_cx(p, q)?;
+        self.write_cx(q, p)?;
+        self.write_cx(p, q)
+    }
+
+    // Writes exchanges after which each output is at the vertex of the input of its number.
+    pub(crate) fn uncross(&mut self) -> Result<(), AllocError>
+        requires ready { IsReady (state_of self.old) }
+        requires frontier { IsFrontier self.old.graph.graph }
+        requires all { self.old.flow.flow ≡ [] }
+        requires ends { length self.old.graph.graph.inputs ≡ length self.old.graph.graph.outputs }
+        ensures leads { OnOk result (Leads (state_of self.old)
+            (3 * length self.old.graph.graph.outputs) 0 0
+            (record (state_of self.new) { graph = in_line self.old.graph.graph })) }
+        ensures formed { OnOk result (WellFormed (in_line self.old.graph.graph)) }
+        ensures graph { OnOk result (self.new.graph.graph ≡ self.old.graph.graph) }
+    {
+        let inputs = end_vertices(self.alloc, self.graph.inputs())?;
+        let mut outputs = end_vertices(self.alloc, self.graph.outputs())?;
+        for q in 0..self.qubits() {
+            let place = place_of(&outputs, inputs[usize::from(q)]);
+            if place == usize::from(q) {
+                continue;
+            }
+            self.write_exchange(q, place as Qubit)?;
+            outputs.swap(usize::from(q), place);
+        }
+        Ok(())
+    }
+
+    // The gates behind the Hadamards of the inputs, the first one first.
+    pub(crate) fn into_circuit(self) -> Result<GateList, AllocError>
+        requires few { length self.graph.graph.inputs ≤ most_qubits }
+        requires on_qubits { All (IsOnQubits (length self.graph.graph.inputs)) self.gates.items }
+        ensures qubits { IfOk result (λ c. c.qubits ≡ length self.graph.graph.inputs) }
+        ensures gates { IfOk result (λ c. c.gates ≡
+            hadamards_from 0 self.graph.graph.inputs ++ (state_of self).gates) }
+    {
+        let first = hadamards_from(self.alloc, self.graph.inputs())?;
+        followed_by(first, self.gates)
+    }
+}
 
 // The place of a vertex in a list that has it.
 fn place_of(list: &[VertexId], v: VertexId) -> usize
@@ -29,8 +79,8 @@ fn place_of(list: &[VertexId], v: VertexId) -> usize
 }
 
 // The vertices of ends.
-fn vertices_of(alloc: Global, ends: &[End]) -> Result<Vec<VertexId>, AllocError>
-    ensures { IfOk result (λ vertices. vertices.items ≡ places ends.now) }
+fn end_vertices(alloc: Global, ends: &[End]) -> Result<Vec<VertexId>, AllocError>
+    ensures { IfOk result (λ vertices. vertices.items ≡ end_vertices ends.now) }
 {
     let mut vertices = Vec::new(alloc);
     for end in ends {
@@ -40,7 +90,7 @@ fn vertices_of(alloc: Global, ends: &[End]) -> Result<Vec<VertexId>, AllocError>
 }
 
 // The Hadamards of inputs.
-fn hadamards(alloc: Global, inputs: &[End]) -> Result<GateList, AllocError>
+fn hadamards_from(alloc: Global, inputs: &[End]) -> Result<GateList, AllocError>
     requires { length inputs.now ≤ most_qubits }
     ensures qubits { IfOk result (λ c. c.qubits ≡ length inputs.now) }
     ensures gates { IfOk result (λ c. c.gates ≡ hadamards_from 0 inputs.now) }
@@ -68,54 +118,4 @@ fn followed_by(first: GateList, backwards: Vec<Gate>) -> Result<GateList, AllocE
         circuit.push(gate)?;
     }
     Ok(circuit)
-}
-
-impl Frontier {
-    // Writes the exchange of two outputs.
-    fn write_exchange(&mut self, p: Qubit, q: Qubit) -> Result<(), AllocError>
-        ensures { OnOk result (state_of self.new ≡ record (state_of self.old) {
-          gates = exchange_gates p q ++ (state_of self.old).gates;
-        }) }
-    {
-        self.write_cx(p, q)?;
-        self.write_cx(q, p)?;
-        self.write_cx(p, q)
-    }
-
-    // Writes exchanges after which each output is at the vertex of the input of its number.
-    pub(crate) fn uncross(&mut self) -> Result<(), AllocError>
-        requires ready { IsReady (state_of self.old) }
-        requires frontier { IsFrontier self.old.graph.graph }
-        requires all { self.old.flow.flow ≡ [] }
-        requires ends { length self.old.graph.graph.inputs ≡ length self.old.graph.graph.outputs }
-        ensures leads { OnOk result (Leads (state_of self.old)
-            (3 * length self.old.graph.graph.outputs) 0 0
-            (record (state_of self.new) { graph = in_line self.old.graph.graph })) }
-        ensures formed { OnOk result (WellFormed (in_line self.old.graph.graph)) }
-        ensures graph { OnOk result (self.new.graph.graph ≡ self.old.graph.graph) }
-    {
-        let inputs = vertices_of(self.alloc, self.graph.inputs())?;
-        let mut outputs = vertices_of(self.alloc, self.graph.outputs())?;
-        for q in 0..self.qubits() {
-            let place = place_of(&outputs, inputs[usize::from(q)]);
-            if place == usize::from(q) {
-                continue;
-            }
-            self.write_exchange(q, place as Qubit)?;
-            outputs.swap(usize::from(q), place);
-        }
-        Ok(())
-    }
-
-    // The gates behind the Hadamards of the inputs, the first one first.
-    pub(crate) fn into_circuit(self) -> Result<GateList, AllocError>
-        requires few { length self.graph.graph.inputs ≤ most_qubits }
-        requires on_qubits { All (IsOnQubits (length self.graph.graph.inputs)) self.gates.items }
-        ensures qubits { IfOk result (λ c. c.qubits ≡ length self.graph.graph.inputs) }
-        ensures gates { IfOk result (λ c. c.gates ≡
-            hadamards_from 0 self.graph.graph.inputs ++ (state_of self).gates) }
-    {
-        let first = hadamards(self.alloc, self.graph.inputs())?;
-        followed_by(first, self.gates)
-    }
 }

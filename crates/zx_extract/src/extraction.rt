@@ -5,12 +5,11 @@ ghost use Rattle.zx_model.specs.Proportional.{Proportional};
 ghost use Rattle.zx_calculus.specs.Graph.{plane_of, Live};
 ghost use Rattle.zx_calculus.specs.Graph as zx;
 ghost use Rattle.zx_calculus.specs.Sum.{sum};
-ghost use Rattle.zx_calculus.specs.Reduced.{odd_phases, not_XY};
-ghost use Rattle.zx_calculus.specs.Counts.{XY_without_output};
+ghost use Rattle.zx_calculus.specs.Counts.{odd_phases, not_XY, XY_without_output};
 ghost use Rattle.gflow_laws.specs.Flow.{IsFlow};
 ghost use Rattle.zx_gates.specs.Circuit.{most_qubits, gate_odd_phases};
 ghost use Rattle.zx_gates.specs.Maps.{amp};
-ghost use Rattle.zx_extract.specs.Extraction.{HasExactMap, most_gates};
+ghost use Rattle.zx_extract.specs.Extraction.{HasExactMap, most_extracted_gates};
 
 use crate::frontier::Frontier;
 use open_graph::OpenGraph;
@@ -37,7 +36,7 @@ pub fn extract(alloc: Global, g: OpenGraph, f: Flow) -> Result<GateList, AllocEr
     // Its gates.
     ensures odd { IfOk result (λ c. gate_odd_phases c.gates ≤ odd_phases g.graph) }
     ensures few_gates { IfOk result (λ c. length c.gates ≤
-        most_gates (length g.graph.outputs) (XY_without_output g.graph) (not_XY g.graph)) }
+        most_extracted_gates (length g.graph.outputs) (XY_without_output g.graph) (not_XY g.graph)) }
 {
     let mut frontier = Frontier::begin(alloc, g, &f)?;
     frontier.take_marks()?;

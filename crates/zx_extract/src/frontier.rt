@@ -2,11 +2,11 @@
 
 ghost use Rattle.std.specs.Prelude.{◌≡◌, ◌≢◌, ◌<◌, ◌≤◌, ℕ, true, false, [], ◌∷◌, ◌++◌, length, slice_get, Some, IfOk, OnOk};
 ghost use Rattle.zx_model.specs.Bits.{member};
-ghost use Rattle.zx_calculus.specs.Graph.{plane_of, places, Distinct, Live, WellFormed};
+ghost use Rattle.zx_calculus.specs.Graph.{plane_of, end_vertices, Distinct, Live, WellFormed};
 ghost use Rattle.zx_calculus.specs.Graph as zx;
 ghost use Rattle.gflow_laws.specs.Flow.{IsFlow, SameSets};
 ghost use Rattle.zx_gates.specs.Circuit.{most_qubits};
-ghost use Rattle.circuit_laws.specs.Gates.{phase_gates};
+ghost use Rattle.zx_gates.specs.Lowering.{phase_gates};
 ghost use Rattle.circuit_laws.specs.Peeling.{HasPlainOutput};
 ghost use Rattle.zx_extract.specs.Internal.Leading.{IsGiven, IsReady, IsFrontier, Leads};
 ghost use Rattle.zx_extract.specs.Internal.Lists.{IsPlainAt};
@@ -20,38 +20,13 @@ use zx_flow::Flow;
 use zx_gates::{Gate, Qubit};
 use zx_model::Eighth;
 
-/// What is left of a graph and of its flow, and the gates that were taken off, the last one first.
+// What is left of a graph and of its flow, and the gates that were taken off, the last one first.
 #[derive(Drop)]
 pub(crate) struct Frontier {
     pub(crate) alloc: Global,
     pub(crate) graph: OpenGraph,
     pub(crate) flow: Holders,
     pub(crate) gates: Vec<Gate>,
-}
-
-// An end without a Hadamard.
-pub(crate) fn plain(vertex: VertexId) -> End
-    ensures { result ≡ record { vertex = vertex; hadamard = false } }
-{
-    End {
-        vertex,
-        hadamard: false,
-    }
-}
-
-// Toggles the edges between a vertex and each of a row.
-fn toggle_row(graph: &mut OpenGraph, t: VertexId, row: &[VertexId]) -> Result<(), AllocError>
-    requires valid { WellFormed graph.old.graph }
-    requires live { Live graph.old.graph t }
-    requires row_live { (w : ℕ) → member w row.now ≡ true → Live graph.old.graph w }
-    requires apart { member t row.now ≡ false }
-    requires once { Distinct row.now }
-    ensures { OnOk result (IsRowToggled graph.old.graph t row.now graph.new.graph) }
-{
-    for w in row {
-        graph.toggle_edge(t, *w)?;
-    }
-    Ok(())
 }
 
 impl Frontier {
@@ -150,7 +125,8 @@ impl Frontier {
         if !output.hadamard {
             return Ok(());
         }
-        self.graph.move_output(usize::from(q), plain(output.vertex));
+        self.graph
+            .move_output(usize::from(q), End::plain(output.vertex));
         self.write(Gate::H(q))
     }
 
@@ -190,7 +166,7 @@ impl Frontier {
         requires t_on_wires { t < length self.old.graph.graph.outputs }
         requires apart { c ≢ t }
         requires no_input { (u : ℕ) → HasPlainOutput self.old.graph.graph c u →
-            member u (places self.old.graph.graph.inputs) ≡ false }
+            member u (end_vertices self.old.graph.graph.inputs) ≡ false }
         ensures { OnOk result (IsRowAdded (state_of self.old) c t (state_of self.new)) }
     {
         let added = self.present(c);
@@ -200,4 +176,19 @@ impl Frontier {
         self.flow.add_row(added, to)?;
         self.write_cx(t, c)
     }
+}
+
+// Toggles the edges between a vertex and each of a row.
+fn toggle_row(graph: &mut OpenGraph, t: VertexId, row: &[VertexId]) -> Result<(), AllocError>
+    requires valid { WellFormed graph.old.graph }
+    requires live { Live graph.old.graph t }
+    requires row_live { (w : ℕ) → member w row.now ≡ true → Live graph.old.graph w }
+    requires apart { member t row.now ≡ false }
+    requires once { Distinct row.now }
+    ensures { OnOk result (IsRowToggled graph.old.graph t row.now graph.new.graph) }
+{
+    for w in row {
+        graph.toggle_edge(t, *w)?;
+    }
+    Ok(())
 }

@@ -11,16 +11,6 @@ use crate::frontier::Frontier;
 use std::alloc::AllocError;
 use zx_gates::Qubit;
 
-// Of an output and the best so far, the one that stands in fewer sets.
-fn fewer(best: Option<(Qubit, usize)>, other: (Qubit, usize)) -> (Qubit, usize)
-    ensures { (result ≡ other) ⊎ (best ≡ Some result) }
-{
-    match best {
-        Some((q, count)) if count <= other.1 => (q, count),
-        _ => other,
-    }
-}
-
 impl Frontier {
     // Whether the vertex of an output is in the last set.
     fn corrects_last(&self, q: Qubit) -> bool
@@ -68,5 +58,15 @@ impl Frontier {
             self.add_row(c, t)?;
         }
         Ok(())
+    }
+}
+
+// Of an output and the best so far, the one that stands in fewer sets.
+fn fewer(best: Option<(Qubit, usize)>, other: (Qubit, usize)) -> (Qubit, usize)
+    ensures { (result ≡ other) ⊎ (best ≡ Some result) }
+{
+    match best {
+        Some((q, count)) if count <= other.1 => (q, count),
+        _ => other,
     }
 }

@@ -7,8 +7,8 @@ ghost use Rattle.zx_extract.specs.Internal.Frontiers.{state_of};
 ghost use Rattle.zx_extract.specs.Internal.Leading.{IsReady, IsFrontier, IsTaken};
 ghost use Rattle.zx_extract.specs.Internal.Steps.{HasLast, IsPicked, HasNoOutput, HasOneOutput, IsAdvanced, IsGadgetTaken, IsLinkedGadgetTaken, AreLegs};
 
-use crate::frontier::{Frontier, plain};
-use open_graph::{Plane, VertexId};
+use crate::frontier::Frontier;
+use open_graph::{End, Plane, VertexId};
 use std::alloc::AllocError;
 use zx_gates::{Gate, Qubit};
 
@@ -25,7 +25,7 @@ impl Frontier {
         ensures { OnOk result (IsAdvanced (state_of self.old) v q (state_of self.new)) }
     {
         let here = self.present(q);
-        self.graph.move_output(usize::from(q), plain(v));
+        self.graph.move_output(usize::from(q), End::plain(v));
         self.graph.remove_vertex(here);
         self.flow.advance(here);
         self.write(Gate::H(q))

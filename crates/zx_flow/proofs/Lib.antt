@@ -1,3 +1,3 @@
 pub mod SetLemmas
 pub mod MemberLemmas
-pub mod Merging
+pub mod Toggles

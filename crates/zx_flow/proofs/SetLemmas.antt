@@ -24,10 +24,6 @@ table_of-same old new [] same = refl
 table_of-same old new (x ∷ xs) same =
     ap₂ (λ (s : List ℕ) (r : List Correction). record { vertex = x; members = s } ∷ r) (same x (member-here x xs)) (table_of-same old new xs (λ p h. same p (member-there p x xs h)))
 
--- room for more sets changes nothing
-pub table_of-grown : (old new : List (List ℕ)) (order : List ℕ) → SameSetsAt old new → table_of new order ≡ table_of old order
-table_of-grown old new order same = table_of-same old new order (λ p h. same p)
-
 table_of-append : (sets : List (List ℕ)) (order : List ℕ) (v : ℕ) → table_of sets (order ++ v ∷ []) ≡ table_of sets order ++ record { vertex = v; members = set_at sets v } ∷ []
 table_of-append sets [] v = refl
 table_of-append sets (x ∷ xs) v = ap (λ r. record { vertex = x; members = set_at sets x } ∷ r) (table_of-append sets xs v)

@@ -2,10 +2,10 @@
 use Rattle.std.specs.Prelude.{List}
 use Rattle.gflow_laws.specs.Flow.{Correction}
 
--- its table; that more may stand beside it, clauses cite the field
+-- its table; clauses say where it is a flow, and cite the field, so that more may stand beside it
 pub record Flow : Type 0 where
   pub flow : List Correction
 
--- likewise
+-- its table, which need not be a flow of any graph
 pub record FlowTable : Type 0 where
-  pub flow : List Correction
+  pub table : List Correction

@@ -7,17 +7,16 @@ ghost use Rattle.gflow_laws.specs.Flow.{order_of, set_of};
 ghost use Rattle.gflow_laws.specs.Tables.{with_sets, without_set};
 ghost use Rattle.zx_flow.specs.Internal.Sets.{set_at, SameSetsAt};
 
-use crate::members::Members;
-use open_graph::VertexId;
+use open_graph::{VertexId, VertexSet};
 use std::alloc::{AllocError, Global};
 use std::marker::Model;
 
-/// The order, and sets by the number of their vertex.
+// The order, and sets by the number of their vertex.
 #[derive(Drop)]
 pub(crate) struct Corrections {
     alloc: Global,
     order: Vec<VertexId>,
-    sets: Vec<Members>,
+    sets: Vec<VertexSet>,
 }
 
 impl Model for Corrections {
@@ -31,18 +30,6 @@ impl Model for Corrections {
     ghost view = { λ c. table_of c.sets.items c.order.items };
 
     ghost invariant = { λ c. HoldsOnce c.sets.items c.order.items };
-}
-
-// Makes room for the set of a vertex.
-fn make_room(sets: &mut Vec<Members>, alloc: Global, v: VertexId) -> Result<(), AllocError>
-    ensures ok { OnOk result (v < length sets.new.items) }
-    ensures grown { length sets.old.items ≤ length sets.new.items }
-    ensures same { SameSetsAt sets.old.items sets.new.items }
-{
-    'grow: while sets.len() <= v.get() {
-        sets.push(Members::new(alloc))?;
-    }
-    Ok(())
 }
 
 impl Corrections {
@@ -63,7 +50,7 @@ impl Corrections {
         &self.order
     }
 
-    pub(crate) fn set(&self, v: VertexId) -> &Members
+    pub(crate) fn set(&self, v: VertexId) -> &VertexSet
         requires { member v (order_of self.now) ≡ true }
         ensures { result.now ≡ set_of self.now v }
     {
@@ -71,14 +58,14 @@ impl Corrections {
     }
 
     // Another set for a vertex of the order.
-    pub(crate) fn replace(&mut self, v: VertexId, set: Members)
+    pub(crate) fn replace(&mut self, v: VertexId, set: VertexSet)
         requires { member v (order_of self.old) ≡ true }
         ensures { self.new ≡ with_sets (λ u members. if u == v then set else members) self.old }
     {
         self.sets[v.get()] = set;
     }
 
-    pub(crate) fn add_last(&mut self, v: VertexId, set: Members) -> Result<(), AllocError>
+    pub(crate) fn add_last(&mut self, v: VertexId, set: VertexSet) -> Result<(), AllocError>
         requires { member v (order_of self.old) ≡ false }
         ensures ok { OnOk result (self.new ≡ self.old ++ record { vertex = v; members = set } ∷ []) }
         ensures err { OnErr result (self.new ≡ self.old) }
@@ -89,7 +76,7 @@ impl Corrections {
         Ok(())
     }
 
-    pub(crate) fn add_first(&mut self, v: VertexId, set: Members) -> Result<(), AllocError>
+    pub(crate) fn add_first(&mut self, v: VertexId, set: VertexSet) -> Result<(), AllocError>
         requires { member v (order_of self.old) ≡ false }
         ensures ok { OnOk result (self.new ≡ record { vertex = v; members = set } ∷ self.old) }
         ensures err { OnErr result (self.new ≡ self.old) }
@@ -106,7 +93,7 @@ impl Corrections {
         ensures { self.new ≡ without_set v self.old }
     {
         self.order.retain(|u| *u != v);
-        self.sets[v.get()] = Members::new(self.alloc);
+        self.sets[v.get()] = VertexSet::new(self.alloc);
     }
 
     pub(crate) fn copy(&self) -> Result<Corrections, AllocError>
@@ -125,4 +112,16 @@ impl Corrections {
         self.order.reserve(vertices)?;
         self.sets.reserve(vertices)
     }
+}
+
+// Makes room for the set of a vertex.
+fn make_room(sets: &mut Vec<VertexSet>, alloc: Global, v: VertexId) -> Result<(), AllocError>
+    ensures ok { OnOk result (v < length sets.new.items) }
+    ensures grown { length sets.old.items ≤ length sets.new.items }
+    ensures same { SameSetsAt sets.old.items sets.new.items }
+{
+    'grow: while sets.len() <= v.get() {
+        sets.push(VertexSet::new(alloc))?;
+    }
+    Ok(())
 }

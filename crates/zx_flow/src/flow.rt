@@ -1,6 +1,6 @@
 //! Flows.
 
-ghost use Rattle.std.specs.Prelude.{◌≡◌, ◌++◌, ℕ, true, false, List, [], ◌∷◌, IfOk, IfNone, IfSome, OnOk, OnErr, ltb};
+ghost use Rattle.std.specs.Prelude.{◌≡◌, ◌<◌, ◌++◌, ℕ, true, false, List, [], ◌∷◌, length, slice_index, IfOk, IfNone, IfSome, OnOk, OnErr, ltb};
 ghost use Rattle.zx_model.specs.Bits.{member};
 ghost use Rattle.zx_calculus.specs.Graph.{in_order, Distinct};
 ghost use Rattle.gflow_laws.specs.Seen.{seen, odd};
@@ -9,9 +9,8 @@ ghost use Rattle.gflow_laws.specs.Tables.{without_set};
 ghost use Rattle.zx_flow.specs.Changes.{set_toggled};
 
 use crate::corrections::Corrections;
-use crate::members::Members;
 use crate::table::FlowTable;
-use open_graph::{OpenGraph, VertexId};
+use open_graph::{OpenGraph, VertexId, VertexSet};
 use std::alloc::{AllocError, Global};
 use std::marker::Model;
 
@@ -33,8 +32,8 @@ impl Model for Flow {
 impl Flow {
     /// The flow of a graph that a table is.
     pub fn of_table(g: &OpenGraph, t: FlowTable) -> Result<Flow, AllocError>
-        requires { IsFlow g.now.graph t.flow }
-        ensures { IfOk result (λ f. f.flow ≡ t.flow) }
+        requires { IsFlow g.now.graph t.table }
+        ensures { IfOk result (λ f. f.flow ≡ t.table) }
     {
         Ok(Flow {
             alloc: t.alloc,
@@ -48,6 +47,15 @@ impl Flow {
         ensures valid { Distinct (order_of self.now.flow) }
     {
         self.corrections.order()
+    }
+
+    /// The vertex at a place of the order.
+    pub fn vertex_at(&self, i: usize) -> VertexId
+        requires { i < length (order_of self.now.flow) }
+        ensures value { result ≡ slice_index (order_of self.now.flow) i }
+        ensures there { member result (order_of self.now.flow) ≡ true }
+    {
+        self.order()[i]
     }
 
     /// The last vertex of the order.
@@ -91,8 +99,6 @@ impl Flow {
         ensures { result ≡ odd (seen g.now.graph) (is_in (set_of self.now.flow v)) w }
     {
         let set = self.corrections.set(v);
-        // A graph that tells its ends tells that it is well-formed: no edge ends where no vertex is.
-        let _ends = g.inputs();
         g.is_live(w) && set.count_of(g.neighbours(w)) % 2 == 1
     }
 
@@ -103,7 +109,7 @@ impl Flow {
         ensures ok { OnOk result (SameSets self.new.flow (set_toggled v members.now self.old.flow)) }
         ensures err { OnErr result (self.new.flow ≡ self.old.flow) }
     {
-        let mut set = self.corrections.set(v).copy()?;
+        let mut set = self.corrections.set(v).clone()?;
         set.toggle_all(members)?;
         self.corrections.replace(v, set);
         Ok(())
@@ -117,7 +123,7 @@ impl Flow {
             self.old.flow ++ record { vertex = v; members = w ∷ [] } ∷ []) }
         ensures err { OnErr result (self.new.flow ≡ self.old.flow) }
     {
-        let set = Members::one(self.alloc, w)?;
+        let set = VertexSet::one(self.alloc, w)?;
         self.corrections.add_last(v, set)
     }
 
@@ -129,7 +135,7 @@ impl Flow {
             record { vertex = v; members = w ∷ [] } ∷ self.old.flow) }
         ensures err { OnErr result (self.new.flow ≡ self.old.flow) }
     {
-        let set = Members::one(self.alloc, w)?;
+        let set = VertexSet::one(self.alloc, w)?;
         self.corrections.add_first(v, set)
     }
 

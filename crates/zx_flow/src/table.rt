@@ -6,8 +6,7 @@ ghost use Rattle.zx_calculus.specs.Graph.{in_order, Distinct};
 ghost use Rattle.gflow_laws.specs.Flow.{order_of, set_of, SameSets};
 
 use crate::corrections::Corrections;
-use crate::members::Members;
-use open_graph::VertexId;
+use open_graph::{VertexId, VertexSet};
 use std::alloc::{AllocError, Global};
 use std::marker::Model;
 
@@ -23,13 +22,13 @@ impl Model for FlowTable {
 
     ghost Value = { Seen };
 
-    ghost view = { λ t. record { flow = t.corrections } };
+    ghost view = { λ t. record { table = t.corrections } };
 }
 
 impl FlowTable {
     /// The table without vertices.
     pub fn new(alloc: Global) -> FlowTable
-        ensures { result.flow ≡ [] }
+        ensures { result.table ≡ [] }
     {
         FlowTable {
             alloc,
@@ -40,30 +39,30 @@ impl FlowTable {
     /// Adds a vertex after all others, with its set. Where memory runs out the table stays as
     /// it was.
     pub fn add(&mut self, v: VertexId, members: &[VertexId]) -> Result<(), AllocError>
-        requires fresh { member v (order_of self.old.flow) ≡ false }
+        requires fresh { member v (order_of self.old.table) ≡ false }
         requires differ { Distinct members.now }
-        ensures ok { OnOk result (SameSets self.new.flow
-            (self.old.flow ++ record { vertex = v; members = members.now } ∷ [])) }
-        ensures err { OnErr result (self.new.flow ≡ self.old.flow) }
+        ensures ok { OnOk result (SameSets self.new.table
+            (self.old.table ++ record { vertex = v; members = members.now } ∷ [])) }
+        ensures err { OnErr result (self.new.table ≡ self.old.table) }
     {
-        let mut set = Members::new(self.alloc);
+        let mut set = VertexSet::new(self.alloc);
         set.toggle_all(members)?;
         self.corrections.add_last(v, set)
     }
 
     /// The vertices in their order.
     pub fn order(&self) -> &[VertexId]
-        ensures value { result.now ≡ order_of self.now.flow }
-        ensures valid { Distinct (order_of self.now.flow) }
+        ensures value { result.now ≡ order_of self.now.table }
+        ensures valid { Distinct (order_of self.now.table) }
     {
         self.corrections.order()
     }
 
     /// The set of a vertex, by rising id.
     pub fn correction(&self, v: VertexId) -> &[VertexId]
-        requires { member v (order_of self.now.flow) ≡ true }
-        ensures value { result.now ≡ set_of self.now.flow v }
-        ensures valid { in_order ltb (set_of self.now.flow v) ≡ true }
+        requires { member v (order_of self.now.table) ≡ true }
+        ensures value { result.now ≡ set_of self.now.table v }
+        ensures valid { in_order ltb (set_of self.now.table v) ≡ true }
     {
         self.corrections.set(v).as_slice()
     }

@@ -1,99 +1,122 @@
--- What the changes of a graph, one after the other, make of it.
-use Rattle.std.proofs.Common.{◌≡◌, ◌≢◌, refl, sym, ◌∙◌, ap, ℕ, true, false, eqb, List, [], ◌∷◌, length, get_or, eq-eqb}
+-- What a gadget taken out, and a phase added, make of a graph.
+use Rattle.std.proofs.Common.{◌≡◌, ◌≢◌, sym, ◌∙◌, ap, ap₂, subst, ℕ, true, eqb-true, List, get_or, true≢false}
 use Rattle.zx_model.specs.Bits.{member}
-use Rattle.zx_calculus.specs.Graph.{Plane, XY, XZ, YZ, Kind, Graph, joined, neighbours, places, plane_of, phase_of, Live, Interior, WellFormed}
-use Rattle.zx_calculus.specs.Gadgets.{IsDropLone, IsFuseInto, IsFuseTwin, fuse_kind}
-use Rattle.zx_calculus.specs.Moves.{IsGadgetOf, AreTwins}
+use Rattle.zx_calculus.specs.Graph.{YZ, Kind, Graph, is_XY, ids, joined, neighbours, plane_of, phase_of, with_kinds, without, Live, Interior, OrderedEdges, WellFormed}
+use Rattle.zx_calculus.specs.Steps.{allowed, after, DropLone, FuseInto, FuseTwin}
 use Rattle.zx_calculus.specs.Edits.{IsRemoval}
-use Rattle.zx_calculus.specs.Graph.{is_XY}
+use Rattle.zx_calculus.specs.Gadgets.{IsDropLone, IsFuseInto, IsFuseTwin, fuse_kind}
+use Rattle.zx_calculus.specs.Toggles.{with_changed}
+use Rattle.zx_calculus.proofs.Allowed.{fuse_into_leg}
+use Rattle.zx_calculus.proofs.Forms.{ids-without}
+use Rattle.zx_calculus.proofs.Ids.{member-removed_other}
+use Rattle.zx_calculus.proofs.Positions.{member-at_place}
+use Rattle.zx_calculus.proofs.Steps.{after_step}
 use Rattle.zx_calculus.proofs.Splitting.{interior_of, no_loop}
-use Rattle.zx_calculus.proofs.Vertices.{without-with_kinds}
-use Rattle.gflow_laws.proofs.Lists.{is_in-one}
-use Rattle.local_comp.specs.Internal.Changes.{with_changed}
-use Rattle.local_comp.proofs.Toggling.{member-neighbours, neighbour_live}
+use Rattle.zx_calculus.proofs.Counting.{YZ_apart}
+use Rattle.zx_calculus.proofs.Toggling.{neighbour_joined}
+use Rattle.zx_calculus.proofs.Vertices.{ids-with_kinds}
+use Rattle.gflow_laws.specs.Flow.{Correction, order_of, IsFlow}
+use Rattle.gflow_laws.proofs.Rewriting.{measured_listed}
 
 pub gadget_interior : (g : Graph) (u : ℕ) → WellFormed g → plane_of g u ≡ YZ → Interior g u
 gadget_interior g u w plane = interior_of g u w (ap is_XY plane)
 
--- whatever planes and phases become
-pub gadget_interior_in : (f : ℕ → Kind → Kind) (g h : Graph) (u : ℕ) → WellFormed g → h ≡ with_changed f g → plane_of g u ≡ YZ → Interior h u
-gadget_interior_in f g h u w e plane =
-    let inside : Interior g u = gadget_interior g u w plane in
+pub gadget_listed : (g : Graph) (table : List Correction) (u : ℕ) → WellFormed g → IsFlow g table → Live g u →
+    plane_of g u ≡ YZ → member u (order_of table) ≡ true
+gadget_listed g table u w flow there plane = measured_listed g table u w flow there (YZ_apart (plane_of g u) plane)
+
+pub drop_step : {g h : Graph} {u : ℕ} → WellFormed g → allowed g (DropLone u) ≡ true → IsRemoval g u h →
+    IsDropLone g u h
+drop_step {g} {h} {u} w may c =
+    let s : IsDropLone g u (after (DropLone u) g) = after_step g (DropLone u) w may in
     record {
-      no_input = ap (λ l. member u (places l.inputs)) e ∙ inside.no_input;
-      no_output = ap (λ l. member u (places l.outputs)) e ∙ inside.no_output;
+      there = s.there;
+      plane = s.plane;
+      lone = s.lone;
+      vertices = c.vertices;
+      ordered = c.ordered;
+      edges = c.edges;
+      inputs = c.inputs;
+      outputs = c.outputs;
     }
 
-pub gadget_measured : (p : Plane) → p ≡ YZ → p ≢ XY
-gadget_measured XY e f = cc
-gadget_measured XZ e f = cc
-gadget_measured YZ e f = cc
+-- another vertex stays one
+pub still_live : (g h : Graph) (u p : ℕ) → IsRemoval g u h → p ≢ u → Live g p → Live h p
+still_live g h u p c other there =
+    ap (λ vs. member p (ids vs)) c.vertices ∙ ap (member p) (ids-without u g.vertices)
+    ∙ member-removed_other p u (ids g.vertices) other ∙ there
 
-none_of_none : (xs : List ℕ) (p : ℕ) → length xs ≡ 0 → member p xs ≡ false
-none_of_none [] p e = refl
-none_of_none (x ∷ xs) p e = cc
-
-pub drop_step : (g k : Graph) (u : ℕ) → WellFormed g → IsGadgetOf g u 0 → IsRemoval g u k → IsDropLone g u k
-drop_step g k u w d c = record {
-  there = d.there;
-  plane = d.plane;
-  lone = λ p. sym (member-neighbours g u p w) ∙ none_of_none (neighbours g u) p d.legs;
-  vertices = c.vertices;
-  ordered = c.ordered;
-  edges = c.edges;
-  inputs = c.inputs;
-  outputs = c.outputs;
-}
-
-one_of_one : (xs : List ℕ) (p : ℕ) → length xs ≡ 1 → member p xs ≡ eqb p (get_or xs 0 0)
-one_of_one [] p e = cc
-one_of_one (x ∷ []) p e = is_in-one x p
-one_of_one (x ∷ (y ∷ ys)) p e = cc
+-- the edges stand in the order of the vertices, whatever planes and phases become
+ordered_too : (f : ℕ → Kind → Kind) (h : Graph) → OrderedEdges (ids h.vertices) h.edges →
+    OrderedEdges (ids (with_kinds f h.vertices)) h.edges
+ordered_too f h o = subst (λ vs. OrderedEdges vs h.edges) (sym (ids-with_kinds f h.vertices)) o
 
 -- the only neighbour
-pub leg_of : (g : Graph) (u p : ℕ) → WellFormed g → IsGadgetOf g u 1 → joined g.edges u p ≡ eqb p (get_or (neighbours g u) 0 0)
-leg_of g u p w d = sym (member-neighbours g u p w) ∙ one_of_one (neighbours g u) p d.legs
+leg_joined : (g : Graph) (u into : ℕ) → WellFormed g → allowed g (FuseInto u) ≡ true →
+    into ≡ get_or (neighbours g u) 0 0 → joined g.edges u into ≡ true
+leg_joined g u into w may is =
+    neighbour_joined g u into w (member-at_place (neighbours g u) 0 into (fuse_into_leg g u may) is)
 
-leg_joined : (g : Graph) (u into : ℕ) → WellFormed g → IsGadgetOf g u 1 → into ≡ get_or (neighbours g u) 0 0 → joined g.edges u into ≡ true
-leg_joined g u into w d is = leg_of g u into w d ∙ eq-eqb into (get_or (neighbours g u) 0 0) is
+pub leg_apart : (g : Graph) (u into : ℕ) → WellFormed g → allowed g (FuseInto u) ≡ true →
+    into ≡ get_or (neighbours g u) 0 0 → into ≢ u
+leg_apart g u into w may is e =
+    true≢false (sym (leg_joined g u into w may is) ∙ ap (joined g.edges u) e ∙ no_loop g u w)
 
-pub leg_live : (g : Graph) (u into : ℕ) → WellFormed g → IsGadgetOf g u 1 → into ≡ get_or (neighbours g u) 0 0 → Live g into
-leg_live g u into w d is = neighbour_live g u into (member-neighbours g u into w ∙ leg_joined g u into w d is)
-
-pub fuse_into_step : (g k : Graph) (u into : ℕ) → WellFormed g → IsGadgetOf g u 1 →
-    ((p : ℕ) → joined g.edges u p ≡ true → plane_of g p ≡ XY) → into ≡ get_or (neighbours g u) 0 0 →
-    IsRemoval (with_changed (fuse_kind into (phase_of g u)) g) u k → IsFuseInto g u k
-fuse_into_step g k u into w d legs is c = record {
-  into = into;
-  there = d.there;
-  plane = d.plane;
-  into_there = leg_live g u into w d is;
-  into_plane = legs into (leg_joined g u into w d is);
-  only_neighbour = λ p. leg_of g u p w d ∙ ap (eqb p) (sym is);
-  vertices = c.vertices ∙ without-with_kinds (fuse_kind into (phase_of g u)) u g.vertices;
-  ordered = c.ordered;
-  edges = c.edges;
-  inputs = c.inputs;
-  outputs = c.outputs;
-}
-
--- equal lists of neighbours, and none is adjacent to itself
-pub fuse_twin_step : (g k : Graph) (u v : ℕ) → WellFormed g → AreTwins g u v →
-    IsRemoval (with_changed (fuse_kind u (phase_of g v)) g) v k → IsFuseTwin g u v k
-fuse_twin_step g k u v w d c = record {
-  there = d.there;
-  there_too = d.there_too;
-  different = d.different;
-  plane = d.plane;
-  plane_too = d.plane_too;
-  not_adjacent = equal v ∙ no_loop g v w;
-  equal_neighbours = equal;
-  vertices = c.vertices ∙ without-with_kinds (fuse_kind u (phase_of g v)) v g.vertices;
-  ordered = c.ordered;
-  edges = c.edges;
-  inputs = c.inputs;
-  outputs = c.outputs;
-}
+pub fuse_into_step : {g h k : Graph} {u : ℕ} (into phase : ℕ) → WellFormed g → allowed g (FuseInto u) ≡ true →
+    into ≡ get_or (neighbours g u) 0 0 → phase ≡ phase_of g u → IsRemoval g u h →
+    k ≡ with_changed (fuse_kind into phase) h → IsFuseInto g u k
+fuse_into_step {g} {h} {k} {u} into phase w may is read c made = subst (IsFuseInto g u) (sym made) fused
   where
-    equal : (p : ℕ) → joined g.edges u p ≡ joined g.edges v p
-    equal p = sym (member-neighbours g u p w) ∙ ap (member p) d.equal_neighbours ∙ member-neighbours g v p w
+    s : IsFuseInto g u (after (FuseInto u) g)
+    s = after_step g (FuseInto u) w may
+
+    same : into ≡ s.into
+    same = eqb-true into s.into (sym (s.only_neighbour into) ∙ leg_joined g u into w may is)
+
+    fused : IsFuseInto g u (with_changed (fuse_kind into phase) h)
+    fused = record {
+      into = s.into;
+      there = s.there;
+      plane = s.plane;
+      into_there = s.into_there;
+      into_plane = s.into_plane;
+      only_neighbour = s.only_neighbour;
+      vertices = ap (with_kinds (fuse_kind into phase)) c.vertices
+          ∙ ap₂ (λ v j. with_kinds (fuse_kind v j) (without u g.vertices)) same read;
+      ordered = ordered_too (fuse_kind into phase) h c.ordered;
+      edges = c.edges;
+      inputs = c.inputs;
+      outputs = c.outputs;
+    }
+
+pub twins_apart : (g : Graph) (u v : ℕ) → WellFormed g → allowed g (FuseTwin u v) ≡ true → u ≢ v
+twins_apart g u v w may =
+    let s : IsFuseTwin g u v (after (FuseTwin u v) g) = after_step g (FuseTwin u v) w may in s.different
+
+pub first_live : (g : Graph) (u v : ℕ) → WellFormed g → allowed g (FuseTwin u v) ≡ true → Live g u
+first_live g u v w may =
+    let s : IsFuseTwin g u v (after (FuseTwin u v) g) = after_step g (FuseTwin u v) w may in s.there
+
+pub fuse_twin_step : {g h k : Graph} {u v : ℕ} (phase : ℕ) → WellFormed g → allowed g (FuseTwin u v) ≡ true →
+    phase ≡ phase_of g v → IsRemoval g v h → k ≡ with_changed (fuse_kind u phase) h → IsFuseTwin g u v k
+fuse_twin_step {g} {h} {k} {u} {v} phase w may read c made = subst (IsFuseTwin g u v) (sym made) fused
+  where
+    s : IsFuseTwin g u v (after (FuseTwin u v) g)
+    s = after_step g (FuseTwin u v) w may
+
+    fused : IsFuseTwin g u v (with_changed (fuse_kind u phase) h)
+    fused = record {
+      there = s.there;
+      there_too = s.there_too;
+      different = s.different;
+      plane = s.plane;
+      plane_too = s.plane_too;
+      not_adjacent = s.not_adjacent;
+      equal_neighbours = s.equal_neighbours;
+      vertices = ap (with_kinds (fuse_kind u phase)) c.vertices
+          ∙ ap (λ j. with_kinds (fuse_kind u j) (without v g.vertices)) read;
+      ordered = ordered_too (fuse_kind u phase) h c.ordered;
+      edges = c.edges;
+      inputs = c.inputs;
+      outputs = c.outputs;
+    }

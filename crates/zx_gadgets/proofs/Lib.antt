@@ -1,1 +1,1 @@
-pub mod GadgetSteps
+mod GadgetSteps

@@ -1,7 +1,26 @@
-//! Phase gadgets of at most one leg, and gadgets of equal legs: on graphs, and on graphs with a flow.
+//! Phase gadgets of at most one leg, and gadgets of equal legs, of a graph with its flow.
+//!
+//! Proved of `drop_lone` of a YZ vertex without neighbours, `fuse_into` of one whose only neighbour
+//! is XY, and `fuse_twin` of two with equal neighbours: with Ok the graph is the rewritten one and
+//! the flow the table that `gflow_laws` gives for that, a flow of the new graph; the sum is kept
+//! with the exact factors of `zx_calculus`, and odd phases don't rise; want of memory leaves both
+//! as they were.
+//! `may_drop_lone`, `may_fuse_into` and `may_fuse_twin` tell exactly where each is allowed. The calls
+//! in place make the same change without copies; where memory runs out they say nothing.
+//!
+//! ```rust
+//! if may_fuse_twin(&graph, u, v) {
+//!     fuse_twin(&mut graph, &mut flow, u, v)?;       // v goes
+//! }
+//! ```
 #![tactic(auto)]
 
-pub mod graph;
-pub mod rewrite;
+mod gadget;
+mod lone;
+mod single;
+mod twins;
 
-pub use rewrite::{drop_lone, fuse_into, fuse_twin};
+pub use gadget::is_gadget;
+pub use lone::{drop_lone, drop_lone_in_place, may_drop_lone};
+pub use single::{fuse_into, fuse_into_in_place, may_fuse_into};
+pub use twins::{fuse_twin, fuse_twin_in_place, may_fuse_twin};

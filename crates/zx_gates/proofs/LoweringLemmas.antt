@@ -56,7 +56,7 @@ by_angle P q a b c none quarter half three other =
 pub gate_odd_phases-append : (xs ys : List Gate) → gate_odd_phases (xs ++ ys) ≡ gate_odd_phases xs + gate_odd_phases ys
 gate_odd_phases-append xs ys = sum_by-append (λ g. cond (is_odd_phase g) 1 0) xs ys
 
-odd-phase_gates : (q k : ℕ) → gate_odd_phases (phase_gates q k) ≡ odd_of k
+pub odd-phase_gates : (q k : ℕ) → gate_odd_phases (phase_gates q k) ≡ odd_of k
 odd-phase_gates q k =
     choose (λ gs. gate_odd_phases gs ≡ odd_of k) (eqb k 0) _ _ (λ e. ap odd_of (sym (eqb-true k 0 e))) (λ _. omega arith)
 
@@ -107,7 +107,7 @@ odd_lowered (gate ∷ gates) =
     ∙ sym (sum_by-cons odd_elementary gate gates)
 
 -- ---- maps
-acts-phase_gates : (q k : ℕ) (f : List Bool → Number) → acts (phase_gates q k) f ≡ act (Phase q k) f
+pub acts-phase_gates : (q k : ℕ) (f : List Bool → Number) → acts (phase_gates q k) f ≡ act (Phase q k) f
 acts-phase_gates q k f =
     choose (λ gs. acts gs f ≡ act (Phase q k) f) (eqb k 0) _ _ (λ e. sym (act-phase-zero q f) ∙ ap (λ j. act (Phase q j) f) (sym (eqb-true k 0 e))) (λ _. refl)
 

@@ -25,8 +25,8 @@ difference_of_phases j k = sum_of_phases j (opposite_phase (k % turn))
 abbrev pub odd_of : ℕ → ℕ
 odd_of k = one_if (is_odd k)
 
--- How many phase gates of odd phases a gate costs. Where theta is 0, U is a phase gate of phi + lambda; where theta is a
--- half turn, it is one of lambda - phi, and a NOT.
+-- How many phase gates of odd phases a gate costs. Where theta is 0, U is a phase gate of phi + lambda; where theta is
+-- a half turn, it is one of lambda - phi, and a NOT.
 abbrev pub odd_elementary : ElementaryGate → ℕ
 odd_elementary (U q theta phi lambda) =
     if theta == 0 then odd_of (sum_of_phases phi lambda) else

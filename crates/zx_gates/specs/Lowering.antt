@@ -13,15 +13,17 @@ use Rattle.zx_gates.specs.Elementary.{difference_of_phases}
 abbrev pub phase_gates : ℕ → ℕ → List Gate
 phase_gates q k = if k == 0 then [] else Phase q k ∷ []
 
--- The gates that stand for one, in the order in which they act. U(a, b, c) is the phase gate of c without a quarter turn,
--- H, that of a, H, and that of b and a quarter turn; where a is a whole number of quarter turns, there is a shorter list.
+-- The gates that stand for one, in the order in which they act. U(a, b, c) is the phase gate of c without a quarter
+-- turn, H, that of a, H, and that of b and a quarter turn; where a is a whole number of quarter turns, there is a
+-- shorter list.
 abbrev pub lowered_gate : ElementaryGate → List Gate
 lowered_gate (U q a b c) =
     if a == 0 then phase_gates q (sum_of_phases b c) else
     if a == quarter_turn then phase_gates q (sum_of_phases c half_turn) ++ H q ∷ phase_gates q b else
     if a == half_turn then phase_gates q (sum_of_phases (difference_of_phases c b) half_turn) ++ Not q ∷ [] else
     if a == half_turn + quarter_turn then phase_gates q c ++ H q ∷ phase_gates q (sum_of_phases b half_turn) else
-    phase_gates q (sum_of_phases c (opposite_phase quarter_turn)) ++ H q ∷ phase_gates q a ++ H q ∷ phase_gates q (sum_of_phases b quarter_turn)
+    phase_gates q (sum_of_phases c (opposite_phase quarter_turn)) ++ H q ∷
+    phase_gates q a ++ H q ∷ phase_gates q (sum_of_phases b quarter_turn)
 lowered_gate (Cx control target) = gates.Cx control target ∷ []
 
 abbrev pub lowered : List ElementaryGate → List Gate

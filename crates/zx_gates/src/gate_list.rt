@@ -1,6 +1,6 @@
 //! Circuits as lists of gates.
 
-ghost use Rattle.std.specs.Prelude.{◌≡◌, ◌<◌, ◌≤◌, ◌++◌, [], ◌∷◌, length, slice_set, OnOk, OnErr};
+ghost use Rattle.std.specs.Prelude.{◌≡◌, ◌<◌, ◌≤◌, ◌++◌, [], ◌∷◌, length, slice_set, IfOk, OnOk, OnErr};
 ghost use Rattle.std.specs.List.{remove};
 ghost use Rattle.zx_gates.specs.Circuit.{Circuit, IsCircuit, IsOnQubits, most_qubits};
 
@@ -36,6 +36,16 @@ impl GateList {
             qubits,
             gates: Vec::new(alloc),
         }
+    }
+
+    /// The same circuit once more.
+    pub fn copy(&self) -> Result<GateList, AllocError>
+        ensures { IfOk result (λ copy. copy ≡ self.now) }
+    {
+        Ok(GateList {
+            qubits: self.qubits,
+            gates: self.gates.clone()?,
+        })
     }
 
     /// How many qubits there are.

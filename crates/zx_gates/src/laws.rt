@@ -23,22 +23,27 @@ pub fn worked_maps()
     ensures two_nots { Proportional 1 1 (amp (Gate.Not 0 ∷ Gate.Not 0 ∷ [])) (amp []) }
     ensures two_ts_are_s { Proportional 1 1 (amp (Gate.Phase 0 1 ∷ Gate.Phase 0 1 ∷ []))
         (amp (Gate.Phase 0 2 ∷ [])) }
-    ensures s_and_its_inverse { Proportional 1 1 (amp (Gate.Phase 0 2 ∷ Gate.Phase 0 6 ∷ [])) (amp []) }
-    ensures t_between_nots_undoes_t { Proportional 1 1 (amp (Gate.Not 0 ∷ Gate.Phase 0 1 ∷ Gate.Not 0 ∷ Gate.Phase 0 1 ∷ []))
+    ensures s_and_its_inverse { Proportional 1 1 (amp (Gate.Phase 0 2 ∷ Gate.Phase 0 6 ∷ []))
         (amp []) }
-    ensures t_is_not_s { ¬ Proportional 1 1 (amp (Gate.Phase 0 1 ∷ [])) (amp (Gate.Phase 0 2 ∷ [])) }
+    ensures t_between_nots_undoes_t { Proportional 1 1
+        (amp (Gate.Not 0 ∷ Gate.Phase 0 1 ∷ Gate.Not 0 ∷ Gate.Phase 0 1 ∷ []))
+        (amp []) }
+    ensures t_is_not_s { ¬ Proportional 1 1 (amp (Gate.Phase 0 1 ∷ []))
+        (amp (Gate.Phase 0 2 ∷ [])) }
 
     // on two qubits
     ensures cz_by_cx { Proportional 2 2 (amp (Gate.Cz 0 1 ∷ []))
         (amp (Gate.H 1 ∷ Gate.Cx 0 1 ∷ Gate.H 1 ∷ [])) }
     ensures cz_is_symmetric { Proportional 2 2 (amp (Gate.Cz 0 1 ∷ [])) (amp (Gate.Cz 1 0 ∷ [])) }
     ensures two_cx { Proportional 2 2 (amp (Gate.Cx 0 1 ∷ Gate.Cx 0 1 ∷ [])) (amp []) }
-    ensures three_cx_exchange { Proportional 2 2 (amp (Gate.Cx 0 1 ∷ Gate.Cx 1 0 ∷ Gate.Cx 0 1 ∷ [])) swap_two }
+    ensures three_cx_exchange { Proportional 2 2
+        (amp (Gate.Cx 0 1 ∷ Gate.Cx 1 0 ∷ Gate.Cx 0 1 ∷ [])) swap_two }
 {}
 
 /// Lowering keeps the linear map up to a nonzero scalar, and the number of odd phases.
 pub fn lowering_keeps_map_and_odd_phases()
     ensures map { (n : ℕ) (gates : List ElementaryGate) → All (IsElementaryGateOn n) gates →
         Proportional n n (amp_elementary gates) (amp (lowered gates)) }
-    ensures odd { (gates : List ElementaryGate) → gate_odd_phases (lowered gates) ≡ elementary_odd_phases gates }
+    ensures odd { (gates : List ElementaryGate) →
+        gate_odd_phases (lowered gates) ≡ elementary_odd_phases gates }
 {}

@@ -22,7 +22,8 @@ pub fn lower(alloc: Global, e: &Elementary) -> Result<GateList, AllocError>
     ensures list { IfOk result (λ list. list.gates ≡ lowered e.now.gates) }
     ensures map { IfOk result (λ list.
         Proportional e.now.qubits e.now.qubits (amp_elementary e.now.gates) (amp list.gates)) }
-    ensures odd { IfOk result (λ list. gate_odd_phases list.gates ≡ elementary_odd_phases e.now.gates) }
+    ensures odd { IfOk result (λ list.
+        gate_odd_phases list.gates ≡ elementary_odd_phases e.now.gates) }
 {
     let mut list = GateList::new(alloc, e.qubits);
     for gate in e.gates.as_slice() {
@@ -31,7 +32,7 @@ pub fn lower(alloc: Global, e: &Elementary) -> Result<GateList, AllocError>
     Ok(list)
 }
 
-/// Adds the gates that stand for one.
+// Adds the gates that stand for one.
 fn push_lowered(list: &mut GateList, gate: &ElementaryGate) -> Result<(), AllocError>
     requires { IsElementaryGateOn list.old.qubits gate.now }
     ensures qubits { OnOk result (list.new.qubits ≡ list.old.qubits) }
@@ -48,7 +49,7 @@ fn push_lowered(list: &mut GateList, gate: &ElementaryGate) -> Result<(), AllocE
     }
 }
 
-/// Adds the gates that stand for `U(theta, phi, lambda)`.
+// Adds the gates that stand for `U(theta, phi, lambda)`.
 fn push_unitary(
     list: &mut GateList,
     q: Qubit,
@@ -58,7 +59,8 @@ fn push_unitary(
 ) -> Result<(), AllocError>
     requires { q < list.old.qubits }
     ensures qubits { OnOk result (list.new.qubits ≡ list.old.qubits) }
-    ensures gates { OnOk result (list.new.gates ≡ list.old.gates ++ lowered_gate (U q theta phi lambda)) }
+    ensures gates { OnOk result (list.new.gates ≡
+        list.old.gates ++ lowered_gate (U q theta phi lambda)) }
 {
     let quarter = Eighth::new(2);
     let half = Eighth::new(4);
@@ -78,18 +80,19 @@ fn push_unitary(
     }
 }
 
-/// Adds the phase gate of `before`, H, and the phase gate of `after`.
+// Adds the phase gate of `before`, H, and the phase gate of `after`.
 fn push_turn(list: &mut GateList, q: Qubit, before: Eighth, after: Eighth) -> Result<(), AllocError>
     requires { q < list.old.qubits }
     ensures qubits { OnOk result (list.new.qubits ≡ list.old.qubits) }
-    ensures gates { OnOk result (list.new.gates ≡ list.old.gates ++ phase_gates q before ++ Gate.H q ∷ phase_gates q after) }
+    ensures gates { OnOk result (list.new.gates ≡
+        list.old.gates ++ phase_gates q before ++ Gate.H q ∷ phase_gates q after) }
 {
     push_phase(list, q, before)?;
     list.push(Gate::H(q))?;
     push_phase(list, q, after)
 }
 
-/// Adds the phase gate of a phase, or none where it is 0.
+// Adds the phase gate of a phase, or none where it is 0.
 fn push_phase(list: &mut GateList, q: Qubit, phase: Eighth) -> Result<(), AllocError>
     requires { q < list.old.qubits }
     ensures qubits { OnOk result (list.new.qubits ≡ list.old.qubits) }

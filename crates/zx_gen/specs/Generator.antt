@@ -9,8 +9,8 @@ use Rattle.zx_gates.specs.declared.gate.Gate.{Gate}
 use Rattle.zx_gates.specs.declared.gate.Gate.TheVariants.{H, Phase, Cz, Cx}
 
 -- the most gates that are asked for
-abbrev pub most_gates : ℕ
-most_gates = 1000000
+abbrev pub most_drawn_gates : ℕ
+most_drawn_gates = 1000000
 
 -- the generator of a seed, on the first of its streams
 abbrev pub seeded : ℕ → Lcg

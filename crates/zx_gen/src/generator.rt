@@ -3,7 +3,7 @@
 ghost use Rattle.std.specs.Prelude.{◌≡◌, ◌≢◌, ◌<◌, ◌≤◌, ◌%◌, IfOk};
 ghost use Rattle.rand_pcg.specs.Pcg.{pcg32};
 ghost use Rattle.zx_gates.specs.Circuit.{IsOnQubits, most_qubits};
-ghost use Rattle.zx_gen.specs.Generator.{generated, drawn, one_qubit_gate, other_qubit, most_gates};
+ghost use Rattle.zx_gen.specs.Generator.{generated, drawn, one_qubit_gate, other_qubit, most_drawn_gates};
 
 use rand_core::utils::NextWord;
 use rand_pcg::Lcg64Xsh32;
@@ -20,7 +20,7 @@ use zx_model::Eighth;
 pub fn generate(alloc: Global, seed: u64, qubits: Qubit, gates: u32) -> Result<GateList, AllocError>
     requires some_qubit { 1 ≤ qubits }
     requires few_qubits { qubits ≤ most_qubits }
-    requires few_gates { gates ≤ most_gates }
+    requires few_gates { gates ≤ most_drawn_gates }
     ensures qubits { IfOk result (λ circuit. circuit.qubits ≡ qubits) }
     ensures gates { IfOk result (λ circuit. circuit.gates ≡ generated seed qubits gates) }
 {
@@ -32,7 +32,7 @@ pub fn generate(alloc: Global, seed: u64, qubits: Qubit, gates: u32) -> Result<G
     Ok(circuit)
 }
 
-/// The next gate.
+// The next gate.
 fn draw_gate(generator: &mut Lcg64Xsh32, qubits: Qubit) -> Gate
     requires some_qubit { 1 ≤ qubits }
     requires few_qubits { qubits ≤ most_qubits }
@@ -56,7 +56,7 @@ fn draw_gate(generator: &mut Lcg64Xsh32, qubits: Qubit) -> Gate
     }
 }
 
-/// The gate on one qubit of a kind.
+// The gate on one qubit of a kind.
 fn gate_on_one(kind: u16, q: Qubit) -> Gate
     ensures { result ≡ one_qubit_gate kind q }
 {
@@ -68,7 +68,7 @@ fn gate_on_one(kind: u16, q: Qubit) -> Gate
     }
 }
 
-/// A number below the limit, by the next word.
+// A number below the limit, by the next word.
 fn draw_below(generator: &mut Lcg64Xsh32, limit: u16) -> u16
     requires { 1 ≤ limit }
     ensures value { result ≡ (pcg32 generator.old).0 % limit }
@@ -78,7 +78,7 @@ fn draw_below(generator: &mut Lcg64Xsh32, limit: u16) -> u16
     (generator.next_word() % u32::from(limit)) as u16
 }
 
-/// A qubit other than this one, by the next word.
+// A qubit other than this one, by the next word.
 fn draw_other(generator: &mut Lcg64Xsh32, qubits: Qubit, q: Qubit) -> Qubit
     requires two_qubits { 2 ≤ qubits }
     requires in_range { q < qubits }

@@ -1,5 +1,5 @@
 -- A source and a sink in memory, of which it is known which of their calls fail.
-use Rattle.std.specs.Prelude.{ℕ, ◌-◌, List, ◌++◌, length, drop, Contains}
+use Rattle.std.specs.Prelude.{ℕ, ◌-◌, List, [], ◌++◌, length, drop, Contains}
 use Rattle.zx_io.specs.Causes.{counted}
 
 -- a source: its bytes left, the most that one call moves, the numbers of the calls that fail (the first
@@ -28,11 +28,23 @@ SourceFails s = Contains s.fails (counted s.calls)
 
 -- the source after a call that moved k bytes
 abbrev pub source_moved : SourceInMemory → ℕ → SourceInMemory
-source_moved s k = record { left = drop k s.left; piece = s.piece; fails = s.fails; calls = counted s.calls; faults = s.faults }
+source_moved s k = record {
+  left = drop k s.left;
+  piece = s.piece;
+  fails = s.fails;
+  calls = counted s.calls;
+  faults = s.faults;
+}
 
 -- the source after a call that failed
 abbrev pub source_failed : SourceInMemory → SourceInMemory
-source_failed s = record { left = s.left; piece = s.piece; fails = s.fails; calls = counted s.calls; faults = counted s.faults }
+source_failed s = record {
+  left = s.left;
+  piece = s.piece;
+  fails = s.fails;
+  calls = counted s.calls;
+  faults = counted s.faults;
+}
 
 -- how many bytes the sink has room for still
 abbrev pub place_left : SinkInMemory → ℕ
@@ -42,14 +54,50 @@ place_left k = k.room - length k.taken
 abbrev pub SinkFails : SinkInMemory → Type 0
 SinkFails k = Contains k.fails (counted k.calls)
 
+-- a sink that nothing was asked of yet
+abbrev pub empty_sink : ℕ → ℕ → List ℕ → SinkInMemory
+empty_sink room piece fails = record {
+  taken = [];
+  flushed = 0;
+  room = room;
+  piece = piece;
+  fails = fails;
+  calls = 0;
+  faults = 0;
+}
+
 -- the sink after a call that took bytes
 abbrev pub sink_took : SinkInMemory → List ℕ → SinkInMemory
-sink_took k bytes = record { taken = k.taken ++ bytes; flushed = k.flushed; room = k.room; piece = k.piece; fails = k.fails; calls = counted k.calls; faults = k.faults }
+sink_took k bytes = record {
+  taken = k.taken ++ bytes;
+  flushed = k.flushed;
+  room = k.room;
+  piece = k.piece;
+  fails = k.fails;
+  calls = counted k.calls;
+  faults = k.faults;
+}
 
 -- the sink after a call that failed
 abbrev pub sink_failed : SinkInMemory → SinkInMemory
-sink_failed k = record { taken = k.taken; flushed = k.flushed; room = k.room; piece = k.piece; fails = k.fails; calls = counted k.calls; faults = counted k.faults }
+sink_failed k = record {
+  taken = k.taken;
+  flushed = k.flushed;
+  room = k.room;
+  piece = k.piece;
+  fails = k.fails;
+  calls = counted k.calls;
+  faults = counted k.faults;
+}
 
 -- the sink after a flush that didn't fail
 abbrev pub sink_flushed : SinkInMemory → SinkInMemory
-sink_flushed k = record { taken = k.taken; flushed = length k.taken; room = k.room; piece = k.piece; fails = k.fails; calls = counted k.calls; faults = k.faults }
+sink_flushed k = record {
+  taken = k.taken;
+  flushed = length k.taken;
+  room = k.room;
+  piece = k.piece;
+  fails = k.fails;
+  calls = counted k.calls;
+  faults = k.faults;
+}

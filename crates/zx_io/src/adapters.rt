@@ -1,8 +1,9 @@
 //! Sources and sinks over the readers and writers of `std`.
+
 ghost use Rattle.std.specs.Prelude.{◌≡◌};
 ghost use Rattle.zx_io.specs.Adapters.{adapted_reader, read_faults, adapted_writer, write_faults};
 
-use crate::ends::{Failed, Sink, Source};
+use crate::streams::{Failed, Sink, Source};
 use std::io::{Read, Write};
 
 /// A source over a reader. It counts each error of the reader, an interrupted call too.

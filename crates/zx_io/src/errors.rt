@@ -1,4 +1,5 @@
 //! How reading all and writing all fail.
+
 ghost use Rattle.std.specs.Prelude.{◌≡◌};
 ghost use Rattle.zx_io.specs.declared.errors.ReadError.TheVariants.{NoMemory};
 

@@ -1,10 +1,11 @@
 //! Reading a source to its end, and writing all of some bytes to a sink.
+
 ghost use Rattle.std.specs.Prelude.{◌≡◌, ℕ, ◌+◌, ◌-◌, ◌^◌, ◌<◌, ◌≤◌, List, [], ◌++◌, length, take, drop, None, Some, IfOk, OnOk, OnErr, IsErrOf};
 ghost use Rattle.std.specs.Io.KnownBytes.{Appends};
 ghost use Rattle.zx_io.specs.Causes.{Rose};
 
-use crate::ends::{Failed, Sink, Source};
 use crate::errors::{ReadError, WriteFault};
+use crate::streams::{Failed, Sink, Source};
 use std::alloc::Global;
 
 // The most bytes that one read asks for.

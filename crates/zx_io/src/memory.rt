@@ -1,12 +1,13 @@
 //! A source and a sink in memory, of which it is said which calls fail.
+
 ghost use Rattle.std.specs.Prelude.{◌≡◌, ◌⊎◌, ◌+◌, ◌-◌, ◌<◌, ◌≤◌, ◌↔◌, [], ◌++◌, length, take, drop, min, Some, IfOk, IsErr, MatchResult, OnOk, OnErr, vec_len, vec_capacity};
 ghost use Rattle.std.specs.Io.{ReadsAtMost, WritesAtMost};
 ghost use Rattle.std.specs.Io.KnownBytes.{Keeps, ReadConsumes, WriteAppends};
 ghost use Rattle.zx_io.specs.Causes.{Rose};
-ghost use Rattle.zx_io.specs.Memory.{SourceInMemory, SinkInMemory, SourceFails, SinkFails, source_moved, source_failed, sink_took, sink_flushed, sink_failed, place_left};
+ghost use Rattle.zx_io.specs.Memory.{SourceInMemory, SinkInMemory, SourceFails, SinkFails, source_moved, source_failed, empty_sink, sink_took, sink_flushed, sink_failed, place_left};
 
-use crate::ends::{Failed, Sink, Source};
 use crate::moving::move_bytes;
+use crate::streams::{Failed, Sink, Source};
 use std::alloc::{AllocError, Global};
 use std::marker::Model;
 
@@ -60,8 +61,10 @@ impl Source for MemSource {
         ensures later { self.old.faults ≤ self.new.faults }
         ensures fails { IsErr result ↔ SourceFails self.old }
         ensures count { IfOk result (λ k. k ≡ min self.old.piece (min (length buf.old) (length self.old.left))) }
-        ensures moved { MatchResult result (λ k. buf.new ≡ take k self.old.left ++ drop k buf.old) (λ _. buf.new ≡ buf.old) }
-        ensures after { MatchResult result (λ k. self.new ≡ source_moved self.old k) (λ _. self.new ≡ source_failed self.old) }
+        ensures moved { MatchResult result (λ k. buf.new ≡ take k self.old.left ++ drop k buf.old)
+            (λ _. buf.new ≡ buf.old) }
+        ensures after { MatchResult result (λ k. self.new ≡ source_moved self.old k)
+            (λ _. self.new ≡ source_failed self.old) }
     {
         self.calls = self.calls.saturating_add(1);
         if self.fails.contains(&self.calls) {
@@ -107,7 +110,7 @@ impl MemSink {
         fails: Vec<u64>,
     ) -> Result<MemSink, AllocError>
         requires { 1 ≤ piece }
-        ensures { IfOk result (λ k. k ≡ record { taken = []; flushed = 0; room = room; piece = piece; fails = fails.items; calls = 0; faults = 0 }) }
+        ensures { IfOk result (λ k. k ≡ empty_sink room piece fails.items) }
     {
         let bytes = Vec::with_capacity(alloc, room)?;
         Ok(MemSink {
@@ -145,7 +148,8 @@ impl Sink for MemSink {
         ensures later { self.old.faults ≤ self.new.faults }
         ensures fails { IsErr result ↔ (SinkFails self.old ⊎ (place_left self.old ≡ 0)) }
         ensures count { IfOk result (λ k. k ≡ min self.old.piece (min (length piece.now) (place_left self.old))) }
-        ensures after { MatchResult result (λ k. self.new ≡ sink_took self.old (take k piece.now)) (λ _. self.new ≡ sink_failed self.old) }
+        ensures after { MatchResult result (λ k. self.new ≡ sink_took self.old (take k piece.now))
+            (λ _. self.new ≡ sink_failed self.old) }
     {
         self.calls = self.calls.saturating_add(1);
         let place = self.room - self.bytes.len();
@@ -162,7 +166,8 @@ impl Sink for MemSink {
         ensures bytes { Keeps (Some self.old.taken) (Some self.new.taken) }
         ensures later { self.old.faults ≤ self.new.faults }
         ensures fails { IsErr result ↔ SinkFails self.old }
-        ensures after { MatchResult result (λ _. self.new ≡ sink_flushed self.old) (λ _. self.new ≡ sink_failed self.old) }
+        ensures after { MatchResult result (λ _. self.new ≡ sink_flushed self.old)
+            (λ _. self.new ≡ sink_failed self.old) }
     {
         self.calls = self.calls.saturating_add(1);
         if self.fails.contains(&self.calls) {

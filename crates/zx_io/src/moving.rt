@@ -1,4 +1,5 @@
 //! How a source in memory moves its bytes.
+
 ghost use Rattle.std.specs.Prelude.{◌≡◌, ◌+◌, ◌<◌, ◌≤◌, [], ◌++◌, length, take, drop, min};
 
 // Moves at most `most` of the bytes past `at` into the start of `buf`, and answers how many.

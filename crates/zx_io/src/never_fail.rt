@@ -1,11 +1,12 @@
 //! A source and a sink that never fail.
+
 ghost use Rattle.std.specs.Prelude.{◌≡◌, ℕ, ◌<◌, ◌≤◌, List, ◌++◌, length, take, drop, min, None, Some, IfOk, IsOk, IsOkAnd, OnOk, OnErr};
 ghost use Rattle.std.specs.Io.{ReadsAtMost, WritesAtMost};
 ghost use Rattle.std.specs.Io.KnownBytes.{Keeps, ReadConsumes, WriteAppends};
 ghost use Rattle.zx_io.specs.Causes.{Rose};
 
-use crate::ends::{Failed, Sink, Source};
 use crate::moving::move_bytes;
+use crate::streams::{Failed, Sink, Source};
 use std::marker::Model;
 
 /// Bytes in memory, of which each read moves as many as there is room for.

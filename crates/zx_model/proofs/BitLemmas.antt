@@ -39,14 +39,6 @@ xor-xor false b = refl
 xor-xor true false = refl
 xor-xor true true = refl
 
-pub not_as_xor : (a : Bool) → not a ≡ xor true a
-not_as_xor a = refl
-
-pub not-xor : (a b : Bool) → xor (not a) b ≡ not (xor a b)
-not-xor false b = refl
-not-xor true false = refl
-not-xor true true = refl
-
 pub and-false : (a : Bool) → (a && false) ≡ false
 and-false false = refl
 and-false true = refl

@@ -173,6 +173,3 @@ mul_left_cancel a b c nonzero e =
     let product : mul a (add b (neg c)) ≡ zero =
     mul-add a b (neg c) ∙ ap (add (mul a b)) (mul-neg a c) ∙ ap (λ x. add x (neg (mul a c))) e ∙ add-neg (mul a c) in
     difference-zero b c (zero_factor a (add b (neg c)) nonzero product)
-
-pub mul_right_cancel : (a b c : Number) → a ≢ zero → mul b a ≡ mul c a → b ≡ c
-mul_right_cancel a b c nonzero e = mul_left_cancel a b c nonzero (mul_comm a b ∙ e ∙ mul_comm c a)

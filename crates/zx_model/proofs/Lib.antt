@@ -6,3 +6,4 @@ pub mod ProportionalLemmas
 pub mod BitLemmas
 pub mod SumLemmas
 pub mod Odd
+pub mod Phases

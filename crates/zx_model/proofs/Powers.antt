@@ -1,9 +1,15 @@
--- The powers of the root: w is an eighth root of one, so exponents are phases.
+-- Powers of two, and of the root: w is an eighth root of one, so exponents are phases.
 use Rattle.std.proofs.Common.{◌≡◌, ◌≢◌, ℕ, zero as nought, suc, ◌+◌, ◌-◌, ◌*◌, ◌/◌, ◌%◌, ◌≤◌, sym, ◌∙◌, ap, arith, refl, suc-add, suc-mul, zero-add, zero-mul}
 use Rattle.zx_model.specs.Number.{zero, one, root, neg, mul, root_power}
 use Rattle.zx_model.specs.Phase.{turn, half_turn, sum_of_phases, opposite_phase}
+use Rattle.zx_model.specs.Constants.{two, power_of_two}
 use Rattle.zx_model.proofs.Ring as Ring
 use Rattle.zx_model.proofs.Ring.{one-mul, mul_assoc, unit-nonzero}
+
+pub power_of_two-add : (j k : ℕ) → power_of_two (j + k) ≡ mul (power_of_two j) (power_of_two k)
+power_of_two-add nought k = ap power_of_two (zero-add k) ∙ sym (one-mul (power_of_two k))
+power_of_two-add (suc j) k =
+    ap power_of_two (suc-add j k) ∙ ap (mul two) (power_of_two-add j k) ∙ sym (mul_assoc two (power_of_two j) (power_of_two k))
 
 pub root_power-zero : root_power 0 ≡ one
 unfolding root_power
@@ -52,6 +58,3 @@ pub root_power-nonzero : (k : ℕ) → root_power k ≢ zero
 root_power-nonzero k e =
     let phase : k % turn ≤ turn = omega arith in
     unit-nonzero _ _ (root_power-opposite_phase (k % turn) phase) (root_power-mod k ∙ e)
-
-pub root-nonzero : root ≢ zero
-root-nonzero e = root_power-nonzero 1 (root_power-one ∙ e)

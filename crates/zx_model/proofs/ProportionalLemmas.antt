@@ -14,15 +14,6 @@ proportional_of_scaled n m f g left right p q e = record {
   equal = e;
 }
 
-pub proportional_of_equal : (n m : ℕ) (f g : List Bool → List Bool → Number) → ((x y : List Bool) → length x ≡ n → length y ≡ m → f x y ≡ g x y) → Proportional n m f g
-proportional_of_equal n m f g e = record {
-  left = one;
-  right = one;
-  left_nonzero = one_nonzero;
-  right_nonzero = one_nonzero;
-  equal = λ x y p q. ap (mul one) (e x y p q);
-}
-
 pub proportional_refl : (n m : ℕ) (f : List Bool → List Bool → Number) → Proportional n m f f
 proportional_refl n m f = record {
   left = one;

@@ -122,9 +122,6 @@ pub two_nonzero : two ≢ zero
 unfolding add
 two_nonzero e = omega (arith, ap (λ (n : Number). up n.c0) e)
 
-pub neg-nonzero : (a : Number) → a ≢ zero → neg a ≢ zero
-neg-nonzero a nonzero e = nonzero (sym (neg-neg a) ∙ ap neg e ∙ neg-zero)
-
 -- a factor of one isn't zero
 pub unit-nonzero : (a b : Number) → mul a b ≡ one → b ≢ zero
 unit-nonzero a b product e = one_nonzero (sym product ∙ ap (mul a) e ∙ mul-zero a)
@@ -137,6 +134,3 @@ mul-sign true true = simp expand
 pub mul-sign_same : (b : Bool) → mul (sign b) (sign b) ≡ one
 mul-sign_same false = mul-one one
 mul-sign_same true = mul-sign true true
-
-pub sign-nonzero : (b : Bool) → sign b ≢ zero
-sign-nonzero b = unit-nonzero (sign b) (sign b) (mul-sign_same b)

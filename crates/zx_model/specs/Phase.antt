@@ -1,5 +1,5 @@
 -- Phases, counted in eighth turns: whole numbers modulo 8. A phase k stands for the angle k*pi/4.
-use Rattle.std.specs.Prelude.{ℕ, ◌+◌, ◌-◌, ◌%◌, Bool, not, ◌==◌, IsTrue}
+use Rattle.std.specs.Prelude.{◌≡◌, ◌⊎◌, ℕ, ◌+◌, ◌-◌, ◌%◌, Bool, not, ◌||◌, ◌==◌, IsTrue}
 
 -- a whole turn
 abbrev pub turn : ℕ
@@ -25,3 +25,17 @@ is_odd k = not (k % quarter_turn == 0)
 
 abbrev pub IsOdd : ℕ → Type 0
 IsOdd k = IsTrue (is_odd k)
+
+-- a phase is a whole number of half turns: a Pauli phase
+abbrev pub IsHalfTurns : ℕ → Type 0
+IsHalfTurns k = (k ≡ 0) ⊎ (k ≡ half_turn)
+
+abbrev pub is_half_turns : ℕ → Bool
+is_half_turns k = (k == 0) || (k == half_turn)
+
+-- a phase is a quarter turn, or three: a proper Clifford phase
+abbrev pub IsQuarterTurn : ℕ → Type 0
+IsQuarterTurn k = (k ≡ quarter_turn) ⊎ (k ≡ half_turn + quarter_turn)
+
+abbrev pub is_quarter_turn : ℕ → Bool
+is_quarter_turn k = (k == quarter_turn) || (k == half_turn + quarter_turn)

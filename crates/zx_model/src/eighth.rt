@@ -1,7 +1,7 @@
 //! Phases, counted in eighth turns.
 
 ghost use Rattle.std.specs.Prelude.{◌≡◌, ◌<◌, ◌↔◌, IsTrue};
-ghost use Rattle.zx_model.specs.Phase.{turn, sum_of_phases, opposite_phase, IsOdd};
+ghost use Rattle.zx_model.specs.Phase.{turn, sum_of_phases, opposite_phase, IsOdd, is_half_turns, is_quarter_turn};
 
 use std::marker::Model;
 
@@ -64,5 +64,19 @@ impl Eighth {
         ensures { IsTrue result ↔ IsOdd self }
     {
         self.turns % 2 != 0
+    }
+
+    /// Whether the phase is 0 or half a turn: that of a Pauli gate.
+    pub fn is_half_turns(self) -> bool
+        ensures { result ≡ is_half_turns self }
+    {
+        self.turns == 0 || self.turns == 4
+    }
+
+    /// Whether the phase is a quarter turn or three: that of a Clifford gate that is no Pauli gate.
+    pub fn is_quarter_turn(self) -> bool
+        ensures { result ≡ is_quarter_turn self }
+    {
+        self.turns == 2 || self.turns == 6
     }
 }

@@ -174,11 +174,6 @@ negated-negated e d q r e_blind d_blind x =
         ∙ set_comm x q r (xor (e x) (bit x q)) (xor (d x) (bit x r)) differ
         ∙ ap (λ b. set (negated d r x) q (xor (e x) b)) (sym (get_or-set_other x r q (xor (d x) (bit x r)) false differ))
 
--- what Cx and NOT do
-pub act-cx : (control target : ℕ) (f : List Bool → Number) (x : List Bool)
-    → act (Cx control target) f x ≡ f (negated (λ y. bit y control) target x)
-act-cx control target f x = refl
-
 exchanged-not : (g : Bool → Number) (b : Bool) → exchanged g b ≡ g (not b)
 exchanged-not g false = refl
 exchanged-not g true = refl

@@ -1,19 +1,19 @@
 -- What a pair or triple becomes in its list: the map is kept up to a power of two, and nothing grows.
 use Rattle.std.proofs.Common.{◌≡◌, ◌≢◌, ℕ, zero, suc, ◌+◌, ◌-◌, ◌<◌, ◌≤◌, Bool, true, false, cond, eqb, List, [], ◌∷◌}
 use Rattle.std.proofs.Common.{◌++◌, append_assoc, length, get_or, take, drop, set, refl, sym, ap, ap₂, ◌∙◌, subst}
-use Rattle.std.proofs.Common.{arith, zero-add, Option, None, Some}
+use Rattle.std.proofs.Common.{arith, Option, None, Some}
 use Rattle.std.specs.List.{list_all, remove, sum_by}
 use Rattle.std.specs.Prelude.{IfSome}
 use Rattle.std.proofs.lemmas.Bool.{cond_both}
 use Rattle.std.proofs.lemmas.List.{append-nil, length-append, length-set, length-take-le, take_at, drop_at, get_or_at}
 use Rattle.std.proofs.lemmas.List.{get_or-drop, get_or-take, get_or_default, take_more, take_more_set, take-append-drop}
-use Rattle.std.proofs.lemmas.List.{take-set-le, take-take, drop_more, drop_all, drop-drop, drop-set, drop-set-lt}
+use Rattle.std.proofs.lemmas.List.{take-set-le, drop_more, drop_all, drop-drop, drop-set, drop-set-lt}
 use Rattle.std.proofs.lemmas.List.Edits.{remove-append_left}
 use Rattle.std.proofs.lemmas.List.Elements.{All-get_or}
 use Rattle.std.proofs.lemmas.List.Sums.{sum_by-append, sum_by-cons}
 use Rattle.zx_model.specs.Phase.{sum_of_phases, is_odd}
 use Rattle.zx_model.specs.Number.{Number, zero as nought, one, mul}
-use Rattle.zx_model.specs.Constants.{two}
+use Rattle.zx_model.specs.Constants.{two, power_of_two}
 use Rattle.zx_model.specs.Bits.{one_if}
 use Rattle.zx_model.specs.Proportional.{Proportional}
 use Rattle.zx_model.proofs.Ring.{one-mul, mul_assoc, one_nonzero, two_nonzero}
@@ -29,7 +29,7 @@ use Rattle.zx_gates.proofs.MapLemmas.{amp-acts, acts-append}
 use Rattle.zx_gates.proofs.Multiples.{TakesOutFactors, act-factor}
 use Rattle.zx_peephole.specs.Commuting.{commutes}
 use Rattle.zx_peephole.specs.Tidy.{is_pair, is_turned, is_off, IsTidy}
-use Rattle.zx_peephole.specs.Doubling.{power_of_two, IsDoubled}
+use Rattle.zx_peephole.specs.Doubling.{IsDoubled}
 use Rattle.zx_peephole.specs.Internal.Merging.{merged, doublings, conjugated}
 use Rattle.zx_peephole.specs.Internal.Changes.{EndsPair, EndsTriple, IsChange, AreBelow, Shortens, IsShortened, left_of}
 use Rattle.zx_peephole.specs.Internal.Changes.{IsClosed, IsReading, next_of, IsAdvance}
@@ -40,14 +40,9 @@ use Rattle.zx_peephole.proofs.Cuts.{all-append}
 use Rattle.zx_peephole.proofs.CommutingLemmas.{acts-past, off_all, turned_all}
 use Rattle.zx_peephole.proofs.PairLemmas.{pair_law, triple_law}
 use Rattle.zx_peephole.proofs.TidyLemmas.{tidy-without}
+use Rattle.zx_model.proofs.Powers.{power_of_two-add}
 
 -- ---- powers of two
-power-add : (p q : ℕ) → power_of_two (p + q) ≡ mul (power_of_two p) (power_of_two q)
-power-add zero q = ap power_of_two (zero-add q) ∙ sym (one-mul (power_of_two q))
-power-add (suc p) q =
-    let e : suc p + q ≡ suc (p + q) = omega arith in
-    ap power_of_two e ∙ ap (mul two) (power-add p q) ∙ sym (mul_assoc two (power_of_two p) (power_of_two q))
-
 power-nonzero : (p : ℕ) → power_of_two p ≢ nought
 power-nonzero zero = one_nonzero
 power-nonzero (suc p) = mul-nonzero two (power_of_two p) two_nonzero (power-nonzero p)
@@ -69,7 +64,7 @@ shortens-trans n a b c first second = record {
       first.map f x l
       ∙ ap (mul (power_of_two first.power)) (second.map f x l)
       ∙ sym (mul_assoc (power_of_two first.power) (power_of_two second.power) (acts c f x))
-      ∙ ap (λ p. mul p (acts c f x)) (sym (power-add first.power second.power));
+      ∙ ap (λ p. mul p (acts c f x)) (sym (power_of_two-add first.power second.power));
   no_longer = omega (arith, first.no_longer, second.no_longer);
   odd = omega (arith, first.odd, second.odd);
   two_qubit = omega (arith, first.two_qubit, second.two_qubit);
@@ -624,13 +619,6 @@ triple_becomes_one old one two new at i j reading valid t g x g_is
         (omega (arith, length-append t.before (H t.qubit ∷ t.left), t.at_first, t.at_middle))
 
 -- ---- the last gate goes
-pub cut-more : (gates : List Gate) (kept : ℕ) → kept < length gates
-    → take kept (remove gates (length gates - 1)) ≡ take kept gates
-cut-more gates kept more =
-    ap (take kept) (ap (λ xs. take (length gates - 1) gates ++ xs)
-    (drop_all (suc (length gates - 1)) gates (omega arith)) ∙ append-nil (take (length gates - 1) gates))
-    ∙ take-take kept (length gates - 1) gates (omega arith)
-
 -- what holds of the gates that code reads holds of those of the circuit
 pub next_read : (c : Circuit) (at : Progress) (gates : List Gate) (g : Gate) → IsReading c at → gates ≡ c.gates
     → g ≡ get_or gates at.next g

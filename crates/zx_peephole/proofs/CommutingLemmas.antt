@@ -1,7 +1,7 @@
 -- Gates that commute by the table: their maps commute, so a gate passes each list of gates that it commutes with.
 use Rattle.std.proofs.Common.{◌≡◌, ◌≢◌, inl, inr, ℕ, Bool, true, false, not, ◌&&◌, ◌||◌, eqb, List, [], ◌∷◌, refl, sym, ap, ap₂, ◌∙◌, subst}
 use Rattle.std.specs.List.{list_all}
-use Rattle.std.proofs.lemmas.Bool.{eqb-true, eq-eqb, ne_eqb, cases_eq, or_cases, or_left, and_parts, not-true, not_from_false, false_from_ne_true, both_ways}
+use Rattle.std.proofs.lemmas.Bool.{eqb-true, eq-eqb, or_cases, or_left, and_parts, not-true, not_from_false, false_from_ne_true, both_ways}
 use mathlib.Core.Bool.{and_comm, or_comm}
 use Rattle.zx_model.specs.Phase.{half_turn}
 use Rattle.zx_model.specs.Number.{Number}
@@ -14,14 +14,6 @@ use Rattle.zx_gates.specs.declared.gate.Gate.TheVariants.{H, Phase, Cz, Cx, Not}
 use Rattle.zx_peephole.specs.Commuting.{is_on, are_apart, is_diagonal, shares_control, negate_freely, passes, commutes}
 use Rattle.zx_peephole.specs.Tidy.{is_pair, is_off, is_turned}
 use Rattle.zx_peephole.proofs.Acting.{Spreads, Scales, spread, spread-spread, spreads, scales, negated, negated-negated, act-not, bit-blind, true-blind}
-
--- ---- tests on numbers
-pub eqb_comm : (a b : ℕ) → eqb a b ≡ eqb b a
-eqb_comm a b =
-    elim (cases_eq a b) [
-      | inl same ↦ eq-eqb a b same ∙ sym (eq-eqb b a (sym same))
-      | inr differ ↦ ne_eqb a b differ ∙ sym (ne_eqb b a (λ e. differ (sym e)))
-    ]
 
 -- ---- maps of two gates
 -- the maps of two gates commute

@@ -1,7 +1,7 @@
 -- The maps of pairs and triples.
-use Rattle.std.proofs.Common.{◌≡◌, inl, inr, ℕ, ◌<◌, Bool, true, false, ◌&&◌, eqb, List, [], ◌∷◌, length, set, refl, sym, ap, ap₂, ◌∙◌, subst}
+use Rattle.std.proofs.Common.{◌≡◌, inl, inr, ℕ, ◌<◌, Bool, true, false, ◌&&◌, eqb, List, length, set, refl, sym, ap, ap₂, ◌∙◌, subst}
 use Rattle.std.proofs.lemmas.List.{set-set, set-get_or, get_or-set_same}
-use Rattle.std.proofs.lemmas.Bool.{eqb-true, ne_eqb, or_cases, and_parts, cond_both}
+use Rattle.std.proofs.lemmas.Bool.{eqb-true, ne_eqb, or_cases, and_parts}
 use mathlib.Core.Bool.{and_comm}
 use Rattle.zx_model.specs.Phase.{half_turn, sum_of_phases}
 use Rattle.zx_model.specs.Number.{Number, one, add, neg, mul, sign}
@@ -10,16 +10,16 @@ use Rattle.zx_model.proofs.Ring.{expand, one-mul, mul_assoc, mul-sign_same, add_
 use Rattle.zx_model.proofs.Powers.{root_power-half_turn}
 use Rattle.zx_model.proofs.BitLemmas.{xor-xor}
 use Rattle.zx_gates.specs.Circuit.{IsOnQubits}
-use Rattle.zx_gates.specs.Lowering.{phase_gates}
 use Rattle.zx_gates.specs.Maps.{act, acts, exchange}
 use Rattle.zx_gates.specs.declared.gate.Gate.{Gate}
 use Rattle.zx_gates.specs.declared.gate.Gate.TheVariants.{H, Phase, Cz, Cx, Not}
-use Rattle.zx_gates.proofs.MapLemmas.{act-phase-phase, act-phase-zero}
+use Rattle.zx_gates.proofs.MapLemmas.{act-phase-phase}
 use Rattle.zx_gates.proofs.UnitaryLemmas.{mixed, turned, exchanged, set_hadamard, set_phase, set_exchange, at_phase, act_on-bit, apply-exchange}
-use Rattle.zx_peephole.specs.Doubling.{power_of_two}
 use Rattle.zx_peephole.specs.Tidy.{is_pair, is_turned}
 use Rattle.zx_peephole.specs.Internal.Merging.{merged, doublings, conjugated}
 use Rattle.zx_peephole.proofs.Acting.{negated, IsBlind, act-not, bit-blind, true-blind}
+use Rattle.zx_gates.proofs.LoweringLemmas.{acts-phase_gates}
+use Rattle.zx_model.specs.Constants.{power_of_two}
 
 -- ---- on one bit
 around : (a b : Number) → add a (add b (add b (neg a))) ≡ add b b
@@ -56,11 +56,6 @@ negated_twice when q z within blind =
 
 two_signs : (b : Bool) (x : Number) → mul (sign b) (mul (sign b) x) ≡ x
 two_signs b x = sym (mul_assoc (sign b) (sign b) x) ∙ ap (λ s. mul s x) (mul-sign_same b) ∙ one-mul x
-
-pub acts-phase_gates : (q k : ℕ) (f : List Bool → Number) → acts (phase_gates q k) f ≡ act (Phase q k) f
-acts-phase_gates q k f =
-    cond_both (eqb k 0) [] (Phase q k ∷ []) (λ gates. acts gates f ≡ act (Phase q k) f)
-    (λ none. sym (ap (λ j. act (Phase q j) f) (eqb-true k 0 none) ∙ act-phase-zero q f)) (λ some. refl)
 
 -- what is equal is once as much
 once : (a b : Number) → a ≡ b → a ≡ mul (power_of_two 0) b

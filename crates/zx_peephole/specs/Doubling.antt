@@ -1,12 +1,7 @@
 -- Linear maps that differ by powers of two, since H is taken without its factor 1/sqrt 2.
-use Rattle.std.specs.Prelude.{◌≡◌, ℕ, zero as nought, suc, Bool, List, length}
-use Rattle.zx_model.specs.Number.{Number, one, mul}
-use Rattle.zx_model.specs.Constants.{two}
-
--- 2^k
-abbrev pub power_of_two : ℕ → Number
-power_of_two nought = one
-power_of_two (suc k) = mul two (power_of_two k)
+use Rattle.std.specs.Prelude.{◌≡◌, ℕ, Bool, List, length}
+use Rattle.zx_model.specs.Number.{Number, mul}
+use Rattle.zx_model.specs.Constants.{power_of_two}
 
 -- on n qubits the first matrix is the second one, times some power of two
 pub record IsDoubled (n : ℕ) (f g : List Bool → List Bool → Number) : Type 0 where

@@ -7,27 +7,14 @@ ghost use Rattle.zx_peephole.specs.Internal.Changes.{EndsPair, EndsTriple, IsClo
 use crate::pairs::{conjugated, merged};
 use zx_gates::GateList;
 
-/// How far a list is tidied: so many gates at its front are kept, and those from the next place on aren't read yet.
+// How far a list is tidied: so many gates at its front are kept, and those from the next place on aren't read yet.
 #[derive(Clone, Copy, Drop)]
 pub(crate) struct Progress {
     pub(crate) kept: usize,
     pub(crate) next: usize,
 }
 
-/// Moves each gate between a place and the number that are kept one place to the front, over the gate at the place.
-fn close(g: &mut GateList, place: usize, kept: usize)
-    requires place { place < kept }
-    requires kept { kept ≤ length g.old.gates }
-    ensures qubits { g.new.qubits ≡ g.old.qubits }
-    ensures closed { IsClosed g.old.gates g.new.gates place kept }
-{
-    for i in place + 1..kept {
-        let gate = g.gates()[i];
-        g.set(i - 1, gate);
-    }
-}
-
-/// The next gate is kept.
+// The next gate is kept.
 pub(crate) fn keep(g: &mut GateList, at: Progress) -> Progress
     requires reading { IsReading g.old at }
     requires tidy { IsTidy (take at.kept g.old.gates)
@@ -42,7 +29,7 @@ pub(crate) fn keep(g: &mut GateList, at: Progress) -> Progress
     }
 }
 
-/// The next gate is merged with one that is kept. A phase gate that they become is to be read next.
+// The next gate is merged with one that is kept. A phase gate that they become is to be read next.
 pub(crate) fn merge_pair(g: &mut GateList, first: usize, at: Progress) -> Progress
     requires reading { IsReading g.old at }
     requires place { first < at.kept }
@@ -68,7 +55,7 @@ pub(crate) fn merge_pair(g: &mut GateList, first: usize, at: Progress) -> Progre
     }
 }
 
-/// The next gate, an H, goes with another H that is kept. The gate between them, turned over, is to be read next.
+// The next gate, an H, goes with another H that is kept. The gate between them, turned over, is to be read next.
 pub(crate) fn turn_over(g: &mut GateList, first: usize, middle: usize, at: Progress) -> Progress
     requires reading { IsReading g.old at }
     requires first { first < middle }
@@ -86,7 +73,7 @@ pub(crate) fn turn_over(g: &mut GateList, first: usize, middle: usize, at: Progr
     }
 }
 
-/// Only so many gates at the front stay.
+// Only so many gates at the front stay.
 pub(crate) fn cut_off(g: &mut GateList, kept: usize)
     ensures qubits { g.new.qubits ≡ g.old.qubits }
     ensures gates { g.new.gates ≡ take kept g.old.gates }
@@ -94,5 +81,18 @@ pub(crate) fn cut_off(g: &mut GateList, kept: usize)
     while g.gates().len() > kept {
         let last = g.gates().len() - 1;
         g.remove(last);
+    }
+}
+
+// Moves each gate between a place and the number that are kept one place to the front, over the gate at the place.
+fn close(g: &mut GateList, place: usize, kept: usize)
+    requires place { place < kept }
+    requires kept { kept ≤ length g.old.gates }
+    ensures qubits { g.new.qubits ≡ g.old.qubits }
+    ensures closed { IsClosed g.old.gates g.new.gates place kept }
+{
+    for i in place + 1..kept {
+        let gate = g.gates()[i];
+        g.set(i - 1, gate);
     }
 }

@@ -5,7 +5,7 @@ ghost use Rattle.zx_peephole.specs.Commuting.{is_on, are_apart, is_diagonal, sha
 
 use zx_gates::{Gate, Qubit};
 
-/// Whether the gate is on the qubit.
+// Whether the gate is on the qubit.
 pub(crate) fn is_on(qubit: Qubit, gate: &Gate) -> bool
     ensures { result ≡ is_on qubit gate.now }
 {
@@ -16,7 +16,14 @@ pub(crate) fn is_on(qubit: Qubit, gate: &Gate) -> bool
     }
 }
 
-/// Whether two gates share no qubit.
+// Whether two gates commute by the table.
+pub(crate) fn commutes(gate: &Gate, other: &Gate) -> bool
+    ensures { result ≡ commutes gate.now other.now }
+{
+    passes(gate, other) || passes(other, gate)
+}
+
+// Whether two gates share no qubit.
 fn are_apart(gate: &Gate, other: &Gate) -> bool
     ensures { result ≡ are_apart gate.now other.now }
 {
@@ -27,14 +34,14 @@ fn are_apart(gate: &Gate, other: &Gate) -> bool
     }
 }
 
-/// Whether the gate is a phase gate or Cz.
+// Whether the gate is a phase gate or Cz.
 fn is_diagonal(gate: &Gate) -> bool
     ensures { result ≡ is_diagonal gate.now }
 {
     matches!(*gate, Gate::Phase(..) | Gate::Cz(..))
 }
 
-/// Whether the other is a Cx of whose qubits the gate is on the control alone.
+// Whether the other is a Cx of whose qubits the gate is on the control alone.
 fn shares_control(gate: &Gate, other: &Gate) -> bool
     ensures { result ≡ shares_control gate.now other.now }
 {
@@ -44,7 +51,7 @@ fn shares_control(gate: &Gate, other: &Gate) -> bool
     }
 }
 
-/// Whether two gates are Cx or NOT and neither negates what decides on the other.
+// Whether two gates are Cx or NOT and neither negates what decides on the other.
 fn negate_freely(gate: &Gate, other: &Gate) -> bool
     ensures { result ≡ negate_freely gate.now other.now }
 {
@@ -77,18 +84,11 @@ fn not_negates_freely(q: Qubit, other: &Gate) -> bool
     }
 }
 
-/// The table of commuting gates, the first gate standing for the first that it speaks of.
+// The table of commuting gates, the first gate standing for the first that it speaks of.
 fn passes(gate: &Gate, other: &Gate) -> bool
     ensures { result ≡ passes gate.now other.now }
 {
     are_apart(gate, other)
         || is_diagonal(gate) && (is_diagonal(other) || shares_control(gate, other))
         || negate_freely(gate, other)
-}
-
-/// Whether two gates commute by the table.
-pub(crate) fn commutes(gate: &Gate, other: &Gate) -> bool
-    ensures { result ≡ commutes gate.now other.now }
-{
-    passes(gate, other) || passes(other, gate)
 }

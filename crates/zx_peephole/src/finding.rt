@@ -8,29 +8,16 @@ ghost use Rattle.zx_peephole.specs.Internal.Changes.{IsChange};
 use crate::pairs::{is_pair, stops, turns};
 use zx_gates::Gate;
 
-/// What a gate makes with gates before it, by their places.
+// What a gate makes with gates before it, by their places.
 #[derive(Clone, Copy, Drop)]
 pub(crate) enum Change {
-    /// A pair with that one.
+    // A pair with that one.
     Pair(usize),
-    /// A triple with these two.
+    // A triple with these two.
     Triple(usize, usize),
 }
 
-/// The place of the last gate that stops the gate on its way to the front, if one does.
-fn last_stop(gates: &[Gate], gate: &Gate) -> Option<usize>
-    ensures found { IfSome result (IsLastStop gate.now gates.now) }
-    ensures none { IfNone result (IsTrue (is_free gate.now gates.now)) }
-{
-    for i in (0..gates.len()).rev() {
-        if stops(gate, &gates[i]) {
-            return Some(i);
-        }
-    }
-    None
-}
-
-/// A pair or triple that a gate behind these makes with them, if there is one.
+// A pair or triple that a gate behind these makes with them, if there is one.
 pub(crate) fn find(front: &[Gate], gate: &Gate) -> Option<Change>
     ensures found { IfSome result (IsChange front.now gate.now) }
     ensures none { IfNone result (IsTidy front.now → IsTidy (front.now ++ gate.now ∷ [])) }
@@ -49,4 +36,17 @@ pub(crate) fn find(front: &[Gate], gate: &Gate) -> Option<Change>
     } else {
         None
     }
+}
+
+// The place of the last gate that stops the gate on its way to the front, if one does.
+fn last_stop(gates: &[Gate], gate: &Gate) -> Option<usize>
+    ensures found { IfSome result (IsLastStop gate.now gates.now) }
+    ensures none { IfNone result (IsTrue (is_free gate.now gates.now)) }
+{
+    for i in (0..gates.len()).rev() {
+        if stops(gate, &gates[i]) {
+            return Some(i);
+        }
+    }
+    None
 }

@@ -6,7 +6,7 @@ ghost use Rattle.zx_gates.specs.Maps.{acts};
 ghost use Rattle.zx_peephole.specs.Commuting.{commutes};
 ghost use Rattle.zx_peephole.specs.Tidy.{IsTidy};
 
-use zx_gates::gate::Gate;
+use zx_gates::Gate;
 
 /// Gates that commute by the table have maps that commute.
 pub fn commuting_gates()

@@ -1,13 +1,22 @@
 //! Cleanup of circuits in place: gates that commutation brings together are merged or taken away.
+//!
+//! Proved of `tidy`: it leaves no pair and no triple of gates that are nothing or one gate
+//! together, where gates may pass each other by a table; the map is a power of two times the new
+//! one; length, odd phases and gates on two qubits don't rise; no memory is taken.
+//!
+//! ```rust
+//! tidy(&mut circuit);
+//! ```
 #![tactic(auto)]
 
 mod changing;
 mod commuting;
 mod finding;
-pub mod laws;
+mod laws;
 mod pairs;
 #[cfg(test)]
 mod tests;
-pub mod tidying;
+mod tidying;
 
+pub use laws::{commuting_gates, worked_lists, worked_table};
 pub use tidying::tidy;

@@ -11,7 +11,7 @@ use crate::commuting::commutes;
 use zx_gates::{Gate, Qubit};
 use zx_model::Eighth;
 
-/// Whether two gates, one right after the other, are nothing or one gate.
+// Whether two gates, one right after the other, are nothing or one gate.
 pub(crate) fn is_pair(first: &Gate, second: &Gate) -> bool
     ensures { result ≡ is_pair first.now second.now }
 {
@@ -22,6 +22,44 @@ pub(crate) fn is_pair(first: &Gate, second: &Gate) -> bool
         Gate::Cz(q, r) => is_cz_on(q, r, second),
         Gate::Cx { control, target } => is_cx_on(control, target, second),
     }
+}
+
+// The gate that two phase gates of a pair become, if their phases don't add up to 0; other pairs become nothing.
+pub(crate) fn merged(first: &Gate, second: &Gate) -> Option<Gate>
+    ensures { option_to_list result ≡ merged first.now second.now }
+{
+    match *first {
+        Gate::Phase(_, phase) => with_phase_added(phase, second),
+        _ => None,
+    }
+}
+
+// Whether the first is H, and the second a half turn or NOT of its qubit.
+pub(crate) fn turns(hadamard: &Gate, gate: &Gate) -> bool
+    ensures { result ≡ turns hadamard.now gate.now }
+{
+    match *hadamard {
+        Gate::H(q) => is_turned(q, gate),
+        _ => false,
+    }
+}
+
+// What a half turn or NOT between two H is with them.
+pub(crate) fn conjugated(gate: &Gate) -> Gate
+    ensures { result ≡ conjugated gate.now }
+{
+    match *gate {
+        Gate::Phase(q, _) => Gate::Not(q),
+        Gate::Not(q) => Gate::Phase(q, Eighth::new(4)),
+        other => other,
+    }
+}
+
+// Whether an earlier gate stops a gate on its way to the front: they are a pair, or don't commute.
+pub(crate) fn stops(gate: &Gate, earlier: &Gate) -> bool
+    ensures { result ≡ stops gate.now earlier.now }
+{
+    is_pair(earlier, gate) || !commutes(earlier, gate)
 }
 
 fn is_cz_on(q: Qubit, r: Qubit, gate: &Gate) -> bool
@@ -45,16 +83,6 @@ fn is_cx_on(control: Qubit, target: Qubit, gate: &Gate) -> bool
     }
 }
 
-/// The gate that two phase gates of a pair become, if their phases don't add up to 0; other pairs become nothing.
-pub(crate) fn merged(first: &Gate, second: &Gate) -> Option<Gate>
-    ensures { option_to_list result ≡ merged first.now second.now }
-{
-    match *first {
-        Gate::Phase(_, phase) => with_phase_added(phase, second),
-        _ => None,
-    }
-}
-
 fn with_phase_added(phase: Eighth, gate: &Gate) -> Option<Gate>
     ensures { option_to_list result ≡ merged (Gate.Phase 0 phase) gate.now }
 {
@@ -71,16 +99,6 @@ fn with_phase_added(phase: Eighth, gate: &Gate) -> Option<Gate>
     }
 }
 
-/// Whether the first is H, and the second a half turn or NOT of its qubit.
-pub(crate) fn turns(hadamard: &Gate, gate: &Gate) -> bool
-    ensures { result ≡ turns hadamard.now gate.now }
-{
-    match *hadamard {
-        Gate::H(q) => is_turned(q, gate),
-        _ => false,
-    }
-}
-
 fn is_turned(qubit: Qubit, gate: &Gate) -> bool
     ensures { result ≡ is_turned qubit gate.now }
 {
@@ -89,22 +107,4 @@ fn is_turned(qubit: Qubit, gate: &Gate) -> bool
         Gate::Not(q) => q == qubit,
         _ => false,
     }
-}
-
-/// What a half turn or NOT between two H is with them.
-pub(crate) fn conjugated(gate: &Gate) -> Gate
-    ensures { result ≡ conjugated gate.now }
-{
-    match *gate {
-        Gate::Phase(q, _) => Gate::Not(q),
-        Gate::Not(q) => Gate::Phase(q, Eighth::new(4)),
-        other => other,
-    }
-}
-
-/// Whether an earlier gate stops a gate on its way to the front: they are a pair, or don't commute.
-pub(crate) fn stops(gate: &Gate, earlier: &Gate) -> bool
-    ensures { result ≡ stops gate.now earlier.now }
-{
-    is_pair(earlier, gate) || !commutes(earlier, gate)
 }

@@ -24,7 +24,8 @@ pub fn tidy(g: &mut GateList)
 
     // Each two H that go, with or without a gate between them, make it half as large.
     ensures map { IsDoubled g.old.qubits (amp g.old.gates) (amp g.new.gates) }
-    ensures proportional { Proportional g.old.qubits g.old.qubits (amp g.old.gates) (amp g.new.gates) }
+    ensures proportional { Proportional g.old.qubits g.old.qubits
+        (amp g.old.gates) (amp g.new.gates) }
 
     ensures length { length g.new.gates ≤ length g.old.gates }
     ensures odd { gate_odd_phases g.new.gates ≤ gate_odd_phases g.old.gates }
@@ -37,7 +38,7 @@ pub fn tidy(g: &mut GateList)
     cut_off(g, progress.kept);
 }
 
-/// Reads the next gate.
+// Reads the next gate.
 fn settle(g: &mut GateList, at: Progress) -> Progress
     requires { IsReading g.old at }
     ensures { IsAdvance g.old at g.new result }
@@ -49,7 +50,7 @@ fn settle(g: &mut GateList, at: Progress) -> Progress
     }
 }
 
-/// What the next gate makes with those that are kept.
+// What the next gate makes with those that are kept.
 fn find_next(g: &GateList, at: Progress) -> Option<Change>
     requires { IsReading g.now at }
     ensures found { IfSome result (IsChange (take at.kept g.now.gates) (next_of g.now at)) }

@@ -8,9 +8,9 @@ use Rattle.zx_calculus.proofs.Booleans.{xor-false}
 use Rattle.zx_calculus.proofs.Ids.{by_equal}
 use Rattle.zx_calculus.proofs.Vertices.{with_kinds_same, with_kinds-identity}
 use Rattle.zx_calculus.proofs.StepIdentities.{quarter_turned-quarter_turned}
-use Rattle.local_comp.specs.Internal.Changes.{with_changed}
-use Rattle.local_comp.proofs.Places.{fresh_next, member-grown}
-use Rattle.local_comp.proofs.Turning.{changed_twice}
+use Rattle.zx_calculus.specs.Toggles.{with_changed}
+use Rattle.zx_calculus.proofs.Positions.{fresh_next, member-grown}
+use Rattle.zx_calculus.proofs.ChangedKinds.{changed_twice}
 use Rattle.zx_pivot.specs.Internal.Changes.{half_turned_in}
 
 -- two quarters at a vertex

@@ -1,29 +1,18 @@
 -- The loops over the neighbours of a vertex, whose row stays as it is: what holds at a place, and at the next.
-use Rattle.std.proofs.Common.{◌≡◌, ◌≢◌, refl, sym, ◌∙◌, ap, subst, ℕ, zero, suc, ◌<◌, Bool, true, false, not, eqb, eqb-true, List, [], ◌∷◌, length, filter, get_or, take, arith}
+use Rattle.std.proofs.Common.{◌≡◌, ◌≢◌, refl, sym, ◌∙◌, ap, ℕ, suc, ◌<◌, Bool, true, false, not, eqb, eqb-true, length, get_or, take}
 use Rattle.zx_model.specs.Bits.{xor, member}
-use Rattle.zx_calculus.specs.Graph.{Graph, ids, joined, neighbours, Live, WellFormed}
+use Rattle.zx_calculus.specs.Graph.{Graph, joined, neighbours, WellFormed}
 use Rattle.zx_calculus.specs.Edits.{IsToggle, at_vertex}
 use Rattle.zx_calculus.specs.Turns.{half_turned}
 use Rattle.zx_calculus.proofs.Ids.{apart_of_member}
 use Rattle.zx_calculus.proofs.Edges.{joined_comm}
-use Rattle.zx_calculus.proofs.Vertices.{ids-with_kinds}
 use Rattle.zx_calculus.proofs.Splitting.{no_loop}
-use Rattle.open_graph.proofs.RowLemmas.{member-get_or}
-use Rattle.local_comp.specs.Internal.Changes.{IsToggled, from_to, with_changed}
-use Rattle.local_comp.proofs.Toggling.{IsToggled-more, IsToggled-one, member-neighbours, Distinct-neighbours, neighbour_live, neighbours_stay, from_to-next}
+use Rattle.zx_calculus.proofs.Positions.{member-get_or, absent-take}
+use Rattle.zx_calculus.specs.Toggles.{IsToggled, from_to, with_changed}
+use Rattle.zx_calculus.proofs.Toggling.{IsToggled-more, IsToggled-one, member-neighbours, Distinct-neighbours, neighbours_stay, none_from_to, from_to-next}
 use Rattle.zx_pivot.proofs.Halves.{halves_next, halves_skip}
 use Rattle.zx_pivot.specs.Internal.Changes.{across, half_turned_in}
-use Rattle.zx_pivot.proofs.PivotSteps.{live_changed}
-use Rattle.zx_pivot.proofs.Rows.{absent_take, from_to-skip, across-next, across-none, from_to-none}
-
--- what indexing answers
-get_or-default : (xs : List ℕ) (i d : ℕ) → i < length xs → get_or xs i d ≡ get_or xs i 0
-get_or-default [] i d h = absurd (omega arith)
-get_or-default (x ∷ xs) zero d h = refl
-get_or-default (x ∷ xs) (suc i) d h = get_or-default xs i d (omega arith)
-
-pub at_place : (xs ys : List ℕ) (i x : ℕ) → xs ≡ ys → i < length ys → x ≡ get_or xs i x → x ≡ get_or ys i 0
-at_place xs ys i x same lt is = is ∙ ap (λ zs. get_or zs i x) same ∙ get_or-default ys i x lt
+use Rattle.zx_pivot.proofs.Rows.{from_to-skip, across-next, across-none}
 
 pub same_from_test : (x t : ℕ) (r : Bool) → r ≡ not (eqb x t) → r ≡ false → x ≡ t
 same_from_test x t r e f = eqb-true x t (not-false (eqb x t) (sym e ∙ f))
@@ -41,11 +30,8 @@ module _ (g h : Graph) (c t i : ℕ) (wg : WellFormed g) (wh : WellFormed h) (ap
   pub row_stays : neighbours h c ≡ neighbours g c
   row_stays =
       neighbours_stay g h (from_to t (take i (neighbours g c))) c wg wh toggled
-      (λ p. from_to-none t (take i (neighbours g c)) c p apart
-      (absent_take (neighbours g c) i c (not_adjacent g c c wg (no_loop g c wg))))
-
-  pub row_live : (x : ℕ) → Live g x → Live h x
-  row_live x there = ap (λ vs. member x (ids vs)) toggled.vertices ∙ there
+      (λ p. none_from_to t (take i (neighbours g c)) c p apart
+      (absent-take (neighbours g c) i c (not_adjacent g c c wg (no_loop g c wg))))
 
   pub row_next : i < length (neighbours g c) → (k : Graph) → IsToggle h t (get_or (neighbours g c) i 0) k →
       IsToggled g (from_to t (take (suc i) (neighbours g c))) k
@@ -72,21 +58,18 @@ module _ (g h : Graph) (u v i : ℕ) (wg : WellFormed g) (wh : WellFormed h) (ap
   u_stays =
       neighbours_stay g h (across (take i (neighbours g u)) (neighbours g v)) u wg wh toggled
       (λ p. across-none (take i (neighbours g u)) (neighbours g v) u p
-      (absent_take (neighbours g u) i u (not_adjacent g u u wg (no_loop g u wg)))
+      (absent-take (neighbours g u) i u (not_adjacent g u u wg (no_loop g u wg)))
       (not_adjacent g v u wg (joined_comm g.edges v u ∙ apart)))
 
   pub v_stays : neighbours h v ≡ neighbours g v
   v_stays =
       neighbours_stay g h (across (take i (neighbours g u)) (neighbours g v)) v wg wh toggled
       (λ p. across-none (take i (neighbours g u)) (neighbours g v) v p
-      (absent_take (neighbours g u) i v (not_adjacent g u v wg apart))
+      (absent-take (neighbours g u) i v (not_adjacent g u v wg apart))
       (not_adjacent g v v wg (no_loop g v wg)))
 
   abbrev before : ℕ → ℕ → Bool
   before p q = across (take i (neighbours g u)) (neighbours g v) p q
-
-  pub class_live : (x : ℕ) → Live g x → Live h x
-  class_live x there = ap (λ vs. member x (ids vs)) toggled.vertices ∙ there
 
   pub class_apart : i < length (neighbours g u) → v ≢ get_or (neighbours g u) i 0
   class_apart lt e =
@@ -101,22 +84,9 @@ module _ (g h : Graph) (u v i : ℕ) (wg : WellFormed g) (wh : WellFormed h) (ap
       (λ p q n. ap (λ near. xor (before p q) (from_to (get_or (neighbours g u) i 0) near p q)) v_stays
       ∙ across-next (neighbours g u) (neighbours g v) i p q (Distinct-neighbours g u wg) lt)
 
--- a neighbour at a place is a vertex
-pub place_live : (g : Graph) (u i : ℕ) → i < length (neighbours g u) → Live g (get_or (neighbours g u) i 0)
-place_live g u i lt = neighbour_live g u (get_or (neighbours g u) i 0) (member-get_or (neighbours g u) i lt)
-
 -- the neighbours of u, of which those before a place that are adjacent to v are turned
 module _ (g h : Graph) (u v i : ℕ) (w : WellFormed g)
     (turned : h ≡ with_changed (half_turned_in (take i (neighbours g u)) (joined g.edges v)) g) where
-  pub turned_live : (x : ℕ) → Live g x → Live h x
-  turned_live x there =
-      subst (λ (k : Graph). Live k x) (sym turned) (live_changed (half_turned_in (take i (neighbours g u)) (joined g.edges v)) g x there)
-
-  pub turned_row : neighbours h u ≡ neighbours g u
-  turned_row =
-      ap (λ (k : Graph). neighbours k u) turned
-      ∙ ap (filter (joined g.edges u)) (ids-with_kinds (half_turned_in (take i (neighbours g u)) (joined g.edges v)) g.vertices)
-
   picked : (x : ℕ) (r b : Bool) → x ≡ get_or (neighbours g u) i 0 → r ≡ joined h.edges v x → r ≡ b → joined g.edges v (get_or (neighbours g u) i 0) ≡ b
   picked x r b at is e =
       ap (joined g.edges v) (sym at) ∙ ap (λ (k : Graph). joined k.edges v x) (sym turned) ∙ sym is ∙ e

@@ -1,44 +1,37 @@
 -- What the changes of a graph, one after the other, make of it: a pivot.
-use Rattle.std.proofs.Common.{◌≡◌, ◌≢◌, refl, sym, ◌∙◌, ap, subst, ℕ, true, false, cond, ◌&&◌, eqb, List, ne_eqb, true≢false}
+use Rattle.std.proofs.Common.{◌≡◌, ◌≢◌, refl, sym, ◌∙◌, ap, ℕ, true, false, cond, ◌&&◌, eqb, List, ne_eqb, true≢false}
 use Rattle.zx_model.specs.Bits.{member}
-use Rattle.zx_calculus.specs.Graph.{Kind, Graph, ids, joined, neighbours, places, with_kinds, Live, Interior, WellFormed}
+use Rattle.zx_calculus.specs.Graph.{Kind, Graph, ids, joined, neighbours, end_vertices, with_kinds, Live, Interior, WellFormed}
 use Rattle.zx_calculus.specs.Pivots.{IsPivot, pivot_kind}
-use Rattle.zx_calculus.specs.Steps.{Pivot}
+use Rattle.zx_calculus.specs.Steps.{allowed, Pivot}
 use Rattle.zx_calculus.specs.Edits.{at_vertex}
 use Rattle.zx_calculus.specs.Turns.{half_turned, pivoted}
 use Rattle.zx_calculus.proofs.Booleans.{and-false}
 use Rattle.zx_calculus.proofs.Ids.{by_equal}
-use Rattle.zx_calculus.proofs.Vertices.{ids-with_kinds, with_kinds_same}
+use Rattle.zx_calculus.proofs.Vertices.{with_kinds_same}
 use Rattle.zx_calculus.proofs.Splitting.{no_loop}
-use Rattle.gflow_laws.specs.Seen.{seen}
-use Rattle.gflow_laws.specs.Flow.{Correction, order_of, IsFlow, SameSets}
-use Rattle.gflow_laws.specs.Tables.{pivot_table}
-use Rattle.local_comp.specs.Internal.Changes.{with_changed}
-use Rattle.local_comp.proofs.Rewriting.{IsKeptBy, rewrite_keeps, interior_listed}
-use Rattle.local_comp.proofs.Toggling.{member-neighbours}
-use Rattle.local_comp.proofs.Turning.{with_kinds-with_kinds}
+use Rattle.gflow_laws.specs.Flow.{Correction, order_of, IsFlow}
+use Rattle.zx_calculus.specs.Toggles.{with_changed}
+use Rattle.zx_calculus.proofs.Allowed.{pivot_live, pivot_live_too, pivot_interior, pivot_interior_too}
+use Rattle.gflow_laws.proofs.Rewriting.{interior_listed}
+use Rattle.zx_calculus.proofs.Toggling.{member-neighbours}
+use Rattle.zx_calculus.proofs.ChangedKinds.{with_kinds-with_kinds, turned_live}
 use Rattle.zx_pivot.specs.Internal.Changes.{IsRewired, half_turned_in}
 
--- what the call on copies of graph and flow makes is kept as of each rewrite
-pub pivot_keeps : (g k h : Graph) (u v : ℕ) (table copied after : List Correction) → k ≡ g → copied ≡ table →
-    WellFormed g → IsFlow g table → IsPivot k u v h → SameSets after (pivot_table (seen g) u v copied) →
-    IsKeptBy g (Pivot u v) h after
-pivot_keeps g k h u v table copied after same_graph same_table w flow step same =
-    rewrite_keeps g (Pivot u v) h table after w flow (subst (λ x. IsPivot x u v h) same_graph step)
-    (subst (λ t. SameSets after (pivot_table (seen g) u v t)) same_table same)
+-- a vertex that is pivoted stands in the order
+pub first_listed : (g : Graph) (table : List Correction) (u v : ℕ) → IsFlow g table → allowed g (Pivot u v) ≡ true →
+    member u (order_of table) ≡ true
+first_listed g table u v flow may =
+    interior_listed g table u flow (pivot_live g u v may) (pivot_interior g u v may)
 
-pub order_holds : (g : Graph) (table copied : List Correction) (u : ℕ) → copied ≡ table → IsFlow g table → Live g u →
-    Interior g u → member u (order_of copied) ≡ true
-order_holds g table copied u same flow there inner =
-    ap (λ t. member u (order_of t)) same ∙ interior_listed g table u flow there inner
+pub second_listed : (g : Graph) (table : List Correction) (u v : ℕ) → IsFlow g table → allowed g (Pivot u v) ≡ true →
+    member v (order_of table) ≡ true
+second_listed g table u v flow may =
+    interior_listed g table v flow (pivot_live_too g u v may) (pivot_interior_too g u v may)
 
 -- adjacent vertices differ
 pub adjacent_apart : (g : Graph) (u v : ℕ) → WellFormed g → joined g.edges u v ≡ true → u ≢ v
 adjacent_apart g u v w uv e = true≢false (sym uv ∙ ap (joined g.edges u) (sym e) ∙ no_loop g u w)
-
--- another plane and phase leaves vertices and ends
-pub live_changed : (f : ℕ → Kind → Kind) (g : Graph) (u : ℕ) → Live g u → Live (with_changed f g) u
-live_changed f g u there = ap (member u) (ids-with_kinds f g.vertices) ∙ there
 
 module _ (g k : Graph) (u v : ℕ) (w : WellFormed g) (uv : joined g.edges u v ≡ true)
     (c : IsRewired (with_changed (half_turned_in (neighbours g u) (joined g.edges v)) g) u v k) where
@@ -46,13 +39,7 @@ module _ (g k : Graph) (u v : ℕ) (w : WellFormed g) (uv : joined g.edges u v �
   halves = half_turned_in (neighbours g u) (joined g.edges v)
 
   pub rewired_live : (x : ℕ) → Live g x → Live k x
-  rewired_live x there = ap (λ vs. member x (ids vs)) c.vertices ∙ live_changed halves g x there
-
-  pub rewired_interior : (x : ℕ) → Interior g x → Interior k x
-  rewired_interior x i = record {
-    no_input = ap (λ es. member x (places es)) c.inputs ∙ i.no_input;
-    no_output = ap (λ es. member x (places es)) c.outputs ∙ i.no_output;
-  }
+  rewired_live x there = ap (λ vs. member x (ids vs)) c.vertices ∙ turned_live halves g (with_changed halves g) x refl there
 
   apart : u ≢ v
   apart = adjacent_apart g u v w uv

@@ -2,14 +2,13 @@
 use Rattle.std.proofs.Common.{◌≡◌, ◌≢◌, refl, sym, ◌∙◌, ap, ap₂, ℕ, Bool, true, false, not, ◌&&◌, ◌||◌, eqb, ne_eqb}
 use Rattle.zx_model.specs.Bits.{xor, member}
 use Rattle.zx_calculus.specs.Graph.{Graph, joined, neighbours, WellFormed}
-use Rattle.zx_calculus.specs.Boundary.{is_pair}
-use Rattle.zx_calculus.specs.Edits.{IsToggle}
+use Rattle.zx_calculus.specs.Edits.{is_pair, IsToggle}
 use Rattle.zx_calculus.proofs.Booleans.{parities, xor-false, and_comm}
 use Rattle.zx_calculus.proofs.Ids.{eqb-self}
 use Rattle.zx_calculus.proofs.Edges.{joined_comm}
 use Rattle.zx_calculus.proofs.Splitting.{no_loop}
-use Rattle.local_comp.specs.Internal.Changes.{IsToggled, from_to}
-use Rattle.local_comp.proofs.Toggling.{member-neighbours}
+use Rattle.zx_calculus.specs.Toggles.{IsToggled, from_to}
+use Rattle.zx_calculus.proofs.Toggling.{member-neighbours}
 use Rattle.zx_pivot.specs.Internal.Changes.{IsExchanged, IsRewired, across}
 use Rattle.zx_pivot.proofs.Rows.{across-none}
 

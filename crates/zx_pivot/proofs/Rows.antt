@@ -1,20 +1,11 @@
 -- Rows of neighbours toggled place by place.
-use Rattle.std.proofs.Common.{◌≡◌, ◌≢◌, refl, sym, ◌∙◌, ap, ap₂, ℕ, zero, suc, ◌<◌, Bool, false, ◌&&◌, ◌||◌, eqb, List, [], ◌∷◌, length, get_or, take, ne_eqb}
+use Rattle.std.proofs.Common.{◌≡◌, sym, ◌∙◌, ap, ap₂, ℕ, suc, ◌<◌, Bool, false, ◌&&◌, eqb, List, length, get_or, take}
 use Rattle.zx_model.specs.Bits.{xor, member}
 use Rattle.zx_calculus.specs.Graph.{Distinct}
 use Rattle.zx_calculus.proofs.Booleans.{parities, and-false}
-use Rattle.zx_calculus.proofs.Ids.{or-left, or-right}
-use Rattle.local_comp.specs.Internal.Changes.{from_to}
-use Rattle.local_comp.proofs.Places.{member-grown}
+use Rattle.zx_calculus.specs.Toggles.{from_to}
+use Rattle.zx_calculus.proofs.Positions.{member-grown}
 use Rattle.zx_pivot.specs.Internal.Changes.{across}
-
--- what isn't in a list isn't in a part of it
-pub absent_take : (xs : List ℕ) (i p : ℕ) → member p xs ≡ false → member p (take i xs) ≡ false
-absent_take [] zero p h = refl
-absent_take [] (suc i) p h = refl
-absent_take (x ∷ xs) zero p h = refl
-absent_take (x ∷ xs) (suc i) p h =
-    ap₂ (λ a b. a || b) (or-left (eqb p x) (member p xs) h) (absent_take xs i p (or-right (eqb p x) (member p xs) h))
 
 twice : (a b x y : Bool) → xor (a && y) (b && x) ≡ xor (a && xor y b) (b && xor x a)
 twice a b x y = simp parities
@@ -45,7 +36,3 @@ across-next xs ys i p q d lt =
 pub across-none : (xs ys : List ℕ) (u p : ℕ) → member u xs ≡ false → member u ys ≡ false → across xs ys u p ≡ false
 across-none xs ys u p absent absent_too =
     ap₂ (λ a b. xor (a && member p ys) (member p xs && b)) absent absent_too ∙ and-false (member p xs)
-
-pub from_to-none : (t : ℕ) (near : List ℕ) (u p : ℕ) → u ≢ t → member u near ≡ false → from_to t near u p ≡ false
-from_to-none t near u p n absent =
-    ap₂ (λ a b. xor (a && member p near) (eqb p t && b)) (ne_eqb u t n) absent ∙ and-false (eqb p t)

@@ -7,12 +7,12 @@ use Rattle.zx_calculus.proofs.Booleans.{parities, xor-false}
 use Rattle.zx_calculus.proofs.Ids.{eqb-self}
 use Rattle.gflow_laws.specs.Seen.{Seen, odd, complemented, complemented_plane, turned_plane}
 use Rattle.gflow_laws.specs.Flow.{Correction, order_of, set_of, SameSets}
-use Rattle.gflow_laws.specs.Tables.{set_about, set_beside, complement_table, pivot_table}
+use Rattle.gflow_laws.specs.Complements.{set_about, set_beside, complement_table}
+use Rattle.gflow_laws.specs.Pivots.{pivot_table}
 use Rattle.gflow_laws.specs.Correcting.{Simple}
-use Rattle.gflow_laws.proofs.Complement.{odd-complemented}
-use Rattle.gflow_laws.proofs.PivotViews.{Simple-complemented}
-use Rattle.gflow_laws.proofs.Same.{same-complement_table}
-use Rattle.gflow_laws.proofs.TableLaws.{order_of-with_sets}
+use Rattle.gflow_laws.proofs.Complements.{odd-complemented, same-complement_table}
+use Rattle.gflow_laws.proofs.Pivots.{Simple-complemented}
+use Rattle.gflow_laws.proofs.Tables.{order_of-with_sets}
 use Rattle.zx_pivot.specs.declared.flow.Stage.{Stage}
 use Rattle.zx_pivot.specs.declared.flow.Stage.TheVariants.{First, Second, Third}
 use Rattle.zx_pivot.specs.Internal.Stages.{view, plane_in}
@@ -106,16 +106,6 @@ module _ (s : Seen) (u w : ℕ) (simple : Simple s) (u_there : member u s.ids �
 SameSets-then : (a b c : List Correction) → SameSets a b → SameSets b c → SameSets a c
 SameSets-then a b c first second =
     record { order = first.order ∙ second.order; members = λ v w. first.members v w ∙ second.members v w }
-
-pub order_kept : (s : Seen) (u : ℕ) (t t' : List Correction) → SameSets t' (complement_table s u t) →
-    order_of t' ≡ order_of t
-order_kept s u t t' same = same.order ∙ order_of-with_sets change t
-  where
-    own : List ℕ
-    own = set_about u (s.plane u) (set_of t u)
-
-    change : ℕ → List ℕ → List ℕ
-    change v members = cond (eqb v u) own (set_beside s u own members)
 
 pub three_complements : (s : Seen) (u v : ℕ) (t t1 t2 t3 : List Correction) → SameSets t1 (complement_table s u t) →
     SameSets t2 (complement_table (complemented s u) v t1) →

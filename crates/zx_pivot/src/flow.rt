@@ -5,16 +5,16 @@ ghost use Rattle.zx_model.specs.Bits.{member};
 ghost use Rattle.zx_calculus.specs.Graph.{joined, plane_of, Live, WellFormed};
 ghost use Rattle.gflow_laws.specs.Seen.{seen, odd};
 ghost use Rattle.gflow_laws.specs.Flow.{order_of, set_of, is_in, SameSets};
-ghost use Rattle.gflow_laws.specs.Tables.{complement_table, pivot_table};
+ghost use Rattle.gflow_laws.specs.Complements.{complement_table};
+ghost use Rattle.gflow_laws.specs.Pivots.{pivot_table};
 ghost use Rattle.gflow_laws.specs.Correcting.{odd_in};
 ghost use Rattle.zx_pivot.specs.Internal.Stages.{view, plane_in};
 
-use local_comp::flow::{complement_set, vertex_at};
 use open_graph::{OpenGraph, Plane, VertexId};
 use std::alloc::AllocError;
 use zx_flow::Flow;
 
-/// The local complements that a pivot of u and v is in planes and edges: about u, v and u.
+// The local complements that a pivot of u and v is in planes and edges: about u, v and u.
 #[derive(Clone, Copy)]
 enum Stage {
     First,
@@ -22,9 +22,13 @@ enum Stage {
     Third,
 }
 
-/// What a pivot of two adjacent vertices makes of the sets; the graph is that before it. Where
-/// memory runs out, a part of this is done.
-pub fn pivot_sets(f: &mut Flow, g: &OpenGraph, u: VertexId, v: VertexId) -> Result<(), AllocError>
+// What a pivot of two adjacent vertices makes of the sets; the graph is that before it.
+pub(crate) fn pivot_sets(
+    f: &mut Flow,
+    g: &OpenGraph,
+    u: VertexId,
+    v: VertexId,
+) -> Result<(), AllocError>
     requires u_live { Live g.now.graph u }
     requires v_live { Live g.now.graph v }
     requires adjacent { joined g.now.graph.edges u v ≡ true }
@@ -56,9 +60,9 @@ fn complement_sets(
     let changes = changes_plane(g, stage, u);
     let own = f.copy_of_correction(u)?;
     for i in 0..f.order().len() {
-        let x = vertex_at(f, i);
+        let x = f.vertex_at(i);
         let is_odd = odd_has(f, g, stage, u, w, x);
-        complement_set(f, u, x, &own, changes, is_odd)?;
+        f.complement_set(u, x, &own, changes, is_odd)?;
     }
     Ok(())
 }

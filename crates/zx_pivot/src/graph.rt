@@ -6,25 +6,25 @@ ghost use Rattle.zx_calculus.specs.Pivots.{IsPivot};
 ghost use Rattle.zx_calculus.specs.Edits.{at_vertex};
 ghost use Rattle.zx_calculus.specs.Turns.{in_plane, half_turned, pivoted};
 ghost use Rattle.open_graph.specs.Planes.{plane_named};
-ghost use Rattle.local_comp.specs.Internal.Changes.{IsToggled, from_to, with_changed};
+ghost use Rattle.zx_calculus.specs.Toggles.{IsToggled, from_to, with_changed};
 ghost use Rattle.zx_pivot.specs.Internal.Changes.{IsExchanged, IsRewired, across, half_turned_in};
 
 use open_graph::{OpenGraph, Plane, VertexId};
 use std::alloc::AllocError;
 use zx_model::Eighth;
 
-/// A pivot of two adjacent interior vertices: they exchange their other neighbours, each edge
-/// between two of the classes (adjacent to u alone, to v alone, to both) comes where there is none
-/// and goes where there is one, the common neighbours turn by a half, and u and v get a change of
-/// their own. Where memory runs out, a part of this is done.
-pub fn pivot(g: &mut OpenGraph, u: VertexId, v: VertexId) -> Result<(), AllocError>
+// A pivot of two adjacent interior vertices: they exchange their other neighbours, each edge
+// between two of the classes (adjacent to u alone, to v alone, to both) comes where there is none
+// and goes where there is one, the common neighbours turn by a half, and u and v get a change of
+// their own.
+pub(crate) fn pivot(g: &mut OpenGraph, u: VertexId, v: VertexId) -> Result<(), AllocError>
     requires u_live { Live g.old.graph u }
     requires v_live { Live g.old.graph v }
     requires u_interior { Interior g.old.graph u }
     requires v_interior { Interior g.old.graph v }
     requires adjacent { joined g.old.graph.edges u v ≡ true }
     ensures step { OnOk result (IsPivot g.old.graph u v g.new.graph) }
-    ensures valid { WellFormed g.new.graph }
+    ensures was_valid { WellFormed g.old.graph }
 {
     turn_common(g, u, v);
     rewire(g, u, v)?;
@@ -40,10 +40,10 @@ fn turn_common(g: &mut OpenGraph, u: VertexId, v: VertexId)
     ensures turned { let near = neighbours g.old.graph u in
         g.new.graph ≡ with_changed (half_turned_in near (joined g.old.graph.edges v)) g.old.graph }
     ensures valid { WellFormed g.new.graph }
-    ensures valid_before { WellFormed g.old.graph }
+    ensures was_valid { WellFormed g.old.graph }
 {
     for i in 0..g.neighbours(u).len() {
-        let p = g.neighbours(u)[i];
+        let p = g.neighbour(u, i);
         if g.has_edge(v, p) {
             turn_half(g, p);
         }
@@ -87,7 +87,7 @@ fn toggle_classes(g: &mut OpenGraph, u: VertexId, v: VertexId) -> Result<(), All
     ensures valid { WellFormed g.new.graph }
 {
     for i in 0..g.neighbours(u).len() {
-        let p = g.neighbours(u)[i];
+        let p = g.neighbour(u, i);
         toggle_row(g, v, p)?;
     }
     Ok(())
@@ -117,7 +117,7 @@ fn toggle_row(g: &mut OpenGraph, from: VertexId, to: VertexId) -> Result<(), All
     ensures valid { WellFormed g.new.graph }
 {
     for i in 0..g.neighbours(from).len() {
-        let p = g.neighbours(from)[i];
+        let p = g.neighbour(from, i);
         if p != to {
             g.toggle_edge(to, p)?;
         }

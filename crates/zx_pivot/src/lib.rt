@@ -1,8 +1,21 @@
-//! Pivots along an edge: of graphs, of flows, and of both.
+//! Pivots along an edge, of a graph with its flow.
+//!
+//! Proved of `pivot` of two adjacent interior vertices: with Ok the graph is the rewritten one and
+//! the flow the table that `gflow_laws` gives for that, a flow of the new graph; the sum is kept
+//! with the exact factors of `zx_calculus`, and odd phases don't rise; want of memory leaves both
+//! as they were.
+//! `may_pivot` tells exactly where it is allowed. `pivot_in_place` makes the same change without
+//! copies; where memory runs out it says nothing.
+//!
+//! ```rust
+//! if may_pivot(&graph, u, v) {
+//!     pivot(&mut graph, &mut flow, u, v)?;
+//! }
+//! ```
 #![tactic(auto)]
 
-pub mod flow;
-pub mod graph;
-pub mod rewrite;
+mod flow;
+mod graph;
+mod rewrite;
 
-pub use rewrite::pivot;
+pub use rewrite::{may_pivot, pivot, pivot_in_place};

@@ -1,14 +1,10 @@
-//! The pivot of a graph with a flow.
+//! The pivot of a graph with its flow.
 
-ghost use Rattle.std.specs.Prelude.{◌≡◌, ◌≤◌, true, OnOk, OnErr};
-ghost use Rattle.zx_calculus.specs.Graph.{joined, Live, Interior, WellFormed};
-ghost use Rattle.zx_calculus.specs.Pivots.{IsPivot};
-ghost use Rattle.zx_calculus.specs.Steps.{Pivot};
-ghost use Rattle.zx_calculus.specs.Reduced.{odd_phases};
-ghost use Rattle.gflow_laws.specs.Seen.{seen};
-ghost use Rattle.gflow_laws.specs.Flow.{IsFlow, SameSets};
-ghost use Rattle.gflow_laws.specs.Tables.{pivot_table};
-ghost use Rattle.local_comp.specs.Rewrites.{IsExact, KeepsMap};
+ghost use Rattle.std.specs.Prelude.{◌≡◌, true, OnOk, OnErr};
+ghost use Rattle.zx_calculus.specs.Graph.{WellFormed};
+ghost use Rattle.zx_calculus.specs.Steps.{allowed, Pivot};
+ghost use Rattle.gflow_laws.specs.Flow.{IsFlow};
+ghost use Rattle.gflow_laws.specs.Rewritten.{IsRewritten};
 
 use crate::{flow, graph};
 use open_graph::{OpenGraph, VertexId};
@@ -20,26 +16,40 @@ use zx_flow::Flow;
 /// neighbours turn by a half. Where memory runs out, graph and flow stay as they were.
 pub fn pivot(g: &mut OpenGraph, f: &mut Flow, u: VertexId, v: VertexId) -> Result<(), AllocError>
     requires flow { IsFlow g.old.graph f.old.flow }
-    requires u_live { Live g.old.graph u }
-    requires v_live { Live g.old.graph v }
-    requires u_interior { Interior g.old.graph u }
-    requires v_interior { Interior g.old.graph v }
-    requires adjacent { joined g.old.graph.edges u v ≡ true }
-    ensures step { OnOk result (IsPivot g.old.graph u v g.new.graph) }
-    ensures table { OnOk result (SameSets f.new.flow
-        (pivot_table (seen g.old.graph) u v f.old.flow)) }
-    ensures flow { OnOk result (IsFlow g.new.graph f.new.flow) }
-    ensures exact { OnOk result (IsExact g.old.graph (Pivot u v) g.new.graph) }
-    ensures map { OnOk result (KeepsMap g.old.graph g.new.graph) }
-    ensures odd { OnOk result (odd_phases g.new.graph ≤ odd_phases g.old.graph) }
+    requires allowed { allowed g.old.graph (Pivot u v) ≡ true }
+    ensures rewritten { OnOk result
+        (IsRewritten g.old.graph f.old.flow (Pivot u v) g.new.graph f.new.flow) }
     ensures err { OnErr result ((g.new.graph ≡ g.old.graph) × (f.new.flow ≡ f.old.flow)) }
     ensures valid { WellFormed g.new.graph }
 {
     let mut graph = g.copy()?;
-    graph::pivot(&mut graph, u, v)?;
     let mut flow = f.copy()?;
-    flow::pivot_sets(&mut flow, g, u, v)?;
+    pivot_in_place(&mut graph, &mut flow, u, v)?;
     *g = graph;
     *f = flow;
     Ok(())
+}
+
+/// Whether the ids are those of two adjacent interior vertices.
+pub fn may_pivot(g: &OpenGraph, u: VertexId, v: VertexId) -> bool
+    ensures value { result ≡ allowed g.now.graph (Pivot u v) }
+    ensures valid { WellFormed g.now.graph }
+{
+    g.is_live(u) && g.is_live(v) && g.is_interior(u) && g.is_interior(v) && g.has_edge(u, v)
+}
+
+/// As `pivot`, but where memory runs out, graph and flow may be any.
+pub fn pivot_in_place(
+    g: &mut OpenGraph,
+    f: &mut Flow,
+    u: VertexId,
+    v: VertexId,
+) -> Result<(), AllocError>
+    requires flow { IsFlow g.old.graph f.old.flow }
+    requires allowed { allowed g.old.graph (Pivot u v) ≡ true }
+    ensures rewritten { OnOk result
+        (IsRewritten g.old.graph f.old.flow (Pivot u v) g.new.graph f.new.flow) }
+{
+    flow::pivot_sets(f, g, u, v)?;
+    graph::pivot(g, u, v)
 }

@@ -4,10 +4,8 @@ mod SearchPairs
 mod SearchKinds
 mod SearchLaws
 mod SearchWalks
-mod Fusing
 pub mod MoveRuns
 pub mod MoveCounts
 pub mod MoveEnds
 pub mod MoveSteps
-mod InPlace
 mod MovesMade

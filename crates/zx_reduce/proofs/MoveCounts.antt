@@ -1,26 +1,32 @@
 -- Each move lowers the number that bounds the moves.
-use Rattle.std.proofs.Common.{◌≡◌, refl, sym, ◌∙◌, ap, subst, ℕ, zero, suc, ◌+◌, ◌*◌, ◌<◌, ◌≤◌, Bool, true, false, if◌then◌else◌, not, ◌&&◌, ◌||◌, eqb, List, [], ◌∷◌, ◌++◌, length, arith}
-use Rattle.zx_model.specs.Phase.{half_turn, is_odd, sum_of_phases}
+use Rattle.std.proofs.Common.{◌≡◌, refl, sym, ◌∙◌, ap, subst, ℕ, zero, suc, ◌+◌, ◌*◌, ◌<◌, ◌≤◌, Bool, true, false, if◌then◌else◌, not, ◌&&◌, List, [], ◌∷◌, ◌++◌, length, true≢false, arith}
+use Rattle.zx_model.specs.Phase.{turn, is_odd, is_half_turns, is_quarter_turn, sum_of_phases}
 use Rattle.zx_model.specs.Bits.{xor, member, one_if}
 use Rattle.zx_model.proofs.Odd.{is_odd-sum}
-use Rattle.zx_calculus.specs.Graph.{XY, XZ, YZ, Vertex, Graph, ids, places, is_XY, kind_of, plane_of, phase_of, Live, WellFormed}
-use Rattle.zx_calculus.specs.Complement.{IsLocalComplement, IsDelete}
+use Rattle.zx_model.proofs.Phases.{odd_otherwise}
+use Rattle.zx_calculus.specs.Graph.{XY, XZ, YZ, Vertex, Graph, ids, end_vertices, is_XY, kind_of, plane_of, phase_of, Live, WellFormed, is_YZ, is_interior, is_XZ}
+use Rattle.zx_calculus.specs.Complements.{IsLocalComplement}
+use Rattle.zx_calculus.specs.Deletions.{IsDelete}
 use Rattle.zx_calculus.specs.Pivots.{IsPivot}
-use Rattle.zx_calculus.specs.Boundary.{spider_of_phase_zero, IsSplitInput, IsSplitOutput}
+use Rattle.zx_calculus.specs.Splits.{spider_of_phase_zero, IsSplitInput, IsSplitOutput}
 use Rattle.zx_calculus.specs.Gadgets.{IsDropLone, IsFuseInto, IsFuseTwin}
-use Rattle.zx_calculus.specs.After.{is_YZ}
-use Rattle.zx_calculus.specs.Reduced.{is_interior, not_XY}
-use Rattle.zx_calculus.specs.Counts.{is_XZ, has_input, has_output, is_odd_at, is_even_at}
+use Rattle.zx_calculus.specs.Counts.{not_XY, has_input, has_output, is_odd_at, is_even_at}
 use Rattle.zx_calculus.specs.Steps as calculus
 use Rattle.zx_calculus.specs.Steps.{IsRun}
 use Rattle.zx_calculus.proofs.Ids.{apart_of_member}
 use Rattle.zx_calculus.proofs.Splitting.{distinct, all_at}
-use Rattle.zx_calculus.proofs.Kept.{step_kept, run_kept, kind_of-insert_other}
+use Rattle.zx_calculus.proofs.Steps.{step_kept, run_kept}
+use Rattle.zx_calculus.proofs.Kept.{kind_of-insert_other}
+use Rattle.zx_calculus.proofs.Counting.{phases_below}
 use Rattle.zx_calculus.proofs.CountLemmas.{count, count_same}
 use Rattle.zx_calculus.proofs.ReducedLemmas.{counts_within}
-use Rattle.zx_calculus.proofs.StepCounts.{odd-complement, even-complement, planes-complement, odd-pivot, even-pivot, planes-pivot, odd-delete, even-delete, planes-delete, odd-drop, even-drop, planes-drop, odd-fuse_into, even-fuse_into, planes-fuse_into, odd-fuse_twin, even-fuse_twin, planes-fuse_twin, odd-split_input, even-split_input, planes-split_input, odd-split_output, even-split_output, planes-split_output}
-use Rattle.zx_reduce.specs.declared.search.Move.{Move}
-use Rattle.zx_reduce.specs.declared.search.Move.TheVariants as moves
+use Rattle.zx_calculus.proofs.Complements.{odd-complement, even-complement, planes-complement}
+use Rattle.zx_calculus.proofs.Pivots.{odd-pivot, even-pivot, planes-pivot}
+use Rattle.zx_calculus.proofs.Deletions.{odd-delete, even-delete, planes-delete}
+use Rattle.zx_calculus.proofs.Gadgets.{odd-drop, even-drop, planes-drop, odd-fuse_into, even-fuse_into, planes-fuse_into, odd-fuse_twin, even-fuse_twin, planes-fuse_twin}
+use Rattle.zx_calculus.proofs.Splits.{odd-split_input, even-split_input, planes-split_input, odd-split_output, even-split_output, planes-split_output}
+use Rattle.zx_reduce.specs.declared.moves.Move.{Move}
+use Rattle.zx_reduce.specs.declared.moves.Move.TheVariants as moves
 use Rattle.zx_reduce.specs.Search.{AppliesAt}
 use Rattle.zx_reduce.specs.Moving.{splits_of, removal_of, steps_of, most_moves, AreMoves}
 use Rattle.zx_reduce.proofs.MoveRuns.{IsRun-split}
@@ -146,40 +152,44 @@ fuse_twin_falls g u v h w c =
 -- ---- the boundary move
 -- where splits raise the number by `raised` at most, what is left of the move lowers it by more
 module _ (u b : ℕ) (h : Graph) where
-  removed_falls : (g : Graph) (phase : ℕ) → WellFormed g → IsRun g (removal_of phase b) h
+  removed_falls : (g : Graph) (phase : ℕ) → WellFormed g → phase < turn → IsRun g (removal_of phase b) h
       → most_moves h + 2 * one_if (not (is_odd phase)) ≤ most_moves g
-  removed_falls g phase w r = by_phase (eqb phase 0 || eqb phase half_turn) (is_odd phase) r
+  removed_falls g phase w below r = by_phase (is_half_turns phase) (is_quarter_turn phase) refl refl r
     where
-      unchanged : (m n : ℕ) → n ≡ m → n + 0 ≤ m
-      unchanged m n e = omega arith
+      unchanged : (m n : ℕ) (odd : Bool) → odd ≡ true → n ≡ m → n + 2 * one_if (not odd) ≤ m
+      unchanged m n true h e = omega arith
+      unchanged m n false h e = absurd (true≢false (sym h))
 
       at_once : (m n : ℕ) (odd : Bool) → n + 3 ≡ m → n + 2 * one_if (not odd) ≤ m
       at_once m n true e = omega arith
       at_once m n false e = omega arith
 
-      after_complement : (m k n x y : ℕ) → k + x ≡ m + y → y ≤ 1 → n + 3 ≡ k → n + 2 ≤ m
-      after_complement m k n x y e f h = omega arith
+      after_complement : (m k n x y : ℕ) (odd : Bool) → k + x ≡ m + y → y ≤ 1 → n + 3 ≡ k → n + 2 * one_if (not odd) ≤ m
+      after_complement m k n x y true e f h = omega arith
+      after_complement m k n x y false e f h = omega arith
 
-      by_phase : (half odd : Bool)
+      by_phase : (half quarter : Bool) → is_half_turns phase ≡ half → is_quarter_turn phase ≡ quarter
           → IsRun g (if half then calculus.Delete b ∷ []
-          else if odd then [] else calculus.LocalComplement b ∷ calculus.Delete b ∷ []) h
-          → most_moves h + 2 * one_if (not odd) ≤ most_moves g
-      by_phase true odd (k, d, same) =
-          at_once (most_moves g) (most_moves h) odd
+          else if quarter then calculus.LocalComplement b ∷ calculus.Delete b ∷ [] else []) h
+          → most_moves h + 2 * one_if (not (is_odd phase)) ≤ most_moves g
+      by_phase true quarter e f (k, d, same) =
+          at_once (most_moves g) (most_moves h) (is_odd phase)
           (subst (λ x. most_moves x + 3 ≡ most_moves g) same (delete_falls g b k w d))
-      by_phase false true same = unchanged (most_moves g) (most_moves h) (ap most_moves (sym same))
-      by_phase false false (k, c, (l, d, same)) =
-          after_complement _ _ _ _ _ (complement_changes g b k w c) (one_at_most (is_XY (plane_of g b)))
+      by_phase false true e f (k, c, (l, d, same)) =
+          after_complement _ _ _ _ _ (is_odd phase) (complement_changes g b k w c) (one_at_most (is_XY (plane_of g b)))
           (subst (λ x. most_moves x + 3 ≡ most_moves k) same
           (delete_falls k b l (step_kept g (calculus.LocalComplement b) k w c) d))
+      by_phase false false e f same =
+          unchanged (most_moves g) (most_moves h) (is_odd phase) (odd_otherwise phase below e f)
+          (ap most_moves (sym same))
 
   -- after the splits
-  rest_falls : (g : Graph) (phase : ℕ) → WellFormed g
+  rest_falls : (g : Graph) (phase : ℕ) → WellFormed g → phase < turn
       → IsRun g (calculus.Pivot u b ∷ calculus.Delete u ∷ removal_of phase b) h
       → most_moves h + 1 + 2 * one_if (not (is_odd phase)) ≤ most_moves g
-  rest_falls g phase w (k, c, (l, d, r)) =
+  rest_falls g phase w below (k, c, (l, d, r)) =
       together _ _ _ _
-      (removed_falls l phase (step_kept k (calculus.Delete u) l (step_kept g (calculus.Pivot u b) k w c) d) r)
+      (removed_falls l phase (step_kept k (calculus.Delete u) l (step_kept g (calculus.Pivot u b) k w c) d) below r)
       (pivot_delete_falls g u b k l w c d)
     where
       together : (m l n t : ℕ) → n + 2 * t ≤ l → l + 1 ≤ m → n + 1 + 2 * t ≤ m
@@ -190,7 +200,7 @@ split_input_phase g b k w c =
     ap (λ vs. (kind_of vs b).phase) c.vertices
     ∙ ap (λ kind. kind.phase) (kind_of-insert_other b (spider_of_phase_zero c.new) g.vertices
     (apart_of_member b c.new (ids g.vertices)
-    (all_at (λ p. member p (ids g.vertices)) (places g.inputs) b w.inputs.there c.has_input) c.fresh))
+    (all_at (λ p. member p (ids g.vertices)) (end_vertices g.inputs) b w.inputs.there c.has_input) c.fresh))
 
 -- a split raises the number by two at most, and not at all where its vertex keeps an end
 split_input_rises : (g : Graph) (b : ℕ) (k : Graph) → WellFormed g → IsSplitInput g b k
@@ -250,7 +260,8 @@ boundary_falls g u b h w r =
     let halves =
     IsRun-split g (splits_of g b) (calculus.Pivot u b ∷ calculus.Delete u ∷ removal_of (phase_of g b) b) h r in
     falls _ _ _ _ (splits_rise g b halves.0 w halves.1)
-    (rest_falls u b h halves.0 (phase_of g b) (run_kept g (splits_of g b) halves.0 w halves.1) halves.2)
+    (rest_falls u b h halves.0 (phase_of g b) (run_kept g (splits_of g b) halves.0 w halves.1) (phases_below g w b)
+    halves.2)
   where
     falls : (m k n x : ℕ) → k ≤ m + 2 * x → n + 1 + 2 * x ≤ k → n < m
     falls m k n x e f = omega arith

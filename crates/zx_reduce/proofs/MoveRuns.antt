@@ -1,15 +1,15 @@
 -- Moves one after the other are a run, of at most six rewrites each.
-use Rattle.std.proofs.Common.{◌≡◌, refl, sym, ◌∙◌, ap, subst, ℕ, zero, suc, ◌+◌, ◌*◌, ◌≤◌, Bool, true, false, if◌then◌else◌, ◌||◌, eqb, List, [], ◌∷◌, ◌++◌, length, append_assoc, length-append, arith}
+use Rattle.std.proofs.Common.{◌≡◌, refl, sym, ◌∙◌, ap, subst, ℕ, zero, suc, ◌+◌, ◌*◌, ◌≤◌, Bool, true, false, if◌then◌else◌, List, [], ◌∷◌, ◌++◌, length, append_assoc, length-append, arith}
 use Rattle.std.proofs.lemmas.List.{append-nil}
 use Rattle.std.proofs.Math.Numerals.{add-one}
-use Rattle.zx_model.specs.Phase.{half_turn, is_odd}
+use Rattle.zx_model.specs.Phase.{is_half_turns, is_quarter_turn}
 use Rattle.zx_calculus.specs.Graph.{Graph, phase_of}
 use Rattle.zx_calculus.specs.Counts.{has_input, has_output}
 use Rattle.zx_calculus.specs.Steps as calculus
 use Rattle.zx_calculus.specs.Steps.{IsRun}
-use Rattle.zx_calculus.proofs.StepSum.{run_inputs_kept, run_outputs_kept}
-use Rattle.zx_reduce.specs.declared.search.Move.{Move}
-use Rattle.zx_reduce.specs.declared.search.Move.TheVariants as moves
+use Rattle.zx_calculus.proofs.Steps.{run_inputs_kept, run_outputs_kept}
+use Rattle.zx_reduce.specs.declared.moves.Move.{Move}
+use Rattle.zx_reduce.specs.declared.moves.Move.TheVariants as moves
 use Rattle.zx_reduce.specs.Moving.{splits_of, removal_of, steps_of, IsMoved, AreMoves}
 
 -- ---- runs
@@ -41,12 +41,12 @@ length-splits_of g b = at_most (has_input g b) (has_output g b)
     at_most false false = omega arith
 
 length-removal_of : (phase b : ℕ) → length (removal_of phase b) ≤ 2
-length-removal_of phase b = at_most (eqb phase 0 || eqb phase half_turn) (is_odd phase)
+length-removal_of phase b = at_most (is_half_turns phase) (is_quarter_turn phase)
   where
-    at_most : (even odd : Bool)
-        → length (if even then calculus.Delete b ∷ []
-        else if odd then [] else calculus.LocalComplement b ∷ calculus.Delete b ∷ []) ≤ 2
-    at_most true odd = omega arith
+    at_most : (half quarter : Bool)
+        → length (if half then calculus.Delete b ∷ []
+        else if quarter then calculus.LocalComplement b ∷ calculus.Delete b ∷ [] else []) ≤ 2
+    at_most true quarter = omega arith
     at_most false true = omega arith
     at_most false false = omega arith
 

@@ -1,61 +1,54 @@
 -- Where a move of the first kind applies, each of its rewrites is allowed in the graph that those before it lead to.
-use Rattle.std.proofs.Common.{◌≡◌, ◌≢◌, ◌⊎◌, inl, inr, refl, sym, ◌∙◌, ap, ap₂, subst, ℕ, ◌+◌, ◌%◌, ◌<◌, Bool, true, false, if◌then◌else◌, not, ◌&&◌, ◌||◌, eqb, List, [], ◌∷◌, ◌++◌, true≢false, arith}
-use Rattle.std.proofs.lemmas.Bool.{cases_eq}
-use Rattle.zx_model.specs.Phase.{turn, half_turn, quarter_turn, opposite_phase, is_odd}
+use Rattle.std.proofs.Common.{◌≡◌, ◌≢◌, ◌⊎◌, inl, inr, refl, sym, ◌∙◌, ap, ap₂, subst, ℕ, Bool, true, false, if◌then◌else◌, not, ◌&&◌, ◌||◌, eqb, List, [], ◌∷◌, ◌++◌, true≢false, lit<}
+use Rattle.zx_model.specs.Phase.{half_turn, opposite_phase, is_half_turns, IsHalfTurns, is_quarter_turn, IsQuarterTurn}
 use Rattle.zx_model.specs.Bits.{member}
-use Rattle.zx_model.proofs.Odd.{rest-even}
-use Rattle.zx_calculus.specs.Graph.{Plane, XY, XZ, YZ, Kind, Graph, ids, places, is_XY, kind_of, plane_of, phase_of, joined, without, insert_vertex, Live, Interior, WellFormed}
+use Rattle.zx_model.proofs.Phases.{half_turns_from, quarter_turn_from}
+use Rattle.zx_calculus.specs.Graph.{Plane, XY, XZ, YZ, Kind, Graph, ids, end_vertices, is_XY, kind_of, plane_of, phase_of, joined, without, insert_vertex, Live, Interior, WellFormed, is_interior}
 use Rattle.zx_calculus.specs.Turns.{in_plane, half_turned, complemented, complemented_in, pivoted}
-use Rattle.zx_calculus.specs.Complement.{complement_kind, delete_kind, IsLocalComplement, IsDelete}
+use Rattle.zx_calculus.specs.Complements.{complement_kind, IsLocalComplement}
+use Rattle.zx_calculus.specs.Deletions.{delete_kind, IsDelete}
 use Rattle.zx_calculus.specs.Pivots.{pivot_kind, IsPivot}
-use Rattle.zx_calculus.specs.Boundary.{spider_of_phase_zero, is_pair, IsSplitInput, IsSplitOutput}
-use Rattle.zx_calculus.specs.After.{allowed, after}
+use Rattle.zx_calculus.specs.Splits.{spider_of_phase_zero, IsSplitInput, IsSplitOutput}
+use Rattle.zx_calculus.specs.Edits.{is_pair}
+use Rattle.zx_calculus.specs.Steps.{allowed, after, IsStep, IsRun}
 use Rattle.zx_calculus.specs.Counts.{has_input, has_output}
-use Rattle.zx_calculus.specs.Reduced.{is_interior}
-use Rattle.zx_calculus.specs.Moves.{IsHalfTurns, IsQuarterTurn, IsBoundaryPivot}
+use Rattle.zx_calculus.specs.Moves.{IsBoundaryPivot}
 use Rattle.zx_calculus.specs.Steps as calculus
-use Rattle.zx_calculus.specs.Steps.{IsStep, IsRun}
 use Rattle.zx_calculus.proofs.Booleans.{or-true}
 use Rattle.zx_calculus.proofs.Ids.{by_test, apart_of_member, eqb-self}
-use Rattle.zx_calculus.proofs.Vertices.{ids-with_kinds, kind_of-with_kinds, kind_of-without, member-insert, phase-kind_of}
-use Rattle.zx_calculus.proofs.Splitting.{interior_of, no_loop}
-use Rattle.zx_calculus.proofs.Kept.{step_kept, kind_of-insert_other}
-use Rattle.zx_calculus.proofs.MovedEnds.{member-move_end-old, member-move_end-other}
+use Rattle.zx_calculus.proofs.Vertices.{ids-with_kinds, kind_of-with_kinds, kind_of-without, member-insert}
+use Rattle.zx_calculus.proofs.Splitting.{interior_of, no_loop, plane_XY}
+use Rattle.zx_calculus.proofs.Results.{interior_true}
+use Rattle.zx_calculus.proofs.Counting.{YZ_apart, gone_interior}
+use Rattle.zx_calculus.proofs.Deletions.{deletable_to}
+use Rattle.zx_calculus.proofs.Steps.{step_kept, after_step}
+use Rattle.zx_calculus.proofs.Kept.{both, kind_of-insert_other}
+use Rattle.zx_calculus.proofs.Splits.{member-move_end-old, member-move_end-other}
 use Rattle.zx_calculus.proofs.CountLemmas.{member-without_other}
-use Rattle.zx_calculus.proofs.Programs.{after_step}
-use Rattle.zx_reduce.specs.declared.search.Move.{Move}
-use Rattle.zx_reduce.specs.declared.search.Move.TheVariants as moves
+use Rattle.zx_reduce.specs.declared.moves.Move.{Move}
+use Rattle.zx_reduce.specs.declared.moves.Move.TheVariants as moves
 use Rattle.zx_reduce.specs.Search.{AppliesAt, IsOfFirstKind}
 use Rattle.zx_reduce.specs.Moving.{splits_of, removal_of, steps_of, IsMoved}
 use Rattle.zx_reduce.specs.Internal.Planning.{AreAllowed}
-use Rattle.zx_reduce.proofs.SearchTests.{and_both, half_turns_from, half_turns_to, XY_from, live_near, near_joined}
-use Rattle.zx_reduce.proofs.SearchLaws.{found_allowed}
+use Rattle.zx_reduce.proofs.SearchTests.{live_near, near_joined}
+use Rattle.zx_reduce.proofs.SearchLaws.{complement_allowed, pivot_allowed, lone_allowed, single_allowed, apart_where}
+use Rattle.zx_calculus.proofs.TwinTests.{twins_allowed}
 
 -- ---- side conditions
 delete_allowed : (g : Graph) (u : ℕ) (kind : Kind) → Live g u → kind_of g.vertices u ≡ kind
-    → is_XY kind.plane ≡ false → IsHalfTurns kind.phase → allowed g (calculus.Delete u) ≡ true
+    → kind.plane ≢ XY → IsHalfTurns kind.phase → allowed g (calculus.Delete u) ≡ true
 delete_allowed g u kind there same plane phase =
-    and_both (member u (ids g.vertices) && not (is_XY (plane_of g u)))
-    (eqb (phase_of g u) 0 || eqb (phase_of g u) half_turn)
-    (and_both (member u (ids g.vertices)) (not (is_XY (plane_of g u))) there
-    (ap (λ k. not (is_XY k.plane)) same ∙ ap not plane))
-    (ap (λ k. eqb k.phase 0 || eqb k.phase half_turn) same ∙ half_turns_to kind.phase phase)
+    deletable_to g u
+    (record {
+      there = there;
+      plane = λ e. plane (ap (λ k. k.plane) (sym same) ∙ e);
+      phase = subst (λ k. IsHalfTurns k.phase) (sym same) phase;
+    })
 
 interior_by : (g : Graph) (u : ℕ) → has_input g u ≡ false → has_output g u ≡ false → is_interior g u ≡ true
 interior_by g u e f = ap₂ (λ a b. not (a || b)) e f
 
 -- ---- phases
-quarter_turn_by : (k : ℕ) → k < turn → (eqb k 0 || eqb k half_turn) ≡ false → is_odd k ≡ false → IsQuarterTurn k
-quarter_turn_by k below half even = elim (cases_eq k quarter_turn) [
-  | inl e ↦ inl e
-  | inr n ↦ inr (last n (λ e. true≢false (sym (half_turns_to k (inl e)) ∙ half))
-      (λ e. true≢false (sym (half_turns_to k (inr e)) ∙ half))
-      (rest-even k even))
-]
-  where
-    last : k ≢ quarter_turn → k ≢ 0 → k ≢ half_turn → k % quarter_turn ≡ 0 → k ≡ half_turn + quarter_turn
-    last n z h e = omega (arith, n, z, h, e, below)
-
 opposite_half : (k : ℕ) → IsHalfTurns k → IsHalfTurns (opposite_phase k)
 opposite_half k (inl e) = inl (ap opposite_phase e)
 opposite_half k (inr e) = inr (ap opposite_phase e)
@@ -66,12 +59,12 @@ opposite_quarter k (inr e) = inl (ap opposite_phase e)
 
 -- a local complement about a vertex of a quarter turn, or three, makes it one of half turns
 complemented_phase : (plane : Plane) (k : ℕ) → plane ≢ XZ → IsQuarterTurn k
-    → (is_XY (complemented_in plane k).plane ≡ false) × IsHalfTurns (complemented_in plane k).phase
-complemented_phase XY k n (inl e) = (refl, inr (ap (λ i. (complemented_in XY i).phase) e))
-complemented_phase XY k n (inr e) = (refl, inl (ap (λ i. (complemented_in XY i).phase) e))
+    → ((complemented_in plane k).plane ≢ XY) × IsHalfTurns (complemented_in plane k).phase
+complemented_phase XY k n (inl e) = (λ x. let y : XZ ≡ XY = x in cc, inr (ap (λ i. (complemented_in XY i).phase) e))
+complemented_phase XY k n (inr e) = (λ x. let y : XZ ≡ XY = x in cc, inl (ap (λ i. (complemented_in XY i).phase) e))
 complemented_phase XZ k n e = absurd (n refl)
-complemented_phase YZ k n (inl e) = (refl, inl (ap (λ i. (complemented_in YZ i).phase) e))
-complemented_phase YZ k n (inr e) = (refl, inr (ap (λ i. (complemented_in YZ i).phase) e))
+complemented_phase YZ k n (inl e) = (YZ_apart YZ refl, inl (ap (λ i. (complemented_in YZ i).phase) e))
+complemented_phase YZ k n (inr e) = (YZ_apart YZ refl, inr (ap (λ i. (complemented_in YZ i).phase) e))
 
 -- ---- what each rewrite leaves of a vertex
 complement_live : (g : Graph) (u : ℕ) (h : Graph) (p : ℕ) → IsLocalComplement g u h → Live g p → Live h p
@@ -120,7 +113,7 @@ delete_after_pivot : (g : Graph) (u v : ℕ) (h : Graph) → plane_of g u ≡ XY
     → IsPivot g u v h → allowed h (calculus.Delete u) ≡ true
 delete_after_pivot g u v h plane phase c =
     delete_allowed h u (in_plane YZ (phase_of g u)) (pivot_live g u v h u c c.there)
-    (pivoted_first g u v h c ∙ ap pivoted (in_XY g u plane)) refl phase
+    (pivoted_first g u v h c ∙ ap pivoted (in_XY g u plane)) (YZ_apart YZ refl) phase
 
 -- ---- the boundary move
 -- a deletion leaves another YZ vertex there, of the same phase or the opposite one
@@ -158,26 +151,28 @@ either_quarter j k (inr e) quarter = subst IsQuarterTurn (sym e) (opposite_quart
 
 -- how b goes, a YZ vertex whose phase is `phase` or the opposite of it
 removal_allowed : (g : Graph) (b j phase : ℕ) → Live g b → is_interior g b ≡ true → kind_of g.vertices b ≡ in_plane YZ j
-    → (j ≡ phase) ⊎ (j ≡ opposite_phase phase) → phase < turn → AreAllowed g (removal_of phase b)
-removal_allowed g b j phase there inside kind of_phase below =
-    by_phase (eqb phase 0 || eqb phase half_turn) (is_odd phase) refl refl
+    → (j ≡ phase) ⊎ (j ≡ opposite_phase phase) → AreAllowed g (removal_of phase b)
+removal_allowed g b j phase there inside kind of_phase =
+    by_phase (is_half_turns phase) (is_quarter_turn phase) refl refl
   where
-    by_phase : (half odd : Bool) → (eqb phase 0 || eqb phase half_turn) ≡ half → is_odd phase ≡ odd
+    by_phase : (half quarter : Bool) → is_half_turns phase ≡ half → is_quarter_turn phase ≡ quarter
         → AreAllowed g (if half then calculus.Delete b ∷ []
-        else if odd then [] else calculus.LocalComplement b ∷ calculus.Delete b ∷ [])
-    by_phase true odd e f =
-        let gone = either_half j phase of_phase (half_turns_from phase e) in
-        (delete_allowed g b (in_plane YZ j) there kind refl gone, λ h d. tt)
-    by_phase false true e f = tt
-    by_phase false false e f = (
-      and_both (member b (ids g.vertices)) (is_interior g b) there inside,
+        else if quarter then calculus.LocalComplement b ∷ calculus.Delete b ∷ [] else [])
+    by_phase true quarter e f = (
+      delete_allowed g b (in_plane YZ j) there kind (YZ_apart YZ refl)
+          (either_half j phase of_phase (half_turns_from phase e)),
+      λ h d. tt,
+    )
+    by_phase false true e f = (
+      both (member b (ids g.vertices)) (is_interior g b) there inside,
       λ h c. (
         delete_after_complement g b h (λ x. let y : YZ ≡ XZ = sym (ap (λ k. k.plane) kind) ∙ x in cc)
-            (subst IsQuarterTurn (ap (λ k. k.phase) (sym kind))
-            (either_quarter j phase of_phase (quarter_turn_by phase below e f))) c,
+            (subst IsQuarterTurn (ap (λ k. k.phase) (sym kind)) (either_quarter j phase of_phase (quarter_turn_from phase f)))
+            c,
         λ l d. tt,
       ),
     )
+    by_phase false false e f = tt
 
 -- an interior XY vertex u of half turns, and an XY neighbour b of this phase
 record Ready (g : Graph) (u b : ℕ) (phase : ℕ) : Type 0 where
@@ -194,21 +189,15 @@ record Ready (g : Graph) (u b : ℕ) (phase : ℕ) : Type 0 where
 rest_allowed : (g : Graph) (u b : ℕ) (phase : ℕ) → Ready g u b phase → has_input g b ≡ false → has_output g b ≡ false
     → AreAllowed g (calculus.Pivot u b ∷ calculus.Delete u ∷ removal_of phase b)
 rest_allowed g u b phase r no_input no_output = (
-  and_both (member u (ids g.vertices) && member b (ids g.vertices))
-      ((is_interior g u && is_interior g b) && joined g.edges u b)
-      (and_both (member u (ids g.vertices)) (member b (ids g.vertices)) r.there r.there_too)
-      (and_both (is_interior g u && is_interior g b) (joined g.edges u b)
-      (and_both (is_interior g u) (is_interior g b) (interior_by g u r.interior.no_input r.interior.no_output)
-      (interior_by g b no_input no_output)) r.adjacent),
+  pivot_allowed g r.well_formed u b r.there (interior_true g u r.interior) (interior_by g b no_input no_output)
+      r.adjacent,
   λ k c. (
     delete_after_pivot g u b k r.plane r.half c,
     λ h d.
         let kind : kind_of k.vertices b ≡ in_plane YZ phase = pivoted_second g u b k c ∙ ap pivoted r.kind in
         let live : Live k b = pivot_live g u b k b c r.there_too in
         let left = left_as k u h b phase d apart live kind in
-        removal_allowed h b left.0 phase (still_live k u h b phase d apart live kind) (inside k h c d) left.1 left.2
-        (subst (λ i. i < turn) (ap (λ i. i.phase) r.kind)
-        (phase-kind_of b g.vertices r.well_formed.phases_below_a_turn)),
+        removal_allowed h b left.0 phase (still_live k u h b phase d apart live kind) (inside k h c d) left.1 left.2,
   ),
 )
   where
@@ -217,8 +206,8 @@ rest_allowed g u b phase r no_input no_output = (
 
     inside : (k h : Graph) → IsPivot g u b k → IsDelete k u h → is_interior h b ≡ true
     inside k h c d =
-        interior_by h b (ap (λ ends. member b (places ends)) (d.inputs ∙ c.inputs) ∙ no_input)
-        (ap (λ ends. member b (places ends)) (d.outputs ∙ c.outputs) ∙ no_output)
+        interior_by h b (ap (λ ends. member b (end_vertices ends)) (d.inputs ∙ c.inputs) ∙ no_input)
+        (ap (λ ends. member b (end_vertices ends)) (d.outputs ∙ c.outputs) ∙ no_output)
 
 -- u holds no end, and b does
 apart_by : (t : ℕ → Bool) (u b : ℕ) → t u ≡ false → t b ≡ true → u ≢ b
@@ -256,19 +245,19 @@ module _ (g : Graph) (u b : ℕ) (phase : ℕ) (h : Graph) (r : Ready g u b phas
   split_input_ready c =
       split_ready c.new c.fresh c.vertices c.edges (step_kept g (calculus.SplitInput b) h r.well_formed c)
       (record {
-        no_input = ap (λ ends. member u (places ends)) c.inputs
+        no_input = ap (λ ends. member u (end_vertices ends)) c.inputs
             ∙ member-move_end-other b c.new g.inputs u (apart_by (has_input g) u b r.interior.no_input c.has_input)
             (apart_of_member u c.new (ids g.vertices) r.there c.fresh)
             ∙ r.interior.no_input;
-        no_output = ap (λ ends. member u (places ends)) c.outputs ∙ r.interior.no_output;
+        no_output = ap (λ ends. member u (end_vertices ends)) c.outputs ∙ r.interior.no_output;
       })
 
   split_output_ready : IsSplitOutput g b h → Ready h u b phase
   split_output_ready c =
       split_ready c.new c.fresh c.vertices c.edges (step_kept g (calculus.SplitOutput b) h r.well_formed c)
       (record {
-        no_input = ap (λ ends. member u (places ends)) c.inputs ∙ r.interior.no_input;
-        no_output = ap (λ ends. member u (places ends)) c.outputs
+        no_input = ap (λ ends. member u (end_vertices ends)) c.inputs ∙ r.interior.no_input;
+        no_output = ap (λ ends. member u (end_vertices ends)) c.outputs
             ∙ member-move_end-other b c.new g.outputs u (apart_by (has_output g) u b r.interior.no_output c.has_output)
             (apart_of_member u c.new (ids g.vertices) r.there c.fresh)
             ∙ r.interior.no_output;
@@ -276,12 +265,12 @@ module _ (g : Graph) (u b : ℕ) (phase : ℕ) (h : Graph) (r : Ready g u b phas
 
   input_went : IsSplitInput g b h → has_input h b ≡ false
   input_went c =
-      ap (λ ends. member b (places ends)) c.inputs
+      ap (λ ends. member b (end_vertices ends)) c.inputs
       ∙ member-move_end-old b c.new g.inputs (apart_of_member b c.new (ids g.vertices) r.there_too c.fresh)
 
   output_went : IsSplitOutput g b h → has_output h b ≡ false
   output_went c =
-      ap (λ ends. member b (places ends)) c.outputs
+      ap (λ ends. member b (end_vertices ends)) c.outputs
       ∙ member-move_end-old b c.new g.outputs (apart_of_member b c.new (ids g.vertices) r.there_too c.fresh)
 
 boundary_allowed : (g : Graph) (u b : ℕ) (phase : ℕ) → Ready g u b phase
@@ -296,21 +285,21 @@ boundary_allowed g u b phase r = by_ends (has_input g b) (has_output g b) refl r
     by_ends false true e f = (
       f,
       λ h c. rest_allowed h u b phase (split_output_ready g u b phase h r c)
-          (ap (λ ends. member b (places ends)) c.inputs ∙ e) (output_went g u b phase h r c),
+          (ap (λ ends. member b (end_vertices ends)) c.inputs ∙ e) (output_went g u b phase h r c),
     )
     by_ends true false e f = (
       e,
       λ h c. rest_allowed h u b phase (split_input_ready g u b phase h r c) (input_went g u b phase h r c)
-          (ap (λ ends. member b (places ends)) c.outputs ∙ f),
+          (ap (λ ends. member b (end_vertices ends)) c.outputs ∙ f),
     )
     by_ends true true e f = (
       e,
       λ h c. (
-        ap (λ ends. member b (places ends)) c.outputs ∙ f,
+        ap (λ ends. member b (end_vertices ends)) c.outputs ∙ f,
         λ k d.
             let ready = split_input_ready g u b phase h r c in
             rest_allowed k u b phase (split_output_ready h u b phase k ready d)
-            (ap (λ ends. member b (places ends)) d.inputs ∙ input_went g u b phase h r c)
+            (ap (λ ends. member b (end_vertices ends)) d.inputs ∙ input_went g u b phase h r c)
             (output_went h u b phase k ready d),
       ),
     )
@@ -323,7 +312,7 @@ boundary_ready g u b w a = record {
   interior = a.spider.interior;
   plane = a.spider.plane;
   half = a.spider.phase;
-  kind = in_XY g b (by_test (is_XY (plane_of g b)) (λ t. XY_from (plane_of g b) t)
+  kind = in_XY g b (by_test (is_XY (plane_of g b)) (λ t. plane_XY (plane_of g b) t)
       (λ f. absurd (a.boundary b a.adjacent (interior_of g b w f))));
   adjacent = a.adjacent;
 }
@@ -331,25 +320,50 @@ boundary_ready g u b w a = record {
 -- ---- all kinds
 pub steps_allowed : (g : Graph) (m : Move) → WellFormed g → AppliesAt g m → IsOfFirstKind g m
     → AreAllowed g (steps_of g m)
-steps_allowed g (moves.Delete u) w a first = (found_allowed g w (moves.Delete u) a first, λ h s. tt)
+steps_allowed g (moves.Delete u) w a first = (deletable_to g u a, λ h s. tt)
 steps_allowed g (moves.QuarterGadget u) w a first = (
-  found_allowed g w (moves.QuarterGadget u) a first,
+  complement_allowed g u a.there (gone_interior g u w (YZ_apart (plane_of g u) a.plane)),
   λ k c. (delete_after_complement g u k (λ e. let y : YZ ≡ XZ = sym a.plane ∙ e in cc) a.phase c, λ h d. tt),
 )
-steps_allowed g (moves.FromXZ u) w a first = (found_allowed g w (moves.FromXZ u) a first, λ h s. tt)
+steps_allowed g (moves.FromXZ u) w a first = (
+  complement_allowed g u a.there (gone_interior g u w (λ e. let y : XZ ≡ XY = sym a.plane ∙ e in cc)),
+  λ h s. tt,
+)
 steps_allowed g (moves.QuarterSpider u) w a first = (
-  found_allowed g w (moves.QuarterSpider u) a first,
+  complement_allowed g u a.there (interior_true g u a.interior),
   λ k c. (delete_after_complement g u k (λ e. let y : XY ≡ XZ = sym a.plane ∙ e in cc) a.phase c, λ h d. tt),
 )
 steps_allowed g (moves.InnerPivot u v) w a first = (
-  found_allowed g w (moves.InnerPivot u v) a first,
+  pivot_allowed g w u v a.spider.there (interior_true g u a.spider.interior) (interior_true g v a.interior) a.adjacent,
   λ k c. (delete_after_pivot g u v k a.spider.plane a.spider.phase c, λ h d. tt),
 )
 steps_allowed g (moves.BoundaryPivot u b) w a first = boundary_allowed g u b (phase_of g b) (boundary_ready g u b w a)
-steps_allowed g (moves.GadgetPair u v) w a first = (found_allowed g w (moves.GadgetPair u v) a first, λ h s. tt)
-steps_allowed g (moves.LoneGadget u) w a first = (found_allowed g w (moves.LoneGadget u) a first, λ h s. tt)
-steps_allowed g (moves.SingleGadget u) w a first = (found_allowed g w (moves.SingleGadget u) a first, λ h s. tt)
-steps_allowed g (moves.Twins u v) w a first = (found_allowed g w (moves.Twins u v) a first, λ h s. tt)
+steps_allowed g (moves.GadgetPair u v) w a first = (
+  pivot_allowed g w u v a.there (gone_interior g u w (YZ_apart (plane_of g u) a.plane))
+      (gone_interior g v w (YZ_apart (plane_of g v) a.plane_too)) a.adjacent,
+  λ h s. tt,
+)
+steps_allowed g (moves.LoneGadget u) w a first = (lone_allowed g u a, λ h s. tt)
+steps_allowed g (moves.SingleGadget u) w a first = (
+  single_allowed g w u a
+      (λ v. first (moves.FromXZ v)
+      (record { place = 2; later_place = 8; kind = refl; later_kind = refl; earlier = lit< tt }))
+      (λ v. first (moves.GadgetPair u v)
+      (record { place = 6; later_place = 8; kind = refl; later_kind = refl; earlier = lit< tt })),
+  λ h s. tt,
+)
+steps_allowed g (moves.Twins u v) w a first = (
+  twins_allowed g w u v a
+      (apart_where g u v a
+      (first (moves.GadgetPair u v)
+      (record { place = 6; later_place = 9; kind = refl; later_kind = refl; earlier = lit< tt }))),
+  λ h s. tt,
+)
+
+-- the rewrite that a move begins with
+pub begun_allowed : (g : Graph) (m : Move) (s : calculus.Step) (rest : List calculus.Step) → WellFormed g
+    → AppliesAt g m → IsOfFirstKind g m → steps_of g m ≡ s ∷ rest → allowed g s ≡ true
+begun_allowed g m s rest w a first same = (subst (AreAllowed g) same (steps_allowed g m w a first)).0
 
 -- allowed steps lead somewhere
 allowed_run : (g : Graph) (steps : List calculus.Step) → WellFormed g → AreAllowed g steps

@@ -1,14 +1,13 @@
 -- The steps of a move, done one after the other, and moves one after the other.
-use Rattle.std.proofs.Common.{◌≡◌, refl, sym, ◌∙◌, ap, subst, ℕ, suc, ◌+◌, ◌*◌, ◌<◌, ◌≤◌, true, List, [], ◌∷◌, ◌++◌, length, map, take, drop, get_or, append_assoc, length-append, add-zero, drop-cons, arith}
+use Rattle.std.proofs.Common.{Result, Ok, Err, OnErr, ◌≡◌, refl, sym, ◌∙◌, ap, subst, ℕ, suc, ◌+◌, ◌*◌, ◌<◌, ◌≤◌, true, List, [], ◌∷◌, ◌++◌, length, map, take, drop, get_or, append_assoc, length-append, add-zero, drop-cons, arith}
 use Rattle.std.proofs.Math.Seq.{take-suc}
 use Rattle.std.proofs.lemmas.List.{append-nil, length-map, map-append, take_all}
 use Rattle.zx_calculus.specs.Graph.{Graph, WellFormed}
-use Rattle.zx_calculus.specs.After.{allowed}
-use Rattle.zx_calculus.specs.Steps.{IsStep, IsRun}
+use Rattle.zx_calculus.specs.Steps.{allowed, IsStep, IsRun}
 use Rattle.gflow_laws.specs.Flow.{Correction, IsFlow}
 use Rattle.gflow_laws.specs.Kept.{IsKept}
 use Rattle.gflow_laws.proofs.Steps.{run_keeps}
-use Rattle.zx_reduce.specs.declared.search.Move.{Move}
+use Rattle.zx_reduce.specs.declared.moves.Move.{Move}
 use Rattle.zx_reduce.specs.declared.step.Step.{Step}
 use Rattle.zx_reduce.specs.Steps.{step_named}
 use Rattle.zx_reduce.specs.Search.{AppliesAt, IsOfFirstKind}
@@ -122,6 +121,10 @@ six_each : (start now n old new gained : ℕ) → now ≡ start + n → new ≡ 
     new + 6 * start ≤ old + 6 * now
 six_each start now n old new gained e f l = omega arith
 
+pub on_error : {T E P : Type 0} (r : Result T E) → P → OnErr r P
+on_error (Ok v) p = tt
+on_error (Err e) p = p
+
 module _ {g h : Graph} {before after : List Step} {start now : ℕ} (gains : GainsMoves g h before after start now) where
   pub gained_run : GainsRun g h before after
   gained_run = record {
@@ -134,6 +137,12 @@ module _ {g h : Graph} {before after : List Step} {start now : ℕ} (gains : Gai
   gained_few_moves w =
       few_more start now gains.count (most_moves g) (most_moves h) gains.counter
       (AreMoves-few g gains.count (map step_named gains.gained) h w gains.moves)
+
+  pub gained_counter : WellFormed g → (start ≤ now) × (now ≤ start + most_moves g)
+  gained_counter w = (more start now gains.count gains.counter, gained_few_moves w)
+    where
+      more : (start now n : ℕ) → now ≡ start + n → start ≤ now
+      more start now n e = omega arith
 
   pub gained_few_steps : length after + 6 * start ≤ length before + 6 * now
   gained_few_steps =

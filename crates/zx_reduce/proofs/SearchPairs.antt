@@ -3,19 +3,19 @@ use Rattle.std.proofs.Common.{Some, None, ◌≡◌, refl, sym, ◌∙◌, ap, s
 use Rattle.std.specs.List.{find}
 use Rattle.std.specs.Cmp.Lexicographic.{pointwise}
 use Rattle.std.proofs.lemmas.Bool.{eqb-false}
-use Rattle.std.proofs.lemmas.Bool.Decides.{Decides-eqb}
-use Rattle.std.proofs.lemmas.Slice.Eq.{slice_eq-Decides}
 use Rattle.zx_model.specs.Bits.{member}
-use Rattle.zx_calculus.specs.Graph.{YZ, Graph, ids, plane_of, joined, neighbours, Live, Interior, WellFormed}
-use Rattle.zx_calculus.specs.After.{is_YZ}
-use Rattle.zx_calculus.specs.Reduced.{is_interior}
-use Rattle.zx_calculus.specs.Moves.{IsInnerPivot, IsBoundaryPivot, IsGadgetPair, IsGadgetOf, AreTwins}
+use Rattle.zx_calculus.specs.Graph.{YZ, Graph, ids, plane_of, joined, neighbours, Live, Interior, WellFormed, is_YZ, is_interior}
+use Rattle.zx_calculus.specs.Complements.{may_complement}
+use Rattle.zx_calculus.specs.Gadgets.{is_gadget}
+use Rattle.zx_calculus.specs.Moves.{IsHalfSpider, IsInnerPivot, IsBoundaryPivot, IsGadgetPair, IsGadgetOf, AreTwins}
 use Rattle.zx_calculus.proofs.Edges.{joined_comm}
 use Rattle.zx_calculus.proofs.Ids.{and-left, and-right, not-true, member-here}
-use Rattle.zx_calculus.proofs.Results.{interior_from}
-use Rattle.zx_calculus.proofs.StepCounts.{interior_true}
-use Rattle.zx_reduce.specs.Internal.Searching.{is_half_spider, is_inner, is_gadget, is_twin}
-use Rattle.zx_reduce.proofs.SearchTests.{and_both, YZ_from, half_spider_from, half_spider_to, live_near, joined_near, near_joined, find-some, find-none}
+use Rattle.zx_calculus.proofs.Kept.{both}
+use Rattle.zx_calculus.proofs.Splitting.{plane_YZ}
+use Rattle.zx_calculus.proofs.Results.{interior_from, interior_true}
+use Rattle.zx_calculus.proofs.TwinTests.{equal_lists, lists_equal}
+use Rattle.zx_reduce.specs.Internal.Searching.{is_twin}
+use Rattle.zx_reduce.proofs.SearchTests.{live_near, joined_near, near_joined, find-some, find-none}
 
 first-member : (xs : List ℕ) (v : ℕ) → slice_get xs 0 ≡ Some v → member v xs ≡ true
 first-member [] v e = cc
@@ -25,54 +25,42 @@ first-none : (xs : List ℕ) → slice_get xs 0 ≡ None → xs ≡ []
 first-none [] e = refl
 first-none (x ∷ xs) e = cc
 
-pub equal_lists : (xs ys : List ℕ) → pointwise nat_eq xs ys ≡ true → xs ≡ ys
-equal_lists xs ys h = (slice_eq-Decides Decides-eqb xs ys (pointwise nat_eq xs ys) refl).0 h
-
-pub lists_equal : (xs ys : List ℕ) → xs ≡ ys → pointwise nat_eq xs ys ≡ true
-lists_equal xs ys e = (slice_eq-Decides Decides-eqb xs ys (pointwise nat_eq xs ys) refl).1 e
-
 module _ (g : Graph) (w : WellFormed g) (u : ℕ) where
   pub near_live : (v : ℕ) → slice_get (neighbours g u) 0 ≡ Some v → Live g v
   near_live v e = live_near g u v (first-member (neighbours g u) v e)
 
   -- a neighbour without ends passes the test
-  inner_to : (v : ℕ) → joined g.edges u v ≡ true → Interior g v → is_inner g v ≡ true
-  inner_to v near i = and_both (member v (ids g.vertices)) (is_interior g v) (live_near g u v (near_joined g w u v near)) (interior_true g v i)
+  inner_to : (v : ℕ) → joined g.edges u v ≡ true → Interior g v → may_complement g v ≡ true
+  inner_to v near i = both (member v (ids g.vertices)) (is_interior g v) (live_near g u v (near_joined g w u v near)) (interior_true g v i)
 
-  inner_from : (v : ℕ) → is_inner g v ≡ true → Interior g v
+  inner_from : (v : ℕ) → may_complement g v ≡ true → Interior g v
   inner_from v h = interior_from g v (and-right (member v (ids g.vertices)) (is_interior g v) h)
 
   gadget_to : (v : ℕ) → Live g v → plane_of g v ≡ YZ → is_gadget g v ≡ true
-  gadget_to v there plane = and_both (member v (ids g.vertices)) (is_YZ (plane_of g v)) there (ap is_YZ plane)
+  gadget_to v there plane = both (member v (ids g.vertices)) (is_YZ (plane_of g v)) there (ap is_YZ plane)
 
   gadget_live : (v : ℕ) → is_gadget g v ≡ true → Live g v
   gadget_live v h = and-left (member v (ids g.vertices)) (is_YZ (plane_of g v)) h
 
   gadget_YZ : (v : ℕ) → is_gadget g v ≡ true → plane_of g v ≡ YZ
-  gadget_YZ v h = YZ_from (plane_of g v) (and-right (member v (ids g.vertices)) (is_YZ (plane_of g v)) h)
+  gadget_YZ v h = plane_YZ (plane_of g v) (and-right (member v (ids g.vertices)) (is_YZ (plane_of g v)) h)
 
   -- ---- pivots
-  pub inner_found : (v : ℕ) → Live g u → is_half_spider g u ≡ true → member v (neighbours g u) ≡ true → is_inner g v ≡ true → IsInnerPivot g u v
-  inner_found v there half near inner = record { spider = half_spider_from g u there half; adjacent = joined_near g w u v near; interior = inner_from v inner }
+  pub inner_found : (v : ℕ) → IsHalfSpider g u → member v (neighbours g u) ≡ true → may_complement g v ≡ true → IsInnerPivot g u v
+  inner_found v half near inner = record { spider = half; adjacent = joined_near g w u v near; interior = inner_from v inner }
 
-  pub inner_no_spider : is_half_spider g u ≡ false → (v : ℕ) → ¬ IsInnerPivot g u v
-  inner_no_spider f v a = true≢false (sym (half_spider_to g u a.spider) ∙ f)
-
-  pub inner_none : ((v : ℕ) → member v (neighbours g u) ≡ true → is_inner g v ≡ false) → (v : ℕ) → ¬ IsInnerPivot g u v
+  pub inner_none : ((v : ℕ) → member v (neighbours g u) ≡ true → may_complement g v ≡ false) → (v : ℕ) → ¬ IsInnerPivot g u v
   inner_none none v a = true≢false (sym (inner_to v a.adjacent a.interior) ∙ none v (near_joined g w u v a.adjacent))
 
-  pub boundary_found : (v : ℕ) → Live g u → is_half_spider g u ≡ true → ((v : ℕ) → member v (neighbours g u) ≡ true → is_inner g v ≡ false)
+  pub boundary_found : (v : ℕ) → IsHalfSpider g u → ((v : ℕ) → member v (neighbours g u) ≡ true → may_complement g v ≡ false)
       → slice_get (neighbours g u) 0 ≡ Some v → IsBoundaryPivot g u v
-  boundary_found v there half none first = record {
-    spider = half_spider_from g u there half;
+  boundary_found v half none first = record {
+    spider = half;
     adjacent = joined_near g w u v (first-member (neighbours g u) v first);
     boundary = λ p e i. true≢false (sym (inner_to p e i) ∙ none p (near_joined g w u p e));
   }
 
-  pub boundary_no_spider : is_half_spider g u ≡ false → (v : ℕ) → ¬ IsBoundaryPivot g u v
-  boundary_no_spider f v a = true≢false (sym (half_spider_to g u a.spider) ∙ f)
-
-  pub boundary_inner : (p : ℕ) → member p (neighbours g u) ≡ true → is_inner g p ≡ true → (v : ℕ) → ¬ IsBoundaryPivot g u v
+  pub boundary_inner : (p : ℕ) → member p (neighbours g u) ≡ true → may_complement g p ≡ true → (v : ℕ) → ¬ IsBoundaryPivot g u v
   boundary_inner p near inner v a = a.boundary p (joined_near g w u p near) (inner_from p inner)
 
   pub boundary_alone : slice_get (neighbours g u) 0 ≡ None → (v : ℕ) → ¬ IsBoundaryPivot g u v
@@ -89,9 +77,6 @@ module _ (g : Graph) (w : WellFormed g) (u : ℕ) where
         plane_too = gadget_YZ v at.1;
         adjacent = joined_near g w u v at.0;
       }
-
-  pub pair_no_gadget : is_gadget g u ≡ false → (v : ℕ) → ¬ IsGadgetPair g u v
-  pair_no_gadget f v a = true≢false (sym (gadget_to u a.there a.plane) ∙ f)
 
   pub pair_none : find (is_gadget g) (neighbours g u) ≡ None → (v : ℕ) → ¬ IsGadgetPair g u v
   pair_none e v a = true≢false (sym (gadget_to v a.there_too a.plane_too) ∙ find-none (is_gadget g) (neighbours g u) e v (near_joined g w u v a.adjacent))
@@ -111,17 +96,11 @@ module _ (g : Graph) (w : WellFormed g) (u : ℕ) where
         equal_neighbours = sym (equal_lists (neighbours g v) (neighbours g u) (and-right (is_gadget g v) (pointwise nat_eq (neighbours g v) (neighbours g u)) alike));
       }
 
-  pub twins_no_gadget : is_gadget g u ≡ false → (v : ℕ) → ¬ IsGadgetOf g u 0 → ¬ AreTwins g u v
-  twins_no_gadget f v lone a = true≢false (sym (gadget_to u a.there a.plane) ∙ f)
-
-  pub twins_alone : slice_get (neighbours g u) 0 ≡ None → (v : ℕ) → ¬ IsGadgetOf g u 0 → ¬ AreTwins g u v
-  twins_alone none v lone a = lone (record { there = a.there; plane = a.plane; legs = ap length (first-none (neighbours g u) none) })
-
   twin_to : (v : ℕ) → AreTwins g u v → is_twin g u v ≡ true
   twin_to v a =
-      and_both (member v (ids g.vertices)) (not (eqb v u) && (is_gadget g v && pointwise nat_eq (neighbours g v) (neighbours g u))) a.there_too
-      (and_both (not (eqb v u)) (is_gadget g v && pointwise nat_eq (neighbours g v) (neighbours g u)) (ap not (ne_eqb v u (λ e. a.different (sym e))))
-      (and_both (is_gadget g v) (pointwise nat_eq (neighbours g v) (neighbours g u)) (gadget_to v a.there_too a.plane_too) (lists_equal (neighbours g v) (neighbours g u) (sym a.equal_neighbours))))
+      both (member v (ids g.vertices)) (not (eqb v u) && (is_gadget g v && pointwise nat_eq (neighbours g v) (neighbours g u))) a.there_too
+      (both (not (eqb v u)) (is_gadget g v && pointwise nat_eq (neighbours g v) (neighbours g u)) (ap not (ne_eqb v u (λ e. a.different (sym e))))
+      (both (is_gadget g v) (pointwise nat_eq (neighbours g v) (neighbours g u)) (gadget_to v a.there_too a.plane_too) (lists_equal (neighbours g v) (neighbours g u) (sym a.equal_neighbours))))
 
   -- a twin of u is a neighbour of each neighbour of u
   pub twins_none : (near : ℕ) → slice_get (neighbours g u) 0 ≡ Some near → find (is_twin g u) (neighbours g near) ≡ None → (v : ℕ) → ¬ IsGadgetOf g u 0 → ¬ AreTwins g u v

@@ -4,10 +4,10 @@ use Rattle.std.proofs.Math.Seq.{take-length}
 use Rattle.std.specs.Iterator.{YieldsFirst}
 use Rattle.zx_model.specs.Bits.{member}
 use Rattle.zx_calculus.specs.Graph.{Graph, neighbours}
+use Rattle.zx_calculus.specs.Complements.{may_complement}
 use Rattle.zx_calculus.proofs.Booleans.{or-true, or-false}
 use Rattle.zx_calculus.proofs.Ids.{by_test, eqb-self}
 use Rattle.open_graph.proofs.Removing.{member-take_more}
-use Rattle.zx_reduce.specs.Internal.Searching.{is_inner}
 
 -- what a call of `next` says, by its answer
 pub next_some : (r : Option ℕ) (s t : List ℕ) (u : ℕ) → YieldsFirst (λ rest. rest) s r t → r ≡ Some u → s ≡ u ∷ t
@@ -51,29 +51,29 @@ all_passed P before rest all e f passed p m =
 
 -- ---- the best so far
 pub best_found : (g : Graph) (u : ℕ) (best next : Option ℕ) (v : ℕ) → member v (neighbours g u) ≡ true
-    → IfSome best (λ w. (member w (neighbours g u) ≡ true) × (is_inner g w ≡ true))
-    → IfSome next (λ w. ((w ≡ v) × (is_inner g v ≡ true)) ⊎ (best ≡ Some w))
-    → IfSome next (λ w. (member w (neighbours g u) ≡ true) × (is_inner g w ≡ true))
+    → IfSome best (λ w. (member w (neighbours g u) ≡ true) × (may_complement g w ≡ true))
+    → IfSome next (λ w. ((w ≡ v) × (may_complement g v ≡ true)) ⊎ (best ≡ Some w))
+    → IfSome next (λ w. (member w (neighbours g u) ≡ true) × (may_complement g w ≡ true))
 best_found g u best None v near some step = tt
 best_found g u best (Some w) v near some (inl e) =
-    (subst (λ (y : ℕ). member y (neighbours g u) ≡ true) (sym e.0) near, subst (λ (y : ℕ). is_inner g y ≡ true) (sym e.0) e.1)
-best_found g u best (Some w) v near some (inr e) = subst (λ (o : Option ℕ). IfSome o (λ w. (member w (neighbours g u) ≡ true) × (is_inner g w ≡ true))) e some
+    (subst (λ (y : ℕ). member y (neighbours g u) ≡ true) (sym e.0) near, subst (λ (y : ℕ). may_complement g y ≡ true) (sym e.0) e.1)
+best_found g u best (Some w) v near some (inr e) = subst (λ (o : Option ℕ). IfSome o (λ w. (member w (neighbours g u) ≡ true) × (may_complement g w ≡ true))) e some
 
 pub best_none : (g : Graph) (best next : Option ℕ) (items : List ℕ) (i v : ℕ) → i < length items → v ≡ get_or items i v
-    → IfNone best ((p : ℕ) → member p (take i items) ≡ true → is_inner g p ≡ false)
-    → IfNone next ((best ≡ None) × (is_inner g v ≡ false))
-    → IfNone next ((p : ℕ) → member p (take (suc i) items) ≡ true → is_inner g p ≡ false)
+    → IfNone best ((p : ℕ) → member p (take i items) ≡ true → may_complement g p ≡ false)
+    → IfNone next ((best ≡ None) × (may_complement g v ≡ false))
+    → IfNone next ((p : ℕ) → member p (take (suc i) items) ≡ true → may_complement g p ≡ false)
 best_none g best (Some w) items i v lt is none step = tt
 best_none g best None items i v lt is none step =
-    let before : (p : ℕ) → member p (take i items) ≡ true → is_inner g p ≡ false =
-    subst (λ (o : Option ℕ). IfNone o ((p : ℕ) → member p (take i items) ≡ true → is_inner g p ≡ false)) step.0 none in
+    let before : (p : ℕ) → member p (take i items) ≡ true → may_complement g p ≡ false =
+    subst (λ (o : Option ℕ). IfNone o ((p : ℕ) → member p (take i items) ≡ true → may_complement g p ≡ false)) step.0 none in
     λ p m. by_test (eqb p v)
-    (λ t. ap (is_inner g) (eqb-true p v t) ∙ step.1)
+    (λ t. ap (may_complement g) (eqb-true p v t) ∙ step.1)
     (λ f. before p (sym (ap (λ b. b || member p (take i items)) f) ∙ sym (member-take_more items i v lt is p) ∙ m))
 
 pub best_end : (g : Graph) (best : Option ℕ) (items xs : List ℕ) (i : ℕ) → items ≡ xs → i ≡ length items
-    → IfNone best ((p : ℕ) → member p (take i items) ≡ true → is_inner g p ≡ false)
-    → IfNone best ((p : ℕ) → member p xs ≡ true → is_inner g p ≡ false)
+    → IfNone best ((p : ℕ) → member p (take i items) ≡ true → may_complement g p ≡ false)
+    → IfNone best ((p : ℕ) → member p xs ≡ true → may_complement g p ≡ false)
 best_end g (Some w) items xs i same all none = tt
 best_end g None items xs i same all none =
     λ p m. none p (ap (λ n. member p (take n items)) all ∙ ap (member p) (take-length items) ∙ ap (member p) same ∙ m)

@@ -1,13 +1,13 @@
 -- What moves are made of: the rewrites of each in their order, and moves one after the other.
-use Rattle.std.specs.Prelude.{◌≡◌, ◌+◌, ◌*◌, ◌||◌, ◌==◌, ◌++◌, ℕ, zero, suc, if◌then◌else◌, List, [], ◌∷◌, map}
-use Rattle.zx_model.specs.Phase.{half_turn, is_odd}
+use Rattle.std.specs.Prelude.{◌≡◌, ◌+◌, ◌*◌, ◌++◌, ℕ, zero, suc, if◌then◌else◌, List, [], ◌∷◌, map}
+use Rattle.zx_model.specs.Phase.{is_half_turns, is_quarter_turn}
 use Rattle.zx_calculus.specs.Graph.{Graph, phase_of}
-use Rattle.zx_calculus.specs.Counts.{has_input, has_output}
-use Rattle.zx_calculus.specs.Reduced.{even_interior, odd_phases, not_XY}
+use Rattle.zx_calculus.specs.Counts.{has_input, has_output, even_interior, odd_phases, not_XY}
 use Rattle.zx_calculus.specs.Steps as calculus
 use Rattle.zx_calculus.specs.Steps.{IsRun}
-use Rattle.zx_reduce.specs.declared.search.Move.{Move}
-use Rattle.zx_reduce.specs.declared.search.Move.TheVariants.{Delete, QuarterGadget, FromXZ, QuarterSpider, InnerPivot, BoundaryPivot, GadgetPair, LoneGadget, SingleGadget, Twins}
+use Rattle.zx_reduce.specs.declared.moves.Move.{Move}
+use Rattle.zx_reduce.specs.declared.moves.Move.TheVariants.{Delete, QuarterGadget, FromXZ, QuarterSpider, InnerPivot}
+use Rattle.zx_reduce.specs.declared.moves.Move.TheVariants.{BoundaryPivot, GadgetPair, LoneGadget, SingleGadget, Twins}
 use Rattle.zx_reduce.specs.declared.step.Step.{Step}
 use Rattle.zx_reduce.specs.Search.{AppliesAt, IsOfFirstKind}
 use Rattle.zx_reduce.specs.Steps.{step_named}
@@ -15,14 +15,14 @@ use Rattle.zx_reduce.specs.Steps.{step_named}
 -- the splits of the ends of b, of its input before its output
 abbrev pub splits_of : Graph → ℕ → List calculus.Step
 splits_of g b =
-    (if has_input g b then calculus.SplitInput b ∷ [] else []) ++ (if has_output g b then calculus.SplitOutput b ∷ [] else [])
+    (if has_input g b then calculus.SplitInput b ∷ [] else [])
+    ++ (if has_output g b then calculus.SplitOutput b ∷ [] else [])
 
 -- how a YZ vertex of this phase goes: at once, after a local complement, or not at all
 abbrev pub removal_of : ℕ → ℕ → List calculus.Step
 removal_of phase b =
-    if (phase == 0) || (phase == half_turn) then calculus.Delete b ∷ []
-    else if is_odd phase then []
-    else calculus.LocalComplement b ∷ calculus.Delete b ∷ []
+    if is_half_turns phase then calculus.Delete b ∷ []
+    else if is_quarter_turn phase then calculus.LocalComplement b ∷ calculus.Delete b ∷ [] else []
 
 -- the rewrites that a move consists of
 abbrev pub steps_of : Graph → Move → List calculus.Step

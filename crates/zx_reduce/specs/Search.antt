@@ -1,11 +1,15 @@
 -- Moves that values of the code name, and which of them comes first.
-use Rattle.std.specs.Prelude.{◌<◌, ℕ, if◌then◌else◌}
+use Rattle.std.specs.Prelude.{◌≡◌, ◌<◌, ℕ, Some, slice_get}
 use Rattle.zx_calculus.specs.Graph.{Graph}
-use Rattle.zx_calculus.specs.Counts.{has_input}
-use Rattle.zx_calculus.specs.Moves.{IsDeletable, IsQuarterGadget, IsInXZ, IsQuarterSpider, IsInnerPivot, IsBoundaryPivot, IsGadgetPair, IsGadgetOf, AreTwins}
-use Rattle.zx_calculus.specs.Steps as calculus
-use Rattle.zx_reduce.specs.declared.search.Move.{Move}
-use Rattle.zx_reduce.specs.declared.search.Move.TheVariants.{Delete, QuarterGadget, FromXZ, QuarterSpider, InnerPivot, BoundaryPivot, GadgetPair, LoneGadget, SingleGadget, Twins}
+use Rattle.zx_calculus.specs.Deletions.{IsDeletable}
+use Rattle.zx_calculus.specs.Moves.{IsQuarterGadget, IsInXZ, IsQuarterSpider, IsInnerPivot, IsBoundaryPivot}
+use Rattle.zx_calculus.specs.Moves.{IsGadgetPair, IsGadgetOf, AreTwins}
+use Rattle.zx_reduce.specs.declared.moves.Move.{Move}
+use Rattle.zx_reduce.specs.declared.moves.Move.TheVariants.{Delete, QuarterGadget, FromXZ, QuarterSpider, InnerPivot}
+use Rattle.zx_reduce.specs.declared.moves.Move.TheVariants.{BoundaryPivot, GadgetPair, LoneGadget, SingleGadget, Twins}
+use Rattle.zx_reduce.specs.declared.moves.Kind.{Kind}
+use Rattle.zx_reduce.specs.declared.moves.Kind.TheVariants as kinds
+use Rattle.zx_reduce.specs.declared.moves.TheConstants.{KINDS}
 
 -- the graph has the place that the move names
 abbrev pub AppliesAt : Graph → Move → Type 0
@@ -20,32 +24,27 @@ AppliesAt g (LoneGadget u) = IsGadgetOf g u 0
 AppliesAt g (SingleGadget u) = IsGadgetOf g u 1
 AppliesAt g (Twins u v) = AreTwins g u v
 
--- the kinds of moves, numbered in the order in which they are tried
-abbrev pub kind_number : Move → ℕ
-kind_number (Delete u) = 0
-kind_number (QuarterGadget u) = 1
-kind_number (FromXZ u) = 2
-kind_number (QuarterSpider u) = 3
-kind_number (InnerPivot u v) = 4
-kind_number (BoundaryPivot u v) = 5
-kind_number (GadgetPair u v) = 6
-kind_number (LoneGadget u) = 7
-kind_number (SingleGadget u) = 8
-kind_number (Twins u v) = 9
+-- the kind of a move
+abbrev pub kind_of : Move → Kind
+kind_of (Delete u) = kinds.Delete
+kind_of (QuarterGadget u) = kinds.QuarterGadget
+kind_of (FromXZ u) = kinds.FromXZ
+kind_of (QuarterSpider u) = kinds.QuarterSpider
+kind_of (InnerPivot u v) = kinds.InnerPivot
+kind_of (BoundaryPivot u v) = kinds.BoundaryPivot
+kind_of (GadgetPair u v) = kinds.GadgetPair
+kind_of (LoneGadget u) = kinds.LoneGadget
+kind_of (SingleGadget u) = kinds.SingleGadget
+kind_of (Twins u v) = kinds.Twins
+
+-- k stands before l in the order in which kinds are tried
+pub record ComesBefore (k l : Kind) : Type 0 where
+  pub place : ℕ
+  pub later_place : ℕ
+  pub kind : slice_get KINDS place ≡ Some k
+  pub later_kind : slice_get KINDS later_place ≡ Some l
+  pub earlier : place < later_place
 
 -- no move of a kind before that of m applies anywhere
 abbrev pub IsOfFirstKind : Graph → Move → Type 0
-IsOfFirstKind g m = (other : Move) → kind_number other < kind_number m → ¬ AppliesAt g other
-
--- the rewrite that a move begins with; at the boundary an end of the neighbour is split, its input before its output
-abbrev pub first_step : Graph → Move → calculus.Step
-first_step g (Delete u) = calculus.Delete u
-first_step g (QuarterGadget u) = calculus.LocalComplement u
-first_step g (FromXZ u) = calculus.LocalComplement u
-first_step g (QuarterSpider u) = calculus.LocalComplement u
-first_step g (InnerPivot u v) = calculus.Pivot u v
-first_step g (BoundaryPivot u v) = if has_input g v then calculus.SplitInput v else calculus.SplitOutput v
-first_step g (GadgetPair u v) = calculus.Pivot u v
-first_step g (LoneGadget u) = calculus.DropLone u
-first_step g (SingleGadget u) = calculus.FuseInto u
-first_step g (Twins u v) = calculus.FuseTwin u v
+IsOfFirstKind g m = (other : Move) → ComesBefore (kind_of other) (kind_of m) → ¬ AppliesAt g other

@@ -1,7 +1,8 @@
 -- The rewrites that values of the code name.
 use Rattle.zx_calculus.specs.Steps as calculus
 use Rattle.zx_reduce.specs.declared.step.Step.{Step}
-use Rattle.zx_reduce.specs.declared.step.Step.TheVariants.{LocalComplement, Delete, Pivot, SplitInput, SplitOutput, DropLone, FuseInto, FuseTwin}
+use Rattle.zx_reduce.specs.declared.step.Step.TheVariants.{LocalComplement, Delete, Pivot, SplitInput, SplitOutput}
+use Rattle.zx_reduce.specs.declared.step.Step.TheVariants.{DropLone, FuseInto, FuseTwin}
 
 -- the rewrite of this name
 abbrev pub step_named : Step → calculus.Step

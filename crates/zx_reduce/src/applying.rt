@@ -1,15 +1,11 @@
 //! One step, where it is allowed.
 
-ghost use Rattle.std.specs.Prelude.{◌≡◌, ◌≤◌, ◌↔◌, true, false, OnOk, OnErr, IsErrOf};
+ghost use Rattle.std.specs.Prelude.{◌≡◌, ◌↔◌, true, false, OnOk, OnErr, IsErrOf};
 ghost use Rattle.zx_calculus.specs.Graph.{WellFormed};
-ghost use Rattle.zx_calculus.specs.Steps.{IsStep};
-ghost use Rattle.zx_calculus.specs.After.{allowed};
-ghost use Rattle.zx_calculus.specs.Reduced.{odd_phases};
-ghost use Rattle.gflow_laws.specs.Flow.{IsFlow, SameSets};
-ghost use Rattle.gflow_laws.specs.Tables.{table_after};
-ghost use Rattle.local_comp.specs.Rewrites.{IsExact, KeepsMap};
+ghost use Rattle.zx_calculus.specs.Steps.{allowed};
+ghost use Rattle.gflow_laws.specs.Flow.{IsFlow};
+ghost use Rattle.gflow_laws.specs.Rewritten.{IsRewritten};
 ghost use Rattle.zx_reduce.specs.Steps.{step_named};
-ghost use Rattle.zx_reduce.specs.Applied.{IsApplied, with_flow};
 
 use crate::refusal::StepRefused;
 use crate::step::Step;
@@ -34,16 +30,8 @@ pub fn apply(g: &mut OpenGraph, f: &mut Flow, step: Step) -> Result<(), StepRefu
         allowed g.old.graph (step_named step) ≡ true }
     ensures allowed { OnOk result (allowed g.old.graph (step_named step) ≡ true) }
 
-    ensures step { OnOk result (IsStep g.old.graph (step_named step) g.new.graph) }
-    ensures table { OnOk result (SameSets f.new.flow
-        (table_after g.old.graph (step_named step) g.new.graph f.old.flow)) }
-    ensures applied { OnOk result (IsApplied (with_flow g.old.graph f.old.flow) step
-        (with_flow g.new.graph f.new.flow)) }
-    ensures flow { OnOk result (IsFlow g.new.graph f.new.flow) }
-    ensures exact { OnOk result (IsExact g.old.graph (step_named step) g.new.graph) }
-    ensures map { OnOk result (KeepsMap g.old.graph g.new.graph) }
-    ensures odd { OnOk result (odd_phases g.new.graph ≤ odd_phases g.old.graph) }
-
+    ensures rewritten { OnOk result (IsRewritten g.old.graph f.old.flow (step_named step)
+        g.new.graph f.new.flow) }
     ensures err { OnErr result ((g.new.graph ≡ g.old.graph) × (f.new.flow ≡ f.old.flow)) }
     ensures valid { WellFormed g.new.graph }
 {
@@ -57,11 +45,9 @@ pub fn apply(g: &mut OpenGraph, f: &mut Flow, step: Step) -> Result<(), StepRefu
 // Does a step that is allowed.
 fn rewrite(g: &mut OpenGraph, f: &mut Flow, step: &Step) -> Result<(), AllocError>
     requires flow { IsFlow g.old.graph f.old.flow }
-    requires valid { WellFormed g.old.graph }
     requires allowed { allowed g.old.graph (step_named step.now) ≡ true }
-    ensures step { OnOk result (IsStep g.old.graph (step_named step.now) g.new.graph) }
-    ensures table { OnOk result (SameSets f.new.flow
-        (table_after g.old.graph (step_named step.now) g.new.graph f.old.flow)) }
+    ensures rewritten { OnOk result (IsRewritten g.old.graph f.old.flow (step_named step.now)
+        g.new.graph f.new.flow) }
     ensures err { OnErr result ((g.new.graph ≡ g.old.graph) × (f.new.flow ≡ f.old.flow)) }
     ensures valid { WellFormed g.new.graph }
 {

@@ -1,34 +1,60 @@
-//! Rewrites of open graphs by their names, each with its side condition, and the search for the next move of
-//! simplification.
+//! Rewrites of open graphs by their names, the search for the next move of simplification, and
+//! `reduce`, moves until none is left.
+//!
+//! Proved: `apply` answers NotAllowed exactly where an id is none of a vertex or the side condition
+//! fails, before memory is asked for and with nothing changed; where it answers Ok the step is
+//! done, on graph and flow, with what the rewrites keep. `next_move` answers a move that applies,
+//! of the first kind that applies anywhere, or that none is left. `reduce` with Ok: the graph is
+//! reduced, with a flow, a proportional sum, as many ends and no more odd phases; the trace gained
+//! the steps of moves from the old graph to the new one, each of the first kind that applied; the
+//! counter rose by the number of moves, at most 2E+Q+2O (interior vertices of even phase, vertices
+//! that aren't XY, odd phases). Want of memory leaves graph, flow and trace as they were.
+//!
+//! ```rust
+//! let mut trace = Trace::new(alloc);
+//! reduce(&mut graph, &mut flow, &mut trace, &mut steps)?;
+//! ```
 #![tactic(auto)]
 
-pub mod applying;
+// Steps, which are rewrites by their names.
+mod applying;
 mod in_place;
-pub mod laws;
-pub mod move_laws;
+mod laws;
+mod refusal;
+mod step;
+
+// Simplification, and the moves that it consists of.
+mod move_laws;
+mod moves;
 mod planning;
-pub mod reduction;
+mod reduction;
+mod search;
+mod steps;
+mod trace;
+mod working;
+
+// Tests.
 #[cfg(test)]
 mod reduction_tests;
-pub mod refusal;
 #[cfg(test)]
 mod rewrite_tests;
-pub mod search;
 #[cfg(test)]
 mod search_tests;
-pub mod step;
-pub mod steps;
 #[cfg(test)]
 mod test_graphs;
 #[cfg(test)]
 mod tests;
-pub mod trace;
-mod working;
 
 pub use applying::apply;
+pub use laws::{applied_steps_are_a_run, every_run_keeps_a_flow};
+pub use move_laws::{
+    graphs_of_circuits_allow_few_moves, moves_are_a_run, moves_are_short, moves_begin_allowed,
+    moves_can_be_made, moves_end_in_reduced_graphs,
+};
+pub use moves::{KINDS, Kind, Move};
 pub use reduction::reduce;
 pub use refusal::StepRefused;
-pub use search::{Move, next_move};
+pub use search::next_move;
 pub use step::Step;
 pub use steps::Steps;
 pub use trace::Trace;

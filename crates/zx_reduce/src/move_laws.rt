@@ -1,14 +1,14 @@
 //! What moves of simplification are. The functions do nothing: their contracts are the laws.
 
-ghost use Rattle.std.specs.Prelude.{◌≡◌, ◌<◌, ◌≤◌, ◌+◌, ◌*◌, ℕ, List, length};
+ghost use Rattle.std.specs.Prelude.{◌≡◌, ◌<◌, ◌≤◌, ◌+◌, ◌*◌, ℕ, true, List, ◌∷◌, length};
 ghost use Rattle.zx_calculus.specs.Graph.{XY, Graph, plane_of, Live, WellFormed};
 ghost use Rattle.zx_calculus.specs.Moves.{IsStuck};
 ghost use Rattle.zx_calculus.specs.Reduced.{IsReduced};
 ghost use Rattle.zx_calculus.specs.Steps as calculus;
-ghost use Rattle.zx_calculus.specs.Steps.{IsRun};
+ghost use Rattle.zx_calculus.specs.Steps.{IsRun, allowed};
 ghost use Rattle.gflow_laws.specs.Flow.{Correction, IsFlow};
 ghost use Rattle.gflow_laws.specs.Kept.{IsKept};
-ghost use Rattle.zx_reduce.specs.declared.search.Move.{Move};
+ghost use Rattle.zx_reduce.specs.declared.moves.Move.{Move};
 ghost use Rattle.zx_reduce.specs.Search.{AppliesAt, IsOfFirstKind};
 ghost use Rattle.zx_reduce.specs.Moving.{steps_of, IsMoved, AreMoves, most_moves};
 
@@ -25,6 +25,14 @@ pub fn moves_are_short()
 pub fn moves_can_be_made()
     ensures { (g : Graph) (m : Move) → WellFormed g → AppliesAt g m → IsOfFirstKind g m →
         (h : Graph) × IsMoved g m h }
+{}
+
+/// Where a move of the first kind that applies anywhere is made, the rewrite that it begins with is
+/// allowed. So the one neighbour of a single gadget is XY, and twins aren't adjacent.
+pub fn moves_begin_allowed()
+    ensures { (g : Graph) (m : Move) (s : calculus.Step) (rest : List calculus.Step) →
+        WellFormed g → AppliesAt g m → IsOfFirstKind g m → steps_of g m ≡ s ∷ rest →
+        allowed g s ≡ true }
 {}
 
 /// Moves one after the other are a run, of at most six rewrites for each. They are no more than the

@@ -1,19 +1,19 @@
 //! The steps of a move, from the graph before it.
 
-ghost use Rattle.std.specs.Prelude.{◌≡◌, ◌++◌, ℕ, map, IfOk, OnOk};
-ghost use Rattle.zx_calculus.specs.Graph.{phase_of, Live, WellFormed};
+ghost use Rattle.std.specs.Prelude.{◌≡◌, ◌++◌, map, IfOk, OnOk};
+ghost use Rattle.zx_calculus.specs.Graph.{Live, WellFormed};
 ghost use Rattle.zx_reduce.specs.Steps.{step_named};
 ghost use Rattle.zx_reduce.specs.Search.{AppliesAt};
 ghost use Rattle.zx_reduce.specs.Moving.{steps_of, splits_of, removal_of};
-ghost use Rattle.zx_reduce.specs.declared.search.Move.TheVariants as moves;
+ghost use Rattle.zx_reduce.specs.declared.moves.Move.TheVariants as moves;
 
-use crate::search::Move;
+use crate::moves::Move;
 use crate::step::Step;
 use open_graph::{OpenGraph, VertexId};
 use std::alloc::{AllocError, Global};
 use zx_model::Eighth;
 
-/// The steps that a move consists of.
+// The steps that a move consists of.
 pub(crate) fn steps_of(alloc: Global, g: &OpenGraph, m: &Move) -> Result<Vec<Step>, AllocError>
     requires valid { WellFormed g.now.graph }
     requires applies { AppliesAt g.now.graph m.now }
@@ -74,13 +74,11 @@ fn add_removal(steps: &mut Vec<Step>, phase: Eighth, b: VertexId) -> Result<(), 
     ensures { OnOk result (map step_named steps.new.items ≡
         map step_named steps.old.items ++ removal_of phase b) }
 {
-    match phase.get() {
-        0 | 4 => steps.push(Step::Delete(b))?,
-        2 | 6 => {
-            steps.push(Step::LocalComplement(b))?;
-            steps.push(Step::Delete(b))?;
-        }
-        _ => {}
+    if phase.is_half_turns() {
+        steps.push(Step::Delete(b))?;
+    } else if phase.is_quarter_turn() {
+        steps.push(Step::LocalComplement(b))?;
+        steps.push(Step::Delete(b))?;
     }
     Ok(())
 }

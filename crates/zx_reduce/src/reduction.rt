@@ -2,9 +2,10 @@
 
 ghost use Rattle.std.specs.Prelude.{◌≡◌, ◌≤◌, ◌+◌, ◌*◌, length, OnOk, OnErr};
 ghost use Rattle.zx_calculus.specs.Graph.{WellFormed};
-ghost use Rattle.zx_calculus.specs.Reduced.{odd_phases, IsReduced};
+ghost use Rattle.zx_calculus.specs.Counts.{odd_phases};
+ghost use Rattle.zx_calculus.specs.Reduced.{IsReduced};
 ghost use Rattle.gflow_laws.specs.Flow.{IsFlow};
-ghost use Rattle.local_comp.specs.Rewrites.{KeepsMap};
+ghost use Rattle.zx_calculus.specs.Exact.{KeepsMap};
 ghost use Rattle.zx_reduce.specs.Moving.{most_moves, GainsMoves, GainsRun};
 
 use crate::search::next_move;
@@ -50,6 +51,8 @@ pub fn reduce<L: Ledger>(
 
     ensures err_graph { OnErr result ((g.new.graph ≡ g.old.graph) × (f.new.flow ≡ f.old.flow)) }
     ensures err_trace { OnErr result (trace.new.steps ≡ trace.old.steps) }
+    ensures err_counter { OnErr result
+        ((steps.old ≤ steps.new) × (steps.new ≤ steps.old + most_moves g.old.graph)) }
     ensures valid { WellFormed g.new.graph }
 {
     let mut work = Working::copy_of(g, f, trace)?;

@@ -1,73 +1,20 @@
 //! The search for the next move of simplification.
 
-ghost use Rattle.std.specs.Prelude.{◌≡◌, ◌⊎◌, ◌<◌, ◌≤◌, ℕ, true, false, IsTrue, IfSome, IfNone, slice_get, option_copied};
+ghost use Rattle.std.specs.Prelude.{◌≡◌, ◌⊎◌, ◌<◌, ◌≤◌, ◌↔◌, ℕ, true, false, IsTrue, IfSome, IfNone, slice_get};
 ghost use Rattle.std.specs.List.{find};
 ghost use Rattle.zx_model.specs.Bits.{member};
-ghost use Rattle.zx_calculus.specs.Graph.{Graph, WellFormed, Live, neighbours};
-ghost use Rattle.zx_calculus.specs.Moves.{IsStuck};
-ghost use Rattle.zx_calculus.specs.After.{allowed};
-ghost use Rattle.zx_reduce.specs.declared.search.Kind.TheVariants as kinds;
-ghost use Rattle.zx_reduce.specs.Search.{AppliesAt, IsOfFirstKind, first_step};
-ghost use Rattle.zx_reduce.specs.Internal.Searching.{is_half_turns, is_quarter_turn, is_deletable, is_quarter_gadget, is_in_XZ, is_quarter_spider, is_half_spider, is_gadget_of, is_inner, is_gadget, is_twin, IsMoveOf, IsMoveAt, IsSettled, NoneAt, NoneBefore};
+ghost use Rattle.zx_calculus.specs.Graph.{WellFormed, Live, neighbours};
+ghost use Rattle.zx_calculus.specs.Complements.{may_complement};
+ghost use Rattle.zx_calculus.specs.Gadgets.{is_gadget};
+ghost use Rattle.zx_calculus.specs.Moves.{IsQuarterGadget, IsInXZ, IsQuarterSpider, IsHalfSpider, IsGadgetOf, IsStuck};
+ghost use Rattle.zx_reduce.specs.declared.moves.Kind.TheVariants as kinds;
+ghost use Rattle.zx_reduce.specs.Search.{AppliesAt, IsOfFirstKind};
+ghost use Rattle.zx_reduce.specs.Internal.Searching.{is_twin, IsMoveOf, IsMoveAt, IsSettled, NoneAt, NoneBefore};
 
+use crate::moves::{KINDS, Kind, Move};
+use local_comp::{may_complement, may_delete};
 use open_graph::{OpenGraph, Plane, VertexId};
-use zx_model::Eighth;
-
-/// A place at which a graph can be made simpler, by kind.
-#[derive(Clone, Copy, Debug, PartialEq, Eq)]
-pub enum Move {
-    /// An XZ or YZ vertex of phase 0 or half a turn: it can be deleted.
-    Delete(VertexId),
-    /// A YZ vertex of a quarter turn, or three: a local complement makes it deletable.
-    QuarterGadget(VertexId),
-    /// An XZ vertex of any other phase: a local complement makes it XY.
-    FromXZ(VertexId),
-    /// An interior XY vertex of a quarter turn, or three: a local complement makes it deletable.
-    QuarterSpider(VertexId),
-    /// An interior XY vertex of phase 0 or half a turn, and an interior neighbour: a pivot of the
-    /// two makes the first deletable.
-    InnerPivot(VertexId, VertexId),
-    /// An interior XY vertex of phase 0 or half a turn all of whose neighbours have ends, and one
-    /// of these: its ends are split, then the two are pivoted.
-    BoundaryPivot(VertexId, VertexId),
-    /// Two adjacent YZ vertices: a pivot makes both XY.
-    GadgetPair(VertexId, VertexId),
-    /// A YZ vertex without neighbours: it can be dropped.
-    LoneGadget(VertexId),
-    /// A YZ vertex with one neighbour: it can be fused into that.
-    SingleGadget(VertexId),
-    /// Two YZ vertices with equal neighbours: they can be fused.
-    Twins(VertexId, VertexId),
-}
-
-// The kinds of moves.
-#[derive(Clone, Copy)]
-enum Kind {
-    Delete,
-    QuarterGadget,
-    FromXZ,
-    QuarterSpider,
-    InnerPivot,
-    BoundaryPivot,
-    GadgetPair,
-    LoneGadget,
-    SingleGadget,
-    Twins,
-}
-
-// The kinds in the order in which they are tried.
-const KINDS: [Kind; 10] = [
-    Kind::Delete,
-    Kind::QuarterGadget,
-    Kind::FromXZ,
-    Kind::QuarterSpider,
-    Kind::InnerPivot,
-    Kind::BoundaryPivot,
-    Kind::GadgetPair,
-    Kind::LoneGadget,
-    Kind::SingleGadget,
-    Kind::Twins,
-];
+use zx_gadgets::is_gadget;
 
 /// The first kind of move that applies anywhere, and where, or None where no move is left.
 pub fn next_move(g: &OpenGraph) -> Option<Move>
@@ -89,13 +36,6 @@ pub fn next_move(g: &OpenGraph) -> Option<Move>
     }
     best
 }
-
-/// Where a move is of the first kind that applies anywhere, the rewrite that it begins with is
-/// allowed. So the one neighbour of a single gadget is XY, and twins aren't adjacent.
-pub fn found_moves_are_allowed()
-    ensures { (g : Graph) (m : Move) → WellFormed g → AppliesAt g m → IsOfFirstKind g m →
-        allowed g (first_step g m) ≡ true }
-{}
 
 // Of the kinds before a limit the first with a move at a vertex: its place, and the move.
 fn first_at(g: &OpenGraph, u: VertexId, limit: usize) -> Option<(usize, Move)>
@@ -135,7 +75,7 @@ fn move_at(g: &OpenGraph, u: VertexId, kind: Kind) -> Option<Move>
     ensures none { IfNone result (NoneAt g.now.graph kind u) }
 {
     match kind {
-        Kind::Delete => is_deletable(g, u).then_some(Move::Delete(u)),
+        Kind::Delete => may_delete(g, u).then_some(Move::Delete(u)),
         Kind::QuarterGadget => is_quarter_gadget(g, u).then_some(Move::QuarterGadget(u)),
         Kind::FromXZ => is_in_xz(g, u).then_some(Move::FromXZ(u)),
         Kind::QuarterSpider => is_quarter_spider(g, u).then_some(Move::QuarterSpider(u)),
@@ -209,9 +149,9 @@ fn twins_at(g: &OpenGraph, u: VertexId) -> Option<Move>
 fn inner_neighbour(g: &OpenGraph, u: VertexId) -> Option<VertexId>
     requires { Live g.now.graph u }
     ensures found { IfSome result (λ v.
-        (member v (neighbours g.now.graph u) ≡ true) × (is_inner g.now.graph v ≡ true)) }
+        (member v (neighbours g.now.graph u) ≡ true) × (may_complement g.now.graph v ≡ true)) }
     ensures none { IfNone result ((v : ℕ) → member v (neighbours g.now.graph u) ≡ true →
-        is_inner g.now.graph v ≡ false) }
+        may_complement g.now.graph v ≡ false) }
 {
     let mut best = None;
     for v in g.neighbours(u) {
@@ -223,10 +163,10 @@ fn inner_neighbour(g: &OpenGraph, u: VertexId) -> Option<VertexId>
 // The best so far, or v, where that has no end and fewer neighbours.
 fn better_of(g: &OpenGraph, best: Option<VertexId>, v: VertexId) -> Option<VertexId>
     ensures found { IfSome result (λ w.
-        ((w ≡ v) × (is_inner g.now.graph v ≡ true)) ⊎ (best ≡ Some w)) }
-    ensures none { IfNone result ((best ≡ None) × (is_inner g.now.graph v ≡ false)) }
+        ((w ≡ v) × (may_complement g.now.graph v ≡ true)) ⊎ (best ≡ Some w)) }
+    ensures none { IfNone result ((best ≡ None) × (may_complement g.now.graph v ≡ false)) }
 {
-    if !is_inner(g, v) {
+    if !may_complement(g, v) {
         return best;
     }
     let Some(w) = best else {
@@ -273,37 +213,17 @@ fn twin_beside(g: &OpenGraph, u: VertexId, near: VertexId) -> Option<VertexId>
         .find(|v| is_twin(g, u, *v))
 }
 
-fn is_half_turns(phase: Eighth) -> bool
-    ensures { result ≡ is_half_turns phase }
-{
-    matches!(phase.get(), 0 | 4)
-}
-
-fn is_quarter_turn(phase: Eighth) -> bool
-    ensures { result ≡ is_quarter_turn phase }
-{
-    matches!(phase.get(), 2 | 6)
-}
-
-fn is_deletable(g: &OpenGraph, u: VertexId) -> bool
-    requires { Live g.now.graph u }
-    ensures { result ≡ is_deletable g.now.graph u }
-{
-    let (plane, phase) = g.weight(u);
-    !matches!(plane, Plane::XY) && is_half_turns(phase)
-}
-
 fn is_quarter_gadget(g: &OpenGraph, u: VertexId) -> bool
     requires { Live g.now.graph u }
-    ensures { result ≡ is_quarter_gadget g.now.graph u }
+    ensures { (result ≡ true) ↔ IsQuarterGadget g.now.graph u }
 {
     let (plane, phase) = g.weight(u);
-    matches!(plane, Plane::YZ) && is_quarter_turn(phase)
+    matches!(plane, Plane::YZ) && phase.is_quarter_turn()
 }
 
 fn is_in_xz(g: &OpenGraph, u: VertexId) -> bool
     requires { Live g.now.graph u }
-    ensures { result ≡ is_in_XZ g.now.graph u }
+    ensures { (result ≡ true) ↔ IsInXZ g.now.graph u }
 {
     let (plane, _) = g.weight(u);
     matches!(plane, Plane::XZ)
@@ -311,42 +231,26 @@ fn is_in_xz(g: &OpenGraph, u: VertexId) -> bool
 
 fn is_quarter_spider(g: &OpenGraph, u: VertexId) -> bool
     requires { Live g.now.graph u }
-    ensures { result ≡ is_quarter_spider g.now.graph u }
+    ensures { (result ≡ true) ↔ IsQuarterSpider g.now.graph u }
 {
     let (plane, phase) = g.weight(u);
-    g.is_interior(u) && matches!(plane, Plane::XY) && is_quarter_turn(phase)
+    g.is_interior(u) && matches!(plane, Plane::XY) && phase.is_quarter_turn()
 }
 
 fn is_half_spider(g: &OpenGraph, u: VertexId) -> bool
     requires { Live g.now.graph u }
-    ensures { result ≡ is_half_spider g.now.graph u }
+    ensures { (result ≡ true) ↔ IsHalfSpider g.now.graph u }
 {
     let (plane, phase) = g.weight(u);
-    g.is_interior(u) && matches!(plane, Plane::XY) && is_half_turns(phase)
+    g.is_interior(u) && matches!(plane, Plane::XY) && phase.is_half_turns()
 }
 
 fn is_gadget_of(g: &OpenGraph, u: VertexId, legs: usize) -> bool
     requires { Live g.now.graph u }
-    ensures { result ≡ is_gadget_of g.now.graph u legs }
+    ensures { (result ≡ true) ↔ IsGadgetOf g.now.graph u legs }
 {
     let (plane, _) = g.weight(u);
     matches!(plane, Plane::YZ) && g.neighbours(u).len() == legs
-}
-
-fn is_inner(g: &OpenGraph, v: VertexId) -> bool
-    ensures { result ≡ is_inner g.now.graph v }
-{
-    g.is_live(v) && g.is_interior(v)
-}
-
-pub(crate) fn is_gadget(g: &OpenGraph, v: VertexId) -> bool
-    ensures { result ≡ is_gadget g.now.graph v }
-{
-    if !g.is_live(v) {
-        return false;
-    }
-    let (plane, _) = g.weight(v);
-    matches!(plane, Plane::YZ)
 }
 
 // Whether v is a gadget other than u with the neighbours of u.

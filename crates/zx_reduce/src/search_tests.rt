@@ -1,6 +1,6 @@
 //! The next move of small graphs, drawn by hand: new vertices have the ids 0, 1, 2 and so on.
 
-use crate::{Move, next_move};
+use crate::{KINDS, Move, next_move};
 use open_graph::{End, OpenGraph, Plane, VertexId};
 use std::alloc::Global;
 use std::test::Fail;
@@ -66,6 +66,7 @@ fn vertices_that_go_by_themselves(rt: HostRuntime) -> Result<(), Fail> {
     yz(&mut graph, Eighth::new(4))?;
     join(&mut graph, 0, 4)?;
     assert_eq!(rt; next_move(&graph), Some(Move::Delete(id(4))));
+    assert_eq!(rt; Move::Delete(id(4)).kind(), KINDS[0]);
     Ok(())
 }
 

@@ -2,11 +2,11 @@
 
 ghost use Rattle.std.specs.Prelude.{◌≡◌, ◌≢◌, ◌++◌, [], ◌∷◌, OnOk, IfOk};
 ghost use Rattle.zx_model.specs.Bits.{member};
-ghost use Rattle.zx_calculus.specs.Graph.{XY, YZ, insert_vertex, Live};
-ghost use Rattle.zx_calculus.specs.Worked.{plain, vertex};
+ghost use Rattle.zx_calculus.specs.Graph.{Live};
 ghost use Rattle.zx_calculus.proofs.EditPrograms.{toggled};
 ghost use Rattle.gflow_laws.specs.Flow.{IsFlow};
 ghost use Rattle.gflow_laws.specs.Examples.{by_itself};
+ghost use Rattle.zx_reduce.specs.Internal.Drawn.{with_wire, with_gadget};
 
 use crate::{Step, apply};
 use open_graph::{End, OpenGraph, Plane, VertexId};
@@ -72,11 +72,7 @@ fn stands_in(order: &[VertexId], v: VertexId) -> bool
 
 // Adds a vertex of phase 0 between an input and an output, which gets this id.
 fn add_wire(rt: &impl Abort, graph: &mut OpenGraph, number: usize) -> Result<(), Fail>
-    ensures { OnOk result (graph.new.graph ≡ record graph.old.graph {
-      vertices = insert_vertex (vertex number XY 0) graph.old.graph.vertices;
-      inputs = graph.old.graph.inputs ++ plain number ∷ [];
-      outputs = graph.old.graph.outputs ++ plain number ∷ [];
-    }) }
+    ensures { OnOk result (graph.new.graph ≡ with_wire number graph.old.graph) }
 {
     let v = graph.add_vertex(Plane::XY, Eighth::new(0))?;
     assert!(rt; v.get() == number);
@@ -103,9 +99,7 @@ fn add_gadget(
     number: usize,
     phase: Eighth,
 ) -> Result<(), Fail>
-    ensures graph { OnOk result (graph.new.graph ≡ record graph.old.graph {
-      vertices = insert_vertex (vertex number YZ phase) graph.old.graph.vertices;
-    }) }
+    ensures graph { OnOk result (graph.new.graph ≡ with_gadget number phase graph.old.graph) }
     ensures flow { OnOk result (flow.new.flow ≡ flow.old.flow ++ by_itself number ∷ []) }
 {
     let v = graph.add_vertex(Plane::YZ, phase)?;

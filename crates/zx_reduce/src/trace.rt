@@ -54,6 +54,7 @@ impl Trace {
         self.steps.push(step)?;
         Ok(())
     }
+
     // The same trace once more.
     pub(crate) fn copy(&self) -> Result<Trace, AllocError>
         ensures { IfOk result (λ copy. copy.steps ≡ self.now.steps) }

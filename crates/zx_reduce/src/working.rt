@@ -2,16 +2,16 @@
 
 ghost use Rattle.std.specs.Prelude.{◌≡◌, ◌++◌, [], ◌∷◌, true, IfOk, OnOk};
 ghost use Rattle.zx_calculus.specs.Graph.{WellFormed};
-ghost use Rattle.zx_calculus.specs.Steps.{IsStep};
-ghost use Rattle.zx_calculus.specs.After.{allowed};
+ghost use Rattle.zx_calculus.specs.Steps.{allowed};
 ghost use Rattle.gflow_laws.specs.Flow.{IsFlow};
+ghost use Rattle.gflow_laws.specs.Rewritten.{IsRewritten};
 ghost use Rattle.zx_reduce.specs.Steps.{step_named};
 ghost use Rattle.zx_reduce.specs.Search.{AppliesAt, IsOfFirstKind};
 ghost use Rattle.zx_reduce.specs.Internal.Planning.{GainsMove};
 
 use crate::in_place::rewrite;
+use crate::moves::Move;
 use crate::planning::steps_of;
-use crate::search::Move;
 use crate::step::Step;
 use crate::trace::Trace;
 use open_graph::OpenGraph;
@@ -63,14 +63,12 @@ impl Working {
     // Does a step that is allowed, and adds it to the trace.
     fn do_step(&mut self, step: &Step) -> Result<(), AllocError>
         requires flow { IsFlow self.old.graph.graph self.old.flow.flow }
-        requires valid { WellFormed self.old.graph.graph }
         requires allowed { allowed self.old.graph.graph (step_named step.now) ≡ true }
-        ensures step { OnOk result
-            (IsStep self.old.graph.graph (step_named step.now) self.new.graph.graph) }
-        ensures flow { OnOk result (IsFlow self.new.graph.graph self.new.flow.flow) }
+        ensures rewritten { OnOk result
+            (IsRewritten self.old.graph.graph self.old.flow.flow (step_named step.now)
+            self.new.graph.graph self.new.flow.flow) }
         ensures trace { OnOk result
             (self.new.trace.steps ≡ self.old.trace.steps ++ step.now ∷ []) }
-        ensures valid { OnOk result (WellFormed self.new.graph.graph) }
     {
         rewrite(&mut self.graph, &mut self.flow, step)?;
         self.trace.push(*step)

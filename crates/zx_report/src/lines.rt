@@ -22,7 +22,7 @@ pub fn report(alloc: Global, read: &Counts, written: &Counts) -> Result<Vec<u8>,
     Ok(lines)
 }
 
-/// Adds the line of a circuit.
+// Adds the line of a circuit.
 fn push_line(lines: &mut Vec<u8>, circuit: &[u8], counts: &Counts) -> Result<(), AllocError>
     ensures { OnOk result (lines.new.items
         ≡ lines.old.items ++ report_line circuit.now counts.now) }
@@ -40,7 +40,7 @@ fn push_line(lines: &mut Vec<u8>, circuit: &[u8], counts: &Counts) -> Result<(),
     lines.extend_from_slice(b"\n")
 }
 
-/// Adds the name of a kind of gates, and how many there are.
+// Adds the name of a kind of gates, and how many there are.
 fn push_count(lines: &mut Vec<u8>, kind: &[u8], count: u64) -> Result<(), AllocError>
     ensures { OnOk result (lines.new.items ≡ lines.old.items ++ count_of kind.now count) }
 {

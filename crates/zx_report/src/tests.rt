@@ -5,7 +5,7 @@ use std::test::Fail;
 use zx_gates::{Counts, Gate, GateList, counts};
 use zx_model::Eighth;
 
-/// No gate at all.
+// No gate at all.
 const NONE: Counts = Counts {
     total: 0,
     odd: 0,

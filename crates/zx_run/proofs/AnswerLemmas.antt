@@ -9,7 +9,7 @@ use Rattle.zx_run.specs.declared.status.Status.{Status}
 use Rattle.zx_run.specs.declared.status.Status.TheVariants.{Done, Refused, Usage, ReadFault, WriteFault, NoMemory, No}
 use Rattle.zx_run.specs.FirstFault.{IsFirstFault, IsFaultless}
 use Rattle.zx_run.specs.Outcome.{GainsOutputFor, GainsPrefixFor, IsAnswerOfGen, IsGen, IsOpt, IsOptimisedText, IsOrNoMemory, IsOutputFor, SaysEnd}
-use Rattle.zx_run.specs.Internal.Answers.{ToldSource, Ends, IsAnswer, IsMade, IsOutputOf, IsRefused, IsAllRead, AsksForOpt}
+use Rattle.zx_run.specs.Answers.{ToldSource, Streams, IsAnswer, IsMade, IsOutputOf, IsRefused, IsAllRead, AsksForOpt}
 use Rattle.zx_run.proofs.FaultLemmas.{one_first_fault, not_faultless}
 
 -- what is accepted has an output
@@ -38,7 +38,7 @@ some_command given command is none = absurd (let h : ◌≡◌ {A = Option Comma
 opt_given : (given : Option Command) → IsOpt given → given ≡ None → ⊥
 opt_given given (best, report, is) none = some_command given (Optimise best report) is none
 
-module _ (given : Option Command) (before after : Ends) where
+module _ (given : Option Command) (before after : Streams) where
   pub done : (status : Status) → IsAnswer given before after status → status ≡ Done
       → (after.source.faults ≡ before.source.faults) × (after.output.faults ≡ before.output.faults)
   done status a is = let d = subst (IsAnswer given before after) is a in (d.1.reads_well, d.2.writes_well)

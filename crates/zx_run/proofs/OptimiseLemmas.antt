@@ -11,10 +11,10 @@ use Rattle.zx_gates.specs.Lowering.{lowered}
 use Rattle.zx_gates.specs.Maps.{amp}
 use Rattle.zx_gen.specs.Generator.{generated}
 use Rattle.zx_report.specs.Report.{report_lines}
-use Rattle.qasm_scope.specs.Texts.{TextMeans}
+use Rattle.qasm_scope.specs.Meaning.{Means}
 use Rattle.qasm_writer.specs.Elements.{elements_of}
 use Rattle.qasm_writer.specs.Written.{written}
-use Rattle.qasm_writer.proofs.WrittenLemmas.{odd_elements, same_map}
+use Rattle.qasm_writer.proofs.WrittenLemmas.{IsWritten, is_written, odd_elements, same_map}
 use Rattle.zx_run.specs.FirstFault.{IsAccepted}
 use Rattle.zx_run.specs.Outcome.{circuit_on, report_if, generation_line, IsOptimisedText, IsGenerationReport}
 use Rattle.zx_run.specs.Optimising.{gate_bound, counts_of, Optimises, IsBest}
@@ -29,9 +29,9 @@ IsOptimisedText-lowered : (best reported : Bool) (text bytes : List ℕ) (qubits
     → gate_odd_phases (lowered read) ≡ elementary_odd_phases read
     → Optimises (circuit_on qubits (lowered read)) circuit
     → (best ≡ true → IsBest (circuit_on qubits (lowered read)) circuit) → IsCircuit circuit
-    → bytes ≡ written circuit ++ report_if reported (lowered read) circuit.gates
-    → TextMeans (written circuit) circuit.qubits (elements_of circuit.gates) → IsOptimisedText best reported text bytes
-IsOptimisedText-lowered best reported text bytes qubits read circuit accepted map odd better is_best is spelled means =
+    → bytes ≡ written circuit ++ report_if reported (lowered read) circuit.gates → IsOptimisedText best reported text bytes
+IsOptimisedText-lowered best reported text bytes qubits read circuit accepted map odd better is_best is spelled =
+    let w : IsWritten circuit = is_written circuit is in
     let again = elements_of circuit.gates in
     let as_many : circuit.qubits ≡ qubits = better.qubits in
     let back : Proportional qubits qubits (amp circuit.gates) (amp_elementary again) =
@@ -43,12 +43,13 @@ IsOptimisedText-lowered best reported text bytes qubits read circuit accepted ma
       circuit = circuit;
       accepted = accepted;
       spelled = spelled;
-      means = subst (λ n. TextMeans (written circuit) n again) as_many means;
+      means = record { program = w.program; is = w.is; means = subst (λ n. Means w.program n again) as_many w.means };
       same_map = proportional_trans qubits qubits (amp_elementary read) (amp circuit.gates) (amp_elementary again)
           (proportional_trans qubits qubits (amp_elementary read) (amp (lowered read)) (amp circuit.gates) map better.map) back;
       no_more_odd = subst (λ n. n ≤ elementary_odd_phases read) (sym (odd_elements circuit.qubits circuit.gates is.on_qubits))
           (subst (λ n. gate_odd_phases circuit.gates ≤ n) odd better.odd);
-      few_gates = subst (λ t. length circuit.gates ≤ gate_bound qubits t) odd better.few_gates;
+      few_gates = subst (λ size. size ≤ gate_bound qubits (elementary_odd_phases read)) (sym w.size)
+          (subst (λ t. length circuit.gates ≤ gate_bound qubits t) odd better.few_gates);
       valid = is;
       optimises = better;
       is_best = is_best;
@@ -59,16 +60,15 @@ pub IsOptimisedText-written : (best reported : Bool) (text bytes : List ℕ) (qu
     → from.qubits ≡ qubits → from.gates ≡ lowered read
     → Proportional qubits qubits (amp_elementary read) (amp from.gates) → gate_odd_phases from.gates ≡ elementary_odd_phases read
     → Optimises from circuit → (best ≡ true → IsBest from circuit) → IsCircuit circuit
-    → bytes ≡ written circuit ++ report_if reported from.gates circuit.gates
-    → TextMeans (written circuit) circuit.qubits (elements_of circuit.gates) → IsOptimisedText best reported text bytes
-IsOptimisedText-written best reported text bytes qubits read from circuit accepted same_qubits same_gates map odd better is_best is spelled means =
+    → bytes ≡ written circuit ++ report_if reported from.gates circuit.gates → IsOptimisedText best reported text bytes
+IsOptimisedText-written best reported text bytes qubits read from circuit accepted same_qubits same_gates map odd better is_best is spelled =
     let same = same_circuit from qubits (lowered read) same_qubits same_gates in
     IsOptimisedText-lowered best reported text bytes qubits read circuit accepted
     (subst (λ gates. Proportional qubits qubits (amp_elementary read) (amp gates)) same_gates map)
     (subst (λ gates. gate_odd_phases gates ≡ elementary_odd_phases read) same_gates odd)
     (subst (λ c. Optimises c circuit) same better)
     (λ asked. subst (λ c. IsBest c circuit) same (is_best asked)) is
-    (subst (λ gates. bytes ≡ written circuit ++ report_if reported gates circuit.gates) same_gates spelled) means
+    (subst (λ gates. bytes ≡ written circuit ++ report_if reported gates circuit.gates) same_gates spelled)
 
 -- the report of a circuit that optimises the one of a seed
 pub IsGenerationReport-written : (seed qubits gates : ℕ) (bytes : List ℕ) (read made : Circuit)

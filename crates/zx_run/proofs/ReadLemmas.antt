@@ -8,8 +8,8 @@ use Rattle.qasm_reader.specs.Syntax.{Placed}
 use Rattle.qasm_scope.specs.declared.causes.Cause.{Cause}
 use Rattle.qasm_scope.specs.Meaning.{Means, first_fault, most_calls}
 use Rattle.qasm_scope.specs.Texts.{IsProgramText}
-use Rattle.qasm_inline.specs.declared.error.ReadError.{ReadError}
-use Rattle.qasm_inline.specs.declared.error.ReadError.TheVariants as errors
+use Rattle.qasm_inline.specs.declared.error.TextError.{TextError}
+use Rattle.qasm_inline.specs.declared.error.TextError.TheVariants as errors
 use Rattle.zx_run.specs.declared.status.Fault.{Fault}
 use Rattle.zx_run.specs.declared.status.Fault.TheVariants.{BadByte, TooDeep, Syntax}
 use Rattle.zx_run.specs.declared.no_output.NoOutput.TheVariants as none
@@ -22,7 +22,7 @@ module _ (text : List ℕ) (short : length text ≤ most_bytes) where
       → IsAccepted text circuit.qubits circuit.gates
   read_accepted circuit (program, is, faultless, means) = record { short = short; program = program; is = is; faultless = faultless; means = means }
 
-  pub read_first : (error : ReadError) → ((at : ℕ) → error ≡ errors.BadByte at → IsBadByte text at)
+  pub read_first : (error : TextError) → ((at : ℕ) → error ≡ errors.BadByte at → IsBadByte text at)
       → ((at : ℕ) → error ≡ errors.TooDeep at → (tokens : List Lexeme) × IsCut 0 text tokens × (too_deep tokens ≡ Some at))
       → ((at : ℕ) → error ≡ errors.Syntax at → (tokens : List Lexeme) × IsCut 0 text tokens × (too_deep tokens ≡ None) × IsSyntaxFault tokens at)
       → ((cause : Cause) (at : ℕ) → error ≡ errors.Wrong cause at → (program : List Placed) × IsProgramText text program × (first_fault most_calls program ≡ Some (cause, at)))

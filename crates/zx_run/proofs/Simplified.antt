@@ -4,13 +4,13 @@ use Rattle.zx_model.specs.Proportional.{Proportional}
 use Rattle.zx_model.proofs.ProportionalLemmas.{proportional_sym, proportional_trans}
 use Rattle.zx_calculus.specs.Graph.{XY, XZ, YZ, Graph, plane_of, is_XY, Live, WellFormed}
 use Rattle.zx_calculus.specs.Sum.{sum}
-use Rattle.zx_calculus.specs.Counts.{XY_without_output}
-use Rattle.zx_calculus.specs.Reduced.{odd_phases, not_XY, IsReduced}
+use Rattle.zx_calculus.specs.Counts.{XY_without_output, odd_phases, not_XY}
+use Rattle.zx_calculus.specs.Reduced.{IsReduced}
 use Rattle.zx_calculus.proofs.ReducedLemmas.{reduced_few}
 use Rattle.zx_calculus.proofs.Splitting.{interior_of}
 use Rattle.zx_gates.specs.Circuit.{Circuit, gate_odd_phases}
 use Rattle.zx_gates.specs.Maps.{amp}
-use Rattle.zx_extract.specs.Extraction.{most_gates}
+use Rattle.zx_extract.specs.Extraction.{most_extracted_gates}
 use Rattle.zx_run.specs.Optimising.{gate_bound, bound_of}
 
 -- no vertex of a reduced graph is XZ: one that holds an end is XY, and the others are XY or YZ
@@ -21,7 +21,7 @@ no_XZ g w r v live is = elim (r.planes v live (interior_of g v w (ap is_XY is)))
 ]
 
 -- the gates of n qubits with p and q vertices, of a reduced graph, are within the bound
-pub few_enough : (n p q o t : ℕ) → p + q ≤ n + o → o ≤ t → most_gates n p q ≤ gate_bound n t
+pub few_enough : (n p q o t : ℕ) → p + q ≤ n + o → o ≤ t → most_extracted_gates n p q ≤ gate_bound n t
 few_enough n p q o t few odd =
     let square : n * (n - 1) ≤ n * n = mul-le-mul_left n (omega arith) in
     let half : n * (n - 1) / 2 ≤ n * (n - 1) = div-le_self _ _ in
@@ -62,13 +62,13 @@ module _ (read drawn made : Circuit) (start end : Graph)
       (subst (λ k. Proportional k k (amp drawn.gates) (amp made.gates)) (drawn_high ∙ end_high) cleaned)))
 
   pub few_through : WellFormed end → IsReduced end → odd_phases end ≤ gate_odd_phases read.gates
-      → length drawn.gates ≤ most_gates (length end.outputs) (XY_without_output end) (not_XY end)
+      → length drawn.gates ≤ most_extracted_gates (length end.outputs) (XY_without_output end) (not_XY end)
       → length made.gates ≤ length drawn.gates → length made.gates ≤ bound_of read
   few_through w reduced odd few shorter =
       let small : XY_without_output end + not_XY end ≤ read.qubits + odd_phases end =
       subst (λ n. XY_without_output end + not_XY end ≤ n + odd_phases end) end_wide (reduced_few end w reduced) in
       let bound = few_enough read.qubits (XY_without_output end) (not_XY end) (odd_phases end) (gate_odd_phases read.gates) small odd in
-      within _ _ _ _ shorter (subst (λ n. length drawn.gates ≤ most_gates n (XY_without_output end) (not_XY end)) end_high few) bound
+      within _ _ _ _ shorter (subst (λ n. length drawn.gates ≤ most_extracted_gates n (XY_without_output end) (not_XY end)) end_high few) bound
     where
       within : (a b c d : ℕ) → a ≤ b → b ≤ c → c ≤ d → a ≤ d
       within a b c d e f g = omega arith

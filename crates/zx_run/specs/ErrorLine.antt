@@ -1,7 +1,10 @@
 -- The line about an answer that goes to the error output.
 use Rattle.std.specs.Prelude.{ℕ, ◌++◌, List, [], codes, decimal, Option, None, Some}
 use Rattle.zx_run.specs.declared.status.Fault.{Fault}
-use Rattle.zx_run.specs.declared.status.Fault.TheVariants.{TooLong, BadByte, Syntax, Version, Include, Unsupported, Redeclared, EmptyRegister, TooManyQubits, Unknown, WrongCount, Index, Sizes, SameQubit, Divide, AngleTooLarge, NotEighthTurn, TooDeep, TooManyGates, SecondVersion, BadLine}
+use Rattle.zx_run.specs.declared.status.Fault.TheVariants.{TooLong, BadByte, Syntax, Version, Include, Unsupported}
+use Rattle.zx_run.specs.declared.status.Fault.TheVariants.{Redeclared, EmptyRegister, TooManyQubits, Unknown}
+use Rattle.zx_run.specs.declared.status.Fault.TheVariants.{WrongCount, Index, Sizes, SameQubit, Divide, AngleTooLarge}
+use Rattle.zx_run.specs.declared.status.Fault.TheVariants.{NotEighthTurn, TooDeep, TooManyGates, SecondVersion, BadLine}
 use Rattle.zx_run.specs.declared.status.Status.{Status}
 use Rattle.zx_run.specs.declared.status.Status.TheVariants.{Done, Refused, Usage, ReadFault, WriteFault, NoMemory, No}
 

@@ -10,7 +10,10 @@ use Rattle.qasm_scope.specs.declared.causes.Cause.TheVariants as cause
 use Rattle.qasm_scope.specs.Meaning.{first_fault, most_calls, Means}
 use Rattle.qasm_scope.specs.Texts.{IsProgramText}
 use Rattle.zx_run.specs.declared.status.Fault.{Fault}
-use Rattle.zx_run.specs.declared.status.Fault.TheVariants.{TooLong, BadByte, Syntax, Version, Include, Unsupported, Redeclared, EmptyRegister, TooManyQubits, Unknown, WrongCount, Index, Sizes, SameQubit, Divide, AngleTooLarge, NotEighthTurn, TooDeep, TooManyGates, SecondVersion}
+use Rattle.zx_run.specs.declared.status.Fault.TheVariants.{TooLong, BadByte, Syntax, Version, Include, Unsupported}
+use Rattle.zx_run.specs.declared.status.Fault.TheVariants.{Redeclared, EmptyRegister, TooManyQubits, Unknown}
+use Rattle.zx_run.specs.declared.status.Fault.TheVariants.{WrongCount, Index, Sizes, SameQubit, Divide, AngleTooLarge}
+use Rattle.zx_run.specs.declared.status.Fault.TheVariants.{NotEighthTurn, TooDeep, TooManyGates, SecondVersion}
 
 -- the most bytes that a text may have
 abbrev pub most_bytes : ℕ

@@ -1,4 +1,3 @@
 -- What private contracts alone cite.
-pub mod Answers
 pub mod Candidates
 pub mod Parsing

@@ -4,7 +4,8 @@ use Rattle.std.specs.List.{count_by}
 use Rattle.zx_model.specs.Proportional.{Proportional}
 use Rattle.zx_calculus.specs.Graph.{Graph}
 use Rattle.zx_calculus.specs.Steps.{Step, IsRun}
-use Rattle.zx_calculus.specs.Reduced.{odd_phases, IsReduced}
+use Rattle.zx_calculus.specs.Counts.{odd_phases}
+use Rattle.zx_calculus.specs.Reduced.{IsReduced}
 use Rattle.zx_gates.specs.declared.gate.Gate.{Gate}
 use Rattle.zx_gates.specs.declared.tally.Counts.{Counts}
 use Rattle.zx_gates.specs.Circuit.{Circuit, gate_odd_phases}
@@ -62,6 +63,19 @@ IsNoDearer a b =
     (a.odd < b.odd) ⊎ ((a.odd ≡ b.odd)
     × ((a.two_qubit < b.two_qubit) ⊎ ((a.two_qubit ≡ b.two_qubit) × (a.total ≤ b.total))))
 
--- where the read circuit is within the bound, the one that is made is no dearer
-abbrev pub IsBest : Circuit → Circuit → Type 0
-IsBest read made = length read.gates ≤ bound_of read → IsNoDearer (counts_of made.gates) (counts_of read.gates)
+-- what cleanup may make of a circuit
+pub record IsCleaned (read made : Circuit) : Type 0 where
+  pub qubits : made.qubits ≡ read.qubits
+  pub map : Proportional read.qubits read.qubits (amp read.gates) (amp made.gates)
+  pub tidy : IsTidy made.gates
+  pub total : length made.gates ≤ length read.gates
+  pub odd : gate_odd_phases made.gates ≤ gate_odd_phases read.gates
+  pub two_qubit : count_by is_two_qubit made.gates ≤ count_by is_two_qubit read.gates
+
+-- The circuit that is made is no dearer than a cleanup of the read one, where that is within the bound; nor
+-- than the read one, where that is.
+pub record IsBest (read made : Circuit) : Type 0 where
+  pub cleaned : Circuit
+  pub cleanup : IsCleaned read cleaned
+  pub no_dearer : length cleaned.gates ≤ bound_of read → IsNoDearer (counts_of made.gates) (counts_of cleaned.gates)
+  pub no_dearer_than_read : length read.gates ≤ bound_of read → IsNoDearer (counts_of made.gates) (counts_of read.gates)

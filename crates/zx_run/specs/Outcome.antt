@@ -1,5 +1,6 @@
 -- What a run may write, and what it did to the output.
-use Rattle.std.specs.Prelude.{◌≡◌, ◌≢◌, ◌≤◌, ◌⊎◌, ◌++◌, ℕ, Bool, true, false, List, [], length, take, codes, decimal, Option, Some}
+use Rattle.std.specs.Prelude.{◌≡◌, ◌≢◌, ◌≤◌, ◌⊎◌, ◌++◌, ℕ, Bool, true, false, List, [], take, codes, decimal, Option}
+use Rattle.std.specs.Prelude.{Some}
 use Rattle.zx_gates.specs.declared.elementary.ElementaryGate.{ElementaryGate}
 use Rattle.zx_gates.specs.declared.gate.Gate.{Gate}
 use Rattle.zx_gates.specs.Circuit.{Circuit, IsCircuit}
@@ -11,7 +12,7 @@ use Rattle.zx_model.specs.Proportional.{Proportional}
 use Rattle.zx_report.specs.Report.{report_lines}
 use Rattle.zx_words.specs.declared.words.Command.{Command}
 use Rattle.zx_words.specs.declared.words.Command.TheVariants.{Optimise, Generate}
-use Rattle.qasm_scope.specs.Texts.{TextMeans}
+use Rattle.qasm_scope.specs.Texts.{TextMeans, program_size}
 use Rattle.qasm_writer.specs.Elements.{elements_of}
 use Rattle.qasm_writer.specs.Written.{written}
 use Rattle.zx_run.specs.declared.status.Status.{Status}
@@ -33,7 +34,7 @@ report_if false read made = []
 -- The bytes are what `opt` may write for a text, with the flags `best` and `report` or without: the text
 -- has no fault, and they are the text of a circuit that optimises the one that is meant, lowered, and its
 -- report. That text means, with n qubits and t odd phases in the text that was read, the same linear map up
--- to a nonzero scalar, with at most t odd phases and at most 4*n*n + 6*n + 3*n*t gates, each a line.
+-- to a nonzero scalar, with at most t odd phases, and its program applies at most 4*n*n + 6*n + 3*n*t gates.
 pub record IsOptimisedText (best report : Bool) (text bytes : List ℕ) : Type 0 where
   pub qubits : ℕ
   pub read : List ElementaryGate
@@ -45,7 +46,7 @@ pub record IsOptimisedText (best report : Bool) (text bytes : List ℕ) : Type 0
   pub same_map :
       Proportional qubits qubits (amp_elementary read) (amp_elementary (elements_of circuit.gates))
   pub no_more_odd : elementary_odd_phases (elements_of circuit.gates) ≤ elementary_odd_phases read
-  pub few_gates : length circuit.gates ≤ gate_bound qubits (elementary_odd_phases read)
+  pub few_gates : program_size means.program ≤ gate_bound qubits (elementary_odd_phases read)
   -- what more is known of the circuit
   pub valid : IsCircuit circuit
   pub optimises : Optimises (circuit_on qubits (lowered read)) circuit

@@ -10,7 +10,7 @@ use arrayvec::ArrayString;
 use itoa::Buffer;
 use zx_io::{Sink, write_all};
 
-/// A line, which takes no memory of the heap.
+// A line, which takes no memory of the heap.
 type Line = ArrayString<128>;
 
 /// Writes the line of an answer, and passes the answer on, whether or not the line was taken.
@@ -27,7 +27,7 @@ pub fn report<E: Sink>(status: Status, err: &mut E) -> Status
     status
 }
 
-/// The line of an answer.
+// The line of an answer.
 fn line_of(status: Status) -> Line
     ensures { result.bytes ≡ error_line status }
 {
@@ -43,7 +43,7 @@ fn line_of(status: Status) -> Line
     }
 }
 
-/// A line of these bytes.
+// A line of these bytes.
 fn line_with(text: &str) -> Line
     requires { length text.now ≤ 128 }
     ensures { result.bytes ≡ text.now }
@@ -53,7 +53,7 @@ fn line_with(text: &str) -> Line
     line
 }
 
-/// The line of a refusal.
+// The line of a refusal.
 fn refusal_line(fault: Fault) -> Line
     ensures { result.bytes ≡ error_line (Status.Refused fault) }
 {
@@ -65,7 +65,7 @@ fn refusal_line(fault: Fault) -> Line
     line
 }
 
-/// Adds a place where there is one.
+// Adds a place where there is one.
 fn push_place(line: &mut Line, place: Option<usize>)
     requires { length line.old.bytes ≤ 64 }
     ensures text { line.new.bytes ≡ line.old.bytes ++ place_text place }
@@ -78,7 +78,7 @@ fn push_place(line: &mut Line, place: Option<usize>)
     }
 }
 
-/// A fault's number and name, and its place where it has one.
+// A fault's number and name, and its place where it has one.
 fn name_and_place(fault: Fault) -> (&'static str, Option<usize>)
     ensures text { fault_text fault ≡ result.0.now ++ place_text result.1 }
     ensures short { length result.0.now ≤ 20 }

@@ -2,7 +2,7 @@
 
 ghost use Rattle.std.specs.Prelude.{◌≡◌, ◌≤◌, IfOk};
 ghost use Rattle.zx_gates.specs.Circuit.{most_qubits};
-ghost use Rattle.zx_gen.specs.Generator.{most_gates};
+ghost use Rattle.zx_gen.specs.Generator.{most_drawn_gates};
 ghost use Rattle.zx_run.specs.Outcome.{IsGenerationReport, generation_line};
 
 use crate::optimiser::optimise;
@@ -25,7 +25,7 @@ pub fn generation_report(
 ) -> Result<Vec<u8>, AllocError>
     requires some_qubit { 1 ≤ qubits }
     requires few_qubits { qubits ≤ most_qubits }
-    requires few_gates { gates ≤ most_gates }
+    requires few_gates { gates ≤ most_drawn_gates }
     ensures { IfOk result (λ output. IsGenerationReport seed qubits gates output.items) }
 {
     let read = generate(alloc, seed, qubits, gates)?;
@@ -36,7 +36,7 @@ pub fn generation_report(
     Ok(output)
 }
 
-/// The line of the seed and the numbers of qubits and gates.
+// The line of the seed and the numbers of qubits and gates.
 fn generation_line(
     alloc: Global,
     seed: u64,

@@ -1,19 +1,30 @@
 //! The optimiser from bytes to bytes: words and an OpenQASM text in, an optimised text out.
+//!
+//! What is proved of `run` stands in docs/PROVED.md, clause by clause. Of `optimise`: it answers a
+//! tidy circuit on as many qubits, with a proportional map, no more odd phases and at most 4*n*n +
+//! 6*n + 3*n*t gates; some run of rewrites leads from the graph of the read circuit to a reduced
+//! graph with at least as many odd phases as the answer; with `best` the answer isn't worse than a
+//! read circuit within that bound.
+//!
+//! ```rust
+//! let status = run(alloc, &["opt"], &mut source, &mut out, &mut err);
+//! ```
 #![tactic(auto)]
 
 mod error_line;
 mod generation;
-pub mod laws;
+mod laws;
 mod no_output;
 mod optimiser;
 mod output;
 mod program;
 mod reader;
 mod reporting;
-pub mod status;
+mod status;
 #[cfg(test)]
 mod tests;
 
+pub use laws::{each_text_is_accepted_or_has_a_first_fault, each_text_means_one_circuit_at_most};
 pub use optimiser::optimise;
-pub use program::run;
+pub use program::{answer, run};
 pub use status::{Fault, Status};

@@ -5,8 +5,8 @@ ghost use Rattle.zx_model.specs.Proportional.{Proportional};
 ghost use Rattle.zx_gates.specs.Circuit.{gate_odd_phases};
 ghost use Rattle.zx_gates.specs.Maps.{amp};
 ghost use Rattle.zx_peephole.specs.Tidy.{IsTidy};
-ghost use Rattle.zx_run.specs.Optimising.{bound_of, counts_of, gate_bound, IsBest, IsNoDearer, IsThroughReduced, Optimises};
-ghost use Rattle.zx_run.specs.Internal.Candidates.{IsCleaned, is_dearer};
+ghost use Rattle.zx_run.specs.Optimising.{bound_of, counts_of, gate_bound, IsBest, IsCleaned, IsNoDearer, IsThroughReduced, Optimises};
+ghost use Rattle.zx_run.specs.Internal.Candidates.{is_dearer};
 
 use circuit_graph::translate;
 use std::alloc::{AllocError, Global};
@@ -20,7 +20,7 @@ use zx_reduce::{Steps, Trace, reduce};
 /// The optimised circuit: its linear map is the read one's up to a nonzero scalar, it has no more odd
 /// phases, and few gates for these and its qubits.
 ///
-/// With `best` the read circuit after cleanup is a candidate too, where that has few enough gates. The
+/// With `best` the read circuit after cleanup is a candidate too, where it then has few enough gates. The
 /// candidate with the fewest odd phases is taken, then that with the fewest gates on two qubits, then
 /// the shorter one.
 ///
@@ -40,13 +40,13 @@ pub fn optimise(alloc: Global, read: &GateList, best: bool) -> Result<GateList, 
 {
     let simplified = simplify::<Brand>(alloc, read, Blank::new(1))?;
     if best {
-        better(alloc, read, simplified)
+        better(read, simplified)
     } else {
         Ok(simplified)
     }
 }
 
-/// The circuit of the reduced graph, after cleanup. The moves are counted for nobody.
+// The circuit of the reduced graph, after cleanup. The moves are counted for nobody.
 fn simplify<L: Ledger>(alloc: Global, read: &GateList, blank: Blank) -> Result<GateList, AllocError>
     requires name { blank.name ≡ L.name }
     requires parts { blank.parts ≡ L.parts }
@@ -64,16 +64,16 @@ fn simplify<L: Ledger>(alloc: Global, read: &GateList, blank: Blank) -> Result<G
     Ok(made)
 }
 
-/// The simplified circuit, or the read one after cleanup where that is within the bound and cheaper.
-fn better(alloc: Global, read: &GateList, simplified: GateList) -> Result<GateList, AllocError>
+// The simplified circuit, or the read one after cleanup where that is within the bound and cheaper.
+fn better(read: &GateList, simplified: GateList) -> Result<GateList, AllocError>
     requires { Optimises read.now simplified }
     ensures optimises { IfOk result (Optimises read.now) }
     ensures best { IfOk result (IsBest read.now) }
 {
-    if !is_within_bound(read.qubits(), counts(read)) {
+    let cleaned = cleaned(read)?;
+    if !is_within_bound(read.qubits(), counts(read).odd, counts(&cleaned).total) {
         return Ok(simplified);
     }
-    let cleaned = cleaned(alloc, read)?;
     if is_dearer(counts(&simplified), counts(&cleaned)) {
         Ok(cleaned)
     } else {
@@ -81,16 +81,17 @@ fn better(alloc: Global, read: &GateList, simplified: GateList) -> Result<GateLi
     }
 }
 
-/// Whether so many qubits and gates are within the bound for what is written.
-fn is_within_bound(qubits: Qubit, read: Counts) -> bool
-    ensures { result ≡ nat_le read.total (gate_bound qubits read.odd) }
+// Whether so many gates are within the bound for what is written, for a read circuit of so many qubits
+// and odd phases.
+fn is_within_bound(qubits: Qubit, odd: u64, gates: u64) -> bool
+    ensures { result ≡ nat_le gates (gate_bound qubits odd) }
 {
     let n = u128::from(qubits);
-    u128::from(read.total) <= 4 * n * n + 6 * n + 3 * n * u128::from(read.odd)
+    u128::from(gates) <= 4 * n * n + 6 * n + 3 * n * u128::from(odd)
 }
 
-/// Whether one circuit has more odd phases than another, or as many and more gates on two qubits, or as
-/// many of both and more gates.
+// Whether one circuit has more odd phases than another, or as many and more gates on two qubits, or as
+// many of both and more gates.
 fn is_dearer(this: Counts, that: Counts) -> bool
     ensures { result ≡ is_dearer this that }
 {
@@ -103,22 +104,11 @@ fn is_dearer(this: Counts, that: Counts) -> bool
     this.total > that.total
 }
 
-/// The read circuit after cleanup.
-fn cleaned(alloc: Global, read: &GateList) -> Result<GateList, AllocError>
+// The read circuit after cleanup.
+fn cleaned(read: &GateList) -> Result<GateList, AllocError>
     ensures { IfOk result (IsCleaned read.now) }
 {
-    let mut made = copied(alloc, read)?;
+    let mut made = read.copy()?;
     tidy(&mut made);
-    Ok(made)
-}
-
-/// An equal circuit.
-fn copied(alloc: Global, read: &GateList) -> Result<GateList, AllocError>
-    ensures { IfOk result (λ made. made ≡ read.now) }
-{
-    let mut made = GateList::new(alloc, read.qubits());
-    for gate in read.gates() {
-        made.push(*gate)?;
-    }
     Ok(made)
 }

@@ -35,7 +35,7 @@ pub fn optimised_text(
     Ok(output)
 }
 
-/// The report of two circuits where it is asked for, and else nothing.
+// The report of two circuits where it is asked for, and else nothing.
 fn report_if(
     alloc: Global,
     reported: bool,

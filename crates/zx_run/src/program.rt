@@ -9,7 +9,7 @@ ghost use Rattle.zx_run.specs.declared.status.Fault.{Fault};
 ghost use Rattle.zx_run.specs.FirstFault.{IsFaultless, IsFirstFault};
 ghost use Rattle.zx_run.specs.Outcome.{Gains, GainsOutputFor, GainsPrefix, GainsPrefixFor, IsAnswerOfGen, IsGen, IsOpt, IsOrNoMemory, LeavesOutput, SaysEnd};
 ghost use Rattle.zx_run.specs.ErrorLine.{error_line};
-ghost use Rattle.zx_run.specs.Internal.Answers.{IsAnswer, IsFailure, IsMade, ends, told_output, told_source};
+ghost use Rattle.zx_run.specs.Answers.{IsAnswer, IsFailure, IsMade, streams, told_output, told_source};
 
 use crate::error_line::report;
 use crate::generation::generation_report;
@@ -20,7 +20,7 @@ use std::alloc::Global;
 use zx_io::{ReadError, Sink, Source, WriteFault, read_all, write_all};
 use zx_words::{Command, command_from};
 
-/// The most bytes that are read.
+// The most bytes that are read.
 const MOST_BYTES: usize = 16_777_216;
 
 /// Runs the command that the words give, those after the program's name: `opt` reads a text from
@@ -36,7 +36,7 @@ pub fn run<'a, S: Source, O: Sink, E: Sink>(
     out: &mut O,
     err: &mut E,
 ) -> Status
-    // Done: no end failed, the output was flushed, and it gained what the command may write.
+    // Done: no stream failed, the output was flushed, and it gained what the command may write.
     ensures done { result ≡ Status.Done →
         (S.faults source.new ≡ S.faults source.old) × (O.faults out.new ≡ O.faults out.old) }
     ensures done_flushed { result ≡ Status.Done → O.pending out.new ≡ 0 }
@@ -60,7 +60,7 @@ pub fn run<'a, S: Source, O: Sink, E: Sink>(
         S.left source.old ≡ Some text → ¬ Rose (S.faults source.old) (S.faults source.new) →
         IsFirstFault text fault → IsOrNoMemory (Status.Refused fault) result }
 
-    // ReadFault and WriteFault: only where that end failed in this call, and always where its count
+    // ReadFault and WriteFault: only where that stream failed in this call, and always where its count
     // tells so.
     ensures read_fault { result ≡ Status.ReadFault
         → Rose (S.faults source.old) (S.faults source.new) }
@@ -74,7 +74,7 @@ pub fn run<'a, S: Source, O: Sink, E: Sink>(
         GainsPrefixFor command (S.left source.old) (O.taken out.old) (O.taken out.new) }
     ensures never_no { IsOpt (command_in words.now) → result ≢ Status.No }
 
-    // A text without fault is optimised, unless an end fails or memory runs out.
+    // A text without fault is optimised, unless a stream fails or memory runs out.
     ensures complete { (text : List ℕ) → IsFaultless text → IsOpt (command_in words.now) →
         S.left source.old ≡ Some text → ¬ Rose (S.faults source.old) (S.faults source.new) →
         ¬ Rose (O.faults out.old) (O.faults out.new) → IsOrNoMemory Status.Done result }
@@ -97,8 +97,9 @@ pub fn run<'a, S: Source, O: Sink, E: Sink>(
     report(status, err)
 }
 
-/// The answer, without its line. The whole output is made before the first byte is written.
-fn answer<'a, S: Source, O: Sink>(
+/// The answer of `run`, without its line: what it says of the source and the output before and after. Where
+/// there is an output, all of it is made before its first byte is written.
+pub fn answer<'a, S: Source, O: Sink>(
     alloc: Global,
     words: &'a [&'a str],
     source: &mut S,
@@ -106,10 +107,9 @@ fn answer<'a, S: Source, O: Sink>(
 ) -> Status
     ensures unread { ¬ IsOpt (command_in words.now) → source.new ≡ source.old }
     ensures out_kept { LeavesOutput result → out.new ≡ out.old }
-    ensures answers { IsAnswer (command_in words.now)
-        (ends (told_source S.left S.faults source.old) (told_output O.taken O.faults O.pending out.old))
-        (ends (told_source S.left S.faults source.new) (told_output O.taken O.faults O.pending out.new))
-        result }
+    ensures answers { let s = told_source S.left S.faults in
+        let o = told_output O.taken O.faults O.pending in IsAnswer (command_in words.now)
+        (streams (s source.old) (o out.old)) (streams (s source.new) (o out.new)) result }
 {
     let output = match output_of(alloc, words, source) {
         Ok(output) => output,
@@ -121,7 +121,7 @@ fn answer<'a, S: Source, O: Sink>(
     }
 }
 
-/// What the command that the words give writes, or the answer where there is nothing to write.
+// What the command that the words give writes, or the answer where there is nothing to write.
 fn output_of<'a, S: Source>(
     alloc: Global,
     words: &'a [&'a str],
@@ -150,7 +150,7 @@ fn output_of<'a, S: Source>(
     }
 }
 
-/// What `opt` writes for the text that the source gives.
+// What `opt` writes for the text that the source gives.
 fn output_of_opt<S: Source>(
     alloc: Global,
     best: bool,

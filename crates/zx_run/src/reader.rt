@@ -8,7 +8,7 @@ ghost use Rattle.zx_run.specs.Internal.Parsing.{no_output_by};
 
 use crate::no_output::NoOutput;
 use crate::status::Fault;
-use qasm_inline::{ReadError, read};
+use qasm_inline::{TextError, read};
 use qasm_scope::Cause;
 use std::alloc::Global;
 use zx_gates::Elementary;
@@ -27,20 +27,20 @@ pub fn read_circuit(alloc: Global, text: &[u8]) -> Result<Elementary, NoOutput>
     }
 }
 
-/// Why a text has no circuit.
-fn no_output_by(error: ReadError) -> NoOutput
+// Why a text has no circuit.
+fn no_output_by(error: TextError) -> NoOutput
     ensures { result ≡ no_output_by error }
 {
     match error {
-        ReadError::BadByte { at } => NoOutput::Fault(Fault::BadByte { at }),
-        ReadError::TooDeep { at } => NoOutput::Fault(Fault::TooDeep { at }),
-        ReadError::Syntax { at } => NoOutput::Fault(Fault::Syntax { at }),
-        ReadError::Wrong { cause, at } => NoOutput::Fault(fault_of(cause, at)),
-        ReadError::NoMemory => NoOutput::NoMemory,
+        TextError::BadByte { at } => NoOutput::Fault(Fault::BadByte { at }),
+        TextError::TooDeep { at } => NoOutput::Fault(Fault::TooDeep { at }),
+        TextError::Syntax { at } => NoOutput::Fault(Fault::Syntax { at }),
+        TextError::Wrong { cause, at } => NoOutput::Fault(fault_of(cause, at)),
+        TextError::NoMemory => NoOutput::NoMemory,
     }
 }
 
-/// What is wrong with the statement at a place, as a fault.
+// What is wrong with the statement at a place, as a fault.
 fn fault_of(cause: Cause, at: usize) -> Fault
     ensures { result ≡ fault_of cause at }
 {

@@ -4,7 +4,7 @@ use std::alloc::Global;
 use std::test::Fail;
 use zx_io::{MemSink, MemSource};
 
-// Runs the words on a text, with ends in memory of which the given calls fail, 20 bytes a call.
+// Runs the words on a text, with streams in memory of which the given calls fail, 20 bytes a call.
 fn run_with(
     alloc: Global,
     words: &[&str],

@@ -1,1 +1,5 @@
+mod ClapAgrees
+mod GenAgrees
+mod Levels
+mod OptAgrees
 mod WordLemmas

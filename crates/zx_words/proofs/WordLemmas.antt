@@ -1,22 +1,20 @@
 -- Numbers as they are spelled, and what the command line says of words.
-use Rattle.std.proofs.Common.{◌≡◌, ◌<◌, ◌≤◌, ◌^◌, ℕ, suc, length, Bool, true, false, ◌&&◌, leb, if◌then◌else◌, List, []}
-use Rattle.std.proofs.Common.{◌∷◌, decimal}
+use Rattle.std.proofs.Common.{◌≡◌, ◌<◌, ◌≤◌, ◌^◌, ℕ, Bool, true, false, ◌&&◌, leb, if◌then◌else◌, List}
+use Rattle.std.proofs.Common.{decimal}
 use Rattle.std.proofs.Common.{Option, None, Some, Result, Ok, option_and_then, codes, bytes_eq, refl, sym, ap, ◌∙◌}
 use Rattle.std.proofs.Common.{arith}
-use Rattle.std.proofs.lemmas.Bool.{le-leb, leb-true, ne_eqb}
+use Rattle.std.proofs.lemmas.Bool.{le-leb, leb-true}
 use Rattle.std.proofs.lemmas.Fmt.{parse-decimal, decimal_is_IsNumeral}
 use Rattle.std.proofs.lemmas.Slice.Eq.{bytes_eq-Decides}
 use Rattle.std.specs.Str.Parse.{ParsesUnsigned, digits_value}
 use Rattle.std.specs.Option.{option_map_or}
-use Rattle.clap.specs.Words.{App, Kinds, IsAmong, Row, Text, fault_of, first_of, is_simple, is_simple_and_free}
-use Rattle.clap.specs.Words.{subcommand_of}
+use Rattle.clap.specs.Words.{App, Row, Text, first_of, is_simple, is_simple_and_free}
 use Rattle.clap.specs.Simple.{app_of_fields}
 use Rattle.clap.specs.declared.builder.command.Command.{Command}
 use Rattle.clap.specs.declared.builder.command.Command.TheOpen.{Command-F}
-use Rattle.clap.specs.Walk.{is_empty}
-use Rattle.clap.specs.declared.error.kind.ErrorKind.{ErrorKind}
 use Rattle.clap.proofs.OnLiterals.{clap_on_literals}
-use Rattle.zx_words.specs.Command.{zxopt_app, bare, number_in, number_at, has_flag, command_by, command_of}
+use Rattle.zx_words.specs.Command.{number_in}
+use Rattle.zx_words.specs.Internal.CommandLine.{zxopt_app, bare, number_at, has_flag}
 
 -- ---- numbers
 both : (a b : Bool) → (a && b) ≡ true → (a ≡ true) × (b ≡ true)
@@ -48,7 +46,7 @@ number_is most n text e =
     let le : m ≤ most = leb-true m most p.0 in
     (sym ((bytes_eq-Decides (decimal m) text).0 p.1) ∙ ap decimal t.1, omega (arith, le, t.1))
 
-no_number : (most : ℕ) (text : List ℕ) → ((n : ℕ) → n ≤ most → text ≡ decimal n → ⊥) → number_in most text ≡ None
+pub no_number : (most : ℕ) (text : List ℕ) → ((n : ℕ) → n ≤ most → text ≡ decimal n → ⊥) → number_in most text ≡ None
 unfolding number_in
 no_number most text none =
     let n : ℕ = digits_value 10 text in
@@ -104,21 +102,3 @@ simple = refl
 pub free : is_simple_and_free zxopt_app ≡ true
 unfolding zxopt_app clap_on_literals
 free = refl
-
-not_empty : (k : ErrorKind) (kinds : Kinds) → IsAmong k kinds → is_empty kinds ≡ false
-not_empty k [] among = absurd among
-not_empty k (x ∷ kinds) among = ne_eqb (suc (length kinds)) 0 (λ e. absurd (omega arith))
-
-pub refused : (k : ErrorKind) (a : App) (words : List Text) → a ≡ zxopt_app → IsAmong k (fault_of a words)
-    → None ≡ command_of words
-refused k a words is among =
-    let here : IsAmong k (fault_of zxopt_app words) = rw is at among in
-    sym (ap (λ b. if b then command_by (subcommand_of zxopt_app words) else None)
-    (not_empty k (fault_of zxopt_app words) here))
-
-pub taken : (a : App) (words : List Text) → a ≡ zxopt_app → fault_of a words ≡ []
-    → command_by (subcommand_of a words) ≡ command_of words
-taken a words is none =
-    let here : fault_of zxopt_app words ≡ [] = rw is at none in
-    ap (λ x. command_by (subcommand_of x words)) is
-    ∙ sym (ap (λ ks. if is_empty ks then command_by (subcommand_of zxopt_app words) else None) here)

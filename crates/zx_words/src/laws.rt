@@ -2,9 +2,8 @@
 
 ghost use Rattle.std.specs.Prelude.{◌≡◌, ◌<◌, ◌≤◌, ◌^◌, ℕ, [], ◌∷◌, codes, decimal};
 ghost use Rattle.std.specs.Prelude.{Some, None, true, false};
-ghost use Rattle.clap.specs.Words.{Text};
 ghost use Rattle.zx_words.specs.declared.words.Command.TheVariants.{Optimise, Generate};
-ghost use Rattle.zx_words.specs.Command.{command_of, number_in};
+ghost use Rattle.zx_words.specs.Command.{Text, command_of, number_in};
 
 /// What some words give.
 pub fn worked_words()
@@ -18,6 +17,7 @@ pub fn worked_words()
     ensures help { command_of (codes "--help" ∷ []) ≡ None }
     ensures separator { command_of (codes "opt" ∷ codes "--best" ∷ codes "--" ∷ [])
         ≡ Some (Optimise true false) }
+    ensures behind { command_of (codes "opt" ∷ codes "--" ∷ codes "--best" ∷ []) ≡ None }
     ensures help_of_opt { command_of (codes "opt" ∷ codes "--help" ∷ []) ≡ None }
 {}
 
@@ -35,6 +35,10 @@ pub fn worked_numbers()
         ≡ None }
     ensures zero { command_of (codes "gen" ∷ codes "01" ∷ codes "1" ∷ codes "5" ∷ []) ≡ None }
     ensures sign { command_of (codes "gen" ∷ codes "+1" ∷ codes "1" ∷ codes "5" ∷ []) ≡ None }
+    ensures separator { command_of (codes "gen" ∷ codes "7" ∷ codes "--" ∷ codes "1" ∷ codes "0"
+        ∷ []) ≡ Some (Generate 7 1 0) }
+    ensures separators { command_of (codes "gen" ∷ codes "--" ∷ codes "7" ∷ codes "1"
+        ∷ codes "--" ∷ []) ≡ None }
     ensures too_few { command_of (codes "gen" ∷ codes "7" ∷ codes "1" ∷ []) ≡ None }
     ensures too_many { command_of (codes "gen" ∷ codes "7" ∷ codes "1" ∷ codes "0" ∷ codes "0" ∷ [])
         ≡ None }

@@ -1,4 +1,12 @@
 //! The words of the command line.
+//!
+//! Proved of `command_from`: it gives the command that the definition makes of the words, or that
+//! they are none; only want of memory is an error.
+//!
+//! ```rust
+//! let command = command_from(alloc, &["opt", "--best"])?;
+//! // Some(Command::Optimise { best: true, report: false })
+//! ```
 #![tactic(auto)]
 
 pub mod laws;

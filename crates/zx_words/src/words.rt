@@ -4,9 +4,10 @@ ghost use Rattle.std.specs.Prelude.{◌≡◌, ◌≤◌, IfOk, IfSome, false};
 ghost use Rattle.clap.specs.Words.{app_of, found_of, rule_of, rows_of};
 ghost use Rattle.clap.specs.Words.{subcommand_rows_of};
 ghost use Rattle.clap.specs.declared.builder.command.Command.TheViews.{out-Command};
-ghost use Rattle.zx_words.specs.Command.{IsWithinLimits, command_in, command_by, generation_by};
-ghost use Rattle.zx_words.specs.Command.{flag_rule, word_rule, opt_app, gen_app, zxopt_app, has_flag};
-ghost use Rattle.zx_words.specs.Command.{number_at, number_in};
+ghost use Rattle.zx_words.specs.Command.{IsWithinLimits, command_in, number_in};
+ghost use Rattle.zx_words.specs.Internal.CommandLine.{flag_rule, word_rule, opt_app, gen_app};
+ghost use Rattle.zx_words.specs.Internal.CommandLine.{zxopt_app, command_by, generation_by};
+ghost use Rattle.zx_words.specs.Internal.CommandLine.{has_flag, number_at};
 
 use clap::error::ErrorKind;
 use clap::{Arg, ArgAction, ArgMatches};

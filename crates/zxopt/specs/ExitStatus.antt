@@ -6,13 +6,13 @@ use Rattle.zxopt.specs.declared.ending.NoRun.{NoRun}
 use Rattle.zxopt.specs.declared.ending.NoRun.TheVariants as none
 
 -- of an answer, or where nothing was run: without memory for the words, or where the system doesn't give them
-abbrev pub exit_status_of : Result Status NoRun → ℕ
-exit_status_of (Ok Done) = 0
-exit_status_of (Ok (Refused fault)) = 1
-exit_status_of (Ok Usage) = 2
-exit_status_of (Ok ReadFault) = 3
-exit_status_of (Ok WriteFault) = 4
-exit_status_of (Ok NoMemory) = 5
-exit_status_of (Ok No) = 6
-exit_status_of (Err none.NoMemory) = 5
-exit_status_of (Err none.NoWords) = 7
+abbrev pub exit_status : Result Status NoRun → ℕ
+exit_status (Ok Done) = 0
+exit_status (Ok (Refused fault)) = 1
+exit_status (Ok Usage) = 2
+exit_status (Ok ReadFault) = 3
+exit_status (Ok WriteFault) = 4
+exit_status (Ok NoMemory) = 5
+exit_status (Ok No) = 6
+exit_status (Err none.NoMemory) = 5
+exit_status (Err none.NoWords) = 7

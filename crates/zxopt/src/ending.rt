@@ -1,7 +1,7 @@
 //! How the program ends, and the exit status that tells it.
 
 ghost use Rattle.std.specs.Prelude.{◌≡◌};
-ghost use Rattle.zxopt.specs.ExitStatus.{exit_status_of};
+ghost use Rattle.zxopt.specs.ExitStatus.{exit_status};
 ghost use Rattle.zxopt.specs.declared.ending.NoRun.TheVariants.{NoMemory};
 
 use std::alloc::AllocError;
@@ -37,7 +37,7 @@ impl From<AllocError> for NoRun {
 
 /// The exit status: that of the answer, or of the reason why nothing was run.
 pub fn exit_status(ended: Result<Status, NoRun>) -> u8
-    ensures { result ≡ exit_status_of ended }
+    ensures { result ≡ exit_status ended }
 {
     match ended {
         Ok(Status::Done) => 0,

@@ -16,7 +16,7 @@ fn main(rt: HostRuntime) -> ExitCode {
     ExitCode::from(exit_status(run_on_streams(&rt)))
 }
 
-/// Runs the words after the program's name over the standard streams.
+// Runs the words after the program's name over the standard streams.
 fn run_on_streams(rt: &HostRuntime) -> Result<Status, NoRun> {
     let words: Vec<String> = env::args(rt)?.skip(1).collect(rt.alloc())?;
     let texts = texts_of(rt.alloc(), &words)?;
@@ -26,7 +26,7 @@ fn run_on_streams(rt: &HostRuntime) -> Result<Status, NoRun> {
     Ok(run(rt.alloc(), &texts, &mut source, &mut out, &mut err))
 }
 
-/// The texts of the words, each whole.
+// The texts of the words, each whole.
 fn texts_of(alloc: Global, words: &[String]) -> Result<Vec<&str>, AllocError>
     ensures { IfOk result (λ texts. map (λ text. text.now) texts.items
         ≡ map string_bytes words.now) }

@@ -3,20 +3,20 @@ use Rattle.std.specs.Prelude.{◌≡◌, ℕ, ◌+◌, ◌≤◌, Bool, true, Li
 use Rattle.std.specs.List.{count_by}
 use Rattle.zx_model.specs.Number.{one, mul}
 use Rattle.zx_calculus.specs.Sum.{sum}
-use Rattle.zx_calculus.specs.Graph.{XY, Graph, ids, kind_of, plane_of, places, WellFormed}
+use Rattle.zx_calculus.specs.Graph.{XY, Graph, ids, kind_of, plane_of, end_vertices, WellFormed}
 use Rattle.zx_calculus.specs.Turns.{in_plane}
 use Rattle.zx_model.specs.Bits.{member}
-use Rattle.zx_calculus.specs.Reduced.{odd_phases}
+use Rattle.zx_calculus.specs.Counts.{odd_phases}
 use Rattle.zx_gates.specs.Circuit.{Circuit, gate_odd_phases}
 use Rattle.zx_gates.specs.Maps.{amp}
 use Rattle.zx_gates.specs.Counting.{is_h}
 use Rattle.zx_gates.specs.declared.gate.Gate.{Gate}
 use Rattle.zx_gates.specs.declared.gate.Gate.TheVariants.{H, Phase, Cz}
 use Rattle.gflow_laws.specs.Flow.{Correction, IsFlow, SameSets}
-use Rattle.gflow_laws.specs.Tables.{split_output_table}
+use Rattle.gflow_laws.specs.Splits.{split_output_table}
 use Rattle.circuit_laws.specs.Followed.{PeelsAt}
-use Rattle.circuit_laws.specs.Peeling.{IsSpiderPeel, IsPhasePeel, IsEdgePeel}
-use Rattle.circuit_graph.specs.Translation.{are_plain, wires, spiders_of, scalar_of, IsTranslation}
+use Rattle.circuit_laws.specs.Peeling.{IsSpiderPeel, IsPhasePeel, IsEdgePeel, are_plain}
+use Rattle.circuit_graph.specs.Translation.{wires, spiders_of, scalar_of, IsTranslation}
 
 pub record State : Type 0 where
   pub graph : Graph
@@ -65,12 +65,12 @@ pub record Comes (s : State) (gates : List Gate) (t : State) : Type 0 where
 
 -- wires alone, so many of them
 pub record IsBegun (n : ℕ) (g : Graph) : Type 0 where
-  pub graph : g ≡ wires (places g.inputs)
+  pub graph : g ≡ wires (end_vertices g.inputs)
   pub count : length g.inputs ≡ n
   pub spiders : length g.vertices ≡ n
   pub ends : g.outputs ≡ g.inputs
   pub plain : are_plain g.inputs ≡ true
-  pub places : (u : ℕ) → member u (ids g.vertices) ≡ member u (places g.inputs)
+  pub end_vertices : (u : ℕ) → member u (ids g.vertices) ≡ member u (end_vertices g.inputs)
   pub kinds : (u : ℕ) → kind_of g.vertices u ≡ in_plane XY 0
   pub edges : g.edges ≡ []
   pub odd : odd_phases g ≡ 0
@@ -87,4 +87,5 @@ pub record Translates (c : Circuit) (t : State) : Type 0 where
   pub outputs : length t.graph.outputs ≡ c.qubits
   pub plain_inputs : are_plain t.graph.inputs ≡ true
   pub plain_outputs : are_plain t.graph.outputs ≡ true
-  pub sum : (x y : List Bool) → length x ≡ c.qubits → length y ≡ c.qubits → sum t.graph x y ≡ mul (scalar_of c.gates) (amp c.gates x y)
+  pub sum : (x y : List Bool) → length x ≡ c.qubits → length y ≡ c.qubits →
+      sum t.graph x y ≡ mul (scalar_of c.gates) (amp c.gates x y)

@@ -27,4 +27,6 @@ without_neighbour v t = record t { row = removed v t.row }
 
 -- v is gone, and so is its mention in the rows of these vertices
 abbrev pub RemovedFrom : List (Option Slot) → List (Option Slot) → ℕ → List ℕ → Type 0
-RemovedFrom old new v rows = (p : ℕ) → told new p ≡ (if p == v then nothing else if member p rows then without_neighbour v (told old p) else told old p)
+RemovedFrom old new v rows =
+    (p : ℕ) → told new p ≡ (if p == v then nothing else if member p rows then without_neighbour v (told old p)
+    else told old p)

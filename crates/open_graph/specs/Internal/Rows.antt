@@ -1,5 +1,6 @@
 -- Lists of ids in rising order.
-use Rattle.std.specs.Prelude.{◌≡◌, ◌<◌, ◌≤◌, ℕ, true, false, if◌then◌else◌, ltb, List, [], ◌∷◌, insert, remove, length, Result, Ok, Err}
+use Rattle.std.specs.Prelude.{◌≡◌, ◌<◌, ◌≤◌, ℕ, true, false, if◌then◌else◌, ltb, List, [], ◌∷◌, insert, remove, length}
+use Rattle.std.specs.Prelude.{Result, Ok, Err}
 use Rattle.zx_model.specs.Bits.{member}
 use Rattle.zx_calculus.proofs.Ids.{removed}
 

@@ -1,10 +1,11 @@
 -- The lists of a graph that is kept as slots.
-use Rattle.std.specs.Prelude.{◌≡◌, ℕ, suc, Bool, true, false, if◌then◌else◌, ◌==◌, List, [], ◌∷◌, Option, Some, None, slice_index_or}
+use Rattle.std.specs.Prelude.{◌≡◌, ℕ, suc, Bool, true, false, if◌then◌else◌, ◌==◌, List, [], ◌∷◌, Option, Some, None}
+use Rattle.std.specs.Prelude.{slice_index_or}
 use Rattle.zx_model.specs.Bits.{member}
 use Rattle.zx_calculus.specs.Graph.{XY, Kind, Vertex, End, Graph, ids, kind_of, WellFormed}
 use Rattle.zx_calculus.specs.Graph as graph
 use Rattle.zx_calculus.specs.Turns.{in_plane}
-use Rattle.zx_calculus.specs.After.{edges_of}
+use Rattle.zx_calculus.specs.Adjacency.{edges_of}
 use Rattle.open_graph.specs.Planes.{plane_named}
 use Rattle.open_graph.specs.declared.slot.Slot.{Slot}
 
@@ -44,7 +45,12 @@ vertices_of slots = vertices_from 0 slots
 
 abbrev pub graph_of : List (Option Slot) → List End → List End → Graph
 graph_of slots inputs outputs =
-    record { vertices = vertices_of slots; edges = edges_of (adjacent slots) (ids (vertices_of slots)); inputs = inputs; outputs = outputs }
+    record {
+      vertices = vertices_of slots;
+      edges = edges_of (adjacent slots) (ids (vertices_of slots));
+      inputs = inputs;
+      outputs = outputs;
+    }
 
 -- one more, where there is a place
 abbrev pub next_place : Option ℕ → Option ℕ

@@ -4,12 +4,14 @@ use Rattle.std.specs.Coded.{Coded, code_by, coded×, coded⊎, coded_ℕ, coded_
 use mathlib.Core.Logic.{inl, inr}
 use Rattle.qasm_angle.specs.Ratio.{Ratio}
 use Rattle.qasm_angle.specs.Trees.{Tree, postfix, tree_of, tree_of-postfix}
-use Rattle.qasm_angle.specs.declared.expression.Operator.TheVariants.{Add, Subtract, Multiply, Divide}
+use Rattle.qasm_angle.specs.declared.expression.Operation.TheVariants.{Add, Subtract, Multiply, Divide}
 use Rattle.qasm_angle.specs.declared.expression.ExprItem.{ExprItem}
 use Rattle.qasm_angle.specs.declared.expression.ExprItem.TheVariants.{Number, Pi, Parameter, Negate, Binary}
 
 abbrev pub ratio_code : Coded Ratio
-ratio_code = code_by (ℤ × ℕ) (coded× coded_ℤ coded_ℕ) (λ r. (r.numerator, r.denominator)) (λ p. record { numerator = p.0; denominator = p.1 }) (λ _. refl)
+ratio_code =
+    code_by (ℤ × ℕ) (coded× coded_ℤ coded_ℕ) (λ r. (r.numerator, r.denominator))
+    (λ p. record { numerator = p.0; denominator = p.1 }) (λ _. refl)
 
 abbrev from_step : ExprItem → Option Ratio ⊎ ℕ
 from_step (Number value) = inl value

@@ -20,13 +20,15 @@ use Rattle.qasm_scope.specs.Scope.{Scope, qubit_count}
 -- the circuit of a program, or its first fault
 abbrev pub IsCircuitAnswer : List Placed → Result Elementary InlineError → Type 0
 IsCircuitAnswer program (Ok circuit) =
-    (first_fault most_calls program ≡ None) × (circuit.qubits ≡ qubit_count (scope_after [] program)) × (circuit.gates ≡ gates_after [] program)
+    (first_fault most_calls program ≡ None) × (circuit.qubits ≡ qubit_count (scope_after [] program))
+    × (circuit.gates ≡ gates_after [] program)
 IsCircuitAnswer program (Err (Fault cause at)) = first_fault most_calls program ≡ Some (cause, at)
 IsCircuitAnswer program (Err NoMemory) = Unit {0}
 
 -- Behind these statements, any others mean what they do from this scope, so many calls and these gates on.
 pub record LeadsTo (program : List Placed) (scope : Scope) (calls : ℕ) (gates : List ElementaryGate) : Type 0 where
-  pub same_fault : (more : List Placed) → first_fault most_calls (program ++ more) ≡ fault_after most_calls scope calls more
+  pub same_fault : (more : List Placed) → first_fault most_calls (program ++ more) ≡
+      fault_after most_calls scope calls more
   pub same_scope : (more : List Placed) → scope_after [] (program ++ more) ≡ scope_after scope more
   pub same_gates : (more : List Placed) → gates_after [] (program ++ more) ≡ gates ++ gates_after scope more
 
@@ -59,10 +61,11 @@ HasTaken circuit program = HasTakenAt circuit.stage program circuit.names circui
 abbrev pub gate_at : ℕ → GateForm → Placed
 gate_at place form = record { place = place; sentence = DeclareGate form }
 
--- Behind these statements a gate of this form so far is begun at this place. Where nothing is kept of it, the circuit is that
--- of whatever its form may be.
+-- Behind these statements a gate of this form so far is begun at this place. Where nothing is kept of it, the circuit
+-- is that of whatever its form may be.
 abbrev pub HasBegunAs : Option GateInProgress → Circuit → List Placed → ℕ → GateForm → Type 0
-HasBegunAs (Some gate) circuit program place form = IsOpen program circuit.names circuit.unrolled × IsBegun circuit.names gate form
+HasBegunAs (Some gate) circuit program place form =
+    IsOpen program circuit.names circuit.unrolled × IsBegun circuit.names gate form
 HasBegunAs None circuit program place form = (any : GateForm) → HasTaken circuit (program ++ gate_at place any ∷ [])
 
 -- the circuit has taken in these statements, and of a gate behind them the heading and what its body has so far

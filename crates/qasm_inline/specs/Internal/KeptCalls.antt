@@ -1,5 +1,6 @@
 -- What calls of kept gates come to: a private matter of the program. It is what calls by name come to.
-use Rattle.std.specs.Prelude.{◌≡◌, ℕ, ◌+◌, ◌≤◌, ◌==◌, Bool, false, if◌then◌else◌, List, [], ◌∷◌, ◌++◌, length, map, reverse, take, drop, Option, None, Some, Result, Ok, Err, slice_get, slice_index_or}
+use Rattle.std.specs.Prelude.{◌≡◌, ℕ, ◌+◌, ◌≤◌, ◌==◌, Bool, false, if◌then◌else◌, List, [], ◌∷◌, ◌++◌, length, map}
+use Rattle.std.specs.Prelude.{reverse, take, drop, Option, None, Some, Result, Ok, Err, slice_get, slice_index_or}
 use Rattle.zx_gates.specs.declared.elementary.ElementaryGate.{ElementaryGate}
 use Rattle.qasm_angle.specs.declared.angle.Angle.{Angle}
 use Rattle.qasm_angle.specs.Trees.{Tree}
@@ -16,7 +17,8 @@ use Rattle.qasm_scope.specs.Meaning.{most_calls}
 use Rattle.qasm_scope.specs.Angles.{in_prefix, with_cause}
 use Rattle.qasm_scope.specs.Internal.Kept.{gate_count}
 use Rattle.qasm_scope.specs.Scope.{Scope, Meaning, Qubits, Bits, Gate}
-use Rattle.qasm_scope.specs.Calls.{Event, Called, Applied, expand_meaning, expand_declared, u_events, cx_events, after_angles, applied, call_count, first_wrong}
+use Rattle.qasm_scope.specs.Calls.{Event, Called, Applied, expand_meaning, expand_declared, u_events, cx_events}
+use Rattle.qasm_scope.specs.Calls.{after_angles, applied, call_count, first_wrong}
 
 -- the values of expressions in numbered parameters
 abbrev pub values_of : List Tree → List Angle → Result (List Angle) Cause
@@ -57,7 +59,8 @@ calls_of (Some gate) = gate.calls.items
 -- each gate is its body
 pub record Unrolls (gates : List GateBody) (numbered : Numbered) : Type 0 where
   pub each : (number depth : ℕ) (angles : List Angle) (qubits : List ℕ)
-      → numbered number depth angles qubits ≡ calls_events numbered depth angles qubits (calls_of (slice_get gates number))
+      → numbered number depth angles qubits ≡ calls_events numbered depth angles qubits
+      (calls_of (slice_get gates number))
 
 -- the calls of a gate on the stack that are left
 abbrev pub calls_left : List GateBody → Frame → List GateCall

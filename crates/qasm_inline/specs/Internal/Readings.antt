@@ -16,12 +16,12 @@ use Rattle.qasm_scope.specs.Texts.{IsProgramText}
 use Rattle.qasm_inline.specs.declared.circuit.Circuit.{Circuit}
 use Rattle.qasm_inline.specs.declared.circuit.OpenGate.{OpenGate}
 use Rattle.qasm_inline.specs.declared.reading.Reading.{Reading}
-use Rattle.qasm_inline.specs.declared.error.ReadError.{ReadError}
-use Rattle.qasm_inline.specs.declared.error.ReadError.TheVariants.{BadByte, TooDeep, Syntax, Wrong, NoMemory}
+use Rattle.qasm_inline.specs.declared.error.TextError.{TextError}
+use Rattle.qasm_inline.specs.declared.error.TextError.TheVariants.{BadByte, TooDeep, Syntax, Wrong, NoMemory}
 use Rattle.qasm_inline.specs.Internal.Circuits.{HasBegun, HasTaken, IsCircuitAnswer}
 
--- Of the tokens behind whole statements those before the rest were taken in: none, or in a gate's declaration that isn't over
--- those of its heading and of its body so far.
+-- Of the tokens behind whole statements those before the rest were taken in: none, or in a gate's declaration that
+-- isn't over those of its heading and of its body so far.
 abbrev pub AreTakenAs : Option OpenGate → Circuit → List Placed → List Lexeme → List Lexeme → Type 0
 AreTakenAs None circuit statements behind rest = (behind ≡ rest) × HasTaken circuit statements
 AreTakenAs (Some gate) circuit statements behind rest =
@@ -47,7 +47,8 @@ inside reading gate = record reading { gate = Some gate }
 
 -- this is next in whatever gate's body the tokens are, whose declaration begins at this place
 abbrev pub IsNextOf : ℕ → List Lexeme → Option (BodyPart × Bor (List Token)) → Type 0
-IsNextOf place ts read = (form : GateForm) (behind : List Lexeme) → IsInBody place form behind ts → IsNextInBody place form behind read
+IsNextOf place ts read =
+    (form : GateForm) (behind : List Lexeme) → IsInBody place form behind ts → IsNextInBody place form behind read
 
 -- the later reading has taken in what stands between these tokens and the rest
 abbrev pub TakesIn : Reading → List Lexeme → Reading → List Lexeme → Type 0
@@ -64,14 +65,15 @@ IsEnd all circuit (Some at) = IsSyntaxFault all at
 IsEnd all circuit None = (statements : List Placed) × IsProgram all statements × HasTaken circuit statements
 
 -- the text is cut up to the place, and all parts are taken in up to these tokens
-pub record IsReadUpTo (text : List ℕ) (place : ℕ) (depth : Depth) (tokens : List Token) (reading : Reading) : Type 0 where
+pub record IsReadUpTo (text : List ℕ) (place : ℕ) (depth : Depth) (tokens : List Token)
+    (reading : Reading) : Type 0 where
   pub all : List Lexeme
   pub cut : IsCutUpTo 0 text (drop place text) all
   pub deep : IsDepth depth all
   pub read : AreAllTaken all reading (lexemes tokens)
 
 -- the circuit of a program, or its first fault
-abbrev pub IsProgramAnswer : List Placed → Result Elementary ReadError → Type 0
+abbrev pub IsProgramAnswer : List Placed → Result Elementary TextError → Type 0
 IsProgramAnswer program (Ok circuit) = IsCircuitAnswer program (Ok circuit)
 IsProgramAnswer program (Err (Wrong cause at)) = first_fault most_calls program ≡ Some (cause, at)
 IsProgramAnswer program (Err NoMemory) = Unit {0}
@@ -80,10 +82,13 @@ IsProgramAnswer program (Err (TooDeep at)) = ⊥
 IsProgramAnswer program (Err (Syntax at)) = ⊥
 
 -- the circuit of a text, or its first fault
-abbrev pub IsTextAnswer : List ℕ → Result Elementary ReadError → Type 0
-IsTextAnswer text (Ok circuit) = (program : List Placed) × IsProgramText text program × IsCircuitAnswer program (Ok circuit)
-IsTextAnswer text (Err (Wrong cause at)) = (program : List Placed) × IsProgramText text program × (first_fault most_calls program ≡ Some (cause, at))
-IsTextAnswer text (Err (Syntax at)) = (tokens : List Lexeme) × IsCut 0 text tokens × (too_deep tokens ≡ None) × IsSyntaxFault tokens at
+abbrev pub IsTextAnswer : List ℕ → Result Elementary TextError → Type 0
+IsTextAnswer text (Ok circuit) =
+    (program : List Placed) × IsProgramText text program × IsCircuitAnswer program (Ok circuit)
+IsTextAnswer text (Err (Wrong cause at)) =
+    (program : List Placed) × IsProgramText text program × (first_fault most_calls program ≡ Some (cause, at))
+IsTextAnswer text (Err (Syntax at)) =
+    (tokens : List Lexeme) × IsCut 0 text tokens × (too_deep tokens ≡ None) × IsSyntaxFault tokens at
 IsTextAnswer text (Err (TooDeep at)) = (tokens : List Lexeme) × IsCut 0 text tokens × (too_deep tokens ≡ Some at)
 IsTextAnswer text (Err (BadByte at)) = IsBadByte text at
 IsTextAnswer text (Err NoMemory) = Unit {0}

@@ -1,5 +1,6 @@
 -- Arguments of applications by what names are kept as: a private matter of the program.
-use Rattle.std.specs.Prelude.{ℕ, ◌+◌, ◌-◌, ◌^◌, ◌==◌, Bool, false, not, ◌&&◌, ◌||◌, if◌then◌else◌, ◌≡◌, List, [], ◌∷◌, map, length, min, Option, None, Some, Result, nat_le, nat_lt}
+use Rattle.std.specs.Prelude.{ℕ, ◌+◌, ◌-◌, ◌^◌, ◌==◌, Bool, false, not, ◌&&◌, ◌||◌, if◌then◌else◌, ◌≡◌, List, [], ◌∷◌}
+use Rattle.std.specs.Prelude.{map, length, min, Option, None, Some, Result, nat_le, nat_lt}
 use Rattle.std.specs.List.{flat_map, list_any, range_with_len}
 use Rattle.std.specs.Option.{is_some}
 use Rattle.qasm_reader.specs.Syntax.{Operand, Apply}
@@ -87,7 +88,8 @@ instance_events called angles spans index numbered =
 
 -- what the calls of a gate in all instances come to
 abbrev pub instances_events : Numbered → CalledGate → Result (List Angle) Cause → List QubitRange → List Event
-instances_events numbered called values ranges = flat_map (called_events numbered called 1 values) (cut_instances ranges)
+instances_events numbered called values ranges =
+    flat_map (called_events numbered called 1 values) (cut_instances ranges)
 
 -- the argument is one, and this is what it stands for
 pub record IsSpan (symbols : Symbols) (operand : Operand) (range : QubitRange) : Type 0 where
@@ -102,18 +104,20 @@ pub record AreSpans (symbols : Symbols) (operands : List Operand) (ranges : List
   pub same : ranges ≡ map (span_by symbols) operands
 
 -- a name in an application isn't known, or isn't what is needed there
-abbrev pub unknown_by : Symbols → Apply → Bool
-unknown_by symbols a =
-    is_no_gate (shape_by symbols a.gate) || list_any (has_other_name []) a.angles || list_any (no_register_by symbols) a.qubits
+abbrev pub is_unknown : Symbols → Apply → Bool
+is_unknown symbols a =
+    is_no_gate (shape_by symbols a.gate) || list_any (has_other_name []) a.angles
+    || list_any (no_register_by symbols) a.qubits
 
-abbrev pub wrong_count_by : Symbols → Apply → Bool
-wrong_count_by symbols a = has_other_shape (shape_by symbols a.gate) (length a.angles) (length a.qubits)
+abbrev pub is_wrong_count : Symbols → Apply → Bool
+is_wrong_count symbols a = has_other_shape (shape_by symbols a.gate) (length a.angles) (length a.qubits)
 
 -- an application is that of this gate with these angles to these qubits, its sizes and repeated qubits aside
-pub record IsResolved (symbols : Symbols) (a : Apply) (gate : CalledGate) (angles : List Tree) (ranges : List QubitRange) : Type 0 where
+pub record IsResolved (symbols : Symbols) (a : Apply) (gate : CalledGate) (angles : List Tree)
+    (ranges : List QubitRange) : Type 0 where
   pub supported : list_any is_unsupported a.angles ≡ false
-  pub all_known : unknown_by symbols a ≡ false
-  pub same_counts : wrong_count_by symbols a ≡ false
+  pub all_known : is_unknown symbols a ≡ false
+  pub same_counts : is_wrong_count symbols a ≡ false
   pub within : list_any (past_by symbols) a.qubits ≡ false
   pub same_gate : gate ≡ called_by symbols a.gate
   pub same_angles : angles ≡ map (numbered []) a.angles
@@ -122,7 +126,8 @@ pub record IsResolved (symbols : Symbols) (a : Apply) (gate : CalledGate) (angle
 -- something in it isn't known, isn't supported, or isn't there
 abbrev pub is_unresolved : Symbols → Apply → Bool
 is_unresolved symbols a =
-    list_any is_unsupported a.angles || unknown_by symbols a || wrong_count_by symbols a || list_any (past_by symbols) a.qubits
+    list_any is_unsupported a.angles || is_unknown symbols a || is_wrong_count symbols a
+    || list_any (past_by symbols) a.qubits
 
 -- the first cause of one that isn't resolved
 abbrev pub unresolved_cause : Bool → Bool → Bool → Cause

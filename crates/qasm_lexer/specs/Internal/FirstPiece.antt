@@ -1,12 +1,14 @@
 -- What stands first in a text, found from its first bytes: what the private functions find. The contract of
 -- `lex` cites none of it.
-use Rattle.std.specs.Prelude.{ℕ, ◌+◌, Bool, not, ◌&&◌, ◌||◌, ◌==◌, List, [], ◌∷◌, length, take, drop, Option, None, Some, if◌then◌else◌}
+use Rattle.std.specs.Prelude.{ℕ, ◌+◌, Bool, not, ◌&&◌, ◌||◌, ◌==◌, List, [], ◌∷◌, length, take, drop, Option, None}
+use Rattle.std.specs.Prelude.{Some, if◌then◌else◌}
 use Rattle.std.specs.List.{prefix_len}
 use Rattle.qasm_lexer.specs.declared.first_piece.Sort.{Sort}
 use Rattle.qasm_lexer.specs.declared.first_piece.Sort.TheVariants.{Blank, Digits, Token}
 use Rattle.qasm_lexer.specs.declared.token.TokenKind.{TokenKind}
 use Rattle.qasm_lexer.specs.declared.token.TokenKind.TheVariants.{Real, Text, Natural}
-use Rattle.qasm_lexer.specs.Forms.{is_digit, is_letter, is_word_byte, is_space, is_no_feed, begins, is_mark, is_sign_byte}
+use Rattle.qasm_lexer.specs.Forms.{is_digit, is_letter, is_word_byte, is_space, is_no_feed, begins, is_mark}
+use Rattle.qasm_lexer.specs.Forms.{is_sign_byte}
 use Rattle.qasm_lexer.specs.Tokens.{Lexeme, signs, kind_in, word_kind}
 
 -- the kind of token that so many bytes are
@@ -28,7 +30,8 @@ with_mark sign digits = if digits == 0 then 0 else 1 + sign + digits
 -- the length of an exponent at the start, or 0
 abbrev pub exponent_len : List ℕ → ℕ
 exponent_len [] = 0
-exponent_len (b ∷ rest) = if is_mark b then with_mark (sign_len rest) (prefix_len is_digit (drop (sign_len rest) rest)) else 0
+exponent_len (b ∷ rest) =
+    if is_mark b then with_mark (sign_len rest) (prefix_len is_digit (drop (sign_len rest) rest)) else 0
 
 -- the length of what belongs to a real after its point
 abbrev pub fraction_len : List ℕ → ℕ

@@ -1,5 +1,6 @@
 -- The reading of an expression token by token: what is put out so far in postfix order, and what waits.
-use Rattle.std.specs.Prelude.{ℕ, List, [], ◌∷◌, ◌++◌, Bool, true, false, Option, None, Some, nat_le, if◌then◌else◌, map, reverse}
+use Rattle.std.specs.Prelude.{ℕ, List, [], ◌∷◌, ◌++◌, Bool, true, false, Option, None, Some, nat_le, if◌then◌else◌, map}
+use Rattle.std.specs.Prelude.{reverse}
 use Rattle.qasm_lexer.specs.declared.token.TokenKind.{TokenKind}
 use Rattle.qasm_lexer.specs.declared.token.TokenKind.TheVariants as kind
 use Rattle.qasm_lexer.specs.Tokens.{Lexeme}
@@ -14,7 +15,8 @@ use Rattle.qasm_reader.specs.declared.machine.Pending.TheVariants as pending
 use Rattle.qasm_reader.specs.declared.machine.Machine.{Machine}
 use Rattle.qasm_reader.specs.Syntax.{Formula}
 use Rattle.qasm_reader.specs.Items.{entry}
-use Rattle.qasm_reader.specs.Postfix.{Entry, NumberEntry, PiEntry, NameEntry, NegateEntry, BinaryEntry, CallEntry, formula_of}
+use Rattle.qasm_reader.specs.Postfix.{Entry, NumberEntry, PiEntry, NameEntry, NegateEntry, BinaryEntry, CallEntry}
+use Rattle.qasm_reader.specs.Postfix.{formula_of}
 
 pub record State : Type 0 where
   pub awaited : Awaited
@@ -115,7 +117,8 @@ on_prefix (Some p) k s = (true, record s { pending = p ∷ s.pending })
 
 abbrev pub on_operand : Option Entry → TokenKind → State → Move
 on_operand None k s = on_prefix (prefix_of k) k s
-on_operand (Some e) k s = (true, record { awaited = awaited.Operator; output = s.output ++ e ∷ []; pending = s.pending })
+on_operand (Some e) k s =
+    (true, record { awaited = awaited.Operator; output = s.output ++ e ∷ []; pending = s.pending })
 
 -- after the name of a function
 abbrev pub on_left : Bool → Function → State → Move
@@ -126,7 +129,8 @@ on_left true f s = (true, record { awaited = awaited.Operand; output = s.output;
 abbrev pub closed : List Entry × List Pending → Move
 closed (output, []) = (false, record { awaited = awaited.Operator; output = output; pending = [] })
 closed (output, pending.Parenthesis ∷ ps) = (true, record { awaited = awaited.Operator; output = output; pending = ps })
-closed (output, pending.Call f ∷ ps) = (true, record { awaited = awaited.Operator; output = output ++ CallEntry f ∷ []; pending = ps })
+closed (output, pending.Call f ∷ ps) =
+    (true, record { awaited = awaited.Operator; output = output ++ CallEntry f ∷ []; pending = ps })
 closed (output, p ∷ ps) = (false, record { awaited = awaited.Operator; output = output; pending = p ∷ ps })
 
 abbrev pub on_right : Bool → State → Move
@@ -134,7 +138,8 @@ on_right false s = (false, s)
 on_right true s = closed (release 1 s.output s.pending)
 
 abbrev pub with_operator : Operator → List Entry × List Pending → Move
-with_operator operator (output, ps) = (true, record { awaited = awaited.Operand; output = output; pending = pending.Binary operator ∷ ps })
+with_operator operator (output, ps) =
+    (true, record { awaited = awaited.Operand; output = output; pending = pending.Binary operator ∷ ps })
 
 abbrev pub on_operator : Option Operator → TokenKind → State → Move
 on_operator None k s = on_right (is_right k) s

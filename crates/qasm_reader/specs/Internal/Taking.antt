@@ -1,5 +1,6 @@
 -- What each step of the parser answers: what it reads at the start of the tokens and the tokens that follow, or none.
-use Rattle.std.specs.Prelude.{◌≡◌, ℕ, zero, suc, List, [], ◌∷◌, ◌++◌, length, map, Bool, Option, None, Some, Result, Ok, Err, if◌then◌else◌}
+use Rattle.std.specs.Prelude.{◌≡◌, ℕ, zero, suc, List, [], ◌∷◌, ◌++◌, length, map, Bool, Option, None, Some, Result, Ok}
+use Rattle.std.specs.Prelude.{Err, if◌then◌else◌}
 use denote.Enum.Bare.{sameb}
 use Rattle.qasm_lexer.specs.contracts.token.TokenKind.{the_type}
 use Rattle.qasm_lexer.specs.declared.token.TokenKind.{TokenKind}
@@ -8,7 +9,9 @@ use Rattle.qasm_lexer.specs.Tokens.{Lexeme}
 use Rattle.qasm_reader.specs.declared.program.GateHeading.{GateHeading}
 use Rattle.qasm_reader.specs.declared.step_error.StepError.{StepError}
 use Rattle.qasm_reader.specs.declared.step_error.StepError.TheVariants.{Misfit, NoMemory}
-use Rattle.qasm_reader.specs.Syntax.{Formula, Operand, Callee, Declared, U, Cx, Action, Applied, Measured, Reset, BodySentence, BodyApplied, BodyBarrier, Sentence, Version, Include, QubitRegister, BitRegister, DeclareGate, Opaque, If, Barrier, Act}
+use Rattle.qasm_reader.specs.Syntax.{Formula, Operand, Callee, Declared, U, Cx, Action, Applied, Measured, Reset}
+use Rattle.qasm_reader.specs.Syntax.{BodySentence, BodyApplied, BodyBarrier, Sentence, Version, Include, QubitRegister}
+use Rattle.qasm_reader.specs.Syntax.{BitRegister, DeclareGate, Opaque, If, Barrier, Act}
 use Rattle.qasm_reader.specs.Internal.Machine.{take_expression}
 
 -- what a function returned, seen by view, is what is read there, unless memory ran out
@@ -46,17 +49,20 @@ with_prefix prefix None = None
 with_prefix prefix (Some x) = Some (prefix ++ x.0, x.1)
 
 -- the turns of a loop: one stops it, gives one item more, or finds none where one is to be
-abbrev pub on_turn : {A : Type 0} → Option (Option (A × List Lexeme)) → List Lexeme → (List Lexeme → Option (List A × List Lexeme)) → Option (List A × List Lexeme)
+abbrev pub on_turn : {A : Type 0} → Option (Option (A × List Lexeme)) → List Lexeme →
+    (List Lexeme → Option (List A × List Lexeme)) → Option (List A × List Lexeme)
 on_turn None ts go = None
 on_turn (Some None) ts go = Some ([], ts)
 on_turn (Some (Some x)) ts go = with_prefix (x.0 ∷ []) (go x.1)
 
-abbrev pub turns : {A : Type 0} → (List Lexeme → Option (Option (A × List Lexeme))) → ℕ → List Lexeme → Option (List A × List Lexeme)
+abbrev pub turns : {A : Type 0} → (List Lexeme → Option (Option (A × List Lexeme))) → ℕ → List Lexeme →
+    Option (List A × List Lexeme)
 turns turn zero ts = None
 turns turn (suc n) ts = on_turn (turn ts) ts (turns turn n)
 
 -- each turn takes a token at least
-unfoldable pub repeated : {A : Type 0} → (List Lexeme → Option (Option (A × List Lexeme))) → List Lexeme → Option (List A × List Lexeme)
+unfoldable pub repeated : {A : Type 0} → (List Lexeme → Option (Option (A × List Lexeme))) → List Lexeme →
+    Option (List A × List Lexeme)
 repeated turn ts = turns turn (suc (length ts)) ts
 
 abbrev pub one_more : {A : Type 0} → Option (A × List Lexeme) → Option (Option (A × List Lexeme))
@@ -64,30 +70,36 @@ one_more None = None
 one_more (Some x) = Some (Some x)
 
 -- an item after a comma
-abbrev pub comma_turn : {A : Type 0} → (List Lexeme → Option (A × List Lexeme)) → Option (List Lexeme) → Option (Option (A × List Lexeme))
+abbrev pub comma_turn : {A : Type 0} → (List Lexeme → Option (A × List Lexeme)) → Option (List Lexeme) →
+    Option (Option (A × List Lexeme))
 comma_turn item None = Some None
 comma_turn item (Some ts) = one_more (item ts)
 
-unfoldable pub comma_items : {A : Type 0} → (List Lexeme → Option (A × List Lexeme)) → List Lexeme → Option (List A × List Lexeme)
+unfoldable pub comma_items : {A : Type 0} → (List Lexeme → Option (A × List Lexeme)) → List Lexeme →
+    Option (List A × List Lexeme)
 comma_items item = repeated (λ ts. comma_turn item (after kind.Comma ts))
 
-unfoldable pub comma_list : {A : Type 0} → (List Lexeme → Option (A × List Lexeme)) → List Lexeme → Option (List A × List Lexeme)
+unfoldable pub comma_list : {A : Type 0} → (List Lexeme → Option (A × List Lexeme)) → List Lexeme →
+    Option (List A × List Lexeme)
 comma_list item ts = do
   first ← item ts
   with_prefix (first.0 ∷ []) (comma_items item first.1)
 
-abbrev pub list_inside : {A : Type 0} → (List Lexeme → Option (A × List Lexeme)) → List Lexeme → Option (List Lexeme) → Option (List A × List Lexeme)
+abbrev pub list_inside : {A : Type 0} → (List Lexeme → Option (A × List Lexeme)) → List Lexeme → Option (List Lexeme) →
+    Option (List A × List Lexeme)
 list_inside item ts (Some rest) = Some ([], rest)
 list_inside item ts None = do
   items ← comma_list item ts
   rest ← after kind.RightParenthesis items.1
   Some (items.0, rest)
 
-abbrev pub list_after : {A : Type 0} → (List Lexeme → Option (A × List Lexeme)) → List Lexeme → Option (List Lexeme) → Option (List A × List Lexeme)
+abbrev pub list_after : {A : Type 0} → (List Lexeme → Option (A × List Lexeme)) → List Lexeme → Option (List Lexeme) →
+    Option (List A × List Lexeme)
 list_after item ts None = Some ([], ts)
 list_after item ts (Some inside) = list_inside item inside (after kind.RightParenthesis inside)
 
-unfoldable pub optional_list : {A : Type 0} → (List Lexeme → Option (A × List Lexeme)) → List Lexeme → Option (List A × List Lexeme)
+unfoldable pub optional_list : {A : Type 0} → (List Lexeme → Option (A × List Lexeme)) → List Lexeme →
+    Option (List A × List Lexeme)
 optional_list item ts = list_after item ts (after kind.LeftParenthesis ts)
 
 -- ---- names and arguments
@@ -238,7 +250,8 @@ abbrev pub Heading : Type 0
 Heading = List ℕ × (List (List ℕ) × List (List ℕ))
 
 abbrev pub heading_of : GateHeading → Heading
-heading_of heading = (heading.name.now, (map (λ name. name.now) heading.parameters.items, map (λ name. name.now) heading.qubits.items))
+heading_of heading =
+    (heading.name.now, (map (λ name. name.now) heading.parameters.items, map (λ name. name.now) heading.qubits.items))
 
 unfoldable pub heading : List Lexeme → Option (Heading × List Lexeme)
 heading ts = do

@@ -10,8 +10,8 @@ use Rattle.qasm_scope.specs.declared.gate_in_progress.GateInProgress.{GateInProg
 use Rattle.qasm_scope.specs.declared.names.Names.{Names}
 use Rattle.qasm_scope.specs.Scope.{Scope}
 
--- this is kept of the gate, whose body so far the form has: its heading, what is wrong with it, and where nothing is wrong
--- with its body, the calls
+-- this is kept of the gate, whose body so far the form has: its heading, what is wrong with it, and where nothing is
+-- wrong with its body, the calls
 pub record IsBegun (names : Names) (gate : GateInProgress) (form : GateForm) : Type 0 where
   pub same_name : gate.name.now ≡ form.name
   pub same_angles : gate.angles ≡ length form.parameters
@@ -24,6 +24,6 @@ pub record IsBegun (names : Names) (gate : GateInProgress) (form : GateForm) : T
       → map kept_call gate.calls.items ≡ calls_by names.symbols gate.formals.parameters gate.formals.qubits form.body
 
 -- nothing is wrong with the declaration of a gate, and where it is replaceable, its name was free
-pub record IsFaultless (scope : Scope) (form : GateForm) (replaceable : Bool) : Type 0 where
+pub record IsFaultlessGate (scope : Scope) (form : GateForm) (replaceable : Bool) : Type 0 where
   pub right : wrong_in scope (DeclareGate form) ≡ None
   pub fresh : IsFresh form.name replaceable scope

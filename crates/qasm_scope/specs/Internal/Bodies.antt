@@ -7,7 +7,8 @@ use Rattle.qasm_reader.specs.Views.{callee}
 use Rattle.qasm_reader.specs.declared.program.BodyApplication.{BodyApplication}
 use Rattle.qasm_scope.specs.Angles.{place_or_zero}
 use Rattle.qasm_scope.specs.Faults.{is_no_gate, has_other_shape, body_is_unsupported, body_has_same_qubit}
-use Rattle.qasm_scope.specs.Internal.Checks.{Symbols, shape_by, called_by, hidden_by, unplaced, unknown_by, wrong_count_by, calls_by, gate_cause}
+use Rattle.qasm_scope.specs.Internal.Checks.{Symbols, shape_by, called_by, hidden_by, unplaced, is_unknown}
+use Rattle.qasm_scope.specs.Internal.Checks.{is_wrong_count, calls_by, gate_cause}
 use Rattle.qasm_scope.specs.Internal.Entries.{place_in}
 use Rattle.qasm_scope.specs.Internal.Kept.{kept_call}
 use Rattle.qasm_scope.specs.declared.body_faults.BodyFaults.{BodyFaults}
@@ -19,7 +20,11 @@ use Rattle.qasm_scope.specs.declared.places.Places.{Places}
 
 -- an application, without where it lies in memory
 abbrev pub apply_of : BodyApplication → BodyApply
-apply_of a = record { gate = callee a.gate; angles = map formula_of a.angles.items; qubits = map (λ name. name.now) a.qubits.items }
+apply_of a = record {
+  gate = callee a.gate;
+  angles = map formula_of a.angles.items;
+  qubits = map (λ name. name.now) a.qubits.items;
+}
 
 abbrev pub no_faults : BodyFaults
 no_faults = record { unsupported = false; unknown = false; wrong_count = false; same_qubit = false }
@@ -43,8 +48,8 @@ cause_of f redeclared = gate_cause f.unsupported redeclared f.unknown f.wrong_co
 abbrev pub statement_faults : Symbols → Formals → BodySentence → BodyFaults
 statement_faults symbols formals statement = record {
   unsupported = body_is_unsupported statement;
-  unknown = unknown_by symbols formals.parameters formals.qubits statement;
-  wrong_count = wrong_count_by symbols statement;
+  unknown = is_unknown symbols formals.parameters formals.qubits statement;
+  wrong_count = is_wrong_count symbols statement;
   same_qubit = body_has_same_qubit statement;
 }
 
@@ -55,8 +60,8 @@ application_faults symbols formals a = statement_faults symbols formals (BodyApp
 abbrev pub faults_of : Symbols → Formals → List BodySentence → BodyFaults
 faults_of symbols formals statements = record {
   unsupported = list_any body_is_unsupported statements;
-  unknown = list_any (unknown_by symbols formals.parameters formals.qubits) statements;
-  wrong_count = list_any (wrong_count_by symbols) statements;
+  unknown = list_any (is_unknown symbols formals.parameters formals.qubits) statements;
+  wrong_count = list_any (is_wrong_count symbols) statements;
   same_qubit = list_any body_has_same_qubit statements;
 }
 

@@ -1,5 +1,6 @@
 -- The tests of statements by what names are kept as: a private matter of the program. Public clauses speak of Faults.
-use Rattle.std.specs.Prelude.{ℕ, Bool, false, not, ◌||◌, ◌++◌, if◌then◌else◌, List, [], ◌∷◌, map, length, Option, None, Some}
+use Rattle.std.specs.Prelude.{ℕ, Bool, false, not, ◌||◌, ◌++◌, if◌then◌else◌, List, [], ◌∷◌, map, length, Option, None}
+use Rattle.std.specs.Prelude.{Some}
 use Rattle.std.specs.Borrow.{Bor}
 use Rattle.std.specs.BTreeMap.{BTreeMap}
 use Rattle.std.specs.List.{list_any}
@@ -7,7 +8,8 @@ use Rattle.std.specs.Option.{is_some}
 use Rattle.qasm_reader.specs.Syntax.{Callee, Declared, U, Cx, GateForm, BodySentence, BodyApplied, BodyBarrier}
 use Rattle.qasm_scope.specs.Internal.Entries.{place_in, has_unplaced, placed}
 use Rattle.qasm_scope.specs.Angles.{place_or_zero}
-use Rattle.qasm_scope.specs.Faults.{is_no_gate, has_other_shape, has_name_twice, body_is_unsupported, body_has_same_qubit}
+use Rattle.qasm_scope.specs.Faults.{is_no_gate, has_other_shape, has_name_twice, body_is_unsupported}
+use Rattle.qasm_scope.specs.Faults.{body_has_same_qubit}
 use Rattle.qasm_scope.specs.Internal.Kept.{KeptCall, found, symbol_shape, symbol_taken, number_in}
 use Rattle.qasm_scope.specs.declared.causes.Cause.{Cause}
 use Rattle.qasm_scope.specs.declared.causes.Cause.TheVariants as cause
@@ -42,15 +44,15 @@ hidden_by parameters qubits Cx = false
 abbrev pub unplaced : Places → List ℕ → Bool
 unplaced places name = not (is_some (place_in places name))
 
-abbrev pub unknown_by : Symbols → Places → Places → BodySentence → Bool
-unknown_by symbols parameters qubits (BodyApplied a) =
+abbrev pub is_unknown : Symbols → Places → Places → BodySentence → Bool
+is_unknown symbols parameters qubits (BodyApplied a) =
     hidden_by parameters qubits a.gate || is_no_gate (shape_by symbols a.gate)
     || list_any (has_unplaced parameters) a.angles || list_any (unplaced qubits) a.qubits
-unknown_by symbols parameters qubits (BodyBarrier names) = list_any (unplaced qubits) names
+is_unknown symbols parameters qubits (BodyBarrier names) = list_any (unplaced qubits) names
 
-abbrev pub wrong_count_by : Symbols → BodySentence → Bool
-wrong_count_by symbols (BodyApplied a) = has_other_shape (shape_by symbols a.gate) (length a.angles) (length a.qubits)
-wrong_count_by symbols (BodyBarrier names) = false
+abbrev pub is_wrong_count : Symbols → BodySentence → Bool
+is_wrong_count symbols (BodyApplied a) = has_other_shape (shape_by symbols a.gate) (length a.angles) (length a.qubits)
+is_wrong_count symbols (BodyBarrier names) = false
 
 abbrev pub calls_by : Symbols → Places → Places → List BodySentence → List KeptCall
 calls_by symbols parameters qubits [] = []
@@ -72,14 +74,15 @@ gate_cause unsupported redeclared unknown wrong_count same_qubit =
 
 -- the gate's name is taken, or two formal names are equal
 abbrev pub is_redeclared_by : Symbols → GateForm → Bool
-is_redeclared_by symbols form = symbol_taken (found form.name symbols) || has_name_twice (form.parameters ++ form.qubits)
+is_redeclared_by symbols form =
+    symbol_taken (found form.name symbols) || has_name_twice (form.parameters ++ form.qubits)
 
 abbrev pub wrong_gate_by : Symbols → Places → Places → GateForm → Option Cause
 wrong_gate_by symbols parameters qubits form = gate_cause
     (list_any body_is_unsupported form.body)
     (is_redeclared_by symbols form)
-    (list_any (unknown_by symbols parameters qubits) form.body)
-    (list_any (wrong_count_by symbols) form.body)
+    (list_any (is_unknown symbols parameters qubits) form.body)
+    (list_any (is_wrong_count symbols) form.body)
     (list_any body_has_same_qubit form.body)
 
 -- the first cause of a declaration of a register

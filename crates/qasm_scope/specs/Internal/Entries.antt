@@ -4,8 +4,8 @@ use Rattle.std.specs.List.{list_any, position_from}
 use Rattle.std.specs.Option.{is_some}
 use Rattle.std.specs.Str.{bytes_eq}
 use Rattle.qasm_angle.specs.Literals.{literal_value}
-use Rattle.qasm_angle.specs.declared.expression.Operator as angle_operator
-use Rattle.qasm_angle.specs.declared.expression.Operator.TheVariants as operators
+use Rattle.qasm_angle.specs.declared.expression.Operation as angle_operator
+use Rattle.qasm_angle.specs.declared.expression.Operation.TheVariants as operators
 use Rattle.qasm_angle.specs.declared.expression.ExprItem.{ExprItem}
 use Rattle.qasm_angle.specs.declared.expression.ExprItem.TheVariants as step
 use Rattle.qasm_reader.specs.declared.expression.Operator.{Operator}
@@ -39,7 +39,7 @@ has_no_place places NegateEntry = false
 has_no_place places (BinaryEntry operator) = false
 has_no_place places (CallEntry function) = false
 
-abbrev pub operator_of : Operator → angle_operator.Operator
+abbrev pub operator_of : Operator → angle_operator.Operation
 operator_of Add = operators.Add
 operator_of Subtract = operators.Subtract
 operator_of Multiply = operators.Multiply
@@ -95,7 +95,8 @@ pub record AreSteps (places : Places) (entries : List Entry) (steps : List ExprI
   pub none_other : list_any (is_other_entry places) entries ≡ false
   pub same : steps ≡ map (step_of places) entries
 
--- the expression holds no `^`, no function and no name without a place, and is this tree with its parameters by their places
+-- the expression holds no `^`, no function and no name without a place, and is this tree with its parameters by their
+-- places
 pub record IsPlaced (places : Places) (f : Formula) (placed_tree : tree.Tree) : Type 0 where
   pub supported : is_unsupported f ≡ false
   pub all_placed : has_unplaced places f ≡ false

@@ -24,13 +24,14 @@ abbrev pub forms_of : List GateDeclaration → List GateForm
 forms_of gates = map gate_form gates
 
 -- one of the names is declared, by what names are kept as
-abbrev pub any_declared_by : Symbols → List GateForm → Bool
-any_declared_by symbols forms = list_any (λ form. is_some (found form.name symbols)) forms
+abbrev pub any_declared : Symbols → List GateForm → Bool
+any_declared symbols forms = list_any (λ form. is_some (found form.name symbols)) forms
 
 -- nothing is wrong with each gate after those before it
 abbrev pub AreFirstFaultless : List GateForm → Scope → Type 0
 AreFirstFaultless [] scope = Unit {0}
-AreFirstFaultless (form ∷ forms) scope = (wrong_in scope (DeclareGate form) ≡ None) × AreFirstFaultless forms (gate_declaration form false ∷ scope)
+AreFirstFaultless (form ∷ forms) scope =
+    (wrong_in scope (DeclareGate form) ≡ None) × AreFirstFaultless forms (gate_declaration form false ∷ scope)
 
 -- nothing is wrong with each gate whose name is free after those before it
 abbrev pub AreFurtherFaultless : List GateForm → Scope → Type 0

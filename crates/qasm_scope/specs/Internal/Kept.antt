@@ -1,6 +1,7 @@
--- How declarations are kept while a program is read: a private matter of the program. Gates are known by their number, in
--- the order of their declarations, and bodies are lists of calls with names resolved.
-use Rattle.std.specs.Prelude.{◌≡◌, ℕ, ◌+◌, ◌≤◌, Bool, true, false, not, if◌then◌else◌, List, [], ◌∷◌, ◌++◌, length, map, Option, None, Some}
+-- How declarations are kept while a program is read: a private matter of the program. Gates are known by their number,
+-- in the order of their declarations, and bodies are lists of calls with names resolved.
+use Rattle.std.specs.Prelude.{◌≡◌, ℕ, ◌+◌, ◌≤◌, Bool, true, false, not, if◌then◌else◌, List, [], ◌∷◌, ◌++◌, length, map}
+use Rattle.std.specs.Prelude.{Option, None, Some}
 use Rattle.std.specs.Borrow.{Bor}
 use Rattle.std.specs.Str.{bytes_eq}
 use Rattle.std.specs.BTreeMap.{BTreeMap, get_by}
@@ -8,7 +9,8 @@ use Rattle.std.specs.Cmp.Lexicographic.{slice_cmp}
 use Rattle.std.specs.Ordering.{nat_cmp}
 use Rattle.zx_gates.specs.Circuit.{most_qubits}
 use Rattle.qasm_angle.specs.Trees.{Tree}
-use Rattle.qasm_reader.specs.Syntax.{Callee, Declared, U, Cx, GateForm, BodySentence, BodyApplied, BodyBarrier, DeclareGate}
+use Rattle.qasm_reader.specs.Syntax.{Callee, Declared, U, Cx, GateForm, BodySentence, BodyApplied, BodyBarrier}
+use Rattle.qasm_reader.specs.Syntax.{DeclareGate}
 use Rattle.qasm_scope.specs.Angles.{numbered, place_of}
 use Rattle.qasm_scope.specs.Faults.{has_unknown, has_wrong_count, has_same_qubit, has_name_twice}
 use Rattle.qasm_scope.specs.Scope.{Scope, Declaration, Meaning, Qubits, Bits, Gate, is_declared, qubit_count}
@@ -55,7 +57,8 @@ symbol_in number replaceable (Gate form) = symbol.Gate number (length form.param
 abbrev pub symbol_of : List ℕ → Scope → Option Symbol
 symbol_of name [] = None
 symbol_of name (declaration ∷ scope) =
-    if bytes_eq declaration.name name then Some (symbol_in (gate_count scope) declaration.replaceable declaration.meaning)
+    if bytes_eq declaration.name name then Some (symbol_in
+    (gate_count scope) declaration.replaceable declaration.meaning)
     else symbol_of name scope
 
 -- what it says of a gate: how many angles and qubits it has
@@ -137,7 +140,8 @@ IsFresh name false scope = Unit {0}
 abbrev pub IsSound : Scope → Type 0
 IsSound [] = Unit {0}
 IsSound (declaration ∷ scope) =
-    IsSoundMeaning scope declaration.meaning declaration.replaceable × IsFresh declaration.name declaration.replaceable scope × IsSound scope
+    IsSoundMeaning scope declaration.meaning declaration.replaceable
+    × IsFresh declaration.name declaration.replaceable scope × IsSound scope
 
 -- a register of qubits: its first qubit and its size
 abbrev pub register_in : Option Meaning → Option (ℕ × ℕ)
@@ -159,6 +163,9 @@ pub record Represents (names : Names) (scope : Scope) : Type 0 where
 
 -- in each scope in which this is how a sound gate is kept, it is declared
 abbrev pub DeclaresGate : Names → Names → List ℕ → ℕ → ℕ → List KeptCall → Bool → Type 0
-DeclaresGate before after name angles qubits body replaceable = (scope : Scope) (form : GateForm) → Represents before scope
-    → name ≡ form.name → angles ≡ length form.parameters → qubits ≡ length form.qubits → body ≡ kept_calls scope form form.body
-    → IsSoundGate scope form → IsFresh form.name replaceable scope → Represents after (gate_declaration form replaceable ∷ scope)
+DeclaresGate before after name angles qubits body replaceable =
+    (scope : Scope) (form : GateForm) → Represents before scope
+    → name ≡ form.name → angles ≡ length form.parameters → qubits ≡ length form.qubits →
+    body ≡ kept_calls scope form form.body
+    → IsSoundGate scope form → IsFresh form.name replaceable scope →
+    Represents after (gate_declaration form replaceable ∷ scope)

@@ -2,7 +2,8 @@
 use Rattle.std.specs.Prelude.{◌≡◌, ℕ, false, ◌||◌}
 use Rattle.zx_model.specs.Bits.{member}
 use Rattle.zx_calculus.specs.Graph.{Graph, ids, joined, insert_vertex, OrderedEdges}
-use Rattle.zx_calculus.specs.Boundary.{spider_of_phase_zero, is_pair}
+use Rattle.zx_calculus.specs.Splits.{spider_of_phase_zero}
+use Rattle.zx_calculus.specs.Edits.{is_pair}
 
 -- h is g with a new XY vertex of phase 0, adjacent to b alone
 pub record IsSpiderAdded (g : Graph) (b new : ℕ) (h : Graph) : Type 0 where

@@ -1,49 +1,48 @@
--- A flow turned over: of each vertex the places, in the order, of the vertices in whose
--- correction sets it stands.
-use Rattle.std.specs.Prelude.{◌≡◌, ◌<◌, ℕ, suc, Bool, true, not, ◌&&◌, ◌||◌, ◌==◌, List, [], ◌∷◌, length, filter, slice_index_or}
+-- A flow turned over: of each vertex, in the correction sets of which vertices it stands.
+use Rattle.std.specs.Prelude.{◌≡◌, ℕ, Bool, true, not, ◌&&◌, ◌||◌, ◌==◌, List, [], ◌∷◌, length, filter, slice_index_or}
 use Rattle.std.specs.List.{range_with_len}
 use Rattle.zx_model.specs.Bits.{xor, member}
+use Rattle.zx_calculus.specs.Graph.{Distinct}
 use Rattle.gflow_laws.specs.Flow.{Correction}
 
 -- what contracts see: the flow
 pub record Holders : Type 0 where
   pub flow : List Correction
 
--- the places that s holds: those of the vertices in whose sets it stands
-abbrev pub places_at : List (List ℕ) → ℕ → List ℕ
-places_at lists s = slice_index_or lists s []
+-- the vertices in whose sets s stands
+abbrev pub sets_with : List (List ℕ) → ℕ → List ℕ
+sets_with lists s = slice_index_or lists s []
 
+-- s stands in the set of v
 abbrev pub holds : List (List ℕ) → ℕ → ℕ → Bool
-holds lists s place = member place (places_at lists s)
+holds lists s v = member v (sets_with lists s)
 
--- the ids that hold a place
+-- the members of the set of v
 abbrev pub holders_of : List (List ℕ) → ℕ → List ℕ
-holders_of lists place = filter (λ s. holds lists s place) (range_with_len 0 (length lists))
+holders_of lists v = filter (λ s. holds lists s v) (range_with_len 0 (length lists))
 
--- these vertices with their sets, where the first one stands at this place
-abbrev pub table_from : List (List ℕ) → ℕ → List ℕ → List Correction
-table_from lists place [] = []
-table_from lists place (v ∷ vs) =
-    record { vertex = v; members = holders_of lists place } ∷ table_from lists (suc place) vs
+-- the vertices in this order with their sets
+abbrev pub table_from : List (List ℕ) → List ℕ → List Correction
+table_from lists [] = []
+table_from lists (v ∷ vs) = record { vertex = v; members = holders_of lists v } ∷ table_from lists vs
 
--- each place that is held is below this one
-abbrev pub IsHeldBelow : ℕ → List (List ℕ) → Type 0
-IsHeldBelow end lists = (s place : ℕ) → holds lists s place ≡ true → place < end
+-- each vertex of the order stands once, and no other has a set
+pub record IsOrdered (order : List ℕ) (lists : List (List ℕ)) : Type 0 where
+  pub each_once : Distinct order
+  pub within : (s v : ℕ) → holds lists s v ≡ true → member v order ≡ true
 
--- each holds the same places before and after
+-- each stands in the same sets before and after
 abbrev pub IsHeldAlike : List (List ℕ) → List (List ℕ) → Type 0
-IsHeldAlike old new = (s : ℕ) → places_at new s ≡ places_at old s
+IsHeldAlike old new = (s : ℕ) → sets_with new s ≡ sets_with old s
 
--- the places that t holds are toggled among those of c
+-- c is toggled in each set that has t
 abbrev pub IsToggled : ℕ → ℕ → List (List ℕ) → List (List ℕ) → Type 0
-IsToggled c t old new =
-    (s place : ℕ) → holds new s place ≡ xor (holds old s place) (holds old t place && (s == c))
+IsToggled c t old new = (s v : ℕ) → holds new s v ≡ xor (holds old s v) (holds old t v && (s == c))
 
--- x holds no place any more
+-- x stands in no set any more
 abbrev pub IsCleared : ℕ → List (List ℕ) → List (List ℕ) → Type 0
-IsCleared x old new = (s place : ℕ) → holds new s place ≡ (holds old s place && not (x == s))
+IsCleared x old new = (s v : ℕ) → holds new s v ≡ (holds old s v && not (x == s))
 
--- the members of a set hold this place too
+-- the set of v has these too
 abbrev pub IsHeldBy : List ℕ → ℕ → List (List ℕ) → List (List ℕ) → Type 0
-IsHeldBy set place old new =
-    (s p : ℕ) → holds new s p ≡ (holds old s p || ((p == place) && member s set))
+IsHeldBy set v old new = (s u : ℕ) → holds new s u ≡ (holds old s u || ((u == v) && member s set))

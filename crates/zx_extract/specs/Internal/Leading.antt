@@ -2,15 +2,13 @@
 use Rattle.std.specs.Prelude.{◌≡◌, ◌≢◌, ◌≤◌, ℕ, ◌+◌, ◌*◌, Bool, true, false, List, ◌++◌, length}
 use Rattle.std.specs.List.{All}
 use Rattle.zx_calculus.specs.Graph.{XZ, Graph, joined, plane_of, phase_of, Live, WellFormed}
-use Rattle.zx_calculus.specs.Reduced.{odd_phases, not_XY}
-use Rattle.zx_calculus.specs.Counts.{XY_without_output}
+use Rattle.zx_calculus.specs.Counts.{odd_phases, not_XY, XY_without_output}
 use Rattle.gflow_laws.specs.Flow.{Correction, IsFlow}
 use Rattle.zx_gates.specs.Circuit.{IsOnQubits, gate_odd_phases, most_qubits}
 use Rattle.zx_gates.specs.declared.gate.Gate.{Gate}
 use Rattle.circuit_laws.specs.Followed.{PeelsAt}
-use Rattle.circuit_laws.specs.Peeling.{HasPlainOutput}
-use Rattle.zx_extract.specs.Extraction.{power_of_two}
-use Rattle.zx_extract.specs.Internal.Lists.{are_plain}
+use Rattle.circuit_laws.specs.Peeling.{HasPlainOutput, are_plain}
+use Rattle.zx_model.specs.Constants.{power_of_two}
 
 -- what is left of the graph, its flow, and the gates that were taken off, the first to act first
 pub record State : Type 0 where

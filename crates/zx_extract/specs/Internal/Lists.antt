@@ -1,13 +1,8 @@
 -- Lists of ends, and the last correction of a table.
-use Rattle.std.specs.Prelude.{◌≡◌, ℕ, ◌-◌, Bool, false, not, if◌then◌else◌, ltb, List, [], ◌∷◌, slice_get, Some, map}
-use Rattle.std.specs.List.{list_all}
-use Rattle.zx_calculus.specs.Graph.{End, Graph, places}
+use Rattle.std.specs.Prelude.{◌≡◌, ℕ, ◌-◌, Bool, false, if◌then◌else◌, ltb, List, [], ◌∷◌, slice_get, Some, map}
+use Rattle.zx_calculus.specs.Graph.{End, Graph, end_vertices}
 use Rattle.zx_calculus.specs.Worked.{plain}
 use Rattle.gflow_laws.specs.Flow.{Correction, is_in}
-
--- all ends are plain
-abbrev pub are_plain : List End → Bool
-are_plain ends = list_all (λ e. not e.hadamard) ends
 
 -- the end at this place is plain
 abbrev pub IsPlainAt : List End → ℕ → Type 0
@@ -19,7 +14,7 @@ with_outputs vertices g = record g { outputs = map plain vertices }
 
 -- the graph with each output at the vertex of the input of its number
 abbrev pub in_line : Graph → Graph
-in_line g = with_outputs (places g.inputs) g
+in_line g = with_outputs (end_vertices g.inputs) g
 
 -- whether a vertex is in the last set
 abbrev pub last_set : List Correction → ℕ → Bool

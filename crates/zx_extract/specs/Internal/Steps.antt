@@ -1,14 +1,17 @@
 -- The single steps of extraction, and what gathering rows comes to.
-use Rattle.std.specs.Prelude.{◌≡◌, ◌≢◌, ◌<◌, ◌≤◌, ◌+◌, ◌*◌, ℕ, true, false, not, ◌&&◌, take, List, [], ◌∷◌, ◌++◌, length, ◌==◌}
+use Rattle.std.specs.Prelude.{◌≡◌, ◌≢◌, ◌<◌, ◌≤◌, ◌+◌, ◌*◌, ℕ, true, false, not, ◌&&◌, ◌==◌}
+use Rattle.std.specs.Prelude.{take, List, [], ◌∷◌, ◌++◌, length}
 use Rattle.std.specs.List.{AllZip}
 use Rattle.zx_model.specs.Bits.{xor, member, one_if}
-use Rattle.zx_calculus.specs.Graph.{Graph, ids, joined, phase_of, places, Distinct, OrderedEdges, WellFormed}
+use Rattle.zx_calculus.specs.Graph.{Graph, ids, joined, phase_of, end_vertices, Distinct, OrderedEdges, WellFormed}
 use Rattle.gflow_laws.specs.Flow.{Correction, order_of, SameSets}
 use Rattle.gflow_laws.specs.Outputs.{row_added_table, advanced_table, last_removed_table}
 use Rattle.zx_gates.specs.declared.gate.Gate.{Gate}
 use Rattle.zx_gates.specs.declared.gate.Gate.TheVariants.{H, Cz, Cx}
-use Rattle.circuit_laws.specs.Gates.{phase_gates, gadget_gates, linked_gadget_gates}
-use Rattle.circuit_laws.specs.Peeling.{HasPlainOutput, IsMarkPeel, IsPhaseCleared, IsEdgePeel, IsRowAddition, IsAdvance, IsGadgetPeel, IsLinkedGadgetPeel}
+use Rattle.circuit_laws.specs.Gates.{gadget_gates, linked_gadget_gates}
+use Rattle.zx_gates.specs.Lowering.{phase_gates}
+use Rattle.circuit_laws.specs.Peeling.{HasPlainOutput, IsMarkPeel, IsPhaseCleared, IsEdgePeel, IsRowAddition}
+use Rattle.circuit_laws.specs.Peeling.{IsAdvance, IsGadgetPeel, IsLinkedGadgetPeel}
 use Rattle.zx_extract.specs.Internal.Leading.{State, AreApart, Leads, IsReady, IsFrontier, Settles}
 use Rattle.zx_extract.specs.Internal.Lists.{last_set, others_below, with_outputs}
 
@@ -96,7 +99,7 @@ pub record AreLegs (g : Graph) (v i : ℕ) (qubits : List ℕ) : Type 0 where
   pub once : Distinct legs
   pub at_outputs : AllZip (HasPlainOutput g) qubits legs
   pub neighbours : (u : ℕ) →
-      member u legs ≡ (joined g.edges v u && member u (take i (places g.outputs)))
+      member u legs ≡ (joined g.edges v u && member u (take i (end_vertices g.outputs)))
   pub few : length qubits ≤ i
   pub fewer : (q u : ℕ) → q < i → HasPlainOutput g q u → joined g.edges v u ≡ false →
       length qubits + 1 ≤ i
@@ -124,7 +127,7 @@ pub record IsUncrossed (s : State) (i : ℕ) (vertices : List ℕ) (gates : List
   pub as_many : length vertices ≡ length s.graph.outputs
   pub leads : Leads s (3 * i) 0 0
       (record { graph = with_outputs vertices s.graph; table = s.table; gates = gates })
-  pub done : take i vertices ≡ take i (places s.graph.inputs)
+  pub done : take i vertices ≡ take i (end_vertices s.graph.inputs)
 
 -- t is s after the edge between the outputs p and q was taken off, if there was one
 pub record IsUnjoined (s : State) (p q : ℕ) (t : State) : Type 0 where

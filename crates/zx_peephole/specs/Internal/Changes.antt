@@ -9,11 +9,11 @@ use Rattle.zx_gates.specs.Circuit.{Circuit, gate_odd_phases}
 use Rattle.zx_gates.specs.Counting.{is_two_qubit}
 use Rattle.zx_gates.specs.Maps.{acts}
 use Rattle.zx_peephole.specs.Commuting.{commutes}
-use Rattle.zx_peephole.specs.Doubling.{power_of_two}
 use Rattle.zx_peephole.specs.Tidy.{is_pair, is_turned, is_off, IsTidy}
 use Rattle.zx_peephole.specs.declared.finding.Change.{Change}
 use Rattle.zx_peephole.specs.declared.finding.Change.TheVariants.{Pair, Triple}
 use Rattle.zx_peephole.specs.declared.changing.Progress.{Progress}
+use Rattle.zx_model.specs.Constants.{power_of_two}
 
 -- ---- what a gate behind a list makes with gates of it
 -- a pair with the gate at place i

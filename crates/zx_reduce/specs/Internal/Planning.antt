@@ -2,9 +2,8 @@
 use Rattle.std.specs.Prelude.{⊤, ◌≡◌, ◌++◌, true, List, [], ◌∷◌, map}
 use Rattle.zx_calculus.specs.Graph.{Graph}
 use Rattle.zx_calculus.specs.Steps as calculus
-use Rattle.zx_calculus.specs.Steps.{IsStep, IsRun}
-use Rattle.zx_calculus.specs.After.{allowed}
-use Rattle.zx_reduce.specs.declared.search.Move.{Move}
+use Rattle.zx_calculus.specs.Steps.{IsStep, IsRun, allowed}
+use Rattle.zx_reduce.specs.declared.moves.Move.{Move}
 use Rattle.zx_reduce.specs.declared.step.Step.{Step}
 use Rattle.zx_reduce.specs.Steps.{step_named}
 use Rattle.zx_reduce.specs.Moving.{steps_of}

@@ -1,5 +1,9 @@
 -- The laws, by their lemmas.
-use Rattle.gflow_laws.proofs.Steps.{local_complement_flow, delete_flow, drop_lone_flow, fuse_into_flow, fuse_twin_flow, pivot_flow, split_input_flow, split_output_flow, step_flow}
+use Rattle.gflow_laws.proofs.Complements.{local_complement_flow}
+use Rattle.gflow_laws.proofs.Removals.{delete_flow, drop_lone_flow, fuse_into_flow, fuse_twin_flow}
+use Rattle.gflow_laws.proofs.Pivots.{pivot_flow}
+use Rattle.gflow_laws.proofs.Splits.{split_input_flow, split_output_flow}
+use Rattle.gflow_laws.proofs.Steps.{step_flow}
 use Rattle.gflow_laws.proofs.laws.each_rewrite_keeps_a_flow.Goals as goal
 
 pub returns-clause-local_complement : goal.returns-clause-local_complement

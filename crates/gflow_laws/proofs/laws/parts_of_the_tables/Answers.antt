@@ -1,8 +1,9 @@
 -- The laws, by their lemmas.
 use Rattle.gflow_laws.proofs.Lists.{is_in-symmetric_difference}
-use Rattle.gflow_laws.proofs.Views.{Simple-seen, Alike-complement}
-use Rattle.gflow_laws.proofs.PivotViews.{Alike-pivot}
-use Rattle.gflow_laws.proofs.SplitViews.{new_vertex-split}
+use Rattle.gflow_laws.proofs.Views.{Simple-seen}
+use Rattle.gflow_laws.proofs.Complements.{Alike-complement}
+use Rattle.gflow_laws.proofs.Pivots.{Alike-pivot}
+use Rattle.gflow_laws.proofs.Splits.{new_vertex-split}
 use Rattle.gflow_laws.proofs.laws.parts_of_the_tables.Goals as goal
 
 pub returns-clause-difference : goal.returns-clause-difference

@@ -1,6 +1,6 @@
 -- The laws, by their lemmas.
 use Rattle.gflow_laws.proofs.Corrects.{absorb, odd-xor, Corrects-alike}
-use Rattle.gflow_laws.proofs.Complement.{Corrects-taken}
+use Rattle.gflow_laws.proofs.Complements.{Corrects-taken}
 use Rattle.gflow_laws.proofs.Flows.{Flows-from, IsFlowOf-from}
 use Rattle.gflow_laws.proofs.laws.sets_correct_their_vertices.Goals as goal
 

@@ -1,6 +1,6 @@
 -- The laws, by their lemmas.
 use Rattle.gflow_laws.proofs.Seeing.{flow-alike, flow-same_sets, phases_unseen}
-use Rattle.gflow_laws.proofs.Same.{same-table_after}
+use Rattle.gflow_laws.proofs.Steps.{same-table_after}
 use Rattle.gflow_laws.proofs.laws.what_a_flow_depends_on.Goals as goal
 
 pub returns-clause-phases_unseen : goal.returns-clause-phases_unseen

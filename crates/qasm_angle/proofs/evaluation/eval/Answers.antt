@@ -1,6 +1,6 @@
 use Rattle.std.proofs.lemmas.Result.{err_from_is_err_and}
 use Rattle.std.proofs.Common.{sym, ◌∙◌, ap, Ok, Err, [], length, arith}
-use Rattle.qasm_angle.specs.declared.errors.Cause.TheVariants.{Divide, TooLarge, NotAnAngle}
+use Rattle.qasm_angle.specs.declared.errors.AngleFault.TheVariants.{Divide, TooLarge, NotAnAngle}
 use Rattle.qasm_angle.proofs.EvaluationLemmas.{value-last, value-failed, some_steps, error_of-same, Err_same}
 use Rattle.qasm_angle.proofs.evaluation.eval.Goals as goal
 

@@ -1,5 +1,5 @@
 use Rattle.qasm_angle.specs.Trees.{Number, Parameter, Negate, Binary}
-use Rattle.qasm_angle.specs.declared.expression.Operator.TheVariants.{Divide}
+use Rattle.qasm_angle.specs.declared.expression.Operation.TheVariants.{Divide}
 use Rattle.qasm_angle.proofs.tests.minus_quarter.Goals as goal
 
 pub new-requires : goal.new-requires

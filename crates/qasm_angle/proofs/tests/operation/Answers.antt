@@ -1,12 +1,12 @@
 use Rattle.std.proofs.Common.{◌≡◌, [], ◌∷◌, ◌++◌, sym, ◌∙◌, ap}
 use Rattle.qasm_angle.specs.Trees.{Tree, Binary, postfix}
-use Rattle.qasm_angle.specs.declared.expression.Operator.{Operator}
+use Rattle.qasm_angle.specs.declared.expression.Operation.{Operation}
 use Rattle.qasm_angle.specs.declared.expression.ExprItem.{ExprItem}
 use Rattle.qasm_angle.specs.declared.expression.ExprItem.TheVariants as step
 use Rattle.qasm_angle.proofs.tests.operation.Goals as goal
 
 -- the steps of an operation on two operands of one step
-steps-binary : (operator : Operator) (a b : Tree) (left right : ExprItem) → postfix a ≡ left ∷ [] → postfix b ≡ right ∷ [] →
+steps-binary : (operator : Operation) (a b : Tree) (left right : ExprItem) → postfix a ≡ left ∷ [] → postfix b ≡ right ∷ [] →
     left ∷ right ∷ step.Binary operator ∷ [] ≡ postfix (Binary operator a b)
 steps-binary operator a b left right e f =
     sym (ap (λ x. x ++ postfix b ++ step.Binary operator ∷ []) e ∙ ap (λ x. (left ∷ []) ++ x ++ step.Binary operator ∷ []) f)

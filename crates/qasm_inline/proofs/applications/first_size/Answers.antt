@@ -5,9 +5,9 @@ use Rattle.qasm_inline.proofs.applications.first_size.Goals as goal
 
 pub returns-in-Some : goal.returns-in-Some
 returns-in-Some c = sym (
-    ap (λ sizes. slice_get sizes 0) (c.loop-span.invariant ∙ sizes-some c.args.spans.now c.loop-span.span-index _ c.in-Some.size c.loop-span-test.true (sym c.size_of.ensures ∙ c.in-Some.is)))
+    ap (λ sizes. slice_get sizes 0) (c.loop-span.invariant ∙ sizes-some c.args.spans.now c.loop-span.span-index _ c.in-Some.size c.loop-span-test.true (sym c.register_size.ensures ∙ c.in-Some.is)))
 
 pub loop-span-preserved : goal.loop-span-preserved
 loop-span-preserved c =
-    let none : c.size_of.result ≡ None = search rules in
-    c.loop-span.invariant ∙ sizes-none c.args.spans.now c.loop-span.span-index _ c.loop-span-test.true (sym c.size_of.ensures ∙ none)
+    let none : c.register_size.result ≡ None = search rules in
+    c.loop-span.invariant ∙ sizes-none c.args.spans.now c.loop-span.span-index _ c.loop-span-test.true (sym c.register_size.ensures ∙ none)

@@ -3,7 +3,7 @@ use Rattle.std.proofs.lemmas.Grind.{common_steps}
 use Rattle.qasm_reader.specs.Postfix.{formula_of}
 use Rattle.qasm_reader.specs.Views.{application, operand}
 use Rattle.qasm_scope.specs.Internal.Entries.{any_other, ArePlaced}
-use Rattle.qasm_inline.specs.Internal.Spans.{span_range, wrong_count_by, any_missing, AreSpans}
+use Rattle.qasm_inline.specs.Internal.Spans.{span_range, is_wrong_count, any_missing, AreSpans}
 use Rattle.qasm_inline.proofs.ApplyLemmas.{unresolved-angles, unresolved-arguments, resolved-from}
 use Rattle.qasm_inline.proofs.applying.resolved.Goals as goal
 
@@ -25,7 +25,7 @@ returns-clause-some c =
     let symbols = c.args.names.now.symbols in
     let a = application c.args.application.now in
     let parameters = c.none.result in
-    let counts : wrong_count_by symbols a ≡ false = grind (arith, common_steps) in
+    let counts : is_wrong_count symbols a ≡ false = grind (arith, common_steps) in
     let angles : ArePlaced parameters (map formula_of c.deref.result.now) c.in-Some-2.angles.items = rw c.in-Some-2.is at c.in_ok-angles.ensures.some in
     let spans : AreSpans symbols (map operand c.deref-2.result.now) (map span_range c.in-Some-3.spans.items) = rw c.in-Some-3.is at c.in_ok-spans.ensures.some in
     resolved-from symbols a parameters c.in-Some.gate c.in-Some-2.angles.items (map span_range c.in-Some-3.spans.items)

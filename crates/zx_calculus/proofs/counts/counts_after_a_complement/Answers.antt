@@ -1,12 +1,6 @@
--- By the test of each vertex: phases turn by quarters, and planes change at one vertex.
-use Rattle.zx_calculus.proofs.StepCounts.{odd-complement, even-complement, planes-complement}
+-- By the test of each vertex.
+use Rattle.zx_calculus.proofs.Complements.{odd-complement, even-complement, planes-complement}
 use Rattle.zx_calculus.proofs.counts.counts_after_a_complement.Goals as goal
 
-pub returns-clause-odd_phases : goal.returns-clause-odd_phases
-returns-clause-odd_phases c = odd-complement
-
-pub returns-clause-even_interior : goal.returns-clause-even_interior
-returns-clause-even_interior c = even-complement
-
-pub returns-clause-not_XY : goal.returns-clause-not_XY
-returns-clause-not_XY c = planes-complement
+pub returns : goal.returns
+returns c g u h w s = record { odd_phases = odd-complement g u h w s; even_interior = even-complement g u h w s; not_XY = planes-complement g u h w s }

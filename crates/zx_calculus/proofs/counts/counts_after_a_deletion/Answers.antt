@@ -1,12 +1,6 @@
--- The deleted vertex is taken out of each count.
-use Rattle.zx_calculus.proofs.StepCounts.{odd-delete, even-delete, planes-delete}
+-- By the test of each vertex.
+use Rattle.zx_calculus.proofs.Deletions.{odd-delete, even-delete, planes-delete}
 use Rattle.zx_calculus.proofs.counts.counts_after_a_deletion.Goals as goal
 
-pub returns-clause-odd_phases : goal.returns-clause-odd_phases
-returns-clause-odd_phases c = odd-delete
-
-pub returns-clause-even_interior : goal.returns-clause-even_interior
-returns-clause-even_interior c = even-delete
-
-pub returns-clause-not_XY : goal.returns-clause-not_XY
-returns-clause-not_XY c = planes-delete
+pub returns : goal.returns
+returns c g u h w s = record { odd_phases = odd-delete g u h w s; even_interior = even-delete g u h w s; not_XY = planes-delete g u h w s }

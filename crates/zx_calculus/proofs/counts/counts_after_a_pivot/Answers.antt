@@ -1,12 +1,6 @@
--- By the test of each vertex, as planes change at two of them.
-use Rattle.zx_calculus.proofs.StepCounts.{odd-pivot, even-pivot, planes-pivot}
+-- By the test of each vertex.
+use Rattle.zx_calculus.proofs.Pivots.{odd-pivot, even-pivot, planes-pivot}
 use Rattle.zx_calculus.proofs.counts.counts_after_a_pivot.Goals as goal
 
-pub returns-clause-odd_phases : goal.returns-clause-odd_phases
-returns-clause-odd_phases c = odd-pivot
-
-pub returns-clause-even_interior : goal.returns-clause-even_interior
-returns-clause-even_interior c = even-pivot
-
-pub returns-clause-not_XY : goal.returns-clause-not_XY
-returns-clause-not_XY c = planes-pivot
+pub returns : goal.returns
+returns c g u v h w s = record { odd_phases = odd-pivot g u v h w s; even_interior = even-pivot g u v h w s; not_XY = planes-pivot g u v h w s }

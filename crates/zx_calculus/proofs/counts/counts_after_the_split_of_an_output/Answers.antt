@@ -1,12 +1,6 @@
--- One vertex more, of phase 0, and an end in another place.
-use Rattle.zx_calculus.proofs.StepCounts.{odd-split_output, even-split_output, planes-split_output}
+-- By the test of each vertex.
+use Rattle.zx_calculus.proofs.Splits.{odd-split_output, even-split_output, planes-split_output}
 use Rattle.zx_calculus.proofs.counts.counts_after_the_split_of_an_output.Goals as goal
 
-pub returns-clause-odd_phases : goal.returns-clause-odd_phases
-returns-clause-odd_phases c = odd-split_output
-
-pub returns-clause-even_interior : goal.returns-clause-even_interior
-returns-clause-even_interior c = even-split_output
-
-pub returns-clause-not_XY : goal.returns-clause-not_XY
-returns-clause-not_XY c = planes-split_output
+pub returns : goal.returns
+returns c g b h w s = record { odd_phases = odd-split_output g b h w s; even_interior = even-split_output g b h w s; not_XY = planes-split_output g b h w s }

@@ -1,4 +1,8 @@
-use Rattle.zx_calculus.proofs.StepIdentities.{half_turned-half_turned, pivoted-pivoted, quarter_turned-quarter_turned, fuse_twin_allowed_comm, fuse_twin_sum_comm, pivot_allowed_comm, pivot_comm, complement_twice, complement_four, pivot_as_complements}
+use Rattle.zx_calculus.proofs.StepIdentities.{half_turned-half_turned, pivoted-pivoted, quarter_turned-quarter_turned}
+use Rattle.zx_calculus.proofs.Gadgets.{fuse_twin_allowed_comm}
+use Rattle.zx_calculus.proofs.Steps.{fuse_twin_sum_comm}
+use Rattle.zx_calculus.proofs.Pivots.{pivot_allowed_comm, pivot_comm, pivot_as_complements}
+use Rattle.zx_calculus.proofs.Complements.{complement_twice, complement_four}
 use Rattle.zx_calculus.proofs.facts.identities_of_steps.Goals as goal
 
 pub returns-clause-two_half_turns : goal.returns-clause-two_half_turns

@@ -1,5 +1,4 @@
-use Rattle.zx_calculus.proofs.Programs.{after_step, after_is_step}
-use Rattle.zx_calculus.proofs.Results.{step_allowed, step_result}
+use Rattle.zx_calculus.proofs.Steps.{after_step, after_is_step, step_allowed, step_result}
 use Rattle.zx_calculus.proofs.laws.program_is_step.Goals as goal
 
 pub returns-clause-allowed : goal.returns-clause-allowed

@@ -1,5 +1,4 @@
-use Rattle.zx_calculus.proofs.Kept.{step_kept, run_kept}
-use Rattle.zx_calculus.proofs.StepSum.{run_inputs_kept, run_outputs_kept}
+use Rattle.zx_calculus.proofs.Steps.{step_kept, run_kept, run_inputs_kept, run_outputs_kept}
 use Rattle.zx_calculus.proofs.laws.step_keeps_form.Goals as goal
 
 pub returns-clause-step : goal.returns-clause-step

@@ -1,4 +1,4 @@
-use Rattle.zx_calculus.proofs.StepSum.{step_sum, left-nonzero, right-nonzero, step_proportional}
+use Rattle.zx_calculus.proofs.Steps.{step_sum, left-nonzero, right-nonzero, step_proportional}
 use Rattle.zx_calculus.proofs.laws.step_keeps_sum.Goals as goal
 
 pub returns-clause-exact : goal.returns-clause-exact

@@ -1,4 +1,4 @@
-use Rattle.zx_calculus.proofs.OddPhases.{step_odd, run_odd}
+use Rattle.zx_calculus.proofs.Steps.{step_odd, run_odd}
 use Rattle.zx_calculus.proofs.laws.step_raises_no_odd_phases.Goals as goal
 
 pub returns-clause-step : goal.returns-clause-step

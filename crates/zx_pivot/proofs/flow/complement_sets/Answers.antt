@@ -6,9 +6,9 @@ use Rattle.gflow_laws.specs.Seen.{seen}
 use Rattle.gflow_laws.specs.Flow.{order_of, set_of}
 use Rattle.gflow_laws.specs.Correcting.{odd_in}
 use Rattle.gflow_laws.proofs.Views.{Simple-seen}
-use Rattle.local_comp.specs.Sets.{AreChanged, complement_change}
-use Rattle.local_comp.proofs.SetChanges.{changed_grows}
-use Rattle.local_comp.proofs.TableSteps.{complement_done}
+use Rattle.gflow_laws.specs.Changes.{AreChanged, complement_change}
+use Rattle.gflow_laws.proofs.SetChanges.{changed_grows}
+use Rattle.gflow_laws.proofs.TableSteps.{complement_done}
 use Rattle.zx_pivot.specs.Internal.Stages.{view}
 use Rattle.zx_pivot.proofs.StageLemmas.{plane_of_view}
 use Rattle.zx_pivot.proofs.flow.complement_sets.Goals as goal
@@ -28,9 +28,9 @@ loop-i-preserved c =
     let s = view c.args.stage (seen g) c.args.u c.args.w in
     let within : c.loop-i.i < length (order_of t) = omega (arith, ap length c.order-i-end.ensures.value) in
     changed_grows (complement_change s c.args.u (set_of t c.args.u)) (order_of t) c.loop-i.i c.vertex_at-x.result t
-    c.loop-i.f.flow c.complement_set.new.f.flow c.order-i-end.ensures.valid within
+    c.loop-i.f.flow c.complement_set.new.self.flow c.order-i-end.ensures.valid within
     (c.vertex_at-x.ensures.value ∙ ap (λ order. get_or order c.loop-i.i 0) c.loop-i.invariant.order) c.loop-i.invariant
-    (subst (λ set. AreChanged (complement_change s c.args.u set) (c.vertex_at-x.result ∷ []) c.loop-i.f.flow c.complement_set.new.f.flow)
+    (subst (λ set. AreChanged (complement_change s c.args.u set) (c.vertex_at-x.result ∷ []) c.loop-i.f.flow c.complement_set.new.self.flow)
     (c.deref.ensures.value ∙ c.in_ok-own.ensures.value)
     (c.in_ok-complement_set.ensures s
     (c.changes_plane-changes.ensures.value

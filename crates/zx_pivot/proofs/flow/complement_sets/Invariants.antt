@@ -2,7 +2,7 @@
 use Rattle.std.proofs.Common.{take}
 use Rattle.gflow_laws.specs.Seen.{seen}
 use Rattle.gflow_laws.specs.Flow.{order_of, set_of}
-use Rattle.local_comp.specs.Sets.{AreChanged, complement_change}
+use Rattle.gflow_laws.specs.Changes.{AreChanged, complement_change}
 use Rattle.zx_pivot.specs.Internal.Stages.{view}
 use Rattle.zx_pivot.proofs.flow.complement_sets.Given as goal
 

@@ -2,7 +2,7 @@
 use Rattle.std.proofs.Common.{◌∙◌}
 use Rattle.zx_calculus.proofs.Edges.{joined_comm}
 use Rattle.gflow_laws.specs.Seen.{seen}
-use Rattle.local_comp.proofs.Places.{on_ok}
+use Rattle.zx_calculus.proofs.Positions.{on_ok}
 use Rattle.zx_pivot.proofs.StageLemmas.{three_complements}
 use Rattle.zx_pivot.proofs.flow.pivot_sets.Goals as goal
 

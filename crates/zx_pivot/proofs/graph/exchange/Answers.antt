@@ -1,5 +1,5 @@
 -- Three rows added.
-use Rattle.local_comp.proofs.Places.{on_ok}
+use Rattle.zx_calculus.proofs.Positions.{on_ok}
 use Rattle.zx_pivot.proofs.Rewiring.{exchanged}
 use Rattle.zx_pivot.proofs.graph.exchange.Goals as goal
 

@@ -1,5 +1,5 @@
 -- The edge out, the classes, the exchange, and the edge in again.
-use Rattle.local_comp.proofs.Places.{on_ok}
+use Rattle.zx_calculus.proofs.Positions.{on_ok}
 use Rattle.zx_pivot.proofs.Rewiring.{rewired}
 use Rattle.zx_pivot.proofs.graph.rewire.Goals as goal
 

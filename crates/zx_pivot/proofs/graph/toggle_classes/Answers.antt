@@ -1,30 +1,15 @@
 -- The rows of u and v stay.
-use Rattle.std.proofs.Common.{sym, ◌∙◌, subst, ◌<◌, List, ℕ, length, get_or, add-one}
-use Rattle.zx_calculus.specs.Graph.{neighbours, Live}
-use Rattle.local_comp.specs.Internal.Changes.{IsToggled, from_to}
-use Rattle.zx_pivot.proofs.Loops.{at_place, place_live, u_stays, class_live, class_apart, class_next}
+use Rattle.std.proofs.Common.{sym, ◌∙◌, ap, subst, ◌<◌, List, ℕ, length, get_or, add-one}
+use Rattle.zx_calculus.specs.Graph.{neighbours}
+use Rattle.zx_calculus.specs.Toggles.{IsToggled, from_to}
+use Rattle.zx_pivot.proofs.Loops.{u_stays, class_apart, class_next}
 use Rattle.zx_pivot.proofs.graph.toggle_classes.Goals as goal
 
-pub bounds-neighbours-i : goal.bounds-neighbours-i
-bounds-neighbours-i c =
+pub neighbour-p-requires-clause-within : goal.neighbour-p-requires-clause-within
+neighbour-p-requires-clause-within c =
     let stays = u_stays c.args.g.now.graph c.loop-i.g.graph c.args.u c.args.v c.loop-i.i
     c.neighbours-i-end.ensures.valid c.loop-i.invariant.formed c.requires.apart c.loop-i.invariant.toggled in
-    subst (λ (xs : List ℕ). c.loop-i.i < length xs)
-    (c.neighbours-i-end.ensures.value ∙ sym stays ∙ sym c.neighbours.ensures.value) c.loop-i-test.true
-
-pub toggle_row-requires-clause-to_live : goal.toggle_row-requires-clause-to_live
-toggle_row-requires-clause-to_live c =
-    let near = neighbours c.args.g.now.graph c.args.u in
-    let lt : c.loop-i.i < length near =
-    subst (λ (xs : List ℕ). c.loop-i.i < length xs) c.neighbours-i-end.ensures.value c.loop-i-test.true in
-    let stays = u_stays c.args.g.now.graph c.loop-i.g.graph c.args.u c.args.v c.loop-i.i
-    c.neighbours-i-end.ensures.valid c.loop-i.invariant.formed c.requires.apart c.loop-i.invariant.toggled in
-    let at = at_place c.neighbours.result.now near c.loop-i.i c.index-neighbours-i.result
-    (c.neighbours.ensures.value ∙ stays) lt c.index-neighbours-i.is in
-    subst (Live c.loop-i.g.graph) (sym at)
-    (class_live c.args.g.now.graph c.loop-i.g.graph c.args.u c.args.v c.loop-i.i
-    c.neighbours-i-end.ensures.valid c.loop-i.invariant.formed c.requires.apart c.loop-i.invariant.toggled
-    (get_or near c.loop-i.i 0) (place_live c.args.g.now.graph c.args.u c.loop-i.i lt))
+    subst (λ (xs : List ℕ). c.loop-i.i < length xs) (c.neighbours-i-end.ensures.value ∙ sym stays) c.loop-i-test.true
 
 pub toggle_row-requires-clause-different : goal.toggle_row-requires-clause-different
 toggle_row-requires-clause-different c e =
@@ -33,10 +18,9 @@ toggle_row-requires-clause-different c e =
     subst (λ (xs : List ℕ). c.loop-i.i < length xs) c.neighbours-i-end.ensures.value c.loop-i-test.true in
     let stays = u_stays c.args.g.now.graph c.loop-i.g.graph c.args.u c.args.v c.loop-i.i
     c.neighbours-i-end.ensures.valid c.loop-i.invariant.formed c.requires.apart c.loop-i.invariant.toggled in
-    let at = at_place c.neighbours.result.now near c.loop-i.i c.index-neighbours-i.result
-    (c.neighbours.ensures.value ∙ stays) lt c.index-neighbours-i.is in
     class_apart c.args.g.now.graph c.loop-i.g.graph c.args.u c.args.v c.loop-i.i
-    c.neighbours-i-end.ensures.valid c.loop-i.invariant.formed c.requires.apart c.loop-i.invariant.toggled lt (e ∙ at)
+    c.neighbours-i-end.ensures.valid c.loop-i.invariant.formed c.requires.apart c.loop-i.invariant.toggled lt
+    (e ∙ c.neighbour-p.ensures.value ∙ ap (λ (xs : List ℕ). get_or xs c.loop-i.i 0) stays)
 
 pub loop-i-preserved : goal.loop-i-preserved
 loop-i-preserved c =
@@ -45,8 +29,7 @@ loop-i-preserved c =
     subst (λ (xs : List ℕ). c.loop-i.i < length xs) c.neighbours-i-end.ensures.value c.loop-i-test.true in
     let stays = u_stays c.args.g.now.graph c.loop-i.g.graph c.args.u c.args.v c.loop-i.i
     c.neighbours-i-end.ensures.valid c.loop-i.invariant.formed c.requires.apart c.loop-i.invariant.toggled in
-    let at = at_place c.neighbours.result.now near c.loop-i.i c.index-neighbours-i.result
-    (c.neighbours.ensures.value ∙ stays) lt c.index-neighbours-i.is in
+    let at = c.neighbour-p.ensures.value ∙ ap (λ (xs : List ℕ). get_or xs c.loop-i.i 0) stays in
     rw add-one (record {
       toggled = class_next c.args.g.now.graph c.loop-i.g.graph c.args.u c.args.v c.loop-i.i
           c.neighbours-i-end.ensures.valid c.loop-i.invariant.formed c.requires.apart c.loop-i.invariant.toggled

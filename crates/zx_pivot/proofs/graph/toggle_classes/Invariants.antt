@@ -1,7 +1,7 @@
 -- The rows of the neighbours so far are toggled.
 use Rattle.std.proofs.Common.{take}
 use Rattle.zx_calculus.specs.Graph.{neighbours, WellFormed}
-use Rattle.local_comp.specs.Internal.Changes.{IsToggled}
+use Rattle.zx_calculus.specs.Toggles.{IsToggled}
 use Rattle.zx_pivot.specs.Internal.Changes.{across}
 use Rattle.zx_pivot.proofs.graph.toggle_classes.Given as goal
 

@@ -1,31 +1,16 @@
 -- The row that is gone through stays.
-use Rattle.std.proofs.Common.{sym, ◌∙◌, subst, ◌<◌, List, ℕ, length, get_or, add-one}
-use Rattle.zx_calculus.specs.Graph.{neighbours, Live}
+use Rattle.std.proofs.Common.{sym, ◌∙◌, ap, subst, ◌<◌, List, ℕ, length, get_or, add-one}
+use Rattle.zx_calculus.specs.Graph.{neighbours}
 use Rattle.zx_calculus.specs.Edits.{IsToggle}
-use Rattle.zx_pivot.proofs.Loops.{at_place, same_from_test, place_live, row_stays, row_live, row_next, row_skip}
+use Rattle.zx_pivot.proofs.Loops.{same_from_test, row_stays, row_next, row_skip}
 use Rattle.zx_pivot.proofs.graph.toggle_row.Goals as goal
 use Rattle.zx_pivot.proofs.graph.toggle_row.Goals.{then-ne+in_ok-toggle_edge, else-ne}
 
-pub bounds-neighbours-i : goal.bounds-neighbours-i
-bounds-neighbours-i c =
+pub neighbour-p-requires-clause-within : goal.neighbour-p-requires-clause-within
+neighbour-p-requires-clause-within c =
     let stays = row_stays c.args.g.now.graph c.loop-i.g.graph c.args.from c.args.to c.loop-i.i
     c.neighbours-i-end.ensures.valid c.loop-i.invariant.formed c.requires.different c.loop-i.invariant.toggled in
-    subst (λ (xs : List ℕ). c.loop-i.i < length xs)
-    (c.neighbours-i-end.ensures.value ∙ sym stays ∙ sym c.neighbours.ensures.value) c.loop-i-test.true
-
-pub toggle_edge-requires-clause-v_live : goal.toggle_edge-requires-clause-v_live
-toggle_edge-requires-clause-v_live c =
-    let near = neighbours c.args.g.now.graph c.args.from in
-    let lt : c.loop-i.i < length near =
-    subst (λ (xs : List ℕ). c.loop-i.i < length xs) c.neighbours-i-end.ensures.value c.loop-i-test.true in
-    let stays = row_stays c.args.g.now.graph c.loop-i.g.graph c.args.from c.args.to c.loop-i.i
-    c.neighbours-i-end.ensures.valid c.loop-i.invariant.formed c.requires.different c.loop-i.invariant.toggled in
-    let at = at_place c.neighbours.result.now near c.loop-i.i c.index-neighbours-i.result
-    (c.neighbours.ensures.value ∙ stays) lt c.index-neighbours-i.is in
-    subst (Live c.loop-i.g.graph) (sym at)
-    (row_live c.args.g.now.graph c.loop-i.g.graph c.args.from c.args.to c.loop-i.i
-    c.neighbours-i-end.ensures.valid c.loop-i.invariant.formed c.requires.different c.loop-i.invariant.toggled
-    (get_or near c.loop-i.i 0) (place_live c.args.g.now.graph c.args.from c.loop-i.i lt))
+    subst (λ (xs : List ℕ). c.loop-i.i < length xs) (c.neighbours-i-end.ensures.value ∙ sym stays) c.loop-i-test.true
 
 pub loop-i-preserved : goal.loop-i-preserved
 loop-i-preserved c =
@@ -34,8 +19,7 @@ loop-i-preserved c =
     subst (λ (xs : List ℕ). c.loop-i.i < length xs) c.neighbours-i-end.ensures.value c.loop-i-test.true in
     let stays = row_stays c.args.g.now.graph c.loop-i.g.graph c.args.from c.args.to c.loop-i.i
     c.neighbours-i-end.ensures.valid c.loop-i.invariant.formed c.requires.different c.loop-i.invariant.toggled in
-    let at = at_place c.neighbours.result.now near c.loop-i.i c.index-neighbours-i.result
-    (c.neighbours.ensures.value ∙ stays) lt c.index-neighbours-i.is in
+    let at = c.neighbour-p.ensures.value ∙ ap (λ (xs : List ℕ). get_or xs c.loop-i.i 0) stays in
     rw add-one
     (elim c.if-ne.branch [
       | then-ne+in_ok-toggle_edge w ↦ rw w.g-is (record {
@@ -48,7 +32,7 @@ loop-i-preserved c =
       | else-ne w ↦ rw w.g-is (record {
         toggled = row_skip c.args.g.now.graph c.loop-i.g.graph c.args.from c.args.to c.loop-i.i
             c.neighbours-i-end.ensures.valid c.loop-i.invariant.formed c.requires.different c.loop-i.invariant.toggled
-            lt (sym at ∙ same_from_test c.index-neighbours-i.result c.args.to c.ne.result c.ne.ensures w.if-ne.false);
+            lt (sym at ∙ same_from_test c.neighbour-p.result c.args.to c.ne.result c.ne.ensures w.if-ne.false);
         formed = c.loop-i.invariant.formed;
       })
     ])

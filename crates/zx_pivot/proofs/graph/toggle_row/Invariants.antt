@@ -1,7 +1,7 @@
 -- The edges to the neighbours so far are toggled.
 use Rattle.std.proofs.Common.{take}
 use Rattle.zx_calculus.specs.Graph.{neighbours, WellFormed}
-use Rattle.local_comp.specs.Internal.Changes.{IsToggled, from_to}
+use Rattle.zx_calculus.specs.Toggles.{IsToggled, from_to}
 use Rattle.zx_pivot.proofs.graph.toggle_row.Given as goal
 
 abbrev pub invariant-loop-i : goal.invariant-loop-i

@@ -1,7 +1,7 @@
 -- The common ones among the neighbours so far are turned.
 use Rattle.std.proofs.Common.{◌≡◌, take}
 use Rattle.zx_calculus.specs.Graph.{joined, neighbours, WellFormed}
-use Rattle.local_comp.specs.Internal.Changes.{with_changed}
+use Rattle.zx_calculus.specs.Toggles.{with_changed}
 use Rattle.zx_pivot.specs.Internal.Changes.{half_turned_in}
 use Rattle.zx_pivot.proofs.graph.turn_common.Given as goal
 

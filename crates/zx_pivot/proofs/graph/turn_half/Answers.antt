@@ -1,17 +1,16 @@
 -- Two quarters.
-use Rattle.std.proofs.Common.{◌∙◌, sym, ap, subst}
-use Rattle.zx_calculus.specs.Graph.{Graph, Live}
+use Rattle.std.proofs.Common.{◌∙◌, ap}
 use Rattle.zx_calculus.specs.Edits.{at_vertex}
 use Rattle.zx_calculus.specs.Turns.{quarter_turned}
-use Rattle.local_comp.specs.Internal.Changes.{with_changed}
+use Rattle.zx_calculus.specs.Toggles.{with_changed}
 use Rattle.zx_pivot.proofs.Halves.{half_at}
-use Rattle.zx_pivot.proofs.PivotSteps.{live_changed}
+use Rattle.zx_calculus.proofs.ChangedKinds.{turned_live}
 use Rattle.zx_pivot.proofs.graph.turn_half.Goals as goal
 
 pub add_quarter-requires-2 : goal.add_quarter-requires-2
 add_quarter-requires-2 c =
-    subst (λ (k : Graph). Live k c.args.p) (sym c.add_quarter.ensures.ok)
-    (live_changed (at_vertex c.args.p quarter_turned) c.args.g.now.graph c.args.p c.requires)
+    turned_live (at_vertex c.args.p quarter_turned) c.args.g.now.graph c.add_quarter.new.self.graph c.args.p
+    c.add_quarter.ensures.ok c.requires
 
 pub returns-clause-turned : goal.returns-clause-turned
 returns-clause-turned c =

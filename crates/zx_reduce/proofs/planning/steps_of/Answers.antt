@@ -1,6 +1,6 @@
 -- A neighbour is a vertex.
 use Rattle.std.proofs.Common.{subst}
-use Rattle.zx_reduce.specs.declared.search.Move.{Move}
+use Rattle.zx_reduce.specs.declared.moves.Move.{Move}
 use Rattle.zx_reduce.specs.Search.{AppliesAt}
 use Rattle.zx_reduce.proofs.SearchTests.{live_near, near_joined}
 use Rattle.zx_reduce.proofs.planning.steps_of.Goals as goal

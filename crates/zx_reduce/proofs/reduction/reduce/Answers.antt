@@ -1,7 +1,7 @@
 -- The moves one after the other, and what they come to at the end.
 use Rattle.zx_reduce.proofs.MoveCounts.{most_moves-move}
 use Rattle.zx_reduce.proofs.MoveEnds.{stuck-reduced}
-use Rattle.zx_reduce.proofs.MovesMade.{none_made, one_made, gained_run, gained_few_moves, gained_few_steps, gained_ends, gained_keeps}
+use Rattle.zx_reduce.proofs.MovesMade.{none_made, one_made, gained_run, gained_few_moves, gained_counter, on_error, gained_few_steps, gained_ends, gained_keeps}
 use Rattle.zx_reduce.proofs.reduction.reduce.Goals as goal
 
 pub loop-found-init : goal.loop-found-init
@@ -46,3 +46,8 @@ returns-clause-few_moves g c = gained_few_moves c.loop-found.invariant.gains c.c
 
 pub returns-clause-few_steps : goal.returns-clause-few_steps
 returns-clause-few_steps g c = gained_few_steps c.loop-found.invariant.gains
+
+pub returns-in_err-make-clause-err_counter : goal.returns-in_err-make-clause-err_counter
+returns-in_err-make-clause-err_counter g c =
+    on_error c.from_residual-in_err-make.result
+    (gained_counter c.loop-found.invariant.gains c.copy_of.ensures.valid)

@@ -15,7 +15,7 @@ returns-in_err-v-clause-none c =
 
 pub returns-clause-found : goal.returns-clause-found
 returns-clause-found c = record {
-  applies = boundary_found c.args.g.now.graph c.requires.valid c.args.u c.in_ok-v.v c.requires.live (sym c.is_half_spider.ensures ∙ c.if-not-is_half_spider.false)
+  applies = boundary_found c.args.g.now.graph c.requires.valid c.args.u c.in_ok-v.v (c.is_half_spider.ensures.0 c.if-not-is_half_spider.false)
       (none_from c.inner_neighbour.result _ c.inner_neighbour.ensures.none (sym c.is_some.ensures ∙ c.if-is_some.false)) (sym c.first_neighbour.ensures ∙ c.in_ok-v.was);
   kind = refl;
 }

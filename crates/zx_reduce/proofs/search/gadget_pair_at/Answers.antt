@@ -2,7 +2,7 @@
 use Rattle.std.proofs.Common.{Some, None, ◌≡◌, ◌∙◌, sym, refl, true}
 use Rattle.std.specs.List.{find}
 use Rattle.zx_calculus.specs.Graph.{neighbours}
-use Rattle.zx_reduce.specs.Internal.Searching.{is_gadget}
+use Rattle.zx_calculus.specs.Gadgets.{is_gadget}
 use Rattle.zx_reduce.proofs.SearchTests.{if_none}
 use Rattle.zx_reduce.proofs.SearchPairs.{pair_found, pair_none}
 use Rattle.zx_reduce.proofs.search.gadget_pair_at.Goals as goal
@@ -14,6 +14,6 @@ returns-in_err-v-clause-none c =
 
 pub returns-clause-found : goal.returns-clause-found
 returns-clause-found c =
-    let gadget : is_gadget c.args.g.now.graph c.args.u ≡ true = sym c.is_gadget.ensures ∙ c.if-not-is_gadget.false in
+    let gadget : is_gadget c.args.g.now.graph c.args.u ≡ true = sym c.is_gadget.ensures.value ∙ c.if-not-is_gadget.false in
     let found : find (is_gadget c.args.g.now.graph) (neighbours c.args.g.now.graph c.args.u) ≡ Some c.in_ok-v.v = sym c.gadget_beside.ensures ∙ c.in_ok-v.was in
     record { applies = pair_found c.args.g.now.graph c.requires.valid c.args.u c.in_ok-v.v gadget found; kind = refl }

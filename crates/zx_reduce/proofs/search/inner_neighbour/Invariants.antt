@@ -2,12 +2,12 @@
 use Rattle.std.proofs.Common.{◌≡◌, ℕ, true, false, take, IfSome, IfNone}
 use Rattle.zx_model.specs.Bits.{member}
 use Rattle.zx_calculus.specs.Graph.{neighbours}
-use Rattle.zx_reduce.specs.Internal.Searching.{is_inner}
+use Rattle.zx_calculus.specs.Complements.{may_complement}
 use Rattle.zx_reduce.proofs.search.inner_neighbour.Given as goal
 
 abbrev pub invariant-loop-v : goal.invariant-loop-v
 invariant-loop-v l = record {
   items : l.v-items ≡ neighbours l.g.graph l.fn.u;
-  some : IfSome l.best (λ v. (member v (neighbours l.g.graph l.fn.u) ≡ true) × (is_inner l.g.graph v ≡ true));
-  none : IfNone l.best ((v : ℕ) → member v (take l.v-index l.v-items) ≡ true → is_inner l.g.graph v ≡ false);
+  some : IfSome l.best (λ v. (member v (neighbours l.g.graph l.fn.u) ≡ true) × (may_complement l.g.graph v ≡ true));
+  none : IfNone l.best ((v : ℕ) → member v (take l.v-index l.v-items) ≡ true → may_complement l.g.graph v ≡ false);
 }

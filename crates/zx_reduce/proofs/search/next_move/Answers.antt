@@ -27,7 +27,7 @@ loop-u-preserved c =
         best = found.ensures.found;
         nothing = tt;
         none = next_passed (NoneBefore g found.place) c.loop-u.yielded c.in-Some.u
-            (λ p m k lt. past.none p m k (omega (arith, lt, found.ensures.earlier))) found.ensures.none;
+            (λ p m i k lt. past.none p m i k (omega (arith, lt, found.ensures.earlier))) found.ensures.none;
       }
       | in_default w ↦ rw (w.best-is, w.limit-is) record {
         all = all;
@@ -55,3 +55,14 @@ returns-in-None-clause-none c =
     (all_passed (NoneBefore g c.loop-u.limit) c.loop-u.yielded c.loop-u.u-iterator (ids g.vertices) past.all
     (next_none c.next.result c.loop-u.u-iterator c.next.new.self c.next.ensures.steps c.in-None.is) past.none)
     past.nothing
+
+-- no kind comes before the first
+pub returns-then-limit-eq0-clause-first : goal.returns-then-limit-eq0-clause-first
+returns-then-limit-eq0-clause-first c =
+    let g = c.args.g.now.graph in
+    best_is_first g c.match-first_at.limit c.match-first_at.best
+    (λ u there i k lt. absurd (omega (arith, lt, c.if-limit-eq0.true)))
+    (elim c.match-first_at.branch [
+      | in-Some-first_at w ↦ rw (w.best-is, w.limit-is) w.in-Some-first_at.ensures.found
+      | in_default w ↦ rw (w.best-is, w.limit-is) c.loop-u.invariant.best
+    ])

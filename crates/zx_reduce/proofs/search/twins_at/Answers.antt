@@ -2,7 +2,8 @@
 use Rattle.std.proofs.Common.{Some, None, ◌≡◌, ◌∙◌, sym, refl, true, slice_get}
 use Rattle.std.specs.List.{find}
 use Rattle.zx_calculus.specs.Graph.{neighbours}
-use Rattle.zx_reduce.specs.Internal.Searching.{is_gadget, is_twin}
+use Rattle.zx_calculus.specs.Gadgets.{is_gadget}
+use Rattle.zx_reduce.specs.Internal.Searching.{is_twin}
 use Rattle.zx_reduce.proofs.SearchTests.{if_none}
 use Rattle.zx_reduce.proofs.SearchPairs.{near_live, twins_found, twins_none}
 use Rattle.zx_reduce.proofs.search.twins_at.Goals as goal
@@ -20,6 +21,6 @@ returns-in_err-twin-clause-none c =
 
 pub returns-clause-found : goal.returns-clause-found
 returns-clause-found c =
-    let gadget : is_gadget c.args.g.now.graph c.args.u ≡ true = sym c.is_gadget.ensures ∙ c.if-not-is_gadget.false in
+    let gadget : is_gadget c.args.g.now.graph c.args.u ≡ true = sym c.is_gadget.ensures.value ∙ c.if-not-is_gadget.false in
     let found : find (is_twin c.args.g.now.graph c.args.u) (neighbours c.args.g.now.graph c.in_ok-near.near) ≡ Some c.in_ok-twin.twin = sym c.twin_beside.ensures ∙ c.in_ok-twin.was in
     record { applies = twins_found c.args.g.now.graph c.requires.valid c.args.u c.in_ok-near.near c.in_ok-twin.twin gadget found; kind = refl }

@@ -1,6 +1,6 @@
 -- A list that is searched.
 use Rattle.std.proofs.Common.{◌∙◌}
-use Rattle.local_comp.proofs.Places.{any-member}
+use Rattle.zx_calculus.proofs.Positions.{any-member}
 use Rattle.zx_reduce.proofs.test_graphs.stands_in.Goals as goal
 
 pub returns : goal.returns

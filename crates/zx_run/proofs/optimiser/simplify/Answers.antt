@@ -1,7 +1,7 @@
 -- The graphs are between the two circuits: maps, odd phases and widths carry over from one to the next.
 use Rattle.std.proofs.Common.{◌≤◌, map, le_trans, ◌∙◌}
 use Rattle.zx_gates.specs.Circuit.{gate_odd_phases}
-use Rattle.zx_calculus.specs.Reduced.{odd_phases}
+use Rattle.zx_calculus.specs.Counts.{odd_phases}
 use Rattle.zx_reduce.specs.Steps.{step_named}
 use Rattle.zx_run.proofs.Simplified.{no_XZ, map_through, few_through}
 use Rattle.zx_run.proofs.optimiser.simplify.Goals as goal

@@ -1,8 +1,6 @@
 -- The optimised circuit is what is written.
 use Rattle.std.proofs.Common.{rules, subst}
 use Rattle.zx_gates.specs.Circuit.{IsCircuit}
-use Rattle.qasm_scope.specs.Texts.{TextMeans}
-use Rattle.qasm_writer.specs.Elements.{elements_of}
 use Rattle.zx_run.proofs.OptimiseLemmas.{IsOptimisedText-written}
 use Rattle.zx_run.proofs.output.optimised_text.Goals as goal
 
@@ -14,4 +12,3 @@ returns-clause-output c =
     IsOptimisedText-written _ _ _ _ _ _ c.in_ok-lowered.lowered circuit c.in_ok-read.ensures.accepted lowered.qubits lowered.list lowered.map lowered.odd
     (record { qubits = made.qubits; map = made.map; odd = made.odd; tidy = made.tidy; few_gates = made.few_gates; reduced = made.reduced })
     made.best (subst IsCircuit c.optimised.view_is c.optimised.invariant) (search rules)
-    (subst (λ bytes. TextMeans bytes circuit.qubits (elements_of circuit.gates)) c.in_ok-output.ensures.text c.in_ok-output.ensures.means)

@@ -1,20 +1,20 @@
--- Each clause on the ends follows from what the answer says of them.
+-- Each clause on the streams follows from what the answer says of them.
 use Rattle.std.proofs.Common.{sym, subst}
 use Rattle.zx_words.specs.Command.{command_in}
-use Rattle.zx_run.specs.Internal.Answers.{Ends, ends, told_source, told_output, IsAnswer}
+use Rattle.zx_run.specs.Answers.{Streams, streams, told_source, told_output, IsAnswer}
 use Rattle.zx_run.proofs.AnswerLemmas as answers
 use Rattle.zx_run.proofs.program.run.Given.{Over}
 use Rattle.zx_run.proofs.program.run.Goals as goal
 
--- the ends before and after
-abbrev before : (g : Over) → goal.After-report g → Ends
+-- the streams before and after
+abbrev before : (g : Over) → goal.After-report g → Streams
 before g c =
-    ends (told_source g.S.Source.left g.S.Source.faults c.args.source.now)
+    streams (told_source g.S.Source.left g.S.Source.faults c.args.source.now)
     (told_output g.O.Sink.taken g.O.Sink.faults g.O.Sink.pending c.args.out.now)
 
-abbrev after : (g : Over) → goal.After-report g → Ends
+abbrev after : (g : Over) → goal.After-report g → Streams
 after g c =
-    ends (told_source g.S.Source.left g.S.Source.faults c.answer-status.new.source)
+    streams (told_source g.S.Source.left g.S.Source.faults c.answer-status.new.source)
     (told_output g.O.Sink.taken g.O.Sink.faults g.O.Sink.pending c.answer-status.new.out)
 
 -- the line changes no answer

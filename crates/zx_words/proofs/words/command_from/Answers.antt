@@ -1,8 +1,9 @@
 -- What the parse says of the words is what is stated of them.
 use Rattle.std.proofs.Common.{◌∙◌, ap, map, List, inl, inr}
 use Rattle.clap.specs.Words.{Text, app_of, is_simple, is_simple_and_free}
-use Rattle.zx_words.specs.Command.{command_by}
-use Rattle.zx_words.proofs.WordLemmas.{simple, free, refused, taken}
+use Rattle.zx_words.specs.Internal.CommandLine.{command_by}
+use Rattle.zx_words.proofs.ClapAgrees.{refused, taken}
+use Rattle.zx_words.proofs.WordLemmas.{simple, free}
 use Rattle.zx_words.proofs.words.command_from.Goals as goal
 
 pub returns-in-Ok-clause-command : goal.returns-in-Ok-clause-command

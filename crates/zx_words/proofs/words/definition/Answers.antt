@@ -3,7 +3,7 @@ use Rattle.std.proofs.Common.{◌≡◌, ◌∙◌, ap, ap₂, codes}
 use Rattle.std.proofs.lemmas.Result.{IfOk-weaker}
 use Rattle.clap.specs.Words.{App, app_of, new_app, with_subcommand}
 use Rattle.clap.specs.declared.builder.command.Command.TheViews.{out-Command}
-use Rattle.zx_words.specs.Command.{zxopt_app, bare, opt_app}
+use Rattle.zx_words.specs.Internal.CommandLine.{zxopt_app, bare, opt_app}
 use Rattle.zx_words.proofs.WordLemmas.{bare_is}
 use Rattle.zx_words.proofs.words.definition.Goals as goal
 

@@ -2,9 +2,10 @@
 use Rattle.std.proofs.Common.{◌∙◌, ap₂, set}
 use Rattle.circuit_graph.specs.Internal.Wires.{state_of}
 use Rattle.circuit_graph.proofs.Gates.{gate_comes}
-use Rattle.circuit_graph.proofs.Calls.{here_still_live, next_live, here_apart, next_still_live, next_plane, next_free, here_uncorrected, spider_step, on_ok}
+use Rattle.circuit_graph.proofs.Calls.{here_still_live, next_live, here_apart, next_still_live, next_plane, next_free, here_uncorrected, spider_step}
 use Rattle.zx_gates.specs.declared.gate.Gate.TheVariants.{H}
 use Rattle.circuit_graph.proofs.wires.Wires.add_hadamard.Goals as goal
+use Rattle.std.proofs.lemmas.Result.{on_ok_weaker}
 
 pub toggle_edge-requires-clause-u_live : goal.toggle_edge-requires-clause-u_live
 toggle_edge-requires-clause-u_live c =
@@ -39,7 +40,7 @@ add-requires-clause-fresh c =
 
 pub returns-clause-step : goal.returns-clause-step
 returns-clause-step c =
-    on_ok c.add.result (λ same. spider_step (state_of c.args.self.now) c.args.q c.present-here.result c.in_ok-next.next c.new.result c.add_vertex.new.self.graph c.requires.ready c.present-here.ensures c.in_ok-next.ensures.fresh c.new.ensures c.in_ok-next.ensures.ok c.toggle_edge.new.self.graph c.in_ok-toggle_edge.ensures.ok _
+    on_ok_weaker c.add.result (λ same. spider_step (state_of c.args.self.now) c.args.q c.present-here.result c.in_ok-next.next c.new.result c.add_vertex.new.self.graph c.requires.ready c.present-here.ensures c.in_ok-next.ensures.fresh c.new.ensures c.in_ok-next.ensures.ok c.toggle_edge.new.self.graph c.in_ok-toggle_edge.ensures.ok _
     (c.move_output.ensures.ok
     ∙ ap₂ (λ i e. record {
       vertices = c.toggle_edge.new.self.graph.vertices;
@@ -51,4 +52,4 @@ returns-clause-step c =
 
 pub returns-clause-ready : goal.returns-clause-ready
 returns-clause-ready c =
-    on_ok c.add.result (λ step. (gate_comes (state_of c.args.self.now) (H c.args.q) _ c.requires.ready step).ready) (returns-clause-step c)
+    on_ok_weaker c.add.result (λ step. (gate_comes (state_of c.args.self.now) (H c.args.q) _ c.requires.ready step).ready) (returns-clause-step c)

@@ -2,9 +2,10 @@
 use Rattle.std.proofs.Common.{refl}
 use Rattle.circuit_graph.specs.Internal.Wires.{state_of}
 use Rattle.circuit_graph.proofs.Gates.{gate_comes}
-use Rattle.circuit_graph.proofs.Calls.{here_live, wires_apart, toggle_step, on_ok}
+use Rattle.circuit_graph.proofs.Calls.{here_live, wires_apart, toggle_step}
 use Rattle.zx_gates.specs.declared.gate.Gate.TheVariants.{Cz}
 use Rattle.circuit_graph.proofs.wires.Wires.toggle.Goals as goal
+use Rattle.std.proofs.lemmas.Result.{on_ok_weaker}
 
 pub toggle_edge-requires-clause-u_live : goal.toggle_edge-requires-clause-u_live
 toggle_edge-requires-clause-u_live c = here_live c.args.self.now.graph.graph c.args.p c.present-first.result c.requires.ready.well_formed c.present-first.ensures
@@ -18,10 +19,10 @@ toggle_edge-requires-clause-different c =
 
 pub returns-clause-step : goal.returns-clause-step
 returns-clause-step c =
-    on_ok c.toggle_edge.result (λ toggled.
+    on_ok_weaker c.toggle_edge.result (λ toggled.
     toggle_step (state_of c.args.self.now) c.args.p c.args.q c.present-first.result c.present-second.result _ c.requires.ready c.present-first.ensures c.present-second.ensures c.requires.apart toggled refl)
     c.toggle_edge.ensures.ok
 
 pub returns-clause-ready : goal.returns-clause-ready
 returns-clause-ready c =
-    on_ok c.toggle_edge.result (λ step. (gate_comes (state_of c.args.self.now) (Cz c.args.p c.args.q) _ c.requires.ready step).ready) (returns-clause-step c)
+    on_ok_weaker c.toggle_edge.result (λ step. (gate_comes (state_of c.args.self.now) (Cz c.args.p c.args.q) _ c.requires.ready step).ready) (returns-clause-step c)

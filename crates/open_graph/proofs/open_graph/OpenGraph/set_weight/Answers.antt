@@ -1,8 +1,7 @@
 use Rattle.std.proofs.Common.{◌∙◌, sym, ap, rules}
 use Rattle.zx_model.specs.Bits.{member}
-use Rattle.zx_calculus.specs.Graph.{ids, with_kinds}
+use Rattle.zx_calculus.specs.Graph.{ids, with_kinds, is_interior}
 use Rattle.zx_calculus.specs.Turns.{in_plane}
-use Rattle.zx_calculus.specs.Reduced.{is_interior}
 use Rattle.zx_calculus.specs.Edits.{at_vertex}
 use Rattle.open_graph.specs.Planes.{plane_named}
 use Rattle.open_graph.proofs.SlotLemmas.{contains_live}

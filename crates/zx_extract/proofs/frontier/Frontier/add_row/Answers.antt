@@ -5,9 +5,9 @@ use Rattle.zx_calculus.specs.Graph.{Distinct}
 use Rattle.zx_calculus.specs.Worked.{plain}
 use Rattle.circuit_laws.proofs.Places.{output_there}
 use Rattle.zx_extract.specs.Internal.Frontiers.{state_of}
-use Rattle.zx_extract.proofs.Calls.{on_ok}
 use Rattle.zx_extract.proofs.RowToggles.{row_live, not_in_row, row_once, row_added_step}
 use Rattle.zx_extract.proofs.frontier.Frontier.add_row.Goals as goal
+use Rattle.std.proofs.lemmas.Result.{on_ok_weaker}
 
 pub neighbours-requires : goal.neighbours-requires
 neighbours-requires c = output_there c.args.self.now.graph.graph c.args.c
@@ -36,7 +36,7 @@ toggle_row-requires-clause-once c =
     c.requires.frontier c.present-added.ensures c.present-to.ensures c.requires.apart)
 
 pub returns : goal.returns
-returns c = on_ok c.write_cx.result (λ written.
+returns c = on_ok_weaker c.write_cx.result (λ written.
     row_added_step (state_of c.args.self.now) c.args.c c.args.t c.present-added.result c.present-to.result
     c.requires.ready c.requires.frontier c.present-added.ensures c.present-to.ensures c.requires.apart
     c.toggle_row.new.graph.graph c.deref.result.now c.add_row.new.self.flow (state_of c.write_cx.new.self)

@@ -1,10 +1,10 @@
 -- The step that the moved output and the removed vertex are.
 use Rattle.std.proofs.Common.{◌∙◌, ap₂, set}
 use Rattle.zx_extract.specs.Internal.Frontiers.{state_of}
-use Rattle.zx_extract.proofs.Calls.{on_ok}
 use Rattle.zx_extract.proofs.LastVertex.{last_live}
 use Rattle.zx_extract.proofs.VertexCalls.{free, spider_live, spider_interior, advance_set, advanced_step}
 use Rattle.zx_extract.proofs.frontier.Frontier.advance.Goals as goal
+use Rattle.std.proofs.lemmas.Result.{on_ok_weaker}
 
 pub move_output-requires-clause-live : goal.move_output-requires-clause-live
 move_output-requires-clause-live c = rw c.plain.ensures
@@ -45,7 +45,7 @@ advance-requires c = advance_set (state_of c.args.self.now)
     c.requires.gathered c.present-here.ensures
 
 pub returns : goal.returns
-returns c = on_ok c.write.result (λ written.
+returns c = on_ok_weaker c.write.result (λ written.
     advanced_step (state_of c.args.self.now) c.args.v c.args.q c.present-here.result c.requires.ready
     c.requires.frontier c.requires.last c.requires.plane c.requires.gathered c.present-here.ensures
     c.move_output.new.self.graph c.remove_vertex.new.self.graph c.advance.new.self.flow _

@@ -3,8 +3,8 @@ use Rattle.std.proofs.Common.{◌∙◌, ap, sym}
 use Rattle.std.specs.Prelude.{Some}
 use Rattle.zx_calculus.specs.Graph.{End}
 use Rattle.zx_calculus.specs.Worked.{plain}
-use Rattle.zx_extract.proofs.Places.{plain_at}
 use Rattle.zx_extract.proofs.frontier.Frontier.present.Goals as goal
+use Rattle.circuit_laws.proofs.Places.{plain_at}
 
 pub returns : goal.returns
 returns c =

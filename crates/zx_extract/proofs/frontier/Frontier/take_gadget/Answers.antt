@@ -3,10 +3,10 @@ use Rattle.std.proofs.Common.{length, sym, subst}
 use Rattle.open_graph.specs.Planes.{plane_named}
 use Rattle.zx_extract.specs.Internal.Frontiers.{state_of}
 use Rattle.zx_extract.specs.Internal.Steps.{AreLegs}
-use Rattle.zx_extract.proofs.Calls.{on_ok}
 use Rattle.zx_extract.proofs.LastVertex.{last_live}
 use Rattle.zx_extract.proofs.VertexCalls.{gadget_interior, gadget_set, gadget_step}
 use Rattle.zx_extract.proofs.frontier.Frontier.take_gadget.Goals as goal
+use Rattle.std.proofs.lemmas.Result.{on_ok_weaker}
 
 pub weight-plane-requires : goal.weight-plane-requires
 weight-plane-requires c = last_live (state_of c.args.self.now)
@@ -29,7 +29,7 @@ take_alone-requires c = gadget_set (state_of c.args.self.now)
     c.args.v c.requires.ready c.requires.frontier c.requires.last c.requires.alone
 
 pub returns : goal.returns
-returns c = on_ok c.write_gadget.result (λ written. (
+returns c = on_ok_weaker c.write_gadget.result (λ written. (
   c.deref.result.now,
   subst (AreLegs c.args.self.now.graph.graph c.args.v (length c.args.self.now.graph.graph.outputs))
       (sym c.deref.ensures.value) c.in_ok-legs.ensures,

@@ -3,10 +3,10 @@ use Rattle.std.proofs.Common.{length, sym, subst}
 use Rattle.open_graph.specs.Planes.{plane_named}
 use Rattle.zx_extract.specs.Internal.Frontiers.{state_of}
 use Rattle.zx_extract.specs.Internal.Steps.{AreLegs}
-use Rattle.zx_extract.proofs.Calls.{on_ok}
 use Rattle.zx_extract.proofs.LastVertex.{last_live}
 use Rattle.zx_extract.proofs.VertexCalls.{gadget_interior, linked_set, linked_step}
 use Rattle.zx_extract.proofs.frontier.Frontier.take_linked_gadget.Goals as goal
+use Rattle.std.proofs.lemmas.Result.{on_ok_weaker}
 
 pub weight-plane-requires : goal.weight-plane-requires
 weight-plane-requires c = last_live (state_of c.args.self.now)
@@ -30,7 +30,7 @@ take_linked-requires c =
     c.requires.last c.requires.plane c.requires.gathered c.present-link.ensures
 
 pub returns : goal.returns
-returns c = on_ok c.write_linked_gadget.result (λ written. (
+returns c = on_ok_weaker c.write_linked_gadget.result (λ written. (
   c.deref.result.now,
   subst (AreLegs c.args.self.now.graph.graph c.args.v (length c.args.self.now.graph.graph.outputs))
       (sym c.deref.ensures.value) c.in_ok-legs.ensures,

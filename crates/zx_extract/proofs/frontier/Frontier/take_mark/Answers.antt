@@ -1,15 +1,17 @@
 -- The step that the moved output is.
 use Rattle.std.proofs.Common.{◌∙◌, sym, ap, ap₂, set, remove, arith}
 use Rattle.zx_model.specs.Bits.{member}
-use Rattle.zx_calculus.specs.Graph.{End, Graph, ids, plane_of, places}
+use Rattle.zx_calculus.specs.Graph.{End, Graph, ids, plane_of, end_vertices}
 use Rattle.zx_calculus.specs.Worked.{plain}
 use Rattle.zx_calculus.proofs.Ids.{not-true}
 use Rattle.circuit_laws.proofs.Places.{output_there, output_plane}
 use Rattle.zx_extract.specs.Internal.Frontiers.{state_of}
 use Rattle.zx_extract.proofs.Leads.{leads_nothing, leads_within}
-use Rattle.zx_extract.proofs.Places.{once_removed, not_false}
-use Rattle.zx_extract.proofs.Calls.{on_ok, mark_step, mark_plain, mark_others, plain_here}
+use Rattle.zx_extract.proofs.Places.{once_removed}
+use Rattle.zx_extract.proofs.Calls.{mark_step, mark_plain, mark_others, plain_here}
 use Rattle.zx_extract.proofs.frontier.Frontier.take_mark.Goals as goal
+use Rattle.std.proofs.lemmas.Result.{on_ok_weaker}
+use Rattle.std.proofs.lemmas.Bool.{not-false}
 
 pub returns-then-not-output-clause-leads : goal.returns-then-not-output-clause-leads
 returns-then-not-output-clause-leads c =
@@ -36,31 +38,31 @@ move_output-requires-clause-plane c =
 pub move_output-requires-clause-free : goal.move_output-requires-clause-free
 move_output-requires-clause-free c =
     let es = c.args.self.now.graph.graph.outputs in
-    ap₂ (λ (e : End) i. member e.vertex (places (remove es i))) (c.plain.ensures
+    ap₂ (λ (e : End) i. member e.vertex (end_vertices (remove es i))) (c.plain.ensures
     ∙ ap (λ (e : End). plain e.vertex) c.output.view_is) c.from.ensures
     ∙ once_removed es c.args.q c.output-output.result c.requires.given.well_formed.outputs.one_each
     c.output-output.ensures
 
 pub returns-clause-leads : goal.returns-clause-leads
-returns-clause-leads c = on_ok c.write.result (λ written.
+returns-clause-leads c = on_ok_weaker c.write.result (λ written.
     (mark_step (state_of c.args.self.now) c.args.q _ c.output-output.result c.plain.result c.move_output.new.self.graph
     (state_of c.write.new.self) c.requires.given c.output-output.ensures
     (ap (λ (e : End). e.hadamard) (sym c.output.view_is)
-    ∙ not_false c.output.inside.hadamard c.if-not-output.false) c.from.ensures
+    ∙ not-false c.output.inside.hadamard c.if-not-output.false) c.from.ensures
     (c.plain.ensures ∙ ap (λ (e : End). plain e.vertex) c.output.view_is) c.move_output.ensures.ok written).0)
     c.write.ensures
 
 pub returns-clause-given : goal.returns-clause-given
-returns-clause-given c = on_ok c.write.result (λ written.
+returns-clause-given c = on_ok_weaker c.write.result (λ written.
     (mark_step (state_of c.args.self.now) c.args.q _ c.output-output.result c.plain.result c.move_output.new.self.graph
     (state_of c.write.new.self) c.requires.given c.output-output.ensures
     (ap (λ (e : End). e.hadamard) (sym c.output.view_is)
-    ∙ not_false c.output.inside.hadamard c.if-not-output.false) c.from.ensures
+    ∙ not-false c.output.inside.hadamard c.if-not-output.false) c.from.ensures
     (c.plain.ensures ∙ ap (λ (e : End). plain e.vertex) c.output.view_is) c.move_output.ensures.ok written).1)
     c.write.ensures
 
 pub returns-clause-plain : goal.returns-clause-plain
-returns-clause-plain c = on_ok c.write.result (λ written.
+returns-clause-plain c = on_ok_weaker c.write.result (λ written.
     mark_plain (state_of c.args.self.now) c.args.q c.output-output.result c.move_output.new.self.graph
     (state_of c.write.new.self) c.output-output.ensures
     (ap (λ (g : Graph). g.outputs) c.move_output.ensures.ok
@@ -68,7 +70,7 @@ returns-clause-plain c = on_ok c.write.result (λ written.
     ∙ ap (λ (e : End). plain e.vertex) c.output.view_is)) written) c.write.ensures
 
 pub returns-clause-others : goal.returns-clause-others
-returns-clause-others c = on_ok c.write.result (λ written.
+returns-clause-others c = on_ok_weaker c.write.result (λ written.
     mark_others (state_of c.args.self.now) c.args.q c.output-output.result c.move_output.new.self.graph
     (state_of c.write.new.self) c.output-output.ensures
     (ap (λ (g : Graph). g.outputs) c.move_output.ensures.ok

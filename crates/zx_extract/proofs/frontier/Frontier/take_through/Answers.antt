@@ -2,9 +2,9 @@
 use Rattle.std.proofs.Common.{subst}
 use Rattle.zx_extract.specs.Internal.Frontiers.{state_of}
 use Rattle.zx_extract.specs.Internal.Steps.{IsSettling}
-use Rattle.zx_extract.proofs.Calls.{on_ok}
 use Rattle.zx_extract.proofs.Taking.{still_last, still_live, one_left, must_be_XY, linked_taken, spider_ready, spider_taken}
 use Rattle.zx_extract.proofs.frontier.Frontier.take_through.Goals as goal
+use Rattle.std.proofs.lemmas.Result.{on_ok_weaker}
 
 pub weight-plane-requires : goal.weight-plane-requires
 weight-plane-requires c = still_live (state_of c.args.self.now) c.args.v c.args.q
@@ -19,13 +19,13 @@ take_linked_gadget-requires-clause-gathered c = one_left (state_of c.args.self.n
     (state_of c.gather.new.self) c.requires.picked.within c.requires.last c.in_ok-gather.ensures
 
 pub returns-in-YZ-clause-taken : goal.returns-in-YZ-clause-taken
-returns-in-YZ-clause-taken c = on_ok c.take_linked_gadget.result (λ step.
+returns-in-YZ-clause-taken c = on_ok_weaker c.take_linked_gadget.result (λ step.
     (linked_taken (state_of c.args.self.now) c.args.v c.args.q
     (state_of c.gather.new.self) c.requires.picked.within c.requires.last c.in_ok-gather.ensures
     (state_of c.take_linked_gadget.new.self) step).0) c.take_linked_gadget.ensures
 
 pub returns-in-YZ-clause-shorter : goal.returns-in-YZ-clause-shorter
-returns-in-YZ-clause-shorter c = on_ok c.take_linked_gadget.result (λ step.
+returns-in-YZ-clause-shorter c = on_ok_weaker c.take_linked_gadget.result (λ step.
     (linked_taken (state_of c.args.self.now) c.args.v c.args.q
     (state_of c.gather.new.self) c.requires.picked.within c.requires.last c.in_ok-gather.ensures
     (state_of c.take_linked_gadget.new.self) step).1) c.take_linked_gadget.ensures
@@ -59,7 +59,7 @@ settle-requires-clause-ready c =
     (state_of c.advance.new.self) c.in_ok-advance-in_default.ensures
 
 pub returns-in_ok-advance-in_default-clause-taken : goal.returns-in_ok-advance-in_default-clause-taken
-returns-in_ok-advance-in_default-clause-taken c = on_ok c.settle.result (λ settled.
+returns-in_ok-advance-in_default-clause-taken c = on_ok_weaker c.settle.result (λ settled.
     (spider_taken (state_of c.args.self.now) c.args.v c.args.q
     (state_of c.gather.new.self) c.requires.picked.within c.requires.last c.in_ok-gather.ensures
     c.weight-plane.result.0 c.weight-plane.result.1 c.weight-plane.ensures.value c.in_default.not-YZ
@@ -68,7 +68,7 @@ returns-in_ok-advance-in_default-clause-taken c = on_ok c.settle.result (λ sett
     (state_of c.settle.new.self)) c.qubits.ensures settled)).0) c.settle.ensures
 
 pub returns-in_ok-advance-in_default-clause-shorter : goal.returns-in_ok-advance-in_default-clause-shorter
-returns-in_ok-advance-in_default-clause-shorter c = on_ok c.settle.result (λ settled.
+returns-in_ok-advance-in_default-clause-shorter c = on_ok_weaker c.settle.result (λ settled.
     (spider_taken (state_of c.args.self.now) c.args.v c.args.q
     (state_of c.gather.new.self) c.requires.picked.within c.requires.last c.in_ok-gather.ensures
     c.weight-plane.result.0 c.weight-plane.result.1 c.weight-plane.ensures.value c.in_default.not-YZ

@@ -6,7 +6,7 @@ use Rattle.zx_extract.specs.Internal.Leading.{State}
 use Rattle.zx_extract.proofs.Leads.{leads_table}
 use Rattle.std.specs.Prelude.{slice_get}
 use Rattle.zx_model.specs.Bits.{member}
-use Rattle.zx_calculus.specs.Graph.{places}
+use Rattle.zx_calculus.specs.Graph.{end_vertices}
 use Rattle.gflow_laws.proofs.AllEnds.{length-places}
 use Rattle.zx_extract.specs.Internal.Frontiers.{state_of}
 use Rattle.zx_extract.specs.Internal.Steps.{IsUncrossed}
@@ -17,7 +17,7 @@ use Rattle.zx_extract.proofs.frontier.Frontier.uncross.Goals as goal
 pub loop-q-init : goal.loop-q-init
 loop-q-init c = record {
   uncrossed = subst (λ us. IsUncrossed (state_of c.args.self.now) 0 us (state_of c.args.self.now).gates)
-      (sym (c.in_ok-outputs.ensures ∙ ap places c.outputs.ensures.value))
+      (sym (c.in_ok-outputs.ensures ∙ ap end_vertices c.outputs.ensures.value))
       (uncrossed_nothing (state_of c.args.self.now) c.requires.ready c.requires.frontier c.requires.all
       c.requires.ends);
   graph = refl;
@@ -28,7 +28,7 @@ index-requires c = omega (
   arith,
   c.in_ok-inputs.inputs.ok.0,
   ap length (c.in_ok-inputs.ensures
-      ∙ ap places c.inputs.ensures.value),
+      ∙ ap end_vertices c.inputs.ensures.value),
   length-places c.args.self.now.graph.graph.inputs,
   c.requires.ends,
 )
@@ -38,9 +38,9 @@ place_of-place-requires c =
     ap (member c.index.result.now) c.deref.ensures.value
     ∙ next_there (state_of c.args.self.now) c.requires.ready c.requires.frontier c.requires.all c.requires.ends
     c.loop-q.q c.loop-q.outputs.items (state_of c.loop-q.self).gates c.index.result.now c.loop-q.invariant.uncrossed
-    (read_at (places c.args.self.now.graph.graph.inputs)
+    (read_at (end_vertices c.args.self.now.graph.graph.inputs)
     c.in_ok-inputs.inputs.items c.loop-q.q c.from.result c.index.result.now (c.in_ok-inputs.ensures
-    ∙ ap places c.inputs.ensures.value) c.from.ensures
+    ∙ ap end_vertices c.inputs.ensures.value) c.from.ensures
     (omega (arith, length-places c.args.self.now.graph.graph.inputs, c.requires.ends)) c.index.ensures)
 
 pub loop-q-preserved-then-place-from : goal.loop-q-preserved-then-place-from
@@ -50,9 +50,9 @@ loop-q-preserved-then-place-from c = record {
       (state_of c.loop-q.self).gates c.index.result.now c.loop-q.invariant.uncrossed
       (ap (slice_get c.loop-q.outputs.items) (sym (c.if-place-from.true ∙ c.from-in-loop-q.ensures))
       ∙ ap (λ us. slice_get us c.place_of-place.result) (sym c.deref.ensures.value) ∙ c.place_of-place.ensures)
-      (read_at (places c.args.self.now.graph.graph.inputs)
+      (read_at (end_vertices c.args.self.now.graph.graph.inputs)
       c.in_ok-inputs.inputs.items c.loop-q.q c.from.result c.index.result.now (c.in_ok-inputs.ensures
-      ∙ ap places c.inputs.ensures.value) c.from.ensures
+      ∙ ap end_vertices c.inputs.ensures.value) c.from.ensures
       (omega (arith, length-places c.args.self.now.graph.graph.inputs, c.requires.ends)) c.index.ensures);
   graph = c.loop-q.invariant.graph;
 }
@@ -88,9 +88,9 @@ loop-q-preserved c =
           (get_or c.loop-q.outputs.items c.loop-q.q c.index.result.now) c.loop-q.invariant.uncrossed
           (ap (λ us. slice_get us c.place_of-place.result) (sym c.deref.ensures.value) ∙ c.place_of-place.ensures)
           (slice_get-get_or c.loop-q.outputs.items c.loop-q.q c.index.result.now within)
-          (read_at (places c.args.self.now.graph.graph.inputs)
+          (read_at (end_vertices c.args.self.now.graph.graph.inputs)
           c.in_ok-inputs.inputs.items c.loop-q.q c.from.result c.index.result.now (c.in_ok-inputs.ensures
-          ∙ ap places c.inputs.ensures.value) c.from.ensures
+          ∙ ap end_vertices c.inputs.ensures.value) c.from.ensures
           (omega (arith, length-places c.args.self.now.graph.graph.inputs, c.requires.ends)) c.index.ensures)
           (λ e. c.if-place-from.false (e ∙ sym c.from-in-loop-q.ensures))));
       graph = ap (λ (s : State). s.graph) c.in_ok-write_exchange.ensures ∙ c.loop-q.invariant.graph;

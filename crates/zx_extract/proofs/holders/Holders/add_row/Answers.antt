@@ -8,10 +8,10 @@ use Rattle.zx_extract.proofs.holders.Holders.add_row.Goals as goal
 
 pub returns : goal.returns
 returns c =
-    on_ok_weaker c.toggle_places.result
+    on_ok_weaker c.toggle_where.result
     (λ toggled. subst (λ (h : Holders). SameSets
-    (table_from c.toggle_places.new.held.items 0 c.self.inside.order.items)
+    (table_from c.toggle_where.new.held.items c.self.inside.order.items)
     (row_added_table c.args.c c.args.t h.flow)) c.self.view_is
-    (SameSets-toggled c.self.inside.held.items c.toggle_places.new.held.items c.args.c c.args.t
+    (SameSets-toggled c.self.inside.held.items c.toggle_where.new.held.items c.args.c c.args.t
     c.self.inside.order.items toggled))
-    c.toggle_places.ensures.ok
+    c.toggle_where.ensures.ok

@@ -2,15 +2,15 @@ use Rattle.std.proofs.Common.{◌≡◌, sym, ◌∙◌, ap, ltb, List, ℕ, len
 use Rattle.std.specs.Prelude.{count_by}
 use Rattle.zx_calculus.specs.Graph.{in_order}
 use Rattle.gflow_laws.specs.Flow.{Correction, is_in}
-use Rattle.zx_extract.specs.Internal.Holders.{Holders, places_at}
+use Rattle.zx_extract.specs.Internal.Holders.{Holders, sets_with}
 use Rattle.zx_extract.proofs.HoldersCounting.{count_held}
 use Rattle.zx_extract.proofs.holders.Holders.count.Goals as goal
 
 pub returns : goal.returns
 returns c =
     let held = c.self.inside.held.items in
-    let found : c.places_of.result.now ≡ places_at held c.args.s = c.places_of.ensures.value
-    ∙ ap (λ (l : List (List ℕ)). places_at l c.args.s) c.deref.ensures.value in
+    let found : c.sets_with.result.now ≡ sets_with held c.args.s = c.sets_with.ensures.value
+    ∙ ap (λ (l : List (List ℕ)). sets_with l c.args.s) c.deref.ensures.value in
     ap length found ∙ count_held held c.args.s c.self.inside.order.items (ap (in_order ltb) (sym found)
-    ∙ c.places_of.ensures.rising) c.self.invariant
+    ∙ c.sets_with.ensures.rising) c.self.invariant
     ∙ ap (λ (h : Holders). count_by (λ (e : Correction). is_in e.members c.args.s) h.flow) c.self.view_is

@@ -1,6 +1,7 @@
+use Rattle.std.proofs.Common.{take}
 use Rattle.gflow_laws.specs.Flow.{order_of}
 use Rattle.zx_extract.proofs.HoldersTurning.{IsTurned}
 use Rattle.zx_extract.proofs.holders.Holders.of_flow.Given as goal
 
-abbrev pub invariant-loop-place : goal.invariant-loop-place
-invariant-loop-place l = IsTurned l.f.flow (order_of l.f.flow) l.place l.held.items
+abbrev pub invariant-loop-v : goal.invariant-loop-v
+invariant-loop-v l = IsTurned l.f.flow (take l.v-index l.vertices) l.held.items

@@ -10,7 +10,7 @@ invariant_of-self c =
     let last = c.requires in
     (taken_alone c.self.inside.held.items c.clear.new.held.items c.self.inside.order.items c.pop.new.self.items
     c.in-Some.v last.0 last.1 c.in-Some.ensures.items c.self.invariant
-    (ap (λ (h : Holders). h.flow) c.self.view_is ∙ last.2) c.clear.ensures last.3).below
+    (ap (λ (h : Holders). h.flow) c.self.view_is ∙ last.2) c.clear.ensures last.3).ordered
 
 pub returns-in-Some : goal.returns-in-Some
 returns-in-Some c before e is =

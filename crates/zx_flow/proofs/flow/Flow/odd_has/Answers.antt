@@ -20,4 +20,4 @@ returns-then-is_live c =
 
 pub returns-else-is_live : goal.returns-else-is_live
 returns-else-is_live c =
-    c.if-is_live.false ∙ sym (parity-absent c.args.g.now.graph c.args.w (is_in (set_of c.args.self.now.flow c.args.v)) c.inputs-ends.ensures.valid (sym c.is_live.ensures ∙ c.if-is_live.false))
+    c.if-is_live.false ∙ sym (parity-absent c.args.g.now.graph c.args.w (is_in (set_of c.args.self.now.flow c.args.v)) c.is_live.ensures.valid (sym c.is_live.ensures.value ∙ c.if-is_live.false))

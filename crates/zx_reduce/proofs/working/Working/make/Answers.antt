@@ -25,9 +25,9 @@ pub loop-step-preserved : goal.loop-step-preserved
 loop-step-preserved c = record {
   planned = c.loop-step.invariant.planned;
   way = rw add-one (next_done c.step-item.result c.loop-step.invariant.way c.loop-step-test.true c.step-item.is
-      c.in_ok-do_step.ensures.step c.in_ok-do_step.ensures.trace);
-  flow = c.in_ok-do_step.ensures.flow;
-  valid = c.in_ok-do_step.ensures.valid;
+      c.in_ok-do_step.ensures.rewritten.step c.in_ok-do_step.ensures.trace);
+  flow = c.in_ok-do_step.ensures.rewritten.flow;
+  valid = c.in_ok-do_step.ensures.rewritten.valid;
 }
 
 pub do_step-requires-clause-allowed : goal.do_step-requires-clause-allowed

@@ -1,3 +1,0 @@
-pub mod Rewrites
-pub mod Sets
-pub mod Internal

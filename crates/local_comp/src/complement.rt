@@ -1,0 +1,159 @@
+//! The local complement about a vertex.
+
+ghost use Rattle.std.specs.Prelude.{◌≡◌, ◌<◌, ℕ, true, length, take, slice_index, OnOk, OnErr};
+ghost use Rattle.zx_model.specs.Bits.{member};
+ghost use Rattle.zx_calculus.specs.Graph.{neighbours, plane_of, Live, Interior, WellFormed};
+ghost use Rattle.zx_calculus.specs.Steps.{allowed, LocalComplement};
+ghost use Rattle.zx_calculus.specs.Complements.{IsLocalComplement};
+ghost use Rattle.zx_calculus.specs.Edits.{at_vertex};
+ghost use Rattle.zx_calculus.specs.Toggles.{IsToggled, among, from_to, with_changed};
+ghost use Rattle.zx_calculus.specs.Turns.{in_plane, complemented};
+ghost use Rattle.gflow_laws.specs.Seen.{seen};
+ghost use Rattle.gflow_laws.specs.Flow.{order_of, IsFlow, SameSets};
+ghost use Rattle.gflow_laws.specs.Complements.{complement_table};
+ghost use Rattle.gflow_laws.specs.Correcting.{odd_in};
+ghost use Rattle.gflow_laws.specs.Rewritten.{IsRewritten};
+ghost use Rattle.open_graph.specs.Planes.{plane_named};
+
+use crate::neighbours::turn_neighbours;
+use open_graph::{OpenGraph, Plane, VertexId};
+use std::alloc::AllocError;
+use zx_flow::Flow;
+use zx_model::Eighth;
+
+/// A local complement about an interior vertex: each edge between two of its neighbours comes where
+/// there is none and goes where there is one, each neighbour turns by a quarter, and the vertex
+/// gets a change of its own. Where memory runs out, graph and flow stay as they were.
+pub fn local_complement(g: &mut OpenGraph, f: &mut Flow, u: VertexId) -> Result<(), AllocError>
+    requires flow { IsFlow g.old.graph f.old.flow }
+    requires allowed { allowed g.old.graph (LocalComplement u) ≡ true }
+    ensures rewritten { OnOk result
+        (IsRewritten g.old.graph f.old.flow (LocalComplement u) g.new.graph f.new.flow) }
+    ensures err { OnErr result ((g.new.graph ≡ g.old.graph) × (f.new.flow ≡ f.old.flow)) }
+    ensures valid { WellFormed g.new.graph }
+{
+    let mut graph = g.copy()?;
+    let mut flow = f.copy()?;
+    local_complement_in_place(&mut graph, &mut flow, u)?;
+    *g = graph;
+    *f = flow;
+    Ok(())
+}
+
+/// Whether the id is that of an interior vertex.
+pub fn may_complement(g: &OpenGraph, u: VertexId) -> bool
+    ensures value { result ≡ allowed g.now.graph (LocalComplement u) }
+    ensures valid { WellFormed g.now.graph }
+{
+    g.is_live(u) && g.is_interior(u)
+}
+
+/// As `local_complement`, but where memory runs out, graph and flow may be any.
+pub fn local_complement_in_place(
+    g: &mut OpenGraph,
+    f: &mut Flow,
+    u: VertexId,
+) -> Result<(), AllocError>
+    requires flow { IsFlow g.old.graph f.old.flow }
+    requires allowed { allowed g.old.graph (LocalComplement u) ≡ true }
+    ensures rewritten { OnOk result
+        (IsRewritten g.old.graph f.old.flow (LocalComplement u) g.new.graph f.new.flow) }
+{
+    complement_sets(f, g, u)?;
+    complement_graph(g, u)
+}
+
+// What a local complement of the graph about u makes of the sets; the graph is that before it.
+fn complement_sets(f: &mut Flow, g: &OpenGraph, u: VertexId) -> Result<(), AllocError>
+    requires live { Live g.now.graph u }
+    requires there { member u (order_of f.old.flow) ≡ true }
+    ensures { OnOk result (SameSets f.new.flow (complement_table (seen g.now.graph) u f.old.flow)) }
+{
+    let changes = changes_plane(g, u);
+    let own = f.copy_of_correction(u)?;
+    for i in 0..f.order().len() {
+        let v = f.vertex_at(i);
+        let is_odd = f.odd_has(g, v, u);
+        f.complement_set(u, v, &own, changes, is_odd)?;
+    }
+    Ok(())
+}
+
+// Whether a local complement about a vertex changes its plane.
+fn changes_plane(g: &OpenGraph, u: VertexId) -> bool
+    requires { Live g.now.graph u }
+    ensures { result ≡ odd_in (plane_of g.now.graph u) }
+{
+    match g.weight(u).0 {
+        Plane::XY | Plane::XZ => true,
+        Plane::YZ => false,
+    }
+}
+
+// What a local complement about u makes of the graph.
+fn complement_graph(g: &mut OpenGraph, u: VertexId) -> Result<(), AllocError>
+    requires live { Live g.old.graph u }
+    requires interior { Interior g.old.graph u }
+    ensures step { OnOk result (IsLocalComplement g.old.graph u g.new.graph) }
+    ensures was_valid { WellFormed g.old.graph }
+{
+    toggle_neighbours(g, u)?;
+    turn_neighbours(g, u);
+    complement_own(g, u);
+    Ok(())
+}
+
+// Toggles each edge between two neighbours of a vertex.
+fn toggle_neighbours(g: &mut OpenGraph, u: VertexId) -> Result<(), AllocError>
+    requires { Live g.old.graph u }
+    ensures toggled { let near = neighbours g.old.graph u in
+        OnOk result (IsToggled g.old.graph (among near) g.new.graph) }
+    ensures was_valid { WellFormed g.old.graph }
+    ensures valid { WellFormed g.new.graph }
+{
+    for i in 0..g.neighbours(u).len() {
+        toggle_with_earlier(g, u, i)?;
+    }
+    Ok(())
+}
+
+// Toggles the edges from the neighbour of a vertex at a place to those before it.
+fn toggle_with_earlier(g: &mut OpenGraph, u: VertexId, i: usize) -> Result<(), AllocError>
+    requires live { Live g.old.graph u }
+    requires within { i < length (neighbours g.old.graph u) }
+    ensures toggled { let near = neighbours g.old.graph u in
+        OnOk result
+        (IsToggled g.old.graph (from_to (slice_index near i) (take i near)) g.new.graph) }
+    ensures valid { WellFormed g.new.graph }
+{
+    let p = g.neighbour(u, i);
+    for j in 0..i {
+        let q = g.neighbour(u, j);
+        g.toggle_edge(p, q)?;
+    }
+    Ok(())
+}
+
+// What a local complement about a vertex makes of its own plane and phase.
+fn complement_own(g: &mut OpenGraph, u: VertexId)
+    requires live { Live g.old.graph u }
+    requires interior { Interior g.old.graph u }
+    ensures { g.new.graph ≡ with_changed (at_vertex u complemented) g.old.graph }
+{
+    let (plane, phase) = g.weight(u);
+    let (plane, phase) = complemented(plane, phase);
+    g.set_weight(u, plane, phase);
+}
+
+// Plane and phase of a vertex after a local complement about it.
+fn complemented(plane: Plane, phase: Eighth) -> (Plane, Eighth)
+    ensures { in_plane (plane_named result.0) result.1 ≡
+        complemented (in_plane (plane_named plane) phase) }
+{
+    let quarter = Eighth::new(2);
+    match plane {
+        Plane::XY => (Plane::XZ, phase.add(quarter)),
+        Plane::XZ => (Plane::XY, quarter.add(phase.neg())),
+        Plane::YZ => (Plane::YZ, phase.add(quarter.neg())),
+    }
+}

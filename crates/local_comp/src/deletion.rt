@@ -1,0 +1,71 @@
+//! The deletion of a vertex of half turns.
+
+ghost use Rattle.std.specs.Prelude.{◌≡◌, true, OnOk, OnErr};
+ghost use Rattle.zx_calculus.specs.Graph.{joined, phase_of, Live, WellFormed};
+ghost use Rattle.zx_calculus.specs.Steps.{allowed, Delete};
+ghost use Rattle.zx_calculus.specs.Deletions.{delete_kind};
+ghost use Rattle.zx_calculus.specs.Toggles.{with_changed};
+ghost use Rattle.gflow_laws.specs.Flow.{IsFlow};
+ghost use Rattle.gflow_laws.specs.Rewritten.{IsRewritten};
+
+use crate::neighbours::turn_neighbours;
+use open_graph::{OpenGraph, Plane, VertexId};
+use std::alloc::AllocError;
+use zx_flow::Flow;
+use zx_model::Eighth;
+
+/// Deletes an XZ or YZ vertex of phase 0 or of a half turn, which then each of its neighbours
+/// gets. Where memory runs out, graph and flow stay as they were.
+pub fn delete(g: &mut OpenGraph, f: &mut Flow, u: VertexId) -> Result<(), AllocError>
+    requires flow { IsFlow g.old.graph f.old.flow }
+    requires allowed { allowed g.old.graph (Delete u) ≡ true }
+    ensures rewritten { OnOk result
+        (IsRewritten g.old.graph f.old.flow (Delete u) g.new.graph f.new.flow) }
+    ensures err { OnErr result ((g.new.graph ≡ g.old.graph) × (f.new.flow ≡ f.old.flow)) }
+    ensures valid { WellFormed g.new.graph }
+{
+    let mut graph = g.copy()?;
+    let mut flow = f.copy()?;
+    delete_in_place(&mut graph, &mut flow, u)?;
+    *g = graph;
+    *f = flow;
+    Ok(())
+}
+
+/// Whether the id is that of an XZ or YZ vertex of phase 0 or of a half turn.
+pub fn may_delete(g: &OpenGraph, u: VertexId) -> bool
+    ensures value { result ≡ allowed g.now.graph (Delete u) }
+    ensures valid { WellFormed g.now.graph }
+{
+    if !g.is_live(u) {
+        return false;
+    }
+    let (plane, phase) = g.weight(u);
+    !matches!(plane, Plane::XY) && phase.is_half_turns()
+}
+
+/// As `delete`, but where memory runs out, graph and flow may be any.
+pub fn delete_in_place(g: &mut OpenGraph, f: &mut Flow, u: VertexId) -> Result<(), AllocError>
+    requires flow { IsFlow g.old.graph f.old.flow }
+    requires allowed { allowed g.old.graph (Delete u) ≡ true }
+    ensures rewritten { OnOk result
+        (IsRewritten g.old.graph f.old.flow (Delete u) g.new.graph f.new.flow) }
+{
+    pass_half_turn(g, u);
+    g.remove_vertex(u);
+    f.eliminate(u)
+}
+
+// Gives each neighbour of a vertex of a half turn a half turn.
+fn pass_half_turn(g: &mut OpenGraph, u: VertexId)
+    requires { Live g.old.graph u }
+    ensures turned { let near = joined g.old.graph.edges u in
+        g.new.graph ≡ with_changed (delete_kind (phase_of g.old.graph u) near) g.old.graph }
+    ensures was_valid { WellFormed g.old.graph }
+{
+    let (_, phase) = g.weight(u);
+    if phase == Eighth::new(4) {
+        turn_neighbours(g, u);
+        turn_neighbours(g, u);
+    }
+}

@@ -1,0 +1,21 @@
+//! What is done to each neighbour of a vertex.
+
+ghost use Rattle.std.specs.Prelude.{◌≡◌};
+ghost use Rattle.zx_calculus.specs.Graph.{neighbours, Live, WellFormed};
+ghost use Rattle.zx_calculus.specs.Turns.{quarter_turned};
+ghost use Rattle.zx_calculus.specs.Toggles.{changed_in, with_changed};
+
+use open_graph::{OpenGraph, VertexId};
+
+// Turns each neighbour of a vertex by a quarter.
+pub(crate) fn turn_neighbours(g: &mut OpenGraph, u: VertexId)
+    requires { Live g.old.graph u }
+    ensures turned { let near = neighbours g.old.graph u in
+        g.new.graph ≡ with_changed (changed_in near quarter_turned) g.old.graph }
+    ensures valid { WellFormed g.new.graph }
+{
+    for i in 0..g.neighbours(u).len() {
+        let p = g.neighbour(u, i);
+        g.add_quarter(p);
+    }
+}

@@ -1,0 +1,54 @@
+//! The two sides of a graph, and changes of the ends of either.
+
+ghost use Rattle.std.specs.Prelude.{◌≡◌, ◌<◌, ◌++◌, [], ◌∷◌, Some, length, slice_set, slice_index_or, OnOk, OnErr};
+ghost use Rattle.slab.specs.Slab.{ContainsKey};
+ghost use Rattle.open_graph.specs.Internal.Slots.{told};
+ghost use Rattle.open_graph.specs.Internal.Sides.{with_place, Moves};
+ghost use Rattle.open_graph.specs.Internal.Changes.{Puts};
+
+use crate::end::End;
+use crate::slot::Slot;
+use crate::slots;
+use slab::Slab;
+use std::alloc::AllocError;
+
+// Whether a wire is an input or an output.
+#[derive(Clone, Copy, Debug, PartialEq, Eq)]
+pub(crate) enum Side {
+    Input,
+    Output,
+}
+
+// Adds an end after all others of its side.
+pub(crate) fn add_end(
+    ends: &mut Vec<End>,
+    slots: &mut Slab<Slot>,
+    side: Side,
+    end: End,
+) -> Result<(), AllocError>
+    requires { ContainsKey slots.old end.vertex }
+    ensures ends { OnOk result (ends.new.items ≡ ends.old.items ++ end ∷ []) }
+    ensures slots { OnOk result (Puts slots.old.slots slots.new.slots end.vertex
+        (with_place side (Some (length ends.old.items)) (told slots.old.slots end.vertex))) }
+    ensures err { OnErr result ((ends.new.items ≡ ends.old.items) × (slots.new.slots ≡ slots.old.slots)) }
+{
+    let place = ends.len();
+    ends.push(end)?;
+    slots::set_place(slots, end.vertex, side, Some(place));
+    Ok(())
+}
+
+// Replaces the end of a side at a place.
+pub(crate) fn move_end(ends: &mut Vec<End>, slots: &mut Slab<Slot>, side: Side, i: usize, end: End)
+    requires in_range { i < length ends.old.items }
+    requires before { ContainsKey slots.old (slice_index_or ends.old.items i end).vertex }
+    requires after { ContainsKey slots.old end.vertex }
+    ensures ends { ends.new.items ≡ slice_set ends.old.items i end }
+    ensures slots { Moves side i (slice_index_or ends.old.items i end).vertex end.vertex
+        slots.old.slots slots.new.slots }
+{
+    let before = ends[i];
+    slots::set_place(slots, before.vertex, side, None);
+    slots::set_place(slots, end.vertex, side, Some(i));
+    ends[i] = end;
+}

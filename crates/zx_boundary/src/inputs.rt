@@ -1,0 +1,73 @@
+//! The split of an input.
+
+ghost use Rattle.std.specs.Prelude.{◌≡◌, true, IfOk, OnOk, OnErr};
+ghost use Rattle.zx_model.specs.Bits.{member};
+ghost use Rattle.zx_calculus.specs.Graph.{end_vertices, WellFormed};
+ghost use Rattle.zx_calculus.specs.Steps.{allowed, SplitInput};
+ghost use Rattle.zx_calculus.specs.Splits.{IsSplitInput};
+ghost use Rattle.gflow_laws.specs.Flow.{IsFlow};
+ghost use Rattle.gflow_laws.specs.Splits.{split_input_table, new_vertex};
+ghost use Rattle.gflow_laws.specs.Rewritten.{IsRewritten};
+
+use crate::spider::{add_spider, toggled};
+use open_graph::{OpenGraph, VertexId};
+use std::alloc::AllocError;
+use zx_flow::Flow;
+
+/// Puts a new XY vertex of phase 0 between a vertex b and its input, whose mark is toggled: b holds
+/// no input any more. The new vertex comes first in the flow, corrected by b. Where memory runs
+/// out, graph and flow stay as they were.
+pub fn split_input(g: &mut OpenGraph, f: &mut Flow, b: VertexId) -> Result<(), AllocError>
+    requires flow { IsFlow g.old.graph f.old.flow }
+    requires allowed { allowed g.old.graph (SplitInput b) ≡ true }
+    ensures rewritten { OnOk result
+        (IsRewritten g.old.graph f.old.flow (SplitInput b) g.new.graph f.new.flow) }
+    ensures table { OnOk result (f.new.flow ≡
+        split_input_table b (new_vertex g.old.graph g.new.graph) f.old.flow) }
+    ensures err { OnErr result ((g.new.graph ≡ g.old.graph) × (f.new.flow ≡ f.old.flow)) }
+    ensures valid { WellFormed g.new.graph }
+{
+    let mut graph = g.copy()?;
+    let mut flow = f.copy()?;
+    split_input_in_place(&mut graph, &mut flow, b)?;
+    *g = graph;
+    *f = flow;
+    Ok(())
+}
+
+/// Whether the id is that of a vertex with an input.
+pub fn may_split_input(g: &OpenGraph, b: VertexId) -> bool
+    ensures value { result ≡ allowed g.now.graph (SplitInput b) }
+    ensures valid { WellFormed g.now.graph }
+{
+    g.is_live(b) && g.input_at(b).is_some()
+}
+
+/// As `split_input`, but where memory runs out, graph and flow may be any.
+pub fn split_input_in_place(g: &mut OpenGraph, f: &mut Flow, b: VertexId) -> Result<(), AllocError>
+    requires flow { IsFlow g.old.graph f.old.flow }
+    requires allowed { allowed g.old.graph (SplitInput b) ≡ true }
+    ensures rewritten { OnOk result
+        (IsRewritten g.old.graph f.old.flow (SplitInput b) g.new.graph f.new.flow) }
+    ensures table { OnOk result (f.new.flow ≡
+        split_input_table b (new_vertex g.old.graph g.new.graph) f.old.flow) }
+{
+    let new = move_to_spider(g, b)?;
+    f.add_first(new, b)
+}
+
+// Moves the input at a vertex b to a new XY vertex of phase 0, adjacent to b alone, and toggles
+// its mark. Answers the new vertex.
+fn move_to_spider(g: &mut OpenGraph, b: VertexId) -> Result<VertexId, AllocError>
+    requires { member b (end_vertices g.old.graph.inputs) ≡ true }
+    ensures step { OnOk result (IsSplitInput g.old.graph b g.new.graph) }
+    ensures new { IfOk result (λ new. new_vertex g.old.graph g.new.graph ≡ new) }
+    ensures was_valid { WellFormed g.old.graph }
+{
+    let inputs = g.inputs();
+    let place = g.input_at(b).unwrap();
+    let end = inputs[place];
+    let new = add_spider(g, b)?;
+    g.move_input(place, toggled(end, new));
+    Ok(new)
+}

@@ -1,0 +1,31 @@
+//! What both splits are made of.
+
+ghost use Rattle.std.specs.Prelude.{◌≡◌, not, IfOk};
+ghost use Rattle.zx_calculus.specs.Graph.{Live, WellFormed};
+ghost use Rattle.zx_boundary.specs.Internal.Spiders.{IsSpiderAdded};
+
+use open_graph::{End, OpenGraph, Plane, VertexId};
+use std::alloc::AllocError;
+use zx_model::Eighth;
+
+// A new spider of phase 0, adjacent to b alone.
+pub(crate) fn add_spider(g: &mut OpenGraph, b: VertexId) -> Result<VertexId, AllocError>
+    requires live { Live g.old.graph b }
+    requires valid { WellFormed g.old.graph }
+    ensures added { IfOk result (λ new. IsSpiderAdded g.old.graph b new g.new.graph) }
+    ensures valid { WellFormed g.new.graph }
+{
+    let new = g.add_vertex(Plane::XY, Eighth::new(0))?;
+    g.toggle_edge(b, new)?;
+    Ok(new)
+}
+
+// The end at another vertex, with its mark toggled.
+pub(crate) fn toggled(end: End, vertex: VertexId) -> End
+    ensures { result ≡ record { vertex = vertex; hadamard = not end.hadamard } }
+{
+    End {
+        vertex,
+        hadamard: !end.hadamard,
+    }
+}

@@ -1,0 +1,237 @@
+-- What holds of each rewrite, and of lists of them.
+use Rattle.std.proofs.Common.{◌≡◌, ◌≢◌, ◌⊎◌, inl, inr, refl, sym, ◌∙◌, ap, subst, ℕ, ◌<◌, ◌≤◌, Bool, true, false, cond, ◌&&◌, ◌||◌, eqb, ltb, List, [], ◌∷◌, true≢false, ne_eqb, eq-eqb, ltb-true, ltb-false, lt-ltb, arith, suc, length, ◌+◌, le_of_eq, ap₂, max, not, filter, eqb-true}
+use Rattle.std.specs.List.{list_all}
+use Rattle.std.proofs.lemmas.Bool.{eqb-false}
+use Rattle.zx_model.specs.Number.{mul, zero}
+use Rattle.zx_model.specs.Phase.{half_turn}
+use Rattle.zx_model.specs.Proportional.{Proportional}
+use Rattle.zx_model.specs.Bits.{one_if, xor, member}
+use Rattle.zx_model.specs.Constants.{two}
+use Rattle.zx_model.proofs.Ring.{one_nonzero, two_nonzero}
+use Rattle.zx_model.proofs.Domain.{mul-nonzero, mul_left_cancel}
+use Rattle.zx_model.proofs.ProportionalLemmas.{proportional_of_scaled, proportional_refl, proportional_trans}
+use Rattle.zx_model.proofs.Odd.{one_if-odd_sum}
+use Rattle.zx_calculus.specs.Steps.{FuseInto, Pivot, FuseTwin, SplitOutput, DropLone, Delete, LocalComplement, IsStep, SplitInput, Step, IsRun, right_factor, left_factor, allowed, after_with, after}
+use Rattle.zx_calculus.specs.Graph.{WellFormed, Graph, plane_of, phase_of, joined, ids, is_XY, is_YZ, with_kinds, without}
+use Rattle.zx_calculus.specs.Sum.{sum}
+use Rattle.zx_calculus.specs.Splits.{mark_of, move_end, above_all}
+use Rattle.zx_calculus.specs.Scalars.{half_cost, quarter_cost}
+use Rattle.zx_calculus.specs.Counts.{is_odd_fused, odd_phases, is_odd_at}
+use Rattle.zx_calculus.specs.Gadgets.{is_one_XY, is_empty, fuse_kind, first_of_list, IsFuseTwin}
+use Rattle.zx_calculus.specs.Deletions.{delete_kind}
+use Rattle.zx_calculus.specs.Edits.{is_pair}
+use Rattle.zx_calculus.specs.Pivots.{pivot_adjacent}
+use Rattle.zx_calculus.proofs.Deletions.{delete_kept, delete_sum, choice-nonzero, delete_half-nonzero, odd-delete, deletable_to, after_delete}
+use Rattle.zx_calculus.proofs.Splits.{split_output_kept, split_input_kept, split_input_sum, split_output_sum, split_left-nonzero, length-move_end, odd-split_output, odd-split_input, above_all-fresh, split_symmetric, after_split_output, after_split_input}
+use Rattle.zx_calculus.proofs.Gadgets.{fuse_into_kept, fuse_twin_kept, drop_lone_kept, fuse_into_sum, fuse_twin_sum, drop_lone_sum, odd-fuse_twin, odd-drop, odd-fuse_into, filter-none, equal_everywhere, neighbours_into, after_fuse_twin, after_drop, after_fuse_into}
+use Rattle.zx_calculus.proofs.Complements.{local_complement_kept, complement_sum, complement_left-nonzero, complement_right-nonzero, odd-complement, complement_symmetric, after_complement}
+use Rattle.zx_calculus.proofs.Pivots.{pivot_kept, pivot_sum, pivot_right-nonzero, odd-pivot, pivot_law, pivot_symmetric, after_pivot}
+use Rattle.zx_calculus.proofs.Scalars.{quarter_cost-nonzero, half_cost-nonzero, product_of-nonzero}
+use Rattle.zx_calculus.proofs.Results.{interior_true, gone_plain, gone, edges_are, graph_is}
+use Rattle.zx_calculus.proofs.Kept.{both}
+use Rattle.zx_calculus.proofs.Splitting.{off_XY, no_loop}
+use Rattle.zx_calculus.proofs.Edges.{joined_comm}
+
+pub step_kept : (g : Graph) (s : Step) (h : Graph) → WellFormed g → IsStep g s h → WellFormed h
+step_kept g (LocalComplement u) h w c = local_complement_kept g u h w c
+step_kept g (Delete u) h w c = delete_kept g u h w c
+step_kept g (Pivot u v) h w c = pivot_kept g u v h w c
+step_kept g (SplitInput b) h w c = split_input_kept g b h w c
+step_kept g (SplitOutput b) h w c = split_output_kept g b h w c
+step_kept g (DropLone u) h w c = drop_lone_kept g u h w c
+step_kept g (FuseInto u) h w c = fuse_into_kept g u h w c
+step_kept g (FuseTwin u v) h w c = fuse_twin_kept g u v h w c
+
+pub run_kept : (g : Graph) (steps : List Step) (h : Graph) → WellFormed g → IsRun g steps h → WellFormed h
+run_kept g [] h w r = subst WellFormed r w
+run_kept g (s ∷ steps) h w r = run_kept r.0 steps h (step_kept g s r.0 w r.1) r.2
+
+pub step_sum : (g : Graph) (s : Step) (h : Graph) (x y : List Bool) → WellFormed g → IsStep g s h → length x ≡ length g.inputs → length y ≡ length g.outputs → mul (left_factor g s) (sum g x y) ≡ mul (right_factor g s) (sum h x y)
+step_sum g (LocalComplement u) h x y w c m n = complement_sum g u h w (step_kept g (LocalComplement u) h w c) c x y
+step_sum g (Delete u) h x y w c m n = delete_sum g u h x y w (step_kept g (Delete u) h w c) c
+step_sum g (Pivot u v) h x y w c m n = pivot_sum g u v h w (step_kept g (Pivot u v) h w c) c x y
+step_sum g (SplitInput b) h x y w c m n = split_input_sum g b h x y w (step_kept g (SplitInput b) h w c) c m
+step_sum g (SplitOutput b) h x y w c m n = split_output_sum g b h x y w (step_kept g (SplitOutput b) h w c) c n
+step_sum g (DropLone u) h x y w c m n = drop_lone_sum g u h x y w (step_kept g (DropLone u) h w c) c
+step_sum g (FuseInto u) h x y w c m n = fuse_into_sum g u h x y w (step_kept g (FuseInto u) h w c) c
+step_sum g (FuseTwin u v) h x y w c m n = fuse_twin_sum g u v h w (step_kept g (FuseTwin u v) h w c) c x y
+
+pub left-nonzero : (g : Graph) (s : Step) → left_factor g s ≢ zero
+left-nonzero g (LocalComplement u) = complement_left-nonzero (plane_of g u)
+left-nonzero g (Delete u) = one_nonzero
+left-nonzero g (Pivot u v) = two_nonzero
+left-nonzero g (SplitInput b) = split_left-nonzero (mark_of g.inputs b)
+left-nonzero g (SplitOutput b) = split_left-nonzero (mark_of g.outputs b)
+left-nonzero g (DropLone u) = one_nonzero
+left-nonzero g (FuseInto u) = one_nonzero
+left-nonzero g (FuseTwin u v) = one_nonzero
+
+pub right-nonzero : (g : Graph) (s : Step) → right_factor g s ≢ zero
+right-nonzero g (LocalComplement u) =
+    mul-nonzero _ _ (complement_right-nonzero (plane_of g u) (phase_of g u)) (product_of-nonzero (joined g.edges u) quarter_cost g.vertices (λ k. quarter_cost-nonzero k.plane k.phase))
+right-nonzero g (Delete u) =
+    choice-nonzero (eqb (phase_of g u) half_turn) _ _
+    (mul-nonzero _ _ (delete_half-nonzero (plane_of g u)) (product_of-nonzero (joined g.edges u) half_cost g.vertices (λ k. half_cost-nonzero k.plane k.phase))) two_nonzero
+right-nonzero g (Pivot u v) =
+    mul-nonzero _ _ (mul-nonzero _ _ (pivot_right-nonzero (plane_of g u) (phase_of g u)) (pivot_right-nonzero (plane_of g v) (phase_of g v)))
+    (product_of-nonzero (λ p. joined g.edges u p && joined g.edges v p) half_cost g.vertices (λ k. half_cost-nonzero k.plane k.phase))
+right-nonzero g (SplitInput b) = one_nonzero
+right-nonzero g (SplitOutput b) = one_nonzero
+right-nonzero g (DropLone u) = two_nonzero
+right-nonzero g (FuseInto u) = two_nonzero
+right-nonzero g (FuseTwin u v) = two_nonzero
+
+pub step_proportional : (g : Graph) (s : Step) (h : Graph) → WellFormed g → IsStep g s h → Proportional (length g.inputs) (length g.outputs) (sum g) (sum h)
+step_proportional g s h w c =
+    proportional_of_scaled (length g.inputs) (length g.outputs) (sum g) (sum h) (left_factor g s) (right_factor g s) (left-nonzero g s) (right-nonzero g s) (λ x y m n. step_sum g s h x y w c m n)
+
+-- a step keeps the number of ends
+pub inputs_kept : (g : Graph) (s : Step) (h : Graph) → IsStep g s h → length h.inputs ≡ length g.inputs
+inputs_kept g (LocalComplement u) h c = ap length c.inputs
+inputs_kept g (Delete u) h c = ap length c.inputs
+inputs_kept g (Pivot u v) h c = ap length c.inputs
+inputs_kept g (SplitInput b) h c = ap length c.inputs ∙ length-move_end b c.new g.inputs
+inputs_kept g (SplitOutput b) h c = ap length c.inputs
+inputs_kept g (DropLone u) h c = ap length c.inputs
+inputs_kept g (FuseInto u) h c = ap length c.inputs
+inputs_kept g (FuseTwin u v) h c = ap length c.inputs
+
+pub outputs_kept : (g : Graph) (s : Step) (h : Graph) → IsStep g s h → length h.outputs ≡ length g.outputs
+outputs_kept g (LocalComplement u) h c = ap length c.outputs
+outputs_kept g (Delete u) h c = ap length c.outputs
+outputs_kept g (Pivot u v) h c = ap length c.outputs
+outputs_kept g (SplitInput b) h c = ap length c.outputs
+outputs_kept g (SplitOutput b) h c = ap length c.outputs ∙ length-move_end b c.new g.outputs
+outputs_kept g (DropLone u) h c = ap length c.outputs
+outputs_kept g (FuseInto u) h c = ap length c.outputs
+outputs_kept g (FuseTwin u v) h c = ap length c.outputs
+
+pub run_proportional : (g : Graph) (steps : List Step) (h : Graph) → WellFormed g → IsRun g steps h → Proportional (length g.inputs) (length g.outputs) (sum g) (sum h)
+run_proportional g [] h w r = subst (λ k. Proportional (length g.inputs) (length g.outputs) (sum g) (sum k)) r (proportional_refl (length g.inputs) (length g.outputs) (sum g))
+run_proportional g (s ∷ steps) h w r =
+    proportional_trans (length g.inputs) (length g.outputs) (sum g) (sum r.0) (sum h) (step_proportional g s r.0 w r.1)
+    (rw (← (inputs_kept g s r.0 r.1), ← (outputs_kept g s r.0 r.1)) (run_proportional r.0 steps h (step_kept g s r.0 w r.1) r.2))
+
+pub run_inputs_kept : (g : Graph) (steps : List Step) (h : Graph) → IsRun g steps h → length h.inputs ≡ length g.inputs
+run_inputs_kept g [] h r = ap (λ k. length k.inputs) (sym r)
+run_inputs_kept g (s ∷ steps) h r = run_inputs_kept r.0 steps h r.2 ∙ inputs_kept g s r.0 r.1
+
+pub run_outputs_kept : (g : Graph) (steps : List Step) (h : Graph) → IsRun g steps h → length h.outputs ≡ length g.outputs
+run_outputs_kept g [] h r = ap (λ k. length k.outputs) (sym r)
+run_outputs_kept g (s ∷ steps) h r = run_outputs_kept r.0 steps h r.2 ∙ outputs_kept g s r.0 r.1
+
+fewer : (g h : Graph) (u v : ℕ) → odd_phases h + one_if (is_odd_at g u) + one_if (is_odd_at g v) ≡ odd_phases g + one_if (is_odd_fused g u v) → odd_phases h ≤ odd_phases g
+fewer g h u v e = lesser (odd_phases h) (odd_phases g) _ _ _ e (one_if-odd_sum (phase_of g v) (phase_of g u))
+  where
+    lesser : (a b x y z : ℕ) → a + x + y ≡ b + z → z ≤ y + x → a ≤ b
+    lesser a b x y z e f = omega arith
+
+pub step_odd : (g : Graph) (s : Step) (h : Graph) → WellFormed g → IsStep g s h → odd_phases h ≤ odd_phases g
+step_odd g (LocalComplement u) h w c = le_of_eq (odd-complement g u h w c)
+step_odd g (Delete u) h w c = le_of_eq (odd-delete g u h w c)
+step_odd g (Pivot u v) h w c = le_of_eq (odd-pivot g u v h w c)
+step_odd g (SplitInput b) h w c = le_of_eq (odd-split_input g b h w c)
+step_odd g (SplitOutput b) h w c = le_of_eq (odd-split_output g b h w c)
+step_odd g (DropLone u) h w c = with_more _ _ _ (odd-drop g u h w c)
+  where
+    with_more : (a b x : ℕ) → a + x ≡ b → a ≤ b
+    with_more a b x e = omega arith
+step_odd g (FuseInto u) h w c = fewer g h u c.into (odd-fuse_into g u h w c)
+step_odd g (FuseTwin u v) h w c = fewer g h v u (odd-fuse_twin g u v h w c)
+
+pub run_odd : (g : Graph) (steps : List Step) (h : Graph) → WellFormed g → IsRun g steps h → odd_phases h ≤ odd_phases g
+run_odd g [] h w r = le_of_eq (ap odd_phases (sym r))
+run_odd g (s ∷ steps) h w r = both_steps _ _ _ (run_odd r.0 steps h (step_kept g s r.0 w r.1) r.2) (step_odd g s r.0 w r.1)
+  where
+    both_steps : (a b c : ℕ) → a ≤ b → b ≤ c → a ≤ c
+    both_steps a b c p q = omega arith
+
+pub step_allowed : (g : Graph) (s : Step) (h : Graph) → WellFormed g → IsStep g s h → allowed g s ≡ true
+step_allowed g (LocalComplement u) h w c = both _ _ c.there (interior_true g u c.interior)
+step_allowed g (Delete u) h w c = deletable_to g u c.deletable
+step_allowed g (Pivot u v) h w c = both _ _ (both _ _ c.there c.there_too) (both _ _ (both _ _ (interior_true g u c.interior) (interior_true g v c.interior_too)) c.adjacent)
+step_allowed g (SplitInput b) h w c = c.has_input
+step_allowed g (SplitOutput b) h w c = c.has_output
+step_allowed g (DropLone u) h w c = both _ _ (both _ _ c.there (ap is_YZ c.plane)) (ap is_empty (filter-none (joined g.edges u) (ids g.vertices) c.lone))
+step_allowed g (FuseInto u) h w c = both _ _ (both _ _ c.there (ap is_YZ c.plane)) (ap (is_one_XY g) (neighbours_into g u h w c) ∙ ap is_XY c.into_plane)
+step_allowed g (FuseTwin u v) h w c =
+    both _ _
+    (both _ _ (both _ _ c.there c.there_too) (both _ _ (ap not (ne_eqb u v c.different)) (both _ _ (ap is_YZ c.plane) (ap is_YZ c.plane_too))))
+    (both _ _ (ap not c.not_adjacent) (equal_everywhere (joined g.edges u) (joined g.edges v) (ids g.vertices) c.equal_neighbours))
+
+-- what a step makes is what the program makes, but for the new id that a split takes
+pub step_result : (g : Graph) (s : Step) (h : Graph) → WellFormed g → IsStep g s h → (new : ℕ) × (member new (ids g.vertices) ≡ false) × (h ≡ after_with new s g)
+step_result g (LocalComplement u) h w c = (
+  above_all (ids g.vertices),
+  above_all-fresh (ids g.vertices),
+  graph_is h _ _ g.inputs g.outputs c.vertices
+      (edges_are h (λ p q. xor (joined g.edges p q) (joined g.edges u p && joined g.edges u q)) (step_kept g (LocalComplement u) h w c) (complement_symmetric g u) (λ p q n s t. c.edges p q n)) c.inputs c.outputs,
+)
+step_result g (Delete u) h w c = (
+  above_all (ids g.vertices),
+  above_all-fresh (ids g.vertices),
+  graph_is h _ _ g.inputs g.outputs c.vertices
+      (edges_are h (joined g.edges) (step_kept g (Delete u) h w c) (joined_comm g.edges)
+      (λ p q n s t. c.edges p q (gone (delete_kind (phase_of g u) (joined g.edges u)) u g.vertices h.vertices p c.vertices s) (gone (delete_kind (phase_of g u) (joined g.edges u)) u g.vertices h.vertices q c.vertices t))) c.inputs c.outputs,
+)
+step_result g (Pivot u v) h w c = (
+  above_all (ids g.vertices),
+  above_all-fresh (ids g.vertices),
+  graph_is h _ _ g.inputs g.outputs c.vertices
+      (edges_are h (pivot_adjacent (joined g.edges) u v) (step_kept g (Pivot u v) h w c) (pivot_symmetric (joined g.edges) u v apart (joined_comm g.edges)) (λ p q n s t. pivot_law g u v h c apart p q n)) c.inputs c.outputs,
+)
+  where
+    apart : u ≢ v
+    apart e = true≢false (sym c.adjacent ∙ ap (joined g.edges u) (sym e) ∙ no_loop g u w)
+step_result g (SplitInput b) h w c = (
+  c.new,
+  c.fresh,
+  graph_is h _ (λ p q. joined g.edges p q || is_pair b c.new p q) (move_end b c.new g.inputs) g.outputs c.vertices
+      (edges_are h (λ p q. joined g.edges p q || is_pair b c.new p q) (step_kept g (SplitInput b) h w c) (split_symmetric g b c.new) (λ p q n s t. c.edges p q)) c.inputs c.outputs,
+)
+step_result g (SplitOutput b) h w c = (
+  c.new,
+  c.fresh,
+  graph_is h _ (λ p q. joined g.edges p q || is_pair b c.new p q) g.inputs (move_end b c.new g.outputs) c.vertices
+      (edges_are h (λ p q. joined g.edges p q || is_pair b c.new p q) (step_kept g (SplitOutput b) h w c) (split_symmetric g b c.new) (λ p q n s t. c.edges p q)) c.inputs c.outputs,
+)
+step_result g (DropLone u) h w c = (
+  above_all (ids g.vertices),
+  above_all-fresh (ids g.vertices),
+  graph_is h _ _ g.inputs g.outputs c.vertices
+      (edges_are h (joined g.edges) (step_kept g (DropLone u) h w c) (joined_comm g.edges) (λ p q n s t. c.edges p q (gone_plain u g.vertices h.vertices p c.vertices s) (gone_plain u g.vertices h.vertices q c.vertices t))) c.inputs c.outputs,
+)
+step_result g (FuseInto u) h w c = (
+  above_all (ids g.vertices),
+  above_all-fresh (ids g.vertices),
+  graph_is h _ _ g.inputs g.outputs
+      (c.vertices ∙ ap (λ v. with_kinds (fuse_kind v (phase_of g u)) (without u g.vertices)) (sym (ap first_of_list (neighbours_into g u h w c))))
+      (edges_are h (joined g.edges) (step_kept g (FuseInto u) h w c) (joined_comm g.edges)
+      (λ p q n s t. c.edges p q (gone (fuse_kind c.into (phase_of g u)) u g.vertices h.vertices p c.vertices s) (gone (fuse_kind c.into (phase_of g u)) u g.vertices h.vertices q c.vertices t))) c.inputs c.outputs,
+)
+step_result g (FuseTwin u v) h w c = (
+  above_all (ids g.vertices),
+  above_all-fresh (ids g.vertices),
+  graph_is h _ _ g.inputs g.outputs c.vertices
+      (edges_are h (joined g.edges) (step_kept g (FuseTwin u v) h w c) (joined_comm g.edges)
+      (λ p q n s t. c.edges p q (gone (fuse_kind u (phase_of g v)) v g.vertices h.vertices p c.vertices s) (gone (fuse_kind u (phase_of g v)) v g.vertices h.vertices q c.vertices t))) c.inputs c.outputs,
+)
+
+module _ (g : Graph) (w : WellFormed g) where
+  pub after_is_step : (s : Step) (new : ℕ) → allowed g s ≡ true → member new (ids g.vertices) ≡ false → IsStep g s (after_with new s g)
+  after_is_step (LocalComplement u) new h fresh = after_complement g w u h new
+  after_is_step (Delete u) new h fresh = after_delete g w u h new
+  after_is_step (Pivot u v) new h fresh = after_pivot g w u v h new
+  after_is_step (SplitInput b) new h fresh = after_split_input g w b h new fresh
+  after_is_step (SplitOutput b) new h fresh = after_split_output g w b h new fresh
+  after_is_step (DropLone u) new h fresh = after_drop g w u h new
+  after_is_step (FuseInto u) new h fresh = after_fuse_into g w u h new
+  after_is_step (FuseTwin u v) new h fresh = after_fuse_twin g w u v h new
+
+pub after_step : (g : Graph) (s : Step) → WellFormed g → allowed g s ≡ true → IsStep g s (after s g)
+after_step g s w h = after_is_step g w s (above_all (ids g.vertices)) h (above_all-fresh (ids g.vertices))
+
+pub fuse_twin_sum_comm : (g : Graph) (u v : ℕ) (h k : Graph) (x y : List Bool) → WellFormed g → IsFuseTwin g u v h → IsFuseTwin g v u k → length x ≡ length g.inputs → length y ≡ length g.outputs → sum h x y ≡ sum k x y
+fuse_twin_sum_comm g u v h k x y w c d m n =
+    mul_left_cancel two (sum h x y) (sum k x y) two_nonzero
+    (sym (step_sum g (FuseTwin u v) h x y w c m n) ∙ step_sum g (FuseTwin v u) k x y w d m n)

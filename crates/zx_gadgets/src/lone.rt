@@ -1,0 +1,49 @@
+//! The removal of a gadget without neighbours.
+
+ghost use Rattle.std.specs.Prelude.{◌≡◌, true, OnOk, OnErr};
+ghost use Rattle.zx_calculus.specs.Graph.{WellFormed};
+ghost use Rattle.zx_calculus.specs.Steps.{allowed, DropLone};
+ghost use Rattle.gflow_laws.specs.Flow.{IsFlow};
+ghost use Rattle.gflow_laws.specs.Rewritten.{IsRewritten};
+
+use crate::gadget::{is_gadget, take_out};
+use open_graph::{OpenGraph, VertexId};
+use std::alloc::AllocError;
+use zx_flow::Flow;
+
+/// Takes out a YZ vertex without neighbours. Where memory runs out, graph and flow stay as they
+/// were.
+pub fn drop_lone(g: &mut OpenGraph, f: &mut Flow, u: VertexId) -> Result<(), AllocError>
+    requires flow { IsFlow g.old.graph f.old.flow }
+    requires allowed { allowed g.old.graph (DropLone u) ≡ true }
+    ensures rewritten { OnOk result
+        (IsRewritten g.old.graph f.old.flow (DropLone u) g.new.graph f.new.flow) }
+    ensures err { OnErr result ((g.new.graph ≡ g.old.graph) × (f.new.flow ≡ f.old.flow)) }
+    ensures valid { WellFormed g.new.graph }
+{
+    let mut graph = g.copy()?;
+    let mut flow = f.copy()?;
+    drop_lone_in_place(&mut graph, &mut flow, u)?;
+    *g = graph;
+    *f = flow;
+    Ok(())
+}
+
+/// Whether the id is that of a YZ vertex without neighbours.
+pub fn may_drop_lone(g: &OpenGraph, u: VertexId) -> bool
+    ensures value { result ≡ allowed g.now.graph (DropLone u) }
+    ensures valid { WellFormed g.now.graph }
+{
+    is_gadget(g, u) && g.neighbours(u).is_empty()
+}
+
+/// As `drop_lone`, but where memory runs out, graph and flow may be any.
+pub fn drop_lone_in_place(g: &mut OpenGraph, f: &mut Flow, u: VertexId) -> Result<(), AllocError>
+    requires flow { IsFlow g.old.graph f.old.flow }
+    requires allowed { allowed g.old.graph (DropLone u) ≡ true }
+    ensures rewritten { OnOk result
+        (IsRewritten g.old.graph f.old.flow (DropLone u) g.new.graph f.new.flow) }
+{
+    take_out(g, f, u)?;
+    Ok(())
+}
