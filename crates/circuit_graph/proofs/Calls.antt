@@ -60,7 +60,7 @@ module _ (s : State) (q here next phase : ℕ) (g : Graph) (r : IsReady s) (outp
     next_plane = ap (λ vs. (kind_of vs next).plane) (toggle.vertices ∙ vertices_are) ∙ ap (λ (k : Kind). k.plane) (kind_of-insert (spider_of_phase_zero next) s.graph.vertices fresh)
 
     outputs_are : h.outputs ≡ s.graph.outputs
-    outputs_are = toggle.outputs ∙ ap (λ (h : Graph). h.outputs) added
+    outputs_are = toggle.frame.outputs ∙ ap (λ (h : Graph). h.outputs) added
 
     pub next_free : (i : ℕ) → member next (end_vertices (remove h.outputs i)) ≡ false
     next_free i = absent-remove next h.outputs i
@@ -78,10 +78,10 @@ module _ (s : State) (q here next phase : ℕ) (g : Graph) (r : IsReady s) (outp
         fresh = fresh;
         output = output;
         vertices = ap (λ (h : Graph). h.vertices) moved ∙ toggle.vertices ∙ vertices_are;
-        ordered = subst (λ (h : Graph). OrderedEdges (ids h.vertices) h.edges) (sym moved) toggle.ordered;
+        ordered = subst (λ (h : Graph). OrderedEdges (ids h.vertices) h.edges) (sym moved) toggle.frame.ordered;
         ordered_too = r.well_formed.edges;
         edges = λ p v. ap (λ (h : Graph). joined h.edges p v) moved ∙ toggle.edges p v ∙ ap (λ (h : Graph). xor (joined h.edges p v) (is_pair here next p v)) added ∙ sym (or-apart (joined s.graph.edges p v) (is_pair here next p v) (none p v));
-        inputs = ap (λ (h : Graph). h.inputs) moved ∙ toggle.inputs ∙ ap (λ (h : Graph). h.inputs) added;
+        inputs = ap (λ (h : Graph). h.inputs) moved ∙ toggle.frame.inputs ∙ ap (λ (h : Graph). h.inputs) added;
         outputs = ap (λ (h : Graph). h.outputs) moved ∙ ap (λ es. set es q (plain next)) outputs_are;
       };
       table = same;
@@ -124,14 +124,12 @@ toggle_step s p q u v t r h i n toggle same = record {
     first = u;
     second = v;
     different = wires_apart s.graph p q u v r.well_formed h i n;
-    output = ap (λ es. slice_get es p) toggle.outputs ∙ h;
-    output_too = ap (λ es. slice_get es q) toggle.outputs ∙ i;
+    output = ap (λ es. slice_get es p) toggle.frame.outputs ∙ h;
+    output_too = ap (λ es. slice_get es q) toggle.frame.outputs ∙ i;
     vertices = toggle.vertices;
-    ordered = toggle.ordered;
     ordered_too = r.well_formed.edges;
     edges = λ a b _. toggle.edges a b;
-    inputs = toggle.inputs;
-    outputs = toggle.outputs;
+    frame = toggle.frame;
   };
   table = same;
 }

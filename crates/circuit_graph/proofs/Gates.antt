@@ -145,8 +145,8 @@ is_toggled s p q t ws wt c = record {
       (λ _ e. rw e (ap₂ xor (no_loop s w ws) (is_pair-self c.first c.second c.different w) ∙ sym (no_loop t w wt)))
       (λ _ n. sym (c.edges v w n));
   plane = λ v _. ap (λ vs. (kind_of vs v).plane) (sym c.vertices);
-  input = λ v _. ap (λ es. member v (end_vertices es)) (sym c.inputs);
-  output = λ v _. ap (λ es. member v (end_vertices es)) (sym c.outputs);
+  input = λ v _. ap (λ es. member v (end_vertices es)) (sym c.frame.inputs);
+  output = λ v _. ap (λ es. member v (end_vertices es)) (sym c.frame.outputs);
 }
 
 toggle_comes : (s : State) (p q : ℕ) (t : State) → IsReady s → IsToggleStep s p q t → Comes s (Cz p q ∷ []) t
@@ -157,20 +157,20 @@ toggle_comes s p q t r c = record {
     flow = subst (IsFlow t.graph) (sym c.table)
         (toggled_flow s.graph c.peel.first c.peel.second t.graph s.table r.well_formed formed (is_toggled s.graph p q t.graph r.well_formed formed c.peel)
         (at_output p c.peel.first c.peel.output) (at_output q c.peel.second c.peel.output_too) r.flow);
-    plain = ap are_plain c.peel.outputs ∙ r.plain;
+    plain = ap are_plain c.peel.frame.outputs ∙ r.plain;
   };
   map = edge_peels t.graph p q s.graph formed r.well_formed c.peel;
   spiders = as_many (ap length c.peel.vertices);
   odd = le_of_eq (as_many (same_vertices t.graph s.graph c.peel.vertices));
-  inputs = c.peel.inputs;
-  outputs = ap length c.peel.outputs;
+  inputs = c.peel.frame.inputs;
+  outputs = ap length c.peel.frame.outputs;
 }
   where
     formed : WellFormed t.graph
     formed = edge_formed t.graph p q s.graph r.well_formed c.peel
 
     at_output : (i u : ℕ) → slice_get t.graph.outputs i ≡ Some (plain u) → member u (end_vertices s.graph.outputs) ≡ true
-    at_output i u h = ap (λ es. member u (end_vertices es)) (sym c.peel.outputs) ∙ member-places t.graph.outputs i (plain u) h
+    at_output i u h = ap (λ es. member u (end_vertices es)) (sym c.peel.frame.outputs) ∙ member-places t.graph.outputs i (plain u) h
 
 pub gate_comes : (s : State) (gate : Gate) (t : State) → IsReady s → IsGateStep s gate t → Comes s (gate ∷ []) t
 gate_comes s (H q) t = spider_comes s q t

@@ -56,13 +56,13 @@ toggle_is s p q t w c =
     graph_is t _ adjacent s.inputs s.outputs c.vertices
     (edges_are t adjacent w (λ v r. ap₂ xor (joined_comm s.edges v r) (is_pair_comm (present s p) (present s q) v r))
     (λ v r n _ _. c.edges v r n ∙ ap₂ (λ a b. xor (joined s.edges v r) (is_pair a b v r)) (here p c.first c.output) (here q c.second c.output_too)))
-    c.inputs c.outputs
+    c.frame.inputs c.frame.outputs
   where
     adjacent : ℕ → ℕ → Bool
     adjacent v r = xor (joined s.edges v r) (is_pair (present s p) (present s q) v r)
 
     here : (i u : ℕ) → slice_get t.outputs i ≡ Some (plain u) → u ≡ present s i
-    here i u h = sym (present_is s.outputs i u (ap (λ es. slice_get es i) (sym c.outputs) ∙ h))
+    here i u h = sym (present_is s.outputs i u (ap (λ es. slice_get es i) (sym c.frame.outputs) ∙ h))
 
 -- a list begins with another one
 abbrev Begins : List ℕ → List ℕ → Type 0

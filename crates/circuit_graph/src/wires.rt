@@ -72,9 +72,7 @@ impl Wires {
         requires on_wires { q < length self.now.graph.graph.outputs }
         ensures { HasPlainOutput self.now.graph.graph q result }
     {
-        let outputs = self.graph.outputs();
-        let output = outputs[usize::from(q)];
-        output.vertex
+        self.graph.output_vertex(usize::from(q))
     }
 
     // An edge joins the present spider to a new one of phase 0, which is the present one from here on, and corrects it.

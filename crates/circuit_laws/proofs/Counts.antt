@@ -4,8 +4,9 @@ use Rattle.std.specs.Prelude.{slice_get}
 use Rattle.zx_model.specs.Phase.{sum_of_phases, is_odd}
 use Rattle.zx_model.specs.Bits.{member, one_if}
 use Rattle.zx_model.proofs.Odd.{is_odd-sum, one_if-odd_sum}
-use Rattle.zx_calculus.specs.Graph.{Distinct, Vertex, End, Graph, ids, kind_of, phase_of, with_kinds, without, WellFormed}
+use Rattle.zx_calculus.specs.Graph.{YZ, Distinct, Vertex, End, Graph, ids, kind_of, plane_of, phase_of, with_kinds, without, WellFormed}
 use Rattle.zx_calculus.specs.Turns.{with_phase_added}
+use Rattle.zx_calculus.specs.Edits.{IsRemoval}
 use Rattle.zx_calculus.specs.Gadgets.{fuse_kind}
 use Rattle.zx_calculus.specs.Splits.{spider_of_phase_zero}
 use Rattle.zx_calculus.specs.Counts.{odd_phases}
@@ -13,12 +14,13 @@ use Rattle.zx_calculus.specs.Worked.{plain}
 use Rattle.zx_calculus.proofs.Ids.{apart_of_member, eqb-self}
 use Rattle.zx_calculus.proofs.Vertices.{ids-with_kinds, with_kinds-unchanged, at_front-with_kinds}
 use Rattle.zx_calculus.proofs.Splitting.{distinct, member-without}
+use Rattle.zx_calculus.proofs.Counting.{YZ_live}
 use Rattle.zx_calculus.proofs.CountLemmas.{Test, count, count-cons, count_front, count-insert}
 use Rattle.zx_gates.specs.Circuit.{gate_odd_phases as odd_gates}
 use Rattle.zx_gates.specs.declared.gate.Gate.TheVariants.{H, Phase, Cx}
 use Rattle.zx_gates.proofs.LoweringLemmas.{gate_odd_phases-append, odd-phase_gates}
 use Rattle.circuit_laws.specs.Gates.{gadget_on, gadget_gates, linked_gadget_gates, hadamards_from}
-use Rattle.circuit_laws.specs.Peeling.{IsPhasePeel, IsSpiderPeel, IsVertexRemoved, IsGadgetPeel, IsLinkedGadgetPeel}
+use Rattle.circuit_laws.specs.Peeling.{IsPhasePeel, IsSpiderPeel, IsGadgetPeel, IsLinkedGadgetPeel}
 use Rattle.circuit_laws.proofs.Places.{output_there}
 
 abbrev odd_at : Test
@@ -91,10 +93,10 @@ odd-linked : (k q : ℕ) (qs : List ℕ) → odd_gates (linked_gadget_gates k q 
 odd-linked k q qs =
     nothing_more _ _ _ (gate_odd_phases-append (H q ∷ []) (gadget_on k q qs ++ H q ∷ [])) (gate_odd_phases-append (gadget_on k q qs) (H q ∷ [])) ∙ odd-gadget_on k q qs
 
-removal_odd : (g : Graph) (v : ℕ) (h : Graph) → WellFormed g → IsVertexRemoved g v h →
+removal_odd : (g : Graph) (v : ℕ) (h : Graph) → WellFormed g → plane_of g v ≡ YZ → IsRemoval g v h →
     odd_phases g ≡ one_if (is_odd (phase_of g v)) + odd_phases h
-removal_odd g v h w r =
-    front_is v g.vertices (distinct g w) r.there
+removal_odd g v h w plane r =
+    front_is v g.vertices (distinct g w) (YZ_live g.vertices v plane)
     ∙ count-cons odd_at (record { id = v; kind = kind_of g.vertices v }) (without v g.vertices)
     ∙ ap (λ vs. one_if (is_odd (phase_of g v)) + (count odd_at) vs) (sym r.vertices)
 
@@ -106,13 +108,13 @@ gadget_odd g v qubits h w c = at qubits
     at_most a b c n e le = omega arith
 
     at : (qs : List ℕ) → odd_phases h + odd_gates (gadget_gates (phase_of g v) qs) ≤ odd_phases g
-    at [] = at_most _ _ _ _ (removal_odd g v h w c.removal) (omega arith)
-    at (q ∷ qs) = at_most _ _ _ _ (removal_odd g v h w c.removal) (le_of_eq (odd-gadget_on (phase_of g v) q qs))
+    at [] = at_most _ _ _ _ (removal_odd g v h w c.plane c.removal) (omega arith)
+    at (q ∷ qs) = at_most _ _ _ _ (removal_odd g v h w c.plane c.removal) (le_of_eq (odd-gadget_on (phase_of g v) q qs))
 
 pub linked_gadget_odd : (g : Graph) (v q : ℕ) (qubits : List ℕ) (h : Graph) → WellFormed g →
     IsLinkedGadgetPeel g v q qubits h →
     odd_phases g ≡ odd_phases h + odd_gates (linked_gadget_gates (phase_of g v) q qubits)
-linked_gadget_odd g v q qubits h w c = exactly _ _ _ _ (removal_odd g v h w c.removal) (odd-linked (phase_of g v) q qubits)
+linked_gadget_odd g v q qubits h w c = exactly _ _ _ _ (removal_odd g v h w c.plane c.removal) (odd-linked (phase_of g v) q qubits)
   where
     exactly : (a b c n : ℕ) → c ≡ a + b → n ≡ a → c ≡ b + n
     exactly a b c n e s = omega arith

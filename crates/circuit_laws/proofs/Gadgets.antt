@@ -10,6 +10,7 @@ use Rattle.zx_model.proofs.Powers.{root_power-zero}
 use Rattle.zx_model.proofs.SumLemmas.{labelled-same, labelled-other, labelled-labelled, sum_over_same, sum_over_mul}
 use Rattle.zx_calculus.specs.Parity.{masked, quad}
 use Rattle.zx_calculus.specs.Graph.{YZ, Vertex, End, Graph, ids, kind_of, plane_of, phase_of, joined, end_vertices, is_XY, in_order, different, without, Distinct, WellFormed, Interior}
+use Rattle.zx_calculus.specs.Edits.{IsRemoval}
 use Rattle.zx_calculus.specs.Sum.{factor, spider, vertex_product, end_product}
 use Rattle.zx_model.specs.Constants.{two}
 use Rattle.zx_calculus.specs.Worked.{plain}
@@ -20,6 +21,7 @@ use Rattle.zx_calculus.proofs.Edges.{joined_comm, quad_same, masked-pick}
 use Rattle.zx_calculus.proofs.Forms.{form, value, form_front, sum_out, Ignores, ids-without, end_product-labelled, masked-labelled}
 use Rattle.zx_calculus.proofs.Vertices.{kind_of-without}
 use Rattle.zx_calculus.proofs.Splitting.{distinct, distinct_without, member-without, no_loop, interior_of, all_at}
+use Rattle.zx_calculus.proofs.Counting.{YZ_live}
 use Rattle.zx_calculus.proofs.Gadgets.{gadget_at}
 use Rattle.zx_calculus.proofs.Turning.{around as turning_around}
 use Rattle.zx_calculus.proofs.Kept.{both}
@@ -29,7 +31,7 @@ use Rattle.zx_gates.proofs.MapLemmas.{acts-append}
 use Rattle.circuit_laws.specs.Followed.{followed, PeelsAt}
 use Rattle.circuit_laws.specs.Gates.{gadget_on, gadget_gates, linked_gadget_gates}
 use Rattle.zx_gates.specs.Lowering.{phase_gates}
-use Rattle.circuit_laws.specs.Peeling.{IsVertexRemoved, IsGadgetPeel, IsLinkedGadgetPeel}
+use Rattle.circuit_laws.specs.Peeling.{IsGadgetPeel, IsLinkedGadgetPeel}
 use Rattle.circuit_laws.proofs.Composing.{peels_exactly}
 use Rattle.circuit_laws.proofs.Leaving.{leave, around, followed_is_form, leave-labelled, leave-phase, leave-cx, leave-h}
 use Rattle.circuit_laws.proofs.Places.{member-places}
@@ -118,7 +120,7 @@ leave-gadget es k (q ∷ qs) (w ∷ us) f label once d zip = leave-gadget_on es 
 scalar_out : (t s v : Number) → mul (mul t s) v ≡ mul t (mul s v)
 scalar_out t s v = simp sorted
 
-module _ (g : Graph) (v : ℕ) (h : Graph) (wg : WellFormed g) (wh : WellFormed h) (plane : plane_of g v ≡ YZ) (r : IsVertexRemoved g v h) where
+module _ (g : Graph) (v : ℕ) (h : Graph) (wg : WellFormed g) (wh : WellFormed h) (plane : plane_of g v ≡ YZ) (r : IsRemoval g v h) where
   abbrev ws : List Vertex
   ws = without v g.vertices
 
@@ -129,7 +131,7 @@ module _ (g : Graph) (v : ℕ) (h : Graph) (wg : WellFormed g) (wh : WellFormed 
       ≡ mul two (sum_over (ids ws) (λ label. mul (spider (phase_of g v) (masked (joined g.edges v) (ids ws) label)) (value (joined g.edges) (around g.inputs g.outputs x f) ws label)))
   gadget_out f x =
       followed_is_form g f x wg
-      ∙ form_front (joined g.edges) (around g.inputs g.outputs x f) v g.vertices (joined_comm g.edges) (distinct g wg) r.there
+      ∙ form_front (joined g.edges) (around g.inputs g.outputs x f) v g.vertices (joined_comm g.edges) (distinct g wg) (YZ_live g.vertices v plane)
       ∙ sum_out (joined g.edges) (around g.inputs g.outputs x f) (kind_of g.vertices v) v ws unseen (member-without v g.vertices)
       ∙ sum_over_same (ids ws) _ _
       (λ label. ap (λ t. mul t (value (joined g.edges) (around g.inputs g.outputs x f) ws label)) (gadget_at (kind_of g.vertices v) (masked (joined g.edges v) (ids ws) label) plane)
@@ -143,14 +145,14 @@ module _ (g : Graph) (v : ℕ) (h : Graph) (wg : WellFormed g) (wh : WellFormed 
       followed h f x ≡ form (joined g.edges) (around g.inputs g.outputs x f) ws
   without_gadget f x =
       followed_is_form h f x wh
-      ∙ rw (r.vertices, r.inputs, r.outputs)
+      ∙ rw (r.vertices, r.frame.inputs, r.frame.outputs)
       (sum_over_same (ids ws) _ _
       (λ label. ap (λ q. mul (vertex_product ws label) (mul (sign q) (around g.inputs g.outputs x f label)))
       (quad_same (joined h.edges) (joined g.edges) (ids ws) label (distinct_without g v wg)
       (λ p q s t n. r.edges p q (apart_of_member p v (ids ws) s (member-without v g.vertices)) (apart_of_member q v (ids ws) t (member-without v g.vertices))))))
 
   pub outputs_left : list_all (λ u. member u (ids ws)) (end_vertices g.outputs) ≡ true
-  outputs_left = ap₂ (λ vs es. list_all (λ u. member u (ids vs)) (end_vertices es)) (sym r.vertices) (sym r.outputs) ∙ wh.outputs.there
+  outputs_left = ap₂ (λ vs es. list_all (λ u. member u (ids vs)) (end_vertices es)) (sym r.vertices) (sym r.frame.outputs) ∙ wh.outputs.there
 
 -- ---- on outputs alone
 phase_in : (s p q i o : Number) → mul s (mul p (mul q (mul i o))) ≡ mul p (mul q (mul i (mul s o)))
@@ -181,8 +183,8 @@ gadget_peels g v qubits h wg wh c = (
   record {
     cost = two;
     nonzero = two_nonzero;
-    inputs = ap length c.removal.inputs;
-    outputs = ap length c.removal.outputs;
+    inputs = ap length c.removal.frame.inputs;
+    outputs = ap length c.removal.frame.outputs;
     equal = λ f x. gadget_peeled g v qubits h f x wg wh c;
   },
   refl,
@@ -317,4 +319,4 @@ module _ (g : Graph) (v q : ℕ) (qubits : List ℕ) (h : Graph) (wg : WellForme
 pub linked_gadget_peels : (g : Graph) (v q : ℕ) (qubits : List ℕ) (h : Graph) → WellFormed g → WellFormed h →
     IsLinkedGadgetPeel g v q qubits h → PeelsAt one g (linked_gadget_gates (phase_of g v) q qubits) h
 linked_gadget_peels g v q qubits h wg wh c =
-    peels_exactly g (linked_gadget_gates (phase_of g v) q qubits) h (ap length c.removal.inputs) (ap length c.removal.outputs) (λ f x. linked_gadget_peeled g v q qubits h wg wh c f x)
+    peels_exactly g (linked_gadget_gates (phase_of g v) q qubits) h (ap length c.removal.frame.inputs) (ap length c.removal.frame.outputs) (λ f x. linked_gadget_peeled g v q qubits h wg wh c f x)

@@ -6,17 +6,19 @@ use Rattle.std.specs.List.{list_all}
 use Rattle.zx_model.specs.Bits.{member}
 use Rattle.zx_calculus.specs.Graph.{YZ, Vertex, End, Graph, ids, kind_of, plane_of, is_XY, end_vertices, in_order, different, without, WellFormed, OrderedEdges, OrderedEnds}
 use Rattle.zx_calculus.specs.Splits.{spider_of_phase_zero}
+use Rattle.zx_calculus.specs.Edits.{IsRemoval}
 use Rattle.zx_calculus.specs.Gadgets.{fuse_kind}
 use Rattle.zx_calculus.specs.Worked.{plain}
 use Rattle.zx_calculus.proofs.Booleans.{or-true}
 use Rattle.zx_calculus.proofs.Ids.{by_test, by_equal, and-left, and-right, or-left, or-right, member-different, apart_of_member, member-removed_other}
 use Rattle.zx_calculus.proofs.Forms.{ids-without}
-use Rattle.zx_calculus.proofs.Vertices.{with_kinds-identity, ids-with_kinds, without-insert, list_all-without, all_below_a_turn, kind_of-without}
+use Rattle.zx_calculus.proofs.Vertices.{ids-with_kinds, without-insert, list_all-without, all_below_a_turn, kind_of-without}
 use Rattle.zx_calculus.proofs.Splitting.{all_at, interior_of}
-use Rattle.zx_calculus.proofs.Kept.{both, all_by, in_order-removed, kept_kinds, kept_removal, ends_without, different-all}
+use Rattle.zx_calculus.proofs.Kept.{both, all_by, in_order-removed, kept_kinds, ends_without, different-all}
+use Rattle.zx_calculus.proofs.Edits.{removal_kept}
 use Rattle.zx_calculus.proofs.Gadgets.{fuse_kind_below, fuse_XY}
 use Rattle.zx_calculus.proofs.Splits.{split_output_kept}
-use Rattle.circuit_laws.specs.Peeling.{IsPhasePeel, IsEdgePeel, IsMarkPeel, IsSpiderPeel, IsRowAddition, IsExchange, IsVertexRemoved, IsGadgetPeel, IsLinkedGadgetPeel, marked}
+use Rattle.circuit_laws.specs.Peeling.{IsPhasePeel, IsEdgePeel, IsMarkPeel, IsSpiderPeel, IsRowAddition, IsExchange, IsGadgetPeel, IsLinkedGadgetPeel, marked}
 use Rattle.circuit_laws.proofs.Places.{first_is, member-places, places-same, slice_get-set, set_same, apart_from, ordered_by_places}
 use Rattle.circuit_laws.proofs.Advancing.{with_mark, with_mark_formed, is_split}
 
@@ -38,13 +40,14 @@ same_edges g h w vertices edges = rw (vertices, edges) w.edges
 pub phase_formed : (g : Graph) (q k : ℕ) (h : Graph) → WellFormed h → IsPhasePeel g q k h → WellFormed g
 phase_formed g q k h w c =
     kept_kinds h (fuse_kind c.vertex k) g w (fuse_kind_below c.vertex k) (λ p t. fuse_XY c.vertex k p) (λ p t. fuse_XY c.vertex k p)
-    c.vertices (same_edges g h w (ap ids c.vertices ∙ ids-with_kinds (fuse_kind c.vertex k) h.vertices) c.edges) c.inputs c.outputs
+    c.vertices (record { ordered = same_edges g h w (ap ids c.vertices ∙ ids-with_kinds (fuse_kind c.vertex k) h.vertices) c.edges; inputs = c.inputs; outputs = c.outputs })
 
 pub edge_formed : (g : Graph) (p q : ℕ) (h : Graph) → WellFormed h → IsEdgePeel g p q h → WellFormed g
-edge_formed g p q h w c = formed_from g h w c.vertices c.ordered c.inputs (ap end_vertices c.outputs)
+edge_formed g p q h w c = formed_from g h w c.vertices c.frame.ordered c.frame.inputs (ap end_vertices c.frame.outputs)
 
 pub edge_formed_back : (g : Graph) (p q : ℕ) (h : Graph) → WellFormed g → IsEdgePeel g p q h → WellFormed h
-edge_formed_back g p q h w c = formed_from h g w (sym c.vertices) c.ordered_too (sym c.inputs) (ap end_vertices (sym c.outputs))
+edge_formed_back g p q h w c =
+    formed_from h g w (sym c.vertices) c.ordered_too (sym c.frame.inputs) (ap end_vertices (sym c.frame.outputs))
 
 mark_places : (g : Graph) (q : ℕ) (h : Graph) → (c : IsMarkPeel g q h) → end_vertices h.outputs ≡ end_vertices g.outputs
 mark_places g q h c = ap end_vertices c.outputs ∙ places-same g.outputs q (marked c.vertex) (plain c.vertex) c.output refl
@@ -140,10 +143,11 @@ spider_formed_back g q h w c no_input there plane no_output = record {
 
 -- ---- a row, an exchange and gadgets
 pub row_formed : (g : Graph) (c t : ℕ) (h : Graph) → WellFormed h → IsRowAddition g c t h → WellFormed g
-row_formed g c t h w r = formed_from g h w r.vertices r.ordered r.inputs (ap end_vertices r.outputs)
+row_formed g c t h w r = formed_from g h w r.vertices r.frame.ordered r.frame.inputs (ap end_vertices r.frame.outputs)
 
 pub row_formed_back : (g : Graph) (c t : ℕ) (h : Graph) → WellFormed g → IsRowAddition g c t h → WellFormed h
-row_formed_back g c t h w r = formed_from h g w (sym r.vertices) r.ordered_too (sym r.inputs) (ap end_vertices (sym r.outputs))
+row_formed_back g c t h w r =
+    formed_from h g w (sym r.vertices) r.ordered_too (sym r.frame.inputs) (ap end_vertices (sym r.frame.outputs))
 
 -- what holds at the end_vertices, and at that of the new end
 list_all-set : (test : ℕ → Bool) (es : List End) (q : ℕ) (d : End) → test d.vertex ≡ true →
@@ -197,9 +201,9 @@ exchange_formed_back g p q h w c = record {
         list_all-set test (set g.outputs p (plain c.second)) q (plain c.first) (all_at test (end_vertices g.outputs) c.first all (member-places g.outputs p (plain c.first) c.output))
         (list_all-set test g.outputs p (plain c.second) (all_at test (end_vertices g.outputs) c.second all (member-places g.outputs q (plain c.second) c.output_too)) all)
 
-removal_formed : (g : Graph) (v : ℕ) (h : Graph) → WellFormed g → plane_of g v ≡ YZ → IsVertexRemoved g v h → WellFormed h
+removal_formed : (g : Graph) (v : ℕ) (h : Graph) → WellFormed g → plane_of g v ≡ YZ → IsRemoval g v h → WellFormed h
 removal_formed g v h w plane r =
-    kept_removal g v (λ p k. k) h w (interior_of g v w (ap is_XY plane)) (λ p k t. t) (λ p k t. t) (r.vertices ∙ sym (with_kinds-identity (without v g.vertices))) r.ordered r.inputs r.outputs
+    removal_kept g v h w (interior_of g v w (ap is_XY plane)) r
 
 pub gadget_formed_back : (g : Graph) (v : ℕ) (qubits : List ℕ) (h : Graph) → WellFormed g →
     IsGadgetPeel g v qubits h → WellFormed h

@@ -2,6 +2,7 @@
 use Rattle.std.proofs.Common.{◌≡◌, ◌≢◌, sym, ◌∙◌, ap, refl, ℕ, zero as nought, suc, true, ◌||◌, eqb, List, [], ◌∷◌, set, eq-eqb, true≢false, ap₂, not, ◌&&◌, false, Bool, remove}
 use Rattle.std.specs.Prelude.{slice_get, Some}
 use Rattle.std.specs.List.{list_all}
+use Rattle.std.proofs.lemmas.Option.{same_Some}
 use Rattle.zx_model.specs.Bits.{member}
 use Rattle.zx_calculus.specs.Graph.{Vertex, End, Graph, ids, end_vertices, in_order, different, WellFormed, OrderedEnds, XY, plane_of, kind_of, is_XY}
 use Rattle.zx_calculus.proofs.Booleans.{or-true}
@@ -79,14 +80,13 @@ plain_end e h = at e.vertex e.hadamard h
     at v true h = absurd (true≢false (sym h))
     at v false h = refl
 
--- the end at a place, where all are plain
-pub plain_at : (es : List End) (q : ℕ) (e : End) → are_plain es ≡ true → slice_get es q ≡ Some e →
-    slice_get es q ≡ Some (plain e.vertex)
-plain_at [] q e all h = cc
-plain_at (d ∷ es) nought e all h =
-    ap Some (plain_end d (and-left (not d.hadamard) (are_plain es) all)
-    ∙ ap (λ (c : End). plain c.vertex) (first_is d e h))
-plain_at (d ∷ es) (suc q) e all h = plain_at es q e (and-right (not d.hadamard) (are_plain es) all) h
+-- the end whose vertex stands at a place, where all are plain
+pub plain_at : (es : List End) (q v : ℕ) → are_plain es ≡ true → slice_get (end_vertices es) q ≡ Some v →
+    slice_get es q ≡ Some (plain v)
+plain_at [] q v all h = cc
+plain_at (d ∷ es) nought v all h =
+    ap Some (plain_end d (and-left (not d.hadamard) (are_plain es) all) ∙ ap plain (same_Some d.vertex v h))
+plain_at (d ∷ es) (suc q) v all h = plain_at es q v (and-right (not d.hadamard) (are_plain es) all) h
 
 pub plain-set : (es : List End) (q v : ℕ) → are_plain es ≡ true → are_plain (set es q (plain v)) ≡ true
 plain-set [] q v h = refl

@@ -81,10 +81,10 @@ module _ (g : Graph) (c t : ℕ) (h : Graph) (wg : WellFormed g) (wh : WellForme
   ws = without r.added h.vertices
 
   output : slice_get h.outputs c ≡ Some (plain r.added)
-  output = ap (λ es. slice_get es c) (sym r.outputs) ∙ r.output
+  output = ap (λ es. slice_get es c) (sym r.frame.outputs) ∙ r.output
 
   output_too : slice_get h.outputs t ≡ Some (plain r.to)
-  output_too = ap (λ es. slice_get es t) (sym r.outputs) ∙ r.output_too
+  output_too = ap (λ es. slice_get es t) (sym r.frame.outputs) ∙ r.output_too
 
   there : member r.added (ids h.vertices) ≡ true
   there = output_there h c (plain r.added) wh output
@@ -113,7 +113,7 @@ module _ (g : Graph) (c t : ℕ) (h : Graph) (wg : WellFormed g) (wh : WellForme
       ∙ ap (leave h.outputs f) (labelled-labelled label r.added b (xor (label r.to) b)))
     where
       unseen : (d : Bool) → end_product h.inputs x (labelled label r.added d) ≡ end_product h.inputs x label
-      unseen d = end_product-labelled r.added h.inputs x label d (ap (λ es. member r.added (end_vertices es)) (sym r.inputs) ∙ r.no_input)
+      unseen d = end_product-labelled r.added h.inputs x label d (ap (λ es. member r.added (end_vertices es)) (sym r.frame.inputs) ∙ r.no_input)
 
   apart_from_added : (p : ℕ) → member p (ids ws) ≡ true → p ≢ r.added
   apart_from_added p s = apart_of_member p r.added (ids ws) s (member-without r.added h.vertices)
@@ -133,7 +133,7 @@ module _ (g : Graph) (c t : ℕ) (h : Graph) (wg : WellFormed g) (wh : WellForme
   pub row_peeled : followed g f x ≡ followed h (act (Cx t c) f) x
   row_peeled =
       followed_is_form g f x wg
-      ∙ rw (r.vertices, r.inputs, r.outputs)
+      ∙ rw (r.vertices, r.frame.inputs, r.frame.outputs)
       (summed (joined g.edges) (around h.inputs h.outputs x f) r.added h.vertices (joined_comm g.edges) (distinct h wh) there one_factor
       ∙ sum_over_same (ids ws) _ _ at
       ∙ sym (summed (joined h.edges) (around h.inputs h.outputs x (act (Cx t c) f)) r.added h.vertices (joined_comm h.edges) (distinct h wh) there one_factor)
@@ -154,4 +154,4 @@ module _ (g : Graph) (c t : ℕ) (h : Graph) (wg : WellFormed g) (wh : WellForme
 
 pub row_peels : (g : Graph) (c t : ℕ) (h : Graph) → WellFormed g → WellFormed h → IsRowAddition g c t h →
     PeelsAt one g (Cx t c ∷ []) h
-row_peels g c t h wg wh r = peels_exactly g (Cx t c ∷ []) h (ap length (sym r.inputs)) (ap length (sym r.outputs)) (λ f x. row_peeled g c t h wg wh r f x)
+row_peels g c t h wg wh r = peels_exactly g (Cx t c ∷ []) h (ap length (sym r.frame.inputs)) (ap length (sym r.frame.outputs)) (λ f x. row_peeled g c t h wg wh r f x)

@@ -58,15 +58,15 @@ pub edge_peeled : (g : Graph) (p q : ℕ) (h : Graph) (f : List Bool → Number)
     followed g f x ≡ followed h (act (Cz p q) f) x
 edge_peeled g p q h f x wg wh c =
     followed_is_form g f x wg
-    ∙ rw (c.vertices, c.inputs, c.outputs)
+    ∙ rw (c.vertices, c.frame.inputs, c.frame.outputs)
     (sum_over_same (ids h.vertices) _ _ at
     ∙ sym (followed_is_form h (act (Cz p q) f) x wh))
   where
     output : slice_get h.outputs p ≡ Some (plain c.first)
-    output = ap (λ es. slice_get es p) (sym c.outputs) ∙ c.output
+    output = ap (λ es. slice_get es p) (sym c.frame.outputs) ∙ c.output
 
     output_too : slice_get h.outputs q ≡ Some (plain c.second)
-    output_too = ap (λ es. slice_get es q) (sym c.outputs) ∙ c.output_too
+    output_too = ap (λ es. slice_get es q) (sym c.frame.outputs) ∙ c.output_too
 
     at : (label : ℕ → Bool) → value (joined g.edges) (around h.inputs h.outputs x f) h.vertices label
         ≡ value (joined h.edges) (around h.inputs h.outputs x (act (Cz p q) f)) h.vertices label
@@ -96,7 +96,7 @@ phase_peels g q k h wg wh c = peels_exactly g (Phase q k ∷ []) h (ap length (s
 
 pub edge_peels : (g : Graph) (p q : ℕ) (h : Graph) → WellFormed g → WellFormed h → IsEdgePeel g p q h →
     PeelsAt one g (Cz p q ∷ []) h
-edge_peels g p q h wg wh c = peels_exactly g (Cz p q ∷ []) h (ap length (sym c.inputs)) (ap length (sym c.outputs)) (λ f x. edge_peeled g p q h f x wg wh c)
+edge_peels g p q h wg wh c = peels_exactly g (Cz p q ∷ []) h (ap length (sym c.frame.inputs)) (ap length (sym c.frame.outputs)) (λ f x. edge_peeled g p q h f x wg wh c)
 
 pub mark_peels : (g : Graph) (q : ℕ) (h : Graph) → WellFormed g → WellFormed h → IsMarkPeel g q h →
     PeelsAt one g (H q ∷ []) h

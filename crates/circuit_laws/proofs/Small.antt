@@ -62,11 +62,9 @@ bell_edge = record {
   output = refl;
   output_too = refl;
   vertices = refl;
-  ordered = bell_formed.edges;
   ordered_too = no_edges_ordered (0 ∷ 1 ∷ []);
   edges = λ p q n. or-false _ ∙ ap (λ b. (eqb p 0 && eqb q 1) || b) (and_comm (eqb q 0) (eqb p 1));
-  inputs = refl;
-  outputs = refl;
+  frame = record { ordered = bell_formed.edges; inputs = refl; outputs = refl };
 }
 
 wires_formed : WellFormed bell_wires
@@ -105,12 +103,9 @@ gadget_of_two k = record {
   at_outputs = (refl, (refl, tt));
   neighbours = λ p. ap₂ (λ a b. a || (b || false)) (and-true (eqb p 0)) (and-true (eqb p 1));
   removal = record {
-    there = refl;
     vertices = refl;
-    ordered = no_edges_ordered (0 ∷ 1 ∷ []);
     edges = λ p q m n. sym (ap₂ (λ a b. ((eqb p 0 && b) || (eqb q 0 && a)) || (((eqb p 1 && b) || (eqb q 1 && a)) || false)) (ne_eqb p 2 m) (ne_eqb q 2 n) ∙ none (eqb p 0) (eqb q 0) (eqb p 1) (eqb q 1));
-    inputs = refl;
-    outputs = refl;
+    frame = record { ordered = no_edges_ordered (0 ∷ 1 ∷ []); inputs = refl; outputs = refl };
   };
 }
   where
@@ -138,11 +133,9 @@ row_is_added = record {
   no_input = refl;
   not_adjacent = refl;
   vertices = refl;
-  ordered = before_formed.edges;
   ordered_too = record { lower_first = refl; rising = refl; lower_there = refl; higher_there = refl };
   edges = λ p q n. edges p q;
-  inputs = refl;
-  outputs = refl;
+  frame = record { ordered = before_formed.edges; inputs = refl; outputs = refl };
 }
   where
     row_of_one : (q : ℕ) → joined before_addition.edges 1 q ≡ eqb q 2
@@ -204,14 +197,15 @@ gadget_linked k = record {
   at_outputs = (refl, tt);
   neighbours = λ p. leg_or_row (eqb p 0) (eqb p 1) (eqb p 2) (not_both 1 2 (λ e. absurd (omega arith)) p);
   removal = record {
-    there = refl;
     vertices = refl;
-    ordered = record { lower_first = refl; rising = refl; lower_there = refl; higher_there = refl };
     edges = λ p q m n.
         sym (ap₂ (λ a b. joins (edge 0 2) p q || (((eqb p 1 && b) || (eqb q 1 && a)) || (((eqb p 2 && b) || (eqb q 2 && a)) || false))) (ne_eqb p 3 m) (ne_eqb q 3 n)
         ∙ ap (λ b. joins (edge 0 2) p q || b) (gone (eqb p 1) (eqb q 1) (eqb p 2) (eqb q 2)));
-    inputs = refl;
-    outputs = refl;
+    frame = record {
+      ordered = record { lower_first = refl; rising = refl; lower_there = refl; higher_there = refl };
+      inputs = refl;
+      outputs = refl;
+    };
   };
 }
   where

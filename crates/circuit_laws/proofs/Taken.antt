@@ -71,7 +71,7 @@ phase_cleared g q h w c = record {
 pub phase_cleared_formed : (g : Graph) (q : ℕ) (h : Graph) → WellFormed g → IsPhaseCleared g q h → WellFormed h
 phase_cleared_formed g q h w c =
     kept_kinds g (cleared_kind c.vertex) h w below (λ p t. keeps p) (λ p t. keeps p)
-    c.vertices (same_edges h g w (ap ids c.vertices ∙ ids-with_kinds (cleared_kind c.vertex) g.vertices) c.edges) c.inputs c.outputs
+    c.vertices (record { ordered = same_edges h g w (ap ids c.vertices ∙ ids-with_kinds (cleared_kind c.vertex) g.vertices) c.edges; inputs = c.inputs; outputs = c.outputs })
   where
     below : Below (cleared_kind c.vertex)
     below p kind lt = at (eqb p c.vertex)

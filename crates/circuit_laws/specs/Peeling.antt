@@ -9,7 +9,7 @@ use Rattle.zx_calculus.specs.Graph.{YZ, Kind, End, Graph, ids, joined, plane_of,
 use Rattle.zx_calculus.specs.Graph.{OrderedEdges, with_kinds, without, insert_vertex}
 use Rattle.zx_calculus.specs.Turns.{in_plane}
 use Rattle.zx_calculus.specs.Splits.{spider_of_phase_zero}
-use Rattle.zx_calculus.specs.Edits.{is_pair}
+use Rattle.zx_calculus.specs.Edits.{KeepsEnds, IsRemoval, is_pair}
 use Rattle.zx_calculus.specs.Gadgets.{fuse_kind}
 use Rattle.zx_calculus.specs.Worked.{plain}
 use Rattle.gflow_laws.specs.Outputs.{row_added}
@@ -47,11 +47,9 @@ pub record IsEdgePeel (g : Graph) (p q : ℕ) (h : Graph) : Type 0 where
   pub output : HasPlainOutput g p first
   pub output_too : HasPlainOutput g q second
   pub vertices : g.vertices ≡ h.vertices
-  pub ordered : OrderedEdges (ids g.vertices) g.edges
   pub ordered_too : OrderedEdges (ids h.vertices) h.edges
   pub edges : (u v : ℕ) → u ≢ v → joined g.edges u v ≡ xor (joined h.edges u v) (is_pair first second u v)
-  pub inputs : g.inputs ≡ h.inputs
-  pub outputs : g.outputs ≡ h.outputs
+  pub frame : KeepsEnds h g
 
 -- a mark: the output q carries a Hadamard in g, and none in h
 pub record IsMarkPeel (g : Graph) (q : ℕ) (h : Graph) : Type 0 where
@@ -110,11 +108,9 @@ pub record IsRowAddition (g : Graph) (c t : ℕ) (h : Graph) : Type 0 where
   pub no_input : member added (end_vertices g.inputs) ≡ false
   pub not_adjacent : joined g.edges added to ≡ false
   pub vertices : g.vertices ≡ h.vertices
-  pub ordered : OrderedEdges (ids g.vertices) g.edges
   pub ordered_too : OrderedEdges (ids h.vertices) h.edges
   pub edges : (p q : ℕ) → p ≢ q → joined h.edges p q ≡ row_added (joined g.edges) added to p q
-  pub inputs : g.inputs ≡ h.inputs
-  pub outputs : g.outputs ≡ h.outputs
+  pub frame : KeepsEnds h g
 
 -- two outputs that are exchanged
 pub record IsExchange (g : Graph) (p q : ℕ) (h : Graph) : Type 0 where
@@ -137,15 +133,6 @@ pub record IsWires (g : Graph) : Type 0 where
   pub plain_outputs : list_all (λ e. not e.hadamard) g.outputs ≡ true
   pub no_edges : (p q : ℕ) → joined g.edges p q ≡ false
 
--- h is g without the vertex v and its edges
-pub record IsVertexRemoved (g : Graph) (v : ℕ) (h : Graph) : Type 0 where
-  pub there : Live g v
-  pub vertices : h.vertices ≡ without v g.vertices
-  pub ordered : OrderedEdges (ids h.vertices) h.edges
-  pub edges : (p q : ℕ) → p ≢ v → q ≢ v → joined h.edges p q ≡ joined g.edges p q
-  pub inputs : h.inputs ≡ g.inputs
-  pub outputs : h.outputs ≡ g.outputs
-
 -- a gadget on outputs: the YZ vertex v goes, whose neighbours are the vertices at these outputs
 pub record IsGadgetPeel (g : Graph) (v : ℕ) (qubits : List ℕ) (h : Graph) : Type 0 where
   pub legs : List ℕ
@@ -153,7 +140,7 @@ pub record IsGadgetPeel (g : Graph) (v : ℕ) (qubits : List ℕ) (h : Graph) : 
   pub once : Distinct legs
   pub at_outputs : AllZip (HasPlainOutput g) qubits legs
   pub neighbours : (p : ℕ) → joined g.edges v p ≡ member p legs
-  pub removal : IsVertexRemoved g v h
+  pub removal : IsRemoval g v h
 
 -- a gadget through an output: the YZ vertex v goes, whose neighbours are those of the vertex at the output q, which has
 -- phase 0 and no input, and the vertices at some other outputs
@@ -167,4 +154,4 @@ pub record IsLinkedGadgetPeel (g : Graph) (v q : ℕ) (qubits : List ℕ) (h : G
   pub once : Distinct (link ∷ legs)
   pub at_outputs : AllZip (HasPlainOutput g) qubits legs
   pub neighbours : (p : ℕ) → joined g.edges v p ≡ xor (joined g.edges link p) (member p legs)
-  pub removal : IsVertexRemoved g v h
+  pub removal : IsRemoval g v h

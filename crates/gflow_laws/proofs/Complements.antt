@@ -1,7 +1,7 @@
 -- Local complementation keeps a flow: first every set that has u among its odd neighbours takes u in, which is
 -- a flow already; then the new set of u is absorbed by the others.
-use Rattle.std.proofs.Common.{◌≡◌, ◌≢◌, refl, sym, ◌∙◌, ap, ap₂, subst, ⊎_elim, ℕ, Bool, true, false, cond, not, ◌&&◌, eqb, List, eq-eqb, ne_eqb, ◌⊎◌, inl, inr, ◌||◌, [], ◌∷◌, ◌++◌}
-use Rattle.std.proofs.lemmas.Bool.{cases_Bool, cases_eq, eqb-true, and_parts, true≢false, or_right, or_left, or_cases, or_parts}
+use Rattle.std.proofs.Common.{◌≡◌, ◌≢◌, refl, sym, ◌∙◌, ap, ap₂, subst, ⊎_elim, ℕ, Bool, true, false, cond, not, ◌&&◌, eqb, List, eq-eqb, ne_eqb, ◌⊎◌, inl, inr, [], ◌∷◌}
+use Rattle.std.proofs.lemmas.Bool.{cases_Bool, cases_eq, eqb-true, and_parts}
 use Rattle.zx_model.specs.Bits.{xor, member}
 use Rattle.zx_calculus.specs.Parity.{masked}
 use Rattle.zx_calculus.specs.Graph.{Plane, XY, YZ, XZ, kind_of, Graph, Kind, end_vertices, joined, ids, WellFormed}
@@ -177,14 +177,14 @@ Alike-complement g u h step = record {
   ids = λ v. ap (member v) (sym (ap ids step.vertices ∙ ids-with_kinds (complement_kind u (joined g.edges u)) g.vertices));
   adjacent = λ p q _ _. ⊎_elim
       (λ e. ap (λ b. not b && xor (joined g.edges p q) (joined g.edges u p && joined g.edges u q)) (eq-eqb p q e)
-      ∙ sym (ap (joined h.edges p) (sym e) ∙ joined-self h.edges p step.ordered.lower_first))
+      ∙ sym (ap (joined h.edges p) (sym e) ∙ joined-self h.edges p step.frame.ordered.lower_first))
       (λ ne. ap (λ b. not b && xor (joined g.edges p q) (joined g.edges u p && joined g.edges u q)) (ne_eqb p q ne) ∙ sym (step.edges p q ne))
       (cases_eq p q);
   plane = λ v there. sym (ap (λ vs. (kind_of vs v).plane) step.vertices
       ∙ ap (λ k. k.plane) (kind_of-with_kinds (complement_kind u (joined g.edges u)) v g.vertices there)
       ∙ changed (eqb v u) (joined g.edges u v) (kind_of g.vertices v));
-  input = λ v _. ap (λ l. member v (end_vertices l)) (sym step.inputs);
-  output = λ v _. ap (λ l. member v (end_vertices l)) (sym step.outputs);
+  input = λ v _. ap (λ l. member v (end_vertices l)) (sym step.frame.inputs);
+  output = λ v _. ap (λ l. member v (end_vertices l)) (sym step.frame.outputs);
 }
   where
     changed : (e n : Bool) (k : Kind) →

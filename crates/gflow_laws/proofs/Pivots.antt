@@ -1,6 +1,6 @@
 -- In planes and edges a pivot of u and v is local complements about u, v and u; so it keeps a flow.
-use Rattle.std.proofs.Common.{◌≡◌, ◌≢◌, ◌⊎◌, inl, inr, refl, sym, ◌∙◌, ap, ap₂, subst, ⊎_elim, ℕ, Bool, true, false, cond, not, ◌&&◌, ◌||◌, eqb, eq-eqb, ne_eqb, List, [], ◌∷◌, ◌++◌}
-use Rattle.std.proofs.lemmas.Bool.{cases_eq, true≢false, or_left, or_right, cases_Bool, or_parts}
+use Rattle.std.proofs.Common.{◌≡◌, ◌≢◌, ◌⊎◌, inl, inr, refl, sym, ◌∙◌, ap, ap₂, subst, ⊎_elim, ℕ, Bool, true, false, cond, not, ◌&&◌, ◌||◌, eqb, eq-eqb, ne_eqb, List}
+use Rattle.std.proofs.lemmas.Bool.{cases_eq, true≢false, or_left, or_right}
 use Rattle.zx_model.specs.Bits.{xor, member}
 use Rattle.zx_calculus.specs.Graph.{Plane, XZ, XY, YZ, kind_of, Graph, Kind, end_vertices, joined, ids, WellFormed}
 use Rattle.zx_calculus.specs.Turns.{pivoted_in, half_turned}
@@ -160,8 +160,8 @@ Alike-pivot g u v h simple step = record {
   ids = λ x. ap (member x) (sym (ap ids step.vertices ∙ ids-with_kinds change g.vertices));
   adjacent = λ p q _ _. adjacent p q;
   plane = λ x there. plane x (cases_eq x u) (cases_eq x v) ∙ sym (ap (λ vs. (kind_of vs x).plane) step.vertices ∙ ap (λ k. k.plane) (kind_of-with_kinds change x g.vertices there));
-  input = λ x _. ap (λ l. member x (end_vertices l)) (sym step.inputs);
-  output = λ x _. ap (λ l. member x (end_vertices l)) (sym step.outputs);
+  input = λ x _. ap (λ l. member x (end_vertices l)) (sym step.frame.inputs);
+  output = λ x _. ap (λ l. member x (end_vertices l)) (sym step.frame.outputs);
 }
   where
     change : ℕ → Kind → Kind
@@ -199,7 +199,7 @@ Alike-pivot g u v h simple step = record {
 
     adjacent : (p q : ℕ) → after_three.adjacent p q ≡ joined h.edges p q
     adjacent p q = ⊎_elim
-        (λ e. subst (λ x. after_three.adjacent p x ≡ joined h.edges p x) e (simple_three.no_loop p ∙ sym (joined-self h.edges p step.ordered.lower_first)))
+        (λ e. subst (λ x. after_three.adjacent p x ≡ joined h.edges p x) e (simple_three.no_loop p ∙ sym (joined-self h.edges p step.frame.ordered.lower_first)))
         (λ ne. apart_from p q ne (cases_eq p u) (cases_eq p v) (cases_eq q u) (cases_eq q v))
         (cases_eq p q)
 

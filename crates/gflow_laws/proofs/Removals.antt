@@ -1,14 +1,16 @@
 -- A vertex that isn't XY is in its own correction set, so that this set takes it out of every other; then it can go.
-use Rattle.std.proofs.Common.{◌≡◌, ◌≢◌, refl, sym, ◌∙◌, ap, ap₂, subst, ⊎_elim, ℕ, Bool, true, false, cond, not, ◌&&◌, eqb, eq-eqb, ne_eqb, ◌⊎◌, inl, inr, ◌||◌, List, [], ◌∷◌, ◌++◌}
-use Rattle.std.proofs.lemmas.Bool.{cases_Bool, cases_eq, true≢false, and_parts, eqb-true, or_right, or_left, or_cases, or_parts}
+use Rattle.std.proofs.Common.{◌≡◌, ◌≢◌, refl, sym, ◌∙◌, ap, ap₂, subst, ⊎_elim, ℕ, Bool, true, false, cond, not, ◌&&◌, eqb, eq-eqb, ne_eqb, ◌⊎◌, List}
+use Rattle.std.proofs.lemmas.Bool.{cases_Bool, cases_eq, true≢false, and_parts}
 use Rattle.zx_model.specs.Bits.{member, xor}
 use Rattle.zx_calculus.specs.Graph.{Plane, XY, YZ, XZ, Kind, without, joined, ids, end_vertices, kind_of, with_kinds, Graph, WellFormed, plane_of, phase_of}
 use Rattle.zx_calculus.specs.Deletions.{IsDelete, delete_kind}
+use Rattle.zx_calculus.specs.Edits.{KeepsEnds}
 use Rattle.zx_calculus.specs.Gadgets.{fuse_kind, IsDropLone, IsFuseInto, IsFuseTwin}
 use Rattle.zx_calculus.specs.Turns.{with_phase_added}
 use Rattle.zx_calculus.proofs.Vertices.{kind_of-without, ids-with_kinds, kind_of-with_kinds, with_kinds-identity}
 use Rattle.zx_calculus.proofs.Forms.{ids-without}
 use Rattle.zx_calculus.proofs.Splitting.{interior_of, off_XY}
+use Rattle.zx_calculus.proofs.Counting.{YZ_apart}
 use Rattle.gflow_laws.specs.Seen.{Seen, odd, seen}
 use Rattle.gflow_laws.specs.Correcting.{Corrects, inside_in, Strict, Alike, FlowAsFunctions, Distinct}
 use Rattle.gflow_laws.specs.Tables.{without_set, symmetric_difference}
@@ -77,15 +79,15 @@ Corrects-cleared s before u v A B strict there ne plane a b = ⊎_elim
 -- after a removal that changes no other plane
 pub Alike-removed : (g : Graph) (u : ℕ) (h : Graph) (change : ℕ → Kind → Kind) → h.vertices ≡ with_kinds change (without u g.vertices) →
     ((p : ℕ) (k : Kind) → (change p k).plane ≡ k.plane) → ((p q : ℕ) → p ≢ u → q ≢ u → joined h.edges p q ≡ joined g.edges p q) →
-    h.inputs ≡ g.inputs → h.outputs ≡ g.outputs → Alike (removed_from (seen g) u) (seen h)
-Alike-removed g u h change vertices keeps edges inputs outputs = record {
+    KeepsEnds g h → Alike (removed_from (seen g) u) (seen h)
+Alike-removed g u h change vertices keeps edges frame = record {
   ids = λ v. ap (member v) (sym same_ids);
   adjacent = λ p q in_p in_q. sym (edges p q (stays p in_p) (stays q in_q));
   plane = λ v within. sym (ap (λ vs. (kind_of vs v).plane) vertices
       ∙ ap (λ k. k.plane) (kind_of-with_kinds change v (without u g.vertices) (ap (member v) (ids-without u g.vertices) ∙ within))
       ∙ keeps v (kind_of (without u g.vertices) v) ∙ ap (λ k. k.plane) (kind_of-without v u g.vertices (stays v within)));
-  input = λ v _. ap (λ l. member v (end_vertices l)) (sym inputs);
-  output = λ v _. ap (λ l. member v (end_vertices l)) (sym outputs);
+  input = λ v _. ap (λ l. member v (end_vertices l)) (sym frame.inputs);
+  output = λ v _. ap (λ l. member v (end_vertices l)) (sym frame.outputs);
 }
   where
     same_ids : ids h.vertices ≡ removed u (ids g.vertices)
@@ -163,7 +165,7 @@ removal_flow g u h table change wf there plane vertices alike flow =
 pub delete_flow : (g : Graph) (u : ℕ) (h : Graph) (table : List Correction) → WellFormed g → IsDelete g u h → IsFlow g table → IsFlow h (removal_table u table)
 delete_flow g u h table wf step flow =
     removal_flow g u h table (delete_kind _ (joined g.edges u)) wf step.deletable.there step.deletable.plane step.vertices
-    (Alike-removed g u h (delete_kind _ (joined g.edges u)) step.vertices (λ p k. half_kept _ k) step.edges step.inputs step.outputs) flow
+    (Alike-removed g u h (delete_kind _ (joined g.edges u)) step.vertices (λ p k. half_kept _ k) step.edges step.frame) flow
 
 fused_plane : (v k : ℕ) (p : ℕ) (kind : Kind) → (fuse_kind v k p kind).plane ≡ kind.plane
 fused_plane v k p kind = kept_either_way (eqb p v)
@@ -172,22 +174,17 @@ fused_plane v k p kind = kept_either_way (eqb p v)
     kept_either_way true = refl
     kept_either_way false = refl
 
-not_YZ : (p : Plane) → p ≡ YZ → p ≢ XY
-not_YZ XY e f = cc
-not_YZ XZ e f = cc
-not_YZ YZ e f = cc
-
 pub drop_lone_flow : (g : Graph) (u : ℕ) (h : Graph) (table : List Correction) → WellFormed g → IsDropLone g u h → IsFlow g table → IsFlow h (removal_table u table)
 drop_lone_flow g u h table wf step flow =
-    removal_flow g u h table (λ p k. k) wf step.there (not_YZ (plane_of g u) step.plane) (step.vertices ∙ sym (with_kinds-identity (without u g.vertices)))
-    (Alike-removed g u h (λ p k. k) (step.vertices ∙ sym (with_kinds-identity (without u g.vertices))) (λ p k. refl) step.edges step.inputs step.outputs) flow
+    removal_flow g u h table (λ p k. k) wf step.there (YZ_apart (plane_of g u) step.plane) (step.vertices ∙ sym (with_kinds-identity (without u g.vertices)))
+    (Alike-removed g u h (λ p k. k) (step.vertices ∙ sym (with_kinds-identity (without u g.vertices))) (λ p k. refl) step.edges step.frame) flow
 
 pub fuse_into_flow : (g : Graph) (u : ℕ) (h : Graph) (table : List Correction) → WellFormed g → IsFuseInto g u h → IsFlow g table → IsFlow h (removal_table u table)
 fuse_into_flow g u h table wf step flow =
-    removal_flow g u h table (fuse_kind step.into (phase_of g u)) wf step.there (not_YZ (plane_of g u) step.plane) step.vertices
-    (Alike-removed g u h (fuse_kind step.into (phase_of g u)) step.vertices (fused_plane step.into (phase_of g u)) step.edges step.inputs step.outputs) flow
+    removal_flow g u h table (fuse_kind step.into (phase_of g u)) wf step.there (YZ_apart (plane_of g u) step.plane) step.vertices
+    (Alike-removed g u h (fuse_kind step.into (phase_of g u)) step.vertices (fused_plane step.into (phase_of g u)) step.edges step.frame) flow
 
 pub fuse_twin_flow : (g : Graph) (u v : ℕ) (h : Graph) (table : List Correction) → WellFormed g → IsFuseTwin g u v h → IsFlow g table → IsFlow h (removal_table v table)
 fuse_twin_flow g u v h table wf step flow =
-    removal_flow g v h table (fuse_kind u (phase_of g v)) wf step.there_too (not_YZ (plane_of g v) step.plane_too) step.vertices
-    (Alike-removed g v h (fuse_kind u (phase_of g v)) step.vertices (fused_plane u (phase_of g v)) step.edges step.inputs step.outputs) flow
+    removal_flow g v h table (fuse_kind u (phase_of g v)) wf step.there_too (YZ_apart (plane_of g v) step.plane_too) step.vertices
+    (Alike-removed g v h (fuse_kind u (phase_of g v)) step.vertices (fused_plane u (phase_of g v)) step.edges step.frame) flow

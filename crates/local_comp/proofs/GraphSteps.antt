@@ -2,18 +2,18 @@
 use Rattle.std.proofs.Common.{◌≡◌, refl, sym, ◌∙◌, ap, ap₂, subst, ℕ, true, false, cond, ◌&&◌, eqb, List}
 use Rattle.zx_model.specs.Phase.{half_turn}
 use Rattle.zx_model.specs.Bits.{xor, member}
-use Rattle.zx_calculus.specs.Graph.{Kind, Graph, joined, neighbours, end_vertices, plane_of, phase_of, with_kinds, Live, Interior, OrderedEdges, WellFormed}
+use Rattle.zx_calculus.specs.Graph.{Kind, Graph, joined, neighbours, end_vertices, plane_of, phase_of, with_kinds, Live, Interior, WellFormed}
 use Rattle.zx_calculus.specs.Complements.{IsLocalComplement, complement_kind}
 use Rattle.zx_calculus.specs.Deletions.{IsDelete, delete_kind}
 use Rattle.zx_calculus.specs.Steps.{allowed, after, Delete}
 use Rattle.zx_calculus.specs.Edits.{IsRemoval, at_vertex}
 use Rattle.zx_calculus.specs.Turns.{quarter_turned, half_turned, complemented}
 use Rattle.zx_calculus.proofs.Ids.{by_equal}
-use Rattle.zx_calculus.proofs.Vertices.{ids-with_kinds, with_kinds_same, with_kinds-unchanged, without-with_kinds}
+use Rattle.zx_calculus.proofs.Vertices.{with_kinds_same, with_kinds-unchanged, without-with_kinds}
 use Rattle.zx_calculus.proofs.Splitting.{no_loop, interior_of, off_XY}
 use Rattle.zx_calculus.specs.Toggles.{IsToggled, among, changed_in, with_changed}
 use Rattle.zx_calculus.proofs.Toggling.{member-neighbours, row_stays}
-use Rattle.zx_calculus.proofs.ChangedKinds.{with_kinds-with_kinds, turned_neighbours, turned_live, turned_twice}
+use Rattle.zx_calculus.proofs.ChangedKinds.{KeepsEnds-changed, with_kinds-with_kinds, turned_neighbours, turned_live, turned_twice}
 use Rattle.zx_calculus.proofs.Allowed.{delete_live}
 use Rattle.zx_calculus.proofs.Steps.{after_step}
 use Rattle.gflow_laws.specs.Flow.{Correction, order_of, IsFlow}
@@ -29,12 +29,9 @@ complement_step g h u w there interior c = record {
   interior = interior;
   vertices = with_kinds-with_kinds own near h.vertices ∙ ap (with_kinds (λ p k. own p (near p k))) c.vertices
       ∙ with_kinds_same (λ p k. own p (near p k)) (complement_kind u (joined g.edges u)) g.vertices (λ p k t. at p k);
-  ordered = subst (λ vs. OrderedEdges vs h.edges)
-      (sym (ids-with_kinds own (with_kinds near h.vertices) ∙ ids-with_kinds near h.vertices)) c.ordered;
   edges = λ p q n. c.edges p q n
       ∙ ap₂ (λ a b. xor (joined g.edges p q) (a && b)) (member-neighbours g u p w) (member-neighbours g u q w);
-  inputs = c.inputs;
-  outputs = c.outputs;
+  frame = KeepsEnds-changed own g (with_changed near h) (KeepsEnds-changed near g h c.frame);
 }
   where
     own : ℕ → Kind → Kind
@@ -119,8 +116,6 @@ delete_step g h k u w e may c = removed (subst (λ (l : Graph). IsRemoval l u k)
         record {
           deletable = s.deletable;
           vertices = r.vertices ∙ without-with_kinds (delete_kind (phase_of g u) (joined g.edges u)) u g.vertices;
-          ordered = r.ordered;
           edges = r.edges;
-          inputs = r.inputs;
-          outputs = r.outputs;
+          frame = record { ordered = r.frame.ordered; inputs = r.frame.inputs; outputs = r.frame.outputs };
         }

@@ -1,5 +1,6 @@
 -- Places of ends.
 use Rattle.std.proofs.Common.{◌≡◌, ◌≢◌, refl, sym, ◌∙◌, ap, ap₂, subst, not, ℕ, zero, suc, ◌<◌, Bool, true, false, cond, ◌||◌, eqb, List, [], ◌∷◌, ◌++◌, length, get_or, set, remove, Option, Some, None, is_some, IfSome, slice_get, true≢false, ne_eqb, eq-eqb, arith}
+use Rattle.std.proofs.lemmas.Option.{same_Some}
 use Rattle.zx_model.specs.Bits.{member}
 use Rattle.zx_calculus.specs.Graph.{End, end_vertices, in_order, different}
 use Rattle.zx_calculus.proofs.Ids.{by_test, by_equal, and-left, and-right, or-left, or-right, member-here, member-there, member-different}
@@ -75,3 +76,9 @@ place_holds v ends o told = subst (λ (x : Option ℕ). IfSome x (λ i. slice_ge
     found : (es : List End) → IfSome (place_of v es) (λ i. slice_get (end_vertices es) i ≡ Some v)
     found [] = tt
     found (e ∷ es) = by_equal v e.vertex (λ t s. rw t (ap Some (sym s))) (λ f n. rw f (next e es (place_of v es) (found es)))
+
+-- the vertex of the end at a place
+pub slice_get-places : (ends : List End) (i : ℕ) (e : End) → slice_get ends i ≡ Some e → slice_get (end_vertices ends) i ≡ Some e.vertex
+slice_get-places [] i e found = cc
+slice_get-places (d ∷ ds) zero e found = ap (λ (c : End). Some c.vertex) (same_Some d e found)
+slice_get-places (d ∷ ds) (suc i) e found = slice_get-places ds i e found

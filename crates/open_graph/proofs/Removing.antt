@@ -114,7 +114,7 @@ keeps_removed old new h v w interior k gone =
     after = removal_is_removal h v w
 
     not_there : (q : ℕ) → joined (removal h v).edges v q ≡ false
-    not_there q = joined-absent (ids (without v h.vertices)) (removal h v).edges v q after.ordered.lower_there after.ordered.higher_there (member-without v h.vertices)
+    not_there q = joined-absent (ids (without v h.vertices)) (removal h v).edges v q after.frame.ordered.lower_there after.frame.ordered.higher_there (member-without v h.vertices)
 
     symmetric : Symmetric (adjacent old)
     symmetric p q = k.adjacent p q ∙ joined_comm h.edges p q ∙ sym (k.adjacent q p)

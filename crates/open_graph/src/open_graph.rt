@@ -284,6 +284,15 @@ impl OpenGraph {
         &self.outputs
     }
 
+    /// The vertex of the output at a place.
+    pub fn output_vertex(&self, i: usize) -> VertexId
+        requires { i < length self.now.graph.outputs }
+        ensures value { slice_get (end_vertices self.now.graph.outputs) i ≡ Some result }
+        ensures valid { WellFormed self.now.graph }
+    {
+        self.outputs[i].vertex
+    }
+
     /// The vertices, by rising id.
     pub fn vertices(&self) -> Vertices<'_>
         ensures value { result ≡ ids self.now.graph.vertices }

@@ -20,8 +20,7 @@ pi = record { rational = whole (pos 0); multiple = whole (pos 1) }
 -- the angle of two parts, if both are within the limit
 abbrev pub of_parts : Option Ratio → Option Ratio → Result Angle AngleFault
 of_parts (Some a) (Some b) = Ok (record { rational = a; multiple = b })
-of_parts (Some a) None = Err cause.TooLarge
-of_parts None b = Err cause.TooLarge
+of_parts a b = Err cause.TooLarge
 
 abbrev pub opposite_angle : Angle → Angle
 opposite_angle a = record { rational = opposite a.rational; multiple = opposite a.multiple }

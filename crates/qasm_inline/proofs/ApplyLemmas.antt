@@ -1,32 +1,47 @@
 -- What is wrong with an application, and what it comes to, by what names are kept as.
-use Rattle.std.proofs.Common.{◌≡◌, ℕ, zero, suc, ◌+◌, ◌<◌, ◌≤◌, Bool, true, false, ◌||◌, List, [], ◌∷◌, length, map, Option, None, Some, refl, sym, ap, ap₂, ◌∙◌, arith}
+use Rattle.std.proofs.Common.{◌≡◌, ℕ, zero, suc, ◌+◌, ◌<◌, ◌≤◌, Bool, true, false, ◌||◌, if◌then◌else◌, List, [], ◌∷◌, length, map, Option, None, Some, refl, sym, ap, ap₂, ◌∙◌, arith}
 use Rattle.std.specs.List.{list_any, flat_map, range_with_len}
 use Rattle.std.proofs.lemmas.Bool.Decides.{nat_tests}
 use Rattle.zx_gates.specs.Circuit.{most_qubits}
 use Rattle.qasm_angle.specs.Trees.{Tree}
-use Rattle.qasm_reader.specs.Syntax.{Apply, Formula, Operand, Act, Applied}
+use Rattle.qasm_reader.specs.Syntax.{Apply, Callee, Declared, U, Cx, Formula, Operand, Act, Applied}
 use Rattle.qasm_scope.specs.Calls.{Event}
-use Rattle.qasm_scope.specs.declared.gates.CalledGate.{CalledGate}
+use Rattle.qasm_scope.specs.declared.causes.Cause.{Cause}
+use Rattle.qasm_scope.specs.declared.causes.Cause.TheVariants as cause
+use Rattle.qasm_names.specs.declared.gates.CalledGate.{CalledGate}
 use Rattle.qasm_scope.specs.Angles.{is_unsupported, numbered}
 use Rattle.qasm_scope.specs.Applications.{QubitRange, Single, Register, qubit_at, instances, instance_count, register_sizes, ranges_of, range_in, has_twice, application_events}
-use Rattle.qasm_scope.specs.Internal.Checks.{Symbols, gate_shape, shape_by, called_by, application_cause}
+use Rattle.qasm_names.specs.AppliedGates.{IsAppliedGate, gate_faults, has_fault, is_unknown_gate}
+use Rattle.qasm_names.specs.Checks.{Symbols, hidden_by, shape_by}
+use Rattle.qasm_names.specs.Kept.{IsSound, called_for}
+use Rattle.qasm_names.specs.Places.{has_unplaced, placed as placed_by, ArePlaces}
 use Rattle.qasm_scope.specs.Faults.{is_no_gate, shape_of, has_other_name, has_no_register, has_other_shape, has_past_index, has_other_size, is_past, wrong_in}
-use Rattle.qasm_scope.specs.Internal.Kept.{IsSound, called_for}
 use Rattle.qasm_inline.specs.Internal.KeptCalls.{expand_number}
 use Rattle.qasm_inline.specs.Internal.KeptCalls.{called_events, values_of}
 use Rattle.qasm_scope.specs.Scope.{Scope, Meaning, Qubits, Bits, Gate, meaning_of, numeral}
 use Rattle.qasm_inline.specs.Internal.Spans.{no_register_by, past_by, any_missing, span_by, is_unknown, is_wrong_count, AreSpans, IsResolved, is_unresolved, unresolved_cause, resolved_cause, cut_qubit_at, cut_instance, cut_instances, instances_events}
-use Rattle.qasm_scope.proofs.CheckLemmas.{AreNames, shape-names, called-names, placed-numbered, list_any-same, map-same}
-use Rattle.qasm_scope.proofs.Formulas.{unplaced-names}
-use Rattle.qasm_scope.specs.Internal.Entries.{has_unplaced, any_other, placed as placed_by, ArePlaces, ArePlaced}
-use Rattle.qasm_scope.specs.declared.places.Places.{Places}
-use Rattle.qasm_scope.specs.declared.gates.KnownGate.{KnownGate}
-use Rattle.std.specs.Option.{option_map}
+use Rattle.qasm_names.proofs.CheckLemmas.{AreNames, shape-names, called-names, placed-numbered, list_any-same, map-same}
+use Rattle.qasm_names.proofs.Formulas.{unplaced-names}
+use Rattle.qasm_names.specs.declared.places.Places.{Places}
+use Rattle.qasm_names.specs.declared.applied_gates.AppliedGate.{AppliedGate}
+use Rattle.qasm_names.specs.declared.applied_gates.GateFaults.{GateFaults}
+use Rattle.qasm_names.specs.declared.formals.Formals.{Formals}
+use Rattle.std.specs.Option.{is_some}
 use Rattle.qasm_inline.proofs.EventLemmas.{application-numbered}
-use Rattle.qasm_scope.proofs.Tests.{or-first, or-second, any_or}
+use Rattle.qasm_names.proofs.Tests.{or-first, or-second, any_or}
 use Rattle.qasm_inline.proofs.SpanLemmas.{no_register-names, past-names, span-names, few-register, IsFew}
 
 -- ---- causes
+-- the first cause of an application
+abbrev application_cause : Bool → Bool → Bool → Bool → Bool → Bool → Option Cause
+application_cause unsupported unknown wrong_count past sizes same_qubit =
+    if unsupported then Some cause.Unsupported else
+    if unknown then Some cause.Unknown else
+    if wrong_count then Some cause.WrongCount else
+    if past then Some cause.Index else
+    if sizes then Some cause.Sizes else
+    if same_qubit then Some cause.SameQubit else None
+
 wrong_in-application : (scope : Scope) (a : Apply) → wrong_in scope (Act (Applied a))
     ≡ application_cause (list_any is_unsupported a.angles)
     (is_no_gate (shape_of scope a.gate) || list_any (has_other_name []) a.angles || has_no_register scope a.qubits)
@@ -88,35 +103,49 @@ wrong-resolved {symbols = symbols} {a = a} scope h sound r =
     wrong-kept symbols scope a h ∙ clear-cause _ _ _ _ (has_other_size (register_sizes (ranges_of scope a.qubits))) (list_any has_twice (instances (ranges_of scope a.qubits))) r.supported r.all_known r.same_counts r.within
     ∙ ap (λ rs. resolved_cause (has_other_size (register_sizes rs)) (list_any has_twice (instances rs))) (sym (resolved-ranges scope h sound r))
 
-known-from : (a b c : Bool) → a ≡ false → b ≡ false → c ≡ false → (a || b || c) ≡ false
-known-from false false false ea eb ec = refl
-known-from true b c ea eb ec = absurd (cc)
-known-from false true c ea eb ec = absurd (cc)
-known-from false false true ea eb ec = absurd (cc)
-
 -- no parameters have places
 other-names : (parameters : Places) (fs : List Formula) → ArePlaces parameters [] → list_any (has_unplaced parameters) fs ≡ list_any (has_other_name []) fs
 other-names parameters fs none = list_any-same (has_unplaced parameters) (has_other_name []) fs (λ f. unplaced-names parameters [] f none)
 
--- the names in an application of a gate
-pub unknown-kept : (symbols : Symbols) (a : Apply) (parameters : Places) (gate : KnownGate) → ArePlaces parameters [] → option_map gate_shape (Some gate) ≡ shape_by symbols a.gate
-    → is_unknown symbols a ≡ (list_any (has_unplaced parameters) a.angles || list_any (no_register_by symbols) a.qubits)
-unknown-kept symbols a parameters gate none shape =
-    ap₂ (λ s o. is_no_gate s || o || list_any (no_register_by symbols) a.qubits) (sym shape) (sym (other-names parameters a.angles none))
+-- no formal name hides a gate
+hidden-none : (formals : Formals) (gate : Callee) → ArePlaces formals.parameters [] → ArePlaces formals.qubits [] → hidden_by formals.parameters formals.qubits gate ≡ false
+hidden-none formals (Declared name) parameters qubits = ap₂ (λ p q. is_some p || is_some q) (parameters name) (qubits name)
+hidden-none formals U parameters qubits = refl
+hidden-none formals Cx parameters qubits = refl
 
-or-angles : (u o g r w p : Bool) → (u || o) ≡ true → (u || (g || o || r) || w || p) ≡ true
-or-angles true o g r w p h = refl
-or-angles false true true r w p h = refl
-or-angles false true false r w p h = refl
-or-angles false false g r w p h = absurd (cc)
+-- the names of the gate and in its angles, where there are no formal names
+unknown-gate : (symbols : Symbols) (formals : Formals) (a : Apply) → ArePlaces formals.parameters [] → ArePlaces formals.qubits []
+    → is_unknown_gate symbols formals a.gate a.angles ≡ (is_no_gate (shape_by symbols a.gate) || list_any (has_other_name []) a.angles)
+unknown-gate symbols formals a parameters qubits =
+    ap₂ (λ h o. h || is_no_gate (shape_by symbols a.gate) || o) (hidden-none formals a.gate parameters qubits) (other-names formals.parameters a.angles parameters)
 
--- an angle holds what no parameter and no operation stands for
-pub unresolved-angles : (symbols : Symbols) (a : Apply) (parameters : Places) → ArePlaces parameters []
-    → any_other parameters a.angles ≡ true → is_unresolved symbols a ≡ true
-unresolved-angles symbols a parameters none h =
-    or-angles (list_any is_unsupported a.angles) (list_any (has_other_name []) a.angles) (is_no_gate (shape_by symbols a.gate)) (list_any (no_register_by symbols) a.qubits)
+unknown-kept : (symbols : Symbols) (formals : Formals) (a : Apply) → ArePlaces formals.parameters [] → ArePlaces formals.qubits []
+    → (is_unknown_gate symbols formals a.gate a.angles || list_any (no_register_by symbols) a.qubits) ≡ is_unknown symbols a
+unknown-kept symbols formals a parameters qubits = ap (λ k. k || list_any (no_register_by symbols) a.qubits) (unknown-gate symbols formals a parameters qubits)
+
+pub same-causes : (symbols : Symbols) (formals : Formals) (a : Apply) (faults : GateFaults) (unknown : Bool) → ArePlaces formals.parameters [] → ArePlaces formals.qubits []
+    → faults ≡ gate_faults symbols formals a.gate a.angles (length a.qubits) → unknown ≡ (faults.unknown || list_any (no_register_by symbols) a.qubits)
+    → unresolved_cause faults.unsupported unknown faults.wrong_count ≡ unresolved_cause (list_any is_unsupported a.angles) (is_unknown symbols a) (is_wrong_count symbols a)
+same-causes symbols formals a faults unknown parameters qubits same names =
+    ap (λ k. unresolved_cause faults.unsupported k faults.wrong_count) names
+    ∙ ap (λ f. unresolved_cause f.unsupported (f.unknown || list_any (no_register_by symbols) a.qubits) f.wrong_count) same
+    ∙ ap (λ k. unresolved_cause (list_any is_unsupported a.angles) k (is_wrong_count symbols a)) (unknown-kept symbols formals a parameters qubits)
+
+or-gate : (u g o r w p : Bool) → (u || (g || o) || w) ≡ true → (u || (g || o || r) || w || p) ≡ true
+or-gate true g o r w p h = refl
+or-gate false true o r w p h = refl
+or-gate false false true r w p h = refl
+or-gate false false false true w p h = refl
+or-gate false false false false true p h = refl
+or-gate false false false false false p h = absurd (cc)
+
+-- something is wrong with the gate or its angles
+pub unresolved-gate : (symbols : Symbols) (formals : Formals) (a : Apply) → ArePlaces formals.parameters [] → ArePlaces formals.qubits []
+    → has_fault (gate_faults symbols formals a.gate a.angles (length a.qubits)) ≡ true → is_unresolved symbols a ≡ true
+unresolved-gate symbols formals a parameters qubits h =
+    or-gate (list_any is_unsupported a.angles) (is_no_gate (shape_by symbols a.gate)) (list_any (has_other_name []) a.angles) (list_any (no_register_by symbols) a.qubits)
     (is_wrong_count symbols a) (list_any (past_by symbols) a.qubits)
-    (ap (λ b. list_any is_unsupported a.angles || b) (sym (other-names parameters a.angles none)) ∙ h)
+    (sym (ap (λ k. list_any is_unsupported a.angles || k || is_wrong_count symbols a) (unknown-gate symbols formals a parameters qubits)) ∙ h)
 
 or-arguments : (u g o r w p : Bool) → (r || p) ≡ true → (u || (g || o || r) || w || p) ≡ true
 or-arguments true g o r w p h = refl
@@ -134,19 +163,20 @@ unresolved-arguments symbols a h =
     (sym (any_or (no_register_by symbols) (past_by symbols) a.qubits) ∙ h)
 
 -- what was found is an application with its names resolved
-pub resolved-from : (symbols : Symbols) (a : Apply) (parameters : Places) (gate : KnownGate) (angles : List Tree) (ranges : List QubitRange)
-    → ArePlaces parameters [] → option_map gate_shape (Some gate) ≡ shape_by symbols a.gate → is_wrong_count symbols a ≡ false → gate.called ≡ called_by symbols a.gate
-    → ArePlaced parameters a.angles angles → AreSpans symbols a.qubits ranges → IsResolved symbols a gate.called angles ranges
-resolved-from symbols a parameters gate angles ranges none shape counts called placed spans = record {
-  supported = placed.supported;
-  all_known = known-from (is_no_gate (shape_by symbols a.gate)) (list_any (has_other_name []) a.angles) (list_any (no_register_by symbols) a.qubits)
-      (ap is_no_gate (sym shape)) (sym (other-names parameters a.angles none) ∙ placed.all_placed) spans.all_registers;
-  same_counts = counts;
-  within = spans.all_within;
-  same_gate = called;
-  same_angles = placed.same ∙ map-same (placed_by parameters) (numbered []) a.angles (λ f. placed-numbered parameters [] f none);
-  same_spans = spans.same;
-}
+pub resolved-from : (symbols : Symbols) (formals : Formals) (a : Apply) (applied : AppliedGate) (ranges : List QubitRange) → ArePlaces formals.parameters [] → ArePlaces formals.qubits []
+    → IsAppliedGate symbols formals a.gate a.angles (length a.qubits) applied → AreSpans symbols a.qubits ranges → IsResolved symbols a applied.called applied.angles.items ranges
+resolved-from symbols formals a applied ranges parameters qubits is spans =
+    let known : (list_any is_unsupported a.angles || is_unknown_gate symbols formals a.gate a.angles) ≡ false = or-first _ _ is.faultless in
+    let gate : (is_no_gate (shape_by symbols a.gate) || list_any (has_other_name []) a.angles) ≡ false = sym (unknown-gate symbols formals a parameters qubits) ∙ or-second _ _ known in
+    record {
+      supported = or-first _ _ known;
+      all_known = ap₂ ◌||◌ gate spans.all_registers;
+      same_counts = or-second _ _ is.faultless;
+      within = spans.all_within;
+      same_gate = is.same_gate;
+      same_angles = is.same_angles ∙ map-same (placed_by formals.parameters) (numbered []) a.angles (λ f. placed-numbered formals.parameters [] f parameters);
+      same_spans = spans.same;
+    }
 
 -- ---- qubits are few
 abbrev IsSmall : QubitRange → Type 0

@@ -16,10 +16,10 @@ use Rattle.qasm_scope.specs.Angles.{angles_of, place_of, place_or_zero}
 use Rattle.qasm_scope.specs.Applications.{has_twice}
 use Rattle.qasm_scope.specs.Calls.{Event, applied, u_of, u_events, cx_events, expand, call, body_call, expand_meaning, expand_declared}
 use Rattle.qasm_scope.specs.Faults.{is_in, has_name_twice, shape_of, shape_in, is_no_gate, has_other_shape, is_hidden, has_other_name, body_has_unknown, body_has_wrong_count, body_has_same_qubit}
-use Rattle.qasm_scope.specs.Internal.Kept.{IsSound, IsSoundMeaning}
+use Rattle.qasm_names.specs.Kept.{IsSound, IsSoundMeaning}
 use Rattle.qasm_scope.specs.Scope.{Scope, Meaning, Qubits, Bits, Gate, meaning_of}
 use Rattle.qasm_inline.proofs.EventLemmas.{applied-append}
-use Rattle.qasm_scope.proofs.Tests.{or-first, or-second, same_number}
+use Rattle.qasm_names.proofs.Tests.{or-first, or-second, same_number}
 
 -- P holds of each element, by the list
 abbrev pub Each : {A : Type 0} → (A → Type 0) → List A → Type 0

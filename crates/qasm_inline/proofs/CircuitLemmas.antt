@@ -1,28 +1,30 @@
 -- A program's statements one after the other.
-use Rattle.std.proofs.Common.{◌≡◌, ◌⊎◌, inl, inr, Option, ℕ, ◌<◌, length, map, take, get_or, add-one, ◌+◌, ◌-◌, ◌^◌, min, Bool, true, false, List, [], ◌∷◌, ◌++◌, None, Some, Result, Ok, Err, refl, sym, ap, subst, ◌∙◌, append_assoc, append-nil, add-zero, arith}
+use Rattle.std.proofs.Common.{◌≡◌, ◌⊎◌, inl, inr, Option, ℕ, ◌<◌, ◌≤◌, length, map, take, get_or, add-one, ◌+◌, ◌-◌, ◌^◌, min, Bool, true, false, List, [], ◌∷◌, ◌++◌, None, Some, Result, Ok, Err, refl, sym, ap, subst, ◌∙◌, append_assoc, append-nil, add-zero, arith}
 use Rattle.std.specs.Prelude.{IfOk, OnOk, if◌then◌else◌}
 use Rattle.std.specs.List.{All}
 use Rattle.std.proofs.Math.Seq.{take-suc}
+use Rattle.std.proofs.lemmas.Grind.{common_steps}
 use Rattle.std.proofs.lemmas.List.{map-append}
-use Rattle.qasm_reader.specs.declared.program.Statement.{Statement}
-use Rattle.qasm_reader.specs.Views.{placed}
+use Rattle.qasm_reader.specs.declared.program.ProgramElement.{ProgramElement}
+use Rattle.qasm_reader.specs.Views.{statement_of}
+use Rattle.qasm_inline.specs.declared.circuit.Circuit.{Circuit}
 use Rattle.zx_gates.specs.declared.elementary.Elementary.{Elementary}
 use Rattle.zx_gates.specs.declared.elementary.ElementaryGate.{ElementaryGate}
 use Rattle.zx_gates.specs.Elementary.{IsElementary, IsElementaryGateOn}
 use Rattle.qasm_reader.specs.Syntax.{GateForm, Sentence, Version, Include, QubitRegister, BitRegister, DeclareGate, Opaque, If, Barrier, Act, Placed}
 use Rattle.qasm_scope.specs.declared.causes.Cause.{Cause}
 use Rattle.qasm_scope.specs.declared.causes.Cause.TheVariants as cause
-use Rattle.qasm_scope.specs.declared.names.Names.{Names}
+use Rattle.qasm_names.specs.declared.names.Names.{Names}
 use Rattle.qasm_inline.specs.declared.circuit.Stage.{Stage}
 use Rattle.qasm_inline.specs.declared.circuit.Stage.TheVariants.{Open, Stopped}
 use Rattle.qasm_inline.specs.declared.error.InlineError.{InlineError}
 use Rattle.qasm_inline.specs.declared.error.InlineError.TheVariants.{Fault, NoMemory}
 use Rattle.qasm_inline.specs.declared.unroll.Unrolled.{Unrolled}
 use Rattle.qasm_scope.specs.Calls.{applied, call_count}
-use Rattle.qasm_inline.specs.Internal.Circuits.{HasTakenAt, IsCircuitAnswer, IsEmpty, IsOpen, LeadsTo, gate_at}
+use Rattle.qasm_inline.specs.Circuits.{HasTaken, HasTakenAt, IsCircuitAnswer, IsEmpty, IsOpen, LeadsTo, gate_at}
 use Rattle.qasm_inline.specs.Internal.KeptCalls.{Continues}
 use Rattle.qasm_scope.specs.Faults.{wrong_in}
-use Rattle.qasm_scope.specs.Internal.Kept.{Represents}
+use Rattle.qasm_names.specs.Kept.{Represents}
 use Rattle.qasm_scope.specs.Meaning.{Means, after_statement, events_of, fault_after, first_fault, gates_after, is_version, most_calls, or_else, placed_or, scope_after, wrong_with}
 use Rattle.qasm_scope.specs.Scope.{Scope, Gate, declared, qubit_count}
 use Rattle.qasm_inline.proofs.MeantLemmas.{faultless-few, faultless-on}
@@ -185,11 +187,19 @@ refused-from program (Err (Fault this place)) h what at e =
     inr (ap (λ p. Err (Fault p.0 p.1)) both)
 refused-from program (Err NoMemory) h what at e = inl refl
 
--- ---- the loop over statements
-pub next-placed : (statements : List Statement) (i : ℕ) (s : Statement) → i < length statements → s ≡ get_or statements i s
-    → map placed (take i statements) ++ placed s ∷ [] ≡ map placed (take (i + 1) statements)
-next-placed statements i s h e =
-    ap (λ x. map placed (take i statements) ++ placed x ∷ []) e
-    ∙ sym (map-append placed (take i statements) (get_or statements i s ∷ []))
-    ∙ ap (map placed) (sym (take-suc statements i s h))
-    ∙ ap (λ n. map placed (take n statements)) (sym (add-one i))
+-- ---- loops over lists
+pub next-taken : {A B : Type 0} (view : A → B) (xs : List A) (i : ℕ) (x : A) → i < length xs → x ≡ get_or xs i x
+    → map view (take i xs) ++ view x ∷ [] ≡ map view (take (i + 1) xs)
+next-taken view xs i x h e =
+    ap (λ y. map view (take i xs) ++ view y ∷ []) e
+    ∙ sym (map-append view (take i xs) (get_or xs i x ∷ []))
+    ∙ ap (map view) (sym (take-suc xs i x h))
+    ∙ ap (λ n. map view (take n xs)) (sym (add-one i))
+
+take-over : {A : Type 0} (xs : List A) (i : ℕ) → length xs ≤ i → take i xs ≡ xs
+take-over [] i h = grind (arith, common_steps)
+take-over (x ∷ xs) i h = grind (arith, common_steps)
+
+pub all-taken : (circuit : Circuit) (items all : List ProgramElement) (i : ℕ) → items ≡ all → length items ≤ i → HasTaken circuit (map statement_of (take i all)) → HasTaken circuit (map statement_of all)
+all-taken circuit items all i same over taken =
+    subst (λ es. HasTaken circuit (map statement_of es)) (take-over all i (subst (λ (es : List ProgramElement). length es ≤ i) same over)) taken

@@ -9,7 +9,7 @@ use Rattle.qasm_reader.specs.Syntax.{Apply}
 use Rattle.qasm_scope.specs.Angles.{angles_of, numbered}
 use Rattle.qasm_scope.specs.Applications.{application_events, instances, ranges_of}
 use Rattle.qasm_scope.specs.Faults.{is_no_gate, shape_of}
-use Rattle.qasm_scope.specs.Internal.Kept.{called_for}
+use Rattle.qasm_names.specs.Kept.{called_for}
 use Rattle.qasm_inline.specs.Internal.KeptCalls.{expand_number}
 use Rattle.qasm_inline.specs.Internal.KeptCalls.{Continues, called_events, values_of}
 use Rattle.qasm_scope.specs.Scope.{Scope}

@@ -5,13 +5,13 @@ use Rattle.std.specs.Str.{bytes_eq}
 use Rattle.qasm_angle.specs.declared.angle.Angle.{Angle}
 use Rattle.qasm_reader.specs.Syntax.{Formula, Callee, Declared, U, Cx, GateForm, BodySentence, BodyApplied, BodyBarrier}
 use Rattle.qasm_scope.specs.declared.causes.Cause.{Cause}
-use Rattle.qasm_scope.specs.declared.gates.GateCall.{GateCall}
+use Rattle.qasm_names.specs.declared.gates.GateCall.{GateCall}
 use Rattle.qasm_scope.specs.Angles.{in_prefix, angle_of, angles_of, numbered, place_of}
 use Rattle.qasm_scope.specs.Calls.{Event, Called, after_angles, call, expand, body_call, expand_meaning, expand_declared}
 use Rattle.qasm_scope.specs.Faults.{shape_of, shape_in, is_no_gate, body_has_unknown}
-use Rattle.qasm_scope.specs.Internal.Kept.{KeptCall, kept_call, gate_count, gates_in, symbol_of, symbol_in, number_in, called_for, kept_calls}
+use Rattle.qasm_names.specs.Kept.{KeptCall, kept_call, gate_count, gates_in, symbol_of, symbol_in, number_in, called_for, kept_calls}
 use Rattle.qasm_inline.specs.Internal.KeptCalls.{is_numbered, expand_number}
-use Rattle.qasm_scope.proofs.Tests.{if-true, if-false, or-first, or-second, same_number, other_number}
+use Rattle.qasm_names.proofs.Tests.{if-true, if-false, or-first, or-second, same_number, other_number}
 use Rattle.qasm_inline.specs.Internal.KeptCalls.{Numbered, call_events, calls_events, expand_called, called_events, values_of, picked}
 use Rattle.qasm_scope.specs.Scope.{Scope, Declaration, Meaning, Qubits, Bits, Gate, meaning_of}
 

@@ -14,15 +14,15 @@ use Rattle.qasm_scope.specs.declared.causes.Cause.{Cause}
 use Rattle.qasm_scope.specs.Angles.{angles_of}
 use Rattle.qasm_scope.specs.Applications.{QubitRange, Single, Register, range_in, range_of, ranges_of, register_sizes, instance_count, qubit_at, instances, has_twice, application_events}
 use Rattle.qasm_scope.specs.Calls.{call, call_count, expand_declared}
-use Rattle.qasm_scope.specs.Faults.{wrong_in, first_cause, statement_tests, is_redeclared, has_unknown, has_wrong_count, has_wrong_index, has_other_sizes, has_other_size, has_same_qubit, has_too_many_qubits, is_no_gate, is_no_register, is_past, shape_of, has_other_name}
+use Rattle.qasm_scope.specs.Faults.{wrong_in, first_cause, statement_tests, has_unknown, has_other_shape, has_other_size, is_no_gate, is_no_register, is_past, shape_of, has_other_name}
 use Rattle.qasm_scope.specs.HeaderGates.{first_gates, further_gates}
-use Rattle.qasm_scope.specs.Internal.Kept.{IsSound, IsSoundMeaning}
+use Rattle.qasm_names.specs.Kept.{IsSound, IsSoundMeaning}
 use Rattle.qasm_scope.specs.Meaning.{Means, after_statement, events_of, fault_after, first_fault, gates_after, is_version, or_else, placed_or, scope_after, with_first, with_further, with_header, wrong_with}
 use Rattle.qasm_scope.specs.Scope.{Scope, Meaning, Qubits, Bits, Gate, declared, is_declared, meaning_of, qubit_count, size_of}
 use Rattle.qasm_inline.proofs.CallLemmas.{Each, Each-append, ActsOn, ActsOn-flat_map, AreArguments, Takes, takes-from, call-on}
-use Rattle.qasm_scope.proofs.CheckLemmas.{sound-from}
-use Rattle.qasm_scope.proofs.Including.{with_header-sound}
-use Rattle.qasm_scope.proofs.Tests.{or-first, or-second, same_number}
+use Rattle.qasm_names.proofs.CheckLemmas.{sound-from}
+use Rattle.qasm_names.proofs.Including.{with_header-sound}
+use Rattle.qasm_names.proofs.Tests.{or-first, or-second, same_number}
 
 -- ---- scopes of statements that nothing is wrong with
 
@@ -73,37 +73,17 @@ no_cause : (tests : List (Bool × Cause)) → first_cause tests ≡ None → All
 no_cause [] h = tt
 no_cause (test ∷ tests) h = let both = no_cause-at test.0 test.1 (first_cause tests) h in (both.0, no_cause tests both.1)
 
--- what the tests of a statement say where nothing is wrong with it
-record Passes (scope : Scope) (sentence : Sentence) : Type 0 where
-  pub free : is_redeclared scope sentence ≡ false
-  pub few : has_too_many_qubits scope sentence ≡ false
-  pub known : has_unknown scope sentence ≡ false
-  pub counts : has_wrong_count scope sentence ≡ false
-  pub indices : has_wrong_index scope sentence ≡ false
-  pub sizes : has_other_sizes scope sentence ≡ false
-  pub qubits : has_same_qubit scope sentence ≡ false
-
-passes : (scope : Scope) (sentence : Sentence) → wrong_in scope sentence ≡ None → Passes scope sentence
+-- no test of a statement finds a cause where nothing is wrong with it
+passes : (scope : Scope) (sentence : Sentence) → wrong_in scope sentence ≡ None → AllFalse (statement_tests scope sentence)
 unfolding wrong_in
-passes scope sentence h =
-    let prefix = (no_cause (statement_tests scope sentence) h).1.1 in
-    let all = prefix.1.1 in
-    record {
-      free = prefix.0;
-      few = all.0;
-      known = all.1.0;
-      counts = all.1.1.0;
-      indices = all.1.1.1.0;
-      sizes = all.1.1.1.1.0;
-      qubits = all.1.1.1.1.1.0;
-    }
+passes scope sentence h = no_cause (statement_tests scope sentence) h
 
 -- the scope after a statement is sound
 sound-after : (scope : Scope) (sentence : Sentence) → IsSound scope → wrong_in scope sentence ≡ None → IsSound (after_statement scope sentence)
 sound-after scope (Version real) sound h = sound
-sound-after scope (Include text) sound h = with_header-sound scope sound (passes scope (Include text) h).free
+sound-after scope (Include text) sound h = with_header-sound scope sound (passes scope (Include text) h).1.0
 sound-after scope (QubitRegister name size) sound h =
-    let few = (passes scope (QubitRegister name size) h).few in
+    let few = (passes scope (QubitRegister name size) h).1.1.0 in
     ((record { after_others = refl; few = grind (arith, nat_tests) }, refl), tt, sound)
 sound-after scope (BitRegister name size) sound h = (refl, tt, sound)
 sound-after scope (DeclareGate form) sound h = (sound-from scope form h, tt, sound)
@@ -206,7 +186,7 @@ instances-on limit size from (suc count) ranges h on twice = (
   instances-on limit size (from + 1) count ranges (omega arith) on (or-second (has_twice (map (qubit_at from) ranges)) _ twice),
 )
 
-calls-on : (limit : ℕ) (scope : Scope) (a : Apply) (many : List (List ℕ)) → IsSound scope → is_no_gate (shape_of scope a.gate) ≡ false → has_wrong_count scope (Act (Applied a)) ≡ false
+calls-on : (limit : ℕ) (scope : Scope) (a : Apply) (many : List (List ℕ)) → IsSound scope → is_no_gate (shape_of scope a.gate) ≡ false → has_other_shape (shape_of scope a.gate) (length a.angles) (length a.qubits) ≡ false
     → Each (λ qubits. AreArguments limit qubits × (length qubits ≡ length (ranges_of scope a.qubits))) many
     → Each (λ qubits. ActsOn limit (call (expand_declared scope) a.gate 1 (angles_of [] [] a.angles) qubits)) many
 calls-on limit scope a [] sound gate counts h = tt
@@ -219,14 +199,16 @@ calls-on limit scope a (qubits ∷ many) sound gate counts h =
 
 application-on : (limit : ℕ) (scope : Scope) (a : Apply) → IsSound scope → qubit_count scope ≤ limit → wrong_in scope (Act (Applied a)) ≡ None → ActsOn limit (application_events scope a)
 application-on limit scope a sound few h =
-    let p = passes scope (Act (Applied a)) h in
+    let p = (passes scope (Act (Applied a)) h).1 in
+    let known : has_unknown scope a ≡ false = p.0 in
+    let sizes : has_other_size (register_sizes (ranges_of scope a.qubits)) ≡ false = p.1.1.1.0 in
     let ranges = ranges_of scope a.qubits in
     let count = instance_count (register_sizes ranges) in
-    let gate = or-first (is_no_gate (shape_of scope a.gate)) _ (or-first _ _ p.known) in
-    let registers = or-second (is_no_gate (shape_of scope a.gate) || list_any (has_other_name []) a.angles) _ p.known in
-    let on = ranges-on limit count scope a.qubits sound few registers p.indices (same-sizes (register_sizes ranges) p.sizes) in
+    let gate = or-first (is_no_gate (shape_of scope a.gate)) _ (or-first _ _ known) in
+    let registers = or-second (is_no_gate (shape_of scope a.gate) || list_any (has_other_name []) a.angles) _ known in
+    let on = ranges-on limit count scope a.qubits sound few registers p.1.1.0 (same-sizes (register_sizes ranges) sizes) in
     ActsOn-flat_map limit (call (expand_declared scope) a.gate 1 (angles_of [] [] a.angles)) (instances ranges)
-    (calls-on limit scope a (instances ranges) sound gate p.counts (instances-on limit count 0 count ranges (omega arith) on p.qubits))
+    (calls-on limit scope a (instances ranges) sound gate p.1.0 (instances-on limit count 0 count ranges (omega arith) on p.1.1.1.1.0))
 
 statement-on : (limit : ℕ) (scope : Scope) (sentence : Sentence) → IsSound scope → qubit_count scope ≤ limit → wrong_in scope sentence ≡ None → ActsOn limit (events_of scope sentence)
 statement-on limit scope (Version real) sound few h = tt

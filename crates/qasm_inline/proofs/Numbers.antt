@@ -6,15 +6,15 @@ use Rattle.std.proofs.lemmas.Bool.Decides.{nat_tests}
 use Rattle.std.proofs.lemmas.Option.{slice_get-map, slice_get_past}
 use Rattle.qasm_angle.specs.declared.angle.Angle.{Angle}
 use Rattle.qasm_reader.specs.Syntax.{GateForm}
-use Rattle.qasm_scope.specs.declared.gates.GateBody.{GateBody}
+use Rattle.qasm_names.specs.declared.gates.GateBody.{GateBody}
 use Rattle.qasm_scope.specs.Calls.{expand_meaning, expand_declared}
-use Rattle.qasm_scope.specs.Internal.Kept.{KeptCall, kept_call, kept_body, gate_count, gates_in, kept_calls, kept_in, kept_gates, IsSound, IsSoundGate, IsSoundMeaning}
+use Rattle.qasm_names.specs.Kept.{KeptCall, kept_call, kept_body, gate_count, gates_in, kept_calls, kept_in, kept_gates, IsSound, IsSoundGate, IsSoundMeaning}
 use Rattle.qasm_inline.specs.Internal.KeptCalls.{is_numbered, expand_number}
 use Rattle.qasm_inline.specs.Internal.KeptCalls.{Numbered, Unrolls, calls_of}
 use Rattle.qasm_scope.specs.Scope.{Scope, Meaning, Qubits, Bits, Gate}
-use Rattle.qasm_scope.proofs.Tests.{if-false}
+use Rattle.qasm_names.proofs.Tests.{if-false}
 use Rattle.qasm_inline.proofs.Keeping.{Agrees, Agrees-before, Agrees-itself, kept_events, kept_events-calls, body-same}
-use Rattle.qasm_scope.proofs.Symbols.{kept-length}
+use Rattle.qasm_names.proofs.Symbols.{kept-length}
 
 -- the calls of the gate of a number
 abbrev pub kept_at : Option (List KeptCall) → List KeptCall

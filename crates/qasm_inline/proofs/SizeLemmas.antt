@@ -6,7 +6,7 @@ use Rattle.qasm_scope.specs.Applications.{QubitRange, register_size, register_si
 use Rattle.qasm_scope.specs.Faults.{has_other_size}
 use Rattle.qasm_inline.specs.Internal.Spans.{span_range}
 use Rattle.qasm_inline.specs.declared.applications.Span.{Span}
-use Rattle.qasm_scope.proofs.Tests.{same_number}
+use Rattle.qasm_names.proofs.Tests.{same_number}
 
 sizes-drop : (spans : List Span) (i : ℕ) (d : Span) → i < length spans
     → register_sizes (map span_range (drop i spans)) ≡ register_sizes (span_range (get_or spans i d) ∷ map span_range (drop (i + 1) spans))

@@ -7,14 +7,15 @@ use Rattle.std.proofs.lemmas.Bool.Decides.{nat_tests}
 use Rattle.zx_gates.specs.Circuit.{most_qubits}
 use Rattle.qasm_reader.specs.Syntax.{Operand, Barrier}
 use Rattle.qasm_scope.specs.Applications.{Single, range_in, range_of}
-use Rattle.qasm_scope.specs.Internal.Checks.{Symbols, barrier_cause}
+use Rattle.qasm_names.specs.Checks.{Symbols}
+use Rattle.qasm_scope.specs.declared.causes.Cause.{Cause}
+use Rattle.qasm_names.specs.Kept.{symbol_register, IsSound, IsSoundMeaning}
 use Rattle.qasm_scope.specs.Faults.{is_no_register, is_past, wrong_in}
-use Rattle.qasm_scope.specs.Internal.Kept.{register_in, symbol_register, IsSound, IsSoundMeaning}
 use Rattle.qasm_scope.specs.Scope.{Scope, Meaning, Qubits, Bits, Gate, meaning_of, numeral}
 use Rattle.qasm_inline.specs.Internal.Spans.{register_by, no_register_by, past_in, past_by, any_missing, span_in, span_by}
-use Rattle.qasm_scope.proofs.CheckLemmas.{AreNames, list_any-same}
-use Rattle.qasm_scope.proofs.Symbols.{symbol-register}
-use Rattle.qasm_scope.proofs.Tests.{any_or}
+use Rattle.qasm_names.proofs.CheckLemmas.{AreNames, list_any-same}
+use Rattle.qasm_names.proofs.Symbols.{register_in, symbol-register}
+use Rattle.qasm_names.proofs.Tests.{any_or}
 use Rattle.qasm_scope.specs.declared.causes.Cause.TheVariants as cause
 
 pub register-names : (symbols : Symbols) (scope : Scope) (o : Operand) → AreNames symbols scope → register_by symbols o ≡ register_in (meaning_of o.register scope)
@@ -75,6 +76,12 @@ pub span-names : (symbols : Symbols) (scope : Scope) (o : Operand) → AreNames 
 span-names symbols scope o h sound within =
     ap (λ r. span_in r o.index) (register-names symbols scope o h)
     ∙ span-at (meaning_of o.register scope) o.index (few-register o.register scope sound) (sym (past-names symbols scope o h) ∙ within)
+
+-- the first cause of a barrier
+abbrev barrier_cause : Bool → Bool → Option Cause
+barrier_cause unknown past =
+    if unknown then Some cause.Unknown else
+    if past then Some cause.Index else None
 
 -- what is wrong with a barrier
 barrier-at : (unknown past : Bool) → (unknown || past) ≡ true → barrier_cause unknown past ≡ Some (if unknown then cause.Unknown else cause.Index)

@@ -6,12 +6,12 @@ use Rattle.zx_gates.specs.declared.elementary.ElementaryGate.{ElementaryGate}
 use Rattle.qasm_angle.specs.declared.angle.Angle.{Angle}
 use Rattle.qasm_angle.specs.Trees.{Tree}
 use Rattle.qasm_scope.specs.declared.causes.Cause.{Cause}
-use Rattle.qasm_scope.specs.declared.gates.GateCall.{GateCall}
+use Rattle.qasm_names.specs.declared.gates.GateCall.{GateCall}
 use Rattle.qasm_inline.specs.declared.unroll.Frame.{Frame}
 use Rattle.qasm_inline.specs.declared.unroll.Unrolled.{Unrolled}
 use Rattle.qasm_scope.specs.Calls.{Event, Called, after_angles, applied, call_count, first_wrong}
-use Rattle.qasm_scope.specs.declared.gates.GateBody.{GateBody}
-use Rattle.qasm_scope.specs.declared.gates.CalledGate.{CalledGate}
+use Rattle.qasm_names.specs.declared.gates.GateBody.{GateBody}
+use Rattle.qasm_names.specs.declared.gates.CalledGate.{CalledGate}
 use Rattle.qasm_inline.specs.Internal.KeptCalls.{Numbered, Continues, calls_left, calls_events, stack_events, expand_called, called_events, values_of, picked, frames_of, first_events, entered_events, left_events, followed}
 use Rattle.qasm_inline.proofs.StackLemmas.{followed-values}
 

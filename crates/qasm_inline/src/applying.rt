@@ -1,17 +1,17 @@
 //! Applications of gates in statements.
 
-ghost use Rattle.std.specs.Prelude.{◌≡◌, [], map, IfOk, IfSome, IfNone, OnOk, None, Some, Err, true};
+ghost use Rattle.std.specs.Prelude.{◌≡◌, ◌||◌, [], map, IfOk, IfSome, IfNone, OnOk, None, Some, Err, true};
 ghost use Rattle.std.specs.List.{list_any};
 ghost use Rattle.qasm_reader.specs.Syntax.{Act, Applied};
 ghost use Rattle.qasm_reader.specs.Views as views;
 ghost use Rattle.qasm_scope.specs.Angles.{is_unsupported};
 ghost use Rattle.qasm_scope.specs.Applications.{application_events, has_twice, instances, register_sizes};
-ghost use Rattle.qasm_scope.specs.Internal.Kept.{Represents};
+ghost use Rattle.qasm_names.specs.Kept.{Represents};
 ghost use Rattle.qasm_inline.specs.Internal.KeptCalls.{ComesTo};
 ghost use Rattle.qasm_scope.specs.Faults.{has_other_size, wrong_in};
 ghost use Rattle.qasm_scope.specs.Meaning.{most_calls, wrong_with};
 ghost use Rattle.qasm_scope.specs.Scope.{Scope};
-ghost use Rattle.qasm_inline.specs.Internal.Spans.{span_range, is_unknown, is_wrong_count, IsResolved, is_unresolved, unresolved_cause, resolved_cause};
+ghost use Rattle.qasm_inline.specs.Internal.Spans.{span_range, no_register_by, is_unknown, is_wrong_count, IsResolved, is_unresolved, unresolved_cause, resolved_cause};
 ghost use Rattle.qasm_scope.specs.declared.causes.Cause.{Cause};
 
 use crate::applications::{Span, any_no_register, has_other_sizes, spans};
@@ -19,10 +19,11 @@ use crate::instances::call_instances;
 use crate::overlaps::has_same_qubit;
 use crate::unroll::Unrolled;
 use qasm_angle::Expr;
-use qasm_reader::Application;
-use qasm_scope::{
-    CalledGate, Cause, Names, Places, StatementError, all_numbered, any_other_name, any_unsupported,
+use qasm_names::{
+    CalledGate, Formals, GateFaults, Names, StatementError, applied_gate, gate_faults,
 };
+use qasm_reader::Application;
+use qasm_scope::Cause;
 use std::alloc::{AllocError, Global};
 
 // An application with its names resolved.
@@ -85,21 +86,19 @@ fn resolved<'a>(
     ensures none { IfOk result (λ found. IfNone found (
         is_unresolved names.now.symbols (views.application application.now) ≡ true)) }
 {
-    let Some(gate) = names.gate(&application.gate) else {
-        return Ok(None);
-    };
-    if gate.has_other_shape(application.angles.len(), application.qubits.len()) {
-        return Ok(None);
-    }
-    let Some(angles) = all_numbered(alloc, &Places::none(alloc), &application.angles)? else {
+    let formals = Formals::none(alloc);
+    let count = application.qubits.len();
+    let gate = &application.gate;
+    let Some(applied) = applied_gate(alloc, names, &formals, gate, &application.angles, count)?
+    else {
         return Ok(None);
     };
     let Some(spans) = spans(alloc, names, &application.qubits)? else {
         return Ok(None);
     };
     Ok(Some(ResolvedApplication {
-        gate: gate.called,
-        angles,
+        gate: applied.called,
+        angles: applied.angles,
         spans,
     }))
 }
@@ -110,38 +109,32 @@ fn unresolved_cause<'a>(alloc: Global, names: &Names<'a>, application: &Applicat
         ≡ unresolved_cause (list_any is_unsupported a.angles) (is_unknown names.now.symbols a)
         (is_wrong_count names.now.symbols a) }
 {
-    if any_unsupported(&application.angles) {
+    let formals = Formals::none(alloc);
+    let count = application.qubits.len();
+    let faults = gate_faults(
+        names,
+        &formals,
+        &application.gate,
+        &application.angles,
+        count,
+    );
+    if faults.unsupported {
         Cause::Unsupported
-    } else if is_unknown(alloc, names, application) {
+    } else if is_unknown(names, faults, application) {
         Cause::Unknown
-    } else if is_wrong_count(names, application) {
+    } else if faults.wrong_count {
         Cause::WrongCount
     } else {
         Cause::Index
     }
 }
 
-// Whether a name in an application isn't known, or isn't what is needed there.
-fn is_unknown<'a>(alloc: Global, names: &Names<'a>, application: &Application<'a>) -> bool
-    ensures { result ≡ is_unknown names.now.symbols (views.application application.now) }
+// Whether a name in an application isn't known, or isn't what is needed there, where this is wrong with its gate.
+fn is_unknown<'a>(names: &Names<'a>, faults: GateFaults, application: &Application<'a>) -> bool
+    ensures { result ≡ (faults.unknown || list_any (no_register_by names.now.symbols)
+        (views.application application.now).qubits) }
 {
-    match names.gate(&application.gate) {
-        Some(_) => {
-            any_other_name(&Places::none(alloc), &application.angles)
-                || any_no_register(names, &application.qubits)
-        }
-        None => true,
-    }
-}
-
-// Whether its angles or qubits differ in number from the gate's declaration.
-fn is_wrong_count<'a>(names: &Names<'a>, application: &Application<'a>) -> bool
-    ensures { result ≡ is_wrong_count names.now.symbols (views.application application.now) }
-{
-    match names.gate(&application.gate) {
-        Some(gate) => gate.has_other_shape(application.angles.len(), application.qubits.len()),
-        None => false,
-    }
+    faults.unknown || any_no_register(names, &application.qubits)
 }
 
 // The first cause of an application whose names are resolved.

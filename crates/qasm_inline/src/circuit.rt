@@ -1,23 +1,22 @@
-//! A circuit that takes in the statements of a program one at a time.
+//! A circuit that takes in the statements of a program one at a time, and a gate's declaration in parts.
 
-ghost use Rattle.std.specs.Prelude.{◌≡◌, ◌⊎◌, ◌∷◌, ◌++◌, [], List, ℕ, None, Some, Err, OnOk, IfOk, codes, if◌then◌else◌};
+ghost use Rattle.std.specs.Prelude.{◌≡◌, ◌-◌, ◌^◌, ◌∷◌, ◌++◌, [], List, ℕ, Some, codes, min, if◌then◌else◌};
 ghost use Rattle.std.specs.Str.{bytes_eq};
 ghost use Rattle.qasm_reader.specs.Parts.{with_statement};
 ghost use Rattle.qasm_reader.specs.Syntax.{GateForm, Placed};
 ghost use Rattle.qasm_reader.specs.Views.{body_sentence, form_of, placed, sentence};
-ghost use Rattle.zx_gates.specs.Elementary.{IsElementary};
 ghost use Rattle.qasm_scope.specs.declared.causes.Cause.{Cause};
-ghost use Rattle.qasm_inline.specs.Internal.Circuits.{HasBegun, HasBegunAs, HasTaken, HasTakenAt, IsCircuitAnswer, IsOpen, gate_at};
-ghost use Rattle.qasm_scope.specs.Meaning.{Means, first_fault, is_version, most_calls};
+ghost use Rattle.qasm_inline.specs.Circuits.{HasBegun, HasBegunAs, HasTaken, HasTakenAt, IsCircuitAnswer, IsOpen, gate_at};
+ghost use Rattle.qasm_scope.specs.Meaning.{is_version};
 
 use crate::error::InlineError;
 use crate::statements::read_statement;
 use crate::unroll::Unrolled;
+use qasm_names::{GateInProgress, Names, StatementError, clamped};
 use qasm_reader::{BodyStatement, GateHeading, Statement, StatementKind};
-use qasm_scope::{Cause, GateInProgress, Names, StatementError, clamped};
+use qasm_scope::Cause;
 use std::alloc::{AllocError, Global};
-use std::mem::replace;
-use zx_gates::{Elementary, Elements};
+use zx_gates::Elementary;
 
 // What a circuit awaits.
 #[derive(Clone, Copy, Debug)]
@@ -39,10 +38,10 @@ pub struct Circuit<'a> {
     unrolled: Unrolled,
 }
 
-// A gate's declaration that is taken in up to a statement of its body.
+/// A gate's declaration that is taken in up to a statement of its body.
 #[derive(Drop)]
-pub(crate) struct OpenGate<'a> {
-    // The place of the declaration's first byte in the text.
+pub struct OpenGate<'a> {
+    /// The place of the declaration's first byte in the text.
     pub place: usize,
     // What is kept of it; nothing where the circuit takes in nothing more.
     kept: Option<GateInProgress<'a>>,
@@ -73,8 +72,9 @@ impl<'a> Circuit<'a> {
         }
     }
 
-    // Begins with a gate's declaration, whose first byte is at this place.
-    pub(crate) fn begin_gate(&mut self, place: usize, heading: &GateHeading<'a>) -> OpenGate<'a>
+    /// Begins with a gate's declaration, whose first byte is at this place. The statements of its body are to follow, and
+    /// then its end.
+    pub fn begin_gate(&mut self, place: usize, heading: &GateHeading<'a>) -> OpenGate<'a>
         ensures begun { (program : List Placed) → HasTaken self.old program
             → HasBegun self.new result program (form_of heading.now []) }
         ensures place { result.place ≡ place }
@@ -92,8 +92,8 @@ impl<'a> Circuit<'a> {
         }
     }
 
-    // Takes in the next statement of a gate's body.
-    pub(crate) fn take_in_gate(&mut self, gate: &mut OpenGate<'a>, statement: &BodyStatement<'a>)
+    /// Takes in the next statement of the body of the gate that was begun last.
+    pub fn take_in_gate(&mut self, gate: &mut OpenGate<'a>, statement: &BodyStatement<'a>)
         ensures taken { (program : List Placed) (form : GateForm)
             → HasBegun self.old gate.old program form → HasBegun self.new gate.new program
             (with_statement form (body_sentence statement.now)) }
@@ -107,8 +107,8 @@ impl<'a> Circuit<'a> {
         }
     }
 
-    // Ends a gate's declaration. What is wrong with it is told from here on.
-    pub(crate) fn end_gate(&mut self, gate: OpenGate<'a>)
+    /// Ends the declaration of the gate that was begun last. What is wrong with it is told from here on.
+    pub fn end_gate(&mut self, gate: OpenGate<'a>)
         ensures { (program : List Placed) (form : GateForm)
             → HasBegun self.old gate.entry program form
             → HasTaken self.new (program ++ gate_at gate.entry.place form ∷ []) }
@@ -124,28 +124,8 @@ impl<'a> Circuit<'a> {
     /// # Errors
     ///
     /// `Fault` with the first statement that something is wrong with, and what; and `NoMemory` where memory ran out.
-    pub fn finish(mut self) -> Result<Elementary, InlineError>
-        // The program has no fault, and the circuit is what it means.
-        ensures faultless { (program : List Placed) → HasTaken self.entry program
-            → OnOk result (first_fault most_calls program ≡ None) }
-        ensures means { (program : List Placed) → HasTaken self.entry program
-            → IfOk result (λ circuit. Means program circuit.qubits circuit.gates) }
-        ensures valid { (program : List Placed) → HasTaken self.entry program
-            → IfOk result (λ circuit. IsElementary circuit) }
-        // The first fault is told, and a program that has one is refused.
-        ensures fault { (program : List Placed) (cause : Cause) (at : ℕ)
-            → HasTaken self.entry program → result ≡ Err (InlineError.Fault cause at)
-            → first_fault most_calls program ≡ Some (cause, at) }
-        ensures refused { (program : List Placed) (cause : Cause) (at : ℕ)
-            → HasTaken self.entry program → first_fault most_calls program ≡ Some (cause, at)
-            → (result ≡ Err InlineError.NoMemory) ⊎ (result ≡ Err (InlineError.Fault cause at)) }
-    {
-        self.answer()
-    }
-
-    // The circuit that the statements mean, or the first fault of them. The gates are taken out.
-    fn answer(&mut self) -> Result<Elementary, InlineError>
-        ensures { (program : List Placed) → HasTaken self.old program
+    pub fn finish(self) -> Result<Elementary, InlineError>
+        ensures { (program : List Placed) → HasTaken self.entry program
             → IsCircuitAnswer program result }
     {
         match self.stage {
@@ -154,11 +134,18 @@ impl<'a> Circuit<'a> {
                 at: 0,
             }),
             Stage::Open => Ok(Elementary {
-                qubits: clamped(self.names.qubits),
-                gates: replace(&mut self.unrolled.gates, Elements::new(self.alloc)),
+                qubits: self.qubits(),
+                gates: self.unrolled.into_gates(),
             }),
             Stage::Stopped(error) => Err(error),
         }
+    }
+
+    // How many qubits are declared, cut off at the largest number of 16 bits.
+    fn qubits(&self) -> u16
+        ensures { result ≡ min self.now.names.qubits (2 ^ 16 - 1) }
+    {
+        clamped(self.names.qubits)
     }
 
     // What is kept of a gate behind the version, before the first statement of its body.

@@ -8,7 +8,7 @@ ghost use Rattle.qasm_scope.specs.declared.causes.Cause.{Cause};
 use crate::applications::{Span, instance_count};
 use crate::unroll::Unrolled;
 use qasm_angle::Expr;
-use qasm_scope::{CalledGate, GateBody, StatementError};
+use qasm_names::{CalledGate, GateBody, StatementError};
 
 /// Calls a gate with these angles in each instance of an application.
 pub fn call_instances(

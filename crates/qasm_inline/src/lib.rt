@@ -1,9 +1,9 @@
 //! The circuit of built-in gates that an OpenQASM 2.0 text or program means.
 //!
 //! Proved: `read` gives the circuit that a text means, or the text's first fault; `inline` the same
-//! of a program. A circuit is answered only where there is no fault, and a fault only where it is
-//! the first. What is meant has at most 1,024 qubits, its gates act on them, and a CX on two that
-//! differ.
+//! of a program, and `Circuit` of statements and gates' declarations that it takes in one by one. A
+//! circuit is answered only where there is no fault, and a fault only where it is the first. What is
+//! meant has at most 1,024 qubits, its gates act on them, and a CX on two that differ.
 //!
 //! ```rust
 //! let circuit = read(alloc, b"OPENQASM 2.0; qreg q[1]; U(0,0,pi/4) q[0];")?;
@@ -23,7 +23,7 @@ mod statements;
 mod unroll;
 mod values;
 
-pub use circuit::Circuit;
+pub use circuit::{Circuit, OpenGate};
 pub use error::{InlineError, TextError};
 pub use laws::meant_circuits_are_elementary;
 pub use meaning::inline;

@@ -1,14 +1,16 @@
 //! The circuit that a program means.
 
-ghost use Rattle.std.specs.Prelude.{◌≡◌, ◌⊎◌, ℕ, None, Some, Err, OnOk, IfOk};
-ghost use Rattle.qasm_reader.specs.Views.{statements_of};
+ghost use Rattle.std.specs.Prelude.{◌≡◌, ◌⊎◌, ◌∷◌, ◌++◌, [], List, ℕ, None, Some, Err, OnOk, IfOk};
+ghost use Rattle.qasm_reader.specs.Syntax.{Placed};
+ghost use Rattle.qasm_reader.specs.Views.{gate_form, statement_of, statements_of};
 ghost use Rattle.zx_gates.specs.Elementary.{IsElementary};
 ghost use Rattle.qasm_scope.specs.declared.causes.Cause.{Cause};
 ghost use Rattle.qasm_scope.specs.Meaning.{Means, first_fault, most_calls};
+ghost use Rattle.qasm_inline.specs.Circuits.{HasTaken, gate_at};
 
 use crate::circuit::Circuit;
 use crate::error::InlineError;
-use qasm_reader::Program;
+use qasm_reader::{GateDeclaration, Program, ProgramElement};
 use std::alloc::Global;
 use zx_gates::Elementary;
 
@@ -31,8 +33,31 @@ pub fn inline(alloc: Global, program: &Program<'_>) -> Result<Elementary, Inline
         → (result ≡ Err InlineError.NoMemory) ⊎ (result ≡ Err (InlineError.Fault cause at)) }
 {
     let mut circuit = Circuit::new(alloc);
-    for statement in &program.statements {
-        circuit.take(statement);
+    for element in &program.elements {
+        take(&mut circuit, element);
     }
     circuit.finish()
+}
+
+// Takes in a statement, or a gate's declaration.
+fn take<'a>(circuit: &mut Circuit<'a>, element: &ProgramElement<'a>)
+    ensures { (program : List Placed) → HasTaken circuit.old program
+        → HasTaken circuit.new (program ++ statement_of element.now ∷ []) }
+{
+    match element {
+        ProgramElement::Statement(statement) => circuit.take(statement),
+        ProgramElement::Gate { place, declaration } => take_gate(circuit, *place, declaration),
+    }
+}
+
+// Takes in the declaration of a gate at a place, part by part.
+fn take_gate<'a>(circuit: &mut Circuit<'a>, place: usize, declaration: &GateDeclaration<'a>)
+    ensures { (program : List Placed) → HasTaken circuit.old program
+        → HasTaken circuit.new (program ++ gate_at place (gate_form declaration.now) ∷ []) }
+{
+    let mut gate = circuit.begin_gate(place, &declaration.heading);
+    for statement in &declaration.body {
+        circuit.take_in_gate(&mut gate, statement);
+    }
+    circuit.end_gate(gate);
 }

@@ -1,30 +1,191 @@
 //! Reading: from a text to the circuit that it means, in one pass over the text.
 
-ghost use Rattle.std.specs.Prelude.{◌≡◌, ◌<◌, ◌≤◌, ◌++◌, List, [], ℕ, length, None, Some, Ok, Err, IfOk, IfSome, OnOk};
+ghost use Rattle.std.specs.Prelude.{◌≡◌, ◌<◌, ◌≤◌, ◌++◌, List, [], ℕ, length, true, None, Some, Ok, Err, IfOk, IfSome, OnOk};
 ghost use Rattle.std.specs.Borrow.{Bor};
 ghost use Rattle.zx_gates.specs.Elementary.{IsElementary};
 ghost use Rattle.qasm_lexer.specs.declared.token.Token.{Token};
 ghost use Rattle.qasm_lexer.specs.Tokens.{Lexeme, lexemes, IsCut, IsCutAt, IsBadByte};
-ghost use Rattle.qasm_reader.specs.Depth.{too_deep};
+ghost use Rattle.qasm_reader.specs.Depth.{too_deep, IsDepth};
 ghost use Rattle.qasm_reader.specs.Grammar.{IsSyntaxFault};
-ghost use Rattle.qasm_reader.specs.Internal.Depths.{IsDepth};
-ghost use Rattle.qasm_reader.specs.Parts.{IsFirstPart};
+ghost use Rattle.qasm_reader.specs.Parts.{IsFirstPart, has_end};
 ghost use Rattle.qasm_reader.specs.Syntax.{Placed};
 ghost use Rattle.qasm_scope.specs.declared.causes.Cause.{Cause};
 ghost use Rattle.qasm_scope.specs.Meaning.{Means, first_fault, most_calls};
 ghost use Rattle.qasm_scope.specs.Texts.{IsProgramText};
-ghost use Rattle.qasm_inline.specs.Internal.Circuits.{HasTaken};
-ghost use Rattle.qasm_inline.specs.Internal.Readings.{AreAllTaken, AreTaken, IsEnd, IsProgramAnswer, IsReadUpTo, IsNextOf, IsTakenNext, IsTextAnswer, TakesIn, inside};
+ghost use Rattle.qasm_inline.specs.Circuits.{HasTaken};
+ghost use Rattle.qasm_inline.specs.Internal.Readings.{AreAllTaken, AreTaken, IsCertain, IsEnd, IsKept, IsReadAs, IsTakenAs, IsProgramAnswer, IsReadUpTo, IsNextOf, IsTakenNext, IsTextAnswer, TakesIn, inside};
 
 use crate::circuit::{Circuit, OpenGate};
 use crate::error::{InlineError, TextError};
 use qasm_lexer::{LexError, Token, lex_further};
-use qasm_reader::{BodyPart, Depth, Part, next_in_body, next_part};
+use qasm_reader::{BodyPart, Depth, Part, has_end, next_in_body, next_part};
 use std::alloc::{AllocError, Global};
 use zx_gates::Elementary;
 
 // How many tokens are cut off the text at once.
 const BATCH: usize = 4096;
+
+/// The circuit that a text means, or the text's first fault. Tokens are kept a few thousand at a time, or eight times as
+/// many as the longest part has, where a gate's declaration is its heading and the statements of its body, and a part
+/// goes on up to `;`, `{` or `}`. Behind a syntax fault none are kept.
+///
+/// # Errors
+///
+/// `BadByte`, `TooDeep`, `Syntax` and `Wrong` with the text's first fault, in this order: where the text has none of
+/// the kinds before. `NoMemory` where memory runs out.
+pub fn read(alloc: Global, text: &[u8]) -> Result<Elementary, TextError>
+    // The text is a program without fault, and the circuit is what it means.
+    ensures means { IfOk result (λ circuit. (program : List Placed) × IsProgramText text.now program
+        × (first_fault most_calls program ≡ None) × Means program circuit.qubits circuit.gates) }
+    ensures valid { IfOk result (λ circuit. IsElementary circuit) }
+    // A fault that is told is the text's.
+    ensures bad_byte { (at : ℕ) → result ≡ Err (TextError.BadByte at) → IsBadByte text.now at }
+    ensures too_deep { (at : ℕ) → result ≡ Err (TextError.TooDeep at)
+        → (tokens : List Lexeme) × IsCut 0 text.now tokens × (too_deep tokens ≡ Some at) }
+    ensures syntax { (at : ℕ) → result ≡ Err (TextError.Syntax at)
+        → (tokens : List Lexeme) × IsCut 0 text.now tokens × (too_deep tokens ≡ None)
+        × IsSyntaxFault tokens at }
+    ensures wrong { (cause : Cause) (at : ℕ) → result ≡ Err (TextError.Wrong cause at)
+        → (program : List Placed) × IsProgramText text.now program
+        × (first_fault most_calls program ≡ Some (cause, at)) }
+{
+    let mut reader = Reader::new(alloc);
+    let mut place = 0;
+    while place < text.len() {
+        place = reader.read_further(alloc, text, place)?;
+    }
+    reader.finish()
+}
+
+// The reader of a text, which goes through it batch by batch.
+#[derive(Drop)]
+struct Reader<'a> {
+    // What is read so far.
+    reading: Reading<'a>,
+    // The tokens behind that, which no part begins.
+    tokens: Vec<Token<'a>>,
+    // How deep parentheses are nested behind these.
+    depth: Depth,
+    // The place of the syntax fault, once there is one whatever follows. Then no tokens are kept.
+    fault: Option<usize>,
+}
+
+impl<'a> Reader<'a> {
+    // The reader before the text.
+    fn new(alloc: Global) -> Reader<'a>
+        ensures { (text : List ℕ) → IsReadUpTo text 0 result }
+    {
+        Reader {
+            reading: Reading::new(alloc),
+            tokens: Vec::new(alloc),
+            depth: Depth::start(),
+            fault: None,
+        }
+    }
+
+    // Reads a batch of tokens of the text at a place, and gives the place behind it.
+    fn read_further(
+        &mut self,
+        alloc: Global,
+        text: &'a [u8],
+        place: usize,
+    ) -> Result<usize, TextError>
+        requires { place < length text.now }
+        ensures further { IfOk result (λ end. (place < end) × (end ≤ length text.now)) }
+        ensures read { IsReadUpTo text.now place self.old
+            → IfOk result (λ end. IsReadUpTo text.now end self.new) }
+        ensures fault { (error : TextError) → IsReadUpTo text.now place self.old
+            → result ≡ Err error → IsTextAnswer text.now (Err error) }
+    {
+        let (end, depth) = cut_further(text, place, self.depth, &mut self.tokens)?;
+        self.depth = depth;
+        self.take_parts(alloc)?;
+        Ok(end)
+    }
+
+    // Takes in the parts that the tokens begin with. Once a syntax fault is certain, the tokens are dropped.
+    fn take_parts(&mut self, alloc: Global) -> Result<(), AllocError>
+        ensures read { OnOk result ((all : List Lexeme)
+            → IsReadAs self.old.fault all self.old.reading (lexemes self.old.tokens.items)
+            → IsKept all self.new) }
+        ensures depth { self.new.depth ≡ self.old.depth }
+    {
+        self.fault = self.certain_fault(alloc)?;
+        match self.fault {
+            Some(_) => {
+                self.tokens.clear();
+                Ok(())
+            }
+            None => Ok(()),
+        }
+    }
+
+    // The place of the syntax fault, where it is certain. Else the parts that the tokens begin with are taken in.
+    fn certain_fault(&mut self, alloc: Global) -> Result<Option<usize>, AllocError>
+        ensures read { IfOk result (λ fault. (all : List Lexeme)
+            → IsReadAs self.old.fault all self.old.reading (lexemes self.old.tokens.items)
+            → IsTakenAs fault all self.new.reading (lexemes self.new.tokens.items)) }
+        ensures depth { self.new.depth ≡ self.old.depth }
+    {
+        match self.fault {
+            Some(at) => Ok(Some(at)),
+            None => self.reading.take_parts(alloc, &mut self.tokens),
+        }
+    }
+
+    // What is answered where the text is over.
+    fn finish(self) -> Result<Elementary, TextError>
+        ensures { (text : List ℕ) → IsReadUpTo text (length text) self.entry
+            → IsTextAnswer text result }
+    {
+        match self.depth {
+            Depth::TooDeep(at) => Err(TextError::TooDeep { at }),
+            Depth::Open(_) => match self.last_fault() {
+                Some(at) => Err(TextError::Syntax { at }),
+                None => finished(self.reading.circuit),
+            },
+        }
+    }
+
+    // The place of the syntax fault, where the text is over.
+    fn last_fault(&self) -> Option<usize>
+        ensures { (all : List Lexeme) → IsKept all self.now
+            → IsEnd all self.now.reading.circuit result }
+    {
+        match self.fault {
+            Some(at) => Some(at),
+            None => self.reading.fault(&self.tokens),
+        }
+    }
+}
+
+// Cuts a batch of tokens off the text at a place, where parentheses are so deep. The place and the depth behind the
+// tokens are given.
+fn cut_further<'a>(
+    text: &'a [u8],
+    place: usize,
+    depth: Depth,
+    tokens: &mut Vec<Token<'a>>,
+) -> Result<(usize, Depth), TextError>
+    requires { place < length text.now }
+    ensures further { IfOk result (λ end. (place < end.0) × (end.0 ≤ length text.now)) }
+    ensures cut { (before : List Lexeme) → IsCutAt text.now place
+        (before ++ lexemes tokens.old.items)
+        → IfOk result (λ end. IsCutAt text.now end.0 (before ++ lexemes tokens.new.items)) }
+    ensures depth { (before : List Lexeme) → IsDepth depth (before ++ lexemes tokens.old.items)
+        → IfOk result (λ end. IsDepth end.1 (before ++ lexemes tokens.new.items)) }
+    ensures fault { (before : List Lexeme) (error : TextError)
+        → IsCutAt text.now place (before ++ lexemes tokens.old.items)
+        → result ≡ Err error → IsTextAnswer text.now (Err error) }
+{
+    let known = tokens.len();
+    let count = known.saturating_mul(8).saturating_add(BATCH);
+    match lex_further(text, place, tokens, count) {
+        Ok(end) => Ok((end, depth.after(&tokens[known..]))),
+        Err(LexError::BadByte { at }) => Err(TextError::BadByte { at }),
+        Err(LexError::NoMemory) => Err(TextError::NoMemory),
+    }
+}
 
 // What is read of a text so far.
 #[derive(Drop)]
@@ -46,11 +207,16 @@ impl<'a> Reading<'a> {
         }
     }
 
-    // Takes in the parts that the tokens begin with, and leaves the tokens behind them.
-    fn take_parts(&mut self, alloc: Global, tokens: &mut Vec<Token<'a>>) -> Result<(), AllocError>
-        ensures { OnOk result ((all : List Lexeme)
+    // Takes in the parts that the tokens begin with, and leaves the tokens behind them. The place of the syntax fault is
+    // given, if there is one whatever follows.
+    fn take_parts(
+        &mut self,
+        alloc: Global,
+        tokens: &mut Vec<Token<'a>>,
+    ) -> Result<Option<usize>, AllocError>
+        ensures { IfOk result (λ fault. (all : List Lexeme)
             → AreTaken all self.old (lexemes tokens.old.items)
-            → AreAllTaken all self.new (lexemes tokens.new.items)) }
+            → IsTakenAs fault all self.new (lexemes tokens.new.items)) }
     {
         let mut taken = 0;
         while let Some(count) = self.take_next(alloc, &tokens[taken..])? {
@@ -58,7 +224,7 @@ impl<'a> Reading<'a> {
         }
         tokens.rotate_left(taken);
         tokens.truncate(tokens.len() - taken);
-        Ok(())
+        Ok(self.certain_fault(tokens))
     }
 
     // Takes in the part that the tokens begin with, and tells how many tokens it has; `None` where no part begins them.
@@ -155,10 +321,24 @@ impl<'a> Reading<'a> {
         }
     }
 
+    // The place of the syntax fault, where these tokens are left and one of them ends a part.
+    fn certain_fault(&self, tokens: &[Token<'_>]) -> Option<usize>
+        ensures { (all : List Lexeme) → AreAllTaken all self.now (lexemes tokens.now)
+            → IsTakenAs result all self.now (lexemes tokens.now) }
+    {
+        if has_end(tokens) {
+            self.fault(tokens)
+        } else {
+            None
+        }
+    }
+
     // The place of the syntax fault, where the text is over and these tokens are left.
     fn fault(&self, tokens: &[Token<'_>]) -> Option<usize>
-        ensures { (all : List Lexeme) → AreAllTaken all self.now (lexemes tokens.now)
+        ensures end { (all : List Lexeme) → AreAllTaken all self.now (lexemes tokens.now)
             → IsEnd all self.now.circuit result }
+        ensures certain { (all : List Lexeme) → AreAllTaken all self.now (lexemes tokens.now)
+            → has_end (lexemes tokens.now) ≡ true → IsCertain all result }
     {
         match &self.gate {
             Some(gate) => Some(gate.place),
@@ -167,92 +347,6 @@ impl<'a> Reading<'a> {
                 None => None,
             },
         }
-    }
-}
-
-/// The circuit that a text means, or the text's first fault. Tokens are kept a few thousand at a time, or as many as
-/// the longest part has, eight times over, where a gate's declaration is its heading and the statements of its body; all
-/// that follow are kept only behind a syntax fault.
-///
-/// # Errors
-///
-/// `BadByte`, `TooDeep`, `Syntax` and `Wrong` with the text's first fault, in this order: where the text has none of
-/// the kinds before. `NoMemory` where memory runs out.
-pub fn read(alloc: Global, text: &[u8]) -> Result<Elementary, TextError>
-    // The text is a program without fault, and the circuit is what it means.
-    ensures means { IfOk result (λ circuit. (program : List Placed) × IsProgramText text.now program
-        × (first_fault most_calls program ≡ None) × Means program circuit.qubits circuit.gates) }
-    ensures valid { IfOk result (λ circuit. IsElementary circuit) }
-    // A fault that is told is the text's.
-    ensures bad_byte { (at : ℕ) → result ≡ Err (TextError.BadByte at) → IsBadByte text.now at }
-    ensures too_deep { (at : ℕ) → result ≡ Err (TextError.TooDeep at)
-        → (tokens : List Lexeme) × IsCut 0 text.now tokens × (too_deep tokens ≡ Some at) }
-    ensures syntax { (at : ℕ) → result ≡ Err (TextError.Syntax at)
-        → (tokens : List Lexeme) × IsCut 0 text.now tokens × (too_deep tokens ≡ None)
-        × IsSyntaxFault tokens at }
-    ensures wrong { (cause : Cause) (at : ℕ) → result ≡ Err (TextError.Wrong cause at)
-        → (program : List Placed) × IsProgramText text.now program
-        × (first_fault most_calls program ≡ Some (cause, at)) }
-{
-    read_batches(alloc, text)
-}
-
-// The circuit that a text means, or the text's first fault.
-fn read_batches(alloc: Global, text: &[u8]) -> Result<Elementary, TextError>
-    ensures { IsTextAnswer text.now result }
-{
-    let mut reading = Reading::new(alloc);
-    let mut tokens = Vec::new(alloc);
-    let mut depth = Depth::start();
-    let mut place = 0;
-    while place < text.len() {
-        let (end, behind) = cut_further(text, place, depth, &mut tokens)?;
-        reading.take_parts(alloc, &mut tokens)?;
-        place = end;
-        depth = behind;
-    }
-    answer(depth, &tokens, reading)
-}
-
-// Cuts a batch of tokens off the text at a place, where parentheses are so deep. The place and the depth behind the
-// tokens are given.
-fn cut_further<'a>(
-    text: &'a [u8],
-    place: usize,
-    depth: Depth,
-    tokens: &mut Vec<Token<'a>>,
-) -> Result<(usize, Depth), TextError>
-    requires { place < length text.now }
-    ensures further { IfOk result (λ end. (place < end.0) × (end.0 ≤ length text.now)) }
-    ensures cut { (before : List Lexeme) → IsCutAt text.now place
-        (before ++ lexemes tokens.old.items)
-        → IfOk result (λ end. IsCutAt text.now end.0 (before ++ lexemes tokens.new.items)) }
-    ensures depth { (before : List Lexeme) → IsDepth depth (before ++ lexemes tokens.old.items)
-        → IfOk result (λ end. IsDepth end.1 (before ++ lexemes tokens.new.items)) }
-    ensures fault { (before : List Lexeme) (error : TextError)
-        → IsCutAt text.now place (before ++ lexemes tokens.old.items)
-        → result ≡ Err error → IsTextAnswer text.now (Err error) }
-{
-    let known = tokens.len();
-    let count = known.saturating_mul(8).saturating_add(BATCH);
-    match lex_further(text, place, tokens, count) {
-        Ok(end) => Ok((end, depth.after(&tokens[known..]))),
-        Err(LexError::BadByte { at }) => Err(TextError::BadByte { at }),
-        Err(LexError::NoMemory) => Err(TextError::NoMemory),
-    }
-}
-
-// What is answered where the text is over, and these tokens are left.
-fn answer(depth: Depth, tokens: &[Token<'_>], reading: Reading<'_>) -> Result<Elementary, TextError>
-    ensures { (text : List ℕ) → IsReadUpTo text (length text) depth tokens.now reading.entry
-        → IsTextAnswer text result }
-{
-    match depth {
-        Depth::TooDeep(at) => Err(TextError::TooDeep { at }),
-        Depth::Open(_) => match reading.fault(tokens) {
-            Some(at) => Err(TextError::Syntax { at }),
-            None => finished(reading.circuit),
-        },
     }
 }
 

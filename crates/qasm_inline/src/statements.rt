@@ -3,7 +3,7 @@
 ghost use Rattle.std.specs.Prelude.{◌≡◌, [], OnOk, None, Some, Err};
 ghost use Rattle.qasm_reader.specs.Views.{sentence, action};
 ghost use Rattle.qasm_reader.specs.Syntax.{Act};
-ghost use Rattle.qasm_scope.specs.Internal.Kept.{Represents};
+ghost use Rattle.qasm_names.specs.Kept.{Represents};
 ghost use Rattle.qasm_inline.specs.Internal.KeptCalls.{ComesTo};
 ghost use Rattle.qasm_scope.specs.Meaning.{after_statement, events_of, most_calls, wrong_with};
 ghost use Rattle.qasm_scope.specs.Scope.{Scope};
@@ -12,10 +12,9 @@ ghost use Rattle.qasm_scope.specs.declared.causes.Cause.{Cause};
 use crate::applications::barrier;
 use crate::applying::apply;
 use crate::unroll::Unrolled;
+use qasm_names::{Names, StatementError, declare_bits, declare_qubits, include};
 use qasm_reader::{Operation, StatementKind};
-use qasm_scope::{
-    Cause, Names, StatementError, declare_bits, declare_checked, declare_qubits, include,
-};
+use qasm_scope::Cause;
 use std::alloc::Global;
 
 /// Takes in a statement after the first one, where nothing is wrong with it.
@@ -40,7 +39,6 @@ pub fn read_statement<'a>(
         StatementKind::Include(text) => include(alloc, names, *text),
         StatementKind::QubitRegister { name, size } => declare_qubits(names, *name, *size),
         StatementKind::BitRegister { name, size } => declare_bits(names, *name, *size),
-        StatementKind::Gate(declaration) => declare_checked(alloc, names, declaration),
         StatementKind::Opaque(_) => Err(StatementError::Wrong(Cause::Unsupported)),
         StatementKind::If { .. } => Err(StatementError::Wrong(Cause::Unsupported)),
         StatementKind::Barrier(arguments) => barrier(names, arguments),

@@ -11,7 +11,8 @@ ghost use Rattle.qasm_scope.specs.Meaning.{most_calls};
 use crate::applications::Span;
 use crate::values::{eighth_of, push_instance, push_picked, push_values};
 use qasm_angle::{Angle, Expr};
-use qasm_scope::{CalledGate, Cause, GateBody, GateCall, StatementError};
+use qasm_names::{CalledGate, GateBody, GateCall, StatementError};
+use qasm_scope::Cause;
 use std::alloc::Global;
 use zx_gates::{ElementaryGate, Elements, Qubit};
 
@@ -69,6 +70,13 @@ impl Unrolled {
             angles: Vec::new(alloc),
             qubits: Vec::new(alloc),
         }
+    }
+
+    /// The gates, where no call follows.
+    pub fn into_gates(self) -> Elements
+        ensures { result ≡ self.gates }
+    {
+        self.gates
     }
 
     /// The instance of an application at an index: a call with these angles on its qubits, and all that it comes to.

@@ -9,7 +9,8 @@ ghost use Rattle.qasm_inline.specs.Internal.Spans.{span_range, cut_instance, cut
 
 use crate::applications::Span;
 use qasm_angle::{Angle, AngleError, Expr, eval, to_eighth};
-use qasm_scope::{Cause, StatementError, clamped};
+use qasm_names::{StatementError, clamped};
+use qasm_scope::Cause;
 use std::alloc::{AllocError, Global};
 use zx_gates::Qubit;
 use zx_model::Eighth;

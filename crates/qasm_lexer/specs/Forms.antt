@@ -38,9 +38,8 @@ is_white (b ∷ rest) = is_space b && is_empty rest
 
 -- `//` and bytes other than a line feed
 abbrev pub is_comment : List ℕ → Bool
-is_comment [] = false
-is_comment (a ∷ []) = false
 is_comment (a ∷ b ∷ rest) = a == 47 && b == 47 && list_all is_no_feed rest
+is_comment form = false
 
 -- [A-Za-z][A-Za-z0-9_]*
 abbrev pub is_word : List ℕ → Bool

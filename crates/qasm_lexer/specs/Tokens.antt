@@ -14,7 +14,7 @@ use Rattle.qasm_lexer.specs.declared.token.TokenKind.TheVariants.{Ln, Sqrt, Iden
 use Rattle.qasm_lexer.specs.declared.token.TokenKind.TheVariants.{Comma, LeftParenthesis, RightParenthesis, LeftBracket}
 use Rattle.qasm_lexer.specs.declared.token.TokenKind.TheVariants.{RightBracket, LeftBrace, RightBrace, Plus, Minus}
 use Rattle.qasm_lexer.specs.declared.token.TokenKind.TheVariants.{Star, Slash, Caret, Arrow, Equals}
-use Rattle.qasm_lexer.specs.Forms.{is_small_letter, is_white, is_comment, is_word, is_natural, is_real, is_text}
+use Rattle.qasm_lexer.specs.Forms.{is_small_letter, begins, is_white, is_comment, is_word, is_natural, is_real, is_text}
 
 -- the words with a kind of their own
 abbrev pub words : List (List ℕ × TokenKind)
@@ -40,14 +40,10 @@ abbrev pub kind_in : List (List ℕ × TokenKind) → List ℕ → Option TokenK
 kind_in [] form = None
 kind_in (row ∷ rows) form = if bytes_eq form row.0 then Some row.1 else kind_in rows form
 
-abbrev pub begins_small : List ℕ → Bool
-begins_small [] = false
-begins_small (b ∷ rest) = is_small_letter b
-
 -- a word that begins with a small letter is an identifier where it isn't a keyword; another has no kind
 abbrev pub kind_or_identifier : Option TokenKind → List ℕ → Option TokenKind
 kind_or_identifier (Some kind) word = Some kind
-kind_or_identifier None word = if begins_small word then Some Identifier else None
+kind_or_identifier None word = if begins is_small_letter word then Some Identifier else None
 
 abbrev pub word_kind : List ℕ → Option TokenKind
 word_kind word = kind_or_identifier (kind_in words word) word

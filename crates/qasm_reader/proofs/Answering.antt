@@ -8,7 +8,8 @@ use Rattle.qasm_reader.specs.Syntax.{Placed}
 use Rattle.qasm_reader.specs.Views.{statements_of}
 use Rattle.qasm_reader.specs.Depth.{too_deep}
 use Rattle.qasm_reader.specs.Grammar.{IsProgram, IsSyntaxFault}
-use Rattle.qasm_reader.specs.Internal.Parsing.{AnswersProgram, AnswersFault, IsAnswer}
+use Rattle.qasm_reader.specs.Answers.{AnswersProgram, AnswersFault}
+use Rattle.qasm_reader.specs.Internal.Parsing.{IsAnswer}
 use Rattle.qasm_reader.proofs.Programs.{one_program, one_fault, program_no_fault}
 
 not_none : {A : Type 0} (x : A) (o : Option A) → o ≡ Some x → o ≡ None → ⊥

@@ -3,8 +3,7 @@ use Rattle.std.proofs.Common.{◌≡◌, ℕ, ◌≤◌, Bool, true, false, List
 use Rattle.std.specs.Prelude.{nat_lt, if◌then◌else◌}
 use Rattle.qasm_lexer.specs.Tokens.{Lexeme}
 use Rattle.qasm_reader.specs.declared.depth.Depth.TheVariants.{Open, TooDeep}
-use Rattle.qasm_reader.specs.Depth.{most_open, open_after, open_at_end, too_deep, too_deep_from}
-use Rattle.qasm_reader.specs.Internal.Depths.{IsDepth}
+use Rattle.qasm_reader.specs.Depth.{most_open, open_after, open_at_end, too_deep, too_deep_from, IsDepth}
 use Rattle.qasm_reader.proofs.Depths.{by_test}
 
 -- ---- tokens behind tokens

@@ -1,6 +1,7 @@
 pub mod Answering
 pub mod Completing
 pub mod Depths
+pub mod Ends
 pub mod Expressions
 pub mod Lists
 pub mod Loops

@@ -679,6 +679,14 @@ include_again : (name : List ℕ) (us rest : List Lexeme) → (Word kind.Text na
 unfolding include
 include_again name us rest h = item_then (text kind.Text) (Word kind.Text) Anything (text_complete kind.Text) name _ us rest _ _ h tt (sign_last kind.Semicolon h.1 rest _ h.4)
 
+-- a heading, whatever follows
+pub opening_again : (a : Heading) (us rest : List Lexeme) → IsOpening a us → opening (us ++ rest) ≡ Some (a, rest)
+unfolding opening
+opening_again a us rest h =
+    let b = h.4.4 in
+    bind_is (heading (us ++ rest)) _ _ _ (heading_again a (Sign kind.LeftBrace) us rest h (sign_ends EndsIdentifiers kind.LeftBrace b.1 rest brace_identifiers b.4))
+    (sign_last kind.LeftBrace b.1 rest _ b.4)
+
 -- no heading, no statement
 pub opening_none : (t : Lexeme) (ts : List Lexeme) → t.kind ≡ kind.Gate → opening ts ≡ None → statement (t ∷ ts) ≡ None
 unfolding gate

@@ -5,6 +5,8 @@ use Rattle.qasm_lexer.specs.declared.token.TokenKind.{TokenKind}
 use Rattle.qasm_lexer.specs.declared.token.TokenKind.TheVariants.{LeftParenthesis, RightParenthesis, Semicolon}
 use Rattle.qasm_lexer.specs.declared.token.TokenKind.TheVariants.{LeftBrace, RightBrace}
 use Rattle.qasm_lexer.specs.Tokens.{Lexeme}
+use Rattle.qasm_reader.specs.declared.depth.Depth.{Depth}
+use Rattle.qasm_reader.specs.declared.depth.Depth.TheVariants.{Open, TooDeep}
 
 -- how many parentheses may be open
 abbrev pub most_open : ℕ
@@ -46,3 +48,10 @@ IsTooDeep ts at =
     (before : List Lexeme) × (left : Lexeme) × (more : List Lexeme) × (ts ≡ before ++ left ∷ more)
     × (left.kind ≡ LeftParenthesis) × (left.place ≡ at)
     × IsShallow before × (most_open < open_at_end 0 (before ++ left ∷ []))
+
+-- ---- what the type of the reader says
+
+-- this is how deep parentheses are nested behind these tokens
+abbrev pub IsDepth : Depth → List Lexeme → Type 0
+IsDepth (Open count) ts = (too_deep ts ≡ None) × (count ≡ open_at_end 0 ts) × (count ≤ most_open)
+IsDepth (TooDeep at) ts = too_deep ts ≡ Some at

@@ -21,8 +21,7 @@ pub record Operand : Type 0 where
 -- the gate that is applied: a declared one, or one of the two that are built in
 pub data Callee : Type 0 where
   Declared : List ℕ → Callee
-  U : Callee
-  Cx : Callee
+  U Cx : Callee
 
 -- an application of a gate
 pub record Apply : Type 0 where
@@ -56,11 +55,9 @@ pub record GateForm : Type 0 where
 
 -- what a statement says
 pub data Sentence : Type 0 where
-  Version : List ℕ → Sentence
-  Include : List ℕ → Sentence
+  Version Include : List ℕ → Sentence
   -- name and size
-  QubitRegister : List ℕ → List ℕ → Sentence
-  BitRegister : List ℕ → List ℕ → Sentence
+  QubitRegister BitRegister : List ℕ → List ℕ → Sentence
   DeclareGate : GateForm → Sentence
   -- name, parameters and qubits
   Opaque : List ℕ → List (List ℕ) → List (List ℕ) → Sentence

@@ -2,10 +2,12 @@
 use Rattle.std.specs.Prelude.{List, map}
 use Rattle.std.specs.Option.{option_map}
 use Rattle.qasm_reader.specs.declared.program.Program.{Program}
+use Rattle.qasm_reader.specs.declared.program.ProgramElement.{ProgramElement}
+use Rattle.qasm_reader.specs.declared.program.ProgramElement.TheVariants as element
 use Rattle.qasm_reader.specs.declared.program.Statement.{Statement}
 use Rattle.qasm_reader.specs.declared.program.StatementKind.{StatementKind}
 use Rattle.qasm_reader.specs.declared.program.StatementKind.TheVariants.{Version, Include, QubitRegister, BitRegister}
-use Rattle.qasm_reader.specs.declared.program.StatementKind.TheVariants.{Gate, Opaque, If, Barrier, Operation}
+use Rattle.qasm_reader.specs.declared.program.StatementKind.TheVariants.{Opaque, If, Barrier, Operation}
 use Rattle.qasm_reader.specs.declared.program.GateDeclaration.{GateDeclaration}
 use Rattle.qasm_reader.specs.declared.program.GateHeading.{GateHeading}
 use Rattle.qasm_reader.specs.declared.program.GateName.{GateName}
@@ -66,7 +68,6 @@ sentence (Version real) = syntax.Version real.now
 sentence (Include text) = syntax.Include text.now
 sentence (QubitRegister name size) = syntax.QubitRegister name.now size.now
 sentence (BitRegister name size) = syntax.BitRegister name.now size.now
-sentence (Gate gate) = syntax.DeclareGate (gate_form gate)
 sentence (Opaque gate) =
     syntax.Opaque gate.name.now (map (λ name. name.now) gate.parameters.items)
     (map (λ name. name.now) gate.qubits.items)
@@ -77,6 +78,12 @@ sentence (Operation operation) = syntax.Act (action operation)
 abbrev pub placed : Statement → syntax.Placed
 placed statement = record { place = statement.place; sentence = sentence statement.kind }
 
+-- a gate's declaration is a statement too
+abbrev pub statement_of : ProgramElement → syntax.Placed
+statement_of (element.Statement statement) = placed statement
+statement_of (element.Gate place gate) =
+    record { place = place; sentence = syntax.DeclareGate (gate_form gate) }
+
 -- the statements of a program
 abbrev pub statements_of : Program → List syntax.Placed
-statements_of program = map placed program.statements.items
+statements_of program = map statement_of program.elements.items

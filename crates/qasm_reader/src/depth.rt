@@ -2,9 +2,8 @@
 
 ghost use Rattle.std.specs.Prelude.{◌≡◌, ◌≤◌, ◌∷◌, ◌++◌, [], List, nat_lt, if◌then◌else◌};
 ghost use Rattle.qasm_lexer.specs.Tokens.{Lexeme, lexeme, lexemes};
-ghost use Rattle.qasm_reader.specs.Depth.{most_open};
+ghost use Rattle.qasm_reader.specs.Depth.{most_open, IsDepth};
 ghost use Rattle.qasm_reader.specs.Depth as spec;
-ghost use Rattle.qasm_reader.specs.Internal.Depths.{IsDepth};
 
 use qasm_lexer::{Token, TokenKind};
 

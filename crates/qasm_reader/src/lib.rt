@@ -1,8 +1,9 @@
 //! The statements of OpenQASM 2.0, from tokens.
 //!
 //! Proved: tokens are one program or have one syntax fault, and `parse` answers it, or the first
-//! parenthesis that is too deep, or the place of the first statement that is none; `next_part` and
-//! `next_in_body` read the same statements with gates' bodies statement by statement.
+//! parenthesis that is too deep, or the place of the first statement that is none. `next_part` and
+//! `next_in_body` read a program in parts, with gates' bodies statement by statement, and so does
+//! `parse`.
 //!
 //! ```rust
 //! let program = parse(alloc, &lex(alloc, text)?)?;
@@ -31,9 +32,9 @@ pub use laws::{
     depth_by_prefixes, no_statement_begins_another, one_expression, one_program, one_syntax_fault,
     postfix_order_tells_the_expression,
 };
-pub use parser::{next_statement, parse};
-pub use parts::{BodyPart, Part, next_in_body, next_part};
+pub use parser::parse;
+pub use parts::{BodyPart, Part, has_end, next_in_body, next_part};
 pub use program::{
     Application, Argument, BodyApplication, BodyStatement, GateDeclaration, GateHeading, GateName,
-    Operation, Program, Statement, StatementKind,
+    Operation, Program, ProgramElement, Statement, StatementKind,
 };

@@ -1,18 +1,18 @@
 //! The parser: from tokens to a program.
 
-ghost use Rattle.std.specs.Prelude.{◌≡◌, List, None, Some, Ok, Err, IfOk, IfSome, OnOk, ℕ};
+ghost use Rattle.std.specs.Prelude.{◌≡◌, List, None, Some, Ok, Err, IfOk, OnOk, ℕ};
 ghost use Rattle.qasm_lexer.specs.Tokens.{lexemes};
+ghost use Rattle.qasm_reader.specs.Answers.{AnswersFault, AnswersProgram};
 ghost use Rattle.qasm_reader.specs.Depth.{too_deep};
-ghost use Rattle.qasm_reader.specs.Grammar.{BeginsWithStatement, IsFirstStatement, IsProgram, IsSyntaxFault};
-ghost use Rattle.qasm_reader.specs.Internal.Parsing.{AnswersProgram, AnswersFault, IsAnswer, IsNext, IsDepthAnswer};
+ghost use Rattle.qasm_reader.specs.Grammar.{IsProgram, IsSyntaxFault};
+ghost use Rattle.qasm_reader.specs.Internal.Parsing.{IsAnswer, IsDepthAnswer, IsNext};
 ghost use Rattle.qasm_reader.specs.Syntax.{Placed};
-ghost use Rattle.qasm_reader.specs.Views.{placed, statements_of};
+ghost use Rattle.qasm_reader.specs.Views.{statements_of};
 
 use crate::depth::Depth;
 use crate::error::ParseError;
-use crate::program::{Program, Statement};
-use crate::statement::statement;
-use crate::step_error::StepError;
+use crate::parts::{BodyPart, Part, next_in_body, next_part};
+use crate::program::{GateDeclaration, Program, ProgramElement};
 use qasm_lexer::Token;
 use std::alloc::{AllocError, Global};
 
@@ -44,35 +44,19 @@ pub fn parse<'a>(alloc: Global, tokens: &[Token<'a>]) -> Result<Program<'a>, Par
     program(alloc, tokens)
 }
 
-/// The statement at the start of the tokens and the tokens behind it; `None` where no statement begins them.
-///
-/// # Errors
-///
-/// Where memory runs out.
-pub fn next_statement<'t, 'a>(
-    alloc: Global,
-    tokens: &'t [Token<'a>],
-) -> Result<Option<(Statement<'a>, &'t [Token<'a>])>, AllocError>
-    ensures found { IfOk result (λ read. IfSome read (λ x.
-        IsFirstStatement (placed x.0) (lexemes tokens.now) (lexemes x.1.now))) }
-    ensures none { result ≡ Ok None → BeginsWithStatement (lexemes tokens.now) → ⊥ }
-{
-    placed_statement(alloc, tokens)
-}
-
-// The program that the tokens are.
+// The program that the tokens are, with one relation for all causes, from which each clause of `parse` follows.
 fn program<'a>(alloc: Global, tokens: &[Token<'a>]) -> Result<Program<'a>, ParseError>
     ensures { IsAnswer (lexemes tokens.now) result }
 {
     let mut rest = shallow(tokens)?;
-    let mut statements = Vec::new(alloc);
-    while let Some((statement, end)) = next_statement(alloc, rest)? {
-        statements.push(statement)?;
+    let mut elements = Vec::new(alloc);
+    while let Some((element, end)) = next_element(alloc, rest)? {
+        elements.push(element)?;
         rest = end;
     }
     match rest.first() {
         Some(first) => Err(ParseError::Syntax { at: first.place }),
-        None => Ok(Program { statements }),
+        None => Ok(Program { elements }),
     }
 }
 
@@ -86,23 +70,30 @@ fn shallow<'t, 'a>(tokens: &'t [Token<'a>]) -> Result<&'t [Token<'a>], ParseErro
     }
 }
 
-// The statement at the start of the tokens, with its place, and what follows.
-#[tactic(auto, unfolding(crate::specs::Internal::Taking::statement))]
-fn placed_statement<'t, 'a>(
+// The statement or the whole gate at the start of the tokens, and what follows; none where neither begins them.
+fn next_element<'t, 'a>(
     alloc: Global,
     tokens: &'t [Token<'a>],
-) -> Result<Option<(Statement<'a>, &'t [Token<'a>])>, AllocError>
-    ensures { IsNext (lexemes tokens.now) result }
+) -> Result<Option<(ProgramElement<'a>, &'t [Token<'a>])>, AllocError>
+    ensures { IfOk result (λ read. IsNext (lexemes tokens.now) read) }
 {
-    let Some(first) = tokens.first() else {
+    let Some((part, mut rest)) = next_part(alloc, tokens)? else {
         return Ok(None);
     };
-    match statement(alloc, tokens) {
-        Ok((kind, rest)) => {
-            let place = first.place;
-            Ok(Some((Statement { place, kind }, rest)))
+    let (place, heading) = match part {
+        Part::Statement(statement) => return Ok(Some((ProgramElement::Statement(statement), rest))),
+        Part::Heading { place, heading } => (place, heading),
+    };
+    let mut body = Vec::new(alloc);
+    while let Some((part, end)) = next_in_body(alloc, rest)? {
+        match part {
+            BodyPart::Statement(statement) => body.push(statement)?,
+            BodyPart::End => {
+                let declaration = GateDeclaration { heading, body };
+                return Ok(Some((ProgramElement::Gate { place, declaration }, end)));
+            }
         }
-        Err(StepError::Misfit) => Ok(None),
-        Err(StepError::NoMemory) => Err(AllocError),
+        rest = end;
     }
+    Ok(None)
 }

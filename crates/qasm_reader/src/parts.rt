@@ -2,9 +2,8 @@
 
 ghost use Rattle.std.specs.Prelude.{◌≡◌, List, ℕ, None, Ok, IfOk, IfSome};
 ghost use Rattle.qasm_lexer.specs.Tokens.{Lexeme, lexemes};
-ghost use Rattle.qasm_reader.specs.Grammar.{BeginsWithStatement};
 ghost use Rattle.qasm_reader.specs.Internal.PartReading.{IsBodyPart, IsPart};
-ghost use Rattle.qasm_reader.specs.Parts.{IsBehind, IsFirstPart, IsInBody, IsNextInBody};
+ghost use Rattle.qasm_reader.specs.Parts.{BeginNone, IsBehind, IsFirstPart, IsInBody, IsNextInBody, ends_part, has_end};
 ghost use Rattle.qasm_reader.specs.Syntax.{GateForm};
 
 use crate::program::{BodyStatement, GateHeading, Statement, StatementKind};
@@ -38,7 +37,7 @@ pub enum BodyPart<'a> {
 }
 
 /// The statement at the start of the tokens, or the heading where it declares a gate, and the tokens behind it; `None`
-/// where neither begins them.
+/// where neither begins them. Where they `has_end` then, neither begins them whatever follows.
 ///
 /// # Errors
 ///
@@ -51,7 +50,7 @@ pub fn next_part<'t, 'a>(
         IsFirstPart x.0 (lexemes tokens.now) (lexemes x.1.now))) }
     ensures behind { IfOk result (λ read. IfSome read
         (λ x. IsBehind (lexemes x.1.now) (lexemes tokens.now))) }
-    ensures none { result ≡ Ok None → BeginsWithStatement (lexemes tokens.now) → ⊥ }
+    ensures none { result ≡ Ok None → BeginNone (lexemes tokens.now) (lexemes tokens.now) }
 {
     match first_part(alloc, tokens) {
         Ok(read) => Ok(Some(read)),
@@ -72,7 +71,7 @@ pub fn next_in_body<'t, 'a>(
 ) -> Result<Option<(BodyPart<'a>, &'t [Token<'a>])>, AllocError>
     ensures next { (place : ℕ) (gate : GateForm) (all : List Lexeme)
         → IsInBody place gate all (lexemes tokens.now)
-        → IfOk result (λ read. IsNextInBody place gate all read) }
+        → IfOk result (λ read. IsNextInBody place gate all (lexemes tokens.now) read) }
     ensures behind { IfOk result (λ read. IfSome read
         (λ x. IsBehind (lexemes x.1.now) (lexemes tokens.now))) }
 {
@@ -80,6 +79,24 @@ pub fn next_in_body<'t, 'a>(
         Ok(read) => Ok(Some(read)),
         Err(StepError::Misfit) => Ok(None),
         Err(StepError::NoMemory) => Err(AllocError),
+    }
+}
+
+/// Whether one of the tokens is a sign with which parts end: `;`, `{` or `}`. A part has none of them before its last
+/// token.
+pub fn has_end(tokens: &[Token<'_>]) -> bool
+    ensures { result ≡ has_end (lexemes tokens.now) }
+{
+    tokens.iter().any(|token| ends_part(token.kind))
+}
+
+// Whether parts end with tokens of this kind.
+fn ends_part(kind: TokenKind) -> bool
+    ensures { result ≡ ends_part kind }
+{
+    match kind {
+        TokenKind::Semicolon | TokenKind::LeftBrace | TokenKind::RightBrace => true,
+        _ => false,
     }
 }
 

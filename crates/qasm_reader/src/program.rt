@@ -1,15 +1,29 @@
-//! Programs as lists of statements. Names, numbers and texts are slices of the source.
+//! Programs as lists of statements and gates. Names, numbers and texts are slices of the source.
 
 use crate::expression::Expression;
 
 /// A program.
 #[derive(Drop)]
 pub struct Program<'a> {
-    /// Its statements, in order.
-    pub statements: Vec<Statement<'a>>,
+    /// Its statements and the gates that it declares, in order.
+    pub elements: Vec<ProgramElement<'a>>,
 }
 
-/// A statement and where it begins.
+/// A statement of a program, or a gate that it declares.
+#[derive(Drop)]
+pub enum ProgramElement<'a> {
+    /// A statement.
+    Statement(Statement<'a>),
+    /// A gate's whole declaration.
+    Gate {
+        /// The place of its first byte in the text.
+        place: usize,
+        /// What it says.
+        declaration: GateDeclaration<'a>,
+    },
+}
+
+/// A statement that isn't a gate's declaration, and where it begins.
 #[derive(Drop)]
 pub struct Statement<'a> {
     /// The place of its first byte in the text.
@@ -39,8 +53,6 @@ pub enum StatementKind<'a> {
         /// Its size, a whole number as it is spelled.
         size: &'a [u8],
     },
-    /// `gate name(parameters) qubits { body }`
-    Gate(GateDeclaration<'a>),
     /// `opaque name(parameters) qubits;`
     Opaque(GateHeading<'a>),
     /// `if (register == value) operation`
@@ -58,7 +70,7 @@ pub enum StatementKind<'a> {
     Operation(Operation<'a>),
 }
 
-/// The declaration of a gate.
+/// `gate name(parameters) qubits { body }`
 #[derive(Drop)]
 pub struct GateDeclaration<'a> {
     /// What stands before its body.

@@ -1,6 +1,5 @@
 //! Statements, and the statements of gates' bodies.
 
-ghost use Rattle.std.specs.Prelude.{◌≡◌};
 ghost use Rattle.qasm_lexer.specs.Tokens.{lexemes};
 ghost use Rattle.qasm_reader.specs.Views.{action, body_sentence, sentence};
 ghost use Rattle.qasm_reader.specs.Internal.Taking.{Gives, heading_of};
@@ -10,22 +9,21 @@ use crate::arguments::{
     angles, argument, arguments, gate_name, identifier, identifiers, natural, parameters,
 };
 use crate::program::{
-    Application, BodyApplication, BodyStatement, GateDeclaration, GateHeading, Operation,
-    StatementKind,
+    Application, BodyApplication, BodyStatement, GateHeading, Operation, StatementKind,
 };
 use crate::step_error::StepError;
-use crate::tokens::{after, expect, is_next, text};
+use crate::tokens::{after, expect, text};
 use qasm_lexer::{Token, TokenKind};
 use std::alloc::Global;
 
-// The statement at the start of the tokens, and what follows.
-#[tactic(auto, unfolding(crate::specs::Internal::Taking::statement))]
+// The statement at the start of the tokens, which declares no gate, and what follows.
+#[tactic(auto, unfolding(crate::specs::Internal::Taking::simple_statement))]
 pub(crate) fn statement<'t, 'a>(
     alloc: Global,
     tokens: &'t [Token<'a>],
 ) -> Result<(StatementKind<'a>, &'t [Token<'a>]), StepError>
     ensures { Gives (λ x. (sentence x.0, lexemes x.1.now)) result
-        (spec.statement (lexemes tokens.now)) }
+        (spec.simple_statement (lexemes tokens.now)) }
 {
     let [first, rest @ ..] = tokens else {
         return Err(StepError::Misfit);
@@ -35,7 +33,6 @@ pub(crate) fn statement<'t, 'a>(
         TokenKind::Include => include(rest),
         TokenKind::Qreg => qubit_register(rest),
         TokenKind::Creg => bit_register(rest),
-        TokenKind::Gate => gate(alloc, rest),
         TokenKind::Opaque => opaque(alloc, rest),
         TokenKind::If => conditional(alloc, rest),
         TokenKind::Barrier => barrier(alloc, rest),
@@ -144,25 +141,6 @@ pub(crate) fn opening<'t, 'a>(
     let (heading, rest) = heading(alloc, tokens)?;
     let inside = expect(rest, TokenKind::LeftBrace)?;
     Ok((heading, inside))
-}
-
-// What follows `gate`.
-#[tactic(auto, unfolding(crate::specs::Internal::Taking::gate))]
-fn gate<'t, 'a>(
-    alloc: Global,
-    tokens: &'t [Token<'a>],
-) -> Result<(StatementKind<'a>, &'t [Token<'a>]), StepError>
-    ensures { Gives (λ x. (sentence x.0, lexemes x.1.now)) result (spec.gate (lexemes tokens.now)) }
-{
-    let (heading, mut rest) = opening(alloc, tokens)?;
-    let mut body = Vec::new(alloc);
-    while !is_next(rest, TokenKind::RightBrace) {
-        let (statement, end) = body_statement(alloc, rest)?;
-        body.push(statement)?;
-        rest = end;
-    }
-    let end = expect(rest, TokenKind::RightBrace)?;
-    Ok((StatementKind::Gate(GateDeclaration { heading, body }), end))
 }
 
 // What follows `opaque`.

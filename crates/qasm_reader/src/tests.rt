@@ -2,8 +2,8 @@
 //! time, and worked examples.
 
 use crate::{
-    BodyPart, BodyStatement, Item, Operation, Operator, ParseError, Part, Program, StatementKind,
-    next_in_body, next_part, parse,
+    BodyPart, BodyStatement, Item, Operation, Operator, ParseError, Part, Program, ProgramElement,
+    StatementKind, next_in_body, next_part, parse,
 };
 use qasm_lexer::{LexError, Token, lex};
 use std::alloc::Global;
@@ -33,12 +33,14 @@ fn word_of<'a>(item: &Item<'a>) -> &'a [u8] {
 // The angles of the applications in a program, in postfix order, with a space after each word.
 fn angles_of(alloc: Global, program: &Program<'_>) -> Result<Vec<u8>, Fail> {
     let mut text = Vec::new(alloc);
-    for statement in &program.statements {
-        if let StatementKind::Operation(Operation::Apply(application)) = &statement.kind {
-            for angle in &application.angles {
-                for item in angle.items() {
-                    text.extend_from_slice(word_of(item))?;
-                    text.push(b' ')?;
+    for element in &program.elements {
+        if let ProgramElement::Statement(statement) = element {
+            if let StatementKind::Operation(Operation::Apply(application)) = &statement.kind {
+                for angle in &application.angles {
+                    for item in angle.items() {
+                        text.extend_from_slice(word_of(item))?;
+                        text.push(b' ')?;
+                    }
                 }
             }
         }
@@ -72,14 +74,21 @@ fn operators_bind_as_the_grammar_says(rt: HostRuntime) -> Result<(), Fail> {
     Ok(())
 }
 
-// The number of a statement's form, in the order of the forms.
-fn form_of(kind: &StatementKind<'_>) -> usize {
+// The number of an element's form, in the order of the forms.
+fn form_of(element: &ProgramElement<'_>) -> usize {
+    match element {
+        ProgramElement::Statement(statement) => form_of_statement(&statement.kind),
+        ProgramElement::Gate { .. } => 4,
+    }
+}
+
+// The number of a statement's form.
+fn form_of_statement(kind: &StatementKind<'_>) -> usize {
     match kind {
         StatementKind::Version(_) => 0,
         StatementKind::Include(_) => 1,
         StatementKind::QubitRegister { .. } => 2,
         StatementKind::BitRegister { .. } => 3,
-        StatementKind::Gate(_) => 4,
         StatementKind::Opaque(_) => 5,
         StatementKind::If { .. } => 6,
         StatementKind::Barrier(_) => 7,
@@ -116,9 +125,9 @@ fn each_form_of_statement_is_read(rt: HostRuntime) -> Result<(), Fail> {
     for (text, form) in rows {
         let tokens = tokens_of(alloc, text)?;
         let program = parse(alloc, &tokens).ok().ok_or("no program")?;
-        assert_eq!(rt; program.statements.len(), 1);
-        for statement in &program.statements {
-            assert_eq!(rt; form_of(&statement.kind), form);
+        assert_eq!(rt; program.elements.len(), 1);
+        for element in &program.elements {
+            assert_eq!(rt; form_of(element), form);
         }
     }
     Ok(())
@@ -257,7 +266,7 @@ enum Told {
 fn reading_of(alloc: Global, text: &[u8]) -> Told {
     match lex(alloc, text) {
         Ok(tokens) => match parse(alloc, &tokens) {
-            Ok(program) => Told::Statements(program.statements.len()),
+            Ok(program) => Told::Statements(program.elements.len()),
             Err(ParseError::Syntax { at }) => Told::Syntax(at),
             Err(_) => Told::Other,
         },

@@ -1,6 +1,6 @@
 //! The steps that every other is made of: single tokens at the start.
 
-ghost use Rattle.std.specs.Prelude.{◌≡◌, is_some};
+ghost use Rattle.std.specs.Prelude.{◌≡◌};
 ghost use Rattle.std.specs.Option.{option_map};
 ghost use Rattle.qasm_lexer.specs.Tokens.{lexemes};
 ghost use Rattle.qasm_reader.specs.Internal.Taking.{Gives};
@@ -10,7 +10,6 @@ use crate::step_error::StepError;
 use qasm_lexer::{Token, TokenKind};
 
 // Whether two kinds are the same.
-#[tactic(auto, unfolding(crate::specs::Internal::Taking::same_kind))]
 fn same_kind(left: TokenKind, right: TokenKind) -> bool
     ensures { result ≡ spec.same_kind left right }
 {
@@ -28,13 +27,6 @@ pub(crate) fn after<'t, 'a>(tokens: &'t [Token<'a>], kind: TokenKind) -> Option<
     } else {
         None
     }
-}
-
-// Whether the first token is of this kind.
-pub(crate) fn is_next(tokens: &[Token<'_>], kind: TokenKind) -> bool
-    ensures { result ≡ is_some (spec.after kind (lexemes tokens.now)) }
-{
-    after(tokens, kind).is_some()
 }
 
 // What follows the first token, which is to be of this kind.

@@ -1,5 +1,5 @@
 -- The gates of the header are faultless where they are declared, in any scope in which no first name is declared.
-use Rattle.std.proofs.Common.{◌≡◌, Bool, true, false, ◌||◌, not, List, [], ◌∷◌, ◌++◌, length, Option, None, Some, refl, sym, ap, ap₂, ◌∙◌, subst, inl, inr, ℕ}
+use Rattle.std.proofs.Common.{◌≡◌, Bool, true, false, ◌||◌, ◌&&◌, not, List, [], ◌∷◌, ◌++◌, length, Option, None, Some, refl, sym, ap, ap₂, ◌∙◌, subst, inl, inr, ℕ}
 use Rattle.std.specs.Prelude.{if◌then◌else◌}
 use Rattle.std.specs.List.{list_any, list_all}
 use Rattle.std.specs.Str.{bytes_eq}
@@ -8,17 +8,42 @@ use Rattle.std.proofs.lemmas.Slice.Eq.{bytes_eq-Decides}
 use Rattle.qasm_reader.specs.Syntax.{Callee, Declared, U, Cx, BodySentence, BodyApplied, BodyBarrier, GateForm, DeclareGate}
 use Rattle.qasm_scope.specs.declared.causes.Cause.{Cause}
 use Rattle.qasm_scope.specs.declared.causes.Cause.TheVariants as cause
-use Rattle.qasm_scope.specs.Faults.{has_unsupported, has_name_twice, has_unknown, has_wrong_count, body_has_unknown, body_has_wrong_count, body_has_same_qubit, is_hidden, is_no_gate, is_in, has_other_name, has_other_shape, shape_in, shape_of, first_cause, wrong_in}
+use Rattle.qasm_scope.specs.Faults.{has_name_twice, body_is_unsupported, body_has_unknown, body_has_wrong_count, body_has_same_qubit, is_hidden, is_no_gate, is_in, has_other_name, has_other_shape, shape_in, shape_of, first_cause, wrong_in}
 use Rattle.qasm_scope.specs.HeaderGates.{first_gates, further_gates}
-use Rattle.qasm_scope.specs.Internal.Included.{AreFirstFaultless, AreFurtherFaultless}
 use Rattle.qasm_scope.specs.Meaning.{with_first, with_further}
 use Rattle.qasm_scope.specs.Scope.{Scope, Declaration, Gate, meaning_of, is_declared, is_taken, declared}
-use Rattle.qasm_scope.proofs.Symbols.{free-taken}
+
+-- ---- names
+-- what isn't declared isn't taken
+and-first : (a b c d : Bool) → a || c ≡ false → d ≡ false → (a && b) || d ≡ false
+and-first true b c d h k = absurd (cc)
+and-first false b c d h k = k
+
+pub free-taken : (name : List ℕ) (scope : Scope) → is_declared name scope ≡ false → is_taken name scope ≡ false
+free-taken name [] h = refl
+free-taken name (d ∷ scope) h = and-first (bytes_eq d.name name) (not d.replaceable) (is_declared name scope) (is_taken name scope) h (free-taken name scope ((or_parts (bytes_eq d.name name) (is_declared name scope) h).1))
+
+-- ---- gates without fault
+-- nothing is wrong with each gate after those before it
+abbrev pub AreFirstFaultless : List GateForm → Scope → Type 0
+AreFirstFaultless [] scope = Unit {0}
+AreFirstFaultless (form ∷ forms) scope =
+    (wrong_in scope (DeclareGate form) ≡ None) × AreFirstFaultless forms (declared form.name (Gate form) ∷ scope)
+
+abbrev pub replaceable : GateForm → Declaration
+replaceable form = record { name = form.name; meaning = Gate form; replaceable = true }
+
+-- nothing is wrong with each gate whose name is free after those before it
+abbrev pub AreFurtherFaultless : List GateForm → Scope → Type 0
+AreFurtherFaultless [] scope = Unit {0}
+AreFurtherFaultless (form ∷ forms) scope =
+    (is_declared form.name scope ≡ false → wrong_in scope (DeclareGate form) ≡ None)
+    × AreFurtherFaultless forms (if is_declared form.name scope then scope else replaceable form ∷ scope)
 
 -- ---- what is wrong with a declaration, where its name may be declared
 abbrev tests : Bool → Bool → Bool → GateForm → Option Cause
 tests taken unknown count form = first_cause (
-    (has_unsupported (DeclareGate form), cause.Unsupported)
+    (list_any body_is_unsupported form.body, cause.Unsupported)
     ∷ (taken || has_name_twice (form.parameters ++ form.qubits), cause.Redeclared)
     ∷ (unknown, cause.Unknown)
     ∷ (count, cause.WrongCount)
@@ -26,46 +51,36 @@ tests taken unknown count form = first_cause (
     ∷ [])
 
 abbrev pub wrong_but_name : Scope → GateForm → Option Cause
-wrong_but_name scope form = tests false (has_unknown scope (DeclareGate form)) (has_wrong_count scope (DeclareGate form)) form
+wrong_but_name scope form = tests false (list_any (body_has_unknown scope form) form.body) (list_any (body_has_wrong_count scope) form.body) form
 
 wrong_in_is : (scope : Scope) (form : GateForm)
-    → wrong_in scope (DeclareGate form) ≡ tests (is_taken form.name scope) (has_unknown scope (DeclareGate form)) (has_wrong_count scope (DeclareGate form)) form
+    → wrong_in scope (DeclareGate form) ≡ tests (is_taken form.name scope) (list_any (body_has_unknown scope form) form.body) (list_any (body_has_wrong_count scope) form.body) form
 unfolding wrong_in
 wrong_in_is scope form = refl
 
 pub faultless : (scope : Scope) (form : GateForm) → is_taken form.name scope ≡ false → wrong_but_name scope form ≡ None → wrong_in scope (DeclareGate form) ≡ None
 faultless scope form free e =
-    wrong_in_is scope form ∙ ap (λ taken. tests taken (has_unknown scope (DeclareGate form)) (has_wrong_count scope (DeclareGate form)) form) free ∙ e
+    wrong_in_is scope form ∙ ap (λ taken. tests taken (list_any (body_has_unknown scope form) form.body) (list_any (body_has_wrong_count scope) form.body) form) free ∙ e
 
 -- ---- the first gates
-abbrev AreFree : Scope → List GateForm → Type 0
-AreFree scope [] = Unit {0}
-AreFree scope (form ∷ forms) = (is_taken form.name scope ≡ false) × AreFree scope forms
-
-are_free : (scope : Scope) (forms : List GateForm) → list_any (λ form. is_declared form.name scope) forms ≡ false → AreFree scope forms
-are_free scope [] e = tt
-are_free scope (form ∷ forms) e =
-    let p : (is_declared form.name scope ≡ false) × (list_any (λ form. is_declared form.name scope) forms ≡ false) =
-    or_parts (is_declared form.name scope) (list_any (λ form. is_declared form.name scope) forms) e in
-    (free-taken form.name scope p.0, are_free scope forms p.1)
-
 -- declared among those before it, a form's name is as free as in the scope before all, and nothing else is wrong with it
-abbrev AreFirstSound : Scope → Scope → List GateForm → Type 0
+abbrev pub AreFirstSound : Scope → Scope → List GateForm → Type 0
 AreFirstSound all scope [] = Unit {0}
 AreFirstSound all scope (form ∷ forms) =
-    (is_taken form.name scope ≡ is_taken form.name all) × (wrong_but_name scope form ≡ None)
+    (is_declared form.name scope ≡ is_declared form.name all) × (wrong_but_name scope form ≡ None)
     × AreFirstSound all (declared form.name (Gate form) ∷ scope) forms
 
-first_are : (all scope : Scope) (forms : List GateForm) → AreFree all forms → AreFirstSound all scope forms → AreFirstFaultless forms scope
-first_are all scope [] free s = tt
-first_are all scope (form ∷ forms) free s =
-    (faultless scope form (s.0 ∙ free.0) s.1, first_are all (declared form.name (Gate form) ∷ scope) forms free.1 s.2)
+first_are : (all scope : Scope) (forms : List GateForm) → list_any (λ form. is_declared form.name all) forms ≡ false → AreFirstSound all scope forms → AreFirstFaultless forms scope
+first_are all scope [] none s = tt
+first_are all scope (form ∷ forms) none s =
+    let p = or_parts (is_declared form.name all) (list_any (λ form. is_declared form.name all) forms) none in
+    (faultless scope form (free-taken form.name scope (s.0 ∙ p.0)) s.1, first_are all (declared form.name (Gate form) ∷ scope) forms p.1 s.2)
 
-first_sound : (scope : Scope) → AreFirstSound scope scope first_gates
+pub first_sound : (scope : Scope) → AreFirstSound scope scope first_gates
 first_sound scope = (refl, refl, (refl, refl, (refl, refl, (refl, refl, (refl, refl, (refl, refl, (refl, refl, (refl, refl, (refl, refl, (refl, refl, (refl, refl, (refl, refl, (refl, refl, (refl, refl, (refl, refl, (refl, refl, (refl, refl, (refl, refl, (refl, refl, (refl, refl, (refl, refl, (refl, refl, tt))))))))))))))))))))))
 
 pub first_faultless : (scope : Scope) → list_any (λ form. is_declared form.name scope) first_gates ≡ false → AreFirstFaultless first_gates scope
-first_faultless scope none = first_are scope scope first_gates (are_free scope first_gates none) (first_sound scope)
+first_faultless scope none = first_are scope scope first_gates none (first_sound scope)
 
 first_after : (prefix : List GateForm) (form : GateForm) (back : List GateForm) (scope : Scope) → AreFirstFaultless (prefix ++ form ∷ back) scope
     → wrong_in (with_first prefix scope) (DeclareGate form) ≡ None
@@ -99,9 +114,6 @@ keeps_more before after d free k = record {
   still = λ name e. ap₂ (λ same declared. same || declared) (other_name d.name name after free (k.still name e)) (k.still name e);
   same = λ name e. ap (λ same. if same then Some d.meaning else meaning_of name after) (other_name d.name name after free (k.still name e)) ∙ k.same name e;
 }
-
-abbrev pub replaceable : GateForm → Declaration
-replaceable form = record { name = form.name; meaning = Gate form; replaceable = true }
 
 pub keeps_step : (before after : Scope) (form : GateForm) → Keeps before after
     → Keeps before (if is_declared form.name after then after else replaceable form ∷ after)

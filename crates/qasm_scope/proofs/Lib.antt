@@ -1,10 +1,2 @@
-pub mod Tests
-pub mod Formulas
-pub mod Symbols
-pub mod PlaceLemmas
-pub mod CheckLemmas
-pub mod BodyLemmas
-pub mod NumeralLemmas
-pub mod Including
-pub mod HeaderText
 pub mod HeaderScope
+pub mod OneProgram

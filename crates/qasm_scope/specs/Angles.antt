@@ -16,19 +16,14 @@ use Rattle.qasm_scope.specs.declared.causes.Cause.TheVariants as causes
 
 -- the expression holds `^` or a function
 abbrev pub is_power : Operator → Bool
-is_power Add = false
-is_power Subtract = false
-is_power Multiply = false
-is_power Divide = false
 is_power Power = true
+is_power operator = false
 
 abbrev pub is_unsupported : Formula → Bool
-is_unsupported (Number text) = false
-is_unsupported Pi = false
-is_unsupported (Name name) = false
 is_unsupported (Negate f) = is_unsupported f
 is_unsupported (Binary operator f g) = is_power operator || is_unsupported f || is_unsupported g
 is_unsupported (Call function f) = true
+is_unsupported f = false
 
 -- the place of a name among the formal names, or 0
 abbrev pub place_or_zero : Option ℕ → ℕ

@@ -1,12 +1,12 @@
 -- Applications in statements: the qubits that arguments stand for, and the instances of an application.
 -- Cross, Bishop, Smolin and Gambetta, "Open quantum assembly language" (arXiv 1707.03429), on gates applied to
 -- registers.
-use Rattle.std.specs.Prelude.{ℕ, ◌+◌, ◌==◌, Bool, false, ◌||◌, List, [], ◌∷◌, map, Option, None, Some}
+use Rattle.std.specs.Prelude.{ℕ, ◌+◌, ◌==◌, Bool, false, ◌||◌, List, [], ◌∷◌, map, Option, None, Some, get_or}
 use Rattle.std.specs.List.{list_any, flat_map, filter_map, range_with_len}
 use Rattle.qasm_reader.specs.Syntax.{Operand, Apply}
 use Rattle.qasm_scope.specs.Angles.{angles_of}
 use Rattle.qasm_scope.specs.Calls.{Event, call, expand_declared}
-use Rattle.qasm_scope.specs.Scope.{Scope, Meaning, Qubits, Bits, Gate, meaning_of, numeral}
+use Rattle.qasm_scope.specs.Scope.{Scope, Meaning, Qubits, meaning_of, numeral}
 
 -- what an argument stands for: one qubit, or a register by its first qubit and size
 pub data QubitRange : Type 0 where
@@ -16,9 +16,7 @@ pub data QubitRange : Type 0 where
 abbrev pub range_in : Option Meaning → Option (List ℕ) → QubitRange
 range_in (Some (Qubits first size)) (Some index) = Single (first + numeral index)
 range_in (Some (Qubits first size)) None = Register first size
-range_in (Some Bits) index = Single 0
-range_in (Some (Gate form)) index = Single 0
-range_in None index = Single 0
+range_in meaning index = Single 0
 
 abbrev pub range_of : Scope → Operand → QubitRange
 range_of scope operand = range_in (meaning_of operand.register scope) operand.index
@@ -31,10 +29,9 @@ register_size (Register first size) = Some size
 abbrev pub register_sizes : List QubitRange → List ℕ
 register_sizes ranges = filter_map register_size ranges
 
--- how many instances there are: one for each index of the registers, or one alone
+-- how many instances there are: one for each index of the registers, which have one size, or one alone
 abbrev pub instance_count : List ℕ → ℕ
-instance_count [] = 1
-instance_count (size ∷ sizes) = size
+instance_count sizes = get_or sizes 0 1
 
 -- the qubit that stands for a range at an index
 abbrev pub qubit_at : ℕ → QubitRange → ℕ

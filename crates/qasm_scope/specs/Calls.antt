@@ -12,7 +12,7 @@ use Rattle.qasm_reader.specs.Syntax.{Callee, Declared, U, Cx, GateForm, BodySent
 use Rattle.qasm_scope.specs.declared.causes.Cause.{Cause}
 use Rattle.qasm_scope.specs.declared.causes.Cause.TheVariants.{NotEighthTurn, TooDeep, TooManyGates}
 use Rattle.qasm_scope.specs.Angles.{angles_of, place_of}
-use Rattle.qasm_scope.specs.Scope.{Scope, Meaning, Qubits, Bits, Gate}
+use Rattle.qasm_scope.specs.Scope.{Scope, Meaning, Gate}
 
 -- what comes about in a call
 pub data Event : Type 0 where
@@ -26,9 +26,7 @@ pub data Event : Type 0 where
 -- U acts where its three angles are whole eighth turns
 abbrev pub u_of : ℕ → Option ℕ → Option ℕ → Option ℕ → List Event
 u_of q (Some theta) (Some phi) (Some lambda) = Applied (elementary.U q theta phi lambda) ∷ []
-u_of q (Some theta) (Some phi) None = Undefined NotEighthTurn ∷ []
-u_of q (Some theta) None lambda = Undefined NotEighthTurn ∷ []
-u_of q None phi lambda = Undefined NotEighthTurn ∷ []
+u_of q theta phi lambda = Undefined NotEighthTurn ∷ []
 
 abbrev pub u_events : List Angle → List ℕ → List Event
 u_events (theta ∷ phi ∷ lambda ∷ []) (q ∷ []) = u_of q (phase_of theta) (phase_of phi) (phase_of lambda)
@@ -68,8 +66,7 @@ body_call declared form depth angles qubits (BodyBarrier names) = []
 abbrev pub expand_meaning : Expansion → Meaning → ℕ → List Angle → List ℕ → List Event
 expand_meaning declared (Gate form) depth angles qubits =
     flat_map (body_call declared form depth angles qubits) form.body
-expand_meaning declared (Qubits first size) depth angles qubits = []
-expand_meaning declared Bits depth angles qubits = []
+expand_meaning declared meaning depth angles qubits = []
 
 -- A declared gate is its body, in the scope that stood before its declaration.
 abbrev pub expand_declared : Scope → Expansion
@@ -82,16 +79,14 @@ expand_declared (declaration ∷ scope) name depth angles qubits =
 -- the built-in gates that act
 abbrev pub applied : List Event → List ElementaryGate
 applied [] = []
-applied (Called depth ∷ events) = applied events
-applied (Undefined cause ∷ events) = applied events
 applied (Applied gate ∷ events) = gate ∷ applied events
+applied (event ∷ events) = applied events
 
 -- how many calls there are
 abbrev pub call_count : List Event → ℕ
 call_count [] = 0
 call_count (Called depth ∷ events) = call_count events + 1
-call_count (Undefined cause ∷ events) = call_count events
-call_count (Applied gate ∷ events) = call_count events
+call_count (event ∷ events) = call_count events
 
 -- the deepest that calls may be nested
 abbrev pub deepest : ℕ

@@ -1,70 +1,38 @@
 -- What is wrong with a statement, in the scope before it. Each test is about one cause.
 use Rattle.std.specs.Prelude.{ℕ, ◌+◌, ◌==◌, Bool, true, false, ◌||◌, not, if◌then◌else◌, List, [], ◌∷◌, ◌++◌, length}
-use Rattle.std.specs.Prelude.{Option, None, Some, nat_le, nat_lt, codes}
+use Rattle.std.specs.Prelude.{Option, None, Some, is_some, nat_le, nat_lt, codes}
 use Rattle.std.specs.List.{list_any}
 use Rattle.std.specs.Str.{bytes_eq}
 use Rattle.zx_gates.specs.Circuit.{most_qubits}
-use Rattle.qasm_reader.specs.Syntax.{Formula, Number, Pi, Name, Negate, Binary, Call, Operand, Callee, Declared, U, Cx}
-use Rattle.qasm_reader.specs.Syntax.{Applied, Measured, Reset, BodySentence, BodyApplied, BodyBarrier, GateForm}
-use Rattle.qasm_reader.specs.Syntax.{Sentence, Version, Include, QubitRegister, BitRegister, DeclareGate, Opaque, If}
-use Rattle.qasm_reader.specs.Syntax.{Barrier, Act}
+use Rattle.qasm_reader.specs.Syntax.{Formula, Name, Negate, Binary, Call, Operand, Callee, Declared, U, Cx, Apply}
+use Rattle.qasm_reader.specs.Syntax.{Applied, BodySentence, BodyApplied, BodyBarrier, GateForm}
+use Rattle.qasm_reader.specs.Syntax.{Sentence, Version, Include, QubitRegister, BitRegister, DeclareGate, Barrier, Act}
 use Rattle.qasm_scope.specs.declared.causes.Cause.{Cause}
 use Rattle.qasm_scope.specs.declared.causes.Cause.TheVariants as cause
 use Rattle.qasm_scope.specs.Angles.{is_unsupported}
 use Rattle.qasm_scope.specs.Applications.{instances, ranges_of, register_sizes, has_twice}
 use Rattle.qasm_scope.specs.HeaderGates.{first_gates}
-use Rattle.qasm_scope.specs.Scope.{Scope, Meaning, Qubits, Bits, Gate, meaning_of, is_taken, is_declared, numeral}
+use Rattle.qasm_scope.specs.Scope.{Scope, Meaning, Qubits, Gate, meaning_of, is_taken, is_declared, numeral}
 use Rattle.qasm_scope.specs.Scope.{qubit_count}
 
 -- the file that the header stands for
 abbrev pub header_name : List ℕ
 header_name = codes "\"qelib1.inc\""
 
-abbrev pub is_other_include : Sentence → Bool
-is_other_include (Include text) = not (bytes_eq text header_name)
-is_other_include sentence = false
-
 -- an expression in a body or an application holds `^` or a function
 abbrev pub body_is_unsupported : BodySentence → Bool
 body_is_unsupported (BodyApplied a) = list_any is_unsupported a.angles
 body_is_unsupported (BodyBarrier names) = false
-
-abbrev pub has_unsupported : Sentence → Bool
-has_unsupported (DeclareGate form) = list_any body_is_unsupported form.body
-has_unsupported (Opaque name parameters qubits) = true
-has_unsupported (If register value action) = true
-has_unsupported (Act (Applied a)) = list_any is_unsupported a.angles
-has_unsupported (Act (Measured from to)) = true
-has_unsupported (Act (Reset operand)) = true
-has_unsupported sentence = false
 
 -- a name stands twice in a list
 abbrev pub has_name_twice : List (List ℕ) → Bool
 has_name_twice [] = false
 has_name_twice (name ∷ names) = list_any (λ other. bytes_eq other name) names || has_name_twice names
 
-abbrev pub is_redeclared : Scope → Sentence → Bool
-is_redeclared scope (QubitRegister name size) = is_taken name scope
-is_redeclared scope (BitRegister name size) = is_taken name scope
-is_redeclared scope (DeclareGate form) = is_taken form.name scope || has_name_twice (form.parameters ++ form.qubits)
-is_redeclared scope (Include text) = list_any (λ form. is_declared form.name scope) first_gates
-is_redeclared scope sentence = false
-
-abbrev pub is_empty_register : Sentence → Bool
-is_empty_register (QubitRegister name size) = numeral size == 0
-is_empty_register (BitRegister name size) = numeral size == 0
-is_empty_register sentence = false
-
-abbrev pub has_too_many_qubits : Scope → Sentence → Bool
-has_too_many_qubits scope (QubitRegister name size) = nat_lt most_qubits (qubit_count scope + numeral size)
-has_too_many_qubits scope sentence = false
-
 -- a gate of that name: how many angles and qubits it has
 abbrev pub shape_in : Option Meaning → Option (ℕ × ℕ)
 shape_in (Some (Gate form)) = Some (length form.parameters, length form.qubits)
-shape_in (Some (Qubits first size)) = None
-shape_in (Some Bits) = None
-shape_in None = None
+shape_in meaning = None
 
 abbrev pub shape_of : Scope → Callee → Option (ℕ × ℕ)
 shape_of scope (Declared name) = shape_in (meaning_of name scope)
@@ -72,8 +40,7 @@ shape_of scope U = Some (3, 1)
 shape_of scope Cx = Some (0, 2)
 
 abbrev pub is_no_gate : Option (ℕ × ℕ) → Bool
-is_no_gate None = true
-is_no_gate (Some shape) = false
+is_no_gate shape = not (is_some shape)
 
 -- a name is among these
 abbrev pub is_in : List (List ℕ) → List ℕ → Bool
@@ -81,24 +48,20 @@ is_in names name = list_any (λ other. bytes_eq other name) names
 
 -- a name in an expression isn't among the parameters
 abbrev pub has_other_name : List (List ℕ) → Formula → Bool
-has_other_name names (Number text) = false
-has_other_name names Pi = false
 has_other_name names (Name name) = not (is_in names name)
 has_other_name names (Negate f) = has_other_name names f
 has_other_name names (Binary operator f g) = has_other_name names f || has_other_name names g
 has_other_name names (Call function f) = has_other_name names f
+has_other_name names f = false
 
 abbrev pub is_no_register : Option Meaning → Bool
 is_no_register (Some (Qubits first size)) = false
-is_no_register (Some Bits) = true
-is_no_register (Some (Gate form)) = true
-is_no_register None = true
+is_no_register meaning = true
 
 -- in a body, formal names hide others
 abbrev pub is_hidden : GateForm → Callee → Bool
 is_hidden form (Declared name) = is_in (form.parameters ++ form.qubits) name
-is_hidden form U = false
-is_hidden form Cx = false
+is_hidden form gate = false
 
 abbrev pub body_has_unknown : Scope → GateForm → BodySentence → Bool
 body_has_unknown scope form (BodyApplied a) =
@@ -106,16 +69,16 @@ body_has_unknown scope form (BodyApplied a) =
     || list_any (has_other_name form.parameters) a.angles || list_any (λ name. not (is_in form.qubits name)) a.qubits
 body_has_unknown scope form (BodyBarrier names) = list_any (λ name. not (is_in form.qubits name)) names
 
+-- no qubits are declared by the name of one of the arguments
 abbrev pub has_no_register : Scope → List Operand → Bool
 has_no_register scope operands = list_any (λ operand. is_no_register (meaning_of operand.register scope)) operands
 
-abbrev pub has_unknown : Scope → Sentence → Bool
-has_unknown scope (DeclareGate form) = list_any (body_has_unknown scope form) form.body
-has_unknown scope (Barrier operands) = has_no_register scope operands
-has_unknown scope (Act (Applied a)) =
+-- a name in an application isn't known, or isn't what is needed there
+abbrev pub has_unknown : Scope → Apply → Bool
+has_unknown scope a =
     is_no_gate (shape_of scope a.gate) || list_any (has_other_name []) a.angles || has_no_register scope a.qubits
-has_unknown scope sentence = false
 
+-- angles or qubits differ in number from the gate's declaration
 abbrev pub has_other_shape : Option (ℕ × ℕ) → ℕ → ℕ → Bool
 has_other_shape None angles qubits = false
 has_other_shape (Some shape) angles qubits = not (angles == shape.0) || not (qubits == shape.1)
@@ -124,48 +87,22 @@ abbrev pub body_has_wrong_count : Scope → BodySentence → Bool
 body_has_wrong_count scope (BodyApplied a) = has_other_shape (shape_of scope a.gate) (length a.angles) (length a.qubits)
 body_has_wrong_count scope (BodyBarrier names) = false
 
-abbrev pub has_wrong_count : Scope → Sentence → Bool
-has_wrong_count scope (DeclareGate form) = list_any (body_has_wrong_count scope) form.body
-has_wrong_count scope (Act (Applied a)) = has_other_shape (shape_of scope a.gate) (length a.angles) (length a.qubits)
-has_wrong_count scope sentence = false
-
 -- an index isn't below its register's size
 abbrev pub is_past : Option Meaning → Option (List ℕ) → Bool
 is_past (Some (Qubits first size)) (Some index) = nat_le size (numeral index)
-is_past (Some (Qubits first size)) None = false
-is_past (Some Bits) index = false
-is_past (Some (Gate form)) index = false
-is_past None index = false
+is_past meaning index = false
 
 abbrev pub has_past_index : Scope → List Operand → Bool
 has_past_index scope operands = list_any (λ operand. is_past (meaning_of operand.register scope) operand.index) operands
-
-abbrev pub has_wrong_index : Scope → Sentence → Bool
-has_wrong_index scope (Barrier operands) = has_past_index scope operands
-has_wrong_index scope (Act (Applied a)) = has_past_index scope a.qubits
-has_wrong_index scope sentence = false
 
 -- two sizes differ
 abbrev pub has_other_size : List ℕ → Bool
 has_other_size [] = false
 has_other_size (size ∷ sizes) = list_any (λ other. not (other == size)) sizes
 
-abbrev pub has_other_sizes : Scope → Sentence → Bool
-has_other_sizes scope (Act (Applied a)) = has_other_size (register_sizes (ranges_of scope a.qubits))
-has_other_sizes scope sentence = false
-
 abbrev pub body_has_same_qubit : BodySentence → Bool
 body_has_same_qubit (BodyApplied a) = has_name_twice a.qubits
 body_has_same_qubit (BodyBarrier names) = false
-
-abbrev pub has_same_qubit : Scope → Sentence → Bool
-has_same_qubit scope (DeclareGate form) = list_any body_has_same_qubit form.body
-has_same_qubit scope (Act (Applied a)) = list_any has_twice (instances (ranges_of scope a.qubits))
-has_same_qubit scope sentence = false
-
-abbrev pub is_second_version : Sentence → Bool
-is_second_version (Version real) = true
-is_second_version sentence = false
 
 -- the first cause, in this order
 abbrev pub first_cause : List (Bool × Cause) → Option Cause
@@ -174,19 +111,31 @@ first_cause (test ∷ tests) = if test.0 then Some test.1 else first_cause tests
 
 -- the tests of a statement after the first one, calls and angles aside, each with the cause that it finds
 abbrev pub statement_tests : Scope → Sentence → List (Bool × Cause)
-statement_tests scope sentence =
-    (is_other_include sentence, cause.Include)
-    ∷ (has_unsupported sentence, cause.Unsupported)
-    ∷ (is_redeclared scope sentence, cause.Redeclared)
-    ∷ (is_empty_register sentence, cause.EmptyRegister)
-    ∷ (has_too_many_qubits scope sentence, cause.TooManyQubits)
-    ∷ (has_unknown scope sentence, cause.Unknown)
-    ∷ (has_wrong_count scope sentence, cause.WrongCount)
-    ∷ (has_wrong_index scope sentence, cause.Index)
-    ∷ (has_other_sizes scope sentence, cause.Sizes)
-    ∷ (has_same_qubit scope sentence, cause.SameQubit)
-    ∷ (is_second_version sentence, cause.SecondVersion)
-    ∷ []
+statement_tests scope (Version real) = (true, cause.SecondVersion) ∷ []
+statement_tests scope (Include text) =
+    (not (bytes_eq text header_name), cause.Include)
+    ∷ (list_any (λ form. is_declared form.name scope) first_gates, cause.Redeclared) ∷ []
+statement_tests scope (QubitRegister name size) =
+    (is_taken name scope, cause.Redeclared) ∷ (numeral size == 0, cause.EmptyRegister)
+    ∷ (nat_lt most_qubits (qubit_count scope + numeral size), cause.TooManyQubits) ∷ []
+statement_tests scope (BitRegister name size) =
+    (is_taken name scope, cause.Redeclared) ∷ (numeral size == 0, cause.EmptyRegister) ∷ []
+statement_tests scope (DeclareGate form) =
+    (list_any body_is_unsupported form.body, cause.Unsupported)
+    ∷ (is_taken form.name scope || has_name_twice (form.parameters ++ form.qubits), cause.Redeclared)
+    ∷ (list_any (body_has_unknown scope form) form.body, cause.Unknown)
+    ∷ (list_any (body_has_wrong_count scope) form.body, cause.WrongCount)
+    ∷ (list_any body_has_same_qubit form.body, cause.SameQubit) ∷ []
+statement_tests scope (Barrier operands) =
+    (has_no_register scope operands, cause.Unknown) ∷ (has_past_index scope operands, cause.Index) ∷ []
+statement_tests scope (Act (Applied a)) =
+    (list_any is_unsupported a.angles, cause.Unsupported)
+    ∷ (has_unknown scope a, cause.Unknown)
+    ∷ (has_other_shape (shape_of scope a.gate) (length a.angles) (length a.qubits), cause.WrongCount)
+    ∷ (has_past_index scope a.qubits, cause.Index)
+    ∷ (has_other_size (register_sizes (ranges_of scope a.qubits)), cause.Sizes)
+    ∷ (list_any has_twice (instances (ranges_of scope a.qubits)), cause.SameQubit) ∷ []
+statement_tests scope sentence = (true, cause.Unsupported) ∷ []
 
 -- what is wrong with it
 unfoldable pub wrong_in : Scope → Sentence → Option Cause

@@ -1,7 +1,2 @@
--- What only private contracts and proofs cite: nobody has to read it to trust a promise of this crate.
-pub mod Bodies
-pub mod Begun
-pub mod Checks
-pub mod Entries
-pub mod Included
-pub mod Kept
+-- The proof of what the header's texts declare: nobody has to read it to trust a promise of this crate.
+pub mod HeaderText

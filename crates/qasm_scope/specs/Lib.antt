@@ -4,7 +4,9 @@ pub mod Calls
 pub mod Faults
 pub mod Header
 pub mod HeaderGates
+pub mod HeaderTrees
 pub mod Internal
 pub mod Meaning
+pub mod ProgramTexts
 pub mod Scope
 pub mod Texts

@@ -52,8 +52,7 @@ numeral text = numeral_from 0 text
 -- how many qubits are declared
 abbrev pub size_of : Meaning → ℕ
 size_of (Qubits first size) = size
-size_of Bits = 0
-size_of (Gate form) = 0
+size_of meaning = 0
 
 abbrev pub qubit_count : Scope → ℕ
 qubit_count [] = 0

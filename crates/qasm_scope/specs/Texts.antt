@@ -1,20 +1,11 @@
--- What a text means: its tokens, the program of these, and the circuit of that.
-use Rattle.std.specs.Prelude.{◌≡◌, ℕ, ◌+◌, List, [], ◌∷◌, length, None}
+-- What a text means: the circuit of its program.
+use Rattle.std.specs.Prelude.{ℕ, ◌+◌, List, [], ◌∷◌, length}
 use Rattle.zx_gates.specs.declared.elementary.ElementaryGate.{ElementaryGate}
-use Rattle.qasm_lexer.specs.Tokens.{Lexeme, IsCut}
-use Rattle.qasm_reader.specs.Depth.{too_deep}
-use Rattle.qasm_reader.specs.Grammar.{IsProgram}
 use Rattle.qasm_reader.specs.Syntax.{Applied, Sentence, Act, Placed}
 use Rattle.qasm_scope.specs.Applications.{instances, ranges_of}
 use Rattle.qasm_scope.specs.Meaning.{Means, after_statement}
+pub use Rattle.qasm_scope.specs.ProgramTexts.{IsProgramText}
 use Rattle.qasm_scope.specs.Scope.{Scope}
-
--- the text is this program
-pub record IsProgramText (text : List ℕ) (program : List Placed) : Type 0 where
-  pub tokens : List Lexeme
-  pub cut : IsCut 0 text tokens
-  pub shallow : too_deep tokens ≡ None
-  pub grammar : IsProgram tokens program
 
 -- The text means the circuit of so many qubits and these gates. It may make any number of calls.
 pub record TextMeans (text : List ℕ) (qubits : ℕ) (gates : List ElementaryGate) : Type 0 where

@@ -1,19 +1,27 @@
 //! Laws of the header.
 
-ghost use Rattle.std.specs.Prelude.{◌≡◌, false, ◌∷◌, ◌++◌, List, map, None};
+ghost use Rattle.std.specs.Prelude.{◌≡◌, false, ◌∷◌, List, ℕ, map, None, ◌++◌};
 ghost use Rattle.std.specs.List.{list_any};
 ghost use Rattle.qasm_reader.specs.Syntax.{DeclareGate, GateForm, Placed};
 ghost use Rattle.qasm_scope.specs.Faults.{wrong_in};
-ghost use Rattle.qasm_scope.specs.Header.{header_text};
 ghost use Rattle.qasm_scope.specs.HeaderGates.{first_gates, further_gates};
+ghost use Rattle.qasm_scope.specs.HeaderTrees.{first_trees, further_trees};
 ghost use Rattle.qasm_scope.specs.Meaning.{with_first, with_further};
+ghost use Rattle.qasm_scope.specs.ProgramTexts.{GatesOf, IsProgramText};
 ghost use Rattle.qasm_scope.specs.Scope.{Scope, is_declared};
-ghost use Rattle.qasm_scope.specs.Texts.{IsProgramText};
 
-/// The header's text is the program of the declarations of its gates.
+/// A text is one program at most, and declares one list of gates at most. So it doesn't matter by which proof it is shown
+/// which gates the header's texts declare.
+pub fn a_text_declares_one_list_of_gates()
+    ensures programs { (text : List ℕ) (a b : List Placed) → IsProgramText text a
+        → IsProgramText text b → a ≡ b }
+    ensures gates { (text : List ℕ) (a b : GatesOf text) → a.gates ≡ b.gates }
+{}
+
+/// The texts of the header declare the gates that are written out as trees.
 pub fn the_header_declares_its_gates()
-    ensures { (program : List Placed) × IsProgramText header_text program
-        × (map (λ s. s.sentence) program ≡ map DeclareGate (first_gates ++ further_gates)) }
+    ensures first { first_gates ≡ first_trees }
+    ensures further { further_gates ≡ further_trees }
 {}
 
 /// Where no name of the first gates is declared, no declaration of the header has a fault: neither a first gate after

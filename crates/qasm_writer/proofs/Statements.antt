@@ -1,6 +1,6 @@
 -- The statements that the lines of gates are: after the header and the register they have no fault, and come to the
 -- built-in gates of `elements`.
-use Rattle.std.specs.Prelude.{◌≡◌, ◌≤◌, if◌then◌else◌, ℕ, ◌+◌, Bool, true, false, ◌&&◌, ◌||◌, not, List, [], ◌∷◌, codes, nat_le, nat_lt, ◌==◌, Some, None}
+use Rattle.std.specs.Prelude.{◌≡◌, ◌≤◌, if◌then◌else◌, ℕ, ◌+◌, Bool, true, false, ◌&&◌, ◌||◌, not, List, [], ◌∷◌, codes, length, nat_le, nat_lt, ◌==◌, Some, None}
 use Rattle.std.proofs.Common.{refl, sym, ap, ap₂, ◌∙◌, arith}
 use Rattle.std.proofs.lemmas.Bool.{false≢true}
 use Rattle.zx_gates.specs.declared.elementary.ElementaryGate.{ElementaryGate}
@@ -12,11 +12,13 @@ use Rattle.qasm_angle.specs.Ratio.{gcd, lowest, limited}
 use Rattle.qasm_angle.specs.Eighths.{phase_of}
 use Rattle.qasm_angle.specs.Literals as literals
 use Rattle.qasm_angle.specs.Values as values
-use Rattle.qasm_scope.specs.Angles.{angle_of}
+use Rattle.std.specs.List.{list_any}
+use Rattle.qasm_scope.specs.Angles.{angle_of, is_unsupported}
+use Rattle.qasm_scope.specs.Applications.{has_twice, instances, ranges_of, register_sizes}
 use Rattle.qasm_scope.specs.Calls.{Event, Called, Undefined, Applied, applied, call_count, deepest}
 use Rattle.qasm_scope.specs.declared.causes.Cause.{Cause}
 use Rattle.qasm_scope.specs.declared.causes.Cause.TheVariants as cause
-use Rattle.qasm_scope.specs.Faults.{wrong_in, first_cause, has_unsupported, has_unknown, has_wrong_count, has_wrong_index, has_other_sizes, has_same_qubit}
+use Rattle.qasm_scope.specs.Faults.{wrong_in, first_cause, has_unknown, has_other_shape, has_other_size, has_past_index, shape_of}
 use Rattle.qasm_scope.specs.Meaning.{with_header, events_of}
 use Rattle.qasm_scope.specs.Scope.{Scope, Qubits, declared, numeral}
 use Rattle.qasm_scope.specs.Texts.{instances_in}
@@ -25,8 +27,11 @@ use Rattle.qasm_scope.specs.Texts.{instances_in}
 abbrev pub operand : List ℕ → Operand
 operand index = record { register = codes "q"; index = Some index }
 
+abbrev pub apply : List ℕ → List Formula → List Operand → syntax.Apply
+apply name angles operands = record { gate = Declared name; angles = angles; qubits = operands }
+
 abbrev pub application : List ℕ → List Formula → List Operand → Sentence
-application name angles operands = Act (syntax.Applied (record { gate = Declared name; angles = angles; qubits = operands }))
+application name angles operands = Act (syntax.Applied (apply name angles operands))
 
 -- a multiple of pi/4
 abbrev pub quarters : List ℕ → Formula
@@ -51,30 +56,24 @@ no_cause (test ∷ tests) h = fails test.0 test.1 tests h.0 (no_cause tests h.1)
 
 -- the tests that an application may fail
 pub right : (scope : Scope) (name : List ℕ) (angles : List Formula) (operands : List Operand)
-    → has_unsupported (application name angles operands) ≡ false
-    → has_unknown scope (application name angles operands) ≡ false
-    → has_wrong_count scope (application name angles operands) ≡ false
-    → has_wrong_index scope (application name angles operands) ≡ false
-    → has_other_sizes scope (application name angles operands) ≡ false
-    → has_same_qubit scope (application name angles operands) ≡ false
+    → list_any is_unsupported angles ≡ false
+    → has_unknown scope (apply name angles operands) ≡ false
+    → has_other_shape (shape_of scope (Declared name)) (length angles) (length operands) ≡ false
+    → has_past_index scope operands ≡ false
+    → has_other_size (register_sizes (ranges_of scope operands)) ≡ false
+    → list_any has_twice (instances (ranges_of scope operands)) ≡ false
     → wrong_in scope (application name angles operands) ≡ None
 unfolding wrong_in
 right scope name angles operands unsupported unknown count index sizes twice =
-    let s : Sentence = application name angles operands in
     no_cause (
-    (false, cause.Include)
-    ∷ (has_unsupported s, cause.Unsupported)
-    ∷ (false, cause.Redeclared)
-    ∷ (false, cause.EmptyRegister)
-    ∷ (false, cause.TooManyQubits)
-    ∷ (has_unknown scope s, cause.Unknown)
-    ∷ (has_wrong_count scope s, cause.WrongCount)
-    ∷ (has_wrong_index scope s, cause.Index)
-    ∷ (has_other_sizes scope s, cause.Sizes)
-    ∷ (has_same_qubit scope s, cause.SameQubit)
-    ∷ (false, cause.SecondVersion)
+    (list_any is_unsupported angles, cause.Unsupported)
+    ∷ (has_unknown scope (apply name angles operands), cause.Unknown)
+    ∷ (has_other_shape (shape_of scope (Declared name)) (length angles) (length operands), cause.WrongCount)
+    ∷ (has_past_index scope operands, cause.Index)
+    ∷ (has_other_size (register_sizes (ranges_of scope operands)), cause.Sizes)
+    ∷ (list_any has_twice (instances (ranges_of scope operands)), cause.SameQubit)
     ∷ [])
-    (refl, (unsupported, (refl, (refl, (refl, (unknown, (count, (index, (sizes, (twice, (refl, tt)))))))))))
+    (unsupported, (unknown, (count, (index, (sizes, (twice, tt))))))
 
 -- ---- a statement without fault, its calls and its gates
 
@@ -98,9 +97,9 @@ pub record Comes (scope : Scope) (s : Sentence) (gates : List ElementaryGate) : 
 
 module _ (n : ℕ) (i : List ℕ) (name : List ℕ) (angles : List Formula) (gate : ℕ → List ElementaryGate) (events : List Event) where
   pub on_one_comes : (q : ℕ) → 0 + numeral i ≡ q → nat_le n (numeral i) ≡ false
-      → has_unsupported (application name angles (operand i ∷ [])) ≡ false
-      → has_unknown (register_scope n) (application name angles (operand i ∷ [])) ≡ false
-      → has_wrong_count (register_scope n) (application name angles (operand i ∷ [])) ≡ false
+      → list_any is_unsupported angles ≡ false
+      → has_unknown (register_scope n) (apply name angles (operand i ∷ [])) ≡ false
+      → has_other_shape (shape_of (register_scope n) (Declared name)) (length angles) 1 ≡ false
       → events_of (register_scope n) (application name angles (operand i ∷ [])) ≡ events
       → are_calm events ≡ true → call_count events ≤ most_of_one → applied events ≡ gate (0 + numeral i)
       → Comes (register_scope n) (application name angles (operand i ∷ [])) (gate q)
@@ -115,8 +114,8 @@ module _ (n : ℕ) (i : List ℕ) (name : List ℕ) (angles : List Formula) (gat
 module _ (n : ℕ) (i j : List ℕ) (name : List ℕ) (gate : ℕ → ℕ → List ElementaryGate) (events : List Event) where
   pub on_two_comes : (q r : ℕ) → 0 + numeral i ≡ q → 0 + numeral j ≡ r → nat_le n (numeral i) ≡ false → nat_le n (numeral j) ≡ false
       → ((0 + numeral j) == (0 + numeral i)) ≡ false
-      → has_unknown (register_scope n) (application name [] (operand i ∷ operand j ∷ [])) ≡ false
-      → has_wrong_count (register_scope n) (application name [] (operand i ∷ operand j ∷ [])) ≡ false
+      → has_unknown (register_scope n) (apply name [] (operand i ∷ operand j ∷ [])) ≡ false
+      → has_other_shape (shape_of (register_scope n) (Declared name)) 0 2 ≡ false
       → events_of (register_scope n) (application name [] (operand i ∷ operand j ∷ [])) ≡ events
       → are_calm events ≡ true → call_count events ≤ most_of_one → applied events ≡ gate (0 + numeral i) (0 + numeral j)
       → Comes (register_scope n) (application name [] (operand i ∷ operand j ∷ [])) (gate q r)

@@ -1,5 +1,5 @@
 -- The whole text of a circuit, and what its elements are.
-use Rattle.std.specs.Prelude.{◌≡◌, ◌≢◌, ◌<◌, ◌≤◌, if◌then◌else◌, ℕ, ◌+◌, ◌*◌, false, List, [], ◌∷◌, ◌++◌, length, codes, decimal, None}
+use Rattle.std.specs.Prelude.{◌≡◌, ◌≢◌, ◌<◌, ◌≤◌, ◌==◌, if◌then◌else◌, ℕ, ◌+◌, ◌*◌, false, List, [], ◌∷◌, ◌++◌, length, codes, decimal, nat_lt, None}
 use Rattle.std.proofs.Common.{refl, sym, ap, ap₂, ◌∙◌, arith, subst, append_assoc, inl, inr}
 use Rattle.std.specs.List.{All, flat_map}
 use Rattle.std.proofs.lemmas.Bool.{ne_eqb, cases_eq, lt-leb}
@@ -20,7 +20,7 @@ use Rattle.zx_gates.specs.declared.gate.Gate.TheVariants.{H, Phase, Cz, Cx, Not}
 use Rattle.zx_gates.proofs.LoweringLemmas.{proportional_lowered, odd_lowered, gate_odd_phases-append}
 use Rattle.qasm_reader.specs.Syntax.{Sentence, Version, Include, QubitRegister, Placed}
 use Rattle.qasm_scope.specs.declared.causes.Cause.TheVariants as cause
-use Rattle.qasm_scope.specs.Faults.{wrong_in, has_too_many_qubits, is_empty_register}
+use Rattle.qasm_scope.specs.Faults.{wrong_in}
 use Rattle.qasm_scope.specs.Meaning.{Means, with_header, after_statement, fault_after, scope_after, gates_after, first_fault}
 use Rattle.qasm_scope.specs.Scope.{Qubits, declared, numeral, qubit_count}
 use Rattle.qasm_scope.specs.Texts.{IsProgramText, TextMeans, size_after, program_size}
@@ -52,33 +52,13 @@ scope_is n few = ap₂ (λ a b. declared (codes "q") (Qubits a b) ∷ with_heade
 register_fine : (n : ℕ) → n ≤ most_qubits → n ≢ 0 → wrong_in (with_header []) (register n) ≡ None
 unfolding wrong_in with_header
 register_fine n few some =
-    let s : Sentence = register n in
     let value : numeral (decimal n) ≡ n = numeral-decimal n (omega arith) in
     no_cause (
-    (false, cause.Include)
-    ∷ (false, cause.Unsupported)
-    ∷ (false, cause.Redeclared)
-    ∷ (is_empty_register s, cause.EmptyRegister)
-    ∷ (has_too_many_qubits (with_header []) s, cause.TooManyQubits)
-    ∷ (false, cause.Unknown)
-    ∷ (false, cause.WrongCount)
-    ∷ (false, cause.Index)
-    ∷ (false, cause.Sizes)
-    ∷ (false, cause.SameQubit)
-    ∷ (false, cause.SecondVersion)
-    ∷ []) (
-      refl,
-      (
-        refl,
-        (
-          refl,
-          (
-            ne_eqb (numeral (decimal n)) 0 (λ e. some (sym value ∙ e)),
-            (lt-leb (1025) (0 + numeral (decimal n)) (omega arith), (refl, (refl, (refl, (refl, (refl, (refl, tt))))))),
-          ),
-        ),
-      ),
-    )
+    (false, cause.Redeclared)
+    ∷ (numeral (decimal n) == 0, cause.EmptyRegister)
+    ∷ (nat_lt most_qubits (0 + numeral (decimal n)), cause.TooManyQubits)
+    ∷ [])
+    (refl, (ne_eqb (numeral (decimal n)) 0 (λ e. some (sym value ∙ e)), (lt-leb (1025) (0 + numeral (decimal n)) (omega arith), tt)))
 
 -- ---- the program
 pub record IsWritten (c : Circuit) : Type 0 where

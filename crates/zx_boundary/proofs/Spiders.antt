@@ -46,10 +46,12 @@ module _ (old : Graph) (b new phase : ℕ) (g : Graph) (b_live : Live old b) (fr
   spider_added w h toggle = record {
     fresh = fresh;
     vertices = toggle.vertices ∙ vertices_are;
-    ordered = toggle.ordered;
     edges = λ p q. toggle.edges p q ∙ ap (λ (k : Graph). xor (joined k.edges p q) (is_pair b new p q)) added ∙ sym (or-apart (joined old.edges p q) (is_pair b new p q) (none p q));
-    inputs = toggle.inputs ∙ ap (λ (k : Graph). k.inputs) added;
-    outputs = toggle.outputs ∙ ap (λ (k : Graph). k.outputs) added;
+    frame = record {
+      ordered = toggle.frame.ordered;
+      inputs = toggle.frame.inputs ∙ ap (λ (k : Graph). k.inputs) added;
+      outputs = toggle.frame.outputs ∙ ap (λ (k : Graph). k.outputs) added;
+    };
   }
     where
       no_edge : (p q : ℕ) → eqb p new ≡ true → joined old.edges p q ≡ false

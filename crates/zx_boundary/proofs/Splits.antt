@@ -1,22 +1,18 @@
 -- The end at a vertex moves to the spider that was added.
-use Rattle.std.proofs.Common.{◌≡◌, refl, sym, ◌∙◌, ap, subst, not, ℕ, zero, suc, ◌<◌, true, List, [], ◌∷◌, length, set, slice_get, get_or, Some}
+use Rattle.std.proofs.Common.{◌≡◌, refl, sym, ◌∙◌, ap, subst, not, ℕ, suc, ◌<◌, true, List, [], ◌∷◌, length, set, slice_get, get_or, Some}
 use Rattle.std.proofs.lemmas.Option.{slice_get-get_or, slice_get_within, same_Some}
 use Rattle.zx_model.specs.Bits.{member}
 use Rattle.zx_calculus.specs.Graph.{End, Graph, ids, joined, end_vertices, in_order, different, OrderedEdges}
 use Rattle.zx_calculus.specs.Splits.{move_end, IsSplitInput, IsSplitOutput}
 use Rattle.zx_calculus.proofs.Edits.{set-move_end}
 use Rattle.gflow_laws.specs.Splits.{new_vertex}
+use Rattle.open_graph.proofs.PlaceLemmas.{slice_get-places}
 use Rattle.gflow_laws.proofs.Splits.{new_vertex-split}
 use Rattle.zx_boundary.specs.Internal.Spiders.{IsSpiderAdded}
 
 length-places : (ends : List End) → length (end_vertices ends) ≡ length ends
 length-places [] = refl
 length-places (e ∷ es) = ap (λ n. suc n) (length-places es)
-
-slice_get-places : (ends : List End) (i : ℕ) (e : End) → slice_get ends i ≡ Some e → slice_get (end_vertices ends) i ≡ Some e.vertex
-slice_get-places [] i e found = cc
-slice_get-places (d ∷ ds) zero e found = ap (λ (c : End). Some c.vertex) (same_Some d e found)
-slice_get-places (d ∷ ds) (suc i) e found = slice_get-places ds i e found
 
 -- the place of an end is in range
 pub place_within : (ends : List End) (i b : ℕ) → slice_get (end_vertices ends) i ≡ Some b → i < length ends
@@ -37,10 +33,10 @@ input_split old b new h k inputs s there moved made = record {
   fresh = s.fresh;
   has_input = there;
   vertices = ap (λ (g : Graph). g.vertices) made ∙ s.vertices;
-  ordered = subst (λ (g : Graph). OrderedEdges (ids g.vertices) g.edges) (sym made) s.ordered;
+  ordered = subst (λ (g : Graph). OrderedEdges (ids g.vertices) g.edges) (sym made) s.frame.ordered;
   edges = λ p q. ap (λ (g : Graph). joined g.edges p q) made ∙ s.edges p q;
   inputs = ap (λ (g : Graph). g.inputs) made ∙ moved;
-  outputs = ap (λ (g : Graph). g.outputs) made ∙ s.outputs;
+  outputs = ap (λ (g : Graph). g.outputs) made ∙ s.frame.outputs;
 }
 
 pub output_split : (old : Graph) (b new : ℕ) (h k : Graph) (outputs : List End) → IsSpiderAdded old b new h → member b (end_vertices old.outputs) ≡ true →
@@ -50,9 +46,9 @@ output_split old b new h k outputs s there moved made = record {
   fresh = s.fresh;
   has_output = there;
   vertices = ap (λ (g : Graph). g.vertices) made ∙ s.vertices;
-  ordered = subst (λ (g : Graph). OrderedEdges (ids g.vertices) g.edges) (sym made) s.ordered;
+  ordered = subst (λ (g : Graph). OrderedEdges (ids g.vertices) g.edges) (sym made) s.frame.ordered;
   edges = λ p q. ap (λ (g : Graph). joined g.edges p q) made ∙ s.edges p q;
-  inputs = ap (λ (g : Graph). g.inputs) made ∙ s.inputs;
+  inputs = ap (λ (g : Graph). g.inputs) made ∙ s.frame.inputs;
   outputs = ap (λ (g : Graph). g.outputs) made ∙ moved;
 }
 

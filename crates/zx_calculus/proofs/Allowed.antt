@@ -1,16 +1,12 @@
 -- What it says that a rewrite is allowed, fact by fact.
-use Rattle.std.proofs.Common.{◌≡◌, refl, sym, ℕ, ◌<◌, Bool, true, not, ◌&&◌, eqb, List, [], ◌∷◌, length, true≢false, arith}
+use Rattle.std.proofs.Common.{◌≡◌, sym, ℕ, ◌<◌, Bool, true, not, ◌&&◌, eqb, List, [], ◌∷◌, length, true≢false, arith}
 use Rattle.zx_model.specs.Bits.{member}
-use Rattle.zx_calculus.specs.Graph.{Plane, XY, XZ, YZ, Graph, ids, plane_of, joined, neighbours, Live, Interior, is_YZ}
+use Rattle.zx_calculus.specs.Graph.{YZ, Graph, ids, plane_of, joined, neighbours, Live, Interior, is_YZ}
 use Rattle.zx_calculus.specs.Steps.{allowed, LocalComplement, Delete, Pivot, DropLone, FuseInto, FuseTwin}
 use Rattle.zx_calculus.specs.Gadgets.{is_one_XY}
 use Rattle.zx_calculus.proofs.Ids.{and-left, and-right}
 use Rattle.zx_calculus.proofs.Results.{interior_from}
-
-pub YZ_from : (plane : Plane) → is_YZ plane ≡ true → plane ≡ YZ
-YZ_from XY h = absurd (true≢false (sym h))
-YZ_from XZ h = absurd (true≢false (sym h))
-YZ_from YZ h = refl
+use Rattle.zx_calculus.proofs.Splitting.{plane_YZ}
 
 module _ (g : Graph) where
   pub complement_live : (u : ℕ) → allowed g (LocalComplement u) ≡ true → Live g u
@@ -41,13 +37,13 @@ module _ (g : Graph) where
   drop_lone_live u h = and-left _ _ (and-left _ _ h)
 
   pub drop_lone_YZ : (u : ℕ) → allowed g (DropLone u) ≡ true → plane_of g u ≡ YZ
-  drop_lone_YZ u h = YZ_from (plane_of g u) (and-right _ _ (and-left _ _ h))
+  drop_lone_YZ u h = plane_YZ (plane_of g u) (and-right _ _ (and-left _ _ h))
 
   pub fuse_into_live : (u : ℕ) → allowed g (FuseInto u) ≡ true → Live g u
   fuse_into_live u h = and-left _ _ (and-left _ _ h)
 
   pub fuse_into_YZ : (u : ℕ) → allowed g (FuseInto u) ≡ true → plane_of g u ≡ YZ
-  fuse_into_YZ u h = YZ_from (plane_of g u) (and-right _ _ (and-left _ _ h))
+  fuse_into_YZ u h = plane_YZ (plane_of g u) (and-right _ _ (and-left _ _ h))
 
   pub fuse_into_leg : (u : ℕ) → allowed g (FuseInto u) ≡ true → 0 < length (neighbours g u)
   fuse_into_leg u h = some (neighbours g u) (and-right _ _ h)
@@ -64,4 +60,4 @@ module _ (g : Graph) where
       let vertices : Bool = member u (ids g.vertices) && member v (ids g.vertices) in
       let planes : Bool = is_YZ (plane_of g u) && is_YZ (plane_of g v) in
       let kinds : (vertices && (not (eqb u v) && planes)) ≡ true = and-left _ _ h in
-      YZ_from (plane_of g v) (and-right (is_YZ (plane_of g u)) _ (and-right (not (eqb u v)) planes (and-right vertices _ kinds)))
+      plane_YZ (plane_of g v) (and-right (is_YZ (plane_of g u)) _ (and-right (not (eqb u v)) planes (and-right vertices _ kinds)))

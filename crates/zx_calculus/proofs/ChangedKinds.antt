@@ -1,8 +1,8 @@
 -- Planes and phases changed vertex by vertex.
-use Rattle.std.proofs.Common.{◌≡◌, refl, sym, ◌∙◌, ap, ap₂, ℕ, suc, ◌+◌, ◌<◌, add-one, Bool, true, false, cond, eqb, List, [], ◌∷◌, length, get_or, take, filter, true≢false}
+use Rattle.std.proofs.Common.{◌≡◌, refl, sym, ◌∙◌, ap, ap₂, subst, ℕ, suc, ◌+◌, ◌<◌, add-one, Bool, true, false, cond, eqb, List, [], ◌∷◌, length, get_or, take, filter, true≢false}
 use Rattle.zx_model.specs.Bits.{xor, member}
-use Rattle.zx_calculus.specs.Graph.{Kind, Vertex, Graph, ids, joined, neighbours, with_kinds, Distinct, Live}
-use Rattle.zx_calculus.specs.Edits.{at_vertex}
+use Rattle.zx_calculus.specs.Graph.{Kind, Vertex, Graph, ids, joined, neighbours, with_kinds, Distinct, Live, OrderedEdges}
+use Rattle.zx_calculus.specs.Edits.{KeepsEnds, at_vertex}
 use Rattle.zx_calculus.specs.Turns.{quarter_turned, half_turned}
 use Rattle.zx_calculus.proofs.Ids.{by_equal}
 use Rattle.zx_calculus.proofs.StepIdentities.{quarter_turned-quarter_turned}
@@ -15,6 +15,14 @@ pub with_kinds-with_kinds : (f g : ℕ → Kind → Kind) (vs : List Vertex) →
 with_kinds-with_kinds f g [] = refl
 with_kinds-with_kinds f g (v ∷ vs) =
     ap (λ ws. record { id = v.id; kind = f v.id (g v.id v.kind) } ∷ ws) (with_kinds-with_kinds f g vs)
+
+-- ends and the order of edges stay, whatever planes and phases become
+pub KeepsEnds-changed : (f : ℕ → Kind → Kind) (g h : Graph) → KeepsEnds g h → KeepsEnds g (with_changed f h)
+KeepsEnds-changed f g h c = record {
+  ordered = subst (λ vs. OrderedEdges vs h.edges) (sym (ids-with_kinds f h.vertices)) c.ordered;
+  inputs = c.inputs;
+  outputs = c.outputs;
+}
 
 -- two changes, one after the other
 pub changed_twice : (f g all : ℕ → Kind → Kind) (h : Graph) → ((p : ℕ) (k : Kind) → f p (g p k) ≡ all p k) →

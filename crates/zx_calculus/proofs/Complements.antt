@@ -1,7 +1,5 @@
 -- Local complementation: the form of the graph, the sum, the counts, the program, and identities.
-use Rattle.std.proofs.Common.{◌≡◌, ◌≢◌, ◌⊎◌, inl, inr, refl, sym, ◌∙◌, ap, subst, ℕ, ◌<◌, ◌≤◌, Bool, true, false, cond, ◌&&◌, ◌||◌, eqb, ltb, List, [], ◌∷◌, true≢false, ne_eqb, eq-eqb, ltb-true, ltb-false, lt-ltb, arith, ap₂, suc, length, ◌+◌, not, max, filter, eqb-true}
-use Rattle.std.specs.List.{list_all}
-use Rattle.std.proofs.lemmas.Bool.{eqb-false}
+use Rattle.std.proofs.Common.{◌≡◌, ◌≢◌, refl, sym, ◌∙◌, ap, subst, ℕ, ◌<◌, Bool, true, false, cond, ◌&&◌, eqb, List, ne_eqb, arith, ap₂, ◌+◌, not}
 use Rattle.zx_model.specs.Phase.{quarter_turn, opposite_phase, turn, is_odd}
 use Rattle.zx_model.specs.Bits.{xor, member, one_if}
 use Rattle.zx_model.specs.Sums.{sum_over}
@@ -20,10 +18,10 @@ use Rattle.zx_calculus.specs.Sum.{spider, sum, vertex_product}
 use Rattle.zx_calculus.specs.Counts.{odd_phases, even_interior, not_XY}
 use Rattle.zx_calculus.specs.Adjacency.{edges_of}
 use Rattle.zx_calculus.specs.Steps.{allowed, after_with, LocalComplement}
-use Rattle.zx_calculus.proofs.Kept.{sum_below, Below, cond_below, quarter_below, cond_XY, quarter_XY, KeepsXY, kept_kinds}
+use Rattle.zx_calculus.proofs.Kept.{sum_below, Below, cond_below, quarter_below, cond_XY, quarter_XY, KeepsXY, KeepsEnds-then, kept_kinds}
 use Rattle.zx_calculus.proofs.Ids.{apart_of_member, eqb-self, Symmetric, and-right, and-left, by_equal}
 use Rattle.zx_calculus.proofs.Vertices.{kind_of-with_kinds, ids-with_kinds, product_of-without, phase-kind_of, turned_product, list_all-without, without-with_kinds, turn_near, with_kinds_same}
-use Rattle.zx_calculus.proofs.Gathering.{gather, with_parts}
+use Rattle.zx_calculus.proofs.Gathering.{gather, with_parts, parts_are}
 use Rattle.zx_calculus.proofs.Turning.{turn_identity, complement_identity, quarter_factor_in, picked_spiders}
 use Rattle.zx_calculus.proofs.Forms.{at_ends, value, transform}
 use Rattle.zx_calculus.proofs.Parity.{quad-xor, masked_same}
@@ -56,7 +54,7 @@ local_complement_kept g u h w c =
     kept_kinds g (complement_kind u (joined g.edges u)) h w (complement_kind_below u (joined g.edges u))
     (λ p t. complement_XY u (joined g.edges u) p (apart_of_member p u (end_vertices g.inputs) t c.interior.no_input))
     (λ p t. complement_XY u (joined g.edges u) p (apart_of_member p u (end_vertices g.outputs) t c.interior.no_output))
-    c.vertices c.ordered c.inputs c.outputs
+    c.vertices c.frame
 
 module _ (g : Graph) (u : ℕ) (h : Graph) (wg : WellFormed g) (wh : WellFormed h) (c : IsLocalComplement g u h) where
   abbrev near : ℕ → Bool
@@ -75,7 +73,7 @@ module _ (g : Graph) (u : ℕ) (h : Graph) (wg : WellFormed g) (wh : WellFormed 
   both_near p q = near p && near q
 
   same_shape : h ≡ with_parts g changed h.edges
-  same_shape = λ j. record { vertices = c.vertices j; edges = h.edges; inputs = c.inputs j; outputs = c.outputs j }
+  same_shape = parts_are g h changed c.vertices c.frame
 
   kind_after : kind_of changed u ≡ complemented (kind_of g.vertices u)
   kind_after =
@@ -168,7 +166,7 @@ odd-complement g u h w c =
 
 pub even-complement : (g : Graph) (u : ℕ) (h : Graph) → WellFormed g → IsLocalComplement g u h → even_interior h ≡ even_interior g
 even-complement g u h w c =
-    even_kept g h c.inputs c.outputs ∙ ap (count (even_test g)) c.vertices
+    even_kept g h c.frame ∙ ap (count (even_test g)) c.vertices
     ∙ even_changed g (complement_kind u (joined g.edges u)) g.vertices (complement_keeps_odd u (joined g.edges u)) (distinct g w) (phases_below g w)
 
 complemented_plane : (plane : Plane) (k : ℕ)
@@ -210,25 +208,23 @@ module _ (g : Graph) (w : WellFormed g) where
         there = and-left _ _ h;
         interior = interior_from g u (and-right _ _ h);
         vertices = refl;
-        ordered = OrderedEdges-edges_of _ _ (rising_kinds g w (complement_kind u (joined g.edges u)));
         edges = λ p q n. ap (λ vs. joined (edges_of (λ p q. xor (joined g.edges p q) (joined g.edges u p && joined g.edges u q)) vs) p q) (ids-with_kinds (complement_kind u (joined g.edges u)) g.vertices)
             ∙ edges_full (λ p q. xor (joined g.edges p q) (joined g.edges u p && joined g.edges u q)) (ids g.vertices) p q (complement_symmetric g u) n
             (λ f. ap₂ (λ a b. xor a (b && joined g.edges u q)) (absent_left g w p q f) (absent_right g w u p f))
             (λ f. ap₂ (λ a b. xor a (joined g.edges u p && b)) (absent_right g w p q f) (absent_right g w u q f) ∙ and-false (joined g.edges u p));
-        inputs = refl;
-        outputs = refl;
+        frame = record { ordered = OrderedEdges-edges_of _ _ (rising_kinds g w (complement_kind u (joined g.edges u))); inputs = refl; outputs = refl };
       }
 
 -- a local complement keeps the neighbours of its vertex
 pub complement_near : (g : Graph) (u : ℕ) (h : Graph) → WellFormed g → IsLocalComplement g u h → (p : ℕ) → joined h.edges u p ≡ joined g.edges u p
 complement_near g u h w c p =
     by_equal p u
-    (λ t e. ap (joined h.edges u) e ∙ joined-self h.edges u c.ordered.lower_first ∙ sym (no_loop g u w) ∙ ap (joined g.edges u) (sym e))
+    (λ t e. ap (joined h.edges u) e ∙ joined-self h.edges u c.frame.ordered.lower_first ∙ sym (no_loop g u w) ∙ ap (joined g.edges u) (sym e))
     (λ f n. c.edges u p (λ e. n (sym e)) ∙ ap (λ b. xor (joined g.edges u p) (b && joined g.edges u p)) (no_loop g u w) ∙ xor-false (joined g.edges u p))
 
 pub complement_twice : (g : Graph) (u : ℕ) (h k : Graph) → WellFormed g → IsLocalComplement g u h → IsLocalComplement h u k → k.edges ≡ g.edges
 complement_twice g u h k w c d =
-    edges_ext k.edges g.edges d.ordered.lower_first w.edges.lower_first d.ordered.rising w.edges.rising
+    edges_ext k.edges g.edges d.frame.ordered.lower_first w.edges.lower_first d.frame.ordered.rising w.edges.rising
     (λ p q n. d.edges p q n
     ∙ ap₂ xor (c.edges p q n) (ap₂ (λ a b. a && b) (complement_near g u h w c p) (complement_near g u h w c q))
     ∙ toggled_back (joined g.edges p q) (joined g.edges u p && joined g.edges u q))
@@ -253,7 +249,8 @@ chosen-four false false k c d e f = refl
 
 pub complement_four : (g : Graph) (u : ℕ) (h i j k : Graph) → WellFormed g → IsLocalComplement g u h → IsLocalComplement h u i → IsLocalComplement i u j → IsLocalComplement j u k → k ≡ g
 unfolding chosen
-complement_four g u h i j k w a b c d = same_graph k g vertices edges (d.inputs ∙ c.inputs ∙ b.inputs ∙ a.inputs) (d.outputs ∙ c.outputs ∙ b.outputs ∙ a.outputs)
+complement_four g u h i j k w a b c d =
+    same_graph k g vertices edges (KeepsEnds-then g i k (KeepsEnds-then g h i a.frame b.frame) (KeepsEnds-then i j k c.frame d.frame))
   where
     wh : WellFormed h
     wh = local_complement_kept g u h w a

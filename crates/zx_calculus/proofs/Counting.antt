@@ -1,13 +1,14 @@
 -- What turns do to the counts of vertices.
-use Rattle.std.proofs.Common.{◌≡◌, ◌≢◌, inl, inr, refl, sym, ◌∙◌, ap, ap₂, subst, ℕ, ◌+◌, ◌<◌, Bool, true, false, cond, not, ◌&&◌, ◌||◌, eqb, List, ne_eqb, true≢false, arith}
+use Rattle.std.proofs.Common.{◌≡◌, ◌≢◌, refl, sym, ◌∙◌, ap, ap₂, ℕ, ◌+◌, ◌<◌, Bool, true, false, cond, not, ◌&&◌, ◌||◌, eqb, List, [], ◌∷◌, arith}
 use Rattle.zx_model.specs.Phase.{is_odd, turn}
 use Rattle.zx_model.specs.Bits.{member}
 use Rattle.zx_model.proofs.Odd.{is_odd-sum_quarter, is_odd-opposite, is_odd-sum_half}
 use Rattle.zx_calculus.specs.Graph.{is_XY, is_interior, Graph, end_vertices, Kind, YZ, Plane, XY, XZ, kind_of, ids, with_kinds, Vertex, WellFormed, plane_of, without}
 use Rattle.zx_calculus.specs.Counts.{even_interior}
+use Rattle.zx_calculus.specs.Edits.{KeepsEnds}
 use Rattle.zx_calculus.specs.Turns.{quarter_turned_in, half_turned_in}
 use Rattle.zx_calculus.proofs.CountLemmas.{Test, count, count-with_kinds, count_same}
-use Rattle.zx_calculus.proofs.Ids.{Distinct}
+use Rattle.zx_calculus.proofs.Ids.{Distinct, by_test}
 use Rattle.zx_calculus.proofs.Vertices.{phase-kind_of, list_all-without}
 use Rattle.zx_calculus.proofs.Results.{interior_true}
 use Rattle.zx_calculus.proofs.Splitting.{interior_of, off_XY}
@@ -22,9 +23,9 @@ abbrev pub even_test : Graph → Test
 even_test g p k = is_interior g p && not (is_odd k.phase)
 
 -- where the ends stay, so does what is interior
-pub even_kept : (g h : Graph) → h.inputs ≡ g.inputs → h.outputs ≡ g.outputs → even_interior h ≡ count (even_test g) h.vertices
-even_kept g h inputs outputs =
-    ap₂ (λ ins outs. count (λ p k. not (member p (end_vertices ins) || member p (end_vertices outs)) && not (is_odd k.phase)) h.vertices) inputs outputs
+pub even_kept : (g h : Graph) → KeepsEnds g h → even_interior h ≡ count (even_test g) h.vertices
+even_kept g h frame =
+    ap₂ (λ ins outs. count (λ p k. not (member p (end_vertices ins) || member p (end_vertices outs)) && not (is_odd k.phase)) h.vertices) frame.inputs frame.outputs
 
 abbrev pub Change : Type 0
 Change = ℕ → Kind → Kind
@@ -80,6 +81,12 @@ gone_interior g u w n = interior_true g u (interior_of g u w (off_XY (plane_of g
 
 pub YZ_apart : (plane : Plane) → plane ≡ YZ → plane ≢ XY
 YZ_apart plane e f = let h : XY ≡ YZ = sym f ∙ e in cc
+
+-- an id in the YZ plane is that of a vertex
+pub YZ_live : (vs : List Vertex) (u : ℕ) → (kind_of vs u).plane ≡ YZ → member u (ids vs) ≡ true
+YZ_live [] u e = absurd (YZ_apart XY e refl)
+YZ_live (v ∷ vs) u e =
+    by_test (eqb u v.id) (λ t. rw t refl) (λ f. let later : (kind_of vs u).plane ≡ YZ = rw f at e in rw f (YZ_live vs u later))
 
 pub phases_left : (g : Graph) (u : ℕ) → WellFormed g → (p : ℕ) → (kind_of (without u g.vertices) p).phase < turn
 phases_left g u w p = phase-kind_of p (without u g.vertices) (list_all-without _ u g.vertices w.phases_below_a_turn)

@@ -1,7 +1,6 @@
 -- The deletion of a vertex of half turns: the form of the graph, the sum, the counts, and the program.
-use Rattle.std.proofs.Common.{◌≡◌, ◌≢◌, ◌⊎◌, inl, inr, refl, sym, ◌∙◌, ap, subst, ℕ, ◌<◌, ◌≤◌, Bool, true, false, cond, ◌&&◌, ◌||◌, eqb, ltb, List, [], ◌∷◌, true≢false, ne_eqb, eq-eqb, ltb-true, ltb-false, lt-ltb, arith, ap₂, suc, length, ◌+◌, not, max, filter, eqb-true}
+use Rattle.std.proofs.Common.{◌≡◌, ◌≢◌, ◌⊎◌, inl, inr, refl, sym, ◌∙◌, ap, ℕ, Bool, true, false, cond, ◌&&◌, eqb, ltb, List, true≢false, arith, ap₂, ◌+◌, not}
 use Rattle.std.specs.List.{list_all}
-use Rattle.std.proofs.lemmas.Bool.{eqb-false}
 use Rattle.zx_model.specs.Phase.{half_turn, turn, quarter_turn, IsHalfTurns, is_odd}
 use Rattle.zx_model.specs.Constants.{two, i}
 use Rattle.zx_model.specs.Number.{Number, sign, neg, add, one, mul, zero}
@@ -13,7 +12,7 @@ use Rattle.zx_model.proofs.Phases.{half_turns_from, half_turns_to}
 use Rattle.zx_calculus.specs.Deletions.{delete_kind, IsDeletable, IsDelete, may_delete, delete_half_in, delete_right}
 use Rattle.zx_calculus.specs.Turns.{half_turned, in_plane}
 use Rattle.zx_calculus.specs.Graph.{phase_of, WellFormed, joined, Graph, plane_of, YZ, Plane, XY, XZ, ids, with_kinds, Vertex, without, kind_of, Kind, is_XY}
-use Rattle.zx_calculus.specs.Sum.{factor, vertex_product, sum}
+use Rattle.zx_calculus.specs.Sum.{vertex_product, sum}
 use Rattle.zx_calculus.specs.Scalars.{half_cost, product_of}
 use Rattle.zx_calculus.specs.Parity.{masked}
 use Rattle.zx_calculus.specs.Counts.{not_XY, odd_phases, even_interior}
@@ -26,7 +25,6 @@ use Rattle.zx_calculus.proofs.Vertices.{turn_near, with_kinds-unchanged, turned_
 use Rattle.zx_calculus.proofs.Turning.{picked_signs, half_factor_in}
 use Rattle.zx_calculus.proofs.Counting.{half_odd, cond_odd, KeepsOdd, even_kept, gone_interior, even_test, left_one, cond_plane, odd_test, even_changed, phases_left, odd_changed, plane_test, half_plane}
 use Rattle.zx_calculus.proofs.CountLemmas.{count-with_kinds, count, count_front, count_same}
-use Rattle.zx_calculus.proofs.Booleans.{or-true}
 use Rattle.zx_calculus.proofs.Ids.{not-true, and-right, and-left}
 use Rattle.zx_calculus.proofs.Programs.{removal_edges, rising_without}
 use Rattle.zx_calculus.proofs.EdgeLists.{OrderedEdges-edges_of}
@@ -38,7 +36,7 @@ pub delete_kept : (g : Graph) (u : ℕ) (h : Graph) → WellFormed g → IsDelet
 delete_kept g u h w c =
     kept_removal g u (delete_kind (phase_of g u) (joined g.edges u)) h w (interior_of g u w (off_XY (plane_of g u) c.deletable.plane)) (delete_kind_below (phase_of g u) (joined g.edges u))
     (λ p k t. cond_XY (eqb (phase_of g u) half_turn && joined g.edges u p) (half_turned k) k (half_XY k.plane k.phase t) t)
-    c.vertices c.ordered c.inputs c.outputs
+    c.vertices c.frame
 
 -- the transform of the factor of a vertex that is deleted
 deleted_zero : (plane : Plane) (m : Bool) → plane ≢ XY → transform (in_plane plane 0) m ≡ two
@@ -68,7 +66,7 @@ deleted_half XZ m n = rw root_power-half_turn (flat i m)
     flat j false = simp expand
 
 pub is_removal : (g : Graph) (u : ℕ) (h : Graph) → WellFormed g → (c : IsDelete g u h) → Removal g u (delete_kind (phase_of g u) (joined g.edges u)) h
-is_removal g u h w c = record { there = c.deletable.there; interior = interior_of g u w (off_XY (plane_of g u) c.deletable.plane); vertices = c.vertices; edges = c.edges; inputs = c.inputs; outputs = c.outputs }
+is_removal g u h w c = record { there = c.deletable.there; interior = interior_of g u w (off_XY (plane_of g u) c.deletable.plane); vertices = c.vertices; edges = c.edges; frame = c.frame }
 
 combine : (d s p c p' : Number) → mul c p' ≡ mul s p → mul (mul d s) p ≡ mul (mul d c) p'
 combine d s p c p' e = one_way d s p ∙ ap (mul d) (sym e) ∙ back d c p'
@@ -128,7 +126,7 @@ module _ (g : Graph) (u : ℕ) (h : Graph) (w : WellFormed g) (c : IsDelete g u 
 
   even_left : even_interior h ≡ count (even_test g) (without u g.vertices)
   even_left =
-      even_kept g h c.inputs c.outputs ∙ ap (count (even_test g)) c.vertices
+      even_kept g h c.frame ∙ ap (count (even_test g)) c.vertices
       ∙ even_changed g (delete_kind (phase_of g u) (joined g.edges u)) (without u g.vertices) (delete_keeps_odd (phase_of g u) (joined g.edges u))
       (distinct_without g u w) (phases_left g u w)
 
@@ -165,8 +163,6 @@ module _ (g : Graph) (w : WellFormed g) where
       record {
         deletable = deletable_from g u h;
         vertices = refl;
-        ordered = OrderedEdges-edges_of _ _ (rising_without g w (delete_kind (phase_of g u) (joined g.edges u)) u);
         edges = removal_edges g w u _ (ids-with_kinds (delete_kind (phase_of g u) (joined g.edges u)) (without u g.vertices) ∙ ids-without u g.vertices) (rising_without g w (delete_kind (phase_of g u) (joined g.edges u)) u);
-        inputs = refl;
-        outputs = refl;
+        frame = record { ordered = OrderedEdges-edges_of _ _ (rising_without g w (delete_kind (phase_of g u) (joined g.edges u)) u); inputs = refl; outputs = refl };
       }

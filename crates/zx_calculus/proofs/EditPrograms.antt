@@ -7,7 +7,7 @@ use Rattle.zx_calculus.specs.Adjacency.{adjacent_graph}
 use Rattle.zx_calculus.proofs.Ids.{by_equal, Symmetric, apart_of_member}
 use Rattle.zx_calculus.proofs.Edges.{joined_comm}
 use Rattle.zx_calculus.proofs.Forms.{ids-without}
-use Rattle.zx_calculus.proofs.Splitting.{joined-self, joined-absent, member-without, no_loop}
+use Rattle.zx_calculus.proofs.Splitting.{joined-self, joined-absent, no_loop}
 use Rattle.zx_calculus.proofs.Kept.{in_order-removed}
 use Rattle.zx_calculus.proofs.EdgeLists.{OrderedEdges-edges_of, edges_ext}
 use Rattle.zx_calculus.proofs.Splits.{is_pair_comm, is_pair-self}
@@ -28,7 +28,7 @@ is_pair-absent vs u v p q u_there v_there absent =
 
 pub toggled_is_toggle : (g : Graph) (u v : ℕ) → WellFormed g → Live g u → Live g v → u ≢ v → IsToggle g u v (toggled g u v)
 toggled_is_toggle g u v w u_there v_there apart =
-    record { vertices = refl; ordered = OrderedEdges-edges_of _ _ w.vertices_rising; edges = law; inputs = refl; outputs = refl }
+    record { vertices = refl; edges = law; frame = record { ordered = OrderedEdges-edges_of _ _ w.vertices_rising; inputs = refl; outputs = refl } }
   where
     symmetric : Symmetric (toggled_adjacent g u v)
     symmetric p q = ap₂ xor (joined_comm g.edges p q) (is_pair_comm u v p q)
@@ -51,10 +51,8 @@ pub removal_is_removal : (g : Graph) (u : ℕ) → WellFormed g → IsRemoval g 
 removal_is_removal g u w =
     record {
       vertices = refl;
-      ordered = OrderedEdges-edges_of _ _ rising;
       edges = removal_edges g w u (ids (without u g.vertices)) (ids-without u g.vertices) rising;
-      inputs = refl;
-      outputs = refl;
+      frame = record { ordered = OrderedEdges-edges_of _ _ rising; inputs = refl; outputs = refl };
     }
   where
     rising : in_order ltb (ids (without u g.vertices)) ≡ true
@@ -63,5 +61,5 @@ removal_is_removal g u w =
 -- there is one such graph
 pub toggle_unique : (g : Graph) (u v : ℕ) (h k : Graph) → IsToggle g u v h → IsToggle g u v k → h ≡ k
 toggle_unique g u v h k c d =
-    let edges = edges_ext h.edges k.edges c.ordered.lower_first d.ordered.lower_first c.ordered.rising d.ordered.rising (λ p q n. c.edges p q ∙ sym (d.edges p q)) in
-    λ j. record { vertices = (c.vertices ∙ sym d.vertices) j; edges = edges j; inputs = (c.inputs ∙ sym d.inputs) j; outputs = (c.outputs ∙ sym d.outputs) j }
+    let edges = edges_ext h.edges k.edges c.frame.ordered.lower_first d.frame.ordered.lower_first c.frame.ordered.rising d.frame.ordered.rising (λ p q n. c.edges p q ∙ sym (d.edges p q)) in
+    λ j. record { vertices = (c.vertices ∙ sym d.vertices) j; edges = edges j; inputs = (c.frame.inputs ∙ sym d.frame.inputs) j; outputs = (c.frame.outputs ∙ sym d.frame.outputs) j }

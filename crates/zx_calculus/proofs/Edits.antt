@@ -19,14 +19,14 @@ toggle_kept g u v h w c =
     record {
       vertices_rising = ap (λ vs. in_order ltb (ids vs)) c.vertices ∙ w.vertices_rising;
       phases_below_a_turn = ap all_below_a_turn c.vertices ∙ w.phases_below_a_turn;
-      edges = c.ordered;
-      inputs = rw (c.vertices, c.inputs) w.inputs;
-      outputs = rw (c.vertices, c.outputs) w.outputs;
+      edges = c.frame.ordered;
+      inputs = rw (c.vertices, c.frame.inputs) w.inputs;
+      outputs = rw (c.vertices, c.frame.outputs) w.outputs;
     }
 
 pub removal_kept : (g : Graph) (u : ℕ) (h : Graph) → WellFormed g → Interior g u → IsRemoval g u h → WellFormed h
 removal_kept g u h w interior c =
-    kept_removal g u (λ p k. k) h w interior (λ p k t. t) (λ p k t. t) (c.vertices ∙ sym (with_kinds-identity _)) c.ordered c.inputs c.outputs
+    kept_removal g u (λ p k. k) h w interior (λ p k t. t) (λ p k t. t) (c.vertices ∙ sym (with_kinds-identity _)) c.frame
 
 pub list_all-weaker : {A : Type 0} (p q : A → Bool) (xs : List A) → ((x : A) → p x ≡ true → q x ≡ true) → list_all p xs ≡ true → list_all q xs ≡ true
 list_all-weaker p q [] h all = refl
@@ -101,7 +101,7 @@ kind_kept g v kind w below at_boundary =
     (λ p t k xy. by_equal p v
     (λ s e. rw s (stays (ap (λ b. not (member v (end_vertices g.inputs) || b)) (ap (λ q. member q (end_vertices g.outputs)) (sym e) ∙ t) ∙ ap not (or-true (member v (end_vertices g.inputs))))))
     (λ f n. rw f xy))
-    refl (subst (λ (vs : List ℕ). OrderedEdges vs g.edges) (sym (ids-with_kinds (at_vertex v (λ _. kind)) g.vertices)) w.edges) refl refl
+    refl (record { ordered = subst (λ (vs : List ℕ). OrderedEdges vs g.edges) (sym (ids-with_kinds (at_vertex v (λ _. kind)) g.vertices)) w.edges; inputs = refl; outputs = refl })
   where
     stays : is_interior g v ≡ false → is_XY kind.plane ≡ true
     stays h = ap is_XY (at_boundary h)

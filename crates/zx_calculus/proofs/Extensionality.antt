@@ -1,5 +1,5 @@
 -- Rising lists with the same members are equal, and so are graphs that agree in members, kinds, adjacency and ends.
-use Rattle.std.proofs.Common.{◌≡◌, ◌≢◌, refl, sym, ◌∙◌, ap, ap₂, ℕ, Bool, true, false, ◌&&◌, ◌||◌, ltb, List, [], ◌∷◌, filter, true≢false, eq-eqb, ne_eqb, ltb-true, ltb-false, arith}
+use Rattle.std.proofs.Common.{◌≡◌, refl, sym, ◌∙◌, ap, ap₂, ℕ, Bool, true, false, ◌&&◌, ◌||◌, ltb, List, [], ◌∷◌, filter, true≢false, eq-eqb, ne_eqb, ltb-true, ltb-false, arith}
 use Rattle.std.specs.List.{list_all}
 use Rattle.zx_model.specs.Bits.{member}
 use Rattle.zx_calculus.specs.Graph.{Vertex, Graph, ids, kind_of, joined, in_order, neighbours, WellFormed}
@@ -7,7 +7,6 @@ use Rattle.zx_calculus.proofs.Ids.{by_test, by_equal, and-left, and-right, eqb-s
 use Rattle.zx_calculus.proofs.Edges.{joined_comm}
 use Rattle.zx_calculus.proofs.Splitting.{joined-absent}
 use Rattle.zx_calculus.proofs.Kept.{both, below_all}
-use Rattle.zx_calculus.proofs.EdgeLists.{edges_ext}
 
 -- of two rising lists with the same members, none begins below the other
 not_before : (x y : ℕ) (xs ys : List ℕ) → in_order ltb (y ∷ ys) ≡ true → member x (x ∷ xs) ≡ member x (y ∷ ys) → ltb x y ≡ false

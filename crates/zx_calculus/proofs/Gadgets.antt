@@ -1,5 +1,5 @@
 -- Gadgets that are dropped or fused: the form of the graph, the sum, the counts, and the program.
-use Rattle.std.proofs.Common.{◌≡◌, ◌≢◌, ◌⊎◌, inl, inr, refl, sym, ◌∙◌, ap, subst, ℕ, ◌<◌, ◌≤◌, Bool, true, false, cond, ◌&&◌, ◌||◌, eqb, ltb, List, [], ◌∷◌, true≢false, ne_eqb, eq-eqb, ltb-true, ltb-false, lt-ltb, arith, ap₂, ◌+◌, not, suc, max, filter, eqb-true, length}
+use Rattle.std.proofs.Common.{◌≡◌, ◌≢◌, refl, sym, ◌∙◌, ap, subst, ℕ, Bool, true, false, cond, ◌&&◌, eqb, List, [], ◌∷◌, true≢false, ne_eqb, eq-eqb, arith, ap₂, ◌+◌, not, filter}
 use Rattle.std.specs.List.{list_all}
 use Rattle.std.proofs.lemmas.Bool.{eqb-false}
 use Rattle.zx_model.specs.Constants.{two}
@@ -12,6 +12,7 @@ use Rattle.zx_model.proofs.Powers.{root_power-sum_of_phases}
 use Rattle.zx_model.proofs.SumLemmas.{sum_over_same, sum_over_scaled}
 use Rattle.zx_calculus.specs.Gadgets.{fuse_kind, IsDropLone, IsFuseInto, IsFuseTwin, is_empty, is_one_XY, first_of_list}
 use Rattle.zx_calculus.specs.Graph.{WellFormed, without, is_XY, Graph, phase_of, YZ, Kind, kind_of, ids, Vertex, joined, with_kinds, Plane, XY, plane_of, is_interior, Live, neighbours, is_YZ}
+use Rattle.zx_calculus.specs.Edits.{KeepsEnds}
 use Rattle.zx_calculus.specs.Turns.{with_phase_added, in_plane}
 use Rattle.zx_calculus.specs.Sum.{spider, vertex_product, sum, factor_in, factor}
 use Rattle.zx_calculus.specs.Parity.{quad, masked}
@@ -38,18 +39,18 @@ fuse_kind_below v j p k h = cond_below (eqb p v) _ _ (sum_below k.phase j) h
 
 pub drop_lone_kept : (g : Graph) (u : ℕ) (h : Graph) → WellFormed g → IsDropLone g u h → WellFormed h
 drop_lone_kept g u h w c =
-    kept_removal g u (λ p k. k) h w (interior_of g u w (ap is_XY c.plane)) (λ p k t. t) (λ p k t. t) (c.vertices ∙ sym (with_kinds-identity (without u g.vertices))) c.ordered c.inputs c.outputs
+    kept_removal g u (λ p k. k) h w (interior_of g u w (ap is_XY c.plane)) (λ p k t. t) (λ p k t. t) (c.vertices ∙ sym (with_kinds-identity (without u g.vertices))) c.frame
 
 pub fuse_XY : (v j : ℕ) (p : ℕ) → KeepsXY (fuse_kind v j) p
 fuse_XY v j p k t = cond_XY (eqb p v) (with_phase_added j k) k t t
 
 pub fuse_into_kept : (g : Graph) (u : ℕ) (h : Graph) → WellFormed g → IsFuseInto g u h → WellFormed h
 fuse_into_kept g u h w c =
-    kept_removal g u (fuse_kind c.into (phase_of g u)) h w (interior_of g u w (ap is_XY c.plane)) (fuse_kind_below c.into (phase_of g u)) (fuse_XY c.into (phase_of g u)) c.vertices c.ordered c.inputs c.outputs
+    kept_removal g u (fuse_kind c.into (phase_of g u)) h w (interior_of g u w (ap is_XY c.plane)) (fuse_kind_below c.into (phase_of g u)) (fuse_XY c.into (phase_of g u)) c.vertices c.frame
 
 pub fuse_twin_kept : (g : Graph) (u v : ℕ) (h : Graph) → WellFormed g → IsFuseTwin g u v h → WellFormed h
 fuse_twin_kept g u v h w c =
-    kept_removal g v (fuse_kind u (phase_of g v)) h w (interior_of g v w (ap is_XY c.plane_too)) (fuse_kind_below u (phase_of g v)) (fuse_XY u (phase_of g v)) c.vertices c.ordered c.inputs c.outputs
+    kept_removal g v (fuse_kind u (phase_of g v)) h w (interior_of g v w (ap is_XY c.plane_too)) (fuse_kind_below u (phase_of g v)) (fuse_XY u (phase_of g v)) c.vertices c.frame
 
 pub gadget_at : (kind : Kind) (m : Bool) → kind.plane ≡ YZ → transform kind m ≡ mul two (spider kind.phase m)
 gadget_at kind m e = ap (λ p. transform (in_plane p kind.phase) m) e ∙ gadget kind.phase m
@@ -57,7 +58,7 @@ gadget_at kind m e = ap (λ p. transform (in_plane p kind.phase) m) e ∙ gadget
 pub drop_lone_sum : (g : Graph) (u : ℕ) (h : Graph) (x y : List Bool) → WellFormed g → WellFormed h → IsDropLone g u h → mul one (sum g x y) ≡ mul two (sum h x y)
 drop_lone_sum g u h x y wg wh c =
     removal_sum g u (λ p k. k) h wg wh
-    (record { there = c.there; interior = interior_of g u wg (ap is_XY c.plane); vertices = c.vertices ∙ sym (unchanged g.vertices); edges = c.edges; inputs = c.inputs; outputs = c.outputs })
+    (record { there = c.there; interior = interior_of g u wg (ap is_XY c.plane); vertices = c.vertices ∙ sym (unchanged g.vertices); edges = c.edges; frame = c.frame })
     two x y
     (λ label. ap₂ (λ t vs. mul t (vertex_product vs label))
     (ap (transform (kind_of g.vertices u)) (masked_same (joined g.edges u) (λ p. false) (ids (without u g.vertices)) label (λ p t. c.lone p) ∙ masked-false (ids (without u g.vertices)) label)
@@ -91,7 +92,7 @@ fused_product v k ws label d there plane =
 pub fuse_into_sum : (g : Graph) (u : ℕ) (h : Graph) (x y : List Bool) → WellFormed g → WellFormed h → IsFuseInto g u h → mul one (sum g x y) ≡ mul two (sum h x y)
 fuse_into_sum g u h x y wg wh c =
     removal_sum g u (fuse_kind c.into (phase_of g u)) h wg wh
-    (record { there = c.there; interior = interior_of g u wg (ap is_XY c.plane); vertices = c.vertices; edges = c.edges; inputs = c.inputs; outputs = c.outputs })
+    (record { there = c.there; interior = interior_of g u wg (ap is_XY c.plane); vertices = c.vertices; edges = c.edges; frame = c.frame })
     two x y
     (λ label. ap (λ t. mul t (vertex_product (without u g.vertices) label))
     (ap (transform (kind_of g.vertices u))
@@ -179,7 +180,7 @@ module _ (g : Graph) (u v : ℕ) (h : Graph) (wg : WellFormed g) (wh : WellForme
       (with_kinds-unchanged (fuse_kind u gained) others (λ p k t. ap (λ b. cond b (with_phase_added gained k) k) (ne_eqb p u (apart_of_member p u (ids others) t (member-without u ws)))))
 
   is_removal : Removal g v (fuse_kind u gained) h
-  is_removal = record { there = c.there_too; interior = interior_of g v wg (ap is_XY c.plane_too); vertices = c.vertices; edges = c.edges; inputs = c.inputs; outputs = c.outputs }
+  is_removal = record { there = c.there_too; interior = interior_of g v wg (ap is_XY c.plane_too); vertices = c.vertices; edges = c.edges; frame = c.frame }
 
   sum_after : sum h x y ≡ sum_over (ids others) (λ label. mul (transform (with_phase_added gained kind) (parity label)) (value a rest others label))
   sum_after =
@@ -205,7 +206,7 @@ module _ (g : Graph) (u : ℕ) (h : Graph) (w : WellFormed g) (c : IsDropLone g 
 
   pub even-drop : even_interior h + one_if (is_even_at g u) ≡ even_interior g
   even-drop =
-      left_one _ _ _ _ _ (even_kept g h c.inputs c.outputs) (ap (count (even_test g)) c.vertices)
+      left_one _ _ _ _ _ (even_kept g h c.frame) (ap (count (even_test g)) c.vertices)
       (count_front (even_test g) u g.vertices (distinct g w) c.there
       ∙ ap (λ a. one_if (a && is_even_at g u) + count (even_test g) (without u g.vertices)) (gone_interior g u w (YZ_apart (plane_of g u) c.plane)))
 
@@ -239,10 +240,10 @@ module _ (g h : Graph) (u v : ℕ) (w : WellFormed g) (there : Live g u) (gains 
       ap (λ vs. count odd_test vs + one_if (is_odd_at g u) + one_if (is_odd_at g v)) vertices
       ∙ fused_count odd_test (phase_of g u) u v g.vertices (distinct g w) there gains differ
 
-  even_fused : h.inputs ≡ g.inputs → h.outputs ≡ g.outputs
+  even_fused : KeepsEnds g h
       → even_interior h + one_if (is_even_at g u) + one_if (is_even_interior g v) ≡ even_interior g + one_if (is_interior g v && is_even_fused g u v)
-  even_fused inputs outputs =
-      ap₂ (λ n b. n + one_if (b && is_even_at g u) + one_if (is_interior g v && is_even_at g v)) (even_kept g h inputs outputs) (sym (gone_interior g u w (YZ_apart (plane_of g u) plane)))
+  even_fused frame =
+      ap₂ (λ n b. n + one_if (b && is_even_at g u) + one_if (is_interior g v && is_even_at g v)) (even_kept g h frame) (sym (gone_interior g u w (YZ_apart (plane_of g u) plane)))
       ∙ ap (λ vs. count (even_test g) vs + one_if (even_test g u (kind_of g.vertices u)) + one_if (even_test g v (kind_of g.vertices v))) vertices
       ∙ fused_count (even_test g) (phase_of g u) u v g.vertices (distinct g w) there gains differ
 
@@ -264,7 +265,7 @@ module _ (g : Graph) (u : ℕ) (h : Graph) (w : WellFormed g) (c : IsFuseInto g 
 
   pub even-fuse_into : even_interior h + one_if (is_even_at g u) + one_if (is_even_interior g c.into)
       ≡ even_interior g + one_if (is_interior g c.into && is_even_fused g u c.into)
-  even-fuse_into = even_fused g h u c.into w c.there c.into_there into_differs c.plane c.vertices c.inputs c.outputs
+  even-fuse_into = even_fused g h u c.into w c.there c.into_there into_differs c.plane c.vertices c.frame
 
   pub planes-fuse_into : not_XY h + 1 ≡ not_XY g
   planes-fuse_into = planes_fused g h u c.into w c.there c.into_there into_differs c.plane c.vertices
@@ -277,7 +278,7 @@ module _ (g : Graph) (u v : ℕ) (h : Graph) (w : WellFormed g) (c : IsFuseTwin 
   even-fuse_twin =
       subst (λ b. even_interior h + one_if (is_even_at g v) + one_if (b && is_even_at g u) ≡ even_interior g + one_if (b && is_even_fused g v u))
       (gone_interior g u w (YZ_apart (plane_of g u) c.plane))
-      (even_fused g h v u w c.there_too c.there c.different c.plane_too c.vertices c.inputs c.outputs)
+      (even_fused g h v u w c.there_too c.there c.different c.plane_too c.vertices c.frame)
 
   pub planes-fuse_twin : not_XY h + 1 ≡ not_XY g
   planes-fuse_twin = planes_fused g h v u w c.there_too c.there c.different c.plane_too c.vertices
@@ -319,10 +320,8 @@ module _ (g : Graph) (w : WellFormed g) where
         plane = plane_YZ (plane_of g u) (and-right _ _ (and-left _ _ h));
         lone = λ p. neighbour g w u p ∙ ap (member p) (empty_from (neighbours g u) (and-right _ _ h));
         vertices = refl;
-        ordered = OrderedEdges-edges_of _ _ (rising_plain g w u);
         edges = removal_edges g w u _ (ids-without u g.vertices) (rising_plain g w u);
-        inputs = refl;
-        outputs = refl;
+        frame = record { ordered = OrderedEdges-edges_of _ _ (rising_plain g w u); inputs = refl; outputs = refl };
       }
 
   one_from : (xs : List ℕ) → is_one_XY g xs ≡ true → (xs ≡ first_of_list xs ∷ []) × (is_XY (plane_of g (first_of_list xs)) ≡ true)
@@ -344,10 +343,8 @@ module _ (g : Graph) (w : WellFormed g) where
         into_plane = plane_XY (plane_of g (first_of_list (neighbours g u))) (one_from (neighbours g u) (and-right _ _ h)).1;
         only_neighbour = only u (and-right _ _ h);
         vertices = refl;
-        ordered = OrderedEdges-edges_of _ _ (rising_without g w (fuse_kind (first_of_list (neighbours g u)) (phase_of g u)) u);
         edges = removal_edges g w u _ (ids-with_kinds (fuse_kind (first_of_list (neighbours g u)) (phase_of g u)) (without u g.vertices) ∙ ids-without u g.vertices) (rising_without g w (fuse_kind (first_of_list (neighbours g u)) (phase_of g u)) u);
-        inputs = refl;
-        outputs = refl;
+        frame = record { ordered = OrderedEdges-edges_of _ _ (rising_without g w (fuse_kind (first_of_list (neighbours g u)) (phase_of g u)) u); inputs = refl; outputs = refl };
       }
 
   equal_at : (p q : ℕ → Bool) (xs : List ℕ) (x : ℕ) → list_all (λ x. not (xor (p x) (q x))) xs ≡ true → member x xs ≡ true → p x ≡ q x
@@ -373,10 +370,8 @@ module _ (g : Graph) (w : WellFormed g) where
             (equal_at (joined g.edges u) (joined g.edges v) (ids g.vertices) p (and-right _ _ (and-right _ _ h)))
             (λ f. absent_right g w u p f ∙ sym (absent_right g w v p f));
         vertices = refl;
-        ordered = OrderedEdges-edges_of _ _ (rising_without g w (fuse_kind u (phase_of g v)) v);
         edges = removal_edges g w v _ (ids-with_kinds (fuse_kind u (phase_of g v)) (without v g.vertices) ∙ ids-without v g.vertices) (rising_without g w (fuse_kind u (phase_of g v)) v);
-        inputs = refl;
-        outputs = refl;
+        frame = record { ordered = OrderedEdges-edges_of _ _ (rising_without g w (fuse_kind u (phase_of g v)) v); inputs = refl; outputs = refl };
       }
 
 pub fuse_twin_allowed_comm : (g : Graph) (u v : ℕ) → allowed g (FuseTwin u v) ≡ allowed g (FuseTwin v u)

@@ -1,12 +1,16 @@
 -- The parts of a summand, in another order.
-use Rattle.std.proofs.Common.{◌≡◌, refl, sym, ◌∙◌, ap, ap₂, subst, ℕ, Bool, true, false, cond, ◌&&◌, List, ne_eqb}
+use Rattle.std.proofs.Common.{◌≡◌, sym, ◌∙◌, ap, List}
 use Rattle.zx_model.specs.Number.{Number, mul}
 use Rattle.zx_model.proofs.Ring.{sorted}
 use Rattle.zx_calculus.specs.Graph.{Edge, Graph, Vertex}
+use Rattle.zx_calculus.specs.Edits.{KeepsEnds}
 
 -- the graph with other vertices and edges
 abbrev pub with_parts : Graph → List Vertex → List Edge → Graph
 with_parts g vs es = record { vertices = vs; edges = es; inputs = g.inputs; outputs = g.outputs }
+
+pub parts_are : (g h : Graph) (vs : List Vertex) → h.vertices ≡ vs → KeepsEnds g h → h ≡ with_parts g vs h.edges
+parts_are g h vs vertices frame = λ j. record { vertices = vertices j; edges = h.edges; inputs = frame.inputs j; outputs = frame.outputs j }
 
 pub gather : (l r c t t' p p' k s q n e : Number) → mul l t ≡ mul r (mul s t') → mul c p' ≡ mul k p → mul k n ≡ s →
     mul l (mul t (mul p (mul q e))) ≡ mul (mul r c) (mul t' (mul p' (mul (mul q n) e)))

@@ -1,9 +1,10 @@
 -- What keeps the form of a graph.
-use Rattle.std.proofs.Common.{◌≡◌, ◌≢◌, ◌⊎◌, inl, inr, refl, sym, ◌∙◌, ap, subst, ℕ, ◌<◌, ◌≤◌, Bool, true, false, cond, ◌&&◌, ◌||◌, eqb, ltb, List, [], ◌∷◌, true≢false, ne_eqb, eq-eqb, ltb-true, ltb-false, lt-ltb, arith}
+use Rattle.std.proofs.Common.{◌≡◌, ◌≢◌, refl, sym, ◌∙◌, ap, ℕ, ◌<◌, ◌≤◌, Bool, true, false, cond, ◌&&◌, ◌||◌, eqb, ltb, List, [], ◌∷◌, true≢false, ne_eqb, ltb-true, ltb-false, lt-ltb, arith}
 use Rattle.std.specs.List.{list_all}
 use Rattle.zx_model.specs.Bits.{member}
 use Rattle.zx_model.specs.Phase.{turn, sum_of_phases, opposite_phase, quarter_turn, half_turn}
-use Rattle.zx_calculus.specs.Graph.{ids, in_order, Vertex, insert_vertex, Kind, with_kinds, YZ, Plane, XY, XZ, is_XY, kind_of, OrderedEnds, end_vertices, End, without, WellFormed, OrderedEdges, Graph, Interior, different}
+use Rattle.zx_calculus.specs.Graph.{ids, in_order, Vertex, insert_vertex, Kind, with_kinds, YZ, Plane, XY, XZ, is_XY, kind_of, OrderedEnds, end_vertices, End, without, WellFormed, Graph, Interior, different}
+use Rattle.zx_calculus.specs.Edits.{KeepsEnds}
 use Rattle.zx_calculus.specs.Turns.{quarter_turned_in, half_turned_in}
 use Rattle.zx_calculus.proofs.Ids.{member-there, member-here, by_equal, removed, and-right, and-left, by_test, or-right, or-left, apart_of_member, member-removed_other}
 use Rattle.zx_calculus.proofs.Vertices.{all_below_a_turn, kind_of-with_kinds, ids-with_kinds, kind_of-without, list_all-without, member-insert}
@@ -131,28 +132,32 @@ ends_without u vs ends o absent =
     (λ p t there plane. let apart : p ≢ u = apart_of_member p u (end_vertices ends) t absent in
     (ap (member p) (ids-without u vs) ∙ member-removed_other p u (ids vs) apart ∙ there, ap (λ k. is_XY k.plane) (kind_of-without p u vs apart) ∙ plane))
 
+-- two steps that keep the ends, one after the other
+pub KeepsEnds-then : (g h k : Graph) → KeepsEnds g h → KeepsEnds h k → KeepsEnds g k
+KeepsEnds-then g h k c d = record { ordered = d.ordered; inputs = d.inputs ∙ c.inputs; outputs = d.outputs ∙ c.outputs }
+
 -- a graph with the same ends, its vertices changed
 pub kept_kinds : (g : Graph) (f : ℕ → Kind → Kind) (h : Graph) → WellFormed g → Below f → ((p : ℕ) → member p (end_vertices g.inputs) ≡ true → KeepsXY f p) → ((p : ℕ) → member p (end_vertices g.outputs) ≡ true → KeepsXY f p) →
-    h.vertices ≡ with_kinds f g.vertices → OrderedEdges (ids h.vertices) h.edges → h.inputs ≡ g.inputs → h.outputs ≡ g.outputs → WellFormed h
-kept_kinds g f h w below ins outs vertices ordered inputs outputs =
+    h.vertices ≡ with_kinds f g.vertices → KeepsEnds g h → WellFormed h
+kept_kinds g f h w below ins outs vertices frame =
     record {
       vertices_rising = ap (λ vs. in_order ltb (ids vs)) vertices ∙ ap (in_order ltb) (ids-with_kinds f g.vertices) ∙ w.vertices_rising;
       phases_below_a_turn = ap all_below_a_turn vertices ∙ with_kinds-below f g.vertices below w.phases_below_a_turn;
-      edges = ordered;
-      inputs = rw (vertices, inputs) (ends_with_kinds f g.vertices g.inputs w.inputs ins);
-      outputs = rw (vertices, outputs) (ends_with_kinds f g.vertices g.outputs w.outputs outs);
+      edges = frame.ordered;
+      inputs = rw (vertices, frame.inputs) (ends_with_kinds f g.vertices g.inputs w.inputs ins);
+      outputs = rw (vertices, frame.outputs) (ends_with_kinds f g.vertices g.outputs w.outputs outs);
     }
 
 -- a graph with the same ends, a vertex without ends gone and the others changed
 pub kept_removal : (g : Graph) (u : ℕ) (f : ℕ → Kind → Kind) (h : Graph) → WellFormed g → Interior g u → Below f → ((p : ℕ) → KeepsXY f p) →
-    h.vertices ≡ with_kinds f (without u g.vertices) → OrderedEdges (ids h.vertices) h.edges → h.inputs ≡ g.inputs → h.outputs ≡ g.outputs → WellFormed h
-kept_removal g u f h w interior below keeps vertices ordered inputs outputs =
+    h.vertices ≡ with_kinds f (without u g.vertices) → KeepsEnds g h → WellFormed h
+kept_removal g u f h w interior below keeps vertices frame =
     record {
       vertices_rising = ap (λ vs. in_order ltb (ids vs)) vertices ∙ ap (in_order ltb) (ids-with_kinds f (without u g.vertices) ∙ ids-without u g.vertices) ∙ in_order-removed u (ids g.vertices) w.vertices_rising;
       phases_below_a_turn = ap all_below_a_turn vertices ∙ with_kinds-below f (without u g.vertices) below (list_all-without _ u g.vertices w.phases_below_a_turn);
-      edges = ordered;
-      inputs = rw (vertices, inputs) (ends_with_kinds f (without u g.vertices) g.inputs (ends_without u g.vertices g.inputs w.inputs interior.no_input) (λ p t. keeps p));
-      outputs = rw (vertices, outputs) (ends_with_kinds f (without u g.vertices) g.outputs (ends_without u g.vertices g.outputs w.outputs interior.no_output) (λ p t. keeps p));
+      edges = frame.ordered;
+      inputs = rw (vertices, frame.inputs) (ends_with_kinds f (without u g.vertices) g.inputs (ends_without u g.vertices g.inputs w.inputs interior.no_input) (λ p t. keeps p));
+      outputs = rw (vertices, frame.outputs) (ends_with_kinds f (without u g.vertices) g.outputs (ends_without u g.vertices g.outputs w.outputs interior.no_output) (λ p t. keeps p));
     }
 
 pub different-all : (x : ℕ) (xs : List ℕ) → member x xs ≡ false → list_all (different x) xs ≡ true

@@ -1,7 +1,5 @@
 -- The pivot: the form of the graph, the sum, the counts, the program, and identities.
-use Rattle.std.proofs.Common.{◌≡◌, ◌≢◌, ◌⊎◌, inl, inr, refl, sym, ◌∙◌, ap, subst, ℕ, ◌<◌, ◌≤◌, Bool, true, false, cond, ◌&&◌, ◌||◌, eqb, ltb, List, [], ◌∷◌, true≢false, ne_eqb, eq-eqb, ltb-true, ltb-false, lt-ltb, arith, ap₂, not, suc, length, ◌+◌, max, filter, eqb-true}
-use Rattle.std.specs.List.{list_all}
-use Rattle.std.proofs.lemmas.Bool.{eqb-false}
+use Rattle.std.proofs.Common.{◌≡◌, ◌≢◌, ◌⊎◌, inl, inr, refl, sym, ◌∙◌, ap, subst, ℕ, ◌<◌, Bool, true, false, cond, ◌&&◌, ◌||◌, eqb, List, [], ◌∷◌, true≢false, ne_eqb, ltb-true, arith, ap₂, not, ◌+◌}
 use Rattle.zx_model.specs.Phase.{quarter_turn, opposite_phase, turn, is_odd}
 use Rattle.zx_model.specs.Constants.{two}
 use Rattle.zx_model.specs.Number.{Number, sign, add, mul, one, neg, zero}
@@ -23,14 +21,14 @@ use Rattle.zx_calculus.specs.Counts.{odd_phases, even_interior, not_XY}
 use Rattle.zx_calculus.specs.Adjacency.{edges_of}
 use Rattle.zx_calculus.specs.Steps.{Pivot, allowed, after_with}
 use Rattle.zx_calculus.specs.Complements.{IsLocalComplement}
-use Rattle.zx_calculus.proofs.Kept.{sum_below, Below, cond_below, half_below, cond_XY, half_XY, KeepsXY, kept_kinds}
+use Rattle.zx_calculus.proofs.Kept.{sum_below, Below, cond_below, half_below, cond_XY, half_XY, KeepsXY, KeepsEnds-then, kept_kinds}
 use Rattle.zx_calculus.proofs.Ids.{apart_of_member, removed, member-removed_other, masked_front, Distinct-removed, eqb-self, Distinct, member-absent_removed, by_equal, Symmetric, and-right, and-left, by_test}
 use Rattle.zx_calculus.proofs.Forms.{transform, form_front, at_ends, ids-without, over_value, masked-labelled, value, at_ends-ignores}
 use Rattle.zx_calculus.proofs.Edges.{joined_comm, quad_same}
 use Rattle.zx_calculus.proofs.Vertices.{kind_of-without, kind_of-with_kinds, ids-with_kinds, product_of-without, phase-kind_of, turned_product, list_all-without, without-with_kinds, turn_near, with_kinds_same, all_below_a_turn}
 use Rattle.zx_calculus.proofs.Splitting.{member-without, distinct_without, sum_without, no_loop, distinct}
 use Rattle.zx_calculus.proofs.Turning.{around, exchange, picked_signs, half_factor_in}
-use Rattle.zx_calculus.proofs.Gathering.{gather, with_parts}
+use Rattle.zx_calculus.proofs.Gathering.{gather, with_parts, parts_are}
 use Rattle.zx_calculus.proofs.Booleans.{xor_comm, and-false, or-true, parities, and_comm, or_comm}
 use Rattle.zx_calculus.proofs.Parity.{quad-xor, cross_identity, masked_same}
 use Rattle.zx_calculus.proofs.Scalars.{one_minus_i-nonzero}
@@ -39,7 +37,7 @@ use Rattle.zx_calculus.proofs.CountLemmas.{count, count_apart_two, count-with_ki
 use Rattle.zx_calculus.proofs.Programs.{absent_right, edges_full, rising_kinds, absent_left}
 use Rattle.zx_calculus.proofs.Results.{interior_from}
 use Rattle.zx_calculus.proofs.EdgeLists.{OrderedEdges-edges_of, edges_ext}
-use Rattle.zx_calculus.proofs.StepIdentities.{agree, half_turned_in-twice, pivoted_in-twice}
+use Rattle.zx_calculus.proofs.StepIdentities.{same_graph, agree, half_turned_in-twice, pivoted_in-twice}
 use Rattle.zx_calculus.proofs.Complements.{complement_near, local_complement_kept}
 
 pivoted_below : (plane : Plane) (k : ℕ) → k < turn → (pivoted_in plane k).phase < turn
@@ -61,7 +59,7 @@ pivot_kept g u v h w c =
     kept_kinds g (pivot_kind u v (joined g.edges u) (joined g.edges v)) h w (pivot_kind_below u v (joined g.edges u) (joined g.edges v))
     (λ p t. pivot_XY u v (joined g.edges u) (joined g.edges v) p (apart_of_member p u (end_vertices g.inputs) t c.interior.no_input) (apart_of_member p v (end_vertices g.inputs) t c.interior_too.no_input))
     (λ p t. pivot_XY u v (joined g.edges u) (joined g.edges v) p (apart_of_member p u (end_vertices g.outputs) t c.interior.no_output) (apart_of_member p v (end_vertices g.outputs) t c.interior_too.no_output))
-    c.vertices c.ordered c.inputs c.outputs
+    c.vertices c.frame
 
 -- both labels of two adjacent vertices, at the parities p and q of the labels of their other neighbours
 abbrev pub pair_sum : Kind → Kind → Bool → Bool → Number
@@ -190,7 +188,7 @@ module _ (g : Graph) (u v : ℕ) (h : Graph) (wg : WellFormed g) (wh : WellForme
   kv = kind_of g.vertices v
 
   same_shape : h ≡ with_parts g changed h.edges
-  same_shape = λ j. record { vertices = c.vertices j; edges = h.edges; inputs = c.inputs j; outputs = c.outputs j }
+  same_shape = parts_are g h changed c.vertices c.frame
 
   u_other : (p : ℕ) → member p (ids others) ≡ true → p ≢ u
   u_other p t =
@@ -305,7 +303,7 @@ odd-pivot g u v h w c =
 
 pub even-pivot : (g : Graph) (u v : ℕ) (h : Graph) → WellFormed g → IsPivot g u v h → even_interior h ≡ even_interior g
 even-pivot g u v h w c =
-    even_kept g h c.inputs c.outputs ∙ ap (count (even_test g)) c.vertices
+    even_kept g h c.frame ∙ ap (count (even_test g)) c.vertices
     ∙ even_changed g (pivot_kind u v (joined g.edges u) (joined g.edges v)) g.vertices (pivot_keeps_odd u v (joined g.edges u) (joined g.edges v)) (distinct g w) (phases_below g w)
 
 pivoted_plane : (plane : Plane) (k : ℕ)
@@ -436,7 +434,6 @@ module _ (g : Graph) (w : WellFormed g) where
           interior_too = interior_from g v (and-right _ _ (and-left _ _ (and-right _ _ h)));
           adjacent = u_v;
           vertices = refl;
-          ordered = OrderedEdges-edges_of _ _ (rising_kinds g w (pivot_kind u v (joined g.edges u) (joined g.edges v)));
           still_adjacent = pivot_full u v apart (contrary u u_live) (contrary v v_live) ∙ pivot_together adjacent_before u v;
           of_u = λ p i j. pivot_full u p (λ e. i (sym e)) (contrary u u_live) (λ f. pivot_at_u adjacent_before u v p j ∙ absent_right g w v p f) ∙ pivot_at_u adjacent_before u v p j;
           of_v = λ p i j. pivot_full v p (λ e. j (sym e)) (contrary v v_live) (λ f. pivot_at_v adjacent_before u v p apart i ∙ absent_right g w u p f) ∙ pivot_at_v adjacent_before u v p apart i;
@@ -447,8 +444,7 @@ module _ (g : Graph) (w : WellFormed g) where
               (ap₂ (λ x y. xor (joined g.edges u p && x) (joined g.edges v p && y)) (absent_right g w v q f) (absent_right g w u q f)
               ∙ ap₂ xor (and-false (joined g.edges u p)) (and-false (joined g.edges v p))))
               ∙ pivot_between adjacent_before u v p q i j k l;
-          inputs = refl;
-          outputs = refl;
+          frame = record { ordered = OrderedEdges-edges_of _ _ (rising_kinds g w (pivot_kind u v (joined g.edges u) (joined g.edges v))); inputs = refl; outputs = refl };
         }
 
 pub pivot_allowed_comm : (g : Graph) (u v : ℕ) → allowed g (Pivot u v) ≡ allowed g (Pivot v u)
@@ -469,14 +465,12 @@ pivot_comm g u v h c = record {
   vertices = c.vertices
       ∙ with_kinds_same _ (pivot_kind v u (joined g.edges v) (joined g.edges u)) g.vertices
       (λ p k t. ap₂ (λ a b. cond a (pivoted k) (cond b (half_turned k) k)) (or_comm (eqb p u) (eqb p v)) (and_comm (joined g.edges u p) (joined g.edges v p)));
-  ordered = c.ordered;
   still_adjacent = joined_comm h.edges v u ∙ c.still_adjacent;
   of_u = λ p i j. c.of_v p j i;
   of_v = λ p i j. c.of_u p j i;
   between = λ p q i j k l n. c.between p q j i l k n
       ∙ cross_comm (joined g.edges p q) (joined g.edges u p) (joined g.edges v q) (joined g.edges v p) (joined g.edges u q);
-  inputs = c.inputs;
-  outputs = c.outputs;
+  frame = c.frame;
 }
 
 -- the adjacency of two vertices other than u and v, toggled by three local complements
@@ -488,7 +482,7 @@ added_twice a b = simp expand_bits
 
 pub pivot_as_complements : (g : Graph) (u v : ℕ) (h i j k : Graph) → WellFormed g → IsPivot g u v h → IsLocalComplement g u i → IsLocalComplement i v j → IsLocalComplement j u k → k.edges ≡ h.edges
 pivot_as_complements g u v h i j k w p a b c =
-    edges_ext k.edges h.edges c.ordered.lower_first p.ordered.lower_first c.ordered.rising p.ordered.rising
+    edges_ext k.edges h.edges c.frame.ordered.lower_first p.frame.ordered.lower_first c.frame.ordered.rising p.frame.ordered.rising
     (agree u v (joined k.edges) (joined h.edges) (joined_comm k.edges) (joined_comm h.edges)
     (k_u v ∙ j_uv ∙ sym p.still_adjacent)
     (λ q n m. k_u q ∙ j_u q n m ∙ sym (p.of_u q n m))
@@ -555,8 +549,7 @@ twice_crossed : (r x y z t : Bool) → xor (xor r (xor (x && t) (y && z))) (xor 
 twice_crossed r x y z t = crossed r (x && t) (y && z)
 
 pub pivot_twice : (g : Graph) (u v : ℕ) (h k : Graph) → WellFormed g → IsPivot g u v h → IsPivot h u v k → k ≡ g
-pivot_twice g u v h k w c d =
-    λ j. record { vertices = vertices_back j; edges = edges_back j; inputs = (d.inputs ∙ c.inputs) j; outputs = (d.outputs ∙ c.outputs) j }
+pivot_twice g u v h k w c d = same_graph k g vertices_back edges_back (KeepsEnds-then g h k c.frame d.frame)
   where
     kind_back : (p : ℕ) (kind : Kind) → kind.phase < turn → pivot_kind u v (joined h.edges u) (joined h.edges v) p (pivot_kind u v (joined g.edges u) (joined g.edges v) p kind) ≡ kind
     kind_back p kind lt =
@@ -590,4 +583,4 @@ pivot_twice g u v h k w c d =
         ∙ twice_crossed (joined g.edges p q) (joined g.edges u p) (joined g.edges v p) (joined g.edges u q) (joined g.edges v q)))))
 
     edges_back : k.edges ≡ g.edges
-    edges_back = edges_ext k.edges g.edges d.ordered.lower_first w.edges.lower_first d.ordered.rising w.edges.rising joined_back
+    edges_back = edges_ext k.edges g.edges d.frame.ordered.lower_first w.edges.lower_first d.frame.ordered.rising w.edges.rising joined_back

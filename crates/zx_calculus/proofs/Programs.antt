@@ -1,10 +1,9 @@
 -- What the programs of rewrites make is ordered, and its edges are those that are named.
-use Rattle.std.proofs.Common.{◌≡◌, ◌≢◌, ◌⊎◌, inl, inr, refl, sym, ◌∙◌, ap, ap₂, ℕ, Bool, true, false, not, ◌&&◌, ◌||◌, eqb, ltb, List, [], ◌∷◌, true≢false, ne_eqb, eqb-true}
-use Rattle.std.proofs.lemmas.Bool.{eqb-false}
+use Rattle.std.proofs.Common.{◌≡◌, ◌≢◌, sym, ◌∙◌, ap, ap₂, ℕ, Bool, true, false, ◌&&◌, ltb, List}
 use Rattle.std.specs.List.{list_all}
 use Rattle.zx_model.specs.Bits.{member}
 use Rattle.zx_calculus.specs.Adjacency.{edges_of}
-use Rattle.zx_calculus.specs.Graph.{joined, WellFormed, Graph, neighbours, Plane, end_vertices, End, is_YZ, XZ, ids, Kind, with_kinds, YZ, without, in_order, XY}
+use Rattle.zx_calculus.specs.Graph.{joined, WellFormed, Graph, neighbours, end_vertices, End, ids, Kind, with_kinds, without, in_order}
 use Rattle.zx_calculus.proofs.EdgeLists.{joined-edges_of, OrderedEdges-edges_of}
 use Rattle.zx_calculus.proofs.Ids.{by_test, Symmetric, member-filter, removed, member-removed_other, by_equal}
 use Rattle.zx_calculus.proofs.Vertices.{ids-with_kinds}

@@ -1,7 +1,7 @@
 -- A graph in which no move is left is reduced, and a reduced graph has few vertices.
-use Rattle.std.proofs.Common.{◌≡◌, ◌≢◌, ◌⊎◌, inl, inr, refl, sym, ◌∙◌, ap, ap₂, subst, ℕ, suc, ◌+◌, ◌%◌, ◌<◌, ◌≤◌, Bool, true, false, not, ◌&&◌, ◌||◌, eqb, List, [], ◌∷◌, length, eq-eqb, true≢false, arith}
+use Rattle.std.proofs.Common.{◌≡◌, ◌≢◌, ◌⊎◌, inl, inr, refl, sym, ◌∙◌, ap, ap₂, subst, ℕ, suc, ◌+◌, ◌≤◌, Bool, true, false, not, ◌&&◌, ◌||◌, eqb, List, [], ◌∷◌, length, eq-eqb, true≢false, arith}
 use Rattle.std.specs.List.{list_all}
-use Rattle.zx_model.specs.Phase.{turn, half_turn, quarter_turn, is_odd, IsHalfTurns, IsQuarterTurn}
+use Rattle.zx_model.specs.Phase.{is_odd, IsQuarterTurn}
 use Rattle.zx_model.specs.Bits.{member, one_if}
 use Rattle.zx_model.proofs.Phases.{even_phases}
 use Rattle.zx_calculus.specs.Graph.{Plane, XY, XZ, YZ, Vertex, End, Graph, ids, end_vertices, is_XY, kind_of, plane_of, phase_of, joined, neighbours, Live, Interior, WellFormed, is_interior}

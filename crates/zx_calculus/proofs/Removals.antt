@@ -1,17 +1,17 @@
 -- What the sum loses where a vertex goes.
-use Rattle.std.proofs.Common.{◌≡◌, ◌≢◌, ◌⊎◌, inl, inr, refl, sym, ◌∙◌, ap, ap₂, subst, ℕ, Bool, true, false, cond, eqb, ltb, List, true≢false, ne_eqb}
-use Rattle.std.specs.List.{list_all}
+use Rattle.std.proofs.Common.{◌≡◌, ◌≢◌, sym, ◌∙◌, ap, subst, ℕ, Bool, List}
 use Rattle.zx_model.specs.Number.{Number, mul, one, sign}
 use Rattle.zx_model.specs.Sums.{sum_over}
 use Rattle.zx_model.proofs.Ring.{sorted}
 use Rattle.zx_model.proofs.SumLemmas.{sum_over_same, sum_over_scaled}
 use Rattle.zx_calculus.specs.Graph.{Kind, joined, without, with_kinds, Live, Graph, Interior, kind_of, WellFormed, ids, Vertex}
+use Rattle.zx_calculus.specs.Edits.{KeepsEnds}
 use Rattle.zx_calculus.specs.Parity.{quad, masked}
 use Rattle.zx_calculus.specs.Sum.{sum, vertex_product}
 use Rattle.zx_calculus.proofs.Vertices.{ids-with_kinds}
 use Rattle.zx_calculus.proofs.Ids.{apart_of_member}
 use Rattle.zx_calculus.proofs.Forms.{at_ends, sum_is_form, transform}
-use Rattle.zx_calculus.proofs.Gathering.{with_parts}
+use Rattle.zx_calculus.proofs.Gathering.{with_parts, parts_are}
 use Rattle.zx_calculus.proofs.Edges.{quad_same}
 use Rattle.zx_calculus.proofs.Splitting.{member-without, distinct_without, sum_without}
 
@@ -30,8 +30,7 @@ pub record Removal (g : Graph) (u : ℕ) (change : ℕ → Kind → Kind) (h : G
   pub interior : Interior g u
   pub vertices : h.vertices ≡ with_kinds change (without u g.vertices)
   pub edges : (p q : ℕ) → p ≢ u → q ≢ u → joined h.edges p q ≡ joined g.edges p q
-  pub inputs : h.inputs ≡ g.inputs
-  pub outputs : h.outputs ≡ g.outputs
+  pub frame : KeepsEnds g h
 
 module _ (g : Graph) (u : ℕ) (change : ℕ → Kind → Kind) (h : Graph) (wg : WellFormed g) (wh : WellFormed h) (c : Removal g u change h) where
   abbrev pub ws : List Vertex
@@ -41,7 +40,7 @@ module _ (g : Graph) (u : ℕ) (change : ℕ → Kind → Kind) (h : Graph) (wg 
   changed = with_kinds change ws
 
   same_shape : h ≡ with_parts g changed h.edges
-  same_shape = λ j. record { vertices = c.vertices j; edges = h.edges; inputs = c.inputs j; outputs = c.outputs j }
+  same_shape = parts_are g h changed c.vertices c.frame
 
   pub removal_after : (x y : List Bool) → sum h x y ≡ sum_over (ids ws) (λ label. mul (vertex_product changed label) (mul (sign (quad (joined g.edges) (ids ws) label)) (at_ends g.inputs g.outputs x y label)))
   removal_after x y =

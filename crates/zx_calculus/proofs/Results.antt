@@ -1,6 +1,5 @@
 -- Graphs that are given by which vertices are adjacent.
-use Rattle.std.proofs.Common.{◌≡◌, ◌≢◌, ◌⊎◌, inl, inr, refl, sym, ◌∙◌, ap, ap₂, ℕ, suc, max, ◌<◌, Bool, true, false, cond, not, ◌&&◌, ◌||◌, eqb, List, [], ◌∷◌, filter, true≢false, ne_eqb, eq-eqb, arith}
-use Rattle.std.specs.List.{list_all}
+use Rattle.std.proofs.Common.{◌≡◌, ◌≢◌, refl, sym, ◌∙◌, ap, ap₂, ℕ, Bool, true, cond, not, ◌&&◌, ◌||◌, List, [], ◌∷◌, filter}
 use Rattle.zx_model.specs.Bits.{member}
 use Rattle.zx_calculus.specs.Graph.{is_interior, Graph, Interior, end_vertices, Edge, joined, OrderedEdges, ids, WellFormed, End, Vertex, Kind, without, with_kinds}
 use Rattle.zx_calculus.specs.Adjacency.{edges_of}

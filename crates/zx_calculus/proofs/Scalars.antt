@@ -1,5 +1,5 @@
 -- The scalars of turns are not 0.
-use Rattle.std.proofs.Common.{◌≡◌, ◌≢◌, refl, sym, ◌∙◌, ap, subst, ℕ, suc, Bool, true, false, cond, ◌&&◌, eqb, List, [], ◌∷◌, length}
+use Rattle.std.proofs.Common.{◌≡◌, ◌≢◌, sym, ◌∙◌, ap, ℕ, Bool, true, false, cond, List, [], ◌∷◌}
 use Rattle.zx_model.specs.Constants.{two, i}
 use Rattle.zx_model.specs.Number.{Number, neg, add, mul, one, zero}
 use Rattle.zx_model.proofs.Ring.{expand, zero-mul, two_nonzero, mul-zero, one_nonzero}

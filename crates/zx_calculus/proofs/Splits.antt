@@ -1,7 +1,7 @@
 -- The split of an end: the form of the graph, where ends stand, the sum, the counts, and the program.
-use Rattle.std.proofs.Common.{◌≡◌, ◌≢◌, ◌⊎◌, inl, inr, refl, sym, ◌∙◌, ap, subst, ℕ, ◌<◌, ◌≤◌, Bool, true, false, cond, ◌&&◌, ◌||◌, eqb, ltb, List, [], ◌∷◌, true≢false, ne_eqb, eq-eqb, ltb-true, ltb-false, lt-ltb, arith, ap₂, ⊎_elim, not, length, suc, ◌+◌, max, filter, eqb-true}
+use Rattle.std.proofs.Common.{◌≡◌, ◌≢◌, ◌⊎◌, inl, inr, refl, sym, ◌∙◌, ap, subst, ℕ, ◌<◌, Bool, true, false, cond, ◌&&◌, ◌||◌, eqb, ltb, List, [], ◌∷◌, true≢false, ne_eqb, eq-eqb, arith, ap₂, ⊎_elim, not, length, suc, ◌+◌, max, eqb-true}
 use Rattle.std.specs.List.{list_all}
-use Rattle.std.proofs.lemmas.Bool.{cases_Bool, cases_eq, eqb-true, or_left, eqb-false}
+use Rattle.std.proofs.lemmas.Bool.{cases_Bool, cases_eq, eqb-true, or_left}
 use Rattle.zx_model.specs.Bits.{member, one_if}
 use Rattle.zx_model.specs.Number.{Number, sign, add, mul, one, root_power, zero}
 use Rattle.zx_model.specs.Sums.{labelled, sum_over}
@@ -358,18 +358,20 @@ even_grown inside inside' b new vs d there fresh at_end was_end same =
     none_gone a c n true e f = absurd (true≢false f)
     none_gone a c n false e f = omega arith
 
+-- one more spider of phase 0 changes neither the odd phases nor what isn't XY
+module _ (g h : Graph) (new : ℕ) (vertices : h.vertices ≡ insert_vertex (spider_of_phase_zero new) g.vertices) where
+  pub odd-split : odd_phases h ≡ odd_phases g
+  odd-split = none_more _ _ _ _ (ap (count odd_test) vertices ∙ count-insert odd_test (spider_of_phase_zero new) g.vertices) refl refl
+
+  pub planes-split : not_XY h ≡ not_XY g
+  planes-split = none_more _ _ _ _ (ap (count plane_test) vertices ∙ count-insert plane_test (spider_of_phase_zero new) g.vertices) refl refl
+
 module _ (g : Graph) (b : ℕ) (h : Graph) (w : WellFormed g) (c : IsSplitInput g b h) where
   input_there : Live g b
-  input_there = all_at (λ p. member p (ids g.vertices)) (end_vertices g.inputs) b w.inputs.there c.has_input
+  input_there = end_there g w b g.inputs w.inputs.there c.has_input
 
   input_not_new : b ≢ c.new
   input_not_new = apart_of_member b c.new (ids g.vertices) input_there c.fresh
-
-  pub odd-split_input : odd_phases h ≡ odd_phases g
-  odd-split_input = none_more _ _ _ _ (ap (count odd_test) c.vertices ∙ count-insert odd_test (spider_of_phase_zero c.new) g.vertices) refl refl
-
-  pub planes-split_input : not_XY h ≡ not_XY g
-  planes-split_input = none_more _ _ _ _ (ap (count plane_test) c.vertices ∙ count-insert plane_test (spider_of_phase_zero c.new) g.vertices) refl refl
 
   pub even-split_input : even_interior h ≡ even_interior g + one_if (not (has_output g b) && is_even_at g b)
   even-split_input =
@@ -383,16 +385,10 @@ module _ (g : Graph) (b : ℕ) (h : Graph) (w : WellFormed g) (c : IsSplitInput 
 
 module _ (g : Graph) (b : ℕ) (h : Graph) (w : WellFormed g) (c : IsSplitOutput g b h) where
   output_there : Live g b
-  output_there = all_at (λ p. member p (ids g.vertices)) (end_vertices g.outputs) b w.outputs.there c.has_output
+  output_there = end_there g w b g.outputs w.outputs.there c.has_output
 
   output_not_new : b ≢ c.new
   output_not_new = apart_of_member b c.new (ids g.vertices) output_there c.fresh
-
-  pub odd-split_output : odd_phases h ≡ odd_phases g
-  odd-split_output = none_more _ _ _ _ (ap (count odd_test) c.vertices ∙ count-insert odd_test (spider_of_phase_zero c.new) g.vertices) refl refl
-
-  pub planes-split_output : not_XY h ≡ not_XY g
-  planes-split_output = none_more _ _ _ _ (ap (count plane_test) c.vertices ∙ count-insert plane_test (spider_of_phase_zero c.new) g.vertices) refl refl
 
   pub even-split_output : even_interior h ≡ even_interior g + one_if (not (has_input g b) && is_even_at g b)
   even-split_output =

@@ -1,11 +1,10 @@
 -- Turns done twice, and planes and phases changed twice.
-use Rattle.std.proofs.Common.{◌≡◌, ◌≢◌, refl, sym, ◌∙◌, ap, ap₂, ℕ, ◌<◌, Bool, true, false, cond, not, ◌&&◌, eqb, List, [], ◌∷◌, length, true≢false, ltb-true, arith}
-use Rattle.std.specs.List.{list_all}
+use Rattle.std.proofs.Common.{◌≡◌, ◌≢◌, refl, sym, ◌∙◌, ap, ap₂, ℕ, ◌<◌, Bool, true, List, [], ◌∷◌, ltb-true, arith}
 use Rattle.zx_model.specs.Phase.{turn, sum_of_phases, half_turn, opposite_phase, quarter_turn}
-use Rattle.zx_model.specs.Constants.{two}
 use Rattle.zx_model.specs.Bits.{xor}
 use Rattle.zx_model.proofs.BitLemmas.{expand as expand_bits}
 use Rattle.zx_calculus.specs.Turns.{half_turned, in_plane, half_turned_in, quarter_turned, quarter_turned_in, pivoted, pivoted_in}
+use Rattle.zx_calculus.specs.Edits.{KeepsEnds}
 use Rattle.zx_calculus.specs.Graph.{Kind, YZ, Plane, XY, XZ, Graph, Vertex, with_kinds}
 use Rattle.zx_calculus.proofs.Ids.{by_equal, Symmetric, and-right, and-left}
 use Rattle.zx_calculus.proofs.Vertices.{all_below_a_turn}
@@ -59,8 +58,8 @@ agree u v a b s t together at_u at_v between p q n =
     (λ e ev. s p q ∙ ap (λ w. a w p) ev ∙ at_v p nu nv ∙ ap (λ w. b w p) (sym ev) ∙ t q p)
     (λ f mv. between p q nu nv mu mv n))))
 
-pub same_graph : (g h : Graph) → g.vertices ≡ h.vertices → g.edges ≡ h.edges → g.inputs ≡ h.inputs → g.outputs ≡ h.outputs → g ≡ h
-same_graph g h vertices edges inputs outputs = λ i. record { vertices = vertices i; edges = edges i; inputs = inputs i; outputs = outputs i }
+pub same_graph : (h g : Graph) → h.vertices ≡ g.vertices → h.edges ≡ g.edges → KeepsEnds g h → h ≡ g
+same_graph h g vertices edges frame = λ i. record { vertices = vertices i; edges = edges i; inputs = frame.inputs i; outputs = frame.outputs i }
 
 pub with_kinds-with_kinds : (f g : ℕ → Kind → Kind) (vs : List Vertex) → with_kinds f (with_kinds g vs) ≡ with_kinds (λ p k. f p (g p k)) vs
 with_kinds-with_kinds f g [] = refl

@@ -1,7 +1,5 @@
 -- What holds of each rewrite, and of lists of them.
-use Rattle.std.proofs.Common.{◌≡◌, ◌≢◌, ◌⊎◌, inl, inr, refl, sym, ◌∙◌, ap, subst, ℕ, ◌<◌, ◌≤◌, Bool, true, false, cond, ◌&&◌, ◌||◌, eqb, ltb, List, [], ◌∷◌, true≢false, ne_eqb, eq-eqb, ltb-true, ltb-false, lt-ltb, arith, suc, length, ◌+◌, le_of_eq, ap₂, max, not, filter, eqb-true}
-use Rattle.std.specs.List.{list_all}
-use Rattle.std.proofs.lemmas.Bool.{eqb-false}
+use Rattle.std.proofs.Common.{◌≡◌, ◌≢◌, sym, ◌∙◌, ap, subst, ℕ, ◌≤◌, Bool, true, false, ◌&&◌, ◌||◌, eqb, List, [], ◌∷◌, true≢false, ne_eqb, arith, length, ◌+◌, le_of_eq, not}
 use Rattle.zx_model.specs.Number.{mul, zero}
 use Rattle.zx_model.specs.Phase.{half_turn}
 use Rattle.zx_model.specs.Proportional.{Proportional}
@@ -22,14 +20,14 @@ use Rattle.zx_calculus.specs.Deletions.{delete_kind}
 use Rattle.zx_calculus.specs.Edits.{is_pair}
 use Rattle.zx_calculus.specs.Pivots.{pivot_adjacent}
 use Rattle.zx_calculus.proofs.Deletions.{delete_kept, delete_sum, choice-nonzero, delete_half-nonzero, odd-delete, deletable_to, after_delete}
-use Rattle.zx_calculus.proofs.Splits.{split_output_kept, split_input_kept, split_input_sum, split_output_sum, split_left-nonzero, length-move_end, odd-split_output, odd-split_input, above_all-fresh, split_symmetric, after_split_output, after_split_input}
+use Rattle.zx_calculus.proofs.Splits.{split_output_kept, split_input_kept, split_input_sum, split_output_sum, split_left-nonzero, length-move_end, odd-split, above_all-fresh, split_symmetric, after_split_output, after_split_input}
 use Rattle.zx_calculus.proofs.Gadgets.{fuse_into_kept, fuse_twin_kept, drop_lone_kept, fuse_into_sum, fuse_twin_sum, drop_lone_sum, odd-fuse_twin, odd-drop, odd-fuse_into, filter-none, equal_everywhere, neighbours_into, after_fuse_twin, after_drop, after_fuse_into}
 use Rattle.zx_calculus.proofs.Complements.{local_complement_kept, complement_sum, complement_left-nonzero, complement_right-nonzero, odd-complement, complement_symmetric, after_complement}
 use Rattle.zx_calculus.proofs.Pivots.{pivot_kept, pivot_sum, pivot_right-nonzero, odd-pivot, pivot_law, pivot_symmetric, after_pivot}
 use Rattle.zx_calculus.proofs.Scalars.{quarter_cost-nonzero, half_cost-nonzero, product_of-nonzero}
 use Rattle.zx_calculus.proofs.Results.{interior_true, gone_plain, gone, edges_are, graph_is}
 use Rattle.zx_calculus.proofs.Kept.{both}
-use Rattle.zx_calculus.proofs.Splitting.{off_XY, no_loop}
+use Rattle.zx_calculus.proofs.Splitting.{no_loop}
 use Rattle.zx_calculus.proofs.Edges.{joined_comm}
 
 pub step_kept : (g : Graph) (s : Step) (h : Graph) → WellFormed g → IsStep g s h → WellFormed h
@@ -87,24 +85,24 @@ step_proportional g s h w c =
 
 -- a step keeps the number of ends
 pub inputs_kept : (g : Graph) (s : Step) (h : Graph) → IsStep g s h → length h.inputs ≡ length g.inputs
-inputs_kept g (LocalComplement u) h c = ap length c.inputs
-inputs_kept g (Delete u) h c = ap length c.inputs
-inputs_kept g (Pivot u v) h c = ap length c.inputs
+inputs_kept g (LocalComplement u) h c = ap length c.frame.inputs
+inputs_kept g (Delete u) h c = ap length c.frame.inputs
+inputs_kept g (Pivot u v) h c = ap length c.frame.inputs
 inputs_kept g (SplitInput b) h c = ap length c.inputs ∙ length-move_end b c.new g.inputs
 inputs_kept g (SplitOutput b) h c = ap length c.inputs
-inputs_kept g (DropLone u) h c = ap length c.inputs
-inputs_kept g (FuseInto u) h c = ap length c.inputs
-inputs_kept g (FuseTwin u v) h c = ap length c.inputs
+inputs_kept g (DropLone u) h c = ap length c.frame.inputs
+inputs_kept g (FuseInto u) h c = ap length c.frame.inputs
+inputs_kept g (FuseTwin u v) h c = ap length c.frame.inputs
 
 pub outputs_kept : (g : Graph) (s : Step) (h : Graph) → IsStep g s h → length h.outputs ≡ length g.outputs
-outputs_kept g (LocalComplement u) h c = ap length c.outputs
-outputs_kept g (Delete u) h c = ap length c.outputs
-outputs_kept g (Pivot u v) h c = ap length c.outputs
+outputs_kept g (LocalComplement u) h c = ap length c.frame.outputs
+outputs_kept g (Delete u) h c = ap length c.frame.outputs
+outputs_kept g (Pivot u v) h c = ap length c.frame.outputs
 outputs_kept g (SplitInput b) h c = ap length c.outputs
 outputs_kept g (SplitOutput b) h c = ap length c.outputs ∙ length-move_end b c.new g.outputs
-outputs_kept g (DropLone u) h c = ap length c.outputs
-outputs_kept g (FuseInto u) h c = ap length c.outputs
-outputs_kept g (FuseTwin u v) h c = ap length c.outputs
+outputs_kept g (DropLone u) h c = ap length c.frame.outputs
+outputs_kept g (FuseInto u) h c = ap length c.frame.outputs
+outputs_kept g (FuseTwin u v) h c = ap length c.frame.outputs
 
 pub run_proportional : (g : Graph) (steps : List Step) (h : Graph) → WellFormed g → IsRun g steps h → Proportional (length g.inputs) (length g.outputs) (sum g) (sum h)
 run_proportional g [] h w r = subst (λ k. Proportional (length g.inputs) (length g.outputs) (sum g) (sum k)) r (proportional_refl (length g.inputs) (length g.outputs) (sum g))
@@ -130,8 +128,8 @@ pub step_odd : (g : Graph) (s : Step) (h : Graph) → WellFormed g → IsStep g 
 step_odd g (LocalComplement u) h w c = le_of_eq (odd-complement g u h w c)
 step_odd g (Delete u) h w c = le_of_eq (odd-delete g u h w c)
 step_odd g (Pivot u v) h w c = le_of_eq (odd-pivot g u v h w c)
-step_odd g (SplitInput b) h w c = le_of_eq (odd-split_input g b h w c)
-step_odd g (SplitOutput b) h w c = le_of_eq (odd-split_output g b h w c)
+step_odd g (SplitInput b) h w c = le_of_eq (odd-split g h c.new c.vertices)
+step_odd g (SplitOutput b) h w c = le_of_eq (odd-split g h c.new c.vertices)
 step_odd g (DropLone u) h w c = with_more _ _ _ (odd-drop g u h w c)
   where
     with_more : (a b x : ℕ) → a + x ≡ b → a ≤ b
@@ -165,20 +163,20 @@ step_result g (LocalComplement u) h w c = (
   above_all (ids g.vertices),
   above_all-fresh (ids g.vertices),
   graph_is h _ _ g.inputs g.outputs c.vertices
-      (edges_are h (λ p q. xor (joined g.edges p q) (joined g.edges u p && joined g.edges u q)) (step_kept g (LocalComplement u) h w c) (complement_symmetric g u) (λ p q n s t. c.edges p q n)) c.inputs c.outputs,
+      (edges_are h (λ p q. xor (joined g.edges p q) (joined g.edges u p && joined g.edges u q)) (step_kept g (LocalComplement u) h w c) (complement_symmetric g u) (λ p q n s t. c.edges p q n)) c.frame.inputs c.frame.outputs,
 )
 step_result g (Delete u) h w c = (
   above_all (ids g.vertices),
   above_all-fresh (ids g.vertices),
   graph_is h _ _ g.inputs g.outputs c.vertices
       (edges_are h (joined g.edges) (step_kept g (Delete u) h w c) (joined_comm g.edges)
-      (λ p q n s t. c.edges p q (gone (delete_kind (phase_of g u) (joined g.edges u)) u g.vertices h.vertices p c.vertices s) (gone (delete_kind (phase_of g u) (joined g.edges u)) u g.vertices h.vertices q c.vertices t))) c.inputs c.outputs,
+      (λ p q n s t. c.edges p q (gone (delete_kind (phase_of g u) (joined g.edges u)) u g.vertices h.vertices p c.vertices s) (gone (delete_kind (phase_of g u) (joined g.edges u)) u g.vertices h.vertices q c.vertices t))) c.frame.inputs c.frame.outputs,
 )
 step_result g (Pivot u v) h w c = (
   above_all (ids g.vertices),
   above_all-fresh (ids g.vertices),
   graph_is h _ _ g.inputs g.outputs c.vertices
-      (edges_are h (pivot_adjacent (joined g.edges) u v) (step_kept g (Pivot u v) h w c) (pivot_symmetric (joined g.edges) u v apart (joined_comm g.edges)) (λ p q n s t. pivot_law g u v h c apart p q n)) c.inputs c.outputs,
+      (edges_are h (pivot_adjacent (joined g.edges) u v) (step_kept g (Pivot u v) h w c) (pivot_symmetric (joined g.edges) u v apart (joined_comm g.edges)) (λ p q n s t. pivot_law g u v h c apart p q n)) c.frame.inputs c.frame.outputs,
 )
   where
     apart : u ≢ v
@@ -199,7 +197,7 @@ step_result g (DropLone u) h w c = (
   above_all (ids g.vertices),
   above_all-fresh (ids g.vertices),
   graph_is h _ _ g.inputs g.outputs c.vertices
-      (edges_are h (joined g.edges) (step_kept g (DropLone u) h w c) (joined_comm g.edges) (λ p q n s t. c.edges p q (gone_plain u g.vertices h.vertices p c.vertices s) (gone_plain u g.vertices h.vertices q c.vertices t))) c.inputs c.outputs,
+      (edges_are h (joined g.edges) (step_kept g (DropLone u) h w c) (joined_comm g.edges) (λ p q n s t. c.edges p q (gone_plain u g.vertices h.vertices p c.vertices s) (gone_plain u g.vertices h.vertices q c.vertices t))) c.frame.inputs c.frame.outputs,
 )
 step_result g (FuseInto u) h w c = (
   above_all (ids g.vertices),
@@ -207,14 +205,14 @@ step_result g (FuseInto u) h w c = (
   graph_is h _ _ g.inputs g.outputs
       (c.vertices ∙ ap (λ v. with_kinds (fuse_kind v (phase_of g u)) (without u g.vertices)) (sym (ap first_of_list (neighbours_into g u h w c))))
       (edges_are h (joined g.edges) (step_kept g (FuseInto u) h w c) (joined_comm g.edges)
-      (λ p q n s t. c.edges p q (gone (fuse_kind c.into (phase_of g u)) u g.vertices h.vertices p c.vertices s) (gone (fuse_kind c.into (phase_of g u)) u g.vertices h.vertices q c.vertices t))) c.inputs c.outputs,
+      (λ p q n s t. c.edges p q (gone (fuse_kind c.into (phase_of g u)) u g.vertices h.vertices p c.vertices s) (gone (fuse_kind c.into (phase_of g u)) u g.vertices h.vertices q c.vertices t))) c.frame.inputs c.frame.outputs,
 )
 step_result g (FuseTwin u v) h w c = (
   above_all (ids g.vertices),
   above_all-fresh (ids g.vertices),
   graph_is h _ _ g.inputs g.outputs c.vertices
       (edges_are h (joined g.edges) (step_kept g (FuseTwin u v) h w c) (joined_comm g.edges)
-      (λ p q n s t. c.edges p q (gone (fuse_kind u (phase_of g v)) v g.vertices h.vertices p c.vertices s) (gone (fuse_kind u (phase_of g v)) v g.vertices h.vertices q c.vertices t))) c.inputs c.outputs,
+      (λ p q n s t. c.edges p q (gone (fuse_kind u (phase_of g v)) v g.vertices h.vertices p c.vertices s) (gone (fuse_kind u (phase_of g v)) v g.vertices h.vertices q c.vertices t))) c.frame.inputs c.frame.outputs,
 )
 
 module _ (g : Graph) (w : WellFormed g) where

@@ -6,6 +6,7 @@ use Rattle.zx_calculus.specs.Edits.{is_pair, IsToggle}
 use Rattle.zx_calculus.proofs.Booleans.{parities, or-apart, xor-false, and-false}
 use Rattle.zx_calculus.proofs.Ids.{by_test, by_equal, member-filter, Distinct-rising, apart_of_member}
 use Rattle.zx_calculus.proofs.Edges.{joined_comm}
+use Rattle.zx_calculus.proofs.Kept.{KeepsEnds-then}
 use Rattle.zx_calculus.proofs.Splitting.{no_loop, joined-absent}
 use Rattle.zx_calculus.proofs.Extensionality.{in_order-filter}
 use Rattle.zx_calculus.specs.Toggles.{IsToggled, among, from_to}
@@ -19,22 +20,14 @@ pub IsToggled-more : (g h k : Graph) (picked more all : ℕ → ℕ → Bool) �
     ((p q : ℕ) → p ≢ q → xor (picked p q) (more p q) ≡ all p q) → IsToggled g all k
 IsToggled-more g h k picked more all c d sum = record {
   vertices = d.vertices ∙ c.vertices;
-  ordered = d.ordered;
   edges = λ p q n. d.edges p q n ∙ ap (λ b. xor b (more p q)) (c.edges p q n)
       ∙ regrouped (joined g.edges p q) (picked p q) (more p q) (all p q) (sum p q n);
-  inputs = d.inputs ∙ c.inputs;
-  outputs = d.outputs ∙ c.outputs;
+  frame = KeepsEnds-then g h k c.frame d.frame;
 }
 
 pub IsToggled-one : (g h : Graph) (u v : ℕ) → IsToggle g u v h → IsToggled g (is_pair u v) h
 IsToggled-one g h u v c =
-    record {
-      vertices = c.vertices;
-      ordered = c.ordered;
-      edges = λ p q n. c.edges p q;
-      inputs = c.inputs;
-      outputs = c.outputs;
-    }
+    record { vertices = c.vertices; edges = λ p q n. c.edges p q; frame = c.frame }
 
 -- who is a neighbour
 pub member-neighbours : (g : Graph) (u p : ℕ) → WellFormed g → member p (neighbours g u) ≡ joined g.edges u p

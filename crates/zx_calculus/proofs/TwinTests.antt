@@ -9,7 +9,7 @@ use Rattle.zx_calculus.specs.Steps.{allowed, after, FuseTwin}
 use Rattle.zx_calculus.specs.Gadgets.{IsFuseTwin}
 use Rattle.zx_calculus.specs.Moves.{AreTwins}
 use Rattle.zx_calculus.proofs.Booleans.{xor-same}
-use Rattle.zx_calculus.proofs.Allowed.{YZ_from}
+use Rattle.zx_calculus.proofs.Splitting.{plane_YZ}
 use Rattle.zx_calculus.proofs.Ids.{and-left, and-right}
 use Rattle.zx_calculus.proofs.Kept.{both, all_by}
 use Rattle.zx_calculus.proofs.Steps.{after_step}
@@ -66,8 +66,8 @@ twins_tested g u v w gu gv different apart b is =
       there = and-left _ _ gu;
       there_too = and-left _ _ gv;
       different = different;
-      plane = YZ_from (plane_of g u) (and-right _ _ gu);
-      plane_too = YZ_from (plane_of g v) (and-right _ _ gv);
+      plane = plane_YZ (plane_of g u) (and-right _ _ gu);
+      plane_too = plane_YZ (plane_of g v) (and-right _ _ gv);
       equal_neighbours = equal_lists (neighbours g u) (neighbours g v) (sym is ∙ t);
     })
     apart)

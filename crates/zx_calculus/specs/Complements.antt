@@ -5,9 +5,10 @@ use Rattle.std.specs.Prelude.{◌≡◌, ◌≢◌, ◌+◌, ℕ, Bool, if◌the
 use Rattle.zx_model.specs.Bits.{xor, member, one_if}
 use Rattle.zx_model.specs.Number.{Number, one, mul, root_power}
 use Rattle.zx_calculus.specs.Graph.{Plane, XY, XZ, YZ, Kind, Graph, ids, joined, plane_of, phase_of, is_XY, is_XZ}
-use Rattle.zx_calculus.specs.Graph.{is_interior, Live, Interior, OrderedEdges, with_kinds}
+use Rattle.zx_calculus.specs.Graph.{is_interior, Live, Interior, with_kinds}
 use Rattle.zx_calculus.specs.Turns.{quarter_turned, complemented}
 use Rattle.zx_calculus.specs.Adjacency.{adjacent_graph}
+use Rattle.zx_calculus.specs.Edits.{KeepsEnds}
 use Rattle.zx_calculus.specs.Scalars.{one_plus_i, one_minus_i, quarter_cost, product_of}
 use Rattle.zx_calculus.specs.Counts.{odd_phases, even_interior, not_XY}
 
@@ -21,11 +22,9 @@ pub record IsLocalComplement (g : Graph) (u : ℕ) (h : Graph) : Type 0 where
   pub there : Live g u
   pub interior : Interior g u
   pub vertices : h.vertices ≡ with_kinds (complement_kind u (joined g.edges u)) g.vertices
-  pub ordered : OrderedEdges (ids h.vertices) h.edges
   pub edges : (p q : ℕ) → p ≢ q →
       joined h.edges p q ≡ xor (joined g.edges p q) (joined g.edges u p && joined g.edges u q)
-  pub inputs : h.inputs ≡ g.inputs
-  pub outputs : h.outputs ≡ g.outputs
+  pub frame : KeepsEnds g h
 
 -- whether it can be done: u is an interior vertex
 abbrev pub may_complement : Graph → ℕ → Bool

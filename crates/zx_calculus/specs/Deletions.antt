@@ -6,9 +6,10 @@ use Rattle.zx_model.specs.Bits.{member}
 use Rattle.zx_model.specs.Number.{Number, mul}
 use Rattle.zx_model.specs.Constants.{two, i}
 use Rattle.zx_calculus.specs.Graph.{Plane, XY, XZ, YZ, Kind, Graph, ids, joined, plane_of, phase_of, is_XY, Live}
-use Rattle.zx_calculus.specs.Graph.{OrderedEdges, with_kinds, without}
+use Rattle.zx_calculus.specs.Graph.{with_kinds, without}
 use Rattle.zx_calculus.specs.Turns.{half_turned}
 use Rattle.zx_calculus.specs.Adjacency.{adjacent_graph}
+use Rattle.zx_calculus.specs.Edits.{KeepsEnds}
 use Rattle.zx_calculus.specs.Scalars.{half_cost, product_of}
 use Rattle.zx_calculus.specs.Counts.{odd_phases, even_interior, not_XY}
 
@@ -26,10 +27,8 @@ pub record IsDeletable (g : Graph) (u : ℕ) : Type 0 where
 pub record IsDelete (g : Graph) (u : ℕ) (h : Graph) : Type 0 where
   pub deletable : IsDeletable g u
   pub vertices : h.vertices ≡ with_kinds (delete_kind (phase_of g u) (joined g.edges u)) (without u g.vertices)
-  pub ordered : OrderedEdges (ids h.vertices) h.edges
   pub edges : (p q : ℕ) → p ≢ u → q ≢ u → joined h.edges p q ≡ joined g.edges p q
-  pub inputs : h.inputs ≡ g.inputs
-  pub outputs : h.outputs ≡ g.outputs
+  pub frame : KeepsEnds g h
 
 -- whether it can be deleted
 abbrev pub may_delete : Graph → ℕ → Bool

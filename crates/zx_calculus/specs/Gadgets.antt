@@ -4,9 +4,10 @@ use Rattle.std.specs.Prelude.{◌≡◌, ◌≢◌, ◌+◌, ℕ, Bool, true, fa
 use Rattle.std.specs.List.{list_all}
 use Rattle.zx_model.specs.Bits.{xor, member, one_if}
 use Rattle.zx_calculus.specs.Graph.{XY, YZ, Kind, Graph, ids, joined, plane_of, phase_of, is_XY, is_YZ, is_interior}
-use Rattle.zx_calculus.specs.Graph.{neighbours, Live, OrderedEdges, with_kinds, without}
+use Rattle.zx_calculus.specs.Graph.{neighbours, Live, with_kinds, without}
 use Rattle.zx_calculus.specs.Turns.{with_phase_added}
 use Rattle.zx_calculus.specs.Adjacency.{adjacent_graph}
+use Rattle.zx_calculus.specs.Edits.{KeepsEnds}
 use Rattle.zx_calculus.specs.Counts.{odd_phases, even_interior, not_XY, is_odd_at, is_even_at, is_even_interior}
 use Rattle.zx_calculus.specs.Counts.{is_odd_fused, is_even_fused}
 
@@ -20,10 +21,8 @@ pub record IsDropLone (g : Graph) (u : ℕ) (h : Graph) : Type 0 where
   pub plane : plane_of g u ≡ YZ
   pub lone : (p : ℕ) → joined g.edges u p ≡ false
   pub vertices : h.vertices ≡ without u g.vertices
-  pub ordered : OrderedEdges (ids h.vertices) h.edges
   pub edges : (p q : ℕ) → p ≢ u → q ≢ u → joined h.edges p q ≡ joined g.edges p q
-  pub inputs : h.inputs ≡ g.inputs
-  pub outputs : h.outputs ≡ g.outputs
+  pub frame : KeepsEnds g h
 
 -- h is g after the YZ vertex u went, whose only neighbour was the XY vertex `into`, which gained its phase.
 -- Kissinger and van de Wetering (2020), on phase gadgets with one leg
@@ -35,10 +34,8 @@ pub record IsFuseInto (g : Graph) (u : ℕ) (h : Graph) : Type 0 where
   pub into_plane : plane_of g into ≡ XY
   pub only_neighbour : (p : ℕ) → joined g.edges u p ≡ (p == into)
   pub vertices : h.vertices ≡ with_kinds (fuse_kind into (phase_of g u)) (without u g.vertices)
-  pub ordered : OrderedEdges (ids h.vertices) h.edges
   pub edges : (p q : ℕ) → p ≢ u → q ≢ u → joined h.edges p q ≡ joined g.edges p q
-  pub inputs : h.inputs ≡ g.inputs
-  pub outputs : h.outputs ≡ g.outputs
+  pub frame : KeepsEnds g h
 
 -- h is g after v went and u gained its phase, both YZ, different, not adjacent, with equal neighbours.
 -- Kissinger and van de Wetering (2020), gadget fusion
@@ -51,10 +48,8 @@ pub record IsFuseTwin (g : Graph) (u v : ℕ) (h : Graph) : Type 0 where
   pub not_adjacent : joined g.edges u v ≡ false
   pub equal_neighbours : (p : ℕ) → joined g.edges u p ≡ joined g.edges v p
   pub vertices : h.vertices ≡ with_kinds (fuse_kind u (phase_of g v)) (without v g.vertices)
-  pub ordered : OrderedEdges (ids h.vertices) h.edges
   pub edges : (p q : ℕ) → p ≢ v → q ≢ v → joined h.edges p q ≡ joined g.edges p q
-  pub inputs : h.inputs ≡ g.inputs
-  pub outputs : h.outputs ≡ g.outputs
+  pub frame : KeepsEnds g h
 
 abbrev pub is_empty : List ℕ → Bool
 is_empty [] = true

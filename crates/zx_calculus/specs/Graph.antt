@@ -107,18 +107,15 @@ pub record OrderedEdges (vertices : List ℕ) (edges : List Edge) : Type 0 where
 
 abbrev pub is_XY : Plane → Bool
 is_XY XY = true
-is_XY XZ = false
-is_XY YZ = false
+is_XY plane = false
 
 abbrev pub is_XZ : Plane → Bool
-is_XZ XY = false
 is_XZ XZ = true
-is_XZ YZ = false
+is_XZ plane = false
 
 abbrev pub is_YZ : Plane → Bool
-is_YZ XY = false
-is_YZ XZ = false
 is_YZ YZ = true
+is_YZ plane = false
 
 -- ends at XY vertices, at most one at each
 pub record OrderedEnds (vertices : List Vertex) (ends : List End) : Type 0 where

@@ -6,9 +6,10 @@ use Rattle.zx_model.specs.Bits.{xor, member, one_if}
 use Rattle.zx_model.specs.Number.{Number, one, mul, root_power}
 use Rattle.zx_model.specs.Constants.{two}
 use Rattle.zx_calculus.specs.Graph.{Plane, XY, XZ, YZ, Kind, Graph, ids, joined, plane_of, phase_of, is_XY, is_YZ}
-use Rattle.zx_calculus.specs.Graph.{is_interior, Live, Interior, OrderedEdges, with_kinds}
+use Rattle.zx_calculus.specs.Graph.{is_interior, Live, Interior, with_kinds}
 use Rattle.zx_calculus.specs.Turns.{half_turned, pivoted}
 use Rattle.zx_calculus.specs.Adjacency.{adjacent_graph}
+use Rattle.zx_calculus.specs.Edits.{KeepsEnds}
 use Rattle.zx_calculus.specs.Scalars.{one_minus_i, half_cost, product_of}
 use Rattle.zx_calculus.specs.Counts.{odd_phases, even_interior, not_XY}
 
@@ -27,15 +28,13 @@ pub record IsPivot (g : Graph) (u v : ℕ) (h : Graph) : Type 0 where
   pub interior_too : Interior g v
   pub adjacent : joined g.edges u v ≡ true
   pub vertices : h.vertices ≡ with_kinds (pivot_kind u v (joined g.edges u) (joined g.edges v)) g.vertices
-  pub ordered : OrderedEdges (ids h.vertices) h.edges
   pub still_adjacent : joined h.edges u v ≡ true
   pub of_u : (p : ℕ) → p ≢ u → p ≢ v → joined h.edges u p ≡ joined g.edges v p
   pub of_v : (p : ℕ) → p ≢ u → p ≢ v → joined h.edges v p ≡ joined g.edges u p
   pub between : (p q : ℕ) → p ≢ u → p ≢ v → q ≢ u → q ≢ v → p ≢ q →
       joined h.edges p q ≡ xor (joined g.edges p q)
       (xor (joined g.edges u p && joined g.edges v q) (joined g.edges v p && joined g.edges u q))
-  pub inputs : h.inputs ≡ g.inputs
-  pub outputs : h.outputs ≡ g.outputs
+  pub frame : KeepsEnds g h
 
 -- whether it can be done: u and v are adjacent interior vertices
 abbrev pub may_pivot : Graph → ℕ → ℕ → Bool

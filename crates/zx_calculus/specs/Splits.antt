@@ -63,8 +63,7 @@ abbrev pub split_vertices : Graph → ℕ → List Vertex
 split_vertices g new = insert_vertex (spider_of_phase_zero new) g.vertices
 
 abbrev pub split_edges : Graph → ℕ → ℕ → List Edge
-split_edges g b new =
-    edges_of (λ p q. joined g.edges p q || is_pair b new p q) (ids (split_vertices g new))
+split_edges g b new = edges_of (λ p q. joined g.edges p q || is_pair b new p q) (ids (split_vertices g new))
 
 -- the graph that a split makes, with this new vertex
 abbrev pub split_input_graph : ℕ → Graph → ℕ → Graph

@@ -1,15 +1,14 @@
 -- The parts of which the changes of a graph are made.
 use Rattle.std.specs.Prelude.{◌≡◌, ◌≢◌, ℕ, Bool, if◌then◌else◌, ◌&&◌, ◌==◌, List}
 use Rattle.zx_model.specs.Bits.{xor, member}
-use Rattle.zx_calculus.specs.Graph.{Kind, Graph, ids, joined, OrderedEdges, with_kinds}
+use Rattle.zx_calculus.specs.Graph.{Kind, Graph, joined, with_kinds}
+use Rattle.zx_calculus.specs.Edits.{KeepsEnds}
 
 -- h is g, with each edge between two different vertices toggled where the pair is picked
 pub record IsToggled (g : Graph) (picked : ℕ → ℕ → Bool) (h : Graph) : Type 0 where
   pub vertices : h.vertices ≡ g.vertices
-  pub ordered : OrderedEdges (ids h.vertices) h.edges
   pub edges : (p q : ℕ) → p ≢ q → joined h.edges p q ≡ xor (joined g.edges p q) (picked p q)
-  pub inputs : h.inputs ≡ g.inputs
-  pub outputs : h.outputs ≡ g.outputs
+  pub frame : KeepsEnds g h
 
 -- a pair of listed ones
 abbrev pub among : List ℕ → ℕ → ℕ → Bool

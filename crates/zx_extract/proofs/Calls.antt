@@ -175,12 +175,14 @@ module _ (s : State) (p q u v : ℕ) (r : IsReady s) (at_p : HasPlainOutput s.gr
           output = at_p;
           output_too = at_q;
           vertices = sym toggle.vertices;
-          ordered = r.given.well_formed.edges;
-          ordered_too = toggle.ordered;
+          ordered_too = toggle.frame.ordered;
           edges = λ a b _. sym (ap (λ c. xor c (is_pair u v a b)) (toggle.edges a b)
               ∙ twice (joined s.graph.edges a b) (is_pair u v a b));
-          inputs = sym toggle.inputs;
-          outputs = sym toggle.outputs;
+          frame = record {
+            ordered = r.given.well_formed.edges;
+            inputs = sym toggle.frame.inputs;
+            outputs = sym toggle.frame.outputs;
+          };
         }
           where
             twice : (a b : Bool) → xor (xor a b) b ≡ a

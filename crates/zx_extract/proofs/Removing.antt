@@ -4,7 +4,8 @@ use Rattle.std.specs.Prelude.{slice_get}
 use Rattle.zx_model.specs.Bits.{member, one_if}
 use Rattle.zx_model.specs.Constants.{two}
 use Rattle.zx_model.proofs.Ring.{mul-one}
-use Rattle.zx_calculus.specs.Graph.{XY, YZ, Kind, Vertex, ids, kind_of, plane_of, phase_of, joined, end_vertices, is_XY, different, without, WellFormed}
+use Rattle.zx_calculus.specs.Graph.{XY, YZ, Kind, Vertex, ids, kind_of, plane_of, phase_of, joined, end_vertices, is_XY, different, without, Live, WellFormed}
+use Rattle.zx_calculus.specs.Edits.{IsRemoval}
 use Rattle.zx_calculus.specs.Worked.{plain}
 use Rattle.zx_calculus.specs.Counts.{not_XY, XY_without_output}
 use Rattle.zx_calculus.proofs.Ids.{and-left, and-right, member-filter}
@@ -12,6 +13,7 @@ use Rattle.zx_calculus.proofs.Forms.{ids-without}
 use Rattle.zx_calculus.proofs.Vertices.{kind_of-without}
 use Rattle.zx_calculus.proofs.Splitting.{distinct}
 use Rattle.zx_calculus.proofs.CountLemmas.{count, count_front}
+use Rattle.zx_calculus.proofs.Counting.{YZ_apart, YZ_live}
 use Rattle.gflow_laws.specs.Seen.{seen}
 use Rattle.gflow_laws.specs.Flow.{is_in, IsFlow, SameSets}
 use Rattle.gflow_laws.specs.Tables.{symmetric_difference}
@@ -25,7 +27,7 @@ use Rattle.gflow_laws.proofs.LastLaws.{filter-removed, without_vertex_flow, remo
 use Rattle.zx_gates.specs.Circuit.{most_qubits}
 use Rattle.circuit_laws.specs.Followed.{PeelsAt}
 use Rattle.circuit_laws.specs.Gates.{gadget_gates, linked_gadget_gates}
-use Rattle.circuit_laws.specs.Peeling.{HasPlainOutput, IsVertexRemoved, are_plain}
+use Rattle.circuit_laws.specs.Peeling.{HasPlainOutput, are_plain}
 use Rattle.circuit_laws.proofs.Places.{member-places}
 use Rattle.circuit_laws.proofs.Keeping.{gadget_formed_back, linked_gadget_formed_back}
 use Rattle.circuit_laws.proofs.Counts.{gadget_odd, linked_gadget_odd}
@@ -39,13 +41,10 @@ use Rattle.zx_extract.proofs.LastVertex.{last_no_output}
 
 module _ (s : State) (v : ℕ) (t : State) (r : IsReady s) (f : IsFrontier s.graph) (last : HasLast s.table v)
     (plane : plane_of s.graph v ≡ YZ)
-    (removal : IsVertexRemoved s.graph v t.graph) (formed : WellFormed t.graph)
+    (removal : IsRemoval s.graph v t.graph) (formed : WellFormed t.graph)
     (table : SameSets t.table (last_removed_table last.entry last.before)) where
-  off_XY : plane_of s.graph v ≢ XY
-  off_XY e = yz_not_xy (sym plane ∙ e)
-    where
-      yz_not_xy : YZ ≡ XY → ⊥
-      yz_not_xy e = cc
+  there : Live s.graph v
+  there = YZ_live s.graph.vertices v plane
 
   stays : (x : ℕ) → member x (filter (different v) (ids s.graph.vertices)) ≡ true → x ≢ v
   stays x within e = true≢false (sym (and-right (member x (ids s.graph.vertices)) (different v x)
@@ -58,8 +57,8 @@ module _ (s : State) (v : ℕ) (t : State) (r : IsReady s) (f : IsFrontier s.gra
     adjacent = λ x y in_x in_y. sym (removal.edges x y (stays x in_x) (stays y in_y));
     plane = λ x within. sym (ap (λ vs. (kind_of vs x).plane) removal.vertices
         ∙ ap (λ (k : Kind). k.plane) (kind_of-without x v s.graph.vertices (stays x within)));
-    input = λ x _. ap (λ es. member x (end_vertices es)) (sym removal.inputs);
-    output = λ x _. ap (λ es. member x (end_vertices es)) (sym removal.outputs);
+    input = λ x _. ap (λ es. member x (end_vertices es)) (sym removal.frame.inputs);
+    output = λ x _. ap (λ es. member x (end_vertices es)) (sym removal.frame.outputs);
   }
 
   flow_left : IsFlow t.graph (last_removed_table last.entry last.before)
@@ -68,7 +67,7 @@ module _ (s : State) (v : ℕ) (t : State) (r : IsReady s) (f : IsFrontier s.gra
       ∙ removal-last last.before last.entry (Flows-from (seen s.graph) (last.before ++ last.entry ∷ [])
       (subst (IsFlow s.graph) last.split r.given.flow)).each_once)
       (without_vertex_flow s.graph v t.graph (last.before ++ last.entry ∷ [])
-      r.given.well_formed formed removal.there off_XY alike (subst (IsFlow s.graph) last.split r.given.flow))
+      r.given.well_formed formed there (YZ_apart (plane_of s.graph v) plane) alike (subst (IsFlow s.graph) last.split r.given.flow))
 
   pub removed_ready : IsReady t
   removed_ready = record {
@@ -80,9 +79,9 @@ module _ (s : State) (v : ℕ) (t : State) (r : IsReady s) (f : IsFrontier s.gra
           let within : member x (filter (different v) (ids s.graph.vertices)) ≡ true = alike.ids x ∙ live in
           r.given.planes x (and-left _ _ (sym (member-filter (different v) (ids s.graph.vertices) x) ∙ within))
           (alike.plane x within ∙ e);
-      few = subst (λ es. length es ≤ most_qubits) (sym removal.outputs) r.given.few;
+      few = subst (λ es. length es ≤ most_qubits) (sym removal.frame.outputs) r.given.few;
     };
-    plain = ap are_plain removal.outputs ∙ r.plain;
+    plain = ap are_plain removal.frame.outputs ∙ r.plain;
   }
 
   not_v : (p w : ℕ) → HasPlainOutput s.graph p w → w ≢ v
@@ -91,13 +90,13 @@ module _ (s : State) (v : ℕ) (t : State) (r : IsReady s) (f : IsFrontier s.gra
 
   pub removed_frontier : IsFrontier t.graph
   removed_frontier = record {
-    phase = λ p w _ o. let there : HasPlainOutput s.graph p w = ap (λ es. slice_get es p) (sym removal.outputs) ∙ o in
+    phase = λ p w _ o. let there : HasPlainOutput s.graph p w = ap (λ es. slice_get es p) (sym removal.frame.outputs) ∙ o in
         ap (λ vs. (kind_of vs w).phase) removal.vertices
         ∙ ap (λ (k : Kind). k.phase) (kind_of-without w v s.graph.vertices (not_v p w there))
         ∙ f.phase p w refl there;
     apart = λ p q _ _ u w o i.
-        let there : HasPlainOutput s.graph p u = ap (λ es. slice_get es p) (sym removal.outputs) ∙ o in
-        let there' : HasPlainOutput s.graph q w = ap (λ es. slice_get es q) (sym removal.outputs) ∙ i in
+        let there : HasPlainOutput s.graph p u = ap (λ es. slice_get es p) (sym removal.frame.outputs) ∙ o in
+        let there' : HasPlainOutput s.graph q w = ap (λ es. slice_get es q) (sym removal.frame.outputs) ∙ i in
         removal.edges u w (not_v p u there) (not_v q w there') ∙ f.apart p q refl refl u w there there';
   }
 
@@ -113,7 +112,7 @@ module _ (s : State) (v : ℕ) (t : State) (r : IsReady s) (f : IsFrontier s.gra
   -- ---- how many are left
   pub removed_others : not_XY t.graph + 1 ≡ not_XY s.graph
   removed_others = one_less _ _ _ (ap (λ (vs : List Vertex). count (λ p k. not (is_XY k.plane)) vs) removal.vertices)
-      (count_front (λ p k. not (is_XY k.plane)) v s.graph.vertices (distinct s.graph r.given.well_formed) removal.there
+      (count_front (λ p k. not (is_XY k.plane)) v s.graph.vertices (distinct s.graph r.given.well_formed) there
       ∙ ap (λ p. one_if (not (is_XY p)) + count (λ p k. not (is_XY k.plane)) (without v s.graph.vertices)) plane)
     where
       one_less : (left rest all : ℕ) → left ≡ rest → all ≡ 1 + rest → left + 1 ≡ all
@@ -122,9 +121,9 @@ module _ (s : State) (v : ℕ) (t : State) (r : IsReady s) (f : IsFrontier s.gra
   pub removed_XY : XY_without_output t.graph ≡ XY_without_output s.graph
   removed_XY =
       ap₂ (λ (vs : List Vertex) (us : List ℕ). length (filter
-      (λ (x : Vertex). is_XY x.kind.plane && not (member x.id us)) vs)) removal.vertices (ap end_vertices removal.outputs)
+      (λ (x : Vertex). is_XY x.kind.plane && not (member x.id us)) vs)) removal.vertices (ap end_vertices removal.frame.outputs)
       ∙ sym (count_front (λ p k. is_XY k.plane && not (member p (end_vertices s.graph.outputs))) v s.graph.vertices
-      (distinct s.graph r.given.well_formed) removal.there
+      (distinct s.graph r.given.well_formed) there
       ∙ ap (λ p. one_if (is_XY p && not (member v (end_vertices s.graph.outputs))) + count
       (λ p k. is_XY k.plane && not (member p (end_vertices s.graph.outputs))) (without v s.graph.vertices)) plane
       ∙ none_more _)
@@ -160,8 +159,8 @@ module _ (s : State) (v : ℕ) (qubits : List ℕ) (t : State) (r : IsReady s) (
     few = few _ _ _ (gadget_few (phase_of s.graph v) qubits) legs.few;
     XY = none_gone _ _ (removed_XY s v t r f a.last a.peel.plane a.peel.removal gadget_formed a.table);
     others = removed_others s v t r f a.last a.peel.plane a.peel.removal gadget_formed a.table;
-    inputs = a.peel.removal.inputs;
-    outputs = ap length a.peel.removal.outputs;
+    inputs = a.peel.removal.frame.inputs;
+    outputs = ap length a.peel.removal.frame.outputs;
   }
     where
       few : (gates qubits n : ℕ) → gates ≤ 2 * qubits → qubits ≤ n → gates ≤ 3 * n
@@ -200,8 +199,8 @@ module _ (s : State) (v q : ℕ) (qubits : List ℕ) (t : State) (r : IsReady s)
         (legs.fewer q a.peel.link within a.peel.output off);
     XY = none_gone _ _ (removed_XY s v t r f a.last a.peel.plane a.peel.removal linked_formed a.table);
     others = removed_others s v t r f a.last a.peel.plane a.peel.removal linked_formed a.table;
-    inputs = a.peel.removal.inputs;
-    outputs = ap length a.peel.removal.outputs;
+    inputs = a.peel.removal.frame.inputs;
+    outputs = ap length a.peel.removal.frame.outputs;
   }
     where
       few : (gates qubits n : ℕ) → gates ≤ 2 * qubits + 3 → qubits + 1 ≤ n → gates ≤ 2 * n + 1

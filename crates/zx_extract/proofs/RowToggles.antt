@@ -7,6 +7,7 @@ use Rattle.zx_calculus.specs.Edits.{is_pair, IsToggle}
 use Rattle.zx_calculus.proofs.Booleans.{parities, or-apart, and-false, xor-false, or-true}
 use Rattle.zx_calculus.proofs.Ids.{Distinct-rising, by_test, by_equal, eqb_comm, and-left, member-filter}
 use Rattle.zx_calculus.proofs.Edges.{joined_comm}
+use Rattle.zx_calculus.proofs.Kept.{KeepsEnds-then}
 use Rattle.zx_calculus.proofs.Splitting.{joined-absent}
 use Rattle.zx_calculus.proofs.Extensionality.{in_order-filter}
 use Rattle.gflow_laws.specs.Flow.{Correction, SameSets}
@@ -21,10 +22,8 @@ use Rattle.zx_extract.proofs.Places.{one_output}
 pub toggled_nothing : (g : Graph) (t : ℕ) → WellFormed g → IsRowToggled g t [] g
 toggled_nothing g t w = record {
   vertices = refl;
-  ordered = w.edges;
   edges = λ p q. sym (ap (xor (joined g.edges p q)) (none (eqb t p)) ∙ xor-false (joined g.edges p q));
-  inputs = refl;
-  outputs = refl;
+  frame = record { ordered = w.edges; inputs = refl; outputs = refl };
 }
   where
     none : (b : Bool) → xor (b && false) false ≡ false
@@ -55,15 +54,13 @@ pub toggled_more : (g : Graph) (t : ℕ) (row : List ℕ) (i w : ℕ) (h k : Gra
     IsRowToggled g t (take i row) h → IsToggle h t w k → IsRowToggled g t (take (i + 1) row) k
 toggled_more g t row i w h k once apart within is done toggle = record {
   vertices = toggle.vertices ∙ done.vertices;
-  ordered = toggle.ordered;
   edges = λ p q. toggle.edges p q ∙ ap (λ b. xor b (is_pair t w p q)) (done.edges p q)
       ∙ ap (xor (xor (joined g.edges p q) (xor (eqb t p && member q (take i row)) (member p (take i row) && eqb t q))))
       (pair p q)
       ∙ collected (joined g.edges p q) (eqb t p) (eqb t q) (member q (take i row)) (member p (take i row)) (eqb q w)
       (eqb p w)
       ∙ sym (ap₂ (λ b c. xor (joined g.edges p q) (xor (eqb t p && b) (c && eqb t q))) (more q) (more p));
-  inputs = toggle.inputs ∙ done.inputs;
-  outputs = toggle.outputs ∙ done.outputs;
+  frame = KeepsEnds-then g h k done.frame toggle.frame;
 }
   where
     pair : (p q : ℕ) → is_pair t w p q ≡ xor (eqb t p && eqb q w) (eqb p w && eqb t q)
@@ -131,13 +128,15 @@ module _ (s : State) (c t u v : ℕ) (r : IsReady s) (f : IsFrontier s.graph) (a
       no_input = no_input;
       not_adjacent = f.apart c t refl refl u v at_c at_t;
       vertices = sym toggled.vertices;
-      ordered = r.given.well_formed.edges;
-      ordered_too = toggled.ordered;
+      ordered_too = toggled.frame.ordered;
       edges = λ p q _. toggled.edges p q
           ∙ ap₂ (λ b d. xor (joined s.graph.edges p q) (xor (eqb v p && b) (d && eqb v q))) (ap (member q) row_is
           ∙ row_member q) (ap (member p) row_is ∙ row_member p);
-      inputs = sym toggled.inputs;
-      outputs = sym toggled.outputs;
+      frame = record {
+        ordered = r.given.well_formed.edges;
+        inputs = sym toggled.frame.inputs;
+        outputs = sym toggled.frame.outputs;
+      };
     };
     table = sets;
     gates = refl;

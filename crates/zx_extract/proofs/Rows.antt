@@ -74,8 +74,8 @@ module _ (s : State) (c t : ℕ) (h : State) (r : IsReady s) (f : IsFrontier s.g
     ids = λ v. ap (λ vs. member v (ids vs)) a.row.vertices;
     adjacent = λ p q _ _. sym (edges_are p q);
     plane = λ v _. ap (λ vs. (kind_of vs v).plane) a.row.vertices;
-    input = λ v _. ap (λ es. member v (end_vertices es)) a.row.inputs;
-    output = λ v _. ap (λ es. member v (end_vertices es)) a.row.outputs;
+    input = λ v _. ap (λ es. member v (end_vertices es)) a.row.frame.inputs;
+    output = λ v _. ap (λ es. member v (end_vertices es)) a.row.frame.outputs;
   }
 
   pub row_ready : IsReady h
@@ -87,9 +87,9 @@ module _ (s : State) (c t : ℕ) (h : State) (r : IsReady s) (f : IsFrontier s.g
           r.given.flow);
       planes = λ v live e. r.given.planes v (ap (λ vs. member v (ids vs)) a.row.vertices ∙ live)
           (ap (λ vs. (kind_of vs v).plane) a.row.vertices ∙ e);
-      few = subst (λ es. length es ≤ most_qubits) a.row.outputs r.given.few;
+      few = subst (λ es. length es ≤ most_qubits) a.row.frame.outputs r.given.few;
     };
-    plain = ap are_plain (sym a.row.outputs) ∙ r.plain;
+    plain = ap are_plain (sym a.row.frame.outputs) ∙ r.plain;
   }
 
   pub row_leads : Leads s 1 0 0 h
@@ -97,11 +97,11 @@ module _ (s : State) (c t : ℕ) (h : State) (r : IsReady s) (f : IsFrontier s.g
       (omega (arith, same_vertices h.graph s.graph (sym a.row.vertices)))
       (All-cons (IsOnQubits (length s.graph.outputs)) (Cx t c) [] (row_on s.graph c t h.graph a.row)
       (All-nil (IsOnQubits (length s.graph.outputs))))
-      (omega arith) (as_many_XY s.graph h.graph (sym a.row.vertices) (ap end_vertices (sym a.row.outputs)))
-      (as_many_others s.graph h.graph (sym a.row.vertices)) (sym a.row.inputs)
+      (omega arith) (as_many_XY s.graph h.graph (sym a.row.vertices) (ap end_vertices (sym a.row.frame.outputs)))
+      (as_many_others s.graph h.graph (sym a.row.vertices)) (sym a.row.frame.inputs)
 
   back : (q u : ℕ) → HasPlainOutput h.graph q u → HasPlainOutput s.graph q u
-  back q u o = ap (λ es. slice_get es q) a.row.outputs ∙ o
+  back q u o = ap (λ es. slice_get es q) a.row.frame.outputs ∙ o
 
   -- rows of outputs have no outputs in them
   pub row_frontier : IsFrontier h.graph
@@ -160,12 +160,12 @@ gathered_row s q i v t h g last n u o there a = record {
   frontier = row_frontier t i q h g.ready g.frontier a;
   order = row_order t i q h g.ready g.frontier a ∙ g.order;
   same = sym a.row.vertices ∙ g.same;
-  ends = sym a.row.outputs ∙ g.ends;
-  itself = λ w at_q. let here : HasPlainOutput t.graph q w = ap (λ es. slice_get es q) a.row.outputs ∙ at_q in
+  ends = sym a.row.frame.outputs ∙ g.ends;
+  itself = λ w at_q. let here : HasPlainOutput t.graph q w = ap (λ es. slice_get es q) a.row.frame.outputs ∙ at_q in
       sets w ∙ ap₂ (λ b c. xor b (c && eqb w a.row.added)) (g.itself w here) to_there
       ∙ ap not (ne_eqb w a.row.added (λ e. a.row.different (sym e
       ∙ one_vertex t.graph q w a.row.to here a.row.output_too)));
-  gone = λ p w within m at_p. let here : HasPlainOutput t.graph p w = ap (λ es. slice_get es p) a.row.outputs ∙ at_p in
+  gone = λ p w within m at_p. let here : HasPlainOutput t.graph p w = ap (λ es. slice_get es p) a.row.frame.outputs ∙ at_p in
       sets w ∙ ap (λ c. xor (last_set t.table w) (c && eqb w a.row.added)) to_there ∙ by_equal p i
       (λ _ e. let same : w ≡ a.row.added = one_vertex t.graph i w a.row.added
       (subst (λ k. HasPlainOutput t.graph k w) e here) a.row.output in

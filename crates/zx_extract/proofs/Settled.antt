@@ -199,8 +199,8 @@ module _ (s : State) (p q : ℕ) (t : State) (r : IsReady s) (c : IsEdgeTaken s 
         (is_pair-self c.peel.first c.peel.second c.peel.different w) ∙ sym (no_loop t.graph w edge_formed)))
         (λ _ n. edges_toggled v w n);
     plane = λ v _. ap (λ vs. (kind_of vs v).plane) c.peel.vertices;
-    input = λ v _. ap (λ es. member v (end_vertices es)) c.peel.inputs;
-    output = λ v _. ap (λ es. member v (end_vertices es)) c.peel.outputs;
+    input = λ v _. ap (λ es. member v (end_vertices es)) c.peel.frame.inputs;
+    output = λ v _. ap (λ es. member v (end_vertices es)) c.peel.frame.outputs;
   }
 
   edge_ready : IsReady t
@@ -213,9 +213,9 @@ module _ (s : State) (p q : ℕ) (t : State) (r : IsReady s) (c : IsEdgeTaken s 
           (member-places s.graph.outputs q (plain c.peel.second) c.peel.output_too) r.given.flow);
       planes = λ v live e. r.given.planes v (ap (λ vs. member v (ids vs)) c.peel.vertices ∙ live)
           (ap (λ vs. (kind_of vs v).plane) c.peel.vertices ∙ e);
-      few = subst (λ es. length es ≤ most_qubits) c.peel.outputs r.given.few;
+      few = subst (λ es. length es ≤ most_qubits) c.peel.frame.outputs r.given.few;
     };
-    plain = ap are_plain (sym c.peel.outputs) ∙ r.plain;
+    plain = ap are_plain (sym c.peel.frame.outputs) ∙ r.plain;
   }
 
   pub edge_settles : Settles s 1 t
@@ -225,11 +225,11 @@ module _ (s : State) (p q : ℕ) (t : State) (r : IsReady s) (c : IsEdgeTaken s 
         (omega (arith, same_vertices t.graph s.graph (sym c.peel.vertices)))
         (All-cons (IsOnQubits (length s.graph.outputs)) (Cz p q) [] (edge_on s.graph p q t.graph c.peel)
         (All-nil (IsOnQubits (length s.graph.outputs))))
-        (omega arith) (as_many_XY s.graph t.graph (sym c.peel.vertices) (ap end_vertices (sym c.peel.outputs)))
-        (as_many_others s.graph t.graph (sym c.peel.vertices)) (sym c.peel.inputs);
+        (omega arith) (as_many_XY s.graph t.graph (sym c.peel.vertices) (ap end_vertices (sym c.peel.frame.outputs)))
+        (as_many_others s.graph t.graph (sym c.peel.vertices)) (sym c.peel.frame.inputs);
     ready = edge_ready;
     table = c.table;
-    outputs = sym c.peel.outputs;
+    outputs = sym c.peel.frame.outputs;
     phases = λ v e. ap (λ vs. (kind_of vs v).phase) (sym c.peel.vertices) ∙ e;
     edges = λ v w e. by_equal v w
         (λ _ same. rw same (no_loop t.graph w edge_formed))
@@ -240,8 +240,8 @@ module _ (s : State) (p q : ℕ) (t : State) (r : IsReady s) (c : IsEdgeTaken s 
 
   pub edge_gone : (u v : ℕ) → HasPlainOutput t.graph p u → HasPlainOutput t.graph q v → joined t.graph.edges u v ≡ false
   edge_gone u v h i =
-      ap₂ (joined t.graph.edges) (one_vertex s.graph p u c.peel.first (ap (λ es. slice_get es p) c.peel.outputs
-      ∙ h) c.peel.output) (one_vertex s.graph q v c.peel.second (ap (λ es. slice_get es q) c.peel.outputs
+      ap₂ (joined t.graph.edges) (one_vertex s.graph p u c.peel.first (ap (λ es. slice_get es p) c.peel.frame.outputs
+      ∙ h) c.peel.output) (one_vertex s.graph q v c.peel.second (ap (λ es. slice_get es q) c.peel.frame.outputs
       ∙ i) c.peel.output_too)
       ∙ sym (edges_toggled c.peel.first c.peel.second c.peel.different)
       ∙ ap₂ xor c.there (ap₂ (λ a b. (a && b) || (eqb c.peel.first c.peel.second && eqb c.peel.second

@@ -1,37 +1,24 @@
 -- What the calls that take the last vertex off ask, and what they make.
 use Rattle.std.proofs.Common.{◌≡◌, refl, sym, ◌∙◌, ap, ap₂, subst, ℕ, Bool, true, false, not, ◌&&◌, ◌||◌, eqb, ne_eqb, List, [], ◌∷◌, ◌++◌, length, remove, set}
 use Rattle.zx_model.specs.Bits.{xor, member}
-use Rattle.zx_calculus.specs.Graph.{XY, YZ, Plane, Kind, Graph, ids, kind_of, plane_of, joined, end_vertices, without, Live, Interior}
+use Rattle.zx_calculus.specs.Graph.{XY, YZ, Plane, Kind, Graph, is_XY, ids, kind_of, plane_of, joined, end_vertices, without, Live, Interior}
 use Rattle.zx_calculus.specs.Edits.{IsRemoval}
 use Rattle.zx_calculus.specs.Turns.{in_plane}
 use Rattle.zx_calculus.specs.Worked.{plain}
 use Rattle.zx_calculus.proofs.Booleans.{and-false}
 use Rattle.zx_calculus.proofs.Ids.{by_test, eqb-self}
-use Rattle.zx_calculus.proofs.Splitting.{interior_of, off_XY}
+use Rattle.zx_calculus.proofs.Splitting.{interior_of}
 use Rattle.gflow_laws.specs.Flow.{Correction, is_in, SameSets}
 use Rattle.gflow_laws.specs.Outputs.{advanced_table, last_removed_table}
 use Rattle.zx_gates.specs.declared.gate.Gate.TheVariants.{H}
 use Rattle.circuit_laws.specs.Gates.{gadget_gates, linked_gadget_gates}
-use Rattle.circuit_laws.specs.Peeling.{HasPlainOutput, IsGadgetPeel, IsLinkedGadgetPeel}
-use Rattle.circuit_laws.specs.Peeling as peeling
+use Rattle.circuit_laws.specs.Peeling.{HasPlainOutput}
 use Rattle.circuit_laws.proofs.Places.{output_there, absent-remove}
 use Rattle.zx_extract.specs.Internal.Leading.{State, IsReady, IsFrontier}
 use Rattle.zx_extract.specs.Internal.Steps.{HasLast, HasNoOutput, HasOneOutput, IsAdvanced, IsGadgetTaken, IsLinkedGadgetTaken, AreLegs}
 use Rattle.zx_extract.proofs.Places.{member-places_set}
-use Rattle.zx_extract.proofs.LastVertex.{last_live, last_no_output, u_apart, only_neighbour, link_no_input, set_is_XY, set_is_YZ, linked, link_not_adjacent, set_is_itself, neighbours_are_outputs}
+use Rattle.zx_extract.proofs.LastVertex.{last_no_output, u_apart, only_neighbour, link_no_input, set_is_XY, set_is_YZ, linked, link_not_adjacent, set_is_itself, neighbours_are_outputs}
 use Rattle.zx_extract.proofs.Legs.{legs_all}
-
--- what a removal of vertices is to the laws of circuits
-removal_of : (g : Graph) (v : ℕ) (h : Graph) → Live g v → IsRemoval g v h → peeling.IsVertexRemoved g v h
-removal_of g v h live r = record {
-  there = live;
-  vertices = r.vertices;
-  ordered = r.ordered;
-  edges = r.edges;
-  inputs =
-      r.inputs;
-  outputs = r.outputs;
-}
 
 -- ---- the last vertex takes the place of an output
 module _ (s : State) (v q u : ℕ) (r : IsReady s) (f : IsFrontier s.graph) (last : HasLast s.table v)
@@ -88,10 +75,10 @@ module _ (s : State) (v q u : ℕ) (r : IsReady s) (f : IsFrontier s.graph) (las
       phase = f.phase q u refl o;
       only_neighbour = only_neighbour s v r f last q u one o plane;
       vertices = removal.vertices ∙ ap (λ (k : Graph). without u k.vertices) moved;
-      ordered = removal.ordered;
+      ordered = removal.frame.ordered;
       edges = λ p w n m. removal.edges p w n m ∙ ap (λ (k : Graph). joined k.edges p w) moved;
-      inputs = removal.inputs ∙ ap (λ (k : Graph). k.inputs) moved;
-      outputs = removal.outputs ∙ ap (λ (k : Graph). k.outputs) moved;
+      inputs = removal.frame.inputs ∙ ap (λ (k : Graph). k.inputs) moved;
+      outputs = removal.frame.outputs ∙ ap (λ (k : Graph). k.outputs) moved;
     };
     table = sets last.before last.entry last.split;
     gates = refl;
@@ -100,11 +87,7 @@ module _ (s : State) (v q u : ℕ) (r : IsReady s) (f : IsFrontier s.graph) (las
 -- ---- a gadget
 module _ (s : State) (v : ℕ) (r : IsReady s) (plane : plane_of s.graph v ≡ YZ) where
   pub gadget_interior : Interior s.graph v
-  gadget_interior = interior_of s.graph v r.given.well_formed
-      (off_XY (plane_of s.graph v) (λ e. yz_not_xy (sym plane ∙ e)))
-    where
-      yz_not_xy : YZ ≡ XY → ⊥
-      yz_not_xy e = cc
+  gadget_interior = interior_of s.graph v r.given.well_formed (ap is_XY plane)
 
 module _ (s : State) (v : ℕ) (r : IsReady s) (f : IsFrontier s.graph) (last : HasLast s.table v)
     (none : HasNoOutput s) where
@@ -129,7 +112,7 @@ module _ (s : State) (v : ℕ) (r : IsReady s) (f : IsFrontier s.graph) (last : 
           neighbours = λ p. sym (legs_all s.graph v qubits legs p ∙ by_test (joined s.graph.edges v p)
               (λ t. ap₂ (λ a b. a && b) t (neighbours_are_outputs s v r f last none p t) ∙ sym t)
               (λ f. ap (λ a. a && member p (end_vertices s.graph.outputs)) f ∙ sym f));
-          removal = removal_of s.graph v h (last_live s v r f last) removal;
+          removal = removal;
         };
         table = sets last.before last.entry last.split;
         gates = ap (λ j. gadget_gates j qubits ++ s.gates) (ap (λ (kind : Kind). kind.phase) weight);
@@ -167,7 +150,7 @@ module _ (s : State) (v q u : ℕ) (r : IsReady s) (f : IsFrontier s.graph) (las
           at_outputs = legs.at_outputs;
           neighbours = λ p. sym (ap₂ xor (linked s v r f last q u one o plane p) (legs_all s.graph v qubits legs p)
               ∙ either (joined s.graph.edges v p) (member p (end_vertices s.graph.outputs)));
-          removal = removal_of s.graph v h (last_live s v r f last) removal;
+          removal = removal;
         };
         table = sets last.before last.entry last.split;
         gates = ap (λ j. linked_gadget_gates j q qubits ++ s.gates) (ap (λ (kind : Kind). kind.phase) weight);

@@ -2,8 +2,7 @@
 
 ghost use Rattle.std.specs.Prelude.{◌≡◌, ◌≢◌, ◌<◌, ◌≤◌, ℕ, true, false, [], ◌∷◌, ◌++◌, length, slice_get, Some, IfOk, OnOk};
 ghost use Rattle.zx_model.specs.Bits.{member};
-ghost use Rattle.zx_calculus.specs.Graph.{plane_of, end_vertices, Distinct, Live, WellFormed};
-ghost use Rattle.zx_calculus.specs.Graph as zx;
+ghost use Rattle.zx_calculus.specs.Graph.{end_vertices, Distinct, Live, WellFormed};
 ghost use Rattle.gflow_laws.specs.Flow.{IsFlow, SameSets};
 ghost use Rattle.zx_gates.specs.Circuit.{most_qubits};
 ghost use Rattle.zx_gates.specs.Lowering.{phase_gates};
@@ -36,14 +35,11 @@ impl Frontier {
         graph: OpenGraph,
         flow: &Flow,
     ) -> Result<Frontier, AllocError>
-        requires flow { IsFlow graph.graph flow.now.flow }
-        requires planes { (v : ℕ) → Live graph.graph v → plane_of graph.graph v ≢ zx.XZ }
-        requires few { length graph.graph.outputs ≤ most_qubits }
-        ensures given { IfOk result (λ f. IsGiven (state_of f)) }
+        requires { IsFlow graph.graph flow.now.flow }
+        ensures flow { IfOk result (λ f. IsFlow f.graph.graph f.flow.flow) }
         ensures graph { IfOk result (λ f. f.graph.graph ≡ graph.graph) }
         ensures gates { IfOk result (λ f. f.gates.items ≡ []) }
     {
-        let _ends = graph.inputs();
         let flow = Holders::of_flow(alloc, flow)?;
         Ok(Frontier {
             alloc,
@@ -55,8 +51,9 @@ impl Frontier {
 
     // How many outputs there are.
     pub(crate) fn qubits(&self) -> Qubit
-        requires { IsGiven (state_of self.now) }
-        ensures { result ≡ length self.now.graph.graph.outputs }
+        requires { length self.now.graph.graph.outputs ≤ most_qubits }
+        ensures value { result ≡ length self.now.graph.graph.outputs }
+        ensures valid { WellFormed self.now.graph.graph }
     {
         self.graph.outputs().len() as Qubit
     }
@@ -76,8 +73,7 @@ impl Frontier {
         requires on_wires { q < length self.now.graph.graph.outputs }
         ensures { HasPlainOutput self.now.graph.graph q result }
     {
-        let output = self.output(q);
-        output.vertex
+        self.graph.output_vertex(usize::from(q))
     }
 
     // Writes a gate before all that were taken off so far.

@@ -1,8 +1,12 @@
 //! Outputs that are settled: plain, of phase 0, and without edges among themselves.
 
-ghost use Rattle.std.specs.Prelude.{◌≡◌, ◌<◌, ◌≤◌, ◌+◌, ◌*◌, ◌-◌, ◌/◌, ℕ, length, OnOk};
+ghost use Rattle.std.specs.Prelude.{◌≡◌, ◌≢◌, ◌<◌, ◌≤◌, ◌+◌, ◌*◌, ◌-◌, ◌/◌, ℕ, length, OnOk};
+ghost use Rattle.zx_calculus.specs.Graph.{plane_of, Live};
+ghost use Rattle.zx_calculus.specs.Graph as zx;
+ghost use Rattle.gflow_laws.specs.Flow.{IsFlow};
+ghost use Rattle.zx_gates.specs.Circuit.{most_qubits};
 ghost use Rattle.zx_extract.specs.Internal.Frontiers.{state_of};
-ghost use Rattle.zx_extract.specs.Internal.Leading.{AreApart, IsGiven, IsReady, IsFrontier, Leads, Settles};
+ghost use Rattle.zx_extract.specs.Internal.Leading.{AreApart, IsReady, IsFrontier, Leads, Settles};
 ghost use Rattle.zx_extract.specs.Internal.Lists.{others_below};
 ghost use Rattle.zx_extract.specs.Internal.Steps.{IsSettling};
 
@@ -13,7 +17,9 @@ use zx_gates::Qubit;
 impl Frontier {
     // Takes off the Hadamards of all outputs.
     pub(crate) fn take_marks(&mut self) -> Result<(), AllocError>
-        requires { IsGiven (state_of self.old) }
+        requires flow { IsFlow self.old.graph.graph self.old.flow.flow }
+        requires planes { (v : ℕ) → Live self.old.graph.graph v → plane_of self.old.graph.graph v ≢ zx.XZ }
+        requires few { length self.old.graph.graph.outputs ≤ most_qubits }
         ensures leads { OnOk result (Leads (state_of self.old)
             (length self.old.graph.graph.outputs) 0 0 (state_of self.new)) }
         ensures ready { OnOk result (IsReady (state_of self.new)) }

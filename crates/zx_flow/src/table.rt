@@ -1,9 +1,10 @@
 //! Tables of corrections.
 
-ghost use Rattle.std.specs.Prelude.{◌≡◌, ◌++◌, true, false, [], ◌∷◌, OnOk, OnErr, ltb};
+ghost use Rattle.std.specs.Prelude.{◌≡◌, ◌++◌, ◌==◌, if◌then◌else◌, true, false, [], ◌∷◌, OnOk, OnErr, ltb};
 ghost use Rattle.zx_model.specs.Bits.{member};
 ghost use Rattle.zx_calculus.specs.Graph.{in_order, Distinct};
 ghost use Rattle.gflow_laws.specs.Flow.{order_of, set_of, SameSets};
+ghost use Rattle.gflow_laws.specs.Tables.{with_sets};
 
 use crate::corrections::Corrections;
 use open_graph::{VertexId, VertexSet};
@@ -48,6 +49,15 @@ impl FlowTable {
         let mut set = VertexSet::new(self.alloc);
         set.toggle_all(members)?;
         self.corrections.add_last(v, set)
+    }
+
+    /// Puts a set in the place of that of a vertex.
+    pub fn set(&mut self, v: VertexId, members: VertexSet)
+        requires { member v (order_of self.old.table) ≡ true }
+        ensures { self.new.table ≡
+            with_sets (λ u set. if u == v then members else set) self.old.table }
+    {
+        self.corrections.replace(v, members);
     }
 
     /// The vertices in their order.

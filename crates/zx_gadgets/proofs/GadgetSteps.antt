@@ -1,7 +1,7 @@
 -- What a gadget taken out, and a phase added, make of a graph.
 use Rattle.std.proofs.Common.{◌≡◌, ◌≢◌, sym, ◌∙◌, ap, ap₂, subst, ℕ, true, eqb-true, List, get_or, true≢false}
 use Rattle.zx_model.specs.Bits.{member}
-use Rattle.zx_calculus.specs.Graph.{YZ, Kind, Graph, is_XY, ids, joined, neighbours, plane_of, phase_of, with_kinds, without, Live, Interior, OrderedEdges, WellFormed}
+use Rattle.zx_calculus.specs.Graph.{YZ, Graph, is_XY, ids, joined, neighbours, plane_of, phase_of, with_kinds, without, Live, Interior, WellFormed}
 use Rattle.zx_calculus.specs.Steps.{allowed, after, DropLone, FuseInto, FuseTwin}
 use Rattle.zx_calculus.specs.Edits.{IsRemoval}
 use Rattle.zx_calculus.specs.Gadgets.{IsDropLone, IsFuseInto, IsFuseTwin, fuse_kind}
@@ -14,7 +14,7 @@ use Rattle.zx_calculus.proofs.Steps.{after_step}
 use Rattle.zx_calculus.proofs.Splitting.{interior_of, no_loop}
 use Rattle.zx_calculus.proofs.Counting.{YZ_apart}
 use Rattle.zx_calculus.proofs.Toggling.{neighbour_joined}
-use Rattle.zx_calculus.proofs.Vertices.{ids-with_kinds}
+use Rattle.zx_calculus.proofs.ChangedKinds.{KeepsEnds-changed}
 use Rattle.gflow_laws.specs.Flow.{Correction, order_of, IsFlow}
 use Rattle.gflow_laws.proofs.Rewriting.{measured_listed}
 
@@ -34,10 +34,8 @@ drop_step {g} {h} {u} w may c =
       plane = s.plane;
       lone = s.lone;
       vertices = c.vertices;
-      ordered = c.ordered;
       edges = c.edges;
-      inputs = c.inputs;
-      outputs = c.outputs;
+      frame = c.frame;
     }
 
 -- another vertex stays one
@@ -45,11 +43,6 @@ pub still_live : (g h : Graph) (u p : ℕ) → IsRemoval g u h → p ≢ u → L
 still_live g h u p c other there =
     ap (λ vs. member p (ids vs)) c.vertices ∙ ap (member p) (ids-without u g.vertices)
     ∙ member-removed_other p u (ids g.vertices) other ∙ there
-
--- the edges stand in the order of the vertices, whatever planes and phases become
-ordered_too : (f : ℕ → Kind → Kind) (h : Graph) → OrderedEdges (ids h.vertices) h.edges →
-    OrderedEdges (ids (with_kinds f h.vertices)) h.edges
-ordered_too f h o = subst (λ vs. OrderedEdges vs h.edges) (sym (ids-with_kinds f h.vertices)) o
 
 -- the only neighbour
 leg_joined : (g : Graph) (u into : ℕ) → WellFormed g → allowed g (FuseInto u) ≡ true →
@@ -83,10 +76,8 @@ fuse_into_step {g} {h} {k} {u} into phase w may is read c made = subst (IsFuseIn
       only_neighbour = s.only_neighbour;
       vertices = ap (with_kinds (fuse_kind into phase)) c.vertices
           ∙ ap₂ (λ v j. with_kinds (fuse_kind v j) (without u g.vertices)) same read;
-      ordered = ordered_too (fuse_kind into phase) h c.ordered;
       edges = c.edges;
-      inputs = c.inputs;
-      outputs = c.outputs;
+      frame = KeepsEnds-changed (fuse_kind into phase) g h c.frame;
     }
 
 pub twins_apart : (g : Graph) (u v : ℕ) → WellFormed g → allowed g (FuseTwin u v) ≡ true → u ≢ v
@@ -115,8 +106,6 @@ fuse_twin_step {g} {h} {k} {u} {v} phase w may read c made = subst (IsFuseTwin g
       equal_neighbours = s.equal_neighbours;
       vertices = ap (with_kinds (fuse_kind u phase)) c.vertices
           ∙ ap (λ j. with_kinds (fuse_kind u j) (without v g.vertices)) read;
-      ordered = ordered_too (fuse_kind u phase) h c.ordered;
       edges = c.edges;
-      inputs = c.inputs;
-      outputs = c.outputs;
+      frame = KeepsEnds-changed (fuse_kind u phase) g h c.frame;
     }

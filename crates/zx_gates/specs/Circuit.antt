@@ -37,11 +37,8 @@ pub record IsCircuit (c : Circuit) : Type 0 where
 
 -- whether a gate is a phase gate of an odd phase, as T is: these are the dear gates
 abbrev pub is_odd_phase : Gate → Bool
-is_odd_phase (H q) = false
 is_odd_phase (Phase q k) = is_odd k
-is_odd_phase (Cz q r) = false
-is_odd_phase (Cx control target) = false
-is_odd_phase (Not q) = false
+is_odd_phase gate = false
 
 -- how many phase gates of odd phases there are
 abbrev pub gate_odd_phases : List Gate → ℕ

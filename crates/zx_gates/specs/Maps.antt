@@ -56,9 +56,8 @@ acts (gate ∷ gates) f = act gate (acts gates f)
 -- whether two lists of bits are the same
 abbrev pub same_bits : List Bool → List Bool → Bool
 same_bits [] [] = true
-same_bits [] (b ∷ others) = false
-same_bits (a ∷ rest) [] = false
 same_bits (a ∷ rest) (b ∷ others) = not (xor a b) && same_bits rest others
+same_bits x y = false
 
 -- The entry of a circuit's matrix at the column x and the row y, the bits of the qubits before and after it.
 abbrev pub amp : List Gate → List Bool → List Bool → Number

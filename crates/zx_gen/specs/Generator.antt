@@ -59,8 +59,7 @@ drawn n generator =
 -- so many gates on n qubits, the first to act first
 abbrev pub next_gates : ℕ → ℕ → Lcg → List Gate
 next_gates n zero generator = []
-next_gates n (suc count) generator =
-    (drawn n generator).gate ∷ next_gates n count (drawn n generator).after
+next_gates n (suc count) generator = (drawn n generator).gate ∷ next_gates n count (drawn n generator).after
 
 -- the gates of a seed, so many on n qubits
 abbrev pub generated : ℕ → ℕ → ℕ → List Gate

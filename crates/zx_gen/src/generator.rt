@@ -43,7 +43,7 @@ fn draw_gate(generator: &mut Lcg64Xsh32, qubits: Qubit) -> Gate
     let kind = draw_below(generator, 6);
     let q = draw_below(generator, qubits);
     if kind < 4 || qubits == 1 {
-        return gate_on_one(kind, q);
+        return one_qubit_gate(kind, q);
     }
     let r = draw_other(generator, qubits, q);
     if kind == 4 {
@@ -57,7 +57,7 @@ fn draw_gate(generator: &mut Lcg64Xsh32, qubits: Qubit) -> Gate
 }
 
 // The gate on one qubit of a kind.
-fn gate_on_one(kind: u16, q: Qubit) -> Gate
+fn one_qubit_gate(kind: u16, q: Qubit) -> Gate
     ensures { result ≡ one_qubit_gate kind q }
 {
     match kind {

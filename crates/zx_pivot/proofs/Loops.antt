@@ -44,11 +44,9 @@ module _ (g h : Graph) (c t i : ℕ) (wg : WellFormed g) (wh : WellFormed h) (ap
       IsToggled g (from_to t (take (suc i) (neighbours g c))) h
   row_skip lt same = record {
     vertices = toggled.vertices;
-    ordered = toggled.ordered;
     edges = λ p q n. toggled.edges p q n
         ∙ ap (xor (joined g.edges p q)) (from_to-skip (neighbours g c) i t p q (Distinct-neighbours g c wg) lt same);
-    inputs = toggled.inputs;
-    outputs = toggled.outputs;
+    frame = toggled.frame;
   }
 
 -- the neighbours of u, of which those before a place are toggled with those of v

@@ -1,7 +1,7 @@
 -- What the changes of a graph, one after the other, make of it: a pivot.
 use Rattle.std.proofs.Common.{◌≡◌, ◌≢◌, refl, sym, ◌∙◌, ap, ℕ, true, false, cond, ◌&&◌, eqb, List, ne_eqb, true≢false}
 use Rattle.zx_model.specs.Bits.{member}
-use Rattle.zx_calculus.specs.Graph.{Kind, Graph, ids, joined, neighbours, end_vertices, with_kinds, Live, Interior, WellFormed}
+use Rattle.zx_calculus.specs.Graph.{Kind, Graph, ids, joined, neighbours, with_kinds, Live, Interior, WellFormed}
 use Rattle.zx_calculus.specs.Pivots.{IsPivot, pivot_kind}
 use Rattle.zx_calculus.specs.Steps.{allowed, Pivot}
 use Rattle.zx_calculus.specs.Edits.{at_vertex}
@@ -72,13 +72,15 @@ module _ (g k : Graph) (u v : ℕ) (w : WellFormed g) (uv : joined g.edges u v �
         ∙ ap (with_kinds own) c.vertices ∙ with_kinds-with_kinds own halves g.vertices
         ∙ with_kinds_same (λ p x. own p (halves p x)) (pivot_kind u v (joined g.edges u) (joined g.edges v)) g.vertices
         (λ p x t. kinds p x);
-    ordered = wh.edges;
     still_adjacent = edges u v ∙ c.still_adjacent;
     of_u = λ p pu pv. edges u p ∙ c.of_u p pu pv;
     of_v = λ p pu pv. edges v p ∙ c.of_v p pu pv;
     between = λ p q pu pv qu qv n. edges p q ∙ c.between p q pu pv qu qv n;
-    inputs = ap (λ (x : Graph). x.inputs) made ∙ c.inputs;
-    outputs = ap (λ (x : Graph). x.outputs) made ∙ c.outputs;
+    frame = record {
+      ordered = wh.edges;
+      inputs = ap (λ (x : Graph). x.inputs) made ∙ c.frame.inputs;
+      outputs = ap (λ (x : Graph). x.outputs) made ∙ c.frame.outputs;
+    };
   }
     where
       edges : (p q : ℕ) → joined h.edges p q ≡ joined k.edges p q

@@ -6,6 +6,7 @@ use Rattle.zx_calculus.specs.Edits.{is_pair, IsToggle}
 use Rattle.zx_calculus.proofs.Booleans.{parities, xor-false, and_comm}
 use Rattle.zx_calculus.proofs.Ids.{eqb-self}
 use Rattle.zx_calculus.proofs.Edges.{joined_comm}
+use Rattle.zx_calculus.proofs.Kept.{KeepsEnds-then}
 use Rattle.zx_calculus.proofs.Splitting.{no_loop}
 use Rattle.zx_calculus.specs.Toggles.{IsToggled, from_to}
 use Rattle.zx_calculus.proofs.Toggling.{member-neighbours}
@@ -56,8 +57,7 @@ exchanged g d e h u v wg wd we apart a b c = record {
   of_v = λ p pu pv. off_row e v u h c v p (λ q. apart (sym q)) pu (λ q. pv (sym q)) ∙ in_v p pu pv;
   others = λ p q pu pv qu qv n.
       off_row e v u h c p q pu qu n ∙ off_row d u v e b p q pv qv n ∙ off_row g v u d a p q pu qu n;
-  inputs = c.inputs ∙ b.inputs ∙ a.inputs;
-  outputs = c.outputs ∙ b.outputs ∙ a.outputs;
+  frame = KeepsEnds-then g e h (KeepsEnds-then g d e a.frame b.frame) c.frame;
 }
   where
     -- after the second, v has the neighbours of u
@@ -137,6 +137,6 @@ module _ (g a b c h : Graph) (u v : ℕ) (wa : WellFormed a) (uv : joined g.edge
         ∙ ap₂ xor (toggled_beside g u v a out p q pu pv)
         (ap₂ xor (ap₂ (λ x y. x && y) (near u p pu pv) (near v q qu qv))
         (ap₂ (λ x y. x && y) (near u q qu qv) (near v p pu pv) ∙ and_comm (joined g.edges u q) (joined g.edges v p)));
-    inputs = back.inputs ∙ swap.inputs ∙ classes.inputs ∙ out.inputs;
-    outputs = back.outputs ∙ swap.outputs ∙ classes.outputs ∙ out.outputs;
+    frame = KeepsEnds-then g b h (KeepsEnds-then g a b out.frame classes.frame)
+        (KeepsEnds-then b c h swap.frame back.frame);
   }

@@ -24,7 +24,7 @@ use Rattle.zx_calculus.proofs.Complements.{odd-complement, even-complement, plan
 use Rattle.zx_calculus.proofs.Pivots.{odd-pivot, even-pivot, planes-pivot}
 use Rattle.zx_calculus.proofs.Deletions.{odd-delete, even-delete, planes-delete}
 use Rattle.zx_calculus.proofs.Gadgets.{odd-drop, even-drop, planes-drop, odd-fuse_into, even-fuse_into, planes-fuse_into, odd-fuse_twin, even-fuse_twin, planes-fuse_twin}
-use Rattle.zx_calculus.proofs.Splits.{odd-split_input, even-split_input, planes-split_input, odd-split_output, even-split_output, planes-split_output}
+use Rattle.zx_calculus.proofs.Splits.{odd-split, planes-split, even-split_input, even-split_output}
 use Rattle.zx_reduce.specs.declared.moves.Move.{Move}
 use Rattle.zx_reduce.specs.declared.moves.Move.TheVariants as moves
 use Rattle.zx_reduce.specs.Search.{AppliesAt}
@@ -206,7 +206,7 @@ split_input_phase g b k w c =
 split_input_rises : (g : Graph) (b : ℕ) (k : Graph) → WellFormed g → IsSplitInput g b k
     → most_moves k ≡ most_moves g + 2 * one_if (not (has_output g b) && is_even_at g b)
 split_input_rises g b k w c =
-    rises _ _ _ _ _ _ _ (even-split_input g b k w c) (planes-split_input g b k w c) (odd-split_input g b k w c)
+    rises _ _ _ _ _ _ _ (even-split_input g b k w c) (planes-split g k c.new c.vertices) (odd-split g k c.new c.vertices)
   where
     rises : (e e' p p' o o' x : ℕ) → e' ≡ e + x → p' ≡ p → o' ≡ o → 2 * e' + p' + 2 * o' ≡ (2 * e + p + 2 * o) + 2 * x
     rises e e' p p' o o' x r s t = omega arith
@@ -214,8 +214,8 @@ split_input_rises g b k w c =
 split_output_rises : (g : Graph) (b : ℕ) (k : Graph) → WellFormed g → IsSplitOutput g b k
     → most_moves k ≤ most_moves g + 2 * one_if (is_even_at g b)
 split_output_rises g b k w c =
-    rises _ _ _ _ _ _ (has_input g b) (is_even_at g b) (even-split_output g b k w c) (planes-split_output g b k w c)
-    (odd-split_output g b k w c)
+    rises _ _ _ _ _ _ (has_input g b) (is_even_at g b) (even-split_output g b k w c) (planes-split g k c.new c.vertices)
+    (odd-split g k c.new c.vertices)
   where
     rises : (e e' p p' o o' : ℕ) (i t : Bool) → e' ≡ e + one_if (not i && t) → p' ≡ p → o' ≡ o
         → 2 * e' + p' + 2 * o' ≤ (2 * e + p + 2 * o) + 2 * one_if t

@@ -206,8 +206,8 @@ rest_allowed g u b phase r no_input no_output = (
 
     inside : (k h : Graph) → IsPivot g u b k → IsDelete k u h → is_interior h b ≡ true
     inside k h c d =
-        interior_by h b (ap (λ ends. member b (end_vertices ends)) (d.inputs ∙ c.inputs) ∙ no_input)
-        (ap (λ ends. member b (end_vertices ends)) (d.outputs ∙ c.outputs) ∙ no_output)
+        interior_by h b (ap (λ ends. member b (end_vertices ends)) (d.frame.inputs ∙ c.frame.inputs) ∙ no_input)
+        (ap (λ ends. member b (end_vertices ends)) (d.frame.outputs ∙ c.frame.outputs) ∙ no_output)
 
 -- u holds no end, and b does
 apart_by : (t : ℕ → Bool) (u b : ℕ) → t u ≡ false → t b ≡ true → u ≢ b

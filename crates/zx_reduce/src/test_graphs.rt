@@ -2,7 +2,7 @@
 
 ghost use Rattle.std.specs.Prelude.{◌≡◌, ◌≢◌, ◌++◌, [], ◌∷◌, OnOk, IfOk};
 ghost use Rattle.zx_model.specs.Bits.{member};
-ghost use Rattle.zx_calculus.specs.Graph.{Live};
+ghost use Rattle.zx_calculus.specs.Graph.{Live, WellFormed};
 ghost use Rattle.zx_calculus.proofs.EditPrograms.{toggled};
 ghost use Rattle.gflow_laws.specs.Flow.{IsFlow};
 ghost use Rattle.gflow_laws.specs.Examples.{by_itself};
@@ -72,7 +72,8 @@ fn stands_in(order: &[VertexId], v: VertexId) -> bool
 
 // Adds a vertex of phase 0 between an input and an output, which gets this id.
 fn add_wire(rt: &impl Abort, graph: &mut OpenGraph, number: usize) -> Result<(), Fail>
-    ensures { OnOk result (graph.new.graph ≡ with_wire number graph.old.graph) }
+    ensures graph { OnOk result (graph.new.graph ≡ with_wire number graph.old.graph) }
+    ensures valid { WellFormed graph.new.graph }
 {
     let v = graph.add_vertex(Plane::XY, Eighth::new(0))?;
     assert!(rt; v.get() == number);
@@ -100,6 +101,7 @@ fn add_gadget(
     phase: Eighth,
 ) -> Result<(), Fail>
     ensures graph { OnOk result (graph.new.graph ≡ with_gadget number phase graph.old.graph) }
+    ensures valid { WellFormed graph.new.graph }
     ensures flow { OnOk result (flow.new.flow ≡ flow.old.flow ++ by_itself number ∷ []) }
 {
     let v = graph.add_vertex(Plane::YZ, phase)?;
@@ -114,10 +116,10 @@ fn join(graph: &mut OpenGraph, u: usize, v: usize) -> Result<(), Fail>
     requires u_live { Live graph.old.graph u }
     requires v_live { Live graph.old.graph v }
     requires different { u ≢ v }
-    ensures { OnOk result (graph.new.graph ≡ toggled graph.old.graph u v) }
+    requires valid { WellFormed graph.old.graph }
+    ensures graph { OnOk result (graph.new.graph ≡ toggled graph.old.graph u v) }
+    ensures valid { WellFormed graph.new.graph }
 {
-    // A graph that tells its ends tells that it is well-formed.
-    let _ends = graph.inputs();
     graph.toggle_edge(VertexId::new(u), VertexId::new(v))?;
     Ok(())
 }

@@ -9,7 +9,7 @@ use Rattle.zx_run.specs.declared.status.Status.{Status}
 use Rattle.zx_run.specs.declared.status.Status.TheVariants.{Done, Refused, Usage, ReadFault, WriteFault, NoMemory, No}
 use Rattle.zx_run.specs.FirstFault.{IsFirstFault, IsFaultless}
 use Rattle.zx_run.specs.Outcome.{GainsOutputFor, GainsPrefixFor, IsAnswerOfGen, IsGen, IsOpt, IsOptimisedText, IsOrNoMemory, IsOutputFor, SaysEnd}
-use Rattle.zx_run.specs.Answers.{ToldSource, Streams, IsAnswer, IsMade, IsOutputOf, IsRefused, IsAllRead, AsksForOpt}
+use Rattle.zx_run.specs.Internal.Answers.{ToldSource, Streams, IsAnswer, IsMade, IsOutputOf, IsRefused, IsAllRead, AsksForOpt}
 use Rattle.zx_run.proofs.FaultLemmas.{one_first_fault, not_faultless}
 
 -- what is accepted has an output

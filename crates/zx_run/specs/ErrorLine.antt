@@ -6,7 +6,7 @@ use Rattle.zx_run.specs.declared.status.Fault.TheVariants.{Redeclared, EmptyRegi
 use Rattle.zx_run.specs.declared.status.Fault.TheVariants.{WrongCount, Index, Sizes, SameQubit, Divide, AngleTooLarge}
 use Rattle.zx_run.specs.declared.status.Fault.TheVariants.{NotEighthTurn, TooDeep, TooManyGates, SecondVersion, BadLine}
 use Rattle.zx_run.specs.declared.status.Status.{Status}
-use Rattle.zx_run.specs.declared.status.Status.TheVariants.{Done, Refused, Usage, ReadFault, WriteFault, NoMemory, No}
+use Rattle.zx_run.specs.declared.status.Status.TheVariants.{Refused, Usage, ReadFault, WriteFault, NoMemory}
 
 -- where something stands, if that is told
 abbrev pub place_text : Option ℕ → List ℕ
@@ -43,10 +43,9 @@ fault_text (BadLine line) = at_place (codes "21 BadLine") line
 
 -- the line, with its line end; Done and No have none
 abbrev pub error_line : Status → List ℕ
-error_line Done = []
 error_line (Refused fault) = codes "zxopt: fault " ++ fault_text fault ++ codes "\n"
 error_line Usage = codes "usage: zxopt opt [--best] [--report] | reduce | flow | graph | gen SEED QUBITS GATES\n"
 error_line ReadFault = codes "zxopt: read fault\n"
 error_line WriteFault = codes "zxopt: write fault\n"
 error_line NoMemory = codes "zxopt: no memory\n"
-error_line No = []
+error_line status = []

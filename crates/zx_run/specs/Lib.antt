@@ -1,6 +1,5 @@
 pub mod FirstFault
 pub mod Optimising
 pub mod Outcome
-pub mod Answers
 pub mod ErrorLine
 pub mod Internal

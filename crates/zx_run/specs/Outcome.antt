@@ -1,6 +1,6 @@
 -- What a run may write, and what it did to the output.
-use Rattle.std.specs.Prelude.{◌≡◌, ◌≢◌, ◌≤◌, ◌⊎◌, ◌++◌, ℕ, Bool, true, false, List, [], take, codes, decimal, Option}
-use Rattle.std.specs.Prelude.{Some}
+use Rattle.std.specs.Prelude.{◌≡◌, ◌≢◌, ◌≤◌, ◌⊎◌, ◌++◌, ℕ, Bool, true, if◌then◌else◌, List, [], take, codes, decimal}
+use Rattle.std.specs.Prelude.{Option, Some}
 use Rattle.zx_gates.specs.declared.elementary.ElementaryGate.{ElementaryGate}
 use Rattle.zx_gates.specs.declared.gate.Gate.{Gate}
 use Rattle.zx_gates.specs.Circuit.{Circuit, IsCircuit}
@@ -28,8 +28,7 @@ circuit_on qubits gates = record { qubits = qubits; gates = gates }
 
 -- the report of two lists of gates, where it is asked for
 abbrev pub report_if : Bool → List Gate → List Gate → List ℕ
-report_if true read made = report_lines (counts_of read) (counts_of made)
-report_if false read made = []
+report_if report read made = if report then report_lines (counts_of read) (counts_of made) else []
 
 -- The bytes are what `opt` may write for a text, with the flags `best` and `report` or without: the text
 -- has no fault, and they are the text of a circuit that optimises the one that is meant, lowered, and its
@@ -43,8 +42,7 @@ pub record IsOptimisedText (best report : Bool) (text bytes : List ℕ) : Type 0
   pub spelled : bytes ≡ written circuit ++ report_if report (lowered read) circuit.gates
   -- the headline
   pub means : TextMeans (written circuit) qubits (elements_of circuit.gates)
-  pub same_map :
-      Proportional qubits qubits (amp_elementary read) (amp_elementary (elements_of circuit.gates))
+  pub same_map : Proportional qubits qubits (amp_elementary read) (amp_elementary (elements_of circuit.gates))
   pub no_more_odd : elementary_odd_phases (elements_of circuit.gates) ≤ elementary_odd_phases read
   pub few_gates : program_size means.program ≤ gate_bound qubits (elementary_odd_phases read)
   -- what more is known of the circuit
@@ -90,8 +88,7 @@ GainsPrefix old new bytes =
 
 -- the output gained all that the command may write, where this is told as left in the source
 abbrev pub GainsOutputFor : Command → Option (List ℕ) → Option (List ℕ) → Option (List ℕ) → Type 0
-GainsOutputFor command left old new =
-    (bytes : List ℕ) × IsOutputFor command left bytes × Gains old new bytes
+GainsOutputFor command left old new = (bytes : List ℕ) × IsOutputFor command left bytes × Gains old new bytes
 
 -- the output gained a prefix of what the command may write
 abbrev pub GainsPrefixFor : Command → Option (List ℕ) → Option (List ℕ) → Option (List ℕ) → Type 0
@@ -101,12 +98,9 @@ GainsPrefixFor command left old new =
 -- the answers after which the output is as it was
 abbrev pub LeavesOutput : Status → Type 0
 LeavesOutput Done = ⊥
-LeavesOutput (Refused fault) = Unit {0}
-LeavesOutput Usage = Unit {0}
-LeavesOutput ReadFault = Unit {0}
 LeavesOutput WriteFault = ⊥
-LeavesOutput NoMemory = Unit {0}
 LeavesOutput No = ⊥
+LeavesOutput status = Unit {0}
 
 -- the answer is this one, or memory ran out
 abbrev pub IsOrNoMemory : Status → Status → Type 0

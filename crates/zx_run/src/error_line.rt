@@ -20,7 +20,7 @@ pub fn report<E: Sink>(status: Status, err: &mut E) -> Status
     ensures whole { ¬ Rose (E.faults err.old) (E.faults err.new)
         → Gains (E.taken err.old) (E.taken err.new) (error_line result) }
 {
-    let line = line_of(status);
+    let line = error_line(status);
     if !line.as_str().is_empty() {
         let _ = write_all(err, line.as_str().as_bytes());
     }
@@ -28,7 +28,7 @@ pub fn report<E: Sink>(status: Status, err: &mut E) -> Status
 }
 
 // The line of an answer.
-fn line_of(status: Status) -> Line
+fn error_line(status: Status) -> Line
     ensures { result.bytes ≡ error_line status }
 {
     match status {

@@ -6,7 +6,7 @@ ghost use Rattle.zx_gen.specs.Generator.{most_drawn_gates};
 ghost use Rattle.zx_run.specs.Outcome.{IsGenerationReport, generation_line};
 
 use crate::optimiser::optimise;
-use crate::reporting::report_of;
+use crate::reporting::report_lines;
 use std::alloc::{AllocError, Global};
 use zx_gates::Qubit;
 use zx_gen::generate;
@@ -30,7 +30,7 @@ pub fn generation_report(
 {
     let read = generate(alloc, seed, qubits, gates)?;
     let made = optimise(alloc, &read, false)?;
-    let lines = report_of(alloc, &read, &made)?;
+    let lines = report_lines(alloc, &read, &made)?;
     let mut output = generation_line(alloc, seed, qubits, gates)?;
     output.extend_from_slice(&lines)?;
     Ok(output)

@@ -8,7 +8,7 @@ ghost use Rattle.zx_run.specs.Outcome.{IsOptimisedText, report_if};
 use crate::no_output::NoOutput;
 use crate::optimiser::optimise;
 use crate::reader::read_circuit;
-use crate::reporting::report_of;
+use crate::reporting::report_lines;
 use qasm_writer::write_text;
 use std::alloc::{AllocError, Global};
 use zx_gates::{GateList, lower};
@@ -48,5 +48,5 @@ fn report_if(
     if !reported {
         return Ok(Vec::new(alloc));
     }
-    report_of(alloc, read, made)
+    report_lines(alloc, read, made)
 }

@@ -9,7 +9,7 @@ ghost use Rattle.zx_run.specs.declared.status.Fault.{Fault};
 ghost use Rattle.zx_run.specs.FirstFault.{IsFaultless, IsFirstFault};
 ghost use Rattle.zx_run.specs.Outcome.{Gains, GainsOutputFor, GainsPrefix, GainsPrefixFor, IsAnswerOfGen, IsGen, IsOpt, IsOrNoMemory, LeavesOutput, SaysEnd};
 ghost use Rattle.zx_run.specs.ErrorLine.{error_line};
-ghost use Rattle.zx_run.specs.Answers.{IsAnswer, IsFailure, IsMade, streams, told_output, told_source};
+ghost use Rattle.zx_run.specs.Internal.Answers.{IsAnswer, IsFailure, IsMade, streams, told_output, told_source};
 
 use crate::error_line::report;
 use crate::generation::generation_report;
@@ -18,7 +18,7 @@ use crate::output::optimised_text;
 use crate::status::{Fault, Status};
 use std::alloc::Global;
 use zx_io::{ReadError, Sink, Source, WriteFault, read_all, write_all};
-use zx_words::{Command, command_from};
+use zx_words::{Command, command_in};
 
 // The most bytes that are read.
 const MOST_BYTES: usize = 16_777_216;
@@ -97,9 +97,73 @@ pub fn run<'a, S: Source, O: Sink, E: Sink>(
     report(status, err)
 }
 
-/// The answer of `run`, without its line: what it says of the source and the output before and after. Where
-/// there is an output, all of it is made before its first byte is written.
+/// The answer of `run`, without its line. Where there is an output, all of it is made before its first byte
+/// is written.
 pub fn answer<'a, S: Source, O: Sink>(
+    alloc: Global,
+    words: &'a [&'a str],
+    source: &mut S,
+    out: &mut O,
+) -> Status
+    // Done: no stream failed, the output was flushed, and it gained what the command may write.
+    ensures done { result ≡ Status.Done →
+        (S.faults source.new ≡ S.faults source.old) × (O.faults out.new ≡ O.faults out.old) }
+    ensures done_flushed { result ≡ Status.Done → O.pending out.new ≡ 0 }
+    ensures done_output { (command : Command) → result ≡ Status.Done →
+        command_in words.now ≡ Some command →
+        GainsOutputFor command (S.left source.old) (O.taken out.old) (O.taken out.new) }
+
+    // Usage: only where the words are no command, and always there, unless memory runs out. Nothing is
+    // read then.
+    ensures usage { result ≡ Status.Usage → command_in words.now ≡ None }
+    ensures usage_where { command_in words.now ≡ None → IsOrNoMemory Status.Usage result }
+    ensures usage_unread { result ≡ Status.Usage → source.new ≡ source.old }
+
+    // Refused: no read failed. Of `opt` exactly where the fault is the first one of the text,
+    // unless memory runs out.
+    ensures refused { (fault : Fault) → result ≡ Status.Refused fault
+        → S.faults source.new ≡ S.faults source.old }
+    ensures refused_first { (fault : Fault) (text : List ℕ) → result ≡ Status.Refused fault →
+        IsOpt (command_in words.now) → S.left source.old ≡ Some text → IsFirstFault text fault }
+    ensures refused_where { (fault : Fault) (text : List ℕ) → IsOpt (command_in words.now) →
+        S.left source.old ≡ Some text → ¬ Rose (S.faults source.old) (S.faults source.new) →
+        IsFirstFault text fault → IsOrNoMemory (Status.Refused fault) result }
+
+    // ReadFault and WriteFault: only where that stream failed in this call, and always where its count
+    // tells so.
+    ensures read_fault { result ≡ Status.ReadFault
+        → Rose (S.faults source.old) (S.faults source.new) }
+    ensures read_fault_where { S.faults source.new ≢ S.faults source.old
+        → result ≡ Status.ReadFault }
+    ensures write_fault { result ≡ Status.WriteFault →
+        Rose (O.faults out.old) (O.faults out.new) × (S.faults source.new ≡ S.faults source.old) }
+    ensures write_fault_where { O.faults out.new ≢ O.faults out.old → result ≡ Status.WriteFault }
+    ensures write_fault_output { (command : Command) → result ≡ Status.WriteFault →
+        command_in words.now ≡ Some command →
+        GainsPrefixFor command (S.left source.old) (O.taken out.old) (O.taken out.new) }
+    ensures never_no { IsOpt (command_in words.now) → result ≢ Status.No }
+
+    // A text without fault is optimised, unless a stream fails or memory runs out.
+    ensures complete { (text : List ℕ) → IsFaultless text → IsOpt (command_in words.now) →
+        S.left source.old ≡ Some text → ¬ Rose (S.faults source.old) (S.faults source.new) →
+        ¬ Rose (O.faults out.old) (O.faults out.new) → IsOrNoMemory Status.Done result }
+
+    // `gen` reads nothing, and is done unless the output fails or memory runs out.
+    ensures gen_answers { IsGen (command_in words.now) → IsAnswerOfGen result }
+    ensures gen_complete { IsGen (command_in words.now) →
+        ¬ Rose (O.faults out.old) (O.faults out.new) → IsOrNoMemory Status.Done result }
+    ensures gen_unread { IsGen (command_in words.now) → source.new ≡ source.old }
+
+    // What stands after the answer.
+    ensures read_to_end { (text : List ℕ) → IsOpt (command_in words.now) →
+        S.left source.old ≡ Some text → SaysEnd result → S.left source.new ≡ Some [] }
+    ensures out_kept { LeavesOutput result → out.new ≡ out.old }
+{
+    answered(alloc, words, source, out)
+}
+
+// The answer: what it says of the source and the output before and after.
+fn answered<'a, S: Source, O: Sink>(
     alloc: Global,
     words: &'a [&'a str],
     source: &mut S,
@@ -134,7 +198,7 @@ fn output_of<'a, S: Source>(
     ensures failure { IfErr result (IsFailure (command_in words.now)
         (told_source S.left S.faults source.old) (told_source S.left S.faults source.new)) }
 {
-    match command_from(alloc, words)? {
+    match command_in(alloc, words)? {
         None => Err(Status::Usage),
         Some(Command::Optimise { best, report }) => output_of_opt(alloc, best, report, source),
         Some(

@@ -13,7 +13,7 @@ use zx_report::report;
 /// # Errors
 ///
 /// Only where memory runs out.
-pub fn report_of(alloc: Global, read: &GateList, made: &GateList) -> Result<Vec<u8>, AllocError>
+pub fn report_lines(alloc: Global, read: &GateList, made: &GateList) -> Result<Vec<u8>, AllocError>
     ensures { IfOk result (λ lines. lines.items
         ≡ report_lines (counts_of read.now.gates) (counts_of made.now.gates)) }
 {

@@ -1,10 +1,10 @@
 //! The words of the command line.
 //!
-//! Proved of `command_from`: it gives the command that the definition makes of the words, or that
+//! Proved of `command_in`: it gives the command that the definition makes of the words, or that
 //! they are none; only want of memory is an error.
 //!
 //! ```rust
-//! let command = command_from(alloc, &["opt", "--best"])?;
+//! let command = command_in(alloc, &["opt", "--best"])?;
 //! // Some(Command::Optimise { best: true, report: false })
 //! ```
 #![tactic(auto)]
@@ -14,4 +14,4 @@ pub mod laws;
 mod tests;
 mod words;
 
-pub use words::{Command, command_from};
+pub use words::{Command, command_in};

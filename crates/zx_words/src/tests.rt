@@ -1,5 +1,5 @@
 //! Worked words.
-use crate::{Command, command_from};
+use crate::{Command, command_in};
 use std::test::Fail;
 
 #[test]
@@ -16,17 +16,14 @@ fn words_of_opt(rt: HostRuntime) -> Result<(), Fail> {
         best: true,
         report: false,
     });
-    assert_eq!(rt; command_from(rt.alloc(), ["opt"].as_slice())?, plain);
+    assert_eq!(rt; command_in(rt.alloc(), ["opt"].as_slice())?, plain);
+    assert_eq!(rt; command_in(rt.alloc(), ["opt", "--best"].as_slice())?, best);
     assert_eq!(rt;
-        command_from(rt.alloc(), ["opt", "--best"].as_slice())?,
-        best
-    );
-    assert_eq!(rt;
-        command_from(rt.alloc(), ["opt", "--best", "--report"].as_slice())?,
+        command_in(rt.alloc(), ["opt", "--best", "--report"].as_slice())?,
         both
     );
     assert_eq!(rt;
-        command_from(rt.alloc(), ["opt", "--report", "--best"].as_slice())?,
+        command_in(rt.alloc(), ["opt", "--report", "--best"].as_slice())?,
         both
     );
     Ok(())
@@ -40,7 +37,7 @@ fn words_of_gen(rt: HostRuntime) -> Result<(), Fail> {
         gates: 1000000,
     });
     let words = ["gen", "18446744073709551615", "1024", "1000000"];
-    assert_eq!(rt; command_from(rt.alloc(), words.as_slice())?, command);
+    assert_eq!(rt; command_in(rt.alloc(), words.as_slice())?, command);
     Ok(())
 }
 
@@ -66,7 +63,7 @@ fn other_words(rt: HostRuntime) -> Result<(), Fail> {
         &["gen", "1", "1", "1", "1"],
     ];
     for words in none {
-        assert_eq!(rt; command_from(rt.alloc(), words)?, None);
+        assert_eq!(rt; command_in(rt.alloc(), words)?, None);
     }
     Ok(())
 }

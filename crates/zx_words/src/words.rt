@@ -40,13 +40,13 @@ pub enum Command {
 /// # Errors
 ///
 /// Only where memory runs out.
-pub fn command_from<'a>(alloc: Global, words: &'a [&'a str]) -> Result<Option<Command>, AllocError>
+pub fn command_in<'a>(alloc: Global, words: &'a [&'a str]) -> Result<Option<Command>, AllocError>
     ensures command { IfOk result (λ command. command ≡ command_in words.entry.now) }
     ensures limits { IfOk result IsWithinLimits }
 {
     let definition = definition(alloc)?;
     match definition.try_get_matches_from(words) {
-        Ok(matches) => Ok(command_of(&matches)),
+        Ok(matches) => Ok(command_by(&matches)),
         Err(error) => match error.kind() {
             ErrorKind::OutOfMemory => Err(AllocError),
             _ => Ok(None),
@@ -54,7 +54,7 @@ pub fn command_from<'a>(alloc: Global, words: &'a [&'a str]) -> Result<Option<Co
     }
 }
 
-/// The command line, as it is defined.
+// The command line, as it is defined.
 fn definition<'a>(alloc: Global) -> Result<clap::Command<'a>, AllocError>
     ensures { IfOk result (λ command. app_of command ≡ zxopt_app) }
 {
@@ -69,7 +69,7 @@ fn definition<'a>(alloc: Global) -> Result<clap::Command<'a>, AllocError>
     with_opt.subcommand(generate)
 }
 
-/// `opt`, with its flags.
+// `opt`, with its flags.
 fn opt_definition<'a>(alloc: Global) -> Result<clap::Command<'a>, AllocError>
     ensures app { IfOk result (λ command. app_of command ≡ opt_app) }
     ensures local { IfOk result (λ command. (out-Command command).has_globals ≡ false) }
@@ -80,7 +80,7 @@ fn opt_definition<'a>(alloc: Global) -> Result<clap::Command<'a>, AllocError>
     with_best.arg(report)
 }
 
-/// `gen`, with its words.
+// `gen`, with its words.
 fn gen_definition<'a>(alloc: Global) -> Result<clap::Command<'a>, AllocError>
     ensures app { IfOk result (λ command. app_of command ≡ gen_app) }
     ensures local { IfOk result (λ command. (out-Command command).has_globals ≡ false) }
@@ -93,7 +93,7 @@ fn gen_definition<'a>(alloc: Global) -> Result<clap::Command<'a>, AllocError>
     with_qubits.arg(gates)
 }
 
-/// A flag by its name, which may be given once.
+// A flag by its name, which may be given once.
 fn flag<'a>(alloc: Global, name: &'a str) -> Arg<'a>
     ensures rule { rule_of result ≡ flag_rule name.entry.now }
     ensures local { result.global ≡ false }
@@ -101,7 +101,7 @@ fn flag<'a>(alloc: Global, name: &'a str) -> Arg<'a>
     Arg::new(alloc, name).long(name).action(ArgAction::SetTrue)
 }
 
-/// A word that has to be there.
+// A word that has to be there.
 fn word<'a>(alloc: Global, name: &'a str) -> Arg<'a>
     ensures rule { rule_of result ≡ word_rule name.entry.now }
     ensures local { result.global ≡ false }
@@ -109,26 +109,26 @@ fn word<'a>(alloc: Global, name: &'a str) -> Arg<'a>
     Arg::new(alloc, name).required(true)
 }
 
-/// The command of a parse.
-fn command_of(matches: &ArgMatches) -> Option<Command>
+// The command of a parse.
+fn command_by(matches: &ArgMatches) -> Option<Command>
     ensures command { result ≡ command_by (subcommand_rows_of matches.now) }
     ensures limits { IsWithinLimits result }
 {
     let (name, given) = matches.subcommand()?;
     if name == "opt" {
         return Some(Command::Optimise {
-            best: is_given(given, "best"),
-            report: is_given(given, "report"),
+            best: has_flag(given, "best"),
+            report: has_flag(given, "report"),
         });
     }
     if name == "gen" {
-        return generation_of(given);
+        return generation_by(given);
     }
     None
 }
 
-/// Whether a flag is given.
-fn is_given(given: &ArgMatches, flag: &str) -> bool
+// Whether a flag is given.
+fn has_flag(given: &ArgMatches, flag: &str) -> bool
     ensures { result ≡ has_flag flag.now (rows_of (found_of given.now)) }
 {
     match given.get_str(flag) {
@@ -137,14 +137,14 @@ fn is_given(given: &ArgMatches, flag: &str) -> bool
     }
 }
 
-/// The command of the three words.
-fn generation_of(given: &ArgMatches) -> Option<Command>
+// The command of the three words.
+fn generation_by(given: &ArgMatches) -> Option<Command>
     ensures command { result ≡ generation_by (rows_of (found_of given.now)) }
     ensures limits { IsWithinLimits result }
 {
-    let seed = number_of(given, "seed", u64::MAX)?;
-    let qubits = number_of(given, "qubits", 1024)?;
-    let gates = number_of(given, "gates", 1_000_000)?;
+    let seed = number_at(given, "seed", u64::MAX)?;
+    let qubits = number_at(given, "qubits", 1024)?;
+    let gates = number_at(given, "gates", 1_000_000)?;
     if qubits == 0 {
         return None;
     }
@@ -155,16 +155,16 @@ fn generation_of(given: &ArgMatches) -> Option<Command>
     })
 }
 
-/// A number that is given, up to the greatest one.
-fn number_of(given: &ArgMatches, name: &str, most: u64) -> Option<u64>
+// A number that is given, up to the greatest one.
+fn number_at(given: &ArgMatches, name: &str, most: u64) -> Option<u64>
     ensures value { result ≡ number_at name.now most (rows_of (found_of given.now)) }
     ensures small { IfSome result (λ number. number ≤ most) }
 {
-    number_from(given.get_str(name)?, most)
+    number_in(given.get_str(name)?, most)
 }
 
-/// The number that a text spells in decimal digits, without a leading zero, up to the greatest one.
-fn number_from(text: &str, most: u64) -> Option<u64>
+// The number that a text spells in decimal digits, without a leading zero, up to the greatest one.
+fn number_in(text: &str, most: u64) -> Option<u64>
     ensures value { result ≡ number_in most text.now }
     ensures small { IfSome result (λ number. number ≤ most) }
 {

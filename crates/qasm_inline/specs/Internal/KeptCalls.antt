@@ -6,16 +6,16 @@ use Rattle.qasm_angle.specs.declared.angle.Angle.{Angle}
 use Rattle.qasm_angle.specs.Trees.{Tree}
 use Rattle.qasm_angle.specs.Values.{value}
 use Rattle.qasm_scope.specs.declared.causes.Cause.{Cause}
-use Rattle.qasm_scope.specs.declared.gates.GateBody.{GateBody}
-use Rattle.qasm_scope.specs.declared.gates.GateCall.{GateCall}
-use Rattle.qasm_scope.specs.declared.gates.CalledGate.{CalledGate}
-use Rattle.qasm_scope.specs.declared.gates.CalledGate.TheVariants as called_gate
+use Rattle.qasm_names.specs.declared.gates.GateBody.{GateBody}
+use Rattle.qasm_names.specs.declared.gates.GateCall.{GateCall}
+use Rattle.qasm_names.specs.declared.gates.CalledGate.{CalledGate}
+use Rattle.qasm_names.specs.declared.gates.CalledGate.TheVariants as called_gate
 use Rattle.qasm_inline.specs.declared.unroll.Frame.{Frame}
 use Rattle.qasm_inline.specs.declared.unroll.Heights.{Heights}
 use Rattle.qasm_inline.specs.declared.unroll.Unrolled.{Unrolled}
 use Rattle.qasm_scope.specs.Meaning.{most_calls}
 use Rattle.qasm_scope.specs.Angles.{in_prefix, with_cause}
-use Rattle.qasm_scope.specs.Internal.Kept.{gate_count}
+use Rattle.qasm_names.specs.Kept.{gate_count}
 use Rattle.qasm_scope.specs.Scope.{Scope, Meaning, Qubits, Bits, Gate}
 use Rattle.qasm_scope.specs.Calls.{Event, Called, Applied, expand_meaning, expand_declared, u_events, cx_events}
 use Rattle.qasm_scope.specs.Calls.{after_angles, applied, call_count, first_wrong}

@@ -1,24 +1,23 @@
 -- What the reader of a text keeps, and what its answer says of the text: a private matter of the program.
-use Rattle.std.specs.Prelude.{◌≡◌, ℕ, List, ◌++◌, drop, Option, None, Some, Result, Ok, Err}
+use Rattle.std.specs.Prelude.{◌≡◌, ℕ, List, [], ◌++◌, drop, Option, None, Some, Result, Ok, Err}
 use Rattle.std.specs.Borrow.{Bor}
 use Rattle.zx_gates.specs.declared.elementary.Elementary.{Elementary}
 use Rattle.qasm_lexer.specs.declared.token.Token.{Token}
 use Rattle.qasm_lexer.specs.Tokens.{Lexeme, lexemes, IsCut, IsCutUpTo, IsBadByte}
 use Rattle.qasm_reader.specs.declared.parts.BodyPart.{BodyPart}
-use Rattle.qasm_reader.specs.declared.depth.Depth.{Depth}
-use Rattle.qasm_reader.specs.Depth.{too_deep}
-use Rattle.qasm_reader.specs.Grammar.{BeginsWithStatement, IsProgram, IsSyntaxFault}
-use Rattle.qasm_reader.specs.Internal.Depths.{IsDepth}
-use Rattle.qasm_reader.specs.Parts.{IsInBody, IsNextInBody}
+use Rattle.qasm_reader.specs.Depth.{too_deep, IsDepth}
+use Rattle.qasm_reader.specs.Grammar.{IsProgram, IsSyntaxFault}
+use Rattle.qasm_reader.specs.Parts.{BeginNone, IsInBody, IsNextInBody}
 use Rattle.qasm_reader.specs.Syntax.{GateForm, Placed}
 use Rattle.qasm_scope.specs.Meaning.{first_fault, most_calls}
 use Rattle.qasm_scope.specs.Texts.{IsProgramText}
 use Rattle.qasm_inline.specs.declared.circuit.Circuit.{Circuit}
 use Rattle.qasm_inline.specs.declared.circuit.OpenGate.{OpenGate}
+use Rattle.qasm_inline.specs.declared.reading.Reader.{Reader}
 use Rattle.qasm_inline.specs.declared.reading.Reading.{Reading}
 use Rattle.qasm_inline.specs.declared.error.TextError.{TextError}
 use Rattle.qasm_inline.specs.declared.error.TextError.TheVariants.{BadByte, TooDeep, Syntax, Wrong, NoMemory}
-use Rattle.qasm_inline.specs.Internal.Circuits.{HasBegun, HasTaken, IsCircuitAnswer}
+use Rattle.qasm_inline.specs.Circuits.{HasBegun, HasTaken, IsCircuitAnswer}
 
 -- Of the tokens behind whole statements those before the rest were taken in: none, or in a gate's declaration that
 -- isn't over those of its heading and of its body so far.
@@ -39,7 +38,30 @@ pub record AreTaken (all : List Lexeme) (reading : Reading) (rest : List Lexeme)
 -- so they were, and those behind whole statements begin with no further one
 pub record AreAllTaken (all : List Lexeme) (reading : Reading) (rest : List Lexeme) : Type 0 where
   pub read : AreTaken all reading rest
-  pub none : BeginsWithStatement read.behind → ⊥
+  pub none : BeginNone read.behind rest
+
+-- whatever follows, there is a syntax fault at this place
+abbrev pub IsCertain : List Lexeme → Option ℕ → Type 0
+IsCertain all (Some at) = (more : List Lexeme) → IsSyntaxFault (all ++ more) at
+IsCertain all None = ⊥
+
+-- all tokens up to the rest were read and taken in, or a syntax fault is certain
+abbrev pub IsReadAs : Option ℕ → List Lexeme → Reading → List Lexeme → Type 0
+IsReadAs None all reading rest = AreTaken all reading rest
+IsReadAs (Some at) all reading rest = IsCertain all (Some at)
+
+-- so it is, and no part begins the rest
+abbrev pub IsTakenAs : Option ℕ → List Lexeme → Reading → List Lexeme → Type 0
+IsTakenAs None all reading rest = AreAllTaken all reading rest
+IsTakenAs (Some at) all reading rest = IsCertain all (Some at)
+
+-- what the reader keeps is what all tokens come to; behind a syntax fault it keeps none of them
+abbrev pub IsKeptAs : Option ℕ → List Lexeme → Reader → Type 0
+IsKeptAs None all reader = AreAllTaken all reader.reading (lexemes reader.tokens.items)
+IsKeptAs (Some at) all reader = (lexemes reader.tokens.items ≡ []) × IsCertain all (Some at)
+
+abbrev pub IsKept : List Lexeme → Reader → Type 0
+IsKept all reader = IsKeptAs reader.fault all reader
 
 -- the same reading inside this gate's declaration
 abbrev pub inside : Reading → OpenGate → Reading
@@ -48,7 +70,7 @@ inside reading gate = record reading { gate = Some gate }
 -- this is next in whatever gate's body the tokens are, whose declaration begins at this place
 abbrev pub IsNextOf : ℕ → List Lexeme → Option (BodyPart × Bor (List Token)) → Type 0
 IsNextOf place ts read =
-    (form : GateForm) (behind : List Lexeme) → IsInBody place form behind ts → IsNextInBody place form behind read
+    (form : GateForm) (behind : List Lexeme) → IsInBody place form behind ts → IsNextInBody place form behind ts read
 
 -- the later reading has taken in what stands between these tokens and the rest
 abbrev pub TakesIn : Reading → List Lexeme → Reading → List Lexeme → Type 0
@@ -64,13 +86,12 @@ abbrev pub IsEnd : List Lexeme → Circuit → Option ℕ → Type 0
 IsEnd all circuit (Some at) = IsSyntaxFault all at
 IsEnd all circuit None = (statements : List Placed) × IsProgram all statements × HasTaken circuit statements
 
--- the text is cut up to the place, and all parts are taken in up to these tokens
-pub record IsReadUpTo (text : List ℕ) (place : ℕ) (depth : Depth) (tokens : List Token)
-    (reading : Reading) : Type 0 where
+-- the text is cut up to the place, and the reader keeps what its tokens come to
+pub record IsReadUpTo (text : List ℕ) (place : ℕ) (reader : Reader) : Type 0 where
   pub all : List Lexeme
   pub cut : IsCutUpTo 0 text (drop place text) all
-  pub deep : IsDepth depth all
-  pub read : AreAllTaken all reading (lexemes tokens)
+  pub deep : IsDepth reader.depth all
+  pub read : IsKept all reader
 
 -- the circuit of a program, or its first fault
 abbrev pub IsProgramAnswer : List Placed → Result Elementary TextError → Type 0

@@ -6,14 +6,14 @@ use Rattle.std.specs.Option.{is_some}
 use Rattle.qasm_reader.specs.Syntax.{Operand, Apply}
 use Rattle.qasm_scope.specs.Applications.{QubitRange, Single, Register, qubit_at, register_sizes, instance_count}
 use Rattle.qasm_scope.specs.Angles.{is_unsupported, numbered}
-use Rattle.qasm_scope.specs.Internal.Checks.{Symbols, shape_by, called_by}
+use Rattle.qasm_names.specs.Checks.{Symbols, shape_by, called_by}
+use Rattle.qasm_names.specs.Kept.{found, symbol_register}
 use Rattle.qasm_scope.specs.Faults.{is_no_gate, has_other_name, has_other_shape}
-use Rattle.qasm_scope.specs.Internal.Kept.{found, symbol_register}
 use Rattle.qasm_scope.specs.Scope.{numeral}
 use Rattle.qasm_angle.specs.Trees.{Tree}
 use Rattle.qasm_angle.specs.declared.angle.Angle.{Angle}
 use Rattle.qasm_scope.specs.Calls.{Event}
-use Rattle.qasm_scope.specs.declared.gates.CalledGate.{CalledGate}
+use Rattle.qasm_names.specs.declared.gates.CalledGate.{CalledGate}
 use Rattle.qasm_inline.specs.declared.applications.Span.{Span}
 use Rattle.qasm_inline.specs.Internal.KeptCalls.{Numbered, called_events, values_of}
 use Rattle.qasm_scope.specs.declared.causes.Cause.{Cause}

@@ -9,15 +9,14 @@ use Rattle.qasm_reader.specs.declared.parts.BodyPart.TheVariants.{Statement, End
 use Rattle.qasm_reader.specs.declared.parts.Part.{Part}
 use Rattle.qasm_reader.specs.declared.step_error.StepError.{StepError}
 use Rattle.qasm_reader.specs.declared.step_error.StepError.TheVariants.{Misfit, NoMemory}
-use Rattle.qasm_reader.specs.Grammar.{BeginsWithStatement}
-use Rattle.qasm_reader.specs.Parts.{IsFirstPart}
+use Rattle.qasm_reader.specs.Parts.{BeginNone, IsFirstPart}
 use Rattle.qasm_reader.specs.Views.{body_sentence}
 use Rattle.qasm_reader.specs.Internal.Taking.{after, body_statement}
 
 -- what the answer says of the part of a program at the start
 abbrev pub IsPart : List Lexeme → Result (Part × Bor (List Token)) StepError → Type 0
 IsPart ts (Ok x) = IsFirstPart x.0 ts (lexemes x.1.now)
-IsPart ts (Err Misfit) = BeginsWithStatement ts → ⊥
+IsPart ts (Err Misfit) = BeginNone ts ts
 IsPart ts (Err NoMemory) = Unit {0}
 
 -- what the answer says of the part of a gate's body at the start

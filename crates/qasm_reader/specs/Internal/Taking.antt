@@ -306,16 +306,24 @@ act ts = do
   action ← operation ts
   Some (Act action.0, action.1)
 
+-- a statement that declares no gate
+abbrev pub simple_by : TokenKind → List Lexeme → List Lexeme → Option (Sentence × List Lexeme)
+simple_by kind.Openqasm rest all = version rest
+simple_by kind.Include rest all = include rest
+simple_by kind.Qreg rest all = qubit_register rest
+simple_by kind.Creg rest all = bit_register rest
+simple_by kind.Opaque rest all = opaque rest
+simple_by kind.If rest all = conditional rest
+simple_by kind.Barrier rest all = barrier rest
+simple_by _ rest all = act all
+
+unfoldable pub simple_statement : List Lexeme → Option (Sentence × List Lexeme)
+simple_statement [] = None
+simple_statement (t ∷ ts) = simple_by t.kind ts (t ∷ ts)
+
 abbrev pub statement_by : TokenKind → List Lexeme → List Lexeme → Option (Sentence × List Lexeme)
-statement_by kind.Openqasm rest all = version rest
-statement_by kind.Include rest all = include rest
-statement_by kind.Qreg rest all = qubit_register rest
-statement_by kind.Creg rest all = bit_register rest
 statement_by kind.Gate rest all = gate rest
-statement_by kind.Opaque rest all = opaque rest
-statement_by kind.If rest all = conditional rest
-statement_by kind.Barrier rest all = barrier rest
-statement_by _ rest all = act all
+statement_by k rest all = simple_by k rest all
 
 unfoldable pub statement : List Lexeme → Option (Sentence × List Lexeme)
 statement [] = None

@@ -2,6 +2,7 @@
 use Rattle.std.specs.Prelude.{◌≡◌, ◌≢◌, ℕ, Bool, true, if◌then◌else◌, ◌&&◌, List}
 use Rattle.zx_model.specs.Bits.{xor, member}
 use Rattle.zx_calculus.specs.Graph.{Kind, Graph, joined}
+use Rattle.zx_calculus.specs.Edits.{KeepsEnds}
 use Rattle.zx_calculus.specs.Turns.{half_turned}
 
 -- a pair of one of xs and one of ys; one that is it either way round counts twice, so isn't picked
@@ -20,8 +21,7 @@ pub record IsExchanged (g : Graph) (u v : ℕ) (h : Graph) : Type 0 where
   pub of_v : (p : ℕ) → p ≢ u → p ≢ v → joined h.edges v p ≡ joined g.edges u p
   pub others : (p q : ℕ) → p ≢ u → p ≢ v → q ≢ u → q ≢ v → p ≢ q →
       joined h.edges p q ≡ joined g.edges p q
-  pub inputs : h.inputs ≡ g.inputs
-  pub outputs : h.outputs ≡ g.outputs
+  pub frame : KeepsEnds g h
 
 -- h is g with the edges after a pivot of u and v
 pub record IsRewired (g : Graph) (u v : ℕ) (h : Graph) : Type 0 where
@@ -32,5 +32,4 @@ pub record IsRewired (g : Graph) (u v : ℕ) (h : Graph) : Type 0 where
   pub between : (p q : ℕ) → p ≢ u → p ≢ v → q ≢ u → q ≢ v → p ≢ q →
       joined h.edges p q ≡ xor (joined g.edges p q)
       (xor (joined g.edges u p && joined g.edges v q) (joined g.edges v p && joined g.edges u q))
-  pub inputs : h.inputs ≡ g.inputs
-  pub outputs : h.outputs ≡ g.outputs
+  pub frame : KeepsEnds g h

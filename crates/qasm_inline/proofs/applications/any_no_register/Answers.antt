@@ -2,7 +2,7 @@ use Rattle.std.proofs.Common.{◌≡◌, true, false, not, sym, ap, ◌∙◌, r
 use Rattle.std.specs.Option.{is_some}
 use Rattle.qasm_reader.specs.Views.{operand}
 use Rattle.qasm_inline.specs.Internal.Spans.{no_register_by}
-use Rattle.qasm_scope.proofs.PlaceLemmas.{any-here, any-next}
+use Rattle.qasm_names.proofs.PlaceLemmas.{any-here, any-next}
 use Rattle.qasm_inline.proofs.applications.any_no_register.Goals as goal
 
 pub returns-then-is_none : goal.returns-then-is_none

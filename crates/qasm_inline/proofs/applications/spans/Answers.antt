@@ -2,8 +2,8 @@ use Rattle.std.proofs.Common.{◌≡◌, ◌++◌, ◌∷◌, [], ◌||◌, map,
 use Rattle.std.proofs.lemmas.List.{map-append}
 use Rattle.qasm_reader.specs.Views.{operand}
 use Rattle.qasm_inline.specs.Internal.Spans.{span_range, span_by, no_register_by, past_by}
-use Rattle.qasm_scope.proofs.PlaceLemmas.{any-either, any-next, map-map-more}
-use Rattle.qasm_scope.proofs.Tests.{any_or}
+use Rattle.qasm_names.proofs.PlaceLemmas.{any-either, any-next, map-map-more}
+use Rattle.qasm_names.proofs.Tests.{any_or}
 use Rattle.qasm_inline.proofs.applications.spans.Goals as goal
 
 pub returns-in_default-clause-none : goal.returns-in_default-clause-none

@@ -6,7 +6,7 @@ use Rattle.qasm_reader.specs.Views.{application}
 use Rattle.qasm_scope.specs.Applications.{application_events, has_twice, instances, register_sizes}
 use Rattle.qasm_scope.specs.Calls.{first_wrong}
 use Rattle.qasm_scope.specs.Faults.{has_other_size, wrong_in}
-use Rattle.qasm_scope.specs.Internal.Kept.{kept_body}
+use Rattle.qasm_names.specs.Kept.{kept_body}
 use Rattle.qasm_scope.specs.Meaning.{most_calls, or_else}
 use Rattle.qasm_inline.specs.Internal.KeptCalls.{expand_number, values_of}
 use Rattle.qasm_inline.specs.Internal.Spans.{span_range, IsResolved, is_unresolved, resolved_cause, instances_events}

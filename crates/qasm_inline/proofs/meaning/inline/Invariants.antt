@@ -1,8 +1,8 @@
--- The statements so far are taken in.
+-- What stands before is taken in.
 use Rattle.std.proofs.Common.{map, take}
-use Rattle.qasm_reader.specs.Views.{placed}
-use Rattle.qasm_inline.specs.Internal.Circuits.{HasTaken}
+use Rattle.qasm_reader.specs.Views.{statement_of}
+use Rattle.qasm_inline.specs.Circuits.{HasTaken}
 use Rattle.qasm_inline.proofs.meaning.inline.Given as goal
 
-abbrev pub invariant-loop-statement : goal.invariant-loop-statement
-invariant-loop-statement l = HasTaken l.circuit (map placed (take l.statement-index l.program.statements.items))
+abbrev pub invariant-loop-element : goal.invariant-loop-element
+invariant-loop-element l = HasTaken l.circuit (map statement_of (take l.element-index l.program.elements.items))

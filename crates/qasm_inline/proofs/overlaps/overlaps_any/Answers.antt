@@ -1,7 +1,7 @@
 use Rattle.std.proofs.Common.{sym, ◌∙◌, rules, tests}
 use Rattle.std.proofs.lemmas.Iterator.{YieldsList-from_slice}
 use Rattle.std.proofs.lemmas.Iterator.Search.{any_from_yields_List}
-use Rattle.qasm_scope.proofs.Tests.{any_map}
+use Rattle.qasm_names.proofs.Tests.{any_map}
 use Rattle.qasm_inline.specs.Internal.Spans.{span_range, overlaps}
 use Rattle.qasm_inline.proofs.overlaps.overlaps_any.Goals as goal
 

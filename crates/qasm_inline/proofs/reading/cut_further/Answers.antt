@@ -1,7 +1,7 @@
 -- How deep parentheses are behind the tokens that are added.
 use Rattle.std.proofs.Common.{◌≡◌, List, ◌++◌, arith, ◌-◌, length, take, drop, subst}
 use Rattle.qasm_lexer.specs.Tokens.{Lexeme, lexemes}
-use Rattle.qasm_reader.specs.Internal.Depths.{IsDepth}
+use Rattle.qasm_reader.specs.Depth.{IsDepth}
 use Rattle.qasm_inline.proofs.ReadingLemmas.{deeper}
 use Rattle.qasm_inline.proofs.reading.cut_further.Goals as goal
 

@@ -28,11 +28,6 @@ returns-in-BitRegister-clause-err c = λ cause scope e r.
     ap (λ k. wrong_with most_calls scope c.args.unrolled.now.calls (sentence k)) c.in-BitRegister.is
     ∙ ap (λ o. or_else o None) (c.declare_bits.ensures.err cause scope e r)
 
-pub returns-in-Gate-clause-err : goal.returns-in-Gate-clause-err
-returns-in-Gate-clause-err c = λ cause scope e r.
-    ap (λ k. wrong_with most_calls scope c.args.unrolled.now.calls (sentence k)) c.in-Gate.is
-    ∙ ap (λ o. or_else o None) (c.declare_checked.ensures.err cause scope e r)
-
 pub returns-in-Opaque-clause-err : goal.returns-in-Opaque-clause-err
 returns-in-Opaque-clause-err c = λ cause scope e r.
     let same : Unsupported ≡ cause = cc in

@@ -1,6 +1,6 @@
 use Rattle.std.proofs.Common.{◌≡◌, ◌++◌, ◌∷◌, [], Err, length, take, sym, ap, ◌∙◌, refl, rules, arith, ◌+◌, drop}
 use Rattle.std.proofs.lemmas.Result.{err_from_is_err_and}
-use Rattle.qasm_scope.specs.declared.statement_error.StatementError.TheVariants.{Wrong}
+use Rattle.qasm_names.specs.declared.statement_error.StatementError.TheVariants.{Wrong}
 use Rattle.qasm_inline.specs.Internal.KeptCalls.{followed, values_of}
 use Rattle.qasm_inline.proofs.StackLemmas.{still-pushed, still-above, pushed-next, pushed-wrong}
 use Rattle.qasm_inline.proofs.values.push_values.Goals as goal

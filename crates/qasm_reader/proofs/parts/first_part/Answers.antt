@@ -1,7 +1,7 @@
 -- What the part that was read, or none, says of the grammar.
 use Rattle.std.proofs.lemmas.Result.{err_from_is_err_and}
 use Rattle.qasm_reader.specs.Views.{action, sentence}
-use Rattle.qasm_reader.proofs.PartWise.{heading_found, heading_missing, application_found, application_missing, statement_found, statement_missing}
+use Rattle.qasm_reader.proofs.PartWise.{heading_found, heading_missing, application_found, application_missing, simple_found, simple_missing}
 use Rattle.qasm_reader.proofs.parts.first_part.Goals as goal
 
 pub returns-in_err-heading-in-Gate : goal.returns-in_err-heading-in-Gate
@@ -12,7 +12,7 @@ returns-in_err-heading-in-Gate c =
 pub returns-in_err-kind-in_default-kind : goal.returns-in_err-kind-in_default-kind
 returns-in_err-kind-in_default-kind c =
     let p = err_from_is_err_and c.from_residual-in_err-kind-in_default-kind.result c.from_residual-in_err-kind-in_default-kind.ensures.1 in
-    rw (p.1, p.2) (statement_missing c.in_err-kind-in_default-kind.field-0.0 c.args.tokens.now c.in_err-kind-in_default-kind.ensures)
+    rw (p.1, p.2) (simple_missing c.in_err-kind-in_default-kind.field-0.0 c.args.tokens.now c.in-Some.first.now c.in-Some.inside.now c.in-Some.ensures.cases.0 c.in_default-kind.not-Gate c.in_err-kind-in_default-kind.ensures)
 
 pub returns-in_ok-heading-in-Gate : goal.returns-in_ok-heading-in-Gate
 returns-in_ok-heading-in-Gate c =
@@ -20,7 +20,7 @@ returns-in_ok-heading-in-Gate c =
 
 pub returns-in_ok-kind-in_default-kind : goal.returns-in_ok-kind-in_default-kind
 returns-in_ok-kind-in_default-kind c =
-    statement_found c.args.tokens.now c.in-Some.first.now c.in-Some.inside.now c.in_ok-kind-in_default-kind.rest.now (sentence c.in_ok-kind-in_default-kind.kind) c.in-Some.ensures.cases.0 c.in_ok-kind-in_default-kind.ensures
+    simple_found c.args.tokens.now c.in-Some.first.now c.in-Some.inside.now c.in_ok-kind-in_default-kind.rest.now (sentence c.in_ok-kind-in_default-kind.kind) c.in-Some.ensures.cases.0 c.in_default-kind.not-Gate c.in_ok-kind-in_default-kind.ensures
 
 pub returns-in_err-operation-in-Identifier : goal.returns-in_err-operation-in-Identifier
 returns-in_err-operation-in-Identifier c =

@@ -25,7 +25,7 @@ add_spider-requires-clause-live c = end_live c.args.g.now.graph c.args.g.now.gra
 pub move_input-requires-clause-in_range : goal.move_input-requires-clause-in_range
 move_input-requires-clause-in_range c =
     let found = rw c.unwrap-place.ensures at c.input_at.ensures.place in
-    subst (λ (es : List End). c.unwrap-place.result < length es) (sym c.in_ok-new.ensures.added.inputs)
+    subst (λ (es : List End). c.unwrap-place.result < length es) (sym c.in_ok-new.ensures.added.frame.inputs)
     (place_within c.args.g.now.graph.inputs c.unwrap-place.result c.args.b found)
 
 pub move_input-requires-clause-live : goal.move_input-requires-clause-live
@@ -38,7 +38,7 @@ move_input-requires-clause-plane c =
 
 pub move_input-requires-clause-free : goal.move_input-requires-clause-free
 move_input-requires-clause-free c =
-    rw (c.toggled.ensures, c.in_ok-new.ensures.added.inputs)
+    rw (c.toggled.ensures, c.in_ok-new.ensures.added.frame.inputs)
     (new_free c.args.g.now.graph c.in_ok-new.new c.args.g.now.graph.inputs c.unwrap-place.result c.inputs-inputs.ensures.valid.inputs c.in_ok-new.ensures.added.fresh)
 
 pub returns-clause-step : goal.returns-clause-step
@@ -47,7 +47,7 @@ returns-clause-step c =
     let read = rw c.inputs-inputs.ensures.value at c.index-inputs-place.is in
     input_split c.args.g.now.graph c.args.b c.in_ok-new.new c.add_spider.new.g.graph c.move_input.new.self.graph
     (set c.add_spider.new.g.graph.inputs c.unwrap-place.result c.toggled.result) c.in_ok-new.ensures.added c.requires
-    (ap (λ es. set es c.unwrap-place.result c.toggled.result) c.in_ok-new.ensures.added.inputs
+    (ap (λ es. set es c.unwrap-place.result c.toggled.result) c.in_ok-new.ensures.added.frame.inputs
     ∙ end_moved c.args.g.now.graph.inputs c.unwrap-place.result c.args.b c.in_ok-new.new c.index-inputs-place.result c.toggled.result
     c.inputs-inputs.ensures.valid.inputs.one_each found read c.toggled.ensures)
     c.move_input.ensures.ok

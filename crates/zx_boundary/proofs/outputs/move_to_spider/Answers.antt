@@ -25,7 +25,7 @@ add_spider-requires-clause-live c = end_live c.args.g.now.graph c.args.g.now.gra
 pub move_output-requires-clause-in_range : goal.move_output-requires-clause-in_range
 move_output-requires-clause-in_range c =
     let found = rw c.unwrap-place.ensures at c.output_at.ensures.place in
-    subst (λ (es : List End). c.unwrap-place.result < length es) (sym c.in_ok-new.ensures.added.outputs)
+    subst (λ (es : List End). c.unwrap-place.result < length es) (sym c.in_ok-new.ensures.added.frame.outputs)
     (place_within c.args.g.now.graph.outputs c.unwrap-place.result c.args.b found)
 
 pub move_output-requires-clause-live : goal.move_output-requires-clause-live
@@ -38,7 +38,7 @@ move_output-requires-clause-plane c =
 
 pub move_output-requires-clause-free : goal.move_output-requires-clause-free
 move_output-requires-clause-free c =
-    rw (c.toggled.ensures, c.in_ok-new.ensures.added.outputs)
+    rw (c.toggled.ensures, c.in_ok-new.ensures.added.frame.outputs)
     (new_free c.args.g.now.graph c.in_ok-new.new c.args.g.now.graph.outputs c.unwrap-place.result c.outputs-outputs.ensures.valid.outputs c.in_ok-new.ensures.added.fresh)
 
 pub returns-clause-step : goal.returns-clause-step
@@ -47,7 +47,7 @@ returns-clause-step c =
     let read = rw c.outputs-outputs.ensures.value at c.index-outputs-place.is in
     output_split c.args.g.now.graph c.args.b c.in_ok-new.new c.add_spider.new.g.graph c.move_output.new.self.graph
     (set c.add_spider.new.g.graph.outputs c.unwrap-place.result c.toggled.result) c.in_ok-new.ensures.added c.requires
-    (ap (λ es. set es c.unwrap-place.result c.toggled.result) c.in_ok-new.ensures.added.outputs
+    (ap (λ es. set es c.unwrap-place.result c.toggled.result) c.in_ok-new.ensures.added.frame.outputs
     ∙ end_moved c.args.g.now.graph.outputs c.unwrap-place.result c.args.b c.in_ok-new.new c.index-outputs-place.result c.toggled.result
     c.outputs-outputs.ensures.valid.outputs.one_each found read c.toggled.ensures)
     c.move_output.ensures.ok

@@ -1,10 +1,19 @@
 -- What holds of all gates.
-use Rattle.std.proofs.Common.{◌≡◌, ◌∙◌, ap, sym, subst, length, reverse, IfOk}
-use Rattle.zx_gates.specs.Circuit.{Circuit, IsOnQubits}
+use Rattle.std.proofs.Common.{◌≡◌, ◌≢◌, ◌≤◌, ◌∙◌, ℕ, ap, sym, subst, length, reverse, IfOk}
+use Rattle.zx_calculus.specs.Graph.{XZ, Graph, Live, plane_of}
+use Rattle.zx_gates.specs.Circuit.{Circuit, IsOnQubits, most_qubits}
 use Rattle.zx_extract.specs.Internal.Frontiers.{state_of}
 use Rattle.zx_extract.proofs.Calls.{if_ok}
 use Rattle.zx_extract.proofs.Whole.{IsExtracted, as_many_inputs, circuit_is, on_all_inputs, All-backwards}
 use Rattle.zx_extract.proofs.extraction.extract.Goals as goal
+
+pub take_marks-requires-clause-planes : goal.take_marks-requires-clause-planes
+take_marks-requires-clause-planes c =
+    subst (λ (g : Graph). (v : ℕ) → Live g v → plane_of g v ≢ XZ) (sym c.in_ok-frontier.ensures.graph) c.requires.planes
+
+pub take_marks-requires-clause-few : goal.take_marks-requires-clause-few
+take_marks-requires-clause-few c =
+    subst (λ (g : Graph). length g.outputs ≤ most_qubits) (sym c.in_ok-frontier.ensures.graph) c.requires.few
 
 pub into_circuit-requires-clause-on_qubits : goal.into_circuit-requires-clause-on_qubits
 into_circuit-requires-clause-on_qubits c =

@@ -11,9 +11,9 @@ returns-then-kind-lt4-clause-gate c =
       | then-kind-lt4-via-else-kind-lt4+then-qubits-eq1 w ↦ inr w.if-qubits-eq1.true
     ] in
     one_drawn c.args.qubits c.draw_below-kind.result c.draw_below-q.result c.args.generator.now
-    c.draw_below-kind.new.generator c.draw_below-q.new.generator c.gate_on_one.result
+    c.draw_below-kind.new.generator c.draw_below-q.new.generator c.one_qubit_gate.result
     c.draw_below-kind.ensures.value c.draw_below-kind.ensures.after
-    c.draw_below-q.ensures.value c.draw_below-q.ensures.after (on_one c.args.qubits c.draw_below-kind.result few) c.gate_on_one.ensures
+    c.draw_below-q.ensures.value c.draw_below-q.ensures.after (on_one c.args.qubits c.draw_below-kind.result few) c.one_qubit_gate.ensures
 
 pub returns-then-kind-eq4-clause-gate : goal.returns-then-kind-eq4-clause-gate
 returns-then-kind-eq4-clause-gate c =

@@ -1,6 +1,6 @@
 -- A gate behind the version.
 use Rattle.std.proofs.Common.{◌≡◌, Err, rules}
-use Rattle.qasm_scope.specs.declared.statement_error.StatementError.TheVariants.{Wrong}
+use Rattle.qasm_names.specs.declared.statement_error.StatementError.TheVariants.{Wrong}
 use Rattle.qasm_inline.proofs.CircuitLemmas.{gate-declared, gate-wrong}
 use Rattle.qasm_inline.proofs.circuit.Circuit.after_gate.Goals as goal
 

@@ -2,7 +2,7 @@
 use Rattle.std.proofs.Common.{◌≡◌, Err, rules}
 use Rattle.qasm_reader.specs.Views.{placed}
 use Rattle.qasm_scope.specs.Meaning.{after_statement}
-use Rattle.qasm_scope.specs.declared.statement_error.StatementError.TheVariants.{Wrong}
+use Rattle.qasm_names.specs.declared.statement_error.StatementError.TheVariants.{Wrong}
 use Rattle.qasm_inline.proofs.CircuitLemmas.{leads-next, leads-wrong}
 use Rattle.qasm_inline.proofs.circuit.Circuit.after_next.Goals as goal
 

@@ -1,6 +1,6 @@
 -- A gate that stands first.
 use Rattle.std.proofs.Common.{subst, sym, ◌∷◌, ◌++◌, []}
-use Rattle.qasm_inline.specs.Internal.Circuits.{HasTakenAt, gate_at}
+use Rattle.qasm_inline.specs.Circuits.{HasTakenAt, gate_at}
 use Rattle.qasm_inline.proofs.CircuitLemmas.{gate-first}
 use Rattle.qasm_inline.proofs.circuit.Circuit.begin_gate.Goals as goal
 

@@ -1,18 +1,20 @@
--- Each clause follows from what the answer says of the statements.
-use Rattle.qasm_inline.proofs.CircuitLemmas.{faultless-from, means-from, valid-from, fault-from, refused-from}
+-- The answer at each stage.
+use Rattle.std.proofs.Common.{◌∙◌, subst}
+use Rattle.qasm_inline.specs.Circuits.{HasTakenAt, IsOpen}
+use Rattle.qasm_inline.proofs.CircuitLemmas.{done-circuit, empty-circuit, refused-circuit}
 use Rattle.qasm_inline.proofs.circuit.Circuit.finish.Goals as goal
 
-pub returns-clause-faultless : goal.returns-clause-faultless
-returns-clause-faultless c = λ program taken. faultless-from program c.answer.result (c.answer.ensures program taken)
+pub returns-in-Empty : goal.returns-in-Empty
+returns-in-Empty c = λ program taken.
+    empty-circuit program _ _ (subst (λ stage. HasTakenAt stage program c.args.self.names c.args.self.unrolled) c.in-Empty.is taken)
 
-pub returns-clause-means : goal.returns-clause-means
-returns-clause-means c = λ program taken. means-from program c.answer.result (c.answer.ensures program taken)
+pub returns-in-Open : goal.returns-in-Open
+returns-in-Open c = λ program taken.
+    let is : IsOpen program c.args.self.names c.args.self.unrolled =
+    subst (λ stage. HasTakenAt stage program c.args.self.names c.args.self.unrolled) c.in-Open.is taken in
+    let done = done-circuit program is.scope _ _ _ c.args.self.names.qubits is.leads is.represents.same_qubits c.qubits.ensures in
+    (done.0, done.1, c.into_gates.ensures ∙ done.2)
 
-pub returns-clause-valid : goal.returns-clause-valid
-returns-clause-valid c = λ program taken. valid-from program c.answer.result (c.answer.ensures program taken)
-
-pub returns-clause-fault : goal.returns-clause-fault
-returns-clause-fault c = λ program cause at taken e. fault-from program c.answer.result (c.answer.ensures program taken) cause at e
-
-pub returns-clause-refused : goal.returns-clause-refused
-returns-clause-refused c = λ program cause at taken e. refused-from program c.answer.result (c.answer.ensures program taken) cause at e
+pub returns-in-Stopped : goal.returns-in-Stopped
+returns-in-Stopped c = λ program taken.
+    refused-circuit program _ _ _ (subst (λ stage. HasTakenAt stage program c.args.self.names c.args.self.unrolled) c.in-Stopped.is taken)

@@ -1,7 +1,7 @@
 -- One statement more, at each stage.
 use Rattle.std.proofs.Common.{◌++◌, ◌∷◌, [], sym, subst}
 use Rattle.qasm_reader.specs.Views.{placed}
-use Rattle.qasm_inline.specs.Internal.Circuits.{HasTakenAt}
+use Rattle.qasm_inline.specs.Circuits.{HasTakenAt}
 use Rattle.qasm_inline.proofs.CircuitLemmas.{first-taken, stays-stopped}
 use Rattle.qasm_inline.proofs.circuit.Circuit.take.Goals as goal
 

@@ -1,6 +1,6 @@
 -- A statement for which there was memory.
 use Rattle.std.proofs.Common.{subst}
-use Rattle.qasm_inline.specs.Internal.Circuits.{HasBegunAs}
+use Rattle.qasm_inline.specs.Circuits.{HasBegunAs}
 use Rattle.qasm_inline.proofs.circuit.Circuit.take_in_gate.Goals as goal
 
 pub returns-in_default-take-clause-taken : goal.returns-in_default-take-clause-taken

@@ -12,9 +12,9 @@ returns-in-Some-clause-taken c = λ all taken.
     let behind = subst (λ read. IfSome read (λ x. IsBehind (lexemes x.1.now) (lexemes c.args.tokens.now))) c.in-Some.is c.in_ok-part.ensures.behind in
     subst (AreTaken all c.take_body_part.new.self) (sym (rest_is c.args.tokens.now c.in-Some.rest.now behind))
     (c.take_body_part.ensures (lexemes c.args.tokens.now) c.in-Some.rest
-    (λ form ts is. subst (λ read. IsNextInBody c.args.gate.place form ts read) c.in-Some.is (c.in_ok-part.ensures.next c.args.gate.place form ts is)) all taken)
+    (λ form ts is. subst (λ read. IsNextInBody c.args.gate.place form ts (lexemes c.args.tokens.now) read) c.in-Some.is (c.in_ok-part.ensures.next c.args.gate.place form ts is)) all taken)
 
 pub returns-in-None-clause-taken : goal.returns-in-None-clause-taken
 returns-in-None-clause-taken c = λ all taken.
     none-inside all (lexemes c.args.tokens.now) c.args.gate c.args.self.now.circuit taken
-    (λ form ts is. subst (λ read. IsNextInBody c.args.gate.place form ts read) c.in-None.is (c.in_ok-part.ensures.next c.args.gate.place form ts is))
+    (λ form ts is. subst (λ read. IsNextInBody c.args.gate.place form ts (lexemes c.args.tokens.now) read) c.in-None.is (c.in_ok-part.ensures.next c.args.gate.place form ts is))

@@ -1,6 +1,6 @@
 use Rattle.std.proofs.Common.{◌≡◌, [], Err, map, ap, sym, ◌∙◌}
 use Rattle.std.proofs.lemmas.Result.{err_from_is_err_and, on_ok_weaker}
-use Rattle.qasm_scope.specs.declared.statement_error.StatementError.TheVariants.{Wrong}
+use Rattle.qasm_names.specs.declared.statement_error.StatementError.TheVariants.{Wrong}
 use Rattle.qasm_scope.specs.Calls.{after_angles}
 use Rattle.qasm_scope.specs.Meaning.{most_calls}
 use Rattle.qasm_inline.specs.Internal.KeptCalls.{expand_called, values_of}

@@ -1,7 +1,7 @@
 use Rattle.std.proofs.Common.{◌≡◌, ◌+◌, ◌++◌, ◌∷◌, length, drop, Err, ap, sym, ◌∙◌, arith}
 use Rattle.std.proofs.lemmas.List.{length-reverse}
 use Rattle.std.proofs.lemmas.Result.{err_from_is_err_and, on_ok_weaker}
-use Rattle.qasm_scope.specs.declared.statement_error.StatementError.TheVariants.{Wrong}
+use Rattle.qasm_names.specs.declared.statement_error.StatementError.TheVariants.{Wrong}
 use Rattle.qasm_scope.specs.Calls.{first_wrong}
 use Rattle.qasm_scope.specs.Meaning.{most_calls}
 use Rattle.qasm_inline.specs.Internal.KeptCalls.{calls_left, frames_of, followed, picked, values_of}

@@ -1,7 +1,7 @@
 -- The depth is that behind the tokens so far.
 use Rattle.std.proofs.Common.{List, ◌++◌, take}
 use Rattle.qasm_lexer.specs.Tokens.{Lexeme, lexemes}
-use Rattle.qasm_reader.specs.Internal.Depths.{IsDepth}
+use Rattle.qasm_reader.specs.Depth.{IsDepth}
 use Rattle.qasm_reader.proofs.depth.Depth.after.Given as goal
 
 abbrev pub invariant-loop-token : goal.invariant-loop-token

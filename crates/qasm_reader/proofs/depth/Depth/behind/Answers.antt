@@ -1,7 +1,7 @@
 -- One token more.
 use Rattle.std.proofs.Common.{◌++◌, ◌∷◌, [], sym, subst}
 use Rattle.qasm_lexer.specs.Tokens.{lexeme}
-use Rattle.qasm_reader.specs.Internal.Depths.{IsDepth}
+use Rattle.qasm_reader.specs.Depth.{IsDepth}
 use Rattle.qasm_reader.proofs.DepthSteps.{depth-deep, depth-open}
 use Rattle.qasm_reader.proofs.depth.Depth.behind.Goals as goal
 

@@ -3,11 +3,7 @@ use Rattle.gflow_laws.proofs.Seeing.{flow-same_sets}
 use Rattle.zx_extract.proofs.Rows.{same_sets_back}
 use Rattle.zx_extract.proofs.frontier.Frontier.begin.Goals as goal
 
-pub returns-clause-given : goal.returns-clause-given
-returns-clause-given c = record {
-  well_formed = c.inputs-ends.ensures.valid;
-  flow = flow-same_sets c.args.graph.graph c.args.flow.now.flow c.in_ok-flow.flow.flow
-      (same_sets_back c.in_ok-flow.ensures) c.requires.flow;
-  planes = c.requires.planes;
-  few = c.requires.few;
-}
+pub returns-clause-flow : goal.returns-clause-flow
+returns-clause-flow c =
+    flow-same_sets c.args.graph.graph c.args.flow.now.flow c.in_ok-flow.flow.flow (same_sets_back c.in_ok-flow.ensures)
+    c.requires

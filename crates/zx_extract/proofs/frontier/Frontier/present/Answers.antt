@@ -1,13 +1,12 @@
--- The end at the place is plain.
+-- The vertex at the place.
 use Rattle.std.proofs.Common.{◌∙◌, ap, sym}
-use Rattle.std.specs.Prelude.{Some}
-use Rattle.zx_calculus.specs.Graph.{End}
-use Rattle.zx_calculus.specs.Worked.{plain}
-use Rattle.zx_extract.proofs.frontier.Frontier.present.Goals as goal
+use Rattle.std.specs.Prelude.{slice_get}
+use Rattle.zx_calculus.specs.Graph.{end_vertices}
 use Rattle.circuit_laws.proofs.Places.{plain_at}
+use Rattle.zx_extract.proofs.frontier.Frontier.present.Goals as goal
 
 pub returns : goal.returns
 returns c =
-    plain_at c.args.self.now.graph.graph.outputs c.args.q c.output-output.result c.requires.ready.plain
-    c.output-output.ensures
-    ∙ ap (λ (e : End). Some (plain e.vertex)) (sym c.output.view_is)
+    plain_at c.args.self.now.graph.graph.outputs c.args.q c.output_vertex.result c.requires.ready.plain
+    (ap (slice_get (end_vertices c.args.self.now.graph.graph.outputs)) (sym c.from.ensures)
+    ∙ c.output_vertex.ensures.value)

@@ -10,7 +10,12 @@ use Rattle.zx_extract.proofs.frontier.Frontier.take_marks.Goals as goal
 pub loop-q-init : goal.loop-q-init
 loop-q-init c = record {
   leads = leads_nothing (state_of c.args.self.now);
-  given = c.requires;
+  given = record {
+    well_formed = c.qubits-qubits.ensures.valid;
+    flow = c.requires.flow;
+    planes = c.requires.planes;
+    few = c.requires.few;
+  };
   plain = λ p within. absurd (omega arith);
 }
 

@@ -49,7 +49,7 @@ qubits-requires c =
     (spider_ready (state_of c.args.self.now) c.args.v c.args.q
     (state_of c.gather.new.self) c.requires.picked.within c.requires.last c.in_ok-gather.ensures
     c.weight-plane.result.0 c.weight-plane.result.1 c.weight-plane.ensures.value c.in_default.not-YZ
-    (state_of c.advance.new.self) c.in_ok-advance-in_default.ensures).given
+    (state_of c.advance.new.self) c.in_ok-advance-in_default.ensures).given.few
 
 pub settle-requires-clause-ready : goal.settle-requires-clause-ready
 settle-requires-clause-ready c =
@@ -65,7 +65,7 @@ returns-in_ok-advance-in_default-clause-taken c = on_ok_weaker c.settle.result (
     c.weight-plane.result.0 c.weight-plane.result.1 c.weight-plane.ensures.value c.in_default.not-YZ
     (state_of c.advance.new.self) c.in_ok-advance-in_default.ensures
     (state_of c.settle.new.self) (subst (λ n. IsSettling (state_of c.advance.new.self) c.args.q n
-    (state_of c.settle.new.self)) c.qubits.ensures settled)).0) c.settle.ensures
+    (state_of c.settle.new.self)) c.qubits.ensures.value settled)).0) c.settle.ensures
 
 pub returns-in_ok-advance-in_default-clause-shorter : goal.returns-in_ok-advance-in_default-clause-shorter
 returns-in_ok-advance-in_default-clause-shorter c = on_ok_weaker c.settle.result (λ settled.
@@ -74,4 +74,4 @@ returns-in_ok-advance-in_default-clause-shorter c = on_ok_weaker c.settle.result
     c.weight-plane.result.0 c.weight-plane.result.1 c.weight-plane.ensures.value c.in_default.not-YZ
     (state_of c.advance.new.self) c.in_ok-advance-in_default.ensures
     (state_of c.settle.new.self) (subst (λ n. IsSettling (state_of c.advance.new.self) c.args.q n
-    (state_of c.settle.new.self)) c.qubits.ensures settled)).1) c.settle.ensures
+    (state_of c.settle.new.self)) c.qubits.ensures.value settled)).1) c.settle.ensures

@@ -1,0 +1,10 @@
+pub mod Sums
+pub mod Changing
+pub mod Passing
+pub mod Finding
+pub mod Orders
+pub mod Steps
+pub mod Stale
+pub mod Starting
+pub mod Few
+pub mod Ranked

@@ -1,0 +1,11 @@
+-- A row without columns.
+use Rattle.std.proofs.lemmas.Result.{on_ok_weaker}
+use Rattle.flow_find.proofs.Steps.{put_spent}
+use Rattle.flow_find.proofs.rows.put.Goals as goal
+
+pub returns-in-None : goal.returns-in-None
+returns-in-None c =
+    on_ok_weaker c.relieve.result
+    (λ spent. put_spent c.args.row c.deref_mut-in-None.result.now c.args.rows.now.items c.relieve.new.rows c.args.rows.now.len
+    c.deref_mut-in-None.ensures.value c.args.rows.now.ok.0 spent)
+    c.relieve.ensures

@@ -1,0 +1,125 @@
+//! Correction sets found along an order.
+
+ghost use Rattle.std.specs.Prelude.{◌≡◌, ◌≤◌, ◌&&◌, ℕ, not, length, IfOk};
+ghost use Rattle.zx_model.specs.Bits.{bit, member};
+ghost use Rattle.zx_calculus.specs.Graph.{Live, Distinct, WellFormed};
+ghost use Rattle.gflow_laws.specs.Seen.{seen};
+ghost use Rattle.gflow_laws.specs.Flow.{order_of, IsFlow};
+ghost use Rattle.gflow_laws.specs.Correcting.{inside_in, odd_in};
+ghost use Rattle.open_graph.specs.Planes.{plane_named};
+ghost use Rattle.move_laws.specs.Orders.{HasFlowAlong};
+ghost use Rattle.flow_find.specs.Frontiers.{set_from, IsFrontierOf};
+
+use crate::frontier::{insert, pass};
+use crate::marks::{clear_mark, marks_at};
+use crate::picked::Around;
+use crate::row::Row;
+use crate::rows::add_picked;
+use open_graph::{OpenGraph, Plane, VertexId, VertexSet};
+use std::alloc::{AllocError, Global};
+use zx_flow::FlowTable;
+
+/// Correction sets that make an order of vertices a flow of a graph, where some do. It has one row
+/// for each output at most, and each vertex costs as many additions of rows.
+///
+/// # Errors
+///
+/// Where memory runs out.
+pub fn find_along(alloc: Global, g: &OpenGraph, order: &[VertexId]) -> Result<FlowTable, AllocError>
+    requires { HasFlowAlong g.now.graph order.now }
+    ensures order { IfOk result (λ table. order_of table.table ≡ order.now) }
+    ensures flow { IfOk result (λ table. IsFlow g.now.graph table.table) }
+{
+    let mut table = table_of(alloc, order)?;
+    let mut left = marks_at(alloc, order)?;
+    let mut rows = first_rows(alloc, g, &left)?;
+    for i in (0..order.len()).rev() {
+        let v = order[i];
+        table.set(v, correction(alloc, g, &rows, v)?);
+        clear_mark(&mut left, v);
+        pass(&mut rows, alloc, g, v, &left)?;
+    }
+    Ok(table)
+}
+
+// The order with sets without members.
+fn table_of(alloc: Global, order: &[VertexId]) -> Result<FlowTable, AllocError>
+    requires { Distinct order.now }
+    ensures { IfOk result (λ table. order_of table.table ≡ order.now) }
+{
+    let mut table = FlowTable::new(alloc);
+    for v in order {
+        table.add(*v, &[])?;
+    }
+    Ok(table)
+}
+
+// The rows of the outputs without inputs.
+fn first_rows(alloc: Global, g: &OpenGraph, left: &[bool]) -> Result<Vec<Row>, AllocError>
+    requires { (w : ℕ) → bit left.now w ≡
+        (member w (seen g.now.graph).ids && not ((seen g.now.graph).output w)) }
+    ensures rows { IfOk result (λ rows. IsFrontierOf (seen g.now.graph) (bit left.now) rows.items) }
+    ensures few { IfOk result (λ rows. length rows.items ≤ length g.now.graph.outputs) }
+    ensures valid { WellFormed g.now.graph }
+{
+    let mut rows = Vec::new(alloc);
+    for output in g.outputs() {
+        let u = output.vertex;
+        if g.input_at(u).is_none() {
+            insert(&mut rows, alloc, g, u, left)?;
+        }
+    }
+    Ok(rows)
+}
+
+// The correction set of the last vertex left.
+fn correction(
+    alloc: Global,
+    g: &OpenGraph,
+    rows: &[Row],
+    v: VertexId,
+) -> Result<VertexSet, AllocError>
+    requires { Live g.now.graph v }
+    ensures { IfOk result (λ set. (w : ℕ) →
+        member w set ≡ set_from (seen g.now.graph) rows.now v w) }
+{
+    let (plane, _) = g.weight(v);
+    let target = target_of(plane, v);
+    let members = if target.neighbours {
+        VertexSet::one(alloc, v)?
+    } else {
+        VertexSet::new(alloc)
+    };
+    let mut row = Row {
+        pivot: v,
+        columns: VertexSet::new(alloc),
+        members,
+    };
+    add_picked(&mut row, g, &target, rows)?;
+    Ok(row.members)
+}
+
+// What the other members of a set have to add up to, by the plane of its vertex.
+fn target_of(plane: Plane, v: VertexId) -> Around
+    ensures vertex { result.vertex ≡ v }
+    ensures neighbours { result.neighbours ≡ inside_in (plane_named plane) }
+    ensures itself { result.itself ≡ odd_in (plane_named plane) }
+{
+    match plane {
+        Plane::XY => Around {
+            vertex: v,
+            neighbours: false,
+            itself: true,
+        },
+        Plane::XZ => Around {
+            vertex: v,
+            neighbours: true,
+            itself: true,
+        },
+        Plane::YZ => Around {
+            vertex: v,
+            neighbours: true,
+            itself: false,
+        },
+    }
+}

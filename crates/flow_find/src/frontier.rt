@@ -1,0 +1,112 @@
+//! The rows of the vertices that may be members, on the vertices that are left.
+
+ghost use Rattle.std.specs.Prelude.{◌≡◌, ◌<◌, ◌≤◌, ◌+◌, ◌&&◌, ◌||◌, ◌==◌, ℕ, Bool, false, not, length, IfOk, OnOk};
+ghost use Rattle.zx_model.specs.Bits.{bit, member};
+ghost use Rattle.zx_calculus.specs.Graph.{Live, WellFormed, is_XY, plane_of, joined, end_vertices};
+ghost use Rattle.gflow_laws.specs.Seen.{Seen, seen};
+ghost use Rattle.flow_find.specs.Frontiers.{AreAll, IsFrontier, IsFrontierOf, with_one};
+ghost use Rattle.flow_find.specs.Internal.Rows.{IsFrontierFor, IsPassable, IsCancelled};
+
+use crate::marks::marked;
+use crate::picked::Around;
+use crate::row::Row;
+use crate::rows::{add_picked, drop_column, put, take_pivot};
+use open_graph::{OpenGraph, Plane, VertexId, VertexSet};
+use std::alloc::{AllocError, Global};
+
+// The last vertex left goes: it may be a member from now on, where it has no input.
+pub(crate) fn pass(
+    rows: &mut Vec<Row>,
+    alloc: Global,
+    g: &OpenGraph,
+    v: VertexId,
+    left: &[bool],
+) -> Result<(), AllocError>
+    requires live { Live g.now.graph v }
+    requires gone { bit left.now v ≡ false }
+    ensures rows { OnOk result (IsPassable (seen g.now.graph) (bit left.now) v rows.old.items →
+        IsFrontierOf (seen g.now.graph) (bit left.now) rows.new.items) }
+    ensures few { OnOk result (IsPassable (seen g.now.graph) (bit left.now) v rows.old.items →
+        length rows.new.items ≤ length rows.old.items) }
+{
+    drop_column(rows, v)?;
+    turn(rows, v)?;
+    if needs_row(g, v) {
+        insert(rows, alloc, g, v, left)?;
+    }
+    Ok(())
+}
+
+// Whether a vertex that goes may be a member, and isn't in its own set. The neighbours of one that
+// is are a sum of rows already.
+fn needs_row(g: &OpenGraph, v: VertexId) -> bool
+    requires { Live g.now.graph v }
+    ensures value { result ≡ (is_XY (plane_of g.now.graph v)
+        && not (member v (end_vertices g.now.graph.inputs))) }
+    ensures valid { WellFormed g.now.graph }
+{
+    matches!(g.weight(v).0, Plane::XY) && g.input_at(v).is_none()
+}
+
+// Gives rows whose pivot went another one.
+fn turn(rows: &mut Vec<Row>, v: VertexId) -> Result<(), AllocError>
+    requires { AreAll (λ row. member v row.columns ≡ false) rows.old.items }
+    ensures rows { OnOk result ((s : Seen) (left may : ℕ → Bool) →
+        IsFrontier s left (with_one left v) may rows.old.items →
+        IsFrontier s left left may rows.new.items) }
+    ensures few { OnOk result (length rows.new.items ≤ length rows.old.items) }
+    ensures fewer { OnOk result (IsCancelled v rows.old.items →
+        length rows.new.items < length rows.old.items) }
+{
+    'turn: while let Some(row) = take_pivot(rows, v) {
+        put(rows, row)?;
+    }
+    Ok(())
+}
+
+// Adds a vertex to those that may be members.
+pub(crate) fn insert(
+    rows: &mut Vec<Row>,
+    alloc: Global,
+    g: &OpenGraph,
+    u: VertexId,
+    left: &[bool],
+) -> Result<(), AllocError>
+    requires { Live g.now.graph u }
+    ensures rows { OnOk result ((may : ℕ → Bool) →
+        IsFrontierFor (seen g.now.graph) (bit left.now) may rows.old.items →
+        IsFrontierFor (seen g.now.graph) (bit left.now) (with_one may u) rows.new.items) }
+    ensures few { OnOk result (length rows.new.items ≤ length rows.old.items + 1) }
+{
+    let mut row = Row {
+        pivot: u,
+        columns: left_neighbours(alloc, g, u, left)?,
+        members: VertexSet::one(alloc, u)?,
+    };
+    let neighbours = Around {
+        vertex: u,
+        neighbours: true,
+        itself: false,
+    };
+    add_picked(&mut row, g, &neighbours, rows)?;
+    put(rows, row)?;
+    Ok(())
+}
+
+// The neighbours of a vertex that are left.
+fn left_neighbours(
+    alloc: Global,
+    g: &OpenGraph,
+    u: VertexId,
+    left: &[bool],
+) -> Result<VertexSet, AllocError>
+    requires { Live g.now.graph u }
+    ensures members { IfOk result (λ set. (w : ℕ) →
+        member w set ≡ (bit left.now w && joined g.now.graph.edges u w)) }
+    ensures valid { WellFormed g.now.graph }
+{
+    let near = marked(alloc, g.neighbours(u), left)?;
+    let mut set = VertexSet::new(alloc);
+    set.toggle_all(&near)?;
+    Ok(set)
+}

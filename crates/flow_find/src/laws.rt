@@ -1,0 +1,32 @@
+//! Why the sets that the rows give correct their vertices.
+
+ghost use Rattle.std.specs.Prelude.{◌≡◌, ◌==◌, ℕ, Bool, true, false, List};
+ghost use Rattle.zx_model.specs.Bits.{member};
+ghost use Rattle.zx_calculus.specs.Graph.{XY};
+ghost use Rattle.gflow_laws.specs.Seen.{Seen};
+ghost use Rattle.gflow_laws.specs.Correcting.{Simple, Corrects, inside_in};
+ghost use Rattle.flow_find.specs.declared.row.Row.{Row};
+ghost use Rattle.flow_find.specs.Frontiers.{usable, set_from, IsLeft, NoneLeftAfter, AllGoneAfter, IsCorrectable, IsRow, IsFrontier, IsFrontierOf, IsSpanned, with_one};
+
+/// A vertex that is left is correctable where some set corrects it and nothing left comes after it,
+/// and where it is XY and alone in a row. Where it is correctable, the set that the rows give
+/// corrects it in each order in which all that isn't left comes after it.
+pub fn the_last_set_is_found()
+    ensures some { (s : Seen) (before : ℕ → ℕ → Bool) (left : ℕ → Bool) (v : ℕ) (A : ℕ → Bool) →
+        Simple s → IsLeft s left v → NoneLeftAfter before left v → Corrects s before v A →
+        IsCorrectable s left v }
+    ensures alone { (s : Seen) (left : ℕ → Bool) (v : ℕ) (r : Row) →
+        s.plane v ≡ XY → IsRow s left (usable s left) r →
+        ((w : ℕ) → member w r.columns ≡ (w == v)) → IsCorrectable s left v }
+    ensures found { (s : Seen) (before : ℕ → ℕ → Bool) (left : ℕ → Bool) (v : ℕ) (rows : List Row) →
+        Simple s → IsLeft s left v → AllGoneAfter s before left v → IsFrontierOf s left rows →
+        IsCorrectable s left v → Corrects s before v (set_from s rows v) }
+{}
+
+/// Where a correctable vertex v goes that is in its own set, its neighbours are a sum of the rows
+/// already: no row is put for it.
+pub fn only_xy_vertices_are_put()
+    ensures { (s : Seen) (now : ℕ → Bool) (v : ℕ) (rows : List Row) → Simple s → now v ≡ false →
+        inside_in (s.plane v) ≡ true → IsCorrectable s (with_one now v) v →
+        IsFrontier s now now (usable s (with_one now v)) rows → IsSpanned s now rows v }
+{}

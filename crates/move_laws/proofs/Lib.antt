@@ -1,0 +1,4 @@
+pub mod FlowOrders
+pub mod Ranks
+pub mod Touching
+pub mod Covering

@@ -1,0 +1,8 @@
+pub mod Tests
+pub mod Formulas
+pub mod Symbols
+pub mod PlaceLemmas
+pub mod CheckLemmas
+pub mod BodyLemmas
+pub mod NumeralLemmas
+pub mod Including

@@ -1,0 +1,165 @@
+-- How declarations are kept while a program is read. Gates are known by their number, in the order of their
+-- declarations, and bodies are lists of calls with names resolved. `Represents` joins what is kept with the scope of
+-- the program so far.
+use Rattle.std.specs.Prelude.{◌≡◌, ℕ, ◌+◌, ◌≤◌, Bool, true, false, not, if◌then◌else◌, List, [], ◌∷◌, ◌++◌, length, map}
+use Rattle.std.specs.Prelude.{Option, None, Some}
+use Rattle.std.specs.Borrow.{Bor}
+use Rattle.std.specs.List.{list_any}
+use Rattle.std.specs.Str.{bytes_eq}
+use Rattle.std.specs.BTreeMap.{BTreeMap, get_by}
+use Rattle.std.specs.Cmp.Lexicographic.{slice_cmp}
+use Rattle.std.specs.Ordering.{nat_cmp}
+use Rattle.zx_gates.specs.Circuit.{most_qubits}
+use Rattle.qasm_angle.specs.Trees.{Tree}
+use Rattle.qasm_reader.specs.Syntax.{Callee, Declared, U, Cx, GateForm, BodySentence, BodyApplied, BodyBarrier}
+use Rattle.qasm_scope.specs.Angles.{numbered, place_of}
+use Rattle.qasm_scope.specs.Faults.{body_has_unknown, body_has_wrong_count, body_has_same_qubit, has_name_twice}
+use Rattle.qasm_scope.specs.Scope.{Scope, Declaration, Meaning, Qubits, Bits, Gate, is_declared, qubit_count}
+use Rattle.qasm_names.specs.declared.gates.GateBody.{GateBody}
+use Rattle.qasm_names.specs.declared.gates.GateCall.{GateCall}
+use Rattle.qasm_names.specs.declared.gates.CalledGate.{CalledGate}
+use Rattle.qasm_names.specs.declared.names.Names.{Names}
+use Rattle.qasm_names.specs.declared.names.Symbol.{Symbol}
+use Rattle.qasm_names.specs.declared.gates.CalledGate.TheVariants as called_gate
+use Rattle.qasm_names.specs.declared.names.Symbol.TheVariants as symbol
+
+-- a call in a body, without where it lies in memory
+pub record KeptCall : Type 0 where
+  pub called : CalledGate
+  pub angles : List Tree
+  pub qubits : List ℕ
+
+abbrev pub kept_call : GateCall → KeptCall
+kept_call c = record { called = c.called; angles = c.angles.items; qubits = c.qubits.items }
+
+abbrev pub kept_body : GateBody → List KeptCall
+kept_body gate = map kept_call gate.calls.items
+
+-- how many gates are declared
+abbrev pub gates_in : Meaning → ℕ
+gates_in (Gate form) = 1
+gates_in (Qubits first size) = 0
+gates_in Bits = 0
+
+abbrev pub gate_count : Scope → ℕ
+gate_count [] = 0
+gate_count (declaration ∷ scope) = gates_in declaration.meaning + gate_count scope
+
+abbrev pub gate_declaration : GateForm → Bool → Declaration
+gate_declaration form replaceable = record { name = form.name; meaning = Gate form; replaceable = replaceable }
+
+-- what a declaration is kept as, after so many gates
+abbrev pub symbol_in : ℕ → Bool → Meaning → Symbol
+symbol_in number replaceable (Qubits first size) = symbol.Qubits first size
+symbol_in number replaceable Bits = symbol.Bits
+symbol_in number replaceable (Gate form) = symbol.Gate number (length form.parameters) (length form.qubits) replaceable
+
+-- what a name is kept as
+abbrev pub symbol_of : List ℕ → Scope → Option Symbol
+symbol_of name [] = None
+symbol_of name (declaration ∷ scope) =
+    if bytes_eq declaration.name name then Some (symbol_in
+    (gate_count scope) declaration.replaceable declaration.meaning)
+    else symbol_of name scope
+
+-- what it says of a gate: how many angles and qubits it has
+abbrev pub symbol_shape : Option Symbol → Option (ℕ × ℕ)
+symbol_shape (Some (symbol.Gate number angles qubits replaceable)) = Some (angles, qubits)
+symbol_shape (Some (symbol.Qubits first size)) = None
+symbol_shape (Some symbol.Bits) = None
+symbol_shape None = None
+
+-- of a register: its first qubit and its size
+abbrev pub symbol_register : Option Symbol → Option (ℕ × ℕ)
+symbol_register (Some (symbol.Qubits first size)) = Some (first, size)
+symbol_register (Some (symbol.Gate number angles qubits replaceable)) = None
+symbol_register (Some symbol.Bits) = None
+symbol_register None = None
+
+-- the name may not be declared again
+abbrev pub symbol_taken : Option Symbol → Bool
+symbol_taken (Some (symbol.Gate number angles qubits replaceable)) = not replaceable
+symbol_taken (Some (symbol.Qubits first size)) = true
+symbol_taken (Some symbol.Bits) = true
+symbol_taken None = false
+
+-- the number of a gate
+abbrev pub number_in : Option Symbol → ℕ
+number_in (Some (symbol.Gate number angles qubits replaceable)) = number
+number_in (Some (symbol.Qubits first size)) = 0
+number_in (Some symbol.Bits) = 0
+number_in None = 0
+
+abbrev pub called_for : Scope → Callee → CalledGate
+called_for scope (Declared name) = called_gate.Gate (number_in (symbol_of name scope))
+called_for scope U = called_gate.U
+called_for scope Cx = called_gate.Cx
+
+-- the statements of a body are kept as calls, but for barriers
+abbrev pub kept_calls : Scope → GateForm → List BodySentence → List KeptCall
+kept_calls scope form [] = []
+kept_calls scope form (BodyApplied a ∷ body) = record {
+  called = called_for scope a.gate;
+  angles = map (numbered form.parameters) a.angles;
+  qubits = map (λ name. place_of name form.qubits) a.qubits;
+} ∷ kept_calls scope form body
+kept_calls scope form (BodyBarrier names ∷ body) = kept_calls scope form body
+
+-- the gates of a scope, in the order of their declarations
+abbrev pub kept_in : Scope → Meaning → List (List KeptCall)
+kept_in scope (Gate form) = kept_calls scope form form.body ∷ []
+kept_in scope (Qubits first size) = []
+kept_in scope Bits = []
+
+abbrev pub kept_gates : Scope → List (List KeptCall)
+kept_gates [] = []
+kept_gates (declaration ∷ scope) = kept_gates scope ++ kept_in scope declaration.meaning
+
+-- a declared gate, in the scope before it
+pub record IsSoundGate (scope : Scope) (form : GateForm) : Type 0 where
+  pub all_known : list_any (body_has_unknown scope form) form.body ≡ false
+  pub same_counts : list_any (body_has_wrong_count scope) form.body ≡ false
+  pub other_qubits : list_any body_has_same_qubit form.body ≡ false
+  pub other_names : has_name_twice (form.parameters ++ form.qubits) ≡ false
+
+-- registers of qubits stand one after the other, and are few
+pub record IsSoundRegister (scope : Scope) (first size : ℕ) : Type 0 where
+  pub after_others : first ≡ qubit_count scope
+  pub few : size + qubit_count scope ≤ most_qubits
+
+abbrev pub IsSoundMeaning : Scope → Meaning → Bool → Type 0
+IsSoundMeaning scope (Gate form) replaceable = IsSoundGate scope form
+IsSoundMeaning scope (Qubits first size) replaceable = IsSoundRegister scope first size × (replaceable ≡ false)
+IsSoundMeaning scope Bits replaceable = replaceable ≡ false
+
+-- what is replaceable was free
+abbrev pub IsFresh : List ℕ → Bool → Scope → Type 0
+IsFresh name true scope = is_declared name scope ≡ false
+IsFresh name false scope = Unit {0}
+
+-- each declaration was checked
+abbrev pub IsSound : Scope → Type 0
+IsSound [] = Unit {0}
+IsSound (declaration ∷ scope) =
+    IsSoundMeaning scope declaration.meaning declaration.replaceable
+    × IsFresh declaration.name declaration.replaceable scope × IsSound scope
+
+-- what a name is kept as, by the map
+abbrev pub found : {A : Type 0} → List ℕ → BTreeMap (Bor (List ℕ)) A → Option A
+found name symbols = get_by (λ key. slice_cmp nat_cmp name key.now) symbols
+
+-- the declarations so far are those of the scope
+pub record Represents (names : Names) (scope : Scope) : Type 0 where
+  pub same_symbols : (name : List ℕ) → found name names.symbols ≡ symbol_of name scope
+  pub same_gates : map kept_body names.gates.items ≡ kept_gates scope
+  pub same_qubits : names.qubits ≡ qubit_count scope
+  pub sound : IsSound scope
+
+-- in each scope in which this is how a sound gate is kept, it is declared
+abbrev pub DeclaresGate : Names → Names → List ℕ → ℕ → ℕ → List KeptCall → Bool → Type 0
+DeclaresGate before after name angles qubits body replaceable =
+    (scope : Scope) (form : GateForm) → Represents before scope
+    → name ≡ form.name → angles ≡ length form.parameters → qubits ≡ length form.qubits →
+    body ≡ kept_calls scope form form.body
+    → IsSoundGate scope form → IsFresh form.name replaceable scope →
+    Represents after (gate_declaration form replaceable ∷ scope)

@@ -1,0 +1,7 @@
+pub mod AppliedGates
+pub mod Begun
+pub mod Bodies
+pub mod Checks
+pub mod Internal
+pub mod Kept
+pub mod Places

@@ -1,7 +1,0 @@
-use Rattle.std.proofs.Common.{◌≡◌, map, drop}
-use Rattle.std.specs.List.{list_any}
-use Rattle.qasm_scope.specs.Internal.Checks.{unplaced}
-use Rattle.qasm_scope.proofs.bodies.any_unplaced.Given as goal
-
-abbrev pub invariant-loop-name : goal.invariant-loop-name
-invariant-loop-name l = list_any (unplaced l.places) (map (λ name. name.now) l.names) ≡ list_any (unplaced l.places) (map (λ name. name.now) (drop l.name-index l.names))
