@@ -49,9 +49,8 @@ present g q = get_or (end_vertices g.outputs) q 0
 
 -- one more wire, a spider of phase 0 with both ends
 abbrev pub with_wire : Graph → ℕ → Graph
-with_wire g new = record {
+with_wire g new = record g {
   vertices = insert_vertex (spider_of_phase_zero new) g.vertices;
-  edges = g.edges;
   inputs = g.inputs ++ plain new ∷ [];
   outputs = g.outputs ++ plain new ∷ [];
 }
@@ -62,10 +61,9 @@ wires made = fold with_wire (record { vertices = []; edges = []; inputs = []; ou
 
 -- H: an edge joins the present spider to a new one of phase 0, which is the present one from there on
 abbrev pub with_spider : ℕ → ℕ → Graph → Graph
-with_spider new q g = record {
+with_spider new q g = record g {
   vertices = split_vertices g new;
   edges = split_edges g (present g q) new;
-  inputs = g.inputs;
   outputs = slice_set g.outputs q (plain new);
 }
 

@@ -1,12 +1,11 @@
 //! The local complement about a vertex.
 
-ghost use Rattle.std.specs.Prelude.{◌≡◌, ◌<◌, ℕ, true, length, take, slice_index, OnOk, OnErr};
+ghost use Rattle.std.specs.Prelude.{◌≡◌, true, OnOk, OnErr};
 ghost use Rattle.zx_model.specs.Bits.{member};
 ghost use Rattle.zx_calculus.specs.Graph.{neighbours, plane_of, Live, Interior, WellFormed};
-ghost use Rattle.zx_calculus.specs.Steps.{allowed, LocalComplement};
-ghost use Rattle.zx_calculus.specs.Complements.{IsLocalComplement};
+ghost use Rattle.zx_calculus.specs.Steps.{allowed, IsStep, LocalComplement};
 ghost use Rattle.zx_calculus.specs.Edits.{at_vertex};
-ghost use Rattle.zx_calculus.specs.Toggles.{IsToggled, among, from_to, with_changed};
+ghost use Rattle.zx_calculus.specs.Toggles.{IsToggled, among, with_changed};
 ghost use Rattle.zx_calculus.specs.Turns.{in_plane, complemented};
 ghost use Rattle.gflow_laws.specs.Seen.{seen};
 ghost use Rattle.gflow_laws.specs.Flow.{order_of, IsFlow, SameSets};
@@ -60,7 +59,20 @@ pub fn local_complement_in_place(
         (IsRewritten g.old.graph f.old.flow (LocalComplement u) g.new.graph f.new.flow) }
 {
     complement_sets(f, g, u)?;
-    complement_graph(g, u)
+    local_complement_in_graph(g, u)
+}
+
+/// The graph's part of `local_complement`: where memory runs out, the graph may be any.
+pub fn local_complement_in_graph(g: &mut OpenGraph, u: VertexId) -> Result<(), AllocError>
+    requires { allowed g.old.graph (LocalComplement u) ≡ true }
+    ensures step { OnOk result (IsStep g.old.graph (LocalComplement u) g.new.graph) }
+    ensures was_valid { WellFormed g.old.graph }
+    ensures valid { WellFormed g.new.graph }
+{
+    toggle_neighbours(g, u)?;
+    turn_neighbours(g, u);
+    complement_own(g, u);
+    Ok(())
 }
 
 // What a local complement of the graph about u makes of the sets; the graph is that before it.
@@ -90,19 +102,6 @@ fn changes_plane(g: &OpenGraph, u: VertexId) -> bool
     }
 }
 
-// What a local complement about u makes of the graph.
-fn complement_graph(g: &mut OpenGraph, u: VertexId) -> Result<(), AllocError>
-    requires live { Live g.old.graph u }
-    requires interior { Interior g.old.graph u }
-    ensures step { OnOk result (IsLocalComplement g.old.graph u g.new.graph) }
-    ensures was_valid { WellFormed g.old.graph }
-{
-    toggle_neighbours(g, u)?;
-    turn_neighbours(g, u);
-    complement_own(g, u);
-    Ok(())
-}
-
 // Toggles each edge between two neighbours of a vertex.
 fn toggle_neighbours(g: &mut OpenGraph, u: VertexId) -> Result<(), AllocError>
     requires { Live g.old.graph u }
@@ -111,34 +110,16 @@ fn toggle_neighbours(g: &mut OpenGraph, u: VertexId) -> Result<(), AllocError>
     ensures was_valid { WellFormed g.old.graph }
     ensures valid { WellFormed g.new.graph }
 {
-    for i in 0..g.neighbours(u).len() {
-        toggle_with_earlier(g, u, i)?;
-    }
-    Ok(())
-}
-
-// Toggles the edges from the neighbour of a vertex at a place to those before it.
-fn toggle_with_earlier(g: &mut OpenGraph, u: VertexId, i: usize) -> Result<(), AllocError>
-    requires live { Live g.old.graph u }
-    requires within { i < length (neighbours g.old.graph u) }
-    ensures toggled { let near = neighbours g.old.graph u in
-        OnOk result
-        (IsToggled g.old.graph (from_to (slice_index near i) (take i near)) g.new.graph) }
-    ensures valid { WellFormed g.new.graph }
-{
-    let p = g.neighbour(u, i);
-    for j in 0..i {
-        let q = g.neighbour(u, j);
-        g.toggle_edge(p, q)?;
-    }
-    Ok(())
+    let near = g.neighbour_set(u)?;
+    g.toggle_among(&near)
 }
 
 // What a local complement about a vertex makes of its own plane and phase.
 fn complement_own(g: &mut OpenGraph, u: VertexId)
     requires live { Live g.old.graph u }
     requires interior { Interior g.old.graph u }
-    ensures { g.new.graph ≡ with_changed (at_vertex u complemented) g.old.graph }
+    ensures own { g.new.graph ≡ with_changed (at_vertex u complemented) g.old.graph }
+    ensures valid { WellFormed g.new.graph }
 {
     let (plane, phase) = g.weight(u);
     let (plane, phase) = complemented(plane, phase);

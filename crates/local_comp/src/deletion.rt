@@ -2,7 +2,7 @@
 
 ghost use Rattle.std.specs.Prelude.{◌≡◌, true, OnOk, OnErr};
 ghost use Rattle.zx_calculus.specs.Graph.{joined, phase_of, Live, WellFormed};
-ghost use Rattle.zx_calculus.specs.Steps.{allowed, Delete};
+ghost use Rattle.zx_calculus.specs.Steps.{allowed, Delete, IsStep};
 ghost use Rattle.zx_calculus.specs.Deletions.{delete_kind};
 ghost use Rattle.zx_calculus.specs.Toggles.{with_changed};
 ghost use Rattle.gflow_laws.specs.Flow.{IsFlow};
@@ -51,9 +51,19 @@ pub fn delete_in_place(g: &mut OpenGraph, f: &mut Flow, u: VertexId) -> Result<(
     ensures rewritten { OnOk result
         (IsRewritten g.old.graph f.old.flow (Delete u) g.new.graph f.new.flow) }
 {
+    delete_in_graph(g, u);
+    f.eliminate(u)
+}
+
+/// The graph's part of `delete`.
+pub fn delete_in_graph(g: &mut OpenGraph, u: VertexId)
+    requires { allowed g.old.graph (Delete u) ≡ true }
+    ensures step { IsStep g.old.graph (Delete u) g.new.graph }
+    ensures was_valid { WellFormed g.old.graph }
+    ensures valid { WellFormed g.new.graph }
+{
     pass_half_turn(g, u);
     g.remove_vertex(u);
-    f.eliminate(u)
 }
 
 // Gives each neighbour of a vertex of a half turn a half turn.

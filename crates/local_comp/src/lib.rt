@@ -6,6 +6,7 @@
 //! phases don't rise; want of memory leaves both as they were.
 //! `may_complement` and `may_delete` tell exactly where each is allowed. `local_complement_in_place`
 //! and `delete_in_place` make the same change without copies; where memory runs out they say nothing.
+//! `local_complement_in_graph` and `delete_in_graph` change the graph alone, by the same step.
 //!
 //! ```rust
 //! if may_complement(&graph, u) {
@@ -18,5 +19,7 @@ mod complement;
 mod deletion;
 mod neighbours;
 
-pub use complement::{local_complement, local_complement_in_place, may_complement};
-pub use deletion::{delete, delete_in_place, may_delete};
+pub use complement::{
+    local_complement, local_complement_in_graph, local_complement_in_place, may_complement,
+};
+pub use deletion::{delete, delete_in_graph, delete_in_place, may_delete};

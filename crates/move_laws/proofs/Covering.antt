@@ -82,7 +82,7 @@ module _ (g h : Graph) (formed : WellFormed g) (after : WellFormed h) where
   }
 
 -- the vertices of a place are vertices
-lives : (g : Graph) (k : MoveKind) (u v : ℕ) → IsPlaceOf g k u v → Live g u
+pub lives : (g : Graph) (k : MoveKind) (u v : ℕ) → IsPlaceOf g k u v → Live g u
 lives g Deletion u v c = c.there
 lives g QuarterGadget u v c = c.there
 lives g InXZ u v c = c.there
@@ -95,7 +95,7 @@ lives g SingleGadget u v c = c.there
 lives g Twins u v c = c.there
 
 -- two that are alike may be exchanged
-exchanged : (g : Graph) (k : MoveKind) (u v : ℕ) → is_mutual k ≡ true → IsPlaceOf g k u v → IsPlaceOf g k v u
+pub exchanged : (g : Graph) (k : MoveKind) (u v : ℕ) → is_mutual k ≡ true → IsPlaceOf g k u v → IsPlaceOf g k v u
 exchanged g Deletion u v e c = absurd (true≢false (sym e))
 exchanged g QuarterGadget u v e c = absurd (true≢false (sym e))
 exchanged g InXZ u v e c = absurd (true≢false (sym e))

@@ -47,14 +47,14 @@ kept_by g (FuseInto u) h rank low high formed none step f = without g h rank low
 kept_by g (FuseTwin u v) h rank low high formed none step f = without g h rank low high v f (kept_along g (FuseTwin u v) h f.order formed step f.flow)
 
 -- one rank is another's business
-ranked-self : (b r : ℕ) (rank : ℕ → ℕ) → ranked b r rank b ≡ r
+pub ranked-self : (b r : ℕ) (rank : ℕ → ℕ) → ranked b r rank b ≡ r
 ranked-self b r rank = ap (λ t. cond t r (rank b)) (eqb-self b)
 
-ranked_other : (b r : ℕ) (rank : ℕ → ℕ) (vs : List ℕ) (w : ℕ) → member b vs ≡ false → member w vs ≡ true → ranked b r rank w ≡ rank w
+pub ranked_other : (b r : ℕ) (rank : ℕ → ℕ) (vs : List ℕ) (w : ℕ) → member b vs ≡ false → member w vs ≡ true → ranked b r rank w ≡ rank w
 ranked_other b r rank vs w out there =
     by_equal w b (λ t e. absurd (true≢false (sym there ∙ ap (λ x. member x vs) e ∙ out))) (λ f n. ap (λ t. cond t r (rank w)) f)
 
-rises-ranked : (b r : ℕ) (rank : ℕ → ℕ) (all vs : List ℕ) → member b all ≡ false → ((w : ℕ) → member w vs ≡ true → member w all ≡ true) → RisesBy rank vs → RisesBy (ranked b r rank) vs
+pub rises-ranked : (b r : ℕ) (rank : ℕ → ℕ) (all vs : List ℕ) → member b all ≡ false → ((w : ℕ) → member w vs ≡ true → member w all ≡ true) → RisesBy rank vs → RisesBy (ranked b r rank) vs
 rises-ranked b r rank all [] out within rises = tt
 rises-ranked b r rank all (v ∷ vs) out within rises = (
   (λ w there. let at_v : ranked b r rank v ≡ rank v = ranked_other b r rank all v out (within v (member-here v vs)) in
@@ -63,7 +63,7 @@ rises-ranked b r rank all (v ∷ vs) out within rises = (
   rises-ranked b r rank all vs out (λ w there. within w (member-there w v vs there)) rises.1,
 )
 
-rises-append : (rank : ℕ → ℕ) (vs : List ℕ) (b : ℕ) → ((w : ℕ) → member w vs ≡ true → rank w < rank b) → RisesBy rank vs → RisesBy rank (vs ++ b ∷ [])
+pub rises-append : (rank : ℕ → ℕ) (vs : List ℕ) (b : ℕ) → ((w : ℕ) → member w vs ≡ true → rank w < rank b) → RisesBy rank vs → RisesBy rank (vs ++ b ∷ [])
 rises-append rank [] b below rises = ((λ w there. absurd (true≢false (sym there))), tt)
 rises-append rank (v ∷ vs) b below rises = (
   (λ w there. by_test (member w vs)

@@ -5,3 +5,4 @@ pub mod PlaceLemmas
 pub mod SlotLemmas
 pub mod Keeping
 pub mod Removing
+pub mod RowToggles

@@ -1,3 +1,4 @@
 pub mod Planes
+pub mod Toggles
 pub mod OpenGraph
 pub mod Internal

@@ -2,7 +2,8 @@
 //!
 //! Proved: each call makes its one named change of the graph's lists, and all else stays; the graph
 //! stays well-formed; a new id wasn't live; readers tell the lists, neighbours and vertices by
-//! rising id; a copy has the same lists; want of memory leaves them as they were.
+//! rising id; a copy has the same lists; want of memory leaves them as they were, but
+//! leaves no vertex where it stops `toggle_across` or `toggle_among`, which toggle whole rows.
 //!
 //! ```rust
 //! let mut g = OpenGraph::new(alloc);

@@ -7,7 +7,9 @@ ghost use Rattle.zx_calculus.specs.Graph as zx;
 ghost use Rattle.zx_calculus.specs.Turns.{in_plane, quarter_turned};
 ghost use Rattle.zx_calculus.specs.Worked.{vertex};
 ghost use Rattle.zx_calculus.specs.Edits.{IsToggle, IsRemoval, at_vertex};
+ghost use Rattle.zx_calculus.specs.Toggles.{IsToggled, among};
 ghost use Rattle.open_graph.specs.Planes.{plane_named};
+ghost use Rattle.open_graph.specs.Toggles.{across};
 ghost use Rattle.open_graph.specs.Internal.Slots.{Tells};
 
 use crate::end::End;
@@ -16,6 +18,7 @@ use crate::plane::Plane;
 use crate::side::{self, Side};
 use crate::slot::Slot;
 use crate::slots;
+use crate::vertex_set::VertexSet;
 use crate::vertices::Vertices;
 use slab::Slab;
 use std::alloc::{AllocError, Global};
@@ -145,6 +148,48 @@ impl OpenGraph {
         Ok(())
     }
 
+    /// Toggles each edge between a vertex on the left and one on the right: twice, so not at all,
+    /// where it is one either way round. Where memory runs out the graph is left empty.
+    pub fn toggle_across(&mut self, left: &VertexSet, right: &VertexSet) -> Result<(), AllocError>
+        requires left_live { (p : ℕ) → member p left.now ≡ true → Live self.old.graph p }
+        requires right_live { (p : ℕ) → member p right.now ≡ true → Live self.old.graph p }
+        ensures ok { OnOk result
+            (IsToggled self.old.graph (across left.now right.now) self.new.graph) }
+        ensures err { OnErr result (self.new.graph ≡
+            record { vertices = []; edges = []; inputs = []; outputs = [] }) }
+        ensures was_valid { WellFormed self.old.graph }
+        ensures valid { WellFormed self.new.graph }
+    {
+        if let Err(error) = slots::toggle_across(
+            &mut self.slots,
+            left.as_slice(),
+            right.as_slice(),
+        ) {
+            // Some edges may stand in one of their two rows alone.
+            *self = OpenGraph::new(self.alloc);
+            return Err(error);
+        }
+        Ok(())
+    }
+
+    /// Toggles each edge between two of these vertices. Where memory runs out the graph is left
+    /// empty.
+    pub fn toggle_among(&mut self, vertices: &VertexSet) -> Result<(), AllocError>
+        requires { (p : ℕ) → member p vertices.now ≡ true → Live self.old.graph p }
+        ensures ok { OnOk result (IsToggled self.old.graph (among vertices.now) self.new.graph) }
+        ensures err { OnErr result (self.new.graph ≡
+            record { vertices = []; edges = []; inputs = []; outputs = [] }) }
+        ensures was_valid { WellFormed self.old.graph }
+        ensures valid { WellFormed self.new.graph }
+    {
+        if let Err(error) = slots::toggle_among(&mut self.slots, vertices.as_slice()) {
+            // Some edges may stand in one of their two rows alone.
+            *self = OpenGraph::new(self.alloc);
+            return Err(error);
+        }
+        Ok(())
+    }
+
     /// Gives a vertex another plane and phase. A vertex with an end stays XY.
     pub fn set_weight(&mut self, v: VertexId, plane: Plane, phase: Eighth)
         requires live { Live self.old.graph v }
@@ -207,6 +252,18 @@ impl OpenGraph {
         ensures valid { WellFormed self.now.graph }
     {
         self.slot(v).row.as_slice()
+    }
+
+    /// The vertices adjacent to a vertex, as a set.
+    pub fn neighbour_set(&self, v: VertexId) -> Result<VertexSet, AllocError>
+        requires { Live self.now.graph v }
+        ensures members { IfOk result (λ set. (p : ℕ) →
+            member p set ≡ joined self.now.graph.edges v p) }
+        ensures live { IfOk result (λ set. (p : ℕ) → member p set ≡ true → Live self.now.graph p) }
+        ensures valid { WellFormed self.now.graph }
+    {
+        let row = self.slot(v).row.clone()?;
+        Ok(row)
     }
 
     /// The vertex at a place among those adjacent to a vertex.

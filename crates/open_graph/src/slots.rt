@@ -1,16 +1,18 @@
 //! Changes of one slot.
 
-ghost use Rattle.std.specs.Prelude.{◌≡◌, ◌≢◌, ℕ, Some, None, true, false, IfOk, OnOk, OnErr};
+ghost use Rattle.std.specs.Prelude.{◌≡◌, ◌≢◌, ◌==◌, ◌&&◌, ℕ, Some, None, true, false, IfOk, OnOk, OnErr};
+ghost use Rattle.zx_model.specs.Bits.{member};
 ghost use Rattle.slab.specs.Slab.{get, ContainsKey};
 ghost use Rattle.zx_calculus.specs.Turns.{in_plane};
-ghost use Rattle.zx_calculus.specs.Graph.{Graph, Live, WellFormed};
+ghost use Rattle.zx_calculus.specs.Graph.{Graph, Live, WellFormed, Distinct};
 ghost use Rattle.zx_calculus.proofs.Ids.{removed};
 ghost use Rattle.zx_calculus.proofs.EditPrograms.{toggled};
 ghost use Rattle.open_graph.specs.Planes.{plane_named};
 ghost use Rattle.open_graph.specs.Internal.Rows.{inserted};
 ghost use Rattle.open_graph.specs.Internal.Slots.{nothing, told, adjacent};
 ghost use Rattle.open_graph.specs.Internal.Sides.{with_place};
-ghost use Rattle.open_graph.specs.Internal.Changes.{Puts, SameTold, Keeps, RemovedFrom};
+ghost use Rattle.open_graph.specs.Internal.Changes.{Puts, SameTold, Keeps, RemovedFrom, RowsToggled, two_among};
+ghost use Rattle.open_graph.specs.Toggles.{across};
 
 use crate::id::VertexId;
 use crate::plane::Plane;
@@ -86,6 +88,66 @@ pub(crate) fn toggle(slots: &mut Slab<Slot>, u: VertexId, v: VertexId) -> Result
     if let Err(error) = add_neighbour(slots, v, u) {
         remove_neighbour(slots, u, v);
         return Err(error);
+    }
+    Ok(())
+}
+
+// Toggles vertices in the row of another.
+fn toggle_row(slots: &mut Slab<Slot>, u: VertexId, others: &[VertexId]) -> Result<(), AllocError>
+    requires live { ContainsKey slots.old u }
+    requires distinct { Distinct others.now }
+    ensures { OnOk result (RowsToggled slots.old.slots slots.new.slots
+        (λ p q. (p == u) && member q others.now)) }
+{
+    slots[u.get()].row.toggle_all(others)
+}
+
+// Toggles vertices in the rows of others.
+fn toggle_rows(
+    slots: &mut Slab<Slot>,
+    vertices: &[VertexId],
+    others: &[VertexId],
+) -> Result<(), AllocError>
+    requires live { (p : ℕ) → member p vertices.now ≡ true → ContainsKey slots.old p }
+    requires distinct { Distinct vertices.now }
+    requires distinct_others { Distinct others.now }
+    ensures { OnOk result (RowsToggled slots.old.slots slots.new.slots
+        (λ p q. member p vertices.now && member q others.now)) }
+{
+    for u in vertices {
+        toggle_row(slots, *u, others)?;
+    }
+    Ok(())
+}
+
+// Toggles the edge of each pair across two lists, in both rows. Where memory runs out, the rows may
+// be any.
+pub(crate) fn toggle_across(
+    slots: &mut Slab<Slot>,
+    left: &[VertexId],
+    right: &[VertexId],
+) -> Result<(), AllocError>
+    requires left_live { (p : ℕ) → member p left.now ≡ true → ContainsKey slots.old p }
+    requires right_live { (p : ℕ) → member p right.now ≡ true → ContainsKey slots.old p }
+    requires left_distinct { Distinct left.now }
+    requires right_distinct { Distinct right.now }
+    ensures { OnOk result
+        (RowsToggled slots.old.slots slots.new.slots (across left.now right.now)) }
+{
+    toggle_rows(slots, left, right)?;
+    toggle_rows(slots, right, left)
+}
+
+// Toggles the edge of each pair of listed vertices, in both rows. Where memory runs out, the rows
+// may be any.
+pub(crate) fn toggle_among(slots: &mut Slab<Slot>, near: &[VertexId]) -> Result<(), AllocError>
+    requires live { (p : ℕ) → member p near.now ≡ true → ContainsKey slots.old p }
+    requires distinct { Distinct near.now }
+    ensures { OnOk result (RowsToggled slots.old.slots slots.new.slots (two_among near.now)) }
+{
+    for p in near {
+        toggle_row(slots, *p, near)?;
+        toggle_row(slots, *p, &[*p])?;
     }
     Ok(())
 }

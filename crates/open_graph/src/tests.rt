@@ -56,6 +56,42 @@ fn edges_join_neighbours(rt: HostRuntime) -> Result<(), Fail> {
     Ok(())
 }
 
+// Toggles the edges among the neighbours of a vertex.
+fn complement(rt: &impl Abort, graph: &mut OpenGraph, v: usize) -> Result<(), Fail> {
+    assert!(rt; graph.is_live(VertexId::new(v)));
+    let near = graph.neighbour_set(VertexId::new(v))?;
+    graph.toggle_among(&near)?;
+    Ok(())
+}
+
+// Toggles the edges between the neighbours of a vertex and those of another.
+fn cross(rt: &impl Abort, graph: &mut OpenGraph, u: usize, v: usize) -> Result<(), Fail> {
+    assert!(rt; graph.is_live(VertexId::new(u)));
+    assert!(rt; graph.is_live(VertexId::new(v)));
+    let near = graph.neighbour_set(VertexId::new(u))?;
+    let far = graph.neighbour_set(VertexId::new(v))?;
+    graph.toggle_across(&near, &far)?;
+    Ok(())
+}
+
+#[test]
+fn edges_are_toggled_by_rows(rt: HostRuntime) -> Result<(), Fail> {
+    let mut graph = three_vertices(rt.alloc())?;
+    toggle(&rt, &mut graph, 0, 1)?;
+    toggle(&rt, &mut graph, 2, 1)?;
+    complement(&rt, &mut graph, 1)?;
+    assert_eq!(rt; neighbours(&rt, &graph, 0), 12);
+    assert_eq!(rt; neighbours(&rt, &graph, 1), 2);
+    complement(&rt, &mut graph, 1)?;
+    assert!(rt; !has_edge(&rt, &graph, 2, 0));
+
+    // Vertex 1 alone is across from 0 and 2.
+    cross(&rt, &mut graph, 0, 1)?;
+    assert_eq!(rt; neighbours(&rt, &graph, 0), 0);
+    assert_eq!(rt; neighbours(&rt, &graph, 2), 0);
+    Ok(())
+}
+
 fn add_input(rt: &impl Abort, graph: &mut OpenGraph, end: End) -> Result<(), Fail> {
     assert!(rt; graph.is_live(end.vertex));
     assert!(rt; matches!(graph.weight(end.vertex).0, Plane::XY));

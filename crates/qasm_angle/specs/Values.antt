@@ -1,7 +1,7 @@
 -- The angle that an expression means: r + s*pi for fractions r and s. The first operation in postfix order that
 -- gives no angle decides the cause. Expressions are those of OpenQASM 2 without powers and functions: Cross, Bishop,
 -- Smolin, Gambetta, "Open quantum assembly language" (arXiv 1707.03429).
-use Rattle.std.specs.Prelude.{List, Option, Some, None, Result, Ok, Err, if◌then◌else◌, pos, slice_get, ok_or}
+use Rattle.std.specs.Prelude.{List, Option, Some, Result, Ok, Err, if◌then◌else◌, pos, slice_get, ok_or, option_map}
 use Rattle.qasm_angle.specs.Ratio.{Ratio, whole, is_zero, opposite, sum, product, quotient, limited}
 use Rattle.qasm_angle.specs.Trees.{Tree, Number, Pi, Parameter, Negate, Binary}
 use Rattle.qasm_angle.specs.declared.angle.Angle.{Angle}
@@ -53,11 +53,6 @@ applied Subtract a b = sum_of_angles a (opposite_angle b)
 applied Multiply a b = product_of_angles a b
 applied Divide a b = quotient_of_angles a b
 
--- a number that is past the limits is too large
-abbrev pub of_number : Option Ratio → Result Angle AngleFault
-of_number (Some a) = Ok (number a)
-of_number None = Err cause.TooLarge
-
 abbrev pub of_opposite : Result Angle AngleFault → Result Angle AngleFault
 of_opposite (Ok a) = Ok (opposite_angle a)
 of_opposite (Err c) = Err c
@@ -68,9 +63,10 @@ of_operands operator (Ok a) (Ok b) = applied operator a b
 of_operands operator (Ok a) (Err c) = Err c
 of_operands operator (Err c) b = Err c
 
--- What an expression is, given the parameters' angles. A parameter that is given none is no angle.
+-- What an expression is, given the parameters' angles. A number that is past the limits is too large, and a parameter
+-- that is given no angle is none.
 abbrev pub value : Tree → List Angle → Result Angle AngleFault
-value (Number a) args = of_number a
+value (Number a) args = ok_or (option_map number a) cause.TooLarge
 value Pi args = Ok pi
 value (Parameter i) args = ok_or (slice_get args i) cause.NotAnAngle
 value (Negate a) args = of_opposite (value a args)

@@ -1,8 +1,8 @@
 //! The angle of an expression.
 
-ghost use Rattle.std.specs.Prelude.{◌≡◌, ◌∷◌, [], reverse, Ok, Err, IfOk, IfErr, OnOk};
+ghost use Rattle.std.specs.Prelude.{◌≡◌, ◌∷◌, [], reverse, Ok, Err, IfOk, IfErr, OnOk, ok_or, option_map};
 ghost use Rattle.std.specs.List.{list_any};
-ghost use Rattle.qasm_angle.specs.Values.{value, of_number};
+ghost use Rattle.qasm_angle.specs.Values.{value, number};
 ghost use Rattle.qasm_angle.specs.Errors.{error_of};
 ghost use Rattle.qasm_angle.specs.Internal.Constants.{is_parameter};
 ghost use Rattle.qasm_angle.specs.Internal.Stack.{stepped, on_top};
@@ -98,7 +98,7 @@ fn take_step(angles: &mut Vec<Angle>, step: &ExprItem, args: &[Angle]) -> Result
 
 // The angle of a number.
 fn number(literal: &Literal) -> Result<Angle, AngleFault>
-    ensures { result ≡ of_number literal.now }
+    ensures { result ≡ ok_or (option_map number literal.now) cause.TooLarge }
 {
     match literal.value() {
         Some(value) => Ok(Angle::number(value)),

@@ -10,7 +10,7 @@ use Rattle.qasm_scope.specs.declared.causes.Cause.{Cause}
 use Rattle.qasm_scope.specs.declared.causes.Cause.TheVariants as cause
 use Rattle.qasm_names.specs.declared.gates.CalledGate.{CalledGate}
 use Rattle.qasm_scope.specs.Angles.{is_unsupported, numbered}
-use Rattle.qasm_scope.specs.Applications.{QubitRange, Single, Register, qubit_at, instances, instance_count, register_sizes, ranges_of, range_in, has_twice, application_events}
+use Rattle.qasm_scope.specs.Applications.{QubitRange, Single, Register, qubit_at, instances, register_sizes, ranges_of, range_in, has_twice, application_events}
 use Rattle.qasm_names.specs.AppliedGates.{IsAppliedGate, gate_faults, has_fault, is_unknown_gate}
 use Rattle.qasm_names.specs.Checks.{Symbols, hidden_by, shape_by}
 use Rattle.qasm_names.specs.Kept.{IsSound, called_for}
@@ -19,7 +19,7 @@ use Rattle.qasm_scope.specs.Faults.{is_no_gate, shape_of, has_other_name, has_no
 use Rattle.qasm_inline.specs.Internal.KeptCalls.{expand_number}
 use Rattle.qasm_inline.specs.Internal.KeptCalls.{called_events, values_of}
 use Rattle.qasm_scope.specs.Scope.{Scope, Meaning, Qubits, Bits, Gate, meaning_of, numeral}
-use Rattle.qasm_inline.specs.Internal.Spans.{no_register_by, past_by, any_missing, span_by, is_unknown, is_wrong_count, AreSpans, IsResolved, is_unresolved, unresolved_cause, resolved_cause, cut_qubit_at, cut_instance, cut_instances, instances_events}
+use Rattle.qasm_inline.specs.Internal.Spans.{no_register_by, past_by, any_missing, span_by, is_unknown, is_wrong_count, AreSpans, IsResolved, is_unresolved, unresolved_cause, resolved_cause, cut_qubit_at, cut_instance, cut_instances, instances_events, instance_count}
 use Rattle.qasm_names.proofs.CheckLemmas.{AreNames, shape-names, called-names, placed-numbered, list_any-same, map-same}
 use Rattle.qasm_names.proofs.Formulas.{unplaced-names}
 use Rattle.qasm_names.specs.declared.places.Places.{Places}
@@ -27,6 +27,7 @@ use Rattle.qasm_names.specs.declared.applied_gates.AppliedGate.{AppliedGate}
 use Rattle.qasm_names.specs.declared.applied_gates.GateFaults.{GateFaults}
 use Rattle.qasm_names.specs.declared.formals.Formals.{Formals}
 use Rattle.std.specs.Option.{is_some}
+use Rattle.std.specs.Prelude.{◌==◌}
 use Rattle.qasm_inline.proofs.EventLemmas.{application-numbered}
 use Rattle.qasm_names.proofs.Tests.{or-first, or-second, any_or}
 use Rattle.qasm_inline.proofs.SpanLemmas.{no_register-names, past-names, span-names, few-register, IsFew}
@@ -46,7 +47,7 @@ wrong_in-application : (scope : Scope) (a : Apply) → wrong_in scope (Act (Appl
     ≡ application_cause (list_any is_unsupported a.angles)
     (is_no_gate (shape_of scope a.gate) || list_any (has_other_name []) a.angles || has_no_register scope a.qubits)
     (has_other_shape (shape_of scope a.gate) (length a.angles) (length a.qubits))
-    (has_past_index scope a.qubits) (has_other_size (register_sizes (ranges_of scope a.qubits))) (list_any has_twice (instances (ranges_of scope a.qubits)))
+    (has_past_index scope a.qubits) (has_other_size (register_sizes (ranges_of scope a.qubits))) (list_any (has_twice ◌==◌) (instances (ranges_of scope a.qubits)))
 unfolding wrong_in
 wrong_in-application scope a = refl
 
@@ -56,11 +57,11 @@ same-tests u k k' w w' p p' s q ek ew ep = ap (λ k. application_cause u k w p s
 -- the same by what names are kept as
 wrong-kept : (symbols : Symbols) (scope : Scope) (a : Apply) → AreNames symbols scope → wrong_in scope (Act (Applied a))
     ≡ application_cause (list_any is_unsupported a.angles) (is_unknown symbols a) (is_wrong_count symbols a) (list_any (past_by symbols) a.qubits)
-    (has_other_size (register_sizes (ranges_of scope a.qubits))) (list_any has_twice (instances (ranges_of scope a.qubits)))
+    (has_other_size (register_sizes (ranges_of scope a.qubits))) (list_any (has_twice ◌==◌) (instances (ranges_of scope a.qubits)))
 wrong-kept symbols scope a h =
     let shape = sym (shape-names symbols scope a.gate h) in
     wrong_in-application scope a
-    ∙ same-tests (list_any is_unsupported a.angles) _ _ _ _ _ _ (has_other_size (register_sizes (ranges_of scope a.qubits))) (list_any has_twice (instances (ranges_of scope a.qubits)))
+    ∙ same-tests (list_any is_unsupported a.angles) _ _ _ _ _ _ (has_other_size (register_sizes (ranges_of scope a.qubits))) (list_any (has_twice ◌==◌) (instances (ranges_of scope a.qubits)))
     (ap₂ (λ s r. is_no_gate s || list_any (has_other_name []) a.angles || r) shape (list_any-same _ (no_register_by symbols) a.qubits (λ o. sym (no_register-names symbols scope o h))))
     (ap (λ s. has_other_shape s (length a.angles) (length a.qubits)) shape)
     (list_any-same _ (past_by symbols) a.qubits (λ o. sym (past-names symbols scope o h)))
@@ -76,7 +77,7 @@ unresolved-cause false false false false s q h = absurd (cc)
 pub wrong-unresolved : (symbols : Symbols) (scope : Scope) (a : Apply) → AreNames symbols scope → is_unresolved symbols a ≡ true
     → wrong_in scope (Act (Applied a)) ≡ Some (unresolved_cause (list_any is_unsupported a.angles) (is_unknown symbols a) (is_wrong_count symbols a))
 wrong-unresolved symbols scope a h unresolved = wrong-kept symbols scope a h ∙ unresolved-cause (list_any is_unsupported a.angles) (is_unknown symbols a) (is_wrong_count symbols a) (list_any (past_by symbols) a.qubits)
-    (has_other_size (register_sizes (ranges_of scope a.qubits))) (list_any has_twice (instances (ranges_of scope a.qubits))) unresolved
+    (has_other_size (register_sizes (ranges_of scope a.qubits))) (list_any (has_twice ◌==◌) (instances (ranges_of scope a.qubits))) unresolved
 
 clear-cause : (u k w p s q : Bool) → u ≡ false → k ≡ false → w ≡ false → p ≡ false → application_cause u k w p s q ≡ resolved_cause s q
 clear-cause false false false false s q eu ek ew ep = refl
@@ -98,10 +99,10 @@ resolved-ranges {symbols = symbols} {a = a} scope h sound r = r.same_spans ∙ s
 -- and with one that is
 pub wrong-resolved : {symbols : Symbols} {a : Apply} {gate : CalledGate} {angles : List Tree} {ranges : List QubitRange} (scope : Scope)
     → AreNames symbols scope → IsSound scope → IsResolved symbols a gate angles ranges
-    → wrong_in scope (Act (Applied a)) ≡ resolved_cause (has_other_size (register_sizes ranges)) (list_any has_twice (instances ranges))
+    → wrong_in scope (Act (Applied a)) ≡ resolved_cause (has_other_size (register_sizes ranges)) (list_any (has_twice ◌==◌) (instances ranges))
 wrong-resolved {symbols = symbols} {a = a} scope h sound r =
-    wrong-kept symbols scope a h ∙ clear-cause _ _ _ _ (has_other_size (register_sizes (ranges_of scope a.qubits))) (list_any has_twice (instances (ranges_of scope a.qubits))) r.supported r.all_known r.same_counts r.within
-    ∙ ap (λ rs. resolved_cause (has_other_size (register_sizes rs)) (list_any has_twice (instances rs))) (sym (resolved-ranges scope h sound r))
+    wrong-kept symbols scope a h ∙ clear-cause _ _ _ _ (has_other_size (register_sizes (ranges_of scope a.qubits))) (list_any (has_twice ◌==◌) (instances (ranges_of scope a.qubits))) r.supported r.all_known r.same_counts r.within
+    ∙ ap (λ rs. resolved_cause (has_other_size (register_sizes rs)) (list_any (has_twice ◌==◌) (instances rs))) (sym (resolved-ranges scope h sound r))
 
 -- no parameters have places
 other-names : (parameters : Places) (fs : List Formula) → ArePlaces parameters [] → list_any (has_unplaced parameters) fs ≡ list_any (has_other_name []) fs

@@ -14,11 +14,12 @@ use Rattle.qasm_reader.specs.Syntax.{Callee, Declared, U, Cx, GateForm, BodySent
 use Rattle.qasm_scope.specs.declared.causes.Cause.{Cause}
 use Rattle.qasm_scope.specs.Angles.{angles_of, place_of, place_or_zero}
 use Rattle.qasm_scope.specs.Applications.{has_twice}
-use Rattle.qasm_scope.specs.Calls.{Event, applied, u_of, u_events, cx_events, expand, call, body_call, expand_meaning, expand_declared}
-use Rattle.qasm_scope.specs.Faults.{is_in, has_name_twice, shape_of, shape_in, is_no_gate, has_other_shape, is_hidden, has_other_name, body_has_unknown, body_has_wrong_count, body_has_same_qubit}
+use Rattle.qasm_scope.specs.Calls.{Event, applied, u_of, expand, call, body_call, expand_meaning, expand_declared}
+use Rattle.qasm_scope.specs.Faults.{is_in, shape_of, shape_in, is_no_gate, has_other_shape, is_hidden, has_other_name, body_has_unknown, body_has_wrong_count, body_has_same_qubit}
 use Rattle.qasm_names.specs.Kept.{IsSound, IsSoundMeaning}
 use Rattle.qasm_scope.specs.Scope.{Scope, Meaning, Qubits, Bits, Gate, meaning_of}
 use Rattle.qasm_inline.proofs.EventLemmas.{applied-append}
+use Rattle.qasm_inline.specs.Internal.KeptCalls.{u_events, cx_events}
 use Rattle.qasm_names.proofs.Tests.{or-first, or-second, same_number}
 
 -- P holds of each element, by the list
@@ -45,7 +46,7 @@ ActsOn-flat_map limit f (x ∷ xs) h = ActsOn-append limit (f x) (flat_map f xs)
 -- qubits below a number that differ
 pub record AreArguments (limit : ℕ) (qubits : List ℕ) : Type 0 where
   pub below : Each (λ q. q < limit) qubits
-  pub distinct : has_twice qubits ≡ false
+  pub distinct : has_twice ◌==◌ qubits ≡ false
 
 -- ---- the qubits that the names in a body stand for
 
@@ -116,7 +117,7 @@ apart-at true q y qs e h k = absurd (let same : q ≡ y = grind (arith, nat_test
 turned : (q y : ℕ) → (q == y) ≡ false → (y == q) ≡ false
 turned q y h = grind (arith, nat_tests)
 
-differ-at : (b c some other : Bool) (q x y : ℕ) (qs : List ℕ) → (b || some) ≡ true → (c || other) ≡ true → has_twice (q ∷ qs) ≡ false → (b ≡ true → c ≡ true → false ≡ true)
+differ-at : (b c some other : Bool) (q x y : ℕ) (qs : List ℕ) → (b || some) ≡ true → (c || other) ≡ true → has_twice ◌==◌ (q ∷ qs) ≡ false → (b ≡ true → c ≡ true → false ≡ true)
     → (some ≡ true → list_any (λ m. m == x) qs ≡ true) → (other ≡ true → list_any (λ m. m == y) qs ≡ true) → (some ≡ true → other ≡ true → (x == y) ≡ false)
     → ((if b then q else x) == (if c then q else y)) ≡ false
 differ-at true true some other q x y qs h k twice apart first second rest = absurd (let no = apart refl refl in cc)
@@ -124,7 +125,7 @@ differ-at true false some other q x y qs h k twice apart first second rest = apa
 differ-at false true some other q x y qs h k twice apart first second rest = turned q x (apart-at (q == x) q x qs refl (or-first _ _ twice) (first h))
 differ-at false false some other q x y qs h k twice apart first second rest = rest h k
 
-differ : {A : Type 0} (p r : A → Bool) (ns : List A) (qs : List ℕ) → length qs ≡ length ns → has_twice qs ≡ false → ((n : A) → p n ≡ true → r n ≡ true → false ≡ true)
+differ : {A : Type 0} (p r : A → Bool) (ns : List A) (qs : List ℕ) → length qs ≡ length ns → has_twice ◌==◌ qs ≡ false → ((n : A) → p n ≡ true → r n ≡ true → false ≡ true)
     → list_any p ns ≡ true → list_any r ns ≡ true → (chosen p ns qs == chosen r ns qs) ≡ false
 differ p r [] qs e twice apart h k = absurd (cc)
 differ p r (n ∷ ns) [] e twice apart h k = absurd (let no : 0 ≡ suc (length ns) = e in omega arith)
@@ -152,14 +153,14 @@ names-differ name other n h k l =
     let second : n ≡ name = (bytes_eq-Decides n name).0 l in
     sym h ∙ (bytes_eq-Decides other name).1 (sym first ∙ second)
 
-named-differ : (qubits : List ℕ) (ns : List (List ℕ)) (name other : List ℕ) → length qubits ≡ length ns → has_twice qubits ≡ false
+named-differ : (qubits : List ℕ) (ns : List (List ℕ)) (name other : List ℕ) → length qubits ≡ length ns → has_twice ◌==◌ qubits ≡ false
     → is_in ns name ≡ true → is_in ns other ≡ true → bytes_eq other name ≡ false → (named qubits ns other == named qubits ns name) ≡ false
 named-differ qubits ns name other e twice h k apart =
     ap (λ q. q == named qubits ns name) (named-chosen qubits ns other k)
     ∙ ap (λ q. chosen (λ n. bytes_eq n other) ns qubits == q) (named-chosen qubits ns name h)
     ∙ differ (λ n. bytes_eq n other) (λ n. bytes_eq n name) ns qubits e twice (λ n. names-differ name other n apart) k h
 
-named-others : (qubits : List ℕ) (ns : List (List ℕ)) (name : List ℕ) (names : List (List ℕ)) → length qubits ≡ length ns → has_twice qubits ≡ false
+named-others : (qubits : List ℕ) (ns : List (List ℕ)) (name : List ℕ) (names : List (List ℕ)) → length qubits ≡ length ns → has_twice ◌==◌ qubits ≡ false
     → is_in ns name ≡ true → list_any (λ name. not (is_in ns name)) names ≡ false → list_any (λ other. bytes_eq other name) names ≡ false
     → list_any (λ m. m == named qubits ns name) (map (named qubits ns) names) ≡ false
 named-others qubits ns name [] e twice h known apart = refl
@@ -168,8 +169,8 @@ named-others qubits ns name (other ∷ names) e twice h known apart =
     (named-differ qubits ns name other e twice h (not-false (is_in ns other) (or-first _ _ known)) (or-first _ _ apart))
     (named-others qubits ns name names e twice h (or-second (not (is_in ns other)) _ known) (or-second (bytes_eq other name) _ apart))
 
-named-distinct : (qubits : List ℕ) (ns names : List (List ℕ)) → length qubits ≡ length ns → has_twice qubits ≡ false
-    → list_any (λ name. not (is_in ns name)) names ≡ false → has_name_twice names ≡ false → has_twice (map (named qubits ns) names) ≡ false
+named-distinct : (qubits : List ℕ) (ns names : List (List ℕ)) → length qubits ≡ length ns → has_twice ◌==◌ qubits ≡ false
+    → list_any (λ name. not (is_in ns name)) names ≡ false → has_twice bytes_eq names ≡ false → has_twice ◌==◌ (map (named qubits ns) names) ≡ false
 named-distinct qubits ns [] e twice known apart = refl
 named-distinct qubits ns (name ∷ names) e twice known apart =
     both-false (list_any (λ m. m == named qubits ns name) (map (named qubits ns) names)) _

@@ -5,6 +5,7 @@ use Rattle.std.specs.List.{All}
 use Rattle.std.proofs.Math.Seq.{take-suc}
 use Rattle.std.proofs.lemmas.Grind.{common_steps}
 use Rattle.std.proofs.lemmas.List.{map-append}
+use Rattle.std.specs.Option.{option_or}
 use Rattle.qasm_reader.specs.declared.program.ProgramElement.{ProgramElement}
 use Rattle.qasm_reader.specs.Views.{statement_of}
 use Rattle.qasm_inline.specs.declared.circuit.Circuit.{Circuit}
@@ -25,8 +26,9 @@ use Rattle.qasm_inline.specs.Circuits.{HasTaken, HasTakenAt, IsCircuitAnswer, Is
 use Rattle.qasm_inline.specs.Internal.KeptCalls.{Continues}
 use Rattle.qasm_scope.specs.Faults.{wrong_in}
 use Rattle.qasm_names.specs.Kept.{Represents}
-use Rattle.qasm_scope.specs.Meaning.{Means, after_statement, events_of, fault_after, first_fault, gates_after, is_version, most_calls, or_else, placed_or, scope_after, wrong_with}
+use Rattle.qasm_scope.specs.Meaning.{Means, after_statement, events_of, fault_after, first_fault, gates_after, is_version, most_calls, scope_after, wrong_with}
 use Rattle.qasm_scope.specs.Scope.{Scope, Gate, declared, qubit_count}
+use Rattle.qasm_scope.proofs.Placing.{placed_or}
 use Rattle.qasm_inline.proofs.MeantLemmas.{faultless-few, faultless-on}
 
 -- ---- the version
@@ -120,14 +122,14 @@ gate-declared program names later unrolled place form is right represents = reco
   scope = declared form.name (Gate form) ∷ is.scope;
   represents = represents is.scope is.represents;
   leads = leads-next program is.scope unrolled.calls unrolled.gates (gate_at place form) unrolled.calls unrolled.gates is.leads
-      (ap (λ o. or_else o None) (right is.scope is.represents)) (record { same_wrong = refl; same_gates = refl; same_calls = refl });
+      (ap (λ o. option_or o None) (right is.scope is.represents)) (record { same_wrong = refl; same_gates = refl; same_calls = refl });
 }
 
 pub gate-wrong : (program : List Placed) (names : Names) (unrolled : Unrolled) (place : ℕ) (form : GateForm) (what : Cause) → IsOpen program names unrolled
     → ((scope : Scope) → Represents names scope → wrong_in scope (DeclareGate form) ≡ Some what)
     → (more : List Placed) → first_fault most_calls ((program ++ gate_at place form ∷ []) ++ more) ≡ Some (what, place)
 gate-wrong program names unrolled place form what is wrong =
-    leads-wrong program is.scope unrolled.calls unrolled.gates (gate_at place form) what is.leads (ap (λ o. or_else o None) (wrong is.scope is.represents))
+    leads-wrong program is.scope unrolled.calls unrolled.gates (gate_at place form) what is.leads (ap (λ o. option_or o None) (wrong is.scope is.represents))
 
 -- ---- circuits
 few-cut : (program : List Placed) (qubits count : ℕ) → first_fault most_calls program ≡ None → count ≡ qubit_count (scope_after [] program)

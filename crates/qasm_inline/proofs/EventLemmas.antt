@@ -5,6 +5,7 @@ use Rattle.qasm_scope.specs.declared.causes.Cause.{Cause}
 use Rattle.qasm_scope.specs.declared.causes.Cause.TheVariants.{TooDeep, TooManyGates}
 use Rattle.qasm_scope.specs.Calls.{Event, Called, Undefined, Applied, applied, call_count, deepest, first_wrong}
 use Rattle.std.specs.List.{flat_map}
+use Rattle.std.specs.Option.{option_or}
 use Rattle.qasm_reader.specs.Syntax.{Apply}
 use Rattle.qasm_scope.specs.Angles.{angles_of, numbered}
 use Rattle.qasm_scope.specs.Applications.{application_events, instances, ranges_of}
@@ -15,7 +16,6 @@ use Rattle.qasm_inline.specs.Internal.KeptCalls.{Continues, called_events, value
 use Rattle.qasm_scope.specs.Scope.{Scope}
 use Rattle.qasm_inline.proofs.Keeping.{call-same, Agrees-itself, numbered-angles}
 use Rattle.qasm_inline.proofs.Unrolling.{Continues-join}
-use Rattle.qasm_scope.specs.Meaning.{or_else}
 
 pub applied-append : (a b : List Event) → applied (a ++ b) ≡ applied a ++ applied b
 applied-append [] b = refl
@@ -29,22 +29,22 @@ call_count-append (Called depth ∷ a) b = omega (arith, call_count-append a b)
 call_count-append (Undefined cause ∷ a) b = call_count-append a b
 call_count-append (Applied gate ∷ a) b = call_count-append a b
 
-called-at : (many deep : Bool) (first second : Option Cause) (all : Option Cause) → all ≡ or_else first second
+called-at : (many deep : Bool) (first second : Option Cause) (all : Option Cause) → all ≡ option_or first second
     → (if many then Some TooManyGates else (if deep then Some TooDeep else all))
-    ≡ or_else (if many then Some TooManyGates else (if deep then Some TooDeep else first)) second
+    ≡ option_or (if many then Some TooManyGates else (if deep then Some TooDeep else first)) second
 called-at true deep first second all h = refl
 called-at false true first second all h = refl
 called-at false false first second all h = h
 
 -- what is wrong first among events is wrong first in the prefix, or else after it
-pub first_wrong-append : (most calls : ℕ) (a b : List Event) → first_wrong most calls (a ++ b) ≡ or_else (first_wrong most calls a) (first_wrong most (calls + call_count a) b)
+pub first_wrong-append : (most calls : ℕ) (a b : List Event) → first_wrong most calls (a ++ b) ≡ option_or (first_wrong most calls a) (first_wrong most (calls + call_count a) b)
 first_wrong-append most calls [] b = ap (λ n. first_wrong most n b) (sym (add-zero calls))
 first_wrong-append most calls (Undefined cause ∷ a) b = refl
 first_wrong-append most calls (Applied gate ∷ a) b = first_wrong-append most calls a b
 first_wrong-append most calls (Called depth ∷ a) b =
     let same : (calls + 1) + call_count a ≡ calls + (call_count a + 1) = omega arith in
     called-at (nat_le most calls) (nat_lt deepest depth) (first_wrong most (calls + 1) a) (first_wrong most (calls + (call_count a + 1)) b) (first_wrong most (calls + 1) (a ++ b))
-    (first_wrong-append most (calls + 1) a b ∙ ap (λ n. or_else (first_wrong most (calls + 1) a) (first_wrong most n b)) same)
+    (first_wrong-append most (calls + 1) a b ∙ ap (λ n. option_or (first_wrong most (calls + 1) a) (first_wrong most n b)) same)
 
 -- events that are done, and others after them
 pub Continues-before : (most calls : ℕ) (gates : List ElementaryGate) (a : List Event) (later : ℕ) (more : List ElementaryGate) (b : List Event)
@@ -52,7 +52,7 @@ pub Continues-before : (most calls : ℕ) (gates : List ElementaryGate) (a : Lis
 Continues-before most calls gates a later more b h =
     let count : calls + call_count a ≡ later = h.same_calls ∙ add-zero later in
     record {
-      same_wrong = first_wrong-append most calls a b ∙ ap (λ o. or_else o (first_wrong most (calls + call_count a) b)) h.same_wrong ∙ ap (λ n. first_wrong most n b) count;
+      same_wrong = first_wrong-append most calls a b ∙ ap (λ o. option_or o (first_wrong most (calls + call_count a) b)) h.same_wrong ∙ ap (λ n. first_wrong most n b) count;
       same_gates = ap (λ gs. gates ++ gs) (applied-append a b) ∙ sym (append_assoc gates (applied a) (applied b)) ∙ ap (λ gs. gs ++ applied b) (h.same_gates ∙ append-nil more);
       same_calls = ap (λ n. calls + n) (call_count-append a b) ∙ omega (arith, count);
     }

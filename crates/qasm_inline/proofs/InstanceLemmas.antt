@@ -1,11 +1,11 @@
 -- Instances one after the other.
 use Rattle.std.proofs.Common.{◌≡◌, ℕ, suc, ◌+◌, ◌-◌, ◌<◌, ◌≤◌, List, [], ◌∷◌, ◌++◌, map, Some, refl, ap, ◌∙◌, arith}
 use Rattle.std.specs.List.{flat_map, range_with_len}
+use Rattle.std.specs.Option.{option_or}
 use Rattle.zx_gates.specs.declared.elementary.ElementaryGate.{ElementaryGate}
 use Rattle.qasm_scope.specs.declared.causes.Cause.{Cause}
 use Rattle.qasm_scope.specs.Calls.{Event, call_count, first_wrong}
 use Rattle.qasm_inline.specs.Internal.KeptCalls.{Continues}
-use Rattle.qasm_scope.specs.Meaning.{or_else}
 use Rattle.qasm_inline.proofs.EventLemmas.{first_wrong-append, Continues-next}
 use Rattle.qasm_inline.proofs.Unrolling.{Continues-same, Continues-join}
 
@@ -42,4 +42,4 @@ pub wrong-instance : (most a : ℕ) (first : List ElementaryGate) (all : List Ev
     → first_wrong most a all ≡ Some cause
 wrong-instance most a first all b second f i end cause within h k =
     h.same_wrong ∙ ap (first_wrong most b) (next-instance f i end within) ∙ first_wrong-append most b (f i) (from_to f (i + 1) end)
-    ∙ ap (λ o. or_else o (first_wrong most (b + call_count (f i)) (from_to f (i + 1) end))) k
+    ∙ ap (λ o. option_or o (first_wrong most (b + call_count (f i)) (from_to f (i + 1) end))) k

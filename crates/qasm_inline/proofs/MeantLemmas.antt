@@ -6,20 +6,23 @@ use Rattle.std.proofs.Math.Nat.{zero-add}
 use Rattle.std.proofs.lemmas.Bool.Decides.{nat_tests}
 use Rattle.std.proofs.lemmas.List.{length-map}
 use Rattle.std.proofs.lemmas.List.Elements.{All-nil, All-cons}
+use Rattle.std.specs.Option.{option_or}
 use Rattle.zx_gates.specs.declared.elementary.ElementaryGate.{ElementaryGate}
 use Rattle.zx_gates.specs.Circuit.{most_qubits}
 use Rattle.zx_gates.specs.Elementary.{IsElementaryGateOn}
 use Rattle.qasm_reader.specs.Syntax.{Operand, Apply, Applied, Measured, Reset, GateForm, Sentence, Version, Include, QubitRegister, BitRegister, DeclareGate, Opaque, If, Barrier, Act, Placed}
 use Rattle.qasm_scope.specs.declared.causes.Cause.{Cause}
 use Rattle.qasm_scope.specs.Angles.{angles_of}
-use Rattle.qasm_scope.specs.Applications.{QubitRange, Single, Register, range_in, range_of, ranges_of, register_sizes, instance_count, qubit_at, instances, has_twice, application_events}
+use Rattle.qasm_scope.specs.Applications.{QubitRange, Single, Register, range_in, range_of, ranges_of, register_sizes, qubit_at, instances, has_twice, application_events}
 use Rattle.qasm_scope.specs.Calls.{call, call_count, expand_declared}
 use Rattle.qasm_scope.specs.Faults.{wrong_in, first_cause, statement_tests, has_unknown, has_other_shape, has_other_size, is_no_gate, is_no_register, is_past, shape_of, has_other_name}
 use Rattle.qasm_scope.specs.HeaderGates.{first_gates, further_gates}
 use Rattle.qasm_names.specs.Kept.{IsSound, IsSoundMeaning}
-use Rattle.qasm_scope.specs.Meaning.{Means, after_statement, events_of, fault_after, first_fault, gates_after, is_version, or_else, placed_or, scope_after, with_first, with_further, with_header, wrong_with}
+use Rattle.qasm_scope.specs.Meaning.{Means, after_statement, events_of, fault_after, first_fault, gates_after, is_version, scope_after, with_first, with_further, with_header, wrong_with}
 use Rattle.qasm_scope.specs.Scope.{Scope, Meaning, Qubits, Bits, Gate, declared, is_declared, meaning_of, qubit_count, size_of}
+use Rattle.qasm_scope.proofs.Placing.{placed_or}
 use Rattle.qasm_inline.proofs.CallLemmas.{Each, Each-append, ActsOn, ActsOn-flat_map, AreArguments, Takes, takes-from, call-on}
+use Rattle.qasm_inline.specs.Internal.Spans.{instance_count}
 use Rattle.qasm_names.proofs.CheckLemmas.{sound-from}
 use Rattle.qasm_names.proofs.Including.{with_header-sound}
 use Rattle.qasm_names.proofs.Tests.{or-first, or-second, same_number}
@@ -175,7 +178,7 @@ qubits-below limit size index (t ∷ ranges) h on = (qubit-below limit size inde
 
 -- the instances of an application from an index on
 instances-on : (limit size from count : ℕ) (ranges : List QubitRange) → from + count ≤ size → Each (RangeOn limit size) ranges
-    → list_any has_twice (map (λ index. map (qubit_at index) ranges) (range_with_len from count)) ≡ false
+    → list_any (has_twice ◌==◌) (map (λ index. map (qubit_at index) ranges) (range_with_len from count)) ≡ false
     → Each (λ qubits. AreArguments limit qubits × (length qubits ≡ length ranges)) (map (λ index. map (qubit_at index) ranges) (range_with_len from count))
 instances-on limit size from zero ranges h on twice = tt
 instances-on limit size from (suc count) ranges h on twice = (
@@ -183,7 +186,7 @@ instances-on limit size from (suc count) ranges h on twice = (
     record { below = qubits-below limit size from ranges (omega arith) on; distinct = or-first _ _ twice },
     length-map ranges (qubit_at from),
   ),
-  instances-on limit size (from + 1) count ranges (omega arith) on (or-second (has_twice (map (qubit_at from) ranges)) _ twice),
+  instances-on limit size (from + 1) count ranges (omega arith) on (or-second (has_twice ◌==◌ (map (qubit_at from) ranges)) _ twice),
 )
 
 calls-on : (limit : ℕ) (scope : Scope) (a : Apply) (many : List (List ℕ)) → IsSound scope → is_no_gate (shape_of scope a.gate) ≡ false → has_other_shape (shape_of scope a.gate) (length a.angles) (length a.qubits) ≡ false
@@ -225,7 +228,7 @@ statement-on limit scope (Act (Reset operand)) sound few h = tt
 
 -- ---- programs
 
-none-first : (first second : Option Cause) → or_else first second ≡ None → first ≡ None
+none-first : (first second : Option Cause) → option_or first second ≡ None → first ≡ None
 none-first None second h = refl
 none-first (Some cause) second h = absurd (cc)
 

@@ -54,13 +54,13 @@ against count t ranges =
     ∙ list_any-same _ (overlaps count t) ranges (overlaps-any count t)
 
 twice-in : (count : ℕ) (ranges : List QubitRange)
-    → list_any (λ i. has_twice (map (qubit_at i) ranges)) (range_with_len 0 count) ≡ any_overlap count ranges
+    → list_any (λ i. has_twice ◌==◌ (map (qubit_at i) ranges)) (range_with_len 0 count) ≡ any_overlap count ranges
 twice-in count [] = any-none (range_with_len 0 count)
 twice-in count (t ∷ ranges) =
-    any_or (λ i. list_any (λ m. m == qubit_at i t) (map (qubit_at i) ranges)) (λ i. has_twice (map (qubit_at i) ranges)) (range_with_len 0 count)
+    any_or (λ i. list_any (λ m. m == qubit_at i t) (map (qubit_at i) ranges)) (λ i. has_twice ◌==◌ (map (qubit_at i) ranges)) (range_with_len 0 count)
     ∙ ap₂ (λ a b. a || b) (against count t ranges) (twice-in count ranges)
 
 -- a qubit stands twice in an instance where two ranges overlap
 pub twice-overlap : (count : ℕ) (ranges : List QubitRange)
-    → any_overlap count ranges ≡ list_any has_twice (map (λ i. map (qubit_at i) ranges) (range_with_len 0 count))
-twice-overlap count ranges = sym (any_map has_twice (λ i. map (qubit_at i) ranges) (range_with_len 0 count) ∙ twice-in count ranges)
+    → any_overlap count ranges ≡ list_any (has_twice ◌==◌) (map (λ i. map (qubit_at i) ranges) (range_with_len 0 count))
+twice-overlap count ranges = sym (any_map (has_twice ◌==◌) (λ i. map (qubit_at i) ranges) (range_with_len 0 count) ∙ twice-in count ranges)

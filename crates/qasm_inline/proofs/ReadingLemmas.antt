@@ -5,7 +5,7 @@ use Rattle.std.proofs.lemmas.List.{length-map, take_rest}
 use Rattle.zx_gates.specs.declared.elementary.Elementary.{Elementary}
 use Rattle.zx_gates.specs.Elementary.{IsElementary}
 use Rattle.qasm_lexer.specs.declared.token.Token.{Token}
-use Rattle.qasm_lexer.specs.Tokens.{Lexeme, lexeme, lexemes, IsBegun, IsCut}
+use Rattle.qasm_lexer.specs.Tokens.{Lexeme, lexeme, lexemes, IsBegun, IsCut, IsBadByte}
 use Rattle.qasm_reader.specs.declared.depth.Depth.{Depth}
 use Rattle.qasm_reader.specs.Depth.{too_deep, IsDepth}
 use Rattle.qasm_reader.specs.Grammar.{BeginsAt, BeginsWithStatement, IsFirstStatement, IsProgram, IsSyntaxFault}
@@ -24,6 +24,11 @@ use Rattle.qasm_inline.specs.declared.error.TextError.TheVariants.{BadByte, TooD
 use Rattle.qasm_inline.specs.Circuits.{HasBegun, HasTaken, gate_at}
 use Rattle.qasm_inline.specs.Internal.Readings.{AreAllTaken, AreTaken, AreTakenAs, IsCertain, IsKept, IsKeptAs, IsReadAs, IsProgramAnswer, IsTakenAs, IsTakenNext, IsTextAnswer}
 use Rattle.qasm_inline.proofs.CircuitLemmas.{means-from, valid-from}
+
+-- a bad byte is the answer where it is the error
+pub bad-answer : {A : Type 0} (text : List ℕ) (at : ℕ) (error : TextError) → ◌≡◌ {A = Result A TextError} (Err (BadByte at)) (Err error)
+    → IsBadByte text at → IsTextAnswer text (Err error)
+bad-answer text at error e bad = let same : BadByte at ≡ error = cc in subst (λ f. IsTextAnswer text (Err f)) same bad
 
 -- ---- tokens behind tokens
 drop_behind : {A : Type 0} (xs ys : List A) → drop (length xs) (xs ++ ys) ≡ ys

@@ -2,9 +2,9 @@
 use Rattle.std.proofs.Common.{◌≡◌, ℕ, ◌+◌, ◌<◌, ◌==◌, false, ◌||◌, not, List, [], ◌∷◌, length, map, drop, get_or, Option, None, Some, refl, sym, ap, ◌∙◌, add-one}
 use Rattle.std.specs.List.{list_any, filter_map, slice_get}
 use Rattle.std.proofs.Math.Seq.{drop-cons}
-use Rattle.qasm_scope.specs.Applications.{QubitRange, register_size, register_sizes, instance_count}
+use Rattle.qasm_scope.specs.Applications.{QubitRange, register_size, register_sizes}
 use Rattle.qasm_scope.specs.Faults.{has_other_size}
-use Rattle.qasm_inline.specs.Internal.Spans.{span_range}
+use Rattle.qasm_inline.specs.Internal.Spans.{span_range, instance_count}
 use Rattle.qasm_inline.specs.declared.applications.Span.{Span}
 use Rattle.qasm_names.proofs.Tests.{same_number}
 

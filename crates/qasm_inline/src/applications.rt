@@ -7,10 +7,10 @@ ghost use Rattle.qasm_reader.specs.Syntax.{Barrier};
 ghost use Rattle.qasm_reader.specs.Views.{operand};
 ghost use Rattle.qasm_scope.specs.declared.causes.Cause.{Cause};
 ghost use Rattle.qasm_names.specs.Kept.{Represents};
-ghost use Rattle.qasm_scope.specs.Applications.{register_size, register_sizes, instance_count};
+ghost use Rattle.qasm_scope.specs.Applications.{register_size, register_sizes};
 ghost use Rattle.qasm_scope.specs.Faults.{has_other_size, wrong_in};
 ghost use Rattle.qasm_scope.specs.Scope.{Scope, numeral};
-ghost use Rattle.qasm_inline.specs.Internal.Spans.{span_range, span_by, span_in, no_register_by, is_missing, any_missing, IsSpan, AreSpans};
+ghost use Rattle.qasm_inline.specs.Internal.Spans.{span_range, span_by, span_in, no_register_by, is_missing, any_missing, IsSpan, AreSpans, instance_count};
 
 use qasm_names::{Names, StatementError, number};
 use qasm_reader::Argument;
@@ -18,7 +18,7 @@ use qasm_scope::Cause;
 use std::alloc::{AllocError, Global};
 
 /// What an argument stands for.
-#[derive(Clone, Copy, Debug, PartialEq, Eq)]
+#[derive(Clone, Copy)]
 pub enum Span {
     /// One qubit.
     Single(usize),

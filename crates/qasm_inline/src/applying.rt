@@ -1,6 +1,6 @@
 //! Applications of gates in statements.
 
-ghost use Rattle.std.specs.Prelude.{◌≡◌, ◌||◌, [], map, IfOk, IfSome, IfNone, OnOk, None, Some, Err, true};
+ghost use Rattle.std.specs.Prelude.{◌≡◌, ◌||◌, [], map, IfOk, IfSome, IfNone, OnOk, None, Some, Err, true, ◌==◌};
 ghost use Rattle.std.specs.List.{list_any};
 ghost use Rattle.qasm_reader.specs.Syntax.{Act, Applied};
 ghost use Rattle.qasm_reader.specs.Views as views;
@@ -140,7 +140,7 @@ fn is_unknown<'a>(names: &Names<'a>, faults: GateFaults, application: &Applicati
 // The first cause of an application whose names are resolved.
 fn resolved_cause(spans: &[Span]) -> Option<Cause>
     ensures { result ≡ resolved_cause (has_other_size (register_sizes (map span_range spans.now)))
-        (list_any has_twice (instances (map span_range spans.now))) }
+        (list_any (has_twice ◌==◌) (instances (map span_range spans.now))) }
 {
     if has_other_sizes(spans) {
         Some(Cause::Sizes)

@@ -19,7 +19,7 @@ use std::alloc::{AllocError, Global};
 use zx_gates::Elementary;
 
 // What a circuit awaits.
-#[derive(Clone, Copy, Debug)]
+#[derive(Clone, Copy)]
 enum Stage {
     // The version, which has to stand first.
     Empty,

@@ -1,6 +1,6 @@
 //! Qubits that stand twice in an application.
 
-ghost use Rattle.std.specs.Prelude.{◌≡◌, map};
+ghost use Rattle.std.specs.Prelude.{◌≡◌, map, ◌==◌};
 ghost use Rattle.std.specs.List.{list_any};
 ghost use Rattle.qasm_scope.specs.Applications.{has_twice, instances};
 ghost use Rattle.qasm_inline.specs.Internal.Spans.{span_range, is_within, overlaps, any_overlap};
@@ -9,7 +9,7 @@ use crate::applications::{Span, instance_count};
 
 /// Whether a qubit stands twice in an instance.
 pub fn has_same_qubit(spans: &[Span]) -> bool
-    ensures { result ≡ list_any has_twice (instances (map span_range spans.now)) }
+    ensures { result ≡ list_any (has_twice ◌==◌) (instances (map span_range spans.now)) }
 {
     any_overlap(spans, instance_count(spans))
 }

@@ -138,13 +138,8 @@ impl<'a> Reader<'a> {
         ensures { (text : List ℕ) → IsReadUpTo text (length text) self.entry
             → IsTextAnswer text result }
     {
-        match self.depth {
-            Depth::TooDeep(at) => Err(TextError::TooDeep { at }),
-            Depth::Open(_) => match self.last_fault() {
-                Some(at) => Err(TextError::Syntax { at }),
-                None => finished(self.reading.circuit),
-            },
-        }
+        let fault = self.last_fault();
+        ended(self.depth, fault, self.reading.circuit)
     }
 
     // The place of the syntax fault, where the text is over.
@@ -258,7 +253,7 @@ impl<'a> Reading<'a> {
     {
         match next_part(alloc, tokens)? {
             Some((part, rest)) => {
-                self.take_part(part);
+                self.take_part(&part);
                 Ok(Some(tokens.len() - rest.len()))
             }
             None => Ok(None),
@@ -266,15 +261,15 @@ impl<'a> Reading<'a> {
     }
 
     // Takes in a part of a program.
-    fn take_part(&mut self, part: Part<'a>)
+    fn take_part(&mut self, part: &Part<'a>)
         requires { self.old.gate ≡ None }
-        ensures { (ts rest : List Lexeme) → IsFirstPart part.entry ts rest
+        ensures { (ts rest : List Lexeme) → IsFirstPart part.now ts rest
             → TakesIn self.old ts self.new rest }
     {
         match part {
-            Part::Statement(statement) => self.circuit.take(&statement),
+            Part::Statement(statement) => self.circuit.take(statement),
             Part::Heading { place, heading } => {
-                self.gate = Some(self.circuit.begin_gate(place, &heading));
+                self.gate = Some(self.circuit.begin_gate(*place, heading));
             }
         }
     }
@@ -295,7 +290,7 @@ impl<'a> Reading<'a> {
     {
         match next_in_body(alloc, tokens)? {
             Some((part, rest)) => {
-                self.take_body_part(gate, part);
+                self.take_body_part(gate, &part);
                 Ok(Some(tokens.len() - rest.len()))
             }
             None => {
@@ -306,15 +301,15 @@ impl<'a> Reading<'a> {
     }
 
     // Takes in a part of this gate's body.
-    fn take_body_part(&mut self, mut gate: OpenGate<'a>, part: BodyPart<'a>)
+    fn take_body_part(&mut self, mut gate: OpenGate<'a>, part: &BodyPart<'a>)
         requires { self.old.gate ≡ None }
         ensures { (ts : List Lexeme) (rest : Bor (List Token))
-            → IsNextOf gate.entry.place ts (Some (part.entry, rest))
+            → IsNextOf gate.entry.place ts (Some (part.now, rest))
             → TakesIn (inside self.old gate.entry) ts self.new (lexemes rest.now) }
     {
         match part {
             BodyPart::Statement(statement) => {
-                self.circuit.take_in_gate(&mut gate, &statement);
+                self.circuit.take_in_gate(&mut gate, statement);
                 self.gate = Some(gate);
             }
             BodyPart::End => self.circuit.end_gate(gate),
@@ -347,6 +342,20 @@ impl<'a> Reading<'a> {
                 None => None,
             },
         }
+    }
+}
+
+// What is answered of a text where parentheses are so deep, and this is the place of its syntax fault.
+fn ended(depth: Depth, fault: Option<usize>, circuit: Circuit<'_>) -> Result<Elementary, TextError>
+    ensures { (text : List ℕ) (all : List Lexeme) → IsCut 0 text all → IsDepth depth all
+        → IsEnd all circuit.entry fault → IsTextAnswer text result }
+{
+    match depth {
+        Depth::TooDeep(at) => Err(TextError::TooDeep { at }),
+        Depth::Open(_) => match fault {
+            Some(at) => Err(TextError::Syntax { at }),
+            None => finished(circuit),
+        },
     }
 }
 

@@ -3,8 +3,8 @@
 ghost use Rattle.std.specs.Prelude.{◌≡◌, ◌+◌, ◌-◌, ◌*◌, ◌<◌, ◌≤◌, ◌++◌, ◌∷◌, List, ℕ, length, take, drop, Err, IfOk, IfErr, OnOk, [], slice_get};
 ghost use Rattle.zx_gates.specs.declared.elementary.ElementaryGate.{ElementaryGate};
 ghost use Rattle.qasm_scope.specs.declared.causes.Cause.{Cause};
-ghost use Rattle.qasm_scope.specs.Calls.{Event, Called, Undefined, applied, first_wrong, u_events, cx_events};
-ghost use Rattle.qasm_inline.specs.Internal.KeptCalls.{Leads, StopsAt, IsBase, IsStacked, frames_of, first_events, entered_events, left_events, no_events, gate_events, calls_of};
+ghost use Rattle.qasm_scope.specs.Calls.{Event, Called, Undefined, applied, first_wrong};
+ghost use Rattle.qasm_inline.specs.Internal.KeptCalls.{Leads, StopsAt, IsBase, IsStacked, frames_of, first_events, entered_events, left_events, no_events, gate_events, calls_of, u_events, cx_events};
 ghost use Rattle.qasm_inline.specs.Internal.Spans.{instance_events};
 ghost use Rattle.qasm_scope.specs.Meaning.{most_calls};
 

@@ -8,7 +8,8 @@ use Rattle.qasm_lexer.proofs.Runs.{begins_append}
 use Rattle.std.proofs.lemmas.Fmt.{decimal_by_steps}
 use Rattle.qasm_lexer.specs.declared.token.TokenKind.{TokenKind}
 use Rattle.qasm_lexer.specs.declared.token.TokenKind.TheVariants.{Natural}
-use Rattle.qasm_lexer.specs.Forms.{begins, is_digit, is_letter, is_space, is_word_byte, is_word, is_natural}
+use Rattle.std.specs.Char.{is_ascii_digit, is_ascii_alphabetic}
+use Rattle.qasm_lexer.specs.Forms.{begins, is_space, is_word_byte, is_word, is_natural}
 use Rattle.qasm_lexer.specs.Tokens.{signs, kind_in, kind_of, word_kind, IsPiece, Lexeme, IsCut}
 use Rattle.qasm_lexer.specs.Internal.FirstPiece.{is_plain}
 use Rattle.qasm_lexer.proofs.Pieces as pieces
@@ -56,11 +57,11 @@ pub IsCut-word : {place : ℕ} {after : List ℕ} {kind : TokenKind} {tokens : L
     → IsCut place (word ++ after) (record { kind = kind; text = word; place = place } ∷ tokens)
 IsCut-word [] next e is stop there c = absurd (false≢true e)
 IsCut-word {place} {after} {kind} {tokens} (b ∷ p) next e is stop there c =
-    let h : (is_letter b ≡ true) × (list_all is_word_byte p ≡ true) = and_parts (is_letter b) (list_all is_word_byte p) e in
+    let h : (is_ascii_alphabetic b ≡ true) × (list_all is_word_byte p ≡ true) = and_parts (is_ascii_alphabetic b) (list_all is_word_byte p) e in
     IsCut-token place (b ∷ p) after kind tokens (pieces.word_piece b p after kind h.0 h.1 stop is) (subst (λ k. IsCut k after tokens) there c)
 
 -- decimal digits without a leading zero, before what isn't a digit or a point, or the end
-pub IsCut-natural : {place : ℕ} {after : List ℕ} {tokens : List Lexeme} (digits : List ℕ) (next : ℕ) → list_all is_digit digits ≡ true
+pub IsCut-natural : {place : ℕ} {after : List ℕ} {tokens : List Lexeme} (digits : List ℕ) (next : ℕ) → list_all is_ascii_digit digits ≡ true
     → is_natural digits ≡ true → ends_number after ≡ true → next ≡ place + length digits → IsCut next after tokens
     → IsCut place (digits ++ after) (record { kind = Natural; text = digits; place = place } ∷ tokens)
 IsCut-natural [] next all e ends there c = absurd (false≢true e)
@@ -84,11 +85,11 @@ abbrev is_nonzero : ℕ → Bool
 is_nonzero b = not (eqb b 48)
 
 record IsDecimal (n : ℕ) (ds : List ℕ) : Type 0 where
-  pub digits : list_all is_digit ds ≡ true
+  pub digits : list_all is_ascii_digit ds ≡ true
   pub some : 0 < n → begins is_nonzero ds ≡ true
   pub none : n ≡ 0 → ds ≡ 48 ∷ []
 
-digit_glyph : (d : ℕ) → d < 10 → is_digit (48 + d) ≡ true
+digit_glyph : (d : ℕ) → d < 10 → is_ascii_digit (48 + d) ≡ true
 digit_glyph d h = and_from (leb 48 (48 + d)) (leb (48 + d) 57) (le-leb 48 (48 + d) (omega arith)) (le-leb (48 + d) 57 (omega arith))
 
 all_append : (test : ℕ → Bool) (xs ys : List ℕ) → list_all test xs ≡ true → list_all test ys ≡ true → list_all test (xs ++ ys) ≡ true
@@ -101,19 +102,19 @@ decimal_is : (n : ℕ) → n < 2 ^ 64 → IsDecimal n (decimal n)
 decimal_is n small = decimal_by_steps IsDecimal one more n small where
   one : (n : ℕ) → n < 10 → IsDecimal n ((48 + n) ∷ [])
   one n h = record {
-    digits = and_from (is_digit (48 + n)) true (digit_glyph n h) refl;
+    digits = and_from (is_ascii_digit (48 + n)) true (digit_glyph n h) refl;
     some = λ k. not_from_false (eqb (48 + n) 48) (ne_eqb (48 + n) 48 (λ z. omega arith));
     none = λ z. ap (λ m. (48 + m) ∷ []) z;
   }
 
   more : (n : ℕ) (ds : List ℕ) → 10 ≤ n → IsDecimal (n / 10) ds → IsDecimal n (ds ++ ((48 + n % 10) ∷ []))
   more n ds h d = record {
-    digits = all_append is_digit ds ((48 + n % 10) ∷ []) d.digits (and_from (is_digit (48 + n % 10)) true (digit_glyph (n % 10) (omega arith)) refl);
+    digits = all_append is_ascii_digit ds ((48 + n % 10) ∷ []) d.digits (and_from (is_ascii_digit (48 + n % 10)) true (digit_glyph (n % 10) (omega arith)) refl);
     some = λ k. begins_append is_nonzero ds ((48 + n % 10) ∷ []) (d.some (omega arith));
     none = λ z. absurd (omega arith);
   }
 
-pub digits_decimal : (n : ℕ) → n < 2 ^ 64 → list_all is_digit (decimal n) ≡ true
+pub digits_decimal : (n : ℕ) → n < 2 ^ 64 → list_all is_ascii_digit (decimal n) ≡ true
 digits_decimal n small = (decimal_is n small).digits
 
 pub is_natural-decimal : (n : ℕ) → n < 2 ^ 64 → is_natural (decimal n) ≡ true
@@ -121,7 +122,7 @@ is_natural-decimal n small = elim (cases_eq n 0) [
   | inl z ↦ ap is_natural ((decimal_is n small).none z)
   | inr z ↦ nonzero_natural (decimal n) ((decimal_is n small).some (omega arith)) (digits_decimal n small)
 ] where
-  nonzero_natural : (ds : List ℕ) → begins is_nonzero ds ≡ true → list_all is_digit ds ≡ true → is_natural ds ≡ true
+  nonzero_natural : (ds : List ℕ) → begins is_nonzero ds ≡ true → list_all is_ascii_digit ds ≡ true → is_natural ds ≡ true
   nonzero_natural [] e all = absurd (false≢true e)
   nonzero_natural (b ∷ ds) e all = rw (not-true (eqb b 48) e) all
 

@@ -5,7 +5,8 @@ use Rattle.std.specs.Option.{option_map, option_to_list}
 use Rattle.std.proofs.lemmas.Bool.{false≢true}
 use Rattle.std.proofs.lemmas.List.{drop_at, take_at, nil_from_length}
 use Rattle.qasm_lexer.specs.declared.token.TokenKind.{TokenKind}
-use Rattle.qasm_lexer.specs.Tokens.{is_form, kind_of, IsLongest, IsPiece, ArePieces, Lexeme, tokens_in, IsCutUpTo, IsCut, HasNoPiece, IsBadByte, AreInPlace}
+use Rattle.qasm_lexer.specs.Tokens.{is_form, kind_of, IsPiece, ArePieces, Lexeme, tokens_in, IsCutUpTo, IsCut, HasNoPiece, IsBadByte, AreInPlace}
+use Rattle.qasm_lexer.proofs.Leads.{IsLongest, piece_form}
 
 pub form_some : (form : List ℕ) → is_form form ≡ true → 0 < length form
 form_some [] e = absurd (false≢true e)
@@ -23,15 +24,16 @@ same_prefix (c ∷ a) (d ∷ b) x y e h =
     (cc, r.1)
 
 -- the longest form at a place is one
-pub same_longest : (a b x y : List ℕ) → a ++ x ≡ b ++ y → IsLongest a x → IsLongest b y → (a ≡ b) × (x ≡ y)
-same_longest a b x y e l m = same_prefix a b x y e (omega (arith, l.longest b y (sym e) m.is, m.longest a x e l.is))
+pub same_longest : (a b x y : List ℕ) → a ++ x ≡ b ++ y → is_form a ≡ true → is_form b ≡ true
+    → IsLongest a x → IsLongest b y → (a ≡ b) × (x ≡ y)
+same_longest a b x y e f g l m = same_prefix a b x y e (omega (arith, l b y (sym e) g, m a x e f))
 
 -- no piece begins here
 abbrev pub IsEnd : List ℕ → Type 0
 IsEnd rest = (form after : List ℕ) → form ++ after ≡ rest → IsPiece form after → ⊥
 
 pub IsEnd-nil : IsEnd []
-IsEnd-nil form after e p = omega (arith, form_some form p.longest.is, length-append form after, ap length e)
+IsEnd-nil form after e p = omega (arith, form_some form (piece_form form after p), length-append form after, ap length e)
 
 pub same_pieces : (ps qs : List (List ℕ)) (x y : List ℕ) → concat ps ++ x ≡ concat qs ++ y → ArePieces ps x → ArePieces qs y
     → IsEnd x → IsEnd y → (ps ≡ qs) × (x ≡ y)
@@ -40,7 +42,8 @@ same_pieces [] (q ∷ qs) x y e a b v w = absurd (v q (concat qs ++ y) (sym (app
 same_pieces (p ∷ ps) [] x y e a b v w = absurd (w p (concat ps ++ x) (sym (append_assoc p (concat ps) x) ∙ e) a.0)
 same_pieces (p ∷ ps) (q ∷ qs) x y e a b v w =
     let first : (p ≡ q) × (concat ps ++ x ≡ concat qs ++ y) =
-    same_longest p q (concat ps ++ x) (concat qs ++ y) (sym (append_assoc p (concat ps) x) ∙ e ∙ append_assoc q (concat qs) y) a.0.longest b.0.longest in
+    same_longest p q (concat ps ++ x) (concat qs ++ y) (sym (append_assoc p (concat ps) x) ∙ e ∙ append_assoc q (concat qs) y)
+    (piece_form p (concat ps ++ x) a.0) (piece_form q (concat qs ++ y) b.0) a.0.longest b.0.longest in
     let others : (ps ≡ qs) × (x ≡ y) = same_pieces ps qs x y first.1 a.1 b.1 v w in
     (cc, others.1)
 
@@ -55,14 +58,14 @@ same_tokens text place these those c d = (one_cut_up_to place text [] [] these t
 
 pub not_both : (text : List ℕ) (tokens : List Lexeme) (at : ℕ) → IsCut 0 text tokens → IsBadByte text at → ⊥
 not_both text tokens at c b =
-    let r : [] ≡ drop at text = (one_cut_up_to 0 text [] (drop at text) tokens b.tokens c b.before IsEnd-nil b.stuck.1).1 in
-    omega (arith, ap length r, b.stuck.0)
+    let r : [] ≡ drop at text = (one_cut_up_to 0 text [] (drop at text) tokens b.0 c b.1 IsEnd-nil b.2.1).1 in
+    omega (arith, ap length r, b.2.0)
 
 pub same_byte : (text : List ℕ) (this that : ℕ) → IsBadByte text this → IsBadByte text that → this ≡ that
 same_byte text this that a b =
     let r : drop this text ≡ drop that text =
-    (one_cut_up_to 0 text (drop this text) (drop that text) a.tokens b.tokens a.before b.before a.stuck.1 b.stuck.1).1 in
-    omega (arith, ap length r, length-drop this text, length-drop that text, a.stuck.0, b.stuck.0)
+    (one_cut_up_to 0 text (drop this text) (drop that text) a.0 b.0 a.1 b.1 a.2.1 b.2.1).1 in
+    omega (arith, ap length r, length-drop this text, length-drop that text, a.2.0, b.2.0)
 
 pub concat-append : (ps qs : List (List ℕ)) → concat (ps ++ qs) ≡ concat ps ++ concat qs
 concat-append [] qs = refl
@@ -128,11 +131,7 @@ pub IsBadByte-from : (text : List ℕ) (at : ℕ) → IsBadAt 0 text at → IsBa
 IsBadByte-from text at b =
     let n : length (concat b.before.pieces) ≡ at = omega (arith, b.there, ap length b.before.whole, length-append (concat b.before.pieces) b.rest) in
     let is : b.rest ≡ drop at text = sym (ap (drop at) b.before.whole ∙ drop_at (concat b.before.pieces) b.rest at n) in
-    record {
-      tokens = b.tokens;
-      before = subst (λ r. IsCutUpTo 0 text r b.tokens) is b.before;
-      stuck = subst (λ r. HasNoPiece r) is b.stuck;
-    }
+    (b.tokens, subst (λ r. IsCutUpTo 0 text r b.tokens) is b.before, subst (λ r. HasNoPiece r) is b.stuck)
 
 -- each token stands where it is told
 module _ (text : List ℕ) where

@@ -3,23 +3,24 @@ use Rattle.std.proofs.Common.{◌≡◌, ℕ, ◌+◌, ◌<◌, ◌≤◌, Bool,
 use Rattle.std.specs.List.{list_all, concat}
 use Rattle.std.proofs.lemmas.Bool.{false≢true, and_parts, and_from, or_cases, cases_Bool, eqb-true, ne_eqb, not_from_false}
 use Rattle.std.proofs.lemmas.List.{append-nil}
-use Rattle.qasm_lexer.specs.Forms.{following, begins, is_digit, is_letter, is_word_byte, is_no_feed, is_mark, is_sign_byte, after_sign, are_digits, is_exponent, is_fraction, is_closed, is_comment, is_empty}
-use Rattle.qasm_lexer.specs.Tokens.{signs, is_form, IsLongest, ArePieces, Lexeme, IsCut, IsCutUpTo}
-use Rattle.qasm_lexer.proofs.Leads.{white, point, quote, lead, letter_range, digit_range, as_white, as_comment, as_word, as_real, as_point, as_natural, as_text, as_sign, seen, table_all}
+use Rattle.std.specs.Char.{is_ascii_digit, is_ascii_alphabetic}
+use Rattle.qasm_lexer.specs.Forms.{following, begins, is_word_byte, is_no_feed, is_mark, is_sign_byte, after_sign, are_digits, is_exponent, is_fraction, is_closed, is_comment, is_empty}
+use Rattle.qasm_lexer.specs.Tokens.{signs, is_form, ArePieces, Lexeme, IsCut, IsCutUpTo}
+use Rattle.qasm_lexer.proofs.Leads.{white, point, quote, lead, letter_range, digit_range, as_white, as_comment, as_word, as_real, as_point, as_natural, as_text, as_sign, seen, table_all, IsLongest, piece_form}
 use Rattle.qasm_lexer.proofs.Cuts.{IsCutUpTo-then, form_some}
 
 no_feed_at : (b : ℕ) → (b ≡ 10 → ⊥) → is_no_feed b ≡ true
 no_feed_at b n = not_from_false (eqb b 10) (ne_eqb b 10 n)
 
-digit_no_feed : (b : ℕ) → is_digit b ≡ true → is_no_feed b ≡ true
+digit_no_feed : (b : ℕ) → is_ascii_digit b ≡ true → is_no_feed b ≡ true
 digit_no_feed b e = no_feed_at b (λ k. omega (arith, digit_range b e))
 
-letter_no_feed : (b : ℕ) → is_letter b ≡ true → is_no_feed b ≡ true
+letter_no_feed : (b : ℕ) → is_ascii_alphabetic b ≡ true → is_no_feed b ≡ true
 letter_no_feed b e = no_feed_at b (λ k. elim (letter_range b e) [ inl r ↦ omega arith | inr r ↦ omega arith ])
 
 word_no_feed : (b : ℕ) → is_word_byte b ≡ true → is_no_feed b ≡ true
-word_no_feed b e = elim (or_cases (is_letter b || is_digit b) (eqb b 95) e) [
-  | inl f ↦ elim (or_cases (is_letter b) (is_digit b) f) [ inl l ↦ letter_no_feed b l | inr d ↦ digit_no_feed b d ]
+word_no_feed b e = elim (or_cases (is_ascii_alphabetic b || is_ascii_digit b) (eqb b 95) e) [
+  | inl f ↦ elim (or_cases (is_ascii_alphabetic b) (is_ascii_digit b) f) [ inl l ↦ letter_no_feed b l | inr d ↦ digit_no_feed b d ]
   | inr f ↦ no_feed_at b (λ k. omega (arith, eqb-true b 95 f))
 ]
 
@@ -36,15 +37,15 @@ all_by p q each (b ∷ f) e =
     and_from (q b) (list_all q f) (each b h.0) (all_by p q each f h.1)
 
 -- a list that goes on with a digit test has no feed before where what is after has none
-after_no_feed : (f : List ℕ) → list_all is_no_feed (following is_digit f) ≡ true → list_all is_no_feed f ≡ true
+after_no_feed : (f : List ℕ) → list_all is_no_feed (following is_ascii_digit f) ≡ true → list_all is_no_feed f ≡ true
 after_no_feed [] e = refl
-after_no_feed (b ∷ f) e = elim (cases_Bool (is_digit b)) [
+after_no_feed (b ∷ f) e = elim (cases_Bool (is_ascii_digit b)) [
   | inl d ↦ and_from (is_no_feed b) (list_all is_no_feed f) (digit_no_feed b d) (after_no_feed f (rw d at e))
   | inr d ↦ rw d at e
 ]
 
 digits_no_feed : (ds : List ℕ) → are_digits ds ≡ true → list_all is_no_feed ds ≡ true
-digits_no_feed ds e = all_by is_digit is_no_feed digit_no_feed ds (and_parts (begins is_digit ds) (list_all is_digit ds) e).1
+digits_no_feed ds e = all_by is_ascii_digit is_no_feed digit_no_feed ds (and_parts (begins is_ascii_digit ds) (list_all is_ascii_digit ds) e).1
 
 signed_no_feed : (o : List ℕ) → are_digits (after_sign o) ≡ true → list_all is_no_feed o ≡ true
 signed_no_feed [] e = refl
@@ -62,11 +63,11 @@ exponent_no_feed (b ∷ o) e =
 fraction_no_feed : (some : Bool) (f : List ℕ) → is_fraction some f ≡ true → list_all is_no_feed f ≡ true
 fraction_no_feed some [] e = refl
 fraction_no_feed some (b ∷ o) e =
-    let p : ((eqb b 46 && (some || begins is_digit o)) ≡ true) × (is_exponent (following is_digit o) ≡ true) =
-    and_parts (eqb b 46 && (some || begins is_digit o)) (is_exponent (following is_digit o)) e in
-    let q : (eqb b 46 ≡ true) × ((some || begins is_digit o) ≡ true) = and_parts (eqb b 46) (some || begins is_digit o) p.0 in
+    let p : ((eqb b 46 && (some || begins is_ascii_digit o)) ≡ true) × (is_exponent (following is_ascii_digit o) ≡ true) =
+    and_parts (eqb b 46 && (some || begins is_ascii_digit o)) (is_exponent (following is_ascii_digit o)) e in
+    let q : (eqb b 46 ≡ true) × ((some || begins is_ascii_digit o) ≡ true) = and_parts (eqb b 46) (some || begins is_ascii_digit o) p.0 in
     and_from (is_no_feed b) (list_all is_no_feed o) (no_feed_at b (λ z. omega (arith, eqb-true b 46 q.0)))
-    (after_no_feed o (exponent_no_feed (following is_digit o) p.1))
+    (after_no_feed o (exponent_no_feed (following is_ascii_digit o) p.1))
 
 closed_no_feed : (o : List ℕ) → is_closed o ≡ true → list_all is_no_feed o ≡ true
 closed_no_feed [] e = refl
@@ -99,9 +100,9 @@ form_no_feed c o e = elim (seen c o e) [
   | as_white l n ↦ inl n
   | as_comment l h ↦ inr (comment_no_feed c o h)
   | as_word l h ↦ inr (all_by is_word_byte is_no_feed word_no_feed (c ∷ o) h)
-  | as_real l h ↦ inr (after_no_feed (c ∷ o) (fraction_no_feed (begins is_digit (c ∷ o)) (following is_digit (c ∷ o)) h))
-  | as_point l h i ↦ inr (and_from (is_no_feed c) (list_all is_no_feed o) (point_lead c l) (after_no_feed o (exponent_no_feed (following is_digit o) i)))
-  | as_natural l h i ↦ inr (all_by is_digit is_no_feed digit_no_feed (c ∷ o) h)
+  | as_real l h ↦ inr (after_no_feed (c ∷ o) (fraction_no_feed (begins is_ascii_digit (c ∷ o)) (following is_ascii_digit (c ∷ o)) h))
+  | as_point l h i ↦ inr (and_from (is_no_feed c) (list_all is_no_feed o) (point_lead c l) (after_no_feed o (exponent_no_feed (following is_ascii_digit o) i)))
+  | as_natural l h i ↦ inr (all_by is_ascii_digit is_no_feed digit_no_feed (c ∷ o) h)
   | as_text l h ↦ inr (and_from (is_no_feed c) (list_all is_no_feed o) (quote_lead c l) (closed_no_feed o h))
   | as_sign l n h ↦ inr (table_all (list_all is_no_feed) signs refl (c ∷ o) h)
 ]
@@ -131,10 +132,10 @@ prefixes (c ∷ a) (d ∷ b) x y e =
 
 -- what is longest before a line feed stays so, whatever follows that
 longest_on : (form x y after : List ℕ) → form ++ x ≡ y ++ 10 ∷ [] → IsLongest form x → IsLongest form (x ++ after)
-longest_on form x y after e l = record { is = l.is; longest = each } where
+longest_on form x y after e l = each where
   each : (other rest : List ℕ) → other ++ rest ≡ form ++ (x ++ after) → is_form other ≡ true → length other ≤ length form
   each other rest t f = elim (prefixes other (form ++ x) rest after (t ∙ sym (append_assoc form x after))) [
-    | inl h ↦ l.longest other h.0 h.1 f
+    | inl h ↦ l other h.0 h.1 f
     | inr h ↦
         (let all : y ++ 10 ∷ h.0 ≡ other = sym (append_assoc y (10 ∷ []) h.0) ∙ ap (λ r. r ++ h.0) (sym e) ∙ h.1 in
         let none : h.0 ≡ [] = feed_alone y h.0 (subst (λ r. is_form r ≡ true) (sym all) f) in
@@ -153,7 +154,7 @@ nil_or_some (b ∷ x) = inr (omega arith)
 
 pieces_on : (ps : List (List ℕ)) (y after : List ℕ) → (concat ps ≡ []) ⊎ (concat ps ≡ y ++ 10 ∷ []) → ArePieces ps [] → ArePieces ps after
 pieces_on [] y after e a = tt
-pieces_on (p ∷ ps) y after (inl e) a = absurd (omega (arith, form_some p a.0.longest.is, ap length e, length-append p (concat ps)))
+pieces_on (p ∷ ps) y after (inl e) a = absurd (omega (arith, form_some p (piece_form p _ a.0), ap length e, length-append p (concat ps)))
 pieces_on (p ∷ ps) y after (inr e) a =
     let here : IsLongest p ((concat ps ++ []) ++ after) =
     longest_on p (concat ps ++ []) y after (ap (λ r. p ++ r) (append-nil (concat ps)) ∙ e) a.0.longest in (

@@ -8,12 +8,13 @@ use Rattle.qasm_lexer.specs.declared.first_piece.Sort.{Sort}
 use Rattle.qasm_lexer.specs.declared.first_piece.Sort.TheVariants.{Blank, Digits, Token}
 use Rattle.qasm_lexer.specs.declared.token.TokenKind.{TokenKind}
 use Rattle.qasm_lexer.specs.declared.token.TokenKind.TheVariants.{Real, Natural, Text}
-use Rattle.qasm_lexer.specs.Forms.{following, begins, is_digit, is_letter, is_space, is_no_feed, is_word_byte, is_comment, is_natural, is_closed}
-use Rattle.qasm_lexer.specs.Tokens.{signs, kind_in, kind_of, word_kind, is_blank, IsLongest, IsPiece, ArePieces, tokens_in, IsCutUpTo}
+use Rattle.std.specs.Char.{is_ascii_digit, is_ascii_alphabetic}
+use Rattle.qasm_lexer.specs.Forms.{following, begins, is_space, is_no_feed, is_word_byte, is_comment, is_natural, is_closed}
+use Rattle.qasm_lexer.specs.Tokens.{signs, kind_in, kind_of, word_kind, is_blank, IsPiece, ArePieces, tokens_in, IsCutUpTo}
 use Rattle.qasm_lexer.specs.Internal.FirstPiece.{first_piece, word_piece, as_token, number_piece, number, point_piece, text_piece, closing, is_plain, plain_piece, sign_piece, two_or_one, is_inside, fraction_len, naturals, natural_tokens, piece_tokens}
 use Rattle.qasm_lexer.proofs.Runs.{prefix, prefix-following, prefix_len-prefix, take-prefix, drop-following, prefix_passes, after_stops, after_through, begins_some, begins_append}
 use Rattle.qasm_lexer.proofs.Reals.{real_fits, fraction_fits}
-use Rattle.qasm_lexer.proofs.Leads.{letter, other, lead, lead-letter, no_blank, kind-word, Seen, seen, point_only, quote_only, other_only}
+use Rattle.qasm_lexer.proofs.Leads.{letter, other, lead, lead-letter, no_blank, kind-word, Seen, seen, point_only, quote_only, other_only, word_form, IsLongest, piece_form}
 use Rattle.qasm_lexer.proofs.Cuts.{same_longest, IsEnd, form_some}
 use Rattle.qasm_lexer.proofs.Pieces as pieces
 use Rattle.qasm_lexer.proofs.Pieces.{ends_number}
@@ -64,7 +65,7 @@ module _ (b : ℕ) (p after text : List ℕ) (count : ℕ) (whole : (b ∷ p) ++
 white_first : (b : ℕ) (t : List ℕ) → is_space b ≡ true → IsFirst (b ∷ t) Blank 1
 white_first b t e = one_blank b [] t (b ∷ t) 1 refl refl (pieces.white_piece b t e) (pieces.white_kind b e)
 
-word_by_kind : (b : ℕ) (t : List ℕ) (n : ℕ) → is_letter b ≡ true → n ≡ suc (length (prefix is_word_byte t)) → (k : Option TokenKind)
+word_by_kind : (b : ℕ) (t : List ℕ) (n : ℕ) → is_ascii_alphabetic b ≡ true → n ≡ suc (length (prefix is_word_byte t)) → (k : Option TokenKind)
     → word_kind (b ∷ prefix is_word_byte t) ≡ k → IsFirstPiece (b ∷ t) (as_token k n)
 word_by_kind b t n e n_is (Some k) is =
     one_token b (prefix is_word_byte t) (following is_word_byte t) (b ∷ t) n (ap (λ r. b ∷ r) (prefix-following is_word_byte t)) (sym n_is) k
@@ -74,17 +75,19 @@ word_by_kind b t n e n_is None is =
     let l : lead b ≡ letter = lead-letter b e in
     let longest : IsLongest (b ∷ p) (following is_word_byte t) =
     pieces.word_longest b p (following is_word_byte t) e (prefix_passes is_word_byte t) (after_stops is_word_byte t) in
-    let kind : kind_of (b ∷ p) ≡ None = kind-word (b ∷ p) (and_from (is_letter b) (list_all is_word_byte p) e (prefix_passes is_word_byte t)) ∙ is in
+    let kind : kind_of (b ∷ p) ≡ None = kind-word (b ∷ p) (and_from (is_ascii_alphabetic b) (list_all is_word_byte p) e (prefix_passes is_word_byte t)) ∙ is in
     let blank : is_blank (b ∷ p) ≡ false = no_blank b p (λ m. cc) (λ m. cc) in
     λ form after f piece.
     let same : form ≡ b ∷ p =
-    (same_longest form (b ∷ p) after (following is_word_byte t) (f ∙ ap (λ r. b ∷ r) (sym (prefix-following is_word_byte t))) piece.longest longest).0 in
+    (same_longest form (b ∷ p) after (following is_word_byte t) (f ∙ ap (λ r. b ∷ r) (sym (prefix-following is_word_byte t)))
+    (piece_form form after piece)
+    (word_form (b ∷ p) (and_from (is_ascii_alphabetic b) (list_all is_word_byte p) e (prefix_passes is_word_byte t))) piece.longest longest).0 in
     let taken : (is_blank (b ∷ p) || is_some (kind_of (b ∷ p))) ≡ true = subst (λ r. (is_blank r || is_some (kind_of r)) ≡ true) same piece.taken in
     false≢true (rw (blank, kind) at taken)
 
-word_first : (b : ℕ) (t : List ℕ) → is_letter b ≡ true → IsFirstPiece (b ∷ t) (word_piece (b ∷ t))
+word_first : (b : ℕ) (t : List ℕ) → is_ascii_alphabetic b ≡ true → IsFirstPiece (b ∷ t) (word_piece (b ∷ t))
 word_first b t e =
-    let w : is_word_byte b ≡ true = or_left (is_letter b || is_digit b) (eqb b 95) (or_left (is_letter b) (is_digit b) e) in
+    let w : is_word_byte b ≡ true = or_left (is_ascii_alphabetic b || is_ascii_digit b) (eqb b 95) (or_left (is_ascii_alphabetic b) (is_ascii_digit b) e) in
     let run : prefix is_word_byte (b ∷ t) ≡ b ∷ prefix is_word_byte t = rw w refl in
     let n : ℕ = prefix_len is_word_byte (b ∷ t) in
     let n_is : n ≡ suc (length (prefix is_word_byte t)) = prefix_len-prefix is_word_byte (b ∷ t) ∙ ap length run in
@@ -92,11 +95,11 @@ word_first b t e =
 
 -- nothing begins where no form can
 end_by : (b : ℕ) (t : List ℕ) → ((o rest : List ℕ) → o ++ rest ≡ t → Seen b o → ⊥) → IsEnd (b ∷ t)
-end_by b t none [] after e piece = omega (arith, form_some [] piece.longest.is)
+end_by b t none [] after e piece = omega (arith, form_some [] (piece_form [] after piece))
 end_by b t none (c ∷ o) after e piece =
     let k : c ≡ b = cc in
     let i : o ++ after ≡ t = cc in
-    none o after i (subst (λ x. Seen x o) k (seen c o piece.longest.is))
+    none o after i (subst (λ x. Seen x o) k (seen c o (piece_form (c ∷ o) after piece)))
 
 concat-naturals : (ds : List ℕ) → concat (naturals ds) ≡ ds
 concat-naturals [] = refl
@@ -116,11 +119,11 @@ natural_before p ps after is more = record {
   tokens = λ place. rw is.1 (ap (λ r. record { kind = Natural; text = p; place = place } ∷ r) (more.tokens (place + length p)));
 }
 
-naturals_are : (ds after : List ℕ) → list_all is_digit ds ≡ true → ends_number after ≡ true → AreNaturals (naturals ds) after
+naturals_are : (ds after : List ℕ) → list_all is_ascii_digit ds ≡ true → ends_number after ≡ true → AreNaturals (naturals ds) after
 naturals_are [] after all ends = record { each = tt; tokens = λ place. refl }
 naturals_are (d ∷ ds) after all ends = elim (cases_Bool (eqb d 48)) [
   | inl z ↦
-      (let tail : list_all is_digit ds ≡ true = (and_parts (is_digit d) (list_all is_digit ds) all).1 in
+      (let tail : list_all is_ascii_digit ds ≡ true = (and_parts (is_ascii_digit d) (list_all is_ascii_digit ds) all).1 in
       rw z (natural_before (d ∷ []) (naturals ds) after
       (subst (λ x. IsPiece (x ∷ []) (concat (naturals ds) ++ after) × (kind_of (x ∷ []) ≡ Some Natural)) (sym (eqb-true d 48 z))
       (subst (λ x. IsPiece (48 ∷ []) (x ++ after) × (kind_of (48 ∷ []) ≡ Some Natural)) (sym (concat-naturals ds)) (pieces.zero_piece ds after tail ends)))
@@ -129,56 +132,56 @@ naturals_are (d ∷ ds) after all ends = elim (cases_Bool (eqb d 48)) [
       rw z (natural_before (d ∷ ds) [] after
       (pieces.natural_piece d ds after all (is_natural_here d ds z all) ends) (record { each = tt; tokens = λ place. refl }))
 ] where
-  is_natural_here : (d : ℕ) (ds : List ℕ) → eqb d 48 ≡ false → list_all is_digit (d ∷ ds) ≡ true → is_natural (d ∷ ds) ≡ true
+  is_natural_here : (d : ℕ) (ds : List ℕ) → eqb d 48 ≡ false → list_all is_ascii_digit (d ∷ ds) ≡ true → is_natural (d ∷ ds) ≡ true
   is_natural_here d ds z all = rw z all
 
-digits_first : (b : ℕ) (u x : List ℕ) → is_digit b ≡ true → following is_digit (b ∷ u) ≡ x → ends_number x ≡ true
-    → IsFirst (b ∷ u) Digits (prefix_len is_digit (b ∷ u))
+digits_first : (b : ℕ) (u x : List ℕ) → is_ascii_digit b ≡ true → following is_ascii_digit (b ∷ u) ≡ x → ends_number x ≡ true
+    → IsFirst (b ∷ u) Digits (prefix_len is_ascii_digit (b ∷ u))
 digits_first b u x d is ends =
-    let ds : List ℕ = prefix is_digit (b ∷ u) in
-    let all : AreNaturals (naturals ds) x = naturals_are ds x (prefix_passes is_digit (b ∷ u)) ends in
+    let ds : List ℕ = prefix is_ascii_digit (b ∷ u) in
+    let all : AreNaturals (naturals ds) x = naturals_are ds x (prefix_passes is_ascii_digit (b ∷ u)) ends in
     record {
       piece = ds;
       after = x;
-      whole = ap (λ r. ds ++ r) (sym is) ∙ prefix-following is_digit (b ∷ u);
-      count_is = sym (prefix_len-prefix is_digit (b ∷ u));
-      some = begins_some is_digit (b ∷ u) d;
+      whole = ap (λ r. ds ++ r) (sym is) ∙ prefix-following is_ascii_digit (b ∷ u);
+      count_is = sym (prefix_len-prefix is_ascii_digit (b ∷ u));
+      some = begins_some is_ascii_digit (b ∷ u) d;
       pieces = naturals ds;
       pieces_are = concat-naturals ds;
       each = all.each;
       tokens_are = all.tokens;
     }
 
-number_by_rest : (b : ℕ) (u x : List ℕ) → is_digit b ≡ true → following is_digit (b ∷ u) ≡ x
-    → IsFirst (b ∷ u) (number (prefix_len is_digit (b ∷ u)) x).0 (number (prefix_len is_digit (b ∷ u)) x).1
+number_by_rest : (b : ℕ) (u x : List ℕ) → is_ascii_digit b ≡ true → following is_ascii_digit (b ∷ u) ≡ x
+    → IsFirst (b ∷ u) (number (prefix_len is_ascii_digit (b ∷ u)) x).0 (number (prefix_len is_ascii_digit (b ∷ u)) x).1
 number_by_rest b u [] d is = digits_first b u [] d is refl
 number_by_rest b u (c ∷ r) d is = elim (cases_Bool (eqb c 46)) [
   | inl e ↦ rw e (real_here (is ∙ ap (λ x. x ∷ r) (eqb-true c 46 e)))
-  | inr e ↦ rw e (digits_first b u (c ∷ r) d is (and_from (not (is_digit c)) (not (eqb c 46)) (not_from_false (is_digit c) no_digit) (not_from_false (eqb c 46) e)))
+  | inr e ↦ rw e (digits_first b u (c ∷ r) d is (and_from (not (is_ascii_digit c)) (not (eqb c 46)) (not_from_false (is_ascii_digit c) no_digit) (not_from_false (eqb c 46) e)))
 ] where
-  no_digit : is_digit c ≡ false
-  no_digit = ap (begins is_digit) (sym is) ∙ after_stops is_digit (b ∷ u)
+  no_digit : is_ascii_digit c ≡ false
+  no_digit = ap (begins is_ascii_digit) (sym is) ∙ after_stops is_ascii_digit (b ∷ u)
 
-  real_here : following is_digit (b ∷ u) ≡ 46 ∷ r → IsFirst (b ∷ u) (Token Real) (prefix_len is_digit (b ∷ u) + 1 + fraction_len r)
+  real_here : following is_ascii_digit (b ∷ u) ≡ 46 ∷ r → IsFirst (b ∷ u) (Token Real) (prefix_len is_ascii_digit (b ∷ u) + 1 + fraction_len r)
   real_here h =
-      let m : ℕ = prefix_len is_digit (b ∷ u) + fraction_len r in
+      let m : ℕ = prefix_len is_ascii_digit (b ∷ u) + fraction_len r in
       let fits : m ≤ length u = omega (arith, real_fits (b ∷ u) r h) in
-      one_token b (take m u) (drop m u) (b ∷ u) (prefix_len is_digit (b ∷ u) + 1 + fraction_len r)
+      one_token b (take m u) (drop m u) (b ∷ u) (prefix_len is_ascii_digit (b ∷ u) + 1 + fraction_len r)
       (ap (λ x. b ∷ x) (take-append-drop m u)) (omega (arith, length-take-le m u fits)) Real (pieces.real_piece b u r m d h refl)
 
-number_first : (b : ℕ) (u : List ℕ) → is_digit b ≡ true → IsFirst (b ∷ u) (number_piece (b ∷ u)).0 (number_piece (b ∷ u)).1
+number_first : (b : ℕ) (u : List ℕ) → is_ascii_digit b ≡ true → IsFirst (b ∷ u) (number_piece (b ∷ u)).0 (number_piece (b ∷ u)).1
 number_first b u d =
-    subst (λ x. IsFirst (b ∷ u) (number (prefix_len is_digit (b ∷ u)) x).0 (number (prefix_len is_digit (b ∷ u)) x).1) (sym (drop-following is_digit (b ∷ u)))
-    (number_by_rest b u (following is_digit (b ∷ u)) d refl)
+    subst (λ x. IsFirst (b ∷ u) (number (prefix_len is_ascii_digit (b ∷ u)) x).0 (number (prefix_len is_ascii_digit (b ∷ u)) x).1) (sym (drop-following is_ascii_digit (b ∷ u)))
+    (number_by_rest b u (following is_ascii_digit (b ∷ u)) d refl)
 
 point_first : (r : List ℕ) → IsFirstPiece (46 ∷ r) (point_piece r)
-point_first r = elim (cases_Bool (begins is_digit r)) [
+point_first r = elim (cases_Bool (begins is_ascii_digit r)) [
   | inl e ↦
       rw e (one_token 46 (take (fraction_len r) r) (drop (fraction_len r) r) (46 ∷ r) (1 + fraction_len r)
       (ap (λ x. 46 ∷ x) (take-append-drop (fraction_len r) r)) (omega (arith, length-take-le (fraction_len r) r (fraction_fits r))) Real (pieces.point_piece r e))
   | inr e ↦
       rw e (end_by 46 r (λ o rest t s.
-      both_ways (begins is_digit r) e (ap (begins is_digit) (sym t) ∙ begins_append is_digit o rest (point_only 46 o refl s).0)))
+      both_ways (begins is_ascii_digit r) e (ap (begins is_ascii_digit) (sym t) ∙ begins_append is_ascii_digit o rest (point_only 46 o refl s).0)))
 ]
 
 -- what follows the bytes inside a text that is closed
@@ -271,7 +274,7 @@ other_first b t l = elim (cases_Bool (is_plain b)) [
 pub first_piece_is : (text : List ℕ) → 0 < length text → IsFirstPiece text (first_piece text)
 first_piece_is [] some = absurd (omega arith)
 first_piece_is (b ∷ t) some =
-    by_five (IsFirstPiece (b ∷ t)) (is_space b) (is_letter b) (is_digit b) (eqb b 46) (eqb b 34)
+    by_five (IsFirstPiece (b ∷ t)) (is_space b) (is_ascii_alphabetic b) (is_ascii_digit b) (eqb b 46) (eqb b 34)
     (Some (Blank, 1)) (word_piece (b ∷ t)) (Some (number_piece (b ∷ t))) (point_piece t) (text_piece t)
     (cond (is_plain b) (plain_piece b) (sign_piece (b ∷ t)))
     (white_first b t) (word_first b t) (number_first b t)

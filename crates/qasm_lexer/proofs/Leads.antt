@@ -1,14 +1,16 @@
 -- A form is known by its first byte.
-use Rattle.std.proofs.Common.{◌≡◌, ℕ, ◌≤◌, Bool, true, false, cond, ◌&&◌, ◌||◌, eqb, leb, List, [], ◌∷◌, length, refl, ap, ◌∙◌, arith, inl, inr, ◌⊎◌, Option, None, Some}
+use Rattle.std.proofs.Common.{◌≡◌, ℕ, ◌≤◌, ◌++◌, Bool, true, false, cond, ◌&&◌, ◌||◌, eqb, leb, List, [], ◌∷◌, length, refl, ap, ◌∙◌, arith, inl, inr, ◌⊎◌, Option, None, Some}
 use Rattle.std.specs.Option.{is_some}
 use Rattle.std.specs.List.{list_all}
 use Rattle.std.specs.Str.{bytes_eq}
 use Rattle.std.proofs.lemmas.Bool.{false≢true, and_parts, and_from, or_cases, or_left, or_right, cases_Bool, eqb-true, leb-true, false_from_ne_true}
 use Rattle.std.proofs.lemmas.Slice.Eq.{bytes_eq-Decides}
 use Rattle.qasm_lexer.specs.declared.token.TokenKind.{TokenKind}
-use Rattle.qasm_lexer.specs.Forms.{following, begins, is_digit, is_small_letter, is_capital, is_letter, is_space, is_no_feed, is_word_byte, is_empty, is_white, is_comment, is_word, is_natural, is_real, is_fraction, is_exponent, is_text, is_closed}
+use Rattle.std.specs.Char.{is_ascii_digit, is_ascii_alphabetic}
+use Rattle.std.specs.Int.{is_in_range}
+use Rattle.qasm_lexer.specs.Forms.{following, begins, is_space, is_no_feed, is_word_byte, is_empty, is_white, is_comment, is_word, is_natural, is_real, is_fraction, is_exponent, is_text, is_closed}
 use Rattle.qasm_lexer.specs.declared.token.TokenKind.TheVariants.{Real, Natural, Text}
-use Rattle.qasm_lexer.specs.Tokens.{signs, kind_in, kind_of, word_kind, is_blank, is_form}
+use Rattle.qasm_lexer.specs.Tokens.{signs, kind_in, kind_of, word_kind, is_blank, is_form, IsPiece}
 
 pub data Lead : Type 0 where
   white : Lead
@@ -20,15 +22,15 @@ pub data Lead : Type 0 where
 
 -- what a first byte begins
 abbrev pub lead : ℕ → Lead
-lead b = cond (is_space b) white (cond (is_letter b) letter (cond (is_digit b) digit (cond (eqb b 46) point (cond (eqb b 34) quote other))))
+lead b = cond (is_space b) white (cond (is_ascii_alphabetic b) letter (cond (is_ascii_digit b) digit (cond (eqb b 46) point (cond (eqb b 34) quote other))))
 
-pub letter_range : (b : ℕ) → is_letter b ≡ true → ((97 ≤ b) × (b ≤ 122)) ⊎ ((65 ≤ b) × (b ≤ 90))
-letter_range b e = elim (or_cases (is_small_letter b) (is_capital b) e) [
-  | inl s ↦ (let p : (leb 97 b ≡ true) × (leb b 122 ≡ true) = and_parts (leb 97 b) (leb b 122) s in inl (leb-true 97 b p.0, leb-true b 122 p.1))
-  | inr s ↦ (let p : (leb 65 b ≡ true) × (leb b 90 ≡ true) = and_parts (leb 65 b) (leb b 90) s in inr (leb-true 65 b p.0, leb-true b 90 p.1))
+pub letter_range : (b : ℕ) → is_ascii_alphabetic b ≡ true → ((97 ≤ b) × (b ≤ 122)) ⊎ ((65 ≤ b) × (b ≤ 90))
+letter_range b e = elim (or_cases (is_in_range 65 90 b) (is_in_range 97 122 b) e) [
+  | inl s ↦ (let p : (leb 65 b ≡ true) × (leb b 90 ≡ true) = and_parts (leb 65 b) (leb b 90) s in inr (leb-true 65 b p.0, leb-true b 90 p.1))
+  | inr s ↦ (let p : (leb 97 b ≡ true) × (leb b 122 ≡ true) = and_parts (leb 97 b) (leb b 122) s in inl (leb-true 97 b p.0, leb-true b 122 p.1))
 ]
 
-pub digit_range : (b : ℕ) → is_digit b ≡ true → (48 ≤ b) × (b ≤ 57)
+pub digit_range : (b : ℕ) → is_ascii_digit b ≡ true → (48 ≤ b) × (b ≤ 57)
 digit_range b e = let p : (leb 48 b ≡ true) × (leb b 57 ≡ true) = and_parts (leb 48 b) (leb b 57) e in (leb-true 48 b p.0, leb-true b 57 p.1)
 
 space_range : (b : ℕ) → is_space b ≡ true → b ≤ 32
@@ -43,22 +45,22 @@ space_range b e = elim (or_cases (eqb b 32 || eqb b 9 || eqb b 13) (eqb b 10) e)
   | inr f ↦ omega (arith, eqb-true b 10 f)
 ]
 
-pub letter_no_space : (b : ℕ) → is_letter b ≡ true → is_space b ≡ false
+pub letter_no_space : (b : ℕ) → is_ascii_alphabetic b ≡ true → is_space b ≡ false
 letter_no_space b e = false_from_ne_true (is_space b) (λ s. elim (letter_range b e) [ inl r ↦ omega (arith, space_range b s) | inr r ↦ omega (arith, space_range b s) ])
 
-pub digit_no_space : (b : ℕ) → is_digit b ≡ true → is_space b ≡ false
+pub digit_no_space : (b : ℕ) → is_ascii_digit b ≡ true → is_space b ≡ false
 digit_no_space b e = false_from_ne_true (is_space b) (λ s. omega (arith, digit_range b e, space_range b s))
 
-pub digit_no_letter : (b : ℕ) → is_digit b ≡ true → is_letter b ≡ false
-digit_no_letter b e = false_from_ne_true (is_letter b) (λ l. elim (letter_range b l) [ inl r ↦ omega (arith, digit_range b e) | inr r ↦ omega (arith, digit_range b e) ])
+pub digit_no_letter : (b : ℕ) → is_ascii_digit b ≡ true → is_ascii_alphabetic b ≡ false
+digit_no_letter b e = false_from_ne_true (is_ascii_alphabetic b) (λ l. elim (letter_range b l) [ inl r ↦ omega (arith, digit_range b e) | inr r ↦ omega (arith, digit_range b e) ])
 
 pub lead-space : (b : ℕ) → is_space b ≡ true → lead b ≡ white
 lead-space b e = rw e refl
 
-pub lead-letter : (b : ℕ) → is_letter b ≡ true → lead b ≡ letter
+pub lead-letter : (b : ℕ) → is_ascii_alphabetic b ≡ true → lead b ≡ letter
 lead-letter b e = rw (letter_no_space b e) (rw e refl)
 
-pub lead-digit : (b : ℕ) → is_digit b ≡ true → lead b ≡ digit
+pub lead-digit : (b : ℕ) → is_ascii_digit b ≡ true → lead b ≡ digit
 lead-digit b e = rw (digit_no_space b e) (rw (digit_no_letter b e) (rw e refl))
 
 pub lead-at : (b c : ℕ) (l : Lead) → eqb b c ≡ true → lead c ≡ l → lead b ≡ l
@@ -115,9 +117,9 @@ pub data Seen (c : ℕ) (o : List ℕ) : Type 0 where
   as_white : lead c ≡ white → o ≡ [] → Seen c o
   as_comment : lead c ≡ other → is_comment (c ∷ o) ≡ true → Seen c o
   as_word : lead c ≡ letter → list_all is_word_byte (c ∷ o) ≡ true → Seen c o
-  as_real : lead c ≡ digit → is_fraction (begins is_digit (c ∷ o)) (following is_digit (c ∷ o)) ≡ true → Seen c o
-  as_point : lead c ≡ point → begins is_digit o ≡ true → is_exponent (following is_digit o) ≡ true → Seen c o
-  as_natural : lead c ≡ digit → list_all is_digit (c ∷ o) ≡ true → is_natural (c ∷ o) ≡ true → Seen c o
+  as_real : lead c ≡ digit → is_fraction (begins is_ascii_digit (c ∷ o)) (following is_ascii_digit (c ∷ o)) ≡ true → Seen c o
+  as_point : lead c ≡ point → begins is_ascii_digit o ≡ true → is_exponent (following is_ascii_digit o) ≡ true → Seen c o
+  as_natural : lead c ≡ digit → list_all is_ascii_digit (c ∷ o) ≡ true → is_natural (c ∷ o) ≡ true → Seen c o
   as_text : lead c ≡ quote → is_closed o ≡ true → Seen c o
   as_sign : lead c ≡ other → length o ≤ 1 → is_some (kind_in signs (c ∷ o)) ≡ true → Seen c o
 
@@ -135,18 +137,18 @@ see_comment c (d ∷ o) e =
 
 see_word : (c : ℕ) (o : List ℕ) → is_word (c ∷ o) ≡ true → Seen c o
 see_word c o e =
-    let p : (is_letter c ≡ true) × (list_all is_word_byte o ≡ true) = and_parts (is_letter c) (list_all is_word_byte o) e in
+    let p : (is_ascii_alphabetic c ≡ true) × (list_all is_word_byte o ≡ true) = and_parts (is_ascii_alphabetic c) (list_all is_word_byte o) e in
     as_word (lead-letter c p.0)
-    (and_from (is_word_byte c) (list_all is_word_byte o) (or_left (is_letter c || is_digit c) (eqb c 95) (or_left (is_letter c) (is_digit c) p.0)) p.1)
+    (and_from (is_word_byte c) (list_all is_word_byte o) (or_left (is_ascii_alphabetic c || is_ascii_digit c) (eqb c 95) (or_left (is_ascii_alphabetic c) (is_ascii_digit c) p.0)) p.1)
 
 see_real : (c : ℕ) (o : List ℕ) → is_real (c ∷ o) ≡ true → Seen c o
-see_real c o e = elim (cases_Bool (is_digit c)) [
+see_real c o e = elim (cases_Bool (is_ascii_digit c)) [
   | inl d ↦ as_real (lead-digit c d) e
   | inr d ↦
       (let i : is_fraction false (c ∷ o) ≡ true = rw d at e in
-      let p : ((eqb c 46 && begins is_digit o) ≡ true) × (is_exponent (following is_digit o) ≡ true) =
-      and_parts (eqb c 46 && begins is_digit o) (is_exponent (following is_digit o)) i in
-      let q : (eqb c 46 ≡ true) × (begins is_digit o ≡ true) = and_parts (eqb c 46) (begins is_digit o) p.0 in
+      let p : ((eqb c 46 && begins is_ascii_digit o) ≡ true) × (is_exponent (following is_ascii_digit o) ≡ true) =
+      and_parts (eqb c 46 && begins is_ascii_digit o) (is_exponent (following is_ascii_digit o)) i in
+      let q : (eqb c 46 ≡ true) × (begins is_ascii_digit o ≡ true) = and_parts (eqb c 46) (begins is_ascii_digit o) p.0 in
       as_point (lead-at c 46 point q.0 refl) q.1 p.1)
 ]
 
@@ -156,8 +158,8 @@ see_natural c o e = elim (cases_Bool (eqb c 48)) [
       (let n : o ≡ [] = empty_nil o (rw z at e) in
       as_natural (lead-at c 48 digit z refl) (rw (eqb-true c 48 z) (rw n refl)) e)
   | inr z ↦
-      (let i : (is_digit c && list_all is_digit o) ≡ true = rw z at e in
-      as_natural (lead-digit c (and_parts (is_digit c) (list_all is_digit o) i).0) i e)
+      (let i : (is_ascii_digit c && list_all is_ascii_digit o) ≡ true = rw z at e in
+      as_natural (lead-digit c (and_parts (is_ascii_digit c) (list_all is_ascii_digit o) i).0) i e)
 ]
 
 see_text : (c : ℕ) (o : List ℕ) → is_text (c ∷ o) ≡ true → Seen c o
@@ -223,6 +225,26 @@ module _ (form : List ℕ) where
   pub sign_form : is_some (kind_in signs form) ≡ true → is_form form ≡ true
   sign_form = six-6 (is_blank form) (is_word form) (is_real form) (is_natural form) (is_text form) (is_some (kind_in signs form))
 
+-- no form is longer than this one where it stands, before what follows it
+abbrev pub IsLongest : List ℕ → List ℕ → Type 0
+IsLongest form after =
+    (other rest : List ℕ) → other ++ rest ≡ form ++ after → is_form other ≡ true → length other ≤ length form
+
+-- what is a blank or has a kind is a form
+some_form : (blank word real natural text : Bool) (of_word of_sign : Option TokenKind)
+    → (blank || is_some (cond word of_word (cond real (Some Real) (cond natural (Some Natural) (cond text (Some Text) of_sign))))) ≡ true
+    → (blank || word || real || natural || text || is_some of_sign) ≡ true
+some_form true word real natural text of_word of_sign e = refl
+some_form false true real natural text of_word of_sign e = refl
+some_form false false true natural text of_word of_sign e = refl
+some_form false false false true text of_word of_sign e = refl
+some_form false false false false true of_word of_sign e = refl
+some_form false false false false false of_word of_sign e = e
+
+pub piece_form : (form after : List ℕ) → IsPiece form after → is_form form ≡ true
+piece_form form after p =
+    some_form (is_blank form) (is_word form) (is_real form) (is_natural form) (is_text form) (word_kind form) (kind_in signs form) p.taken
+
 comment_lead : (c : ℕ) (o : List ℕ) → is_comment (c ∷ o) ≡ true → lead c ≡ other
 comment_lead c [] e = absurd (false≢true e)
 comment_lead c (d ∷ o) e =
@@ -230,19 +252,19 @@ comment_lead c (d ∷ o) e =
     lead-at c 47 other (and_parts (eqb c 47) (eqb d 47) p.0).0 refl
 
 real_lead : (c : ℕ) (o : List ℕ) → is_real (c ∷ o) ≡ true → (lead c ≡ digit) ⊎ (lead c ≡ point)
-real_lead c o e = elim (cases_Bool (is_digit c)) [
+real_lead c o e = elim (cases_Bool (is_ascii_digit c)) [
   | inl d ↦ inl (lead-digit c d)
   | inr d ↦
       (let i : is_fraction false (c ∷ o) ≡ true = rw d at e in
-      let p : ((eqb c 46 && begins is_digit o) ≡ true) × (is_exponent (following is_digit o) ≡ true) =
-      and_parts (eqb c 46 && begins is_digit o) (is_exponent (following is_digit o)) i in
-      inr (lead-at c 46 point (and_parts (eqb c 46) (begins is_digit o) p.0).0 refl))
+      let p : ((eqb c 46 && begins is_ascii_digit o) ≡ true) × (is_exponent (following is_ascii_digit o) ≡ true) =
+      and_parts (eqb c 46 && begins is_ascii_digit o) (is_exponent (following is_ascii_digit o)) i in
+      inr (lead-at c 46 point (and_parts (eqb c 46) (begins is_ascii_digit o) p.0).0 refl))
 ]
 
 natural_lead : (c : ℕ) (o : List ℕ) → is_natural (c ∷ o) ≡ true → lead c ≡ digit
 natural_lead c o e = elim (cases_Bool (eqb c 48)) [
   | inl z ↦ lead-at c 48 digit z refl
-  | inr z ↦ (let i : (is_digit c && list_all is_digit o) ≡ true = rw z at e in lead-digit c (and_parts (is_digit c) (list_all is_digit o) i).0)
+  | inr z ↦ (let i : (is_ascii_digit c && list_all is_ascii_digit o) ≡ true = rw z at e in lead-digit c (and_parts (is_ascii_digit c) (list_all is_ascii_digit o) i).0)
 ]
 
 none_since : {T : Type 0} (o : Option T) → (is_some o ≡ true → ⊥) → o ≡ None
@@ -276,7 +298,7 @@ module _ (c : ℕ) (o : List ℕ) where
   ]
 
   pub digit_only : lead c ≡ digit → Seen c o
-      → (is_fraction (begins is_digit (c ∷ o)) (following is_digit (c ∷ o)) ≡ true) ⊎ ((list_all is_digit (c ∷ o) ≡ true) × (is_natural (c ∷ o) ≡ true))
+      → (is_fraction (begins is_ascii_digit (c ∷ o)) (following is_ascii_digit (c ∷ o)) ≡ true) ⊎ ((list_all is_ascii_digit (c ∷ o) ≡ true) × (is_natural (c ∷ o) ≡ true))
   digit_only is s = elim s [
     | as_white l n ↦ cc
     | as_comment l h ↦ cc
@@ -288,7 +310,7 @@ module _ (c : ℕ) (o : List ℕ) where
     | as_sign l h i ↦ cc
   ]
 
-  pub point_only : lead c ≡ point → Seen c o → (begins is_digit o ≡ true) × (is_exponent (following is_digit o) ≡ true)
+  pub point_only : lead c ≡ point → Seen c o → (begins is_ascii_digit o ≡ true) × (is_exponent (following is_ascii_digit o) ≡ true)
   point_only is s = elim s [
     | as_white l n ↦ cc
     | as_comment l h ↦ cc
@@ -333,7 +355,7 @@ module _ (c : ℕ) (o : List ℕ) where
   ])
 
   pub no_word : (lead c ≡ letter → ⊥) → is_word (c ∷ o) ≡ false
-  no_word n = false_from_ne_true (is_word (c ∷ o)) (λ e. n (lead-letter c (and_parts (is_letter c) (list_all is_word_byte o) e).0))
+  no_word n = false_from_ne_true (is_word (c ∷ o)) (λ e. n (lead-letter c (and_parts (is_ascii_alphabetic c) (list_all is_word_byte o) e).0))
 
   pub no_real : (lead c ≡ digit → ⊥) → (lead c ≡ point → ⊥) → is_real (c ∷ o) ≡ false
   no_real m n = false_from_ne_true (is_real (c ∷ o)) (λ e. elim (real_lead c o e) [ inl d ↦ m d | inr d ↦ n d ])

@@ -18,11 +18,8 @@ module _ (text : List ℕ) (place : ℕ) (here : place < length text) (o : Optio
       (first_piece_is (drop place text) (omega (arith, length-drop place text)))
 
   pub bad_here : (tokens : List Lexeme) → o ≡ None → IsCutUpTo 0 text (drop place text) tokens → IsBadByte text place
-  bad_here tokens is c = record {
-    tokens = tokens;
-    before = c;
-    stuck = (omega (arith, length-drop place text), subst (λ p. IsFirstPiece (drop place text) p) is first_of_rest);
-  }
+  bad_here tokens is c =
+      (tokens, c, (omega (arith, length-drop place text), subst (λ p. IsFirstPiece (drop place text) p) is first_of_rest))
 
   module _ (sort : Sort) (count : ℕ) (is : o ≡ Some (sort, count)) where
     first_is : IsFirst (drop place text) sort count

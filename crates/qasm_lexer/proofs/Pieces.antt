@@ -6,17 +6,18 @@ use Rattle.std.proofs.lemmas.Bool.{false≢true, or_parts, and_parts, and_from, 
 use Rattle.std.proofs.lemmas.List.{nil_from_length, take-append-drop, length-take-le}
 use Rattle.qasm_lexer.specs.declared.token.TokenKind.{TokenKind}
 use Rattle.qasm_lexer.specs.declared.token.TokenKind.TheVariants.{Real, Natural, Text}
-use Rattle.qasm_lexer.specs.Forms.{following, begins, is_digit, is_letter, is_space, is_no_feed, is_word_byte, is_white, is_comment, is_natural, is_real, is_fraction, is_exponent, is_text, is_closed, is_empty}
-use Rattle.qasm_lexer.specs.Tokens.{signs, kind_in, kind_of, word_kind, is_blank, is_form, IsLongest, IsPiece}
+use Rattle.std.specs.Char.{is_ascii_digit, is_ascii_alphabetic}
+use Rattle.qasm_lexer.specs.Forms.{following, begins, is_space, is_no_feed, is_word_byte, is_white, is_comment, is_natural, is_real, is_fraction, is_exponent, is_text, is_closed, is_empty}
+use Rattle.qasm_lexer.specs.Tokens.{signs, kind_in, kind_of, word_kind, is_blank, is_form, IsPiece}
 use Rattle.qasm_lexer.specs.Internal.FirstPiece.{is_inside, fraction_len, is_plain}
 use Rattle.qasm_lexer.proofs.Runs.{run_longest, prefix_len_through, after_through, after_stopped, after_all}
 use Rattle.qasm_lexer.proofs.Reals.{real_longest, real_is, real_fits, begins_fraction, fraction_longest, fraction_is, fraction_fits}
-use Rattle.qasm_lexer.proofs.Leads.{table_all, white, digit, other, lead, lead-space, lead-letter, lead-digit, Seen, seen, white_only, letter_only, digit_only, point_only, quote_only, other_only, no_word, no_real, no_natural, no_text, no_sign, sign_lead, kind-word, kind-real, kind-natural, kind-text, kind-sign, blank_form, word_form, real_form, natural_form, text_form, sign_form}
+use Rattle.qasm_lexer.proofs.Leads.{table_all, white, digit, other, lead, lead-space, lead-letter, lead-digit, Seen, seen, white_only, letter_only, digit_only, point_only, quote_only, other_only, no_word, no_real, no_natural, no_text, no_sign, sign_lead, kind-word, kind-real, kind-natural, kind-text, kind-sign, IsLongest}
 
 -- the longest, from what its first byte begins
-longest_by : (b : ℕ) (p after : List ℕ) → is_form (b ∷ p) ≡ true
+longest_by : (b : ℕ) (p after : List ℕ)
     → ((o rest : List ℕ) → o ++ rest ≡ p ++ after → Seen b o → length o ≤ length p) → IsLongest (b ∷ p) after
-longest_by b p after is most = record { is = is; longest = each } where
+longest_by b p after most = each where
   each : (form rest : List ℕ) → form ++ rest ≡ (b ∷ p) ++ after → is_form form ≡ true → length form ≤ length (b ∷ p)
   each [] rest e f = omega arith
   each (c ∷ o) rest e f =
@@ -41,7 +42,7 @@ pub white_piece : (b : ℕ) (after : List ℕ) → is_space b ≡ true → IsPie
 white_piece b after e =
     let w : is_blank (b ∷ []) ≡ true = or_left (is_white (b ∷ [])) (is_comment (b ∷ [])) (and_from (is_space b) true e refl) in
     record {
-      longest = longest_by b [] after (blank_form (b ∷ []) w) (λ o rest t s. omega (arith, ap length (white_only b o (lead-space b e) s)));
+      longest = longest_by b [] after (λ o rest t s. omega (arith, ap length (white_only b o (lead-space b e) s)));
       taken = or_left (is_blank (b ∷ [])) (is_some (kind_of (b ∷ []))) w;
     }
 
@@ -57,7 +58,7 @@ comment_piece p after e stop =
     let c : is_comment (47 ∷ 47 ∷ p) ≡ true = e in
     let w : is_blank (47 ∷ 47 ∷ p) ≡ true = or_right (is_white (47 ∷ 47 ∷ p)) (is_comment (47 ∷ 47 ∷ p)) c in
     record {
-      longest = longest_by 47 (47 ∷ p) after (blank_form (47 ∷ 47 ∷ p) w) (λ o rest t s. elim (other_only 47 o refl s) [
+      longest = longest_by 47 (47 ∷ p) after (λ o rest t s. elim (other_only 47 o refl s) [
         | inl f ↦ run_stopped is_no_feed o rest (47 ∷ p) after t (no_feed o f) e stop
         | inr f ↦ omega (arith, f.0)
       ]);
@@ -70,52 +71,52 @@ comment_piece p after e stop =
           rw (eqb-true d 47 q.0) q.1
 
 -- a word, before a byte that no word has, or the end
-pub word_longest : (b : ℕ) (p after : List ℕ) → is_letter b ≡ true → list_all is_word_byte p ≡ true → begins is_word_byte after ≡ false
+pub word_longest : (b : ℕ) (p after : List ℕ) → is_ascii_alphabetic b ≡ true → list_all is_word_byte p ≡ true → begins is_word_byte after ≡ false
     → IsLongest (b ∷ p) after
 word_longest b p after e all stop =
-    longest_by b p after (word_form (b ∷ p) (and_from (is_letter b) (list_all is_word_byte p) e all)) (λ o rest t s.
+    longest_by b p after (λ o rest t s.
     run_stopped is_word_byte o rest p after t (and_parts (is_word_byte b) (list_all is_word_byte o) (letter_only b o (lead-letter b e) s)).1 all stop)
 
-pub word_piece : (b : ℕ) (p after : List ℕ) (kind : TokenKind) → is_letter b ≡ true → list_all is_word_byte p ≡ true → begins is_word_byte after ≡ false
+pub word_piece : (b : ℕ) (p after : List ℕ) (kind : TokenKind) → is_ascii_alphabetic b ≡ true → list_all is_word_byte p ≡ true → begins is_word_byte after ≡ false
     → word_kind (b ∷ p) ≡ Some kind → IsPiece (b ∷ p) after × (kind_of (b ∷ p) ≡ Some kind)
 word_piece b p after kind e all stop is =
-    let k : kind_of (b ∷ p) ≡ Some kind = kind-word (b ∷ p) (and_from (is_letter b) (list_all is_word_byte p) e all) ∙ is in
+    let k : kind_of (b ∷ p) ≡ Some kind = kind-word (b ∷ p) (and_from (is_ascii_alphabetic b) (list_all is_word_byte p) e all) ∙ is in
     (record { longest = word_longest b p after e all stop; taken = taken_by_kind (b ∷ p) kind k }, k)
 
 -- what doesn't go on as a number: no digit and no point
 abbrev pub ends_number : List ℕ → Bool
 ends_number [] = true
-ends_number (b ∷ rest) = not (is_digit b) && not (eqb b 46)
+ends_number (b ∷ rest) = not (is_ascii_digit b) && not (eqb b 46)
 
-ends_digits : (after : List ℕ) → ends_number after ≡ true → begins is_digit after ≡ false
+ends_digits : (after : List ℕ) → ends_number after ≡ true → begins is_ascii_digit after ≡ false
 ends_digits [] e = refl
-ends_digits (b ∷ rest) e = not-true (is_digit b) (and_parts (not (is_digit b)) (not (eqb b 46)) e).0
+ends_digits (b ∷ rest) e = not-true (is_ascii_digit b) (and_parts (not (is_ascii_digit b)) (not (eqb b 46)) e).0
 
 -- no real begins where no point follows the digits
-no_real_here : (some : Bool) (form rest ds after : List ℕ) → form ++ rest ≡ ds ++ after → list_all is_digit ds ≡ true → ends_number after ≡ true
-    → is_fraction some (following is_digit form) ≡ true → ⊥
+no_real_here : (some : Bool) (form rest ds after : List ℕ) → form ++ rest ≡ ds ++ after → list_all is_ascii_digit ds ≡ true → ends_number after ≡ true
+    → is_fraction some (following is_ascii_digit form) ≡ true → ⊥
 no_real_here some form rest ds after e all ends real =
-    let r : (r : List ℕ) × (following is_digit (form ++ rest) ≡ 46 ∷ r) × (length form ≤ _) = real_longest some form rest real in
+    let r : (r : List ℕ) × (following is_ascii_digit (form ++ rest) ≡ 46 ∷ r) × (length form ≤ _) = real_longest some form rest real in
     let is : after ≡ 46 ∷ r.0 =
-    sym (after_stopped is_digit after (ends_digits after ends)) ∙ sym (after_through is_digit ds after all) ∙ ap (following is_digit) (sym e) ∙ r.1 in
+    sym (after_stopped is_ascii_digit after (ends_digits after ends)) ∙ sym (after_through is_ascii_digit ds after all) ∙ ap (following is_ascii_digit) (sym e) ∙ r.1 in
     false≢true (let k : ends_number (46 ∷ r.0) ≡ true = subst (λ s. ends_number s ≡ true) is ends in k)
 
-natural_kind : (b : ℕ) (p : List ℕ) → list_all is_digit (b ∷ p) ≡ true → is_natural (b ∷ p) ≡ true → kind_of (b ∷ p) ≡ Some Natural
+natural_kind : (b : ℕ) (p : List ℕ) → list_all is_ascii_digit (b ∷ p) ≡ true → is_natural (b ∷ p) ≡ true → kind_of (b ∷ p) ≡ Some Natural
 natural_kind b p all e =
-    let l : lead b ≡ digit = lead-digit b (and_parts (is_digit b) (list_all is_digit p) all).0 in
-    let r : is_real (b ∷ p) ≡ false = ap (is_fraction (begins is_digit (b ∷ p))) (after_all is_digit (b ∷ p) all) in
+    let l : lead b ≡ digit = lead-digit b (and_parts (is_ascii_digit b) (list_all is_ascii_digit p) all).0 in
+    let r : is_real (b ∷ p) ≡ false = ap (is_fraction (begins is_ascii_digit (b ∷ p))) (after_all is_ascii_digit (b ∷ p) all) in
     kind-natural (b ∷ p) (no_word b p (λ m. cc)) r e
 
 -- a natural, before what doesn't go on as a number
-pub natural_piece : (b : ℕ) (p after : List ℕ) → list_all is_digit (b ∷ p) ≡ true → is_natural (b ∷ p) ≡ true → ends_number after ≡ true
+pub natural_piece : (b : ℕ) (p after : List ℕ) → list_all is_ascii_digit (b ∷ p) ≡ true → is_natural (b ∷ p) ≡ true → ends_number after ≡ true
     → IsPiece (b ∷ p) after × (kind_of (b ∷ p) ≡ Some Natural)
 natural_piece b p after all e ends =
-    let d : (is_digit b ≡ true) × (list_all is_digit p ≡ true) = and_parts (is_digit b) (list_all is_digit p) all in
+    let d : (is_ascii_digit b ≡ true) × (list_all is_ascii_digit p ≡ true) = and_parts (is_ascii_digit b) (list_all is_ascii_digit p) all in
     let k : kind_of (b ∷ p) ≡ Some Natural = natural_kind b p all e in (
       record {
-        longest = longest_by b p after (natural_form (b ∷ p) e) (λ o rest t s. elim (digit_only b o (lead-digit b d.0) s) [
-          | inl r ↦ absurd (no_real_here (begins is_digit (b ∷ o)) (b ∷ o) rest (b ∷ p) after (ap (λ x. b ∷ x) t) all ends r)
-          | inr n ↦ run_stopped is_digit o rest p after t (and_parts (is_digit b) (list_all is_digit o) n.0).1 d.1 (ends_digits after ends)
+        longest = longest_by b p after (λ o rest t s. elim (digit_only b o (lead-digit b d.0) s) [
+          | inl r ↦ absurd (no_real_here (begins is_ascii_digit (b ∷ o)) (b ∷ o) rest (b ∷ p) after (ap (λ x. b ∷ x) t) all ends r)
+          | inr n ↦ run_stopped is_ascii_digit o rest p after t (and_parts (is_ascii_digit b) (list_all is_ascii_digit o) n.0).1 d.1 (ends_digits after ends)
         ]);
         taken = taken_by_kind (b ∷ p) Natural k;
       },
@@ -123,11 +124,11 @@ natural_piece b p after all e ends =
     )
 
 -- a zero, before digits that no point follows
-pub zero_piece : (ds after : List ℕ) → list_all is_digit ds ≡ true → ends_number after ≡ true
+pub zero_piece : (ds after : List ℕ) → list_all is_ascii_digit ds ≡ true → ends_number after ≡ true
     → IsPiece (48 ∷ []) (ds ++ after) × (kind_of (48 ∷ []) ≡ Some Natural)
 zero_piece ds after all ends = (
   record {
-    longest = longest_by 48 [] (ds ++ after) (natural_form (48 ∷ []) refl) (λ o rest t s. elim (digit_only 48 o refl s) [
+    longest = longest_by 48 [] (ds ++ after) (λ o rest t s. elim (digit_only 48 o refl s) [
       | inl r ↦ absurd (no_real_here true (48 ∷ o) rest (48 ∷ ds) after (ap (λ x. 48 ∷ x) t) all ends r)
       | inr n ↦ no_more o n.1
     ]);
@@ -170,7 +171,7 @@ text_piece q after e =
     let f : is_text (34 ∷ (q ++ 34 ∷ [])) ≡ true = closed_run q e in
     let k : kind_of (34 ∷ (q ++ 34 ∷ [])) ≡ Some Text = kind-text (34 ∷ (q ++ 34 ∷ [])) refl refl refl f in (
       record {
-        longest = longest_by 34 (q ++ 34 ∷ []) after (text_form (34 ∷ (q ++ 34 ∷ [])) f) (λ o rest t s. no_longer o rest t (quote_only 34 o refl s));
+        longest = longest_by 34 (q ++ 34 ∷ []) after (λ o rest t s. no_longer o rest t (quote_only 34 o refl s));
         taken = taken_by_kind (34 ∷ (q ++ 34 ∷ [])) Text k;
       },
       k,
@@ -233,7 +234,7 @@ short_sign_piece a after kind e ends =
     let l : lead a ≡ other = (sign_lead a [] (ap is_some e)).0 in
     let k : kind_of (a ∷ []) ≡ Some kind = sign_kind a [] l ∙ e in (
       record {
-        longest = longest_by a [] after (sign_form (a ∷ []) (ap is_some e))
+        longest = longest_by a [] after
             (λ o rest t s. omega (arith, ap length (longer_sign a o rest after t ends (other_only a o l s))));
         taken = taken_by_kind (a ∷ []) kind k;
       },
@@ -247,7 +248,7 @@ long_sign_piece a b after kind e apart =
     let l : lead a ≡ other = (sign_lead a (b ∷ []) (ap is_some e)).0 in
     let k : kind_of (a ∷ b ∷ []) ≡ Some kind = sign_kind a (b ∷ []) l ∙ e in (
       record {
-        longest = longest_by a (b ∷ []) after (sign_form (a ∷ b ∷ []) (ap is_some e)) (λ o rest t s. elim (other_only a o l s) [
+        longest = longest_by a (b ∷ []) after (λ o rest t s. elim (other_only a o l s) [
           | inl c ↦ absurd (comment_here o rest t c)
           | inr s ↦ omega (arith, s.0)
         ]);
@@ -262,14 +263,14 @@ long_sign_piece a b after kind e apart =
           both_ways (eqb a 47 && eqb b 47) apart (subst (λ x. (eqb a 47 && eqb x 47) ≡ true) k (no_comment a d o c))
 
 -- a real with digits before its point
-pub real_piece : (b : ℕ) (u r : List ℕ) (n : ℕ) → is_digit b ≡ true → following is_digit (b ∷ u) ≡ 46 ∷ r → n ≡ prefix_len is_digit (b ∷ u) + fraction_len r
+pub real_piece : (b : ℕ) (u r : List ℕ) (n : ℕ) → is_ascii_digit b ≡ true → following is_ascii_digit (b ∷ u) ≡ 46 ∷ r → n ≡ prefix_len is_ascii_digit (b ∷ u) + fraction_len r
     → IsPiece (b ∷ take n u) (drop n u) × (kind_of (b ∷ take n u) ≡ Some Real)
 real_piece b u r n d is n_is =
     let f : is_real (b ∷ take n u) ≡ true = subst (λ k. is_real (b ∷ take k u) ≡ true) (sym n_is) (real_is (b ∷ u) r d is) in
     let l : lead b ≡ digit = lead-digit b d in
     let k : kind_of (b ∷ take n u) ≡ Some Real = kind-real (b ∷ take n u) (no_word b (take n u) (λ m. cc)) f in (
       record {
-        longest = longest_by b (take n u) (drop n u) (real_form (b ∷ take n u) f) (λ o rest t s.
+        longest = longest_by b (take n u) (drop n u) (λ o rest t s.
             no_longer o rest (ap (λ x. b ∷ x) (t ∙ take-append-drop n u)) (digit_only b o l s));
         taken = taken_by_kind (b ∷ take n u) Real k;
       },
@@ -279,27 +280,27 @@ real_piece b u r n d is n_is =
       fits = omega (arith, real_fits (b ∷ u) r is)
 
       no_longer : (o rest : List ℕ) → (b ∷ o) ++ rest ≡ b ∷ u
-          → (is_fraction (begins is_digit (b ∷ o)) (following is_digit (b ∷ o)) ≡ true) ⊎ ((list_all is_digit (b ∷ o) ≡ true) × (is_natural (b ∷ o) ≡ true))
+          → (is_fraction (begins is_ascii_digit (b ∷ o)) (following is_ascii_digit (b ∷ o)) ≡ true) ⊎ ((list_all is_ascii_digit (b ∷ o) ≡ true) × (is_natural (b ∷ o) ≡ true))
           → length o ≤ length (take n u)
       no_longer o rest t f = elim f [
         | inl real ↦
-            (let h : (x : List ℕ) × (following is_digit ((b ∷ o) ++ rest) ≡ 46 ∷ x) × (length (b ∷ o) ≤ prefix_len is_digit ((b ∷ o) ++ rest) + suc (fraction_len x)) =
-            real_longest (begins is_digit (b ∷ o)) (b ∷ o) rest real in
-            let same : 46 ∷ h.0 ≡ 46 ∷ r = sym h.1 ∙ ap (following is_digit) t ∙ is in
+            (let h : (x : List ℕ) × (following is_ascii_digit ((b ∷ o) ++ rest) ≡ 46 ∷ x) × (length (b ∷ o) ≤ prefix_len is_ascii_digit ((b ∷ o) ++ rest) + suc (fraction_len x)) =
+            real_longest (begins is_ascii_digit (b ∷ o)) (b ∷ o) rest real in
+            let same : 46 ∷ h.0 ≡ 46 ∷ r = sym h.1 ∙ ap (following is_ascii_digit) t ∙ is in
             let x_is : h.0 ≡ r = cc in
-            omega (arith, h.2, ap fraction_len x_is, ap (prefix_len is_digit) t, n_is, length-take-le n u fits))
-        | inr natural ↦ omega (arith, run_longest is_digit (b ∷ o) rest natural.0, ap (prefix_len is_digit) t, n_is, length-take-le n u fits)
+            omega (arith, h.2, ap fraction_len x_is, ap (prefix_len is_ascii_digit) t, n_is, length-take-le n u fits))
+        | inr natural ↦ omega (arith, run_longest is_ascii_digit (b ∷ o) rest natural.0, ap (prefix_len is_ascii_digit) t, n_is, length-take-le n u fits)
       ]
 
 -- a real with none
-pub point_piece : (r : List ℕ) → begins is_digit r ≡ true
+pub point_piece : (r : List ℕ) → begins is_ascii_digit r ≡ true
     → IsPiece (46 ∷ take (fraction_len r) r) (drop (fraction_len r) r) × (kind_of (46 ∷ take (fraction_len r) r) ≡ Some Real)
 point_piece r e =
     let x : List ℕ = take (fraction_len r) r in
-    let f : is_real (46 ∷ x) ≡ true = and_from (begins is_digit x) (is_exponent (following is_digit x)) (begins_fraction r e) (fraction_is r) in
+    let f : is_real (46 ∷ x) ≡ true = and_from (begins is_ascii_digit x) (is_exponent (following is_ascii_digit x)) (begins_fraction r e) (fraction_is r) in
     let k : kind_of (46 ∷ x) ≡ Some Real = kind-real (46 ∷ x) refl f in (
       record {
-        longest = longest_by 46 x (drop (fraction_len r) r) (real_form (46 ∷ x) f) (λ o rest t s.
+        longest = longest_by 46 x (drop (fraction_len r) r) (λ o rest t s.
             omega (arith, fraction_longest o rest (point_only 46 o refl s).1, ap fraction_len (t ∙ take-append-drop (fraction_len r) r), length-take-le (fraction_len r) r (fraction_fits r)));
         taken = taken_by_kind (46 ∷ x) Real k;
       },

@@ -1,24 +1,13 @@
 -- What may stand as one piece in an OpenQASM text: white space, comments, words, numbers, texts and signs.
 -- The tokens are those of the appendix of Cross, Bishop, Smolin, Gambetta, "Open quantum assembly language"
 -- (arXiv 1707.03429): identifiers, keywords, nonnegative integers, reals, file names and signs.
-use Rattle.std.specs.Prelude.{ℕ, Bool, true, false, not, ◌&&◌, ◌||◌, ◌==◌, nat_le, List, [], ◌∷◌, if◌then◌else◌}
+use Rattle.std.specs.Prelude.{ℕ, Bool, true, false, not, ◌&&◌, ◌||◌, ◌==◌, List, [], ◌∷◌, if◌then◌else◌}
+use Rattle.std.specs.Char.{is_ascii_digit, is_ascii_alphabetic}
 use Rattle.std.specs.List.{list_all}
-
-abbrev pub is_digit : ℕ → Bool
-is_digit b = nat_le 48 b && nat_le b 57
-
-abbrev pub is_small_letter : ℕ → Bool
-is_small_letter b = nat_le 97 b && nat_le b 122
-
-abbrev pub is_capital : ℕ → Bool
-is_capital b = nat_le 65 b && nat_le b 90
-
-abbrev pub is_letter : ℕ → Bool
-is_letter b = is_small_letter b || is_capital b
 
 -- letters, digits and `_`
 abbrev pub is_word_byte : ℕ → Bool
-is_word_byte b = is_letter b || is_digit b || b == 95
+is_word_byte b = is_ascii_alphabetic b || is_ascii_digit b || b == 95
 
 -- space, tab, carriage return and line feed
 abbrev pub is_space : ℕ → Bool
@@ -44,12 +33,12 @@ is_comment form = false
 -- [A-Za-z][A-Za-z0-9_]*
 abbrev pub is_word : List ℕ → Bool
 is_word [] = false
-is_word (b ∷ rest) = is_letter b && list_all is_word_byte rest
+is_word (b ∷ rest) = is_ascii_alphabetic b && list_all is_word_byte rest
 
 -- 0|[1-9][0-9]*
 abbrev pub is_natural : List ℕ → Bool
 is_natural [] = false
-is_natural (b ∷ rest) = if b == 48 then is_empty rest else is_digit b && list_all is_digit rest
+is_natural (b ∷ rest) = if b == 48 then is_empty rest else is_ascii_digit b && list_all is_ascii_digit rest
 
 -- what follows the bytes at the start that pass a test
 abbrev pub following : (ℕ → Bool) → List ℕ → List ℕ
@@ -62,7 +51,7 @@ begins test (b ∷ rest) = test b
 
 -- [0-9]+
 abbrev pub are_digits : List ℕ → Bool
-are_digits bytes = begins is_digit bytes && list_all is_digit bytes
+are_digits bytes = begins is_ascii_digit bytes && list_all is_ascii_digit bytes
 
 -- e or E
 abbrev pub is_mark : ℕ → Bool
@@ -86,11 +75,11 @@ is_exponent (b ∷ rest) = is_mark b && are_digits (after_sign rest)
 abbrev pub is_fraction : Bool → List ℕ → Bool
 is_fraction digits_before [] = false
 is_fraction digits_before (b ∷ rest) =
-    b == 46 && (digits_before || begins is_digit rest) && is_exponent (following is_digit rest)
+    b == 46 && (digits_before || begins is_ascii_digit rest) && is_exponent (following is_ascii_digit rest)
 
 -- ([0-9]+\.[0-9]*|[0-9]*\.[0-9]+)([eE][-+]?[0-9]+)?
 abbrev pub is_real : List ℕ → Bool
-is_real form = is_fraction (begins is_digit form) (following is_digit form)
+is_real form = is_fraction (begins is_ascii_digit form) (following is_ascii_digit form)
 
 -- bytes other than `"` and a line feed, and a `"` at the end
 abbrev pub is_closed : List ℕ → Bool

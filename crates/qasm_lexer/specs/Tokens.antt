@@ -4,7 +4,7 @@
 use Rattle.std.specs.Prelude.{◌≡◌, ◌<◌, ◌≤◌, ℕ, ◌+◌, Bool, false, ◌||◌, IsTrue, List, [], ◌∷◌, ◌++◌, length, drop, map}
 use Rattle.std.specs.Prelude.{codes, Option, None, Some, is_some, if◌then◌else◌, slice_range}
 use Rattle.std.specs.List.{concat}
-use Rattle.std.specs.Option.{option_map, option_to_list}
+use Rattle.std.specs.Option.{option_map, option_or, option_to_list}
 use Rattle.std.specs.Str.{bytes_eq}
 use Rattle.qasm_lexer.specs.declared.token.Token.{Token}
 use Rattle.qasm_lexer.specs.declared.token.TokenKind.{TokenKind}
@@ -14,7 +14,8 @@ use Rattle.qasm_lexer.specs.declared.token.TokenKind.TheVariants.{Ln, Sqrt, Iden
 use Rattle.qasm_lexer.specs.declared.token.TokenKind.TheVariants.{Comma, LeftParenthesis, RightParenthesis, LeftBracket}
 use Rattle.qasm_lexer.specs.declared.token.TokenKind.TheVariants.{RightBracket, LeftBrace, RightBrace, Plus, Minus}
 use Rattle.qasm_lexer.specs.declared.token.TokenKind.TheVariants.{Star, Slash, Caret, Arrow, Equals}
-use Rattle.qasm_lexer.specs.Forms.{is_small_letter, begins, is_white, is_comment, is_word, is_natural, is_real, is_text}
+use Rattle.std.specs.Char.{is_ascii_lowercase}
+use Rattle.qasm_lexer.specs.Forms.{begins, is_white, is_comment, is_word, is_natural, is_real, is_text}
 
 -- the words with a kind of their own
 abbrev pub words : List (List ℕ × TokenKind)
@@ -41,12 +42,8 @@ kind_in [] form = None
 kind_in (row ∷ rows) form = if bytes_eq form row.0 then Some row.1 else kind_in rows form
 
 -- a word that begins with a small letter is an identifier where it isn't a keyword; another has no kind
-abbrev pub kind_or_identifier : Option TokenKind → List ℕ → Option TokenKind
-kind_or_identifier (Some kind) word = Some kind
-kind_or_identifier None word = if begins is_small_letter word then Some Identifier else None
-
 abbrev pub word_kind : List ℕ → Option TokenKind
-word_kind word = kind_or_identifier (kind_in words word) word
+word_kind word = option_or (kind_in words word) (if begins is_ascii_lowercase word then Some Identifier else None)
 
 -- the kind of token that a form is; none for white space, comments, and words that are no token
 abbrev pub kind_of : List ℕ → Option TokenKind
@@ -64,16 +61,11 @@ abbrev pub is_form : List ℕ → Bool
 is_form form =
     is_blank form || is_word form || is_real form || is_natural form || is_text form || is_some (kind_in signs form)
 
--- a form, and the longest of those at the start of what begins with it and goes on with `after`
-pub record IsLongest (form after : List ℕ) : Type 0 where
-  pub is : IsTrue (is_form form)
+-- a blank or a token, and the longest form at the start of what begins with it and goes on with `after`
+pub record IsPiece (form after : List ℕ) : Type 0 where
+  pub taken : IsTrue (is_blank form || is_some (kind_of form))
   pub longest : (other rest : List ℕ) → other ++ rest ≡ form ++ after → IsTrue (is_form other) →
       length other ≤ length form
-
--- such a form is a piece, but for a word that is no token
-pub record IsPiece (form after : List ℕ) : Type 0 where
-  pub longest : IsLongest form after
-  pub taken : IsTrue (is_blank form || is_some (kind_of form))
 
 -- pieces one after the other, and `after` after the last
 abbrev pub ArePieces : List (List ℕ) → List ℕ → Type 0
@@ -123,10 +115,8 @@ abbrev pub HasNoPiece : List ℕ → Type 0
 HasNoPiece rest = (0 < length rest) × ((form after : List ℕ) → form ++ after ≡ rest → IsPiece form after → ⊥)
 
 -- the text is cut into pieces up to a place where no piece begins
-pub record IsBadByte (text : List ℕ) (at : ℕ) : Type 0 where
-  pub tokens : List Lexeme
-  pub before : IsCutUpTo 0 text (drop at text) tokens
-  pub stuck : HasNoPiece (drop at text)
+abbrev pub IsBadByte : List ℕ → ℕ → Type 0
+IsBadByte text at = (tokens : List Lexeme) × IsCutUpTo 0 text (drop at text) tokens × HasNoPiece (drop at text)
 
 -- each token's text is what the text has at its place, and each begins where the one before it has ended, or later
 abbrev pub AreInPlace : ℕ → List ℕ → List Lexeme → Type 0

@@ -2,7 +2,8 @@
 
 ghost use Rattle.std.specs.Prelude.{◌≡◌, ◌+◌, ◌<◌, ◌≤◌, ◌∷◌, Some, length, IfSome};
 ghost use Rattle.std.specs.List.{prefix_len};
-ghost use Rattle.qasm_lexer.specs.Forms.{is_digit, is_letter, is_word_byte, is_no_feed};
+ghost use Rattle.std.specs.Char.{is_ascii_digit, is_ascii_alphabetic};
+ghost use Rattle.qasm_lexer.specs.Forms.{is_word_byte, is_no_feed};
 ghost use Rattle.qasm_lexer.specs.Internal.FirstPiece.{word_piece, sign_len, exponent_len, fraction_len, number_piece, point_piece, is_inside, text_piece, plain_piece, sign_piece, first_piece};
 
 use crate::tables::{long_sign, short_sign, word_kind};
@@ -75,7 +76,7 @@ fn point_piece(rest: &[u8]) -> Option<(Sort, usize)>
 
 // How many digits stand at the start.
 fn digits(text: &[u8]) -> usize
-    ensures count { result ≡ prefix_len is_digit text.now }
+    ensures count { result ≡ prefix_len is_ascii_digit text.now }
     ensures within { result ≤ length text.now }
 {
     text.iter().take_while(|b| is_digit(**b)).count()
@@ -166,13 +167,13 @@ fn line(text: &[u8]) -> usize
 }
 
 fn is_letter(byte: u8) -> bool
-    ensures { result ≡ is_letter byte }
+    ensures { result ≡ is_ascii_alphabetic byte }
 {
     byte.is_ascii_alphabetic()
 }
 
 fn is_digit(byte: u8) -> bool
-    ensures { result ≡ is_digit byte }
+    ensures { result ≡ is_ascii_digit byte }
 {
     byte.is_ascii_digit()
 }

@@ -1,7 +1,7 @@
 //! The words and signs of the language.
 
 ghost use Rattle.std.specs.Prelude.{◌≡◌, ◌∷◌, [], map};
-ghost use Rattle.qasm_lexer.specs.Tokens.{words, signs, kind_in, kind_or_identifier, word_kind};
+ghost use Rattle.qasm_lexer.specs.Tokens.{words, signs, kind_in, word_kind};
 ghost use Rattle.std.specs.Str.{bytes_eq};
 
 use crate::token::TokenKind;

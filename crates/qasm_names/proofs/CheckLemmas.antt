@@ -13,8 +13,9 @@ use Rattle.qasm_names.specs.Places.{unplaced, place_in, has_unplaced, placed, Ar
 use Rattle.qasm_scope.specs.declared.causes.Cause.{Cause}
 use Rattle.qasm_names.specs.Internal.Registers.{register_cause}
 use Rattle.qasm_names.specs.Kept.{found, symbol_of, symbol_shape, number_in, called_for, kept_calls, symbol_taken, IsSound, IsSoundGate}
-use Rattle.qasm_scope.specs.Faults.{shape_of, is_no_gate, is_in, is_hidden, has_other_name, body_has_unknown, body_has_wrong_count, has_other_shape, wrong_in, has_name_twice, body_is_unsupported, body_has_same_qubit}
+use Rattle.qasm_scope.specs.Faults.{shape_of, is_no_gate, is_in, is_hidden, has_other_name, body_has_unknown, body_has_wrong_count, has_other_shape, wrong_in, body_is_unsupported, body_has_same_qubit}
 use Rattle.qasm_scope.specs.Scope.{Scope, is_taken, numeral, qubit_count}
+use Rattle.qasm_scope.specs.Applications.{has_twice}
 use Rattle.qasm_names.specs.declared.gates.CalledGate.TheVariants as called_gate
 use Rattle.qasm_names.specs.declared.places.Places.{Places}
 use Rattle.qasm_names.proofs.Formulas.{is_some-place, unplaced-names}
@@ -115,7 +116,7 @@ gate_cause-none false false false false false h = (refl, refl, refl, refl, refl)
 
 -- the causes of a declaration
 pub wrong_in-gate : (scope : Scope) (form : GateForm) → wrong_in scope (DeclareGate form)
-    ≡ gate_cause (list_any body_is_unsupported form.body) (is_taken form.name scope || has_name_twice (form.parameters ++ form.qubits))
+    ≡ gate_cause (list_any body_is_unsupported form.body) (is_taken form.name scope || has_twice bytes_eq (form.parameters ++ form.qubits))
     (list_any (body_has_unknown scope form) form.body) (list_any (body_has_wrong_count scope) form.body) (list_any body_has_same_qubit form.body)
 unfolding wrong_in
 wrong_in-gate scope form = refl
@@ -138,11 +139,11 @@ wrong_gate-names symbols scope parameters qubits form h sound k l =
     list_any-same (is_unknown symbols parameters qubits) (body_has_unknown scope form) form.body (λ s. unknown-names symbols scope parameters qubits form s h k l) in
     let counts : list_any (is_wrong_count symbols) form.body ≡ list_any (body_has_wrong_count scope) form.body =
     list_any-same (is_wrong_count symbols) (body_has_wrong_count scope) form.body (λ s. wrong_count-names symbols scope s h) in
-    ap (λ b. gate_cause (list_any body_is_unsupported form.body) (b || has_name_twice (form.parameters ++ form.qubits)) (list_any (is_unknown symbols parameters qubits) form.body)
+    ap (λ b. gate_cause (list_any body_is_unsupported form.body) (b || has_twice bytes_eq (form.parameters ++ form.qubits)) (list_any (is_unknown symbols parameters qubits) form.body)
     (list_any (is_wrong_count symbols) form.body) (list_any body_has_same_qubit form.body)) taken
-    ∙ ap (λ b. gate_cause (list_any body_is_unsupported form.body) (is_taken form.name scope || has_name_twice (form.parameters ++ form.qubits)) b
+    ∙ ap (λ b. gate_cause (list_any body_is_unsupported form.body) (is_taken form.name scope || has_twice bytes_eq (form.parameters ++ form.qubits)) b
     (list_any (is_wrong_count symbols) form.body) (list_any body_has_same_qubit form.body)) unknown
-    ∙ ap (λ b. gate_cause (list_any body_is_unsupported form.body) (is_taken form.name scope || has_name_twice (form.parameters ++ form.qubits)) (list_any (body_has_unknown scope form) form.body)
+    ∙ ap (λ b. gate_cause (list_any body_is_unsupported form.body) (is_taken form.name scope || has_twice bytes_eq (form.parameters ++ form.qubits)) (list_any (body_has_unknown scope form) form.body)
     b (list_any body_has_same_qubit form.body)) counts
     ∙ sym (wrong_in-gate scope form)
 
@@ -153,7 +154,7 @@ sound-from scope form h =
       all_known = parts.2;
       same_counts = parts.3;
       other_qubits = parts.4;
-      other_names = or-second (is_taken form.name scope) (has_name_twice (form.parameters ++ form.qubits)) parts.1;
+      other_names = or-second (is_taken form.name scope) (has_twice bytes_eq (form.parameters ++ form.qubits)) parts.1;
     }
 
 -- a size cut off at a large number

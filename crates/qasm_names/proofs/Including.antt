@@ -23,7 +23,7 @@ use Rattle.qasm_reader.specs.Parts.{IsInBody, IsNextInBody, with_statement}
 use Rattle.qasm_reader.specs.Views.{body_sentence, placed, sentence}
 use Rattle.qasm_reader.proofs.Programs.{first_shrinks, one_statement}
 use Rattle.qasm_scope.specs.declared.causes.Cause.TheVariants as cause
-use Rattle.qasm_scope.specs.Faults.{wrong_in, header_name}
+use Rattle.qasm_scope.specs.Faults.{wrong_in}
 use Rattle.qasm_scope.specs.HeaderGates.{first_gates, further_gates}
 use Rattle.qasm_scope.specs.Meaning.{with_first, with_further, with_header}
 use Rattle.qasm_scope.specs.ProgramTexts.{GatesOf}
@@ -32,7 +32,7 @@ use Rattle.qasm_scope.proofs.HeaderScope.{AreFirstFaultless, AreFirstSound, AreF
 use Rattle.qasm_names.specs.declared.gate_in_progress.GateInProgress.{GateInProgress}
 use Rattle.qasm_names.specs.declared.names.Names.{Names}
 use Rattle.qasm_names.specs.Begun.{IsBegun, IsFaultlessGate}
-use Rattle.qasm_names.specs.Internal.Included.{AreDeclarations, IsNextGate}
+use Rattle.qasm_names.specs.Internal.Included.{AreDeclarations, IsNextGate, header_name}
 use Rattle.qasm_names.specs.Kept.{Represents, IsSound, found}
 use Rattle.qasm_names.proofs.CheckLemmas.{sound-from}
 use Rattle.qasm_names.proofs.Symbols.{symbol-declared}

@@ -2,7 +2,8 @@
 use Rattle.std.proofs.Common.{◌≡◌, ℕ, ◌+◌, ◌*◌, ◌-◌, ◌≤◌, inl, inr, List, [], ◌∷◌, length, drop, min, ap, ◌∙◌, arith}
 use Rattle.std.proofs.Math.ListN.{drop_of_length-le}
 use Rattle.std.proofs.lemmas.Bool.{cases_lt}
-use Rattle.qasm_scope.specs.Scope.{numeral, numeral_from}
+use Rattle.qasm_scope.specs.Scope.{numeral}
+use Rattle.qasm_scope.specs.Internal.Numerals.{numeral_from}
 
 numeral_from-le : (n : ℕ) (digits : List ℕ) → n ≤ numeral_from n digits
 numeral_from-le n [] = omega arith

@@ -14,9 +14,9 @@ use Rattle.std.proofs.lemmas.Map.Text.{btree_map_updates_str}
 use Rattle.std.proofs.lemmas.Slice.Eq.{bytes_eq-Decides}
 use Rattle.qasm_names.specs.declared.places.Places.{Places}
 use Rattle.qasm_names.specs.Places.{place_in, ArePlaces}
-use Rattle.qasm_scope.specs.Faults.{has_name_twice}
 use Rattle.qasm_names.proofs.Tests.{or-first, or-second, or-first-of}
 use Rattle.qasm_names.proofs.Formulas.{is_some-place}
+use Rattle.qasm_scope.specs.Applications.{has_twice}
 
 abbrev or_place : Option ℕ → Option ℕ → Option ℕ
 or_place None other = other
@@ -90,27 +90,27 @@ or-right true b h = refl
 or-right false b h = h
 
 twice-at : (b : Bool) (x y : List ℕ) (xs ys : List (List ℕ)) → bytes_eq x y ≡ b → (b || list_any (λ other. bytes_eq other y) xs) ≡ true
-    → (list_any (λ other. bytes_eq other y) xs ≡ true → has_name_twice (xs ++ y ∷ ys) ≡ true)
-    → (list_any (λ other. bytes_eq other x) (xs ++ y ∷ ys) || has_name_twice (xs ++ y ∷ ys)) ≡ true
+    → (list_any (λ other. bytes_eq other y) xs ≡ true → has_twice bytes_eq (xs ++ y ∷ ys) ≡ true)
+    → (list_any (λ other. bytes_eq other x) (xs ++ y ∷ ys) || has_twice bytes_eq (xs ++ y ∷ ys)) ≡ true
 twice-at true x y xs ys e h rest =
-    ap (λ b. b || has_name_twice (xs ++ y ∷ ys)) (list_any-append (λ other. bytes_eq other x) xs (y ∷ ys))
-    ∙ or-middle (list_any (λ other. bytes_eq other x) xs) (bytes_eq y x) (list_any (λ other. bytes_eq other x) ys) (has_name_twice (xs ++ y ∷ ys)) (bytes_eq-turned x y true e)
-twice-at false x y xs ys e h rest = or-right (list_any (λ other. bytes_eq other x) (xs ++ y ∷ ys)) (has_name_twice (xs ++ y ∷ ys)) (rest h)
+    ap (λ b. b || has_twice bytes_eq (xs ++ y ∷ ys)) (list_any-append (λ other. bytes_eq other x) xs (y ∷ ys))
+    ∙ or-middle (list_any (λ other. bytes_eq other x) xs) (bytes_eq y x) (list_any (λ other. bytes_eq other x) ys) (has_twice bytes_eq (xs ++ y ∷ ys)) (bytes_eq-turned x y true e)
+twice-at false x y xs ys e h rest = or-right (list_any (λ other. bytes_eq other x) (xs ++ y ∷ ys)) (has_twice bytes_eq (xs ++ y ∷ ys)) (rest h)
 
 -- a name that stands before stands twice
-pub twice-found : (xs : List (List ℕ)) (y : List ℕ) (ys : List (List ℕ)) → list_any (λ other. bytes_eq other y) xs ≡ true → has_name_twice (xs ++ y ∷ ys) ≡ true
+pub twice-found : (xs : List (List ℕ)) (y : List ℕ) (ys : List (List ℕ)) → list_any (λ other. bytes_eq other y) xs ≡ true → has_twice bytes_eq (xs ++ y ∷ ys) ≡ true
 twice-found [] y ys h = absurd (cc)
 twice-found (x ∷ xs) y ys h = twice-at (bytes_eq x y) x y xs ys refl h (twice-found xs y ys)
 
-none-at : (x y : List ℕ) (xs : List (List ℕ)) → list_any (λ other. bytes_eq other x) xs ≡ false → bytes_eq x y ≡ false → has_name_twice (xs ++ y ∷ []) ≡ false
-    → (list_any (λ other. bytes_eq other x) (xs ++ y ∷ []) || has_name_twice (xs ++ y ∷ [])) ≡ false
+none-at : (x y : List ℕ) (xs : List (List ℕ)) → list_any (λ other. bytes_eq other x) xs ≡ false → bytes_eq x y ≡ false → has_twice bytes_eq (xs ++ y ∷ []) ≡ false
+    → (list_any (λ other. bytes_eq other x) (xs ++ y ∷ []) || has_twice bytes_eq (xs ++ y ∷ [])) ≡ false
 none-at x y xs h e rest =
-    ap (λ b. b || has_name_twice (xs ++ y ∷ [])) (list_any-append (λ other. bytes_eq other x) xs (y ∷ [])
+    ap (λ b. b || has_twice bytes_eq (xs ++ y ∷ [])) (list_any-append (λ other. bytes_eq other x) xs (y ∷ [])
     ∙ ap (λ b. b || (bytes_eq y x || false)) h ∙ ap (λ b. b || false) (bytes_eq-turned x y false e))
     ∙ rest
 
 -- a name that doesn't stand before makes none stand twice
-pub twice-push : (xs : List (List ℕ)) (y : List ℕ) → has_name_twice xs ≡ false → list_any (λ other. bytes_eq other y) xs ≡ false → has_name_twice (xs ++ y ∷ []) ≡ false
+pub twice-push : (xs : List (List ℕ)) (y : List ℕ) → has_twice bytes_eq xs ≡ false → list_any (λ other. bytes_eq other y) xs ≡ false → has_twice bytes_eq (xs ++ y ∷ []) ≡ false
 twice-push [] y h k = refl
 twice-push (x ∷ xs) y h k =
     none-at x y xs (or-first _ _ h) (or-first _ _ k) (twice-push xs y (or-second _ _ h) (or-second _ _ k))
@@ -125,17 +125,17 @@ pub map-more : {A B : Type 0} (f : A → B) (xs : List A) (i : ℕ) (d : A) → 
 map-more f xs i d h = rw add-one (ap (map f) (take-suc xs i d h) ∙ map-append f (take i xs) (get_or xs i d ∷ []))
 
 pub twice-names : (names : List (Bor (List ℕ))) (i : ℕ) (d : Bor (List ℕ)) (places : Places) → i < length names → ArePlaces places (map (λ name. name.now) (take i names))
-    → is_some (place_in places (get_or names i d).now) ≡ true → has_name_twice (map (λ name. name.now) names) ≡ true
+    → is_some (place_in places (get_or names i d).now) ≡ true → has_twice bytes_eq (map (λ name. name.now) names) ≡ true
 twice-names names i d places h known there =
-    ap has_name_twice (map-split (λ name. name.now) names i d h)
+    ap (has_twice bytes_eq) (map-split (λ name. name.now) names i d h)
     ∙ twice-found (map (λ name. name.now) (take i names)) (get_or names i d).now (map (λ name. name.now) (drop (suc i) names))
     (sym (ap is_some (known (get_or names i d).now) ∙ is_some-place (λ other. bytes_eq other (get_or names i d).now) 0 (map (λ name. name.now) (take i names))) ∙ there)
 
 pub none-names : (names : List (Bor (List ℕ))) (i : ℕ) (d : Bor (List ℕ)) (places : Places) → i < length names → ArePlaces places (map (λ name. name.now) (take i names))
-    → is_some (place_in places (get_or names i d).now) ≡ false → has_name_twice (map (λ name. name.now) (take i names)) ≡ false
-    → has_name_twice (map (λ name. name.now) (take (i + 1) names)) ≡ false
+    → is_some (place_in places (get_or names i d).now) ≡ false → has_twice bytes_eq (map (λ name. name.now) (take i names)) ≡ false
+    → has_twice bytes_eq (map (λ name. name.now) (take (i + 1) names)) ≡ false
 none-names names i d places h known absent before =
-    ap has_name_twice (map-more (λ name. name.now) names i d h)
+    ap (has_twice bytes_eq) (map-more (λ name. name.now) names i d h)
     ∙ twice-push (map (λ name. name.now) (take i names)) (get_or names i d).now before
     (sym (ap is_some (known (get_or names i d).now) ∙ is_some-place (λ other. bytes_eq other (get_or names i d).now) 0 (map (λ name. name.now) (take i names))) ∙ absent)
 
@@ -164,7 +164,7 @@ pub map-map-more : {A B C : Type 0} (g : B → C) (f : A → B) (xs : List A) (i
 map-map-more g f xs i d h = ap (map g) (map-more f xs i d h) ∙ map-append g (map f (take i xs)) (f (get_or xs i d) ∷ [])
 
 -- a name alone stands once
-pub few_names : (names : List (Bor (List ℕ))) → length names < 2 → false ≡ has_name_twice (map (λ name. name.now) names)
+pub few_names : (names : List (Bor (List ℕ))) → length names < 2 → false ≡ has_twice bytes_eq (map (λ name. name.now) names)
 few_names [] few = refl
 few_names (name ∷ []) few = refl
 few_names (name ∷ other ∷ names) few = absurd (omega (arith, few))

@@ -5,9 +5,10 @@ use Rattle.std.specs.Borrow.{Bor}
 use Rattle.std.specs.BTreeMap.{BTreeMap}
 use Rattle.std.specs.List.{list_any}
 use Rattle.std.specs.Option.{is_some}
+use Rattle.std.specs.Str.{bytes_eq}
 use Rattle.qasm_reader.specs.Syntax.{Callee, Declared, U, Cx, GateForm, BodySentence, BodyApplied, BodyBarrier}
 use Rattle.qasm_scope.specs.Angles.{place_or_zero}
-use Rattle.qasm_scope.specs.Faults.{is_no_gate, has_other_shape, has_name_twice}
+use Rattle.qasm_scope.specs.Faults.{is_no_gate, has_other_shape}
 use Rattle.qasm_scope.specs.declared.causes.Cause.{Cause}
 use Rattle.qasm_names.specs.declared.gates.CalledGate.{CalledGate}
 use Rattle.qasm_names.specs.declared.gates.KnownGate.{KnownGate}
@@ -16,6 +17,7 @@ use Rattle.qasm_names.specs.declared.places.Places.{Places}
 use Rattle.qasm_names.specs.Kept.{KeptCall, found, number_in, symbol_shape, symbol_taken}
 use Rattle.qasm_names.specs.Places.{has_unplaced, place_in, placed, unplaced}
 use Rattle.qasm_scope.specs.declared.causes.Cause.TheVariants as cause
+use Rattle.qasm_scope.specs.Applications.{has_twice}
 use Rattle.qasm_names.specs.declared.gates.CalledGate.TheVariants as called_gate
 
 -- what each name is kept as
@@ -78,4 +80,4 @@ gate_cause unsupported redeclared unknown wrong_count same_qubit =
 -- the gate's name is taken, or two formal names are equal
 abbrev pub is_redeclared_by : Symbols → GateForm → Bool
 is_redeclared_by symbols form =
-    symbol_taken (found form.name symbols) || has_name_twice (form.parameters ++ form.qubits)
+    symbol_taken (found form.name symbols) || has_twice bytes_eq (form.parameters ++ form.qubits)

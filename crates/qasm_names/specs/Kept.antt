@@ -13,8 +13,9 @@ use Rattle.zx_gates.specs.Circuit.{most_qubits}
 use Rattle.qasm_angle.specs.Trees.{Tree}
 use Rattle.qasm_reader.specs.Syntax.{Callee, Declared, U, Cx, GateForm, BodySentence, BodyApplied, BodyBarrier}
 use Rattle.qasm_scope.specs.Angles.{numbered, place_of}
-use Rattle.qasm_scope.specs.Faults.{body_has_unknown, body_has_wrong_count, body_has_same_qubit, has_name_twice}
+use Rattle.qasm_scope.specs.Faults.{body_has_unknown, body_has_wrong_count, body_has_same_qubit}
 use Rattle.qasm_scope.specs.Scope.{Scope, Declaration, Meaning, Qubits, Bits, Gate, is_declared, qubit_count}
+use Rattle.qasm_scope.specs.Applications.{has_twice}
 use Rattle.qasm_names.specs.declared.gates.GateBody.{GateBody}
 use Rattle.qasm_names.specs.declared.gates.GateCall.{GateCall}
 use Rattle.qasm_names.specs.declared.gates.CalledGate.{CalledGate}
@@ -120,7 +121,7 @@ pub record IsSoundGate (scope : Scope) (form : GateForm) : Type 0 where
   pub all_known : list_any (body_has_unknown scope form) form.body ≡ false
   pub same_counts : list_any (body_has_wrong_count scope) form.body ≡ false
   pub other_qubits : list_any body_has_same_qubit form.body ≡ false
-  pub other_names : has_name_twice (form.parameters ++ form.qubits) ≡ false
+  pub other_names : has_twice bytes_eq (form.parameters ++ form.qubits) ≡ false
 
 -- registers of qubits stand one after the other, and are few
 pub record IsSoundRegister (scope : Scope) (first size : ℕ) : Type 0 where

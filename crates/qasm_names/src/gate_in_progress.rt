@@ -1,17 +1,19 @@
 //! Gates whose declarations are taken in statement by statement.
 
 ghost use Rattle.std.specs.Prelude.{◌≡◌, ◌∷◌, ◌++◌, [], IfOk, OnOk, None, Some, Err};
+ghost use Rattle.std.specs.Str.{bytes_eq};
 ghost use Rattle.qasm_reader.specs.Parts.{with_statement};
 ghost use Rattle.qasm_reader.specs.Syntax.{BodyApplied, DeclareGate, GateForm};
 ghost use Rattle.qasm_reader.specs.Views.{body_sentence, form_of};
 ghost use Rattle.qasm_scope.specs.declared.causes.Cause.{Cause};
-ghost use Rattle.qasm_scope.specs.Faults.{wrong_in, has_name_twice};
+ghost use Rattle.qasm_scope.specs.Faults.{wrong_in};
 ghost use Rattle.qasm_names.specs.Begun.{IsBegun, IsFaultlessGate};
 ghost use Rattle.qasm_names.specs.Bodies.{apply_of};
 ghost use Rattle.qasm_names.specs.Checks.{is_redeclared_by};
 ghost use Rattle.qasm_names.specs.Kept.{Represents, gate_declaration};
 ghost use Rattle.qasm_names.specs.declared.names.Names.{Names};
 ghost use Rattle.qasm_scope.specs.Scope.{Scope, Gate, declared};
+ghost use Rattle.qasm_scope.specs.Applications.{has_twice};
 
 use crate::bodies::{any_unplaced, application_faults, call_of};
 use crate::body_faults::BodyFaults;
@@ -168,7 +170,7 @@ fn is_redeclared<'a>(
 // Whether two formal names of a gate are equal.
 fn repeats(alloc: Global, heading: &GateHeading<'_>) -> Result<bool, AllocError>
     ensures { IfOk result (λ twice. twice
-        ≡ has_name_twice ((form_of heading.now []).parameters ++ (form_of heading.now []).qubits)) }
+        ≡ has_twice bytes_eq ((form_of heading.now []).parameters ++ (form_of heading.now []).qubits)) }
 {
     let mut names = Vec::new(alloc);
     names.extend_from_slice(&heading.parameters)?;

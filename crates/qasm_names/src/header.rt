@@ -6,7 +6,7 @@ ghost use Rattle.std.specs.Str.{bytes_eq};
 ghost use Rattle.qasm_lexer.specs.Tokens.{lexemes};
 ghost use Rattle.qasm_reader.specs.Syntax.{GateForm, Include};
 ghost use Rattle.qasm_scope.specs.declared.causes.Cause.{Cause};
-ghost use Rattle.qasm_scope.specs.Faults.{wrong_in, header_name};
+ghost use Rattle.qasm_scope.specs.Faults.{wrong_in};
 ghost use Rattle.qasm_scope.specs.Header.{first_text, further_text};
 ghost use Rattle.qasm_scope.specs.HeaderGates.{first_gates, further_gates};
 ghost use Rattle.qasm_scope.specs.Meaning.{with_first, with_further, with_header};
@@ -14,7 +14,7 @@ ghost use Rattle.qasm_scope.specs.ProgramTexts.{GatesOf};
 ghost use Rattle.qasm_scope.specs.Scope.{Scope, is_declared};
 ghost use Rattle.qasm_scope.proofs.HeaderScope.{AreFurtherFaultless};
 ghost use Rattle.qasm_names.specs.Begun.{IsBegun};
-ghost use Rattle.qasm_names.specs.Internal.Included.{AreDeclarations, IsNextGate};
+ghost use Rattle.qasm_names.specs.Internal.Included.{AreDeclarations, IsNextGate, header_name};
 ghost use Rattle.qasm_names.specs.Kept.{Represents};
 
 use crate::gate_in_progress::GateInProgress;

@@ -1,7 +1,8 @@
 //! Whole numbers as texts spell them.
 
 ghost use Rattle.std.specs.Prelude.{◌≡◌, ◌-◌, ◌^◌, ◌∷◌, List, ℕ, min};
-ghost use Rattle.qasm_scope.specs.Scope.{numeral, numeral_from};
+ghost use Rattle.qasm_scope.specs.Scope.{numeral};
+ghost use Rattle.qasm_scope.specs.Internal.Numerals.{numeral_from};
 
 /// The number that a text spells, or the largest one where that is larger.
 #[tactic(auto, unfolding(qasm_scope::specs::Scope::numeral))]

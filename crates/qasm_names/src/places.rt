@@ -1,8 +1,9 @@
 //! Formal names by their places.
 
 ghost use Rattle.std.specs.Prelude.{◌≡◌, map, IfOk, OnOk, [], ◌++◌, ◌∷◌, List, ℕ, length};
+ghost use Rattle.std.specs.Str.{bytes_eq};
 ghost use Rattle.qasm_names.specs.Places.{ArePlaces, place_in};
-ghost use Rattle.qasm_scope.specs.Faults.{has_name_twice};
+ghost use Rattle.qasm_scope.specs.Applications.{has_twice};
 
 use std::alloc::{AllocError, Global};
 use std::collections::BTreeMap;
@@ -60,7 +61,7 @@ impl<'a> Places<'a> {
 /// Whether a name stands twice in a list.
 #[tactic(auto, using(crate::proofs::PlaceLemmas::few_names))]
 pub fn has_name_twice<'a>(alloc: Global, names: &[&'a [u8]]) -> Result<bool, AllocError>
-    ensures { IfOk result (λ twice. twice ≡ has_name_twice (map (λ name. name.now) names.now)) }
+    ensures { IfOk result (λ twice. twice ≡ has_twice bytes_eq (map (λ name. name.now) names.now)) }
 {
     if names.len() < 2 {
         return Ok(false);

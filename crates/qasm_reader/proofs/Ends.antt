@@ -191,13 +191,11 @@ gate_begins : (Back : List Lexeme → Type 0) (us : List Lexeme) → (Sign kind.
 gate_begins Back us s none = none s.3.0 s.1 (s.2 ∙ ap (λ x. x ++ s.1) s.3.2) s.3.1
 
 register_once : (k : TokenKind) → ends_part k ≡ false → (name size : List ℕ)
-    → Once (Sign k ⋅ IsIdentifier name ⋅ Sign kind.LeftBracket ⋅ Word kind.Natural size ⋅ Sign kind.RightBracket ⋅ Sign kind.Semicolon)
+    → Once (Sign k ⋅ IsIdentifier name ⋅ IsIndex (Some size) ⋅ Sign kind.Semicolon)
 register_once k free name size =
-    then_once (Sign k) (IsIdentifier name ⋅ Sign kind.LeftBracket ⋅ Word kind.Natural size ⋅ Sign kind.RightBracket ⋅ Sign kind.Semicolon) (sign_free k free)
-    (then_once (IsIdentifier name) (Sign kind.LeftBracket ⋅ Word kind.Natural size ⋅ Sign kind.RightBracket ⋅ Sign kind.Semicolon) (identifier_free name)
-    (then_once (Sign kind.LeftBracket) (Word kind.Natural size ⋅ Sign kind.RightBracket ⋅ Sign kind.Semicolon) (sign_free kind.LeftBracket refl)
-    (then_once (Word kind.Natural size) (Sign kind.RightBracket ⋅ Sign kind.Semicolon) (word_free kind.Natural size refl)
-    (then_once (Sign kind.RightBracket) (Sign kind.Semicolon) (sign_free kind.RightBracket refl) (sign_once kind.Semicolon)))))
+    then_once (Sign k) (IsIdentifier name ⋅ IsIndex (Some size) ⋅ Sign kind.Semicolon) (sign_free k free)
+    (then_once (IsIdentifier name) (IsIndex (Some size) ⋅ Sign kind.Semicolon) (identifier_free name)
+    (then_once (IsIndex (Some size)) (Sign kind.Semicolon) (index_free (Some size)) (sign_once kind.Semicolon)))
 
 word_once : (k l : TokenKind) (text : List ℕ) → ends_part k ≡ false → ends_part l ≡ false → Once (Sign k ⋅ Word l text ⋅ Sign kind.Semicolon)
 word_once k l text free free' =

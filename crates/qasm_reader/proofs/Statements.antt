@@ -470,7 +470,7 @@ include_takes t ts a rest is e =
     (took_then (Word kind.Text x.0.0) (Sign kind.Semicolon) ts x.0.1 s.0 (text_takes kind.Text ts x.0.0 x.0.1 x.1) (after_takes kind.Semicolon x.0.1 s.0 s.1)))
 
 abbrev IsRegister : List ℕ → List ℕ → List Lexeme → Type 0
-IsRegister name size = IsIdentifier name ⋅ Sign kind.LeftBracket ⋅ IsNatural size ⋅ Sign kind.RightBracket ⋅ Sign kind.Semicolon
+IsRegister name size = IsIdentifier name ⋅ IsIndex (Some size) ⋅ Sign kind.Semicolon
 
 register_takes : (ts : List Lexeme) (a : List ℕ × List ℕ) (rest : List Lexeme) → register ts ≡ Some (a, rest) → Took (IsRegister a.0 a.1) ts rest
 unfolding register
@@ -482,10 +482,11 @@ register_takes ts a rest e =
     let s = bind_some (after kind.Semicolon r.0) _ (a, rest) r.2 in
     let p = same ((n.0.0, x.0.0), s.0) (a, rest) s.2 in
     subst (λ (y : (List ℕ × List ℕ) × List Lexeme). Took (IsRegister y.0.0 y.0.1) ts y.1) p
-    (took_then (IsIdentifier n.0.0) (Sign kind.LeftBracket ⋅ IsNatural x.0.0 ⋅ Sign kind.RightBracket ⋅ Sign kind.Semicolon) ts n.0.1 s.0 (text_takes kind.Identifier ts n.0.0 n.0.1 n.1)
-    (took_then (Sign kind.LeftBracket) (IsNatural x.0.0 ⋅ Sign kind.RightBracket ⋅ Sign kind.Semicolon) n.0.1 l.0 s.0 (after_takes kind.LeftBracket n.0.1 l.0 l.1)
-    (took_then (IsNatural x.0.0) (Sign kind.RightBracket ⋅ Sign kind.Semicolon) l.0 x.0.1 s.0 (text_takes kind.Natural l.0 x.0.0 x.0.1 x.1)
-    (took_then (Sign kind.RightBracket) (Sign kind.Semicolon) x.0.1 r.0 s.0 (after_takes kind.RightBracket x.0.1 r.0 r.1) (after_takes kind.Semicolon r.0 s.0 s.1)))))
+    (took_then (IsIdentifier n.0.0) (IsIndex (Some x.0.0) ⋅ Sign kind.Semicolon) ts n.0.1 s.0 (text_takes kind.Identifier ts n.0.0 n.0.1 n.1)
+    (took_then (IsIndex (Some x.0.0)) (Sign kind.Semicolon) n.0.1 r.0 s.0
+    (took_then (Sign kind.LeftBracket) (IsNatural x.0.0 ⋅ Sign kind.RightBracket) n.0.1 l.0 r.0 (after_takes kind.LeftBracket n.0.1 l.0 l.1)
+    (took_then (IsNatural x.0.0) (Sign kind.RightBracket) l.0 x.0.1 r.0 (text_takes kind.Natural l.0 x.0.0 x.0.1 x.1) (after_takes kind.RightBracket x.0.1 r.0 r.1)))
+    (after_takes kind.Semicolon r.0 s.0 s.1)))
 
 qubits_take : (t : Lexeme) (ts : List Lexeme) (a : Sentence) (rest : List Lexeme) → t.kind ≡ kind.Qreg → qubit_register ts ≡ Some (a, rest) → Took (IsStatement a) (t ∷ ts) rest
 qubits_take t ts a rest is e =
@@ -646,11 +647,14 @@ statement_first k us rest o f by =
 register_again : (name size : List ℕ) (us rest : List Lexeme) → IsRegister name size us → register (us ++ rest) ≡ Some ((name, size), rest)
 unfolding register
 register_again name size us rest h =
+    let inside : (Sign kind.LeftBracket ⋅ IsNatural size ⋅ Sign kind.RightBracket ⋅ Sign kind.Semicolon) h.1 =
+    deeper (Sign kind.LeftBracket) (IsNatural size ⋅ Sign kind.RightBracket) (Sign kind.Semicolon) _
+    (deeper (IsNatural size) (Sign kind.RightBracket) (Sign kind.Semicolon) _ (λ vs t. t)) h.1 h.4 in
     item_then identifier IsIdentifier Anything (text_complete kind.Identifier) name _ us rest _ _ h tt
-    (sign_then kind.LeftBracket _ h.1 rest _ _ h.4
-    (item_then natural IsNatural Anything (text_complete kind.Natural) size _ h.4.1 rest _ _ h.4.4 tt
-    (sign_then kind.RightBracket _ h.4.4.1 rest _ _ h.4.4.4
-    (sign_last kind.Semicolon h.4.4.4.1 rest _ h.4.4.4.4))))
+    (sign_then kind.LeftBracket _ h.1 rest _ _ inside
+    (item_then natural IsNatural Anything (text_complete kind.Natural) size _ inside.1 rest _ _ inside.4 tt
+    (sign_then kind.RightBracket _ inside.4.1 rest _ _ inside.4.4
+    (sign_last kind.Semicolon inside.4.4.1 rest _ inside.4.4.4))))
 
 heading_again : (a : Heading) (Back : List Lexeme → Type 0) (us rest : List Lexeme) → (h : (IsIdentifier a.0 ⋅ IsParameters a.1.0 ⋅ IsIdentifiers a.1.1 ⋅ Back) us) → EndsIdentifiers (h.4.4.1 ++ rest)
     → heading (us ++ rest) ≡ Some (a, h.4.4.1 ++ rest)

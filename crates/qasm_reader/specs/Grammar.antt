@@ -151,12 +151,8 @@ IsBodyStatement (BodyBarrier qubits) = Sign kind.Barrier ⋅ IsIdentifiers qubit
 abbrev pub IsStatement : Sentence → List Lexeme → Type 0
 IsStatement (Version real) = Sign kind.Openqasm ⋅ Word kind.Real real ⋅ Sign kind.Semicolon
 IsStatement (Include text) = Sign kind.Include ⋅ Word kind.Text text ⋅ Sign kind.Semicolon
-IsStatement (QubitRegister name size) =
-    Sign kind.Qreg ⋅ IsIdentifier name ⋅ Sign kind.LeftBracket ⋅ IsNatural size ⋅ Sign kind.RightBracket
-    ⋅ Sign kind.Semicolon
-IsStatement (BitRegister name size) =
-    Sign kind.Creg ⋅ IsIdentifier name ⋅ Sign kind.LeftBracket ⋅ IsNatural size ⋅ Sign kind.RightBracket
-    ⋅ Sign kind.Semicolon
+IsStatement (QubitRegister name size) = Sign kind.Qreg ⋅ IsIdentifier name ⋅ IsIndex (Some size) ⋅ Sign kind.Semicolon
+IsStatement (BitRegister name size) = Sign kind.Creg ⋅ IsIdentifier name ⋅ IsIndex (Some size) ⋅ Sign kind.Semicolon
 IsStatement (DeclareGate gate) =
     Sign kind.Gate ⋅ IsIdentifier gate.name ⋅ IsParameters gate.parameters ⋅ IsIdentifiers gate.qubits
     ⋅ Sign kind.LeftBrace ⋅ Repeated IsBodyStatement gate.body ⋅ Sign kind.RightBrace

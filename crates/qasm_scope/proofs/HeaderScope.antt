@@ -8,10 +8,11 @@ use Rattle.std.proofs.lemmas.Slice.Eq.{bytes_eq-Decides}
 use Rattle.qasm_reader.specs.Syntax.{Callee, Declared, U, Cx, BodySentence, BodyApplied, BodyBarrier, GateForm, DeclareGate}
 use Rattle.qasm_scope.specs.declared.causes.Cause.{Cause}
 use Rattle.qasm_scope.specs.declared.causes.Cause.TheVariants as cause
-use Rattle.qasm_scope.specs.Faults.{has_name_twice, body_is_unsupported, body_has_unknown, body_has_wrong_count, body_has_same_qubit, is_hidden, is_no_gate, is_in, has_other_name, has_other_shape, shape_in, shape_of, first_cause, wrong_in}
+use Rattle.qasm_scope.specs.Faults.{body_is_unsupported, body_has_unknown, body_has_wrong_count, body_has_same_qubit, is_hidden, is_no_gate, is_in, has_other_name, has_other_shape, shape_in, shape_of, first_cause, wrong_in}
 use Rattle.qasm_scope.specs.HeaderGates.{first_gates, further_gates}
 use Rattle.qasm_scope.specs.Meaning.{with_first, with_further}
 use Rattle.qasm_scope.specs.Scope.{Scope, Declaration, Gate, meaning_of, is_declared, is_taken, declared}
+use Rattle.qasm_scope.specs.Applications.{has_twice}
 
 -- ---- names
 -- what isn't declared isn't taken
@@ -44,7 +45,7 @@ AreFurtherFaultless (form ∷ forms) scope =
 abbrev tests : Bool → Bool → Bool → GateForm → Option Cause
 tests taken unknown count form = first_cause (
     (list_any body_is_unsupported form.body, cause.Unsupported)
-    ∷ (taken || has_name_twice (form.parameters ++ form.qubits), cause.Redeclared)
+    ∷ (taken || has_twice bytes_eq (form.parameters ++ form.qubits), cause.Redeclared)
     ∷ (unknown, cause.Unknown)
     ∷ (count, cause.WrongCount)
     ∷ (list_any body_has_same_qubit form.body, cause.SameQubit)

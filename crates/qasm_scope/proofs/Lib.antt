@@ -1,2 +1,3 @@
 pub mod HeaderScope
 pub mod OneProgram
+pub mod Placing

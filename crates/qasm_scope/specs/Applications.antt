@@ -1,7 +1,7 @@
 -- Applications in statements: the qubits that arguments stand for, and the instances of an application.
 -- Cross, Bishop, Smolin and Gambetta, "Open quantum assembly language" (arXiv 1707.03429), on gates applied to
 -- registers.
-use Rattle.std.specs.Prelude.{ℕ, ◌+◌, ◌==◌, Bool, false, ◌||◌, List, [], ◌∷◌, map, Option, None, Some, get_or}
+use Rattle.std.specs.Prelude.{ℕ, ◌+◌, Bool, false, ◌||◌, List, [], ◌∷◌, map, Option, None, Some, get_or}
 use Rattle.std.specs.List.{list_any, flat_map, filter_map, range_with_len}
 use Rattle.qasm_reader.specs.Syntax.{Operand, Apply}
 use Rattle.qasm_scope.specs.Angles.{angles_of}
@@ -29,24 +29,20 @@ register_size (Register first size) = Some size
 abbrev pub register_sizes : List QubitRange → List ℕ
 register_sizes ranges = filter_map register_size ranges
 
--- how many instances there are: one for each index of the registers, which have one size, or one alone
-abbrev pub instance_count : List ℕ → ℕ
-instance_count sizes = get_or sizes 0 1
-
 -- the qubit that stands for a range at an index
 abbrev pub qubit_at : ℕ → QubitRange → ℕ
 qubit_at index (Single qubit) = qubit
 qubit_at index (Register first size) = first + index
 
--- the instances, by rising index
+-- the instances, by rising index: one for each index of the registers, which have one size, or one alone
 abbrev pub instances : List QubitRange → List (List ℕ)
 instances ranges =
-    map (λ index. map (qubit_at index) ranges) (range_with_len 0 (instance_count (register_sizes ranges)))
+    map (λ index. map (qubit_at index) ranges) (range_with_len 0 (get_or (register_sizes ranges) 0 1))
 
--- a number stands twice in a list
-abbrev pub has_twice : List ℕ → Bool
-has_twice [] = false
-has_twice (n ∷ ns) = list_any (λ m. m == n) ns || has_twice ns
+-- one of a list is the same, by this test, as a later one
+abbrev pub has_twice : {A : Type 0} → (A → A → Bool) → List A → Bool
+has_twice same [] = false
+has_twice same (x ∷ xs) = list_any (λ other. same other x) xs || has_twice same xs
 
 abbrev pub ranges_of : Scope → List Operand → List QubitRange
 ranges_of scope operands = map (range_of scope) operands

@@ -28,23 +28,16 @@ abbrev pub u_of : ℕ → Option ℕ → Option ℕ → Option ℕ → List Even
 u_of q (Some theta) (Some phi) (Some lambda) = Applied (elementary.U q theta phi lambda) ∷ []
 u_of q theta phi lambda = Undefined NotEighthTurn ∷ []
 
-abbrev pub u_events : List Angle → List ℕ → List Event
-u_events (theta ∷ phi ∷ lambda ∷ []) (q ∷ []) = u_of q (phase_of theta) (phase_of phi) (phase_of lambda)
-u_events angles qubits = []
-
-abbrev pub cx_events : List ℕ → List Event
-cx_events (control ∷ target ∷ []) = Applied (elementary.Cx control target) ∷ []
-cx_events qubits = []
-
 -- a gate with values for its angles, on qubits, at a depth
 abbrev pub Expansion : Type 0
 Expansion = List ℕ → ℕ → List Angle → List ℕ → List Event
 
--- the same for a gate that may be built in
+-- the same for a gate that may be built in, which comes to nothing with other numbers of angles or qubits than it has
 abbrev pub expand : Expansion → Callee → ℕ → List Angle → List ℕ → List Event
-expand declared U depth angles qubits = u_events angles qubits
-expand declared Cx depth angles qubits = cx_events qubits
 expand declared (Declared name) depth angles qubits = declared name depth angles qubits
+expand declared U depth (theta ∷ phi ∷ lambda ∷ []) (q ∷ []) = u_of q (phase_of theta) (phase_of phi) (phase_of lambda)
+expand declared Cx depth angles (control ∷ target ∷ []) = Applied (elementary.Cx control target) ∷ []
+expand declared gate depth angles qubits = []
 
 -- what comes about once the angles are evaluated
 abbrev pub after_angles : Result (List Angle) Cause → (List Angle → List Event) → List Event

@@ -15,19 +15,10 @@ use Rattle.qasm_scope.specs.HeaderGates.{first_gates}
 use Rattle.qasm_scope.specs.Scope.{Scope, Meaning, Qubits, Gate, meaning_of, is_taken, is_declared, numeral}
 use Rattle.qasm_scope.specs.Scope.{qubit_count}
 
--- the file that the header stands for
-abbrev pub header_name : List ℕ
-header_name = codes "\"qelib1.inc\""
-
 -- an expression in a body or an application holds `^` or a function
 abbrev pub body_is_unsupported : BodySentence → Bool
 body_is_unsupported (BodyApplied a) = list_any is_unsupported a.angles
 body_is_unsupported (BodyBarrier names) = false
-
--- a name stands twice in a list
-abbrev pub has_name_twice : List (List ℕ) → Bool
-has_name_twice [] = false
-has_name_twice (name ∷ names) = list_any (λ other. bytes_eq other name) names || has_name_twice names
 
 -- a gate of that name: how many angles and qubits it has
 abbrev pub shape_in : Option Meaning → Option (ℕ × ℕ)
@@ -101,7 +92,7 @@ has_other_size [] = false
 has_other_size (size ∷ sizes) = list_any (λ other. not (other == size)) sizes
 
 abbrev pub body_has_same_qubit : BodySentence → Bool
-body_has_same_qubit (BodyApplied a) = has_name_twice a.qubits
+body_has_same_qubit (BodyApplied a) = has_twice bytes_eq a.qubits
 body_has_same_qubit (BodyBarrier names) = false
 
 -- the first cause, in this order
@@ -113,7 +104,7 @@ first_cause (test ∷ tests) = if test.0 then Some test.1 else first_cause tests
 abbrev pub statement_tests : Scope → Sentence → List (Bool × Cause)
 statement_tests scope (Version real) = (true, cause.SecondVersion) ∷ []
 statement_tests scope (Include text) =
-    (not (bytes_eq text header_name), cause.Include)
+    (not (bytes_eq text (codes "\"qelib1.inc\"")), cause.Include)
     ∷ (list_any (λ form. is_declared form.name scope) first_gates, cause.Redeclared) ∷ []
 statement_tests scope (QubitRegister name size) =
     (is_taken name scope, cause.Redeclared) ∷ (numeral size == 0, cause.EmptyRegister)
@@ -122,7 +113,7 @@ statement_tests scope (BitRegister name size) =
     (is_taken name scope, cause.Redeclared) ∷ (numeral size == 0, cause.EmptyRegister) ∷ []
 statement_tests scope (DeclareGate form) =
     (list_any body_is_unsupported form.body, cause.Unsupported)
-    ∷ (is_taken form.name scope || has_name_twice (form.parameters ++ form.qubits), cause.Redeclared)
+    ∷ (is_taken form.name scope || has_twice bytes_eq (form.parameters ++ form.qubits), cause.Redeclared)
     ∷ (list_any (body_has_unknown scope form) form.body, cause.Unknown)
     ∷ (list_any (body_has_wrong_count scope) form.body, cause.WrongCount)
     ∷ (list_any body_has_same_qubit form.body, cause.SameQubit) ∷ []
@@ -134,7 +125,7 @@ statement_tests scope (Act (Applied a)) =
     ∷ (has_other_shape (shape_of scope a.gate) (length a.angles) (length a.qubits), cause.WrongCount)
     ∷ (has_past_index scope a.qubits, cause.Index)
     ∷ (has_other_size (register_sizes (ranges_of scope a.qubits)), cause.Sizes)
-    ∷ (list_any has_twice (instances (ranges_of scope a.qubits)), cause.SameQubit) ∷ []
+    ∷ (list_any (has_twice ◌==◌) (instances (ranges_of scope a.qubits)), cause.SameQubit) ∷ []
 statement_tests scope sentence = (true, cause.Unsupported) ∷ []
 
 -- what is wrong with it

@@ -1,6 +1,8 @@
 -- The first fault of a program, and the circuit that it means, however many calls it makes.
 use Rattle.std.specs.Prelude.{◌≡◌, ℕ, ◌+◌, Bool, true, false, if◌then◌else◌, List, [], ◌∷◌, ◌++◌, Option, None, Some}
 use Rattle.std.specs.Prelude.{codes}
+use Rattle.std.specs.List.{fold}
+use Rattle.std.specs.Option.{option_map, option_or}
 use Rattle.std.specs.Str.{bytes_eq}
 use Rattle.zx_gates.specs.declared.elementary.ElementaryGate.{ElementaryGate}
 use Rattle.qasm_reader.specs.Syntax.{Applied, GateForm, Sentence, Version, Include, QubitRegister, BitRegister}
@@ -15,14 +17,12 @@ use Rattle.qasm_scope.specs.Scope.{Scope, Qubits, Bits, Gate, declared, is_decla
 
 -- the declarations of the header's gates: of the further ones those whose names are free
 abbrev pub with_first : List GateForm → Scope → Scope
-with_first [] scope = scope
-with_first (form ∷ forms) scope = with_first forms (declared form.name (Gate form) ∷ scope)
+with_first forms scope = fold (λ before form. declared form.name (Gate form) ∷ before) scope forms
 
 abbrev pub with_further : List GateForm → Scope → Scope
-with_further [] scope = scope
-with_further (form ∷ forms) scope =
-    with_further forms (if is_declared form.name scope then scope
-    else record { name = form.name; meaning = Gate form; replaceable = true } ∷ scope)
+with_further forms scope =
+    fold (λ before form. if is_declared form.name before then before
+    else record { name = form.name; meaning = Gate form; replaceable = true } ∷ before) scope forms
 
 unfoldable pub with_header : Scope → Scope
 with_header scope = with_further further_gates (with_first first_gates scope)
@@ -40,26 +40,17 @@ abbrev pub events_of : Scope → Sentence → List Event
 events_of scope (Act (Applied a)) = application_events scope a
 events_of scope sentence = []
 
--- a cause, or another one where there is none
-abbrev pub or_else : Option Cause → Option Cause → Option Cause
-or_else None other = other
-or_else (Some cause) other = Some cause
-
 -- what is wrong with a statement after the first one, where so many calls were made before and at most so many may be
 abbrev pub wrong_with : ℕ → Scope → ℕ → Sentence → Option Cause
 wrong_with most scope calls sentence =
-    or_else (wrong_in scope sentence) (first_wrong most calls (events_of scope sentence))
+    option_or (wrong_in scope sentence) (first_wrong most calls (events_of scope sentence))
 
--- a cause and the place of the statement that has it, or what is wrong further on
-abbrev pub placed_or : Option Cause → ℕ → Option (Cause × ℕ) → Option (Cause × ℕ)
-placed_or None place other = other
-placed_or (Some cause) place other = Some (cause, place)
-
--- the first fault of the statements after the first one
+-- the first fault of the statements after the first one: what is wrong with a statement, and its place, or what is
+-- wrong further on
 abbrev pub fault_after : ℕ → Scope → ℕ → List Placed → Option (Cause × ℕ)
 fault_after most scope calls [] = None
 fault_after most scope calls (s ∷ statements) =
-    placed_or (wrong_with most scope calls s.sentence) s.place
+    option_or (option_map (λ cause. (cause, s.place)) (wrong_with most scope calls s.sentence))
     (fault_after most (after_statement scope s.sentence) (calls + call_count (events_of scope s.sentence)) statements)
 
 -- the statement is `OPENQASM 2.0;`
@@ -79,8 +70,7 @@ most_calls = 1000000
 
 -- the scope after all statements
 abbrev pub scope_after : Scope → List Placed → Scope
-scope_after scope [] = scope
-scope_after scope (s ∷ statements) = scope_after (after_statement scope s.sentence) statements
+scope_after scope statements = fold (λ before s. after_statement before s.sentence) scope statements
 
 -- the built-in gates that act, in order
 abbrev pub gates_after : Scope → List Placed → List ElementaryGate

@@ -5,7 +5,7 @@ use Rattle.std.specs.Prelude.{ℕ, ◌+◌, ◌-◌, Bool, false, ◌&&◌, not,
 use Rattle.std.specs.Prelude.{Some}
 use Rattle.std.specs.Str.{bytes_eq}
 use Rattle.std.specs.List.{list_any}
-use Rattle.qasm_angle.specs.Literals.{number_from}
+use Rattle.qasm_angle.specs.Literals.{number_of}
 use Rattle.qasm_reader.specs.Syntax.{GateForm}
 
 -- what a name stands for
@@ -41,13 +41,9 @@ is_declared name scope = list_any (λ declaration. bytes_eq declaration.name nam
 abbrev pub is_taken : List ℕ → Scope → Bool
 is_taken name scope = list_any (λ declaration. bytes_eq declaration.name name && not declaration.replaceable) scope
 
--- the value of a numeral, after a number that stands before it
-abbrev pub numeral_from : ℕ → List ℕ → ℕ
-numeral_from n text = number_from n (map (λ digit. digit - 48) text)
-
 -- the value of a numeral
 unfoldable pub numeral : List ℕ → ℕ
-numeral text = numeral_from 0 text
+numeral text = number_of (map (λ digit. digit - 48) text)
 
 -- how many qubits are declared
 abbrev pub size_of : Meaning → ℕ

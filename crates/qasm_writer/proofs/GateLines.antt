@@ -12,16 +12,20 @@ use Rattle.zx_gates.specs.Circuit.{IsGateOn, most_qubits}
 use Rattle.zx_gates.specs.declared.gate.Gate.{Gate}
 use Rattle.zx_gates.specs.declared.gate.Gate.TheVariants.{H, Phase, Cz, Cx, Not}
 use Rattle.qasm_lexer.specs.declared.token.TokenKind.TheVariants.{Identifier}
-use Rattle.qasm_lexer.specs.Forms.{is_digit, is_natural, is_word}
+use Rattle.std.specs.Char.{is_ascii_digit}
+use Rattle.std.specs.Option.{option_or}
+use Rattle.qasm_lexer.specs.Forms.{is_natural, is_word}
 use Rattle.qasm_lexer.specs.Tokens.{word_kind}
 use Rattle.qasm_reader.specs.Syntax.{Formula, Operand, Sentence, Placed}
 use Rattle.qasm_scope.specs.Calls.{Event, Called, Undefined, Applied, call_count, deepest, first_wrong}
 use Rattle.qasm_scope.specs.declared.causes.Cause.{Cause}
 use Rattle.qasm_scope.specs.declared.causes.Cause.TheVariants as causes
 use Rattle.qasm_scope.specs.Faults.{wrong_in}
-use Rattle.qasm_scope.specs.Meaning.{events_of, or_else, placed_or, fault_after, scope_after, gates_after}
-use Rattle.qasm_scope.specs.Scope.{numeral, numeral_from}
+use Rattle.qasm_scope.specs.Meaning.{events_of, fault_after, scope_after, gates_after}
+use Rattle.qasm_scope.specs.Scope.{numeral}
 use Rattle.qasm_scope.specs.Texts.{size_after}
+use Rattle.qasm_scope.specs.Internal.Numerals.{numeral_from}
+use Rattle.qasm_scope.proofs.Placing.{placed_or}
 use Rattle.qasm_writer.specs.Elements.{elements, elements_of}
 use Rattle.qasm_writer.specs.Written.{gate_line, on_one, on_two}
 use Rattle.qasm_writer.proofs.Lines.{IsLine, AreLines, no_line, line_then, on_one_line, on_two_line, u1_line, u1_text}
@@ -96,7 +100,7 @@ module _ (place n q : ℕ) (few : n ≤ most_qubits) (below : q < n) where
   not_is : IsGateLine place n (Not q)
   not_is = word_line (codes "x") (Not q) refl (on_one_line place (codes "x") refl refl q small) (x_comes n (decimal q) q is in_range)
 
-  turn_is : (b k : ℕ) → list_all is_digit (b ∷ []) ≡ true → is_natural (b ∷ []) ≡ true → gate_line (Phase q k) ≡ on_one (u1_text b) q
+  turn_is : (b k : ℕ) → list_all is_ascii_digit (b ∷ []) ≡ true → is_natural (b ∷ []) ≡ true → gate_line (Phase q k) ≡ on_one (u1_text b) q
       → Comes (register_scope n) (application (codes "u1") (quarters (b ∷ []) ∷ []) (operand (decimal q) ∷ [])) (elements (Phase q k))
       → IsGateLine place n (Phase q k)
   turn_is b k digit natural e comes = record {
@@ -156,8 +160,8 @@ pub record IsRest (place n : ℕ) (gates : List Gate) : Type 0 where
   pub same_gates : elements_of gates ≡ gates_after (register_scope n) program
   pub size : size_after (register_scope n) program ≡ length gates
 
-pub fine_then : (a b : Option Cause) (place : ℕ) (o : Option (Cause × ℕ)) → a ≡ None → b ≡ None → o ≡ None → placed_or (or_else a b) place o ≡ None
-fine_then a b place o e f g = ap₂ (λ a b. placed_or (or_else a b) place o) e f ∙ g
+pub fine_then : (a b : Option Cause) (place : ℕ) (o : Option (Cause × ℕ)) → a ≡ None → b ≡ None → o ≡ None → placed_or (option_or a b) place o ≡ None
+fine_then a b place o e f g = ap₂ (λ a b. placed_or (option_or a b) place o) e f ∙ g
 
 rest_then : (place n : ℕ) (gate : Gate) (gates : List Gate) → (l : IsGateLine place n gate) → IsRest (place + length (gate_line gate)) n gates
     → IsRest place n (gate ∷ gates)

@@ -3,7 +3,8 @@ use Rattle.std.specs.Prelude.{◌≡◌, ◌<◌, ℕ, ◌+◌, ◌^◌, true, L
 use Rattle.std.proofs.Common.{refl, sym, ap, ◌∙◌, arith, subst, append_assoc, inl}
 use Rattle.std.specs.List.{list_all}
 use Rattle.qasm_lexer.specs.declared.token.TokenKind.TheVariants as kind
-use Rattle.qasm_lexer.specs.Forms.{is_digit, is_natural, is_word}
+use Rattle.std.specs.Char.{is_ascii_digit}
+use Rattle.qasm_lexer.specs.Forms.{is_natural, is_word}
 use Rattle.qasm_lexer.specs.Tokens.{Lexeme, IsCut, word_kind}
 use Rattle.qasm_lexer.specs.Worked.{token}
 use Rattle.qasm_lexer.proofs.Building.{IsCut-nil, IsCut-space, IsCut-word, IsCut-sign, IsCut-plain_sign, IsCut-natural, IsCut-decimal}
@@ -12,7 +13,7 @@ use Rattle.qasm_lexer.proofs.Scan.{IsCut-tokens_of}
 use Rattle.qasm_reader.specs.Depth.{too_deep, too_deep_from}
 use Rattle.qasm_reader.specs.Grammar.{IsProgram, IsStatement, IsArgument, IsArguments, IsAngles, IsExpression, BeginsAt, OneTerm, Product, Quotient, OnePower, OneFactor, WholeNumber, PiWord}
 use Rattle.qasm_reader.specs.Syntax.{Formula, Operand, Sentence, Version, Include, QubitRegister, Placed}
-use Rattle.qasm_writer.specs.Written.{version_line, include_line, qubit, on_one, on_two}
+use Rattle.qasm_writer.specs.Written.{qubit, on_one, on_two}
 use Rattle.qasm_writer.proofs.Statements.{operand, application, quarters}
 
 -- ---- texts and programs
@@ -200,7 +201,7 @@ angle_tokens place n =
     ∷ token kind.Pi (codes "pi") (place + 5) ∷ token kind.Slash (codes "/") (place + 7) ∷ token kind.Natural (codes "4") (place + 8)
     ∷ token kind.RightParenthesis (codes ")") (place + 9) ∷ []
 
-u1_cut : (place n : ℕ) (after : List ℕ) (tokens : List Lexeme) → list_all is_digit (n ∷ []) ≡ true → is_natural (n ∷ []) ≡ true
+u1_cut : (place n : ℕ) (after : List ℕ) (tokens : List Lexeme) → list_all is_ascii_digit (n ∷ []) ≡ true → is_natural (n ∷ []) ≡ true
     → IsCut (place + 10) after tokens
     → IsCut place (u1_text n ++ after) (token kind.Identifier (codes "u1") place ∷ angle_tokens place n ++ tokens)
 u1_cut place n after tokens digit natural c =
@@ -227,7 +228,7 @@ angle_is place n =
     OneTerm (Quotient slash (Product star (OnePower (OneFactor (WholeNumber count refl))) refl (OneFactor (PiWord pi refl))) refl (OneFactor (WholeNumber four refl))) in
     (left ∷ [], inside ++ close ∷ [], refl, (left, refl, refl), (inside, close ∷ [], refl, (inside, [], refl, f, refl), (close, refl, refl)))
 
-pub u1_line : (place n q : ℕ) → list_all is_digit (n ∷ []) ≡ true → is_natural (n ∷ []) ≡ true → q < 2 ^ 64
+pub u1_line : (place n q : ℕ) → list_all is_ascii_digit (n ∷ []) ≡ true → is_natural (n ∷ []) ≡ true → q < 2 ^ 64
     → IsLine place (on_one (u1_text n) q) (application (codes "u1") (quarters (n ∷ []) ∷ []) (operand (decimal q) ∷ []))
 u1_line place n q digit natural small =
     let t : Lexeme = token kind.Identifier (codes "u1") place in
@@ -243,6 +244,13 @@ u1_line place n q digit natural small =
       statement = applied_is (codes "u1") (quarters (n ∷ []) ∷ []) (operand (decimal q) ∷ []) t _ (angle_tokens place n)
           (qubit_tokens (place + 10 + 1) q) refl refl (angle_is place n) (one_argument (place + 10 + 1) q) refl;
     }
+
+-- the lines before the register
+abbrev pub version_line : List ℕ
+version_line = codes "OPENQASM 2.0;\n"
+
+abbrev pub include_line : List ℕ
+include_line = codes "include \"qelib1.inc\";\n"
 
 -- ---- the lines at the head
 pub version_is : IsLine 0 version_line (Version (codes "2.0"))
@@ -312,17 +320,11 @@ register_is place n small =
           refl,
           (b, refl, refl, refl),
           (
-            c ∷ [],
-            d ∷ e ∷ f ∷ [],
+            c ∷ d ∷ e ∷ [],
+            f ∷ [],
             refl,
-            (c, refl, refl),
-            (
-              d ∷ [],
-              e ∷ f ∷ [],
-              refl,
-              (d, refl, refl, refl),
-              (e ∷ [], f ∷ [], refl, (e, refl, refl), (f, refl, refl)),
-            ),
+            (c ∷ [], d ∷ e ∷ [], refl, (c, refl, refl), (d ∷ [], e ∷ [], refl, (d, refl, refl, refl), (e, refl, refl))),
+            (f, refl, refl),
           ),
         ),
       );

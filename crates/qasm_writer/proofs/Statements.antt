@@ -61,7 +61,7 @@ pub right : (scope : Scope) (name : List ℕ) (angles : List Formula) (operands 
     → has_other_shape (shape_of scope (Declared name)) (length angles) (length operands) ≡ false
     → has_past_index scope operands ≡ false
     → has_other_size (register_sizes (ranges_of scope operands)) ≡ false
-    → list_any has_twice (instances (ranges_of scope operands)) ≡ false
+    → list_any (has_twice ◌==◌) (instances (ranges_of scope operands)) ≡ false
     → wrong_in scope (application name angles operands) ≡ None
 unfolding wrong_in
 right scope name angles operands unsupported unknown count index sizes twice =
@@ -71,7 +71,7 @@ right scope name angles operands unsupported unknown count index sizes twice =
     ∷ (has_other_shape (shape_of scope (Declared name)) (length angles) (length operands), cause.WrongCount)
     ∷ (has_past_index scope operands, cause.Index)
     ∷ (has_other_size (register_sizes (ranges_of scope operands)), cause.Sizes)
-    ∷ (list_any has_twice (instances (ranges_of scope operands)), cause.SameQubit)
+    ∷ (list_any (has_twice ◌==◌) (instances (ranges_of scope operands)), cause.SameQubit)
     ∷ [])
     (unsupported, (unknown, (count, (index, (sizes, (twice, tt))))))
 

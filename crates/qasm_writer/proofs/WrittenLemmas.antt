@@ -25,8 +25,8 @@ use Rattle.qasm_scope.specs.Meaning.{Means, with_header, after_statement, fault_
 use Rattle.qasm_scope.specs.Scope.{Qubits, declared, numeral, qubit_count}
 use Rattle.qasm_scope.specs.Texts.{IsProgramText, TextMeans, size_after, program_size}
 use Rattle.qasm_writer.specs.Elements.{h, elements, elements_of, gate_without_cz, without_cz}
-use Rattle.qasm_writer.specs.Written.{gate_line, register_line, version_line, include_line, written}
-use Rattle.qasm_writer.proofs.Lines.{AreLines, no_line, line_then, version_is, include_is, register_is, register_text}
+use Rattle.qasm_writer.specs.Written.{gate_line, register_line, written}
+use Rattle.qasm_writer.proofs.Lines.{AreLines, no_line, line_then, version_is, include_is, register_is, register_text, version_line, include_line}
 use Rattle.qasm_writer.proofs.Statements.{register_scope, most_of_one, no_cause}
 use Rattle.qasm_writer.proofs.GateLines.{numeral-decimal, IsRest, rest_is, fine_then, by_phase}
 use Rattle.qasm_writer.proofs.Maps.{proportional_without_cz}

@@ -6,12 +6,6 @@ use Rattle.zx_gates.specs.declared.gate.Gate.{Gate}
 use Rattle.zx_gates.specs.declared.gate.Gate.TheVariants.{H, Phase, Cz, Cx, Not}
 use Rattle.zx_gates.specs.Circuit.{Circuit}
 
-abbrev pub version_line : List ℕ
-version_line = codes "OPENQASM 2.0;\n"
-
-abbrev pub include_line : List ℕ
-include_line = codes "include \"qelib1.inc\";\n"
-
 -- the register of n qubits; a circuit without qubits has none
 abbrev pub register_line : ℕ → List ℕ
 register_line n = if n == 0 then [] else codes "qreg q[" ++ decimal n ++ codes "];\n"
@@ -45,4 +39,6 @@ gate_line (Not q) = on_one (codes "x") q
 
 -- the whole text
 unfoldable pub written : Circuit → List ℕ
-written circuit = version_line ++ include_line ++ register_line circuit.qubits ++ flat_map gate_line circuit.gates
+written circuit =
+    codes "OPENQASM 2.0;\n" ++ codes "include \"qelib1.inc\";\n" ++ register_line circuit.qubits
+    ++ flat_map gate_line circuit.gates

@@ -1,10 +1,8 @@
 //! The split of an input.
 
 ghost use Rattle.std.specs.Prelude.{◌≡◌, true, IfOk, OnOk, OnErr};
-ghost use Rattle.zx_model.specs.Bits.{member};
-ghost use Rattle.zx_calculus.specs.Graph.{end_vertices, WellFormed};
-ghost use Rattle.zx_calculus.specs.Steps.{allowed, SplitInput};
-ghost use Rattle.zx_calculus.specs.Splits.{IsSplitInput};
+ghost use Rattle.zx_calculus.specs.Graph.{WellFormed};
+ghost use Rattle.zx_calculus.specs.Steps.{allowed, IsStep, SplitInput};
 ghost use Rattle.gflow_laws.specs.Flow.{IsFlow};
 ghost use Rattle.gflow_laws.specs.Splits.{split_input_table, new_vertex};
 ghost use Rattle.gflow_laws.specs.Rewritten.{IsRewritten};
@@ -52,17 +50,18 @@ pub fn split_input_in_place(g: &mut OpenGraph, f: &mut Flow, b: VertexId) -> Res
     ensures table { OnOk result (f.new.flow ≡
         split_input_table b (new_vertex g.old.graph g.new.graph) f.old.flow) }
 {
-    let new = move_to_spider(g, b)?;
+    let new = split_input_in_graph(g, b)?;
     f.add_first(new, b)
 }
 
-// Moves the input at a vertex b to a new XY vertex of phase 0, adjacent to b alone, and toggles
-// its mark. Answers the new vertex.
-fn move_to_spider(g: &mut OpenGraph, b: VertexId) -> Result<VertexId, AllocError>
-    requires { member b (end_vertices g.old.graph.inputs) ≡ true }
-    ensures step { OnOk result (IsSplitInput g.old.graph b g.new.graph) }
+/// The graph's part of `split_input`, which answers the new vertex: where memory runs out, the
+/// graph may be any.
+pub fn split_input_in_graph(g: &mut OpenGraph, b: VertexId) -> Result<VertexId, AllocError>
+    requires { allowed g.old.graph (SplitInput b) ≡ true }
+    ensures step { OnOk result (IsStep g.old.graph (SplitInput b) g.new.graph) }
     ensures new { IfOk result (λ new. new_vertex g.old.graph g.new.graph ≡ new) }
     ensures was_valid { WellFormed g.old.graph }
+    ensures valid { WellFormed g.new.graph }
 {
     let inputs = g.inputs();
     let place = g.input_at(b).unwrap();

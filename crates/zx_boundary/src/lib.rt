@@ -7,7 +7,8 @@
 //! memory leaves both as they were.
 //! `may_split_input` and `may_split_output` tell exactly where each is allowed.
 //! `split_input_in_place` and `split_output_in_place` make the same change without copies; where
-//! memory runs out they say nothing.
+//! memory runs out they say nothing. `split_input_in_graph` and `split_output_in_graph` change the
+//! graph alone, by the same step, and answer the new vertex.
 //!
 //! ```rust
 //! if may_split_output(&graph, b) {
@@ -20,5 +21,5 @@ mod inputs;
 mod outputs;
 mod spider;
 
-pub use inputs::{may_split_input, split_input, split_input_in_place};
-pub use outputs::{may_split_output, split_output, split_output_in_place};
+pub use inputs::{may_split_input, split_input, split_input_in_graph, split_input_in_place};
+pub use outputs::{may_split_output, split_output, split_output_in_graph, split_output_in_place};

@@ -7,6 +7,8 @@
 //! as they were.
 //! `may_drop_lone`, `may_fuse_into` and `may_fuse_twin` tell exactly where each is allowed. The calls
 //! in place make the same change without copies; where memory runs out they say nothing.
+//! `drop_lone_in_graph`, `fuse_into_in_graph` and `fuse_twin_in_graph` change the graph alone, by
+//! the same step, and can't fail.
 //!
 //! ```rust
 //! if may_fuse_twin(&graph, u, v) {
@@ -21,6 +23,6 @@ mod single;
 mod twins;
 
 pub use gadget::is_gadget;
-pub use lone::{drop_lone, drop_lone_in_place, may_drop_lone};
-pub use single::{fuse_into, fuse_into_in_place, may_fuse_into};
-pub use twins::{fuse_twin, fuse_twin_in_place, may_fuse_twin};
+pub use lone::{drop_lone, drop_lone_in_graph, drop_lone_in_place, may_drop_lone};
+pub use single::{fuse_into, fuse_into_in_graph, fuse_into_in_place, may_fuse_into};
+pub use twins::{fuse_twin, fuse_twin_in_graph, fuse_twin_in_place, may_fuse_twin};

@@ -2,7 +2,7 @@
 
 ghost use Rattle.std.specs.Prelude.{◌≡◌, true, OnOk, OnErr};
 ghost use Rattle.zx_calculus.specs.Graph.{WellFormed};
-ghost use Rattle.zx_calculus.specs.Steps.{allowed, DropLone};
+ghost use Rattle.zx_calculus.specs.Steps.{allowed, DropLone, IsStep};
 ghost use Rattle.gflow_laws.specs.Flow.{IsFlow};
 ghost use Rattle.gflow_laws.specs.Rewritten.{IsRewritten};
 
@@ -44,6 +44,16 @@ pub fn drop_lone_in_place(g: &mut OpenGraph, f: &mut Flow, u: VertexId) -> Resul
     ensures rewritten { OnOk result
         (IsRewritten g.old.graph f.old.flow (DropLone u) g.new.graph f.new.flow) }
 {
-    take_out(g, f, u)?;
-    Ok(())
+    drop_lone_in_graph(g, u);
+    f.eliminate(u)
+}
+
+/// The graph's part of `drop_lone`.
+pub fn drop_lone_in_graph(g: &mut OpenGraph, u: VertexId)
+    requires { allowed g.old.graph (DropLone u) ≡ true }
+    ensures step { IsStep g.old.graph (DropLone u) g.new.graph }
+    ensures was_valid { WellFormed g.old.graph }
+    ensures valid { WellFormed g.new.graph }
+{
+    take_out(g, u);
 }

@@ -2,7 +2,7 @@
 
 ghost use Rattle.std.specs.Prelude.{◌≡◌, true, OnOk, OnErr};
 ghost use Rattle.zx_calculus.specs.Graph.{is_XY, plane_of, Live, WellFormed};
-ghost use Rattle.zx_calculus.specs.Steps.{allowed, FuseInto};
+ghost use Rattle.zx_calculus.specs.Steps.{allowed, FuseInto, IsStep};
 ghost use Rattle.gflow_laws.specs.Flow.{IsFlow};
 ghost use Rattle.gflow_laws.specs.Rewritten.{IsRewritten};
 
@@ -50,10 +50,20 @@ pub fn fuse_into_in_place(g: &mut OpenGraph, f: &mut Flow, u: VertexId) -> Resul
     ensures rewritten { OnOk result
         (IsRewritten g.old.graph f.old.flow (FuseInto u) g.new.graph f.new.flow) }
 {
+    fuse_into_in_graph(g, u);
+    f.eliminate(u)
+}
+
+/// The graph's part of `fuse_into`.
+pub fn fuse_into_in_graph(g: &mut OpenGraph, u: VertexId)
+    requires { allowed g.old.graph (FuseInto u) ≡ true }
+    ensures step { IsStep g.old.graph (FuseInto u) g.new.graph }
+    ensures was_valid { WellFormed g.old.graph }
+    ensures valid { WellFormed g.new.graph }
+{
     let into = g.neighbour(u, 0);
-    let phase = take_out(g, f, u)?;
+    let phase = take_out(g, u);
     add_phase(g, into, phase);
-    Ok(())
 }
 
 fn is_xy(g: &OpenGraph, v: VertexId) -> bool

@@ -2,7 +2,7 @@
 
 ghost use Rattle.std.specs.Prelude.{◌≡◌, true, OnOk, OnErr};
 ghost use Rattle.zx_calculus.specs.Graph.{WellFormed};
-ghost use Rattle.zx_calculus.specs.Steps.{allowed, FuseTwin};
+ghost use Rattle.zx_calculus.specs.Steps.{allowed, FuseTwin, IsStep};
 ghost use Rattle.gflow_laws.specs.Flow.{IsFlow};
 ghost use Rattle.gflow_laws.specs.Rewritten.{IsRewritten};
 
@@ -66,7 +66,17 @@ pub fn fuse_twin_in_place(
     ensures rewritten { OnOk result
         (IsRewritten g.old.graph f.old.flow (FuseTwin u v) g.new.graph f.new.flow) }
 {
-    let phase = take_out(g, f, v)?;
+    fuse_twin_in_graph(g, u, v);
+    f.eliminate(v)
+}
+
+/// The graph's part of `fuse_twin`.
+pub fn fuse_twin_in_graph(g: &mut OpenGraph, u: VertexId, v: VertexId)
+    requires { allowed g.old.graph (FuseTwin u v) ≡ true }
+    ensures step { IsStep g.old.graph (FuseTwin u v) g.new.graph }
+    ensures was_valid { WellFormed g.old.graph }
+    ensures valid { WellFormed g.new.graph }
+{
+    let phase = take_out(g, v);
     add_phase(g, u, phase);
-    Ok(())
 }

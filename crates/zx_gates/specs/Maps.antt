@@ -28,10 +28,7 @@ phase k true false = zero
 -- 0 1
 -- 1 0
 abbrev pub exchange : Matrix
-exchange false false = zero
-exchange true true = zero
-exchange false true = one
-exchange true false = one
+exchange row column = if xor row column then one else zero
 
 -- What follows a gate is a function f of the bits after it. Before the gate it is this function: for a
 -- matrix on one qubit, the sum over what the qubit's bit may become.

@@ -7,54 +7,18 @@ use Rattle.std.proofs.lemmas.List.{append-nil}
 use Rattle.zx_gates.specs.declared.gate.Gate.{Gate}
 use Rattle.zx_gates.specs.declared.gate.Gate.TheVariants.{H}
 use Rattle.zx_peephole.specs.Commuting.{commutes}
-use Rattle.zx_peephole.specs.Tidy.{is_pair, is_turned, is_off, IsPair, IsTriple, IsTidy}
+use Rattle.zx_peephole.specs.Tidy.{is_pair, is_turned, is_off, IsTidy}
 use Rattle.zx_peephole.specs.Internal.Changes.{EndsPair, EndsTriple}
 use Rattle.zx_peephole.proofs.Cuts.{cut_cases, cut_one, cut_none, all_at, all_with}
 use Rattle.zx_peephole.proofs.CommutingLemmas.{alike, commutes_comm, commutes_off}
 
--- a tidy list has no pair at any cut
-pub no_pair_at : (gates : List Gate) → IsTidy gates → (before between after : List Gate) (g h : Gate)
-    → gates ≡ before ++ g ∷ (between ++ h ∷ after) → is_pair g h ≡ true → list_all (commutes g) between ≡ true → ⊥
-no_pair_at gates tidy before between after g h cut merge commute =
-    tidy.no_pair (length before) (length before + 1 + length between) (record {
-      before = before;
-      first = g;
-      between = between;
-      second = h;
-      after = after;
-      cut = cut;
-      at_first = refl;
-      at_second = refl;
-      merge = merge;
-      commute = commute;
-    })
-
-pub no_triple_at : (gates : List Gate) → IsTidy gates → (q : ℕ) (before left right after : List Gate) (g : Gate)
-    → gates ≡ before ++ H q ∷ (left ++ g ∷ (right ++ H q ∷ after)) → is_turned q g ≡ true
-    → list_all (is_off q) left ≡ true → list_all (is_off q) right ≡ true → ⊥
-no_triple_at gates tidy q before left right after g cut turned left_off right_off =
-    tidy.no_triple (length before) (length before + 1 + length left)
-    (length before + 1 + length left + 1 + length right) (record {
-      qubit = q;
-      before = before;
-      left = left;
-      middle = g;
-      right = right;
-      after = after;
-      cut = cut;
-      at_first = refl;
-      at_middle = refl;
-      at_last = refl;
-      turned = turned;
-      left_off = left_off;
-      right_off = right_off;
-    })
-
 -- ---- no gate
 pub tidy-none : IsTidy []
 tidy-none = record {
-  no_pair = λ i j p. cut_none p.first p.before (p.between ++ p.second ∷ p.after) p.cut;
-  no_triple = λ i j k t. cut_none (H t.qubit) t.before (t.left ++ t.middle ∷ (t.right ++ H t.qubit ∷ t.after)) t.cut;
+  no_pair = λ before between after first second cut merge commute.
+      cut_none first before (between ++ second ∷ after) cut;
+  no_triple = λ q before left right after middle cut turned left_off right_off.
+      cut_none (H q) before (left ++ middle ∷ (right ++ H q ∷ after)) cut;
 }
 
 -- ---- a gate goes that commutes with all behind it
@@ -67,17 +31,17 @@ module _ (front middle : List Gate) (g : Gate) (tidy : IsTidy (front ++ g ∷ mi
   no_pair_without before between after a b cut merge commute =
       elim (cut_cases front middle before (between ++ b ∷ after) a cut) [
         | inl c ↦ elim (cut_cases c.rest middle between after b (sym c.second)) [
-          | inl d ↦ no_pair_at _ tidy before between (d.rest ++ g ∷ middle) a b
+          | inl d ↦ tidy.no_pair before between (d.rest ++ g ∷ middle) a b
               (ap (λ xs. xs ++ g ∷ middle) (c.first ∙ ap (λ xs. before ++ a ∷ xs) d.first)
               ∙ simp append_assoc) merge commute
           | inr d ↦
               let passes : commutes a g ≡ true =
               alike a b merge g ∙ commutes_comm b g ∙ all_at (commutes g) middle d.rest after b d.second free in
-              no_pair_at _ tidy before (c.rest ++ g ∷ d.rest) after a b
+              tidy.no_pair before (c.rest ++ g ∷ d.rest) after a b
               (ap₂ (λ xs ys. xs ++ g ∷ ys) c.first d.second ∙ simp append_assoc) merge
               (all_with (commutes a) c.rest d.rest g (ap (list_all (commutes a)) (sym d.first) ∙ commute) passes)
         ]
-        | inr c ↦ no_pair_at _ tidy (front ++ g ∷ c.rest) between after a b
+        | inr c ↦ tidy.no_pair (front ++ g ∷ c.rest) between after a b
             (ap (λ ys. front ++ g ∷ ys) c.second ∙ simp append_assoc) merge commute
       ]
 
@@ -93,77 +57,72 @@ module _ (front middle : List Gate) (g : Gate) (tidy : IsTidy (front ++ g ∷ mi
       elim (cut_cases front middle before (left ++ a ∷ (right ++ H q ∷ after)) (H q) cut) [
         | inl c ↦ elim (cut_cases c.rest middle left (right ++ H q ∷ after) a (sym c.second)) [
           | inl d ↦ elim (cut_cases d.rest middle right after (H q) (sym d.second)) [
-            | inl e ↦ no_triple_at _ tidy q before left right (e.rest ++ g ∷ middle) a
+            | inl e ↦ tidy.no_triple q before left right (e.rest ++ g ∷ middle) a
                 (ap (λ xs. xs ++ g ∷ middle)
                 (c.first ∙ ap (λ xs. before ++ H q ∷ xs) (d.first ∙ ap (λ xs. left ++ a ∷ xs) e.first))
                 ∙ simp append_assoc)
                 turned left_off right_off
-            | inr e ↦ no_triple_at _ tidy q before left (d.rest ++ g ∷ e.rest) after a
+            | inr e ↦ tidy.no_triple q before left (d.rest ++ g ∷ e.rest) after a
                 (ap₂ (λ xs ys. xs ++ g ∷ ys) (c.first ∙ ap (λ xs. before ++ H q ∷ xs) d.first) e.second
                 ∙ simp append_assoc) turned left_off
                 (all_with (is_off q) d.rest e.rest g (ap (list_all (is_off q)) (sym e.first) ∙ right_off)
                 (off q e.rest after e.second))
           ]
-          | inr d ↦ no_triple_at _ tidy q before (c.rest ++ g ∷ d.rest) right after a
+          | inr d ↦ tidy.no_triple q before (c.rest ++ g ∷ d.rest) right after a
               (ap₂ (λ xs ys. xs ++ g ∷ ys) c.first d.second ∙ simp append_assoc) turned
               (all_with (is_off q) c.rest d.rest g (ap (list_all (is_off q)) (sym d.first) ∙ left_off)
               (off q (d.rest ++ a ∷ right) after (d.second ∙ simp append_assoc))) right_off
         ]
-        | inr c ↦ no_triple_at _ tidy q (front ++ g ∷ c.rest) left right after a
+        | inr c ↦ tidy.no_triple q (front ++ g ∷ c.rest) left right after a
             (ap (λ ys. front ++ g ∷ ys) c.second ∙ simp append_assoc) turned left_off right_off
       ]
 
   pub tidy-without : IsTidy (front ++ middle)
-  tidy-without = record {
-    no_pair = λ i j p. no_pair_without p.before p.between p.after p.first p.second p.cut p.merge p.commute;
-    no_triple = λ i j k t.
-        no_triple_without t.qubit t.before t.left t.right t.after t.middle t.cut t.turned t.left_off t.right_off;
-  }
+  tidy-without = record { no_pair = no_pair_without; no_triple = no_triple_without }
 
 -- ---- one more gate
 pub tidy-more : (front : List Gate) (g : Gate) → ((i : ℕ) → EndsPair front g i → ⊥)
     → ((i j : ℕ) → EndsTriple front g i j → ⊥) → IsTidy front → IsTidy (front ++ g ∷ [])
-tidy-more front g no_pair no_triple tidy =
-    record { no_pair = λ i j p. pair i j p; no_triple = λ i j k t. triple i j k t }
+tidy-more front g no_pair no_triple tidy = record { no_pair = pair; no_triple = triple }
   where
-    pair : (i j : ℕ) → IsPair (front ++ g ∷ []) i j → ⊥
-    pair i j p =
-        elim (cut_cases front (g ∷ []) (p.before ++ p.first ∷ p.between) p.after p.second (p.cut ∙ simp append_assoc)) [
-          | inl c ↦ no_pair_at front tidy p.before p.between c.rest p.first p.second
-              (c.first ∙ simp append_assoc) p.merge p.commute
+    pair : (before between after : List Gate) (a b : Gate) → front ++ g ∷ [] ≡ before ++ a ∷ (between ++ b ∷ after)
+        → is_pair a b ≡ true → list_all (commutes a) between ≡ true → ⊥
+    pair before between after a b cut merge commute =
+        elim (cut_cases front (g ∷ []) (before ++ a ∷ between) after b (cut ∙ simp append_assoc)) [
+          | inl c ↦ tidy.no_pair before between c.rest a b (c.first ∙ simp append_assoc) merge commute
           | inr c ↦
-              let one = cut_one g p.second c.rest p.after c.second in
-              no_pair (length p.before) (record {
-                before = p.before;
+              let one = cut_one g b c.rest after c.second in
+              no_pair (length before) (record {
+                before = before;
                 at = refl;
-                first = p.first;
-                between = p.between;
+                first = a;
+                between = between;
                 cut = sym (c.first ∙ ap (λ r. front ++ r) one.0 ∙ append-nil front);
-                merge = ap (is_pair p.first) one.1 ∙ p.merge;
-                commute = p.commute;
+                merge = ap (is_pair a) one.1 ∙ merge;
+                commute = commute;
               })
         ]
 
-    triple : (i j k : ℕ) → IsTriple (front ++ g ∷ []) i j k → ⊥
-    triple i j k t =
-        elim (cut_cases front (g ∷ []) (t.before ++ H t.qubit ∷ (t.left ++ t.middle ∷ t.right)) t.after (H t.qubit)
-        (t.cut ∙ simp append_assoc)) [
-          | inl c ↦ no_triple_at front tidy t.qubit t.before t.left t.right c.rest t.middle
-              (c.first ∙ simp append_assoc) t.turned t.left_off t.right_off
+    triple : (q : ℕ) (before left right after : List Gate) (a : Gate)
+        → front ++ g ∷ [] ≡ before ++ H q ∷ (left ++ a ∷ (right ++ H q ∷ after)) → is_turned q a ≡ true
+        → list_all (is_off q) left ≡ true → list_all (is_off q) right ≡ true → ⊥
+    triple q before left right after a cut turned left_off right_off =
+        elim (cut_cases front (g ∷ []) (before ++ H q ∷ (left ++ a ∷ right)) after (H q) (cut ∙ simp append_assoc)) [
+          | inl c ↦ tidy.no_triple q before left right c.rest a (c.first ∙ simp append_assoc) turned left_off right_off
           | inr c ↦
-              let one = cut_one g (H t.qubit) c.rest t.after c.second in
-              no_triple (length t.before) (length t.before + 1 + length t.left) (record {
+              let one = cut_one g (H q) c.rest after c.second in
+              no_triple (length before) (length before + 1 + length left) (record {
                 at_first = refl;
                 at_middle = refl;
-                qubit = t.qubit;
-                before = t.before;
-                left = t.left;
-                middle = t.middle;
-                right = t.right;
+                qubit = q;
+                before = before;
+                left = left;
+                middle = a;
+                right = right;
                 is = one.1;
                 cut = sym (c.first ∙ ap (λ r. front ++ r) one.0 ∙ append-nil front);
-                turned = t.turned;
-                left_off = t.left_off;
-                right_off = t.right_off;
+                turned = turned;
+                left_off = left_off;
+                right_off = right_off;
               })
         ]

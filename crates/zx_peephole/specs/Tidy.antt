@@ -1,7 +1,7 @@
 -- Lists of gates in which no pair and no triple is left that is nothing or one gate.
 -- Nam, Ross, Su, Childs and Maslov, "Automated optimization of large quantum circuits with continuous parameters"
 -- (npj Quantum Information 4, 23, 2018), on cancellation of gates that commutation brings together.
-use Rattle.std.specs.Prelude.{◌≡◌, ◌+◌, ◌==◌, ◌&&◌, ◌||◌, not, ℕ, Bool, false, List, ◌∷◌, ◌++◌, length, IsTrue}
+use Rattle.std.specs.Prelude.{◌≡◌, ◌==◌, ◌&&◌, ◌||◌, not, ℕ, Bool, false, List, ◌∷◌, ◌++◌, IsTrue}
 use Rattle.std.specs.List.{list_all}
 use Rattle.zx_model.specs.Phase.{half_turn}
 use Rattle.zx_gates.specs.declared.gate.Gate.{Gate}
@@ -18,19 +18,6 @@ is_pair (Cx control target) (Cx other_control other_target) = (control == other_
 is_pair (Not q) (Not r) = (q == r)
 is_pair first second = false
 
--- The gates at places i and j, with i below j, are such a pair, and the first commutes with each gate between.
-pub record IsPair (gates : List Gate) (i j : ℕ) : Type 0 where
-  pub before : List Gate
-  pub first : Gate
-  pub between : List Gate
-  pub second : Gate
-  pub after : List Gate
-  pub cut : gates ≡ before ++ first ∷ (between ++ second ∷ after)
-  pub at_first : length before ≡ i
-  pub at_second : i + 1 + length between ≡ j
-  pub merge : IsTrue (is_pair first second)
-  pub commute : IsTrue (list_all (commutes first) between)
-
 -- whether a gate on the qubit, between two H, is one gate with them: a half turn or NOT
 abbrev pub is_turned : ℕ → Gate → Bool
 is_turned q (Phase p k) = (p == q) && (k == half_turn)
@@ -41,23 +28,12 @@ is_turned q other = false
 abbrev pub is_off : ℕ → Gate → Bool
 is_off q gate = not (is_on q gate)
 
--- The gates at places i, j and k are H, such a gate, and H, all on one qubit, with no other gate on it between.
-pub record IsTriple (gates : List Gate) (i j k : ℕ) : Type 0 where
-  pub qubit : ℕ
-  pub before : List Gate
-  pub left : List Gate
-  pub middle : Gate
-  pub right : List Gate
-  pub after : List Gate
-  pub cut : gates ≡ before ++ H qubit ∷ (left ++ middle ∷ (right ++ H qubit ∷ after))
-  pub at_first : length before ≡ i
-  pub at_middle : i + 1 + length left ≡ j
-  pub at_last : j + 1 + length right ≡ k
-  pub turned : IsTrue (is_turned qubit middle)
-  pub left_off : IsTrue (list_all (is_off qubit) left)
-  pub right_off : IsTrue (list_all (is_off qubit) right)
-
--- no pair and no triple is left
+-- No pair is left of which the first commutes with each gate between; and no H, such a gate, and H, all on one qubit,
+-- with no other gate on it between.
 pub record IsTidy (gates : List Gate) : Type 0 where
-  pub no_pair : (i j : ℕ) → ¬ IsPair gates i j
-  pub no_triple : (i j k : ℕ) → ¬ IsTriple gates i j k
+  pub no_pair : (before between after : List Gate) (first second : Gate) →
+      gates ≡ before ++ first ∷ (between ++ second ∷ after) → IsTrue (is_pair first second) →
+      IsTrue (list_all (commutes first) between) → ⊥
+  pub no_triple : (qubit : ℕ) (before left right after : List Gate) (middle : Gate) →
+      gates ≡ before ++ H qubit ∷ (left ++ middle ∷ (right ++ H qubit ∷ after)) → IsTrue (is_turned qubit middle) →
+      IsTrue (list_all (is_off qubit) left) → IsTrue (list_all (is_off qubit) right) → ⊥

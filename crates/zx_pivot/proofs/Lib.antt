@@ -1,4 +1,3 @@
-mod Rows
 mod Loops
 mod Rewiring
 mod Halves

@@ -1,7 +1,7 @@
 -- What the changes of a graph, one after the other, make of it: a pivot.
 use Rattle.std.proofs.Common.{◌≡◌, ◌≢◌, refl, sym, ◌∙◌, ap, ℕ, true, false, cond, ◌&&◌, eqb, List, ne_eqb, true≢false}
 use Rattle.zx_model.specs.Bits.{member}
-use Rattle.zx_calculus.specs.Graph.{Kind, Graph, ids, joined, neighbours, with_kinds, Live, Interior, WellFormed}
+use Rattle.zx_calculus.specs.Graph.{Kind, Graph, ids, joined, neighbours, with_kinds, Live, WellFormed}
 use Rattle.zx_calculus.specs.Pivots.{IsPivot, pivot_kind}
 use Rattle.zx_calculus.specs.Steps.{allowed, Pivot}
 use Rattle.zx_calculus.specs.Edits.{at_vertex}
@@ -12,7 +12,7 @@ use Rattle.zx_calculus.proofs.Vertices.{with_kinds_same}
 use Rattle.zx_calculus.proofs.Splitting.{no_loop}
 use Rattle.gflow_laws.specs.Flow.{Correction, order_of, IsFlow}
 use Rattle.zx_calculus.specs.Toggles.{with_changed}
-use Rattle.zx_calculus.proofs.Allowed.{pivot_live, pivot_live_too, pivot_interior, pivot_interior_too}
+use Rattle.zx_calculus.proofs.Allowed.{pivot_live, pivot_live_too, pivot_interior, pivot_interior_too, pivot_joined}
 use Rattle.gflow_laws.proofs.Rewriting.{interior_listed}
 use Rattle.zx_calculus.proofs.Toggling.{member-neighbours}
 use Rattle.zx_calculus.proofs.ChangedKinds.{with_kinds-with_kinds, turned_live}
@@ -33,7 +33,7 @@ second_listed g table u v flow may =
 pub adjacent_apart : (g : Graph) (u v : ℕ) → WellFormed g → joined g.edges u v ≡ true → u ≢ v
 adjacent_apart g u v w uv e = true≢false (sym uv ∙ ap (joined g.edges u) (sym e) ∙ no_loop g u w)
 
-module _ (g k : Graph) (u v : ℕ) (w : WellFormed g) (uv : joined g.edges u v ≡ true)
+module _ (g k : Graph) (u v : ℕ) (w : WellFormed g) (may : allowed g (Pivot u v) ≡ true)
     (c : IsRewired (with_changed (half_turned_in (neighbours g u) (joined g.edges v)) g) u v k) where
   abbrev halves : ℕ → Kind → Kind
   halves = half_turned_in (neighbours g u) (joined g.edges v)
@@ -42,7 +42,7 @@ module _ (g k : Graph) (u v : ℕ) (w : WellFormed g) (uv : joined g.edges u v �
   rewired_live x there = ap (λ vs. member x (ids vs)) c.vertices ∙ turned_live halves g (with_changed halves g) x refl there
 
   apart : u ≢ v
-  apart = adjacent_apart g u v w uv
+  apart = adjacent_apart g u v w (pivot_joined g u v may)
 
   abbrev own : ℕ → Kind → Kind
   own p kind = at_vertex v pivoted p (at_vertex u pivoted p kind)
@@ -59,14 +59,14 @@ module _ (g k : Graph) (u v : ℕ) (w : WellFormed g) (uv : joined g.edges u v �
       (λ f' n'. rw (f, f') refl))
 
   -- the common neighbours, the edges, then the two vertices
-  pub pivot_step : Live g u → Live g v → Interior g u → Interior g v → (h : Graph) →
-      h ≡ with_changed (at_vertex v pivoted) (with_changed (at_vertex u pivoted) k) → WellFormed h → IsPivot g u v h
-  pivot_step u_there v_there u_inner v_inner h made wh = record {
-    there = u_there;
-    there_too = v_there;
-    interior = u_inner;
-    interior_too = v_inner;
-    adjacent = uv;
+  pub pivot_step : (h : Graph) → h ≡ with_changed (at_vertex v pivoted) (with_changed (at_vertex u pivoted) k) →
+      WellFormed h → IsPivot g u v h
+  pivot_step h made wh = record {
+    there = pivot_live g u v may;
+    there_too = pivot_live_too g u v may;
+    interior = pivot_interior g u v may;
+    interior_too = pivot_interior_too g u v may;
+    adjacent = pivot_joined g u v may;
     vertices = ap (λ (x : Graph). x.vertices) made
         ∙ with_kinds-with_kinds (at_vertex v pivoted) (at_vertex u pivoted) k.vertices
         ∙ ap (with_kinds own) c.vertices ∙ with_kinds-with_kinds own halves g.vertices

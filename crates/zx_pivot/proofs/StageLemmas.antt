@@ -6,13 +6,12 @@ use Rattle.zx_calculus.specs.Graph.{Plane}
 use Rattle.zx_calculus.proofs.Booleans.{parities, xor-false}
 use Rattle.zx_calculus.proofs.Ids.{eqb-self}
 use Rattle.gflow_laws.specs.Seen.{Seen, odd, complemented, complemented_plane, turned_plane}
-use Rattle.gflow_laws.specs.Flow.{Correction, order_of, set_of, SameSets}
-use Rattle.gflow_laws.specs.Complements.{set_about, set_beside, complement_table}
+use Rattle.gflow_laws.specs.Flow.{Correction, SameSets}
+use Rattle.gflow_laws.specs.Complements.{complement_table}
 use Rattle.gflow_laws.specs.Pivots.{pivot_table}
 use Rattle.gflow_laws.specs.Correcting.{Simple}
 use Rattle.gflow_laws.proofs.Complements.{odd-complemented, same-complement_table}
 use Rattle.gflow_laws.proofs.Pivots.{Simple-complemented}
-use Rattle.gflow_laws.proofs.Tables.{order_of-with_sets}
 use Rattle.zx_pivot.specs.declared.flow.Stage.{Stage}
 use Rattle.zx_pivot.specs.declared.flow.Stage.TheVariants.{First, Second, Third}
 use Rattle.zx_pivot.specs.Internal.Stages.{view, plane_in}

@@ -5,7 +5,8 @@
 //! with the exact factors of `zx_calculus`, and odd phases don't rise; want of memory leaves both
 //! as they were.
 //! `may_pivot` tells exactly where it is allowed. `pivot_in_place` makes the same change without
-//! copies; where memory runs out it says nothing.
+//! copies; where memory runs out it says nothing. `pivot_in_graph` changes the graph alone, by the
+//! same step.
 //!
 //! ```rust
 //! if may_pivot(&graph, u, v) {
@@ -18,4 +19,5 @@ mod flow;
 mod graph;
 mod rewrite;
 
+pub use graph::pivot_in_graph;
 pub use rewrite::{may_pivot, pivot, pivot_in_place};

@@ -6,7 +6,8 @@ ghost use Rattle.zx_calculus.specs.Steps.{allowed, Pivot};
 ghost use Rattle.gflow_laws.specs.Flow.{IsFlow};
 ghost use Rattle.gflow_laws.specs.Rewritten.{IsRewritten};
 
-use crate::{flow, graph};
+use crate::flow::pivot_sets;
+use crate::graph::pivot_in_graph;
 use open_graph::{OpenGraph, VertexId};
 use std::alloc::AllocError;
 use zx_flow::Flow;
@@ -50,6 +51,6 @@ pub fn pivot_in_place(
     ensures rewritten { OnOk result
         (IsRewritten g.old.graph f.old.flow (Pivot u v) g.new.graph f.new.flow) }
 {
-    flow::pivot_sets(f, g, u, v)?;
-    graph::pivot(g, u, v)
+    pivot_sets(f, g, u, v)?;
+    pivot_in_graph(g, u, v)
 }

@@ -9,3 +9,6 @@ pub mod MoveCounts
 pub mod MoveEnds
 pub mod MoveSteps
 mod MovesMade
+mod CandidateSets
+mod Guided
+mod Ranking

@@ -12,6 +12,9 @@ use Rattle.zx_reduce.specs.declared.step.Step.{Step}
 use Rattle.zx_reduce.specs.Steps.{step_named}
 use Rattle.zx_reduce.specs.Search.{AppliesAt, IsOfFirstKind}
 use Rattle.zx_reduce.specs.Moving.{steps_of, AreMoves, most_moves, GainsMoves, GainsRun}
+use Rattle.zx_reduce.specs.declared.candidates.Candidates.{Candidates}
+use Rattle.zx_reduce.specs.declared.ranks.Ranks.{Ranks}
+use Rattle.zx_reduce.specs.Internal.Guiding.{HasCandidates, IsGuided}
 use Rattle.zx_reduce.specs.Internal.Planning.{AreAllowed, GainsMove}
 use Rattle.zx_reduce.proofs.MoveRuns.{IsRun-append, AreMoves-snoc, AreMoves-run, length-AreMoves, ends-run}
 use Rattle.zx_reduce.proofs.MoveCounts.{AreMoves-few}
@@ -67,15 +70,17 @@ all_done {g} {k} {m} {steps} {before} {after} {i} planned way all =
     }
 
 -- what is kept while moves are made
-pub record AreMade (g h : Graph) (table : List Correction) (before after : List Step) (start now : ℕ) : Type 0 where
+pub record AreMade (g h : Graph) (order : Ranks) (candidates : Candidates) (before after : List Step) (start now : ℕ) : Type 0 where
   pub gains : GainsMoves g h before after start now
-  pub flow : IsFlow h table
-  pub valid : WellFormed h
+  pub guided : IsGuided h order candidates
 
-pub none_made : {g h : Graph} {table later : List Correction} {before after : List Step} (start : ℕ) →
-    WellFormed g → IsFlow g table → h ≡ g → later ≡ table → after ≡ before →
-    AreMade g h later before after start start
-none_made {g} {h} {table} {later} {before} start w flow same_graph same_flow same_trace = record {
+-- other candidates guide as well
+pub still_guided : {g : Graph} {order : Ranks} {candidates others : Candidates} → IsGuided g order candidates → HasCandidates g others → IsGuided g order others
+still_guided guided has = record { valid = guided.valid; flow = guided.flow; candidates = has }
+
+pub none_made : {g h : Graph} {order : Ranks} {candidates : Candidates} {before after : List Step} (start : ℕ) →
+    IsGuided h order candidates → h ≡ g → after ≡ before → AreMade g h order candidates before after start start
+none_made {g} {h} {before = before} start guided same_graph same_trace = record {
   gains = record {
     gained = [];
     count = 0;
@@ -83,20 +88,18 @@ none_made {g} {h} {table} {later} {before} start w flow same_graph same_flow sam
     counter = sym (add-zero start);
     moves = (refl, sym same_graph);
   };
-  flow = subst (λ (t : List Correction). IsFlow h t) (sym same_flow)
-      (subst (λ (k : Graph). IsFlow k table) (sym same_graph) flow);
-  valid = subst WellFormed (sym same_graph) w;
+  guided = guided;
 }
 
 counted_on : (start now later n : ℕ) → now ≡ start + n → later ≡ now + 1 → later ≡ start + (n + 1)
 counted_on start now later n e f = omega arith
 
-pub one_made : {g k h : Graph} {m : Move} {table later : List Correction} {before after more : List Step}
-    {start now ticked : ℕ} →
-    AreMade g k table before after start now → AppliesAt k m → IsOfFirstKind k m → GainsMove k m h after more →
-    IsFlow h later → WellFormed h → ticked ≡ now + 1 → AreMade g h later before more start ticked
+pub one_made : {g k h : Graph} {m : Move} {order later : Ranks} {candidates others : Candidates}
+    {before after more : List Step} {start now ticked : ℕ} →
+    AreMade g k order candidates before after start now → AppliesAt k m → IsOfFirstKind k m → GainsMove k m h after more →
+    IsGuided h later others → ticked ≡ now + 1 → AreMade g h later others before more start ticked
 one_made {g} {k} {h} {m} {before = before} {start = start} {now = now} {ticked = ticked}
-    made applies first one flow w tick =
+    made applies first one guided tick =
     let gained = made.gains.gained in
     record {
       gains = record {
@@ -110,8 +113,7 @@ one_made {g} {k} {h} {m} {before = before} {start = start} {now = now} {ticked =
             (AreMoves-snoc g made.gains.count (map step_named gained) k m h made.gains.moves
             (record { applies = applies; first = first; run = one.run }));
       };
-      flow = flow;
-      valid = w;
+      guided = guided;
     }
 
 few_more : (start now n most left : ℕ) → now ≡ start + n → n + left ≤ most → now ≤ start + most

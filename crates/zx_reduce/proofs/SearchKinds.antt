@@ -11,7 +11,7 @@ use Rattle.zx_reduce.specs.Search.{AppliesAt, kind_of, IsOfFirstKind}
 use Rattle.zx_reduce.specs.Internal.Searching.{IsMoveAt, NoneBefore}
 
 -- no kind stands twice
-stands_once : (i j : ℕ) (k : Kind) → slice_get KINDS i ≡ Some k → slice_get KINDS j ≡ Some k → i ≡ j
+pub stands_once : (i j : ℕ) (k : Kind) → slice_get KINDS i ≡ Some k → slice_get KINDS j ≡ Some k → i ≡ j
 stands_once i j k e f = grind arith
 
 -- of the first n kinds none applies

@@ -1,7 +1,6 @@
 -- Which rewrites are allowed where a move applies.
-use Rattle.std.proofs.Common.{◌≡◌, ◌≢◌, refl, sym, ◌∙◌, ap, ℕ, Bool, true, false, not, ◌&&◌, eqb, List, [], ◌∷◌, length, ne_eqb}
-use Rattle.std.specs.List.{list_all}
-use Rattle.zx_model.specs.Bits.{xor, member}
+use Rattle.std.proofs.Common.{◌≡◌, ◌≢◌, refl, ap, ℕ, true, false, ◌&&◌, List, [], ◌∷◌, length}
+use Rattle.zx_model.specs.Bits.{member}
 use Rattle.zx_calculus.specs.Graph.{Plane, XY, XZ, YZ, Graph, ids, is_XY, plane_of, joined, neighbours, Live, WellFormed, is_YZ, is_interior}
 use Rattle.zx_calculus.specs.Steps.{allowed}
 use Rattle.zx_calculus.specs.Gadgets.{is_one_XY, is_empty}
@@ -9,7 +8,6 @@ use Rattle.zx_calculus.specs.Moves.{IsInXZ, IsGadgetPair, IsGadgetOf, AreTwins}
 use Rattle.zx_calculus.specs.Steps as calculus
 use Rattle.zx_calculus.proofs.Ids.{by_test, member-here}
 use Rattle.zx_calculus.proofs.Kept.{both}
-use Rattle.zx_calculus.proofs.Programs.{neighbour}
 use Rattle.zx_reduce.proofs.SearchTests.{live_near, joined_near, near_joined}
 
 pub complement_allowed : (g : Graph) (u : ℕ) → Live g u → is_interior g u ≡ true → allowed g (calculus.LocalComplement u) ≡ true

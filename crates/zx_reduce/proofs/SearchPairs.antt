@@ -1,5 +1,5 @@
 -- Moves of two vertices: what is found beside a vertex, and where nothing is.
-use Rattle.std.proofs.Common.{Some, None, ◌≡◌, refl, sym, ◌∙◌, ap, subst, ℕ, true, false, not, ◌&&◌, eqb, List, [], ◌∷◌, length, nat_eq, slice_get, true≢false, ne_eqb}
+use Rattle.std.proofs.Common.{Some, None, ◌≡◌, refl, sym, ◌∙◌, ap, subst, ℕ, true, false, not, ◌&&◌, eqb, List, [], ◌∷◌, nat_eq, slice_get, true≢false, ne_eqb}
 use Rattle.std.specs.List.{find}
 use Rattle.std.specs.Cmp.Lexicographic.{pointwise}
 use Rattle.std.proofs.lemmas.Bool.{eqb-false}

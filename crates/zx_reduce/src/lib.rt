@@ -10,6 +10,9 @@
 //! counter rose by the number of moves, at most 2E+Q+2O (interior vertices of even phase, vertices
 //! that aren't XY, odd phases). Want of memory leaves graph, flow and trace as they were.
 //!
+//! While moves are made no correction set is kept, only the order along which the graph has a flow;
+//! sets are found along it at the end. The next move is looked for where rewrites changed something.
+//!
 //! ```rust
 //! let mut trace = Trace::new(alloc);
 //! reduce(&mut graph, &mut flow, &mut trace, &mut steps)?;
@@ -18,19 +21,23 @@
 
 // Steps, which are rewrites by their names.
 mod applying;
-mod in_place;
 mod laws;
 mod refusal;
 mod step;
 
 // Simplification, and the moves that it consists of.
-mod move_laws;
 mod moves;
 mod planning;
 mod reduction;
 mod search;
+mod simplification_laws;
 mod steps;
 mod trace;
+
+// What it works on.
+mod candidates;
+mod in_graph;
+mod ranks;
 mod working;
 
 // Tests.
@@ -47,14 +54,14 @@ mod tests;
 
 pub use applying::apply;
 pub use laws::{applied_steps_are_a_run, every_run_keeps_a_flow};
-pub use move_laws::{
-    graphs_of_circuits_allow_few_moves, moves_are_a_run, moves_are_short, moves_begin_allowed,
-    moves_can_be_made, moves_end_in_reduced_graphs,
-};
 pub use moves::{KINDS, Kind, Move};
 pub use reduction::reduce;
 pub use refusal::StepRefused;
 pub use search::next_move;
+pub use simplification_laws::{
+    graphs_of_circuits_allow_few_moves, moves_are_a_run, moves_are_short, moves_begin_allowed,
+    moves_can_be_made, moves_end_in_reduced_graphs,
+};
 pub use step::Step;
 pub use steps::Steps;
 pub use trace::Trace;

@@ -8,7 +8,6 @@ ghost use Rattle.gflow_laws.specs.Flow.{IsFlow};
 ghost use Rattle.zx_calculus.specs.Exact.{KeepsMap};
 ghost use Rattle.zx_reduce.specs.Moving.{most_moves, GainsMoves, GainsRun};
 
-use crate::search::next_move;
 use crate::steps::Steps;
 use crate::trace::Trace;
 use crate::working::Working;
@@ -55,13 +54,14 @@ pub fn reduce<L: Ledger>(
         ((steps.old ≤ steps.new) × (steps.new ≤ steps.old + most_moves g.old.graph)) }
     ensures valid { WellFormed g.new.graph }
 {
-    let mut work = Working::copy_of(g, f, trace)?;
-    while let Some(found) = next_move(&work.graph) {
+    let mut work = Working::begin(g, f, trace)?;
+    while let Some(found) = work.candidates.next_move(&work.graph) {
         work.make(&found)?;
         steps.tick();
     }
+    let flow = work.flow()?;
     *g = work.graph;
-    *f = work.flow;
+    *f = flow;
     *trace = work.trace;
     Ok(())
 }

@@ -1,6 +1,6 @@
 //! The search for the next move of simplification.
 
-ghost use Rattle.std.specs.Prelude.{◌≡◌, ◌⊎◌, ◌<◌, ◌≤◌, ◌↔◌, ℕ, true, false, IsTrue, IfSome, IfNone, slice_get};
+ghost use Rattle.std.specs.Prelude.{◌≡◌, ◌⊎◌, ◌<◌, ◌≤◌, ◌↔◌, ℕ, true, false, IsTrue, IsFalse, IfSome, IfNone, slice_get};
 ghost use Rattle.std.specs.List.{find};
 ghost use Rattle.zx_model.specs.Bits.{member};
 ghost use Rattle.zx_calculus.specs.Graph.{WellFormed, Live, neighbours};
@@ -10,6 +10,8 @@ ghost use Rattle.zx_calculus.specs.Moves.{IsQuarterGadget, IsInXZ, IsQuarterSpid
 ghost use Rattle.zx_reduce.specs.declared.moves.Kind.TheVariants as kinds;
 ghost use Rattle.zx_reduce.specs.Search.{AppliesAt, IsOfFirstKind};
 ghost use Rattle.zx_reduce.specs.Internal.Searching.{is_twin, IsMoveOf, IsMoveAt, IsSettled, NoneAt, NoneBefore};
+ghost use Rattle.zx_reduce.specs.Internal.Guiding.{place_kind};
+ghost use Rattle.move_laws.specs.Candidates.{IsPlaceOf};
 
 use crate::moves::{KINDS, Kind, Move};
 use local_comp::{may_complement, may_delete};
@@ -59,7 +61,7 @@ fn first_at(g: &OpenGraph, u: VertexId, limit: usize) -> Option<(usize, Move)>
 }
 
 // Whether a vertex is XY and of an odd phase. No move begins there, and most vertices are such.
-fn is_settled(g: &OpenGraph, u: VertexId) -> bool
+pub(crate) fn is_settled(g: &OpenGraph, u: VertexId) -> bool
     requires { Live g.now.graph u }
     ensures { IsTrue result → IsSettled g.now.graph u }
 {
@@ -67,8 +69,26 @@ fn is_settled(g: &OpenGraph, u: VertexId) -> bool
     matches!(plane, Plane::XY) && phase.is_odd()
 }
 
+// Whether a move of this kind may begin at a vertex, by the vertex alone.
+pub(crate) fn may_begin(g: &OpenGraph, u: VertexId, kind: Kind) -> bool
+    requires valid { WellFormed g.now.graph }
+    requires live { Live g.now.graph u }
+    ensures { IsFalse result → (v : ℕ) → ¬ IsPlaceOf g.now.graph (place_kind kind) u v }
+{
+    match kind {
+        Kind::Delete => may_delete(g, u),
+        Kind::QuarterGadget => is_quarter_gadget(g, u),
+        Kind::FromXZ => is_in_xz(g, u),
+        Kind::QuarterSpider => is_quarter_spider(g, u),
+        Kind::InnerPivot | Kind::BoundaryPivot => is_half_spider(g, u),
+        Kind::GadgetPair | Kind::Twins => is_gadget(g, u),
+        Kind::LoneGadget => is_gadget_of(g, u, 0),
+        Kind::SingleGadget => is_gadget_of(g, u, 1),
+    }
+}
+
 // The move of this kind that applies at a vertex.
-fn move_at(g: &OpenGraph, u: VertexId, kind: Kind) -> Option<Move>
+pub(crate) fn move_at(g: &OpenGraph, u: VertexId, kind: Kind) -> Option<Move>
     requires valid { WellFormed g.now.graph }
     requires live { Live g.now.graph u }
     ensures found { IfSome result (IsMoveOf g.now.graph kind) }

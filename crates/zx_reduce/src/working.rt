@@ -1,57 +1,65 @@
-//! A graph with its flow and a trace, which moves change.
+//! A graph on which moves are made, with what guides them.
 
 ghost use Rattle.std.specs.Prelude.{◌≡◌, ◌++◌, [], ◌∷◌, true, IfOk, OnOk};
 ghost use Rattle.zx_calculus.specs.Graph.{WellFormed};
-ghost use Rattle.zx_calculus.specs.Steps.{allowed};
+ghost use Rattle.zx_calculus.specs.Steps.{allowed, IsStep};
 ghost use Rattle.gflow_laws.specs.Flow.{IsFlow};
-ghost use Rattle.gflow_laws.specs.Rewritten.{IsRewritten};
 ghost use Rattle.zx_reduce.specs.Steps.{step_named};
 ghost use Rattle.zx_reduce.specs.Search.{AppliesAt, IsOfFirstKind};
+ghost use Rattle.zx_reduce.specs.Internal.Guiding.{IsGuided};
 ghost use Rattle.zx_reduce.specs.Internal.Planning.{GainsMove};
 
-use crate::in_place::rewrite;
+use crate::candidates::Candidates;
+use crate::in_graph::{rewrite, vertices_near};
 use crate::moves::Move;
 use crate::planning::steps_of;
+use crate::ranks::Ranks;
 use crate::step::Step;
 use crate::trace::Trace;
+use flow_find::find_by_rank;
 use open_graph::OpenGraph;
 use std::alloc::AllocError;
 use zx_flow::Flow;
 
-/// A graph with a flow, and the steps that led to it. After a call that ran out of memory a part of
-/// a step may be done, so it is thrown away then.
+/// A graph, the order along which it has a flow, where moves may begin, and the steps that led to
+/// it. No correction set is kept. After a call that ran out of memory a part of a step may be done,
+/// so all of it is thrown away then.
 #[derive(Drop)]
 pub(crate) struct Working {
     pub(crate) graph: OpenGraph,
-    pub(crate) flow: Flow,
+    pub(crate) order: Ranks,
+    pub(crate) candidates: Candidates,
     pub(crate) trace: Trace,
 }
 
 impl Working {
-    /// Copies of the three.
-    pub(crate) fn copy_of(g: &OpenGraph, f: &Flow, trace: &Trace) -> Result<Working, AllocError>
+    /// A copy of a graph with a flow, and of a trace.
+    pub(crate) fn begin(g: &OpenGraph, f: &Flow, trace: &Trace) -> Result<Working, AllocError>
+        requires flow { IsFlow g.now.graph f.now.flow }
         ensures graph { IfOk result (λ work. work.graph.graph ≡ g.now.graph) }
-        ensures flow { IfOk result (λ work. work.flow.flow ≡ f.now.flow) }
         ensures trace { IfOk result (λ work. work.trace.steps ≡ trace.now.steps) }
+        ensures guided { IfOk result (λ work.
+            IsGuided work.graph.graph work.order work.candidates) }
         ensures valid { WellFormed g.now.graph }
     {
+        let alloc = trace.alloc();
         Ok(Working {
             graph: g.copy()?,
-            flow: f.copy()?,
+            order: Ranks::of_order(alloc, f.order())?,
+            candidates: Candidates::of_graph(alloc, g)?,
             trace: trace.copy()?,
         })
     }
 
     /// Makes a move.
     pub(crate) fn make(&mut self, m: &Move) -> Result<(), AllocError>
-        requires flow { IsFlow self.old.graph.graph self.old.flow.flow }
-        requires valid { WellFormed self.old.graph.graph }
+        requires guided { IsGuided self.old.graph.graph self.old.order self.old.candidates }
         requires applies { AppliesAt self.old.graph.graph m.now }
         requires first { IsOfFirstKind self.old.graph.graph m.now }
         ensures gains { OnOk result (GainsMove self.old.graph.graph m.now self.new.graph.graph
             self.old.trace.steps self.new.trace.steps) }
-        ensures flow { OnOk result (IsFlow self.new.graph.graph self.new.flow.flow) }
-        ensures valid { OnOk result (WellFormed self.new.graph.graph) }
+        ensures guided { OnOk result
+            (IsGuided self.new.graph.graph self.new.order self.new.candidates) }
     {
         let steps = steps_of(self.trace.alloc(), &self.graph, m)?;
         for step in &steps {
@@ -62,15 +70,27 @@ impl Working {
 
     // Does a step that is allowed, and adds it to the trace.
     fn do_step(&mut self, step: &Step) -> Result<(), AllocError>
-        requires flow { IsFlow self.old.graph.graph self.old.flow.flow }
+        requires guided { IsGuided self.old.graph.graph self.old.order self.old.candidates }
         requires allowed { allowed self.old.graph.graph (step_named step.now) ≡ true }
-        ensures rewritten { OnOk result
-            (IsRewritten self.old.graph.graph self.old.flow.flow (step_named step.now)
-            self.new.graph.graph self.new.flow.flow) }
+        ensures step { OnOk result
+            (IsStep self.old.graph.graph (step_named step.now) self.new.graph.graph) }
         ensures trace { OnOk result
             (self.new.trace.steps ≡ self.old.trace.steps ++ step.now ∷ []) }
+        ensures guided { OnOk result
+            (IsGuided self.new.graph.graph self.new.order self.new.candidates) }
     {
-        rewrite(&mut self.graph, &mut self.flow, step)?;
+        let near = vertices_near(self.trace.alloc(), &self.graph, step)?;
+        rewrite(&mut self.graph, &mut self.order, step)?;
+        self.candidates.touch_all(&self.graph, &near)?;
         self.trace.push(*step)
+    }
+
+    /// A flow of the graph, with sets found along the order.
+    pub(crate) fn flow(&self) -> Result<Flow, AllocError>
+        requires guided { IsGuided self.now.graph.graph self.now.order self.now.candidates }
+        ensures { IfOk result (λ found. IsFlow self.now.graph.graph found.flow) }
+    {
+        let table = find_by_rank(self.trace.alloc(), &self.graph, &self.order.ranks)?;
+        Flow::of_table(&self.graph, table)
     }
 }

@@ -23,23 +23,23 @@ deep_or_shallow text ts us at a b deep shallow =
     absurd (let h : ◌≡◌ {A = Option ℕ} (Some at) None = sym deep ∙ ap too_deep (same_tokens text 0 ts us a b) ∙ shallow in cc)
 
 bad_or_deep : (text : List ℕ) (m n : ℕ) → IsBadByte text m → HasDeepParenthesis text n → ⊥
-bad_or_deep text m n bad d = not_both text d.tokens m d.cut bad
+bad_or_deep text m n bad d = not_both text d.0 m d.1 bad
 
 bad_or_syntax : (text : List ℕ) (m n : ℕ) → IsBadByte text m → HasSyntaxFault text n → ⊥
-bad_or_syntax text m n bad s = not_both text s.tokens m s.cut bad
+bad_or_syntax text m n bad s = not_both text s.0 m s.1 bad
 
 bad_or_program : (text : List ℕ) (m : ℕ) (program : List Placed) → IsBadByte text m → IsProgramText text program → ⊥
 bad_or_program text m program bad p = not_both text p.tokens m p.cut bad
 
 deep_or_syntax : (text : List ℕ) (m n : ℕ) → HasDeepParenthesis text m → HasSyntaxFault text n → ⊥
-deep_or_syntax text m n d s = deep_or_shallow text d.tokens s.tokens m d.cut s.cut d.deep s.shallow
+deep_or_syntax text m n d s = deep_or_shallow text d.0 s.0 m d.1 s.1 d.2 s.2
 
 deep_or_program : (text : List ℕ) (m : ℕ) (program : List Placed) → HasDeepParenthesis text m → IsProgramText text program → ⊥
-deep_or_program text m program d p = deep_or_shallow text d.tokens p.tokens m d.cut p.cut d.deep p.shallow
+deep_or_program text m program d p = deep_or_shallow text d.0 p.tokens m d.1 p.cut d.2 p.shallow
 
 syntax_or_program : (text : List ℕ) (m : ℕ) (program : List Placed) → HasSyntaxFault text m → IsProgramText text program → ⊥
 syntax_or_program text m program s p =
-    program_no_fault p.tokens program m p.grammar (subst (λ ts. IsSyntaxFault ts m) (same_tokens text 0 s.tokens p.tokens s.cut p.cut) s.fault)
+    program_no_fault p.tokens program m p.grammar (subst (λ ts. IsSyntaxFault ts m) (same_tokens text 0 s.0 p.tokens s.1 p.cut) s.3)
 
 same_program : (text : List ℕ) (a b : List Placed) → IsProgramText text a → IsProgramText text b → a ≡ b
 same_program text a b p q =
@@ -47,34 +47,34 @@ same_program text a b p q =
 
 same_deep : (text : List ℕ) (m n : ℕ) → HasDeepParenthesis text m → HasDeepParenthesis text n → m ≡ n
 same_deep text m n d e =
-    let h : ◌≡◌ {A = Option ℕ} (Some m) (Some n) = sym d.deep ∙ ap too_deep (same_tokens text 0 d.tokens e.tokens d.cut e.cut) ∙ e.deep in cc
+    let h : ◌≡◌ {A = Option ℕ} (Some m) (Some n) = sym d.2 ∙ ap too_deep (same_tokens text 0 d.0 e.0 d.1 e.1) ∙ e.2 in cc
 
 same_syntax : (text : List ℕ) (m n : ℕ) → HasSyntaxFault text m → HasSyntaxFault text n → m ≡ n
 same_syntax text m n s r =
-    one_fault r.tokens m n (subst (λ ts. IsSyntaxFault ts m) (same_tokens text 0 s.tokens r.tokens s.cut r.cut) s.fault) r.fault
+    one_fault r.0 m n (subst (λ ts. IsSyntaxFault ts m) (same_tokens text 0 s.0 r.0 s.1 r.1) s.3) r.3
 
 same_wrong : (text : List ℕ) (c d : Cause) (m n : ℕ) → HasWrongStatement text c m → HasWrongStatement text d n → fault_of c m ≡ fault_of d n
 same_wrong text c d m n w v =
     let h : ◌≡◌ {A = Option (Cause × ℕ)} (Some (c, m)) (Some (d, n)) =
-    sym w.first ∙ ap (first_fault most_calls) (same_program text w.program v.program w.is v.is) ∙ v.first in
+    sym w.2 ∙ ap (first_fault most_calls) (same_program text w.0 v.0 w.1 v.1) ∙ v.2 in
     let pair : ◌≡◌ {A = Cause × ℕ} (c, m) (d, n) = cc in ap (λ p. fault_of p.0 p.1) pair
 
 one_short : (text : List ℕ) (f g : Fault) → IsShortFault text f → IsShortFault text g → f ≡ g
 one_short text f g (inl a) (inl b) = a.2 ∙ ap BadByte (same_byte text a.0 b.0 a.1 b.1) ∙ sym b.2
 one_short text f g (inl a) (inr (inl b)) = absurd (bad_or_deep text a.0 b.0 a.1 b.1)
 one_short text f g (inl a) (inr (inr (inl b))) = absurd (bad_or_syntax text a.0 b.0 a.1 b.1)
-one_short text f g (inl a) (inr (inr (inr b))) = absurd (bad_or_program text a.0 b.2.program a.1 b.2.is)
+one_short text f g (inl a) (inr (inr (inr b))) = absurd (bad_or_program text a.0 b.2.0 a.1 b.2.1)
 one_short text f g (inr (inl a)) (inl b) = absurd (bad_or_deep text b.0 a.0 b.1 a.1)
 one_short text f g (inr (inl a)) (inr (inl b)) = a.2 ∙ ap TooDeep (same_deep text a.0 b.0 a.1 b.1) ∙ sym b.2
 one_short text f g (inr (inl a)) (inr (inr (inl b))) = absurd (deep_or_syntax text a.0 b.0 a.1 b.1)
-one_short text f g (inr (inl a)) (inr (inr (inr b))) = absurd (deep_or_program text a.0 b.2.program a.1 b.2.is)
+one_short text f g (inr (inl a)) (inr (inr (inr b))) = absurd (deep_or_program text a.0 b.2.0 a.1 b.2.1)
 one_short text f g (inr (inr (inl a))) (inl b) = absurd (bad_or_syntax text b.0 a.0 b.1 a.1)
 one_short text f g (inr (inr (inl a))) (inr (inl b)) = absurd (deep_or_syntax text b.0 a.0 b.1 a.1)
 one_short text f g (inr (inr (inl a))) (inr (inr (inl b))) = a.2 ∙ ap Syntax (same_syntax text a.0 b.0 a.1 b.1) ∙ sym b.2
-one_short text f g (inr (inr (inl a))) (inr (inr (inr b))) = absurd (syntax_or_program text a.0 b.2.program a.1 b.2.is)
-one_short text f g (inr (inr (inr a))) (inl b) = absurd (bad_or_program text b.0 a.2.program b.1 a.2.is)
-one_short text f g (inr (inr (inr a))) (inr (inl b)) = absurd (deep_or_program text b.0 a.2.program b.1 a.2.is)
-one_short text f g (inr (inr (inr a))) (inr (inr (inl b))) = absurd (syntax_or_program text b.0 a.2.program b.1 a.2.is)
+one_short text f g (inr (inr (inl a))) (inr (inr (inr b))) = absurd (syntax_or_program text a.0 b.2.0 a.1 b.2.1)
+one_short text f g (inr (inr (inr a))) (inl b) = absurd (bad_or_program text b.0 a.2.0 b.1 a.2.1)
+one_short text f g (inr (inr (inr a))) (inr (inl b)) = absurd (deep_or_program text b.0 a.2.0 b.1 a.2.1)
+one_short text f g (inr (inr (inr a))) (inr (inr (inl b))) = absurd (syntax_or_program text b.0 a.2.0 b.1 a.2.1)
 one_short text f g (inr (inr (inr a))) (inr (inr (inr b))) = a.3 ∙ same_wrong text a.0 b.0 a.1 b.1 a.2 b.2 ∙ sym b.3
 
 pub one_first_fault : (text : List ℕ) (f g : Fault) → IsFirstFault text f → IsFirstFault text g → f ≡ g
@@ -89,7 +89,7 @@ short_not_accepted text f n gates (inr (inl a)) k = deep_or_program text a.0 k.p
 short_not_accepted text f n gates (inr (inr (inl a))) k = syntax_or_program text a.0 k.program a.1 k.is
 short_not_accepted text f n gates (inr (inr (inr a))) k =
     absurd (let h : ◌≡◌ {A = Option (Cause × ℕ)} (Some (a.0, a.1)) None =
-    sym a.2.first ∙ ap (first_fault most_calls) (same_program text a.2.program k.program a.2.is k.is) ∙ k.faultless in cc)
+    sym a.2.2 ∙ ap (first_fault most_calls) (same_program text a.2.0 k.program a.2.1 k.is) ∙ k.faultless in cc)
 
 not_accepted : (text : List ℕ) (f : Fault) (n : ℕ) (gates : List ElementaryGate) → IsFirstFault text f → IsAccepted text n gates → ⊥
 not_accepted text f n gates (inl a) k = let long = a.0 in let short = k.short in absurd (omega (arith, long, short))
@@ -131,13 +131,13 @@ program_decided text program None e short is =
       },
     )
 program_decided text program (Some (cause, at)) e short is =
-    inr (fault_of cause at, inr (short, inr (inr (inr (cause, at, record { program = program; is = is; first = e }, refl)))))
+    inr (fault_of cause at, inr (short, inr (inr (inr (cause, at, (program, is, e), refl)))))
 
 tokens_decided : (text : List ℕ) (tokens : List Lexeme) (o : Option ℕ) → too_deep tokens ≡ o → length text ≤ most_bytes → IsCut 0 text tokens → IsDecided text
-tokens_decided text tokens (Some at) e short cut = inr (TooDeep at, inr (short, inr (inl (at, record { tokens = tokens; cut = cut; deep = e }, refl))))
+tokens_decided text tokens (Some at) e short cut = inr (TooDeep at, inr (short, inr (inl (at, (tokens, cut, e), refl))))
 tokens_decided text tokens None e short cut = elim (program_or_fault tokens) [
   | inl p ↦ program_decided text p.0 (first_fault most_calls p.0) refl short (record { tokens = tokens; cut = cut; shallow = e; grammar = p.1 })
-  | inr f ↦ inr (Syntax f.0, inr (short, inr (inr (inl (f.0, record { tokens = tokens; cut = cut; shallow = e; fault = f.1 }, refl)))))
+  | inr f ↦ inr (Syntax f.0, inr (short, inr (inr (inl (f.0, (tokens, cut, e, f.1), refl)))))
 ]
 
 short_decided : (text : List ℕ) → length text ≤ most_bytes → IsDecided text

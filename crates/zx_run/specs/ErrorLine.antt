@@ -1,5 +1,5 @@
 -- The line about an answer that goes to the error output.
-use Rattle.std.specs.Prelude.{ℕ, ◌++◌, List, [], codes, decimal, Option, None, Some}
+use Rattle.std.specs.Prelude.{ℕ, ◌++◌, List, [], codes, decimal}
 use Rattle.zx_run.specs.declared.status.Fault.{Fault}
 use Rattle.zx_run.specs.declared.status.Fault.TheVariants.{TooLong, BadByte, Syntax, Version, Include, Unsupported}
 use Rattle.zx_run.specs.declared.status.Fault.TheVariants.{Redeclared, EmptyRegister, TooManyQubits, Unknown}
@@ -8,14 +8,9 @@ use Rattle.zx_run.specs.declared.status.Fault.TheVariants.{NotEighthTurn, TooDee
 use Rattle.zx_run.specs.declared.status.Status.{Status}
 use Rattle.zx_run.specs.declared.status.Status.TheVariants.{Refused, Usage, ReadFault, WriteFault, NoMemory}
 
--- where something stands, if that is told
-abbrev pub place_text : Option ℕ → List ℕ
-place_text None = []
-place_text (Some at) = codes " at " ++ decimal at
-
 -- a name, and the place after it
 abbrev pub at_place : List ℕ → ℕ → List ℕ
-at_place name at = name ++ place_text (Some at)
+at_place name at = name ++ codes " at " ++ decimal at
 
 -- a fault's number and name, and where it stands, if that is told
 abbrev pub fault_text : Fault → List ℕ

@@ -39,23 +39,19 @@ fault_of cause.TooDeep at = TooDeep at
 fault_of cause.TooManyGates at = TooManyGates at
 fault_of cause.SecondVersion at = SecondVersion at
 
--- tokens of the text have parentheses that are too deep, or a syntax fault, at a place
-pub record HasDeepParenthesis (text : List ℕ) (at : ℕ) : Type 0 where
-  pub tokens : List Lexeme
-  pub cut : IsCut 0 text tokens
-  pub deep : too_deep tokens ≡ Some at
+-- tokens of the text have parentheses that are too deep, at this place
+abbrev pub HasDeepParenthesis : List ℕ → ℕ → Type 0
+HasDeepParenthesis text at = (tokens : List Lexeme) × IsCut 0 text tokens × (too_deep tokens ≡ Some at)
 
-pub record HasSyntaxFault (text : List ℕ) (at : ℕ) : Type 0 where
-  pub tokens : List Lexeme
-  pub cut : IsCut 0 text tokens
-  pub shallow : too_deep tokens ≡ None
-  pub fault : IsSyntaxFault tokens at
+-- they have none of these, but a syntax fault at this place
+abbrev pub HasSyntaxFault : List ℕ → ℕ → Type 0
+HasSyntaxFault text at =
+    (tokens : List Lexeme) × IsCut 0 text tokens × (too_deep tokens ≡ None) × IsSyntaxFault tokens at
 
 -- the text is a program, in which this is wrong first
-pub record HasWrongStatement (text : List ℕ) (cause : Cause) (at : ℕ) : Type 0 where
-  pub program : List Placed
-  pub is : IsProgramText text program
-  pub first : first_fault most_calls program ≡ Some (cause, at)
+abbrev pub HasWrongStatement : List ℕ → Cause → ℕ → Type 0
+HasWrongStatement text cause at =
+    (program : List Placed) × IsProgramText text program × (first_fault most_calls program ≡ Some (cause, at))
 
 -- The first fault of a text that isn't too long, in this order: a byte begins no token, parentheses are too deep, a
 -- statement is none, or a statement is wrong.

@@ -2,3 +2,4 @@
 pub mod Answers
 pub mod Candidates
 pub mod Parsing
+pub mod Places

@@ -2,7 +2,8 @@
 
 ghost use Rattle.std.specs.Prelude.{◌≡◌, ◌≤◌, ◌++◌, length};
 ghost use Rattle.zx_io.specs.Causes.{Rose};
-ghost use Rattle.zx_run.specs.ErrorLine.{error_line, fault_text, place_text};
+ghost use Rattle.zx_run.specs.ErrorLine.{error_line, fault_text};
+ghost use Rattle.zx_run.specs.Internal.Places.{place_text};
 ghost use Rattle.zx_run.specs.Outcome.{Gains, GainsPrefix};
 
 use crate::status::{Fault, Status};

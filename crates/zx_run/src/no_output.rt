@@ -7,7 +7,7 @@ use crate::status::Fault;
 use std::alloc::AllocError;
 
 /// Why a text has no output.
-#[derive(Clone, Copy, Debug, PartialEq, Eq)]
+#[derive(Clone, Copy)]
 pub enum NoOutput {
     /// The text has this first fault.
     Fault(Fault),

@@ -54,16 +54,12 @@ abbrev pub ◌>>=◌ : {A B : Type 0} → Option A → (A → Option B) → Opti
 o >>= f = option_and_then f o
 
 -- a seed below 2^64, from 1 to 1,024 qubits, and at most 1,000,000 gates
-abbrev pub generation_from : Option ℕ → Option ℕ → Option ℕ → Option Command
-generation_from seed_word qubits_word gates_word = do
-  seed ← seed_word
-  qubits ← qubits_word
-  gates ← gates_word
-  if nat_le 1 qubits then Some (Generate seed qubits gates) else None
-
 abbrev pub generation_of : List Text → Option Command
-generation_of (seed ∷ qubits ∷ gates ∷ []) =
-    generation_from (number_in (2 ^ 64 - 1) seed) (number_in 1024 qubits) (number_in 1000000 gates)
+generation_of (seed_word ∷ qubits_word ∷ gates_word ∷ []) = do
+  seed ← number_in (2 ^ 64 - 1) seed_word
+  qubits ← number_in 1024 qubits_word
+  gates ← number_in 1000000 gates_word
+  if nat_le 1 qubits then Some (Generate seed qubits gates) else None
 generation_of _ = None
 
 -- ---- the command of words, none where they give no command

@@ -1,11 +1,11 @@
 //! The words after the program's name.
 
-ghost use Rattle.std.specs.Prelude.{◌≡◌, ◌≤◌, IfOk, IfSome, false};
-ghost use Rattle.clap.specs.Words.{app_of, found_of, rule_of, rows_of};
+ghost use Rattle.std.specs.Prelude.{◌≡◌, ◌≤◌, IfOk, IfSome, codes, false};
+ghost use Rattle.clap.specs.Words.{app_of, found_of, new_app, rule_of, rows_of, with_rule};
 ghost use Rattle.clap.specs.Words.{subcommand_rows_of};
 ghost use Rattle.clap.specs.declared.builder.command.Command.TheViews.{out-Command};
 ghost use Rattle.zx_words.specs.Command.{IsWithinLimits, command_in, number_in};
-ghost use Rattle.zx_words.specs.Internal.CommandLine.{flag_rule, word_rule, opt_app, gen_app};
+ghost use Rattle.zx_words.specs.Internal.CommandLine.{bare, flag_rule, word_rule, opt_app, gen_app};
 ghost use Rattle.zx_words.specs.Internal.CommandLine.{zxopt_app, command_by, generation_by};
 ghost use Rattle.zx_words.specs.Internal.CommandLine.{has_flag, number_at};
 
@@ -59,14 +59,20 @@ fn definition<'a>(alloc: Global) -> Result<clap::Command<'a>, AllocError>
     ensures { IfOk result (λ command. app_of command ≡ zxopt_app) }
 {
     let opt = opt_definition(alloc)?;
+    let with_opt = bare_definition(alloc).subcommand(opt)?;
     let generate = gen_definition(alloc)?;
-    let bare = clap::Command::new(alloc, "zxopt")
+    with_opt.subcommand(generate)
+}
+
+// The program without its subcommands.
+fn bare_definition<'a>(alloc: Global) -> clap::Command<'a>
+    ensures { app_of result ≡ bare (new_app (codes "zxopt")) }
+{
+    clap::Command::new(alloc, "zxopt")
         .no_binary_name(true)
         .disable_help_flag(true)
         .disable_help_subcommand(true)
-        .subcommand_required(true);
-    let with_opt = bare.subcommand(opt)?;
-    with_opt.subcommand(generate)
+        .subcommand_required(true)
 }
 
 // `opt`, with its flags.
@@ -74,10 +80,8 @@ fn opt_definition<'a>(alloc: Global) -> Result<clap::Command<'a>, AllocError>
     ensures app { IfOk result (λ command. app_of command ≡ opt_app) }
     ensures local { IfOk result (λ command. (out-Command command).has_globals ≡ false) }
 {
-    let best = flag(alloc, "best");
-    let report = flag(alloc, "report");
-    let with_best = clap::Command::new(alloc, "opt").arg(best)?;
-    with_best.arg(report)
+    let with_best = with_flag(alloc, clap::Command::new(alloc, "opt"), "best")?;
+    with_flag(alloc, with_best, "report")
 }
 
 // `gen`, with its words.
@@ -85,12 +89,37 @@ fn gen_definition<'a>(alloc: Global) -> Result<clap::Command<'a>, AllocError>
     ensures app { IfOk result (λ command. app_of command ≡ gen_app) }
     ensures local { IfOk result (λ command. (out-Command command).has_globals ≡ false) }
 {
-    let seed = word(alloc, "seed");
-    let qubits = word(alloc, "qubits");
-    let gates = word(alloc, "gates");
-    let with_seed = clap::Command::new(alloc, "gen").arg(seed)?;
-    let with_qubits = with_seed.arg(qubits)?;
-    with_qubits.arg(gates)
+    let with_seed = with_word(alloc, clap::Command::new(alloc, "gen"), "seed")?;
+    let with_qubits = with_word(alloc, with_seed, "qubits")?;
+    with_word(alloc, with_qubits, "gates")
+}
+
+// The command with one flag more.
+fn with_flag<'a>(
+    alloc: Global,
+    command: clap::Command<'a>,
+    name: &'a str,
+) -> Result<clap::Command<'a>, AllocError>
+    ensures app { IfOk result (λ more. app_of more
+        ≡ with_rule (app_of command.entry) (flag_rule name.entry.now)) }
+    ensures local { (out-Command command.entry).has_globals ≡ false
+        → IfOk result (λ more. (out-Command more).has_globals ≡ false) }
+{
+    command.arg(flag(alloc, name))
+}
+
+// The command with one word more.
+fn with_word<'a>(
+    alloc: Global,
+    command: clap::Command<'a>,
+    name: &'a str,
+) -> Result<clap::Command<'a>, AllocError>
+    ensures app { IfOk result (λ more. app_of more
+        ≡ with_rule (app_of command.entry) (word_rule name.entry.now)) }
+    ensures local { (out-Command command.entry).has_globals ≡ false
+        → IfOk result (λ more. (out-Command more).has_globals ≡ false) }
+{
+    command.arg(word(alloc, name))
 }
 
 // A flag by its name, which may be given once.

@@ -1,6 +1,6 @@
 -- Changes of what slots tell.
-use Rattle.std.specs.Prelude.{◌≡◌, ℕ, true, if◌then◌else◌, ◌==◌, List, Option}
-use Rattle.zx_model.specs.Bits.{member}
+use Rattle.std.specs.Prelude.{◌≡◌, ℕ, Bool, true, if◌then◌else◌, ◌&&◌, ◌==◌, List, Option}
+use Rattle.zx_model.specs.Bits.{xor, member}
 use Rattle.zx_calculus.specs.Graph.{Graph, ids, kind_of, joined}
 use Rattle.zx_calculus.proofs.Ids.{removed}
 use Rattle.open_graph.specs.declared.slot.Slot.{Slot}
@@ -24,6 +24,15 @@ pub record Keeps (slots : List (Option Slot)) (h : Graph) : Type 0 where
 -- the same without v among the neighbours
 abbrev pub without_neighbour : ℕ → Told → Told
 without_neighbour v t = record t { row = removed v t.row }
+
+-- in the row of p each q is toggled where the pair is picked, and all else stays
+pub record RowsToggled (old new : List (Option Slot)) (picked : ℕ → ℕ → Bool) : Type 0 where
+  pub others : (p : ℕ) → told new p ≡ record (told old p) { row = (told new p).row }
+  pub rows : (p q : ℕ) → adjacent new p q ≡ xor (adjacent old p q) (picked p q)
+
+-- two different listed ones
+abbrev pub two_among : List ℕ → ℕ → ℕ → Bool
+two_among near p q = member p near && xor (member q near) (q == p)
 
 -- v is gone, and so is its mention in the rows of these vertices
 abbrev pub RemovedFrom : List (Option Slot) → List (Option Slot) → ℕ → List ℕ → Type 0

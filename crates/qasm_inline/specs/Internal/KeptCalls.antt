@@ -2,9 +2,11 @@
 use Rattle.std.specs.Prelude.{◌≡◌, ℕ, ◌+◌, ◌≤◌, ◌==◌, Bool, false, if◌then◌else◌, List, [], ◌∷◌, ◌++◌, length, map}
 use Rattle.std.specs.Prelude.{reverse, take, drop, Option, None, Some, Result, Ok, Err, slice_get, slice_index_or}
 use Rattle.zx_gates.specs.declared.elementary.ElementaryGate.{ElementaryGate}
+use Rattle.zx_gates.specs.declared.elementary.ElementaryGate.TheVariants as elementary
 use Rattle.qasm_angle.specs.declared.angle.Angle.{Angle}
 use Rattle.qasm_angle.specs.Trees.{Tree}
 use Rattle.qasm_angle.specs.Values.{value}
+use Rattle.qasm_angle.specs.Eighths.{phase_of}
 use Rattle.qasm_scope.specs.declared.causes.Cause.{Cause}
 use Rattle.qasm_names.specs.declared.gates.GateBody.{GateBody}
 use Rattle.qasm_names.specs.declared.gates.GateCall.{GateCall}
@@ -17,7 +19,7 @@ use Rattle.qasm_scope.specs.Meaning.{most_calls}
 use Rattle.qasm_scope.specs.Angles.{in_prefix, with_cause}
 use Rattle.qasm_names.specs.Kept.{gate_count}
 use Rattle.qasm_scope.specs.Scope.{Scope, Meaning, Qubits, Bits, Gate}
-use Rattle.qasm_scope.specs.Calls.{Event, Called, Applied, expand_meaning, expand_declared, u_events, cx_events}
+use Rattle.qasm_scope.specs.Calls.{Event, Called, Applied, expand_meaning, expand_declared, u_of}
 use Rattle.qasm_scope.specs.Calls.{after_angles, applied, call_count, first_wrong}
 
 -- the values of expressions in numbered parameters
@@ -28,6 +30,15 @@ values_of (t ∷ ts) angles = in_prefix (with_cause (value t angles)) (values_of
 -- a gate by its number, with values for its angles, on qubits, at a depth
 abbrev pub Numbered : Type 0
 Numbered = ℕ → ℕ → List Angle → List ℕ → List Event
+
+-- the built-in gates with their angles and qubits
+abbrev pub u_events : List Angle → List ℕ → List Event
+u_events (theta ∷ phi ∷ lambda ∷ []) (q ∷ []) = u_of q (phase_of theta) (phase_of phi) (phase_of lambda)
+u_events angles qubits = []
+
+abbrev pub cx_events : List ℕ → List Event
+cx_events (control ∷ target ∷ []) = Applied (elementary.Cx control target) ∷ []
+cx_events qubits = []
 
 abbrev pub expand_called : Numbered → CalledGate → ℕ → List Angle → List ℕ → List Event
 expand_called numbered called_gate.U depth angles qubits = u_events angles qubits

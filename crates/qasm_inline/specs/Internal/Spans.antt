@@ -1,10 +1,10 @@
 -- Arguments of applications by what names are kept as: a private matter of the program.
 use Rattle.std.specs.Prelude.{ℕ, ◌+◌, ◌-◌, ◌^◌, ◌==◌, Bool, false, not, ◌&&◌, ◌||◌, if◌then◌else◌, ◌≡◌, List, [], ◌∷◌}
-use Rattle.std.specs.Prelude.{map, length, min, Option, None, Some, Result, nat_le, nat_lt}
+use Rattle.std.specs.Prelude.{map, length, min, get_or, Option, None, Some, Result, nat_le, nat_lt}
 use Rattle.std.specs.List.{flat_map, list_any, range_with_len}
 use Rattle.std.specs.Option.{is_some}
 use Rattle.qasm_reader.specs.Syntax.{Operand, Apply}
-use Rattle.qasm_scope.specs.Applications.{QubitRange, Single, Register, qubit_at, register_sizes, instance_count}
+use Rattle.qasm_scope.specs.Applications.{QubitRange, Single, Register, qubit_at, register_sizes}
 use Rattle.qasm_scope.specs.Angles.{is_unsupported, numbered}
 use Rattle.qasm_names.specs.Checks.{Symbols, shape_by, called_by}
 use Rattle.qasm_names.specs.Kept.{found, symbol_register}
@@ -77,6 +77,10 @@ cut_qubit_at index t = min (qubit_at index t) (2 ^ 16 - 1)
 
 abbrev pub cut_instance : List QubitRange → ℕ → List ℕ
 cut_instance ranges index = map (cut_qubit_at index) ranges
+
+-- how many instances there are: one for each index of the registers, which have one size, or one alone
+abbrev pub instance_count : List ℕ → ℕ
+instance_count sizes = get_or sizes 0 1
 
 abbrev pub cut_instances : List QubitRange → List (List ℕ)
 cut_instances ranges = map (cut_instance ranges) (range_with_len 0 (instance_count (register_sizes ranges)))

@@ -7,7 +7,8 @@ use Rattle.qasm_lexer.specs.declared.first_piece.Sort.{Sort}
 use Rattle.qasm_lexer.specs.declared.first_piece.Sort.TheVariants.{Blank, Digits, Token}
 use Rattle.qasm_lexer.specs.declared.token.TokenKind.{TokenKind}
 use Rattle.qasm_lexer.specs.declared.token.TokenKind.TheVariants.{Real, Text, Natural}
-use Rattle.qasm_lexer.specs.Forms.{is_digit, is_letter, is_word_byte, is_space, is_no_feed, begins, is_mark}
+use Rattle.std.specs.Char.{is_ascii_digit, is_ascii_alphabetic}
+use Rattle.qasm_lexer.specs.Forms.{is_word_byte, is_space, is_no_feed, begins, is_mark}
 use Rattle.qasm_lexer.specs.Forms.{is_sign_byte}
 use Rattle.qasm_lexer.specs.Tokens.{Lexeme, signs, kind_in, word_kind}
 
@@ -31,11 +32,11 @@ with_mark sign digits = if digits == 0 then 0 else 1 + sign + digits
 abbrev pub exponent_len : List ℕ → ℕ
 exponent_len [] = 0
 exponent_len (b ∷ rest) =
-    if is_mark b then with_mark (sign_len rest) (prefix_len is_digit (drop (sign_len rest) rest)) else 0
+    if is_mark b then with_mark (sign_len rest) (prefix_len is_ascii_digit (drop (sign_len rest) rest)) else 0
 
 -- the length of what belongs to a real after its point
 abbrev pub fraction_len : List ℕ → ℕ
-fraction_len rest = prefix_len is_digit rest + exponent_len (drop (prefix_len is_digit rest) rest)
+fraction_len rest = prefix_len is_ascii_digit rest + exponent_len (drop (prefix_len is_ascii_digit rest) rest)
 
 -- so many digits, and the rest after them
 abbrev pub number : ℕ → List ℕ → Sort × ℕ
@@ -43,11 +44,11 @@ number count [] = (Digits, count)
 number count (b ∷ rest) = if b == 46 then (Token Real, count + 1 + fraction_len rest) else (Digits, count)
 
 abbrev pub number_piece : List ℕ → Sort × ℕ
-number_piece text = number (prefix_len is_digit text) (drop (prefix_len is_digit text) text)
+number_piece text = number (prefix_len is_ascii_digit text) (drop (prefix_len is_ascii_digit text) text)
 
 -- after a point
 abbrev pub point_piece : List ℕ → Option (Sort × ℕ)
-point_piece rest = if begins is_digit rest then Some (Token Real, 1 + fraction_len rest) else None
+point_piece rest = if begins is_ascii_digit rest then Some (Token Real, 1 + fraction_len rest) else None
 
 abbrev pub is_inside : ℕ → Bool
 is_inside b = not (b == 34) && is_no_feed b
@@ -86,8 +87,8 @@ abbrev pub first_piece : List ℕ → Option (Sort × ℕ)
 first_piece [] = None
 first_piece (b ∷ rest) =
     if is_space b then Some (Blank, 1) else
-    if is_letter b then word_piece (b ∷ rest) else
-    if is_digit b then Some (number_piece (b ∷ rest)) else
+    if is_ascii_alphabetic b then word_piece (b ∷ rest) else
+    if is_ascii_digit b then Some (number_piece (b ∷ rest)) else
     if b == 46 then point_piece rest else
     if b == 34 then text_piece rest else
     if is_plain b then plain_piece b else sign_piece (b ∷ rest)

@@ -1,5 +1,5 @@
 -- How the header's gates are read, one after the other.
-use Rattle.std.specs.Prelude.{◌≡◌, ℕ, List, [], ◌∷◌, Option, None, Some, drop, map}
+use Rattle.std.specs.Prelude.{◌≡◌, ℕ, List, [], ◌∷◌, Option, None, Some, drop, map, codes}
 use Rattle.qasm_lexer.specs.declared.token.Token.{Token}
 use Rattle.qasm_lexer.specs.Tokens.{Lexeme, lexemes}
 use Rattle.qasm_reader.specs.Grammar.{IsProgram}
@@ -8,6 +8,10 @@ use Rattle.qasm_reader.specs.Syntax.{GateForm, DeclareGate, Placed}
 use Rattle.qasm_names.specs.Begun.{IsBegun}
 use Rattle.qasm_names.specs.declared.gate_in_progress.GateInProgress.{GateInProgress}
 use Rattle.qasm_names.specs.declared.names.Names.{Names}
+
+-- the file that the header stands for
+abbrev pub header_name : List ℕ
+header_name = codes "\"qelib1.inc\""
 
 -- the tokens are the declarations of these gates, and nothing else
 abbrev pub AreDeclarations : List GateForm → List Lexeme → Type 0

@@ -5,23 +5,9 @@ use Rattle.zx_calculus.specs.Graph.{Kind, Graph, joined}
 use Rattle.zx_calculus.specs.Edits.{KeepsEnds}
 use Rattle.zx_calculus.specs.Turns.{half_turned}
 
--- a pair of one of xs and one of ys; one that is it either way round counts twice, so isn't picked
-abbrev pub across : List ℕ → List ℕ → ℕ → ℕ → Bool
-across xs ys p q = xor (member p xs && member q ys) (member q xs && member p ys)
-
 -- those of the listed vertices that are picked turn by a half
 abbrev pub half_turned_in : List ℕ → (ℕ → Bool) → ℕ → Kind → Kind
 half_turned_in near picked p kind = if member p near && picked p then half_turned kind else kind
-
--- h is g, where u and v have exchanged their neighbours other than themselves
-pub record IsExchanged (g : Graph) (u v : ℕ) (h : Graph) : Type 0 where
-  pub vertices : h.vertices ≡ g.vertices
-  pub together : joined h.edges u v ≡ joined g.edges u v
-  pub of_u : (p : ℕ) → p ≢ u → p ≢ v → joined h.edges u p ≡ joined g.edges v p
-  pub of_v : (p : ℕ) → p ≢ u → p ≢ v → joined h.edges v p ≡ joined g.edges u p
-  pub others : (p q : ℕ) → p ≢ u → p ≢ v → q ≢ u → q ≢ v → p ≢ q →
-      joined h.edges p q ≡ joined g.edges p q
-  pub frame : KeepsEnds g h
 
 -- h is g with the edges after a pivot of u and v
 pub record IsRewired (g : Graph) (u v : ℕ) (h : Graph) : Type 0 where

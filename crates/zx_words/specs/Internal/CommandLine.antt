@@ -1,7 +1,7 @@
 -- The command line as `clap` is told of it: the subcommands `opt`, which has two flags, and `gen`, which
 -- has three words; and what its matches mean.
 use Rattle.std.specs.Prelude.{◌-◌, ◌^◌, ℕ, Bool, true, false, List, codes}
-use Rattle.std.specs.Prelude.{Option, None, Some, if◌then◌else◌, option_and_then}
+use Rattle.std.specs.Prelude.{Option, None, Some, if◌then◌else◌, nat_le, option_and_then}
 use Rattle.std.specs.Option.{option_map_or}
 use Rattle.std.specs.Str.{bytes_eq}
 use Rattle.clap.specs.Words.{App, Row, Rule, fault_of, first_of, new_app, new_rule}
@@ -9,9 +9,9 @@ use Rattle.clap.specs.Words.{subcommand_of, with_rule, with_subcommand}
 use Rattle.clap.specs.Walk.{is_empty}
 use Rattle.clap.specs.Simple.{on_top}
 use Rattle.clap.specs.declared.builder.action.ArgAction.TheVariants.{SetTrue}
-use Rattle.zx_words.specs.Command.{Text, number_in, generation_from}
+use Rattle.zx_words.specs.Command.{Text, number_in, ◌>>=◌}
 use Rattle.zx_words.specs.declared.words.Command.{Command}
-use Rattle.zx_words.specs.declared.words.Command.TheVariants.{Optimise}
+use Rattle.zx_words.specs.declared.words.Command.TheVariants.{Optimise, Generate}
 
 -- ---- the command line, as it is defined
 
@@ -52,6 +52,14 @@ has_flag name rows = option_map_or (λ text. bytes_eq text (codes "true")) (firs
 
 abbrev pub number_at : Text → ℕ → List Row → Option ℕ
 number_at name most rows = option_and_then (number_in most) (first_of name rows)
+
+-- the command of three numbers, where all are there
+abbrev pub generation_from : Option ℕ → Option ℕ → Option ℕ → Option Command
+generation_from seed_word qubits_word gates_word = do
+  seed ← seed_word
+  qubits ← qubits_word
+  gates ← gates_word
+  if nat_le 1 qubits then Some (Generate seed qubits gates) else None
 
 abbrev pub generation_by : List Row → Option Command
 generation_by rows = generation_from (number_at (codes "seed") (2 ^ 64 - 1) rows)

@@ -6,8 +6,8 @@ use Rattle.zx_calculus.specs.Edits.{at_vertex}
 use Rattle.zx_calculus.proofs.Edits.{with_kinds-at}
 use Rattle.local_comp.proofs.complement.complement_own.Goals as goal
 
-pub returns : goal.returns
-returns c =
+pub returns-clause-own : goal.returns-clause-own
+returns-clause-own c =
     c.set_weight.ensures.ok
     ∙ ap (λ (k : Kind). record c.args.g.now.graph
     { vertices = with_kinds (at_vertex c.args.u (λ _. k)) c.args.g.now.graph.vertices })

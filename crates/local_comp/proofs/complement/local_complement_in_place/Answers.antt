@@ -13,15 +13,9 @@ complement_sets-requires-clause-there c =
     (complement_live c.args.g.now.graph c.args.u c.requires.allowed)
     (complement_interior c.args.g.now.graph c.args.u c.requires.allowed)
 
-pub complement_graph-requires-clause-live : goal.complement_graph-requires-clause-live
-complement_graph-requires-clause-live c = complement_live c.args.g.now.graph c.args.u c.requires.allowed
-
-pub complement_graph-requires-clause-interior : goal.complement_graph-requires-clause-interior
-complement_graph-requires-clause-interior c = complement_interior c.args.g.now.graph c.args.u c.requires.allowed
-
 pub returns : goal.returns
 returns c = record {
-  rewritten = on_ok c.complement_graph.result
-      (λ step. rewritten c.complement_graph.ensures.was_valid c.requires.flow step c.in_ok-complement_sets.ensures)
-      c.complement_graph.ensures.step;
+  rewritten = on_ok c.local_complement_in_graph.result
+      (λ step. rewritten c.local_complement_in_graph.ensures.was_valid c.requires.flow step c.in_ok-complement_sets.ensures)
+      c.local_complement_in_graph.ensures.step;
 }

@@ -1,9 +1,9 @@
 use Rattle.std.proofs.Common.{◌≡◌, ◌-◌, [], Err, map, ap, sym, ◌∙◌, arith}
 use Rattle.std.specs.List.{flat_map, range_with_len}
 use Rattle.std.proofs.lemmas.Result.{err_from_is_err_and}
-use Rattle.qasm_scope.specs.Applications.{instance_count, register_sizes}
+use Rattle.qasm_scope.specs.Applications.{register_sizes}
 use Rattle.qasm_inline.specs.Internal.KeptCalls.{called_events, values_of}
-use Rattle.qasm_inline.specs.Internal.Spans.{span_range, cut_instance}
+use Rattle.qasm_inline.specs.Internal.Spans.{span_range, cut_instance, instance_count}
 use Rattle.qasm_names.specs.declared.statement_error.StatementError.TheVariants.{Wrong}
 use Rattle.qasm_inline.proofs.InstanceLemmas.{flat-map, no-instance, Continues-instance, wrong-instance}
 use Rattle.qasm_inline.proofs.Unrolling.{Continues-same, Continues-join}

@@ -1,7 +1,8 @@
 use Rattle.std.proofs.Common.{◌≡◌, Some, None, ap, ◌∙◌}
+use Rattle.std.specs.Option.{option_or}
 use Rattle.qasm_reader.specs.Syntax.{Act}
 use Rattle.qasm_reader.specs.Views.{action}
-use Rattle.qasm_scope.specs.Meaning.{most_calls, or_else, wrong_with}
+use Rattle.qasm_scope.specs.Meaning.{most_calls, wrong_with}
 use Rattle.qasm_inline.proofs.StatementLemmas.{wrong-measure, wrong-reset}
 use Rattle.qasm_scope.specs.declared.causes.Cause.TheVariants.{Unsupported}
 use Rattle.qasm_inline.proofs.statements.operate.Goals as goal
@@ -15,10 +16,10 @@ pub returns-in-Measure-clause-err : goal.returns-in-Measure-clause-err
 returns-in-Measure-clause-err c = λ cause scope e r.
     let same : Unsupported ≡ cause = cc in
     ap (λ k. wrong_with most_calls scope c.args.unrolled.now.calls (Act (action k))) c.in-Measure.is
-    ∙ ap (λ o. or_else o None) (wrong-measure scope _ _ ∙ ap Some same)
+    ∙ ap (λ o. option_or o None) (wrong-measure scope _ _ ∙ ap Some same)
 
 pub returns-in-Reset-clause-err : goal.returns-in-Reset-clause-err
 returns-in-Reset-clause-err c = λ cause scope e r.
     let same : Unsupported ≡ cause = cc in
     ap (λ k. wrong_with most_calls scope c.args.unrolled.now.calls (Act (action k))) c.in-Reset.is
-    ∙ ap (λ o. or_else o None) (wrong-reset scope _ ∙ ap Some same)
+    ∙ ap (λ o. option_or o None) (wrong-reset scope _ ∙ ap Some same)

@@ -1,6 +1,6 @@
 use Rattle.std.proofs.Common.{◌≡◌, ◌-◌, ◌^◌, ◌≤◌, min, drop}
-use Rattle.qasm_scope.specs.Scope.{numeral_from}
 use Rattle.qasm_names.proofs.numerals.number.Given as goal
+use Rattle.qasm_scope.specs.Internal.Numerals.{numeral_from}
 
 abbrev pub invariant-loop-digit : goal.invariant-loop-digit
 invariant-loop-digit l = record {

@@ -6,9 +6,10 @@ use Rattle.zx_gates.specs.Circuit.{Circuit, IsCircuit}
 use Rattle.zx_gates.specs.declared.gate.Gate.{Gate}
 use Rattle.qasm_scope.specs.Texts.{TextMeans}
 use Rattle.qasm_writer.specs.Elements.{elements_of}
-use Rattle.qasm_writer.specs.Written.{written, version_line, include_line, register_line, gate_line}
+use Rattle.qasm_writer.specs.Written.{written, register_line, gate_line}
 use Rattle.qasm_writer.proofs.WrittenLemmas.{text_means}
 use Rattle.qasm_writer.proofs.writer.write_text.Goals as goal
+use Rattle.qasm_writer.proofs.Lines.{version_line, include_line}
 
 -- all lines
 all_lines : (c : Circuit) (items : List Gate) (i : ℕ) (text : List ℕ) → IsCircuit c → items ≡ c.gates → length items ≤ i

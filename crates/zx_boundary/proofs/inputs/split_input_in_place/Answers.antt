@@ -8,7 +8,7 @@ use Rattle.zx_boundary.proofs.inputs.split_input_in_place.Goals as goal
 
 pub add_first-requires : goal.add_first-requires
 add_first-requires c =
-    new_unlisted c.args.g.now.graph c.args.b c.in_ok-new.new c.move_to_spider.new.g.graph c.args.f.now.flow
+    new_unlisted c.args.g.now.graph c.args.b c.in_ok-new.new c.split_input_in_graph.new.g.graph c.args.f.now.flow
     c.requires.flow c.in_ok-new.ensures.step c.in_ok-new.ensures.new
 
 pub returns-clause-table : goal.returns-clause-table
@@ -20,6 +20,6 @@ returns-clause-table c =
 pub returns-clause-rewritten : goal.returns-clause-rewritten
 returns-clause-rewritten c =
     on_ok c.add_first.result
-    (λ table. rewritten c.move_to_spider.ensures.was_valid c.requires.flow c.in_ok-new.ensures.step
+    (λ table. rewritten c.split_input_in_graph.ensures.was_valid c.requires.flow c.in_ok-new.ensures.step
     (same_of_equal table))
     (returns-clause-table c)

@@ -22,6 +22,6 @@ returns-clause-table c =
 pub returns-clause-rewritten : goal.returns-clause-rewritten
 returns-clause-rewritten c =
     on_ok c.add_last.result
-    (λ table. rewritten c.move_to_spider.ensures.was_valid c.requires.flow c.in_ok-new.ensures.step
+    (λ table. rewritten c.split_output_in_graph.ensures.was_valid c.requires.flow c.in_ok-new.ensures.step
     (same_of_equal table))
     (returns-clause-table c)

@@ -12,8 +12,8 @@ set_weight-requires-clause-plane c boundary =
     ap (λ (k : Kind). k.plane) c.weight-plane.ensures.value
     ∙ boundary_XY c.args.g.now.graph c.args.v c.weight-plane.ensures.valid boundary
 
-pub returns : goal.returns
-returns c =
+pub returns-clause-added : goal.returns-clause-added
+returns-clause-added c =
     c.set_weight.ensures.ok
     ∙ ap (λ (k : Kind). record c.args.g.now.graph { vertices = with_kinds (at_vertex c.args.v (λ _. k)) c.args.g.now.graph.vertices })
     (ap (in_plane (plane_named c.weight-plane.result.0)) c.add.ensures ∙ ap (with_phase_added c.args.phase) c.weight-plane.ensures.value)

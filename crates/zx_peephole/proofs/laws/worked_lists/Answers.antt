@@ -2,18 +2,18 @@
 use Rattle.std.proofs.Common.{[], ◌∷◌, refl}
 use Rattle.zx_gates.specs.declared.gate.Gate.TheVariants.{H, Phase, Cz, Cx, Not}
 use Rattle.zx_peephole.specs.Tidy.{IsTidy}
-use Rattle.zx_peephole.proofs.TidyLemmas.{no_pair_at, no_triple_at, tidy-none}
+use Rattle.zx_peephole.proofs.TidyLemmas.{tidy-none}
 use Rattle.zx_peephole.proofs.FindingLemmas.{free_extends, stop_extends}
 use Rattle.zx_peephole.proofs.laws.worked_lists.Goals as goal
 
 pub returns-clause-apart : goal.returns-clause-apart
-returns-clause-apart c = λ tidy. no_pair_at _ tidy [] (Cx 0 1 ∷ []) [] (Phase 0 1) (Phase 0 1) refl refl refl
+returns-clause-apart c = λ tidy. tidy.no_pair [] (Cx 0 1 ∷ []) [] (Phase 0 1) (Phase 0 1) refl refl refl
 
 pub returns-clause-either_order : goal.returns-clause-either_order
-returns-clause-either_order c = λ tidy. no_pair_at _ tidy [] [] [] (Cz 0 1) (Cz 1 0) refl refl refl
+returns-clause-either_order c = λ tidy. tidy.no_pair [] [] [] (Cz 0 1) (Cz 1 0) refl refl refl
 
 pub returns-clause-triple : goal.returns-clause-triple
-returns-clause-triple c = λ tidy. no_triple_at _ tidy 0 [] (Cx 1 2 ∷ []) [] [] (Not 0) refl refl refl refl
+returns-clause-triple c = λ tidy. tidy.no_triple 0 [] (Cx 1 2 ∷ []) [] [] (Not 0) refl refl refl refl
 
 pub returns-clause-nothing_left : goal.returns-clause-nothing_left
 returns-clause-nothing_left c =

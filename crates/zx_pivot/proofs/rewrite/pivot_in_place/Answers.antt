@@ -1,5 +1,5 @@
 -- The sets and the graph are changed as the step says.
-use Rattle.zx_calculus.proofs.Allowed.{pivot_live, pivot_live_too, pivot_interior, pivot_interior_too, pivot_joined}
+use Rattle.zx_calculus.proofs.Allowed.{pivot_live, pivot_live_too, pivot_joined}
 use Rattle.zx_calculus.proofs.Positions.{on_ok}
 use Rattle.gflow_laws.proofs.Rewriting.{rewritten}
 use Rattle.zx_pivot.proofs.PivotSteps.{first_listed, second_listed}
@@ -22,24 +22,9 @@ pub pivot_sets-requires-clause-v_there : goal.pivot_sets-requires-clause-v_there
 pivot_sets-requires-clause-v_there c =
     second_listed c.args.g.now.graph c.args.f.now.flow c.args.u c.args.v c.requires.flow c.requires.allowed
 
-pub pivot-requires-clause-u_live : goal.pivot-requires-clause-u_live
-pivot-requires-clause-u_live c = pivot_live c.args.g.now.graph c.args.u c.args.v c.requires.allowed
-
-pub pivot-requires-clause-v_live : goal.pivot-requires-clause-v_live
-pivot-requires-clause-v_live c = pivot_live_too c.args.g.now.graph c.args.u c.args.v c.requires.allowed
-
-pub pivot-requires-clause-u_interior : goal.pivot-requires-clause-u_interior
-pivot-requires-clause-u_interior c = pivot_interior c.args.g.now.graph c.args.u c.args.v c.requires.allowed
-
-pub pivot-requires-clause-v_interior : goal.pivot-requires-clause-v_interior
-pivot-requires-clause-v_interior c = pivot_interior_too c.args.g.now.graph c.args.u c.args.v c.requires.allowed
-
-pub pivot-requires-clause-adjacent : goal.pivot-requires-clause-adjacent
-pivot-requires-clause-adjacent c = pivot_joined c.args.g.now.graph c.args.u c.args.v c.requires.allowed
-
 pub returns : goal.returns
 returns c = record {
-  rewritten = on_ok c.pivot.result
-      (λ step. rewritten c.pivot.ensures.was_valid c.requires.flow step c.in_ok-pivot_sets.ensures)
-      c.pivot.ensures.step;
+  rewritten = on_ok c.pivot_in_graph.result
+      (λ step. rewritten c.pivot_in_graph.ensures.was_valid c.requires.flow step c.in_ok-pivot_sets.ensures)
+      c.pivot_in_graph.ensures.step;
 }

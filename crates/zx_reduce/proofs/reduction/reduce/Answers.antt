@@ -1,36 +1,35 @@
 -- The moves one after the other, and what they come to at the end.
 use Rattle.zx_reduce.proofs.MoveCounts.{most_moves-move}
 use Rattle.zx_reduce.proofs.MoveEnds.{stuck-reduced}
-use Rattle.zx_reduce.proofs.MovesMade.{none_made, one_made, gained_run, gained_few_moves, gained_counter, on_error, gained_few_steps, gained_ends, gained_keeps}
+use Rattle.zx_reduce.proofs.MovesMade.{none_made, one_made, gained_run, gained_few_moves, gained_counter, on_error, gained_few_steps, gained_ends, gained_keeps, still_guided}
 use Rattle.zx_reduce.proofs.reduction.reduce.Goals as goal
 
 pub loop-found-init : goal.loop-found-init
 loop-found-init g c =
-    none_made c.args.steps.now c.copy_of.ensures.valid c.requires.flow c.in_ok-work.ensures.graph
-    c.in_ok-work.ensures.flow c.in_ok-work.ensures.trace
+    none_made c.args.steps.now c.in_ok-work.ensures.guided c.in_ok-work.ensures.graph c.in_ok-work.ensures.trace
 
 pub loop-found-smaller : goal.loop-found-smaller
 loop-found-smaller g c =
     most_moves-move c.loop-found.work.graph.graph c.make.new.self.graph.graph c.in-Some.found
-    c.loop-found.invariant.valid c.in-Some.ensures.found c.in_ok-make.ensures.gains.run
+    c.loop-found.invariant.guided.valid c.in-Some.ensures.found c.in_ok-make.ensures.gains.run
 
 pub loop-found-preserved : goal.loop-found-preserved
 loop-found-preserved g c =
     one_made {m = c.in-Some.found} c.loop-found.invariant c.in-Some.ensures.found c.in-Some.ensures.first
-    c.in_ok-make.ensures.gains c.in_ok-make.ensures.flow c.in_ok-make.ensures.valid c.tick.ensures
+    c.in_ok-make.ensures.gains c.in_ok-make.ensures.guided c.tick.ensures
 
 pub returns-clause-reduced : goal.returns-clause-reduced
 returns-clause-reduced g c =
-    stuck-reduced c.loop-found.work.graph.graph c.loop-found.work.flow.flow c.loop-found.invariant.valid
-    c.loop-found.invariant.flow c.in_default.ensures.none
+    stuck-reduced c.loop-found.work.graph.graph c.loop-found.invariant.guided.flow.flow.flow.table
+    c.loop-found.invariant.guided.valid c.loop-found.invariant.guided.flow.flow.flow.flow c.in_default.ensures.none
 
 pub returns-clause-map : goal.returns-clause-map
 returns-clause-map g c =
-    (gained_keeps c.loop-found.invariant.gains c.args.f.now.flow c.copy_of.ensures.valid c.requires.flow).proportional
+    (gained_keeps c.loop-found.invariant.gains c.args.f.now.flow c.begin.ensures.valid c.requires.flow).proportional
 
 pub returns-clause-odd : goal.returns-clause-odd
 returns-clause-odd g c =
-    (gained_keeps c.loop-found.invariant.gains c.args.f.now.flow c.copy_of.ensures.valid c.requires.flow).no_more_odd
+    (gained_keeps c.loop-found.invariant.gains c.args.f.now.flow c.begin.ensures.valid c.requires.flow).no_more_odd
 
 pub returns-clause-inputs : goal.returns-clause-inputs
 returns-clause-inputs g c = (gained_ends c.loop-found.invariant.gains).0
@@ -42,7 +41,7 @@ pub returns-clause-run : goal.returns-clause-run
 returns-clause-run g c = gained_run c.loop-found.invariant.gains
 
 pub returns-clause-few_moves : goal.returns-clause-few_moves
-returns-clause-few_moves g c = gained_few_moves c.loop-found.invariant.gains c.copy_of.ensures.valid
+returns-clause-few_moves g c = gained_few_moves c.loop-found.invariant.gains c.begin.ensures.valid
 
 pub returns-clause-few_steps : goal.returns-clause-few_steps
 returns-clause-few_steps g c = gained_few_steps c.loop-found.invariant.gains
@@ -50,4 +49,15 @@ returns-clause-few_steps g c = gained_few_steps c.loop-found.invariant.gains
 pub returns-in_err-make-clause-err_counter : goal.returns-in_err-make-clause-err_counter
 returns-in_err-make-clause-err_counter g c =
     on_error c.from_residual-in_err-make.result
-    (gained_counter c.loop-found.invariant.gains c.copy_of.ensures.valid)
+    (gained_counter c.loop-found.invariant.gains c.begin.ensures.valid)
+
+pub returns-in_err-flow-clause-err_counter : goal.returns-in_err-flow-clause-err_counter
+returns-in_err-flow-clause-err_counter g c =
+    on_error c.from_residual-in_err-flow.result
+    (gained_counter c.loop-found.invariant.gains c.begin.ensures.valid)
+
+pub make-requires-clause-guided : goal.make-requires-clause-guided
+make-requires-clause-guided g c = still_guided c.loop-found.invariant.guided c.next_move.ensures.all
+
+pub flow-requires : goal.flow-requires
+flow-requires g c = record { guided = still_guided c.loop-found.invariant.guided c.next_move.ensures.all }

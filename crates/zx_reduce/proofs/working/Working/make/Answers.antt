@@ -15,19 +15,17 @@ loop-step-init c =
       planned = planned;
       way = begun c.args.self.now.graph.graph c.deref-step-items.result.now c.args.self.now.trace.steps
           (subst (AreAllowed c.args.self.now.graph.graph) (sym planned)
-          (steps_allowed c.args.self.now.graph.graph c.args.m.now c.requires.valid c.requires.applies
+          (steps_allowed c.args.self.now.graph.graph c.args.m.now c.requires.guided.valid c.requires.applies
           c.requires.first));
-      flow = c.requires.flow;
-      valid = c.requires.valid;
+      guided = c.requires.guided;
     }
 
 pub loop-step-preserved : goal.loop-step-preserved
 loop-step-preserved c = record {
   planned = c.loop-step.invariant.planned;
   way = rw add-one (next_done c.step-item.result c.loop-step.invariant.way c.loop-step-test.true c.step-item.is
-      c.in_ok-do_step.ensures.rewritten.step c.in_ok-do_step.ensures.trace);
-  flow = c.in_ok-do_step.ensures.rewritten.flow;
-  valid = c.in_ok-do_step.ensures.rewritten.valid;
+      c.in_ok-do_step.ensures.step c.in_ok-do_step.ensures.trace);
+  guided = c.in_ok-do_step.ensures.guided;
 }
 
 pub do_step-requires-clause-allowed : goal.do_step-requires-clause-allowed

@@ -1,0 +1,153 @@
+-- Rows toggled one after the other, until the graph is symmetric again.
+use Rattle.std.proofs.Common.{◌≡◌, refl, sym, ◌∙◌, ap, ap₂, subst, ℕ, suc, ◌<◌, Bool, true, false, ◌&&◌, eqb, ltb, List, [], ◌∷◌, length, get_or, take, Option, Some, None, IsSome, slice_index_or, true≢false, ne_eqb}
+use Rattle.zx_model.specs.Bits.{xor, member}
+use Rattle.std.specs.List.{list_all}
+use Rattle.zx_model.specs.Phase.{turn}
+use Rattle.zx_calculus.specs.Graph.{End, ids, joined, OrderedEdges, OrderedEnds, Distinct}
+use Rattle.zx_calculus.specs.Toggles.{IsToggled, among}
+use Rattle.zx_calculus.proofs.Booleans.{parities, xor_comm, xor-false, xor-same, or-false}
+use Rattle.zx_calculus.proofs.Ids.{by_equal, eqb-self, Symmetric}
+use Rattle.zx_calculus.proofs.Positions.{member-grown, at_place}
+use Rattle.zx_calculus.proofs.EdgeLists.{OrderedEdges-edges_of}
+use Rattle.zx_calculus.proofs.Extensionality.{vertices_ext}
+use Rattle.open_graph.specs.declared.slot.Slot.{Slot}
+use Rattle.open_graph.specs.Toggles.{across}
+use Rattle.open_graph.specs.Internal.Slots.{Told, told_by, told, vertices_of, adjacent, graph_of, IsSound}
+use Rattle.open_graph.specs.Internal.Changes.{RowsToggled, two_among}
+use Rattle.open_graph.proofs.SlotLemmas.{member-vertices, kind_of-vertices, rising_vertices, joined-edges, some_of_live}
+
+regrouped : (a b c d : Bool) → xor b c ≡ d → xor (xor a b) c ≡ xor a d
+regrouped a b c d e = let assoc : xor (xor a b) c ≡ xor a (xor b c) = simp parities in assoc ∙ ap (xor a) e
+
+-- one change after another
+pub rows_then : (a b c : List (Option Slot)) (picked more all : ℕ → ℕ → Bool) → RowsToggled a b picked → RowsToggled b c more →
+    ((p q : ℕ) → xor (picked p q) (more p q) ≡ all p q) → RowsToggled a c all
+rows_then a b c picked more all first second sum = record {
+  others = λ p. second.others p ∙ ap {A = Told} {B = Told} (λ t. record t { row = (told c p).row }) (first.others p);
+  rows = λ p q. second.rows p q ∙ ap (λ x. xor x (more p q)) (first.rows p q)
+      ∙ regrouped (adjacent a p q) (picked p q) (more p q) (all p q) (sum p q);
+}
+
+live_of_some : (slot : Option Slot) → IsSome slot → (told_by slot).live ≡ true
+live_of_some None there = absurd (true≢false (sym there))
+live_of_some (Some s) there = refl
+
+-- what has a slot still has one
+pub still_there : (old new : List (Option Slot)) (picked : ℕ → ℕ → Bool) (p : ℕ) → RowsToggled old new picked →
+    IsSome (slice_index_or old p None) → IsSome (slice_index_or new p None)
+still_there old new picked p toggled there =
+    some_of_live (slice_index_or new p None) (ap (λ t. t.live) (toggled.others p) ∙ live_of_some (slice_index_or old p None) there)
+
+-- one more of them is done
+grown : (us : List ℕ) (i u p : ℕ) → Distinct us → i < length us → u ≡ get_or us i u → member p (take (suc i) us) ≡ xor (member p (take i us)) (eqb p u)
+grown us i u p d lt is = member-grown us i p d lt ∙ ap (λ x. xor (member p (take i us)) (eqb p x)) (sym (at_place us us i u refl lt is))
+
+wider : (a e x : Bool) → xor (a && x) (e && x) ≡ (xor a e && x)
+wider a e x = simp parities
+
+-- one vertex more whose row is toggled
+pub rows_next : (old now new : List (Option Slot)) (us others : List ℕ) (i u : ℕ) → Distinct us → i < length us → u ≡ get_or us i u →
+    RowsToggled old now (λ p q. member p (take i us) && member q others) → RowsToggled now new (λ p q. eqb p u && member q others) →
+    RowsToggled old new (λ p q. member p (take (suc i) us) && member q others)
+rows_next old now new us others i u d lt is before step =
+    rows_then old now new _ _ _ before step
+    (λ p q. wider (member p (take i us)) (eqb p u) (member q others) ∙ ap (λ x. x && member q others) (sym (grown us i u p d lt is)))
+
+-- one of the listed more whose row is toggled, first by all of them and then by itself
+pub among_next : (old now mid new : List (Option Slot)) (near : List ℕ) (i u : ℕ) → Distinct near → i < length near → u ≡ get_or near i u →
+    RowsToggled old now (λ p q. member p (take i near) && xor (member q near) (eqb q p)) → RowsToggled now mid (λ p q. eqb p u && member q near) →
+    RowsToggled mid new (λ p q. eqb p u && member q (u ∷ [])) →
+    RowsToggled old new (λ p q. member p (take (suc i) near) && xor (member q near) (eqb q p))
+among_next old now mid new near i u d lt is before step itself =
+    rows_then old now new _ (λ p q. eqb p u && xor (member q near) (eqb q p)) _ before
+    (rows_then now mid new _ _ _ step itself same)
+    (λ p q. wider (member p (take i near)) (eqb p u) (xor (member q near) (eqb q p))
+    ∙ ap (λ x. x && xor (member q near) (eqb q p)) (sym (grown near i u p d lt is)))
+  where
+    same : (p q : ℕ) → xor (eqb p u && member q near) (eqb p u && member q (u ∷ [])) ≡ (eqb p u && xor (member q near) (eqb q p))
+    same p q = by_equal p u (λ t e. rw t (ap (xor (member q near)) (or-false (eqb q u) ∙ ap (eqb q) (sym e)))) (λ f n. rw f refl)
+
+-- the rows are symmetric again
+module _ (old new : List (Option Slot)) (inputs outputs : List End) (sound : IsSound old inputs outputs) (picked : ℕ → ℕ → Bool)
+    (either_way : (p q : ℕ) → picked p q ≡ picked q p) (never_itself : (p : ℕ) → picked p p ≡ false) (toggled : RowsToggled old new picked) where
+  symmetric : Symmetric (adjacent new)
+  symmetric p q = toggled.rows p q ∙ ap₂ xor (sound.symmetric p q) (either_way p q) ∙ sym (toggled.rows q p)
+
+  loopless : (p : ℕ) → adjacent new p p ≡ false
+  loopless p = toggled.rows p p ∙ ap₂ xor (sound.no_loop p) (never_itself p)
+
+  same_vertices : vertices_of new ≡ vertices_of old
+  same_vertices =
+      vertices_ext (vertices_of new) (vertices_of old) (rising_vertices 0 new) (rising_vertices 0 old)
+      (λ p. member-vertices new p ∙ ap (λ t. t.live) (toggled.others p) ∙ sym (member-vertices old p))
+      (λ p t. kind_of-vertices new p ∙ ap (λ t. t.kind) (toggled.others p) ∙ sym (kind_of-vertices old p))
+
+  ordered : OrderedEdges (ids (vertices_of new)) (graph_of new inputs outputs).edges
+  ordered = OrderedEdges-edges_of (adjacent new) (ids (vertices_of new)) (rising_vertices 0 new)
+
+  pub rows_sound : IsSound new inputs outputs
+  rows_sound = record {
+    symmetric = symmetric;
+    no_loop = loopless;
+    input_places = λ p. ap (λ t. t.input) (toggled.others p) ∙ sound.input_places p;
+    output_places = λ p. ap (λ t. t.output) (toggled.others p) ∙ sound.output_places p;
+    well_formed = record {
+      vertices_rising = rising_vertices 0 new;
+      phases_below_a_turn = ap (list_all (λ v. ltb v.kind.phase turn)) same_vertices ∙ sound.well_formed.phases_below_a_turn;
+      edges = ordered;
+      inputs = subst (λ vs. OrderedEnds vs inputs) (sym same_vertices) sound.well_formed.inputs;
+      outputs = subst (λ vs. OrderedEnds vs outputs) (sym same_vertices) sound.well_formed.outputs;
+    };
+  }
+
+  pub rows_toggled : IsToggled (graph_of old inputs outputs) picked (graph_of new inputs outputs)
+  rows_toggled = record {
+    vertices = same_vertices;
+    edges = λ p q n. joined-edges new symmetric loopless p q ∙ toggled.rows p q
+        ∙ ap (λ x. xor x (picked p q)) (sym (joined-edges old sound.symmetric sound.no_loop p q));
+    frame = record { ordered = ordered; inputs = refl; outputs = refl };
+  }
+
+-- slots and ends are sound, and are those of a graph in which these edges are toggled
+pub record BecomesToggled (old new : List (Option Slot)) (inputs outputs : List End) (picked : ℕ → ℕ → Bool) : Type 0 where
+  pub sound : IsSound new inputs outputs
+  pub toggled : IsToggled (graph_of old inputs outputs) picked (graph_of new inputs outputs)
+
+module _ (old new : List (Option Slot)) (inputs outputs : List End) (sound : IsSound old inputs outputs) where
+  pub becomes_across : (xs ys : List ℕ) → RowsToggled old new (across xs ys) → BecomesToggled old new inputs outputs (across xs ys)
+  becomes_across xs ys toggled = record {
+    sound = rows_sound old new inputs outputs sound (across xs ys) either_way never_itself toggled;
+    toggled = rows_toggled old new inputs outputs sound (across xs ys) either_way never_itself toggled;
+  }
+    where
+      either_way : (p q : ℕ) → across xs ys p q ≡ across xs ys q p
+      either_way p q = xor_comm (member p xs && member q ys) (member q xs && member p ys)
+
+      never_itself : (p : ℕ) → across xs ys p p ≡ false
+      never_itself p = xor-same (member p xs && member p ys)
+
+  pub becomes_among : (near : List ℕ) → RowsToggled old new (two_among near) → BecomesToggled old new inputs outputs (among near)
+  becomes_among near toggled = record {
+    sound = rows_sound old new inputs outputs sound (two_among near) either_way never_itself toggled;
+    toggled = record {
+      vertices = all.vertices;
+      edges = λ p q n. all.edges p q n
+          ∙ ap (λ b. xor (joined (graph_of old inputs outputs).edges p q) (member p near && b)) (ap (xor (member q near)) (ne_eqb q p (λ e. n (sym e))) ∙ xor-false (member q near));
+      frame = all.frame;
+    };
+  }
+    where
+      either_way : (p q : ℕ) → two_among near p q ≡ two_among near q p
+      either_way p q =
+          by_equal p q (λ t e. ap₂ (two_among near) e (sym e))
+          (λ f n. rw (f, ne_eqb q p (λ e. n (sym e))) (simp parities))
+
+      opposite : (b : Bool) → (b && xor b true) ≡ false
+      opposite true = refl
+      opposite false = refl
+
+      never_itself : (p : ℕ) → two_among near p p ≡ false
+      never_itself p = ap (λ b. member p near && xor (member p near) b) (eqb-self p) ∙ opposite (member p near)
+
+      all : IsToggled (graph_of old inputs outputs) (two_among near) (graph_of new inputs outputs)
+      all = rows_toggled old new inputs outputs sound (two_among near) either_way never_itself toggled

@@ -1,0 +1,16 @@
+-- Both sides toggle what stands across.
+use Rattle.std.proofs.Common.{ap, ◌&&◌}
+use Rattle.zx_model.specs.Bits.{xor, member}
+use Rattle.zx_calculus.proofs.Booleans.{and_comm}
+use Rattle.zx_calculus.proofs.Positions.{on_ok}
+use Rattle.open_graph.specs.Toggles.{across}
+use Rattle.open_graph.proofs.RowToggles.{rows_then}
+use Rattle.open_graph.proofs.slots.toggle_across.Goals as goal
+
+pub returns : goal.returns
+returns c =
+    on_ok c.toggle_rows-2.result
+    (λ back. rows_then c.args.slots.now.slots c.toggle_rows.new.slots.slots c.toggle_rows-2.new.slots.slots _ _ (across c.args.left.now c.args.right.now)
+    c.in_ok-toggle_rows.ensures back
+    (λ p q. ap (xor (member p c.args.left.now && member q c.args.right.now)) (and_comm (member p c.args.right.now) (member q c.args.left.now))))
+    c.toggle_rows-2.ensures
