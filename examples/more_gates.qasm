@@ -22,14 +22,14 @@ gate rc3x a,b,c,d {
 }
 gate rcccx a,b,c,d { rc3x a,b,c,d; }
 
-// -- with angles: any whole number of eighth turns (pi/4)
+// -- with angles: any whole number of sixteenth turns (pi/8)
 
 gate r(theta,phi) q { u3(theta,phi-pi/2,pi/2-phi) q; }
 gate rxx(theta) a,b { h a; h b; rzz(theta) a,b; h a; h b; }
 gate ryy(theta) a,b { rx(pi/2) a; rx(pi/2) b; rzz(theta) a,b; rx(-pi/2) a; rx(-pi/2) b; }
 gate rzx(theta) a,b { h b; rzz(theta) a,b; h b; }
 
-// -- with angles whose halves are taken: theta and phi+lambda have to be even numbers of eighth turns
+// -- with angles whose halves are taken: theta and phi+lambda have to be even numbers of sixteenth turns
 
 // as in Qiskit's header; that of the language's first edition leaves out the first statement, which is another map
 gate cu3(theta,phi,lambda) c,t {

@@ -1,5 +1,6 @@
 -- Circuits and their graphs, written down by hand.
-use Rattle.std.specs.Prelude.{[], ◌∷◌}
+use Rattle.std.specs.Prelude.{◌+◌, [], ◌∷◌}
+use Rattle.zx_model.specs.Phase.{quarter_turn, eighth_turn, opposite_phase}
 use Rattle.zx_calculus.specs.Graph.{XY, Graph}
 use Rattle.zx_calculus.specs.Worked.{vertex, edge, plain, graph}
 use Rattle.zx_gates.specs.Circuit.{Circuit}
@@ -18,10 +19,14 @@ bell_graph =
 
 -- Cz twice, with phases between that add up
 abbrev pub double_cz : Circuit
-double_cz = record { qubits = 2; gates = Cz 0 1 ∷ Phase 0 3 ∷ Phase 0 7 ∷ Cz 1 0 ∷ [] }
+double_cz = record {
+  qubits = 2;
+  gates = Cz 0 1 ∷ Phase 0 (quarter_turn + eighth_turn) ∷ Phase 0 (opposite_phase eighth_turn) ∷ Cz 1 0 ∷ [];
+}
 
 abbrev pub double_cz_graph : Graph
-double_cz_graph = graph (vertex 0 XY 2 ∷ vertex 1 XY 0 ∷ []) [] (plain 0 ∷ plain 1 ∷ []) (plain 0 ∷ plain 1 ∷ [])
+double_cz_graph =
+    graph (vertex 0 XY quarter_turn ∷ vertex 1 XY 0 ∷ []) [] (plain 0 ∷ plain 1 ∷ []) (plain 0 ∷ plain 1 ∷ [])
 
 -- H on one qubit
 abbrev pub hadamard_circuit : Circuit

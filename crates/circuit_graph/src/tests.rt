@@ -10,7 +10,7 @@ use std::alloc::Global;
 use std::test::Fail;
 use zx_flow::Flow;
 use zx_gates::{Gate, GateList};
-use zx_model::Eighth;
+use zx_model::Sixteenth;
 
 // The circuit of those of the gates that are on the qubits.
 fn circuit(alloc: Global, qubits: u16, gates: &[Gate]) -> Result<GateList, Fail>
@@ -60,11 +60,11 @@ fn cx(control: u16, target: u16) -> Gate {
 }
 
 fn t(q: u16) -> Gate {
-    Gate::Phase(q, Eighth::new(1))
+    Gate::Phase(q, Sixteenth::new(2))
 }
 
 fn tdg(q: u16) -> Gate {
-    Gate::Phase(q, Eighth::new(7))
+    Gate::Phase(q, Sixteenth::new(14))
 }
 
 // A letter for a vertex.
@@ -79,12 +79,18 @@ fn name(v: VertexId) -> u8 {
     }
 }
 
+// A phase as one hexadecimal digit.
+fn digit(phase: Sixteenth) -> u8 {
+    let digits = b"0123456789ABCDEF";
+    digits[usize::from(phase.get())]
+}
+
 // Adds the phases of the vertices, by rising id.
 fn add_phases(text: &mut Vec<u8>, graph: &OpenGraph) -> Result<(), Fail> {
     for v in graph.vertices() {
         if graph.is_live(v) {
             let (_plane, phase) = graph.weight(v);
-            text.push(b'0' + phase.get())?;
+            text.push(digit(phase))?;
         }
     }
     Ok(())
@@ -173,18 +179,18 @@ fn cz_twice(rt: HostRuntime) -> Result<(), Fail> {
     let gates = [
         Gate::Cz(0, 1),
         tdg(0),
-        Gate::Phase(0, Eighth::new(3)),
+        Gate::Phase(0, Sixteenth::new(6)),
         Gate::Cz(1, 0),
     ];
     let text = drawn(rt.alloc(), 2, &gates)?;
-    assert_eq!(rt; text.as_slice(), b"20:ab>ab<".as_slice());
+    assert_eq!(rt; text.as_slice(), b"40:ab>ab<".as_slice());
     Ok(())
 }
 
 #[test]
 fn hadamards_on_one_wire(rt: HostRuntime) -> Result<(), Fail> {
     let text = drawn(rt.alloc(), 1, &[t(0), Gate::H(0), Gate::H(0), t(0)])?;
-    assert_eq!(rt; text.as_slice(), b"101 ab bc:a>c< ab bc".as_slice());
+    assert_eq!(rt; text.as_slice(), b"202 ab bc:a>c< ab bc".as_slice());
     Ok(())
 }
 
@@ -220,7 +226,7 @@ fn a_toffoli_gate(rt: HostRuntime) -> Result<(), Fail> {
     ];
     assert_eq!(rt;
         phases(rt.alloc(), &gates)?.as_slice(),
-        b"11000701070100700".as_slice()
+        b"22000E020E0200E00".as_slice()
     );
     Ok(())
 }

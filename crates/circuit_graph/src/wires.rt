@@ -12,7 +12,7 @@ use open_graph::{End, OpenGraph, Plane, VertexId};
 use std::alloc::{AllocError, Global};
 use zx_flow::FlowTable;
 use zx_gates::{Gate, Qubit};
-use zx_model::Eighth;
+use zx_model::Sixteenth;
 
 // The graph so far, whose outputs stand at the present spiders of the wires, and the corrections of the spiders that
 // the wires have left.
@@ -60,7 +60,7 @@ impl Wires {
             }
             Gate::Not(q) => {
                 self.add_hadamard(q)?;
-                self.add_phase(q, Eighth::new(4));
+                self.add_phase(q, Sixteenth::half_turn());
                 self.add_hadamard(q)
             }
         }
@@ -85,14 +85,14 @@ impl Wires {
             length self.old.graph.graph.outputs) }
     {
         let here = self.present(q);
-        let next = self.graph.add_vertex(Plane::XY, Eighth::new(0))?;
+        let next = self.graph.add_vertex(Plane::XY, Sixteenth::new(0))?;
         self.graph.toggle_edge(here, next)?;
         self.graph.move_output(usize::from(q), End::plain(next));
         self.table.add(here, &[next])
     }
 
     // A phase is added to the present spider.
-    fn add_phase(&mut self, q: Qubit, phase: Eighth)
+    fn add_phase(&mut self, q: Qubit, phase: Sixteenth)
         requires ready { IsReady (state_of self.old) }
         requires on_wires { q < length self.old.graph.graph.outputs }
         ensures step { IsPhaseStep (state_of self.old) q phase (state_of self.new) }
@@ -129,7 +129,7 @@ fn without_gates(alloc: Global, qubits: Qubit) -> Result<OpenGraph, AllocError>
 {
     let mut graph = OpenGraph::new(alloc);
     for _ in 0..qubits {
-        let first = graph.add_vertex(Plane::XY, Eighth::new(0))?;
+        let first = graph.add_vertex(Plane::XY, Sixteenth::new(0))?;
         let end = End::plain(first);
         graph.add_input(end)?;
         graph.add_output(end)?;

@@ -1,9 +1,9 @@
 -- Odd phases of graphs and of the gates that are peeled off them.
-use Rattle.std.proofs.Common.{◌≡◌, sym, zero-add, ◌∙◌, ap, ap₂, refl, ℕ, ◌+◌, ◌≤◌, Bool, true, false, cond, List, [], ◌∷◌, arith, ne_eqb, le_of_eq, suc, ◌++◌}
+use Rattle.std.proofs.Common.{◌≡◌, sym, zero-add, ◌∙◌, ap, ap₂, refl, ℕ, ◌+◌, ◌%◌, ◌≤◌, Bool, true, false, cond, List, [], ◌∷◌, arith, ne_eqb, le_of_eq, suc, ◌++◌}
 use Rattle.std.specs.Prelude.{slice_get}
-use Rattle.zx_model.specs.Phase.{sum_of_phases, is_odd}
+use Rattle.zx_model.specs.Phase.{turn, sum_of_phases, is_odd}
 use Rattle.zx_model.specs.Bits.{member, one_if}
-use Rattle.zx_model.proofs.Odd.{is_odd-sum, one_if-odd_sum}
+use Rattle.zx_model.proofs.Odd.{is_odd-sum_even, one_if-odd_sum}
 use Rattle.zx_calculus.specs.Graph.{YZ, Distinct, Vertex, End, Graph, ids, kind_of, plane_of, phase_of, with_kinds, without, WellFormed}
 use Rattle.zx_calculus.specs.Turns.{with_phase_added}
 use Rattle.zx_calculus.specs.Edits.{IsRemoval}
@@ -71,8 +71,9 @@ pub phase_odd_exactly : (g : Graph) (q k : ℕ) (h : Graph) → WellFormed h →
     phase_of h c.vertex ≡ 0 → odd_phases g ≡ odd_phases h + odd_gates (Phase q k ∷ [])
 phase_odd_exactly g q k h w c none =
     let counts = phase_counts g q k h w c in
+    let other_way : 0 + k ≡ k + 0 = omega arith in
     exactly _ _ _ _ _ _ counts.0 counts.1 counts.2 (one_gate q k) (ap (λ j. one_if (is_odd j)) none)
-    (ap (λ j. one_if (is_odd (sum_of_phases j k))) none ∙ ap one_if (is_odd-sum 0 k))
+    (ap (λ j. one_if (is_odd (sum_of_phases j k))) none ∙ ap (λ s. one_if (is_odd (s % turn))) other_way ∙ ap one_if (is_odd-sum_even k 0 refl))
   where
     exactly : (a b j s o n rest : ℕ) → a ≡ j + rest → b ≡ s + rest → n ≡ o → j ≡ 0 → s ≡ o → b ≡ a + n
     exactly a b j s o n rest p r e z t = omega arith

@@ -1,11 +1,12 @@
 -- The worked graphs.
 use Rattle.std.proofs.Common.{◌≡◌, sym, ◌∙◌, ap, ap₂, refl, ℕ, Bool, true, false, cond, ◌&&◌, ◌||◌, eqb, ne_eqb, List, [], ◌∷◌, ◌<◌, lt-ltb, arith}
-use Rattle.zx_model.specs.Phase.{turn}
+use Rattle.zx_model.specs.Phase.{turn, eighth_turn}
 use Rattle.zx_model.specs.Bits.{xor}
+use Rattle.zx_model.specs.Cyclotomic.{add_cyclotomic, mul_cyclotomic, neg_cyclotomic}
 use Rattle.zx_model.specs.Number.{zero, one, add, mul, neg, root_power}
 use Rattle.zx_model.specs.Proportional.{Proportional}
 use Rattle.zx_model.proofs.Ring.{one_nonzero, mul-zero, two_nonzero}
-use Rattle.zx_calculus.specs.Graph.{XY, joined, joins, WellFormed, OrderedEdges}
+use Rattle.zx_calculus.specs.Graph.{XY, Graph, joined, joins, WellFormed, OrderedEdges}
 use Rattle.zx_calculus.specs.Turns.{in_plane}
 use Rattle.zx_calculus.specs.Sum.{sum}
 use Rattle.zx_calculus.specs.Worked.{edge}
@@ -15,26 +16,27 @@ use Rattle.zx_calculus.proofs.Pairs.{not_both}
 use Rattle.zx_calculus.proofs.Edges.{joins-xor, joined-xor}
 use Rattle.zx_gates.specs.Maps.{act, amp}
 use Rattle.zx_gates.specs.declared.gate.Gate.TheVariants.{H, Phase, Cz, Cx}
-use Rattle.zx_gates.proofs.WorkedLemmas.{on_two_qubits, each_pair}
+use Rattle.zx_gates.proofs.WorkedLemmas.{two_qubit_entries}
 use Rattle.circuit_laws.specs.Followed.{followed, Peels, Ends}
 use Rattle.gflow_laws.specs.Outputs.{row_added}
 use Rattle.circuit_laws.specs.Peeling.{IsMarkPeel, IsEdgePeel, IsGadgetPeel, IsLinkedGadgetPeel, IsExchange, IsAdvance, IsRowAddition, IsWires}
 use Rattle.circuit_laws.specs.Gates.{exchange_gates, linked_gadget_gates}
 use Rattle.circuit_laws.specs.Worked.{bell_pair, bell_unmarked, bell_wires, wires_with_gadget, two_wires, before_addition, after_addition, crossing, linked_gadget, unlinked, advanced_wires}
-use Rattle.circuit_laws.proofs.Composing.{peels_end}
-use Rattle.circuit_laws.proofs.Keeping.{mark_formed_back, edge_formed_back, row_formed_back, linked_gadget_formed_back}
+use Rattle.circuit_laws.proofs.Composing.{peels_end, ends_proportional}
+use Rattle.circuit_laws.proofs.Keeping.{mark_formed_back, edge_formed_back, row_formed_back, gadget_formed_back, linked_gadget_formed_back}
 use Rattle.circuit_laws.proofs.Settling.{mark_peels, edge_peels}
 use Rattle.circuit_laws.proofs.Wires.{wires_end}
 use Rattle.circuit_laws.proofs.Taken.{advanced, advanced_formed}
 use Rattle.circuit_laws.proofs.Advancing.{spider_peels}
-use Rattle.circuit_laws.proofs.Gadgets.{linked_gadget_peels}
+use Rattle.circuit_laws.proofs.Gadgets.{gadget_peels, linked_gadget_peels}
 use Rattle.circuit_laws.proofs.Rows.{row_peels}
 
 -- ---- the Bell pair
 pub bell_entries : Proportional 2 2 (sum bell_pair) (amp (H 0 ∷ Cx 0 1 ∷ []))
-unfolding add mul neg root_power
+unfolding add mul neg root_power add_cyclotomic mul_cyclotomic neg_cyclotomic
 bell_entries =
-    on_two_qubits one (add one one) one_nonzero two_nonzero _ _ (each_pair _ (each_pair _ refl refl refl refl) (each_pair _ refl refl refl refl) (each_pair _ refl refl refl refl) (each_pair _ refl refl refl refl))
+    two_qubit_entries one (add one one) one_nonzero two_nonzero (sum bell_pair) (amp (H 0 ∷ Cx 0 1 ∷ []))
+    ((refl, refl, refl, refl), (refl, refl, refl, refl), (refl, refl, refl, refl), (refl, refl, refl, refl))
 
 bell_formed : WellFormed bell_pair
 bell_formed = record {
@@ -90,11 +92,6 @@ bell_gates =
     (peels_end bell_unmarked bell_wires (H 0 ∷ H 1 ∷ []) (Cz 0 1 ∷ []) (edge_peels bell_unmarked 0 1 bell_wires unmarked_formed wires_formed bell_edge).0 (wires_end bell_wires wires_formed bell_wires_left).0)
 
 -- ---- a gadget
-pub gadget_entries : Proportional 2 2 (sum (wires_with_gadget 1)) (amp (Cx 1 0 ∷ Phase 0 1 ∷ Cx 1 0 ∷ []))
-unfolding add mul neg root_power
-gadget_entries =
-    on_two_qubits one (add one one) one_nonzero two_nonzero _ _ (each_pair _ (each_pair _ refl refl refl refl) (each_pair _ refl refl refl refl) (each_pair _ refl refl refl refl) (each_pair _ refl refl refl refl))
-
 pub gadget_of_two : (k : ℕ) → IsGadgetPeel (wires_with_gadget k) 2 (0 ∷ 1 ∷ []) two_wires
 gadget_of_two k = record {
   legs = 0 ∷ 1 ∷ [];
@@ -111,6 +108,42 @@ gadget_of_two k = record {
   where
     none : (a b c d : Bool) → (((a && false) || (b && false)) || (((c && false) || (d && false)) || false)) ≡ false
     none a b c d = simp and-false
+
+pub gadget_entries : Proportional 2 2 (sum (wires_with_gadget eighth_turn)) (amp (Cx 1 0 ∷ Phase 0 eighth_turn ∷ Cx 1 0 ∷ []))
+gadget_entries =
+    ends_proportional wires (Cx 1 0 ∷ Phase 0 eighth_turn ∷ Cx 1 0 ∷ [])
+    (peels_end wires two_wires [] (Cx 1 0 ∷ Phase 0 eighth_turn ∷ Cx 1 0 ∷ [])
+    (gadget_peels wires 2 (0 ∷ 1 ∷ []) two_wires formed left_formed (gadget_of_two eighth_turn)).0
+    (wires_end two_wires left_formed are_wires).0)
+  where
+    wires : Graph
+    wires = wires_with_gadget eighth_turn
+
+    formed : WellFormed wires
+    formed = record {
+      vertices_rising = refl;
+      phases_below_a_turn = refl;
+      edges = record { lower_first = refl; rising = refl; lower_there = refl; higher_there = refl };
+      inputs = record { one_each = refl; there = refl; at_XY = refl };
+      outputs = record { one_each = refl; there = refl; at_XY = refl };
+    }
+
+    left_formed : WellFormed two_wires
+    left_formed = gadget_formed_back wires 2 (0 ∷ 1 ∷ []) two_wires formed (gadget_of_two eighth_turn)
+
+    none : (a b : Bool) → (cond a (in_plane XY 0) (cond b (in_plane XY 0) (in_plane XY 0))).phase ≡ 0
+    none true b = refl
+    none false true = refl
+    none false false = refl
+
+    are_wires : IsWires two_wires
+    are_wires = record {
+      phase = λ u t. none (eqb u 0) (eqb u 1);
+      output = λ u t. t;
+      in_line = refl;
+      plain_outputs = refl;
+      no_edges = λ p q. refl;
+    }
 
 -- ---- an added row
 before_formed : WellFormed before_addition
@@ -155,11 +188,11 @@ row_gate = (row_peels before_addition 1 0 after_addition before_formed (row_form
 
 -- at the input 00 and the output 01
 entry_before : followed before_addition (λ z. amp [] z (false ∷ true ∷ [])) (false ∷ false ∷ []) ≡ one
-unfolding add mul neg root_power
+unfolding add mul neg root_power add_cyclotomic mul_cyclotomic neg_cyclotomic
 entry_before = refl
 
 entry_after : followed after_addition (act (Cx 1 0) (λ z. amp [] z (false ∷ true ∷ []))) (false ∷ false ∷ []) ≡ zero
-unfolding add mul neg root_power
+unfolding add mul neg root_power add_cyclotomic mul_cyclotomic neg_cyclotomic
 entry_after = refl
 
 pub not_reversed : Peels before_addition (Cx 1 0 ∷ []) after_addition → ⊥
@@ -167,9 +200,10 @@ not_reversed p = one_nonzero (sym entry_before ∙ p.equal (λ z. amp [] z (fals
 
 -- ---- an exchange
 pub crossing_entries : Proportional 2 2 (sum crossing) (amp (exchange_gates 0 1))
-unfolding add mul neg root_power
+unfolding add mul neg root_power add_cyclotomic mul_cyclotomic neg_cyclotomic
 crossing_entries =
-    on_two_qubits one one one_nonzero one_nonzero _ _ (each_pair _ (each_pair _ refl refl refl refl) (each_pair _ refl refl refl refl) (each_pair _ refl refl refl refl) (each_pair _ refl refl refl refl))
+    two_qubit_entries one one one_nonzero one_nonzero (sum crossing) (amp (exchange_gates 0 1))
+    ((refl, refl, refl, refl), (refl, refl, refl, refl), (refl, refl, refl, refl), (refl, refl, refl, refl))
 
 pub crossing_exchanged : IsExchange crossing 0 1 two_wires
 crossing_exchanged = record {

@@ -1,7 +1,7 @@
 //! Small graphs and their gates, for anyone to check by hand.
 
 ghost use Rattle.std.specs.Prelude.{ℕ, ◌<◌, [], ◌∷◌};
-ghost use Rattle.zx_model.specs.Phase.{turn};
+ghost use Rattle.zx_model.specs.Phase.{turn, eighth_turn};
 ghost use Rattle.zx_model.specs.Proportional.{Proportional};
 ghost use Rattle.zx_calculus.specs.Sum.{sum};
 ghost use Rattle.zx_gates.specs.Maps.{amp};
@@ -23,8 +23,8 @@ pub fn bell_pair_is_h_and_cx()
 
 /// A gadget on two wires is a phase gate between two Cx.
 pub fn gadget_is_a_phase_between_two_cx()
-    ensures entries { Proportional 2 2 (sum (wires_with_gadget 1))
-        (amp (Gate.Cx 1 0 ∷ Gate.Phase 0 1 ∷ Gate.Cx 1 0 ∷ [])) }
+    ensures entries { Proportional 2 2 (sum (wires_with_gadget eighth_turn))
+        (amp (Gate.Cx 1 0 ∷ Gate.Phase 0 eighth_turn ∷ Gate.Cx 1 0 ∷ [])) }
     ensures gadget { (k : ℕ) → IsGadgetPeel (wires_with_gadget k) 2 (0 ∷ 1 ∷ []) two_wires }
 {}
 

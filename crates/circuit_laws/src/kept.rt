@@ -44,8 +44,9 @@ pub fn peeled_gates_keep_form()
         IsLinkedGadgetPeel g v q qubits h → WellFormed h }
 {}
 
-/// A graph has as many odd phases as the gates that are peeled off it and what is left. Only a phase that is added to
-/// another may be odd with it to make an even one, and a gadget on no output gives no gate.
+/// A graph has as many odd phases as the gates that are peeled off it and what is left together, but
+/// for two cases: where an odd phase was added to another, the graph has one or none of the two, and a
+/// gadget on no output gives no gate.
 pub fn peeling_counts_odd_phases()
     ensures phase { (g : Graph) (q k : ℕ) (h : Graph) → WellFormed h → IsPhasePeel g q k h →
         odd_phases g ≤ odd_phases h + gate_odd_phases (Gate.Phase q k ∷ []) }

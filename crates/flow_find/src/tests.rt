@@ -15,7 +15,7 @@ use std::alloc::Global;
 use std::process::Abort;
 use std::test::Fail;
 use zx_flow::FlowTable;
-use zx_model::Eighth;
+use zx_model::Sixteenth;
 
 fn id(number: usize) -> VertexId
     ensures { result ≡ number }
@@ -28,7 +28,7 @@ fn add(rt: &impl Abort, graph: &mut OpenGraph, number: usize, plane: Plane) -> R
     ensures { OnOk result (graph.new.graph ≡
         with_vertex number (plane_named plane) graph.old.graph) }
 {
-    let v = graph.add_vertex(plane, Eighth::new(0))?;
+    let v = graph.add_vertex(plane, Sixteenth::new(0))?;
     assert!(rt; v.get() == number);
     Ok(())
 }

@@ -1,7 +1,9 @@
--- What calls of gates with angles come to, where these are whole eighth turns, and the maps of that.
+-- What calls of gates with angles come to, where these are whole sixteenth turns, and the maps of that.
 use Rattle.std.specs.Prelude.{◌≡◌, ◌≢◌, ℕ, ◌+◌, ◌<◌, Bool, false, true, List, [], ◌∷◌, ◌++◌, Some, codes}
 use Rattle.std.proofs.Common.{refl, sym, ap, ap₂, ◌∙◌, zero-add}
+use Rattle.zx_model.specs.Cyclotomic.{add_cyclotomic, mul_cyclotomic, neg_cyclotomic}
 use Rattle.zx_model.specs.Number.{Number, zero, one, add, mul, neg, root_power}
+use Rattle.zx_model.specs.Phase.{turn, half_turn, quarter_turn}
 use Rattle.zx_model.specs.Proportional.{Proportional}
 use Rattle.zx_model.proofs.Ring.{expand, one_nonzero, two_nonzero, mul_comm, mul-neg, mul-one, one-mul}
 use Rattle.zx_model.proofs.Powers.{root_power-zero, root_power-add, root_power-half_turn, root_power-turn}
@@ -12,7 +14,7 @@ use Rattle.zx_gates.specs.Maps.{Matrix, phase}
 use Rattle.zx_gates.proofs.WorkedLemmas.{on_one_qubit}
 use Rattle.qasm_angle.specs.declared.angle.Angle.{Angle}
 use Rattle.qasm_angle.specs.Ratio.{gcd, lowest, limited}
-use Rattle.qasm_angle.specs.Eighths.{phase_of}
+use Rattle.qasm_angle.specs.Sixteenths.{phase_of}
 use Rattle.qasm_angle.specs.Literals.{literal_value, decimal}
 use Rattle.qasm_angle.specs.Values as values
 use Rattle.qasm_scope.specs.Angles.{angle_of}
@@ -34,11 +36,11 @@ module _ (a b c : ℕ) (m : Matrix) (t : Number) (nonzero : t ≢ zero) (same : 
   pub unitary_map : Proportional 1 1 (amp_elementary (U 0 a b c ∷ [])) (single m)
   unitary_map = on_one_qubit one t one_nonzero nonzero _ _ (λ x y. entry x y ∙ same y x)
 
-i-six : root_power 6 ≡ neg i
-i-six = root_power-add 2 4 ∙ ap (mul i) root_power-half_turn ∙ mul-neg i one ∙ ap neg (mul-one i)
+i-opposite : root_power (half_turn + quarter_turn) ≡ neg i
+i-opposite = root_power-add quarter_turn half_turn ∙ ap (mul i) root_power-half_turn ∙ mul-neg i one ∙ ap neg (mul-one i)
 
 -- ---- U by three rotations
--- both over the numbers a = w^theta, b = w^phi, c = w^lambda
+-- both over the numbers a = z^theta, b = z^phi, c = z^lambda
 abbrev entry_of : Number → Number → Number → Number → Number → Number → Number → Number → Number
 entry_of l m r s t u c d = add (mul l (add (mul r c) (mul s d))) (mul m (add (mul t c) (mul u d)))
 
@@ -57,19 +59,19 @@ fourth a b c j = simp expand
 rotations : (a b c : ℕ) (row column : Bool) → unitary a b c row column ≡ mul one (three_rotations a b c row column)
 rotations a b c false false = first (root_power a) i
 rotations a b c false true =
-    ap (λ r. mul r (add (root_power a) (neg one))) (root_power-add c 2) ∙ second (root_power a) (root_power c) i
+    ap (λ r. mul r (add (root_power a) (neg one))) (root_power-add c quarter_turn) ∙ second (root_power a) (root_power c) i
 rotations a b c true false =
-    ap (λ r. mul r (add (root_power a) (neg one))) (root_power-add b 6 ∙ ap (mul (root_power b)) i-six)
+    ap (λ r. mul r (add (root_power a) (neg one))) (root_power-add b (half_turn + quarter_turn) ∙ ap (mul (root_power b)) i-opposite)
     ∙ third (root_power a) (root_power b) i
 rotations a b c true true =
     ap (λ r. mul r (add one (root_power a))) (root_power-add b c) ∙ fourth (root_power a) (root_power b) (root_power c) i
 
 -- ---- one rotation
-about_x : (k : ℕ) (row column : Bool) → unitary k 6 2 row column ≡ mul one (rotation_x k row column)
+about_x : (k : ℕ) (row column : Bool) → unitary k (half_turn + quarter_turn) quarter_turn row column ≡ mul one (rotation_x k row column)
 about_x k false false = simp expand
 about_x k false true = ap (λ r. mul r (add (root_power k) (neg one))) root_power-half_turn ∙ simp expand
 about_x k true false =
-    ap (λ r. mul r (add (root_power k) (neg one))) (root_power-add 8 4 ∙ ap₂ mul root_power-turn root_power-half_turn) ∙ simp expand
+    ap (λ r. mul r (add (root_power k) (neg one))) (root_power-add turn half_turn ∙ ap₂ mul root_power-turn root_power-half_turn) ∙ simp expand
 about_x k true true = ap (λ r. mul r (add one (root_power k))) root_power-turn ∙ simp expand
 
 exchanged : (a j : Number) → mul (neg j) (add a (neg one)) ≡ mul one (mul j (add one (neg a)))
@@ -78,13 +80,13 @@ exchanged a j = simp expand
 about_y : (k : ℕ) (row column : Bool) → unitary k 0 0 row column ≡ mul one (rotation_y k row column)
 about_y k false false = simp expand
 about_y k false true = sym (one-mul (mul i (add (root_power k) (neg one))))
-about_y k true false = ap (λ r. mul r (add (root_power k) (neg one))) i-six ∙ exchanged (root_power k) i
+about_y k true false = ap (λ r. mul r (add (root_power k) (neg one))) i-opposite ∙ exchanged (root_power k) i
 about_y k true true = ap (λ r. mul r (add one (root_power k))) root_power-zero ∙ simp expand
 
 about_z : (k : ℕ) (row column : Bool) → unitary 0 0 k row column ≡ mul two (rotation_z k row column)
 about_z k false false = ap (add one) root_power-zero ∙ simp expand
-about_z k false true = ap (λ r. mul (root_power (k + 2)) (add r (neg one))) root_power-zero ∙ simp expand
-about_z k true false = ap (λ r. mul (root_power 6) (add r (neg one))) root_power-zero ∙ simp expand
+about_z k false true = ap (λ r. mul (root_power (k + quarter_turn)) (add r (neg one))) root_power-zero ∙ simp expand
+about_z k true false = ap (λ r. mul (root_power (half_turn + quarter_turn)) (add r (neg one))) root_power-zero ∙ simp expand
 about_z k true true =
     ap₂ (λ r s. mul (root_power r) (add one s)) (zero-add k) root_power-zero ∙ mul_comm (root_power k) two
 
@@ -92,8 +94,8 @@ about_z k true true =
 abbrev rzz_gates : ℕ → List ElementaryGate
 rzz_gates k = Cx 0 1 ∷ U 1 0 0 k ∷ Cx 0 1 ∷ []
 
-rzz_certified : (k : ℕ) → k < 8 → Certified 2 (rzz_gates k) (rotation_zz k)
-unfolding add mul neg root_power
+rzz_certified : (k : ℕ) → k < turn → Certified 2 (rzz_gates k) (rotation_zz k)
+unfolding add mul neg root_power add_cyclotomic mul_cyclotomic neg_cyclotomic
 rzz_certified = at_phases rzz_gates rotation_zz refl
 
 -- ---- the gates
@@ -119,12 +121,12 @@ module _ (a : Angle) (k : ℕ) (e : phase_of a ≡ Some k) where
   pub rz_map : HasMap (codes "rz") (a ∷ []) (0 ∷ []) (single (rotation_z k))
   rz_map = has_map (comes rz_events refl) (unitary_map 0 0 k (phase k) two two_nonzero (about_z k))
 
-  rx_events : header_events (codes "rx") (a ∷ []) (0 ∷ []) ≡ Called 2 ∷ Called 3 ∷ Applied (U 0 k 6 2) ∷ []
+  rx_events : header_events (codes "rx") (a ∷ []) (0 ∷ []) ≡ Called 2 ∷ Called 3 ∷ Applied (U 0 k (half_turn + quarter_turn) quarter_turn) ∷ []
   unfolding with_header angle_of values.applied gcd lowest limited phase_of literal_value decimal
-  rx_events = ap (λ p. Called 2 ∷ ((Called 3 ∷ (u_of 0 p (Some 6) (Some 2) ++ [])) ++ [])) e
+  rx_events = ap (λ p. Called 2 ∷ ((Called 3 ∷ (u_of 0 p (Some (half_turn + quarter_turn)) (Some quarter_turn) ++ [])) ++ [])) e
 
   pub rx_map : HasMap (codes "rx") (a ∷ []) (0 ∷ []) (single (rotation_x k))
-  rx_map = has_map (comes rx_events refl) (unitary_map k 6 2 (rotation_x k) one one_nonzero (about_x k))
+  rx_map = has_map (comes rx_events refl) (unitary_map k (half_turn + quarter_turn) quarter_turn (rotation_x k) one one_nonzero (about_x k))
 
   ry_events : header_events (codes "ry") (a ∷ []) (0 ∷ []) ≡ Called 2 ∷ Called 3 ∷ Applied (U 0 k 0 0) ∷ []
   unfolding with_header angle_of values.applied gcd lowest limited phase_of literal_value decimal
@@ -141,12 +143,12 @@ module _ (a : Angle) (k : ℕ) (e : phase_of a ≡ Some k) where
   rzz_map = has_map (comes rzz_events refl) (certified (rzz_certified k (phase_below a k e)))
 
 module _ (a b : Angle) (j k : ℕ) (e : phase_of a ≡ Some j) (f : phase_of b ≡ Some k) where
-  u2_events : header_events (codes "u2") (a ∷ b ∷ []) (0 ∷ []) ≡ Called 2 ∷ Applied (U 0 2 j k) ∷ []
+  u2_events : header_events (codes "u2") (a ∷ b ∷ []) (0 ∷ []) ≡ Called 2 ∷ Applied (U 0 quarter_turn j k) ∷ []
   unfolding with_header angle_of values.applied gcd lowest limited phase_of literal_value decimal
-  u2_events = ap₂ (λ p q. Called 2 ∷ (u_of 0 (Some 2) p q ++ [])) e f
+  u2_events = ap₂ (λ p q. Called 2 ∷ (u_of 0 (Some quarter_turn) p q ++ [])) e f
 
-  pub u2_map : HasMap (codes "u2") (a ∷ b ∷ []) (0 ∷ []) (single (three_rotations 2 j k))
-  u2_map = has_map (comes u2_events refl) (unitary_map 2 j k (three_rotations 2 j k) one one_nonzero (rotations 2 j k))
+  pub u2_map : HasMap (codes "u2") (a ∷ b ∷ []) (0 ∷ []) (single (three_rotations quarter_turn j k))
+  u2_map = has_map (comes u2_events refl) (unitary_map quarter_turn j k (three_rotations quarter_turn j k) one one_nonzero (rotations quarter_turn j k))
 
 module _ (a b c : Angle) (i j k : ℕ) (e : phase_of a ≡ Some i) (f : phase_of b ≡ Some j) (g : phase_of c ≡ Some k) where
   u3_events : header_events (codes "u3") (a ∷ b ∷ c ∷ []) (0 ∷ []) ≡ Called 2 ∷ Applied (U 0 i j k) ∷ []

@@ -6,9 +6,11 @@ use Rattle.std.proofs.Common.{ltb, refl, sym, ap, ◌∙◌, arith}
 use Rattle.std.proofs.lemmas.Bool.{true≢false, false≢true, ltb-true}
 use Rattle.std.proofs.lemmas.List.Elements.{All-cons}
 use Rattle.std.proofs.lemmas.Bool.Decides.{Decides-int_eq, Decides-eqb}
+use Rattle.zx_model.specs.Cyclotomic.{Cyclotomic}
 use Rattle.zx_model.specs.Number.{Number, zero, mul}
 use Rattle.zx_model.specs.Phase.{turn}
 use Rattle.zx_model.specs.Proportional.{Proportional}
+use Rattle.zx_model.proofs.CyclotomicRing as Cyclotomic
 use Rattle.zx_model.proofs.Ring.{same, one-mul}
 use Rattle.zx_model.proofs.BitLemmas.{and-left, and-right}
 use Rattle.zx_model.proofs.Powers.{root_power-zero}
@@ -23,19 +25,28 @@ use Rattle.zx_gates.proofs.LoweringLemmas.{proportional_lowered}
 use Rattle.header_laws.specs.Gates.{Map}
 use Rattle.header_laws.proofs.Paths.{paths, paths-amp}
 
--- numbers are compared by their coefficients
-abbrev pub equal : Number → Number → Bool
-equal a b = int_eq a.c0 b.c0 && (int_eq a.c1 b.c1 && (int_eq a.c2 b.c2 && int_eq a.c3 b.c3))
+-- elements of Z[w] are compared by their coefficients, and numbers by their components
+abbrev equal_cyclotomic : Cyclotomic → Cyclotomic → Bool
+equal_cyclotomic a b = int_eq a.c0 b.c0 && (int_eq a.c1 b.c1 && (int_eq a.c2 b.c2 && int_eq a.c3 b.c3))
 
-equal-is : (a b : Number) → equal a b ≡ true → a ≡ b
-equal-is a b e =
+abbrev pub equal : Number → Number → Bool
+equal a b = equal_cyclotomic a.plain b.plain && equal_cyclotomic a.turned b.turned
+
+equal_cyclotomic-is : (a b : Cyclotomic) → equal_cyclotomic a b ≡ true → a ≡ b
+equal_cyclotomic-is a b e =
     let f = and-right (int_eq a.c0 b.c0) _ e in
     let g = and-right (int_eq a.c1 b.c1) _ f in
-    same a b
+    Cyclotomic.same a b
     ((Decides-int_eq a.c0 b.c0).0 (and-left _ _ e))
     ((Decides-int_eq a.c1 b.c1).0 (and-left _ _ f))
     ((Decides-int_eq a.c2 b.c2).0 (and-left _ _ g))
     ((Decides-int_eq a.c3 b.c3).0 (and-right _ _ g))
+
+equal-is : (a b : Number) → equal a b ≡ true → a ≡ b
+equal-is a b e =
+    same a b
+    (equal_cyclotomic-is a.plain b.plain (and-left _ _ e))
+    (equal_cyclotomic-is a.turned b.turned (and-right (equal_cyclotomic a.plain b.plain) _ e))
 
 not-true : (b : Bool) → not b ≡ true → b ≡ false
 not-true false e = refl

@@ -1,9 +1,10 @@
--- Gates whose bodies halve an angle: what calls of them come to, where the half is a whole number of eighth turns, and the
+-- Gates whose bodies halve an angle: what calls of them come to, where the half is a whole number of sixteenth turns, and the
 -- maps of that.
 use Rattle.std.specs.Prelude.{◌≡◌, ℕ, ◌+◌, ◌*◌, ◌<◌, List, [], ◌∷◌, ◌++◌, pos, Some, Result, Ok, codes}
 use Rattle.std.proofs.Common.{refl, ap, ap₂, ◌∙◌}
+use Rattle.zx_model.specs.Cyclotomic.{add_cyclotomic, mul_cyclotomic, neg_cyclotomic}
 use Rattle.zx_model.specs.Number.{one, add, mul, neg, root_power}
-use Rattle.zx_model.specs.Phase.{opposite_phase}
+use Rattle.zx_model.specs.Phase.{turn, half_turn, quarter_turn, opposite_phase}
 use Rattle.zx_gates.specs.declared.elementary.ElementaryGate.{ElementaryGate}
 use Rattle.zx_gates.specs.declared.elementary.ElementaryGate.TheVariants.{U, Cx}
 use Rattle.zx_gates.specs.Maps.{phase}
@@ -11,7 +12,7 @@ use Rattle.qasm_angle.specs.declared.angle.Angle.{Angle}
 use Rattle.qasm_angle.specs.declared.errors.AngleFault.{AngleFault}
 use Rattle.qasm_angle.specs.declared.expression.Operation.TheVariants.{Divide}
 use Rattle.qasm_angle.specs.Ratio.{gcd, lowest, limited, whole}
-use Rattle.qasm_angle.specs.Eighths.{phase_of}
+use Rattle.qasm_angle.specs.Sixteenths.{phase_of}
 use Rattle.qasm_angle.specs.Literals.{literal_value, decimal}
 use Rattle.qasm_angle.specs.Values as values
 use Rattle.qasm_angle.specs.Values.{number, opposite_angle}
@@ -26,7 +27,7 @@ use Rattle.header_laws.proofs.Certificates.{Certified, certified, at_phases}
 use Rattle.header_laws.proofs.Phases.{phase_below}
 use Rattle.header_laws.proofs.Halves.{half-opposite, opposite-phase}
 
--- ---- the gates, where the half is k eighth turns
+-- ---- the gates, where the half is k sixteenth turns
 abbrev crz_gates : ℕ → List ElementaryGate
 crz_gates k = U 1 0 0 k ∷ Cx 0 1 ∷ U 1 0 0 (opposite_phase k) ∷ Cx 0 1 ∷ []
 
@@ -34,25 +35,25 @@ abbrev cu1_gates : ℕ → List ElementaryGate
 cu1_gates k = U 0 0 0 k ∷ Cx 0 1 ∷ U 1 0 0 (opposite_phase k) ∷ Cx 0 1 ∷ U 1 0 0 k ∷ []
 
 abbrev crx_gates : ℕ → List ElementaryGate
-crx_gates k = U 1 2 0 4 ∷ U 1 0 0 k ∷ Cx 0 1 ∷ U 1 0 0 (opposite_phase k) ∷ Cx 0 1 ∷ U 1 2 0 4 ∷ []
+crx_gates k = U 1 quarter_turn 0 half_turn ∷ U 1 0 0 k ∷ Cx 0 1 ∷ U 1 0 0 (opposite_phase k) ∷ Cx 0 1 ∷ U 1 quarter_turn 0 half_turn ∷ []
 
 abbrev cry_gates : ℕ → List ElementaryGate
 cry_gates k = U 1 k 0 0 ∷ Cx 0 1 ∷ U 1 (opposite_phase k) 0 0 ∷ Cx 0 1 ∷ []
 
-crz_certified : (k : ℕ) → k < 8 → Certified 2 (crz_gates k) (controlled (root_power k) (single (rotation_z (2 * k))))
-unfolding add mul neg root_power
+crz_certified : (k : ℕ) → k < turn → Certified 2 (crz_gates k) (controlled (root_power k) (single (rotation_z (2 * k))))
+unfolding add mul neg root_power add_cyclotomic mul_cyclotomic neg_cyclotomic
 crz_certified = at_phases crz_gates (λ k. controlled (root_power k) (single (rotation_z (2 * k)))) refl
 
-cu1_certified : (k : ℕ) → k < 8 → Certified 2 (cu1_gates k) (controlled one (single (phase (2 * k))))
-unfolding add mul neg root_power
+cu1_certified : (k : ℕ) → k < turn → Certified 2 (cu1_gates k) (controlled one (single (phase (2 * k))))
+unfolding add mul neg root_power add_cyclotomic mul_cyclotomic neg_cyclotomic
 cu1_certified = at_phases cu1_gates (λ k. controlled one (single (phase (2 * k)))) refl
 
-crx_certified : (k : ℕ) → k < 8 → Certified 2 (crx_gates k) (controlled (mul two (root_power k)) (single (rotation_x (2 * k))))
-unfolding add mul neg root_power
+crx_certified : (k : ℕ) → k < turn → Certified 2 (crx_gates k) (controlled (mul two (root_power k)) (single (rotation_x (2 * k))))
+unfolding add mul neg root_power add_cyclotomic mul_cyclotomic neg_cyclotomic
 crx_certified = at_phases crx_gates (λ k. controlled (mul two (root_power k)) (single (rotation_x (2 * k)))) refl
 
-cry_certified : (k : ℕ) → k < 8 → Certified 2 (cry_gates k) (controlled (mul two (root_power k)) (single (rotation_y (2 * k))))
-unfolding add mul neg root_power
+cry_certified : (k : ℕ) → k < turn → Certified 2 (cry_gates k) (controlled (mul two (root_power k)) (single (rotation_y (2 * k))))
+unfolding add mul neg root_power add_cyclotomic mul_cyclotomic neg_cyclotomic
 cry_certified = at_phases cry_gates (λ k. controlled (mul two (root_power k)) (single (rotation_y (2 * k)))) refl
 
 -- ---- events
@@ -67,7 +68,7 @@ abbrev cx_at : ℕ → List Event
 cx_at depth = Called depth ∷ Called (depth + 1) ∷ Applied (Cx 0 1) ∷ []
 
 abbrev h_at : ℕ → List Event
-h_at depth = Called depth ∷ Called (depth + 1) ∷ Called (depth + 1 + 1) ∷ Applied (U 1 2 0 4) ∷ []
+h_at depth = Called depth ∷ Called (depth + 1) ∷ Called (depth + 1 + 1) ∷ Applied (U 1 quarter_turn 0 half_turn) ∷ []
 
 -- a call of u1 on a qubit by a phase
 abbrev u1_at : ℕ → ℕ → ℕ → List Event
@@ -100,7 +101,7 @@ module _ (a half : Angle) (k : ℕ) (e : half_of a ≡ Ok half) (f : phase_of ha
   minus : values.applied Divide (opposite_angle a) (number (whole (pos 2))) ≡ Ok (opposite_angle half)
   minus = halved (opposite_angle a) (opposite_angle half) (half-opposite a half e)
 
-  below : k < 8
+  below : k < turn
   below = phase_below half k f
 
   u1_plus : (depth q : ℕ) → inner (codes "u1") depth (half ∷ []) (q ∷ []) ≡ Called (depth + 1) ∷ Applied (U q 0 0 k) ∷ []

@@ -1,10 +1,10 @@
 -- The gates of the header as the literature has them, each times a number other than 0, so that its entries are sums of
--- eighth roots of one. Sources: Nielsen and Chuang, "Quantum Computation and Quantum Information", sections 1.3, 4.2
+-- sixteenth roots of one. Sources: Nielsen and Chuang, "Quantum Computation and Quantum Information", sections 1.3, 4.2
 -- and 4.3, for the Pauli matrices, H, S, T, rotations and controlled gates; Cross, Bishop, Smolin and Gambetta, "Open
 -- quantum assembly language" (arXiv 1707.03429), for U as three rotations; Cross and others, "OpenQASM 3: A broader and
 -- deeper quantum assembly language" (arXiv 2104.14722), for the roots of X. The rotation about ZZ is the evolution
 -- under a product of two Z, section 4.7 of the first, and the exchange of two qubits its section 1.3.4. Angles are
--- counted in eighth turns, pi/4.
+-- counted in sixteenth turns, pi/8.
 use Rattle.std.specs.Prelude.{ℕ, Bool, true, false, if◌then◌else◌, List, ◌∷◌}
 use Rattle.zx_model.specs.Number.{Number, zero, one, add, neg, mul, root_power}
 use Rattle.zx_model.specs.Constants.{i}
@@ -47,8 +47,8 @@ root_of_x = rows (add one i) (add one (neg i)) (add one (neg i)) (add one i)
 abbrev pub other_root_of_x : Matrix
 other_root_of_x = rows (add one (neg i)) (add one i) (add one i) (add one (neg i))
 
--- The rotation by k about x, cos(k/2)*I - i*sin(k/2)*X, times 2*exp(i*k/2), where 2*cos(k/2)*exp(i*k/2) = 1 + w^k and
--- 2*i*sin(k/2)*exp(i*k/2) = w^k - 1.
+-- The rotation by k about x, cos(k/2)*I - i*sin(k/2)*X, times 2*exp(i*k/2), where 2*cos(k/2)*exp(i*k/2) = 1 + z^k and
+-- 2*i*sin(k/2)*exp(i*k/2) = z^k - 1.
 abbrev pub rotation_x : ℕ → Matrix
 rotation_x k =
     rows (add one (root_power k)) (add one (neg (root_power k)))

@@ -1,10 +1,11 @@
 //! The laws: what calls of the header's gates come to, and the definitions in other words.
 
-ghost use Rattle.std.specs.Prelude.{◌≡◌, ℕ, ◌*◌, Bool, false, ◌&&◌, if◌then◌else◌, List, [], ◌∷◌, length, Some, Ok, codes};
+ghost use Rattle.std.specs.Prelude.{◌≡◌, ℕ, ◌+◌, ◌*◌, Bool, false, ◌&&◌, if◌then◌else◌, List, [], ◌∷◌, length, Some, Ok, codes};
 ghost use Rattle.zx_model.specs.Number.{zero, one, neg, mul, sign, root_power};
+ghost use Rattle.zx_model.specs.Phase.{half_turn, quarter_turn, eighth_turn, opposite_phase};
 ghost use Rattle.zx_model.specs.Bits.{xor, bit};
 ghost use Rattle.zx_gates.specs.Maps.{phase, same_bits, swap_two};
-ghost use Rattle.qasm_angle.specs.Eighths.{phase_of};
+ghost use Rattle.qasm_angle.specs.Sixteenths.{phase_of};
 ghost use Rattle.qasm_angle.specs.declared.angle.Angle.{Angle};
 ghost use Rattle.qasm_scope.specs.Calls.{expand_declared};
 ghost use Rattle.qasm_scope.specs.Meaning.{with_header};
@@ -21,10 +22,10 @@ pub fn gates_without_angles()
     ensures y { HasMap (codes "y") [] (0 ∷ []) (single pauli_y) }
     ensures z { HasMap (codes "z") [] (0 ∷ []) (single pauli_z) }
     ensures h { HasMap (codes "h") [] (0 ∷ []) (single hadamard) }
-    ensures s { HasMap (codes "s") [] (0 ∷ []) (single (phase 2)) }
-    ensures sdg { HasMap (codes "sdg") [] (0 ∷ []) (single (phase 6)) }
-    ensures t { HasMap (codes "t") [] (0 ∷ []) (single (phase 1)) }
-    ensures tdg { HasMap (codes "tdg") [] (0 ∷ []) (single (phase 7)) }
+    ensures s { HasMap (codes "s") [] (0 ∷ []) (single (phase quarter_turn)) }
+    ensures sdg { HasMap (codes "sdg") [] (0 ∷ []) (single (phase (half_turn + quarter_turn))) }
+    ensures t { HasMap (codes "t") [] (0 ∷ []) (single (phase eighth_turn)) }
+    ensures tdg { HasMap (codes "tdg") [] (0 ∷ []) (single (phase (opposite_phase eighth_turn))) }
     ensures sx { HasMap (codes "sx") [] (0 ∷ []) (single root_of_x) }
     ensures sxdg { HasMap (codes "sxdg") [] (0 ∷ []) (single other_root_of_x) }
 
@@ -44,7 +45,8 @@ pub fn gates_without_angles()
         (controlled one (controlled one (single pauli_z))) }
 {}
 
-/// Gates with angles are the gates of their names, where their angles are whole numbers of eighth turns.
+/// Gates with angles are the gates of their names, where their angles are whole numbers of sixteenth
+/// turns.
 pub fn gates_with_angles()
     // on one qubit
     ensures u1 { (a : Angle) (k : ℕ) → phase_of a ≡ Some k
@@ -58,7 +60,7 @@ pub fn gates_with_angles()
     ensures rz { (a : Angle) (k : ℕ) → phase_of a ≡ Some k
         → HasMap (codes "rz") (a ∷ []) (0 ∷ []) (single (rotation_z k)) }
     ensures u2 { (a b : Angle) (j k : ℕ) → phase_of a ≡ Some j → phase_of b ≡ Some k →
-        HasMap (codes "u2") (a ∷ b ∷ []) (0 ∷ []) (single (three_rotations 2 j k)) }
+        HasMap (codes "u2") (a ∷ b ∷ []) (0 ∷ []) (single (three_rotations quarter_turn j k)) }
     ensures u3 { (a b c : Angle) (i j k : ℕ) → phase_of a ≡ Some i → phase_of b ≡ Some j
         → phase_of c ≡ Some k →
         HasMap (codes "u3") (a ∷ b ∷ c ∷ []) (0 ∷ []) (single (three_rotations i j k)) }
@@ -71,8 +73,9 @@ pub fn gates_with_angles()
         → HasMap (codes "rzz") (a ∷ []) (0 ∷ 1 ∷ []) (rotation_zz k) }
 {}
 
-/// Gates that halve an angle are the gates of their names, where the half is a whole number k of eighth turns. The angle
-/// is 2*k eighth turns then, up to two whole turns, and the scalar exp(i*angle/2) of the rotations is w^k.
+/// Gates that halve an angle are the gates of their names, where the half is a whole number k of
+/// sixteenth turns. The angle is 2*k sixteenth turns then, up to two whole turns, and the scalar
+/// exp(i*angle/2) of the rotations is z^k.
 pub fn gates_with_half_angles()
     ensures crx { (a half : Angle) (k : ℕ) → half_of a ≡ Ok half → phase_of half ≡ Some k
         → HasMap (codes "crx") (a ∷ []) (0 ∷ 1 ∷ [])
@@ -110,9 +113,9 @@ pub fn worked_definitions()
         → product root_of_x other_root_of_x row column ≡ mul two (mul two (identity row column)) }
     // half a turn about x and about y, times 2*exp(i*pi/2) = 2*i
     ensures half_turn_x { (row column : Bool)
-        → rotation_x 4 row column ≡ mul two (pauli_x row column) }
+        → rotation_x half_turn row column ≡ mul two (pauli_x row column) }
     ensures half_turn_y { (row column : Bool)
-        → rotation_y 4 row column ≡ mul two (pauli_y row column) }
+        → rotation_y half_turn row column ≡ mul two (pauli_y row column) }
     // the third bit changes where the others are 1
     ensures toffoli { (x y : List Bool) → length x ≡ 3 → length y ≡ 3 →
         controlled one (controlled one (single pauli_x)) x y

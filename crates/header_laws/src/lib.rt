@@ -3,7 +3,7 @@
 //!
 //! A call of each of the 33 gates of the header has no fault, and comes to built-in gates with the
 //! map that the literature gives it, up to a nonzero scalar: gates with angles at every whole
-//! number of eighth turns, and gates that halve an angle where the half is one. Calls are on all
+//! number of sixteenth turns, and gates that halve an angle where the half is one. Calls are on all
 //! qubits that there are, and a name that isn't declared before the header comes to the same
 //! whatever else is.
 //!

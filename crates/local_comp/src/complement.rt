@@ -18,7 +18,7 @@ use crate::neighbours::turn_neighbours;
 use open_graph::{OpenGraph, Plane, VertexId};
 use std::alloc::AllocError;
 use zx_flow::Flow;
-use zx_model::Eighth;
+use zx_model::Sixteenth;
 
 /// A local complement about an interior vertex: each edge between two of its neighbours comes where
 /// there is none and goes where there is one, each neighbour turns by a quarter, and the vertex
@@ -127,11 +127,11 @@ fn complement_own(g: &mut OpenGraph, u: VertexId)
 }
 
 // Plane and phase of a vertex after a local complement about it.
-fn complemented(plane: Plane, phase: Eighth) -> (Plane, Eighth)
+fn complemented(plane: Plane, phase: Sixteenth) -> (Plane, Sixteenth)
     ensures { in_plane (plane_named result.0) result.1 ≡
         complemented (in_plane (plane_named plane) phase) }
 {
-    let quarter = Eighth::new(2);
+    let quarter = Sixteenth::quarter_turn();
     match plane {
         Plane::XY => (Plane::XZ, phase.add(quarter)),
         Plane::XZ => (Plane::XY, quarter.add(phase.neg())),

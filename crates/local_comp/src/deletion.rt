@@ -12,7 +12,7 @@ use crate::neighbours::turn_neighbours;
 use open_graph::{OpenGraph, Plane, VertexId};
 use std::alloc::AllocError;
 use zx_flow::Flow;
-use zx_model::Eighth;
+use zx_model::Sixteenth;
 
 /// Deletes an XZ or YZ vertex of phase 0 or of a half turn, which then each of its neighbours
 /// gets. Where memory runs out, graph and flow stay as they were.
@@ -74,7 +74,7 @@ fn pass_half_turn(g: &mut OpenGraph, u: VertexId)
     ensures was_valid { WellFormed g.old.graph }
 {
     let (_, phase) = g.weight(u);
-    if phase == Eighth::new(4) {
+    if phase == Sixteenth::half_turn() {
         turn_neighbours(g, u);
         turn_neighbours(g, u);
     }

@@ -4,14 +4,13 @@ use Rattle.zx_model.specs.Bits.{xor, member}
 use Rattle.std.specs.List.{list_all}
 use Rattle.zx_model.specs.Phase.{turn}
 use Rattle.zx_calculus.specs.Graph.{End, ids, joined, OrderedEdges, OrderedEnds, Distinct}
-use Rattle.zx_calculus.specs.Toggles.{IsToggled, among}
+use Rattle.zx_calculus.specs.Toggles.{IsToggled, across, among}
 use Rattle.zx_calculus.proofs.Booleans.{parities, xor_comm, xor-false, xor-same, or-false}
 use Rattle.zx_calculus.proofs.Ids.{by_equal, eqb-self, Symmetric}
 use Rattle.zx_calculus.proofs.Positions.{member-grown, at_place}
 use Rattle.zx_calculus.proofs.EdgeLists.{OrderedEdges-edges_of}
 use Rattle.zx_calculus.proofs.Extensionality.{vertices_ext}
 use Rattle.open_graph.specs.declared.slot.Slot.{Slot}
-use Rattle.open_graph.specs.Toggles.{across}
 use Rattle.open_graph.specs.Internal.Slots.{Told, told_by, told, vertices_of, adjacent, graph_of, IsSound}
 use Rattle.open_graph.specs.Internal.Changes.{RowsToggled, two_among}
 use Rattle.open_graph.proofs.SlotLemmas.{member-vertices, kind_of-vertices, rising_vertices, joined-edges, some_of_live}

@@ -1,4 +1,3 @@
 pub mod Planes
-pub mod Toggles
 pub mod OpenGraph
 pub mod Internal

@@ -7,8 +7,8 @@
 //!
 //! ```rust
 //! let mut g = OpenGraph::new(alloc);
-//! let u = g.add_vertex(Plane::XY, Eighth::new(1))?;
-//! let v = g.add_vertex(Plane::XY, Eighth::new(0))?;
+//! let u = g.add_vertex(Plane::XY, Sixteenth::eighth_turn())?;
+//! let v = g.add_vertex(Plane::XY, Sixteenth::new(0))?;
 //! g.toggle_edge(u, v)?;          // now g.has_edge(u, v)
 //! ```
 #![tactic(auto)]

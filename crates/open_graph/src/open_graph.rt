@@ -7,9 +7,8 @@ ghost use Rattle.zx_calculus.specs.Graph as zx;
 ghost use Rattle.zx_calculus.specs.Turns.{in_plane, quarter_turned};
 ghost use Rattle.zx_calculus.specs.Worked.{vertex};
 ghost use Rattle.zx_calculus.specs.Edits.{IsToggle, IsRemoval, at_vertex};
-ghost use Rattle.zx_calculus.specs.Toggles.{IsToggled, among};
+ghost use Rattle.zx_calculus.specs.Toggles.{IsToggled, across, among};
 ghost use Rattle.open_graph.specs.Planes.{plane_named};
-ghost use Rattle.open_graph.specs.Toggles.{across};
 ghost use Rattle.open_graph.specs.Internal.Slots.{Tells};
 
 use crate::end::End;
@@ -23,7 +22,7 @@ use crate::vertices::Vertices;
 use slab::Slab;
 use std::alloc::{AllocError, Global};
 use std::marker::Model;
-use zx_model::Eighth;
+use zx_model::Sixteenth;
 
 /// An open graph: vertices with planes and phases, edges, and lists of inputs and outputs.
 #[derive(Drop)]
@@ -60,7 +59,7 @@ impl OpenGraph {
     }
 
     /// Adds a vertex without edges and ends. Where memory runs out the graph stays as it was.
-    pub fn add_vertex(&mut self, plane: Plane, phase: Eighth) -> Result<VertexId, AllocError>
+    pub fn add_vertex(&mut self, plane: Plane, phase: Sixteenth) -> Result<VertexId, AllocError>
         ensures fresh { IfOk result (λ v. member v (ids self.old.graph.vertices) ≡ false) }
         ensures ok { IfOk result (λ v. self.new.graph ≡ record self.old.graph {
           vertices = insert_vertex (vertex v (plane_named plane) phase) self.old.graph.vertices;
@@ -191,7 +190,7 @@ impl OpenGraph {
     }
 
     /// Gives a vertex another plane and phase. A vertex with an end stays XY.
-    pub fn set_weight(&mut self, v: VertexId, plane: Plane, phase: Eighth)
+    pub fn set_weight(&mut self, v: VertexId, plane: Plane, phase: Sixteenth)
         requires live { Live self.old.graph v }
         requires plane { is_interior self.old.graph v ≡ false → plane_named plane ≡ zx.XY }
         ensures ok { self.new.graph ≡ record self.old.graph {
@@ -278,7 +277,7 @@ impl OpenGraph {
     }
 
     /// Plane and phase of a vertex.
-    pub fn weight(&self, v: VertexId) -> (Plane, Eighth)
+    pub fn weight(&self, v: VertexId) -> (Plane, Sixteenth)
         requires { Live self.now.graph v }
         ensures value { in_plane (plane_named result.0) result.1 ≡ kind_of self.now.graph.vertices v }
         ensures valid { WellFormed self.now.graph }

@@ -3,7 +3,7 @@
 ghost use Rattle.std.specs.Prelude.{◌≡◌};
 ghost use Rattle.zx_calculus.specs.Turns.{in_plane, quarter_turned};
 
-use zx_model::Eighth;
+use zx_model::Sixteenth;
 
 /// The plane of the Bloch sphere in which a vertex is measured.
 #[derive(Clone, Copy, Debug, PartialEq, Eq)]
@@ -20,11 +20,11 @@ impl Plane {
     ghost use Rattle.open_graph.specs.Planes.{plane_named};
 
     // Plane and phase after a quarter turn about the Z axis.
-    pub(crate) fn with_quarter(self, phase: Eighth) -> (Plane, Eighth)
+    pub(crate) fn with_quarter(self, phase: Sixteenth) -> (Plane, Sixteenth)
         ensures { in_plane (plane_named result.0) result.1 ≡ quarter_turned (in_plane (plane_named self) phase) }
     {
         match self {
-            Plane::XY => (Plane::XY, phase.add(Eighth::new(2))),
+            Plane::XY => (Plane::XY, phase.add(Sixteenth::quarter_turn())),
             Plane::XZ => (Plane::YZ, phase.neg()),
             Plane::YZ => (Plane::XZ, phase),
         }

@@ -5,13 +5,13 @@ ghost use Rattle.std.specs.Prelude.{◌≡◌};
 use crate::plane::Plane;
 use crate::vertex_set::VertexSet;
 use std::alloc::AllocError;
-use zx_model::Eighth;
+use zx_model::Sixteenth;
 
 // A vertex: its plane and phase, its neighbours, and the places of its ends among inputs and outputs.
 #[derive(Drop)]
 pub(crate) struct Slot {
     pub(crate) plane: Plane,
-    pub(crate) phase: Eighth,
+    pub(crate) phase: Sixteenth,
     pub(crate) row: VertexSet,
     pub(crate) input: Option<usize>,
     pub(crate) output: Option<usize>,

@@ -12,7 +12,7 @@ ghost use Rattle.open_graph.specs.Internal.Rows.{inserted};
 ghost use Rattle.open_graph.specs.Internal.Slots.{nothing, told, adjacent};
 ghost use Rattle.open_graph.specs.Internal.Sides.{with_place};
 ghost use Rattle.open_graph.specs.Internal.Changes.{Puts, SameTold, Keeps, RemovedFrom, RowsToggled, two_among};
-ghost use Rattle.open_graph.specs.Toggles.{across};
+ghost use Rattle.zx_calculus.specs.Toggles.{across};
 
 use crate::id::VertexId;
 use crate::plane::Plane;
@@ -21,14 +21,14 @@ use crate::slot::Slot;
 use crate::vertex_set::VertexSet;
 use slab::Slab;
 use std::alloc::{AllocError, Global};
-use zx_model::Eighth;
+use zx_model::Sixteenth;
 
 // Adds a vertex without neighbours and ends.
 pub(crate) fn add(
     slots: &mut Slab<Slot>,
     alloc: Global,
     plane: Plane,
-    phase: Eighth,
+    phase: Sixteenth,
 ) -> Result<VertexId, AllocError>
     ensures vacant { IfOk result (λ v. get slots.old v ≡ None) }
     ensures ok { IfOk result (λ v. Puts slots.old.slots slots.new.slots v
@@ -161,7 +161,7 @@ fn joins(slots: &Slab<Slot>, u: VertexId, v: VertexId) -> bool
 }
 
 // Gives a vertex another plane and phase.
-pub(crate) fn set_kind(slots: &mut Slab<Slot>, v: VertexId, plane: Plane, phase: Eighth)
+pub(crate) fn set_kind(slots: &mut Slab<Slot>, v: VertexId, plane: Plane, phase: Sixteenth)
     requires { ContainsKey slots.old v }
     ensures { let t = told slots.old.slots v in
         Puts slots.old.slots slots.new.slots v (record t { kind = in_plane (plane_named plane) phase }) }

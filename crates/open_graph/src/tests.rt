@@ -3,15 +3,15 @@ use crate::{End, OpenGraph, Plane, VertexId};
 use std::alloc::Global;
 use std::process::Abort;
 use std::test::Fail;
-use zx_model::Eighth;
+use zx_model::Sixteenth;
 
-// Three vertices without edges: XY(1), XY(0) and YZ(2).
+// Three vertices without edges: XY of an eighth turn, XY of phase 0 and YZ of a quarter turn.
 fn three_vertices(alloc: Global) -> Result<OpenGraph, Fail> {
     let mut graph = OpenGraph::new(alloc);
     graph.reserve(3)?;
-    graph.add_vertex(Plane::XY, Eighth::new(1))?;
-    graph.add_vertex(Plane::XY, Eighth::new(0))?;
-    graph.add_vertex(Plane::YZ, Eighth::new(2))?;
+    graph.add_vertex(Plane::XY, Sixteenth::eighth_turn())?;
+    graph.add_vertex(Plane::XY, Sixteenth::new(0))?;
+    graph.add_vertex(Plane::YZ, Sixteenth::quarter_turn())?;
     Ok(graph)
 }
 

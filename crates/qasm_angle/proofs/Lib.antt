@@ -1,7 +1,7 @@
 pub mod GcdLemmas
 pub mod RatioLemmas
 pub mod EvaluationLemmas
-pub mod EighthLemmas
+pub mod SixteenthLemmas
 pub mod DecimalLemmas
 pub mod SignificandLemmas
 pub mod LiteralLemmas

@@ -1,4 +1,4 @@
-pub mod Eighths
+pub mod Sixteenths
 pub mod Errors
 pub mod Internal
 pub mod Literals

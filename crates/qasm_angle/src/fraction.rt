@@ -150,7 +150,7 @@ impl Fraction {
 }
 
 // The product of two numbers of a fraction.
-fn cross(a: i64, b: i64) -> i128
+pub(crate) fn cross(a: i64, b: i64) -> i128
     requires first { unsigned_abs a ≤ largest }
     requires second { unsigned_abs b ≤ largest }
     ensures value { result ≡ a *ℤ b }

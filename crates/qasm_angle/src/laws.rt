@@ -1,5 +1,5 @@
-//! Laws of lowest terms, of expressions and of eighth turns, and worked examples. The functions do nothing: their
-//! contracts are the laws.
+//! Laws of lowest terms, of expressions and of sixteenth turns, and worked examples. The functions
+//! do nothing: their contracts are the laws.
 
 ghost use Rattle.std.specs.Prelude.{◌≡◌, ◌<◌, ◌++◌, ◌∷◌, [], ℕ, List, ℤ, pos, negsuc, neg_ℤ, ◌*ℤ◌, unsigned_abs, Some, None, Ok, Err, codes};
 ghost use Rattle.std.specs.Int.{IsGcd};
@@ -7,7 +7,8 @@ ghost use Rattle.qasm_angle.specs.Ratio.{Ratio, gcd, lowest};
 ghost use Rattle.qasm_angle.specs.Literals.{literal_value};
 ghost use Rattle.qasm_angle.specs.Trees.{Tree, Number, Pi, Negate, Binary, postfix, tree_of};
 ghost use Rattle.qasm_angle.specs.Values.{value};
-ghost use Rattle.qasm_angle.specs.Eighths.{IsEighths, phase_of};
+ghost use Rattle.zx_model.specs.Phase.{eighth_turn, opposite_phase};
+ghost use Rattle.qasm_angle.specs.Sixteenths.{IsSixteenths, phase_of};
 ghost use Rattle.qasm_angle.specs.Worked.{ratio, numeral, of_pi};
 ghost use Rattle.qasm_angle.specs.declared.angle.Angle.{Angle};
 ghost use Rattle.qasm_angle.specs.declared.errors.AngleFault.TheVariants as cause;
@@ -38,10 +39,10 @@ pub fn steps_of_trees()
         → postfix (Binary operator a b) ≡ postfix a ++ postfix b ++ step.Binary operator ∷ [] }
 {}
 
-/// An angle is n*pi/4 for one whole number n at most.
-pub fn eighths_are_unique()
-    ensures { (a : Angle) (m n : ℤ) → 0 < a.multiple.denominator → IsEighths a m → IsEighths a n
-        → m ≡ n }
+/// An angle is n*pi/8 for one whole number n at most.
+pub fn sixteenths_are_unique()
+    ensures { (a : Angle) (m n : ℤ) → 0 < a.multiple.denominator →
+        IsSixteenths a m → IsSixteenths a n → m ≡ n }
 {}
 
 /// Numbers and their values.
@@ -87,14 +88,16 @@ pub fn worked_angles()
 {}
 
 /// Angles and their phases.
-#[tactic(auto, unfolding(crate::specs::Eighths::phase_of))]
+#[tactic(auto, unfolding(crate::specs::Sixteenths::phase_of))]
 pub fn worked_phases()
     ensures zero { phase_of (of_pi (pos 0) 1) ≡ Some 0 }
-    ensures quarter { phase_of (of_pi (pos 1) 4) ≡ Some 1 }
-    ensures minus_quarter { phase_of (of_pi (neg_ℤ (pos 1)) 4) ≡ Some 7 }
-    ensures seven_quarters { phase_of (of_pi (pos 7) 4) ≡ Some 7 }
-    ensures nine_quarters { phase_of (of_pi (pos 9) 4) ≡ Some 1 }
-    ensures eighth { phase_of (of_pi (pos 1) 8) ≡ None }
+    ensures quarter { phase_of (of_pi (pos 1) 4) ≡ Some eighth_turn }
+    ensures minus_quarter { phase_of (of_pi (neg_ℤ (pos 1)) 4) ≡ Some (opposite_phase eighth_turn) }
+    ensures seven_quarters { phase_of (of_pi (pos 7) 4) ≡ Some (opposite_phase eighth_turn) }
+    ensures nine_quarters { phase_of (of_pi (pos 9) 4) ≡ Some eighth_turn }
+    ensures eighth { phase_of (of_pi (pos 1) 8) ≡ Some 1 }
+    ensures minus_eighth { phase_of (of_pi (neg_ℤ (pos 1)) 8) ≡ Some 15 }
+    ensures sixteenth { phase_of (of_pi (pos 1) 16) ≡ None }
     ensures rational { phase_of (record { rational = ratio (pos 1) 1; multiple = ratio (pos 1) 4 })
         ≡ None }
 {}

@@ -2,7 +2,7 @@
 ghost use Rattle.std.specs.Prelude.{◌≡◌, ◌∷◌, []};
 ghost use Rattle.qasm_angle.specs.Trees.{Tree, postfix};
 
-use crate::{Angle, AngleError, Expr, ExprItem, Fraction, Literal, Operation, eval, to_eighth};
+use crate::{Angle, AngleError, Expr, ExprItem, Fraction, Literal, Operation, eval, to_sixteenth};
 use std::alloc::{AllocError, Global};
 use std::test::Fail;
 
@@ -133,16 +133,43 @@ fn minus_quarter(alloc: Global) -> Result<Expr, AllocError> {
     Ok(Expr::new(steps))
 }
 
+// The sixteenth turns of a multiple of pi.
+fn turns(multiple: &[u8]) -> Option<u8> {
+    let angle = Angle {
+        rational: Fraction::zero(),
+        multiple: Literal::read(multiple).value()?,
+    };
+    Some(to_sixteenth(&angle)?.get())
+}
+
 #[test]
-fn angles_are_eighths_of_a_turn(rt: HostRuntime) -> Result<(), Fail> {
+fn multiples_of_pi_have_their_phases(rt: HostRuntime) {
+    let rows: [(&[u8], Option<u8>); 9] = [
+        (b"0", Some(0)),
+        (b"0.125", Some(1)),
+        (b"0.25", Some(2)),
+        (b"0.375", Some(3)),
+        (b"1.875", Some(15)),
+        (b"2.125", Some(1)),
+        (b"0.0625", None),
+        (b"1152921504606846976", Some(0)),
+        (b"1152921504606846975", Some(8)),
+    ];
+    for (multiple, wanted) in rows {
+        assert_eq!(rt; turns(multiple), wanted);
+    }
+}
+
+#[test]
+fn angles_are_sixteenths_of_a_turn(rt: HostRuntime) -> Result<(), Fail> {
     let e = minus_quarter(rt.alloc())?;
     let angle = eval(rt.alloc(), &e, &[Angle::pi()])?;
     assert_eq!(rt; parts(angle.multiple), (-1, 4));
-    let turns = match to_eighth(&angle) {
+    let turns = match to_sixteenth(&angle) {
         Some(phase) => Some(phase.get()),
         None => None,
     };
-    assert_eq!(rt; turns, Some(7));
+    assert_eq!(rt; turns, Some(14));
     assert_eq!(rt; e.steps().len(), 4);
     Ok(())
 }

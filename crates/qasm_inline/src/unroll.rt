@@ -9,7 +9,7 @@ ghost use Rattle.qasm_inline.specs.Internal.Spans.{instance_events};
 ghost use Rattle.qasm_scope.specs.Meaning.{most_calls};
 
 use crate::applications::Span;
-use crate::values::{eighth_of, push_instance, push_picked, push_values};
+use crate::values::{push_instance, push_picked, push_values, sixteenth_of};
 use qasm_angle::{Angle, Expr};
 use qasm_names::{CalledGate, GateBody, GateCall, StatementError};
 use qasm_scope::Cause;
@@ -295,7 +295,8 @@ fn calls_of(gates: &[GateBody], number: usize) -> &[GateCall]
     }
 }
 
-// `U` with these angles, where they are whole eighth turns; none where it has another number of angles or qubits.
+// `U` with these angles, where they are whole sixteenth turns; none where it has another number of
+// angles or qubits.
 fn u_gate(angles: &[Angle], qubits: &[Qubit]) -> Result<Option<ElementaryGate>, Cause>
     ensures ok { IfOk result (λ gate. u_events angles.now qubits.now ≡ gate_events gate) }
     ensures err { IfErr result (λ cause. u_events angles.now qubits.now ≡ Undefined cause ∷ []) }
@@ -308,7 +309,7 @@ fn u_gate(angles: &[Angle], qubits: &[Qubit]) -> Result<Option<ElementaryGate>, 
     Ok(None)
 }
 
-// `U` with these angles, where they are whole eighth turns.
+// `U` with these angles, where they are whole sixteenth turns.
 fn u_of(
     theta: &Angle,
     phi: &Angle,
@@ -320,9 +321,9 @@ fn u_of(
     ensures err { IfErr result (λ cause. u_events
         (theta.now ∷ phi.now ∷ lambda.now ∷ []) (qubit ∷ []) ≡ Undefined cause ∷ []) }
 {
-    let theta = eighth_of(theta)?;
-    let phi = eighth_of(phi)?;
-    let lambda = eighth_of(lambda)?;
+    let theta = sixteenth_of(theta)?;
+    let phi = sixteenth_of(phi)?;
+    let lambda = sixteenth_of(lambda)?;
     Ok(Some(ElementaryGate::U {
         qubit,
         theta,

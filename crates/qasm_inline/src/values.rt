@@ -1,29 +1,29 @@
 //! What calls push: values of expressions, and qubits by their places.
 
 ghost use Rattle.std.specs.Prelude.{◌≡◌, ◌≤◌, ◌++◌, Ok, Err, Some, None, IfOk, IfErr, OnOk, drop, length, map, slice_index_or};
-ghost use Rattle.qasm_angle.specs.Eighths.{phase_of};
+ghost use Rattle.qasm_angle.specs.Sixteenths.{phase_of};
 ghost use Rattle.qasm_angle.specs.Values.{value};
 ghost use Rattle.qasm_scope.specs.Angles.{with_cause};
 ghost use Rattle.qasm_inline.specs.Internal.KeptCalls.{followed, picked, values_of};
 ghost use Rattle.qasm_inline.specs.Internal.Spans.{span_range, cut_instance, cut_qubit_at};
 
 use crate::applications::Span;
-use qasm_angle::{Angle, AngleError, Expr, eval, to_eighth};
+use qasm_angle::{Angle, AngleError, Expr, eval, to_sixteenth};
 use qasm_names::{StatementError, clamped};
 use qasm_scope::Cause;
 use std::alloc::{AllocError, Global};
 use zx_gates::Qubit;
-use zx_model::Eighth;
+use zx_model::Sixteenth;
 
-/// The angle in eighth turns.
-pub fn eighth_of(angle: &Angle) -> Result<Eighth, Cause>
+/// The angle in sixteenth turns.
+pub fn sixteenth_of(angle: &Angle) -> Result<Sixteenth, Cause>
     ensures ok { IfOk result (λ turns. phase_of angle.now ≡ Some turns) }
     ensures err { IfErr result (λ cause. (phase_of angle.now ≡ None) × (cause
-        ≡ Cause.NotEighthTurn)) }
+        ≡ Cause.NotSixteenthTurn)) }
 {
-    match to_eighth(angle) {
+    match to_sixteenth(angle) {
         Some(turns) => Ok(turns),
-        None => Err(Cause::NotEighthTurn),
+        None => Err(Cause::NotSixteenthTurn),
     }
 }
 
@@ -109,7 +109,7 @@ fn value_of(alloc: Global, expression: &Expr, angles: &[Angle]) -> Result<Angle,
         Ok(angle) => Ok(angle),
         Err(AngleError::Divide) => Err(StatementError::Wrong(Cause::Divide)),
         Err(AngleError::TooLarge) => Err(StatementError::Wrong(Cause::AngleTooLarge)),
-        Err(AngleError::NotAnAngle) => Err(StatementError::Wrong(Cause::NotEighthTurn)),
+        Err(AngleError::NotAnAngle) => Err(StatementError::Wrong(Cause::NotSixteenthTurn)),
         Err(AngleError::NoMemory) => Err(StatementError::NoMemory),
     }
 }

@@ -53,7 +53,7 @@ numbered names (Call function f) = numbered names f
 abbrev pub cause_of : angle_cause.AngleFault → Cause
 cause_of angle_causes.Divide = causes.Divide
 cause_of angle_causes.TooLarge = causes.AngleTooLarge
-cause_of angle_causes.NotAnAngle = causes.NotEighthTurn
+cause_of angle_causes.NotAnAngle = causes.NotSixteenthTurn
 
 abbrev pub with_cause : Result Angle angle_cause.AngleFault → Result Angle Cause
 with_cause (Ok angle) = Ok angle

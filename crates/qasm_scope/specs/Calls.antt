@@ -7,10 +7,10 @@ use Rattle.std.specs.Str.{bytes_eq}
 use Rattle.zx_gates.specs.declared.elementary.ElementaryGate.{ElementaryGate}
 use Rattle.zx_gates.specs.declared.elementary.ElementaryGate.TheVariants as elementary
 use Rattle.qasm_angle.specs.declared.angle.Angle.{Angle}
-use Rattle.qasm_angle.specs.Eighths.{phase_of}
+use Rattle.qasm_angle.specs.Sixteenths.{phase_of}
 use Rattle.qasm_reader.specs.Syntax.{Callee, Declared, U, Cx, GateForm, BodySentence, BodyApplied, BodyBarrier}
 use Rattle.qasm_scope.specs.declared.causes.Cause.{Cause}
-use Rattle.qasm_scope.specs.declared.causes.Cause.TheVariants.{NotEighthTurn, TooDeep, TooManyGates}
+use Rattle.qasm_scope.specs.declared.causes.Cause.TheVariants.{NotSixteenthTurn, TooDeep, TooManyGates}
 use Rattle.qasm_scope.specs.Angles.{angles_of, place_of}
 use Rattle.qasm_scope.specs.Scope.{Scope, Meaning, Gate}
 
@@ -23,10 +23,10 @@ pub data Event : Type 0 where
   -- a built-in gate acts
   Applied : ElementaryGate → Event
 
--- U acts where its three angles are whole eighth turns
+-- U acts where its three angles are whole sixteenth turns
 abbrev pub u_of : ℕ → Option ℕ → Option ℕ → Option ℕ → List Event
 u_of q (Some theta) (Some phi) (Some lambda) = Applied (elementary.U q theta phi lambda) ∷ []
-u_of q theta phi lambda = Undefined NotEighthTurn ∷ []
+u_of q theta phi lambda = Undefined NotSixteenthTurn ∷ []
 
 -- a gate with values for its angles, on qubits, at a depth
 abbrev pub Expansion : Type 0

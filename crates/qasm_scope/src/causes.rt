@@ -32,8 +32,9 @@ pub enum Cause {
     /// A number has more than 38 digits from its first to its last that isn't 0, or a part of a fraction is above
     /// 2^60.
     AngleTooLarge,
-    /// An angle of `U` isn't a whole number of eighth turns, two values with pi are multiplied, or a divisor has pi.
-    NotEighthTurn,
+    /// An angle of `U` isn't a whole number of sixteenth turns, two values with pi are multiplied, or a
+    /// divisor has pi.
+    NotSixteenthTurn,
     /// A call is nested deeper than 256.
     TooDeep,
     /// A call is the 1,000,001st.

@@ -1,35 +1,42 @@
 -- The lines of a circuit's gates are statements that come to its elements, and so is the whole text.
-use Rattle.std.specs.Prelude.{◌≡◌, ◌≢◌, ◌<◌, ◌≤◌, if◌then◌else◌, ℕ, zero, suc, ◌+◌, ◌*◌, ◌^◌, ◌==◌, Bool, true, false, not, nat_le, nat_lt, List, [], ◌∷◌, ◌++◌, length, codes, decimal, Option, Some, None}
-use Rattle.std.proofs.Common.{refl, sym, ap₂, ◌∙◌, arith, rules, subst}
+use Rattle.std.specs.Prelude.{◌≡◌, ◌≢◌, ◌<◌, ◌≤◌, if◌then◌else◌, ℕ, zero, suc, ◌+◌, ◌-◌, ◌*◌, ◌^◌, ◌==◌, Bool, true, false, not, nat_le, nat_lt, List, [], ◌∷◌, ◌++◌, length, codes, decimal, Option, Some, None}
+use Rattle.std.proofs.Common.{refl, sym, ap₂, ◌∙◌, arith, rules, subst, inl, inr}
 use Rattle.std.specs.List.{All, flat_map, list_all}
 use Rattle.std.specs.Str.{all_ascii_digits}
-use Rattle.std.proofs.lemmas.Bool.{false≢true, and_parts, lt-leb, ne_eqb}
+use Rattle.std.proofs.lemmas.Bool.{false≢true, and_parts, lt-leb, ne_eqb, cases_eq}
+use Rattle.std.specs.Fmt.{digits}
 use Rattle.std.proofs.lemmas.Fmt.{digits_value-decimal}
 use Rattle.std.proofs.lemmas.Str.Parse.{IsNumeralModel, numerals_by_fold}
 use Rattle.std.proofs.lemmas.List.Elements.{All-head, All-tail}
-use Rattle.zx_model.specs.Phase.{turn}
+use Rattle.zx_model.specs.Phase.{turn, half_turn, quarter_turn, eighth_turn, opposite_phase}
 use Rattle.zx_gates.specs.Circuit.{IsGateOn, most_qubits}
 use Rattle.zx_gates.specs.declared.gate.Gate.{Gate}
 use Rattle.zx_gates.specs.declared.gate.Gate.TheVariants.{H, Phase, Cz, Cx, Not}
+use Rattle.zx_gates.specs.declared.elementary.ElementaryGate.TheVariants as elementary
 use Rattle.qasm_lexer.specs.declared.token.TokenKind.TheVariants.{Identifier}
 use Rattle.std.specs.Char.{is_ascii_digit}
 use Rattle.std.specs.Option.{option_or}
 use Rattle.qasm_lexer.specs.Forms.{is_natural, is_word}
 use Rattle.qasm_lexer.specs.Tokens.{word_kind}
 use Rattle.qasm_reader.specs.Syntax.{Formula, Operand, Sentence, Placed}
+use Rattle.qasm_angle.specs.Ratio.{gcd, lowest, limited}
+use Rattle.qasm_angle.specs.Sixteenths.{phase_of}
+use Rattle.qasm_angle.specs.Literals as literals
+use Rattle.qasm_angle.specs.Values as values
 use Rattle.qasm_scope.specs.Calls.{Event, Called, Undefined, Applied, call_count, deepest, first_wrong}
 use Rattle.qasm_scope.specs.declared.causes.Cause.{Cause}
 use Rattle.qasm_scope.specs.declared.causes.Cause.TheVariants as causes
-use Rattle.qasm_scope.specs.Faults.{wrong_in}
-use Rattle.qasm_scope.specs.Meaning.{events_of, fault_after, scope_after, gates_after}
+use Rattle.qasm_scope.specs.Angles.{angle_of}
+use Rattle.qasm_scope.specs.Faults.{wrong_in, has_unknown}
+use Rattle.qasm_scope.specs.Meaning.{with_header, events_of, fault_after, scope_after, gates_after}
 use Rattle.qasm_scope.specs.Scope.{numeral}
 use Rattle.qasm_scope.specs.Texts.{size_after}
 use Rattle.qasm_scope.specs.Internal.Numerals.{numeral_from}
 use Rattle.qasm_scope.proofs.Placing.{placed_or}
 use Rattle.qasm_writer.specs.Elements.{elements, elements_of}
 use Rattle.qasm_writer.specs.Written.{gate_line, on_one, on_two}
-use Rattle.qasm_writer.proofs.Lines.{IsLine, AreLines, no_line, line_then, on_one_line, on_two_line, u1_line, u1_text}
-use Rattle.qasm_writer.proofs.Statements.{application, operand, quarters, register_scope, Comes, are_calm, most_of_one, h_comes, x_comes, t_comes, s_comes, z_comes, sdg_comes, tdg_comes, three_quarters_comes, five_quarters_comes, cx_comes, cz_comes}
+use Rattle.qasm_writer.proofs.Lines.{IsLine, AreLines, no_line, line_then, on_one_line, on_two_line, u1_text, over_text, times_text, IsDigit, over_line, times_line}
+use Rattle.qasm_writer.proofs.Statements.{application, apply, operand, pi_over, pi_times_over, register_scope, Comes, are_calm, most_of_one, h_comes, x_comes, t_comes, s_comes, z_comes, sdg_comes, tdg_comes, u1_comes, cx_comes, cz_comes}
 
 -- ---- numerals
 own : IsNumeralModel (λ ds. all_ascii_digits ds ≡ true) (numeral_from 0)
@@ -62,17 +69,17 @@ pub record IsGateLine (place n : ℕ) (gate : Gate) : Type 0 where
   pub line : IsLine place (gate_line gate) (application name angles operands)
   pub comes : Comes (register_scope n) (application name angles operands) (elements gate)
 
--- what holds of the phases from 1 to 7 holds of each that isn't 0
-pub by_phase : (P : ℕ → Type 0) → P 1 → P 2 → P 3 → P 4 → P 5 → P 6 → P 7 → (k : ℕ) → k ≢ 0 → k < turn → P k
-by_phase P a b c d e f g zero some below = absurd (some refl)
-by_phase P a b c d e f g (suc zero) some below = a
-by_phase P a b c d e f g (suc (suc zero)) some below = b
-by_phase P a b c d e f g (suc (suc (suc zero))) some below = c
-by_phase P a b c d e f g (suc (suc (suc (suc zero)))) some below = d
-by_phase P a b c d e f g (suc (suc (suc (suc (suc zero))))) some below = e
-by_phase P a b c d e f g (suc (suc (suc (suc (suc (suc zero)))))) some below = f
-by_phase P a b c d e f g (suc (suc (suc (suc (suc (suc (suc zero))))))) some below = g
-by_phase P a b c d e f g (suc (suc (suc (suc (suc (suc (suc (suc k)))))))) some below = absurd (omega arith)
+-- a property of each of so many numbers, from the first on
+abbrev pub AllFrom : (P : ℕ → Type 0) → ℕ → ℕ → Type 0
+AllFrom P first zero = Unit {0}
+AllFrom P first (suc count) = P first × AllFrom P (suc first) count
+
+pub from_all : (P : ℕ → Type 0) (first count : ℕ) → AllFrom P first count → (k : ℕ) → first ≤ k → k < first + count → P k
+from_all P first zero all k from below = absurd (omega arith)
+from_all P first (suc count) all k from below = elim (cases_eq k first) [
+  | inl e ↦ subst P (sym e) all.0
+  | inr other ↦ from_all P (suc first) count all.1 k (omega arith) (omega arith)
+]
 
 module _ (place n q : ℕ) (few : n ≤ most_qubits) (below : q < n) where
   small : q < 2 ^ 64
@@ -84,42 +91,97 @@ module _ (place n q : ℕ) (few : n ≤ most_qubits) (below : q < n) where
   in_range : nat_le n (numeral (decimal q)) ≡ false
   in_range = lt-leb n (numeral (decimal q)) (omega (arith, numeral-decimal q (omega arith)))
 
-  word_line : (name : List ℕ) (gate : Gate) → gate_line gate ≡ on_one name q → IsLine place (on_one name q) (application name [] (operand (decimal q) ∷ []))
-      → Comes (register_scope n) (application name [] (operand (decimal q) ∷ [])) (elements gate) → IsGateLine place n gate
-  word_line name gate e line comes = record {
+  one_is : (text name : List ℕ) (angles : List Formula) (gate : Gate) → gate_line gate ≡ on_one text q
+      → IsLine place (on_one text q) (application name angles (operand (decimal q) ∷ []))
+      → Comes (register_scope n) (application name angles (operand (decimal q) ∷ [])) (elements gate) → IsGateLine place n gate
+  one_is text name angles gate e line comes = record {
     name = name;
-    angles = [];
+    angles = angles;
     operands = operand (decimal q) ∷ [];
-    line = subst (λ l. IsLine place l (application name [] (operand (decimal q) ∷ []))) (sym e) line;
+    line = subst (λ l. IsLine place l (application name angles (operand (decimal q) ∷ []))) (sym e) line;
     comes = comes;
   }
+
+  word_is : (name : List ℕ) (gate : Gate) → gate_line gate ≡ on_one name q → is_word name ≡ true → word_kind name ≡ Some Identifier
+      → Comes (register_scope n) (application name [] (operand (decimal q) ∷ [])) (elements gate) → IsGateLine place n gate
+  word_is name gate e word identifier comes = one_is name name [] gate e (on_one_line place name word identifier q small) comes
 
   h_is : IsGateLine place n (H q)
-  h_is = word_line (codes "h") (H q) refl (on_one_line place (codes "h") refl refl q small) (h_comes n (decimal q) q is in_range)
+  h_is = word_is (codes "h") (H q) refl refl refl (h_comes n (decimal q) q is in_range)
 
   not_is : IsGateLine place n (Not q)
-  not_is = word_line (codes "x") (Not q) refl (on_one_line place (codes "x") refl refl q small) (x_comes n (decimal q) q is in_range)
+  not_is = word_is (codes "x") (Not q) refl refl refl (x_comes n (decimal q) q is in_range)
 
-  turn_is : (b k : ℕ) → list_all is_ascii_digit (b ∷ []) ≡ true → is_natural (b ∷ []) ≡ true → gate_line (Phase q k) ≡ on_one (u1_text b) q
-      → Comes (register_scope n) (application (codes "u1") (quarters (b ∷ []) ∷ []) (operand (decimal q) ∷ [])) (elements (Phase q k))
-      → IsGateLine place n (Phase q k)
-  turn_is b k digit natural e comes = record {
-    name = codes "u1";
-    angles = quarters (b ∷ []) ∷ [];
-    operands = operand (decimal q) ∷ [];
-    line = subst (λ l. IsLine place l (application (codes "u1") (quarters (b ∷ []) ∷ []) (operand (decimal q) ∷ []))) (sym e) (u1_line place b q digit natural small);
-    comes = comes;
-  }
+  -- the angle as the line has it is k sixteenth turns
+  abbrev IsAngle : Formula → ℕ → Type 0
+  IsAngle f k =
+      (has_unknown (register_scope n) (apply (codes "u1") (f ∷ []) (operand (decimal q) ∷ [])) ≡ false)
+      × (events_of (register_scope n) (application (codes "u1") (f ∷ []) (operand (decimal q) ∷ []))
+      ≡ Called 1 ∷ Called 2 ∷ Applied (elementary.U (0 + numeral (decimal q)) 0 0 k) ∷ [])
+
+  over_is : (d k : ℕ) → IsDigit d → gate_line (Phase q k) ≡ on_one (u1_text (over_text d)) q → IsAngle (pi_over (d ∷ [])) k → IsGateLine place n (Phase q k)
+  over_is d k digit e angle =
+      one_is (u1_text (over_text d)) (codes "u1") (pi_over (d ∷ []) ∷ []) (Phase q k) e (over_line place d q digit small)
+      (u1_comes n (decimal q) q is in_range (pi_over (d ∷ [])) k refl angle.0 angle.1)
+
+  times_is : (m : List ℕ) (d k : ℕ) → list_all is_ascii_digit m ≡ true → is_natural m ≡ true → IsDigit d
+      → gate_line (Phase q k) ≡ on_one (u1_text (times_text m d)) q → IsAngle (pi_times_over m (d ∷ [])) k → IsGateLine place n (Phase q k)
+  times_is m d k digits natural digit e angle =
+      one_is (u1_text (times_text m d)) (codes "u1") (pi_times_over m (d ∷ []) ∷ []) (Phase q k) e
+      (times_line place m d q digits natural digit small)
+      (u1_comes n (decimal q) q is in_range (pi_times_over m (d ∷ [])) k refl angle.0 angle.1)
+
+  phases : AllFrom (λ k. IsGateLine place n (Phase q k)) 1 (turn - 1)
+  unfolding digits with_header angle_of values.applied gcd lowest limited phase_of literals.literal_value literals.decimal
+  phases = (
+    over_is 56 1 (refl, refl, refl) refl (refl, refl),
+    (
+      word_is (codes "t") (Phase q eighth_turn) refl refl refl (t_comes n (decimal q) q is in_range),
+      (
+        times_is (codes "3") 56 3 refl refl (refl, refl, refl) refl (refl, refl),
+        (
+          word_is (codes "s") (Phase q quarter_turn) refl refl refl (s_comes n (decimal q) q is in_range),
+          (
+            times_is (codes "5") 56 5 refl refl (refl, refl, refl) refl (refl, refl),
+            (
+              times_is (codes "3") 52 6 refl refl (refl, refl, refl) refl (refl, refl),
+              (
+                times_is (codes "7") 56 7 refl refl (refl, refl, refl) refl (refl, refl),
+                (
+                  word_is (codes "z") (Phase q half_turn) refl refl refl (z_comes n (decimal q) q is in_range),
+                  (
+                    times_is (codes "9") 56 9 refl refl (refl, refl, refl) refl (refl, refl),
+                    (
+                      times_is (codes "5") 52 10 refl refl (refl, refl, refl) refl (refl, refl),
+                      (
+                        times_is (codes "11") 56 11 refl refl (refl, refl, refl) refl (refl, refl),
+                        (
+                          word_is (codes "sdg") (Phase q (half_turn + quarter_turn)) refl refl refl (sdg_comes n (decimal q) q is in_range),
+                          (
+                            times_is (codes "13") 56 13 refl refl (refl, refl, refl) refl (refl, refl),
+                            (
+                              word_is (codes "tdg") (Phase q (opposite_phase eighth_turn)) refl refl refl (tdg_comes n (decimal q) q is in_range),
+                              (
+                                times_is (codes "15") 56 15 refl refl (refl, refl, refl) refl (refl, refl),
+                                tt,
+                              ),
+                            ),
+                          ),
+                        ),
+                      ),
+                    ),
+                  ),
+                ),
+              ),
+            ),
+          ),
+        ),
+      ),
+    ),
+  )
 
   phase_is : (k : ℕ) → k ≢ 0 → k < turn → IsGateLine place n (Phase q k)
-  phase_is = by_phase (λ k. IsGateLine place n (Phase q k))
-      (word_line (codes "t") (Phase q 1) refl (on_one_line place (codes "t") refl refl q small) (t_comes n (decimal q) q is in_range))
-      (word_line (codes "s") (Phase q 2) refl (on_one_line place (codes "s") refl refl q small) (s_comes n (decimal q) q is in_range))
-      (turn_is 51 3 refl refl refl (three_quarters_comes n (decimal q) q is in_range))
-      (word_line (codes "z") (Phase q 4) refl (on_one_line place (codes "z") refl refl q small) (z_comes n (decimal q) q is in_range))
-      (turn_is 53 5 refl refl refl (five_quarters_comes n (decimal q) q is in_range))
-      (word_line (codes "sdg") (Phase q 6) refl (on_one_line place (codes "sdg") refl refl q small) (sdg_comes n (decimal q) q is in_range))
-      (word_line (codes "tdg") (Phase q 7) refl (on_one_line place (codes "tdg") refl refl q small) (tdg_comes n (decimal q) q is in_range))
+  phase_is k some below_a_turn = from_all (λ k. IsGateLine place n (Phase q k)) 1 (turn - 1) phases k (omega arith) (omega arith)
 
 module _ (place n q r : ℕ) (few : n ≤ most_qubits) (below : q < n) (under : r < n) (apart : q ≢ r) where
   differ : ((0 + numeral (decimal r)) == (0 + numeral (decimal q))) ≡ false

@@ -1,6 +1,7 @@
 -- Each line of a circuit's text is one statement: its tokens, and their grammar.
 use Rattle.std.specs.Prelude.{◌≡◌, ◌<◌, ℕ, ◌+◌, ◌^◌, true, List, [], ◌∷◌, ◌++◌, length, codes, decimal, Some, None}
 use Rattle.std.proofs.Common.{refl, sym, ap, ◌∙◌, arith, subst, append_assoc, inl}
+use Rattle.std.proofs.lemmas.List.{append-nil}
 use Rattle.std.specs.List.{list_all}
 use Rattle.qasm_lexer.specs.declared.token.TokenKind.TheVariants as kind
 use Rattle.std.specs.Char.{is_ascii_digit}
@@ -8,13 +9,14 @@ use Rattle.qasm_lexer.specs.Forms.{is_natural, is_word}
 use Rattle.qasm_lexer.specs.Tokens.{Lexeme, IsCut, word_kind}
 use Rattle.qasm_lexer.specs.Worked.{token}
 use Rattle.qasm_lexer.proofs.Building.{IsCut-nil, IsCut-space, IsCut-word, IsCut-sign, IsCut-plain_sign, IsCut-natural, IsCut-decimal}
+use Rattle.qasm_lexer.proofs.Pieces.{ends_sign}
 use Rattle.qasm_lexer.proofs.Feeds.{IsCut-append}
 use Rattle.qasm_lexer.proofs.Scan.{IsCut-tokens_of}
 use Rattle.qasm_reader.specs.Depth.{too_deep, too_deep_from}
 use Rattle.qasm_reader.specs.Grammar.{IsProgram, IsStatement, IsArgument, IsArguments, IsAngles, IsExpression, BeginsAt, OneTerm, Product, Quotient, OnePower, OneFactor, WholeNumber, PiWord}
 use Rattle.qasm_reader.specs.Syntax.{Formula, Operand, Sentence, Version, Include, QubitRegister, Placed}
 use Rattle.qasm_writer.specs.Written.{qubit, on_one, on_two}
-use Rattle.qasm_writer.proofs.Statements.{operand, application, quarters}
+use Rattle.qasm_writer.proofs.Statements.{operand, application, pi_over, pi_times_over}
 
 -- ---- texts and programs
 -- the line at a place is this statement
@@ -191,59 +193,91 @@ module _ (place : ℕ) (name : List ℕ) (is : is_word name ≡ true) (identifie
             refl refl (inl refl) (two_arguments (place + length name + 1) _ _ q r) refl;
       }
 
--- ---- lines of u1 at n*pi/4, for a digit n
-abbrev pub u1_text : ℕ → List ℕ
-u1_text n = 117 ∷ 49 ∷ 40 ∷ n ∷ 42 ∷ 112 ∷ 105 ∷ 47 ∷ 52 ∷ 41 ∷ []
+-- ---- lines of u1 at pi/d and at n*pi/d, for a digit d
+-- a digit that is a natural number, and no sign with a slash before it
+abbrev pub IsDigit : ℕ → Type 0
+IsDigit d = (list_all is_ascii_digit (d ∷ []) ≡ true) × (is_natural (d ∷ []) ≡ true) × (ends_sign 47 (d ∷ []) ≡ true)
 
-abbrev angle_tokens : ℕ → ℕ → List Lexeme
-angle_tokens place n =
-    token kind.LeftParenthesis (codes "(") (place + 2) ∷ token kind.Natural (n ∷ []) (place + 3) ∷ token kind.Star (codes "*") (place + 4)
-    ∷ token kind.Pi (codes "pi") (place + 5) ∷ token kind.Slash (codes "/") (place + 7) ∷ token kind.Natural (codes "4") (place + 8)
-    ∷ token kind.RightParenthesis (codes ")") (place + 9) ∷ []
+abbrev pub u1_text : List ℕ → List ℕ
+u1_text angle = 117 ∷ 49 ∷ 40 ∷ angle
 
-u1_cut : (place n : ℕ) (after : List ℕ) (tokens : List Lexeme) → list_all is_ascii_digit (n ∷ []) ≡ true → is_natural (n ∷ []) ≡ true
-    → IsCut (place + 10) after tokens
-    → IsCut place (u1_text n ++ after) (token kind.Identifier (codes "u1") place ∷ angle_tokens place n ++ tokens)
-u1_cut place n after tokens digit natural c =
-    IsCut-word (codes "u1") (place + 2) refl refl refl refl
-    (IsCut-plain_sign 40 (place + 3) refl refl (omega arith)
-    (IsCut-natural (n ∷ []) (place + 4) digit natural refl (omega arith)
-    (IsCut-plain_sign 42 (place + 5) refl refl (omega arith)
-    (IsCut-word (codes "pi") (place + 7) refl refl refl (omega arith)
-    (IsCut-sign 47 (place + 8) refl refl (omega arith)
-    (IsCut-natural (codes "4") (place + 9) refl refl refl (omega arith)
-    (IsCut-plain_sign 41 (place + 10) refl refl (omega arith) c)))))))
+-- up to the parenthesis behind the angle
+abbrev pub over_text : ℕ → List ℕ
+over_text d = 112 ∷ 105 ∷ 47 ∷ d ∷ 41 ∷ []
 
-angle_is : (place n : ℕ) → IsAngles (quarters (n ∷ []) ∷ []) (angle_tokens place n)
-angle_is place n =
-    let left : Lexeme = token kind.LeftParenthesis (codes "(") (place + 2) in
-    let count : Lexeme = token kind.Natural (n ∷ []) (place + 3) in
-    let star : Lexeme = token kind.Star (codes "*") (place + 4) in
-    let pi : Lexeme = token kind.Pi (codes "pi") (place + 5) in
-    let slash : Lexeme = token kind.Slash (codes "/") (place + 7) in
-    let four : Lexeme = token kind.Natural (codes "4") (place + 8) in
-    let close : Lexeme = token kind.RightParenthesis (codes ")") (place + 9) in
-    let inside : List Lexeme = count ∷ star ∷ pi ∷ slash ∷ four ∷ [] in
-    let f : IsExpression (quarters (n ∷ [])) inside =
-    OneTerm (Quotient slash (Product star (OnePower (OneFactor (WholeNumber count refl))) refl (OneFactor (PiWord pi refl))) refl (OneFactor (WholeNumber four refl))) in
-    (left ∷ [], inside ++ close ∷ [], refl, (left, refl, refl), (inside, close ∷ [], refl, (inside, [], refl, f, refl), (close, refl, refl)))
+abbrev pub times_text : List ℕ → ℕ → List ℕ
+times_text n d = n ++ 42 ∷ over_text d
 
-pub u1_line : (place n q : ℕ) → list_all is_ascii_digit (n ∷ []) ≡ true → is_natural (n ∷ []) ≡ true → q < 2 ^ 64
-    → IsLine place (on_one (u1_text n) q) (application (codes "u1") (quarters (n ∷ []) ∷ []) (operand (decimal q) ∷ []))
-u1_line place n q digit natural small =
-    let t : Lexeme = token kind.Identifier (codes "u1") place in
-    let more : List Lexeme = angle_tokens place n ++ one_tokens (place + 10) q in
-    record {
-      prefix = u1_text n ++ codes " " ++ qubit q ++ codes ";";
-      ends = line_ends (u1_text n ++ codes " " ++ qubit q);
-      tokens = t ∷ more;
-      cut = subst (λ text. IsCut place text (t ∷ more)) (sym (on_one-text (u1_text n) q))
-          (u1_cut place n (32 ∷ qubit_then q (59 ∷ 10 ∷ [])) (one_tokens (place + 10) q) digit natural (one_cut (place + 10) q small));
-      begins = (t, more, refl, refl);
-      closed = λ rest. refl;
-      statement = applied_is (codes "u1") (quarters (n ∷ []) ∷ []) (operand (decimal q) ∷ []) t _ (angle_tokens place n)
-          (qubit_tokens (place + 10 + 1) q) refl refl (angle_is place n) (one_argument (place + 10 + 1) q) refl;
-    }
+abbrev over_tokens : ℕ → ℕ → List Lexeme
+over_tokens place d =
+    token kind.Pi (codes "pi") place ∷ token kind.Slash (codes "/") (place + 2) ∷ token kind.Natural (d ∷ []) (place + 3)
+    ∷ token kind.RightParenthesis (codes ")") (place + 4) ∷ []
+
+over_cut : (place d next : ℕ) (after : List ℕ) (tokens : List Lexeme) → IsDigit d → next ≡ place + 5 → IsCut next after tokens
+    → IsCut place (over_text d ++ after) (over_tokens place d ++ tokens)
+over_cut place d next after tokens digit there c =
+    IsCut-word (codes "pi") (place + 2) refl refl refl refl
+    (IsCut-sign 47 (place + 3) refl digit.2 (omega arith)
+    (IsCut-natural (d ∷ []) (place + 4) digit.0 digit.1 refl (omega arith)
+    (IsCut-plain_sign 41 next refl refl (omega arith) c)))
+
+angles_are : (f : Formula) (left right : Lexeme) (inside : List Lexeme) → left.kind ≡ kind.LeftParenthesis → right.kind ≡ kind.RightParenthesis
+    → IsExpression f inside → IsAngles (f ∷ []) (left ∷ (inside ++ right ∷ []))
+angles_are f left right inside l r e =
+    (left ∷ [], inside ++ right ∷ [], refl, (left, l, refl), (inside, right ∷ [], refl, (inside, [], sym (append-nil inside), e, refl), (right, r, refl)))
+
+-- from the tokens of the angle on
+module _ (place next : ℕ) (angle : List ℕ) (f : Formula) (inside : List Lexeme) (q : ℕ) where
+  u1_line : q < 2 ^ 64
+      → ((after : List ℕ) (tokens : List Lexeme) → IsCut next after tokens → IsCut (place + 3) (angle ++ after) (inside ++ tokens))
+      → IsAngles (f ∷ []) (token kind.LeftParenthesis (codes "(") (place + 2) ∷ inside)
+      → ((tokens : List Lexeme) → too_deep_from 1 (inside ++ tokens) ≡ too_deep_from 0 tokens)
+      → IsLine place (on_one (u1_text angle) q) (application (codes "u1") (f ∷ []) (operand (decimal q) ∷ []))
+  u1_line small cut angles closes =
+      let t : Lexeme = token kind.Identifier (codes "u1") place in
+      let left : Lexeme = token kind.LeftParenthesis (codes "(") (place + 2) in
+      let more : List Lexeme = left ∷ (inside ++ one_tokens next q) in
+      record {
+        prefix = u1_text angle ++ codes " " ++ qubit q ++ codes ";";
+        ends = line_ends (u1_text angle ++ codes " " ++ qubit q);
+        tokens = t ∷ more;
+        cut = subst (λ text. IsCut place text (t ∷ more)) (sym (on_one-text (u1_text angle) q))
+            (IsCut-word (codes "u1") (place + 2) refl refl refl refl
+            (IsCut-plain_sign 40 (place + 3) refl refl (omega arith) (cut (32 ∷ qubit_then q (59 ∷ 10 ∷ [])) (one_tokens next q) (one_cut next q small))));
+        begins = (t, more, refl, refl);
+        closed = λ rest. ap (too_deep_from 1) (append_assoc inside (one_tokens next q) rest) ∙ closes (one_tokens next q ++ rest);
+        statement = applied_is (codes "u1") (f ∷ []) (operand (decimal q) ∷ []) t (token kind.Semicolon (codes ";") (next + 4 + length (decimal q)))
+            (left ∷ inside) (qubit_tokens (next + 1) q) refl refl angles (one_argument (next + 1) q) refl;
+      }
+
+pub over_line : (place d q : ℕ) → IsDigit d → q < 2 ^ 64
+    → IsLine place (on_one (u1_text (over_text d)) q) (application (codes "u1") (pi_over (d ∷ []) ∷ []) (operand (decimal q) ∷ []))
+over_line place d q digit small =
+    let pi : Lexeme = token kind.Pi (codes "pi") (place + 3) in
+    let slash : Lexeme = token kind.Slash (codes "/") (place + 3 + 2) in
+    let under : Lexeme = token kind.Natural (d ∷ []) (place + 3 + 3) in
+    u1_line place (place + 8) (over_text d) (pi_over (d ∷ [])) (over_tokens (place + 3) d) q small
+    (λ after tokens c. over_cut (place + 3) d (place + 8) after tokens digit (omega arith) c)
+    (angles_are (pi_over (d ∷ [])) _ (token kind.RightParenthesis (codes ")") (place + 3 + 4)) (pi ∷ slash ∷ under ∷ []) refl refl
+    (OneTerm (Quotient slash (OnePower (OneFactor (PiWord pi refl))) refl (OneFactor (WholeNumber under refl)))))
+    (λ tokens. refl)
+
+pub times_line : (place : ℕ) (n : List ℕ) (d q : ℕ) → list_all is_ascii_digit n ≡ true → is_natural n ≡ true → IsDigit d → q < 2 ^ 64
+    → IsLine place (on_one (u1_text (times_text n d)) q) (application (codes "u1") (pi_times_over n (d ∷ []) ∷ []) (operand (decimal q) ∷ []))
+times_line place n d q digits natural digit small =
+    let at : ℕ = place + 3 + length n + 1 in
+    let count : Lexeme = token kind.Natural n (place + 3) in
+    let star : Lexeme = token kind.Star (codes "*") (place + 3 + length n) in
+    let pi : Lexeme = token kind.Pi (codes "pi") at in
+    let slash : Lexeme = token kind.Slash (codes "/") (at + 2) in
+    let under : Lexeme = token kind.Natural (d ∷ []) (at + 3) in
+    u1_line place (at + 5) (times_text n d) (pi_times_over n (d ∷ [])) (count ∷ star ∷ over_tokens at d) q small
+    (λ after tokens c. subst (λ text. IsCut (place + 3) text (count ∷ star ∷ over_tokens at d ++ tokens)) (sym (append_assoc n (42 ∷ over_text d) after))
+    (IsCut-natural n (place + 3 + length n) digits natural refl refl
+    (IsCut-plain_sign 42 at refl refl refl (over_cut at d (at + 5) after tokens digit refl c))))
+    (angles_are (pi_times_over n (d ∷ [])) _ (token kind.RightParenthesis (codes ")") (at + 4)) (count ∷ star ∷ pi ∷ slash ∷ under ∷ []) refl refl
+    (OneTerm (Quotient slash (Product star (OnePower (OneFactor (WholeNumber count refl))) refl (OneFactor (PiWord pi refl))) refl (OneFactor (WholeNumber under refl)))))
+    (λ tokens. refl)
 
 -- the lines before the register
 abbrev pub version_line : List ℕ

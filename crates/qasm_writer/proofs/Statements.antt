@@ -3,13 +3,14 @@
 use Rattle.std.specs.Prelude.{◌≡◌, ◌≤◌, if◌then◌else◌, ℕ, ◌+◌, Bool, true, false, ◌&&◌, ◌||◌, not, List, [], ◌∷◌, codes, length, nat_le, nat_lt, ◌==◌, Some, None}
 use Rattle.std.proofs.Common.{refl, sym, ap, ap₂, ◌∙◌, arith}
 use Rattle.std.proofs.lemmas.Bool.{false≢true}
+use Rattle.zx_model.specs.Phase.{half_turn, quarter_turn, eighth_turn, opposite_phase}
 use Rattle.zx_gates.specs.declared.elementary.ElementaryGate.{ElementaryGate}
 use Rattle.zx_gates.specs.declared.elementary.ElementaryGate.TheVariants as elementary
 use Rattle.qasm_reader.specs.declared.expression.Operator.TheVariants.{Multiply, Divide}
 use Rattle.qasm_reader.specs.Syntax.{Formula, Number, Pi, Binary, Operand, Declared, Sentence, Act}
 use Rattle.qasm_reader.specs.Syntax as syntax
 use Rattle.qasm_angle.specs.Ratio.{gcd, lowest, limited}
-use Rattle.qasm_angle.specs.Eighths.{phase_of}
+use Rattle.qasm_angle.specs.Sixteenths.{phase_of}
 use Rattle.qasm_angle.specs.Literals as literals
 use Rattle.qasm_angle.specs.Values as values
 use Rattle.std.specs.List.{list_any}
@@ -33,9 +34,12 @@ apply name angles operands = record { gate = Declared name; angles = angles; qub
 abbrev pub application : List ℕ → List Formula → List Operand → Sentence
 application name angles operands = Act (syntax.Applied (apply name angles operands))
 
--- a multiple of pi/4
-abbrev pub quarters : List ℕ → Formula
-quarters n = Binary Divide (Binary Multiply (Number n) Pi) (Number (codes "4"))
+-- the angles pi/d and n*pi/d
+abbrev pub pi_over : List ℕ → Formula
+pi_over d = Binary Divide Pi (Number d)
+
+abbrev pub pi_times_over : List ℕ → List ℕ → Formula
+pi_times_over n d = Binary Divide (Binary Multiply (Number n) Pi) (Number d)
 
 -- the scope after the header and a register of n qubits
 abbrev pub register_scope : ℕ → Scope
@@ -130,59 +134,58 @@ module _ (n : ℕ) (i j : List ℕ) (name : List ℕ) (gate : ℕ → ℕ → Li
 
 -- ---- each gate, at an index i that is the number q
 module _ (n : ℕ) (i : List ℕ) (q : ℕ) (is : 0 + numeral i ≡ q) (below : nat_le n (numeral i) ≡ false) where
-  pub h_comes : Comes (register_scope n) (application (codes "h") [] (operand i ∷ [])) (elementary.U q 2 0 4 ∷ [])
+  pub h_comes : Comes (register_scope n) (application (codes "h") [] (operand i ∷ [])) (elementary.U q quarter_turn 0 half_turn ∷ [])
   unfolding with_header angle_of values.applied gcd lowest limited phase_of literals.literal_value literals.decimal
-  h_comes = on_one_comes n i (codes "h") [] (λ k. elementary.U k 2 0 4 ∷ [])
-      (Called 1 ∷ Called 2 ∷ Called 3 ∷ Applied (elementary.U (0 + numeral i) 2 0 4) ∷ [])
+  h_comes = on_one_comes n i (codes "h") [] (λ k. elementary.U k quarter_turn 0 half_turn ∷ [])
+      (Called 1 ∷ Called 2 ∷ Called 3 ∷ Applied (elementary.U (0 + numeral i) quarter_turn 0 half_turn) ∷ [])
       q is below refl refl refl refl refl (omega arith) refl
 
-  pub x_comes : Comes (register_scope n) (application (codes "x") [] (operand i ∷ [])) (elementary.U q 4 0 4 ∷ [])
+  pub x_comes : Comes (register_scope n) (application (codes "x") [] (operand i ∷ [])) (elementary.U q half_turn 0 half_turn ∷ [])
   unfolding with_header angle_of values.applied gcd lowest limited phase_of literals.literal_value literals.decimal
-  x_comes = on_one_comes n i (codes "x") [] (λ k. elementary.U k 4 0 4 ∷ [])
-      (Called 1 ∷ Called 2 ∷ Called 3 ∷ Applied (elementary.U (0 + numeral i) 4 0 4) ∷ [])
+  x_comes = on_one_comes n i (codes "x") [] (λ k. elementary.U k half_turn 0 half_turn ∷ [])
+      (Called 1 ∷ Called 2 ∷ Called 3 ∷ Applied (elementary.U (0 + numeral i) half_turn 0 half_turn) ∷ [])
       q is below refl refl refl refl refl (omega arith) refl
 
-  pub t_comes : Comes (register_scope n) (application (codes "t") [] (operand i ∷ [])) (elementary.U q 0 0 1 ∷ [])
+  pub t_comes : Comes (register_scope n) (application (codes "t") [] (operand i ∷ [])) (elementary.U q 0 0 eighth_turn ∷ [])
   unfolding with_header angle_of values.applied gcd lowest limited phase_of literals.literal_value literals.decimal
-  t_comes = on_one_comes n i (codes "t") [] (λ k. elementary.U k 0 0 1 ∷ [])
-      (Called 1 ∷ Called 2 ∷ Called 3 ∷ Applied (elementary.U (0 + numeral i) 0 0 1) ∷ [])
+  t_comes = on_one_comes n i (codes "t") [] (λ k. elementary.U k 0 0 eighth_turn ∷ [])
+      (Called 1 ∷ Called 2 ∷ Called 3 ∷ Applied (elementary.U (0 + numeral i) 0 0 eighth_turn) ∷ [])
       q is below refl refl refl refl refl (omega arith) refl
 
-  pub s_comes : Comes (register_scope n) (application (codes "s") [] (operand i ∷ [])) (elementary.U q 0 0 2 ∷ [])
+  pub s_comes : Comes (register_scope n) (application (codes "s") [] (operand i ∷ [])) (elementary.U q 0 0 quarter_turn ∷ [])
   unfolding with_header angle_of values.applied gcd lowest limited phase_of literals.literal_value literals.decimal
-  s_comes = on_one_comes n i (codes "s") [] (λ k. elementary.U k 0 0 2 ∷ [])
-      (Called 1 ∷ Called 2 ∷ Called 3 ∷ Applied (elementary.U (0 + numeral i) 0 0 2) ∷ [])
+  s_comes = on_one_comes n i (codes "s") [] (λ k. elementary.U k 0 0 quarter_turn ∷ [])
+      (Called 1 ∷ Called 2 ∷ Called 3 ∷ Applied (elementary.U (0 + numeral i) 0 0 quarter_turn) ∷ [])
       q is below refl refl refl refl refl (omega arith) refl
 
-  pub z_comes : Comes (register_scope n) (application (codes "z") [] (operand i ∷ [])) (elementary.U q 0 0 4 ∷ [])
+  pub z_comes : Comes (register_scope n) (application (codes "z") [] (operand i ∷ [])) (elementary.U q 0 0 half_turn ∷ [])
   unfolding with_header angle_of values.applied gcd lowest limited phase_of literals.literal_value literals.decimal
-  z_comes = on_one_comes n i (codes "z") [] (λ k. elementary.U k 0 0 4 ∷ [])
-      (Called 1 ∷ Called 2 ∷ Called 3 ∷ Applied (elementary.U (0 + numeral i) 0 0 4) ∷ [])
+  z_comes = on_one_comes n i (codes "z") [] (λ k. elementary.U k 0 0 half_turn ∷ [])
+      (Called 1 ∷ Called 2 ∷ Called 3 ∷ Applied (elementary.U (0 + numeral i) 0 0 half_turn) ∷ [])
       q is below refl refl refl refl refl (omega arith) refl
 
-  pub sdg_comes : Comes (register_scope n) (application (codes "sdg") [] (operand i ∷ [])) (elementary.U q 0 0 6 ∷ [])
+  pub sdg_comes : Comes (register_scope n) (application (codes "sdg") [] (operand i ∷ [])) (elementary.U q 0 0 (half_turn + quarter_turn) ∷ [])
   unfolding with_header angle_of values.applied gcd lowest limited phase_of literals.literal_value literals.decimal
-  sdg_comes = on_one_comes n i (codes "sdg") [] (λ k. elementary.U k 0 0 6 ∷ [])
-      (Called 1 ∷ Called 2 ∷ Called 3 ∷ Applied (elementary.U (0 + numeral i) 0 0 6) ∷ [])
+  sdg_comes = on_one_comes n i (codes "sdg") [] (λ k. elementary.U k 0 0 (half_turn + quarter_turn) ∷ [])
+      (Called 1 ∷ Called 2 ∷ Called 3 ∷ Applied (elementary.U (0 + numeral i) 0 0 (half_turn + quarter_turn)) ∷ [])
       q is below refl refl refl refl refl (omega arith) refl
 
-  pub tdg_comes : Comes (register_scope n) (application (codes "tdg") [] (operand i ∷ [])) (elementary.U q 0 0 7 ∷ [])
+  pub tdg_comes : Comes (register_scope n) (application (codes "tdg") [] (operand i ∷ [])) (elementary.U q 0 0 (opposite_phase eighth_turn) ∷ [])
   unfolding with_header angle_of values.applied gcd lowest limited phase_of literals.literal_value literals.decimal
-  tdg_comes = on_one_comes n i (codes "tdg") [] (λ k. elementary.U k 0 0 7 ∷ [])
-      (Called 1 ∷ Called 2 ∷ Called 3 ∷ Applied (elementary.U (0 + numeral i) 0 0 7) ∷ [])
+  tdg_comes = on_one_comes n i (codes "tdg") [] (λ k. elementary.U k 0 0 (opposite_phase eighth_turn) ∷ [])
+      (Called 1 ∷ Called 2 ∷ Called 3 ∷ Applied (elementary.U (0 + numeral i) 0 0 (opposite_phase eighth_turn)) ∷ [])
       q is below refl refl refl refl refl (omega arith) refl
 
-  pub three_quarters_comes : Comes (register_scope n) (application (codes "u1") (quarters (codes "3") ∷ []) (operand i ∷ [])) (elementary.U q 0 0 3 ∷ [])
-  unfolding with_header angle_of values.applied gcd lowest limited phase_of literals.literal_value literals.decimal
-  three_quarters_comes = on_one_comes n i (codes "u1") (quarters (codes "3") ∷ []) (λ k. elementary.U k 0 0 3 ∷ [])
-      (Called 1 ∷ Called 2 ∷ Applied (elementary.U (0 + numeral i) 0 0 3) ∷ [])
-      q is below refl refl refl refl refl (omega arith) refl
-
-  pub five_quarters_comes : Comes (register_scope n) (application (codes "u1") (quarters (codes "5") ∷ []) (operand i ∷ [])) (elementary.U q 0 0 5 ∷ [])
-  unfolding with_header angle_of values.applied gcd lowest limited phase_of literals.literal_value literals.decimal
-  five_quarters_comes = on_one_comes n i (codes "u1") (quarters (codes "5") ∷ []) (λ k. elementary.U k 0 0 5 ∷ [])
-      (Called 1 ∷ Called 2 ∷ Applied (elementary.U (0 + numeral i) 0 0 5) ∷ [])
-      q is below refl refl refl refl refl (omega arith) refl
+  -- u1 of an angle that is k sixteenth turns
+  pub u1_comes : (f : Formula) (k : ℕ) → list_any is_unsupported (f ∷ []) ≡ false
+      → has_unknown (register_scope n) (apply (codes "u1") (f ∷ []) (operand i ∷ [])) ≡ false
+      → events_of (register_scope n) (application (codes "u1") (f ∷ []) (operand i ∷ []))
+      ≡ Called 1 ∷ Called 2 ∷ Applied (elementary.U (0 + numeral i) 0 0 k) ∷ []
+      → Comes (register_scope n) (application (codes "u1") (f ∷ []) (operand i ∷ [])) (elementary.U q 0 0 k ∷ [])
+  unfolding with_header
+  u1_comes f k supported known e = on_one_comes n i (codes "u1") (f ∷ []) (λ j. elementary.U j 0 0 k ∷ [])
+      (Called 1 ∷ Called 2 ∷ Applied (elementary.U (0 + numeral i) 0 0 k) ∷ [])
+      q is below supported known refl e refl (omega arith) refl
 
 module _ (n : ℕ) (i j : List ℕ) (q r : ℕ) (is : 0 + numeral i ≡ q) (are : 0 + numeral j ≡ r)
     (below : nat_le n (numeral i) ≡ false) (under : nat_le n (numeral j) ≡ false) (differ : ((0 + numeral j) == (0 + numeral i)) ≡ false) where
@@ -193,10 +196,10 @@ module _ (n : ℕ) (i j : List ℕ) (q r : ℕ) (is : 0 + numeral i ≡ q) (are 
       q r is are below under differ refl refl refl refl (omega arith) refl
 
   pub cz_comes : Comes (register_scope n) (application (codes "cz") [] (operand i ∷ operand j ∷ []))
-      (elementary.U r 2 0 4 ∷ elementary.Cx q r ∷ elementary.U r 2 0 4 ∷ [])
+      (elementary.U r quarter_turn 0 half_turn ∷ elementary.Cx q r ∷ elementary.U r quarter_turn 0 half_turn ∷ [])
   unfolding with_header angle_of values.applied gcd lowest limited phase_of literals.literal_value literals.decimal
-  cz_comes = on_two_comes n i j (codes "cz") (λ k l. elementary.U l 2 0 4 ∷ elementary.Cx k l ∷ elementary.U l 2 0 4 ∷ [])
-      (Called 1 ∷ Called 2 ∷ Called 3 ∷ Called 4 ∷ Applied (elementary.U (0 + numeral j) 2 0 4)
+  cz_comes = on_two_comes n i j (codes "cz") (λ k l. elementary.U l quarter_turn 0 half_turn ∷ elementary.Cx k l ∷ elementary.U l quarter_turn 0 half_turn ∷ [])
+      (Called 1 ∷ Called 2 ∷ Called 3 ∷ Called 4 ∷ Applied (elementary.U (0 + numeral j) quarter_turn 0 half_turn)
       ∷ Called 2 ∷ Called 3 ∷ Applied (elementary.Cx (0 + numeral i) (0 + numeral j))
-      ∷ Called 2 ∷ Called 3 ∷ Called 4 ∷ Applied (elementary.U (0 + numeral j) 2 0 4) ∷ [])
+      ∷ Called 2 ∷ Called 3 ∷ Called 4 ∷ Applied (elementary.U (0 + numeral j) quarter_turn 0 half_turn) ∷ [])
       q r is are below under differ refl refl refl refl (omega arith) refl

@@ -5,13 +5,13 @@ use Rattle.std.specs.List.{All, flat_map}
 use Rattle.std.proofs.lemmas.Bool.{ne_eqb, cases_eq, lt-leb}
 use Rattle.std.proofs.lemmas.List.Elements.{All-nil, All-cons, All-head, All-tail}
 use Rattle.std.proofs.lemmas.Grind.{flat_map-append}
-use Rattle.zx_model.specs.Phase.{turn, half_turn}
+use Rattle.zx_model.specs.Phase.{turn, half_turn, sum_of_phases}
 use Rattle.zx_model.specs.Proportional.{Proportional}
 use Rattle.zx_model.proofs.ProportionalLemmas.{proportional_trans}
 use Rattle.zx_gates.specs.Circuit.{Circuit, IsCircuit, IsGateOn, most_qubits, gate_odd_phases}
 use Rattle.zx_gates.specs.Elementary.{IsElementaryGateOn, elementary_odd_phases}
 use Rattle.zx_gates.specs.ElementaryMaps.{amp_elementary}
-use Rattle.zx_gates.specs.Lowering.{lowered, lowered_gate}
+use Rattle.zx_gates.specs.Lowering.{lowered, lowered_gate, phase_gates}
 use Rattle.zx_gates.specs.Maps.{amp}
 use Rattle.zx_gates.specs.declared.elementary.ElementaryGate.{ElementaryGate}
 use Rattle.zx_gates.specs.declared.elementary.ElementaryGate.TheVariants as elementary
@@ -28,7 +28,7 @@ use Rattle.qasm_writer.specs.Elements.{h, elements, elements_of, gate_without_cz
 use Rattle.qasm_writer.specs.Written.{gate_line, register_line, written}
 use Rattle.qasm_writer.proofs.Lines.{AreLines, no_line, line_then, version_is, include_is, register_is, register_text, version_line, include_line}
 use Rattle.qasm_writer.proofs.Statements.{register_scope, most_of_one, no_cause}
-use Rattle.qasm_writer.proofs.GateLines.{numeral-decimal, IsRest, rest_is, fine_then, by_phase}
+use Rattle.qasm_writer.proofs.GateLines.{numeral-decimal, IsRest, rest_is, fine_then}
 use Rattle.qasm_writer.proofs.Maps.{proportional_without_cz}
 
 -- ---- the head
@@ -180,7 +180,9 @@ text_means c is =
 
 -- ---- what the elements are
 phase_lowered : (q k : ℕ) → k ≢ 0 → k < turn → lowered (elements (Phase q k)) ≡ Phase q k ∷ []
-phase_lowered q k some below = by_phase (λ k. lowered (elements (Phase q k)) ≡ Phase q k ∷ []) refl refl refl refl refl refl refl k some below
+phase_lowered q k some below =
+    let same : sum_of_phases 0 k ≡ k = omega arith in
+    ap (λ j. phase_gates q j ++ []) same ∙ ap (λ b. (if b then [] else Phase q k ∷ []) ++ []) (ne_eqb k 0 some)
 
 gate_lowered : (n : ℕ) (gate : Gate) → IsGateOn n gate → lowered (elements gate) ≡ gate_without_cz gate
 gate_lowered n (H q) on = refl

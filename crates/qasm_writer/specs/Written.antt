@@ -1,7 +1,8 @@
 -- The OpenQASM 2.0 text of a circuit, as Cross, Bishop, Smolin and Gambetta, "Open quantum assembly language"
 -- (arXiv 1707.03429), define the language: the version, the include, one register, and a line for each gate.
-use Rattle.std.specs.Prelude.{ℕ, ◌++◌, ◌==◌, List, [], codes, decimal, if◌then◌else◌}
+use Rattle.std.specs.Prelude.{ℕ, ◌+◌, ◌/◌, ◌%◌, ◌++◌, ◌==◌, List, [], codes, decimal, if◌then◌else◌}
 use Rattle.std.specs.List.{flat_map}
+use Rattle.zx_model.specs.Phase.{half_turn, quarter_turn, eighth_turn, opposite_phase}
 use Rattle.zx_gates.specs.declared.gate.Gate.{Gate}
 use Rattle.zx_gates.specs.declared.gate.Gate.TheVariants.{H, Phase, Cz, Cx, Not}
 use Rattle.zx_gates.specs.Circuit.{Circuit}
@@ -10,15 +11,20 @@ use Rattle.zx_gates.specs.Circuit.{Circuit}
 abbrev pub register_line : ℕ → List ℕ
 register_line n = if n == 0 then [] else codes "qreg q[" ++ decimal n ++ codes "];\n"
 
--- the name of a phase gate of k eighth turns, 0 < k < 8
+-- u1 of k sixteenth turns, the angle k*pi/8 in lowest terms, for phases without a name of their own
+abbrev pub u1_name : ℕ → List ℕ
+u1_name k =
+    codes "u1(" ++ (if k == 1 then codes "pi/8)" else if k % 2 == 0 then decimal (k / 2) ++ codes "*pi/4)" else
+    decimal k ++ codes "*pi/8)")
+
+-- the name of a phase gate of k sixteenth turns, 0 < k < turn
 abbrev pub phase_name : ℕ → List ℕ
 phase_name k =
-    if k == 1 then codes "t" else
-    if k == 2 then codes "s" else
-    if k == 3 then codes "u1(3*pi/4)" else
-    if k == 4 then codes "z" else
-    if k == 5 then codes "u1(5*pi/4)" else
-    if k == 6 then codes "sdg" else codes "tdg"
+    if k == eighth_turn then codes "t" else
+    if k == quarter_turn then codes "s" else
+    if k == half_turn then codes "z" else
+    if k == half_turn + quarter_turn then codes "sdg" else
+    if k == opposite_phase eighth_turn then codes "tdg" else u1_name k
 
 abbrev pub qubit : ℕ → List ℕ
 qubit q = codes "q[" ++ decimal q ++ codes "]"

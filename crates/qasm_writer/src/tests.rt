@@ -2,7 +2,7 @@
 use crate::write_text;
 use std::test::Fail;
 use zx_gates::{Gate, GateList};
-use zx_model::Eighth;
+use zx_model::Sixteenth;
 
 #[test]
 fn every_gate_has_its_line(rt: HostRuntime) -> Result<(), Fail> {
@@ -14,14 +14,11 @@ fn every_gate_has_its_line(rt: HostRuntime) -> Result<(), Fail> {
         control: 10,
         target: 2,
     })?;
-    list.push(Gate::Phase(1, Eighth::new(1)))?;
-    list.push(Gate::Phase(1, Eighth::new(2)))?;
-    list.push(Gate::Phase(1, Eighth::new(3)))?;
-    list.push(Gate::Phase(1, Eighth::new(4)))?;
-    list.push(Gate::Phase(1, Eighth::new(5)))?;
-    list.push(Gate::Phase(1, Eighth::new(6)))?;
-    list.push(Gate::Phase(1, Eighth::new(7)))?;
-    let lines: [&[u8]; 14] = [
+    for turns in 1..16 {
+        assert!(rt; list.qubits() == 12 && turns != 0);
+        list.push(Gate::Phase(1, Sixteenth::new(turns)))?;
+    }
+    let lines: [&[u8]; 22] = [
         b"OPENQASM 2.0;\n",
         b"include \"qelib1.inc\";\n",
         b"qreg q[12];\n",
@@ -29,13 +26,21 @@ fn every_gate_has_its_line(rt: HostRuntime) -> Result<(), Fail> {
         b"x q[11];\n",
         b"cz q[3],q[10];\n",
         b"cx q[10],q[2];\n",
+        b"u1(pi/8) q[1];\n",
         b"t q[1];\n",
+        b"u1(3*pi/8) q[1];\n",
         b"s q[1];\n",
+        b"u1(5*pi/8) q[1];\n",
         b"u1(3*pi/4) q[1];\n",
+        b"u1(7*pi/8) q[1];\n",
         b"z q[1];\n",
+        b"u1(9*pi/8) q[1];\n",
         b"u1(5*pi/4) q[1];\n",
+        b"u1(11*pi/8) q[1];\n",
         b"sdg q[1];\n",
+        b"u1(13*pi/8) q[1];\n",
         b"tdg q[1];\n",
+        b"u1(15*pi/8) q[1];\n",
     ];
     let mut text = Vec::new(rt.alloc());
     for line in lines {

@@ -3,12 +3,12 @@
 ghost use Rattle.std.specs.Prelude.{◌≡◌, ◌++◌, IfOk, OnOk, codes, decimal};
 ghost use Rattle.qasm_writer.specs.Elements.{elements_of};
 ghost use Rattle.qasm_scope.specs.Texts.{TextMeans};
-ghost use Rattle.qasm_writer.specs.Written.{written, gate_line, on_one, on_two, qubit, phase_name, register_line};
+ghost use Rattle.qasm_writer.specs.Written.{written, gate_line, on_one, on_two, qubit, phase_name, u1_name, register_line};
 
 use itoa::Buffer;
 use std::alloc::{AllocError, Global};
 use zx_gates::{Gate, GateList, Qubit};
-use zx_model::Eighth;
+use zx_model::Sixteenth;
 
 /// The circuit as an OpenQASM 2.0 text: the version, the include, the register where there is a qubit, and a line
 /// for each gate, the first to act first. Each line ends with a line feed.
@@ -50,25 +50,51 @@ fn push_gate(text: &mut Vec<u8>, gate: Gate) -> Result<(), AllocError>
 {
     match gate {
         Gate::H(q) => push_on_one(text, b"h", q),
-        Gate::Phase(q, phase) => push_on_one(text, phase_name(phase), q),
+        Gate::Phase(q, phase) => {
+            push_phase_name(text, phase)?;
+            push_operand(text, q)
+        }
         Gate::Cz(q, r) => push_on_two(text, b"cz", q, r),
         Gate::Cx { control, target } => push_on_two(text, b"cx", control, target),
         Gate::Not(q) => push_on_one(text, b"x", q),
     }
 }
 
-// The name of a phase gate.
-fn phase_name(phase: Eighth) -> &'static [u8]
-    ensures { result.now ≡ phase_name phase }
+// Adds the name of a phase gate.
+fn push_phase_name(text: &mut Vec<u8>, phase: Sixteenth) -> Result<(), AllocError>
+    ensures { OnOk result (text.new.items ≡ text.old.items ++ phase_name phase) }
 {
-    match phase.get() {
-        1 => b"t",
-        2 => b"s",
-        3 => b"u1(3*pi/4)",
-        4 => b"z",
-        5 => b"u1(5*pi/4)",
-        6 => b"sdg",
-        _ => b"tdg",
+    let eighth = Sixteenth::eighth_turn();
+    let quarter = Sixteenth::quarter_turn();
+    let half = Sixteenth::half_turn();
+    if phase == eighth {
+        text.extend_from_slice(b"t")
+    } else if phase == quarter {
+        text.extend_from_slice(b"s")
+    } else if phase == half {
+        text.extend_from_slice(b"z")
+    } else if phase == half.add(quarter) {
+        text.extend_from_slice(b"sdg")
+    } else if phase == eighth.neg() {
+        text.extend_from_slice(b"tdg")
+    } else {
+        push_u1(text, phase.get())
+    }
+}
+
+// Adds u1 with an angle of so many sixteenth turns.
+fn push_u1(text: &mut Vec<u8>, turns: u8) -> Result<(), AllocError>
+    ensures { OnOk result (text.new.items ≡ text.old.items ++ u1_name turns) }
+{
+    text.extend_from_slice(b"u1(")?;
+    if turns == 1 {
+        text.extend_from_slice(b"pi/8)")
+    } else if turns % 2 == 0 {
+        push_number(text, u16::from(turns / 2))?;
+        text.extend_from_slice(b"*pi/4)")
+    } else {
+        push_number(text, u16::from(turns))?;
+        text.extend_from_slice(b"*pi/8)")
     }
 }
 
@@ -77,6 +103,14 @@ fn push_on_one(text: &mut Vec<u8>, name: &[u8], q: Qubit) -> Result<(), AllocErr
     ensures { OnOk result (text.new.items ≡ text.old.items ++ on_one name.now q) }
 {
     text.extend_from_slice(name)?;
+    push_operand(text, q)
+}
+
+// Adds what stands behind the name of a gate on one qubit.
+fn push_operand(text: &mut Vec<u8>, q: Qubit) -> Result<(), AllocError>
+    ensures { OnOk result
+        (text.new.items ≡ text.old.items ++ codes " " ++ qubit q ++ codes ";\n") }
+{
     text.extend_from_slice(b" ")?;
     push_qubit(text, q)?;
     text.extend_from_slice(b";\n")?;

@@ -1,21 +1,30 @@
-//! Numbers modulo 17, where 2 is a primitive eighth root of unity, as 2^4 is -1.
+//! Numbers modulo 65537, where 4 is a primitive sixteenth root of unity, as 4^8 is -1.
 
-use zx_model::Eighth;
+use zx_model::Sixteenth;
 
-pub fn plus(a: u32, b: u32) -> u32 {
-    a.wrapping_add(b) % 17
+pub const MODULUS: u64 = 65537;
+
+// What stands for exp(i*pi/8).
+const ROOT: u64 = 4;
+
+pub fn plus(a: u64, b: u64) -> u64 {
+    a.wrapping_add(b) % MODULUS
 }
 
-pub fn times(a: u32, b: u32) -> u32 {
-    a.wrapping_mul(b) % 17
+pub fn times(a: u64, b: u64) -> u64 {
+    a.wrapping_mul(b) % MODULUS
 }
 
 // -1 where the bit is set.
-pub fn sign(bit: bool) -> u32 {
-    if bit { 16 } else { 1 }
+pub fn sign(bit: bool) -> u64 {
+    if bit { MODULUS - 1 } else { 1 }
 }
 
-pub fn root_power(k: Eighth) -> u32 {
-    let powers = [1, 2, 4, 8, 16, 15, 13, 9];
-    powers[usize::from(k.get())]
+// A power of it.
+pub fn root_power(k: Sixteenth) -> u64 {
+    let mut power = 1;
+    for _ in 0..k.get() {
+        power = times(power, ROOT);
+    }
+    power
 }

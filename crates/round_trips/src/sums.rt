@@ -1,19 +1,20 @@
-//! The sums of graphs and the maps of circuits, both on two qubits and modulo 17, worked out here anew. A matrix has
-//! its entries by the bits of the inputs and then by those of the outputs; the first qubit has the lowest bit.
+//! The sums of graphs and the maps of circuits, both on two qubits and modulo 65537, worked out here
+//! anew. A matrix has its entries by the bits of the inputs and then by those of the outputs; the
+//! first qubit has the lowest bit.
 
-use crate::modular::{plus, root_power, sign, times};
+use crate::modular::{MODULUS, plus, root_power, sign, times};
 use open_graph::{End, OpenGraph, Plane, VertexId};
 use std::alloc::Global;
 use std::process::Abort;
 use std::test::Fail;
 use zx_gates::{Gate, GateList};
-use zx_model::Eighth;
+use zx_model::Sixteenth;
 
-pub type Matrix = [[u32; 4]; 4];
+pub type Matrix = [[u64; 4]; 4];
 
 // Whether the first matrix is the second one times a number other than 0.
 pub fn are_proportional(first: &Matrix, second: &Matrix) -> bool {
-    for factor in 1..17 {
+    for factor in 1..MODULUS {
         if is_multiple(first, second, factor) {
             return true;
         }
@@ -21,7 +22,7 @@ pub fn are_proportional(first: &Matrix, second: &Matrix) -> bool {
     false
 }
 
-fn is_multiple(first: &Matrix, second: &Matrix, factor: u32) -> bool {
+fn is_multiple(first: &Matrix, second: &Matrix, factor: u64) -> bool {
     for x in 0..4 {
         for y in 0..4 {
             if first[x][y] != times(factor, second[x][y]) {
@@ -42,7 +43,7 @@ pub fn sum(rt: &impl Abort, alloc: Global, graph: &OpenGraph) -> Result<Matrix, 
     }
     assert!(rt; ids.len() <= 10);
     let labels = 1u32 << ids.len();
-    let mut matrix = [[0u32; 4]; 4];
+    let mut matrix = [[0u64; 4]; 4];
     for x in 0..4u32 {
         for y in 0..4u32 {
             let mut entry = 0;
@@ -56,7 +57,7 @@ pub fn sum(rt: &impl Abort, alloc: Global, graph: &OpenGraph) -> Result<Matrix, 
 }
 
 // What the sum has for one choice of labels.
-fn term(graph: &OpenGraph, ids: &[VertexId], labels: u32, x: u32, y: u32) -> u32 {
+fn term(graph: &OpenGraph, ids: &[VertexId], labels: u32, x: u32, y: u32) -> u64 {
     let mut product = 1;
     for v in ids {
         product = times(product, vertex_factor(graph, ids, labels, *v));
@@ -66,7 +67,7 @@ fn term(graph: &OpenGraph, ids: &[VertexId], labels: u32, x: u32, y: u32) -> u32
 }
 
 // The factors of a vertex, and of its edges to vertices of higher ids.
-fn vertex_factor(graph: &OpenGraph, ids: &[VertexId], labels: u32, v: VertexId) -> u32 {
+fn vertex_factor(graph: &OpenGraph, ids: &[VertexId], labels: u32, v: VertexId) -> u64 {
     if !graph.is_live(v) {
         return 0;
     }
@@ -81,7 +82,7 @@ fn vertex_factor(graph: &OpenGraph, ids: &[VertexId], labels: u32, v: VertexId) 
     product
 }
 
-fn weight_factor(plane: Plane, phase: Eighth, label: bool) -> u32 {
+fn weight_factor(plane: Plane, phase: Sixteenth, label: bool) -> u64 {
     match plane {
         Plane::XY if label => root_power(phase),
         Plane::XY => 1,
@@ -89,7 +90,7 @@ fn weight_factor(plane: Plane, phase: Eighth, label: bool) -> u32 {
     }
 }
 
-fn ends_factor(ends: &[End], ids: &[VertexId], labels: u32, bits: u32) -> u32 {
+fn ends_factor(ends: &[End], ids: &[VertexId], labels: u32, bits: u32) -> u64 {
     let mut product = 1;
     let mut rest = bits;
     for end in ends {
@@ -121,9 +122,9 @@ fn label_of(ids: &[VertexId], labels: u32, v: VertexId) -> bool {
 
 // The map of a circuit on two qubits, where H has no factor 1/sqrt 2. It is not 0, since no gate's is singular.
 pub fn map(circuit: &GateList) -> Matrix {
-    let mut matrix = [[0u32; 4]; 4];
+    let mut matrix = [[0u64; 4]; 4];
     for x in 0..4 {
-        let mut state = [0u32; 4];
+        let mut state = [0u64; 4];
         state[x] = 1;
         for gate in circuit.gates() {
             state = after(gate, &state);
@@ -133,8 +134,8 @@ pub fn map(circuit: &GateList) -> Matrix {
     matrix
 }
 
-fn after(gate: &Gate, state: &[u32; 4]) -> [u32; 4] {
-    let mut next = [0u32; 4];
+fn after(gate: &Gate, state: &[u64; 4]) -> [u64; 4] {
+    let mut next = [0u64; 4];
     for z in 0..4u32 {
         let amplitude = state[z as usize];
         match *gate {
@@ -161,7 +162,7 @@ fn after(gate: &Gate, state: &[u32; 4]) -> [u32; 4] {
     next
 }
 
-fn add(state: &mut [u32; 4], z: u32, amplitude: u32) {
+fn add(state: &mut [u64; 4], z: u32, amplitude: u64) {
     let place = z as usize % 4;
     state[place] = plus(state[place], amplitude);
 }

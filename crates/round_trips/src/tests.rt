@@ -1,11 +1,11 @@
 //! Circuits on two qubits, whose vertices are named in the order of their ids: a and b stand for the qubits, and each H
 //! adds one.
 
-use crate::trips::round_trip;
+use crate::trips::{reduced_trip, round_trip};
 use open_graph::VertexId;
 use std::test::Fail;
 use zx_gates::Gate;
-use zx_model::Eighth;
+use zx_model::Sixteenth;
 use zx_reduce::Step;
 
 fn id(number: usize) -> VertexId {
@@ -20,8 +20,12 @@ fn delete(v: usize) -> Step {
     Step::Delete(id(v))
 }
 
+fn phase(turns: Sixteenth) -> Gate {
+    Gate::Phase(0, turns)
+}
+
 fn t() -> Gate {
-    Gate::Phase(0, Eighth::new(1))
+    phase(Sixteenth::new(2))
 }
 
 // Wire a c d e, with a phase at c and an edge bd. The pivot of c and d, and the deletion of d, leave a gadget c on the
@@ -81,4 +85,93 @@ fn wires_that_cross(rt: HostRuntime) -> Result<(), Fail> {
         delete(7),
     ];
     round_trip(&rt, rt.alloc(), &gates, &steps)
+}
+
+// One, three and five sixteenth turns, of which T gates make none.
+fn one() -> Sixteenth {
+    Sixteenth::new(1)
+}
+
+fn three() -> Sixteenth {
+    Sixteenth::new(3)
+}
+
+fn five() -> Sixteenth {
+    Sixteenth::new(5)
+}
+
+// The gadgets c and e of before, of one and three sixteenth turns.
+#[test]
+fn gadgets_of_sixteenth_turns(rt: HostRuntime) -> Result<(), Fail> {
+    let gates = [
+        Gate::H(0),
+        phase(one()),
+        Gate::H(0),
+        Gate::Cz(0, 1),
+        Gate::H(0),
+        phase(three()),
+        Gate::H(0),
+        Gate::H(0),
+    ];
+    let steps = [pivot(2, 3), delete(3), pivot(4, 5), delete(5)];
+    round_trip(&rt, rt.alloc(), &gates, &steps)
+}
+
+// A phase of five sixteenth turns before a pivot at the boundary.
+#[test]
+fn a_sixteenth_turn_at_the_boundary(rt: HostRuntime) -> Result<(), Fail> {
+    let gates = [Gate::H(0), phase(five()), Gate::H(0), Gate::Cz(0, 1)];
+    let steps = [Step::SplitOutput(id(3)), pivot(2, 3), delete(3)];
+    round_trip(&rt, rt.alloc(), &gates, &steps)
+}
+
+// Two phases, each on the sum of both bits.
+fn two_on_the_sum(first: Sixteenth, second: Sixteenth) -> [Gate; 14] {
+    [
+        Gate::H(0),
+        Gate::Cz(0, 1),
+        Gate::H(0),
+        phase(first),
+        Gate::H(0),
+        Gate::Cz(0, 1),
+        Gate::H(0),
+        Gate::H(0),
+        Gate::Cz(0, 1),
+        Gate::H(0),
+        phase(second),
+        Gate::H(0),
+        Gate::Cz(0, 1),
+        Gate::H(0),
+    ]
+}
+
+// One and three sixteenth turns are a quarter turn together, which isn't odd; one and one are an
+// eighth, which is.
+#[test]
+fn odd_phases_are_fused(rt: HostRuntime) -> Result<(), Fail> {
+    let even_sum = reduced_trip(&rt, rt.alloc(), &two_on_the_sum(one(), three()))?;
+    assert_eq!(rt; even_sum, 0);
+    let odd_sum = reduced_trip(&rt, rt.alloc(), &two_on_the_sum(one(), one()))?;
+    assert_eq!(rt; odd_sum, 1);
+    Ok(())
+}
+
+#[test]
+fn odd_phases_keep_their_map(rt: HostRuntime) -> Result<(), Fail> {
+    let gates = [
+        phase(one()),
+        Gate::H(0),
+        phase(three()),
+        Gate::Cz(0, 1),
+        Gate::H(1),
+        Gate::Phase(1, three()),
+        Gate::Cz(0, 1),
+        Gate::H(0),
+        phase(five()),
+        Gate::H(1),
+        Gate::Phase(1, one()),
+        Gate::H(0),
+    ];
+    reduced_trip(&rt, rt.alloc(), &gates)?;
+    Ok(())
 }

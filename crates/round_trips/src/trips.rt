@@ -1,6 +1,6 @@
 //! A circuit on two qubits into its graph, through rewrites, and back into gates.
 
-ghost use Rattle.std.specs.Prelude.{◌≡◌, ◌≢◌, ℕ, true, false, IfOk, OnOk};
+ghost use Rattle.std.specs.Prelude.{◌≡◌, ◌≢◌, ◌<◌, ℕ, true, false, IfOk, OnOk};
 ghost use Rattle.zx_calculus.specs.Graph.{plane_of, Live};
 ghost use Rattle.zx_calculus.specs.Graph as zx;
 ghost use Rattle.gflow_laws.specs.Flow.{IsFlow};
@@ -9,28 +9,77 @@ use crate::sums::{are_proportional, map, sum};
 use circuit_graph::translate;
 use open_graph::{OpenGraph, Plane, VertexId};
 use std::alloc::Global;
+use std::marker::Brand;
 use std::process::Abort;
+use std::sync::ledger::{Blank, Ledger};
 use std::test::Fail;
 use zx_extract::extract;
 use zx_flow::Flow;
-use zx_gates::{Gate, GateList};
-use zx_reduce::{Step, apply};
+use zx_gates::{Gate, GateList, counts};
+use zx_reduce::{Step, Steps, Trace, apply, reduce};
 
-// The gates that are found in the graph that steps make of the gates' graph have the graph's sum as their map, up to a
-// number other than 0.
+// The gates that are found in the graph that steps make of the gates' graph have that graph's sum
+// as their map, and that of the gates, up to a number other than 0.
 pub fn round_trip(
     rt: &impl Abort,
     alloc: Global,
     gates: &[Gate],
     steps: &[Step],
 ) -> Result<(), Fail> {
-    let (graph, flow) = rewritten(alloc, &circuit(rt, alloc, gates)?, steps)?;
+    let given = circuit(rt, alloc, gates)?;
+    let (graph, flow) = rewritten(alloc, &given, steps)?;
+    let wanted = sum(rt, alloc, &graph)?;
+    let found = extracted(rt, alloc, graph, flow)?;
+    assert!(rt; are_proportional(&wanted, &map(&found)));
+    assert!(rt; are_proportional(&map(&given), &map(&found)));
+    Ok(())
+}
+
+// The gates that are found in the reduced graph of the gates' graph have their map, up to a number
+// other than 0. The answer is how many odd phases are left.
+pub fn reduced_trip(rt: &impl Abort, alloc: Global, gates: &[Gate]) -> Result<u64, Fail> {
+    let given = circuit(rt, alloc, gates)?;
+    let (graph, flow) = reduced(alloc, &given)?;
+    let found = extracted(rt, alloc, graph, flow)?;
+    assert!(rt; are_proportional(&map(&given), &map(&found)));
+    Ok(counts(&found).odd)
+}
+
+// The circuit of a graph without XZ vertices.
+fn extracted(rt: &impl Abort, alloc: Global, graph: OpenGraph, flow: Flow) -> Result<GateList, Fail>
+    requires { IsFlow graph.graph flow.flow }
+{
     assert!(rt; has_no_xz(&graph));
     assert!(rt; graph.inputs().len() == graph.outputs().len());
     assert!(rt; graph.outputs().len() <= 1024);
-    let wanted = sum(rt, alloc, &graph)?;
     let found = extract(alloc, graph, flow)?;
-    assert!(rt; are_proportional(&wanted, &map(&found)));
+    Ok(found)
+}
+
+// What simplification makes of a circuit's graph with its flow.
+fn reduced(alloc: Global, circuit: &GateList) -> Result<(OpenGraph, Flow), Fail>
+    ensures { IfOk result (λ made. IsFlow made.0.graph made.1.flow) }
+{
+    let (mut graph, mut flow) = translate(alloc, circuit)?;
+    reduce_counted::<Brand>(Blank::new(1), alloc, &mut graph, &mut flow)?;
+    Ok((graph, flow))
+}
+
+fn reduce_counted<L: Ledger>(
+    blank: Blank,
+    alloc: Global,
+    graph: &mut OpenGraph,
+    flow: &mut Flow,
+) -> Result<(), Fail>
+    requires name { blank.name ≡ L.name }
+    requires parts { blank.parts ≡ L.parts }
+    requires some { 0 < L.parts }
+    requires flow { IsFlow graph.old.graph flow.old.flow }
+    ensures { OnOk result (IsFlow graph.new.graph flow.new.flow) }
+{
+    let mut trace = Trace::new(alloc);
+    let mut steps = Steps::<L>::new(blank);
+    reduce(graph, flow, &mut trace, &mut steps)?;
     Ok(())
 }
 

@@ -6,7 +6,7 @@ ghost use Rattle.zx_boundary.specs.Internal.Spiders.{IsSpiderAdded};
 
 use open_graph::{End, OpenGraph, Plane, VertexId};
 use std::alloc::AllocError;
-use zx_model::Eighth;
+use zx_model::Sixteenth;
 
 // A new spider of phase 0, adjacent to b alone.
 pub(crate) fn add_spider(g: &mut OpenGraph, b: VertexId) -> Result<VertexId, AllocError>
@@ -15,7 +15,7 @@ pub(crate) fn add_spider(g: &mut OpenGraph, b: VertexId) -> Result<VertexId, All
     ensures added { IfOk result (λ new. IsSpiderAdded g.old.graph b new g.new.graph) }
     ensures valid { WellFormed g.new.graph }
 {
-    let new = g.add_vertex(Plane::XY, Eighth::new(0))?;
+    let new = g.add_vertex(Plane::XY, Sixteenth::new(0))?;
     g.toggle_edge(b, new)?;
     Ok(new)
 }

@@ -7,7 +7,7 @@ use Rattle.std.specs.Prelude.{Result, Ok, Err, OnOk}
 use Rattle.zx_model.specs.Bits.{xor, member}
 use Rattle.zx_calculus.specs.Graph.{Distinct}
 use Rattle.zx_calculus.proofs.Booleans.{or-apart, or-false, and-false}
-use Rattle.zx_calculus.proofs.Ids.{by_equal, eqb_comm, or-left, or-right, member-here, member-there, member-append, apart_of_member}
+use Rattle.zx_calculus.proofs.Ids.{by_equal, eqb_comm, member-here, member-there, member-append, apart_of_member}
 
 -- a fact that follows where a call went well
 pub on_ok : {A B P Q : Type 0} (r : Result A B) → (P → Q) → OnOk r P → OnOk r Q
@@ -29,13 +29,6 @@ fresh_next (x ∷ xs) (suc i) d lt =
     (ne_eqb (get_or xs i 0) x (apart_of_member (get_or xs i 0) x xs (member-get_or xs i within) d.0))
     (fresh_next xs i d.1 within)
 
-pub ids_apart : (xs : List ℕ) (i j : ℕ) → Distinct xs → i < length xs → j < i → get_or xs i 0 ≢ get_or xs j 0
-ids_apart [] i j d lt before = absurd (omega arith)
-ids_apart (x ∷ xs) zero j d lt before = absurd (omega arith)
-ids_apart (x ∷ xs) (suc i) zero d lt before =
-    let within : i < length xs = omega arith in apart_of_member (get_or xs i 0) x xs (member-get_or xs i within) d.0
-ids_apart (x ∷ xs) (suc i) (suc j) d lt before = ids_apart xs i j d.1 (omega arith) (omega arith)
-
 -- one more of them
 pub member-grown : (xs : List ℕ) (i p : ℕ) → Distinct xs → i < length xs →
     member p (take (suc i) xs) ≡ xor (member p (take i xs)) (eqb p (get_or xs i 0))
@@ -49,12 +42,6 @@ member-grown xs i p d lt =
         by_equal p (get_or xs i 0) (λ t e. ap (λ q. member q (take i xs) && eqb p (get_or xs i 0)) e
         ∙ ap (λ b. b && eqb p (get_or xs i 0)) (fresh_next xs i d lt))
         (λ f n. ap (λ b. member p (take i xs) && b) f ∙ and-false (member p (take i xs)))
-
-pub absent-take : (xs : List ℕ) (i p : ℕ) → member p xs ≡ false → member p (take i xs) ≡ false
-absent-take xs zero p absent = refl
-absent-take [] (suc i) p absent = refl
-absent-take (x ∷ xs) (suc i) p absent = ap₂ (λ a b. a || b) (or-left _ _ absent)
-    (absent-take xs i p (or-right _ _ absent))
 
 -- what the code reads at a place
 pub at_place : (xs row : List ℕ) (i x : ℕ) → row ≡ xs → i < length xs → x ≡ get_or row i x → x ≡ get_or xs i 0

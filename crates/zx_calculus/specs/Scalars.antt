@@ -1,5 +1,5 @@
--- The scalars of quarter and half turns, of which the factors of rewrites are made. With i = w^quarter_turn, 1+i is
--- the root of two times w, and 1-i the root of two times the inverse of w.
+-- The scalars of quarter and half turns, of which the factors of rewrites are made. With i = z^quarter_turn, 1+i is
+-- the root of two times z^eighth_turn, and 1-i the root of two times the inverse of that.
 use Rattle.std.specs.Prelude.{ℕ, Bool, if◌then◌else◌, List, [], ◌∷◌}
 use Rattle.zx_model.specs.Number.{Number, one, add, neg, mul, root_power}
 use Rattle.zx_model.specs.Constants.{i}

@@ -10,11 +10,11 @@ use Rattle.zx_model.specs.Bits.{xor}
 use Rattle.zx_model.specs.Sums.{total, all_labels, label_of}
 use Rattle.zx_calculus.specs.Graph.{Plane, XY, XZ, YZ, Kind, Vertex, Edge, End, Graph, ids}
 
--- the power w^(k*h)
+-- the power z^(k*h)
 abbrev pub spider : ℕ → Bool → Number
 spider k h = if h then root_power k else one
 
--- the factor of a vertex with label h: w^(k*h) in XY, 1+(-1)^h*w^k in YZ, (1+(-1)^h*w^k)*i^h in XZ
+-- the factor of a vertex with label h: z^(k*h) in XY, 1+(-1)^h*z^k in YZ, (1+(-1)^h*z^k)*i^h in XZ
 abbrev pub factor_in : Plane → ℕ → Bool → Number
 factor_in XY k h = spider k h
 factor_in YZ k h = add one (mul (sign h) (root_power k))

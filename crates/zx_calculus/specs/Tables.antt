@@ -1,62 +1,107 @@
 -- Tables of the factors of a vertex, computed apart from the definitions, and sums of small graphs.
 use Rattle.std.specs.Prelude.{ℕ, ℤ, pos, negsuc, true, List, [], ◌∷◌}
-use Rattle.zx_model.specs.Number.{Number}
+use Rattle.zx_model.specs.Number.{Number, one}
 use Rattle.zx_calculus.specs.Graph.{XY, Graph}
 use Rattle.zx_calculus.specs.Worked.{vertex, edge, plain, graph}
 
-abbrev pub number : ℤ → ℤ → ℤ → ℤ → Number
-number a b c d = record { c0 = a; c1 = b; c2 = c; c3 = d }
+-- a + b*z + c*z^2 + .. + h*z^7, with z*z = w
+abbrev pub number : ℤ → ℤ → ℤ → ℤ → ℤ → ℤ → ℤ → ℤ → Number
+number a b c d e f g h = record {
+  plain = record { c0 = a; c1 = c; c2 = e; c3 = g };
+  turned = record { c0 = b; c1 = d; c2 = f; c3 = h };
+}
 
 abbrev pub all_phases : List ℕ
-all_phases = 0 ∷ 1 ∷ 2 ∷ 3 ∷ 4 ∷ 5 ∷ 6 ∷ 7 ∷ []
+all_phases = 0 ∷ 1 ∷ 2 ∷ 3 ∷ 4 ∷ 5 ∷ 6 ∷ 7 ∷ 8 ∷ 9 ∷ 10 ∷ 11 ∷ 12 ∷ 13 ∷ 14 ∷ 15 ∷ []
 
 -- labels 0 in XY, at each phase
 abbrev pub factors_XY_0 : List Number
 factors_XY_0 =
-    number (pos 1) (pos 0) (pos 0) (pos 0) ∷ number (pos 1) (pos 0) (pos 0) (pos 0)
-    ∷ number (pos 1) (pos 0) (pos 0) (pos 0) ∷ number (pos 1) (pos 0) (pos 0) (pos 0)
-    ∷ number (pos 1) (pos 0) (pos 0) (pos 0) ∷ number (pos 1) (pos 0) (pos 0) (pos 0)
-    ∷ number (pos 1) (pos 0) (pos 0) (pos 0) ∷ number (pos 1) (pos 0) (pos 0) (pos 0) ∷ []
+    one ∷ one ∷ one ∷ one ∷ one ∷ one ∷ one ∷ one ∷ one ∷ one ∷ one ∷ one ∷ one ∷ one ∷ one ∷ one ∷ []
 
--- labels 1 in XY, at each phase
+-- labels 1 in XY, at each phase: the powers of z
 abbrev pub factors_XY_1 : List Number
 factors_XY_1 =
-    number (pos 1) (pos 0) (pos 0) (pos 0) ∷ number (pos 0) (pos 1) (pos 0) (pos 0)
-    ∷ number (pos 0) (pos 0) (pos 1) (pos 0) ∷ number (pos 0) (pos 0) (pos 0) (pos 1)
-    ∷ number (negsuc 0) (pos 0) (pos 0) (pos 0) ∷ number (pos 0) (negsuc 0) (pos 0) (pos 0)
-    ∷ number (pos 0) (pos 0) (negsuc 0) (pos 0) ∷ number (pos 0) (pos 0) (pos 0) (negsuc 0) ∷ []
-
--- labels 0 in XZ, at each phase
-abbrev pub factors_XZ_0 : List Number
-factors_XZ_0 =
-    number (pos 2) (pos 0) (pos 0) (pos 0) ∷ number (pos 1) (pos 1) (pos 0) (pos 0)
-    ∷ number (pos 1) (pos 0) (pos 1) (pos 0) ∷ number (pos 1) (pos 0) (pos 0) (pos 1)
-    ∷ number (pos 0) (pos 0) (pos 0) (pos 0) ∷ number (pos 1) (negsuc 0) (pos 0) (pos 0)
-    ∷ number (pos 1) (pos 0) (negsuc 0) (pos 0) ∷ number (pos 1) (pos 0) (pos 0) (negsuc 0) ∷ []
-
--- labels 1 in XZ, at each phase
-abbrev pub factors_XZ_1 : List Number
-factors_XZ_1 =
-    number (pos 0) (pos 0) (pos 0) (pos 0) ∷ number (pos 0) (pos 0) (pos 1) (negsuc 0)
-    ∷ number (pos 1) (pos 0) (pos 1) (pos 0) ∷ number (pos 0) (pos 1) (pos 1) (pos 0)
-    ∷ number (pos 0) (pos 0) (pos 2) (pos 0) ∷ number (pos 0) (pos 0) (pos 1) (pos 1)
-    ∷ number (negsuc 0) (pos 0) (pos 1) (pos 0) ∷ number (pos 0) (negsuc 0) (pos 1) (pos 0) ∷ []
+    number (pos 1) (pos 0) (pos 0) (pos 0) (pos 0) (pos 0) (pos 0) (pos 0)
+    ∷ number (pos 0) (pos 1) (pos 0) (pos 0) (pos 0) (pos 0) (pos 0) (pos 0)
+    ∷ number (pos 0) (pos 0) (pos 1) (pos 0) (pos 0) (pos 0) (pos 0) (pos 0)
+    ∷ number (pos 0) (pos 0) (pos 0) (pos 1) (pos 0) (pos 0) (pos 0) (pos 0)
+    ∷ number (pos 0) (pos 0) (pos 0) (pos 0) (pos 1) (pos 0) (pos 0) (pos 0)
+    ∷ number (pos 0) (pos 0) (pos 0) (pos 0) (pos 0) (pos 1) (pos 0) (pos 0)
+    ∷ number (pos 0) (pos 0) (pos 0) (pos 0) (pos 0) (pos 0) (pos 1) (pos 0)
+    ∷ number (pos 0) (pos 0) (pos 0) (pos 0) (pos 0) (pos 0) (pos 0) (pos 1)
+    ∷ number (negsuc 0) (pos 0) (pos 0) (pos 0) (pos 0) (pos 0) (pos 0) (pos 0)
+    ∷ number (pos 0) (negsuc 0) (pos 0) (pos 0) (pos 0) (pos 0) (pos 0) (pos 0)
+    ∷ number (pos 0) (pos 0) (negsuc 0) (pos 0) (pos 0) (pos 0) (pos 0) (pos 0)
+    ∷ number (pos 0) (pos 0) (pos 0) (negsuc 0) (pos 0) (pos 0) (pos 0) (pos 0)
+    ∷ number (pos 0) (pos 0) (pos 0) (pos 0) (negsuc 0) (pos 0) (pos 0) (pos 0)
+    ∷ number (pos 0) (pos 0) (pos 0) (pos 0) (pos 0) (negsuc 0) (pos 0) (pos 0)
+    ∷ number (pos 0) (pos 0) (pos 0) (pos 0) (pos 0) (pos 0) (negsuc 0) (pos 0)
+    ∷ number (pos 0) (pos 0) (pos 0) (pos 0) (pos 0) (pos 0) (pos 0) (negsuc 0) ∷ []
 
 -- labels 0 in YZ, at each phase
 abbrev pub factors_YZ_0 : List Number
 factors_YZ_0 =
-    number (pos 2) (pos 0) (pos 0) (pos 0) ∷ number (pos 1) (pos 1) (pos 0) (pos 0)
-    ∷ number (pos 1) (pos 0) (pos 1) (pos 0) ∷ number (pos 1) (pos 0) (pos 0) (pos 1)
-    ∷ number (pos 0) (pos 0) (pos 0) (pos 0) ∷ number (pos 1) (negsuc 0) (pos 0) (pos 0)
-    ∷ number (pos 1) (pos 0) (negsuc 0) (pos 0) ∷ number (pos 1) (pos 0) (pos 0) (negsuc 0) ∷ []
+    number (pos 2) (pos 0) (pos 0) (pos 0) (pos 0) (pos 0) (pos 0) (pos 0)
+    ∷ number (pos 1) (pos 1) (pos 0) (pos 0) (pos 0) (pos 0) (pos 0) (pos 0)
+    ∷ number (pos 1) (pos 0) (pos 1) (pos 0) (pos 0) (pos 0) (pos 0) (pos 0)
+    ∷ number (pos 1) (pos 0) (pos 0) (pos 1) (pos 0) (pos 0) (pos 0) (pos 0)
+    ∷ number (pos 1) (pos 0) (pos 0) (pos 0) (pos 1) (pos 0) (pos 0) (pos 0)
+    ∷ number (pos 1) (pos 0) (pos 0) (pos 0) (pos 0) (pos 1) (pos 0) (pos 0)
+    ∷ number (pos 1) (pos 0) (pos 0) (pos 0) (pos 0) (pos 0) (pos 1) (pos 0)
+    ∷ number (pos 1) (pos 0) (pos 0) (pos 0) (pos 0) (pos 0) (pos 0) (pos 1)
+    ∷ number (pos 0) (pos 0) (pos 0) (pos 0) (pos 0) (pos 0) (pos 0) (pos 0)
+    ∷ number (pos 1) (negsuc 0) (pos 0) (pos 0) (pos 0) (pos 0) (pos 0) (pos 0)
+    ∷ number (pos 1) (pos 0) (negsuc 0) (pos 0) (pos 0) (pos 0) (pos 0) (pos 0)
+    ∷ number (pos 1) (pos 0) (pos 0) (negsuc 0) (pos 0) (pos 0) (pos 0) (pos 0)
+    ∷ number (pos 1) (pos 0) (pos 0) (pos 0) (negsuc 0) (pos 0) (pos 0) (pos 0)
+    ∷ number (pos 1) (pos 0) (pos 0) (pos 0) (pos 0) (negsuc 0) (pos 0) (pos 0)
+    ∷ number (pos 1) (pos 0) (pos 0) (pos 0) (pos 0) (pos 0) (negsuc 0) (pos 0)
+    ∷ number (pos 1) (pos 0) (pos 0) (pos 0) (pos 0) (pos 0) (pos 0) (negsuc 0) ∷ []
 
 -- labels 1 in YZ, at each phase
 abbrev pub factors_YZ_1 : List Number
 factors_YZ_1 =
-    number (pos 0) (pos 0) (pos 0) (pos 0) ∷ number (pos 1) (negsuc 0) (pos 0) (pos 0)
-    ∷ number (pos 1) (pos 0) (negsuc 0) (pos 0) ∷ number (pos 1) (pos 0) (pos 0) (negsuc 0)
-    ∷ number (pos 2) (pos 0) (pos 0) (pos 0) ∷ number (pos 1) (pos 1) (pos 0) (pos 0)
-    ∷ number (pos 1) (pos 0) (pos 1) (pos 0) ∷ number (pos 1) (pos 0) (pos 0) (pos 1) ∷ []
+    number (pos 0) (pos 0) (pos 0) (pos 0) (pos 0) (pos 0) (pos 0) (pos 0)
+    ∷ number (pos 1) (negsuc 0) (pos 0) (pos 0) (pos 0) (pos 0) (pos 0) (pos 0)
+    ∷ number (pos 1) (pos 0) (negsuc 0) (pos 0) (pos 0) (pos 0) (pos 0) (pos 0)
+    ∷ number (pos 1) (pos 0) (pos 0) (negsuc 0) (pos 0) (pos 0) (pos 0) (pos 0)
+    ∷ number (pos 1) (pos 0) (pos 0) (pos 0) (negsuc 0) (pos 0) (pos 0) (pos 0)
+    ∷ number (pos 1) (pos 0) (pos 0) (pos 0) (pos 0) (negsuc 0) (pos 0) (pos 0)
+    ∷ number (pos 1) (pos 0) (pos 0) (pos 0) (pos 0) (pos 0) (negsuc 0) (pos 0)
+    ∷ number (pos 1) (pos 0) (pos 0) (pos 0) (pos 0) (pos 0) (pos 0) (negsuc 0)
+    ∷ number (pos 2) (pos 0) (pos 0) (pos 0) (pos 0) (pos 0) (pos 0) (pos 0)
+    ∷ number (pos 1) (pos 1) (pos 0) (pos 0) (pos 0) (pos 0) (pos 0) (pos 0)
+    ∷ number (pos 1) (pos 0) (pos 1) (pos 0) (pos 0) (pos 0) (pos 0) (pos 0)
+    ∷ number (pos 1) (pos 0) (pos 0) (pos 1) (pos 0) (pos 0) (pos 0) (pos 0)
+    ∷ number (pos 1) (pos 0) (pos 0) (pos 0) (pos 1) (pos 0) (pos 0) (pos 0)
+    ∷ number (pos 1) (pos 0) (pos 0) (pos 0) (pos 0) (pos 1) (pos 0) (pos 0)
+    ∷ number (pos 1) (pos 0) (pos 0) (pos 0) (pos 0) (pos 0) (pos 1) (pos 0)
+    ∷ number (pos 1) (pos 0) (pos 0) (pos 0) (pos 0) (pos 0) (pos 0) (pos 1) ∷ []
+
+-- labels 0 in XZ, at each phase: the same as in YZ
+abbrev pub factors_XZ_0 : List Number
+factors_XZ_0 = factors_YZ_0
+
+-- labels 1 in XZ, at each phase
+abbrev pub factors_XZ_1 : List Number
+factors_XZ_1 =
+    number (pos 0) (pos 0) (pos 0) (pos 0) (pos 0) (pos 0) (pos 0) (pos 0)
+    ∷ number (pos 0) (pos 0) (pos 0) (pos 0) (pos 1) (negsuc 0) (pos 0) (pos 0)
+    ∷ number (pos 0) (pos 0) (pos 0) (pos 0) (pos 1) (pos 0) (negsuc 0) (pos 0)
+    ∷ number (pos 0) (pos 0) (pos 0) (pos 0) (pos 1) (pos 0) (pos 0) (negsuc 0)
+    ∷ number (pos 1) (pos 0) (pos 0) (pos 0) (pos 1) (pos 0) (pos 0) (pos 0)
+    ∷ number (pos 0) (pos 1) (pos 0) (pos 0) (pos 1) (pos 0) (pos 0) (pos 0)
+    ∷ number (pos 0) (pos 0) (pos 1) (pos 0) (pos 1) (pos 0) (pos 0) (pos 0)
+    ∷ number (pos 0) (pos 0) (pos 0) (pos 1) (pos 1) (pos 0) (pos 0) (pos 0)
+    ∷ number (pos 0) (pos 0) (pos 0) (pos 0) (pos 2) (pos 0) (pos 0) (pos 0)
+    ∷ number (pos 0) (pos 0) (pos 0) (pos 0) (pos 1) (pos 1) (pos 0) (pos 0)
+    ∷ number (pos 0) (pos 0) (pos 0) (pos 0) (pos 1) (pos 0) (pos 1) (pos 0)
+    ∷ number (pos 0) (pos 0) (pos 0) (pos 0) (pos 1) (pos 0) (pos 0) (pos 1)
+    ∷ number (negsuc 0) (pos 0) (pos 0) (pos 0) (pos 1) (pos 0) (pos 0) (pos 0)
+    ∷ number (pos 0) (negsuc 0) (pos 0) (pos 0) (pos 1) (pos 0) (pos 0) (pos 0)
+    ∷ number (pos 0) (pos 0) (negsuc 0) (pos 0) (pos 1) (pos 0) (pos 0) (pos 0)
+    ∷ number (pos 0) (pos 0) (pos 0) (negsuc 0) (pos 1) (pos 0) (pos 0) (pos 0) ∷ []
 
 -- two spiders joined by an edge: a Hadamard gate
 abbrev pub hadamard_wire : Graph

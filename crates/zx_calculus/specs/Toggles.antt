@@ -1,5 +1,5 @@
 -- The parts of which the changes of a graph are made.
-use Rattle.std.specs.Prelude.{◌≡◌, ◌≢◌, ℕ, Bool, if◌then◌else◌, ◌&&◌, ◌==◌, List}
+use Rattle.std.specs.Prelude.{◌≡◌, ◌≢◌, ℕ, Bool, if◌then◌else◌, ◌&&◌, List}
 use Rattle.zx_model.specs.Bits.{xor, member}
 use Rattle.zx_calculus.specs.Graph.{Kind, Graph, joined, with_kinds}
 use Rattle.zx_calculus.specs.Edits.{KeepsEnds}
@@ -14,9 +14,9 @@ pub record IsToggled (g : Graph) (picked : ℕ → ℕ → Bool) (h : Graph) : T
 abbrev pub among : List ℕ → ℕ → ℕ → Bool
 among near p q = member p near && member q near
 
--- a pair of x and a listed one
-abbrev pub from_to : ℕ → List ℕ → ℕ → ℕ → Bool
-from_to x near p q = xor ((p == x) && member q near) ((q == x) && member p near)
+-- a pair of one of xs and one of ys; one that is it either way round counts twice, so isn't picked
+abbrev pub across : List ℕ → List ℕ → ℕ → ℕ → Bool
+across xs ys p q = xor (member p xs && member q ys) (member q xs && member p ys)
 
 -- plane and phase of the listed vertices change
 abbrev pub changed_in : List ℕ → (Kind → Kind) → ℕ → Kind → Kind

@@ -1,6 +1,6 @@
 -- Worked graphs, for facts by computation.
 use Rattle.std.specs.Prelude.{ℕ, ◌+◌, true, false, List, [], ◌∷◌}
-use Rattle.zx_model.specs.Phase.{half_turn, quarter_turn}
+use Rattle.zx_model.specs.Phase.{half_turn, quarter_turn, eighth_turn}
 use Rattle.zx_calculus.specs.Graph.{Plane, XY, XZ, YZ, Vertex, Edge, End, Graph}
 use Rattle.zx_calculus.specs.Turns.{in_plane}
 
@@ -49,7 +49,7 @@ path_pivoted =
 -- two gadgets of an eighth turn with equal neighbours
 abbrev pub twins : Graph
 twins =
-    graph (vertex 0 XY 0 ∷ (vertex 1 XY 0 ∷ (vertex 2 YZ 1 ∷ (vertex 3 YZ 1 ∷ []))))
+    graph (vertex 0 XY 0 ∷ (vertex 1 XY 0 ∷ (vertex 2 YZ eighth_turn ∷ (vertex 3 YZ eighth_turn ∷ []))))
     (edge 0 2 ∷ (edge 0 3 ∷ (edge 1 2 ∷ (edge 1 3 ∷ []))))
     (plain 0 ∷ (plain 1 ∷ [])) (plain 0 ∷ (plain 1 ∷ []))
 
@@ -62,10 +62,12 @@ twins_reduced =
 -- a gadget on one spider, and a lone one
 abbrev pub small_gadgets : Graph
 small_gadgets =
-    graph (vertex 0 XY 0 ∷ (vertex 1 YZ 3 ∷ (vertex 2 YZ 5 ∷ []))) (edge 0 1 ∷ []) (plain 0 ∷ []) (plain 0 ∷ [])
+    graph
+    (vertex 0 XY 0 ∷ (vertex 1 YZ (quarter_turn + eighth_turn) ∷ (vertex 2 YZ (half_turn + eighth_turn) ∷ [])))
+    (edge 0 1 ∷ []) (plain 0 ∷ []) (plain 0 ∷ [])
 
 abbrev pub small_gadgets_reduced : Graph
-small_gadgets_reduced = graph (vertex 0 XY 3 ∷ []) [] (plain 0 ∷ []) (plain 0 ∷ [])
+small_gadgets_reduced = graph (vertex 0 XY (quarter_turn + eighth_turn) ∷ []) [] (plain 0 ∷ []) (plain 0 ∷ [])
 
 -- a path of three with a triangle: the last vertex is adjacent to both in the middle
 abbrev pub triangle : Graph
@@ -90,5 +92,6 @@ path_split =
 -- two gadgets that share one neighbour of two
 abbrev pub overlapping_gadgets : Graph
 overlapping_gadgets =
-    graph (vertex 0 XY 0 ∷ vertex 1 XY 0 ∷ vertex 2 YZ 1 ∷ vertex 3 YZ 1 ∷ []) (edge 0 2 ∷ edge 0 3 ∷ edge 1 3 ∷ [])
+    graph (vertex 0 XY 0 ∷ vertex 1 XY 0 ∷ vertex 2 YZ eighth_turn ∷ vertex 3 YZ eighth_turn ∷ [])
+    (edge 0 2 ∷ edge 0 3 ∷ edge 1 3 ∷ [])
     (plain 0 ∷ plain 1 ∷ []) (plain 0 ∷ plain 1 ∷ [])

@@ -1,7 +1,8 @@
 //! The laws of rewrites and of the sums that they keep.
 
 ghost use Rattle.std.specs.Prelude.{◌≡◌, ◌≢◌, ◌≤◌, ℕ, Bool, List, [], ◌∷◌, length, map, true, false, ◌&&◌, ◌||◌, if◌then◌else◌};
-ghost use Rattle.zx_model.specs.Number.{zero, one, mul, root, sign};
+ghost use Rattle.zx_model.specs.Number.{zero, one, mul, root_power, sign};
+ghost use Rattle.zx_model.specs.Phase.{eighth_turn};
 ghost use Rattle.zx_model.specs.Bits.{member, xor};
 ghost use Rattle.zx_model.specs.Proportional.{Proportional};
 ghost use Rattle.zx_calculus.specs.Graph.{XY, XZ, YZ, Graph, ids, WellFormed};
@@ -88,8 +89,8 @@ pub fn worked_sums()
     ensures YZ_0 { map (λ k. factor (in_plane YZ k) false) all_phases ≡ factors_YZ_0 }
     ensures YZ_1 { map (λ k. factor (in_plane YZ k) true) all_phases ≡ factors_YZ_1 }
     ensures two { two ≡ mul root_of_two root_of_two }
-    ensures one_plus_i { one_plus_i ≡ mul root_of_two root }
-    ensures one_minus_i { mul one_minus_i root ≡ root_of_two }
+    ensures one_plus_i { one_plus_i ≡ mul root_of_two (root_power eighth_turn) }
+    ensures one_minus_i { mul one_minus_i (root_power eighth_turn) ≡ root_of_two }
     ensures hadamard { (x y : Bool) → sum hadamard_wire (x ∷ []) (y ∷ []) ≡ sign (x && y) }
     ensures marked { (k : ℕ) (x y : Bool) →
         sum (marked_spider k) (x ∷ []) (y ∷ []) ≡ mul (spider k x) (sign (x && y)) }

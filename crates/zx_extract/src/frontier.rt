@@ -17,7 +17,7 @@ use open_graph::{End, OpenGraph, Plane, VertexId};
 use std::alloc::{AllocError, Global};
 use zx_flow::Flow;
 use zx_gates::{Gate, Qubit};
-use zx_model::Eighth;
+use zx_model::Sixteenth;
 
 // What is left of a graph and of its flow, and the gates that were taken off, the last one first.
 #[derive(Drop)]
@@ -96,7 +96,7 @@ impl Frontier {
     }
 
     // Writes a phase gate, unless its phase is 0.
-    pub(crate) fn write_phase(&mut self, q: Qubit, phase: Eighth) -> Result<(), AllocError>
+    pub(crate) fn write_phase(&mut self, q: Qubit, phase: Sixteenth) -> Result<(), AllocError>
         ensures { OnOk result (state_of self.new ≡ record (state_of self.old) {
           gates = phase_gates q phase ++ (state_of self.old).gates;
         }) }
@@ -134,7 +134,7 @@ impl Frontier {
     {
         let here = self.present(q);
         let (plane, phase) = self.graph.weight(here);
-        self.graph.set_weight(here, plane, Eighth::new(0));
+        self.graph.set_weight(here, plane, Sixteenth::new(0));
         self.write_phase(q, phase)
     }
 

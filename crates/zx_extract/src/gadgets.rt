@@ -11,7 +11,7 @@ use crate::frontier::Frontier;
 use open_graph::VertexId;
 use std::alloc::AllocError;
 use zx_gates::{Gate, Qubit};
-use zx_model::Eighth;
+use zx_model::Sixteenth;
 
 impl Frontier {
     // The outputs whose vertices are adjacent to a vertex.
@@ -35,7 +35,7 @@ impl Frontier {
     // again.
     fn write_gadget_on(
         &mut self,
-        phase: Eighth,
+        phase: Sixteenth,
         target: Qubit,
         others: &[Qubit],
     ) -> Result<(), AllocError>
@@ -54,7 +54,11 @@ impl Frontier {
     }
 
     // Writes a phase gadget.
-    pub(crate) fn write_gadget(&mut self, phase: Eighth, qubits: &[Qubit]) -> Result<(), AllocError>
+    pub(crate) fn write_gadget(
+        &mut self,
+        phase: Sixteenth,
+        qubits: &[Qubit],
+    ) -> Result<(), AllocError>
         ensures { OnOk result (state_of self.new ≡ record (state_of self.old) {
           gates = gadget_gates phase qubits.now ++ (state_of self.old).gates;
         }) }
@@ -68,7 +72,7 @@ impl Frontier {
     // Writes a phase gadget whose first qubit is turned by H before and after.
     pub(crate) fn write_linked_gadget(
         &mut self,
-        phase: Eighth,
+        phase: Sixteenth,
         link: Qubit,
         others: &[Qubit],
     ) -> Result<(), AllocError>

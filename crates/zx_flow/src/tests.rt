@@ -9,7 +9,7 @@ use open_graph::{OpenGraph, Plane, VertexId};
 use std::alloc::Global;
 use std::process::Abort;
 use std::test::Fail;
-use zx_model::Eighth;
+use zx_model::Sixteenth;
 
 fn any_equals(order: &[VertexId], v: VertexId) -> bool
     ensures { result ≡ list_any (λ u. v == u) order.now }
@@ -77,9 +77,9 @@ fn join(rt: &impl Abort, graph: &mut OpenGraph, u: VertexId, v: VertexId) -> Res
 
 fn path(rt: &impl Abort, alloc: Global) -> Result<OpenGraph, Fail> {
     let mut graph = OpenGraph::new(alloc);
-    let first = graph.add_vertex(Plane::XY, Eighth::new(0))?;
-    let middle = graph.add_vertex(Plane::XY, Eighth::new(2))?;
-    let last = graph.add_vertex(Plane::XY, Eighth::new(0))?;
+    let first = graph.add_vertex(Plane::XY, Sixteenth::new(0))?;
+    let middle = graph.add_vertex(Plane::XY, Sixteenth::quarter_turn())?;
+    let last = graph.add_vertex(Plane::XY, Sixteenth::new(0))?;
     join(rt, &mut graph, first, middle)?;
     join(rt, &mut graph, middle, last)?;
     Ok(graph)

@@ -8,7 +8,7 @@ ghost use Rattle.zx_calculus.specs.Gadgets.{fuse_kind, is_gadget};
 ghost use Rattle.zx_calculus.specs.Toggles.{with_changed};
 
 use open_graph::{OpenGraph, Plane, VertexId};
-use zx_model::Eighth;
+use zx_model::Sixteenth;
 
 /// Whether an id is that of a gadget.
 pub fn is_gadget(g: &OpenGraph, v: VertexId) -> bool
@@ -23,7 +23,7 @@ pub fn is_gadget(g: &OpenGraph, v: VertexId) -> bool
 }
 
 // Takes a gadget out of a graph, and answers its phase.
-pub(crate) fn take_out(g: &mut OpenGraph, u: VertexId) -> Eighth
+pub(crate) fn take_out(g: &mut OpenGraph, u: VertexId) -> Sixteenth
     requires live { Live g.old.graph u }
     requires gadget { plane_of g.old.graph u ≡ zx.YZ }
     ensures phase { result ≡ phase_of g.old.graph u }
@@ -37,7 +37,7 @@ pub(crate) fn take_out(g: &mut OpenGraph, u: VertexId) -> Eighth
 }
 
 // Adds a phase to that of a vertex.
-pub(crate) fn add_phase(g: &mut OpenGraph, v: VertexId, phase: Eighth)
+pub(crate) fn add_phase(g: &mut OpenGraph, v: VertexId, phase: Sixteenth)
     requires { Live g.old.graph v }
     ensures added { g.new.graph ≡ with_changed (fuse_kind v phase) g.old.graph }
     ensures valid { WellFormed g.new.graph }

@@ -8,6 +8,7 @@ use Rattle.std.proofs.lemmas.List.Sums.{sum_by-append, sum_by-cons}
 use Rattle.std.proofs.lemmas.Bool.{eqb-true, ne_eqb, eqb-false}
 use Rattle.zx_model.specs.Phase.{turn, half_turn, quarter_turn, sum_of_phases, opposite_phase}
 use Rattle.zx_model.specs.Number.{Number, zero, one, add, neg, mul, root_power}
+use Rattle.zx_model.specs.Cyclotomic.{add_cyclotomic, neg_cyclotomic, mul_cyclotomic}
 use Rattle.zx_model.specs.Constants.{two}
 use Rattle.zx_model.specs.Bits.{bit, one_if}
 use Rattle.zx_model.specs.Proportional.{Proportional}
@@ -177,9 +178,9 @@ by_two_turns n q m j k l below rows = record {
       ∙ acts-turn_gates q j k last)));
 }
 
--- ---- the rows of U, by w^a, w^b and w^c
-power_of_six : root_power (half_turn + quarter_turn) ≡ neg (root_power quarter_turn)
-power_of_six = root_power-add half_turn quarter_turn ∙ ap (λ s. mul s (root_power quarter_turn)) root_power-half_turn ∙ simp expand
+-- ---- the rows of U, by z^a, z^b and z^c
+power_of_three_quarters : root_power (half_turn + quarter_turn) ≡ neg (root_power quarter_turn)
+power_of_three_quarters = root_power-add half_turn quarter_turn ∙ ap (λ s. mul s (root_power quarter_turn)) root_power-half_turn ∙ simp expand
 
 square : mul (root_power quarter_turn) (root_power quarter_turn) ≡ neg one
 square = sym (root_power-add quarter_turn quarter_turn) ∙ root_power-half_turn
@@ -187,11 +188,11 @@ square = sym (root_power-add quarter_turn quarter_turn) ∙ root_power-half_turn
 power-half : (k : ℕ) → root_power (sum_of_phases k half_turn) ≡ neg (root_power k)
 power-half k = root_power-sum_of_phases k half_turn ∙ ap (mul (root_power k)) root_power-half_turn ∙ simp expand
 
-power-six : (k : ℕ) → root_power (k + (half_turn + quarter_turn)) ≡ mul (root_power k) (neg (root_power quarter_turn))
-power-six k = root_power-add k (half_turn + quarter_turn) ∙ ap (mul (root_power k)) power_of_six
+power-three_quarters : (k : ℕ) → root_power (k + (half_turn + quarter_turn)) ≡ mul (root_power k) (neg (root_power quarter_turn))
+power-three_quarters k = root_power-add k (half_turn + quarter_turn) ∙ ap (mul (root_power k)) power_of_three_quarters
 
 power-minus_quarter : (k : ℕ) → root_power (sum_of_phases k (opposite_phase quarter_turn)) ≡ mul (root_power k) (neg (root_power quarter_turn))
-power-minus_quarter k = root_power-sum_of_phases k (opposite_phase quarter_turn) ∙ ap (mul (root_power k)) power_of_six
+power-minus_quarter k = root_power-sum_of_phases k (opposite_phase quarter_turn) ∙ ap (mul (root_power k)) power_of_three_quarters
 
 -- products of phases around i, where i*i = -1
 apart : (b c i : Number) → mul (mul c (neg i)) (mul b i) ≡ neg (mul (mul b c) (mul i i))
@@ -219,13 +220,13 @@ rows_of_two_turns a b c p r ep er = record {
   second = ap (λ s. mul s (add (root_power a) (neg one))) (root_power-add c quarter_turn)
       ∙ neg_out (root_power c) (root_power quarter_turn) (add (root_power a) (neg one))
       ∙ ap (λ s. neg (mul s (add (root_power a) (neg one)))) (sym ep);
-  third = ap (λ s. mul s (add (root_power a) (neg one))) (power-six b)
+  third = ap (λ s. mul s (add (root_power a) (neg one))) (power-three_quarters b)
       ∙ neg_in (root_power b) (root_power quarter_turn) (add (root_power a) (neg one))
       ∙ ap (λ s. neg (mul s (add (root_power a) (neg one)))) (sym er);
   fourth = ap (λ s. mul s (add one (root_power a))) (root_power-add b c ∙ together (root_power b) (root_power c) (root_power quarter_turn) square ∙ ap₂ mul (sym ep) (sym er));
 }
 
--- the rows where w^a is j
+-- the rows where z^a is j
 rows_of_turn : (a b c : ℕ) (j p r : Number) → root_power a ≡ j
     → mul (root_power (c + quarter_turn)) (add j (neg one)) ≡ mul (add one j) p
     → mul (root_power (b + (half_turn + quarter_turn))) (add j (neg one)) ≡ mul (add one j) r
@@ -248,7 +249,7 @@ rows_of_quarter a b c e d is = rw is (rows_of_turn a b c (root_power quarter_tur
     (ap (λ s. mul s (add (root_power quarter_turn) (neg one))) (root_power-add c quarter_turn)
     ∙ gathered (root_power c) (root_power quarter_turn) square
     ∙ ap (mul (add one (root_power quarter_turn))) (sym (power-half c)))
-    (ap (λ s. mul s (add (root_power quarter_turn) (neg one))) (power-six b)
+    (ap (λ s. mul s (add (root_power quarter_turn) (neg one))) (power-three_quarters b)
     ∙ neg_in (root_power b) (root_power quarter_turn) (add (root_power quarter_turn) (neg one))
     ∙ ap neg (gathered (root_power b) (root_power quarter_turn) square)
     ∙ double_neg (add one (root_power quarter_turn)) (root_power b))
@@ -260,12 +261,12 @@ rows_of_quarter a b c e d is = rw is (rows_of_turn a b c (root_power quarter_tur
 -- three quarter turns
 rows_of_three_quarters : (a b c : ℕ) → a ≡ half_turn + quarter_turn → (d : Number) → d ≡ add one (neg (root_power quarter_turn))
     → HasRows (unitary a b c) d (mul d (root_power c)) (mul d (root_power (sum_of_phases b half_turn))) (neg (mul d (mul (root_power c) (root_power (sum_of_phases b half_turn)))))
-rows_of_three_quarters a b c e d is = rw is (rows_of_turn a b c j (root_power c) (root_power (sum_of_phases b half_turn)) (ap root_power e ∙ power_of_six)
+rows_of_three_quarters a b c e d is = rw is (rows_of_turn a b c j (root_power c) (root_power (sum_of_phases b half_turn)) (ap root_power e ∙ power_of_three_quarters)
     (ap (λ s. mul s (add j (neg one))) (root_power-add c quarter_turn)
     ∙ neg_out (root_power c) (root_power quarter_turn) (add j (neg one))
     ∙ ap neg (gathered (root_power c) j square_j)
     ∙ double_neg (add one j) (root_power c))
-    (ap (λ s. mul s (add j (neg one))) (power-six b)
+    (ap (λ s. mul s (add j (neg one))) (power-three_quarters b)
     ∙ gathered (root_power b) j square_j
     ∙ ap (mul (add one j)) (sym (power-half b)))
     (mul_comm (root_power b) (root_power c) ∙ minus_right (root_power c) (root_power b) ∙ ap (λ s. neg (mul (root_power c) s)) (sym (power-half b))))
@@ -320,16 +321,16 @@ rows_of_half a b c e d d_is =
 
 -- ---- the factors
 minus_two_nonzero : add (neg one) (neg one) ≢ zero
-unfolding add neg
-minus_two_nonzero e = let h : ◌≡◌ {A = ℤ} (negsuc 1) (pos 0) = ap (λ (s : Number). s.c0) e in cc
+unfolding add neg add_cyclotomic neg_cyclotomic
+minus_two_nonzero e = let h : ◌≡◌ {A = ℤ} (negsuc 1) (pos 0) = ap (λ (s : Number). s.plain.c0) e in cc
 
 one_and_i_nonzero : add one (root_power quarter_turn) ≢ zero
-unfolding add root_power mul
-one_and_i_nonzero e = let h : pos 1 ≡ pos 0 = ap (λ (s : Number). s.c0) e in cc
+unfolding add root_power mul add_cyclotomic mul_cyclotomic
+one_and_i_nonzero e = let h : pos 1 ≡ pos 0 = ap (λ (s : Number). s.plain.c0) e in cc
 
 one_without_i_nonzero : add one (neg (root_power quarter_turn)) ≢ zero
-unfolding add root_power mul neg
-one_without_i_nonzero e = let h : pos 1 ≡ pos 0 = ap (λ (s : Number). s.c0) e in cc
+unfolding add root_power mul neg add_cyclotomic mul_cyclotomic neg_cyclotomic
+one_without_i_nonzero e = let h : pos 1 ≡ pos 0 = ap (λ (s : Number). s.plain.c0) e in cc
 
 -- ---- gates and lists
 multiple_unitary : (n q a b c : ℕ) → q < n → Multiple n (act_on (unitary a b c) q) (acts (lowered_gate (U q a b c)))

@@ -1,11 +1,16 @@
 -- Maps of one and two qubits, entry by entry.
-use Rattle.std.proofs.Common.{sym, ◌∙◌, ◌≡◌, ◌≢◌, Bool, true, false, List, [], ◌∷◌, length, arith, refl, pos, ap}
-use Rattle.zx_model.specs.Number.{Number, zero, one, add, mul, root_power}
+use Rattle.std.proofs.Common.{sym, ◌∙◌, ◌≡◌, ◌≢◌, subst, ℕ, Bool, true, false, List, [], ◌∷◌, length, arith, refl, pos, ap}
+use Rattle.zx_model.specs.Phase.{half_turn, quarter_turn, eighth_turn, sum_of_phases}
+use Rattle.zx_model.specs.Cyclotomic.{add_cyclotomic, mul_cyclotomic}
+use Rattle.zx_model.specs.Number.{Number, zero, one, add, neg, mul, root_power}
 use Rattle.zx_model.specs.Proportional.{Proportional}
 use Rattle.zx_model.proofs.Ring.{mul-one}
+use Rattle.zx_model.proofs.Powers.{root_power-half_turn, root_power-nonzero}
 use Rattle.zx_model.proofs.Domain.{mul_left_cancel}
+use Rattle.zx_model.proofs.ProportionalLemmas.{proportional_refl}
 use Rattle.zx_gates.specs.Maps.{amp}
 use Rattle.zx_gates.specs.declared.gate.Gate.TheVariants.{Phase}
+use Rattle.zx_gates.proofs.MapLemmas.{act-phase, act-phase-phase, act-phase-zero}
 
 -- what holds of every list of one bit holds of a list of length 1
 pub one_bit : (P : List Bool → Type 0) (x : List Bool) → length x ≡ 1 → ((a : Bool) → P (a ∷ [])) → P x
@@ -49,37 +54,69 @@ on_two_qubits c d p q f g entries = record {
       (λ a a'. two_bits (λ y'. mul c (f (a ∷ a' ∷ []) y') ≡ mul d (g (a ∷ a' ∷ []) y')) y ly (λ b b'. entries a a' b b'));
 }
 
-pub root_nonzero : root_power 1 ≢ zero
-unfolding root_power mul
-root_nonzero e = let h : pos 1 ≡ pos 0 = ap (λ x. x.c1) e in cc
+-- what is to hold at each pair of bits
+abbrev pub EachPair : (Bool → Bool → Type 0) → Type 0
+EachPair P = P false false × P false true × P true false × P true true
+
+pub at_each_pair : (P : Bool → Bool → Type 0) → EachPair P → (a b : Bool) → P a b
+at_each_pair P each = each_pair P each.0 each.1 each.2 each.3
+
+-- maps by their entries
+pub one_qubit_entries : (c d : Number) → c ≢ zero → d ≢ zero → (f g : List Bool → List Bool → Number)
+    → EachPair (λ a b. mul c (f (a ∷ []) (b ∷ [])) ≡ mul d (g (a ∷ []) (b ∷ []))) → Proportional 1 1 f g
+one_qubit_entries c d p q f g entries = on_one_qubit c d p q f g (at_each_pair (λ a b. mul c (f (a ∷ []) (b ∷ [])) ≡ mul d (g (a ∷ []) (b ∷ []))) entries)
+
+pub two_qubit_entries : (c d : Number) → c ≢ zero → d ≢ zero → (f g : List Bool → List Bool → Number)
+    → EachPair (λ a a'. EachPair (λ b b'. mul c (f (a ∷ a' ∷ []) (b ∷ b' ∷ [])) ≡ mul d (g (a ∷ a' ∷ []) (b ∷ b' ∷ [])))) → Proportional 2 2 f g
+two_qubit_entries c d p q f g entries = on_two_qubits c d p q f g (λ a a'. at_each_pair (row a a') (at_each_pair (λ a a'. EachPair (row a a')) entries a a'))
+  where
+    row : Bool → Bool → Bool → Bool → Type 0
+    row a a' b b' = mul c (f (a ∷ a' ∷ []) (b ∷ b' ∷ [])) ≡ mul d (g (a ∷ a' ∷ []) (b ∷ b' ∷ []))
+
+-- two phase gates are that of the sum
+pub two_phases : (j k : ℕ) → Proportional 1 1 (amp (Phase 0 j ∷ Phase 0 k ∷ [])) (amp (Phase 0 (sum_of_phases j k) ∷ []))
+two_phases j k =
+    subst (Proportional 1 1 (amp (Phase 0 j ∷ Phase 0 k ∷ []))) (λ i x y. act-phase-phase 0 j k (λ z. amp [] z y) i x)
+    (proportional_refl 1 1 (amp (Phase 0 j ∷ Phase 0 k ∷ [])))
+
+pub no_phase : Proportional 1 1 (amp (Phase 0 0 ∷ [])) (amp [])
+no_phase = subst (Proportional 1 1 (amp (Phase 0 0 ∷ []))) (λ i x y. act-phase-zero 0 (λ z. amp [] z y) i x) (proportional_refl 1 1 (amp (Phase 0 0 ∷ [])))
+
+pub root_nonzero : root_power eighth_turn ≢ zero
+root_nonzero = root_power-nonzero eighth_turn
+
+-- the entries of Z in the column of 1
+pub half_turn_at_one : (b : Bool) → amp (Phase 0 half_turn ∷ []) (true ∷ []) (b ∷ []) ≡ mul (neg one) (amp [] (true ∷ []) (b ∷ []))
+half_turn_at_one b =
+    act-phase 0 half_turn (λ z. amp [] z (b ∷ [])) (true ∷ []) ∙ ap (λ r. mul r (amp [] (true ∷ []) (b ∷ []))) root_power-half_turn
 
 -- the entries of T and S
-t_at_zero : amp (Phase 0 1 ∷ []) (false ∷ []) (false ∷ []) ≡ one
-unfolding add mul
+t_at_zero : amp (Phase 0 eighth_turn ∷ []) (false ∷ []) (false ∷ []) ≡ one
+unfolding add mul add_cyclotomic mul_cyclotomic
 t_at_zero = refl
 
-t_at_one : amp (Phase 0 1 ∷ []) (true ∷ []) (true ∷ []) ≡ root_power 1
-unfolding add mul root_power
+t_at_one : amp (Phase 0 eighth_turn ∷ []) (true ∷ []) (true ∷ []) ≡ root_power eighth_turn
+unfolding add mul root_power add_cyclotomic mul_cyclotomic
 t_at_one = refl
 
-s_at_zero : amp (Phase 0 2 ∷ []) (false ∷ []) (false ∷ []) ≡ one
-unfolding add mul
+s_at_zero : amp (Phase 0 quarter_turn ∷ []) (false ∷ []) (false ∷ []) ≡ one
+unfolding add mul add_cyclotomic mul_cyclotomic
 s_at_zero = refl
 
-s_at_one : amp (Phase 0 2 ∷ []) (true ∷ []) (true ∷ []) ≡ root_power 2
-unfolding add mul root_power
+s_at_one : amp (Phase 0 quarter_turn ∷ []) (true ∷ []) (true ∷ []) ≡ root_power quarter_turn
+unfolding add mul root_power add_cyclotomic mul_cyclotomic
 s_at_one = refl
 
-roots_differ : root_power 1 ≡ root_power 2 → ⊥
-unfolding mul root_power
-roots_differ e = let h : pos 1 ≡ pos 0 = ap (λ x. x.c1) e in cc
+roots_differ : root_power eighth_turn ≡ root_power quarter_turn → ⊥
+unfolding add mul root_power add_cyclotomic mul_cyclotomic
+roots_differ e = let h : pos 1 ≡ pos 0 = ap (λ x. x.plain.c1) e in cc
 
--- the constants of a proportion are the same by the entry at 0, and w isn't w^2
-pub not_proportional : Proportional 1 1 (amp (Phase 0 1 ∷ [])) (amp (Phase 0 2 ∷ [])) → ⊥
+-- the constants of a proportion are the same by the entry at 0, and z^2 isn't z^4
+pub not_proportional : Proportional 1 1 (amp (Phase 0 eighth_turn ∷ [])) (amp (Phase 0 quarter_turn ∷ [])) → ⊥
 not_proportional p =
     let at_zero : mul p.left one ≡ mul p.right one =
     ap (mul p.left) (sym t_at_zero) ∙ p.equal (false ∷ []) (false ∷ []) refl refl ∙ ap (mul p.right) s_at_zero in
-    let at_one : mul p.left (root_power 1) ≡ mul p.right (root_power 2) =
+    let at_one : mul p.left (root_power eighth_turn) ≡ mul p.right (root_power quarter_turn) =
     ap (mul p.left) (sym t_at_one) ∙ p.equal (true ∷ []) (true ∷ []) refl refl ∙ ap (mul p.right) s_at_one in
     let same : p.left ≡ p.right = sym (mul-one p.left) ∙ at_zero ∙ mul-one p.right in
-    roots_differ (mul_left_cancel p.right (root_power 1) (root_power 2) p.right_nonzero (ap (λ c. mul c (root_power 1)) (sym same) ∙ at_one))
+    roots_differ (mul_left_cancel p.right (root_power eighth_turn) (root_power quarter_turn) p.right_nonzero (ap (λ c. mul c (root_power eighth_turn)) (sym same) ∙ at_one))

@@ -22,7 +22,7 @@ IsOnQubits n (Cz q r) = (q < n) × (r < n) × (q ≢ r)
 IsOnQubits n (Cx control target) = (control < n) × (target < n) × (control ≢ target)
 IsOnQubits n (Not q) = q < n
 
--- a phase is below a whole turn, as that of each `Eighth` is
+-- a phase is below a whole turn, as that of each `Sixteenth` is
 abbrev pub IsBelowATurn : Gate → Type 0
 IsBelowATurn (Phase q k) = k < turn
 IsBelowATurn other = Unit {0}

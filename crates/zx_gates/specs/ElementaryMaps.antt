@@ -9,9 +9,9 @@ use Rattle.zx_gates.specs.Maps.{Matrix, act_on, same_bits}
 use Rattle.zx_gates.specs.declared.elementary.ElementaryGate.{ElementaryGate}
 use Rattle.zx_gates.specs.declared.elementary.ElementaryGate.TheVariants.{U, Cx}
 
--- U(a, b, c), its angles in eighth turns:
--- 1 + w^a              w^(c+2)*(w^a - 1)
--- w^(b+6)*(w^a - 1)    w^(b+c)*(1 + w^a)
+-- U(a, b, c), its angles in sixteenth turns:
+-- 1 + z^a               z^(c+4)*(z^a - 1)
+-- z^(b+12)*(z^a - 1)    z^(b+c)*(1 + z^a)
 abbrev pub unitary : ℕ → ℕ → ℕ → Matrix
 unitary a b c false false = add one (root_power a)
 unitary a b c false true = mul (root_power (c + quarter_turn)) (add (root_power a) (neg one))

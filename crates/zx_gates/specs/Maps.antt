@@ -18,7 +18,7 @@ abbrev pub hadamard : Matrix
 hadamard row column = sign (row && column)
 
 -- 1 0
--- 0 w^k
+-- 0 z^k
 abbrev pub phase : ℕ → Matrix
 phase k false false = one
 phase k true true = root_power k

@@ -5,21 +5,21 @@ ghost use Rattle.std.specs.Prelude.{◌≡◌, ◌++◌, [], ◌∷◌, OnOk, On
 use crate::gate::Qubit;
 use std::alloc::{AllocError, Global};
 use std::marker::Model;
-use zx_model::Eighth;
+use zx_model::Sixteenth;
 
 /// One of the two gates that are built into OpenQASM 2.0.
 #[derive(Clone, Copy, Debug, PartialEq, Eq)]
 pub enum ElementaryGate {
-    /// `U(theta, phi, lambda)`, its angles in eighth turns.
+    /// `U(theta, phi, lambda)`, its angles in sixteenth turns.
     U {
         /// The qubit that it acts on.
         qubit: Qubit,
         /// The angle of the turn about the y axis.
-        theta: Eighth,
+        theta: Sixteenth,
         /// The angle of the turn about the z axis that comes after it.
-        phi: Eighth,
+        phi: Sixteenth,
         /// The angle of the turn about the z axis that comes before it.
-        lambda: Eighth,
+        lambda: Sixteenth,
     },
     /// `CX`.
     Cx {

@@ -2,6 +2,7 @@
 
 ghost use Rattle.std.specs.Prelude.{◌≡◌, ℕ, List, [], ◌∷◌};
 ghost use Rattle.std.specs.List.{All};
+ghost use Rattle.zx_model.specs.Phase.{half_turn, quarter_turn, eighth_turn, opposite_phase};
 ghost use Rattle.zx_model.specs.Proportional.{Proportional};
 ghost use Rattle.zx_gates.specs.declared.elementary.ElementaryGate.{ElementaryGate};
 ghost use Rattle.zx_gates.specs.Circuit.{gate_odd_phases};
@@ -16,20 +17,24 @@ use crate::gate::Gate;
 pub fn worked_maps()
     // on one qubit
     ensures two_hadamards { Proportional 1 1 (amp (Gate.H 0 ∷ Gate.H 0 ∷ [])) (amp []) }
-    ensures hadamard_z_hadamard { Proportional 1 1 (amp (Gate.H 0 ∷ Gate.Phase 0 4 ∷ Gate.H 0 ∷ []))
-        (amp (Gate.Not 0 ∷ [])) }
+    ensures hadamard_z_hadamard { Proportional 1 1
+        (amp (Gate.H 0 ∷ Gate.Phase 0 half_turn ∷ Gate.H 0 ∷ [])) (amp (Gate.Not 0 ∷ [])) }
     ensures hadamard_x_hadamard { Proportional 1 1 (amp (Gate.H 0 ∷ Gate.Not 0 ∷ Gate.H 0 ∷ []))
-        (amp (Gate.Phase 0 4 ∷ [])) }
+        (amp (Gate.Phase 0 half_turn ∷ [])) }
     ensures two_nots { Proportional 1 1 (amp (Gate.Not 0 ∷ Gate.Not 0 ∷ [])) (amp []) }
-    ensures two_ts_are_s { Proportional 1 1 (amp (Gate.Phase 0 1 ∷ Gate.Phase 0 1 ∷ []))
-        (amp (Gate.Phase 0 2 ∷ [])) }
-    ensures s_and_its_inverse { Proportional 1 1 (amp (Gate.Phase 0 2 ∷ Gate.Phase 0 6 ∷ []))
+    ensures two_ts_are_s { Proportional 1 1
+        (amp (Gate.Phase 0 eighth_turn ∷ Gate.Phase 0 eighth_turn ∷ []))
+        (amp (Gate.Phase 0 quarter_turn ∷ [])) }
+    ensures two_roots_of_t_are_t { Proportional 1 1 (amp (Gate.Phase 0 1 ∷ Gate.Phase 0 1 ∷ []))
+        (amp (Gate.Phase 0 eighth_turn ∷ [])) }
+    ensures s_and_its_inverse { Proportional 1 1
+        (amp (Gate.Phase 0 quarter_turn ∷ Gate.Phase 0 (opposite_phase quarter_turn) ∷ []))
         (amp []) }
     ensures t_between_nots_undoes_t { Proportional 1 1
-        (amp (Gate.Not 0 ∷ Gate.Phase 0 1 ∷ Gate.Not 0 ∷ Gate.Phase 0 1 ∷ []))
-        (amp []) }
-    ensures t_is_not_s { ¬ Proportional 1 1 (amp (Gate.Phase 0 1 ∷ []))
-        (amp (Gate.Phase 0 2 ∷ [])) }
+        (amp (Gate.Not 0 ∷ Gate.Phase 0 eighth_turn ∷
+        Gate.Not 0 ∷ Gate.Phase 0 eighth_turn ∷ [])) (amp []) }
+    ensures t_is_not_s { ¬ Proportional 1 1 (amp (Gate.Phase 0 eighth_turn ∷ []))
+        (amp (Gate.Phase 0 quarter_turn ∷ [])) }
 
     // on two qubits
     ensures cz_by_cx { Proportional 2 2 (amp (Gate.Cz 0 1 ∷ []))

@@ -1,5 +1,5 @@
-//! Gate lists of Clifford+T circuits, the linear maps that they stand for, and circuits of the
-//! gates that are built into OpenQASM.
+//! Gate lists of circuits of Clifford gates and phases of sixteenth turns, the linear maps that they
+//! stand for, and circuits of the gates that are built into OpenQASM.
 //!
 //! Proved: gate lists keep their conditions, and each call makes its one change; `lower` gives the
 //! gates of a table for each built-in gate of OpenQASM, and keeps the linear map up to a nonzero

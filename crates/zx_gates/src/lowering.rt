@@ -13,7 +13,7 @@ use crate::elementary::{Elementary, ElementaryGate};
 use crate::gate::{Gate, Qubit};
 use crate::gate_list::GateList;
 use std::alloc::{AllocError, Global};
-use zx_model::Eighth;
+use zx_model::Sixteenth;
 
 /// The circuit by the optimiser's own gates, with the same linear map up to a nonzero scalar.
 pub fn lower(alloc: Global, e: &Elementary) -> Result<GateList, AllocError>
@@ -53,35 +53,40 @@ fn push_lowered(list: &mut GateList, gate: &ElementaryGate) -> Result<(), AllocE
 fn push_unitary(
     list: &mut GateList,
     q: Qubit,
-    theta: Eighth,
-    phi: Eighth,
-    lambda: Eighth,
+    theta: Sixteenth,
+    phi: Sixteenth,
+    lambda: Sixteenth,
 ) -> Result<(), AllocError>
     requires { q < list.old.qubits }
     ensures qubits { OnOk result (list.new.qubits ≡ list.old.qubits) }
     ensures gates { OnOk result (list.new.gates ≡
         list.old.gates ++ lowered_gate (U q theta phi lambda)) }
 {
-    let quarter = Eighth::new(2);
-    let half = Eighth::new(4);
-    match theta.get() {
-        0 => push_phase(list, q, phi.add(lambda)),
-        2 => push_turn(list, q, lambda.add(half), phi),
-        4 => {
-            push_phase(list, q, lambda.add(phi.add(half).neg()))?;
-            list.push(Gate::Not(q))
-        }
-        6 => push_turn(list, q, lambda, phi.add(half)),
-        _ => {
-            push_turn(list, q, lambda.add(quarter.neg()), theta)?;
-            list.push(Gate::H(q))?;
-            push_phase(list, q, phi.add(quarter))
-        }
+    let quarter = Sixteenth::quarter_turn();
+    let half = Sixteenth::half_turn();
+    if theta.get() == 0 {
+        push_phase(list, q, phi.add(lambda))
+    } else if theta == quarter {
+        push_turn(list, q, lambda.add(half), phi)
+    } else if theta == half {
+        push_phase(list, q, lambda.add(phi.add(half).neg()))?;
+        list.push(Gate::Not(q))
+    } else if theta == half.add(quarter) {
+        push_turn(list, q, lambda, phi.add(half))
+    } else {
+        push_turn(list, q, lambda.add(quarter.neg()), theta)?;
+        list.push(Gate::H(q))?;
+        push_phase(list, q, phi.add(quarter))
     }
 }
 
 // Adds the phase gate of `before`, H, and the phase gate of `after`.
-fn push_turn(list: &mut GateList, q: Qubit, before: Eighth, after: Eighth) -> Result<(), AllocError>
+fn push_turn(
+    list: &mut GateList,
+    q: Qubit,
+    before: Sixteenth,
+    after: Sixteenth,
+) -> Result<(), AllocError>
     requires { q < list.old.qubits }
     ensures qubits { OnOk result (list.new.qubits ≡ list.old.qubits) }
     ensures gates { OnOk result (list.new.gates ≡
@@ -93,7 +98,7 @@ fn push_turn(list: &mut GateList, q: Qubit, before: Eighth, after: Eighth) -> Re
 }
 
 // Adds the phase gate of a phase, or none where it is 0.
-fn push_phase(list: &mut GateList, q: Qubit, phase: Eighth) -> Result<(), AllocError>
+fn push_phase(list: &mut GateList, q: Qubit, phase: Sixteenth) -> Result<(), AllocError>
     requires { q < list.old.qubits }
     ensures qubits { OnOk result (list.new.qubits ≡ list.old.qubits) }
     ensures gates { OnOk result (list.new.gates ≡ list.old.gates ++ phase_gates q phase) }

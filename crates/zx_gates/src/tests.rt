@@ -2,20 +2,30 @@
 use crate::{Counts, Elementary, ElementaryGate, Elements, Gate, GateList, counts, lower};
 use std::alloc::Global;
 use std::test::Fail;
-use zx_model::Eighth;
+use zx_model::Sixteenth;
 
 #[test]
 fn gates_are_added_in_order(rt: HostRuntime) -> Result<(), Fail> {
     let mut list = GateList::new(rt.alloc(), 2);
     list.push(Gate::H(0))?;
-    list.push(Gate::Phase(1, Eighth::new(3)))?;
+    list.push(Gate::Phase(1, Sixteenth::new(6)))?;
     list.push(Gate::Cx {
         control: 1,
         target: 0,
     })?;
     assert_eq!(rt; list.gates().len(), 3);
-    assert_eq!(rt; list.gates()[1], Gate::Phase(1, Eighth::new(3)));
+    assert_eq!(rt; list.gates()[1], Gate::Phase(1, Sixteenth::new(6)));
     Ok(())
+}
+
+// A phase as a digit, from 0 to f.
+fn digit(phase: Sixteenth) -> u8 {
+    let turns = phase.get();
+    if turns < 10 {
+        b'0' + turns
+    } else {
+        b'a' + (turns - 10)
+    }
 }
 
 // The gates that stand for U on one qubit, a byte for each: the digit of a phase, `h` or `x`.
@@ -24,16 +34,16 @@ fn lowered_unitary(alloc: Global, angles: [u8; 3]) -> Result<Vec<u8>, Fail> {
     let mut gates = Elements::new(alloc);
     gates.push(ElementaryGate::U {
         qubit: 0,
-        theta: Eighth::new(theta % 8),
-        phi: Eighth::new(phi % 8),
-        lambda: Eighth::new(lambda % 8),
+        theta: Sixteenth::new(theta % 16),
+        phi: Sixteenth::new(phi % 16),
+        lambda: Sixteenth::new(lambda % 16),
     })?;
     let list = lower(alloc, &Elementary { qubits: 1, gates })?;
     let mut bytes = Vec::new(alloc);
     for gate in list.gates() {
         bytes.push(match *gate {
             Gate::H(0) => b'h',
-            Gate::Phase(0, phase) => b'0' + phase.get(),
+            Gate::Phase(0, phase) => digit(phase),
             Gate::Not(0) => b'x',
             _ => b'?',
         })?;
@@ -43,19 +53,26 @@ fn lowered_unitary(alloc: Global, angles: [u8; 3]) -> Result<Vec<u8>, Fail> {
 
 #[test]
 fn unitaries_become_phases_and_hadamards(rt: HostRuntime) -> Result<(), Fail> {
-    let rows: [([u8; 3], &[u8]); 12] = [
+    let rows: [([u8; 3], &[u8]); 19] = [
         ([0, 0, 0], b""),
-        ([0, 1, 2], b"3"),
-        ([0, 3, 5], b""),
-        ([2, 0, 4], b"h"),
-        ([2, 3, 1], b"5h3"),
-        ([4, 0, 4], b"x"),
-        ([4, 1, 2], b"5x"),
-        ([4, 5, 2], b"1x"),
-        ([6, 1, 2], b"2h5"),
-        ([1, 0, 0], b"6h1h2"),
-        ([3, 6, 2], b"h3h"),
-        ([7, 7, 1], b"7h7h1"),
+        ([0, 2, 4], b"6"),
+        ([0, 6, 10], b""),
+        ([0, 1, 0], b"1"),
+        ([4, 0, 8], b"h"),
+        ([4, 6, 2], b"ah6"),
+        ([4, 1, 3], b"bh1"),
+        ([8, 0, 8], b"x"),
+        ([8, 2, 4], b"ax"),
+        ([8, 10, 4], b"2x"),
+        ([8, 1, 2], b"9x"),
+        ([12, 2, 4], b"4ha"),
+        ([12, 3, 5], b"5hb"),
+        ([2, 0, 0], b"ch2h4"),
+        ([6, 12, 4], b"h6h"),
+        ([14, 14, 2], b"eheh2"),
+        ([1, 0, 0], b"ch1h4"),
+        ([3, 5, 7], b"3h3h9"),
+        ([15, 15, 15], b"bhfh3"),
     ];
     for (angles, bytes) in rows {
         assert_eq!(rt; lowered_unitary(rt.alloc(), angles)?.as_slice(), bytes);
@@ -87,9 +104,10 @@ fn cx_stays(rt: HostRuntime) -> Result<(), Fail> {
 fn gates_are_counted_by_kind(rt: HostRuntime) -> Result<(), Fail> {
     let mut list = GateList::new(rt.alloc(), 2);
     list.push(Gate::H(0))?;
-    list.push(Gate::Phase(1, Eighth::new(1)))?;
-    list.push(Gate::Phase(1, Eighth::new(2)))?;
-    list.push(Gate::Phase(0, Eighth::new(7)))?;
+    list.push(Gate::Phase(1, Sixteenth::new(2)))?;
+    list.push(Gate::Phase(1, Sixteenth::new(4)))?;
+    list.push(Gate::Phase(0, Sixteenth::new(14)))?;
+    list.push(Gate::Phase(0, Sixteenth::new(1)))?;
     list.push(Gate::Cz(0, 1))?;
     list.push(Gate::Cx {
         control: 0,
@@ -103,11 +121,11 @@ fn gates_are_counted_by_kind(rt: HostRuntime) -> Result<(), Fail> {
     assert_eq!(rt;
         counts(&list),
         Counts {
-            total: 8,
-            odd: 2,
+            total: 9,
+            odd: 3,
             two_qubit: 3,
             h: 1,
-            phase: 3,
+            phase: 4,
             cz: 1,
             cx: 2,
             nots: 1,

@@ -5,6 +5,7 @@ use Rattle.std.specs.Prelude.{ℕ, zero, suc, ◌+◌, ◌-◌, ◌%◌, ◌==�
 use Rattle.std.specs.Prelude.{Bool, if◌then◌else◌, List, [], ◌∷◌}
 use Rattle.rand_pcg.specs.Lcg.{Lcg, started, increment_of}
 use Rattle.rand_pcg.specs.Pcg.{pcg32, multiplier_64}
+use Rattle.zx_model.specs.Phase.{quarter_turn, eighth_turn, opposite_phase}
 use Rattle.zx_gates.specs.declared.gate.Gate.{Gate}
 use Rattle.zx_gates.specs.declared.gate.Gate.TheVariants.{H, Phase, Cz, Cx}
 
@@ -16,13 +17,13 @@ most_drawn_gates = 1000000
 abbrev pub seeded : ℕ → Lcg
 seeded seed = started 64 multiplier_64 seed (increment_of 64 0)
 
--- The gate on a qubit by its kind: phase gates of one, two and seven eighth turns, which are T, S
--- and the inverse of T, and else H.
+-- The gate on a qubit by its kind: phase gates of an eighth turn, a quarter turn and an eighth turn back, which are
+-- T, S and the inverse of T, and else H.
 abbrev pub one_qubit_gate : ℕ → ℕ → Gate
 one_qubit_gate kind q =
-    if kind == 1 then Phase q 1 else
-    if kind == 2 then Phase q 2 else
-    if kind == 3 then Phase q 7 else H q
+    if kind == 1 then Phase q eighth_turn else
+    if kind == 2 then Phase q quarter_turn else
+    if kind == 3 then Phase q (opposite_phase eighth_turn) else H q
 
 -- the gate on two qubits by its kind, the first of them the control of a controlled NOT
 abbrev pub two_qubit_gate : ℕ → ℕ → ℕ → Gate

@@ -9,7 +9,7 @@ use rand_core::utils::NextWord;
 use rand_pcg::Lcg64Xsh32;
 use std::alloc::{AllocError, Global};
 use zx_gates::{Gate, GateList, Qubit};
-use zx_model::Eighth;
+use zx_model::Sixteenth;
 
 /// The circuit of a seed: on so many qubits, from 1 to 1,024, it has so many gates, at most
 /// 1,000,000. Equal arguments give equal circuits.
@@ -61,9 +61,9 @@ fn one_qubit_gate(kind: u16, q: Qubit) -> Gate
     ensures { result ≡ one_qubit_gate kind q }
 {
     match kind {
-        1 => Gate::Phase(q, Eighth::new(1)),
-        2 => Gate::Phase(q, Eighth::new(2)),
-        3 => Gate::Phase(q, Eighth::new(7)),
+        1 => Gate::Phase(q, Sixteenth::eighth_turn()),
+        2 => Gate::Phase(q, Sixteenth::quarter_turn()),
+        3 => Gate::Phase(q, Sixteenth::eighth_turn().neg()),
         _ => Gate::H(q),
     }
 }

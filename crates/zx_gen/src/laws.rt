@@ -3,6 +3,7 @@
 ghost use Rattle.std.specs.Prelude.{◌≡◌, ℕ, [], ◌∷◌, length};
 ghost use Rattle.rand_core.specs.Steps.{first_words};
 ghost use Rattle.rand_pcg.specs.Pcg.{pcg32};
+ghost use Rattle.zx_model.specs.Phase.{eighth_turn, opposite_phase};
 ghost use Rattle.zx_gates.specs.declared.gate.Gate.TheVariants.{H, Phase, Cz, Cx};
 ghost use Rattle.zx_gen.specs.Generator.{seeded, generated};
 
@@ -16,7 +17,9 @@ pub fn worked_circuits()
     ensures words_of_7 { first_words pcg32 4 (seeded 7)
         ≡ 0xf2393151 ∷ 0x7fbbcd3a ∷ 0xa3537acf ∷ 0xc9ca4c3f ∷ [] }
     ensures three_qubits { generated 7 3 5
-        ≡ Phase 1 7 ∷ Cx 2 0 ∷ Cz 2 1 ∷ Phase 0 1 ∷ Cx 1 2 ∷ [] }
-    ensures one_qubit { generated 7 1 5 ≡ Phase 0 7 ∷ H 0 ∷ H 0 ∷ H 0 ∷ Phase 0 1 ∷ [] }
+        ≡ Phase 1 (opposite_phase eighth_turn) ∷ Cx 2 0 ∷ Cz 2 1 ∷ Phase 0 eighth_turn ∷
+        Cx 1 2 ∷ [] }
+    ensures one_qubit { generated 7 1 5
+        ≡ Phase 0 (opposite_phase eighth_turn) ∷ H 0 ∷ H 0 ∷ H 0 ∷ Phase 0 eighth_turn ∷ [] }
     ensures no_gate { generated 7 1 0 ≡ [] }
 {}

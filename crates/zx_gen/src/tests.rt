@@ -4,7 +4,7 @@ use rand_core::utils::NextWord;
 use rand_pcg::Lcg64Xsh32;
 use std::test::Fail;
 use zx_gates::Gate;
-use zx_model::Eighth;
+use zx_model::Sixteenth;
 
 // The published words of the generator's reference code, for the state 42 and the stream 54.
 #[test]
@@ -36,9 +36,9 @@ fn words_on_the_first_stream(rt: HostRuntime) {
     }
 }
 
-// A phase gate of that many eighth turns.
+// A phase gate of that many sixteenth turns.
 fn phase(q: u16, turns: u8) -> Gate {
-    Gate::Phase(q, Eighth::new(turns % 8))
+    Gate::Phase(q, Sixteenth::new(turns % 16))
 }
 
 // A controlled NOT.
@@ -50,14 +50,14 @@ fn cx(control: u16, target: u16) -> Gate {
 fn ten_gates_on_three_qubits(rt: HostRuntime) -> Result<(), Fail> {
     let circuit = generate(rt.alloc(), 7, 3, 10)?;
     let gates = [
-        phase(1, 7),
+        phase(1, 14),
         cx(2, 0),
         Gate::Cz(2, 1),
-        phase(0, 1),
-        cx(1, 2),
         phase(0, 2),
+        cx(1, 2),
+        phase(0, 4),
         Gate::Cz(2, 1),
-        phase(1, 1),
+        phase(1, 2),
         Gate::H(0),
         Gate::Cz(0, 2),
     ];
@@ -70,16 +70,16 @@ fn ten_gates_on_three_qubits(rt: HostRuntime) -> Result<(), Fail> {
 fn one_qubit_has_no_gate_on_two(rt: HostRuntime) -> Result<(), Fail> {
     let circuit = generate(rt.alloc(), 7, 1, 10)?;
     let gates = [
-        phase(0, 7),
+        phase(0, 14),
         Gate::H(0),
         Gate::H(0),
         Gate::H(0),
-        phase(0, 1),
+        phase(0, 2),
         Gate::H(0),
-        phase(0, 7),
-        phase(0, 7),
+        phase(0, 14),
+        phase(0, 14),
         Gate::H(0),
-        phase(0, 1),
+        phase(0, 2),
     ];
     assert_eq!(rt; circuit.gates(), gates.as_slice());
     Ok(())
@@ -92,8 +92,8 @@ fn the_last_seed_on_the_most_qubits(rt: HostRuntime) -> Result<(), Fail> {
         Gate::H(904),
         Gate::Cz(955, 300),
         Gate::H(790),
-        phase(622, 1),
-        phase(845, 7),
+        phase(622, 2),
+        phase(845, 14),
         cx(571, 15),
     ];
     assert_eq!(rt; circuit.qubits(), 1024);

@@ -1,165 +1,48 @@
--- Numbers have no zero divisors. A number times its conjugate is P + Q*(w - w^3), P and Q whole; that times
--- P - Q*(w - w^3) is the whole number P^2 - 2*Q^2, which is zero only where P is, since 2 is no square.
-use Rattle.std.proofs.Common.{◌≡◌, ◌≢◌, ℕ, zero as nought, suc, ◌+◌, ◌*◌, ◌<◌, ◌⊎◌, inl, inr, ℤ, pos, negsuc, ◌+ℤ◌, ◌-ℤ◌, ◌*ℤ◌, neg_ℤ, nat_abs, sym, ◌∙◌, ap, arith, refl}
-use borrow.Author.Differences.{ints, same_out}
+-- Numbers have no zero divisors. A + B*z times A - B*z is N = A*A - w*(B*B), which is zero only where A and B are,
+-- and N times a number is N times each of its components.
+use Rattle.std.proofs.Common.{◌≡◌, ◌≢◌, sym, ◌∙◌, ap}
+use Rattle.zx_model.specs.Cyclotomic.{Cyclotomic, zero_cyclotomic, eighth_root, add_cyclotomic, neg_cyclotomic, mul_cyclotomic}
 use Rattle.zx_model.specs.Number.{Number, zero, add, neg, mul}
-use Rattle.zx_model.proofs.Whole.{units, expand as expand_whole}
-use Rattle.zx_model.proofs.Ring.{same, mul_assoc, mul_comm, mul-add, mul-neg, mul-zero, add-neg, add_assoc, add-zero, zero-add, neg_add_cancel}
+use Rattle.zx_model.proofs.CyclotomicRing as Cyclotomic
+use Rattle.zx_model.proofs.CyclotomicRing.{expand_cyclotomic}
+use Rattle.zx_model.proofs.CyclotomicDomain as CyclotomicDomain
+use Rattle.zx_model.proofs.EighthRoot.{no_root_of_eighth_root}
+use Rattle.zx_model.proofs.Ring.{same, mul_assoc, mul-add, mul-neg, mul-zero, add-neg, add_assoc, add-zero, zero-add, neg_add_cancel}
 
--- ---- 2 is no square
-half : (p : ℕ) → (r : ℕ) × ((p ≡ r + r) ⊎ (p ≡ r + r + 1))
-half nought = (0, inl (omega arith))
-half (suc p) =
-    elim (half p).1 [
-      | inl even ↦ ((half p).0, inr (omega arith))
-      | inr odd ↦ ((half p).0 + 1, inl (omega arith))
-    ]
-
-even_root : (p q r : ℕ) → p * p ≡ 2 * (q * q) → p ≡ r + r → q * q ≡ 2 * (r * r)
-even_root p q r e even =
-    let square : p * p ≡ (r + r) * (r + r) = ap (λ x. x * x) even in
-    omega arith
-
-odd_root : (p q r : ℕ) → p * p ≡ 2 * (q * q) → p ≡ r + r + 1 → ⊥
-odd_root p q r e odd =
-    let square : p * p ≡ (r + r + 1) * (r + r + 1) = ap (λ x. x * x) odd in
-    omega arith
-
-square-zero : (p : ℕ) → p * p ≡ 0 → p ≡ 0
-square-zero nought e = refl
-square-zero (suc p) e = absurd (omega arith)
-
-smaller_root : (p q : ℕ) → 0 < p → p * p ≡ 2 * (q * q) → q < p
-smaller_root p q positive e = grind arith
-
-root_of_double : (n p q : ℕ) → p < n → p * p ≡ 2 * (q * q) → p ≡ 0
-root_of_double nought p q below e = absurd (omega arith)
-root_of_double (suc n) nought q below e = refl
-root_of_double (suc n) (suc p) q below e =
-    let smaller : q < suc p = smaller_root (suc p) q (omega arith) e in
-    elim (half (suc p)).1 [
-      | inl even ↦
-          let none : q ≡ 0 = root_of_double n q (half (suc p)).0 (omega arith) (even_root (suc p) q _ e even) in
-          let square : q * q ≡ 0 * 0 = ap (λ x. x * x) none in
-          absurd (omega arith)
-      | inr odd ↦ absurd (odd_root (suc p) q _ e odd)
-    ]
-
--- ---- whole numbers
-pub nat_abs-zero : (z : ℤ) → nat_abs z ≡ 0 → z ≡ pos 0
-nat_abs-zero (pos n) e = ap pos e
-nat_abs-zero (negsuc n) e = absurd (omega arith)
-
-square_is : (z : ℤ) → z *ℤ z ≡ pos (nat_abs z * nat_abs z)
-square_is (pos n) = refl
-square_is (negsuc n) = refl
-
-whole_factor : (n z : ℤ) → n ≢ pos 0 → n *ℤ z ≡ pos 0 → z ≡ pos 0
-whole_factor (pos nought) z nonzero e = absurd (nonzero refl)
-whole_factor (pos (suc n)) (pos nought) nonzero e = refl
-whole_factor (pos (suc n)) (pos (suc z)) nonzero e = absurd (omega (arith, same_out _ _ e))
-whole_factor (pos (suc n)) (negsuc z) nonzero e = absurd (omega (arith, ints))
-whole_factor (negsuc n) (pos nought) nonzero e = refl
-whole_factor (negsuc n) (pos (suc z)) nonzero e = absurd (omega (arith, ints))
-whole_factor (negsuc n) (negsuc z) nonzero e = absurd (omega (arith, same_out _ _ e))
-
--- ---- the norm
 abbrev conjugate : Number → Number
-conjugate a = record { c0 = a.c0; c1 = neg_ℤ a.c3; c2 = neg_ℤ a.c2; c3 = neg_ℤ a.c1 }
+conjugate a = record { plain = a.plain; turned = neg_cyclotomic a.turned }
 
--- P and Q
-even_part : Number → ℤ
-even_part a = (a.c0 *ℤ a.c0 +ℤ a.c1 *ℤ a.c1) +ℤ (a.c2 *ℤ a.c2 +ℤ a.c3 *ℤ a.c3)
+-- N
+norm : Number → Cyclotomic
+norm a = add_cyclotomic (mul_cyclotomic a.plain a.plain) (neg_cyclotomic (mul_cyclotomic eighth_root (mul_cyclotomic a.turned a.turned)))
 
-odd_part : Number → ℤ
-odd_part a = (a.c0 *ℤ a.c1 +ℤ a.c1 *ℤ a.c2) +ℤ (a.c2 *ℤ a.c3 -ℤ a.c0 *ℤ a.c3)
+conjugate-mul : (a : Number) → mul (record { plain = a.plain; turned = neg_cyclotomic a.turned }) a ≡ record { plain = norm a; turned = zero_cyclotomic }
+unfolding mul norm
+conjugate-mul a = same _ _ (simp expand_cyclotomic) (simp expand_cyclotomic)
 
--- P + Q*(w - w^3)
-abbrev with_root_two : ℤ → ℤ → Number
-with_root_two p q = record { c0 = p; c1 = q; c2 = pos 0; c3 = neg_ℤ q }
+equal_if_difference-zero : (p q : Cyclotomic) → add_cyclotomic p (neg_cyclotomic q) ≡ zero_cyclotomic → p ≡ q
+equal_if_difference-zero p q e =
+    sym (Cyclotomic.add-zero p) ∙ ap (add_cyclotomic p) (sym (Cyclotomic.neg_add_cancel q)) ∙ sym (Cyclotomic.add_assoc p (neg_cyclotomic q) q) ∙ ap (λ x. add_cyclotomic x q) e ∙ Cyclotomic.zero-add q
 
-abbrev whole : ℤ → Number
-whole n = record { c0 = n; c1 = pos 0; c2 = pos 0; c3 = pos 0 }
-
--- both products once in plain coefficients
-conjugates : (a b c d : ℤ) → mul (record { c0 = a; c1 = b; c2 = c; c3 = d }) (record { c0 = a; c1 = neg_ℤ d; c2 = neg_ℤ c; c3 = neg_ℤ b }) ≡ record {
-  c0 = (a *ℤ a +ℤ b *ℤ b) +ℤ (c *ℤ c +ℤ d *ℤ d);
-  c1 = (a *ℤ b +ℤ b *ℤ c) +ℤ (c *ℤ d -ℤ a *ℤ d);
-  c2 = pos 0;
-  c3 = neg_ℤ ((a *ℤ b +ℤ b *ℤ c) +ℤ (c *ℤ d -ℤ a *ℤ d));
-}
-unfolding mul
-conjugates a b c d =
-    same _ _ (simp expand_whole) (simp expand_whole) (simp expand_whole (omega (arith, ints))) (simp expand_whole)
-
-real_conjugates : (p q : ℤ) → mul (record { c0 = p; c1 = q; c2 = pos 0; c3 = neg_ℤ q }) (record { c0 = p; c1 = neg_ℤ q; c2 = pos 0; c3 = neg_ℤ (neg_ℤ q) }) ≡ record {
-  c0 = p *ℤ p -ℤ (q *ℤ q +ℤ q *ℤ q);
-  c1 = pos 0;
-  c2 = pos 0;
-  c3 = pos 0;
-}
-unfolding mul
-real_conjugates p q =
-    same _ _
-    (simp (units, expand_whole))
-    (simp (units, expand_whole) (omega (arith, ints)))
-    (simp (units, expand_whole) (omega (arith, ints)))
-    (simp (units, expand_whole) (omega (arith, ints)))
-
-mul-conjugate : (a : Number) → mul a (conjugate a) ≡ with_root_two (even_part a) (odd_part a)
-unfolding even_part odd_part
-mul-conjugate a = conjugates a.c0 a.c1 a.c2 a.c3
-
-norm : Number → ℤ
-norm a = even_part a *ℤ even_part a -ℤ (odd_part a *ℤ odd_part a +ℤ odd_part a *ℤ odd_part a)
-
-cofactor : Number → Number
-cofactor a = mul (conjugate a) (with_root_two (even_part a) (neg_ℤ (odd_part a)))
-
-mul-cofactor : (a : Number) → mul a (cofactor a) ≡ whole (norm a)
-unfolding cofactor norm
-mul-cofactor a =
-    sym (mul_assoc a (conjugate a) (with_root_two (even_part a) (neg_ℤ (odd_part a)))) ∙ ap (λ x. mul x (with_root_two (even_part a) (neg_ℤ (odd_part a)))) (mul-conjugate a) ∙ real_conjugates (even_part a) (odd_part a)
-
-norm_by_squares : (p q : ℤ) → p *ℤ p -ℤ (q *ℤ q +ℤ q *ℤ q) ≡ pos 0 → nat_abs p * nat_abs p ≡ 2 * (nat_abs q * nat_abs q)
-norm_by_squares p q e = let f = simp square_is at e in omega (arith, ints)
-
-sum_of_squares : (a b c d : ℤ) → (a *ℤ a +ℤ b *ℤ b) +ℤ (c *ℤ c +ℤ d *ℤ d) ≡ pos ((nat_abs a * nat_abs a + nat_abs b * nat_abs b) + (nat_abs c * nat_abs c + nat_abs d * nat_abs d))
-sum_of_squares a b c d = simp square_is
-
-norm-zero : (a : Number) → norm a ≡ pos 0 → a ≡ zero
-unfolding norm even_part
+norm-zero : (a : Number) → norm a ≡ zero_cyclotomic → a ≡ zero
+unfolding norm
 norm-zero a e =
-    let p : ℕ = nat_abs (even_part a) in
-    let none : even_part a ≡ pos 0 = nat_abs-zero _ (root_of_double (suc p) p (nat_abs (odd_part a)) (omega arith) (norm_by_squares (even_part a) (odd_part a) e)) in
-    let squares : pos ((nat_abs a.c0 * nat_abs a.c0 + nat_abs a.c1 * nat_abs a.c1) + (nat_abs a.c2 * nat_abs a.c2 + nat_abs a.c3 * nat_abs a.c3)) ≡ pos 0 =
-    sym (sum_of_squares a.c0 a.c1 a.c2 a.c3) ∙ none in
-    same a zero
-    (nat_abs-zero _ (square-zero _ (omega (arith, same_out _ _ squares))))
-    (nat_abs-zero _ (square-zero _ (omega (arith, same_out _ _ squares))))
-    (nat_abs-zero _ (square-zero _ (omega (arith, same_out _ _ squares))))
-    (nat_abs-zero _ (square-zero _ (omega (arith, same_out _ _ squares))))
+    let none = no_root_of_eighth_root a.plain a.turned (equal_if_difference-zero _ _ e) in
+    same a zero none.0 none.1
 
--- ---- no zero divisors
-mul-whole : (n : ℤ) (a : Number) → mul (whole n) a ≡ record { c0 = n *ℤ a.c0; c1 = n *ℤ a.c1; c2 = n *ℤ a.c2; c3 = n *ℤ a.c3 }
+mul-plain : (n : Cyclotomic) (a : Number) → mul (record { plain = n; turned = zero_cyclotomic }) a ≡ record { plain = mul_cyclotomic n a.plain; turned = mul_cyclotomic n a.turned }
 unfolding mul
-mul-whole n a = same _ _ (simp units) (simp units) (simp units) (simp units)
-
-whole_multiple : (n : ℤ) (a : Number) → n ≢ pos 0 → mul (whole n) a ≡ zero → a ≡ zero
-whole_multiple n a nonzero e =
-    let products = sym (mul-whole n a) ∙ e in
-    same a zero
-    (whole_factor n a.c0 nonzero (ap (λ (x : Number). x.c0) products))
-    (whole_factor n a.c1 nonzero (ap (λ (x : Number). x.c1) products))
-    (whole_factor n a.c2 nonzero (ap (λ (x : Number). x.c2) products))
-    (whole_factor n a.c3 nonzero (ap (λ (x : Number). x.c3) products))
+mul-plain n a = same _ _ (simp expand_cyclotomic) (simp expand_cyclotomic)
 
 -- the other factor of a product that is zero
-pub zero_factor : (a b : Number) → a ≢ zero → mul a b ≡ zero → b ≡ zero
+zero_factor : (a b : Number) → a ≢ zero → mul a b ≡ zero → b ≡ zero
 zero_factor a b nonzero e =
-    let multiple : mul (whole (norm a)) b ≡ zero =
-    ap (λ x. mul x b) (sym (mul-cofactor a) ∙ mul_comm a (cofactor a)) ∙ mul_assoc (cofactor a) a b ∙ ap (mul (cofactor a)) e ∙ mul-zero (cofactor a) in
-    whole_multiple (norm a) b (λ none. nonzero (norm-zero a none)) multiple
+    let multiple : record { plain = mul_cyclotomic (norm a) b.plain; turned = mul_cyclotomic (norm a) b.turned } ≡ zero =
+    sym (mul-plain (norm a) b) ∙ ap (λ x. mul x b) (sym (conjugate-mul a)) ∙ mul_assoc (conjugate a) a b ∙ ap (mul (conjugate a)) e ∙ mul-zero (conjugate a) in
+    let some : norm a ≢ zero_cyclotomic = λ none. nonzero (norm-zero a none) in
+    same b zero
+    (CyclotomicDomain.zero_factor (norm a) b.plain some (ap (λ (x : Number). x.plain) multiple))
+    (CyclotomicDomain.zero_factor (norm a) b.turned some (ap (λ (x : Number). x.turned) multiple))
 
 pub mul-nonzero : (a b : Number) → a ≢ zero → b ≢ zero → mul a b ≢ zero
 mul-nonzero a b p q e = q (zero_factor a b p e)

@@ -1,4 +1,7 @@
 pub mod Whole
+pub mod CyclotomicRing
+pub mod CyclotomicDomain
+pub mod EighthRoot
 pub mod Ring
 pub mod Powers
 pub mod Domain

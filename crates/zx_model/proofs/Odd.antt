@@ -1,8 +1,8 @@
--- Which phases are odd: turning by quarters changes nothing, and two even phases have an even sum.
-use Rattle.std.proofs.Common.{◌≡◌, ◌≢◌, refl, ◌∙◌, sym, ap, ℕ, ◌+◌, ◌%◌, ◌<◌, ◌≤◌, Bool, true, false, not, eqb, inl, inr, arith}
+-- Which phases are odd: turning by quarters changes nothing, and neither does an even phase that is added.
+use Rattle.std.proofs.Common.{◌≡◌, refl, ◌∙◌, sym, ap, ℕ, ◌+◌, ◌%◌, ◌<◌, ◌≤◌, Bool, true, false, not, eqb, inl, inr, arith}
 use Rattle.std.proofs.lemmas.Bool.{eq-eqb, ne_eqb, cases_eq}
 use Rattle.zx_model.specs.Phase.{turn, half_turn, quarter_turn, sum_of_phases, opposite_phase, is_odd}
-use Rattle.zx_model.specs.Bits.{xor, one_if}
+use Rattle.zx_model.specs.Bits.{one_if}
 
 -- two numbers are 0 together, or neither is
 eqb-zero : (m n : ℕ) → (m ≡ 0 → n ≡ 0) → (n ≡ 0 → m ≡ 0) → not (eqb m 0) ≡ not (eqb n 0)
@@ -36,18 +36,11 @@ rest-even k e = elim (cases_eq (k % quarter_turn) 0) [
   | inr some ↦ absurd (let h : true ≡ false = ap not (sym (ne_eqb (k % quarter_turn) 0 some)) ∙ e in cc)
 ]
 
-pub rest-odd : (k : ℕ) → is_odd k ≡ true → k % quarter_turn ≢ 0
-rest-odd k e z = let h : false ≡ true = ap not (sym (eq-eqb (k % quarter_turn) 0 z)) ∙ e in cc
-
--- of two phases, the sum is odd where one of them is, and not both: true of eighth turns alone
-pub is_odd-sum : (j k : ℕ) → is_odd (sum_of_phases j k) ≡ xor (is_odd j) (is_odd k)
-is_odd-sum j k = by_cases (is_odd j) (is_odd k) refl refl
-  where
-    by_cases : (a b : Bool) → is_odd j ≡ a → is_odd k ≡ b → is_odd (sum_of_phases j k) ≡ xor a b
-    by_cases false false e f = ap not (eq-eqb (sum_of_phases j k % quarter_turn) 0 (omega (arith, rest-even j e, rest-even k f)))
-    by_cases false true e f = ap not (ne_eqb (sum_of_phases j k % quarter_turn) 0 (λ z. rest-odd k f (omega (arith, rest-even j e))))
-    by_cases true false e f = ap not (ne_eqb (sum_of_phases j k % quarter_turn) 0 (λ z. rest-odd j e (omega (arith, rest-even k f))))
-    by_cases true true e f = ap not (eq-eqb (sum_of_phases j k % quarter_turn) 0 (omega (arith, rest-odd j e, rest-odd k f)))
+-- an even phase that is added changes nothing
+pub is_odd-sum_even : (j k : ℕ) → is_odd k ≡ false → is_odd (sum_of_phases j k) ≡ is_odd j
+is_odd-sum_even j k even =
+    let rest : k % quarter_turn ≡ 0 = rest-even k even in
+    eqb-zero (sum_of_phases j k % quarter_turn) (j % quarter_turn) (λ e. omega arith) (λ e. omega arith)
 
 -- of two phases, the sum is odd only where one of them is
 pub one_if-odd_sum : (j k : ℕ) → one_if (is_odd (sum_of_phases j k)) ≤ one_if (is_odd j) + one_if (is_odd k)

@@ -1,10 +1,11 @@
--- Powers of two, and of the root: w is an eighth root of one, so exponents are phases.
-use Rattle.std.proofs.Common.{◌≡◌, ◌≢◌, ℕ, zero as nought, suc, ◌+◌, ◌-◌, ◌*◌, ◌/◌, ◌%◌, ◌≤◌, sym, ◌∙◌, ap, arith, refl, suc-add, suc-mul, zero-add, zero-mul}
-use Rattle.zx_model.specs.Number.{zero, one, root, neg, mul, root_power}
+-- Powers of two, and of the root: z is a sixteenth root of one, so exponents are phases.
+use Rattle.std.proofs.Common.{◌≡◌, ◌≢◌, ℕ, zero as nought, suc, ◌+◌, ◌-◌, ◌*◌, ◌/◌, ◌%◌, ◌≤◌, sym, ◌∙◌, ap, arith, refl, suc-add, suc-mul, zero-add, zero-mul, true}
+use Rattle.zx_model.specs.Cyclotomic.{zero_cyclotomic, eighth_root, add_cyclotomic, neg_cyclotomic, mul_cyclotomic}
+use Rattle.zx_model.specs.Number.{Number, zero, one, root, neg, mul, root_power}
 use Rattle.zx_model.specs.Phase.{turn, half_turn, sum_of_phases, opposite_phase}
 use Rattle.zx_model.specs.Constants.{two, power_of_two}
 use Rattle.zx_model.proofs.Ring as Ring
-use Rattle.zx_model.proofs.Ring.{one-mul, mul_assoc, unit-nonzero}
+use Rattle.zx_model.proofs.Ring.{one-mul, mul_assoc, unit-nonzero, mul-sign_same}
 
 pub power_of_two-add : (j k : ℕ) → power_of_two (j + k) ≡ mul (power_of_two j) (power_of_two k)
 power_of_two-add nought k = ap power_of_two (zero-add k) ∙ sym (one-mul (power_of_two k))
@@ -27,13 +28,22 @@ root_power-add nought k = ap root_power (zero-add k) ∙ sym (one-mul (root_powe
 root_power-add (suc j) k =
     ap root_power (suc-add j k) ∙ root_power-suc (j + k) ∙ ap (mul root) (root_power-add j k) ∙ sym (mul_assoc root (root_power j) (root_power k)) ∙ ap (λ x. mul x (root_power k)) (sym (root_power-suc j))
 
+-- w, which is z*z
+pub root_power-two : root_power 2 ≡ record { plain = eighth_root; turned = zero_cyclotomic }
+unfolding root_power mul add_cyclotomic mul_cyclotomic
+root_power-two = refl
+
+-- w*w*w*w = -1
+fourth_power : (w : Number) → w ≡ record { plain = eighth_root; turned = zero_cyclotomic } → mul (mul w w) (mul w w) ≡ neg one
+unfolding mul neg add_cyclotomic neg_cyclotomic mul_cyclotomic
+fourth_power w e = ap (λ x. mul (mul x x) (mul x x)) e
+
 pub root_power-half_turn : root_power half_turn ≡ neg one
-unfolding root_power mul neg
-root_power-half_turn = refl
+root_power-half_turn =
+    root_power-add 4 4 ∙ ap (λ x. mul x x) (root_power-add 2 2) ∙ fourth_power (root_power 2) root_power-two
 
 pub root_power-turn : root_power turn ≡ one
-unfolding root_power mul
-root_power-turn = refl
+root_power-turn = root_power-add half_turn half_turn ∙ ap (λ x. mul x x) root_power-half_turn ∙ mul-sign_same true
 
 -- whole turns change nothing
 root_power-turns : (n : ℕ) → root_power (n * turn) ≡ one

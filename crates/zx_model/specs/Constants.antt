@@ -1,7 +1,7 @@
 -- Numbers with a name of their own.
-use Rattle.std.specs.Prelude.{ℕ, zero as nought, suc}
-use Rattle.zx_model.specs.Phase.{quarter_turn}
-use Rattle.zx_model.specs.Number.{Number, one, root, add, neg, mul, root_power}
+use Rattle.std.specs.Prelude.{ℕ, zero as nought, suc, ◌+◌}
+use Rattle.zx_model.specs.Phase.{quarter_turn, eighth_turn}
+use Rattle.zx_model.specs.Number.{Number, one, add, neg, mul, root_power}
 
 abbrev pub two : Number
 two = add one one
@@ -15,6 +15,6 @@ power_of_two (suc k) = mul two (power_of_two k)
 abbrev pub i : Number
 i = root_power quarter_turn
 
--- w + w^7, where w^7 = -w^3
+-- w + w^7, where w = z^2 is exp(i*pi/4), and w^7 = -w^3 = -z^6
 abbrev pub root_of_two : Number
-root_of_two = add root (neg (root_power 3))
+root_of_two = add (root_power eighth_turn) (neg (root_power (quarter_turn + eighth_turn)))

@@ -1,4 +1,5 @@
 pub mod Phase
+pub mod Cyclotomic
 pub mod Number
 pub mod Constants
 pub mod Bits

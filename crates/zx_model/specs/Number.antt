@@ -1,42 +1,42 @@
--- The exact numbers that linear maps of Clifford+T circuits are made of: a + b*w + c*w^2 + d*w^3 with
--- whole a, b, c, d, where w is the primitive eighth root of unity exp(i*pi/4), so w^4 = -1.
--- This is the ring Z[w] of Giles and Selinger, "Exact synthesis of multiqubit Clifford+T circuits"
--- (Phys. Rev. A 87, 032332, 2013).
-use Rattle.std.specs.Prelude.{ℕ, zero as nought, suc, Bool, if◌then◌else◌, ℤ, pos, ◌+ℤ◌, ◌-ℤ◌, ◌*ℤ◌, neg_ℤ}
+-- The exact numbers that linear maps of Clifford+T circuits with square roots of T are made of: the ring Z[z] of
+-- the sixteenth cyclotomic field, where z is the primitive sixteenth root of unity exp(i*pi/8), so z^8 = -1. It
+-- is written over Z[w], since z*z = w. See Washington, "Introduction to Cyclotomic Fields" (1997), and Forest, Gosset,
+-- Kliuchnikov and McKinnon, "Exact synthesis of single-qubit unitaries over Clifford-cyclotomic gate sets"
+-- (J. Math. Phys. 56, 082201, 2015).
+use Rattle.std.specs.Prelude.{ℕ, zero as nought, suc, Bool, if◌then◌else◌}
+use Rattle.zx_model.specs.Cyclotomic.{Cyclotomic, zero_cyclotomic, one_cyclotomic, eighth_root}
+use Rattle.zx_model.specs.Cyclotomic.{add_cyclotomic, neg_cyclotomic, mul_cyclotomic}
 
--- c0 + c1*w + c2*w^2 + c3*w^3
+-- plain + turned*z
 pub record Number : Type 0 where
-  pub c0 : ℤ
-  pub c1 : ℤ
-  pub c2 : ℤ
-  pub c3 : ℤ
+  pub plain : Cyclotomic
+  pub turned : Cyclotomic
 
 abbrev pub zero : Number
-zero = record { c0 = pos 0; c1 = pos 0; c2 = pos 0; c3 = pos 0 }
+zero = record { plain = zero_cyclotomic; turned = zero_cyclotomic }
 
 abbrev pub one : Number
-one = record { c0 = pos 1; c1 = pos 0; c2 = pos 0; c3 = pos 0 }
+one = record { plain = one_cyclotomic; turned = zero_cyclotomic }
 
--- w itself
+-- z itself
 abbrev pub root : Number
-root = record { c0 = pos 0; c1 = pos 1; c2 = pos 0; c3 = pos 0 }
+root = record { plain = zero_cyclotomic; turned = one_cyclotomic }
 
 unfoldable pub add : Number → Number → Number
-add a b = record { c0 = a.c0 +ℤ b.c0; c1 = a.c1 +ℤ b.c1; c2 = a.c2 +ℤ b.c2; c3 = a.c3 +ℤ b.c3 }
+add a b = record { plain = add_cyclotomic a.plain b.plain; turned = add_cyclotomic a.turned b.turned }
 
 unfoldable pub neg : Number → Number
-neg a = record { c0 = neg_ℤ a.c0; c1 = neg_ℤ a.c1; c2 = neg_ℤ a.c2; c3 = neg_ℤ a.c3 }
+neg a = record { plain = neg_cyclotomic a.plain; turned = neg_cyclotomic a.turned }
 
--- the product of polynomials in w, with w^4 = -1, w^5 = -w, w^6 = -w^2
+-- the product of polynomials in z, with z*z = w
 unfoldable pub mul : Number → Number → Number
 mul a b = record {
-  c0 = ((a.c0 *ℤ b.c0) -ℤ (a.c1 *ℤ b.c3)) -ℤ ((a.c2 *ℤ b.c2) +ℤ (a.c3 *ℤ b.c1));
-  c1 = ((a.c0 *ℤ b.c1) +ℤ (a.c1 *ℤ b.c0)) -ℤ ((a.c2 *ℤ b.c3) +ℤ (a.c3 *ℤ b.c2));
-  c2 = ((a.c0 *ℤ b.c2) +ℤ (a.c1 *ℤ b.c1)) +ℤ ((a.c2 *ℤ b.c0) -ℤ (a.c3 *ℤ b.c3));
-  c3 = ((a.c0 *ℤ b.c3) +ℤ (a.c1 *ℤ b.c2)) +ℤ ((a.c2 *ℤ b.c1) +ℤ (a.c3 *ℤ b.c0));
+  plain =
+      add_cyclotomic (mul_cyclotomic a.plain b.plain) (mul_cyclotomic eighth_root (mul_cyclotomic a.turned b.turned));
+  turned = add_cyclotomic (mul_cyclotomic a.plain b.turned) (mul_cyclotomic a.turned b.plain);
 }
 
--- w^k
+-- z^k
 unfoldable pub root_power : ℕ → Number
 root_power nought = one
 root_power (suc k) = mul root (root_power k)

@@ -1,17 +1,21 @@
--- Phases, counted in eighth turns: whole numbers modulo 8. A phase k stands for the angle k*pi/4.
+-- Phases, counted in sixteenth turns: whole numbers modulo 16. A phase k stands for the angle k*pi/8.
 use Rattle.std.specs.Prelude.{◌≡◌, ◌⊎◌, ℕ, ◌+◌, ◌-◌, ◌%◌, Bool, not, ◌||◌, ◌==◌, IsTrue}
 
 -- a whole turn
 abbrev pub turn : ℕ
-turn = 8
+turn = 16
 
 -- the phase of a Z gate
 abbrev pub half_turn : ℕ
-half_turn = 4
+half_turn = 8
 
 -- the phase of an S gate
 abbrev pub quarter_turn : ℕ
-quarter_turn = 2
+quarter_turn = 4
+
+-- the phase of a T gate
+abbrev pub eighth_turn : ℕ
+eighth_turn = 2
 
 abbrev pub sum_of_phases : ℕ → ℕ → ℕ
 sum_of_phases j k = (j + k) % turn

@@ -1,10 +1,10 @@
 //! The laws of the exact numbers, of proportionality, of bits and of sums over labels. The functions do
 //! nothing: their contracts are the laws.
 
-ghost use Rattle.std.specs.Prelude.{◌≡◌, ◌≢◌, ◌<◌, ℕ, Bool, false, ◌&&◌, List, ◌∷◌, ◌++◌, map, length};
+ghost use Rattle.std.specs.Prelude.{◌≡◌, ◌≢◌, ◌<◌, ◌≤◌, ◌+◌, ℕ, Bool, false, ◌&&◌, List, ◌∷◌, ◌++◌, map, length};
 ghost use Rattle.zx_model.specs.Number.{Number, zero, one, add, neg, mul, root_power, sign};
 ghost use Rattle.zx_model.specs.Phase.{turn, half_turn, quarter_turn, sum_of_phases, opposite_phase, is_odd};
-ghost use Rattle.zx_model.specs.Bits.{xor};
+ghost use Rattle.zx_model.specs.Bits.{xor, one_if};
 ghost use Rattle.zx_model.specs.Sums.{total, all_labels, label_of, over, sum_over};
 ghost use Rattle.zx_model.specs.Proportional.{Proportional};
 
@@ -21,8 +21,9 @@ pub fn numbers_form_a_commutative_ring()
     ensures product_distributes { (a b c : Number) → mul a (add b c) ≡ add (mul a b) (mul a c) }
 {}
 
-/// The powers of w are the values exp(i*pi/4*k): a half turn is minus one, a whole turn is one, and phases add.
-pub fn root_is_a_primitive_eighth_root()
+/// The powers of z are the values exp(i*pi/8*k): a half turn is minus one, a whole turn is one, and
+/// phases add.
+pub fn root_is_a_primitive_sixteenth_root()
     ensures half_turn_is_minus_one { root_power half_turn ≡ neg one }
     ensures whole_turn_is_one { root_power turn ≡ one }
     ensures phases_add { (j k : ℕ) → root_power (sum_of_phases j k) ≡ mul (root_power j) (root_power k) }
@@ -30,11 +31,14 @@ pub fn root_is_a_primitive_eighth_root()
     ensures powers_are_nonzero { (k : ℕ) → root_power k ≢ zero }
 {}
 
-/// Which phases are odd: a phase is even where it is a sum of quarter turns.
+/// Which phases are odd: those that are no sum of quarter turns. An even phase that is added changes
+/// nothing, and a sum counts at most as its two phases do.
 pub fn which_phases_are_odd()
     ensures quarter { (k : ℕ) → is_odd (sum_of_phases k quarter_turn) ≡ is_odd k }
     ensures opposite { (k : ℕ) → k < turn → is_odd (opposite_phase k) ≡ is_odd k }
-    ensures sum { (j k : ℕ) → is_odd (sum_of_phases j k) ≡ xor (is_odd j) (is_odd k) }
+    ensures even_added { (j k : ℕ) → is_odd k ≡ false → is_odd (sum_of_phases j k) ≡ is_odd j }
+    ensures counted { (j k : ℕ) →
+        one_if (is_odd (sum_of_phases j k)) ≤ one_if (is_odd j) + one_if (is_odd k) }
 {}
 
 /// A product is zero only where a factor is, so that factors other than zero cancel.

@@ -9,7 +9,7 @@ ghost use Rattle.zx_peephole.specs.Internal.Stops.{stops, turns};
 
 use crate::commuting::commutes;
 use zx_gates::{Gate, Qubit};
-use zx_model::Eighth;
+use zx_model::Sixteenth;
 
 // Whether two gates, one right after the other, are nothing or one gate.
 pub(crate) fn is_pair(first: &Gate, second: &Gate) -> bool
@@ -50,7 +50,7 @@ pub(crate) fn conjugated(gate: &Gate) -> Gate
 {
     match *gate {
         Gate::Phase(q, _) => Gate::Not(q),
-        Gate::Not(q) => Gate::Phase(q, Eighth::new(4)),
+        Gate::Not(q) => Gate::Phase(q, Sixteenth::half_turn()),
         other => other,
     }
 }
@@ -83,7 +83,7 @@ fn is_cx_on(control: Qubit, target: Qubit, gate: &Gate) -> bool
     }
 }
 
-fn with_phase_added(phase: Eighth, gate: &Gate) -> Option<Gate>
+fn with_phase_added(phase: Sixteenth, gate: &Gate) -> Option<Gate>
     ensures { option_to_list result ≡ merged (Gate.Phase 0 phase) gate.now }
 {
     match *gate {
@@ -103,7 +103,7 @@ fn is_turned(qubit: Qubit, gate: &Gate) -> bool
     ensures { result ≡ is_turned qubit gate.now }
 {
     match *gate {
-        Gate::Phase(q, phase) => q == qubit && phase.get() == 4,
+        Gate::Phase(q, phase) => q == qubit && phase == Sixteenth::half_turn(),
         Gate::Not(q) => q == qubit,
         _ => false,
     }

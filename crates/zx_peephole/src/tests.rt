@@ -4,7 +4,7 @@ use std::alloc::Global;
 use std::process::Abort;
 use std::test::Fail;
 use zx_gates::{Gate, GateList, Qubit};
-use zx_model::Eighth;
+use zx_model::Sixteenth;
 
 // Adds a gate, whose qubits are below the number of the list.
 fn add(rt: &impl Abort, list: &mut GateList, gate: &Gate) -> Result<(), Fail> {
@@ -45,7 +45,7 @@ fn becomes(rt: &impl Abort, alloc: Global, gates: &[Gate], expected: &[Gate]) ->
 }
 
 fn phase(q: Qubit, turns: u8) -> Gate {
-    Gate::Phase(q, Eighth::new(turns % 8))
+    Gate::Phase(q, Sixteenth::new(turns % 16))
 }
 
 fn cx(control: Qubit, target: Qubit) -> Gate {
@@ -56,8 +56,10 @@ fn cx(control: Qubit, target: Qubit) -> Gate {
 fn pairs_side_by_side(rt: HostRuntime) -> Result<(), Fail> {
     becomes(&rt, rt.alloc(), &[Gate::H(0), Gate::H(0)], &[])?;
     becomes(&rt, rt.alloc(), &[Gate::Not(1), Gate::Not(1)], &[])?;
+    becomes(&rt, rt.alloc(), &[phase(0, 2), phase(0, 2)], &[phase(0, 4)])?;
+    becomes(&rt, rt.alloc(), &[phase(0, 6), phase(0, 10)], &[])?;
     becomes(&rt, rt.alloc(), &[phase(0, 1), phase(0, 1)], &[phase(0, 2)])?;
-    becomes(&rt, rt.alloc(), &[phase(0, 3), phase(0, 5)], &[])?;
+    becomes(&rt, rt.alloc(), &[phase(0, 5), phase(0, 11)], &[])?;
     becomes(&rt, rt.alloc(), &[cx(0, 1), cx(0, 1)], &[])?;
     becomes(
         &rt,
@@ -69,8 +71,8 @@ fn pairs_side_by_side(rt: HostRuntime) -> Result<(), Fail> {
     becomes(
         &rt,
         rt.alloc(),
-        &[phase(0, 1), Gate::H(0), Gate::H(0), phase(0, 1)],
-        &[phase(0, 2)],
+        &[phase(0, 2), Gate::H(0), Gate::H(0), phase(0, 2)],
+        &[phase(0, 4)],
     )?;
     becomes(&rt, rt.alloc(), &[Gate::Not(0)], &[Gate::Not(0)])
 }
@@ -80,8 +82,8 @@ fn pairs_apart(rt: HostRuntime) -> Result<(), Fail> {
     becomes(
         &rt,
         rt.alloc(),
-        &[phase(0, 1), cx(0, 1), phase(0, 1)],
-        &[cx(0, 1), phase(0, 2)],
+        &[phase(0, 2), cx(0, 1), phase(0, 2)],
+        &[cx(0, 1), phase(0, 4)],
     )?;
     becomes(
         &rt,
@@ -98,27 +100,27 @@ fn pairs_apart(rt: HostRuntime) -> Result<(), Fail> {
     becomes(
         &rt,
         rt.alloc(),
-        &[cx(0, 2), cx(1, 2), Gate::Not(2), phase(0, 7), cx(0, 2)],
-        &[cx(1, 2), Gate::Not(2), phase(0, 7)],
+        &[cx(0, 2), cx(1, 2), Gate::Not(2), phase(0, 14), cx(0, 2)],
+        &[cx(1, 2), Gate::Not(2), phase(0, 14)],
     )?;
     becomes(
         &rt,
         rt.alloc(),
-        &[Gate::H(0), phase(1, 1), cx(1, 2), Gate::H(0)],
-        &[phase(1, 1), cx(1, 2)],
+        &[Gate::H(0), phase(1, 2), cx(1, 2), Gate::H(0)],
+        &[phase(1, 2), cx(1, 2)],
     )?;
     becomes(
         &rt,
         rt.alloc(),
-        &[Gate::Cz(0, 2), phase(2, 3), cx(0, 1), Gate::Cz(2, 0)],
-        &[phase(2, 3), cx(0, 1)],
+        &[Gate::Cz(0, 2), phase(2, 6), cx(0, 1), Gate::Cz(2, 0)],
+        &[phase(2, 6), cx(0, 1)],
     )?;
     let stuck = [
-        phase(0, 2),
+        phase(0, 4),
         Gate::H(0),
-        phase(0, 2),
+        phase(0, 4),
         Gate::H(0),
-        phase(0, 2),
+        phase(0, 4),
     ];
     becomes(&rt, rt.alloc(), &stuck, &stuck)?;
     let crossed = [Gate::Not(0), cx(0, 1), Gate::Not(0)];
@@ -130,19 +132,19 @@ fn triples(rt: HostRuntime) -> Result<(), Fail> {
     becomes(
         &rt,
         rt.alloc(),
-        &[Gate::H(0), phase(0, 4), Gate::H(0)],
+        &[Gate::H(0), phase(0, 8), Gate::H(0)],
         &[Gate::Not(0)],
     )?;
     becomes(
         &rt,
         rt.alloc(),
         &[Gate::H(0), Gate::Not(0), Gate::H(0)],
-        &[phase(0, 4)],
+        &[phase(0, 8)],
     )?;
     becomes(
         &rt,
         rt.alloc(),
-        &[Gate::H(1), cx(0, 2), phase(1, 4), Gate::H(0), Gate::H(1)],
+        &[Gate::H(1), cx(0, 2), phase(1, 8), Gate::H(0), Gate::H(1)],
         &[cx(0, 2), Gate::H(0), Gate::Not(1)],
     )?;
     becomes(
@@ -150,8 +152,8 @@ fn triples(rt: HostRuntime) -> Result<(), Fail> {
         rt.alloc(),
         &[
             Gate::H(0),
-            phase(0, 2),
-            phase(0, 2),
+            phase(0, 4),
+            phase(0, 4),
             Gate::H(0),
             Gate::Not(0),
         ],
@@ -160,10 +162,10 @@ fn triples(rt: HostRuntime) -> Result<(), Fail> {
     becomes(
         &rt,
         rt.alloc(),
-        &[Gate::H(0), phase(0, 1), phase(0, 3), Gate::H(0), cx(0, 1)],
+        &[Gate::H(0), phase(0, 2), phase(0, 6), Gate::H(0), cx(0, 1)],
         &[Gate::Not(0), cx(0, 1)],
     )?;
-    let apart = [Gate::H(0), cx(0, 1), phase(0, 4), Gate::H(0)];
+    let apart = [Gate::H(0), cx(0, 1), phase(0, 8), Gate::H(0)];
     becomes(&rt, rt.alloc(), &apart, &apart)
 }
 
@@ -173,10 +175,10 @@ fn two_thousand_gates_undo_one_another(rt: HostRuntime) -> Result<(), Fail> {
     let mut list = GateList::new(rt.alloc(), 3);
     for _ in 0..500 {
         add(&rt, &mut list, &Gate::H(0))?;
-        add(&rt, &mut list, &phase(0, 1))?;
+        add(&rt, &mut list, &phase(0, 2))?;
     }
     for _ in 0..500 {
-        add(&rt, &mut list, &phase(0, 7))?;
+        add(&rt, &mut list, &phase(0, 14))?;
         add(&rt, &mut list, &Gate::H(0))?;
     }
     add(&rt, &mut list, &cx(0, 1))?;

@@ -7,7 +7,7 @@ use Rattle.zx_calculus.proofs.Booleans.{parities, xor-false, and_comm, and-true}
 use Rattle.zx_calculus.proofs.Ids.{eqb-self}
 use Rattle.zx_calculus.proofs.Edges.{joined_comm}
 use Rattle.zx_calculus.proofs.Splitting.{no_loop}
-use Rattle.open_graph.specs.Toggles.{across}
+use Rattle.zx_calculus.specs.Toggles.{across}
 use Rattle.zx_pivot.specs.Internal.Changes.{IsRewired}
 
 -- the edge from one of the two to another vertex

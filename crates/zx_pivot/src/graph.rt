@@ -12,7 +12,7 @@ ghost use Rattle.zx_pivot.specs.Internal.Changes.{IsRewired, half_turned_in};
 
 use open_graph::{OpenGraph, Plane, VertexId, VertexSet};
 use std::alloc::AllocError;
-use zx_model::Eighth;
+use zx_model::Sixteenth;
 
 /// The graph's part of `pivot`, in which u and v get a change of their own too: where memory runs
 /// out, the graph may be any.
@@ -96,13 +96,13 @@ fn pivot_own(g: &mut OpenGraph, u: VertexId)
 }
 
 // Plane and phase of a vertex after a pivot about it.
-fn pivoted(plane: Plane, phase: Eighth) -> (Plane, Eighth)
+fn pivoted(plane: Plane, phase: Sixteenth) -> (Plane, Sixteenth)
     ensures { in_plane (plane_named result.0) result.1 ≡
         pivoted (in_plane (plane_named plane) phase) }
 {
     match plane {
         Plane::XY => (Plane::YZ, phase),
-        Plane::XZ => (Plane::XZ, Eighth::new(2).add(phase.neg())),
+        Plane::XZ => (Plane::XZ, Sixteenth::quarter_turn().add(phase.neg())),
         Plane::YZ => (Plane::XY, phase),
     }
 }

@@ -12,7 +12,7 @@ use Rattle.zx_calculus.proofs.Results.{interior_true}
 use Rattle.zx_calculus.proofs.Splits.{member-move_end-new}
 use Rattle.zx_calculus.proofs.Steps.{step_kept}
 use Rattle.gflow_laws.proofs.Splits.{new_vertex-split}
-use Rattle.move_laws.specs.Candidates.{MoveKind, Deletion, QuarterGadget, InXZ, QuarterSpider, InnerPivot, BoundaryPivot, GadgetPair, LoneGadget, SingleGadget, Twins, IsPlaceOf, is_mutual, touched_by}
+use Rattle.move_laws.specs.Candidates.{MoveKind, Deletion, QuarterGadget, InXZ, QuarterSpider, InnerPivot, BoundaryPivot, GadgetPair, LoneGadget, SingleGadget, Twins, IsPlaceOf, is_mutual, Covers, touched_by, with_touched}
 use Rattle.move_laws.proofs.Covering.{exchanged, kept_by_step, lives, none_left}
 use Rattle.move_laws.proofs.Touching.{step_touches}
 use Rattle.zx_reduce.specs.declared.candidates.Candidate.{Candidate}
@@ -24,7 +24,7 @@ use Rattle.zx_reduce.specs.declared.moves.Move.TheVariants as moves
 use Rattle.zx_reduce.specs.declared.moves.TheConstants.{KINDS}
 use Rattle.zx_reduce.specs.Search.{AppliesAt, kind_of, IsOfFirstKind}
 use Rattle.zx_reduce.specs.Internal.Searching.{IsMoveAt, NoneAt}
-use Rattle.zx_reduce.specs.Internal.Guiding.{place_kind, place_of, candidate_cmp, candidate_at, is_candidate, HasCandidates, IsListed, KeepsCandidates, near, near_step}
+use Rattle.zx_reduce.specs.Internal.Guiding.{place_kind, place_of, candidate_cmp, candidate_at, is_candidate, HasCandidates, HasCandidatesBut, IsListed, KeepsCandidates, near, near_step}
 use Rattle.zx_reduce.proofs.CandidateSets.{at_place, none_earlier, removed}
 use Rattle.zx_reduce.proofs.SearchKinds.{stands_once}
 
@@ -51,24 +51,23 @@ one_of_four false false false true true x y h f g f' g' = ap (λ t. x || t) (g' 
 one_of_four false false false false true x y h f g f' g' = absurd (true≢false (sym h))
 one_of_four false false c d false x y h f g f' g' = absurd (true≢false (sym h))
 
-covered_where : (g : Graph) (s : Step) (h : Graph) (before after : Candidates) → WellFormed g → IsStep g s h → HasCandidates g before →
-    KeepsCandidates before after → ((w : ℕ) → member w (touched_by g s h) ≡ true → IsListed h w after) → HasCandidates h after
+-- u is in the set of each kind of which it has a place
+abbrev IsListedIn : Graph → ℕ → (Kind → ℕ → Bool) → Type 0
+IsListedIn g u set = (k : Kind) (v : ℕ) → IsPlaceOf g (place_kind k) u v → set k u ≡ true
+
+covered_where : (g : Graph) (s : Step) (h : Graph) (before after : Kind → ℕ → Bool) → WellFormed g → IsStep g s h → ((k : Kind) → Covers g (place_kind k) (before k)) →
+    ((k : Kind) (w p : ℕ) → IsPlaceOf h (place_kind k) w p → member w (touched_by g s h) ≡ false → before k w ≡ true → after k w ≡ true) →
+    ((w : ℕ) → member w (touched_by g s h) ≡ true → IsListedIn h w after) → (k : Kind) → Covers h (place_kind k) (after k)
 covered_where g s h before after formed step has keeps listed k u v place =
     let back = exchanged h (place_kind k) u v in
-    one_of_four (is_candidate g before k u) (member u (touched_by g s h)) (is_candidate g before k v) (member v (touched_by g s h))
-    (is_mutual (place_kind k)) (is_candidate h after k u) (is_candidate h after k v)
-    (kept_by_step g s h (place_kind k) (is_candidate g before k) formed step (has k) u v place)
+    one_of_four (before k u) (member u (touched_by g s h)) (before k v) (member v (touched_by g s h))
+    (is_mutual (place_kind k)) (after k u) (after k v)
+    (kept_by_step g s h (place_kind k) (before k) formed step (has k) u v place)
     (carried u v place) (λ t. listed u t k v place)
     (λ m. carried v u (back m place)) (λ m t. listed v t k u (back m place))
   where
-    -- a vertex that isn't touched has as many neighbours as before
-    carried : (w p : ℕ) → IsPlaceOf h (place_kind k) w p → is_candidate g before k w ≡ true → is_candidate h after k w ≡ true
-    carried w p at there =
-        by_test (member w (touched_by g s h))
-        (λ t. listed w t k p at)
-        (λ f. subst (λ row. contains candidate_cmp after.set (record { place = place_of k; neighbours = length row; number = w }) ≡ true)
-        (sym (step_touches g s h formed step w (lives h (place_kind k) w p at) f).row)
-        (keeps (candidate_at g k w) there))
+    carried : (w p : ℕ) → IsPlaceOf h (place_kind k) w p → before k w ≡ true → after k w ≡ true
+    carried w p at there = by_test (member w (touched_by g s h)) (λ t. listed w t k p at) (λ f. keeps k w p at f there)
 
 -- the vertices that a step touches are near those that it is about
 both_near : (a b c d : Bool) → (a || (b || (c || d))) ≡ true → ((a || c) || (b || d)) ≡ true
@@ -93,43 +92,83 @@ lone_near : (w u : ℕ) (us : List ℕ) → member w (u ∷ []) ≡ true → mem
 lone_near w u us h = ap (λ t. t || member w us) (sym (or-false (eqb w u)) ∙ h)
 
 -- the vertex that a split adds has an end
-new_none : (h : Graph) (new : ℕ) (after : Candidates) → WellFormed h → is_interior h new ≡ false → IsListed h new after
-new_none h new after formed out k v place = absurd (boundary_none h (place_kind k) new v (boundary_XY h new formed out) out place)
+new_none : (h : Graph) (new : ℕ) (set : Kind → ℕ → Bool) → WellFormed h → is_interior h new ≡ false → IsListedIn h new set
+new_none h new set formed out k v place = absurd (boundary_none h (place_kind k) new v (boundary_XY h new formed out) out place)
 
-split_listed : (g h : Graph) (b new : ℕ) (after : Candidates) → WellFormed h → is_interior h new ≡ false →
-    ((w : ℕ) → member w (near g b) ≡ true → IsListed h w after) → (w : ℕ) → member w (new ∷ near g b) ≡ true → IsListed h w after
-split_listed g h b new after formed out listed w there =
+split_listed : (g h : Graph) (b new : ℕ) (set : Kind → ℕ → Bool) → WellFormed h → is_interior h new ≡ false →
+    ((w : ℕ) → member w (near g b) ≡ true → IsListedIn h w set) → (w : ℕ) → member w (new ∷ near g b) ≡ true → IsListedIn h w set
+split_listed g h b new set formed out listed w there =
     by_equal w new
-    (λ t e. subst (λ x. IsListed h x after) (sym e) (new_none h new after formed out))
+    (λ t e. subst (λ x. IsListedIn h x set) (sym e) (new_none h new set formed out))
     (λ n ne. listed w (sym (ap (λ t. t || member w (near g b)) n) ∙ there))
 
-near_listed : (g : Graph) (s : Step) (h : Graph) (after : Candidates) → WellFormed h → IsStep g s h →
-    ((w : ℕ) → member w (near_step g s) ≡ true → IsListed h w after) → (w : ℕ) → member w (touched_by g s h) ≡ true → IsListed h w after
-near_listed g (LocalComplement u) h after formed step listed w there = listed w there
-near_listed g (Delete u) h after formed step listed w there = listed w there
-near_listed g (Pivot u v) h after formed step listed w there = listed w (pivot_near w u v (neighbours g u) (neighbours g v) there)
-near_listed g (SplitInput b) h after formed step listed w there =
-    split_listed g h b step.new after formed
+near_listed : (g : Graph) (s : Step) (h : Graph) (set : Kind → ℕ → Bool) → WellFormed h → IsStep g s h →
+    ((w : ℕ) → member w (near_step g s) ≡ true → IsListedIn h w set) → (w : ℕ) → member w (touched_by g s h) ≡ true → IsListedIn h w set
+near_listed g (LocalComplement u) h set formed step listed w there = listed w there
+near_listed g (Delete u) h set formed step listed w there = listed w there
+near_listed g (Pivot u v) h set formed step listed w there = listed w (pivot_near w u v (neighbours g u) (neighbours g v) there)
+near_listed g (SplitInput b) h set formed step listed w there =
+    split_listed g h b step.new set formed
     (ap (λ t. not (t || member step.new (end_vertices h.outputs)))
     (ap (λ es. member step.new (end_vertices es)) step.inputs ∙ member-move_end-new b step.new g.inputs
     ∙ ap (λ t. t || member step.new (end_vertices g.inputs)) step.has_input))
     listed w (subst (λ n. member w (n ∷ near g b) ≡ true) (new_vertex-split g step.new h step.fresh step.vertices) there)
-near_listed g (SplitOutput b) h after formed step listed w there =
-    split_listed g h b step.new after formed
+near_listed g (SplitOutput b) h set formed step listed w there =
+    split_listed g h b step.new set formed
     (ap (λ t. not (member step.new (end_vertices h.inputs) || t))
     (ap (λ es. member step.new (end_vertices es)) step.outputs ∙ member-move_end-new b step.new g.outputs
     ∙ ap (λ t. t || member step.new (end_vertices g.outputs)) step.has_output)
     ∙ ap not (or-true (member step.new (end_vertices h.inputs))))
     listed w (subst (λ n. member w (n ∷ near g b) ≡ true) (new_vertex-split g step.new h step.fresh step.vertices) there)
-near_listed g (DropLone u) h after formed step listed w there = listed w (lone_near w u (neighbours g u) there)
-near_listed g (FuseInto u) h after formed step listed w there = listed w there
-near_listed g (FuseTwin u v) h after formed step listed w there = listed w (twin_near w u v (neighbours g u) (neighbours g v) there)
+near_listed g (DropLone u) h set formed step listed w there = listed w (lone_near w u (neighbours g u) there)
+near_listed g (FuseInto u) h set formed step listed w there = listed w there
+near_listed g (FuseTwin u v) h set formed step listed w there = listed w (twin_near w u v (neighbours g u) (neighbours g v) there)
 
--- candidates after a step, where all near it were added
-pub candidates_after : (g : Graph) (s : Step) (h : Graph) (before after : Candidates) → WellFormed g → IsStep g s h → HasCandidates g before →
-    KeepsCandidates before after → ((w : ℕ) → member w (near_step g s) ≡ true → IsListed h w after) → HasCandidates h after
-candidates_after g s h before after formed step has keeps listed =
-    covered_where g s h before after formed step has keeps (near_listed g s h after (step_kept g s h formed step) step listed)
+or_more : (a b c : Bool) → (a || b) ≡ true → (a || (b || c)) ≡ true
+or_more true b c e = refl
+or_more false b c e = ap (λ t. t || c) e
+
+or_last : (a b c : Bool) → c ≡ true → (a || (b || c)) ≡ true
+or_last a b c e = ap (λ t. a || (b || t)) e ∙ ap (λ t. a || t) (or-true b) ∙ or-true a
+
+-- candidates after a step but for the vertices near it, as before it but for others
+module _ (touched : List ℕ) (g : Graph) (s : Step) (h : Graph) (c : Candidates) (formed : WellFormed g) (step : IsStep g s h) where
+  abbrev but_near : Kind → ℕ → Bool
+  but_near k = with_touched (touched ++ near_step g s) (is_candidate h c k)
+
+  -- a vertex that isn't touched has as many neighbours as before
+  still_but : (k : Kind) (w p : ℕ) → IsPlaceOf h (place_kind k) w p → member w (touched_by g s h) ≡ false
+      → with_touched touched (is_candidate g c k) w ≡ true → but_near k w ≡ true
+  still_but k w p at f there =
+      ap₂ (λ a b. a || b)
+      (ap (λ (row : List ℕ). contains candidate_cmp c.set (record { place = place_of k; neighbours = length row; number = w }))
+      (step_touches g s h formed step w (lives h (place_kind k) w p at) f).row)
+      (member-append w touched (near_step g s))
+      ∙ or_more (is_candidate g c k w) (member w touched) (member w (near_step g s)) there
+
+  near_but : (w : ℕ) → member w (near_step g s) ≡ true → IsListedIn h w but_near
+  near_but w there k v place =
+      ap (λ b. is_candidate h c k w || b) (member-append w touched (near_step g s))
+      ∙ or_last (is_candidate h c k w) (member w touched) (member w (near_step g s)) there
+
+  pub candidates_after : HasCandidatesBut touched g c → HasCandidatesBut (touched ++ near_step g s) h c
+  candidates_after has =
+      covered_where g s h (λ k. with_touched touched (is_candidate g c k)) but_near formed step has still_but
+      (near_listed g s h but_near (step_kept g s h formed step) step near_but)
+
+-- all of them, once the vertices that are left out are listed
+pub candidates_all : (touched : List ℕ) (g : Graph) (before after : Candidates) → HasCandidatesBut touched g before → KeepsCandidates before after →
+    ((w : ℕ) → member w touched ≡ true → IsListed g w after) → HasCandidates g after
+candidates_all touched g before after has keeps listed k u v place =
+    one_of_four (is_candidate g before k u) (member u touched) (is_candidate g before k v) (member v touched)
+    (is_mutual (place_kind k)) (is_candidate g after k u) (is_candidate g after k v) (has k u v place)
+    (keeps (candidate_at g k u)) (λ t. listed u t k v place)
+    (λ m. keeps (candidate_at g k v)) (λ m t. listed v t k u (exchanged g (place_kind k) u v m place))
+
+pub candidates_but : (touched : List ℕ) (g : Graph) (c : Candidates) → touched ≡ [] → HasCandidates g c → HasCandidatesBut touched g c
+candidates_but touched g c none has k u v place =
+    ap (λ (vs : List ℕ). with_touched vs (is_candidate g c k) u || (is_mutual (place_kind k) && with_touched vs (is_candidate g c k) v)) none
+    ∙ ap₂ (λ a b. a || (is_mutual (place_kind k) && b)) (or-false (is_candidate g c k u)) (or-false (is_candidate g c k v)) ∙ has k u v place
 
 -- ---- the first candidate
 -- no place is where nothing of its kind applies; two gadgets without neighbours are an earlier kind than twins

@@ -1,8 +1,7 @@
 -- Each move lowers the number that bounds the moves.
 use Rattle.std.proofs.Common.{◌≡◌, refl, sym, ◌∙◌, ap, subst, ℕ, zero, suc, ◌+◌, ◌*◌, ◌<◌, ◌≤◌, Bool, true, false, if◌then◌else◌, not, ◌&&◌, List, [], ◌∷◌, ◌++◌, length, true≢false, arith}
-use Rattle.zx_model.specs.Phase.{turn, is_odd, is_half_turns, is_quarter_turn, sum_of_phases}
-use Rattle.zx_model.specs.Bits.{xor, member, one_if}
-use Rattle.zx_model.proofs.Odd.{is_odd-sum}
+use Rattle.zx_model.specs.Phase.{turn, is_odd, is_half_turns, is_quarter_turn}
+use Rattle.zx_model.specs.Bits.{member, one_if}
 use Rattle.zx_model.proofs.Phases.{odd_otherwise}
 use Rattle.zx_calculus.specs.Graph.{XY, XZ, YZ, Vertex, Graph, ids, end_vertices, is_XY, kind_of, plane_of, phase_of, Live, WellFormed, is_YZ, is_interior, is_XZ}
 use Rattle.zx_calculus.specs.Complements.{IsLocalComplement}
@@ -10,7 +9,7 @@ use Rattle.zx_calculus.specs.Deletions.{IsDelete}
 use Rattle.zx_calculus.specs.Pivots.{IsPivot}
 use Rattle.zx_calculus.specs.Splits.{spider_of_phase_zero, IsSplitInput, IsSplitOutput}
 use Rattle.zx_calculus.specs.Gadgets.{IsDropLone, IsFuseInto, IsFuseTwin}
-use Rattle.zx_calculus.specs.Counts.{not_XY, has_input, has_output, is_odd_at, is_even_at}
+use Rattle.zx_calculus.specs.Counts.{not_XY, has_input, has_output, is_odd_at, is_even_at, is_odd_fused}
 use Rattle.zx_calculus.specs.Steps as calculus
 use Rattle.zx_calculus.specs.Steps.{IsRun}
 use Rattle.zx_calculus.proofs.Ids.{apart_of_member}
@@ -34,6 +33,10 @@ use Rattle.zx_reduce.proofs.MoveRuns.{IsRun-split}
 one_at_most : (b : Bool) → one_if b ≤ 1
 one_at_most true = omega arith
 one_at_most false = omega arith
+
+either_one : (b : Bool) → one_if b + one_if (not b) ≡ 1
+either_one true = refl
+either_one false = refl
 
 -- ---- local complement and deletion
 delete_falls : (g : Graph) (u : ℕ) (h : Graph) → WellFormed g → IsDelete g u h → most_moves h + 3 ≡ most_moves g
@@ -111,42 +114,31 @@ drop_falls g u h w d =
     falls e e' p p' o o' true x y z = omega arith
     falls e e' p p' o o' false x y z = omega arith
 
--- u goes, and its phase is added to that of v, which is interior or not
-fusing_falls : (e e' p p' o o' : ℕ) (inside odd_u odd_v fused : Bool) → fused ≡ xor odd_v odd_u
+-- u goes, and its phase is added to that of v, which is interior or not; it doesn't matter which of the phases are odd
+fusing_falls : (e e' p p' o o' : ℕ) (inside odd_u odd_v fused : Bool)
     → e' + one_if (not odd_u) + one_if (inside && not odd_v) ≡ e + one_if (inside && not fused)
-    → p' + 1 ≡ p → o' + one_if odd_u + one_if odd_v ≡ o + one_if fused
-    → 2 * e' + p' + 2 * o' < 2 * e + p + 2 * o
-fusing_falls e e' p p' o o' inside odd_u odd_v true f x y z = by_parity inside odd_u odd_v f x z
+    → p' + 1 ≡ p → o' + one_if odd_u + one_if odd_v ≡ o + one_if fused → 2 * e' + p' + 2 * o' < 2 * e + p + 2 * o
+fusing_falls e e' p p' o o' true odd_u odd_v fused x y z =
+    falls _ _ _ _ _ _ (either_one odd_u) (either_one odd_v) (either_one fused) x z
   where
-    by_parity : (i a b : Bool) → true ≡ xor b a → e' + one_if (not a) + one_if (i && not b) ≡ e + one_if (i && false)
-        → o' + one_if a + one_if b ≡ o + 1 → 2 * e' + p' + 2 * o' < 2 * e + p + 2 * o
-    by_parity true true false f x z = omega arith
-    by_parity false true false f x z = omega arith
-    by_parity true false true f x z = omega arith
-    by_parity false false true f x z = omega arith
-    by_parity i true true f x z = cc
-    by_parity i false false f x z = cc
-fusing_falls e e' p p' o o' inside odd_u odd_v false f x y z = by_parity inside odd_u odd_v f x z
+    falls : (a a' b b' f f' : ℕ) → a + a' ≡ 1 → b + b' ≡ 1 → f + f' ≡ 1 → e' + a' + b' ≡ e + f' → o' + a + b ≡ o + f
+        → 2 * e' + p' + 2 * o' < 2 * e + p + 2 * o
+    falls a a' b b' f f' q r s t u = omega (arith, y)
+fusing_falls e e' p p' o o' false odd_u odd_v fused x y z =
+    falls _ _ _ _ (either_one odd_u) (one_at_most fused) x z
   where
-    by_parity : (i a b : Bool) → false ≡ xor b a → e' + one_if (not a) + one_if (i && not b) ≡ e + one_if (i && true)
-        → o' + one_if a + one_if b ≡ o + 0 → 2 * e' + p' + 2 * o' < 2 * e + p + 2 * o
-    by_parity true true true f x z = omega arith
-    by_parity false true true f x z = omega arith
-    by_parity true false false f x z = omega arith
-    by_parity false false false f x z = omega arith
-    by_parity i true false f x z = cc
-    by_parity i false true f x z = cc
+    falls : (a a' b f : ℕ) → a + a' ≡ 1 → f ≤ 1 → e' + a' + 0 ≡ e + 0 → o' + a + b ≡ o + f
+        → 2 * e' + p' + 2 * o' < 2 * e + p + 2 * o
+    falls a a' b f q r t u = omega (arith, y)
 
 fuse_into_falls : (g : Graph) (u : ℕ) (h : Graph) → WellFormed g → IsFuseInto g u h → most_moves h < most_moves g
 fuse_into_falls g u h w c =
-    fusing_falls _ _ _ _ _ _ (is_interior g c.into) (is_odd_at g u) (is_odd_at g c.into)
-    (is_odd (sum_of_phases (phase_of g c.into) (phase_of g u))) (is_odd-sum (phase_of g c.into) (phase_of g u))
+    fusing_falls _ _ _ _ _ _ (is_interior g c.into) (is_odd_at g u) (is_odd_at g c.into) (is_odd_fused g u c.into)
     (even-fuse_into g u h w c) (planes-fuse_into g u h w c) (odd-fuse_into g u h w c)
 
 fuse_twin_falls : (g : Graph) (u v : ℕ) (h : Graph) → WellFormed g → IsFuseTwin g u v h → most_moves h < most_moves g
 fuse_twin_falls g u v h w c =
-    fusing_falls _ _ _ _ _ _ true (is_odd_at g v) (is_odd_at g u)
-    (is_odd (sum_of_phases (phase_of g u) (phase_of g v))) (is_odd-sum (phase_of g u) (phase_of g v))
+    fusing_falls _ _ _ _ _ _ true (is_odd_at g v) (is_odd_at g u) (is_odd_fused g v u)
     (even-fuse_twin g u v h w c) (planes-fuse_twin g u v h w c) (odd-fuse_twin g u v h w c)
 
 -- ---- the boundary move

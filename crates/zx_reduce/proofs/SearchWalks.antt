@@ -1,13 +1,20 @@
 -- Walks over lists, as far as they have come.
-use Rattle.std.proofs.Common.{Option, Some, None, ◌≡◌, ◌⊎◌, inl, inr, sym, ◌∙◌, ap, subst, ℕ, suc, ◌<◌, true, false, ◌||◌, eqb, List, [], ◌∷◌, ◌++◌, length, take, get_or, IfSome, IfNone, append_assoc, append-nil, eqb-true}
+use Rattle.std.proofs.Common.{Option, Some, None, ◌≡◌, ◌⊎◌, inl, inr, refl, sym, ◌∙◌, ap, subst, ℕ, suc, ◌<◌, true, false, ◌||◌, eqb, List, [], ◌∷◌, ◌++◌, length, take, get_or, IfSome, IfNone, append_assoc, append-nil, eqb-true}
 use Rattle.std.proofs.Math.Seq.{take-length}
+use Rattle.std.proofs.lemmas.List.Filters.{dedup_is}
+use Rattle.std.proofs.lemmas.List.Kept.{Contains-dedup_nat}
+use Rattle.std.proofs.lemmas.List.Sorted.{Contains-permutation}
+use Rattle.std.proofs.lemmas.Map.Views.{Contains-from_any}
 use Rattle.std.specs.Iterator.{YieldsFirst}
+use Rattle.std.specs.List.{list_any, dedup}
+use Rattle.std.specs.List.Retain.{IsFiltered, DiffersFromLast}
+use Rattle.std.specs.List.Sorted.{IsPermutation}
 use Rattle.zx_model.specs.Bits.{member}
 use Rattle.zx_calculus.specs.Graph.{Graph, neighbours}
 use Rattle.zx_calculus.specs.Complements.{may_complement}
 use Rattle.zx_calculus.proofs.Booleans.{or-true, or-false}
 use Rattle.zx_calculus.proofs.Ids.{by_test, eqb-self}
-use Rattle.open_graph.proofs.Removing.{member-take_more}
+use Rattle.open_graph.proofs.Removing.{member-item, member-take_more}
 
 -- what a call of `next` says, by its answer
 pub next_some : (r : Option ℕ) (s t : List ℕ) (u : ℕ) → YieldsFirst (λ rest. rest) s r t → r ≡ Some u → s ≡ u ∷ t
@@ -48,6 +55,18 @@ pub all_passed : (P : ℕ → Type 0) (before rest all : List ℕ) → before ++
 all_passed P before rest all e f passed p m =
     let whole : all ≡ before = sym e ∙ ap (λ xs. before ++ xs) f ∙ append-nil before in
     passed p (sym (ap (member p) whole) ∙ m)
+
+-- ---- lists without repetition
+-- membership as std has it
+member-any : (w : ℕ) (vs : List ℕ) → list_any (eqb w) vs ≡ member w vs
+member-any w [] = refl
+member-any w (v ∷ vs) = ap (λ b. eqb w v || b) (member-any w vs)
+
+-- neither a sort nor what takes out repetitions loses a member
+pub members_stay : (old sorted new : List ℕ) → IsPermutation old sorted → IsFiltered (DiffersFromLast eqb) [] sorted new → (w : ℕ) → member w old ≡ true → member w new ≡ true
+members_stay old sorted new moved kept w there =
+    let at = Contains-dedup_nat sorted w (Contains-permutation old sorted w moved (Contains-from_any eqb-true w old (member-any w old ∙ there))) in
+    ap (member w) (dedup_is eqb sorted new kept) ∙ member-item (dedup eqb sorted) at.0 w at.1 (sym at.2)
 
 -- ---- the best so far
 pub best_found : (g : Graph) (u : ℕ) (best next : Option ℕ) (v : ℕ) → member v (neighbours g u) ≡ true

@@ -1,7 +1,7 @@
 //! Rewrites of a graph and of the order of its flow, by their names: where memory runs out, a part of
 //! the rewrite is done.
 
-ghost use Rattle.std.specs.Prelude.{◌≡◌, ◌++◌, ◌∷◌, true, IfOk, OnOk};
+ghost use Rattle.std.specs.Prelude.{◌≡◌, ◌++◌, ◌∷◌, true, OnOk};
 ghost use Rattle.zx_calculus.specs.Graph.{neighbours, Live, WellFormed};
 ghost use Rattle.zx_calculus.specs.Steps.{allowed, IsStep};
 ghost use Rattle.zx_reduce.specs.Steps.{step_named};
@@ -11,7 +11,7 @@ use crate::ranks::Ranks;
 use crate::step::Step;
 use local_comp::{delete_in_graph, local_complement_in_graph};
 use open_graph::{OpenGraph, VertexId};
-use std::alloc::{AllocError, Global};
+use std::alloc::AllocError;
 use zx_boundary::{split_input_in_graph, split_output_in_graph};
 use zx_gadgets::{drop_lone_in_graph, fuse_into_in_graph, fuse_twin_in_graph};
 use zx_pivot::pivot_in_graph;
@@ -55,33 +55,28 @@ pub(crate) fn rewrite(g: &mut OpenGraph, order: &mut Ranks, step: &Step) -> Resu
     }
 }
 
-// The vertices of a step that is allowed, and their neighbours.
-pub(crate) fn vertices_near(
-    alloc: Global,
+// Adds the vertices of a step that is allowed, and their neighbours.
+pub(crate) fn add_vertices_near(
+    found: &mut Vec<VertexId>,
     g: &OpenGraph,
     step: &Step,
-) -> Result<Vec<VertexId>, AllocError>
+) -> Result<(), AllocError>
     requires valid { WellFormed g.now.graph }
     requires allowed { allowed g.now.graph (step_named step.now) ≡ true }
-    ensures { IfOk result (λ near. near.items ≡ near_step g.now.graph (step_named step.now)) }
+    ensures { OnOk result
+        (found.new.items ≡ found.old.items ++ near_step g.now.graph (step_named step.now)) }
 {
     match step {
         Step::Pivot(u, v) | Step::FuseTwin(u, v) => {
-            let mut found = Vec::new(alloc);
-            add_near(&mut found, g, *u)?;
-            add_near(&mut found, g, *v)?;
-            Ok(found)
+            add_near(found, g, *u)?;
+            add_near(found, g, *v)
         }
         Step::LocalComplement(u)
         | Step::Delete(u)
         | Step::SplitInput(u)
         | Step::SplitOutput(u)
         | Step::DropLone(u)
-        | Step::FuseInto(u) => {
-            let mut found = Vec::new(alloc);
-            add_near(&mut found, g, *u)?;
-            Ok(found)
-        }
+        | Step::FuseInto(u) => add_near(found, g, *u),
     }
 }
 

@@ -11,7 +11,7 @@ use crate::moves::Move;
 use crate::step::Step;
 use open_graph::{OpenGraph, VertexId};
 use std::alloc::{AllocError, Global};
-use zx_model::Eighth;
+use zx_model::Sixteenth;
 
 // The steps that a move consists of.
 pub(crate) fn steps_of(alloc: Global, g: &OpenGraph, m: &Move) -> Result<Vec<Step>, AllocError>
@@ -70,7 +70,7 @@ fn add_splits(steps: &mut Vec<Step>, g: &OpenGraph, b: VertexId) -> Result<(), A
 }
 
 // Adds the steps by which a YZ vertex of this phase goes, where it does.
-fn add_removal(steps: &mut Vec<Step>, phase: Eighth, b: VertexId) -> Result<(), AllocError>
+fn add_removal(steps: &mut Vec<Step>, phase: Sixteenth, b: VertexId) -> Result<(), AllocError>
     ensures { OnOk result (map step_named steps.new.items ≡
         map step_named steps.old.items ++ removal_of phase b) }
 {

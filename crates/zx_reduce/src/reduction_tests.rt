@@ -12,13 +12,13 @@ use std::process::Abort;
 use std::sync::ledger::{Blank, Ledger};
 use std::test::Fail;
 use zx_flow::Flow;
-use zx_model::Eighth;
+use zx_model::Sixteenth;
 
 // Input, 0, 1, 2, output, with an eighth of a turn at 0: the circuit T, H, H.
 fn path_after_an_eighth(alloc: Global) -> Result<(OpenGraph, Flow), Fail>
     ensures { IfOk result (λ made. IsFlow made.0.graph made.1.flow) }
 {
-    let (mut graph, mut flow) = wire(alloc, Eighth::new(1), false, false)?;
+    let (mut graph, mut flow) = wire(alloc, Sixteenth::new(2), false, false)?;
     apply(&mut graph, &mut flow, Step::SplitOutput(id(0)))?;
     apply(&mut graph, &mut flow, Step::SplitOutput(id(1)))?;
     Ok((graph, flow))
@@ -60,7 +60,7 @@ fn reduced(
 fn a_quarter_turn_goes(rt: HostRuntime) -> Result<(), Fail> {
     let steps = [Step::LocalComplement(id(0)), Step::Delete(id(0))];
     let text = reduced(&rt, rt.alloc(), path_of_three(rt.alloc())?, &steps)?;
-    assert_eq!(rt; text.as_slice(), b"66 bc:b>c< bc".as_slice());
+    assert_eq!(rt; text.as_slice(), b"CC bc:b>c< bc".as_slice());
     Ok(())
 }
 
@@ -73,7 +73,7 @@ fn a_pivot_at_the_boundary(rt: HostRuntime) -> Result<(), Fail> {
         Step::FuseInto(id(0)),
     ];
     let text = reduced(&rt, rt.alloc(), path_after_an_eighth(rt.alloc())?, &steps)?;
-    assert_eq!(rt; text.as_slice(), b"10 cd:d->c< dc".as_slice());
+    assert_eq!(rt; text.as_slice(), b"20 cd:d->c< dc".as_slice());
     Ok(())
 }
 
@@ -84,8 +84,9 @@ fn twins_make_an_edge(rt: HostRuntime) -> Result<(), Fail> {
         Step::LocalComplement(id(2)),
         Step::Delete(id(2)),
     ];
-    let text = reduced(&rt, rt.alloc(), twins(&rt, rt.alloc())?, &steps)?;
-    assert_eq!(rt; text.as_slice(), b"22 ab:ab>ab<".as_slice());
+    let start = twins(&rt, rt.alloc(), Sixteenth::new(2), Sixteenth::new(2))?;
+    let text = reduced(&rt, rt.alloc(), start, &steps)?;
+    assert_eq!(rt; text.as_slice(), b"44 ab:ab>ab<".as_slice());
     Ok(())
 }
 
@@ -93,6 +94,6 @@ fn twins_make_an_edge(rt: HostRuntime) -> Result<(), Fail> {
 fn small_gadgets_go(rt: HostRuntime) -> Result<(), Fail> {
     let steps = [Step::DropLone(id(2)), Step::FuseInto(id(1))];
     let text = reduced(&rt, rt.alloc(), small_gadgets(&rt, rt.alloc())?, &steps)?;
-    assert_eq!(rt; text.as_slice(), b"3:a>a<".as_slice());
+    assert_eq!(rt; text.as_slice(), b"6:a>a<".as_slice());
     Ok(())
 }

@@ -18,6 +18,14 @@ use local_comp::{may_complement, may_delete};
 use open_graph::{OpenGraph, Plane, VertexId};
 use zx_gadgets::is_gadget;
 
+// Edges are counted where there are at most so many pairs of another neighbour of the one vertex and
+// another of the other.
+const MOST_PAIRS: usize = 256;
+
+// The cost of a pivot that changes nothing. No more than this is taken off where edges are counted
+// and both vertices have other neighbours.
+const NO_CHANGE: usize = 4 * MOST_PAIRS;
+
 /// The first kind of move that applies anywhere, and where, or None where no move is left.
 pub fn next_move(g: &OpenGraph) -> Option<Move>
     ensures found { IfSome result (AppliesAt g.now.graph) }
@@ -165,7 +173,7 @@ fn twins_at(g: &OpenGraph, u: VertexId) -> Option<Move>
     Some(Move::Twins(u, twin))
 }
 
-// Of the neighbours without ends the one with the fewest neighbours.
+// Of the neighbours without ends the one whose pivot with u costs least.
 fn inner_neighbour(g: &OpenGraph, u: VertexId) -> Option<VertexId>
     requires { Live g.now.graph u }
     ensures found { IfSome result (λ v.
@@ -174,29 +182,101 @@ fn inner_neighbour(g: &OpenGraph, u: VertexId) -> Option<VertexId>
         may_complement g.now.graph v ≡ false) }
 {
     let mut best = None;
+    let mut least = 0;
     for v in g.neighbours(u) {
-        best = better_of(g, best, *v);
+        (best, least) = better_of(g, u, best, least, *v);
     }
     best
 }
 
-// The best so far, or v, where that has no end and fewer neighbours.
-fn better_of(g: &OpenGraph, best: Option<VertexId>, v: VertexId) -> Option<VertexId>
-    ensures found { IfSome result (λ w.
+// The best so far with its cost, or v with its own, where that has no end and costs less.
+fn better_of(
+    g: &OpenGraph,
+    u: VertexId,
+    best: Option<VertexId>,
+    least: usize,
+    v: VertexId,
+) -> (Option<VertexId>, usize)
+    requires { Live g.now.graph u }
+    ensures found { IfSome result.0 (λ w.
         ((w ≡ v) × (may_complement g.now.graph v ≡ true)) ⊎ (best ≡ Some w)) }
-    ensures none { IfNone result ((best ≡ None) × (may_complement g.now.graph v ≡ false)) }
+    ensures none { IfNone result.0 ((best ≡ None) × (may_complement g.now.graph v ≡ false)) }
 {
     if !may_complement(g, v) {
-        return best;
+        return (best, least);
     }
-    let Some(w) = best else {
-        return Some(v);
-    };
-    if degree(g, v) < degree(g, w) {
-        Some(v)
+    let cost = cost(g, u, v);
+    if best.is_none() || cost < least {
+        (Some(v), cost)
     } else {
-        Some(w)
+        (best, least)
     }
+}
+
+// What a pivot of u with v costs, to compare it with those of u with other vertices: about how many
+// edges there are more once it is made and u deleted. Where there are too many pairs to count edges,
+// it is above all costs that are counted, and rises with the neighbours of v.
+fn cost(g: &OpenGraph, u: VertexId, v: VertexId) -> usize
+    requires { Live g.now.graph u }
+{
+    // How many other neighbours each has. Once u is deleted, v has those of u, and as many edges are
+    // gone as v had other neighbours.
+    let near = degree(g, u).saturating_sub(1);
+    let far = degree(g, v).saturating_sub(1);
+    let pairs = near.saturating_mul(far);
+    if pairs > MOST_PAIRS {
+        return far.saturating_add(NO_CHANGE + MOST_PAIRS);
+    }
+    let gone = edges_across(g, u, v)
+        .saturating_mul(2)
+        .saturating_add(pairs_in_common(g, u, v))
+        .saturating_add(far);
+    (NO_CHANGE + pairs).saturating_sub(gone)
+}
+
+// How many of the pairs are of two common neighbours, or of one with itself: a pivot joins none of
+// these.
+fn pairs_in_common(g: &OpenGraph, u: VertexId, v: VertexId) -> usize {
+    let common = common_neighbours(g, u, v);
+    common.saturating_mul(common)
+}
+
+// About how many edges join another neighbour of u to another of v: a pivot takes these out, and
+// joins the other such pairs. Edges to u are counted too, as many for each v, and those between two
+// common neighbours twice.
+fn edges_across(g: &OpenGraph, u: VertexId, v: VertexId) -> usize
+    requires { Live g.now.graph u }
+{
+    let mut edges: usize = 0;
+    for p in g.neighbours(u) {
+        if *p != v {
+            edges = edges.saturating_add(common_neighbours(g, *p, v));
+        }
+    }
+    edges
+}
+
+// How many neighbours two vertices have in common.
+fn common_neighbours(g: &OpenGraph, p: VertexId, v: VertexId) -> usize {
+    if !g.is_live(p) || !g.is_live(v) {
+        return 0;
+    }
+    let row = g.neighbours(p);
+    let other = g.neighbours(v);
+    if row.len() < other.len() {
+        count_among(row, other)
+    } else {
+        count_among(other, row)
+    }
+}
+
+fn count_among(ids: &[VertexId], others: &[VertexId]) -> usize {
+    ids.iter().filter(|id| stands_in(others, **id)).count()
+}
+
+fn stands_in(ids: &[VertexId], id: VertexId) -> bool {
+    ids.binary_search_by_key(&id.get(), |other| other.get())
+        .is_ok()
 }
 
 // The number of a vertex's neighbours.

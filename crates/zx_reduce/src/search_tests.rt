@@ -4,18 +4,18 @@ use crate::{KINDS, Move, next_move};
 use open_graph::{End, OpenGraph, Plane, VertexId};
 use std::alloc::Global;
 use std::test::Fail;
-use zx_model::Eighth;
+use zx_model::Sixteenth;
 
 fn id(number: usize) -> VertexId {
     VertexId::new(number)
 }
 
-fn xy(graph: &mut OpenGraph, phase: Eighth) -> Result<(), Fail> {
+fn xy(graph: &mut OpenGraph, phase: Sixteenth) -> Result<(), Fail> {
     graph.add_vertex(Plane::XY, phase)?;
     Ok(())
 }
 
-fn yz(graph: &mut OpenGraph, phase: Eighth) -> Result<(), Fail> {
+fn yz(graph: &mut OpenGraph, phase: Sixteenth) -> Result<(), Fail> {
     graph.add_vertex(Plane::YZ, phase)?;
     Ok(())
 }
@@ -50,20 +50,20 @@ fn vertices_that_go_by_themselves(rt: HostRuntime) -> Result<(), Fail> {
     // A spider of a quarter turn, interior.
     let mut graph = OpenGraph::new(rt.alloc());
     assert_eq!(rt; next_move(&graph), None);
-    xy(&mut graph, Eighth::new(1))?;
+    xy(&mut graph, Sixteenth::new(2))?;
     assert_eq!(rt; next_move(&graph), None);
-    xy(&mut graph, Eighth::new(6))?;
+    xy(&mut graph, Sixteenth::new(12))?;
     join(&mut graph, 0, 1)?;
     assert_eq!(rt; next_move(&graph), Some(Move::QuarterSpider(id(1))));
 
     // Earlier kinds at later vertices come first.
-    graph.add_vertex(Plane::XZ, Eighth::new(3))?;
+    graph.add_vertex(Plane::XZ, Sixteenth::new(6))?;
     join(&mut graph, 0, 2)?;
     assert_eq!(rt; next_move(&graph), Some(Move::FromXZ(id(2))));
-    yz(&mut graph, Eighth::new(2))?;
+    yz(&mut graph, Sixteenth::new(4))?;
     join(&mut graph, 0, 3)?;
     assert_eq!(rt; next_move(&graph), Some(Move::QuarterGadget(id(3))));
-    yz(&mut graph, Eighth::new(4))?;
+    yz(&mut graph, Sixteenth::new(8))?;
     join(&mut graph, 0, 4)?;
     assert_eq!(rt; next_move(&graph), Some(Move::Delete(id(4))));
     assert_eq!(rt; Move::Delete(id(4)).kind(), KINDS[0]);
@@ -74,25 +74,32 @@ fn vertices_that_go_by_themselves(rt: HostRuntime) -> Result<(), Fail> {
 fn pivots(rt: HostRuntime) -> Result<(), Fail> {
     // A spider of half a turn beside a vertex with an input.
     let mut graph = OpenGraph::new(rt.alloc());
-    xy(&mut graph, Eighth::new(4))?;
-    xy(&mut graph, Eighth::new(0))?;
+    xy(&mut graph, Sixteenth::new(8))?;
+    xy(&mut graph, Sixteenth::new(0))?;
     input(&mut graph, 1)?;
     join(&mut graph, 0, 1)?;
     assert_eq!(rt; next_move(&graph), Some(Move::BoundaryPivot(id(0), id(1))));
 
-    // Two interior neighbours: the second has fewer neighbours.
-    xy(&mut graph, Eighth::new(1))?;
-    xy(&mut graph, Eighth::new(3))?;
+    // Two interior neighbours: the pivot with the second one adds fewer edges.
+    xy(&mut graph, Sixteenth::new(2))?;
+    xy(&mut graph, Sixteenth::new(6))?;
+    xy(&mut graph, Sixteenth::new(10))?;
     join(&mut graph, 0, 2)?;
     join(&mut graph, 0, 3)?;
     join(&mut graph, 2, 1)?;
+    join(&mut graph, 2, 4)?;
     assert_eq!(rt; next_move(&graph), Some(Move::InnerPivot(id(0), id(3))));
+
+    // The first one has more neighbours, but the pivot with it takes out more edges.
+    join(&mut graph, 3, 1)?;
+    join(&mut graph, 4, 1)?;
+    assert_eq!(rt; next_move(&graph), Some(Move::InnerPivot(id(0), id(2))));
 
     // Two gadgets.
     let mut graph = OpenGraph::new(rt.alloc());
-    yz(&mut graph, Eighth::new(1))?;
+    yz(&mut graph, Sixteenth::new(2))?;
     assert_eq!(rt; next_move(&graph), Some(Move::LoneGadget(id(0))));
-    yz(&mut graph, Eighth::new(3))?;
+    yz(&mut graph, Sixteenth::new(6))?;
     join(&mut graph, 0, 1)?;
     assert_eq!(rt; next_move(&graph), Some(Move::GadgetPair(id(0), id(1))));
     Ok(())
@@ -101,13 +108,13 @@ fn pivots(rt: HostRuntime) -> Result<(), Fail> {
 // The spiders 0, 1 and 2, and gadgets on them: 3 on 0 and 1, and 4 on 0 and 2.
 fn gadgets(alloc: Global) -> Result<OpenGraph, Fail> {
     let mut graph = OpenGraph::new(alloc);
-    xy(&mut graph, Eighth::new(1))?;
-    xy(&mut graph, Eighth::new(3))?;
-    xy(&mut graph, Eighth::new(5))?;
-    yz(&mut graph, Eighth::new(7))?;
+    xy(&mut graph, Sixteenth::new(2))?;
+    xy(&mut graph, Sixteenth::new(6))?;
+    xy(&mut graph, Sixteenth::new(10))?;
+    yz(&mut graph, Sixteenth::new(14))?;
     join(&mut graph, 3, 0)?;
     join(&mut graph, 3, 1)?;
-    yz(&mut graph, Eighth::new(1))?;
+    yz(&mut graph, Sixteenth::new(2))?;
     join(&mut graph, 4, 0)?;
     join(&mut graph, 4, 2)?;
     Ok(graph)
@@ -120,7 +127,7 @@ fn gadgets_are_fused(rt: HostRuntime) -> Result<(), Fail> {
     assert_eq!(rt; next_move(&graph), None);
 
     // One more on 0, and then on 0 and 1.
-    yz(&mut graph, Eighth::new(3))?;
+    yz(&mut graph, Sixteenth::new(6))?;
     join(&mut graph, 5, 0)?;
     assert_eq!(rt; next_move(&graph), Some(Move::SingleGadget(id(5))));
     join(&mut graph, 5, 1)?;

@@ -14,7 +14,7 @@ use std::alloc::Global;
 use std::process::Abort;
 use std::test::Fail;
 use zx_flow::{Flow, FlowTable};
-use zx_model::Eighth;
+use zx_model::Sixteenth;
 
 pub fn id(number: usize) -> VertexId {
     VertexId::new(number)
@@ -23,7 +23,7 @@ pub fn id(number: usize) -> VertexId {
 // The vertex 0 between an input and an output, which carry a Hadamard or not.
 pub fn wire(
     alloc: Global,
-    phase: Eighth,
+    phase: Sixteenth,
     input: bool,
     output: bool,
 ) -> Result<(OpenGraph, Flow), Fail>
@@ -47,7 +47,7 @@ pub fn wire(
 pub fn path_of_three(alloc: Global) -> Result<(OpenGraph, Flow), Fail>
     ensures { IfOk result (λ made. IsFlow made.0.graph made.1.flow) }
 {
-    let (mut graph, mut flow) = wire(alloc, Eighth::new(2), true, true)?;
+    let (mut graph, mut flow) = wire(alloc, Sixteenth::new(4), true, true)?;
     apply(&mut graph, &mut flow, Step::SplitInput(id(0)))?;
     apply(&mut graph, &mut flow, Step::SplitOutput(id(0)))?;
     Ok((graph, flow))
@@ -57,7 +57,7 @@ pub fn path_of_three(alloc: Global) -> Result<(OpenGraph, Flow), Fail>
 pub fn path_of_four(alloc: Global) -> Result<(OpenGraph, Flow), Fail>
     ensures { IfOk result (λ made. IsFlow made.0.graph made.1.flow) }
 {
-    let (mut graph, mut flow) = wire(alloc, Eighth::new(0), false, true)?;
+    let (mut graph, mut flow) = wire(alloc, Sixteenth::new(0), false, true)?;
     apply(&mut graph, &mut flow, Step::SplitOutput(id(0)))?;
     apply(&mut graph, &mut flow, Step::SplitOutput(id(1)))?;
     apply(&mut graph, &mut flow, Step::SplitOutput(id(2)))?;
@@ -75,7 +75,7 @@ fn add_wire(rt: &impl Abort, graph: &mut OpenGraph, number: usize) -> Result<(),
     ensures graph { OnOk result (graph.new.graph ≡ with_wire number graph.old.graph) }
     ensures valid { WellFormed graph.new.graph }
 {
-    let v = graph.add_vertex(Plane::XY, Eighth::new(0))?;
+    let v = graph.add_vertex(Plane::XY, Sixteenth::new(0))?;
     assert!(rt; v.get() == number);
     let end = End {
         vertex: v,
@@ -98,7 +98,7 @@ fn add_gadget(
     graph: &mut OpenGraph,
     flow: &mut Flow,
     number: usize,
-    phase: Eighth,
+    phase: Sixteenth,
 ) -> Result<(), Fail>
     ensures graph { OnOk result (graph.new.graph ≡ with_gadget number phase graph.old.graph) }
     ensures valid { WellFormed graph.new.graph }
@@ -124,16 +124,21 @@ fn join(graph: &mut OpenGraph, u: usize, v: usize) -> Result<(), Fail>
     Ok(())
 }
 
-// Two gadgets of equal neighbours.
-pub fn twins(rt: &impl Abort, alloc: Global) -> Result<(OpenGraph, Flow), Fail>
+// Two gadgets of these phases, with equal neighbours.
+pub fn twins(
+    rt: &impl Abort,
+    alloc: Global,
+    first: Sixteenth,
+    second: Sixteenth,
+) -> Result<(OpenGraph, Flow), Fail>
     ensures { IfOk result (λ made. IsFlow made.0.graph made.1.flow) }
 {
     let mut graph = OpenGraph::new(alloc);
     let mut flow = Flow::of_table(&graph, FlowTable::new(alloc))?;
     add_wire(rt, &mut graph, 0)?;
     add_wire(rt, &mut graph, 1)?;
-    add_gadget(rt, &mut graph, &mut flow, 2, Eighth::new(1))?;
-    add_gadget(rt, &mut graph, &mut flow, 3, Eighth::new(1))?;
+    add_gadget(rt, &mut graph, &mut flow, 2, first)?;
+    add_gadget(rt, &mut graph, &mut flow, 3, second)?;
     join(&mut graph, 0, 2)?;
     join(&mut graph, 0, 3)?;
     join(&mut graph, 1, 2)?;
@@ -148,8 +153,8 @@ pub fn small_gadgets(rt: &impl Abort, alloc: Global) -> Result<(OpenGraph, Flow)
     let mut graph = OpenGraph::new(alloc);
     let mut flow = Flow::of_table(&graph, FlowTable::new(alloc))?;
     add_wire(rt, &mut graph, 0)?;
-    add_gadget(rt, &mut graph, &mut flow, 1, Eighth::new(3))?;
-    add_gadget(rt, &mut graph, &mut flow, 2, Eighth::new(5))?;
+    add_gadget(rt, &mut graph, &mut flow, 1, Sixteenth::new(6))?;
+    add_gadget(rt, &mut graph, &mut flow, 2, Sixteenth::new(10))?;
     join(&mut graph, 0, 1)?;
     Ok((graph, flow))
 }
@@ -157,6 +162,12 @@ pub fn small_gadgets(rt: &impl Abort, alloc: Global) -> Result<(OpenGraph, Flow)
 // The letter of a vertex, where the names of 0, 1, 2 and so on are these.
 fn name(names: &[u8], v: VertexId) -> u8 {
     names.get(v.get()).copied().unwrap_or(b'?')
+}
+
+// A phase as one hexadecimal digit.
+fn digit(phase: Sixteenth) -> u8 {
+    let digits = b"0123456789ABCDEF";
+    digits[usize::from(phase.get())]
 }
 
 // Adds the phases of the vertices, each after a letter for XZ and YZ.
@@ -169,7 +180,7 @@ fn add_weights(text: &mut Vec<u8>, graph: &OpenGraph) -> Result<(), Fail> {
                 Plane::XZ => text.push(b'X')?,
                 Plane::YZ => text.push(b'Y')?,
             }
-            text.push(b'0' + phase.get())?;
+            text.push(digit(phase))?;
         }
     }
     Ok(())
@@ -216,6 +227,20 @@ fn add_corrections(text: &mut Vec<u8>, names: &[u8], flow: &Flow) -> Result<(), 
         }
     }
     Ok(())
+}
+
+// The odd phases by rising id.
+pub fn odd_phases(alloc: Global, graph: &OpenGraph) -> Result<Vec<Sixteenth>, Fail> {
+    let mut found = Vec::new(alloc);
+    for v in graph.vertices() {
+        if graph.is_live(v) {
+            let (_, phase) = graph.weight(v);
+            if phase.is_odd() {
+                found.push(phase)?;
+            }
+        }
+    }
+    Ok(found)
 }
 
 // Weights by rising id, edges, inputs, outputs and the corrections of the flow.

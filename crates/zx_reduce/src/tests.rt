@@ -28,7 +28,7 @@ fn refused(rt: &impl Abort, alloc: Global, step: Step) -> Result<(), Fail> {
     let answer = apply(&mut graph, &mut flow, step);
     assert_eq!(rt; answer, Err(StepRefused::NotAllowed));
     let text = drawn(alloc, b"bac", &graph, &flow)?;
-    assert_eq!(rt; text.as_slice(), b"200 ba bc:a>c< ab bc".as_slice());
+    assert_eq!(rt; text.as_slice(), b"400 ba bc:a>c< ab bc".as_slice());
     Ok(())
 }
 

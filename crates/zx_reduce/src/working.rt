@@ -1,23 +1,24 @@
 //! A graph on which moves are made, with what guides them.
 
-ghost use Rattle.std.specs.Prelude.{◌≡◌, ◌++◌, [], ◌∷◌, true, IfOk, OnOk};
+ghost use Rattle.std.specs.Prelude.{◌≡◌, ◌++◌, ℕ, [], ◌∷◌, true, IfOk, OnOk};
+ghost use Rattle.zx_model.specs.Bits.{member};
 ghost use Rattle.zx_calculus.specs.Graph.{WellFormed};
 ghost use Rattle.zx_calculus.specs.Steps.{allowed, IsStep};
 ghost use Rattle.gflow_laws.specs.Flow.{IsFlow};
 ghost use Rattle.zx_reduce.specs.Steps.{step_named};
 ghost use Rattle.zx_reduce.specs.Search.{AppliesAt, IsOfFirstKind};
-ghost use Rattle.zx_reduce.specs.Internal.Guiding.{IsGuided};
+ghost use Rattle.zx_reduce.specs.Internal.Guiding.{IsGuided, IsGuidedBut};
 ghost use Rattle.zx_reduce.specs.Internal.Planning.{GainsMove};
 
 use crate::candidates::Candidates;
-use crate::in_graph::{rewrite, vertices_near};
+use crate::in_graph::{add_vertices_near, rewrite};
 use crate::moves::Move;
 use crate::planning::steps_of;
 use crate::ranks::Ranks;
 use crate::step::Step;
 use crate::trace::Trace;
 use flow_find::find_by_rank;
-use open_graph::OpenGraph;
+use open_graph::{OpenGraph, VertexId};
 use std::alloc::AllocError;
 use zx_flow::Flow;
 
@@ -62,26 +63,30 @@ impl Working {
             (IsGuided self.new.graph.graph self.new.order self.new.candidates) }
     {
         let steps = steps_of(self.trace.alloc(), &self.graph, m)?;
+        let mut touched = Vec::new(self.trace.alloc());
         for step in &steps {
-            self.do_step(step)?;
+            self.do_step(step, &mut touched)?;
         }
+        without_repetition(&mut touched);
+        self.candidates.touch_all(&self.graph, &touched)?;
         Ok(())
     }
 
-    // Does a step that is allowed, and adds it to the trace.
-    fn do_step(&mut self, step: &Step) -> Result<(), AllocError>
-        requires guided { IsGuided self.old.graph.graph self.old.order self.old.candidates }
+    // Does a step that is allowed, adds it to the trace, and the vertices near it to those that are
+    // to become candidates.
+    fn do_step(&mut self, step: &Step, touched: &mut Vec<VertexId>) -> Result<(), AllocError>
+        requires guided { IsGuidedBut touched.old.items
+            self.old.graph.graph self.old.order self.old.candidates }
         requires allowed { allowed self.old.graph.graph (step_named step.now) ≡ true }
         ensures step { OnOk result
             (IsStep self.old.graph.graph (step_named step.now) self.new.graph.graph) }
         ensures trace { OnOk result
             (self.new.trace.steps ≡ self.old.trace.steps ++ step.now ∷ []) }
-        ensures guided { OnOk result
-            (IsGuided self.new.graph.graph self.new.order self.new.candidates) }
+        ensures guided { OnOk result (IsGuidedBut touched.new.items
+            self.new.graph.graph self.new.order self.new.candidates) }
     {
-        let near = vertices_near(self.trace.alloc(), &self.graph, step)?;
+        add_vertices_near(touched, &self.graph, step)?;
         rewrite(&mut self.graph, &mut self.order, step)?;
-        self.candidates.touch_all(&self.graph, &near)?;
         self.trace.push(*step)
     }
 
@@ -93,4 +98,12 @@ impl Working {
         let table = find_by_rank(self.trace.alloc(), &self.graph, &self.order.ranks)?;
         Flow::of_table(&self.graph, table)
     }
+}
+
+// Takes out what a list has twice.
+fn without_repetition(vertices: &mut Vec<VertexId>)
+    ensures { (w : ℕ) → member w vertices.old.items ≡ true → member w vertices.new.items ≡ true }
+{
+    vertices.sort_unstable_by_key(|v| v.get());
+    vertices.dedup();
 }

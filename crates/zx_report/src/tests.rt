@@ -3,7 +3,7 @@ use crate::report;
 use std::alloc::Global;
 use std::test::Fail;
 use zx_gates::{Counts, Gate, GateList, counts};
-use zx_model::Eighth;
+use zx_model::Sixteenth;
 
 // No gate at all.
 const NONE: Counts = Counts {
@@ -65,10 +65,10 @@ fn circuits_without_gates_have_zeros(rt: HostRuntime) -> Result<(), Fail> {
 #[test]
 fn two_t_become_one_s(rt: HostRuntime) -> Result<(), Fail> {
     let mut read = GateList::new(rt.alloc(), 1);
-    read.push(Gate::Phase(0, Eighth::new(1)))?;
-    read.push(Gate::Phase(0, Eighth::new(1)))?;
+    read.push(Gate::Phase(0, Sixteenth::new(2)))?;
+    read.push(Gate::Phase(0, Sixteenth::new(2)))?;
     let mut written = GateList::new(rt.alloc(), 1);
-    written.push(Gate::Phase(0, Eighth::new(2)))?;
+    written.push(Gate::Phase(0, Sixteenth::new(4)))?;
     let lines: [&[u8]; 2] = [
         b"// read gates 2 odd 2 two-qubit 0 h 0 phase 2 cz 0 cx 0 not 0\n",
         b"// written gates 1 odd 0 two-qubit 0 h 0 phase 1 cz 0 cx 0 not 0\n",
@@ -95,8 +95,8 @@ fn kinds_of_gates_are_told_apart(rt: HostRuntime) -> Result<(), Fail> {
         target: 0,
     })?;
     read.push(Gate::H(1))?;
-    read.push(Gate::Phase(1, Eighth::new(7)))?;
-    read.push(Gate::Phase(1, Eighth::new(4)))?;
+    read.push(Gate::Phase(1, Sixteenth::new(14)))?;
+    read.push(Gate::Phase(1, Sixteenth::new(8)))?;
     let lines: [&[u8]; 2] = [
         b"// read gates 7 odd 1 two-qubit 3 h 1 phase 2 cz 1 cx 2 not 1\n",
         b"// written gates 0 odd 0 two-qubit 0 h 0 phase 0 cz 0 cx 0 not 0\n",

@@ -4,7 +4,8 @@ use Rattle.zx_run.specs.declared.status.Fault.{Fault}
 use Rattle.zx_run.specs.declared.status.Fault.TheVariants.{TooLong, BadByte, Syntax, Version, Include, Unsupported}
 use Rattle.zx_run.specs.declared.status.Fault.TheVariants.{Redeclared, EmptyRegister, TooManyQubits, Unknown}
 use Rattle.zx_run.specs.declared.status.Fault.TheVariants.{WrongCount, Index, Sizes, SameQubit, Divide, AngleTooLarge}
-use Rattle.zx_run.specs.declared.status.Fault.TheVariants.{NotEighthTurn, TooDeep, TooManyGates, SecondVersion, BadLine}
+use Rattle.zx_run.specs.declared.status.Fault.TheVariants.{NotSixteenthTurn, TooDeep, TooManyGates, SecondVersion}
+use Rattle.zx_run.specs.declared.status.Fault.TheVariants.{BadLine}
 use Rattle.zx_run.specs.declared.status.Status.{Status}
 use Rattle.zx_run.specs.declared.status.Status.TheVariants.{Refused, Usage, ReadFault, WriteFault, NoMemory}
 
@@ -30,7 +31,7 @@ fault_text (Sizes at) = at_place (codes "13 Sizes") at
 fault_text (SameQubit at) = at_place (codes "14 SameQubit") at
 fault_text (Divide at) = at_place (codes "15 Divide") at
 fault_text (AngleTooLarge at) = at_place (codes "16 AngleTooLarge") at
-fault_text (NotEighthTurn at) = at_place (codes "17 NotEighthTurn") at
+fault_text (NotSixteenthTurn at) = at_place (codes "17 NotSixteenthTurn") at
 fault_text (TooDeep at) = at_place (codes "18 TooDeep") at
 fault_text (TooManyGates at) = at_place (codes "19 TooManyGates") at
 fault_text (SecondVersion at) = at_place (codes "20 SecondVersion") at

@@ -13,7 +13,7 @@ use Rattle.zx_run.specs.declared.status.Fault.{Fault}
 use Rattle.zx_run.specs.declared.status.Fault.TheVariants.{TooLong, BadByte, Syntax, Version, Include, Unsupported}
 use Rattle.zx_run.specs.declared.status.Fault.TheVariants.{Redeclared, EmptyRegister, TooManyQubits, Unknown}
 use Rattle.zx_run.specs.declared.status.Fault.TheVariants.{WrongCount, Index, Sizes, SameQubit, Divide, AngleTooLarge}
-use Rattle.zx_run.specs.declared.status.Fault.TheVariants.{NotEighthTurn, TooDeep, TooManyGates, SecondVersion}
+use Rattle.zx_run.specs.declared.status.Fault.TheVariants.{NotSixteenthTurn, TooDeep, TooManyGates, SecondVersion}
 
 -- the most bytes that a text may have
 abbrev pub most_bytes : ℕ
@@ -34,7 +34,7 @@ fault_of cause.Sizes at = Sizes at
 fault_of cause.SameQubit at = SameQubit at
 fault_of cause.Divide at = Divide at
 fault_of cause.AngleTooLarge at = AngleTooLarge at
-fault_of cause.NotEighthTurn at = NotEighthTurn at
+fault_of cause.NotSixteenthTurn at = NotSixteenthTurn at
 fault_of cause.TooDeep at = TooDeep at
 fault_of cause.TooManyGates at = TooManyGates at
 fault_of cause.SecondVersion at = SecondVersion at

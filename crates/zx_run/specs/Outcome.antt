@@ -97,10 +97,7 @@ GainsPrefixFor command left old new =
 
 -- the answers after which the output is as it was
 abbrev pub LeavesOutput : Status → Type 0
-LeavesOutput Done = ⊥
-LeavesOutput WriteFault = ⊥
-LeavesOutput No = ⊥
-LeavesOutput status = Unit {0}
+LeavesOutput status = (status ≢ Done) × (status ≢ WriteFault) × (status ≢ No)
 
 -- the answer is this one, or memory ran out
 abbrev pub IsOrNoMemory : Status → Status → Type 0

@@ -101,7 +101,7 @@ fn name_and_place(fault: Fault) -> (&'static str, Option<usize>)
         Fault::SameQubit { at } => ("14 SameQubit", Some(at)),
         Fault::Divide { at } => ("15 Divide", Some(at)),
         Fault::AngleTooLarge { at } => ("16 AngleTooLarge", Some(at)),
-        Fault::NotEighthTurn { at } => ("17 NotEighthTurn", Some(at)),
+        Fault::NotSixteenthTurn { at } => ("17 NotSixteenthTurn", Some(at)),
         Fault::TooDeep { at } => ("18 TooDeep", Some(at)),
         Fault::TooManyGates { at } => ("19 TooManyGates", Some(at)),
         Fault::SecondVersion { at } => ("20 SecondVersion", Some(at)),

@@ -58,7 +58,7 @@ fn fault_of(cause: Cause, at: usize) -> Fault
         Cause::SameQubit => Fault::SameQubit { at },
         Cause::Divide => Fault::Divide { at },
         Cause::AngleTooLarge => Fault::AngleTooLarge { at },
-        Cause::NotEighthTurn => Fault::NotEighthTurn { at },
+        Cause::NotSixteenthTurn => Fault::NotSixteenthTurn { at },
         Cause::TooDeep => Fault::TooDeep { at },
         Cause::TooManyGates => Fault::TooManyGates { at },
         Cause::SecondVersion => Fault::SecondVersion { at },

@@ -44,8 +44,8 @@ pub enum Fault {
     /// A number has more than 38 digits from its first to its last that isn't 0, or a part of a fraction is above
     /// 2^60.
     AngleTooLarge { at: usize },
-    /// An angle of `U` isn't a whole number of eighth turns, two values with pi are multiplied, or a divisor has pi.
-    NotEighthTurn { at: usize },
+    /// An angle of `U` isn't a whole number of sixteenth turns, two values with pi are multiplied, or a divisor has pi.
+    NotSixteenthTurn { at: usize },
     /// Parentheses or calls are nested deeper than 256.
     TooDeep { at: usize },
     /// A call is the 1,000,001st.

@@ -6,7 +6,7 @@ use Rattle.zx_gates.specs.declared.elementary.ElementaryGate.TheVariants as elem
 use Rattle.qasm_angle.specs.declared.angle.Angle.{Angle}
 use Rattle.qasm_angle.specs.Trees.{Tree}
 use Rattle.qasm_angle.specs.Values.{value}
-use Rattle.qasm_angle.specs.Eighths.{phase_of}
+use Rattle.qasm_angle.specs.Sixteenths.{phase_of}
 use Rattle.qasm_scope.specs.declared.causes.Cause.{Cause}
 use Rattle.qasm_names.specs.declared.gates.GateBody.{GateBody}
 use Rattle.qasm_names.specs.declared.gates.GateCall.{GateCall}

@@ -8,7 +8,8 @@ use Rattle.zx_calculus.specs.Graph.{Graph, neighbours, WellFormed}
 use Rattle.zx_calculus.specs.Steps.{Step, LocalComplement, Delete, Pivot, SplitInput, SplitOutput}
 use Rattle.zx_calculus.specs.Steps.{DropLone, FuseInto, FuseTwin}
 use Rattle.move_laws.specs.Candidates.{MoveKind, Deletion, QuarterGadget, InXZ, QuarterSpider, InnerPivot}
-use Rattle.move_laws.specs.Candidates.{BoundaryPivot, GadgetPair, LoneGadget, SingleGadget, Twins, IsPlaceOf, Covers}
+use Rattle.move_laws.specs.Candidates.{BoundaryPivot, GadgetPair, LoneGadget, SingleGadget, Twins}
+use Rattle.move_laws.specs.Candidates.{IsPlaceOf, Covers, with_touched}
 use Rattle.move_laws.specs.Ranks.{RisesBy, HasFlowBy, rank_in}
 use Rattle.zx_reduce.specs.declared.candidates.Candidate.{Candidate}
 use Rattle.zx_reduce.specs.declared.candidates.Candidates.{Candidates}
@@ -72,6 +73,10 @@ is_candidate g c k u = contains candidate_cmp c.set (candidate_at g k u)
 abbrev pub HasCandidates : Graph → Candidates → Type 0
 HasCandidates g c = (k : Kind) → Covers g (place_kind k) (is_candidate g c k)
 
+-- the same but for places at these vertices
+abbrev pub HasCandidatesBut : List ℕ → Graph → Candidates → Type 0
+HasCandidatesBut touched g c = (k : Kind) → Covers g (place_kind k) (with_touched touched (is_candidate g c k))
+
 -- u is a candidate of each kind of which it has a place
 abbrev pub IsListed : Graph → ℕ → Candidates → Type 0
 IsListed g u c = (k : Kind) (v : ℕ) → IsPlaceOf g (place_kind k) u v → is_candidate g c k u ≡ true
@@ -86,6 +91,12 @@ pub record IsGuided (g : Graph) (order : Ranks) (c : Candidates) : Type 0 where
   pub valid : WellFormed g
   pub flow : HasFlowIn g order
   pub candidates : HasCandidates g c
+
+-- the same while a move is made, where these vertices are still to be listed
+pub record IsGuidedBut (touched : List ℕ) (g : Graph) (order : Ranks) (c : Candidates) : Type 0 where
+  pub valid : WellFormed g
+  pub flow : HasFlowIn g order
+  pub candidates : HasCandidatesBut touched g c
 
 -- a vertex and its neighbours
 abbrev pub near : Graph → ℕ → List ℕ

@@ -17,11 +17,11 @@ returns-then-eq-clause-turned c =
     half_turn_passed c.args.g.now.graph c.turn_neighbours.new.g.graph c.turn_neighbours-then-eq.new.g.graph c.args.u
     c.weight-phase.ensures.valid
     (sym (ap (λ (k : Kind). k.phase) c.weight-phase.ensures.value)
-    ∙ eqb-true c.weight-phase.result.1 c.new.result (sym c.eq.ensures ∙ c.if-eq.true) ∙ c.new.ensures)
+    ∙ eqb-true c.weight-phase.result.1 c.half_turn.result (sym c.eq.ensures ∙ c.if-eq.true) ∙ c.half_turn.ensures)
     c.turn_neighbours.ensures.turned c.turn_neighbours-then-eq.ensures.turned
 
 pub returns-else-eq-clause-turned : goal.returns-else-eq-clause-turned
 returns-else-eq-clause-turned c =
     no_half_turn_passed c.args.g.now.graph c.args.u
-    (ap₂ eqb (sym (ap (λ (k : Kind). k.phase) c.weight-phase.ensures.value)) (sym c.new.ensures) ∙ sym c.eq.ensures
+    (ap₂ eqb (sym (ap (λ (k : Kind). k.phase) c.weight-phase.ensures.value)) (sym c.half_turn.ensures) ∙ sym c.eq.ensures
     ∙ c.if-eq.false)

@@ -3,7 +3,7 @@ use Rattle.std.proofs.Common.{ap, ◌&&◌}
 use Rattle.zx_model.specs.Bits.{xor, member}
 use Rattle.zx_calculus.proofs.Booleans.{and_comm}
 use Rattle.zx_calculus.proofs.Positions.{on_ok}
-use Rattle.open_graph.specs.Toggles.{across}
+use Rattle.zx_calculus.specs.Toggles.{across}
 use Rattle.open_graph.proofs.RowToggles.{rows_then}
 use Rattle.open_graph.proofs.slots.toggle_across.Goals as goal
 

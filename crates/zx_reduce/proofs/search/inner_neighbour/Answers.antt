@@ -12,9 +12,9 @@ loop-v-preserved c =
     ap (member c.v-item.result) (sym c.loop-v.invariant.items) ∙ member-item c.neighbours-v-items.result.now c.loop-v.v-index c.v-item.result c.loop-v-test.true c.v-item.is in
     record {
       items = c.loop-v.invariant.items;
-      some = best_found c.args.g.now.graph c.args.u c.loop-v.best c.better_of-best.result c.v-item.result near c.loop-v.invariant.some c.better_of-best.ensures.found;
-      none = rw add-one (best_none c.args.g.now.graph c.loop-v.best c.better_of-best.result c.neighbours-v-items.result.now c.loop-v.v-index c.v-item.result c.loop-v-test.true c.v-item.is
-          c.loop-v.invariant.none c.better_of-best.ensures.none);
+      some = best_found c.args.g.now.graph c.args.u c.loop-v.best c.better_of.result.0 c.v-item.result near c.loop-v.invariant.some c.better_of.ensures.found;
+      none = rw add-one (best_none c.args.g.now.graph c.loop-v.best c.better_of.result.0 c.neighbours-v-items.result.now c.loop-v.v-index c.v-item.result c.loop-v-test.true c.v-item.is
+          c.loop-v.invariant.none c.better_of.ensures.none);
     }
 
 pub returns-clause-none : goal.returns-clause-none

@@ -2,10 +2,9 @@
 use Rattle.std.proofs.Common.{◌∙◌, sym, ap, subst, ltb}
 use Rattle.zx_model.specs.Bits.{member}
 use Rattle.zx_calculus.specs.Graph.{ids, in_order}
-use Rattle.zx_calculus.specs.Toggles.{IsToggled}
+use Rattle.zx_calculus.specs.Toggles.{IsToggled, across}
 use Rattle.zx_calculus.proofs.Ids.{Distinct-rising}
 use Rattle.open_graph.specs.OpenGraph.{OpenGraph}
-use Rattle.open_graph.specs.Toggles.{across}
 use Rattle.open_graph.specs.Internal.Slots.{graph_of}
 use Rattle.open_graph.proofs.SlotLemmas.{contains_live}
 use Rattle.open_graph.proofs.RowToggles.{becomes_across}

@@ -1,7 +1,7 @@
 -- What guides stays right over a step.
-use Rattle.std.proofs.Common.{ap, ◌∙◌}
-use Rattle.zx_model.specs.Bits.{member}
+use Rattle.std.proofs.Common.{sym, subst, List, ℕ}
 use Rattle.zx_reduce.specs.Steps.{step_named}
+use Rattle.zx_reduce.specs.Internal.Guiding.{HasCandidatesBut}
 use Rattle.zx_reduce.proofs.Guided.{candidates_after}
 use Rattle.zx_reduce.proofs.Ranking.{on_any}
 use Rattle.zx_reduce.proofs.working.Working.do_step.Goals as goal
@@ -11,9 +11,8 @@ returns-clause-guided c =
     on_any c.push.result (record {
       valid = c.rewrite.ensures.valid;
       flow = c.in_ok-rewrite.ensures.flow;
-      candidates = candidates_after c.args.self.now.graph.graph (step_named c.args.step.now) c.rewrite.new.g.graph
-          c.args.self.now.candidates c.touch_all.new.self c.requires.guided.valid c.in_ok-rewrite.ensures.step
-          c.requires.guided.candidates c.in_ok-touch_all.ensures.keeps
-          (λ w there. c.in_ok-touch_all.ensures.listed w
-          (ap (member w) (c.deref.ensures.value ∙ c.in_ok-near.ensures) ∙ there));
+      candidates = subst (λ (vs : List ℕ). HasCandidatesBut vs c.rewrite.new.g.graph c.args.self.now.candidates)
+          (sym c.in_ok-add_vertices_near.ensures)
+          (candidates_after c.args.touched.now.items c.args.self.now.graph.graph (step_named c.args.step.now) c.rewrite.new.g.graph
+          c.args.self.now.candidates c.requires.guided.valid c.in_ok-rewrite.ensures.step c.requires.guided.candidates);
     })

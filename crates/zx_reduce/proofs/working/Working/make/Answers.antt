@@ -1,8 +1,10 @@
 -- The steps one after the other.
 use Rattle.std.proofs.Common.{◌≡◌, ◌∙◌, sym, ap, subst, map, add-one, arith}
+use Rattle.zx_model.specs.Bits.{member}
 use Rattle.zx_reduce.specs.Steps.{step_named}
 use Rattle.zx_reduce.specs.Moving.{steps_of}
 use Rattle.zx_reduce.specs.Internal.Planning.{AreAllowed}
+use Rattle.zx_reduce.proofs.Guided.{candidates_all, candidates_but}
 use Rattle.zx_reduce.proofs.MoveSteps.{steps_allowed}
 use Rattle.zx_reduce.proofs.MovesMade.{begun, next_allowed, next_done, all_done}
 use Rattle.zx_reduce.proofs.working.Working.make.Goals as goal
@@ -17,7 +19,12 @@ loop-step-init c =
           (subst (AreAllowed c.args.self.now.graph.graph) (sym planned)
           (steps_allowed c.args.self.now.graph.graph c.args.m.now c.requires.guided.valid c.requires.applies
           c.requires.first));
-      guided = c.requires.guided;
+      guided = record {
+        valid = c.requires.guided.valid;
+        flow = c.requires.guided.flow;
+        candidates = candidates_but c.new-touched.result.items c.args.self.now.graph.graph c.args.self.now.candidates c.new-touched.ensures.items
+            c.requires.guided.candidates;
+      };
     }
 
 pub loop-step-preserved : goal.loop-step-preserved
@@ -34,3 +41,13 @@ do_step-requires-clause-allowed c =
 
 pub returns-clause-gains : goal.returns-clause-gains
 returns-clause-gains c = all_done c.loop-step.invariant.planned c.loop-step.invariant.way (omega arith)
+
+pub returns-clause-guided : goal.returns-clause-guided
+returns-clause-guided c = record {
+  valid = c.loop-step.invariant.guided.valid;
+  flow = c.loop-step.invariant.guided.flow;
+  candidates = candidates_all c.loop-step.touched.items c.loop-step.self.graph.graph c.loop-step.self.candidates c.touch_all.new.self
+      c.loop-step.invariant.guided.candidates c.in_ok-touch_all.ensures.keeps
+      (λ w there. c.in_ok-touch_all.ensures.listed w
+      (ap (member w) c.deref.ensures.value ∙ c.without_repetition.ensures w there));
+}

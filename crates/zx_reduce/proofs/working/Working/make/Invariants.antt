@@ -2,7 +2,7 @@
 use Rattle.std.proofs.Common.{◌≡◌, map}
 use Rattle.zx_reduce.specs.Steps.{step_named}
 use Rattle.zx_reduce.specs.Moving.{steps_of}
-use Rattle.zx_reduce.specs.Internal.Guiding.{IsGuided}
+use Rattle.zx_reduce.specs.Internal.Guiding.{IsGuidedBut}
 use Rattle.zx_reduce.proofs.MovesMade.{IsUnderWay}
 use Rattle.zx_reduce.proofs.working.Working.make.Given as goal
 
@@ -11,5 +11,5 @@ invariant-loop-step l = record {
   planned : map step_named l.step-items ≡ steps_of l.fn.self.graph.graph l.fn.m;
   way : IsUnderWay l.fn.self.graph.graph l.step-items l.step-index l.self.graph.graph l.fn.self.trace.steps
       l.self.trace.steps;
-  guided : IsGuided l.self.graph.graph l.self.order l.self.candidates;
+  guided : IsGuidedBut l.touched.items l.self.graph.graph l.self.order l.self.candidates;
 }

@@ -1,0 +1,10 @@
+pub mod Sums
+pub mod Lists
+pub mod Digits
+pub mod WindowLemmas
+pub mod RowLemmas
+pub mod Vectors
+pub mod SumsOfRows
+pub mod Eliminating
+pub mod Solutions
+pub mod MatrixLemmas

@@ -1,0 +1,74 @@
+-- What the kept words say of the list of bits.
+use Rattle.std.proofs.Common.{◌≡◌, sym, ◌∙◌, ap, ap₂, subst, inl, inr, ℕ, ◌+◌, ◌*◌, ◌/◌, ◌<◌, ◌≤◌, max, true, ◌&&◌, eqb, length, Result, Ok, Err, OnOk, OnErr, arith}
+use Rattle.std.proofs.lemmas.Bool.{cases_lt, leb-true, ne_eqb}
+use Rattle.zx_model.specs.Bits.{xor, bit}
+use Rattle.zx_bits.specs.Rows.{BitRow, flipped, xor_lists, parity_of}
+use Rattle.zx_bits.specs.Internal.Words.{told, is_odd}
+use Rattle.zx_bits.specs.Internal.Windows.{is_set, end_of, IsWithin, row_of}
+use Rattle.zx_bits.specs.declared.window.Window.{Window}
+use Rattle.zx_bits.proofs.Lists.{length-told, told-same, bit-told, bit-past, flipped-told, xor_lists-told, parity_of-told}
+
+-- ---- a row that is seen as these bits
+
+module _ (len : ℕ) (w : Window) (row : BitRow) (view_is : row_of len w ≡ row) where
+  pub len_is : len ≡ length row.bits
+  len_is = sym (length-told len (is_set w)) ∙ ap (λ r. length r.bits) view_is
+
+  pub bits_are : IsWithin len w → bit row.bits ≡ is_set w
+  bits_are within = λ i k. at k i
+    where
+      at : (k : ℕ) → bit row.bits k ≡ is_set w k
+      at k =
+          ap (λ r. bit r.bits k) (sym view_is)
+          ∙ elim (cases_lt k len) [
+            | inl l ↦ bit-told len (is_set w) k l
+            | inr g ↦ bit-past (told len (is_set w)) k (omega (arith, length-told len (is_set w))) ∙ sym (within.unset k g)
+          ]
+
+  -- it keeps room for the words up to any that holds one of its bits
+  pub has_capacity : row.has_room ≡ true → (stop : ℕ) → 64 * stop < len + 64 → stop ≤ w.words.capacity
+  has_capacity room stop below =
+      let le : len ≤ 64 * w.words.capacity = leb-true _ _ (ap (λ r. r.has_room) view_is ∙ room) in
+      omega arith
+
+  pub told-flipped : (new : Window) (place : ℕ) → ((k : ℕ) → is_set new k ≡ xor (is_set w k) (eqb k place)) → told len (is_set new) ≡ flipped row.bits place
+  told-flipped new place is =
+      told-same len _ _ (λ k lt. is k) ∙ sym (flipped-told len (is_set w) place) ∙ ap (λ r. flipped r.bits place) view_is
+
+  -- ---- with another of the same length
+  module _ (other_len : ℕ) (v : Window) (other : BitRow) (other_is : row_of other_len v ≡ other) (same : length other.bits ≡ length row.bits) where
+    pub same_length : other_len ≡ len
+    same_length = sym (length-told other_len (is_set v)) ∙ ap (λ r. length r.bits) other_is ∙ same ∙ sym len_is
+
+    other_bits : told len (is_set v) ≡ other.bits
+    other_bits = ap (λ n. told n (is_set v)) (sym same_length) ∙ ap (λ r. r.bits) other_is
+
+    pub told-added : (new : Window) → ((k : ℕ) → is_set new k ≡ xor (is_set w k) (is_set v k)) → told len (is_set new) ≡ xor_lists row.bits other.bits
+    told-added new is =
+        told-same len _ _ (λ k lt. is k) ∙ sym (xor_lists-told len (is_set w) (is_set v))
+        ∙ ap₂ xor_lists (ap (λ r. r.bits) view_is) other_bits
+
+    pub parity_is : is_odd len (λ k. is_set w k && is_set v k) ≡ parity_of row.bits other.bits
+    parity_is = sym (parity_of-told len (is_set w) (is_set v)) ∙ ap₂ parity_of (ap (λ r. r.bits) view_is) other_bits
+
+-- ---- what stays so
+
+pub within_flipped : (len place : ℕ) (old new : Window) {E : Type 0} (r : Result (Unit {0}) E) → IsWithin len old → place < len →
+    OnOk r ((k : ℕ) → is_set new k ≡ xor (is_set old k) (eqb k place)) → OnOk r (end_of new ≤ max (end_of old) (place / 64 + 1)) →
+    OnErr r (new ≡ old) → IsWithin len new
+within_flipped len place old new (Ok u) within lt is stop err = record {
+  unset = λ k le. is k ∙ ap₂ xor (within.unset k le) (ne_eqb k place (λ e. omega arith));
+  end = omega (arith, within.end, stop);
+  fits = within.fits;
+}
+within_flipped len place old new (Err e) within lt is stop err = subst (IsWithin len) (sym err) within
+
+pub within_added : (len : ℕ) (old other new : Window) {E : Type 0} (r : Result (Unit {0}) E) → IsWithin len old → IsWithin len other →
+    OnOk r ((k : ℕ) → is_set new k ≡ xor (is_set old k) (is_set other k)) → OnOk r (end_of new ≤ max (end_of old) (end_of other)) →
+    OnErr r (new ≡ old) → IsWithin len new
+within_added len old other new (Ok u) within also is stop err = record {
+  unset = λ k le. is k ∙ ap₂ xor (within.unset k le) (also.unset k le);
+  end = omega (arith, within.end, also.end, stop);
+  fits = within.fits;
+}
+within_added len old other new (Err e) within also is stop err = subst (IsWithin len) (sym err) within

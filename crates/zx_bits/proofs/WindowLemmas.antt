@@ -1,0 +1,375 @@
+-- What the words that are kept say of the bits of the row.
+use Rattle.std.proofs.Common.{◌≡◌, refl, sym, ◌∙◌, ap, ap₂, inl, inr, ◌⊎◌, ℕ, zero, suc, ◌+◌, ◌-◌, ◌*◌, ◌/◌, ◌%◌, ◌^◌, ◌<◌, ◌≤◌, min, max, Bool, true, false, ◌&&◌, eqb, ltb, leb, List, [], ◌++◌, take, drop, replicate, length, get_or, Some, lt-ltb, eq-eqb, ne_eqb, if◌then◌else◌, length-drop, length-append, ◌==◌, arith}
+use Rattle.std.specs.Int.{w64, trailing_zeros}
+use Rattle.std.specs.Int.RustNames.{bit_xor, bit_and}
+use Rattle.std.specs.Int.Bits.{xor_zero_r}
+use Rattle.std.specs.List.{slice_rotate_right, refill}
+use Rattle.std.proofs.lemmas.Bool.{cases_lt, cases_eq, cond-true, cond-false, le-ltb, le-leb, lt-leb, leb-true, and_parts}
+use Rattle.std.proofs.lemmas.List.{get_or_past, get_or_append_left, get_or-append_right, get_or-take, get_or-drop, length-take}
+use Rattle.std.proofs.lemmas.Nat.Bits.{bit_at-trailing_zeros, ones_shl, bit_at_mask_inside, bit_at_mask_below, bit_at-pow_same, bit_at-pow_other}
+use Rattle.std.proofs.Math.Seq.{take-append_seam}
+use Rattle.zx_model.specs.Bits.{xor}
+use Rattle.zx_bits.specs.Rows.{IsFirstFrom}
+use Rattle.zx_bits.specs.Internal.Words.{digit, is_odd}
+use Rattle.zx_bits.specs.Internal.Windows.{word_at, is_set, end_of, Covers}
+use Rattle.zx_bits.specs.declared.window.Window.{Window}
+use Rattle.zx_bits.proofs.Sums.{and-true, and-false, is_odd-same, is_odd-none, is_odd-xor, is_odd-add, is_odd-either}
+use Rattle.zx_bits.proofs.Digits.{digit-xor, digit-and, digit-zero}
+
+pub word_before : (w : Window) (number : ℕ) → number < w.offset → word_at w number ≡ 0
+word_before w number lt = let t = lt-ltb number w.offset lt in rw t refl
+
+pub word_past : (w : Window) (number : ℕ) → end_of w ≤ number → word_at w number ≡ 0
+word_past w number le =
+    let f = le-ltb number w.offset (omega arith) in
+    rw f (get_or_past w.words.items (number - w.offset) 0 (omega arith))
+
+pub is_set-in_word : (w : Window) (number k : ℕ) → k < 64 → is_set w (64 * number + k) ≡ digit (word_at w number) k
+is_set-in_word w number k lt =
+    let which : (64 * number + k) / 64 ≡ number = omega arith in
+    let where_in : (64 * number + k) % 64 ≡ k = omega arith in
+    ap₂ (λ n i. digit (word_at w n) i) which where_in
+
+unset_by_word : (w : Window) (place : ℕ) → word_at w (place / 64) ≡ 0 → is_set w place ≡ false
+unset_by_word w place none = ap (λ n. digit n (place % 64)) none ∙ digit-zero (place % 64)
+
+pub unset_before : (w : Window) (place : ℕ) → place < 64 * w.offset → is_set w place ≡ false
+unset_before w place lt = unset_by_word w place (word_before w (place / 64) (omega arith))
+
+pub unset_past : (w : Window) (place : ℕ) → 64 * end_of w ≤ place → is_set w place ≡ false
+unset_past w place le = unset_by_word w place (word_past w (place / 64) (omega arith))
+
+-- ---- what both have in common
+
+both : Window → Window → ℕ → Bool
+both a b place = is_set a place && is_set b place
+
+left_unset : (a b : Bool) → a ≡ false → (a && b) ≡ false
+left_unset a b e = ap (λ x. x && b) e
+
+right_unset : (a b : Bool) → b ≡ false → (a && b) ≡ false
+right_unset a b e = ap (λ x. a && x) e ∙ and-false a
+
+pub common_at_first : (a b : Window) (number : ℕ) → number ≡ max a.offset b.offset →
+    is_odd 64 (digit 0) ≡ is_odd (64 * number) (λ place. is_set a place && is_set b place)
+common_at_first a b number e =
+    is_odd-none 64 _ (λ k lt. digit-zero k)
+    ∙ sym (is_odd-none (64 * number) _ (λ place lt. before place lt))
+  where
+    before : (place : ℕ) → place < 64 * number → (is_set a place && is_set b place) ≡ false
+    before place lt =
+        elim (cases_lt place (64 * a.offset)) [
+          | inl l ↦ left_unset _ _ (unset_before a place l)
+          | inr g ↦ right_unset (is_set a place) _ (unset_before b place (omega arith))
+        ]
+
+pub common_next : (a b : Window) (common number : ℕ) →
+    is_odd 64 (digit common) ≡ is_odd (64 * number) (λ place. is_set a place && is_set b place) →
+    is_odd 64 (digit (bit_xor common (bit_and (word_at a number) (word_at b number)))) ≡ is_odd (64 * (number + 1)) (λ place. is_set a place && is_set b place)
+common_next a b common number before =
+    let more : 64 * (number + 1) ≡ 64 * number + 64 = omega arith in
+    let mask = bit_and (word_at a number) (word_at b number) in
+    is_odd-same 64 (digit (bit_xor common mask)) (λ k. xor (digit common k) (digit mask k)) (λ k lt. digit-xor common mask k)
+    ∙ is_odd-xor 64 (digit common) (digit (bit_and (word_at a number) (word_at b number)))
+    ∙ ap₂ xor before (is_odd-same 64 _ _ (λ k lt. digit-and (word_at a number) (word_at b number) k
+    ∙ sym (ap₂ (λ x y. x && y) (is_set-in_word a number k lt) (is_set-in_word b number k lt))))
+    ∙ sym (is_odd-add (64 * number) 64 _) ∙ ap (λ n. is_odd n (λ place. is_set a place && is_set b place)) (sym more)
+
+pub common_at_last : (a b : Window) (number len : ℕ) → min (end_of a) (end_of b) ≤ number → ((place : ℕ) → len ≤ place → is_set a place ≡ false) →
+    is_odd (64 * number) (λ place. is_set a place && is_set b place) ≡ is_odd len (λ place. is_set a place && is_set b place)
+common_at_last a b number len past unset = is_odd-either (64 * number) len _ after (λ place le. left_unset _ _ (unset place le))
+  where
+    after : (place : ℕ) → 64 * number ≤ place → (is_set a place && is_set b place) ≡ false
+    after place le =
+        elim (cases_lt place (64 * end_of a)) [
+          | inl l ↦ right_unset (is_set a place) _ (unset_past b place (omega arith))
+          | inr g ↦ left_unset _ _ (unset_past a place g)
+        ]
+
+-- ---- the first set bit
+
+lowest : (word : ℕ) → 0 < word → word < 2 ^ 64 →
+    (trailing_zeros w64 word < 64) × (digit word (trailing_zeros w64 word) ≡ true) × ((k : ℕ) → k < trailing_zeros w64 word → digit word k ≡ false)
+lowest word some fits =
+    let low = bit_at-trailing_zeros w64 word some fits in
+    (low.0, ap (λ d. eqb d 1) low.1, λ k lt. ap (λ d. eqb d 1) (low.2 k lt))
+
+-- the mask of the bits from k on
+digit-mask : (k i : ℕ) → k < 64 → i < 64 → digit ((2 ^ 64 - 1) * 2 ^ k % 2 ^ 64) i ≡ leb k i
+digit-mask k i lt within =
+    ap (λ m. digit m i) (ones_shl 64 k (omega arith))
+    ∙ elim (cases_lt i k) [
+      | inl l ↦ ap (λ d. eqb d 1) (bit_at_mask_below k 64 i l) ∙ sym (lt-leb k i l)
+      | inr g ↦ ap (λ d. eqb d 1) (bit_at_mask_inside k 64 i g within) ∙ sym (le-leb k i g)
+    ]
+
+pub digit-rest : (word k i : ℕ) → k < 64 → i < 64 → digit (bit_and word ((2 ^ 64 - 1) * 2 ^ k % 2 ^ 64)) i ≡ (digit word i && leb k i)
+digit-rest word k i lt within = digit-and word _ i ∙ ap (λ b. digit word i && b) (digit-mask k i lt within)
+
+-- a word whose bits from that of a place on are left
+abbrev pub IsRest : Window → ℕ → ℕ → Type 0
+IsRest w place rest = (i : ℕ) → i < 64 → digit rest i ≡ (digit (word_at w (place / 64)) i && leb (place % 64) i)
+
+rest_unset : (w : Window) (place rest other : ℕ) → IsRest w place rest → place ≤ other → other < 64 * (place / 64) + 64 → digit rest (other % 64) ≡ false → is_set w other ≡ false
+rest_unset w place rest other is le lt unset =
+    let here : other / 64 ≡ place / 64 = omega arith in
+    let from : leb (place % 64) (other % 64) ≡ true = le-leb _ _ (omega arith) in
+    ap (λ n. digit (word_at w n) (other % 64)) here
+    ∙ sym (and-true _) ∙ ap (λ b. digit (word_at w (place / 64)) (other % 64) && b) (sym from)
+    ∙ sym (is (other % 64) (omega arith)) ∙ unset
+
+pub first_in_rest : (w : Window) (place rest : ℕ) → IsRest w place rest → 0 < rest → rest < 2 ^ 64 → IsFirstFrom (is_set w) place (Some (place / 64 * 64 + trailing_zeros w64 rest))
+first_in_rest w place rest is some fits =
+    let low = lowest rest some fits in
+    let t = trailing_zeros w64 rest in
+    let within : t < 64 = low.0 in
+    let parts : (digit (word_at w (place / 64)) t ≡ true) × (leb (place % 64) t ≡ true) = and_parts _ _ (sym (is t within) ∙ low.1) in
+    let from : place % 64 ≤ t = leb-true (place % 64) t parts.1 in
+    let e : place / 64 * 64 + t ≡ 64 * (place / 64) + t = omega arith in (
+      omega arith,
+      ap (is_set w) e ∙ is_set-in_word w (place / 64) t within ∙ parts.0,
+      λ other le lt. rest_unset w place rest other is le (omega arith) (low.2 (other % 64) (omega arith)),
+    )
+
+pub none_in_rest : (w : Window) (place rest : ℕ) → IsRest w place rest → rest ≡ 0 → (other : ℕ) → place ≤ other → other < 64 * max w.offset (place / 64 + 1) → is_set w other ≡ false
+none_in_rest w place rest is none other le lt =
+    elim (cases_lt other (64 * (place / 64) + 64)) [
+      | inl l ↦ rest_unset w place rest other is le l (ap (λ n. digit n (other % 64)) none ∙ digit-zero _)
+      | inr g ↦ unset_before w other (omega arith)
+    ]
+
+pub first_in_word : (w : Window) (place number : ℕ) → place < 64 * number → ((other : ℕ) → place ≤ other → other < 64 * number → is_set w other ≡ false) →
+    0 < word_at w number → word_at w number < 2 ^ 64 → IsFirstFrom (is_set w) place (Some (number * 64 + trailing_zeros w64 (word_at w number)))
+first_in_word w place number after none some fits =
+    let low = lowest (word_at w number) some fits in
+    let t = trailing_zeros w64 (word_at w number) in
+    let within : t < 64 = low.0 in
+    let e : number * 64 + t ≡ 64 * number + t = omega arith in (
+      omega arith,
+      ap (is_set w) e ∙ is_set-in_word w number t within ∙ low.1,
+      λ other le lt. elim (cases_lt other (64 * number)) [
+        | inl l ↦ none other le l
+        | inr g ↦
+            let split : other ≡ 64 * number + (other - 64 * number) = omega arith in
+            ap (is_set w) split ∙ is_set-in_word w number (other - 64 * number) (omega arith) ∙ low.2 (other - 64 * number) (omega arith)
+      ],
+    )
+
+pub none_in_word : (w : Window) (place number : ℕ) → ((other : ℕ) → place ≤ other → other < 64 * number → is_set w other ≡ false) →
+    word_at w number ≡ 0 → (other : ℕ) → place ≤ other → other < 64 * (number + 1) → is_set w other ≡ false
+none_in_word w place number none zero_word other le lt =
+    elim (cases_lt other (64 * number)) [
+      | inl l ↦ none other le l
+      | inr g ↦
+          let here : other / 64 ≡ number = omega arith in
+          ap (λ n. digit (word_at w n) (other % 64)) here ∙ ap (λ n. digit n (other % 64)) zero_word ∙ digit-zero _
+    ]
+
+pub none_at_all : (w : Window) (place number : ℕ) → ((other : ℕ) → place ≤ other → other < 64 * number → is_set w other ≡ false) →
+    end_of w ≤ number → (other : ℕ) → place ≤ other → is_set w other ≡ false
+none_at_all w place number none past other le =
+    elim (cases_lt other (64 * number)) [
+      | inl l ↦ none other le l
+      | inr g ↦ unset_past w other (omega arith)
+    ]
+
+-- ---- words kept anew
+
+pub zeros_after : (xs : List ℕ) (more j : ℕ) → get_or (xs ++ replicate more 0) j 0 ≡ get_or xs j 0
+zeros_after xs more j =
+    elim (cases_lt j (length xs)) [
+      | inl l ↦ get_or_append_left xs (replicate more 0) 0 j l
+      | inr g ↦ get_or-append_right xs (replicate more 0) (length xs) j 0 refl g ∙ zero_of more (j - length xs) ∙ sym (get_or_past xs j 0 g)
+    ]
+  where
+    zero_of : (n i : ℕ) → ◌≡◌ {A = ℕ} (get_or (replicate n 0) i 0) 0
+    zero_of zero i = refl
+    zero_of (suc n) zero = refl
+    zero_of (suc n) (suc i) = zero_of n i
+
+-- a list that ends with zeros, of which some are put in front
+zeros_in_front : (xs : List ℕ) (k j : ℕ) → k ≤ length xs → ((i : ℕ) → length xs - k ≤ i → get_or xs i 0 ≡ 0) →
+    get_or (slice_rotate_right xs k) j 0 ≡ (if ltb j k then 0 else get_or xs (j - k) 0)
+zeros_in_front xs k j le none =
+    let back = length xs - k in
+    let size : length (drop back xs) ≡ k = omega (arith, length-drop back xs) in
+    elim (cases_lt j k) [
+      | inl l ↦
+          get_or_append_left (drop back xs) (take back xs) 0 j (omega arith) ∙ get_or-drop back xs j 0 ∙ none (back + j) (omega arith)
+          ∙ sym (cond-true (ltb j k) 0 _ (lt-ltb j k l))
+      | inr g ↦
+          get_or-append_right (drop back xs) (take back xs) k j 0 size g
+          ∙ elim (cases_lt (j - k) back) [
+            | inl l ↦ get_or-take back xs (j - k) 0 l
+            | inr h ↦ get_or_past (take back xs) (j - k) 0 (omega (arith, length-take back xs)) ∙ sym (none (j - k) h)
+          ] ∙ sym (cond-false (ltb j k) 0 _ (le-ltb j k g))
+    ]
+
+-- where words begin at a place that may be any if there are none
+started : (w : Window) (start number : ℕ) → (0 < length w.words.items → start ≡ w.offset) →
+    word_at w number ≡ (if ltb number start then 0 else get_or w.words.items (number - start) 0)
+started w start number kept =
+    elim (cases_lt 0 (length w.words.items)) [
+      | inl some ↦ ap (λ o. if ltb number o then 0 else get_or w.words.items (number - o) 0) (sym (kept some))
+      | inr none ↦ nothing none (ltb number w.offset) (number - w.offset) ∙ sym (nothing none (ltb number start) (number - start))
+    ]
+  where
+    nothing : length w.words.items ≤ 0 → (b : Bool) (i : ℕ) → (if b then 0 else get_or w.words.items i 0) ≡ 0
+    nothing none true i = refl
+    nothing none false i = get_or_past w.words.items i 0 (omega arith)
+
+-- words with zeros put behind and then in front of them
+pub covered : (old new : Window) (xs : List ℕ) (start stop from offset more : ℕ) → (0 < length old.words.items → from ≡ old.offset) →
+    (length old.words.items ≡ 0 → from ≡ start) → offset ≡ min from start → start < stop → xs ≡ old.words.items ++ replicate more 0 →
+    length xs ≡ max (from + length old.words.items) stop - offset → new.offset ≡ offset → new.words.items ≡ slice_rotate_right xs (from - offset) →
+    old.words.capacity ≤ new.words.capacity → Covers start stop old new
+covered old new xs start stop from offset more kept none lowest_is some filled size first items capacity = record {
+  words = words;
+  first = omega arith;
+  end = omega (arith, whole);
+  no_further = no_further;
+  capacity = capacity;
+}
+  where
+    whole : length new.words.items ≡ length xs
+    whole = ap length items ∙ omega (arith, length-append (drop (length xs - (from - offset)) xs) (take (length xs - (from - offset)) xs), length-drop (length xs - (from - offset)) xs, length-take (length xs - (from - offset)) xs)
+
+    no_further : end_of new ≤ max (end_of old) stop
+    no_further =
+        elim (cases_lt 0 (length old.words.items)) [
+          | inl l ↦ let e : from ≡ old.offset = kept l in omega (arith, whole)
+          | inr g ↦ let e : from ≡ start = none (omega arith) in omega (arith, whole)
+        ]
+
+    zeros : (i : ℕ) → length xs - (from - offset) ≤ i → get_or xs i 0 ≡ 0
+    zeros i le = ap (λ l. get_or l i 0) filled ∙ zeros_after old.words.items more i ∙ get_or_past old.words.items i 0 (omega arith)
+
+    behind : (number : ℕ) → offset ≤ number → get_or new.words.items (number - offset) 0 ≡ (if ltb number from then 0 else get_or old.words.items (number - from) 0)
+    behind number le =
+        ap (λ l. get_or l (number - offset) 0) items ∙ zeros_in_front xs (from - offset) (number - offset) (omega arith) zeros
+        ∙ elim (cases_lt number from) [
+          | inl l ↦ cond-true (ltb (number - offset) (from - offset)) 0 _ (lt-ltb _ _ (omega arith)) ∙ sym (cond-true (ltb number from) 0 _ (lt-ltb _ _ l))
+          | inr g ↦
+              let place : number - offset - (from - offset) ≡ number - from = omega arith in
+              cond-false (ltb (number - offset) (from - offset)) 0 _ (le-ltb _ _ (omega arith))
+              ∙ ap₂ (λ l i. get_or l i 0) filled place ∙ zeros_after old.words.items more (number - from)
+              ∙ sym (cond-false (ltb number from) 0 _ (le-ltb _ _ g))
+        ]
+
+    words : (number : ℕ) → word_at new number ≡ word_at old number
+    words number =
+        elim (cases_lt number new.offset) [
+          | inl l ↦ cond-true (ltb number new.offset) 0 _ (lt-ltb _ _ l) ∙ sym (cond-true (ltb number from) 0 _ (lt-ltb _ _ (omega arith)))
+          | inr g ↦
+              cond-false (ltb number new.offset) 0 _ (le-ltb _ _ g)
+              ∙ ap (λ o. get_or new.words.items (number - o) 0) first ∙ behind number (omega arith)
+        ] ∙ sym (started old from number kept)
+
+-- ---- words that are added to
+
+-- one bit of a word is a place of the row
+digit-place : (place other : ℕ) → digit (if other / 64 == place / 64 then 2 ^ (place % 64) else 0) (other % 64) ≡ eqb other place
+digit-place place other =
+    elim (cases_eq other place) [
+      | inl e ↦
+          let word : eqb (other / 64) (place / 64) ≡ true = eq-eqb _ _ (ap (λ p. p / 64) e) in
+          ap (λ n. digit n (other % 64)) (cond-true (eqb (other / 64) (place / 64)) _ 0 word)
+          ∙ ap (λ p. digit (2 ^ (place % 64)) (p % 64)) e ∙ ap (λ d. eqb d 1) (bit_at-pow_same (place % 64)) ∙ sym (eq-eqb other place e)
+      | inr apart ↦
+          elim (cases_eq (other / 64) (place / 64)) [
+            | inl e ↦
+                ap (λ n. digit n (other % 64)) (cond-true (eqb (other / 64) (place / 64)) _ 0 (eq-eqb _ _ e))
+                ∙ ap (λ d. eqb d 1) (bit_at-pow_other (place % 64) (other % 64) (λ same. apart (omega arith)))
+            | inr n ↦ ap (λ m. digit m (other % 64)) (cond-false (eqb (other / 64) (place / 64)) _ 0 (ne_eqb _ _ n)) ∙ digit-zero (other % 64)
+          ] ∙ sym (ne_eqb other place apart)
+    ]
+
+pub flipped_bits : (old mid new : Window) (place mask : ℕ) → ((number : ℕ) → word_at mid number ≡ word_at old number) → mask ≡ 2 ^ (place % 64) →
+    ((number : ℕ) → word_at new number ≡ bit_xor (word_at mid number) (if number == place / 64 then mask else 0)) →
+    (other : ℕ) → is_set new other ≡ xor (is_set old other) (eqb other place)
+flipped_bits old mid new place mask same is words other =
+    ap (λ n. digit n (other % 64)) (words (other / 64))
+    ∙ digit-xor (word_at mid (other / 64)) _ (other % 64)
+    ∙ ap₂ xor (ap (λ n. digit n (other % 64)) (same (other / 64)))
+    (ap (λ m. digit (if other / 64 == place / 64 then m else 0) (other % 64)) is ∙ digit-place place other)
+
+pub words_next : (mid self new other : Window) (number : ℕ) →
+    ((v : ℕ) → word_at self v ≡ bit_xor (word_at mid v) (if ltb v number then word_at other v else 0)) →
+    ((v : ℕ) → word_at new v ≡ bit_xor (word_at self v) (if v == number then word_at other number else 0)) →
+    (v : ℕ) → word_at new v ≡ bit_xor (word_at mid v) (if ltb v (number + 1) then word_at other v else 0)
+words_next mid self new other number before added v =
+    elim (cases_eq v number) [
+      | inl e ↦
+          added v ∙ ap₂ bit_xor (before v ∙ ap (bit_xor (word_at mid v)) (cond-false (ltb v number) _ 0 (le-ltb _ _ (omega arith))) ∙ xor_zero_r _)
+          (cond-true (eqb v number) _ 0 (eq-eqb _ _ e) ∙ ap (word_at other) (sym e) ∙ sym (cond-true (ltb v (number + 1)) _ 0 (lt-ltb _ _ (omega arith))))
+      | inr apart ↦
+          added v ∙ ap (bit_xor (word_at self v)) (cond-false (eqb v number) _ 0 (ne_eqb _ _ apart)) ∙ xor_zero_r _ ∙ before v
+          ∙ ap (λ b. bit_xor (word_at mid v) (if b then word_at other v else 0)) (same_side apart (cases_lt v number))
+    ]
+  where
+    same_side : ¬ (v ≡ number) → (v < number) ⊎ (number ≤ v) → ltb v number ≡ ltb v (number + 1)
+    same_side apart (inl l) = lt-ltb v number l ∙ sym (lt-ltb v (number + 1) (omega arith))
+    same_side apart (inr g) = le-ltb v number g ∙ sym (le-ltb v (number + 1) (omega arith))
+
+pub added_bits : (old mid new other : Window) (number : ℕ) → ((v : ℕ) → word_at mid v ≡ word_at old v) → end_of other ≤ number →
+    ((v : ℕ) → word_at new v ≡ bit_xor (word_at mid v) (if ltb v number then word_at other v else 0)) →
+    (place : ℕ) → is_set new place ≡ xor (is_set old place) (is_set other place)
+added_bits old mid new other number same past words place =
+    ap (λ n. digit n (place % 64)) (words (place / 64) ∙ ap₂ bit_xor (same (place / 64)) (whole (place / 64)))
+    ∙ digit-xor (word_at old (place / 64)) (word_at other (place / 64)) (place % 64)
+  where
+    whole : (v : ℕ) → (if ltb v number then word_at other v else 0) ≡ word_at other v
+    whole v =
+        elim (cases_lt v number) [
+          | inl l ↦ cond-true (ltb v number) _ 0 (lt-ltb _ _ l)
+          | inr g ↦ cond-false (ltb v number) _ 0 (le-ltb _ _ g) ∙ sym (word_past other v (omega arith))
+        ]
+
+pub none_without_words : (w : Window) → w.words.items ≡ [] → (place : ℕ) → is_set w place ≡ false
+none_without_words w none place =
+    unset_by_word w place
+    (elim (cases_lt (place / 64) w.offset) [
+      | inl l ↦ word_before w (place / 64) l
+      | inr g ↦ word_past w (place / 64) (let size = ap length none in omega (arith, size))
+    ])
+
+-- what a slice of the same length leaves of a list
+pub refilled : (n : ℕ) (xs ws : List ℕ) → length ws ≡ n → refill n xs ws ≡ ws
+refilled n xs ws e = ap (λ k. take k (ws ++ drop (length ws) xs)) (sym e) ∙ take-append_seam ws (drop (length ws) xs)
+
+-- ---- words at both ends that are 0
+
+-- a list turned to the left and cut has lost its front
+pub front_lost : (xs ws : List ℕ) (k n m : ℕ) → k ≤ length xs → n ≡ length xs - k → ws ≡ drop k xs ++ take k xs → length ws ≡ m → take n (refill m xs ws) ≡ drop k xs
+front_lost xs ws k n m le size turned same =
+    let count : n ≡ length (drop k xs) = omega (arith, size, length-drop k xs) in
+    ap (take n) (refilled m xs ws same ∙ turned) ∙ ap (λ i. take i (drop k xs ++ take k xs)) count ∙ take-append_seam (drop k xs) (take k xs)
+
+pub trimmed : (old new : Window) (end first : ℕ) → end ≤ length old.words.items → first ≤ end → ((i : ℕ) → end ≤ i → get_or old.words.items i 0 ≡ 0) →
+    ((i : ℕ) → i < first → get_or (take end old.words.items) i 0 ≡ 0) → new.offset ≡ old.offset + first → new.words.items ≡ drop first (take end old.words.items) →
+    (number : ℕ) → word_at new number ≡ word_at old number
+trimmed old new end first within below after before offset items number =
+    elim (cases_lt number old.offset) [
+      | inl l ↦ word_before new number (omega arith) ∙ sym (word_before old number l)
+      | inr g ↦
+          elim (cases_lt number new.offset) [
+            | inl l ↦
+                word_before new number l ∙ sym (before (number - old.offset) (omega arith)) ∙ get_or-take end old.words.items (number - old.offset) 0 (omega arith)
+                ∙ sym (cond-false (ltb number old.offset) 0 _ (le-ltb _ _ g))
+            | inr h ↦
+                let place : first + (number - new.offset) ≡ number - old.offset = omega arith in
+                cond-false (ltb number new.offset) 0 _ (le-ltb _ _ h)
+                ∙ ap (λ l. get_or l (number - new.offset) 0) items ∙ get_or-drop first (take end old.words.items) (number - new.offset) 0
+                ∙ ap (λ i. get_or (take end old.words.items) i 0) place ∙ cut (number - old.offset) ∙ sym (cond-false (ltb number old.offset) 0 _ (le-ltb _ _ g))
+          ]
+    ]
+  where
+    cut : (i : ℕ) → get_or (take end old.words.items) i 0 ≡ get_or old.words.items i 0
+    cut i =
+        elim (cases_lt i end) [
+          | inl l ↦ get_or-take end old.words.items i 0 l
+          | inr g ↦ get_or_past (take end old.words.items) i 0 (omega (arith, length-take end old.words.items)) ∙ sym (after i g)
+        ]
+
+pub same_places : (old new : Window) → ((number : ℕ) → word_at new number ≡ word_at old number) → (place : ℕ) → is_set new place ≡ is_set old place
+same_places old new same place = ap (λ n. digit n (place % 64)) (same (place / 64))

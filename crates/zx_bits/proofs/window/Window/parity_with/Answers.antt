@@ -1,0 +1,21 @@
+use Rattle.std.proofs.Common.{◌≡◌, ◌∙◌, ap, ap₂, arith}
+use Rattle.std.specs.Int.RustNames.{bit_and, bit_xor}
+use Rattle.zx_bits.specs.Internal.Words.{digit, is_odd}
+use Rattle.zx_bits.specs.Internal.Windows.{word_at}
+use Rattle.zx_bits.proofs.Digits.{count_ones-odd}
+use Rattle.zx_bits.proofs.WindowLemmas.{common_at_first, common_next, common_at_last}
+use Rattle.zx_bits.proofs.window.Window.parity_with.Goals as goal
+
+pub loop-number-init : goal.loop-number-init
+loop-number-init c = common_at_first c.args.self.now c.args.other.now c.max-number.result c.max-number.ensures
+
+pub loop-number-preserved : goal.loop-number-preserved
+loop-number-preserved c =
+    let both : bit_and c.word.result c.word-in-loop-number.result ≡ bit_and (word_at c.args.self.now c.loop-number.number) (word_at c.args.other.now c.loop-number.number) = ap₂ bit_and c.word.ensures c.word-in-loop-number.ensures in
+    ap (λ m. is_odd 64 (digit (bit_xor c.loop-number.common m))) both
+    ∙ common_next c.args.self.now c.args.other.now c.loop-number.common c.loop-number.number c.loop-number.invariant
+
+pub returns : goal.returns
+returns c len unset =
+    count_ones-odd 64 c.loop-number.common (omega arith) ∙ c.loop-number.invariant
+    ∙ common_at_last c.args.self.now c.args.other.now c.loop-number.number len (omega (arith, c.end.ensures, c.end-2.ensures, c.min-number-end.ensures)) unset

@@ -1,0 +1,44 @@
+-- The words of a row that are kept, with how many come before them.
+use Rattle.std.specs.Prelude.{◌≡◌, ◌<◌, ◌≤◌, ◌+◌, ◌-◌, ◌/◌, ◌%◌, ◌*◌, ◌^◌, ◌==◌, ℕ, Bool, false, if◌then◌else◌}
+use Rattle.std.specs.Prelude.{ltb, leb, length, get_or, max}
+use Rattle.std.specs.Int.RustNames.{bit_xor}
+use Rattle.zx_bits.specs.Rows.{BitRow}
+use Rattle.zx_bits.specs.Internal.Words.{digit, told}
+use Rattle.zx_bits.specs.declared.window.Window.{Window}
+
+-- the word of the whole row with this number
+abbrev pub word_at : Window → ℕ → ℕ
+word_at w number = if ltb number w.offset then 0 else get_or w.words.items (number - w.offset) 0
+
+-- whether the bit of the row at a place is set
+abbrev pub is_set : Window → ℕ → Bool
+is_set w place = digit (word_at w (place / 64)) (place % 64)
+
+-- the number of the first word after those that are kept
+abbrev pub end_of : Window → ℕ
+end_of w = w.offset + length w.words.items
+
+-- new keeps the words from start up to stop too, which were 0 where they weren't kept
+pub record Covers (start stop : ℕ) (old new : Window) : Type 0 where
+  pub words : (number : ℕ) → word_at new number ≡ word_at old number
+  pub first : new.offset ≤ start
+  pub end : stop ≤ end_of new
+  pub no_further : end_of new ≤ max (end_of old) stop
+  pub capacity : old.words.capacity ≤ new.words.capacity
+
+-- one word is added to at the bits of a mask, and all else stays
+pub record AddsTo (number mask : ℕ) (old new : Window) : Type 0 where
+  pub words : (other : ℕ) → word_at new other ≡ bit_xor (word_at old other) (if other == number then mask else 0)
+  pub offset : new.offset ≡ old.offset
+  pub size : length new.words.items ≡ length old.words.items
+  pub capacity : new.words.capacity ≡ old.words.capacity
+
+-- no bit from a place on is set, and the words end with that of the last place before it
+pub record IsWithin (len : ℕ) (w : Window) : Type 0 where
+  pub unset : (place : ℕ) → len ≤ place → is_set w place ≡ false
+  pub end : 64 * end_of w < len + 64
+  pub fits : len < 2 ^ 64
+
+-- the row of so many bits
+abbrev pub row_of : ℕ → Window → BitRow
+row_of len w = record { bits = told len (is_set w); has_room = leb len (64 * w.words.capacity) }

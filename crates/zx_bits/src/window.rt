@@ -1,0 +1,232 @@
+//! The words of a row that are kept.
+
+ghost use Rattle.std.specs.Prelude.{◌≡◌, ◌<◌, ◌≤◌, ◌+◌, ◌/◌, ◌^◌, ◌==◌, ◌&&◌, ℕ, [], true, false};
+ghost use Rattle.std.specs.Prelude.{max, length, get_or, IsOk, IfOk, OnOk, OnErr};
+ghost use Rattle.zx_model.specs.Bits.{xor};
+ghost use Rattle.zx_bits.specs.Rows.{IsFirstFrom};
+ghost use Rattle.zx_bits.specs.Internal.Words.{is_odd};
+ghost use Rattle.zx_bits.specs.Internal.Windows.{word_at, is_set, end_of, Covers, AddsTo};
+
+use smallvec::SmallVec;
+use std::alloc::{AllocError, Global};
+
+// How many bits a word has.
+const WORD: usize = 64;
+
+// The words of a row from the first that has a bit set to the last, and how many come before them.
+#[derive(Drop)]
+pub(crate) struct Window {
+    pub(crate) offset: usize,
+    pub(crate) words: SmallVec<u64, 4>,
+}
+
+impl Window {
+    pub(crate) fn new(alloc: Global) -> Window
+        ensures offset { result.offset ≡ 0 }
+        ensures none { result.words.items ≡ [] }
+    {
+        Window {
+            offset: 0,
+            words: SmallVec::new(alloc),
+        }
+    }
+
+    pub(crate) fn copy(&self) -> Result<Window, AllocError>
+        ensures offset { IfOk result (λ copy. copy.offset ≡ self.now.offset) }
+        ensures items { IfOk result (λ copy. copy.words.items ≡ self.now.words.items) }
+    {
+        Ok(Window {
+            offset: self.offset,
+            words: SmallVec::from_slice(*self.words.allocator(), self.words.as_slice())?,
+        })
+    }
+
+    // The word of the whole row with this number.
+    fn word(&self, number: usize) -> u64
+        ensures { result ≡ word_at self.now number }
+    {
+        if number < self.offset || self.words.len() <= number - self.offset {
+            return 0;
+        }
+        self.words[number - self.offset]
+    }
+
+    pub(crate) fn is_set(&self, place: usize) -> bool
+        ensures { result ≡ is_set self.now place }
+    {
+        self.word(place / WORD) >> (place % WORD) & 1 == 1
+    }
+
+    // The number of the first word after those that are kept.
+    fn end(&self) -> usize
+        requires { end_of self.now ≤ 2 ^ 58 }
+        ensures { result ≡ end_of self.now }
+    {
+        self.offset + self.words.len()
+    }
+
+    // Where the kept words begin; where there are none, they may begin anywhere.
+    fn start(&self, otherwise: usize) -> usize
+        ensures kept { 0 < length self.now.words.items → result ≡ self.now.offset }
+        ensures none { length self.now.words.items ≡ 0 → result ≡ otherwise }
+    {
+        if self.words.is_empty() {
+            otherwise
+        } else {
+            self.offset
+        }
+    }
+
+    // Keeps these words too. Where memory runs out, the words are as they were.
+    fn cover(&mut self, first: usize, end: usize) -> Result<(), AllocError>
+        requires some { first < end }
+        requires within { end ≤ 2 ^ 58 }
+        requires bounded { end_of self.old ≤ 2 ^ 58 }
+        ensures ok { OnOk result (Covers first end self.old self.new) }
+        ensures err { OnErr result (self.new ≡ self.old) }
+        ensures room { max (end_of self.old) end ≤ self.old.words.capacity → IsOk result }
+    {
+        if self.offset <= first && end <= self.end() {
+            return Ok(());
+        }
+        let start = self.start(first);
+        let last = start + self.words.len();
+        let offset = start.min(first);
+        let total = last.max(end) - offset;
+        self.words.reserve(total - self.words.len())?;
+        self.words.resize(total, 0)?;
+        self.words.as_mut_slice().rotate_right(start - offset);
+        self.offset = offset;
+        Ok(())
+    }
+
+    // Adds to one of the kept words.
+    fn add_to(&mut self, number: usize, mask: u64)
+        requires first { self.old.offset ≤ number }
+        requires end { number < end_of self.old }
+        ensures { AddsTo number mask self.old self.new }
+    {
+        self.words[number - self.offset] ^= mask;
+    }
+
+    // Lets the words at both ends go that have no bit set.
+    fn trim(&mut self)
+        requires { end_of self.old ≤ 2 ^ 58 }
+        ensures words { (number : ℕ) → word_at self.new number ≡ word_at self.old number }
+        ensures end { end_of self.new ≤ end_of self.old }
+        ensures capacity { self.new.words.capacity ≡ self.old.words.capacity }
+    {
+        let end = used(self.words.as_slice());
+        self.words.truncate(end);
+        let unused = unused_before(self.words.as_slice());
+        self.words.as_mut_slice().rotate_left(unused);
+        self.words.truncate(end - unused);
+        self.offset += unused;
+    }
+
+    pub(crate) fn flip(&mut self, place: usize) -> Result<(), AllocError>
+        requires { end_of self.old ≤ 2 ^ 58 }
+        ensures ok { OnOk result ((other : ℕ) →
+            is_set self.new other ≡ xor (is_set self.old other) (other == place)) }
+        ensures end { OnOk result (end_of self.new ≤ max (end_of self.old) (place / 64 + 1)) }
+        ensures capacity { OnOk result (self.old.words.capacity ≤ self.new.words.capacity) }
+        ensures err { OnErr result (self.new ≡ self.old) }
+        ensures room { max (end_of self.old) (place / 64 + 1) ≤ self.old.words.capacity →
+            IsOk result }
+    {
+        let number = place / WORD;
+        self.cover(number, number + 1)?;
+        self.add_to(number, 1 << (place % WORD));
+        self.trim();
+        Ok(())
+    }
+
+    pub(crate) fn xor(&mut self, other: &Window) -> Result<(), AllocError>
+        requires bounded { end_of self.old ≤ 2 ^ 58 }
+        requires other_bounded { end_of other.now ≤ 2 ^ 58 }
+        ensures ok { OnOk result ((place : ℕ) →
+            is_set self.new place ≡ xor (is_set self.old place) (is_set other.now place)) }
+        ensures end { OnOk result (end_of self.new ≤ max (end_of self.old) (end_of other.now)) }
+        ensures capacity { OnOk result (self.old.words.capacity ≤ self.new.words.capacity) }
+        ensures err { OnErr result (self.new ≡ self.old) }
+        ensures room { max (end_of self.old) (end_of other.now) ≤ self.old.words.capacity →
+            IsOk result }
+    {
+        if other.words.is_empty() {
+            return Ok(());
+        }
+        self.cover(other.offset, other.end())?;
+        for number in other.offset..other.end() {
+            self.add_to(number, other.word(number));
+        }
+        self.trim();
+        Ok(())
+    }
+
+    // Whether an odd number of places are set in both.
+    pub(crate) fn parity_with(&self, other: &Window) -> bool
+        requires bounded { end_of self.now ≤ 2 ^ 58 }
+        requires other_bounded { end_of other.now ≤ 2 ^ 58 }
+        ensures { (len : ℕ) → ((place : ℕ) → len ≤ place → is_set self.now place ≡ false) →
+            result ≡ is_odd len (λ place. is_set self.now place && is_set other.now place) }
+    {
+        let mut common = 0;
+        for number in self.offset.max(other.offset)..self.end().min(other.end()) {
+            common ^= self.word(number) & other.word(number);
+        }
+        common.count_ones() % 2 == 1
+    }
+
+    // The first set bit from a place on.
+    pub(crate) fn first_from(&self, place: usize) -> Option<usize>
+        requires { end_of self.now ≤ 2 ^ 58 }
+        ensures { IsFirstFrom (is_set self.now) place result }
+    {
+        let number = place / WORD;
+        let rest = self.word(number) & (u64::MAX << (place % WORD));
+        if rest != 0 {
+            return Some(number * WORD + rest.trailing_zeros() as usize);
+        }
+        for later in self.offset.max(number + 1)..self.end() {
+            let word = self.word(later);
+            if word != 0 {
+                return Some(later * WORD + word.trailing_zeros() as usize);
+            }
+        }
+        None
+    }
+
+    pub(crate) fn reserve(&mut self, words: usize) -> Result<(), AllocError>
+        ensures offset { self.new.offset ≡ self.old.offset }
+        ensures items { self.new.words.items ≡ self.old.words.items }
+        ensures ok { OnOk result (words ≤ self.new.words.capacity) }
+        ensures err { OnErr result (self.new ≡ self.old) }
+    {
+        self.words
+            .reserve_exact(words.saturating_sub(self.words.len()))
+    }
+}
+
+// How many words there are up to the last that has a bit set.
+fn used(words: &[u64]) -> usize
+    ensures within { result ≤ length words.now }
+    ensures zeros { (i : ℕ) → result ≤ i → get_or words.now i 0 ≡ 0 }
+{
+    let mut end = words.len();
+    'back: while end > 0 && words[end - 1] == 0 {
+        end -= 1;
+    }
+    end
+}
+
+// How many words come before the first that has a bit set.
+fn unused_before(words: &[u64]) -> usize
+    ensures within { result ≤ length words.now }
+    ensures zeros { (i : ℕ) → i < result → get_or words.now i 0 ≡ 0 }
+{
+    let mut first = 0;
+    'front: while first < words.len() && words[first] == 0 {
+        first += 1;
+    }
+    first
+}
