@@ -104,7 +104,7 @@ fn add_edges(text: &mut Vec<u8>, graph: &OpenGraph) -> Result<(), Fail> {
                 if v.get() < w.get() {
                     text.push(b' ')?;
                     text.push(name(v))?;
-                    text.push(name(*w))?;
+                    text.push(name(w))?;
                 }
             }
         }
@@ -141,7 +141,7 @@ fn add_corrections(text: &mut Vec<u8>, flow: &Flow) -> Result<(), Fail> {
             text.push(b' ')?;
             text.push(name(*v))?;
             for w in flow.correction(*v) {
-                text.push(name(*w))?;
+                text.push(name(w))?;
             }
         }
     }

@@ -3,6 +3,7 @@ pub mod Changing
 pub mod Passing
 pub mod Finding
 pub mod Orders
+pub mod LeftNeighbours
 pub mod Steps
 pub mod Stale
 pub mod Starting

@@ -32,7 +32,7 @@ later_than (x ∷ xs) v ys w out =
     ap (λ b. not (eqb w x) && (b || is_later (xs ++ v ∷ ys) v w)) (or-left _ _ out)
     ∙ neither (eqb w x) (is_later (xs ++ v ∷ ys) v w) (member w (xs ++ v ∷ [])) (later_than xs v ys w (or-right _ _ out))
 
-Distinct-take : (xs : List ℕ) (v : ℕ) (ys : List ℕ) → Distinct (xs ++ v ∷ ys) → member v xs ≡ false
+pub Distinct-take : (xs : List ℕ) (v : ℕ) (ys : List ℕ) → Distinct (xs ++ v ∷ ys) → member v xs ≡ false
 Distinct-take [] v ys d = refl
 Distinct-take (x ∷ xs) v ys d =
     let apart : (member x xs || member x (v ∷ ys)) ≡ false = sym (member-append x xs (v ∷ ys)) ∙ d.0 in

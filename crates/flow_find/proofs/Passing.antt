@@ -3,10 +3,8 @@ use Rattle.std.proofs.Common.{◌≡◌, refl, sym, ◌∙◌, ap, ap₂, subst,
 use Rattle.std.proofs.lemmas.Bool.{true≢false}
 use Rattle.zx_model.specs.Bits.{xor, member}
 use Rattle.zx_calculus.proofs.Booleans.{and-false, and-true, xor-false, xor-same, or-true, or-false}
-use Rattle.zx_calculus.proofs.Ids.{by_test, by_equal, member-filter}
-use Rattle.zx_calculus.proofs.Edges.{joined_comm}
-use Rattle.zx_calculus.proofs.Splitting.{joined-absent}
-use Rattle.zx_calculus.specs.Graph.{Graph, Plane, XY, XZ, YZ, is_XY, WellFormed, ids, joined, neighbours}
+use Rattle.zx_calculus.proofs.Ids.{by_test, by_equal}
+use Rattle.zx_calculus.specs.Graph.{Plane, XY, XZ, YZ, is_XY}
 use Rattle.gflow_laws.specs.Seen.{Seen, odd}
 use Rattle.gflow_laws.specs.Flow.{is_in}
 use Rattle.gflow_laws.specs.Correcting.{Simple, inside_in}
@@ -99,12 +97,6 @@ passed_in s left v rows there none gone frontier = frontier_alike s left (with_o
 pub passed_by : (s : Seen) (left : ℕ → Bool) (v : ℕ) (rows : List Row) → s.input v ≡ true →
     IsFrontier s left left (usable s (with_one left v)) rows → IsFrontierOf s left rows
 passed_by s left v rows has_it frontier = frontier_alike s left (usable s (with_one left v)) (usable s left) rows (λ w. still_usable s left v w has_it) frontier
-
--- whatever is adjacent is a neighbour
-pub member-neighbours : (g : Graph) (u w : ℕ) → WellFormed g → member w (neighbours g u) ≡ joined g.edges u w
-member-neighbours g u w formed = member-filter (joined g.edges u) (ids g.vertices) w ∙ by_test (member w (ids g.vertices))
-    (λ t. ap (λ b. b && joined g.edges u w) t)
-    (λ f. ap (λ b. b && joined g.edges u w) f ∙ sym (joined_comm g.edges u w ∙ joined-absent (ids g.vertices) g.edges w u formed.edges.lower_there formed.edges.higher_there f))
 
 -- one that is spanned already
 spanned_too : (s : Seen) (left may : ℕ → Bool) (v : ℕ) (rows : List Row) → IsSpanned s left rows v → IsFrontier s left left may rows → IsFrontier s left left (with_one may v) rows

@@ -1,5 +1,5 @@
 -- Loops over rows, step by step.
-use Rattle.std.proofs.Common.{◌≡◌, refl, sym, ◌∙◌, ap, subst, inr, ℕ, zero, suc, ◌<◌, ◌≤◌, Bool, false, ◌&&◌, List, [], ◌∷◌, ◌+◌, cond, eqb, ltb, ◌++◌, length, get_or, take, take_all, drop, drop-cons, set, remove, eqb-true, ltb-false, true, append-nil, arith}
+use Rattle.std.proofs.Common.{◌≡◌, refl, sym, ◌∙◌, ap, subst, inr, ℕ, zero, suc, ◌<◌, ◌≤◌, Bool, false, ◌&&◌, List, [], ◌∷◌, ◌+◌, cond, eqb, ltb, ◌++◌, length, get_or, take, take_all, drop, drop-cons, set, remove, eqb-true, ltb-false, true, true≢false, append-nil, arith}
 use Rattle.std.specs.Prelude.{Some, None, position}
 use Rattle.std.specs.List.{position_or_len}
 use Rattle.std.proofs.lemmas.List.Quantifiers.{position-Some}
@@ -10,7 +10,7 @@ use Rattle.zx_calculus.proofs.Booleans.{parities, xor-false}
 use Rattle.flow_find.specs.declared.row.Row.{Row}
 use Rattle.flow_find.specs.Frontiers.{AreAll, combined, gathered}
 use Rattle.flow_find.specs.Internal.Rows.{AreEach, IsAdded, IsSum, IsTaken, IsSpent, IsPut}
-use Rattle.zx_calculus.proofs.Ids.{by_test}
+use Rattle.zx_calculus.proofs.Ids.{by_test, member-here}
 
 -- the rows that are left add up, with what is there, to all of them
 pub record IsSumSoFar (picked : ℕ → Bool) (rows rest : List Row) (start now : Row) : Type 0 where
@@ -130,3 +130,8 @@ pub put_spent : (row : Row) (at old new : List Row) (k : ℕ) → at ≡ old →
 put_spent row at old new k same len spent =
     subst (IsPut row old) (sym (written (λ o n. IsAdded (spent.test o) row o n) at old new k same len spent.added))
     (inr (subst (λ (l : List Row). IsSpent row l new) same spent))
+
+-- a list in which nothing is found has nothing
+pub nothing_from_first : (vs : List ℕ) → ((w : ℕ) → 0 ≤ w → member w vs ≡ false) → vs ≡ []
+nothing_from_first [] none = refl
+nothing_from_first (v ∷ vs) none = absurd (true≢false (sym (member-here v vs) ∙ none v (omega arith)))

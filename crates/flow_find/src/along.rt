@@ -1,20 +1,20 @@
 //! Correction sets found along an order.
 
 ghost use Rattle.std.specs.Prelude.{◌≡◌, ◌≤◌, ◌&&◌, ℕ, not, length, IfOk};
-ghost use Rattle.zx_model.specs.Bits.{bit, member};
+ghost use Rattle.zx_model.specs.Bits.{member};
 ghost use Rattle.zx_calculus.specs.Graph.{Live, Distinct, WellFormed};
 ghost use Rattle.gflow_laws.specs.Seen.{seen};
-ghost use Rattle.gflow_laws.specs.Flow.{order_of, IsFlow};
+ghost use Rattle.gflow_laws.specs.Flow.{order_of, is_in, IsFlow};
 ghost use Rattle.gflow_laws.specs.Correcting.{inside_in, odd_in};
 ghost use Rattle.open_graph.specs.Planes.{plane_named};
 ghost use Rattle.move_laws.specs.Orders.{HasFlowAlong};
 ghost use Rattle.flow_find.specs.Frontiers.{set_from, IsFrontierOf};
 
 use crate::frontier::{insert, pass};
-use crate::marks::{clear_mark, marks_at};
 use crate::picked::Around;
 use crate::row::Row;
 use crate::rows::add_picked;
+use crate::sets::{set_of, take_out};
 use open_graph::{OpenGraph, Plane, VertexId, VertexSet};
 use std::alloc::{AllocError, Global};
 use zx_flow::FlowTable;
@@ -31,12 +31,12 @@ pub fn find_along(alloc: Global, g: &OpenGraph, order: &[VertexId]) -> Result<Fl
     ensures flow { IfOk result (λ table. IsFlow g.now.graph table.table) }
 {
     let mut table = table_of(alloc, order)?;
-    let mut left = marks_at(alloc, order)?;
+    let mut left = set_of(alloc, order)?;
     let mut rows = first_rows(alloc, g, &left)?;
     for i in (0..order.len()).rev() {
         let v = order[i];
         table.set(v, correction(alloc, g, &rows, v)?);
-        clear_mark(&mut left, v);
+        take_out(&mut left, v)?;
         pass(&mut rows, alloc, g, v, &left)?;
     }
     Ok(table)
@@ -55,10 +55,11 @@ fn table_of(alloc: Global, order: &[VertexId]) -> Result<FlowTable, AllocError>
 }
 
 // The rows of the outputs without inputs.
-fn first_rows(alloc: Global, g: &OpenGraph, left: &[bool]) -> Result<Vec<Row>, AllocError>
-    requires { (w : ℕ) → bit left.now w ≡
+fn first_rows(alloc: Global, g: &OpenGraph, left: &VertexSet) -> Result<Vec<Row>, AllocError>
+    requires { (w : ℕ) → is_in left.now w ≡
         (member w (seen g.now.graph).ids && not ((seen g.now.graph).output w)) }
-    ensures rows { IfOk result (λ rows. IsFrontierOf (seen g.now.graph) (bit left.now) rows.items) }
+    ensures rows { IfOk result (λ rows.
+        IsFrontierOf (seen g.now.graph) (is_in left.now) rows.items) }
     ensures few { IfOk result (λ rows. length rows.items ≤ length g.now.graph.outputs) }
     ensures valid { WellFormed g.now.graph }
 {

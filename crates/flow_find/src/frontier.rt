@@ -1,13 +1,13 @@
 //! The rows of the vertices that may be members, on the vertices that are left.
 
 ghost use Rattle.std.specs.Prelude.{◌≡◌, ◌<◌, ◌≤◌, ◌+◌, ◌&&◌, ◌||◌, ◌==◌, ℕ, Bool, false, not, length, IfOk, OnOk};
-ghost use Rattle.zx_model.specs.Bits.{bit, member};
+ghost use Rattle.zx_model.specs.Bits.{member};
 ghost use Rattle.zx_calculus.specs.Graph.{Live, WellFormed, is_XY, plane_of, joined, end_vertices};
 ghost use Rattle.gflow_laws.specs.Seen.{Seen, seen};
+ghost use Rattle.gflow_laws.specs.Flow.{is_in};
 ghost use Rattle.flow_find.specs.Frontiers.{AreAll, IsFrontier, IsFrontierOf, with_one};
 ghost use Rattle.flow_find.specs.Internal.Rows.{IsFrontierFor, IsPassable, IsCancelled};
 
-use crate::marks::marked;
 use crate::picked::Around;
 use crate::row::Row;
 use crate::rows::{add_picked, drop_column, put, take_pivot};
@@ -20,13 +20,13 @@ pub(crate) fn pass(
     alloc: Global,
     g: &OpenGraph,
     v: VertexId,
-    left: &[bool],
+    left: &VertexSet,
 ) -> Result<(), AllocError>
     requires live { Live g.now.graph v }
-    requires gone { bit left.now v ≡ false }
-    ensures rows { OnOk result (IsPassable (seen g.now.graph) (bit left.now) v rows.old.items →
-        IsFrontierOf (seen g.now.graph) (bit left.now) rows.new.items) }
-    ensures few { OnOk result (IsPassable (seen g.now.graph) (bit left.now) v rows.old.items →
+    requires gone { is_in left.now v ≡ false }
+    ensures rows { OnOk result (IsPassable (seen g.now.graph) (is_in left.now) v rows.old.items →
+        IsFrontierOf (seen g.now.graph) (is_in left.now) rows.new.items) }
+    ensures few { OnOk result (IsPassable (seen g.now.graph) (is_in left.now) v rows.old.items →
         length rows.new.items ≤ length rows.old.items) }
 {
     drop_column(rows, v)?;
@@ -70,12 +70,12 @@ pub(crate) fn insert(
     alloc: Global,
     g: &OpenGraph,
     u: VertexId,
-    left: &[bool],
+    left: &VertexSet,
 ) -> Result<(), AllocError>
     requires { Live g.now.graph u }
     ensures rows { OnOk result ((may : ℕ → Bool) →
-        IsFrontierFor (seen g.now.graph) (bit left.now) may rows.old.items →
-        IsFrontierFor (seen g.now.graph) (bit left.now) (with_one may u) rows.new.items) }
+        IsFrontierFor (seen g.now.graph) (is_in left.now) may rows.old.items →
+        IsFrontierFor (seen g.now.graph) (is_in left.now) (with_one may u) rows.new.items) }
     ensures few { OnOk result (length rows.new.items ≤ length rows.old.items + 1) }
 {
     let mut row = Row {
@@ -98,15 +98,18 @@ fn left_neighbours(
     alloc: Global,
     g: &OpenGraph,
     u: VertexId,
-    left: &[bool],
+    left: &VertexSet,
 ) -> Result<VertexSet, AllocError>
     requires { Live g.now.graph u }
     ensures members { IfOk result (λ set. (w : ℕ) →
-        member w set ≡ (bit left.now w && joined g.now.graph.edges u w)) }
+        member w set ≡ (is_in left.now w && joined g.now.graph.edges u w)) }
     ensures valid { WellFormed g.now.graph }
 {
-    let near = marked(alloc, g.neighbours(u), left)?;
     let mut set = VertexSet::new(alloc);
-    set.toggle_all(&near)?;
+    for w in g.neighbours(u) {
+        if left.contains(w) {
+            set.toggle(w)?;
+        }
+    }
     Ok(set)
 }

@@ -14,11 +14,11 @@
 mod along;
 mod frontier;
 mod laws;
-mod marks;
 mod picked;
 mod ranks;
 mod row;
 mod rows;
+mod sets;
 #[cfg(test)]
 mod tests;
 

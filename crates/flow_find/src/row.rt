@@ -3,6 +3,7 @@
 ghost use Rattle.std.specs.Prelude.{OnOk};
 ghost use Rattle.flow_find.specs.Internal.Rows.{IsAdded, IsDropped};
 
+use crate::sets::take_out;
 use open_graph::{VertexId, VertexSet};
 use std::alloc::AllocError;
 
@@ -23,17 +24,14 @@ impl Row {
         if !picked {
             return Ok(());
         }
-        self.columns.toggle_all(row.columns.as_slice())?;
-        self.members.toggle_all(row.members.as_slice())
+        self.columns.toggle_all(&row.columns)?;
+        self.members.toggle_all(&row.members)
     }
 
     // Takes a column out.
     pub(crate) fn drop_column(&mut self, v: VertexId) -> Result<(), AllocError>
         ensures { OnOk result (IsDropped v self.old self.new) }
     {
-        if !self.columns.contains(v) {
-            return Ok(());
-        }
-        self.columns.toggle(v)
+        take_out(&mut self.columns, v)
     }
 }

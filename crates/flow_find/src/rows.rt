@@ -43,7 +43,7 @@ pub(crate) fn drop_column(rows: &mut [Row], v: VertexId) -> Result<(), AllocErro
 pub(crate) fn put(rows: &mut Vec<Row>, mut row: Row) -> Result<(), AllocError>
     ensures { OnOk result (IsPut row rows.old.items rows.new.items) }
 {
-    match row.columns.as_slice().first().copied() {
+    match row.columns.first_from(0) {
         Some(pivot) => {
             clear_column(rows, pivot, &row)?;
             row.pivot = pivot;
@@ -70,7 +70,7 @@ fn relieve(rows: &mut [Row], row: &Row) -> Result<(), AllocError>
     requires { row.now.columns ≡ [] }
     ensures { OnOk result (IsSpent row.now rows.old rows.new) }
 {
-    match row.members.as_slice().first().copied() {
+    match row.members.first_from(0) {
         Some(member) => clear_member(rows, member, row),
         None => Ok(()),
     }

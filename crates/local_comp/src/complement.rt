@@ -110,7 +110,7 @@ fn toggle_neighbours(g: &mut OpenGraph, u: VertexId) -> Result<(), AllocError>
     ensures was_valid { WellFormed g.old.graph }
     ensures valid { WellFormed g.new.graph }
 {
-    let near = g.neighbour_set(u)?;
+    let near = g.neighbour_set(u).clone()?;
     g.toggle_among(&near)
 }
 

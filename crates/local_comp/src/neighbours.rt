@@ -14,8 +14,9 @@ pub(crate) fn turn_neighbours(g: &mut OpenGraph, u: VertexId)
         g.new.graph ≡ with_changed (changed_in near quarter_turned) g.old.graph }
     ensures valid { WellFormed g.new.graph }
 {
-    for i in 0..g.neighbours(u).len() {
-        let p = g.neighbour(u, i);
+    let mut start = 0;
+    'turn: while let Some(p) = g.neighbour_from(u, start) {
         g.add_quarter(p);
+        start = p.get() + 1;
     }
 }

@@ -1,6 +1,6 @@
 pub mod RowLemmas
+pub mod Walks
 pub mod Toggling
-pub mod Merging
 pub mod PlaceLemmas
 pub mod SlotLemmas
 pub mod Keeping

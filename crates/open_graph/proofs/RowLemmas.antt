@@ -1,64 +1,21 @@
 -- Lists of ids in rising order: an id found, inserted and removed.
-use Rattle.std.proofs.Common.{◌≡◌, refl, sym, ◌∙◌, ap, ℕ, zero, suc, ◌<◌, ◌≤◌, Bool, true, false, ◌||◌, eqb, ltb, List, [], ◌∷◌, length, get_or, insert, remove, Result, Ok, Err, MatchResult, true≢false, ne_eqb, ltb-true, ltb-false, lt-ltb, arith}
+use Rattle.std.proofs.Common.{◌≡◌, refl, sym, ◌∙◌, ap, ℕ, suc, ◌<◌, ◌≤◌, Bool, true, false, not, ◌||◌, ◌&&◌, eqb, ltb, leb, List, [], ◌∷◌, Option, Some, None, IfSome, true≢false, ltb-true, ltb-false, lt-ltb, leb-true, le-leb, arith}
 use Rattle.std.specs.List.{list_all}
 use Rattle.zx_model.specs.Bits.{xor, member}
-use Rattle.zx_calculus.specs.Graph.{in_order}
-use Rattle.zx_calculus.proofs.Booleans.{xor-false}
-use Rattle.zx_calculus.proofs.Ids.{by_test, by_equal, and-left, and-right, or-left, or-right, member-below, eqb-self, removed, removed-absent, member-removed, member-removed_other}
-use Rattle.zx_calculus.proofs.Kept.{both}
-use Rattle.zx_calculus.proofs.Splitting.{all_at}
-pub use Rattle.zx_calculus.proofs.Positions.{member-get_or}
-use Rattle.open_graph.specs.Internal.Rows.{inserted, IsPlace}
+use Rattle.zx_calculus.specs.Graph.{Graph, in_order, joined, Live, WellFormed}
+use Rattle.zx_calculus.proofs.Booleans.{xor-false, or-false, and-false, and-true}
+use Rattle.zx_calculus.proofs.Ids.{by_test, by_equal, and-left, and-right, or-left, or-right, eqb-self, member-here, member-filter, removed, removed-absent, member-removed, member-removed_other}
+use Rattle.zx_calculus.proofs.Kept.{both, in_order-removed}
+use Rattle.zx_calculus.proofs.Extensionality.{rising_ext, in_order-filter}
+use Rattle.zx_calculus.proofs.Toggling.{member-neighbours, neighbour_live}
+use Rattle.zx_bits.specs.Sets.{IsRising}
+use Rattle.zx_bits.specs.Rows.{IsFirstFrom}
+use Rattle.open_graph.specs.Internal.Rows.{inserted, not_below}
 
--- an id that stands in a list has a place
-pub place-member : (v : ℕ) (xs : List ℕ) → member v xs ≡ true → (i : ℕ) × (i < length xs) × (get_or xs i 0 ≡ v)
-place-member v [] h = absurd (true≢false (sym h))
-place-member v (x ∷ xs) h =
-    by_equal v x (λ t e. (0, omega arith, sym e))
-    (λ f n. let there : member v xs ≡ true = rw f at h in
-    let later = place-member v xs there in (suc later.0, omega (arith, later.1), later.2))
-
--- the first of a rising list is below the others
-below_later : (x : ℕ) (xs : List ℕ) (j : ℕ) → list_all (ltb x) xs ≡ true → j < length xs → x < get_or xs j 0
-below_later x xs j h lt = ltb-true x (get_or xs j 0) (all_at (ltb x) xs (get_or xs j 0) h (member-get_or xs j lt))
-
-pub get_or-rising : (xs : List ℕ) → in_order ltb xs ≡ true → (i j : ℕ) → i ≤ j → j < length xs → get_or xs i 0 ≤ get_or xs j 0
-get_or-rising [] o i j le lt = absurd (omega arith)
-get_or-rising (x ∷ xs) o zero zero le lt = omega arith
-get_or-rising (x ∷ xs) o zero (suc j) le lt = let b : x < get_or xs j 0 = below_later x xs j (and-left _ _ o) (omega arith) in omega arith
-get_or-rising (x ∷ xs) o (suc i) zero le lt = absurd (omega arith)
-get_or-rising (x ∷ xs) o (suc i) (suc j) le lt = get_or-rising xs (and-right _ _ o) i j (omega arith) (omega arith)
-
-pub remove-removed : (xs : List ℕ) (i v : ℕ) → in_order ltb xs ≡ true → i < length xs → get_or xs i 0 ≡ v → remove xs i ≡ removed v xs
-remove-removed [] i v o lt e = absurd (omega arith)
-remove-removed (x ∷ xs) zero v o lt e =
-    let absent : member v xs ≡ false = ap (λ w. member w xs) (sym e) ∙ member-below x xs (and-left _ _ o) in
-    by_equal v x (λ t s. rw t (sym (removed-absent v xs absent))) (λ f n. absurd (n (sym e)))
-remove-removed (x ∷ xs) (suc i) v o lt e =
-    let b : x < get_or xs i 0 = below_later x xs i (and-left _ _ o) (omega arith) in
-    let apart : eqb v x ≡ false = ne_eqb v x (omega arith) in
-    rw apart (ap (λ r. x ∷ r) (remove-removed xs i v (and-right _ _ o) (omega arith) e))
-
-pub insert-inserted : (xs : List ℕ) (i v : ℕ) → i ≤ length xs → ((k : ℕ) → k < i → get_or xs k 0 < v) → ((k : ℕ) → i ≤ k → k < length xs → v < get_or xs k 0) → insert xs i v ≡ inserted v xs
-insert-inserted [] zero v le low high = refl
-insert-inserted [] (suc i) v le low high = absurd (omega arith)
-insert-inserted (x ∷ xs) zero v le low high =
-    let t : ltb v x ≡ true = lt-ltb v x (high 0 (omega arith) (omega arith)) in rw t refl
-insert-inserted (x ∷ xs) (suc i) v le low high =
-    let b : x < v = low 0 (omega arith) in
-    by_test (ltb v x) (λ t. let c : v < x = ltb-true v x t in absurd (omega arith))
-    (λ f. rw f (ap (λ r. x ∷ r) (insert-inserted xs i v (omega arith) (λ k lt. low (suc k) (omega arith)) (λ k ge lt. high (suc k) (omega arith) (omega arith)))))
-
--- what a binary search says
-pub IsPlace-searched : (ids : List ℕ) (v : ℕ) (r : Result ℕ ℕ) → in_order ltb ids ≡ true →
-    MatchResult r (λ i. (i < length ids) × (get_or ids i 0 ≡ v)) (λ i. (i ≤ length ids) × ((k : ℕ) → k < i → get_or ids k 0 < v) × ((k : ℕ) → i ≤ k → k < length ids → v < get_or ids k 0)) → IsPlace ids v r
-IsPlace-searched ids v (Ok i) o found = (ap (λ w. member w ids) (sym found.1) ∙ member-get_or ids i found.0, found.0, remove-removed ids i v o found.0 found.1)
-IsPlace-searched ids v (Err i) o found = (by_test (member v ids) (λ t. absurd (between (place-member v ids t))) (λ f. f), found.0, insert-inserted ids i v found.0 found.1 found.2)
-  where
-    between : (k : ℕ) × (k < length ids) × (get_or ids k 0 ≡ v) → ⊥
-    between at =
-        by_test (ltb at.0 i) (λ t. let low : get_or ids at.0 0 < v = found.1 at.0 (ltb-true at.0 i t) in absurd (omega (arith, at.2)))
-        (λ f. let high : v < get_or ids at.0 0 = found.2 at.0 (ltb-false at.0 i f) at.1 in absurd (omega (arith, at.2)))
+-- what a row of bits calls rising
+pub in_order-rising : (xs : List ℕ) → IsRising xs → in_order ltb xs ≡ true
+in_order-rising [] rises = refl
+in_order-rising (x ∷ xs) rises = both _ _ (and-left _ _ rises) (in_order-rising xs (and-right _ _ rises))
 
 pub member-inserted : (q v : ℕ) (xs : List ℕ) → member q (inserted v xs) ≡ (eqb q v || member q xs)
 member-inserted q v [] = refl
@@ -107,3 +64,68 @@ removed-inserted v [] absent = rw (eqb-self v) refl
 removed-inserted v (x ∷ xs) absent =
     let apart : eqb v x ≡ false = or-left _ _ absent in
     by_test (ltb v x) (λ t. rw (t, eqb-self v) (removed-absent v (x ∷ xs) absent)) (λ f. rw (f, apart) (ap (λ r. x ∷ r) (removed-inserted v xs (or-right _ _ absent))))
+
+-- rows by their members
+pub toggled_in : (v : ℕ) (xs ys : List ℕ) → member v xs ≡ false → in_order ltb xs ≡ true → IsRising ys →
+    ((q : ℕ) → member q ys ≡ xor (member q xs) (eqb q v)) → ys ≡ inserted v xs
+toggled_in v xs ys absent o rises tells =
+    rising_ext ys (inserted v xs) (in_order-rising ys rises) (in_order-inserted v xs absent o) (λ q. tells q ∙ sym (inserted_toggles v xs absent q))
+
+pub taken_out : (v : ℕ) (xs ys : List ℕ) → in_order ltb xs ≡ true → IsRising ys →
+    ((q : ℕ) → member q ys ≡ (member q xs && not (eqb q v))) → ys ≡ removed v xs
+taken_out v xs ys o rises tells =
+    rising_ext ys (removed v xs) (in_order-rising ys rises) (in_order-removed v xs o)
+    (λ q. tells q
+    ∙ by_equal q v
+    (λ t e. rw t (and-false (member q xs) ∙ sym (ap (λ w. member w (removed v xs)) e ∙ member-removed v xs)))
+    (λ f n. rw f (and-true (member q xs) ∙ sym (member-removed_other q v xs n))))
+
+pub only_one : (v : ℕ) (ys : List ℕ) → in_order ltb ys ≡ true → ((q : ℕ) → member q ys ≡ xor false (eqb q v)) → ys ≡ v ∷ []
+only_one v ys o tells = rising_ext ys (v ∷ []) o refl (λ q. tells q ∙ sym (or-false (eqb q v)))
+
+all_above : (first : ℕ) (xs : List ℕ) → list_all (ltb first) (not_below (suc first) xs) ≡ true
+all_above first [] = refl
+all_above first (x ∷ xs) =
+    by_test (leb (suc first) x)
+    (λ t. rw t (both _ _ (lt-ltb first x (ltb-true first x t)) (all_above first xs)))
+    (λ f. rw f (all_above first xs))
+
+-- those that are no less than a number begin with the first, if there is one
+pub first_is_next : (start first : ℕ) (xs : List ℕ) → in_order ltb xs ≡ true → IsFirstFrom (λ n. member n xs) start (Some first) →
+    not_below start xs ≡ first ∷ not_below (suc first) xs
+first_is_next start first xs o found =
+    rising_ext (not_below start xs) (first ∷ not_below (suc first) xs) (in_order-filter (leb start) xs o)
+    (both _ _ (all_above first xs) (in_order-filter (leb (suc first)) xs o))
+    (λ q. member-filter (leb start) xs q ∙ here q ∙ ap (λ b. eqb q first || b) (sym (member-filter (leb (suc first)) xs q)))
+  where
+    here : (q : ℕ) → (member q xs && leb start q) ≡ (eqb q first || (member q xs && leb (suc first) q))
+    here q =
+        by_equal q first
+        (λ t e. rw t (both _ _ (ap (λ w. member w xs) e ∙ found.1) (le-leb start q (omega (arith, found.0, e)))))
+        (λ f n. rw f
+        (by_test (leb (suc first) q)
+        (λ t. let above : first < q = ltb-true first q t in rw (t, le-leb start q (omega (arith, found.0, above))) refl)
+        (λ g. let below : q ≤ first = ltb-false first q g in
+        by_test (leb start q)
+        (λ t. let absent : member q xs ≡ false = found.2 q (leb-true start q t) (omega (arith, below, n)) in rw absent refl)
+        (λ h. rw (g, h) refl))))
+
+pub none_is_left : (start : ℕ) (xs : List ℕ) → IsFirstFrom (λ n. member n xs) start None → not_below start xs ≡ []
+none_is_left start [] none = refl
+none_is_left start (x ∷ xs) none =
+    by_test (leb start x)
+    (λ t. absurd (true≢false (sym (member-here x xs) ∙ none x (leb-true start x t))))
+    (λ f. rw f (none_is_left start xs (λ p le. or-right _ _ (none p le))))
+
+pub all_are_left : (xs : List ℕ) → not_below 0 xs ≡ xs
+all_are_left [] = refl
+all_are_left (x ∷ xs) = rw (le-leb 0 x (omega arith)) (ap (λ ys. x ∷ ys) (all_are_left xs))
+
+pub first_alike : (f g : ℕ → Bool) (start : ℕ) (r : Option ℕ) → ((p : ℕ) → f p ≡ g p) → IsFirstFrom f start r → IsFirstFrom g start r
+first_alike f g start None same none = λ p le. sym (same p) ∙ none p le
+first_alike f g start (Some first) same found = (found.0, sym (same first) ∙ found.1, λ p le lt. sym (same p) ∙ found.2 p le lt)
+
+-- a neighbour is a vertex
+pub first_live : (g : Graph) (v start : ℕ) (r : Option ℕ) → WellFormed g → IsFirstFrom (joined g.edges v) start r → IfSome r (λ w. Live g w)
+first_live g v start None w found = tt
+first_live g v start (Some first) w found = neighbour_live g v first (member-neighbours g v first w ∙ found.1)

@@ -1,13 +1,12 @@
 -- Rows toggled one after the other, until the graph is symmetric again.
-use Rattle.std.proofs.Common.{◌≡◌, refl, sym, ◌∙◌, ap, ap₂, subst, ℕ, suc, ◌<◌, Bool, true, false, ◌&&◌, eqb, ltb, List, [], ◌∷◌, length, get_or, take, Option, Some, None, IsSome, slice_index_or, true≢false, ne_eqb}
+use Rattle.std.proofs.Common.{◌≡◌, refl, sym, ◌∙◌, ap, ap₂, subst, ℕ, Bool, true, false, ◌&&◌, eqb, ltb, List, Option, Some, None, IsSome, slice_index_or, true≢false, ne_eqb}
 use Rattle.zx_model.specs.Bits.{xor, member}
 use Rattle.std.specs.List.{list_all}
 use Rattle.zx_model.specs.Phase.{turn}
-use Rattle.zx_calculus.specs.Graph.{End, ids, joined, OrderedEdges, OrderedEnds, Distinct}
+use Rattle.zx_calculus.specs.Graph.{End, ids, joined, OrderedEdges, OrderedEnds}
 use Rattle.zx_calculus.specs.Toggles.{IsToggled, across, among}
-use Rattle.zx_calculus.proofs.Booleans.{parities, xor_comm, xor-false, xor-same, or-false}
+use Rattle.zx_calculus.proofs.Booleans.{parities, xor_comm, xor-false, xor-same}
 use Rattle.zx_calculus.proofs.Ids.{by_equal, eqb-self, Symmetric}
-use Rattle.zx_calculus.proofs.Positions.{member-grown, at_place}
 use Rattle.zx_calculus.proofs.EdgeLists.{OrderedEdges-edges_of}
 use Rattle.zx_calculus.proofs.Extensionality.{vertices_ext}
 use Rattle.open_graph.specs.declared.slot.Slot.{Slot}
@@ -37,34 +36,24 @@ pub still_there : (old new : List (Option Slot)) (picked : ℕ → ℕ → Bool)
 still_there old new picked p toggled there =
     some_of_live (slice_index_or new p None) (ap (λ t. t.live) (toggled.others p) ∙ live_of_some (slice_index_or old p None) there)
 
--- one more of them is done
-grown : (us : List ℕ) (i u p : ℕ) → Distinct us → i < length us → u ≡ get_or us i u → member p (take (suc i) us) ≡ xor (member p (take i us)) (eqb p u)
-grown us i u p d lt is = member-grown us i p d lt ∙ ap (λ x. xor (member p (take i us)) (eqb p x)) (sym (at_place us us i u refl lt is))
-
 wider : (a e x : Bool) → xor (a && x) (e && x) ≡ (xor a e && x)
 wider a e x = simp parities
 
--- one vertex more whose row is toggled
-pub rows_next : (old now new : List (Option Slot)) (us others : List ℕ) (i u : ℕ) → Distinct us → i < length us → u ≡ get_or us i u →
-    RowsToggled old now (λ p q. member p (take i us) && member q others) → RowsToggled now new (λ p q. eqb p u && member q others) →
-    RowsToggled old new (λ p q. member p (take (suc i) us) && member q others)
-rows_next old now new us others i u d lt is before step =
+-- one vertex more whose row is toggled, so that its test toggles
+pub rows_next : (old now new : List (Option Slot)) (done more : ℕ → Bool) (others : ℕ → ℕ → Bool) (u : ℕ) →
+    ((p : ℕ) → more p ≡ xor (done p) (eqb p u)) → RowsToggled old now (λ p q. done p && others p q) →
+    RowsToggled now new (λ p q. eqb p u && others p q) → RowsToggled old new (λ p q. more p && others p q)
+rows_next old now new done more others u grown before step =
     rows_then old now new _ _ _ before step
-    (λ p q. wider (member p (take i us)) (eqb p u) (member q others) ∙ ap (λ x. x && member q others) (sym (grown us i u p d lt is)))
+    (λ p q. wider (done p) (eqb p u) (others p q) ∙ ap (λ x. x && others p q) (sym (grown p)))
 
--- one of the listed more whose row is toggled, first by all of them and then by itself
-pub among_next : (old now mid new : List (Option Slot)) (near : List ℕ) (i u : ℕ) → Distinct near → i < length near → u ≡ get_or near i u →
-    RowsToggled old now (λ p q. member p (take i near) && xor (member q near) (eqb q p)) → RowsToggled now mid (λ p q. eqb p u && member q near) →
-    RowsToggled mid new (λ p q. eqb p u && member q (u ∷ [])) →
-    RowsToggled old new (λ p q. member p (take (suc i) near) && xor (member q near) (eqb q p))
-among_next old now mid new near i u d lt is before step itself =
-    rows_then old now new _ (λ p q. eqb p u && xor (member q near) (eqb q p)) _ before
-    (rows_then now mid new _ _ _ step itself same)
-    (λ p q. wider (member p (take i near)) (eqb p u) (xor (member q near) (eqb q p))
-    ∙ ap (λ x. x && xor (member q near) (eqb q p)) (sym (grown near i u p d lt is)))
+-- the row of a vertex toggled first by a set and then by itself
+pub row_and_itself : (now mid new : List (Option Slot)) (near : List ℕ) (u : ℕ) → RowsToggled now mid (λ p q. eqb p u && member q near) →
+    RowsToggled mid new (λ p q. eqb p u && eqb q u) → RowsToggled now new (λ p q. eqb p u && xor (member q near) (eqb q p))
+row_and_itself now mid new near u step itself = rows_then now mid new _ _ _ step itself same
   where
-    same : (p q : ℕ) → xor (eqb p u && member q near) (eqb p u && member q (u ∷ [])) ≡ (eqb p u && xor (member q near) (eqb q p))
-    same p q = by_equal p u (λ t e. rw t (ap (xor (member q near)) (or-false (eqb q u) ∙ ap (eqb q) (sym e)))) (λ f n. rw f refl)
+    same : (p q : ℕ) → xor (eqb p u && member q near) (eqb p u && eqb q u) ≡ (eqb p u && xor (member q near) (eqb q p))
+    same p q = by_equal p u (λ t e. rw t (ap (xor (member q near)) (ap (eqb q) (sym e)))) (λ f n. rw f refl)
 
 -- the rows are symmetric again
 module _ (old new : List (Option Slot)) (inputs outputs : List End) (sound : IsSound old inputs outputs) (picked : ℕ → ℕ → Bool)

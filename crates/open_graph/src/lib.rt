@@ -15,6 +15,7 @@
 
 mod end;
 mod id;
+mod ids;
 mod open_graph;
 mod plane;
 mod side;
@@ -27,6 +28,7 @@ mod vertices;
 
 pub use end::End;
 pub use id::VertexId;
+pub use ids::Ids;
 pub use open_graph::OpenGraph;
 pub use plane::Plane;
 pub use vertex_set::VertexSet;

@@ -1,6 +1,6 @@
 //! Open graphs.
 
-ghost use Rattle.std.specs.Prelude.{◌≡◌, ◌≢◌, ◌<◌, ◌++◌, ℕ, [], ◌∷◌, true, false, length, slice_set, slice_index, remove, is_some, slice_get, OnOk, OnErr, IfOk, IfSome};
+ghost use Rattle.std.specs.Prelude.{◌≡◌, ◌≢◌, ◌<◌, ◌++◌, ℕ, [], ◌∷◌, true, false, length, slice_set, remove, is_some, slice_get, OnOk, OnErr, IfOk, IfSome};
 ghost use Rattle.zx_model.specs.Bits.{member};
 ghost use Rattle.zx_calculus.specs.Graph.{ids, kind_of, plane_of, joined, end_vertices, insert_vertex, with_kinds, Live, WellFormed, Interior, is_interior};
 ghost use Rattle.zx_calculus.specs.Graph as zx;
@@ -8,11 +8,13 @@ ghost use Rattle.zx_calculus.specs.Turns.{in_plane, quarter_turned};
 ghost use Rattle.zx_calculus.specs.Worked.{vertex};
 ghost use Rattle.zx_calculus.specs.Edits.{IsToggle, IsRemoval, at_vertex};
 ghost use Rattle.zx_calculus.specs.Toggles.{IsToggled, across, among};
+ghost use Rattle.zx_bits.specs.Rows.{IsFirstFrom};
 ghost use Rattle.open_graph.specs.Planes.{plane_named};
 ghost use Rattle.open_graph.specs.Internal.Slots.{Tells};
 
 use crate::end::End;
 use crate::id::VertexId;
+use crate::ids::Ids;
 use crate::plane::Plane;
 use crate::side::{self, Side};
 use crate::slot::Slot;
@@ -159,11 +161,7 @@ impl OpenGraph {
         ensures was_valid { WellFormed self.old.graph }
         ensures valid { WellFormed self.new.graph }
     {
-        if let Err(error) = slots::toggle_across(
-            &mut self.slots,
-            left.as_slice(),
-            right.as_slice(),
-        ) {
+        if let Err(error) = slots::toggle_across(&mut self.slots, left, right) {
             // Some edges may stand in one of their two rows alone.
             *self = OpenGraph::new(self.alloc);
             return Err(error);
@@ -181,7 +179,7 @@ impl OpenGraph {
         ensures was_valid { WellFormed self.old.graph }
         ensures valid { WellFormed self.new.graph }
     {
-        if let Err(error) = slots::toggle_among(&mut self.slots, vertices.as_slice()) {
+        if let Err(error) = slots::toggle_among(&mut self.slots, vertices) {
             // Some edges may stand in one of their two rows alone.
             *self = OpenGraph::new(self.alloc);
             return Err(error);
@@ -245,35 +243,42 @@ impl OpenGraph {
     }
 
     /// The vertices adjacent to a vertex, by rising id.
-    pub fn neighbours(&self, v: VertexId) -> &[VertexId]
+    pub fn neighbours(&self, v: VertexId) -> Ids<'_>
         requires { Live self.now.graph v }
-        ensures value { result.now ≡ zx.neighbours self.now.graph v }
+        ensures value { result ≡ zx.neighbours self.now.graph v }
         ensures valid { WellFormed self.now.graph }
     {
-        self.slot(v).row.as_slice()
+        self.slot(v).row.iter()
     }
 
     /// The vertices adjacent to a vertex, as a set.
-    pub fn neighbour_set(&self, v: VertexId) -> Result<VertexSet, AllocError>
+    pub fn neighbour_set(&self, v: VertexId) -> &VertexSet
         requires { Live self.now.graph v }
-        ensures members { IfOk result (λ set. (p : ℕ) →
-            member p set ≡ joined self.now.graph.edges v p) }
-        ensures live { IfOk result (λ set. (p : ℕ) → member p set ≡ true → Live self.now.graph p) }
+        ensures members { (p : ℕ) → member p result.now ≡ joined self.now.graph.edges v p }
+        ensures live { (p : ℕ) → member p result.now ≡ true → Live self.now.graph p }
         ensures valid { WellFormed self.now.graph }
     {
-        let row = self.slot(v).row.clone()?;
-        Ok(row)
+        &self.slot(v).row
     }
 
-    /// The vertex at a place among those adjacent to a vertex.
-    pub fn neighbour(&self, v: VertexId, i: usize) -> VertexId
-        requires live { Live self.now.graph v }
-        requires within { i < length (zx.neighbours self.now.graph v) }
-        ensures value { result ≡ slice_index (zx.neighbours self.now.graph v) i }
-        ensures live { Live self.now.graph result }
+    /// How many vertices are adjacent to a vertex.
+    pub fn degree(&self, v: VertexId) -> usize
+        requires { Live self.now.graph v }
+        ensures value { result ≡ length (zx.neighbours self.now.graph v) }
         ensures valid { WellFormed self.now.graph }
     {
-        self.neighbours(v)[i]
+        self.slot(v).row.len()
+    }
+
+    /// The adjacent vertex of the least id that isn't below a number.
+    pub fn neighbour_from(&self, v: VertexId, start: usize) -> Option<VertexId>
+        requires { Live self.now.graph v }
+        ensures first { IsFirstFrom (joined self.now.graph.edges v) start result }
+        ensures live { IfSome result (λ w. Live self.now.graph w) }
+        ensures bounded { IfSome result (λ w. w < usize.MAX) }
+        ensures valid { WellFormed self.now.graph }
+    {
+        self.slot(v).row.first_from(start)
     }
 
     /// Plane and phase of a vertex.

@@ -93,44 +93,48 @@ pub(crate) fn toggle(slots: &mut Slab<Slot>, u: VertexId, v: VertexId) -> Result
 }
 
 // Toggles vertices in the row of another.
-fn toggle_row(slots: &mut Slab<Slot>, u: VertexId, others: &[VertexId]) -> Result<(), AllocError>
-    requires live { ContainsKey slots.old u }
-    requires distinct { Distinct others.now }
+fn toggle_row(slots: &mut Slab<Slot>, u: VertexId, others: &VertexSet) -> Result<(), AllocError>
+    requires { ContainsKey slots.old u }
     ensures { OnOk result (RowsToggled slots.old.slots slots.new.slots
         (λ p q. (p == u) && member q others.now)) }
 {
     slots[u.get()].row.toggle_all(others)
 }
 
+// Toggles one vertex in the row of another.
+fn toggle_in_row(slots: &mut Slab<Slot>, u: VertexId, v: VertexId) -> Result<(), AllocError>
+    requires { ContainsKey slots.old u }
+    ensures { OnOk result (RowsToggled slots.old.slots slots.new.slots
+        (λ p q. (p == u) && (q == v))) }
+{
+    slots[u.get()].row.toggle(v)
+}
+
 // Toggles vertices in the rows of others.
 fn toggle_rows(
     slots: &mut Slab<Slot>,
-    vertices: &[VertexId],
-    others: &[VertexId],
+    vertices: &VertexSet,
+    others: &VertexSet,
 ) -> Result<(), AllocError>
-    requires live { (p : ℕ) → member p vertices.now ≡ true → ContainsKey slots.old p }
-    requires distinct { Distinct vertices.now }
-    requires distinct_others { Distinct others.now }
+    requires { (p : ℕ) → member p vertices.now ≡ true → ContainsKey slots.old p }
     ensures { OnOk result (RowsToggled slots.old.slots slots.new.slots
         (λ p q. member p vertices.now && member q others.now)) }
 {
-    for u in vertices {
-        toggle_row(slots, *u, others)?;
+    for u in vertices.iter() {
+        toggle_row(slots, u, others)?;
     }
     Ok(())
 }
 
-// Toggles the edge of each pair across two lists, in both rows. Where memory runs out, the rows may
+// Toggles the edge of each pair across two sets, in both rows. Where memory runs out, the rows may
 // be any.
 pub(crate) fn toggle_across(
     slots: &mut Slab<Slot>,
-    left: &[VertexId],
-    right: &[VertexId],
+    left: &VertexSet,
+    right: &VertexSet,
 ) -> Result<(), AllocError>
     requires left_live { (p : ℕ) → member p left.now ≡ true → ContainsKey slots.old p }
     requires right_live { (p : ℕ) → member p right.now ≡ true → ContainsKey slots.old p }
-    requires left_distinct { Distinct left.now }
-    requires right_distinct { Distinct right.now }
     ensures { OnOk result
         (RowsToggled slots.old.slots slots.new.slots (across left.now right.now)) }
 {
@@ -138,16 +142,15 @@ pub(crate) fn toggle_across(
     toggle_rows(slots, right, left)
 }
 
-// Toggles the edge of each pair of listed vertices, in both rows. Where memory runs out, the rows
+// Toggles the edge of each pair of a set's vertices, in both rows. Where memory runs out, the rows
 // may be any.
-pub(crate) fn toggle_among(slots: &mut Slab<Slot>, near: &[VertexId]) -> Result<(), AllocError>
-    requires live { (p : ℕ) → member p near.now ≡ true → ContainsKey slots.old p }
-    requires distinct { Distinct near.now }
+pub(crate) fn toggle_among(slots: &mut Slab<Slot>, near: &VertexSet) -> Result<(), AllocError>
+    requires { (p : ℕ) → member p near.now ≡ true → ContainsKey slots.old p }
     ensures { OnOk result (RowsToggled slots.old.slots slots.new.slots (two_among near.now)) }
 {
-    for p in near {
-        toggle_row(slots, *p, near)?;
-        toggle_row(slots, *p, &[*p])?;
+    for p in near.iter() {
+        toggle_row(slots, p, near)?;
+        toggle_in_row(slots, p, p)?;
     }
     Ok(())
 }
@@ -191,7 +194,7 @@ pub(crate) fn remove(slots: &mut Slab<Slot>, v: VertexId)
     ensures { RemovedFrom slots.old.slots slots.new.slots v (told slots.old.slots v).row }
 {
     let slot = slots.remove(v.get());
-    for w in slot.row.as_slice() {
-        remove_neighbour(slots, *w, v);
+    for w in slot.row.iter() {
+        remove_neighbour(slots, w, v);
     }
 }

@@ -59,7 +59,7 @@ fn edges_join_neighbours(rt: HostRuntime) -> Result<(), Fail> {
 // Toggles the edges among the neighbours of a vertex.
 fn complement(rt: &impl Abort, graph: &mut OpenGraph, v: usize) -> Result<(), Fail> {
     assert!(rt; graph.is_live(VertexId::new(v)));
-    let near = graph.neighbour_set(VertexId::new(v))?;
+    let near = graph.neighbour_set(VertexId::new(v)).clone()?;
     graph.toggle_among(&near)?;
     Ok(())
 }
@@ -68,8 +68,8 @@ fn complement(rt: &impl Abort, graph: &mut OpenGraph, v: usize) -> Result<(), Fa
 fn cross(rt: &impl Abort, graph: &mut OpenGraph, u: usize, v: usize) -> Result<(), Fail> {
     assert!(rt; graph.is_live(VertexId::new(u)));
     assert!(rt; graph.is_live(VertexId::new(v)));
-    let near = graph.neighbour_set(VertexId::new(u))?;
-    let far = graph.neighbour_set(VertexId::new(v))?;
+    let near = graph.neighbour_set(VertexId::new(u)).clone()?;
+    let far = graph.neighbour_set(VertexId::new(v)).clone()?;
     graph.toggle_across(&near, &far)?;
     Ok(())
 }

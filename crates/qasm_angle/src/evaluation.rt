@@ -17,6 +17,7 @@ use std::alloc::{AllocError, Global};
 
 /// The angle of an expression, where the parameter of index i is the angle `args[i]`. For an expression that has
 /// none, the first step in postfix order that gives no angle decides the error.
+#[inline(always)]
 pub fn eval(alloc: Global, e: &Expr, args: &[Angle]) -> Result<Angle, AngleError>
     ensures value { IfOk result (λ angle. value e.now args.now ≡ Ok angle) }
     ensures divide { result ≡ Err AngleError.Divide → value e.now args.now ≡ Err cause.Divide }
@@ -31,6 +32,10 @@ pub fn eval(alloc: Global, e: &Expr, args: &[Angle]) -> Result<Angle, AngleError
     let Some((last, before)) = e.steps().split_last() else {
         return Err(AngleError::NotAnAngle);
     };
+    if before.is_empty() {
+        let alone = angle_alone(last, args)?;
+        return Ok(alone);
+    }
     let mut angles = Vec::new(alloc);
     for step in before {
         push_step(&mut angles, step, args)?;
@@ -93,6 +98,18 @@ fn take_step(angles: &mut Vec<Angle>, step: &ExprItem, args: &[Angle]) -> Result
             let a = pop_angle(angles)?;
             a.apply(*operator, &b)
         }
+    }
+}
+
+// The angle of a step that stands alone. Operators lack operands there.
+fn angle_alone(step: &ExprItem, args: &[Angle]) -> Result<Angle, AngleFault>
+    ensures { on_top result [] ≡ stepped step.now args.now [] }
+{
+    match step {
+        ExprItem::Number(literal) => number(literal),
+        ExprItem::Pi => Ok(Angle::pi()),
+        ExprItem::Parameter(i) => args.get(*i).copied().ok_or(AngleFault::NotAnAngle),
+        ExprItem::Negate | ExprItem::Binary(_) => Err(AngleFault::NotAnAngle),
     }
 }
 

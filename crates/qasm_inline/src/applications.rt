@@ -6,11 +6,11 @@ ghost use Rattle.std.specs.Option.{option_map};
 ghost use Rattle.qasm_reader.specs.Syntax.{Barrier};
 ghost use Rattle.qasm_reader.specs.Views.{operand};
 ghost use Rattle.qasm_scope.specs.declared.causes.Cause.{Cause};
-ghost use Rattle.qasm_names.specs.Kept.{Represents};
+ghost use Rattle.qasm_names.specs.Kept.{Represents, found, symbol_register};
 ghost use Rattle.qasm_scope.specs.Applications.{register_size, register_sizes};
 ghost use Rattle.qasm_scope.specs.Faults.{has_other_size, wrong_in};
 ghost use Rattle.qasm_scope.specs.Scope.{Scope, numeral};
-ghost use Rattle.qasm_inline.specs.Internal.Spans.{span_range, span_by, span_in, no_register_by, is_missing, any_missing, IsSpan, AreSpans, instance_count};
+ghost use Rattle.qasm_inline.specs.Internal.Spans.{span_range, span_by, span_in, no_register_by, is_missing, any_missing, IsSpan, AreSpans, instance_count, IsLastRegister};
 
 use qasm_names::{Names, StatementError, number};
 use qasm_reader::Argument;
@@ -29,6 +29,40 @@ pub enum Span {
         /// How many qubits it has.
         size: usize,
     },
+}
+
+// The name that was looked up last, and the first qubit and the size of the register of qubits that it stands for;
+// none where it stands for none.
+#[derive(Clone, Copy)]
+struct LastRegister<'a> {
+    name: &'a [u8],
+    register: Option<(usize, usize)>,
+}
+
+impl<'a> LastRegister<'a> {
+    // This name is looked up.
+    fn look_up(names: &Names<'a>, name: &'a [u8]) -> LastRegister<'a>
+        ensures is { IsLastRegister names.now.symbols result }
+        ensures name { result.name.now ≡ name.now }
+    {
+        LastRegister {
+            name,
+            register: names.register(name),
+        }
+    }
+
+    // The first qubit and the size of the register of a name, which is looked up unless it was last.
+    #[inline(always)]
+    fn find(&mut self, names: &Names<'a>, name: &'a [u8]) -> Option<(usize, usize)>
+        requires { IsLastRegister names.now.symbols self.old }
+        ensures found { result ≡ symbol_register (found name.now names.now.symbols) }
+        ensures last { IsLastRegister names.now.symbols self.new }
+    {
+        if self.name != name {
+            *self = LastRegister::look_up(names, name);
+        }
+        self.register
+    }
 }
 
 /// Whether an argument isn't a register of qubits or one of its qubits.
@@ -55,8 +89,12 @@ pub fn spans<'a>(
         any_missing names.now.symbols (map operand arguments.now) ≡ true)) }
 {
     let mut spans = Vec::with_capacity(alloc, arguments.len())?;
+    let Some(first) = arguments.first() else {
+        return Ok(Some(spans));
+    };
+    let mut last = LastRegister::look_up(names, first.register);
     for argument in arguments {
-        let Some(span) = argument_span(names, argument) else {
+        let Some(span) = argument_span(names, &mut last, argument) else {
             return Ok(None);
         };
         spans.push(span)?;
@@ -110,8 +148,12 @@ pub fn barrier<'a>(names: &Names<'a>, arguments: &[Argument<'a>]) -> Result<(), 
 fn any_missing<'a>(names: &Names<'a>, arguments: &[Argument<'a>]) -> bool
     ensures { result ≡ any_missing names.now.symbols (map operand arguments.now) }
 {
+    let Some(first) = arguments.first() else {
+        return false;
+    };
+    let mut last = LastRegister::look_up(names, first.register);
     for argument in arguments {
-        if argument_span(names, argument).is_none() {
+        if argument_span(names, &mut last, argument).is_none() {
             return true;
         }
     }
@@ -119,12 +161,19 @@ fn any_missing<'a>(names: &Names<'a>, arguments: &[Argument<'a>]) -> bool
 }
 
 // What an argument stands for, if it is a register of qubits or one of the qubits that it has.
-fn argument_span<'a>(names: &Names<'a>, argument: &Argument<'a>) -> Option<Span>
+#[inline(always)]
+fn argument_span<'a>(
+    names: &Names<'a>,
+    last: &mut LastRegister<'a>,
+    argument: &Argument<'a>,
+) -> Option<Span>
+    requires { IsLastRegister names.now.symbols last.old }
+    ensures last { IsLastRegister names.now.symbols last.new }
     ensures some { IfSome result (λ span.
         IsSpan names.now.symbols (operand argument.now) (span_range span)) }
     ensures none { IfNone result (is_missing names.now.symbols (operand argument.now) ≡ true) }
 {
-    let (first, size) = names.register(argument.register)?;
+    let (first, size) = last.find(names, argument.register)?;
     match argument.index {
         Some(text) => qubit_span(first, size, text),
         None => Some(Span::Register { first, size }),

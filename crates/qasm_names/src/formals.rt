@@ -44,6 +44,7 @@ impl<'a> Formals<'a> {
     }
 
     /// Whether one of these names hides that of the gate.
+    #[inline]
     pub fn hide(&self, gate: &GateName<'a>) -> bool
         ensures { result ≡ hidden_by self.now.parameters self.now.qubits (callee gate.now) }
     {

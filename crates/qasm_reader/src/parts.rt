@@ -42,6 +42,8 @@ pub enum BodyPart<'a> {
 /// # Errors
 ///
 /// Where memory runs out.
+// Its result is large, and a reader calls it once for each part.
+#[inline(always)]
 pub fn next_part<'t, 'a>(
     alloc: Global,
     tokens: &'t [Token<'a>],
@@ -101,6 +103,7 @@ fn ends_part(kind: TokenKind) -> bool
 }
 
 // The part of a program at the start of the tokens, and what follows.
+#[inline(always)]
 fn first_part<'t, 'a>(
     alloc: Global,
     tokens: &'t [Token<'a>],

@@ -76,7 +76,7 @@ fn vertex_factor(graph: &OpenGraph, ids: &[VertexId], labels: u32, v: VertexId) 
     let mut product = weight_factor(plane, phase, label);
     for w in graph.neighbours(v) {
         if v.get() < w.get() {
-            product = times(product, sign(label && label_of(ids, labels, *w)));
+            product = times(product, sign(label && label_of(ids, labels, w)));
         }
     }
     product

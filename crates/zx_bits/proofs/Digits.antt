@@ -4,19 +4,12 @@ use Rattle.std.specs.Int.{bit_at}
 use Rattle.std.specs.Int.RustNames.{bit_xor, bit_and, count_ones}
 use Rattle.std.proofs.Math.Nat.{pow-suc}
 use Rattle.std.proofs.lemmas.Nat.{ones-le}
-use Rattle.std.proofs.lemmas.Nat.Bits.{bit_at-lt, bit_at_xor, bit_at_and, bit_at_lowest, bit_at-suc, bit_at-zero}
+use Rattle.std.proofs.lemmas.Nat.Bits.{bit_at-lt, bit_at_xor, bit_at_and, bit_at_lowest, bit_at-suc, bit_at-zero, same_from_bits_below}
 use lib.Count.{ones_step}
-use Rattle.zx_model.specs.Bits.{xor}
-use Rattle.zx_bits.specs.Internal.Words.{digit, is_odd}
-use Rattle.zx_bits.proofs.Sums.{is_odd-same}
-
-sum_of_bits : (x y : ℕ) → x < 2 → y < 2 → eqb ((x + y) % 2) 1 ≡ xor (eqb x 1) (eqb y 1)
-sum_of_bits zero zero p q = refl
-sum_of_bits zero (suc zero) p q = refl
-sum_of_bits (suc zero) zero p q = refl
-sum_of_bits (suc zero) (suc zero) p q = refl
-sum_of_bits x (suc (suc y)) p q = absurd (omega arith)
-sum_of_bits (suc (suc x)) y p q = absurd (omega arith)
+use Rattle.zx_model.specs.Bits.{xor, one_if}
+use Rattle.zx_bits.specs.Internal.Words.{digit, is_odd, how_many}
+use Rattle.zx_bits.proofs.Sums.{sum_of_bits}
+use Rattle.zx_bits.proofs.Counts.{many-same}
 
 least_of_bits : (x y : ℕ) → x < 2 → y < 2 → eqb (min x y) 1 ≡ (eqb x 1 && eqb y 1)
 least_of_bits zero zero p q = refl
@@ -35,16 +28,25 @@ digit-and a b i = ap (λ d. eqb d 1) (bit_at_and a b i) ∙ least_of_bits (bit_a
 pub digit-zero : (i : ℕ) → digit 0 i ≡ false
 digit-zero i = ap (λ d. eqb d 1) (bit_at-zero i)
 
-sum_odd : (x y : ℕ) → eqb ((x % 2 + y) % 2) 1 ≡ xor (eqb (x % 2) 1) (eqb (y % 2) 1)
-sum_odd x y =
-    let e : (x % 2 + y) % 2 ≡ (x % 2 + y % 2) % 2 = omega arith in
-    ap (λ d. eqb d 1) e ∙ sum_of_bits (x % 2) (y % 2) (omega arith) (omega arith)
+one_if-bit : (d : ℕ) → d < 2 → one_if (eqb d 1) ≡ d
+one_if-bit zero lt = refl
+one_if-bit (suc zero) lt = refl
+one_if-bit (suc (suc d)) lt = absurd (omega arith)
 
--- the number of ones of a word is odd where an odd number of its bits is set
+-- a word has as many ones as bits that are set
+pub count_ones-many : (k n : ℕ) → n < 2 ^ k → count_ones n ≡ how_many k (digit n)
+unfolding how_many
+count_ones-many zero n fits = omega (arith, ones-le 0 n fits)
+count_ones-many (suc k) n fits =
+    ones_step n
+    ∙ ap₂ (λ a b. a + b) (sym (bit_at_lowest n) ∙ sym (one_if-bit (bit_at n 0) (bit_at-lt n 0)))
+    (count_ones-many k (n / 2) (omega (arith, pow-suc 2 k)) ∙ many-same k _ _ (λ i lt. ap (λ d. eqb d 1) (sym (bit_at-suc n i))))
+
 pub count_ones-odd : (k n : ℕ) → n < 2 ^ k → eqb (count_ones n % 2) 1 ≡ is_odd k (digit n)
-unfolding is_odd
-count_ones-odd zero n fits = let none : count_ones n ≡ 0 = omega (arith, ones-le 0 n fits) in ap (λ c. eqb (c % 2) 1) none
-count_ones-odd (suc k) n fits =
-    ap (λ c. eqb (c % 2) 1) (ones_step n) ∙ sum_odd n (count_ones (n / 2))
-    ∙ ap₂ xor (ap (λ d. eqb d 1) (sym (bit_at_lowest n)))
-    (count_ones-odd k (n / 2) (omega (arith, pow-suc 2 k)) ∙ is_odd-same k _ _ (λ i lt. ap (λ d. eqb d 1) (sym (bit_at-suc n i))))
+count_ones-odd k n fits = ap (λ m. eqb (m % 2) 1) (count_ones-many k n fits)
+
+-- words with the same bits are equal
+pub same_from_digits : (a b : ℕ) → a < 2 ^ 64 → b < 2 ^ 64 → ((k : ℕ) → k < 64 → digit a k ≡ digit b k) → a ≡ b
+same_from_digits a b fits_a fits_b same =
+    same_from_bits_below 64 a b fits_a fits_b
+    (λ k lt. sym (one_if-bit (bit_at a k) (bit_at-lt a k)) ∙ ap one_if (same k lt) ∙ one_if-bit (bit_at b k) (bit_at-lt b k))

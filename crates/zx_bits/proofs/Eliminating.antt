@@ -8,7 +8,7 @@ use Rattle.zx_bits.specs.Rows.{xor_lists, parity_of}
 use Rattle.zx_bits.specs.Solving.{sum_of_rows}
 use Rattle.zx_bits.specs.Internal.Elimination.{Summed, step, reduced, evened, dual_of, HasSize, HasSizes, IsEchelon, IsEvenWith}
 use Rattle.zx_bits.specs.declared.solving.Reduced.{Reduced}
-use Rattle.zx_bits.proofs.Sums.{xor-false}
+use Rattle.zx_model.proofs.BitLemmas.{xor-false}
 use Rattle.zx_bits.proofs.Vectors.{length-xor, length-flipped, bit-xor, interchange, xor_lists-same, xor_lists-zeros, parity_of-xor, parity_of-flipped}
 use Rattle.zx_bits.proofs.SumsOfRows.{AreRows, length-sum_of_rows, sum_of-xor}
 

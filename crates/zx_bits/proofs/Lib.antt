@@ -1,7 +1,10 @@
+pub mod Counts
 pub mod Sums
 pub mod Lists
 pub mod Digits
+pub mod Places
 pub mod WindowLemmas
+pub mod SetLemmas
 pub mod RowLemmas
 pub mod Vectors
 pub mod SumsOfRows

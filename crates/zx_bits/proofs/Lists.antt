@@ -3,8 +3,9 @@ use Rattle.std.proofs.Common.{◌≡◌, refl, sym, ◌∙◌, ap, ap₂, ℕ, z
 use Rattle.std.proofs.Math.Dec.{eqb-suc-suc}
 use Rattle.zx_model.specs.Bits.{xor, bit}
 use Rattle.zx_bits.specs.Rows.{flipped, xor_lists, parity_of}
-use Rattle.zx_bits.specs.Internal.Words.{told, is_odd}
-use Rattle.zx_bits.proofs.Sums.{xor-false, xor_comm}
+use Rattle.zx_bits.specs.Internal.Words.{told, how_many, is_odd}
+use Rattle.zx_model.proofs.BitLemmas.{xor-false, xor_comm}
+use Rattle.zx_bits.proofs.Sums.{is_odd-suc}
 
 pub length-told : (n : ℕ) (f : ℕ → Bool) → length (told n f) ≡ n
 length-told zero f = refl
@@ -43,9 +44,9 @@ xor_lists-told zero f g = refl
 xor_lists-told (suc n) f g = ap (λ bs. xor (f 0) (g 0) ∷ bs) (xor_lists-told n _ _)
 
 pub parity_of-told : (n : ℕ) (f g : ℕ → Bool) → parity_of (told n f) (told n g) ≡ is_odd n (λ k. f k && g k)
-unfolding is_odd
+unfolding how_many
 parity_of-told zero f g = refl
-parity_of-told (suc n) f g = ap (xor (f 0 && g 0)) (parity_of-told n _ _)
+parity_of-told (suc n) f g = ap (xor (f 0 && g 0)) (parity_of-told n _ _) ∙ sym (is_odd-suc n (λ k. f k && g k))
 
 pub told-unset : (n : ℕ) (f : ℕ → Bool) → ((k : ℕ) → f k ≡ false) → told n f ≡ replicate n false
 told-unset zero f none = refl

@@ -1,90 +1,54 @@
 -- Sums of bits, and whether an odd number of bits is set.
-use Rattle.std.proofs.Common.{◌≡◌, refl, sym, ◌∙◌, ap, ap₂, ℕ, zero, suc, ◌+◌, ◌-◌, ◌<◌, ◌≤◌, Bool, true, false, ◌&&◌, arith}
-use Rattle.zx_model.specs.Bits.{xor}
-use Rattle.zx_bits.specs.Internal.Words.{is_odd}
-
-pub xor-false : (a : Bool) → xor a false ≡ a
-xor-false false = refl
-xor-false true = refl
-
-pub false-xor : (a : Bool) → xor false a ≡ a
-false-xor a = refl
-
-pub xor-same : (a : Bool) → xor a a ≡ false
-xor-same false = refl
-xor-same true = refl
-
-pub xor_comm : (a b : Bool) → xor a b ≡ xor b a
-xor_comm false false = refl
-xor_comm false true = refl
-xor_comm true false = refl
-xor_comm true true = refl
-
-pub xor_assoc : (a b c : Bool) → xor (xor a b) c ≡ xor a (xor b c)
-xor_assoc false b c = refl
-xor_assoc true false c = refl
-xor_assoc true true false = refl
-xor_assoc true true true = refl
-
-pub xor_left_comm : (a b c : Bool) → xor a (xor b c) ≡ xor b (xor a c)
-xor_left_comm false b c = refl
-xor_left_comm true false c = refl
-xor_left_comm true true c = refl
-
-pub xor-xor : (a b : Bool) → xor a (xor a b) ≡ b
-xor-xor false b = refl
-xor-xor true false = refl
-xor-xor true true = refl
-
-pub and-false : (a : Bool) → (a && false) ≡ false
-and-false false = refl
-and-false true = refl
-
-pub and-true : (a : Bool) → (a && true) ≡ a
-and-true false = refl
-and-true true = refl
-
-pub xor-and : (a b c : Bool) → (xor a b && c) ≡ xor (a && c) (b && c)
-xor-and false b c = refl
-xor-and true false false = refl
-xor-and true false true = refl
-xor-and true true false = refl
-xor-and true true true = refl
+use Rattle.std.proofs.Common.{◌≡◌, refl, sym, ◌∙◌, ap, ap₂, ℕ, zero, suc, ◌+◌, ◌%◌, ◌<◌, ◌≤◌, Bool, true, false, eqb, arith}
+use Rattle.zx_model.specs.Bits.{xor, one_if}
+use Rattle.zx_model.proofs.BitLemmas.{xor-false, false-xor, xor-same, xor_comm, xor_assoc, xor_left_comm, xor-xor}
+use Rattle.zx_bits.specs.Internal.Words.{how_many, is_odd}
+use Rattle.zx_bits.proofs.Counts.{many-same, many-none, many-add, many-either}
 
 -- sums of bits, sorted; equal summands in pairs vanish
 pub ruleset sums = (xor-false, false-xor, xor-same, xor_comm, xor_assoc, xor_left_comm, xor-xor)
 
+pub sum_of_bits : (x y : ℕ) → x < 2 → y < 2 → eqb ((x + y) % 2) 1 ≡ xor (eqb x 1) (eqb y 1)
+sum_of_bits zero zero p q = refl
+sum_of_bits zero (suc zero) p q = refl
+sum_of_bits (suc zero) zero p q = refl
+sum_of_bits (suc zero) (suc zero) p q = refl
+sum_of_bits x (suc (suc y)) p q = absurd (omega arith)
+sum_of_bits (suc (suc x)) y p q = absurd (omega arith)
+
+sum_odd : (x y : ℕ) → eqb ((x + y) % 2) 1 ≡ xor (eqb (x % 2) 1) (eqb (y % 2) 1)
+sum_odd x y =
+    let e : (x + y) % 2 ≡ (x % 2 + y % 2) % 2 = omega arith in
+    ap (λ d. eqb d 1) e ∙ sum_of_bits (x % 2) (y % 2) (omega arith) (omega arith)
+
+odd_one : (b : Bool) → eqb (one_if b % 2) 1 ≡ b
+odd_one true = refl
+odd_one false = refl
+
+pub is_odd-suc : (n : ℕ) (f : ℕ → Bool) → is_odd (suc n) f ≡ xor (f 0) (is_odd n (λ k. f (suc k)))
+unfolding how_many
+is_odd-suc n f = sum_odd (one_if (f 0)) (how_many n (λ k. f (suc k))) ∙ ap (λ b. xor b (is_odd n (λ k. f (suc k)))) (odd_one (f 0))
+
 pub is_odd-same : (n : ℕ) (f g : ℕ → Bool) → ((k : ℕ) → k < n → f k ≡ g k) → is_odd n f ≡ is_odd n g
-unfolding is_odd
-is_odd-same zero f g same = refl
-is_odd-same (suc n) f g same = ap₂ xor (same 0 (omega arith)) (is_odd-same n _ _ (λ k lt. same (suc k) (omega arith)))
+is_odd-same n f g same = ap (λ m. eqb (m % 2) 1) (many-same n f g same)
 
 pub is_odd-none : (n : ℕ) (f : ℕ → Bool) → ((k : ℕ) → k < n → f k ≡ false) → is_odd n f ≡ false
-unfolding is_odd
-is_odd-none zero f none = refl
-is_odd-none (suc n) f none = ap₂ xor (none 0 (omega arith)) (is_odd-none n _ (λ k lt. none (suc k) (omega arith)))
+is_odd-none n f none = ap (λ m. eqb (m % 2) 1) (many-none n f none)
 
 pub is_odd-xor : (n : ℕ) (f g : ℕ → Bool) → is_odd n (λ k. xor (f k) (g k)) ≡ xor (is_odd n f) (is_odd n g)
-unfolding is_odd
+unfolding how_many
 is_odd-xor zero f g = refl
-is_odd-xor (suc n) f g = ap (xor (xor (f 0) (g 0))) (is_odd-xor n (λ k. f (suc k)) (λ k. g (suc k))) ∙ simp sums
+is_odd-xor (suc n) f g =
+    is_odd-suc n (λ k. xor (f k) (g k)) ∙ ap (xor (xor (f 0) (g 0))) (is_odd-xor n (λ k. f (suc k)) (λ k. g (suc k)))
+    ∙ regroup (f 0) (g 0) (is_odd n (λ k. f (suc k))) (is_odd n (λ k. g (suc k)))
+    ∙ sym (ap₂ xor (is_odd-suc n f) (is_odd-suc n g))
+  where
+    regroup : (a b c d : Bool) → xor (xor a b) (xor c d) ≡ xor (xor a c) (xor b d)
+    regroup a b c d = simp sums
 
 pub is_odd-add : (m n : ℕ) (f : ℕ → Bool) → is_odd (m + n) f ≡ xor (is_odd m f) (is_odd n (λ k. f (m + k)))
-unfolding is_odd
-is_odd-add zero n f = let e : zero + n ≡ n = omega arith in ap (λ j. is_odd j f) e ∙ is_odd-same n _ _ (λ k lt. let h : k ≡ zero + k = omega arith in ap f h)
-is_odd-add (suc m) n f =
-    let e : suc m + n ≡ suc (m + n) = omega arith in
-    ap (λ j. is_odd j f) e
-    ∙ ap (xor (f 0)) (is_odd-add m n (λ k. f (suc k)) ∙ ap (xor (is_odd m (λ k. f (suc k)))) (is_odd-same n _ _ (λ k lt. let h : suc (m + k) ≡ suc m + k = omega arith in ap f h)))
-    ∙ sym (xor_assoc (f 0) _ _)
-
--- places where nothing is set don't count
-pub is_odd-beyond : (m n : ℕ) (f : ℕ → Bool) → n ≤ m → ((k : ℕ) → n ≤ k → f k ≡ false) → is_odd m f ≡ is_odd n f
-is_odd-beyond m n f le none =
-    let e : m ≡ n + (m - n) = omega arith in
-    ap (λ j. is_odd j f) e ∙ is_odd-add n (m - n) f
-    ∙ ap (xor (is_odd n f)) (is_odd-none (m - n) _ (λ k lt. none (n + k) (omega arith))) ∙ xor-false _
+is_odd-add m n f = ap (λ j. eqb (j % 2) 1) (many-add m n f) ∙ sum_odd (how_many m f) (how_many n (λ k. f (m + k)))
 
 -- where nothing is set from either of two places on, as many are set below one as below the other
 pub is_odd-either : (m n : ℕ) (f : ℕ → Bool) → ((k : ℕ) → m ≤ k → f k ≡ false) → ((k : ℕ) → n ≤ k → f k ≡ false) → is_odd m f ≡ is_odd n f
-is_odd-either m n f none_m none_n = sym (is_odd-beyond (m + n) m f (omega arith) none_m) ∙ is_odd-beyond (m + n) n f (omega arith) none_n
+is_odd-either m n f none_m none_n = ap (λ j. eqb (j % 2) 1) (many-either m n f none_m none_n)

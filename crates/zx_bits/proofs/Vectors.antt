@@ -4,7 +4,8 @@ use Rattle.std.proofs.Math.Dec.{eqb-suc-suc}
 use Rattle.zx_model.specs.Bits.{xor, bit}
 use Rattle.zx_bits.specs.Rows.{flipped, xor_lists, parity_of}
 use Rattle.zx_bits.specs.Solving.{zeros}
-use Rattle.zx_bits.proofs.Sums.{sums, xor-false, xor_comm, xor_assoc, xor-same, xor-and, and-false}
+use Rattle.zx_model.proofs.BitLemmas.{xor-false, xor_comm, xor_assoc, xor-same, xor-and, and-false}
+use Rattle.zx_bits.proofs.Sums.{sums}
 use Rattle.zx_bits.proofs.Lists.{told-same, told-bits}
 
 -- ---- places

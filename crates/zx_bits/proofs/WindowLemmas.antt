@@ -1,20 +1,22 @@
 -- What the words that are kept say of the bits of the row.
-use Rattle.std.proofs.Common.{◌≡◌, refl, sym, ◌∙◌, ap, ap₂, inl, inr, ◌⊎◌, ℕ, zero, suc, ◌+◌, ◌-◌, ◌*◌, ◌/◌, ◌%◌, ◌^◌, ◌<◌, ◌≤◌, min, max, Bool, true, false, ◌&&◌, eqb, ltb, leb, List, [], ◌++◌, take, drop, replicate, length, get_or, Some, lt-ltb, eq-eqb, ne_eqb, if◌then◌else◌, length-drop, length-append, ◌==◌, arith}
+use Rattle.std.proofs.Common.{◌⊎◌, ◌≡◌, refl, sym, ◌∙◌, ap, ap₂, inl, inr, ℕ, zero, suc, ◌+◌, ◌-◌, ◌*◌, ◌/◌, ◌%◌, ◌^◌, ◌<◌, ◌≤◌, min, max, Bool, true, false, ◌&&◌, eqb, ltb, leb, List, [], ◌++◌, take, drop, replicate, length, get_or, Some, lt-ltb, eq-eqb, ne_eqb, if◌then◌else◌, length-drop, ◌==◌, arith}
 use Rattle.std.specs.Int.{w64, trailing_zeros}
 use Rattle.std.specs.Int.RustNames.{bit_xor, bit_and}
 use Rattle.std.specs.Int.Bits.{xor_zero_r}
-use Rattle.std.specs.List.{slice_rotate_right, refill}
+use Rattle.std.specs.List.{refill}
 use Rattle.std.proofs.lemmas.Bool.{cases_lt, cases_eq, cond-true, cond-false, le-ltb, le-leb, lt-leb, leb-true, and_parts}
+use Rattle.std.proofs.lemmas.Grind.{same_number_lists}
 use Rattle.std.proofs.lemmas.List.{get_or_past, get_or_append_left, get_or-append_right, get_or-take, get_or-drop, length-take}
 use Rattle.std.proofs.lemmas.Nat.Bits.{bit_at-trailing_zeros, ones_shl, bit_at_mask_inside, bit_at_mask_below, bit_at-pow_same, bit_at-pow_other}
 use Rattle.std.proofs.Math.Seq.{take-append_seam}
 use Rattle.zx_model.specs.Bits.{xor}
 use Rattle.zx_bits.specs.Rows.{IsFirstFrom}
 use Rattle.zx_bits.specs.Internal.Words.{digit, is_odd}
-use Rattle.zx_bits.specs.Internal.Windows.{word_at, is_set, end_of, Covers}
+use Rattle.zx_bits.specs.Internal.Windows.{word_at, word_from, is_set, end_of, Covers}
 use Rattle.zx_bits.specs.declared.window.Window.{Window}
-use Rattle.zx_bits.proofs.Sums.{and-true, and-false, is_odd-same, is_odd-none, is_odd-xor, is_odd-add, is_odd-either}
-use Rattle.zx_bits.proofs.Digits.{digit-xor, digit-and, digit-zero}
+use Rattle.zx_model.proofs.BitLemmas.{and-true, and-false}
+use Rattle.zx_bits.proofs.Sums.{is_odd-same, is_odd-none, is_odd-xor, is_odd-add, is_odd-either}
+use Rattle.zx_bits.proofs.Digits.{digit-xor, digit-and, digit-zero, same_from_digits}
 
 pub word_before : (w : Window) (number : ℕ) → number < w.offset → word_at w number ≡ 0
 word_before w number lt = let t = lt-ltb number w.offset lt in rw t refl
@@ -23,6 +25,17 @@ pub word_past : (w : Window) (number : ℕ) → end_of w ≤ number → word_at 
 word_past w number le =
     let f = le-ltb number w.offset (omega arith) in
     rw f (get_or_past w.words.items (number - w.offset) 0 (omega arith))
+
+pub word_kept : (start : ℕ) (words : List ℕ) (i : ℕ) → word_from start words (start + i) ≡ get_or words i 0
+word_kept start words i =
+    let e : start + i - start ≡ i = omega arith in
+    cond-false (ltb (start + i) start) 0 _ (le-ltb _ _ (omega arith)) ∙ ap (λ j. get_or words j 0) e
+
+pub word_behind : (w : Window) (number : ℕ) → w.offset ≤ number → word_at w number ≡ get_or w.words.items (number - w.offset) 0
+word_behind w number le = cond-false (ltb number w.offset) 0 _ (le-ltb number w.offset le)
+
+pub word_in : (w : Window) (words : List ℕ) (number : ℕ) → words ≡ w.words.items → w.offset ≤ number → get_or words (number - w.offset) 0 ≡ word_at w number
+word_in w words number same le = ap (λ l. get_or l (number - w.offset) 0) same ∙ sym (word_behind w number le)
 
 pub is_set-in_word : (w : Window) (number k : ℕ) → k < 64 → is_set w (64 * number + k) ≡ digit (word_at w number) k
 is_set-in_word w number k lt =
@@ -41,27 +54,33 @@ unset_past w place le = unset_by_word w place (word_past w (place / 64) (omega a
 
 -- ---- what both have in common
 
-both : Window → Window → ℕ → Bool
-both a b place = is_set a place && is_set b place
-
 left_unset : (a b : Bool) → a ≡ false → (a && b) ≡ false
 left_unset a b e = ap (λ x. x && b) e
 
 right_unset : (a b : Bool) → b ≡ false → (a && b) ≡ false
 right_unset a b e = ap (λ x. a && x) e ∙ and-false a
 
+-- before the first word of either, none is set in both
+pub apart_before : (a b : Window) (number place : ℕ) → number ≡ max a.offset b.offset → place < 64 * number → (is_set a place && is_set b place) ≡ false
+apart_before a b number place e lt =
+    elim (cases_lt place (64 * a.offset)) [
+      | inl l ↦ left_unset _ _ (unset_before a place l)
+      | inr g ↦ right_unset (is_set a place) _ (unset_before b place (omega arith))
+    ]
+
+-- nor behind the last word of either
+pub apart_past : (a b : Window) (number place : ℕ) → min (end_of a) (end_of b) ≤ number → 64 * number ≤ place → (is_set a place && is_set b place) ≡ false
+apart_past a b number place past le =
+    elim (cases_lt place (64 * end_of a)) [
+      | inl l ↦ right_unset (is_set a place) _ (unset_past b place (omega arith))
+      | inr g ↦ left_unset _ _ (unset_past a place g)
+    ]
+
 pub common_at_first : (a b : Window) (number : ℕ) → number ≡ max a.offset b.offset →
     is_odd 64 (digit 0) ≡ is_odd (64 * number) (λ place. is_set a place && is_set b place)
 common_at_first a b number e =
     is_odd-none 64 _ (λ k lt. digit-zero k)
-    ∙ sym (is_odd-none (64 * number) _ (λ place lt. before place lt))
-  where
-    before : (place : ℕ) → place < 64 * number → (is_set a place && is_set b place) ≡ false
-    before place lt =
-        elim (cases_lt place (64 * a.offset)) [
-          | inl l ↦ left_unset _ _ (unset_before a place l)
-          | inr g ↦ right_unset (is_set a place) _ (unset_before b place (omega arith))
-        ]
+    ∙ sym (is_odd-none (64 * number) _ (λ place lt. apart_before a b number place e lt))
 
 pub common_next : (a b : Window) (common number : ℕ) →
     is_odd 64 (digit common) ≡ is_odd (64 * number) (λ place. is_set a place && is_set b place) →
@@ -77,14 +96,8 @@ common_next a b common number before =
 
 pub common_at_last : (a b : Window) (number len : ℕ) → min (end_of a) (end_of b) ≤ number → ((place : ℕ) → len ≤ place → is_set a place ≡ false) →
     is_odd (64 * number) (λ place. is_set a place && is_set b place) ≡ is_odd len (λ place. is_set a place && is_set b place)
-common_at_last a b number len past unset = is_odd-either (64 * number) len _ after (λ place le. left_unset _ _ (unset place le))
-  where
-    after : (place : ℕ) → 64 * number ≤ place → (is_set a place && is_set b place) ≡ false
-    after place le =
-        elim (cases_lt place (64 * end_of a)) [
-          | inl l ↦ right_unset (is_set a place) _ (unset_past b place (omega arith))
-          | inr g ↦ left_unset _ _ (unset_past a place g)
-        ]
+common_at_last a b number len past unset =
+    is_odd-either (64 * number) len _ (λ place le. apart_past a b number place past le) (λ place le. left_unset _ _ (unset place le))
 
 -- ---- the first set bit
 
@@ -187,24 +200,6 @@ zeros_after xs more j =
     zero_of (suc n) zero = refl
     zero_of (suc n) (suc i) = zero_of n i
 
--- a list that ends with zeros, of which some are put in front
-zeros_in_front : (xs : List ℕ) (k j : ℕ) → k ≤ length xs → ((i : ℕ) → length xs - k ≤ i → get_or xs i 0 ≡ 0) →
-    get_or (slice_rotate_right xs k) j 0 ≡ (if ltb j k then 0 else get_or xs (j - k) 0)
-zeros_in_front xs k j le none =
-    let back = length xs - k in
-    let size : length (drop back xs) ≡ k = omega (arith, length-drop back xs) in
-    elim (cases_lt j k) [
-      | inl l ↦
-          get_or_append_left (drop back xs) (take back xs) 0 j (omega arith) ∙ get_or-drop back xs j 0 ∙ none (back + j) (omega arith)
-          ∙ sym (cond-true (ltb j k) 0 _ (lt-ltb j k l))
-      | inr g ↦
-          get_or-append_right (drop back xs) (take back xs) k j 0 size g
-          ∙ elim (cases_lt (j - k) back) [
-            | inl l ↦ get_or-take back xs (j - k) 0 l
-            | inr h ↦ get_or_past (take back xs) (j - k) 0 (omega (arith, length-take back xs)) ∙ sym (none (j - k) h)
-          ] ∙ sym (cond-false (ltb j k) 0 _ (le-ltb j k g))
-    ]
-
 -- where words begin at a place that may be any if there are none
 started : (w : Window) (start number : ℕ) → (0 < length w.words.items → start ≡ w.offset) →
     word_at w number ≡ (if ltb number start then 0 else get_or w.words.items (number - start) 0)
@@ -221,9 +216,10 @@ started w start number kept =
 -- words with zeros put behind and then in front of them
 pub covered : (old new : Window) (xs : List ℕ) (start stop from offset more : ℕ) → (0 < length old.words.items → from ≡ old.offset) →
     (length old.words.items ≡ 0 → from ≡ start) → offset ≡ min from start → start < stop → xs ≡ old.words.items ++ replicate more 0 →
-    length xs ≡ max (from + length old.words.items) stop - offset → new.offset ≡ offset → new.words.items ≡ slice_rotate_right xs (from - offset) →
+    length xs ≡ max (from + length old.words.items) stop - offset → new.offset ≡ offset → length new.words.items ≡ length xs →
+    ((i : ℕ) → i < length xs → get_or new.words.items i 0 ≡ (if ltb i (from - offset) then 0 else get_or xs (i - (from - offset)) 0)) →
     old.words.capacity ≤ new.words.capacity → Covers start stop old new
-covered old new xs start stop from offset more kept none lowest_is some filled size first items capacity = record {
+covered old new xs start stop from offset more kept none lowest_is some filled size first whole moved capacity = record {
   words = words;
   first = omega arith;
   end = omega (arith, whole);
@@ -231,9 +227,6 @@ covered old new xs start stop from offset more kept none lowest_is some filled s
   capacity = capacity;
 }
   where
-    whole : length new.words.items ≡ length xs
-    whole = ap length items ∙ omega (arith, length-append (drop (length xs - (from - offset)) xs) (take (length xs - (from - offset)) xs), length-drop (length xs - (from - offset)) xs, length-take (length xs - (from - offset)) xs)
-
     no_further : end_of new ≤ max (end_of old) stop
     no_further =
         elim (cases_lt 0 (length old.words.items)) [
@@ -241,20 +234,26 @@ covered old new xs start stop from offset more kept none lowest_is some filled s
           | inr g ↦ let e : from ≡ start = none (omega arith) in omega (arith, whole)
         ]
 
-    zeros : (i : ℕ) → length xs - (from - offset) ≤ i → get_or xs i 0 ≡ 0
-    zeros i le = ap (λ l. get_or l i 0) filled ∙ zeros_after old.words.items more i ∙ get_or_past old.words.items i 0 (omega arith)
-
     behind : (number : ℕ) → offset ≤ number → get_or new.words.items (number - offset) 0 ≡ (if ltb number from then 0 else get_or old.words.items (number - from) 0)
     behind number le =
-        ap (λ l. get_or l (number - offset) 0) items ∙ zeros_in_front xs (from - offset) (number - offset) (omega arith) zeros
-        ∙ elim (cases_lt number from) [
-          | inl l ↦ cond-true (ltb (number - offset) (from - offset)) 0 _ (lt-ltb _ _ (omega arith)) ∙ sym (cond-true (ltb number from) 0 _ (lt-ltb _ _ l))
+        elim (cases_lt (number - offset) (length xs)) [
+          | inl l ↦ moved (number - offset) l ∙ within number le
           | inr g ↦
-              let place : number - offset - (from - offset) ≡ number - from = omega arith in
-              cond-false (ltb (number - offset) (from - offset)) 0 _ (le-ltb _ _ (omega arith))
-              ∙ ap₂ (λ l i. get_or l i 0) filled place ∙ zeros_after old.words.items more (number - from)
-              ∙ sym (cond-false (ltb number from) 0 _ (le-ltb _ _ g))
+              get_or_past new.words.items (number - offset) 0 (omega arith)
+              ∙ sym (cond-false (ltb number from) 0 _ (le-ltb _ _ (omega arith)) ∙ get_or_past old.words.items (number - from) 0 (omega arith))
         ]
+      where
+        within : (number : ℕ) → offset ≤ number →
+            (if ltb (number - offset) (from - offset) then 0 else get_or xs (number - offset - (from - offset)) 0) ≡ (if ltb number from then 0 else get_or old.words.items (number - from) 0)
+        within number le =
+            elim (cases_lt number from) [
+              | inl l ↦ cond-true (ltb (number - offset) (from - offset)) 0 _ (lt-ltb _ _ (omega arith)) ∙ sym (cond-true (ltb number from) 0 _ (lt-ltb _ _ l))
+              | inr g ↦
+                  let place : number - offset - (from - offset) ≡ number - from = omega arith in
+                  cond-false (ltb (number - offset) (from - offset)) 0 _ (le-ltb _ _ (omega arith))
+                  ∙ ap₂ (λ l i. get_or l i 0) filled place ∙ zeros_after old.words.items more (number - from)
+                  ∙ sym (cond-false (ltb number from) 0 _ (le-ltb _ _ g))
+            ]
 
     words : (number : ℕ) → word_at new number ≡ word_at old number
     words number =
@@ -293,37 +292,63 @@ flipped_bits old mid new place mask same is words other =
     ∙ ap₂ xor (ap (λ n. digit n (other % 64)) (same (other / 64)))
     (ap (λ m. digit (if other / 64 == place / 64 then m else 0) (other % 64)) is ∙ digit-place place other)
 
-pub words_next : (mid self new other : Window) (number : ℕ) →
-    ((v : ℕ) → word_at self v ≡ bit_xor (word_at mid v) (if ltb v number then word_at other v else 0)) →
-    ((v : ℕ) → word_at new v ≡ bit_xor (word_at self v) (if v == number then word_at other number else 0)) →
-    (v : ℕ) → word_at new v ≡ bit_xor (word_at mid v) (if ltb v (number + 1) then word_at other v else 0)
-words_next mid self new other number before added v =
+-- the words so far are added, and one more is
+pub words_next : (start self next added : ℕ → ℕ) (number : ℕ) →
+    ((v : ℕ) → self v ≡ bit_xor (start v) (if ltb v number then added v else 0)) →
+    ((v : ℕ) → next v ≡ bit_xor (self v) (if v == number then added number else 0)) →
+    (v : ℕ) → next v ≡ bit_xor (start v) (if ltb v (number + 1) then added v else 0)
+words_next start self next added number before last v =
     elim (cases_eq v number) [
       | inl e ↦
-          added v ∙ ap₂ bit_xor (before v ∙ ap (bit_xor (word_at mid v)) (cond-false (ltb v number) _ 0 (le-ltb _ _ (omega arith))) ∙ xor_zero_r _)
-          (cond-true (eqb v number) _ 0 (eq-eqb _ _ e) ∙ ap (word_at other) (sym e) ∙ sym (cond-true (ltb v (number + 1)) _ 0 (lt-ltb _ _ (omega arith))))
+          last v ∙ ap₂ bit_xor (before v ∙ ap (bit_xor (start v)) (cond-false (ltb v number) _ 0 (le-ltb _ _ (omega arith))) ∙ xor_zero_r _)
+          (cond-true (eqb v number) _ 0 (eq-eqb _ _ e) ∙ ap added (sym e) ∙ sym (cond-true (ltb v (number + 1)) _ 0 (lt-ltb _ _ (omega arith))))
       | inr apart ↦
-          added v ∙ ap (bit_xor (word_at self v)) (cond-false (eqb v number) _ 0 (ne_eqb _ _ apart)) ∙ xor_zero_r _ ∙ before v
-          ∙ ap (λ b. bit_xor (word_at mid v) (if b then word_at other v else 0)) (same_side apart (cases_lt v number))
+          last v ∙ ap (bit_xor (self v)) (cond-false (eqb v number) _ 0 (ne_eqb _ _ apart)) ∙ xor_zero_r _ ∙ before v
+          ∙ ap (λ b. bit_xor (start v) (if b then added v else 0)) (same_side apart (cases_lt v number))
     ]
   where
     same_side : ¬ (v ≡ number) → (v < number) ⊎ (number ≤ v) → ltb v number ≡ ltb v (number + 1)
     same_side apart (inl l) = lt-ltb v number l ∙ sym (lt-ltb v (number + 1) (omega arith))
     same_side apart (inr g) = le-ltb v number g ∙ sym (le-ltb v (number + 1) (omega arith))
 
-pub added_bits : (old mid new other : Window) (number : ℕ) → ((v : ℕ) → word_at mid v ≡ word_at old v) → end_of other ≤ number →
-    ((v : ℕ) → word_at new v ≡ bit_xor (word_at mid v) (if ltb v number then word_at other v else 0)) →
+-- nothing is left to add from the end on
+pub words_whole : (start : ℕ) (added : List ℕ) (v number : ℕ) → start + length added ≤ number →
+    (if ltb v number then word_from start added v else 0) ≡ word_from start added v
+words_whole start added v number past =
+    elim (cases_lt v number) [
+      | inl l ↦ cond-true (ltb v number) _ 0 (lt-ltb _ _ l)
+      | inr g ↦
+          cond-false (ltb v number) _ 0 (le-ltb _ _ g)
+          ∙ sym (cond-false (ltb v start) 0 _ (le-ltb _ _ (omega arith)) ∙ get_or_past added (v - start) 0 (omega arith))
+    ]
+
+-- words added to those that are kept, which reach as far
+pub words_added : (mid new other : Window) (first : ℕ) → mid.offset ≤ other.offset → first ≡ other.offset - mid.offset → new.offset ≡ mid.offset →
+    ((i : ℕ) → get_or new.words.items i 0 ≡ bit_xor (get_or mid.words.items i 0) (word_from first other.words.items i)) →
+    (v : ℕ) → word_at new v ≡ bit_xor (word_at mid v) (word_at other v)
+words_added mid new other first le from offset words v =
+    elim (cases_lt v mid.offset) [
+      | inl l ↦
+          word_before new v (omega arith) ∙ sym (xor_zero_r 0) ∙ sym (ap₂ bit_xor (word_before mid v l) (word_before other v (omega arith)))
+      | inr g ↦
+          let i : v - new.offset ≡ v - mid.offset = omega arith in
+          cond-false (ltb v new.offset) 0 _ (le-ltb _ _ (omega arith)) ∙ ap (λ j. get_or new.words.items j 0) i ∙ words (v - mid.offset)
+          ∙ ap₂ bit_xor (sym (cond-false (ltb v mid.offset) 0 _ (le-ltb _ _ g)))
+          (elim (cases_lt v other.offset) [
+            | inl l ↦ cond-true (ltb (v - mid.offset) first) 0 _ (lt-ltb _ _ (omega arith)) ∙ sym (word_before other v l)
+            | inr h ↦
+                let same : v - mid.offset - first ≡ v - other.offset = omega arith in
+                cond-false (ltb (v - mid.offset) first) 0 _ (le-ltb _ _ (omega arith)) ∙ ap (λ j. get_or other.words.items j 0) same
+                ∙ sym (cond-false (ltb v other.offset) 0 _ (le-ltb _ _ h))
+          ])
+    ]
+
+pub added_bits : (old mid new other : Window) → ((v : ℕ) → word_at mid v ≡ word_at old v) →
+    ((v : ℕ) → word_at new v ≡ bit_xor (word_at mid v) (word_at other v)) →
     (place : ℕ) → is_set new place ≡ xor (is_set old place) (is_set other place)
-added_bits old mid new other number same past words place =
-    ap (λ n. digit n (place % 64)) (words (place / 64) ∙ ap₂ bit_xor (same (place / 64)) (whole (place / 64)))
+added_bits old mid new other same words place =
+    ap (λ n. digit n (place % 64)) (words (place / 64) ∙ ap (λ w. bit_xor w (word_at other (place / 64))) (same (place / 64)))
     ∙ digit-xor (word_at old (place / 64)) (word_at other (place / 64)) (place % 64)
-  where
-    whole : (v : ℕ) → (if ltb v number then word_at other v else 0) ≡ word_at other v
-    whole v =
-        elim (cases_lt v number) [
-          | inl l ↦ cond-true (ltb v number) _ 0 (lt-ltb _ _ l)
-          | inr g ↦ cond-false (ltb v number) _ 0 (le-ltb _ _ g) ∙ sym (word_past other v (omega arith))
-        ]
 
 pub none_without_words : (w : Window) → w.words.items ≡ [] → (place : ℕ) → is_set w place ≡ false
 none_without_words w none place =
@@ -339,11 +364,15 @@ refilled n xs ws e = ap (λ k. take k (ws ++ drop (length ws) xs)) (sym e) ∙ t
 
 -- ---- words at both ends that are 0
 
--- a list turned to the left and cut has lost its front
-pub front_lost : (xs ws : List ℕ) (k n m : ℕ) → k ≤ length xs → n ≡ length xs - k → ws ≡ drop k xs ++ take k xs → length ws ≡ m → take n (refill m xs ws) ≡ drop k xs
-front_lost xs ws k n m le size turned same =
-    let count : n ≡ length (drop k xs) = omega (arith, size, length-drop k xs) in
-    ap (take n) (refilled m xs ws same ∙ turned) ∙ ap (λ i. take i (drop k xs ++ take k xs)) count ∙ take-append_seam (drop k xs) (take k xs)
+-- a list that is moved to the front and cut has lost its front
+pub front_lost : (xs ws : List ℕ) (k n m : ℕ) → k ≤ length xs → n ≡ length xs - k → length ws ≡ length xs → length ws ≡ m →
+    ((i : ℕ) → k + i < length xs → get_or ws i 0 ≡ get_or xs (k + i) 0) → take n (refill m xs ws) ≡ drop k xs
+front_lost xs ws k n m le size long same moved =
+    ap (take n) (refilled m xs ws same)
+    ∙ same_number_lists (take n ws) (drop k xs) (omega (arith, length-take n ws, length-drop k xs))
+    (λ i lt.
+    let below : i < n = omega (arith, length-take n ws) in
+    get_or-take n ws i 0 below ∙ moved i (omega arith) ∙ sym (get_or-drop k xs i 0))
 
 pub trimmed : (old new : Window) (end first : ℕ) → end ≤ length old.words.items → first ≤ end → ((i : ℕ) → end ≤ i → get_or old.words.items i 0 ≡ 0) →
     ((i : ℕ) → i < first → get_or (take end old.words.items) i 0 ≡ 0) → new.offset ≡ old.offset + first → new.words.items ≡ drop first (take end old.words.items) →
@@ -373,3 +402,42 @@ trimmed old new end first within below after before offset items number =
 
 pub same_places : (old new : Window) → ((number : ℕ) → word_at new number ≡ word_at old number) → (place : ℕ) → is_set new place ≡ is_set old place
 same_places old new same place = ap (λ n. digit n (place % 64)) (same (place / 64))
+
+-- ---- windows with the same places
+
+pub same_before : (a b : Window) (v : ℕ) → v < min a.offset b.offset → word_at a v ≡ word_at b v
+same_before a b v lt = word_before a v (omega arith) ∙ sym (word_before b v (omega arith))
+
+pub same_next : (a b : Window) (number : ℕ) → ((v : ℕ) → v < number → word_at a v ≡ word_at b v) → word_at a number ≡ word_at b number →
+    (v : ℕ) → v < number + 1 → word_at a v ≡ word_at b v
+same_next a b number before here v lt =
+    elim (cases_lt v number) [
+      | inl l ↦ before v l
+      | inr g ↦ let e : v ≡ number = omega arith in ap (word_at a) e ∙ here ∙ sym (ap (word_at b) e)
+    ]
+
+pub same_at_last : (a b : Window) (number : ℕ) → ((v : ℕ) → v < number → word_at a v ≡ word_at b v) → max (end_of a) (end_of b) ≤ number →
+    (v : ℕ) → word_at a v ≡ word_at b v
+same_at_last a b number before past v =
+    elim (cases_lt v number) [
+      | inl l ↦ before v l
+      | inr g ↦ word_past a v (omega arith) ∙ sym (word_past b v (omega arith))
+    ]
+
+pub same_words : (a b : Window) (number u v : ℕ) → u ≡ word_at a number → v ≡ word_at b number → u < 2 ^ 64 → v < 2 ^ 64 →
+    ((place : ℕ) → is_set a place ≡ is_set b place) → u ≡ v
+same_words a b number u v of_a of_b fits_u fits_v same =
+    same_from_digits u v fits_u fits_v
+    (λ k lt. ap (λ n. digit n k) of_a ∙ sym (is_set-in_word a number k lt) ∙ same (64 * number + k) ∙ is_set-in_word b number k lt ∙ ap (λ n. digit n k) (sym of_b))
+
+-- of windows that keep words of the same numbers, the words are the same
+pub same_items : (a b : Window) → a.offset ≡ b.offset → length a.words.items ≡ length b.words.items →
+    ((i : ℕ) → get_or a.words.items i 0 < 2 ^ 64) → ((i : ℕ) → get_or b.words.items i 0 < 2 ^ 64) →
+    ((place : ℕ) → is_set a place ≡ is_set b place) → a.words.items ≡ b.words.items
+same_items a b at size fits_a fits_b same =
+    same_number_lists _ _ size
+    (λ k lt. same_words a b (a.offset + k) _ _ (sym (word_kept a.offset a.words.items k)) (sym (ap (λ o. word_at b (o + k)) at ∙ word_kept b.offset b.words.items k)) (fits_a k) (fits_b k) same)
+
+pub same_by_items : (a b : Window) → a.offset ≡ b.offset → a.words.items ≡ b.words.items → (place : ℕ) → is_set a place ≡ is_set b place
+same_by_items a b at items place =
+    ap₂ (λ offset (l : List ℕ). digit (if ltb (place / 64) offset then 0 else get_or l (place / 64 - offset) 0) (place % 64)) at items

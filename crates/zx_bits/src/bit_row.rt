@@ -102,13 +102,20 @@ impl BitRow {
         self.window.first_from(i)
     }
 
-    /// Adds bits at the end, none of them set.
-    pub fn grow(&mut self, bits: usize)
-        requires { length self.old.bits + bits ≤ usize.MAX }
-        ensures bits { self.new.bits ≡ self.old.bits ++ replicate bits false }
+    /// Adds bits at the end, none of them set. Where their number would leave its type, the row is
+    /// as it was.
+    pub fn grow(&mut self, bits: usize) -> Result<(), AllocError>
+        ensures ok { OnOk result (self.new.bits ≡ self.old.bits ++ replicate bits false) }
+        ensures err { OnErr result (self.new ≡ self.old) }
         ensures room { bits ≡ 0 → self.new ≡ self.old }
     {
-        self.len += bits;
+        match self.len.checked_add(bits) {
+            Some(len) => {
+                self.len = len;
+                Ok(())
+            }
+            None => Err(AllocError),
+        }
     }
 
     /// Takes the memory for all bits. Where it runs out, the row is as it was.

@@ -1,25 +1,33 @@
-//! Rows of bits, matrices of them, and which rows sum to a target.
+//! Rows of bits, sets of numbers, matrices, and which rows sum to a target.
 //!
-//! A row keeps only the words between its first and its last set bit, four of them without an
-//! allocation.
+//! A row and a set keep only the words between that of their first set bit and that of their last,
+//! four of them without an allocation. So a set takes any numbers but the greatest 64, and needs no
+//! length; it also keeps how many numbers it has.
 //!
 //! Proved: each call reads its list of bits or makes its one named change of it; want of memory
-//! leaves a row or a matrix as it was, and comes at no call where the row has room. `solve` answers
-//! with rows that sum to the target, of which no smaller part does, or with a list of bits that
-//! shows that no rows do.
+//! leaves a row or a matrix as it was, and comes at no call where the row has room. A set is the
+//! rising list of its numbers: each call reads that list or changes which numbers are in it as it
+//! says, and want of memory leaves the set as it was. `solve` answers with rows that sum to the
+//! target, of which no smaller part does, or with a list of bits that shows that no rows do.
 //!
 //! ```rust
 //! let mut m = BitMatrix::new(alloc, 2);
 //! m.push_row()?;
-//! m.flip(0, 1)?;                    // the row 01
+//! m.flip(0, 1)?;                    // its bit 1 is set, and its bit 0 isn't
 //! let mut target = BitRow::new(alloc, 2);
 //! target.flip(1)?;
-//! let answer = solve(alloc, &m, &target)?;      // Solved::Rows of the row 0
+//! let answer = solve(alloc, &m, &target)?;      // Solved::Rows, the first row alone
+//!
+//! let mut set = BitSet::new(alloc);
+//! set.toggle(7)?;
+//! set.toggle(300)?;
+//! let next = set.first_from(8);     // Some(300)
 //! ```
 #![tactic(auto)]
 
 mod bit_matrix;
 mod bit_row;
+mod bit_set;
 mod solving;
 #[cfg(test)]
 mod tests;
@@ -27,4 +35,5 @@ mod window;
 
 pub use bit_matrix::BitMatrix;
 pub use bit_row::BitRow;
+pub use bit_set::BitSet;
 pub use solving::{Solved, solve};

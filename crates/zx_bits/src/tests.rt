@@ -1,4 +1,4 @@
-//! Rows by hand, and matrices that are drawn against an elimination on words.
+//! Rows and sets by hand, and matrices that are drawn against an elimination on words.
 use super::*;
 use std::alloc::Global;
 use std::process::Abort;
@@ -28,7 +28,7 @@ fn get(rt: &impl Abort, row: &BitRow, place: usize) -> bool {
 fn a_row_grows_both_ways(rt: HostRuntime) -> Result<(), Fail> {
     let mut one = row(&rt, rt.alloc(), 1, &[0])?;
     assert!(rt; one.len() < 2);
-    one.grow(300);
+    one.grow(300)?;
     assert_eq!(rt; one.len(), 301);
     assert!(rt; get(&rt, &one, 0) && !get(&rt, &one, 300));
     flip(&rt, &mut one, 0)?;
@@ -64,6 +64,88 @@ fn rows_add_at_two_offsets(rt: HostRuntime) -> Result<(), Fail> {
     assert!(rt; left.len() == right.len());
     assert!(rt; left.parity_with(&right));
     assert!(rt; !right.parity_with(&right));
+    Ok(())
+}
+
+// A set of these numbers.
+fn set(alloc: Global, numbers: &[usize]) -> Result<BitSet, Fail> {
+    let mut set = BitSet::new(alloc);
+    for number in numbers {
+        set.toggle(*number)?;
+    }
+    Ok(set)
+}
+
+// Whether a set has just these numbers, which rise.
+fn has_just(set: &BitSet, numbers: &[usize]) -> bool {
+    let mut start = 0;
+    for number in numbers {
+        if set.first_from(start) != Some(*number) || !set.contains(*number) {
+            return false;
+        }
+        start = number.saturating_add(1);
+    }
+    set.first_from(start).is_none() && set.len() == numbers.len()
+}
+
+#[test]
+fn a_set_takes_numbers_in_and_out(rt: HostRuntime) -> Result<(), Fail> {
+    let mut numbers = set(rt.alloc(), &[])?;
+    assert!(rt; has_just(&numbers, &[]));
+    for number in [127, 0, 300, 64, 63] {
+        numbers.toggle(number)?;
+    }
+    assert!(rt; has_just(&numbers, &[0, 63, 64, 127, 300]));
+    assert!(rt; !numbers.contains(1) && !numbers.contains(128) && !numbers.contains(100_000));
+    assert_eq!(rt; numbers.first_from(65), Some(127));
+    assert_eq!(rt; numbers.first_from(128), Some(300));
+    numbers.toggle(127)?;
+    assert!(rt; has_just(&numbers, &[0, 63, 64, 300]));
+    numbers.remove(0);
+    numbers.remove(300);
+    numbers.remove(5);
+    assert!(rt; has_just(&numbers, &[63, 64]));
+    numbers.toggle(63)?;
+    numbers.toggle(64)?;
+    assert!(rt; has_just(&numbers, &[]));
+    numbers.toggle(100_000)?;
+    assert!(rt; has_just(&numbers, &[100_000]));
+    Ok(())
+}
+
+#[test]
+fn the_greatest_numbers_are_refused(rt: HostRuntime) -> Result<(), Fail> {
+    let mut numbers = set(rt.alloc(), &[usize::MAX - 64])?;
+    assert!(rt; numbers.toggle(usize::MAX - 63).is_err());
+    assert!(rt; numbers.toggle(usize::MAX).is_err());
+    assert!(rt; has_just(&numbers, &[usize::MAX - 64]));
+    Ok(())
+}
+
+// The sum of two sets of these numbers.
+fn sum_of(alloc: Global, left: &[usize], right: &[usize]) -> Result<BitSet, Fail> {
+    let mut sum = set(alloc, left)?;
+    let right = set(alloc, right)?;
+    sum.xor(&right)?;
+    Ok(sum)
+}
+
+#[test]
+fn sets_add(rt: HostRuntime) -> Result<(), Fail> {
+    let sum = sum_of(rt.alloc(), &[3, 64, 300], &[64, 127, 300, 700])?;
+    assert!(rt; has_just(&sum, &[3, 127, 700]));
+    let none = sum_of(rt.alloc(), &[3, 700], &[700, 3])?;
+    assert!(rt; has_just(&none, &[]));
+    Ok(())
+}
+
+#[test]
+fn sets_are_compared(rt: HostRuntime) -> Result<(), Fail> {
+    let left = set(rt.alloc(), &[3, 64, 300])?;
+    let right = set(rt.alloc(), &[64, 127, 300, 700])?;
+    assert!(rt; left.common_with(&right) == 2 && !left.is_same(&right));
+    let copy = left.clone()?;
+    assert!(rt; left.is_same(&copy));
     Ok(())
 }
 

@@ -1,11 +1,14 @@
 //! The words of a row that are kept.
 
-ghost use Rattle.std.specs.Prelude.{◌≡◌, ◌<◌, ◌≤◌, ◌+◌, ◌/◌, ◌^◌, ◌==◌, ◌&&◌, ℕ, [], true, false};
-ghost use Rattle.std.specs.Prelude.{max, length, get_or, IsOk, IfOk, OnOk, OnErr};
+ghost use Rattle.std.specs.Prelude.{◌≡◌, ◌↔◌, ◌<◌, ◌≤◌, ◌+◌, ◌-◌, ◌/◌, ◌^◌, ◌==◌, ◌&&◌, ℕ, []};
+ghost use Rattle.std.specs.Prelude.{true, false, not, ltb, if◌then◌else◌};
+ghost use Rattle.std.specs.Prelude.{max, length, get_or, count_by, IsOk, IfOk, OnOk, OnErr};
+ghost use Rattle.std.specs.Int.RustNames.{bit_xor};
 ghost use Rattle.zx_model.specs.Bits.{xor};
 ghost use Rattle.zx_bits.specs.Rows.{IsFirstFrom};
 ghost use Rattle.zx_bits.specs.Internal.Words.{is_odd};
-ghost use Rattle.zx_bits.specs.Internal.Windows.{word_at, is_set, end_of, Covers, AddsTo};
+ghost use Rattle.zx_bits.specs.Internal.Windows.{word_at, word_from, is_set, end_of, places_of};
+ghost use Rattle.zx_bits.specs.Internal.Windows.{Covers, AddsTo};
 
 use smallvec::SmallVec;
 use std::alloc::{AllocError, Global};
@@ -45,10 +48,12 @@ impl Window {
     fn word(&self, number: usize) -> u64
         ensures { result ≡ word_at self.now number }
     {
-        if number < self.offset || self.words.len() <= number - self.offset {
+        if number < self.offset {
             return 0;
         }
-        self.words[number - self.offset]
+        let words = self.words.as_slice();
+        let index = number - self.offset;
+        if index < words.len() { words[index] } else { 0 }
     }
 
     pub(crate) fn is_set(&self, place: usize) -> bool
@@ -95,18 +100,9 @@ impl Window {
         let total = last.max(end) - offset;
         self.words.reserve(total - self.words.len())?;
         self.words.resize(total, 0)?;
-        self.words.as_mut_slice().rotate_right(start - offset);
+        move_back(self.words.as_mut_slice(), start - offset);
         self.offset = offset;
         Ok(())
-    }
-
-    // Adds to one of the kept words.
-    fn add_to(&mut self, number: usize, mask: u64)
-        requires first { self.old.offset ≤ number }
-        requires end { number < end_of self.old }
-        ensures { AddsTo number mask self.old self.new }
-    {
-        self.words[number - self.offset] ^= mask;
     }
 
     // Lets the words at both ends go that have no bit set.
@@ -116,12 +112,26 @@ impl Window {
         ensures end { end_of self.new ≤ end_of self.old }
         ensures capacity { self.new.words.capacity ≡ self.old.words.capacity }
     {
+        if is_tight(self.words.as_slice()) {
+            return;
+        }
         let end = used(self.words.as_slice());
         self.words.truncate(end);
         let unused = unused_before(self.words.as_slice());
-        self.words.as_mut_slice().rotate_left(unused);
-        self.words.truncate(end - unused);
-        self.offset += unused;
+        if unused > 0 {
+            move_front(self.words.as_mut_slice(), unused);
+            self.words.truncate(end - unused);
+            self.offset += unused;
+        }
+    }
+
+    // Adds to one of the kept words.
+    fn add_to(&mut self, number: usize, mask: u64)
+        requires first { self.old.offset ≤ number }
+        requires end { number < end_of self.old }
+        ensures { AddsTo number mask self.old self.new }
+    {
+        self.words[number - self.offset] ^= mask;
     }
 
     pub(crate) fn flip(&mut self, place: usize) -> Result<(), AllocError>
@@ -141,6 +151,20 @@ impl Window {
         Ok(())
     }
 
+    // Where a place is set, it isn't any more.
+    pub(crate) fn unset(&mut self, place: usize)
+        requires { end_of self.old ≤ 2 ^ 58 }
+        ensures places { (other : ℕ) →
+            is_set self.new other ≡ (is_set self.old other && not (other == place)) }
+        ensures end { end_of self.new ≤ end_of self.old }
+        ensures capacity { self.new.words.capacity ≡ self.old.words.capacity }
+    {
+        if self.is_set(place) {
+            self.add_to(place / WORD, 1 << (place % WORD));
+            self.trim();
+        }
+    }
+
     pub(crate) fn xor(&mut self, other: &Window) -> Result<(), AllocError>
         requires bounded { end_of self.old ≤ 2 ^ 58 }
         requires other_bounded { end_of other.now ≤ 2 ^ 58 }
@@ -156,9 +180,8 @@ impl Window {
             return Ok(());
         }
         self.cover(other.offset, other.end())?;
-        for number in other.offset..other.end() {
-            self.add_to(number, other.word(number));
-        }
+        let first = other.offset - self.offset;
+        add_words(self.words.as_mut_slice(), first, other.words.as_slice());
         self.trim();
         Ok(())
     }
@@ -170,11 +193,60 @@ impl Window {
         ensures { (len : ℕ) → ((place : ℕ) → len ≤ place → is_set self.now place ≡ false) →
             result ≡ is_odd len (λ place. is_set self.now place && is_set other.now place) }
     {
+        let ours = self.words.as_slice();
+        let theirs = other.words.as_slice();
         let mut common = 0;
         for number in self.offset.max(other.offset)..self.end().min(other.end()) {
-            common ^= self.word(number) & other.word(number);
+            common ^= ours[number - self.offset] & theirs[number - other.offset];
         }
         common.count_ones() % 2 == 1
+    }
+
+    // How many places are set.
+    pub(crate) fn count(&self) -> usize
+        requires { end_of self.now < 2 ^ 58 }
+        ensures { result ≡ length (places_of self.now) }
+    {
+        let mut count = 0;
+        for word in self.words.as_slice() {
+            count += word.count_ones() as usize;
+        }
+        count
+    }
+
+    // How many places are set in both.
+    pub(crate) fn count_common(&self, other: &Window) -> usize
+        requires bounded { end_of self.now < 2 ^ 58 }
+        requires other_bounded { end_of other.now < 2 ^ 58 }
+        ensures { result ≡ count_by (is_set other.now) (places_of self.now) }
+    {
+        let ours = self.words.as_slice();
+        let theirs = other.words.as_slice();
+        let mut count = 0;
+        for number in self.offset.max(other.offset)..self.end().min(other.end()) {
+            let common = ours[number - self.offset] & theirs[number - other.offset];
+            count += common.count_ones() as usize;
+        }
+        count
+    }
+
+    // Whether the same places are set in both.
+    pub(crate) fn is_same(&self, other: &Window) -> bool
+        requires bounded { end_of self.now ≤ 2 ^ 58 }
+        requires other_bounded { end_of other.now ≤ 2 ^ 58 }
+        ensures { (result ≡ true) ↔ ((place : ℕ) → is_set self.now place ≡ is_set other.now place) }
+    {
+        let ours = self.words.as_slice();
+        let theirs = other.words.as_slice();
+        if self.offset == other.offset && ours.len() == theirs.len() {
+            return ours == theirs;
+        }
+        for number in self.offset.min(other.offset)..self.end().max(other.end()) {
+            if self.word(number) != other.word(number) {
+                return false;
+            }
+        }
+        true
     }
 
     // The first set bit from a place on.
@@ -187,10 +259,11 @@ impl Window {
         if rest != 0 {
             return Some(number * WORD + rest.trailing_zeros() as usize);
         }
-        for later in self.offset.max(number + 1)..self.end() {
-            let word = self.word(later);
+        let words = self.words.as_slice();
+        for index in (number + 1).saturating_sub(self.offset)..words.len() {
+            let word = words[index];
             if word != 0 {
-                return Some(later * WORD + word.trailing_zeros() as usize);
+                return Some((self.offset + index) * WORD + word.trailing_zeros() as usize);
             }
         }
         None
@@ -204,6 +277,44 @@ impl Window {
     {
         self.words
             .reserve_exact(words.saturating_sub(self.words.len()))
+    }
+}
+
+// Moves the words back by so many, and puts zeros in front of them.
+fn move_back(words: &mut [u64], count: usize)
+    requires { count ≤ length words.old }
+    ensures moved { (i : ℕ) → i < length words.old →
+        get_or words.new i 0 ≡ (if ltb i count then 0 else get_or words.old (i - count) 0) }
+    ensures len { length words.new ≡ length words.old }
+{
+    let kept = words.len() - count;
+    for moved in 0..kept {
+        let from = kept - 1 - moved;
+        words[from + count] = words[from];
+    }
+    for i in 0..count {
+        words[i] = 0;
+    }
+}
+
+// Moves the words behind the first few to the front.
+fn move_front(words: &mut [u64], count: usize)
+    requires { count ≤ length words.old }
+    ensures moved { (i : ℕ) → count + i < length words.old →
+        get_or words.new i 0 ≡ get_or words.old (count + i) 0 }
+    ensures len { length words.new ≡ length words.old }
+{
+    for i in count..words.len() {
+        words[i - count] = words[i];
+    }
+}
+
+// Whether the first and the last word have a bit set, if there are any.
+fn is_tight(words: &[u64]) -> bool {
+    match words {
+        [first, .., last] => *first != 0 && *last != 0,
+        [only] => *only != 0,
+        [] => true,
     }
 }
 
@@ -229,4 +340,16 @@ fn unused_before(words: &[u64]) -> usize
         first += 1;
     }
     first
+}
+
+// Adds words to those from a place on.
+fn add_words(words: &mut [u64], start: usize, added: &[u64])
+    requires { start + length added.now ≤ length words.old }
+    ensures size { length words.new ≡ length words.old }
+    ensures words { (i : ℕ) →
+        get_or words.new i 0 ≡ bit_xor (get_or words.old i 0) (word_from start added.now i) }
+{
+    for i in 0..added.len() {
+        words[start + i] ^= added[i];
+    }
 }

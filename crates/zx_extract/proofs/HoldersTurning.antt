@@ -1,54 +1,42 @@
 -- A table turned over vertex by vertex, and what the last vertex tells.
-use Rattle.std.proofs.Common.{◌≡◌, refl, sym, ◌∙◌, ap, ap₂, ℕ, ◌+◌, ◌-◌, ◌<◌, Bool, true, false, ◌&&◌, ◌||◌, eqb, List, [], ◌∷◌, ◌++◌, length, get_or, take, true≢false, eq-eqb, arith}
+use Rattle.std.proofs.Common.{◌≡◌, refl, sym, ◌∙◌, ap, ap₂, ℕ, ◌+◌, ◌-◌, ◌<◌, Bool, true, ◌&&◌, eqb, List, [], ◌∷◌, ◌++◌, length, get_or, take, add-one, true≢false, arith}
 use Rattle.std.specs.Prelude.{Some, None, slice_get}
-use Rattle.std.proofs.lemmas.List.{take_more, get_or_read}
+use Rattle.std.proofs.lemmas.List.{get_or_read}
 use Rattle.std.proofs.lemmas.Option.{slice_get-get_or, get_or_from_slice_get}
-use Rattle.zx_model.specs.Bits.{member}
+use Rattle.zx_model.specs.Bits.{xor, member}
 use Rattle.zx_calculus.specs.Graph.{Distinct}
-use Rattle.zx_calculus.proofs.Booleans.{or-false}
+use Rattle.zx_calculus.proofs.Booleans.{parities}
 use Rattle.zx_calculus.proofs.Ids.{by_test, by_equal}
-use Rattle.zx_calculus.proofs.Ids.{member-append}
+use Rattle.zx_calculus.proofs.Positions.{member-grown}
 use Rattle.gflow_laws.specs.Flow.{Correction, order_of, set_of, is_in, SameSets}
 use Rattle.gflow_laws.proofs.Tables.{set_of-outside}
-use Rattle.zx_extract.specs.Internal.Holders.{holds, holders_of, table_from, IsHeldBy}
-use Rattle.zx_extract.proofs.HoldersAdding.{not_taken}
+use Rattle.zx_extract.specs.Internal.Holders.{holds, table_from, AreToggled}
 use Rattle.zx_extract.proofs.HoldersTables.{cut, member-holders_of, order_of-table_from}
 
 -- the sets of these vertices are turned over
 abbrev pub IsTurned : List Correction → List ℕ → List (List ℕ) → Type 0
 IsTurned table vs lists = (s v : ℕ) → holds lists s v ≡ (member v vs && member s (set_of table v))
 
--- the next vertex has no set yet
-pub fresh_turned : (table : List Correction) (order : List ℕ) (i v : ℕ) (lists : List (List ℕ)) → Distinct order →
-    i < length order → v ≡ get_or order i v → IsTurned table (take i order) lists → (s : ℕ) → holds lists s v ≡ false
-fresh_turned table order i v lists once lt read turned s =
-    turned s v ∙ ap (λ b. b && member s (set_of table v))
-    (ap (λ u. member u (take i order)) (get_or_read order i v lt read 0) ∙ not_taken order i once lt)
-
+-- the set of the next vertex, which had none yet
 pub next_turned : (table : List Correction) (order : List ℕ) (i v : ℕ) (set : List ℕ) (now new : List (List ℕ)) →
-    i < length order → v ≡ get_or order i v → set ≡ set_of table v → IsTurned table (take i order) now →
-    IsHeldBy set v now new → IsTurned table (take (i + 1) order) new
-next_turned table order i v set now new lt read is turned more s u =
-    more s u ∙ ap (λ b. b || (eqb u v && member s set)) (turned s u) ∙ same
-    ∙ ap (λ b. b && member s (set_of table u)) (sym (member-append u (take i order) (v ∷ []))
-    ∙ ap (λ w. member u (take i order ++ w ∷ [])) (get_or_read order i v lt read 0) ∙ ap (member u) (sym (take_more order i 0 lt)))
+    Distinct order → i < length order → v ≡ get_or order i v → set ≡ set_of table v →
+    IsTurned table (take i order) now → AreToggled set v now new → IsTurned table (take (i + 1) order) new
+next_turned table order i v set now new once lt read is turned more s u =
+    more s u ∙ ap₂ xor (turned s u) own
+    ∙ spread (member u (take i order)) (eqb u v) (member s (set_of table u))
+    ∙ ap (λ b. b && member s (set_of table u)) (sym grown)
   where
-    own : (a m : Bool) → ((a && m) || m) ≡ ((a || true) && m)
-    own true true = refl
-    own true false = refl
-    own false m = refl
+    own : (eqb u v && member s set) ≡ (eqb u v && member s (set_of table u))
+    own =
+        by_equal u v (λ _ e. ap (λ l. eqb u v && member s l) (is ∙ ap (set_of table) (sym e)))
+        (λ f _. rw f refl)
 
-    others : (a m : Bool) → ((a && m) || false) ≡ ((a || false) && m)
-    others true m = or-false m
-    others false m = refl
+    grown : member u (take (i + 1) order) ≡ xor (member u (take i order)) (eqb u v)
+    grown = rw add-one (member-grown order i u once lt
+        ∙ ap (λ w. xor (member u (take i order)) (eqb u w)) (sym (get_or_read order i v lt read 0)))
 
-    same : ((member u (take i order) && member s (set_of table u)) || (eqb u v && member s set)) ≡
-        ((member u (take i order) || (eqb u v || false)) && member s (set_of table u))
-    same =
-        by_equal u v
-        (λ t e. rw t (ap (λ l. (member u (take i order) && member s (set_of table u)) || member s l) (is ∙ ap (set_of table) (sym e))
-        ∙ own (member u (take i order)) (member s (set_of table u))))
-        (λ f apart. rw f (others (member u (take i order)) (member s (set_of table u))))
+    spread : (a e m : Bool) → xor (a && m) (e && m) ≡ (xor a e && m)
+    spread a e m = simp parities
 
 -- the table that was turned over
 pub SameSets-turned : (table : List Correction) (lists : List (List ℕ)) → IsTurned table (order_of table) lists →

@@ -4,7 +4,7 @@ use Rattle.std.specs.Prelude.{slice_get}
 use Rattle.zx_model.specs.Bits.{member, one_if}
 use Rattle.zx_model.specs.Constants.{two}
 use Rattle.zx_model.proofs.Ring.{mul-one}
-use Rattle.zx_calculus.specs.Graph.{XY, YZ, Kind, Vertex, ids, kind_of, plane_of, phase_of, joined, end_vertices, is_XY, different, without, Live, WellFormed}
+use Rattle.zx_calculus.specs.Graph.{YZ, Kind, Vertex, ids, kind_of, plane_of, phase_of, joined, end_vertices, is_XY, different, without, Live, WellFormed}
 use Rattle.zx_calculus.specs.Edits.{IsRemoval}
 use Rattle.zx_calculus.specs.Worked.{plain}
 use Rattle.zx_calculus.specs.Counts.{not_XY, XY_without_output}

@@ -2,18 +2,18 @@
 
 ghost use Rattle.std.specs.Prelude.{◌≡◌, ◌≢◌, ◌<◌, ◌≤◌, ℕ, true, false, [], ◌∷◌, ◌++◌, length, slice_get, Some, IfOk, OnOk};
 ghost use Rattle.zx_model.specs.Bits.{member};
-ghost use Rattle.zx_calculus.specs.Graph.{end_vertices, Distinct, Live, WellFormed};
+ghost use Rattle.zx_calculus.specs.Graph.{end_vertices, WellFormed};
 ghost use Rattle.gflow_laws.specs.Flow.{IsFlow, SameSets};
 ghost use Rattle.zx_gates.specs.Circuit.{most_qubits};
 ghost use Rattle.zx_gates.specs.Lowering.{phase_gates};
 ghost use Rattle.circuit_laws.specs.Peeling.{HasPlainOutput};
 ghost use Rattle.zx_extract.specs.Internal.Leading.{IsGiven, IsReady, IsFrontier, Leads};
 ghost use Rattle.zx_extract.specs.Internal.Lists.{IsPlainAt};
-ghost use Rattle.zx_extract.specs.Internal.Steps.{IsPhaseTaken, IsUnjoined, IsRowAdded, IsRowToggled};
+ghost use Rattle.zx_extract.specs.Internal.Steps.{IsPhaseTaken, IsUnjoined, IsRowAdded};
 ghost use Rattle.zx_extract.specs.Internal.Frontiers.{state_of};
 
 use crate::holders::Holders;
-use open_graph::{End, OpenGraph, Plane, VertexId};
+use open_graph::{End, OpenGraph, Plane, VertexId, VertexSet};
 use std::alloc::{AllocError, Global};
 use zx_flow::Flow;
 use zx_gates::{Gate, Qubit};
@@ -167,24 +167,10 @@ impl Frontier {
     {
         let added = self.present(c);
         let to = self.present(t);
-        let row = Vec::from_slice(self.alloc, self.graph.neighbours(added))?;
-        toggle_row(&mut self.graph, to, &row)?;
+        let row = self.graph.neighbour_set(added).clone()?;
+        let target = VertexSet::one(self.alloc, to)?;
+        self.graph.toggle_across(&target, &row)?;
         self.flow.add_row(added, to)?;
         self.write_cx(t, c)
     }
-}
-
-// Toggles the edges between a vertex and each of a row.
-fn toggle_row(graph: &mut OpenGraph, t: VertexId, row: &[VertexId]) -> Result<(), AllocError>
-    requires valid { WellFormed graph.old.graph }
-    requires live { Live graph.old.graph t }
-    requires row_live { (w : ℕ) → member w row.now ≡ true → Live graph.old.graph w }
-    requires apart { member t row.now ≡ false }
-    requires once { Distinct row.now }
-    ensures { OnOk result (IsRowToggled graph.old.graph t row.now graph.new.graph) }
-{
-    for w in row {
-        graph.toggle_edge(t, *w)?;
-    }
-    Ok(())
 }

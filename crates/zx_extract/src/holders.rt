@@ -1,10 +1,10 @@
 //! Flows turned over: of each vertex, in the correction sets of which vertices it stands.
 
 ghost use Rattle.std.specs.Prelude.{◌≡◌, ◌<◌, ◌++◌, ℕ, true, false, ◌||◌, ◌==◌, List, [], ◌∷◌, length, count_by, IfOk, IfNone, IfSome, OnOk, OnErr, ltb};
-ghost use Rattle.zx_calculus.specs.Graph.{in_order, Distinct};
+ghost use Rattle.zx_calculus.specs.Graph.{in_order};
 ghost use Rattle.gflow_laws.specs.Flow.{Correction, is_in, SameSets};
 ghost use Rattle.gflow_laws.specs.Outputs.{row_added_table, advanced_table, last_removed_table};
-ghost use Rattle.zx_extract.specs.Internal.Holders.{sets_with, holds, IsHeldAlike, IsHeldBy, IsToggled, IsCleared};
+ghost use Rattle.zx_extract.specs.Internal.Holders.{sets_with, holds, IsHeldAlike, IsMemberToggled, AreToggled, IsToggled, IsCleared};
 
 use open_graph::{VertexId, VertexSet};
 use std::alloc::{AllocError, Global};
@@ -40,7 +40,7 @@ impl Holders {
         let order = Vec::from_slice(alloc, vertices)?;
         let mut held = Vec::new(alloc);
         for v in vertices {
-            add_members(&mut held, alloc, f.correction(*v), *v)?;
+            toggle_members(&mut held, alloc, f.correction_set(*v), *v)?;
         }
         Ok(Holders { alloc, order, held })
     }
@@ -69,7 +69,7 @@ impl Holders {
     pub(crate) fn count(&self, s: VertexId) -> usize
         ensures { result ≡ count_by (λ e. is_in e.members s) self.now.flow }
     {
-        sets_with(&self.held, s).len()
+        count_with(&self.held, s)
     }
 
     // Toggles c in each set that has t.
@@ -121,14 +121,14 @@ impl Holders {
     }
 }
 
-// The vertices in whose sets a vertex stands, by rising id: none past the end of the lists.
-fn sets_with(held: &[VertexSet], s: VertexId) -> &[VertexId]
-    ensures value { result.now ≡ sets_with held.now s }
-    ensures rising { in_order ltb result.now ≡ true }
+// In the sets of how many vertices a vertex stands: of none past the end of the lists.
+fn count_with(held: &[VertexSet], s: VertexId) -> usize
+    ensures value { result ≡ length (sets_with held.now s) }
+    ensures rising { in_order ltb (sets_with held.now s) ≡ true }
 {
     match held.get(s.get()) {
-        Some(vertices) => vertices.as_slice(),
-        None => &[],
+        Some(vertices) => vertices.len(),
+        None => 0,
     }
 }
 
@@ -153,33 +153,30 @@ fn make_room(held: &mut Vec<VertexSet>, alloc: Global, s: VertexId) -> Result<()
     Ok(())
 }
 
-// Puts a vertex into the set of v, where it isn't yet.
-fn add_member(
+// Toggles a vertex in the set of v.
+fn toggle_member(
     held: &mut Vec<VertexSet>,
     alloc: Global,
     s: VertexId,
     v: VertexId,
 ) -> Result<(), AllocError>
-    requires { holds held.old.items s v ≡ false }
-    ensures { OnOk result (IsHeldBy (s ∷ []) v held.old.items held.new.items) }
+    ensures { OnOk result (IsMemberToggled s v held.old.items held.new.items) }
 {
     make_room(held, alloc, s)?;
     held[s.get()].toggle(v)
 }
 
-// Puts these into the set of v, which has none yet.
-fn add_members(
+// Toggles these in the set of v.
+fn toggle_members(
     held: &mut Vec<VertexSet>,
     alloc: Global,
-    set: &[VertexId],
+    members: &VertexSet,
     v: VertexId,
 ) -> Result<(), AllocError>
-    requires differ { Distinct set.now }
-    requires fresh { (s : ℕ) → holds held.old.items s v ≡ false }
-    ensures { OnOk result (IsHeldBy set.now v held.old.items held.new.items) }
+    ensures { OnOk result (AreToggled members.now v held.old.items held.new.items) }
 {
-    for s in set {
-        add_member(held, alloc, *s, v)?;
+    for s in members.iter() {
+        toggle_member(held, alloc, s, v)?;
     }
     Ok(())
 }
@@ -194,12 +191,10 @@ fn toggle_where(
     ensures ok { OnOk result (IsToggled c t held.old.items held.new.items) }
     ensures err { OnErr result (IsHeldAlike held.old.items held.new.items) }
 {
-    let mut toggled = VertexSet::new(alloc);
-    toggled.toggle_all(sets_with(held, c))?;
-    toggled.toggle_all(sets_with(held, t))?;
+    make_room(held, alloc, t)?;
+    let with_t = held[t.get()].clone()?;
     make_room(held, alloc, c)?;
-    held[c.get()] = toggled;
-    Ok(())
+    held[c.get()].toggle_all(&with_t)
 }
 
 // Takes a vertex out of all sets.

@@ -1,3 +1,4 @@
 pub mod SetLemmas
 pub mod MemberLemmas
 pub mod Toggles
+pub mod Walks

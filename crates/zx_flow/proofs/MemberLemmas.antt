@@ -1,13 +1,16 @@
 -- Tables with equal sets, and parities of neighbours in a set.
-use Rattle.std.proofs.Common.{◌≡◌, refl, sym, ◌∙◌, ap, ℕ, suc, ◌-◌, ◌%◌, Bool, false, cond, not, ◌&&◌, eqb, List, [], ◌∷◌, ◌++◌, length, get_or, take, take_all, filter, arith}
+use Rattle.std.proofs.Common.{◌≡◌, refl, sym, ◌∙◌, ap, ℕ, suc, ◌-◌, ◌%◌, Bool, false, cond, not, ◌&&◌, eqb, List, [], ◌∷◌, ◌++◌, length, get_or, take, take_all, filter, ltb, true, arith}
 use Rattle.std.specs.Prelude.{count_by, Option, Some, IfSome, IfNone, slice_get}
 use Rattle.std.proofs.lemmas.List.Sums.{length-filter}
 use Rattle.std.proofs.lemmas.Option.{slice_get-get_or}
 use Rattle.std.proofs.Math.Seq.{take-suc}
 use Rattle.zx_model.specs.Bits.{xor, member}
 use Rattle.zx_calculus.specs.Parity.{masked}
-use Rattle.zx_calculus.specs.Graph.{Graph, ids, joined, WellFormed}
-use Rattle.zx_calculus.proofs.Ids.{by_test, by_equal}
+use Rattle.zx_calculus.specs.Graph.{Graph, ids, joined, neighbours, in_order, WellFormed}
+use Rattle.zx_calculus.proofs.Ids.{by_test, by_equal, member-filter}
+use Rattle.zx_calculus.proofs.Booleans.{and_comm}
+use Rattle.zx_calculus.proofs.Extensionality.{rising_ext, in_order-filter}
+use Rattle.zx_calculus.proofs.Toggling.{member-neighbours}
 use Rattle.gflow_laws.specs.Flow.{Correction, order_of, set_of, is_in, SameSets}
 use Rattle.gflow_laws.specs.Tables.{symmetric_difference, with_sets}
 use Rattle.zx_calculus.proofs.Splitting.{joined-absent}
@@ -56,9 +59,20 @@ parity-length near set (v ∷ vs) =
     (λ n. rw n (by_test (set v) (λ s. rw s (parity-suc (length (filter set (filter near vs))) ∙ ap not (parity-length near set vs))) (λ f. rw f (parity-length near set vs))))
     (λ n. rw n (parity-length near set vs))
 
--- the parity of the number of neighbours in a set
-pub parity-count : (near set : ℕ → Bool) (vs : List ℕ) → eqb (count_by set (filter near vs) % 2) 1 ≡ masked near vs set
-parity-count near set vs = ap (λ k. eqb (k % 2) 1) (sym (length-filter set (filter near vs))) ∙ parity-length near set vs
+-- the parity of the number of members that are neighbours
+pub parity-common : (g : Graph) (w : ℕ) (near set : List ℕ) → WellFormed g → in_order ltb set ≡ true → ((p : ℕ) → member p near ≡ joined g.edges w p) →
+    eqb (count_by (λ p. member p near) set % 2) 1 ≡ masked (joined g.edges w) (ids g.vertices) (is_in set)
+parity-common g w near set formed rising tells =
+    ap (λ k. eqb (k % 2) 1) (sym (length-filter (λ p. member p near) set) ∙ ap length same)
+    ∙ parity-length (joined g.edges w) (is_in set) (ids g.vertices)
+  where
+    same : filter (λ p. member p near) set ≡ filter (is_in set) (neighbours g w)
+    same =
+        rising_ext _ _ (in_order-filter (λ p. member p near) set rising)
+        (in_order-filter (is_in set) (neighbours g w) (in_order-filter (joined g.edges w) (ids g.vertices) formed.vertices_rising))
+        (λ p. member-filter (λ q. member q near) set p ∙ and_comm (member p set) (member p near)
+        ∙ ap (λ b. b && member p set) (tells p ∙ sym (member-neighbours g w p formed))
+        ∙ sym (member-filter (is_in set) (neighbours g w) p))
 
 -- nothing is adjacent to what is no vertex
 pub parity-absent : (g : Graph) (w : ℕ) (set : ℕ → Bool) → WellFormed g → member w (ids g.vertices) ≡ false → masked (joined g.edges w) (ids g.vertices) set ≡ false

@@ -2,7 +2,6 @@
 
 ghost use Rattle.std.specs.Prelude.{◌≡◌, true, [], ◌∷◌, OnOk};
 ghost use Rattle.zx_model.specs.Bits.{member};
-ghost use Rattle.zx_calculus.specs.Graph.{Distinct};
 ghost use Rattle.gflow_laws.specs.Seen.{Seen, odd};
 ghost use Rattle.gflow_laws.specs.Flow.{order_of, set_of, is_in, SameSets};
 ghost use Rattle.gflow_laws.specs.Removals.{removal_table};
@@ -10,7 +9,7 @@ ghost use Rattle.gflow_laws.specs.Correcting.{odd_in};
 ghost use Rattle.gflow_laws.specs.Changes.{AreChanged, complement_change, removal_change};
 
 use crate::flow::Flow;
-use open_graph::VertexId;
+use open_graph::{VertexId, VertexSet};
 use std::alloc::AllocError;
 
 impl Flow {
@@ -21,19 +20,18 @@ impl Flow {
         &mut self,
         u: VertexId,
         v: VertexId,
-        own: &[VertexId],
+        own: &VertexSet,
         changes: bool,
         is_odd: bool,
     ) -> Result<(), AllocError>
-        requires there { member v (order_of self.old.flow) ≡ true }
-        requires differ { Distinct own.now }
+        requires { member v (order_of self.old.flow) ≡ true }
         ensures { OnOk result ((s : Seen) → changes ≡ odd_in (s.plane u) →
             is_odd ≡ odd s (is_in (set_of self.old.flow v)) u →
             AreChanged (complement_change s u own.now) (v ∷ []) self.old.flow self.new.flow) }
     {
         if v == u {
             return if changes {
-                self.toggle(v, &[u])
+                self.toggle_one(v, u)
             } else {
                 Ok(())
             };
@@ -45,7 +43,7 @@ impl Flow {
         if changes {
             Ok(())
         } else {
-            self.toggle(v, &[u])
+            self.toggle_one(v, u)
         }
     }
 
@@ -65,9 +63,8 @@ impl Flow {
     }
 
     // Takes u out of the set of v, `own` being that of u.
-    fn clear(&mut self, u: VertexId, v: VertexId, own: &[VertexId]) -> Result<(), AllocError>
-        requires there { member v (order_of self.old.flow) ≡ true }
-        requires differ { Distinct own.now }
+    fn clear(&mut self, u: VertexId, v: VertexId, own: &VertexSet) -> Result<(), AllocError>
+        requires { member v (order_of self.old.flow) ≡ true }
         ensures { OnOk result
             (AreChanged (removal_change u own.now) (v ∷ []) self.old.flow self.new.flow) }
     {

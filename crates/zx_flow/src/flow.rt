@@ -10,7 +10,7 @@ ghost use Rattle.zx_flow.specs.Changes.{set_toggled};
 
 use crate::corrections::Corrections;
 use crate::table::FlowTable;
-use open_graph::{OpenGraph, VertexId, VertexSet};
+use open_graph::{Ids, OpenGraph, VertexId, VertexSet};
 use std::alloc::{AllocError, Global};
 use std::marker::Model;
 
@@ -68,21 +68,28 @@ impl Flow {
     }
 
     /// The correction set of a vertex, by rising id.
-    pub fn correction(&self, v: VertexId) -> &[VertexId]
+    pub fn correction(&self, v: VertexId) -> Ids<'_>
         requires { member v (order_of self.now.flow) ≡ true }
-        ensures value { result.now ≡ set_of self.now.flow v }
+        ensures value { result ≡ set_of self.now.flow v }
         ensures valid { in_order ltb (set_of self.now.flow v) ≡ true }
     {
-        self.corrections.set(v).as_slice()
+        self.corrections.set(v).iter()
     }
 
-    /// A copy of the correction set of a vertex, by rising id.
-    pub fn copy_of_correction(&self, v: VertexId) -> Result<Vec<VertexId>, AllocError>
+    /// The correction set of a vertex, as a set.
+    pub fn correction_set(&self, v: VertexId) -> &VertexSet
         requires { member v (order_of self.now.flow) ≡ true }
-        ensures value { IfOk result (λ set. set.items ≡ set_of self.now.flow v) }
-        ensures valid { in_order ltb (set_of self.now.flow v) ≡ true }
+        ensures { result.now ≡ set_of self.now.flow v }
     {
-        Vec::from_slice(self.alloc, self.correction(v))
+        self.corrections.set(v)
+    }
+
+    /// A copy of the correction set of a vertex.
+    pub fn copy_of_correction(&self, v: VertexId) -> Result<VertexSet, AllocError>
+        requires { member v (order_of self.now.flow) ≡ true }
+        ensures { IfOk result (λ set. set ≡ set_of self.now.flow v) }
+    {
+        self.corrections.set(v).clone()
     }
 
     /// Whether a vertex w is a member of the correction set of v.
@@ -99,13 +106,12 @@ impl Flow {
         ensures { result ≡ odd (seen g.now.graph) (is_in (set_of self.now.flow v)) w }
     {
         let set = self.corrections.set(v);
-        g.is_live(w) && set.count_of(g.neighbours(w)) % 2 == 1
+        g.is_live(w) && set.common_with(g.neighbour_set(w)) % 2 == 1
     }
 
     /// Toggles these in the set of a vertex. Where memory runs out the flow stays as it was.
-    pub fn toggle(&mut self, v: VertexId, members: &[VertexId]) -> Result<(), AllocError>
-        requires there { member v (order_of self.old.flow) ≡ true }
-        requires differ { Distinct members.now }
+    pub fn toggle(&mut self, v: VertexId, members: &VertexSet) -> Result<(), AllocError>
+        requires { member v (order_of self.old.flow) ≡ true }
         ensures ok { OnOk result (SameSets self.new.flow (set_toggled v members.now self.old.flow)) }
         ensures err { OnErr result (self.new.flow ≡ self.old.flow) }
     {
@@ -113,6 +119,15 @@ impl Flow {
         set.toggle_all(members)?;
         self.corrections.replace(v, set);
         Ok(())
+    }
+
+    // Toggles a vertex w in the set of v. Where memory runs out the flow stays as it was.
+    pub(crate) fn toggle_one(&mut self, v: VertexId, w: VertexId) -> Result<(), AllocError>
+        requires { member v (order_of self.old.flow) ≡ true }
+        ensures { OnOk result (SameSets self.new.flow (set_toggled v (w ∷ []) self.old.flow)) }
+    {
+        let one = VertexSet::one(self.alloc, w)?;
+        self.toggle(v, &one)
     }
 
     /// Adds a vertex v after all others, corrected by w alone. Where memory runs out the flow

@@ -7,7 +7,7 @@ ghost use Rattle.gflow_laws.specs.Flow.{order_of, set_of, SameSets};
 ghost use Rattle.gflow_laws.specs.Tables.{with_sets};
 
 use crate::corrections::Corrections;
-use open_graph::{VertexId, VertexSet};
+use open_graph::{Ids, VertexId, VertexSet};
 use std::alloc::{AllocError, Global};
 use std::marker::Model;
 
@@ -47,7 +47,7 @@ impl FlowTable {
         ensures err { OnErr result (self.new.table ≡ self.old.table) }
     {
         let mut set = VertexSet::new(self.alloc);
-        set.toggle_all(members)?;
+        set.toggle_each(members)?;
         self.corrections.add_last(v, set)
     }
 
@@ -69,11 +69,11 @@ impl FlowTable {
     }
 
     /// The set of a vertex, by rising id.
-    pub fn correction(&self, v: VertexId) -> &[VertexId]
+    pub fn correction(&self, v: VertexId) -> Ids<'_>
         requires { member v (order_of self.now.table) ≡ true }
-        ensures value { result.now ≡ set_of self.now.table v }
+        ensures value { result ≡ set_of self.now.table v }
         ensures valid { in_order ltb (set_of self.now.table v) ≡ true }
     {
-        self.corrections.set(v).as_slice()
+        self.corrections.set(v).iter()
     }
 }

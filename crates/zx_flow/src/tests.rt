@@ -5,7 +5,7 @@ ghost use Rattle.std.specs.List.{list_any};
 ghost use Rattle.zx_model.specs.Bits.{member};
 
 use crate::{Flow, FlowTable};
-use open_graph::{OpenGraph, Plane, VertexId};
+use open_graph::{OpenGraph, Plane, VertexId, VertexSet};
 use std::alloc::Global;
 use std::process::Abort;
 use std::test::Fail;
@@ -45,7 +45,8 @@ fn a_table_holds_what_was_added(rt: HostRuntime) -> Result<(), Fail> {
     add(&rt, &mut table, 0, 1)?;
     assert_eq!(rt; digits(table.order()), 10);
     assert!(rt; stands_in(table.order(), VertexId::new(1)));
-    assert_eq!(rt; digits(table.correction(VertexId::new(1))), 2);
+    let ids: Vec<VertexId> = table.correction(VertexId::new(1)).collect(rt.alloc())?;
+    assert_eq!(rt; digits(&ids), 2);
     Ok(())
 }
 
@@ -103,15 +104,17 @@ fn a_flow_tells_its_parities(rt: HostRuntime) -> Result<(), Fail> {
     Ok(())
 }
 
-fn toggle(rt: &impl Abort, flow: &mut Flow, v: usize, w: usize) -> Result<(), Fail> {
+fn toggle(rt: &impl Abort, alloc: Global, flow: &mut Flow, v: usize, w: usize) -> Result<(), Fail> {
     assert!(rt; stands_in(flow.order(), VertexId::new(v)));
-    flow.toggle(VertexId::new(v), &[VertexId::new(w)])?;
+    let members = VertexSet::one(alloc, VertexId::new(w))?;
+    flow.toggle(VertexId::new(v), &members)?;
     Ok(())
 }
 
-fn correction(rt: &impl Abort, flow: &Flow, v: usize) -> usize {
+fn correction(rt: &impl Abort, alloc: Global, flow: &Flow, v: usize) -> Result<usize, Fail> {
     assert!(rt; stands_in(flow.order(), VertexId::new(v)));
-    digits(flow.correction(VertexId::new(v)))
+    let ids: Vec<VertexId> = flow.correction(VertexId::new(v)).collect(alloc)?;
+    Ok(digits(&ids))
 }
 
 #[test]
@@ -119,18 +122,18 @@ fn a_flow_is_changed(rt: HostRuntime) -> Result<(), Fail> {
     let mut flow = path_flow(&rt, rt.alloc())?;
 
     // After a local complement about the middle it is in its own set.
-    toggle(&rt, &mut flow, 1, 1)?;
+    toggle(&rt, rt.alloc(), &mut flow, 1, 1)?;
     let copy = flow.copy()?;
-    assert_eq!(rt; correction(&rt, &copy, 1), 12);
+    assert_eq!(rt; correction(&rt, rt.alloc(), &copy, 1)?, 12);
     assert_eq!(rt; copy.last(), Some(VertexId::new(1)));
 
     // After the middle was deleted, its set is toggled in that of the first.
-    toggle(&rt, &mut flow, 0, 1)?;
-    toggle(&rt, &mut flow, 0, 2)?;
+    toggle(&rt, rt.alloc(), &mut flow, 0, 1)?;
+    toggle(&rt, rt.alloc(), &mut flow, 0, 2)?;
     assert!(rt; stands_in(flow.order(), VertexId::new(1)));
     flow.remove(VertexId::new(1));
     assert_eq!(rt; digits(flow.order()), 0);
     assert_eq!(rt; flow.order().len(), 1);
-    assert_eq!(rt; correction(&rt, &flow, 0), 2);
+    assert_eq!(rt; correction(&rt, rt.alloc(), &flow, 0)?, 2);
     Ok(())
 }

@@ -1,20 +1,20 @@
 -- What a gadget taken out, and a phase added, make of a graph.
-use Rattle.std.proofs.Common.{◌≡◌, ◌≢◌, sym, ◌∙◌, ap, ap₂, subst, ℕ, true, eqb-true, List, get_or, true≢false}
+use Rattle.std.proofs.Common.{◌≡◌, ◌≢◌, refl, sym, ◌∙◌, ap, ap₂, subst, ℕ, true, eqb-true, List, true≢false, Option, Some, None, arith}
+use Rattle.std.specs.Prelude.{is_some}
 use Rattle.zx_model.specs.Bits.{member}
-use Rattle.zx_calculus.specs.Graph.{YZ, Graph, is_XY, ids, joined, neighbours, plane_of, phase_of, with_kinds, without, Live, Interior, WellFormed}
+use Rattle.zx_calculus.specs.Graph.{YZ, Graph, is_XY, ids, joined, plane_of, phase_of, with_kinds, without, Live, Interior, WellFormed}
 use Rattle.zx_calculus.specs.Steps.{allowed, after, DropLone, FuseInto, FuseTwin}
 use Rattle.zx_calculus.specs.Edits.{IsRemoval}
 use Rattle.zx_calculus.specs.Gadgets.{IsDropLone, IsFuseInto, IsFuseTwin, fuse_kind}
 use Rattle.zx_calculus.specs.Toggles.{with_changed}
-use Rattle.zx_calculus.proofs.Allowed.{fuse_into_leg}
 use Rattle.zx_calculus.proofs.Forms.{ids-without}
-use Rattle.zx_calculus.proofs.Ids.{member-removed_other}
-use Rattle.zx_calculus.proofs.Positions.{member-at_place}
+use Rattle.zx_calculus.proofs.Ids.{eqb-self, member-removed_other}
 use Rattle.zx_calculus.proofs.Steps.{after_step}
 use Rattle.zx_calculus.proofs.Splitting.{interior_of, no_loop}
 use Rattle.zx_calculus.proofs.Counting.{YZ_apart}
-use Rattle.zx_calculus.proofs.Toggling.{neighbour_joined}
+use Rattle.zx_calculus.proofs.Toggling.{member-neighbours, neighbour_live}
 use Rattle.zx_calculus.proofs.ChangedKinds.{KeepsEnds-changed}
+use Rattle.zx_bits.specs.Rows.{IsFirstFrom}
 use Rattle.gflow_laws.specs.Flow.{Correction, order_of, IsFlow}
 use Rattle.gflow_laws.proofs.Rewriting.{measured_listed}
 
@@ -44,27 +44,34 @@ still_live g h u p c other there =
     ap (λ vs. member p (ids vs)) c.vertices ∙ ap (member p) (ids-without u g.vertices)
     ∙ member-removed_other p u (ids g.vertices) other ∙ there
 
--- the only neighbour
-leg_joined : (g : Graph) (u into : ℕ) → WellFormed g → allowed g (FuseInto u) ≡ true →
-    into ≡ get_or (neighbours g u) 0 0 → joined g.edges u into ≡ true
-leg_joined g u into w may is =
-    neighbour_joined g u into w (member-at_place (neighbours g u) 0 into (fuse_into_leg g u may) is)
+-- the only neighbour is found
+pub leg_found : (g : Graph) (u : ℕ) (leg : Option ℕ) → WellFormed g → allowed g (FuseInto u) ≡ true →
+    IsFirstFrom (joined g.edges u) 0 leg → is_some leg ≡ true
+leg_found g u None w may none =
+    let s : IsFuseInto g u (after (FuseInto u) g) = after_step g (FuseInto u) w may in
+    absurd (true≢false (sym (s.only_neighbour s.into ∙ eqb-self s.into) ∙ none s.into (omega arith)))
+leg_found g u (Some into) w may first = refl
 
-pub leg_apart : (g : Graph) (u into : ℕ) → WellFormed g → allowed g (FuseInto u) ≡ true →
-    into ≡ get_or (neighbours g u) 0 0 → into ≢ u
-leg_apart g u into w may is e =
-    true≢false (sym (leg_joined g u into w may is) ∙ ap (joined g.edges u) e ∙ no_loop g u w)
+pub found_leg : (g : Graph) (u into : ℕ) (leg : Option ℕ) → leg ≡ Some into → IsFirstFrom (joined g.edges u) 0 leg →
+    joined g.edges u into ≡ true
+found_leg g u into leg is first = (rw is at first).1
+
+pub leg_live : (g : Graph) (u into : ℕ) → WellFormed g → joined g.edges u into ≡ true → Live g into
+leg_live g u into w near = neighbour_live g u into (member-neighbours g u into w ∙ near)
+
+pub leg_apart : (g : Graph) (u into : ℕ) → WellFormed g → joined g.edges u into ≡ true → into ≢ u
+leg_apart g u into w near e = true≢false (sym near ∙ ap (joined g.edges u) e ∙ no_loop g u w)
 
 pub fuse_into_step : {g h k : Graph} {u : ℕ} (into phase : ℕ) → WellFormed g → allowed g (FuseInto u) ≡ true →
-    into ≡ get_or (neighbours g u) 0 0 → phase ≡ phase_of g u → IsRemoval g u h →
+    joined g.edges u into ≡ true → phase ≡ phase_of g u → IsRemoval g u h →
     k ≡ with_changed (fuse_kind into phase) h → IsFuseInto g u k
-fuse_into_step {g} {h} {k} {u} into phase w may is read c made = subst (IsFuseInto g u) (sym made) fused
+fuse_into_step {g} {h} {k} {u} into phase w may near read c made = subst (IsFuseInto g u) (sym made) fused
   where
     s : IsFuseInto g u (after (FuseInto u) g)
     s = after_step g (FuseInto u) w may
 
     same : into ≡ s.into
-    same = eqb-true into s.into (sym (s.only_neighbour into) ∙ leg_joined g u into w may is)
+    same = eqb-true into s.into (sym (s.only_neighbour into) ∙ near)
 
     fused : IsFuseInto g u (with_changed (fuse_kind into phase) h)
     fused = record {

@@ -1,1 +1,2 @@
 mod GadgetSteps
+mod GadgetTests

@@ -34,7 +34,7 @@ pub fn may_drop_lone(g: &OpenGraph, u: VertexId) -> bool
     ensures value { result ≡ allowed g.now.graph (DropLone u) }
     ensures valid { WellFormed g.now.graph }
 {
-    is_gadget(g, u) && g.neighbours(u).is_empty()
+    is_gadget(g, u) && g.degree(u) == 0
 }
 
 /// As `drop_lone`, but where memory runs out, graph and flow may be any.

@@ -37,9 +37,12 @@ pub fn may_fuse_into(g: &OpenGraph, u: VertexId) -> bool
     if !is_gadget(g, u) {
         return false;
     }
-    match g.neighbours(u) {
-        [leg] => is_xy(g, *leg),
-        _ => false,
+    if g.degree(u) != 1 {
+        return false;
+    }
+    match g.neighbour_from(u, 0) {
+        Some(leg) => is_xy(g, leg),
+        None => false,
     }
 }
 
@@ -61,7 +64,7 @@ pub fn fuse_into_in_graph(g: &mut OpenGraph, u: VertexId)
     ensures was_valid { WellFormed g.old.graph }
     ensures valid { WellFormed g.new.graph }
 {
-    let into = g.neighbour(u, 0);
+    let into = g.neighbour_from(u, 0).unwrap();
     let phase = take_out(g, u);
     add_phase(g, into, phase);
 }

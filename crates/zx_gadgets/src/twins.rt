@@ -51,7 +51,7 @@ pub fn may_fuse_twin(g: &OpenGraph, u: VertexId, v: VertexId) -> bool
     if g.has_edge(u, v) {
         return false;
     }
-    g.neighbours(u) == g.neighbours(v)
+    g.neighbour_set(u).is_same(g.neighbour_set(v))
 }
 
 /// As `fuse_twin`, but where memory runs out, graph and flow may be any.

@@ -31,12 +31,13 @@ fn digit(phase: Sixteenth) -> u8 {
 // The gates that stand for U on one qubit, a byte for each: the digit of a phase, `h` or `x`.
 fn lowered_unitary(alloc: Global, angles: [u8; 3]) -> Result<Vec<u8>, Fail> {
     let [theta, phi, lambda] = angles;
+    let turn = 2 * Sixteenth::half_turn().get();
     let mut gates = Elements::new(alloc);
     gates.push(ElementaryGate::U {
         qubit: 0,
-        theta: Sixteenth::new(theta % 16),
-        phi: Sixteenth::new(phi % 16),
-        lambda: Sixteenth::new(lambda % 16),
+        theta: Sixteenth::new(theta % turn),
+        phi: Sixteenth::new(phi % turn),
+        lambda: Sixteenth::new(lambda % turn),
     })?;
     let list = lower(alloc, &Elementary { qubits: 1, gates })?;
     let mut bytes = Vec::new(alloc);

@@ -38,7 +38,8 @@ fn words_on_the_first_stream(rt: HostRuntime) {
 
 // A phase gate of that many sixteenth turns.
 fn phase(q: u16, turns: u8) -> Gate {
-    Gate::Phase(q, Sixteenth::new(turns % 16))
+    let turn = 2 * Sixteenth::half_turn().get();
+    Gate::Phase(q, Sixteenth::new(turns % turn))
 }
 
 // A controlled NOT.

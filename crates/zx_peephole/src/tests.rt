@@ -45,7 +45,8 @@ fn becomes(rt: &impl Abort, alloc: Global, gates: &[Gate], expected: &[Gate]) ->
 }
 
 fn phase(q: Qubit, turns: u8) -> Gate {
-    Gate::Phase(q, Sixteenth::new(turns % 16))
+    let turn = 2 * Sixteenth::half_turn().get();
+    Gate::Phase(q, Sixteenth::new(turns % turn))
 }
 
 fn cx(control: Qubit, target: Qubit) -> Gate {

@@ -1,4 +1,3 @@
-mod Loops
 mod Rewiring
 mod Halves
 mod PivotSteps

@@ -38,11 +38,12 @@ fn turn_common(g: &mut OpenGraph, u: VertexId, v: VertexId)
     ensures valid { WellFormed g.new.graph }
     ensures was_valid { WellFormed g.old.graph }
 {
-    for i in 0..g.neighbours(u).len() {
-        let p = g.neighbour(u, i);
+    let mut start = 0;
+    'turn: while let Some(p) = g.neighbour_from(u, start) {
         if g.has_edge(v, p) {
             turn_half(g, p);
         }
+        start = p.get() + 1;
     }
 }
 
@@ -78,7 +79,7 @@ fn with_neighbours(g: &OpenGraph, u: VertexId) -> Result<VertexSet, AllocError>
     ensures live { IfOk result (λ set. (p : ℕ) → member p set ≡ true → Live g.now.graph p) }
     ensures valid { WellFormed g.now.graph }
 {
-    let mut set = g.neighbour_set(u)?;
+    let mut set = g.neighbour_set(u).clone()?;
     set.toggle(u)?;
     Ok(set)
 }

@@ -1,10 +1,12 @@
 -- Moves of two vertices: what is found beside a vertex, and where nothing is.
-use Rattle.std.proofs.Common.{Some, None, ◌≡◌, refl, sym, ◌∙◌, ap, subst, ℕ, true, false, not, ◌&&◌, eqb, List, [], ◌∷◌, nat_eq, slice_get, true≢false, ne_eqb}
+use Rattle.std.proofs.Common.{Some, None, Bool, ltb, ◌≡◌, refl, sym, ◌∙◌, ap, subst, ℕ, true, false, not, ◌&&◌, eqb, List, [], ◌∷◌, nat_eq, slice_get, true≢false, ne_eqb}
 use Rattle.std.specs.List.{find}
 use Rattle.std.specs.Cmp.Lexicographic.{pointwise}
 use Rattle.std.proofs.lemmas.Bool.{eqb-false}
 use Rattle.zx_model.specs.Bits.{member}
-use Rattle.zx_calculus.specs.Graph.{YZ, Graph, ids, plane_of, joined, neighbours, Live, Interior, WellFormed, is_YZ, is_interior}
+use Rattle.std.specs.Prelude.{◌↔◌}
+use Rattle.zx_calculus.proofs.Extensionality.{neighbours_ext}
+use Rattle.zx_calculus.specs.Graph.{in_order, YZ, Graph, ids, plane_of, joined, neighbours, Live, Interior, WellFormed, is_YZ, is_interior}
 use Rattle.zx_calculus.specs.Complements.{may_complement}
 use Rattle.zx_calculus.specs.Gadgets.{is_gadget}
 use Rattle.zx_calculus.specs.Moves.{IsHalfSpider, IsInnerPivot, IsBoundaryPivot, IsGadgetPair, IsGadgetOf, AreTwins}
@@ -108,3 +110,24 @@ module _ (g : Graph) (w : WellFormed g) (u : ℕ) where
       let beside : member near (neighbours g v) ≡ true = subst (λ (xs : List ℕ). member near xs ≡ true) a.equal_neighbours (first-member (neighbours g u) near first) in
       let back : joined g.edges near v ≡ true = joined_comm g.edges near v ∙ joined_near g w v near beside in
       true≢false (sym (twin_to v a) ∙ find-none (is_twin g u) (neighbours g near) e v (near_joined g w near v back))
+
+-- ---- rows as sets
+-- the test of equal sets is that of equal lists
+pub rows_alike : (g : Graph) (u v : ℕ) (own its : List ℕ) (same : Bool) → WellFormed g → in_order ltb own ≡ true → in_order ltb its ≡ true
+    → ((p : ℕ) → member p own ≡ joined g.edges u p) → ((p : ℕ) → member p its ≡ joined g.edges v p)
+    → ((same ≡ true) ↔ (its ≡ own)) → same ≡ pointwise nat_eq (neighbours g v) (neighbours g u)
+rows_alike g u v own its same w own_rises its_rises own_tells its_tells tells =
+    alike same (pointwise nat_eq (neighbours g v) (neighbours g u))
+    (λ e. lists_equal (neighbours g v) (neighbours g u) (sym is_its ∙ tells.0 e ∙ is_own))
+    (λ e. tells.1 (is_its ∙ equal_lists (neighbours g v) (neighbours g u) e ∙ sym is_own))
+  where
+    is_own : own ≡ neighbours g u
+    is_own = neighbours_ext g u own w own_rises own_tells
+
+    is_its : its ≡ neighbours g v
+    is_its = neighbours_ext g v its w its_rises its_tells
+
+    alike : (a b : Bool) → (a ≡ true → b ≡ true) → (b ≡ true → a ≡ true) → a ≡ b
+    alike true b f h = sym (f refl)
+    alike false true f h = h refl
+    alike false false f h = refl

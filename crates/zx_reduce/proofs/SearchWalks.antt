@@ -1,10 +1,11 @@
 -- Walks over lists, as far as they have come.
-use Rattle.std.proofs.Common.{Option, Some, None, ◌≡◌, ◌⊎◌, inl, inr, refl, sym, ◌∙◌, ap, subst, ℕ, suc, ◌<◌, true, false, ◌||◌, eqb, List, [], ◌∷◌, ◌++◌, length, take, get_or, IfSome, IfNone, append_assoc, append-nil, eqb-true}
-use Rattle.std.proofs.Math.Seq.{take-length}
+use Rattle.std.proofs.Common.{option_map, slice_get, Option, Some, None, ◌≡◌, ◌⊎◌, inl, inr, refl, sym, ◌∙◌, ap, subst, ℕ, true, false, ◌||◌, eqb, List, [], ◌∷◌, ◌++◌, length, IfSome, IfNone, eqb-true}
 use Rattle.std.proofs.lemmas.List.Filters.{dedup_is}
 use Rattle.std.proofs.lemmas.List.Kept.{Contains-dedup_nat}
 use Rattle.std.proofs.lemmas.List.Sorted.{Contains-permutation}
 use Rattle.std.proofs.lemmas.Map.Views.{Contains-from_any}
+use Rattle.std.proofs.lemmas.Iterator.{YieldsList}
+use Rattle.std.proofs.lemmas.Iterator.Consumers.{YieldsList-from_shown}
 use Rattle.std.specs.Iterator.{YieldsFirst}
 use Rattle.std.specs.List.{list_any, dedup}
 use Rattle.std.specs.List.Retain.{IsFiltered, DiffersFromLast}
@@ -12,49 +13,23 @@ use Rattle.std.specs.List.Sorted.{IsPermutation}
 use Rattle.zx_model.specs.Bits.{member}
 use Rattle.zx_calculus.specs.Graph.{Graph, neighbours}
 use Rattle.zx_calculus.specs.Complements.{may_complement}
-use Rattle.zx_calculus.proofs.Booleans.{or-true, or-false}
-use Rattle.zx_calculus.proofs.Ids.{by_test, eqb-self}
-use Rattle.open_graph.proofs.Removing.{member-item, member-take_more}
+use Rattle.open_graph.proofs.Removing.{member-item}
+use Rattle.open_graph.proofs.Walks.{next_passed, all_passed}
 
--- what a call of `next` says, by its answer
-pub next_some : (r : Option ℕ) (s t : List ℕ) (u : ℕ) → YieldsFirst (λ rest. rest) s r t → r ≡ Some u → s ≡ u ∷ t
-next_some r s t u h e = rw e at h
+-- what comes first
+pub first_is : (r : Option ℕ) (s t : List ℕ) → YieldsFirst (λ rest. rest) s r t → r ≡ slice_get s 0
+first_is None s t h = sym (ap (λ xs. slice_get xs 0) h.0)
+first_is (Some u) s t h = sym (ap (λ xs. slice_get xs 0) h)
 
-pub next_none : (r : Option ℕ) (s t : List ℕ) → YieldsFirst (λ rest. rest) s r t → r ≡ None → s ≡ []
-next_none r s t h e = (rw e at h).0
+-- a list that is seen as what is left gives its elements
+pub yields_rest : (s : List ℕ) → YieldsList (YieldsFirst (λ (rest : List ℕ). rest)) (λ (x : ℕ). x) s s
+yields_rest =
+    YieldsList-from_shown (YieldsFirst (λ (rest : List ℕ). rest)) (λ (x : ℕ). x) (λ (rest : List ℕ). rest)
+    (λ s t h. ap length h.0) (λ s x t h. h)
 
-pub member-middle : (before after : List ℕ) (u : ℕ) → member u (before ++ u ∷ after) ≡ true
-member-middle [] after u = ap (λ b. b || member u after) (eqb-self u)
-member-middle (x ∷ xs) after u = ap (λ b. eqb u x || b) (member-middle xs after u) ∙ or-true (eqb u x)
-
-pub member-last : (xs : List ℕ) (u p : ℕ) → member p (xs ++ u ∷ []) ≡ true → (p ≡ u) ⊎ (member p xs ≡ true)
-member-last [] u p h = inl (eqb-true p u (sym (or-false (eqb p u)) ∙ h))
-member-last (x ∷ xs) u p h =
-    by_test (eqb p x)
-    (λ t. inr (ap (λ b. b || member p xs) t))
-    (λ f. elim (member-last xs u p (sym (ap (λ b. b || member p (xs ++ u ∷ [])) f) ∙ h)) [
-      | inl e ↦ inl e
-      | inr m ↦ inr (ap (λ b. eqb p x || b) m ∙ or-true (eqb p x))
-    ])
-
--- the vertex that comes next is one of all
-pub next_there : (before rest after all : List ℕ) (u : ℕ) → before ++ rest ≡ all → rest ≡ u ∷ after → member u all ≡ true
-next_there before rest after all u e f =
-    let whole : all ≡ before ++ u ∷ after = sym e ∙ ap (λ xs. before ++ xs) f in
-    ap (member u) whole ∙ member-middle before after u
-
-pub next_all : (before rest after all : List ℕ) (u : ℕ) → before ++ rest ≡ all → rest ≡ u ∷ after → (before ++ u ∷ []) ++ after ≡ all
-next_all before rest after all u e f = append_assoc before (u ∷ []) after ∙ sym (ap (λ xs. before ++ xs) f) ∙ e
-
-pub next_passed : (P : ℕ → Type 0) (before : List ℕ) (u : ℕ) → ((p : ℕ) → member p before ≡ true → P p) → P u → (p : ℕ) → member p (before ++ u ∷ []) ≡ true → P p
-next_passed P before u passed here p m =
-    elim (member-last before u p m) [ inl e ↦ subst P (sym e) here | inr b ↦ passed p b ]
-
--- all have come
-pub all_passed : (P : ℕ → Type 0) (before rest all : List ℕ) → before ++ rest ≡ all → rest ≡ [] → ((p : ℕ) → member p before ≡ true → P p) → (p : ℕ) → member p all ≡ true → P p
-all_passed P before rest all e f passed p m =
-    let whole : all ≡ before = sym e ∙ ap (λ xs. before ++ xs) f ∙ append-nil before in
-    passed p (sym (ap (member p) whole) ∙ m)
+pub unmapped : (o : Option ℕ) → option_map (λ (x : ℕ). x) o ≡ o
+unmapped None = refl
+unmapped (Some x) = refl
 
 -- ---- lists without repetition
 -- membership as std has it
@@ -78,21 +53,17 @@ best_found g u best (Some w) v near some (inl e) =
     (subst (λ (y : ℕ). member y (neighbours g u) ≡ true) (sym e.0) near, subst (λ (y : ℕ). may_complement g y ≡ true) (sym e.0) e.1)
 best_found g u best (Some w) v near some (inr e) = subst (λ (o : Option ℕ). IfSome o (λ w. (member w (neighbours g u) ≡ true) × (may_complement g w ≡ true))) e some
 
-pub best_none : (g : Graph) (best next : Option ℕ) (items : List ℕ) (i v : ℕ) → i < length items → v ≡ get_or items i v
-    → IfNone best ((p : ℕ) → member p (take i items) ≡ true → may_complement g p ≡ false)
+pub best_none : (g : Graph) (best next : Option ℕ) (before : List ℕ) (v : ℕ)
+    → IfNone best ((p : ℕ) → member p before ≡ true → may_complement g p ≡ false)
     → IfNone next ((best ≡ None) × (may_complement g v ≡ false))
-    → IfNone next ((p : ℕ) → member p (take (suc i) items) ≡ true → may_complement g p ≡ false)
-best_none g best (Some w) items i v lt is none step = tt
-best_none g best None items i v lt is none step =
-    let before : (p : ℕ) → member p (take i items) ≡ true → may_complement g p ≡ false =
-    subst (λ (o : Option ℕ). IfNone o ((p : ℕ) → member p (take i items) ≡ true → may_complement g p ≡ false)) step.0 none in
-    λ p m. by_test (eqb p v)
-    (λ t. ap (may_complement g) (eqb-true p v t) ∙ step.1)
-    (λ f. before p (sym (ap (λ b. b || member p (take i items)) f) ∙ sym (member-take_more items i v lt is p) ∙ m))
+    → IfNone next ((p : ℕ) → member p (before ++ v ∷ []) ≡ true → may_complement g p ≡ false)
+best_none g best (Some w) before v none step = tt
+best_none g best None before v none step =
+    next_passed (λ p. may_complement g p ≡ false) before v
+    (subst (λ (o : Option ℕ). IfNone o ((p : ℕ) → member p before ≡ true → may_complement g p ≡ false)) step.0 none) step.1
 
-pub best_end : (g : Graph) (best : Option ℕ) (items xs : List ℕ) (i : ℕ) → items ≡ xs → i ≡ length items
-    → IfNone best ((p : ℕ) → member p (take i items) ≡ true → may_complement g p ≡ false)
-    → IfNone best ((p : ℕ) → member p xs ≡ true → may_complement g p ≡ false)
-best_end g (Some w) items xs i same all none = tt
-best_end g None items xs i same all none =
-    λ p m. none p (ap (λ n. member p (take n items)) all ∙ ap (member p) (take-length items) ∙ ap (member p) same ∙ m)
+pub best_end : (g : Graph) (best : Option ℕ) (before rest all : List ℕ) → before ++ rest ≡ all → rest ≡ []
+    → IfNone best ((p : ℕ) → member p before ≡ true → may_complement g p ≡ false)
+    → IfNone best ((p : ℕ) → member p all ≡ true → may_complement g p ≡ false)
+best_end g (Some w) before rest all e f none = tt
+best_end g None before rest all e f none = all_passed (λ p. may_complement g p ≡ false) before rest all e f none

@@ -102,7 +102,7 @@ impl Candidates {
             IsPlaceOf g.now.graph (place_kind k) u v → is_candidate g.now.graph self.new k u ≡ true) }
     {
         if may_begin(g, u, KINDS[place]) {
-            let neighbours = g.neighbours(u).len();
+            let neighbours = g.degree(u);
             let number = u.get();
             self.set.insert(Candidate {
                 place,
@@ -139,7 +139,7 @@ fn move_of(g: &OpenGraph, candidate: Candidate) -> Option<Move>
     ensures valid { WellFormed g.now.graph }
 {
     let u = VertexId::new(candidate.number);
-    if !g.is_live(u) || g.neighbours(u).len() != candidate.neighbours {
+    if !g.is_live(u) || g.degree(u) != candidate.neighbours {
         return None;
     }
     let kind = KINDS.get(candidate.place)?;

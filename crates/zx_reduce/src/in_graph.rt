@@ -86,6 +86,8 @@ fn add_near(found: &mut Vec<VertexId>, g: &OpenGraph, u: VertexId) -> Result<(),
     ensures { OnOk result (found.new.items ≡ found.old.items ++ near g.now.graph u) }
 {
     found.push(u)?;
-    found.extend_from_slice(g.neighbours(u))?;
+    for w in g.neighbours(u) {
+        found.push(w)?;
+    }
     Ok(())
 }

@@ -1,7 +1,8 @@
 //! The search for the next move of simplification.
 
-ghost use Rattle.std.specs.Prelude.{◌≡◌, ◌⊎◌, ◌<◌, ◌≤◌, ◌↔◌, ℕ, true, false, IsTrue, IsFalse, IfSome, IfNone, slice_get};
+ghost use Rattle.std.specs.Prelude.{◌≡◌, ◌⊎◌, ◌<◌, ◌≤◌, ◌↔◌, ℕ, true, false, IsTrue, IsFalse, IfSome, IfNone, slice_get, nat_eq};
 ghost use Rattle.std.specs.List.{find};
+ghost use Rattle.std.specs.Cmp.Lexicographic.{pointwise};
 ghost use Rattle.zx_model.specs.Bits.{member};
 ghost use Rattle.zx_calculus.specs.Graph.{WellFormed, Live, neighbours};
 ghost use Rattle.zx_calculus.specs.Complements.{may_complement};
@@ -184,7 +185,7 @@ fn inner_neighbour(g: &OpenGraph, u: VertexId) -> Option<VertexId>
     let mut best = None;
     let mut least = 0;
     for v in g.neighbours(u) {
-        (best, least) = better_of(g, u, best, least, *v);
+        (best, least) = better_of(g, u, best, least, v);
     }
     best
 }
@@ -249,8 +250,8 @@ fn edges_across(g: &OpenGraph, u: VertexId, v: VertexId) -> usize
 {
     let mut edges: usize = 0;
     for p in g.neighbours(u) {
-        if *p != v {
-            edges = edges.saturating_add(common_neighbours(g, *p, v));
+        if p != v {
+            edges = edges.saturating_add(common_neighbours(g, p, v));
         }
     }
     edges
@@ -261,45 +262,26 @@ fn common_neighbours(g: &OpenGraph, p: VertexId, v: VertexId) -> usize {
     if !g.is_live(p) || !g.is_live(v) {
         return 0;
     }
-    let row = g.neighbours(p);
-    let other = g.neighbours(v);
-    if row.len() < other.len() {
-        count_among(row, other)
-    } else {
-        count_among(other, row)
-    }
-}
-
-fn count_among(ids: &[VertexId], others: &[VertexId]) -> usize {
-    ids.iter().filter(|id| stands_in(others, **id)).count()
-}
-
-fn stands_in(ids: &[VertexId], id: VertexId) -> bool {
-    ids.binary_search_by_key(&id.get(), |other| other.get())
-        .is_ok()
+    g.neighbour_set(p).common_with(g.neighbour_set(v))
 }
 
 // The number of a vertex's neighbours.
 fn degree(g: &OpenGraph, v: VertexId) -> usize {
-    if g.is_live(v) {
-        g.neighbours(v).len()
-    } else {
-        0
-    }
+    if g.is_live(v) { g.degree(v) } else { 0 }
 }
 
 fn first_neighbour(g: &OpenGraph, u: VertexId) -> Option<VertexId>
     requires { Live g.now.graph u }
     ensures { result ≡ slice_get (neighbours g.now.graph u) 0 }
 {
-    g.neighbours(u).first().copied()
+    g.neighbours(u).next()
 }
 
 fn gadget_beside(g: &OpenGraph, u: VertexId) -> Option<VertexId>
     requires { Live g.now.graph u }
     ensures { result ≡ find (is_gadget g.now.graph) (neighbours g.now.graph u) }
 {
-    g.neighbours(u).iter().copied().find(|v| is_gadget(g, *v))
+    g.neighbours(u).find(|v| is_gadget(g, *v))
 }
 
 fn twin_beside(g: &OpenGraph, u: VertexId, near: VertexId) -> Option<VertexId>
@@ -307,10 +289,7 @@ fn twin_beside(g: &OpenGraph, u: VertexId, near: VertexId) -> Option<VertexId>
     requires near { Live g.now.graph near }
     ensures { result ≡ find (is_twin g.now.graph u) (neighbours g.now.graph near) }
 {
-    g.neighbours(near)
-        .iter()
-        .copied()
-        .find(|v| is_twin(g, u, *v))
+    g.neighbours(near).find(|v| is_twin(g, u, *v))
 }
 
 fn is_quarter_gadget(g: &OpenGraph, u: VertexId) -> bool
@@ -350,7 +329,7 @@ fn is_gadget_of(g: &OpenGraph, u: VertexId, legs: usize) -> bool
     ensures { (result ≡ true) ↔ IsGadgetOf g.now.graph u legs }
 {
     let (plane, _) = g.weight(u);
-    matches!(plane, Plane::YZ) && g.neighbours(u).len() == legs
+    matches!(plane, Plane::YZ) && g.degree(u) == legs
 }
 
 // Whether v is a gadget other than u with the neighbours of u.
@@ -361,5 +340,14 @@ fn is_twin(g: &OpenGraph, u: VertexId, v: VertexId) -> bool
     if !g.is_live(v) {
         return false;
     }
-    v != u && is_gadget(g, v) && g.neighbours(v) == g.neighbours(u)
+    v != u && is_gadget(g, v) && are_alike(g, u, v)
+}
+
+// Whether two vertices have the same neighbours.
+fn are_alike(g: &OpenGraph, u: VertexId, v: VertexId) -> bool
+    requires u_live { Live g.now.graph u }
+    requires v_live { Live g.now.graph v }
+    ensures { result ≡ pointwise nat_eq (neighbours g.now.graph v) (neighbours g.now.graph u) }
+{
+    g.neighbour_set(v).is_same(g.neighbour_set(u))
 }

@@ -194,7 +194,7 @@ fn add_edges(text: &mut Vec<u8>, names: &[u8], graph: &OpenGraph) -> Result<(), 
                 if v.get() < w.get() {
                     text.push(b' ')?;
                     text.push(name(names, v))?;
-                    text.push(name(names, *w))?;
+                    text.push(name(names, w))?;
                 }
             }
         }
@@ -222,7 +222,7 @@ fn add_corrections(text: &mut Vec<u8>, names: &[u8], flow: &Flow) -> Result<(), 
             text.push(b' ')?;
             text.push(name(names, *v))?;
             for w in flow.correction(*v) {
-                text.push(name(names, *w))?;
+                text.push(name(names, w))?;
             }
         }
     }

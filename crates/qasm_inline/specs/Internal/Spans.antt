@@ -14,6 +14,7 @@ use Rattle.qasm_angle.specs.Trees.{Tree}
 use Rattle.qasm_angle.specs.declared.angle.Angle.{Angle}
 use Rattle.qasm_scope.specs.Calls.{Event}
 use Rattle.qasm_names.specs.declared.gates.CalledGate.{CalledGate}
+use Rattle.qasm_inline.specs.declared.applications.LastRegister.{LastRegister}
 use Rattle.qasm_inline.specs.declared.applications.Span.{Span}
 use Rattle.qasm_inline.specs.Internal.KeptCalls.{Numbered, called_events, values_of}
 use Rattle.qasm_scope.specs.declared.causes.Cause.{Cause}
@@ -27,6 +28,10 @@ span_range (span.Register first size) = Register first size
 
 abbrev pub register_by : Symbols → Operand → Option (ℕ × ℕ)
 register_by symbols operand = symbol_register (found operand.register symbols)
+
+-- what the name that was looked up last stands for
+abbrev pub IsLastRegister : Symbols → LastRegister → Type 0
+IsLastRegister symbols last = last.register ≡ symbol_register (found last.name.now symbols)
 
 abbrev pub no_register_by : Symbols → Operand → Bool
 no_register_by symbols operand = not (is_some (register_by symbols operand))

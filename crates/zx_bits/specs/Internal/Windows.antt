@@ -1,14 +1,19 @@
 -- The words of a row that are kept, with how many come before them.
 use Rattle.std.specs.Prelude.{◌≡◌, ◌<◌, ◌≤◌, ◌+◌, ◌-◌, ◌/◌, ◌%◌, ◌*◌, ◌^◌, ◌==◌, ℕ, Bool, false, if◌then◌else◌}
-use Rattle.std.specs.Prelude.{ltb, leb, length, get_or, max}
+use Rattle.std.specs.Prelude.{List, ltb, leb, length, get_or, max, filter}
+use Rattle.std.specs.List.{range_with_len}
 use Rattle.std.specs.Int.RustNames.{bit_xor}
 use Rattle.zx_bits.specs.Rows.{BitRow}
 use Rattle.zx_bits.specs.Internal.Words.{digit, told}
 use Rattle.zx_bits.specs.declared.window.Window.{Window}
 
+-- the word with a number, where so many words come before these
+abbrev pub word_from : ℕ → List ℕ → ℕ → ℕ
+word_from start words number = if ltb number start then 0 else get_or words (number - start) 0
+
 -- the word of the whole row with this number
 abbrev pub word_at : Window → ℕ → ℕ
-word_at w number = if ltb number w.offset then 0 else get_or w.words.items (number - w.offset) 0
+word_at w number = word_from w.offset w.words.items number
 
 -- whether the bit of the row at a place is set
 abbrev pub is_set : Window → ℕ → Bool
@@ -42,3 +47,7 @@ pub record IsWithin (len : ℕ) (w : Window) : Type 0 where
 -- the row of so many bits
 abbrev pub row_of : ℕ → Window → BitRow
 row_of len w = record { bits = told len (is_set w); has_room = leb len (64 * w.words.capacity) }
+
+-- the places that are set, by rising number
+abbrev pub places_of : Window → List ℕ
+places_of w = filter (is_set w) (range_with_len 0 (64 * end_of w))

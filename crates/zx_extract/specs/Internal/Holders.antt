@@ -1,5 +1,5 @@
 -- A flow turned over: of each vertex, in the correction sets of which vertices it stands.
-use Rattle.std.specs.Prelude.{◌≡◌, ℕ, Bool, true, not, ◌&&◌, ◌||◌, ◌==◌, List, [], ◌∷◌, length, filter, slice_index_or}
+use Rattle.std.specs.Prelude.{◌≡◌, ℕ, Bool, true, not, ◌&&◌, ◌==◌, List, [], ◌∷◌, length, filter, slice_index_or}
 use Rattle.std.specs.List.{range_with_len}
 use Rattle.zx_model.specs.Bits.{xor, member}
 use Rattle.zx_calculus.specs.Graph.{Distinct}
@@ -43,6 +43,12 @@ IsToggled c t old new = (s v : ℕ) → holds new s v ≡ xor (holds old s v) (h
 abbrev pub IsCleared : ℕ → List (List ℕ) → List (List ℕ) → Type 0
 IsCleared x old new = (s v : ℕ) → holds new s v ≡ (holds old s v && not (x == s))
 
--- the set of v has these too
-abbrev pub IsHeldBy : List ℕ → ℕ → List (List ℕ) → List (List ℕ) → Type 0
-IsHeldBy set v old new = (s u : ℕ) → holds new s u ≡ (holds old s u || ((u == v) && member s set))
+-- s is toggled in the set of v
+abbrev pub IsMemberToggled : ℕ → ℕ → List (List ℕ) → List (List ℕ) → Type 0
+IsMemberToggled s v old new =
+    (u w : ℕ) → holds new u w ≡ xor (holds old u w) ((w == v) && (u == s))
+
+-- these are toggled in the set of v
+abbrev pub AreToggled : List ℕ → ℕ → List (List ℕ) → List (List ℕ) → Type 0
+AreToggled set v old new =
+    (s u : ℕ) → holds new s u ≡ xor (holds old s u) ((u == v) && member s set)

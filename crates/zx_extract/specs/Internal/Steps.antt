@@ -2,9 +2,8 @@
 use Rattle.std.specs.Prelude.{◌≡◌, ◌≢◌, ◌<◌, ◌≤◌, ◌+◌, ◌*◌, ℕ, true, false, not, ◌&&◌, ◌==◌}
 use Rattle.std.specs.Prelude.{take, List, [], ◌∷◌, ◌++◌, length}
 use Rattle.std.specs.List.{AllZip}
-use Rattle.zx_model.specs.Bits.{xor, member, one_if}
+use Rattle.zx_model.specs.Bits.{member, one_if}
 use Rattle.zx_calculus.specs.Graph.{Graph, joined, phase_of, end_vertices, Distinct, WellFormed}
-use Rattle.zx_calculus.specs.Edits.{KeepsEnds}
 use Rattle.gflow_laws.specs.Flow.{Correction, order_of, SameSets}
 use Rattle.gflow_laws.specs.Outputs.{row_added_table, advanced_table, last_removed_table}
 use Rattle.zx_gates.specs.declared.gate.Gate.{Gate}
@@ -104,13 +103,6 @@ pub record AreLegs (g : Graph) (v i : ℕ) (qubits : List ℕ) : Type 0 where
   pub few : length qubits ≤ i
   pub fewer : (q u : ℕ) → q < i → HasPlainOutput g q u → joined g.edges v u ≡ false →
       length qubits + 1 ≤ i
-
--- h is g with the neighbours in the row toggled at the vertex t
-pub record IsRowToggled (g : Graph) (t : ℕ) (row : List ℕ) (h : Graph) : Type 0 where
-  pub vertices : h.vertices ≡ g.vertices
-  pub edges : (p q : ℕ) → joined h.edges p q ≡
-      xor (joined g.edges p q) (xor (t == p && member q row) (member p row && t == q))
-  pub frame : KeepsEnds g h
 
 -- t is s after the output q was settled: it has phase 0, and no edge joins it with an output below
 -- `end`

@@ -1,6 +1,6 @@
 -- One output more.
 use Rattle.std.proofs.Common.{◌≡◌, ◌∙◌, sym, ap, subst, suc, add-one, take, take_all, arith, ℕ, Bool, List, length, Vec, Global}
-use Rattle.zx_model.specs.Bits.{bit}
+use Rattle.gflow_laws.specs.Flow.{is_in}
 use Rattle.zx_calculus.specs.Graph.{End}
 use Rattle.gflow_laws.specs.Seen.{Seen, seen}
 use Rattle.flow_find.specs.declared.row.Row.{Row}
@@ -22,7 +22,7 @@ insert-requires c =
 pub loop-output-preserved : goal.loop-output-preserved
 loop-output-preserved c =
     let s : Seen = seen c.args.g.now.graph in
-    let left : ℕ → Bool = bit c.args.left.now in
+    let left : ℕ → Bool = is_in c.args.left.now in
     let ends : List End = c.outputs-output-items.result.now in
     let at : c.output.inside.vertex ≡ c.output-item.result.vertex = ap (λ (e : End). e.vertex) c.output.view_is in
     rw add-one (record {
@@ -45,7 +45,7 @@ loop-output-preserved c =
 pub returns-clause-rows : goal.returns-clause-rows
 returns-clause-rows c =
     let s : Seen = seen c.args.g.now.graph in
-    let left : ℕ → Bool = bit c.args.left.now in
+    let left : ℕ → Bool = is_in c.args.left.now in
     let ends : List End = c.outputs-output-items.result.now in
     let all : take c.loop-output.output-index ends ≡ c.args.g.now.graph.outputs = take_all c.loop-output.output-index ends (omega arith) ∙ c.outputs-output-items.ensures.value in
     all_ended c.args.g.now.graph left c.loop-output.rows.items c.outputs-output-items.ensures.valid c.requires

@@ -1,25 +1,51 @@
--- The neighbours that are marked.
-use Rattle.std.proofs.Common.{◌≡◌, ◌∙◌, ap, ltb, filter, List, ℕ, ◌&&◌}
-use Rattle.zx_model.specs.Bits.{bit, member, xor}
-use Rattle.zx_calculus.specs.Graph.{joined, neighbours, in_order, ids}
-use Rattle.zx_calculus.proofs.Ids.{Distinct-rising, member-filter}
-use Rattle.zx_calculus.proofs.Booleans.{and_comm}
-use Rattle.zx_calculus.proofs.Extensionality.{in_order-filter}
-use Rattle.flow_find.proofs.Passing.{member-neighbours}
+-- One neighbour more was looked at.
+use Rattle.std.proofs.Common.{◌≡◌, ◌∙◌, sym, ap, subst, ◌∷◌, ◌++◌, append-nil, ◌&&◌}
+use Rattle.zx_model.specs.Bits.{member}
+use Rattle.zx_calculus.specs.Graph.{neighbours, Distinct}
+use Rattle.zx_calculus.proofs.Booleans.{and-false}
+use Rattle.zx_calculus.proofs.Toggling.{member-neighbours, Distinct-neighbours}
+use Rattle.gflow_laws.specs.Flow.{is_in}
+use Rattle.open_graph.proofs.Walks.{next_some, next_none, next_all}
+use Rattle.flow_find.proofs.LeftNeighbours.{left_grown, left_same}
 use Rattle.flow_find.proofs.frontier.left_neighbours.Goals as goal
 
-pub toggle_all-requires : goal.toggle_all-requires
-toggle_all-requires c =
-    let near = filter (bit c.args.left.now) (neighbours c.args.g.now.graph c.args.u) in
-    let is : c.deref.result.now ≡ near = c.deref.ensures.value ∙ c.in_ok-near.ensures ∙ ap (filter (bit c.args.left.now)) c.neighbours.ensures.value in
-    Distinct-rising c.deref.result.now (ap (in_order ltb) is
-    ∙ in_order-filter (bit c.args.left.now) (neighbours c.args.g.now.graph c.args.u)
-    (in_order-filter (joined c.args.g.now.graph.edges c.args.u) (ids c.args.g.now.graph.vertices) c.neighbours.ensures.valid.vertices_rising))
+pub loop-w-init : goal.loop-w-init
+loop-w-init c = record {
+  all = c.into_iter-w-iterator.ensures.into_iter_gives ∙ c.neighbours-w-items.ensures.value;
+  so_far = λ p. ap (member p) c.new-set.ensures ∙ sym (and-false (is_in c.args.left.now p));
+}
+
+pub loop-w-preserved-in-Continue-1 : goal.loop-w-preserved-in-Continue-1
+loop-w-preserved-in-Continue-1 c =
+    let here = next_some c.next.result c.loop-w.w-iterator c.next.new.self c.in-Some.w c.next.ensures.steps c.in-Some.is in
+    let apart : Distinct (c.loop-w.yielded ++ c.in-Some.w ∷ c.next.new.self) =
+    subst Distinct (sym (ap (λ rest. c.loop-w.yielded ++ rest) (sym here) ∙ c.loop-w.invariant.all))
+    (Distinct-neighbours c.args.g.now.graph c.args.u c.neighbours-w-items.ensures.valid) in
+    record {
+      all = next_all c.loop-w.yielded c.loop-w.w-iterator c.next.new.self (neighbours c.args.g.now.graph c.args.u) c.in-Some.w
+          c.loop-w.invariant.all here;
+      so_far = left_grown (is_in c.args.left.now) c.loop-w.set c.loop-w.yielded c.next.new.self c.in-Some.w apart
+          c.loop-w.invariant.so_far (sym c.contains.ensures ∙ c.if-contains.true) c.toggle.new.self c.in_ok-toggle.ensures.ok;
+    }
+
+pub loop-w-preserved : goal.loop-w-preserved
+loop-w-preserved c =
+    let here = next_some c.next.result c.loop-w.w-iterator c.next.new.self c.in-Some.w c.next.ensures.steps c.in-Some.is in
+    let apart : Distinct (c.loop-w.yielded ++ c.in-Some.w ∷ c.next.new.self) =
+    subst Distinct (sym (ap (λ rest. c.loop-w.yielded ++ rest) (sym here) ∙ c.loop-w.invariant.all))
+    (Distinct-neighbours c.args.g.now.graph c.args.u c.neighbours-w-items.ensures.valid) in
+    record {
+      all = next_all c.loop-w.yielded c.loop-w.w-iterator c.next.new.self (neighbours c.args.g.now.graph c.args.u) c.in-Some.w
+          c.loop-w.invariant.all here;
+      so_far = left_same (is_in c.args.left.now) c.loop-w.set c.loop-w.yielded c.next.new.self c.in-Some.w apart
+          c.loop-w.invariant.so_far (sym c.contains.ensures ∙ c.if-contains.false);
+    }
 
 pub returns-clause-members : goal.returns-clause-members
-returns-clause-members c = λ w.
-    let is = c.deref.ensures.value ∙ c.in_ok-near.ensures ∙ ap (filter (bit c.args.left.now)) c.neighbours.ensures.value in
-    c.in_ok-toggle_all.ensures w ∙ ap (λ (l : List ℕ). xor (member w l) (member w c.deref.result.now)) c.new-set.ensures
-    ∙ ap (member w) is ∙ member-filter (bit c.args.left.now) (neighbours c.args.g.now.graph c.args.u) w
-    ∙ ap (λ b. b && bit c.args.left.now w) (member-neighbours c.args.g.now.graph c.args.u w c.neighbours.ensures.valid)
-    ∙ and_comm (joined c.args.g.now.graph.edges c.args.u w) (bit c.args.left.now w)
+returns-clause-members c = λ p.
+    let none = next_none c.next.result c.loop-w.w-iterator c.next.new.self c.next.ensures.steps c.in-None.is in
+    let whole : c.loop-w.yielded ≡ neighbours c.args.g.now.graph c.args.u =
+    sym (ap (λ rest. c.loop-w.yielded ++ rest) none ∙ append-nil c.loop-w.yielded) ∙ c.loop-w.invariant.all in
+    c.loop-w.invariant.so_far p
+    ∙ ap (λ b. is_in c.args.left.now p && b)
+    (ap (member p) whole ∙ member-neighbours c.args.g.now.graph c.args.u p c.neighbours-w-items.ensures.valid)

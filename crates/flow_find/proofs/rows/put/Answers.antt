@@ -1,7 +1,10 @@
 -- A row without columns.
 use Rattle.std.proofs.lemmas.Result.{on_ok_weaker}
-use Rattle.flow_find.proofs.Steps.{put_spent}
+use Rattle.flow_find.proofs.Steps.{put_spent, nothing_from_first}
 use Rattle.flow_find.proofs.rows.put.Goals as goal
+
+pub relieve-requires : goal.relieve-requires
+relieve-requires c = nothing_from_first c.args.row.columns c.in-None.ensures.first
 
 pub returns-in-None : goal.returns-in-None
 returns-in-None c =

@@ -1,7 +1,5 @@
 -- One more set is changed.
-use Rattle.std.proofs.Common.{◌≡◌, ◌∙◌, sym, ap, subst, ◌<◌, [], ◌∷◌, length, get_or, take, take_all, arith}
-use Rattle.zx_calculus.specs.Graph.{Distinct}
-use Rattle.zx_calculus.proofs.Ids.{Distinct-rising}
+use Rattle.std.proofs.Common.{◌≡◌, ◌∙◌, ap, subst, ◌<◌, [], ◌∷◌, length, get_or, take, take_all, arith}
 use Rattle.gflow_laws.specs.Seen.{seen}
 use Rattle.gflow_laws.specs.Flow.{order_of, set_of}
 use Rattle.gflow_laws.specs.Changes.{AreChanged, complement_change}
@@ -11,11 +9,6 @@ use Rattle.local_comp.proofs.complement.complement_sets.Goals as goal
 
 pub vertex_at-v-requires : goal.vertex_at-v-requires
 vertex_at-v-requires c = omega (arith, ap length c.order-i-end.ensures.value, ap length c.loop-i.invariant.order)
-
-pub complement_set-requires-clause-differ : goal.complement_set-requires-clause-differ
-complement_set-requires-clause-differ c =
-    subst Distinct (sym (c.deref.ensures.value ∙ c.in_ok-own.ensures.value))
-    (Distinct-rising (set_of c.args.f.now.flow c.args.u) c.in_ok-own.ensures.valid)
 
 pub loop-i-preserved : goal.loop-i-preserved
 loop-i-preserved c =
@@ -27,7 +20,7 @@ loop-i-preserved c =
     (c.vertex_at-v.ensures.value ∙ ap (λ order. get_or order c.loop-i.i 0) c.loop-i.invariant.order) c.loop-i.invariant
     (subst (λ own. AreChanged (complement_change s c.args.u own) (c.vertex_at-v.result ∷ []) c.loop-i.f.flow
     c.complement_set.new.self.flow)
-    (c.deref.ensures.value ∙ c.in_ok-own.ensures.value)
+    c.in_ok-own.ensures
     (c.in_ok-complement_set.ensures s c.changes_plane-changes.ensures c.odd_has-is_odd.ensures))
 
 pub returns : goal.returns

@@ -1,40 +1,56 @@
 -- One more neighbour is turned.
-use Rattle.std.proofs.Common.{◌∙◌, sym, ap, ◌<◌, length, get_or, take, arith}
-use Rattle.zx_calculus.specs.Graph.{neighbours}
+use Rattle.std.proofs.Common.{◌∙◌, sym, ap, ℕ, ◌+◌, Bool, inl, inr, Some, None, refl}
+use Rattle.zx_model.specs.Bits.{member}
+use Rattle.zx_calculus.specs.Graph.{Graph, joined, neighbours, WellFormed}
 use Rattle.zx_calculus.specs.Turns.{quarter_turned}
-use Rattle.zx_calculus.specs.Toggles.{changed_in}
-use Rattle.zx_calculus.proofs.Toggling.{Distinct-neighbours}
-use Rattle.zx_calculus.proofs.ChangedKinds.{changed_none, turned_next, turned_neighbours, turned_live}
+use Rattle.zx_calculus.specs.Edits.{at_vertex}
+use Rattle.zx_calculus.specs.Toggles.{with_changed}
+use Rattle.zx_calculus.proofs.Toggling.{member-neighbours}
+use Rattle.zx_calculus.proofs.ChangedKinds.{turned_live}
+use Rattle.zx_bits.specs.Rows.{IsFirstFrom}
+use Rattle.zx_flow.proofs.Walks.{below, changed_where, changed_below, walk_starts, walk_turns, walk_ends, walked_from, first_in}
 use Rattle.local_comp.proofs.neighbours.turn_neighbours.Goals as goal
 
-pub loop-i-init : goal.loop-i-init
-loop-i-init c =
-    record { turned = sym (changed_none quarter_turned c.args.g.now.graph); formed = c.neighbours-i-end.ensures.valid }
+pub turn-init : goal.turn-init
+turn-init c = record {
+  turned = sym (walk_starts (λ p. member p (neighbours c.args.g.now.graph c.args.u)) quarter_turned c.args.g.now.graph);
+  formed = inl refl;
+}
 
-pub neighbour-p-requires-clause-live : goal.neighbour-p-requires-clause-live
-neighbour-p-requires-clause-live c =
-    turned_live (changed_in (take c.loop-i.i (neighbours c.args.g.now.graph c.args.u)) quarter_turned)
-    c.args.g.now.graph
-    c.loop-i.g.graph c.args.u c.loop-i.invariant.turned c.requires
+pub neighbour_from-requires : goal.neighbour_from-requires
+neighbour_from-requires c =
+    let near : ℕ → Bool = λ p. member p (neighbours c.args.g.now.graph c.args.u) in
+    turned_live (changed_where (below near c.turn.start) quarter_turned) c.args.g.now.graph c.turn.g.graph c.args.u
+    c.turn.invariant.turned c.requires
 
-pub neighbour-p-requires-clause-within : goal.neighbour-p-requires-clause-within
-neighbour-p-requires-clause-within c =
-    let stays = turned_neighbours (changed_in (take c.loop-i.i (neighbours c.args.g.now.graph c.args.u)) quarter_turned)
-    c.args.g.now.graph c.loop-i.g.graph c.args.u c.loop-i.invariant.turned in
-    omega (arith, ap length stays, ap length c.neighbours-i-end.ensures.value)
-
-pub loop-i-preserved : goal.loop-i-preserved
-loop-i-preserved c =
-    let within : c.loop-i.i < length (neighbours c.args.g.now.graph c.args.u) =
-    omega (arith, ap length c.neighbours-i-end.ensures.value) in
+pub turn-preserved : goal.turn-preserved
+turn-preserved c =
+    let g : Graph = c.args.g.now.graph in
+    let near : ℕ → Bool = λ p. member p (neighbours g c.args.u) in
+    let formed : WellFormed g =
+    walked_from near quarter_turned g c.turn.g.graph c.turn.start c.turn.invariant.turned c.turn.invariant.formed
+    c.neighbour_from.ensures.valid in
+    let first : IsFirstFrom (joined g.edges c.args.u) c.turn.start (Some c.in-Some.p) =
+    first_in near quarter_turned g c.turn.g.graph c.args.u c.turn.start (Some c.in-Some.p) c.turn.invariant.turned
+    c.in-Some.ensures.first in
     record {
-      turned = turned_next quarter_turned c.args.g.now.graph c.loop-i.g.graph c.add_quarter.new.self.graph
-          (neighbours c.args.g.now.graph c.args.u) c.loop-i.i c.neighbour-p.result
-          (Distinct-neighbours c.args.g.now.graph c.args.u c.neighbours-i-end.ensures.valid) within
-          (c.neighbour-p.ensures.value
-          ∙ ap (λ near. get_or near c.loop-i.i 0)
-          (turned_neighbours (changed_in (take c.loop-i.i (neighbours c.args.g.now.graph c.args.u)) quarter_turned)
-          c.args.g.now.graph c.loop-i.g.graph c.args.u c.loop-i.invariant.turned))
-          c.loop-i.invariant.turned c.add_quarter.ensures.ok;
-      formed = c.add_quarter.ensures.valid;
+      turned = c.add_quarter.ensures.ok
+          ∙ ap (with_changed (at_vertex c.in-Some.p quarter_turned)) c.turn.invariant.turned
+          ∙ walk_turns (joined g.edges c.args.u) near (λ p out. member-neighbours g c.args.u p formed ∙ out)
+          quarter_turned g c.turn.start c.in-Some.p first (member-neighbours g c.args.u c.in-Some.p formed ∙ first.1)
+          ∙ ap (λ q. changed_below near quarter_turned (q + 1) g) (sym c.get-start.ensures);
+      formed = inr formed;
     }
+
+pub returns-clause-turned : goal.returns-clause-turned
+returns-clause-turned c =
+    let g : Graph = c.args.g.now.graph in
+    let near : ℕ → Bool = λ p. member p (neighbours g c.args.u) in
+    let formed : WellFormed g =
+    walked_from near quarter_turned g c.turn.g.graph c.turn.start c.turn.invariant.turned c.turn.invariant.formed
+    c.neighbour_from.ensures.valid in
+    c.turn.invariant.turned
+    ∙ walk_ends (joined g.edges c.args.u) near (λ p out. member-neighbours g c.args.u p formed ∙ out) quarter_turned g
+    c.turn.start
+    (first_in near quarter_turned g c.turn.g.graph c.args.u c.turn.start None c.turn.invariant.turned
+    c.in_default.ensures.first)

@@ -1,13 +1,17 @@
--- The neighbours so far are turned.
-use Rattle.std.proofs.Common.{◌≡◌, take}
+-- The neighbours below a number are turned.
+use Rattle.std.proofs.Common.{◌≡◌, ◌⊎◌, ◌-◌}
+use Rattle.zx_model.specs.Bits.{member}
 use Rattle.zx_calculus.specs.Graph.{neighbours, WellFormed}
 use Rattle.zx_calculus.specs.Turns.{quarter_turned}
-use Rattle.zx_calculus.specs.Toggles.{changed_in, with_changed}
+use Rattle.zx_flow.proofs.Walks.{changed_below}
 use Rattle.local_comp.proofs.neighbours.turn_neighbours.Given as goal
 
-abbrev pub invariant-loop-i : goal.invariant-loop-i
-invariant-loop-i l = record {
-  turned : l.g.graph ≡ with_changed (changed_in (take l.i (neighbours l.initial.g.graph l.u)) quarter_turned)
+abbrev pub invariant-turn : goal.invariant-turn
+invariant-turn l = record {
+  turned : l.g.graph ≡ changed_below (λ p. member p (neighbours l.initial.g.graph l.u)) quarter_turned l.start
       l.initial.g.graph;
-  formed : WellFormed l.g.graph;
+  formed : (l.start ≡ 0) ⊎ WellFormed l.initial.g.graph;
 }
+
+abbrev pub decreases-turn : goal.decreases-turn
+decreases-turn l = 18446744073709551615 - l.start

@@ -1,9 +1,11 @@
 -- The rows so far are toggled.
-use Rattle.std.proofs.Common.{◌&&◌, eqb, take}
+use Rattle.std.proofs.Common.{◌≡◌, ◌++◌, ◌&&◌, eqb}
 use Rattle.zx_model.specs.Bits.{xor, member}
 use Rattle.open_graph.specs.Internal.Changes.{RowsToggled}
 use Rattle.open_graph.proofs.slots.toggle_among.Given as goal
 
 abbrev pub invariant-loop-p : goal.invariant-loop-p
-invariant-loop-p l =
-    RowsToggled l.initial.slots.slots l.slots.slots (λ p q. member p (take l.p-index l.near) && xor (member q l.near) (eqb q p))
+invariant-loop-p l = record {
+  all : l.yielded ++ l.p-iterator ≡ l.near;
+  toggled : RowsToggled l.initial.slots.slots l.slots.slots (λ p q. member p l.yielded && xor (member q l.near) (eqb q p));
+}

@@ -1,16 +1,23 @@
 -- One row more is toggled.
-use Rattle.std.proofs.Common.{add-one}
-use Rattle.open_graph.proofs.Removing.{member-item}
+use Rattle.zx_model.specs.Bits.{member}
+use Rattle.zx_calculus.proofs.Ids.{Distinct-rising}
+use Rattle.open_graph.proofs.Walks.{next_some, next_there, next_all, member-toggled}
 use Rattle.open_graph.proofs.RowToggles.{still_there, rows_next}
 use Rattle.open_graph.proofs.slots.toggle_rows.Goals as goal
 
-pub toggle_row-requires-clause-live : goal.toggle_row-requires-clause-live
-toggle_row-requires-clause-live c =
-    still_there c.args.slots.now.slots c.loop-u.slots.slots _ c.u-item.result c.loop-u.invariant
-    (c.requires.live c.u-item.result (member-item c.args.vertices.now c.loop-u.u-index c.u-item.result c.loop-u-test.true c.u-item.is))
+pub toggle_row-requires : goal.toggle_row-requires
+toggle_row-requires c =
+    still_there c.args.slots.now.slots c.loop-u.slots.slots _ c.in-Some.u c.loop-u.invariant.toggled
+    (c.requires c.in-Some.u (next_there c.loop-u.yielded c.loop-u.u-iterator c.next.new.self c.args.vertices.now c.in-Some.u c.loop-u.invariant.all
+    (next_some c.next.result c.loop-u.u-iterator c.next.new.self c.in-Some.u c.next.ensures.steps c.in-Some.is)))
 
 pub loop-u-preserved : goal.loop-u-preserved
 loop-u-preserved c =
-    rw add-one
-    (rows_next c.args.slots.now.slots c.loop-u.slots.slots c.toggle_row.new.slots.slots c.args.vertices.now c.args.others.now c.loop-u.u-index c.u-item.result
-    c.requires.distinct c.loop-u-test.true c.u-item.is c.loop-u.invariant c.in_ok-toggle_row.ensures)
+    let more = next_some c.next.result c.loop-u.u-iterator c.next.new.self c.in-Some.u c.next.ensures.steps c.in-Some.is in
+    record {
+      all = next_all c.loop-u.yielded c.loop-u.u-iterator c.next.new.self c.args.vertices.now c.in-Some.u c.loop-u.invariant.all more;
+      toggled = rows_next c.args.slots.now.slots c.loop-u.slots.slots c.toggle_row.new.slots.slots _ _ (λ p q. member q c.args.others.now) c.in-Some.u
+          (λ p. member-toggled c.loop-u.yielded c.loop-u.u-iterator c.next.new.self c.args.vertices.now c.in-Some.u p
+          (Distinct-rising c.args.vertices.now c.iter-u-items.ensures.rising) c.loop-u.invariant.all more)
+          c.loop-u.invariant.toggled c.in_ok-toggle_row.ensures;
+    }

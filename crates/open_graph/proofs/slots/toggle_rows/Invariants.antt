@@ -1,9 +1,11 @@
 -- The rows so far are toggled.
-use Rattle.std.proofs.Common.{◌&&◌, take}
+use Rattle.std.proofs.Common.{◌≡◌, ◌++◌, ◌&&◌}
 use Rattle.zx_model.specs.Bits.{member}
 use Rattle.open_graph.specs.Internal.Changes.{RowsToggled}
 use Rattle.open_graph.proofs.slots.toggle_rows.Given as goal
 
 abbrev pub invariant-loop-u : goal.invariant-loop-u
-invariant-loop-u l =
-    RowsToggled l.initial.slots.slots l.slots.slots (λ p q. member p (take l.u-index l.vertices) && member q l.others)
+invariant-loop-u l = record {
+  all : l.yielded ++ l.u-iterator ≡ l.vertices;
+  toggled : RowsToggled l.initial.slots.slots l.slots.slots (λ p q. member p l.yielded && member q l.others);
+}

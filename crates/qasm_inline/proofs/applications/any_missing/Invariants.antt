@@ -1,9 +1,11 @@
 use Rattle.std.proofs.Common.{◌≡◌, map, drop}
 use Rattle.std.specs.List.{list_any}
 use Rattle.qasm_reader.specs.Views.{operand}
-use Rattle.qasm_inline.specs.Internal.Spans.{is_missing}
+use Rattle.qasm_inline.specs.Internal.Spans.{IsLastRegister, is_missing}
 use Rattle.qasm_inline.proofs.applications.any_missing.Given as goal
 
 abbrev pub invariant-loop-argument : goal.invariant-loop-argument
-invariant-loop-argument l =
-    list_any (is_missing l.names.symbols) (map operand l.arguments) ≡ list_any (is_missing l.names.symbols) (map operand (drop l.argument-index l.arguments))
+invariant-loop-argument l = record {
+  last : IsLastRegister l.names.symbols l.last;
+  missing : list_any (is_missing l.names.symbols) (map operand l.arguments) ≡ list_any (is_missing l.names.symbols) (map operand (drop l.argument-index l.arguments));
+}

@@ -6,20 +6,21 @@ use Rattle.qasm_names.proofs.PlaceLemmas.{any-either, any-next, map-map-more}
 use Rattle.qasm_names.proofs.Tests.{any_or}
 use Rattle.qasm_inline.proofs.applications.spans.Goals as goal
 
-pub returns-in_default-clause-none : goal.returns-in_default-clause-none
-returns-in_default-clause-none c =
+pub returns-in_default-argument_span-clause-none : goal.returns-in_default-argument_span-clause-none
+returns-in_default-argument_span-clause-none c =
     let symbols = c.args.names.now.symbols in
     any_or (no_register_by symbols) (past_by symbols) (map operand c.args.arguments.now)
     ∙ ap₂ ◌||◌ c.loop-argument.invariant.registers c.loop-argument.invariant.within
-    ∙ any-either (no_register_by symbols) (past_by symbols) operand c.args.arguments.now c.loop-argument.argument-index _ c.loop-argument-test.true c.in_default.ensures.none
+    ∙ any-either (no_register_by symbols) (past_by symbols) operand c.args.arguments.now c.loop-argument.argument-index _ c.loop-argument-test.true c.in_default-argument_span.ensures.none
 
 pub loop-argument-preserved : goal.loop-argument-preserved
 loop-argument-preserved c =
     let symbols = c.args.names.now.symbols in
-    let span = c.in-Some.ensures.some in
-    let pushed : c.push.new.self.items ≡ c.loop-argument.spans.items ++ c.in-Some.span ∷ [] = search rules in
+    let span = c.in-Some-argument_span.ensures.some in
+    let pushed : c.push.new.self.items ≡ c.loop-argument.spans.items ++ c.in-Some-argument_span.span ∷ [] = search rules in
     record {
-      done = ap (map span_range) pushed ∙ map-append span_range c.loop-argument.spans.items (c.in-Some.span ∷ [])
+      last = c.argument_span.ensures.last;
+      done = ap (map span_range) pushed ∙ map-append span_range c.loop-argument.spans.items (c.in-Some-argument_span.span ∷ [])
           ∙ ap₂ (λ ranges t. ranges ++ t ∷ []) c.loop-argument.invariant.done span.same
           ∙ sym (map-map-more (span_by symbols) operand c.args.arguments.now c.loop-argument.argument-index _ c.loop-argument-test.true);
       registers = c.loop-argument.invariant.registers

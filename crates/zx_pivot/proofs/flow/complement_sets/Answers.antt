@@ -1,7 +1,5 @@
 -- One more set is changed.
 use Rattle.std.proofs.Common.{◌≡◌, ◌∙◌, sym, ap, subst, ◌<◌, [], ◌∷◌, length, get_or, take, take_all, arith}
-use Rattle.zx_calculus.specs.Graph.{Distinct}
-use Rattle.zx_calculus.proofs.Ids.{Distinct-rising}
 use Rattle.gflow_laws.specs.Seen.{seen}
 use Rattle.gflow_laws.specs.Flow.{order_of, set_of}
 use Rattle.gflow_laws.specs.Correcting.{odd_in}
@@ -16,11 +14,6 @@ use Rattle.zx_pivot.proofs.flow.complement_sets.Goals as goal
 pub vertex_at-x-requires : goal.vertex_at-x-requires
 vertex_at-x-requires c = omega (arith, ap length c.order-i-end.ensures.value, ap length c.loop-i.invariant.order)
 
-pub complement_set-requires-clause-differ : goal.complement_set-requires-clause-differ
-complement_set-requires-clause-differ c =
-    subst Distinct (sym (c.deref.ensures.value ∙ c.in_ok-own.ensures.value))
-    (Distinct-rising (set_of c.args.f.now.flow c.args.u) c.in_ok-own.ensures.valid)
-
 pub loop-i-preserved : goal.loop-i-preserved
 loop-i-preserved c =
     let g = c.args.g.now.graph in
@@ -31,7 +24,7 @@ loop-i-preserved c =
     c.loop-i.f.flow c.complement_set.new.self.flow c.order-i-end.ensures.valid within
     (c.vertex_at-x.ensures.value ∙ ap (λ order. get_or order c.loop-i.i 0) c.loop-i.invariant.order) c.loop-i.invariant
     (subst (λ set. AreChanged (complement_change s c.args.u set) (c.vertex_at-x.result ∷ []) c.loop-i.f.flow c.complement_set.new.self.flow)
-    (c.deref.ensures.value ∙ c.in_ok-own.ensures.value)
+    c.in_ok-own.ensures
     (c.in_ok-complement_set.ensures s
     (c.changes_plane-changes.ensures.value
     ∙ ap odd_in (sym (plane_of_view (seen g) c.args.u c.args.w (Simple-seen g c.changes_plane-changes.ensures.valid)

@@ -1,13 +1,17 @@
--- The common ones among the neighbours so far are turned.
-use Rattle.std.proofs.Common.{◌≡◌, take}
+-- The common neighbours below a number are turned.
+use Rattle.std.proofs.Common.{◌≡◌, ◌⊎◌, ◌-◌, ◌&&◌}
+use Rattle.zx_model.specs.Bits.{member}
 use Rattle.zx_calculus.specs.Graph.{joined, neighbours, WellFormed}
-use Rattle.zx_calculus.specs.Toggles.{with_changed}
-use Rattle.zx_pivot.specs.Internal.Changes.{half_turned_in}
+use Rattle.zx_calculus.specs.Turns.{half_turned}
+use Rattle.zx_flow.proofs.Walks.{changed_below}
 use Rattle.zx_pivot.proofs.graph.turn_common.Given as goal
 
-abbrev pub invariant-loop-i : goal.invariant-loop-i
-invariant-loop-i l = record {
-  turned : let near = neighbours l.initial.g.graph l.u in
-      l.g.graph ≡ with_changed (half_turned_in (take l.i near) (joined l.initial.g.graph.edges l.v)) l.initial.g.graph;
-  formed : WellFormed l.g.graph;
+abbrev pub invariant-turn : goal.invariant-turn
+invariant-turn l = record {
+  turned : let g = l.initial.g.graph in
+      l.g.graph ≡ changed_below (λ p. member p (neighbours g l.u) && joined g.edges l.v p) half_turned l.start g;
+  formed : (l.start ≡ 0) ⊎ WellFormed l.initial.g.graph;
 }
+
+abbrev pub decreases-turn : goal.decreases-turn
+decreases-turn l = 18446744073709551615 - l.start

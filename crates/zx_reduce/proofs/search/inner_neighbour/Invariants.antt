@@ -1,5 +1,5 @@
 -- The best of the neighbours so far.
-use Rattle.std.proofs.Common.{◌≡◌, ℕ, true, false, take, IfSome, IfNone}
+use Rattle.std.proofs.Common.{◌≡◌, ◌++◌, ℕ, true, false, IfSome, IfNone}
 use Rattle.zx_model.specs.Bits.{member}
 use Rattle.zx_calculus.specs.Graph.{neighbours}
 use Rattle.zx_calculus.specs.Complements.{may_complement}
@@ -7,7 +7,7 @@ use Rattle.zx_reduce.proofs.search.inner_neighbour.Given as goal
 
 abbrev pub invariant-loop-v : goal.invariant-loop-v
 invariant-loop-v l = record {
-  items : l.v-items ≡ neighbours l.g.graph l.fn.u;
+  all : l.yielded ++ l.v-iterator ≡ neighbours l.g.graph l.fn.u;
   some : IfSome l.best (λ v. (member v (neighbours l.g.graph l.fn.u) ≡ true) × (may_complement l.g.graph v ≡ true));
-  none : IfNone l.best ((v : ℕ) → member v (take l.v-index l.v-items) ≡ true → may_complement l.g.graph v ≡ false);
+  none : IfNone l.best ((v : ℕ) → member v l.yielded ≡ true → may_complement l.g.graph v ≡ false);
 }

@@ -3,7 +3,7 @@ use Rattle.std.proofs.Common.{arith}
 use Rattle.zx_calculus.specs.Graph.{ids}
 use Rattle.zx_reduce.specs.Internal.Searching.{NoneBefore}
 use Rattle.zx_reduce.proofs.SearchKinds.{best_is_first, no_best}
-use Rattle.zx_reduce.proofs.SearchWalks.{next_some, next_none, next_there, next_all, next_passed, all_passed}
+use Rattle.open_graph.proofs.Walks.{next_some, next_none, next_all, next_there, next_passed, all_passed}
 use Rattle.zx_reduce.proofs.search.next_move.Goals.{in-Some-first_at, in_default}
 use Rattle.zx_reduce.proofs.search.next_move.Goals as goal
 

@@ -1,6 +1,5 @@
 -- A neighbour is a vertex.
-use Rattle.std.proofs.Common.{◌∙◌, sym, ap}
-use Rattle.zx_model.specs.Bits.{member}
+use Rattle.std.proofs.Common.{◌∙◌, sym}
 use Rattle.zx_calculus.proofs.Toggling.{member-neighbours, neighbour_live}
 use Rattle.open_graph.proofs.open_graph.OpenGraph.neighbour_set.Goals as goal
 
@@ -8,4 +7,4 @@ pub returns-clause-live : goal.returns-clause-live
 returns-clause-live c p there =
     neighbour_live c.args.self.now.graph c.args.v p
     (member-neighbours c.args.self.now.graph c.args.v p c.slot.ensures.well_formed ∙ sym (c.slot.ensures.joined p)
-    ∙ ap (member p) (sym c.in_ok-row.ensures.cases) ∙ there)
+    ∙ there)

@@ -1,4 +1,4 @@
-use Rattle.std.proofs.Common.{◌≡◌, sym, ◌∙◌, ap, ltb, List, ℕ, length}
+use Rattle.std.proofs.Common.{sym, ◌∙◌, ap, ltb, List, ℕ, length}
 use Rattle.std.specs.Prelude.{count_by}
 use Rattle.zx_calculus.specs.Graph.{in_order}
 use Rattle.gflow_laws.specs.Flow.{Correction, is_in}
@@ -9,8 +9,9 @@ use Rattle.zx_extract.proofs.holders.Holders.count.Goals as goal
 pub returns : goal.returns
 returns c =
     let held = c.self.inside.held.items in
-    let found : c.sets_with.result.now ≡ sets_with held c.args.s = c.sets_with.ensures.value
-    ∙ ap (λ (l : List (List ℕ)). sets_with l c.args.s) c.deref.ensures.value in
-    ap length found ∙ count_held held c.args.s c.self.inside.order.items (ap (in_order ltb) (sym found)
-    ∙ c.sets_with.ensures.rising) c.self.invariant
+    let same = c.deref.ensures.value in
+    c.count_with.ensures.value ∙ ap (λ (l : List (List ℕ)). length (sets_with l c.args.s)) same
+    ∙ count_held held c.args.s c.self.inside.order.items
+    (sym (ap (λ (l : List (List ℕ)). in_order ltb (sets_with l c.args.s)) same) ∙ c.count_with.ensures.rising)
+    c.self.invariant
     ∙ ap (λ (h : Holders). count_by (λ (e : Correction). is_in e.members c.args.s) h.flow) c.self.view_is

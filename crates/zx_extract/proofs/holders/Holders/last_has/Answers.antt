@@ -1,4 +1,4 @@
-use Rattle.std.proofs.Common.{◌≡◌, ◌∙◌, ap, List, ℕ, ◌-◌, length}
+use Rattle.std.proofs.Common.{◌∙◌, ap, List, ℕ, ◌-◌, length}
 use Rattle.std.specs.Prelude.{slice_get}
 use Rattle.zx_extract.specs.Internal.Holders.{Holders, holds}
 use Rattle.zx_extract.proofs.HoldersTurning.{last_told, last_absent}

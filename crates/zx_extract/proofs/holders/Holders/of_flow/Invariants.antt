@@ -1,5 +1,4 @@
 use Rattle.std.proofs.Common.{take}
-use Rattle.gflow_laws.specs.Flow.{order_of}
 use Rattle.zx_extract.proofs.HoldersTurning.{IsTurned}
 use Rattle.zx_extract.proofs.holders.Holders.of_flow.Given as goal
 

@@ -10,7 +10,7 @@ returns-then-has c =
     on_ok c.toggle.result
     (λ same. member_cleared c.args.u c.args.v c.args.own.now c.args.self.now.flow c.toggle.new.self.flow
     (sym c.has.ensures ∙ c.if-has.true)
-    (IsToggledAt-list c.args.v c.args.own.now c.args.self.now.flow c.toggle.new.self.flow c.requires.there same))
+    (IsToggledAt-list c.args.v c.args.own.now c.args.self.now.flow c.toggle.new.self.flow c.requires same))
     c.toggle.ensures.ok
 
 pub returns-else-has : goal.returns-else-has

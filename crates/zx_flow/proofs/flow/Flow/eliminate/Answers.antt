@@ -1,7 +1,5 @@
 -- One more set is cleared.
-use Rattle.std.proofs.Common.{◌≡◌, ◌∙◌, sym, ap, subst, ◌<◌, List, [], ◌∷◌, length, get_or, take, take_all, arith}
-use Rattle.zx_calculus.specs.Graph.{Distinct}
-use Rattle.zx_calculus.proofs.Ids.{Distinct-rising}
+use Rattle.std.proofs.Common.{◌≡◌, ◌∙◌, ap, subst, ◌<◌, List, [], ◌∷◌, length, get_or, take, take_all, arith}
 use Rattle.gflow_laws.specs.Flow.{Correction, order_of, set_of}
 use Rattle.gflow_laws.specs.Changes.{AreChanged, removal_change}
 use Rattle.gflow_laws.proofs.SetChanges.{changed_grows}
@@ -10,11 +8,6 @@ use Rattle.zx_flow.proofs.flow.Flow.eliminate.Goals as goal
 
 pub vertex_at-v-requires : goal.vertex_at-v-requires
 vertex_at-v-requires c = omega (arith, ap length c.order-i-end.ensures.value, ap length c.loop-i.invariant.order)
-
-pub clear-requires-clause-differ : goal.clear-requires-clause-differ
-clear-requires-clause-differ c =
-    subst Distinct (sym (c.deref.ensures.value ∙ c.in_ok-own.ensures.value))
-    (Distinct-rising (set_of c.args.self.now.flow c.args.u) c.in_ok-own.ensures.valid)
 
 pub loop-i-preserved : goal.loop-i-preserved
 loop-i-preserved c =
@@ -25,7 +18,7 @@ loop-i-preserved c =
     c.order-i-end.ensures.valid within
     (c.vertex_at-v.ensures.value ∙ ap (λ order. get_or order c.loop-i.i 0) c.loop-i.invariant.order) c.loop-i.invariant
     (subst (λ own. AreChanged (removal_change c.args.u own) (c.vertex_at-v.result ∷ []) c.loop-i.self.flow
-    c.clear.new.self.flow) (c.deref.ensures.value ∙ c.in_ok-own.ensures.value) c.in_ok-clear.ensures)
+    c.clear.new.self.flow) c.in_ok-own.ensures c.in_ok-clear.ensures)
 
 pub returns : goal.returns
 returns c =

@@ -1,7 +1,7 @@
 -- One vertex more, and all at the end.
 use Rattle.zx_calculus.specs.Graph.{ids}
 use Rattle.zx_reduce.specs.Internal.Guiding.{IsListed, candidate_at}
-use Rattle.zx_reduce.proofs.SearchWalks.{next_some, next_all, next_passed}
+use Rattle.open_graph.proofs.Walks.{next_some, next_all, next_passed}
 use Rattle.zx_reduce.proofs.candidates.Candidates.of_graph.Goals as goal
 
 pub loop-u-preserved : goal.loop-u-preserved

@@ -2,7 +2,7 @@
 use Rattle.std.proofs.Common.{take, add-one}
 use Rattle.flow_find.proofs.Orders.{is_place}
 use Rattle.zx_reduce.specs.Internal.Guiding.{IsListed, candidate_at}
-use Rattle.zx_reduce.proofs.SearchWalks.{next_passed}
+use Rattle.open_graph.proofs.Walks.{next_passed}
 use Rattle.zx_reduce.proofs.candidates.Candidates.touch_all.Goals as goal
 
 pub loop-v-preserved : goal.loop-v-preserved
