@@ -3,7 +3,7 @@ use Rattle.std.proofs.Common.{◌≡◌, ◌≢◌, refl, sym, ◌∙◌, ap, ap
 use Rattle.std.specs.Prelude.{slice_get}
 use Rattle.zx_model.specs.Bits.{xor, member}
 use Rattle.zx_calculus.specs.Graph.{XY, Plane, Kind, End, Graph, ids, kind_of, plane_of, joined, end_vertices, with_kinds, insert_vertex, Live, OrderedEdges, WellFormed}
-use Rattle.zx_calculus.specs.Splits.{spider_of_phase_zero}
+use Rattle.zx_calculus.specs.Splits.{spider_of_phase_zero, least_free}
 use Rattle.zx_calculus.specs.Edits.{is_pair, IsToggle, at_vertex}
 use Rattle.zx_calculus.specs.Turns.{in_plane, with_phase_added}
 use Rattle.zx_calculus.specs.Worked.{plain}
@@ -20,8 +20,10 @@ use Rattle.gflow_laws.proofs.Flows.{Flows-from}
 use Rattle.gflow_laws.proofs.Tables.{unlisted}
 use Rattle.circuit_laws.specs.Peeling.{HasPlainOutput}
 use Rattle.circuit_laws.proofs.Places.{member-places, output_there, one_place, absent-remove}
-use Rattle.circuit_graph.proofs.Beginning.{one_more_wire}
-use Rattle.circuit_graph.specs.Internal.Runs.{State, IsReady, IsBegun, IsSpiderStep, IsPhaseStep, IsToggleStep}
+use Rattle.circuit_graph.specs.Translation.{wires}
+use Rattle.circuit_graph.proofs.Gates.{least_is}
+use Rattle.circuit_graph.proofs.Beginning.{at_both, next_is, one_more_wire}
+use Rattle.circuit_graph.specs.Internal.Runs.{State, IsReady, IsSpiderStep, IsPhaseStep, IsToggleStep}
 
 pub here_live : (g : Graph) (q u : ℕ) → WellFormed g → HasPlainOutput g q u → Live g u
 here_live g q u w h = output_there g q (plain u) w h
@@ -34,30 +36,56 @@ pair_absent true a b true d f g = absurd (true≢false (g refl))
 pair_absent true true false false d f g = refl
 pair_absent true false false false d f g = refl
 
+-- ---- a vertex is added
+module _ (s : Graph) (v phase : ℕ) (g : Graph) (fresh : member v (ids s.vertices) ≡ false) (zero_phase : phase ≡ 0)
+    (added : g ≡ record { vertices = insert_vertex (record { id = v; kind = in_plane XY phase }) s.vertices; edges = s.edges; inputs = s.inputs; outputs = s.outputs }) where
+  vertices_are : g.vertices ≡ insert_vertex (spider_of_phase_zero v) s.vertices
+  vertices_are = ap (λ (h : Graph). h.vertices) added ∙ ap (λ k. insert_vertex (record { id = v; kind = in_plane XY k }) s.vertices) zero_phase
+
+  member_is : (p : ℕ) → member p (ids g.vertices) ≡ (eqb p v || member p (ids s.vertices))
+  member_is p = ap (λ vs. member p (ids vs)) vertices_are ∙ member-insert p (spider_of_phase_zero v) s.vertices
+
+  pub new_live : Live g v
+  new_live = member_is v ∙ ap (λ b. b || member v (ids s.vertices)) (eqb-self v)
+
+  pub new_plane : plane_of g v ≡ XY
+  new_plane = ap (λ vs. (kind_of vs v).plane) vertices_are ∙ ap (λ (k : Kind). k.plane) (kind_of-insert (spider_of_phase_zero v) s.vertices fresh)
+
+  -- to wires
+  pub new_free : (n : ℕ) → s ≡ wires n → (member v (end_vertices g.inputs) ≡ false) × (member v (end_vertices g.outputs) ≡ false)
+  new_free n e = (
+    ap (λ (h : Graph). member v (end_vertices h.inputs)) added ∙ ap (λ (h : Graph). member v (end_vertices h.inputs)) e ∙ none,
+    ap (λ (h : Graph). member v (end_vertices h.outputs)) added ∙ ap (λ (h : Graph). member v (end_vertices h.outputs)) e ∙ none,
+  )
+    where
+      none : member v (end_vertices (wires n).inputs) ≡ false
+      none = sym (at_both n v) ∙ ap (λ (h : Graph). member v (ids h.vertices)) (sym e) ∙ fresh
+
+  pub wires_more : (n : ℕ) → s ≡ wires n → WellFormed s → v ≡ least_free (ids s.vertices) → (end : End) (with_input h : Graph) → end ≡ plain v →
+      with_input ≡ record { vertices = g.vertices; edges = g.edges; inputs = g.inputs ++ end ∷ []; outputs = g.outputs } →
+      h ≡ record { vertices = with_input.vertices; edges = with_input.edges; inputs = with_input.inputs; outputs = with_input.outputs ++ end ∷ [] } → h ≡ wires (n + 1)
+  wires_more n e w least end with_input h same with_i with_o =
+      with_o
+      ∙ ap (λ (k : Graph). record { vertices = k.vertices; edges = k.edges; inputs = k.inputs; outputs = k.outputs ++ end ∷ [] }) with_i
+      ∙ ap (λ (k : Graph). record { vertices = k.vertices; edges = k.edges; inputs = k.inputs ++ end ∷ []; outputs = k.outputs ++ end ∷ [] }) added
+      ∙ ap₂ (λ k f. record { vertices = insert_vertex (record { id = v; kind = in_plane XY k }) s.vertices; edges = s.edges; inputs = s.inputs ++ f ∷ []; outputs = s.outputs ++ f ∷ [] }) zero_phase same
+      ∙ one_more_wire n s v e (next_is n s v e w least)
+
 -- ---- H: a vertex is added, joined to the present spider, and takes the output over
 module _ (s : State) (q here next phase : ℕ) (g : Graph) (r : IsReady s) (output : HasPlainOutput s.graph q here) (fresh : member next (ids s.graph.vertices) ≡ false)
     (zero_phase : phase ≡ 0) (added : g ≡ record { vertices = insert_vertex (record { id = next; kind = in_plane XY phase }) s.graph.vertices; edges = s.graph.edges; inputs = s.graph.inputs; outputs = s.graph.outputs }) where
-  vertices_are : g.vertices ≡ insert_vertex (spider_of_phase_zero next) s.graph.vertices
-  vertices_are = ap (λ (h : Graph). h.vertices) added ∙ ap (λ k. insert_vertex (record { id = next; kind = in_plane XY k }) s.graph.vertices) zero_phase
-
-  member_is : (p : ℕ) → member p (ids g.vertices) ≡ (eqb p next || member p (ids s.graph.vertices))
-  member_is p = ap (λ vs. member p (ids vs)) vertices_are ∙ member-insert p (spider_of_phase_zero next) s.graph.vertices
-
   pub here_still_live : Live g here
-  here_still_live = member_is here ∙ ap (λ b. eqb here next || b) (here_live s.graph q here r.well_formed output) ∙ or-true (eqb here next)
-
-  pub next_live : Live g next
-  next_live = member_is next ∙ ap (λ b. b || member next (ids s.graph.vertices)) (eqb-self next)
+  here_still_live = member_is s.graph next phase g fresh zero_phase added here ∙ ap (λ b. eqb here next || b) (here_live s.graph q here r.well_formed output) ∙ or-true (eqb here next)
 
   pub here_apart : here ≢ next
   here_apart = apart_of_member here next (ids s.graph.vertices) (here_live s.graph q here r.well_formed output) fresh
 
   module _ (h : Graph) (toggle : IsToggle g here next h) where
     pub next_still_live : Live h next
-    next_still_live = ap (λ vs. member next (ids vs)) toggle.vertices ∙ next_live
+    next_still_live = ap (λ vs. member next (ids vs)) toggle.vertices ∙ new_live s.graph next phase g fresh zero_phase added
 
     pub next_plane : plane_of h next ≡ XY
-    next_plane = ap (λ vs. (kind_of vs next).plane) (toggle.vertices ∙ vertices_are) ∙ ap (λ (k : Kind). k.plane) (kind_of-insert (spider_of_phase_zero next) s.graph.vertices fresh)
+    next_plane = ap (λ vs. (kind_of vs next).plane) toggle.vertices ∙ new_plane s.graph next phase g fresh zero_phase added
 
     outputs_are : h.outputs ≡ s.graph.outputs
     outputs_are = toggle.frame.outputs ∙ ap (λ (h : Graph). h.outputs) added
@@ -69,21 +97,22 @@ module _ (s : State) (q here next phase : ℕ) (g : Graph) (r : IsReady s) (outp
     pub here_uncorrected : member here (order_of s.table) ≡ false
     here_uncorrected = unlisted (seen s.graph) s.table (Flows-from (seen s.graph) s.table r.flow) here (member-places s.graph.outputs q (plain here) output)
 
-    pub spider_step : (t : State) → t.graph ≡ record { vertices = h.vertices; edges = h.edges; inputs = h.inputs; outputs = set h.outputs q (plain next) } →
+    pub spider_step : (t : State) → next ≡ least_free (ids s.graph.vertices) → t.graph ≡ record { vertices = h.vertices; edges = h.edges; inputs = h.inputs; outputs = set h.outputs q (plain next) } →
         SameSets t.table (split_output_table here next s.table) → IsSpiderStep s q t
-    spider_step t moved same = record {
+    spider_step t least moved same = record {
       peel = record {
         spider = next;
         next = here;
         fresh = fresh;
         output = output;
-        vertices = ap (λ (h : Graph). h.vertices) moved ∙ toggle.vertices ∙ vertices_are;
+        vertices = ap (λ (h : Graph). h.vertices) moved ∙ toggle.vertices ∙ vertices_are s.graph next phase g fresh zero_phase added;
         ordered = subst (λ (h : Graph). OrderedEdges (ids h.vertices) h.edges) (sym moved) toggle.frame.ordered;
         ordered_too = r.well_formed.edges;
         edges = λ p v. ap (λ (h : Graph). joined h.edges p v) moved ∙ toggle.edges p v ∙ ap (λ (h : Graph). xor (joined h.edges p v) (is_pair here next p v)) added ∙ sym (or-apart (joined s.graph.edges p v) (is_pair here next p v) (none p v));
         inputs = ap (λ (h : Graph). h.inputs) moved ∙ toggle.frame.inputs ∙ ap (λ (h : Graph). h.inputs) added;
         outputs = ap (λ (h : Graph). h.outputs) moved ∙ ap (λ es. set es q (plain next)) outputs_are;
       };
+      id = least ∙ least_is s.graph r.well_formed r.numbered;
       table = same;
     }
       where
@@ -133,26 +162,3 @@ toggle_step s p q u v t r h i n toggle same = record {
   };
   table = same;
 }
-
--- ---- wires without gates: a vertex takes an input and an output
-module _ (n : ℕ) (s : Graph) (v phase : ℕ) (g : Graph) (b : IsBegun n s) (fresh : member v (ids s.vertices) ≡ false)
-    (zero_phase : phase ≡ 0) (added : g ≡ record { vertices = insert_vertex (record { id = v; kind = in_plane XY phase }) s.vertices; edges = s.edges; inputs = s.inputs; outputs = s.outputs }) where
-  inserted : g.vertices ≡ insert_vertex (spider_of_phase_zero v) s.vertices
-  inserted = ap (λ (h : Graph). h.vertices) added ∙ ap (λ k. insert_vertex (record { id = v; kind = in_plane XY k }) s.vertices) zero_phase
-
-  pub new_live : Live g v
-  new_live = ap (λ vs. member v (ids vs)) inserted ∙ member-insert v (spider_of_phase_zero v) s.vertices ∙ ap (λ c. c || member v (ids s.vertices)) (eqb-self v)
-
-  pub new_plane : plane_of g v ≡ XY
-  new_plane = ap (λ vs. (kind_of vs v).plane) inserted ∙ ap (λ (k : Kind). k.plane) (kind_of-insert (spider_of_phase_zero v) s.vertices fresh)
-
-  pub begun_more : (end : End) (with_input h : Graph) → end ≡ plain v →
-      with_input ≡ record { vertices = g.vertices; edges = g.edges; inputs = g.inputs ++ end ∷ []; outputs = g.outputs } →
-      h ≡ record { vertices = with_input.vertices; edges = with_input.edges; inputs = with_input.inputs; outputs = with_input.outputs ++ end ∷ [] } → IsBegun (n + 1) h
-  begun_more end with_input h same with_i with_o =
-      subst (IsBegun (n + 1))
-      (sym (with_o
-      ∙ ap (λ (k : Graph). record { vertices = k.vertices; edges = k.edges; inputs = k.inputs; outputs = k.outputs ++ end ∷ [] }) with_i
-      ∙ ap (λ (k : Graph). record { vertices = k.vertices; edges = k.edges; inputs = k.inputs ++ end ∷ []; outputs = k.outputs ++ end ∷ [] }) added
-      ∙ ap₂ (λ k e. record { vertices = insert_vertex (record { id = v; kind = in_plane XY k }) s.vertices; edges = s.edges; inputs = s.inputs ++ e ∷ []; outputs = s.outputs ++ e ∷ [] }) zero_phase same))
-      (one_more_wire n s v b fresh)

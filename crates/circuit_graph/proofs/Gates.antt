@@ -1,16 +1,18 @@
 -- What each gate does to a translation under way.
-use Rattle.std.proofs.Common.{◌≡◌, refl, sym, ◌∙◌, ap, ap₂, subst, ℕ, suc, ◌+◌, Bool, true, false, cond, ltb, eqb, List, [], ◌∷◌, length, set, le_of_eq, arith}
+use Rattle.std.proofs.Common.{◌≡◌, refl, sym, ◌∙◌, ap, ap₂, subst, ℕ, suc, ◌+◌, Bool, true, false, cond, ltb, eqb, List, [], ◌∷◌, length, set, le_of_eq, arith, ◌||◌, ltb-true, lt-ltb, le-ltb}
+use Rattle.std.proofs.lemmas.Bool.{ltb_from_iff}
 use Rattle.std.proofs.Math.ListN.{length-set}
 use Rattle.std.proofs.lemmas.List.{set-set}
 use Rattle.std.specs.Prelude.{slice_get, Some}
 use Rattle.zx_model.specs.Bits.{xor, member}
 use Rattle.zx_calculus.specs.Graph.{XY, Kind, Vertex, End, Graph, ids, kind_of, plane_of, end_vertices, in_order, different, with_kinds, insert_vertex, WellFormed}
-use Rattle.zx_calculus.specs.Splits.{spider_of_phase_zero, move_end}
+use Rattle.zx_calculus.specs.Splits.{spider_of_phase_zero, move_end, least_free}
 use Rattle.zx_calculus.specs.Gadgets.{fuse_kind}
 use Rattle.zx_calculus.specs.Turns.{with_phase_added}
 use Rattle.zx_calculus.specs.Worked.{plain}
 use Rattle.zx_calculus.proofs.Ids.{by_equal}
-use Rattle.zx_calculus.proofs.Vertices.{ids-with_kinds, kind_of-insert}
+use Rattle.zx_calculus.proofs.Vertices.{ids-with_kinds, kind_of-insert, member-insert}
+use Rattle.zx_calculus.proofs.LeastFree.{least_free-unique}
 use Rattle.zx_calculus.proofs.Splitting.{no_loop}
 use Rattle.zx_calculus.proofs.Splits.{is_pair-self}
 use Rattle.zx_calculus.proofs.Kept.{kind_of-insert_other}
@@ -30,9 +32,11 @@ use Rattle.circuit_laws.proofs.Keeping.{spider_formed, phase_formed, edge_formed
 use Rattle.circuit_laws.proofs.Counts.{same_vertices, phase_odd, spider_odd}
 use Rattle.circuit_laws.proofs.Settling.{phase_peels, edge_peels}
 use Rattle.circuit_laws.proofs.Advancing.{spider_peels}
-use Rattle.circuit_graph.specs.Internal.Runs.{State, IsReady, IsSpiderStep, IsPhaseStep, IsToggleStep, IsGateStep, Comes}
+use Rattle.circuit_graph.specs.Translation.{with_spider}
+use Rattle.circuit_graph.proofs.Graphs.{spider_is, phase_is, toggle_is}
+use Rattle.circuit_graph.specs.Internal.Runs.{State, AreNumbered, IsReady, IsSpiderStep, IsPhaseStep, IsToggleStep, IsGateStep, Comes}
 
-pub length-insert : (n : Vertex) (vs : List Vertex) → length (insert_vertex n vs) ≡ length vs + 1
+length-insert : (n : Vertex) (vs : List Vertex) → length (insert_vertex n vs) ≡ length vs + 1
 length-insert n [] = refl
 length-insert n (v ∷ vs) = at (ltb n.id v.id) (length-insert n vs)
   where
@@ -40,7 +44,7 @@ length-insert n (v ∷ vs) = at (ltb n.id v.id) (length-insert n vs)
     at true again = omega arith
     at false again = omega arith
 
-pub length-with_kinds : (f : ℕ → Kind → Kind) (vs : List Vertex) → length (with_kinds f vs) ≡ length vs
+length-with_kinds : (f : ℕ → Kind → Kind) (vs : List Vertex) → length (with_kinds f vs) ≡ length vs
 length-with_kinds f [] = refl
 length-with_kinds f (v ∷ vs) = ap (λ n. suc n) (length-with_kinds f vs)
 
@@ -78,6 +82,20 @@ pub as_many : {a b : ℕ} → a ≡ b → a ≡ b + 0
 as_many e = omega arith
 
 -- ---- H
+-- the ids after a new one
+pub numbered_more : (n : ℕ) (vs : List Vertex) → n ≡ length vs → AreNumbered vs → AreNumbered (insert_vertex (spider_of_phase_zero n) vs)
+numbered_more n vs e numbered u =
+    member-insert u (spider_of_phase_zero n) vs ∙ ap₂ (λ m b. eqb u m || b) e (numbered u) ∙ one_more u (length vs)
+    ∙ ap (ltb u) (sym (length-insert (spider_of_phase_zero n) vs))
+  where
+    one_more : (u k : ℕ) → (eqb u k || ltb u k) ≡ ltb u (k + 1)
+    one_more u k = by_equal u k (λ t e. rw t (sym (lt-ltb u (k + 1) (omega arith)))) (λ f n. rw f (ltb_from_iff (λ t. omega (arith, ltb-true u k t), λ l. lt-ltb u k (omega (arith, n)))))
+
+pub least_is : (g : Graph) → WellFormed g → AreNumbered g.vertices → least_free (ids g.vertices) ≡ length g.vertices
+least_is g w numbered =
+    sym (least_free-unique (ids g.vertices) (length g.vertices) w.vertices_rising
+    (numbered (length g.vertices) ∙ le-ltb (length g.vertices) (length g.vertices) (omega arith)) (λ q below. numbered q ∙ lt-ltb q (length g.vertices) below))
+
 is_new_output : (s : Graph) (q : ℕ) (t : Graph) → WellFormed s → (c : IsSpiderPeel t q s) → IsNewOutput s c.next t
 is_new_output s q t w c = record {
   new = c.spider;
@@ -93,6 +111,7 @@ spider_ready : (s : State) (q : ℕ) (t : State) → IsReady s → IsSpiderStep 
 unfolding is_new_output
 spider_ready s q t r c = record {
   well_formed = spider_formed t.graph q s.graph r.well_formed c.peel;
+  numbered = subst AreNumbered (sym c.peel.vertices) (numbered_more c.peel.spider s.graph.vertices c.id r.numbered);
   planes = λ u. ap (λ vs. (kind_of vs u).plane) c.peel.vertices ∙ planes-inserted c.peel.spider s.graph.vertices c.peel.fresh r.planes u;
   flow = flow-same_sets t.graph _ _ (record { order = sym c.table.order; members = λ v w. sym (c.table.members v w) })
       (new_output_flow s.graph c.peel.next t.graph s.table r.well_formed (is_new_output s.graph q t.graph r.well_formed c.peel) r.flow);
@@ -104,6 +123,7 @@ spider_comes s q t r c =
     let ready : IsReady t = spider_ready s q t r c in
     record {
       ready = ready;
+      graph = spider_is s.graph q t.graph ready.well_formed c.peel ∙ ap (λ v. with_spider v q s.graph) c.id;
       map = spider_peels t.graph q s.graph r.well_formed c.peel ready.well_formed;
       spiders = ap length c.peel.vertices ∙ length-insert (spider_of_phase_zero c.peel.spider) s.graph.vertices;
       odd = le_of_eq (as_many (spider_odd t.graph q s.graph c.peel));
@@ -116,12 +136,14 @@ phase_comes : (s : State) (q k : ℕ) (t : State) → IsReady s → IsPhaseStep 
 phase_comes s q k t r c = record {
   ready = record {
     well_formed = formed;
+    numbered = λ u. ap (member u) same_ids ∙ r.numbered u ∙ ap (ltb u) (sym same_length);
     planes = λ u. same_planes u ∙ r.planes u;
     flow = subst (IsFlow t.graph) (sym c.table) (phases_unseen s.graph t.graph s.table (sym same_ids) (λ u. sym (same_planes u)) (sym c.peel.edges) (ap end_vertices (sym c.peel.inputs)) (ap end_vertices (sym c.peel.outputs)) r.flow);
     plain = ap are_plain c.peel.outputs ∙ r.plain;
   };
+  graph = phase_is s.graph q k t.graph c.peel;
   map = phase_peels t.graph q k s.graph formed r.well_formed c.peel;
-  spiders = as_many (ap length c.peel.vertices ∙ length-with_kinds (fuse_kind c.peel.vertex k) s.graph.vertices);
+  spiders = as_many same_length;
   odd = phase_odd t.graph q k s.graph r.well_formed c.peel;
   inputs = c.peel.inputs;
   outputs = ap length c.peel.outputs;
@@ -132,6 +154,9 @@ phase_comes s q k t r c = record {
 
     same_ids : ids t.graph.vertices ≡ ids s.graph.vertices
     same_ids = ap ids c.peel.vertices ∙ ids-with_kinds (fuse_kind c.peel.vertex k) s.graph.vertices
+
+    same_length : length t.graph.vertices ≡ length s.graph.vertices
+    same_length = ap length c.peel.vertices ∙ length-with_kinds (fuse_kind c.peel.vertex k) s.graph.vertices
 
     same_planes : (u : ℕ) → plane_of t.graph u ≡ plane_of s.graph u
     same_planes u = ap (λ vs. (kind_of vs u).plane) c.peel.vertices ∙ planes-fused c.peel.vertex k s.graph.vertices u
@@ -153,12 +178,14 @@ toggle_comes : (s : State) (p q : ℕ) (t : State) → IsReady s → IsToggleSte
 toggle_comes s p q t r c = record {
   ready = record {
     well_formed = formed;
+    numbered = subst AreNumbered (sym c.peel.vertices) r.numbered;
     planes = λ u. ap (λ vs. (kind_of vs u).plane) c.peel.vertices ∙ r.planes u;
     flow = subst (IsFlow t.graph) (sym c.table)
         (toggled_flow s.graph c.peel.first c.peel.second t.graph s.table r.well_formed formed (is_toggled s.graph p q t.graph r.well_formed formed c.peel)
         (at_output p c.peel.first c.peel.output) (at_output q c.peel.second c.peel.output_too) r.flow);
     plain = ap are_plain c.peel.frame.outputs ∙ r.plain;
   };
+  graph = toggle_is s.graph p q t.graph formed c.peel;
   map = edge_peels t.graph p q s.graph formed r.well_formed c.peel;
   spiders = as_many (ap length c.peel.vertices);
   odd = le_of_eq (as_many (same_vertices t.graph s.graph c.peel.vertices));

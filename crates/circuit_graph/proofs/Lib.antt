@@ -2,6 +2,6 @@ pub mod Gates
 pub mod RunLemmas
 pub mod WrittenOut
 pub mod Beginning
-pub mod Naming
+pub mod Graphs
 pub mod Whole
 pub mod Calls

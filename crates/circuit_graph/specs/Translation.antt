@@ -1,13 +1,13 @@
 -- The open graph of a circuit: each wire is a path of spiders, which its Hadamard gates join.
 -- Duncan, Kissinger, Perdrix and van de Wetering, "Graph-theoretic simplification of quantum circuits with the
 -- ZX-calculus" (Quantum 4, 279, 2020), on graph-like diagrams.
-use Rattle.std.specs.Prelude.{◌≡◌, ℕ, ◌+◌, ◌*◌, List, [], ◌∷◌, ◌++◌, length, get_or, take, slice_set}
-use Rattle.std.specs.List.{count_by, flat_map, fold}
+use Rattle.std.specs.Prelude.{ℕ, ◌+◌, ◌*◌, List, [], ◌∷◌, length, map, get_or, slice_set}
+use Rattle.std.specs.List.{count_by, flat_map, fold, range_with_len}
 use Rattle.zx_model.specs.Bits.{xor}
 use Rattle.zx_model.specs.Phase.{half_turn}
 use Rattle.zx_model.specs.Number.{Number, one, mul}
 use Rattle.zx_model.specs.Constants.{two}
-use Rattle.zx_calculus.specs.Graph.{Graph, Distinct, joined, end_vertices, with_kinds, insert_vertex}
+use Rattle.zx_calculus.specs.Graph.{Graph, joined, end_vertices, with_kinds}
 use Rattle.zx_calculus.specs.Splits.{spider_of_phase_zero, split_vertices, split_edges}
 use Rattle.zx_calculus.specs.Edits.{is_pair}
 use Rattle.zx_calculus.specs.Gadgets.{fuse_kind}
@@ -47,17 +47,14 @@ scalar_of (gate ∷ gates) = mul (gate_scalar gate) (scalar_of gates)
 abbrev pub present : Graph → ℕ → ℕ
 present g q = get_or (end_vertices g.outputs) q 0
 
--- one more wire, a spider of phase 0 with both ends
-abbrev pub with_wire : Graph → ℕ → Graph
-with_wire g new = record g {
-  vertices = insert_vertex (spider_of_phase_zero new) g.vertices;
-  inputs = g.inputs ++ plain new ∷ [];
-  outputs = g.outputs ++ plain new ∷ [];
+-- n wires alone: a spider of phase 0 for each, with both ends
+abbrev pub wires : ℕ → Graph
+wires n = record {
+  vertices = map spider_of_phase_zero (range_with_len 0 n);
+  edges = [];
+  inputs = map plain (range_with_len 0 n);
+  outputs = map plain (range_with_len 0 n);
 }
-
--- wires alone
-abbrev pub wires : List ℕ → Graph
-wires made = fold with_wire (record { vertices = []; edges = []; inputs = []; outputs = [] }) made
 
 -- H: an edge joins the present spider to a new one of phase 0, which is the present one from there on
 abbrev pub with_spider : ℕ → ℕ → Graph → Graph
@@ -76,22 +73,14 @@ abbrev pub with_toggle : ℕ → ℕ → Graph → Graph
 with_toggle p q g =
     adjacent_graph g g.vertices (λ v w. xor (joined g.edges v w) (is_pair (present g p) (present g q) v w))
 
--- A gate where Cx and Not are written out. The spiders take their ids from a list, in the order of making: a new one
--- takes that at the number of those before.
-abbrev pub with_gate : List ℕ → Graph → Gate → Graph
-with_gate made g (H q) = with_spider (get_or made (length g.vertices) 0) q g
-with_gate made g (Phase q k) = with_phase q k g
-with_gate made g (Cz p q) = with_toggle p q g
-with_gate made g other = g
+-- a gate where Cx and Not are written out; the id of a new spider is the number of those before
+abbrev pub with_gate : Graph → Gate → Graph
+with_gate g (H q) = with_spider (length g.vertices) q g
+with_gate g (Phase q k) = with_phase q k g
+with_gate g (Cz p q) = with_toggle p q g
+with_gate g other = g
 
--- The graph of a circuit, whose spiders have these ids in the order of making, the first of each qubit before all
--- others.
-abbrev pub translated : Circuit → List ℕ → Graph
-translated c made = fold (with_gate made) (wires (take c.qubits made)) (written_out c.gates)
-
--- the graph is that of the circuit, with some ids
-pub record IsTranslation (c : Circuit) (g : Graph) : Type 0 where
-  pub ids : List ℕ
-  pub different : Distinct ids
-  pub count : length ids ≡ spiders_of c
-  pub graph : g ≡ translated c ids
+-- The graph of a circuit. Its spiders have the ids 0, 1, 2 and so on in the order of making, the first of each qubit
+-- before all others.
+abbrev pub translated : Circuit → Graph
+translated c = fold with_gate (wires c.qubits) (written_out c.gates)

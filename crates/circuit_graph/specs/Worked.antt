@@ -32,6 +32,6 @@ double_cz_graph =
 abbrev pub hadamard_circuit : Circuit
 hadamard_circuit = record { qubits = 1; gates = H 0 ∷ [] }
 
--- vertices stand by rising id, whichever was made first
+-- a path of two spiders, from the input to the output
 abbrev pub hadamard_graph : Graph
-hadamard_graph = graph (vertex 2 XY 0 ∷ vertex 5 XY 0 ∷ []) (edge 2 5 ∷ []) (plain 5 ∷ []) (plain 2 ∷ [])
+hadamard_graph = graph (vertex 0 XY 0 ∷ vertex 1 XY 0 ∷ []) (edge 0 1 ∷ []) (plain 0 ∷ []) (plain 1 ∷ [])

@@ -1,10 +1,10 @@
 //! The open graph of a circuit, with its flow.
 //!
 //! Proved of `translate`: the graph is well-formed, and the one that the definition makes of the
-//! circuit, for some ids of its vertices; its sum is the circuit's map times two for each Cx and
-//! Not, entry by entry; it has a spider for each qubit and each H, and two for each Cx and Not, all
-//! XY, no more odd phases than the circuit, and an input and an output for each qubit, all plain;
-//! the flow is one of it.
+//! circuit, whose vertices have the ids 0, 1, 2 and so on; its sum is the circuit's map times two
+//! for each Cx and Not, entry by entry; it has a spider for each qubit and each H, and two for each
+//! Cx and Not, all XY, no more odd phases than the circuit, and an input and an output for each
+//! qubit, all plain; the flow is one of it.
 //!
 //! ```rust
 //! let (graph, flow) = translate(alloc, &circuit)?;

@@ -11,7 +11,7 @@ ghost use Rattle.gflow_laws.specs.Flow.{IsFlow};
 ghost use Rattle.zx_gates.specs.Circuit.{gate_odd_phases};
 ghost use Rattle.zx_gates.specs.Maps.{amp};
 ghost use Rattle.circuit_laws.specs.Peeling.{are_plain};
-ghost use Rattle.circuit_graph.specs.Translation.{spiders_of, scalar_of, IsTranslation};
+ghost use Rattle.circuit_graph.specs.Translation.{spiders_of, scalar_of, translated};
 ghost use Rattle.circuit_graph.specs.Internal.Wires.{state_of};
 ghost use Rattle.circuit_graph.specs.Internal.Runs.{Translates};
 
@@ -24,7 +24,7 @@ use zx_gates::GateList;
 /// The open graph of a circuit, and a flow of it: each spider but the last of a wire is corrected by the next one, in
 /// the order in which the wires leave them.
 pub fn translate(alloc: Global, circuit: &GateList) -> Result<(OpenGraph, Flow), AllocError>
-    ensures graph { IfOk result (λ made. IsTranslation circuit.now made.0.graph) }
+    ensures graph { IfOk result (λ made. made.0.graph ≡ translated circuit.now) }
     ensures well_formed { IfOk result (λ made. WellFormed made.0.graph) }
     ensures flow { IfOk result (λ made. IsFlow made.0.graph made.1.flow) }
 

@@ -1,12 +1,12 @@
 //! A translation under way.
 
-ghost use Rattle.std.specs.Prelude.{◌≡◌, ◌≢◌, ◌<◌, false, [], length, IfOk, OnOk};
+ghost use Rattle.std.specs.Prelude.{◌≡◌, ◌≢◌, ◌<◌, length, IfOk, OnOk};
 ghost use Rattle.zx_calculus.specs.Graph.{WellFormed};
 ghost use Rattle.circuit_laws.specs.Peeling.{HasPlainOutput};
 ghost use Rattle.zx_gates.specs.Circuit.{IsOnQubits};
-ghost use Rattle.circuit_graph.specs.Translation.{by_hadamards};
+ghost use Rattle.circuit_graph.specs.Translation.{by_hadamards, wires};
 ghost use Rattle.circuit_graph.specs.Internal.Wires.{state_of};
-ghost use Rattle.circuit_graph.specs.Internal.Runs.{IsReady, IsBegun, IsSpiderStep, IsPhaseStep, IsToggleStep, IsRun};
+ghost use Rattle.circuit_graph.specs.Internal.Runs.{begun, IsReady, IsSpiderStep, IsPhaseStep, IsToggleStep, IsRun};
 
 use open_graph::{End, OpenGraph, Plane, VertexId};
 use std::alloc::{AllocError, Global};
@@ -25,9 +25,8 @@ pub(crate) struct Wires {
 impl Wires {
     // So many wires without gates.
     pub(crate) fn begin(alloc: Global, qubits: Qubit) -> Result<Wires, AllocError>
-        ensures begun { IfOk result (λ w. IsBegun qubits w.graph.graph) }
-        ensures well_formed { IfOk result (λ w. WellFormed w.graph.graph) }
-        ensures table { IfOk result (λ w. w.table.table ≡ []) }
+        ensures begun { IfOk result (λ w. state_of w ≡ begun qubits) }
+        ensures ready { IfOk result (λ w. IsReady (state_of w)) }
     {
         let graph = without_gates(alloc, qubits)?;
         Ok(Wires {
@@ -124,7 +123,7 @@ impl Wires {
 
 // So many wires without gates.
 fn without_gates(alloc: Global, qubits: Qubit) -> Result<OpenGraph, AllocError>
-    ensures begun { IfOk result (λ g. IsBegun qubits g.graph) }
+    ensures begun { IfOk result (λ g. g.graph ≡ wires qubits) }
     ensures well_formed { IfOk result (λ g. WellFormed g.graph) }
 {
     let mut graph = OpenGraph::new(alloc);

@@ -55,9 +55,8 @@ module _ (g : Graph) (q : ℕ) (h : Graph) (wh : WellFormed h) (c : IsSpiderPeel
     outputs = ordered_by_places h.vertices h.outputs with_mark.outputs same_places wh.outputs;
   }
 
-  pub is_split : IsSplitOutput with_mark c.next g
+  pub is_split : IsSplitOutput with_mark c.next c.spider g
   is_split = record {
-    new = c.spider;
     fresh = c.fresh;
     has_output = ap (member c.next) same_places ∙ member-places h.outputs q (plain c.next) c.output;
     vertices = c.vertices;
@@ -81,7 +80,7 @@ module _ (g : Graph) (q : ℕ) (h : Graph) (wh : WellFormed h) (c : IsSpiderPeel
   same_sum wg x y l =
       sym (one-mul (sum with_mark x y))
       ∙ ap (λ b. mul (split_left b) (sum with_mark x y)) (sym (mark_of-set h.outputs q c.next wh.outputs.one_each c.output))
-      ∙ split_output_sum with_mark c.next g x y with_mark_formed wg is_split l
+      ∙ split_output_sum with_mark c.next c.spider g x y with_mark_formed wg is_split l
       ∙ one-mul (sum g x y)
 
   same_length : length with_mark.outputs ≡ length g.outputs

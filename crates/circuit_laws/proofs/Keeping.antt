@@ -59,7 +59,7 @@ pub mark_formed_back : (g : Graph) (q : ℕ) (h : Graph) → WellFormed g → Is
 mark_formed_back g q h w c = formed_from h g w (sym c.vertices) (same_edges h g w (ap ids (sym c.vertices)) (sym c.edges)) (sym c.inputs) (mark_places g q h c)
 
 pub spider_formed : (g : Graph) (q : ℕ) (h : Graph) → WellFormed h → IsSpiderPeel g q h → WellFormed g
-spider_formed g q h w c = split_output_kept (with_mark g q h w c) c.next g (with_mark_formed g q h w c) (is_split g q h w c)
+spider_formed g q h w c = split_output_kept (with_mark g q h w c) c.next c.spider g (with_mark_formed g q h w c) (is_split g q h w c)
 
 -- ---- an end that moves to another vertex
 -- the end_vertices after it: the new one, and the old ones but that of the end

@@ -9,3 +9,5 @@ pub mod Stale
 pub mod Starting
 pub mod Few
 pub mod Ranked
+pub mod Moving
+pub mod Choosing

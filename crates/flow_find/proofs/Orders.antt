@@ -39,7 +39,7 @@ Distinct-take (x ∷ xs) v ys d =
     let ne : eqb v x ≡ false = by_equal v x (λ t e. absurd (true≢false (sym (ap (λ b. b || member x ys) (ap (eqb x) e ∙ eqb-self x)) ∙ or-right _ _ apart))) (λ f n. f) in
     ap₂ (λ a b. a || b) ne (Distinct-take xs v ys d.1)
 
-Distinct-drop : (xs : List ℕ) (v : ℕ) (ys : List ℕ) → Distinct (xs ++ v ∷ ys) → member v ys ≡ false
+pub Distinct-drop : (xs : List ℕ) (v : ℕ) (ys : List ℕ) → Distinct (xs ++ v ∷ ys) → member v ys ≡ false
 Distinct-drop [] v ys d = d.0
 Distinct-drop (x ∷ xs) v ys d = Distinct-drop xs v ys d.1
 
@@ -126,23 +126,35 @@ module _ (g : Graph) (order : List ℕ) (formed : WellFormed g) (h : IsOrder g o
   found_at left rows marks frontier =
       found (seen g) (is_later order) left v rows (Simple-seen g formed) (is_left left marks) (λ w within out. later w ∙ ap not (sym (marks w) ∙ out)) frontier (correctable_at left marks)
 
+  -- it goes
+  pub one_less : (left now : ℕ → Bool) → ((w : ℕ) → left w ≡ member w (take (suc i) order)) → ((w : ℕ) → now w ≡ (not (eqb w v) && left w)) →
+      (w : ℕ) → now w ≡ member w (take i order)
+  one_less left now marks cleared w = cleared w ∙ ap (λ b. not (eqb w v) && b) (marks w ∙ ap (member w) place.up_to ∙ member-append w (take i order) (v ∷ [])) ∙ by_equal w v
+      (λ t e. ap (λ b. not b && (member w (take i order) || (b || false))) t ∙ sym (ap (λ x. member x (take i order)) e ∙ fresh))
+      (λ f n. ap (λ b. not b && (member w (take i order) || (b || false))) f ∙ or-false (member w (take i order)))
+
+  -- one set more is found
+  pub corrected_more : (left : ℕ → Bool) (rows : List Row) (table : List Correction) (members : List ℕ) → ((w : ℕ) → member w (order_of table) ≡ member w order) →
+      ((w : ℕ) → left w ≡ member w (take (suc i) order)) → IsFrontierOf (seen g) left rows → ((w : ℕ) → member w members ≡ set_from (seen g) rows v w) →
+      ((u : ℕ) → member u (drop (suc i) order) ≡ true → Corrects (seen g) (is_later order) u (is_in (set_of table u))) →
+      (u : ℕ) → member u (drop i order) ≡ true → Corrects (seen g) (is_later order) u (is_in (set_of (with_sets (λ y set. cond (eqb y v) members set) table) u))
+  corrected_more left rows table members same marks frontier is old u there = by_equal u v
+      (λ t e. subst (λ x. Corrects (seen g) (is_later order) x (is_in (set_of (with_sets (λ y set. cond (eqb y v) members set) table) x))) (sym e)
+      (Corrects-same (seen g) (is_later order) v (set_from (seen g) rows v) _ (λ w. sym (ap (λ l. is_in l w) (set_of-with_sets (λ y set. cond (eqb y v) members set) table v (same v ∙ listed) ∙ ap (λ b. cond b members (set_of table v)) (eqb-self v)) ∙ is w))
+      (found_at left rows marks frontier)))
+      (λ f n. let behind : member u (drop (suc i) order) ≡ true = sym (ap (λ b. b || member u (drop (suc i) order)) f) ∙ sym (ap (member u) place.from) ∙ there in
+      let in_order : member u (order_of table) ≡ true = same u ∙ ap (member u) (sym (take-append-drop (suc i) order)) ∙ member-append u (take (suc i) order) (drop (suc i) order) ∙ ap (λ b. member u (take (suc i) order) || b) behind ∙ or-true _ in
+      Corrects-same (seen g) (is_later order) u (is_in (set_of table u)) _ (λ w. sym (ap (λ l. is_in l w) (set_of-with_sets (λ y set. cond (eqb y v) members set) table u in_order ∙ ap (λ b. cond b members (set_of table u)) f))) (old u behind))
+
   -- one place further back
   pub one_more : (left now : ℕ → Bool) (rows new : List Row) (table : List Correction) (members : List ℕ) → IsSoFar g order (suc i) left rows table →
       ((w : ℕ) → member w members ≡ set_from (seen g) rows v w) → ((w : ℕ) → now w ≡ (not (eqb w v) && left w)) → IsFrontierOf (seen g) now new →
       IsSoFar g order i now new (with_sets (λ u set. cond (eqb u v) members set) table)
   one_more left now rows new table members so_far is cleared frontier = record {
     is_order = order_of-with_sets (λ u set. cond (eqb u v) members set) table ∙ so_far.is_order;
-    marks = λ w. cleared w ∙ ap (λ b. not (eqb w v) && b) (so_far.marks w ∙ ap (member w) place.up_to ∙ member-append w (take i order) (v ∷ [])) ∙ by_equal w v
-        (λ t e. ap (λ b. not b && (member w (take i order) || (b || false))) t ∙ sym (ap (λ x. member x (take i order)) e ∙ fresh))
-        (λ f n. ap (λ b. not b && (member w (take i order) || (b || false))) f ∙ or-false (member w (take i order)));
+    marks = one_less left now so_far.marks cleared;
     frontier = frontier;
-    corrected = λ u there. by_equal u v
-        (λ t e. subst (λ x. Corrects (seen g) (is_later order) x (is_in (set_of (with_sets (λ y set. cond (eqb y v) members set) table) x))) (sym e)
-        (Corrects-same (seen g) (is_later order) v (set_from (seen g) rows v) _ (λ w. sym (ap (λ l. is_in l w) (set_of-with_sets (λ y set. cond (eqb y v) members set) table v (ap (member v) so_far.is_order ∙ listed) ∙ ap (λ b. cond b members (set_of table v)) (eqb-self v)) ∙ is w))
-        (found_at left rows so_far.marks so_far.frontier)))
-        (λ f n. let behind : member u (drop (suc i) order) ≡ true = sym (ap (λ b. b || member u (drop (suc i) order)) f) ∙ sym (ap (member u) place.from) ∙ there in
-        let in_order : member u (order_of table) ≡ true = ap (member u) (so_far.is_order ∙ sym (take-append-drop (suc i) order)) ∙ member-append u (take (suc i) order) (drop (suc i) order) ∙ ap (λ b. member u (take (suc i) order) || b) behind ∙ or-true _ in
-        Corrects-same (seen g) (is_later order) u (is_in (set_of table u)) _ (λ w. sym (ap (λ l. is_in l w) (set_of-with_sets (λ y set. cond (eqb y v) members set) table u in_order ∙ ap (λ b. cond b members (set_of table u)) f))) (so_far.corrected u behind));
+    corrected = corrected_more left rows table members (λ w. ap (member w) so_far.is_order) so_far.marks so_far.frontier is so_far.corrected;
   }
 
 -- what was left before the vertex went

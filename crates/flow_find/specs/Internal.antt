@@ -2,3 +2,4 @@
 -- crate.
 pub mod Rows
 pub mod Drawn
+pub mod Next

@@ -43,7 +43,7 @@ pub fn find_along(alloc: Global, g: &OpenGraph, order: &[VertexId]) -> Result<Fl
 }
 
 // The order with sets without members.
-fn table_of(alloc: Global, order: &[VertexId]) -> Result<FlowTable, AllocError>
+pub(crate) fn table_of(alloc: Global, order: &[VertexId]) -> Result<FlowTable, AllocError>
     requires { Distinct order.now }
     ensures { IfOk result (λ table. order_of table.table ≡ order.now) }
 {
@@ -55,7 +55,11 @@ fn table_of(alloc: Global, order: &[VertexId]) -> Result<FlowTable, AllocError>
 }
 
 // The rows of the outputs without inputs.
-fn first_rows(alloc: Global, g: &OpenGraph, left: &VertexSet) -> Result<Vec<Row>, AllocError>
+pub(crate) fn first_rows(
+    alloc: Global,
+    g: &OpenGraph,
+    left: &VertexSet,
+) -> Result<Vec<Row>, AllocError>
     requires { (w : ℕ) → is_in left.now w ≡
         (member w (seen g.now.graph).ids && not ((seen g.now.graph).output w)) }
     ensures rows { IfOk result (λ rows.
@@ -74,7 +78,7 @@ fn first_rows(alloc: Global, g: &OpenGraph, left: &VertexSet) -> Result<Vec<Row>
 }
 
 // The correction set of the last vertex left.
-fn correction(
+pub(crate) fn correction(
     alloc: Global,
     g: &OpenGraph,
     rows: &[Row],

@@ -7,14 +7,14 @@ ghost use Rattle.gflow_laws.specs.Seen.{seen};
 ghost use Rattle.gflow_laws.specs.Flow.{IsFlow};
 ghost use Rattle.move_laws.specs.Ranks.{HasFlowBy, rank_in};
 
-use crate::along::find_along;
+use crate::cheap::find_cheap;
 use open_graph::{OpenGraph, VertexId};
 use std::alloc::{AllocError, Global};
 use zx_flow::FlowTable;
 
-/// Correction sets that make the vertices without outputs, in the order in which their ranks rise,
-/// a flow of a graph, where some do. `ranks` has the rank of a vertex at its number; numbers at
-/// which no such vertex is don't matter.
+/// Correction sets that make the vertices without outputs a flow of a graph, where some do in the
+/// order in which their ranks rise. Vertices of small sets may come later than their ranks say.
+/// `ranks` has the rank of a vertex at its number; numbers at which no such vertex is don't matter.
 ///
 /// # Errors
 ///
@@ -25,7 +25,7 @@ pub fn find_by_rank(alloc: Global, g: &OpenGraph, ranks: &[u64]) -> Result<FlowT
 {
     let mut order = measured(alloc, g)?;
     sort_by_rank(&mut order, ranks);
-    find_along(alloc, g, &order)
+    find_cheap(alloc, g, order)
 }
 
 // The vertices without outputs.

@@ -1,5 +1,5 @@
 -- A vertex that isn't XY is in its own correction set, so that this set takes it out of every other; then it can go.
-use Rattle.std.proofs.Common.{◌≡◌, ◌≢◌, refl, sym, ◌∙◌, ap, ap₂, subst, ⊎_elim, ℕ, Bool, true, false, cond, not, ◌&&◌, eqb, eq-eqb, ne_eqb, ◌⊎◌, List}
+use Rattle.std.proofs.Common.{◌≡◌, ◌≢◌, refl, sym, ◌∙◌, ap, ap₂, subst, ⊎_elim, ℕ, Bool, true, false, cond, not, ◌&&◌, eqb, eq-eqb, ne_eqb, List}
 use Rattle.std.proofs.lemmas.Bool.{cases_Bool, cases_eq, true≢false, and_parts}
 use Rattle.zx_model.specs.Bits.{member, xor}
 use Rattle.zx_calculus.specs.Graph.{Plane, XY, YZ, XZ, Kind, without, joined, ids, end_vertices, kind_of, with_kinds, Graph, WellFormed, plane_of, phase_of}

@@ -14,13 +14,13 @@ use Rattle.gflow_laws.proofs.Seeing.{flow-same_sets}
 use Rattle.gflow_laws.proofs.Steps.{step_flow}
 
 pub rewritten : {g : Graph} {s : Step} {h : Graph} {table after : List Correction} →
-    WellFormed g → IsFlow g table → IsStep g s h → SameSets after (table_after g s h table) →
+    WellFormed g → IsFlow g table → IsStep g s h → SameSets after (table_after g s table) →
     IsRewritten g table s h after
 rewritten {g} {s} {h} {table} {after} w flow step same = record {
   step = step;
   table = same;
   valid = step_kept g s h w step;
-  flow = flow-same_sets h (table_after g s h table) after
+  flow = flow-same_sets h (table_after g s table) after
       (record { order = sym same.order; members = λ v x. sym (same.members v x) }) (step_flow g s h table w step flow);
   exact = λ x y. step_sum g s h x y w step;
   map = step_proportional g s h w step;

@@ -1,6 +1,6 @@
 -- A new vertex of plane XY, adjacent to one vertex alone: the old sets serve, and a set of one corrects the new non-output.
-use Rattle.std.proofs.Common.{◌≡◌, ◌≢◌, refl, sym, ◌∙◌, ap, subst, ⊎_elim, ℕ, Bool, true, false, not, ◌&&◌, ◌||◌, eqb, eq-eqb, ne_eqb, ap₂, cond, ltb, List, [], ◌∷◌, ◌⊎◌, inl, inr, ◌++◌}
-use Rattle.std.proofs.lemmas.Bool.{cases_eq, true≢false, eqb-true, false_from_ne_true, or_right, cases_Bool, or_left, and_parts, or_cases, or_parts}
+use Rattle.std.proofs.Common.{◌≡◌, ◌≢◌, refl, sym, ◌∙◌, ap, subst, ⊎_elim, ℕ, Bool, true, false, not, ◌&&◌, ◌||◌, eqb, eq-eqb, ne_eqb, ap₂, cond, List, [], ◌∷◌, ◌++◌}
+use Rattle.std.proofs.lemmas.Bool.{cases_eq, true≢false, eqb-true, false_from_ne_true, or_right, or_left, or_cases}
 use Rattle.zx_model.specs.Bits.{member, xor}
 use Rattle.zx_calculus.specs.Parity.{masked}
 use Rattle.zx_calculus.specs.Graph.{XY, kind_of, Graph, insert_vertex, WellFormed, joined, ids, plane_of, OrderedEnds, is_XY, end_vertices, End, Vertex}
@@ -15,7 +15,7 @@ use Rattle.zx_calculus.proofs.Splitting.{joined-absent, all_at, plane_XY, absent
 use Rattle.zx_calculus.proofs.Splits.{member-move_end}
 use Rattle.gflow_laws.specs.Seen.{Seen, odd, seen}
 use Rattle.gflow_laws.specs.Correcting.{Distinct, Corrects, odd_in, inside_in, FlowAsFunctions}
-use Rattle.gflow_laws.specs.Splits.{new_id, split_output_table, split_input_table}
+use Rattle.gflow_laws.specs.Splits.{split_output_table, split_input_table}
 use Rattle.gflow_laws.specs.Flow.{is_later, Correction, is_in, set_of, order_of, SameSets, IsFlow}
 use Rattle.gflow_laws.specs.Outputs.{IsNewOutput}
 use Rattle.gflow_laws.proofs.Linear.{masked-members, Distinct-removed, masked-same, member-removed, removed, masked-one}
@@ -141,22 +141,6 @@ plane-new g new h fresh vertices =
 -- a vertex with an end is XY
 pub plane_at_end : (vertices : List Vertex) (ends : List End) (u : ℕ) → OrderedEnds vertices ends → member u (end_vertices ends) ≡ true → (kind_of vertices u).plane ≡ XY
 plane_at_end vertices ends u ordered there = plane_XY (kind_of vertices u).plane (all_at (λ v. is_XY (kind_of vertices v).plane) (end_vertices ends) u ordered.at_XY there)
-
-new_id-insert_vertex : (old : List ℕ) (n : Vertex) (vs : List Vertex) → member n.id old ≡ false → ((w : ℕ) → member w (ids vs) ≡ true → member w old ≡ true) →
-    new_id old (ids (insert_vertex n vs)) ≡ n.id
-new_id-insert_vertex old n [] fresh within = ap (λ b. cond b 0 n.id) fresh
-new_id-insert_vertex old n (v ∷ vs) fresh within = ⊎_elim
-    (λ e. ap (λ b. new_id old (ids (cond b (n ∷ (v ∷ vs)) (v ∷ insert_vertex n vs)))) e ∙ ap (λ b. cond b (new_id old (v.id ∷ ids vs)) n.id) fresh)
-    (λ e. ap (λ b. new_id old (ids (cond b (n ∷ (v ∷ vs)) (v ∷ insert_vertex n vs)))) e
-    ∙ ap (λ b. cond b (new_id old (ids (insert_vertex n vs))) v.id) (within v.id (or_left (eqb v.id v.id) (member v.id (ids vs)) (eq-eqb v.id v.id refl)))
-    ∙ new_id-insert_vertex old n vs fresh (λ w h. within w (or_right (eqb w v.id) (member w (ids vs)) h)))
-    (cases_Bool (ltb n.id v.id))
-
--- the vertex that a split makes is the one that the old graph lacks
-pub new_vertex-split : (g : Graph) (new : ℕ) (h : Graph) → member new (ids g.vertices) ≡ false → h.vertices ≡ insert_vertex (spider_of_phase_zero new) g.vertices →
-    new_id (ids g.vertices) (ids h.vertices) ≡ new
-new_vertex-split g new h fresh vertices =
-    ap (λ vs. new_id (ids g.vertices) (ids vs)) vertices ∙ new_id-insert_vertex (ids g.vertices) (spider_of_phase_zero new) g.vertices fresh (λ w h. h)
 
 last_one : (eb l en m o : Bool) → l ≡ (m && not o) → (eb ≡ true → (en ≡ false) × (m ≡ true)) → (en ≡ true → m ≡ false) →
     (l || eb) ≡ ((en || m) && not (cond eb false (cond en true o)))
@@ -317,11 +301,11 @@ new_output_flow g b h table wf step flow =
     grown : Grown (seen g) step.new b (seen h)
     grown = Grown-split g b step.new h wf step.fresh there step.vertices step.edges
 
-pub split_output_flow : (g : Graph) (b : ℕ) (h : Graph) (table : List Correction) → WellFormed g → (step : IsSplitOutput g b h) → IsFlow g table →
-    IsFlow h (split_output_table b step.new table)
-split_output_flow g b h table wf step flow =
+pub split_output_flow : (g : Graph) (b new : ℕ) (h : Graph) (table : List Correction) → WellFormed g → IsSplitOutput g b new h → IsFlow g table →
+    IsFlow h (split_output_table b new table)
+split_output_flow g b new h table wf step flow =
     new_output_flow g b h table wf record {
-      new = step.new;
+      new = new;
       fresh = step.fresh;
       has_output = step.has_output;
       vertices = step.vertices;
@@ -330,18 +314,18 @@ split_output_flow g b h table wf step flow =
       outputs = ap end_vertices step.outputs;
     } flow
 
-pub split_input_flow : (g : Graph) (b : ℕ) (h : Graph) (table : List Correction) → WellFormed g → (step : IsSplitInput g b h) → IsFlow g table →
-    IsFlow h (split_input_table b step.new table)
-split_input_flow g b h table wf step flow =
-    IsFlowOf-from (seen h) (split_input_table b step.new table)
-    (Flows-split_input (seen g) (seen h) step.new b table grown step.has_input (plane-new g step.new h step.fresh step.vertices)
+pub split_input_flow : (g : Graph) (b new : ℕ) (h : Graph) (table : List Correction) → WellFormed g → IsSplitInput g b new h → IsFlow g table →
+    IsFlow h (split_input_table b new table)
+split_input_flow g b new h table wf step flow =
+    IsFlowOf-from (seen h) (split_input_table b new table)
+    (Flows-split_input (seen g) (seen h) new b table grown step.has_input (plane-new g new h step.fresh step.vertices)
     (λ v. ap (λ l. member v (end_vertices l)) step.outputs)
-    (absent_from (ids g.vertices) (end_vertices g.outputs) step.new wf.outputs.there step.fresh)
-    (λ v. ap (λ l. member v (end_vertices l)) step.inputs ∙ member-move_end b step.new g.inputs v (apart_of_member b step.new (ids g.vertices) there step.fresh) step.has_input)
+    (absent_from (ids g.vertices) (end_vertices g.outputs) new wf.outputs.there step.fresh)
+    (λ v. ap (λ l. member v (end_vertices l)) step.inputs ∙ member-move_end b new g.inputs v (apart_of_member b new (ids g.vertices) there step.fresh) step.has_input)
     (Flows-from (seen g) table flow))
   where
     there : member b (ids g.vertices) ≡ true
     there = all_at (λ w. member w (ids g.vertices)) (end_vertices g.inputs) b wf.inputs.there step.has_input
 
-    grown : Grown (seen g) step.new b (seen h)
-    grown = Grown-split g b step.new h wf step.fresh there step.vertices step.edges
+    grown : Grown (seen g) new b (seen h)
+    grown = Grown-split g b new h wf step.fresh there step.vertices step.edges

@@ -1,6 +1,6 @@
 -- Lists of corrections: their order and their sets after a change.
-use Rattle.std.proofs.Common.{◌≡◌, ◌≢◌, ◌⊎◌, inl, inr, refl, sym, ◌∙◌, ap, ap₂, subst, ⊎_elim, ℕ, Bool, true, false, cond, not, ◌&&◌, ◌||◌, eqb, List, [], ◌∷◌, ◌++◌, eq-eqb, ne_eqb}
-use Rattle.std.proofs.lemmas.Bool.{cases_Bool, cases_eq, true≢false, and_parts, eqb-true, or_right, or_left, or_cases, or_parts}
+use Rattle.std.proofs.Common.{◌≡◌, ◌≢◌, refl, sym, ◌∙◌, ap, subst, ⊎_elim, ℕ, Bool, true, false, cond, not, ◌&&◌, ◌||◌, eqb, List, [], ◌∷◌, ◌++◌, eq-eqb, ne_eqb}
+use Rattle.std.proofs.lemmas.Bool.{cases_Bool, cases_eq, true≢false, eqb-true, or_parts}
 use Rattle.zx_model.specs.Bits.{member}
 use Rattle.zx_calculus.proofs.Booleans.{and-false}
 use Rattle.gflow_laws.specs.Tables.{with_sets, without_set}
@@ -8,7 +8,6 @@ use Rattle.gflow_laws.specs.Flow.{order_of, Correction, set_of, is_in, is_later,
 use Rattle.gflow_laws.specs.Correcting.{Corrects, FlowAsFunctions, Distinct}
 use Rattle.gflow_laws.specs.Seen.{Seen}
 use Rattle.gflow_laws.proofs.Linear.{removed, member-removed}
-use Rattle.gflow_laws.proofs.Flows.{listed}
 
 pub order_of-with_sets : (change : ℕ → List ℕ → List ℕ) (table : List Correction) → order_of (with_sets change table) ≡ order_of table
 order_of-with_sets change [] = refl

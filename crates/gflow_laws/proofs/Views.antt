@@ -1,6 +1,5 @@
 -- What a flow sees of a graph, and what turns do to planes.
-use Rattle.std.proofs.Common.{◌≡◌, ◌≢◌, refl, sym, ◌∙◌, ap, ⊎_elim, ℕ, Bool, true, false, cond, not, ◌&&◌, eqb, eq-eqb, ne_eqb}
-use Rattle.std.proofs.lemmas.Bool.{cases_eq, true≢false}
+use Rattle.std.proofs.Common.{◌≡◌, refl, ℕ, Bool, true, false, cond}
 use Rattle.zx_calculus.specs.Graph.{WellFormed, ids, Graph, Plane, XY, YZ, XZ, Kind}
 use Rattle.zx_calculus.specs.Turns.{quarter_turned_in, half_turned_in, half_turned}
 use Rattle.zx_calculus.proofs.Edges.{joined_comm}

@@ -12,7 +12,7 @@ use Rattle.gflow_laws.specs.Steps.{table_after}
 pub record IsRewritten (g : Graph) (before : List Correction) (s : Step) (h : Graph) (after : List Correction)
     : Type 0 where
   pub step : IsStep g s h
-  pub table : SameSets after (table_after g s h before)
+  pub table : SameSets after (table_after g s before)
   pub valid : WellFormed h
   pub flow : IsFlow h after
   pub exact : IsExact g s h

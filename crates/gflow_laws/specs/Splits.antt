@@ -1,9 +1,7 @@
 -- What the split of an end makes of a flow.
 -- Backens, Miller-Bakewell, de Felice, Lobski and van de Wetering, "There and back again: a circuit extraction
 -- tale" (Quantum 5, 421, 2021), where rewrites that preserve the existence of a generalised flow are treated.
-use Rattle.std.specs.Prelude.{ℕ, if◌then◌else◌, List, [], ◌∷◌, ◌++◌}
-use Rattle.zx_model.specs.Bits.{member}
-use Rattle.zx_calculus.specs.Graph.{Graph, ids}
+use Rattle.std.specs.Prelude.{ℕ, List, [], ◌∷◌, ◌++◌}
 use Rattle.gflow_laws.specs.Flow.{Correction}
 
 -- the flow after the output at b moved to a new vertex: b comes last, corrected by the new vertex
@@ -13,12 +11,3 @@ split_output_table b new table = table ++ record { vertex = b; members = new ∷
 -- the flow after the input at b moved to a new vertex: the new vertex comes first, corrected by b
 abbrev pub split_input_table : ℕ → ℕ → List Correction → List Correction
 split_input_table b new table = record { vertex = new; members = b ∷ [] } ∷ table
-
--- the first of the ids that isn't among the old ones
-abbrev pub new_id : List ℕ → List ℕ → ℕ
-new_id old [] = 0
-new_id old (v ∷ vs) = if member v old then new_id old vs else v
-
--- the vertex that h has and g hasn't
-abbrev pub new_vertex : Graph → Graph → ℕ
-new_vertex g h = new_id (ids g.vertices) (ids h.vertices)

@@ -51,10 +51,10 @@ pub fn each_condition_fails_alone()
 /// The flow of a path of three, whose middle is complemented about, then deleted.
 pub fn flow_of_a_path_of_three()
     ensures before { IsFlow path_of_three path_table }
-    ensures table_complemented { table_after path_of_three (LocalComplement 1) path_complemented path_table ≡
+    ensures table_complemented { table_after path_of_three (LocalComplement 1) path_table ≡
         path_complemented_table }
     ensures complemented { IsFlow path_complemented path_complemented_table }
-    ensures table_deleted { table_after path_complemented (Delete 1) path_deleted path_complemented_table ≡
+    ensures table_deleted { table_after path_complemented (Delete 1) path_complemented_table ≡
         path_deleted_table }
     ensures deleted { IsFlow path_deleted path_deleted_table }
 {}
@@ -62,44 +62,43 @@ pub fn flow_of_a_path_of_three()
 /// The flow of a path of four, whose middle two are pivoted.
 pub fn flow_of_a_path_of_four()
     ensures before { IsFlow path_of_four path_of_four_table }
-    ensures table_pivoted { table_after path_of_four (Pivot 1 2) path_pivoted path_of_four_table ≡
+    ensures table_pivoted { table_after path_of_four (Pivot 1 2) path_of_four_table ≡
         path_pivoted_table }
     ensures pivoted { IsFlow path_pivoted path_pivoted_table }
 {}
 
 /// The ends of a path of three are split.
 pub fn flow_of_split_ends()
-    ensures table_input { table_after path_of_three (SplitInput 0) (after (SplitInput 0) path_of_three) path_table ≡
+    ensures table_input { table_after path_of_three (SplitInput 0) path_table ≡
         split_input_table 0 3 path_table }
     ensures input { IsFlow (after (SplitInput 0) path_of_three) (split_input_table 0 3 path_table) }
-    ensures table_output { table_after path_of_three (SplitOutput 2) (after (SplitOutput 2) path_of_three) path_table
-        ≡ split_output_table 2 3 path_table }
+    ensures table_output { table_after path_of_three (SplitOutput 2) path_table ≡
+        split_output_table 2 3 path_table }
     ensures output { IsFlow (after (SplitOutput 2) path_of_three) (split_output_table 2 3 path_table) }
 {}
 
 /// Phase gadgets correct themselves: twins that are fused, complemented about and deleted.
 pub fn flow_of_twin_gadgets()
     ensures before { IsFlow twins (by_itself 2 ∷ by_itself 3 ∷ []) }
-    ensures table_fused { table_after twins (FuseTwin 2 3) (after (FuseTwin 2 3) twins)
-        (by_itself 2 ∷ by_itself 3 ∷ []) ≡ by_itself 2 ∷ [] }
+    ensures table_fused { table_after twins (FuseTwin 2 3) (by_itself 2 ∷ by_itself 3 ∷ []) ≡
+        by_itself 2 ∷ [] }
     ensures fused { IsFlow (after (FuseTwin 2 3) twins) (by_itself 2 ∷ []) }
     ensures table_complemented { table_after (after (FuseTwin 2 3) twins) (LocalComplement 2)
-        (after (LocalComplement 2) (after (FuseTwin 2 3) twins)) (by_itself 2 ∷ [])
-        ≡ by_itself 2 ∷ [] }
+        (by_itself 2 ∷ []) ≡ by_itself 2 ∷ [] }
     ensures complemented { IsFlow (after (LocalComplement 2) (after (FuseTwin 2 3) twins)) (by_itself 2 ∷ []) }
     ensures table_deleted { table_after (after (LocalComplement 2) (after (FuseTwin 2 3) twins)) (Delete 2)
-        twins_reduced (by_itself 2 ∷ []) ≡ [] }
+        (by_itself 2 ∷ []) ≡ [] }
     ensures deleted { IsFlow twins_reduced [] }
 {}
 
 /// A gadget without neighbours is dropped, one with one neighbour is fused into it.
 pub fn flow_of_small_gadgets()
     ensures before { IsFlow small_gadgets (by_itself 1 ∷ by_itself 2 ∷ []) }
-    ensures table_dropped { table_after small_gadgets (DropLone 2) (after (DropLone 2) small_gadgets)
+    ensures table_dropped { table_after small_gadgets (DropLone 2)
         (by_itself 1 ∷ by_itself 2 ∷ []) ≡ by_itself 1 ∷ [] }
     ensures dropped { IsFlow (after (DropLone 2) small_gadgets) (by_itself 1 ∷ []) }
     ensures table_fused { table_after (after (DropLone 2) small_gadgets) (FuseInto 1)
-        small_gadgets_reduced (by_itself 1 ∷ []) ≡ [] }
+        (by_itself 1 ∷ []) ≡ [] }
     ensures fused { IsFlow small_gadgets_reduced [] }
 {}
 

@@ -16,7 +16,7 @@ ghost use Rattle.gflow_laws.specs.Tables.{symmetric_difference};
 ghost use Rattle.gflow_laws.specs.Complements.{complement_table};
 ghost use Rattle.gflow_laws.specs.Pivots.{pivot_table};
 ghost use Rattle.gflow_laws.specs.Removals.{removal_table};
-ghost use Rattle.gflow_laws.specs.Splits.{split_input_table, split_output_table, new_vertex};
+ghost use Rattle.gflow_laws.specs.Splits.{split_input_table, split_output_table};
 ghost use Rattle.gflow_laws.specs.Steps.{table_after};
 ghost use Rattle.gflow_laws.specs.Correcting.{Distinct, Simple, Strict, Corrects, Alike, FlowAsFunctions};
 
@@ -28,10 +28,12 @@ pub fn each_rewrite_keeps_a_flow()
         WellFormed g → IsDelete g u h → IsFlow g table → IsFlow h (removal_table u table) }
     ensures pivot { (g : Graph) (u v : ℕ) (h : Graph) (table : List Correction) →
         WellFormed g → IsPivot g u v h → IsFlow g table → IsFlow h (pivot_table (seen g) u v table) }
-    ensures split_input { (g : Graph) (b : ℕ) (h : Graph) (table : List Correction) →
-        WellFormed g → (step : IsSplitInput g b h) → IsFlow g table → IsFlow h (split_input_table b step.new table) }
-    ensures split_output { (g : Graph) (b : ℕ) (h : Graph) (table : List Correction) →
-        WellFormed g → (step : IsSplitOutput g b h) → IsFlow g table → IsFlow h (split_output_table b step.new table) }
+    ensures split_input { (g : Graph) (b new : ℕ) (h : Graph) (table : List Correction) →
+        WellFormed g → IsSplitInput g b new h → IsFlow g table →
+        IsFlow h (split_input_table b new table) }
+    ensures split_output { (g : Graph) (b new : ℕ) (h : Graph) (table : List Correction) →
+        WellFormed g → IsSplitOutput g b new h → IsFlow g table →
+        IsFlow h (split_output_table b new table) }
     ensures drop_lone { (g : Graph) (u : ℕ) (h : Graph) (table : List Correction) →
         WellFormed g → IsDropLone g u h → IsFlow g table → IsFlow h (removal_table u table) }
     ensures fuse_into { (g : Graph) (u : ℕ) (h : Graph) (table : List Correction) →
@@ -39,7 +41,7 @@ pub fn each_rewrite_keeps_a_flow()
     ensures fuse_twin { (g : Graph) (u v : ℕ) (h : Graph) (table : List Correction) →
         WellFormed g → IsFuseTwin g u v h → IsFlow g table → IsFlow h (removal_table v table) }
     ensures step { (g : Graph) (s : Step) (h : Graph) (table : List Correction) →
-        WellFormed g → IsStep g s h → IsFlow g table → IsFlow h (table_after g s h table) }
+        WellFormed g → IsStep g s h → IsFlow g table → IsFlow h (table_after g s table) }
 {}
 
 /// Whatever a list of rewrites leads to, in any order, from a graph with a flow, has a flow, a sum that is the old
@@ -56,12 +58,6 @@ pub fn parts_of_the_tables()
     // The symmetric difference of two sets is their sum.
     ensures difference { (left right : List ℕ) (w : ℕ) →
         is_in (symmetric_difference left right) w ≡ xor (is_in left w) (is_in right w) }
-
-    // The vertex that a split makes is found by comparing the graphs.
-    ensures new_input { (g : Graph) (b : ℕ) (h : Graph) (step : IsSplitInput g b h) →
-        new_vertex g h ≡ step.new }
-    ensures new_output { (g : Graph) (b : ℕ) (h : Graph) (step : IsSplitOutput g b h) →
-        new_vertex g h ≡ step.new }
 
     // In planes and edges a pivot of u and v is local complements about u, v and u.
     ensures pivot { (g : Graph) (u v : ℕ) (h : Graph) → WellFormed g → IsPivot g u v h →
@@ -92,8 +88,8 @@ pub fn what_a_flow_depends_on()
         IsFlow g table → IsFlow g other }
 
     // What a rewrite makes of equal sets are equal sets.
-    ensures same_sets_after { (g : Graph) (s : Step) (h : Graph) (table other : List Correction) →
-        SameSets table other → SameSets (table_after g s h table) (table_after g s h other) }
+    ensures same_sets_after { (g : Graph) (s : Step) (table other : List Correction) →
+        SameSets table other → SameSets (table_after g s table) (table_after g s other) }
 {}
 
 /// The conditions of a flow, vertex by vertex, with sets and the order as functions.

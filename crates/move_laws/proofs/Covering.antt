@@ -121,8 +121,8 @@ kept g h touched k set formed after same covers u v place =
     (λ out other. covers u v (was_place g h formed after k u v (same u (lives h k u v place) out)
     (λ e. same v (lives h k v u (exchanged h k u v e place)) (other e)) place))
 
-pub kept_by_step : (g : Graph) (s : Step) (h : Graph) (k : MoveKind) (set : ℕ → Bool) → WellFormed g → IsStep g s h → Covers g k set → Covers h k (with_touched (touched_by g s h) set)
-kept_by_step g s h k set formed step covers = kept g h (touched_by g s h) k set formed (step_kept g s h formed step) (step_touches g s h formed step) covers
+pub kept_by_step : (g : Graph) (s : Step) (h : Graph) (k : MoveKind) (set : ℕ → Bool) → WellFormed g → IsStep g s h → Covers g k set → Covers h k (with_touched (touched_by g s) set)
+kept_by_step g s h k set formed step covers = kept g h (touched_by g s) k set formed (step_kept g s h formed step) (step_touches g s h formed step) covers
 
 pub all_cover : (g : Graph) (k : MoveKind) → Covers g k (λ u. member u (ids g.vertices))
 all_cover g k u v place = ap (λ b. b || (is_mutual k && member v (ids g.vertices))) (lives g k u v place)

@@ -24,22 +24,22 @@ after_complement s u table = order_of-with_sets _ table
 after_removal : (u : ℕ) (table : List Correction) → order_of (removal_table u table) ≡ order_without u (order_of table)
 after_removal u table = order_of-with_sets _ (without_set u table) ∙ order_of-without_set u table ∙ removed-filter u (order_of table)
 
-order_of-table_after : (g : Graph) (s : Step) (h : Graph) (table : List Correction) → order_of (table_after g s h table) ≡ order_after g s h (order_of table)
-order_of-table_after g (LocalComplement u) h table = after_complement (seen g) u table
-order_of-table_after g (Delete u) h table = after_removal u table
-order_of-table_after g (Pivot u v) h table =
+order_of-table_after : (g : Graph) (s : Step) (table : List Correction) → order_of (table_after g s table) ≡ order_after g s (order_of table)
+order_of-table_after g (LocalComplement u) table = after_complement (seen g) u table
+order_of-table_after g (Delete u) table = after_removal u table
+order_of-table_after g (Pivot u v) table =
     after_complement (complemented (complemented (seen g) u) v) u (complement_table (complemented (seen g) u) v (complement_table (seen g) u table))
     ∙ after_complement (complemented (seen g) u) v (complement_table (seen g) u table)
     ∙ after_complement (seen g) u table
-order_of-table_after g (SplitInput b) h table = refl
-order_of-table_after g (SplitOutput b) h table = order_of-append table _
-order_of-table_after g (DropLone u) h table = after_removal u table
-order_of-table_after g (FuseInto u) h table = after_removal u table
-order_of-table_after g (FuseTwin u v) h table = after_removal v table
+order_of-table_after g (SplitInput b) table = refl
+order_of-table_after g (SplitOutput b) table = order_of-append table _
+order_of-table_after g (DropLone u) table = after_removal u table
+order_of-table_after g (FuseInto u) table = after_removal u table
+order_of-table_after g (FuseTwin u v) table = after_removal v table
 
-pub kept_along : (g : Graph) (s : Step) (h : Graph) (order : List ℕ) → WellFormed g → IsStep g s h → HasFlowAlong g order → HasFlowAlong h (order_after g s h order)
+pub kept_along : (g : Graph) (s : Step) (h : Graph) (order : List ℕ) → WellFormed g → IsStep g s h → HasFlowAlong g order → HasFlowAlong h (order_after g s order)
 kept_along g s h order formed step f = record {
-  table = table_after g s h f.table;
+  table = table_after g s f.table;
   flow = step_flow g s h f.table formed step f.flow;
-  along = order_of-table_after g s h f.table ∙ ap (order_after g s h) f.along;
+  along = order_of-table_after g s f.table ∙ ap (order_after g s) f.along;
 }

@@ -2,14 +2,13 @@
 use Rattle.std.proofs.Common.{◌≡◌, sym, ◌∙◌, ap, subst, ℕ, suc, ◌<◌, ◌≤◌, true, false, cond, not, ◌||◌, eqb, List, [], ◌∷◌, ◌++◌, arith, true≢false}
 use Rattle.zx_model.specs.Bits.{member}
 use Rattle.zx_calculus.specs.Graph.{Graph, WellFormed}
-use Rattle.zx_calculus.specs.Splits.{IsSplitInput, IsSplitOutput}
+use Rattle.zx_calculus.specs.Splits.{new_vertex}
 use Rattle.zx_calculus.specs.Steps.{Step, IsStep, LocalComplement, Delete, Pivot, SplitInput, SplitOutput, DropLone, FuseInto, FuseTwin}
 use Rattle.zx_calculus.proofs.Ids.{by_test, by_equal, eqb-self, and-left, member-here, member-there, member-filter, member-append}
 use Rattle.zx_calculus.proofs.Booleans.{or-false}
 use Rattle.gflow_laws.specs.Seen.{seen}
 use Rattle.gflow_laws.proofs.Flows.{Flows-from}
 use Rattle.gflow_laws.proofs.Tables.{unlisted, absent}
-use Rattle.gflow_laws.proofs.Splits.{new_vertex-split}
 use Rattle.move_laws.specs.Orders.{HasFlowAlong, order_without, is_split}
 use Rattle.move_laws.specs.Ranks.{RisesBy, HasFlowBy, ranked}
 use Rattle.move_laws.proofs.FlowOrders.{kept_along}
@@ -80,11 +79,11 @@ not_in_order g order v f is_output = ap (member v) (sym f.along) ∙ unlisted (s
 fresh_in_order : (g : Graph) (order : List ℕ) (v : ℕ) → HasFlowAlong g order → member v (seen g).ids ≡ false → member v order ≡ false
 fresh_in_order g order v f is_fresh = ap (member v) (sym f.along) ∙ absent (seen g) f.table (Flows-from (seen g) f.table f.flow) v is_fresh
 
-pub first_by : (g : Graph) (b : ℕ) (h : Graph) (rank : ℕ → ℕ) (low high : ℕ) → WellFormed g → (step : IsSplitInput g b h) → HasFlowBy g rank (suc low) high → low < high →
-    HasFlowBy h (ranked step.new low rank) low high
+pub first_by : (g : Graph) (b : ℕ) (h : Graph) (rank : ℕ → ℕ) (low high : ℕ) → WellFormed g → IsStep g (SplitInput b) h → HasFlowBy g rank (suc low) high → low < high →
+    HasFlowBy h (ranked (new_vertex g) low rank) low high
 first_by g b h rank low high formed step f some = record {
   order = new ∷ f.order;
-  flow = subst (λ n. HasFlowAlong h (n ∷ f.order)) (new_vertex-split g new h step.fresh step.vertices) (kept_along g (SplitInput b) h f.order formed step f.flow);
+  flow = kept_along g (SplitInput b) h f.order formed step f.flow;
   rises = (
     (λ w there. let at_w : ranked new low rank w ≡ rank w = ranked_other new low rank f.order w out there in
         rw (ranked-self new low rank, at_w) (f.from_low w there)),
@@ -99,12 +98,12 @@ first_by g b h rank low high formed step f some = record {
 }
   where
     new : ℕ
-    new = step.new
+    new = new_vertex g
 
     out : member new f.order ≡ false
     out = fresh_in_order g f.order new f.flow step.fresh
 
-pub last_by : (g : Graph) (b : ℕ) (h : Graph) (rank : ℕ → ℕ) (low high : ℕ) → WellFormed g → IsSplitOutput g b h → HasFlowBy g rank low high → low ≤ high →
+pub last_by : (g : Graph) (b : ℕ) (h : Graph) (rank : ℕ → ℕ) (low high : ℕ) → WellFormed g → IsStep g (SplitOutput b) h → HasFlowBy g rank low high → low ≤ high →
     HasFlowBy h (ranked b high rank) low (suc high)
 last_by g b h rank low high formed step f some = record {
   order = f.order ++ b ∷ [];

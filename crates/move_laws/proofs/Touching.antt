@@ -1,5 +1,5 @@
 -- A step leaves what moves see of the vertices that it doesn't touch.
-use Rattle.std.proofs.Common.{◌≡◌, ◌≢◌, refl, sym, ◌∙◌, ap, ap₂, subst, ℕ, Bool, true, false, cond, not, ◌&&◌, ◌||◌, eqb, List, [], ◌∷◌, ◌++◌, ne_eqb, true≢false}
+use Rattle.std.proofs.Common.{◌≡◌, ◌≢◌, refl, sym, ◌∙◌, ap, ap₂, ℕ, Bool, true, false, cond, not, ◌&&◌, ◌||◌, eqb, List, [], ◌∷◌, ◌++◌, ne_eqb, true≢false}
 use Rattle.std.proofs.lemmas.Bool.{eqb-false}
 use Rattle.zx_model.specs.Bits.{xor, member}
 use Rattle.zx_model.specs.Phase.{half_turn}
@@ -9,7 +9,7 @@ use Rattle.zx_calculus.specs.Turns.{quarter_turned, half_turned, complemented, p
 use Rattle.zx_calculus.specs.Complements.{IsLocalComplement, complement_kind}
 use Rattle.zx_calculus.specs.Deletions.{IsDelete, delete_kind}
 use Rattle.zx_calculus.specs.Pivots.{IsPivot, pivot_kind}
-use Rattle.zx_calculus.specs.Splits.{IsSplitInput, IsSplitOutput, spider_of_phase_zero}
+use Rattle.zx_calculus.specs.Splits.{IsSplitInput, IsSplitOutput, new_vertex, spider_of_phase_zero}
 use Rattle.zx_calculus.specs.Gadgets.{IsDropLone, IsFuseInto, IsFuseTwin, fuse_kind}
 use Rattle.zx_calculus.specs.Steps.{Step, IsStep, LocalComplement, Delete, Pivot, SplitInput, SplitOutput, DropLone, FuseInto, FuseTwin}
 use Rattle.zx_calculus.proofs.Booleans.{xor-false, and-false, or-false}
@@ -23,7 +23,6 @@ use Rattle.zx_calculus.proofs.Splitting.{no_loop, joined-absent, member-without}
 use Rattle.zx_calculus.proofs.Steps.{step_kept}
 use Rattle.zx_calculus.proofs.Toggling.{member-neighbours}
 use Rattle.zx_calculus.proofs.Vertices.{ids-with_kinds, kind_of-with_kinds, kind_of-without, with_kinds-identity, member-insert}
-use Rattle.gflow_laws.proofs.Splits.{new_vertex-split}
 use Rattle.move_laws.specs.Candidates.{IsSameAt, IsTouchedIn, touched_by}
 
 interior_kept : (g h : Graph) → KeepsEnds g h → (p : ℕ) → is_interior h p ≡ is_interior g p
@@ -186,27 +185,27 @@ module _ (g h : Graph) (formed : WellFormed g) (after : WellFormed h) where
           ∙ ap₂ (λ c d. joined g.edges w p || ((c && eqb p new) || (d && eqb p b))) (ne_eqb w b not_b) (ne_eqb w new not_new)
           ∙ or-false (joined g.edges w p)
 
-  split_input_touches : (b : ℕ) → (c : IsSplitInput g b h) → IsTouchedIn (c.new ∷ b ∷ neighbours g b) g h
-  split_input_touches b c w live out =
-      split_leaves b c.new w c.fresh c.vertices c.edges
-      (λ p off_b off_new. ap₂ (λ i o. not (i || o)) (ap (λ es. member p (end_vertices es)) c.inputs ∙ member-move_end-other b c.new g.inputs p off_b off_new)
+  split_input_touches : (b new : ℕ) → IsSplitInput g b new h → IsTouchedIn (new ∷ b ∷ neighbours g b) g h
+  split_input_touches b new c w live out =
+      split_leaves b new w c.fresh c.vertices c.edges
+      (λ p off_b off_new. ap₂ (λ i o. not (i || o)) (ap (λ es. member p (end_vertices es)) c.inputs ∙ member-move_end-other b new g.inputs p off_b off_new)
       (ap (λ es. member p (end_vertices es)) c.outputs)) out live
 
-  split_output_touches : (b : ℕ) → (c : IsSplitOutput g b h) → IsTouchedIn (c.new ∷ b ∷ neighbours g b) g h
-  split_output_touches b c w live out =
-      split_leaves b c.new w c.fresh c.vertices c.edges
+  split_output_touches : (b new : ℕ) → IsSplitOutput g b new h → IsTouchedIn (new ∷ b ∷ neighbours g b) g h
+  split_output_touches b new c w live out =
+      split_leaves b new w c.fresh c.vertices c.edges
       (λ p off_b off_new. ap₂ (λ i o. not (i || o)) (ap (λ es. member p (end_vertices es)) c.inputs)
-      (ap (λ es. member p (end_vertices es)) c.outputs ∙ member-move_end-other b c.new g.outputs p off_b off_new)) out live
+      (ap (λ es. member p (end_vertices es)) c.outputs ∙ member-move_end-other b new g.outputs p off_b off_new)) out live
 
-  touches : (s : Step) → IsStep g s h → IsTouchedIn (touched_by g s h) g h
+  touches : (s : Step) → IsStep g s h → IsTouchedIn (touched_by g s) g h
   touches (LocalComplement u) step = complement_touches u step
   touches (Delete u) step = delete_touches u step
   touches (Pivot u v) step = pivot_touches u v step
-  touches (SplitInput b) step = subst (λ n. IsTouchedIn (n ∷ b ∷ neighbours g b) g h) (sym (new_vertex-split g step.new h step.fresh step.vertices)) (split_input_touches b step)
-  touches (SplitOutput b) step = subst (λ n. IsTouchedIn (n ∷ b ∷ neighbours g b) g h) (sym (new_vertex-split g step.new h step.fresh step.vertices)) (split_output_touches b step)
+  touches (SplitInput b) step = split_input_touches b (new_vertex g) step
+  touches (SplitOutput b) step = split_output_touches b (new_vertex g) step
   touches (DropLone u) step = drop_touches u step
   touches (FuseInto u) step = fuse_into_touches u step
   touches (FuseTwin u v) step = fuse_twin_touches u v step
 
-pub step_touches : (g : Graph) (s : Step) (h : Graph) → WellFormed g → IsStep g s h → IsTouchedIn (touched_by g s h) g h
+pub step_touches : (g : Graph) (s : Step) (h : Graph) → WellFormed g → IsStep g s h → IsTouchedIn (touched_by g s) g h
 step_touches g s h formed step = touches g h formed (step_kept g s h formed step) s step

@@ -9,9 +9,9 @@ use Rattle.zx_calculus.specs.Graph.{Graph, joined, kind_of, neighbours, is_inter
 use Rattle.zx_calculus.specs.Deletions.{IsDeletable}
 use Rattle.zx_calculus.specs.Moves.{IsQuarterGadget, IsInXZ, IsQuarterSpider, IsInnerPivot}
 use Rattle.zx_calculus.specs.Moves.{IsBoundaryPivot, IsGadgetPair, IsGadgetOf, AreTwins}
+use Rattle.zx_calculus.specs.Splits.{new_vertex}
 use Rattle.zx_calculus.specs.Steps.{Step, LocalComplement, Delete, Pivot, SplitInput, SplitOutput}
 use Rattle.zx_calculus.specs.Steps.{DropLone, FuseInto, FuseTwin}
-use Rattle.gflow_laws.specs.Splits.{new_vertex}
 
 -- the kinds of places at which a graph can be made simpler
 pub data MoveKind : Type 0 where
@@ -61,16 +61,16 @@ pub record IsSameAt (g h : Graph) (u : ℕ) : Type 0 where
 abbrev pub IsTouchedIn : List ℕ → Graph → Graph → Type 0
 IsTouchedIn touched g h = (u : ℕ) → Live h u → member u touched ≡ false → IsSameAt g h u
 
--- the vertices that a step from g to h touches, by the rows of g
-abbrev pub touched_by : Graph → Step → Graph → List ℕ
-touched_by g (LocalComplement u) h = u ∷ neighbours g u
-touched_by g (Delete u) h = u ∷ neighbours g u
-touched_by g (Pivot u v) h = u ∷ v ∷ (neighbours g u ++ neighbours g v)
-touched_by g (SplitInput b) h = new_vertex g h ∷ b ∷ neighbours g b
-touched_by g (SplitOutput b) h = new_vertex g h ∷ b ∷ neighbours g b
-touched_by g (DropLone u) h = u ∷ []
-touched_by g (FuseInto u) h = u ∷ neighbours g u
-touched_by g (FuseTwin u v) h = u ∷ v ∷ neighbours g v
+-- the vertices that a step of g touches, by the rows of g
+abbrev pub touched_by : Graph → Step → List ℕ
+touched_by g (LocalComplement u) = u ∷ neighbours g u
+touched_by g (Delete u) = u ∷ neighbours g u
+touched_by g (Pivot u v) = u ∷ v ∷ (neighbours g u ++ neighbours g v)
+touched_by g (SplitInput b) = new_vertex g ∷ b ∷ neighbours g b
+touched_by g (SplitOutput b) = new_vertex g ∷ b ∷ neighbours g b
+touched_by g (DropLone u) = u ∷ []
+touched_by g (FuseInto u) = u ∷ neighbours g u
+touched_by g (FuseTwin u v) = u ∷ v ∷ neighbours g v
 
 -- the set with the touched vertices, and the set without u
 abbrev pub with_touched : List ℕ → (ℕ → Bool) → ℕ → Bool

@@ -4,10 +4,10 @@
 -- generalised flow are treated; here the order is told, and the sets are not.
 use Rattle.std.specs.Prelude.{◌≡◌, ℕ, Bool, true, false, not, ◌==◌, List, [], ◌∷◌, ◌++◌, filter}
 use Rattle.zx_calculus.specs.Graph.{Graph}
+use Rattle.zx_calculus.specs.Splits.{new_vertex}
 use Rattle.zx_calculus.specs.Steps.{Step, LocalComplement, Delete, Pivot, SplitInput, SplitOutput}
 use Rattle.zx_calculus.specs.Steps.{DropLone, FuseInto, FuseTwin}
 use Rattle.gflow_laws.specs.Flow.{Correction, order_of, IsFlow}
-use Rattle.gflow_laws.specs.Splits.{new_vertex}
 
 -- some sets make this order a flow of the graph
 pub record HasFlowAlong (g : Graph) (order : List ℕ) : Type 0 where
@@ -19,16 +19,16 @@ pub record HasFlowAlong (g : Graph) (order : List ℕ) : Type 0 where
 abbrev pub order_without : ℕ → List ℕ → List ℕ
 order_without u order = filter (λ v. not (u == v)) order
 
--- the order after a step from g to h
-abbrev pub order_after : Graph → Step → Graph → List ℕ → List ℕ
-order_after g (LocalComplement u) h order = order
-order_after g (Delete u) h order = order_without u order
-order_after g (Pivot u v) h order = order
-order_after g (SplitInput b) h order = new_vertex g h ∷ order
-order_after g (SplitOutput b) h order = order ++ b ∷ []
-order_after g (DropLone u) h order = order_without u order
-order_after g (FuseInto u) h order = order_without u order
-order_after g (FuseTwin u v) h order = order_without v order
+-- the order after a step of g
+abbrev pub order_after : Graph → Step → List ℕ → List ℕ
+order_after g (LocalComplement u) order = order
+order_after g (Delete u) order = order_without u order
+order_after g (Pivot u v) order = order
+order_after g (SplitInput b) order = new_vertex g ∷ order
+order_after g (SplitOutput b) order = order ++ b ∷ []
+order_after g (DropLone u) order = order_without u order
+order_after g (FuseInto u) order = order_without u order
+order_after g (FuseTwin u v) order = order_without v order
 
 -- whether the step splits an end, so that a vertex comes into the order
 abbrev pub is_split : Step → Bool

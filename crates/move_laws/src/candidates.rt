@@ -11,13 +11,13 @@ ghost use Rattle.move_laws.specs.Candidates.{MoveKind, IsPlaceOf, Covers, IsTouc
 /// alone, so with these put into the set, the set covers each place of the new graph.
 pub fn candidates_stay_complete()
     ensures touched { (g : Graph) (s : Step) (h : Graph) → WellFormed g → IsStep g s h →
-        IsTouchedIn (touched_by g s h) g h }
+        IsTouchedIn (touched_by g s) g h }
     ensures kept { (g h : Graph) (touched : List ℕ) (k : MoveKind) (set : ℕ → Bool) →
         WellFormed g → WellFormed h → IsTouchedIn touched g h → Covers g k set →
         Covers h k (with_touched touched set) }
     ensures step { (g : Graph) (s : Step) (h : Graph) (k : MoveKind) (set : ℕ → Bool) →
         WellFormed g → IsStep g s h → Covers g k set →
-        Covers h k (with_touched (touched_by g s h) set) }
+        Covers h k (with_touched (touched_by g s) set) }
 {}
 
 /// All vertices are candidates to begin with. One at which no place of the kind is may be taken

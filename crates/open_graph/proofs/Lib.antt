@@ -2,6 +2,7 @@ pub mod RowLemmas
 pub mod Walks
 pub mod Toggling
 pub mod PlaceLemmas
+pub mod TableLemmas
 pub mod SlotLemmas
 pub mod Keeping
 pub mod Removing

@@ -1,5 +1,5 @@
 -- A graph kept as slots: its lists tell what the slots tell.
-use Rattle.std.proofs.Common.{◌≡◌, refl, sym, ◌∙◌, ap, ℕ, zero, suc, ◌+◌, ◌<◌, Bool, true, false, ltb, List, [], ◌∷◌, Option, Some, None, IsSome, IsTrue, ◌↔◌, slice_index_or, true≢false, eq-eqb, ne_eqb, lt-ltb, zero-add, add-zero, add-one, map, arith}
+use Rattle.std.proofs.Common.{◌≡◌, refl, sym, ◌∙◌, ap, ℕ, zero, suc, ◌+◌, ◌<◌, Bool, true, false, ltb, List, [], ◌∷◌, Option, Some, None, is_some, IsSome, IsTrue, ◌↔◌, slice_index_or, true≢false, eq-eqb, ne_eqb, lt-ltb, zero-add, add-zero, arith}
 use Rattle.std.specs.List.{list_all}
 use Rattle.zx_model.specs.Bits.{member}
 use Rattle.zx_calculus.specs.Graph.{XY, End, ids, kind_of, joined, in_order}
@@ -10,9 +10,10 @@ use Rattle.zx_calculus.proofs.Kept.{both}
 use Rattle.zx_calculus.proofs.Splitting.{joined-self}
 use Rattle.zx_calculus.proofs.EdgeLists.{OrderedEdges-edges_of}
 use Rattle.zx_calculus.proofs.Programs.{edges_full}
-use Rattle.slab.specs.Slab.{entries_from}
+use Rattle.zx_bits.specs.Rows.{IsFirstFrom}
 use Rattle.open_graph.specs.declared.slot.Slot.{Slot}
 use Rattle.open_graph.specs.Internal.Slots.{told_by, told, vertices_from, vertices_of, adjacent, graph_of, IsSound, Tells}
+use Rattle.open_graph.proofs.RowLemmas.{first_alike}
 
 -- ids below that of the first slot
 member-below_first : (first : ℕ) (slots : List (Option Slot)) (p : ℕ) → p < first → member p (ids (vertices_from first slots)) ≡ false
@@ -98,11 +99,19 @@ live_by slots p b h = by_option (slice_index_or slots p None) h ∙ sym (member-
     by_option None h = by_test b (λ t. absurd (true≢false (sym (h.0 t)))) (λ f. f)
     by_option (Some s) h = h.1 refl
 
+live_if_some : (slot : Option Slot) → is_some slot ≡ (told_by slot).live
+live_if_some None = refl
+live_if_some (Some s) = refl
+
+pub member_of_some : (slots : List (Option Slot)) (v : ℕ) → IsSome (slice_index_or slots v None) → member v (ids (vertices_of slots)) ≡ true
+member_of_some slots v there = member-vertices slots v ∙ sym (live_if_some (slice_index_or slots v None)) ∙ there
+
+-- the first slot from a place on is that of the first vertex
+pub first_vertex : (slots : List (Option Slot)) (start : ℕ) (r : Option ℕ) → IsFirstFrom (λ v. is_some (slice_index_or slots v None)) start r →
+    IsFirstFrom (λ v. member v (ids (vertices_of slots))) start r
+first_vertex slots start r =
+    first_alike (λ v. is_some (slice_index_or slots v None)) (λ v. member v (ids (vertices_of slots))) start r
+    (λ v. live_if_some (slice_index_or slots v None) ∙ sym (member-vertices slots v))
+
 pub contains_live : (slots : List (Option Slot)) (v : ℕ) → member v (ids (vertices_of slots)) ≡ true → IsSome (slice_index_or slots v None)
 contains_live slots v there = some_of_live (slice_index_or slots v None) (sym (member-vertices slots v) ∙ there)
-
--- the keys of the entries are the ids of the vertices
-pub ids-vertices_from : (first : ℕ) (slots : List (Option Slot)) → map (λ e. e.0) (entries_from first slots) ≡ ids (vertices_from first slots)
-ids-vertices_from first [] = refl
-ids-vertices_from first (None ∷ rest) = ap (λ n. map (λ e. e.0) (entries_from n rest)) (add-one first) ∙ ids-vertices_from (suc first) rest
-ids-vertices_from first (Some s ∷ rest) = ap (λ r. first ∷ r) (ap (λ n. map (λ e. e.0) (entries_from n rest)) (add-one first) ∙ ids-vertices_from (suc first) rest)

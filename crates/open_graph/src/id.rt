@@ -4,7 +4,7 @@ ghost use Rattle.std.specs.Prelude.{◌≡◌};
 
 use std::marker::Model;
 
-/// The id of a vertex. That of a removed vertex may be given again.
+/// The id of a vertex. That of a removed vertex is given again once it is the least that is free.
 #[derive(Clone, Copy, Debug, Default, PartialEq, Eq)]
 pub struct VertexId {
     number: usize,

@@ -1,9 +1,9 @@
 //! Open graphs in memory: vertices with planes and phases, edges, inputs and outputs.
 //!
 //! Proved: each call makes its one named change of the graph's lists, and all else stays; the graph
-//! stays well-formed; a new id wasn't live; readers tell the lists, neighbours and vertices by
-//! rising id; a copy has the same lists; want of memory leaves them as they were, but
-//! leaves no vertex where it stops `toggle_across` or `toggle_among`, which toggle whole rows.
+//! stays well-formed; a new id is the least that no vertex has; readers tell the lists, neighbours
+//! and vertices by rising id; a copy has the same lists; want of memory leaves them as they were,
+//! but leaves no vertex where it stops `toggle_across` or `toggle_among`, which toggle whole rows.
 //!
 //! ```rust
 //! let mut g = OpenGraph::new(alloc);
@@ -20,6 +20,7 @@ mod open_graph;
 mod plane;
 mod side;
 mod slot;
+mod slot_table;
 mod slots;
 #[cfg(test)]
 mod tests;

@@ -5,6 +5,7 @@ ghost use Rattle.zx_model.specs.Bits.{member};
 ghost use Rattle.zx_calculus.specs.Graph.{ids, kind_of, plane_of, joined, end_vertices, insert_vertex, with_kinds, Live, WellFormed, Interior, is_interior};
 ghost use Rattle.zx_calculus.specs.Graph as zx;
 ghost use Rattle.zx_calculus.specs.Turns.{in_plane, quarter_turned};
+ghost use Rattle.zx_calculus.specs.Splits.{least_free};
 ghost use Rattle.zx_calculus.specs.Worked.{vertex};
 ghost use Rattle.zx_calculus.specs.Edits.{IsToggle, IsRemoval, at_vertex};
 ghost use Rattle.zx_calculus.specs.Toggles.{IsToggled, across, among};
@@ -18,10 +19,10 @@ use crate::ids::Ids;
 use crate::plane::Plane;
 use crate::side::{self, Side};
 use crate::slot::Slot;
+use crate::slot_table::SlotTable;
 use crate::slots;
 use crate::vertex_set::VertexSet;
 use crate::vertices::Vertices;
-use slab::Slab;
 use std::alloc::{AllocError, Global};
 use std::marker::Model;
 use zx_model::Sixteenth;
@@ -30,7 +31,7 @@ use zx_model::Sixteenth;
 #[derive(Drop)]
 pub struct OpenGraph {
     alloc: Global,
-    slots: Slab<Slot>,
+    slots: SlotTable,
     inputs: Vec<End>,
     outputs: Vec<End>,
 }
@@ -54,15 +55,17 @@ impl OpenGraph {
     {
         OpenGraph {
             alloc,
-            slots: Slab::new(alloc),
+            slots: SlotTable::new(alloc),
             inputs: Vec::new(alloc),
             outputs: Vec::new(alloc),
         }
     }
 
-    /// Adds a vertex without edges and ends. Where memory runs out the graph stays as it was.
+    /// Adds a vertex without edges and ends, of the least id that is free. Where memory runs out the
+    /// graph stays as it was.
     pub fn add_vertex(&mut self, plane: Plane, phase: Sixteenth) -> Result<VertexId, AllocError>
         ensures fresh { IfOk result (λ v. member v (ids self.old.graph.vertices) ≡ false) }
+        ensures least { IfOk result (λ v. v ≡ least_free (ids self.old.graph.vertices)) }
         ensures ok { IfOk result (λ v. self.new.graph ≡ record self.old.graph {
           vertices = insert_vertex (vertex v (plane_named plane) phase) self.old.graph.vertices;
         }) }
@@ -360,8 +363,18 @@ impl OpenGraph {
         ensures valid { WellFormed self.now.graph }
     {
         Vertices {
-            entries: self.slots.iter(),
+            slots: &self.slots,
+            next: 0,
         }
+    }
+
+    /// The vertex of the least id that isn't below a number, if there is one. It takes no memory.
+    pub fn vertex_from(&self, start: usize) -> Option<VertexId>
+        ensures first { IsFirstFrom (λ v. member v (ids self.now.graph.vertices)) start result }
+        ensures bounded { IfSome result (λ v. v < usize.MAX) }
+        ensures valid { WellFormed self.now.graph }
+    {
+        self.slots.first_from(start).map(VertexId::new)
     }
 
     // What is kept of a vertex.

@@ -1,15 +1,14 @@
 //! The two sides of a graph, and changes of the ends of either.
 
 ghost use Rattle.std.specs.Prelude.{◌≡◌, ◌<◌, ◌++◌, [], ◌∷◌, Some, length, slice_set, slice_index_or, OnOk, OnErr};
-ghost use Rattle.slab.specs.Slab.{ContainsKey};
+ghost use Rattle.open_graph.specs.Internal.Table.{HasSlot};
 ghost use Rattle.open_graph.specs.Internal.Slots.{told};
 ghost use Rattle.open_graph.specs.Internal.Sides.{with_place, Moves};
 ghost use Rattle.open_graph.specs.Internal.Changes.{Puts};
 
 use crate::end::End;
-use crate::slot::Slot;
+use crate::slot_table::SlotTable;
 use crate::slots;
-use slab::Slab;
 use std::alloc::AllocError;
 
 // Whether a wire is an input or an output.
@@ -22,11 +21,11 @@ pub(crate) enum Side {
 // Adds an end after all others of its side.
 pub(crate) fn add_end(
     ends: &mut Vec<End>,
-    slots: &mut Slab<Slot>,
+    slots: &mut SlotTable,
     side: Side,
     end: End,
 ) -> Result<(), AllocError>
-    requires { ContainsKey slots.old end.vertex }
+    requires { HasSlot slots.old end.vertex }
     ensures ends { OnOk result (ends.new.items ≡ ends.old.items ++ end ∷ []) }
     ensures slots { OnOk result (Puts slots.old.slots slots.new.slots end.vertex
         (with_place side (Some (length ends.old.items)) (told slots.old.slots end.vertex))) }
@@ -39,10 +38,10 @@ pub(crate) fn add_end(
 }
 
 // Replaces the end of a side at a place.
-pub(crate) fn move_end(ends: &mut Vec<End>, slots: &mut Slab<Slot>, side: Side, i: usize, end: End)
+pub(crate) fn move_end(ends: &mut Vec<End>, slots: &mut SlotTable, side: Side, i: usize, end: End)
     requires in_range { i < length ends.old.items }
-    requires before { ContainsKey slots.old (slice_index_or ends.old.items i end).vertex }
-    requires after { ContainsKey slots.old end.vertex }
+    requires before { HasSlot slots.old (slice_index_or ends.old.items i end).vertex }
+    requires after { HasSlot slots.old end.vertex }
     ensures ends { ends.new.items ≡ slice_set ends.old.items i end }
     ensures slots { Moves side i (slice_index_or ends.old.items i end).vertex end.vertex
         slots.old.slots slots.new.slots }

@@ -1,8 +1,8 @@
 //! Changes of one slot.
 
-ghost use Rattle.std.specs.Prelude.{◌≡◌, ◌≢◌, ◌==◌, ◌&&◌, ℕ, Some, None, true, false, IfOk, OnOk, OnErr};
+ghost use Rattle.std.specs.Prelude.{◌≡◌, ◌≢◌, ◌<◌, ◌==◌, ◌&&◌, ℕ, Some, None, true, false, IfOk, OnOk, OnErr};
 ghost use Rattle.zx_model.specs.Bits.{member};
-ghost use Rattle.slab.specs.Slab.{get, ContainsKey};
+ghost use Rattle.open_graph.specs.Internal.Table.{slot_at, HasSlot};
 ghost use Rattle.zx_calculus.specs.Turns.{in_plane};
 ghost use Rattle.zx_calculus.specs.Graph.{Graph, Live, WellFormed, Distinct};
 ghost use Rattle.zx_calculus.proofs.Ids.{removed};
@@ -18,19 +18,20 @@ use crate::id::VertexId;
 use crate::plane::Plane;
 use crate::side::Side;
 use crate::slot::Slot;
+use crate::slot_table::SlotTable;
 use crate::vertex_set::VertexSet;
-use slab::Slab;
 use std::alloc::{AllocError, Global};
 use zx_model::Sixteenth;
 
-// Adds a vertex without neighbours and ends.
+// Adds a vertex without neighbours and ends, of the least id that has none.
 pub(crate) fn add(
-    slots: &mut Slab<Slot>,
+    slots: &mut SlotTable,
     alloc: Global,
     plane: Plane,
     phase: Sixteenth,
 ) -> Result<VertexId, AllocError>
-    ensures vacant { IfOk result (λ v. get slots.old v ≡ None) }
+    ensures vacant { IfOk result (λ v. slot_at slots.old v ≡ None) }
+    ensures least { IfOk result (λ v. (lower : ℕ) → lower < v → HasSlot slots.old lower) }
     ensures ok { IfOk result (λ v. Puts slots.old.slots slots.new.slots v
         (record nothing { live = true; kind = in_plane (plane_named plane) phase })) }
     ensures err { OnErr result (SameTold slots.old.slots slots.new.slots) }
@@ -47,11 +48,11 @@ pub(crate) fn add(
 
 // Adds a vertex to the neighbours of another.
 pub(crate) fn add_neighbour(
-    slots: &mut Slab<Slot>,
+    slots: &mut SlotTable,
     u: VertexId,
     v: VertexId,
 ) -> Result<(), AllocError>
-    requires live { ContainsKey slots.old u }
+    requires live { HasSlot slots.old u }
     requires apart { adjacent slots.old.slots u v ≡ false }
     ensures ok { OnOk result (let t = told slots.old.slots u in
         Puts slots.old.slots slots.new.slots u (record t { row = inserted v t.row })) }
@@ -61,8 +62,8 @@ pub(crate) fn add_neighbour(
 }
 
 // Takes a vertex out of the neighbours of another.
-pub(crate) fn remove_neighbour(slots: &mut Slab<Slot>, u: VertexId, v: VertexId)
-    requires { ContainsKey slots.old u }
+pub(crate) fn remove_neighbour(slots: &mut SlotTable, u: VertexId, v: VertexId)
+    requires { HasSlot slots.old u }
     ensures { let t = told slots.old.slots u in
         Puts slots.old.slots slots.new.slots u (record t { row = removed v t.row }) }
 {
@@ -70,9 +71,9 @@ pub(crate) fn remove_neighbour(slots: &mut Slab<Slot>, u: VertexId, v: VertexId)
 }
 
 // Toggles the edge between two vertices in both rows. Where memory runs out, the rows are as they were.
-pub(crate) fn toggle(slots: &mut Slab<Slot>, u: VertexId, v: VertexId) -> Result<(), AllocError>
-    requires u_live { ContainsKey slots.old u }
-    requires v_live { ContainsKey slots.old v }
+pub(crate) fn toggle(slots: &mut SlotTable, u: VertexId, v: VertexId) -> Result<(), AllocError>
+    requires u_live { HasSlot slots.old u }
+    requires v_live { HasSlot slots.old v }
     requires different { u ≢ v }
     requires symmetric { adjacent slots.old.slots u v ≡ adjacent slots.old.slots v u }
     ensures ok { OnOk result ((h : Graph) → WellFormed h → Live h u → Live h v
@@ -93,8 +94,8 @@ pub(crate) fn toggle(slots: &mut Slab<Slot>, u: VertexId, v: VertexId) -> Result
 }
 
 // Toggles vertices in the row of another.
-fn toggle_row(slots: &mut Slab<Slot>, u: VertexId, others: &VertexSet) -> Result<(), AllocError>
-    requires { ContainsKey slots.old u }
+fn toggle_row(slots: &mut SlotTable, u: VertexId, others: &VertexSet) -> Result<(), AllocError>
+    requires { HasSlot slots.old u }
     ensures { OnOk result (RowsToggled slots.old.slots slots.new.slots
         (λ p q. (p == u) && member q others.now)) }
 {
@@ -102,8 +103,8 @@ fn toggle_row(slots: &mut Slab<Slot>, u: VertexId, others: &VertexSet) -> Result
 }
 
 // Toggles one vertex in the row of another.
-fn toggle_in_row(slots: &mut Slab<Slot>, u: VertexId, v: VertexId) -> Result<(), AllocError>
-    requires { ContainsKey slots.old u }
+fn toggle_in_row(slots: &mut SlotTable, u: VertexId, v: VertexId) -> Result<(), AllocError>
+    requires { HasSlot slots.old u }
     ensures { OnOk result (RowsToggled slots.old.slots slots.new.slots
         (λ p q. (p == u) && (q == v))) }
 {
@@ -112,11 +113,11 @@ fn toggle_in_row(slots: &mut Slab<Slot>, u: VertexId, v: VertexId) -> Result<(),
 
 // Toggles vertices in the rows of others.
 fn toggle_rows(
-    slots: &mut Slab<Slot>,
+    slots: &mut SlotTable,
     vertices: &VertexSet,
     others: &VertexSet,
 ) -> Result<(), AllocError>
-    requires { (p : ℕ) → member p vertices.now ≡ true → ContainsKey slots.old p }
+    requires { (p : ℕ) → member p vertices.now ≡ true → HasSlot slots.old p }
     ensures { OnOk result (RowsToggled slots.old.slots slots.new.slots
         (λ p q. member p vertices.now && member q others.now)) }
 {
@@ -129,12 +130,12 @@ fn toggle_rows(
 // Toggles the edge of each pair across two sets, in both rows. Where memory runs out, the rows may
 // be any.
 pub(crate) fn toggle_across(
-    slots: &mut Slab<Slot>,
+    slots: &mut SlotTable,
     left: &VertexSet,
     right: &VertexSet,
 ) -> Result<(), AllocError>
-    requires left_live { (p : ℕ) → member p left.now ≡ true → ContainsKey slots.old p }
-    requires right_live { (p : ℕ) → member p right.now ≡ true → ContainsKey slots.old p }
+    requires left_live { (p : ℕ) → member p left.now ≡ true → HasSlot slots.old p }
+    requires right_live { (p : ℕ) → member p right.now ≡ true → HasSlot slots.old p }
     ensures { OnOk result
         (RowsToggled slots.old.slots slots.new.slots (across left.now right.now)) }
 {
@@ -144,8 +145,8 @@ pub(crate) fn toggle_across(
 
 // Toggles the edge of each pair of a set's vertices, in both rows. Where memory runs out, the rows
 // may be any.
-pub(crate) fn toggle_among(slots: &mut Slab<Slot>, near: &VertexSet) -> Result<(), AllocError>
-    requires { (p : ℕ) → member p near.now ≡ true → ContainsKey slots.old p }
+pub(crate) fn toggle_among(slots: &mut SlotTable, near: &VertexSet) -> Result<(), AllocError>
+    requires { (p : ℕ) → member p near.now ≡ true → HasSlot slots.old p }
     ensures { OnOk result (RowsToggled slots.old.slots slots.new.slots (two_among near.now)) }
 {
     for p in near.iter() {
@@ -156,16 +157,16 @@ pub(crate) fn toggle_among(slots: &mut Slab<Slot>, near: &VertexSet) -> Result<(
 }
 
 // Whether a vertex stands among the neighbours of another.
-fn joins(slots: &Slab<Slot>, u: VertexId, v: VertexId) -> bool
-    requires { ContainsKey slots.now u }
+fn joins(slots: &SlotTable, u: VertexId, v: VertexId) -> bool
+    requires { HasSlot slots.now u }
     ensures { result ≡ adjacent slots.now.slots u v }
 {
     slots[u.get()].row.contains(v)
 }
 
 // Gives a vertex another plane and phase.
-pub(crate) fn set_kind(slots: &mut Slab<Slot>, v: VertexId, plane: Plane, phase: Sixteenth)
-    requires { ContainsKey slots.old v }
+pub(crate) fn set_kind(slots: &mut SlotTable, v: VertexId, plane: Plane, phase: Sixteenth)
+    requires { HasSlot slots.old v }
     ensures { let t = told slots.old.slots v in
         Puts slots.old.slots slots.new.slots v (record t { kind = in_plane (plane_named plane) phase }) }
 {
@@ -175,8 +176,8 @@ pub(crate) fn set_kind(slots: &mut Slab<Slot>, v: VertexId, plane: Plane, phase:
 }
 
 // Gives the end of a side of a vertex another place, or none.
-pub(crate) fn set_place(slots: &mut Slab<Slot>, v: VertexId, side: Side, place: Option<usize>)
-    requires { ContainsKey slots.old v }
+pub(crate) fn set_place(slots: &mut SlotTable, v: VertexId, side: Side, place: Option<usize>)
+    requires { HasSlot slots.old v }
     ensures { Puts slots.old.slots slots.new.slots v (with_place side place (told slots.old.slots v)) }
 {
     let slot = &mut slots[v.get()];
@@ -187,8 +188,8 @@ pub(crate) fn set_place(slots: &mut Slab<Slot>, v: VertexId, side: Side, place: 
 }
 
 // Removes a vertex, and it from the rows of its neighbours.
-pub(crate) fn remove(slots: &mut Slab<Slot>, v: VertexId)
-    requires live { ContainsKey slots.old v }
+pub(crate) fn remove(slots: &mut SlotTable, v: VertexId)
+    requires live { HasSlot slots.old v }
     requires symmetric { (p q : ℕ) → adjacent slots.old.slots p q ≡ adjacent slots.old.slots q p }
     requires no_loop { (p : ℕ) → adjacent slots.old.slots p p ≡ false }
     ensures { RemovedFrom slots.old.slots slots.new.slots v (told slots.old.slots v).row }

@@ -174,3 +174,25 @@ fn vertices_are_turned_and_removed(rt: HostRuntime) -> Result<(), Fail> {
     assert_eq!(rt; left, 2);
     Ok(())
 }
+
+// The ids of three new vertices, as digits behind a 1.
+fn added(graph: &mut OpenGraph) -> Result<usize, Fail> {
+    let mut digits = 1usize;
+    for _ in 0..3 {
+        let v = graph.add_vertex(Plane::XY, Sixteenth::new(0))?;
+        digits = digits.wrapping_mul(10).wrapping_add(v.get());
+    }
+    Ok(digits)
+}
+
+#[test]
+fn a_removed_id_comes_again_the_least_first(rt: HostRuntime) -> Result<(), Fail> {
+    let mut graph = three_vertices(rt.alloc())?;
+    remove(&rt, &mut graph, VertexId::new(2));
+    remove(&rt, &mut graph, VertexId::new(0));
+    assert!(rt; graph.vertex_from(0) == Some(VertexId::new(1)));
+
+    // 0 and 2 come again, and then a new one.
+    assert_eq!(rt; added(&mut graph)?, 1023);
+    Ok(())
+}

@@ -3,6 +3,7 @@ use Rattle.std.proofs.Common.{◌≡◌, ℕ, zero, suc, ◌+◌, ◌<◌, ◌�
 use Rattle.std.specs.List.{list_any, flat_map, range_with_len}
 use Rattle.std.proofs.lemmas.Bool.Decides.{nat_tests}
 use Rattle.zx_gates.specs.Circuit.{most_qubits}
+use Rattle.zx_gates.specs.declared.elementary.Measure.{Measure}
 use Rattle.qasm_angle.specs.Trees.{Tree}
 use Rattle.qasm_reader.specs.Syntax.{Apply, Callee, Declared, U, Cx, Formula, Operand, Act, Applied}
 use Rattle.qasm_scope.specs.Calls.{Event}
@@ -10,16 +11,17 @@ use Rattle.qasm_scope.specs.declared.causes.Cause.{Cause}
 use Rattle.qasm_scope.specs.declared.causes.Cause.TheVariants as cause
 use Rattle.qasm_names.specs.declared.gates.CalledGate.{CalledGate}
 use Rattle.qasm_scope.specs.Angles.{is_unsupported, numbered}
-use Rattle.qasm_scope.specs.Applications.{QubitRange, Single, Register, qubit_at, instances, register_sizes, ranges_of, range_in, has_twice, application_events}
+use Rattle.qasm_scope.specs.Applications.{Range, Single, Register, place_at, instances, register_of, register_sizes, ranges_of, range_in, has_twice, application_events}
 use Rattle.qasm_names.specs.AppliedGates.{IsAppliedGate, gate_faults, has_fault, is_unknown_gate}
 use Rattle.qasm_names.specs.Checks.{Symbols, hidden_by, shape_by}
 use Rattle.qasm_names.specs.Kept.{IsSound, called_for}
 use Rattle.qasm_names.specs.Places.{has_unplaced, placed as placed_by, ArePlaces}
-use Rattle.qasm_scope.specs.Faults.{is_no_gate, shape_of, has_other_name, has_no_register, has_other_shape, has_past_index, has_other_size, is_past, wrong_in}
+use Rattle.qasm_scope.specs.Faults.{is_no_gate, shape_of, has_other_name, has_no_register, has_other_shape, has_past_index, has_other_size, is_past, wrong_behind, wrong_in}
 use Rattle.qasm_inline.specs.Internal.KeptCalls.{expand_number}
 use Rattle.qasm_inline.specs.Internal.KeptCalls.{called_events, values_of}
-use Rattle.qasm_scope.specs.Scope.{Scope, Meaning, Qubits, Bits, Gate, meaning_of, numeral}
-use Rattle.qasm_inline.specs.Internal.Spans.{no_register_by, past_by, any_missing, span_by, is_unknown, is_wrong_count, AreSpans, IsResolved, is_unresolved, unresolved_cause, resolved_cause, cut_qubit_at, cut_instance, cut_instances, instances_events, instance_count}
+use Rattle.qasm_scope.specs.Measurements.{holds_any, qubits_of}
+use Rattle.qasm_scope.specs.Scope.{Scope, numeral}
+use Rattle.qasm_inline.specs.Internal.Spans.{no_register_by, past_by, any_missing, span_by, is_unknown, is_wrong_count, AreSpans, IsResolved, is_unresolved, unresolved_cause, resolved_cause, cut_place_at, cut_instance, cut_instances, instances_events, instance_count}
 use Rattle.qasm_names.proofs.CheckLemmas.{AreNames, shape-names, called-names, placed-numbered, list_any-same, map-same}
 use Rattle.qasm_names.proofs.Formulas.{unplaced-names}
 use Rattle.qasm_names.specs.declared.places.Places.{Places}
@@ -30,7 +32,7 @@ use Rattle.std.specs.Option.{is_some}
 use Rattle.std.specs.Prelude.{◌==◌}
 use Rattle.qasm_inline.proofs.EventLemmas.{application-numbered}
 use Rattle.qasm_names.proofs.Tests.{or-first, or-second, any_or}
-use Rattle.qasm_inline.proofs.SpanLemmas.{no_register-names, past-names, span-names, few-register, IsFew}
+use Rattle.qasm_inline.proofs.SpanLemmas.{no_register-names, past-names, span-names, few-register, LiesBelow}
 
 -- ---- causes
 -- the first cause of an application
@@ -92,17 +94,24 @@ spans-ranges symbols scope [] h sound within = refl
 spans-ranges symbols scope (o ∷ operands) h sound within =
     ap₂ (λ t ts. t ∷ ts) (span-names symbols scope o h sound (or-first _ _ within)) (spans-ranges symbols scope operands h sound (or-second _ _ within))
 
-resolved-ranges : {symbols : Symbols} {a : Apply} {gate : CalledGate} {angles : List Tree} {ranges : List QubitRange} (scope : Scope)
+pub resolved-ranges : {symbols : Symbols} {a : Apply} {gate : CalledGate} {angles : List Tree} {ranges : List Range} (scope : Scope)
     → AreNames symbols scope → IsSound scope → IsResolved symbols a gate angles ranges → ranges ≡ ranges_of scope a.qubits
 resolved-ranges {symbols = symbols} {a = a} scope h sound r = r.same_spans ∙ spans-ranges symbols scope a.qubits h sound r.within
 
 -- and with one that is
-pub wrong-resolved : {symbols : Symbols} {a : Apply} {gate : CalledGate} {angles : List Tree} {ranges : List QubitRange} (scope : Scope)
+pub wrong-resolved : {symbols : Symbols} {a : Apply} {gate : CalledGate} {angles : List Tree} {ranges : List Range} (scope : Scope)
     → AreNames symbols scope → IsSound scope → IsResolved symbols a gate angles ranges
     → wrong_in scope (Act (Applied a)) ≡ resolved_cause (has_other_size (register_sizes ranges)) (list_any (has_twice ◌==◌) (instances ranges))
 wrong-resolved {symbols = symbols} {a = a} scope h sound r =
     wrong-kept symbols scope a h ∙ clear-cause _ _ _ _ (has_other_size (register_sizes (ranges_of scope a.qubits))) (list_any (has_twice ◌==◌) (instances (ranges_of scope a.qubits))) r.supported r.all_known r.same_counts r.within
     ∙ ap (λ rs. resolved_cause (has_other_size (register_sizes rs)) (list_any (has_twice ◌==◌) (instances rs))) (sym (resolved-ranges scope h sound r))
+
+-- what is wrong with one behind measurements
+pub behind-resolved : {symbols : Symbols} {a : Apply} {gate : CalledGate} {angles : List Tree} {ranges : List Range} (scope : Scope) (measured : List Measure)
+    → AreNames symbols scope → IsSound scope → IsResolved symbols a gate angles ranges
+    → wrong_behind scope measured (Act (Applied a)) ≡ (if list_any (holds_any (qubits_of measured)) ranges then Some cause.AfterMeasure else None)
+behind-resolved scope measured h sound r =
+    ap (λ rs. if list_any (holds_any (qubits_of measured)) rs then Some cause.AfterMeasure else None) (sym (resolved-ranges scope h sound r))
 
 -- no parameters have places
 other-names : (parameters : Places) (fs : List Formula) → ArePlaces parameters [] → list_any (has_unplaced parameters) fs ≡ list_any (has_other_name []) fs
@@ -164,7 +173,7 @@ unresolved-arguments symbols a h =
     (sym (any_or (no_register_by symbols) (past_by symbols) a.qubits) ∙ h)
 
 -- what was found is an application with its names resolved
-pub resolved-from : (symbols : Symbols) (formals : Formals) (a : Apply) (applied : AppliedGate) (ranges : List QubitRange) → ArePlaces formals.parameters [] → ArePlaces formals.qubits []
+pub resolved-from : (symbols : Symbols) (formals : Formals) (a : Apply) (applied : AppliedGate) (ranges : List Range) → ArePlaces formals.parameters [] → ArePlaces formals.qubits []
     → IsAppliedGate symbols formals a.gate a.angles (length a.qubits) applied → AreSpans symbols a.qubits ranges → IsResolved symbols a applied.called applied.angles.items ranges
 resolved-from symbols formals a applied ranges parameters qubits is spans =
     let known : (list_any is_unsupported a.angles || is_unknown_gate symbols formals a.gate a.angles) ≡ false = or-first _ _ is.faultless in
@@ -180,52 +189,51 @@ resolved-from symbols formals a applied ranges parameters qubits is spans =
     }
 
 -- ---- qubits are few
-abbrev IsSmall : QubitRange → Type 0
-IsSmall (Single qubit) = qubit ≤ most_qubits
-IsSmall (Register first size) = (first ≤ most_qubits) × (size ≤ most_qubits)
+abbrev pub IsSmall : ℕ → Range → Type 0
+IsSmall limit (Single place) = place ≤ limit
+IsSmall limit (Register first size) = (first ≤ limit) × (size ≤ limit)
 
-abbrev AreSmall : List QubitRange → Type 0
+abbrev AreSmall : List Range → Type 0
 AreSmall [] = Unit {0}
-AreSmall (t ∷ ranges) = IsSmall t × AreSmall ranges
+AreSmall (t ∷ ranges) = IsSmall most_qubits t × AreSmall ranges
 
-small-at : (m : Option Meaning) (index : Option (List ℕ)) → IsFew m → is_past m index ≡ false → IsSmall (range_in m index)
-small-at None index few h = omega arith
-small-at (Some (Qubits first size)) None few h = (omega arith, omega arith)
-small-at (Some (Qubits first size)) (Some text) few h = let within : numeral text < size = grind (arith, nat_tests) in omega arith
-small-at (Some Bits) index few h = omega arith
-small-at (Some (Gate form)) index few h = omega arith
+pub small-at : (limit : ℕ) (register : Option (ℕ × ℕ)) (index : Option (List ℕ)) → LiesBelow limit register → is_past register index ≡ false → IsSmall limit (range_in register index)
+small-at limit None None few h = omega arith
+small-at limit None (Some text) few h = omega arith
+small-at limit (Some register) None few h = (omega arith, omega arith)
+small-at limit (Some register) (Some text) few h = let within : numeral text < register.1 = grind (arith, nat_tests) in omega arith
 
 small-ranges : (symbols : Symbols) (scope : Scope) (operands : List Operand) → AreNames symbols scope → IsSound scope
     → list_any (past_by symbols) operands ≡ false → AreSmall (ranges_of scope operands)
 small-ranges symbols scope [] h sound within = tt
 small-ranges symbols scope (o ∷ operands) h sound within = (
-  small-at (meaning_of o.register scope) o.index (few-register o.register scope sound) (sym (past-names symbols scope o h) ∙ or-first _ _ within),
+  small-at most_qubits (register_of scope o) o.index (few-register o.register scope sound) (sym (past-names symbols scope o h) ∙ or-first _ _ within),
   small-ranges symbols scope operands h sound (or-second _ _ within),
 )
 
-small-count : (ranges : List QubitRange) → AreSmall ranges → instance_count (register_sizes ranges) ≤ most_qubits
+small-count : (ranges : List Range) → AreSmall ranges → instance_count (register_sizes ranges) ≤ most_qubits
 small-count [] small = omega arith
 small-count (Single qubit ∷ ranges) small = small-count ranges small.1
 small-count (Register first size ∷ ranges) small = small.0.1
 
-cut-at : (t : QubitRange) (index : ℕ) → IsSmall t → index ≤ most_qubits → cut_qubit_at index t ≡ qubit_at index t
+pub cut-at : (t : Range) (index : ℕ) → IsSmall most_qubits t → index ≤ most_qubits → cut_place_at index t ≡ place_at index t
 cut-at (Single qubit) index small within = omega arith
 cut-at (Register first size) index small within = let few = small.0 in omega arith
 
-cut-instance : (ranges : List QubitRange) (index : ℕ) → AreSmall ranges → index ≤ most_qubits → cut_instance ranges index ≡ map (qubit_at index) ranges
+cut-instance : (ranges : List Range) (index : ℕ) → AreSmall ranges → index ≤ most_qubits → cut_instance ranges index ≡ map (place_at index) ranges
 cut-instance [] index small within = refl
 cut-instance (t ∷ ranges) index small within = ap₂ (λ q qs. q ∷ qs) (cut-at t index small.0 within) (cut-instance ranges index small.1 within)
 
-cut-from : (ranges : List QubitRange) (start n : ℕ) → AreSmall ranges → start + n ≤ most_qubits
-    → map (cut_instance ranges) (range_with_len start n) ≡ map (λ index. map (qubit_at index) ranges) (range_with_len start n)
+cut-from : (ranges : List Range) (start n : ℕ) → AreSmall ranges → start + n ≤ most_qubits
+    → map (cut_instance ranges) (range_with_len start n) ≡ map (λ index. map (place_at index) ranges) (range_with_len start n)
 cut-from ranges start zero small h = refl
 cut-from ranges start (suc n) small h = ap₂ (λ q qs. q ∷ qs) (cut-instance ranges start small (omega arith)) (cut-from ranges (start + 1) n small (omega arith))
 
-cut-instances : (ranges : List QubitRange) → AreSmall ranges → cut_instances ranges ≡ instances ranges
+cut-instances : (ranges : List Range) → AreSmall ranges → cut_instances ranges ≡ instances ranges
 cut-instances ranges small = let few = small-count ranges small in cut-from ranges 0 (instance_count (register_sizes ranges)) small (omega arith)
 
 -- ---- what an application comes to
-pub resolved-events : {symbols : Symbols} {a : Apply} {gate : CalledGate} {angles : List Tree} {ranges : List QubitRange} (scope : Scope)
+pub resolved-events : {symbols : Symbols} {a : Apply} {gate : CalledGate} {angles : List Tree} {ranges : List Range} (scope : Scope)
     → AreNames symbols scope → IsSound scope → IsResolved symbols a gate angles ranges
     → instances_events (expand_number scope) gate (values_of angles []) ranges ≡ application_events scope a
 resolved-events {symbols = symbols} {a = a} {ranges = ranges} scope h sound r =

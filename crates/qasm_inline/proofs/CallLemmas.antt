@@ -270,7 +270,7 @@ meaning-on : (b : Bool) (limit : ℕ) (scope : Scope) (m : Meaning) (replaceable
 meaning-on true limit scope (Gate form) replaceable name depth angles qubits gates sound h k =
     body-on limit scope form depth angles qubits form.body gates h k sound.all_known sound.same_counts sound.other_qubits
 meaning-on true limit scope (Qubits first size) replaceable name depth angles qubits gates sound h k = tt
-meaning-on true limit scope Bits replaceable name depth angles qubits gates sound h k = tt
+meaning-on true limit scope (Bits first size) replaceable name depth angles qubits gates sound h k = tt
 meaning-on false limit scope m replaceable name depth angles qubits gates sound h k = gates name depth angles qubits h k
 
 gates-on : (limit : ℕ) (scope : Scope) → IsSound scope → GatesActOn limit scope

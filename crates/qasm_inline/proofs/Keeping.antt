@@ -19,7 +19,7 @@ use Rattle.qasm_scope.specs.Scope.{Scope, Declaration, Meaning, Qubits, Bits, Ga
 pub not-numbered : (n count : ℕ) (m : Meaning) → n < count → is_numbered n count m ≡ false
 not-numbered n count (Gate form) h = other_number count n h
 not-numbered n count (Qubits first size) h = refl
-not-numbered n count Bits h = refl
+not-numbered n count (Bits first size) h = refl
 
 -- a number that is there means the same after a further declaration
 pub number-after : (d : Declaration) (scope : Scope) (n depth : ℕ) (angles : List Angle) (qubits : List ℕ) → n < gate_count scope
@@ -34,7 +34,7 @@ number-there-at : (b replaceable : Bool) (m : Meaning) (name : List ℕ) (scope 
     → number_in (if b then Some (symbol_in (gate_count scope) replaceable m) else symbol_of name scope) < gates_in m + gate_count scope
 number-there-at true replaceable (Gate form) name scope before h = omega arith
 number-there-at true replaceable (Qubits first size) name scope before h = absurd (cc)
-number-there-at true replaceable Bits name scope before h = absurd (cc)
+number-there-at true replaceable (Bits first size) name scope before h = absurd (cc)
 number-there-at false replaceable m name scope before h = let k = before h in omega arith
 
 pub number-there : (name : List ℕ) (scope : Scope) → is_no_gate (shape_in (meaning_of name scope)) ≡ false → number_in (symbol_of name scope) < gate_count scope
@@ -53,7 +53,7 @@ number-name-at true d (Gate form) name scope depth angles qubits e before h =
     else expand_number scope (gate_count scope) depth angles qubits) e
     ∙ if-true (gate_count scope == gate_count scope) _ _ (same_number (gate_count scope)))
 number-name-at true d (Qubits first size) name scope depth angles qubits e before h = absurd (cc)
-number-name-at true d Bits name scope depth angles qubits e before h = absurd (cc)
+number-name-at true d (Bits first size) name scope depth angles qubits e before h = absurd (cc)
 number-name-at false d m name scope depth angles qubits e before h =
     before h ∙ sym (number-after d scope (number_in (symbol_of name scope)) depth angles qubits (number-there name scope h))
 

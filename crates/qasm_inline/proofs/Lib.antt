@@ -10,6 +10,11 @@ pub mod InstanceLemmas
 pub mod ApplyLemmas
 pub mod CallLemmas
 pub mod MeantLemmas
+pub mod MemberLemmas
+pub mod RangeLemmas
+pub mod OnceLemmas
+pub mod Elementary
 pub mod StatementLemmas
+pub mod MeasuringLemmas
 pub mod CircuitLemmas
 pub mod ReadingLemmas

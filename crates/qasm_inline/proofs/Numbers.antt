@@ -54,7 +54,7 @@ meaning-at (Gate form) replaceable numbers scope n depth angles qubits sound agr
     gate-at (gate_count scope == n) numbers form scope n depth angles qubits refl sound agrees h before
 meaning-at (Qubits first size) replaceable numbers scope n depth angles qubits sound agrees h before =
     before (omega arith) ∙ ap (λ gs. kept_events numbers depth angles qubits (kept_at (slice_get gs n))) (sym (append-nil (kept_gates scope)))
-meaning-at Bits replaceable numbers scope n depth angles qubits sound agrees h before =
+meaning-at (Bits first size) replaceable numbers scope n depth angles qubits sound agrees h before =
     before (omega arith) ∙ ap (λ gs. kept_events numbers depth angles qubits (kept_at (slice_get gs n))) (sym (append-nil (kept_gates scope)))
 
 pub number-kept : (numbers : Numbered) (scope : Scope) (n depth : ℕ) (angles : List Angle) (qubits : List ℕ) → IsSound scope → Agrees numbers scope → n < gate_count scope
@@ -67,7 +67,7 @@ number-kept numbers (d ∷ scope) n depth angles qubits sound agrees h =
 past-numbered : (n count : ℕ) (m : Meaning) → gates_in m + count ≤ n → is_numbered n count m ≡ false
 past-numbered n count (Gate form) h = grind (arith, nat_tests)
 past-numbered n count (Qubits first size) h = refl
-past-numbered n count Bits h = refl
+past-numbered n count (Bits first size) h = refl
 
 -- a number that isn't there means nothing
 pub number-past : (scope : Scope) (n depth : ℕ) (angles : List Angle) (qubits : List ℕ) → gate_count scope ≤ n → expand_number scope n depth angles qubits ≡ []

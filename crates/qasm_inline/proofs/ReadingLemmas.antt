@@ -235,7 +235,7 @@ text-answer text tokens program (Err (TooDeep at)) cut shallow is h = absurd h
 text-answer text tokens program (Err (Syntax at)) cut shallow is h = absurd h
 
 pub text-means : (text : List ℕ) (result : Result Elementary TextError) → IsTextAnswer text result
-    → IfOk result (λ circuit. (program : List Placed) × IsProgramText text program × (first_fault most_calls program ≡ None) × Means program circuit.qubits circuit.gates)
+    → IfOk result (λ circuit. (program : List Placed) × IsProgramText text program × (first_fault most_calls program ≡ None) × Means program circuit.qubits circuit.gates circuit.bits circuit.measured)
 text-means text (Ok circuit) (program, is, answer) = (program, is, answer.0, means-from program (Ok circuit) answer)
 text-means text (Err error) h = tt
 

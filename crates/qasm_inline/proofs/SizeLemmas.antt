@@ -2,7 +2,7 @@
 use Rattle.std.proofs.Common.{◌≡◌, ℕ, ◌+◌, ◌<◌, ◌==◌, false, ◌||◌, not, List, [], ◌∷◌, length, map, drop, get_or, Option, None, Some, refl, sym, ap, ◌∙◌, add-one}
 use Rattle.std.specs.List.{list_any, filter_map, slice_get}
 use Rattle.std.proofs.Math.Seq.{drop-cons}
-use Rattle.qasm_scope.specs.Applications.{QubitRange, register_size, register_sizes}
+use Rattle.qasm_scope.specs.Applications.{Range, register_size, register_sizes}
 use Rattle.qasm_scope.specs.Faults.{has_other_size}
 use Rattle.qasm_inline.specs.Internal.Spans.{span_range, instance_count}
 use Rattle.qasm_inline.specs.declared.applications.Span.{Span}
@@ -19,7 +19,7 @@ abbrev sized : Option ℕ → List ℕ → List ℕ
 sized None rest = rest
 sized (Some size) rest = size ∷ rest
 
-with-size : (t : QubitRange) (rest : List QubitRange) (size : ℕ) → register_size t ≡ Some size → register_sizes (t ∷ rest) ≡ size ∷ register_sizes rest
+with-size : (t : Range) (rest : List Range) (size : ℕ) → register_size t ≡ Some size → register_sizes (t ∷ rest) ≡ size ∷ register_sizes rest
 with-size t rest size h = ap (λ o. sized o (register_sizes rest)) h
 
 pub sizes-some : (spans : List Span) (i : ℕ) (d : Span) (size : ℕ) → i < length spans → register_size (span_range (get_or spans i d)) ≡ Some size

@@ -1,81 +1,100 @@
 -- Arguments by what names are kept as stand for what they stand for in the scope.
-use Rattle.std.proofs.Common.{◌≡◌, ℕ, ◌+◌, ◌-◌, ◌^◌, ◌<◌, ◌≤◌, min, Bool, true, false, ◌||◌, not, if◌then◌else◌, List, [], ◌∷◌, Option, None, Some, refl, sym, ap, ap₂, ◌∙◌, arith}
+use Rattle.std.proofs.Common.{◌≡◌, ℕ, ◌+◌, ◌-◌, ◌^◌, ◌<◌, ◌≤◌, min, Bool, true, false, ◌||◌, if◌then◌else◌, List, [], ◌∷◌, Option, None, Some, refl, sym, ap, ap₂, ◌∙◌, arith}
 use Rattle.std.specs.List.{list_any}
-use Rattle.std.specs.Option.{is_some}
 use Rattle.std.specs.Str.{bytes_eq}
 use Rattle.std.proofs.lemmas.Bool.Decides.{nat_tests}
 use Rattle.zx_gates.specs.Circuit.{most_qubits}
+use Rattle.zx_gates.specs.Elementary.{most_bits}
 use Rattle.qasm_reader.specs.Syntax.{Operand, Barrier}
-use Rattle.qasm_scope.specs.Applications.{Single, range_in, range_of}
+use Rattle.qasm_scope.specs.Applications.{Single, range_in, range_of, register_of}
+use Rattle.qasm_scope.specs.Measurements.{bit_register_of}
 use Rattle.qasm_names.specs.Checks.{Symbols}
 use Rattle.qasm_scope.specs.declared.causes.Cause.{Cause}
-use Rattle.qasm_names.specs.Kept.{symbol_register, IsSound, IsSoundMeaning}
+use Rattle.qasm_names.specs.Kept.{symbol_bits, symbol_register, IsSound, IsSoundMeaning}
 use Rattle.qasm_scope.specs.Faults.{is_no_register, is_past, wrong_in}
-use Rattle.qasm_scope.specs.Scope.{Scope, Meaning, Qubits, Bits, Gate, meaning_of, numeral}
-use Rattle.qasm_inline.specs.Internal.Spans.{register_by, no_register_by, past_in, past_by, any_missing, span_in, span_by}
+use Rattle.qasm_scope.specs.Scope.{Scope, Meaning, Qubits, Bits, Gate, bit_count, bit_register, bits_in, meaning_of, numeral, qubit_count, qubit_register, size_of}
+use Rattle.qasm_inline.specs.Internal.KeptMeasures.{bits_by}
+use Rattle.qasm_inline.specs.Internal.Spans.{register_by, no_register_by, past_by, any_missing, span_in, span_by}
 use Rattle.qasm_names.proofs.CheckLemmas.{AreNames, list_any-same}
-use Rattle.qasm_names.proofs.Symbols.{register_in, symbol-register}
+use Rattle.qasm_names.proofs.Symbols.{symbol-bits, symbol-register}
 use Rattle.qasm_names.proofs.Tests.{any_or}
 use Rattle.qasm_scope.specs.declared.causes.Cause.TheVariants as cause
 
-pub register-names : (symbols : Symbols) (scope : Scope) (o : Operand) → AreNames symbols scope → register_by symbols o ≡ register_in (meaning_of o.register scope)
+pub register-names : (symbols : Symbols) (scope : Scope) (o : Operand) → AreNames symbols scope → register_by symbols o ≡ register_of scope o
 register-names symbols scope o h = ap symbol_register (h o.register) ∙ symbol-register o.register scope
 
-no_register-at : (m : Option Meaning) → not (is_some (register_in m)) ≡ is_no_register m
-no_register-at None = refl
-no_register-at (Some (Qubits first size)) = refl
-no_register-at (Some Bits) = refl
-no_register-at (Some (Gate form)) = refl
+pub bits-names : (symbols : Symbols) (scope : Scope) (o : Operand) → AreNames symbols scope → bits_by symbols o ≡ bit_register_of scope o
+bits-names symbols scope o h = ap symbol_bits (h o.register) ∙ symbol-bits o.register scope
 
-pub no_register-names : (symbols : Symbols) (scope : Scope) (o : Operand) → AreNames symbols scope → no_register_by symbols o ≡ is_no_register (meaning_of o.register scope)
-no_register-names symbols scope o h = ap (λ r. not (is_some r)) (register-names symbols scope o h) ∙ no_register-at (meaning_of o.register scope)
+pub no_register-names : (symbols : Symbols) (scope : Scope) (o : Operand) → AreNames symbols scope → no_register_by symbols o ≡ is_no_register (register_of scope o)
+no_register-names symbols scope o h = ap is_no_register (register-names symbols scope o h)
 
-past-at : (m : Option Meaning) (index : Option (List ℕ)) → past_in (register_in m) index ≡ is_past m index
-past-at None index = refl
-past-at (Some (Qubits first size)) None = refl
-past-at (Some (Qubits first size)) (Some text) = refl
-past-at (Some Bits) index = refl
-past-at (Some (Gate form)) index = refl
+pub past-names : (symbols : Symbols) (scope : Scope) (o : Operand) → AreNames symbols scope → past_by symbols o ≡ is_past (register_of scope o) o.index
+past-names symbols scope o h = ap (λ r. is_past r o.index) (register-names symbols scope o h)
 
-pub past-names : (symbols : Symbols) (scope : Scope) (o : Operand) → AreNames symbols scope → past_by symbols o ≡ is_past (meaning_of o.register scope) o.index
-past-names symbols scope o h = ap (λ r. past_in r o.index) (register-names symbols scope o h) ∙ past-at (meaning_of o.register scope) o.index
+-- a register lies below a number of qubits or bits
+abbrev pub LiesBelow : ℕ → Option (ℕ × ℕ) → Type 0
+LiesBelow limit None = Unit {0}
+LiesBelow limit (Some register) = register.0 + register.1 ≤ limit
 
--- a register of the scope has few qubits
-abbrev pub IsFew : Option Meaning → Type 0
-IsFew None = Unit {0}
-IsFew (Some (Qubits first size)) = first + size ≤ most_qubits
-IsFew (Some Bits) = Unit {0}
-IsFew (Some (Gate form)) = Unit {0}
+pub lies-more : (register : Option (ℕ × ℕ)) (limit more : ℕ) → limit ≤ more → LiesBelow limit register → LiesBelow more register
+lies-more None limit more h k = tt
+lies-more (Some register) limit more h k = omega arith
 
-few-at : (b replaceable : Bool) (m : Meaning) (scope : Scope) (rest : Option Meaning) → IsSoundMeaning scope m replaceable → IsFew rest → IsFew (if b then Some m else rest)
-few-at true replaceable (Qubits first size) scope rest sound h = let few = sound.0.few in let place = sound.0.after_others in omega arith
-few-at true replaceable Bits scope rest sound h = tt
-few-at true replaceable (Gate form) scope rest sound h = tt
-few-at false replaceable m scope rest sound h = h
+qubits-at : (b replaceable : Bool) (m : Meaning) (scope : Scope) (rest : Option Meaning) → IsSoundMeaning scope m replaceable → LiesBelow (qubit_count scope) (qubit_register rest)
+    → LiesBelow (size_of m + qubit_count scope) (qubit_register (if b then Some m else rest))
+qubits-at true replaceable (Qubits first size) scope rest sound h = let place = sound.0.after_others in omega arith
+qubits-at true replaceable (Bits first size) scope rest sound h = tt
+qubits-at true replaceable (Gate form) scope rest sound h = tt
+qubits-at false replaceable m scope rest sound h = lies-more (qubit_register rest) (qubit_count scope) (size_of m + qubit_count scope) (omega arith) h
 
-pub few-register : (name : List ℕ) (scope : Scope) → IsSound scope → IsFew (meaning_of name scope)
-few-register name [] sound = tt
-few-register name (d ∷ scope) sound = few-at (bytes_eq d.name name) d.replaceable d.meaning scope (meaning_of name scope) sound.0 (few-register name scope sound.2)
+-- the registers of a sound scope lie below its number of qubits or bits
+pub register-below : (name : List ℕ) (scope : Scope) → IsSound scope → LiesBelow (qubit_count scope) (qubit_register (meaning_of name scope))
+register-below name [] sound = tt
+register-below name (d ∷ scope) sound = qubits-at (bytes_eq d.name name) d.replaceable d.meaning scope (meaning_of name scope) sound.0 (register-below name scope sound.2)
 
-span-none : (index : Option (List ℕ)) → span_in None index ≡ Single 0
-span-none None = refl
-span-none (Some text) = refl
+bits-at : (b replaceable : Bool) (m : Meaning) (scope : Scope) (rest : Option Meaning) → IsSoundMeaning scope m replaceable → LiesBelow (bit_count scope) (bit_register rest)
+    → LiesBelow (bits_in m + bit_count scope) (bit_register (if b then Some m else rest))
+bits-at true replaceable (Bits first size) scope rest sound h = let place = sound.0.after_others in omega arith
+bits-at true replaceable (Qubits first size) scope rest sound h = tt
+bits-at true replaceable (Gate form) scope rest sound h = tt
+bits-at false replaceable m scope rest sound h = lies-more (bit_register rest) (bit_count scope) (bits_in m + bit_count scope) (omega arith) h
 
-span-at : (m : Option Meaning) (index : Option (List ℕ)) → IsFew m → is_past m index ≡ false → span_in (register_in m) index ≡ range_in m index
-span-at None index few h = span-none index
-span-at (Some (Qubits first size)) None few h = refl
-span-at (Some (Qubits first size)) (Some text) few h =
-    let within : numeral text < size = grind (arith, nat_tests) in
-    let same : min (first + min (numeral text) (2 ^ 64 - 1)) (2 ^ 64 - 1) ≡ first + numeral text = omega arith in
+pub bits-below : (name : List ℕ) (scope : Scope) → IsSound scope → LiesBelow (bit_count scope) (bit_register (meaning_of name scope))
+bits-below name [] sound = tt
+bits-below name (d ∷ scope) sound = bits-at (bytes_eq d.name name) d.replaceable d.meaning scope (meaning_of name scope) sound.0 (bits-below name scope sound.2)
+
+few-at : (m : Meaning) (replaceable : Bool) (scope : Scope) → IsSoundMeaning scope m replaceable → (qubit_count scope ≤ most_qubits) × (bit_count scope ≤ most_bits)
+    → (size_of m + qubit_count scope ≤ most_qubits) × (bits_in m + bit_count scope ≤ most_bits)
+few-at (Qubits first size) replaceable scope sound h = (sound.0.few, omega (arith, h.1))
+few-at (Bits first size) replaceable scope sound h = (omega (arith, h.0), sound.0.few)
+few-at (Gate form) replaceable scope sound h = (omega (arith, h.0), omega (arith, h.1))
+
+-- a sound scope has few qubits and bits
+pub few-sound : (scope : Scope) → IsSound scope → (qubit_count scope ≤ most_qubits) × (bit_count scope ≤ most_bits)
+few-sound [] sound = (omega arith, omega arith)
+few-sound (d ∷ scope) sound = few-at d.meaning d.replaceable scope sound.0 (few-sound scope sound.2)
+
+pub few-register : (name : List ℕ) (scope : Scope) → IsSound scope → LiesBelow most_qubits (qubit_register (meaning_of name scope))
+few-register name scope sound = lies-more (qubit_register (meaning_of name scope)) (qubit_count scope) most_qubits (few-sound scope sound).0 (register-below name scope sound)
+
+pub few-bits : (name : List ℕ) (scope : Scope) → IsSound scope → LiesBelow most_bits (bit_register (meaning_of name scope))
+few-bits name scope sound = lies-more (bit_register (meaning_of name scope)) (bit_count scope) most_bits (few-sound scope sound).1 (bits-below name scope sound)
+
+pub span-at : (limit : ℕ) (register : Option (ℕ × ℕ)) (index : Option (List ℕ)) → limit < 2 ^ 64 → LiesBelow limit register → is_past register index ≡ false → span_in register index ≡ range_in register index
+span-at limit None None large few h = refl
+span-at limit None (Some text) large few h = refl
+span-at limit (Some register) None large few h = refl
+span-at limit (Some register) (Some text) large few h =
+    let within : numeral text < register.1 = grind (arith, nat_tests) in
+    let same : min (register.0 + min (numeral text) (2 ^ 64 - 1)) (2 ^ 64 - 1) ≡ register.0 + numeral text = omega arith in
     ap Single same
-span-at (Some Bits) index few h = span-none index
-span-at (Some (Gate form)) index few h = span-none index
 
 -- an argument stands for its qubits
 pub span-names : (symbols : Symbols) (scope : Scope) (o : Operand) → AreNames symbols scope → IsSound scope → past_by symbols o ≡ false → span_by symbols o ≡ range_of scope o
 span-names symbols scope o h sound within =
     ap (λ r. span_in r o.index) (register-names symbols scope o h)
-    ∙ span-at (meaning_of o.register scope) o.index (few-register o.register scope sound) (sym (past-names symbols scope o h) ∙ within)
+    ∙ span-at most_qubits (register_of scope o) o.index (omega arith) (few-register o.register scope sound) (sym (past-names symbols scope o h) ∙ within)
 
 -- the first cause of a barrier
 abbrev barrier_cause : Bool → Bool → Option Cause

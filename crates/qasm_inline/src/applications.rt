@@ -8,7 +8,7 @@ ghost use Rattle.qasm_reader.specs.Views.{operand};
 ghost use Rattle.qasm_scope.specs.declared.causes.Cause.{Cause};
 ghost use Rattle.qasm_names.specs.Kept.{Represents, found, symbol_register};
 ghost use Rattle.qasm_scope.specs.Applications.{register_size, register_sizes};
-ghost use Rattle.qasm_scope.specs.Faults.{has_other_size, wrong_in};
+ghost use Rattle.qasm_scope.specs.Faults.{has_other_size, is_past, wrong_in};
 ghost use Rattle.qasm_scope.specs.Scope.{Scope, numeral};
 ghost use Rattle.qasm_inline.specs.Internal.Spans.{span_range, span_by, span_in, no_register_by, is_missing, any_missing, IsSpan, AreSpans, instance_count, IsLastRegister};
 
@@ -20,13 +20,13 @@ use std::alloc::{AllocError, Global};
 /// What an argument stands for.
 #[derive(Clone, Copy)]
 pub enum Span {
-    /// One qubit.
+    /// One qubit or bit.
     Single(usize),
     /// A register.
     Register {
-        /// Its first qubit.
+        /// Its first qubit or bit.
         first: usize,
-        /// How many qubits it has.
+        /// How many it has.
         size: usize,
     },
 }
@@ -173,15 +173,29 @@ fn argument_span<'a>(
         IsSpan names.now.symbols (operand argument.now) (span_range span)) }
     ensures none { IfNone result (is_missing names.now.symbols (operand argument.now) ≡ true) }
 {
-    let (first, size) = last.find(names, argument.register)?;
-    match argument.index {
-        Some(text) => qubit_span(first, size, text),
+    let register = last.find(names, argument.register)?;
+    span_of(register, argument.index)
+}
+
+/// What stands at an index of a register, by its first qubit or bit and its size, if there is one; the register where
+/// there is no index.
+#[inline(always)]
+pub fn span_of(register: (usize, usize), index: Option<&[u8]>) -> Option<Span>
+    ensures some { IfSome result (λ span.
+        (is_past (Some register) (option_map (λ text. text.now) index.entry) ≡ false)
+        × (span_range span ≡ span_in (Some register) (option_map (λ text. text.now) index.entry))) }
+    ensures none { IfNone result (
+        is_past (Some register) (option_map (λ text. text.now) index.entry) ≡ true) }
+{
+    let (first, size) = register;
+    match index {
+        Some(text) => place_span(first, size, text),
         None => Some(Span::Register { first, size }),
     }
 }
 
-// The qubit of a register at the index that a text spells, if there is one.
-fn qubit_span(first: usize, size: usize, text: &[u8]) -> Option<Span>
+// What stands in a register at the index that a text spells, if there is one.
+fn place_span(first: usize, size: usize, text: &[u8]) -> Option<Span>
     ensures some { IfSome result (λ span. (nat_le size (numeral text.now) ≡ false)
         × (span_range span ≡ span_in (Some (first, size)) (Some text.now))) }
     ensures none { IfNone result (nat_le size (numeral text.now) ≡ true) }

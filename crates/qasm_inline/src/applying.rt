@@ -8,14 +8,15 @@ ghost use Rattle.qasm_scope.specs.Angles.{is_unsupported};
 ghost use Rattle.qasm_scope.specs.Applications.{application_events, has_twice, instances, register_sizes};
 ghost use Rattle.qasm_names.specs.Kept.{Represents};
 ghost use Rattle.qasm_inline.specs.Internal.KeptCalls.{ComesTo};
-ghost use Rattle.qasm_scope.specs.Faults.{has_other_size, wrong_in};
-ghost use Rattle.qasm_scope.specs.Meaning.{most_calls, wrong_with};
+ghost use Rattle.qasm_inline.specs.Internal.KeptMeasures.{Remembers, wrong_next};
+ghost use Rattle.qasm_scope.specs.Faults.{has_other_size, wrong_behind, wrong_in};
 ghost use Rattle.qasm_scope.specs.Scope.{Scope};
 ghost use Rattle.qasm_inline.specs.Internal.Spans.{span_range, no_register_by, is_unknown, is_wrong_count, IsResolved, is_unresolved, unresolved_cause, resolved_cause};
 ghost use Rattle.qasm_scope.specs.declared.causes.Cause.{Cause};
 
 use crate::applications::{Span, any_no_register, has_other_sizes, spans};
 use crate::instances::call_instances;
+use crate::measured::Measured;
 use crate::overlaps::has_same_qubit;
 use crate::unroll::Unrolled;
 use qasm_angle::Expr;
@@ -41,22 +42,26 @@ struct ResolvedApplication {
 ///
 /// # Errors
 ///
-/// `Wrong` with the first cause: of the statement itself, or else of the calls that it makes, in their order; and
-/// `NoMemory` where memory runs out.
+/// `Wrong` with the first cause: of the statement itself, or that a qubit was measured before, or else of the calls
+/// that it makes, in their order; and `NoMemory` where memory runs out.
 pub fn apply<'a>(
     alloc: Global,
     names: &Names<'a>,
+    measured: &Measured,
     unrolled: &mut Unrolled,
     application: &Application<'a>,
 ) -> Result<(), StatementError>
     ensures ok { OnOk result ((scope : Scope) → Represents names.now scope
         → wrong_in scope (Act (Applied (views.application application.now))) ≡ None) }
+    ensures behind { OnOk result ((scope : Scope) → Represents names.now scope
+        → Remembers measured.now → wrong_behind scope measured.now.list
+        (Act (Applied (views.application application.now))) ≡ None) }
     ensures events { OnOk result ((scope : Scope) → Represents names.now scope
         → ComesTo unrolled.old (application_events scope (views.application application.now))
         unrolled.new []) }
     ensures err { (cause : Cause) (scope : Scope) → result ≡ Err (StatementError.Wrong cause)
-        → Represents names.now scope → wrong_with most_calls scope unrolled.old.calls
-        (Act (Applied (views.application application.now))) ≡ Some cause }
+        → Represents names.now scope → Remembers measured.now → wrong_next scope measured.now
+        unrolled.old (Act (Applied (views.application application.now))) ≡ Some cause }
 {
     let Some(resolved) = resolved(alloc, names, application)? else {
         let cause = unresolved_cause(alloc, names, application);
@@ -64,6 +69,9 @@ pub fn apply<'a>(
     };
     if let Some(cause) = resolved_cause(&resolved.spans) {
         return Err(StatementError::Wrong(cause));
+    }
+    if measured.has_any_qubit(&resolved.spans) {
+        return Err(StatementError::Wrong(Cause::AfterMeasure));
     }
     call_instances(
         unrolled,

@@ -10,8 +10,10 @@ ghost use Rattle.qasm_inline.specs.Circuits.{HasBegun, HasBegunAs, HasTaken, Has
 ghost use Rattle.qasm_scope.specs.Meaning.{is_version};
 
 use crate::error::InlineError;
+use crate::measured::Measured;
 use crate::statements::read_statement;
 use crate::unroll::Unrolled;
+use crate::values::clamped_bit;
 use qasm_names::{GateInProgress, Names, StatementError, clamped};
 use qasm_reader::{BodyStatement, GateHeading, Statement, StatementKind};
 use qasm_scope::Cause;
@@ -35,6 +37,7 @@ pub struct Circuit<'a> {
     alloc: Global,
     stage: Stage,
     names: Names<'a>,
+    measured: Measured,
     unrolled: Unrolled,
 }
 
@@ -56,6 +59,7 @@ impl<'a> Circuit<'a> {
             alloc,
             stage: Stage::Empty,
             names: Names::new(alloc),
+            measured: Measured::new(alloc),
             unrolled: Unrolled::new(alloc),
         }
     }
@@ -135,7 +139,9 @@ impl<'a> Circuit<'a> {
             }),
             Stage::Open => Ok(Elementary {
                 qubits: self.qubits(),
+                bits: self.bits(),
                 gates: self.unrolled.into_gates(),
+                measured: self.measured.into_list(),
             }),
             Stage::Stopped(error) => Err(error),
         }
@@ -148,10 +154,17 @@ impl<'a> Circuit<'a> {
         clamped(self.names.qubits)
     }
 
+    // How many bits are declared, cut off at the largest number of 32 bits.
+    fn bits(&self) -> u32
+        ensures { result ≡ min self.now.names.bits (2 ^ 32 - 1) }
+    {
+        clamped_bit(self.names.bits)
+    }
+
     // What is kept of a gate behind the version, before the first statement of its body.
     fn begun(&mut self, heading: &GateHeading<'a>) -> Option<GateInProgress<'a>>
         ensures { (program : List Placed) (place : ℕ)
-            → IsOpen program self.old.names self.old.unrolled
+            → IsOpen program self.old.names self.old.measured self.old.unrolled
             → HasBegunAs result self.new program place (form_of heading.now []) }
     {
         match GateInProgress::new(self.alloc, &self.names, heading) {
@@ -167,7 +180,7 @@ impl<'a> Circuit<'a> {
     fn after_gate(&mut self, place: usize, gate: GateInProgress<'a>) -> Stage
         ensures { (program : List Placed) (form : GateForm)
             → HasBegunAs (Some gate.entry) self.old program place form → HasTakenAt result
-            (program ++ gate_at place form ∷ []) self.new.names self.new.unrolled }
+            (program ++ gate_at place form ∷ []) self.new.names self.new.measured self.new.unrolled }
     {
         match gate.declare(&mut self.names) {
             Ok(()) => Stage::Open,
@@ -180,13 +193,14 @@ impl<'a> Circuit<'a> {
 
     // The stage after a statement behind the version.
     fn after_next(&mut self, statement: &Statement<'a>) -> Stage
-        ensures { (program : List Placed) → IsOpen program self.old.names self.old.unrolled
-            → HasTakenAt result (program ++ placed statement.now ∷ []) self.new.names
-            self.new.unrolled }
+        ensures { (program : List Placed) → IsOpen program self.old.names self.old.measured
+            self.old.unrolled → HasTakenAt result (program ++ placed statement.now ∷ [])
+            self.new.names self.new.measured self.new.unrolled }
     {
         match read_statement(
             self.alloc,
             &mut self.names,
+            &mut self.measured,
             &mut self.unrolled,
             &statement.kind,
         ) {

@@ -3,7 +3,8 @@
 //! Proved: `read` gives the circuit that a text means, or the text's first fault; `inline` the same
 //! of a program, and `Circuit` of statements and gates' declarations that it takes in one by one. A
 //! circuit is answered only where there is no fault, and a fault only where it is the first. What is
-//! meant has at most 1,024 qubits, its gates act on them, and a CX on two that differ.
+//! meant has at most 1,024 qubits, its gates act on them, and a CX on two that differ; and at most
+//! 65,536 bits. Its measurements are of these qubits into these bits, none of them named twice.
 //!
 //! ```rust
 //! let circuit = read(alloc, b"OPENQASM 2.0; qreg q[1]; U(0,0,pi/4) q[0];")?;
@@ -17,9 +18,13 @@ mod error;
 mod instances;
 mod laws;
 mod meaning;
+mod measured;
+mod measuring;
 mod overlaps;
 mod reading;
 mod statements;
+#[cfg(test)]
+mod tests;
 mod unroll;
 mod values;
 

@@ -23,7 +23,7 @@ pub fn inline(alloc: Global, program: &Program<'_>) -> Result<Elementary, Inline
     // The program has no fault, and the circuit is what it means.
     ensures faultless { OnOk result (first_fault most_calls (statements_of program.now) ≡ None) }
     ensures means { IfOk result (λ circuit. Means (statements_of program.now) circuit.qubits
-        circuit.gates) }
+        circuit.gates circuit.bits circuit.measured) }
     ensures valid { IfOk result (λ circuit. IsElementary circuit) }
     // The first fault is told, and a program that has one is refused.
     ensures fault { (cause : Cause) (at : ℕ) → result ≡ Err (InlineError.Fault cause at)

@@ -36,7 +36,8 @@ const BATCH: usize = 4096;
 pub fn read(alloc: Global, text: &[u8]) -> Result<Elementary, TextError>
     // The text is a program without fault, and the circuit is what it means.
     ensures means { IfOk result (λ circuit. (program : List Placed) × IsProgramText text.now program
-        × (first_fault most_calls program ≡ None) × Means program circuit.qubits circuit.gates) }
+        × (first_fault most_calls program ≡ None)
+        × Means program circuit.qubits circuit.gates circuit.bits circuit.measured) }
     ensures valid { IfOk result (λ circuit. IsElementary circuit) }
     // A fault that is told is the text's.
     ensures bad_byte { (at : ℕ) → result ≡ Err (TextError.BadByte at) → IsBadByte text.now at }

@@ -1,11 +1,12 @@
 //! What calls push: values of expressions, and qubits by their places.
 
-ghost use Rattle.std.specs.Prelude.{◌≡◌, ◌≤◌, ◌++◌, Ok, Err, Some, None, IfOk, IfErr, OnOk, drop, length, map, slice_index_or};
+ghost use Rattle.std.specs.Prelude.{◌≡◌, ◌≤◌, ◌-◌, ◌^◌, ◌++◌, Ok, Err, Some, None, IfOk, IfErr, OnOk, drop, length, map, min, slice_index_or};
 ghost use Rattle.qasm_angle.specs.Sixteenths.{phase_of};
 ghost use Rattle.qasm_angle.specs.Values.{value};
 ghost use Rattle.qasm_scope.specs.Angles.{with_cause};
+ghost use Rattle.qasm_scope.specs.Applications.{place_at};
 ghost use Rattle.qasm_inline.specs.Internal.KeptCalls.{followed, picked, values_of};
-ghost use Rattle.qasm_inline.specs.Internal.Spans.{span_range, cut_instance, cut_qubit_at};
+ghost use Rattle.qasm_inline.specs.Internal.Spans.{span_range, cut_instance, cut_place_at};
 
 use crate::applications::Span;
 use qasm_angle::{Angle, AngleError, Expr, eval, to_sixteenth};
@@ -89,14 +90,31 @@ fn qubit_at(qubits: &[Qubit], place: usize) -> Qubit
     }
 }
 
-// The qubit of an argument in the instance at an index.
-fn instance_qubit(span: &Span, index: usize) -> Qubit
-    ensures { result ≡ cut_qubit_at index (span_range span.now) }
+/// The qubit of an argument in the instance at an index.
+pub fn instance_qubit(span: &Span, index: usize) -> Qubit
+    ensures { result ≡ cut_place_at index (span_range span.now) }
 {
     match span {
         Span::Single(qubit) => clamped(*qubit),
         Span::Register { first, .. } => clamped(first.saturating_add(index)),
     }
+}
+
+/// The bit of an argument in the instance at an index.
+pub fn instance_bit(span: &Span, index: usize) -> u32
+    ensures { result ≡ min (place_at index (span_range span.now)) (2 ^ 32 - 1) }
+{
+    match span {
+        Span::Single(bit) => clamped_bit(*bit),
+        Span::Register { first, .. } => clamped_bit(first.saturating_add(index)),
+    }
+}
+
+/// A number as one of 32 bits, or the largest of these where it is larger.
+pub fn clamped_bit(number: usize) -> u32
+    ensures { result ≡ min number (2 ^ 32 - 1) }
+{
+    u32::try_from(number).unwrap_or(u32::MAX)
 }
 
 // The value of an expression.

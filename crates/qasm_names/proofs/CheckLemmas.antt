@@ -1,5 +1,5 @@
 -- What is wrong by what names are kept as is what is wrong by the scope.
-use Rattle.std.proofs.Common.{◌≡◌, ℕ, zero, suc, ◌+◌, ◌<◌, ◌==◌, min, nat_lt, inl, inr, arith, Bool, true, false, ◌||◌, not, List, [], ◌∷◌, ◌++◌, length, map, Option, None, refl, sym, ap, ◌∙◌}
+use Rattle.std.proofs.Common.{◌≡◌, ℕ, zero, suc, ◌+◌, ◌<◌, ◌==◌, min, nat_lt, inl, inr, arith, Bool, true, false, ◌||◌, not, List, [], ◌∷◌, ◌++◌, length, map, if◌then◌else◌, Option, None, Some, refl, sym, ap, ◌∙◌}
 use Rattle.std.specs.List.{list_any}
 use Rattle.std.specs.Option.{is_some}
 use Rattle.std.specs.Str.{bytes_eq}
@@ -11,10 +11,11 @@ use Rattle.qasm_scope.specs.Angles.{numbered, binary, place_of, place_or_zero}
 use Rattle.qasm_names.specs.Checks.{Symbols, shape_by, called_by, hidden_by, is_unknown, is_wrong_count, calls_by, gate_cause, is_redeclared_by}
 use Rattle.qasm_names.specs.Places.{unplaced, place_in, has_unplaced, placed, ArePlaces}
 use Rattle.qasm_scope.specs.declared.causes.Cause.{Cause}
-use Rattle.qasm_names.specs.Internal.Registers.{register_cause}
+use Rattle.qasm_scope.specs.declared.causes.Cause.TheVariants as cause
+use Rattle.qasm_names.specs.Internal.Registers.{register_cause, too_many_cause}
 use Rattle.qasm_names.specs.Kept.{found, symbol_of, symbol_shape, number_in, called_for, kept_calls, symbol_taken, IsSound, IsSoundGate}
 use Rattle.qasm_scope.specs.Faults.{shape_of, is_no_gate, is_in, is_hidden, has_other_name, body_has_unknown, body_has_wrong_count, has_other_shape, wrong_in, body_is_unsupported, body_has_same_qubit}
-use Rattle.qasm_scope.specs.Scope.{Scope, is_taken, numeral, qubit_count}
+use Rattle.qasm_scope.specs.Scope.{Scope, bit_count, is_taken, numeral, qubit_count}
 use Rattle.qasm_scope.specs.Applications.{has_twice}
 use Rattle.qasm_names.specs.declared.gates.CalledGate.TheVariants as called_gate
 use Rattle.qasm_names.specs.declared.places.Places.{Places}
@@ -24,6 +25,7 @@ use Rattle.qasm_names.proofs.Tests.{or-second, other_number}
 use Rattle.std.proofs.lemmas.Bool.{cases_lt}
 use Rattle.std.proofs.lemmas.Bool.Decides.{nat_tests}
 use Rattle.zx_gates.specs.Circuit.{most_qubits}
+use Rattle.zx_gates.specs.Elementary.{most_bits}
 
 -- the names in the map are those of the scope
 abbrev pub AreNames : Symbols → Scope → Type 0
@@ -168,26 +170,30 @@ lt-cut limit q n most h = elim (cases_lt most n) [
   | inr fits ↦ (let e : min n most ≡ n = omega arith in ap (λ m. nat_lt limit (q + m)) e)
 ]
 
--- the causes of registers
-pub wrong_in-qubits : (symbols : Symbols) (scope : Scope) (name size : List ℕ) (qubits most count : ℕ) → AreNames symbols scope → IsSound scope → qubits ≡ qubit_count scope
-    → most_qubits < most → count ≡ min (numeral size) most
-    → register_cause (symbol_taken (found name symbols)) (count == 0) (nat_lt most_qubits (qubits + count)) ≡ wrong_in scope (QubitRegister name size)
-unfolding wrong_in
-wrong_in-qubits symbols scope name size qubits most count h sound eq large ec =
+-- the causes of a register of any kind, by names and numbers cut off and by those of the scope
+register-names : (symbols : Symbols) (scope : Scope) (name size : List ℕ) (limit most kept total count : ℕ) (many : Cause) → AreNames symbols scope → IsSound scope
+    → limit < most → count ≡ min (numeral size) most → kept ≡ total
+    → register_cause (symbol_taken (found name symbols)) (count == 0) (too_many_cause limit kept count many)
+    ≡ register_cause (is_taken name scope) (numeral size == 0) (too_many_cause limit total (numeral size) many)
+register-names symbols scope name size limit most kept total count many h sound large ec eq =
     let taken : symbol_taken (found name symbols) ≡ is_taken name scope = ap symbol_taken (h name) ∙ symbol-taken name scope sound in
-    let empty : (count == 0) ≡ (numeral size == 0) = ap (λ n. n == 0) ec ∙ zero-cut (numeral size) most (omega arith) in
-    let many : nat_lt most_qubits (qubits + count) ≡ nat_lt most_qubits (qubit_count scope + numeral size) =
-    ap (λ q. nat_lt most_qubits (q + count)) eq ∙ ap (λ n. nat_lt most_qubits (qubit_count scope + n)) ec ∙ lt-cut most_qubits (qubit_count scope) (numeral size) most large in
-    ap (λ b. register_cause b (count == 0) (nat_lt most_qubits (qubits + count))) taken
-    ∙ ap (λ b. register_cause (is_taken name scope) b (nat_lt most_qubits (qubits + count))) empty
-    ∙ ap (λ b. register_cause (is_taken name scope) (numeral size == 0) b) many
+    let empty : (count == 0) ≡ (numeral size == 0) = ap (λ n. n == 0) ec ∙ zero-cut (numeral size) most (omega (arith, large)) in
+    let over : nat_lt limit (kept + count) ≡ nat_lt limit (total + numeral size) =
+    ap (λ q. nat_lt limit (q + count)) eq ∙ ap (λ n. nat_lt limit (total + n)) ec ∙ lt-cut limit total (numeral size) most large in
+    ap (λ b. register_cause b (count == 0) (too_many_cause limit kept count many)) taken
+    ∙ ap (λ b. register_cause (is_taken name scope) b (too_many_cause limit kept count many)) empty
+    ∙ ap (λ b. register_cause (is_taken name scope) (numeral size == 0) (if b then Some many else None)) over
 
-pub wrong_in-bits : (symbols : Symbols) (scope : Scope) (name size : List ℕ) (most count : ℕ) → AreNames symbols scope → IsSound scope
-    → 0 < most → count ≡ min (numeral size) most
-    → register_cause (symbol_taken (found name symbols)) (count == 0) false ≡ wrong_in scope (BitRegister name size)
+pub wrong_in-qubits : (symbols : Symbols) (scope : Scope) (name size : List ℕ) (most qubits count : ℕ) → AreNames symbols scope → IsSound scope
+    → most_qubits < most → count ≡ min (numeral size) most → qubits ≡ qubit_count scope
+    → register_cause (symbol_taken (found name symbols)) (count == 0) (too_many_cause most_qubits qubits count cause.TooManyQubits) ≡ wrong_in scope (QubitRegister name size)
 unfolding wrong_in
-wrong_in-bits symbols scope name size most count h sound large ec =
-    let taken : symbol_taken (found name symbols) ≡ is_taken name scope = ap symbol_taken (h name) ∙ symbol-taken name scope sound in
-    let empty : (count == 0) ≡ (numeral size == 0) = ap (λ n. n == 0) ec ∙ zero-cut (numeral size) most large in
-    ap (λ b. register_cause b (count == 0) false) taken
-    ∙ ap (λ b. register_cause (is_taken name scope) b false) empty
+wrong_in-qubits symbols scope name size most qubits count =
+    register-names symbols scope name size most_qubits most qubits (qubit_count scope) count cause.TooManyQubits
+
+pub wrong_in-bits : (symbols : Symbols) (scope : Scope) (name size : List ℕ) (most bits count : ℕ) → AreNames symbols scope → IsSound scope
+    → most_bits < most → count ≡ min (numeral size) most → bits ≡ bit_count scope
+    → register_cause (symbol_taken (found name symbols)) (count == 0) (too_many_cause most_bits bits count cause.TooManyBits) ≡ wrong_in scope (BitRegister name size)
+unfolding wrong_in
+wrong_in-bits symbols scope name size most bits count =
+    register-names symbols scope name size most_bits most bits (bit_count scope) count cause.TooManyBits

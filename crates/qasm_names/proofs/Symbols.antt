@@ -1,5 +1,5 @@
 -- What names are kept as says what they mean.
-use Rattle.std.proofs.Common.{◌≡◌, ℕ, ◌+◌, Bool, true, false, ◌||◌, ◌&&◌, not, if◌then◌else◌, List, [], ◌∷◌, ◌++◌, length, Option, None, Some, refl, sym, ap, subst, ◌∙◌, arith, length-append}
+use Rattle.std.proofs.Common.{◌≡◌, ℕ, ◌+◌, Bool, true, false, ◌||◌, ◌&&◌, not, if◌then◌else◌, List, [], ◌∷◌, ◌++◌, length, Option, Some, refl, sym, ap, subst, ◌∙◌, arith, length-append}
 use Rattle.std.specs.Borrow.{Bor}
 use Rattle.std.specs.BTreeMap.{BTreeMap, UpdatesBy}
 use Rattle.std.specs.Cmp.Lexicographic.{slice_cmp}
@@ -10,38 +10,43 @@ use Rattle.std.proofs.lemmas.Map.Text.{btree_map_updates_str}
 use Rattle.std.proofs.lemmas.Slice.Eq.{bytes_eq-Decides}
 use Rattle.qasm_names.specs.declared.names.Symbol.{Symbol}
 use Rattle.qasm_scope.specs.Faults.{shape_in}
-use Rattle.qasm_names.specs.Kept.{gate_count, gates_in, kept_gates, kept_in, symbol_of, symbol_in, symbol_shape, symbol_register, symbol_taken, found, IsSound, IsSoundMeaning, IsFresh}
+use Rattle.qasm_names.specs.Kept.{gate_count, gates_in, kept_gates, kept_in, symbol_of, symbol_in, symbol_bits, symbol_shape, symbol_register, symbol_taken, found, IsSound, IsSoundMeaning, IsFresh}
 use Rattle.qasm_scope.proofs.HeaderScope.{free-taken}
-use Rattle.qasm_scope.specs.Scope.{Scope, Declaration, Meaning, Qubits, Bits, Gate, meaning_of, is_declared, is_taken}
+use Rattle.qasm_scope.specs.Scope.{Scope, Declaration, Meaning, Qubits, Bits, Gate, bit_register, meaning_of, is_declared, is_taken, qubit_register}
 
 shape-at : (b replaceable : Bool) (n : ℕ) (m : Meaning) (symbol : Option Symbol) (meaning : Option Meaning) → symbol_shape symbol ≡ shape_in meaning
     → symbol_shape (if b then Some (symbol_in n replaceable m) else symbol) ≡ shape_in (if b then Some m else meaning)
 shape-at true replaceable n (Gate form) symbol meaning h = refl
 shape-at true replaceable n (Qubits first size) symbol meaning h = refl
-shape-at true replaceable n Bits symbol meaning h = refl
+shape-at true replaceable n (Bits first size) symbol meaning h = refl
 shape-at false replaceable n m symbol meaning h = h
 
 pub symbol-shape : (name : List ℕ) (scope : Scope) → symbol_shape (symbol_of name scope) ≡ shape_in (meaning_of name scope)
 symbol-shape name [] = refl
 symbol-shape name (d ∷ scope) = shape-at (bytes_eq d.name name) d.replaceable (gate_count scope) d.meaning (symbol_of name scope) (meaning_of name scope) (symbol-shape name scope)
 
--- a register of qubits: its first qubit and its size
-abbrev pub register_in : Option Meaning → Option (ℕ × ℕ)
-register_in (Some (Qubits first size)) = Some (first, size)
-register_in (Some Bits) = None
-register_in (Some (Gate form)) = None
-register_in None = None
-
-register-at : (b replaceable : Bool) (n : ℕ) (m : Meaning) (symbol : Option Symbol) (meaning : Option Meaning) → symbol_register symbol ≡ register_in meaning
-    → symbol_register (if b then Some (symbol_in n replaceable m) else symbol) ≡ register_in (if b then Some m else meaning)
+-- what a symbol says of a register is what its meaning says
+register-at : (b replaceable : Bool) (n : ℕ) (m : Meaning) (symbol : Option Symbol) (meaning : Option Meaning) → symbol_register symbol ≡ qubit_register meaning
+    → symbol_register (if b then Some (symbol_in n replaceable m) else symbol) ≡ qubit_register (if b then Some m else meaning)
 register-at true replaceable n (Gate form) symbol meaning h = refl
 register-at true replaceable n (Qubits first size) symbol meaning h = refl
-register-at true replaceable n Bits symbol meaning h = refl
+register-at true replaceable n (Bits first size) symbol meaning h = refl
 register-at false replaceable n m symbol meaning h = h
 
-pub symbol-register : (name : List ℕ) (scope : Scope) → symbol_register (symbol_of name scope) ≡ register_in (meaning_of name scope)
+pub symbol-register : (name : List ℕ) (scope : Scope) → symbol_register (symbol_of name scope) ≡ qubit_register (meaning_of name scope)
 symbol-register name [] = refl
 symbol-register name (d ∷ scope) = register-at (bytes_eq d.name name) d.replaceable (gate_count scope) d.meaning (symbol_of name scope) (meaning_of name scope) (symbol-register name scope)
+
+bits-at : (b replaceable : Bool) (n : ℕ) (m : Meaning) (symbol : Option Symbol) (meaning : Option Meaning) → symbol_bits symbol ≡ bit_register meaning
+    → symbol_bits (if b then Some (symbol_in n replaceable m) else symbol) ≡ bit_register (if b then Some m else meaning)
+bits-at true replaceable n (Gate form) symbol meaning h = refl
+bits-at true replaceable n (Qubits first size) symbol meaning h = refl
+bits-at true replaceable n (Bits first size) symbol meaning h = refl
+bits-at false replaceable n m symbol meaning h = h
+
+pub symbol-bits : (name : List ℕ) (scope : Scope) → symbol_bits (symbol_of name scope) ≡ bit_register (meaning_of name scope)
+symbol-bits name [] = refl
+symbol-bits name (d ∷ scope) = bits-at (bytes_eq d.name name) d.replaceable (gate_count scope) d.meaning (symbol_of name scope) (meaning_of name scope) (symbol-bits name scope)
 
 declared-at : (b : Bool) (s : Symbol) (symbol : Option Symbol) (rest : Bool) → is_some symbol ≡ rest → is_some (if b then Some s else symbol) ≡ (b || rest)
 declared-at true s symbol rest h = refl
@@ -58,8 +63,8 @@ taken-at true true n (Gate form) scope symbol rest h sound fresh = sym (fresh re
 taken-at true false n (Gate form) scope symbol rest h sound fresh = refl
 taken-at true true n (Qubits first size) scope symbol rest h sound fresh = absurd (let e = sound.1 in cc)
 taken-at true false n (Qubits first size) scope symbol rest h sound fresh = refl
-taken-at true true n Bits scope symbol rest h sound fresh = absurd (cc)
-taken-at true false n Bits scope symbol rest h sound fresh = refl
+taken-at true true n (Bits first size) scope symbol rest h sound fresh = absurd (let e = sound.1 in cc)
+taken-at true false n (Bits first size) scope symbol rest h sound fresh = refl
 taken-at false replaceable n m scope symbol rest h sound fresh = h
 
 fresh-taken : (d : Declaration) (replaceable : Bool) (name : List ℕ) (scope : Scope) → IsFresh d.name replaceable scope → bytes_eq d.name name ≡ true → replaceable ≡ true → is_taken name scope ≡ false
@@ -76,7 +81,7 @@ symbol-taken name (d ∷ scope) sound =
 kept-length-at : (m : Meaning) (scope : Scope) → length (kept_gates scope) ≡ gate_count scope → length (kept_gates scope ++ kept_in scope m) ≡ gates_in m + gate_count scope
 kept-length-at (Gate form) scope h = simp length-append (omega arith)
 kept-length-at (Qubits first size) scope h = simp length-append (omega arith)
-kept-length-at Bits scope h = simp length-append (omega arith)
+kept-length-at (Bits first size) scope h = simp length-append (omega arith)
 
 pub kept-length : (scope : Scope) → length (kept_gates scope) ≡ gate_count scope
 kept-length [] = refl

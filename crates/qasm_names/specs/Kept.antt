@@ -10,11 +10,12 @@ use Rattle.std.specs.BTreeMap.{BTreeMap, get_by}
 use Rattle.std.specs.Cmp.Lexicographic.{slice_cmp}
 use Rattle.std.specs.Ordering.{nat_cmp}
 use Rattle.zx_gates.specs.Circuit.{most_qubits}
+use Rattle.zx_gates.specs.Elementary.{most_bits}
 use Rattle.qasm_angle.specs.Trees.{Tree}
 use Rattle.qasm_reader.specs.Syntax.{Callee, Declared, U, Cx, GateForm, BodySentence, BodyApplied, BodyBarrier}
 use Rattle.qasm_scope.specs.Angles.{numbered, place_of}
 use Rattle.qasm_scope.specs.Faults.{body_has_unknown, body_has_wrong_count, body_has_same_qubit}
-use Rattle.qasm_scope.specs.Scope.{Scope, Declaration, Meaning, Qubits, Bits, Gate, is_declared, qubit_count}
+use Rattle.qasm_scope.specs.Scope.{Scope, Declaration, Meaning, Qubits, Bits, Gate, bit_count, is_declared, qubit_count}
 use Rattle.qasm_scope.specs.Applications.{has_twice}
 use Rattle.qasm_names.specs.declared.gates.GateBody.{GateBody}
 use Rattle.qasm_names.specs.declared.gates.GateCall.{GateCall}
@@ -40,7 +41,7 @@ kept_body gate = map kept_call gate.calls.items
 abbrev pub gates_in : Meaning → ℕ
 gates_in (Gate form) = 1
 gates_in (Qubits first size) = 0
-gates_in Bits = 0
+gates_in (Bits first size) = 0
 
 abbrev pub gate_count : Scope → ℕ
 gate_count [] = 0
@@ -52,7 +53,7 @@ gate_declaration form replaceable = record { name = form.name; meaning = Gate fo
 -- what a declaration is kept as, after so many gates
 abbrev pub symbol_in : ℕ → Bool → Meaning → Symbol
 symbol_in number replaceable (Qubits first size) = symbol.Qubits first size
-symbol_in number replaceable Bits = symbol.Bits
+symbol_in number replaceable (Bits first size) = symbol.Bits first size
 symbol_in number replaceable (Gate form) = symbol.Gate number (length form.parameters) (length form.qubits) replaceable
 
 -- what a name is kept as
@@ -67,28 +68,35 @@ symbol_of name (declaration ∷ scope) =
 abbrev pub symbol_shape : Option Symbol → Option (ℕ × ℕ)
 symbol_shape (Some (symbol.Gate number angles qubits replaceable)) = Some (angles, qubits)
 symbol_shape (Some (symbol.Qubits first size)) = None
-symbol_shape (Some symbol.Bits) = None
+symbol_shape (Some (symbol.Bits first size)) = None
 symbol_shape None = None
 
--- of a register: its first qubit and its size
+-- of a register of qubits: its first qubit and its size
 abbrev pub symbol_register : Option Symbol → Option (ℕ × ℕ)
 symbol_register (Some (symbol.Qubits first size)) = Some (first, size)
 symbol_register (Some (symbol.Gate number angles qubits replaceable)) = None
-symbol_register (Some symbol.Bits) = None
+symbol_register (Some (symbol.Bits first size)) = None
 symbol_register None = None
+
+-- of a register of bits: its first bit and its size
+abbrev pub symbol_bits : Option Symbol → Option (ℕ × ℕ)
+symbol_bits (Some (symbol.Bits first size)) = Some (first, size)
+symbol_bits (Some (symbol.Gate number angles qubits replaceable)) = None
+symbol_bits (Some (symbol.Qubits first size)) = None
+symbol_bits None = None
 
 -- the name may not be declared again
 abbrev pub symbol_taken : Option Symbol → Bool
 symbol_taken (Some (symbol.Gate number angles qubits replaceable)) = not replaceable
 symbol_taken (Some (symbol.Qubits first size)) = true
-symbol_taken (Some symbol.Bits) = true
+symbol_taken (Some (symbol.Bits first size)) = true
 symbol_taken None = false
 
 -- the number of a gate
 abbrev pub number_in : Option Symbol → ℕ
 number_in (Some (symbol.Gate number angles qubits replaceable)) = number
 number_in (Some (symbol.Qubits first size)) = 0
-number_in (Some symbol.Bits) = 0
+number_in (Some (symbol.Bits first size)) = 0
 number_in None = 0
 
 abbrev pub called_for : Scope → Callee → CalledGate
@@ -110,7 +118,7 @@ kept_calls scope form (BodyBarrier names ∷ body) = kept_calls scope form body
 abbrev pub kept_in : Scope → Meaning → List (List KeptCall)
 kept_in scope (Gate form) = kept_calls scope form form.body ∷ []
 kept_in scope (Qubits first size) = []
-kept_in scope Bits = []
+kept_in scope (Bits first size) = []
 
 abbrev pub kept_gates : Scope → List (List KeptCall)
 kept_gates [] = []
@@ -123,15 +131,17 @@ pub record IsSoundGate (scope : Scope) (form : GateForm) : Type 0 where
   pub other_qubits : list_any body_has_same_qubit form.body ≡ false
   pub other_names : has_twice bytes_eq (form.parameters ++ form.qubits) ≡ false
 
--- registers of qubits stand one after the other, and are few
-pub record IsSoundRegister (scope : Scope) (first size : ℕ) : Type 0 where
-  pub after_others : first ≡ qubit_count scope
-  pub few : size + qubit_count scope ≤ most_qubits
+-- a register begins behind so many qubits or bits, and with it there are no more than the most
+pub record IsSoundRegister (count most first size : ℕ) : Type 0 where
+  pub after_others : first ≡ count
+  pub few : size + count ≤ most
 
 abbrev pub IsSoundMeaning : Scope → Meaning → Bool → Type 0
 IsSoundMeaning scope (Gate form) replaceable = IsSoundGate scope form
-IsSoundMeaning scope (Qubits first size) replaceable = IsSoundRegister scope first size × (replaceable ≡ false)
-IsSoundMeaning scope Bits replaceable = replaceable ≡ false
+IsSoundMeaning scope (Qubits first size) replaceable =
+    IsSoundRegister (qubit_count scope) most_qubits first size × (replaceable ≡ false)
+IsSoundMeaning scope (Bits first size) replaceable =
+    IsSoundRegister (bit_count scope) most_bits first size × (replaceable ≡ false)
 
 -- what is replaceable was free
 abbrev pub IsFresh : List ℕ → Bool → Scope → Type 0
@@ -154,6 +164,7 @@ pub record Represents (names : Names) (scope : Scope) : Type 0 where
   pub same_symbols : (name : List ℕ) → found name names.symbols ≡ symbol_of name scope
   pub same_gates : map kept_body names.gates.items ≡ kept_gates scope
   pub same_qubits : names.qubits ≡ qubit_count scope
+  pub same_bits : names.bits ≡ bit_count scope
   pub sound : IsSound scope
 
 -- in each scope in which this is how a sound gate is kept, it is declared

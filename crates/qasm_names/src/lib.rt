@@ -3,8 +3,8 @@
 //!
 //! Proved: which causes a declaration of a gate or of a register or an include has, by the
 //! definitions of `qasm_scope`; and that after it, what is kept is what the program's scope says:
-//! names, gates by their numbers with their calls resolved, and qubits. A gate's declaration is taken
-//! in statement by statement.
+//! names, gates by their numbers with their calls resolved, qubits and bits. A gate's declaration is
+//! taken in statement by statement.
 //!
 //! ```rust
 //! include(alloc, &mut names, b"\"qelib1.inc\"")?;

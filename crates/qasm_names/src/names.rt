@@ -2,11 +2,12 @@
 
 ghost use Rattle.std.specs.Prelude.{◌≡◌, ◌+◌, ◌≤◌, ◌∷◌, [], OnOk, IfSome};
 ghost use Rattle.zx_gates.specs.Circuit.{most_qubits};
+ghost use Rattle.zx_gates.specs.Elementary.{most_bits};
 ghost use Rattle.qasm_reader.specs.Views.{callee};
 ghost use Rattle.std.specs.Option.{is_some, option_map};
 ghost use Rattle.qasm_names.specs.Checks.{gate_shape, shape_by, called_by};
-ghost use Rattle.qasm_names.specs.Kept.{Represents, DeclaresGate, found, number_in, kept_body, symbol_taken, symbol_shape, symbol_register};
-ghost use Rattle.qasm_scope.specs.Scope.{Scope, Qubits, Bits, declared, qubit_count};
+ghost use Rattle.qasm_names.specs.Kept.{Represents, DeclaresGate, found, number_in, kept_body, symbol_bits, symbol_taken, symbol_shape, symbol_register};
+ghost use Rattle.qasm_scope.specs.Scope.{Scope, Qubits, Bits, bit_count, declared, qubit_count};
 
 use crate::gates::{CalledGate, GateBody, KnownGate};
 use qasm_reader::GateName;
@@ -24,7 +25,12 @@ pub enum Symbol {
         size: usize,
     },
     /// A register of bits.
-    Bits,
+    Bits {
+        /// The number of its first bit.
+        first: usize,
+        /// How many bits it has.
+        size: usize,
+    },
     /// A gate.
     Gate {
         /// Its number among the declared gates, from 0.
@@ -47,6 +53,8 @@ pub struct Names<'a> {
     pub gates: Vec<GateBody>,
     /// How many qubits are declared.
     pub qubits: usize,
+    /// How many bits are declared.
+    pub bits: usize,
 }
 
 impl<'a> Names<'a> {
@@ -58,6 +66,7 @@ impl<'a> Names<'a> {
             symbols: BTreeMap::new(alloc),
             gates: Vec::new(alloc),
             qubits: 0,
+            bits: 0,
         }
     }
 
@@ -110,12 +119,22 @@ impl<'a> Names<'a> {
         register(self.find(name))
     }
 
-    /// Declares a register of bits.
-    pub fn declare_bits(&mut self, name: &'a [u8]) -> Result<(), AllocError>
-        ensures { OnOk result ((scope : Scope) → Represents self.old scope
-            → Represents self.new (declared name.now Bits ∷ scope)) }
+    /// The first bit of a register of bits, and its size; none where there is no such register.
+    pub fn bit_register(&self, name: &'a [u8]) -> Option<(usize, usize)>
+        ensures { result ≡ symbol_bits (found name.now self.now.symbols) }
     {
-        self.symbols.insert(name, Symbol::Bits)?;
+        bit_register(self.find(name))
+    }
+
+    /// Declares a register of bits after all others.
+    pub fn declare_bits(&mut self, name: &'a [u8], size: usize) -> Result<(), AllocError>
+        requires { self.old.bits + size ≤ most_bits }
+        ensures { OnOk result ((scope : Scope) → Represents self.old scope
+            → Represents self.new (declared name.now (Bits (bit_count scope) size) ∷ scope)) }
+    {
+        let first = self.bits;
+        self.symbols.insert(name, Symbol::Bits { first, size })?;
+        self.bits += size;
         Ok(())
     }
 
@@ -197,6 +216,16 @@ fn register(symbol: Option<Symbol>) -> Option<(usize, usize)>
 {
     match symbol {
         Some(Symbol::Qubits { first, size }) => Some((first, size)),
+        _ => None,
+    }
+}
+
+// The first bit and the size of a register of bits.
+fn bit_register(symbol: Option<Symbol>) -> Option<(usize, usize)>
+    ensures { result ≡ symbol_bits symbol }
+{
+    match symbol {
+        Some(Symbol::Bits { first, size }) => Some((first, size)),
         _ => None,
     }
 }

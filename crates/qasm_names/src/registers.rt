@@ -1,10 +1,9 @@
 //! Declarations of registers.
 
-ghost use Rattle.std.specs.Prelude.{◌≡◌, ◌+◌, ◌==◌, ◌∷◌, OnOk, None, Some, Err, nat_lt};
-ghost use Rattle.zx_gates.specs.Circuit.{most_qubits};
+ghost use Rattle.std.specs.Prelude.{◌≡◌, ◌<◌, ◌==◌, ◌∷◌, OnOk, None, Some, Err};
 ghost use Rattle.qasm_reader.specs.Syntax.{QubitRegister, BitRegister};
 ghost use Rattle.qasm_scope.specs.declared.causes.Cause.{Cause};
-ghost use Rattle.qasm_names.specs.Internal.Registers.{register_cause};
+ghost use Rattle.qasm_names.specs.Internal.Registers.{register_cause, too_many_cause};
 ghost use Rattle.qasm_names.specs.Kept.{Represents, found, symbol_taken};
 ghost use Rattle.qasm_scope.specs.Faults.{wrong_in};
 ghost use Rattle.qasm_scope.specs.Meaning.{after_statement};
@@ -17,6 +16,9 @@ use qasm_scope::Cause;
 
 // The most qubits that a circuit may have.
 const MOST_QUBITS: usize = 1024;
+
+// The most bits that a circuit may have.
+const MOST_BITS: usize = 65536;
 
 /// Declares a register of qubits, where nothing is wrong with it.
 ///
@@ -37,7 +39,7 @@ pub fn declare_qubits<'a>(
         → wrong_in scope (QubitRegister name.now size.now) ≡ Some cause }
 {
     let count = number(size);
-    let too_many = is_too_many(names.qubits, count);
+    let too_many = too_many(names.qubits, count, MOST_QUBITS, Cause::TooManyQubits);
     if let Some(cause) = wrong_register(names, name, count, too_many) {
         return Err(StatementError::Wrong(cause));
     }
@@ -49,7 +51,7 @@ pub fn declare_qubits<'a>(
 ///
 /// # Errors
 ///
-/// `Wrong` with the first cause of `Redeclared` and `EmptyRegister`; and `NoMemory` where memory runs out.
+/// `Wrong` with the first cause of `Redeclared`, `EmptyRegister` and `TooManyBits`; and `NoMemory` where memory runs out.
 pub fn declare_bits<'a>(
     names: &mut Names<'a>,
     name: &'a [u8],
@@ -63,19 +65,21 @@ pub fn declare_bits<'a>(
         → Represents names.old scope
         → wrong_in scope (BitRegister name.now size.now) ≡ Some cause }
 {
-    if let Some(cause) = wrong_register(names, name, number(size), false) {
+    let count = number(size);
+    let too_many = too_many(names.bits, count, MOST_BITS, Cause::TooManyBits);
+    if let Some(cause) = wrong_register(names, name, count, too_many) {
         return Err(StatementError::Wrong(cause));
     }
-    names.declare_bits(name)?;
+    names.declare_bits(name, count)?;
     Ok(())
 }
 
-// What is wrong with a register of that size.
+// What is wrong with a register of that size, with which there may be too many qubits or bits.
 fn wrong_register<'a>(
     names: &Names<'a>,
     name: &'a [u8],
     size: usize,
-    too_many: bool,
+    too_many: Option<Cause>,
 ) -> Option<Cause>
     ensures { result
         ≡ register_cause (symbol_taken (found name.now names.now.symbols)) (size == 0) too_many }
@@ -84,16 +88,19 @@ fn wrong_register<'a>(
         Some(Cause::Redeclared)
     } else if size == 0 {
         Some(Cause::EmptyRegister)
-    } else if too_many {
-        Some(Cause::TooManyQubits)
     } else {
-        None
+        too_many
     }
 }
 
-// Whether there are too many qubits with so many more.
-fn is_too_many(qubits: usize, more: usize) -> bool
-    ensures { result ≡ nat_lt most_qubits (qubits + more) }
+// This cause, where with so many more there are more than the most.
+fn too_many(count: usize, more: usize, most: usize, cause: Cause) -> Option<Cause>
+    requires { most < usize.MAX }
+    ensures { result ≡ too_many_cause most count more cause }
 {
-    qubits.saturating_add(more) > MOST_QUBITS
+    if count.saturating_add(more) > most {
+        Some(cause)
+    } else {
+        None
+    }
 }

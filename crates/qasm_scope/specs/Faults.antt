@@ -4,16 +4,19 @@ use Rattle.std.specs.Prelude.{Option, None, Some, is_some, nat_le, nat_lt, codes
 use Rattle.std.specs.List.{list_any}
 use Rattle.std.specs.Str.{bytes_eq}
 use Rattle.zx_gates.specs.Circuit.{most_qubits}
+use Rattle.zx_gates.specs.Elementary.{most_bits}
+use Rattle.zx_gates.specs.declared.elementary.Measure.{Measure}
 use Rattle.qasm_reader.specs.Syntax.{Formula, Name, Negate, Binary, Call, Operand, Callee, Declared, U, Cx, Apply}
-use Rattle.qasm_reader.specs.Syntax.{Applied, BodySentence, BodyApplied, BodyBarrier, GateForm}
+use Rattle.qasm_reader.specs.Syntax.{Applied, Measured, BodySentence, BodyApplied, BodyBarrier, GateForm}
 use Rattle.qasm_reader.specs.Syntax.{Sentence, Version, Include, QubitRegister, BitRegister, DeclareGate, Barrier, Act}
 use Rattle.qasm_scope.specs.declared.causes.Cause.{Cause}
 use Rattle.qasm_scope.specs.declared.causes.Cause.TheVariants as cause
 use Rattle.qasm_scope.specs.Angles.{is_unsupported}
-use Rattle.qasm_scope.specs.Applications.{instances, ranges_of, register_sizes, has_twice}
+use Rattle.qasm_scope.specs.Applications.{instances, range_of, ranges_of, register_of, register_sizes, has_twice}
 use Rattle.qasm_scope.specs.HeaderGates.{first_gates}
-use Rattle.qasm_scope.specs.Scope.{Scope, Meaning, Qubits, Gate, meaning_of, is_taken, is_declared, numeral}
-use Rattle.qasm_scope.specs.Scope.{qubit_count}
+use Rattle.qasm_scope.specs.Measurements.{are_unlike, bit_range_of, bit_register_of, bits_of, holds_any, qubits_of}
+use Rattle.qasm_scope.specs.Scope.{Scope, Meaning, Gate, meaning_of, is_taken, is_declared, numeral}
+use Rattle.qasm_scope.specs.Scope.{qubit_count, bit_count}
 
 -- an expression in a body or an application holds `^` or a function
 abbrev pub body_is_unsupported : BodySentence → Bool
@@ -45,9 +48,8 @@ has_other_name names (Binary operator f g) = has_other_name names f || has_other
 has_other_name names (Call function f) = has_other_name names f
 has_other_name names f = false
 
-abbrev pub is_no_register : Option Meaning → Bool
-is_no_register (Some (Qubits first size)) = false
-is_no_register meaning = true
+abbrev pub is_no_register : Option (ℕ × ℕ) → Bool
+is_no_register register = not (is_some register)
 
 -- in a body, formal names hide others
 abbrev pub is_hidden : GateForm → Callee → Bool
@@ -62,7 +64,7 @@ body_has_unknown scope form (BodyBarrier names) = list_any (λ name. not (is_in 
 
 -- no qubits are declared by the name of one of the arguments
 abbrev pub has_no_register : Scope → List Operand → Bool
-has_no_register scope operands = list_any (λ operand. is_no_register (meaning_of operand.register scope)) operands
+has_no_register scope operands = list_any (λ operand. is_no_register (register_of scope operand)) operands
 
 -- a name in an application isn't known, or isn't what is needed there
 abbrev pub has_unknown : Scope → Apply → Bool
@@ -79,12 +81,13 @@ body_has_wrong_count scope (BodyApplied a) = has_other_shape (shape_of scope a.g
 body_has_wrong_count scope (BodyBarrier names) = false
 
 -- an index isn't below its register's size
-abbrev pub is_past : Option Meaning → Option (List ℕ) → Bool
-is_past (Some (Qubits first size)) (Some index) = nat_le size (numeral index)
-is_past meaning index = false
+abbrev pub is_past : Option (ℕ × ℕ) → Option (List ℕ) → Bool
+is_past (Some register) (Some index) = nat_le register.1 (numeral index)
+is_past (Some register) None = false
+is_past None index = false
 
 abbrev pub has_past_index : Scope → List Operand → Bool
-has_past_index scope operands = list_any (λ operand. is_past (meaning_of operand.register scope) operand.index) operands
+has_past_index scope operands = list_any (λ operand. is_past (register_of scope operand) operand.index) operands
 
 -- two sizes differ
 abbrev pub has_other_size : List ℕ → Bool
@@ -110,7 +113,8 @@ statement_tests scope (QubitRegister name size) =
     (is_taken name scope, cause.Redeclared) ∷ (numeral size == 0, cause.EmptyRegister)
     ∷ (nat_lt most_qubits (qubit_count scope + numeral size), cause.TooManyQubits) ∷ []
 statement_tests scope (BitRegister name size) =
-    (is_taken name scope, cause.Redeclared) ∷ (numeral size == 0, cause.EmptyRegister) ∷ []
+    (is_taken name scope, cause.Redeclared) ∷ (numeral size == 0, cause.EmptyRegister)
+    ∷ (nat_lt most_bits (bit_count scope + numeral size), cause.TooManyBits) ∷ []
 statement_tests scope (DeclareGate form) =
     (list_any body_is_unsupported form.body, cause.Unsupported)
     ∷ (is_taken form.name scope || has_twice bytes_eq (form.parameters ++ form.qubits), cause.Redeclared)
@@ -126,8 +130,25 @@ statement_tests scope (Act (Applied a)) =
     ∷ (has_past_index scope a.qubits, cause.Index)
     ∷ (has_other_size (register_sizes (ranges_of scope a.qubits)), cause.Sizes)
     ∷ (list_any (has_twice ◌==◌) (instances (ranges_of scope a.qubits)), cause.SameQubit) ∷ []
+statement_tests scope (Act (Measured from to)) =
+    (is_no_register (register_of scope from) || is_no_register (bit_register_of scope to), cause.Unknown)
+    ∷ (is_past (register_of scope from) from.index || is_past (bit_register_of scope to) to.index, cause.Index)
+    ∷ (are_unlike (range_of scope from) (bit_range_of scope to), cause.Sizes) ∷ []
 statement_tests scope sentence = (true, cause.Unsupported) ∷ []
 
 -- what is wrong with it
 unfoldable pub wrong_in : Scope → Sentence → Option Cause
 wrong_in scope sentence = first_cause (statement_tests scope sentence)
+
+-- the tests of a statement behind these measurements
+abbrev pub tests_behind : Scope → List Measure → Sentence → List (Bool × Cause)
+tests_behind scope measured (Act (Applied a)) =
+    (list_any (holds_any (qubits_of measured)) (ranges_of scope a.qubits), cause.AfterMeasure) ∷ []
+tests_behind scope measured (Act (Measured from to)) =
+    (holds_any (qubits_of measured) (range_of scope from), cause.AfterMeasure)
+    ∷ (holds_any (bits_of measured) (bit_range_of scope to), cause.BitTwice) ∷ []
+tests_behind scope measured sentence = []
+
+-- what is wrong with it behind them
+abbrev pub wrong_behind : Scope → List Measure → Sentence → Option Cause
+wrong_behind scope measured sentence = first_cause (tests_behind scope measured sentence)

@@ -7,6 +7,7 @@ pub mod HeaderGates
 pub mod HeaderTrees
 pub mod Internal
 pub mod Meaning
+pub mod Measurements
 pub mod ProgramTexts
 pub mod Scope
 pub mod Texts

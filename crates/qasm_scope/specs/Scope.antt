@@ -12,8 +12,8 @@ use Rattle.qasm_reader.specs.Syntax.{GateForm}
 pub data Meaning : Type 0 where
   -- a register of qubits: the number of its first qubit, and its size
   Qubits : ℕ → ℕ → Meaning
-  -- a register of bits
-  Bits : Meaning
+  -- a register of bits: the number of its first bit, and its size
+  Bits : ℕ → ℕ → Meaning
   -- a gate
   Gate : GateForm → Meaning
 
@@ -53,6 +53,25 @@ size_of meaning = 0
 abbrev pub qubit_count : Scope → ℕ
 qubit_count [] = 0
 qubit_count (declaration ∷ scope) = size_of declaration.meaning + qubit_count scope
+
+-- how many bits are declared
+abbrev pub bits_in : Meaning → ℕ
+bits_in (Bits first size) = size
+bits_in meaning = 0
+
+abbrev pub bit_count : Scope → ℕ
+bit_count [] = 0
+bit_count (declaration ∷ scope) = bits_in declaration.meaning + bit_count scope
+
+-- the register of qubits that a name stands for: the number of its first qubit, and its size
+abbrev pub qubit_register : Option Meaning → Option (ℕ × ℕ)
+qubit_register (Some (Qubits first size)) = Some (first, size)
+qubit_register meaning = None
+
+-- the register of bits that it stands for
+abbrev pub bit_register : Option Meaning → Option (ℕ × ℕ)
+bit_register (Some (Bits first size)) = Some (first, size)
+bit_register meaning = None
 
 -- a declaration that can't be repeated
 abbrev pub declared : List ℕ → Meaning → Declaration

@@ -8,7 +8,7 @@ pub enum Cause {
     Version,
     /// A file other than `qelib1.inc` is included.
     Include,
-    /// `measure`, `reset`, `if`, `opaque`, or an expression with `^` or a function.
+    /// `reset`, `if`, `opaque`, or an expression with `^` or a function.
     Unsupported,
     /// A name is declared again, a first name of the header is declared where the header is included, or two formal
     /// names of a gate are equal.
@@ -23,10 +23,17 @@ pub enum Cause {
     WrongCount,
     /// An index isn't below its register's size.
     Index,
-    /// Registers of different size stand in one application.
+    /// Registers of different size stand in one application or measurement, or a register and a single qubit or bit in
+    /// one measurement.
     Sizes,
     /// One qubit stands twice in one application.
     SameQubit,
+    /// An application or a measurement names a qubit that was measured before.
+    AfterMeasure,
+    /// A measurement names a bit that an earlier one names.
+    BitTwice,
+    /// With this register there are more than 65,536 bits.
+    TooManyBits,
     /// A divisor is 0.
     Divide,
     /// A number has more than 38 digits from its first to its last that isn't 0, or a part of a fraction is above

@@ -2,4 +2,5 @@ pub mod Statements
 pub mod Lines
 pub mod Maps
 pub mod GateLines
+pub mod Continuing
 pub mod WrittenLemmas

@@ -3,20 +3,21 @@ use Rattle.std.specs.Prelude.{◌≡◌, ◌<◌, ℕ, ◌+◌, ◌^◌, true, L
 use Rattle.std.proofs.Common.{refl, sym, ap, ◌∙◌, arith, subst, append_assoc, inl}
 use Rattle.std.proofs.lemmas.List.{append-nil}
 use Rattle.std.specs.List.{list_all}
+use Rattle.qasm_lexer.specs.declared.token.TokenKind.{TokenKind}
 use Rattle.qasm_lexer.specs.declared.token.TokenKind.TheVariants as kind
 use Rattle.std.specs.Char.{is_ascii_digit}
 use Rattle.qasm_lexer.specs.Forms.{is_natural, is_word}
 use Rattle.qasm_lexer.specs.Tokens.{Lexeme, IsCut, word_kind}
 use Rattle.qasm_lexer.specs.Worked.{token}
-use Rattle.qasm_lexer.proofs.Building.{IsCut-nil, IsCut-space, IsCut-word, IsCut-sign, IsCut-plain_sign, IsCut-natural, IsCut-decimal}
-use Rattle.qasm_lexer.proofs.Pieces.{ends_sign}
+use Rattle.qasm_lexer.proofs.Building.{IsCut-nil, IsCut-space, IsCut-token, IsCut-word, IsCut-sign, IsCut-plain_sign, IsCut-natural, IsCut-decimal}
+use Rattle.qasm_lexer.proofs.Pieces.{ends_sign, long_sign_piece}
 use Rattle.qasm_lexer.proofs.Feeds.{IsCut-append}
 use Rattle.qasm_lexer.proofs.Scan.{IsCut-tokens_of}
 use Rattle.qasm_reader.specs.Depth.{too_deep, too_deep_from}
-use Rattle.qasm_reader.specs.Grammar.{IsProgram, IsStatement, IsArgument, IsArguments, IsAngles, IsExpression, BeginsAt, OneTerm, Product, Quotient, OnePower, OneFactor, WholeNumber, PiWord}
-use Rattle.qasm_reader.specs.Syntax.{Formula, Operand, Sentence, Version, Include, QubitRegister, Placed}
-use Rattle.qasm_writer.specs.Written.{qubit, on_one, on_two}
-use Rattle.qasm_writer.proofs.Statements.{operand, application, pi_over, pi_times_over}
+use Rattle.qasm_reader.specs.Grammar.{IsProgram, IsStatement, IsArgument, IsArguments, IsAngles, IsExpression, BeginsAt, OneTerm, Product, Quotient, OnePower, OneFactor, WholeNumber, PiWord, Sign, IsIdentifier, IsIndex, ◌⋅◌}
+use Rattle.qasm_reader.specs.Syntax.{Formula, Operand, Sentence, Version, Include, QubitRegister, BitRegister, Placed}
+use Rattle.qasm_writer.specs.Written.{bit, measure_line, on_one, on_two, qubit}
+use Rattle.qasm_writer.proofs.Statements.{application, measurement, operand, pi_over, pi_times_over}
 
 -- ---- texts and programs
 -- the line at a place is this statement
@@ -49,9 +50,9 @@ line_then place line after s program l m = record {
 }
 
 -- ---- grammar
-argument_is : (i : List ℕ) (a b c d : Lexeme) → a.kind ≡ kind.Identifier → a.text ≡ codes "q" → b.kind ≡ kind.LeftBracket
-    → c.kind ≡ kind.Natural → c.text ≡ i → d.kind ≡ kind.RightBracket → IsArgument (operand i) (a ∷ b ∷ c ∷ d ∷ [])
-argument_is i a b c d ka ta kb kc tc kd = (
+argument_is : (r i : List ℕ) (a b c d : Lexeme) → a.kind ≡ kind.Identifier → a.text ≡ r → b.kind ≡ kind.LeftBracket
+    → c.kind ≡ kind.Natural → c.text ≡ i → d.kind ≡ kind.RightBracket → IsArgument (record { register = r; index = Some i }) (a ∷ b ∷ c ∷ d ∷ [])
+argument_is r i a b c d ka ta kb kc tc kd = (
   a ∷ [],
   b ∷ c ∷ d ∷ [],
   refl,
@@ -65,14 +66,17 @@ applied_is : (name : List ℕ) (angles : List Formula) (operands : List Operand)
 applied_is name angles operands t s us vs k e a b l =
     (t ∷ [], us ++ (vs ++ s ∷ []), refl, (t, k, e, refl), (us, vs ++ s ∷ [], refl, a, (vs, s ∷ [], refl, b, (s, l, refl))))
 
--- the tokens of a qubit at a place
-abbrev qubit_tokens : ℕ → ℕ → List Lexeme
-qubit_tokens place q =
-    token kind.Identifier (codes "q") place ∷ token kind.LeftBracket (codes "[") (place + 1)
+-- the tokens of an element of a register whose name is one letter, at a place
+abbrev element_tokens : ℕ → ℕ → ℕ → List Lexeme
+element_tokens letter place q =
+    token kind.Identifier (letter ∷ []) place ∷ token kind.LeftBracket (codes "[") (place + 1)
     ∷ token kind.Natural (decimal q) (place + 2) ∷ token kind.RightBracket (codes "]") (place + 2 + length (decimal q)) ∷ []
 
+abbrev qubit_tokens : ℕ → ℕ → List Lexeme
+qubit_tokens = element_tokens 113
+
 qubit_is : (place q : ℕ) → IsArgument (operand (decimal q)) (qubit_tokens place q)
-qubit_is place q = argument_is (decimal q) _ _ _ _ refl refl refl refl refl refl
+qubit_is place q = argument_is (codes "q") (decimal q) _ _ _ _ refl refl refl refl refl refl
 
 one_argument : (place q : ℕ) → IsArguments (operand (decimal q) ∷ []) (qubit_tokens place q)
 one_argument place q = (qubit_tokens place q, [], refl, qubit_is place q, refl)
@@ -89,16 +93,24 @@ two_arguments place at next q r =
     )
 
 -- ---- cuts
-abbrev qubit_then : ℕ → List ℕ → List ℕ
-qubit_then q after = 113 ∷ 91 ∷ (decimal q ++ 93 ∷ after)
+abbrev element_then : ℕ → ℕ → List ℕ → List ℕ
+element_then letter q after = letter ∷ 91 ∷ (decimal q ++ 93 ∷ after)
 
-qubit_cut : (place q next : ℕ) (after : List ℕ) (tokens : List Lexeme) → q < 2 ^ 64 → next ≡ place + 3 + length (decimal q)
-    → IsCut next after tokens → IsCut place (qubit_then q after) (qubit_tokens place q ++ tokens)
-qubit_cut place q next after tokens small there c =
-    IsCut-word (codes "q") (place + 1) refl refl refl (omega arith)
+abbrev qubit_then : ℕ → List ℕ → List ℕ
+qubit_then = element_then 113
+
+element_cut : (letter : ℕ) → is_word (letter ∷ []) ≡ true → word_kind (letter ∷ []) ≡ Some kind.Identifier
+    → (place q next : ℕ) (after : List ℕ) (tokens : List Lexeme) → q < 2 ^ 64 → next ≡ place + 3 + length (decimal q)
+    → IsCut next after tokens → IsCut place (element_then letter q after) (element_tokens letter place q ++ tokens)
+element_cut letter word identifier place q next after tokens small there c =
+    IsCut-word (letter ∷ []) (place + 1) word identifier refl (omega arith)
     (IsCut-plain_sign 91 (place + 2) refl refl (omega arith)
     (IsCut-decimal q (place + 2 + length (decimal q)) small refl refl
     (IsCut-plain_sign 93 next refl refl (omega arith) c)))
+
+qubit_cut : (place q next : ℕ) (after : List ℕ) (tokens : List Lexeme) → q < 2 ^ 64 → next ≡ place + 3 + length (decimal q)
+    → IsCut next after tokens → IsCut place (qubit_then q after) (qubit_tokens place q ++ tokens)
+qubit_cut = element_cut 113 refl refl
 
 -- the end of a line
 end_cut : (place : ℕ) → IsCut place (59 ∷ 10 ∷ []) (token kind.Semicolon (codes ";") place ∷ [])
@@ -317,33 +329,25 @@ include_is =
       statement = (a ∷ [], b ∷ c ∷ [], refl, (a, refl, refl), (b ∷ [], c ∷ [], refl, (b, refl, refl, refl), (c, refl, refl)));
     }
 
--- the line of a register
-abbrev pub register_text : ℕ → List ℕ
-register_text n = codes "qreg q[" ++ decimal n ++ codes "];\n"
+-- ---- the lines of registers, of four letters and a name of one
+module _ (place n : ℕ) (word name : List ℕ) (k : TokenKind) (s : Sentence) where
+  abbrev line_text : List ℕ
+  line_text = word ++ (32 ∷ (name ++ (91 ∷ (decimal n ++ codes "];\n"))))
 
-pub register_is : (place n : ℕ) → n < 2 ^ 64 → IsLine place (register_text n) (QubitRegister (codes "q") (decimal n))
-register_is place n small =
-    let a : Lexeme = token kind.Qreg (codes "qreg") place in
-    let b : Lexeme = token kind.Identifier (codes "q") (place + 5) in
-    let c : Lexeme = token kind.LeftBracket (codes "[") (place + 6) in
-    let d : Lexeme = token kind.Natural (decimal n) (place + 7) in
-    let e : Lexeme = token kind.RightBracket (codes "]") (place + 7 + length (decimal n)) in
-    let f : Lexeme = token kind.Semicolon (codes ";") (place + 8 + length (decimal n)) in
-    record {
-      prefix = codes "qreg q[" ++ (decimal n ++ codes "];");
-      ends = ap (λ t. codes "qreg q[" ++ t) (sym (append_assoc (decimal n) (codes "];") (10 ∷ [])));
-      tokens = a ∷ b ∷ c ∷ d ∷ e ∷ f ∷ [];
-      cut =
-          IsCut-word (codes "qreg") (place + 4) refl refl refl refl
-          (IsCut-space 32 (place + 5) refl (omega arith)
-          (IsCut-word (codes "q") (place + 6) refl refl refl (omega arith)
-          (IsCut-plain_sign 91 (place + 7) refl refl (omega arith)
-          (IsCut-decimal n (place + 7 + length (decimal n)) small refl refl
-          (IsCut-plain_sign 93 (place + 8 + length (decimal n)) refl refl (omega arith)
-          (end_cut (place + 8 + length (decimal n))))))));
-      begins = (a, b ∷ c ∷ d ∷ e ∷ f ∷ [], refl, refl);
-      closed = λ rest. refl;
-      statement = (
+  abbrev line_tokens : List Lexeme
+  line_tokens =
+      token k word place ∷ token kind.Identifier name (place + 5) ∷ token kind.LeftBracket (codes "[") (place + 6)
+      ∷ token kind.Natural (decimal n) (place + 7) ∷ token kind.RightBracket (codes "]") (place + 7 + length (decimal n))
+      ∷ token kind.Semicolon (codes ";") (place + 8 + length (decimal n)) ∷ []
+
+  line_parts : (Sign k ⋅ IsIdentifier name ⋅ IsIndex (Some (decimal n)) ⋅ Sign kind.Semicolon) line_tokens
+  line_parts =
+      let a : Lexeme = token k word place in
+      let b : Lexeme = token kind.Identifier name (place + 5) in
+      let c : Lexeme = token kind.LeftBracket (codes "[") (place + 6) in
+      let d : Lexeme = token kind.Natural (decimal n) (place + 7) in
+      let e : Lexeme = token kind.RightBracket (codes "]") (place + 7 + length (decimal n)) in
+      let f : Lexeme = token kind.Semicolon (codes ";") (place + 8 + length (decimal n)) in (
         a ∷ [],
         b ∷ c ∷ d ∷ e ∷ f ∷ [],
         refl,
@@ -359,6 +363,102 @@ register_is place n small =
             refl,
             (c ∷ [], d ∷ e ∷ [], refl, (c, refl, refl), (d ∷ [], e ∷ [], refl, (d, refl, refl, refl), (e, refl, refl))),
             (f, refl, refl),
+          ),
+        ),
+      )
+
+  register_line_is : (prefix : List ℕ) → line_text ≡ prefix ++ 10 ∷ [] → ((rest : List Lexeme) → too_deep_from 0 (line_tokens ++ rest) ≡ too_deep_from 0 rest)
+      → is_word word ≡ true → word_kind word ≡ Some k → length word ≡ 4 → is_word name ≡ true → word_kind name ≡ Some kind.Identifier → length name ≡ 1
+      → IsStatement s line_tokens → n < 2 ^ 64 → IsLine place line_text s
+  register_line_is prefix ends closed is keyword four named identifier one statement small = record {
+    prefix = prefix;
+    ends = ends;
+    tokens = line_tokens;
+    cut =
+        IsCut-word word (place + 4) is keyword refl (omega (arith, four))
+        (IsCut-space 32 (place + 5) refl (omega arith)
+        (IsCut-word name (place + 6) named identifier refl (omega (arith, one))
+        (IsCut-plain_sign 91 (place + 7) refl refl (omega arith)
+        (IsCut-decimal n (place + 7 + length (decimal n)) small refl refl
+        (IsCut-plain_sign 93 (place + 8 + length (decimal n)) refl refl (omega arith)
+        (end_cut (place + 8 + length (decimal n))))))));
+    begins = (token k word place, _, refl, refl);
+    closed = closed;
+    statement = statement;
+  }
+
+-- the line of a register of qubits
+abbrev pub register_text : ℕ → List ℕ
+register_text n = codes "qreg q[" ++ decimal n ++ codes "];\n"
+
+pub register_is : (place n : ℕ) → n < 2 ^ 64 → IsLine place (register_text n) (QubitRegister (codes "q") (decimal n))
+register_is place n small =
+    register_line_is place n (codes "qreg") (codes "q") kind.Qreg (QubitRegister (codes "q") (decimal n)) (codes "qreg q[" ++ (decimal n ++ codes "];"))
+    (ap (λ t. codes "qreg q[" ++ t) (sym (append_assoc (decimal n) (codes "];") (10 ∷ [])))) (λ rest. refl)
+    refl refl refl refl refl refl (line_parts place n (codes "qreg") (codes "q") kind.Qreg (QubitRegister (codes "q") (decimal n))) small
+
+-- the line of a register of bits
+abbrev pub bits_text : ℕ → List ℕ
+bits_text m = codes "creg c[" ++ decimal m ++ codes "];\n"
+
+pub bits_are : (place m : ℕ) → m < 2 ^ 64 → IsLine place (bits_text m) (BitRegister (codes "c") (decimal m))
+bits_are place m small =
+    register_line_is place m (codes "creg") (codes "c") kind.Creg (BitRegister (codes "c") (decimal m)) (codes "creg c[" ++ (decimal m ++ codes "];"))
+    (ap (λ t. codes "creg c[" ++ t) (sym (append_assoc (decimal m) (codes "];") (10 ∷ [])))) (λ rest. refl)
+    refl refl refl refl refl refl (line_parts place m (codes "creg") (codes "c") kind.Creg (BitRegister (codes "c") (decimal m))) small
+
+-- ---- the line of a measurement
+abbrev measure_text : ℕ → ℕ → List ℕ
+measure_text q b = codes "measure " ++ qubit_then q (32 ∷ 45 ∷ 62 ∷ 32 ∷ element_then 99 b (59 ∷ 10 ∷ []))
+
+all_grouped : (a b c d e : List ℕ) → a ++ b ++ c ++ d ++ e ≡ a ++ (b ++ (c ++ (d ++ e)))
+all_grouped a b c d e = simp append_assoc
+
+measure-text : (q b : ℕ) → measure_line (record { qubit = q; bit = b }) ≡ measure_text q b
+measure-text q b =
+    all_grouped (codes "measure ") (qubit q) (codes " -> ") (bit b) (codes ";\n")
+    ∙ ap (λ t. codes "measure " ++ 113 ∷ 91 ∷ t) (append_assoc (decimal q) (codes "]") (32 ∷ 45 ∷ 62 ∷ 32 ∷ (bit b ++ 59 ∷ 10 ∷ [])))
+    ∙ ap (λ t. codes "measure " ++ qubit_then q (32 ∷ 45 ∷ 62 ∷ 32 ∷ 99 ∷ 91 ∷ t)) (append_assoc (decimal b) (codes "]") (59 ∷ 10 ∷ []))
+
+pub measure_is : (place q b : ℕ) → q < 2 ^ 64 → b < 2 ^ 64 → IsLine place (measure_line (record { qubit = q; bit = b })) (measurement q b)
+measure_is place q b small slight =
+    let word : Lexeme = token kind.Measure (codes "measure") place in
+    let arrow : Lexeme = token kind.Arrow (codes "->") (place + 12 + length (decimal q)) in
+    let bits : List Lexeme = element_tokens 99 (place + 15 + length (decimal q)) b in
+    let end : Lexeme = token kind.Semicolon (codes ";") (place + 18 + length (decimal q) + length (decimal b)) in
+    let more : List Lexeme = qubit_tokens (place + 8) q ++ arrow ∷ (bits ++ end ∷ []) in
+    let c : IsCut place (measure_text q b) (word ∷ more) =
+    IsCut-word (codes "measure") (place + 7) refl refl refl refl
+    (IsCut-space 32 (place + 8) refl (omega arith)
+    (qubit_cut (place + 8) q (place + 11 + length (decimal q)) (32 ∷ 45 ∷ 62 ∷ 32 ∷ element_then 99 b (59 ∷ 10 ∷ [])) _ small (omega arith)
+    (IsCut-space 32 (place + 12 + length (decimal q)) refl (omega arith)
+    (IsCut-token (place + 12 + length (decimal q)) (codes "->") _ kind.Arrow _ (long_sign_piece 45 62 _ kind.Arrow refl refl)
+    (IsCut-space 32 (place + 15 + length (decimal q)) refl (omega arith)
+    (element_cut 99 refl refl (place + 15 + length (decimal q)) b (place + 18 + length (decimal q) + length (decimal b)) (59 ∷ 10 ∷ []) _ slight (omega arith)
+    (end_cut (place + 18 + length (decimal q) + length (decimal b))))))))) in
+    record {
+      prefix = codes "measure " ++ qubit q ++ codes " -> " ++ bit b ++ codes ";";
+      ends = line_ends (codes "measure " ++ qubit q ++ codes " -> " ++ bit b);
+      tokens = word ∷ more;
+      cut = subst (λ text. IsCut place text (word ∷ more)) (sym (measure-text q b)) c;
+      begins = (word, more, refl, refl);
+      closed = λ rest. refl;
+      statement = (
+        word ∷ [],
+        more,
+        refl,
+        (word, refl, refl),
+        (
+          qubit_tokens (place + 8) q,
+          arrow ∷ (bits ++ end ∷ []),
+          refl,
+          qubit_is (place + 8) q,
+          (
+            arrow ∷ [],
+            bits ++ end ∷ [],
+            refl,
+            (arrow, refl, refl),
+            (bits, end ∷ [], refl, argument_is (codes "c") (decimal b) _ _ _ _ refl refl refl refl refl refl, (end, refl, refl)),
           ),
         ),
       );

@@ -1,8 +1,8 @@
 -- The statements that the lines of gates are: after the header and the register they have no fault, and come to the
 -- built-in gates of `elements`.
-use Rattle.std.specs.Prelude.{◌≡◌, ◌≤◌, if◌then◌else◌, ℕ, ◌+◌, Bool, true, false, ◌&&◌, ◌||◌, not, List, [], ◌∷◌, codes, length, nat_le, nat_lt, ◌==◌, Some, None}
-use Rattle.std.proofs.Common.{refl, sym, ap, ap₂, ◌∙◌, arith}
-use Rattle.std.proofs.lemmas.Bool.{false≢true}
+use Rattle.std.specs.Prelude.{◌≡◌, ◌≢◌, ◌≤◌, if◌then◌else◌, ℕ, ◌+◌, Bool, true, false, ◌&&◌, ◌||◌, not, List, [], ◌∷◌, codes, decimal, length, nat_le, nat_lt, ◌==◌, Option, Some, None}
+use Rattle.std.proofs.Common.{refl, sym, ap, ap₂, ◌∙◌, arith, subst}
+use Rattle.std.proofs.lemmas.Bool.{false≢true, ne_eqb}
 use Rattle.zx_model.specs.Phase.{half_turn, quarter_turn, eighth_turn, opposite_phase}
 use Rattle.zx_gates.specs.declared.elementary.ElementaryGate.{ElementaryGate}
 use Rattle.zx_gates.specs.declared.elementary.ElementaryGate.TheVariants as elementary
@@ -13,20 +13,30 @@ use Rattle.qasm_angle.specs.Ratio.{gcd, lowest, limited}
 use Rattle.qasm_angle.specs.Sixteenths.{phase_of}
 use Rattle.qasm_angle.specs.Literals as literals
 use Rattle.qasm_angle.specs.Values as values
-use Rattle.std.specs.List.{list_any}
-use Rattle.qasm_scope.specs.Angles.{angle_of, is_unsupported}
+use Rattle.std.specs.List.{flat_map, list_any}
+use Rattle.std.specs.Str.{bytes_eq}
+use Rattle.qasm_angle.specs.declared.angle.Angle.{Angle}
+use Rattle.qasm_scope.specs.Angles.{angle_of, angles_of, is_unsupported}
 use Rattle.qasm_scope.specs.Applications.{has_twice, instances, ranges_of, register_sizes}
-use Rattle.qasm_scope.specs.Calls.{Event, Called, Undefined, Applied, applied, call_count, deepest}
+use Rattle.qasm_scope.specs.Calls.{Event, Called, Undefined, Applied, after_angles, applied, call_count, deepest, expand_declared}
 use Rattle.qasm_scope.specs.declared.causes.Cause.{Cause}
 use Rattle.qasm_scope.specs.declared.causes.Cause.TheVariants as cause
-use Rattle.qasm_scope.specs.Faults.{wrong_in, first_cause, has_unknown, has_other_shape, has_other_size, has_past_index, shape_of}
+use Rattle.qasm_scope.specs.Faults.{wrong_in, first_cause, has_no_register, has_other_name, has_unknown, has_other_shape, has_other_size, has_past_index, is_no_gate, shape_in, shape_of}
 use Rattle.qasm_scope.specs.Meaning.{with_header, events_of}
-use Rattle.qasm_scope.specs.Scope.{Scope, Qubits, declared, numeral}
+use Rattle.qasm_scope.specs.Scope.{Scope, Meaning, Bits, Qubits, declared, meaning_of, numeral}
 use Rattle.qasm_scope.specs.Texts.{instances_in}
 
 -- the qubit of the register at an index
 abbrev pub operand : List ℕ → Operand
 operand index = record { register = codes "q"; index = Some index }
+
+-- the bit of the register at an index
+abbrev pub bit_operand : List ℕ → Operand
+bit_operand index = record { register = codes "c"; index = Some index }
+
+-- the measurement of a qubit into a bit
+abbrev pub measurement : ℕ → ℕ → Sentence
+measurement q b = Act (syntax.Measured (operand (decimal q)) (bit_operand (decimal b)))
 
 abbrev pub apply : List ℕ → List Formula → List Operand → syntax.Apply
 apply name angles operands = record { gate = Declared name; angles = angles; qubits = operands }
@@ -44,6 +54,30 @@ pi_times_over n d = Binary Divide (Binary Multiply (Number n) Pi) (Number d)
 -- the scope after the header and a register of n qubits
 abbrev pub register_scope : ℕ → Scope
 register_scope n = declared (codes "q") (Qubits 0 n) ∷ with_header []
+
+-- the scope with a register of m bits too
+abbrev pub both_scope : ℕ → ℕ → Scope
+both_scope n m = declared (codes "c") (Bits 0 m) ∷ register_scope n
+
+-- the scope with each of the registers that isn't empty
+abbrev pub qubits_scope : ℕ → Scope
+qubits_scope n = if n == 0 then with_header [] else register_scope n
+
+abbrev pub bits_scope : ℕ → Scope → Scope
+bits_scope m scope = if m == 0 then scope else declared (codes "c") (Bits 0 m) ∷ scope
+
+abbrev pub written_scope : ℕ → ℕ → Scope
+written_scope n m = bits_scope m (qubits_scope n)
+
+pub qubits_scope-some : (n : ℕ) → n ≢ 0 → qubits_scope n ≡ register_scope n
+qubits_scope-some n some = ap (λ b. if b then with_header [] else register_scope n) (ne_eqb n 0 some)
+
+-- with qubits, what holds with both registers and with that of qubits alone
+pub in_both : (P : Scope → Type 0) (n m : ℕ) → n ≢ 0 → P (register_scope n) → P (both_scope n m) → P (written_scope n m)
+in_both P n m some without with = subst (λ s. P (bits_scope m s)) (sym (qubits_scope-some n some)) (by_bits (m == 0)) where
+  by_bits : (b : Bool) → P (if b then register_scope n else both_scope n m)
+  by_bits true = without
+  by_bits false = with
 
 -- ---- where every test fails there is no cause
 abbrev pub AllFail : List (Bool × Cause) → Type 0
@@ -131,6 +165,57 @@ module _ (n : ℕ) (i j : List ℕ) (name : List ℕ) (gate : ℕ → ℕ → Li
     gates_are = ap applied e ∙ gates ∙ ap₂ gate is are;
     one = refl;
   }
+
+-- ---- a register of bits changes nothing for gates of other names
+module _ (n m : ℕ) (name : List ℕ) (angles : List Formula) (other : bytes_eq (codes "c") name ≡ false) where
+  same_meaning : meaning_of name (both_scope n m) ≡ meaning_of name (register_scope n)
+  same_meaning = ap (λ b. if b then Some (Bits 0 m) else meaning_of name (register_scope n)) other
+
+  same_expansion : (depth : ℕ) (values : List Angle) (qubits : List ℕ)
+      → expand_declared (both_scope n m) name depth values qubits ≡ expand_declared (register_scope n) name depth values qubits
+  same_expansion depth values qubits = ap (λ b. if b then [] else expand_declared (register_scope n) name depth values qubits) other
+
+  abbrev wrong_by : Option Meaning → List Operand → Option Cause
+  wrong_by meaning operands = first_cause (
+      (list_any is_unsupported angles, cause.Unsupported)
+      ∷ (is_no_gate (shape_in meaning) || list_any (has_other_name []) angles || has_no_register (register_scope n) operands, cause.Unknown)
+      ∷ (has_other_shape (shape_in meaning) (length angles) (length operands), cause.WrongCount)
+      ∷ (has_past_index (register_scope n) operands, cause.Index)
+      ∷ (has_other_size (register_sizes (ranges_of (register_scope n) operands)), cause.Sizes)
+      ∷ (list_any (has_twice ◌==◌) (instances (ranges_of (register_scope n) operands)), cause.SameQubit)
+      ∷ [])
+
+  abbrev events_by : (ℕ → List Angle → List ℕ → List Event) → List Operand → List Event
+  events_by expansion operands =
+      flat_map (λ qubits. Called 1 ∷ after_angles (angles_of [] [] angles) (λ values. expansion 1 values qubits))
+      (instances (ranges_of (register_scope n) operands))
+
+  also : (operands : List Operand) (gates : List ElementaryGate)
+      → wrong_in (both_scope n m) (application name angles operands) ≡ wrong_by (meaning_of name (both_scope n m)) operands
+      → events_of (both_scope n m) (application name angles operands) ≡ events_by (expand_declared (both_scope n m) name) operands
+      → instances_in (both_scope n m) (application name angles operands) ≡ 1
+      → Comes (register_scope n) (application name angles operands) gates → Comes (both_scope n m) (application name angles operands) gates
+  unfolding wrong_in
+  also operands gates wrong events one c =
+      let e : events_of (both_scope n m) (application name angles operands) ≡ events_of (register_scope n) (application name angles operands) =
+      events ∙ ap (λ x. events_by x operands) (λ i depth values qubits. same_expansion depth values qubits i) in
+      record {
+        fine = wrong ∙ ap (λ k. wrong_by k operands) same_meaning ∙ c.fine;
+        calm = ap are_calm e ∙ c.calm;
+        few = subst (λ k. k ≤ most_of_one) (sym (ap call_count e)) c.few;
+        gates_are = ap applied e ∙ c.gates_are;
+        one = one;
+      }
+
+  pub also_one : (i : List ℕ) (gates : List ElementaryGate) → Comes (register_scope n) (application name angles (operand i ∷ [])) gates
+      → Comes (both_scope n m) (application name angles (operand i ∷ [])) gates
+  unfolding wrong_in
+  also_one i gates c = also (operand i ∷ []) gates refl refl refl c
+
+  pub also_two : (i j : List ℕ) (gates : List ElementaryGate) → Comes (register_scope n) (application name angles (operand i ∷ operand j ∷ [])) gates
+      → Comes (both_scope n m) (application name angles (operand i ∷ operand j ∷ [])) gates
+  unfolding wrong_in
+  also_two i j gates c = also (operand i ∷ operand j ∷ []) gates refl refl refl c
 
 -- ---- each gate, at an index i that is the number q
 module _ (n : ℕ) (i : List ℕ) (q : ℕ) (is : 0 + numeral i ≡ q) (below : nat_le n (numeral i) ≡ false) where

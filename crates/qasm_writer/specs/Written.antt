@@ -1,15 +1,21 @@
 -- The OpenQASM 2.0 text of a circuit, as Cross, Bishop, Smolin and Gambetta, "Open quantum assembly language"
--- (arXiv 1707.03429), define the language: the version, the include, one register, and a line for each gate.
+-- (arXiv 1707.03429), define the language: the version, the include, one register of qubits and one of bits, a line for
+-- each gate, and a line for each measurement.
 use Rattle.std.specs.Prelude.{ℕ, ◌+◌, ◌/◌, ◌%◌, ◌++◌, ◌==◌, List, [], codes, decimal, if◌then◌else◌}
 use Rattle.std.specs.List.{flat_map}
 use Rattle.zx_model.specs.Phase.{half_turn, quarter_turn, eighth_turn, opposite_phase}
 use Rattle.zx_gates.specs.declared.gate.Gate.{Gate}
 use Rattle.zx_gates.specs.declared.gate.Gate.TheVariants.{H, Phase, Cz, Cx, Not}
+use Rattle.zx_gates.specs.declared.elementary.Measure.{Measure}
 use Rattle.zx_gates.specs.Circuit.{Circuit}
 
 -- the register of n qubits; a circuit without qubits has none
 abbrev pub register_line : ℕ → List ℕ
 register_line n = if n == 0 then [] else codes "qreg q[" ++ decimal n ++ codes "];\n"
+
+-- the register of m bits; a circuit without bits has none
+abbrev pub bits_line : ℕ → List ℕ
+bits_line m = if m == 0 then [] else codes "creg c[" ++ decimal m ++ codes "];\n"
 
 -- u1 of k sixteenth turns, the angle k*pi/8 in lowest terms, for phases without a name of their own
 abbrev pub u1_name : ℕ → List ℕ
@@ -43,8 +49,14 @@ gate_line (Cz q r) = on_two (codes "cz") q r
 gate_line (Cx control target) = on_two (codes "cx") control target
 gate_line (Not q) = on_one (codes "x") q
 
--- the whole text
-unfoldable pub written : Circuit → List ℕ
-written circuit =
-    codes "OPENQASM 2.0;\n" ++ codes "include \"qelib1.inc\";\n" ++ register_line circuit.qubits
-    ++ flat_map gate_line circuit.gates
+abbrev pub bit : ℕ → List ℕ
+bit b = codes "c[" ++ decimal b ++ codes "]"
+
+abbrev pub measure_line : Measure → List ℕ
+measure_line m = codes "measure " ++ qubit m.qubit ++ codes " -> " ++ bit m.bit ++ codes ";\n"
+
+-- the whole text of a circuit with measurements behind it, into so many bits
+unfoldable pub written : Circuit → ℕ → List Measure → List ℕ
+written circuit bits measured =
+    codes "OPENQASM 2.0;\n" ++ codes "include \"qelib1.inc\";\n" ++ register_line circuit.qubits ++ bits_line bits
+    ++ flat_map gate_line circuit.gates ++ flat_map measure_line measured

@@ -1,7 +1,7 @@
-//! That writing succeeds with ample memory, and the text of every kind of gate.
+//! That writing succeeds with ample memory, and the text of every kind of gate and of measurements.
 use crate::write_text;
 use std::test::Fail;
-use zx_gates::{Gate, GateList};
+use zx_gates::{Gate, GateList, Measure};
 use zx_model::Sixteenth;
 
 #[test]
@@ -46,16 +46,37 @@ fn every_gate_has_its_line(rt: HostRuntime) -> Result<(), Fail> {
     for line in lines {
         text.extend_from_slice(line)?;
     }
-    assert_eq!(rt; write_text(rt.alloc(), &list)?.as_slice(), text.as_slice());
+    assert_eq!(rt;
+        write_text(rt.alloc(), &list, 0, &[])?.as_slice(),
+        text.as_slice()
+    );
     Ok(())
 }
 
 #[test]
 fn a_circuit_without_qubits_has_no_register(rt: HostRuntime) -> Result<(), Fail> {
-    let text = write_text(rt.alloc(), &GateList::new(rt.alloc(), 0))?;
+    let text = write_text(rt.alloc(), &GateList::new(rt.alloc(), 0), 0, &[])?;
     assert_eq!(rt;
         text.as_slice(),
         b"OPENQASM 2.0;\ninclude \"qelib1.inc\";\n".as_slice()
+    );
+    Ok(())
+}
+
+#[test]
+fn measurements_stand_behind_the_gates(rt: HostRuntime) -> Result<(), Fail> {
+    let mut list = GateList::new(rt.alloc(), 2);
+    list.push(Gate::H(0))?;
+    let measured = [
+        Measure { qubit: 1, bit: 0 },
+        Measure {
+            qubit: 0,
+            bit: 65535,
+        },
+    ];
+    assert_eq!(rt;
+        write_text(rt.alloc(), &list, 65_536, &measured)?.as_slice(),
+        b"OPENQASM 2.0;\ninclude \"qelib1.inc\";\nqreg q[2];\ncreg c[65536];\nh q[0];\nmeasure q[1] -> c[0];\nmeasure q[0] -> c[65535];\n".as_slice()
     );
     Ok(())
 }

@@ -1,37 +1,48 @@
 //! The text of a circuit.
 
 ghost use Rattle.std.specs.Prelude.{◌≡◌, ◌++◌, IfOk, OnOk, codes, decimal};
+ghost use Rattle.std.specs.List.{flat_map};
 ghost use Rattle.qasm_writer.specs.Elements.{elements_of};
 ghost use Rattle.qasm_scope.specs.Texts.{TextMeans};
-ghost use Rattle.qasm_writer.specs.Written.{written, gate_line, on_one, on_two, qubit, phase_name, u1_name, register_line};
+ghost use Rattle.qasm_writer.specs.Measuring.{AreBehind};
+ghost use Rattle.qasm_writer.specs.Written.{written, bit, bits_line, gate_line, measure_line, on_one, on_two, qubit, phase_name, u1_name, register_line};
 
 use itoa::Buffer;
 use std::alloc::{AllocError, Global};
-use zx_gates::{Gate, GateList, Qubit};
+use zx_gates::{Gate, GateList, Measure, Qubit};
 use zx_model::Sixteenth;
 
-/// The circuit as an OpenQASM 2.0 text: the version, the include, the register where there is a qubit, and a line
-/// for each gate, the first to act first. Each line ends with a line feed.
+/// The circuit and the measurements behind it as an OpenQASM 2.0 text: the version, the include, the register of qubits
+/// where there is a qubit, that of bits where there is a bit, a line for each gate, the first to act first, and a line
+/// for each measurement, in order. Each line ends with a line feed.
 ///
 /// # Errors
 ///
 /// Only where memory runs out.
 #[tactic(auto, unfolding(crate::specs::Written::written))]
-pub fn write_text(alloc: Global, g: &GateList) -> Result<Vec<u8>, AllocError>
-    ensures text { IfOk result (λ text. text.items ≡ written g.now) }
+pub fn write_text(
+    alloc: Global,
+    g: &GateList,
+    bits: u32,
+    measured: &[Measure],
+) -> Result<Vec<u8>, AllocError>
+    requires behind { AreBehind g.now bits measured.now }
+    ensures text { IfOk result (λ text. text.items ≡ written g.now bits measured.now) }
     ensures means { IfOk result (λ text. TextMeans text.items g.now.qubits
-        (elements_of g.now.gates)) }
+        (elements_of g.now.gates) bits measured.now) }
 {
     let mut text = Vec::new(alloc);
     text.extend_from_slice(b"OPENQASM 2.0;\ninclude \"qelib1.inc\";\n")?;
     push_register(&mut text, g.qubits())?;
+    push_bits(&mut text, bits)?;
     for gate in g.gates() {
         push_gate(&mut text, *gate)?;
     }
+    push_measures(&mut text, measured)?;
     Ok(text)
 }
 
-// Adds the line of the register.
+// Adds the line of the register of qubits.
 fn push_register(text: &mut Vec<u8>, qubits: Qubit) -> Result<(), AllocError>
     ensures { OnOk result (text.new.items ≡ text.old.items ++ register_line qubits) }
 {
@@ -39,7 +50,20 @@ fn push_register(text: &mut Vec<u8>, qubits: Qubit) -> Result<(), AllocError>
         return Ok(());
     }
     text.extend_from_slice(b"qreg q[")?;
-    push_number(text, qubits)?;
+    push_number(text, u32::from(qubits))?;
+    text.extend_from_slice(b"];\n")?;
+    Ok(())
+}
+
+// Adds the line of the register of bits.
+fn push_bits(text: &mut Vec<u8>, bits: u32) -> Result<(), AllocError>
+    ensures { OnOk result (text.new.items ≡ text.old.items ++ bits_line bits) }
+{
+    if bits == 0 {
+        return Ok(());
+    }
+    text.extend_from_slice(b"creg c[")?;
+    push_number(text, bits)?;
     text.extend_from_slice(b"];\n")?;
     Ok(())
 }
@@ -90,10 +114,10 @@ fn push_u1(text: &mut Vec<u8>, turns: u8) -> Result<(), AllocError>
     if turns == 1 {
         text.extend_from_slice(b"pi/8)")
     } else if turns % 2 == 0 {
-        push_number(text, u16::from(turns / 2))?;
+        push_number(text, u32::from(turns / 2))?;
         text.extend_from_slice(b"*pi/4)")
     } else {
-        push_number(text, u16::from(turns))?;
+        push_number(text, u32::from(turns))?;
         text.extend_from_slice(b"*pi/8)")
     }
 }
@@ -135,13 +159,36 @@ fn push_qubit(text: &mut Vec<u8>, q: Qubit) -> Result<(), AllocError>
     ensures { OnOk result (text.new.items ≡ text.old.items ++ qubit q) }
 {
     text.extend_from_slice(b"q[")?;
-    push_number(text, q)?;
+    push_number(text, u32::from(q))?;
     text.extend_from_slice(b"]")?;
     Ok(())
 }
 
+// Adds the lines of measurements.
+fn push_measures(text: &mut Vec<u8>, measured: &[Measure]) -> Result<(), AllocError>
+    ensures { OnOk result
+        (text.new.items ≡ text.old.items ++ flat_map measure_line measured.now) }
+{
+    for measure in measured {
+        push_measure(text, *measure)?;
+    }
+    Ok(())
+}
+
+// Adds the line of a measurement.
+fn push_measure(text: &mut Vec<u8>, measure: Measure) -> Result<(), AllocError>
+    ensures { OnOk result (text.new.items ≡ text.old.items ++ measure_line measure) }
+{
+    text.extend_from_slice(b"measure ")?;
+    push_qubit(text, measure.qubit)?;
+    text.extend_from_slice(b" -> c[")?;
+    push_number(text, measure.bit)?;
+    text.extend_from_slice(b"];\n")?;
+    Ok(())
+}
+
 // Adds a number in decimal digits.
-fn push_number(text: &mut Vec<u8>, number: u16) -> Result<(), AllocError>
+fn push_number(text: &mut Vec<u8>, number: u32) -> Result<(), AllocError>
     ensures { OnOk result (text.new.items ≡ text.old.items ++ decimal number) }
 {
     let mut buffer = Buffer::new();

@@ -5,9 +5,7 @@ use Rattle.zx_model.specs.Bits.{member}
 use Rattle.zx_calculus.specs.Graph.{End, Graph, ids, joined, end_vertices, in_order, different, OrderedEdges}
 use Rattle.zx_calculus.specs.Splits.{move_end, IsSplitInput, IsSplitOutput}
 use Rattle.zx_calculus.proofs.Edits.{set-move_end}
-use Rattle.gflow_laws.specs.Splits.{new_vertex}
 use Rattle.open_graph.proofs.PlaceLemmas.{slice_get-places}
-use Rattle.gflow_laws.proofs.Splits.{new_vertex-split}
 use Rattle.zx_boundary.specs.Internal.Spiders.{IsSpiderAdded}
 
 length-places : (ends : List End) → length (end_vertices ends) ≡ length ends
@@ -27,9 +25,8 @@ end_moved ends i b new e d once found read written =
     ap (λ c. set ends i c) written ∙ set-move_end ends i e new once here ∙ ap (λ v. move_end v new ends) same
 
 pub input_split : (old : Graph) (b new : ℕ) (h k : Graph) (inputs : List End) → IsSpiderAdded old b new h → member b (end_vertices old.inputs) ≡ true →
-    inputs ≡ move_end b new old.inputs → k ≡ record { vertices = h.vertices; edges = h.edges; inputs = inputs; outputs = h.outputs } → IsSplitInput old b k
+    inputs ≡ move_end b new old.inputs → k ≡ record { vertices = h.vertices; edges = h.edges; inputs = inputs; outputs = h.outputs } → IsSplitInput old b new k
 input_split old b new h k inputs s there moved made = record {
-  new = new;
   fresh = s.fresh;
   has_input = there;
   vertices = ap (λ (g : Graph). g.vertices) made ∙ s.vertices;
@@ -40,9 +37,8 @@ input_split old b new h k inputs s there moved made = record {
 }
 
 pub output_split : (old : Graph) (b new : ℕ) (h k : Graph) (outputs : List End) → IsSpiderAdded old b new h → member b (end_vertices old.outputs) ≡ true →
-    outputs ≡ move_end b new old.outputs → k ≡ record { vertices = h.vertices; edges = h.edges; inputs = h.inputs; outputs = outputs } → IsSplitOutput old b k
+    outputs ≡ move_end b new old.outputs → k ≡ record { vertices = h.vertices; edges = h.edges; inputs = h.inputs; outputs = outputs } → IsSplitOutput old b new k
 output_split old b new h k outputs s there moved made = record {
-  new = new;
   fresh = s.fresh;
   has_output = there;
   vertices = ap (λ (g : Graph). g.vertices) made ∙ s.vertices;
@@ -51,7 +47,3 @@ output_split old b new h k outputs s there moved made = record {
   inputs = ap (λ (g : Graph). g.inputs) made ∙ s.frame.inputs;
   outputs = ap (λ (g : Graph). g.outputs) made ∙ moved;
 }
-
--- the new vertex, found by comparing the graphs
-pub new_found : (old : Graph) (b new : ℕ) (h k : Graph) → IsSpiderAdded old b new h → k.vertices ≡ h.vertices → new_vertex old k ≡ new
-new_found old b new h k s same = new_vertex-split old new k s.fresh (same ∙ s.vertices)

@@ -2,9 +2,10 @@
 
 ghost use Rattle.std.specs.Prelude.{◌≡◌, true, IfOk, OnOk, OnErr};
 ghost use Rattle.zx_calculus.specs.Graph.{WellFormed};
+ghost use Rattle.zx_calculus.specs.Splits.{new_vertex};
 ghost use Rattle.zx_calculus.specs.Steps.{allowed, IsStep, SplitInput};
 ghost use Rattle.gflow_laws.specs.Flow.{IsFlow};
-ghost use Rattle.gflow_laws.specs.Splits.{split_input_table, new_vertex};
+ghost use Rattle.gflow_laws.specs.Splits.{split_input_table};
 ghost use Rattle.gflow_laws.specs.Rewritten.{IsRewritten};
 
 use crate::spider::{add_spider, toggled};
@@ -12,16 +13,16 @@ use open_graph::{OpenGraph, VertexId};
 use std::alloc::AllocError;
 use zx_flow::Flow;
 
-/// Puts a new XY vertex of phase 0 between a vertex b and its input, whose mark is toggled: b holds
-/// no input any more. The new vertex comes first in the flow, corrected by b. Where memory runs
-/// out, graph and flow stay as they were.
+/// Puts a new XY vertex of phase 0, with the least free id, between a vertex b and its input, whose
+/// mark is toggled: b holds no input any more. The new vertex comes first in the flow, corrected by
+/// b. Where memory runs out, graph and flow stay as they were.
 pub fn split_input(g: &mut OpenGraph, f: &mut Flow, b: VertexId) -> Result<(), AllocError>
     requires flow { IsFlow g.old.graph f.old.flow }
     requires allowed { allowed g.old.graph (SplitInput b) ≡ true }
     ensures rewritten { OnOk result
         (IsRewritten g.old.graph f.old.flow (SplitInput b) g.new.graph f.new.flow) }
     ensures table { OnOk result (f.new.flow ≡
-        split_input_table b (new_vertex g.old.graph g.new.graph) f.old.flow) }
+        split_input_table b (new_vertex g.old.graph) f.old.flow) }
     ensures err { OnErr result ((g.new.graph ≡ g.old.graph) × (f.new.flow ≡ f.old.flow)) }
     ensures valid { WellFormed g.new.graph }
 {
@@ -48,7 +49,7 @@ pub fn split_input_in_place(g: &mut OpenGraph, f: &mut Flow, b: VertexId) -> Res
     ensures rewritten { OnOk result
         (IsRewritten g.old.graph f.old.flow (SplitInput b) g.new.graph f.new.flow) }
     ensures table { OnOk result (f.new.flow ≡
-        split_input_table b (new_vertex g.old.graph g.new.graph) f.old.flow) }
+        split_input_table b (new_vertex g.old.graph) f.old.flow) }
 {
     let new = split_input_in_graph(g, b)?;
     f.add_first(new, b)
@@ -59,7 +60,7 @@ pub fn split_input_in_place(g: &mut OpenGraph, f: &mut Flow, b: VertexId) -> Res
 pub fn split_input_in_graph(g: &mut OpenGraph, b: VertexId) -> Result<VertexId, AllocError>
     requires { allowed g.old.graph (SplitInput b) ≡ true }
     ensures step { OnOk result (IsStep g.old.graph (SplitInput b) g.new.graph) }
-    ensures new { IfOk result (λ new. new_vertex g.old.graph g.new.graph ≡ new) }
+    ensures new { IfOk result (λ new. new ≡ new_vertex g.old.graph) }
     ensures was_valid { WellFormed g.old.graph }
     ensures valid { WellFormed g.new.graph }
 {

@@ -2,9 +2,10 @@
 
 ghost use Rattle.std.specs.Prelude.{◌≡◌, true, IfOk, OnOk, OnErr};
 ghost use Rattle.zx_calculus.specs.Graph.{WellFormed};
+ghost use Rattle.zx_calculus.specs.Splits.{new_vertex};
 ghost use Rattle.zx_calculus.specs.Steps.{allowed, IsStep, SplitOutput};
 ghost use Rattle.gflow_laws.specs.Flow.{IsFlow};
-ghost use Rattle.gflow_laws.specs.Splits.{split_output_table, new_vertex};
+ghost use Rattle.gflow_laws.specs.Splits.{split_output_table};
 ghost use Rattle.gflow_laws.specs.Rewritten.{IsRewritten};
 
 use crate::spider::{add_spider, toggled};
@@ -12,16 +13,16 @@ use open_graph::{OpenGraph, VertexId};
 use std::alloc::AllocError;
 use zx_flow::Flow;
 
-/// Puts a new XY vertex of phase 0 between a vertex b and its output, whose mark is toggled: b
-/// holds no output any more. It comes last in the flow, corrected by the new vertex. Where memory
-/// runs out, graph and flow stay as they were.
+/// Puts a new XY vertex of phase 0, with the least free id, between a vertex b and its output,
+/// whose mark is toggled: b holds no output any more. It comes last in the flow, corrected by the
+/// new vertex. Where memory runs out, graph and flow stay as they were.
 pub fn split_output(g: &mut OpenGraph, f: &mut Flow, b: VertexId) -> Result<(), AllocError>
     requires flow { IsFlow g.old.graph f.old.flow }
     requires allowed { allowed g.old.graph (SplitOutput b) ≡ true }
     ensures rewritten { OnOk result
         (IsRewritten g.old.graph f.old.flow (SplitOutput b) g.new.graph f.new.flow) }
     ensures table { OnOk result (f.new.flow ≡
-        split_output_table b (new_vertex g.old.graph g.new.graph) f.old.flow) }
+        split_output_table b (new_vertex g.old.graph) f.old.flow) }
     ensures err { OnErr result ((g.new.graph ≡ g.old.graph) × (f.new.flow ≡ f.old.flow)) }
     ensures valid { WellFormed g.new.graph }
 {
@@ -48,7 +49,7 @@ pub fn split_output_in_place(g: &mut OpenGraph, f: &mut Flow, b: VertexId) -> Re
     ensures rewritten { OnOk result
         (IsRewritten g.old.graph f.old.flow (SplitOutput b) g.new.graph f.new.flow) }
     ensures table { OnOk result (f.new.flow ≡
-        split_output_table b (new_vertex g.old.graph g.new.graph) f.old.flow) }
+        split_output_table b (new_vertex g.old.graph) f.old.flow) }
 {
     let new = split_output_in_graph(g, b)?;
     f.add_last(b, new)
@@ -59,7 +60,7 @@ pub fn split_output_in_place(g: &mut OpenGraph, f: &mut Flow, b: VertexId) -> Re
 pub fn split_output_in_graph(g: &mut OpenGraph, b: VertexId) -> Result<VertexId, AllocError>
     requires { allowed g.old.graph (SplitOutput b) ≡ true }
     ensures step { OnOk result (IsStep g.old.graph (SplitOutput b) g.new.graph) }
-    ensures new { IfOk result (λ new. new_vertex g.old.graph g.new.graph ≡ new) }
+    ensures new { IfOk result (λ new. new ≡ new_vertex g.old.graph) }
     ensures was_valid { WellFormed g.old.graph }
     ensures valid { WellFormed g.new.graph }
 {

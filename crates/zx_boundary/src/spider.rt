@@ -2,6 +2,7 @@
 
 ghost use Rattle.std.specs.Prelude.{◌≡◌, not, IfOk};
 ghost use Rattle.zx_calculus.specs.Graph.{Live, WellFormed};
+ghost use Rattle.zx_calculus.specs.Splits.{new_vertex};
 ghost use Rattle.zx_boundary.specs.Internal.Spiders.{IsSpiderAdded};
 
 use open_graph::{End, OpenGraph, Plane, VertexId};
@@ -12,6 +13,7 @@ use zx_model::Sixteenth;
 pub(crate) fn add_spider(g: &mut OpenGraph, b: VertexId) -> Result<VertexId, AllocError>
     requires live { Live g.old.graph b }
     requires valid { WellFormed g.old.graph }
+    ensures new { IfOk result (λ new. new ≡ new_vertex g.old.graph) }
     ensures added { IfOk result (λ new. IsSpiderAdded g.old.graph b new g.new.graph) }
     ensures valid { WellFormed g.new.graph }
 {

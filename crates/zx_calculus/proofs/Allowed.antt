@@ -1,9 +1,8 @@
 -- What it says that a rewrite is allowed, fact by fact.
-use Rattle.std.proofs.Common.{◌≡◌, sym, ℕ, ◌<◌, Bool, true, not, ◌&&◌, eqb, List, [], ◌∷◌, length, true≢false, arith}
+use Rattle.std.proofs.Common.{◌≡◌, ℕ, Bool, true, not, ◌&&◌, eqb}
 use Rattle.zx_model.specs.Bits.{member}
-use Rattle.zx_calculus.specs.Graph.{YZ, Graph, ids, plane_of, joined, neighbours, Live, Interior, is_YZ}
+use Rattle.zx_calculus.specs.Graph.{YZ, Graph, ids, plane_of, joined, Live, Interior, is_YZ}
 use Rattle.zx_calculus.specs.Steps.{allowed, LocalComplement, Delete, Pivot, DropLone, FuseInto, FuseTwin}
-use Rattle.zx_calculus.specs.Gadgets.{is_one_XY}
 use Rattle.zx_calculus.proofs.Ids.{and-left, and-right}
 use Rattle.zx_calculus.proofs.Results.{interior_from}
 use Rattle.zx_calculus.proofs.Splitting.{plane_YZ}
@@ -44,13 +43,6 @@ module _ (g : Graph) where
 
   pub fuse_into_YZ : (u : ℕ) → allowed g (FuseInto u) ≡ true → plane_of g u ≡ YZ
   fuse_into_YZ u h = plane_YZ (plane_of g u) (and-right _ _ (and-left _ _ h))
-
-  pub fuse_into_leg : (u : ℕ) → allowed g (FuseInto u) ≡ true → 0 < length (neighbours g u)
-  fuse_into_leg u h = some (neighbours g u) (and-right _ _ h)
-    where
-      some : (xs : List ℕ) → is_one_XY g xs ≡ true → 0 < length xs
-      some [] t = absurd (true≢false (sym t))
-      some (x ∷ xs) t = omega arith
 
   pub fuse_twin_live : (u v : ℕ) → allowed g (FuseTwin u v) ≡ true → Live g v
   fuse_twin_live u v h = and-right _ _ (and-left _ _ (and-left _ _ h))

@@ -17,7 +17,7 @@ use Rattle.zx_calculus.specs.Scalars.{quarter_cost, product_of}
 use Rattle.zx_calculus.specs.Sum.{spider, sum, vertex_product}
 use Rattle.zx_calculus.specs.Counts.{odd_phases, even_interior, not_XY}
 use Rattle.zx_calculus.specs.Adjacency.{edges_of}
-use Rattle.zx_calculus.specs.Steps.{allowed, after_with, LocalComplement}
+use Rattle.zx_calculus.specs.Steps.{allowed, after, LocalComplement}
 use Rattle.zx_calculus.proofs.Kept.{sum_below, Below, cond_below, quarter_below, cond_XY, quarter_XY, KeepsXY, KeepsEnds-then, kept_kinds}
 use Rattle.zx_calculus.proofs.Ids.{apart_of_member, eqb-self, Symmetric, and-right, and-left, by_equal}
 use Rattle.zx_calculus.proofs.Vertices.{kind_of-with_kinds, ids-with_kinds, product_of-without, phase-kind_of, turned_product, list_all-without, without-with_kinds, turn_near, with_kinds_same}
@@ -202,8 +202,8 @@ pub complement_symmetric : (g : Graph) (u : ℕ) → Symmetric (λ p q. xor (joi
 complement_symmetric g u p q = ap₂ xor (joined_comm g.edges p q) (and_comm (joined g.edges u p) (joined g.edges u q))
 
 module _ (g : Graph) (w : WellFormed g) where
-  pub after_complement : (u : ℕ) → allowed g (LocalComplement u) ≡ true → (new : ℕ) → IsLocalComplement g u (after_with new (LocalComplement u) g)
-  after_complement u h new =
+  pub after_complement : (u : ℕ) → allowed g (LocalComplement u) ≡ true → IsLocalComplement g u (after (LocalComplement u) g)
+  after_complement u h =
       record {
         there = and-left _ _ h;
         interior = interior_from g u (and-right _ _ h);

@@ -16,7 +16,7 @@ use Rattle.zx_calculus.specs.Sum.{vertex_product, sum}
 use Rattle.zx_calculus.specs.Scalars.{half_cost, product_of}
 use Rattle.zx_calculus.specs.Parity.{masked}
 use Rattle.zx_calculus.specs.Counts.{not_XY, odd_phases, even_interior}
-use Rattle.zx_calculus.specs.Steps.{allowed, after_with, Delete}
+use Rattle.zx_calculus.specs.Steps.{allowed, after, Delete}
 use Rattle.zx_calculus.proofs.Kept.{both, Below, cond_below, half_below, cond_XY, half_XY, kept_removal}
 use Rattle.zx_calculus.proofs.Splitting.{interior_of, off_XY, no_loop, distinct_without, distinct}
 use Rattle.zx_calculus.proofs.Forms.{transform, ids-without}
@@ -158,8 +158,8 @@ module _ (g : Graph) (u : ℕ) where
       both _ _ (both _ _ d.there (ap not (off_XY (plane_of g u) d.plane))) (half_turns_to (phase_of g u) d.phase)
 
 module _ (g : Graph) (w : WellFormed g) where
-  pub after_delete : (u : ℕ) → allowed g (Delete u) ≡ true → (new : ℕ) → IsDelete g u (after_with new (Delete u) g)
-  after_delete u h new =
+  pub after_delete : (u : ℕ) → allowed g (Delete u) ≡ true → IsDelete g u (after (Delete u) g)
+  after_delete u h =
       record {
         deletable = deletable_from g u h;
         vertices = refl;

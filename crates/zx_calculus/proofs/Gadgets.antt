@@ -17,7 +17,7 @@ use Rattle.zx_calculus.specs.Turns.{with_phase_added, in_plane}
 use Rattle.zx_calculus.specs.Sum.{spider, vertex_product, sum, factor_in, factor}
 use Rattle.zx_calculus.specs.Parity.{quad, masked}
 use Rattle.zx_calculus.specs.Counts.{even_interior, not_XY, is_even_at, odd_phases, is_odd_at, is_even_interior, is_odd_fused, is_even_fused}
-use Rattle.zx_calculus.specs.Steps.{DropLone, FuseInto, FuseTwin, allowed, after_with}
+use Rattle.zx_calculus.specs.Steps.{DropLone, FuseInto, FuseTwin, allowed, after}
 use Rattle.zx_calculus.proofs.Kept.{Below, sum_below, cond_below, kept_removal, KeepsXY, cond_XY, both}
 use Rattle.zx_calculus.proofs.Splitting.{interior_of, member-without, distinct_without, sum_without, distinct, Distinct-without, plane_XY, plane_YZ, all_at}
 use Rattle.zx_calculus.proofs.Vertices.{with_kinds-identity, with_kinds-unchanged, ids-with_kinds, at_front-with_kinds, kind_of-without}
@@ -313,8 +313,8 @@ module _ (g : Graph) (w : WellFormed g) where
   empty_from [] h = refl
   empty_from (x ∷ xs) h = absurd (true≢false (sym h))
 
-  pub after_drop : (u : ℕ) → allowed g (DropLone u) ≡ true → (new : ℕ) → IsDropLone g u (after_with new (DropLone u) g)
-  after_drop u h new =
+  pub after_drop : (u : ℕ) → allowed g (DropLone u) ≡ true → IsDropLone g u (after (DropLone u) g)
+  after_drop u h =
       record {
         there = and-left _ _ (and-left _ _ h);
         plane = plane_YZ (plane_of g u) (and-right _ _ (and-left _ _ h));
@@ -332,8 +332,8 @@ module _ (g : Graph) (w : WellFormed g) where
   only : (u : ℕ) → is_one_XY g (neighbours g u) ≡ true → (p : ℕ) → joined g.edges u p ≡ eqb p (first_of_list (neighbours g u))
   only u h p = neighbour g w u p ∙ ap (member p) (one_from (neighbours g u) h).0 ∙ or-false (eqb p (first_of_list (neighbours g u)))
 
-  pub after_fuse_into : (u : ℕ) → allowed g (FuseInto u) ≡ true → (new : ℕ) → IsFuseInto g u (after_with new (FuseInto u) g)
-  after_fuse_into u h new =
+  pub after_fuse_into : (u : ℕ) → allowed g (FuseInto u) ≡ true → IsFuseInto g u (after (FuseInto u) g)
+  after_fuse_into u h =
       record {
         into = first_of_list (neighbours g u);
         there = and-left _ _ (and-left _ _ h);
@@ -355,8 +355,8 @@ module _ (g : Graph) (w : WellFormed g) where
       same_bits true false e = e
       same_bits false b e = sym e
 
-  pub after_fuse_twin : (u v : ℕ) → allowed g (FuseTwin u v) ≡ true → (new : ℕ) → IsFuseTwin g u v (after_with new (FuseTwin u v) g)
-  after_fuse_twin u v h new =
+  pub after_fuse_twin : (u v : ℕ) → allowed g (FuseTwin u v) ≡ true → IsFuseTwin g u v (after (FuseTwin u v) g)
+  after_fuse_twin u v h =
       record {
         there = and-left _ _ (and-left _ _ (and-left _ _ h));
         there_too = and-right _ _ (and-left _ _ (and-left _ _ h));

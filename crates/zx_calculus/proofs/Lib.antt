@@ -28,6 +28,7 @@ pub mod Removals
 pub mod Complements
 pub mod Deletions
 pub mod Pivots
+pub mod LeastFree
 pub mod Splits
 pub mod Gadgets
 pub mod Steps

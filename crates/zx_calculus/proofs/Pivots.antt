@@ -19,7 +19,7 @@ use Rattle.zx_calculus.specs.Parity.{quad, masked}
 use Rattle.zx_calculus.specs.Scalars.{product_of, half_cost}
 use Rattle.zx_calculus.specs.Counts.{odd_phases, even_interior, not_XY}
 use Rattle.zx_calculus.specs.Adjacency.{edges_of}
-use Rattle.zx_calculus.specs.Steps.{Pivot, allowed, after_with}
+use Rattle.zx_calculus.specs.Steps.{Pivot, allowed, after}
 use Rattle.zx_calculus.specs.Complements.{IsLocalComplement}
 use Rattle.zx_calculus.proofs.Kept.{sum_below, Below, cond_below, half_below, cond_XY, half_XY, KeepsXY, KeepsEnds-then, kept_kinds}
 use Rattle.zx_calculus.proofs.Ids.{apart_of_member, removed, member-removed_other, masked_front, Distinct-removed, eqb-self, Distinct, member-absent_removed, by_equal, Symmetric, and-right, and-left, by_test}
@@ -425,8 +425,8 @@ module _ (g : Graph) (w : WellFormed g) where
     contrary : (p : ℕ) {P : Type 0} → member p (ids g.vertices) ≡ true → member p (ids g.vertices) ≡ false → P
     contrary p t f = absurd (true≢false (sym t ∙ f))
 
-    pub after_pivot : (new : ℕ) → IsPivot g u v (after_with new (Pivot u v) g)
-    after_pivot new =
+    pub after_pivot : IsPivot g u v (after (Pivot u v) g)
+    after_pivot =
         record {
           there = u_live;
           there_too = v_live;

@@ -1,5 +1,5 @@
 -- Lists of different ids, gone through place by place.
-use Rattle.std.proofs.Common.{◌≡◌, ◌≢◌, refl, ◌∙◌, ap, ap₂, ℕ, zero, suc, ◌<◌, true, false, ◌&&◌, ◌||◌, eqb, List, [], ◌∷◌, length, get_or, take, arith, ne_eqb}
+use Rattle.std.proofs.Common.{◌≡◌, refl, ◌∙◌, ap, ap₂, ℕ, zero, suc, ◌<◌, true, false, ◌&&◌, ◌||◌, eqb, List, [], ◌∷◌, length, get_or, take, arith, ne_eqb}
 use Rattle.std.proofs.lemmas.List.{get_or_default}
 use Rattle.std.proofs.Math.Seq.{take-suc}
 use Rattle.std.specs.List.{list_any}

@@ -1,5 +1,5 @@
 -- The split of an end: the form of the graph, where ends stand, the sum, the counts, and the program.
-use Rattle.std.proofs.Common.{◌≡◌, ◌≢◌, ◌⊎◌, inl, inr, refl, sym, ◌∙◌, ap, subst, ℕ, ◌<◌, Bool, true, false, cond, ◌&&◌, ◌||◌, eqb, ltb, List, [], ◌∷◌, true≢false, ne_eqb, eq-eqb, arith, ap₂, ⊎_elim, not, length, suc, ◌+◌, max, eqb-true}
+use Rattle.std.proofs.Common.{◌≡◌, ◌≢◌, ◌⊎◌, inl, inr, refl, sym, ◌∙◌, ap, subst, ℕ, Bool, true, false, cond, ◌&&◌, ◌||◌, eqb, ltb, List, [], ◌∷◌, true≢false, ne_eqb, eq-eqb, arith, ap₂, ⊎_elim, not, length, suc, ◌+◌, eqb-true}
 use Rattle.std.specs.List.{list_all}
 use Rattle.std.proofs.lemmas.Bool.{cases_Bool, cases_eq, eqb-true, or_left}
 use Rattle.zx_model.specs.Bits.{member, one_if}
@@ -9,7 +9,7 @@ use Rattle.zx_model.specs.Phase.{is_odd}
 use Rattle.zx_model.proofs.Ring.{expand, sorted, one_nonzero, two_nonzero}
 use Rattle.zx_model.proofs.SumLemmas.{labelled-same, labelled-other, sum_over_same, sum_over_scaled}
 use Rattle.zx_model.proofs.Powers.{root_power-zero}
-use Rattle.zx_calculus.specs.Splits.{move_end, spider_of_phase_zero, IsSplitInput, IsSplitOutput, split_left, mark_of, above_all, split_vertices}
+use Rattle.zx_calculus.specs.Splits.{move_end, spider_of_phase_zero, IsSplitInput, IsSplitOutput, split_left, mark_of, split_vertices, split_input_graph, split_output_graph}
 use Rattle.zx_calculus.specs.Graph.{end_vertices, End, different, in_order, kind_of, ids, OrderedEnds, insert_vertex, is_XY, Vertex, WellFormed, Graph, joined, Edge, XY, is_interior, Live}
 use Rattle.zx_calculus.specs.Sum.{end_factor, end_product, sum, vertex_product}
 use Rattle.zx_calculus.specs.Parity.{quad}
@@ -17,7 +17,7 @@ use Rattle.zx_calculus.specs.Edits.{is_pair}
 use Rattle.zx_calculus.specs.Turns.{in_plane}
 use Rattle.zx_calculus.specs.Counts.{even_interior, not_XY, has_input, is_even_at, has_output, odd_phases}
 use Rattle.zx_calculus.specs.Adjacency.{edges_of}
-use Rattle.zx_calculus.specs.Steps.{SplitInput, SplitOutput, allowed, after_with}
+use Rattle.zx_calculus.specs.Steps.{SplitInput, SplitOutput, allowed}
 use Rattle.zx_calculus.proofs.Ids.{by_equal, member-there, by_test, member-different, or-right, and-right, and-left, or-left, apart_of_member, eqb-self, Distinct, Symmetric}
 use Rattle.zx_calculus.proofs.Kept.{different-all, both, ends_insert, all_by, in_order-insert, insert-below}
 use Rattle.zx_calculus.proofs.Vertices.{kind_of-insert, member-insert, all_below_a_turn, without-insert}
@@ -96,24 +96,24 @@ ends_moved b new vs ends fresh o =
     at_plane p (inl e) = ap (λ w. is_XY (kind_of (insert_vertex n vs) w).plane) e ∙ ap (λ k. is_XY k.plane) (kind_of-insert n vs fresh)
     at_plane p (inr m) = all_at (λ u. is_XY (kind_of (insert_vertex n vs) u).plane) (end_vertices ends) p kept.at_XY m
 
-pub split_input_kept : (g : Graph) (b : ℕ) (h : Graph) → WellFormed g → IsSplitInput g b h → WellFormed h
-split_input_kept g b h w c =
+pub split_input_kept : (g : Graph) (b new : ℕ) (h : Graph) → WellFormed g → IsSplitInput g b new h → WellFormed h
+split_input_kept g b new h w c =
     record {
-      vertices_rising = ap (λ vs. in_order ltb (ids vs)) c.vertices ∙ in_order-insert (spider_of_phase_zero c.new) g.vertices c.fresh w.vertices_rising;
-      phases_below_a_turn = ap all_below_a_turn c.vertices ∙ insert-below (spider_of_phase_zero c.new) g.vertices (omega arith) w.phases_below_a_turn;
+      vertices_rising = ap (λ vs. in_order ltb (ids vs)) c.vertices ∙ in_order-insert (spider_of_phase_zero new) g.vertices c.fresh w.vertices_rising;
+      phases_below_a_turn = ap all_below_a_turn c.vertices ∙ insert-below (spider_of_phase_zero new) g.vertices (omega arith) w.phases_below_a_turn;
       edges = c.ordered;
-      inputs = rw (c.vertices, c.inputs) (ends_moved b c.new g.vertices g.inputs c.fresh w.inputs);
-      outputs = rw (c.vertices, c.outputs) (ends_insert (spider_of_phase_zero c.new) g.vertices g.outputs c.fresh w.outputs);
+      inputs = rw (c.vertices, c.inputs) (ends_moved b new g.vertices g.inputs c.fresh w.inputs);
+      outputs = rw (c.vertices, c.outputs) (ends_insert (spider_of_phase_zero new) g.vertices g.outputs c.fresh w.outputs);
     }
 
-pub split_output_kept : (g : Graph) (b : ℕ) (h : Graph) → WellFormed g → IsSplitOutput g b h → WellFormed h
-split_output_kept g b h w c =
+pub split_output_kept : (g : Graph) (b new : ℕ) (h : Graph) → WellFormed g → IsSplitOutput g b new h → WellFormed h
+split_output_kept g b new h w c =
     record {
-      vertices_rising = ap (λ vs. in_order ltb (ids vs)) c.vertices ∙ in_order-insert (spider_of_phase_zero c.new) g.vertices c.fresh w.vertices_rising;
-      phases_below_a_turn = ap all_below_a_turn c.vertices ∙ insert-below (spider_of_phase_zero c.new) g.vertices (omega arith) w.phases_below_a_turn;
+      vertices_rising = ap (λ vs. in_order ltb (ids vs)) c.vertices ∙ in_order-insert (spider_of_phase_zero new) g.vertices c.fresh w.vertices_rising;
+      phases_below_a_turn = ap all_below_a_turn c.vertices ∙ insert-below (spider_of_phase_zero new) g.vertices (omega arith) w.phases_below_a_turn;
       edges = c.ordered;
-      inputs = rw (c.vertices, c.inputs) (ends_insert (spider_of_phase_zero c.new) g.vertices g.inputs c.fresh w.inputs);
-      outputs = rw (c.vertices, c.outputs) (ends_moved b c.new g.vertices g.outputs c.fresh w.outputs);
+      inputs = rw (c.vertices, c.inputs) (ends_insert (spider_of_phase_zero new) g.vertices g.inputs c.fresh w.inputs);
+      outputs = rw (c.vertices, c.outputs) (ends_moved b new g.vertices g.outputs c.fresh w.outputs);
     }
 
 pub member-move_end-old : (b new : ℕ) (ends : List End) → b ≢ new → member b (end_vertices (move_end b new ends)) ≡ false
@@ -272,64 +272,64 @@ factor_second i j s o = simp expand
 with_cost : (c p q a o : Number) → mul c (mul p (mul q (mul a o))) ≡ mul one (mul p (mul q (mul (mul c a) o)))
 with_cost c p q a o = simp sorted
 
-pub split_input_sum : (g : Graph) (b : ℕ) (h : Graph) (x y : List Bool) → WellFormed g → WellFormed h → IsSplitInput g b h → length x ≡ length g.inputs →
+pub split_input_sum : (g : Graph) (b new : ℕ) (h : Graph) (x y : List Bool) → WellFormed g → WellFormed h → IsSplitInput g b new h → length x ≡ length g.inputs →
     mul (split_left (mark_of g.inputs b)) (sum g x y) ≡ mul one (sum h x y)
-split_input_sum g b h x y wg wh c long =
+split_input_sum g b new h x y wg wh c long =
     ap (mul (split_left (mark_of g.inputs b))) (sum_is_form g x y wg)
     ∙ sum_over_scaled (split_left (mark_of g.inputs b)) one (ids g.vertices) _ _
     (λ label. with_cost _ _ _ _ _
     ∙ ap (λ z. mul one (mul (vertex_product g.vertices label) (mul (sign (quad (joined g.edges) (ids g.vertices) label)) z)))
-    (ap (λ z. mul z (end_product g.outputs y label)) (sym (moved_ends b c.new g.inputs x label fresh_in apart wg.inputs.one_each c.has_input long))
+    (ap (λ z. mul z (end_product g.outputs y label)) (sym (moved_ends b new g.inputs x label fresh_in apart wg.inputs.one_each c.has_input long))
     ∙ sym (factor_first _ _ _ _)
-    ∙ ap₂ (λ o p. add (mul (end_product (move_end b c.new g.inputs) x (labelled label c.new false)) o) (mul (sign (label b)) (mul (end_product (move_end b c.new g.inputs) x (labelled label c.new true)) p)))
-    (sym (end_product-labelled c.new g.outputs y label false fresh_out)) (sym (end_product-labelled c.new g.outputs y label true fresh_out))))
-    ∙ ap (mul one) (sym (split_after g b c.new h.edges (move_end b c.new g.inputs) g.outputs wg (subst WellFormed shape wh) c.fresh there c.edges x y) ∙ sym (ap (λ k. sum k x y) shape))
+    ∙ ap₂ (λ o p. add (mul (end_product (move_end b new g.inputs) x (labelled label new false)) o) (mul (sign (label b)) (mul (end_product (move_end b new g.inputs) x (labelled label new true)) p)))
+    (sym (end_product-labelled new g.outputs y label false fresh_out)) (sym (end_product-labelled new g.outputs y label true fresh_out))))
+    ∙ ap (mul one) (sym (split_after g b new h.edges (move_end b new g.inputs) g.outputs wg (subst WellFormed shape wh) c.fresh there c.edges x y) ∙ sym (ap (λ k. sum k x y) shape))
   where
-    shape : h ≡ record { vertices = insert_vertex (spider_of_phase_zero c.new) g.vertices; edges = h.edges; inputs = move_end b c.new g.inputs; outputs = g.outputs }
+    shape : h ≡ record { vertices = insert_vertex (spider_of_phase_zero new) g.vertices; edges = h.edges; inputs = move_end b new g.inputs; outputs = g.outputs }
     shape = λ j. record { vertices = c.vertices j; edges = h.edges; inputs = c.inputs j; outputs = c.outputs j }
 
     there : member b (ids g.vertices) ≡ true
     there = all_at (λ u. member u (ids g.vertices)) (end_vertices g.inputs) b wg.inputs.there c.has_input
 
-    apart : b ≢ c.new
-    apart = apart_of_member b c.new (ids g.vertices) there c.fresh
+    apart : b ≢ new
+    apart = apart_of_member b new (ids g.vertices) there c.fresh
 
-    fresh_in : member c.new (end_vertices g.inputs) ≡ false
-    fresh_in = absent_from (ids g.vertices) (end_vertices g.inputs) c.new wg.inputs.there c.fresh
+    fresh_in : member new (end_vertices g.inputs) ≡ false
+    fresh_in = absent_from (ids g.vertices) (end_vertices g.inputs) new wg.inputs.there c.fresh
 
-    fresh_out : member c.new (end_vertices g.outputs) ≡ false
-    fresh_out = absent_from (ids g.vertices) (end_vertices g.outputs) c.new wg.outputs.there c.fresh
+    fresh_out : member new (end_vertices g.outputs) ≡ false
+    fresh_out = absent_from (ids g.vertices) (end_vertices g.outputs) new wg.outputs.there c.fresh
 
 with_cost_second : (c p q o a : Number) → mul c (mul p (mul q (mul o a))) ≡ mul one (mul p (mul q (mul (mul c a) o)))
 with_cost_second c p q o a = simp sorted
 
-pub split_output_sum : (g : Graph) (b : ℕ) (h : Graph) (x y : List Bool) → WellFormed g → WellFormed h → IsSplitOutput g b h → length y ≡ length g.outputs →
+pub split_output_sum : (g : Graph) (b new : ℕ) (h : Graph) (x y : List Bool) → WellFormed g → WellFormed h → IsSplitOutput g b new h → length y ≡ length g.outputs →
     mul (split_left (mark_of g.outputs b)) (sum g x y) ≡ mul one (sum h x y)
-split_output_sum g b h x y wg wh c long =
+split_output_sum g b new h x y wg wh c long =
     ap (mul (split_left (mark_of g.outputs b))) (sum_is_form g x y wg)
     ∙ sum_over_scaled (split_left (mark_of g.outputs b)) one (ids g.vertices) _ _
     (λ label. with_cost_second _ _ _ _ _
     ∙ ap (λ z. mul one (mul (vertex_product g.vertices label) (mul (sign (quad (joined g.edges) (ids g.vertices) label)) z)))
-    (ap (λ z. mul z (end_product g.inputs x label)) (sym (moved_ends b c.new g.outputs y label fresh_out apart wg.outputs.one_each c.has_output long))
+    (ap (λ z. mul z (end_product g.inputs x label)) (sym (moved_ends b new g.outputs y label fresh_out apart wg.outputs.one_each c.has_output long))
     ∙ sym (factor_second _ _ _ _)
-    ∙ ap₂ (λ o p. add (mul o (end_product (move_end b c.new g.outputs) y (labelled label c.new false))) (mul (sign (label b)) (mul p (end_product (move_end b c.new g.outputs) y (labelled label c.new true)))))
-    (sym (end_product-labelled c.new g.inputs x label false fresh_in)) (sym (end_product-labelled c.new g.inputs x label true fresh_in))))
-    ∙ ap (mul one) (sym (split_after g b c.new h.edges g.inputs (move_end b c.new g.outputs) wg (subst WellFormed shape wh) c.fresh there c.edges x y) ∙ sym (ap (λ k. sum k x y) shape))
+    ∙ ap₂ (λ o p. add (mul o (end_product (move_end b new g.outputs) y (labelled label new false))) (mul (sign (label b)) (mul p (end_product (move_end b new g.outputs) y (labelled label new true)))))
+    (sym (end_product-labelled new g.inputs x label false fresh_in)) (sym (end_product-labelled new g.inputs x label true fresh_in))))
+    ∙ ap (mul one) (sym (split_after g b new h.edges g.inputs (move_end b new g.outputs) wg (subst WellFormed shape wh) c.fresh there c.edges x y) ∙ sym (ap (λ k. sum k x y) shape))
   where
-    shape : h ≡ record { vertices = insert_vertex (spider_of_phase_zero c.new) g.vertices; edges = h.edges; inputs = g.inputs; outputs = move_end b c.new g.outputs }
+    shape : h ≡ record { vertices = insert_vertex (spider_of_phase_zero new) g.vertices; edges = h.edges; inputs = g.inputs; outputs = move_end b new g.outputs }
     shape = λ j. record { vertices = c.vertices j; edges = h.edges; inputs = c.inputs j; outputs = c.outputs j }
 
     there : member b (ids g.vertices) ≡ true
     there = all_at (λ u. member u (ids g.vertices)) (end_vertices g.outputs) b wg.outputs.there c.has_output
 
-    apart : b ≢ c.new
-    apart = apart_of_member b c.new (ids g.vertices) there c.fresh
+    apart : b ≢ new
+    apart = apart_of_member b new (ids g.vertices) there c.fresh
 
-    fresh_in : member c.new (end_vertices g.inputs) ≡ false
-    fresh_in = absent_from (ids g.vertices) (end_vertices g.inputs) c.new wg.inputs.there c.fresh
+    fresh_in : member new (end_vertices g.inputs) ≡ false
+    fresh_in = absent_from (ids g.vertices) (end_vertices g.inputs) new wg.inputs.there c.fresh
 
-    fresh_out : member c.new (end_vertices g.outputs) ≡ false
-    fresh_out = absent_from (ids g.vertices) (end_vertices g.outputs) c.new wg.outputs.there c.fresh
+    fresh_out : member new (end_vertices g.outputs) ≡ false
+    fresh_out = absent_from (ids g.vertices) (end_vertices g.outputs) new wg.outputs.there c.fresh
 
 pub split_left-nonzero : (b : Bool) → split_left b ≢ zero
 split_left-nonzero true = one_nonzero
@@ -366,40 +366,40 @@ module _ (g h : Graph) (new : ℕ) (vertices : h.vertices ≡ insert_vertex (spi
   pub planes-split : not_XY h ≡ not_XY g
   planes-split = none_more _ _ _ _ (ap (count plane_test) vertices ∙ count-insert plane_test (spider_of_phase_zero new) g.vertices) refl refl
 
-module _ (g : Graph) (b : ℕ) (h : Graph) (w : WellFormed g) (c : IsSplitInput g b h) where
+module _ (g : Graph) (b new : ℕ) (h : Graph) (w : WellFormed g) (c : IsSplitInput g b new h) where
   input_there : Live g b
   input_there = end_there g w b g.inputs w.inputs.there c.has_input
 
-  input_not_new : b ≢ c.new
-  input_not_new = apart_of_member b c.new (ids g.vertices) input_there c.fresh
+  input_not_new : b ≢ new
+  input_not_new = apart_of_member b new (ids g.vertices) input_there c.fresh
 
   pub even-split_input : even_interior h ≡ even_interior g + one_if (not (has_output g b) && is_even_at g b)
   even-split_input =
       ap₂ (λ ins outs. count (λ p k. not (member p (end_vertices ins) || member p (end_vertices outs)) && not (is_odd k.phase)) h.vertices) c.inputs c.outputs
-      ∙ ap (count (λ p k. not (member p (end_vertices (move_end b c.new g.inputs)) || member p (end_vertices g.outputs)) && not (is_odd k.phase))) c.vertices
-      ∙ even_grown (is_interior g) (λ p. not (member p (end_vertices (move_end b c.new g.inputs)) || member p (end_vertices g.outputs))) b c.new g.vertices (distinct g w) input_there c.fresh
-      (ap (λ t. not (t || member c.new (end_vertices g.outputs))) (member-move_end-new b c.new g.inputs ∙ ap (λ t. t || member c.new (end_vertices g.inputs)) c.has_input))
+      ∙ ap (count (λ p k. not (member p (end_vertices (move_end b new g.inputs)) || member p (end_vertices g.outputs)) && not (is_odd k.phase))) c.vertices
+      ∙ even_grown (is_interior g) (λ p. not (member p (end_vertices (move_end b new g.inputs)) || member p (end_vertices g.outputs))) b new g.vertices (distinct g w) input_there c.fresh
+      (ap (λ t. not (t || member new (end_vertices g.outputs))) (member-move_end-new b new g.inputs ∙ ap (λ t. t || member new (end_vertices g.inputs)) c.has_input))
       (ap (λ t. not (t || member b (end_vertices g.outputs))) c.has_input)
-      (λ p n m. ap (λ t. not (t || member p (end_vertices g.outputs))) (member-move_end-other b c.new g.inputs p n m))
-      ∙ ap (λ t. even_interior g + one_if (not (t || member b (end_vertices g.outputs)) && is_even_at g b)) (member-move_end-old b c.new g.inputs input_not_new)
+      (λ p n m. ap (λ t. not (t || member p (end_vertices g.outputs))) (member-move_end-other b new g.inputs p n m))
+      ∙ ap (λ t. even_interior g + one_if (not (t || member b (end_vertices g.outputs)) && is_even_at g b)) (member-move_end-old b new g.inputs input_not_new)
 
-module _ (g : Graph) (b : ℕ) (h : Graph) (w : WellFormed g) (c : IsSplitOutput g b h) where
+module _ (g : Graph) (b new : ℕ) (h : Graph) (w : WellFormed g) (c : IsSplitOutput g b new h) where
   output_there : Live g b
   output_there = end_there g w b g.outputs w.outputs.there c.has_output
 
-  output_not_new : b ≢ c.new
-  output_not_new = apart_of_member b c.new (ids g.vertices) output_there c.fresh
+  output_not_new : b ≢ new
+  output_not_new = apart_of_member b new (ids g.vertices) output_there c.fresh
 
   pub even-split_output : even_interior h ≡ even_interior g + one_if (not (has_input g b) && is_even_at g b)
   even-split_output =
       ap₂ (λ ins outs. count (λ p k. not (member p (end_vertices ins) || member p (end_vertices outs)) && not (is_odd k.phase)) h.vertices) c.inputs c.outputs
-      ∙ ap (count (λ p k. not (member p (end_vertices g.inputs) || member p (end_vertices (move_end b c.new g.outputs))) && not (is_odd k.phase))) c.vertices
-      ∙ even_grown (is_interior g) (λ p. not (member p (end_vertices g.inputs) || member p (end_vertices (move_end b c.new g.outputs)))) b c.new g.vertices (distinct g w) output_there c.fresh
-      (ap (λ t. not (member c.new (end_vertices g.inputs) || t)) (member-move_end-new b c.new g.outputs ∙ ap (λ t. t || member c.new (end_vertices g.outputs)) c.has_output)
-      ∙ ap not (or-true (member c.new (end_vertices g.inputs))))
+      ∙ ap (count (λ p k. not (member p (end_vertices g.inputs) || member p (end_vertices (move_end b new g.outputs))) && not (is_odd k.phase))) c.vertices
+      ∙ even_grown (is_interior g) (λ p. not (member p (end_vertices g.inputs) || member p (end_vertices (move_end b new g.outputs)))) b new g.vertices (distinct g w) output_there c.fresh
+      (ap (λ t. not (member new (end_vertices g.inputs) || t)) (member-move_end-new b new g.outputs ∙ ap (λ t. t || member new (end_vertices g.outputs)) c.has_output)
+      ∙ ap not (or-true (member new (end_vertices g.inputs))))
       (ap (λ t. not (member b (end_vertices g.inputs) || t)) c.has_output ∙ ap not (or-true (member b (end_vertices g.inputs))))
-      (λ p n m. ap (λ t. not (member p (end_vertices g.inputs) || t)) (member-move_end-other b c.new g.outputs p n m))
-      ∙ ap (λ t. even_interior g + one_if (not (member b (end_vertices g.inputs) || t) && is_even_at g b)) (member-move_end-old b c.new g.outputs output_not_new)
+      (λ p n m. ap (λ t. not (member p (end_vertices g.inputs) || t)) (member-move_end-other b new g.outputs p n m))
+      ∙ ap (λ t. even_interior g + one_if (not (member b (end_vertices g.inputs) || t) && is_even_at g b)) (member-move_end-old b new g.outputs output_not_new)
       ∙ ap (λ t. even_interior g + one_if (not t && is_even_at g b)) (or-false (member b (end_vertices g.inputs)))
 
 pub is_pair_comm : (b new : ℕ) → Symmetric (is_pair b new)
@@ -414,23 +414,6 @@ is_pair-self b new apart q =
 pub split_symmetric : (g : Graph) (b new : ℕ) → Symmetric (λ p q. joined g.edges p q || is_pair b new p q)
 split_symmetric g b new p q =
     ap₂ (λ x y. x || y) (joined_comm g.edges p q) (is_pair_comm b new p q)
-
-above-member : (vs : List ℕ) (u : ℕ) → member u vs ≡ true → u < above_all vs
-above-member [] u h = absurd (true≢false (sym h))
-above-member (v ∷ vs) u h =
-    by_equal u v (λ t e. here e) (λ f n. let there : member u vs ≡ true = rw f at h in later (above-member vs u there))
-  where
-    here : u ≡ v → u < max (suc v) (above_all vs)
-    here e = omega arith
-
-    later : u < above_all vs → u < max (suc v) (above_all vs)
-    later lt = omega arith
-
-pub above_all-fresh : (vs : List ℕ) → member (above_all vs) vs ≡ false
-above_all-fresh vs = by_test (member (above_all vs) vs) (λ t. absurd (not_below_itself (above-member vs (above_all vs) t))) (λ f. f)
-  where
-    not_below_itself : above_all vs < above_all vs → ⊥
-    not_below_itself h = omega arith
 
 module _ (g : Graph) (w : WellFormed g) where
   module _ (b new : ℕ) (fresh : member new (ids g.vertices) ≡ false) (b_there : member b (ids g.vertices) ≡ true) where
@@ -461,10 +444,9 @@ module _ (g : Graph) (w : WellFormed g) where
         (λ f. ap₂ (λ x y. x || y) (absent_left g w p q (neither p f).1) (no_pair p q f))
         (λ f. split_symmetric g b new p q ∙ ap₂ (λ x y. x || y) (absent_left g w q p (neither q f).1) (no_pair q p f)))
 
-  pub after_split_input : (b : ℕ) → allowed g (SplitInput b) ≡ true → (new : ℕ) → member new (ids g.vertices) ≡ false → IsSplitInput g b (after_with new (SplitInput b) g)
+  pub after_split_input : (b : ℕ) → allowed g (SplitInput b) ≡ true → (new : ℕ) → member new (ids g.vertices) ≡ false → IsSplitInput g b new (split_input_graph g b new)
   after_split_input b h new fresh =
       record {
-        new = new;
         fresh = fresh;
         has_input = h;
         vertices = refl;
@@ -474,10 +456,9 @@ module _ (g : Graph) (w : WellFormed g) where
         outputs = refl;
       }
 
-  pub after_split_output : (b : ℕ) → allowed g (SplitOutput b) ≡ true → (new : ℕ) → member new (ids g.vertices) ≡ false → IsSplitOutput g b (after_with new (SplitOutput b) g)
+  pub after_split_output : (b : ℕ) → allowed g (SplitOutput b) ≡ true → (new : ℕ) → member new (ids g.vertices) ≡ false → IsSplitOutput g b new (split_output_graph g b new)
   after_split_output b h new fresh =
       record {
-        new = new;
         fresh = fresh;
         has_output = h;
         vertices = refl;

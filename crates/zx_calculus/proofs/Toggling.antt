@@ -1,5 +1,5 @@
 -- Neighbours, and what toggled edges leave of them.
-use Rattle.std.proofs.Common.{◌≡◌, ◌≢◌, refl, sym, ◌∙◌, ap, ap₂, ℕ, Bool, true, false, ◌&&◌, List, filter, true≢false}
+use Rattle.std.proofs.Common.{◌≡◌, refl, sym, ◌∙◌, ap, ap₂, ℕ, Bool, true, false, ◌&&◌, List, filter, true≢false}
 use Rattle.zx_model.specs.Bits.{xor, member}
 use Rattle.zx_calculus.specs.Graph.{Vertex, Graph, ids, joined, neighbours, WellFormed, Live, Distinct}
 use Rattle.zx_calculus.proofs.Booleans.{xor-false}
@@ -27,10 +27,6 @@ neighbour_live g u p there =
     by_test (member p (ids g.vertices)) (λ t. t)
     (λ f. absurd (true≢false (sym there ∙ member-filter (joined g.edges u) (ids g.vertices) p
     ∙ ap (λ b. b && joined g.edges u p) f)))
-
-pub neighbour_joined : (g : Graph) (u p : ℕ) → WellFormed g → member p (neighbours g u) ≡ true →
-    joined g.edges u p ≡ true
-neighbour_joined g u p w there = sym (member-neighbours g u p w) ∙ there
 
 not_own_neighbour : (g : Graph) (u : ℕ) → WellFormed g → member u (neighbours g u) ≡ false
 not_own_neighbour g u w = member-neighbours g u u w ∙ no_loop g u w

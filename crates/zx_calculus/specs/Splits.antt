@@ -1,7 +1,7 @@
 -- The split of an end: an identity spider between a vertex and its input or output wire.
 -- Duncan and others (Quantum 4, 279, 2020), on boundary pivots; Backens and others (Quantum 5, 421, 2021), on
 -- inserting identity spiders at inputs and outputs.
-use Rattle.std.specs.Prelude.{◌≡◌, ◌+◌, ℕ, suc, max, Bool, true, false, if◌then◌else◌, not, ◌&&◌, ◌||◌, ◌==◌, List, []}
+use Rattle.std.specs.Prelude.{◌≡◌, ◌+◌, ℕ, suc, Bool, true, false, if◌then◌else◌, not, ◌&&◌, ◌||◌, ◌==◌, List, []}
 use Rattle.std.specs.Prelude.{◌∷◌}
 use Rattle.zx_model.specs.Bits.{member, one_if}
 use Rattle.zx_model.specs.Number.{Number, one}
@@ -24,9 +24,9 @@ move_end b new (e ∷ es) =
     (if b == e.vertex then record { vertex = new; hadamard = not e.hadamard } else e)
     ∷ move_end b new es
 
--- h is g after the input at b moved to a new XY vertex of phase 0, adjacent to b alone, with its mark toggled
-pub record IsSplitInput (g : Graph) (b : ℕ) (h : Graph) : Type 0 where
-  pub new : ℕ
+-- h is g after the input at b moved to the new XY vertex of phase 0, adjacent to b alone, with its
+-- mark toggled
+pub record IsSplitInput (g : Graph) (b new : ℕ) (h : Graph) : Type 0 where
   pub fresh : member new (ids g.vertices) ≡ false
   pub has_input : member b (end_vertices g.inputs) ≡ true
   pub vertices : h.vertices ≡ insert_vertex (spider_of_phase_zero new) g.vertices
@@ -35,9 +35,9 @@ pub record IsSplitInput (g : Graph) (b : ℕ) (h : Graph) : Type 0 where
   pub inputs : h.inputs ≡ move_end b new g.inputs
   pub outputs : h.outputs ≡ g.outputs
 
--- h is g after the output at b moved to a new XY vertex of phase 0, adjacent to b alone, with its mark toggled
-pub record IsSplitOutput (g : Graph) (b : ℕ) (h : Graph) : Type 0 where
-  pub new : ℕ
+-- h is g after the output at b moved to the new XY vertex of phase 0, adjacent to b alone, with its
+-- mark toggled
+pub record IsSplitOutput (g : Graph) (b new : ℕ) (h : Graph) : Type 0 where
   pub fresh : member new (ids g.vertices) ≡ false
   pub has_output : member b (end_vertices g.outputs) ≡ true
   pub vertices : h.vertices ≡ insert_vertex (spider_of_phase_zero new) g.vertices
@@ -53,10 +53,18 @@ may_split_input g b = member b (end_vertices g.inputs)
 abbrev pub may_split_output : Graph → ℕ → Bool
 may_split_output g b = member b (end_vertices g.outputs)
 
--- a number above all listed ones
-abbrev pub above_all : List ℕ → ℕ
-above_all [] = 0
-above_all (v ∷ vs) = max (suc v) (above_all vs)
+-- the least number from n on that isn't in a rising list of such numbers
+abbrev pub least_free_from : ℕ → List ℕ → ℕ
+least_free_from n [] = n
+least_free_from n (i ∷ is) = if n == i then least_free_from (suc n) is else n
+
+-- the least number that isn't in a rising list
+abbrev pub least_free : List ℕ → ℕ
+least_free ids = least_free_from 0 ids
+
+-- the vertex that a split makes: it takes the least free id
+abbrev pub new_vertex : Graph → ℕ
+new_vertex g = least_free (ids g.vertices)
 
 -- the vertices and the edges that a split makes
 abbrev pub split_vertices : Graph → ℕ → List Vertex
@@ -66,16 +74,16 @@ abbrev pub split_edges : Graph → ℕ → ℕ → List Edge
 split_edges g b new = edges_of (λ p q. joined g.edges p q || is_pair b new p q) (ids (split_vertices g new))
 
 -- the graph that a split makes, with this new vertex
-abbrev pub split_input_graph : ℕ → Graph → ℕ → Graph
-split_input_graph new g b = record {
+abbrev pub split_input_graph : Graph → ℕ → ℕ → Graph
+split_input_graph g b new = record {
   vertices = split_vertices g new;
   edges = split_edges g b new;
   inputs = move_end b new g.inputs;
   outputs = g.outputs;
 }
 
-abbrev pub split_output_graph : ℕ → Graph → ℕ → Graph
-split_output_graph new g b = record {
+abbrev pub split_output_graph : Graph → ℕ → ℕ → Graph
+split_output_graph g b new = record {
   vertices = split_vertices g new;
   edges = split_edges g b new;
   inputs = g.inputs;

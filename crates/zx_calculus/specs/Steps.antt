@@ -3,14 +3,14 @@
 use Rattle.std.specs.Prelude.{◌≡◌, ℕ, Bool, List, [], ◌∷◌}
 use Rattle.zx_model.specs.Number.{Number, one}
 use Rattle.zx_model.specs.Constants.{two}
-use Rattle.zx_calculus.specs.Graph.{Graph, ids, plane_of}
+use Rattle.zx_calculus.specs.Graph.{Graph, plane_of}
 use Rattle.zx_calculus.specs.Complements.{IsLocalComplement, may_complement, complemented_graph, complement_left_in}
 use Rattle.zx_calculus.specs.Complements.{complement_right}
 use Rattle.zx_calculus.specs.Deletions.{IsDelete, may_delete, deleted_graph, delete_right}
 use Rattle.zx_calculus.specs.Pivots.{IsPivot, may_pivot, pivoted_graph, pivot_right}
 use Rattle.zx_calculus.specs.Splits.{IsSplitInput, IsSplitOutput, may_split_input, may_split_output, split_input_graph}
 use Rattle.zx_calculus.specs.Splits.{split_output_graph}
-use Rattle.zx_calculus.specs.Splits.{above_all, mark_of, split_left}
+use Rattle.zx_calculus.specs.Splits.{new_vertex, mark_of, split_left}
 use Rattle.zx_calculus.specs.Gadgets.{IsDropLone, IsFuseInto, IsFuseTwin, may_drop_lone, may_fuse_into, may_fuse_twin}
 use Rattle.zx_calculus.specs.Gadgets.{dropped_graph, fused_into_graph, fused_twin_graph}
 
@@ -26,8 +26,8 @@ abbrev pub IsStep : Graph → Step → Graph → Type 0
 IsStep g (LocalComplement u) h = IsLocalComplement g u h
 IsStep g (Delete u) h = IsDelete g u h
 IsStep g (Pivot u v) h = IsPivot g u v h
-IsStep g (SplitInput b) h = IsSplitInput g b h
-IsStep g (SplitOutput b) h = IsSplitOutput g b h
+IsStep g (SplitInput b) h = IsSplitInput g b (new_vertex g) h
+IsStep g (SplitOutput b) h = IsSplitOutput g b (new_vertex g) h
 IsStep g (DropLone u) h = IsDropLone g u h
 IsStep g (FuseInto u) h = IsFuseInto g u h
 IsStep g (FuseTwin u v) h = IsFuseTwin g u v h
@@ -48,20 +48,16 @@ allowed g (DropLone u) = may_drop_lone g u
 allowed g (FuseInto u) = may_fuse_into g u
 allowed g (FuseTwin u v) = may_fuse_twin g u v
 
--- the graph after a rewrite, where a split takes the id `new`
-abbrev pub after_with : ℕ → Step → Graph → Graph
-after_with new (LocalComplement u) g = complemented_graph g u
-after_with new (Delete u) g = deleted_graph g u
-after_with new (Pivot u v) g = pivoted_graph g u v
-after_with new (SplitInput b) g = split_input_graph new g b
-after_with new (SplitOutput b) g = split_output_graph new g b
-after_with new (DropLone u) g = dropped_graph g u
-after_with new (FuseInto u) g = fused_into_graph g u
-after_with new (FuseTwin u v) g = fused_twin_graph g u v
-
--- the graph after a rewrite, where a split takes the least id above all others
+-- the graph after a rewrite
 abbrev pub after : Step → Graph → Graph
-after s g = after_with (above_all (ids g.vertices)) s g
+after (LocalComplement u) g = complemented_graph g u
+after (Delete u) g = deleted_graph g u
+after (Pivot u v) g = pivoted_graph g u v
+after (SplitInput b) g = split_input_graph g b (new_vertex g)
+after (SplitOutput b) g = split_output_graph g b (new_vertex g)
+after (DropLone u) g = dropped_graph g u
+after (FuseInto u) g = fused_into_graph g u
+after (FuseTwin u v) g = fused_twin_graph g u v
 
 -- what the sum before is multiplied by
 abbrev pub left_factor : Graph → Step → Number

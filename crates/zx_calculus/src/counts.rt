@@ -35,14 +35,14 @@ pub fn counts_after_a_pivot()
 /// The split of an input makes its vertex interior, unless that has an output.
 /// The new vertex has the input.
 pub fn counts_after_the_split_of_an_input()
-    ensures { (g : Graph) (b : ℕ) (h : Graph) → WellFormed g → IsSplitInput g b h →
+    ensures { (g : Graph) (b new : ℕ) (h : Graph) → WellFormed g → IsSplitInput g b new h →
         CountsAfterSplitInput g b h }
 {}
 
 /// The split of an output makes its vertex interior, unless that has an input.
 /// The new vertex has the output.
 pub fn counts_after_the_split_of_an_output()
-    ensures { (g : Graph) (b : ℕ) (h : Graph) → WellFormed g → IsSplitOutput g b h →
+    ensures { (g : Graph) (b new : ℕ) (h : Graph) → WellFormed g → IsSplitOutput g b new h →
         CountsAfterSplitOutput g b h }
 {}
 

@@ -3,15 +3,16 @@
 ghost use Rattle.std.specs.Prelude.{◌≡◌, ◌≢◌, ◌≤◌, ℕ, Bool, List, [], ◌∷◌, length, map, true, false, ◌&&◌, ◌||◌, if◌then◌else◌};
 ghost use Rattle.zx_model.specs.Number.{zero, one, mul, root_power, sign};
 ghost use Rattle.zx_model.specs.Phase.{eighth_turn};
-ghost use Rattle.zx_model.specs.Bits.{member, xor};
+ghost use Rattle.zx_model.specs.Bits.{xor};
 ghost use Rattle.zx_model.specs.Proportional.{Proportional};
-ghost use Rattle.zx_calculus.specs.Graph.{XY, XZ, YZ, Graph, ids, WellFormed};
+ghost use Rattle.zx_calculus.specs.Graph.{XY, XZ, YZ, Graph, WellFormed};
 ghost use Rattle.zx_calculus.specs.Sum.{sum, factor, spider};
 ghost use Rattle.zx_calculus.specs.Turns.{in_plane};
 ghost use Rattle.zx_model.specs.Constants.{two, root_of_two};
 ghost use Rattle.zx_calculus.specs.Scalars.{one_plus_i, one_minus_i};
 ghost use Rattle.zx_calculus.specs.Pivots.{IsPivot};
-ghost use Rattle.zx_calculus.specs.Steps.{Step, LocalComplement, Delete, Pivot, SplitInput, DropLone, FuseInto, FuseTwin, IsStep, IsRun, left_factor, right_factor, allowed, after, after_with};
+ghost use Rattle.zx_calculus.specs.Splits.{new_vertex};
+ghost use Rattle.zx_calculus.specs.Steps.{Step, LocalComplement, Delete, Pivot, SplitInput, DropLone, FuseInto, FuseTwin, IsStep, IsRun, left_factor, right_factor, allowed, after};
 ghost use Rattle.zx_calculus.specs.Counts.{odd_phases};
 ghost use Rattle.zx_calculus.specs.Worked.{path_of_three, path_complemented, path_deleted, path_of_four, path_pivoted, twins, twins_reduced, small_gadgets, small_gadgets_reduced, triangle, triangle_pivoted, path_split, overlapping_gadgets};
 ghost use Rattle.zx_calculus.specs.Tables.{all_phases, factors_XY_0, factors_XY_1, factors_XZ_0, factors_XZ_1, factors_YZ_0, factors_YZ_1, hadamard_wire, controlled_z, crossing, marked_spider};
@@ -59,6 +60,7 @@ pub fn worked_rewrites()
     ensures pivoted { after (Pivot 1 2) path_of_four ≡ path_pivoted }
     ensures common_neighbour { after (Pivot 1 2) triangle ≡ triangle_pivoted }
     ensures split { after (SplitInput 0) path_of_three ≡ path_split }
+    ensures least { new_vertex path_deleted ≡ 1 }
     ensures twins { after (Delete 2) (after (LocalComplement 2) (after (FuseTwin 2 3) twins)) ≡
         twins_reduced }
     ensures small_gadgets { after (FuseInto 1) (after (DropLone 2) small_gadgets) ≡ small_gadgets_reduced }
@@ -68,15 +70,20 @@ pub fn worked_rewrites()
     ensures no_twins { allowed overlapping_gadgets (FuseTwin 2 3) ≡ false }
 {}
 
-/// The program makes what the rewrites state, exactly where its test allows them; a split may take any new id.
+/// The program makes what the rewrites state, exactly where its test allows them, and nothing else
+/// meets them.
 pub fn program_is_step()
     ensures allowed { (g : Graph) (s : Step) (h : Graph) → WellFormed g → IsStep g s h →
         allowed g s ≡ true }
     ensures made { (g : Graph) (s : Step) → WellFormed g → allowed g s ≡ true → IsStep g s (after s g) }
-    ensures made_with { (g : Graph) (s : Step) (new : ℕ) → WellFormed g → allowed g s ≡ true →
-        member new (ids g.vertices) ≡ false → IsStep g s (after_with new s g) }
     ensures only { (g : Graph) (s : Step) (h : Graph) → WellFormed g → IsStep g s h →
-        (new : ℕ) × (member new (ids g.vertices) ≡ false) × (h ≡ after_with new s g) }
+        h ≡ after s g }
+{}
+
+/// A run of rewrites has one end.
+pub fn run_has_one_end()
+    ensures { (g : Graph) (steps : List Step) (h k : Graph) → WellFormed g → IsRun g steps h →
+        IsRun g steps k → h ≡ k }
 {}
 
 /// The factor of a vertex in each plane, at each phase and label, against a table; scalars in terms of the root

@@ -4,8 +4,9 @@
 //! contracts are the laws. Each of the eight rewrites keeps the sum, with its exact factor, keeps
 //! the form of the graph and raises no number of odd phases, and so does every list of them in any
 //! order. A rewrite's result is the graph that a plain program makes, exactly where its side
-//! condition holds. Besides: how each changes the counts that bound simplification, that a graph
-//! without moves is reduced, and a reduced graph small; worked graphs, factors and sums.
+//! condition holds, and no other: so a list of rewrites has one end. Besides: how each changes the
+//! counts that bound simplification, that a graph without moves is reduced, and a reduced graph
+//! small; worked graphs, factors and sums.
 //!
 //! ```rust
 //! step_keeps_sum();        // a caller has the law for its own graphs
@@ -24,6 +25,6 @@ pub use counts::{
 };
 pub use facts::{identities_of_steps, sums_of_phase_gates};
 pub use laws::{
-    pivot_is_its_own_inverse, program_is_step, run_keeps_sum, step_keeps_form, step_keeps_sum,
-    step_raises_no_odd_phases, worked_rewrites, worked_sums,
+    pivot_is_its_own_inverse, program_is_step, run_has_one_end, run_keeps_sum, step_keeps_form,
+    step_keeps_sum, step_raises_no_odd_phases, worked_rewrites, worked_sums,
 };

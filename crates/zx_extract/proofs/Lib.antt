@@ -5,12 +5,14 @@ mod Lasts
 mod Settled
 mod SettledOutputs
 mod Rows
+mod Legs
 mod Calls
 mod RowToggles
 mod LastVertex
+mod SharedLegs
+mod BesideRow
 mod Advancing
 mod VertexCalls
-mod Legs
 mod Removing
 mod Taking
 mod Exchanges
@@ -19,3 +21,5 @@ pub mod HoldersTables
 pub mod HoldersTurning
 pub mod HoldersCounting
 pub mod HoldersAdding
+mod ChosenRows
+mod IndependentRows

@@ -1,13 +1,15 @@
 -- Outputs by their end_vertices.
-use Rattle.std.proofs.Common.{◌≡◌, refl, sym, ◌∙◌, ap, ap₂, ℕ, zero as nought, suc, ◌+◌, ◌<◌, true, false, not, ◌&&◌, ◌||◌, eqb, ne_eqb, List, [], ◌∷◌, ◌++◌, length, get_or, remove, set, take, add-one, true≢false, arith}
+use Rattle.std.proofs.Common.{◌≡◌, refl, sym, ◌∙◌, ap, ap₂, ℕ, zero as nought, suc, ◌+◌, ◌<◌, Bool, true, false, not, ◌&&◌, ◌||◌, eqb, ne_eqb, List, [], ◌∷◌, ◌++◌, length, get_or, remove, set, take, add-one, true≢false, arith}
 use Rattle.std.specs.Prelude.{slice_get, Some}
 use Rattle.std.proofs.lemmas.Option.{slice_get-get_or}
 use Rattle.std.proofs.Math.Seq.{take-suc}
-use Rattle.zx_model.specs.Bits.{member}
+use Rattle.zx_model.specs.Bits.{xor, member}
+use Rattle.zx_model.proofs.BitLemmas.{xor-false}
 use Rattle.zx_calculus.specs.Graph.{End, Graph, end_vertices, in_order, different, WellFormed}
 use Rattle.zx_calculus.specs.Worked.{plain}
 use Rattle.zx_calculus.proofs.Ids.{by_equal, and-left, and-right, member-different}
 use Rattle.zx_calculus.proofs.Booleans.{and-false, and-true, or-true}
+use Rattle.gflow_laws.proofs.Lists.{member-append, is_in-one}
 use Rattle.circuit_laws.specs.Peeling.{HasPlainOutput, are_plain}
 use Rattle.circuit_laws.proofs.Places.{first_is, one_place, apart_from, plain_end}
 use Rattle.zx_extract.specs.Internal.Lists.{IsPlainAt}
@@ -102,3 +104,33 @@ places_more es i e v within is same = rw add-one (ap end_vertices (take-suc es i
     pushed : (ds : List End) → end_vertices (ds ++ e ∷ []) ≡ end_vertices ds ++ e.vertex ∷ []
     pushed [] = refl
     pushed (d ∷ ds) = ap (λ r. d.vertex ∷ r) (pushed ds)
+
+-- one more end is taken out of a set
+pub ends_out_more : (es : List End) (i : ℕ) (e : End) (v : ℕ) (old now new : List ℕ) → i < length es → e ≡ get_or es i e →
+    v ≡ e.vertex → ((w : ℕ) → member w now ≡ (member w old && not (member w (end_vertices (take i es))))) →
+    ((w : ℕ) → member w new ≡ (member w now && not (eqb w v))) →
+    (w : ℕ) → member w new ≡ (member w old && not (member w (end_vertices (take (i + 1) es))))
+ends_out_more es i e v old now new within is same before step w =
+    step w ∙ ap (λ b. b && not (eqb w v)) (before w)
+    ∙ both (member w old) (member w (end_vertices (take i es))) (eqb w v)
+    ∙ sym (ap (λ b. member w old && not b) (ap (member w) (places_more es i e v within is same)
+    ∙ member-append w (end_vertices (take i es)) (v ∷ [])
+    ∙ ap (λ b. member w (end_vertices (take i es)) || b) (is_in-one v w)))
+  where
+    both : (a b c : Bool) → ((a && not b) && not c) ≡ (a && not (b || c))
+    both false b c = refl
+    both true true c = refl
+    both true false c = refl
+
+pub out_toggled : (v : ℕ) (now new : List ℕ) → member v now ≡ true → ((w : ℕ) → member w new ≡ xor (member w now) (eqb w v)) →
+    (w : ℕ) → member w new ≡ (member w now && not (eqb w v))
+out_toggled v now new there step w = step w ∙ by_equal w v
+    (λ t e. ap₂ xor (ap (λ x. member x now) e ∙ there) t
+    ∙ sym (ap (λ b. member w now && not b) t ∙ and-false (member w now)))
+    (λ f n. ap (xor (member w now)) f ∙ xor-false (member w now) ∙ sym (ap (λ b. member w now && not b) f
+    ∙ and-true (member w now)))
+
+pub out_already : (v : ℕ) (now : List ℕ) → member v now ≡ false → (w : ℕ) → member w now ≡ (member w now && not (eqb w v))
+out_already v now out w = by_equal w v
+    (λ t e. ap (λ x. member x now) e ∙ out ∙ sym (ap (λ b. b && not (eqb w v)) (ap (λ x. member x now) e ∙ out)))
+    (λ f n. sym (ap (λ b. member w now && not b) f ∙ and-true (member w now)))

@@ -1,10 +1,10 @@
 -- The last vertex, a gadget, is taken off.
-use Rattle.std.proofs.Common.{◌≡◌, ◌≢◌, refl, sym, ◌∙◌, ap, ap₂, subst, ℕ, ◌+◌, ◌*◌, ◌≤◌, ◌<◌, true, false, cond, not, ◌&&◌, eq-eqb, List, [], ◌∷◌, ◌++◌, filter, length, length-append, true≢false, le_of_eq, arith}
+use Rattle.std.proofs.Common.{◌≡◌, ◌≢◌, refl, sym, ◌∙◌, ap, ap₂, subst, ℕ, ◌+◌, ◌*◌, ◌≤◌, true, cond, not, ◌&&◌, eq-eqb, List, [], ◌∷◌, ◌++◌, filter, length, length-append, true≢false, le_of_eq, arith}
 use Rattle.std.specs.Prelude.{slice_get}
 use Rattle.zx_model.specs.Bits.{member, one_if}
 use Rattle.zx_model.specs.Constants.{two}
 use Rattle.zx_model.proofs.Ring.{mul-one}
-use Rattle.zx_calculus.specs.Graph.{YZ, Kind, Vertex, ids, kind_of, plane_of, phase_of, joined, end_vertices, is_XY, different, without, Live, WellFormed}
+use Rattle.zx_calculus.specs.Graph.{YZ, Kind, Vertex, ids, kind_of, plane_of, phase_of, end_vertices, is_XY, different, without, Live, WellFormed}
 use Rattle.zx_calculus.specs.Edits.{IsRemoval}
 use Rattle.zx_calculus.specs.Worked.{plain}
 use Rattle.zx_calculus.specs.Counts.{not_XY, XY_without_output}
@@ -33,9 +33,11 @@ use Rattle.circuit_laws.proofs.Keeping.{gadget_formed_back, linked_gadget_formed
 use Rattle.circuit_laws.proofs.Counts.{gadget_odd, linked_gadget_odd}
 use Rattle.circuit_laws.proofs.Gadgets.{gadget_peels, linked_gadget_peels}
 use Rattle.circuit_laws.proofs.GateLists.{gadget_on_outputs, linked_gadget_on_outputs, gadget_few, linked_gadget_few}
+use Rattle.zx_extract.specs.Internal.Lists.{legs_of}
 use Rattle.zx_extract.specs.Internal.Leading.{State, Leads, IsReady, IsFrontier}
 use Rattle.zx_extract.specs.Internal.Steps.{IsGadgetTaken, IsLinkedGadgetTaken, HasLast, AreLegs}
 use Rattle.zx_extract.proofs.Lasts.{length-order}
+use Rattle.zx_extract.proofs.Legs.{legs_as_many}
 use Rattle.zx_extract.proofs.Rows.{same_sets_back}
 use Rattle.zx_extract.proofs.LastVertex.{last_no_output}
 
@@ -133,7 +135,7 @@ module _ (s : State) (v : ℕ) (t : State) (r : IsReady s) (f : IsFrontier s.gra
 
 -- ---- a gadget on outputs
 module _ (s : State) (v : ℕ) (qubits : List ℕ) (t : State) (r : IsReady s) (f : IsFrontier s.graph)
-    (legs : AreLegs s.graph v (length s.graph.outputs) qubits) (a : IsGadgetTaken s v qubits t) where
+    (legs : AreLegs s.graph v qubits) (a : IsGadgetTaken s v qubits t) where
   gadget_formed : WellFormed t.graph
   gadget_formed = gadget_formed_back s.graph v qubits t.graph r.given.well_formed a.peel
 
@@ -146,7 +148,7 @@ module _ (s : State) (v : ℕ) (qubits : List ℕ) (t : State) (r : IsReady s) (
   pub gadget_shorter : length t.table + 1 ≡ length s.table
   gadget_shorter = removed_shorter s v t r f a.last a.peel.plane a.peel.removal gadget_formed a.table
 
-  pub gadget_leads : Leads s (3 * length s.graph.outputs) 0 1 t
+  pub gadget_leads : Leads s (2 * length (legs_of s.graph v)) 0 1 t
   gadget_leads = record {
     taken = gadget_gates (phase_of s.graph v) qubits;
     gates = a.gates;
@@ -156,24 +158,19 @@ module _ (s : State) (v : ℕ) (qubits : List ℕ) (t : State) (r : IsReady s) (
     few_doublings = omega arith;
     odd = gadget_odd s.graph v qubits t.graph r.given.well_formed a.peel;
     on_qubits = gadget_on_outputs s.graph v qubits t.graph a.peel;
-    few = few _ _ _ (gadget_few (phase_of s.graph v) qubits) legs.few;
+    few = omega (arith, gadget_few (phase_of s.graph v) qubits, legs_as_many s.graph v qubits legs);
     XY = none_gone _ _ (removed_XY s v t r f a.last a.peel.plane a.peel.removal gadget_formed a.table);
     others = removed_others s v t r f a.last a.peel.plane a.peel.removal gadget_formed a.table;
     inputs = a.peel.removal.frame.inputs;
     outputs = ap length a.peel.removal.frame.outputs;
   }
     where
-      few : (gates qubits n : ℕ) → gates ≤ 2 * qubits → qubits ≤ n → gates ≤ 3 * n
-      few gates qubits n e f = omega arith
-
       none_gone : (x y : ℕ) → x ≡ y → x + 0 ≡ y
       none_gone x y e = omega arith
 
 -- ---- a gadget through an output
 module _ (s : State) (v q : ℕ) (qubits : List ℕ) (t : State) (r : IsReady s) (f : IsFrontier s.graph)
-    (legs : AreLegs s.graph v (length s.graph.outputs) qubits)
-    (within : q < length s.graph.outputs) (a : IsLinkedGadgetTaken s v q qubits t)
-    (off : joined s.graph.edges v a.peel.link ≡ false) where
+    (legs : AreLegs s.graph v qubits) (a : IsLinkedGadgetTaken s v q qubits t) where
   linked_formed : WellFormed t.graph
   linked_formed = linked_gadget_formed_back s.graph v q qubits t.graph r.given.well_formed a.peel
 
@@ -186,7 +183,7 @@ module _ (s : State) (v q : ℕ) (qubits : List ℕ) (t : State) (r : IsReady s)
   pub linked_shorter : length t.table + 1 ≡ length s.table
   linked_shorter = removed_shorter s v t r f a.last a.peel.plane a.peel.removal linked_formed a.table
 
-  pub linked_leads : Leads s (2 * length s.graph.outputs + 1) 0 1 t
+  pub linked_leads : Leads s (2 * length (legs_of s.graph v) + 3) 0 1 t
   linked_leads = record {
     taken = linked_gadget_gates (phase_of s.graph v) q qubits;
     gates = a.gates;
@@ -195,16 +192,12 @@ module _ (s : State) (v q : ℕ) (qubits : List ℕ) (t : State) (r : IsReady s)
     few_doublings = omega arith;
     odd = le_of_eq (sym (linked_gadget_odd s.graph v q qubits t.graph r.given.well_formed a.peel));
     on_qubits = linked_gadget_on_outputs s.graph v q qubits t.graph a.peel;
-    few = few _ _ _ (linked_gadget_few (phase_of s.graph v) q qubits)
-        (legs.fewer q a.peel.link within a.peel.output off);
+    few = omega (arith, linked_gadget_few (phase_of s.graph v) q qubits, legs_as_many s.graph v qubits legs);
     XY = none_gone _ _ (removed_XY s v t r f a.last a.peel.plane a.peel.removal linked_formed a.table);
     others = removed_others s v t r f a.last a.peel.plane a.peel.removal linked_formed a.table;
     inputs = a.peel.removal.frame.inputs;
     outputs = ap length a.peel.removal.frame.outputs;
   }
     where
-      few : (gates qubits n : ℕ) → gates ≤ 2 * qubits + 3 → qubits + 1 ≤ n → gates ≤ 2 * n + 1
-      few gates qubits n e f = omega arith
-
       none_gone : (x y : ℕ) → x ≡ y → x + 0 ≡ y
       none_gone x y e = omega arith

@@ -1,7 +1,7 @@
 -- The row of an output added to that of another one.
 use Rattle.std.proofs.Common.{◌≡◌, ◌≢◌, refl, sym, ◌∙◌, ap, ap₂, subst, ℕ, ◌&&◌, true, false, eqb, eqb-true, List, [], ◌∷◌}
 use Rattle.zx_model.specs.Bits.{xor, member}
-use Rattle.zx_calculus.specs.Graph.{Graph, joined, end_vertices, Live}
+use Rattle.zx_calculus.specs.Graph.{Graph, joined, end_vertices, Live, WellFormed}
 use Rattle.zx_calculus.specs.Toggles.{across, IsToggled}
 use Rattle.zx_calculus.specs.Worked.{plain}
 use Rattle.zx_calculus.proofs.Booleans.{and_comm}
@@ -17,11 +17,11 @@ use Rattle.zx_extract.specs.Internal.Steps.{IsRowAdded}
 use Rattle.zx_extract.proofs.Places.{one_output}
 
 -- the set of an output's vertex has live ones
-pub one_live : (s : State) (t v : ℕ) (one : List ℕ) → IsReady s → HasPlainOutput s.graph t v → one ≡ v ∷ [] →
-    (p : ℕ) → member p one ≡ true → Live s.graph p
-one_live s t v one r at_t is p there =
-    subst (Live s.graph) (sym (eqb-true p v (sym (ap (member p) is ∙ is_in-one v p) ∙ there)))
-    (output_there s.graph t (plain v) r.given.well_formed at_t)
+pub one_live : (g : Graph) (t v : ℕ) (one : List ℕ) → WellFormed g → HasPlainOutput g t v → one ≡ v ∷ [] →
+    (p : ℕ) → member p one ≡ true → Live g p
+one_live g t v one wf at_t is p there =
+    subst (Live g) (sym (eqb-true p v (sym (ap (member p) is ∙ is_in-one v p) ∙ there)))
+    (output_there g t (plain v) wf at_t)
 
 module _ (s : State) (c t u v : ℕ) (r : IsReady s) (f : IsFrontier s.graph) (at_c : HasPlainOutput s.graph c u)
     (at_t : HasPlainOutput s.graph t v) (n : c ≢ t) where

@@ -27,7 +27,7 @@ use Rattle.circuit_laws.proofs.Rows.{row_peels}
 use Rattle.circuit_laws.proofs.GateLists.{row_on}
 use Rattle.zx_extract.specs.Internal.Lists.{last_set, others_below}
 use Rattle.zx_extract.specs.Internal.Leading.{State, Leads, IsReady, IsFrontier}
-use Rattle.zx_extract.specs.Internal.Steps.{IsRowAdded, HasLast, IsPicked, IsGathered}
+use Rattle.zx_extract.specs.Internal.Steps.{IsRowAdded, HasLast, IsPicked, AddsRows, IsGathered}
 use Rattle.zx_extract.proofs.Leads.{leads_same, leads_nothing, leads_then, leads_within}
 use Rattle.zx_extract.proofs.Counting.{as_many_XY, as_many_others}
 use Rattle.zx_extract.proofs.Places.{one_vertex, one_output}
@@ -63,7 +63,7 @@ module _ (s : State) (c t : ℕ) (h : State) (r : IsReady s) (f : IsFrontier s.g
       ∙ xor-same (eqb a.row.to p && joined s.graph.edges a.row.added p))
       ∙ sym (no_loop h.graph p formed)
 
-  edges_are : (p q : ℕ) → joined h.graph.edges p q ≡ row_added (joined s.graph.edges) a.row.added a.row.to p q
+  pub edges_are : (p q : ℕ) → joined h.graph.edges p q ≡ row_added (joined s.graph.edges) a.row.added a.row.to p q
   edges_are p q = by_equal p q
       (λ _ e. ap (joined h.graph.edges p) (sym e) ∙ sym (on_diagonal p)
       ∙ ap (row_added (joined s.graph.edges) a.row.added a.row.to p) e)
@@ -137,14 +137,40 @@ module _ (s : State) (c t : ℕ) (h : State) (r : IsReady s) (f : IsFrontier s.g
 pub others_below-more : (q i : ℕ) → i ≢ q → others_below q i + 1 ≤ others_below q (i + 1)
 others_below-more q i n = grind (arith, nat_tests)
 
-pub gathered_nothing : (s : State) (q : ℕ) → IsReady s → IsFrontier s.graph → IsPicked s q → IsGathered s q 0 s
-gathered_nothing s q r f picked = record {
-  leads = leads_within s 0 0 0 (others_below q 0) s (omega arith) (leads_nothing s);
+pub adds_nothing : (s : State) → IsReady s → IsFrontier s.graph → AddsRows s 0 s
+adds_nothing s r f = record {
+  leads = leads_nothing s;
   ready = r;
   frontier = f;
   order = refl;
   same = refl;
   ends = refl;
+}
+
+pub adds_row : (s : State) (k : ℕ) (t : State) (c q : ℕ) (h : State) → AddsRows s k t → IsRowAdded t c q h →
+    AddsRows s (k + 1) h
+adds_row s k t c q h b a = record {
+  leads = leads_then s k 0 0 t 1 0 0 h b.leads (row_leads t c q h b.ready b.frontier a);
+  ready = row_ready t c q h b.ready b.frontier a;
+  frontier = row_frontier t c q h b.ready b.frontier a;
+  order = row_order t c q h b.ready b.frontier a ∙ b.order;
+  same = sym a.row.vertices ∙ b.same;
+  ends = sym a.row.frame.outputs ∙ b.ends;
+}
+
+adds_within : (s : State) (k l : ℕ) (t : State) → k ≤ l → AddsRows s k t → AddsRows s l t
+adds_within s k l t within b = record {
+  leads = leads_within s k 0 0 l t within b.leads;
+  ready = b.ready;
+  frontier = b.frontier;
+  order = b.order;
+  same = b.same;
+  ends = b.ends;
+}
+
+pub gathered_nothing : (s : State) (q : ℕ) → IsReady s → IsFrontier s.graph → IsPicked s q → IsGathered s q 0 s
+gathered_nothing s q r f picked = record {
+  rows = adds_within s 0 (others_below q 0) s (omega arith) (adds_nothing s r f);
   itself = picked.there;
   gone = λ p u within. absurd (omega arith);
 }
@@ -154,13 +180,8 @@ pub gathered_row : (s : State) (q i v : ℕ) (t h : State) → IsGathered s q i 
     HasPlainOutput t.graph i u → last_set t.table u ≡ true →
     IsRowAdded t i q h → IsGathered s q (i + 1) h
 gathered_row s q i v t h g last n u o there a = record {
-  leads = leads_within s (others_below q i + 1) 0 0 (others_below q (i + 1)) h (others_below-more q i n)
-      (leads_then s (others_below q i) 0 0 t 1 0 0 h g.leads (row_leads t i q h g.ready g.frontier a));
-  ready = row_ready t i q h g.ready g.frontier a;
-  frontier = row_frontier t i q h g.ready g.frontier a;
-  order = row_order t i q h g.ready g.frontier a ∙ g.order;
-  same = sym a.row.vertices ∙ g.same;
-  ends = sym a.row.frame.outputs ∙ g.ends;
+  rows = adds_within s (others_below q i + 1) (others_below q (i + 1)) h (others_below-more q i n)
+      (adds_row s (others_below q i) t i q h g.rows a);
   itself = λ w at_q. let here : HasPlainOutput t.graph q w = ap (λ es. slice_get es q) a.row.frame.outputs ∙ at_q in
       sets w ∙ ap₂ (λ b c. xor b (c && eqb w a.row.added)) (g.itself w here) to_there
       ∙ ap not (ne_eqb w a.row.added (λ e. a.row.different (sym e
@@ -172,12 +193,12 @@ gathered_row s q i v t h g last n u o there a = record {
       ap₂ xor (ap (last_set t.table) (same ∙ one_vertex t.graph i a.row.added u a.row.output o) ∙ there)
       (ap (λ x. eqb x a.row.added) same ∙ eqb-self a.row.added))
       (λ _ other. ap₂ xor (g.gone p w (omega arith) m here)
-      (ne_eqb w a.row.added (λ same. other (one_output t.graph p i w g.ready.given.well_formed here
+      (ne_eqb w a.row.added (λ same. other (one_output t.graph p i w g.rows.ready.given.well_formed here
       (subst (λ x. HasPlainOutput t.graph i x) (sym same) a.row.output)))));
 }
   where
     sets : (w : ℕ) → last_set h.table w ≡ xor (last_set t.table w) (last_set t.table a.row.to && eqb w a.row.added)
-    sets = row_last t i q h g.ready g.frontier a v (keeps_last s.table t.table v g.order last)
+    sets = row_last t i q h g.rows.ready g.rows.frontier a v (keeps_last s.table t.table v g.rows.order last)
 
     to_there : last_set t.table a.row.to ≡ true
     to_there = g.itself a.row.to a.row.output_too
@@ -187,5 +208,5 @@ pub gathered_all : (s : State) (q : ℕ) (t : State) → IsGathered s q (length 
     HasPlainOutput t.graph p u → last_set t.table u ≡ eqb p q
 gathered_all s q t g p u o = by_equal p q
     (λ e same. g.itself u (subst (λ k. HasPlainOutput t.graph k u) same o) ∙ sym e)
-    (λ f n. g.gone p u (subst (λ es. p < length es) g.ends (slice_get_within t.graph.outputs p (plain u) o)) n o
+    (λ f n. g.gone p u (subst (λ es. p < length es) g.rows.ends (slice_get_within t.graph.outputs p (plain u) o)) n o
     ∙ sym f)

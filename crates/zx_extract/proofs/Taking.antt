@@ -1,19 +1,27 @@
 -- Vertices that are taken off one after the other, and the gates that each costs.
-use Rattle.std.proofs.Common.{◌≡◌, ◌≢◌, refl, sym, ◌∙◌, ap, subst, ℕ, ◌+◌, ◌-◌, ◌*◌, ◌≤◌, ◌<◌, false, cond, List, lt-ltb, length, mul-add, arith}
-use Rattle.zx_calculus.specs.Graph.{Live, joined, kind_of, plane_of}
+use Rattle.std.proofs.Common.{◌≡◌, ◌≢◌, refl, sym, ◌∙◌, ap, subst, ℕ, ◌+◌, ◌-◌, ◌*◌, ◌≤◌, ◌<◌, true, cond, ◌&&◌, ne_eqb, true≢false, List, lt-ltb, length, mul-add, arith}
+use Rattle.std.specs.Prelude.{slice_get}
+use Rattle.zx_model.specs.Bits.{member}
+use Rattle.zx_calculus.specs.Graph.{Live, joined, kind_of, plane_of, end_vertices}
 use Rattle.zx_calculus.specs.Graph as graph
 use Rattle.zx_calculus.specs.Turns.{in_plane}
+use Rattle.zx_calculus.specs.Worked.{plain}
+use Rattle.zx_calculus.proofs.Ids.{and-left, and-right}
 use Rattle.open_graph.specs.Planes.{plane_named}
 use Rattle.open_graph.specs.declared.plane.Plane.{Plane}
 use Rattle.open_graph.specs.declared.plane.Plane.TheVariants.{XY, XZ, YZ}
 use Rattle.gflow_laws.specs.Flow.{Correction, order_of}
-use Rattle.zx_extract.specs.Internal.Lists.{others_below}
+use Rattle.circuit_laws.specs.Peeling.{HasPlainOutput}
+use Rattle.circuit_laws.proofs.Places.{member-places}
+use Rattle.zx_extract.specs.Internal.Lists.{others_below, legs_of}
 use Rattle.zx_extract.specs.Internal.Leading.{State, Leads, IsReady, IsFrontier, IsTaken}
-use Rattle.zx_extract.specs.Internal.Steps.{IsGathered, HasLast, HasOneOutput, AreLegs, IsGadgetTaken, IsLinkedGadgetTaken, IsAdvanced, IsSettling}
+use Rattle.zx_extract.specs.Internal.Steps.{IsGathered, HasLast, HasNoOutput, HasOneOutput, AreLegs, AreLegsFree, TakesLegs, IsGadgetTaken, IsLinkedGadgetTaken, IsAdvanced, IsSettling}
 use Rattle.zx_extract.proofs.Lasts.{keeps_last, length-order}
 use Rattle.zx_extract.proofs.SettledOutputs.{settled_whole}
+use Rattle.zx_extract.proofs.Places.{place_of_output}
+use Rattle.zx_extract.proofs.Legs.{member-legs, legs_few, legs_fewer}
 use Rattle.zx_extract.proofs.Rows.{gathered_all}
-use Rattle.zx_extract.proofs.LastVertex.{last_live, link_not_adjacent}
+use Rattle.zx_extract.proofs.LastVertex.{link_not_adjacent}
 use Rattle.zx_extract.proofs.Advancing.{advanced_ready, advanced_leads, advanced_settled, advanced_shorter}
 use Rattle.zx_extract.proofs.Removing.{gadget_leads, gadget_ready, gadget_frontier, gadget_shorter, linked_leads, linked_ready, linked_frontier, linked_shorter}
 use Rattle.zx_extract.proofs.Leads.{leads_nothing, leads_then, leads_within}
@@ -44,32 +52,39 @@ taken_then s t u a b = record {
 others_of : (q n : ℕ) → q < n → others_below q n ≡ n - 1
 others_of q n within = ap (λ b. cond b (n - 1) n) (lt-ltb q n within)
 
--- a gadget on outputs
-pub taken_gadget : (s t : State) → Leads s (3 * length s.graph.outputs) 0 1 t → IsReady t → IsFrontier t.graph →
-    IsTaken s t
-taken_gadget s t leads r f = record {
+-- rows of legs are added, and a gadget on outputs goes
+pub taken_gadget : (s : State) (v : ℕ) (t u : State) → TakesLegs s v t → Leads t (2 * length (legs_of t.graph v)) 0 1 u →
+    IsReady u → IsFrontier u.graph → IsTaken s u
+taken_gadget s v t u legs leads r f = record {
   spiders = 0;
   gadgets = 1;
-  leads = leads_within s _ 0 1 _ t (omega arith) leads;
-  ready = r;
-  frontier = f;
-}
-
--- rows are gathered at an output, and a gadget goes through it
-pub taken_linked : (s : State) (q : ℕ) (t u : State) → q < length s.graph.outputs →
-    IsGathered s q (length s.graph.outputs) t →
-    Leads t (2 * length t.graph.outputs + 1) 0 1 u → IsReady u → IsFrontier u.graph → IsTaken s u
-taken_linked s q t u within g leads r f = record {
-  spiders = 0;
-  gadgets = 1;
-  leads = leads_within s _ 0 1 _ u (cost (length s.graph.outputs) _ within (others_of q _ within))
-      (leads_then s _ 0 0 t _ 0 1 u g.leads (subst (λ n. Leads t (2 * n + 1) 0 1 u) g.leads.outputs leads));
+  leads = leads_within s _ 0 1 _ u (cost _ _ _ _ legs.fewer (legs_few s.graph v))
+      (leads_then s _ 0 0 t _ 0 1 u legs.rows.leads leads);
   ready = r;
   frontier = f;
 }
   where
-    cost : (n others : ℕ) → q < n → others ≡ n - 1 → others + (2 * n + 1) ≤ 2 * n * 0 + 3 * n * 1
-    cost n others within e = omega arith
+    cost : (n rows left legs : ℕ) → rows + left ≤ legs → legs ≤ n → rows + 2 * left ≤ 2 * n * 0 + 3 * n * 1
+    cost n rows left legs e f = omega arith
+
+-- rows are gathered at an output, rows of legs are added, and a gadget goes through the output
+pub taken_linked : (s : State) (q v : ℕ) (t u w : State) → q < length s.graph.outputs →
+    IsGathered s q (length s.graph.outputs) t → length (legs_of t.graph v) + 1 ≤ length t.graph.outputs →
+    TakesLegs t v u → Leads u (2 * length (legs_of u.graph v) + 3) 0 1 w → IsReady w → IsFrontier w.graph → IsTaken s w
+taken_linked s q v t u w within g fewer legs leads r f = record {
+  spiders = 0;
+  gadgets = 1;
+  leads = leads_within s _ 0 1 _ w
+      (cost (length s.graph.outputs) _ _ _ _ within (others_of q _ within) legs.fewer
+      (subst (λ n. length (legs_of t.graph v) + 1 ≤ n) g.rows.leads.outputs fewer))
+      (leads_then s _ 0 0 t _ 0 1 w g.rows.leads (leads_then t _ 0 0 u _ 0 1 w legs.rows.leads leads));
+  ready = r;
+  frontier = f;
+}
+  where
+    cost : (n others rows left legs : ℕ) → q < n → others ≡ n - 1 → rows + left ≤ legs → legs + 1 ≤ n →
+        others + (rows + (2 * left + 3)) ≤ 2 * n * 0 + 3 * n * 1
+    cost n others rows left legs within e f g = omega arith
 
 -- rows are gathered at an output, an XY vertex takes its place, and is settled there
 pub taken_spider : (s : State) (q : ℕ) (t u w : State) → q < length s.graph.outputs →
@@ -80,8 +95,8 @@ taken_spider s q t u w within g advanced settled r f = record {
   spiders = 1;
   gadgets = 0;
   leads = leads_within s _ 1 0 _ w (cost (length s.graph.outputs) _ within (others_of q _ within))
-      (leads_then s _ 0 0 t _ 1 0 w g.leads (leads_then t 1 1 0 u _ 0 0 w advanced
-      (subst (λ n. Leads u (1 + others_below q n) 0 0 w) (advanced.outputs ∙ g.leads.outputs) settled)));
+      (leads_then s _ 0 0 t _ 1 0 w g.rows.leads (leads_then t 1 1 0 u _ 0 0 w advanced
+      (subst (λ n. Leads u (1 + others_below q n) 0 0 w) (advanced.outputs ∙ g.rows.leads.outputs) settled)));
   ready = r;
   frontier = f;
 }
@@ -93,65 +108,108 @@ as_long : (s t : List Correction) → order_of t ≡ order_of s → length t ≡
 as_long s t e = sym (length-order t) ∙ ap length e ∙ length-order s
 
 -- ---- the steps
-pub gadget_taken : (s : State) (v : ℕ) (t : State) → IsReady s → IsFrontier s.graph →
-    ((qubits : List ℕ) × AreLegs s.graph v (length s.graph.outputs) qubits × IsGadgetTaken s v qubits t) →
-    IsTaken s t × (length t.table + 1 ≡ length s.table)
-gadget_taken s v t r f a = (
-  taken_gadget s t (gadget_leads s v a.0 t r f a.1 a.2) (gadget_ready s v a.0 t r f a.1 a.2)
-      (gadget_frontier s v a.0 t r f a.1 a.2),
-  gadget_shorter s v a.0 t r f a.1 a.2,
+-- the last vertex after rows of legs were added
+module _ (s : State) (v : ℕ) (t : State) (last : HasLast s.table v) (legs : TakesLegs s v t) where
+  pub legs_last : HasLast t.table v
+  legs_last = keeps_last s.table t.table v legs.rows.order last
+
+  pub legs_none : HasNoOutput s → HasNoOutput t
+  legs_none none p u o = legs.stays u ∙ none p u (ap (λ es. slice_get es p) (sym legs.rows.ends) ∙ o)
+
+  pub legs_one : (q : ℕ) → HasOneOutput s q → HasOneOutput t q
+  legs_one q one p u o = legs.stays u ∙ one p u (ap (λ es. slice_get es p) (sym legs.rows.ends) ∙ o)
+
+  pub legs_plane : (plane : graph.Plane) → plane_of s.graph v ≡ plane → plane_of t.graph v ≡ plane
+  legs_plane plane e = ap (λ vs. (kind_of vs v).plane) legs.rows.same ∙ e
+
+pub none_free : (s : State) (v : ℕ) → IsReady s → HasNoOutput s → AreLegsFree s v
+none_free s v r none u there =
+    let place : (p : ℕ) × HasPlainOutput s.graph p u =
+    place_of_output s.graph.outputs u r.plain (and-left _ _ (sym (member-legs s.graph v u) ∙ there)) in
+    none place.0 u place.1
+
+pub gadget_taken : (s : State) (v : ℕ) (t u : State) → TakesLegs s v t →
+    ((qubits : List ℕ) × AreLegs t.graph v qubits × IsGadgetTaken t v qubits u) →
+    IsTaken s u × (length u.table + 1 ≡ length s.table)
+gadget_taken s v t u legs a = (
+  taken_gadget s v t u legs (gadget_leads t v a.0 u legs.rows.ready legs.rows.frontier a.1 a.2)
+      (gadget_ready t v a.0 u legs.rows.ready legs.rows.frontier a.1 a.2)
+      (gadget_frontier t v a.0 u legs.rows.ready legs.rows.frontier a.1 a.2),
+  gadget_shorter t v a.0 u legs.rows.ready legs.rows.frontier a.1 a.2 ∙ as_long s.table t.table legs.rows.order,
 )
+
+pub named_YZ : (g : graph.Graph) (v : ℕ) (named : Plane) (k : ℕ) → in_plane (plane_named named) k ≡ kind_of g.vertices v →
+    named ≡ YZ → plane_of g v ≡ graph.YZ
+named_YZ g v named k weight e = sym (ap (λ (kind : graph.Kind). kind.plane) weight) ∙ ap plane_named e
+
+-- no vertex is in the XZ plane
+pub named_XY : (s : State) (v : ℕ) (named : Plane) (k : ℕ) → IsReady s → Live s.graph v →
+    in_plane (plane_named named) k ≡ kind_of s.graph.vertices v → named ≢ YZ → plane_of s.graph v ≡ graph.XY
+named_XY s v named k r live weight not_YZ =
+    at named (plane_of s.graph v) (ap (λ (kind : graph.Kind). kind.plane) weight) not_YZ (r.given.planes v live)
+  where
+    at : (named : Plane) (plane : graph.Plane) → plane_named named ≡ plane → named ≢ YZ → plane ≢ graph.XZ →
+        plane ≡ graph.XY
+    at XY plane e n m = sym e
+    at XZ plane e n m = absurd (m (sym e))
+    at YZ plane e n m = absurd (n refl)
 
 module _ (s : State) (v q : ℕ) (t : State) (within : q < length s.graph.outputs) (last : HasLast s.table v)
     (g : IsGathered s q (length s.graph.outputs) t) where
   pub still_last : HasLast t.table v
-  still_last = keeps_last s.table t.table v g.order last
+  still_last = keeps_last s.table t.table v g.rows.order last
 
   pub one_left : HasOneOutput t q
   one_left = gathered_all s q t g
 
-  within_too : q < length t.graph.outputs
-  within_too = subst (λ n. q < n) (sym g.leads.outputs) within
+  module _ (was : plane_of s.graph v ≡ graph.YZ) where
+    pub still_YZ : plane_of t.graph v ≡ graph.YZ
+    still_YZ = ap (λ vs. (kind_of vs v).plane) g.rows.same ∙ was
 
-  pub linked_taken : (u : State) → ((qubits : List ℕ) × AreLegs t.graph v
-      (length t.graph.outputs) qubits × IsLinkedGadgetTaken t v q qubits u) →
-      IsTaken s u × (length u.table + 1 ≡ length s.table)
-  linked_taken u a = (
-    taken_linked s q t u within g (linked_leads t v q a.0 u g.ready g.frontier a.1 within_too a.2 off)
-        (linked_ready t v q a.0 u g.ready g.frontier a.1 within_too a.2 off)
-        (linked_frontier t v q a.0 u g.ready g.frontier a.1 within_too a.2 off),
-    linked_shorter t v q a.0 u g.ready g.frontier a.1 within_too a.2 off ∙ as_long s.table t.table g.order,
-  )
-    where
-      off : joined t.graph.edges v a.2.peel.link ≡ false
-      off = link_not_adjacent t v g.ready g.frontier still_last q a.2.peel.link one_left a.2.peel.output a.2.peel.plane
+    -- the output that stays is no leg
+    pub one_free : AreLegsFree t v
+    one_free u there =
+        let parts : (member u (end_vertices t.graph.outputs) && joined t.graph.edges v u) ≡ true =
+        sym (member-legs t.graph v u) ∙ there in
+        let place : (p : ℕ) × HasPlainOutput t.graph p u =
+        place_of_output t.graph.outputs u g.rows.ready.plain (and-left _ _ parts) in
+        one_left place.0 u place.1 ∙ ne_eqb place.0 q (λ e. true≢false (sym (and-right _ _ parts)
+        ∙ link_not_adjacent t v g.rows.ready g.rows.frontier still_last q u one_left
+        (subst (λ k. HasPlainOutput t.graph k u) e place.1) still_YZ))
 
-  pub still_live : Live t.graph v
-  still_live = last_live t v g.ready g.frontier still_last
-
-  -- no vertex is in the XZ plane
-  module _ (named : Plane) (k : ℕ) (weight : in_plane (plane_named named) k ≡ kind_of t.graph.vertices v)
-      (not_YZ : named ≢ YZ) where
-    pub must_be_XY : plane_of t.graph v ≡ graph.XY
-    must_be_XY = at named (plane_of t.graph v) (ap (λ (kind : graph.Kind). kind.plane) weight) not_YZ
-        (g.ready.given.planes v still_live)
+    pub linked_taken : (u w : State) → TakesLegs t v u →
+        ((qubits : List ℕ) × AreLegs u.graph v qubits × IsLinkedGadgetTaken u v q qubits w) →
+        IsTaken s w × (length w.table + 1 ≡ length s.table)
+    linked_taken u w legs a = (
+      taken_linked s q v t u w within g fewer legs
+          (linked_leads u v q a.0 w legs.rows.ready legs.rows.frontier a.1 a.2)
+          (linked_ready u v q a.0 w legs.rows.ready legs.rows.frontier a.1 a.2)
+          (linked_frontier u v q a.0 w legs.rows.ready legs.rows.frontier a.1 a.2),
+      linked_shorter u v q a.0 w legs.rows.ready legs.rows.frontier a.1 a.2
+          ∙ as_long t.table u.table legs.rows.order ∙ as_long s.table t.table g.rows.order,
+    )
       where
-        at : (named : Plane) (plane : graph.Plane) → plane_named named ≡ plane → named ≢ YZ → plane ≢ graph.XZ →
-            plane ≡ graph.XY
-        at XY plane e n m = sym e
-        at XZ plane e n m = absurd (m (sym e))
-        at YZ plane e n m = absurd (n refl)
+        at_link : HasPlainOutput t.graph q a.2.peel.link
+        at_link = ap (λ es. slice_get es q) (sym legs.rows.ends) ∙ a.2.peel.output
+
+        fewer : length (legs_of t.graph v) + 1 ≤ length t.graph.outputs
+        fewer = legs_fewer t.graph v a.2.peel.link (member-places t.graph.outputs q (plain a.2.peel.link) at_link)
+            (link_not_adjacent t v g.rows.ready g.rows.frontier still_last q a.2.peel.link one_left at_link still_YZ)
+
+  module _ (plane : plane_of s.graph v ≡ graph.XY) where
+    pub still_XY : plane_of t.graph v ≡ graph.XY
+    still_XY = ap (λ vs. (kind_of vs v).plane) g.rows.same ∙ plane
 
     module _ (u : State) (a : IsAdvanced t v q u) where
       pub spider_ready : IsReady u
-      spider_ready = advanced_ready t v q u g.ready g.frontier must_be_XY one_left a
+      spider_ready = advanced_ready t v q u g.rows.ready g.rows.frontier still_XY one_left a
 
       pub spider_taken : (w : State) → IsSettling u q (length u.graph.outputs) w →
           IsTaken s w × (length w.table + 1 ≡ length s.table)
       spider_taken w c = (
-        taken_spider s q t u w within g (advanced_leads t v q u g.ready g.frontier must_be_XY one_left a)
+        taken_spider s q t u w within g (advanced_leads t v q u g.rows.ready g.rows.frontier still_XY one_left a)
             c.settles.leads c.settles.ready
-            (settled_whole u q w (advanced_settled t v q u g.ready g.frontier must_be_XY one_left a) c),
+            (settled_whole u q w (advanced_settled t v q u g.rows.ready g.rows.frontier still_XY one_left a) c),
         ap (λ table. length table + 1) c.settles.table
-            ∙ advanced_shorter t v q u g.ready g.frontier must_be_XY one_left a ∙ as_long s.table t.table g.order,
+            ∙ advanced_shorter t v q u g.rows.ready g.rows.frontier still_XY one_left a ∙ as_long s.table t.table g.rows.order,
       )

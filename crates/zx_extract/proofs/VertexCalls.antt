@@ -1,5 +1,6 @@
 -- What the calls that take the last vertex off ask, and what they make.
 use Rattle.std.proofs.Common.{◌≡◌, refl, sym, ◌∙◌, ap, ap₂, subst, ℕ, Bool, true, false, not, ◌&&◌, ◌||◌, eqb, ne_eqb, List, [], ◌∷◌, ◌++◌, length, remove, set}
+use Rattle.std.specs.Prelude.{slice_get}
 use Rattle.zx_model.specs.Bits.{xor, member}
 use Rattle.zx_calculus.specs.Graph.{XY, YZ, Plane, Kind, Graph, is_XY, ids, kind_of, plane_of, joined, end_vertices, without, Live, Interior}
 use Rattle.zx_calculus.specs.Edits.{IsRemoval}
@@ -14,74 +15,104 @@ use Rattle.zx_gates.specs.declared.gate.Gate.TheVariants.{H}
 use Rattle.circuit_laws.specs.Gates.{gadget_gates, linked_gadget_gates}
 use Rattle.circuit_laws.specs.Peeling.{HasPlainOutput}
 use Rattle.circuit_laws.proofs.Places.{output_there, absent-remove}
+use Rattle.zx_extract.specs.Internal.Lists.{legs_of}
 use Rattle.zx_extract.specs.Internal.Leading.{State, IsReady, IsFrontier}
-use Rattle.zx_extract.specs.Internal.Steps.{HasLast, HasNoOutput, HasOneOutput, IsAdvanced, IsGadgetTaken, IsLinkedGadgetTaken, AreLegs}
+use Rattle.zx_extract.specs.Internal.Steps.{HasLast, HasNoOutput, HasOneOutput, IsButRow, IsGatheredBesideRow, IsAdvanced, IsGadgetTaken, IsLinkedGadgetTaken, AreLegs}
 use Rattle.zx_extract.proofs.Places.{member-places_set}
-use Rattle.zx_extract.proofs.LastVertex.{last_no_output, u_apart, only_neighbour, link_no_input, set_is_XY, set_is_YZ, linked, link_not_adjacent, set_is_itself, neighbours_are_outputs}
-use Rattle.zx_extract.proofs.Legs.{legs_all}
+use Rattle.zx_extract.proofs.Lasts.{keeps_last}
+use Rattle.zx_extract.proofs.Rows.{gathered_all}
+use Rattle.zx_extract.proofs.LastVertex.{last_live, last_no_output, u_apart, only_neighbour, link_no_input, set_is_XY, set_is_YZ, linked, link_not_adjacent, set_is_itself, neighbours_are_outputs}
+use Rattle.zx_extract.proofs.Legs.{member-legs, legs_differ}
 
 -- ---- the last vertex takes the place of an output
-module _ (s : State) (v q u : ℕ) (r : IsReady s) (f : IsFrontier s.graph) (last : HasLast s.table v)
-    (plane : plane_of s.graph v ≡ XY) (one : HasOneOutput s q) (o : HasPlainOutput s.graph q u) where
-  pub free : (i : ℕ) → member v (end_vertices (remove s.graph.outputs i)) ≡ false
-  free i = absent-remove v s.graph.outputs i (last_no_output s v r f last)
+-- v is the last vertex of s, where the rows of its set are gathered at the output q; d is s but for that output's row
+pub record IsNext (s d : State) (v q u : ℕ) : Type 0 where
+  pub alike : IsButRow s q d
+  pub ready : IsReady s
+  pub frontier : IsFrontier s.graph
+  pub last : HasLast s.table v
+  pub plane : plane_of s.graph v ≡ XY
+  pub one : HasOneOutput s q
+  pub output : HasPlainOutput s.graph q u
+
+pub next_of : (s d : State) (v q u : ℕ) (g : IsGatheredBesideRow s q (length s.graph.outputs) d) → HasLast s.table v →
+    plane_of s.graph v ≡ XY → HasPlainOutput d.graph q u → IsNext g.whole d v q u
+next_of s d v q u g last plane o = record {
+  alike = g.alike;
+  ready = g.gathered.rows.ready;
+  frontier = g.gathered.rows.frontier;
+  last = keeps_last s.table g.whole.table v g.gathered.rows.order last;
+  plane = ap (λ vs. (kind_of vs v).plane) g.gathered.rows.same ∙ plane;
+  one = gathered_all s q g.whole g.gathered;
+  output = ap (λ es. slice_get es q) (sym g.alike.outputs) ∙ o;
+}
+
+module _ (s d : State) (v q u : ℕ) (n : IsNext s d v q u) where
+  pub next_live : Live d.graph v
+  next_live = ap (λ vs. member v (ids vs)) n.alike.vertices ∙ last_live s v n.ready n.frontier n.last
+
+  pub free : (i : ℕ) → member v (end_vertices (remove d.graph.outputs i)) ≡ false
+  free i = ap (λ es. member v (end_vertices (remove es i))) n.alike.outputs ∙ absent-remove v s.graph.outputs i (last_no_output s v n.ready n.frontier n.last)
 
   pub spider_live : (g : Graph) → g ≡ record {
-    vertices = s.graph.vertices;
-    edges = s.graph.edges;
+    vertices = d.graph.vertices;
+    edges = d.graph.edges;
     inputs =
-        s.graph.inputs;
-    outputs = set s.graph.outputs q (plain v);
+        d.graph.inputs;
+    outputs = set d.graph.outputs q (plain v);
   } → Live g u
   spider_live g moved = ap (λ (h : Graph). member u (ids h.vertices)) moved
-      ∙ output_there s.graph q (plain u) r.given.well_formed o
+      ∙ ap (λ vs. member u (ids vs)) n.alike.vertices ∙ output_there s.graph q (plain u) n.ready.given.well_formed n.output
 
   pub spider_interior : (g : Graph) → g ≡ record {
-    vertices = s.graph.vertices;
-    edges = s.graph.edges;
+    vertices = d.graph.vertices;
+    edges = d.graph.edges;
     inputs =
-        s.graph.inputs;
-    outputs = set s.graph.outputs q (plain v);
+        d.graph.inputs;
+    outputs = set d.graph.outputs q (plain v);
   } → Interior g u
   spider_interior g moved = record {
-    no_input = ap (λ (h : Graph). member u (end_vertices h.inputs)) moved ∙ link_no_input s v r f last q u one o;
+    no_input = ap (λ (h : Graph). member u (end_vertices h.inputs)) moved
+        ∙ ap (λ es. member u (end_vertices es)) n.alike.inputs ∙ link_no_input s v n.ready n.frontier n.last q u n.one n.output;
     no_output = ap (λ (h : Graph). member u (end_vertices h.outputs)) moved
-        ∙ member-places_set s.graph.outputs q u v u r.given.well_formed.outputs.one_each o
-        ∙ ap₂ (λ a b. a || (member u (end_vertices s.graph.outputs) && not b)) (ne_eqb u v (u_apart s v r f last q u one o))
+        ∙ ap (λ es. member u (end_vertices (set es q (plain v)))) n.alike.outputs ∙ member-places_set s.graph.outputs q u v u n.ready.given.well_formed.outputs.one_each n.output
+        ∙ ap₂ (λ a b. a || (member u (end_vertices s.graph.outputs) && not b)) (ne_eqb u v (u_apart s v n.ready n.frontier n.last q u n.one n.output))
         (eqb-self u) ∙ and-false (member u (end_vertices s.graph.outputs));
   }
 
-  pub advance_set : (before : List Correction) × (e : Correction) × (s.table ≡ before ++ e ∷ []) × ((y : ℕ) →
+  pub advance_set : (before : List Correction) × (e : Correction) × (d.table ≡ before ++ e ∷ []) × ((y : ℕ) →
       is_in e.members y ≡ eqb y u)
-  advance_set = (last.before, last.entry, last.split, set_is_XY s v r f last q u one o plane)
+  advance_set = (n.last.before, n.last.entry, n.alike.table ∙ n.last.split, set_is_XY s v n.ready n.frontier n.last q u n.one n.output n.plane)
 
   pub advanced_step : (g h : Graph) (table : List Correction) (t : State) →
       g ≡ record {
-        vertices = s.graph.vertices;
-        edges = s.graph.edges;
-        inputs = s.graph.inputs;
+        vertices = d.graph.vertices;
+        edges = d.graph.edges;
+        inputs = d.graph.inputs;
         outputs =
-            set s.graph.outputs q (plain v);
+            set d.graph.outputs q (plain v);
       } →
-      IsRemoval g u h → ((before : List Correction) (e : Correction) → s.table ≡ before ++ e ∷ [] →
+      IsRemoval g u h → ((before : List Correction) (e : Correction) → d.table ≡ before ++ e ∷ [] →
       SameSets table (advanced_table u before)) →
-      t ≡ record { graph = h; table = table; gates = H q ∷ s.gates } → IsAdvanced s v q t
+      t ≡ record { graph = h; table = table; gates = H q ∷ d.gates } → IsAdvanced s v q t
   advanced_step g h table t moved removal sets is = subst (IsAdvanced s v q) (sym is) (record {
-    last = last;
+    last = n.last;
     advance = record {
       spider = u;
       next = v;
-      output = o;
-      phase = f.phase q u refl o;
-      only_neighbour = only_neighbour s v r f last q u one o plane;
-      vertices = removal.vertices ∙ ap (λ (k : Graph). without u k.vertices) moved;
+      output = n.output;
+      phase = n.frontier.phase q u refl n.output;
+      only_neighbour = only_neighbour s v n.ready n.frontier n.last q u n.one n.output n.plane;
+      vertices = removal.vertices ∙ ap (λ (k : Graph). without u k.vertices) moved ∙ ap (without u) n.alike.vertices;
       ordered = removal.frame.ordered;
-      edges = λ p w n m. removal.edges p w n m ∙ ap (λ (k : Graph). joined k.edges p w) moved;
-      inputs = removal.frame.inputs ∙ ap (λ (k : Graph). k.inputs) moved;
-      outputs = removal.frame.outputs ∙ ap (λ (k : Graph). k.outputs) moved;
+      edges = λ p w x y. removal.edges p w x y ∙ ap (λ (k : Graph). joined k.edges p w) moved
+          ∙ n.alike.edges u p w n.output x y;
+      inputs = removal.frame.inputs ∙ ap (λ (k : Graph). k.inputs) moved ∙ n.alike.inputs;
+      outputs = removal.frame.outputs ∙ ap (λ (k : Graph). k.outputs) moved
+          ∙ ap (λ es. set es q (plain v)) n.alike.outputs;
     };
-    table = sets last.before last.entry last.split;
-    gates = refl;
+    table = sets n.last.before n.last.entry (n.alike.table ∙ n.last.split);
+    gates = ap (λ gs. H q ∷ gs) n.alike.gates;
   })
 
 -- ---- a gadget
@@ -96,7 +127,7 @@ module _ (s : State) (v : ℕ) (r : IsReady s) (f : IsFrontier s.graph) (last : 
   gadget_set = (last.before, last.entry, last.split, set_is_itself s v r f last none)
 
   pub gadget_step : (plane : plane_of s.graph v ≡ YZ) (qubits : List ℕ) (k : ℕ) (named : Plane) (h : Graph)
-      (table : List Correction) (t : State) → AreLegs s.graph v (length s.graph.outputs) qubits →
+      (table : List Correction) (t : State) → AreLegs s.graph v qubits →
       in_plane named k ≡ kind_of s.graph.vertices v → IsRemoval s.graph v h →
       ((before : List Correction) (e : Correction) → s.table ≡ before ++ e ∷ [] →
       SameSets table (last_removed_table e before)) →
@@ -105,13 +136,14 @@ module _ (s : State) (v : ℕ) (r : IsReady s) (f : IsFrontier s.graph) (last : 
       subst (IsGadgetTaken s v qubits) (sym is) (record {
         last = last;
         peel = record {
-          legs = legs.legs;
+          legs = legs_of s.graph v;
           plane = plane;
-          once = legs.once;
-          at_outputs = legs.at_outputs;
-          neighbours = λ p. sym (legs_all s.graph v qubits legs p ∙ by_test (joined s.graph.edges v p)
-              (λ t. ap₂ (λ a b. a && b) t (neighbours_are_outputs s v r f last none p t) ∙ sym t)
-              (λ f. ap (λ a. a && member p (end_vertices s.graph.outputs)) f ∙ sym f));
+          once = legs_differ s.graph v r.given.well_formed;
+          at_outputs = legs;
+          neighbours = λ p. sym (member-legs s.graph v p ∙ by_test (joined s.graph.edges v p)
+              (λ t. ap₂ (λ a b. a && b) (neighbours_are_outputs s v r f last none p t) t ∙ sym t)
+              (λ f. ap (λ a. member p (end_vertices s.graph.outputs) && a) f
+              ∙ and-false (member p (end_vertices s.graph.outputs)) ∙ sym f));
           removal = removal;
         };
         table = sets last.before last.entry last.split;
@@ -126,7 +158,7 @@ module _ (s : State) (v q u : ℕ) (r : IsReady s) (f : IsFrontier s.graph) (las
   linked_set = (last.before, last.entry, last.split, set_is_YZ s v r f last q u one o plane)
 
   pub linked_step : (qubits : List ℕ) (k : ℕ) (named : Plane) (h : Graph) (table : List Correction) (t : State) →
-      AreLegs s.graph v (length s.graph.outputs) qubits →
+      AreLegs s.graph v qubits →
       in_plane named k ≡ kind_of s.graph.vertices v → IsRemoval s.graph v h →
       ((before : List Correction) (e : Correction) → s.table ≡ before ++ e ∷ [] →
       SameSets table (last_removed_table e before)) →
@@ -137,18 +169,18 @@ module _ (s : State) (v q u : ℕ) (r : IsReady s) (f : IsFrontier s.graph) (las
         last = last;
         peel = record {
           link = u;
-          legs = legs.legs;
+          legs = legs_of s.graph v;
           plane = plane;
           output = o;
           phase = f.phase q u refl o;
           no_input = link_no_input s v r f last q u one o;
           once = (
-            legs_all s.graph v qubits legs u ∙ ap (λ b. b && member u (end_vertices s.graph.outputs))
-                (link_not_adjacent s v r f last q u one o plane),
-            legs.once,
+            member-legs s.graph v u ∙ ap (λ b. member u (end_vertices s.graph.outputs) && b)
+                (link_not_adjacent s v r f last q u one o plane) ∙ and-false (member u (end_vertices s.graph.outputs)),
+            legs_differ s.graph v r.given.well_formed,
           );
-          at_outputs = legs.at_outputs;
-          neighbours = λ p. sym (ap₂ xor (linked s v r f last q u one o plane p) (legs_all s.graph v qubits legs p)
+          at_outputs = legs;
+          neighbours = λ p. sym (ap₂ xor (linked s v r f last q u one o plane p) (member-legs s.graph v p)
               ∙ either (joined s.graph.edges v p) (member p (end_vertices s.graph.outputs)));
           removal = removal;
         };
@@ -156,7 +188,8 @@ module _ (s : State) (v q u : ℕ) (r : IsReady s) (f : IsFrontier s.graph) (las
         gates = ap (λ j. linked_gadget_gates j q qubits ++ s.gates) (ap (λ (kind : Kind). kind.phase) weight);
       })
     where
-      either : (a b : Bool) → xor (a && not b) (a && b) ≡ a
+      either : (a b : Bool) → xor (a && not b) (b && a) ≡ a
       either true true = refl
       either true false = refl
-      either false b = refl
+      either false true = refl
+      either false false = refl

@@ -1,2 +1,4 @@
+pub mod Choosing
 pub mod Extraction
+pub mod Independence
 pub mod Internal

@@ -6,10 +6,10 @@ ghost use Rattle.zx_calculus.specs.Graph.{end_vertices, WellFormed};
 ghost use Rattle.gflow_laws.specs.Flow.{IsFlow, SameSets};
 ghost use Rattle.zx_gates.specs.Circuit.{most_qubits};
 ghost use Rattle.zx_gates.specs.Lowering.{phase_gates};
-ghost use Rattle.circuit_laws.specs.Peeling.{HasPlainOutput};
+ghost use Rattle.circuit_laws.specs.Peeling.{HasPlainOutput, are_plain};
 ghost use Rattle.zx_extract.specs.Internal.Leading.{IsGiven, IsReady, IsFrontier, Leads};
 ghost use Rattle.zx_extract.specs.Internal.Lists.{IsPlainAt};
-ghost use Rattle.zx_extract.specs.Internal.Steps.{IsPhaseTaken, IsUnjoined, IsRowAdded};
+ghost use Rattle.zx_extract.specs.Internal.Steps.{IsPhaseTaken, IsUnjoined, IsRowAdded, IsSetAdded};
 ghost use Rattle.zx_extract.specs.Internal.Frontiers.{state_of};
 
 use crate::holders::Holders;
@@ -69,7 +69,7 @@ impl Frontier {
 
     // The vertex of a plain output.
     pub(crate) fn present(&self, q: Qubit) -> VertexId
-        requires ready { IsReady (state_of self.now) }
+        requires plain { are_plain self.now.graph.graph.outputs ≡ true }
         requires on_wires { q < length self.now.graph.graph.outputs }
         ensures { HasPlainOutput self.now.graph.graph q result }
     {
@@ -172,5 +172,21 @@ impl Frontier {
         self.graph.toggle_across(&target, &row)?;
         self.flow.add_row(added, to)?;
         self.write_cx(t, c)
+    }
+
+    // Adds the row of output c to that of output t in the flow alone, and writes the gate.
+    pub(crate) fn add_set(&mut self, c: Qubit, t: Qubit) -> Result<(), AllocError>
+        requires plain { are_plain self.old.graph.graph.outputs ≡ true }
+        requires c_on_wires { c < length self.old.graph.graph.outputs }
+        requires t_on_wires { t < length self.old.graph.graph.outputs }
+        ensures { OnOk result (IsSetAdded (state_of self.old) c t (state_of self.new)) }
+    {
+        let added = self.present(c);
+        let to = self.present(t);
+        self.flow.add_row(added, to)?;
+        self.write(Gate::Cx {
+            control: t,
+            target: c,
+        })
     }
 }

@@ -1,36 +1,15 @@
 //! Phase gadgets on outputs.
 
 ghost use Rattle.std.specs.Prelude.{◌≡◌, ◌≢◌, ◌<◌, ℕ, ◌++◌, length, IfOk, OnOk};
-ghost use Rattle.zx_calculus.specs.Graph.{Live};
 ghost use Rattle.circuit_laws.specs.Gates.{gadget_on, gadget_gates, linked_gadget_gates};
 ghost use Rattle.zx_extract.specs.Internal.Frontiers.{state_of};
-ghost use Rattle.zx_extract.specs.Internal.Leading.{IsReady};
-ghost use Rattle.zx_extract.specs.Internal.Steps.{AreLegs};
 
 use crate::frontier::Frontier;
-use open_graph::VertexId;
 use std::alloc::AllocError;
 use zx_gates::{Gate, Qubit};
 use zx_model::Sixteenth;
 
 impl Frontier {
-    // The outputs whose vertices are adjacent to a vertex.
-    pub(crate) fn legs(&self, v: VertexId) -> Result<Vec<Qubit>, AllocError>
-        requires ready { IsReady (state_of self.now) }
-        requires live { Live self.now.graph.graph v }
-        ensures { IfOk result (λ qubits. AreLegs self.now.graph.graph v
-            (length self.now.graph.graph.outputs) qubits.items) }
-    {
-        let mut legs = Vec::new(self.alloc);
-        for q in 0..self.qubits() {
-            if !self.graph.has_edge(v, self.present(q)) {
-                continue;
-            }
-            legs.push(q)?;
-        }
-        Ok(legs)
-    }
-
     // Writes a phase on the target, to which the bits of others are added before, and taken off
     // again.
     fn write_gadget_on(

@@ -1,20 +1,25 @@
 //! The last correction set of a flow, and sums of its rows.
 
-ghost use Rattle.std.specs.Prelude.{◌≡◌, ◌<◌, ◌⊎◌, ℕ, false, ◌==◌, length, IfNone, IfSome, OnOk};
-ghost use Rattle.circuit_laws.specs.Peeling.{HasPlainOutput};
+ghost use Rattle.std.specs.Prelude.{◌≡◌, ◌<◌, ℕ, true, false, not, ◌&&◌, ◌==◌, length, IfOk, IfNone, IfSome, OnOk};
+ghost use Rattle.zx_model.specs.Bits.{member};
+ghost use Rattle.zx_calculus.specs.Graph.{end_vertices, plane_of, Live, WellFormed};
+ghost use Rattle.zx_calculus.specs.Graph as zx;
+ghost use Rattle.circuit_laws.specs.Peeling.{HasPlainOutput, are_plain};
 ghost use Rattle.zx_extract.specs.Internal.Frontiers.{state_of};
 ghost use Rattle.zx_extract.specs.Internal.Leading.{IsReady, IsFrontier};
 ghost use Rattle.zx_extract.specs.Internal.Lists.{last_set};
-ghost use Rattle.zx_extract.specs.Internal.Steps.{HasLast, IsPicked, HasNoOutput, IsGathered};
+ghost use Rattle.zx_extract.specs.Internal.Steps.{HasLast, IsPicked, HasNoOutput, IsGathered, IsGatheredBesideRow, IsRowReplaced};
 
+use crate::choosing::{Candidate, cheaper};
 use crate::frontier::Frontier;
+use open_graph::{End, VertexId, VertexSet};
 use std::alloc::AllocError;
 use zx_gates::Qubit;
 
 impl Frontier {
     // Whether the vertex of an output is in the last set.
     fn corrects_last(&self, q: Qubit) -> bool
-        requires ready { IsReady (state_of self.now) }
+        requires plain { are_plain self.now.graph.graph.outputs ≡ true }
         requires last { (v : ℕ) × HasLast self.now.flow.flow v }
         requires on_wires { q < length self.now.graph.graph.outputs }
         ensures { (u : ℕ) → HasPlainOutput self.now.graph.graph q u →
@@ -23,50 +28,91 @@ impl Frontier {
         self.flow.last_has(self.present(q))
     }
 
-    // Of the outputs in the last set, one that stands in the fewest sets.
+    // Of the outputs in the last set, one that stands in the fewest sets, and of these one with the
+    // fewest neighbours.
     pub(crate) fn pick(&self) -> Option<Qubit>
         requires ready { IsReady (state_of self.now) }
         requires last { (v : ℕ) × HasLast self.now.flow.flow v }
         ensures some { IfSome result (λ q. IsPicked (state_of self.now) q) }
         ensures none { IfNone result (HasNoOutput (state_of self.now)) }
     {
-        let mut best: Option<(Qubit, usize)> = None;
+        let mut best: Option<Candidate> = None;
         for q in 0..self.qubits() {
             if !self.corrects_last(q) {
                 continue;
             }
-            let count = self.flow.count(self.present(q));
-            best = Some(fewer(best, (q, count)));
+            let member = Candidate {
+                qubit: q,
+                cost: self.sets(q),
+                beside: self.degree(q),
+            };
+            best = Some(cheaper(best, member));
         }
-        best.map(|(q, _)| q)
+        best.map(|member| member.qubit)
     }
 
     // Adds the rows of the last set to that of an output in it, so that of all outputs only that
-    // one is left in the set.
-    pub(crate) fn gather(&mut self, t: Qubit) -> Result<(), AllocError>
+    // one is left in the set: in the flow and by gates, while the graph stays.
+    pub(crate) fn gather_sets(&mut self, t: Qubit) -> Result<(), AllocError>
         requires ready { IsReady (state_of self.old) }
         requires frontier { IsFrontier self.old.graph.graph }
         requires last { (v : ℕ) × HasLast self.old.flow.flow v }
         requires picked { IsPicked (state_of self.old) t }
-        ensures { OnOk result (IsGathered (state_of self.old) t
+        ensures { OnOk result (IsGatheredBesideRow (state_of self.old) t
             (length self.old.graph.graph.outputs) (state_of self.new)) }
     {
         for c in 0..self.qubits() {
             if c == t || !self.corrects_last(c) {
                 continue;
             }
-            self.add_row(c, t)?;
+            self.add_set(c, t)?;
         }
         Ok(())
     }
+
+    // Gives the vertex of an output the neighbours of v that aren't outputs, in place of its own.
+    fn replace_row(&mut self, v: VertexId, t: Qubit) -> Result<(), AllocError>
+        requires formed { WellFormed self.old.graph.graph }
+        requires plain { are_plain self.old.graph.graph.outputs ≡ true }
+        requires live { Live self.old.graph.graph v }
+        requires on_wires { t < length self.old.graph.graph.outputs }
+        ensures { OnOk result (IsRowReplaced (state_of self.old) v t (state_of self.new)) }
+    {
+        let link = self.present(t);
+        let row = self.graph.neighbour_set(v).clone()?;
+        let mut change = without_ends(row, self.graph.outputs())?;
+        change.toggle_all(self.graph.neighbour_set(link))?;
+        let target = VertexSet::one(self.alloc, link)?;
+        self.graph.toggle_across(&target, &change)
+    }
+
+    // Gathers the set of a gadget at an output, whose row is then that of the gadget without its
+    // legs.
+    pub(crate) fn gather(&mut self, v: VertexId, t: Qubit) -> Result<(), AllocError>
+        requires ready { IsReady (state_of self.old) }
+        requires frontier { IsFrontier self.old.graph.graph }
+        requires last { HasLast self.old.flow.flow v }
+        requires plane { plane_of self.old.graph.graph v ≡ zx.YZ }
+        requires picked { IsPicked (state_of self.old) t }
+        ensures { OnOk result (IsGathered (state_of self.old) t
+            (length self.old.graph.graph.outputs) (state_of self.new)) }
+    {
+        self.gather_sets(t)?;
+        self.replace_row(v, t)
+    }
 }
 
-// Of an output and the best so far, the one that stands in fewer sets.
-fn fewer(best: Option<(Qubit, usize)>, other: (Qubit, usize)) -> (Qubit, usize)
-    ensures { (result ≡ other) ⊎ (best ≡ Some result) }
+// A set without the vertices of ends.
+fn without_ends(set: VertexSet, ends: &[End]) -> Result<VertexSet, AllocError>
+    ensures { IfOk result (λ left. (w : ℕ) → member w left ≡
+        (member w set && not (member w (end_vertices ends.now)))) }
 {
-    match best {
-        Some((q, count)) if count <= other.1 => (q, count),
-        _ => other,
+    let mut left = set;
+    for end in ends {
+        if !left.contains(end.vertex) {
+            continue;
+        }
+        left.toggle(end.vertex)?;
     }
+    Ok(left)
 }

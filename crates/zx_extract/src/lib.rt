@@ -4,22 +4,33 @@
 //! outputs, at most 1,024: it answers a circuit on as many qubits; the graph's sum is the circuit's
 //! map times a power of two, entry by entry, with at most one factor two for each YZ vertex; it has
 //! no more odd phases than the graph, and at most n(n-1)/2 + 6n + 2np + 3nq gates for n outputs, p
-//! other XY vertices and q YZ vertices.
+//! other XY vertices and q YZ vertices. `choose_rows` answers with a least set of rows that sum to a
+//! target, with no more members than a set that is known to. The rows of the outputs that are no
+//! inputs, over the vertices that are no outputs, are linearly independent.
 //!
 //! ```rust
 //! let circuit = extract(alloc, graph, flow)?;
+//! let set = choose_rows(alloc, &m, &target, &kept)?;
 //! ```
 #![tactic(auto)]
 
+mod choosing;
 mod crossing;
 mod extraction;
+mod few_rows;
+#[cfg(test)]
+mod few_rows_tests;
 mod frontier;
 mod gadgets;
 mod gathering;
 mod holders;
+mod laws;
 mod settling;
+mod sharing;
 #[cfg(test)]
 mod tests;
 mod vertices;
 
 pub use extraction::extract;
+pub use few_rows::choose_rows;
+pub use laws::rows_of_outputs_are_independent;

@@ -4,8 +4,8 @@ ghost use Rattle.std.specs.Prelude.{◌≡◌, ◌<◌, ◌+◌, ℕ, List, [], 
 ghost use Rattle.zx_calculus.specs.Graph.{plane_of};
 ghost use Rattle.zx_calculus.specs.Graph as zx;
 ghost use Rattle.zx_extract.specs.Internal.Frontiers.{state_of};
-ghost use Rattle.zx_extract.specs.Internal.Leading.{IsReady, IsFrontier, IsTaken};
-ghost use Rattle.zx_extract.specs.Internal.Steps.{HasLast, IsPicked, HasNoOutput, HasOneOutput, IsAdvanced, IsGadgetTaken, IsLinkedGadgetTaken, AreLegs};
+ghost use Rattle.zx_extract.specs.Internal.Leading.{State, IsReady, IsFrontier, IsTaken};
+ghost use Rattle.zx_extract.specs.Internal.Steps.{HasLast, IsPicked, IsGathered, HasNoOutput, HasOneOutput, IsAdvanced, IsGadgetTaken, IsLinkedGadgetTaken, AreLegs};
 
 use crate::frontier::Frontier;
 use open_graph::{End, Plane, VertexId};
@@ -13,17 +13,19 @@ use std::alloc::AllocError;
 use zx_gates::{Gate, Qubit};
 
 impl Frontier {
-    // The last vertex, which is in the XY plane, takes the place of the output that alone is in
-    // its set.
+    // The last vertex, which is in the XY plane, takes the place of an output in its set, where the
+    // rows of the set are gathered.
     fn advance(&mut self, v: VertexId, q: Qubit) -> Result<(), AllocError>
         requires ready { IsReady (state_of self.old) }
         requires frontier { IsFrontier self.old.graph.graph }
         requires last { HasLast self.old.flow.flow v }
         requires plane { plane_of self.old.graph.graph v ≡ zx.XY }
-        requires on_wires { q < length self.old.graph.graph.outputs }
-        requires gathered { HasOneOutput (state_of self.old) q }
-        ensures { OnOk result (IsAdvanced (state_of self.old) v q (state_of self.new)) }
+        requires picked { IsPicked (state_of self.old) q }
+        ensures { OnOk result ((s : State)
+            × IsGathered (state_of self.old) q (length self.old.graph.graph.outputs) s
+            × IsAdvanced s v q (state_of self.new)) }
     {
+        self.gather_sets(q)?;
         let here = self.present(q);
         self.graph.move_output(usize::from(q), End::plain(v));
         self.graph.remove_vertex(here);
@@ -39,7 +41,7 @@ impl Frontier {
         requires plane { plane_of self.old.graph.graph v ≡ zx.YZ }
         requires alone { HasNoOutput (state_of self.old) }
         ensures { OnOk result ((qubits : List ℕ)
-            × AreLegs self.old.graph.graph v (length self.old.graph.graph.outputs) qubits
+            × AreLegs self.old.graph.graph v qubits
             × IsGadgetTaken (state_of self.old) v qubits (state_of self.new)) }
     {
         let (_plane, phase) = self.graph.weight(v);
@@ -58,7 +60,7 @@ impl Frontier {
         requires on_wires { q < length self.old.graph.graph.outputs }
         requires gathered { HasOneOutput (state_of self.old) q }
         ensures { OnOk result ((qubits : List ℕ)
-            × AreLegs self.old.graph.graph v (length self.old.graph.graph.outputs) qubits
+            × AreLegs self.old.graph.graph v qubits
             × IsLinkedGadgetTaken (state_of self.old) v q qubits (state_of self.new)) }
     {
         let (_plane, phase) = self.graph.weight(v);
@@ -78,10 +80,13 @@ impl Frontier {
         ensures taken { OnOk result (IsTaken (state_of self.old) (state_of self.new)) }
         ensures shorter { OnOk result (length self.new.flow.flow + 1 ≡ length self.old.flow.flow) }
     {
-        self.gather(q)?;
         let (plane, _phase) = self.graph.weight(v);
         match plane {
-            Plane::YZ => self.take_linked_gadget(v, q),
+            Plane::YZ => {
+                self.gather(v, q)?;
+                self.take_legs(v)?;
+                self.take_linked_gadget(v, q)
+            }
             _ => {
                 self.advance(v, q)?;
                 self.settle(q, self.qubits())
@@ -99,7 +104,10 @@ impl Frontier {
     {
         match self.pick() {
             Some(q) => self.take_through(v, q),
-            None => self.take_gadget(v),
+            None => {
+                self.take_legs(v)?;
+                self.take_gadget(v)
+            }
         }
     }
 

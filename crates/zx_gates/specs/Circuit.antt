@@ -1,5 +1,5 @@
 -- Circuits as lists of gates, the first to act first.
-use Rattle.std.specs.Prelude.{◌≢◌, ◌≤◌, ◌<◌, ℕ, Bool, false, List}
+use Rattle.std.specs.Prelude.{◌≢◌, ◌≤◌, ◌<◌, ◌^◌, ℕ, Bool, false, List, length}
 use Rattle.std.specs.List.{All, count_by}
 use Rattle.zx_model.specs.Phase.{turn, is_odd}
 use Rattle.zx_gates.specs.declared.gate.Gate.{Gate}
@@ -34,6 +34,19 @@ IsGateOn n gate = IsOnQubits n gate × IsBelowATurn gate
 pub record IsCircuit (c : Circuit) : Type 0 where
   pub few_qubits : c.qubits ≤ most_qubits
   pub on_qubits : All (IsGateOn c.qubits) c.gates
+
+-- fewer gates than this, so that each has a number of 32 bits
+abbrev pub gate_bound : ℕ
+gate_bound = 2 ^ 32
+
+abbrev pub circuit_of : ℕ → List Gate → Circuit
+circuit_of qubits gates = record { qubits = qubits; gates = gates }
+
+-- a circuit with few enough gates, for each of which there is one of so many places beside it
+pub record HasRoom (c : Circuit) (places : ℕ) : Type 0 where
+  pub circuit : IsCircuit c
+  pub few_gates : length c.gates < gate_bound
+  pub enough : length c.gates ≤ places
 
 -- whether a gate is a phase gate of an odd phase, as T is: these are the dear gates
 abbrev pub is_odd_phase : Gate → Bool

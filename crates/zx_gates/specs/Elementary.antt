@@ -1,21 +1,39 @@
--- Circuits of the two gates that are built into OpenQASM 2.0.
-use Rattle.std.specs.Prelude.{◌≢◌, ◌≤◌, ◌<◌, ◌==◌, ◌+◌, ◌%◌, ℕ, List, if◌then◌else◌}
-use Rattle.std.specs.List.{All, sum_by}
+-- Circuits of the two gates that are built into OpenQASM 2.0, and measurements at their ends.
+use Rattle.std.specs.Prelude.{◌≢◌, ◌≤◌, ◌<◌, ◌==◌, ◌+◌, ◌%◌, ℕ, List, map, if◌then◌else◌}
+use Rattle.std.specs.List.{All, IsDistinct, sum_by}
 use Rattle.zx_model.specs.Phase.{turn, half_turn, sum_of_phases, opposite_phase, is_odd}
 use Rattle.zx_model.specs.Bits.{one_if}
 use Rattle.zx_gates.specs.Circuit.{most_qubits}
 use Rattle.zx_gates.specs.declared.elementary.Elementary.{Elementary}
 use Rattle.zx_gates.specs.declared.elementary.ElementaryGate.{ElementaryGate}
 use Rattle.zx_gates.specs.declared.elementary.ElementaryGate.TheVariants.{U, Cx}
+use Rattle.zx_gates.specs.declared.elementary.Measure.{Measure}
 
 -- the gate's qubits are below the number n and differ
 abbrev pub IsElementaryGateOn : ℕ → ElementaryGate → Type 0
 IsElementaryGateOn n (U q theta phi lambda) = q < n
 IsElementaryGateOn n (Cx control target) = (control < n) × (target < n) × (control ≢ target)
 
+-- the most bits that a circuit may have
+abbrev pub most_bits : ℕ
+most_bits = 65536
+
+-- a measurement of one of so many qubits into one of so many bits
+pub record IsMeasureOn (qubits bits : ℕ) (measure : Measure) : Type 0 where
+  pub a_qubit : measure.qubit < qubits
+  pub a_bit : measure.bit < bits
+
+-- no qubit is measured twice, and no bit is written twice
+pub record AreOnce (measures : List Measure) : Type 0 where
+  pub qubits : IsDistinct ◌==◌ (map (λ measure. measure.qubit) measures)
+  pub bits : IsDistinct ◌==◌ (map (λ measure. measure.bit) measures)
+
 pub record IsElementary (circuit : Elementary) : Type 0 where
   pub few_qubits : circuit.qubits ≤ most_qubits
   pub on_qubits : All (IsElementaryGateOn circuit.qubits) circuit.gates
+  pub few_bits : circuit.bits ≤ most_bits
+  pub measures_within : All (IsMeasureOn circuit.qubits circuit.bits) circuit.measured
+  pub measured_once : AreOnce circuit.measured
 
 -- the first phase without the second
 abbrev pub difference_of_phases : ℕ → ℕ → ℕ

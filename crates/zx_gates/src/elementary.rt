@@ -1,4 +1,4 @@
-//! Circuits of the two gates that are built into OpenQASM 2.0.
+//! Circuits of the two gates that are built into OpenQASM 2.0, and measurements at their ends.
 
 ghost use Rattle.std.specs.Prelude.{◌≡◌, ◌++◌, [], ◌∷◌, OnOk, OnErr, List};
 
@@ -72,11 +72,66 @@ impl Elements {
     }
 }
 
-/// A circuit of elementary gates.
+/// A measurement at the end of a circuit: a qubit's value goes to a bit.
+#[derive(Clone, Copy, Debug, PartialEq, Eq)]
+pub struct Measure {
+    /// The qubit that is measured.
+    pub qubit: Qubit,
+    /// The bit that its value goes to.
+    pub bit: u32,
+}
+
+/// A list of measurements, in their order in the program.
+#[derive(Drop)]
+pub struct Measures {
+    measures: Vec<Measure>,
+}
+
+impl Model for Measures {
+    ghost use Rattle.std.specs.Prelude.{List};
+    ghost use Rattle.zx_gates.specs.declared.elementary.Measure.{Measure};
+
+    ghost Value = { List Measure };
+
+    ghost view = { λ list. list.measures.items };
+}
+
+impl Measures {
+    /// The empty list.
+    pub fn new(alloc: Global) -> Measures
+        ensures { result ≡ [] }
+    {
+        Measures {
+            measures: Vec::new(alloc),
+        }
+    }
+
+    /// Adds a measurement after all others. Where memory runs out the list stays as it was.
+    pub fn push(&mut self, measure: Measure) -> Result<(), AllocError>
+        ensures ok { OnOk result (self.new ≡ self.old ++ measure ∷ []) }
+        ensures err { OnErr result (self.new ≡ self.old) }
+    {
+        self.measures.push(measure)?;
+        Ok(())
+    }
+
+    /// The measurements, in their order.
+    pub fn as_slice(&self) -> &[Measure]
+        ensures { result.now ≡ self.now }
+    {
+        &self.measures
+    }
+}
+
+/// A circuit of elementary gates, and the measurements behind them.
 #[derive(Drop)]
 pub struct Elementary {
     /// How many qubits there are, at most 1,024.
     pub qubits: u16,
     /// Its gates, on qubits below that number; the two of a `Cx` differ.
     pub gates: Elements,
+    /// How many bits there are, at most 65,536.
+    pub bits: u32,
+    /// Its measurements, of qubits and into bits below their numbers; none of these is named twice.
+    pub measured: Measures,
 }

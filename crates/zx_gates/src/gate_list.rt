@@ -1,29 +1,55 @@
 //! Circuits as lists of gates.
 
-ghost use Rattle.std.specs.Prelude.{◌≡◌, ◌<◌, ◌≤◌, ◌++◌, [], ◌∷◌, length, slice_set, IfOk, OnOk, OnErr};
-ghost use Rattle.std.specs.List.{remove};
-ghost use Rattle.zx_gates.specs.Circuit.{Circuit, IsCircuit, IsOnQubits, most_qubits};
+ghost use Rattle.std.specs.Prelude.{◌≡◌, ◌≤◌, ◌++◌, [], ◌∷◌, length, IfOk, OnOk, OnErr};
+ghost use Rattle.zx_gates.specs.Circuit.{Circuit, IsCircuit, IsOnQubits, HasRoom, most_qubits, circuit_of};
 
 use crate::gate::{Gate, Qubit};
 use std::alloc::{AllocError, Global};
 use std::marker::Model;
+use std::mem;
+
+// The most gates that a list may have, so that a link can name each of them.
+const MOST_GATES: usize = u32::MAX as usize;
+
+/// Room beside a gate for a link to another gate of its list, one for each of its qubits.
+#[derive(Clone, Copy, Debug, PartialEq, Eq)]
+pub struct Links {
+    /// The link for the first qubit.
+    pub first: u32,
+    /// The link for the second qubit.
+    pub second: u32,
+}
+
+/// What a circuit is made of, for a pass that works on all of it.
+#[derive(Drop)]
+pub struct Parts {
+    /// How many qubits there are.
+    pub qubits: Qubit,
+    /// The gates, the first to act first.
+    pub gates: Vec<Gate>,
+    /// Room for the links of each gate; what they hold is for the pass to say.
+    pub links: Vec<Links>,
+}
 
 /// A circuit: a number of qubits, at most 1,024, and the gates on them, the first to act first. The qubits
 /// of a gate are below that number and differ, no phase gate has the phase 0, and phases are below a whole turn.
+/// There is room for links beside the gates, so that a pass that wants them needs no memory.
 #[derive(Drop)]
 pub struct GateList {
     qubits: Qubit,
     gates: Vec<Gate>,
+    links: Vec<Links>,
 }
 
 impl Model for GateList {
-    ghost use Rattle.zx_gates.specs.Circuit.{Circuit, IsCircuit};
+    ghost use Rattle.std.specs.Prelude.{length};
+    ghost use Rattle.zx_gates.specs.Circuit.{Circuit, HasRoom, circuit_of};
 
     ghost Value = { Circuit };
 
-    ghost view = { λ list. record { qubits = list.qubits; gates = list.gates.items } };
+    ghost view = { λ list. circuit_of list.qubits list.gates.items };
 
-    ghost invariant = { λ list. IsCircuit (record { qubits = list.qubits; gates = list.gates.items }) };
+    ghost invariant = { λ list. HasRoom (circuit_of list.qubits list.gates.items) (length list.links.items) };
 }
 
 impl GateList {
@@ -35,6 +61,7 @@ impl GateList {
         GateList {
             qubits,
             gates: Vec::new(alloc),
+            links: Vec::new(alloc),
         }
     }
 
@@ -45,6 +72,7 @@ impl GateList {
         Ok(GateList {
             qubits: self.qubits,
             gates: self.gates.clone()?,
+            links: self.links.clone()?,
         })
     }
 
@@ -64,31 +92,50 @@ impl GateList {
         &self.gates
     }
 
-    /// Adds a gate after all others. Where memory runs out the list stays as it was.
+    /// Adds a gate after all others. Where memory runs out the list stays as it was; more than 2^32 - 1 gates
+    /// don't fit into memory either.
     pub fn push(&mut self, gate: Gate) -> Result<(), AllocError>
         requires { IsOnQubits self.old.qubits gate }
         ensures qubits { self.new.qubits ≡ self.old.qubits }
         ensures ok { OnOk result (self.new.gates ≡ self.old.gates ++ gate ∷ []) }
         ensures err { OnErr result (self.new ≡ self.old) }
     {
+        if self.gates.len() >= MOST_GATES {
+            return Err(AllocError);
+        }
+        if self.links.len() <= self.gates.len() {
+            self.links.push(Links {
+                first: 0,
+                second: 0,
+            })?;
+        }
         self.gates.push(gate)?;
         Ok(())
     }
 
-    /// Replaces the gate at a place.
-    pub fn set(&mut self, i: usize, gate: Gate)
-        requires in_range { i < length self.old.gates }
-        requires on_qubits { IsOnQubits self.old.qubits gate }
-        ensures { self.new ≡ record self.old { gates = slice_set self.old.gates i gate } }
+    /// Takes the circuit apart, and leaves one without qubits behind.
+    pub fn take(&mut self) -> Parts
+        ensures circuit { circuit_of result.qubits result.gates.items ≡ self.old }
+        ensures room { HasRoom self.old (length result.links.items) }
     {
-        self.gates[i] = gate;
+        let alloc = *self.gates.allocator();
+        let list = mem::replace(self, GateList::new(alloc, 0));
+        Parts {
+            qubits: list.qubits,
+            gates: list.gates,
+            links: list.links,
+        }
     }
 
-    /// Takes out the gate at a place.
-    pub fn remove(&mut self, i: usize)
-        requires { i < length self.old.gates }
-        ensures { self.new ≡ record self.old { gates = remove self.old.gates i } }
+    /// Puts a circuit together.
+    pub fn from_parts(parts: Parts) -> GateList
+        requires { HasRoom (circuit_of parts.qubits parts.gates.items) (length parts.links.items) }
+        ensures { result ≡ circuit_of parts.qubits parts.gates.items }
     {
-        self.gates.remove(i);
+        GateList {
+            qubits: parts.qubits,
+            gates: parts.gates,
+            links: parts.links,
+        }
     }
 }

@@ -24,9 +24,9 @@ mod tally;
 mod tests;
 
 pub use counting::counts;
-pub use elementary::{Elementary, ElementaryGate, Elements};
+pub use elementary::{Elementary, ElementaryGate, Elements, Measure, Measures};
 pub use gate::{Gate, Qubit};
-pub use gate_list::GateList;
+pub use gate_list::{GateList, Links, Parts};
 pub use laws::{lowering_keeps_map_and_odd_phases, worked_maps};
 pub use lowering::lower;
 pub use tally::Counts;

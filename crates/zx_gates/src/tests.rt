@@ -1,5 +1,7 @@
 //! That calls succeed with ample memory, and worked lowerings and counts.
-use crate::{Counts, Elementary, ElementaryGate, Elements, Gate, GateList, counts, lower};
+use crate::{
+    Counts, Elementary, ElementaryGate, Elements, Gate, GateList, Measure, Measures, counts, lower,
+};
 use std::alloc::Global;
 use std::test::Fail;
 use zx_model::Sixteenth;
@@ -15,6 +17,29 @@ fn gates_are_added_in_order(rt: HostRuntime) -> Result<(), Fail> {
     })?;
     assert_eq!(rt; list.gates().len(), 3);
     assert_eq!(rt; list.gates()[1], Gate::Phase(1, Sixteenth::new(6)));
+    Ok(())
+}
+
+#[test]
+fn a_circuit_is_taken_apart_and_put_together(rt: HostRuntime) -> Result<(), Fail> {
+    let mut list = GateList::new(rt.alloc(), 2);
+    list.push(Gate::H(0))?;
+    list.push(Gate::Cz(0, 1))?;
+    let parts = list.take();
+    assert_eq!(rt; parts.links.len(), 2);
+    let whole = GateList::from_parts(parts);
+    assert_eq!(rt; whole.qubits(), 2);
+    assert_eq!(rt; whole.gates(), [Gate::H(0), Gate::Cz(0, 1)].as_slice());
+    Ok(())
+}
+
+#[test]
+fn measurements_are_added_in_order(rt: HostRuntime) -> Result<(), Fail> {
+    let mut measures = Measures::new(rt.alloc());
+    measures.push(Measure { qubit: 1, bit: 0 })?;
+    measures.push(Measure { qubit: 0, bit: 7 })?;
+    assert_eq!(rt; measures.as_slice().len(), 2);
+    assert_eq!(rt; measures.as_slice()[1], Measure { qubit: 0, bit: 7 });
     Ok(())
 }
 
@@ -39,7 +64,13 @@ fn lowered_unitary(alloc: Global, angles: [u8; 3]) -> Result<Vec<u8>, Fail> {
         phi: Sixteenth::new(phi % turn),
         lambda: Sixteenth::new(lambda % turn),
     })?;
-    let list = lower(alloc, &Elementary { qubits: 1, gates })?;
+    let circuit = Elementary {
+        qubits: 1,
+        gates,
+        bits: 0,
+        measured: Measures::new(alloc),
+    };
+    let list = lower(alloc, &circuit)?;
     let mut bytes = Vec::new(alloc);
     for gate in list.gates() {
         bytes.push(match *gate {
@@ -89,7 +120,13 @@ fn cx_stays(rt: HostRuntime) -> Result<(), Fail> {
         target: 0,
     })?;
     assert_eq!(rt; gates.as_slice().len(), 1);
-    let list = lower(rt.alloc(), &Elementary { qubits: 2, gates })?;
+    let circuit = Elementary {
+        qubits: 2,
+        gates,
+        bits: 0,
+        measured: Measures::new(rt.alloc()),
+    };
+    let list = lower(rt.alloc(), &circuit)?;
     assert_eq!(rt;
         list.gates(),
         [Gate::Cx {

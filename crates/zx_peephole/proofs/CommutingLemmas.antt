@@ -263,7 +263,7 @@ turned_on q (Phase p k) turned = (and_parts (eqb p q) (eqb k half_turn) turned).
 turned_on q (Not p) turned = turned
 turned_on q other turned = absurd (let h : false ≡ true = turned in cc)
 
-apart_commutes : (g x : Gate) → are_apart g x ≡ true → commutes g x ≡ true
+pub apart_commutes : (g x : Gate) → are_apart g x ≡ true → commutes g x ≡ true
 apart_commutes g x apart =
     or_left (passes g x) (passes x g) (or_left (are_apart g x || (is_diagonal g && (is_diagonal x || shares_control g x))) (negate_freely g x)
     (or_left (are_apart g x) (is_diagonal g && (is_diagonal x || shares_control g x)) apart))

@@ -1,11 +1,11 @@
 -- What the gates that stop a gate on its way to the front say of pairs and triples that it ends.
-use Rattle.std.proofs.Common.{◌≡◌, inl, inr, ℕ, true, false, not, List, [], ◌∷◌, ◌++◌, append_assoc, length, get_or}
-use Rattle.std.proofs.Common.{take, refl, sym, ap, ap₂, ◌∙◌, arith, Option, None, Some}
-use Rattle.std.specs.List.{list_all}
+use Rattle.std.proofs.Common.{◌≡◌, inl, inr, ℕ, true, false, not, List, [], ◌∷◌, ◌++◌, append_assoc, length}
+use Rattle.std.proofs.Common.{refl, sym, ap, ap₂, ◌∙◌, arith, Option, None, Some}
 use Rattle.std.specs.Prelude.{IfNone}
+use Rattle.std.specs.List.{list_all}
 use Rattle.std.proofs.lemmas.Bool.{eqb-true, eq-eqb, or_left, or_right, or_from, or_parts, cases_Bool, not-true}
 use Rattle.std.proofs.lemmas.Bool.{not-false, not_from_true, not_from_false, false_from_ne_true, both_ways}
-use Rattle.std.proofs.lemmas.List.{length-append, get_or_at, get_or-take, take_at}
+use Rattle.std.proofs.lemmas.List.{length-append}
 use Rattle.zx_gates.specs.declared.gate.Gate.{Gate}
 use Rattle.zx_gates.specs.declared.gate.Gate.TheVariants.{H}
 use Rattle.zx_peephole.specs.Commuting.{is_on, commutes}
@@ -173,32 +173,10 @@ turns_hadamard (H q) x turned = (q, refl, turned)
 turns_hadamard g x turned = absurd (let h : false ≡ true = turned in cc)
 
 -- ---- as the search goes
-abbrev moved : (g : Gate) (xs ys : List Gate) → xs ≡ ys → (i : ℕ) → IsLastStop g xs i → IsLastStop g ys i
-moved g xs ys e i s = record {
-  before = s.before;
-  stop = s.stop;
-  between = s.between;
-  cut = sym e ∙ s.cut;
-  at = s.at;
-  stopped = s.stopped;
-  free = s.free;
-}
-
-pub if_none : {X : Type 0} (o : Option X) (P : Type 0) → P → IfNone o P
-if_none None P p = p
-if_none (Some x) P p = tt
-
--- x is the gate that stops g
-module _ (front : List Gate) (g : Gate) (i : ℕ) (s : IsLastStop g front i) (x : Gate)
-    (there : x ≡ get_or front i x) where
-  same : x ≡ s.stop
-  same = there ∙ ap (λ xs. get_or xs i x) s.cut ∙ get_or_at s.before s.stop s.between x i s.at
-
-  before : take i front ≡ s.before
-  before = ap (take i) s.cut ∙ take_at s.before (s.stop ∷ s.between) i s.at
-
-  pub stop_is_pair : is_pair x g ≡ true → EndsPair front g i
-  stop_is_pair pair = record {
+-- what stops g
+module _ (front : List Gate) (g : Gate) (i : ℕ) (s : IsLastStop g front i) where
+  pub stop_is_pair : is_pair s.stop g ≡ true → EndsPair front g i
+  stop_is_pair merge = record {
     before = s.before;
     first = s.stop;
     between = s.between;
@@ -208,31 +186,12 @@ module _ (front : List Gate) (g : Gate) (i : ℕ) (s : IsLastStop g front i) (x 
     commute = all_weaker (λ y. not (stops g y)) (commutes s.stop)
         (λ y free. alike s.stop g merge y ∙ commutes_comm g y ∙ free_commutes g y free) s.between s.free;
   }
-    where
-      merge : is_pair s.stop g ≡ true
-      merge = ap (λ y. is_pair y g) (sym same) ∙ pair
 
-  pub stop_is_straight : is_pair x g ≡ false → turns g x ≡ false → Extends front g
-  stop_is_straight apart straight =
-      stop_extends front g i s (ap (λ y. is_pair y g) (sym same) ∙ apart) (ap (turns g) (sym same) ∙ straight)
-
-  pub none_stops_before : is_pair x g ≡ false → is_free g (take i front) ≡ true → Extends front g
-  none_stops_before apart free =
-      free_stop_extends front g i s (ap (λ y. is_pair y g) (sym same) ∙ apart) (ap (is_free g) (sym before) ∙ free)
-
-  -- y is the gate before that stops g
-  module _ (k : ℕ) (r : IsLastStop g (take i front) k) (y : Gate) (at : y ≡ get_or front k y) where
-    first_is : y ≡ r.stop
-    first_is =
-        at
-        ∙ sym (get_or-take i front k y
-        (omega (arith, r.at, s.at, ap length (sym before ∙ r.cut), length-append r.before (r.stop ∷ r.between))))
-        ∙ ap (λ xs. get_or xs k y) r.cut
-        ∙ get_or_at r.before r.stop r.between y k r.at
-
-    pub stop_is_triple : turns g x ≡ true → is_pair y g ≡ true → EndsTriple front g k i
+  -- and what stops it before that
+  module _ (k : ℕ) (r : IsLastStop g s.before k) where
+    pub stop_is_triple : turns g s.stop ≡ true → is_pair r.stop g ≡ true → EndsTriple front g k i
     stop_is_triple turned pair =
-        let h = turns_hadamard g x turned in
+        let h = turns_hadamard g s.stop turned in
         record {
           qubit = h.0;
           before = r.before;
@@ -241,25 +200,18 @@ module _ (front : List Gate) (g : Gate) (i : ℕ) (s : IsLastStop g front i) (x 
           right = s.between;
           is = h.1;
           cut = s.cut
-              ∙ ap (λ xs. xs ++ s.stop ∷ s.between) (sym before ∙ r.cut
+              ∙ ap (λ xs. xs ++ s.stop ∷ s.between) (r.cut
               ∙ ap (λ z. r.before ++ z ∷ r.between)
-              (pair_with_hadamard h.0 r.stop (ap₂ is_pair (sym first_is) (sym h.1) ∙ pair)))
+              (pair_with_hadamard h.0 r.stop (ap (is_pair r.stop) (sym h.1) ∙ pair)))
               ∙ simp append_assoc;
           at_first = r.at;
-          at_middle = omega (
-            arith,
-            r.at,
-            s.at,
-            ap length (sym before ∙ r.cut),
-            length-append r.before
-                (r.stop ∷ r.between),
-          );
-          turned = ap (is_turned h.0) (sym same) ∙ h.2;
+          at_middle = omega (arith, r.at, s.at, ap length r.cut, length-append r.before (r.stop ∷ r.between));
+          turned = h.2;
           left_off = free_off h.0 r.between (ap (λ z. is_free z r.between) (sym h.1) ∙ r.free);
           right_off = free_off h.0 s.between (ap (λ z. is_free z s.between) (sym h.1) ∙ s.free);
         }
 
-    pub first_is_other : is_pair x g ≡ false → is_pair y g ≡ false → Extends front g
-    first_is_other apart other =
-        stops_extend front g i k s (ap (λ z. is_pair z g) (sym same) ∙ apart)
-        (moved g (take i front) s.before before k r) (ap (λ z. is_pair z g) (sym first_is) ∙ other)
+-- a fact whatever the answer
+pub if_none : {X : Type 0} (o : Option X) (P : Type 0) → P → IfNone o P
+if_none None P p = p
+if_none (Some x) P p = tt

@@ -5,3 +5,9 @@ pub mod Cuts
 pub mod TidyLemmas
 pub mod FindingLemmas
 pub mod ChangeLemmas
+pub mod LeftLemmas
+pub mod ChainLemmas
+pub mod WalkLemmas
+pub mod SearchLemmas
+pub mod SoundLemmas
+pub mod AdvanceLemmas

@@ -1,98 +1,136 @@
 //! One gate more is read: it is kept, or changed with gates that are kept.
 
-ghost use Rattle.std.specs.Prelude.{◌≡◌, ◌++◌, [], ◌∷◌, ◌<◌, ◌≤◌, length, take};
+ghost use Rattle.std.specs.Prelude.{◌≡◌, ◌++◌, ◌+◌, ◌<◌, [], ◌∷◌, slice_index_or, IfSome, IfNone};
+ghost use Rattle.zx_gates.specs.Circuit.{most_qubits};
 ghost use Rattle.zx_peephole.specs.Tidy.{IsTidy};
-ghost use Rattle.zx_peephole.specs.Internal.Changes.{EndsPair, EndsTriple, IsClosed, IsReading, next_of, IsAdvance};
+ghost use Rattle.zx_peephole.specs.Internal.Chains.{IsOn, IsSound, IsKept, IsReading, IsChainOf, HasPlaces, kept, next_of, IsRemoved, IsUnlinked, IsUnlinkedFromAll, IsLater, IsRelinked};
+ghost use Rattle.zx_peephole.specs.Internal.Changes.{IsPairAt, IsTripleAt, IsAdvance};
 
+use crate::chains::{Chains, first_qubit, nothing, second_qubit};
 use crate::pairs::{conjugated, merged};
-use zx_gates::GateList;
-
-// How far a list is tidied: so many gates at its front are kept, and those from the next place on aren't read yet.
-#[derive(Clone, Copy, Drop)]
-pub(crate) struct Progress {
-    pub(crate) kept: usize,
-    pub(crate) next: usize,
-}
+use zx_gates::{Links, Qubit};
 
 // The next gate is kept.
-pub(crate) fn keep(g: &mut GateList, at: Progress) -> Progress
-    requires reading { IsReading g.old at }
-    requires tidy { IsTidy (take at.kept g.old.gates)
-        → IsTidy (take at.kept g.old.gates ++ next_of g.old at ∷ []) }
-    ensures { IsAdvance g.old at g.new result }
+pub(crate) fn keep(work: &mut Chains)
+    requires reading { IsReading work.old }
+    requires tidy { IsTidy (kept work.old) → IsTidy (kept work.old ++ next_of work.old ∷ []) }
+    ensures sound { IsSound work.new }
+    ensures advance { IsAdvance work.old work.new }
 {
-    let gate = g.gates()[at.next];
-    g.set(at.kept, gate);
-    Progress {
-        kept: at.kept + 1,
-        next: at.next + 1,
-    }
+    let gate = &work.gates[work.next];
+    let first = usize::from(first_qubit(gate));
+    let second = usize::from(second_qubit(gate));
+    work.links[work.next] = Links {
+        first: work.last[first],
+        second: work.last[second],
+    };
+    work.next += 1;
+    work.last[first] = work.next as u32;
+    work.last[second] = work.next as u32;
 }
 
 // The next gate is merged with one that is kept. A phase gate that they become is to be read next.
-pub(crate) fn merge_pair(g: &mut GateList, first: usize, at: Progress) -> Progress
-    requires reading { IsReading g.old at }
-    requires place { first < at.kept }
-    requires pair { EndsPair (take at.kept g.old.gates) (next_of g.old at) first }
-    ensures { IsAdvance g.old at g.new result }
+pub(crate) fn merge_pair(work: &mut Chains, first: usize)
+    requires reading { IsReading work.old }
+    requires pair { IsPairAt work.old first }
+    ensures sound { IsSound work.new }
+    ensures advance { IsAdvance work.old work.new }
 {
-    let gates = g.gates();
-    let one = merged(&gates[first], &gates[at.next]);
-    close(g, first, at.kept);
-    let kept = at.kept - 1;
+    let one = merged(&work.gates[first], &work.gates[work.next]);
+    remove(work, first);
     match one {
-        Some(gate) => {
-            g.set(at.next, gate);
-            Progress {
-                kept,
-                next: at.next,
-            }
+        Some(gate) => work.gates[work.next] = gate,
+        None => {
+            work.gates[work.next] = nothing();
+            work.next += 1;
         }
-        None => Progress {
-            kept,
-            next: at.next + 1,
-        },
     }
 }
 
 // The next gate, an H, goes with another H that is kept. The gate between them, turned over, is to be read next.
-pub(crate) fn turn_over(g: &mut GateList, first: usize, middle: usize, at: Progress) -> Progress
-    requires reading { IsReading g.old at }
-    requires first { first < middle }
-    requires middle { middle < at.kept }
-    requires triple { EndsTriple (take at.kept g.old.gates) (next_of g.old at) first middle }
-    ensures { IsAdvance g.old at g.new result }
+pub(crate) fn turn_over(work: &mut Chains, first: usize, middle: usize)
+    requires reading { IsReading work.old }
+    requires triple { IsTripleAt work.old first middle }
+    ensures sound { IsSound work.new }
+    ensures advance { IsAdvance work.old work.new }
 {
-    let gate = conjugated(&g.gates()[middle]);
-    close(g, middle, at.kept);
-    close(g, first, at.kept - 1);
-    g.set(at.next, gate);
-    Progress {
-        kept: at.kept - 2,
-        next: at.next,
+    let gate = conjugated(&work.gates[middle]);
+    remove(work, middle);
+    remove(work, first);
+    work.gates[work.next] = gate;
+}
+
+// The gate at a place is taken out of its chains, and leaves nothing there.
+fn remove(work: &mut Chains, place: usize)
+    requires sound { IsSound work.old }
+    requires kept { IsKept work.old place }
+    ensures sound { IsSound work.new }
+    ensures removed { IsRemoved work.old work.new place }
+{
+    unlink_all(work, place);
+    work.gates[place] = nothing();
+}
+
+// The chains of its qubits leave the gate at a place out.
+fn unlink_all(work: &mut Chains, place: usize)
+    requires sound { IsSound work.old }
+    requires kept { IsKept work.old place }
+    ensures { IsUnlinkedFromAll work.old work.new place }
+{
+    let first = first_qubit(&work.gates[place]);
+    let second = second_qubit(&work.gates[place]);
+    unlink(work, place, first);
+    if second != first {
+        unlink(work, place, second);
     }
 }
 
-// Only so many gates at the front stay.
-pub(crate) fn cut_off(g: &mut GateList, kept: usize)
-    ensures qubits { g.new.qubits ≡ g.old.qubits }
-    ensures gates { g.new.gates ≡ take kept g.old.gates }
+// The chain of a qubit leaves the gate at a place out.
+fn unlink(work: &mut Chains, place: usize, qubit: Qubit)
+    requires places { HasPlaces work.old }
+    requires qubit { qubit < most_qubits }
+    requires chain { IsChainOf work.old qubit }
+    requires before { place < work.old.next }
+    requires on { IsOn work.old.gates.items qubit place }
+    ensures { IsUnlinked work.old work.new place qubit }
 {
-    while g.gates().len() > kept {
-        let last = g.gates().len() - 1;
-        g.remove(last);
+    let link = work.link(place, qubit) as u32;
+    match later(work, place, qubit) {
+        Some(behind) => set_link(work, behind, qubit, link),
+        None => work.last[usize::from(qubit)] = link,
     }
 }
 
-// Moves each gate between a place and the number that are kept one place to the front, over the gate at the place.
-fn close(g: &mut GateList, place: usize, kept: usize)
-    requires place { place < kept }
-    requires kept { kept ≤ length g.old.gates }
-    ensures qubits { g.new.qubits ≡ g.old.qubits }
-    ensures closed { IsClosed g.old.gates g.new.gates place kept }
+// The place of the gate whose link leads to the gate at a place, if there is one.
+fn later(work: &Chains, place: usize, qubit: Qubit) -> Option<usize>
+    requires places { HasPlaces work.now }
+    requires qubit { qubit < most_qubits }
+    requires chain { IsChainOf work.now qubit }
+    requires before { place < work.now.next }
+    requires on { IsOn work.now.gates.items qubit place }
+    ensures found { IfSome result (IsLater work.now place qubit) }
+    ensures none { IfNone result (slice_index_or work.now.last qubit 0 ≡ place + 1) }
 {
-    for i in place + 1..kept {
-        let gate = g.gates()[i];
-        g.set(i - 1, gate);
+    let mut link = work.last[usize::from(qubit)] as usize;
+    let mut found = None;
+    while link != place + 1 {
+        let gate = link - 1;
+        found = Some(gate);
+        link = work.link(gate, qubit);
+    }
+    found
+}
+
+// The link of the gate at a place for one of its qubits is changed.
+fn set_link(work: &mut Chains, place: usize, qubit: Qubit, link: u32)
+    requires places { HasPlaces work.old }
+    requires before { place < work.old.next }
+    requires on { IsOn work.old.gates.items qubit place }
+    ensures { IsRelinked work.old work.new place qubit link }
+{
+    if first_qubit(&work.gates[place]) == qubit {
+        work.links[place].first = link;
+    } else {
+        work.links[place].second = link;
     }
 }

@@ -9,6 +9,7 @@
 //! ```
 #![tactic(auto)]
 
+mod chains;
 mod changing;
 mod commuting;
 mod finding;

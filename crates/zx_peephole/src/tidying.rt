@@ -7,17 +7,20 @@ ghost use Rattle.zx_gates.specs.Counting.{is_two_qubit};
 ghost use Rattle.zx_gates.specs.Maps.{amp};
 ghost use Rattle.zx_peephole.specs.Tidy.{IsTidy};
 ghost use Rattle.zx_peephole.specs.Doubling.{IsDoubled};
-ghost use Rattle.zx_peephole.specs.Internal.Changes.{IsChange, AreBelow, IsReading, next_of, IsAdvance};
+ghost use Rattle.zx_gates.specs.Circuit.{Circuit, HasRoom, circuit_of};
+ghost use Rattle.zx_peephole.specs.Internal.Chains.{IsSound, IsReading, is_left, kept, all_left};
+ghost use Rattle.zx_peephole.specs.Internal.Changes.{IsAdvance};
 
-use crate::changing::{Progress, cut_off, keep, merge_pair, turn_over};
+use crate::chains::{Chains, MOST_QUBITS, is_left};
+use crate::changing::{keep, merge_pair, turn_over};
 use crate::finding::{Change, find};
-use zx_gates::GateList;
+use zx_gates::{GateList, Parts};
 
 /// Tidies a circuit in place, without memory: gates of which one passes all gates up to the other and that are
 /// nothing or one gate together are merged, and so are half turns and NOT between two H, until none are left.
 ///
 /// A merged phase gate stands at the later gate's place. The time is that of looking, for each gate, at the kept ones
-/// before it that it commutes with.
+/// before it that it commutes with and shares a qubit with.
 pub fn tidy(g: &mut GateList)
     ensures tidy { IsTidy g.new.gates }
     ensures qubits { g.new.qubits ≡ g.old.qubits }
@@ -31,33 +34,56 @@ pub fn tidy(g: &mut GateList)
     ensures odd { gate_odd_phases g.new.gates ≤ gate_odd_phases g.old.gates }
     ensures two_qubit { count_by is_two_qubit g.new.gates ≤ count_by is_two_qubit g.old.gates }
 {
-    let mut progress = Progress { kept: 0, next: 0 };
-    while progress.next < g.gates().len() {
-        progress = settle(g, progress);
+    let mut work = begin(g.take());
+    while work.next < work.gates.len() {
+        settle(&mut work);
     }
-    cut_off(g, progress.kept);
+    *g = GateList::from_parts(end(work));
+}
+
+// No gate is read yet.
+fn begin(parts: Parts) -> Chains
+    requires { HasRoom (circuit_of parts.qubits parts.gates.items) (length parts.links.items) }
+    ensures sound { IsSound result }
+    ensures next { result.next ≡ 0 }
+    ensures qubits { result.qubits ≡ parts.qubits }
+    ensures gates { result.gates.items ≡ parts.gates.items }
+{
+    Chains {
+        qubits: parts.qubits,
+        gates: parts.gates,
+        links: parts.links,
+        last: [0; MOST_QUBITS],
+        next: 0,
+    }
+}
+
+// The gates that are left move to the front.
+fn end(work: Chains) -> Parts
+    requires sound { IsSound work }
+    requires all { length work.gates.items ≤ work.next }
+    ensures room { HasRoom (circuit_of result.qubits result.gates.items) (length result.links.items) }
+    ensures qubits { result.qubits ≡ work.qubits }
+    ensures gates { result.gates.items ≡ kept work }
+{
+    let mut gates = work.gates;
+    gates.retain(|gate| is_left(gate));
+    Parts {
+        qubits: work.qubits,
+        gates,
+        links: work.links,
+    }
 }
 
 // Reads the next gate.
-fn settle(g: &mut GateList, at: Progress) -> Progress
-    requires { IsReading g.old at }
-    ensures { IsAdvance g.old at g.new result }
+fn settle(work: &mut Chains)
+    requires { IsReading work.old }
+    ensures sound { IsSound work.new }
+    ensures advance { IsAdvance work.old work.new }
 {
-    match find_next(g, at) {
-        Some(Change::Pair(first)) => merge_pair(g, first, at),
-        Some(Change::Triple(first, middle)) => turn_over(g, first, middle, at),
-        None => keep(g, at),
+    match find(work) {
+        Some(Change::Pair(first)) => merge_pair(work, first),
+        Some(Change::Triple(first, middle)) => turn_over(work, first, middle),
+        None => keep(work),
     }
-}
-
-// What the next gate makes with those that are kept.
-fn find_next(g: &GateList, at: Progress) -> Option<Change>
-    requires { IsReading g.now at }
-    ensures found { IfSome result (IsChange (take at.kept g.now.gates) (next_of g.now at)) }
-    ensures places { IfSome result (AreBelow at.kept) }
-    ensures none { IfNone result (IsTidy (take at.kept g.now.gates)
-        → IsTidy (take at.kept g.now.gates ++ next_of g.now at ∷ [])) }
-{
-    let gates = g.gates();
-    find(&gates[..at.kept], &gates[at.next])
 }

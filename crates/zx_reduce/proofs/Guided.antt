@@ -4,6 +4,7 @@ use Rattle.std.specs.BTreeSet.{contains, Updates, IsLowerBound}
 use Rattle.zx_model.specs.Bits.{member}
 use Rattle.zx_calculus.specs.Graph.{XY, Graph, plane_of, neighbours, end_vertices, is_interior, WellFormed}
 use Rattle.zx_calculus.specs.Moves.{IsGadgetOf, IsStuck}
+use Rattle.zx_calculus.specs.Splits.{new_vertex}
 use Rattle.zx_calculus.specs.Steps.{Step, IsStep, LocalComplement, Delete, Pivot, SplitInput, SplitOutput, DropLone, FuseInto, FuseTwin}
 use Rattle.zx_calculus.proofs.Booleans.{or-true, or-false}
 use Rattle.zx_calculus.proofs.Ids.{by_test, by_equal, member-append}
@@ -11,7 +12,6 @@ use Rattle.zx_calculus.proofs.Edits.{boundary_XY}
 use Rattle.zx_calculus.proofs.Results.{interior_true}
 use Rattle.zx_calculus.proofs.Splits.{member-move_end-new}
 use Rattle.zx_calculus.proofs.Steps.{step_kept}
-use Rattle.gflow_laws.proofs.Splits.{new_vertex-split}
 use Rattle.move_laws.specs.Candidates.{MoveKind, Deletion, QuarterGadget, InXZ, QuarterSpider, InnerPivot, BoundaryPivot, GadgetPair, LoneGadget, SingleGadget, Twins, IsPlaceOf, is_mutual, Covers, touched_by, with_touched}
 use Rattle.move_laws.proofs.Covering.{exchanged, kept_by_step, lives, none_left}
 use Rattle.move_laws.proofs.Touching.{step_touches}
@@ -56,18 +56,18 @@ abbrev IsListedIn : Graph → ℕ → (Kind → ℕ → Bool) → Type 0
 IsListedIn g u set = (k : Kind) (v : ℕ) → IsPlaceOf g (place_kind k) u v → set k u ≡ true
 
 covered_where : (g : Graph) (s : Step) (h : Graph) (before after : Kind → ℕ → Bool) → WellFormed g → IsStep g s h → ((k : Kind) → Covers g (place_kind k) (before k)) →
-    ((k : Kind) (w p : ℕ) → IsPlaceOf h (place_kind k) w p → member w (touched_by g s h) ≡ false → before k w ≡ true → after k w ≡ true) →
-    ((w : ℕ) → member w (touched_by g s h) ≡ true → IsListedIn h w after) → (k : Kind) → Covers h (place_kind k) (after k)
+    ((k : Kind) (w p : ℕ) → IsPlaceOf h (place_kind k) w p → member w (touched_by g s) ≡ false → before k w ≡ true → after k w ≡ true) →
+    ((w : ℕ) → member w (touched_by g s) ≡ true → IsListedIn h w after) → (k : Kind) → Covers h (place_kind k) (after k)
 covered_where g s h before after formed step has keeps listed k u v place =
     let back = exchanged h (place_kind k) u v in
-    one_of_four (before k u) (member u (touched_by g s h)) (before k v) (member v (touched_by g s h))
+    one_of_four (before k u) (member u (touched_by g s)) (before k v) (member v (touched_by g s))
     (is_mutual (place_kind k)) (after k u) (after k v)
     (kept_by_step g s h (place_kind k) (before k) formed step (has k) u v place)
     (carried u v place) (λ t. listed u t k v place)
     (λ m. carried v u (back m place)) (λ m t. listed v t k u (back m place))
   where
     carried : (w p : ℕ) → IsPlaceOf h (place_kind k) w p → before k w ≡ true → after k w ≡ true
-    carried w p at there = by_test (member w (touched_by g s h)) (λ t. listed w t k p at) (λ f. keeps k w p at f there)
+    carried w p at there = by_test (member w (touched_by g s)) (λ t. listed w t k p at) (λ f. keeps k w p at f there)
 
 -- the vertices that a step touches are near those that it is about
 both_near : (a b c d : Bool) → (a || (b || (c || d))) ≡ true → ((a || c) || (b || d)) ≡ true
@@ -103,23 +103,23 @@ split_listed g h b new set formed out listed w there =
     (λ n ne. listed w (sym (ap (λ t. t || member w (near g b)) n) ∙ there))
 
 near_listed : (g : Graph) (s : Step) (h : Graph) (set : Kind → ℕ → Bool) → WellFormed h → IsStep g s h →
-    ((w : ℕ) → member w (near_step g s) ≡ true → IsListedIn h w set) → (w : ℕ) → member w (touched_by g s h) ≡ true → IsListedIn h w set
+    ((w : ℕ) → member w (near_step g s) ≡ true → IsListedIn h w set) → (w : ℕ) → member w (touched_by g s) ≡ true → IsListedIn h w set
 near_listed g (LocalComplement u) h set formed step listed w there = listed w there
 near_listed g (Delete u) h set formed step listed w there = listed w there
 near_listed g (Pivot u v) h set formed step listed w there = listed w (pivot_near w u v (neighbours g u) (neighbours g v) there)
 near_listed g (SplitInput b) h set formed step listed w there =
-    split_listed g h b step.new set formed
-    (ap (λ t. not (t || member step.new (end_vertices h.outputs)))
-    (ap (λ es. member step.new (end_vertices es)) step.inputs ∙ member-move_end-new b step.new g.inputs
-    ∙ ap (λ t. t || member step.new (end_vertices g.inputs)) step.has_input))
-    listed w (subst (λ n. member w (n ∷ near g b) ≡ true) (new_vertex-split g step.new h step.fresh step.vertices) there)
+    split_listed g h b (new_vertex g) set formed
+    (ap (λ t. not (t || member (new_vertex g) (end_vertices h.outputs)))
+    (ap (λ es. member (new_vertex g) (end_vertices es)) step.inputs ∙ member-move_end-new b (new_vertex g) g.inputs
+    ∙ ap (λ t. t || member (new_vertex g) (end_vertices g.inputs)) step.has_input))
+    listed w there
 near_listed g (SplitOutput b) h set formed step listed w there =
-    split_listed g h b step.new set formed
-    (ap (λ t. not (member step.new (end_vertices h.inputs) || t))
-    (ap (λ es. member step.new (end_vertices es)) step.outputs ∙ member-move_end-new b step.new g.outputs
-    ∙ ap (λ t. t || member step.new (end_vertices g.outputs)) step.has_output)
-    ∙ ap not (or-true (member step.new (end_vertices h.inputs))))
-    listed w (subst (λ n. member w (n ∷ near g b) ≡ true) (new_vertex-split g step.new h step.fresh step.vertices) there)
+    split_listed g h b (new_vertex g) set formed
+    (ap (λ t. not (member (new_vertex g) (end_vertices h.inputs) || t))
+    (ap (λ es. member (new_vertex g) (end_vertices es)) step.outputs ∙ member-move_end-new b (new_vertex g) g.outputs
+    ∙ ap (λ t. t || member (new_vertex g) (end_vertices g.outputs)) step.has_output)
+    ∙ ap not (or-true (member (new_vertex g) (end_vertices h.inputs))))
+    listed w there
 near_listed g (DropLone u) h set formed step listed w there = listed w (lone_near w u (neighbours g u) there)
 near_listed g (FuseInto u) h set formed step listed w there = listed w there
 near_listed g (FuseTwin u v) h set formed step listed w there = listed w (twin_near w u v (neighbours g u) (neighbours g v) there)
@@ -137,7 +137,7 @@ module _ (touched : List ℕ) (g : Graph) (s : Step) (h : Graph) (c : Candidates
   but_near k = with_touched (touched ++ near_step g s) (is_candidate h c k)
 
   -- a vertex that isn't touched has as many neighbours as before
-  still_but : (k : Kind) (w p : ℕ) → IsPlaceOf h (place_kind k) w p → member w (touched_by g s h) ≡ false
+  still_but : (k : Kind) (w p : ℕ) → IsPlaceOf h (place_kind k) w p → member w (touched_by g s) ≡ false
       → with_touched touched (is_candidate g c k) w ≡ true → but_near k w ≡ true
   still_but k w p at f there =
       ap₂ (λ a b. a || b)

@@ -7,11 +7,11 @@ use Rattle.zx_calculus.specs.Graph.{XY, XZ, YZ, Vertex, Graph, ids, end_vertices
 use Rattle.zx_calculus.specs.Complements.{IsLocalComplement}
 use Rattle.zx_calculus.specs.Deletions.{IsDelete}
 use Rattle.zx_calculus.specs.Pivots.{IsPivot}
-use Rattle.zx_calculus.specs.Splits.{spider_of_phase_zero, IsSplitInput, IsSplitOutput}
+use Rattle.zx_calculus.specs.Splits.{spider_of_phase_zero, new_vertex}
 use Rattle.zx_calculus.specs.Gadgets.{IsDropLone, IsFuseInto, IsFuseTwin}
 use Rattle.zx_calculus.specs.Counts.{not_XY, has_input, has_output, is_odd_at, is_even_at, is_odd_fused}
 use Rattle.zx_calculus.specs.Steps as calculus
-use Rattle.zx_calculus.specs.Steps.{IsRun}
+use Rattle.zx_calculus.specs.Steps.{IsRun, IsStep}
 use Rattle.zx_calculus.proofs.Ids.{apart_of_member}
 use Rattle.zx_calculus.proofs.Splitting.{distinct, all_at}
 use Rattle.zx_calculus.proofs.Steps.{step_kept, run_kept}
@@ -187,27 +187,27 @@ module _ (u b : ℕ) (h : Graph) where
       together : (m l n t : ℕ) → n + 2 * t ≤ l → l + 1 ≤ m → n + 1 + 2 * t ≤ m
       together m l n t e f = omega arith
 
-split_input_phase : (g : Graph) (b : ℕ) (k : Graph) → WellFormed g → IsSplitInput g b k → phase_of k b ≡ phase_of g b
+split_input_phase : (g : Graph) (b : ℕ) (k : Graph) → WellFormed g → IsStep g (calculus.SplitInput b) k → phase_of k b ≡ phase_of g b
 split_input_phase g b k w c =
     ap (λ vs. (kind_of vs b).phase) c.vertices
-    ∙ ap (λ kind. kind.phase) (kind_of-insert_other b (spider_of_phase_zero c.new) g.vertices
-    (apart_of_member b c.new (ids g.vertices)
+    ∙ ap (λ kind. kind.phase) (kind_of-insert_other b (spider_of_phase_zero (new_vertex g)) g.vertices
+    (apart_of_member b _ (ids g.vertices)
     (all_at (λ p. member p (ids g.vertices)) (end_vertices g.inputs) b w.inputs.there c.has_input) c.fresh))
 
 -- a split raises the number by two at most, and not at all where its vertex keeps an end
-split_input_rises : (g : Graph) (b : ℕ) (k : Graph) → WellFormed g → IsSplitInput g b k
+split_input_rises : (g : Graph) (b : ℕ) (k : Graph) → WellFormed g → IsStep g (calculus.SplitInput b) k
     → most_moves k ≡ most_moves g + 2 * one_if (not (has_output g b) && is_even_at g b)
 split_input_rises g b k w c =
-    rises _ _ _ _ _ _ _ (even-split_input g b k w c) (planes-split g k c.new c.vertices) (odd-split g k c.new c.vertices)
+    rises _ _ _ _ _ _ _ (even-split_input g b _ k w c) (planes-split g k _ c.vertices) (odd-split g k _ c.vertices)
   where
     rises : (e e' p p' o o' x : ℕ) → e' ≡ e + x → p' ≡ p → o' ≡ o → 2 * e' + p' + 2 * o' ≡ (2 * e + p + 2 * o) + 2 * x
     rises e e' p p' o o' x r s t = omega arith
 
-split_output_rises : (g : Graph) (b : ℕ) (k : Graph) → WellFormed g → IsSplitOutput g b k
+split_output_rises : (g : Graph) (b : ℕ) (k : Graph) → WellFormed g → IsStep g (calculus.SplitOutput b) k
     → most_moves k ≤ most_moves g + 2 * one_if (is_even_at g b)
 split_output_rises g b k w c =
-    rises _ _ _ _ _ _ (has_input g b) (is_even_at g b) (even-split_output g b k w c) (planes-split g k c.new c.vertices)
-    (odd-split g k c.new c.vertices)
+    rises _ _ _ _ _ _ (has_input g b) (is_even_at g b) (even-split_output g b _ k w c) (planes-split g k _ c.vertices)
+    (odd-split g k _ c.vertices)
   where
     rises : (e e' p p' o o' : ℕ) (i t : Bool) → e' ≡ e + one_if (not i && t) → p' ≡ p → o' ≡ o
         → 2 * e' + p' + 2 * o' ≤ (2 * e + p + 2 * o) + 2 * one_if t

@@ -8,7 +8,7 @@ use Rattle.zx_calculus.specs.Turns.{in_plane, half_turned, complemented, complem
 use Rattle.zx_calculus.specs.Complements.{complement_kind, IsLocalComplement}
 use Rattle.zx_calculus.specs.Deletions.{delete_kind, IsDelete}
 use Rattle.zx_calculus.specs.Pivots.{pivot_kind, IsPivot}
-use Rattle.zx_calculus.specs.Splits.{spider_of_phase_zero, IsSplitInput, IsSplitOutput}
+use Rattle.zx_calculus.specs.Splits.{spider_of_phase_zero}
 use Rattle.zx_calculus.specs.Edits.{is_pair}
 use Rattle.zx_calculus.specs.Steps.{allowed, after, IsStep, IsRun}
 use Rattle.zx_calculus.specs.Counts.{has_input, has_output}
@@ -241,37 +241,37 @@ module _ (g : Graph) (u b : ℕ) (phase : ℕ) (h : Graph) (r : Ready g u b phas
     adjacent = edges u b ∙ ap (λ t. t || is_pair b new u b) r.adjacent;
   }
 
-  split_input_ready : IsSplitInput g b h → Ready h u b phase
+  split_input_ready : IsStep g (calculus.SplitInput b) h → Ready h u b phase
   split_input_ready c =
-      split_ready c.new c.fresh c.vertices c.edges (step_kept g (calculus.SplitInput b) h r.well_formed c)
+      split_ready _ c.fresh c.vertices c.edges (step_kept g (calculus.SplitInput b) h r.well_formed c)
       (record {
         no_input = ap (λ ends. member u (end_vertices ends)) c.inputs
-            ∙ member-move_end-other b c.new g.inputs u (apart_by (has_input g) u b r.interior.no_input c.has_input)
-            (apart_of_member u c.new (ids g.vertices) r.there c.fresh)
+            ∙ member-move_end-other b _ g.inputs u (apart_by (has_input g) u b r.interior.no_input c.has_input)
+            (apart_of_member u _ (ids g.vertices) r.there c.fresh)
             ∙ r.interior.no_input;
         no_output = ap (λ ends. member u (end_vertices ends)) c.outputs ∙ r.interior.no_output;
       })
 
-  split_output_ready : IsSplitOutput g b h → Ready h u b phase
+  split_output_ready : IsStep g (calculus.SplitOutput b) h → Ready h u b phase
   split_output_ready c =
-      split_ready c.new c.fresh c.vertices c.edges (step_kept g (calculus.SplitOutput b) h r.well_formed c)
+      split_ready _ c.fresh c.vertices c.edges (step_kept g (calculus.SplitOutput b) h r.well_formed c)
       (record {
         no_input = ap (λ ends. member u (end_vertices ends)) c.inputs ∙ r.interior.no_input;
         no_output = ap (λ ends. member u (end_vertices ends)) c.outputs
-            ∙ member-move_end-other b c.new g.outputs u (apart_by (has_output g) u b r.interior.no_output c.has_output)
-            (apart_of_member u c.new (ids g.vertices) r.there c.fresh)
+            ∙ member-move_end-other b _ g.outputs u (apart_by (has_output g) u b r.interior.no_output c.has_output)
+            (apart_of_member u _ (ids g.vertices) r.there c.fresh)
             ∙ r.interior.no_output;
       })
 
-  input_went : IsSplitInput g b h → has_input h b ≡ false
+  input_went : IsStep g (calculus.SplitInput b) h → has_input h b ≡ false
   input_went c =
       ap (λ ends. member b (end_vertices ends)) c.inputs
-      ∙ member-move_end-old b c.new g.inputs (apart_of_member b c.new (ids g.vertices) r.there_too c.fresh)
+      ∙ member-move_end-old b _ g.inputs (apart_of_member b _ (ids g.vertices) r.there_too c.fresh)
 
-  output_went : IsSplitOutput g b h → has_output h b ≡ false
+  output_went : IsStep g (calculus.SplitOutput b) h → has_output h b ≡ false
   output_went c =
       ap (λ ends. member b (end_vertices ends)) c.outputs
-      ∙ member-move_end-old b c.new g.outputs (apart_of_member b c.new (ids g.vertices) r.there_too c.fresh)
+      ∙ member-move_end-old b _ g.outputs (apart_of_member b _ (ids g.vertices) r.there_too c.fresh)
 
 boundary_allowed : (g : Graph) (u b : ℕ) (phase : ℕ) → Ready g u b phase
     → AreAllowed g (splits_of g b ++ (calculus.Pivot u b ∷ calculus.Delete u ∷ removal_of phase b))

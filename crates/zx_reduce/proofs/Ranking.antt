@@ -1,9 +1,9 @@
 -- Ranks of an order, one vertex more at a time, and of a flow while steps are done.
-use Rattle.std.proofs.Common.{Result, Ok, Err, OnOk, ◌≡◌, refl, sym, ◌∙◌, ap, subst, ℕ, suc, ◌<◌, ◌≤◌, true, false, ◌||◌, eqb, List, [], ◌∷◌, ◌++◌, arith, true≢false}
+use Rattle.std.proofs.Common.{Result, Ok, Err, OnOk, ◌≡◌, refl, sym, ◌∙◌, ap, subst, ℕ, suc, ◌<◌, true, false, ◌||◌, eqb, List, [], ◌∷◌, ◌++◌, arith}
 use Rattle.zx_model.specs.Bits.{member}
 use Rattle.zx_calculus.specs.Graph.{Graph, WellFormed}
-use Rattle.zx_calculus.specs.Splits.{IsSplitInput, IsSplitOutput}
-use Rattle.zx_calculus.specs.Steps.{Step, IsStep}
+use Rattle.zx_calculus.specs.Splits.{new_vertex}
+use Rattle.zx_calculus.specs.Steps.{Step, IsStep, SplitInput, SplitOutput}
 use Rattle.zx_calculus.proofs.Booleans.{or-false}
 use Rattle.zx_calculus.proofs.Ids.{by_equal, member-append}
 use Rattle.gflow_laws.specs.Flow.{Correction, order_of, IsFlow}
@@ -44,9 +44,6 @@ module _ (vs : List ℕ) (b : ℕ) (before after : Ranks) (out : member b vs ≡
         (λ f n. let bound = so_far.below_high w (either w f there) in rw (high, of_other w (either w f there)) (omega (arith, bound)));
   }
 
-pub none_ranked : (order : Ranks) → order.low ≤ order.high → AreRanked [] order
-none_ranked order bounds = record { bounds = bounds; rises = tt; from_low = λ v there. absurd (true≢false (sym there)); below_high = λ v there. absurd (true≢false (sym there)) }
-
 -- the order of a flow, ranked
 pub flow_ranked : (g : Graph) (table : List Correction) (order : Ranks) → IsFlow g table → AreRanked (order_of table) order → HasFlowIn g order
 flow_ranked g table order flow are = record {
@@ -67,19 +64,19 @@ module _ (g h : Graph) (before after : Ranks) (formed : WellFormed g) (has : Has
     flow = kept_by g s h (rank_in before.ranks.items) before.low before.high formed none step has.flow;
   }
 
-  pub flow_first : (b : ℕ) → (step : IsSplitInput g b h) → ((w : ℕ) → rank_in after.ranks.items w ≡ ranked step.new after.low (rank_in before.ranks.items) w) →
+  pub flow_first : (b : ℕ) → IsStep g (SplitInput b) h → ((w : ℕ) → rank_in after.ranks.items w ≡ ranked (new_vertex g) after.low (rank_in before.ranks.items) w) →
       before.low ≡ suc after.low → after.high ≡ before.high → HasFlowIn h after
   flow_first b step same low high =
       let below : after.low < before.high = let bounds = has.bounds in omega (arith, bounds, low) in
       record {
         bounds = omega (arith, below, high);
         flow = subst (λ r. HasFlowBy h r after.low after.high) (λ i w. sym (same w) i)
-            (subst (HasFlowBy h (ranked step.new after.low (rank_in before.ranks.items)) after.low) (sym high)
+            (subst (HasFlowBy h (ranked (new_vertex g) after.low (rank_in before.ranks.items)) after.low) (sym high)
             (first_by g b h (rank_in before.ranks.items) after.low before.high formed step
             (subst (λ n. HasFlowBy g (rank_in before.ranks.items) n before.high) low has.flow) below));
       }
 
-  pub flow_last : (b : ℕ) → IsSplitOutput g b h → ((w : ℕ) → rank_in after.ranks.items w ≡ ranked b before.high (rank_in before.ranks.items) w) →
+  pub flow_last : (b : ℕ) → IsStep g (SplitOutput b) h → ((w : ℕ) → rank_in after.ranks.items w ≡ ranked b before.high (rank_in before.ranks.items) w) →
       after.low ≡ before.low → after.high ≡ suc before.high → HasFlowIn h after
   flow_last b step same low high =
       record {

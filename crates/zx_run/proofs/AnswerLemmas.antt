@@ -14,7 +14,7 @@ use Rattle.zx_run.proofs.FaultLemmas.{one_first_fault, not_faultless}
 
 -- what is accepted has an output
 accepted : (best report : Bool) (text bytes : List ℕ) → IsOptimisedText best report text bytes → IsFaultless text
-accepted best report text bytes is = (is.qubits, is.read, is.accepted)
+accepted best report text bytes is = (is.read, is.accepted)
 
 made_for : (given : Option Command) (command : Command) → given ≡ Some command
     → (left : Option (List ℕ)) (bytes : List ℕ) → IsOutputOf given left bytes → IsOutputFor command left bytes

@@ -1,7 +1,9 @@
 -- A text is accepted or has a first fault, never both, and one first fault at most.
 use Rattle.std.proofs.lemmas.Bool.{cases_lt}
-use Rattle.std.proofs.Common.{◌≡◌, ◌≤◌, ◌⊎◌, ℕ, List, [], length, inl, inr, sym, ap, ◌∙◌, subst, arith, Option, None, Some, refl, Result, Err}
+use Rattle.std.proofs.Common.{◌≡◌, ◌≤◌, ◌⊎◌, ℕ, List, [], length, inl, inr, sym, ap, ap₂, ◌∙◌, subst, arith, Option, None, Some, refl, Result, Err}
+use Rattle.zx_gates.specs.declared.elementary.Elementary.{Elementary}
 use Rattle.zx_gates.specs.declared.elementary.ElementaryGate.{ElementaryGate}
+use Rattle.zx_gates.specs.declared.elementary.Measure.{Measure}
 use Rattle.qasm_lexer.specs.Tokens.{Lexeme, IsCut, IsBadByte}
 use Rattle.qasm_lexer.proofs.Cuts.{same_tokens, same_byte, not_both}
 use Rattle.qasm_lexer.proofs.Scan as scan
@@ -10,12 +12,12 @@ use Rattle.qasm_reader.specs.Grammar.{IsProgram, IsSyntaxFault}
 use Rattle.qasm_reader.specs.Syntax.{Placed}
 use Rattle.qasm_reader.proofs.Programs.{one_program, one_fault, program_no_fault, program_or_fault}
 use Rattle.qasm_scope.specs.declared.causes.Cause.{Cause}
-use Rattle.qasm_scope.specs.Meaning.{first_fault, most_calls, scope_after, gates_after}
-use Rattle.qasm_scope.specs.Scope.{qubit_count}
-use Rattle.qasm_scope.specs.Texts.{IsProgramText, TextMeans}
+use Rattle.qasm_scope.specs.Meaning.{first_fault, most_calls, scope_after, gates_after, measures_after}
+use Rattle.qasm_scope.specs.Scope.{bit_count, qubit_count}
+use Rattle.qasm_scope.specs.Texts.{IsProgramText}
 use Rattle.zx_run.specs.declared.status.Fault.{Fault}
 use Rattle.zx_run.specs.declared.status.Fault.TheVariants.{TooLong, BadByte, TooDeep, Syntax}
-use Rattle.zx_run.specs.FirstFault.{most_bytes, IsFirstFault, IsShortFault, IsAccepted, IsFaultless, HasDeepParenthesis, HasSyntaxFault, HasWrongStatement, fault_of}
+use Rattle.zx_run.specs.FirstFault.{most_bytes, IsFirstFault, IsShortFault, IsAccepted, IsFaultless, MeansCircuit, HasDeepParenthesis, HasSyntaxFault, HasWrongStatement, fault_of}
 
 -- the tokens of a text can't be too deep and not
 deep_or_shallow : (text : List ℕ) (ts us : List Lexeme) (at : ℕ) → IsCut 0 text ts → IsCut 0 text us → too_deep ts ≡ Some at → too_deep us ≡ None → ⊥
@@ -83,35 +85,46 @@ one_first_fault text f g (inl a) (inr b) = let long = a.0 in let short = b.0 in 
 one_first_fault text f g (inr a) (inl b) = let long = b.0 in let short = a.0 in absurd (omega (arith, long, short))
 one_first_fault text f g (inr a) (inr b) = one_short text f g a.1 b.1
 
-short_not_accepted : (text : List ℕ) (f : Fault) (n : ℕ) (gates : List ElementaryGate) → IsShortFault text f → IsAccepted text n gates → ⊥
-short_not_accepted text f n gates (inl a) k = bad_or_program text a.0 k.program a.1 k.is
-short_not_accepted text f n gates (inr (inl a)) k = deep_or_program text a.0 k.program a.1 k.is
-short_not_accepted text f n gates (inr (inr (inl a))) k = syntax_or_program text a.0 k.program a.1 k.is
-short_not_accepted text f n gates (inr (inr (inr a))) k =
+short_not_accepted : (text : List ℕ) (f : Fault) (circuit : Elementary) → IsShortFault text f → IsAccepted text circuit → ⊥
+short_not_accepted text f circuit (inl a) k = bad_or_program text a.0 k.program a.1 k.is
+short_not_accepted text f circuit (inr (inl a)) k = deep_or_program text a.0 k.program a.1 k.is
+short_not_accepted text f circuit (inr (inr (inl a))) k = syntax_or_program text a.0 k.program a.1 k.is
+short_not_accepted text f circuit (inr (inr (inr a))) k =
     absurd (let h : ◌≡◌ {A = Option (Cause × ℕ)} (Some (a.0, a.1)) None =
     sym a.2.2 ∙ ap (first_fault most_calls) (same_program text a.2.0 k.program a.2.1 k.is) ∙ k.faultless in cc)
 
-not_accepted : (text : List ℕ) (f : Fault) (n : ℕ) (gates : List ElementaryGate) → IsFirstFault text f → IsAccepted text n gates → ⊥
-not_accepted text f n gates (inl a) k = let long = a.0 in let short = k.short in absurd (omega (arith, long, short))
-not_accepted text f n gates (inr a) k = short_not_accepted text f n gates a.1 k
+not_accepted : (text : List ℕ) (f : Fault) (circuit : Elementary) → IsFirstFault text f → IsAccepted text circuit → ⊥
+not_accepted text f circuit (inl a) k = let long = a.0 in let short = k.short in absurd (omega (arith, long, short))
+not_accepted text f circuit (inr a) k = short_not_accepted text f circuit a.1 k
 
 pub not_faultless : (text : List ℕ) (f : Fault) → IsFirstFault text f → IsFaultless text → ⊥
-not_faultless text f first (n, gates, accepted) = not_accepted text f n gates first accepted
+not_faultless text f first (circuit, accepted) = not_accepted text f circuit first accepted
+
+-- the circuit of a program
+abbrev circuit_with : ℕ → List ElementaryGate → ℕ → List Measure → Elementary
+circuit_with qubits gates bits measured = record { qubits = qubits; gates = gates; bits = bits; measured = measured }
+
+abbrev circuit_of : List Placed → Elementary
+circuit_of program =
+    circuit_with (qubit_count (scope_after [] program)) (gates_after [] program) (bit_count (scope_after [] program)) (measures_after [] program)
+
+meant : (text : List ℕ) (circuit : Elementary) (k : MeansCircuit text circuit) → circuit ≡ circuit_of k.program
+meant text circuit k =
+    ap₂ (λ qubits gates. circuit_with qubits gates circuit.bits circuit.measured) k.means.as_many_qubits k.means.same_gates
+    ∙ ap₂ (λ bits measured. circuit_with (qubit_count (scope_after [] k.program)) (gates_after [] k.program) bits measured)
+    k.means.as_many_bits k.means.same_measures
 
 -- a text means one circuit at most, however many calls it makes
-pub one_meaning : (text : List ℕ) (m n : ℕ) (a b : List ElementaryGate) → TextMeans text m a → TextMeans text n b → (m ≡ n) × (a ≡ b)
-one_meaning text m n a b k l =
-    let same = same_program text k.program l.program k.is l.is in (
-      k.means.as_many_qubits ∙ ap (λ program. qubit_count (scope_after [] program)) same ∙ sym l.means.as_many_qubits,
-      k.means.same_gates ∙ ap (gates_after []) same ∙ sym l.means.same_gates,
-    )
+pub one_meaning : (text : List ℕ) (this that : Elementary) → MeansCircuit text this → MeansCircuit text that → this ≡ that
+one_meaning text this that k l =
+    meant text this k ∙ ap circuit_of (same_program text k.program l.program k.is l.is) ∙ sym (meant text that l)
 
 -- a text that is accepted means its circuit
-accepted_means : (text : List ℕ) (n : ℕ) (gates : List ElementaryGate) → IsAccepted text n gates → TextMeans text n gates
-accepted_means text n gates k = record { program = k.program; is = k.is; means = k.means }
+accepted_means : (text : List ℕ) (circuit : Elementary) → IsAccepted text circuit → MeansCircuit text circuit
+accepted_means text circuit k = record { program = k.program; is = k.is; means = k.means }
 
-pub one_circuit : (text : List ℕ) (m n : ℕ) (a b : List ElementaryGate) → IsAccepted text m a → IsAccepted text n b → (m ≡ n) × (a ≡ b)
-one_circuit text m n a b k l = one_meaning text m n a b (accepted_means text m a k) (accepted_means text n b l)
+pub one_circuit : (text : List ℕ) (this that : Elementary) → IsAccepted text this → IsAccepted text that → this ≡ that
+one_circuit text this that k l = one_meaning text this that (accepted_means text this k) (accepted_means text that l)
 
 -- ---- each text is one of both
 abbrev pub IsDecided : List ℕ → Type 0
@@ -120,14 +133,13 @@ IsDecided text = IsFaultless text ⊎ ((fault : Fault) × IsFirstFault text faul
 program_decided : (text : List ℕ) (program : List Placed) (o : Option (Cause × ℕ)) → first_fault most_calls program ≡ o → length text ≤ most_bytes → IsProgramText text program → IsDecided text
 program_decided text program None e short is =
     inl (
-      qubit_count (scope_after [] program),
-      gates_after [] program,
+      circuit_of program,
       record {
         short = short;
         program = program;
         is = is;
         faultless = e;
-        means = record { most = most_calls; faultless = e; as_many_qubits = refl; same_gates = refl };
+        means = record { most = most_calls; faultless = e; as_many_qubits = refl; same_gates = refl; as_many_bits = refl; same_measures = refl };
       },
     )
 program_decided text program (Some (cause, at)) e short is =

@@ -1,11 +1,12 @@
 -- From what is read to what is written for it.
 use Rattle.std.proofs.Common.{◌≡◌, ◌≤◌, ◌++◌, ℕ, Bool, true, List, length, sym, ap₂, subst}
+use Rattle.std.specs.List.{All}
 use Rattle.zx_model.specs.Proportional.{Proportional}
 use Rattle.zx_model.proofs.ProportionalLemmas.{proportional_sym, proportional_trans}
-use Rattle.zx_gates.specs.declared.elementary.ElementaryGate.{ElementaryGate}
+use Rattle.zx_gates.specs.declared.elementary.Elementary.{Elementary}
 use Rattle.zx_gates.specs.declared.gate.Gate.{Gate}
 use Rattle.zx_gates.specs.Circuit.{Circuit, IsCircuit, gate_odd_phases}
-use Rattle.zx_gates.specs.Elementary.{elementary_odd_phases}
+use Rattle.zx_gates.specs.Elementary.{IsElementary, IsMeasureOn, elementary_odd_phases}
 use Rattle.zx_gates.specs.ElementaryMaps.{amp_elementary}
 use Rattle.zx_gates.specs.Lowering.{lowered}
 use Rattle.zx_gates.specs.Maps.{amp}
@@ -13,6 +14,7 @@ use Rattle.zx_gen.specs.Generator.{generated}
 use Rattle.zx_report.specs.Report.{report_lines}
 use Rattle.qasm_scope.specs.Meaning.{Means}
 use Rattle.qasm_writer.specs.Elements.{elements_of}
+use Rattle.qasm_writer.specs.Measuring.{AreBehind}
 use Rattle.qasm_writer.specs.Written.{written}
 use Rattle.qasm_writer.proofs.WrittenLemmas.{IsWritten, is_written, odd_elements, same_map}
 use Rattle.zx_run.specs.FirstFault.{IsAccepted}
@@ -23,52 +25,59 @@ pub same_circuit : (c : Circuit) (qubits : ℕ) (gates : List Gate) → c.qubits
 same_circuit c qubits gates same_qubits same_gates = ap₂ circuit_on same_qubits same_gates
 
 -- the text of a circuit that optimises the lowered one, and its report
-IsOptimisedText-lowered : (best reported : Bool) (text bytes : List ℕ) (qubits : ℕ) (read : List ElementaryGate) (circuit : Circuit)
-    → IsAccepted text qubits read
-    → Proportional qubits qubits (amp_elementary read) (amp (lowered read))
-    → gate_odd_phases (lowered read) ≡ elementary_odd_phases read
-    → Optimises (circuit_on qubits (lowered read)) circuit
-    → (best ≡ true → IsBest (circuit_on qubits (lowered read)) circuit) → IsCircuit circuit
-    → bytes ≡ written circuit ++ report_if reported (lowered read) circuit.gates → IsOptimisedText best reported text bytes
-IsOptimisedText-lowered best reported text bytes qubits read circuit accepted map odd better is_best is spelled =
-    let w : IsWritten circuit = is_written circuit is in
+IsOptimisedText-lowered : (best reported : Bool) (text bytes : List ℕ) (read : Elementary) (circuit : Circuit)
+    → IsAccepted text read
+    → Proportional read.qubits read.qubits (amp_elementary read.gates) (amp (lowered read.gates))
+    → gate_odd_phases (lowered read.gates) ≡ elementary_odd_phases read.gates
+    → Optimises (circuit_on read.qubits (lowered read.gates)) circuit
+    → (best ≡ true → IsBest (circuit_on read.qubits (lowered read.gates)) circuit) → IsCircuit circuit → AreBehind circuit read.bits read.measured
+    → bytes ≡ written circuit read.bits read.measured ++ report_if reported (lowered read.gates) circuit.gates → IsOptimisedText best reported text bytes
+IsOptimisedText-lowered best reported text bytes read circuit accepted map odd better is_best is behind spelled =
+    let w : IsWritten circuit read.bits read.measured = is_written circuit read.bits read.measured is behind in
     let again = elements_of circuit.gates in
-    let as_many : circuit.qubits ≡ qubits = better.qubits in
-    let back : Proportional qubits qubits (amp circuit.gates) (amp_elementary again) =
+    let as_many : circuit.qubits ≡ read.qubits = better.qubits in
+    let back : Proportional read.qubits read.qubits (amp circuit.gates) (amp_elementary again) =
     subst (λ n. Proportional n n (amp circuit.gates) (amp_elementary again)) as_many
     (proportional_sym circuit.qubits circuit.qubits (amp_elementary again) (amp circuit.gates) (same_map circuit.qubits circuit.gates is.on_qubits)) in
     record {
-      qubits = qubits;
       read = read;
       circuit = circuit;
       accepted = accepted;
       spelled = spelled;
-      means = record { program = w.program; is = w.is; means = subst (λ n. Means w.program n again) as_many w.means };
-      same_map = proportional_trans qubits qubits (amp_elementary read) (amp circuit.gates) (amp_elementary again)
-          (proportional_trans qubits qubits (amp_elementary read) (amp (lowered read)) (amp circuit.gates) map better.map) back;
-      no_more_odd = subst (λ n. n ≤ elementary_odd_phases read) (sym (odd_elements circuit.qubits circuit.gates is.on_qubits))
+      means = record { program = w.program; is = w.is; means = subst (λ n. Means w.program n again read.bits read.measured) as_many w.means };
+      same_map = proportional_trans read.qubits read.qubits (amp_elementary read.gates) (amp circuit.gates) (amp_elementary again)
+          (proportional_trans read.qubits read.qubits (amp_elementary read.gates) (amp (lowered read.gates)) (amp circuit.gates) map better.map) back;
+      no_more_odd = subst (λ n. n ≤ elementary_odd_phases read.gates) (sym (odd_elements circuit.qubits circuit.gates is.on_qubits))
           (subst (λ n. gate_odd_phases circuit.gates ≤ n) odd better.odd);
-      few_gates = subst (λ size. size ≤ gate_bound qubits (elementary_odd_phases read)) (sym w.size)
-          (subst (λ t. length circuit.gates ≤ gate_bound qubits t) odd better.few_gates);
+      few_gates = subst (λ size. size ≤ gate_bound read.qubits (elementary_odd_phases read.gates)) (sym w.size)
+          (subst (λ t. length circuit.gates ≤ gate_bound read.qubits t) odd better.few_gates);
       valid = is;
       optimises = better;
       is_best = is_best;
     }
 
-pub IsOptimisedText-written : (best reported : Bool) (text bytes : List ℕ) (qubits : ℕ) (read : List ElementaryGate) (from circuit : Circuit)
-    → IsAccepted text qubits read
-    → from.qubits ≡ qubits → from.gates ≡ lowered read
-    → Proportional qubits qubits (amp_elementary read) (amp from.gates) → gate_odd_phases from.gates ≡ elementary_odd_phases read
-    → Optimises from circuit → (best ≡ true → IsBest from circuit) → IsCircuit circuit
-    → bytes ≡ written circuit ++ report_if reported from.gates circuit.gates → IsOptimisedText best reported text bytes
-IsOptimisedText-written best reported text bytes qubits read from circuit accepted same_qubits same_gates map odd better is_best is spelled =
-    let same = same_circuit from qubits (lowered read) same_qubits same_gates in
-    IsOptimisedText-lowered best reported text bytes qubits read circuit accepted
-    (subst (λ gates. Proportional qubits qubits (amp_elementary read) (amp gates)) same_gates map)
-    (subst (λ gates. gate_odd_phases gates ≡ elementary_odd_phases read) same_gates odd)
+pub IsOptimisedText-written : (best reported : Bool) (text bytes : List ℕ) (read : Elementary) (from circuit : Circuit)
+    → IsAccepted text read
+    → from.qubits ≡ read.qubits → from.gates ≡ lowered read.gates
+    → Proportional read.qubits read.qubits (amp_elementary read.gates) (amp from.gates) → gate_odd_phases from.gates ≡ elementary_odd_phases read.gates
+    → Optimises from circuit → (best ≡ true → IsBest from circuit) → IsCircuit circuit → AreBehind circuit read.bits read.measured
+    → bytes ≡ written circuit read.bits read.measured ++ report_if reported from.gates circuit.gates → IsOptimisedText best reported text bytes
+IsOptimisedText-written best reported text bytes read from circuit accepted same_qubits same_gates map odd better is_best is behind spelled =
+    let same = same_circuit from read.qubits (lowered read.gates) same_qubits same_gates in
+    IsOptimisedText-lowered best reported text bytes read circuit accepted
+    (subst (λ gates. Proportional read.qubits read.qubits (amp_elementary read.gates) (amp gates)) same_gates map)
+    (subst (λ gates. gate_odd_phases gates ≡ elementary_odd_phases read.gates) same_gates odd)
     (subst (λ c. Optimises c circuit) same better)
-    (λ asked. subst (λ c. IsBest c circuit) same (is_best asked)) is
-    (subst (λ gates. bytes ≡ written circuit ++ report_if reported gates circuit.gates) same_gates spelled)
+    (λ asked. subst (λ c. IsBest c circuit) same (is_best asked)) is behind
+    (subst (λ gates. bytes ≡ written circuit read.bits read.measured ++ report_if reported gates circuit.gates) same_gates spelled)
+
+-- the read circuit's measurements are behind a circuit on as many qubits
+pub measured_behind : (read : Elementary) (circuit : Circuit) → IsElementary read → circuit.qubits ≡ read.qubits → AreBehind circuit read.bits read.measured
+measured_behind read circuit is as_many = record {
+  few_bits = is.few_bits;
+  within = subst (λ n. All (IsMeasureOn n read.bits) read.measured) (sym as_many) is.measures_within;
+  once = is.measured_once;
+}
 
 -- the report of a circuit that optimises the one of a seed
 pub IsGenerationReport-written : (seed qubits gates : ℕ) (bytes : List ℕ) (read made : Circuit)

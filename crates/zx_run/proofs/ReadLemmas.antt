@@ -16,8 +16,8 @@ use Rattle.zx_run.specs.FirstFault.{most_bytes, IsAccepted, IsFirstFault, fault_
 
 module _ (text : List ℕ) (short : length text ≤ most_bytes) where
   pub read_accepted : (circuit : Elementary)
-      → (program : List Placed) × IsProgramText text program × (first_fault most_calls program ≡ None) × Means program circuit.qubits circuit.gates
-      → IsAccepted text circuit.qubits circuit.gates
+      → (program : List Placed) × IsProgramText text program × (first_fault most_calls program ≡ None) × Means program circuit.qubits circuit.gates circuit.bits circuit.measured
+      → IsAccepted text circuit
   read_accepted circuit (program, is, faultless, means) = record { short = short; program = program; is = is; faultless = faultless; means = means }
 
   pub read_first : (error : TextError) → ((at : ℕ) → error ≡ errors.BadByte at → IsBadByte text at)

@@ -5,7 +5,7 @@ use Rattle.zx_run.specs.declared.status.Fault.TheVariants.{TooLong, BadByte, Syn
 use Rattle.zx_run.specs.declared.status.Fault.TheVariants.{Redeclared, EmptyRegister, TooManyQubits, Unknown}
 use Rattle.zx_run.specs.declared.status.Fault.TheVariants.{WrongCount, Index, Sizes, SameQubit, Divide, AngleTooLarge}
 use Rattle.zx_run.specs.declared.status.Fault.TheVariants.{NotSixteenthTurn, TooDeep, TooManyGates, SecondVersion}
-use Rattle.zx_run.specs.declared.status.Fault.TheVariants.{BadLine}
+use Rattle.zx_run.specs.declared.status.Fault.TheVariants.{BadLine, AfterMeasure, BitTwice, TooManyBits}
 use Rattle.zx_run.specs.declared.status.Status.{Status}
 use Rattle.zx_run.specs.declared.status.Status.TheVariants.{Refused, Usage, ReadFault, WriteFault, NoMemory}
 
@@ -36,6 +36,9 @@ fault_text (TooDeep at) = at_place (codes "18 TooDeep") at
 fault_text (TooManyGates at) = at_place (codes "19 TooManyGates") at
 fault_text (SecondVersion at) = at_place (codes "20 SecondVersion") at
 fault_text (BadLine line) = at_place (codes "21 BadLine") line
+fault_text (AfterMeasure at) = at_place (codes "22 AfterMeasure") at
+fault_text (BitTwice at) = at_place (codes "23 BitTwice") at
+fault_text (TooManyBits at) = at_place (codes "24 TooManyBits") at
 
 -- the line, with its line end; Done and No have none
 abbrev pub error_line : Status → List ℕ

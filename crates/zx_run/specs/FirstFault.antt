@@ -1,6 +1,6 @@
 -- The first fault of a text, and the circuit that a text without one means.
 use Rattle.std.specs.Prelude.{◌≡◌, ◌<◌, ◌≤◌, ◌⊎◌, ℕ, List, length, None, Some}
-use Rattle.zx_gates.specs.declared.elementary.ElementaryGate.{ElementaryGate}
+use Rattle.zx_gates.specs.declared.elementary.Elementary.{Elementary}
 use Rattle.qasm_lexer.specs.Tokens.{Lexeme, IsCut, IsBadByte}
 use Rattle.qasm_reader.specs.Depth.{too_deep}
 use Rattle.qasm_reader.specs.Grammar.{IsSyntaxFault}
@@ -8,12 +8,13 @@ use Rattle.qasm_reader.specs.Syntax.{Placed}
 use Rattle.qasm_scope.specs.declared.causes.Cause.{Cause}
 use Rattle.qasm_scope.specs.declared.causes.Cause.TheVariants as cause
 use Rattle.qasm_scope.specs.Meaning.{first_fault, most_calls, Means}
-use Rattle.qasm_scope.specs.Texts.{IsProgramText}
+use Rattle.qasm_scope.specs.Texts.{IsProgramText, TextMeans}
 use Rattle.zx_run.specs.declared.status.Fault.{Fault}
 use Rattle.zx_run.specs.declared.status.Fault.TheVariants.{TooLong, BadByte, Syntax, Version, Include, Unsupported}
 use Rattle.zx_run.specs.declared.status.Fault.TheVariants.{Redeclared, EmptyRegister, TooManyQubits, Unknown}
 use Rattle.zx_run.specs.declared.status.Fault.TheVariants.{WrongCount, Index, Sizes, SameQubit, Divide, AngleTooLarge}
 use Rattle.zx_run.specs.declared.status.Fault.TheVariants.{NotSixteenthTurn, TooDeep, TooManyGates, SecondVersion}
+use Rattle.zx_run.specs.declared.status.Fault.TheVariants.{AfterMeasure, BitTwice, TooManyBits}
 
 -- the most bytes that a text may have
 abbrev pub most_bytes : ℕ
@@ -38,6 +39,9 @@ fault_of cause.NotSixteenthTurn at = NotSixteenthTurn at
 fault_of cause.TooDeep at = TooDeep at
 fault_of cause.TooManyGates at = TooManyGates at
 fault_of cause.SecondVersion at = SecondVersion at
+fault_of cause.AfterMeasure at = AfterMeasure at
+fault_of cause.BitTwice at = BitTwice at
+fault_of cause.TooManyBits at = TooManyBits at
 
 -- tokens of the text have parentheses that are too deep, at this place
 abbrev pub HasDeepParenthesis : List ℕ → ℕ → Type 0
@@ -67,14 +71,18 @@ abbrev pub IsFirstFault : List ℕ → Fault → Type 0
 IsFirstFault text fault =
     ((most_bytes < length text) × (fault ≡ TooLong)) ⊎ ((length text ≤ most_bytes) × IsShortFault text fault)
 
--- The text has no fault, and means the circuit of so many qubits and these gates.
-pub record IsAccepted (text : List ℕ) (qubits : ℕ) (gates : List ElementaryGate) : Type 0 where
+-- The text has no fault, and means the circuit with its measurements.
+pub record IsAccepted (text : List ℕ) (circuit : Elementary) : Type 0 where
   pub short : length text ≤ most_bytes
   pub program : List Placed
   pub is : IsProgramText text program
   pub faultless : first_fault most_calls program ≡ None
-  pub means : Means program qubits gates
+  pub means : Means program circuit.qubits circuit.gates circuit.bits circuit.measured
 
 -- the text has no fault
 abbrev pub IsFaultless : List ℕ → Type 0
-IsFaultless text = (qubits : ℕ) × (gates : List ElementaryGate) × IsAccepted text qubits gates
+IsFaultless text = (circuit : Elementary) × IsAccepted text circuit
+
+-- the text means the circuit with its measurements; it may be longer, and make more calls, than one that is read
+abbrev pub MeansCircuit : List ℕ → Elementary → Type 0
+MeansCircuit text circuit = TextMeans text circuit.qubits circuit.gates circuit.bits circuit.measured

@@ -11,7 +11,7 @@ use Rattle.zx_gates.specs.declared.tally.Counts.{Counts}
 use Rattle.zx_gates.specs.Circuit.{Circuit, gate_odd_phases}
 use Rattle.zx_gates.specs.Counting.{is_h, is_phase, is_cz, is_cx, is_not, is_two_qubit}
 use Rattle.zx_gates.specs.Maps.{amp}
-use Rattle.circuit_graph.specs.Translation.{IsTranslation}
+use Rattle.circuit_graph.specs.Translation.{translated}
 use Rattle.zx_peephole.specs.Tidy.{IsTidy}
 
 -- the most gates of the answer, for n qubits and t odd phases
@@ -22,14 +22,12 @@ gate_bound n t = 4 * n * n + 6 * n + 3 * n * t
 abbrev pub bound_of : Circuit → ℕ
 bound_of read = gate_bound read.qubits (gate_odd_phases read.gates)
 
--- Rewrites lead from a graph of the circuit that is read to a reduced one, which has at least as many
+-- Rewrites lead from the graph of the circuit that is read to a reduced one, which has at least as many
 -- odd phases as the circuit that is made.
 pub record IsThroughReduced (read made : Circuit) : Type 0 where
-  pub start : Graph
   pub steps : List Step
   pub end : Graph
-  pub translation : IsTranslation read start
-  pub run : IsRun start steps end
+  pub run : IsRun (translated read) steps end
   pub reduced : IsReduced end
   pub odd : gate_odd_phases made.gates ≤ odd_phases end
 

@@ -1,7 +1,7 @@
 -- What a run may write, and what it did to the output.
 use Rattle.std.specs.Prelude.{◌≡◌, ◌≢◌, ◌≤◌, ◌⊎◌, ◌++◌, ℕ, Bool, true, if◌then◌else◌, List, [], take, codes, decimal}
 use Rattle.std.specs.Prelude.{Option, Some}
-use Rattle.zx_gates.specs.declared.elementary.ElementaryGate.{ElementaryGate}
+use Rattle.zx_gates.specs.declared.elementary.Elementary.{Elementary}
 use Rattle.zx_gates.specs.declared.gate.Gate.{Gate}
 use Rattle.zx_gates.specs.Circuit.{Circuit, IsCircuit}
 use Rattle.zx_gates.specs.Elementary.{elementary_odd_phases}
@@ -16,7 +16,7 @@ use Rattle.qasm_scope.specs.Texts.{TextMeans, program_size}
 use Rattle.qasm_writer.specs.Elements.{elements_of}
 use Rattle.qasm_writer.specs.Written.{written}
 use Rattle.zx_run.specs.declared.status.Status.{Status}
-use Rattle.zx_run.specs.declared.status.Status.TheVariants.{Done, Refused, Usage, ReadFault, WriteFault, NoMemory, No}
+use Rattle.zx_run.specs.declared.status.Status.TheVariants.{Done, Refused, WriteFault, NoMemory, No}
 use Rattle.zx_run.specs.declared.status.Fault.{Fault}
 use Rattle.zx_run.specs.declared.status.Fault.TheVariants.{TooLong}
 use Rattle.zx_run.specs.FirstFault.{IsAccepted}
@@ -33,22 +33,24 @@ report_if report read made = if report then report_lines (counts_of read) (count
 -- The bytes are what `opt` may write for a text, with the flags `best` and `report` or without: the text
 -- has no fault, and they are the text of a circuit that optimises the one that is meant, lowered, and its
 -- report. That text means, with n qubits and t odd phases in the text that was read, the same linear map up
--- to a nonzero scalar, with at most t odd phases, and its program applies at most 4*n*n + 6*n + 3*n*t gates.
+-- to a nonzero scalar, with at most t odd phases, and behind it the same measurements, in the same order, into
+-- as many bits. Its program applies at most 4*n*n + 6*n + 3*n*t gates.
 pub record IsOptimisedText (best report : Bool) (text bytes : List ℕ) : Type 0 where
-  pub qubits : ℕ
-  pub read : List ElementaryGate
+  pub read : Elementary
   pub circuit : Circuit
-  pub accepted : IsAccepted text qubits read
-  pub spelled : bytes ≡ written circuit ++ report_if report (lowered read) circuit.gates
+  pub accepted : IsAccepted text read
+  pub spelled : bytes ≡ written circuit read.bits read.measured ++ report_if report (lowered read.gates) circuit.gates
   -- the headline
-  pub means : TextMeans (written circuit) qubits (elements_of circuit.gates)
-  pub same_map : Proportional qubits qubits (amp_elementary read) (amp_elementary (elements_of circuit.gates))
-  pub no_more_odd : elementary_odd_phases (elements_of circuit.gates) ≤ elementary_odd_phases read
-  pub few_gates : program_size means.program ≤ gate_bound qubits (elementary_odd_phases read)
+  pub means : TextMeans (written circuit read.bits read.measured) read.qubits (elements_of circuit.gates) read.bits
+      read.measured
+  pub same_map : Proportional read.qubits read.qubits (amp_elementary read.gates)
+      (amp_elementary (elements_of circuit.gates))
+  pub no_more_odd : elementary_odd_phases (elements_of circuit.gates) ≤ elementary_odd_phases read.gates
+  pub few_gates : program_size means.program ≤ gate_bound read.qubits (elementary_odd_phases read.gates)
   -- what more is known of the circuit
   pub valid : IsCircuit circuit
-  pub optimises : Optimises (circuit_on qubits (lowered read)) circuit
-  pub is_best : best ≡ true → IsBest (circuit_on qubits (lowered read)) circuit
+  pub optimises : Optimises (circuit_on read.qubits (lowered read.gates)) circuit
+  pub is_best : best ≡ true → IsBest (circuit_on read.qubits (lowered read.gates)) circuit
 
 -- the line of the words of `gen`
 abbrev pub generation_line : ℕ → ℕ → ℕ → List ℕ

@@ -106,5 +106,8 @@ fn name_and_place(fault: Fault) -> (&'static str, Option<usize>)
         Fault::TooManyGates { at } => ("19 TooManyGates", Some(at)),
         Fault::SecondVersion { at } => ("20 SecondVersion", Some(at)),
         Fault::BadLine { line: number } => ("21 BadLine", Some(number)),
+        Fault::AfterMeasure { at } => ("22 AfterMeasure", Some(at)),
+        Fault::BitTwice { at } => ("23 BitTwice", Some(at)),
+        Fault::TooManyBits { at } => ("24 TooManyBits", Some(at)),
     }
 }

@@ -13,8 +13,8 @@ use qasm_writer::write_text;
 use std::alloc::{AllocError, Global};
 use zx_gates::{GateList, lower};
 
-/// The text of the optimised circuit, with a report where that is asked for, or the first fault of the
-/// text that is read.
+/// The text of the optimised circuit with the measurements behind the one that is read, and with a
+/// report where that is asked for, or the first fault of the text that is read.
 pub fn optimised_text(
     alloc: Global,
     text: &[u8],
@@ -30,7 +30,7 @@ pub fn optimised_text(
     let lowered = lower(alloc, &read)?;
     let optimised = optimise(alloc, &lowered, best)?;
     let lines = report_if(alloc, reported, &lowered, &optimised)?;
-    let mut output = write_text(alloc, &optimised)?;
+    let mut output = write_text(alloc, &optimised, read.bits, read.measured.as_slice())?;
     output.extend_from_slice(&lines)?;
     Ok(output)
 }

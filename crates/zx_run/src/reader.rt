@@ -16,7 +16,7 @@ use zx_gates::Elementary;
 /// The circuit that a text means, or the text's first fault.
 pub fn read_circuit(alloc: Global, text: &[u8]) -> Result<Elementary, NoOutput>
     requires { length text.now ≤ most_bytes }
-    ensures accepted { IfOk result (λ circuit. IsAccepted text.now circuit.qubits circuit.gates) }
+    ensures accepted { IfOk result (λ circuit. IsAccepted text.now circuit) }
     ensures valid { IfOk result (λ circuit. IsElementary circuit) }
     ensures fault { (fault : Fault) → result ≡ Err (NoOutput.Fault fault)
         → IsFirstFault text.now fault }
@@ -62,5 +62,8 @@ fn fault_of(cause: Cause, at: usize) -> Fault
         Cause::TooDeep => Fault::TooDeep { at },
         Cause::TooManyGates => Fault::TooManyGates { at },
         Cause::SecondVersion => Fault::SecondVersion { at },
+        Cause::AfterMeasure => Fault::AfterMeasure { at },
+        Cause::BitTwice => Fault::BitTwice { at },
+        Cause::TooManyBits => Fault::TooManyBits { at },
     }
 }

@@ -20,7 +20,7 @@ pub enum Fault {
     Version,
     /// A file other than `qelib1.inc` is included.
     Include { at: usize },
-    /// `measure`, `reset`, `if`, `opaque`, or an expression with `^` or a function.
+    /// `reset`, `if`, `opaque`, or an expression with `^` or a function.
     Unsupported { at: usize },
     /// A name is declared again, a first name of the header is declared where the header is included, or two formal
     /// names of a gate are equal.
@@ -35,7 +35,8 @@ pub enum Fault {
     WrongCount { at: usize },
     /// An index is not below its register's size.
     Index { at: usize },
-    /// Registers of different size stand in one application.
+    /// Registers of different size stand in one application or measurement, or a register and a single qubit or bit in
+    /// one measurement.
     Sizes { at: usize },
     /// One qubit stands twice in one application.
     SameQubit { at: usize },
@@ -54,6 +55,12 @@ pub enum Fault {
     SecondVersion { at: usize },
     /// The line of a diagram's file does not fit. `opt` never gives it.
     BadLine { line: usize },
+    /// An application or a measurement names a qubit that was measured before.
+    AfterMeasure { at: usize },
+    /// A measurement names a bit that an earlier one names.
+    BitTwice { at: usize },
+    /// There are more than 65,536 bits.
+    TooManyBits { at: usize },
 }
 
 /// The answer of a run.

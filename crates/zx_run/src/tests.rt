@@ -23,7 +23,7 @@ fn run_with(
 fn worked_runs_write_these_bytes(rt: HostRuntime) -> Result<(), Fail> {
     // The words, the text, and what the output and the error output get. Two T are one S; the numbers of
     // gates are counted by hand.
-    let rows: [(&[&str], &[u8], &[u8], &[u8]); 5] = [
+    let rows: [(&[&str], &[u8], &[u8], &[u8]); 7] = [
         (
             &["opt"],
             b"OPENQASM 2.0;\ninclude \"qelib1.inc\";\nqreg q[1];\nt q[0];\nt q[0];\n",
@@ -47,6 +47,18 @@ fn worked_runs_write_these_bytes(rt: HostRuntime) -> Result<(), Fail> {
             b"OPENQASM 2.0;\ninclude \"other.inc\";\n",
             b"",
             b"zxopt: fault 5 Include at 14\n",
+        ),
+        (
+            &["opt"],
+            b"OPENQASM 2.0;\ninclude \"qelib1.inc\";\nqreg q[1]; creg c[1]; measure q[0] -> c[0];",
+            b"OPENQASM 2.0;\ninclude \"qelib1.inc\";\nqreg q[1];\ncreg c[1];\nmeasure q[0] -> c[0];\n",
+            b"",
+        ),
+        (
+            &["opt"],
+            b"OPENQASM 2.0;\ninclude \"qelib1.inc\";\nqreg q[1]; creg c[1]; measure q[0] -> c[0]; h q[0];",
+            b"",
+            b"zxopt: fault 22 AfterMeasure at 80\n",
         ),
         (
             &["Opt"],

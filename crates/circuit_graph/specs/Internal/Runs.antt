@@ -1,10 +1,9 @@
 -- A translation under way: the graph so far, and the corrections of the spiders that the wires have left.
-use Rattle.std.specs.Prelude.{◌≡◌, ℕ, ◌+◌, ◌≤◌, Bool, true, List, [], ◌∷◌, length}
-use Rattle.std.specs.List.{count_by}
+use Rattle.std.specs.Prelude.{◌≡◌, ℕ, ◌+◌, ◌≤◌, ltb, Bool, true, List, [], ◌∷◌, length}
+use Rattle.std.specs.List.{count_by, fold}
 use Rattle.zx_model.specs.Number.{one, mul}
 use Rattle.zx_calculus.specs.Sum.{sum}
-use Rattle.zx_calculus.specs.Graph.{XY, Graph, ids, kind_of, plane_of, end_vertices, WellFormed}
-use Rattle.zx_calculus.specs.Turns.{in_plane}
+use Rattle.zx_calculus.specs.Graph.{XY, Vertex, Graph, ids, plane_of, WellFormed}
 use Rattle.zx_model.specs.Bits.{member}
 use Rattle.zx_calculus.specs.Counts.{odd_phases}
 use Rattle.zx_gates.specs.Circuit.{Circuit, gate_odd_phases}
@@ -16,15 +15,24 @@ use Rattle.gflow_laws.specs.Flow.{Correction, IsFlow, SameSets}
 use Rattle.gflow_laws.specs.Splits.{split_output_table}
 use Rattle.circuit_laws.specs.Followed.{PeelsAt}
 use Rattle.circuit_laws.specs.Peeling.{IsSpiderPeel, IsPhasePeel, IsEdgePeel, are_plain}
-use Rattle.circuit_graph.specs.Translation.{wires, spiders_of, scalar_of, IsTranslation}
+use Rattle.circuit_graph.specs.Translation.{wires, with_gate, spiders_of, scalar_of, translated}
 
 pub record State : Type 0 where
   pub graph : Graph
   pub table : List Correction
 
+-- wires alone, before any gate
+abbrev pub begun : ℕ → State
+begun n = record { graph = wires n; table = [] }
+
+-- the ids of the vertices are the numbers below that of the vertices
+abbrev pub AreNumbered : List Vertex → Type 0
+AreNumbered vs = (u : ℕ) → member u (ids vs) ≡ ltb u (length vs)
+
 -- what holds between gates
 pub record IsReady (s : State) : Type 0 where
   pub well_formed : WellFormed s.graph
+  pub numbered : AreNumbered s.graph.vertices
   pub planes : (u : ℕ) → plane_of s.graph u ≡ XY
   pub flow : IsFlow s.graph s.table
   pub plain : are_plain s.graph.outputs ≡ true
@@ -32,6 +40,7 @@ pub record IsReady (s : State) : Type 0 where
 -- H: the old spider is corrected by the new one, and comes last
 pub record IsSpiderStep (s : State) (q : ℕ) (t : State) : Type 0 where
   pub peel : IsSpiderPeel t.graph q s.graph
+  pub id : peel.spider ≡ length s.graph.vertices
   pub table : SameSets t.table (split_output_table peel.next peel.spider s.table)
 
 pub record IsPhaseStep (s : State) (q k : ℕ) (t : State) : Type 0 where
@@ -57,27 +66,16 @@ IsRun s (gate ∷ gates) t = (u : State) × IsGateStep s gate u × IsRun u gates
 -- what t is after the gates
 pub record Comes (s : State) (gates : List Gate) (t : State) : Type 0 where
   pub ready : IsReady t
+  pub graph : t.graph ≡ fold with_gate s.graph gates
   pub map : PeelsAt one t.graph gates s.graph
   pub spiders : length t.graph.vertices ≡ length s.graph.vertices + count_by is_h gates
   pub odd : odd_phases t.graph ≤ odd_phases s.graph + gate_odd_phases gates
   pub inputs : t.graph.inputs ≡ s.graph.inputs
   pub outputs : length t.graph.outputs ≡ length s.graph.outputs
 
--- wires alone, so many of them
-pub record IsBegun (n : ℕ) (g : Graph) : Type 0 where
-  pub graph : g ≡ wires (end_vertices g.inputs)
-  pub count : length g.inputs ≡ n
-  pub spiders : length g.vertices ≡ n
-  pub ends : g.outputs ≡ g.inputs
-  pub plain : are_plain g.inputs ≡ true
-  pub end_vertices : (u : ℕ) → member u (ids g.vertices) ≡ member u (end_vertices g.inputs)
-  pub kinds : (u : ℕ) → kind_of g.vertices u ≡ in_plane XY 0
-  pub edges : g.edges ≡ []
-  pub odd : odd_phases g ≡ 0
-
 -- all that is promised of the graph of a circuit
 pub record Translates (c : Circuit) (t : State) : Type 0 where
-  pub graph : IsTranslation c t.graph
+  pub graph : t.graph ≡ translated c
   pub well_formed : WellFormed t.graph
   pub flow : IsFlow t.graph t.table
   pub spiders : length t.graph.vertices ≡ spiders_of c

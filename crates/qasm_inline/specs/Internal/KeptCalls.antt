@@ -169,7 +169,7 @@ gate_events (Some gate) = Applied gate ∷ []
 abbrev pub is_numbered : ℕ → ℕ → Meaning → Bool
 is_numbered number count (Gate form) = count == number
 is_numbered number count (Qubits first size) = false
-is_numbered number count Bits = false
+is_numbered number count (Bits first size) = false
 
 abbrev pub expand_number : Scope → Numbered
 expand_number [] number depth angles qubits = []

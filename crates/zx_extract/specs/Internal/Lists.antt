@@ -1,6 +1,6 @@
--- Lists of ends, and the last correction of a table.
-use Rattle.std.specs.Prelude.{◌≡◌, ℕ, ◌-◌, Bool, false, if◌then◌else◌, ltb, List, [], ◌∷◌, slice_get, Some, map}
-use Rattle.zx_calculus.specs.Graph.{End, Graph, end_vertices}
+-- Lists of ends, the outputs next to a vertex, and the last correction of a table.
+use Rattle.std.specs.Prelude.{◌≡◌, ℕ, ◌-◌, Bool, false, if◌then◌else◌, ltb, List, [], ◌∷◌, slice_get, Some, map, filter}
+use Rattle.zx_calculus.specs.Graph.{End, Graph, joined, end_vertices}
 use Rattle.zx_calculus.specs.Worked.{plain}
 use Rattle.gflow_laws.specs.Flow.{Correction, is_in}
 
@@ -15,6 +15,10 @@ with_outputs vertices g = record g { outputs = map plain vertices }
 -- the graph with each output at the vertex of the input of its number
 abbrev pub in_line : Graph → Graph
 in_line g = with_outputs (end_vertices g.inputs) g
+
+-- the vertices of outputs that are next to v: the legs of a gadget
+abbrev pub legs_of : Graph → ℕ → List ℕ
+legs_of g v = filter (joined g.edges v) (end_vertices g.outputs)
 
 -- whether a vertex is in the last set
 abbrev pub last_set : List Correction → ℕ → Bool

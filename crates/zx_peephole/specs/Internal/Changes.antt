@@ -1,18 +1,19 @@
 -- What each change of a list of gates keeps, and what it never raises.
-use Rattle.std.specs.Prelude.{◌≡◌, ◌+◌, ◌-◌, ◌*◌, ◌<◌, ◌≤◌, ℕ, Bool, List, ◌∷◌, ◌++◌, length, take, drop}
-use Rattle.std.specs.Prelude.{slice_index_or, count_by, IsTrue}
-use Rattle.std.specs.List.{list_all, remove}
+use Rattle.std.specs.Prelude.{◌≡◌, ◌+◌, ◌*◌, ◌<◌, ◌≤◌, ℕ, Bool, List, ◌∷◌, ◌++◌, length}
+use Rattle.std.specs.Prelude.{count_by, IsTrue}
+use Rattle.std.specs.List.{list_all}
 use Rattle.zx_model.specs.Number.{Number, mul}
 use Rattle.zx_gates.specs.declared.gate.Gate.{Gate}
 use Rattle.zx_gates.specs.declared.gate.Gate.TheVariants.{H}
-use Rattle.zx_gates.specs.Circuit.{Circuit, gate_odd_phases}
+use Rattle.zx_gates.specs.Circuit.{gate_odd_phases}
 use Rattle.zx_gates.specs.Counting.{is_two_qubit}
 use Rattle.zx_gates.specs.Maps.{acts}
 use Rattle.zx_peephole.specs.Commuting.{commutes}
 use Rattle.zx_peephole.specs.Tidy.{is_pair, is_turned, is_off, IsTidy}
 use Rattle.zx_peephole.specs.declared.finding.Change.{Change}
 use Rattle.zx_peephole.specs.declared.finding.Change.TheVariants.{Pair, Triple}
-use Rattle.zx_peephole.specs.declared.changing.Progress.{Progress}
+use Rattle.zx_peephole.specs.declared.chains.Chains.{Chains}
+use Rattle.zx_peephole.specs.Internal.Chains.{kept, place_of, next_of, all_left, IsKept}
 use Rattle.zx_model.specs.Constants.{power_of_two}
 
 -- ---- what a gate behind a list makes with gates of it
@@ -41,14 +42,20 @@ pub record EndsTriple (front : List Gate) (gate : Gate) (i j : ℕ) : Type 0 whe
   pub left_off : IsTrue (list_all (is_off qubit) left)
   pub right_off : IsTrue (list_all (is_off qubit) right)
 
-abbrev pub IsChange : List Gate → Gate → Change → Type 0
-IsChange front gate (Pair first) = EndsPair front gate first
-IsChange front gate (Triple first middle) = EndsTriple front gate first middle
+-- such a pair or triple with the next gate, by the places of the others
+pub record IsPairAt (w : Chains) (i : ℕ) : Type 0 where
+  pub first : IsKept w i
+  pub pair : EndsPair (kept w) (next_of w) (place_of w i)
 
--- the places are below n
-abbrev pub AreBelow : ℕ → Change → Type 0
-AreBelow n (Pair first) = first < n
-AreBelow n (Triple first middle) = (first < middle) × (middle < n)
+pub record IsTripleAt (w : Chains) (i j : ℕ) : Type 0 where
+  pub order : i < j
+  pub first : IsKept w i
+  pub middle : IsKept w j
+  pub triple : EndsTriple (kept w) (next_of w) (place_of w i) (place_of w j)
+
+abbrev pub IsChange : Chains → Change → Type 0
+IsChange w (Pair first) = IsPairAt w first
+IsChange w (Triple first middle) = IsTripleAt w first middle
 
 -- ---- lists that change
 -- on n qubits, up to a power of two the old gates have the map of the new ones, of which there are no more of any kind
@@ -60,35 +67,10 @@ pub record Shortens (n : ℕ) (old new : List Gate) : Type 0 where
   pub odd : gate_odd_phases new ≤ gate_odd_phases old
   pub two_qubit : count_by is_two_qubit new ≤ count_by is_two_qubit old
 
--- the same for circuits, which are on the same qubits
-pub record IsShortened (old new : Circuit) : Type 0 where
-  pub qubits : new.qubits ≡ old.qubits
-  pub gates : Shortens old.qubits old.gates new.gates
-
--- the circuit without the gates between those that are kept and those that aren't read yet
-abbrev pub left_of : Circuit → Progress → Circuit
-left_of c at = record { qubits = c.qubits; gates = take at.kept c.gates ++ drop at.next c.gates }
-
--- a gate is left to read
-pub record IsReading (c : Circuit) (at : Progress) : Type 0 where
-  pub kept : at.kept ≤ at.next
-  pub next : at.next < length c.gates
-
--- the gate that is read next
-abbrev pub next_of : Circuit → Progress → Gate
-next_of c at = slice_index_or c.gates at.next (H 0)
-
--- The gates between a place and i have moved one place to the front, over the gate at the place.
-pub record IsClosed (old new : List Gate) (place i : ℕ) : Type 0 where
-  pub front : take (i - 1) new ≡ remove (take i old) place
-  pub rest : drop i new ≡ drop i old
-  pub as_long : length new ≡ length old
-
 -- a step of the cleanup: what is kept stays tidy, and fewer gates are left to read or to keep
-pub record IsAdvance (old : Circuit) (at : Progress) (new : Circuit) (reached : Progress) : Type 0 where
-  pub shortened : IsShortened (left_of old at) (left_of new reached)
-  pub tidy : IsTidy (take at.kept old.gates) → IsTidy (take reached.kept new.gates)
-  pub kept : reached.kept ≤ reached.next
-  pub within : reached.next ≤ length new.gates
-  pub as_long : length new.gates ≡ length old.gates
-  pub closer : reached.kept + 2 * at.next < at.kept + 2 * reached.next
+pub record IsAdvance (old new : Chains) : Type 0 where
+  pub qubits : new.qubits ≡ old.qubits
+  pub shortened : Shortens old.qubits (all_left old) (all_left new)
+  pub tidy : IsTidy (kept old) → IsTidy (kept new)
+  pub as_long : length new.gates.items ≡ length old.gates.items
+  pub closer : length (kept new) + 2 * old.next < length (kept old) + 2 * new.next

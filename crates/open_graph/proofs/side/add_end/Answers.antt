@@ -1,12 +1,12 @@
 use Rattle.std.proofs.Common.{◌≡◌, sym, ap, subst, ℕ, length, Some, arith}
-use Rattle.slab.specs.Slab.{ContainsKey}
+use Rattle.open_graph.specs.Internal.Table.{HasSlot}
 use Rattle.open_graph.specs.Internal.Slots.{told}
 use Rattle.open_graph.specs.Internal.Sides.{with_place}
 use Rattle.open_graph.specs.Internal.Changes.{Puts}
 use Rattle.open_graph.proofs.side.add_end.Goals as goal
 
 pub set_place-requires : goal.set_place-requires
-set_place-requires c = subst (λ (v : ℕ). ContainsKey c.args.slots.now v) (sym (ap (λ e. e.vertex) c.end.view_is)) c.requires
+set_place-requires c = subst (λ (v : ℕ). HasSlot c.args.slots.now v) (sym (ap (λ e. e.vertex) c.end.view_is)) c.requires
 
 pub returns-clause-slots : goal.returns-clause-slots
 returns-clause-slots c =

@@ -1,6 +1,6 @@
 use Rattle.std.proofs.Common.{◌≡◌, ◌∙◌, sym, ap, subst, ℕ, get_or, Some, None}
 use Rattle.std.proofs.lemmas.List.{get_or_read}
-use Rattle.slab.specs.Slab.{ContainsKey}
+use Rattle.open_graph.specs.Internal.Table.{HasSlot}
 use Rattle.open_graph.specs.Internal.Slots.{told}
 use Rattle.open_graph.specs.Internal.Sides.{with_place}
 use Rattle.open_graph.specs.Internal.Changes.{Puts}
@@ -11,12 +11,12 @@ pub set_place-requires : goal.set_place-requires
 set_place-requires c =
     let read : c.before-2.inside.vertex ≡ (get_or c.args.ends.now.items c.args.i c.args.end).vertex =
     ap (λ e. e.vertex) (c.before-2.view_is ∙ get_or_read c.args.ends.now.items c.args.i c.index-before.result.now c.requires.in_range c.index-before.ensures c.args.end) in
-    subst (λ (v : ℕ). ContainsKey c.args.slots.now v) (sym read) c.requires.before
+    subst (λ (v : ℕ). HasSlot c.args.slots.now v) (sym read) c.requires.before
 
 pub set_place-requires-2 : goal.set_place-requires-2
 set_place-requires-2 c =
     contained_put c.args.slots.now.slots c.set_place.new.slots.slots c.before-2.inside.vertex c.end.inside.vertex c.args.side None c.set_place.ensures
-    (subst (λ (v : ℕ). ContainsKey c.args.slots.now v) (sym (ap (λ e. e.vertex) c.end.view_is)) c.requires.after)
+    (subst (λ (v : ℕ). HasSlot c.args.slots.now v) (sym (ap (λ e. e.vertex) c.end.view_is)) c.requires.after)
 
 pub returns-clause-slots : goal.returns-clause-slots
 returns-clause-slots c =

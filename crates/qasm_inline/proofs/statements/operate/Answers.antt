@@ -3,23 +3,22 @@ use Rattle.std.specs.Option.{option_or}
 use Rattle.qasm_reader.specs.Syntax.{Act}
 use Rattle.qasm_reader.specs.Views.{action}
 use Rattle.qasm_scope.specs.Meaning.{most_calls, wrong_with}
-use Rattle.qasm_inline.proofs.StatementLemmas.{wrong-measure, wrong-reset}
+use Rattle.qasm_inline.proofs.StatementLemmas.{measured-wrong, wrong-reset}
 use Rattle.qasm_scope.specs.declared.causes.Cause.TheVariants.{Unsupported}
 use Rattle.qasm_inline.proofs.statements.operate.Goals as goal
 
 pub returns-in-Apply-clause-err : goal.returns-in-Apply-clause-err
-returns-in-Apply-clause-err c = λ cause scope e r.
-    ap (λ k. wrong_with most_calls scope c.args.unrolled.now.calls (Act (action k))) c.in-Apply.is
-    ∙ c.apply.ensures.err cause scope e r
+returns-in-Apply-clause-err c = λ cause scope e r m.
+    ap (λ k. wrong_with most_calls scope c.args.measured.now.list c.args.unrolled.now.calls (Act (action k))) c.in-Apply.is
+    ∙ c.apply.ensures.err cause scope e r m
 
 pub returns-in-Measure-clause-err : goal.returns-in-Measure-clause-err
-returns-in-Measure-clause-err c = λ cause scope e r.
-    let same : Unsupported ≡ cause = cc in
-    ap (λ k. wrong_with most_calls scope c.args.unrolled.now.calls (Act (action k))) c.in-Measure.is
-    ∙ ap (λ o. option_or o None) (wrong-measure scope _ _ ∙ ap Some same)
+returns-in-Measure-clause-err c = λ cause scope e r m.
+    ap (λ k. wrong_with most_calls scope c.args.measured.now.list c.args.unrolled.now.calls (Act (action k))) c.in-Measure.is
+    ∙ measured-wrong scope c.args.measured.now.list c.args.unrolled.now.calls _ _ ∙ c.measure.ensures.err cause scope e r m
 
 pub returns-in-Reset-clause-err : goal.returns-in-Reset-clause-err
-returns-in-Reset-clause-err c = λ cause scope e r.
+returns-in-Reset-clause-err c = λ cause scope e r m.
     let same : Unsupported ≡ cause = cc in
-    ap (λ k. wrong_with most_calls scope c.args.unrolled.now.calls (Act (action k))) c.in-Reset.is
+    ap (λ k. wrong_with most_calls scope c.args.measured.now.list c.args.unrolled.now.calls (Act (action k))) c.in-Reset.is
     ∙ ap (λ o. option_or o None) (wrong-reset scope _ ∙ ap Some same)

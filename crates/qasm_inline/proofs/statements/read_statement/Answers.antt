@@ -9,44 +9,44 @@ use Rattle.qasm_scope.specs.declared.causes.Cause.TheVariants.{SecondVersion, Un
 use Rattle.qasm_inline.proofs.statements.read_statement.Goals as goal
 
 pub returns-in-Version-clause-err : goal.returns-in-Version-clause-err
-returns-in-Version-clause-err c = λ cause scope e r.
+returns-in-Version-clause-err c = λ cause scope e r m.
     let same : SecondVersion ≡ cause = cc in
-    ap (λ k. wrong_with most_calls scope c.args.unrolled.now.calls (sentence k)) c.in-Version.is
+    ap (λ k. wrong_with most_calls scope c.args.measured.now.list c.args.unrolled.now.calls (sentence k)) c.in-Version.is
     ∙ ap (λ o. option_or o None) (wrong-version scope _ ∙ ap Some same)
 
 pub returns-in-Include-clause-err : goal.returns-in-Include-clause-err
-returns-in-Include-clause-err c = λ cause scope e r.
-    ap (λ k. wrong_with most_calls scope c.args.unrolled.now.calls (sentence k)) c.in-Include.is
+returns-in-Include-clause-err c = λ cause scope e r m.
+    ap (λ k. wrong_with most_calls scope c.args.measured.now.list c.args.unrolled.now.calls (sentence k)) c.in-Include.is
     ∙ ap (λ o. option_or o None) (c.include.ensures.err cause scope e r)
 
 pub returns-in-QubitRegister-clause-err : goal.returns-in-QubitRegister-clause-err
-returns-in-QubitRegister-clause-err c = λ cause scope e r.
-    ap (λ k. wrong_with most_calls scope c.args.unrolled.now.calls (sentence k)) c.in-QubitRegister.is
+returns-in-QubitRegister-clause-err c = λ cause scope e r m.
+    ap (λ k. wrong_with most_calls scope c.args.measured.now.list c.args.unrolled.now.calls (sentence k)) c.in-QubitRegister.is
     ∙ ap (λ o. option_or o None) (c.declare_qubits.ensures.err cause scope e r)
 
 pub returns-in-BitRegister-clause-err : goal.returns-in-BitRegister-clause-err
-returns-in-BitRegister-clause-err c = λ cause scope e r.
-    ap (λ k. wrong_with most_calls scope c.args.unrolled.now.calls (sentence k)) c.in-BitRegister.is
+returns-in-BitRegister-clause-err c = λ cause scope e r m.
+    ap (λ k. wrong_with most_calls scope c.args.measured.now.list c.args.unrolled.now.calls (sentence k)) c.in-BitRegister.is
     ∙ ap (λ o. option_or o None) (c.declare_bits.ensures.err cause scope e r)
 
 pub returns-in-Opaque-clause-err : goal.returns-in-Opaque-clause-err
-returns-in-Opaque-clause-err c = λ cause scope e r.
+returns-in-Opaque-clause-err c = λ cause scope e r m.
     let same : Unsupported ≡ cause = cc in
-    ap (λ k. wrong_with most_calls scope c.args.unrolled.now.calls (sentence k)) c.in-Opaque.is
+    ap (λ k. wrong_with most_calls scope c.args.measured.now.list c.args.unrolled.now.calls (sentence k)) c.in-Opaque.is
     ∙ ap (λ o. option_or o None) (wrong-opaque scope _ _ _ ∙ ap Some same)
 
 pub returns-in-If-clause-err : goal.returns-in-If-clause-err
-returns-in-If-clause-err c = λ cause scope e r.
+returns-in-If-clause-err c = λ cause scope e r m.
     let same : Unsupported ≡ cause = cc in
-    ap (λ k. wrong_with most_calls scope c.args.unrolled.now.calls (sentence k)) c.in-If.is
+    ap (λ k. wrong_with most_calls scope c.args.measured.now.list c.args.unrolled.now.calls (sentence k)) c.in-If.is
     ∙ ap (λ o. option_or o None) (wrong-if scope _ _ _ ∙ ap Some same)
 
 pub returns-in-Barrier-clause-err : goal.returns-in-Barrier-clause-err
-returns-in-Barrier-clause-err c = λ cause scope e r.
-    ap (λ k. wrong_with most_calls scope c.args.unrolled.now.calls (sentence k)) c.in-Barrier.is
+returns-in-Barrier-clause-err c = λ cause scope e r m.
+    ap (λ k. wrong_with most_calls scope c.args.measured.now.list c.args.unrolled.now.calls (sentence k)) c.in-Barrier.is
     ∙ ap (λ o. option_or o None) (ap (λ os. wrong_in scope (Barrier (map operand os))) (sym c.deref.ensures.value) ∙ c.barrier.ensures.err cause scope e r)
 
 pub returns-in-Operation-clause-err : goal.returns-in-Operation-clause-err
-returns-in-Operation-clause-err c = λ cause scope e r.
-    ap (λ k. wrong_with most_calls scope c.args.unrolled.now.calls (sentence k)) c.in-Operation.is
-    ∙ c.operate.ensures.err cause scope e r
+returns-in-Operation-clause-err c = λ cause scope e r m.
+    ap (λ k. wrong_with most_calls scope c.args.measured.now.list c.args.unrolled.now.calls (sentence k)) c.in-Operation.is
+    ∙ c.operate.ensures.err cause scope e r m

@@ -1,4 +1,4 @@
--- By induction over the gates: their lines, their statements, and their maps.
+-- By induction over the gates and measurements: their lines, their statements, and the gates' maps.
 use Rattle.qasm_writer.proofs.WrittenLemmas.{IsWritten, is_written, text_means, lowered_elements, odd_elements, same_map}
 use Rattle.qasm_writer.proofs.laws.written_texts_mean_their_circuits.Goals as goal
 
@@ -6,8 +6,8 @@ pub returns-clause-means : goal.returns-clause-means
 returns-clause-means c = text_means
 
 pub returns-clause-size : goal.returns-clause-size
-returns-clause-size c = λ circuit is.
-    let w : IsWritten circuit = is_written circuit is in
+returns-clause-size c = λ circuit bits measured is behind.
+    let w : IsWritten circuit bits measured = is_written circuit bits measured is behind in
     (w.program, w.is, w.size)
 
 pub returns-clause-gates : goal.returns-clause-gates

@@ -1,8 +1,9 @@
 -- The input at its place moves to the new vertex.
 use Rattle.std.proofs.Common.{◌<◌, ◌∙◌, sym, ap, subst, length, set, List, rules}
-use Rattle.zx_calculus.specs.Graph.{End, Graph}
+use Rattle.zx_calculus.specs.Graph.{End}
+use Rattle.zx_calculus.specs.Splits.{IsSplitInput}
 use Rattle.zx_boundary.proofs.Spiders.{end_live, new_live, new_plane, new_free}
-use Rattle.zx_boundary.proofs.Splits.{place_within, end_moved, input_split, new_found}
+use Rattle.zx_boundary.proofs.Splits.{place_within, end_moved, input_split}
 use Rattle.zx_boundary.proofs.inputs.split_input_in_graph.Goals as goal
 
 pub input_at-requires : goal.input_at-requires
@@ -45,14 +46,10 @@ pub returns-clause-step : goal.returns-clause-step
 returns-clause-step c =
     let found = rw c.unwrap-place.ensures at c.input_at.ensures.place in
     let read = rw c.inputs-inputs.ensures.value at c.index-inputs-place.is in
-    input_split c.args.g.now.graph c.args.b c.in_ok-new.new c.add_spider.new.g.graph c.move_input.new.self.graph
+    subst (λ n. IsSplitInput c.args.g.now.graph c.args.b n c.move_input.new.self.graph) c.in_ok-new.ensures.new
+    (input_split c.args.g.now.graph c.args.b c.in_ok-new.new c.add_spider.new.g.graph c.move_input.new.self.graph
     (set c.add_spider.new.g.graph.inputs c.unwrap-place.result c.toggled.result) c.in_ok-new.ensures.added c.requires
     (ap (λ es. set es c.unwrap-place.result c.toggled.result) c.in_ok-new.ensures.added.frame.inputs
     ∙ end_moved c.args.g.now.graph.inputs c.unwrap-place.result c.args.b c.in_ok-new.new c.index-inputs-place.result c.toggled.result
     c.inputs-inputs.ensures.valid.inputs.one_each found read c.toggled.ensures)
-    c.move_input.ensures.ok
-
-pub returns-clause-new : goal.returns-clause-new
-returns-clause-new c =
-    new_found c.args.g.now.graph c.args.b c.in_ok-new.new c.add_spider.new.g.graph c.move_input.new.self.graph c.in_ok-new.ensures.added
-    (ap (λ (g : Graph). g.vertices) c.move_input.ensures.ok)
+    c.move_input.ensures.ok)

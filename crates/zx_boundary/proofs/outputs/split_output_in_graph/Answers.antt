@@ -1,8 +1,9 @@
 -- The output at its place moves to the new vertex.
 use Rattle.std.proofs.Common.{◌<◌, ◌∙◌, sym, ap, subst, length, set, List, rules}
-use Rattle.zx_calculus.specs.Graph.{End, Graph}
+use Rattle.zx_calculus.specs.Graph.{End}
+use Rattle.zx_calculus.specs.Splits.{IsSplitOutput}
 use Rattle.zx_boundary.proofs.Spiders.{end_live, new_live, new_plane, new_free}
-use Rattle.zx_boundary.proofs.Splits.{place_within, end_moved, output_split, new_found}
+use Rattle.zx_boundary.proofs.Splits.{place_within, end_moved, output_split}
 use Rattle.zx_boundary.proofs.outputs.split_output_in_graph.Goals as goal
 
 pub output_at-requires : goal.output_at-requires
@@ -45,14 +46,10 @@ pub returns-clause-step : goal.returns-clause-step
 returns-clause-step c =
     let found = rw c.unwrap-place.ensures at c.output_at.ensures.place in
     let read = rw c.outputs-outputs.ensures.value at c.index-outputs-place.is in
-    output_split c.args.g.now.graph c.args.b c.in_ok-new.new c.add_spider.new.g.graph c.move_output.new.self.graph
+    subst (λ n. IsSplitOutput c.args.g.now.graph c.args.b n c.move_output.new.self.graph) c.in_ok-new.ensures.new
+    (output_split c.args.g.now.graph c.args.b c.in_ok-new.new c.add_spider.new.g.graph c.move_output.new.self.graph
     (set c.add_spider.new.g.graph.outputs c.unwrap-place.result c.toggled.result) c.in_ok-new.ensures.added c.requires
     (ap (λ es. set es c.unwrap-place.result c.toggled.result) c.in_ok-new.ensures.added.frame.outputs
     ∙ end_moved c.args.g.now.graph.outputs c.unwrap-place.result c.args.b c.in_ok-new.new c.index-outputs-place.result c.toggled.result
     c.outputs-outputs.ensures.valid.outputs.one_each found read c.toggled.ensures)
-    c.move_output.ensures.ok
-
-pub returns-clause-new : goal.returns-clause-new
-returns-clause-new c =
-    new_found c.args.g.now.graph c.args.b c.in_ok-new.new c.add_spider.new.g.graph c.move_output.new.self.graph c.in_ok-new.ensures.added
-    (ap (λ (g : Graph). g.vertices) c.move_output.ensures.ok)
+    c.move_output.ensures.ok)

@@ -1,5 +1,5 @@
 -- The vertex whose output moved comes last.
-use Rattle.std.proofs.Common.{sym, ◌∙◌, ap}
+use Rattle.std.proofs.Common.{◌∙◌, ap}
 use Rattle.zx_calculus.proofs.Positions.{on_ok}
 use Rattle.gflow_laws.specs.Seen.{seen}
 use Rattle.gflow_laws.specs.Splits.{split_output_table}
@@ -16,7 +16,7 @@ add_last-requires c =
 pub returns-clause-table : goal.returns-clause-table
 returns-clause-table c =
     on_ok c.add_last.result
-    (λ made. made ∙ ap (λ n. split_output_table c.args.b n c.args.f.now.flow) (sym c.in_ok-new.ensures.new))
+    (λ made. made ∙ ap (λ n. split_output_table c.args.b n c.args.f.now.flow) c.in_ok-new.ensures.new)
     c.add_last.ensures.ok
 
 pub returns-clause-rewritten : goal.returns-clause-rewritten

@@ -3,4 +3,4 @@ use Rattle.zx_calculus.proofs.Splits.{odd-split, even-split_output, planes-split
 use Rattle.zx_calculus.proofs.counts.counts_after_the_split_of_an_output.Goals as goal
 
 pub returns : goal.returns
-returns c g b h w s = record { odd_phases = odd-split g h s.new s.vertices; even_interior = even-split_output g b h w s; not_XY = planes-split g h s.new s.vertices }
+returns c g b new h w s = record { odd_phases = odd-split g h new s.vertices; even_interior = even-split_output g b new h w s; not_XY = planes-split g h new s.vertices }

@@ -1,41 +1,56 @@
 -- What stops the gate on its way to the front decides what it ends.
-use Rattle.std.proofs.Common.{sym, ◌∙◌}
-use Rattle.zx_peephole.proofs.FindingLemmas.{if_none, free_extends, stop_is_pair, stop_is_straight, none_stops_before}
-use Rattle.zx_peephole.proofs.FindingLemmas.{stop_is_triple, first_is_other}
+use Rattle.std.proofs.Common.{sym, ◌∙◌, subst, ℕ}
+use Rattle.zx_peephole.specs.Internal.Stops.{IsStop, IsFreeBetween}
+use Rattle.zx_peephole.proofs.FindingLemmas.{if_none}
+use Rattle.zx_peephole.proofs.SearchLemmas.{nothing_stops, stops_as_pair, stops_straight, nothing_before}
+use Rattle.zx_peephole.proofs.SearchLemmas.{stops_as_triple, other_before}
 use Rattle.zx_peephole.proofs.finding.find.Goals as goal
 
 pub returns-in_err-stop-clause-none : goal.returns-in_err-stop-clause-none
 returns-in_err-stop-clause-none c =
-    if_none c.from_residual.result _ (free_extends c.args.front.now c.args.gate.now c.in_err-stop.ensures.none)
+    if_none c.from_residual.result _
+    (nothing_stops c.args.work.now c.requires c.index-gate.result.now c.index-gate.ensures
+    (subst (λ (n : ℕ). IsFreeBetween c.args.work.now.gates.items c.index-gate.result.now 0 n) c.start.ensures.place
+    c.in_err-stop.ensures.none))
 
 pub returns-then-is_pair-clause-found : goal.returns-then-is_pair-clause-found
 returns-then-is_pair-clause-found c =
-    stop_is_pair c.args.front.now c.args.gate.now c.in_ok-stop.stop c.in_ok-stop.ensures.found
-    c.index-front-stop.result c.index-front-stop.is (sym c.is_pair.ensures ∙ c.if-is_pair.true)
+    stops_as_pair c.args.work.now c.requires c.index-gate.result.now c.index-gate.ensures c.in_ok-stop.stop
+    (subst (λ (n : ℕ). IsStop c.args.work.now.gates.items c.index-gate.result.now n c.in_ok-stop.stop) c.start.ensures.place
+    c.in_ok-stop.ensures.found) c.index-earlier.result.now c.index-earlier.ensures
+    (sym c.is_pair.ensures ∙ c.if-is_pair.true)
 
 pub returns-then-not-turns-clause-none : goal.returns-then-not-turns-clause-none
 returns-then-not-turns-clause-none c =
-    stop_is_straight c.args.front.now c.args.gate.now c.in_ok-stop.stop c.in_ok-stop.ensures.found
-    c.index-front-stop.result c.index-front-stop.is (sym c.is_pair.ensures ∙ c.if-is_pair.false)
-    (sym c.turns.ensures ∙ c.if-not-turns.true)
+    stops_straight c.args.work.now c.requires c.index-gate.result.now c.index-gate.ensures c.in_ok-stop.stop
+    (subst (λ (n : ℕ). IsStop c.args.work.now.gates.items c.index-gate.result.now n c.in_ok-stop.stop) c.start.ensures.place
+    c.in_ok-stop.ensures.found) c.index-earlier.result.now c.index-earlier.ensures
+    (sym c.is_pair.ensures ∙ c.if-is_pair.false) (sym c.turns.ensures ∙ c.if-not-turns.true)
 
 pub returns-in_err-first-clause-none : goal.returns-in_err-first-clause-none
 returns-in_err-first-clause-none c =
     if_none c.from_residual-in_err-first.result _
-    (none_stops_before c.args.front.now c.args.gate.now c.in_ok-stop.stop c.in_ok-stop.ensures.found
-    c.index-front-stop.result c.index-front-stop.is
-    (sym c.is_pair.ensures ∙ c.if-is_pair.false) c.in_err-first.ensures.none)
+    (nothing_before c.args.work.now c.requires c.index-gate.result.now c.index-gate.ensures c.in_ok-stop.stop
+    (subst (λ (n : ℕ). IsStop c.args.work.now.gates.items c.index-gate.result.now n c.in_ok-stop.stop) c.start.ensures.place
+    c.in_ok-stop.ensures.found) c.index-earlier.result.now c.index-earlier.ensures
+    (sym c.is_pair.ensures ∙ c.if-is_pair.false)
+    (subst (λ (n : ℕ). IsFreeBetween c.args.work.now.gates.items c.index-gate.result.now 0 n) c.before-2.ensures.place
+    c.in_err-first.ensures.none))
 
 pub returns-then-is_pair-2-clause-found : goal.returns-then-is_pair-2-clause-found
 returns-then-is_pair-2-clause-found c =
-    stop_is_triple c.args.front.now c.args.gate.now c.in_ok-stop.stop c.in_ok-stop.ensures.found
-    c.index-front-stop.result c.index-front-stop.is
-    c.in_ok-first.first c.in_ok-first.ensures.found c.index-front-first.result c.index-front-first.is
+    stops_as_triple c.args.work.now c.requires c.index-gate.result.now c.index-gate.ensures c.in_ok-stop.stop
+    (subst (λ (n : ℕ). IsStop c.args.work.now.gates.items c.index-gate.result.now n c.in_ok-stop.stop) c.start.ensures.place
+    c.in_ok-stop.ensures.found) c.index-earlier.result.now c.index-earlier.ensures c.in_ok-first.first
+    (subst (λ (n : ℕ). IsStop c.args.work.now.gates.items c.index-gate.result.now n c.in_ok-first.first) c.before-2.ensures.place
+    c.in_ok-first.ensures.found) c.index.result.now c.index.ensures
     (sym c.turns.ensures ∙ c.if-not-turns.false) (sym c.is_pair-2.ensures ∙ c.if-is_pair-2.true)
 
 pub returns-else-is_pair-2-clause-none : goal.returns-else-is_pair-2-clause-none
 returns-else-is_pair-2-clause-none c =
-    first_is_other c.args.front.now c.args.gate.now c.in_ok-stop.stop c.in_ok-stop.ensures.found
-    c.index-front-stop.result c.index-front-stop.is
-    c.in_ok-first.first c.in_ok-first.ensures.found c.index-front-first.result c.index-front-first.is
+    other_before c.args.work.now c.requires c.index-gate.result.now c.index-gate.ensures c.in_ok-stop.stop
+    (subst (λ (n : ℕ). IsStop c.args.work.now.gates.items c.index-gate.result.now n c.in_ok-stop.stop) c.start.ensures.place
+    c.in_ok-stop.ensures.found) c.index-earlier.result.now c.index-earlier.ensures c.in_ok-first.first
+    (subst (λ (n : ℕ). IsStop c.args.work.now.gates.items c.index-gate.result.now n c.in_ok-first.first) c.before-2.ensures.place
+    c.in_ok-first.ensures.found) c.index.result.now c.index.ensures
     (sym c.is_pair.ensures ∙ c.if-is_pair.false) (sym c.is_pair-2.ensures ∙ c.if-is_pair-2.false)

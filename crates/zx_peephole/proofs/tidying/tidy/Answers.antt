@@ -1,34 +1,53 @@
-use Rattle.std.proofs.Common.{arith, ap, length}
+-- Each step shortens the list, and at the end all that is left is kept.
+use Rattle.std.proofs.Common.{ℕ, ◌≤◌, List, length, sym, ap, ◌∙◌, subst, arith}
+use Rattle.zx_gates.specs.declared.gate.Gate.{Gate}
+use Rattle.zx_gates.specs.Circuit.{Circuit}
 use Rattle.zx_gates.specs.Maps.{amp}
+use Rattle.zx_peephole.specs.Tidy.{IsTidy}
+use Rattle.zx_peephole.specs.Doubling.{IsDoubled}
+use Rattle.zx_peephole.specs.Internal.Chains.{all_left}
+use Rattle.zx_peephole.specs.Internal.Changes.{Shortens}
 use Rattle.zx_peephole.proofs.TidyLemmas.{tidy-none}
-use Rattle.zx_peephole.proofs.ChangeLemmas.{shortened-refl, steps, whole, shortens_doubled, doubled_proportional}
+use Rattle.zx_peephole.proofs.ChangeLemmas.{shortens-refl, shortens-trans, shortens_doubled, doubled_proportional}
+use Rattle.zx_peephole.proofs.AdvanceLemmas.{kept_none, left_first, left_last}
 use Rattle.zx_peephole.proofs.tidying.tidy.Goals as goal
 
-pub loop-progress-init : goal.loop-progress-init
-loop-progress-init c =
-    record { tidy = tidy-none; kept = omega arith; within = omega arith; shortened = shortened-refl c.args.g.now }
+pub loop-work-init : goal.loop-work-init
+loop-work-init c =
+    let w = c.begin-work.result in
+    let gates = c.begin-work.ensures.gates ∙ ap (λ (d : Circuit). d.gates) c.take.ensures.circuit in
+    record {
+      sound = c.begin-work.ensures.sound;
+      tidy = subst IsTidy (sym (kept_none w c.begin-work.ensures.next)) tidy-none;
+      qubits = c.begin-work.ensures.qubits ∙ ap (λ (d : Circuit). d.qubits) c.take.ensures.circuit;
+      shortened = subst (λ (xs : List Gate). Shortens c.args.g.now.qubits c.args.g.now.gates xs)
+          (sym (left_first w c.begin-work.ensures.next ∙ gates)) (shortens-refl c.args.g.now.qubits c.args.g.now.gates);
+    }
 
-pub loop-progress-preserved : goal.loop-progress-preserved
-loop-progress-preserved c = record {
-  tidy = c.settle-progress.ensures.tidy c.loop-progress.invariant.tidy;
-  kept = c.settle-progress.ensures.kept;
-  within = c.settle-progress.ensures.within;
-  shortened = steps c.args.g.now c.loop-progress.g c.settle-progress.new.g c.loop-progress.progress
-      c.settle-progress.result
-      c.loop-progress.invariant.shortened c.settle-progress.ensures;
-}
+pub loop-work-preserved : goal.loop-work-preserved
+loop-work-preserved c =
+    let a = c.settle.ensures.advance in
+    let l = c.loop-work.invariant in
+    record {
+      sound = c.settle.ensures.sound;
+      tidy = a.tidy l.tidy;
+      qubits = a.qubits ∙ l.qubits;
+      shortened = shortens-trans c.args.g.now.qubits c.args.g.now.gates (all_left c.loop-work.work) (all_left c.settle.new.work)
+          l.shortened
+          (subst (λ (n : ℕ). Shortens n (all_left c.loop-work.work) (all_left c.settle.new.work)) l.qubits a.shortened);
+    }
 
 pub returns-clause-map : goal.returns-clause-map
 returns-clause-map c =
-    shortens_doubled c.args.g.now.qubits c.args.g.now.gates c.cut_off.new.g.gates
-    (whole c.args.g.now c.loop-progress.g c.cut_off.new.g c.loop-progress.progress c.loop-progress.invariant.shortened
-    (omega (arith, c.loop-progress-test.false, ap length c.gates.ensures.value)) c.cut_off.ensures.qubits
-    c.cut_off.ensures.gates).gates
+    let all : length c.loop-work.work.gates.items ≤ c.loop-work.work.next = omega (arith, c.loop-work-test.false, c.len.ensures) in
+    let gates = ap (λ (d : Circuit). d.gates) c.from_parts.ensures ∙ c.end.ensures.gates ∙ sym (left_last c.loop-work.work all) in
+    subst (λ (xs : List Gate). IsDoubled c.args.g.now.qubits (amp c.args.g.now.gates) (amp xs)) (sym gates)
+    (shortens_doubled c.args.g.now.qubits c.args.g.now.gates (all_left c.loop-work.work) c.loop-work.invariant.shortened)
 
 pub returns-clause-proportional : goal.returns-clause-proportional
 returns-clause-proportional c =
-    doubled_proportional c.args.g.now.qubits (amp c.args.g.now.gates) (amp c.cut_off.new.g.gates)
-    (shortens_doubled c.args.g.now.qubits c.args.g.now.gates c.cut_off.new.g.gates
-    (whole c.args.g.now c.loop-progress.g c.cut_off.new.g c.loop-progress.progress c.loop-progress.invariant.shortened
-    (omega (arith, c.loop-progress-test.false, ap length c.gates.ensures.value)) c.cut_off.ensures.qubits
-    c.cut_off.ensures.gates).gates)
+    let all : length c.loop-work.work.gates.items ≤ c.loop-work.work.next = omega (arith, c.loop-work-test.false, c.len.ensures) in
+    let gates = ap (λ (d : Circuit). d.gates) c.from_parts.ensures ∙ c.end.ensures.gates ∙ sym (left_last c.loop-work.work all) in
+    doubled_proportional c.args.g.now.qubits (amp c.args.g.now.gates) (amp c.from_parts.result.gates)
+    (subst (λ (xs : List Gate). IsDoubled c.args.g.now.qubits (amp c.args.g.now.gates) (amp xs)) (sym gates)
+    (shortens_doubled c.args.g.now.qubits c.args.g.now.gates (all_left c.loop-work.work) c.loop-work.invariant.shortened))

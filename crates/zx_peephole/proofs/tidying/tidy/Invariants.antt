@@ -1,16 +1,17 @@
--- What is kept is tidy, and with what isn't read yet it is no longer than the list was.
-use Rattle.std.proofs.Common.{◌+◌, ◌-◌, ◌*◌, ◌≤◌, length, take}
+-- What is kept is tidy, and with what isn't read yet it has the map of the list, and is no longer than it was.
+use Rattle.std.proofs.Common.{◌≡◌, ◌+◌, ◌-◌, ◌*◌, length}
 use Rattle.zx_peephole.specs.Tidy.{IsTidy}
-use Rattle.zx_peephole.specs.Internal.Changes.{IsShortened, left_of}
+use Rattle.zx_peephole.specs.Internal.Chains.{IsSound, kept, all_left}
+use Rattle.zx_peephole.specs.Internal.Changes.{Shortens}
 use Rattle.zx_peephole.proofs.tidying.tidy.Given as goal
 
-abbrev pub invariant-loop-progress : goal.invariant-loop-progress
-invariant-loop-progress l = record {
-  tidy : IsTidy (take l.progress.kept l.g.gates);
-  kept : l.progress.kept ≤ l.progress.next;
-  within : l.progress.next ≤ length l.g.gates;
-  shortened : IsShortened l.initial.g (left_of l.g l.progress);
+abbrev pub invariant-loop-work : goal.invariant-loop-work
+invariant-loop-work l = record {
+  sound : IsSound l.work;
+  tidy : IsTidy (kept l.work);
+  qubits : l.work.qubits ≡ l.fn.g.qubits;
+  shortened : Shortens l.fn.g.qubits l.fn.g.gates (all_left l.work);
 }
 
-abbrev pub decreases-loop-progress : goal.decreases-loop-progress
-decreases-loop-progress l = l.progress.kept + 2 * (length l.g.gates - l.progress.next)
+abbrev pub decreases-loop-work : goal.decreases-loop-work
+decreases-loop-work l = length (kept l.work) + 2 * (length l.work.gates.items - l.work.next)

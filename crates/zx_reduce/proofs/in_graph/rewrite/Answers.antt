@@ -1,9 +1,8 @@
 -- What each rewrite does to the order.
-use Rattle.std.proofs.Common.{refl, sym, ap, ◌∙◌}
+use Rattle.std.proofs.Common.{refl, ap, ◌∙◌}
 use Rattle.zx_calculus.specs.Steps.{LocalComplement, Delete, Pivot, DropLone, FuseInto, FuseTwin}
 use Rattle.zx_calculus.proofs.Positions.{on_ok}
 use Rattle.move_laws.specs.Ranks.{rank_in, ranked}
-use Rattle.gflow_laws.proofs.Splits.{new_vertex-split}
 use Rattle.zx_reduce.proofs.Ranking.{on_all, flow_kept, flow_first, flow_last}
 use Rattle.zx_reduce.proofs.in_graph.rewrite.Goals as goal
 
@@ -28,13 +27,11 @@ returns-in-Pivot-clause-flow c =
 
 pub returns-in_ok-new-in-SplitInput-clause-flow : goal.returns-in_ok-new-in-SplitInput-clause-flow
 returns-in_ok-new-in-SplitInput-clause-flow c =
-    let step = c.in_ok-new-in-SplitInput.ensures.step in
-    let named = sym (c.in_ok-new-in-SplitInput.ensures.new)
-    ∙ new_vertex-split c.args.g.now.graph step.new c.split_input_in_graph.new.g.graph step.fresh step.vertices in
     on_all c.add_first.result c.add_first.ensures.ranks c.add_first.ensures.low c.add_first.ensures.high
     (λ ranks. flow_first c.args.g.now.graph c.split_input_in_graph.new.g.graph c.args.order.now c.add_first.new.self
-    c.split_input_in_graph.ensures.was_valid c.requires.flow c.in-SplitInput.b step
-    (λ w. ranks w ∙ ap (λ n. ranked n c.add_first.new.self.low (rank_in c.args.order.now.ranks.items) w) named))
+    c.split_input_in_graph.ensures.was_valid c.requires.flow c.in-SplitInput.b c.in_ok-new-in-SplitInput.ensures.step
+    (λ w. ranks w ∙ ap (λ n. ranked n c.add_first.new.self.low (rank_in c.args.order.now.ranks.items) w)
+    c.in_ok-new-in-SplitInput.ensures.new))
 
 pub returns-in_ok-split_output_in_graph-in-SplitOutput-clause-flow : goal.returns-in_ok-split_output_in_graph-in-SplitOutput-clause-flow
 returns-in_ok-split_output_in_graph-in-SplitOutput-clause-flow c =

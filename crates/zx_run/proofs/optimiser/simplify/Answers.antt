@@ -1,6 +1,7 @@
 -- The graphs are between the two circuits: maps, odd phases and widths carry over from one to the next.
-use Rattle.std.proofs.Common.{◌≤◌, map, le_trans, ◌∙◌}
+use Rattle.std.proofs.Common.{◌≤◌, map, le_trans, ◌∙◌, subst}
 use Rattle.zx_gates.specs.Circuit.{gate_odd_phases}
+use Rattle.zx_calculus.specs.Steps.{IsRun}
 use Rattle.zx_calculus.specs.Counts.{odd_phases}
 use Rattle.zx_reduce.specs.Steps.{step_named}
 use Rattle.zx_run.proofs.Simplified.{no_XZ, map_through, few_through}
@@ -18,6 +19,7 @@ returns g c =
     let start = c.in_ok-graph.graph.graph in
     let end = c.reduce.new.g.graph in
     let made = c.tidy.new.g in
+    let steps = map step_named reduced.run.gained in
     let fewer : gate_odd_phases made.gates ≤ odd_phases end = le_trans clean.odd drawn.odd in
     let no_more : odd_phases end ≤ gate_odd_phases c.args.read.now.gates = le_trans reduced.odd first.odd in
     record {
@@ -29,11 +31,9 @@ returns g c =
       few_gates = few_through c.args.read.now c.in_ok-made.made made start end first.inputs first.outputs reduced.inputs reduced.outputs drawn.qubits
           c.reduce.ensures.valid reduced.reduced no_more drawn.few_gates clean.length;
       reduced = record {
-        start = start;
-        steps = map step_named reduced.run.gained;
+        steps = steps;
         end = end;
-        translation = first.graph;
-        run = reduced.run.run;
+        run = subst (λ g. IsRun g steps end) first.graph reduced.run.run;
         reduced = reduced.reduced;
         odd = fewer;
       };

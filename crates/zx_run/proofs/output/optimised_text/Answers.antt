@@ -1,7 +1,7 @@
 -- The optimised circuit is what is written.
-use Rattle.std.proofs.Common.{rules, subst}
+use Rattle.std.proofs.Common.{rules, subst, ◌∙◌}
 use Rattle.zx_gates.specs.Circuit.{IsCircuit}
-use Rattle.zx_run.proofs.OptimiseLemmas.{IsOptimisedText-written}
+use Rattle.zx_run.proofs.OptimiseLemmas.{IsOptimisedText-written, measured_behind}
 use Rattle.zx_run.proofs.output.optimised_text.Goals as goal
 
 pub returns-clause-output : goal.returns-clause-output
@@ -9,6 +9,7 @@ returns-clause-output c =
     let lowered = c.in_ok-lowered.ensures in
     let made = c.in_ok-optimised.ensures in
     let circuit = c.in_ok-optimised.optimised in
-    IsOptimisedText-written _ _ _ _ _ _ c.in_ok-lowered.lowered circuit c.in_ok-read.ensures.accepted lowered.qubits lowered.list lowered.map lowered.odd
+    IsOptimisedText-written _ _ _ _ c.in_ok-read.read c.in_ok-lowered.lowered circuit c.in_ok-read.ensures.accepted lowered.qubits lowered.list lowered.map lowered.odd
     (record { qubits = made.qubits; map = made.map; odd = made.odd; tidy = made.tidy; few_gates = made.few_gates; reduced = made.reduced })
-    made.best (subst IsCircuit c.optimised.view_is c.optimised.invariant) (search rules)
+    made.best (subst IsCircuit c.optimised.view_is c.optimised.invariant)
+    (measured_behind c.in_ok-read.read circuit c.in_ok-read.ensures.valid (made.qubits ∙ lowered.qubits)) (search rules)

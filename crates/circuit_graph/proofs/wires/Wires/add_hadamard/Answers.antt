@@ -2,7 +2,7 @@
 use Rattle.std.proofs.Common.{◌∙◌, ap₂, set}
 use Rattle.circuit_graph.specs.Internal.Wires.{state_of}
 use Rattle.circuit_graph.proofs.Gates.{gate_comes}
-use Rattle.circuit_graph.proofs.Calls.{here_still_live, next_live, here_apart, next_still_live, next_plane, next_free, here_uncorrected, spider_step}
+use Rattle.circuit_graph.proofs.Calls.{here_still_live, new_live, here_apart, next_still_live, next_plane, next_free, here_uncorrected, spider_step}
 use Rattle.zx_gates.specs.declared.gate.Gate.TheVariants.{H}
 use Rattle.circuit_graph.proofs.wires.Wires.add_hadamard.Goals as goal
 use Rattle.std.proofs.lemmas.Result.{on_ok_weaker}
@@ -13,7 +13,7 @@ toggle_edge-requires-clause-u_live c =
 
 pub toggle_edge-requires-clause-v_live : goal.toggle_edge-requires-clause-v_live
 toggle_edge-requires-clause-v_live c =
-    next_live (state_of c.args.self.now) c.args.q c.present-here.result c.in_ok-next.next c.new.result c.add_vertex.new.self.graph c.requires.ready c.present-here.ensures c.in_ok-next.ensures.fresh c.new.ensures c.in_ok-next.ensures.ok
+    new_live c.args.self.now.graph.graph c.in_ok-next.next c.new.result c.add_vertex.new.self.graph c.in_ok-next.ensures.fresh c.new.ensures c.in_ok-next.ensures.ok
 
 pub toggle_edge-requires-clause-different : goal.toggle_edge-requires-clause-different
 toggle_edge-requires-clause-different c =
@@ -41,6 +41,7 @@ add-requires-clause-fresh c =
 pub returns-clause-step : goal.returns-clause-step
 returns-clause-step c =
     on_ok_weaker c.add.result (λ same. spider_step (state_of c.args.self.now) c.args.q c.present-here.result c.in_ok-next.next c.new.result c.add_vertex.new.self.graph c.requires.ready c.present-here.ensures c.in_ok-next.ensures.fresh c.new.ensures c.in_ok-next.ensures.ok c.toggle_edge.new.self.graph c.in_ok-toggle_edge.ensures.ok _
+    c.in_ok-next.ensures.least
     (c.move_output.ensures.ok
     ∙ ap₂ (λ i e. record {
       vertices = c.toggle_edge.new.self.graph.vertices;

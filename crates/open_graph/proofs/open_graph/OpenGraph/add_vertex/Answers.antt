@@ -2,10 +2,12 @@ use Rattle.std.proofs.Common.{◌∙◌, sym, ap, rules}
 use Rattle.std.proofs.lemmas.Result.{err_from_is_err_and}
 use Rattle.zx_model.specs.Bits.{member}
 use Rattle.zx_calculus.specs.Graph.{ids, insert_vertex}
+use Rattle.zx_calculus.specs.Splits.{least_free}
 use Rattle.zx_calculus.specs.Turns.{in_plane}
+use Rattle.zx_calculus.proofs.LeastFree.{least_free-unique}
 use Rattle.open_graph.specs.Planes.{plane_named}
-use Rattle.open_graph.specs.Internal.Slots.{told_by}
-use Rattle.open_graph.proofs.SlotLemmas.{member-vertices}
+use Rattle.open_graph.specs.Internal.Slots.{told_by, vertices_of}
+use Rattle.open_graph.proofs.SlotLemmas.{rising_vertices, member-vertices, member_of_some}
 use Rattle.open_graph.proofs.Keeping.{becomes_same, becomes_added}
 use Rattle.open_graph.proofs.open_graph.OpenGraph.add_vertex.Goals as goal
 
@@ -31,6 +33,14 @@ pub returns-clause-fresh : goal.returns-clause-fresh
 returns-clause-fresh c =
     ap (λ g. member c.in_ok-v.v (ids g.graph.vertices)) (sym c.self.view_is)
     ∙ member-vertices c.self.inside.slots.slots c.in_ok-v.v ∙ ap (λ o. (told_by o).live) c.in_ok-v.ensures.vacant
+
+pub returns-clause-least : goal.returns-clause-least
+returns-clause-least c =
+    let slots = c.self.inside.slots.slots in
+    least_free-unique (ids (vertices_of slots)) c.in_ok-v.v (rising_vertices 0 slots)
+    (member-vertices slots c.in_ok-v.v ∙ ap (λ o. (told_by o).live) c.in_ok-v.ensures.vacant)
+    (λ q lt. member_of_some slots q (c.in_ok-v.ensures.least q lt))
+    ∙ ap (λ g. least_free (ids g.graph.vertices)) c.self.view_is
 
 pub returns-clause-ok : goal.returns-clause-ok
 returns-clause-ok c =

@@ -1,7 +1,8 @@
-use Rattle.std.proofs.Common.{◌∙◌, ap, map}
+use Rattle.std.proofs.Common.{◌∙◌, ap}
 use Rattle.zx_calculus.specs.Graph.{ids}
-use Rattle.open_graph.proofs.SlotLemmas.{ids-vertices_from}
+use Rattle.open_graph.specs.Internal.Slots.{vertices_of}
+use Rattle.open_graph.proofs.RowLemmas.{all_are_left}
 use Rattle.open_graph.proofs.open_graph.OpenGraph.vertices.Goals as goal
 
 pub returns-clause-value : goal.returns-clause-value
-returns-clause-value c = ap (map (λ e. e.0)) c.iter.ensures.rest ∙ ids-vertices_from 0 c.self.inside.slots.slots ∙ ap (λ g. ids g.graph.vertices) c.self.view_is
+returns-clause-value c = all_are_left (ids (vertices_of c.self.inside.slots.slots)) ∙ ap (λ g. ids g.graph.vertices) c.self.view_is

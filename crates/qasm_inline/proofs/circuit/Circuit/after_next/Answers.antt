@@ -10,12 +10,14 @@ pub returns-in-Ok : goal.returns-in-Ok
 returns-in-Ok c = λ program is. record {
   scope = after_statement is.scope (placed c.args.statement.now).sentence;
   represents = c.in-Ok.ensures.after is.scope is.represents;
-  leads = leads-next program is.scope _ _ (placed c.args.statement.now) _ _ is.leads
-      (c.in-Ok.ensures.ok is.scope is.represents) (c.in-Ok.ensures.events is.scope is.represents);
+  remembers = (c.in-Ok.ensures.measures is.scope is.represents).remembers is.remembers;
+  leads = leads-next program is.scope _ _ _ (placed c.args.statement.now) _ _ _ is.leads
+      (c.in-Ok.ensures.ok is.scope is.represents is.remembers) (c.in-Ok.ensures.events is.scope is.represents)
+      (c.in-Ok.ensures.measures is.scope is.represents).same;
 }
 
 pub returns-in-Err-Wrong : goal.returns-in-Err-Wrong
 returns-in-Err-Wrong c = λ program is.
     let wrong : c.read_statement.result ≡ Err (Wrong c.in-Err-Wrong.cause) = search rules in
-    leads-wrong program is.scope _ _ (placed c.args.statement.now) c.in-Err-Wrong.cause is.leads
-    (c.read_statement.ensures.err c.in-Err-Wrong.cause is.scope wrong is.represents)
+    leads-wrong program is.scope _ _ _ (placed c.args.statement.now) c.in-Err-Wrong.cause is.leads
+    (c.read_statement.ensures.err c.in-Err-Wrong.cause is.scope wrong is.represents is.remembers)

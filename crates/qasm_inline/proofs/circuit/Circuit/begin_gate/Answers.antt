@@ -6,6 +6,6 @@ use Rattle.qasm_inline.proofs.circuit.Circuit.begin_gate.Goals as goal
 
 pub returns-in-Empty-clause-begun : goal.returns-in-Empty-clause-begun
 returns-in-Empty-clause-begun c = λ program taken any.
-    subst (λ stage. HasTakenAt stage (program ++ gate_at c.args.place any ∷ []) c.args.self.now.names c.args.self.now.unrolled) (sym c.without_version-self.ensures)
-    (gate-first program c.args.self.now.names c.args.self.now.unrolled c.args.place any
-    (subst (λ stage. HasTakenAt stage program c.args.self.now.names c.args.self.now.unrolled) c.in-Empty.is taken))
+    subst (λ stage. HasTakenAt stage (program ++ gate_at c.args.place any ∷ []) c.args.self.now.names c.args.self.now.measured c.args.self.now.unrolled) (sym c.without_version-self.ensures)
+    (gate-first program c.args.self.now.names c.args.self.now.measured c.args.self.now.unrolled c.args.place any
+    (subst (λ stage. HasTakenAt stage program c.args.self.now.names c.args.self.now.measured c.args.self.now.unrolled) c.in-Empty.is taken))

@@ -14,5 +14,6 @@ returns c = λ scope form r en ea eq eb sound fresh.
       same_symbols = found-declared c.args.name.now c.args.self.now.symbols c.insert.new.self (symbol.Gate c.len-number.result c.args.angles c.args.qubits c.args.replaceable) (record { name = form.name; meaning = Gate form; replaceable = c.args.replaceable }) scope c.in_ok-insert.ensures.updates r.same_symbols (sym en) cc;
       same_gates = ap (map kept_body) pushed ∙ map-append kept_body c.args.self.now.gates.items (c.args.body ∷ []) ∙ ap (λ gs. gs ++ kept_body c.args.body ∷ []) r.same_gates ∙ ap (λ k. kept_gates scope ++ k ∷ []) eb;
       same_qubits = omega (arith, r.same_qubits);
+      same_bits = omega (arith, r.same_bits);
       sound = (sound, fresh, r.sound);
     }

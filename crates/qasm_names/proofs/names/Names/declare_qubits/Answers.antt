@@ -9,5 +9,6 @@ returns c = λ scope r. record {
   same_symbols = found-declared c.args.name.now c.args.self.now.symbols c.insert.new.self (symbol.Qubits c.args.self.now.qubits c.args.size) (declared c.args.name.now (Qubits (qubit_count scope) c.args.size)) scope c.in_ok-insert.ensures.updates r.same_symbols refl (ap (λ first. symbol.Qubits first c.args.size) r.same_qubits);
   same_gates = r.same_gates ∙ sym (append-nil _);
   same_qubits = omega (arith, r.same_qubits);
+  same_bits = omega (arith, r.same_bits);
   sound = ((record { after_others = refl; few = omega (arith, r.same_qubits) }, refl), tt, r.sound);
 }

@@ -14,8 +14,8 @@ neighbour_set-requires c = output_there c.args.self.now.graph.graph c.args.c
 
 pub toggle_across-requires-clause-left_live : goal.toggle_across-requires-clause-left_live
 toggle_across-requires-clause-left_live c =
-    one_live (state_of c.args.self.now) c.args.t c.present-to.result c.in_ok-target.target c.requires.ready
-    c.present-to.ensures c.in_ok-target.ensures
+    one_live c.args.self.now.graph.graph c.args.t c.present-to.result c.in_ok-target.target
+    c.requires.ready.given.well_formed c.present-to.ensures c.in_ok-target.ensures
 
 pub toggle_across-requires-clause-right_live : goal.toggle_across-requires-clause-right_live
 toggle_across-requires-clause-right_live c = λ w there.

@@ -1,7 +1,8 @@
 -- One more output.
-use Rattle.std.proofs.Common.{◌∙◌, sym, subst}
-use Rattle.zx_extract.specs.Internal.Steps.{AreLegs}
-use Rattle.zx_extract.proofs.Legs.{legs_more, legs_skip}
+use Rattle.std.proofs.Common.{◌≡◌, ◌∙◌, ℕ, ◌+◌, ◌≤◌, sym, subst, arith}
+use Rattle.std.specs.List.{AllZip}
+use Rattle.circuit_laws.specs.Peeling.{HasPlainOutput}
+use Rattle.zx_extract.proofs.Legs.{legs_below, legs_more, legs_skip, legs_all}
 use Rattle.zx_extract.proofs.frontier.Frontier.legs.Goals as goal
 
 pub loop-q-preserved-then-not-has_edge : goal.loop-q-preserved-then-not-has_edge
@@ -11,7 +12,16 @@ loop-q-preserved-then-not-has_edge c =
 
 pub loop-q-preserved : goal.loop-q-preserved
 loop-q-preserved c =
-    subst (AreLegs c.args.self.now.graph.graph c.args.v _) (sym c.in_ok-push.ensures.items)
+    subst (λ qubits. AllZip (HasPlainOutput c.args.self.now.graph.graph) qubits
+    (legs_below c.args.self.now.graph.graph c.args.v (c.loop-q.q + 1))) (sym c.in_ok-push.ensures.items)
     (legs_more c.args.self.now.graph.graph c.args.v c.loop-q.q c.present.result c.loop-q.legs.items
-    c.requires.ready.given.well_formed c.present.ensures (sym c.has_edge.ensures.value
-    ∙ c.if-not-has_edge.false) c.loop-q.invariant)
+    c.present.ensures (sym c.has_edge.ensures.value ∙ c.if-not-has_edge.false) c.loop-q.invariant)
+
+pub returns : goal.returns
+returns c = legs_all c.args.self.now.graph.graph c.args.v c.loop-q.legs.items
+    (subst (λ n. AllZip (HasPlainOutput c.args.self.now.graph.graph) c.loop-q.legs.items
+    (legs_below c.args.self.now.graph.graph c.args.v n))
+    (at_end _ _ _ c.loop-q.auto.q-end c.loop-q-test.false c.qubits-q-end.ensures.value) c.loop-q.invariant)
+  where
+    at_end : (q end n : ℕ) → q ≤ end → end ≤ q → end ≡ n → q ≡ n
+    at_end q end n within all e = omega arith

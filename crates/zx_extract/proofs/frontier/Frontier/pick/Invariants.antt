@@ -11,4 +11,4 @@ abbrev pub invariant-loop-q : goal.invariant-loop-q
 invariant-loop-q l =
     MatchOption l.best
     ((p u : ℕ) → p < l.q → HasPlainOutput l.self.graph.graph p u → last_set l.self.flow.flow u ≡ false)
-    (λ b. IsPicked (state_of l.self) b.0)
+    (λ b. IsPicked (state_of l.self) b.qubit)

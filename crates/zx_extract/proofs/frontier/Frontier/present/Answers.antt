@@ -7,6 +7,6 @@ use Rattle.zx_extract.proofs.frontier.Frontier.present.Goals as goal
 
 pub returns : goal.returns
 returns c =
-    plain_at c.args.self.now.graph.graph.outputs c.args.q c.output_vertex.result c.requires.ready.plain
+    plain_at c.args.self.now.graph.graph.outputs c.args.q c.output_vertex.result c.requires.plain
     (ap (slice_get (end_vertices c.args.self.now.graph.graph.outputs)) (sym c.from.ensures)
     ∙ c.output_vertex.ensures.value)

@@ -1,5 +1,5 @@
 -- The step that the removed vertex is.
-use Rattle.std.proofs.Common.{length, sym, subst}
+use Rattle.std.proofs.Common.{sym, subst}
 use Rattle.open_graph.specs.Planes.{plane_named}
 use Rattle.zx_extract.specs.Internal.Frontiers.{state_of}
 use Rattle.zx_extract.specs.Internal.Steps.{AreLegs}
@@ -31,13 +31,13 @@ take_alone-requires c = gadget_set (state_of c.args.self.now)
 pub returns : goal.returns
 returns c = on_ok_weaker c.write_gadget.result (λ written. (
   c.deref.result.now,
-  subst (AreLegs c.args.self.now.graph.graph c.args.v (length c.args.self.now.graph.graph.outputs))
+  subst (AreLegs c.args.self.now.graph.graph c.args.v)
       (sym c.deref.ensures.value) c.in_ok-legs.ensures,
   gadget_step (state_of c.args.self.now) c.args.v c.requires.ready c.requires.frontier c.requires.last c.requires.alone
       c.requires.plane c.deref.result.now c.weight-plane.result.1
       (plane_named c.weight-plane.result.0) c.remove_vertex.new.self.graph c.take_alone.new.self.flow
       (state_of c.write_gadget.new.self)
-      (subst (AreLegs c.args.self.now.graph.graph c.args.v (length c.args.self.now.graph.graph.outputs))
+      (subst (AreLegs c.args.self.now.graph.graph c.args.v)
       (sym c.deref.ensures.value) c.in_ok-legs.ensures)
       c.weight-plane.ensures.value c.remove_vertex.ensures.ok c.take_alone.ensures written,
 )) c.write_gadget.ensures

@@ -1,0 +1,161 @@
+//! Correction sets found along an order that is chosen on the way: the vertex that comes next is
+//! one with a small set.
+
+ghost use Rattle.std.specs.Prelude.{◌≡◌, ◌<◌, ◌≤◌, ℕ, true, length, IfOk, IfSome, OnOk, ltb};
+ghost use Rattle.zx_model.specs.Bits.{member};
+ghost use Rattle.zx_calculus.specs.Graph.{XY, Distinct, plane_of, in_order};
+ghost use Rattle.gflow_laws.specs.Seen.{seen};
+ghost use Rattle.gflow_laws.specs.Flow.{order_of, set_of, IsFlow};
+ghost use Rattle.move_laws.specs.Orders.{HasFlowAlong};
+ghost use Rattle.flow_find.specs.Internal.Next.{HasSetsOf, IsAloneIn, IsAlone, IsPlaceBefore, IsNextPlace, IsPutOff, IsChosen};
+
+use crate::along::{correction, first_rows, table_of};
+use crate::frontier::pass;
+use crate::row::Row;
+use crate::sets::{set_of, take_out};
+use open_graph::{OpenGraph, Plane, VertexId};
+use std::alloc::{AllocError, Global};
+use zx_flow::FlowTable;
+
+/// Correction sets that make the vertices of an order a flow of a graph, in an order of its own,
+/// where some do in the order given. From the end, a vertex of a small set comes next.
+///
+/// # Errors
+///
+/// Where memory runs out.
+pub fn find_cheap(
+    alloc: Global,
+    g: &OpenGraph,
+    mut order: Vec<VertexId>,
+) -> Result<FlowTable, AllocError>
+    requires { HasFlowAlong g.now.graph order.items }
+    ensures { IfOk result (λ table. IsFlow g.now.graph table.table) }
+{
+    let mut table = table_of(alloc, &order)?;
+    let mut left = set_of(alloc, &order)?;
+    let mut rows = first_rows(alloc, g, &left)?;
+    for i in (0..order.len()).rev() {
+        choose(&mut order, g, i, &rows)?;
+        let v = order[i];
+        table.set(v, correction(alloc, g, &rows, v)?);
+        take_out(&mut left, v)?;
+        pass(&mut rows, alloc, g, v, &left)?;
+    }
+    reordered(alloc, &table, &order)
+}
+
+// The sets of a table in another order.
+fn reordered(alloc: Global, table: &FlowTable, order: &[VertexId]) -> Result<FlowTable, AllocError>
+    requires once { Distinct order.now }
+    requires listed { (v : ℕ) → member v order.now ≡ true →
+        member v (order_of table.now.table) ≡ true }
+    ensures order { IfOk result (λ new. order_of new.table ≡ order.now) }
+    ensures sets { IfOk result (λ new. HasSetsOf table.now.table order.now new.table) }
+{
+    let mut new = FlowTable::new(alloc);
+    for v in order {
+        let members = members_of(alloc, table, *v)?;
+        new.add(*v, &members)?;
+    }
+    Ok(new)
+}
+
+// The members of a set of a table.
+fn members_of(alloc: Global, table: &FlowTable, v: VertexId) -> Result<Vec<VertexId>, AllocError>
+    requires { member v (order_of table.now.table) ≡ true }
+    ensures value { IfOk result (λ members. members.items ≡ set_of table.now.table v) }
+    ensures rising { in_order ltb (set_of table.now.table v) ≡ true }
+{
+    table.correction(v).collect(alloc)
+}
+
+// Moves the vertex that comes next behind the others left, which stand up to this place.
+fn choose(
+    order: &mut Vec<VertexId>,
+    g: &OpenGraph,
+    last: usize,
+    rows: &[Row],
+) -> Result<(), AllocError>
+    requires { last < length order.old.items }
+    ensures { OnOk result (IsChosen (seen g.now.graph) rows.now last
+        order.old.items order.new.items) }
+{
+    match next_place(g, order, last, rows) {
+        Some(place) => put_off(order, place, last),
+        None => Ok(()),
+    }
+}
+
+// The place of the vertex that comes next, where it isn't the last one.
+fn next_place(g: &OpenGraph, order: &[VertexId], last: usize, rows: &[Row]) -> Option<usize>
+    requires { last < length order.now }
+    ensures { IfSome result (λ place.
+        IsNextPlace (seen g.now.graph) rows.now order.now last place) }
+{
+    if !is_xy(g, order[last]) {
+        return None;
+    }
+    match cheapest(g, rows) {
+        Some(v) => place_before(order, v, last),
+        None => None,
+    }
+}
+
+// The place of a vertex, where it stands before the last one left.
+fn place_before(order: &[VertexId], v: VertexId, last: usize) -> Option<usize>
+    ensures { IfSome result (λ place. IsPlaceBefore order.now v last place) }
+{
+    match order.iter().position(|w| *w == v) {
+        Some(place) if place <= last => Some(place),
+        _ => None,
+    }
+}
+
+// Moves the vertex of a place to a later one.
+fn put_off(order: &mut Vec<VertexId>, place: usize, last: usize) -> Result<(), AllocError>
+    requires ordered { place ≤ last }
+    requires within { last < length order.old.items }
+    ensures { OnOk result (IsPutOff place last order.old.items order.new.items) }
+{
+    let v = order.remove(place);
+    order.insert(last, v)?;
+    Ok(())
+}
+
+// Of the XY vertices that are alone in a row, the one whose row has the fewest members.
+fn cheapest(g: &OpenGraph, rows: &[Row]) -> Option<VertexId>
+    ensures { IfSome result (λ v. IsAlone (seen g.now.graph) rows.now v) }
+{
+    let mut best = None;
+    let mut fewest = usize::MAX;
+    for row in rows {
+        let size = row.members.len();
+        if size < fewest {
+            if let Some(v) = alone_in(g, row) {
+                best = Some(v);
+                fewest = size;
+            }
+        }
+    }
+    best
+}
+
+// The XY vertex that is alone in a row.
+fn alone_in(g: &OpenGraph, row: &Row) -> Option<VertexId>
+    ensures { IfSome result (λ v. IsAloneIn (seen g.now.graph) row.now v) }
+{
+    if row.columns.len() != 1 {
+        return None;
+    }
+    match row.columns.first_from(0) {
+        Some(v) if is_xy(g, v) => Some(v),
+        _ => None,
+    }
+}
+
+// Whether it is a vertex of the XY plane.
+fn is_xy(g: &OpenGraph, v: VertexId) -> bool
+    ensures { result ≡ true → plane_of g.now.graph v ≡ XY }
+{
+    g.is_live(v) && matches!(g.weight(v).0, Plane::XY)
+}

@@ -1,0 +1,87 @@
+-- The row of bits that tells which entries have no slot, through each change of the entries.
+use Rattle.std.proofs.Common.{◌≡◌, refl, sym, ◌∙◌, ap, ℕ, ◌<◌, ◌≤◌, Bool, true, false, not, cond, eqb, ltb, List, [], ◌∷◌, ◌++◌, length, get_or, set, Option, Some, None, is_some, IsSome, slice_index_or, true≢false, ltb-true, ltb-false, length-set, arith}
+use Rattle.std.proofs.lemmas.List.{get_or-set_same, get_or-set_other, get_or_append_left, get_or_push, length_push, get_or_past}
+use Rattle.zx_model.specs.Bits.{xor, bit}
+use Rattle.zx_calculus.proofs.Booleans.{xor-false}
+use Rattle.zx_calculus.proofs.Ids.{by_test, by_equal}
+use Rattle.zx_bits.specs.Rows.{BitRow, flipped}
+use Rattle.zx_bits.proofs.Vectors.{length-flipped, bit-flipped, place_within}
+use Rattle.open_graph.specs.declared.slot.Slot.{Slot}
+use Rattle.open_graph.specs.Internal.Table.{IsFreeRow}
+
+-- an entry and its bit are changed
+row_set : (slots : List (Option Slot)) (free new : BitRow) (v : ℕ) (slot : Option Slot) → IsFreeRow slots free → v < length slots →
+    length new.bits ≡ length free.bits → new.has_room ≡ true → ((p : ℕ) → bit new.bits p ≡ cond (eqb p v) (not (is_some slot)) (bit free.bits p)) →
+    IsFreeRow (set slots v slot) new
+row_set slots free new v slot row within long room bits =
+    record {
+      covers = omega (arith, row.covers, long, length-set slots v slot);
+      has_room = λ _. room;
+      vacant = λ p lt. bits p ∙ by_equal p v
+          (λ t e. rw t (sym (ap (λ o. not (is_some o)) (ap (λ q. get_or (set slots v slot) q None) e ∙ get_or-set_same slots v slot None within))))
+          (λ f n. rw f (row.vacant p (omega (arith, lt, length-set slots v slot)) ∙ sym (ap (λ o. not (is_some o)) (get_or-set_other slots v p slot None n))));
+      none_after = λ p le. let past : length slots ≤ p = omega (arith, le, length-set slots v slot) in
+          bits p ∙ by_equal p v (λ t e. absurd (omega (arith, past, within, e))) (λ f n. rw f (row.none_after p past));
+    }
+
+-- a bit that is negated becomes the other one
+flipped_to : (xs : List Bool) (v p : ℕ) (b : Bool) → v < length xs → bit xs v ≡ not b → bit (flipped xs v) p ≡ cond (eqb p v) b (bit xs p)
+flipped_to xs v p b within was =
+    bit-flipped xs v p within
+    ∙ by_equal p v
+    (λ t e. rw t (ap (λ c. xor c true) (ap (bit xs) e ∙ was) ∙ turned b))
+    (λ f n. rw f (xor-false (bit xs p)))
+  where
+    turned : (b : Bool) → xor (not b) true ≡ b
+    turned true = refl
+    turned false = refl
+
+module _ (slots : List (Option Slot)) (free : BitRow) (row : IsFreeRow slots free) where
+  -- an id whose bit is set has an entry
+  pub free_within : (v : ℕ) → bit free.bits v ≡ true → v < length slots
+  free_within v is_set =
+      by_test (ltb v (length slots)) (λ t. ltb-true v (length slots) t) (λ f. absurd (true≢false (sym is_set ∙ row.none_after v (ltb-false v (length slots) f))))
+
+  room_within : (v : ℕ) → v < length free.bits → free.has_room ≡ true
+  room_within v within = row.has_room (omega (arith, within))
+
+  -- a free entry takes a slot
+  pub row_filled : (new : BitRow) (v : ℕ) (slot : Slot) → bit free.bits v ≡ true → new.bits ≡ flipped free.bits v →
+      (free.has_room ≡ true → new.has_room ≡ true) → IsFreeRow (set slots v (Some slot)) new
+  row_filled new v slot is_set turned room =
+      let within = place_within free.bits v is_set in
+      row_set slots free new v (Some slot) row (free_within v is_set) (ap length turned ∙ length-flipped free.bits v) (room (room_within v within))
+      (λ p. ap (λ xs. bit xs p) turned ∙ flipped_to free.bits v p false within is_set)
+
+  module _ (v : ℕ) (there : IsSome (slice_index_or slots v None)) where
+    pub slot_within : v < length slots
+    slot_within = grind (arith, get_or_past)
+
+    bit_within : v < length free.bits
+    bit_within = omega (arith, slot_within, row.covers)
+
+    pub room_at : free.has_room ≡ true
+    room_at = room_within v bit_within
+
+    unset : bit free.bits v ≡ false
+    unset = row.vacant v slot_within ∙ ap not there
+
+    -- a slot is taken out
+    pub row_emptied : (new : BitRow) → new.bits ≡ flipped free.bits v → (free.has_room ≡ true → new.has_room ≡ true) → IsFreeRow (set slots v None) new
+    row_emptied new turned room =
+        row_set slots free new v None row slot_within (ap length turned ∙ length-flipped free.bits v) (room room_at)
+        (λ p. ap (λ xs. bit xs p) turned ∙ flipped_to free.bits v p true bit_within unset)
+
+  -- a slot behind all entries
+  pub row_pushed : (slot : Slot) → length slots < length free.bits → IsFreeRow (slots ++ Some slot ∷ []) free
+  row_pushed slot more =
+      record {
+        covers = omega (arith, more, length_push slots (Some slot));
+        has_room = row.has_room;
+        vacant = λ p lt. by_test (ltb p (length slots))
+            (λ t. row.vacant p (ltb-true p (length slots) t) ∙ sym (ap (λ o. not (is_some o)) (get_or_append_left slots (Some slot ∷ []) None p (ltb-true p (length slots) t))))
+            (λ f. let past : length slots ≤ p = ltb-false p (length slots) f in
+            let last : length slots ≡ p = omega (arith, past, lt, length_push slots (Some slot)) in
+            row.none_after p past ∙ sym (ap (λ o. not (is_some o)) (get_or_push slots (Some slot) None p last)));
+        none_after = λ p le. row.none_after p (omega (arith, le, length_push slots (Some slot)));
+      }

@@ -1,0 +1,177 @@
+//! Slots under the ids of their vertices.
+
+ghost use Rattle.std.specs.Prelude.{◌≡◌, ◌↔◌, ◌<◌, ◌≤◌, ℕ, [], List, Option, Some, None, length, is_some, IsTrue, IsSome, IfOk, IfSome, OnOk, OnErr, option_copied};
+ghost use Rattle.std.specs.Borrow.{sem};
+ghost use Rattle.zx_bits.specs.Rows.{IsFirstFrom};
+ghost use Rattle.open_graph.specs.Internal.Table.{slot_at, HasSlot, Updates, IsFreeRow};
+ghost use Rattle.open_graph.specs.declared.slot.Slot.{Slot};
+ghost use Rattle.open_graph.specs.Internal.Lending.{LendsEntry};
+
+use crate::slot::Slot;
+use std::alloc::{AllocError, Global};
+use std::marker::Model;
+use std::ops::{Index, IndexMut};
+use zx_bits::BitRow;
+
+// A table of slots, seen as what stands under each id.
+#[derive(Drop)]
+pub(crate) struct SlotTable {
+    entries: Vec<Option<Slot>>,
+    // Which entries have no slot. It may be longer than the entries, and then that part isn't set.
+    free: BitRow,
+}
+
+impl Model for SlotTable {
+    ghost use Rattle.open_graph.specs.Internal.Table.{SlotTable as Seen, IsFreeRow};
+
+    ghost Value = { Seen };
+
+    ghost view = { λ t. record { slots = t.entries.items } };
+
+    ghost invariant = { λ t. IsFreeRow t.entries.items t.free };
+}
+
+impl Clone for SlotTable {
+    ghost is_clone = { λ table copy. copy ≡ table };
+
+    fn clone(&self) -> Result<SlotTable, AllocError> {
+        let mut free = self.free.clone()?;
+        free.reserve()?;
+        Ok(SlotTable {
+            entries: self.entries.clone()?,
+            free,
+        })
+    }
+}
+
+impl Index<usize> for SlotTable {
+    type Output = Slot;
+
+    ghost can_index = { HasSlot };
+
+    ghost index_gives = { λ table id slot. slot_at table id ≡ Some slot };
+
+    fn index(&self, id: usize) -> &Slot {
+        self.get(id).unwrap()
+    }
+}
+
+impl IndexMut<usize> for SlotTable {
+    ghost use Rattle.open_graph.specs.Internal.Lending.{LendsSlot};
+
+    fn index_mut(&mut self, id: usize) -> &mut Slot
+        requires { HasSlot self.old id }
+        ensures* writes_back { sem 𝓛 (LendsSlot self.entry id result) }
+        ensures value { slot_at self.old id ≡ Some result.now }
+    {
+        slot_of(&mut self.entries[id])
+    }
+}
+
+impl SlotTable {
+    // The table without slots.
+    pub(crate) fn new(alloc: Global) -> SlotTable
+        ensures { result.slots ≡ [] }
+    {
+        SlotTable {
+            entries: Vec::new(alloc),
+            free: BitRow::new(alloc, 0),
+        }
+    }
+
+    // Puts a slot under the least id that has none. Where memory runs out, the slots are as they
+    // were.
+    pub(crate) fn insert(&mut self, slot: Slot) -> Result<usize, AllocError>
+        ensures vacant { IfOk result (λ id. slot_at self.old id ≡ None) }
+        ensures least { IfOk result (λ id. (lower : ℕ) → lower < id → HasSlot self.old lower) }
+        ensures updates { IfOk result (λ id. Updates self.old self.new id (Some slot)) }
+        ensures err { OnErr result (self.new ≡ self.old) }
+    {
+        if let Some(id) = self.free.bit_from(0) {
+            self.free.flip(id)?;
+            self.entries[id] = Some(slot);
+            return Ok(id);
+        }
+        let id = self.entries.len();
+        make_room(&mut self.free, id + 1)?;
+        self.entries.push(Some(slot))?;
+        Ok(id)
+    }
+
+    // Takes the slot of an id out. It takes no memory.
+    pub(crate) fn remove(&mut self, id: usize) -> Slot
+        requires { HasSlot self.old id }
+        ensures value { slot_at self.old id ≡ Some result }
+        ensures updates { Updates self.old self.new id None }
+    {
+        self.free.flip(id).unwrap();
+        self.entries[id].take().unwrap()
+    }
+
+    // Whether an id has a slot.
+    pub(crate) fn contains(&self, id: usize) -> bool
+        ensures { IsTrue result ↔ HasSlot self.now id }
+    {
+        self.get(id).is_some()
+    }
+
+    // The slot under an id, if there is one.
+    pub(crate) fn get(&self, id: usize) -> Option<&Slot>
+        ensures { option_copied result ≡ slot_at self.now id }
+    {
+        match self.entries.get(id) {
+            Some(Some(slot)) => Some(slot),
+            _ => None,
+        }
+    }
+
+    // The least id that has a slot and isn't below a number.
+    pub(crate) fn first_from(&self, start: usize) -> Option<usize>
+        ensures first { IsFirstFrom (λ id. is_some (slot_at self.now id)) start result }
+        ensures bounded { IfSome result (λ id. id < usize.MAX) }
+    {
+        for id in start..self.entries.len() {
+            if self.entries[id].is_some() {
+                return Some(id);
+            }
+        }
+        None
+    }
+
+    // Makes room for so many more slots.
+    pub(crate) fn reserve(&mut self, more: usize) -> Result<(), AllocError>
+        ensures { self.new ≡ self.old }
+    {
+        make_room(&mut self.free, self.entries.len().saturating_add(more))?;
+        self.entries.reserve(more)
+    }
+}
+
+// The slot of an entry that has one.
+fn slot_of(entry: &mut Option<Slot>) -> &mut Slot
+    requires { IsSome entry.old }
+    ensures* writes_back { sem 𝓛 (LendsEntry entry.entry result) }
+    ensures value { entry.old ≡ Some result.now }
+{
+    match entry {
+        Some(slot) => slot,
+        None => unreachable!(),
+    }
+}
+
+// Makes a row at least so many bits long, and twice as long where it grows. What it tells of
+// entries stays, also where memory runs out.
+fn make_room(free: &mut BitRow, bits: usize) -> Result<(), AllocError>
+    ensures kept { (slots : List (Option Slot)) →
+        IsFreeRow slots free.old → IsFreeRow slots free.new }
+    ensures ok { OnOk result (bits ≤ length free.new.bits) }
+{
+    if bits <= free.len() {
+        return Ok(());
+    }
+    let mut longer = free.clone()?;
+    longer.grow(bits.max(64))?;
+    longer.reserve()?;
+    *free = longer;
+    Ok(())
+}

@@ -1,0 +1,19 @@
+use Rattle.std.proofs.Common.{sym, ap, ◌∙◌}
+use Rattle.qasm_scope.specs.Measurements.{holds_any}
+use Rattle.qasm_inline.specs.Internal.Spans.{span_range}
+use Rattle.qasm_inline.proofs.RangeLemmas.{first-held, none-held-from, single-held}
+use Rattle.qasm_inline.proofs.measured.holds_any.Goals as goal
+
+pub returns-in-Single : goal.returns-in-Single
+returns-in-Single c =
+    c.contains.ensures ∙ single-held c.in-Single.place c.args.set.now ∙ ap (λ span. holds_any c.args.set.now (span_range span)) (sym c.in-Single.is)
+
+pub returns-in-Some : goal.returns-in-Some
+returns-in-Some c =
+    first-held c.args.set.now c.in-Register.first c.in-Register.size c.in-Some.place c.in-Some.ensures.first
+    ∙ ap (λ span. holds_any c.args.set.now (span_range span)) (sym c.in-Register.is)
+
+pub returns-in-None : goal.returns-in-None
+returns-in-None c =
+    none-held-from c.args.set.now c.in-Register.first c.in-Register.size c.in-None.ensures.first
+    ∙ ap (λ span. holds_any c.args.set.now (span_range span)) (sym c.in-Register.is)

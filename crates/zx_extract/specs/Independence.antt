@@ -1,0 +1,14 @@
+-- What the law of independent rows speaks of: sets of outputs, and their rows over the other vertices.
+use Rattle.std.specs.Prelude.{◌≡◌, ℕ, Bool, true, false}
+use Rattle.zx_model.specs.Bits.{member}
+use Rattle.zx_calculus.specs.Graph.{Graph, Live, end_vertices}
+use Rattle.gflow_laws.specs.Seen.{seen, odd}
+
+-- each of the set is an output that is no input
+abbrev pub HasOutputsAlone : Graph → (ℕ → Bool) → Type 0
+HasOutputsAlone g set =
+    (w : ℕ) → set w ≡ true → (member w (end_vertices g.outputs) ≡ true) × (member w (end_vertices g.inputs) ≡ false)
+
+-- the rows of the set sum to zero: each vertex that is no output has an even number of neighbours in it
+abbrev pub SumsToZero : Graph → (ℕ → Bool) → Type 0
+SumsToZero g set = (v : ℕ) → Live g v → member v (end_vertices g.outputs) ≡ false → odd (seen g) set v ≡ false

@@ -1,0 +1,52 @@
+//! Outputs from which one is chosen by what it would cost.
+
+ghost use Rattle.std.specs.Prelude.{◌≡◌, ◌<◌, ◌⊎◌, ℕ, length, count_by, Some};
+ghost use Rattle.zx_calculus.specs.Graph.{neighbours};
+ghost use Rattle.gflow_laws.specs.Flow.{is_in};
+ghost use Rattle.circuit_laws.specs.Peeling.{HasPlainOutput};
+ghost use Rattle.zx_extract.specs.Internal.Frontiers.{state_of};
+ghost use Rattle.zx_extract.specs.Internal.Leading.{IsReady};
+
+use crate::frontier::Frontier;
+use zx_gates::Qubit;
+
+// An output, what choosing it costs, and what decides between outputs that cost the same.
+#[derive(Clone, Copy)]
+pub(crate) struct Candidate {
+    pub(crate) qubit: Qubit,
+    pub(crate) cost: usize,
+    pub(crate) beside: usize,
+}
+
+impl Frontier {
+    // How many neighbours the vertex of an output has.
+    pub(crate) fn degree(&self, q: Qubit) -> usize
+        requires ready { IsReady (state_of self.now) }
+        requires on_wires { q < length self.now.graph.graph.outputs }
+        ensures { (u : ℕ) → HasPlainOutput self.now.graph.graph q u →
+            result ≡ length (neighbours self.now.graph.graph u) }
+    {
+        self.graph.degree(self.present(q))
+    }
+
+    // In how many correction sets the vertex of an output stands.
+    pub(crate) fn sets(&self, q: Qubit) -> usize
+        requires ready { IsReady (state_of self.now) }
+        requires on_wires { q < length self.now.graph.graph.outputs }
+        ensures { (u : ℕ) → HasPlainOutput self.now.graph.graph q u →
+            result ≡ count_by (λ e. is_in e.members u) self.now.flow.flow }
+    {
+        self.flow.count(self.present(q))
+    }
+}
+
+// Of a candidate and the best so far, the one that costs less.
+pub(crate) fn cheaper(best: Option<Candidate>, other: Candidate) -> Candidate
+    ensures { (result ≡ other) ⊎ (best ≡ Some result) }
+{
+    match best {
+        Some(kept) if kept.cost < other.cost => kept,
+        Some(kept) if kept.cost == other.cost && kept.beside <= other.beside => kept,
+        _ => other,
+    }
+}

@@ -1,0 +1,79 @@
+-- What the gates that stop the next one say of pairs and triples that it ends.
+use Rattle.std.proofs.Common.{◌≡◌, ℕ, ◌<◌, true, false, length, get_or, take, sym, ap, ◌∙◌, subst, arith}
+use Rattle.std.specs.List.{filter}
+use Rattle.zx_gates.specs.declared.gate.Gate.{Gate}
+use Rattle.zx_peephole.specs.Tidy.{is_pair}
+use Rattle.zx_peephole.specs.declared.chains.Chains.{Chains}
+use Rattle.zx_peephole.specs.Internal.Chains.{is_left, gate_at, kept, place_of, next_of, IsReading}
+use Rattle.zx_peephole.specs.Internal.Changes.{EndsPair, EndsTriple, IsPairAt, IsTripleAt}
+use Rattle.zx_peephole.specs.Internal.Stops.{IsFreeBetween, IsStop, IsLastStop, turns}
+use Rattle.zx_peephole.proofs.FindingLemmas.{Extends, free_extends, stop_extends, free_stop_extends, stops_extend}
+use Rattle.zx_peephole.proofs.FindingLemmas.{stop_is_pair, stop_is_triple}
+use Rattle.zx_peephole.proofs.LeftLemmas.{read_at}
+use Rattle.zx_peephole.proofs.WalkLemmas.{free_of, stop_of}
+
+module _ (w : Chains) (reading : IsReading w) (g : Gate) (read : g ≡ get_or w.gates.items w.next g) where
+  same : g ≡ next_of w
+  same = read_at w.gates.items w.next g reading.more read
+
+  -- the kept gates stay tidy with the next one
+  abbrev Tidies : Type 0
+  Tidies = Extends (kept w) (next_of w)
+
+  tidies : Extends (kept w) g → Tidies
+  tidies e = subst (Extends (kept w)) same e
+
+  pub nothing_stops : IsFreeBetween w.gates.items g 0 w.next → Tidies
+  nothing_stops free =
+      tidies (free_extends (kept w) g (free_of w.gates.items g w.next reading.sound.places.within free))
+
+  module _ (i : ℕ) (s : IsStop w.gates.items g w.next i) (x : Gate) (x_read : x ≡ get_or w.gates.items i x) where
+    within : i < length w.gates.items
+    within = omega (arith, s.before, reading.more)
+
+    here : x ≡ gate_at w.gates.items i
+    here = read_at w.gates.items i x within x_read
+
+    abbrev last : IsLastStop g (kept w) (place_of w i)
+    last = stop_of w.gates.items g w.next reading.sound.places.within i s
+
+    apart : is_pair x g ≡ false → is_pair (gate_at w.gates.items i) g ≡ false
+    apart unpaired = ap (λ y. is_pair y g) (sym here) ∙ unpaired
+
+    pub stops_as_pair : is_pair x g ≡ true → IsPairAt w i
+    stops_as_pair pair = record {
+      first = record { before = s.before; left = s.left };
+      pair = subst (λ (h : Gate). EndsPair (kept w) h (place_of w i)) same
+          (stop_is_pair (kept w) g (place_of w i) last (ap (λ y. is_pair y g) (sym here) ∙ pair));
+    }
+
+    pub stops_straight : is_pair x g ≡ false → turns g x ≡ false → Tidies
+    stops_straight unpaired straight =
+        tidies (stop_extends (kept w) g (place_of w i) last (apart unpaired) (ap (turns g) (sym here) ∙ straight))
+
+    pub nothing_before : is_pair x g ≡ false → IsFreeBetween w.gates.items g 0 i → Tidies
+    nothing_before unpaired free =
+        tidies (free_stop_extends (kept w) g (place_of w i) last (apart unpaired)
+        (free_of w.gates.items g i (omega arith) free))
+
+    module _ (k : ℕ) (r : IsStop w.gates.items g i k) (y : Gate) (y_read : y ≡ get_or w.gates.items k y) where
+      first : y ≡ gate_at w.gates.items k
+      first = read_at w.gates.items k y (omega (arith, r.before, within)) y_read
+
+      abbrev last_before : IsLastStop g (filter is_left (take i w.gates.items)) (place_of w k)
+      last_before = stop_of w.gates.items g i (omega (arith, within)) k r
+
+      pub stops_as_triple : turns g x ≡ true → is_pair y g ≡ true → IsTripleAt w k i
+      stops_as_triple turned pair = record {
+        order = r.before;
+        first = record { before = omega (arith, r.before, s.before); left = r.left };
+        middle = record { before = s.before; left = s.left };
+        triple = subst (λ (h : Gate). EndsTriple (kept w) h (place_of w k) (place_of w i)) same
+            (stop_is_triple (kept w) g (place_of w i) last (place_of w k) last_before
+            (ap (turns g) (sym here) ∙ turned) (ap (λ z. is_pair z g) (sym first) ∙ pair));
+      }
+
+      pub other_before : is_pair x g ≡ false → is_pair y g ≡ false → Tidies
+      other_before unpaired other =
+          tidies (stops_extend (kept w) g (place_of w i) (place_of w k) last (apart unpaired) last_before
+          (ap (λ z. is_pair z g) (sym first) ∙ other))
