@@ -8,4 +8,4 @@ returns c =
     let made = c.in_ok-made.ensures in
     IsGenerationReport-written _ _ _ _ c.in_ok-read.read c.in_ok-made.made c.in_ok-read.ensures.qubits c.in_ok-read.ensures.gates
     (record { qubits = made.qubits; map = made.map; odd = made.odd; tidy = made.tidy; few_gates = made.few_gates; reduced = made.reduced })
-    (search rules)
+    (search (rules, c.in_ok-extend_from_slice.ensures.items, c.in_ok-output.ensures, c.in_ok-lines.ensures))

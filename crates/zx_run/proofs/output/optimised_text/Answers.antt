@@ -11,5 +11,5 @@ returns-clause-output c =
     let circuit = c.in_ok-optimised.optimised in
     IsOptimisedText-written _ _ _ _ c.in_ok-read.read c.in_ok-lowered.lowered circuit c.in_ok-read.ensures.accepted lowered.qubits lowered.list lowered.map lowered.odd
     (record { qubits = made.qubits; map = made.map; odd = made.odd; tidy = made.tidy; few_gates = made.few_gates; reduced = made.reduced })
-    made.best (subst IsCircuit c.optimised.view_is c.optimised.invariant)
-    (measured_behind c.in_ok-read.read circuit c.in_ok-read.ensures.valid (made.qubits ∙ lowered.qubits)) (search rules)
+    made.best (subst IsCircuit c.optimised.view_is c.optimised.invariant.circuit)
+    (measured_behind c.in_ok-read.read circuit c.in_ok-read.ensures.valid (made.qubits ∙ lowered.qubits)) (search (rules, c.in_ok-extend_from_slice.ensures.items, c.in_ok-output.ensures.text, c.in_ok-lines.ensures))
