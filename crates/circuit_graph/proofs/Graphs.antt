@@ -14,7 +14,7 @@ use Rattle.circuit_laws.proofs.Places.{first_is}
 use Rattle.circuit_graph.specs.Translation.{present, with_spider, with_phase, with_toggle}
 
 -- the present spider is the vertex at the output
-present_is : (es : List End) (q u : ℕ) → slice_get es q ≡ Some (plain u) → get_or (end_vertices es) q 0 ≡ u
+pub present_is : (es : List End) (q u : ℕ) → slice_get es q ≡ Some (plain u) → get_or (end_vertices es) q 0 ≡ u
 present_is [] q u h = cc
 present_is (e ∷ es) zero u h = ap (λ (d : End). d.vertex) (first_is e (plain u) h)
 present_is (e ∷ es) (suc q) u h = present_is es q u h

@@ -4,4 +4,5 @@ pub mod WrittenOut
 pub mod Beginning
 pub mod Graphs
 pub mod Whole
+pub mod Places
 pub mod Calls

@@ -1,7 +1,7 @@
 -- The open graph of a circuit: each wire is a path of spiders, which its Hadamard gates join.
 -- Duncan, Kissinger, Perdrix and van de Wetering, "Graph-theoretic simplification of quantum circuits with the
 -- ZX-calculus" (Quantum 4, 279, 2020), on graph-like diagrams.
-use Rattle.std.specs.Prelude.{ℕ, ◌+◌, ◌*◌, List, [], ◌∷◌, length, map, get_or, slice_set}
+use Rattle.std.specs.Prelude.{ℕ, ◌+◌, ◌*◌, List, [], ◌∷◌, length, map, get_or, slice_set, Option, Some, None}
 use Rattle.std.specs.List.{count_by, flat_map, fold, range_with_len}
 use Rattle.zx_model.specs.Bits.{xor}
 use Rattle.zx_model.specs.Phase.{half_turn}
@@ -84,3 +84,16 @@ with_gate g other = g
 -- before all others.
 abbrev pub translated : Circuit → Graph
 translated c = fold with_gate (wires c.qubits) (written_out c.gates)
+
+-- the vertex to which a gate adds a phase: the present spider of its qubit, where it is a phase gate
+abbrev pub place_of : Graph → Gate → Option ℕ
+place_of g (Phase q k) = Some (present g q)
+place_of g other = None
+
+-- the same of each gate, where the gates come after the graph
+abbrev pub places_from : Graph → List Gate → List (Option ℕ)
+places_from g [] = []
+places_from g (gate ∷ gates) = place_of g gate ∷ places_from (fold with_gate g (by_hadamards gate)) gates
+
+abbrev pub places : Circuit → List (Option ℕ)
+places c = places_from (wires c.qubits) c.gates

@@ -4,7 +4,8 @@
 //! circuit, whose vertices have the ids 0, 1, 2 and so on; its sum is the circuit's map times two
 //! for each Cx and Not, entry by entry; it has a spider for each qubit and each H, and two for each
 //! Cx and Not, all XY, no more odd phases than the circuit, and an input and an output for each
-//! qubit, all plain; the flow is one of it.
+//! qubit, all plain; the flow is one of it. `translate_placed` answers besides to which vertex each
+//! phase gate adds its phase.
 //!
 //! ```rust
 //! let (graph, flow) = translate(alloc, &circuit)?;
@@ -18,4 +19,4 @@ mod translation;
 mod wires;
 
 pub use laws::worked_translations;
-pub use translation::translate;
+pub use translation::{translate, translate_placed};

@@ -11,12 +11,12 @@ ghost use Rattle.gflow_laws.specs.Flow.{IsFlow};
 ghost use Rattle.zx_gates.specs.Circuit.{gate_odd_phases};
 ghost use Rattle.zx_gates.specs.Maps.{amp};
 ghost use Rattle.circuit_laws.specs.Peeling.{are_plain};
-ghost use Rattle.circuit_graph.specs.Translation.{spiders_of, scalar_of, translated};
+ghost use Rattle.circuit_graph.specs.Translation.{spiders_of, scalar_of, translated, places};
 ghost use Rattle.circuit_graph.specs.Internal.Wires.{state_of};
 ghost use Rattle.circuit_graph.specs.Internal.Runs.{Translates};
 
 use crate::wires::Wires;
-use open_graph::OpenGraph;
+use open_graph::{OpenGraph, VertexId};
 use std::alloc::{AllocError, Global};
 use zx_flow::Flow;
 use zx_gates::GateList;
@@ -53,6 +53,41 @@ pub fn translate(alloc: Global, circuit: &GateList) -> Result<(OpenGraph, Flow),
     let graph = wires.graph;
     let flow = Flow::of_table(&graph, wires.table)?;
     Ok((graph, flow))
+}
+
+/// The same, and for each gate the vertex to which it adds a phase, where it is a phase gate.
+pub fn translate_placed(
+    alloc: Global,
+    circuit: &GateList,
+) -> Result<(OpenGraph, Flow, Vec<Option<VertexId>>), AllocError>
+    ensures graph { IfOk result (λ made. made.0.graph ≡ translated circuit.now) }
+    ensures well_formed { IfOk result (λ made. WellFormed made.0.graph) }
+    ensures flow { IfOk result (λ made. IsFlow made.0.graph made.1.flow) }
+    ensures odd { IfOk result (λ made.
+        odd_phases made.0.graph ≤ gate_odd_phases circuit.now.gates) }
+    ensures places { IfOk result (λ made. made.2.items ≡ places circuit.now) }
+{
+    let (made, places) = wires_placed(alloc, circuit)?;
+    let graph = made.graph;
+    let flow = Flow::of_table(&graph, made.table)?;
+    Ok((graph, flow, places))
+}
+
+// The wires with all gates, and to which vertices these add phases.
+fn wires_placed(
+    alloc: Global,
+    circuit: &GateList,
+) -> Result<(Wires, Vec<Option<VertexId>>), AllocError>
+    ensures translates { IfOk result (λ made. Translates circuit.now (state_of made.0)) }
+    ensures places { IfOk result (λ made. made.1.items ≡ places circuit.now) }
+{
+    let mut made = Wires::begin(alloc, circuit.qubits())?;
+    let mut places = Vec::new(alloc);
+    for gate in circuit.gates() {
+        places.push(made.place(*gate))?;
+        made.add_gate(*gate)?;
+    }
+    Ok((made, places))
 }
 
 // The wires with all gates.

@@ -4,7 +4,7 @@ ghost use Rattle.std.specs.Prelude.{◌≡◌, ◌≢◌, ◌<◌, length, IfOk,
 ghost use Rattle.zx_calculus.specs.Graph.{WellFormed};
 ghost use Rattle.circuit_laws.specs.Peeling.{HasPlainOutput};
 ghost use Rattle.zx_gates.specs.Circuit.{IsOnQubits};
-ghost use Rattle.circuit_graph.specs.Translation.{by_hadamards, wires};
+ghost use Rattle.circuit_graph.specs.Translation.{by_hadamards, place_of, wires};
 ghost use Rattle.circuit_graph.specs.Internal.Wires.{state_of};
 ghost use Rattle.circuit_graph.specs.Internal.Runs.{begun, IsReady, IsSpiderStep, IsPhaseStep, IsToggleStep, IsRun};
 
@@ -62,6 +62,18 @@ impl Wires {
                 self.add_phase(q, Sixteenth::half_turn());
                 self.add_hadamard(q)
             }
+        }
+    }
+
+    // The vertex to which a gate would add a phase.
+    pub(crate) fn place(&self, gate: Gate) -> Option<VertexId>
+        requires ready { IsReady (state_of self.now) }
+        requires on_wires { IsOnQubits (length self.now.graph.graph.outputs) gate }
+        ensures { result ≡ place_of self.now.graph.graph gate }
+    {
+        match gate {
+            Gate::Phase(q, _) => Some(self.present(q)),
+            _ => None,
         }
     }
 

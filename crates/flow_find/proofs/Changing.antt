@@ -28,16 +28,16 @@ added_bits l o b r = simp parities
 pub IsRow-added : (s : Seen) (left may : ℕ → Bool) (b : Bool) (row o n : Row) → IsRow s left may row → IsAdded b row o n → IsRow s left may o → IsRow s left may n
 IsRow-added s left may b row o n is_row added old = record {
   columns = λ w. added.columns w ∙ ap₂ (λ x y. xor x (b && y)) (old.columns w) (is_row.columns w)
-      ∙ added_bits (left w) (odd s (is_in o.members) w) b (odd s (is_in row.members) w)
+      ∙ added_bits (left w) (odd s (is_in o.members.ids) w) b (odd s (is_in row.members.ids) w)
       ∙ ap (λ x. left w && x) (sym (sums w));
-  members = λ w e. ⊎_elim (old.members w) (λ h. is_row.members w (and-right b _ h)) (xor_true (member w o.members) (b && member w row.members) (sym (added.members w) ∙ e));
+  members = λ w e. ⊎_elim (old.members w) (λ h. is_row.members w (and-right b _ h)) (xor_true (member w o.members.ids) (b && member w row.members.ids) (sym (added.members w) ∙ e));
 }
   where
-    sums : (w : ℕ) → odd s (is_in n.members) w ≡ xor (odd s (is_in o.members) w) (b && odd s (is_in row.members) w)
+    sums : (w : ℕ) → odd s (is_in n.members.ids) w ≡ xor (odd s (is_in o.members.ids) w) (b && odd s (is_in row.members.ids) w)
     sums w =
-        masked-same (s.adjacent w) (s.adjacent w) s.ids (is_in n.members) (λ x. xor (is_in o.members x) (b && is_in row.members x)) (λ x _. ap (λ m. s.adjacent w x && m) (added.members x))
-        ∙ masked-of-xor (s.adjacent w) s.ids (is_in o.members) (λ x. b && is_in row.members x)
-        ∙ ap (xor (odd s (is_in o.members) w)) (masked-of-and b (s.adjacent w) s.ids (is_in row.members))
+        masked-same (s.adjacent w) (s.adjacent w) s.ids (is_in n.members.ids) (λ x. xor (is_in o.members.ids x) (b && is_in row.members.ids x)) (λ x _. ap (λ m. s.adjacent w x && m) (added.members x))
+        ∙ masked-of-xor (s.adjacent w) s.ids (is_in o.members.ids) (λ x. b && is_in row.members.ids x)
+        ∙ ap (xor (odd s (is_in o.members.ids) w)) (masked-of-and b (s.adjacent w) s.ids (is_in row.members.ids))
 
 held_on : (held : ℕ → Bool) (o n : Row) → n.pivot ≡ o.pivot → held o.pivot ≡ true → held n.pivot ≡ true
 held_on held o n same h = ap held same ∙ h
@@ -47,23 +47,23 @@ cleared_bits : (a c d m x y : Bool) → xor (a && xor c (d && m)) (xor x (y && m
 cleared_bits a c d m x y = simp parities
 
 pub combined-cleared : (t : ℕ → Bool) (p : ℕ) (row : Row) (old new : List Row) (w : ℕ) → AreEach (IsCleared p row) old new →
-    combined t new w ≡ xor (combined t old w) (combined t old p && member w row.columns)
+    combined t new w ≡ xor (combined t old w) (combined t old p && member w row.columns.ids)
 combined-cleared t p row [] [] w each = refl
 combined-cleared t p row (o ∷ os) (n ∷ ns) w each =
     ap₂ (λ a c. xor (t a && c) (combined t ns w)) each.0.pivot (each.0.columns w)
-    ∙ ap (xor (t o.pivot && xor (member w o.columns) (member p o.columns && member w row.columns))) (combined-cleared t p row os ns w each.1)
-    ∙ cleared_bits (t o.pivot) (member w o.columns) (member p o.columns) (member w row.columns) (combined t os w) (combined t os p)
+    ∙ ap (xor (t o.pivot && xor (member w o.columns.ids) (member p o.columns.ids && member w row.columns.ids))) (combined-cleared t p row os ns w each.1)
+    ∙ cleared_bits (t o.pivot) (member w o.columns.ids) (member p o.columns.ids) (member w row.columns.ids) (combined t os w) (combined t os p)
 combined-cleared t p row [] (n ∷ ns) w each = absurd each
 combined-cleared t p row (o ∷ os) [] w each = absurd each
 
 -- a row without columns changes nothing
-pub combined-spent : (t : ℕ → Bool) (test : Row → Bool) (row : Row) (old new : List Row) (w : ℕ) → row.columns ≡ [] → AreEach (λ o n. IsAdded (test o) row o n) old new →
+pub combined-spent : (t : ℕ → Bool) (test : Row → Bool) (row : Row) (old new : List Row) (w : ℕ) → row.columns.ids ≡ [] → AreEach (λ o n. IsAdded (test o) row o n) old new →
     combined t new w ≡ combined t old w
 combined-spent t test row [] [] w empty each = refl
 combined-spent t test row (o ∷ os) (n ∷ ns) w empty each =
     ap₂ (λ a c. xor (t a && c) (combined t ns w)) each.0.pivot
-    (each.0.columns w ∙ ap (λ l. xor (member w o.columns) (test o && member w l)) empty ∙ ap (xor (member w o.columns)) (and-false (test o)) ∙ xor-false (member w o.columns))
-    ∙ ap (xor (t o.pivot && member w o.columns)) (combined-spent t test row os ns w empty each.1)
+    (each.0.columns w ∙ ap (λ l. xor (member w o.columns.ids) (test o && member w l)) empty ∙ ap (xor (member w o.columns.ids)) (and-false (test o)) ∙ xor-false (member w o.columns.ids))
+    ∙ ap (xor (t o.pivot && member w o.columns.ids)) (combined-spent t test row os ns w empty each.1)
 combined-spent t test row [] (n ∷ ns) w empty each = absurd each
 combined-spent t test row (o ∷ os) [] w empty each = absurd each
 
@@ -80,23 +80,23 @@ closes a b c d k m at_pivot at_w =
 
 -- a row is put among rows that lack a multiple of it
 pub put_keeps : (s : Seen) (left held may : ℕ → Bool) (row : Row) (old new : List Row) → ((w : ℕ) → left w ≡ true → held w ≡ true) →
-    IsRow s left may row → AreAll (IsRow s left may) old → AreAll (λ r. held r.pivot ≡ true) old → IsShort s left may old row.columns →
+    IsRow s left may row → AreAll (IsRow s left may) old → AreAll (λ r. held r.pivot ≡ true) old → IsShort s left may old row.columns.ids →
     IsPut row old new → IsFrontier s left held may new
 put_keeps s left held may row old new holds is_row each pivots short put = ⊎_elim pivoted spent put
   where
     pivoted : IsPivoted row old new → IsFrontier s left held may new
     pivoted p = subst (IsFrontier s left held may) (sym p.last) record {
       each = AreAll-append (IsRow s left may) p.others (record row { pivot = p.pivot } ∷ [])
-          (AreAll-changed (IsCleared p.pivot row) (IsRow s left may) (IsRow s left may) old p.others (λ o n c. IsRow-added s left may (member p.pivot o.columns) row o n is_row c) p.cleared each)
+          (AreAll-changed (IsCleared p.pivot row) (IsRow s left may) (IsRow s left may) old p.others (λ o n c. IsRow-added s left may (member p.pivot o.columns.ids) row o n is_row c) p.cleared each)
           (record { columns = is_row.columns; members = is_row.members }, tt);
       pivots = AreAll-append (λ r. held r.pivot ≡ true) p.others (record row { pivot = p.pivot } ∷ [])
           (AreAll-changed (IsCleared p.pivot row) (λ r. held r.pivot ≡ true) (λ r. held r.pivot ≡ true) old p.others (λ o n c. held_on held o n c.pivot) p.cleared pivots)
           (holds p.pivot is_left, tt);
       spans = λ u w usable l.
-          closes (s.adjacent u w) (s.adjacent u p.pivot) (combined (s.adjacent u) old w) (combined (s.adjacent u) old p.pivot) (short.times u) (member w row.columns)
+          closes (s.adjacent u w) (s.adjacent u p.pivot) (combined (s.adjacent u) old w) (combined (s.adjacent u) old p.pivot) (short.times u) (member w row.columns.ids)
           (short.lacks u p.pivot usable is_left ∙ ap (λ b. short.times u && b) p.has_it) (short.lacks u w usable l)
           ∙ sym (combined-append (s.adjacent u) p.others (record row { pivot = p.pivot } ∷ []) w
-          ∙ ap₂ xor (combined-cleared (s.adjacent u) p.pivot row old p.others w p.cleared) (xor-false (s.adjacent u p.pivot && member w row.columns)));
+          ∙ ap₂ xor (combined-cleared (s.adjacent u) p.pivot row old p.others w p.cleared) (xor-false (s.adjacent u p.pivot && member w row.columns.ids)));
     }
       where
         is_left : left p.pivot ≡ true
@@ -118,12 +118,12 @@ put_keeps s left held may row old new holds is_row each pivots short put = ⊎_e
 
 -- a row is taken out: the others lack a multiple of it
 pub taken_short : (s : Seen) (left held may : ℕ → Bool) (v : ℕ) (row : Row) (old new : List Row) → IsTaken v row old new → IsFrontier s left held may old →
-    IsShort s left may new row.columns
+    IsShort s left may new row.columns.ids
 taken_short s left held may v row old new taken frontier = record {
   times = λ u. s.adjacent u row.pivot;
   lacks = λ u w usable l.
       ap₂ xor (frontier.spans u w usable l ∙ ap (λ rs. combined (s.adjacent u) rs w) taken.was ∙ combined-front (s.adjacent u) taken.before row taken.after w) (ap (λ rs. combined (s.adjacent u) rs w) taken.is)
-      ∙ last_cancels (s.adjacent u row.pivot && member w row.columns) (combined (s.adjacent u) (taken.before ++ taken.after) w);
+      ∙ last_cancels (s.adjacent u row.pivot && member w row.columns.ids) (combined (s.adjacent u) (taken.before ++ taken.after) w);
 }
   where
     last_cancels : (a b : Bool) → xor (xor a b) b ≡ a
@@ -145,19 +145,19 @@ turned_once s left held may v row old mid new holds taken put frontier =
 
 -- a vertex that goes
 abbrev pub IsWithout : ℕ → Row → Type 0
-IsWithout v r = member v r.columns ≡ false
+IsWithout v r = member v r.columns.ids ≡ false
 
 pub dropped_without : (v : ℕ) (old new : List Row) → AreEach (IsDropped v) old new → AreAll (IsWithout v) new
 dropped_without v [] [] each = tt
-dropped_without v (o ∷ os) (n ∷ ns) each = (each.0.columns v ∙ ap (λ b. not b && member v o.columns) (eqb-self v), dropped_without v os ns each.1)
+dropped_without v (o ∷ os) (n ∷ ns) each = (each.0.columns v ∙ ap (λ b. not b && member v o.columns.ids) (eqb-self v), dropped_without v os ns each.1)
 dropped_without v [] (n ∷ ns) each = absurd each
 dropped_without v (o ∷ os) [] each = absurd each
 
 pub combined-dropped : (t : ℕ → Bool) (v : ℕ) (old new : List Row) (w : ℕ) → eqb w v ≡ false → AreEach (IsDropped v) old new → combined t new w ≡ combined t old w
 combined-dropped t v [] [] w n each = refl
 combined-dropped t v (o ∷ os) (m ∷ ms) w n each =
-    ap₂ (λ a c. xor (t a && c) (combined t ms w)) each.0.pivot (each.0.columns w ∙ ap (λ b. not b && member w o.columns) n)
-    ∙ ap (xor (t o.pivot && member w o.columns)) (combined-dropped t v os ms w n each.1)
+    ap₂ (λ a c. xor (t a && c) (combined t ms w)) each.0.pivot (each.0.columns w ∙ ap (λ b. not b && member w o.columns.ids) n)
+    ∙ ap (xor (t o.pivot && member w o.columns.ids)) (combined-dropped t v os ms w n each.1)
 combined-dropped t v [] (m ∷ ms) w n each = absurd each
 combined-dropped t v (o ∷ os) [] w n each = absurd each
 
@@ -174,7 +174,7 @@ pub dropped : (s : Seen) (left held may : ℕ → Bool) (v : ℕ) (old new : Lis
     IsFrontier s (with_one left v) held may old → IsFrontier s left held may new
 dropped s left held may v old new gone each frontier = record {
   each = AreAll-changed (IsDropped v) (IsRow s (with_one left v) may) (IsRow s left may) old new (λ o n d r. record {
-    columns = λ w. d.columns w ∙ ap (λ b. not (eqb w v) && b) (r.columns w) ∙ without_it left v w gone (odd s (is_in o.members) w) ∙ ap (λ ms. left w && odd s (is_in ms) w) (sym d.members);
+    columns = λ w. d.columns w ∙ ap (λ b. not (eqb w v) && b) (r.columns w) ∙ without_it left v w gone (odd s (is_in o.members.ids) w) ∙ ap (λ ms. left w && odd s (is_in ms) w) (sym d.members);
     members = λ w e. r.members w (ap (member w) (sym d.members) ∙ e);
   }) each frontier.each;
   pivots = AreAll-changed (IsDropped v) (λ r. held r.pivot ≡ true) (λ r. held r.pivot ≡ true) old new (λ o n d. held_on held o n d.pivot) each frontier.pivots;

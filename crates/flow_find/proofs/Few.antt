@@ -24,7 +24,7 @@ none_combined v (r ∷ rs) w none = by_test (eqb r.pivot v)
     (λ t. let one : one_if (eqb r.pivot v) ≡ 1 = ap one_if t in absurd (omega arith))
     (λ f. let zero : one_if (eqb r.pivot v) ≡ 0 = ap one_if f in
     let rest : stale v rs ≡ 0 = omega arith in
-    ap (λ b. xor (b && member w r.columns) (combined (λ p. eqb p v) rs w)) f ∙ none_combined v rs w rest)
+    ap (λ b. xor (b && member w r.columns.ids) (combined (λ p. eqb p v) rs w)) f ∙ none_combined v rs w rest)
 
 pub length-put : (row : Row) (old new : List Row) → IsPut row old new → length new ≤ length old + 1
 length-put row old new put = ⊎_elim
@@ -41,7 +41,7 @@ length-taken v row old new taken =
 
 -- one that was taken out and put again: a row less, or some are left that add up to nothing
 module _ (v : ℕ) (row : Row) (old mid new : List Row) (taken : IsTaken v row old mid) (without : AreAll (IsWithout v) old) (put : IsPut row mid new) where
-  out : member v row.columns ≡ false
+  out : member v row.columns.ids ≡ false
   out = (AreAll-taken (IsWithout v) v row old mid taken without).0
 
   xor_zero : (a b : Bool) → xor a b ≡ false → b ≡ a
@@ -49,11 +49,11 @@ module _ (v : ℕ) (row : Row) (old mid new : List Row) (taken : IsTaken v row o
   xor_zero false b e = e
   xor_zero true false e = absurd (true≢false e)
 
-  rest_is_row : IsCancelled v old → (w : ℕ) → combined (λ p. eqb p v) mid w ≡ member w row.columns
+  rest_is_row : IsCancelled v old → (w : ℕ) → combined (λ p. eqb p v) mid w ≡ member w row.columns.ids
   rest_is_row c w =
       ap (λ l. combined (λ p. eqb p v) l w) taken.is
-      ∙ xor_zero (member w row.columns) (combined (λ p. eqb p v) (taken.before ++ taken.after) w)
-      (sym (ap (λ b. xor (b && member w row.columns) (combined (λ p. eqb p v) (taken.before ++ taken.after) w)) (ap (λ p. eqb p v) taken.pivot ∙ eqb-self v))
+      ∙ xor_zero (member w row.columns.ids) (combined (λ p. eqb p v) (taken.before ++ taken.after) w)
+      (sym (ap (λ b. xor (b && member w row.columns.ids) (combined (λ p. eqb p v) (taken.before ++ taken.after) w)) (ap (λ p. eqb p v) taken.pivot ∙ eqb-self v))
       ∙ sym (combined-front (λ p. eqb p v) taken.before row taken.after w) ∙ ap (λ l. combined (λ p. eqb p v) l w) (sym taken.was) ∙ c.sum w)
 
   pub turned_fewer : IsCancelled v old → (length new < length old) ⊎ IsCancelled v new
@@ -71,13 +71,13 @@ module _ (v : ℕ) (row : Row) (old mid new : List Row) (taken : IsTaken v row o
             ap (λ l. combined (λ x. eqb x v) l w) p.last ∙ combined-append (λ x. eqb x v) p.others (record row { pivot = p.pivot } ∷ []) w
             ∙ ap₂ xor
             (combined-cleared (λ x. eqb x v) p.pivot row mid p.others w p.cleared
-            ∙ ap₂ (λ a b. xor a (b && member w row.columns)) (rest_is_row c w) (rest_is_row c p.pivot ∙ p.has_it) ∙ xor-same (member w row.columns))
-            (ap (λ b. xor (b && member w row.columns) false) apart);
+            ∙ ap₂ (λ a b. xor a (b && member w row.columns.ids)) (rest_is_row c w) (rest_is_row c p.pivot ∙ p.has_it) ∙ xor-same (member w row.columns.ids))
+            (ap (λ b. xor (b && member w row.columns.ids) false) apart);
         some = left_over;
       }
         where
           apart : eqb p.pivot v ≡ false
-          apart = by_equal p.pivot v (λ t e. absurd (true≢false (sym p.has_it ∙ ap (λ x. member x row.columns) e ∙ out))) (λ f n. f)
+          apart = by_equal p.pivot v (λ t e. absurd (true≢false (sym p.has_it ∙ ap (λ x. member x row.columns.ids) e ∙ out))) (λ f n. f)
 
           left_over : 1 ≤ stale v new
           left_over = by_test (eqb (stale v mid) 0)

@@ -114,11 +114,11 @@ found s before left v rows simple is_left later frontier c = record {
 
 -- an XY vertex that is alone in a row
 pub correctable_alone : (s : Seen) (left : ℕ → Bool) (v : ℕ) (r : Row) → s.plane v ≡ XY → IsRow s left (usable s left) r →
-    ((w : ℕ) → member w r.columns ≡ eqb w v) → IsCorrectable s left v
+    ((w : ℕ) → member w r.columns.ids ≡ eqb w v) → IsCorrectable s left v
 correctable_alone s left v r plane row only = record {
-  set = is_in r.members;
+  set = is_in r.members.ids;
   members = row.members;
-  sums = λ w l. sym (ap (λ b. b && odd s (is_in r.members) w) l) ∙ sym (row.columns w) ∙ only w
+  sums = λ w l. sym (ap (λ b. b && odd s (is_in r.members.ids) w) l) ∙ sym (row.columns w) ∙ only w
       ∙ sym (ap₂ (λ a b. xor (a && s.adjacent v w) (b && eqb w v)) (ap inside_in plane) (ap odd_in plane));
 }
 

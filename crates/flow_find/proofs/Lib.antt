@@ -11,3 +11,7 @@ pub mod Few
 pub mod Ranked
 pub mod Moving
 pub mod Choosing
+pub mod Solving
+pub mod Searching
+pub mod Leaving
+pub mod NoFlow

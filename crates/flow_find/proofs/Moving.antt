@@ -60,12 +60,12 @@ module _ (g : Graph) (before after gone : List ℕ) (w : ℕ) (left : ℕ → Bo
 
   there : left w ≡ true
   there = by_test (left w) (λ t. t)
-      (λ f. absurd (true≢false (sym (ap (λ b. b) (eqb-self w)) ∙ sym (alone.only w) ∙ row.columns w ∙ ap (λ b. b && odd (seen g) (is_in r.members) w) f)))
+      (λ f. absurd (true≢false (sym (ap (λ b. b) (eqb-self w)) ∙ sym (alone.only w) ∙ row.columns w ∙ ap (λ b. b && odd (seen g) (is_in r.members.ids) w) f)))
 
-  out : (p : ℕ) → member p r.members ≡ true → left p ≡ false
+  out : (p : ℕ) → member p r.members.ids ≡ true → left p ≡ false
   out p e = not-true _ (and-right _ _ (and-right (member p (seen g).ids) _ (row.members p e)))
 
-  corrected : Corrects (seen g) (is_later ((before ++ after) ++ w ∷ gone)) w (is_in r.members)
+  corrected : Corrects (seen g) (is_later ((before ++ after) ++ w ∷ gone)) w (is_in r.members.ids)
   corrected = record {
     members = λ p e. and-left _ _ (row.members p e);
     input = λ p e. not-true _ (and-left _ _ (and-right (member p (seen g).ids) _ (row.members p e)));
@@ -73,19 +73,19 @@ module _ (g : Graph) (before after gone : List ℕ) (w : ℕ) (left : ℕ → Bo
     odd_order = λ p within e n. by_test (left p)
         (λ l. absurd (n (eqb-true p w (sym (alone.only p) ∙ row.columns p ∙ ap₂ (λ a b. a && b) l e))))
         (λ f. later p ∙ ap not f);
-    inside = by_test (member w r.members) (λ t. absurd (true≢false (sym there ∙ out w t))) (λ f. f ∙ sym (ap inside_in alone.plane));
-    odd_there = sym (ap (λ b. b && odd (seen g) (is_in r.members) w) there) ∙ sym (row.columns w) ∙ alone.only w ∙ eqb-self w ∙ sym (ap odd_in alone.plane);
+    inside = by_test (member w r.members.ids) (λ t. absurd (true≢false (sym there ∙ out w t))) (λ f. f ∙ sym (ap inside_in alone.plane));
+    odd_there = sym (ap (λ b. b && odd (seen g) (is_in r.members.ids) w) there) ∙ sym (row.columns w) ∙ alone.only w ∙ eqb-self w ∙ sym (ap odd_in alone.plane);
   }
 
   pub moved : IsOrder g ((before ++ after) ++ w ∷ gone)
   moved = record {
     each_once = each_once;
     non_outputs = λ v. member-moved before after gone w v ∙ h.non_outputs v;
-    sets = λ v. cond (eqb v w) r.members (h.sets v);
+    sets = λ v. cond (eqb v w) r.members.ids (h.sets v);
     corrects = λ v is. by_equal v w
-        (λ t e. subst (λ x. Corrects (seen g) (is_later ((before ++ after) ++ w ∷ gone)) x (is_in (cond (eqb x w) r.members (h.sets x)))) (sym e)
-        (subst (λ b. Corrects (seen g) (is_later ((before ++ after) ++ w ∷ gone)) w (is_in (cond b r.members (h.sets w)))) (sym (eqb-self w)) corrected))
-        (λ f n. subst (λ b. Corrects (seen g) (is_later ((before ++ after) ++ w ∷ gone)) v (is_in (cond b r.members (h.sets v)))) (sym f)
+        (λ t e. subst (λ x. Corrects (seen g) (is_later ((before ++ after) ++ w ∷ gone)) x (is_in (cond (eqb x w) r.members.ids (h.sets x)))) (sym e)
+        (subst (λ b. Corrects (seen g) (is_later ((before ++ after) ++ w ∷ gone)) w (is_in (cond b r.members.ids (h.sets w)))) (sym (eqb-self w)) corrected))
+        (λ f n. subst (λ b. Corrects (seen g) (is_later ((before ++ after) ++ w ∷ gone)) v (is_in (cond b r.members.ids (h.sets v)))) (sym f)
         (Corrects-later (seen g) (is_later (before ++ w ∷ (after ++ gone))) (is_later ((before ++ after) ++ w ∷ gone)) v (is_in (h.sets v)) (λ p. later_moved before after gone w v p f)
         (h.corrects v (sym (member-moved before after gone w v) ∙ is))));
   }

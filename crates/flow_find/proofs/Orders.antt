@@ -81,7 +81,7 @@ is_place order i v within is =
 pub fresh_there : (order : List ℕ) (i v : ℕ) → Distinct order → i < length order → v ≡ get_or order i v → member v (take i order) ≡ false
 fresh_there order i v distinct within is = Distinct-take (take i order) v (drop (suc i) order) (subst Distinct (is_place order i v within is).whole distinct)
 
-off_XY : (plane : Plane) → inside_in plane ≡ true → is_XY plane ≡ false
+pub off_XY : (plane : Plane) → inside_in plane ≡ true → is_XY plane ≡ false
 off_XY XY e = absurd (true≢false (sym e))
 off_XY XZ e = refl
 off_XY YZ e = refl

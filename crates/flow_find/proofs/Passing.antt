@@ -22,7 +22,7 @@ use Rattle.flow_find.proofs.Changing.{put_keeps, with_may, frontier_alike}
 pub combined_outside : (s : Seen) (left may t : ℕ → Bool) (rows : List Row) (w : ℕ) → AreAll (IsRow s left may) rows → left w ≡ false → combined t rows w ≡ false
 combined_outside s left may t [] w each out = refl
 combined_outside s left may t (r ∷ rs) w each out =
-    ap₂ (λ c x. xor (t r.pivot && c) x) (each.0.columns w ∙ ap (λ b. b && odd s (is_in r.members) w) out) (combined_outside s left may t rs w each.1 out)
+    ap₂ (λ c x. xor (t r.pivot && c) x) (each.0.columns w ∙ ap (λ b. b && odd s (is_in r.members.ids) w) out) (combined_outside s left may t rs w each.1 out)
     ∙ ap (λ b. xor b false) (and-false (t r.pivot))
 
 -- the row of u, with the rows added at whose pivots u has neighbours
@@ -33,20 +33,20 @@ near_is : (s : Seen) (u p : ℕ) → near s u p ≡ s.adjacent u p
 near_is s u p = xor-false (s.adjacent u p)
 
 pub inserted : (s : Seen) (left may : ℕ → Bool) (u : ℕ) (start row : Row) (old new : List Row) → Simple s → member u s.ids ≡ true →
-    ((w : ℕ) → member w start.columns ≡ (left w && s.adjacent u w)) → start.members ≡ u ∷ [] → IsSum (near s u) old start row → IsPut row old new →
+    ((w : ℕ) → member w start.columns.ids ≡ (left w && s.adjacent u w)) → start.members.ids ≡ u ∷ [] → IsSum (near s u) old start row → IsPut row old new →
     IsFrontier s left left may old → IsFrontier s left left (with_one may u) new
 inserted s left may u start row old new simple there columns one sum put frontier =
     put_keeps s left left (with_one may u) row old new (λ w l. l) is_row (with_may s left may u old frontier.each) frontier.pivots short put
   where
-    at_left : (w : ℕ) → left w ≡ true → member w row.columns ≡ xor (s.adjacent u w) (combined (s.adjacent u) old w)
+    at_left : (w : ℕ) → left w ≡ true → member w row.columns.ids ≡ xor (s.adjacent u w) (combined (s.adjacent u) old w)
     at_left w l = sum.columns w ∙ ap₂ xor (columns w ∙ ap (λ b. b && s.adjacent u w) l) (combined_alike (near s u) (s.adjacent u) old w (near_is s u))
 
-    first : (w : ℕ) → member w row.members ≡ xor (eqb w u) (gathered (near s u) old w)
+    first : (w : ℕ) → member w row.members.ids ≡ xor (eqb w u) (gathered (near s u) old w)
     first w = sum.members w ∙ ap (λ b. xor b (gathered (near s u) old w)) (ap (member w) one ∙ is_in-one u w)
 
-    sums : (w : ℕ) → left w ≡ true → odd s (is_in row.members) w ≡ xor (s.adjacent u w) (combined (s.adjacent u) old w)
+    sums : (w : ℕ) → left w ≡ true → odd s (is_in row.members.ids) w ≡ xor (s.adjacent u w) (combined (s.adjacent u) old w)
     sums w l =
-        masked-same (s.adjacent w) (s.adjacent w) s.ids (is_in row.members) (λ x. xor (eqb x u) (gathered (near s u) old x)) (λ x _. ap (λ b. s.adjacent w x && b) (first x))
+        masked-same (s.adjacent w) (s.adjacent w) s.ids (is_in row.members.ids) (λ x. xor (eqb x u) (gathered (near s u) old x)) (λ x _. ap (λ b. s.adjacent w x && b) (first x))
         ∙ masked-of-xor (s.adjacent w) s.ids (λ x. eqb x u) (gathered (near s u) old)
         ∙ ap₂ xor (masked-one (s.adjacent w) s.ids u simple.distinct there ∙ simple.symmetric w u)
         (odd-gathered s left may (near s u) old w frontier.each l ∙ combined_alike (near s u) (s.adjacent u) old w (near_is s u))
@@ -54,22 +54,22 @@ inserted s left may u start row old new simple there columns one sum put frontie
     is_row : IsRow s left (with_one may u) row
     is_row = record {
       columns = λ w. by_test (left w)
-          (λ l. at_left w l ∙ sym (ap (λ b. b && odd s (is_in row.members) w) l ∙ sums w l))
+          (λ l. at_left w l ∙ sym (ap (λ b. b && odd s (is_in row.members.ids) w) l ∙ sums w l))
           (λ out. sum.columns w ∙ ap₂ xor (columns w ∙ ap (λ b. b && s.adjacent u w) out) (combined_outside s left may (near s u) old w frontier.each out)
-          ∙ sym (ap (λ b. b && odd s (is_in row.members) w) out));
+          ∙ sym (ap (λ b. b && odd s (is_in row.members.ids) w) out));
       members = λ w e. ⊎_elim
           (λ t. ap (λ b. may w || b) t ∙ or-true (may w))
           (λ g. by_test (may w) (λ m. ap (λ b. b || eqb w u) m) (λ f. absurd (true≢false (sym g ∙ gathered_may s left may (near s u) old w frontier.each f))))
           (xor_true (eqb w u) (gathered (near s u) old w) (sym (first w) ∙ e));
     }
 
-    short : IsShort s left (with_one may u) old row.columns
+    short : IsShort s left (with_one may u) old row.columns.ids
     short = record {
       times = λ x. eqb x u;
       lacks = λ x w m l. by_equal x u
-          (λ t e. ap (λ y. xor (s.adjacent y w) (combined (s.adjacent y) old w)) e ∙ sym (ap (λ b. b && member w row.columns) t ∙ at_left w l))
+          (λ t e. ap (λ y. xor (s.adjacent y w) (combined (s.adjacent y) old w)) e ∙ sym (ap (λ b. b && member w row.columns.ids) t ∙ at_left w l))
           (λ f n. ap (λ b. xor b (combined (s.adjacent x) old w)) (frontier.spans x w (sym (or-false (may x)) ∙ ap (λ b. may x || b) (sym f) ∙ m) l)
-          ∙ xor-same (combined (s.adjacent x) old w) ∙ sym (ap (λ b. b && member w row.columns) f));
+          ∙ xor-same (combined (s.adjacent x) old w) ∙ sym (ap (λ b. b && member w row.columns.ids) f));
     }
 
 -- v may be a member where it has no input, and all that were usable still are

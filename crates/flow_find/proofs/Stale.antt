@@ -21,12 +21,12 @@ stale-same change v [] (n ∷ ns) keeps each = absurd each
 stale-same change v (o ∷ os) [] keeps each = absurd each
 
 -- a row with columns that aren't v is put: as many as before
-pub stale-put : (v : ℕ) (row : Row) (old new : List Row) → member v row.columns ≡ false → IsPut row old new → stale v new ≡ stale v old
+pub stale-put : (v : ℕ) (row : Row) (old new : List Row) → member v row.columns.ids ≡ false → IsPut row old new → stale v new ≡ stale v old
 stale-put v row old new none put = ⊎_elim pivoted spent put
   where
     pivoted : IsPivoted row old new → stale v new ≡ stale v old
     pivoted p =
-        let apart : eqb p.pivot v ≡ false = by_equal p.pivot v (λ t e. absurd (true≢false (sym p.has_it ∙ ap (λ x. member x row.columns) e ∙ none))) (λ f n. f) in
+        let apart : eqb p.pivot v ≡ false = by_equal p.pivot v (λ t e. absurd (true≢false (sym p.has_it ∙ ap (λ x. member x row.columns.ids) e ∙ none))) (λ f n. f) in
         ap (stale v) p.last ∙ stale-append v p.others (record row { pivot = p.pivot } ∷ [])
         ∙ ap₂ (λ k b. k + (one_if b + 0)) (stale-same (IsCleared p.pivot row) v old p.others (λ o n c. c.pivot) p.cleared) apart ∙ nothing (stale v old)
       where
@@ -51,7 +51,7 @@ stale_less v row old mid new taken without put =
     omega arith
 
 -- the column that went stays away
-pub put_without : (v : ℕ) (row : Row) (old new : List Row) → member v row.columns ≡ false → AreAll (IsWithout v) old → IsPut row old new → AreAll (IsWithout v) new
+pub put_without : (v : ℕ) (row : Row) (old new : List Row) → member v row.columns.ids ≡ false → AreAll (IsWithout v) old → IsPut row old new → AreAll (IsWithout v) new
 put_without v row old new none without put = ⊎_elim pivoted spent put
   where
     kept : (test : Row → Bool) (o n : Row) → IsAdded (test o) row o n → IsWithout v o → IsWithout v n
@@ -59,7 +59,7 @@ put_without v row old new none without put = ⊎_elim pivoted spent put
 
     pivoted : IsPivoted row old new → AreAll (IsWithout v) new
     pivoted p = subst (AreAll (IsWithout v)) (sym p.last) (AreAll-append (IsWithout v) p.others (record row { pivot = p.pivot } ∷ [])
-        (AreAll-changed (IsCleared p.pivot row) (IsWithout v) (IsWithout v) old p.others (kept (λ o. member p.pivot o.columns)) p.cleared without) (none, tt))
+        (AreAll-changed (IsCleared p.pivot row) (IsWithout v) (IsWithout v) old p.others (kept (λ o. member p.pivot o.columns.ids)) p.cleared without) (none, tt))
 
     spent : IsSpent row old new → AreAll (IsWithout v) new
     spent e = AreAll-changed (λ o n. IsAdded (e.test o) row o n) (IsWithout v) (IsWithout v) old new (kept e.test) e.added without

@@ -14,8 +14,8 @@ use Rattle.zx_calculus.proofs.Ids.{by_test, member-here}
 
 -- the rows that are left add up, with what is there, to all of them
 pub record IsSumSoFar (picked : ℕ → Bool) (rows rest : List Row) (start now : Row) : Type 0 where
-  pub columns : (w : ℕ) → xor (member w now.columns) (combined picked rest w) ≡ xor (member w start.columns) (combined picked rows w)
-  pub members : (w : ℕ) → xor (member w now.members) (gathered picked rest w) ≡ xor (member w start.members) (gathered picked rows w)
+  pub columns : (w : ℕ) → xor (member w now.columns.ids) (combined picked rest w) ≡ xor (member w start.columns.ids) (combined picked rows w)
+  pub members : (w : ℕ) → xor (member w now.members.ids) (gathered picked rest w) ≡ xor (member w start.members.ids) (gathered picked rows w)
 
 one_bit : (a p m r : Bool) → xor (xor a (p && m)) r ≡ xor a (xor (p && m) r)
 one_bit a p m r = simp parities
@@ -23,10 +23,10 @@ one_bit a p m r = simp parities
 pub sum_more : (t : ℕ → Bool) (rows : List Row) (i : ℕ) (r : Row) (start now new : Row) → i < length rows → r ≡ get_or rows i r →
     IsSumSoFar t rows (drop i rows) start now → IsAdded (t r.pivot) r now new → IsSumSoFar t rows (drop (suc i) rows) start new
 sum_more t rows i r start now new within is so_far added = record {
-  columns = λ w. ap (λ b. xor b (combined t (drop (suc i) rows) w)) (added.columns w) ∙ one_bit (member w now.columns) (t r.pivot) (member w r.columns) (combined t (drop (suc i) rows) w)
-      ∙ ap (λ l. xor (member w now.columns) (combined t l w)) (sym split) ∙ so_far.columns w;
-  members = λ w. ap (λ b. xor b (gathered t (drop (suc i) rows) w)) (added.members w) ∙ one_bit (member w now.members) (t r.pivot) (member w r.members) (gathered t (drop (suc i) rows) w)
-      ∙ ap (λ l. xor (member w now.members) (gathered t l w)) (sym split) ∙ so_far.members w;
+  columns = λ w. ap (λ b. xor b (combined t (drop (suc i) rows) w)) (added.columns w) ∙ one_bit (member w now.columns.ids) (t r.pivot) (member w r.columns.ids) (combined t (drop (suc i) rows) w)
+      ∙ ap (λ l. xor (member w now.columns.ids) (combined t l w)) (sym split) ∙ so_far.columns w;
+  members = λ w. ap (λ b. xor b (gathered t (drop (suc i) rows) w)) (added.members w) ∙ one_bit (member w now.members.ids) (t r.pivot) (member w r.members.ids) (gathered t (drop (suc i) rows) w)
+      ∙ ap (λ l. xor (member w now.members.ids) (gathered t l w)) (sym split) ∙ so_far.members w;
 }
   where
     split : drop i rows ≡ r ∷ drop (suc i) rows
@@ -34,8 +34,8 @@ sum_more t rows i r start now new within is so_far added = record {
 
 pub sum_all : (t : ℕ → Bool) (rows : List Row) (i : ℕ) (start now : Row) → length rows ≤ i → IsSumSoFar t rows (drop i rows) start now → IsSum t rows start now
 sum_all t rows i start now over so_far = record {
-  columns = λ w. sym (xor-false (member w now.columns)) ∙ ap (λ l. xor (member w now.columns) (combined t l w)) (sym none) ∙ so_far.columns w;
-  members = λ w. sym (xor-false (member w now.members)) ∙ ap (λ l. xor (member w now.members) (gathered t l w)) (sym none) ∙ so_far.members w;
+  columns = λ w. sym (xor-false (member w now.columns.ids)) ∙ ap (λ l. xor (member w now.columns.ids) (combined t l w)) (sym none) ∙ so_far.columns w;
+  members = λ w. sym (xor-false (member w now.members.ids)) ∙ ap (λ l. xor (member w now.members.ids) (gathered t l w)) (sym none) ∙ so_far.members w;
 }
   where
     none : drop i rows ≡ []
@@ -69,7 +69,7 @@ changed_all change (suc i) (o ∷ os) [] over so_far = absurd so_far
 -- nothing is added
 pub unchanged : (row : Row) (rows : List Row) → AreEach (λ o n. IsAdded false row o n) rows rows
 unchanged row [] = tt
-unchanged row (r ∷ rs) = (record { pivot = refl; columns = λ w. sym (xor-false (member w r.columns)); members = λ w. sym (xor-false (member w r.members)) }, unchanged row rs)
+unchanged row (r ∷ rs) = (record { pivot = refl; columns = λ w. sym (xor-false (member w r.columns.ids)); members = λ w. sym (xor-false (member w r.members.ids)) }, unchanged row rs)
 
 -- what stands in a `Vec` after a change of its elements
 pub length-each : (change : Row → Row → Type 0) (old new : List Row) → AreEach change old new → length new ≡ length old

@@ -31,11 +31,11 @@ AreAll-back P (x ∷ xs) ys a = AreAll-back P xs ys a.1
 -- what is picked at the pivots decides
 pub combined-same : (t u : ℕ → Bool) (rows : List Row) (w : ℕ) → AreAll (λ r. t r.pivot ≡ u r.pivot) rows → combined t rows w ≡ combined u rows w
 combined-same t u [] w same = refl
-combined-same t u (r ∷ rs) w same = ap₂ (λ a b. xor (a && member w r.columns) b) same.0 (combined-same t u rs w same.1)
+combined-same t u (r ∷ rs) w same = ap₂ (λ a b. xor (a && member w r.columns.ids) b) same.0 (combined-same t u rs w same.1)
 
 pub combined_alike : (t u : ℕ → Bool) (rows : List Row) (w : ℕ) → ((p : ℕ) → t p ≡ u p) → combined t rows w ≡ combined u rows w
 combined_alike t u [] w same = refl
-combined_alike t u (r ∷ rs) w same = ap₂ (λ a b. xor (a && member w r.columns) b) (same r.pivot) (combined_alike t u rs w same)
+combined_alike t u (r ∷ rs) w same = ap₂ (λ a b. xor (a && member w r.columns.ids) b) (same r.pivot) (combined_alike t u rs w same)
 
 both_picked : (a b m x y : Bool) → xor (xor a b && m) (xor x y) ≡ xor (xor (a && m) x) (xor (b && m) y)
 both_picked a b m x y = simp parities
@@ -43,8 +43,8 @@ both_picked a b m x y = simp parities
 pub combined-xor : (a b : ℕ → Bool) (rows : List Row) (w : ℕ) → combined (λ p. xor (a p) (b p)) rows w ≡ xor (combined a rows w) (combined b rows w)
 combined-xor a b [] w = refl
 combined-xor a b (r ∷ rs) w =
-    ap (xor (xor (a r.pivot) (b r.pivot) && member w r.columns)) (combined-xor a b rs w)
-    ∙ both_picked (a r.pivot) (b r.pivot) (member w r.columns) (combined a rs w) (combined b rs w)
+    ap (xor (xor (a r.pivot) (b r.pivot) && member w r.columns.ids)) (combined-xor a b rs w)
+    ∙ both_picked (a r.pivot) (b r.pivot) (member w r.columns.ids) (combined a rs w) (combined b rs w)
 
 common_factor : (c a m x : Bool) → xor ((c && a) && m) (c && x) ≡ (c && xor (a && m) x)
 common_factor c a m x = simp parities
@@ -52,7 +52,7 @@ common_factor c a m x = simp parities
 pub combined-and : (c : Bool) (t : ℕ → Bool) (rows : List Row) (w : ℕ) → combined (λ p. c && t p) rows w ≡ (c && combined t rows w)
 combined-and c t [] w = sym (and-false c)
 combined-and c t (r ∷ rs) w =
-    ap (xor ((c && t r.pivot) && member w r.columns)) (combined-and c t rs w) ∙ common_factor c (t r.pivot) (member w r.columns) (combined t rs w)
+    ap (xor ((c && t r.pivot) && member w r.columns.ids)) (combined-and c t rs w) ∙ common_factor c (t r.pivot) (member w r.columns.ids) (combined t rs w)
 
 pub combined-false : (rows : List Row) (w : ℕ) → combined (λ p. false) rows w ≡ false
 combined-false [] w = refl
@@ -68,13 +68,13 @@ grouped a x y = simp parities
 pub combined-append : (t : ℕ → Bool) (xs ys : List Row) (w : ℕ) → combined t (xs ++ ys) w ≡ xor (combined t xs w) (combined t ys w)
 combined-append t [] ys w = refl
 combined-append t (x ∷ xs) ys w =
-    ap (xor (t x.pivot && member w x.columns)) (combined-append t xs ys w) ∙ grouped (t x.pivot && member w x.columns) (combined t xs w) (combined t ys w)
+    ap (xor (t x.pivot && member w x.columns.ids)) (combined-append t xs ys w) ∙ grouped (t x.pivot && member w x.columns.ids) (combined t xs w) (combined t ys w)
 
 pub combined-front : (t : ℕ → Bool) (xs : List Row) (r : Row) (ys : List Row) (w : ℕ) →
-    combined t (xs ++ r ∷ ys) w ≡ xor (t r.pivot && member w r.columns) (combined t (xs ++ ys) w)
+    combined t (xs ++ r ∷ ys) w ≡ xor (t r.pivot && member w r.columns.ids) (combined t (xs ++ ys) w)
 combined-front t xs r ys w =
-    combined-append t xs (r ∷ ys) w ∙ moved (combined t xs w) (t r.pivot && member w r.columns) (combined t ys w)
-    ∙ ap (xor (t r.pivot && member w r.columns)) (sym (combined-append t xs ys w))
+    combined-append t xs (r ∷ ys) w ∙ moved (combined t xs w) (t r.pivot && member w r.columns.ids) (combined t ys w)
+    ∙ ap (xor (t r.pivot && member w r.columns.ids)) (sym (combined-append t xs ys w))
 
 -- the parity over a set goes into the sum
 pub combined-masked : (s : Seen) (A : ℕ → Bool) (rows : List Row) (w : ℕ) (vs : List ℕ) → Simple s →
@@ -102,15 +102,15 @@ pub odd-gathered : (s : Seen) (left may t : ℕ → Bool) (rows : List Row) (w :
     odd s (gathered t rows) w ≡ combined t rows w
 odd-gathered s left may t [] w each there = masked-none (s.adjacent w) s.ids (gathered t []) (λ x _. and-false (s.adjacent w x))
 odd-gathered s left may t (r ∷ rs) w each there =
-    masked-of-xor (s.adjacent w) s.ids (λ x. t r.pivot && is_in r.members x) (gathered t rs)
+    masked-of-xor (s.adjacent w) s.ids (λ x. t r.pivot && is_in r.members.ids x) (gathered t rs)
     ∙ ap₂ xor
-    (masked-of-and (t r.pivot) (s.adjacent w) s.ids (is_in r.members)
-    ∙ ap (λ b. t r.pivot && b) (sym (each.0.columns w ∙ ap (λ b. b && odd s (is_in r.members) w) there)))
+    (masked-of-and (t r.pivot) (s.adjacent w) s.ids (is_in r.members.ids)
+    ∙ ap (λ b. t r.pivot && b) (sym (each.0.columns w ∙ ap (λ b. b && odd s (is_in r.members.ids) w) there)))
     (odd-gathered s left may t rs w each.1 there)
 
 -- what is gathered may be used
 pub gathered_may : (s : Seen) (left may t : ℕ → Bool) (rows : List Row) (w : ℕ) → AreAll (IsRow s left may) rows → may w ≡ false → gathered t rows w ≡ false
 gathered_may s left may t [] w each none = refl
 gathered_may s left may t (r ∷ rs) w each none =
-    let out : member w r.members ≡ false = false_from_ne_true (member w r.members) (λ m. true≢false (sym (each.0.members w m) ∙ none)) in
+    let out : member w r.members.ids ≡ false = false_from_ne_true (member w r.members.ids) (λ m. true≢false (sym (each.0.members w m) ∙ none)) in
     ap₂ (λ a b. xor (t r.pivot && a) b) out (gathered_may s left may t rs w each.1 none) ∙ ap (λ b. xor b false) (and-false (t r.pivot))

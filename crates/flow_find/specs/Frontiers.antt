@@ -19,12 +19,12 @@ AreAll P (r ∷ rs) = P r × AreAll P rs
 -- the sum of the columns of the rows whose pivots are picked
 abbrev pub combined : (ℕ → Bool) → List Row → ℕ → Bool
 combined picked [] w = false
-combined picked (r ∷ rs) w = xor (picked r.pivot && member w r.columns) (combined picked rs w)
+combined picked (r ∷ rs) w = xor (picked r.pivot && member w r.columns.ids) (combined picked rs w)
 
 -- the sum of their members
 abbrev pub gathered : (ℕ → Bool) → List Row → ℕ → Bool
 gathered picked [] w = false
-gathered picked (r ∷ rs) w = xor (picked r.pivot && member w r.members) (gathered picked rs w)
+gathered picked (r ∷ rs) w = xor (picked r.pivot && member w r.members.ids) (gathered picked rs w)
 
 -- the neighbours of v where the first bit says so, and v itself where the second does
 abbrev pub around : Seen → ℕ → Bool → Bool → ℕ → Bool
@@ -50,8 +50,8 @@ pub record IsCorrectable (s : Seen) (left : ℕ → Bool) (v : ℕ) : Type 0 whe
 
 -- the columns of a row are the odd neighbourhood of its members, on the vertices left
 pub record IsRow (s : Seen) (left may : ℕ → Bool) (r : Row) : Type 0 where
-  pub columns : (w : ℕ) → member w r.columns ≡ (left w && odd s (is_in r.members) w)
-  pub members : (w : ℕ) → member w r.members ≡ true → may w ≡ true
+  pub columns : (w : ℕ) → member w r.columns.ids ≡ (left w && odd s (is_in r.members.ids) w)
+  pub members : (w : ℕ) → member w r.members.ids ≡ true → may w ≡ true
 
 -- they are such rows, with pivots that are held; and the neighbours of each vertex that may be a
 -- member, cut to those left, are the sum of the rows at whose pivots they stand

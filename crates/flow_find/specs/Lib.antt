@@ -1,2 +1,4 @@
 pub mod Frontiers
+pub mod Stuck
+pub mod Found
 pub mod Internal

@@ -60,10 +60,10 @@ pub(crate) fn first_rows(
     g: &OpenGraph,
     left: &VertexSet,
 ) -> Result<Vec<Row>, AllocError>
-    requires { (w : ℕ) → is_in left.now w ≡
+    requires { (w : ℕ) → is_in left.now.ids w ≡
         (member w (seen g.now.graph).ids && not ((seen g.now.graph).output w)) }
     ensures rows { IfOk result (λ rows.
-        IsFrontierOf (seen g.now.graph) (is_in left.now) rows.items) }
+        IsFrontierOf (seen g.now.graph) (is_in left.now.ids) rows.items) }
     ensures few { IfOk result (λ rows. length rows.items ≤ length g.now.graph.outputs) }
     ensures valid { WellFormed g.now.graph }
 {
@@ -86,7 +86,7 @@ pub(crate) fn correction(
 ) -> Result<VertexSet, AllocError>
     requires { Live g.now.graph v }
     ensures { IfOk result (λ set. (w : ℕ) →
-        member w set ≡ set_from (seen g.now.graph) rows.now v w) }
+        member w set.ids ≡ set_from (seen g.now.graph) rows.now v w) }
 {
     let (plane, _) = g.weight(v);
     let target = target_of(plane, v);
@@ -105,7 +105,7 @@ pub(crate) fn correction(
 }
 
 // What the other members of a set have to add up to, by the plane of its vertex.
-fn target_of(plane: Plane, v: VertexId) -> Around
+pub(crate) fn target_of(plane: Plane, v: VertexId) -> Around
     ensures vertex { result.vertex ≡ v }
     ensures neighbours { result.neighbours ≡ inside_in (plane_named plane) }
     ensures itself { result.itself ≡ odd_in (plane_named plane) }

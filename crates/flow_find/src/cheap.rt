@@ -45,7 +45,11 @@ pub fn find_cheap(
 }
 
 // The sets of a table in another order.
-fn reordered(alloc: Global, table: &FlowTable, order: &[VertexId]) -> Result<FlowTable, AllocError>
+pub(crate) fn reordered(
+    alloc: Global,
+    table: &FlowTable,
+    order: &[VertexId],
+) -> Result<FlowTable, AllocError>
     requires once { Distinct order.now }
     requires listed { (v : ℕ) → member v order.now ≡ true →
         member v (order_of table.now.table) ≡ true }
@@ -123,7 +127,7 @@ fn put_off(order: &mut Vec<VertexId>, place: usize, last: usize) -> Result<(), A
 }
 
 // Of the XY vertices that are alone in a row, the one whose row has the fewest members.
-fn cheapest(g: &OpenGraph, rows: &[Row]) -> Option<VertexId>
+pub(crate) fn cheapest(g: &OpenGraph, rows: &[Row]) -> Option<VertexId>
     ensures { IfSome result (λ v. IsAlone (seen g.now.graph) rows.now v) }
 {
     let mut best = None;
@@ -154,7 +158,7 @@ fn alone_in(g: &OpenGraph, row: &Row) -> Option<VertexId>
 }
 
 // Whether it is a vertex of the XY plane.
-fn is_xy(g: &OpenGraph, v: VertexId) -> bool
+pub(crate) fn is_xy(g: &OpenGraph, v: VertexId) -> bool
     ensures { result ≡ true → plane_of g.now.graph v ≡ XY }
 {
     g.is_live(v) && matches!(g.weight(v).0, Plane::XY)

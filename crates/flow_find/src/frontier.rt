@@ -23,10 +23,10 @@ pub(crate) fn pass(
     left: &VertexSet,
 ) -> Result<(), AllocError>
     requires live { Live g.now.graph v }
-    requires gone { is_in left.now v ≡ false }
-    ensures rows { OnOk result (IsPassable (seen g.now.graph) (is_in left.now) v rows.old.items →
-        IsFrontierOf (seen g.now.graph) (is_in left.now) rows.new.items) }
-    ensures few { OnOk result (IsPassable (seen g.now.graph) (is_in left.now) v rows.old.items →
+    requires gone { is_in left.now.ids v ≡ false }
+    ensures rows { OnOk result (IsPassable (seen g.now.graph) (is_in left.now.ids) v rows.old.items →
+        IsFrontierOf (seen g.now.graph) (is_in left.now.ids) rows.new.items) }
+    ensures few { OnOk result (IsPassable (seen g.now.graph) (is_in left.now.ids) v rows.old.items →
         length rows.new.items ≤ length rows.old.items) }
 {
     drop_column(rows, v)?;
@@ -50,7 +50,7 @@ fn needs_row(g: &OpenGraph, v: VertexId) -> bool
 
 // Gives rows whose pivot went another one.
 fn turn(rows: &mut Vec<Row>, v: VertexId) -> Result<(), AllocError>
-    requires { AreAll (λ row. member v row.columns ≡ false) rows.old.items }
+    requires { AreAll (λ row. member v row.columns.ids ≡ false) rows.old.items }
     ensures rows { OnOk result ((s : Seen) (left may : ℕ → Bool) →
         IsFrontier s left (with_one left v) may rows.old.items →
         IsFrontier s left left may rows.new.items) }
@@ -74,8 +74,8 @@ pub(crate) fn insert(
 ) -> Result<(), AllocError>
     requires { Live g.now.graph u }
     ensures rows { OnOk result ((may : ℕ → Bool) →
-        IsFrontierFor (seen g.now.graph) (is_in left.now) may rows.old.items →
-        IsFrontierFor (seen g.now.graph) (is_in left.now) (with_one may u) rows.new.items) }
+        IsFrontierFor (seen g.now.graph) (is_in left.now.ids) may rows.old.items →
+        IsFrontierFor (seen g.now.graph) (is_in left.now.ids) (with_one may u) rows.new.items) }
     ensures few { OnOk result (length rows.new.items ≤ length rows.old.items + 1) }
 {
     let mut row = Row {
@@ -94,7 +94,7 @@ pub(crate) fn insert(
 }
 
 // The neighbours of a vertex that are left.
-fn left_neighbours(
+pub(crate) fn left_neighbours(
     alloc: Global,
     g: &OpenGraph,
     u: VertexId,
@@ -102,7 +102,7 @@ fn left_neighbours(
 ) -> Result<VertexSet, AllocError>
     requires { Live g.now.graph u }
     ensures members { IfOk result (λ set. (w : ℕ) →
-        member w set ≡ (is_in left.now w && joined g.now.graph.edges u w)) }
+        member w set.ids ≡ (is_in left.now.ids w && joined g.now.graph.edges u w)) }
     ensures valid { WellFormed g.now.graph }
 {
     let mut set = VertexSet::new(alloc);

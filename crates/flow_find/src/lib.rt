@@ -20,11 +20,13 @@ mod picked;
 mod ranks;
 mod row;
 mod rows;
+mod search;
 mod sets;
 #[cfg(test)]
 mod tests;
 
 pub use along::find_along;
 pub use cheap::find_cheap;
-pub use laws::{only_xy_vertices_are_put, the_last_set_is_found};
+pub use laws::{a_flow_leaves_nothing_stuck, only_xy_vertices_are_put, the_last_set_is_found};
 pub use ranks::find_by_rank;
+pub use search::{Found, find};

@@ -29,7 +29,7 @@ pub fn find_by_rank(alloc: Global, g: &OpenGraph, ranks: &[u64]) -> Result<FlowT
 }
 
 // The vertices without outputs.
-fn measured(alloc: Global, g: &OpenGraph) -> Result<Vec<VertexId>, AllocError>
+pub(crate) fn measured(alloc: Global, g: &OpenGraph) -> Result<Vec<VertexId>, AllocError>
     ensures value { IfOk result (λ order.
         order.items ≡ filter (λ v. not ((seen g.now.graph).output v)) (seen g.now.graph).ids) }
     ensures valid { WellFormed g.now.graph }

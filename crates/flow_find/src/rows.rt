@@ -67,7 +67,7 @@ fn clear_column(rows: &mut [Row], column: VertexId, row: &Row) -> Result<(), All
 
 // Adds a row without columns to those that have its first member.
 fn relieve(rows: &mut [Row], row: &Row) -> Result<(), AllocError>
-    requires { row.now.columns ≡ [] }
+    requires { row.now.columns.ids ≡ [] }
     ensures { OnOk result (IsSpent row.now rows.old rows.new) }
 {
     match row.members.first_from(0) {

@@ -11,7 +11,7 @@ use std::alloc::{AllocError, Global};
 // The set of these vertices.
 pub(crate) fn set_of(alloc: Global, vertices: &[VertexId]) -> Result<VertexSet, AllocError>
     requires { Distinct vertices.now }
-    ensures { IfOk result (λ set. (w : ℕ) → is_in set w ≡ member w vertices.now) }
+    ensures { IfOk result (λ set. (w : ℕ) → is_in set.ids w ≡ member w vertices.now) }
 {
     let mut set = VertexSet::new(alloc);
     set.toggle_each(vertices)?;
@@ -20,7 +20,7 @@ pub(crate) fn set_of(alloc: Global, vertices: &[VertexId]) -> Result<VertexSet, 
 
 // Takes a vertex out of a set.
 pub(crate) fn take_out(set: &mut VertexSet, v: VertexId) -> Result<(), AllocError>
-    ensures { OnOk result ((w : ℕ) → is_in set.new w ≡ (not (w == v) && is_in set.old w)) }
+    ensures { OnOk result ((w : ℕ) → is_in set.new.ids w ≡ (not (w == v) && is_in set.old.ids w)) }
 {
     if !set.contains(v) {
         return Ok(());

@@ -9,7 +9,7 @@ ghost use Rattle.open_graph.specs.Planes.{plane_named};
 ghost use Rattle.move_laws.specs.Orders.{HasFlowAlong};
 ghost use Rattle.flow_find.specs.Internal.Drawn.{with_vertex, with_input, with_output, set_beside_an_output, shared_output_table};
 
-use crate::{find_along, find_by_rank};
+use crate::{Found, find, find_along, find_by_rank};
 use open_graph::{End, OpenGraph, Plane, VertexId};
 use std::alloc::Global;
 use std::process::Abort;
@@ -173,5 +173,52 @@ fn small_sets_come_last(rt: HostRuntime) -> Result<(), Fail> {
     assert!(rt; table.order() == [id(1), id(0)].as_slice());
     assert_eq!(rt; set_in(&rt, &table, 0), 4);
     assert_eq!(rt; set_in(&rt, &table, 1), 3);
+    Ok(())
+}
+
+// The vertices left, where there is no flow.
+fn left_of(alloc: Global, graph: &OpenGraph) -> Result<Vec<VertexId>, Fail> {
+    match find(alloc, graph)? {
+        Found::Flow(_) => Ok(Vec::new(alloc)),
+        Found::NoFlow { left } => Ok(left),
+    }
+}
+
+// Nothing is odd at a vertex without neighbours.
+#[test]
+fn a_vertex_beside_nothing_is_left(rt: HostRuntime) -> Result<(), Fail> {
+    let mut graph = OpenGraph::new(rt.alloc());
+    add(&rt, &mut graph, 0, Plane::XY)?;
+    add(&rt, &mut graph, 1, Plane::XY)?;
+    add_input(&rt, &mut graph, 0)?;
+    add_output(&rt, &mut graph, 1)?;
+    assert!(rt; left_of(rt.alloc(), &graph)?.as_slice() == [id(0)].as_slice());
+    Ok(())
+}
+
+// The vertex 2 goes by the output 3; then its neighbours 0 and 1 are in one set or in none.
+#[test]
+fn two_vertices_are_left(rt: HostRuntime) -> Result<(), Fail> {
+    let mut graph = OpenGraph::new(rt.alloc());
+    add(&rt, &mut graph, 0, Plane::XY)?;
+    add(&rt, &mut graph, 1, Plane::XY)?;
+    add(&rt, &mut graph, 2, Plane::XY)?;
+    add(&rt, &mut graph, 3, Plane::XY)?;
+    add_output(&rt, &mut graph, 3)?;
+    join(&mut graph, 2, 3)?;
+    join(&mut graph, 0, 2)?;
+    join(&mut graph, 1, 2)?;
+    assert!(rt; left_of(rt.alloc(), &graph)?.as_slice() == [id(0), id(1)].as_slice());
+    Ok(())
+}
+
+#[test]
+fn a_flow_is_found_without_an_order(rt: HostRuntime) -> Result<(), Fail> {
+    let graph = shared_output(&rt, rt.alloc())?;
+    let size = match find(rt.alloc(), &graph)? {
+        Found::Flow(table) => table.order().len(),
+        Found::NoFlow { .. } => 0,
+    };
+    assert_eq!(rt; size, 2);
     Ok(())
 }

@@ -253,6 +253,11 @@ module _ (old new : List (Option Slot)) (inputs outputs : List End) (sound : IsS
   pub becomes_same : SameTold old new → Becomes new inputs outputs (graph_of old inputs outputs)
   becomes_same same = becomes new (graph_of old inputs outputs) sound.well_formed (keeps_same old new _ same (sound_keeps old inputs outputs sound))
 
+  pub becomes_copied : (ins outs : List End) → SameTold old new → ins ≡ inputs → outs ≡ outputs → Becomes new ins outs (graph_of old inputs outputs)
+  becomes_copied ins outs same i o =
+      subst (λ (xs : List End). Becomes new xs outs (graph_of old inputs outputs)) (sym i)
+      (subst (λ (xs : List End). Becomes new inputs xs (graph_of old inputs outputs)) (sym o) (becomes_same same))
+
   pub becomes_toggled : (u v : ℕ) → Live (graph_of old inputs outputs) u → Live (graph_of old inputs outputs) v → u ≢ v →
       ((h : Graph) → WellFormed h → Live h u → Live h v → Keeps old h → Keeps new (toggled h u v)) → Becomes new inputs outputs (toggled (graph_of old inputs outputs) u v)
   becomes_toggled u v u_there v_there apart keeps =

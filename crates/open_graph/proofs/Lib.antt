@@ -7,3 +7,4 @@ pub mod SlotLemmas
 pub mod Keeping
 pub mod Removing
 pub mod RowToggles
+pub mod RoomLemmas

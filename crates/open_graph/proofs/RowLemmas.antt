@@ -8,7 +8,7 @@ use Rattle.zx_calculus.proofs.Ids.{by_test, by_equal, and-left, and-right, or-le
 use Rattle.zx_calculus.proofs.Kept.{both, in_order-removed}
 use Rattle.zx_calculus.proofs.Extensionality.{rising_ext, in_order-filter}
 use Rattle.zx_calculus.proofs.Toggling.{member-neighbours, neighbour_live}
-use Rattle.zx_bits.specs.Sets.{IsRising}
+use Rattle.zx_bits.specs.Sets.{IsRising, IsBelow}
 use Rattle.zx_bits.specs.Rows.{IsFirstFrom}
 use Rattle.open_graph.specs.Internal.Rows.{inserted, not_below}
 
@@ -16,6 +16,10 @@ use Rattle.open_graph.specs.Internal.Rows.{inserted, not_below}
 pub in_order-rising : (xs : List ℕ) → IsRising xs → in_order ltb xs ≡ true
 in_order-rising [] rises = refl
 in_order-rising (x ∷ xs) rises = both _ _ (and-left _ _ rises) (in_order-rising xs (and-right _ _ rises))
+
+-- a list below a bound, under other names of both
+pub below_too : {xs ys : List ℕ} {room bound : ℕ} → room ≡ bound → ys ≡ xs → IsBelow bound xs → IsBelow room ys
+below_too is same below = λ x there. let lt = below x (ap (member x) (sym same) ∙ there) in omega (arith, is, lt)
 
 pub member-inserted : (q v : ℕ) (xs : List ℕ) → member q (inserted v xs) ≡ (eqb q v || member q xs)
 member-inserted q v [] = refl

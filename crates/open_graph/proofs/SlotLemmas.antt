@@ -1,6 +1,8 @@
 -- A graph kept as slots: its lists tell what the slots tell.
-use Rattle.std.proofs.Common.{◌≡◌, refl, sym, ◌∙◌, ap, ℕ, zero, suc, ◌+◌, ◌<◌, Bool, true, false, ltb, List, [], ◌∷◌, Option, Some, None, is_some, IsSome, IsTrue, ◌↔◌, slice_index_or, true≢false, eq-eqb, ne_eqb, lt-ltb, zero-add, add-zero, arith}
+use Rattle.std.proofs.Common.{◌≡◌, refl, sym, ◌∙◌, ap, inl, inr, ℕ, zero, suc, ◌+◌, ◌<◌, ◌≤◌, Bool, true, false, ltb, List, [], ◌∷◌, ◌++◌, length, Option, Some, None, is_some, IsSome, IsTrue, ◌↔◌, slice_index_or, true≢false, eq-eqb, ne_eqb, lt-ltb, zero-add, add-zero, arith}
 use Rattle.std.specs.List.{list_all}
+use Rattle.std.proofs.lemmas.Bool.{cases_lt}
+use Rattle.std.proofs.lemmas.List.{get_or_append_left, get_or_push, get_or_past}
 use Rattle.zx_model.specs.Bits.{member}
 use Rattle.zx_calculus.specs.Graph.{XY, End, ids, kind_of, joined, in_order}
 use Rattle.zx_calculus.specs.Turns.{in_plane}
@@ -99,7 +101,7 @@ live_by slots p b h = by_option (slice_index_or slots p None) h ∙ sym (member-
     by_option None h = by_test b (λ t. absurd (true≢false (sym (h.0 t)))) (λ f. f)
     by_option (Some s) h = h.1 refl
 
-live_if_some : (slot : Option Slot) → is_some slot ≡ (told_by slot).live
+pub live_if_some : (slot : Option Slot) → is_some slot ≡ (told_by slot).live
 live_if_some None = refl
 live_if_some (Some s) = refl
 
@@ -115,3 +117,22 @@ first_vertex slots start r =
 
 pub contains_live : (slots : List (Option Slot)) (v : ℕ) → member v (ids (vertices_of slots)) ≡ true → IsSome (slice_index_or slots v None)
 contains_live slots v there = some_of_live (slice_index_or slots v None) (sym (member-vertices slots v) ∙ there)
+
+-- one copy more tells the same
+pub told_pushed : (xs copies : List (Option Slot)) (n : ℕ) (x y : Option Slot) → length copies ≡ n → slice_index_or xs n None ≡ x → told_by y ≡ told_by x →
+    ((p : ℕ) → p < n → told copies p ≡ told xs p) → (p : ℕ) → p < n + 1 → told (copies ++ y ∷ []) p ≡ told xs p
+told_pushed xs copies n x y size here same before p lt =
+    elim (cases_lt p n) [
+      | inl l ↦ ap told_by (get_or_append_left copies (y ∷ []) None p (omega arith)) ∙ before p l
+      | inr g ↦
+          let last : p ≡ n = omega arith in
+          ap told_by (get_or_push copies y None p (omega arith)) ∙ same ∙ ap told_by (sym here) ∙ ap (told xs) (sym last)
+    ]
+
+-- all that are told are those of the list
+pub told_all : (xs copies : List (Option Slot)) (n : ℕ) → length copies ≡ n → length xs ≤ n → ((p : ℕ) → p < n → told copies p ≡ told xs p) → (p : ℕ) → told copies p ≡ told xs p
+told_all xs copies n size all before p =
+    elim (cases_lt p n) [
+      | inl l ↦ before p l
+      | inr g ↦ ap told_by (get_or_past copies p None (omega arith)) ∙ ap told_by (sym (get_or_past xs p None (omega arith)))
+    ]

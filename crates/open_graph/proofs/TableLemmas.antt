@@ -1,5 +1,5 @@
 -- The row of bits that tells which entries have no slot, through each change of the entries.
-use Rattle.std.proofs.Common.{◌≡◌, refl, sym, ◌∙◌, ap, ℕ, ◌<◌, ◌≤◌, Bool, true, false, not, cond, eqb, ltb, List, [], ◌∷◌, ◌++◌, length, get_or, set, Option, Some, None, is_some, IsSome, slice_index_or, true≢false, ltb-true, ltb-false, length-set, arith}
+use Rattle.std.proofs.Common.{◌≡◌, refl, sym, ◌∙◌, ap, ap₂, ℕ, ◌+◌, ◌<◌, ◌≤◌, Bool, true, false, not, cond, eqb, ltb, List, [], ◌∷◌, ◌++◌, length, get_or, set, Option, Some, None, is_some, IsSome, slice_index_or, true≢false, eq-eqb, ne_eqb, ltb-true, ltb-false, length-set, arith}
 use Rattle.std.proofs.lemmas.List.{get_or-set_same, get_or-set_other, get_or_append_left, get_or_push, length_push, get_or_past}
 use Rattle.zx_model.specs.Bits.{xor, bit}
 use Rattle.zx_calculus.proofs.Booleans.{xor-false}
@@ -8,6 +8,8 @@ use Rattle.zx_bits.specs.Rows.{BitRow, flipped}
 use Rattle.zx_bits.proofs.Vectors.{length-flipped, bit-flipped, place_within}
 use Rattle.open_graph.specs.declared.slot.Slot.{Slot}
 use Rattle.open_graph.specs.Internal.Table.{IsFreeRow}
+use Rattle.open_graph.specs.Internal.Slots.{told}
+use Rattle.open_graph.proofs.SlotLemmas.{live_if_some}
 
 -- an entry and its bit are changed
 row_set : (slots : List (Option Slot)) (free new : BitRow) (v : ℕ) (slot : Option Slot) → IsFreeRow slots free → v < length slots →
@@ -44,6 +46,24 @@ module _ (slots : List (Option Slot)) (free : BitRow) (row : IsFreeRow slots fre
 
   room_within : (v : ℕ) → v < length free.bits → free.has_room ≡ true
   room_within v within = row.has_room (omega (arith, within))
+
+  pub room_free : (v : ℕ) → bit free.bits v ≡ true → free.has_room ≡ true
+  room_free v is_set = room_within v (place_within free.bits v is_set)
+
+  -- an id whose bit is set has no slot, and where no bit is, all have one
+  pub is_vacant : (v : ℕ) → bit free.bits v ≡ true → is_some (slice_index_or slots v None) ≡ false
+  is_vacant v is_set = turned (is_some (slice_index_or slots v None)) (sym (row.vacant v (free_within v is_set)) ∙ is_set)
+    where
+      turned : (b : Bool) → not b ≡ true → b ≡ false
+      turned true e = sym e
+      turned false e = refl
+
+  pub all_taken : ((v : ℕ) → bit free.bits v ≡ false) → (p : ℕ) → p < length slots → is_some (slice_index_or slots p None) ≡ true
+  all_taken none p lt = turned (is_some (slice_index_or slots p None)) (sym (row.vacant p lt) ∙ none p)
+    where
+      turned : (b : Bool) → not b ≡ false → b ≡ true
+      turned true e = refl
+      turned false e = sym e
 
   -- a free entry takes a slot
   pub row_filled : (new : BitRow) (v : ℕ) (slot : Slot) → bit free.bits v ≡ true → new.bits ≡ flipped free.bits v →
@@ -85,3 +105,36 @@ module _ (slots : List (Option Slot)) (free : BitRow) (row : IsFreeRow slots fre
             row.none_after p past ∙ sym (ap (λ o. not (is_some o)) (get_or_push slots (Some slot) None p last)));
         none_after = λ p le. row.none_after p (omega (arith, le, length_push slots (Some slot)));
       }
+
+  size_more : length (slots ++ None ∷ []) ≡ length slots + 1
+  size_more = length_push slots None
+
+  -- an entry without a slot behind all
+  pub row_pushed_none : (new : BitRow) → length slots < length free.bits → new.bits ≡ flipped free.bits (length slots) →
+      (free.has_room ≡ true → new.has_room ≡ true) → IsFreeRow (slots ++ None ∷ []) new
+  row_pushed_none new more turned room =
+      record {
+        covers = omega (arith, more, size_more, ap length turned, length-flipped free.bits (length slots));
+        has_room = λ some. room (room_within (length slots) more);
+        vacant = λ p lt. ap (λ xs. bit xs p) turned ∙ bit-flipped free.bits (length slots) p more ∙ by_test (ltb p (length slots))
+            (λ t. let lt' = ltb-true p (length slots) t in
+            ap (xor (bit free.bits p)) (ne_eqb p (length slots) (omega arith)) ∙ xor-false (bit free.bits p)
+            ∙ row.vacant p lt' ∙ sym (ap (λ o. not (is_some o)) (get_or_append_left slots (None ∷ []) None p lt')))
+            (λ f. let past : length slots ≤ p = ltb-false p (length slots) f in
+            let last : p ≡ length slots = omega (arith, past, lt, size_more) in
+            ap₂ xor (row.none_after p past) (eq-eqb p (length slots) last) ∙ sym (ap (λ o. not (is_some o)) (get_or_push slots None None p (sym last))));
+        none_after = λ p le. let past : length slots < p = omega (arith, le, size_more) in
+            ap (λ xs. bit xs p) turned ∙ bit-flipped free.bits (length slots) p more
+            ∙ ap₂ xor (row.none_after p (omega arith)) (ne_eqb p (length slots) (omega arith));
+      }
+
+-- other slots under the same ids
+pub row_same : (slots new : List (Option Slot)) (free copy : BitRow) → IsFreeRow slots free → length new ≡ length slots → ((p : ℕ) → told new p ≡ told slots p) →
+    copy.bits ≡ free.bits → copy.has_room ≡ true → IsFreeRow new copy
+row_same slots new free copy row size same bits room =
+    record {
+      covers = omega (arith, row.covers, size, ap length bits);
+      has_room = λ some. room;
+      vacant = λ p lt. ap (λ xs. bit xs p) bits ∙ row.vacant p (omega (arith, lt, size)) ∙ ap not (live_if_some _ ∙ sym (ap (λ t. t.live) (same p)) ∙ sym (live_if_some _));
+      none_after = λ p le. ap (λ xs. bit xs p) bits ∙ row.none_after p (omega (arith, le, size));
+    }

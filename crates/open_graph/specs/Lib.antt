@@ -1,3 +1,4 @@
 pub mod Planes
 pub mod OpenGraph
+pub mod VertexSets
 pub mod Internal

@@ -1,6 +1,8 @@
 -- What contracts see of an open graph in memory.
+use Rattle.std.specs.Prelude.{ℕ}
 use Rattle.zx_calculus.specs.Graph.{Graph}
 
--- its lists; that more may stand beside them, clauses cite the field
+-- its lists, and how many vertices can be added without memory
 pub record OpenGraph : Type 0 where
   pub graph : Graph
+  pub spare : ℕ

@@ -20,9 +20,9 @@ impl<'a> Model for Ids<'a> {
 
     ghost Value = { List ℕ };
 
-    ghost view = { λ it. not_below it.next it.numbers.now };
+    ghost view = { λ it. not_below it.next it.numbers.now.numbers };
 
-    ghost invariant = { λ it. in_order ltb it.numbers.now ≡ true };
+    ghost invariant = { λ it. in_order ltb it.numbers.now.numbers ≡ true };
 }
 
 impl<'a> Iterator for Ids<'a> {

@@ -3,7 +3,9 @@
 //! Proved: each call makes its one named change of the graph's lists, and all else stays; the graph
 //! stays well-formed; a new id is the least that no vertex has; readers tell the lists, neighbours
 //! and vertices by rising id; a copy has the same lists; want of memory leaves them as they were,
-//! but leaves no vertex where it stops `toggle_across` or `toggle_among`, which toggle whole rows.
+//! but leaves no vertex where it stops `toggle_across` or `toggle_among`, which toggle whole rows. A
+//! graph tells how many vertices it takes without memory, and a set of vertices below which bound it
+//! takes any id without memory; `reserve` raises either.
 //!
 //! ```rust
 //! let mut g = OpenGraph::new(alloc);

@@ -1,6 +1,7 @@
 //! Open graphs.
 
-ghost use Rattle.std.specs.Prelude.{◌≡◌, ◌≢◌, ◌<◌, ◌++◌, ℕ, [], ◌∷◌, true, false, length, slice_set, remove, is_some, slice_get, OnOk, OnErr, IfOk, IfSome};
+ghost use Rattle.std.specs.Prelude.{◌≡◌, ◌≢◌, ◌<◌, ◌≤◌, ◌+◌, ◌-◌, ◌++◌, ℕ, [], ◌∷◌, true, false, length, slice_set, remove, is_some, slice_get};
+ghost use Rattle.std.specs.Prelude.{IsOk, IfOk, OnOk, OnErr, IfSome};
 ghost use Rattle.zx_model.specs.Bits.{member};
 ghost use Rattle.zx_calculus.specs.Graph.{ids, kind_of, plane_of, joined, end_vertices, insert_vertex, with_kinds, Live, WellFormed, Interior, is_interior};
 ghost use Rattle.zx_calculus.specs.Graph as zx;
@@ -42,8 +43,12 @@ impl Model for OpenGraph {
     ghost Value = { Seen };
 
     ghost use Rattle.open_graph.specs.Internal.Slots.{graph_of, IsSound};
+    ghost use Rattle.open_graph.specs.Internal.Room.{vacant_in};
 
-    ghost view = { λ g. record { graph = graph_of g.slots.slots g.inputs.items g.outputs.items } };
+    ghost view = { λ g. record {
+      graph = graph_of g.slots.slots g.inputs.items g.outputs.items;
+      spare = vacant_in g.slots.slots;
+    } };
 
     ghost invariant = { λ g. IsSound g.slots.slots g.inputs.items g.outputs.items };
 }
@@ -70,6 +75,9 @@ impl OpenGraph {
           vertices = insert_vertex (vertex v (plane_named plane) phase) self.old.graph.vertices;
         }) }
         ensures err { OnErr result (self.new.graph ≡ self.old.graph) }
+        ensures has_room { 0 < self.old.spare → IsOk result }
+        ensures spare { OnOk result (self.new.spare ≡ self.old.spare - 1) }
+        ensures same_spare { OnErr result (self.new.spare ≡ self.old.spare) }
         ensures valid { WellFormed self.new.graph }
     {
         let v = slots::add(&mut self.slots, self.alloc, plane, phase)?;
@@ -84,6 +92,7 @@ impl OpenGraph {
         ensures ok { OnOk result (self.new.graph ≡
             record self.old.graph { inputs = self.old.graph.inputs ++ end ∷ [] }) }
         ensures err { OnErr result (self.new.graph ≡ self.old.graph) }
+        ensures room { self.new.spare ≡ self.old.spare }
         ensures valid { WellFormed self.new.graph }
     {
         side::add_end(&mut self.inputs, &mut self.slots, Side::Input, end)?;
@@ -98,6 +107,7 @@ impl OpenGraph {
         ensures ok { OnOk result (self.new.graph ≡
             record self.old.graph { outputs = self.old.graph.outputs ++ end ∷ [] }) }
         ensures err { OnErr result (self.new.graph ≡ self.old.graph) }
+        ensures room { self.new.spare ≡ self.old.spare }
         ensures valid { WellFormed self.new.graph }
     {
         side::add_end(&mut self.outputs, &mut self.slots, Side::Output, end)?;
@@ -111,6 +121,7 @@ impl OpenGraph {
         requires plane { plane_of self.old.graph end.vertex ≡ zx.XY }
         requires free { member end.vertex (end_vertices (remove self.old.graph.inputs i)) ≡ false }
         ensures ok { self.new.graph ≡ record self.old.graph { inputs = slice_set self.old.graph.inputs i end } }
+        ensures room { self.new.spare ≡ self.old.spare }
         ensures valid { WellFormed self.new.graph }
     {
         side::move_end(&mut self.inputs, &mut self.slots, Side::Input, i, end);
@@ -123,6 +134,7 @@ impl OpenGraph {
         requires plane { plane_of self.old.graph end.vertex ≡ zx.XY }
         requires free { member end.vertex (end_vertices (remove self.old.graph.outputs i)) ≡ false }
         ensures ok { self.new.graph ≡ record self.old.graph { outputs = slice_set self.old.graph.outputs i end } }
+        ensures room { self.new.spare ≡ self.old.spare }
         ensures valid { WellFormed self.new.graph }
     {
         side::move_end(&mut self.outputs, &mut self.slots, Side::Output, i, end);
@@ -133,6 +145,7 @@ impl OpenGraph {
         requires live { Live self.old.graph v }
         requires interior { Interior self.old.graph v }
         ensures ok { IsRemoval self.old.graph v self.new.graph }
+        ensures spare { self.new.spare ≡ self.old.spare + 1 }
         ensures valid { WellFormed self.new.graph }
     {
         slots::remove(&mut self.slots, v);
@@ -146,6 +159,7 @@ impl OpenGraph {
         requires different { u ≢ v }
         ensures ok { OnOk result (IsToggle self.old.graph u v self.new.graph) }
         ensures err { OnErr result (self.new.graph ≡ self.old.graph) }
+        ensures room { self.new.spare ≡ self.old.spare }
         ensures valid { WellFormed self.new.graph }
     {
         slots::toggle(&mut self.slots, u, v)?;
@@ -155,12 +169,13 @@ impl OpenGraph {
     /// Toggles each edge between a vertex on the left and one on the right: twice, so not at all,
     /// where it is one either way round. Where memory runs out the graph is left empty.
     pub fn toggle_across(&mut self, left: &VertexSet, right: &VertexSet) -> Result<(), AllocError>
-        requires left_live { (p : ℕ) → member p left.now ≡ true → Live self.old.graph p }
-        requires right_live { (p : ℕ) → member p right.now ≡ true → Live self.old.graph p }
+        requires left_live { (p : ℕ) → member p left.now.ids ≡ true → Live self.old.graph p }
+        requires right_live { (p : ℕ) → member p right.now.ids ≡ true → Live self.old.graph p }
         ensures ok { OnOk result
-            (IsToggled self.old.graph (across left.now right.now) self.new.graph) }
+            (IsToggled self.old.graph (across left.now.ids right.now.ids) self.new.graph) }
         ensures err { OnErr result (self.new.graph ≡
             record { vertices = []; edges = []; inputs = []; outputs = [] }) }
+        ensures room { OnOk result (self.new.spare ≡ self.old.spare) }
         ensures was_valid { WellFormed self.old.graph }
         ensures valid { WellFormed self.new.graph }
     {
@@ -175,10 +190,11 @@ impl OpenGraph {
     /// Toggles each edge between two of these vertices. Where memory runs out the graph is left
     /// empty.
     pub fn toggle_among(&mut self, vertices: &VertexSet) -> Result<(), AllocError>
-        requires { (p : ℕ) → member p vertices.now ≡ true → Live self.old.graph p }
-        ensures ok { OnOk result (IsToggled self.old.graph (among vertices.now) self.new.graph) }
+        requires { (p : ℕ) → member p vertices.now.ids ≡ true → Live self.old.graph p }
+        ensures ok { OnOk result (IsToggled self.old.graph (among vertices.now.ids) self.new.graph) }
         ensures err { OnErr result (self.new.graph ≡
             record { vertices = []; edges = []; inputs = []; outputs = [] }) }
+        ensures room { OnOk result (self.new.spare ≡ self.old.spare) }
         ensures was_valid { WellFormed self.old.graph }
         ensures valid { WellFormed self.new.graph }
     {
@@ -197,6 +213,7 @@ impl OpenGraph {
         ensures ok { self.new.graph ≡ record self.old.graph {
           vertices = with_kinds (at_vertex v (λ _. in_plane (plane_named plane) phase)) self.old.graph.vertices;
         } }
+        ensures room { self.new.spare ≡ self.old.spare }
         ensures valid { WellFormed self.new.graph }
     {
         slots::set_kind(&mut self.slots, v, plane, phase);
@@ -208,6 +225,7 @@ impl OpenGraph {
         ensures ok { self.new.graph ≡ record self.old.graph {
           vertices = with_kinds (at_vertex v quarter_turned) self.old.graph.vertices;
         } }
+        ensures room { self.new.spare ≡ self.old.spare }
         ensures valid { WellFormed self.new.graph }
     {
         let (plane, phase) = self.weight(v);
@@ -215,9 +233,12 @@ impl OpenGraph {
         self.set_weight(v, plane, phase);
     }
 
-    /// Makes room for so many more vertices.
+    /// Takes the memory for the entries of so many more vertices, but not for their edges. Where it
+    /// runs out, some may be taken.
     pub fn reserve(&mut self, vertices: usize) -> Result<(), AllocError>
         ensures same { self.new.graph ≡ self.old.graph }
+        ensures spare { OnOk result (vertices ≤ self.new.spare) }
+        ensures keeps_spare { self.old.spare ≤ self.new.spare }
         ensures valid { WellFormed self.new.graph }
     {
         self.slots.reserve(vertices)
@@ -257,8 +278,8 @@ impl OpenGraph {
     /// The vertices adjacent to a vertex, as a set.
     pub fn neighbour_set(&self, v: VertexId) -> &VertexSet
         requires { Live self.now.graph v }
-        ensures members { (p : ℕ) → member p result.now ≡ joined self.now.graph.edges v p }
-        ensures live { (p : ℕ) → member p result.now ≡ true → Live self.now.graph p }
+        ensures members { (p : ℕ) → member p result.now.ids ≡ joined self.now.graph.edges v p }
+        ensures live { (p : ℕ) → member p result.now.ids ≡ true → Live self.now.graph p }
         ensures valid { WellFormed self.now.graph }
     {
         &self.slot(v).row

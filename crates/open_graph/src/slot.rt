@@ -18,7 +18,8 @@ pub(crate) struct Slot {
 }
 
 impl Clone for Slot {
-    ghost is_clone = { λ slot copy. copy ≡ slot };
+    ghost is_clone = { λ slot copy. (copy.plane ≡ slot.plane) × (copy.phase ≡ slot.phase)
+        × (copy.row.ids ≡ slot.row.ids) × (copy.input ≡ slot.input) × (copy.output ≡ slot.output) };
 
     fn clone(&self) -> Result<Slot, AllocError> {
         Ok(Slot {

@@ -1,11 +1,15 @@
 //! Slots under the ids of their vertices.
 
-ghost use Rattle.std.specs.Prelude.{◌≡◌, ◌↔◌, ◌<◌, ◌≤◌, ℕ, [], List, Option, Some, None, length, is_some, IsTrue, IsSome, IfOk, IfSome, OnOk, OnErr, option_copied};
+ghost use Rattle.std.specs.Prelude.{◌≡◌, ◌↔◌, ◌<◌, ◌≤◌, ◌+◌, ◌-◌, ◌++◌, ℕ, [], ◌∷◌, List, Option, Some, None, length, is_some, option_copied};
+ghost use Rattle.std.specs.Prelude.{IsTrue, IsSome, IsOk, IfOk, IfSome, OnOk, OnErr};
 ghost use Rattle.std.specs.Borrow.{sem};
 ghost use Rattle.zx_bits.specs.Rows.{IsFirstFrom};
 ghost use Rattle.open_graph.specs.Internal.Table.{slot_at, HasSlot, Updates, IsFreeRow};
 ghost use Rattle.open_graph.specs.declared.slot.Slot.{Slot};
 ghost use Rattle.open_graph.specs.Internal.Lending.{LendsEntry};
+ghost use Rattle.open_graph.specs.Internal.Changes.{SameTold};
+ghost use Rattle.open_graph.specs.Internal.Slots.{told_by};
+ghost use Rattle.open_graph.specs.Internal.Room.{vacant_in};
 
 use crate::slot::Slot;
 use std::alloc::{AllocError, Global};
@@ -32,13 +36,13 @@ impl Model for SlotTable {
 }
 
 impl Clone for SlotTable {
-    ghost is_clone = { λ table copy. copy ≡ table };
+    ghost is_clone = { λ table copy. SameTold table.slots copy.slots };
 
     fn clone(&self) -> Result<SlotTable, AllocError> {
         let mut free = self.free.clone()?;
         free.reserve()?;
         Ok(SlotTable {
-            entries: self.entries.clone()?,
+            entries: copy_entries(*self.entries.allocator(), &self.entries)?,
             free,
         })
     }
@@ -86,6 +90,8 @@ impl SlotTable {
         ensures least { IfOk result (λ id. (lower : ℕ) → lower < id → HasSlot self.old lower) }
         ensures updates { IfOk result (λ id. Updates self.old self.new id (Some slot)) }
         ensures err { OnErr result (self.new ≡ self.old) }
+        ensures has_room { 0 < vacant_in self.old.slots → IsOk result }
+        ensures spare { OnOk result (vacant_in self.new.slots ≡ vacant_in self.old.slots - 1) }
     {
         if let Some(id) = self.free.bit_from(0) {
             self.free.flip(id)?;
@@ -103,6 +109,7 @@ impl SlotTable {
         requires { HasSlot self.old id }
         ensures value { slot_at self.old id ≡ Some result }
         ensures updates { Updates self.old self.new id None }
+        ensures spare { vacant_in self.new.slots ≡ vacant_in self.old.slots + 1 }
     {
         self.free.flip(id).unwrap();
         self.entries[id].take().unwrap()
@@ -138,12 +145,69 @@ impl SlotTable {
         None
     }
 
-    // Makes room for so many more slots.
-    pub(crate) fn reserve(&mut self, more: usize) -> Result<(), AllocError>
-        ensures { self.new ≡ self.old }
+    // How many entries there are, with a slot or without.
+    pub(crate) fn len(&self) -> usize
+        ensures { result ≡ length self.now.slots }
     {
-        make_room(&mut self.free, self.entries.len().saturating_add(more))?;
-        self.entries.reserve(more)
+        self.entries.len()
+    }
+
+    // How many entries have no slot.
+    fn vacant(&self) -> usize
+        ensures { result ≡ vacant_in self.now.slots }
+    {
+        let mut vacant = 0;
+        for entry in &self.entries {
+            if entry.is_none() {
+                vacant += 1;
+            }
+        }
+        vacant
+    }
+
+    // Adds an entry without a slot. Where memory runs out, the slots are as they were.
+    fn push_vacant(&mut self) -> Result<(), AllocError>
+        ensures ok { OnOk result (self.new.slots ≡ self.old.slots ++ None ∷ []) }
+        ensures err { OnErr result (self.new ≡ self.old) }
+    {
+        let id = self.entries.len();
+        make_room(&mut self.free, id + 1)?;
+        self.entries.push(None)?;
+        self.free.flip(id).unwrap();
+        Ok(())
+    }
+
+    // Makes so many entries without a slot at least.
+    pub(crate) fn reserve(&mut self, spare: usize) -> Result<(), AllocError>
+        ensures same { (id : ℕ) → slot_at self.new id ≡ slot_at self.old id }
+        ensures ok { OnOk result (spare ≤ vacant_in self.new.slots) }
+        ensures keeps { vacant_in self.old.slots ≤ vacant_in self.new.slots }
+    {
+        for _added in self.vacant()..spare {
+            self.push_vacant()?;
+        }
+        Ok(())
+    }
+}
+
+// Copies of entries.
+fn copy_entries(alloc: Global, entries: &[Option<Slot>]) -> Result<Vec<Option<Slot>>, AllocError>
+    ensures len { IfOk result (λ copies. length copies.items ≡ length entries.now) }
+    ensures same { IfOk result (λ copies. SameTold entries.now copies.items) }
+{
+    let mut copies = Vec::with_capacity(alloc, entries.len())?;
+    for entry in entries {
+        copies.push(copy_entry(entry)?)?;
+    }
+    Ok(copies)
+}
+
+fn copy_entry(entry: &Option<Slot>) -> Result<Option<Slot>, AllocError>
+    ensures { IfOk result (λ copy. told_by copy ≡ told_by entry.now) }
+{
+    match entry {
+        Some(slot) => Ok(Some(slot.clone()?)),
+        None => Ok(None),
     }
 }
 

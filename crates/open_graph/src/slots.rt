@@ -1,6 +1,6 @@
 //! Changes of one slot.
 
-ghost use Rattle.std.specs.Prelude.{◌≡◌, ◌≢◌, ◌<◌, ◌==◌, ◌&&◌, ℕ, Some, None, true, false, IfOk, OnOk, OnErr};
+ghost use Rattle.std.specs.Prelude.{◌≡◌, ◌≢◌, ◌<◌, ◌+◌, ◌-◌, ◌==◌, ◌&&◌, ℕ, Some, None, true, false, IsOk, IfOk, OnOk, OnErr};
 ghost use Rattle.zx_model.specs.Bits.{member};
 ghost use Rattle.open_graph.specs.Internal.Table.{slot_at, HasSlot};
 ghost use Rattle.zx_calculus.specs.Turns.{in_plane};
@@ -9,6 +9,7 @@ ghost use Rattle.zx_calculus.proofs.Ids.{removed};
 ghost use Rattle.zx_calculus.proofs.EditPrograms.{toggled};
 ghost use Rattle.open_graph.specs.Planes.{plane_named};
 ghost use Rattle.open_graph.specs.Internal.Rows.{inserted};
+ghost use Rattle.open_graph.specs.Internal.Room.{vacant_in};
 ghost use Rattle.open_graph.specs.Internal.Slots.{nothing, told, adjacent};
 ghost use Rattle.open_graph.specs.Internal.Sides.{with_place};
 ghost use Rattle.open_graph.specs.Internal.Changes.{Puts, SameTold, Keeps, RemovedFrom, RowsToggled, two_among};
@@ -35,6 +36,9 @@ pub(crate) fn add(
     ensures ok { IfOk result (λ v. Puts slots.old.slots slots.new.slots v
         (record nothing { live = true; kind = in_plane (plane_named plane) phase })) }
     ensures err { OnErr result (SameTold slots.old.slots slots.new.slots) }
+    ensures has_room { 0 < vacant_in slots.old.slots → IsOk result }
+    ensures spare { OnOk result (vacant_in slots.new.slots ≡ vacant_in slots.old.slots - 1) }
+    ensures as_was { OnErr result (slots.new ≡ slots.old) }
 {
     let key = slots.insert(Slot {
         plane,
@@ -57,6 +61,7 @@ pub(crate) fn add_neighbour(
     ensures ok { OnOk result (let t = told slots.old.slots u in
         Puts slots.old.slots slots.new.slots u (record t { row = inserted v t.row })) }
     ensures err { OnErr result (SameTold slots.old.slots slots.new.slots) }
+    ensures spare { vacant_in slots.new.slots ≡ vacant_in slots.old.slots }
 {
     slots[u.get()].row.insert(v)
 }
@@ -64,8 +69,9 @@ pub(crate) fn add_neighbour(
 // Takes a vertex out of the neighbours of another.
 pub(crate) fn remove_neighbour(slots: &mut SlotTable, u: VertexId, v: VertexId)
     requires { HasSlot slots.old u }
-    ensures { let t = told slots.old.slots u in
+    ensures puts { let t = told slots.old.slots u in
         Puts slots.old.slots slots.new.slots u (record t { row = removed v t.row }) }
+    ensures spare { vacant_in slots.new.slots ≡ vacant_in slots.old.slots }
 {
     slots[u.get()].row.remove(v);
 }
@@ -79,6 +85,7 @@ pub(crate) fn toggle(slots: &mut SlotTable, u: VertexId, v: VertexId) -> Result<
     ensures ok { OnOk result ((h : Graph) → WellFormed h → Live h u → Live h v
         → Keeps slots.old.slots h → Keeps slots.new.slots (toggled h u v)) }
     ensures err { OnErr result (SameTold slots.old.slots slots.new.slots) }
+    ensures spare { vacant_in slots.new.slots ≡ vacant_in slots.old.slots }
 {
     if joins(slots, u, v) {
         remove_neighbour(slots, u, v);
@@ -96,8 +103,9 @@ pub(crate) fn toggle(slots: &mut SlotTable, u: VertexId, v: VertexId) -> Result<
 // Toggles vertices in the row of another.
 fn toggle_row(slots: &mut SlotTable, u: VertexId, others: &VertexSet) -> Result<(), AllocError>
     requires { HasSlot slots.old u }
-    ensures { OnOk result (RowsToggled slots.old.slots slots.new.slots
-        (λ p q. (p == u) && member q others.now)) }
+    ensures toggled { OnOk result (RowsToggled slots.old.slots slots.new.slots
+        (λ p q. (p == u) && member q others.now.ids)) }
+    ensures spare { vacant_in slots.new.slots ≡ vacant_in slots.old.slots }
 {
     slots[u.get()].row.toggle_all(others)
 }
@@ -105,8 +113,9 @@ fn toggle_row(slots: &mut SlotTable, u: VertexId, others: &VertexSet) -> Result<
 // Toggles one vertex in the row of another.
 fn toggle_in_row(slots: &mut SlotTable, u: VertexId, v: VertexId) -> Result<(), AllocError>
     requires { HasSlot slots.old u }
-    ensures { OnOk result (RowsToggled slots.old.slots slots.new.slots
+    ensures toggled { OnOk result (RowsToggled slots.old.slots slots.new.slots
         (λ p q. (p == u) && (q == v))) }
+    ensures spare { vacant_in slots.new.slots ≡ vacant_in slots.old.slots }
 {
     slots[u.get()].row.toggle(v)
 }
@@ -117,9 +126,10 @@ fn toggle_rows(
     vertices: &VertexSet,
     others: &VertexSet,
 ) -> Result<(), AllocError>
-    requires { (p : ℕ) → member p vertices.now ≡ true → HasSlot slots.old p }
-    ensures { OnOk result (RowsToggled slots.old.slots slots.new.slots
-        (λ p q. member p vertices.now && member q others.now)) }
+    requires { (p : ℕ) → member p vertices.now.ids ≡ true → HasSlot slots.old p }
+    ensures toggled { OnOk result (RowsToggled slots.old.slots slots.new.slots
+        (λ p q. member p vertices.now.ids && member q others.now.ids)) }
+    ensures spare { vacant_in slots.new.slots ≡ vacant_in slots.old.slots }
 {
     for u in vertices.iter() {
         toggle_row(slots, u, others)?;
@@ -134,10 +144,11 @@ pub(crate) fn toggle_across(
     left: &VertexSet,
     right: &VertexSet,
 ) -> Result<(), AllocError>
-    requires left_live { (p : ℕ) → member p left.now ≡ true → HasSlot slots.old p }
-    requires right_live { (p : ℕ) → member p right.now ≡ true → HasSlot slots.old p }
-    ensures { OnOk result
-        (RowsToggled slots.old.slots slots.new.slots (across left.now right.now)) }
+    requires left_live { (p : ℕ) → member p left.now.ids ≡ true → HasSlot slots.old p }
+    requires right_live { (p : ℕ) → member p right.now.ids ≡ true → HasSlot slots.old p }
+    ensures toggled { OnOk result
+        (RowsToggled slots.old.slots slots.new.slots (across left.now.ids right.now.ids)) }
+    ensures spare { vacant_in slots.new.slots ≡ vacant_in slots.old.slots }
 {
     toggle_rows(slots, left, right)?;
     toggle_rows(slots, right, left)
@@ -146,8 +157,10 @@ pub(crate) fn toggle_across(
 // Toggles the edge of each pair of a set's vertices, in both rows. Where memory runs out, the rows
 // may be any.
 pub(crate) fn toggle_among(slots: &mut SlotTable, near: &VertexSet) -> Result<(), AllocError>
-    requires { (p : ℕ) → member p near.now ≡ true → HasSlot slots.old p }
-    ensures { OnOk result (RowsToggled slots.old.slots slots.new.slots (two_among near.now)) }
+    requires { (p : ℕ) → member p near.now.ids ≡ true → HasSlot slots.old p }
+    ensures toggled { OnOk result
+        (RowsToggled slots.old.slots slots.new.slots (two_among near.now.ids)) }
+    ensures spare { vacant_in slots.new.slots ≡ vacant_in slots.old.slots }
 {
     for p in near.iter() {
         toggle_row(slots, p, near)?;
@@ -167,8 +180,9 @@ fn joins(slots: &SlotTable, u: VertexId, v: VertexId) -> bool
 // Gives a vertex another plane and phase.
 pub(crate) fn set_kind(slots: &mut SlotTable, v: VertexId, plane: Plane, phase: Sixteenth)
     requires { HasSlot slots.old v }
-    ensures { let t = told slots.old.slots v in
+    ensures puts { let t = told slots.old.slots v in
         Puts slots.old.slots slots.new.slots v (record t { kind = in_plane (plane_named plane) phase }) }
+    ensures spare { vacant_in slots.new.slots ≡ vacant_in slots.old.slots }
 {
     let slot = &mut slots[v.get()];
     slot.plane = plane;
@@ -178,7 +192,8 @@ pub(crate) fn set_kind(slots: &mut SlotTable, v: VertexId, plane: Plane, phase: 
 // Gives the end of a side of a vertex another place, or none.
 pub(crate) fn set_place(slots: &mut SlotTable, v: VertexId, side: Side, place: Option<usize>)
     requires { HasSlot slots.old v }
-    ensures { Puts slots.old.slots slots.new.slots v (with_place side place (told slots.old.slots v)) }
+    ensures puts { Puts slots.old.slots slots.new.slots v (with_place side place (told slots.old.slots v)) }
+    ensures spare { vacant_in slots.new.slots ≡ vacant_in slots.old.slots }
 {
     let slot = &mut slots[v.get()];
     match side {
@@ -192,7 +207,8 @@ pub(crate) fn remove(slots: &mut SlotTable, v: VertexId)
     requires live { HasSlot slots.old v }
     requires symmetric { (p q : ℕ) → adjacent slots.old.slots p q ≡ adjacent slots.old.slots q p }
     requires no_loop { (p : ℕ) → adjacent slots.old.slots p p ≡ false }
-    ensures { RemovedFrom slots.old.slots slots.new.slots v (told slots.old.slots v).row }
+    ensures removed { RemovedFrom slots.old.slots slots.new.slots v (told slots.old.slots v).row }
+    ensures spare { vacant_in slots.new.slots ≡ vacant_in slots.old.slots + 1 }
 {
     let slot = slots.remove(v.get());
     for w in slot.row.iter() {

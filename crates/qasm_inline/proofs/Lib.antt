@@ -18,3 +18,4 @@ pub mod StatementLemmas
 pub mod MeasuringLemmas
 pub mod CircuitLemmas
 pub mod ReadingLemmas
+pub mod PieceLemmas

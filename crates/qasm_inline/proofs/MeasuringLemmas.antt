@@ -164,14 +164,14 @@ more-members : (number one : ℕ) (set later numbers : List ℕ) → Inserts set
 more-members number one set later numbers inserts same =
     inserts number ∙ ap (λ a. a || (number == one)) same ∙ or-last (member number numbers) (number == one) ∙ sym (member-append number numbers (one ∷ []))
 
-pub adds-one : (before after : Measured) (measure : Measure) → Inserts before.qubits measure.qubit after.qubits → Inserts before.bits measure.bit after.bits → after.list ≡ before.list ++ measure ∷ []
+pub adds-one : (before after : Measured) (measure : Measure) → Inserts before.qubits.numbers measure.qubit after.qubits.numbers → Inserts before.bits.numbers measure.bit after.bits.numbers → after.list ≡ before.list ++ measure ∷ []
     → Adds before after (measure ∷ [])
 adds-one before after measure qubits bits same = record {
   same = same;
   remembers = λ h. record {
-    qubits = λ number. more-members number measure.qubit before.qubits after.qubits (qubits_of before.list) qubits (h.qubits number)
+    qubits = λ number. more-members number measure.qubit before.qubits.numbers after.qubits.numbers (qubits_of before.list) qubits (h.qubits number)
         ∙ ap (member number) (sym (map-append (λ m. m.qubit) before.list (measure ∷ [])) ∙ ap qubits_of (sym same));
-    bits = λ number. more-members number measure.bit before.bits after.bits (bits_of before.list) bits (h.bits number)
+    bits = λ number. more-members number measure.bit before.bits.numbers after.bits.numbers (bits_of before.list) bits (h.bits number)
         ∙ ap (member number) (sym (map-append (λ m. m.bit) before.list (measure ∷ [])) ∙ ap bits_of (sym same));
   };
 }

@@ -5,9 +5,8 @@ use Rattle.std.proofs.lemmas.List.{length-map, take_rest}
 use Rattle.zx_gates.specs.declared.elementary.Elementary.{Elementary}
 use Rattle.zx_gates.specs.Elementary.{IsElementary}
 use Rattle.qasm_lexer.specs.declared.token.Token.{Token}
-use Rattle.qasm_lexer.specs.Tokens.{Lexeme, lexeme, lexemes, IsBegun, IsCut, IsBadByte}
-use Rattle.qasm_reader.specs.declared.depth.Depth.{Depth}
-use Rattle.qasm_reader.specs.Depth.{too_deep, IsDepth}
+use Rattle.qasm_lexer.specs.Tokens.{Lexeme, lexeme, lexemes, IsCut}
+use Rattle.qasm_reader.specs.Depth.{too_deep}
 use Rattle.qasm_reader.specs.Grammar.{BeginsAt, BeginsWithStatement, IsFirstStatement, IsProgram, IsSyntaxFault}
 use Rattle.qasm_reader.specs.Parts.{BeginNone, IsBehind, IsInBody, has_end}
 use Rattle.qasm_reader.specs.Syntax.{GateForm, Placed}
@@ -25,11 +24,6 @@ use Rattle.qasm_inline.specs.Circuits.{HasBegun, HasTaken, gate_at}
 use Rattle.qasm_inline.specs.Internal.Readings.{AreAllTaken, AreTaken, AreTakenAs, IsCertain, IsKept, IsKeptAs, IsReadAs, IsProgramAnswer, IsTakenAs, IsTakenNext, IsTextAnswer}
 use Rattle.qasm_inline.proofs.CircuitLemmas.{means-from, valid-from}
 
--- a bad byte is the answer where it is the error
-pub bad-answer : {A : Type 0} (text : List ℕ) (at : ℕ) (error : TextError) → ◌≡◌ {A = Result A TextError} (Err (BadByte at)) (Err error)
-    → IsBadByte text at → IsTextAnswer text (Err error)
-bad-answer text at error e bad = let same : BadByte at ≡ error = cc in subst (λ f. IsTextAnswer text (Err f)) same bad
-
 -- ---- tokens behind tokens
 drop_behind : {A : Type 0} (xs ys : List A) → drop (length xs) (xs ++ ys) ≡ ys
 drop_behind [] ys = refl
@@ -40,19 +34,12 @@ map_drop f zero xs = refl
 map_drop f (suc n) [] = refl
 map_drop f (suc n) (x ∷ xs) = map_drop f n xs
 
-pub begun_rest : (old new : List Token) (n : ℕ) → n ≡ length old → IsBegun (lexemes old) (lexemes new)
-    → lexemes old ++ lexemes (take (length new - n) (drop n new)) ≡ lexemes new
-begun_rest old new n e (more, is) =
+-- the tokens behind those that were known
+pub behind_known : (old new : List Token) (more : List Lexeme) (n : ℕ) → n ≡ length old → lexemes new ≡ lexemes old ++ more
+    → lexemes (take (length new - n) (drop n new)) ≡ more
+behind_known old new more n e is =
     let same : n ≡ length (lexemes old) = e ∙ sym (length-map old lexeme) in
-    ap (λ ts. lexemes old ++ lexemes ts) (take_rest new n)
-    ∙ ap (λ ts. lexemes old ++ ts) (map_drop lexeme n new ∙ ap (drop n) is ∙ ap (λ m. drop m (lexemes old ++ more)) same ∙ drop_behind (lexemes old) more)
-    ∙ sym is
-
-pub deeper : (depth later : Depth) (before : List Lexeme) (old new : List Token) (n : ℕ) → n ≡ length old → IsBegun (lexemes old) (lexemes new)
-    → ((ts : List Lexeme) → IsDepth depth ts → IsDepth later (ts ++ lexemes (take (length new - n) (drop n new))))
-    → IsDepth depth (before ++ lexemes old) → IsDepth later (before ++ lexemes new)
-deeper depth later before old new n e begun step is =
-    subst (IsDepth later) (append_assoc before (lexemes old) _ ∙ ap (λ ts. before ++ ts) (begun_rest old new n e begun)) (step (before ++ lexemes old) is)
+    ap lexemes (take_rest new n) ∙ map_drop lexeme n new ∙ ap (drop n) is ∙ ap (λ m. drop m (lexemes old ++ more)) same ∙ drop_behind (lexemes old) more
 
 behind_front : (tokens rest : List Token) (front : List Lexeme) → lexemes tokens ≡ front ++ lexemes rest
     → lexemes (drop (length tokens - length rest) tokens) ≡ lexemes rest

@@ -91,7 +91,7 @@ impl Measured {
 
 // Puts a number into a set.
 fn insert(set: &mut BitSet, number: usize) -> Result<(), AllocError>
-    ensures { OnOk result (Inserts set.old number set.new) }
+    ensures { OnOk result (Inserts set.old.numbers number set.new.numbers) }
 {
     if set.contains(number) {
         Ok(())
@@ -102,14 +102,14 @@ fn insert(set: &mut BitSet, number: usize) -> Result<(), AllocError>
 
 // Whether one of the arguments has a number of the set.
 fn any_holds(set: &BitSet, spans: &[Span]) -> bool
-    ensures { result ≡ list_any (holds_any set.now) (map span_range spans.now) }
+    ensures { result ≡ list_any (holds_any set.now.numbers) (map span_range spans.now) }
 {
     spans.iter().any(|span| holds_any(set, span))
 }
 
 // Whether an argument has a number of the set.
 fn holds_any(set: &BitSet, span: &Span) -> bool
-    ensures { result ≡ holds_any set.now (span_range span.now) }
+    ensures { result ≡ holds_any set.now.numbers (span_range span.now) }
 {
     match span {
         Span::Single(place) => set.contains(*place),

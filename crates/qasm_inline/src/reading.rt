@@ -1,10 +1,13 @@
 //! Reading: from a text to the circuit that it means, in one pass over the text.
 
-ghost use Rattle.std.specs.Prelude.{◌≡◌, ◌<◌, ◌≤◌, ◌++◌, List, [], ℕ, length, true, None, Some, Ok, Err, IfOk, IfSome, OnOk};
+ghost use Rattle.std.specs.Prelude.{◌≡◌, ◌+◌, ◌^◌, ◌<◌, ◌≤◌, ◌++◌, List, [], ℕ, length, map, true, None, Some, Ok, Err, IfOk, IfSome, OnOk};
+ghost use Rattle.std.specs.List.{All};
 ghost use Rattle.std.specs.Borrow.{Bor};
 ghost use Rattle.zx_gates.specs.Elementary.{IsElementary};
 ghost use Rattle.qasm_lexer.specs.declared.token.Token.{Token};
-ghost use Rattle.qasm_lexer.specs.Tokens.{Lexeme, lexemes, IsCut, IsCutAt, IsBadByte};
+ghost use Rattle.qasm_lexer.specs.Taken.{IsLineBegun};
+ghost use Rattle.qasm_lexer.specs.TokenLists.{moved};
+ghost use Rattle.qasm_lexer.specs.Tokens.{Lexeme, lexemes, IsCut, IsBadByte};
 ghost use Rattle.qasm_reader.specs.Depth.{too_deep, IsDepth};
 ghost use Rattle.qasm_reader.specs.Grammar.{IsSyntaxFault};
 ghost use Rattle.qasm_reader.specs.Parts.{IsFirstPart, has_end};
@@ -13,20 +16,22 @@ ghost use Rattle.qasm_scope.specs.declared.causes.Cause.{Cause};
 ghost use Rattle.qasm_scope.specs.Meaning.{Means, first_fault, most_calls};
 ghost use Rattle.qasm_scope.specs.Texts.{IsProgramText};
 ghost use Rattle.qasm_inline.specs.Circuits.{HasTaken};
-ghost use Rattle.qasm_inline.specs.Internal.Readings.{AreAllTaken, AreTaken, IsCertain, IsEnd, IsKept, IsReadAs, IsTakenAs, IsProgramAnswer, IsReadUpTo, IsNextOf, IsTakenNext, IsTextAnswer, TakesIn, inside};
+ghost use Rattle.qasm_inline.specs.Internal.Readings.{AreAllTaken, AreTaken, IsCertain, IsEnd, IsKept, IsReadAs, IsTakenAs, IsProgramAnswer, IsNextOf, Keeps, IsTakenNext, IsTextAnswer, ReadsOn, TakesIn, inside};
 
 use crate::circuit::{Circuit, OpenGate};
 use crate::error::{InlineError, TextError};
+use crate::words::Words;
+use bumpalo::Bump;
 use qasm_lexer::{LexError, Token, lex_further};
 use qasm_reader::{BodyPart, Depth, Part, has_end, next_in_body, next_part};
 use std::alloc::{AllocError, Global};
 use zx_gates::Elementary;
 
-// How many tokens are cut off the text at once.
+// How many tokens are cut off a text at once.
 const BATCH: usize = 4096;
 
-/// The circuit that a text means, or the text's first fault. Tokens are kept a few thousand at a time, or eight times as
-/// many as the longest part has, where a gate's declaration is its heading and the statements of its body, and a part
+/// The circuit that a text means, or the text's first fault. Tokens are cut a few thousand at a time, or as many as there
+/// are of the part that isn't over, where a gate's declaration is its heading and the statements of its body, and a part
 /// goes on up to `;`, `{` or `}`. Behind a syntax fault none are kept.
 ///
 /// # Errors
@@ -50,17 +55,14 @@ pub fn read(alloc: Global, text: &[u8]) -> Result<Elementary, TextError>
         → (program : List Placed) × IsProgramText text.now program
         × (first_fault most_calls program ≡ Some (cause, at)) }
 {
-    let mut reader = Reader::new(alloc);
-    let mut place = 0;
-    while place < text.len() {
-        place = reader.read_further(alloc, text, place)?;
-    }
-    reader.finish()
+    let arena = Bump::new(alloc);
+    let mut words = Words::new(alloc, &arena);
+    Reader::new(alloc).read_last(alloc, &mut words, text, 0)
 }
 
 // The reader of a text, which goes through it batch by batch.
 #[derive(Drop)]
-struct Reader<'a> {
+pub(crate) struct Reader<'a> {
     // What is read so far.
     reading: Reading<'a>,
     // The tokens behind that, which no part begins.
@@ -73,8 +75,8 @@ struct Reader<'a> {
 
 impl<'a> Reader<'a> {
     // The reader before the text.
-    fn new(alloc: Global) -> Reader<'a>
-        ensures { (text : List ℕ) → IsReadUpTo text 0 result }
+    pub(crate) fn new(alloc: Global) -> Reader<'a>
+        ensures { Keeps [] result }
     {
         Reader {
             reading: Reading::new(alloc),
@@ -84,24 +86,75 @@ impl<'a> Reader<'a> {
         }
     }
 
-    // Reads a batch of tokens of the text at a place, and gives the place behind it.
-    fn read_further(
+    // What is answered of a text whose last lines are these, which stand so many bytes further on.
+    pub(crate) fn read_last(
+        mut self,
+        alloc: Global,
+        words: &mut Words<'a>,
+        lines: &[u8],
+        from: usize,
+    ) -> Result<Elementary, TextError>
+        requires { from + length lines.now < 2 ^ 64 }
+        ensures { (all : List Lexeme) (text : List ℕ) → IsLineBegun all lines.now from text
+            → Keeps all self.entry → IsTextAnswer text result }
+    {
+        match self.read_text(alloc, words, lines, from) {
+            Ok(()) => self.finish(),
+            Err(LexError::BadByte { at }) => Err(TextError::BadByte { at }),
+            Err(LexError::NoMemory) => Err(TextError::NoMemory),
+        }
+    }
+
+    // Reads a text that comes next, batch by batch. It stands so many bytes further on.
+    pub(crate) fn read_text(
         &mut self,
         alloc: Global,
-        text: &'a [u8],
-        place: usize,
-    ) -> Result<usize, TextError>
-        requires { place < length text.now }
-        ensures further { IfOk result (λ end. (place < end) × (end ≤ length text.now)) }
-        ensures read { IsReadUpTo text.now place self.old
-            → IfOk result (λ end. IsReadUpTo text.now end self.new) }
-        ensures fault { (error : TextError) → IsReadUpTo text.now place self.old
-            → result ≡ Err error → IsTextAnswer text.now (Err error) }
+        words: &mut Words<'a>,
+        text: &[u8],
+        from: usize,
+    ) -> Result<(), LexError>
+        requires { from + length text.now < 2 ^ 64 }
+        ensures read { OnOk result ((tokens : List Lexeme) × IsCut 0 text.now tokens
+            × ReadsOn self.old (map (moved from) tokens) self.new) }
+        ensures bad_byte { (at : ℕ) → result ≡ Err (LexError.BadByte at)
+            → (there : ℕ) × IsBadByte text.now there × (at ≡ from + there) }
     {
-        let (end, depth) = cut_further(text, place, self.depth, &mut self.tokens)?;
-        self.depth = depth;
+        let mut done = 0;
+        while done < text.len() {
+            let mut tokens = Vec::new(alloc);
+            match lex_further(text, done, &mut tokens, self.enough()) {
+                Ok(end) => done = end,
+                Err(LexError::BadByte { at }) => return Err(LexError::BadByte { at: from + at }),
+                Err(LexError::NoMemory) => return Err(LexError::NoMemory),
+            }
+            self.read_tokens(alloc, words, &tokens, from)?;
+        }
+        Ok(())
+    }
+
+    // Reads tokens that come next, of a text that stands so many bytes further on, and keeps what is needed of them.
+    fn read_tokens(
+        &mut self,
+        alloc: Global,
+        words: &mut Words<'a>,
+        tokens: &[Token<'_>],
+        from: usize,
+    ) -> Result<(), AllocError>
+        requires { All (λ token. from + token.place < 2 ^ 64) tokens.now }
+        ensures { OnOk result (ReadsOn self.old (map (moved from) (lexemes tokens.now)) self.new) }
+    {
+        let known = self.tokens.len();
+        words.keep_all(tokens, from, &mut self.tokens)?;
+        self.depth = self.depth.after(&self.tokens[known..]);
         self.take_parts(alloc)?;
-        Ok(end)
+        Ok(())
+    }
+
+    // With how many further tokens, or as many bytes, it is worth while to read on.
+    pub(crate) fn enough(&self) -> usize
+        ensures { 0 < result }
+    {
+        self.tokens.len().max(BATCH)
     }
 
     // Takes in the parts that the tokens begin with. Once a syntax fault is certain, the tokens are dropped.
@@ -136,7 +189,7 @@ impl<'a> Reader<'a> {
 
     // What is answered where the text is over.
     fn finish(self) -> Result<Elementary, TextError>
-        ensures { (text : List ℕ) → IsReadUpTo text (length text) self.entry
+        ensures { (text : List ℕ) (all : List Lexeme) → IsCut 0 text all → Keeps all self.entry
             → IsTextAnswer text result }
     {
         let fault = self.last_fault();
@@ -152,34 +205,6 @@ impl<'a> Reader<'a> {
             Some(at) => Some(at),
             None => self.reading.fault(&self.tokens),
         }
-    }
-}
-
-// Cuts a batch of tokens off the text at a place, where parentheses are so deep. The place and the depth behind the
-// tokens are given.
-fn cut_further<'a>(
-    text: &'a [u8],
-    place: usize,
-    depth: Depth,
-    tokens: &mut Vec<Token<'a>>,
-) -> Result<(usize, Depth), TextError>
-    requires { place < length text.now }
-    ensures further { IfOk result (λ end. (place < end.0) × (end.0 ≤ length text.now)) }
-    ensures cut { (before : List Lexeme) → IsCutAt text.now place
-        (before ++ lexemes tokens.old.items)
-        → IfOk result (λ end. IsCutAt text.now end.0 (before ++ lexemes tokens.new.items)) }
-    ensures depth { (before : List Lexeme) → IsDepth depth (before ++ lexemes tokens.old.items)
-        → IfOk result (λ end. IsDepth end.1 (before ++ lexemes tokens.new.items)) }
-    ensures fault { (before : List Lexeme) (error : TextError)
-        → IsCutAt text.now place (before ++ lexemes tokens.old.items)
-        → result ≡ Err error → IsTextAnswer text.now (Err error) }
-{
-    let known = tokens.len();
-    let count = known.saturating_mul(8).saturating_add(BATCH);
-    match lex_further(text, place, tokens, count) {
-        Ok(end) => Ok((end, depth.after(&tokens[known..]))),
-        Err(LexError::BadByte { at }) => Err(TextError::BadByte { at }),
-        Err(LexError::NoMemory) => Err(TextError::NoMemory),
     }
 }
 

@@ -1,8 +1,13 @@
-//! Texts with measurements: what is read of them, and what is told of those that are wrong.
-use crate::{TextError, read};
+//! Texts with measurements: what is read of them, and what is told of those that are wrong; texts in pieces.
+ghost use Rattle.std.specs.Prelude.{◌<◌};
+
+use crate::{PieceReader, TextError, read};
+use bumpalo::Bump;
 use qasm_scope::Cause;
+use std::alloc::Global;
 use std::test::Fail;
-use zx_gates::Measure;
+use zx_gates::{Elementary, Measure};
+use zx_io::Pieces;
 
 #[test]
 fn measurements_are_numbered_through_all_registers(rt: HostRuntime) -> Result<(), Fail> {
@@ -66,5 +71,66 @@ fn wrong_measurements_are_told(rt: HostRuntime) -> Result<(), Fail> {
         let told = read(rt.alloc(), text).err();
         assert_eq!(rt; told, Some(TextError::Wrong { cause, at }), "row {i}");
     }
+    Ok(())
+}
+
+// What is read of a text that comes in pieces of so many bytes.
+fn read_in_pieces(alloc: Global, text: &[u8], count: usize) -> Result<Elementary, TextError>
+    requires { 0 < count }
+{
+    let arena = Bump::new(alloc);
+    let mut reader = PieceReader::new(alloc, &arena);
+    for piece in text.chunks(count) {
+        reader.take(piece)?;
+    }
+    reader.finish()
+}
+
+#[test]
+fn texts_are_read_whatever_the_pieces(rt: HostRuntime) -> Result<(), Fail> {
+    let alloc = rt.alloc();
+    let text =
+        b"OPENQASM 2.0;\nqreg pp[1]; qreg qq[2]; creg b[3];\ngate g(x) a {\nU(x,0,0) a; } // g\ng(pi/4)\nqq; measure qq[1] -> b[2];";
+    for count in [1, 7, 1000] {
+        let circuit = read_in_pieces(alloc, text, count.max(1))?;
+        assert_eq!(rt; circuit.qubits, 3);
+        assert_eq!(rt; circuit.gates.as_slice().len(), 2);
+        assert_eq!(rt; circuit.measured.as_slice().len(), 1);
+        let told = read_in_pieces(
+            alloc,
+            b"OPENQASM 2.0;\nqreg q[1];\nU(0,0,0) p[0];\n?",
+            count.max(1),
+        );
+        assert_eq!(rt; told.err(), Some(TextError::BadByte { at: 40 }));
+        let told = read_in_pieces(
+            alloc,
+            b"OPENQASM 2.0;\nqreg q[1];\nU(0,0,0) p[0];",
+            count.max(1),
+        );
+        assert_eq!(rt;
+            told.err(),
+            Some(TextError::Wrong {
+                cause: Cause::Unknown,
+                at: 25
+            })
+        );
+    }
+    Ok(())
+}
+
+#[test]
+fn a_long_line_is_read_in_batches(rt: HostRuntime) -> Result<(), Fail> {
+    let alloc = rt.alloc();
+    let mut text = Vec::new(alloc);
+    // 23 bytes, and 500 statements of 12 tokens in 14 bytes each.
+    text.extend_from_slice(b"OPENQASM 2.0;qreg q[1];")?;
+    for _ in 0..500 {
+        text.extend_from_slice(b"U(0,0,0) q[0];")?;
+    }
+    let circuit = read_in_pieces(alloc, &text, 1000)?;
+    assert_eq!(rt; circuit.gates.as_slice().len(), 500);
+    text.extend_from_slice(b"?")?;
+    let told = read_in_pieces(alloc, &text, 1000);
+    assert_eq!(rt; told.err(), Some(TextError::BadByte { at: 7023 }));
     Ok(())
 }

@@ -108,7 +108,7 @@ form_no_feed c o e = elim (seen c o e) [
 ]
 
 -- where a feed stands in a form, it is the whole form
-feed_alone : (y z : List ℕ) → is_form (y ++ 10 ∷ z) ≡ true → z ≡ []
+pub feed_alone : (y z : List ℕ) → is_form (y ++ 10 ∷ z) ≡ true → z ≡ []
 feed_alone [] z e = elim (form_no_feed 10 z e) [ inl n ↦ n | inr f ↦ absurd (false≢true f) ]
 feed_alone (c ∷ y) z e = elim (form_no_feed c (y ++ 10 ∷ z) e) [
   | inl n ↦ absurd (omega (arith, ap length n, length-append y (10 ∷ z)))
@@ -119,7 +119,7 @@ feed_alone (c ∷ y) z e = elim (form_no_feed c (y ++ 10 ∷ z) e) [
   no_feed_before (d ∷ x) f = no_feed_before x (and_parts (is_no_feed d) (list_all is_no_feed (x ++ 10 ∷ z)) f).1
 
 -- two prefixes of one list: one begins the other
-prefixes : (a b x y : List ℕ) → a ++ x ≡ b ++ y → ((z : List ℕ) × (a ++ z ≡ b)) ⊎ ((z : List ℕ) × (b ++ z ≡ a) × (0 < length z))
+pub prefixes : (a b x y : List ℕ) → a ++ x ≡ b ++ y → ((z : List ℕ) × (a ++ z ≡ b)) ⊎ ((z : List ℕ) × (b ++ z ≡ a) × (0 < length z))
 prefixes [] b x y e = inl (b, refl)
 prefixes (c ∷ a) [] x y e = inr (c ∷ a, refl, omega arith)
 prefixes (c ∷ a) (d ∷ b) x y e =
@@ -131,7 +131,7 @@ prefixes (c ∷ a) (d ∷ b) x y e =
     ]
 
 -- what is longest before a line feed stays so, whatever follows that
-longest_on : (form x y after : List ℕ) → form ++ x ≡ y ++ 10 ∷ [] → IsLongest form x → IsLongest form (x ++ after)
+pub longest_on : (form x y after : List ℕ) → form ++ x ≡ y ++ 10 ∷ [] → IsLongest form x → IsLongest form (x ++ after)
 longest_on form x y after e l = each where
   each : (other rest : List ℕ) → other ++ rest ≡ form ++ (x ++ after) → is_form other ≡ true → length other ≤ length form
   each other rest t f = elim (prefixes other (form ++ x) rest after (t ∙ sym (append_assoc form x after))) [
@@ -143,7 +143,7 @@ longest_on form x y after e l = each where
   ]
 
 -- the same end after a prefix that is dropped
-ends_on : (p : List ℕ) (x y : List ℕ) → p ++ x ≡ y ++ 10 ∷ [] → 0 < length x → (z : List ℕ) × (x ≡ z ++ 10 ∷ [])
+pub ends_on : (p : List ℕ) (x y : List ℕ) → p ++ x ≡ y ++ 10 ∷ [] → 0 < length x → (z : List ℕ) × (x ≡ z ++ 10 ∷ [])
 ends_on [] x y e some = (y, e)
 ends_on (c ∷ p) x [] e some = absurd (omega (arith, ap length e, length-append p x))
 ends_on (c ∷ p) x (d ∷ y) e some = let t : p ++ x ≡ y ++ 10 ∷ [] = cc in ends_on p x y t some
@@ -152,7 +152,7 @@ nil_or_some : (x : List ℕ) → (x ≡ []) ⊎ (0 < length x)
 nil_or_some [] = inl refl
 nil_or_some (b ∷ x) = inr (omega arith)
 
-pieces_on : (ps : List (List ℕ)) (y after : List ℕ) → (concat ps ≡ []) ⊎ (concat ps ≡ y ++ 10 ∷ []) → ArePieces ps [] → ArePieces ps after
+pub pieces_on : (ps : List (List ℕ)) (y after : List ℕ) → (concat ps ≡ []) ⊎ (concat ps ≡ y ++ 10 ∷ []) → ArePieces ps [] → ArePieces ps after
 pieces_on [] y after e a = tt
 pieces_on (p ∷ ps) y after (inl e) a = absurd (omega (arith, form_some p (piece_form p _ a.0), ap length e, length-append p (concat ps)))
 pieces_on (p ∷ ps) y after (inr e) a =

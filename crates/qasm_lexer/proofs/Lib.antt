@@ -9,3 +9,6 @@ pub mod Lexing
 pub mod Feeds
 pub mod Building
 pub mod Words
+pub mod Listed
+pub mod LineCuts
+pub mod Taking

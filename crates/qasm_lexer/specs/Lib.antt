@@ -1,4 +1,6 @@
 pub mod Forms
 pub mod Internal
+pub mod Taken
+pub mod TokenLists
 pub mod Tokens
 pub mod Worked

@@ -1,7 +1,8 @@
 //! Tokens of OpenQASM 2.0: the bytes of a text, cut into words, numbers, texts and signs.
 //!
 //! Proved: every text has one cut into longest pieces or one bad byte, and `lex` answers it, with
-//! the slice and the place of each token; `lex_further` the same, a number of tokens at a time.
+//! the slice and the place of each token; `lex_further` the same, a number of tokens at a time; and
+//! `PieceLexer` the same of a text that comes in pieces, however it is cut.
 //!
 //! ```rust
 //! let tokens = lex(alloc, b"OPENQASM 2.0;")?;    // OPENQASM, 2.0 and the semicolon
@@ -12,12 +13,17 @@ mod errors;
 mod first_piece;
 mod laws;
 mod lexer;
+mod lines;
+mod piece_lexer;
 mod tables;
 #[cfg(test)]
 mod tests;
 mod token;
+mod token_list;
 
 pub use errors::LexError;
 pub use laws::{cuts_of_lines_go_together, one_cut, worked_cuts};
 pub use lexer::{lex, lex_further};
+pub use piece_lexer::PieceLexer;
 pub use token::{Token, TokenKind};
+pub use token_list::TokenList;

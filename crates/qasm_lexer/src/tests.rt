@@ -1,6 +1,10 @@
 //! What no clause says: that texts are cut with ample memory, and worked texts with their tokens and bad bytes.
-use crate::{LexError, Token, TokenKind, lex};
+ghost use Rattle.std.specs.Prelude.{◌<◌};
+
+use crate::{LexError, PieceLexer, Token, TokenKind, TokenList, lex};
+use std::alloc::Global;
 use std::test::Fail;
+use zx_io::Pieces;
 
 // Each form, at the ends of lines of both sorts, and a comment at the end of the text.
 const PAGE: &[u8] =
@@ -134,6 +138,83 @@ fn bad_bytes_are_told(rt: HostRuntime) -> Result<(), Fail> {
         match lex(alloc, text) {
             Ok(_) => assert!(rt; false, "no bad byte is told"),
             Err(error) => assert_eq!(rt; error, LexError::BadByte { at }),
+        }
+    }
+    Ok(())
+}
+
+// What a lexer answers of a text that comes in pieces of so many bytes.
+fn lex_in_pieces(alloc: Global, text: &[u8], count: usize) -> Result<TokenList, LexError>
+    requires { 0 < count }
+{
+    let mut lexer = PieceLexer::new(alloc);
+    for piece in text.chunks(count) {
+        lexer.take(piece)?;
+    }
+    lexer.finish()
+}
+
+#[test]
+fn a_page_in_pieces_has_its_tokens(rt: HostRuntime) -> Result<(), Fail> {
+    let alloc = rt.alloc();
+    for count in [1, 7, 1000] {
+        let list = lex_in_pieces(alloc, PAGE, count.max(1))?;
+        let tokens = list.tokens()?;
+        assert_eq!(rt; tokens.len(), PAGE_TOKENS.len());
+        for (i, (kind, bytes, place)) in PAGE_TOKENS.iter().enumerate() {
+            assert!(rt;
+                is_at(&tokens, i, *kind, bytes, *place),
+                "token {i} in pieces of {count}"
+            );
+        }
+        assert!(rt;
+            list.pool()
+                .starts_with(b"OPENQASM2.0;include\"qelib1.inc\";gategates(pis)")
+        );
+    }
+    Ok(())
+}
+
+#[test]
+fn pieces_end_anywhere(rt: HostRuntime) -> Result<(), Fail> {
+    let alloc = rt.alloc();
+    // A number that goes on, a comment that ends with its piece, and a last token with nothing behind it.
+    let mut lexer = PieceLexer::new(alloc);
+    for piece in [
+        b"q 1".as_slice(),
+        b"2.5e+",
+        b"7 // c",
+        b"\n",
+        b"//\n",
+        b"c\nme",
+        b"",
+        b"asure",
+    ] {
+        lexer.take(piece)?;
+    }
+    let list = lexer.finish()?;
+    assert_eq!(rt; list.pool(), b"q12.5e+7cmeasure".as_slice());
+    let tokens = list.tokens()?;
+    assert_eq!(rt; tokens.len(), 4);
+    assert!(rt; is_at(&tokens, 1, TokenKind::Real, b"12.5e+7", 2));
+    assert!(rt; is_at(&tokens, 2, TokenKind::Identifier, b"c", 18));
+    assert!(rt; is_at(&tokens, 3, TokenKind::Measure, b"measure", 20));
+    Ok(())
+}
+
+#[test]
+fn the_first_bad_byte_is_told_at_the_end(rt: HostRuntime) -> Result<(), Fail> {
+    let alloc = rt.alloc();
+    for (text, at) in [
+        (b"q;\n\"a".as_slice(), 3),
+        (b"q;\nq ?\n? q\n", 5),
+        (b"? \n", 0),
+    ] {
+        for count in [1, 4, 100] {
+            match lex_in_pieces(alloc, text, count.max(1)) {
+                Ok(_) => assert!(rt; false, "no bad byte is told"),
+                Err(error) => assert_eq!(rt; error, LexError::BadByte { at }),
+            }
         }
     }
     Ok(())

@@ -12,7 +12,7 @@ use Rattle.std.proofs.Math.Seq.{take-append_seam}
 use Rattle.zx_model.specs.Bits.{xor}
 use Rattle.zx_bits.specs.Rows.{IsFirstFrom}
 use Rattle.zx_bits.specs.Internal.Words.{digit, is_odd}
-use Rattle.zx_bits.specs.Internal.Windows.{word_at, word_from, is_set, end_of, Covers}
+use Rattle.zx_bits.specs.Internal.Windows.{word_at, word_from, is_set, end_of, Covers, EndsBy}
 use Rattle.zx_bits.specs.declared.window.Window.{Window}
 use Rattle.zx_model.proofs.BitLemmas.{and-true, and-false}
 use Rattle.zx_bits.proofs.Sums.{is_odd-same, is_odd-none, is_odd-xor, is_odd-add, is_odd-either}
@@ -441,3 +441,36 @@ same_items a b at size fits_a fits_b same =
 pub same_by_items : (a b : Window) → a.offset ≡ b.offset → a.words.items ≡ b.words.items → (place : ℕ) → is_set a place ≡ is_set b place
 same_by_items a b at items place =
     ap₂ (λ offset (l : List ℕ). digit (if ltb (place / 64) offset then 0 else get_or l (place / 64 - offset) 0) (place % 64)) at items
+
+-- ---- words behind which all are 0
+
+-- what the first words tell is what all tell
+pub words_cut : (w : Window) (cut : Window) (count : ℕ) → cut.offset ≡ w.offset → cut.words.items ≡ take count w.words.items →
+    ((i : ℕ) → count ≤ i → get_or w.words.items i 0 ≡ 0) → (number : ℕ) → word_at cut number ≡ word_at w number
+words_cut w cut count at items zeros number =
+    ap₂ (λ offset (l : List ℕ). word_from offset l number) at items
+    ∙ ap (λ n. if ltb number w.offset then 0 else n)
+    (elim (cases_lt (number - w.offset) count) [
+      | inl l ↦ get_or-take count w.words.items (number - w.offset) 0 l
+      | inr g ↦ get_or_past (take count w.words.items) (number - w.offset) 0 (omega (arith, length-take count w.words.items)) ∙ sym (zeros (number - w.offset) g)
+    ])
+
+pub none_in_zeros : (w : Window) → ((i : ℕ) → 0 ≤ i → get_or w.words.items i 0 ≡ 0) → (place : ℕ) → is_set w place ≡ false
+none_in_zeros w zeros place =
+    unset_by_word w place
+    (elim (cases_lt (place / 64) w.offset) [
+      | inl l ↦ word_before w (place / 64) l
+      | inr g ↦ word_behind w (place / 64) g ∙ zeros (place / 64 - w.offset) (omega arith)
+    ])
+
+-- a word with a bit set comes before where no place is set any more
+pub ends_after : (w : Window) (count stop : ℕ) → 0 < count → ¬ (get_or w.words.items (count - 1) 0 ≡ 0) → get_or w.words.items (count - 1) 0 < 2 ^ 64 →
+    EndsBy stop w → w.offset + count ≤ stop
+ends_after w count stop some last fits unset =
+    elim (cases_lt stop (w.offset + count)) [
+      | inl l ↦
+          absurd (last (same_from_digits _ 0 fits (omega arith)
+          (λ k lt. ap (λ n. digit n k) (sym (word_kept w.offset w.words.items (count - 1)))
+          ∙ sym (is_set-in_word w (w.offset + (count - 1)) k lt) ∙ unset (64 * (w.offset + (count - 1)) + k) (omega arith) ∙ sym (digit-zero k))))
+      | inr g ↦ g
+    ]

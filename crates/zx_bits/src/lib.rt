@@ -2,13 +2,15 @@
 //!
 //! A row and a set keep only the words between that of their first set bit and that of their last,
 //! four of them without an allocation. So a set takes any numbers but the greatest 64, and needs no
-//! length; it also keeps how many numbers it has.
+//! length.
 //!
 //! Proved: each call reads its list of bits or makes its one named change of it; want of memory
 //! leaves a row or a matrix as it was, and comes at no call where the row has room. A set is the
 //! rising list of its numbers: each call reads that list or changes which numbers are in it as it
-//! says, and want of memory leaves the set as it was. `solve` answers with rows that sum to the
-//! target, of which no smaller part does, or with a list of bits that shows that no rows do.
+//! says, and want of memory leaves the set as it was. A set also tells its room, a bound below which
+//! any number goes in without memory: `reserve` raises it, and changes below it don't lower it.
+//! `solve` answers with rows that sum to the target, of which no smaller part does, or with a list
+//! of bits that shows that no rows do.
 //!
 //! ```rust
 //! let mut m = BitMatrix::new(alloc, 2);

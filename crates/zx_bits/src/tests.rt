@@ -122,6 +122,15 @@ fn the_greatest_numbers_are_refused(rt: HostRuntime) -> Result<(), Fail> {
     Ok(())
 }
 
+#[test]
+fn a_set_takes_room(rt: HostRuntime) -> Result<(), Fail> {
+    let mut numbers = BitSet::new(rt.alloc());
+    numbers.reserve(1000)?;
+    numbers.toggle(999)?;
+    assert!(rt; has_just(&numbers, &[999]));
+    Ok(())
+}
+
 // The sum of two sets of these numbers.
 fn sum_of(alloc: Global, left: &[usize], right: &[usize]) -> Result<BitSet, Fail> {
     let mut sum = set(alloc, left)?;
@@ -271,6 +280,14 @@ fn a_least_set_sums_to_the_target(rt: HostRuntime) -> Result<(), Fail> {
     check(&rt, rt.alloc(), 2, &[2, 2], 1)?;
     check(&rt, rt.alloc(), 3, &[], 0)?;
     check(&rt, rt.alloc(), 3, &[], 5)
+}
+
+// Of the rows {0, 1}, {1, 2} and {0, 2} none sum to {0}: each has two places of {0, 1, 2}, and {0}
+// has one. The third is {0, 2}, and so is the sum of the others.
+#[test]
+fn rows_of_two_places_have_even_sums(rt: HostRuntime) -> Result<(), Fail> {
+    check(&rt, rt.alloc(), 3, &[3, 6, 5], 1)?;
+    check(&rt, rt.alloc(), 3, &[3, 6, 5], 5)
 }
 
 #[test]

@@ -1,6 +1,6 @@
 //! The words of a row that are kept.
 
-ghost use Rattle.std.specs.Prelude.{◌≡◌, ◌↔◌, ◌<◌, ◌≤◌, ◌+◌, ◌-◌, ◌/◌, ◌^◌, ◌==◌, ◌&&◌, ℕ, []};
+ghost use Rattle.std.specs.Prelude.{◌≡◌, ◌≢◌, ◌↔◌, ◌<◌, ◌≤◌, ◌+◌, ◌-◌, ◌/◌, ◌^◌, ◌==◌, ◌&&◌, ℕ, []};
 ghost use Rattle.std.specs.Prelude.{true, false, not, ltb, if◌then◌else◌};
 ghost use Rattle.std.specs.Prelude.{max, length, get_or, count_by, IsOk, IfOk, OnOk, OnErr};
 ghost use Rattle.std.specs.Int.RustNames.{bit_xor};
@@ -8,7 +8,7 @@ ghost use Rattle.zx_model.specs.Bits.{xor};
 ghost use Rattle.zx_bits.specs.Rows.{IsFirstFrom};
 ghost use Rattle.zx_bits.specs.Internal.Words.{is_odd};
 ghost use Rattle.zx_bits.specs.Internal.Windows.{word_at, word_from, is_set, end_of, places_of};
-ghost use Rattle.zx_bits.specs.Internal.Windows.{Covers, AddsTo};
+ghost use Rattle.zx_bits.specs.Internal.Windows.{Covers, AddsTo, EndsBy};
 
 use smallvec::SmallVec;
 use std::alloc::{AllocError, Global};
@@ -63,7 +63,7 @@ impl Window {
     }
 
     // The number of the first word after those that are kept.
-    fn end(&self) -> usize
+    pub(crate) fn end(&self) -> usize
         requires { end_of self.now ≤ 2 ^ 58 }
         ensures { result ≡ end_of self.now }
     {
@@ -170,18 +170,22 @@ impl Window {
         requires other_bounded { end_of other.now ≤ 2 ^ 58 }
         ensures ok { OnOk result ((place : ℕ) →
             is_set self.new place ≡ xor (is_set self.old place) (is_set other.now place)) }
-        ensures end { OnOk result (end_of self.new ≤ max (end_of self.old) (end_of other.now)) }
+        ensures end { (stop : ℕ) → EndsBy stop other.now →
+            OnOk result (end_of self.new ≤ max (end_of self.old) stop) }
         ensures capacity { OnOk result (self.old.words.capacity ≤ self.new.words.capacity) }
         ensures err { OnErr result (self.new ≡ self.old) }
-        ensures room { max (end_of self.old) (end_of other.now) ≤ self.old.words.capacity →
-            IsOk result }
+        ensures room { (stop : ℕ) → EndsBy stop other.now →
+            max (end_of self.old) stop ≤ self.old.words.capacity → IsOk result }
+        ensures nothing { EndsBy 0 other.now → IsOk result }
     {
-        if other.words.is_empty() {
+        let words = other.words.as_slice();
+        let count = used(words);
+        if count == 0 {
             return Ok(());
         }
-        self.cover(other.offset, other.end())?;
+        self.cover(other.offset, other.offset + count)?;
         let first = other.offset - self.offset;
-        add_words(self.words.as_mut_slice(), first, other.words.as_slice());
+        add_words(self.words.as_mut_slice(), first, &words[..count]);
         self.trim();
         Ok(())
     }
@@ -274,9 +278,20 @@ impl Window {
         ensures items { self.new.words.items ≡ self.old.words.items }
         ensures ok { OnOk result (words ≤ self.new.words.capacity) }
         ensures err { OnErr result (self.new ≡ self.old) }
+        ensures capacity { self.old.words.capacity ≤ self.new.words.capacity }
     {
         self.words
             .reserve_exact(words.saturating_sub(self.words.len()))
+    }
+
+    // Lets all words go, and keeps their memory.
+    pub(crate) fn clear(&mut self)
+        ensures none { self.new.words.items ≡ [] }
+        ensures offset { self.new.offset ≡ 0 }
+        ensures capacity { self.new.words.capacity ≡ self.old.words.capacity }
+    {
+        self.words.clear();
+        self.offset = 0;
     }
 }
 
@@ -322,6 +337,8 @@ fn is_tight(words: &[u64]) -> bool {
 fn used(words: &[u64]) -> usize
     ensures within { result ≤ length words.now }
     ensures zeros { (i : ℕ) → result ≤ i → get_or words.now i 0 ≡ 0 }
+    ensures last { 0 < result → get_or words.now (result - 1) 0 ≢ 0 }
+    ensures fits { 0 < result → get_or words.now (result - 1) 0 < 2 ^ 64 }
 {
     let mut end = words.len();
     'back: while end > 0 && words[end - 1] == 0 {

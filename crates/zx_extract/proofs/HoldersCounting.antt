@@ -7,6 +7,7 @@ use Rattle.zx_calculus.specs.Graph.{in_order}
 use Rattle.zx_calculus.proofs.Ids.{by_test, Distinct-rising, member-here, member-there}
 use Rattle.open_graph.proofs.Toggling.{count-either}
 use Rattle.gflow_laws.specs.Flow.{Correction, is_in}
+use Rattle.open_graph.specs.VertexSets.{VertexSet}
 use Rattle.zx_extract.specs.Internal.Holders.{holds, holders_of, sets_with, table_from, IsOrdered}
 use Rattle.zx_extract.proofs.HoldersTables.{member-holders_of}
 
@@ -21,7 +22,7 @@ length-all (x ∷ xs) ys there =
 abbrev stands_in : ℕ → Correction → Bool
 stands_in s e = is_in e.members s
 
-length-sets : (lists : List (List ℕ)) (s : ℕ) (order : List ℕ) →
+length-sets : (lists : List VertexSet) (s : ℕ) (order : List ℕ) →
     length (filter (λ v. member v (sets_with lists s)) order) ≡ length (filter (stands_in s) (table_from lists order))
 length-sets lists s [] = refl
 length-sets lists s (v ∷ vs) =
@@ -31,7 +32,7 @@ length-sets lists s (v ∷ vs) =
     (λ f. let absent : member s (holders_of lists v) ≡ false = member-holders_of lists v s ∙ f in
     rw (f, absent) (length-sets lists s vs))
 
-pub count_held : (lists : List (List ℕ)) (s : ℕ) (order : List ℕ) → in_order ltb (sets_with lists s) ≡ true →
+pub count_held : (lists : List VertexSet) (s : ℕ) (order : List ℕ) → in_order ltb (sets_with lists s) ≡ true →
     IsOrdered order lists → length (sets_with lists s) ≡ count_by (stands_in s) (table_from lists order)
 count_held lists s order rising ordered =
     sym (length-all (sets_with lists s) order (ordered.within s))

@@ -17,6 +17,8 @@ use Rattle.gflow_laws.proofs.Tables.{order_of-with_sets}
 use Rattle.zx_calculus.proofs.Ids.{member-append}
 use Rattle.gflow_laws.proofs.LastLaws.{Distinct-front}
 use Rattle.gflow_laws.proofs.OutputLaws.{is_in-row_added}
+use Rattle.open_graph.specs.VertexSets.{VertexSet}
+use Rattle.zx_flow.specs.Internal.Sets.{no_set}
 use Rattle.zx_extract.specs.Internal.Holders.{holds, holders_of, table_from, IsOrdered, IsToggled, IsCleared}
 
 member-range : (n a s : ℕ) → a ≤ s → s < a + n → member s (range_with_len a n) ≡ true
@@ -25,7 +27,7 @@ member-range (suc n) a s low high =
     by_equal s a (λ t e. rw t refl) (λ f apart. rw f (member-range n (a + 1) s (omega arith) (omega arith)))
 
 -- those who stand in the set of v are its members
-pub member-holders_of : (lists : List (List ℕ)) (place s : ℕ) →
+pub member-holders_of : (lists : List VertexSet) (place s : ℕ) →
     member s (holders_of lists place) ≡ holds lists s place
 member-holders_of lists place s =
     member-filter (λ u. holds lists u place) (range_with_len 0 (length lists)) s
@@ -39,16 +41,16 @@ member-holders_of lists place s =
     past : length lists ≤ s →
         (member s (range_with_len 0 (length lists)) && holds lists s place) ≡ holds lists s place
     past le =
-        let none : holds lists s place ≡ false = ap (member place) (get_or_past lists s [] le) in
+        let none : holds lists s place ≡ false = ap (λ (l : VertexSet). member place l.ids) (get_or_past lists s no_set le) in
         ap (λ b. member s (range_with_len 0 (length lists)) && b) none
         ∙ and-false (member s (range_with_len 0 (length lists))) ∙ sym none
 
-pub order_of-table_from : (lists : List (List ℕ)) (order : List ℕ) → order_of (table_from lists order) ≡ order
+pub order_of-table_from : (lists : List VertexSet) (order : List ℕ) → order_of (table_from lists order) ≡ order
 order_of-table_from lists [] = refl
 order_of-table_from lists (v ∷ vs) = ap (λ r. v ∷ r) (order_of-table_from lists vs)
 
 -- sets that change alike
-SameSets-changed : (old new : List (List ℕ)) (change : List ℕ → List ℕ) (order : List ℕ) →
+SameSets-changed : (old new : List VertexSet) (change : List ℕ → List ℕ) (order : List ℕ) →
     ((v w : ℕ) → member w (holders_of new v) ≡ member w (change (holders_of old v))) →
     SameSets (table_from new order) (with_sets (λ v members. change members) (table_from old order))
 SameSets-changed old new change order same =
@@ -64,7 +66,7 @@ SameSets-changed old new change order same =
     at [] v w = refl
     at (x ∷ xs) v w = by_test (eqb v x) (λ t. rw t (same x w)) (λ f. rw f (at xs v w))
 
-pub SameSets-toggled : (old new : List (List ℕ)) (c t : ℕ) (order : List ℕ) → IsToggled c t old new →
+pub SameSets-toggled : (old new : List VertexSet) (c t : ℕ) (order : List ℕ) → IsToggled c t old new →
     SameSets (table_from new order) (row_added_table c t (table_from old order))
 SameSets-toggled old new c t order toggled =
     SameSets-changed old new (row_added_set c t) order
@@ -73,13 +75,13 @@ SameSets-toggled old new c t order toggled =
     ∙ sym (is_in-row_added c t (holders_of old p) w))
 
 -- the last entry of the table, and those before it
-pub record Cut (lists : List (List ℕ)) (order : List ℕ) (before : List Correction) (e : Correction) : Type 0 where
+pub record Cut (lists : List VertexSet) (order : List ℕ) (before : List Correction) (e : Correction) : Type 0 where
   pub some : 0 < length order
   pub front : before ≡ table_from lists (take (length order - 1) order)
   pub vertex : e.vertex ≡ get_or order (length order - 1) 0
   pub members : (s : ℕ) → is_in e.members s ≡ holds lists s e.vertex
 
-table_from-append : (lists : List (List ℕ)) (vs : List ℕ) (v : ℕ) →
+table_from-append : (lists : List VertexSet) (vs : List ℕ) (v : ℕ) →
     table_from lists (vs ++ v ∷ []) ≡ table_from lists vs ++ record { vertex = v; members = holders_of lists v } ∷ []
 table_from-append lists [] v = refl
 table_from-append lists (x ∷ xs) v =
@@ -91,7 +93,7 @@ split_last order some =
     sym (sym (take-suc order (length order - 1) 0 (omega arith))
     ∙ take_all (suc (length order - 1)) order (omega arith))
 
-pub last_entry : (lists : List (List ℕ)) (order : List ℕ) → 0 < length order →
+pub last_entry : (lists : List VertexSet) (order : List ℕ) → 0 < length order →
     table_from lists order ≡
     table_from lists (take (length order - 1) order) ++ record {
       vertex = get_or order (length order - 1) 0;
@@ -101,7 +103,7 @@ last_entry lists order some =
     ap (table_from lists) (split_last order some)
     ∙ table_from-append lists (take (length order - 1) order) (get_or order (length order - 1) 0)
 
-pub cut : (lists : List (List ℕ)) (order : List ℕ) (before : List Correction) (e : Correction) →
+pub cut : (lists : List VertexSet) (order : List ℕ) (before : List Correction) (e : Correction) →
     table_from lists order ≡ before ++ e ∷ [] → Cut lists order before e
 cut lists [] before e is = absurd (nothing before is)
   where
@@ -119,7 +121,7 @@ cut lists (v ∷ vs) before e is =
           ∙ member-holders_of lists (get_or (v ∷ vs) (length (v ∷ vs) - 1) 0) s ∙ ap (holds lists s) (sym vertex);
     }
 
-pub last_known : (lists : List (List ℕ)) (order : List ℕ) (r : Option ℕ) → r ≡ slice_get order (length order - 1) →
+pub last_known : (lists : List VertexSet) (order : List ℕ) (r : Option ℕ) → r ≡ slice_get order (length order - 1) →
     IfSome r (λ v. (before : List Correction) × (e : Correction) × (table_from lists order ≡
     before ++ e ∷ []) × (e.vertex ≡ v))
 last_known lists [] r is = rw is tt
@@ -136,7 +138,7 @@ last_known lists (x ∷ xs) r is =
     )
 
 -- the sets of those before, after x went from all
-pub SameSets-advanced : (old new : List (List ℕ)) (order : List ℕ) (x : ℕ) (before : List Correction)
+pub SameSets-advanced : (old new : List VertexSet) (order : List ℕ) (x : ℕ) (before : List Correction)
     (e : Correction) → IsCleared x old new → Cut old order before e →
     SameSets (table_from new (take (length order - 1) order)) (advanced_table x before)
 SameSets-advanced old new order x before e cleared at =
@@ -146,7 +148,7 @@ SameSets-advanced old new order x before e cleared at =
     ∙ sym (member-filter (different x) (holders_of old p) w)))
 
 -- the order cut at its last vertex, which has no set any more
-module _ (old new : List (List ℕ)) (order : List ℕ) (before : List Correction) (e : Correction) (ordered : IsOrdered order old)
+module _ (old new : List VertexSet) (order : List ℕ) (before : List Correction) (e : Correction) (ordered : IsOrdered order old)
     (at : Cut old order before e) where
   ordered_front : ((s v : ℕ) → holds new s v ≡ true → member v order ≡ true) → ((s : ℕ) → holds new s e.vertex ≡ false) →
       IsOrdered (take (length order - 1) order) new
@@ -173,7 +175,7 @@ module _ (old new : List (List ℕ)) (order : List ℕ) (before : List Correctio
           ∙ sym (member-append v front (e.vertex ∷ [])) ∙ ap (member v) (sym split) ∙ there_too
 
 -- where the last set has x alone
-pub ordered_advanced : (old new : List (List ℕ)) (order : List ℕ) (x : ℕ) (before : List Correction)
+pub ordered_advanced : (old new : List VertexSet) (order : List ℕ) (x : ℕ) (before : List Correction)
     (e : Correction) → IsCleared x old new → IsOrdered order old →
     Cut old order before e → ((y : ℕ) → is_in e.members y ≡ eqb y x) → IsOrdered (take (length order - 1) order) new
 ordered_advanced old new order x before e cleared ordered at alone =
@@ -186,7 +188,7 @@ ordered_advanced old new order x before e cleared ordered at alone =
     off false = refl
 
 -- in the sets that have v these members are toggled
-abbrev pub IsRemoved : ℕ → List ℕ → List (List ℕ) → List (List ℕ) → Type 0
+abbrev pub IsRemoved : ℕ → List ℕ → List VertexSet → List VertexSet → Type 0
 IsRemoved v members old new = (s p : ℕ) → holds new s p ≡ xor (holds old s p) (holds old v p && is_in members s)
 
 is_in-removed : (v : ℕ) (toggled members : List ℕ) (w : ℕ) →
@@ -199,7 +201,7 @@ is_in-removed v toggled members w = at (is_in members v)
     at true = is_in-symmetric_difference members toggled w
     at false = sym (xor-false (is_in members w))
 
-pub SameSets-removed : (old new : List (List ℕ)) (order : List ℕ) (before : List Correction) (e : Correction) →
+pub SameSets-removed : (old new : List VertexSet) (order : List ℕ) (before : List Correction) (e : Correction) →
     IsRemoved e.vertex e.members old new → Cut old order before e →
     SameSets (table_from new (take (length order - 1) order)) (last_removed_table e before)
 SameSets-removed old new order before e removed at =
@@ -217,7 +219,7 @@ either false true m here there h = there refl
 either false false m here there h = absurd (true≢false (sym h))
 
 -- where the last vertex is in its own set
-ordered_removed : (old new : List (List ℕ)) (order : List ℕ) (before : List Correction) (e : Correction) →
+ordered_removed : (old new : List VertexSet) (order : List ℕ) (before : List Correction) (e : Correction) →
     IsRemoved e.vertex e.members old new → IsOrdered order old →
     Cut old order before e → is_in e.members e.vertex ≡ true → IsOrdered (take (length order - 1) order) new
 ordered_removed old new order before e removed ordered at own =
@@ -235,14 +237,14 @@ gone true linked h hv same = and-false (xor h (hv && linked))
     ∙ sym (ap (λ b. xor h (b && true)) (sym (same refl)) ∙ ap (xor h) (and-true h) ∙ xor-same h)
 gone false linked h hv same = and-true (xor h (hv && linked))
 
-pub removed_linked : (old mid new : List (List ℕ)) (x v : ℕ) (members : List ℕ) → IsToggled x v old mid →
+pub removed_linked : (old mid new : List VertexSet) (x v : ℕ) (members : List ℕ) → IsToggled x v old mid →
     IsCleared v mid new → ((y : ℕ) → is_in members y ≡ (eqb y v || eqb y x)) → IsRemoved v members old new
 removed_linked old mid new x v members toggled cleared both s p =
     cleared s p ∙ ap₂ (λ a b. a && not b) (toggled s p) (eqb_comm v s)
     ∙ gone (eqb s v) (eqb s x) (holds old s p) (holds old v p) (λ t. ap (λ u. holds old u p) (eqb-true s v t))
     ∙ ap (λ b. xor (holds old s p) (holds old v p && b)) (sym (both s))
 
-pub removed_alone : (old new : List (List ℕ)) (v : ℕ) (members : List ℕ) → IsCleared v old new →
+pub removed_alone : (old new : List VertexSet) (v : ℕ) (members : List ℕ) → IsCleared v old new →
     ((y : ℕ) → is_in members y ≡ eqb y v) → IsRemoved v members old new
 removed_alone old new v members cleared alone s p =
     cleared s p ∙ ap₂ (λ a b. a && not b) (sym (ap (xor (holds old s p)) (and-false (holds old v p))
@@ -251,11 +253,11 @@ removed_alone old new v members cleared alone s p =
     ∙ ap (λ b. xor (holds old s p) (holds old v p && b)) (or-false (eqb s v) ∙ sym (alone s))
 
 -- the sets and the order after the last vertex went
-pub record Taken (new : List (List ℕ)) (rest : List ℕ) (before : List Correction) (e : Correction) : Type 0 where
+pub record Taken (new : List VertexSet) (rest : List ℕ) (before : List Correction) (e : Correction) : Type 0 where
   pub ordered : IsOrdered rest new
   pub sets : SameSets (table_from new rest) (last_removed_table e before)
 
-taken : (old new : List (List ℕ)) (order rest : List ℕ) (v : ℕ) (before : List Correction) (e : Correction) →
+taken : (old new : List VertexSet) (order rest : List ℕ) (v : ℕ) (before : List Correction) (e : Correction) →
     order ≡ rest ++ v ∷ [] → IsOrdered order old → table_from old order ≡ before ++ e ∷ [] →
     is_in e.members e.vertex ≡ true → (e.vertex ≡ v → IsRemoved e.vertex e.members old new) →
     Taken new rest before e
@@ -278,7 +280,7 @@ taken old new order rest v before e is ordered table own removed =
     gone_now : IsRemoved e.vertex e.members old new
     gone_now = removed (at.vertex ∙ sym parts.1)
 
-pub taken_alone : (old new : List (List ℕ)) (order rest : List ℕ) (v : ℕ) (before : List Correction)
+pub taken_alone : (old new : List VertexSet) (order rest : List ℕ) (v : ℕ) (before : List Correction)
     (e : Correction) → order ≡ rest ++ v ∷ [] → IsOrdered order old →
     table_from old order ≡ before ++ e ∷ [] →
     IsCleared v old new → ((y : ℕ) → is_in e.members y ≡ eqb y e.vertex) → Taken new rest before e
@@ -286,7 +288,7 @@ taken_alone old new order rest v before e is ordered table cleared alone =
     taken old new order rest v before e is ordered table (alone e.vertex ∙ eqb-self e.vertex)
     (λ same. removed_alone old new e.vertex e.members (subst (λ u. IsCleared u old new) (sym same) cleared) alone)
 
-pub taken_linked : (old mid new : List (List ℕ)) (order rest : List ℕ) (x v : ℕ) (before : List Correction)
+pub taken_linked : (old mid new : List VertexSet) (order rest : List ℕ) (x v : ℕ) (before : List Correction)
     (e : Correction) → order ≡ rest ++ v ∷ [] → IsOrdered order old →
     table_from old order ≡ before ++ e ∷ [] →
     IsToggled x v old mid → IsCleared v mid new → ((y : ℕ) → is_in e.members y ≡ (eqb y e.vertex || eqb y x)) →

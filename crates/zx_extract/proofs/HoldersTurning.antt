@@ -10,15 +10,16 @@ use Rattle.zx_calculus.proofs.Ids.{by_test, by_equal}
 use Rattle.zx_calculus.proofs.Positions.{member-grown}
 use Rattle.gflow_laws.specs.Flow.{Correction, order_of, set_of, is_in, SameSets}
 use Rattle.gflow_laws.proofs.Tables.{set_of-outside}
+use Rattle.open_graph.specs.VertexSets.{VertexSet}
 use Rattle.zx_extract.specs.Internal.Holders.{holds, table_from, AreToggled}
 use Rattle.zx_extract.proofs.HoldersTables.{cut, member-holders_of, order_of-table_from}
 
 -- the sets of these vertices are turned over
-abbrev pub IsTurned : List Correction → List ℕ → List (List ℕ) → Type 0
+abbrev pub IsTurned : List Correction → List ℕ → List VertexSet → Type 0
 IsTurned table vs lists = (s v : ℕ) → holds lists s v ≡ (member v vs && member s (set_of table v))
 
 -- the set of the next vertex, which had none yet
-pub next_turned : (table : List Correction) (order : List ℕ) (i v : ℕ) (set : List ℕ) (now new : List (List ℕ)) →
+pub next_turned : (table : List Correction) (order : List ℕ) (i v : ℕ) (set : List ℕ) (now new : List VertexSet) →
     Distinct order → i < length order → v ≡ get_or order i v → set ≡ set_of table v →
     IsTurned table (take i order) now → AreToggled set v now new → IsTurned table (take (i + 1) order) new
 next_turned table order i v set now new once lt read is turned more s u =
@@ -39,7 +40,7 @@ next_turned table order i v set now new once lt read is turned more s u =
     spread a e m = simp parities
 
 -- the table that was turned over
-pub SameSets-turned : (table : List Correction) (lists : List (List ℕ)) → IsTurned table (order_of table) lists →
+pub SameSets-turned : (table : List Correction) (lists : List VertexSet) → IsTurned table (order_of table) lists →
     SameSets (table_from lists (order_of table)) table
 SameSets-turned table lists turned =
     record {
@@ -59,14 +60,14 @@ SameSets-turned table lists turned =
         (λ f n. let later : member v xs ≡ true = rw f at there in rw f (at xs v w later))
 
 -- whether a vertex stands in the set of the last one
-pub last_told : (lists : List (List ℕ)) (order : List ℕ) (s v : ℕ) (before : List Correction) (e : Correction) →
+pub last_told : (lists : List VertexSet) (order : List ℕ) (s v : ℕ) (before : List Correction) (e : Correction) →
     Some v ≡ slice_get order (length order - 1) → table_from lists order ≡ before ++ e ∷ [] →
     holds lists s v ≡ is_in e.members s
 last_told lists order s v before e is table =
     let at = cut lists order before e table in
     ap (holds lists s) (sym (get_or_from_slice_get order (length order - 1) v 0 (sym is)) ∙ sym at.vertex) ∙ sym (at.members s)
 
-pub last_absent : (lists : List (List ℕ)) (order : List ℕ) (before : List Correction) (e : Correction) →
+pub last_absent : (lists : List VertexSet) (order : List ℕ) (before : List Correction) (e : Correction) →
     None ≡ slice_get order (length order - 1) → table_from lists order ≡ before ++ e ∷ [] → ⊥
 last_absent lists order before e is table =
     let some = slice_get-get_or order (length order - 1) 0 (let lt = (cut lists order before e table).some in omega (arith, lt)) in cc

@@ -104,8 +104,8 @@ impl Frontier {
 
 // A set without the vertices of ends.
 fn without_ends(set: VertexSet, ends: &[End]) -> Result<VertexSet, AllocError>
-    ensures { IfOk result (λ left. (w : ℕ) → member w left ≡
-        (member w set && not (member w (end_vertices ends.now)))) }
+    ensures { IfOk result (λ left. (w : ℕ) → member w left.ids ≡
+        (member w set.ids && not (member w (end_vertices ends.now)))) }
 {
     let mut left = set;
     for end in ends {

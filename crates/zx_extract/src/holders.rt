@@ -173,7 +173,7 @@ fn toggle_members(
     members: &VertexSet,
     v: VertexId,
 ) -> Result<(), AllocError>
-    ensures { OnOk result (AreToggled members.now v held.old.items held.new.items) }
+    ensures { OnOk result (AreToggled members.now.ids v held.old.items held.new.items) }
 {
     for s in members.iter() {
         toggle_member(held, alloc, s, v)?;

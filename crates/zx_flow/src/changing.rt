@@ -27,7 +27,7 @@ impl Flow {
         requires { member v (order_of self.old.flow) ≡ true }
         ensures { OnOk result ((s : Seen) → changes ≡ odd_in (s.plane u) →
             is_odd ≡ odd s (is_in (set_of self.old.flow v)) u →
-            AreChanged (complement_change s u own.now) (v ∷ []) self.old.flow self.new.flow) }
+            AreChanged (complement_change s u own.now.ids) (v ∷ []) self.old.flow self.new.flow) }
     {
         if v == u {
             return if changes {
@@ -66,7 +66,7 @@ impl Flow {
     fn clear(&mut self, u: VertexId, v: VertexId, own: &VertexSet) -> Result<(), AllocError>
         requires { member v (order_of self.old.flow) ≡ true }
         ensures { OnOk result
-            (AreChanged (removal_change u own.now) (v ∷ []) self.old.flow self.new.flow) }
+            (AreChanged (removal_change u own.now.ids) (v ∷ []) self.old.flow self.new.flow) }
     {
         if self.has(v, u) {
             self.toggle(v, own)

@@ -52,7 +52,7 @@ impl Corrections {
 
     pub(crate) fn set(&self, v: VertexId) -> &VertexSet
         requires { member v (order_of self.now) ≡ true }
-        ensures { result.now ≡ set_of self.now v }
+        ensures { result.now.ids ≡ set_of self.now v }
     {
         &self.sets[v.get()]
     }
@@ -60,14 +60,15 @@ impl Corrections {
     // Another set for a vertex of the order.
     pub(crate) fn replace(&mut self, v: VertexId, set: VertexSet)
         requires { member v (order_of self.old) ≡ true }
-        ensures { self.new ≡ with_sets (λ u members. if u == v then set else members) self.old }
+        ensures { self.new ≡ with_sets (λ u members. if u == v then set.ids else members) self.old }
     {
         self.sets[v.get()] = set;
     }
 
     pub(crate) fn add_last(&mut self, v: VertexId, set: VertexSet) -> Result<(), AllocError>
         requires { member v (order_of self.old) ≡ false }
-        ensures ok { OnOk result (self.new ≡ self.old ++ record { vertex = v; members = set } ∷ []) }
+        ensures ok { OnOk result (self.new ≡
+            self.old ++ record { vertex = v; members = set.ids } ∷ []) }
         ensures err { OnErr result (self.new ≡ self.old) }
     {
         make_room(&mut self.sets, self.alloc, v)?;
@@ -78,7 +79,7 @@ impl Corrections {
 
     pub(crate) fn add_first(&mut self, v: VertexId, set: VertexSet) -> Result<(), AllocError>
         requires { member v (order_of self.old) ≡ false }
-        ensures ok { OnOk result (self.new ≡ record { vertex = v; members = set } ∷ self.old) }
+        ensures ok { OnOk result (self.new ≡ record { vertex = v; members = set.ids } ∷ self.old) }
         ensures err { OnErr result (self.new ≡ self.old) }
     {
         make_room(&mut self.sets, self.alloc, v)?;

@@ -79,7 +79,7 @@ impl Flow {
     /// The correction set of a vertex, as a set.
     pub fn correction_set(&self, v: VertexId) -> &VertexSet
         requires { member v (order_of self.now.flow) ≡ true }
-        ensures { result.now ≡ set_of self.now.flow v }
+        ensures { result.now.ids ≡ set_of self.now.flow v }
     {
         self.corrections.set(v)
     }
@@ -87,7 +87,7 @@ impl Flow {
     /// A copy of the correction set of a vertex.
     pub fn copy_of_correction(&self, v: VertexId) -> Result<VertexSet, AllocError>
         requires { member v (order_of self.now.flow) ≡ true }
-        ensures { IfOk result (λ set. set ≡ set_of self.now.flow v) }
+        ensures { IfOk result (λ set. set.ids ≡ set_of self.now.flow v) }
     {
         self.corrections.set(v).clone()
     }
@@ -112,7 +112,7 @@ impl Flow {
     /// Toggles these in the set of a vertex. Where memory runs out the flow stays as it was.
     pub fn toggle(&mut self, v: VertexId, members: &VertexSet) -> Result<(), AllocError>
         requires { member v (order_of self.old.flow) ≡ true }
-        ensures ok { OnOk result (SameSets self.new.flow (set_toggled v members.now self.old.flow)) }
+        ensures ok { OnOk result (SameSets self.new.flow (set_toggled v members.now.ids self.old.flow)) }
         ensures err { OnErr result (self.new.flow ≡ self.old.flow) }
     {
         let mut set = self.corrections.set(v).clone()?;

@@ -55,7 +55,7 @@ impl FlowTable {
     pub fn set(&mut self, v: VertexId, members: VertexSet)
         requires { member v (order_of self.old.table) ≡ true }
         ensures { self.new.table ≡
-            with_sets (λ u set. if u == v then members else set) self.old.table }
+            with_sets (λ u set. if u == v then members.ids else set) self.old.table }
     {
         self.corrections.replace(v, members);
     }
@@ -75,5 +75,13 @@ impl FlowTable {
         ensures valid { in_order ltb (set_of self.now.table v) ≡ true }
     {
         self.corrections.set(v).iter()
+    }
+
+    /// The set of a vertex, as a set.
+    pub fn correction_set(&self, v: VertexId) -> &VertexSet
+        requires { member v (order_of self.now.table) ≡ true }
+        ensures { result.now.ids ≡ set_of self.now.table v }
+    {
+        self.corrections.set(v)
     }
 }

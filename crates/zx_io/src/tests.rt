@@ -1,10 +1,10 @@
 //! What no clause says: that calls succeed with ample memory, and what adapters over real readers and
 //! writers do.
-ghost use Rattle.std.specs.Prelude.{◌≤◌};
+ghost use Rattle.std.specs.Prelude.{◌≡◌, ◌≤◌};
 
 use crate::{
-    Failed, MemSink, MemSource, NeverFailSink, NeverFailSource, ReadAdapter, ReadError, Sink,
-    Source, WriteAdapter, WriteFault, read_all, write_all,
+    Failed, MemSink, MemSource, NeverFailSink, NeverFailSource, Pieces, ReadAdapter, ReadError,
+    Sink, Source, WriteAdapter, WriteFault, read_all, read_pieces, write_all,
 };
 use std::alloc::{AllocError, Global};
 use std::io;
@@ -59,6 +59,57 @@ fn a_failed_read_is_no_end(rt: HostRuntime) -> Result<(), Fail> {
     assert_eq!(rt; answer.err(), Some(ReadError::ReadFault));
     let rest = read_all(alloc, &mut source, 1000)?;
     assert_eq!(rt; rest.as_slice(), &PROGRAM[20..]);
+    Ok(())
+}
+
+// All bytes that came.
+#[derive(Drop)]
+struct Collected {
+    bytes: Vec<u8>,
+}
+
+impl Pieces for Collected {
+    ghost stands_for = { λ c bytes. c.bytes.items ≡ bytes };
+
+    fn take(&mut self, piece: &[u8]) -> Result<(), AllocError> {
+        self.bytes.extend_from_slice(piece)?;
+        Ok(())
+    }
+}
+
+#[test]
+fn all_bytes_are_handed_on_whatever_the_pieces(rt: HostRuntime) -> Result<(), Fail> {
+    let alloc = rt.alloc();
+    for piece in [1, 7, 1000] {
+        let mut source = program_source(alloc, piece.max(1), &[])?;
+        let mut to = Collected {
+            bytes: Vec::new(alloc),
+        };
+        assert_eq!(rt; read_pieces(&mut source, PROGRAM.len(), &mut to), Ok(()));
+        assert_eq!(rt; to.bytes.as_slice(), PROGRAM, "in pieces of {piece}");
+    }
+    Ok(())
+}
+
+#[test]
+fn bytes_before_a_fault_are_handed_on(rt: HostRuntime) -> Result<(), Fail> {
+    let alloc = rt.alloc();
+    let mut to = Collected {
+        bytes: Vec::new(alloc),
+    };
+    let mut source = program_source(alloc, 20, &[3])?;
+    assert_eq!(rt;
+        read_pieces(&mut source, 1000, &mut to),
+        Err(ReadError::ReadFault)
+    );
+    assert_eq!(rt; to.bytes.as_slice(), &PROGRAM[..40]);
+    let mut source = program_source(alloc, 7, &[])?;
+    assert_eq!(rt;
+        read_pieces(&mut source, 10, &mut to),
+        Err(ReadError::TooLong)
+    );
+    assert_eq!(rt; to.bytes.len(), 47);
+    assert!(rt; to.bytes.ends_with(&PROGRAM[..7]));
     Ok(())
 }
 

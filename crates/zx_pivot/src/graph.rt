@@ -75,8 +75,8 @@ fn rewire(g: &mut OpenGraph, u: VertexId, v: VertexId) -> Result<(), AllocError>
 fn with_neighbours(g: &OpenGraph, u: VertexId) -> Result<VertexSet, AllocError>
     requires { Live g.now.graph u }
     ensures members { IfOk result (λ set. (p : ℕ) →
-        member p set ≡ xor (joined g.now.graph.edges u p) (p == u)) }
-    ensures live { IfOk result (λ set. (p : ℕ) → member p set ≡ true → Live g.now.graph p) }
+        member p set.ids ≡ xor (joined g.now.graph.edges u p) (p == u)) }
+    ensures live { IfOk result (λ set. (p : ℕ) → member p set.ids ≡ true → Live g.now.graph p) }
     ensures valid { WellFormed g.now.graph }
 {
     let mut set = g.neighbour_set(u).clone()?;

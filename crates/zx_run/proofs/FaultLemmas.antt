@@ -1,6 +1,6 @@
 -- A text is accepted or has a first fault, never both, and one first fault at most.
 use Rattle.std.proofs.lemmas.Bool.{cases_lt}
-use Rattle.std.proofs.Common.{◌≡◌, ◌≤◌, ◌⊎◌, ℕ, List, [], length, inl, inr, sym, ap, ap₂, ◌∙◌, subst, arith, Option, None, Some, refl, Result, Err}
+use Rattle.std.proofs.Common.{◌≡◌, ◌≤◌, ◌⊎◌, ℕ, List, [], length, inl, inr, sym, ap, ap₂, ◌∙◌, subst, arith, Option, None, Some, refl}
 use Rattle.zx_gates.specs.declared.elementary.Elementary.{Elementary}
 use Rattle.zx_gates.specs.declared.elementary.ElementaryGate.{ElementaryGate}
 use Rattle.zx_gates.specs.declared.elementary.Measure.{Measure}
@@ -163,7 +163,3 @@ accepted_or_fault text = elim (cases_lt most_bytes (length text)) [
   | inl long ↦ inr (TooLong, inl (long, refl))
   | inr short ↦ short_decided text short
 ]
-
--- equal errors in answers are equal
-pub Err_same : {T E : Type 0} {a b : E} → ◌≡◌ {A = Result T E} (Err a) (Err b) → a ≡ b
-Err_same h = cc

@@ -1,5 +1,5 @@
--- What the reader's fault says of the text.
-use Rattle.std.proofs.Common.{◌≡◌, ◌≤◌, ℕ, List, length, inl, inr, None, refl, sym}
+-- What the answer is where no circuit was read.
+use Rattle.std.proofs.Common.{◌≡◌, ◌≤◌, ℕ, List, [], length, inl, inr, None, Some, refl, sym, subst}
 use Rattle.zx_gates.specs.declared.elementary.Elementary.{Elementary}
 use Rattle.qasm_lexer.specs.Tokens.{IsBadByte}
 use Rattle.qasm_reader.specs.Syntax.{Placed}
@@ -10,31 +10,46 @@ use Rattle.qasm_inline.specs.declared.error.TextError.{TextError}
 use Rattle.qasm_inline.specs.declared.error.TextError.TheVariants as errors
 use Rattle.zx_run.specs.declared.status.Fault.{Fault}
 use Rattle.zx_run.specs.declared.status.Fault.TheVariants.{BadByte, TooDeep, Syntax}
-use Rattle.zx_run.specs.declared.no_output.NoOutput.TheVariants as none
-use Rattle.zx_run.specs.Internal.Parsing.{no_output_by}
-use Rattle.zx_run.specs.FirstFault.{most_bytes, IsAccepted, IsFirstFault, fault_of, HasDeepParenthesis, HasSyntaxFault, HasWrongStatement}
+use Rattle.zx_run.specs.declared.status.Status.{Status}
+use Rattle.zx_run.specs.declared.status.Status.TheVariants.{Refused}
+use Rattle.zx_run.specs.Internal.Answers.{ToldSource, IsFailureOfOpt}
+use Rattle.zx_run.specs.ErrorAnswers.{answer_to_text_error}
+use Rattle.zx_run.specs.FirstFault.{most_bytes, fault_of, IsAccepted}
+use Rattle.zx_run.specs.FirstFault.{IsShortFault, HasDeepParenthesis, HasSyntaxFault, HasWrongStatement}
 
-module _ (text : List ℕ) (short : length text ≤ most_bytes) where
-  pub read_accepted : (circuit : Elementary)
-      → (program : List Placed) × IsProgramText text program × (first_fault most_calls program ≡ None) × Means program circuit.qubits circuit.gates circuit.bits circuit.measured
-      → IsAccepted text circuit
-  read_accepted circuit (program, is, faultless, means) = record { short = short; program = program; is = is; faultless = faultless; means = means }
+pub read_accepted : (text : List ℕ) → length text ≤ most_bytes → (circuit : Elementary)
+    → (program : List Placed) × IsProgramText text program × (first_fault most_calls program ≡ None)
+    × Means program circuit.qubits circuit.gates circuit.bits circuit.measured
+    → IsAccepted text circuit
+read_accepted text short circuit (program, is, faultless, means) =
+    record { short = short; program = program; is = is; faultless = faultless; means = means }
 
-  pub read_first : (error : TextError) → ((at : ℕ) → error ≡ errors.BadByte at → IsBadByte text at)
-      → ((at : ℕ) → error ≡ errors.TooDeep at → HasDeepParenthesis text at)
-      → ((at : ℕ) → error ≡ errors.Syntax at → HasSyntaxFault text at)
-      → ((cause : Cause) (at : ℕ) → error ≡ errors.Wrong cause at → HasWrongStatement text cause at)
-      → (fault : Fault) → no_output_by error ≡ none.Fault fault → IsFirstFault text fault
-  read_first (errors.BadByte at) bad deep syntax wrong fault is =
-      let same : BadByte at ≡ fault = (let h : none.Fault (BadByte at) ≡ none.Fault fault = is in cc) in
-      inr (short, inl (at, bad at refl, sym same))
-  read_first (errors.TooDeep at) bad deep syntax wrong fault is =
-      let same : TooDeep at ≡ fault = (let h : none.Fault (TooDeep at) ≡ none.Fault fault = is in cc) in
-      inr (short, inr (inl (at, deep at refl, sym same)))
-  read_first (errors.Syntax at) bad deep syntax wrong fault is =
-      let same : Syntax at ≡ fault = (let h : none.Fault (Syntax at) ≡ none.Fault fault = is in cc) in
-      inr (short, inr (inr (inl (at, syntax at refl, sym same))))
-  read_first (errors.Wrong cause at) bad deep syntax wrong fault is =
-      let same : fault_of cause at ≡ fault = (let h : none.Fault (fault_of cause at) ≡ none.Fault fault = is in cc) in
-      inr (short, inr (inr (inr (cause, at, wrong cause at refl, sym same))))
-  read_first errors.NoMemory bad deep syntax wrong fault is = absurd (let h : none.NoMemory ≡ none.Fault fault = is in cc)
+-- all bytes were read
+module _ (before after : ToldSource) (well : after.faults ≡ before.faults)
+    (all : (text : List ℕ) → before.left ≡ Some text → (length text ≤ most_bytes) × (after.left ≡ Some [])) where
+  refused : (fault : Fault) → ((text : List ℕ) → before.left ≡ Some text → IsShortFault text fault)
+      → IsFailureOfOpt before after (Refused fault)
+  refused fault first =
+      λ best report. (well, λ text told. (inr ((all text told).0, first text told), λ other. (all text told).1))
+
+  module _ (error : TextError)
+      (bad : (text : List ℕ) → before.left ≡ Some text
+      → (at : ℕ) → error ≡ errors.BadByte at → IsBadByte text at)
+      (deep : (text : List ℕ) → before.left ≡ Some text
+      → (at : ℕ) → error ≡ errors.TooDeep at → HasDeepParenthesis text at)
+      (syntax : (text : List ℕ) → before.left ≡ Some text
+      → (at : ℕ) → error ≡ errors.Syntax at → HasSyntaxFault text at)
+      (wrong : (text : List ℕ) → before.left ≡ Some text
+      → (cause : Cause) (at : ℕ) → error ≡ errors.Wrong cause at → HasWrongStatement text cause at) where
+    answered : (e : TextError) → error ≡ e → IsFailureOfOpt before after (answer_to_text_error e)
+    answered (errors.BadByte at) is = refused (BadByte at) (λ text told. inl (at, bad text told at is, refl))
+    answered (errors.TooDeep at) is = refused (TooDeep at) (λ text told. inr (inl (at, deep text told at is, refl)))
+    answered (errors.Syntax at) is =
+        refused (Syntax at) (λ text told. inr (inr (inl (at, syntax text told at is, refl))))
+    answered (errors.Wrong cause at) is =
+        refused (fault_of cause at) (λ text told. inr (inr (inr (cause, at, wrong text told cause at is, refl))))
+    answered errors.NoMemory is = λ best report. well
+
+    -- the reader's error tells why there is no circuit
+    pub text_failed : (status : Status) → status ≡ answer_to_text_error error → IsFailureOfOpt before after status
+    text_failed status is = subst (IsFailureOfOpt before after) (sym is) (answered error refl)

@@ -1,5 +1,4 @@
 -- What private contracts alone cite.
 pub mod Answers
 pub mod Candidates
-pub mod Parsing
 pub mod Places

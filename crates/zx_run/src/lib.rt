@@ -14,7 +14,6 @@
 mod error_line;
 mod generation;
 mod laws;
-mod no_output;
 mod optimiser;
 mod output;
 mod program;

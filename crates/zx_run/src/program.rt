@@ -13,15 +13,12 @@ ghost use Rattle.zx_run.specs.Internal.Answers.{IsAnswer, IsFailure, IsMade, str
 
 use crate::error_line::report;
 use crate::generation::generation_report;
-use crate::no_output::NoOutput;
 use crate::output::optimised_text;
-use crate::status::{Fault, Status};
+use crate::reader::read_circuit;
+use crate::status::Status;
 use std::alloc::Global;
-use zx_io::{ReadError, Sink, Source, WriteFault, read_all, write_all};
+use zx_io::{Sink, Source, WriteFault, write_all};
 use zx_words::{Command, command_in};
-
-// The most bytes that are read.
-const MOST_BYTES: usize = 16_777_216;
 
 /// Runs the command that the words give, those after the program's name: `opt` reads a text from
 /// `source` to its end, and writes the text of the optimised circuit to `out`, with `--report` its
@@ -227,15 +224,7 @@ fn output_of_opt<S: Source>(
     ensures failure { IfErr result (IsFailure (Some (Optimise best report))
         (told_source S.left S.faults source.old) (told_source S.left S.faults source.new)) }
 {
-    let text = match read_all(alloc, source, MOST_BYTES) {
-        Ok(text) => text,
-        Err(ReadError::ReadFault) => return Err(Status::ReadFault),
-        Err(ReadError::TooLong) => return Err(Status::Refused(Fault::TooLong)),
-        Err(ReadError::NoMemory) => return Err(Status::NoMemory),
-    };
-    match optimised_text(alloc, &text, best, report) {
-        Ok(output) => Ok(output),
-        Err(NoOutput::Fault(fault)) => Err(Status::Refused(fault)),
-        Err(NoOutput::NoMemory) => Err(Status::NoMemory),
-    }
+    let read = read_circuit(alloc, source)?;
+    let output = optimised_text(alloc, &read, best, report)?;
+    Ok(output)
 }

@@ -1,42 +1,68 @@
-//! Reading: from a text to the circuit that it means.
+//! Reading: from a source to the circuit that its text means.
 
-ghost use Rattle.std.specs.Prelude.{◌≡◌, ◌≤◌, length, Err, IfOk};
+ghost use Rattle.std.specs.Prelude.{◌≡◌, List, ℕ, [], Some, IfOk, IfErr, OnOk};
 ghost use Rattle.zx_gates.specs.Elementary.{IsElementary};
-ghost use Rattle.zx_run.specs.declared.status.Fault.{Fault};
-ghost use Rattle.zx_run.specs.FirstFault.{IsAccepted, IsFirstFault, fault_of, most_bytes};
-ghost use Rattle.zx_run.specs.Internal.Parsing.{no_output_by};
+ghost use Rattle.zx_run.specs.FirstFault.{IsAccepted, fault_of};
+ghost use Rattle.zx_run.specs.ErrorAnswers.{answer_to_read_error, answer_to_text_error};
+ghost use Rattle.zx_run.specs.Internal.Answers.{IsFailureOfOpt, told_source};
 
-use crate::no_output::NoOutput;
-use crate::status::Fault;
-use qasm_inline::{TextError, read};
+use crate::status::{Fault, Status};
+use bumpalo::Bump;
+use qasm_inline::{PieceReader, TextError};
 use qasm_scope::Cause;
 use std::alloc::Global;
 use zx_gates::Elementary;
+use zx_io::{ReadError, Source, read_pieces};
 
-/// The circuit that a text means, or the text's first fault.
-pub fn read_circuit(alloc: Global, text: &[u8]) -> Result<Elementary, NoOutput>
-    requires { length text.now ≤ most_bytes }
-    ensures accepted { IfOk result (λ circuit. IsAccepted text.now circuit) }
+// The most bytes that are read.
+const MOST_BYTES: usize = 16_777_216;
+
+/// The circuit that the text of a source means. The text is read piece by piece, and isn't kept.
+///
+/// # Errors
+///
+/// `ReadFault` where a read fails, whatever the bytes before it; `Refused` with the text's first
+/// fault; `NoMemory` where memory runs out.
+pub fn read_circuit<S: Source>(alloc: Global, source: &mut S) -> Result<Elementary, Status>
+    ensures accepted { (text : List ℕ) → S.left source.old ≡ Some text
+        → IfOk result (λ circuit. IsAccepted text circuit) }
     ensures valid { IfOk result (λ circuit. IsElementary circuit) }
-    ensures fault { (fault : Fault) → result ≡ Err (NoOutput.Fault fault)
-        → IsFirstFault text.now fault }
+    ensures reads_well { OnOk result (S.faults source.new ≡ S.faults source.old) }
+    ensures end { (text : List ℕ) → S.left source.old ≡ Some text
+        → OnOk result (S.left source.new ≡ Some []) }
+    ensures failure { IfErr result (IsFailureOfOpt (told_source S.left S.faults source.old)
+        (told_source S.left S.faults source.new)) }
 {
-    match read(alloc, text) {
-        Ok(circuit) => Ok(circuit),
-        Err(error) => Err(no_output_by(error)),
+    let arena = Bump::new(alloc);
+    let mut reader = PieceReader::new(alloc, &arena);
+    read_pieces(source, MOST_BYTES, &mut reader)?;
+    let circuit = reader.finish()?;
+    Ok(circuit)
+}
+
+impl From<ReadError> for Status {
+    ghost from_gives = { λ error status. status ≡ answer_to_read_error error };
+
+    fn from(error: ReadError) -> Status {
+        match error {
+            ReadError::ReadFault => Status::ReadFault,
+            ReadError::TooLong => Status::Refused(Fault::TooLong),
+            ReadError::NoMemory => Status::NoMemory,
+        }
     }
 }
 
-// Why a text has no circuit.
-fn no_output_by(error: TextError) -> NoOutput
-    ensures { result ≡ no_output_by error }
-{
-    match error {
-        TextError::BadByte { at } => NoOutput::Fault(Fault::BadByte { at }),
-        TextError::TooDeep { at } => NoOutput::Fault(Fault::TooDeep { at }),
-        TextError::Syntax { at } => NoOutput::Fault(Fault::Syntax { at }),
-        TextError::Wrong { cause, at } => NoOutput::Fault(fault_of(cause, at)),
-        TextError::NoMemory => NoOutput::NoMemory,
+impl From<TextError> for Status {
+    ghost from_gives = { λ error status. status ≡ answer_to_text_error error };
+
+    fn from(error: TextError) -> Status {
+        match error {
+            TextError::BadByte { at } => Status::Refused(Fault::BadByte { at }),
+            TextError::TooDeep { at } => Status::Refused(Fault::TooDeep { at }),
+            TextError::Syntax { at } => Status::Refused(Fault::Syntax { at }),
+            TextError::Wrong { cause, at } => Status::Refused(fault_of(cause, at)),
+            TextError::NoMemory => Status::NoMemory,
+        }
     }
 }
 

@@ -1,4 +1,6 @@
 //! What no clause says: that runs succeed with ample memory, and the bytes of worked examples.
+ghost use Rattle.std.specs.Prelude.{◌≤◌};
+
 use crate::{Fault, Status, run};
 use std::alloc::Global;
 use std::test::Fail;
@@ -11,8 +13,21 @@ fn run_with(
     text: &[u8],
     fails: [&[u64]; 3],
 ) -> Result<(Status, MemSink, MemSink), Fail> {
+    run_in_pieces(alloc, words, text, 20, fails)
+}
+
+// The same, where so many bytes are read a call.
+fn run_in_pieces(
+    alloc: Global,
+    words: &[&str],
+    text: &[u8],
+    piece: usize,
+    fails: [&[u64]; 3],
+) -> Result<(Status, MemSink, MemSink), Fail>
+    requires { 1 ≤ piece }
+{
     let [read_fails, write_fails, err_fails] = fails;
-    let mut source = MemSource::new(text.to_vec(alloc)?, 20, read_fails.to_vec(alloc)?);
+    let mut source = MemSource::new(text.to_vec(alloc)?, piece, read_fails.to_vec(alloc)?);
     let mut out = MemSink::new(alloc, 1000, 20, write_fails.to_vec(alloc)?)?;
     let mut err = MemSink::new(alloc, 1000, 20, err_fails.to_vec(alloc)?)?;
     let status = run(alloc, words, &mut source, &mut out, &mut err);
@@ -96,5 +111,36 @@ fn failing_ends_are_told(rt: HostRuntime) -> Result<(), Fail> {
     let (status, _, err) = run_with(rt.alloc(), &["opt"], b"x", [&[], &[], &[1]])?;
     assert_eq!(rt; status, Status::Refused(Fault::Syntax { at: 0 }));
     assert_eq!(rt; err.bytes(), b"".as_slice());
+    Ok(())
+}
+
+#[test]
+fn pieces_change_nothing(rt: HostRuntime) -> Result<(), Fail> {
+    let alloc = rt.alloc();
+    let words = ["opt", "--report"];
+    let none: [&[u64]; 3] = [&[], &[], &[]];
+    let text = b"OPENQASM 2.0;\ninclude \"qelib1.inc\";\nqreg q[3];\nccx q[0],q[1],q[2];\n";
+    let refused = b"OPENQASM 2.0;\ninclude \"qelib1.inc\";\nqreg q[1];\n@";
+    let (status, whole, _) = run_in_pieces(alloc, &words, text, text.len().max(1), none)?;
+    assert_eq!(rt; status, Status::Done);
+    for piece in [1usize, 7] {
+        let (status, out, _) = run_in_pieces(alloc, &words, text, piece.max(1), none)?;
+        assert_eq!(rt; status, Status::Done);
+        assert_eq!(rt; out.bytes(), whole.bytes());
+        let (_, _, err) = run_in_pieces(alloc, &words, refused, piece.max(1), none)?;
+        assert_eq!(rt; err.bytes(), b"zxopt: fault 2 BadByte at 47\n".as_slice());
+    }
+    Ok(())
+}
+
+#[test]
+fn a_read_fault_comes_before_a_refusal(rt: HostRuntime) -> Result<(), Fail> {
+    // The first read gives the whole text, whose last byte is a fault; the second one fails.
+    let text = b"OPENQASM 2.0;\ninclude \"qelib1.inc\";\nqreg q[1];\n@";
+    let fails: [&[u64]; 3] = [&[2], &[], &[]];
+    let (status, out, err) = run_in_pieces(rt.alloc(), &["opt"], text, 48, fails)?;
+    assert_eq!(rt; status, Status::ReadFault);
+    assert_eq!(rt; out.bytes(), b"".as_slice());
+    assert_eq!(rt; err.bytes(), b"zxopt: read fault\n".as_slice());
     Ok(())
 }

@@ -9,7 +9,7 @@ use Rattle.flow_find.specs.declared.row.Row.{Row}
 
 -- v is the only column of a row, and XY
 pub record IsAloneIn (s : Seen) (row : Row) (v : ℕ) : Type 0 where
-  pub only : (w : ℕ) → member w row.columns ≡ (w == v)
+  pub only : (w : ℕ) → member w row.columns.ids ≡ (w == v)
   pub plane : s.plane v ≡ XY
 
 -- so it is in one of the rows

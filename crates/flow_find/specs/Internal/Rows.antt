@@ -16,39 +16,39 @@ AreEach change (o ∷ os) [] = ⊥
 pub record IsAdded (picked : Bool) (row old new : Row) : Type 0 where
   pub pivot : new.pivot ≡ old.pivot
   pub columns : (w : ℕ) →
-      member w new.columns ≡ xor (member w old.columns) (picked && member w row.columns)
+      member w new.columns.ids ≡ xor (member w old.columns.ids) (picked && member w row.columns.ids)
   pub members : (w : ℕ) →
-      member w new.members ≡ xor (member w old.members) (picked && member w row.members)
+      member w new.members.ids ≡ xor (member w old.members.ids) (picked && member w row.members.ids)
 
 -- the rows whose pivots are picked are added
 pub record IsSum (picked : ℕ → Bool) (rows : List Row) (old new : Row) : Type 0 where
-  pub columns : (w : ℕ) → member w new.columns ≡ xor (member w old.columns) (combined picked rows w)
-  pub members : (w : ℕ) → member w new.members ≡ xor (member w old.members) (gathered picked rows w)
+  pub columns : (w : ℕ) → member w new.columns.ids ≡ xor (member w old.columns.ids) (combined picked rows w)
+  pub members : (w : ℕ) → member w new.members.ids ≡ xor (member w old.members.ids) (gathered picked rows w)
 
 -- a row is added where a column or a member stands
 abbrev pub IsCleared : ℕ → Row → Row → Row → Type 0
-IsCleared p row old new = IsAdded (member p old.columns) row old new
+IsCleared p row old new = IsAdded (member p old.columns.ids) row old new
 
 abbrev pub IsRelieved : ℕ → Row → Row → Row → Type 0
-IsRelieved m row old new = IsAdded (member m old.members) row old new
+IsRelieved m row old new = IsAdded (member m old.members.ids) row old new
 
 -- a column goes
 pub record IsDropped (v : ℕ) (old new : Row) : Type 0 where
   pub pivot : new.pivot ≡ old.pivot
-  pub columns : (w : ℕ) → member w new.columns ≡ (not (w == v) && member w old.columns)
-  pub members : new.members ≡ old.members
+  pub columns : (w : ℕ) → member w new.columns.ids ≡ (not (w == v) && member w old.columns.ids)
+  pub members : new.members.ids ≡ old.members.ids
 
 -- a row is put among the others: one of its columns p becomes its pivot and is cleared in them
 pub record IsPivoted (row : Row) (old new : List Row) : Type 0 where
   pub pivot : ℕ
-  pub has_it : member pivot row.columns ≡ true
+  pub has_it : member pivot row.columns.ids ≡ true
   pub others : List Row
   pub cleared : AreEach (IsCleared pivot row) old others
   pub last : new ≡ others ++ record row { pivot = pivot } ∷ []
 
 -- a row without columns: it is added where a member stands, or nowhere
 pub record IsSpent (row : Row) (old new : List Row) : Type 0 where
-  pub empty : row.columns ≡ []
+  pub empty : row.columns.ids ≡ []
   pub test : Row → Bool
   pub added : AreEach (λ o n. IsAdded (test o) row o n) old new
 

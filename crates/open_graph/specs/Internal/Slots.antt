@@ -26,7 +26,7 @@ kind_in s = in_plane (plane_named s.plane) s.phase
 
 abbrev pub told_by : Option Slot → Told
 told_by None = nothing
-told_by (Some s) = record { live = true; kind = kind_in s; row = s.row; input = s.input; output = s.output }
+told_by (Some s) = record { live = true; kind = kind_in s; row = s.row.ids; input = s.input; output = s.output }
 
 abbrev pub told : List (Option Slot) → ℕ → Told
 told slots p = told_by (slice_index_or slots p None)
@@ -73,7 +73,7 @@ pub record IsSound (slots : List (Option Slot)) (inputs outputs : List End) : Ty
 -- what a slot tells of a vertex
 pub record Tells (g : Graph) (v : ℕ) (s : Slot) : Type 0 where
   pub kind : kind_in s ≡ kind_of g.vertices v
-  pub joined : (p : ℕ) → member p s.row ≡ graph.joined g.edges v p
+  pub joined : (p : ℕ) → member p s.row.ids ≡ graph.joined g.edges v p
   pub input : s.input ≡ place_of v g.inputs
   pub output : s.output ≡ place_of v g.outputs
   pub well_formed : WellFormed g

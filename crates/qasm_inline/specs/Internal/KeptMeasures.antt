@@ -20,8 +20,8 @@ use Rattle.qasm_inline.specs.Internal.Spans.{cut_place_at, register_by, span_by,
 
 -- the sets are those of the qubits and the bits of the list
 pub record Remembers (measured : Measured) : Type 0 where
-  pub qubits : (number : ℕ) → member number measured.qubits ≡ member number (qubits_of measured.list)
-  pub bits : (number : ℕ) → member number measured.bits ≡ member number (bits_of measured.list)
+  pub qubits : (number : ℕ) → member number measured.qubits.numbers ≡ member number (qubits_of measured.list)
+  pub bits : (number : ℕ) → member number measured.bits.numbers ≡ member number (bits_of measured.list)
 
 -- these were measured in between
 pub record Adds (before after : Measured) (more : List Measure) : Type 0 where

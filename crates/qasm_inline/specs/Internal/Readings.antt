@@ -3,7 +3,7 @@ use Rattle.std.specs.Prelude.{◌≡◌, ℕ, List, [], ◌++◌, drop, Option, 
 use Rattle.std.specs.Borrow.{Bor}
 use Rattle.zx_gates.specs.declared.elementary.Elementary.{Elementary}
 use Rattle.qasm_lexer.specs.declared.token.Token.{Token}
-use Rattle.qasm_lexer.specs.Tokens.{Lexeme, lexemes, IsCut, IsCutUpTo, IsBadByte}
+use Rattle.qasm_lexer.specs.Tokens.{Lexeme, lexemes, IsCut, IsBadByte}
 use Rattle.qasm_reader.specs.declared.parts.BodyPart.{BodyPart}
 use Rattle.qasm_reader.specs.Depth.{too_deep, IsDepth}
 use Rattle.qasm_reader.specs.Grammar.{IsProgram, IsSyntaxFault}
@@ -63,6 +63,15 @@ IsKeptAs (Some at) all reader = (lexemes reader.tokens.items ≡ []) × IsCertai
 abbrev pub IsKept : List Lexeme → Reader → Type 0
 IsKept all reader = IsKeptAs reader.fault all reader
 
+-- the reader keeps what all tokens come to, and how deep parentheses are nested behind them
+pub record Keeps (all : List Lexeme) (reader : Reader) : Type 0 where
+  pub deep : IsDepth reader.depth all
+  pub read : IsKept all reader
+
+-- the later reader has read these tokens too, whichever came before
+abbrev pub ReadsOn : Reader → List Lexeme → Reader → Type 0
+ReadsOn reader tokens later = (before : List Lexeme) → Keeps before reader → Keeps (before ++ tokens) later
+
 -- the same reading inside this gate's declaration
 abbrev pub inside : Reading → OpenGate → Reading
 inside reading gate = record reading { gate = Some gate }
@@ -85,13 +94,6 @@ IsTakenNext all None reading tokens = AreAllTaken all reading (lexemes tokens)
 abbrev pub IsEnd : List Lexeme → Circuit → Option ℕ → Type 0
 IsEnd all circuit (Some at) = IsSyntaxFault all at
 IsEnd all circuit None = (statements : List Placed) × IsProgram all statements × HasTaken circuit statements
-
--- the text is cut up to the place, and the reader keeps what its tokens come to
-pub record IsReadUpTo (text : List ℕ) (place : ℕ) (reader : Reader) : Type 0 where
-  pub all : List Lexeme
-  pub cut : IsCutUpTo 0 text (drop place text) all
-  pub deep : IsDepth reader.depth all
-  pub read : IsKept all reader
 
 -- the circuit of a program, or its first fault
 abbrev pub IsProgramAnswer : List Placed → Result Elementary TextError → Type 0

@@ -1,9 +1,10 @@
 -- The words of a row that are kept, with how many come before them.
 use Rattle.std.specs.Prelude.{◌≡◌, ◌<◌, ◌≤◌, ◌+◌, ◌-◌, ◌/◌, ◌%◌, ◌*◌, ◌^◌, ◌==◌, ℕ, Bool, false, if◌then◌else◌}
-use Rattle.std.specs.Prelude.{List, ltb, leb, length, get_or, max, filter}
+use Rattle.std.specs.Prelude.{List, ltb, leb, length, get_or, max, min, filter}
 use Rattle.std.specs.List.{range_with_len}
 use Rattle.std.specs.Int.RustNames.{bit_xor}
 use Rattle.zx_bits.specs.Rows.{BitRow}
+use Rattle.zx_bits.specs.Sets.{BitSet}
 use Rattle.zx_bits.specs.Internal.Words.{digit, told}
 use Rattle.zx_bits.specs.declared.window.Window.{Window}
 
@@ -51,3 +52,15 @@ row_of len w = record { bits = told len (is_set w); has_room = leb len (64 * w.w
 -- the places that are set, by rising number
 abbrev pub places_of : Window → List ℕ
 places_of w = filter (is_set w) (range_with_len 0 (64 * end_of w))
+
+-- no place of a word from this number on is set
+abbrev pub EndsBy : ℕ → Window → Type 0
+EndsBy stop w = (place : ℕ) → 64 * stop ≤ place → is_set w place ≡ false
+
+-- below which bound any place can be set without memory
+abbrev pub room_of : Window → ℕ
+room_of w = if leb (end_of w) w.words.capacity then min (64 * w.words.capacity) (2 ^ 64 - 64) else 0
+
+-- the set of these numbers
+abbrev pub set_of : Window → BitSet
+set_of w = record { numbers = places_of w; room = room_of w }

@@ -1,5 +1,5 @@
 -- What the answer of a run says of the two streams.
-use Rattle.std.specs.Prelude.{◌≡◌, ◌≢◌, ℕ, List, [], Option, None, Some}
+use Rattle.std.specs.Prelude.{◌≡◌, ◌≢◌, ℕ, Bool, List, [], Option, None, Some}
 use Rattle.zx_io.specs.Causes.{Rose}
 use Rattle.zx_words.specs.declared.words.Command.{Command}
 use Rattle.zx_words.specs.declared.words.Command.TheVariants.{Optimise}
@@ -68,6 +68,11 @@ IsFailure given before after ReadFault = Rose before.faults after.faults × Asks
 IsFailure given before after WriteFault = ⊥
 IsFailure given before after NoMemory = after.faults ≡ before.faults
 IsFailure given before after No = ⊥
+
+-- the same where `opt` is asked for, with or without its flags
+abbrev pub IsFailureOfOpt : ToldSource → ToldSource → Status → Type 0
+IsFailureOfOpt before after status =
+    (best report : Bool) → IsFailure (Some (Optimise best report)) before after status
 
 -- all of the bytes were written and flushed
 pub record IsWritten (before after : ToldOutput) (bytes : List ℕ) : Type 0 where

@@ -31,8 +31,8 @@ loop-i-preserved c =
     let order : List ℕ = c.args.order.now in
     let v : ℕ = c.index-order-i.result in
     let i : ℕ = c.loop-i.i - 1 in
-    let left : ℕ → Bool = is_in c.loop-i.left in
-    let now : ℕ → Bool = is_in c.take_out.new.set in
+    let left : ℕ → Bool = is_in c.loop-i.left.ids in
+    let now : ℕ → Bool = is_in c.take_out.new.set.ids in
     let rows : List Row = c.loop-i.rows.items in
     let whole : IsOrder graph order = is_order graph order c.requires in
     let place : IsPlace order i v = is_place order i v (omega arith) c.index-order-i.is in
@@ -46,12 +46,12 @@ loop-i-preserved c =
     let few : length c.pass.new.rows.items ≤ length rows =
     c.in_ok-pass.ensures.few before in
     let found : IsSoFar graph order i now c.pass.new.rows.items c.set.new.self.table = subst (λ (table : List Correction). IsSoFar graph order i now c.pass.new.rows.items table) (sym c.set.ensures)
-    (one_more graph order c.first_rows.ensures.valid whole i v place left now rows c.pass.new.rows.items c.loop-i.table.table c.in_ok-correction.field-0
+    (one_more graph order c.first_rows.ensures.valid whole i v place left now rows c.pass.new.rows.items c.loop-i.table.table c.in_ok-correction.field-0.ids
     so_far (λ w. c.in_ok-correction.ensures w ∙ ap (λ (rs : List Row). set_from (seen graph) rs v w) c.deref.ensures.value) c.in_ok-take_out.ensures after) in
     record { so_far = found; few = omega (arith, few, c.loop-i.invariant.few) }
 
 pub returns-clause-flow : goal.returns-clause-flow
 returns-clause-flow c =
-    whole_flow c.args.g.now.graph c.args.order.now (is_in c.loop-i.left) c.loop-i.rows.items c.loop-i.table.table
+    whole_flow c.args.g.now.graph c.args.order.now (is_in c.loop-i.left.ids) c.loop-i.rows.items c.loop-i.table.table
     (is_order c.args.g.now.graph c.args.order.now c.requires)
-    (subst (λ (k : ℕ). IsSoFar c.args.g.now.graph c.args.order.now k (is_in c.loop-i.left) c.loop-i.rows.items c.loop-i.table.table) (omega arith) c.loop-i.invariant.so_far)
+    (subst (λ (k : ℕ). IsSoFar c.args.g.now.graph c.args.order.now k (is_in c.loop-i.left.ids) c.loop-i.rows.items c.loop-i.table.table) (omega arith) c.loop-i.invariant.so_far)

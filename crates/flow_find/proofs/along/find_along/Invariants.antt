@@ -5,6 +5,6 @@ use Rattle.flow_find.proofs.along.find_along.Given as goal
 
 abbrev pub invariant-loop-i : goal.invariant-loop-i
 invariant-loop-i l = record {
-  so_far : IsSoFar l.g.graph l.order l.i (is_in l.left) l.rows.items l.table.table;
+  so_far : IsSoFar l.g.graph l.order l.i (is_in l.left.ids) l.rows.items l.table.table;
   few : length l.rows.items ≤ length l.g.graph.outputs;
 }

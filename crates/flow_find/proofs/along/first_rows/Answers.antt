@@ -22,7 +22,7 @@ insert-requires c =
 pub loop-output-preserved : goal.loop-output-preserved
 loop-output-preserved c =
     let s : Seen = seen c.args.g.now.graph in
-    let left : ℕ → Bool = is_in c.args.left.now in
+    let left : ℕ → Bool = is_in c.args.left.now.ids in
     let ends : List End = c.outputs-output-items.result.now in
     let at : c.output.inside.vertex ≡ c.output-item.result.vertex = ap (λ (e : End). e.vertex) c.output.view_is in
     rw add-one (record {
@@ -45,7 +45,7 @@ loop-output-preserved c =
 pub returns-clause-rows : goal.returns-clause-rows
 returns-clause-rows c =
     let s : Seen = seen c.args.g.now.graph in
-    let left : ℕ → Bool = is_in c.args.left.now in
+    let left : ℕ → Bool = is_in c.args.left.now.ids in
     let ends : List End = c.outputs-output-items.result.now in
     let all : take c.loop-output.output-index ends ≡ c.args.g.now.graph.outputs = take_all c.loop-output.output-index ends (omega arith) ∙ c.outputs-output-items.ensures.value in
     all_ended c.args.g.now.graph left c.loop-output.rows.items c.outputs-output-items.ensures.valid c.requires

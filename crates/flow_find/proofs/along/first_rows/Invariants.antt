@@ -7,6 +7,6 @@ use Rattle.flow_find.proofs.along.first_rows.Given as goal
 
 abbrev pub invariant-loop-output : goal.invariant-loop-output
 invariant-loop-output l = record {
-  rows : IsFrontier (seen l.g.graph) (is_in l.left) (is_in l.left) (ended (seen l.g.graph) (take l.output-index l.output-items)) l.rows.items;
+  rows : IsFrontier (seen l.g.graph) (is_in l.left.ids) (is_in l.left.ids) (ended (seen l.g.graph) (take l.output-index l.output-items)) l.rows.items;
   few : length l.rows.items ≤ l.output-index;
 }

@@ -1,9 +1,10 @@
 -- One vertex more goes, and its set is found.
-use Rattle.std.proofs.Common.{◌≡◌, ◌∙◌, refl, sym, ap, subst, ℕ, suc, ◌-◌, Bool, List, length, take_all, arith}
+use Rattle.std.proofs.Common.{◌≡◌, ◌∙◌, refl, sym, ap, subst, ℕ, suc, ◌-◌, Bool, not, ◌&&◌, List, length, take_all, arith}
 use Rattle.std.proofs.lemmas.List.{drop_all}
 use Rattle.std.proofs.lemmas.Bool.{true≢false}
 use Rattle.zx_model.specs.Bits.{member}
 use Rattle.zx_calculus.specs.Graph.{Distinct}
+use Rattle.zx_calculus.proofs.Ids.{eqb-self}
 use Rattle.gflow_laws.specs.Seen.{seen}
 use Rattle.gflow_laws.specs.Flow.{Correction, is_in}
 use Rattle.flow_find.specs.declared.row.Row.{Row}
@@ -52,7 +53,7 @@ correction-requires c =
     let i : ℕ = c.loop-i.i - 1 in
     let v : ℕ = c.index-v.result.now in
     let rows : List Row = c.loop-i.rows.items in
-    let left : ℕ → Bool = is_in c.loop-i.left in
+    let left : ℕ → Bool = is_in c.loop-i.left.ids in
     let size : length old ≡ length c.args.order.items = c.loop-i.invariant.size in
     let choice : IsChosen (seen graph) rows i old new =
     subst (λ (rs : List Row). IsChosen (seen graph) rs i old new) c.deref-in-loop-i.ensures.value c.in_ok-choose.ensures in
@@ -68,7 +69,7 @@ set-requires c =
     let i : ℕ = c.loop-i.i - 1 in
     let v : ℕ = c.index-v.result.now in
     let rows : List Row = c.loop-i.rows.items in
-    let left : ℕ → Bool = is_in c.loop-i.left in
+    let left : ℕ → Bool = is_in c.loop-i.left.ids in
     let size : length old ≡ length c.args.order.items = c.loop-i.invariant.size in
     let choice : IsChosen (seen graph) rows i old new =
     subst (λ (rs : List Row). IsChosen (seen graph) rs i old new) c.deref-in-loop-i.ensures.value c.in_ok-choose.ensures in
@@ -86,13 +87,18 @@ pass-requires-clause-live c =
     let i : ℕ = c.loop-i.i - 1 in
     let v : ℕ = c.index-v.result.now in
     let rows : List Row = c.loop-i.rows.items in
-    let left : ℕ → Bool = is_in c.loop-i.left in
+    let left : ℕ → Bool = is_in c.loop-i.left.ids in
     let size : length old ≡ length c.args.order.items = c.loop-i.invariant.size in
     let choice : IsChosen (seen graph) rows i old new =
     subst (λ (rs : List Row). IsChosen (seen graph) rs i old new) c.deref-in-loop-i.ensures.value c.in_ok-choose.ensures in
     let all : IsLeftAlong graph old (suc i) left rows =
     subst (λ (k : ℕ). IsLeftAlong graph old k left rows) (omega arith) c.loop-i.invariant.so_far in
     lives graph c.in_ok-rows.ensures.valid rows i old new left v choice all (omega (arith, size)) c.index-v.ensures
+
+pub pass-requires-clause-gone : goal.pass-requires-clause-gone
+pass-requires-clause-gone c =
+    c.in_ok-take_out.ensures c.index-v.result.now
+    ∙ ap (λ b. not b && is_in c.loop-i.left.ids c.index-v.result.now) (eqb-self c.index-v.result.now)
 
 pub loop-i-preserved : goal.loop-i-preserved
 loop-i-preserved c =
@@ -102,7 +108,7 @@ loop-i-preserved c =
     let i : ℕ = c.loop-i.i - 1 in
     let v : ℕ = c.index-v.result.now in
     let rows : List Row = c.loop-i.rows.items in
-    let left : ℕ → Bool = is_in c.loop-i.left in
+    let left : ℕ → Bool = is_in c.loop-i.left.ids in
     let size : length old ≡ length c.args.order.items = c.loop-i.invariant.size in
     let choice : IsChosen (seen graph) rows i old new =
     subst (λ (rs : List Row). IsChosen (seen graph) rs i old new) c.deref-in-loop-i.ensures.value c.in_ok-choose.ensures in
@@ -110,20 +116,20 @@ loop-i-preserved c =
     subst (λ (k : ℕ). IsLeftAlong graph old k left rows) (omega arith) c.loop-i.invariant.so_far in
     let found : IsFoundAlong graph old (suc i) c.loop-i.table.table =
     subst (λ (k : ℕ). IsFoundAlong graph old k c.loop-i.table.table) (omega arith) c.loop-i.invariant.found in
-    let now : ℕ → Bool = is_in c.take_out.new.set in
+    let now : ℕ → Bool = is_in c.take_out.new.set.ids in
     record {
       so_far = gone_on graph c.in_ok-rows.ensures.valid rows i old new left v choice all (omega (arith, size)) c.index-v.ensures now c.pass.new.rows.items c.in_ok-take_out.ensures
           (c.in_ok-pass.ensures.rows (passable graph c.in_ok-rows.ensures.valid rows i old new left v choice all (omega (arith, size)) c.index-v.ensures now c.in_ok-take_out.ensures));
       found = subst (λ (table : List Correction). IsFoundAlong graph new i table) (sym c.set.ensures)
-          (found_on graph c.in_ok-rows.ensures.valid rows i old new left v choice all (omega (arith, size)) c.index-v.ensures c.loop-i.table.table c.in_ok-correction.field-0 found
+          (found_on graph c.in_ok-rows.ensures.valid rows i old new left v choice all (omega (arith, size)) c.index-v.ensures c.loop-i.table.table c.in_ok-correction.field-0.ids found
           (λ w. c.in_ok-correction.ensures w ∙ ap (λ (rs : List Row). set_from (seen graph) rs v w) c.deref-in-loop-i-2.ensures.value));
       size = same_size (seen graph) rows i old new choice ∙ size;
     }
 
 pub returns : goal.returns
 returns c = both_ok c.reordered.result
-    (λ new along sets. all_found c.args.g.now.graph c.loop-i.order.items (is_in c.loop-i.left) c.loop-i.rows.items c.loop-i.table.table new.table
-    (subst (λ (k : ℕ). IsLeftAlong c.args.g.now.graph c.loop-i.order.items k (is_in c.loop-i.left) c.loop-i.rows.items) (omega arith) c.loop-i.invariant.so_far)
+    (λ new along sets. all_found c.args.g.now.graph c.loop-i.order.items (is_in c.loop-i.left.ids) c.loop-i.rows.items c.loop-i.table.table new.table
+    (subst (λ (k : ℕ). IsLeftAlong c.args.g.now.graph c.loop-i.order.items k (is_in c.loop-i.left.ids) c.loop-i.rows.items) (omega arith) c.loop-i.invariant.so_far)
     (subst (λ (k : ℕ). IsFoundAlong c.args.g.now.graph c.loop-i.order.items k c.loop-i.table.table) (omega arith) c.loop-i.invariant.found)
     (along ∙ c.deref-3.ensures.value) (subst (λ (o : List ℕ). HasSetsOf c.loop-i.table.table o new.table) c.deref-3.ensures.value sets))
     c.reordered.ensures.order c.reordered.ensures.sets

@@ -5,7 +5,7 @@ use Rattle.flow_find.proofs.cheap.find_cheap.Given as goal
 
 abbrev pub invariant-loop-i : goal.invariant-loop-i
 invariant-loop-i l = record {
-  so_far : IsLeftAlong l.g.graph l.order.items l.i (is_in l.left) l.rows.items;
+  so_far : IsLeftAlong l.g.graph l.order.items l.i (is_in l.left.ids) l.rows.items;
   found : IsFoundAlong l.g.graph l.order.items l.i l.table.table;
   size : length l.order.items ≡ length l.initial.order.items;
 }

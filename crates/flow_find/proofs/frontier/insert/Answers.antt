@@ -12,7 +12,7 @@ use Rattle.flow_find.proofs.frontier.insert.Goals as goal
 pub returns-clause-rows : goal.returns-clause-rows
 returns-clause-rows c = λ may frontier.
     let start : Row = record { pivot = c.args.u; columns = c.in_ok-left_neighbours.field-0; members = c.in_ok-one.field-0 } in
-    inserted (seen c.args.g.now.graph) (is_in c.args.left.now) may c.args.u start c.add_picked.new.sum c.args.rows.now.items c.put.new.rows.items
+    inserted (seen c.args.g.now.graph) (is_in c.args.left.now.ids) may c.args.u start c.add_picked.new.sum c.args.rows.now.items c.put.new.rows.items
     (Simple-seen c.args.g.now.graph c.left_neighbours.ensures.valid) c.requires c.in_ok-left_neighbours.ensures.members c.in_ok-one.ensures
     (subst (λ (rows : List Row). IsSum (near (seen c.args.g.now.graph) c.args.u) rows start c.add_picked.new.sum) c.deref.ensures.value c.in_ok-add_picked.ensures)
     c.in_ok-put.ensures frontier

@@ -12,7 +12,7 @@ use Rattle.flow_find.proofs.frontier.left_neighbours.Goals as goal
 pub loop-w-init : goal.loop-w-init
 loop-w-init c = record {
   all = c.into_iter-w-iterator.ensures.into_iter_gives ∙ c.neighbours-w-items.ensures.value;
-  so_far = λ p. ap (member p) c.new-set.ensures ∙ sym (and-false (is_in c.args.left.now p));
+  so_far = λ p. ap (member p) c.new-set.ensures ∙ sym (and-false (is_in c.args.left.now.ids p));
 }
 
 pub loop-w-preserved-in-Continue-1 : goal.loop-w-preserved-in-Continue-1
@@ -24,8 +24,8 @@ loop-w-preserved-in-Continue-1 c =
     record {
       all = next_all c.loop-w.yielded c.loop-w.w-iterator c.next.new.self (neighbours c.args.g.now.graph c.args.u) c.in-Some.w
           c.loop-w.invariant.all here;
-      so_far = left_grown (is_in c.args.left.now) c.loop-w.set c.loop-w.yielded c.next.new.self c.in-Some.w apart
-          c.loop-w.invariant.so_far (sym c.contains.ensures ∙ c.if-contains.true) c.toggle.new.self c.in_ok-toggle.ensures.ok;
+      so_far = left_grown (is_in c.args.left.now.ids) c.loop-w.set.ids c.loop-w.yielded c.next.new.self c.in-Some.w apart
+          c.loop-w.invariant.so_far (sym c.contains.ensures ∙ c.if-contains.true) c.toggle.new.self.ids c.in_ok-toggle.ensures.ok;
     }
 
 pub loop-w-preserved : goal.loop-w-preserved
@@ -37,7 +37,7 @@ loop-w-preserved c =
     record {
       all = next_all c.loop-w.yielded c.loop-w.w-iterator c.next.new.self (neighbours c.args.g.now.graph c.args.u) c.in-Some.w
           c.loop-w.invariant.all here;
-      so_far = left_same (is_in c.args.left.now) c.loop-w.set c.loop-w.yielded c.next.new.self c.in-Some.w apart
+      so_far = left_same (is_in c.args.left.now.ids) c.loop-w.set.ids c.loop-w.yielded c.next.new.self c.in-Some.w apart
           c.loop-w.invariant.so_far (sym c.contains.ensures ∙ c.if-contains.false);
     }
 
@@ -47,5 +47,5 @@ returns-clause-members c = λ p.
     let whole : c.loop-w.yielded ≡ neighbours c.args.g.now.graph c.args.u =
     sym (ap (λ rest. c.loop-w.yielded ++ rest) none ∙ append-nil c.loop-w.yielded) ∙ c.loop-w.invariant.all in
     c.loop-w.invariant.so_far p
-    ∙ ap (λ b. is_in c.args.left.now p && b)
+    ∙ ap (λ b. is_in c.args.left.now.ids p && b)
     (ap (member p) whole ∙ member-neighbours c.args.g.now.graph c.args.u p c.neighbours-w-items.ensures.valid)

@@ -8,5 +8,5 @@ use Rattle.flow_find.proofs.frontier.left_neighbours.Given as goal
 abbrev pub invariant-loop-w : goal.invariant-loop-w
 invariant-loop-w l = record {
   all : l.yielded ++ l.w-iterator ≡ neighbours l.g.graph l.fn.u;
-  so_far : (p : ℕ) → member p l.set ≡ (is_in l.left p && member p l.yielded);
+  so_far : (p : ℕ) → member p l.set.ids ≡ (is_in l.left.ids p && member p l.yielded);
 }

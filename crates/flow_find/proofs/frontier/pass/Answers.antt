@@ -31,7 +31,7 @@ after_turn s left v old at mid new k same len gone each turn frontier =
 pub returns-in_ok-insert-clause-rows : goal.returns-in_ok-insert-clause-rows
 returns-in_ok-insert-clause-rows c = λ before.
     let s : Seen = seen c.args.g.now.graph in
-    let left : ℕ → Bool = is_in c.args.left.now in
+    let left : ℕ → Bool = is_in c.args.left.now.ids in
     let row : (is_XY (s.plane c.args.v) && not (s.input c.args.v)) ≡ true = sym c.needs_row.ensures.value ∙ c.if-needs_row.true in
     passed_in s left c.args.v c.insert.new.rows.items c.requires.live (not-true _ (and-right _ _ row)) c.requires.gone
     (c.in_ok-insert.ensures.rows (usable s (with_one left c.args.v))
@@ -41,7 +41,7 @@ returns-in_ok-insert-clause-rows c = λ before.
 pub returns-else-needs_row-clause-rows : goal.returns-else-needs_row-clause-rows
 returns-else-needs_row-clause-rows c = λ before.
     let s : Seen = seen c.args.g.now.graph in
-    let left : ℕ → Bool = is_in c.args.left.now in
+    let left : ℕ → Bool = is_in c.args.left.now.ids in
     passed_without s left c.args.v c.turn.new.rows.items (Simple-seen c.args.g.now.graph c.needs_row.ensures.valid) c.requires.live c.requires.gone
     (sym c.needs_row.ensures.value ∙ c.if-needs_row.false) before.1
     (after_turn s left c.args.v c.args.rows.now.items c.deref_mut.result.now c.drop_column.new.rows c.turn.new.rows.items c.args.rows.now.len
@@ -50,7 +50,7 @@ returns-else-needs_row-clause-rows c = λ before.
 pub returns-in_ok-insert-clause-few : goal.returns-in_ok-insert-clause-few
 returns-in_ok-insert-clause-few c = λ before.
     let s : Seen = seen c.args.g.now.graph in
-    let left : ℕ → Bool = is_in c.args.left.now in
+    let left : ℕ → Bool = is_in c.args.left.now.ids in
     let row : (is_XY (s.plane c.args.v) && not (s.input c.args.v)) ≡ true = sym c.needs_row.ensures.value ∙ c.if-needs_row.true in
     still_few s left c.args.v c.args.rows.now.items c.deref_mut.result.now c.drop_column.new.rows c.turn.new.rows.items c.insert.new.rows.items c.args.rows.now.len
     (Simple-seen c.args.g.now.graph c.needs_row.ensures.valid) (and-left _ _ row) before

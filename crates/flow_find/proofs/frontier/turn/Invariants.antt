@@ -7,7 +7,7 @@ use Rattle.flow_find.proofs.frontier.turn.Given as goal
 
 abbrev pub invariant-turn : goal.invariant-turn
 invariant-turn l = record {
-  without : AreAll (λ row. member l.v row.columns ≡ false) l.rows.items;
+  without : AreAll (λ row. member l.v row.columns.ids ≡ false) l.rows.items;
   few : length l.rows.items ≤ length l.initial.rows.items;
   fewer : IsCancelled l.v l.initial.rows.items → (length l.rows.items < length l.initial.rows.items) ⊎ IsCancelled l.v l.rows.items;
   kept : (s : Seen) (left may : ℕ → Bool) → IsFrontier s left (with_one left l.v) may l.initial.rows.items →

@@ -4,7 +4,7 @@ use Rattle.flow_find.proofs.Steps.{put_spent, nothing_from_first}
 use Rattle.flow_find.proofs.rows.put.Goals as goal
 
 pub relieve-requires : goal.relieve-requires
-relieve-requires c = nothing_from_first c.args.row.columns c.in-None.ensures.first
+relieve-requires c = nothing_from_first c.args.row.columns.ids c.in-None.ensures.first
 
 pub returns-in-None : goal.returns-in-None
 returns-in-None c =

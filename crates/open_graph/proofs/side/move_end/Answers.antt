@@ -15,7 +15,7 @@ set_place-requires c =
 
 pub set_place-requires-2 : goal.set_place-requires-2
 set_place-requires-2 c =
-    contained_put c.args.slots.now.slots c.set_place.new.slots.slots c.before-2.inside.vertex c.end.inside.vertex c.args.side None c.set_place.ensures
+    contained_put c.args.slots.now.slots c.set_place.new.slots.slots c.before-2.inside.vertex c.end.inside.vertex c.args.side None c.set_place.ensures.puts
     (subst (λ (v : ℕ). HasSlot c.args.slots.now v) (sym (ap (λ e. e.vertex) c.end.view_is)) c.requires.after)
 
 pub returns-clause-slots : goal.returns-clause-slots
@@ -26,6 +26,6 @@ returns-clause-slots c =
     let read : c.before-2.inside.vertex ≡ (get_or c.args.ends.now.items c.args.i c.args.end).vertex =
     ap (λ e. e.vertex) (c.before-2.view_is ∙ get_or_read c.args.ends.now.items c.args.i c.index-before.result.now c.requires.in_range c.index-before.ensures c.args.end) in (
       mid,
-      subst (λ (v : ℕ). Puts old mid v (with_place c.args.side None (told old v))) read c.set_place.ensures,
-      subst (λ (v : ℕ). Puts mid new v (with_place c.args.side (Some c.args.i) (told mid v))) (ap (λ e. e.vertex) c.end.view_is) c.set_place-2.ensures,
+      subst (λ (v : ℕ). Puts old mid v (with_place c.args.side None (told old v))) read c.set_place.ensures.puts,
+      subst (λ (v : ℕ). Puts mid new v (with_place c.args.side (Some c.args.i) (told mid v))) (ap (λ e. e.vertex) c.end.view_is) c.set_place-2.ensures.puts,
     )

@@ -1,4 +1,4 @@
-use Rattle.std.proofs.Common.{◌≡◌, true, ◌++◌, ◌∷◌, []}
+use Rattle.std.proofs.Common.{◌≡◌, ◌∙◌, true, ◌++◌, ◌∷◌, []}
 use Rattle.open_graph.specs.Internal.Slots.{told, adjacent}
 use Rattle.open_graph.proofs.Walks.{next_some, next_there, next_all, member-more}
 use Rattle.open_graph.proofs.Removing.{removed_next, neighbour_apart, neighbour_contained}
@@ -23,5 +23,6 @@ loop-w-preserved c =
       gone = removed_next c.args.slots.now.slots c.loop-w.slots.slots c.remove_neighbour.new.slots.slots c.args.v c.in-Some.w c.loop-w.yielded (c.loop-w.yielded ++ c.in-Some.w ∷ [])
           (neighbour_apart c.args.slots.now.slots c.args.v c.requires.symmetric c.requires.no_loop c.in-Some.w near)
           (member-more c.loop-w.yielded c.in-Some.w)
-          c.loop-w.invariant.gone c.remove_neighbour.ensures;
+          c.loop-w.invariant.gone c.remove_neighbour.ensures.puts;
+      spare = c.remove_neighbour.ensures.spare ∙ c.loop-w.invariant.spare;
     }

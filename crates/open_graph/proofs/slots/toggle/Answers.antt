@@ -9,17 +9,17 @@ pub returns-then-joins-clause-ok : goal.returns-then-joins-clause-ok
 returns-then-joins-clause-ok c =
     let there : adjacent c.args.slots.now.slots c.args.u c.args.v ≡ true = sym c.joins.ensures ∙ c.if-joins.true in
     let back : adjacent c.remove_neighbour.new.slots.slots c.args.v c.args.u ≡ true =
-    ap (λ t. member c.args.u t.row) (puts_other c.args.slots.now.slots c.remove_neighbour.new.slots.slots c.args.u _ c.args.v c.remove_neighbour.ensures (λ e. c.requires.different (sym e)))
+    ap (λ t. member c.args.u t.row) (puts_other c.args.slots.now.slots c.remove_neighbour.new.slots.slots c.args.u _ c.args.v c.remove_neighbour.ensures.puts (λ e. c.requires.different (sym e)))
     ∙ sym c.requires.symmetric ∙ there in
     keeps_toggled c.args.slots.now.slots c.remove_neighbour.new.slots.slots c.remove_neighbour-then-joins.new.slots.slots c.args.u c.args.v _ _ c.requires.different
-    c.remove_neighbour.ensures c.remove_neighbour-then-joins.ensures
+    c.remove_neighbour.ensures.puts c.remove_neighbour-then-joins.ensures.puts
     (removed_toggles c.args.v (told c.args.slots.now.slots c.args.u).row there)
     (removed_toggles c.args.u (told c.remove_neighbour.new.slots.slots c.args.v).row back)
 
 pub returns-in-Err-clause-err : goal.returns-in-Err-clause-err
 returns-in-Err-clause-err c =
     same_back c.args.slots.now.slots c.add_neighbour.new.slots.slots c.add_neighbour-2.new.slots.slots c.remove_neighbour-in-Err.new.slots.slots c.args.u c.args.v
-    (sym c.joins.ensures ∙ c.if-joins.false) c.in_ok-add_neighbour.ensures.ok c.in-Err.ensures.err c.remove_neighbour-in-Err.ensures
+    (sym c.joins.ensures ∙ c.if-joins.false) c.in_ok-add_neighbour.ensures.ok c.in-Err.ensures.err c.remove_neighbour-in-Err.ensures.puts
 
 pub returns-clause-ok : goal.returns-clause-ok
 returns-clause-ok c =

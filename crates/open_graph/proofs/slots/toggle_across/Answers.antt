@@ -7,10 +7,10 @@ use Rattle.zx_calculus.specs.Toggles.{across}
 use Rattle.open_graph.proofs.RowToggles.{rows_then}
 use Rattle.open_graph.proofs.slots.toggle_across.Goals as goal
 
-pub returns : goal.returns
-returns c =
+pub returns-clause-toggled : goal.returns-clause-toggled
+returns-clause-toggled c =
     on_ok c.toggle_rows-2.result
-    (λ back. rows_then c.args.slots.now.slots c.toggle_rows.new.slots.slots c.toggle_rows-2.new.slots.slots _ _ (across c.args.left.now c.args.right.now)
-    c.in_ok-toggle_rows.ensures back
-    (λ p q. ap (xor (member p c.args.left.now && member q c.args.right.now)) (and_comm (member p c.args.right.now) (member q c.args.left.now))))
-    c.toggle_rows-2.ensures
+    (λ back. rows_then c.args.slots.now.slots c.toggle_rows.new.slots.slots c.toggle_rows-2.new.slots.slots _ _ (across c.args.left.now.ids c.args.right.now.ids)
+    c.in_ok-toggle_rows.ensures.toggled back
+    (λ p q. ap (xor (member p c.args.left.now.ids && member q c.args.right.now.ids)) (and_comm (member p c.args.right.now.ids) (member q c.args.left.now.ids))))
+    c.toggle_rows-2.ensures.toggled

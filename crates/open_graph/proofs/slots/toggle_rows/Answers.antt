@@ -1,4 +1,5 @@
 -- One row more is toggled.
+use Rattle.std.proofs.Common.{◌∙◌}
 use Rattle.zx_model.specs.Bits.{member}
 use Rattle.zx_calculus.proofs.Ids.{Distinct-rising}
 use Rattle.open_graph.proofs.Walks.{next_some, next_there, next_all, member-toggled}
@@ -8,16 +9,17 @@ use Rattle.open_graph.proofs.slots.toggle_rows.Goals as goal
 pub toggle_row-requires : goal.toggle_row-requires
 toggle_row-requires c =
     still_there c.args.slots.now.slots c.loop-u.slots.slots _ c.in-Some.u c.loop-u.invariant.toggled
-    (c.requires c.in-Some.u (next_there c.loop-u.yielded c.loop-u.u-iterator c.next.new.self c.args.vertices.now c.in-Some.u c.loop-u.invariant.all
+    (c.requires c.in-Some.u (next_there c.loop-u.yielded c.loop-u.u-iterator c.next.new.self c.args.vertices.now.ids c.in-Some.u c.loop-u.invariant.all
     (next_some c.next.result c.loop-u.u-iterator c.next.new.self c.in-Some.u c.next.ensures.steps c.in-Some.is)))
 
 pub loop-u-preserved : goal.loop-u-preserved
 loop-u-preserved c =
     let more = next_some c.next.result c.loop-u.u-iterator c.next.new.self c.in-Some.u c.next.ensures.steps c.in-Some.is in
     record {
-      all = next_all c.loop-u.yielded c.loop-u.u-iterator c.next.new.self c.args.vertices.now c.in-Some.u c.loop-u.invariant.all more;
-      toggled = rows_next c.args.slots.now.slots c.loop-u.slots.slots c.toggle_row.new.slots.slots _ _ (λ p q. member q c.args.others.now) c.in-Some.u
-          (λ p. member-toggled c.loop-u.yielded c.loop-u.u-iterator c.next.new.self c.args.vertices.now c.in-Some.u p
-          (Distinct-rising c.args.vertices.now c.iter-u-items.ensures.rising) c.loop-u.invariant.all more)
-          c.loop-u.invariant.toggled c.in_ok-toggle_row.ensures;
+      all = next_all c.loop-u.yielded c.loop-u.u-iterator c.next.new.self c.args.vertices.now.ids c.in-Some.u c.loop-u.invariant.all more;
+      toggled = rows_next c.args.slots.now.slots c.loop-u.slots.slots c.toggle_row.new.slots.slots _ _ (λ p q. member q c.args.others.now.ids) c.in-Some.u
+          (λ p. member-toggled c.loop-u.yielded c.loop-u.u-iterator c.next.new.self c.args.vertices.now.ids c.in-Some.u p
+          (Distinct-rising c.args.vertices.now.ids c.iter-u-items.ensures.rising) c.loop-u.invariant.all more)
+          c.loop-u.invariant.toggled c.in_ok-toggle_row.ensures.toggled;
+      spare = c.toggle_row.ensures.spare ∙ c.loop-u.invariant.spare;
     }

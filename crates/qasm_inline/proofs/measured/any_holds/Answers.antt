@@ -8,5 +8,5 @@ use Rattle.qasm_inline.proofs.measured.any_holds.Goals as goal
 
 pub returns : goal.returns
 returns c =
-    any_from_yields_List (λ span. holds_any c.args.set.now (span_range span)) _ _ c.any.result c.any.ensures.ran (YieldsList-from_slice c.args.spans.now cc) (λ x b q k. search (rules, tests))
-    ∙ sym (any_map (holds_any c.args.set.now) span_range c.args.spans.now)
+    any_from_yields_List (λ span. holds_any c.args.set.now.numbers (span_range span)) _ _ c.any.result c.any.ensures.ran (YieldsList-from_slice c.args.spans.now cc) (λ x b q k. search (rules, tests))
+    ∙ sym (any_map (holds_any c.args.set.now.numbers) span_range c.args.spans.now)

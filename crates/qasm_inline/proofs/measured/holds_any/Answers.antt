@@ -6,14 +6,14 @@ use Rattle.qasm_inline.proofs.measured.holds_any.Goals as goal
 
 pub returns-in-Single : goal.returns-in-Single
 returns-in-Single c =
-    c.contains.ensures ∙ single-held c.in-Single.place c.args.set.now ∙ ap (λ span. holds_any c.args.set.now (span_range span)) (sym c.in-Single.is)
+    c.contains.ensures ∙ single-held c.in-Single.place c.args.set.now.numbers ∙ ap (λ span. holds_any c.args.set.now.numbers (span_range span)) (sym c.in-Single.is)
 
 pub returns-in-Some : goal.returns-in-Some
 returns-in-Some c =
-    first-held c.args.set.now c.in-Register.first c.in-Register.size c.in-Some.place c.in-Some.ensures.first
-    ∙ ap (λ span. holds_any c.args.set.now (span_range span)) (sym c.in-Register.is)
+    first-held c.args.set.now.numbers c.in-Register.first c.in-Register.size c.in-Some.place c.in-Some.ensures.first
+    ∙ ap (λ span. holds_any c.args.set.now.numbers (span_range span)) (sym c.in-Register.is)
 
 pub returns-in-None : goal.returns-in-None
 returns-in-None c =
-    none-held-from c.args.set.now c.in-Register.first c.in-Register.size c.in-None.ensures.first
-    ∙ ap (λ span. holds_any c.args.set.now (span_range span)) (sym c.in-Register.is)
+    none-held-from c.args.set.now.numbers c.in-Register.first c.in-Register.size c.in-None.ensures.first
+    ∙ ap (λ span. holds_any c.args.set.now.numbers (span_range span)) (sym c.in-Register.is)

@@ -5,4 +5,4 @@ use Rattle.zx_calculus.specs.Graph.{end_vertices}
 use Rattle.zx_extract.proofs.gathering.without_ends.Given as goal
 
 abbrev pub invariant-loop-end : goal.invariant-loop-end
-invariant-loop-end l = (w : ℕ) → member w l.left ≡ (member w l.initial.left && not (member w (end_vertices (take l.end-index l.ends))))
+invariant-loop-end l = (w : ℕ) → member w l.left.ids ≡ (member w l.initial.left.ids && not (member w (end_vertices (take l.end-index l.ends))))

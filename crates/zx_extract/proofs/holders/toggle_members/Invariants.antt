@@ -5,6 +5,6 @@ use Rattle.zx_extract.proofs.holders.toggle_members.Given as goal
 
 abbrev pub invariant-loop-s : goal.invariant-loop-s
 invariant-loop-s l = record {
-  all : l.yielded ++ l.s-iterator ≡ l.members;
+  all : l.yielded ++ l.s-iterator ≡ l.members.ids;
   toggled : AreToggled l.yielded l.v l.initial.held.items l.held.items;
 }

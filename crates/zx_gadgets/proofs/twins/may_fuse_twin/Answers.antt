@@ -11,6 +11,6 @@ returns-clause-value c =
     (λ same. true≢false (sym (eq-eqb c.args.u c.args.v same) ∙ (sym c.eq.ensures ∙ c.if-eq.false)))
     (sym c.has_edge.ensures.value ∙ c.if-has_edge.false)
     c.is_same.result
-    (rows_tested c.args.g.now.graph c.args.u c.args.v c.neighbour_set.result.now c.neighbour_set-2.result.now c.is_same.result
+    (rows_tested c.args.g.now.graph c.args.u c.args.v c.neighbour_set.result.now.ids c.neighbour_set-2.result.now.ids c.is_same.result
     c.is_gadget.ensures.valid c.is_same.ensures.rising c.is_same.ensures.other_rising c.neighbour_set.ensures.members
     c.neighbour_set-2.ensures.members c.is_same.ensures.value)

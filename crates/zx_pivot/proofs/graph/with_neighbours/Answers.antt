@@ -15,5 +15,5 @@ returns-clause-live c p there =
     by_equal p c.args.u (λ t e. ap (λ x. member x (ids c.args.g.now.graph.vertices)) e ∙ c.requires)
     (λ f n. c.neighbour_set.ensures.live p
     (sym (ap (member p) c.in_ok-set.ensures.cases)
-    ∙ sym (c.in_ok-toggle.ensures.ok p ∙ ap (xor (member p c.in_ok-set.set)) f ∙ xor-false (member p c.in_ok-set.set))
+    ∙ sym (c.in_ok-toggle.ensures.ok p ∙ ap (xor (member p c.in_ok-set.set.ids)) f ∙ xor-false (member p c.in_ok-set.set.ids))
     ∙ there))

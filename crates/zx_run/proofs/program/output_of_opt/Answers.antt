@@ -1,14 +1,15 @@
--- A text that is read to its end is refused by its first fault.
-use Rattle.std.proofs.Common.{ap, ◌∙◌, subst, Err}
-use Rattle.zx_run.specs.FirstFault.{IsFirstFault}
+-- Where no circuit was read, the reader's answer is passed on.
+use Rattle.std.proofs.Common.{IfErr, Some, subst, sym}
+use Rattle.std.proofs.lemmas.Result.{err_from_is_err_and}
+use Rattle.zx_words.specs.declared.words.Command.TheVariants.{Optimise}
+use Rattle.zx_run.specs.declared.status.Status.{Status}
+use Rattle.zx_run.specs.Internal.Answers.{IsFailure, told_source}
 use Rattle.zx_run.proofs.program.output_of_opt.Goals as goal
 
-pub returns-in-Err-Fault-clause-failure : goal.returns-in-Err-Fault-clause-failure
-returns-in-Err-Fault-clause-failure g c = (
-  c.in-Ok.ensures.ok,
-  λ text told. (
-    subst (λ bytes. IsFirstFault bytes c.in-Err-Fault.fault) (c.deref.ensures.value ∙ (c.in-Ok.ensures.bytes text told).0)
-        (c.in-Err-Fault.ensures.fault c.in-Err-Fault.fault (ap Err c.in-Err-Fault.field-0-is)),
-    λ other. (c.in-Ok.ensures.bytes text told).1,
-  ),
-)
+pub returns-in_err-read-clause-failure : goal.returns-in_err-read-clause-failure
+returns-in_err-read-clause-failure g c =
+    let p = err_from_is_err_and c.from_residual.result c.from_residual.ensures.1 in
+    let why : Status → Type 0 = IsFailure (Some (Optimise c.args.best c.args.report))
+    (told_source g.S.Source.left g.S.Source.faults c.args.source.now)
+    (told_source g.S.Source.left g.S.Source.faults c.read_circuit.new.source) in
+    subst (λ r. IfErr r why) (sym p.1) (subst why (sym p.2) (c.in_err-read.ensures.failure c.args.best c.args.report))

@@ -1,17 +1,30 @@
--- What the reader tells is the text's circuit, or its first fault.
-use Rattle.std.proofs.Common.{Err, ap, sym, ◌∙◌}
-use Rattle.zx_run.proofs.FaultLemmas.{Err_same}
-use Rattle.zx_run.proofs.ReadLemmas.{read_accepted, read_first}
+-- What is read is the text's circuit, or its first fault.
+use Rattle.std.proofs.Common.{◌≡◌, ℕ, List, [], Some, Err, IfErr, ap, subst, sym, arith}
+use Rattle.std.proofs.lemmas.Result.{err_from_is_err_and}
+use Rattle.qasm_inline.specs.PieceReadings.{HasRead}
+use Rattle.zx_run.specs.Internal.Answers.{IsFailureOfOpt, told_source}
+use Rattle.zx_run.proofs.ReadLemmas.{read_accepted, text_failed}
 use Rattle.zx_run.proofs.reader.read_circuit.Goals as goal
 
-pub returns-in-Ok-clause-accepted : goal.returns-in-Ok-clause-accepted
-returns-in-Ok-clause-accepted c = read_accepted _ c.requires c.in-Ok.circuit c.in-Ok.ensures.means
+pub returns-in_err-circuit-clause-failure : goal.returns-in_err-circuit-clause-failure
+returns-in_err-circuit-clause-failure g c =
+    let before = told_source g.S.Source.left g.S.Source.faults c.args.source.now in
+    let after = told_source g.S.Source.left g.S.Source.faults c.read_pieces.new.source in
+    let read = c.in_ok-read_pieces.ensures in
+    let fault = c.in_err-circuit.ensures in
+    let p = err_from_is_err_and c.from_residual-in_err-circuit.result c.from_residual-in_err-circuit.ensures.1 in
+    let is_read : (text : List ℕ) → g.S.Source.left c.args.source.now ≡ Some text → HasRead c.read_pieces.new.to text =
+    λ text told. read.bytes [] text c.new-reader.ensures (omega arith) told in
+    subst (λ r. IfErr r (IsFailureOfOpt before after)) (sym p.1)
+    (text_failed before after read.ok read.end c.in_err-circuit.field-0.0
+    (λ text told at is. fault.bad_byte text at (is_read text told) (ap Err is))
+    (λ text told at is. fault.too_deep text at (is_read text told) (ap Err is))
+    (λ text told at is. fault.syntax text at (is_read text told) (ap Err is))
+    (λ text told cause at is. fault.wrong text cause at (is_read text told) (ap Err is))
+    p.0 p.2)
 
-pub returns-in-Err-clause-fault : goal.returns-in-Err-clause-fault
-returns-in-Err-clause-fault c = λ fault is.
-    read_first _ c.requires c.in-Err.error
-    (λ at told. c.in-Err.ensures.bad_byte at (ap Err told))
-    (λ at told. c.in-Err.ensures.too_deep at (ap Err told))
-    (λ at told. c.in-Err.ensures.syntax at (ap Err told))
-    (λ cause at told. c.in-Err.ensures.wrong cause at (ap Err told))
-    fault (sym c.no_output_by.ensures ∙ Err_same is)
+pub returns-clause-accepted : goal.returns-clause-accepted
+returns-clause-accepted g c = λ text told.
+    let read = c.in_ok-read_pieces.ensures in
+    read_accepted text (read.end text told).0 c.in_ok-circuit.circuit
+    (c.in_ok-circuit.ensures.means text (read.bytes [] text c.new-reader.ensures (omega arith) told))

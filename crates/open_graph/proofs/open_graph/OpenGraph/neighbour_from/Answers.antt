@@ -5,7 +5,7 @@ use Rattle.open_graph.proofs.open_graph.OpenGraph.neighbour_from.Goals as goal
 
 pub returns-clause-first : goal.returns-clause-first
 returns-clause-first c =
-    first_alike (λ id. member id c.slot.result.now.row) (joined c.args.self.now.graph.edges c.args.v) c.args.start c.first_from.result
+    first_alike (λ id. member id c.slot.result.now.row.ids) (joined c.args.self.now.graph.edges c.args.v) c.args.start c.first_from.result
     c.slot.ensures.joined c.first_from.ensures.first
 
 pub returns-clause-live : goal.returns-clause-live

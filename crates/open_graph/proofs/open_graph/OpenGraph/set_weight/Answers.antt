@@ -14,15 +14,15 @@ set_kind-requires c = contains_live c.self.inside.slots.slots c.args.v (ap (λ g
 pub invariant_of-self : goal.invariant_of-self
 invariant_of-self c =
     (becomes_weight c.self.inside.slots.slots c.self.inside.inputs.items c.self.inside.outputs.items c.self.invariant c.set_kind.new.slots.slots c.args.v (in_plane (plane_named c.args.plane) c.args.phase)
-    (search rules) (λ e. c.requires.plane (ap (λ g. is_interior g.graph c.args.v) (sym c.self.view_is) ∙ e)) c.set_kind.ensures).sound
+    (search rules) (λ e. c.requires.plane (ap (λ g. is_interior g.graph c.args.v) (sym c.self.view_is) ∙ e)) c.set_kind.ensures.puts).sound
 
 pub returns-clause-ok : goal.returns-clause-ok
 returns-clause-ok c =
     let made = becomes_weight c.self.inside.slots.slots c.self.inside.inputs.items c.self.inside.outputs.items c.self.invariant c.set_kind.new.slots.slots c.args.v (in_plane (plane_named c.args.plane) c.args.phase)
-    (search rules) (λ e. c.requires.plane (ap (λ g. is_interior g.graph c.args.v) (sym c.self.view_is) ∙ e)) c.set_kind.ensures in
+    (search rules) (λ e. c.requires.plane (ap (λ g. is_interior g.graph c.args.v) (sym c.self.view_is) ∙ e)) c.set_kind.ensures.puts in
     made.graph ∙ ap (λ g. record g.graph { vertices = with_kinds (at_vertex c.args.v (λ _. in_plane (plane_named c.args.plane) c.args.phase)) g.graph.vertices }) c.self.view_is
 
 pub returns-clause-valid : goal.returns-clause-valid
 returns-clause-valid c =
     (becomes_weight c.self.inside.slots.slots c.self.inside.inputs.items c.self.inside.outputs.items c.self.invariant c.set_kind.new.slots.slots c.args.v (in_plane (plane_named c.args.plane) c.args.phase)
-    (search rules) (λ e. c.requires.plane (ap (λ g. is_interior g.graph c.args.v) (sym c.self.view_is) ∙ e)) c.set_kind.ensures).sound.well_formed
+    (search rules) (λ e. c.requires.plane (ap (λ g. is_interior g.graph c.args.v) (sym c.self.view_is) ∙ e)) c.set_kind.ensures.puts).sound.well_formed

@@ -19,15 +19,15 @@ toggle_across-requires-clause-right_live c p there =
 
 pub invariant_of-self-in_default : goal.invariant_of-self-in_default
 invariant_of-self-in_default c =
-    (becomes_across c.self.inside.slots.slots c.toggle_across.new.slots.slots c.self.inside.inputs.items c.self.inside.outputs.items c.self.invariant c.args.left.now c.args.right.now c.in_default.ensures).sound
+    (becomes_across c.self.inside.slots.slots c.toggle_across.new.slots.slots c.self.inside.inputs.items c.self.inside.outputs.items c.self.invariant c.args.left.now.ids c.args.right.now.ids c.in_default.ensures.toggled).sound
 
 pub returns-clause-ok : goal.returns-clause-ok
 returns-clause-ok c =
     let made = becomes_across c.self.inside.slots.slots c.toggle_across.new.slots.slots c.self.inside.inputs.items c.self.inside.outputs.items c.self.invariant
-    c.args.left.now c.args.right.now c.in_default.ensures in
-    subst (λ (g : OpenGraph). IsToggled g.graph (across c.args.left.now c.args.right.now) (graph_of c.toggle_across.new.slots.slots c.self.inside.inputs.items c.self.inside.outputs.items)) c.self.view_is
+    c.args.left.now.ids c.args.right.now.ids c.in_default.ensures.toggled in
+    subst (λ (g : OpenGraph). IsToggled g.graph (across c.args.left.now.ids c.args.right.now.ids) (graph_of c.toggle_across.new.slots.slots c.self.inside.inputs.items c.self.inside.outputs.items)) c.self.view_is
     made.toggled
 
 pub returns-clause-valid : goal.returns-clause-valid
 returns-clause-valid c =
-    (becomes_across c.self.inside.slots.slots c.toggle_across.new.slots.slots c.self.inside.inputs.items c.self.inside.outputs.items c.self.invariant c.args.left.now c.args.right.now c.in_default.ensures).sound.well_formed
+    (becomes_across c.self.inside.slots.slots c.toggle_across.new.slots.slots c.self.inside.inputs.items c.self.inside.outputs.items c.self.invariant c.args.left.now.ids c.args.right.now.ids c.in_default.ensures.toggled).sound.well_formed

@@ -15,15 +15,15 @@ toggle_among-requires c p there =
 
 pub invariant_of-self-in_default : goal.invariant_of-self-in_default
 invariant_of-self-in_default c =
-    (becomes_among c.self.inside.slots.slots c.toggle_among.new.slots.slots c.self.inside.inputs.items c.self.inside.outputs.items c.self.invariant c.args.vertices.now c.in_default.ensures).sound
+    (becomes_among c.self.inside.slots.slots c.toggle_among.new.slots.slots c.self.inside.inputs.items c.self.inside.outputs.items c.self.invariant c.args.vertices.now.ids c.in_default.ensures.toggled).sound
 
 pub returns-clause-ok : goal.returns-clause-ok
 returns-clause-ok c =
     let made = becomes_among c.self.inside.slots.slots c.toggle_among.new.slots.slots c.self.inside.inputs.items c.self.inside.outputs.items c.self.invariant
-    c.args.vertices.now c.in_default.ensures in
-    subst (λ (g : OpenGraph). IsToggled g.graph (among c.args.vertices.now) (graph_of c.toggle_among.new.slots.slots c.self.inside.inputs.items c.self.inside.outputs.items)) c.self.view_is
+    c.args.vertices.now.ids c.in_default.ensures.toggled in
+    subst (λ (g : OpenGraph). IsToggled g.graph (among c.args.vertices.now.ids) (graph_of c.toggle_among.new.slots.slots c.self.inside.inputs.items c.self.inside.outputs.items)) c.self.view_is
     made.toggled
 
 pub returns-clause-valid : goal.returns-clause-valid
 returns-clause-valid c =
-    (becomes_among c.self.inside.slots.slots c.toggle_among.new.slots.slots c.self.inside.inputs.items c.self.inside.outputs.items c.self.invariant c.args.vertices.now c.in_default.ensures).sound.well_formed
+    (becomes_among c.self.inside.slots.slots c.toggle_among.new.slots.slots c.self.inside.inputs.items c.self.inside.outputs.items c.self.invariant c.args.vertices.now.ids c.in_default.ensures.toggled).sound.well_formed

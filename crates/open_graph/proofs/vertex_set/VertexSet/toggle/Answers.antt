@@ -2,4 +2,4 @@ use Rattle.open_graph.proofs.RowLemmas.{in_order-rising}
 use Rattle.open_graph.proofs.vertex_set.VertexSet.toggle.Goals as goal
 
 pub invariant_of-self : goal.invariant_of-self
-invariant_of-self c = in_order-rising c.toggle.new.self c.toggle.ensures.rising
+invariant_of-self c = in_order-rising c.toggle.new.self.numbers c.toggle.ensures.rising

@@ -7,4 +7,4 @@ use Rattle.qasm_inline.proofs.measured.Measured.push.Goals as goal
 pub returns : goal.returns
 returns c = on_ok_weaker c.push.result (λ pushed.
     adds-one c.args.self.now _ c.args.measure
-    (subst (λ number. Inserts c.args.self.now.qubits number c.insert.new.set) c.from.ensures c.in_ok-insert.ensures) c.in_ok-insert-2.ensures pushed) c.push.ensures.ok
+    (subst (λ number. Inserts c.args.self.now.qubits.numbers number c.insert.new.set.numbers) c.from.ensures c.in_ok-insert.ensures) c.in_ok-insert-2.ensures pushed) c.push.ensures.ok

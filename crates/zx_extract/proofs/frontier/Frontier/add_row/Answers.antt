@@ -14,7 +14,7 @@ neighbour_set-requires c = output_there c.args.self.now.graph.graph c.args.c
 
 pub toggle_across-requires-clause-left_live : goal.toggle_across-requires-clause-left_live
 toggle_across-requires-clause-left_live c =
-    one_live c.args.self.now.graph.graph c.args.t c.present-to.result c.in_ok-target.target
+    one_live c.args.self.now.graph.graph c.args.t c.present-to.result c.in_ok-target.target.ids
     c.requires.ready.given.well_formed c.present-to.ensures c.in_ok-target.ensures
 
 pub toggle_across-requires-clause-right_live : goal.toggle_across-requires-clause-right_live
@@ -25,7 +25,7 @@ pub returns : goal.returns
 returns c = on_ok_weaker c.write_cx.result (λ written.
     row_added_step (state_of c.args.self.now) c.args.c c.args.t c.present-added.result c.present-to.result
     c.requires.ready c.requires.frontier c.present-added.ensures c.present-to.ensures c.requires.apart
-    c.toggle_across.new.self.graph c.in_ok-target.target c.in_ok-row.row c.add_row.new.self.flow
+    c.toggle_across.new.self.graph c.in_ok-target.target.ids c.in_ok-row.row.ids c.add_row.new.self.flow
     (state_of c.write_cx.new.self) c.in_ok-target.ensures
     (λ p. ap (member p) c.in_ok-row.ensures.cases ∙ c.neighbour_set.ensures.members p)
     (c.requires.no_input c.present-added.result c.present-added.ensures)

@@ -16,12 +16,12 @@ neighbour_set-requires-2 c = output_there c.args.self.now.graph.graph c.args.t (
 
 pub toggle_across-requires-clause-left_live : goal.toggle_across-requires-clause-left_live
 toggle_across-requires-clause-left_live c = one_live c.args.self.now.graph.graph c.args.t c.present-link.result
-    c.in_ok-target.target c.requires.formed c.present-link.ensures c.in_ok-target.ensures
+    c.in_ok-target.target.ids c.requires.formed c.present-link.ensures c.in_ok-target.ensures
 
 pub returns : goal.returns
 returns c = on_ok_weaker c.toggle_across.result
-    (row_replaced (state_of c.args.self.now) c.args.v c.args.t c.present-link.result c.in_ok-target.target
-    c.toggle_all.new.self c.toggle_across.new.self.graph c.requires.formed c.present-link.ensures
+    (row_replaced (state_of c.args.self.now) c.args.v c.args.t c.present-link.result c.in_ok-target.target.ids
+    c.toggle_all.new.self.ids c.toggle_across.new.self.graph c.requires.formed c.present-link.ensures
     c.in_ok-target.ensures (λ w. c.in_ok-toggle_all.ensures.ok w ∙ ap₂ xor
     (c.in_ok-change.ensures w ∙ ap₂ (λ a b. a && not b)
     (ap (member w) c.in_ok-row.ensures.cases ∙ c.neighbour_set.ensures.members w)

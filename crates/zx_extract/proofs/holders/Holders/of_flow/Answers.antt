@@ -17,7 +17,7 @@ correction_set-requires c =
 
 pub loop-v-preserved : goal.loop-v-preserved
 loop-v-preserved c =
-    next_turned c.args.f.now.flow c.order-vertices.result.now c.loop-v.v-index c.v-item.result c.correction_set.result.now
+    next_turned c.args.f.now.flow c.order-vertices.result.now c.loop-v.v-index c.v-item.result c.correction_set.result.now.ids
     c.loop-v.held.items c.toggle_members.new.held.items
     (subst Distinct (sym c.order-vertices.ensures.value) c.order-vertices.ensures.valid) c.loop-v-test.true c.v-item.is
     c.correction_set.ensures c.loop-v.invariant c.in_ok-toggle_members.ensures

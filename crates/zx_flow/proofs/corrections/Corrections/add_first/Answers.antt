@@ -19,4 +19,4 @@ returns-clause-ok c =
     ap (member c.args.v) (sym (order_of-table_of c.self.inside.sets.items c.self.inside.order.items) ∙ ap order_of c.self.view_is) ∙ c.requires in
     ap₂ (λ (order : List ℕ) (p : ℕ). table_of (set c.make_room.new.sets.items p c.args.set) order) c.in_ok-insert.ensures.items c.get.ensures
     ∙ table_of-first c.self.inside.sets.items c.make_room.new.sets.items c.self.inside.order.items c.args.v c.args.set c.in_ok-make_room.ensures.same c.in_ok-make_room.ensures.ok fresh
-    ∙ ap (λ (t : List Correction). record { vertex = c.args.v; members = c.args.set } ∷ t) c.self.view_is
+    ∙ ap (λ (t : List Correction). record { vertex = c.args.v; members = c.args.set.ids } ∷ t) c.self.view_is

@@ -18,4 +18,4 @@ returns c =
     ap (member c.args.v) (sym (order_of-table_of c.self.inside.sets.items c.self.inside.order.items) ∙ ap order_of c.self.view_is) ∙ c.requires in
     let within : c.get.result < length c.self.inside.sets.items = rw c.get.ensures (c.self.invariant.within c.args.v there) in
     table_of-set c.self.inside.sets.items c.self.inside.order.items c.get.result c.args.set within
-    ∙ ap₂ (λ (v : ℕ) (t : List Correction). with_sets (λ u members. cond (eqb u v) c.args.set members) t) c.get.ensures c.self.view_is
+    ∙ ap₂ (λ (v : ℕ) (t : List Correction). with_sets (λ u members. cond (eqb u v) c.args.set.ids members) t) c.get.ensures c.self.view_is

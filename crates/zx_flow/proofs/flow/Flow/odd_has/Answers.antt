@@ -10,10 +10,10 @@ use Rattle.zx_flow.proofs.flow.Flow.odd_has.Goals as goal
 pub returns-then-is_live : goal.returns-then-is_live
 returns-then-is_live c =
     let set : List ℕ = set_of c.args.self.now.flow c.args.v in
-    let same : c.set-set.result.now ≡ set = c.set-set.ensures ∙ ap (λ f. set_of f.flow c.args.v) c.self.view_is in
+    let same : c.set-set.result.now.ids ≡ set = c.set-set.ensures ∙ ap (λ f. set_of f.flow c.args.v) c.self.view_is in
     ap (λ k. eqb (k % 2) 1)
-    (c.common_with.ensures.value ∙ ap (count_by (λ p. member p c.neighbour_set.result.now)) same)
-    ∙ parity-common c.args.g.now.graph c.args.w c.neighbour_set.result.now set c.neighbour_set.ensures.valid
+    (c.common_with.ensures.value ∙ ap (count_by (λ p. member p c.neighbour_set.result.now.ids)) same)
+    ∙ parity-common c.args.g.now.graph c.args.w c.neighbour_set.result.now.ids set c.neighbour_set.ensures.valid
     (subst (λ l. in_order ltb l ≡ true) same c.common_with.ensures.rising)
     c.neighbour_set.ensures.members
 

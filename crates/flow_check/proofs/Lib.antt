@@ -1,0 +1,4 @@
+pub mod FirstFailures
+pub mod ConditionLemmas
+pub mod SetLemmas
+pub mod Walking

@@ -1,0 +1,356 @@
+//! A flow found where a graph has one.
+
+ghost use Rattle.std.specs.Prelude.{◌≡◌, ◌≢◌, ◌&&◌, ℕ, true, false, [], reverse, IfOk, IfSome, IfNone, ltb};
+ghost use Rattle.zx_model.specs.Bits.{member};
+ghost use Rattle.zx_calculus.specs.Graph.{Live, Distinct, is_XY, plane_of, in_order};
+ghost use Rattle.gflow_laws.specs.Seen.{seen};
+ghost use Rattle.gflow_laws.specs.Flow.{is_in, order_of, IsFlow};
+ghost use Rattle.flow_find.specs.Frontiers.{AreAll, around, set_from};
+ghost use Rattle.flow_find.specs.Stuck.{IsLargestStuck};
+ghost use Rattle.flow_find.specs.Found.{IfFlow, IfNoFlow};
+ghost use Rattle.flow_find.specs.Internal.Next.{HasSetsOf};
+ghost use Rattle.flow_find.specs.Internal.Solving.{lacking, IsNeeded, IsMissed, IsNext, AreMissed};
+
+use crate::along::{first_rows, table_of, target_of};
+use crate::cheap::{cheapest, is_xy, reordered};
+use crate::frontier::{left_neighbours, pass};
+use crate::picked::Around;
+use crate::ranks::measured;
+use crate::row::Row;
+use crate::rows::add_picked;
+use crate::sets::{set_of, take_out};
+use open_graph::{OpenGraph, Plane, VertexId, VertexSet};
+use std::alloc::{AllocError, Global};
+use zx_flow::FlowTable;
+
+/// What a search for a flow of a graph comes to.
+#[derive(Drop)]
+pub enum Found {
+    /// Correction sets that are a flow.
+    Flow(FlowTable),
+    /// There is no flow: while these vertices come before all others, no set corrects any of them.
+    /// They are the largest such set, by rising id.
+    NoFlow {
+        /// The vertices that are left, of which there are some.
+        left: Vec<VertexId>,
+    },
+}
+
+// A vertex that comes next, and its correction set.
+#[derive(Drop)]
+pub(crate) struct Correctable {
+    pub(crate) vertex: VertexId,
+    pub(crate) members: VertexSet,
+}
+
+/// A flow of a graph, where it has one, and else the largest set of vertices that shows that it
+/// has none.
+///
+/// # Errors
+///
+/// Where memory runs out.
+pub fn find(alloc: Global, g: &OpenGraph) -> Result<Found, AllocError>
+    ensures flow { IfOk result (λ found.
+        IfFlow found (λ table. IsFlow g.now.graph table.table)) }
+    ensures stuck { IfOk result (λ found.
+        IfNoFlow found (λ left. IsLargestStuck g.now.graph left.items)) }
+    ensures some { IfOk result (λ found. IfNoFlow found (λ left. left.items ≢ [])) }
+{
+    let all = measured(alloc, g)?;
+    let mut table = table_of(alloc, &all)?;
+    let mut left = set_of(alloc, &all)?;
+    let mut rows = first_rows(alloc, g, &left)?;
+    let mut order = Vec::new(alloc);
+    let mut beside = Vec::new(alloc);
+    'search: while let Some(found) = next_correctable(alloc, g, &rows, &left, &mut beside)? {
+        let v = found.vertex;
+        table.set(v, found.members);
+        order.push(v)?;
+        take_out(&mut left, v)?;
+        pass(&mut rows, alloc, g, v, &left)?;
+        note_neighbours(&mut beside, g, v)?;
+    }
+    if left.is_empty() {
+        let flow = backwards(alloc, &table, order)?;
+        return Ok(Found::Flow(flow));
+    }
+    let stuck = listed(alloc, &left)?;
+    Ok(Found::NoFlow { left: stuck })
+}
+
+// The sets of a table in the order that is the other way round.
+fn backwards(
+    alloc: Global,
+    table: &FlowTable,
+    mut order: Vec<VertexId>,
+) -> Result<FlowTable, AllocError>
+    requires once { Distinct (reverse order.items) }
+    requires listed { (v : ℕ) → member v (reverse order.items) ≡ true →
+        member v (order_of table.now.table) ≡ true }
+    ensures order { IfOk result (λ new. order_of new.table ≡ reverse order.items) }
+    ensures sets { IfOk result (λ new. HasSetsOf table.now.table (reverse order.items) new.table) }
+{
+    order.reverse();
+    reordered(alloc, table, &order)
+}
+
+// The vertices of a set.
+fn listed(alloc: Global, set: &VertexSet) -> Result<Vec<VertexId>, AllocError>
+    ensures value { IfOk result (λ list. list.items ≡ set.now.ids) }
+    ensures rising { in_order ltb set.now.ids ≡ true }
+{
+    set.iter().collect(alloc)
+}
+
+// Adds the neighbours of a vertex that aren't XY.
+fn note_neighbours(noted: &mut Vec<VertexId>, g: &OpenGraph, v: VertexId) -> Result<(), AllocError>
+    requires { Live g.now.graph v }
+{
+    for w in g.neighbours(v) {
+        if !is_xy(g, w) {
+            noted.push(w)?;
+        }
+    }
+    Ok(())
+}
+
+// A vertex left that is correctable, with its set: where there is one, an XY vertex that is alone
+// in a row, and else one that isn't XY, of those beside a vertex that went at first.
+fn next_correctable(
+    alloc: Global,
+    g: &OpenGraph,
+    rows: &[Row],
+    left: &VertexSet,
+    beside: &mut Vec<VertexId>,
+) -> Result<Option<Correctable>, AllocError>
+    requires { (w : ℕ) → is_in left.now.ids w ≡ true → Live g.now.graph w }
+    ensures some { IfOk result (λ next.
+        IfSome next (IsNext (seen g.now.graph) (is_in left.now.ids) rows.now)) }
+    ensures none { IfOk result (λ next.
+        IfNone next (AreMissed (seen g.now.graph) (is_in left.now.ids) rows.now)) }
+{
+    if let Some(found) = alone(alloc, g, rows, left)? {
+        return Ok(Some(found));
+    }
+    if let Some(found) = any_noted(alloc, g, rows, left, beside)? {
+        return Ok(Some(found));
+    }
+    if let Some(found) = not_xy(alloc, g, rows, left)? {
+        return Ok(Some(found));
+    }
+    any_left(alloc, g, rows, left)
+}
+
+// An XY vertex that is alone in a row.
+fn alone(
+    alloc: Global,
+    g: &OpenGraph,
+    rows: &[Row],
+    left: &VertexSet,
+) -> Result<Option<Correctable>, AllocError>
+    requires { (w : ℕ) → is_in left.now.ids w ≡ true → Live g.now.graph w }
+    ensures { IfOk result (λ next.
+        IfSome next (IsNext (seen g.now.graph) (is_in left.now.ids) rows.now)) }
+{
+    match cheapest(g, rows) {
+        Some(v) if left.contains(v) => with_set(alloc, g, rows, left, v),
+        _ => Ok(None),
+    }
+}
+
+// The last correctable vertex of some, which are taken out up to it.
+fn any_noted(
+    alloc: Global,
+    g: &OpenGraph,
+    rows: &[Row],
+    left: &VertexSet,
+    noted: &mut Vec<VertexId>,
+) -> Result<Option<Correctable>, AllocError>
+    requires { (w : ℕ) → is_in left.now.ids w ≡ true → Live g.now.graph w }
+    ensures { IfOk result (λ next.
+        IfSome next (IsNext (seen g.now.graph) (is_in left.now.ids) rows.now)) }
+{
+    'noted: while let Some(v) = noted.pop() {
+        if left.contains(v) {
+            if let Some(found) = with_set(alloc, g, rows, left, v)? {
+                return Ok(Some(found));
+            }
+        }
+    }
+    Ok(None)
+}
+
+// The first correctable vertex that isn't XY.
+fn not_xy(
+    alloc: Global,
+    g: &OpenGraph,
+    rows: &[Row],
+    left: &VertexSet,
+) -> Result<Option<Correctable>, AllocError>
+    requires { (w : ℕ) → is_in left.now.ids w ≡ true → Live g.now.graph w }
+    ensures { IfOk result (λ next.
+        IfSome next (IsNext (seen g.now.graph) (is_in left.now.ids) rows.now)) }
+{
+    for v in left.iter() {
+        if !has_xy_plane(g, v) {
+            if let Some(found) = with_set(alloc, g, rows, left, v)? {
+                return Ok(Some(found));
+            }
+        }
+    }
+    Ok(None)
+}
+
+// The first correctable vertex.
+fn any_left(
+    alloc: Global,
+    g: &OpenGraph,
+    rows: &[Row],
+    left: &VertexSet,
+) -> Result<Option<Correctable>, AllocError>
+    requires { (w : ℕ) → is_in left.now.ids w ≡ true → Live g.now.graph w }
+    ensures some { IfOk result (λ next.
+        IfSome next (IsNext (seen g.now.graph) (is_in left.now.ids) rows.now)) }
+    ensures none { IfOk result (λ next.
+        IfNone next (AreMissed (seen g.now.graph) (is_in left.now.ids) rows.now)) }
+{
+    for v in left.iter() {
+        if let Some(found) = with_set(alloc, g, rows, left, v)? {
+            return Ok(Some(found));
+        }
+    }
+    Ok(None)
+}
+
+// A vertex left with its set, where it is correctable.
+fn with_set(
+    alloc: Global,
+    g: &OpenGraph,
+    rows: &[Row],
+    left: &VertexSet,
+    v: VertexId,
+) -> Result<Option<Correctable>, AllocError>
+    requires live { Live g.now.graph v }
+    requires there { is_in left.now.ids v ≡ true }
+    ensures some { IfOk result (λ next.
+        IfSome next (IsNext (seen g.now.graph) (is_in left.now.ids) rows.now)) }
+    ensures none { IfOk result (λ next.
+        IfNone next (IsMissed (seen g.now.graph) (is_in left.now.ids) rows.now v)) }
+{
+    if lacks_column(g, rows, left, v) {
+        return Ok(None);
+    }
+    let row = solved(alloc, g, rows, left, v)?;
+    if row.columns.is_empty() {
+        Ok(Some(Correctable {
+            vertex: v,
+            members: row.members,
+        }))
+    } else {
+        Ok(None)
+    }
+}
+
+// Whether the rows lack a column that a vertex left needs.
+fn lacks_column(g: &OpenGraph, rows: &[Row], left: &VertexSet, v: VertexId) -> bool
+    requires live { Live g.now.graph v }
+    requires there { is_in left.now.ids v ≡ true }
+    ensures { result ≡ true → IsMissed (seen g.now.graph) (is_in left.now.ids) rows.now v }
+{
+    match needed_column(g, left, v) {
+        Some(w) => !is_column(rows, w),
+        None => false,
+    }
+}
+
+// A column that a vertex left needs: itself, where it is XY, and else a neighbour that is left.
+fn needed_column(g: &OpenGraph, left: &VertexSet, v: VertexId) -> Option<VertexId>
+    requires live { Live g.now.graph v }
+    requires there { is_in left.now.ids v ≡ true }
+    ensures { IfSome result (IsNeeded (seen g.now.graph) (is_in left.now.ids) v) }
+{
+    if has_xy_plane(g, v) {
+        return Some(v);
+    }
+    for w in g.neighbours(v) {
+        if left.contains(w) {
+            return Some(w);
+        }
+    }
+    None
+}
+
+// Whether a vertex is XY.
+fn has_xy_plane(g: &OpenGraph, v: VertexId) -> bool
+    requires { Live g.now.graph v }
+    ensures { result ≡ is_XY (plane_of g.now.graph v) }
+{
+    matches!(g.weight(v).0, Plane::XY)
+}
+
+// Whether a vertex is a column of some row.
+fn is_column(rows: &[Row], w: VertexId) -> bool
+    ensures { result ≡ false → AreAll (λ row. member w row.columns.ids ≡ false) rows.now }
+{
+    for row in rows {
+        if row.columns.contains(w) {
+            return true;
+        }
+    }
+    false
+}
+
+// The set that the rows give a vertex, with the columns that they lack.
+fn solved(
+    alloc: Global,
+    g: &OpenGraph,
+    rows: &[Row],
+    left: &VertexSet,
+    v: VertexId,
+) -> Result<Row, AllocError>
+    requires live { Live g.now.graph v }
+    requires there { is_in left.now.ids v ≡ true }
+    ensures columns { IfOk result (λ row. (w : ℕ) → member w row.columns.ids ≡
+        lacking (seen g.now.graph) (is_in left.now.ids) rows.now v w) }
+    ensures members { IfOk result (λ row. (w : ℕ) → member w row.members.ids ≡
+        set_from (seen g.now.graph) rows.now v w) }
+{
+    let (plane, _) = g.weight(v);
+    let target = target_of(plane, v);
+    let members = if target.neighbours {
+        VertexSet::one(alloc, v)?
+    } else {
+        VertexSet::new(alloc)
+    };
+    let mut row = Row {
+        pivot: v,
+        columns: left_around(alloc, g, left, &target)?,
+        members,
+    };
+    add_picked(&mut row, g, &target, rows)?;
+    Ok(row)
+}
+
+// The neighbours of a vertex that are left, itself, or both.
+fn left_around(
+    alloc: Global,
+    g: &OpenGraph,
+    left: &VertexSet,
+    target: &Around,
+) -> Result<VertexSet, AllocError>
+    requires live { Live g.now.graph target.now.vertex }
+    requires there { is_in left.now.ids target.now.vertex ≡ true }
+    ensures { IfOk result (λ set. (w : ℕ) → member w set.ids ≡
+        (is_in left.now.ids w && around (seen g.now.graph)
+        target.now.vertex target.now.neighbours target.now.itself w)) }
+{
+    let mut set = if target.neighbours {
+        left_neighbours(alloc, g, target.vertex, left)?
+    } else {
+        VertexSet::new(alloc)
+    };
+    if target.itself {
+        set.toggle(target.vertex)?;
+    }
+    Ok(set)
+}

@@ -1,0 +1,21 @@
+//! The law of circuits with other phases.
+
+ghost use Rattle.std.specs.Prelude.{◌<◌, ℕ};
+ghost use Rattle.zx_model.specs.Phase.{turn};
+ghost use Rattle.zx_model.specs.Proportional.{Proportional};
+ghost use Rattle.zx_calculus.specs.Sum.{sum};
+ghost use Rattle.zx_gates.specs.Circuit.{Circuit, IsCircuit};
+ghost use Rattle.zx_gates.specs.Maps.{amp};
+ghost use Rattle.circuit_graph.specs.Translation.{translated};
+ghost use Rattle.teleport_laws.specs.Shifts.{shifted};
+ghost use Rattle.teleport_circuits.specs.Circuits.{added_by, with_phases, without_idle, IsSkeleton};
+
+/// The graph of a circuit, with what other phases add at the places of its gates, has the map of the
+/// circuit with these phases as its sum, up to a number other than 0. All other gates stay.
+pub fn other_phases_are_added()
+    ensures map { (c : Circuit) (phase : ℕ → ℕ) → IsCircuit c → ((i : ℕ) → phase i < turn) →
+        Proportional c.qubits c.qubits (sum (shifted (added_by c phase) (translated c)))
+        (amp (without_idle (with_phases phase 0 c.gates))) }
+    ensures skeleton { (c : Circuit) (phase : ℕ → ℕ) →
+        IsSkeleton c.gates (without_idle (with_phases phase 0 c.gates)) }
+{}

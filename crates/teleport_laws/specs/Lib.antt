@@ -1,0 +1,3 @@
+pub mod Shifts
+pub mod Spots
+pub mod Groups
