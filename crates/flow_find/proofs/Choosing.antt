@@ -1,5 +1,5 @@
 -- A vertex that is alone in a row, and its way towards the end.
-use Rattle.std.proofs.Common.{Result, Ok, Err, IfOk, cond, false, ◌||◌, ◌≡◌, refl, sym, ◌∙◌, ap, subst, inl, inr, not, ◌&&◌, append-nil, ℕ, suc, zero, ◌<◌, ◌≤◌, Bool, true, eqb, eqb-true, true≢false, List, [], ◌∷◌, ◌++◌, length, take, drop, get_or, insert, remove, arith}
+use Rattle.std.proofs.Common.{Result, Ok, Err, IfOk, cond, false, ◌||◌, ◌≡◌, refl, sym, ◌∙◌, ap, subst, inl, inr, not, ◌&&◌, append-nil, ℕ, suc, zero, ◌-◌, ◌<◌, ◌≤◌, Bool, true, eqb, eqb-true, true≢false, List, [], ◌∷◌, ◌++◌, length, take, drop, get_or, insert, remove, arith}
 use Rattle.std.proofs.lemmas.List.{take-append-drop}
 use Rattle.zx_model.specs.Bits.{member}
 use Rattle.zx_calculus.proofs.Booleans.{or-false, or-true}
@@ -180,40 +180,56 @@ chosen_found g rows i order new table (inl m) once f =
     (still_found g m.put_off.before m.put_off.after m.put_off.gone m.put_off.vertex i table m.put_off.size (subst Distinct m.put_off.was once)
     (subst (λ o. IsFoundAlong g o (suc i) table) m.put_off.was f))
 
--- then it goes
-module _ (g : Graph) (formed : WellFormed g) (rows : List Row) (i : ℕ) (order new : List ℕ) (left : ℕ → Bool) (v : ℕ) (choice : IsChosen (seen g) rows i order new)
-    (all : IsLeftAlong g order (suc i) left rows) (within : i < length order) (is : v ≡ get_or new i v) where
+-- then it goes: v stands at this place of the new order
+pub record IsNext (g : Graph) (rows : List Row) (i : ℕ) (order new : List ℕ) (left : ℕ → Bool) (v : ℕ) : Type 0 where
+  pub formed : WellFormed g
+  pub choice : IsChosen (seen g) rows i order new
+  pub all : IsLeftAlong g order (suc i) left rows
+  pub within : i < length order
+  pub there : v ≡ get_or new i v
+
+pub is_next : (g : Graph) (told rows : List Row) (i : ℕ) (first order new : List ℕ) (left : ℕ → Bool) (v : ℕ) → WellFormed g → told ≡ rows → 0 < i → i ≤ length first →
+    length order ≡ length first → IsChosen (seen g) told (i - 1) order new → IsLeftAlong g order i left rows → v ≡ get_or new (i - 1) v → IsNext g rows (i - 1) order new left v
+is_next g told rows i first order new left v formed same some bound size choice all there = record {
+  formed = formed;
+  choice = subst (λ (rs : List Row). IsChosen (seen g) rs (i - 1) order new) same choice;
+  all = subst (λ (k : ℕ). IsLeftAlong g order k left rows) (omega arith) all;
+  within = omega (arith, size, some, bound);
+  there = there;
+}
+
+module _ (g : Graph) (rows : List Row) (i : ℕ) (order new : List ℕ) (left : ℕ → Bool) (v : ℕ) (n : IsNext g rows i order new left v) where
   now_along : IsLeftAlong g new (suc i) left rows
-  now_along = chosen g rows i order new left choice all
+  now_along = chosen g rows i order new left n.choice n.all
 
   place : IsPlace new i v
-  place = is_place new i v (let size = same_size (seen g) rows i order new choice in omega (arith, size)) is
+  place = is_place new i v (let size = same_size (seen g) rows i order new n.choice in let within = n.within in omega (arith, size, within)) n.there
 
   pub lives : Live g v
-  lives = is_live g new formed now_along.is_order i v place
+  lives = is_live g new n.formed now_along.is_order i v place
 
   pub passable : (now : ℕ → Bool) → ((w : ℕ) → now w ≡ (not (eqb w v) && left w)) → IsPassable (seen g) now v rows
-  passable now cleared = still_left (seen g) left now v rows (last_left g new formed now_along.is_order i v place left now_along.marks) cleared now_along.frontier
-      (correctable_at g new formed now_along.is_order i v place left now_along.marks)
+  passable now cleared = still_left (seen g) left now v rows (last_left g new n.formed now_along.is_order i v place left now_along.marks) cleared now_along.frontier
+      (correctable_at g new n.formed now_along.is_order i v place left now_along.marks)
 
   pub gone_on : (now : ℕ → Bool) (later : List Row) → ((w : ℕ) → now w ≡ (not (eqb w v) && left w)) → IsFrontierOf (seen g) now later → IsLeftAlong g new i now later
   gone_on now later cleared frontier = record {
     is_order = now_along.is_order;
-    marks = one_less g new formed now_along.is_order i v place left now now_along.marks cleared;
+    marks = one_less g new n.formed now_along.is_order i v place left now now_along.marks cleared;
     frontier = frontier;
   }
 
   pub found_on : (table : List Correction) (members : List ℕ) → IsFoundAlong g order (suc i) table → ((w : ℕ) → member w members ≡ set_from (seen g) rows v w) →
       IsFoundAlong g new i (with_sets (λ u set. cond (eqb u v) members set) table)
   found_on table members found is_set =
-      let f : IsFoundAlong g new (suc i) table = chosen_found g rows i order new table choice all.is_order.each_once found in
+      let f : IsFoundAlong g new (suc i) table = chosen_found g rows i order new table n.choice n.all.is_order.each_once found in
       record {
         listed = λ w. ap (member w) (order_of-with_sets (λ u set. cond (eqb u v) members set) table) ∙ f.listed w;
-        corrected = corrected_more g new formed now_along.is_order i v place left rows table members f.listed now_along.marks now_along.frontier is_set f.corrected;
+        corrected = corrected_more g new n.formed now_along.is_order i v place left rows table members f.listed now_along.marks now_along.frontier is_set f.corrected;
       }
 
   pub set_listed : (table : List Correction) → IsFoundAlong g order (suc i) table → member v (order_of table) ≡ true
-  set_listed table found = (chosen_found g rows i order new table choice all.is_order.each_once found).listed v ∙ listed g new formed now_along.is_order i v place
+  set_listed table found = (chosen_found g rows i order new table n.choice n.all.is_order.each_once found).listed v ∙ listed g new n.formed now_along.is_order i v place
 
 -- all sets are found, and stand in the order
 pub all_found : (g : Graph) (order : List ℕ) (left : ℕ → Bool) (rows : List Row) (table new : List Correction) → IsLeftAlong g order 0 left rows → IsFoundAlong g order 0 table →

@@ -1,6 +1,5 @@
 -- What only private contracts and proofs cite: nobody has to read it to trust a promise of this
 -- crate.
 pub mod Rows
-pub mod Drawn
 pub mod Next
 pub mod Solving

@@ -105,14 +105,18 @@ fn next_place(g: &OpenGraph, order: &[VertexId], last: usize, rows: &[Row]) -> O
     }
 }
 
-// The place of a vertex, where it stands before the last one left.
+// The place of a vertex, where it stands before the last one left. It is looked for from the end,
+// since what comes next is mostly near it.
 fn place_before(order: &[VertexId], v: VertexId, last: usize) -> Option<usize>
+    requires { last < length order.now }
     ensures { IfSome result (λ place. IsPlaceBefore order.now v last place) }
 {
-    match order.iter().position(|w| *w == v) {
-        Some(place) if place <= last => Some(place),
-        _ => None,
+    for place in (0..last + 1).rev() {
+        if order[place] == v {
+            return Some(place);
+        }
     }
+    None
 }
 
 // Moves the vertex of a place to a later one.

@@ -22,8 +22,6 @@ mod row;
 mod rows;
 mod search;
 mod sets;
-#[cfg(test)]
-mod tests;
 
 pub use along::find_along;
 pub use cheap::find_cheap;

@@ -6,3 +6,8 @@ pub mod LikeSum
 pub mod FusingLemmas
 pub mod TakingIn
 pub mod Joining
+pub mod Homing
+pub mod Phasing
+pub mod Building
+pub mod Ending
+pub mod Forming

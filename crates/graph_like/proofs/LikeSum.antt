@@ -48,7 +48,7 @@ one_like_form d g h a b =
     ∙ sym b.graph
 
 -- numbers in a row
-numbers_from-append : (a c k : ℕ) → numbers_from a c ++ numbers_from (a + c) k ≡ numbers_from a (c + k)
+pub numbers_from-append : (a c k : ℕ) → numbers_from a c ++ numbers_from (a + c) k ≡ numbers_from a (c + k)
 numbers_from-append a nought k = ap₂ numbers_from (omega arith) (omega arith)
 numbers_from-append a (suc c) k =
     let next : a + suc c ≡ suc a + c = omega arith in
@@ -60,20 +60,20 @@ all_above : (a k n : ℕ) → a < k → list_all (ltb a) (numbers_from k n) ≡ 
 all_above a k nought low = refl
 all_above a k (suc n) low = ap₂ (λ b c. b && c) (lt-ltb a k low) (all_above a (suc k) n (omega arith))
 
-rising-numbers_from : (k n : ℕ) → in_order ltb (numbers_from k n) ≡ true
+pub rising-numbers_from : (k n : ℕ) → in_order ltb (numbers_from k n) ≡ true
 rising-numbers_from k nought = refl
 rising-numbers_from k (suc n) = ap₂ (λ b c. b && c) (all_above k (suc k) n (omega arith)) (rising-numbers_from (suc k) n)
 
 -- vertices
-ids-append : (vs ws : List Vertex) → ids (vs ++ ws) ≡ ids vs ++ ids ws
+pub ids-append : (vs ws : List Vertex) → ids (vs ++ ws) ≡ ids vs ++ ids ws
 ids-append [] ws = refl
 ids-append (v ∷ vs) ws = ap (λ l. v.id ∷ l) (ids-append vs ws)
 
-ids-classes : (d : Diagram) (home : ℕ → ℕ) (ps : List ℕ) → ids (map (class_vertex d home) ps) ≡ ps
+pub ids-classes : (d : Diagram) (home : ℕ → ℕ) (ps : List ℕ) → ids (map (class_vertex d home) ps) ≡ ps
 ids-classes d home [] = refl
 ids-classes d home (p ∷ ps) = ap (λ l. p ∷ l) (ids-classes d home ps)
 
-ids-new : (ps : List ℕ) → ids (map spider_of_phase_zero ps) ≡ ps
+pub ids-new : (ps : List ℕ) → ids (map spider_of_phase_zero ps) ≡ ps
 ids-new [] = refl
 ids-new (p ∷ ps) = ap (λ l. p ∷ l) (ids-new ps)
 
@@ -90,12 +90,12 @@ vertex_product-new [] label = refl
 vertex_product-new (p ∷ ps) label = ap₂ mul (spider-zero (label p)) (vertex_product-new ps label) ∙ one-mul one
 
 -- adjacency
-joined_oddly_comm : (spiders : List Spider) (home : ℕ → ℕ) (es : List Wire) → Symmetric (joined_oddly spiders home es)
+pub joined_oddly_comm : (spiders : List Spider) (home : ℕ → ℕ) (es : List Wire) → Symmetric (joined_oddly spiders home es)
 joined_oddly_comm spiders home [] p q = refl
 joined_oddly_comm spiders home (e ∷ es) p q =
     ap₂ (λ a b. xor (edge_mark spiders e && a) b) (is_pair_comm (home e.a) (home e.b) p q) (joined_oddly_comm spiders home es p q)
 
-hangs_comm : (next : ℕ) (vs : List ℕ) → Symmetric (hangs next vs)
+pub hangs_comm : (next : ℕ) (vs : List ℕ) → Symmetric (hangs next vs)
 hangs_comm next [] p q = refl
 hangs_comm next (v ∷ vs) p q = ap₂ xor (is_pair_comm v next p q) (hangs_comm (suc next) vs p q)
 
@@ -152,7 +152,7 @@ quad-far a w (v ∷ vs) label h to from =
         ∙ masked-same (a w) (λ p. false) vs k k (λ p t. ap (λ b. b && k p) (from p))
         ∙ masked-false vs k
 
-AreBelow-ends : (spiders : List Spider) (home : ℕ → ℕ) (n c : ℕ) (legs : List Leg) → All (λ leg. leg.spider < n) legs →
+pub AreBelow-ends : (spiders : List Spider) (home : ℕ → ℕ) (n c : ℕ) (legs : List Leg) → All (λ leg. leg.spider < n) legs →
     ((u : ℕ) → u < n → home u < c) → AreBelow c (end_vertices (ends_at spiders home legs))
 AreBelow-ends spiders home n c [] on within v there = absurd (true≢false (sym there))
 AreBelow-ends spiders home n c (l ∷ ls) on within v there =
@@ -174,7 +174,7 @@ append_assoc : (us vs ws : List ℕ) → (us ++ vs) ++ ws ≡ us ++ (vs ++ ws)
 append_assoc [] vs ws = refl
 append_assoc (u ∷ us) vs ws = ap (λ l. u ∷ l) (append_assoc us vs ws)
 
-length-ends_at : (spiders : List Spider) (home : ℕ → ℕ) (legs : List Leg) → length (ends_at spiders home legs) ≡ length legs
+pub length-ends_at : (spiders : List Spider) (home : ℕ → ℕ) (legs : List Leg) → length (ends_at spiders home legs) ≡ length legs
 length-ends_at spiders home [] = refl
 length-ends_at spiders home (l ∷ ls) = ap (λ n. suc n) (length-ends_at spiders home ls)
 
@@ -231,7 +231,7 @@ graph_sum g x y =
     ap (λ n. total (map (λ hs. graph.term g x y (label_of (ids g.vertices) hs)) (all_labels n))) (sym (length-ids g.vertices))
     ∙ all_lists (ids g.vertices) (graph.term g x y)
 
-absent_of : (c w : ℕ) (vs : List ℕ) → AreBelow c vs → c ≤ w → member w vs ≡ false
+pub absent_of : (c w : ℕ) (vs : List ℕ) → AreBelow c vs → c ≤ w → member w vs ≡ false
 absent_of c w vs below far =
     by_test (member w vs) (λ t. let low : w < c = below w t in absurd (omega arith)) (λ t. t)
 

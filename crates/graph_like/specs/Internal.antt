@@ -1,1 +1,4 @@
 pub mod Fusing
+pub mod Homes
+pub mod Phases
+pub mod Building

@@ -20,14 +20,16 @@ pub fn least_spiders(alloc: Global, d: &Diagram) -> Result<Vec<usize>, AllocErro
     ensures length { IfOk result (λ least. length least.items ≡ length d.now.spiders) }
 {
     let count = d.spiders().len();
-    let mut near = plain_neighbours(alloc, d)?;
-    let mut least = own_numbers(alloc, count)?;
+    let mut contraction = Contraction {
+        near: plain_neighbours(alloc, d)?,
+        least: own_numbers(alloc, count)?,
+    };
     // A spider takes in those at the other ends of its plain edges, whose edges it takes over, until it has none left
     // but to itself.
     for u in 0..count {
-        take_in_all(alloc, &mut near, &mut least, u)?;
+        contraction.take_in_all(alloc, u)?;
     }
-    Ok(least)
+    Ok(contraction.least)
 }
 
 // For each spider its neighbours along plain edges.
@@ -88,85 +90,78 @@ fn own_numbers(alloc: Global, count: usize) -> Result<Vec<usize>, AllocError>
     Ok(numbers)
 }
 
-// Contracts the plain edges of a spider, those that it takes over too, unless another one has taken it in.
-fn take_in_all(
-    alloc: Global,
-    near: &mut Vec<Near>,
-    least: &mut Vec<usize>,
-    u: usize,
-) -> Result<(), AllocError>
-    requires there { u < length near.old.items }
-    requires same { length least.old.items ≡ length near.old.items }
-    requires within { AreWithin near.old.items (length near.old.items) }
-    ensures same { OnOk result (length near.new.items ≡ length near.old.items) }
-    ensures same_least { OnOk result (length least.new.items ≡ length near.old.items) }
-    ensures within { OnOk result (AreWithin near.new.items (length near.old.items)) }
-    ensures fusing { OnOk result ((d : Seen) →
-        IsFusing d (named_by least.old.items) (near_at near.old.items) u u →
-        IsFusing d (named_by least.new.items) (near_at near.new.items) (suc u) (suc u)) }
-{
-    if least[u] != u {
-        return Ok(());
-    }
-    let mut i = 0;
-    while i < near[u].len() {
-        let v = near[u].at(i);
-        visit(alloc, near, least, u, v)?;
-        i += 1;
-    }
-    Ok(())
+// Plain edges while they are contracted: for each spider its neighbours along those that are left, and the smallest
+// one of the spiders that are one with it so far.
+#[derive(Drop)]
+struct Contraction {
+    near: Vec<Near>,
+    least: Vec<usize>,
 }
 
-// Goes on to the next spider that is to be taken in, and takes it in unless it is already.
-fn visit(
-    alloc: Global,
-    near: &mut Vec<Near>,
-    least: &mut Vec<usize>,
-    u: usize,
-    v: usize,
-) -> Result<(), AllocError>
-    requires u_there { u < length near.old.items }
-    requires v_there { v < length near.old.items }
-    requires same { length least.old.items ≡ length near.old.items }
-    requires own { named_by least.old.items u ≡ u }
-    requires within { AreWithin near.old.items (length near.old.items) }
-    ensures same { OnOk result (length near.new.items ≡ length near.old.items) }
-    ensures same_least { OnOk result (length least.new.items ≡ length near.old.items) }
-    ensures own { OnOk result (named_by least.new.items u ≡ u) }
-    ensures within { OnOk result (AreWithin near.new.items (length near.old.items)) }
-    ensures total { OnOk result (sum_by length near.new.items ≡ sum_by length near.old.items) }
-    ensures longer { OnOk result
-        (length (near_at near.old.items u) ≤ length (near_at near.new.items u)) }
-    ensures stage { OnOk result (IsNextStage near.old.items near.new.items
-        (named_by least.old.items) (named_by least.new.items) u v) }
-{
-    if v != u && least[v] == v {
-        take_in(alloc, near, least, u, v)?;
-        return Ok(());
+impl Contraction {
+    // Contracts the plain edges of a spider, those that it takes over too, unless another one has taken it in.
+    fn take_in_all(&mut self, alloc: Global, u: usize) -> Result<(), AllocError>
+        requires there { u < length self.old.near.items }
+        requires same { length self.old.least.items ≡ length self.old.near.items }
+        requires within { AreWithin self.old.near.items (length self.old.near.items) }
+        ensures same { OnOk result (length self.new.near.items ≡ length self.old.near.items) }
+        ensures same_least { OnOk result (length self.new.least.items ≡ length self.old.near.items) }
+        ensures within { OnOk result (AreWithin self.new.near.items (length self.old.near.items)) }
+        ensures fusing { OnOk result ((d : Seen) →
+            IsFusing d (named_by self.old.least.items) (near_at self.old.near.items) u u →
+            IsFusing d (named_by self.new.least.items) (near_at self.new.near.items) (suc u) (suc u)) }
+    {
+        if self.least[u] != u {
+            return Ok(());
+        }
+        let mut i = 0;
+        while i < self.near[u].len() {
+            let v = self.near[u].at(i);
+            self.visit(alloc, u, v)?;
+            i += 1;
+        }
+        Ok(())
     }
-    Ok(())
-}
 
-// Contracts a plain edge between two spiders: the first takes over the edges of the second.
-fn take_in(
-    alloc: Global,
-    near: &mut Vec<Near>,
-    least: &mut Vec<usize>,
-    u: usize,
-    v: usize,
-) -> Result<(), AllocError>
-    requires u_there { u < length near.old.items }
-    requires v_there { v < length near.old.items }
-    requires same { length least.old.items ≡ length near.old.items }
-    requires different { v ≢ u }
-    ensures same { OnOk result (length near.new.items ≡ length near.old.items) }
-    ensures same_least { OnOk result (length least.new.items ≡ length near.old.items) }
-    ensures total { OnOk result (sum_by length near.new.items ≡ sum_by length near.old.items) }
-    ensures taken { OnOk result (IsTakenIn (named_by least.old.items) (named_by least.new.items)
-        (near_at near.old.items) (near_at near.new.items) u v) }
-{
-    let taken = mem::replace(&mut near[v], Near::new(alloc));
-    near[u].append(taken)?;
-    least[v] = u;
-    Ok(())
+    // Goes on to the next spider that is to be taken in, and takes it in unless it is already.
+    fn visit(&mut self, alloc: Global, u: usize, v: usize) -> Result<(), AllocError>
+        requires u_there { u < length self.old.near.items }
+        requires v_there { v < length self.old.near.items }
+        requires same { length self.old.least.items ≡ length self.old.near.items }
+        requires own { named_by self.old.least.items u ≡ u }
+        requires within { AreWithin self.old.near.items (length self.old.near.items) }
+        ensures same { OnOk result (length self.new.near.items ≡ length self.old.near.items) }
+        ensures same_least { OnOk result (length self.new.least.items ≡ length self.old.near.items) }
+        ensures own { OnOk result (named_by self.new.least.items u ≡ u) }
+        ensures within { OnOk result (AreWithin self.new.near.items (length self.old.near.items)) }
+        ensures total { OnOk result (sum_by length self.new.near.items ≡ sum_by length self.old.near.items) }
+        ensures longer { OnOk result
+            (length (near_at self.old.near.items u) ≤ length (near_at self.new.near.items u)) }
+        ensures stage { OnOk result (IsNextStage self.old.near.items self.new.near.items
+            (named_by self.old.least.items) (named_by self.new.least.items) u v) }
+    {
+        if v != u && self.least[v] == v {
+            self.take_in(alloc, u, v)?;
+            return Ok(());
+        }
+        Ok(())
+    }
+
+    // Contracts a plain edge between two spiders: the first takes over the edges of the second.
+    fn take_in(&mut self, alloc: Global, u: usize, v: usize) -> Result<(), AllocError>
+        requires u_there { u < length self.old.near.items }
+        requires v_there { v < length self.old.near.items }
+        requires same { length self.old.least.items ≡ length self.old.near.items }
+        requires different { v ≢ u }
+        ensures same { OnOk result (length self.new.near.items ≡ length self.old.near.items) }
+        ensures same_least { OnOk result (length self.new.least.items ≡ length self.old.near.items) }
+        ensures total { OnOk result (sum_by length self.new.near.items ≡ sum_by length self.old.near.items) }
+        ensures taken { OnOk result (IsTakenIn (named_by self.old.least.items) (named_by self.new.least.items)
+            (near_at self.old.near.items) (near_at self.new.near.items) u v) }
+    {
+        let taken = mem::replace(&mut self.near[v], Near::new(alloc));
+        self.near[u].append(taken)?;
+        self.least[v] = u;
+        Ok(())
+    }
 }

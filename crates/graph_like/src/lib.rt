@@ -1,20 +1,30 @@
 //! Two-coloured diagrams made graph-like: a vertex for each class of spiders that plain edges join.
 //!
-//! Proved: a diagram has one graph-like form, and its linear map is the diagram's up to a nonzero
-//! scalar; `least_spiders` names the classes, each by its smallest spider.
+//! Proved: `graph_like` makes the graph-like form of a diagram, whose linear map is the diagram's up
+//! to a nonzero scalar; a diagram has one such form; `least_spiders` names the classes, each by its
+//! smallest spider.
 //!
 //! ```rust
 //! let least = least_spiders(alloc, &diagram)?;
 //! let fused = least[u] == least[v];              // whether two spiders are of one class
+//! let graph = graph_like(alloc, diagram)?;
 //! ```
 #![tactic(auto)]
 
 mod classes;
+mod ends;
+mod form;
+#[cfg(test)]
+mod form_tests;
+mod homes;
 mod laws;
 mod marks;
 mod near;
+mod phases;
 #[cfg(test)]
 mod tests;
+mod vertices;
 
 pub use classes::least_spiders;
+pub use form::graph_like;
 pub use laws::{diagrams_have_one_like_form, like_form_keeps_sum};

@@ -1,9 +1,9 @@
 //! The change of colour: how many Hadamards a wire carries, those of X spiders at its ends counted.
 
 ghost use Rattle.std.specs.Prelude.{◌≡◌, ◌<◌, length};
-ghost use Rattle.zx_diagram.specs.Sum.{edge_mark, is_X_at};
+ghost use Rattle.zx_diagram.specs.Sum.{edge_mark, leg_mark, is_X_at};
 
-use zx_diagram::{Colour, Spider, Wire};
+use zx_diagram::{Colour, Leg, Spider, Wire};
 
 // Whether a spider is an X spider.
 fn is_x(spiders: &[Spider], number: usize) -> bool
@@ -20,4 +20,12 @@ pub(crate) fn edge_mark(spiders: &[Spider], edge: Wire) -> bool
     ensures { result ≡ edge_mark spiders.now edge }
 {
     edge.hadamard ^ (is_x(spiders, edge.a) ^ is_x(spiders, edge.b))
+}
+
+// Whether an end carries an odd number of Hadamards.
+pub(crate) fn leg_mark(spiders: &[Spider], leg: Leg) -> bool
+    requires { leg.spider < length spiders.now }
+    ensures { result ≡ leg_mark spiders.now leg }
+{
+    leg.hadamard ^ is_x(spiders, leg.spider)
 }

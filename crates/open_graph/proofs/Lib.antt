@@ -8,3 +8,4 @@ pub mod Keeping
 pub mod Removing
 pub mod RowToggles
 pub mod RoomLemmas
+pub mod ReachLemmas

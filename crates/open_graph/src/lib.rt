@@ -4,8 +4,9 @@
 //! stays well-formed; a new id is the least that no vertex has; readers tell the lists, neighbours
 //! and vertices by rising id; a copy has the same lists; want of memory leaves them as they were,
 //! but leaves no vertex where it stops `toggle_across` or `toggle_among`, which toggle whole rows. A
-//! graph tells how many vertices it takes without memory, and a set of vertices below which bound it
-//! takes any id without memory; `reserve` raises either.
+//! graph tells how many vertices it takes without memory, and its reach, below which any edges are
+//! toggled without memory; a set of vertices tells below which bound it takes any id without memory;
+//! `reserve` raises each, and no call lowers a reach.
 //!
 //! ```rust
 //! let mut g = OpenGraph::new(alloc);
@@ -24,8 +25,6 @@ mod side;
 mod slot;
 mod slot_table;
 mod slots;
-#[cfg(test)]
-mod tests;
 mod vertex_set;
 mod vertices;
 

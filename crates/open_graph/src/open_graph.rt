@@ -11,6 +11,7 @@ ghost use Rattle.zx_calculus.specs.Worked.{vertex};
 ghost use Rattle.zx_calculus.specs.Edits.{IsToggle, IsRemoval, at_vertex};
 ghost use Rattle.zx_calculus.specs.Toggles.{IsToggled, across, among};
 ghost use Rattle.zx_bits.specs.Rows.{IsFirstFrom};
+ghost use Rattle.zx_bits.specs.Sets.{IsBelow};
 ghost use Rattle.open_graph.specs.Planes.{plane_named};
 ghost use Rattle.open_graph.specs.Internal.Slots.{Tells};
 
@@ -28,13 +29,18 @@ use std::alloc::{AllocError, Global};
 use std::marker::Model;
 use zx_model::Sixteenth;
 
-/// An open graph: vertices with planes and phases, edges, and lists of inputs and outputs.
+/// An open graph: vertices with planes and phases, edges, and lists of inputs and outputs. It has a
+/// reach, 0 at first: edges between vertices whose ids are below it are toggled without memory.
 #[derive(Drop)]
 pub struct OpenGraph {
     alloc: Global,
     slots: SlotTable,
     inputs: Vec<End>,
     outputs: Vec<End>,
+    // Empty rows, from which those of the ids below the reach that no vertex has are taken.
+    kept: Vec<VertexSet>,
+    // Each id below it has a row, of its vertex or kept, with room for all ids below it.
+    reach: usize,
 }
 
 impl Model for OpenGraph {
@@ -42,15 +48,17 @@ impl Model for OpenGraph {
 
     ghost Value = { Seen };
 
-    ghost use Rattle.open_graph.specs.Internal.Slots.{graph_of, IsSound};
-    ghost use Rattle.open_graph.specs.Internal.Room.{vacant_in};
+    ghost use Rattle.open_graph.specs.Internal.Slots.{graph_of};
+    ghost use Rattle.open_graph.specs.Internal.Room.{vacant_in, IsKept};
 
     ghost view = { λ g. record {
       graph = graph_of g.slots.slots g.inputs.items g.outputs.items;
       spare = vacant_in g.slots.slots;
+      reach = g.reach;
     } };
 
-    ghost invariant = { λ g. IsSound g.slots.slots g.inputs.items g.outputs.items };
+    ghost invariant = { λ g.
+        IsKept g.slots.slots g.inputs.items g.outputs.items g.kept.items g.reach };
 }
 
 impl OpenGraph {
@@ -63,6 +71,8 @@ impl OpenGraph {
             slots: SlotTable::new(alloc),
             inputs: Vec::new(alloc),
             outputs: Vec::new(alloc),
+            kept: Vec::new(alloc),
+            reach: 0,
         }
     }
 
@@ -78,9 +88,10 @@ impl OpenGraph {
         ensures has_room { 0 < self.old.spare → IsOk result }
         ensures spare { OnOk result (self.new.spare ≡ self.old.spare - 1) }
         ensures same_spare { OnErr result (self.new.spare ≡ self.old.spare) }
+        ensures reach { self.new.reach ≡ self.old.reach }
         ensures valid { WellFormed self.new.graph }
     {
-        let v = slots::add(&mut self.slots, self.alloc, plane, phase)?;
+        let v = slots::add(&mut self.slots, &mut self.kept, self.alloc, plane, phase)?;
         Ok(v)
     }
 
@@ -93,6 +104,7 @@ impl OpenGraph {
             record self.old.graph { inputs = self.old.graph.inputs ++ end ∷ [] }) }
         ensures err { OnErr result (self.new.graph ≡ self.old.graph) }
         ensures room { self.new.spare ≡ self.old.spare }
+        ensures reach { self.new.reach ≡ self.old.reach }
         ensures valid { WellFormed self.new.graph }
     {
         side::add_end(&mut self.inputs, &mut self.slots, Side::Input, end)?;
@@ -108,6 +120,7 @@ impl OpenGraph {
             record self.old.graph { outputs = self.old.graph.outputs ++ end ∷ [] }) }
         ensures err { OnErr result (self.new.graph ≡ self.old.graph) }
         ensures room { self.new.spare ≡ self.old.spare }
+        ensures reach { self.new.reach ≡ self.old.reach }
         ensures valid { WellFormed self.new.graph }
     {
         side::add_end(&mut self.outputs, &mut self.slots, Side::Output, end)?;
@@ -122,6 +135,7 @@ impl OpenGraph {
         requires free { member end.vertex (end_vertices (remove self.old.graph.inputs i)) ≡ false }
         ensures ok { self.new.graph ≡ record self.old.graph { inputs = slice_set self.old.graph.inputs i end } }
         ensures room { self.new.spare ≡ self.old.spare }
+        ensures reach { self.new.reach ≡ self.old.reach }
         ensures valid { WellFormed self.new.graph }
     {
         side::move_end(&mut self.inputs, &mut self.slots, Side::Input, i, end);
@@ -135,6 +149,7 @@ impl OpenGraph {
         requires free { member end.vertex (end_vertices (remove self.old.graph.outputs i)) ≡ false }
         ensures ok { self.new.graph ≡ record self.old.graph { outputs = slice_set self.old.graph.outputs i end } }
         ensures room { self.new.spare ≡ self.old.spare }
+        ensures reach { self.new.reach ≡ self.old.reach }
         ensures valid { WellFormed self.new.graph }
     {
         side::move_end(&mut self.outputs, &mut self.slots, Side::Output, i, end);
@@ -146,13 +161,14 @@ impl OpenGraph {
         requires interior { Interior self.old.graph v }
         ensures ok { IsRemoval self.old.graph v self.new.graph }
         ensures spare { self.new.spare ≡ self.old.spare + 1 }
+        ensures reach { self.new.reach ≡ self.old.reach }
         ensures valid { WellFormed self.new.graph }
     {
-        slots::remove(&mut self.slots, v);
+        slots::remove(&mut self.slots, &mut self.kept, v);
     }
 
     /// Adds the edge between two vertices where there is none, and takes it out where there is one. Where memory runs
-    /// out the graph stays as it was.
+    /// out the graph stays as it was; below the reach none is needed.
     pub fn toggle_edge(&mut self, u: VertexId, v: VertexId) -> Result<(), AllocError>
         requires u_live { Live self.old.graph u }
         requires v_live { Live self.old.graph v }
@@ -160,14 +176,17 @@ impl OpenGraph {
         ensures ok { OnOk result (IsToggle self.old.graph u v self.new.graph) }
         ensures err { OnErr result (self.new.graph ≡ self.old.graph) }
         ensures room { self.new.spare ≡ self.old.spare }
+        ensures reach { self.new.reach ≡ self.old.reach }
+        ensures has_room { u < self.old.reach → v < self.old.reach → IsOk result }
         ensures valid { WellFormed self.new.graph }
     {
-        slots::toggle(&mut self.slots, u, v)?;
+        slots::toggle(&mut self.slots, self.reach, u, v)?;
         Ok(())
     }
 
     /// Toggles each edge between a vertex on the left and one on the right: twice, so not at all,
-    /// where it is one either way round. Where memory runs out the graph is left empty.
+    /// where it is one either way round. Where memory runs out the graph is left empty, with its reach;
+    /// below the reach none is needed.
     pub fn toggle_across(&mut self, left: &VertexSet, right: &VertexSet) -> Result<(), AllocError>
         requires left_live { (p : ℕ) → member p left.now.ids ≡ true → Live self.old.graph p }
         requires right_live { (p : ℕ) → member p right.now.ids ≡ true → Live self.old.graph p }
@@ -176,31 +195,42 @@ impl OpenGraph {
         ensures err { OnErr result (self.new.graph ≡
             record { vertices = []; edges = []; inputs = []; outputs = [] }) }
         ensures room { OnOk result (self.new.spare ≡ self.old.spare) }
+        ensures keeps_spare { self.old.spare ≤ self.new.spare }
+        ensures reach { self.new.reach ≡ self.old.reach }
+        ensures has_room { IsBelow self.old.reach left.now.ids →
+            IsBelow self.old.reach right.now.ids → IsOk result }
         ensures was_valid { WellFormed self.old.graph }
         ensures valid { WellFormed self.new.graph }
     {
-        if let Err(error) = slots::toggle_across(&mut self.slots, left, right) {
+        if let Err(error) = slots::toggle_across(&mut self.slots, self.reach, left, right) {
             // Some edges may stand in one of their two rows alone.
-            *self = OpenGraph::new(self.alloc);
+            slots::clear(&mut self.slots, &mut self.kept);
+            self.inputs.clear();
+            self.outputs.clear();
             return Err(error);
         }
         Ok(())
     }
 
-    /// Toggles each edge between two of these vertices. Where memory runs out the graph is left
-    /// empty.
+    /// Toggles each edge between two of these vertices. Where memory runs out the graph is left empty,
+    /// with its reach; below the reach none is needed.
     pub fn toggle_among(&mut self, vertices: &VertexSet) -> Result<(), AllocError>
         requires { (p : ℕ) → member p vertices.now.ids ≡ true → Live self.old.graph p }
         ensures ok { OnOk result (IsToggled self.old.graph (among vertices.now.ids) self.new.graph) }
         ensures err { OnErr result (self.new.graph ≡
             record { vertices = []; edges = []; inputs = []; outputs = [] }) }
         ensures room { OnOk result (self.new.spare ≡ self.old.spare) }
+        ensures keeps_spare { self.old.spare ≤ self.new.spare }
+        ensures reach { self.new.reach ≡ self.old.reach }
+        ensures has_room { IsBelow self.old.reach vertices.now.ids → IsOk result }
         ensures was_valid { WellFormed self.old.graph }
         ensures valid { WellFormed self.new.graph }
     {
-        if let Err(error) = slots::toggle_among(&mut self.slots, vertices) {
+        if let Err(error) = slots::toggle_among(&mut self.slots, self.reach, vertices) {
             // Some edges may stand in one of their two rows alone.
-            *self = OpenGraph::new(self.alloc);
+            slots::clear(&mut self.slots, &mut self.kept);
+            self.inputs.clear();
+            self.outputs.clear();
             return Err(error);
         }
         Ok(())
@@ -214,6 +244,7 @@ impl OpenGraph {
           vertices = with_kinds (at_vertex v (λ _. in_plane (plane_named plane) phase)) self.old.graph.vertices;
         } }
         ensures room { self.new.spare ≡ self.old.spare }
+        ensures reach { self.new.reach ≡ self.old.reach }
         ensures valid { WellFormed self.new.graph }
     {
         slots::set_kind(&mut self.slots, v, plane, phase);
@@ -226,6 +257,7 @@ impl OpenGraph {
           vertices = with_kinds (at_vertex v quarter_turned) self.old.graph.vertices;
         } }
         ensures room { self.new.spare ≡ self.old.spare }
+        ensures reach { self.new.reach ≡ self.old.reach }
         ensures valid { WellFormed self.new.graph }
     {
         let (plane, phase) = self.weight(v);
@@ -233,20 +265,32 @@ impl OpenGraph {
         self.set_weight(v, plane, phase);
     }
 
-    /// Takes the memory for the entries of so many more vertices, but not for their edges. Where it
-    /// runs out, some may be taken.
+    /// Takes the memory for so many more vertices, and moves the reach as far past all ids, with the
+    /// memory for all edges below it: a bit for each two ids. Where it runs out, some may be taken.
     pub fn reserve(&mut self, vertices: usize) -> Result<(), AllocError>
         ensures same { self.new.graph ≡ self.old.graph }
         ensures spare { OnOk result (vertices ≤ self.new.spare) }
         ensures keeps_spare { self.old.spare ≤ self.new.spare }
+        ensures reach { OnOk result ((v : ℕ) → Live self.old.graph v →
+            v + vertices < self.new.reach) }
+        ensures least_reach { OnOk result (vertices ≤ self.new.reach) }
+        ensures keeps_reach { self.old.reach ≤ self.new.reach }
         ensures valid { WellFormed self.new.graph }
     {
-        self.slots.reserve(vertices)
+        let Some(reach) = self.slots.len().checked_add(vertices) else {
+            return Err(AllocError);
+        };
+        let reach = reach.max(self.reach);
+        self.slots.reserve(vertices)?;
+        slots::reserve(&mut self.slots, &mut self.kept, self.alloc, reach)?;
+        self.reach = reach;
+        Ok(())
     }
 
-    /// The same graph once more.
+    /// The same graph once more, of reach 0.
     pub fn copy(&self) -> Result<OpenGraph, AllocError>
         ensures ok { IfOk result (λ copy. copy.graph ≡ self.now.graph) }
+        ensures reach { IfOk result (λ copy. copy.reach ≡ 0) }
         ensures valid { WellFormed self.now.graph }
     {
         Ok(OpenGraph {
@@ -254,6 +298,8 @@ impl OpenGraph {
             slots: self.slots.clone()?,
             inputs: Vec::from_slice(self.alloc, &self.inputs)?,
             outputs: Vec::from_slice(self.alloc, &self.outputs)?,
+            kept: Vec::new(self.alloc),
+            reach: 0,
         })
     }
 

@@ -1,9 +1,9 @@
 //! The two sides of a graph, and changes of the ends of either.
 
-ghost use Rattle.std.specs.Prelude.{◌≡◌, ◌<◌, ◌++◌, [], ◌∷◌, Some, length, slice_set, slice_index_or, OnOk, OnErr};
+ghost use Rattle.std.specs.Prelude.{◌≡◌, ◌<◌, ◌++◌, ℕ, [], ◌∷◌, Some, length, slice_set, slice_index_or, OnOk, OnErr};
 ghost use Rattle.open_graph.specs.Internal.Table.{HasSlot};
 ghost use Rattle.open_graph.specs.Internal.Slots.{told};
-ghost use Rattle.open_graph.specs.Internal.Room.{vacant_in};
+ghost use Rattle.open_graph.specs.Internal.Room.{KeepsRoom};
 ghost use Rattle.open_graph.specs.Internal.Sides.{with_place, Moves};
 ghost use Rattle.open_graph.specs.Internal.Changes.{Puts};
 
@@ -30,7 +30,7 @@ pub(crate) fn add_end(
     ensures ends { OnOk result (ends.new.items ≡ ends.old.items ++ end ∷ []) }
     ensures slots { OnOk result (Puts slots.old.slots slots.new.slots end.vertex
         (with_place side (Some (length ends.old.items)) (told slots.old.slots end.vertex))) }
-    ensures spare { vacant_in slots.new.slots ≡ vacant_in slots.old.slots }
+    ensures room { (reach : ℕ) → KeepsRoom reach slots.old.slots slots.new.slots }
     ensures err { OnErr result ((ends.new.items ≡ ends.old.items) × (slots.new.slots ≡ slots.old.slots)) }
 {
     let place = ends.len();
@@ -47,7 +47,7 @@ pub(crate) fn move_end(ends: &mut Vec<End>, slots: &mut SlotTable, side: Side, i
     ensures ends { ends.new.items ≡ slice_set ends.old.items i end }
     ensures slots { Moves side i (slice_index_or ends.old.items i end).vertex end.vertex
         slots.old.slots slots.new.slots }
-    ensures spare { vacant_in slots.new.slots ≡ vacant_in slots.old.slots }
+    ensures room { (reach : ℕ) → KeepsRoom reach slots.old.slots slots.new.slots }
 {
     let before = ends[i];
     slots::set_place(slots, before.vertex, side, None);

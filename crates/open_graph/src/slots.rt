@@ -1,6 +1,6 @@
 //! Changes of one slot.
 
-ghost use Rattle.std.specs.Prelude.{◌≡◌, ◌≢◌, ◌<◌, ◌+◌, ◌-◌, ◌==◌, ◌&&◌, ℕ, Some, None, true, false, IsOk, IfOk, OnOk, OnErr};
+ghost use Rattle.std.specs.Prelude.{◌≡◌, ◌≢◌, ◌<◌, ◌+◌, ◌-◌, ◌≤◌, ◌==◌, ◌&&◌, ℕ, [], Some, None, true, false, length, IsOk, IfOk, OnOk, OnErr};
 ghost use Rattle.zx_model.specs.Bits.{member};
 ghost use Rattle.open_graph.specs.Internal.Table.{slot_at, HasSlot};
 ghost use Rattle.zx_calculus.specs.Turns.{in_plane};
@@ -9,11 +9,12 @@ ghost use Rattle.zx_calculus.proofs.Ids.{removed};
 ghost use Rattle.zx_calculus.proofs.EditPrograms.{toggled};
 ghost use Rattle.open_graph.specs.Planes.{plane_named};
 ghost use Rattle.open_graph.specs.Internal.Rows.{inserted};
-ghost use Rattle.open_graph.specs.Internal.Room.{vacant_in};
+ghost use Rattle.open_graph.specs.Internal.Room.{vacant_in, room_by, HasRows, KeepsRoom, room_at, row_kept, AreEmpty, HasRoom};
 ghost use Rattle.open_graph.specs.Internal.Slots.{nothing, told, adjacent};
 ghost use Rattle.open_graph.specs.Internal.Sides.{with_place};
 ghost use Rattle.open_graph.specs.Internal.Changes.{Puts, SameTold, Keeps, RemovedFrom, RowsToggled, two_among};
 ghost use Rattle.zx_calculus.specs.Toggles.{across};
+ghost use Rattle.zx_bits.specs.Sets.{IsBelow};
 
 use crate::id::VertexId;
 use crate::plane::Plane;
@@ -22,10 +23,36 @@ use crate::slot::Slot;
 use crate::slot_table::SlotTable;
 use crate::vertex_set::VertexSet;
 use std::alloc::{AllocError, Global};
+use std::mem;
 use zx_model::Sixteenth;
 
 // Adds a vertex without neighbours and ends, of the least id that has none.
 pub(crate) fn add(
+    slots: &mut SlotTable,
+    kept: &mut Vec<VertexSet>,
+    alloc: Global,
+    plane: Plane,
+    phase: Sixteenth,
+) -> Result<VertexId, AllocError>
+    requires { AreEmpty kept.old.items }
+    ensures vacant { IfOk result (λ v. slot_at slots.old v ≡ None) }
+    ensures least { IfOk result (λ v. (lower : ℕ) → lower < v → HasSlot slots.old lower) }
+    ensures ok { IfOk result (λ v. Puts slots.old.slots slots.new.slots v
+        (record nothing { live = true; kind = in_plane (plane_named plane) phase })) }
+    ensures err { OnErr result (SameTold slots.old.slots slots.new.slots) }
+    ensures has_room { 0 < vacant_in slots.old.slots → IsOk result }
+    ensures spare { OnOk result (vacant_in slots.new.slots ≡ vacant_in slots.old.slots - 1) }
+    ensures as_was { OnErr result (slots.new ≡ slots.old) }
+    ensures room { (reach : ℕ) → HasRoom reach slots.old.slots kept.old.items →
+        HasRoom reach slots.new.slots kept.new.items }
+{
+    let v = add_alone(slots, alloc, plane, phase)?;
+    give_row(slots, kept, alloc, v);
+    Ok(v)
+}
+
+// The same with a new row, whatever rows are kept.
+fn add_alone(
     slots: &mut SlotTable,
     alloc: Global,
     plane: Plane,
@@ -33,6 +60,10 @@ pub(crate) fn add(
 ) -> Result<VertexId, AllocError>
     ensures vacant { IfOk result (λ v. slot_at slots.old v ≡ None) }
     ensures least { IfOk result (λ v. (lower : ℕ) → lower < v → HasSlot slots.old lower) }
+    ensures there { IfOk result (λ v. HasSlot slots.new v) }
+    ensures alone { IfOk result (λ v. (told slots.new.slots v).row ≡ []) }
+    ensures others { IfOk result (λ v. (p : ℕ) → p ≢ v →
+        slot_at slots.new p ≡ slot_at slots.old p) }
     ensures ok { IfOk result (λ v. Puts slots.old.slots slots.new.slots v
         (record nothing { live = true; kind = in_plane (plane_named plane) phase })) }
     ensures err { OnErr result (SameTold slots.old.slots slots.new.slots) }
@@ -50,9 +81,40 @@ pub(crate) fn add(
     Ok(VertexId::new(key))
 }
 
+// Gives a vertex without neighbours the row that is kept for its id, if there is one.
+fn give_row(slots: &mut SlotTable, kept: &mut Vec<VertexSet>, alloc: Global, v: VertexId)
+    requires live { HasSlot slots.old v }
+    requires alone { (told slots.old.slots v).row ≡ [] }
+    requires empty { AreEmpty kept.old.items }
+    ensures same { SameTold slots.old.slots slots.new.slots }
+    ensures spare { vacant_in slots.new.slots ≡ vacant_in slots.old.slots }
+    ensures there { HasSlot slots.new v }
+    ensures others { (p : ℕ) → p ≢ v → slot_at slots.new p ≡ slot_at slots.old p }
+    ensures room { v < length kept.old.items →
+        room_by (slot_at slots.new v) ≡ (row_kept kept.old.items v).room }
+    ensures others_kept { (p : ℕ) → p ≢ v → row_kept kept.new.items p ≡ row_kept kept.old.items p }
+    ensures covers { length kept.new.items ≡ length kept.old.items }
+    ensures empty { AreEmpty kept.new.items }
+{
+    if v.get() < kept.len() {
+        let row = mem::replace(&mut kept[v.get()], VertexSet::new(alloc));
+        slots[v.get()].row = row;
+    }
+}
+
+// Up to which bound the row of a vertex keeps its room: the reach, or 0 for an id that isn't
+// below it.
+fn bound_of(u: VertexId, reach: usize) -> usize
+    ensures below { u < reach → result ≡ reach }
+    ensures above { reach ≤ u → result ≡ 0 }
+{
+    if u.get() < reach { reach } else { 0 }
+}
+
 // Adds a vertex to the neighbours of another.
 pub(crate) fn add_neighbour(
     slots: &mut SlotTable,
+    reach: usize,
     u: VertexId,
     v: VertexId,
 ) -> Result<(), AllocError>
@@ -61,9 +123,11 @@ pub(crate) fn add_neighbour(
     ensures ok { OnOk result (let t = told slots.old.slots u in
         Puts slots.old.slots slots.new.slots u (record t { row = inserted v t.row })) }
     ensures err { OnErr result (SameTold slots.old.slots slots.new.slots) }
-    ensures spare { vacant_in slots.new.slots ≡ vacant_in slots.old.slots }
+    ensures room { KeepsRoom reach slots.old.slots slots.new.slots }
+    ensures has_room { HasRows reach slots.old.slots → u < reach → v < reach → IsOk result }
 {
-    slots[u.get()].row.insert(v)
+    let bound = bound_of(u, reach);
+    slots[u.get()].row.insert_within(v, bound)
 }
 
 // Takes a vertex out of the neighbours of another.
@@ -71,13 +135,18 @@ pub(crate) fn remove_neighbour(slots: &mut SlotTable, u: VertexId, v: VertexId)
     requires { HasSlot slots.old u }
     ensures puts { let t = told slots.old.slots u in
         Puts slots.old.slots slots.new.slots u (record t { row = removed v t.row }) }
-    ensures spare { vacant_in slots.new.slots ≡ vacant_in slots.old.slots }
+    ensures room { (reach : ℕ) → KeepsRoom reach slots.old.slots slots.new.slots }
 {
     slots[u.get()].row.remove(v);
 }
 
 // Toggles the edge between two vertices in both rows. Where memory runs out, the rows are as they were.
-pub(crate) fn toggle(slots: &mut SlotTable, u: VertexId, v: VertexId) -> Result<(), AllocError>
+pub(crate) fn toggle(
+    slots: &mut SlotTable,
+    reach: usize,
+    u: VertexId,
+    v: VertexId,
+) -> Result<(), AllocError>
     requires u_live { HasSlot slots.old u }
     requires v_live { HasSlot slots.old v }
     requires different { u ≢ v }
@@ -85,15 +154,16 @@ pub(crate) fn toggle(slots: &mut SlotTable, u: VertexId, v: VertexId) -> Result<
     ensures ok { OnOk result ((h : Graph) → WellFormed h → Live h u → Live h v
         → Keeps slots.old.slots h → Keeps slots.new.slots (toggled h u v)) }
     ensures err { OnErr result (SameTold slots.old.slots slots.new.slots) }
-    ensures spare { vacant_in slots.new.slots ≡ vacant_in slots.old.slots }
+    ensures room { KeepsRoom reach slots.old.slots slots.new.slots }
+    ensures has_room { HasRows reach slots.old.slots → u < reach → v < reach → IsOk result }
 {
     if joins(slots, u, v) {
         remove_neighbour(slots, u, v);
         remove_neighbour(slots, v, u);
         return Ok(());
     }
-    add_neighbour(slots, u, v)?;
-    if let Err(error) = add_neighbour(slots, v, u) {
+    add_neighbour(slots, reach, u, v)?;
+    if let Err(error) = add_neighbour(slots, reach, v, u) {
         remove_neighbour(slots, u, v);
         return Err(error);
     }
@@ -101,38 +171,53 @@ pub(crate) fn toggle(slots: &mut SlotTable, u: VertexId, v: VertexId) -> Result<
 }
 
 // Toggles vertices in the row of another.
-fn toggle_row(slots: &mut SlotTable, u: VertexId, others: &VertexSet) -> Result<(), AllocError>
-    requires { HasSlot slots.old u }
+fn toggle_row(
+    slots: &mut SlotTable,
+    reach: usize,
+    u: VertexId,
+    others: &VertexSet,
+) -> Result<(), AllocError>
+    requires live { HasSlot slots.old u }
+    requires others_live { (q : ℕ) → member q others.now.ids ≡ true → HasSlot slots.old q }
     ensures toggled { OnOk result (RowsToggled slots.old.slots slots.new.slots
         (λ p q. (p == u) && member q others.now.ids)) }
-    ensures spare { vacant_in slots.new.slots ≡ vacant_in slots.old.slots }
+    ensures room { KeepsRoom reach slots.old.slots slots.new.slots }
+    ensures has_room { HasRows reach slots.old.slots → u < reach → IsBelow reach others.now.ids →
+        IsOk result }
 {
-    slots[u.get()].row.toggle_all(others)
+    let bound = bound_of(u, reach);
+    let end = slots.len();
+    slots[u.get()].row.toggle_all_within(others, bound, end)
 }
 
-// Toggles one vertex in the row of another.
-fn toggle_in_row(slots: &mut SlotTable, u: VertexId, v: VertexId) -> Result<(), AllocError>
+// Toggles a vertex in its own row.
+fn toggle_itself(slots: &mut SlotTable, u: VertexId) -> Result<(), AllocError>
     requires { HasSlot slots.old u }
     ensures toggled { OnOk result (RowsToggled slots.old.slots slots.new.slots
-        (λ p q. (p == u) && (q == v))) }
-    ensures spare { vacant_in slots.new.slots ≡ vacant_in slots.old.slots }
+        (λ p q. (p == u) && (q == u))) }
+    ensures room { (reach : ℕ) → KeepsRoom reach slots.old.slots slots.new.slots }
+    ensures has_room { (reach : ℕ) → HasRows reach slots.old.slots → u < reach → IsOk result }
 {
-    slots[u.get()].row.toggle(v)
+    slots[u.get()].row.toggle(u)
 }
 
 // Toggles vertices in the rows of others.
 fn toggle_rows(
     slots: &mut SlotTable,
+    reach: usize,
     vertices: &VertexSet,
     others: &VertexSet,
 ) -> Result<(), AllocError>
-    requires { (p : ℕ) → member p vertices.now.ids ≡ true → HasSlot slots.old p }
+    requires live { (p : ℕ) → member p vertices.now.ids ≡ true → HasSlot slots.old p }
+    requires others_live { (q : ℕ) → member q others.now.ids ≡ true → HasSlot slots.old q }
     ensures toggled { OnOk result (RowsToggled slots.old.slots slots.new.slots
         (λ p q. member p vertices.now.ids && member q others.now.ids)) }
-    ensures spare { vacant_in slots.new.slots ≡ vacant_in slots.old.slots }
+    ensures room { KeepsRoom reach slots.old.slots slots.new.slots }
+    ensures has_room { HasRows reach slots.old.slots → IsBelow reach vertices.now.ids →
+        IsBelow reach others.now.ids → IsOk result }
 {
     for u in vertices.iter() {
-        toggle_row(slots, u, others)?;
+        toggle_row(slots, reach, u, others)?;
     }
     Ok(())
 }
@@ -141,6 +226,7 @@ fn toggle_rows(
 // be any.
 pub(crate) fn toggle_across(
     slots: &mut SlotTable,
+    reach: usize,
     left: &VertexSet,
     right: &VertexSet,
 ) -> Result<(), AllocError>
@@ -148,23 +234,30 @@ pub(crate) fn toggle_across(
     requires right_live { (p : ℕ) → member p right.now.ids ≡ true → HasSlot slots.old p }
     ensures toggled { OnOk result
         (RowsToggled slots.old.slots slots.new.slots (across left.now.ids right.now.ids)) }
-    ensures spare { vacant_in slots.new.slots ≡ vacant_in slots.old.slots }
+    ensures room { KeepsRoom reach slots.old.slots slots.new.slots }
+    ensures has_room { HasRows reach slots.old.slots → IsBelow reach left.now.ids →
+        IsBelow reach right.now.ids → IsOk result }
 {
-    toggle_rows(slots, left, right)?;
-    toggle_rows(slots, right, left)
+    toggle_rows(slots, reach, left, right)?;
+    toggle_rows(slots, reach, right, left)
 }
 
 // Toggles the edge of each pair of a set's vertices, in both rows. Where memory runs out, the rows
 // may be any.
-pub(crate) fn toggle_among(slots: &mut SlotTable, near: &VertexSet) -> Result<(), AllocError>
+pub(crate) fn toggle_among(
+    slots: &mut SlotTable,
+    reach: usize,
+    near: &VertexSet,
+) -> Result<(), AllocError>
     requires { (p : ℕ) → member p near.now.ids ≡ true → HasSlot slots.old p }
     ensures toggled { OnOk result
         (RowsToggled slots.old.slots slots.new.slots (two_among near.now.ids)) }
-    ensures spare { vacant_in slots.new.slots ≡ vacant_in slots.old.slots }
+    ensures room { KeepsRoom reach slots.old.slots slots.new.slots }
+    ensures has_room { HasRows reach slots.old.slots → IsBelow reach near.now.ids → IsOk result }
 {
     for p in near.iter() {
-        toggle_row(slots, p, near)?;
-        toggle_in_row(slots, p, p)?;
+        toggle_row(slots, reach, p, near)?;
+        toggle_itself(slots, p)?;
     }
     Ok(())
 }
@@ -182,7 +275,7 @@ pub(crate) fn set_kind(slots: &mut SlotTable, v: VertexId, plane: Plane, phase: 
     requires { HasSlot slots.old v }
     ensures puts { let t = told slots.old.slots v in
         Puts slots.old.slots slots.new.slots v (record t { kind = in_plane (plane_named plane) phase }) }
-    ensures spare { vacant_in slots.new.slots ≡ vacant_in slots.old.slots }
+    ensures room { (reach : ℕ) → KeepsRoom reach slots.old.slots slots.new.slots }
 {
     let slot = &mut slots[v.get()];
     slot.plane = plane;
@@ -193,7 +286,7 @@ pub(crate) fn set_kind(slots: &mut SlotTable, v: VertexId, plane: Plane, phase: 
 pub(crate) fn set_place(slots: &mut SlotTable, v: VertexId, side: Side, place: Option<usize>)
     requires { HasSlot slots.old v }
     ensures puts { Puts slots.old.slots slots.new.slots v (with_place side place (told slots.old.slots v)) }
-    ensures spare { vacant_in slots.new.slots ≡ vacant_in slots.old.slots }
+    ensures room { (reach : ℕ) → KeepsRoom reach slots.old.slots slots.new.slots }
 {
     let slot = &mut slots[v.get()];
     match side {
@@ -202,16 +295,118 @@ pub(crate) fn set_place(slots: &mut SlotTable, v: VertexId, side: Side, place: O
     }
 }
 
-// Removes a vertex, and it from the rows of its neighbours.
-pub(crate) fn remove(slots: &mut SlotTable, v: VertexId)
+// Removes a vertex, and it from the rows of its neighbours, and keeps its row for its id.
+pub(crate) fn remove(slots: &mut SlotTable, kept: &mut Vec<VertexSet>, v: VertexId)
     requires live { HasSlot slots.old v }
     requires symmetric { (p q : ℕ) → adjacent slots.old.slots p q ≡ adjacent slots.old.slots q p }
     requires no_loop { (p : ℕ) → adjacent slots.old.slots p p ≡ false }
     ensures removed { RemovedFrom slots.old.slots slots.new.slots v (told slots.old.slots v).row }
     ensures spare { vacant_in slots.new.slots ≡ vacant_in slots.old.slots + 1 }
+    ensures room { (reach : ℕ) → HasRoom reach slots.old.slots kept.old.items →
+        HasRoom reach slots.new.slots kept.new.items }
 {
-    let slot = slots.remove(v.get());
-    for w in slot.row.iter() {
+    let row = slots.remove(v.get()).row;
+    for w in row.iter() {
         remove_neighbour(slots, w, v);
+    }
+    keep_row(kept, v, row);
+}
+
+// Keeps a row for an id below the end of those kept, without its vertices.
+fn keep_row(kept: &mut Vec<VertexSet>, v: VertexId, row: VertexSet)
+    ensures room { v < length kept.old.items → row.room ≤ (row_kept kept.new.items v).room }
+    ensures others { (p : ℕ) → p ≢ v → row_kept kept.new.items p ≡ row_kept kept.old.items p }
+    ensures covers { length kept.new.items ≡ length kept.old.items }
+    ensures empty { AreEmpty kept.old.items → AreEmpty kept.new.items }
+{
+    if v.get() < kept.len() {
+        let mut row = row;
+        row.clear();
+        kept[v.get()] = row;
+    }
+}
+
+// Removes all vertices, whose rows may tell different edges, and keeps the rows for their ids.
+pub(crate) fn clear(slots: &mut SlotTable, kept: &mut Vec<VertexSet>)
+    ensures gone { (p : ℕ) → slot_at slots.new p ≡ None }
+    ensures spare { vacant_in slots.old.slots ≤ vacant_in slots.new.slots }
+    ensures room { (reach : ℕ) → HasRoom reach slots.old.slots kept.old.items →
+        HasRoom reach slots.new.slots kept.new.items }
+{
+    for id in 0..slots.len() {
+        clear_place(slots, kept, id);
+    }
+}
+
+// Removes the vertex of an id, if there is one, and keeps its row.
+fn clear_place(slots: &mut SlotTable, kept: &mut Vec<VertexSet>, id: usize)
+    ensures gone { slot_at slots.new id ≡ None }
+    ensures spare { vacant_in slots.old.slots ≤ vacant_in slots.new.slots }
+    ensures others { (p : ℕ) → p ≢ id → slot_at slots.new p ≡ slot_at slots.old p }
+    ensures room { (reach : ℕ) → HasRoom reach slots.old.slots kept.old.items →
+        HasRoom reach slots.new.slots kept.new.items }
+{
+    if slots.contains(id) {
+        let row = slots.remove(id).row;
+        keep_row(kept, VertexId::new(id), row);
+    }
+}
+
+// Takes the memory for all ids below a bound in the row of each of these ids. Where it runs out,
+// some may have it.
+pub(crate) fn reserve(
+    slots: &mut SlotTable,
+    kept: &mut Vec<VertexSet>,
+    alloc: Global,
+    bound: usize,
+) -> Result<(), AllocError>
+    requires { AreEmpty kept.old.items }
+    ensures same { SameTold slots.old.slots slots.new.slots }
+    ensures spare { vacant_in slots.new.slots ≡ vacant_in slots.old.slots }
+    ensures room { (reach : ℕ) → HasRoom reach slots.old.slots kept.old.items →
+        HasRoom reach slots.new.slots kept.new.items }
+    ensures ok { OnOk result (HasRoom bound slots.new.slots kept.new.items) }
+{
+    keep_rows(kept, alloc, bound)?;
+    for id in 0..bound {
+        reserve_row(slots, kept, id, bound)?;
+    }
+    Ok(())
+}
+
+// Keeps rows for all ids below a bound.
+fn keep_rows(kept: &mut Vec<VertexSet>, alloc: Global, bound: usize) -> Result<(), AllocError>
+    ensures same { (p : ℕ) → p < length kept.old.items →
+        row_kept kept.new.items p ≡ row_kept kept.old.items p }
+    ensures longer { length kept.old.items ≤ length kept.new.items }
+    ensures empty { AreEmpty kept.old.items → AreEmpty kept.new.items }
+    ensures ok { OnOk result (bound ≤ length kept.new.items) }
+{
+    for _added in kept.len()..bound {
+        kept.push(VertexSet::new(alloc))?;
+    }
+    Ok(())
+}
+
+// Takes the memory for all ids below a bound in the row of an id.
+fn reserve_row(
+    slots: &mut SlotTable,
+    kept: &mut Vec<VertexSet>,
+    id: usize,
+    bound: usize,
+) -> Result<(), AllocError>
+    requires { id < length kept.old.items }
+    ensures same { SameTold slots.old.slots slots.new.slots }
+    ensures spare { vacant_in slots.new.slots ≡ vacant_in slots.old.slots }
+    ensures room { (p : ℕ) →
+        room_at slots.old.slots kept.old.items p ≤ room_at slots.new.slots kept.new.items p }
+    ensures covers { length kept.new.items ≡ length kept.old.items }
+    ensures empty { AreEmpty kept.old.items → AreEmpty kept.new.items }
+    ensures ok { OnOk result (bound ≤ room_at slots.new.slots kept.new.items id) }
+{
+    if slots.contains(id) {
+        slots[id].row.reserve(bound)
+    } else {
+        kept[id].reserve(bound)
     }
 }

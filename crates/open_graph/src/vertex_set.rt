@@ -128,12 +128,64 @@ impl VertexSet {
         ensures err { OnErr result (self.new ≡ self.old) }
         ensures has_room { id < self.old.room → IsOk result }
         ensures keeps_room { id < self.old.room → self.old.room ≤ self.new.room }
+        ensures rising { in_order ltb self.new.ids ≡ true }
     {
         self.numbers.toggle(id.get())
     }
 
+    // Makes room for an id that isn't below a bound, where the bound isn't 0.
+    fn keep_room(&mut self, id: usize, bound: usize) -> Result<(), AllocError>
+        ensures ids { self.new.ids ≡ self.old.ids }
+        ensures ok { 0 < bound → bound ≤ self.old.room → OnOk result (id < self.new.room) }
+        ensures has_room { id < bound → IsOk result }
+        ensures keeps_room { self.old.room ≤ self.new.room }
+    {
+        if bound == 0 || id < bound {
+            return Ok(());
+        }
+        match id.checked_add(1) {
+            Some(ids) => self.reserve(ids),
+            None => Err(AllocError),
+        }
+    }
+
+    // Adds a vertex that isn't in the set, and keeps room for all ids below a bound. Where memory
+    // runs out, the vertices are as they were.
+    pub(crate) fn insert_within(&mut self, id: VertexId, bound: usize) -> Result<(), AllocError>
+        requires { member id self.old.ids ≡ false }
+        ensures ok { OnOk result (self.new.ids ≡ inserted id self.old.ids) }
+        ensures err { OnErr result (self.new.ids ≡ self.old.ids) }
+        ensures has_room { id < bound → bound ≤ self.old.room → IsOk result }
+        ensures keeps_room { bound ≤ self.old.room → bound ≤ self.new.room }
+    {
+        self.keep_room(id.get(), bound)?;
+        self.insert(id)
+    }
+
+    // Toggles each vertex of another set, all of whose ids are below an end, and keeps room for all
+    // ids below a bound. Where memory runs out, the vertices are as they were.
+    pub(crate) fn toggle_all_within(
+        &mut self,
+        other: &VertexSet,
+        bound: usize,
+        end: usize,
+    ) -> Result<(), AllocError>
+        requires { IsBelow end other.now.ids }
+        ensures ok { OnOk result ((w : ℕ) →
+            member w self.new.ids ≡ xor (member w self.old.ids) (member w other.now.ids)) }
+        ensures err { OnErr result (self.new.ids ≡ self.old.ids) }
+        ensures has_room { IsBelow bound other.now.ids → bound ≤ self.old.room → IsOk result }
+        ensures keeps_room { bound ≤ self.old.room → bound ≤ self.new.room }
+    {
+        let outside = bound > 0 && other.first_from(bound).is_some();
+        if outside {
+            self.reserve(end)?;
+        }
+        self.toggle_all(other)
+    }
+
     // Adds a vertex that isn't in the set. Where memory runs out, the set is as it was.
-    pub(crate) fn insert(&mut self, id: VertexId) -> Result<(), AllocError>
+    fn insert(&mut self, id: VertexId) -> Result<(), AllocError>
         requires { member id self.old.ids ≡ false }
         ensures ok { OnOk result (self.new.ids ≡ inserted id self.old.ids) }
         ensures err { OnErr result (self.new ≡ self.old) }

@@ -21,8 +21,6 @@ mod literal;
 mod scaling;
 mod significand;
 mod sixteenths;
-#[cfg(test)]
-mod tests;
 
 pub use angle::Angle;
 pub use errors::{AngleError, AngleFault};

@@ -19,3 +19,4 @@ pub mod MeasuringLemmas
 pub mod CircuitLemmas
 pub mod ReadingLemmas
 pub mod PieceLemmas
+pub mod Characters

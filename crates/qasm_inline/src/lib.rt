@@ -25,8 +25,6 @@ mod overlaps;
 mod piece_reader;
 mod reading;
 mod statements;
-#[cfg(test)]
-mod tests;
 mod unroll;
 mod values;
 mod words;

@@ -120,8 +120,9 @@ impl<'a> Reader<'a> {
             → (there : ℕ) × IsBadByte text.now there × (at ≡ from + there) }
     {
         let mut done = 0;
+        let mut tokens = Vec::new(alloc);
         while done < text.len() {
-            let mut tokens = Vec::new(alloc);
+            tokens.clear();
             match lex_further(text, done, &mut tokens, self.enough()) {
                 Ok(end) => done = end,
                 Err(LexError::BadByte { at }) => return Err(LexError::BadByte { at: from + at }),

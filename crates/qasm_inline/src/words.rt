@@ -1,6 +1,6 @@
 //! Texts of tokens that outlive the pieces that they came in.
 
-ghost use Rattle.std.specs.Prelude.{◌≡◌, ◌+◌, ◌^◌, ◌<◌, ◌++◌, ◌∷◌, [], map, IfOk, OnOk};
+ghost use Rattle.std.specs.Prelude.{◌≡◌, ◌+◌, ◌^◌, ◌<◌, ◌≤◌, ◌++◌, ◌∷◌, [], map, IfOk, OnOk};
 ghost use Rattle.std.specs.List.{All};
 ghost use Rattle.qasm_lexer.specs.Tokens.{lexeme, lexemes};
 ghost use Rattle.qasm_lexer.specs.TokenLists.{moved};
@@ -11,6 +11,10 @@ use std::alloc::{AllocError, Global};
 
 // How many texts are known at once.
 const ROWS: usize = 4096;
+
+// The printable characters of ASCII, in the order of their codes, of which the first is 32.
+const PRINTABLE: &[u8] =
+    b" !\"#$%&'()*+,-./0123456789:;<=>?@ABCDEFGHIJKLMNOPQRSTUVWXYZ[\\]^_`abcdefghijklmnopqrstuvwxyz{|}~";
 
 /// Keeps the texts of tokens. One that is known already isn't kept again.
 #[derive(Drop)]
@@ -55,6 +59,17 @@ impl<'a> Words<'a> {
     fn keep(&mut self, text: &[u8]) -> Result<&'a [u8], AllocError>
         ensures { IfOk result (λ kept. kept.now ≡ text.now) }
     {
+        match text {
+            // So are nearly all signs, and most names and numbers.
+            [byte @ b' '..=b'~'] => Ok(character(*byte)),
+            _ => self.keep_longer(text),
+        }
+    }
+
+    // Keeps a text, which needn't be a single character.
+    fn keep_longer(&mut self, text: &[u8]) -> Result<&'a [u8], AllocError>
+        ensures { IfOk result (λ kept. kept.now ≡ text.now) }
+    {
         let row = row_of(text);
         if let Some(known) = self.known.get(row) {
             let known = *known;
@@ -77,6 +92,16 @@ impl<'a> Words<'a> {
         }
         Ok(())
     }
+}
+
+// The text of a printable character.
+fn character(byte: u8) -> &'static [u8]
+    requires { (32 ≤ byte) × (byte ≤ 126) }
+    ensures { result.now ≡ byte ∷ [] }
+{
+    let characters = PRINTABLE;
+    let place = usize::from(byte - b' ');
+    &characters[place..place + 1]
 }
 
 // A copy of a text.

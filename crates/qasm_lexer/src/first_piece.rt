@@ -21,6 +21,7 @@ pub(crate) enum Sort {
 }
 
 // The sort and the length of what stands first in a text that isn't over, or `None` where nothing begins.
+#[inline(always)]
 pub(crate) fn first_piece(text: &[u8]) -> Option<(Sort, usize)>
     requires { 0 < length text.now }
     ensures { result ≡ first_piece text.now }

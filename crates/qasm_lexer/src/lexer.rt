@@ -75,6 +75,8 @@ pub fn lex_further<'a>(
 }
 
 // Adds the tokens of the piece at a place, and gives the place behind it.
+// A text is cut by this and what it calls, once for each piece: calls would be a tenth of the reading.
+#[inline(always)]
 fn push_next<'a>(
     text: &'a [u8],
     place: usize,
@@ -99,6 +101,7 @@ fn push_next<'a>(
 }
 
 // Adds the tokens of a piece that stands at a place.
+#[inline(always)]
 fn push_piece<'a>(
     tokens: &mut Vec<Token<'a>>,
     sort: Sort,
@@ -140,6 +143,7 @@ fn push_naturals<'a>(
 }
 
 // Adds one token.
+#[inline(always)]
 fn push_token<'a>(
     tokens: &mut Vec<Token<'a>>,
     kind: TokenKind,

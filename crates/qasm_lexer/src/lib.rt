@@ -16,8 +16,6 @@ mod lexer;
 mod lines;
 mod piece_lexer;
 mod tables;
-#[cfg(test)]
-mod tests;
 mod token;
 mod token_list;
 

@@ -21,8 +21,6 @@ mod parts;
 mod program;
 mod statement;
 mod step_error;
-#[cfg(test)]
-mod tests;
 mod tokens;
 
 pub use depth::Depth;

@@ -31,8 +31,6 @@ mod bit_matrix;
 mod bit_row;
 mod bit_set;
 mod solving;
-#[cfg(test)]
-mod tests;
 mod window;
 
 pub use bit_matrix::BitMatrix;

@@ -1,11 +1,20 @@
 -- What contracts see of a flow and of a table in memory.
-use Rattle.std.specs.Prelude.{List}
-use Rattle.gflow_laws.specs.Flow.{Correction}
+use Rattle.std.specs.Prelude.{◌≡◌, ◌⊎◌, ℕ, true, List}
+use Rattle.zx_model.specs.Bits.{member}
+use Rattle.gflow_laws.specs.Flow.{Correction, order_of, set_of}
 
--- its table; clauses say where it is a flow, and cite the field, so that more may stand beside it
+-- its table; clauses say where it is a flow. So many vertices can be added without memory; and memory is
+-- there for the sets of all vertices below `reach`, as long as their members are below it too
 pub record Flow : Type 0 where
   pub flow : List Correction
+  pub spare : ℕ
+  pub reach : ℕ
 
 -- its table, which need not be a flow of any graph
 pub record FlowTable : Type 0 where
   pub table : List Correction
+
+-- v stands in the order of a table, or in a set
+abbrev pub IsNamed : List Correction → ℕ → Type 0
+IsNamed table v =
+    (member v (order_of table) ≡ true) ⊎ ((u : ℕ) × (member v (set_of table u) ≡ true))

@@ -1,12 +1,14 @@
 //! What rewrites make of the sets of a flow.
 
-ghost use Rattle.std.specs.Prelude.{◌≡◌, true, [], ◌∷◌, OnOk};
+ghost use Rattle.std.specs.Prelude.{◌≡◌, ◌<◌, ◌≤◌, ◌+◌, true, [], ◌∷◌, IsOk, OnOk, OnErr};
 ghost use Rattle.zx_model.specs.Bits.{member};
 ghost use Rattle.gflow_laws.specs.Seen.{Seen, odd};
 ghost use Rattle.gflow_laws.specs.Flow.{order_of, set_of, is_in, SameSets};
 ghost use Rattle.gflow_laws.specs.Removals.{removal_table};
 ghost use Rattle.gflow_laws.specs.Correcting.{odd_in};
-ghost use Rattle.gflow_laws.specs.Changes.{AreChanged, complement_change, removal_change};
+ghost use Rattle.gflow_laws.specs.Changes.{AreChanged, complement_change};
+ghost use Rattle.zx_bits.specs.Sets.{IsBelow};
+ghost use Rattle.zx_flow.specs.Internal.Clearing.{clearing_change};
 
 use crate::flow::Flow;
 use open_graph::{VertexId, VertexSet};
@@ -25,9 +27,11 @@ impl Flow {
         is_odd: bool,
     ) -> Result<(), AllocError>
         requires { member v (order_of self.old.flow) ≡ true }
-        ensures { OnOk result ((s : Seen) → changes ≡ odd_in (s.plane u) →
+        ensures sets { OnOk result ((s : Seen) → changes ≡ odd_in (s.plane u) →
             is_odd ≡ odd s (is_in (set_of self.old.flow v)) u →
             AreChanged (complement_change s u own.now.ids) (v ∷ []) self.old.flow self.new.flow) }
+        ensures spare { self.new.spare ≡ self.old.spare }
+        ensures reach { self.new.reach ≡ self.old.reach }
     {
         if v == u {
             return if changes {
@@ -48,28 +52,41 @@ impl Flow {
     }
 
     /// Takes a vertex out of the order and out of all sets: where it is a member, its own set is
-    /// toggled. Where memory runs out, a part of this is done.
+    /// toggled. That needs no memory where the order and that set lie below `reach`. Where memory
+    /// runs out, a part of this is done.
     pub fn eliminate(&mut self, u: VertexId) -> Result<(), AllocError>
         requires { member u (order_of self.old.flow) ≡ true }
-        ensures { OnOk result (SameSets self.new.flow (removal_table u self.old.flow)) }
+        ensures flow { OnOk result (SameSets self.new.flow (removal_table u self.old.flow)) }
+        ensures has_room { IsBelow self.old.reach (order_of self.old.flow) →
+            IsBelow self.old.reach (set_of self.old.flow u) → IsOk result }
+        ensures spare { OnOk result (self.new.spare ≡ self.old.spare + 1) }
+        ensures keeps_spare { OnErr result (self.old.spare ≤ self.new.spare) }
+        ensures reach { self.new.reach ≡ self.old.reach }
     {
-        let own = self.copy_of_correction(u)?;
-        self.remove(u);
         for i in 0..self.order().len() {
             let v = self.vertex_at(i);
-            self.clear(u, v, &own)?;
+            self.clear(u, v)?;
         }
+        self.remove(u);
         Ok(())
     }
 
-    // Takes u out of the set of v, `own` being that of u.
-    fn clear(&mut self, u: VertexId, v: VertexId, own: &VertexSet) -> Result<(), AllocError>
-        requires { member v (order_of self.old.flow) ≡ true }
-        ensures { OnOk result
-            (AreChanged (removal_change u own.now.ids) (v ∷ []) self.old.flow self.new.flow) }
+    // Takes u out of the set of another vertex v.
+    fn clear(&mut self, u: VertexId, v: VertexId) -> Result<(), AllocError>
+        requires u_there { member u (order_of self.old.flow) ≡ true }
+        requires v_there { member v (order_of self.old.flow) ≡ true }
+        ensures sets { OnOk result (AreChanged (clearing_change u (set_of self.old.flow u)) (v ∷ [])
+            self.old.flow self.new.flow) }
+        ensures has_room { v < self.old.reach →
+            IsBelow self.old.reach (set_of self.old.flow u) → IsOk result }
+        ensures spare { self.new.spare ≡ self.old.spare }
+        ensures reach { self.new.reach ≡ self.old.reach }
     {
+        if v == u {
+            return Ok(());
+        }
         if self.has(v, u) {
-            self.toggle(v, own)
+            self.toggle_set(v, u)
         } else {
             Ok(())
         }

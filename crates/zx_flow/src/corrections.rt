@@ -1,12 +1,15 @@
 //! An order of vertices, each with a set.
 
-ghost use Rattle.std.specs.Prelude.{◌≡◌, ◌<◌, ◌≤◌, ◌++◌, ℕ, true, false, if◌then◌else◌, ◌==◌, [], ◌∷◌, length, IfOk, OnOk, OnErr};
+ghost use Rattle.std.specs.Prelude.{◌≡◌, ◌≢◌, ◌<◌, ◌≤◌, ◌+◌, ◌++◌, ℕ, true, false, if◌then◌else◌, ◌==◌, [], ◌∷◌, length, IsOk, IfOk, OnOk, OnErr};
 ghost use Rattle.zx_model.specs.Bits.{member};
 ghost use Rattle.zx_calculus.specs.Graph.{Distinct};
-ghost use Rattle.gflow_laws.specs.Flow.{order_of, set_of};
+ghost use Rattle.gflow_laws.specs.Flow.{order_of, set_of, SameSets};
 ghost use Rattle.gflow_laws.specs.Tables.{with_sets, without_set};
-ghost use Rattle.zx_flow.specs.Internal.Sets.{set_at, SameSetsAt};
+ghost use Rattle.zx_bits.specs.Sets.{IsBelow};
+ghost use Rattle.zx_flow.specs.Flows.{IsNamed};
+ghost use Rattle.zx_flow.specs.Changes.{set_toggled};
 
+use crate::sets::Sets;
 use open_graph::{VertexId, VertexSet};
 use std::alloc::{AllocError, Global};
 use std::marker::Model;
@@ -16,113 +19,172 @@ use std::marker::Model;
 pub(crate) struct Corrections {
     alloc: Global,
     order: Vec<VertexId>,
-    sets: Vec<VertexSet>,
+    sets: Sets,
 }
 
 impl Model for Corrections {
-    ghost use Rattle.std.specs.Prelude.{List};
-    ghost use Rattle.gflow_laws.specs.Flow.{Correction};
+    ghost use Rattle.std.specs.Prelude.{◌-◌, vec_len, vec_capacity};
+    ghost use Rattle.zx_flow.specs.Internal.Sets.{Corrections as Seen, table_of, HoldsOnce};
 
-    ghost Value = { List Correction };
+    ghost Value = { Seen };
 
-    ghost use Rattle.zx_flow.specs.Internal.Sets.{table_of, HoldsOnce};
+    ghost view = { λ c. record {
+      table = table_of c.sets.lists c.order.items;
+      spare = vec_capacity c.order - vec_len c.order;
+      reach = c.sets.reach;
+    } };
 
-    ghost view = { λ c. table_of c.sets.items c.order.items };
-
-    ghost invariant = { λ c. HoldsOnce c.sets.items c.order.items };
+    ghost invariant = { λ c. HoldsOnce c.sets.lists c.order.items };
 }
 
 impl Corrections {
     pub(crate) fn new(alloc: Global) -> Corrections
-        ensures { result ≡ [] }
+        ensures { result.table ≡ [] }
     {
         Corrections {
             alloc,
             order: Vec::new(alloc),
-            sets: Vec::new(alloc),
+            sets: Sets::new(alloc),
         }
     }
 
     pub(crate) fn order(&self) -> &[VertexId]
-        ensures value { result.now ≡ order_of self.now }
-        ensures each_once { Distinct (order_of self.now) }
+        ensures value { result.now ≡ order_of self.now.table }
+        ensures each_once { Distinct (order_of self.now.table) }
     {
         &self.order
     }
 
     pub(crate) fn set(&self, v: VertexId) -> &VertexSet
-        requires { member v (order_of self.now) ≡ true }
-        ensures { result.now.ids ≡ set_of self.now v }
+        requires { member v (order_of self.now.table) ≡ true }
+        ensures { result.now.ids ≡ set_of self.now.table v }
     {
-        &self.sets[v.get()]
+        self.sets.get(v)
     }
 
     // Another set for a vertex of the order.
     pub(crate) fn replace(&mut self, v: VertexId, set: VertexSet)
-        requires { member v (order_of self.old) ≡ true }
-        ensures { self.new ≡ with_sets (λ u members. if u == v then set.ids else members) self.old }
+        requires { member v (order_of self.old.table) ≡ true }
+        ensures { self.new.table ≡
+            with_sets (λ u members. if u == v then set.ids else members) self.old.table }
     {
-        self.sets[v.get()] = set;
+        self.sets.put(v, set);
     }
 
-    pub(crate) fn add_last(&mut self, v: VertexId, set: VertexSet) -> Result<(), AllocError>
-        requires { member v (order_of self.old) ≡ false }
-        ensures ok { OnOk result (self.new ≡
-            self.old ++ record { vertex = v; members = set.ids } ∷ []) }
-        ensures err { OnErr result (self.new ≡ self.old) }
+    // Adds a vertex after all others, with its set.
+    pub(crate) fn push(&mut self, v: VertexId, set: VertexSet) -> Result<(), AllocError>
+        requires { member v (order_of self.old.table) ≡ false }
+        ensures ok { OnOk result (self.new.table ≡
+            self.old.table ++ record { vertex = v; members = set.ids } ∷ []) }
+        ensures err { OnErr result (self.new.table ≡ self.old.table) }
     {
-        make_room(&mut self.sets, self.alloc, v)?;
+        self.sets.make_place(v)?;
         self.order.push(v)?;
-        self.sets[v.get()] = set;
+        self.sets.put(v, set);
         Ok(())
     }
 
-    pub(crate) fn add_first(&mut self, v: VertexId, set: VertexSet) -> Result<(), AllocError>
-        requires { member v (order_of self.old) ≡ false }
-        ensures ok { OnOk result (self.new ≡ record { vertex = v; members = set.ids } ∷ self.old) }
-        ensures err { OnErr result (self.new ≡ self.old) }
+    // Toggles these in the set of a vertex.
+    pub(crate) fn toggle(&mut self, v: VertexId, members: &VertexSet) -> Result<(), AllocError>
+        requires { member v (order_of self.old.table) ≡ true }
+        ensures ok { OnOk result (SameSets self.new.table
+            (set_toggled v members.now.ids self.old.table)) }
+        ensures err { OnErr result (self.new.table ≡ self.old.table) }
+        ensures has_room { v < self.old.reach → IsBelow self.old.reach members.now.ids →
+            IsOk result }
+        ensures spare { self.new.spare ≡ self.old.spare }
+        ensures reach { self.new.reach ≡ self.old.reach }
     {
-        make_room(&mut self.sets, self.alloc, v)?;
+        self.sets.toggle(v, members)
+    }
+
+    // Toggles the set of u in that of v.
+    pub(crate) fn toggle_set(&mut self, v: VertexId, u: VertexId) -> Result<(), AllocError>
+        requires v_there { member v (order_of self.old.table) ≡ true }
+        requires u_there { member u (order_of self.old.table) ≡ true }
+        requires apart { v ≢ u }
+        ensures ok { OnOk result (SameSets self.new.table
+            (set_toggled v (set_of self.old.table u) self.old.table)) }
+        ensures err { OnErr result (self.new.table ≡ self.old.table) }
+        ensures has_room { v < self.old.reach →
+            IsBelow self.old.reach (set_of self.old.table u) → IsOk result }
+        ensures spare { self.new.spare ≡ self.old.spare }
+        ensures reach { self.new.reach ≡ self.old.reach }
+    {
+        self.sets.toggle_set(v, u)
+    }
+
+    // Adds a vertex v after all others, with w as its set.
+    pub(crate) fn add_last(&mut self, v: VertexId, w: VertexId) -> Result<(), AllocError>
+        requires { member v (order_of self.old.table) ≡ false }
+        ensures ok { OnOk result (self.new.table ≡
+            self.old.table ++ record { vertex = v; members = w ∷ [] } ∷ []) }
+        ensures err { OnErr result (self.new.table ≡ self.old.table) }
+        ensures has_room { 0 < self.old.spare → v < self.old.reach → w < self.old.reach →
+            IsOk result }
+        ensures spare { OnOk result (self.old.spare ≤ self.new.spare + 1) }
+        ensures keeps_spare { OnErr result (self.old.spare ≤ self.new.spare) }
+        ensures reach { self.new.reach ≡ self.old.reach }
+    {
+        self.sets.make_place(v)?;
+        self.sets.put_one(v, w)?;
+        self.order.push(v)?;
+        Ok(())
+    }
+
+    // Adds a vertex v before all others, with w as its set.
+    pub(crate) fn add_first(&mut self, v: VertexId, w: VertexId) -> Result<(), AllocError>
+        requires { member v (order_of self.old.table) ≡ false }
+        ensures ok { OnOk result (self.new.table ≡
+            record { vertex = v; members = w ∷ [] } ∷ self.old.table) }
+        ensures err { OnErr result (self.new.table ≡ self.old.table) }
+        ensures has_room { 0 < self.old.spare → v < self.old.reach → w < self.old.reach →
+            IsOk result }
+        ensures spare { OnOk result (self.old.spare ≤ self.new.spare + 1) }
+        ensures keeps_spare { OnErr result (self.old.spare ≤ self.new.spare) }
+        ensures reach { self.new.reach ≡ self.old.reach }
+    {
+        self.sets.make_place(v)?;
+        self.sets.put_one(v, w)?;
         self.order.insert(0, v)?;
-        self.sets[v.get()] = set;
         Ok(())
     }
 
     // Takes a vertex out of the order, and its set away.
     pub(crate) fn remove(&mut self, v: VertexId)
-        requires { member v (order_of self.old) ≡ true }
-        ensures { self.new ≡ without_set v self.old }
+        requires { member v (order_of self.old.table) ≡ true }
+        ensures table { self.new.table ≡ without_set v self.old.table }
+        ensures spare { self.new.spare ≡ self.old.spare + 1 }
+        ensures reach { self.new.reach ≡ self.old.reach }
     {
         self.order.retain(|u| *u != v);
-        self.sets[v.get()] = VertexSet::new(self.alloc);
+        self.sets.clear(v);
     }
 
     pub(crate) fn copy(&self) -> Result<Corrections, AllocError>
-        ensures { IfOk result (λ copy. copy ≡ self.now) }
+        ensures { IfOk result (λ copy. copy.table ≡ self.now.table) }
     {
         Ok(Corrections {
             alloc: self.alloc,
             order: Vec::from_slice(self.alloc, &self.order)?,
-            sets: self.sets.clone()?,
+            sets: self.sets.copy()?,
         })
     }
 
+    // Takes the memory for so many vertices more, above all that are named.
     pub(crate) fn reserve(&mut self, vertices: usize) -> Result<(), AllocError>
-        ensures { self.new ≡ self.old }
+        ensures table { self.new.table ≡ self.old.table }
+        ensures spare { OnOk result (vertices ≤ self.new.spare) }
+        ensures reach { OnOk result (vertices ≤ self.new.reach) }
+        ensures named { OnOk result ((v : ℕ) → IsNamed self.old.table v →
+            v + vertices < self.new.reach) }
+        ensures keeps_spare { self.old.spare ≤ self.new.spare }
+        ensures keeps_reach { self.old.reach ≤ self.new.reach }
     {
         self.order.reserve(vertices)?;
-        self.sets.reserve(vertices)
+        match self.sets.end().checked_add(vertices) {
+            Some(bound) => self.sets.reserve(bound),
+            None => Err(AllocError),
+        }
     }
-}
-
-// Makes room for the set of a vertex.
-fn make_room(sets: &mut Vec<VertexSet>, alloc: Global, v: VertexId) -> Result<(), AllocError>
-    ensures ok { OnOk result (v < length sets.new.items) }
-    ensures grown { length sets.old.items ≤ length sets.new.items }
-    ensures same { SameSetsAt sets.old.items sets.new.items }
-{
-    'grow: while sets.len() <= v.get() {
-        sets.push(VertexSet::new(alloc))?;
-    }
-    Ok(())
 }

@@ -1,11 +1,14 @@
 //! Flows.
 
-ghost use Rattle.std.specs.Prelude.{◌≡◌, ◌<◌, ◌++◌, ℕ, true, false, List, [], ◌∷◌, length, slice_index, IfOk, IfNone, IfSome, OnOk, OnErr, ltb};
+ghost use Rattle.std.specs.Prelude.{◌≡◌, ◌≢◌, ◌<◌, ◌≤◌, ◌+◌, ◌++◌, ℕ, true, false, List, [], ◌∷◌, length, slice_index};
+ghost use Rattle.std.specs.Prelude.{IsOk, IfOk, IfNone, IfSome, OnOk, OnErr, ltb};
 ghost use Rattle.zx_model.specs.Bits.{member};
 ghost use Rattle.zx_calculus.specs.Graph.{in_order, Distinct};
 ghost use Rattle.gflow_laws.specs.Seen.{seen, odd};
 ghost use Rattle.gflow_laws.specs.Flow.{order_of, set_of, is_in, IsFlow, SameSets};
 ghost use Rattle.gflow_laws.specs.Tables.{without_set};
+ghost use Rattle.zx_bits.specs.Sets.{IsBelow};
+ghost use Rattle.zx_flow.specs.Flows.{IsNamed};
 ghost use Rattle.zx_flow.specs.Changes.{set_toggled};
 
 use crate::corrections::Corrections;
@@ -26,7 +29,11 @@ impl Model for Flow {
 
     ghost Value = { Seen };
 
-    ghost view = { λ f. record { flow = f.corrections } };
+    ghost view = { λ f. record {
+      flow = f.corrections.table;
+      spare = f.corrections.spare;
+      reach = f.corrections.reach;
+    } };
 }
 
 impl Flow {
@@ -109,55 +116,88 @@ impl Flow {
         g.is_live(w) && set.common_with(g.neighbour_set(w)) % 2 == 1
     }
 
-    /// Toggles these in the set of a vertex. Where memory runs out the flow stays as it was.
+    /// Toggles these in the set of a vertex, without memory below `reach`. Where memory runs out the
+    /// flow stays as it was.
     pub fn toggle(&mut self, v: VertexId, members: &VertexSet) -> Result<(), AllocError>
         requires { member v (order_of self.old.flow) ≡ true }
-        ensures ok { OnOk result (SameSets self.new.flow (set_toggled v members.now.ids self.old.flow)) }
+        ensures ok { OnOk result (SameSets self.new.flow
+            (set_toggled v members.now.ids self.old.flow)) }
         ensures err { OnErr result (self.new.flow ≡ self.old.flow) }
+        ensures has_room { v < self.old.reach → IsBelow self.old.reach members.now.ids →
+            IsOk result }
+        ensures spare { self.new.spare ≡ self.old.spare }
+        ensures reach { self.new.reach ≡ self.old.reach }
     {
-        let mut set = self.corrections.set(v).clone()?;
-        set.toggle_all(members)?;
-        self.corrections.replace(v, set);
-        Ok(())
+        self.corrections.toggle(v, members)
+    }
+
+    /// Toggles the set of a vertex u in that of another one v, without memory below `reach`. Where
+    /// memory runs out the flow stays as it was.
+    pub fn toggle_set(&mut self, v: VertexId, u: VertexId) -> Result<(), AllocError>
+        requires v_there { member v (order_of self.old.flow) ≡ true }
+        requires u_there { member u (order_of self.old.flow) ≡ true }
+        requires different { v ≢ u }
+        ensures ok { OnOk result (SameSets self.new.flow
+            (set_toggled v (set_of self.old.flow u) self.old.flow)) }
+        ensures err { OnErr result (self.new.flow ≡ self.old.flow) }
+        ensures has_room { v < self.old.reach →
+            IsBelow self.old.reach (set_of self.old.flow u) → IsOk result }
+        ensures spare { self.new.spare ≡ self.old.spare }
+        ensures reach { self.new.reach ≡ self.old.reach }
+    {
+        self.corrections.toggle_set(v, u)
     }
 
     // Toggles a vertex w in the set of v. Where memory runs out the flow stays as it was.
     pub(crate) fn toggle_one(&mut self, v: VertexId, w: VertexId) -> Result<(), AllocError>
         requires { member v (order_of self.old.flow) ≡ true }
-        ensures { OnOk result (SameSets self.new.flow (set_toggled v (w ∷ []) self.old.flow)) }
+        ensures toggled { OnOk result
+            (SameSets self.new.flow (set_toggled v (w ∷ []) self.old.flow)) }
+        ensures spare { self.new.spare ≡ self.old.spare }
+        ensures reach { self.new.reach ≡ self.old.reach }
     {
         let one = VertexSet::one(self.alloc, w)?;
         self.toggle(v, &one)
     }
 
-    /// Adds a vertex v after all others, corrected by w alone. Where memory runs out the flow
-    /// stays as it was.
+    /// Adds a vertex v after all others, corrected by w alone. It uses one of `spare`, and below
+    /// `reach` no memory then. Where memory runs out the flow stays as it was.
     pub fn add_last(&mut self, v: VertexId, w: VertexId) -> Result<(), AllocError>
         requires { member v (order_of self.old.flow) ≡ false }
         ensures ok { OnOk result (self.new.flow ≡
             self.old.flow ++ record { vertex = v; members = w ∷ [] } ∷ []) }
         ensures err { OnErr result (self.new.flow ≡ self.old.flow) }
+        ensures has_room { 0 < self.old.spare → v < self.old.reach → w < self.old.reach →
+            IsOk result }
+        ensures spare { OnOk result (self.old.spare ≤ self.new.spare + 1) }
+        ensures keeps_spare { OnErr result (self.old.spare ≤ self.new.spare) }
+        ensures reach { self.new.reach ≡ self.old.reach }
     {
-        let set = VertexSet::one(self.alloc, w)?;
-        self.corrections.add_last(v, set)
+        self.corrections.add_last(v, w)
     }
 
-    /// Adds a vertex v before all others, corrected by w alone. Where memory runs out the flow
-    /// stays as it was.
+    /// Adds a vertex v before all others, corrected by w alone. It uses one of `spare`, and below
+    /// `reach` no memory then. Where memory runs out the flow stays as it was.
     pub fn add_first(&mut self, v: VertexId, w: VertexId) -> Result<(), AllocError>
         requires { member v (order_of self.old.flow) ≡ false }
         ensures ok { OnOk result (self.new.flow ≡
             record { vertex = v; members = w ∷ [] } ∷ self.old.flow) }
         ensures err { OnErr result (self.new.flow ≡ self.old.flow) }
+        ensures has_room { 0 < self.old.spare → v < self.old.reach → w < self.old.reach →
+            IsOk result }
+        ensures spare { OnOk result (self.old.spare ≤ self.new.spare + 1) }
+        ensures keeps_spare { OnErr result (self.old.spare ≤ self.new.spare) }
+        ensures reach { self.new.reach ≡ self.old.reach }
     {
-        let set = VertexSet::one(self.alloc, w)?;
-        self.corrections.add_first(v, set)
+        self.corrections.add_first(v, w)
     }
 
-    /// Takes a vertex out of the order, and its set away.
+    /// Takes a vertex out of the order, and its set away. Its place is free for another one.
     pub fn remove(&mut self, v: VertexId)
         requires { member v (order_of self.old.flow) ≡ true }
-        ensures { self.new.flow ≡ without_set v self.old.flow }
+        ensures flow { self.new.flow ≡ without_set v self.old.flow }
+        ensures spare { self.new.spare ≡ self.old.spare + 1 }
+        ensures reach { self.new.reach ≡ self.old.reach }
     {
         self.corrections.remove(v);
     }
@@ -172,9 +212,15 @@ impl Flow {
         })
     }
 
-    /// Makes room for so many more vertices.
+    /// Takes the memory for so many more vertices, and for all ids of the flow and so many more.
     pub fn reserve(&mut self, vertices: usize) -> Result<(), AllocError>
-        ensures { self.new.flow ≡ self.old.flow }
+        ensures flow { self.new.flow ≡ self.old.flow }
+        ensures spare { OnOk result (vertices ≤ self.new.spare) }
+        ensures reach { OnOk result (vertices ≤ self.new.reach) }
+        ensures named { OnOk result ((v : ℕ) → IsNamed self.old.flow v →
+            v + vertices < self.new.reach) }
+        ensures keeps_spare { self.old.spare ≤ self.new.spare }
+        ensures keeps_reach { self.old.reach ≤ self.new.reach }
     {
         self.corrections.reserve(vertices)
     }

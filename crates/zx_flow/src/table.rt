@@ -23,7 +23,7 @@ impl Model for FlowTable {
 
     ghost Value = { Seen };
 
-    ghost view = { λ t. record { table = t.corrections } };
+    ghost view = { λ t. record { table = t.corrections.table } };
 }
 
 impl FlowTable {
@@ -48,7 +48,7 @@ impl FlowTable {
     {
         let mut set = VertexSet::new(self.alloc);
         set.toggle_each(members)?;
-        self.corrections.add_last(v, set)
+        self.corrections.push(v, set)
     }
 
     /// Puts a set in the place of that of a vertex.

@@ -13,16 +13,45 @@ use Rattle.zx_gates.specs.Maps.{amp}
 use Rattle.zx_gen.specs.Generator.{generated}
 use Rattle.zx_report.specs.Report.{report_lines}
 use Rattle.qasm_scope.specs.Meaning.{Means}
+use Rattle.qasm_scope.specs.Texts.{TextMeans, program_size}
 use Rattle.qasm_writer.specs.Elements.{elements_of}
 use Rattle.qasm_writer.specs.Measuring.{AreBehind}
 use Rattle.qasm_writer.specs.Written.{written}
 use Rattle.qasm_writer.proofs.WrittenLemmas.{IsWritten, is_written, odd_elements, same_map}
 use Rattle.zx_run.specs.FirstFault.{IsAccepted}
-use Rattle.zx_run.specs.Outcome.{circuit_on, report_if, generation_line, IsOptimisedText, IsGenerationReport}
-use Rattle.zx_run.specs.Optimising.{gate_bound, counts_of, Optimises, IsBest}
+use Rattle.zx_run.specs.Outcome.{circuit_on, report_if, generation_line, IsOptimisedText, IsTeleportedText, IsGenerationReport}
+use Rattle.zx_run.specs.Optimising.{gate_bound, counts_of, Optimises, Teleports, IsBest}
 
 pub same_circuit : (c : Circuit) (qubits : ℕ) (gates : List Gate) → c.qubits ≡ qubits → c.gates ≡ gates → c ≡ circuit_on qubits gates
 same_circuit c qubits gates same_qubits same_gates = ap₂ circuit_on same_qubits same_gates
+
+-- what the text of a circuit means with the measurements of the read one, whose map it has and no more odd phases
+record IsTextFor (read : Elementary) (circuit : Circuit) : Type 0 where
+  pub means : TextMeans (written circuit read.bits read.measured) read.qubits (elements_of circuit.gates) read.bits read.measured
+  pub same_map : Proportional read.qubits read.qubits (amp_elementary read.gates) (amp_elementary (elements_of circuit.gates))
+  pub no_more_odd : elementary_odd_phases (elements_of circuit.gates) ≤ elementary_odd_phases read.gates
+  pub size : program_size means.program ≡ length circuit.gates
+
+IsTextFor-written : (read : Elementary) (circuit : Circuit) → circuit.qubits ≡ read.qubits
+    → Proportional read.qubits read.qubits (amp_elementary read.gates) (amp (lowered read.gates))
+    → gate_odd_phases (lowered read.gates) ≡ elementary_odd_phases read.gates
+    → Proportional read.qubits read.qubits (amp (lowered read.gates)) (amp circuit.gates)
+    → gate_odd_phases circuit.gates ≤ gate_odd_phases (lowered read.gates)
+    → IsCircuit circuit → AreBehind circuit read.bits read.measured → IsTextFor read circuit
+IsTextFor-written read circuit as_many map odd kept fewer is behind =
+    let w : IsWritten circuit read.bits read.measured = is_written circuit read.bits read.measured is behind in
+    let again = elements_of circuit.gates in
+    let back : Proportional read.qubits read.qubits (amp circuit.gates) (amp_elementary again) =
+    subst (λ n. Proportional n n (amp circuit.gates) (amp_elementary again)) as_many
+    (proportional_sym circuit.qubits circuit.qubits (amp_elementary again) (amp circuit.gates) (same_map circuit.qubits circuit.gates is.on_qubits)) in
+    record {
+      means = record { program = w.program; is = w.is; means = subst (λ n. Means w.program n again read.bits read.measured) as_many w.means };
+      same_map = proportional_trans read.qubits read.qubits (amp_elementary read.gates) (amp circuit.gates) (amp_elementary again)
+          (proportional_trans read.qubits read.qubits (amp_elementary read.gates) (amp (lowered read.gates)) (amp circuit.gates) map kept) back;
+      no_more_odd = subst (λ n. n ≤ elementary_odd_phases read.gates) (sym (odd_elements circuit.qubits circuit.gates is.on_qubits))
+          (subst (λ n. gate_odd_phases circuit.gates ≤ n) odd fewer);
+      size = w.size;
+    }
 
 -- the text of a circuit that optimises the lowered one, and its report
 IsOptimisedText-lowered : (best reported : Bool) (text bytes : List ℕ) (read : Elementary) (circuit : Circuit)
@@ -33,23 +62,16 @@ IsOptimisedText-lowered : (best reported : Bool) (text bytes : List ℕ) (read :
     → (best ≡ true → IsBest (circuit_on read.qubits (lowered read.gates)) circuit) → IsCircuit circuit → AreBehind circuit read.bits read.measured
     → bytes ≡ written circuit read.bits read.measured ++ report_if reported (lowered read.gates) circuit.gates → IsOptimisedText best reported text bytes
 IsOptimisedText-lowered best reported text bytes read circuit accepted map odd better is_best is behind spelled =
-    let w : IsWritten circuit read.bits read.measured = is_written circuit read.bits read.measured is behind in
-    let again = elements_of circuit.gates in
-    let as_many : circuit.qubits ≡ read.qubits = better.qubits in
-    let back : Proportional read.qubits read.qubits (amp circuit.gates) (amp_elementary again) =
-    subst (λ n. Proportional n n (amp circuit.gates) (amp_elementary again)) as_many
-    (proportional_sym circuit.qubits circuit.qubits (amp_elementary again) (amp circuit.gates) (same_map circuit.qubits circuit.gates is.on_qubits)) in
+    let t = IsTextFor-written read circuit better.qubits map odd better.map better.odd is behind in
     record {
       read = read;
       circuit = circuit;
       accepted = accepted;
       spelled = spelled;
-      means = record { program = w.program; is = w.is; means = subst (λ n. Means w.program n again read.bits read.measured) as_many w.means };
-      same_map = proportional_trans read.qubits read.qubits (amp_elementary read.gates) (amp circuit.gates) (amp_elementary again)
-          (proportional_trans read.qubits read.qubits (amp_elementary read.gates) (amp (lowered read.gates)) (amp circuit.gates) map better.map) back;
-      no_more_odd = subst (λ n. n ≤ elementary_odd_phases read.gates) (sym (odd_elements circuit.qubits circuit.gates is.on_qubits))
-          (subst (λ n. gate_odd_phases circuit.gates ≤ n) odd better.odd);
-      few_gates = subst (λ size. size ≤ gate_bound read.qubits (elementary_odd_phases read.gates)) (sym w.size)
+      means = t.means;
+      same_map = t.same_map;
+      no_more_odd = t.no_more_odd;
+      few_gates = subst (λ size. size ≤ gate_bound read.qubits (elementary_odd_phases read.gates)) (sym t.size)
           (subst (λ t. length circuit.gates ≤ gate_bound read.qubits t) odd better.few_gates);
       valid = is;
       optimises = better;
@@ -70,6 +92,31 @@ IsOptimisedText-written best reported text bytes read from circuit accepted same
     (subst (λ c. Optimises c circuit) same better)
     (λ asked. subst (λ c. IsBest c circuit) same (is_best asked)) is behind
     (subst (λ gates. bytes ≡ written circuit read.bits read.measured ++ report_if reported gates circuit.gates) same_gates spelled)
+
+-- the text of a circuit with other phases than the lowered one
+pub IsTeleportedText-written : (text bytes : List ℕ) (read : Elementary) (from circuit : Circuit)
+    → IsAccepted text read
+    → from.qubits ≡ read.qubits → from.gates ≡ lowered read.gates
+    → Proportional read.qubits read.qubits (amp_elementary read.gates) (amp from.gates) → gate_odd_phases from.gates ≡ elementary_odd_phases read.gates
+    → Teleports from circuit → IsCircuit circuit → AreBehind circuit read.bits read.measured
+    → bytes ≡ written circuit read.bits read.measured → IsTeleportedText text bytes
+IsTeleportedText-written text bytes read from circuit accepted same_qubits same_gates map odd teleports is behind spelled =
+    let to : Teleports (circuit_on read.qubits (lowered read.gates)) circuit =
+    subst (λ c. Teleports c circuit) (same_circuit from read.qubits (lowered read.gates) same_qubits same_gates) teleports in
+    let t = IsTextFor-written read circuit to.qubits
+    (subst (λ gates. Proportional read.qubits read.qubits (amp_elementary read.gates) (amp gates)) same_gates map)
+    (subst (λ gates. gate_odd_phases gates ≡ elementary_odd_phases read.gates) same_gates odd) to.map to.odd is behind in
+    record {
+      read = read;
+      circuit = circuit;
+      accepted = accepted;
+      spelled = spelled;
+      means = t.means;
+      same_map = t.same_map;
+      no_more_odd = t.no_more_odd;
+      valid = is;
+      teleports = to;
+    }
 
 -- the read circuit's measurements are behind a circuit on as many qubits
 pub measured_behind : (read : Elementary) (circuit : Circuit) → IsElementary read → circuit.qubits ≡ read.qubits → AreBehind circuit read.bits read.measured

@@ -12,9 +12,9 @@ use Rattle.zx_run.specs.declared.status.Fault.{Fault}
 use Rattle.zx_run.specs.declared.status.Fault.TheVariants.{BadByte, TooDeep, Syntax}
 use Rattle.zx_run.specs.declared.status.Status.{Status}
 use Rattle.zx_run.specs.declared.status.Status.TheVariants.{Refused}
-use Rattle.zx_run.specs.Internal.Answers.{ToldSource, IsFailureOfOpt}
+use Rattle.zx_run.specs.Internal.Answers.{ToldSource, IsReadFailure}
 use Rattle.zx_run.specs.ErrorAnswers.{answer_to_text_error}
-use Rattle.zx_run.specs.FirstFault.{most_bytes, fault_of, IsAccepted}
+use Rattle.zx_run.specs.FirstFault.{most_bytes, fault_of, IsAccepted, IsFirstFault}
 use Rattle.zx_run.specs.FirstFault.{IsShortFault, HasDeepParenthesis, HasSyntaxFault, HasWrongStatement}
 
 pub read_accepted : (text : List ℕ) → length text ≤ most_bytes → (circuit : Elementary)
@@ -28,9 +28,9 @@ read_accepted text short circuit (program, is, faultless, means) =
 module _ (before after : ToldSource) (well : after.faults ≡ before.faults)
     (all : (text : List ℕ) → before.left ≡ Some text → (length text ≤ most_bytes) × (after.left ≡ Some [])) where
   refused : (fault : Fault) → ((text : List ℕ) → before.left ≡ Some text → IsShortFault text fault)
-      → IsFailureOfOpt before after (Refused fault)
+      → IsReadFailure IsFirstFault before after (Refused fault)
   refused fault first =
-      λ best report. (well, λ text told. (inr ((all text told).0, first text told), λ other. (all text told).1))
+      (well, λ text told. (inr ((all text told).0, first text told), λ other. (all text told).1))
 
   module _ (error : TextError)
       (bad : (text : List ℕ) → before.left ≡ Some text
@@ -41,15 +41,15 @@ module _ (before after : ToldSource) (well : after.faults ≡ before.faults)
       → (at : ℕ) → error ≡ errors.Syntax at → HasSyntaxFault text at)
       (wrong : (text : List ℕ) → before.left ≡ Some text
       → (cause : Cause) (at : ℕ) → error ≡ errors.Wrong cause at → HasWrongStatement text cause at) where
-    answered : (e : TextError) → error ≡ e → IsFailureOfOpt before after (answer_to_text_error e)
+    answered : (e : TextError) → error ≡ e → IsReadFailure IsFirstFault before after (answer_to_text_error e)
     answered (errors.BadByte at) is = refused (BadByte at) (λ text told. inl (at, bad text told at is, refl))
     answered (errors.TooDeep at) is = refused (TooDeep at) (λ text told. inr (inl (at, deep text told at is, refl)))
     answered (errors.Syntax at) is =
         refused (Syntax at) (λ text told. inr (inr (inl (at, syntax text told at is, refl))))
     answered (errors.Wrong cause at) is =
         refused (fault_of cause at) (λ text told. inr (inr (inr (cause, at, wrong text told cause at is, refl))))
-    answered errors.NoMemory is = λ best report. well
+    answered errors.NoMemory is = well
 
     -- the reader's error tells why there is no circuit
-    pub text_failed : (status : Status) → status ≡ answer_to_text_error error → IsFailureOfOpt before after status
-    text_failed status is = subst (IsFailureOfOpt before after) (sym is) (answered error refl)
+    pub text_failed : (status : Status) → status ≡ answer_to_text_error error → IsReadFailure IsFirstFault before after status
+    text_failed status is = subst (IsReadFailure IsFirstFault before after) (sym is) (answered error refl)

@@ -1,4 +1,4 @@
--- What the optimiser may make of a circuit.
+-- What the optimiser may make of a circuit, and what becomes of one whose phases alone are changed.
 use Rattle.std.specs.Prelude.{◌≡◌, ◌<◌, ◌≤◌, ◌⊎◌, ◌+◌, ◌*◌, ℕ, List, length}
 use Rattle.std.specs.List.{count_by}
 use Rattle.zx_model.specs.Proportional.{Proportional}
@@ -12,6 +12,7 @@ use Rattle.zx_gates.specs.Circuit.{Circuit, gate_odd_phases}
 use Rattle.zx_gates.specs.Counting.{is_h, is_phase, is_cz, is_cx, is_not, is_two_qubit}
 use Rattle.zx_gates.specs.Maps.{amp}
 use Rattle.circuit_graph.specs.Translation.{translated}
+use Rattle.teleport_circuits.specs.Circuits.{IsSkeleton}
 use Rattle.zx_peephole.specs.Tidy.{IsTidy}
 
 -- the most gates of the answer, for n qubits and t odd phases
@@ -39,6 +40,15 @@ pub record Optimises (read made : Circuit) : Type 0 where
   pub odd : gate_odd_phases made.gates ≤ gate_odd_phases read.gates
   pub tidy : IsTidy made.gates
   pub few_gates : length made.gates ≤ bound_of read
+  pub reduced : IsThroughReduced read made
+
+-- The circuit that is made is on as many qubits as the read one, and has its gates in their order, but that phase
+-- gates may have other phases or be left out. It has a proportional linear map and no more odd phases.
+pub record Teleports (read made : Circuit) : Type 0 where
+  pub qubits : made.qubits ≡ read.qubits
+  pub skeleton : IsSkeleton read.gates made.gates
+  pub map : Proportional read.qubits read.qubits (amp read.gates) (amp made.gates)
+  pub odd : gate_odd_phases made.gates ≤ gate_odd_phases read.gates
   pub reduced : IsThroughReduced read made
 
 -- how many gates of each kind there are

@@ -11,7 +11,7 @@ use Rattle.zx_gen.specs.Generator.{generated}
 use Rattle.zx_model.specs.Proportional.{Proportional}
 use Rattle.zx_report.specs.Report.{report_lines}
 use Rattle.zx_words.specs.declared.words.Command.{Command}
-use Rattle.zx_words.specs.declared.words.Command.TheVariants.{Optimise, Generate}
+use Rattle.zx_words.specs.declared.words.Command.TheVariants.{Optimise, Teleport, Generate}
 use Rattle.qasm_scope.specs.Texts.{TextMeans, program_size}
 use Rattle.qasm_writer.specs.Elements.{elements_of}
 use Rattle.qasm_writer.specs.Written.{written}
@@ -20,7 +20,7 @@ use Rattle.zx_run.specs.declared.status.Status.TheVariants.{Done, Refused, Write
 use Rattle.zx_run.specs.declared.status.Fault.{Fault}
 use Rattle.zx_run.specs.declared.status.Fault.TheVariants.{TooLong}
 use Rattle.zx_run.specs.FirstFault.{IsAccepted}
-use Rattle.zx_run.specs.Optimising.{Optimises, IsBest, gate_bound, counts_of}
+use Rattle.zx_run.specs.Optimising.{Optimises, Teleports, IsBest, gate_bound, counts_of}
 
 -- a number of qubits, and gates on them
 abbrev pub circuit_on : ℕ → List Gate → Circuit
@@ -52,6 +52,23 @@ pub record IsOptimisedText (best report : Bool) (text bytes : List ℕ) : Type 0
   pub optimises : Optimises (circuit_on read.qubits (lowered read.gates)) circuit
   pub is_best : best ≡ true → IsBest (circuit_on read.qubits (lowered read.gates)) circuit
 
+-- The bytes are what `teleport` may write for a text: the text has no fault, and they are the text of a circuit in
+-- which phases alone differ from the one that is meant, lowered. That text means the same linear map up to a nonzero
+-- scalar, with no more odd phases, and behind it the same measurements, in the same order, into as many bits.
+pub record IsTeleportedText (text bytes : List ℕ) : Type 0 where
+  pub read : Elementary
+  pub circuit : Circuit
+  pub accepted : IsAccepted text read
+  pub spelled : bytes ≡ written circuit read.bits read.measured
+  pub means : TextMeans (written circuit read.bits read.measured) read.qubits (elements_of circuit.gates) read.bits
+      read.measured
+  pub same_map : Proportional read.qubits read.qubits (amp_elementary read.gates)
+      (amp_elementary (elements_of circuit.gates))
+  pub no_more_odd : elementary_odd_phases (elements_of circuit.gates) ≤ elementary_odd_phases read.gates
+  -- what more is known of the circuit
+  pub valid : IsCircuit circuit
+  pub teleports : Teleports (circuit_on read.qubits (lowered read.gates)) circuit
+
 -- the line of the words of `gen`
 abbrev pub generation_line : ℕ → ℕ → ℕ → List ℕ
 generation_line seed qubits gates =
@@ -69,11 +86,16 @@ pub record IsGenerationReport (seed qubits gates : ℕ) (bytes : List ℕ) : Typ
 abbrev pub IsOutputFor : Command → Option (List ℕ) → List ℕ → Type 0
 IsOutputFor (Optimise best report) left bytes =
     (text : List ℕ) → left ≡ Some text → IsOptimisedText best report text bytes
+IsOutputFor Teleport left bytes = (text : List ℕ) → left ≡ Some text → IsTeleportedText text bytes
 IsOutputFor (Generate seed qubits gates) left bytes = IsGenerationReport seed qubits gates bytes
 
 -- the words give `opt`, with or without its flags
 abbrev pub IsOpt : Option Command → Type 0
 IsOpt given = (best report : Bool) × (given ≡ Some (Optimise best report))
+
+-- the words give `teleport`
+abbrev pub IsTeleport : Option Command → Type 0
+IsTeleport given = given ≡ Some Teleport
 
 -- the words give `gen`
 abbrev pub IsGen : Option Command → Type 0
@@ -105,7 +127,7 @@ LeavesOutput status = (status ≢ Done) × (status ≢ WriteFault) × (status �
 abbrev pub IsOrNoMemory : Status → Status → Type 0
 IsOrNoMemory expected status = (status ≡ expected) ⊎ (status ≡ NoMemory)
 
--- the answers of `opt` after which the source was read to its end
+-- the answers of `opt` and `teleport` after which the source was read to its end
 abbrev pub SaysEnd : Status → Type 0
 SaysEnd status = (status ≡ Done) ⊎ ((fault : Fault) × (fault ≢ TooLong) × (status ≡ Refused fault))
 

@@ -20,6 +20,7 @@ mod program;
 mod reader;
 mod reporting;
 mod status;
+mod teleporting;
 #[cfg(test)]
 mod tests;
 

@@ -3,27 +3,29 @@
 ghost use Rattle.std.specs.Prelude.{◌≡◌, ◌≢◌, List, ℕ, [], None, Some, IfOk, IfErr};
 ghost use Rattle.zx_io.specs.Causes.{Rose};
 ghost use Rattle.zx_words.specs.declared.words.Command.{Command};
-ghost use Rattle.zx_words.specs.declared.words.Command.TheVariants.{Optimise};
+ghost use Rattle.zx_words.specs.declared.words.Command.TheVariants.{Optimise, Teleport};
 ghost use Rattle.zx_words.specs.Command.{command_in};
 ghost use Rattle.zx_run.specs.declared.status.Fault.{Fault};
 ghost use Rattle.zx_run.specs.FirstFault.{IsFaultless, IsFirstFault};
-ghost use Rattle.zx_run.specs.Outcome.{Gains, GainsOutputFor, GainsPrefix, GainsPrefixFor, IsAnswerOfGen, IsGen, IsOpt, IsOrNoMemory, LeavesOutput, SaysEnd};
+ghost use Rattle.zx_run.specs.Outcome.{Gains, GainsOutputFor, GainsPrefix, GainsPrefixFor, IsAnswerOfGen, IsGen, IsOpt, IsOrNoMemory, IsTeleport, LeavesOutput, SaysEnd};
 ghost use Rattle.zx_run.specs.ErrorLine.{error_line};
-ghost use Rattle.zx_run.specs.Internal.Answers.{IsAnswer, IsFailure, IsMade, streams, told_output, told_source};
+ghost use Rattle.zx_run.specs.Internal.Answers.{IsAnswer, IsFailure, IsMade, Reads, streams, told_output, told_source};
 
 use crate::error_line::report;
 use crate::generation::generation_report;
 use crate::output::optimised_text;
 use crate::reader::read_circuit;
 use crate::status::Status;
+use crate::teleporting::teleported_text;
 use std::alloc::Global;
 use zx_io::{Sink, Source, WriteFault, write_all};
 use zx_words::{Command, command_in};
 
 /// Runs the command that the words give, those after the program's name: `opt` reads a text from
 /// `source` to its end, and writes the text of the optimised circuit to `out`, with `--report` its
-/// report too; `gen` reads nothing, and writes the report of a circuit from a seed. A line about any
-/// other answer than Done goes to `err`, whose failures change nothing.
+/// report too; `teleport` reads one and writes it with phases alone changed; `gen` reads nothing, and
+/// writes the report of a circuit from a seed. A line about any other answer than Done goes to `err`,
+/// whose failures change nothing.
 ///
 /// Want of memory may take the place of Done, of Usage and of a refusal, and of no other answer.
 pub fn run<'a, S: Source, O: Sink, E: Sink>(
@@ -75,6 +77,20 @@ pub fn run<'a, S: Source, O: Sink, E: Sink>(
     ensures complete { (text : List ℕ) → IsFaultless text → IsOpt (command_in words.now) →
         S.left source.old ≡ Some text → ¬ Rose (S.faults source.old) (S.faults source.new) →
         ¬ Rose (O.faults out.old) (O.faults out.new) → IsOrNoMemory Status.Done result }
+
+    // `teleport` refuses a text where `opt` does, and is done where `opt` is.
+    ensures teleport_refused_first { (fault : Fault) (text : List ℕ) →
+        result ≡ Status.Refused fault → IsTeleport (command_in words.now) →
+        S.left source.old ≡ Some text → IsFirstFault text fault }
+    ensures teleport_refuses { (fault : Fault) (text : List ℕ) → IsTeleport (command_in words.now) →
+        S.left source.old ≡ Some text → ¬ Rose (S.faults source.old) (S.faults source.new) →
+        IsFirstFault text fault → IsOrNoMemory (Status.Refused fault) result }
+    ensures teleport_never_no { IsTeleport (command_in words.now) → result ≢ Status.No }
+    ensures teleport_done { (text : List ℕ) → IsFaultless text → IsTeleport (command_in words.now) →
+        S.left source.old ≡ Some text → ¬ Rose (S.faults source.old) (S.faults source.new) →
+        ¬ Rose (O.faults out.old) (O.faults out.new) → IsOrNoMemory Status.Done result }
+    ensures teleport_read_to_end { (text : List ℕ) → IsTeleport (command_in words.now) →
+        S.left source.old ≡ Some text → SaysEnd result → S.left source.new ≡ Some [] }
 
     // `gen` reads nothing, and is done unless the output fails or memory runs out.
     ensures gen_answers { IsGen (command_in words.now) → IsAnswerOfGen result }
@@ -145,6 +161,20 @@ pub fn answer<'a, S: Source, O: Sink>(
         S.left source.old ≡ Some text → ¬ Rose (S.faults source.old) (S.faults source.new) →
         ¬ Rose (O.faults out.old) (O.faults out.new) → IsOrNoMemory Status.Done result }
 
+    // `teleport` refuses a text where `opt` does, and is done where `opt` is.
+    ensures teleport_refused_first { (fault : Fault) (text : List ℕ) →
+        result ≡ Status.Refused fault → IsTeleport (command_in words.now) →
+        S.left source.old ≡ Some text → IsFirstFault text fault }
+    ensures teleport_refuses { (fault : Fault) (text : List ℕ) → IsTeleport (command_in words.now) →
+        S.left source.old ≡ Some text → ¬ Rose (S.faults source.old) (S.faults source.new) →
+        IsFirstFault text fault → IsOrNoMemory (Status.Refused fault) result }
+    ensures teleport_never_no { IsTeleport (command_in words.now) → result ≢ Status.No }
+    ensures teleport_done { (text : List ℕ) → IsFaultless text → IsTeleport (command_in words.now) →
+        S.left source.old ≡ Some text → ¬ Rose (S.faults source.old) (S.faults source.new) →
+        ¬ Rose (O.faults out.old) (O.faults out.new) → IsOrNoMemory Status.Done result }
+    ensures teleport_read_to_end { (text : List ℕ) → IsTeleport (command_in words.now) →
+        S.left source.old ≡ Some text → SaysEnd result → S.left source.new ≡ Some [] }
+
     // `gen` reads nothing, and is done unless the output fails or memory runs out.
     ensures gen_answers { IsGen (command_in words.now) → IsAnswerOfGen result }
     ensures gen_complete { IsGen (command_in words.now) →
@@ -166,7 +196,7 @@ fn answered<'a, S: Source, O: Sink>(
     source: &mut S,
     out: &mut O,
 ) -> Status
-    ensures unread { ¬ IsOpt (command_in words.now) → source.new ≡ source.old }
+    ensures unread { ¬ Reads (command_in words.now) → source.new ≡ source.old }
     ensures out_kept { LeavesOutput result → out.new ≡ out.old }
     ensures answers { let s = told_source S.left S.faults in
         let o = told_output O.taken O.faults O.pending in IsAnswer (command_in words.now)
@@ -188,7 +218,7 @@ fn output_of<'a, S: Source>(
     words: &'a [&'a str],
     source: &mut S,
 ) -> Result<Vec<u8>, Status>
-    ensures unread { ¬ IsOpt (command_in words.now) → source.new ≡ source.old }
+    ensures unread { ¬ Reads (command_in words.now) → source.new ≡ source.old }
     ensures made { IfOk result (λ output. IsMade (command_in words.now)
         (told_source S.left S.faults source.old) (told_source S.left S.faults source.new)
         output.items) }
@@ -198,6 +228,7 @@ fn output_of<'a, S: Source>(
     match command_in(alloc, words)? {
         None => Err(Status::Usage),
         Some(Command::Optimise { best, report }) => output_of_opt(alloc, best, report, source),
+        Some(Command::Teleport) => output_of_teleport(alloc, source),
         Some(
             Command::Generate {
                 seed,
@@ -226,5 +257,18 @@ fn output_of_opt<S: Source>(
 {
     let read = read_circuit(alloc, source)?;
     let output = optimised_text(alloc, &read, best, report)?;
+    Ok(output)
+}
+
+// What `teleport` writes for the text that the source gives.
+fn output_of_teleport<S: Source>(alloc: Global, source: &mut S) -> Result<Vec<u8>, Status>
+    ensures made { IfOk result (λ output. IsMade (Some Teleport)
+        (told_source S.left S.faults source.old) (told_source S.left S.faults source.new)
+        output.items) }
+    ensures failure { IfErr result (IsFailure (Some Teleport)
+        (told_source S.left S.faults source.old) (told_source S.left S.faults source.new)) }
+{
+    let read = read_circuit(alloc, source)?;
+    let output = teleported_text(alloc, &read)?;
     Ok(output)
 }

@@ -2,9 +2,9 @@
 
 ghost use Rattle.std.specs.Prelude.{◌≡◌, List, ℕ, [], Some, IfOk, IfErr, OnOk};
 ghost use Rattle.zx_gates.specs.Elementary.{IsElementary};
-ghost use Rattle.zx_run.specs.FirstFault.{IsAccepted, fault_of};
+ghost use Rattle.zx_run.specs.FirstFault.{IsAccepted, IsFirstFault, fault_of};
 ghost use Rattle.zx_run.specs.ErrorAnswers.{answer_to_read_error, answer_to_text_error};
-ghost use Rattle.zx_run.specs.Internal.Answers.{IsFailureOfOpt, told_source};
+ghost use Rattle.zx_run.specs.Internal.Answers.{IsReadFailure, told_source};
 
 use crate::status::{Fault, Status};
 use bumpalo::Bump;
@@ -30,8 +30,8 @@ pub fn read_circuit<S: Source>(alloc: Global, source: &mut S) -> Result<Elementa
     ensures reads_well { OnOk result (S.faults source.new ≡ S.faults source.old) }
     ensures end { (text : List ℕ) → S.left source.old ≡ Some text
         → OnOk result (S.left source.new ≡ Some []) }
-    ensures failure { IfErr result (IsFailureOfOpt (told_source S.left S.faults source.old)
-        (told_source S.left S.faults source.new)) }
+    ensures failure { IfErr result (IsReadFailure IsFirstFault
+        (told_source S.left S.faults source.old) (told_source S.left S.faults source.new)) }
 {
     let arena = Bump::new(alloc);
     let mut reader = PieceReader::new(alloc, &arena);

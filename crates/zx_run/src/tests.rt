@@ -38,7 +38,7 @@ fn run_in_pieces(
 fn worked_runs_write_these_bytes(rt: HostRuntime) -> Result<(), Fail> {
     // The words, the text, and what the output and the error output get. Two T are one S; the numbers of
     // gates are counted by hand.
-    let rows: [(&[&str], &[u8], &[u8], &[u8]); 7] = [
+    let rows: [(&[&str], &[u8], &[u8], &[u8]); 10] = [
         (
             &["opt"],
             b"OPENQASM 2.0;\ninclude \"qelib1.inc\";\nqreg q[1];\nt q[0];\nt q[0];\n",
@@ -76,10 +76,28 @@ fn worked_runs_write_these_bytes(rt: HostRuntime) -> Result<(), Fail> {
             b"zxopt: fault 22 AfterMeasure at 80\n",
         ),
         (
+            &["teleport"],
+            b"OPENQASM 2.0;\ninclude \"qelib1.inc\";\nqreg q[1];\nt q[0];\nt q[0];\n",
+            b"OPENQASM 2.0;\ninclude \"qelib1.inc\";\nqreg q[1];\ns q[0];\n",
+            b"",
+        ),
+        (
+            &["teleport"],
+            b"OPENQASM 2.0;\ninclude \"qelib1.inc\";\nqreg q[1];\ncreg c[1];\nt q[0]; h q[0]; h q[0]; t q[0]; measure q[0] -> c[0];",
+            b"OPENQASM 2.0;\ninclude \"qelib1.inc\";\nqreg q[1];\ncreg c[1];\ns q[0];\nh q[0];\nh q[0];\nmeasure q[0] -> c[0];\n",
+            b"",
+        ),
+        (
+            &["teleport"],
+            b"OPENQASM 2.0;\ninclude \"qelib1.inc\";\nqreg q[1]; @",
+            b"",
+            b"zxopt: fault 2 BadByte at 47\n",
+        ),
+        (
             &["Opt"],
             b"",
             b"",
-            b"usage: zxopt opt [--best] [--report] | reduce | flow | graph | gen SEED QUBITS GATES\n",
+            b"usage: zxopt opt [--best] [--report] | reduce | flow | graph | gen SEED QUBITS GATES | teleport\n",
         ),
     ];
     for (i, (words, text, written, told)) in rows.into_iter().enumerate() {

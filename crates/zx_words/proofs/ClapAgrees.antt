@@ -13,10 +13,12 @@ use Rattle.clap.proofs.FaultLemmas.{stopped_fault}
 use Rattle.clap.proofs.WalkLemmas.{walk_stopped}
 use Rattle.clap.proofs.OnLiterals.{clap_on_literals}
 use Rattle.zx_words.specs.declared.words.Command.{Command}
+use Rattle.zx_words.specs.declared.words.Command.TheVariants.{Teleport}
 use Rattle.zx_words.specs.Command.{command_of}
 use Rattle.zx_words.specs.Internal.CommandLine.{zxopt_app, clap_command_of, command_by}
 use Rattle.zx_words.proofs.Levels.{IsFault, between, level, other_word, first_fault, stray_turn, unless_fault}
 use Rattle.zx_words.proofs.OptAgrees.{by_opt, opt_agrees, opt_leaf}
+use Rattle.zx_words.proofs.AloneAgrees.{alone_agrees, alone_leaf, by_name}
 use Rattle.zx_words.proofs.GenAgrees.{by_gen, gen_agrees, gen_leaf}
 
 pub no_command : (kinds : Kinds) (o : Option Command) → IsFault kinds → (if is_empty kinds then o else None) ≡ None
@@ -59,6 +61,15 @@ gen_words rest =
     (stopped_fault a.top (names_of a) (walk_from nothing_held) (codes "gen", []) rest i))
     ∙ below (entered_fault a (Some (codes "gen", rest))) (codes "gen") (rows_after gen_leaf.rules [] rest)
 
+teleport_words : (rest : List Text)
+    → clap_command_of (codes "teleport" ∷ rest) ≡ by_name (codes "teleport") (level (alone_leaf (codes "teleport")) (between nothing_held 1 false) rest)
+unfolding zxopt_app clap_on_literals
+teleport_words rest =
+    let a = built zxopt_app in
+    (λ i. by_walk a (sym (walk_stopped a.top.rules (names_of a) (walk_from nothing_held) (codes "teleport") [] rest) i)
+    (stopped_fault a.top (names_of a) (walk_from nothing_held) (codes "teleport", []) rest i))
+    ∙ below (entered_fault a (Some (codes "teleport", rest))) (codes "teleport") (rows_after (alone_leaf (codes "teleport")).rules [] rest)
+
 -- ---- a first word that is no subcommand
 not_said : (name word : Text) → bytes_eq word name ≡ false → bytes_eq name word ≡ false
 not_said name word not_name = false_from_ne_true (bytes_eq name word)
@@ -70,12 +81,12 @@ only_separator [] = tt
 only_separator (next ∷ rest) = tt
 
 no_subcommand : (word : Text) (rest : List Text) → bytes_eq word (codes "opt") ≡ false → bytes_eq word (codes "gen") ≡ false
-    → bytes_eq word (codes "--") ≡ false → IsFault (fault_of zxopt_app (word ∷ rest))
+    → bytes_eq word (codes "teleport") ≡ false → bytes_eq word (codes "--") ≡ false → IsFault (fault_of zxopt_app (word ∷ rest))
 unfolding zxopt_app walk_fault
-no_subcommand word rest not_opt not_gen not_end =
+no_subcommand word rest not_opt not_gen not_teleport not_end =
     let a = built zxopt_app in
     let free : subcommand_met (names_of a) idle word ≡ None =
-    rw (not_said (codes "opt") word not_opt, not_said (codes "gen") word not_gen) refl in
+    rw (not_said (codes "opt") word not_opt, not_said (codes "gen") word not_gen, not_said (codes "teleport") word not_teleport) refl in
     first_fault _ _ (first_fault _ _
     (stray_turn a.top (names_of a) nothing_held 1 word
     (other_word a.top (names_of a) [] None word 1 free not_end (λ x. refl) (λ name v e. tt)) tt))
@@ -83,7 +94,8 @@ no_subcommand word rest not_opt not_gen not_end =
 -- ---- all words
 pub clap_agrees : (words : List Text) → clap_command_of words ≡ command_of words
 clap_agrees [] = no_command (fault_of zxopt_app []) (command_by (subcommand_of zxopt_app [])) no_word
-clap_agrees (word ∷ rest) = go (bytes_eq word (codes "opt")) (bytes_eq word (codes "gen")) (bytes_eq word (codes "--")) refl refl refl
+clap_agrees (word ∷ rest) =
+    go (bytes_eq word (codes "opt")) (bytes_eq word (codes "gen")) (bytes_eq word (codes "teleport")) (bytes_eq word (codes "--")) refl refl refl refl
   where
     said : (text : Text) → bytes_eq word text ≡ true → clap_command_of (text ∷ rest) ≡ command_of (text ∷ rest)
         → clap_command_of (word ∷ rest) ≡ command_of (word ∷ rest)
@@ -92,14 +104,17 @@ clap_agrees (word ∷ rest) = go (bytes_eq word (codes "opt")) (bytes_eq word (c
     none : (text : Text) → IsFault (fault_of zxopt_app (text ∷ rest)) → clap_command_of (text ∷ rest) ≡ None
     none text = no_command (fault_of zxopt_app (text ∷ rest)) (command_by (subcommand_of zxopt_app (text ∷ rest)))
 
-    go : (o g s : Bool) → bytes_eq word (codes "opt") ≡ o → bytes_eq word (codes "gen") ≡ g → bytes_eq word (codes "--") ≡ s
+    go : (o g t s : Bool) → bytes_eq word (codes "opt") ≡ o → bytes_eq word (codes "gen") ≡ g
+        → bytes_eq word (codes "teleport") ≡ t → bytes_eq word (codes "--") ≡ s
         → clap_command_of (word ∷ rest) ≡ command_of (word ∷ rest)
-    go true g s is_opt is_gen is_end = said (codes "opt") is_opt (opt_words rest ∙ opt_agrees rest)
-    go false true s is_opt is_gen is_end = said (codes "gen") is_gen (gen_words rest ∙ gen_agrees rest)
-    go false false true is_opt is_gen is_end = said (codes "--") is_end (none (codes "--") (only_separator rest))
-    go false false false is_opt is_gen is_end =
-        let right : command_of (word ∷ rest) ≡ None = rw (is_opt, is_gen) refl in
-        none word (no_subcommand word rest is_opt is_gen is_end) ∙ sym right
+    go true g t s is_opt is_gen is_teleport is_end = said (codes "opt") is_opt (opt_words rest ∙ opt_agrees rest)
+    go false true t s is_opt is_gen is_teleport is_end = said (codes "gen") is_gen (gen_words rest ∙ gen_agrees rest)
+    go false false true s is_opt is_gen is_teleport is_end =
+        said (codes "teleport") is_teleport (teleport_words rest ∙ alone_agrees (codes "teleport") Teleport refl rest)
+    go false false false true is_opt is_gen is_teleport is_end = said (codes "--") is_end (none (codes "--") (only_separator rest))
+    go false false false false is_opt is_gen is_teleport is_end =
+        let right : command_of (word ∷ rest) ≡ None = rw (is_opt, is_gen, is_teleport) refl in
+        none word (no_subcommand word rest is_opt is_gen is_teleport is_end) ∙ sym right
 
 -- ---- what a parse gives
 pub refused : (k : ErrorKind) (a : App) (words : List Text) → a ≡ zxopt_app → IsAmong k (fault_of a words)

@@ -1,3 +1,4 @@
+mod AloneAgrees
 mod ClapAgrees
 mod GenAgrees
 mod Levels

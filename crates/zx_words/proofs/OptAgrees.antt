@@ -80,7 +80,7 @@ trailing_end report = refl
 trailing_end best_report = refl
 trailing_end report_best = refl
 
-kept : (word : Text) (rest : List Text) → is_separator word ≡ false → without_end (word ∷ rest) ≡ word ∷ without_end rest
+pub kept : (word : Text) (rest : List Text) → is_separator word ≡ false → without_end (word ∷ rest) ≡ word ∷ without_end rest
 kept word [] e = rw e refl
 kept word (next ∷ rest) e = refl
 

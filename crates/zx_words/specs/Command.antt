@@ -6,7 +6,7 @@ use Rattle.std.specs.Str.{bytes_eq}
 use Rattle.std.specs.Str.Parse.{digits_value}
 use denote.Ref.{Bor}
 use Rattle.zx_words.specs.declared.words.Command.{Command}
-use Rattle.zx_words.specs.declared.words.Command.TheVariants.{Optimise, Generate}
+use Rattle.zx_words.specs.declared.words.Command.TheVariants.{Optimise, Teleport, Generate}
 
 abbrev pub Text : Type 0
 Text = List ℕ
@@ -62,12 +62,18 @@ generation_of (seed_word ∷ qubits_word ∷ gates_word ∷ []) = do
   if nat_le 1 qubits then Some (Generate seed qubits gates) else None
 generation_of _ = None
 
+-- ---- a command that has no words of its own
+abbrev pub alone : Command → List Text → Option Command
+alone command [] = Some command
+alone command (word ∷ rest) = None
+
 -- ---- the command of words, none where they give no command
 abbrev pub command_of : List Text → Option Command
 command_of [] = None
 command_of (word ∷ rest) =
     if bytes_eq word (codes "opt") then optimisation_of (without_end rest) else
-    if bytes_eq word (codes "gen") then generation_of (without_separator rest) else None
+    if bytes_eq word (codes "gen") then generation_of (without_separator rest) else
+    if bytes_eq word (codes "teleport") then alone Teleport (without_end rest) else None
 
 -- the command of words that are borrowed
 abbrev pub command_in : List (Bor Text) → Option Command
@@ -76,5 +82,5 @@ command_in words = command_of (map (λ word. word.now) words)
 -- the numbers of a command are within their limits
 abbrev pub IsWithinLimits : Option Command → Type 0
 IsWithinLimits None = Unit {0}
-IsWithinLimits (Some (Optimise best report)) = Unit {0}
 IsWithinLimits (Some (Generate seed qubits gates)) = (1 ≤ qubits) × (qubits ≤ 1024) × (gates ≤ 1000000)
+IsWithinLimits (Some command) = Unit {0}

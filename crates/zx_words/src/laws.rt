@@ -2,7 +2,7 @@
 
 ghost use Rattle.std.specs.Prelude.{◌≡◌, ◌<◌, ◌≤◌, ◌^◌, ℕ, [], ◌∷◌, codes, decimal};
 ghost use Rattle.std.specs.Prelude.{Some, None, true, false};
-ghost use Rattle.zx_words.specs.declared.words.Command.TheVariants.{Optimise, Generate};
+ghost use Rattle.zx_words.specs.declared.words.Command.TheVariants.{Optimise, Teleport, Generate};
 ghost use Rattle.zx_words.specs.Command.{Text, command_of, number_in};
 
 /// What some words give.
@@ -18,6 +18,9 @@ pub fn worked_words()
     ensures separator { command_of (codes "opt" ∷ codes "--best" ∷ codes "--" ∷ [])
         ≡ Some (Optimise true false) }
     ensures behind { command_of (codes "opt" ∷ codes "--" ∷ codes "--best" ∷ []) ≡ None }
+    ensures teleport { command_of (codes "teleport" ∷ []) ≡ Some Teleport }
+    ensures teleport_end { command_of (codes "teleport" ∷ codes "--" ∷ []) ≡ Some Teleport }
+    ensures teleport_flag { command_of (codes "teleport" ∷ codes "--report" ∷ []) ≡ None }
     ensures help_of_opt { command_of (codes "opt" ∷ codes "--help" ∷ []) ≡ None }
 {}
 

@@ -42,8 +42,19 @@ fn words_of_gen(rt: HostRuntime) -> Result<(), Fail> {
 }
 
 #[test]
+fn words_of_teleport(rt: HostRuntime) -> Result<(), Fail> {
+    let command = Some(Command::Teleport);
+    assert_eq!(rt; command_in(rt.alloc(), ["teleport"].as_slice())?, command);
+    assert_eq!(rt;
+        command_in(rt.alloc(), ["teleport", "--"].as_slice())?,
+        command
+    );
+    Ok(())
+}
+
+#[test]
 fn other_words(rt: HostRuntime) -> Result<(), Fail> {
-    let none: [&[&str]; 17] = [
+    let none: [&[&str]; 19] = [
         &[],
         &["help"],
         &["-h"],
@@ -54,6 +65,8 @@ fn other_words(rt: HostRuntime) -> Result<(), Fail> {
         &["opt", "--best=true"],
         &["opt", "--help"],
         &["opt", "help"],
+        &["teleport", "x"],
+        &["teleport", "--report"],
         &["gen", "1", "0", "5"],
         &["gen", "1", "1025", "0"],
         &["gen", "01", "1", "5"],

@@ -1,7 +1,7 @@
 //! The words after the program's name.
 
 ghost use Rattle.std.specs.Prelude.{◌≡◌, ◌≤◌, IfOk, IfSome, codes, false};
-ghost use Rattle.clap.specs.Words.{app_of, found_of, new_app, rule_of, rows_of, with_rule};
+ghost use Rattle.clap.specs.Words.{app_of, found_of, new_app, rule_of, rows_of, with_rule, with_subcommand};
 ghost use Rattle.clap.specs.Words.{subcommand_rows_of};
 ghost use Rattle.clap.specs.declared.builder.command.Command.TheViews.{out-Command};
 ghost use Rattle.zx_words.specs.Command.{IsWithinLimits, command_in, number_in};
@@ -24,6 +24,8 @@ pub enum Command {
         /// Whether the numbers of gates are told.
         report: bool,
     },
+    /// To change the phases of the circuit that is read, and nothing else.
+    Teleport,
     /// To make a circuit from a seed, and to optimise it.
     Generate {
         /// The seed.
@@ -61,7 +63,20 @@ fn definition<'a>(alloc: Global) -> Result<clap::Command<'a>, AllocError>
     let opt = opt_definition(alloc)?;
     let with_opt = bare_definition(alloc).subcommand(opt)?;
     let generate = gen_definition(alloc)?;
-    with_opt.subcommand(generate)
+    let with_gen = with_opt.subcommand(generate)?;
+    with_alone(alloc, with_gen, "teleport")
+}
+
+// The command with one subcommand more, which has no words of its own.
+fn with_alone<'a>(
+    alloc: Global,
+    command: clap::Command<'a>,
+    name: &'a str,
+) -> Result<clap::Command<'a>, AllocError>
+    ensures { IfOk result (λ more. app_of more
+        ≡ with_subcommand (app_of command.entry) (new_app name.entry.now).top) }
+{
+    command.subcommand(clap::Command::new(alloc, name))
 }
 
 // The program without its subcommands.
@@ -152,6 +167,9 @@ fn command_by(matches: &ArgMatches) -> Option<Command>
     }
     if name == "gen" {
         return generation_by(given);
+    }
+    if name == "teleport" {
+        return Some(Command::Teleport);
     }
     None
 }

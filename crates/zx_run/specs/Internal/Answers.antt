@@ -1,8 +1,8 @@
 -- What the answer of a run says of the two streams.
-use Rattle.std.specs.Prelude.{◌≡◌, ◌≢◌, ℕ, Bool, List, [], Option, None, Some}
+use Rattle.std.specs.Prelude.{◌≡◌, ◌≢◌, ℕ, List, [], Option, None, Some}
 use Rattle.zx_io.specs.Causes.{Rose}
 use Rattle.zx_words.specs.declared.words.Command.{Command}
-use Rattle.zx_words.specs.declared.words.Command.TheVariants.{Optimise}
+use Rattle.zx_words.specs.declared.words.Command.TheVariants.{Optimise, Teleport, Generate}
 use Rattle.zx_run.specs.declared.status.Status.{Status}
 use Rattle.zx_run.specs.declared.status.Status.TheVariants.{Done, Refused, Usage, ReadFault, WriteFault, NoMemory, No}
 use Rattle.zx_run.specs.declared.status.Fault.{Fault}
@@ -34,11 +34,25 @@ abbrev pub IsOutputOf : Option Command → Option (List ℕ) → List ℕ → Ty
 IsOutputOf None left bytes = ⊥
 IsOutputOf (Some command) left bytes = IsOutputFor command left bytes
 
--- where `opt` is asked for, a text that is told as left was read to its end
+-- the command reads a circuit
+abbrev pub ReadsCircuit : Command → Type 0
+ReadsCircuit (Optimise best report) = Unit {0}
+ReadsCircuit Teleport = Unit {0}
+ReadsCircuit (Generate seed qubits gates) = ⊥
+
+-- what is asked for reads the source
+abbrev pub Reads : Option Command → Type 0
+Reads None = ⊥
+Reads (Some command) = ReadsCircuit command
+
+-- what is asked for finds this fault first in a text
+abbrev pub IsFirstFaultFor : Option Command → List ℕ → Fault → Type 0
+IsFirstFaultFor None text fault = ⊥
+IsFirstFaultFor (Some command) text fault = IsFirstFault text fault
+
+-- what reads the source has read a text that is told as left to its end
 abbrev pub IsAllRead : Option Command → ToldSource → ToldSource → Type 0
-IsAllRead (Some (Optimise best report)) before after =
-    (text : List ℕ) → before.left ≡ Some text → after.left ≡ Some []
-IsAllRead other before after = Unit {0}
+IsAllRead given before after = Reads given → (text : List ℕ) → before.left ≡ Some text → after.left ≡ Some []
 
 -- an output was made, and no read failed
 pub record IsMade (given : Option Command) (before after : ToldSource) (bytes : List ℕ) : Type 0 where
@@ -46,17 +60,22 @@ pub record IsMade (given : Option Command) (before after : ToldSource) (bytes : 
   pub output : IsOutputOf given before.left bytes
   pub all_read : IsAllRead given before after
 
--- `opt` is asked for, the fault is the first one of the text, and but for a text that is too long all was read
-abbrev pub IsRefused : Fault → Option Command → ToldSource → ToldSource → Type 0
-IsRefused fault (Some (Optimise best report)) before after =
-    (text : List ℕ) → before.left ≡ Some text →
-    IsFirstFault text fault × (fault ≢ TooLong → after.left ≡ Some [])
-IsRefused fault other before after = ⊥
+-- a text was refused for its first fault, as `first` tells it, and but for one that is too long all was read
+abbrev pub IsRefusedBy : (List ℕ → Fault → Type 0) → Fault → ToldSource → ToldSource → Type 0
+IsRefusedBy first fault before after = (text : List ℕ) → before.left ≡ Some text →
+    first text fault × (fault ≢ TooLong → after.left ≡ Some [])
 
--- `opt` is asked for
-abbrev pub AsksForOpt : Option Command → Type 0
-AsksForOpt (Some (Optimise best report)) = Unit {0}
-AsksForOpt other = ⊥
+-- nothing was read of a source, for this reason
+abbrev pub IsReadFailure : (List ℕ → Fault → Type 0) → ToldSource → ToldSource → Status → Type 0
+IsReadFailure first before after (Refused fault) =
+    (after.faults ≡ before.faults) × IsRefusedBy first fault before after
+IsReadFailure first before after ReadFault = Rose before.faults after.faults
+IsReadFailure first before after NoMemory = after.faults ≡ before.faults
+IsReadFailure first before after status = ⊥
+
+-- what is asked for reads the source, and refused what it read
+abbrev pub IsRefused : Fault → Option Command → ToldSource → ToldSource → Type 0
+IsRefused fault given before after = Reads given × IsRefusedBy (IsFirstFaultFor given) fault before after
 
 -- no output was made, for this reason
 abbrev pub IsFailure : Option Command → ToldSource → ToldSource → Status → Type 0
@@ -64,15 +83,10 @@ IsFailure given before after Done = ⊥
 IsFailure given before after (Refused fault) =
     (after.faults ≡ before.faults) × IsRefused fault given before after
 IsFailure given before after Usage = (after.faults ≡ before.faults) × (given ≡ None)
-IsFailure given before after ReadFault = Rose before.faults after.faults × AsksForOpt given
+IsFailure given before after ReadFault = Rose before.faults after.faults × Reads given
 IsFailure given before after WriteFault = ⊥
 IsFailure given before after NoMemory = after.faults ≡ before.faults
 IsFailure given before after No = ⊥
-
--- the same where `opt` is asked for, with or without its flags
-abbrev pub IsFailureOfOpt : ToldSource → ToldSource → Status → Type 0
-IsFailureOfOpt before after status =
-    (best report : Bool) → IsFailure (Some (Optimise best report)) before after status
 
 -- all of the bytes were written and flushed
 pub record IsWritten (before after : ToldOutput) (bytes : List ℕ) : Type 0 where

@@ -1,5 +1,5 @@
--- The command line as `clap` is told of it: the subcommands `opt`, which has two flags, and `gen`, which
--- has three words; and what its matches mean.
+-- The command line as `clap` is told of it: the subcommands `opt`, which has two flags, `gen`, which has three
+-- words, and those that have no words of their own; and what its matches mean.
 use Rattle.std.specs.Prelude.{◌-◌, ◌^◌, ℕ, Bool, true, false, List, codes}
 use Rattle.std.specs.Prelude.{Option, None, Some, if◌then◌else◌, nat_le, option_and_then}
 use Rattle.std.specs.Option.{option_map_or}
@@ -11,7 +11,7 @@ use Rattle.clap.specs.Simple.{on_top}
 use Rattle.clap.specs.declared.builder.action.ArgAction.TheVariants.{SetTrue}
 use Rattle.zx_words.specs.Command.{Text, number_in, ◌>>=◌}
 use Rattle.zx_words.specs.declared.words.Command.{Command}
-use Rattle.zx_words.specs.declared.words.Command.TheVariants.{Optimise, Generate}
+use Rattle.zx_words.specs.declared.words.Command.TheVariants.{Optimise, Teleport, Generate}
 
 -- ---- the command line, as it is defined
 
@@ -42,7 +42,8 @@ bare = on_top (λ shape. record shape {
 
 unfoldable pub zxopt_app : App
 zxopt_app =
-    with_subcommand (with_subcommand (bare (new_app (codes "zxopt"))) opt_app.top) gen_app.top
+    let with_gen = with_subcommand (with_subcommand (bare (new_app (codes "zxopt"))) opt_app.top) gen_app.top in
+    with_subcommand with_gen (new_app (codes "teleport")).top
 
 -- ---- what its matches mean
 
@@ -71,7 +72,8 @@ command_by None = None
 command_by (Some p) =
     if bytes_eq p.0 (codes "opt")
     then Some (Optimise (has_flag (codes "best") p.1) (has_flag (codes "report") p.1)) else
-    if bytes_eq p.0 (codes "gen") then generation_by p.1 else None
+    if bytes_eq p.0 (codes "gen") then generation_by p.1 else
+    if bytes_eq p.0 (codes "teleport") then Some Teleport else None
 
 -- ---- the command of words, as `clap` takes them: none where the command line has a fault in them
 abbrev pub clap_command_of : List Text → Option Command

@@ -9,9 +9,9 @@ use Rattle.gflow_laws.specs.Seen.{seen}
 use Rattle.gflow_laws.specs.Flow.{Correction, is_in}
 use Rattle.flow_find.specs.declared.row.Row.{Row}
 use Rattle.flow_find.specs.Frontiers.{set_from}
-use Rattle.flow_find.specs.Internal.Next.{HasSetsOf, IsChosen}
+use Rattle.flow_find.specs.Internal.Next.{HasSetsOf}
 use Rattle.flow_find.proofs.Orders.{is_order}
-use Rattle.flow_find.proofs.Choosing.{IsLeftAlong, IsFoundAlong, same_size, lives, passable, gone_on, found_on, set_listed, all_found, both_ok}
+use Rattle.flow_find.proofs.Choosing.{IsLeftAlong, IsFoundAlong, IsNext, is_next, same_size, lives, passable, gone_on, found_on, set_listed, all_found, both_ok}
 use Rattle.flow_find.proofs.cheap.find_cheap.Goals as goal
 
 pub table_of-requires : goal.table_of-requires
@@ -46,54 +46,29 @@ index-v-requires c =
     omega (arith, size, same)
 
 pub correction-requires : goal.correction-requires
-correction-requires c =
-    let graph = c.args.g.now.graph in
-    let old : List ℕ = c.loop-i.order.items in
-    let new : List ℕ = c.choose.new.order.items in
-    let i : ℕ = c.loop-i.i - 1 in
-    let v : ℕ = c.index-v.result.now in
-    let rows : List Row = c.loop-i.rows.items in
-    let left : ℕ → Bool = is_in c.loop-i.left.ids in
-    let size : length old ≡ length c.args.order.items = c.loop-i.invariant.size in
-    let choice : IsChosen (seen graph) rows i old new =
-    subst (λ (rs : List Row). IsChosen (seen graph) rs i old new) c.deref-in-loop-i.ensures.value c.in_ok-choose.ensures in
-    let all : IsLeftAlong graph old (suc i) left rows =
-    subst (λ (k : ℕ). IsLeftAlong graph old k left rows) (omega arith) c.loop-i.invariant.so_far in
-    lives graph c.in_ok-rows.ensures.valid rows i old new left v choice all (omega (arith, size)) c.index-v.ensures
+correction-requires c = lives _ _ _ _ _ _ _
+    (is_next c.args.g.now.graph c.deref-in-loop-i.result.now c.loop-i.rows.items c.loop-i.i c.args.order.items
+    c.loop-i.order.items c.choose.new.order.items (is_in c.loop-i.left.ids) c.index-v.result.now c.in_ok-rows.ensures.valid
+    c.deref-in-loop-i.ensures.value (omega arith) (omega arith) c.loop-i.invariant.size c.in_ok-choose.ensures
+    c.loop-i.invariant.so_far c.index-v.ensures)
 
 pub set-requires : goal.set-requires
 set-requires c =
-    let graph = c.args.g.now.graph in
-    let old : List ℕ = c.loop-i.order.items in
-    let new : List ℕ = c.choose.new.order.items in
-    let i : ℕ = c.loop-i.i - 1 in
-    let v : ℕ = c.index-v.result.now in
-    let rows : List Row = c.loop-i.rows.items in
-    let left : ℕ → Bool = is_in c.loop-i.left.ids in
-    let size : length old ≡ length c.args.order.items = c.loop-i.invariant.size in
-    let choice : IsChosen (seen graph) rows i old new =
-    subst (λ (rs : List Row). IsChosen (seen graph) rs i old new) c.deref-in-loop-i.ensures.value c.in_ok-choose.ensures in
-    let all : IsLeftAlong graph old (suc i) left rows =
-    subst (λ (k : ℕ). IsLeftAlong graph old k left rows) (omega arith) c.loop-i.invariant.so_far in
-    let found : IsFoundAlong graph old (suc i) c.loop-i.table.table =
-    subst (λ (k : ℕ). IsFoundAlong graph old k c.loop-i.table.table) (omega arith) c.loop-i.invariant.found in
-    set_listed graph c.in_ok-rows.ensures.valid rows i old new left v choice all (omega (arith, size)) c.index-v.ensures c.loop-i.table.table found
+    let found : IsFoundAlong c.args.g.now.graph c.loop-i.order.items (suc (c.loop-i.i - 1)) c.loop-i.table.table =
+    subst (λ (k : ℕ). IsFoundAlong c.args.g.now.graph c.loop-i.order.items k c.loop-i.table.table) (omega arith) c.loop-i.invariant.found in
+    set_listed _ _ _ _ _ _ _
+    (is_next c.args.g.now.graph c.deref-in-loop-i.result.now c.loop-i.rows.items c.loop-i.i c.args.order.items
+    c.loop-i.order.items c.choose.new.order.items (is_in c.loop-i.left.ids) c.index-v.result.now c.in_ok-rows.ensures.valid
+    c.deref-in-loop-i.ensures.value (omega arith) (omega arith) c.loop-i.invariant.size c.in_ok-choose.ensures
+    c.loop-i.invariant.so_far c.index-v.ensures)
+    c.loop-i.table.table found
 
 pub pass-requires-clause-live : goal.pass-requires-clause-live
-pass-requires-clause-live c =
-    let graph = c.args.g.now.graph in
-    let old : List ℕ = c.loop-i.order.items in
-    let new : List ℕ = c.choose.new.order.items in
-    let i : ℕ = c.loop-i.i - 1 in
-    let v : ℕ = c.index-v.result.now in
-    let rows : List Row = c.loop-i.rows.items in
-    let left : ℕ → Bool = is_in c.loop-i.left.ids in
-    let size : length old ≡ length c.args.order.items = c.loop-i.invariant.size in
-    let choice : IsChosen (seen graph) rows i old new =
-    subst (λ (rs : List Row). IsChosen (seen graph) rs i old new) c.deref-in-loop-i.ensures.value c.in_ok-choose.ensures in
-    let all : IsLeftAlong graph old (suc i) left rows =
-    subst (λ (k : ℕ). IsLeftAlong graph old k left rows) (omega arith) c.loop-i.invariant.so_far in
-    lives graph c.in_ok-rows.ensures.valid rows i old new left v choice all (omega (arith, size)) c.index-v.ensures
+pass-requires-clause-live c = lives _ _ _ _ _ _ _
+    (is_next c.args.g.now.graph c.deref-in-loop-i.result.now c.loop-i.rows.items c.loop-i.i c.args.order.items
+    c.loop-i.order.items c.choose.new.order.items (is_in c.loop-i.left.ids) c.index-v.result.now c.in_ok-rows.ensures.valid
+    c.deref-in-loop-i.ensures.value (omega arith) (omega arith) c.loop-i.invariant.size c.in_ok-choose.ensures
+    c.loop-i.invariant.so_far c.index-v.ensures)
 
 pub pass-requires-clause-gone : goal.pass-requires-clause-gone
 pass-requires-clause-gone c =
@@ -109,21 +84,21 @@ loop-i-preserved c =
     let v : ℕ = c.index-v.result.now in
     let rows : List Row = c.loop-i.rows.items in
     let left : ℕ → Bool = is_in c.loop-i.left.ids in
-    let size : length old ≡ length c.args.order.items = c.loop-i.invariant.size in
-    let choice : IsChosen (seen graph) rows i old new =
-    subst (λ (rs : List Row). IsChosen (seen graph) rs i old new) c.deref-in-loop-i.ensures.value c.in_ok-choose.ensures in
-    let all : IsLeftAlong graph old (suc i) left rows =
-    subst (λ (k : ℕ). IsLeftAlong graph old k left rows) (omega arith) c.loop-i.invariant.so_far in
+    let next : IsNext graph rows i old new left v =
+    is_next c.args.g.now.graph c.deref-in-loop-i.result.now c.loop-i.rows.items c.loop-i.i c.args.order.items
+    c.loop-i.order.items c.choose.new.order.items (is_in c.loop-i.left.ids) c.index-v.result.now c.in_ok-rows.ensures.valid
+    c.deref-in-loop-i.ensures.value (omega arith) (omega arith) c.loop-i.invariant.size c.in_ok-choose.ensures
+    c.loop-i.invariant.so_far c.index-v.ensures in
     let found : IsFoundAlong graph old (suc i) c.loop-i.table.table =
     subst (λ (k : ℕ). IsFoundAlong graph old k c.loop-i.table.table) (omega arith) c.loop-i.invariant.found in
     let now : ℕ → Bool = is_in c.take_out.new.set.ids in
     record {
-      so_far = gone_on graph c.in_ok-rows.ensures.valid rows i old new left v choice all (omega (arith, size)) c.index-v.ensures now c.pass.new.rows.items c.in_ok-take_out.ensures
-          (c.in_ok-pass.ensures.rows (passable graph c.in_ok-rows.ensures.valid rows i old new left v choice all (omega (arith, size)) c.index-v.ensures now c.in_ok-take_out.ensures));
+      so_far = gone_on graph rows i old new left v next now c.pass.new.rows.items c.in_ok-take_out.ensures
+          (c.in_ok-pass.ensures.rows (passable graph rows i old new left v next now c.in_ok-take_out.ensures));
       found = subst (λ (table : List Correction). IsFoundAlong graph new i table) (sym c.set.ensures)
-          (found_on graph c.in_ok-rows.ensures.valid rows i old new left v choice all (omega (arith, size)) c.index-v.ensures c.loop-i.table.table c.in_ok-correction.field-0.ids found
+          (found_on graph rows i old new left v next c.loop-i.table.table c.in_ok-correction.field-0.ids found
           (λ w. c.in_ok-correction.ensures w ∙ ap (λ (rs : List Row). set_from (seen graph) rs v w) c.deref-in-loop-i-2.ensures.value));
-      size = same_size (seen graph) rows i old new choice ∙ size;
+      size = same_size (seen graph) rows i old new next.choice ∙ c.loop-i.invariant.size;
     }
 
 pub returns : goal.returns

@@ -11,7 +11,7 @@ loop-u-preserved c =
       same = c.in_ok-take_in_all.ensures.same ∙ c.loop-u.invariant.same;
       same_least = c.in_ok-take_in_all.ensures.same_least ∙ c.loop-u.invariant.same;
       within = λ k v m. subst (λ n. v < n) c.loop-u.invariant.same (c.in_ok-take_in_all.ensures.within k v m);
-      fusing = subst (λ n. IsFusing c.args.d.now (named_by c.take_in_all.new.least.items) (near_at c.take_in_all.new.near.items) n n) next
+      fusing = subst (λ n. IsFusing c.args.d.now (named_by c.take_in_all.new.self.least.items) (near_at c.take_in_all.new.self.near.items) n n) next
           (c.in_ok-take_in_all.ensures.fusing c.args.d.now c.loop-u.invariant.fusing);
     }
 
@@ -19,5 +19,5 @@ pub returns-clause-classes : goal.returns-clause-classes
 returns-clause-classes c =
     let count : length c.spiders-count.result.now ≡ length c.args.d.now.spiders = ap length c.spiders-count.ensures.value in
     let all : c.loop-u.u ≡ length c.args.d.now.spiders = omega (arith, c.loop-u-test.false, c.loop-u.auto.u-end) in
-    all_done c.args.d.now (named_by c.loop-u.least.items) (near_at c.loop-u.near.items) c.plain_neighbours.ensures.valid
-    (subst (λ n. IsFusing c.args.d.now (named_by c.loop-u.least.items) (near_at c.loop-u.near.items) n n) all c.loop-u.invariant.fusing)
+    all_done c.args.d.now (named_by c.loop-u.contraction.least.items) (near_at c.loop-u.contraction.near.items) c.plain_neighbours.ensures.valid
+    (subst (λ n. IsFusing c.args.d.now (named_by c.loop-u.contraction.least.items) (near_at c.loop-u.contraction.near.items) n n) all c.loop-u.invariant.fusing)

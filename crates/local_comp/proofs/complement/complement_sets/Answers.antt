@@ -21,7 +21,7 @@ loop-i-preserved c =
     (subst (λ own. AreChanged (complement_change s c.args.u own) (c.vertex_at-v.result ∷ []) c.loop-i.f.flow
     c.complement_set.new.self.flow)
     c.in_ok-own.ensures
-    (c.in_ok-complement_set.ensures s c.changes_plane-changes.ensures c.odd_has-is_odd.ensures))
+    (c.in_ok-complement_set.ensures.sets s c.changes_plane-changes.ensures c.odd_has-is_odd.ensures))
 
 pub returns : goal.returns
 returns c =

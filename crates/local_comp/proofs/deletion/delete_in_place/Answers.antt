@@ -13,5 +13,5 @@ pub returns : goal.returns
 returns c = record {
   rewritten = on_ok c.eliminate.result
       (rewritten c.delete_in_graph.ensures.was_valid c.requires.flow c.delete_in_graph.ensures.step)
-      c.eliminate.ensures;
+      c.eliminate.ensures.flow;
 }

@@ -15,3 +15,6 @@ returns-clause-slots c =
     let last : c.len-place.result ≡ length c.args.ends.now.items = omega (arith, c.len-place.ensures, c.args.ends.now.ok.0) in
     subst (λ (n : ℕ). Puts old new c.args.end.vertex (with_place c.args.side (Some n) (told old c.args.end.vertex))) last
     (subst (λ (v : ℕ). Puts old new v (with_place c.args.side (Some c.len-place.result) (told old v))) (ap (λ e. e.vertex) c.end.view_is) c.set_place.ensures.puts)
+
+pub returns-clause-room : goal.returns-clause-room
+returns-clause-room c reach = c.set_place.ensures.room reach

@@ -5,6 +5,7 @@ use Rattle.open_graph.specs.Internal.Slots.{told}
 use Rattle.open_graph.specs.Internal.Sides.{with_place}
 use Rattle.open_graph.specs.Internal.Changes.{Puts}
 use Rattle.open_graph.proofs.Keeping.{contained_put}
+use Rattle.open_graph.proofs.ReachLemmas.{keeps_then}
 use Rattle.open_graph.proofs.side.move_end.Goals as goal
 
 pub set_place-requires : goal.set_place-requires
@@ -29,3 +30,7 @@ returns-clause-slots c =
       subst (λ (v : ℕ). Puts old mid v (with_place c.args.side None (told old v))) read c.set_place.ensures.puts,
       subst (λ (v : ℕ). Puts mid new v (with_place c.args.side (Some c.args.i) (told mid v))) (ap (λ e. e.vertex) c.end.view_is) c.set_place-2.ensures.puts,
     )
+
+pub returns-clause-room : goal.returns-clause-room
+returns-clause-room c reach =
+    keeps_then reach c.args.slots.now.slots c.set_place.new.slots.slots c.set_place-2.new.slots.slots (c.set_place.ensures.room reach) (c.set_place-2.ensures.room reach)

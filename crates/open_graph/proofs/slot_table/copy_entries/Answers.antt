@@ -1,6 +1,5 @@
-use Rattle.std.proofs.Common.{◌≡◌, ◌∙◌, ◌+◌, sym, ap, length, slice_index_or, Option, None, arith}
+use Rattle.std.proofs.Common.{◌≡◌, ◌∙◌, ◌+◌, sym, ap, slice_index_or, None, arith}
 use Rattle.std.proofs.lemmas.List.{length_push, get_or_default}
-use Rattle.open_graph.specs.declared.slot.Slot.{Slot}
 use Rattle.open_graph.proofs.SlotLemmas.{told_pushed, told_all}
 use Rattle.open_graph.proofs.slot_table.copy_entries.Goals as goal
 

@@ -1,5 +1,17 @@
-use Rattle.open_graph.proofs.RoomLemmas.{vacant-put}
+use Rattle.std.proofs.Common.{arith}
+use Rattle.open_graph.proofs.ReachLemmas.{keeps_put, rows_at}
 use Rattle.open_graph.proofs.slots.add_neighbour.Goals as goal
 
-pub returns-clause-spare : goal.returns-clause-spare
-returns-clause-spare c = vacant-put c.args.slots.now.slots c.get.result _ c.index_mut.result.now c.index_mut.ensures.value
+pub returns-clause-room : goal.returns-clause-room
+returns-clause-room c =
+    keeps_put c.args.reach c.args.slots.now.slots c.get.result _ c.index_mut.result.now c.index_mut.ensures.value
+    (λ lt le.
+    let bound = c.bound_of-bound.ensures.below (omega (arith, lt, c.get.ensures)) in
+    let kept = c.insert_within.ensures.keeps_room (omega (arith, bound, le)) in
+    omega (arith, bound, kept))
+
+pub returns-clause-has_room : goal.returns-clause-has_room
+returns-clause-has_room c rows u_below v_below =
+    let bound = c.bound_of-bound.ensures.below u_below in
+    let le = rows_at c.args.reach c.args.slots.now.slots c.get.result c.index_mut.result.now rows c.index_mut.ensures.value (omega (arith, u_below, c.get.ensures)) in
+    c.insert_within.ensures.has_room (omega (arith, bound, v_below)) (omega (arith, bound, le))

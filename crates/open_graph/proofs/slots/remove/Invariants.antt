@@ -1,6 +1,7 @@
-use Rattle.std.proofs.Common.{◌≡◌, ◌+◌, ◌++◌}
+use Rattle.std.proofs.Common.{◌≡◌, ◌≢◌, ◌+◌, ◌++◌, ℕ, None}
 use Rattle.open_graph.specs.Internal.Slots.{told}
-use Rattle.open_graph.specs.Internal.Room.{vacant_in}
+use Rattle.open_graph.specs.Internal.Table.{slot_at}
+use Rattle.open_graph.specs.Internal.Room.{vacant_in, HasRows}
 use Rattle.open_graph.specs.Internal.Changes.{RemovedFrom}
 use Rattle.open_graph.proofs.slots.remove.Given as goal
 
@@ -9,4 +10,6 @@ invariant-loop-w l = record {
   all : l.yielded ++ l.w-iterator ≡ (told l.fn.slots.slots l.v).row;
   gone : RemovedFrom l.fn.slots.slots l.slots.slots l.v l.yielded;
   spare : vacant_in l.slots.slots ≡ vacant_in l.fn.slots.slots + 1;
+  vacant : (p : ℕ) → p ≢ l.v → slot_at l.slots p ≡ None → slot_at l.fn.slots p ≡ None;
+  rows : (reach : ℕ) → HasRows reach l.fn.slots.slots → HasRows reach l.slots.slots;
 }

@@ -1,7 +1,7 @@
 -- The rows so far are toggled.
 use Rattle.std.proofs.Common.{◌≡◌, ◌++◌, ◌&&◌}
 use Rattle.zx_model.specs.Bits.{member}
-use Rattle.open_graph.specs.Internal.Room.{vacant_in}
+use Rattle.open_graph.specs.Internal.Room.{KeepsRoom}
 use Rattle.open_graph.specs.Internal.Changes.{RowsToggled}
 use Rattle.open_graph.proofs.slots.toggle_rows.Given as goal
 
@@ -9,5 +9,5 @@ abbrev pub invariant-loop-u : goal.invariant-loop-u
 invariant-loop-u l = record {
   all : l.yielded ++ l.u-iterator ≡ l.vertices.ids;
   toggled : RowsToggled l.initial.slots.slots l.slots.slots (λ p q. member p l.yielded && member q l.others.ids);
-  spare : vacant_in l.slots.slots ≡ vacant_in l.initial.slots.slots;
+  room : KeepsRoom l.reach l.initial.slots.slots l.slots.slots;
 }

@@ -15,5 +15,5 @@ pub returns : goal.returns
 returns c = record {
   rewritten = on_ok c.eliminate.result
       (rewritten c.drop_lone_in_graph.ensures.was_valid c.requires.flow c.drop_lone_in_graph.ensures.step)
-      c.eliminate.ensures;
+      c.eliminate.ensures.flow;
 }

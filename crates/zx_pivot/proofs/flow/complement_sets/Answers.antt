@@ -25,7 +25,7 @@ loop-i-preserved c =
     (c.vertex_at-x.ensures.value ∙ ap (λ order. get_or order c.loop-i.i 0) c.loop-i.invariant.order) c.loop-i.invariant
     (subst (λ set. AreChanged (complement_change s c.args.u set) (c.vertex_at-x.result ∷ []) c.loop-i.f.flow c.complement_set.new.self.flow)
     c.in_ok-own.ensures
-    (c.in_ok-complement_set.ensures s
+    (c.in_ok-complement_set.ensures.sets s
     (c.changes_plane-changes.ensures.value
     ∙ ap odd_in (sym (plane_of_view (seen g) c.args.u c.args.w (Simple-seen g c.changes_plane-changes.ensures.valid)
     c.requires.u_live c.requires.w_live c.requires.adjacent c.args.stage)))

@@ -42,10 +42,12 @@ pub returns-clause-refused : goal.returns-clause-refused
 returns-clause-refused g c = answers.refused _ (before g c) (after g c) _ (told g c)
 
 pub returns-clause-refused_first : goal.returns-clause-refused_first
-returns-clause-refused_first g c = answers.refused_first _ (before g c) (after g c) _ (told g c)
+returns-clause-refused_first g c = λ fault text is opt.
+    answers.refused_first _ (before g c) (after g c) _ (told g c) fault text is (answers.opt_asks _ opt)
 
 pub returns-clause-refused_where : goal.returns-clause-refused_where
-returns-clause-refused_where g c = answers.refused_where _ (before g c) (after g c) _ (told g c)
+returns-clause-refused_where g c = λ fault text opt.
+    answers.refused_where _ (before g c) (after g c) _ (told g c) fault text (answers.opt_asks _ opt)
 
 pub returns-clause-read_fault : goal.returns-clause-read_fault
 returns-clause-read_fault g c = answers.read_fault _ (before g c) (after g c) _ (told g c)
@@ -66,7 +68,8 @@ pub returns-clause-never_no : goal.returns-clause-never_no
 returns-clause-never_no g c = λ opt. answers.never_no _ (before g c) (after g c) _ (told g c)
 
 pub returns-clause-complete : goal.returns-clause-complete
-returns-clause-complete g c = answers.complete _ (before g c) (after g c) _ (told g c)
+returns-clause-complete g c = λ text faultless opt.
+    answers.complete _ (before g c) (after g c) _ (told g c) text faultless (answers.opt_asks _ opt)
 
 pub returns-clause-gen_answers : goal.returns-clause-gen_answers
 returns-clause-gen_answers g c = answers.gen_answers _ (before g c) (after g c) _ (told g c)
@@ -78,4 +81,24 @@ pub returns-clause-gen_unread : goal.returns-clause-gen_unread
 returns-clause-gen_unread g c = λ gen. c.answered.ensures.unread (answers.gen_apart _ gen)
 
 pub returns-clause-read_to_end : goal.returns-clause-read_to_end
-returns-clause-read_to_end g c = answers.read_to_end _ (before g c) (after g c) _ (told g c)
+returns-clause-read_to_end g c = λ text opt.
+    answers.read_to_end _ (before g c) (after g c) _ (told g c) text (answers.opt_asks _ opt)
+
+pub returns-clause-teleport_refused_first : goal.returns-clause-teleport_refused_first
+returns-clause-teleport_refused_first g c = λ fault text is given.
+    answers.refused_first _ (before g c) (after g c) _ (told g c) fault text is (answers.teleport_asks _ given)
+
+pub returns-clause-teleport_refuses : goal.returns-clause-teleport_refuses
+returns-clause-teleport_refuses g c = λ fault text given.
+    answers.refused_where _ (before g c) (after g c) _ (told g c) fault text (answers.teleport_asks _ given)
+
+pub returns-clause-teleport_never_no : goal.returns-clause-teleport_never_no
+returns-clause-teleport_never_no g c = λ given. answers.never_no _ (before g c) (after g c) _ (told g c)
+
+pub returns-clause-teleport_done : goal.returns-clause-teleport_done
+returns-clause-teleport_done g c = λ text faultless given.
+    answers.complete _ (before g c) (after g c) _ (told g c) text faultless (answers.teleport_asks _ given)
+
+pub returns-clause-teleport_read_to_end : goal.returns-clause-teleport_read_to_end
+returns-clause-teleport_read_to_end g c = λ text given.
+    answers.read_to_end _ (before g c) (after g c) _ (told g c) text (answers.teleport_asks _ given)

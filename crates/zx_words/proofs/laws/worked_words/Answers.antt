@@ -31,3 +31,12 @@ returns-clause-separator c = refl
 
 pub returns-clause-behind : goal.returns-clause-behind
 returns-clause-behind c = refl
+
+pub returns-clause-teleport : goal.returns-clause-teleport
+returns-clause-teleport c = refl
+
+pub returns-clause-teleport_end : goal.returns-clause-teleport_end
+returns-clause-teleport_end c = refl
+
+pub returns-clause-teleport_flag : goal.returns-clause-teleport_flag
+returns-clause-teleport_flag c = refl

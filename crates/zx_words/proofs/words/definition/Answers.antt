@@ -11,8 +11,8 @@ returns c =
     let with_opt : app_of c.in_ok-with_opt.with_opt ≡ with_subcommand (bare (new_app (codes "zxopt"))) opt_app.top =
     c.in_ok-with_opt.ensures.shape c.in_ok-opt.ensures.local
     ∙ ap₂ with_subcommand c.bare_definition.ensures (ap (λ (a : App). a.top) c.in_ok-opt.ensures.app) in
-    IfOk-weaker c.subcommand-2.result _ _
-    (λ m h.
-    h.shape c.in_ok-generate.ensures.local
-    ∙ ap₂ with_subcommand with_opt (ap (λ (a : App). a.top) c.in_ok-generate.ensures.app))
-    c.subcommand-2.ensures
+    let with_gen =
+    c.in_ok-with_gen.ensures.shape c.in_ok-generate.ensures.local
+    ∙ ap₂ with_subcommand with_opt (ap (λ (a : App). a.top) c.in_ok-generate.ensures.app) in
+    IfOk-weaker c.with_alone.result _ _
+    (λ m h. h ∙ ap (λ a. with_subcommand a (new_app (codes "teleport")).top) with_gen) c.with_alone.ensures

@@ -11,23 +11,32 @@ use Rattle.open_graph.proofs.SlotLemmas.{rising_vertices, member-vertices, membe
 use Rattle.open_graph.proofs.Keeping.{becomes_same, becomes_added}
 use Rattle.open_graph.proofs.open_graph.OpenGraph.add_vertex.Goals as goal
 
+pub add-requires : goal.add-requires
+add-requires c = c.self.invariant.room.empty
+
 pub invariant_of-self : goal.invariant_of-self
 invariant_of-self c =
-    (becomes_same c.self.inside.slots.slots c.add.new.slots.slots c.self.inside.inputs.items c.self.inside.outputs.items c.self.invariant c.in_err-v.ensures.err).sound
+    record {
+      sound = (becomes_same c.self.inside.slots.slots c.add.new.slots.slots c.self.inside.inputs.items c.self.inside.outputs.items c.self.invariant.sound c.in_err-v.ensures.err).sound;
+      room = c.add.ensures.room c.self.inside.reach c.self.invariant.room;
+    }
 
 pub returns-in_err-v-clause-err : goal.returns-in_err-v-clause-err
 returns-in_err-v-clause-err c =
     let p = err_from_is_err_and c.from_residual.result c.from_residual.ensures.1 in
-    let made = becomes_same c.self.inside.slots.slots c.add.new.slots.slots c.self.inside.inputs.items c.self.inside.outputs.items c.self.invariant c.in_err-v.ensures.err in
+    let made = becomes_same c.self.inside.slots.slots c.add.new.slots.slots c.self.inside.inputs.items c.self.inside.outputs.items c.self.invariant.sound c.in_err-v.ensures.err in
     rw p.1 (made.graph ∙ ap (λ g. g.graph) c.self.view_is)
 
 pub returns-in_err-v-clause-valid : goal.returns-in_err-v-clause-valid
 returns-in_err-v-clause-valid c =
-    (becomes_same c.self.inside.slots.slots c.add.new.slots.slots c.self.inside.inputs.items c.self.inside.outputs.items c.self.invariant c.in_err-v.ensures.err).sound.well_formed
+    (becomes_same c.self.inside.slots.slots c.add.new.slots.slots c.self.inside.inputs.items c.self.inside.outputs.items c.self.invariant.sound c.in_err-v.ensures.err).sound.well_formed
 
 pub invariant_of-self-2 : goal.invariant_of-self-2
 invariant_of-self-2 c =
-    (becomes_added c.self.inside.slots.slots c.add.new.slots.slots c.self.inside.inputs.items c.self.inside.outputs.items c.self.invariant c.in_ok-v.v _ c.in_ok-v.ensures.vacant (search rules) c.in_ok-v.ensures.ok).sound
+    record {
+      sound = (becomes_added c.self.inside.slots.slots c.add.new.slots.slots c.self.inside.inputs.items c.self.inside.outputs.items c.self.invariant.sound c.in_ok-v.v _ c.in_ok-v.ensures.vacant (search rules) c.in_ok-v.ensures.ok).sound;
+      room = c.add.ensures.room c.self.inside.reach c.self.invariant.room;
+    }
 
 pub returns-clause-fresh : goal.returns-clause-fresh
 returns-clause-fresh c =
@@ -44,9 +53,9 @@ returns-clause-least c =
 
 pub returns-clause-ok : goal.returns-clause-ok
 returns-clause-ok c =
-    (becomes_added c.self.inside.slots.slots c.add.new.slots.slots c.self.inside.inputs.items c.self.inside.outputs.items c.self.invariant c.in_ok-v.v _ c.in_ok-v.ensures.vacant (search rules) c.in_ok-v.ensures.ok).graph
+    (becomes_added c.self.inside.slots.slots c.add.new.slots.slots c.self.inside.inputs.items c.self.inside.outputs.items c.self.invariant.sound c.in_ok-v.v _ c.in_ok-v.ensures.vacant (search rules) c.in_ok-v.ensures.ok).graph
     ∙ ap (λ g. record g.graph { vertices = insert_vertex (record { id = c.in_ok-v.v; kind = in_plane (plane_named c.args.plane) c.args.phase }) g.graph.vertices }) c.self.view_is
 
 pub returns-clause-valid : goal.returns-clause-valid
 returns-clause-valid c =
-    (becomes_added c.self.inside.slots.slots c.add.new.slots.slots c.self.inside.inputs.items c.self.inside.outputs.items c.self.invariant c.in_ok-v.v _ c.in_ok-v.ensures.vacant (search rules) c.in_ok-v.ensures.ok).sound.well_formed
+    (becomes_added c.self.inside.slots.slots c.add.new.slots.slots c.self.inside.inputs.items c.self.inside.outputs.items c.self.invariant.sound c.in_ok-v.v _ c.in_ok-v.ensures.vacant (search rules) c.in_ok-v.ensures.ok).sound.well_formed

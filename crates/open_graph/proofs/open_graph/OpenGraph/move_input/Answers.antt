@@ -5,6 +5,7 @@ use Rattle.open_graph.specs.declared.side.Side.TheVariants.{Input}
 use Rattle.open_graph.specs.OpenGraph.{OpenGraph}
 use Rattle.open_graph.proofs.SlotLemmas.{contains_live}
 use Rattle.open_graph.proofs.Keeping.{MayHold, becomes_end_moved, end_contained}
+use Rattle.open_graph.proofs.ReachLemmas.{room_kept}
 use Rattle.open_graph.proofs.open_graph.OpenGraph.move_input.Goals as goal
 
 pub move_end-requires-clause-in_range : goal.move_end-requires-clause-in_range
@@ -12,7 +13,7 @@ move_end-requires-clause-in_range c = subst (λ (g : OpenGraph). c.args.i < leng
 
 pub move_end-requires-clause-before : goal.move_end-requires-clause-before
 move_end-requires-clause-before c =
-    end_contained c.self.inside.slots.slots c.self.inside.inputs.items c.self.inside.outputs.items c.self.invariant Input c.args.i c.args.end
+    end_contained c.self.inside.slots.slots c.self.inside.inputs.items c.self.inside.outputs.items c.self.invariant.sound Input c.args.i c.args.end
     (subst (λ (g : OpenGraph). c.args.i < length g.graph.inputs) (sym c.self.view_is) c.requires.in_range)
 
 pub move_end-requires-clause-after : goal.move_end-requires-clause-after
@@ -20,19 +21,25 @@ move_end-requires-clause-after c = contains_live c.self.inside.slots.slots c.arg
 
 pub invariant_of-self : goal.invariant_of-self
 invariant_of-self c =
-    (becomes_end_moved c.self.inside.slots.slots c.self.inside.inputs.items c.self.inside.outputs.items c.self.invariant Input c.move_end.new.slots.slots c.move_end.new.ends.items c.args.i c.args.end c.move_end.ensures.ends
-    (subst (λ (g : OpenGraph). c.args.i < length g.graph.inputs) (sym c.self.view_is) c.requires.in_range)
-    (subst (λ (g : OpenGraph). MayHold g.graph (remove g.graph.inputs c.args.i) c.args.end) (sym c.self.view_is) (c.requires.live, c.requires.plane, c.requires.free)) c.move_end.ensures.slots).sound
+    record {
+      sound = (becomes_end_moved c.self.inside.slots.slots c.self.inside.inputs.items c.self.inside.outputs.items c.self.invariant.sound Input c.move_end.new.slots.slots c.move_end.new.ends.items c.args.i c.args.end c.move_end.ensures.ends
+          (subst (λ (g : OpenGraph). c.args.i < length g.graph.inputs) (sym c.self.view_is) c.requires.in_range)
+          (subst (λ (g : OpenGraph). MayHold g.graph (remove g.graph.inputs c.args.i) c.args.end) (sym c.self.view_is) (c.requires.live, c.requires.plane, c.requires.free)) c.move_end.ensures.slots).sound;
+      room = room_kept c.self.inside.reach c.self.inside.slots.slots c.move_end.new.slots.slots c.self.inside.kept.items c.self.invariant.room (c.move_end.ensures.room c.self.inside.reach);
+    }
 
 pub returns-clause-ok : goal.returns-clause-ok
 returns-clause-ok c =
-    let made = becomes_end_moved c.self.inside.slots.slots c.self.inside.inputs.items c.self.inside.outputs.items c.self.invariant Input c.move_end.new.slots.slots c.move_end.new.ends.items c.args.i c.args.end c.move_end.ensures.ends
+    let made = becomes_end_moved c.self.inside.slots.slots c.self.inside.inputs.items c.self.inside.outputs.items c.self.invariant.sound Input c.move_end.new.slots.slots c.move_end.new.ends.items c.args.i c.args.end c.move_end.ensures.ends
     (subst (λ (g : OpenGraph). c.args.i < length g.graph.inputs) (sym c.self.view_is) c.requires.in_range)
     (subst (λ (g : OpenGraph). MayHold g.graph (remove g.graph.inputs c.args.i) c.args.end) (sym c.self.view_is) (c.requires.live, c.requires.plane, c.requires.free)) c.move_end.ensures.slots in
     made.graph ∙ ap (λ g. record g.graph { inputs = set g.graph.inputs c.args.i c.args.end }) c.self.view_is
 
 pub returns-clause-valid : goal.returns-clause-valid
 returns-clause-valid c =
-    (becomes_end_moved c.self.inside.slots.slots c.self.inside.inputs.items c.self.inside.outputs.items c.self.invariant Input c.move_end.new.slots.slots c.move_end.new.ends.items c.args.i c.args.end c.move_end.ensures.ends
+    (becomes_end_moved c.self.inside.slots.slots c.self.inside.inputs.items c.self.inside.outputs.items c.self.invariant.sound Input c.move_end.new.slots.slots c.move_end.new.ends.items c.args.i c.args.end c.move_end.ensures.ends
     (subst (λ (g : OpenGraph). c.args.i < length g.graph.inputs) (sym c.self.view_is) c.requires.in_range)
     (subst (λ (g : OpenGraph). MayHold g.graph (remove g.graph.inputs c.args.i) c.args.end) (sym c.self.view_is) (c.requires.live, c.requires.plane, c.requires.free)) c.move_end.ensures.slots).sound.well_formed
+
+pub returns-clause-room : goal.returns-clause-room
+returns-clause-room c = (c.move_end.ensures.room 0).spare ∙ ap (λ g. g.spare) c.self.view_is

@@ -14,18 +14,21 @@ remove-requires-clause-live c = contains_live c.self.inside.slots.slots c.args.v
 
 pub invariant_of-self : goal.invariant_of-self
 invariant_of-self c =
-    (becomes_removed c.self.inside.slots.slots c.remove.new.slots.slots c.self.inside.inputs.items c.self.inside.outputs.items c.self.invariant c.args.v
-    (subst (λ (g : OpenGraph). Interior g.graph c.args.v) (sym c.self.view_is) c.requires.interior) c.remove.ensures.removed).sound
+    record {
+      sound = (becomes_removed c.self.inside.slots.slots c.remove.new.slots.slots c.self.inside.inputs.items c.self.inside.outputs.items c.self.invariant.sound c.args.v
+          (subst (λ (g : OpenGraph). Interior g.graph c.args.v) (sym c.self.view_is) c.requires.interior) c.remove.ensures.removed).sound;
+      room = c.remove.ensures.room c.self.inside.reach c.self.invariant.room;
+    }
 
 pub returns-clause-ok : goal.returns-clause-ok
 returns-clause-ok c =
     let old : Graph = graph_of c.self.inside.slots.slots c.self.inside.inputs.items c.self.inside.outputs.items in
     let new : Graph = graph_of c.remove.new.slots.slots c.self.inside.inputs.items c.self.inside.outputs.items in
-    let made = becomes_removed c.self.inside.slots.slots c.remove.new.slots.slots c.self.inside.inputs.items c.self.inside.outputs.items c.self.invariant c.args.v
+    let made = becomes_removed c.self.inside.slots.slots c.remove.new.slots.slots c.self.inside.inputs.items c.self.inside.outputs.items c.self.invariant.sound c.args.v
     (subst (λ (g : OpenGraph). Interior g.graph c.args.v) (sym c.self.view_is) c.requires.interior) c.remove.ensures.removed in
-    subst (λ (g : OpenGraph). IsRemoval g.graph c.args.v new) c.self.view_is (subst (IsRemoval old c.args.v) (sym made.graph) (removal_is_removal old c.args.v c.self.invariant.well_formed))
+    subst (λ (g : OpenGraph). IsRemoval g.graph c.args.v new) c.self.view_is (subst (IsRemoval old c.args.v) (sym made.graph) (removal_is_removal old c.args.v c.self.invariant.sound.well_formed))
 
 pub returns-clause-valid : goal.returns-clause-valid
 returns-clause-valid c =
-    (becomes_removed c.self.inside.slots.slots c.remove.new.slots.slots c.self.inside.inputs.items c.self.inside.outputs.items c.self.invariant c.args.v
+    (becomes_removed c.self.inside.slots.slots c.remove.new.slots.slots c.self.inside.inputs.items c.self.inside.outputs.items c.self.invariant.sound c.args.v
     (subst (λ (g : OpenGraph). Interior g.graph c.args.v) (sym c.self.view_is) c.requires.interior) c.remove.ensures.removed).sound.well_formed

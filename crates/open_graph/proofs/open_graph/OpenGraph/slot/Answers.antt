@@ -16,5 +16,5 @@ index-requires c =
 pub returns : goal.returns
 returns c =
     subst (λ (g : OpenGraph). Tells g.graph c.args.v c.index.result.now) c.self.view_is
-    (slot_tells c.self.inside.slots.slots c.self.inside.inputs.items c.self.inside.outputs.items c.args.v c.index.result.now c.self.invariant
+    (slot_tells c.self.inside.slots.slots c.self.inside.inputs.items c.self.inside.outputs.items c.args.v c.index.result.now c.self.invariant.sound
     (ap (λ p. slice_index_or c.self.inside.slots.slots p None) (sym c.get.ensures) ∙ c.index.ensures))

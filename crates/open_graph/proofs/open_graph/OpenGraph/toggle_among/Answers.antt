@@ -1,5 +1,5 @@
 -- Both rows of each pair are toggled, so the rows are symmetric again.
-use Rattle.std.proofs.Common.{◌∙◌, ap, subst}
+use Rattle.std.proofs.Common.{◌∙◌, ap, subst, arith}
 use Rattle.zx_model.specs.Bits.{member}
 use Rattle.zx_calculus.specs.Graph.{ids}
 use Rattle.zx_calculus.specs.Toggles.{IsToggled, among}
@@ -7,6 +7,7 @@ use Rattle.open_graph.specs.OpenGraph.{OpenGraph}
 use Rattle.open_graph.specs.Internal.Slots.{graph_of}
 use Rattle.open_graph.proofs.SlotLemmas.{contains_live}
 use Rattle.open_graph.proofs.RowToggles.{becomes_among}
+use Rattle.open_graph.proofs.ReachLemmas.{room_kept, becomes_empty}
 use Rattle.open_graph.proofs.open_graph.OpenGraph.toggle_among.Goals as goal
 
 pub toggle_among-requires : goal.toggle_among-requires
@@ -15,15 +16,41 @@ toggle_among-requires c p there =
 
 pub invariant_of-self-in_default : goal.invariant_of-self-in_default
 invariant_of-self-in_default c =
-    (becomes_among c.self.inside.slots.slots c.toggle_among.new.slots.slots c.self.inside.inputs.items c.self.inside.outputs.items c.self.invariant c.args.vertices.now.ids c.in_default.ensures.toggled).sound
+    record {
+      sound = (becomes_among c.self.inside.slots.slots c.toggle_among.new.slots.slots c.self.inside.inputs.items c.self.inside.outputs.items c.self.invariant.sound c.args.vertices.now.ids c.in_default.ensures.toggled).sound;
+      room = room_kept c.self.inside.reach c.self.inside.slots.slots c.toggle_among.new.slots.slots c.self.inside.kept.items c.self.invariant.room (c.toggle_among.ensures.room);
+    }
 
 pub returns-clause-ok : goal.returns-clause-ok
 returns-clause-ok c =
-    let made = becomes_among c.self.inside.slots.slots c.toggle_among.new.slots.slots c.self.inside.inputs.items c.self.inside.outputs.items c.self.invariant
+    let made = becomes_among c.self.inside.slots.slots c.toggle_among.new.slots.slots c.self.inside.inputs.items c.self.inside.outputs.items c.self.invariant.sound
     c.args.vertices.now.ids c.in_default.ensures.toggled in
     subst (λ (g : OpenGraph). IsToggled g.graph (among c.args.vertices.now.ids) (graph_of c.toggle_among.new.slots.slots c.self.inside.inputs.items c.self.inside.outputs.items)) c.self.view_is
     made.toggled
 
 pub returns-clause-valid : goal.returns-clause-valid
 returns-clause-valid c =
-    (becomes_among c.self.inside.slots.slots c.toggle_among.new.slots.slots c.self.inside.inputs.items c.self.inside.outputs.items c.self.invariant c.args.vertices.now.ids c.in_default.ensures.toggled).sound.well_formed
+    (becomes_among c.self.inside.slots.slots c.toggle_among.new.slots.slots c.self.inside.inputs.items c.self.inside.outputs.items c.self.invariant.sound c.args.vertices.now.ids c.in_default.ensures.toggled).sound.well_formed
+
+pub invariant_of-self : goal.invariant_of-self
+invariant_of-self c =
+    record {
+      sound = (becomes_empty c.clear.new.slots.slots c.clear-in-Err.new.self.items c.clear-in-Err-2.new.self.items c.clear.ensures.gone c.clear-in-Err.ensures.items c.clear-in-Err-2.ensures.items).sound;
+      room = c.clear.ensures.room c.self.inside.reach
+          (room_kept c.self.inside.reach c.self.inside.slots.slots c.toggle_among.new.slots.slots c.self.inside.kept.items c.self.invariant.room c.toggle_among.ensures.room);
+    }
+
+pub returns-in-Err-clause-err : goal.returns-in-Err-clause-err
+returns-in-Err-clause-err c =
+    (becomes_empty c.clear.new.slots.slots c.clear-in-Err.new.self.items c.clear-in-Err-2.new.self.items c.clear.ensures.gone c.clear-in-Err.ensures.items c.clear-in-Err-2.ensures.items).graph
+
+pub returns-in-Err-clause-valid : goal.returns-in-Err-clause-valid
+returns-in-Err-clause-valid c =
+    (becomes_empty c.clear.new.slots.slots c.clear-in-Err.new.self.items c.clear-in-Err-2.new.self.items c.clear.ensures.gone c.clear-in-Err.ensures.items c.clear-in-Err-2.ensures.items).sound.well_formed
+
+pub returns-in-Err-clause-keeps_spare : goal.returns-in-Err-clause-keeps_spare
+returns-in-Err-clause-keeps_spare c =
+    let kept = c.toggle_among.ensures.room.spare in
+    let more = c.clear.ensures.spare in
+    let seen = ap (λ g. g.spare) c.self.view_is in
+    omega (arith, kept, more, seen)

@@ -8,6 +8,7 @@ use Rattle.open_graph.specs.OpenGraph.{OpenGraph}
 use Rattle.open_graph.specs.Internal.Slots.{graph_of}
 use Rattle.open_graph.proofs.SlotLemmas.{contains_live}
 use Rattle.open_graph.proofs.Keeping.{becomes_same, becomes_toggled}
+use Rattle.open_graph.proofs.ReachLemmas.{room_kept}
 use Rattle.open_graph.proofs.open_graph.OpenGraph.toggle_edge.Goals as goal
 
 pub toggle-requires-clause-u_live : goal.toggle-requires-clause-u_live
@@ -18,36 +19,42 @@ toggle-requires-clause-v_live c = contains_live c.self.inside.slots.slots c.args
 
 pub invariant_of-self : goal.invariant_of-self
 invariant_of-self c =
-    (becomes_same c.self.inside.slots.slots c.toggle.new.slots.slots c.self.inside.inputs.items c.self.inside.outputs.items c.self.invariant c.in_err-toggle.ensures.err).sound
+    record {
+      sound = (becomes_same c.self.inside.slots.slots c.toggle.new.slots.slots c.self.inside.inputs.items c.self.inside.outputs.items c.self.invariant.sound c.in_err-toggle.ensures.err).sound;
+      room = room_kept c.self.inside.reach c.self.inside.slots.slots c.toggle.new.slots.slots c.self.inside.kept.items c.self.invariant.room (c.toggle.ensures.room);
+    }
 
 pub returns-in_err-toggle-clause-err : goal.returns-in_err-toggle-clause-err
 returns-in_err-toggle-clause-err c =
     let p = err_from_is_err_and c.from_residual.result c.from_residual.ensures.1 in
-    let made = becomes_same c.self.inside.slots.slots c.toggle.new.slots.slots c.self.inside.inputs.items c.self.inside.outputs.items c.self.invariant c.in_err-toggle.ensures.err in
+    let made = becomes_same c.self.inside.slots.slots c.toggle.new.slots.slots c.self.inside.inputs.items c.self.inside.outputs.items c.self.invariant.sound c.in_err-toggle.ensures.err in
     rw p.1 (made.graph ∙ ap (λ g. g.graph) c.self.view_is)
 
 pub returns-in_err-toggle-clause-valid : goal.returns-in_err-toggle-clause-valid
 returns-in_err-toggle-clause-valid c =
-    (becomes_same c.self.inside.slots.slots c.toggle.new.slots.slots c.self.inside.inputs.items c.self.inside.outputs.items c.self.invariant c.in_err-toggle.ensures.err).sound.well_formed
+    (becomes_same c.self.inside.slots.slots c.toggle.new.slots.slots c.self.inside.inputs.items c.self.inside.outputs.items c.self.invariant.sound c.in_err-toggle.ensures.err).sound.well_formed
 
 pub invariant_of-self-2 : goal.invariant_of-self-2
 invariant_of-self-2 c =
-    (becomes_toggled c.self.inside.slots.slots c.toggle.new.slots.slots c.self.inside.inputs.items c.self.inside.outputs.items c.self.invariant c.args.u c.args.v
-    (ap (λ g. member c.args.u (ids g.graph.vertices)) c.self.view_is ∙ c.requires.u_live) (ap (λ g. member c.args.v (ids g.graph.vertices)) c.self.view_is ∙ c.requires.v_live)
-    c.requires.different c.in_ok-toggle.ensures.ok).sound
+    record {
+      sound = (becomes_toggled c.self.inside.slots.slots c.toggle.new.slots.slots c.self.inside.inputs.items c.self.inside.outputs.items c.self.invariant.sound c.args.u c.args.v
+          (ap (λ g. member c.args.u (ids g.graph.vertices)) c.self.view_is ∙ c.requires.u_live) (ap (λ g. member c.args.v (ids g.graph.vertices)) c.self.view_is ∙ c.requires.v_live)
+          c.requires.different c.in_ok-toggle.ensures.ok).sound;
+      room = room_kept c.self.inside.reach c.self.inside.slots.slots c.toggle.new.slots.slots c.self.inside.kept.items c.self.invariant.room (c.toggle.ensures.room);
+    }
 
 pub returns-clause-ok : goal.returns-clause-ok
 returns-clause-ok c =
     let old : Graph = graph_of c.self.inside.slots.slots c.self.inside.inputs.items c.self.inside.outputs.items in
     let new : Graph = graph_of c.toggle.new.slots.slots c.self.inside.inputs.items c.self.inside.outputs.items in
-    let made = becomes_toggled c.self.inside.slots.slots c.toggle.new.slots.slots c.self.inside.inputs.items c.self.inside.outputs.items c.self.invariant c.args.u c.args.v
+    let made = becomes_toggled c.self.inside.slots.slots c.toggle.new.slots.slots c.self.inside.inputs.items c.self.inside.outputs.items c.self.invariant.sound c.args.u c.args.v
     (ap (λ g. member c.args.u (ids g.graph.vertices)) c.self.view_is ∙ c.requires.u_live) (ap (λ g. member c.args.v (ids g.graph.vertices)) c.self.view_is ∙ c.requires.v_live)
     c.requires.different c.in_ok-toggle.ensures.ok in
-    let toggle = toggled_is_toggle old c.args.u c.args.v c.self.invariant.well_formed (ap (λ g. member c.args.u (ids g.graph.vertices)) c.self.view_is ∙ c.requires.u_live) (ap (λ g. member c.args.v (ids g.graph.vertices)) c.self.view_is ∙ c.requires.v_live) c.requires.different in
+    let toggle = toggled_is_toggle old c.args.u c.args.v c.self.invariant.sound.well_formed (ap (λ g. member c.args.u (ids g.graph.vertices)) c.self.view_is ∙ c.requires.u_live) (ap (λ g. member c.args.v (ids g.graph.vertices)) c.self.view_is ∙ c.requires.v_live) c.requires.different in
     subst (λ (g : OpenGraph). IsToggle g.graph c.args.u c.args.v new) c.self.view_is (subst (IsToggle old c.args.u c.args.v) (sym made.graph) toggle)
 
 pub returns-clause-valid : goal.returns-clause-valid
 returns-clause-valid c =
-    (becomes_toggled c.self.inside.slots.slots c.toggle.new.slots.slots c.self.inside.inputs.items c.self.inside.outputs.items c.self.invariant c.args.u c.args.v
+    (becomes_toggled c.self.inside.slots.slots c.toggle.new.slots.slots c.self.inside.inputs.items c.self.inside.outputs.items c.self.invariant.sound c.args.u c.args.v
     (ap (λ g. member c.args.u (ids g.graph.vertices)) c.self.view_is ∙ c.requires.u_live) (ap (λ g. member c.args.v (ids g.graph.vertices)) c.self.view_is ∙ c.requires.v_live)
     c.requires.different c.in_ok-toggle.ensures.ok).sound.well_formed

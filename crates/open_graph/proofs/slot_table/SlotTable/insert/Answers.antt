@@ -1,9 +1,7 @@
-use Rattle.std.proofs.Common.{◌≡◌, ◌∙◌, sym, ap, subst, not, true, false, is_some, ◌<◌, ◌+◌, length, None, Some, [], ◌∷◌, slice_index_or, arith}
-use Rattle.std.proofs.lemmas.Bool.{false≢true}
-use Rattle.zx_model.specs.Bits.{bit}
+use Rattle.std.proofs.Common.{◌∙◌, ap, ◌<◌, length, Some, [], ◌∷◌, arith}
 use Rattle.open_graph.specs.Internal.Room.{vacant_in}
 use Rattle.open_graph.proofs.RoomLemmas.{vacant-filled, vacant-append, vacant-none}
-use Rattle.open_graph.proofs.TableLemmas.{row_filled, row_pushed, free_within, room_free, is_vacant, all_taken}
+use Rattle.open_graph.proofs.TableLemmas.{row_filled, row_pushed, free_within, is_vacant, all_taken}
 use Rattle.open_graph.proofs.slot_table.SlotTable.insert.Goals as goal
 
 pub invariant_of-self-in-Some : goal.invariant_of-self-in-Some

@@ -1,4 +1,4 @@
-use Rattle.std.proofs.Common.{◌≡◌, ◌∙◌, sym, ap, ◌<◌, length, true, arith}
+use Rattle.std.proofs.Common.{◌≡◌, ◌∙◌, ap, ◌<◌, length, arith}
 use Rattle.zx_bits.specs.Rows.{flipped}
 use Rattle.open_graph.proofs.TableLemmas.{row_pushed_none}
 use Rattle.open_graph.proofs.slot_table.SlotTable.push_vacant.Goals as goal

@@ -1,4 +1,4 @@
-use Rattle.std.proofs.Common.{◌≡◌, ◌∙◌, ◌+◌, ap, suc, [], ◌∷◌, None, List, Option, slice_index_or, arith}
+use Rattle.std.proofs.Common.{◌∙◌, ap, [], ◌∷◌, None, List, Option, slice_index_or, arith}
 use Rattle.open_graph.specs.declared.slot.Slot.{Slot}
 use Rattle.open_graph.specs.Internal.Room.{vacant_in}
 use Rattle.open_graph.proofs.RoomLemmas.{vacant-append, place_pushed}

@@ -1,4 +1,4 @@
-use Rattle.std.proofs.Common.{◌≡◌, ◌≤◌, ◌+◌, ℕ}
+use Rattle.std.proofs.Common.{◌≡◌, ◌≤◌, ℕ}
 use Rattle.open_graph.specs.Internal.Table.{slot_at}
 use Rattle.open_graph.specs.Internal.Room.{vacant_in}
 use Rattle.open_graph.proofs.slot_table.SlotTable.reserve.Given as goal

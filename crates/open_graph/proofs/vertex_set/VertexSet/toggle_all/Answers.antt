@@ -1,6 +1,4 @@
-use Rattle.std.proofs.Common.{sym, ◌∙◌, ap, arith}
-use Rattle.zx_model.specs.Bits.{member}
-use Rattle.zx_bits.specs.Sets.{IsBelow}
+use Rattle.std.proofs.Common.{ap, arith}
 use Rattle.open_graph.proofs.RowLemmas.{in_order-rising, below_too}
 use Rattle.open_graph.proofs.vertex_set.VertexSet.toggle_all.Goals as goal
 

@@ -11,19 +11,19 @@ use Rattle.qasm_inline.proofs.reading.Reader.read_text.Goals as goal
 pub overflow_add-result : goal.overflow_add-result
 overflow_add-result c =
     let before = c.loop-done.invariant.read in
-    let bad = c.in-Err-BadByte.ensures.bad_byte before.0 c.in-Err-BadByte.at (no_batch_yet _ _ before.0 _ c.new-tokens.ensures.items before.1) (ap Err c.in-Err-BadByte.field-0-is) in
+    let bad = c.in-Err-BadByte.ensures.bad_byte before.0 c.in-Err-BadByte.at (no_batch_yet _ _ before.0 _ c.clear.ensures.items before.1) (ap Err c.in-Err-BadByte.field-0-is) in
     omega (arith, bad_within c.args.text.now c.in-Err-BadByte.at bad, c.requires)
 
 pub returns-in-Err-BadByte-clause-bad_byte : goal.returns-in-Err-BadByte-clause-bad_byte
 returns-in-Err-BadByte-clause-bad_byte c = λ at e.
     let before = c.loop-done.invariant.read in
-    (c.in-Err-BadByte.at, c.in-Err-BadByte.ensures.bad_byte before.0 c.in-Err-BadByte.at (no_batch_yet _ _ before.0 _ c.new-tokens.ensures.items before.1) (ap Err c.in-Err-BadByte.field-0-is), cc)
+    (c.in-Err-BadByte.at, c.in-Err-BadByte.ensures.bad_byte before.0 c.in-Err-BadByte.at (no_batch_yet _ _ before.0 _ c.clear.ensures.items before.1) (ap Err c.in-Err-BadByte.field-0-is), cc)
 
 pub read_tokens-requires : goal.read_tokens-requires
 read_tokens-requires c =
     let before = c.loop-done.invariant.read in
     rw c.deref.ensures.value (places_fit c.args.text.now _ before.0 _ c.args.from c.requires
-    (c.in-Ok.ensures.cut before.0 (no_batch_yet _ _ before.0 _ c.new-tokens.ensures.items before.1)))
+    (c.in-Ok.ensures.cut before.0 (no_batch_yet _ _ before.0 _ c.clear.ensures.items before.1)))
 
 pub loop-done-preserved : goal.loop-done-preserved
 loop-done-preserved c =
@@ -32,7 +32,7 @@ loop-done-preserved c =
     record {
       read = (
         before.0 ++ more,
-        c.in-Ok.ensures.cut before.0 (no_batch_yet _ _ before.0 _ c.new-tokens.ensures.items before.1),
+        c.in-Ok.ensures.cut before.0 (no_batch_yet _ _ before.0 _ c.clear.ensures.items before.1),
         reads_then _ _ _ before.0 more c.args.from before.2
             (subst (λ ts. ReadsOn c.loop-done.self (map (moved c.args.from) (lexemes ts)) c.read_tokens.new.self) c.deref.ensures.value c.in_ok-read_tokens.ensures),
       );

@@ -1,22 +1,53 @@
-use Rattle.std.proofs.Common.{◌≡◌, ◌∙◌, sym, ap, ap₂, subst, ℕ, false, List, ◌∷◌, set}
+-- The vertex with its set.
+use Rattle.std.proofs.Common.{◌≡◌, ◌∙◌, sym, ap, subst, false, List, [], ◌∷◌, arith}
 use Rattle.zx_model.specs.Bits.{member}
-use Rattle.gflow_laws.specs.Flow.{Correction, order_of}
-use Rattle.zx_flow.specs.Internal.Sets.{table_of, HoldsOnce}
-use Rattle.zx_flow.proofs.SetLemmas.{order_of-table_of, table_of-first, HoldsOnce-first}
+use Rattle.gflow_laws.specs.Flow.{Correction}
+use Rattle.zx_flow.specs.Internal.Sets.{Corrections, table_of, HoldsOnce}
+use Rattle.zx_flow.proofs.SetLemmas.{others, table_of-first, table_of-fresh, HoldsOnce-first}
+use Rattle.zx_flow.proofs.TableChanges.{listed, at_err}
 use Rattle.zx_flow.proofs.corrections.Corrections.add_first.Goals as goal
+
+pub returns-in_err-put_one-clause-err : goal.returns-in_err-put_one-clause-err
+returns-in_err-put_one-clause-err c =
+    let fresh : member c.args.v c.self.inside.order.items ≡ false =
+    listed c.self.inside.sets.lists c.self.inside.order.items c.args.self.now.table
+    (ap (λ (k : Corrections). k.table) c.self.view_is) c.args.v false c.requires in
+    let but = others c.self.inside.sets.lists c.make_place.new.self.lists c.put_one.new.self.lists c.args.v
+    c.make_place.ensures.same c.put_one.ensures.others in
+    at_err c.from_residual-in_err-put_one.result
+    (table_of-fresh c.self.inside.sets.lists c.put_one.new.self.lists c.self.inside.order.items c.args.v but fresh
+    ∙ ap (λ (k : Corrections). k.table) c.self.view_is)
+
+pub returns-in_err-insert-clause-err : goal.returns-in_err-insert-clause-err
+returns-in_err-insert-clause-err c =
+    let fresh : member c.args.v c.self.inside.order.items ≡ false =
+    listed c.self.inside.sets.lists c.self.inside.order.items c.args.self.now.table
+    (ap (λ (k : Corrections). k.table) c.self.view_is) c.args.v false c.requires in
+    let but = others c.self.inside.sets.lists c.make_place.new.self.lists c.put_one.new.self.lists c.args.v
+    c.make_place.ensures.same c.put_one.ensures.others in
+    at_err c.from_residual-in_err-insert.result
+    (ap (table_of c.put_one.new.self.lists) c.in_err-insert.ensures.items
+    ∙ table_of-fresh c.self.inside.sets.lists c.put_one.new.self.lists c.self.inside.order.items c.args.v but fresh
+    ∙ ap (λ (k : Corrections). k.table) c.self.view_is)
 
 pub invariant_of-self-2 : goal.invariant_of-self-2
 invariant_of-self-2 c =
     let fresh : member c.args.v c.self.inside.order.items ≡ false =
-    ap (member c.args.v) (sym (order_of-table_of c.self.inside.sets.items c.self.inside.order.items) ∙ ap order_of c.self.view_is) ∙ c.requires in
-    subst (λ (order : List ℕ). HoldsOnce (set c.make_room.new.sets.items c.get.result c.args.set) order) (sym c.in_ok-insert.ensures.items)
-    (subst (λ (p : ℕ). HoldsOnce (set c.make_room.new.sets.items p c.args.set) (c.args.v ∷ c.self.inside.order.items)) (sym c.get.ensures)
-    (HoldsOnce-first c.self.inside.sets.items c.make_room.new.sets.items c.self.inside.order.items c.args.v c.args.set c.self.invariant c.in_ok-make_room.ensures.grown c.in_ok-make_room.ensures.ok fresh))
+    listed c.self.inside.sets.lists c.self.inside.order.items c.args.self.now.table
+    (ap (λ (k : Corrections). k.table) c.self.view_is) c.args.v false c.requires in
+    subst (HoldsOnce c.put_one.new.self.lists) (sym c.in_ok-insert.ensures.items)
+    (HoldsOnce-first c.self.inside.sets.lists c.put_one.new.self.lists c.self.inside.order.items c.args.v c.self.invariant
+    (omega (arith, c.make_place.ensures.grown, c.put_one.ensures.length))
+    (omega (arith, c.in_ok-make_place.ensures.ok, c.put_one.ensures.length)) fresh)
 
 pub returns-clause-ok : goal.returns-clause-ok
 returns-clause-ok c =
     let fresh : member c.args.v c.self.inside.order.items ≡ false =
-    ap (member c.args.v) (sym (order_of-table_of c.self.inside.sets.items c.self.inside.order.items) ∙ ap order_of c.self.view_is) ∙ c.requires in
-    ap₂ (λ (order : List ℕ) (p : ℕ). table_of (set c.make_room.new.sets.items p c.args.set) order) c.in_ok-insert.ensures.items c.get.ensures
-    ∙ table_of-first c.self.inside.sets.items c.make_room.new.sets.items c.self.inside.order.items c.args.v c.args.set c.in_ok-make_room.ensures.same c.in_ok-make_room.ensures.ok fresh
-    ∙ ap (λ (t : List Correction). record { vertex = c.args.v; members = c.args.set.ids } ∷ t) c.self.view_is
+    listed c.self.inside.sets.lists c.self.inside.order.items c.args.self.now.table
+    (ap (λ (k : Corrections). k.table) c.self.view_is) c.args.v false c.requires in
+    let but = others c.self.inside.sets.lists c.make_place.new.self.lists c.put_one.new.self.lists c.args.v
+    c.make_place.ensures.same c.put_one.ensures.others in
+    ap (table_of c.put_one.new.self.lists) c.in_ok-insert.ensures.items
+    ∙ table_of-first c.self.inside.sets.lists c.put_one.new.self.lists c.self.inside.order.items c.args.v
+    (c.args.w ∷ []) but c.in_ok-put_one.ensures.ok fresh
+    ∙ ap (λ (t : List Correction). record { vertex = c.args.v; members = c.args.w ∷ [] } ∷ t) (ap (λ (k : Corrections). k.table) c.self.view_is)

@@ -1,10 +1,14 @@
 -- The sets so far are cleared.
-use Rattle.std.proofs.Common.{take}
+use Rattle.std.proofs.Common.{◌≡◌, take}
 use Rattle.gflow_laws.specs.Flow.{order_of, set_of}
-use Rattle.gflow_laws.specs.Changes.{AreChanged, removal_change}
+use Rattle.gflow_laws.specs.Changes.{AreChanged}
+use Rattle.zx_flow.specs.Internal.Clearing.{clearing_change}
 use Rattle.zx_flow.proofs.flow.Flow.eliminate.Given as goal
 
 abbrev pub invariant-loop-i : goal.invariant-loop-i
-invariant-loop-i l =
-    AreChanged (removal_change l.u (set_of l.fn.self.flow l.u)) (take l.i (order_of l.initial.self.flow))
-    l.initial.self.flow l.self.flow
+invariant-loop-i l = record {
+  sets : AreChanged (clearing_change l.u (set_of l.fn.self.flow l.u)) (take l.i (order_of l.fn.self.flow))
+      l.fn.self.flow l.self.flow;
+  spare : l.self.spare ≡ l.fn.self.spare;
+  reach : l.self.reach ≡ l.fn.self.reach;
+}

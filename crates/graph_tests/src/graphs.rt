@@ -1,0 +1,217 @@
+//! That calls succeed with ample memory, on graphs of three vertices.
+use open_graph::{End, OpenGraph, Plane, VertexId};
+use std::alloc::Global;
+use std::process::Abort;
+use std::test::Fail;
+use zx_model::Sixteenth;
+
+// Three vertices without edges: XY of an eighth turn, XY of phase 0 and YZ of a quarter turn.
+fn three_vertices(alloc: Global) -> Result<OpenGraph, Fail> {
+    let mut graph = OpenGraph::new(alloc);
+    graph.reserve(3)?;
+    graph.add_vertex(Plane::XY, Sixteenth::eighth_turn())?;
+    graph.add_vertex(Plane::XY, Sixteenth::new(0))?;
+    graph.add_vertex(Plane::YZ, Sixteenth::quarter_turn())?;
+    Ok(graph)
+}
+
+pub fn toggle(rt: &impl Abort, graph: &mut OpenGraph, u: usize, v: usize) -> Result<(), Fail> {
+    let (u, v) = (VertexId::new(u), VertexId::new(v));
+    assert!(rt; graph.is_live(u));
+    assert!(rt; graph.is_live(v));
+    assert!(rt; u != v);
+    graph.toggle_edge(u, v)?;
+    Ok(())
+}
+
+fn has_edge(rt: &impl Abort, graph: &OpenGraph, u: usize, v: usize) -> bool {
+    assert!(rt; graph.is_live(VertexId::new(u)));
+    graph.has_edge(VertexId::new(u), VertexId::new(v))
+}
+
+// The neighbours of a vertex, as the digits of a number.
+fn neighbours(rt: &impl Abort, graph: &OpenGraph, v: usize) -> usize {
+    assert!(rt; graph.is_live(VertexId::new(v)));
+    let mut digits = 0usize;
+    for w in graph.neighbours(VertexId::new(v)) {
+        digits = digits.wrapping_mul(10).wrapping_add(w.get());
+    }
+    digits
+}
+
+#[test]
+fn edges_join_neighbours(rt: HostRuntime) -> Result<(), Fail> {
+    let mut graph = three_vertices(rt.alloc())?;
+    toggle(&rt, &mut graph, 0, 1)?;
+    toggle(&rt, &mut graph, 2, 1)?;
+    toggle(&rt, &mut graph, 0, 2)?;
+    assert_eq!(rt; neighbours(&rt, &graph, 0), 12);
+    assert_eq!(rt; neighbours(&rt, &graph, 1), 2);
+    assert!(rt; has_edge(&rt, &graph, 2, 0));
+
+    // A controlled Z twice is none.
+    toggle(&rt, &mut graph, 0, 2)?;
+    assert_eq!(rt; neighbours(&rt, &graph, 0), 1);
+    assert_eq!(rt; neighbours(&rt, &graph.copy()?, 1), 2);
+    Ok(())
+}
+
+// Toggles the edges among the neighbours of a vertex.
+fn complement(rt: &impl Abort, graph: &mut OpenGraph, v: usize) -> Result<(), Fail> {
+    assert!(rt; graph.is_live(VertexId::new(v)));
+    let near = graph.neighbour_set(VertexId::new(v)).clone()?;
+    graph.toggle_among(&near)?;
+    Ok(())
+}
+
+// Toggles the edges between the neighbours of a vertex and those of another.
+fn cross(rt: &impl Abort, graph: &mut OpenGraph, u: usize, v: usize) -> Result<(), Fail> {
+    assert!(rt; graph.is_live(VertexId::new(u)));
+    assert!(rt; graph.is_live(VertexId::new(v)));
+    let near = graph.neighbour_set(VertexId::new(u)).clone()?;
+    let far = graph.neighbour_set(VertexId::new(v)).clone()?;
+    graph.toggle_across(&near, &far)?;
+    Ok(())
+}
+
+#[test]
+fn edges_are_toggled_by_rows(rt: HostRuntime) -> Result<(), Fail> {
+    let mut graph = three_vertices(rt.alloc())?;
+    toggle(&rt, &mut graph, 0, 1)?;
+    toggle(&rt, &mut graph, 2, 1)?;
+    complement(&rt, &mut graph, 1)?;
+    assert_eq!(rt; neighbours(&rt, &graph, 0), 12);
+    assert_eq!(rt; neighbours(&rt, &graph, 1), 2);
+    complement(&rt, &mut graph, 1)?;
+    assert!(rt; !has_edge(&rt, &graph, 2, 0));
+
+    // Vertex 1 alone is across from 0 and 2.
+    cross(&rt, &mut graph, 0, 1)?;
+    assert_eq!(rt; neighbours(&rt, &graph, 0), 0);
+    assert_eq!(rt; neighbours(&rt, &graph, 2), 0);
+    Ok(())
+}
+
+pub fn add_input(rt: &impl Abort, graph: &mut OpenGraph, end: End) -> Result<(), Fail> {
+    assert!(rt; graph.is_live(end.vertex));
+    assert!(rt; matches!(graph.weight(end.vertex).0, Plane::XY));
+    assert!(rt; graph.input_at(end.vertex).is_none());
+    graph.add_input(end)?;
+    Ok(())
+}
+
+pub fn add_output(rt: &impl Abort, graph: &mut OpenGraph, end: End) -> Result<(), Fail> {
+    assert!(rt; graph.is_live(end.vertex));
+    assert!(rt; matches!(graph.weight(end.vertex).0, Plane::XY));
+    assert!(rt; graph.output_at(end.vertex).is_none());
+    graph.add_output(end)?;
+    Ok(())
+}
+
+fn move_input(rt: &impl Abort, graph: &mut OpenGraph, end: End) {
+    assert!(rt; graph.is_live(end.vertex));
+    assert!(rt; matches!(graph.weight(end.vertex).0, Plane::XY));
+    assert!(rt; graph.input_at(end.vertex).is_none());
+    assert!(rt; graph.inputs().len() == 1);
+    graph.move_input(0, end);
+}
+
+fn move_output(rt: &impl Abort, graph: &mut OpenGraph, end: End) {
+    assert!(rt; graph.is_live(end.vertex));
+    assert!(rt; matches!(graph.weight(end.vertex).0, Plane::XY));
+    assert!(rt; graph.output_at(end.vertex).is_none());
+    assert!(rt; graph.outputs().len() == 1);
+    graph.move_output(0, end);
+}
+
+#[test]
+fn ends_are_added_and_moved(rt: HostRuntime) -> Result<(), Fail> {
+    let mut graph = three_vertices(rt.alloc())?;
+    let end = End {
+        vertex: VertexId::new(1),
+        hadamard: true,
+    };
+    add_input(&rt, &mut graph, end)?;
+    add_output(&rt, &mut graph, end)?;
+    let copy = graph.copy()?;
+    assert_eq!(rt; copy.inputs(), [end].as_slice());
+    assert_eq!(rt; copy.outputs(), [end].as_slice());
+    let other = End {
+        vertex: VertexId::new(0),
+        hadamard: false,
+    };
+    move_input(&rt, &mut graph, other);
+    move_output(&rt, &mut graph, other);
+    assert_eq!(rt; graph.inputs(), [other].as_slice());
+    assert_eq!(rt; graph.outputs(), [other].as_slice());
+    Ok(())
+}
+
+fn turn(rt: &impl Abort, graph: &mut OpenGraph, v: VertexId) -> Plane {
+    assert!(rt; graph.is_live(v));
+    graph.add_quarter(v);
+    assert!(rt; graph.is_live(v));
+    graph.weight(v).0
+}
+
+fn remove(rt: &impl Abort, graph: &mut OpenGraph, v: VertexId) {
+    assert!(rt; graph.is_live(v));
+    assert!(rt; graph.is_interior(v));
+    graph.remove_vertex(v);
+}
+
+#[test]
+fn vertices_are_turned_and_removed(rt: HostRuntime) -> Result<(), Fail> {
+    let mut graph = three_vertices(rt.alloc())?;
+    assert!(rt; matches!(turn(&rt, &mut graph, VertexId::new(2)), Plane::XZ));
+    remove(&rt, &mut graph, VertexId::new(1));
+    let mut left = 0usize;
+    for v in graph.vertices() {
+        left = left.wrapping_mul(10).wrapping_add(v.get());
+    }
+
+    // Vertices 0 and 2 are left.
+    assert_eq!(rt; left, 2);
+    Ok(())
+}
+
+// The ids of three new vertices, as digits behind a 1.
+fn added(graph: &mut OpenGraph) -> Result<usize, Fail> {
+    let mut digits = 1usize;
+    for _ in 0..3 {
+        let v = graph.add_vertex(Plane::XY, Sixteenth::new(0))?;
+        digits = digits.wrapping_mul(10).wrapping_add(v.get());
+    }
+    Ok(digits)
+}
+
+#[test]
+fn a_removed_id_comes_again_the_least_first(rt: HostRuntime) -> Result<(), Fail> {
+    let mut graph = three_vertices(rt.alloc())?;
+    remove(&rt, &mut graph, VertexId::new(2));
+    remove(&rt, &mut graph, VertexId::new(0));
+    assert!(rt; graph.vertex_from(0) == Some(VertexId::new(1)));
+
+    // 0 and 2 come again, and then a new one.
+    assert_eq!(rt; added(&mut graph)?, 1023);
+    Ok(())
+}
+
+#[test]
+fn rows_are_kept_for_ids_below_the_reach(rt: HostRuntime) -> Result<(), Fail> {
+    let mut graph = three_vertices(rt.alloc())?;
+    graph.add_vertex(Plane::XY, Sixteenth::new(0))?;
+    toggle(&rt, &mut graph, 1, 2)?;
+
+    // 3 is above the reach.
+    toggle(&rt, &mut graph, 1, 3)?;
+    remove(&rt, &mut graph, VertexId::new(1));
+    let again = graph.add_vertex(Plane::XY, Sixteenth::new(0))?;
+    assert_eq!(rt; again.get(), 1);
+    assert_eq!(rt; neighbours(&rt, &graph, 1), 0);
+    toggle(&rt, &mut graph, 1, 3)?;
+    graph.reserve(100)?;
+    toggle(&rt, &mut graph, 1, 2)?;
+    assert_eq!(rt; neighbours(&rt, &graph, 1), 23);
+    Ok(())
+}

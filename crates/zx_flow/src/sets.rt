@@ -1,0 +1,254 @@
+//! Sets of vertices by number.
+
+ghost use Rattle.std.specs.Prelude.{◌≡◌, ◌≢◌, ◌<◌, ◌≤◌, ℕ, [], ◌∷◌, length, IsOk, IfOk, OnOk, OnErr};
+ghost use Rattle.zx_model.specs.Bits.{xor, member};
+ghost use Rattle.zx_bits.specs.Sets.{IsBelow};
+ghost use Rattle.zx_flow.specs.Internal.Sets.{set_at, room_at, SameSetsAt, SameSetsBut, AreToggledAt};
+
+use open_graph::{VertexId, VertexSet};
+use std::alloc::{AllocError, Global};
+use std::marker::Model;
+use std::mem;
+
+// Sets by the number of their vertex. Each of those below `reach` has room for all ids below it.
+#[derive(Drop)]
+pub(crate) struct Sets {
+    alloc: Global,
+    lists: Vec<VertexSet>,
+    reach: usize,
+}
+
+impl Model for Sets {
+    ghost use Rattle.zx_flow.specs.Internal.Sets.{Sets as Seen, HasReach};
+
+    ghost Value = { Seen };
+
+    ghost view = { λ s. record { lists = s.lists.items; reach = s.reach } };
+
+    ghost invariant = { λ s. HasReach s.reach s.lists.items };
+}
+
+impl Sets {
+    pub(crate) fn new(alloc: Global) -> Sets
+        ensures { result.lists ≡ [] }
+    {
+        Sets {
+            alloc,
+            lists: Vec::new(alloc),
+            reach: 0,
+        }
+    }
+
+    // The set of a vertex.
+    pub(crate) fn get(&self, v: VertexId) -> &VertexSet
+        requires { v < length self.now.lists }
+        ensures { result.now.ids ≡ set_at self.now.lists v }
+    {
+        &self.lists[v.get()]
+    }
+
+    // Makes place for the set of a vertex.
+    pub(crate) fn make_place(&mut self, v: VertexId) -> Result<(), AllocError>
+        ensures ok { OnOk result (v < length self.new.lists) }
+        ensures grown { length self.old.lists ≤ length self.new.lists }
+        ensures same { SameSetsAt self.old.lists self.new.lists }
+        ensures reach { self.new.reach ≡ self.old.reach }
+        ensures has_room { v < self.old.reach → IsOk result }
+    {
+        if v.get() < self.reach {
+            return Ok(());
+        }
+        grow(&mut self.lists, self.alloc, v.get())
+    }
+
+    // Puts another set in the place of that of a vertex.
+    pub(crate) fn put(&mut self, v: VertexId, members: VertexSet)
+        requires { v < length self.old.lists }
+        ensures own { set_at self.new.lists v ≡ members.ids }
+        ensures others { SameSetsBut v self.old.lists self.new.lists }
+        ensures length { length self.new.lists ≡ length self.old.lists }
+    {
+        self.reach = 0;
+        self.lists[v.get()] = members;
+    }
+
+    // Puts a set of one vertex w in the place of that of v. Where memory runs out, v has any set.
+    pub(crate) fn put_one(&mut self, v: VertexId, w: VertexId) -> Result<(), AllocError>
+        requires { v < length self.old.lists }
+        ensures ok { OnOk result (set_at self.new.lists v ≡ w ∷ []) }
+        ensures others { SameSetsBut v self.old.lists self.new.lists }
+        ensures length { length self.new.lists ≡ length self.old.lists }
+        ensures reach { self.new.reach ≡ self.old.reach }
+        ensures has_room { v < self.old.reach → w < self.old.reach → IsOk result }
+    {
+        let kept = self.kept(v);
+        put_within(&mut self.lists[v.get()], kept, w)
+    }
+
+    // Toggles these in the set of a vertex. Where memory runs out, all sets stay as they were.
+    pub(crate) fn toggle(&mut self, v: VertexId, members: &VertexSet) -> Result<(), AllocError>
+        requires { v < length self.old.lists }
+        ensures ok { OnOk result (AreToggledAt v members.now.ids self.old.lists self.new.lists) }
+        ensures err { OnErr result (SameSetsAt self.old.lists self.new.lists) }
+        ensures length { length self.new.lists ≡ length self.old.lists }
+        ensures reach { self.new.reach ≡ self.old.reach }
+        ensures has_room { v < self.old.reach → IsBelow self.old.reach members.now.ids →
+            IsOk result }
+    {
+        let kept = self.kept(v);
+        toggle_within(&mut self.lists[v.get()], kept, members)
+    }
+
+    // Toggles the set of another vertex u in that of v.
+    pub(crate) fn toggle_set(&mut self, v: VertexId, u: VertexId) -> Result<(), AllocError>
+        requires v_there { v < length self.old.lists }
+        requires u_there { u < length self.old.lists }
+        requires apart { v ≢ u }
+        ensures ok { OnOk result (AreToggledAt v (set_at self.old.lists u)
+            self.old.lists self.new.lists) }
+        ensures err { OnErr result (SameSetsAt self.old.lists self.new.lists) }
+        ensures length { length self.new.lists ≡ length self.old.lists }
+        ensures reach { self.new.reach ≡ self.old.reach }
+        ensures has_room { v < self.old.reach →
+            IsBelow self.old.reach (set_at self.old.lists u) → IsOk result }
+    {
+        let kept = self.kept(v);
+        let none = VertexSet::new(self.alloc);
+        let other = mem::replace(&mut self.lists[u.get()], none);
+        let done = toggle_within(&mut self.lists[v.get()], kept, &other);
+        self.lists[u.get()] = other;
+        done
+    }
+
+    // Takes the set of a vertex away, and keeps its memory below `reach`.
+    pub(crate) fn clear(&mut self, v: VertexId)
+        requires { v < length self.old.lists }
+        ensures others { SameSetsBut v self.old.lists self.new.lists }
+        ensures length { length self.new.lists ≡ length self.old.lists }
+        ensures reach { self.new.reach ≡ self.old.reach }
+    {
+        if v.get() < self.reach {
+            self.lists[v.get()].clear();
+            return;
+        }
+        self.lists[v.get()] = VertexSet::new(self.alloc);
+    }
+
+    pub(crate) fn copy(&self) -> Result<Sets, AllocError>
+        ensures same { IfOk result (λ copy. SameSetsAt self.now.lists copy.lists) }
+        ensures length { IfOk result (λ copy. length copy.lists ≡ length self.now.lists) }
+    {
+        Ok(Sets {
+            alloc: self.alloc,
+            lists: self.lists.clone()?,
+            reach: 0,
+        })
+    }
+
+    // A number above those of all sets and members.
+    pub(crate) fn end(&self) -> usize
+        ensures sets { length self.now.lists ≤ result }
+        ensures members { (v : ℕ) → IsBelow result (set_at self.now.lists v) }
+    {
+        let mut end = self.lists.len();
+        for set in &self.lists {
+            end = end.max(end_of(set));
+        }
+        end
+    }
+
+    // Takes the memory for sets and members below a bound.
+    pub(crate) fn reserve(&mut self, bound: usize) -> Result<(), AllocError>
+        ensures ok { OnOk result (bound ≤ self.new.reach) }
+        ensures grown { length self.old.lists ≤ length self.new.lists }
+        ensures same { SameSetsAt self.old.lists self.new.lists }
+        ensures reach { self.old.reach ≤ self.new.reach }
+    {
+        if bound <= self.reach {
+            return Ok(());
+        }
+        grow(&mut self.lists, self.alloc, bound - 1)?;
+        reserve_each(&mut self.lists, bound)?;
+        self.reach = bound;
+        Ok(())
+    }
+
+    // Below which bound the room of a vertex's set is kept.
+    fn kept(&self, v: VertexId) -> usize
+        ensures room { result ≤ room_at self.now.lists v }
+        ensures below { v < self.now.reach → result ≡ self.now.reach }
+    {
+        if v.get() < self.reach { self.reach } else { 0 }
+    }
+}
+
+// Makes places up to a number.
+fn grow(lists: &mut Vec<VertexSet>, alloc: Global, number: usize) -> Result<(), AllocError>
+    ensures ok { OnOk result (number < length lists.new.items) }
+    ensures grown { length lists.old.items ≤ length lists.new.items }
+    ensures same { SameSetsAt lists.old.items lists.new.items }
+    ensures room { (p : ℕ) → room_at lists.old.items p ≤ room_at lists.new.items p }
+{
+    'grow: while lists.len() <= number {
+        lists.push(VertexSet::new(alloc))?;
+    }
+    Ok(())
+}
+
+// Gives each set room for all ids below a bound. Where memory runs out, some have it.
+fn reserve_each(lists: &mut [VertexSet], bound: usize) -> Result<(), AllocError>
+    ensures ok { OnOk result ((p : ℕ) → p < length lists.new → bound ≤ room_at lists.new p) }
+    ensures length { length lists.new ≡ length lists.old }
+    ensures same { SameSetsAt lists.old lists.new }
+    ensures room { (p : ℕ) → room_at lists.old p ≤ room_at lists.new p }
+{
+    for set in lists.iter_mut() {
+        set.reserve(bound)?;
+    }
+    Ok(())
+}
+
+// Toggles these in a set, whose room below a bound is kept.
+fn toggle_within(set: &mut VertexSet, kept: usize, members: &VertexSet) -> Result<(), AllocError>
+    requires { kept ≤ set.old.room }
+    ensures ok { OnOk result ((w : ℕ) →
+        member w set.new.ids ≡ xor (member w set.old.ids) (member w members.now.ids)) }
+    ensures err { OnErr result (set.new.ids ≡ set.old.ids) }
+    ensures keeps { kept ≤ set.new.room }
+    ensures has_room { IsBelow kept members.now.ids → IsOk result }
+{
+    if kept == 0 || members.first_from(kept).is_none() {
+        return set.toggle_all(members);
+    }
+    set.reserve(end_of(members))?;
+    set.toggle_all(members)
+}
+
+// Makes a vertex the only one of a set, whose room below a bound is kept.
+fn put_within(set: &mut VertexSet, kept: usize, id: VertexId) -> Result<(), AllocError>
+    requires { kept ≤ set.old.room }
+    ensures ok { OnOk result (set.new.ids ≡ id ∷ []) }
+    ensures keeps { kept ≤ set.new.room }
+    ensures has_room { id < kept → IsOk result }
+{
+    set.clear();
+    if kept == 0 || id.get() < kept {
+        return set.toggle(id);
+    }
+    match id.get().checked_add(1) {
+        Some(end) => set.reserve(end)?,
+        None => return Err(AllocError),
+    }
+    set.toggle(id)
+}
+
+// A number above those of all members.
+fn end_of(set: &VertexSet) -> usize
+    ensures { IsBelow result set.now.ids }
+{
+    let mut end = 0;
+    'rise: while let Some(id) = set.first_from(end) {
+        end = id.get() + 1;
+    }
+    end
+}

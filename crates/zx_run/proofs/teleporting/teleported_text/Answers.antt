@@ -1,0 +1,37 @@
+-- The circuit with teleported phases is what is written.
+use Rattle.std.proofs.Common.{◌∙◌, ap, map, rules, subst}
+use Rattle.std.proofs.lemmas.Result.{IfOk-weaker}
+use Rattle.zx_gates.specs.Circuit.{IsCircuit}
+use Rattle.zx_gates.specs.Maps.{amp}
+use Rattle.zx_model.proofs.ProportionalLemmas.{proportional_sym}
+use Rattle.zx_reduce.specs.Steps.{step_named}
+use Rattle.qasm_writer.specs.Written.{written}
+use Rattle.zx_run.proofs.OptimiseLemmas.{IsTeleportedText-written, measured_behind}
+use Rattle.zx_run.proofs.teleporting.teleported_text.Goals as goal
+
+pub returns : goal.returns
+returns c = λ text accepted.
+    let from = c.in_ok-lowered.lowered in
+    let lowered = c.in_ok-lowered.ensures in
+    let found = c.in_ok-teleported.teleported in
+    let made = c.in_ok-teleported.ensures in
+    let circuit = found.gates in
+    IfOk-weaker c.write_text.result _ _
+    (λ output h. IsTeleportedText-written text output.items c.args.read.now from circuit accepted lowered.qubits lowered.list lowered.map lowered.odd
+    (record {
+      qubits = made.qubits;
+      skeleton = made.skeleton;
+      map = proportional_sym from.qubits from.qubits (amp circuit.gates) (amp from.gates) made.map;
+      odd = made.fewer;
+      reduced = record {
+        steps = map step_named found.trace.steps;
+        end = found.reduced.graph;
+        run = made.run;
+        reduced = made.reduced;
+        odd = made.odd;
+      };
+    })
+    (subst IsCircuit c.gates.view_is c.gates.invariant.circuit)
+    (measured_behind c.args.read.now circuit c.requires (made.qubits ∙ lowered.qubits))
+    (h ∙ ap (written circuit c.args.read.now.bits) (search rules)))
+    c.write_text.ensures.text

@@ -1,0 +1,6 @@
+mod Turning
+mod Carrying
+mod Negating
+mod Grouped
+mod Written
+mod Results

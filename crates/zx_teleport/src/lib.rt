@@ -1,0 +1,27 @@
+//! Teleported phases: the graph of a circuit is simplified, and from this it is seen which phases of
+//! the circuit may be put together, while all other gates stay where they are.
+//!
+//! Proved of `teleport`: it answers a circuit on as many qubits, with the gates of the read one in
+//! their places but for phase gates, which have other phases or are gone; the linear map is the read
+//! one's up to a number other than 0; the steps that it tells lead from the graph of the read circuit
+//! to the reduced graph that it tells; no more phases are odd than in that graph, nor than were read.
+//!
+//! The steps of the simplification are done once more on the first graph, and noted: which phases
+//! each negates, and where that of a vertex goes that goes itself. Backwards through the notes it is
+//! told for each vertex who holds its phase at the end, and with which sign.
+//!
+//! ```rust
+//! let found = teleport(alloc, &circuit)?;
+//! ```
+#![tactic(auto)]
+
+mod fates;
+mod groups;
+#[cfg(test)]
+mod maps;
+mod notes;
+mod teleporting;
+#[cfg(test)]
+mod tests;
+
+pub use teleporting::{Teleported, teleport};
