@@ -13,8 +13,6 @@
 #![tactic(auto)]
 
 mod laws;
-#[cfg(test)]
-mod tests;
 mod translation;
 mod wires;
 

@@ -14,15 +14,11 @@
 mod classes;
 mod ends;
 mod form;
-#[cfg(test)]
-mod form_tests;
 mod homes;
 mod laws;
 mod marks;
 mod near;
 mod phases;
-#[cfg(test)]
-mod tests;
 mod vertices;
 
 pub use classes::least_spiders;

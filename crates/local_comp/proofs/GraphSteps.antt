@@ -19,18 +19,6 @@ use Rattle.zx_calculus.proofs.Steps.{after_step}
 use Rattle.gflow_laws.specs.Flow.{Correction, order_of, IsFlow}
 use Rattle.gflow_laws.proofs.Rewriting.{measured_listed}
 
--- a set of all neighbours serves for the list of them
-pub toggled_among : (g h : Graph) (u : ℕ) (near : List ℕ) → WellFormed g → ((p : ℕ) → member p near ≡ joined g.edges u p) →
-    IsToggled g (among near) h → IsToggled g (among (neighbours g u)) h
-toggled_among g h u near w tells c = record {
-  vertices = c.vertices;
-  edges = λ p q n. c.edges p q n ∙ ap₂ (λ a b. xor (joined g.edges p q) (a && b)) (same p) (same q);
-  frame = c.frame;
-}
-  where
-    same : (p : ℕ) → member p near ≡ member p (neighbours g u)
-    same p = tells p ∙ sym (member-neighbours g u p w)
-
 -- edges, then the neighbours, then the vertex itself
 pub complement_step : (g h : Graph) (u : ℕ) → WellFormed g → Live g u → Interior g u →
     IsToggled g (among (neighbours g u)) h →

@@ -1,18 +1,20 @@
 //! The local complement about a vertex.
 
-ghost use Rattle.std.specs.Prelude.{◌≡◌, true, OnOk, OnErr};
+ghost use Rattle.std.specs.Prelude.{◌≡◌, true, IsOk, OnOk, OnErr};
 ghost use Rattle.zx_model.specs.Bits.{member};
-ghost use Rattle.zx_calculus.specs.Graph.{neighbours, plane_of, Live, Interior, WellFormed};
+ghost use Rattle.zx_calculus.specs.Graph.{ids, plane_of, Live, Interior, WellFormed};
 ghost use Rattle.zx_calculus.specs.Steps.{allowed, IsStep, LocalComplement};
 ghost use Rattle.zx_calculus.specs.Edits.{at_vertex};
-ghost use Rattle.zx_calculus.specs.Toggles.{IsToggled, among, with_changed};
+ghost use Rattle.zx_calculus.specs.Toggles.{with_changed};
 ghost use Rattle.zx_calculus.specs.Turns.{in_plane, complemented};
+ghost use Rattle.zx_bits.specs.Sets.{IsBelow};
 ghost use Rattle.gflow_laws.specs.Seen.{seen};
-ghost use Rattle.gflow_laws.specs.Flow.{order_of, IsFlow, SameSets};
+ghost use Rattle.gflow_laws.specs.Flow.{order_of, set_of, IsFlow, SameSets};
 ghost use Rattle.gflow_laws.specs.Complements.{complement_table};
 ghost use Rattle.gflow_laws.specs.Correcting.{odd_in};
 ghost use Rattle.gflow_laws.specs.Rewritten.{IsRewritten};
 ghost use Rattle.open_graph.specs.Planes.{plane_named};
+ghost use Rattle.zx_flow.specs.Flows.{HaveReach};
 
 use crate::neighbours::turn_neighbours;
 use open_graph::{OpenGraph, Plane, VertexId};
@@ -22,8 +24,33 @@ use zx_model::Sixteenth;
 
 /// A local complement about an interior vertex: each edge between two of its neighbours comes where
 /// there is none and goes where there is one, each neighbour turns by a quarter, and the vertex
-/// gets a change of its own. Where memory runs out, graph and flow stay as they were.
+/// gets a change of its own. Where memory runs out, graph and flow stay as they were; where all
+/// vertices are below the reach of both, none is needed.
 pub fn local_complement(g: &mut OpenGraph, f: &mut Flow, u: VertexId) -> Result<(), AllocError>
+    requires flow { IsFlow g.old.graph f.old.flow }
+    requires allowed { allowed g.old.graph (LocalComplement u) ≡ true }
+    ensures rewritten { OnOk result
+        (IsRewritten g.old.graph f.old.flow (LocalComplement u) g.new.graph f.new.flow) }
+    ensures err { OnErr result ((g.new.graph ≡ g.old.graph) × (f.new.flow ≡ f.old.flow)) }
+    ensures has_room { HaveReach g.old f.old → IsOk result }
+    ensures spare { HaveReach g.old f.old →
+        (g.new.spare ≡ g.old.spare) × (f.new.spare ≡ f.old.spare) }
+    ensures reach { HaveReach g.old f.old →
+        (g.new.reach ≡ g.old.reach) × (f.new.reach ≡ f.old.reach) }
+    ensures valid { WellFormed g.new.graph }
+{
+    if f.has_reach(g) {
+        return local_complement_in_place(g, f, u);
+    }
+    local_complement_in_copies(g, f, u)
+}
+
+// The same on copies, which then take the place of graph and flow.
+fn local_complement_in_copies(
+    g: &mut OpenGraph,
+    f: &mut Flow,
+    u: VertexId,
+) -> Result<(), AllocError>
     requires flow { IsFlow g.old.graph f.old.flow }
     requires allowed { allowed g.old.graph (LocalComplement u) ≡ true }
     ensures rewritten { OnOk result
@@ -47,7 +74,8 @@ pub fn may_complement(g: &OpenGraph, u: VertexId) -> bool
     g.is_live(u) && g.is_interior(u)
 }
 
-/// As `local_complement`, but where memory runs out, graph and flow may be any.
+/// As `local_complement`, but where memory runs out, graph and flow may be any. Where all vertices
+/// are below the reach of both, none is needed.
 pub fn local_complement_in_place(
     g: &mut OpenGraph,
     f: &mut Flow,
@@ -57,19 +85,26 @@ pub fn local_complement_in_place(
     requires allowed { allowed g.old.graph (LocalComplement u) ≡ true }
     ensures rewritten { OnOk result
         (IsRewritten g.old.graph f.old.flow (LocalComplement u) g.new.graph f.new.flow) }
+    ensures has_room { HaveReach g.old f.old → IsOk result }
+    ensures spare { OnOk result ((g.new.spare ≡ g.old.spare) × (f.new.spare ≡ f.old.spare)) }
+    ensures reach { (g.new.reach ≡ g.old.reach) × (f.new.reach ≡ f.old.reach) }
 {
     complement_sets(f, g, u)?;
     local_complement_in_graph(g, u)
 }
 
-/// The graph's part of `local_complement`: where memory runs out, the graph may be any.
+/// The graph's part of `local_complement`: where memory runs out, the graph may be any. Where all its
+/// vertices are below its reach, none is needed.
 pub fn local_complement_in_graph(g: &mut OpenGraph, u: VertexId) -> Result<(), AllocError>
     requires { allowed g.old.graph (LocalComplement u) ≡ true }
     ensures step { OnOk result (IsStep g.old.graph (LocalComplement u) g.new.graph) }
+    ensures has_room { IsBelow g.old.reach (ids g.old.graph.vertices) → IsOk result }
+    ensures spare { OnOk result (g.new.spare ≡ g.old.spare) }
+    ensures reach { g.new.reach ≡ g.old.reach }
     ensures was_valid { WellFormed g.old.graph }
     ensures valid { WellFormed g.new.graph }
 {
-    toggle_neighbours(g, u)?;
+    g.toggle_neighbours(u)?;
     turn_neighbours(g, u);
     complement_own(g, u);
     Ok(())
@@ -79,16 +114,19 @@ pub fn local_complement_in_graph(g: &mut OpenGraph, u: VertexId) -> Result<(), A
 fn complement_sets(f: &mut Flow, g: &OpenGraph, u: VertexId) -> Result<(), AllocError>
     requires live { Live g.now.graph u }
     requires there { member u (order_of f.old.flow) ≡ true }
-    ensures { OnOk result (SameSets f.new.flow (complement_table (seen g.now.graph) u f.old.flow)) }
+    ensures sets { OnOk result (SameSets f.new.flow (complement_table (seen g.now.graph) u f.old.flow)) }
+    ensures has_room { IsBelow f.old.reach (order_of f.old.flow) →
+        IsBelow f.old.reach (set_of f.old.flow u) → IsOk result }
+    ensures spare { f.new.spare ≡ f.old.spare }
+    ensures reach { f.new.reach ≡ f.old.reach }
 {
     let changes = changes_plane(g, u);
-    let own = f.copy_of_correction(u)?;
     for i in 0..f.order().len() {
         let v = f.vertex_at(i);
         let is_odd = f.odd_has(g, v, u);
-        f.complement_set(u, v, &own, changes, is_odd)?;
+        f.complement_set(u, v, changes, is_odd)?;
     }
-    Ok(())
+    f.complement_own(u, changes)
 }
 
 // Whether a local complement about a vertex changes its plane.
@@ -102,23 +140,13 @@ fn changes_plane(g: &OpenGraph, u: VertexId) -> bool
     }
 }
 
-// Toggles each edge between two neighbours of a vertex.
-fn toggle_neighbours(g: &mut OpenGraph, u: VertexId) -> Result<(), AllocError>
-    requires { Live g.old.graph u }
-    ensures toggled { let near = neighbours g.old.graph u in
-        OnOk result (IsToggled g.old.graph (among near) g.new.graph) }
-    ensures was_valid { WellFormed g.old.graph }
-    ensures valid { WellFormed g.new.graph }
-{
-    let near = g.neighbour_set(u).clone()?;
-    g.toggle_among(&near)
-}
-
 // What a local complement about a vertex makes of its own plane and phase.
 fn complement_own(g: &mut OpenGraph, u: VertexId)
     requires live { Live g.old.graph u }
     requires interior { Interior g.old.graph u }
     ensures own { g.new.graph ≡ with_changed (at_vertex u complemented) g.old.graph }
+    ensures spare { g.new.spare ≡ g.old.spare }
+    ensures reach { g.new.reach ≡ g.old.reach }
     ensures valid { WellFormed g.new.graph }
 {
     let (plane, phase) = g.weight(u);

@@ -1,12 +1,13 @@
 //! The deletion of a vertex of half turns.
 
-ghost use Rattle.std.specs.Prelude.{◌≡◌, true, OnOk, OnErr};
+ghost use Rattle.std.specs.Prelude.{◌≡◌, ◌+◌, true, IsOk, OnOk, OnErr};
 ghost use Rattle.zx_calculus.specs.Graph.{joined, phase_of, Live, WellFormed};
 ghost use Rattle.zx_calculus.specs.Steps.{allowed, Delete, IsStep};
 ghost use Rattle.zx_calculus.specs.Deletions.{delete_kind};
 ghost use Rattle.zx_calculus.specs.Toggles.{with_changed};
 ghost use Rattle.gflow_laws.specs.Flow.{IsFlow};
 ghost use Rattle.gflow_laws.specs.Rewritten.{IsRewritten};
+ghost use Rattle.zx_flow.specs.Flows.{HaveReach};
 
 use crate::neighbours::turn_neighbours;
 use open_graph::{OpenGraph, Plane, VertexId};
@@ -15,8 +16,29 @@ use zx_flow::Flow;
 use zx_model::Sixteenth;
 
 /// Deletes an XZ or YZ vertex of phase 0 or of a half turn, which then each of its neighbours
-/// gets. Where memory runs out, graph and flow stay as they were.
+/// gets. Where memory runs out, graph and flow stay as they were; where all vertices are below the
+/// reach of both, none is needed.
 pub fn delete(g: &mut OpenGraph, f: &mut Flow, u: VertexId) -> Result<(), AllocError>
+    requires flow { IsFlow g.old.graph f.old.flow }
+    requires allowed { allowed g.old.graph (Delete u) ≡ true }
+    ensures rewritten { OnOk result
+        (IsRewritten g.old.graph f.old.flow (Delete u) g.new.graph f.new.flow) }
+    ensures err { OnErr result ((g.new.graph ≡ g.old.graph) × (f.new.flow ≡ f.old.flow)) }
+    ensures has_room { HaveReach g.old f.old → IsOk result }
+    ensures spare { HaveReach g.old f.old →
+        (g.new.spare ≡ g.old.spare + 1) × (f.new.spare ≡ f.old.spare + 1) }
+    ensures reach { HaveReach g.old f.old →
+        (g.new.reach ≡ g.old.reach) × (f.new.reach ≡ f.old.reach) }
+    ensures valid { WellFormed g.new.graph }
+{
+    if f.has_reach(g) {
+        return delete_in_place(g, f, u);
+    }
+    delete_in_copies(g, f, u)
+}
+
+// The same on copies, which then take the place of graph and flow.
+fn delete_in_copies(g: &mut OpenGraph, f: &mut Flow, u: VertexId) -> Result<(), AllocError>
     requires flow { IsFlow g.old.graph f.old.flow }
     requires allowed { allowed g.old.graph (Delete u) ≡ true }
     ensures rewritten { OnOk result
@@ -44,12 +66,17 @@ pub fn may_delete(g: &OpenGraph, u: VertexId) -> bool
     !matches!(plane, Plane::XY) && phase.is_half_turns()
 }
 
-/// As `delete`, but where memory runs out, graph and flow may be any.
+/// As `delete`, but where memory runs out, graph and flow may be any. Where all vertices are below the
+/// reach of both, none is needed.
 pub fn delete_in_place(g: &mut OpenGraph, f: &mut Flow, u: VertexId) -> Result<(), AllocError>
     requires flow { IsFlow g.old.graph f.old.flow }
     requires allowed { allowed g.old.graph (Delete u) ≡ true }
     ensures rewritten { OnOk result
         (IsRewritten g.old.graph f.old.flow (Delete u) g.new.graph f.new.flow) }
+    ensures has_room { HaveReach g.old f.old → IsOk result }
+    ensures spare { OnOk result
+        ((g.new.spare ≡ g.old.spare + 1) × (f.new.spare ≡ f.old.spare + 1)) }
+    ensures reach { (g.new.reach ≡ g.old.reach) × (f.new.reach ≡ f.old.reach) }
 {
     delete_in_graph(g, u);
     f.eliminate(u)
@@ -59,6 +86,8 @@ pub fn delete_in_place(g: &mut OpenGraph, f: &mut Flow, u: VertexId) -> Result<(
 pub fn delete_in_graph(g: &mut OpenGraph, u: VertexId)
     requires { allowed g.old.graph (Delete u) ≡ true }
     ensures step { IsStep g.old.graph (Delete u) g.new.graph }
+    ensures spare { g.new.spare ≡ g.old.spare + 1 }
+    ensures reach { g.new.reach ≡ g.old.reach }
     ensures was_valid { WellFormed g.old.graph }
     ensures valid { WellFormed g.new.graph }
 {
@@ -71,6 +100,8 @@ fn pass_half_turn(g: &mut OpenGraph, u: VertexId)
     requires { Live g.old.graph u }
     ensures turned { let near = joined g.old.graph.edges u in
         g.new.graph ≡ with_changed (delete_kind (phase_of g.old.graph u) near) g.old.graph }
+    ensures spare { g.new.spare ≡ g.old.spare }
+    ensures reach { g.new.reach ≡ g.old.reach }
     ensures was_valid { WellFormed g.old.graph }
 {
     let (_, phase) = g.weight(u);

@@ -6,7 +6,9 @@
 //! phases don't rise; want of memory leaves both as they were.
 //! `may_complement` and `may_delete` tell exactly where each is allowed. `local_complement_in_place`
 //! and `delete_in_place` make the same change without copies; where memory runs out they say nothing.
-//! `local_complement_in_graph` and `delete_in_graph` change the graph alone, by the same step.
+//! `local_complement_in_graph` and `delete_in_graph` change the graph alone, by the same step. Where
+//! all vertices are below the reach of graph and flow, none of these takes memory, and what both have
+//! memory for stays.
 //!
 //! ```rust
 //! if may_complement(&graph, u) {

@@ -1,3 +1,4 @@
 pub mod Orders
 pub mod Ranks
 pub mod Candidates
+pub mod Demand

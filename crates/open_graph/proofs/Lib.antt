@@ -7,5 +7,6 @@ pub mod SlotLemmas
 pub mod Keeping
 pub mod Removing
 pub mod RowToggles
+pub mod NearLemmas
 pub mod RoomLemmas
 pub mod ReachLemmas

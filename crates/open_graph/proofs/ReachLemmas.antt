@@ -3,6 +3,7 @@ use Rattle.std.proofs.Common.{◌≡◌, ◌≢◌, refl, sym, ◌∙◌, ap, su
 use Rattle.std.proofs.lemmas.Bool.{cases_eq, cases_lt, false≢true}
 use Rattle.std.proofs.lemmas.List.{get_or-set_same, get_or-set_other, get_or_past}
 use Rattle.open_graph.specs.declared.slot.Slot.{Slot}
+use Rattle.open_graph.specs.declared.scratch.Scratch.{Scratch}
 use Rattle.open_graph.specs.VertexSets.{VertexSet}
 use Rattle.zx_model.specs.Bits.{member}
 use Rattle.zx_calculus.specs.Graph.{End, Graph}
@@ -214,6 +215,10 @@ gone old new v rows removed =
     none_of_dead (slice_index_or new v None)
     (ap (λ t. t.live) (removed v) ∙ ap (λ b. (cond b nothing (cond (member v rows) (without_neighbour v (told old v)) (told old v))).live) (eq-eqb v v refl))
 
+-- the row of what stands in a place
+pub row_at : (xs : List (Option Slot)) (u at : ℕ) (t : Slot) → at ≡ u → slice_index_or xs at None ≡ Some t → (told xs u).row ≡ t.row.ids
+row_at xs u at t same here = ap (λ o. (told_by o).row) (ap (λ q. slice_index_or xs q None) (sym same) ∙ here)
+
 -- where no row is kept
 pub no_room : (xs : List (Option Slot)) (kept : List VertexSet) → kept ≡ [] → HasRoom 0 xs kept
 no_room xs kept none =
@@ -224,12 +229,13 @@ no_room xs kept none =
     }
 
 -- the same vertices in as many places or more
-pub kept_same : (xs ys : List (Option Slot)) (inputs outputs : List End) (kept : List VertexSet) (reach : ℕ) → IsKept xs inputs outputs kept reach →
-    ((p : ℕ) → slice_index_or ys p None ≡ slice_index_or xs p None) → IsKept ys inputs outputs kept reach
-kept_same xs ys inputs outputs kept reach is same =
+pub kept_same : (xs ys : List (Option Slot)) (inputs outputs : List End) (kept : List VertexSet) (scratch : Scratch) (reach : ℕ) → IsKept xs inputs outputs kept scratch reach →
+    ((p : ℕ) → slice_index_or ys p None ≡ slice_index_or xs p None) → IsKept ys inputs outputs kept scratch reach
+kept_same xs ys inputs outputs kept scratch reach is same =
     record {
       sound = (becomes_same xs ys inputs outputs is.sound (λ p. ap told_by (same p))).sound;
       room = room_grown reach xs ys kept kept (λ p lt. let eq = ap (λ o. room_with o (row_kept kept p)) (same p) in omega (arith, eq)) (omega arith) is.room.empty is.room;
+      scratch = is.scratch;
     }
 
 abbrev empty_graph : Graph

@@ -1,5 +1,5 @@
 -- Rows toggled one after the other, until the graph is symmetric again.
-use Rattle.std.proofs.Common.{◌≡◌, refl, sym, ◌∙◌, ap, ap₂, subst, ℕ, Bool, true, false, ◌&&◌, eqb, ltb, List, Option, Some, None, IsSome, slice_index_or, true≢false, ne_eqb}
+use Rattle.std.proofs.Common.{◌≡◌, refl, sym, ◌∙◌, ap, ap₂, subst, ℕ, Bool, true, false, ◌&&◌, ◌||◌, eqb, ltb, List, ◌∷◌, Option, Some, None, IsSome, slice_index_or, true≢false, ne_eqb}
 use Rattle.zx_model.specs.Bits.{xor, member}
 use Rattle.std.specs.List.{list_all}
 use Rattle.zx_model.specs.Phase.{turn}
@@ -25,6 +25,22 @@ rows_then a b c picked more all first second sum = record {
   rows = λ p q. second.rows p q ∙ ap (λ x. xor x (more p q)) (first.rows p q)
       ∙ regrouped (adjacent a p q) (picked p q) (more p q) (all p q) (sum p q);
 }
+
+-- the same pairs, told otherwise
+pub rows_alike : (old new : List (Option Slot)) (picked same : ℕ → ℕ → Bool) → RowsToggled old new picked →
+    ((p q : ℕ) → picked p q ≡ same p q) → RowsToggled old new same
+rows_alike old new picked same toggled alike = record {
+  others = toggled.others;
+  rows = λ p q. toggled.rows p q ∙ ap (xor (adjacent old p q)) (alike p q);
+}
+
+-- a vertex and its neighbours have slots
+pub closed_live : (slots : List (Option Slot)) (u q : ℕ) → IsSome (slice_index_or slots u None) →
+    ((p q : ℕ) → adjacent slots p q ≡ true → IsSome (slice_index_or slots q None)) →
+    member q (u ∷ (told slots u).row) ≡ true → IsSome (slice_index_or slots q None)
+closed_live slots u q live near there =
+    by_equal q u (λ t e. subst (λ p. IsSome (slice_index_or slots p None)) (sym e) live)
+    (λ f n. near u q (ap (λ b. b || member q (told slots u).row) (sym f) ∙ there))
 
 live_of_some : (slot : Option Slot) → IsSome slot → (told_by slot).live ≡ true
 live_of_some None there = absurd (true≢false (sym there))

@@ -3,10 +3,10 @@
 //! Proved: each call makes its one named change of the graph's lists, and all else stays; the graph
 //! stays well-formed; a new id is the least that no vertex has; readers tell the lists, neighbours
 //! and vertices by rising id; a copy has the same lists; want of memory leaves them as they were,
-//! but leaves no vertex where it stops `toggle_across` or `toggle_among`, which toggle whole rows. A
-//! graph tells how many vertices it takes without memory, and its reach, below which any edges are
-//! toggled without memory; a set of vertices tells below which bound it takes any id without memory;
-//! `reserve` raises each, and no call lowers a reach.
+//! but leaves no vertex where it stops one of the calls that toggle whole rows. A graph tells how
+//! many vertices it takes without memory, and its reach, below which any edges are toggled without
+//! memory; a set of vertices tells below which bound it takes any id without memory; `reserve` raises
+//! each, and no call lowers a reach.
 //!
 //! ```rust
 //! let mut g = OpenGraph::new(alloc);
@@ -21,6 +21,7 @@ mod id;
 mod ids;
 mod open_graph;
 mod plane;
+mod scratch;
 mod side;
 mod slot;
 mod slot_table;

@@ -1,6 +1,6 @@
 //! Open graphs.
 
-ghost use Rattle.std.specs.Prelude.{◌≡◌, ◌≢◌, ◌<◌, ◌≤◌, ◌+◌, ◌-◌, ◌++◌, ℕ, [], ◌∷◌, true, false, length, slice_set, remove, is_some, slice_get};
+ghost use Rattle.std.specs.Prelude.{◌≡◌, ◌≢◌, ◌↔◌, ◌<◌, ◌≤◌, ◌+◌, ◌-◌, ◌++◌, ℕ, [], ◌∷◌, true, false, length, slice_set, remove, is_some, slice_get};
 ghost use Rattle.std.specs.Prelude.{IsOk, IfOk, OnOk, OnErr, IfSome};
 ghost use Rattle.zx_model.specs.Bits.{member};
 ghost use Rattle.zx_calculus.specs.Graph.{ids, kind_of, plane_of, joined, end_vertices, insert_vertex, with_kinds, Live, WellFormed, Interior, is_interior};
@@ -19,6 +19,7 @@ use crate::end::End;
 use crate::id::VertexId;
 use crate::ids::Ids;
 use crate::plane::Plane;
+use crate::scratch::Scratch;
 use crate::side::{self, Side};
 use crate::slot::Slot;
 use crate::slot_table::SlotTable;
@@ -39,6 +40,8 @@ pub struct OpenGraph {
     outputs: Vec<End>,
     // Empty rows, from which those of the ids below the reach that no vertex has are taken.
     kept: Vec<VertexSet>,
+    // Sets that calls fill, with room for all ids below the reach.
+    scratch: Scratch,
     // Each id below it has a row, of its vertex or kept, with room for all ids below it.
     reach: usize,
 }
@@ -58,7 +61,7 @@ impl Model for OpenGraph {
     } };
 
     ghost invariant = { λ g.
-        IsKept g.slots.slots g.inputs.items g.outputs.items g.kept.items g.reach };
+        IsKept g.slots.slots g.inputs.items g.outputs.items g.kept.items g.scratch g.reach };
 }
 
 impl OpenGraph {
@@ -72,6 +75,7 @@ impl OpenGraph {
             inputs: Vec::new(alloc),
             outputs: Vec::new(alloc),
             kept: Vec::new(alloc),
+            scratch: Scratch::new(alloc),
             reach: 0,
         }
     }
@@ -236,6 +240,66 @@ impl OpenGraph {
         Ok(())
     }
 
+    /// Toggles each edge between two neighbours of a vertex. Where memory runs out the graph is left
+    /// empty, with its reach; where its neighbours are below the reach none is needed.
+    pub fn toggle_neighbours(&mut self, u: VertexId) -> Result<(), AllocError>
+        requires { Live self.old.graph u }
+        ensures ok { OnOk result
+            (IsToggled self.old.graph (among (zx.neighbours self.old.graph u)) self.new.graph) }
+        ensures err { OnErr result (self.new.graph ≡
+            record { vertices = []; edges = []; inputs = []; outputs = [] }) }
+        ensures room { OnOk result (self.new.spare ≡ self.old.spare) }
+        ensures keeps_spare { self.old.spare ≤ self.new.spare }
+        ensures reach { self.new.reach ≡ self.old.reach }
+        ensures has_room { IsBelow self.old.reach (zx.neighbours self.old.graph u) → IsOk result }
+        ensures was_valid { WellFormed self.old.graph }
+        ensures valid { WellFormed self.new.graph }
+    {
+        if let Err(error) = slots::toggle_near(&mut self.slots, &mut self.scratch, self.reach, u) {
+            // Some edges may stand in one of their two rows alone.
+            slots::clear(&mut self.slots, &mut self.kept);
+            self.inputs.clear();
+            self.outputs.clear();
+            return Err(error);
+        }
+        Ok(())
+    }
+
+    /// Toggles each edge between u or a neighbour of it and v or a neighbour of it: twice, so not at
+    /// all, where it is one either way round. Where memory runs out the graph is left empty, with its
+    /// reach; below the reach none is needed.
+    pub fn toggle_around(&mut self, u: VertexId, v: VertexId) -> Result<(), AllocError>
+        requires u_live { Live self.old.graph u }
+        requires v_live { Live self.old.graph v }
+        ensures ok { let near = u ∷ zx.neighbours self.old.graph u in
+            let far = v ∷ zx.neighbours self.old.graph v in
+            OnOk result (IsToggled self.old.graph (across near far) self.new.graph) }
+        ensures err { OnErr result (self.new.graph ≡
+            record { vertices = []; edges = []; inputs = []; outputs = [] }) }
+        ensures room { OnOk result (self.new.spare ≡ self.old.spare) }
+        ensures keeps_spare { self.old.spare ≤ self.new.spare }
+        ensures reach { self.new.reach ≡ self.old.reach }
+        ensures has_room { IsBelow self.old.reach (u ∷ zx.neighbours self.old.graph u) →
+            IsBelow self.old.reach (v ∷ zx.neighbours self.old.graph v) → IsOk result }
+        ensures was_valid { WellFormed self.old.graph }
+        ensures valid { WellFormed self.new.graph }
+    {
+        if let Err(error) = slots::toggle_around(
+            &mut self.slots,
+            &mut self.scratch,
+            self.reach,
+            u,
+            v,
+        ) {
+            // Some edges may stand in one of their two rows alone.
+            slots::clear(&mut self.slots, &mut self.kept);
+            self.inputs.clear();
+            self.outputs.clear();
+            return Err(error);
+        }
+        Ok(())
+    }
+
     /// Gives a vertex another plane and phase. A vertex with an end stays XY.
     pub fn set_weight(&mut self, v: VertexId, plane: Plane, phase: Sixteenth)
         requires live { Live self.old.graph v }
@@ -283,6 +347,7 @@ impl OpenGraph {
         let reach = reach.max(self.reach);
         self.slots.reserve(vertices)?;
         slots::reserve(&mut self.slots, &mut self.kept, self.alloc, reach)?;
+        self.scratch.reserve(reach)?;
         self.reach = reach;
         Ok(())
     }
@@ -299,6 +364,7 @@ impl OpenGraph {
             inputs: Vec::from_slice(self.alloc, &self.inputs)?,
             outputs: Vec::from_slice(self.alloc, &self.outputs)?,
             kept: Vec::new(self.alloc),
+            scratch: Scratch::new(self.alloc),
             reach: 0,
         })
     }
@@ -442,6 +508,24 @@ impl OpenGraph {
         ensures valid { WellFormed self.now.graph }
     {
         self.slots.first_from(start).map(VertexId::new)
+    }
+
+    /// The bound below which edges are toggled without memory.
+    pub fn reach(&self) -> usize
+        ensures { result ≡ self.now.reach }
+    {
+        self.reach
+    }
+
+    /// Whether the ids of all vertices are below a bound.
+    pub fn is_below(&self, bound: usize) -> bool
+        ensures value { (result ≡ true) ↔ IsBelow bound (ids self.now.graph.vertices) }
+        ensures valid { WellFormed self.now.graph }
+    {
+        match self.vertex_from(bound) {
+            Some(_) => false,
+            None => true,
+        }
     }
 
     // What is kept of a vertex.

@@ -1,6 +1,6 @@
 //! Changes of one slot.
 
-ghost use Rattle.std.specs.Prelude.{◌≡◌, ◌≢◌, ◌<◌, ◌+◌, ◌-◌, ◌≤◌, ◌==◌, ◌&&◌, ℕ, [], Some, None, true, false, length, IsOk, IfOk, OnOk, OnErr};
+ghost use Rattle.std.specs.Prelude.{◌≡◌, ◌≢◌, ◌<◌, ◌+◌, ◌-◌, ◌≤◌, ◌==◌, ◌&&◌, ℕ, [], ◌∷◌, Some, None, true, false, length, IsOk, IfOk, OnOk, OnErr};
 ghost use Rattle.zx_model.specs.Bits.{member};
 ghost use Rattle.open_graph.specs.Internal.Table.{slot_at, HasSlot};
 ghost use Rattle.zx_calculus.specs.Turns.{in_plane};
@@ -9,7 +9,7 @@ ghost use Rattle.zx_calculus.proofs.Ids.{removed};
 ghost use Rattle.zx_calculus.proofs.EditPrograms.{toggled};
 ghost use Rattle.open_graph.specs.Planes.{plane_named};
 ghost use Rattle.open_graph.specs.Internal.Rows.{inserted};
-ghost use Rattle.open_graph.specs.Internal.Room.{vacant_in, room_by, HasRows, KeepsRoom, room_at, row_kept, AreEmpty, HasRoom};
+ghost use Rattle.open_graph.specs.Internal.Room.{vacant_in, room_by, HasRows, KeepsRoom, room_at, row_kept, AreEmpty, HasRoom, CanHold};
 ghost use Rattle.open_graph.specs.Internal.Slots.{nothing, told, adjacent};
 ghost use Rattle.open_graph.specs.Internal.Sides.{with_place};
 ghost use Rattle.open_graph.specs.Internal.Changes.{Puts, SameTold, Keeps, RemovedFrom, RowsToggled, two_among};
@@ -18,6 +18,7 @@ ghost use Rattle.zx_bits.specs.Sets.{IsBelow};
 
 use crate::id::VertexId;
 use crate::plane::Plane;
+use crate::scratch::Scratch;
 use crate::side::Side;
 use crate::slot::Slot;
 use crate::slot_table::SlotTable;
@@ -260,6 +261,92 @@ pub(crate) fn toggle_among(
         toggle_itself(slots, p)?;
     }
     Ok(())
+}
+
+// Makes a set that of the neighbours of a vertex.
+fn copy_row(
+    slots: &SlotTable,
+    reach: usize,
+    u: VertexId,
+    set: &mut VertexSet,
+) -> Result<(), AllocError>
+    requires live { HasSlot slots.now u }
+    requires near_live { (q : ℕ) → adjacent slots.now.slots u q ≡ true → HasSlot slots.now q }
+    ensures members { OnOk result ((q : ℕ) →
+        member q set.new.ids ≡ adjacent slots.now.slots u q) }
+    ensures has_room { reach ≤ set.old.room → IsBelow reach (told slots.now.slots u).row →
+        IsOk result }
+    ensures keeps_room { reach ≤ set.old.room → reach ≤ set.new.room }
+{
+    let end = slots.len();
+    set.copy_within(&slots[u.get()].row, reach, end)
+}
+
+// Makes a set that of a vertex and its neighbours.
+fn copy_row_and_itself(
+    slots: &SlotTable,
+    reach: usize,
+    u: VertexId,
+    set: &mut VertexSet,
+) -> Result<(), AllocError>
+    requires live { HasSlot slots.now u }
+    requires near_live { (q : ℕ) → adjacent slots.now.slots u q ≡ true → HasSlot slots.now q }
+    requires no_loop { adjacent slots.now.slots u u ≡ false }
+    ensures members { OnOk result ((q : ℕ) →
+        member q set.new.ids ≡ member q (u ∷ (told slots.now.slots u).row)) }
+    ensures has_room { reach ≤ set.old.room → u < reach →
+        IsBelow reach (told slots.now.slots u).row → IsOk result }
+    ensures keeps_room { reach ≤ set.old.room → reach ≤ set.new.room }
+{
+    copy_row(slots, reach, u, set)?;
+    set.insert_within(u, reach)
+}
+
+// Toggles the edge of each pair of neighbours of a vertex, in both rows. Where memory runs out, the
+// rows may be any.
+pub(crate) fn toggle_near(
+    slots: &mut SlotTable,
+    scratch: &mut Scratch,
+    reach: usize,
+    u: VertexId,
+) -> Result<(), AllocError>
+    requires live { HasSlot slots.old u }
+    requires near_live { (q : ℕ) → adjacent slots.old.slots u q ≡ true → HasSlot slots.old q }
+    ensures toggled { OnOk result (RowsToggled slots.old.slots slots.new.slots
+        (two_among (told slots.old.slots u).row)) }
+    ensures room { KeepsRoom reach slots.old.slots slots.new.slots }
+    ensures holds { CanHold reach scratch.old → CanHold reach scratch.new }
+    ensures has_room { CanHold reach scratch.old → HasRows reach slots.old.slots →
+        IsBelow reach (told slots.old.slots u).row → IsOk result }
+{
+    copy_row(slots, reach, u, &mut scratch.near)?;
+    toggle_among(slots, reach, &scratch.near)
+}
+
+// Toggles the edge of each pair across two vertices with their neighbours, in both rows. Where
+// memory runs out, the rows may be any.
+pub(crate) fn toggle_around(
+    slots: &mut SlotTable,
+    scratch: &mut Scratch,
+    reach: usize,
+    u: VertexId,
+    v: VertexId,
+) -> Result<(), AllocError>
+    requires u_live { HasSlot slots.old u }
+    requires v_live { HasSlot slots.old v }
+    requires near_live { (p q : ℕ) → adjacent slots.old.slots p q ≡ true → HasSlot slots.old q }
+    requires no_loop { (p : ℕ) → adjacent slots.old.slots p p ≡ false }
+    ensures toggled { OnOk result (RowsToggled slots.old.slots slots.new.slots
+        (across (u ∷ (told slots.old.slots u).row) (v ∷ (told slots.old.slots v).row))) }
+    ensures room { KeepsRoom reach slots.old.slots slots.new.slots }
+    ensures holds { CanHold reach scratch.old → CanHold reach scratch.new }
+    ensures has_room { CanHold reach scratch.old → HasRows reach slots.old.slots →
+        IsBelow reach (u ∷ (told slots.old.slots u).row) →
+        IsBelow reach (v ∷ (told slots.old.slots v).row) → IsOk result }
+{
+    copy_row_and_itself(slots, reach, u, &mut scratch.near)?;
+    copy_row_and_itself(slots, reach, v, &mut scratch.far)?;
+    toggle_across(slots, reach, &scratch.near, &scratch.far)
 }
 
 // Whether a vertex stands among the neighbours of another.

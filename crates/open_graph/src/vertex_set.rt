@@ -184,6 +184,23 @@ impl VertexSet {
         self.toggle_all(other)
     }
 
+    // Makes it another set, all of whose ids are below an end, and keeps room for all ids below a
+    // bound. Where memory runs out, it has no vertices.
+    pub(crate) fn copy_within(
+        &mut self,
+        other: &VertexSet,
+        bound: usize,
+        end: usize,
+    ) -> Result<(), AllocError>
+        requires { IsBelow end other.now.ids }
+        ensures ok { OnOk result ((w : ℕ) → member w self.new.ids ≡ member w other.now.ids) }
+        ensures has_room { IsBelow bound other.now.ids → bound ≤ self.old.room → IsOk result }
+        ensures keeps_room { bound ≤ self.old.room → bound ≤ self.new.room }
+    {
+        self.clear();
+        self.toggle_all_within(other, bound, end)
+    }
+
     // Adds a vertex that isn't in the set. Where memory runs out, the set is as it was.
     fn insert(&mut self, id: VertexId) -> Result<(), AllocError>
         requires { member id self.old.ids ≡ false }

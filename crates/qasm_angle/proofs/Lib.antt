@@ -7,3 +7,6 @@ pub mod SignificandLemmas
 pub mod LiteralLemmas
 pub mod LowestLemmas
 pub mod ShortCuts
+pub mod CrossLemmas
+pub mod SumLemmas
+pub mod BinaryLemmas

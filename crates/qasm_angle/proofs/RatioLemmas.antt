@@ -1,8 +1,8 @@
 -- Lowest terms and their limit.
-use Rattle.std.proofs.Common.{◌≡◌, ℕ, zero, suc, ◌/◌, ◌<◌, ◌≤◌, ◌⊎◌, ℤ, pos, negsuc, ◌*ℤ◌, nat_abs, Some, None, Bool, true, false, refl, sym, inl, inr, arith}
+use Rattle.std.proofs.Common.{◌≡◌, ℕ, zero, suc, ◌/◌, ◌<◌, ◌≤◌, ◌⊎◌, ℤ, pos, negsuc, nat_abs, Some, None, Bool, true, false, refl, sym, inl, inr, arith}
 use Rattle.std.specs.Prelude.{int_lt}
-use Rattle.std.proofs.lemmas.Int.{to_z-of_z, fits_signed_from_abs, unsigned_abs-mul}
-use Rattle.std.proofs.Math.Nat.{mul-pos}
+use Rattle.std.proofs.lemmas.Int.{to_z-of_z, fits_signed_from_abs}
+use Rattle.std.proofs.Math.Nat.{div-le_self}
 use mir.Val.{SFits, of_z, to_z}
 use mir.Syntax.{w64}
 use Rattle.qasm_angle.specs.Ratio.{Ratio, gcd, lowest, limited, largest, signed, is_zero, IsFraction}
@@ -33,6 +33,9 @@ module _ (a : ℤ) (b size g : ℕ) (negative : Bool) (is_size : size ≡ nat_ab
   terms : lowest a b ≡ record { numerator = signed negative (size / g); denominator = b / g }
   terms = rw (lowest-signed, sign, divisor, is_size) refl
 
+  pub are_terms : (above : ℤ) → above ≡ signed negative (size / g) → ◌≡◌ {A = Ratio} (record { numerator = above; denominator = b / g }) (lowest a b)
+  are_terms above e = rw (e, terms) refl
+
   pub limited_terms : (above : ℤ) → above ≡ signed negative (size / g) → size / g ≤ largest → b / g ≤ largest → Some (record { numerator = above; denominator = b / g }) ≡ limited (lowest a b)
   limited_terms above e p q = rw (e, terms) (sym (limited-some _ (rw nat_abs-signed p) q))
 
@@ -48,16 +51,16 @@ module _ (a : ℤ) (b size g : ℕ) (negative : Bool) (is_size : size ≡ nat_ab
     small_denominator = q;
   }
 
+-- a part of a number is no larger
+pub quotient_small : (n g : ℕ) → n ≤ largest → n / g ≤ largest
+quotient_small n g p = omega (arith, div-le_self n g)
+
 -- a number of at most that size fits
 pub SFits-signed : (negative : Bool) (size : ℕ) → size ≤ largest → SFits w64 (signed negative size)
 SFits-signed negative size h = fits_signed_from_abs w64 _ (rw nat_abs-signed (omega arith))
 
 pub signed_same : (negative : Bool) (size : ℕ) → size ≤ largest → to_z w64 (of_z w64 (signed negative size)) ≡ signed negative size
 signed_same negative size h = to_z-of_z w64 _ (SFits-signed negative size h)
-
--- a product of factors other than 0 is other than 0
-pub nonzero_product : (a b : ℤ) → 0 < nat_abs a → 0 < nat_abs b → 0 < nat_abs (a *ℤ b)
-nonzero_product a b p q = rw unsigned_abs-mul (mul-pos p q)
 
 pub SFits-small : (a : ℤ) → nat_abs a ≤ largest → SFits w64 a
 SFits-small a h = fits_signed_from_abs w64 a (omega arith)

@@ -1,14 +1,14 @@
--- Sums, products and quotients that need no greatest common divisor, or a smaller one.
-use Rattle.std.proofs.Common.{◌≡◌, ℕ, suc, ◌*◌, ◌<◌, ◌≤◌, ◌⊎◌, inl, inr, false, ℤ, pos, negsuc, ◌+ℤ◌, ◌*ℤ◌, nat_abs, Some, sym, ◌∙◌, ap, ap₂, subst, arith}
+-- Sums and products that need no greatest common divisor, or a smaller one.
+use Rattle.std.proofs.Common.{◌≡◌, ℕ, ◌*◌, ◌<◌, ◌≤◌, ◌⊎◌, inl, inr, ℤ, pos, ◌+ℤ◌, ◌*ℤ◌, nat_abs, Some, sym, ◌∙◌, ap, ap₂, subst, arith}
 use Rattle.std.proofs.Math.IntN.{*ℤ_comm, zero-*ℤ, *ℤ-zero, +ℤ_comm, +ℤ_idr}
 use Rattle.std.proofs.lemmas.Int.{to_z-of_z}
 use mir.Val.{of_z, to_z}
 use mir.Syntax.{w64}
 use Rattle.std.proofs.Math.Nat.{mul-pos, mul_comm, one-mul}
 use Rattle.zx_model.proofs.Whole.{mul_assoc, add-mul}
-use Rattle.qasm_angle.specs.Ratio.{Ratio, gcd, lowest, limited, largest, whole, is_zero, over, sum, product, quotient, IsFraction}
+use Rattle.qasm_angle.specs.Ratio.{Ratio, gcd, lowest, limited, largest, whole, sum, product, IsFraction}
 use Rattle.qasm_angle.proofs.LowestLemmas.{lowest_pos, lowest_coprime, lowest_same, lowest_unique, factor_cancels}
-use Rattle.qasm_angle.proofs.RatioLemmas.{limited-some, nonzero_product, nonzero_numerator, SFits-small}
+use Rattle.qasm_angle.proofs.RatioLemmas.{limited-some, SFits-small}
 
 swap : (x y z : ℤ) → (x *ℤ y) *ℤ z ≡ (x *ℤ z) *ℤ y
 swap x y z = mul_assoc x y z ∙ ap (λ n. x *ℤ n) (*ℤ_comm y z) ∙ sym (mul_assoc x z y)
@@ -31,10 +31,13 @@ lowest-common a b m p q =
     lowest_unique first second (lowest_pos (a *ℤ pos m) (b * m) both) (lowest_pos a b p) (lowest_coprime (a *ℤ pos m) (b * m) both) (lowest_coprime a b p)
     (factor_cancels _ _ (b * m) both (left ∙ middle ∙ sym right))
 
--- a fraction in lowest terms stays
+-- numbers without a common divisor stay
+pub lowest-apart : (x : Ratio) → 0 < x.denominator → gcd (nat_abs x.numerator) x.denominator ≡ 1 → lowest x.numerator x.denominator ≡ x
+lowest-apart x p e =
+    lowest_unique (lowest x.numerator x.denominator) x (lowest_pos _ _ p) p (lowest_coprime _ _ p) e (lowest_same _ _ p)
+
 lowest-fraction : (x : Ratio) → IsFraction x → lowest x.numerator x.denominator ≡ x
-lowest-fraction x f =
-    lowest_unique (lowest x.numerator x.denominator) x (lowest_pos _ _ f.positive) f.positive (lowest_coprime _ _ f.positive) f.lowest (lowest_same _ _ f.positive)
+lowest-fraction x f = lowest-apart x f.positive f.lowest
 
 -- a machine's number that is 0
 pub of_nothing : (a : ℤ) → nat_abs a ≤ largest → of_z w64 a ≡ 0 → a ≡ pos 0
@@ -84,15 +87,3 @@ product-nothing x y p q (inr h) =
     sym (ap (λ n. limited (lowest (x.numerator *ℤ n) (x.denominator * y.denominator))) h
     ∙ ap (λ n. limited (lowest n (x.denominator * y.denominator))) (*ℤ-zero x.numerator)
     ∙ ap limited (nothing (x.denominator * y.denominator) (mul-pos p q)))
-
-over-nothing : (b : ℤ) → 0 < nat_abs b → over (pos 0) b ≡ whole (pos 0)
-over-nothing (pos b) p = nothing b p
-over-nothing (negsuc b) p = nothing (suc b) p
-
-pub quotient-nothing : (x y : Ratio) → 0 < x.denominator → is_zero y ≡ false → x.numerator ≡ pos 0 →
-    Some (whole (pos 0)) ≡ limited (quotient x y)
-unfolding limited
-quotient-nothing x y p some h =
-    sym (ap (λ n. limited (over (n *ℤ pos y.denominator) (pos x.denominator *ℤ y.numerator))) h
-    ∙ ap (λ n. limited (over n (pos x.denominator *ℤ y.numerator))) (zero-*ℤ (pos y.denominator))
-    ∙ ap limited (over-nothing (pos x.denominator *ℤ y.numerator) (nonzero_product (pos x.denominator) y.numerator p (nonzero_numerator y some))))

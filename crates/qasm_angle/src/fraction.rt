@@ -1,7 +1,7 @@
 //! Fractions in lowest terms.
 
-ghost use Rattle.std.specs.Prelude.{◌≡◌, ◌*◌, ◌<◌, ◌≤◌, false, pos, ◌*ℤ◌, unsigned_abs};
-ghost use Rattle.qasm_angle.specs.Ratio.{gcd, lowest, over, limited, largest, whole, is_zero, opposite, sum, product, quotient, signed, IsFraction};
+ghost use Rattle.std.specs.Prelude.{◌≡◌, ◌*◌, ◌%◌, ◌^◌, ◌<◌, ◌≤◌, false, pos, ◌*ℤ◌, unsigned_abs};
+ghost use Rattle.qasm_angle.specs.Ratio.{Ratio, gcd, lowest, limited, largest, whole, is_zero, opposite, sum, product, quotient, signed, IsFraction};
 
 use std::marker::Model;
 
@@ -113,15 +113,21 @@ impl Fraction {
         )
     }
 
-    // The sum over the product of the denominators.
+    // The sum over the least common multiple of the denominators. What divides both terms of it divides what the
+    // denominators share.
     fn cross_sum(self, other: Fraction) -> Option<Fraction>
         ensures { result ≡ limited (sum self other) }
     {
-        let left = cross(self.numerator, other.denominator as i64);
-        let right = cross(other.numerator, self.denominator as i64);
-        reduced(
-            left + right,
-            u128::from(self.denominator) * u128::from(other.denominator),
+        let shared = gcd_of_words(self.denominator, other.denominator);
+        let left = self.denominator / shared;
+        let right = other.denominator / shared;
+        let above = cross(self.numerator, right as i64) + cross(other.numerator, left as i64);
+        let rest = above.unsigned_abs() % u128::from(shared);
+        let divisor = gcd_of_words(shared, rest as u64);
+        divided(
+            above,
+            u128::from(left) * u128::from(other.denominator),
+            u128::from(divisor),
         )
     }
 
@@ -129,11 +135,16 @@ impl Fraction {
     pub fn checked_mul(self, other: Fraction) -> Option<Fraction>
         ensures { result ≡ limited (product self other) }
     {
-        let below = u128::from(self.denominator) * u128::from(other.denominator);
         if self.numerator == 0 || other.numerator == 0 {
             return Some(Fraction::zero());
         }
-        reduced(cross(self.numerator, other.numerator), below)
+        // With exchanged denominators they have the same product, which is in lowest terms once they are.
+        let left = lowest_words(self.numerator, other.denominator);
+        let right = lowest_words(other.numerator, self.denominator);
+        within(
+            cross(left.numerator, right.numerator),
+            u128::from(left.denominator) * u128::from(right.denominator),
+        )
     }
 
     /// The quotient, or none where it is past the limit.
@@ -141,12 +152,50 @@ impl Fraction {
         requires { is_zero other ≡ false }
         ensures { result ≡ limited (quotient self other) }
     {
-        let denominator = cross(self.denominator as i64, other.numerator);
-        if self.numerator == 0 {
-            return Some(Fraction::zero());
-        }
-        reduced_over(cross(self.numerator, other.denominator as i64), denominator)
+        self.checked_mul(other.inverse())
     }
+
+    // The fraction by which a product is the quotient by this one.
+    fn inverse(self) -> Fraction
+        requires { is_zero self ≡ false }
+        ensures { (x : Ratio) → 0 < x.denominator → product x result ≡ quotient x self }
+    {
+        Fraction {
+            numerator: signed(self.numerator < 0, u128::from(self.denominator)),
+            denominator: self.numerator.unsigned_abs(),
+        }
+    }
+}
+
+// The quotient of two numbers of fractions in lowest terms.
+fn lowest_words(numerator: i64, denominator: u64) -> Fraction
+    requires positive { 0 < denominator }
+    requires numerator { unsigned_abs numerator ≤ largest }
+    requires denominator { denominator ≤ largest }
+    ensures { result ≡ lowest numerator denominator }
+{
+    let size = numerator.unsigned_abs();
+    let divisor = gcd_of_words(size, denominator);
+    let above = size / divisor;
+    Fraction {
+        numerator: signed(numerator < 0, u128::from(above)),
+        denominator: denominator / divisor,
+    }
+}
+
+// The quotient of two numbers without a common divisor, or none where it is past the limit.
+fn within(numerator: i128, denominator: u128) -> Option<Fraction>
+    requires positive { 0 < denominator }
+    requires lowest { gcd (unsigned_abs numerator) denominator ≡ 1 }
+    ensures { result ≡ limited (lowest numerator denominator) }
+{
+    if numerator.unsigned_abs() > LARGEST || denominator > LARGEST {
+        return None;
+    }
+    Some(Fraction {
+        numerator: numerator as i64,
+        denominator: denominator as u64,
+    })
 }
 
 // The product of two numbers of a fraction.
@@ -159,28 +208,26 @@ pub(crate) fn cross(a: i64, b: i64) -> i128
     i128::from(a) * i128::from(b)
 }
 
-// The quotient of two whole numbers in lowest terms, or none where it is past the limit.
-fn reduced_over(numerator: i128, denominator: i128) -> Option<Fraction>
-    requires nonzero { 0 < unsigned_abs denominator }
-    requires small { unsigned_abs numerator ≤ largest * largest }
-    ensures { result ≡ limited (over numerator denominator) }
-{
-    let size = denominator.unsigned_abs();
-    if denominator < 0 {
-        reduced(-numerator, size)
-    } else {
-        reduced(numerator, size)
-    }
-}
-
 // The quotient of a whole number and a natural number in lowest terms, or none where it is past the limit.
 pub(crate) fn reduced(numerator: i128, denominator: u128) -> Option<Fraction>
     requires { 0 < denominator }
     ensures { result ≡ limited (lowest numerator denominator) }
 {
-    let size = numerator.unsigned_abs();
-    let divisor = gcd(size, denominator);
-    let above = size / divisor;
+    divided(
+        numerator,
+        denominator,
+        gcd(numerator.unsigned_abs(), denominator),
+    )
+}
+
+// The quotient of a whole number and a natural number, both divided by their greatest common divisor, or none where it
+// is past the limit.
+fn divided(numerator: i128, denominator: u128, divisor: u128) -> Option<Fraction>
+    requires positive { 0 < denominator }
+    requires divisor { divisor ≡ gcd (unsigned_abs numerator) denominator }
+    ensures { result ≡ limited (lowest numerator denominator) }
+{
+    let above = numerator.unsigned_abs() / divisor;
     let below = denominator / divisor;
     if above > LARGEST || below > LARGEST {
         return None;
@@ -217,16 +264,74 @@ pub(crate) fn gcd(a: u128, b: u128) -> u128
     u128::from(gcd_of_words(smaller as u64, (larger % smaller) as u64))
 }
 
-// The greatest common divisor of numbers that fit into a word of the machine.
+// The greatest common divisor of numbers that fit into a word of the machine. After two divisions, which serve where one
+// of them is small, it goes on by differences: these are quicker than divisions.
 fn gcd_of_words(a: u64, b: u64) -> u64
     ensures { result ≡ gcd a b }
 {
-    let mut larger = a;
-    let mut smaller = b;
-    while smaller > 0 {
-        let rest = larger % smaller;
-        larger = smaller;
-        smaller = rest;
+    if b == 0 {
+        return a;
     }
-    larger
+    let rest = a % b;
+    if rest == 0 {
+        return b;
+    }
+    let last = b % rest;
+    if last == 0 {
+        return rest;
+    }
+    gcd_of_halves(halves_of(rest), halves_of(last))
+}
+
+// A number other than 0, as a power of 2 times an odd number.
+#[derive(Clone, Copy)]
+struct Halves {
+    // The exponent.
+    twos: u32,
+    // The odd number.
+    odd: u64,
+}
+
+// The number as a power of 2 times an odd number.
+fn halves_of(number: u64) -> Halves
+    requires { 0 < number }
+    ensures value { 2 ^ result.twos * result.odd ≡ number }
+    ensures odd { result.odd % 2 ≡ 1 }
+    ensures twos { result.twos < 64 }
+{
+    let twos = number.trailing_zeros();
+    Halves {
+        twos,
+        odd: number >> twos,
+    }
+}
+
+// The greatest common divisor of such numbers that fit into a word.
+fn gcd_of_halves(a: Halves, b: Halves) -> u64
+    requires odd { (a.odd % 2 ≡ 1) × (b.odd % 2 ≡ 1) }
+    requires twos { (a.twos < 64) × (b.twos < 64) }
+    requires fits { (2 ^ a.twos * a.odd < 2 ^ 64) × (2 ^ b.twos * b.odd < 2 ^ 64) }
+    ensures { result ≡ gcd (2 ^ a.twos * a.odd) (2 ^ b.twos * b.odd) }
+{
+    let odd = gcd_of_odd(a.odd, b.odd);
+    if a.twos < b.twos {
+        odd << a.twos
+    } else {
+        odd << b.twos
+    }
+}
+
+// The greatest common divisor of odd numbers.
+fn gcd_of_odd(a: u64, b: u64) -> u64
+    requires { (a % 2 ≡ 1) × (b % 2 ≡ 1) }
+    ensures { result ≡ gcd a b }
+{
+    let mut left = a;
+    let mut right = b;
+    while left != right {
+        let apart = halves_of(left.abs_diff(right));
+        left = left.min(right);
+        right = apart.odd;
+    }
+    left
 }

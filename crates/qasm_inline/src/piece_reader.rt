@@ -101,21 +101,20 @@ impl<'a> PieceReader<'a> {
     }
 
     // What is answered where no bad byte was found before.
-    fn last_answer(self) -> Result<Elementary, TextError>
+    fn last_answer(mut self) -> Result<Elementary, TextError>
         ensures { (text : List ℕ) → IsReadOff self.entry text → IsTextAnswer text result }
     {
+        let told = self.read_on();
         let PieceReader {
-            alloc,
             unread,
-            place,
-            mut words,
+            words,
             reader,
             ..
         } = self;
-        match place.checked_add(unread.len()) {
-            Some(_) => reader.read_last(alloc, &mut words, &unread, place),
-            None => Err(TextError::NoMemory),
-        }
+        // The circuit takes their place.
+        drop(unread);
+        drop(words);
+        reader.answer(told)
     }
 
     // Takes the next bytes, where memory hasn't run out. Behind a bad byte they are passed over.

@@ -5,7 +5,6 @@ ghost use Rattle.std.specs.List.{All};
 ghost use Rattle.std.specs.Borrow.{Bor};
 ghost use Rattle.zx_gates.specs.Elementary.{IsElementary};
 ghost use Rattle.qasm_lexer.specs.declared.token.Token.{Token};
-ghost use Rattle.qasm_lexer.specs.Taken.{IsLineBegun};
 ghost use Rattle.qasm_lexer.specs.TokenLists.{moved};
 ghost use Rattle.qasm_lexer.specs.Tokens.{Lexeme, lexemes, IsCut, IsBadByte};
 ghost use Rattle.qasm_reader.specs.Depth.{too_deep, IsDepth};
@@ -16,7 +15,7 @@ ghost use Rattle.qasm_scope.specs.declared.causes.Cause.{Cause};
 ghost use Rattle.qasm_scope.specs.Meaning.{Means, first_fault, most_calls};
 ghost use Rattle.qasm_scope.specs.Texts.{IsProgramText};
 ghost use Rattle.qasm_inline.specs.Circuits.{HasTaken};
-ghost use Rattle.qasm_inline.specs.Internal.Readings.{AreAllTaken, AreTaken, IsCertain, IsEnd, IsKept, IsReadAs, IsTakenAs, IsProgramAnswer, IsNextOf, Keeps, IsTakenNext, IsTextAnswer, ReadsOn, TakesIn, inside};
+ghost use Rattle.qasm_inline.specs.Internal.Readings.{AreAllTaken, AreTaken, IsCertain, IsEnd, IsKept, IsReadAs, IsTakenAs, IsProgramAnswer, IsNextOf, IsReadTo, Keeps, IsTakenNext, IsTextAnswer, ReadsOn, TakesIn, inside};
 
 use crate::circuit::{Circuit, OpenGate};
 use crate::error::{InlineError, TextError};
@@ -57,7 +56,9 @@ pub fn read(alloc: Global, text: &[u8]) -> Result<Elementary, TextError>
 {
     let arena = Bump::new(alloc);
     let mut words = Words::new(alloc, &arena);
-    Reader::new(alloc).read_last(alloc, &mut words, text, 0)
+    let mut reader = Reader::new(alloc);
+    let told = reader.read_text(alloc, &mut words, text, 0);
+    reader.answer(told)
 }
 
 // The reader of a text, which goes through it batch by batch.
@@ -83,25 +84,6 @@ impl<'a> Reader<'a> {
             tokens: Vec::new(alloc),
             depth: Depth::start(),
             fault: None,
-        }
-    }
-
-    // What is answered of a text whose last lines are these, which stand so many bytes further on.
-    pub(crate) fn read_last(
-        mut self,
-        alloc: Global,
-        words: &mut Words<'a>,
-        lines: &[u8],
-        from: usize,
-    ) -> Result<Elementary, TextError>
-        requires { from + length lines.now < 2 ^ 64 }
-        ensures { (all : List Lexeme) (text : List ℕ) → IsLineBegun all lines.now from text
-            → Keeps all self.entry → IsTextAnswer text result }
-    {
-        match self.read_text(alloc, words, lines, from) {
-            Ok(()) => self.finish(),
-            Err(LexError::BadByte { at }) => Err(TextError::BadByte { at }),
-            Err(LexError::NoMemory) => Err(TextError::NoMemory),
         }
     }
 
@@ -188,12 +170,25 @@ impl<'a> Reader<'a> {
         }
     }
 
-    // What is answered where the text is over.
+    // What is answered where the text is over, by what its last lines were told to be.
+    pub(crate) fn answer(self, told: Result<(), LexError>) -> Result<Elementary, TextError>
+        ensures { (text : List ℕ) → IsReadTo text self.entry told → IsTextAnswer text result }
+    {
+        match told {
+            Ok(()) => self.finish(),
+            Err(LexError::BadByte { at }) => Err(TextError::BadByte { at }),
+            Err(LexError::NoMemory) => Err(TextError::NoMemory),
+        }
+    }
+
+    // What is answered where the whole text is read.
     fn finish(self) -> Result<Elementary, TextError>
         ensures { (text : List ℕ) (all : List Lexeme) → IsCut 0 text all → Keeps all self.entry
             → IsTextAnswer text result }
     {
         let fault = self.last_fault();
+        // The circuit takes its place.
+        drop(self.tokens);
         ended(self.depth, fault, self.reading.circuit)
     }
 

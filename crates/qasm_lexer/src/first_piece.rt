@@ -55,6 +55,7 @@ fn word_bytes(text: &[u8]) -> usize
 }
 
 // Digits at the start, or a real.
+#[inline(always)]
 fn number_piece(text: &[u8]) -> (Sort, usize)
     ensures { result ≡ number_piece text.now }
 {
@@ -136,6 +137,7 @@ fn inside(rest: &[u8]) -> usize
 }
 
 // A sign that is a byte which begins no longer sign and no comment.
+#[inline(always)]
 fn plain_piece(byte: u8) -> Option<(Sort, usize)>
     ensures { result ≡ plain_piece byte }
 {

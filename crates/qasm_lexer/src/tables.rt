@@ -102,6 +102,7 @@ fn same(word: &[u8], text: &[u8]) -> bool
 }
 
 // The sign of one byte.
+#[inline(always)]
 pub(crate) fn short_sign(byte: u8) -> Option<TokenKind>
     ensures { result ≡ kind_in signs (byte ∷ []) }
 {

@@ -11,8 +11,6 @@
 #![tactic(auto)]
 
 mod laws;
-#[cfg(test)]
-mod tests;
 mod writer;
 
 pub use laws::written_texts_mean_their_circuits;

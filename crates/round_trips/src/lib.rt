@@ -1,12 +1,24 @@
-//! Circuits through graphs and rewrites, and back into gates. There is no running code: tests alone, of what several
-//! crates make of one circuit.
+//! Circuits into graphs, through rewrites, and back into gates. There is no running code: tests alone, of what several
+//! crates make of one circuit, of extraction and of teleported phases by themselves.
 #![tactic(auto)]
 
 #[cfg(test)]
+mod extraction;
+#[cfg(test)]
+mod few_rows;
+#[cfg(test)]
+mod found_flows;
+#[cfg(test)]
 mod modular;
+#[cfg(test)]
+mod replays;
 #[cfg(test)]
 mod sums;
 #[cfg(test)]
+mod teleported;
+#[cfg(test)]
 mod tests;
+#[cfg(test)]
+mod translations;
 #[cfg(test)]
 mod trips;

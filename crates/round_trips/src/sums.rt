@@ -2,7 +2,7 @@
 //! anew. A matrix has its entries by the bits of the inputs and then by those of the outputs; the
 //! first qubit has the lowest bit.
 
-use crate::modular::{MODULUS, plus, root_power, sign, times};
+use crate::modular::{plus, root_power, sign, times};
 use open_graph::{End, OpenGraph, Plane, VertexId};
 use std::alloc::Global;
 use std::process::Abort;
@@ -12,20 +12,20 @@ use zx_model::Sixteenth;
 
 pub type Matrix = [[u64; 4]; 4];
 
-// Whether the first matrix is the second one times a number other than 0.
+// Whether the first matrix is the second one, which isn't 0, times a number other than 0.
 pub fn are_proportional(first: &Matrix, second: &Matrix) -> bool {
-    for factor in 1..MODULUS {
-        if is_multiple(first, second, factor) {
-            return true;
+    for x in 0..4 {
+        if second[0][x] != 0 {
+            return first[0][x] != 0 && are_in_ratio(first, second, first[0][x], second[0][x]);
         }
     }
     false
 }
 
-fn is_multiple(first: &Matrix, second: &Matrix, factor: u64) -> bool {
+fn are_in_ratio(first: &Matrix, second: &Matrix, one: u64, other: u64) -> bool {
     for x in 0..4 {
         for y in 0..4 {
-            if first[x][y] != times(factor, second[x][y]) {
+            if times(first[x][y], other) != times(second[x][y], one) {
                 return false;
             }
         }

@@ -61,15 +61,23 @@ fn reduced(alloc: Global, circuit: &GateList) -> Result<(OpenGraph, Flow), Fail>
     ensures { IfOk result (λ made. IsFlow made.0.graph made.1.flow) }
 {
     let (mut graph, mut flow) = translate(alloc, circuit)?;
-    reduce_counted::<Brand>(Blank::new(1), alloc, &mut graph, &mut flow)?;
+    reduce_traced(&mut graph, &mut flow, &mut Trace::new(alloc))?;
     Ok((graph, flow))
+}
+
+// Simplifies a graph with its flow; the trace gains the steps.
+pub fn reduce_traced(graph: &mut OpenGraph, flow: &mut Flow, trace: &mut Trace) -> Result<(), Fail>
+    requires { IsFlow graph.old.graph flow.old.flow }
+    ensures { OnOk result (IsFlow graph.new.graph flow.new.flow) }
+{
+    reduce_counted::<Brand>(Blank::new(1), graph, flow, trace)
 }
 
 fn reduce_counted<L: Ledger>(
     blank: Blank,
-    alloc: Global,
     graph: &mut OpenGraph,
     flow: &mut Flow,
+    trace: &mut Trace,
 ) -> Result<(), Fail>
     requires name { blank.name ≡ L.name }
     requires parts { blank.parts ≡ L.parts }
@@ -77,14 +85,13 @@ fn reduce_counted<L: Ledger>(
     requires flow { IsFlow graph.old.graph flow.old.flow }
     ensures { OnOk result (IsFlow graph.new.graph flow.new.flow) }
 {
-    let mut trace = Trace::new(alloc);
     let mut steps = Steps::<L>::new(blank);
-    reduce(graph, flow, &mut trace, &mut steps)?;
+    reduce(graph, flow, trace, &mut steps)?;
     Ok(())
 }
 
-// The circuit of gates H, Phase and Cz on two qubits.
-fn circuit(rt: &impl Abort, alloc: Global, gates: &[Gate]) -> Result<GateList, Fail> {
+// The circuit of these gates on two qubits.
+pub fn circuit(rt: &impl Abort, alloc: Global, gates: &[Gate]) -> Result<GateList, Fail> {
     let mut list = GateList::new(alloc, 2);
     for gate in gates {
         add(rt, &mut list, *gate)?;
@@ -92,7 +99,7 @@ fn circuit(rt: &impl Abort, alloc: Global, gates: &[Gate]) -> Result<GateList, F
     Ok(list)
 }
 
-fn add(rt: &impl Abort, list: &mut GateList, gate: Gate) -> Result<(), Fail> {
+pub fn add(rt: &impl Abort, list: &mut GateList, gate: Gate) -> Result<(), Fail> {
     let qubits = list.qubits();
     match gate {
         Gate::H(q) => {
@@ -107,13 +114,24 @@ fn add(rt: &impl Abort, list: &mut GateList, gate: Gate) -> Result<(), Fail> {
             assert!(rt; p < qubits && q < qubits && p != q);
             list.push(Gate::Cz(p, q))?;
         }
-        _ => assert!(rt; false),
+        Gate::Cx { control, target } => {
+            assert!(rt; control < qubits && target < qubits && control != target);
+            list.push(Gate::Cx { control, target })?;
+        }
+        Gate::Not(q) => {
+            assert!(rt; q < qubits);
+            list.push(Gate::Not(q))?;
+        }
     }
     Ok(())
 }
 
 // What steps make of a circuit's graph with its flow.
-fn rewritten(alloc: Global, circuit: &GateList, steps: &[Step]) -> Result<(OpenGraph, Flow), Fail>
+pub fn rewritten(
+    alloc: Global,
+    circuit: &GateList,
+    steps: &[Step],
+) -> Result<(OpenGraph, Flow), Fail>
     ensures { IfOk result (λ made. IsFlow made.0.graph made.1.flow) }
 {
     let (mut graph, mut flow) = translate(alloc, circuit)?;
@@ -124,7 +142,7 @@ fn rewritten(alloc: Global, circuit: &GateList, steps: &[Step]) -> Result<(OpenG
 }
 
 // A step is done, which keeps a flow.
-fn rewrite(graph: &mut OpenGraph, flow: &mut Flow, step: Step) -> Result<(), Fail>
+pub fn rewrite(graph: &mut OpenGraph, flow: &mut Flow, step: Step) -> Result<(), Fail>
     requires { IsFlow graph.old.graph flow.old.flow }
     ensures { OnOk result (IsFlow graph.new.graph flow.new.flow) }
 {

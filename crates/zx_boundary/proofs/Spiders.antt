@@ -1,6 +1,7 @@
 -- What holds once a spider was added.
-use Rattle.std.proofs.Common.{◌≡◌, ◌≢◌, refl, sym, ◌∙◌, ap, ap₂, ℕ, zero, suc, Bool, true, false, ◌&&◌, ◌||◌, eqb, List, [], ◌∷◌, remove, eqb-true, true≢false}
+use Rattle.std.proofs.Common.{◌≡◌, ◌≢◌, refl, sym, ◌∙◌, ap, ap₂, ℕ, zero, suc, ◌<◌, Bool, true, false, ◌&&◌, ◌||◌, eqb, List, [], ◌∷◌, remove, eqb-true, true≢false}
 use Rattle.zx_model.specs.Bits.{xor, member}
+use Rattle.zx_bits.specs.Sets.{IsBelow}
 use Rattle.zx_calculus.specs.Graph.{XY, Kind, End, Graph, ids, kind_of, plane_of, joined, end_vertices, insert_vertex, Live, OrderedEnds, WellFormed}
 use Rattle.zx_calculus.specs.Splits.{spider_of_phase_zero}
 use Rattle.zx_calculus.specs.Edits.{is_pair, IsToggle}
@@ -15,6 +16,13 @@ use Rattle.zx_boundary.specs.Internal.Spiders.{IsSpiderAdded}
 -- the vertex of an end is live
 pub end_live : (g : Graph) (ends : List End) (b : ℕ) → OrderedEnds g.vertices ends → member b (end_vertices ends) ≡ true → Live g b
 end_live g ends b o there = all_at (λ u. member u (ids g.vertices)) (end_vertices ends) b o.there there
+
+-- below a bound of all vertices and a new one
+pub new_below : (new : ℕ) (old : List ℕ) (reach : ℕ) → IsBelow reach (new ∷ old) → new < reach
+new_below new old reach below = below new (ap (λ c. c || member new old) (eqb-self new))
+
+pub old_below : (new : ℕ) (old : List ℕ) (reach : ℕ) → IsBelow reach (new ∷ old) → (b : ℕ) → member b old ≡ true → b < reach
+old_below new old reach below b there = below b (ap (λ c. eqb b new || c) there ∙ or-true (eqb b new))
 
 -- ---- g is the graph with the new vertex, before its edge
 module _ (old : Graph) (b new phase : ℕ) (g : Graph) (b_live : Live old b) (fresh : member new (ids old.vertices) ≡ false) (zero_phase : phase ≡ 0)

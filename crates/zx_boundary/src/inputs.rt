@@ -1,7 +1,8 @@
 //! The split of an input.
 
-ghost use Rattle.std.specs.Prelude.{◌≡◌, true, IfOk, OnOk, OnErr};
-ghost use Rattle.zx_calculus.specs.Graph.{WellFormed};
+ghost use Rattle.std.specs.Prelude.{◌≡◌, ◌<◌, ◌≤◌, ◌+◌, ◌-◌, ◌∷◌, true, IsOk, IfOk, OnOk, OnErr};
+ghost use Rattle.zx_bits.specs.Sets.{IsBelow};
+ghost use Rattle.zx_calculus.specs.Graph.{ids, WellFormed};
 ghost use Rattle.zx_calculus.specs.Splits.{new_vertex};
 ghost use Rattle.zx_calculus.specs.Steps.{allowed, IsStep, SplitInput};
 ghost use Rattle.gflow_laws.specs.Flow.{IsFlow};
@@ -42,7 +43,8 @@ pub fn may_split_input(g: &OpenGraph, b: VertexId) -> bool
     g.is_live(b) && g.input_at(b).is_some()
 }
 
-/// As `split_input`, but where memory runs out, graph and flow may be any.
+/// As `split_input`, but where memory runs out, graph and flow may be any. Where both can take a vertex
+/// more, and all vertices and the new one are below the reach of both, none is needed.
 pub fn split_input_in_place(g: &mut OpenGraph, f: &mut Flow, b: VertexId) -> Result<(), AllocError>
     requires flow { IsFlow g.old.graph f.old.flow }
     requires allowed { allowed g.old.graph (SplitInput b) ≡ true }
@@ -50,17 +52,28 @@ pub fn split_input_in_place(g: &mut OpenGraph, f: &mut Flow, b: VertexId) -> Res
         (IsRewritten g.old.graph f.old.flow (SplitInput b) g.new.graph f.new.flow) }
     ensures table { OnOk result (f.new.flow ≡
         split_input_table b (new_vertex g.old.graph) f.old.flow) }
+    ensures has_room { let all = new_vertex g.old.graph ∷ ids g.old.graph.vertices in
+        0 < g.old.spare → 0 < f.old.spare → IsBelow g.old.reach all → IsBelow f.old.reach all →
+        IsOk result }
+    ensures spare { OnOk result (g.new.spare ≡ g.old.spare - 1) }
+    ensures flow_spare { OnOk result (f.old.spare ≤ f.new.spare + 1) }
+    ensures reach { (g.new.reach ≡ g.old.reach) × (f.new.reach ≡ f.old.reach) }
 {
     let new = split_input_in_graph(g, b)?;
     f.add_first(new, b)
 }
 
 /// The graph's part of `split_input`, which answers the new vertex: where memory runs out, the
-/// graph may be any.
+/// graph may be any. Where it can take a vertex more, and all vertices and the new one are below its
+/// reach, none is needed.
 pub fn split_input_in_graph(g: &mut OpenGraph, b: VertexId) -> Result<VertexId, AllocError>
     requires { allowed g.old.graph (SplitInput b) ≡ true }
     ensures step { OnOk result (IsStep g.old.graph (SplitInput b) g.new.graph) }
     ensures new { IfOk result (λ new. new ≡ new_vertex g.old.graph) }
+    ensures has_room { let all = new_vertex g.old.graph ∷ ids g.old.graph.vertices in
+        0 < g.old.spare → IsBelow g.old.reach all → IsOk result }
+    ensures spare { OnOk result (g.new.spare ≡ g.old.spare - 1) }
+    ensures reach { g.new.reach ≡ g.old.reach }
     ensures was_valid { WellFormed g.old.graph }
     ensures valid { WellFormed g.new.graph }
 {

@@ -15,8 +15,6 @@
 
 mod diagram;
 mod spider;
-#[cfg(test)]
-mod tests;
 mod wire;
 
 pub use diagram::Diagram;

@@ -23,3 +23,4 @@ pub mod HoldersCounting
 pub mod HoldersAdding
 mod ChosenRows
 mod IndependentRows
+pub mod SimplifiedLemmas

@@ -1,4 +1,5 @@
 pub mod Choosing
 pub mod Extraction
 pub mod Independence
+pub mod Simplified
 pub mod Internal

@@ -18,8 +18,6 @@ mod choosing;
 mod crossing;
 mod extraction;
 mod few_rows;
-#[cfg(test)]
-mod few_rows_tests;
 mod frontier;
 mod gadgets;
 mod gathering;
@@ -27,8 +25,6 @@ mod holders;
 mod laws;
 mod settling;
 mod sharing;
-#[cfg(test)]
-mod tests;
 mod vertices;
 
 pub use extraction::extract;

@@ -5,3 +5,6 @@ pub mod TableChanges
 pub mod Toggles
 pub mod Walks
 pub mod Clearing
+pub mod Beside
+pub mod Below
+pub mod Answering

@@ -1,6 +1,9 @@
 -- What contracts see of a flow and of a table in memory.
 use Rattle.std.specs.Prelude.{◌≡◌, ◌⊎◌, ℕ, true, List}
 use Rattle.zx_model.specs.Bits.{member}
+use Rattle.zx_bits.specs.Sets.{IsBelow}
+use Rattle.zx_calculus.specs.Graph.{ids}
+use Rattle.open_graph.specs.OpenGraph.{OpenGraph}
 use Rattle.gflow_laws.specs.Flow.{Correction, order_of, set_of}
 
 -- its table; clauses say where it is a flow. So many vertices can be added without memory; and memory is
@@ -18,3 +21,7 @@ pub record FlowTable : Type 0 where
 abbrev pub IsNamed : List Correction → ℕ → Type 0
 IsNamed table v =
     (member v (order_of table) ≡ true) ⊎ ((u : ℕ) × (member v (set_of table u) ≡ true))
+
+-- all vertices of the graph are below its reach and that of the flow
+abbrev pub HaveReach : OpenGraph → Flow → Type 0
+HaveReach g f = IsBelow g.reach (ids g.graph.vertices) × IsBelow f.reach (ids g.graph.vertices)

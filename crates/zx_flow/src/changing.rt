@@ -1,6 +1,6 @@
 //! What rewrites make of the sets of a flow.
 
-ghost use Rattle.std.specs.Prelude.{◌≡◌, ◌<◌, ◌≤◌, ◌+◌, true, [], ◌∷◌, IsOk, OnOk, OnErr};
+ghost use Rattle.std.specs.Prelude.{◌≡◌, ◌<◌, ◌≤◌, ◌+◌, ℕ, true, List, [], ◌∷◌, IsOk, OnOk, OnErr};
 ghost use Rattle.zx_model.specs.Bits.{member};
 ghost use Rattle.gflow_laws.specs.Seen.{Seen, odd};
 ghost use Rattle.gflow_laws.specs.Flow.{order_of, set_of, is_in, SameSets};
@@ -8,46 +8,64 @@ ghost use Rattle.gflow_laws.specs.Removals.{removal_table};
 ghost use Rattle.gflow_laws.specs.Correcting.{odd_in};
 ghost use Rattle.gflow_laws.specs.Changes.{AreChanged, complement_change};
 ghost use Rattle.zx_bits.specs.Sets.{IsBelow};
+ghost use Rattle.zx_flow.specs.Changes.{beside_change};
 ghost use Rattle.zx_flow.specs.Internal.Clearing.{clearing_change};
 
 use crate::flow::Flow;
-use open_graph::{VertexId, VertexSet};
+use open_graph::VertexId;
 use std::alloc::AllocError;
 
 impl Flow {
-    /// What a local complement about u makes of the set of v, `own` being that of u: `changes` says
-    /// whether it changes the plane of u, `is_odd` whether u has an odd number of neighbours in the
-    /// set. Where memory runs out, a part of this is done.
+    /// What a local complement about u makes of the set of v, where v isn't u, whose own set still
+    /// stands: `changes` says whether it changes the plane of u, `is_odd` whether u has an odd number
+    /// of neighbours in the set. That needs no memory where v, u and the set of u lie below `reach`.
+    /// Where memory runs out, a part of this is done.
     pub fn complement_set(
         &mut self,
         u: VertexId,
         v: VertexId,
-        own: &VertexSet,
         changes: bool,
         is_odd: bool,
     ) -> Result<(), AllocError>
-        requires { member v (order_of self.old.flow) ≡ true }
+        requires u_there { member u (order_of self.old.flow) ≡ true }
+        requires v_there { member v (order_of self.old.flow) ≡ true }
         ensures sets { OnOk result ((s : Seen) → changes ≡ odd_in (s.plane u) →
-            is_odd ≡ odd s (is_in (set_of self.old.flow v)) u →
-            AreChanged (complement_change s u own.now.ids) (v ∷ []) self.old.flow self.new.flow) }
+            is_odd ≡ odd s (is_in (set_of self.old.flow v)) u → AreChanged
+            (beside_change s u (set_of self.old.flow u)) (v ∷ []) self.old.flow self.new.flow) }
+        ensures has_room { v < self.old.reach → u < self.old.reach →
+            IsBelow self.old.reach (set_of self.old.flow u) → IsOk result }
         ensures spare { self.new.spare ≡ self.old.spare }
         ensures reach { self.new.reach ≡ self.old.reach }
     {
         if v == u {
-            return if changes {
-                self.toggle_one(v, u)
-            } else {
-                Ok(())
-            };
+            return Ok(());
         }
         if !is_odd {
             return Ok(());
         }
-        self.toggle(v, own)?;
+        self.toggle_set(v, u)?;
         if changes {
             Ok(())
         } else {
             self.toggle_one(v, u)
+        }
+    }
+
+    /// What a local complement about u makes of its own set, once all others have changed: `changes`
+    /// says whether it changes the plane of u. That needs no memory where u lies below `reach`. Where
+    /// memory runs out the flow stays as it was.
+    pub fn complement_own(&mut self, u: VertexId, changes: bool) -> Result<(), AllocError>
+        requires { member u (order_of self.old.flow) ≡ true }
+        ensures sets { OnOk result ((s : Seen) → changes ≡ odd_in (s.plane u) → (own : List ℕ) →
+            AreChanged (complement_change s u own) (u ∷ []) self.old.flow self.new.flow) }
+        ensures has_room { u < self.old.reach → IsOk result }
+        ensures spare { self.new.spare ≡ self.old.spare }
+        ensures reach { self.new.reach ≡ self.old.reach }
+    {
+        if changes {
+            self.toggle_one(u, u)
+        } else {
+            Ok(())
         }
     }
 

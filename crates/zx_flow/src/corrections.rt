@@ -98,6 +98,18 @@ impl Corrections {
         self.sets.toggle(v, members)
     }
 
+    // Toggles a vertex w in the set of v.
+    pub(crate) fn toggle_one(&mut self, v: VertexId, w: VertexId) -> Result<(), AllocError>
+        requires { member v (order_of self.old.table) ≡ true }
+        ensures ok { OnOk result (SameSets self.new.table (set_toggled v (w ∷ []) self.old.table)) }
+        ensures err { OnErr result (self.new.table ≡ self.old.table) }
+        ensures has_room { v < self.old.reach → w < self.old.reach → IsOk result }
+        ensures spare { self.new.spare ≡ self.old.spare }
+        ensures reach { self.new.reach ≡ self.old.reach }
+    {
+        self.sets.toggle_one(v, w)
+    }
+
     // Toggles the set of u in that of v.
     pub(crate) fn toggle_set(&mut self, v: VertexId, u: VertexId) -> Result<(), AllocError>
         requires v_there { member v (order_of self.old.table) ≡ true }
@@ -159,6 +171,13 @@ impl Corrections {
     {
         self.order.retain(|u| *u != v);
         self.sets.clear(v);
+    }
+
+    // Below which bound sets change without memory.
+    pub(crate) fn reach(&self) -> usize
+        ensures { result ≡ self.now.reach }
+    {
+        self.sets.reach()
     }
 
     pub(crate) fn copy(&self) -> Result<Corrections, AllocError>

@@ -1,14 +1,14 @@
 //! Flows.
 
-ghost use Rattle.std.specs.Prelude.{◌≡◌, ◌≢◌, ◌<◌, ◌≤◌, ◌+◌, ◌++◌, ℕ, true, false, List, [], ◌∷◌, length, slice_index};
+ghost use Rattle.std.specs.Prelude.{◌≡◌, ◌≢◌, ◌↔◌, ◌<◌, ◌≤◌, ◌+◌, ◌++◌, ℕ, true, false, List, [], ◌∷◌, length, slice_index};
 ghost use Rattle.std.specs.Prelude.{IsOk, IfOk, IfNone, IfSome, OnOk, OnErr, ltb};
 ghost use Rattle.zx_model.specs.Bits.{member};
-ghost use Rattle.zx_calculus.specs.Graph.{in_order, Distinct};
+ghost use Rattle.zx_calculus.specs.Graph.{in_order, Distinct, WellFormed};
 ghost use Rattle.gflow_laws.specs.Seen.{seen, odd};
 ghost use Rattle.gflow_laws.specs.Flow.{order_of, set_of, is_in, IsFlow, SameSets};
 ghost use Rattle.gflow_laws.specs.Tables.{without_set};
 ghost use Rattle.zx_bits.specs.Sets.{IsBelow};
-ghost use Rattle.zx_flow.specs.Flows.{IsNamed};
+ghost use Rattle.zx_flow.specs.Flows.{IsNamed, HaveReach};
 ghost use Rattle.zx_flow.specs.Changes.{set_toggled};
 
 use crate::corrections::Corrections;
@@ -148,16 +148,17 @@ impl Flow {
         self.corrections.toggle_set(v, u)
     }
 
-    // Toggles a vertex w in the set of v. Where memory runs out the flow stays as it was.
+    // Toggles a vertex w in the set of v, without memory below `reach`. Where memory runs out the flow
+    // stays as it was.
     pub(crate) fn toggle_one(&mut self, v: VertexId, w: VertexId) -> Result<(), AllocError>
         requires { member v (order_of self.old.flow) ≡ true }
         ensures toggled { OnOk result
             (SameSets self.new.flow (set_toggled v (w ∷ []) self.old.flow)) }
+        ensures has_room { v < self.old.reach → w < self.old.reach → IsOk result }
         ensures spare { self.new.spare ≡ self.old.spare }
         ensures reach { self.new.reach ≡ self.old.reach }
     {
-        let one = VertexSet::one(self.alloc, w)?;
-        self.toggle(v, &one)
+        self.corrections.toggle_one(v, w)
     }
 
     /// Adds a vertex v after all others, corrected by w alone. It uses one of `spare`, and below
@@ -200,6 +201,14 @@ impl Flow {
         ensures reach { self.new.reach ≡ self.old.reach }
     {
         self.corrections.remove(v);
+    }
+
+    /// Whether the ids of all vertices of a graph are below its reach and that of the flow.
+    pub fn has_reach(&self, g: &OpenGraph) -> bool
+        ensures value { (result ≡ true) ↔ HaveReach g.now self.now }
+        ensures valid { WellFormed g.now.graph }
+    {
+        g.is_below(g.reach()) && g.is_below(self.corrections.reach())
     }
 
     /// The same flow once more.

@@ -99,6 +99,19 @@ impl Sets {
         toggle_within(&mut self.lists[v.get()], kept, members)
     }
 
+    // Toggles a vertex w in the set of v. Where memory runs out, all sets stay as they were.
+    pub(crate) fn toggle_one(&mut self, v: VertexId, w: VertexId) -> Result<(), AllocError>
+        requires { v < length self.old.lists }
+        ensures ok { OnOk result (AreToggledAt v (w ∷ []) self.old.lists self.new.lists) }
+        ensures err { OnErr result (SameSetsAt self.old.lists self.new.lists) }
+        ensures length { length self.new.lists ≡ length self.old.lists }
+        ensures reach { self.new.reach ≡ self.old.reach }
+        ensures has_room { v < self.old.reach → w < self.old.reach → IsOk result }
+    {
+        let kept = self.kept(v);
+        toggle_one_within(&mut self.lists[v.get()], kept, w)
+    }
+
     // Toggles the set of another vertex u in that of v.
     pub(crate) fn toggle_set(&mut self, v: VertexId, u: VertexId) -> Result<(), AllocError>
         requires v_there { v < length self.old.lists }
@@ -132,6 +145,12 @@ impl Sets {
             return;
         }
         self.lists[v.get()] = VertexSet::new(self.alloc);
+    }
+
+    pub(crate) fn reach(&self) -> usize
+        ensures { result ≡ self.now.reach }
+    {
+        self.reach
     }
 
     pub(crate) fn copy(&self) -> Result<Sets, AllocError>
@@ -222,6 +241,33 @@ fn toggle_within(set: &mut VertexSet, kept: usize, members: &VertexSet) -> Resul
     }
     set.reserve(end_of(members))?;
     set.toggle_all(members)
+}
+
+// Toggles a vertex in a set, whose room below a bound is kept.
+fn toggle_one_within(set: &mut VertexSet, kept: usize, id: VertexId) -> Result<(), AllocError>
+    requires { kept ≤ set.old.room }
+    ensures ok { OnOk result ((w : ℕ) →
+        member w set.new.ids ≡ xor (member w set.old.ids) (member w (id ∷ []))) }
+    ensures err { OnErr result (set.new.ids ≡ set.old.ids) }
+    ensures keeps { kept ≤ set.new.room }
+    ensures has_room { id < kept → IsOk result }
+{
+    if kept > 0 && id.get() >= kept {
+        reserve_place(set, id)?;
+    }
+    set.toggle(id)
+}
+
+// Gives a set room for an id.
+fn reserve_place(set: &mut VertexSet, id: VertexId) -> Result<(), AllocError>
+    ensures ids { set.new.ids ≡ set.old.ids }
+    ensures ok { OnOk result (id < set.new.room) }
+    ensures keeps { set.old.room ≤ set.new.room }
+{
+    match id.get().checked_add(1) {
+        Some(end) => set.reserve(end),
+        None => Err(AllocError),
+    }
 }
 
 // Makes a vertex the only one of a set, whose room below a bound is kept.

@@ -1,6 +1,6 @@
 //! What the rewrites of gadgets are made of.
 
-ghost use Rattle.std.specs.Prelude.{◌≡◌};
+ghost use Rattle.std.specs.Prelude.{◌≡◌, ◌+◌};
 ghost use Rattle.zx_calculus.specs.Graph.{plane_of, phase_of, Live, WellFormed};
 ghost use Rattle.zx_calculus.specs.Graph as zx;
 ghost use Rattle.zx_calculus.specs.Edits.{IsRemoval};
@@ -28,6 +28,8 @@ pub(crate) fn take_out(g: &mut OpenGraph, u: VertexId) -> Sixteenth
     requires gadget { plane_of g.old.graph u ≡ zx.YZ }
     ensures phase { result ≡ phase_of g.old.graph u }
     ensures removed { IsRemoval g.old.graph u g.new.graph }
+    ensures spare { g.new.spare ≡ g.old.spare + 1 }
+    ensures reach { g.new.reach ≡ g.old.reach }
     ensures was_valid { WellFormed g.old.graph }
     ensures valid { WellFormed g.new.graph }
 {
@@ -40,6 +42,8 @@ pub(crate) fn take_out(g: &mut OpenGraph, u: VertexId) -> Sixteenth
 pub(crate) fn add_phase(g: &mut OpenGraph, v: VertexId, phase: Sixteenth)
     requires { Live g.old.graph v }
     ensures added { g.new.graph ≡ with_changed (fuse_kind v phase) g.old.graph }
+    ensures spare { g.new.spare ≡ g.old.spare }
+    ensures reach { g.new.reach ≡ g.old.reach }
     ensures valid { WellFormed g.new.graph }
 {
     let (plane, before) = g.weight(v);

@@ -8,7 +8,8 @@
 //! `may_drop_lone`, `may_fuse_into` and `may_fuse_twin` tell exactly where each is allowed. The calls
 //! in place make the same change without copies; where memory runs out they say nothing.
 //! `drop_lone_in_graph`, `fuse_into_in_graph` and `fuse_twin_in_graph` change the graph alone, by
-//! the same step, and can't fail.
+//! the same step, and can't fail. Where all vertices are below the reach of graph and flow, none of
+//! these takes memory, and what both have memory for stays.
 //!
 //! ```rust
 //! if may_fuse_twin(&graph, u, v) {

@@ -1,19 +1,40 @@
 //! The removal of a gadget without neighbours.
 
-ghost use Rattle.std.specs.Prelude.{◌≡◌, true, OnOk, OnErr};
+ghost use Rattle.std.specs.Prelude.{◌≡◌, ◌+◌, true, IsOk, OnOk, OnErr};
 ghost use Rattle.zx_calculus.specs.Graph.{WellFormed};
 ghost use Rattle.zx_calculus.specs.Steps.{allowed, DropLone, IsStep};
 ghost use Rattle.gflow_laws.specs.Flow.{IsFlow};
 ghost use Rattle.gflow_laws.specs.Rewritten.{IsRewritten};
+ghost use Rattle.zx_flow.specs.Flows.{HaveReach};
 
 use crate::gadget::{is_gadget, take_out};
 use open_graph::{OpenGraph, VertexId};
 use std::alloc::AllocError;
 use zx_flow::Flow;
 
-/// Takes out a YZ vertex without neighbours. Where memory runs out, graph and flow stay as they
-/// were.
+/// Takes out a YZ vertex without neighbours. Where memory runs out, graph and flow stay as they were;
+/// where all vertices are below the reach of both, none is needed.
 pub fn drop_lone(g: &mut OpenGraph, f: &mut Flow, u: VertexId) -> Result<(), AllocError>
+    requires flow { IsFlow g.old.graph f.old.flow }
+    requires allowed { allowed g.old.graph (DropLone u) ≡ true }
+    ensures rewritten { OnOk result
+        (IsRewritten g.old.graph f.old.flow (DropLone u) g.new.graph f.new.flow) }
+    ensures err { OnErr result ((g.new.graph ≡ g.old.graph) × (f.new.flow ≡ f.old.flow)) }
+    ensures has_room { HaveReach g.old f.old → IsOk result }
+    ensures spare { HaveReach g.old f.old →
+        (g.new.spare ≡ g.old.spare + 1) × (f.new.spare ≡ f.old.spare + 1) }
+    ensures reach { HaveReach g.old f.old →
+        (g.new.reach ≡ g.old.reach) × (f.new.reach ≡ f.old.reach) }
+    ensures valid { WellFormed g.new.graph }
+{
+    if f.has_reach(g) {
+        return drop_lone_in_place(g, f, u);
+    }
+    drop_lone_in_copies(g, f, u)
+}
+
+// The same on copies, which then take the place of graph and flow.
+fn drop_lone_in_copies(g: &mut OpenGraph, f: &mut Flow, u: VertexId) -> Result<(), AllocError>
     requires flow { IsFlow g.old.graph f.old.flow }
     requires allowed { allowed g.old.graph (DropLone u) ≡ true }
     ensures rewritten { OnOk result
@@ -37,12 +58,17 @@ pub fn may_drop_lone(g: &OpenGraph, u: VertexId) -> bool
     is_gadget(g, u) && g.degree(u) == 0
 }
 
-/// As `drop_lone`, but where memory runs out, graph and flow may be any.
+/// As `drop_lone`, but where memory runs out, graph and flow may be any. Where all vertices are below
+/// the reach of both, none is needed.
 pub fn drop_lone_in_place(g: &mut OpenGraph, f: &mut Flow, u: VertexId) -> Result<(), AllocError>
     requires flow { IsFlow g.old.graph f.old.flow }
     requires allowed { allowed g.old.graph (DropLone u) ≡ true }
     ensures rewritten { OnOk result
         (IsRewritten g.old.graph f.old.flow (DropLone u) g.new.graph f.new.flow) }
+    ensures has_room { HaveReach g.old f.old → IsOk result }
+    ensures spare { OnOk result
+        ((g.new.spare ≡ g.old.spare + 1) × (f.new.spare ≡ f.old.spare + 1)) }
+    ensures reach { (g.new.reach ≡ g.old.reach) × (f.new.reach ≡ f.old.reach) }
 {
     drop_lone_in_graph(g, u);
     f.eliminate(u)
@@ -52,6 +78,8 @@ pub fn drop_lone_in_place(g: &mut OpenGraph, f: &mut Flow, u: VertexId) -> Resul
 pub fn drop_lone_in_graph(g: &mut OpenGraph, u: VertexId)
     requires { allowed g.old.graph (DropLone u) ≡ true }
     ensures step { IsStep g.old.graph (DropLone u) g.new.graph }
+    ensures spare { g.new.spare ≡ g.old.spare + 1 }
+    ensures reach { g.new.reach ≡ g.old.reach }
     ensures was_valid { WellFormed g.old.graph }
     ensures valid { WellFormed g.new.graph }
 {

@@ -1,10 +1,11 @@
 //! The fusion of a gadget of one neighbour into that.
 
-ghost use Rattle.std.specs.Prelude.{◌≡◌, true, OnOk, OnErr};
+ghost use Rattle.std.specs.Prelude.{◌≡◌, ◌+◌, true, IsOk, OnOk, OnErr};
 ghost use Rattle.zx_calculus.specs.Graph.{is_XY, plane_of, Live, WellFormed};
 ghost use Rattle.zx_calculus.specs.Steps.{allowed, FuseInto, IsStep};
 ghost use Rattle.gflow_laws.specs.Flow.{IsFlow};
 ghost use Rattle.gflow_laws.specs.Rewritten.{IsRewritten};
+ghost use Rattle.zx_flow.specs.Flows.{HaveReach};
 
 use crate::gadget::{add_phase, is_gadget, take_out};
 use open_graph::{OpenGraph, Plane, VertexId};
@@ -12,8 +13,29 @@ use std::alloc::AllocError;
 use zx_flow::Flow;
 
 /// Takes out a YZ vertex with one neighbour, an XY vertex, which gains its phase. Where memory runs
-/// out, graph and flow stay as they were.
+/// out, graph and flow stay as they were; where all vertices are below the reach of both, none is
+/// needed.
 pub fn fuse_into(g: &mut OpenGraph, f: &mut Flow, u: VertexId) -> Result<(), AllocError>
+    requires flow { IsFlow g.old.graph f.old.flow }
+    requires allowed { allowed g.old.graph (FuseInto u) ≡ true }
+    ensures rewritten { OnOk result
+        (IsRewritten g.old.graph f.old.flow (FuseInto u) g.new.graph f.new.flow) }
+    ensures err { OnErr result ((g.new.graph ≡ g.old.graph) × (f.new.flow ≡ f.old.flow)) }
+    ensures has_room { HaveReach g.old f.old → IsOk result }
+    ensures spare { HaveReach g.old f.old →
+        (g.new.spare ≡ g.old.spare + 1) × (f.new.spare ≡ f.old.spare + 1) }
+    ensures reach { HaveReach g.old f.old →
+        (g.new.reach ≡ g.old.reach) × (f.new.reach ≡ f.old.reach) }
+    ensures valid { WellFormed g.new.graph }
+{
+    if f.has_reach(g) {
+        return fuse_into_in_place(g, f, u);
+    }
+    fuse_into_in_copies(g, f, u)
+}
+
+// The same on copies, which then take the place of graph and flow.
+fn fuse_into_in_copies(g: &mut OpenGraph, f: &mut Flow, u: VertexId) -> Result<(), AllocError>
     requires flow { IsFlow g.old.graph f.old.flow }
     requires allowed { allowed g.old.graph (FuseInto u) ≡ true }
     ensures rewritten { OnOk result
@@ -46,12 +68,17 @@ pub fn may_fuse_into(g: &OpenGraph, u: VertexId) -> bool
     }
 }
 
-/// As `fuse_into`, but where memory runs out, graph and flow may be any.
+/// As `fuse_into`, but where memory runs out, graph and flow may be any. Where all vertices are below
+/// the reach of both, none is needed.
 pub fn fuse_into_in_place(g: &mut OpenGraph, f: &mut Flow, u: VertexId) -> Result<(), AllocError>
     requires flow { IsFlow g.old.graph f.old.flow }
     requires allowed { allowed g.old.graph (FuseInto u) ≡ true }
     ensures rewritten { OnOk result
         (IsRewritten g.old.graph f.old.flow (FuseInto u) g.new.graph f.new.flow) }
+    ensures has_room { HaveReach g.old f.old → IsOk result }
+    ensures spare { OnOk result
+        ((g.new.spare ≡ g.old.spare + 1) × (f.new.spare ≡ f.old.spare + 1)) }
+    ensures reach { (g.new.reach ≡ g.old.reach) × (f.new.reach ≡ f.old.reach) }
 {
     fuse_into_in_graph(g, u);
     f.eliminate(u)
@@ -61,6 +88,8 @@ pub fn fuse_into_in_place(g: &mut OpenGraph, f: &mut Flow, u: VertexId) -> Resul
 pub fn fuse_into_in_graph(g: &mut OpenGraph, u: VertexId)
     requires { allowed g.old.graph (FuseInto u) ≡ true }
     ensures step { IsStep g.old.graph (FuseInto u) g.new.graph }
+    ensures spare { g.new.spare ≡ g.old.spare + 1 }
+    ensures reach { g.new.reach ≡ g.old.reach }
     ensures was_valid { WellFormed g.old.graph }
     ensures valid { WellFormed g.new.graph }
 {

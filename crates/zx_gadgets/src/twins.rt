@@ -1,10 +1,11 @@
 //! The fusion of two gadgets of equal neighbours.
 
-ghost use Rattle.std.specs.Prelude.{◌≡◌, true, OnOk, OnErr};
+ghost use Rattle.std.specs.Prelude.{◌≡◌, ◌+◌, true, IsOk, OnOk, OnErr};
 ghost use Rattle.zx_calculus.specs.Graph.{WellFormed};
 ghost use Rattle.zx_calculus.specs.Steps.{allowed, FuseTwin, IsStep};
 ghost use Rattle.gflow_laws.specs.Flow.{IsFlow};
 ghost use Rattle.gflow_laws.specs.Rewritten.{IsRewritten};
+ghost use Rattle.zx_flow.specs.Flows.{HaveReach};
 
 use crate::gadget::{add_phase, is_gadget, take_out};
 use open_graph::{OpenGraph, VertexId};
@@ -12,8 +13,34 @@ use std::alloc::AllocError;
 use zx_flow::Flow;
 
 /// Takes out the second of two YZ vertices with equal neighbours; the first gains its phase. Where
-/// memory runs out, graph and flow stay as they were.
+/// memory runs out, graph and flow stay as they were; where all vertices are below the reach of both,
+/// none is needed.
 pub fn fuse_twin(
+    g: &mut OpenGraph,
+    f: &mut Flow,
+    u: VertexId,
+    v: VertexId,
+) -> Result<(), AllocError>
+    requires flow { IsFlow g.old.graph f.old.flow }
+    requires allowed { allowed g.old.graph (FuseTwin u v) ≡ true }
+    ensures rewritten { OnOk result
+        (IsRewritten g.old.graph f.old.flow (FuseTwin u v) g.new.graph f.new.flow) }
+    ensures err { OnErr result ((g.new.graph ≡ g.old.graph) × (f.new.flow ≡ f.old.flow)) }
+    ensures has_room { HaveReach g.old f.old → IsOk result }
+    ensures spare { HaveReach g.old f.old →
+        (g.new.spare ≡ g.old.spare + 1) × (f.new.spare ≡ f.old.spare + 1) }
+    ensures reach { HaveReach g.old f.old →
+        (g.new.reach ≡ g.old.reach) × (f.new.reach ≡ f.old.reach) }
+    ensures valid { WellFormed g.new.graph }
+{
+    if f.has_reach(g) {
+        return fuse_twin_in_place(g, f, u, v);
+    }
+    fuse_twin_in_copies(g, f, u, v)
+}
+
+// The same on copies, which then take the place of graph and flow.
+fn fuse_twin_in_copies(
     g: &mut OpenGraph,
     f: &mut Flow,
     u: VertexId,
@@ -54,7 +81,8 @@ pub fn may_fuse_twin(g: &OpenGraph, u: VertexId, v: VertexId) -> bool
     g.neighbour_set(u).is_same(g.neighbour_set(v))
 }
 
-/// As `fuse_twin`, but where memory runs out, graph and flow may be any.
+/// As `fuse_twin`, but where memory runs out, graph and flow may be any. Where all vertices are below
+/// the reach of both, none is needed.
 pub fn fuse_twin_in_place(
     g: &mut OpenGraph,
     f: &mut Flow,
@@ -65,6 +93,10 @@ pub fn fuse_twin_in_place(
     requires allowed { allowed g.old.graph (FuseTwin u v) ≡ true }
     ensures rewritten { OnOk result
         (IsRewritten g.old.graph f.old.flow (FuseTwin u v) g.new.graph f.new.flow) }
+    ensures has_room { HaveReach g.old f.old → IsOk result }
+    ensures spare { OnOk result
+        ((g.new.spare ≡ g.old.spare + 1) × (f.new.spare ≡ f.old.spare + 1)) }
+    ensures reach { (g.new.reach ≡ g.old.reach) × (f.new.reach ≡ f.old.reach) }
 {
     fuse_twin_in_graph(g, u, v);
     f.eliminate(v)
@@ -74,6 +106,8 @@ pub fn fuse_twin_in_place(
 pub fn fuse_twin_in_graph(g: &mut OpenGraph, u: VertexId, v: VertexId)
     requires { allowed g.old.graph (FuseTwin u v) ≡ true }
     ensures step { IsStep g.old.graph (FuseTwin u v) g.new.graph }
+    ensures spare { g.new.spare ≡ g.old.spare + 1 }
+    ensures reach { g.new.reach ≡ g.old.reach }
     ensures was_valid { WellFormed g.old.graph }
     ensures valid { WellFormed g.new.graph }
 {

@@ -20,8 +20,6 @@ mod gate_list;
 mod laws;
 mod lowering;
 mod tally;
-#[cfg(test)]
-mod tests;
 
 pub use counting::counts;
 pub use elementary::{Elementary, ElementaryGate, Elements, Measure, Measures};

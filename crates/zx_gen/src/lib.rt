@@ -8,8 +8,6 @@
 
 mod generator;
 mod laws;
-#[cfg(test)]
-mod tests;
 
 pub use generator::generate;
 pub use laws::{circuits_have_as_many_gates_as_asked, worked_circuits};

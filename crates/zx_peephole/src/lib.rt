@@ -15,8 +15,6 @@ mod commuting;
 mod finding;
 mod laws;
 mod pairs;
-#[cfg(test)]
-mod tests;
 mod tidying;
 
 pub use laws::{commuting_gates, worked_lists, worked_table};

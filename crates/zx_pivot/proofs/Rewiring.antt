@@ -1,10 +1,13 @@
 -- The edges of a pivot: those across two sets, u with its neighbours and v with its.
-use Rattle.std.proofs.Common.{◌≡◌, ◌≢◌, sym, ◌∙◌, ap, ap₂, ℕ, Bool, true, ◌&&◌, eqb, List, ne_eqb}
+use Rattle.std.proofs.Common.{◌≡◌, ◌≢◌, sym, ◌∙◌, ap, ap₂, ℕ, Bool, true, false, ◌&&◌, ◌||◌, eqb, List, ◌∷◌, ne_eqb}
 use Rattle.zx_model.specs.Bits.{xor, member}
-use Rattle.zx_calculus.specs.Graph.{Graph, joined, WellFormed}
-use Rattle.zx_calculus.specs.Toggles.{IsToggled}
+use Rattle.zx_bits.specs.Sets.{IsBelow}
+use Rattle.zx_calculus.specs.Graph.{Kind, Graph, ids, joined, neighbours, Live, WellFormed}
+use Rattle.zx_calculus.specs.Toggles.{IsToggled, with_changed}
+use Rattle.zx_calculus.proofs.Vertices.{ids-with_kinds}
 use Rattle.zx_calculus.proofs.Booleans.{parities, xor-false, and_comm, and-true}
-use Rattle.zx_calculus.proofs.Ids.{eqb-self}
+use Rattle.zx_calculus.proofs.Ids.{by_equal, eqb-self}
+use Rattle.zx_calculus.proofs.Toggling.{member-neighbours, neighbour_live}
 use Rattle.zx_calculus.proofs.Edges.{joined_comm}
 use Rattle.zx_calculus.proofs.Splitting.{no_loop}
 use Rattle.zx_calculus.specs.Toggles.{across}
@@ -16,6 +19,26 @@ exchanged a b = rw and-true (simp parities)
 
 exchanged_too : (a b : Bool) → xor b (xor b (a && true)) ≡ a
 exchanged_too a b = rw and-true (simp parities)
+
+-- a vertex with its neighbours, as a test, and below a bound
+pub closed_tells : (g : Graph) (u : ℕ) → WellFormed g → (p : ℕ) → member p (u ∷ neighbours g u) ≡ xor (joined g.edges u p) (eqb p u)
+closed_tells g u w p =
+    ap (λ b. eqb p u || b) (member-neighbours g u p w)
+    ∙ by_equal p u
+    (λ t e. let absent : joined g.edges u p ≡ false = ap (joined g.edges u) e ∙ no_loop g u w in
+    ap₂ (λ a b. a || b) t absent ∙ sym (ap₂ xor absent t))
+    (λ f n. rw f (sym (xor-false (joined g.edges u p))))
+
+pub closed_below : (g : Graph) (u reach : ℕ) → Live g u → IsBelow reach (ids g.vertices) → IsBelow reach (u ∷ neighbours g u)
+closed_below g u reach live below p there =
+    by_equal p u (λ t e. below p (ap (λ q. member q (ids g.vertices)) e ∙ live))
+    (λ f n. below p (neighbour_live g u p (ap (λ b. b || member p (neighbours g u)) (sym f) ∙ there)))
+
+-- other planes and phases leave the ids
+pub turned_below : (f : ℕ → Kind → Kind) (g h : Graph) (reach : ℕ) → h ≡ with_changed f g → IsBelow reach (ids g.vertices) →
+    IsBelow reach (ids h.vertices)
+turned_below f g h reach e below p there =
+    below p (sym (ap (λ l. member p (ids l.vertices)) e ∙ ap (member p) (ids-with_kinds f g.vertices)) ∙ there)
 
 module _ (g h : Graph) (u v : ℕ) (us vs : List ℕ) (w : WellFormed g) (apart : u ≢ v)
     (uv : joined g.edges u v ≡ true)

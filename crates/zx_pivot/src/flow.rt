@@ -1,8 +1,9 @@
 //! What a pivot makes of a flow.
 
-ghost use Rattle.std.specs.Prelude.{◌≡◌, true, OnOk};
+ghost use Rattle.std.specs.Prelude.{◌≡◌, ℕ, true, IsOk, OnOk};
 ghost use Rattle.zx_model.specs.Bits.{member};
 ghost use Rattle.zx_calculus.specs.Graph.{joined, plane_of, Live, WellFormed};
+ghost use Rattle.zx_bits.specs.Sets.{IsBelow};
 ghost use Rattle.gflow_laws.specs.Seen.{seen, odd};
 ghost use Rattle.gflow_laws.specs.Flow.{order_of, set_of, is_in, SameSets};
 ghost use Rattle.gflow_laws.specs.Complements.{complement_table};
@@ -34,7 +35,11 @@ pub(crate) fn pivot_sets(
     requires adjacent { joined g.now.graph.edges u v ≡ true }
     requires u_there { member u (order_of f.old.flow) ≡ true }
     requires v_there { member v (order_of f.old.flow) ≡ true }
-    ensures { OnOk result (SameSets f.new.flow (pivot_table (seen g.now.graph) u v f.old.flow)) }
+    ensures sets { OnOk result (SameSets f.new.flow (pivot_table (seen g.now.graph) u v f.old.flow)) }
+    ensures has_room { IsBelow f.old.reach (order_of f.old.flow) →
+        ((x : ℕ) → IsBelow f.old.reach (set_of f.old.flow x)) → IsOk result }
+    ensures spare { OnOk result (f.new.spare ≡ f.old.spare) }
+    ensures reach { f.new.reach ≡ f.old.reach }
 {
     complement_sets(f, g, Stage::First, u, v)?;
     complement_sets(f, g, Stage::Second, v, u)?;
@@ -56,15 +61,18 @@ fn complement_sets(
     ensures table { let s = view stage (seen g.now.graph) u w in
         OnOk result (SameSets f.new.flow (complement_table s u f.old.flow)) }
     ensures order { OnOk result (order_of f.new.flow ≡ order_of f.old.flow) }
+    ensures has_room { IsBelow f.old.reach (order_of f.old.flow) →
+        IsBelow f.old.reach (set_of f.old.flow u) → IsOk result }
+    ensures spare { f.new.spare ≡ f.old.spare }
+    ensures reach { f.new.reach ≡ f.old.reach }
 {
     let changes = changes_plane(g, stage, u);
-    let own = f.copy_of_correction(u)?;
     for i in 0..f.order().len() {
         let x = f.vertex_at(i);
         let is_odd = odd_has(f, g, stage, u, w, x);
-        f.complement_set(u, x, &own, changes, is_odd)?;
+        f.complement_set(u, x, changes, is_odd)?;
     }
-    Ok(())
+    f.complement_own(u, changes)
 }
 
 // Whether the local complement changes the plane of u.

@@ -1,8 +1,8 @@
 //! What a pivot makes of a graph.
 
-ghost use Rattle.std.specs.Prelude.{◌≡◌, ◌≢◌, ◌==◌, ℕ, true, OnOk, IfOk};
-ghost use Rattle.zx_model.specs.Bits.{xor, member};
-ghost use Rattle.zx_calculus.specs.Graph.{joined, neighbours, Live, Interior, WellFormed};
+ghost use Rattle.std.specs.Prelude.{◌≡◌, ◌≢◌, true, IsOk, OnOk};
+ghost use Rattle.zx_bits.specs.Sets.{IsBelow};
+ghost use Rattle.zx_calculus.specs.Graph.{ids, joined, neighbours, Live, Interior, WellFormed};
 ghost use Rattle.zx_calculus.specs.Steps.{allowed, IsStep, Pivot};
 ghost use Rattle.zx_calculus.specs.Edits.{at_vertex};
 ghost use Rattle.zx_calculus.specs.Turns.{in_plane, half_turned, pivoted};
@@ -10,15 +10,18 @@ ghost use Rattle.open_graph.specs.Planes.{plane_named};
 ghost use Rattle.zx_calculus.specs.Toggles.{with_changed};
 ghost use Rattle.zx_pivot.specs.Internal.Changes.{IsRewired, half_turned_in};
 
-use open_graph::{OpenGraph, Plane, VertexId, VertexSet};
+use open_graph::{OpenGraph, Plane, VertexId};
 use std::alloc::AllocError;
 use zx_model::Sixteenth;
 
 /// The graph's part of `pivot`, in which u and v get a change of their own too: where memory runs
-/// out, the graph may be any.
+/// out, the graph may be any. Where all its vertices are below its reach, none is needed.
 pub fn pivot_in_graph(g: &mut OpenGraph, u: VertexId, v: VertexId) -> Result<(), AllocError>
     requires { allowed g.old.graph (Pivot u v) ≡ true }
     ensures step { OnOk result (IsStep g.old.graph (Pivot u v) g.new.graph) }
+    ensures has_room { IsBelow g.old.reach (ids g.old.graph.vertices) → IsOk result }
+    ensures spare { OnOk result (g.new.spare ≡ g.old.spare) }
+    ensures reach { g.new.reach ≡ g.old.reach }
     ensures was_valid { WellFormed g.old.graph }
     ensures valid { WellFormed g.new.graph }
 {
@@ -35,6 +38,8 @@ fn turn_common(g: &mut OpenGraph, u: VertexId, v: VertexId)
     requires v_live { Live g.old.graph v }
     ensures turned { let near = neighbours g.old.graph u in
         g.new.graph ≡ with_changed (half_turned_in near (joined g.old.graph.edges v)) g.old.graph }
+    ensures spare { g.new.spare ≡ g.old.spare }
+    ensures reach { g.new.reach ≡ g.old.reach }
     ensures valid { WellFormed g.new.graph }
     ensures was_valid { WellFormed g.old.graph }
 {
@@ -51,6 +56,8 @@ fn turn_common(g: &mut OpenGraph, u: VertexId, v: VertexId)
 fn turn_half(g: &mut OpenGraph, p: VertexId)
     requires { Live g.old.graph p }
     ensures turned { g.new.graph ≡ with_changed (at_vertex p half_turned) g.old.graph }
+    ensures spare { g.new.spare ≡ g.old.spare }
+    ensures reach { g.new.reach ≡ g.old.reach }
     ensures valid { WellFormed g.new.graph }
 {
     g.add_quarter(p);
@@ -64,24 +71,12 @@ fn rewire(g: &mut OpenGraph, u: VertexId, v: VertexId) -> Result<(), AllocError>
     requires different { u ≢ v }
     requires adjacent { joined g.old.graph.edges u v ≡ true }
     ensures rewired { OnOk result (IsRewired g.old.graph u v g.new.graph) }
+    ensures has_room { IsBelow g.old.reach (ids g.old.graph.vertices) → IsOk result }
+    ensures spare { OnOk result (g.new.spare ≡ g.old.spare) }
+    ensures reach { g.new.reach ≡ g.old.reach }
     ensures valid { WellFormed g.new.graph }
 {
-    let near = with_neighbours(g, u)?;
-    let far = with_neighbours(g, v)?;
-    g.toggle_across(&near, &far)
-}
-
-// A vertex and its neighbours.
-fn with_neighbours(g: &OpenGraph, u: VertexId) -> Result<VertexSet, AllocError>
-    requires { Live g.now.graph u }
-    ensures members { IfOk result (λ set. (p : ℕ) →
-        member p set.ids ≡ xor (joined g.now.graph.edges u p) (p == u)) }
-    ensures live { IfOk result (λ set. (p : ℕ) → member p set.ids ≡ true → Live g.now.graph p) }
-    ensures valid { WellFormed g.now.graph }
-{
-    let mut set = g.neighbour_set(u).clone()?;
-    set.toggle(u)?;
-    Ok(set)
+    g.toggle_around(u, v)
 }
 
 // What a pivot makes of the plane and phase of each of its two vertices.
@@ -89,6 +84,8 @@ fn pivot_own(g: &mut OpenGraph, u: VertexId)
     requires live { Live g.old.graph u }
     requires interior { Interior g.old.graph u }
     ensures own { g.new.graph ≡ with_changed (at_vertex u pivoted) g.old.graph }
+    ensures spare { g.new.spare ≡ g.old.spare }
+    ensures reach { g.new.reach ≡ g.old.reach }
     ensures valid { WellFormed g.new.graph }
 {
     let (plane, phase) = g.weight(u);

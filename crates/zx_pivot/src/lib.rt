@@ -6,7 +6,8 @@
 //! as they were.
 //! `may_pivot` tells exactly where it is allowed. `pivot_in_place` makes the same change without
 //! copies; where memory runs out it says nothing. `pivot_in_graph` changes the graph alone, by the
-//! same step.
+//! same step. Where all vertices are below the reach of graph and flow, none of these takes memory,
+//! and what both have memory for stays.
 //!
 //! ```rust
 //! if may_pivot(&graph, u, v) {

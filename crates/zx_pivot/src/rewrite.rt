@@ -1,10 +1,11 @@
 //! The pivot of a graph with its flow.
 
-ghost use Rattle.std.specs.Prelude.{◌≡◌, true, OnOk, OnErr};
+ghost use Rattle.std.specs.Prelude.{◌≡◌, true, IsOk, OnOk, OnErr};
 ghost use Rattle.zx_calculus.specs.Graph.{WellFormed};
 ghost use Rattle.zx_calculus.specs.Steps.{allowed, Pivot};
 ghost use Rattle.gflow_laws.specs.Flow.{IsFlow};
 ghost use Rattle.gflow_laws.specs.Rewritten.{IsRewritten};
+ghost use Rattle.zx_flow.specs.Flows.{HaveReach};
 
 use crate::flow::pivot_sets;
 use crate::graph::pivot_in_graph;
@@ -14,8 +15,34 @@ use zx_flow::Flow;
 
 /// A pivot of two adjacent interior vertices u and v: they exchange their other neighbours, the
 /// edges between the classes (adjacent to u alone, to v alone, to both) are toggled, and the common
-/// neighbours turn by a half. Where memory runs out, graph and flow stay as they were.
+/// neighbours turn by a half. Where memory runs out, graph and flow stay as they were; where all
+/// vertices are below the reach of both, none is needed.
 pub fn pivot(g: &mut OpenGraph, f: &mut Flow, u: VertexId, v: VertexId) -> Result<(), AllocError>
+    requires flow { IsFlow g.old.graph f.old.flow }
+    requires allowed { allowed g.old.graph (Pivot u v) ≡ true }
+    ensures rewritten { OnOk result
+        (IsRewritten g.old.graph f.old.flow (Pivot u v) g.new.graph f.new.flow) }
+    ensures err { OnErr result ((g.new.graph ≡ g.old.graph) × (f.new.flow ≡ f.old.flow)) }
+    ensures has_room { HaveReach g.old f.old → IsOk result }
+    ensures spare { HaveReach g.old f.old →
+        (g.new.spare ≡ g.old.spare) × (f.new.spare ≡ f.old.spare) }
+    ensures reach { HaveReach g.old f.old →
+        (g.new.reach ≡ g.old.reach) × (f.new.reach ≡ f.old.reach) }
+    ensures valid { WellFormed g.new.graph }
+{
+    if f.has_reach(g) {
+        return pivot_in_place(g, f, u, v);
+    }
+    pivot_in_copies(g, f, u, v)
+}
+
+// The same on copies, which then take the place of graph and flow.
+fn pivot_in_copies(
+    g: &mut OpenGraph,
+    f: &mut Flow,
+    u: VertexId,
+    v: VertexId,
+) -> Result<(), AllocError>
     requires flow { IsFlow g.old.graph f.old.flow }
     requires allowed { allowed g.old.graph (Pivot u v) ≡ true }
     ensures rewritten { OnOk result
@@ -39,7 +66,8 @@ pub fn may_pivot(g: &OpenGraph, u: VertexId, v: VertexId) -> bool
     g.is_live(u) && g.is_live(v) && g.is_interior(u) && g.is_interior(v) && g.has_edge(u, v)
 }
 
-/// As `pivot`, but where memory runs out, graph and flow may be any.
+/// As `pivot`, but where memory runs out, graph and flow may be any. Where all vertices are below the
+/// reach of both, none is needed.
 pub fn pivot_in_place(
     g: &mut OpenGraph,
     f: &mut Flow,
@@ -50,6 +78,9 @@ pub fn pivot_in_place(
     requires allowed { allowed g.old.graph (Pivot u v) ≡ true }
     ensures rewritten { OnOk result
         (IsRewritten g.old.graph f.old.flow (Pivot u v) g.new.graph f.new.flow) }
+    ensures has_room { HaveReach g.old f.old → IsOk result }
+    ensures spare { OnOk result ((g.new.spare ≡ g.old.spare) × (f.new.spare ≡ f.old.spare)) }
+    ensures reach { (g.new.reach ≡ g.old.reach) × (f.new.reach ≡ f.old.reach) }
 {
     pivot_sets(f, g, u, v)?;
     pivot_in_graph(g, u, v)

@@ -2,4 +2,3 @@
 pub mod Searching
 pub mod Planning
 pub mod Guiding
-pub mod Drawn

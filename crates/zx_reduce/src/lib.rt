@@ -40,18 +40,6 @@ mod in_graph;
 mod ranks;
 mod working;
 
-// Tests.
-#[cfg(test)]
-mod reduction_tests;
-#[cfg(test)]
-mod rewrite_tests;
-#[cfg(test)]
-mod search_tests;
-#[cfg(test)]
-mod test_graphs;
-#[cfg(test)]
-mod tests;
-
 pub use applying::apply;
 pub use laws::{applied_steps_are_a_run, every_run_keeps_a_flow};
 pub use moves::{KINDS, Kind, Move};

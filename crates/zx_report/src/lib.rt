@@ -6,7 +6,5 @@
 #![tactic(auto)]
 
 mod lines;
-#[cfg(test)]
-mod tests;
 
 pub use lines::report;

@@ -1,66 +1,41 @@
--- What answers say of the faults and of the text, where a text has one first fault or is accepted.
-use Rattle.std.proofs.Common.{◌≡◌, ◌≢◌, inl, inr, ℕ, List, [], refl, sym, ◌∙◌, ap, subst, Option, None, Some}
+-- What an answer says of the streams, of the command that was given, and of the text.
+use Rattle.std.proofs.Common.{◌≡◌, ◌≢◌, ◌⊎◌, inl, inr, ℕ, List, [], refl, ap, subst, Bool, true, false, Option, None, Some}
 use Rattle.zx_io.specs.Causes.{Rose}
 use Rattle.zx_words.specs.declared.words.Command.{Command}
-use Rattle.zx_words.specs.declared.words.Command.TheVariants.{Optimise, Teleport, Generate}
+use Rattle.zx_words.specs.declared.words.Command.TheVariants.{Generate}
 use Rattle.zx_run.specs.declared.status.Fault.{Fault}
-use Rattle.zx_run.specs.declared.status.Fault.TheVariants.{TooLong}
 use Rattle.zx_run.specs.declared.status.Status.{Status}
 use Rattle.zx_run.specs.declared.status.Status.TheVariants.{Done, Refused, Usage, ReadFault, WriteFault, NoMemory, No}
-use Rattle.zx_run.specs.FirstFault.{IsFirstFault, IsFaultless}
-use Rattle.zx_run.specs.Outcome.{GainsOutputFor, GainsPrefixFor, IsAnswerOfGen, IsGen, IsOpt, IsOrNoMemory, IsOutputFor, IsTeleport, SaysEnd}
-use Rattle.zx_run.specs.Internal.Answers.{ToldSource, Streams, IsAnswer, IsMade, IsOutputOf, IsRefused, IsAllRead, IsFailure, IsReadFailure, Reads, ReadsCircuit}
-use Rattle.zx_run.proofs.FaultLemmas.{one_first_fault, not_faultless}
+use Rattle.zx_run.specs.Outcome.{GainsNoFor, GainsOutputFor, GainsPrefixFor, IsAnswerOfGen, IsFaultlessFor, IsFirstFaultFor, IsGen, IsNoFor}
+use Rattle.zx_run.specs.Outcome.{IsOrNoMemory, IsOutputFor, MayAnswer, ReadsSource, SaysEnd, IsFailed, IsOrFailedRead}
+use Rattle.zx_run.specs.Internal.Answers.{ToldSource, Streams, IsAnswer, IsMade, IsOutputOf, IsFailure, IsReadFailure, Reads}
+use Rattle.zx_run.proofs.CommandLemmas.{one_fault, fault_or_none, output_answers, no_answers}
 
--- what is asked for reads a circuit
-abbrev pub AsksForCircuit : Option Command → Type 0
-AsksForCircuit given = (command : Command) × (given ≡ Some command) × ReadsCircuit command
+-- where nothing was read there is no output, for the same reason
+pub read_failure : (command : Command) → ReadsSource command → (before after : ToldSource) (status : Status)
+    → IsReadFailure (IsFirstFaultFor command) before after status → IsFailure (Some command) before after status
+read_failure command reads before after (Refused fault) why = (why.0, (reads, why.1))
+read_failure command reads before after ReadFault why = (why, reads)
+read_failure command reads before after NoMemory why = why
+read_failure command reads before after Done why = absurd why
+read_failure command reads before after Usage why = absurd why
+read_failure command reads before after WriteFault why = absurd why
+read_failure command reads before after No why = absurd why
 
-pub opt_asks : (given : Option Command) → IsOpt given → AsksForCircuit given
-opt_asks given (best, report, is) = (Optimise best report, is, tt)
+-- the answer that the bytes are written with
+abbrev answer_of : Bool → Status
+answer_of false = Done
+answer_of true = No
 
-pub teleport_asks : (given : Option Command) → IsTeleport given → AsksForCircuit given
-teleport_asks given is = (Teleport, is, tt)
+of_either : (command : Command) (says_no : Bool) (left : Option (List ℕ)) (bytes : List ℕ)
+    → IsOutputOf (Some command) says_no left bytes → IsOutputFor command left bytes ⊎ IsNoFor command left bytes
+of_either command false left bytes output = inl output
+of_either command true left bytes output = inr output
 
--- where no circuit was read there is no output, for the same reason
-pub circuit_failure : (command : Command) → ReadsCircuit command → (before after : ToldSource) (status : Status)
-    → IsReadFailure IsFirstFault before after status → IsFailure (Some command) before after status
-circuit_failure command reads before after (Refused fault) why = (why.0, (reads, why.1))
-circuit_failure command reads before after ReadFault why = (why, reads)
-circuit_failure command reads before after NoMemory why = why
-circuit_failure command reads before after Done why = absurd why
-circuit_failure command reads before after Usage why = absurd why
-circuit_failure command reads before after WriteFault why = absurd why
-circuit_failure command reads before after No why = absurd why
-
--- what has an output is accepted
-output_faultless : (command : Command) → ReadsCircuit command → (left : Option (List ℕ)) (bytes text : List ℕ)
-    → IsOutputFor command left bytes → left ≡ Some text → IsFaultless text
-output_faultless (Optimise best report) reads left bytes text output told = let is = output text told in (is.read, is.accepted)
-output_faultless Teleport reads left bytes text output told = let is = output text told in (is.read, is.accepted)
-output_faultless (Generate seed qubits gates) reads left bytes text output told = absurd reads
-
-made_for : (given : Option Command) (command : Command) → given ≡ Some command
-    → (left : Option (List ℕ)) (bytes : List ℕ) → IsOutputOf given left bytes → IsOutputFor command left bytes
-made_for given command is left bytes output = subst (λ g. IsOutputOf g left bytes) is output
-
--- a text for which an output was made has no fault
-made_faultless : (given : Option Command) → AsksForCircuit given → (before after : ToldSource) (bytes text : List ℕ)
-    → IsMade given before after bytes → before.left ≡ Some text → IsFaultless text
-made_faultless given (command, is, reads) before after bytes text made told =
-    output_faultless command reads before.left bytes text (made_for given command is before.left bytes made.output) told
-
-refused_is_first : (given : Option Command) → AsksForCircuit given → (before after : ToldSource) (fault : Fault) (text : List ℕ)
-    → IsRefused fault given before after → before.left ≡ Some text
-    → IsFirstFault text fault × (fault ≢ TooLong → after.left ≡ Some [])
-refused_is_first given (command, is, reads) before after fault text refused told =
-    (subst (λ g. IsRefused fault g before after) is refused).1 text told
-
-some_command : (given : Option Command) (command : Command) → given ≡ Some command → given ≡ None → ⊥
-some_command given command is none = absurd (let h : ◌≡◌ {A = Option Command} (Some command) None = sym is ∙ none in cc)
-
-circuit_given : (given : Option Command) → AsksForCircuit given → given ≡ None → ⊥
-circuit_given given (command, is, reads) none = some_command given command is none
+answers : (command : Command) (says_no : Bool) (left : Option (List ℕ)) (bytes text : List ℕ) → IsOutputOf (Some command) says_no left bytes
+    → left ≡ Some text → IsFaultlessFor command text × MayAnswer command text (answer_of says_no)
+answers command false left bytes text output told = output_answers command left bytes text output told
+answers command true left bytes text output told = no_answers command left bytes text output told
 
 module _ (given : Option Command) (before after : Streams) where
   pub done : (status : Status) → IsAnswer given before after status → status ≡ Done
@@ -70,24 +45,24 @@ module _ (given : Option Command) (before after : Streams) where
   pub done_flushed : (status : Status) → IsAnswer given before after status → status ≡ Done → after.output.pending ≡ 0
   done_flushed status a is = (subst (IsAnswer given before after) is a).2.flushed
 
-  pub done_output : (status : Status) → IsAnswer given before after status
-      → (command : Command) → status ≡ Done → given ≡ Some command
-      → GainsOutputFor command before.source.left before.output.taken after.output.taken
-  done_output status a command is gives =
-      let d = subst (IsAnswer given before after) is a in
-      (d.0, made_for given command gives before.source.left d.0 d.1.output, d.2.gains)
+  pub no_well : (status : Status) → IsAnswer given before after status → status ≡ No
+      → (after.source.faults ≡ before.source.faults) × (after.output.faults ≡ before.output.faults)
+  no_well status a is = let d = subst (IsAnswer given before after) is a in (d.1.reads_well, d.2.writes_well)
+
+  pub no_flushed : (status : Status) → IsAnswer given before after status → status ≡ No → after.output.pending ≡ 0
+  no_flushed status a is = (subst (IsAnswer given before after) is a).2.flushed
 
   pub usage : (status : Status) → IsAnswer given before after status → status ≡ Usage → given ≡ None
   usage status a is = (subst (IsAnswer given before after) is a).0.1
 
   pub usage_where : (status : Status) → IsAnswer given before after status → given ≡ None → IsOrNoMemory Usage status
-  usage_where Done a none = absurd (subst (λ g. IsOutputOf g before.source.left a.0) none a.1.output)
+  usage_where Done a none = absurd (subst (λ g. IsOutputOf g false before.source.left a.0) none a.1.output)
   usage_where (Refused fault) a none = absurd (subst Reads none a.0.1.0)
   usage_where Usage a none = inl refl
   usage_where ReadFault a none = absurd (subst Reads none a.0.1)
-  usage_where WriteFault a none = absurd (subst (λ g. IsOutputOf g before.source.left a.0) none a.1.output)
+  usage_where WriteFault a none = absurd (subst (λ g. IsOutputOf g a.1 before.source.left a.0) none a.2.output)
   usage_where NoMemory a none = inr refl
-  usage_where No a none = absurd a.0
+  usage_where No a none = absurd (subst (λ g. IsOutputOf g true before.source.left a.0) none a.1.output)
 
   pub refused : (status : Status) → IsAnswer given before after status
       → (fault : Fault) → status ≡ Refused fault → after.source.faults ≡ before.source.faults
@@ -99,14 +74,7 @@ module _ (given : Option Command) (before after : Streams) where
 
   pub write_fault : (status : Status) → IsAnswer given before after status → status ≡ WriteFault
       → Rose before.output.faults after.output.faults × (after.source.faults ≡ before.source.faults)
-  write_fault status a is = let w = subst (IsAnswer given before after) is a in (w.2.rose, w.1.reads_well)
-
-  pub write_fault_output : (status : Status) → IsAnswer given before after status
-      → (command : Command) → status ≡ WriteFault → given ≡ Some command
-      → GainsPrefixFor command before.source.left before.output.taken after.output.taken
-  write_fault_output status a command is gives =
-      let w = subst (IsAnswer given before after) is a in
-      (w.0, made_for given command gives before.source.left w.0 w.1.output, w.2.gains)
+  write_fault status a is = let w = subst (IsAnswer given before after) is a in (w.3.rose, w.2.reads_well)
 
   -- a read that failed decides the answer, where the count tells it
   pub read_fault_where : (status : Status) → IsAnswer given before after status
@@ -115,9 +83,9 @@ module _ (given : Option Command) (before after : Streams) where
   read_fault_where (Refused fault) a failed = absurd (failed a.0.0)
   read_fault_where Usage a failed = absurd (failed a.0.0)
   read_fault_where ReadFault a failed = refl
-  read_fault_where WriteFault a failed = absurd (failed a.1.reads_well)
+  read_fault_where WriteFault a failed = absurd (failed a.2.reads_well)
   read_fault_where NoMemory a failed = absurd (failed a.0)
-  read_fault_where No a failed = absurd a.0
+  read_fault_where No a failed = absurd (failed a.1.reads_well)
 
   kept : after.output ≡ before.output → after.output.faults ≢ before.output.faults → ⊥
   kept same failed = failed (ap (λ o. o.faults) same)
@@ -131,67 +99,76 @@ module _ (given : Option Command) (before after : Streams) where
   write_fault_where ReadFault a failed = absurd (kept a.1 failed)
   write_fault_where WriteFault a failed = refl
   write_fault_where NoMemory a failed = absurd (kept a.1 failed)
-  write_fault_where No a failed = absurd a.0
+  write_fault_where No a failed = absurd (failed a.2.writes_well)
 
-  pub refused_first : (status : Status) → IsAnswer given before after status
-      → (fault : Fault) (text : List ℕ) → status ≡ Refused fault → AsksForCircuit given → before.source.left ≡ Some text
-      → IsFirstFault text fault
-  refused_first status a fault text is asked told =
-      (refused_is_first given asked before.source after.source fault text (subst (IsAnswer given before after) is a).0.1 told).0
+-- ---- of the command that was given
+module _ (command : Command) (before after : Streams) where
+  pub done_output : IsAnswer (Some command) before after Done
+      → GainsOutputFor command before.source.left before.output.taken after.output.taken
+  done_output a = (a.0, a.1.output, a.2.gains)
 
-  pub refused_where : (status : Status) → IsAnswer given before after status
-      → (fault : Fault) (text : List ℕ) → AsksForCircuit given → before.source.left ≡ Some text
-      → (Rose before.source.faults after.source.faults → ⊥) → IsFirstFault text fault → IsOrNoMemory (Refused fault) status
-  refused_where Done a fault text asked told kept first =
-      absurd (not_faultless text fault first (made_faultless given asked before.source after.source a.0 text a.1 told))
-  refused_where (Refused f) a fault text asked told kept first =
-      inl (ap Refused (one_first_fault text f fault (refused_is_first given asked before.source after.source f text a.0.1 told).0 first))
-  refused_where Usage a fault text asked told kept first = absurd (circuit_given given asked a.0.1)
-  refused_where ReadFault a fault text asked told kept first = absurd (kept a.0.0)
-  refused_where WriteFault a fault text asked told kept first =
-      absurd (not_faultless text fault first (made_faultless given asked before.source after.source a.0 text a.1 told))
-  refused_where NoMemory a fault text asked told kept first = inr refl
-  refused_where No a fault text asked told kept first = absurd a.0
+  pub no_output : IsAnswer (Some command) before after No
+      → GainsNoFor command before.source.left before.output.taken after.output.taken
+  no_output a = (a.0, a.1.output, a.2.gains)
 
-  pub never_no : (status : Status) → IsAnswer given before after status → status ≢ No
-  never_no status a is = absurd (subst (IsAnswer given before after) is a).0
+  pub write_fault_output : IsAnswer (Some command) before after WriteFault
+      → GainsPrefixFor command before.source.left before.output.taken after.output.taken
+  write_fault_output a = (a.0, of_either command a.1 before.source.left a.0 a.2.output, a.3.gains)
 
-  pub complete : (status : Status) → IsAnswer given before after status
-      → (text : List ℕ) → IsFaultless text → AsksForCircuit given → before.source.left ≡ Some text
-      → (Rose before.source.faults after.source.faults → ⊥) → (Rose before.output.faults after.output.faults → ⊥)
-      → IsOrNoMemory Done status
-  complete Done a text faultless asked told kept whole = inl refl
-  complete (Refused f) a text faultless asked told kept whole =
-      absurd (not_faultless text f (refused_is_first given asked before.source after.source f text a.0.1 told).0 faultless)
-  complete Usage a text faultless asked told kept whole = absurd (circuit_given given asked a.0.1)
-  complete ReadFault a text faultless asked told kept whole = absurd (kept a.0.0)
-  complete WriteFault a text faultless asked told kept whole = absurd (whole a.2.rose)
-  complete NoMemory a text faultless asked told kept whole = inr refl
-  complete No a text faultless asked told kept whole = absurd a.0
+  -- ---- of a text that was left in the source
+  module _ (text : List ℕ) (told : before.source.left ≡ Some text) where
+    pub refused_first : (fault : Fault) → IsAnswer (Some command) before after (Refused fault) → IsFirstFaultFor command text fault
+    refused_first fault a = (a.0.1.1 text told).0
 
-  -- Done, and each refusal but of a text that is too long, come at the source's end
-  pub read_to_end : (status : Status) → IsAnswer given before after status
-      → (text : List ℕ) → AsksForCircuit given → before.source.left ≡ Some text
-      → SaysEnd status → after.source.left ≡ Some []
-  read_to_end status a text (command, is, reads) told (inl finished) =
-      let d = subst (IsAnswer given before after) finished a in
-      subst (λ g. IsAllRead g before.source after.source) is d.1.all_read reads text told
-  read_to_end status a text asked told (inr (fault, other, is)) =
-      (refused_is_first given asked before.source after.source fault text (subst (IsAnswer given before after) is a).0.1 told).1 other
+    faultless : (says_no : Bool) (bytes : List ℕ) → IsMade (Some command) before.source after.source says_no bytes → IsFaultlessFor command text
+    faultless says_no bytes made = (answers command says_no before.source.left bytes text made.output told).0
 
-  pub gen_answers : (status : Status) → IsAnswer given before after status → IsGen given → IsAnswerOfGen status
-  gen_answers Done a gen = inr (inl refl)
-  gen_answers (Refused fault) a (s, q, m, is) = absurd (subst Reads is a.0.1.0)
-  gen_answers Usage a (s, q, m, is) = absurd (some_command given (Generate s q m) is a.0.1)
-  gen_answers ReadFault a (s, q, m, is) = absurd (subst Reads is a.0.1)
-  gen_answers WriteFault a gen = inl refl
-  gen_answers NoMemory a gen = inr (inr refl)
-  gen_answers No a gen = absurd a.0
+    pub refused_where : (status : Status) → IsAnswer (Some command) before after status → (fault : Fault)
+        → IsFirstFaultFor command text fault → IsOrFailedRead (Refused fault) status
+    refused_where Done a fault first = absurd (fault_or_none command text fault first (faultless false a.0 a.1))
+    refused_where (Refused f) a fault first = inl (inl (ap Refused (one_fault command text f fault (refused_first f a) first)))
+    refused_where Usage a fault first = absurd (let h : ◌≡◌ {A = Option Command} (Some command) None = a.0.1 in cc)
+    refused_where ReadFault a fault first = inr refl
+    refused_where WriteFault a fault first = absurd (fault_or_none command text fault first (faultless a.1 a.0 a.2))
+    refused_where NoMemory a fault first = inl (inr refl)
+    refused_where No a fault first = absurd (fault_or_none command text fault first (faultless true a.0 a.1))
 
-  pub gen_complete : (status : Status) → IsAnswer given before after status → IsGen given
+    -- a text without fault is answered
+    pub complete : (status : Status) → IsAnswer (Some command) before after status → IsFaultlessFor command text
+        → MayAnswer command text status ⊎ IsFailed status
+    complete Done a none = inl (answers command false before.source.left a.0 text a.1.output told).1
+    complete (Refused f) a none = absurd (fault_or_none command text f (refused_first f a) none)
+    complete Usage a none = absurd (let h : ◌≡◌ {A = Option Command} (Some command) None = a.0.1 in cc)
+    complete ReadFault a none = inr (inl refl)
+    complete WriteFault a none = inr (inr (inl refl))
+    complete NoMemory a none = inr (inr (inr refl))
+    complete No a none = inl (answers command true before.source.left a.0 text a.1.output told).1
+
+    -- Done, No and each refusal but of a text that is too long come at the source's end
+    pub read_to_end : (status : Status) → IsAnswer (Some command) before after status → ReadsSource command
+        → SaysEnd status → after.source.left ≡ Some []
+    read_to_end status a reads (inl finished) =
+        (subst (IsAnswer (Some command) before after) finished a).1.all_read reads text told
+    read_to_end status a reads (inr (inl refused)) =
+        (subst (IsAnswer (Some command) before after) refused a).1.all_read reads text told
+    read_to_end status a reads (inr (inr (fault, other, is))) =
+        ((subst (IsAnswer (Some command) before after) is a).0.1.1 text told).1 other
+
+-- ---- of `gen`
+module _ (seed qubits gates : ℕ) (before after : Streams) where
+  pub gen_answers : (status : Status) → IsAnswer (Some (Generate seed qubits gates)) before after status → IsAnswerOfGen status
+  gen_answers Done a = inr (inl refl)
+  gen_answers (Refused fault) a = absurd a.0.1.0
+  gen_answers Usage a = absurd (let h : ◌≡◌ {A = Option Command} (Some (Generate seed qubits gates)) None = a.0.1 in cc)
+  gen_answers ReadFault a = absurd a.0.1
+  gen_answers WriteFault a = inl refl
+  gen_answers NoMemory a = inr (inr refl)
+  gen_answers No a = absurd a.1.output
+
+  pub gen_complete : (status : Status) → IsAnswer (Some (Generate seed qubits gates)) before after status
       → (Rose before.output.faults after.output.faults → ⊥) → IsOrNoMemory Done status
-  gen_complete status a gen whole = elim (gen_answers status a gen) [
-    | inl failed ↦ absurd (whole (write_fault status a failed).0)
+  gen_complete status a whole = elim (gen_answers status a) [
+    | inl failed ↦ absurd (whole (subst (IsAnswer (Some (Generate seed qubits gates)) before after) failed a).3.rose)
     | inr answered ↦ answered
   ]
 

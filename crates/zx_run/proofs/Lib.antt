@@ -1,6 +1,16 @@
-pub mod Simplified
 pub mod CountsLemmas
 pub mod OptimiseLemmas
 pub mod FaultLemmas
 pub mod ReadLemmas
+pub mod FileLemmas
+pub mod FileReadLemmas
+pub mod PartingLemmas
+pub mod RefusalLemmas
+pub mod TwoTextsLemmas
+pub mod DiagramLemmas
+pub mod FormLemmas
+pub mod CompiledLemmas
+pub mod ComparedLemmas
+pub mod VerdictLemmas
+pub mod CommandLemmas
 pub mod AnswerLemmas

@@ -19,8 +19,9 @@ use Rattle.qasm_writer.specs.Measuring.{AreBehind}
 use Rattle.qasm_writer.specs.Written.{written}
 use Rattle.qasm_writer.proofs.WrittenLemmas.{IsWritten, is_written, odd_elements, same_map}
 use Rattle.zx_run.specs.FirstFault.{IsAccepted}
-use Rattle.zx_run.specs.Outcome.{circuit_on, report_if, generation_line, IsOptimisedText, IsTeleportedText, IsGenerationReport}
-use Rattle.zx_run.specs.Optimising.{gate_bound, counts_of, Optimises, Teleports, IsBest}
+use Rattle.zx_run.specs.CircuitTexts.{circuit_on, report_if, generation_line, IsOptimisedText, IsTeleportedText, IsGenerationReport}
+use Rattle.zx_extract.specs.Simplified.{gate_bound}
+use Rattle.zx_run.specs.Optimising.{counts_of, Optimises, Teleports, IsBest}
 
 pub same_circuit : (c : Circuit) (qubits : ℕ) (gates : List Gate) → c.qubits ≡ qubits → c.gates ≡ gates → c ≡ circuit_on qubits gates
 same_circuit c qubits gates same_qubits same_gates = ap₂ circuit_on same_qubits same_gates

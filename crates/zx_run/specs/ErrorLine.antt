@@ -6,6 +6,7 @@ use Rattle.zx_run.specs.declared.status.Fault.TheVariants.{Redeclared, EmptyRegi
 use Rattle.zx_run.specs.declared.status.Fault.TheVariants.{WrongCount, Index, Sizes, SameQubit, Divide, AngleTooLarge}
 use Rattle.zx_run.specs.declared.status.Fault.TheVariants.{NotSixteenthTurn, TooDeep, TooManyGates, SecondVersion}
 use Rattle.zx_run.specs.declared.status.Fault.TheVariants.{BadLine, AfterMeasure, BitTwice, TooManyBits}
+use Rattle.zx_run.specs.declared.status.Fault.TheVariants.{NotSquare, NoSecond}
 use Rattle.zx_run.specs.declared.status.Status.{Status}
 use Rattle.zx_run.specs.declared.status.Status.TheVariants.{Refused, Usage, ReadFault, WriteFault, NoMemory}
 
@@ -39,11 +40,13 @@ fault_text (BadLine line) = at_place (codes "21 BadLine") line
 fault_text (AfterMeasure at) = at_place (codes "22 AfterMeasure") at
 fault_text (BitTwice at) = at_place (codes "23 BitTwice") at
 fault_text (TooManyBits at) = at_place (codes "24 TooManyBits") at
+fault_text NotSquare = codes "25 NotSquare"
+fault_text NoSecond = codes "26 NoSecond"
 
 -- the line, with its line end; Done and No have none
 abbrev pub error_line : Status → List ℕ
 error_line (Refused fault) = codes "zxopt: fault " ++ fault_text fault ++ codes "\n"
-error_line Usage = codes "usage: zxopt opt [--best] [--report] | reduce | flow | graph | gen SEED QUBITS GATES | teleport\n"
+error_line Usage = codes "usage: zxopt opt [--best] [--report] | reduce | flow | graph | gen SEED QUBITS GATES | compile | teleport | same\n"
 error_line ReadFault = codes "zxopt: read fault\n"
 error_line WriteFault = codes "zxopt: write fault\n"
 error_line NoMemory = codes "zxopt: no memory\n"

@@ -2,3 +2,5 @@
 pub mod Answers
 pub mod Candidates
 pub mod Places
+pub mod Refusals
+pub mod Verdicts

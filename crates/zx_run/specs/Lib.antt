@@ -1,5 +1,11 @@
 pub mod FirstFault
+pub mod TwoTexts
+pub mod DiagramFiles
+pub mod Compiling
+pub mod Comparing
 pub mod Optimising
+pub mod CircuitTexts
+pub mod FlowFiles
 pub mod Outcome
 pub mod ErrorLine
 pub mod ErrorAnswers

@@ -1,11 +1,7 @@
 -- What the optimiser may make of a circuit, and what becomes of one whose phases alone are changed.
-use Rattle.std.specs.Prelude.{◌≡◌, ◌<◌, ◌≤◌, ◌⊎◌, ◌+◌, ◌*◌, ℕ, List, length}
+use Rattle.std.specs.Prelude.{◌≡◌, ◌<◌, ◌≤◌, ◌⊎◌, ℕ, List, length}
 use Rattle.std.specs.List.{count_by}
 use Rattle.zx_model.specs.Proportional.{Proportional}
-use Rattle.zx_calculus.specs.Graph.{Graph}
-use Rattle.zx_calculus.specs.Steps.{Step, IsRun}
-use Rattle.zx_calculus.specs.Counts.{odd_phases}
-use Rattle.zx_calculus.specs.Reduced.{IsReduced}
 use Rattle.zx_gates.specs.declared.gate.Gate.{Gate}
 use Rattle.zx_gates.specs.declared.tally.Counts.{Counts}
 use Rattle.zx_gates.specs.Circuit.{Circuit, gate_odd_phases}
@@ -13,24 +9,12 @@ use Rattle.zx_gates.specs.Counting.{is_h, is_phase, is_cz, is_cx, is_not, is_two
 use Rattle.zx_gates.specs.Maps.{amp}
 use Rattle.circuit_graph.specs.Translation.{translated}
 use Rattle.teleport_circuits.specs.Circuits.{IsSkeleton}
+use Rattle.zx_extract.specs.Simplified.{gate_bound, IsThroughReduced}
 use Rattle.zx_peephole.specs.Tidy.{IsTidy}
-
--- the most gates of the answer, for n qubits and t odd phases
-abbrev pub gate_bound : ℕ → ℕ → ℕ
-gate_bound n t = 4 * n * n + 6 * n + 3 * n * t
 
 -- the most gates of the answer to a circuit
 abbrev pub bound_of : Circuit → ℕ
 bound_of read = gate_bound read.qubits (gate_odd_phases read.gates)
-
--- Rewrites lead from the graph of the circuit that is read to a reduced one, which has at least as many
--- odd phases as the circuit that is made.
-pub record IsThroughReduced (read made : Circuit) : Type 0 where
-  pub steps : List Step
-  pub end : Graph
-  pub run : IsRun (translated read) steps end
-  pub reduced : IsReduced end
-  pub odd : gate_odd_phases made.gates ≤ odd_phases end
 
 -- The circuit that is made is on as many qubits as the read one, with a proportional linear map and no
 -- more odd phases. No gates in it cancel or merge, and it has no more than the bound.
@@ -40,7 +24,7 @@ pub record Optimises (read made : Circuit) : Type 0 where
   pub odd : gate_odd_phases made.gates ≤ gate_odd_phases read.gates
   pub tidy : IsTidy made.gates
   pub few_gates : length made.gates ≤ bound_of read
-  pub reduced : IsThroughReduced read made
+  pub reduced : IsThroughReduced (translated read) made
 
 -- The circuit that is made is on as many qubits as the read one, and has its gates in their order, but that phase
 -- gates may have other phases or be left out. It has a proportional linear map and no more odd phases.
@@ -49,7 +33,7 @@ pub record Teleports (read made : Circuit) : Type 0 where
   pub skeleton : IsSkeleton read.gates made.gates
   pub map : Proportional read.qubits read.qubits (amp read.gates) (amp made.gates)
   pub odd : gate_odd_phases made.gates ≤ gate_odd_phases read.gates
-  pub reduced : IsThroughReduced read made
+  pub reduced : IsThroughReduced (translated read) made
 
 -- how many gates of each kind there are
 abbrev pub counts_of : List Gate → Counts

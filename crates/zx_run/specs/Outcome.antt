@@ -1,101 +1,89 @@
--- What a run may write, and what it did to the output.
-use Rattle.std.specs.Prelude.{◌≡◌, ◌≢◌, ◌≤◌, ◌⊎◌, ◌++◌, ℕ, Bool, true, if◌then◌else◌, List, [], take, codes, decimal}
+-- What a command finds in a text, what it may answer and write, and what a run did to the output.
+use Rattle.std.specs.Prelude.{◌≡◌, ◌≢◌, ◌⊎◌, ◌++◌, ℕ, List, take}
 use Rattle.std.specs.Prelude.{Option, Some}
+use Rattle.zx_diagram.specs.Diagram.{Diagram}
 use Rattle.zx_gates.specs.declared.elementary.Elementary.{Elementary}
-use Rattle.zx_gates.specs.declared.gate.Gate.{Gate}
-use Rattle.zx_gates.specs.Circuit.{Circuit, IsCircuit}
-use Rattle.zx_gates.specs.Elementary.{elementary_odd_phases}
-use Rattle.zx_gates.specs.ElementaryMaps.{amp_elementary}
-use Rattle.zx_gates.specs.Lowering.{lowered}
-use Rattle.zx_gen.specs.Generator.{generated}
-use Rattle.zx_model.specs.Proportional.{Proportional}
-use Rattle.zx_report.specs.Report.{report_lines}
 use Rattle.zx_words.specs.declared.words.Command.{Command}
-use Rattle.zx_words.specs.declared.words.Command.TheVariants.{Optimise, Teleport, Generate}
-use Rattle.qasm_scope.specs.Texts.{TextMeans, program_size}
-use Rattle.qasm_writer.specs.Elements.{elements_of}
-use Rattle.qasm_writer.specs.Written.{written}
+use Rattle.zx_words.specs.declared.words.Command.TheVariants.{Optimise, Reduce, Flow, Graph, Compile}
+use Rattle.zx_words.specs.declared.words.Command.TheVariants.{Teleport, Same, Generate}
 use Rattle.zx_run.specs.declared.status.Status.{Status}
-use Rattle.zx_run.specs.declared.status.Status.TheVariants.{Done, Refused, WriteFault, NoMemory, No}
+use Rattle.zx_run.specs.declared.status.Status.TheVariants.{Done, Refused, ReadFault, WriteFault, NoMemory, No}
 use Rattle.zx_run.specs.declared.status.Fault.{Fault}
 use Rattle.zx_run.specs.declared.status.Fault.TheVariants.{TooLong}
-use Rattle.zx_run.specs.FirstFault.{IsAccepted}
-use Rattle.zx_run.specs.Optimising.{Optimises, Teleports, IsBest, gate_bound, counts_of}
+use Rattle.zx_run.specs.FirstFault.{IsFaultless, IsFirstFault}
+use Rattle.zx_run.specs.FlowFiles.{IsFirstFileFault, IsFlowFile, IsVerdictOn, IsReducedText, IsFlowText, IsNoText}
+use Rattle.zx_run.specs.DiagramFiles.{IsFirstDiagramFault, IsFirstSquareFault, IsDiagramFile, IsSquare, IsGraphText}
+use Rattle.zx_run.specs.Compiling.{IsCompiledText, IsNoFlowText, IsFormVerdict}
+use Rattle.zx_run.specs.TwoTexts.{IsFirstFaultOfTwo, AreAccepted}
+use Rattle.zx_run.specs.Comparing.{IsSameText, IsDifferentText, IsSamenessVerdict}
+use Rattle.zx_run.specs.CircuitTexts.{IsOptimisedText, IsTeleportedText, IsGenerationReport}
 
--- a number of qubits, and gates on them
-abbrev pub circuit_on : ℕ → List Gate → Circuit
-circuit_on qubits gates = record { qubits = qubits; gates = gates }
+-- the command reads the source
+abbrev pub ReadsSource : Command → Type 0
+ReadsSource (Optimise best report) = Unit {0}
+ReadsSource Teleport = Unit {0}
+ReadsSource Reduce = Unit {0}
+ReadsSource Flow = Unit {0}
+ReadsSource Graph = Unit {0}
+ReadsSource Compile = Unit {0}
+ReadsSource Same = Unit {0}
+ReadsSource (Generate seed qubits gates) = ⊥
 
--- the report of two lists of gates, where it is asked for
-abbrev pub report_if : Bool → List Gate → List Gate → List ℕ
-report_if report read made = if report then report_lines (counts_of read) (counts_of made) else []
+-- the fault is the first one of the text, as the command reads it
+abbrev pub IsFirstFaultFor : Command → List ℕ → Fault → Type 0
+IsFirstFaultFor (Optimise best report) text fault = IsFirstFault text fault
+IsFirstFaultFor Teleport text fault = IsFirstFault text fault
+IsFirstFaultFor Reduce text fault = IsFirstFileFault text fault
+IsFirstFaultFor Flow text fault = IsFirstFileFault text fault
+IsFirstFaultFor Graph text fault = IsFirstDiagramFault text fault
+IsFirstFaultFor Compile text fault = IsFirstSquareFault text fault
+IsFirstFaultFor Same text fault = IsFirstFaultOfTwo text fault
+IsFirstFaultFor (Generate seed qubits gates) text fault = ⊥
 
--- The bytes are what `opt` may write for a text, with the flags `best` and `report` or without: the text
--- has no fault, and they are the text of a circuit that optimises the one that is meant, lowered, and its
--- report. That text means, with n qubits and t odd phases in the text that was read, the same linear map up
--- to a nonzero scalar, with at most t odd phases, and behind it the same measurements, in the same order, into
--- as many bits. Its program applies at most 4*n*n + 6*n + 3*n*t gates.
-pub record IsOptimisedText (best report : Bool) (text bytes : List ℕ) : Type 0 where
-  pub read : Elementary
-  pub circuit : Circuit
-  pub accepted : IsAccepted text read
-  pub spelled : bytes ≡ written circuit read.bits read.measured ++ report_if report (lowered read.gates) circuit.gates
-  -- the headline
-  pub means : TextMeans (written circuit read.bits read.measured) read.qubits (elements_of circuit.gates) read.bits
-      read.measured
-  pub same_map : Proportional read.qubits read.qubits (amp_elementary read.gates)
-      (amp_elementary (elements_of circuit.gates))
-  pub no_more_odd : elementary_odd_phases (elements_of circuit.gates) ≤ elementary_odd_phases read.gates
-  pub few_gates : program_size means.program ≤ gate_bound read.qubits (elementary_odd_phases read.gates)
-  -- what more is known of the circuit
-  pub valid : IsCircuit circuit
-  pub optimises : Optimises (circuit_on read.qubits (lowered read.gates)) circuit
-  pub is_best : best ≡ true → IsBest (circuit_on read.qubits (lowered read.gates)) circuit
+-- the text has no fault, as the command reads it
+abbrev pub IsFaultlessFor : Command → List ℕ → Type 0
+IsFaultlessFor (Optimise best report) text = IsFaultless text
+IsFaultlessFor Teleport text = IsFaultless text
+IsFaultlessFor Reduce text = IsFlowFile text
+IsFaultlessFor Flow text = IsFlowFile text
+IsFaultlessFor Graph text = (diagram : Diagram) × IsDiagramFile text diagram
+IsFaultlessFor Compile text = (diagram : Diagram) × IsDiagramFile text diagram × IsSquare diagram
+IsFaultlessFor Same text = (one : Elementary) × (other : Elementary) × AreAccepted text one other
+IsFaultlessFor (Generate seed qubits gates) text = Unit {0}
 
--- The bytes are what `teleport` may write for a text: the text has no fault, and they are the text of a circuit in
--- which phases alone differ from the one that is meant, lowered. That text means the same linear map up to a nonzero
--- scalar, with no more odd phases, and behind it the same measurements, in the same order, into as many bits.
-pub record IsTeleportedText (text bytes : List ℕ) : Type 0 where
-  pub read : Elementary
-  pub circuit : Circuit
-  pub accepted : IsAccepted text read
-  pub spelled : bytes ≡ written circuit read.bits read.measured
-  pub means : TextMeans (written circuit read.bits read.measured) read.qubits (elements_of circuit.gates) read.bits
-      read.measured
-  pub same_map : Proportional read.qubits read.qubits (amp_elementary read.gates)
-      (amp_elementary (elements_of circuit.gates))
-  pub no_more_odd : elementary_odd_phases (elements_of circuit.gates) ≤ elementary_odd_phases read.gates
-  -- what more is known of the circuit
-  pub valid : IsCircuit circuit
-  pub teleports : Teleports (circuit_on read.qubits (lowered read.gates)) circuit
+-- the command may give this answer, Done or No, to a text without fault
+abbrev pub MayAnswer : Command → List ℕ → Status → Type 0
+MayAnswer (Optimise best report) text status = status ≡ Done
+MayAnswer Teleport text status = status ≡ Done
+MayAnswer Reduce text status = IsVerdictOn text status
+MayAnswer Flow text status = IsVerdictOn text status
+MayAnswer Graph text status = status ≡ Done
+MayAnswer Compile text status = IsFormVerdict text status
+MayAnswer Same text status = IsSamenessVerdict text status
+MayAnswer (Generate seed qubits gates) text status = status ≡ Done
 
--- the line of the words of `gen`
-abbrev pub generation_line : ℕ → ℕ → ℕ → List ℕ
-generation_line seed qubits gates =
-    codes "// gen " ++ decimal seed ++ codes " " ++ decimal qubits ++ codes " " ++ decimal gates ++ codes "\n"
-
--- the bytes are what `gen` may write: its words, and the report of the circuit of the seed and of one that
--- optimises it
-pub record IsGenerationReport (seed qubits gates : ℕ) (bytes : List ℕ) : Type 0 where
-  pub made : Circuit
-  pub optimises : Optimises (circuit_on qubits (generated seed qubits gates)) made
-  pub spelled : bytes ≡ generation_line seed qubits gates
-      ++ report_lines (counts_of (generated seed qubits gates)) (counts_of made.gates)
-
--- the bytes are what a command may write, where this is told as left in the source
+-- the bytes are what a command may write with the answer Done, where this is told as left in the source
 abbrev pub IsOutputFor : Command → Option (List ℕ) → List ℕ → Type 0
 IsOutputFor (Optimise best report) left bytes =
     (text : List ℕ) → left ≡ Some text → IsOptimisedText best report text bytes
 IsOutputFor Teleport left bytes = (text : List ℕ) → left ≡ Some text → IsTeleportedText text bytes
+IsOutputFor Reduce left bytes = (text : List ℕ) → left ≡ Some text → IsReducedText text bytes
+IsOutputFor Flow left bytes = (text : List ℕ) → left ≡ Some text → IsFlowText text bytes
+IsOutputFor Graph left bytes = (text : List ℕ) → left ≡ Some text → IsGraphText text bytes
+IsOutputFor Compile left bytes = (text : List ℕ) → left ≡ Some text → IsCompiledText text bytes
+IsOutputFor Same left bytes = (text : List ℕ) → left ≡ Some text → IsSameText text bytes
 IsOutputFor (Generate seed qubits gates) left bytes = IsGenerationReport seed qubits gates bytes
 
--- the words give `opt`, with or without its flags
-abbrev pub IsOpt : Option Command → Type 0
-IsOpt given = (best report : Bool) × (given ≡ Some (Optimise best report))
-
--- the words give `teleport`
-abbrev pub IsTeleport : Option Command → Type 0
-IsTeleport given = given ≡ Some Teleport
+-- the bytes are what a command may write with the answer No, if it ever gives it
+abbrev pub IsNoFor : Command → Option (List ℕ) → List ℕ → Type 0
+IsNoFor (Optimise best report) left bytes = ⊥
+IsNoFor Teleport left bytes = ⊥
+IsNoFor Reduce left bytes = (text : List ℕ) → left ≡ Some text → IsNoText text bytes
+IsNoFor Flow left bytes = (text : List ℕ) → left ≡ Some text → IsNoText text bytes
+IsNoFor Graph left bytes = ⊥
+IsNoFor Compile left bytes = (text : List ℕ) → left ≡ Some text → IsNoFlowText text bytes
+IsNoFor Same left bytes = (text : List ℕ) → left ≡ Some text → IsDifferentText text bytes
+IsNoFor (Generate seed qubits gates) left bytes = ⊥
 
 -- the words give `gen`
 abbrev pub IsGen : Option Command → Type 0
@@ -110,14 +98,18 @@ abbrev pub GainsPrefix : Option (List ℕ) → Option (List ℕ) → List ℕ �
 GainsPrefix old new bytes =
     (before : List ℕ) → old ≡ Some before → (k : ℕ) × (new ≡ Some (before ++ take k bytes))
 
--- the output gained all that the command may write, where this is told as left in the source
+-- the output gained all that the command may write with the answer Done
 abbrev pub GainsOutputFor : Command → Option (List ℕ) → Option (List ℕ) → Option (List ℕ) → Type 0
 GainsOutputFor command left old new = (bytes : List ℕ) × IsOutputFor command left bytes × Gains old new bytes
 
--- the output gained a prefix of what the command may write
+-- the output gained all that the command may write with the answer No
+abbrev pub GainsNoFor : Command → Option (List ℕ) → Option (List ℕ) → Option (List ℕ) → Type 0
+GainsNoFor command left old new = (bytes : List ℕ) × IsNoFor command left bytes × Gains old new bytes
+
+-- the output gained a prefix of what the command may write with either answer
 abbrev pub GainsPrefixFor : Command → Option (List ℕ) → Option (List ℕ) → Option (List ℕ) → Type 0
 GainsPrefixFor command left old new =
-    (bytes : List ℕ) × IsOutputFor command left bytes × GainsPrefix old new bytes
+    (bytes : List ℕ) × (IsOutputFor command left bytes ⊎ IsNoFor command left bytes) × GainsPrefix old new bytes
 
 -- the answers after which the output is as it was
 abbrev pub LeavesOutput : Status → Type 0
@@ -127,9 +119,18 @@ LeavesOutput status = (status ≢ Done) × (status ≢ WriteFault) × (status �
 abbrev pub IsOrNoMemory : Status → Status → Type 0
 IsOrNoMemory expected status = (status ≡ expected) ⊎ (status ≡ NoMemory)
 
--- the answers of `opt` and `teleport` after which the source was read to its end
+-- the answer is this one, or a read failed, or memory ran out
+abbrev pub IsOrFailedRead : Status → Status → Type 0
+IsOrFailedRead expected status = IsOrNoMemory expected status ⊎ (status ≡ ReadFault)
+
+-- a stream failed, or memory ran out
+abbrev pub IsFailed : Status → Type 0
+IsFailed status = (status ≡ ReadFault) ⊎ ((status ≡ WriteFault) ⊎ (status ≡ NoMemory))
+
+-- the answers of a command that reads the source after which that was read to its end
 abbrev pub SaysEnd : Status → Type 0
-SaysEnd status = (status ≡ Done) ⊎ ((fault : Fault) × (fault ≢ TooLong) × (status ≡ Refused fault))
+SaysEnd status =
+    (status ≡ Done) ⊎ ((status ≡ No) ⊎ ((fault : Fault) × (fault ≢ TooLong) × (status ≡ Refused fault)))
 
 -- the answers that `gen` may give
 abbrev pub IsAnswerOfGen : Status → Type 0

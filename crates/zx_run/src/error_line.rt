@@ -36,7 +36,7 @@ fn error_line(status: Status) -> Line
         Status::Done | Status::No => Line::new(),
         Status::Refused(fault) => refusal_line(fault),
         Status::Usage => line_with(
-            "usage: zxopt opt [--best] [--report] | reduce | flow | graph | gen SEED QUBITS GATES | teleport\n",
+            "usage: zxopt opt [--best] [--report] | reduce | flow | graph | gen SEED QUBITS GATES | compile | teleport | same\n",
         ),
         Status::ReadFault => line_with("zxopt: read fault\n"),
         Status::WriteFault => line_with("zxopt: write fault\n"),
@@ -109,5 +109,7 @@ fn name_and_place(fault: Fault) -> (&'static str, Option<usize>)
         Fault::AfterMeasure { at } => ("22 AfterMeasure", Some(at)),
         Fault::BitTwice { at } => ("23 BitTwice", Some(at)),
         Fault::TooManyBits { at } => ("24 TooManyBits", Some(at)),
+        Fault::NotSquare => ("25 NotSquare", None),
+        Fault::NoSecond => ("26 NoSecond", None),
     }
 }

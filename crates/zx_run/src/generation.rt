@@ -3,7 +3,7 @@
 ghost use Rattle.std.specs.Prelude.{◌≡◌, ◌≤◌, IfOk};
 ghost use Rattle.zx_gates.specs.Circuit.{most_qubits};
 ghost use Rattle.zx_gen.specs.Generator.{most_drawn_gates};
-ghost use Rattle.zx_run.specs.Outcome.{IsGenerationReport, generation_line};
+ghost use Rattle.zx_run.specs.CircuitTexts.{IsGenerationReport, generation_line};
 
 use crate::optimiser::optimise;
 use crate::reporting::report_lines;

@@ -1,21 +1,20 @@
 //! Circuits through the graph and back.
 
-ghost use Rattle.std.specs.Prelude.{◌≡◌, ◌≤◌, ◌<◌, true, length, nat_le, IfOk};
+ghost use Rattle.std.specs.Prelude.{◌≡◌, ◌≤◌, true, length, nat_le, IfOk};
 ghost use Rattle.zx_model.specs.Proportional.{Proportional};
 ghost use Rattle.zx_gates.specs.Circuit.{gate_odd_phases};
 ghost use Rattle.zx_gates.specs.Maps.{amp};
 ghost use Rattle.zx_peephole.specs.Tidy.{IsTidy};
-ghost use Rattle.zx_run.specs.Optimising.{bound_of, counts_of, gate_bound, IsBest, IsCleaned, IsNoDearer, IsThroughReduced, Optimises};
+ghost use Rattle.circuit_graph.specs.Translation.{translated};
+ghost use Rattle.zx_extract.specs.Simplified.{gate_bound, IsThroughReduced};
+ghost use Rattle.zx_run.specs.Optimising.{bound_of, counts_of, IsBest, IsCleaned, IsNoDearer, Optimises};
 ghost use Rattle.zx_run.specs.Internal.Candidates.{is_dearer};
 
 use circuit_graph::translate;
 use std::alloc::{AllocError, Global};
-use std::marker::Brand;
-use std::sync::ledger::{Blank, Ledger};
-use zx_extract::extract;
 use zx_gates::{Counts, GateList, Qubit, counts};
 use zx_peephole::tidy;
-use zx_reduce::{Steps, Trace, reduce};
+use zx_simplify::simplify;
 
 /// The optimised circuit: its linear map is the read one's up to a nonzero scalar, it has no more odd
 /// phases, and few gates for these and its qubits.
@@ -35,10 +34,10 @@ pub fn optimise(alloc: Global, read: &GateList, best: bool) -> Result<GateList, 
         read.now.gates) }
     ensures tidy { IfOk result (λ made. IsTidy made.gates) }
     ensures few_gates { IfOk result (λ made. length made.gates ≤ bound_of read.now) }
-    ensures reduced { IfOk result (IsThroughReduced read.now) }
+    ensures reduced { IfOk result (IsThroughReduced (translated read.now)) }
     ensures best { best ≡ true → IfOk result (IsBest read.now) }
 {
-    let simplified = simplify::<Brand>(alloc, read, Blank::new(1))?;
+    let simplified = simplified(alloc, read)?;
     if best {
         better(read, simplified)
     } else {
@@ -46,22 +45,15 @@ pub fn optimise(alloc: Global, read: &GateList, best: bool) -> Result<GateList, 
     }
 }
 
-// The circuit of the reduced graph, after cleanup. The moves are counted for nobody.
-fn simplify<L: Ledger>(alloc: Global, read: &GateList, blank: Blank) -> Result<GateList, AllocError>
-    requires name { blank.name ≡ L.name }
-    requires parts { blank.parts ≡ L.parts }
-    requires some { 0 < L.parts }
+// The circuit of the reduced graph, after cleanup.
+fn simplified(alloc: Global, read: &GateList) -> Result<GateList, AllocError>
     ensures { IfOk result (Optimises read.now) }
 {
-    // A circuit has no more qubits than `extract` takes outputs.
+    // A circuit has no more qubits than `simplify` takes outputs.
     prove!(read.qubits() <= 1_024);
-    let (mut graph, mut flow) = translate(alloc, read)?;
-    let mut trace = Trace::new(alloc);
-    let mut moves = Steps::<L>::new(blank);
-    reduce(&mut graph, &mut flow, &mut trace, &mut moves)?;
-    let mut made = extract(alloc, graph, flow)?;
-    tidy(&mut made);
-    Ok(made)
+    let (graph, flow) = translate(alloc, read)?;
+    let made = simplify(alloc, graph, flow)?;
+    Ok(made.gates)
 }
 
 // The simplified circuit, or the read one after cleanup where that is within the bound and cheaper.

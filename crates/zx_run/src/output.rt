@@ -3,7 +3,7 @@
 ghost use Rattle.std.specs.Prelude.{◌≡◌, List, ℕ, IfOk};
 ghost use Rattle.zx_gates.specs.Elementary.{IsElementary};
 ghost use Rattle.zx_run.specs.FirstFault.{IsAccepted};
-ghost use Rattle.zx_run.specs.Outcome.{IsOptimisedText, report_if};
+ghost use Rattle.zx_run.specs.CircuitTexts.{IsOptimisedText, report_if};
 
 use crate::optimiser::optimise;
 use crate::reporting::report_lines;

@@ -1,33 +1,45 @@
 //! A run of the program, over any source and sinks.
 
-ghost use Rattle.std.specs.Prelude.{◌≡◌, ◌≢◌, List, ℕ, [], None, Some, IfOk, IfErr};
+ghost use Rattle.std.specs.Prelude.{◌≡◌, ◌≢◌, ◌⊎◌, List, ℕ, [], None, Some, IfOk, IfErr};
 ghost use Rattle.zx_io.specs.Causes.{Rose};
 ghost use Rattle.zx_words.specs.declared.words.Command.{Command};
-ghost use Rattle.zx_words.specs.declared.words.Command.TheVariants.{Optimise, Teleport};
+ghost use Rattle.zx_words.specs.declared.words.Command.TheVariants.{Optimise, Reduce, Flow, Graph, Compile, Teleport, Same};
 ghost use Rattle.zx_words.specs.Command.{command_in};
 ghost use Rattle.zx_run.specs.declared.status.Fault.{Fault};
-ghost use Rattle.zx_run.specs.FirstFault.{IsFaultless, IsFirstFault};
-ghost use Rattle.zx_run.specs.Outcome.{Gains, GainsOutputFor, GainsPrefix, GainsPrefixFor, IsAnswerOfGen, IsGen, IsOpt, IsOrNoMemory, IsTeleport, LeavesOutput, SaysEnd};
+ghost use Rattle.zx_run.specs.Outcome.{Gains, GainsNoFor, GainsOutputFor, GainsPrefix, GainsPrefixFor, IsAnswerOfGen, IsGen, IsOrNoMemory};
+ghost use Rattle.zx_run.specs.Outcome.{IsFailed, IsFaultlessFor, IsFirstFaultFor, IsOrFailedRead, LeavesOutput, MayAnswer, ReadsSource, SaysEnd};
 ghost use Rattle.zx_run.specs.ErrorLine.{error_line};
 ghost use Rattle.zx_run.specs.Internal.Answers.{IsAnswer, IsFailure, IsMade, Reads, streams, told_output, told_source};
 
+use crate::comparison::comparison_text;
+use crate::compilation::compiled_text;
+use crate::diagram_reader::{read_diagram_file, read_square_diagram};
 use crate::error_line::report;
+use crate::flow_reader::read_flow_file;
+use crate::flow_verdict::flow_verdict;
 use crate::generation::generation_report;
+use crate::graph_form::graph_text;
 use crate::output::optimised_text;
 use crate::reader::read_circuit;
+use crate::reduction::reduction;
 use crate::status::Status;
 use crate::teleporting::teleported_text;
+use crate::two_reader::read_two_circuits;
+use crate::written::Written;
 use std::alloc::Global;
 use zx_io::{Sink, Source, WriteFault, write_all};
 use zx_words::{Command, command_in};
 
 /// Runs the command that the words give, those after the program's name: `opt` reads a text from
 /// `source` to its end, and writes the text of the optimised circuit to `out`, with `--report` its
-/// report too; `teleport` reads one and writes it with phases alone changed; `gen` reads nothing, and
-/// writes the report of a circuit from a seed. A line about any other answer than Done goes to `err`,
+/// report too; `teleport` reads one and writes it with phases alone changed; `same` reads two and
+/// tells whether their circuits have one map. `flow` reads a graph with a table of corrections, and
+/// tells whether it is a flow; `reduce` simplifies the graph along it. `graph` and `compile` read a
+/// diagram, and write its graph-like form, or a circuit for it. `gen` reads nothing, and writes the
+/// report of a circuit from a seed. A line about any other answer than Done and No goes to `err`,
 /// whose failures change nothing.
 ///
-/// Want of memory may take the place of Done, of Usage and of a refusal, and of no other answer.
+/// Want of memory may take the place of Done, No, Usage and a refusal, and of no other answer.
 pub fn run<'a, S: Source, O: Sink, E: Sink>(
     alloc: Global,
     words: &'a [&'a str],
@@ -43,21 +55,30 @@ pub fn run<'a, S: Source, O: Sink, E: Sink>(
         command_in words.now ≡ Some command →
         GainsOutputFor command (S.left source.old) (O.taken out.old) (O.taken out.new) }
 
+    // No: the same, but that the output gained what the command may write with this answer.
+    ensures no { result ≡ Status.No →
+        (S.faults source.new ≡ S.faults source.old) × (O.faults out.new ≡ O.faults out.old) }
+    ensures no_flushed { result ≡ Status.No → O.pending out.new ≡ 0 }
+    ensures no_output { (command : Command) → result ≡ Status.No →
+        command_in words.now ≡ Some command →
+        GainsNoFor command (S.left source.old) (O.taken out.old) (O.taken out.new) }
+
     // Usage: only where the words are no command, and always there, unless memory runs out. Nothing is
     // read then.
     ensures usage { result ≡ Status.Usage → command_in words.now ≡ None }
     ensures usage_where { command_in words.now ≡ None → IsOrNoMemory Status.Usage result }
     ensures usage_unread { result ≡ Status.Usage → source.new ≡ source.old }
 
-    // Refused: no read failed. Of `opt` exactly where the fault is the first one of the text,
-    // unless memory runs out.
+    // Refused: no read failed. Exactly where the fault is the first one of the text, as the command
+    // reads it, unless a read fails or memory runs out.
     ensures refused { (fault : Fault) → result ≡ Status.Refused fault
         → S.faults source.new ≡ S.faults source.old }
-    ensures refused_first { (fault : Fault) (text : List ℕ) → result ≡ Status.Refused fault →
-        IsOpt (command_in words.now) → S.left source.old ≡ Some text → IsFirstFault text fault }
-    ensures refused_where { (fault : Fault) (text : List ℕ) → IsOpt (command_in words.now) →
-        S.left source.old ≡ Some text → ¬ Rose (S.faults source.old) (S.faults source.new) →
-        IsFirstFault text fault → IsOrNoMemory (Status.Refused fault) result }
+    ensures refused_first { (command : Command) (text : List ℕ) (fault : Fault) →
+        command_in words.now ≡ Some command → S.left source.old ≡ Some text →
+        result ≡ Status.Refused fault → IsFirstFaultFor command text fault }
+    ensures refused_where { (command : Command) (text : List ℕ) (fault : Fault) →
+        command_in words.now ≡ Some command → S.left source.old ≡ Some text →
+        IsFirstFaultFor command text fault → IsOrFailedRead (Status.Refused fault) result }
 
     // ReadFault and WriteFault: only where that stream failed in this call, and always where its count
     // tells so.
@@ -71,26 +92,11 @@ pub fn run<'a, S: Source, O: Sink, E: Sink>(
     ensures write_fault_output { (command : Command) → result ≡ Status.WriteFault →
         command_in words.now ≡ Some command →
         GainsPrefixFor command (S.left source.old) (O.taken out.old) (O.taken out.new) }
-    ensures never_no { IsOpt (command_in words.now) → result ≢ Status.No }
 
-    // A text without fault is optimised, unless a stream fails or memory runs out.
-    ensures complete { (text : List ℕ) → IsFaultless text → IsOpt (command_in words.now) →
-        S.left source.old ≡ Some text → ¬ Rose (S.faults source.old) (S.faults source.new) →
-        ¬ Rose (O.faults out.old) (O.faults out.new) → IsOrNoMemory Status.Done result }
-
-    // `teleport` refuses a text where `opt` does, and is done where `opt` is.
-    ensures teleport_refused_first { (fault : Fault) (text : List ℕ) →
-        result ≡ Status.Refused fault → IsTeleport (command_in words.now) →
-        S.left source.old ≡ Some text → IsFirstFault text fault }
-    ensures teleport_refuses { (fault : Fault) (text : List ℕ) → IsTeleport (command_in words.now) →
-        S.left source.old ≡ Some text → ¬ Rose (S.faults source.old) (S.faults source.new) →
-        IsFirstFault text fault → IsOrNoMemory (Status.Refused fault) result }
-    ensures teleport_never_no { IsTeleport (command_in words.now) → result ≢ Status.No }
-    ensures teleport_done { (text : List ℕ) → IsFaultless text → IsTeleport (command_in words.now) →
-        S.left source.old ≡ Some text → ¬ Rose (S.faults source.old) (S.faults source.new) →
-        ¬ Rose (O.faults out.old) (O.faults out.new) → IsOrNoMemory Status.Done result }
-    ensures teleport_read_to_end { (text : List ℕ) → IsTeleport (command_in words.now) →
-        S.left source.old ≡ Some text → SaysEnd result → S.left source.new ≡ Some [] }
+    // A text without fault is answered as it decides, unless a stream fails or memory runs out.
+    ensures complete { (command : Command) (text : List ℕ) → command_in words.now ≡ Some command →
+        S.left source.old ≡ Some text → IsFaultlessFor command text →
+        MayAnswer command text result ⊎ IsFailed result }
 
     // `gen` reads nothing, and is done unless the output fails or memory runs out.
     ensures gen_answers { IsGen (command_in words.now) → IsAnswerOfGen result }
@@ -99,8 +105,9 @@ pub fn run<'a, S: Source, O: Sink, E: Sink>(
     ensures gen_unread { IsGen (command_in words.now) → source.new ≡ source.old }
 
     // What stands after the answer.
-    ensures read_to_end { (text : List ℕ) → IsOpt (command_in words.now) →
-        S.left source.old ≡ Some text → SaysEnd result → S.left source.new ≡ Some [] }
+    ensures read_to_end { (command : Command) (text : List ℕ) →
+        command_in words.now ≡ Some command → S.left source.old ≡ Some text →
+        ReadsSource command → SaysEnd result → S.left source.new ≡ Some [] }
     ensures out_kept { LeavesOutput result → out.new ≡ out.old }
     ensures err_prefix { GainsPrefix (E.taken err.old) (E.taken err.new) (error_line result) }
     ensures err_whole { ¬ Rose (E.faults err.old) (E.faults err.new) →
@@ -126,21 +133,30 @@ pub fn answer<'a, S: Source, O: Sink>(
         command_in words.now ≡ Some command →
         GainsOutputFor command (S.left source.old) (O.taken out.old) (O.taken out.new) }
 
+    // No: the same, but that the output gained what the command may write with this answer.
+    ensures no { result ≡ Status.No →
+        (S.faults source.new ≡ S.faults source.old) × (O.faults out.new ≡ O.faults out.old) }
+    ensures no_flushed { result ≡ Status.No → O.pending out.new ≡ 0 }
+    ensures no_output { (command : Command) → result ≡ Status.No →
+        command_in words.now ≡ Some command →
+        GainsNoFor command (S.left source.old) (O.taken out.old) (O.taken out.new) }
+
     // Usage: only where the words are no command, and always there, unless memory runs out. Nothing is
     // read then.
     ensures usage { result ≡ Status.Usage → command_in words.now ≡ None }
     ensures usage_where { command_in words.now ≡ None → IsOrNoMemory Status.Usage result }
     ensures usage_unread { result ≡ Status.Usage → source.new ≡ source.old }
 
-    // Refused: no read failed. Of `opt` exactly where the fault is the first one of the text,
-    // unless memory runs out.
+    // Refused: no read failed. Exactly where the fault is the first one of the text, as the command
+    // reads it, unless a read fails or memory runs out.
     ensures refused { (fault : Fault) → result ≡ Status.Refused fault
         → S.faults source.new ≡ S.faults source.old }
-    ensures refused_first { (fault : Fault) (text : List ℕ) → result ≡ Status.Refused fault →
-        IsOpt (command_in words.now) → S.left source.old ≡ Some text → IsFirstFault text fault }
-    ensures refused_where { (fault : Fault) (text : List ℕ) → IsOpt (command_in words.now) →
-        S.left source.old ≡ Some text → ¬ Rose (S.faults source.old) (S.faults source.new) →
-        IsFirstFault text fault → IsOrNoMemory (Status.Refused fault) result }
+    ensures refused_first { (command : Command) (text : List ℕ) (fault : Fault) →
+        command_in words.now ≡ Some command → S.left source.old ≡ Some text →
+        result ≡ Status.Refused fault → IsFirstFaultFor command text fault }
+    ensures refused_where { (command : Command) (text : List ℕ) (fault : Fault) →
+        command_in words.now ≡ Some command → S.left source.old ≡ Some text →
+        IsFirstFaultFor command text fault → IsOrFailedRead (Status.Refused fault) result }
 
     // ReadFault and WriteFault: only where that stream failed in this call, and always where its count
     // tells so.
@@ -154,26 +170,11 @@ pub fn answer<'a, S: Source, O: Sink>(
     ensures write_fault_output { (command : Command) → result ≡ Status.WriteFault →
         command_in words.now ≡ Some command →
         GainsPrefixFor command (S.left source.old) (O.taken out.old) (O.taken out.new) }
-    ensures never_no { IsOpt (command_in words.now) → result ≢ Status.No }
 
-    // A text without fault is optimised, unless a stream fails or memory runs out.
-    ensures complete { (text : List ℕ) → IsFaultless text → IsOpt (command_in words.now) →
-        S.left source.old ≡ Some text → ¬ Rose (S.faults source.old) (S.faults source.new) →
-        ¬ Rose (O.faults out.old) (O.faults out.new) → IsOrNoMemory Status.Done result }
-
-    // `teleport` refuses a text where `opt` does, and is done where `opt` is.
-    ensures teleport_refused_first { (fault : Fault) (text : List ℕ) →
-        result ≡ Status.Refused fault → IsTeleport (command_in words.now) →
-        S.left source.old ≡ Some text → IsFirstFault text fault }
-    ensures teleport_refuses { (fault : Fault) (text : List ℕ) → IsTeleport (command_in words.now) →
-        S.left source.old ≡ Some text → ¬ Rose (S.faults source.old) (S.faults source.new) →
-        IsFirstFault text fault → IsOrNoMemory (Status.Refused fault) result }
-    ensures teleport_never_no { IsTeleport (command_in words.now) → result ≢ Status.No }
-    ensures teleport_done { (text : List ℕ) → IsFaultless text → IsTeleport (command_in words.now) →
-        S.left source.old ≡ Some text → ¬ Rose (S.faults source.old) (S.faults source.new) →
-        ¬ Rose (O.faults out.old) (O.faults out.new) → IsOrNoMemory Status.Done result }
-    ensures teleport_read_to_end { (text : List ℕ) → IsTeleport (command_in words.now) →
-        S.left source.old ≡ Some text → SaysEnd result → S.left source.new ≡ Some [] }
+    // A text without fault is answered as it decides, unless a stream fails or memory runs out.
+    ensures complete { (command : Command) (text : List ℕ) → command_in words.now ≡ Some command →
+        S.left source.old ≡ Some text → IsFaultlessFor command text →
+        MayAnswer command text result ⊎ IsFailed result }
 
     // `gen` reads nothing, and is done unless the output fails or memory runs out.
     ensures gen_answers { IsGen (command_in words.now) → IsAnswerOfGen result }
@@ -182,8 +183,9 @@ pub fn answer<'a, S: Source, O: Sink>(
     ensures gen_unread { IsGen (command_in words.now) → source.new ≡ source.old }
 
     // What stands after the answer.
-    ensures read_to_end { (text : List ℕ) → IsOpt (command_in words.now) →
-        S.left source.old ≡ Some text → SaysEnd result → S.left source.new ≡ Some [] }
+    ensures read_to_end { (command : Command) (text : List ℕ) →
+        command_in words.now ≡ Some command → S.left source.old ≡ Some text →
+        ReadsSource command → SaysEnd result → S.left source.new ≡ Some [] }
     ensures out_kept { LeavesOutput result → out.new ≡ out.old }
 {
     answered(alloc, words, source, out)
@@ -206,7 +208,8 @@ fn answered<'a, S: Source, O: Sink>(
         Ok(output) => output,
         Err(status) => return status,
     };
-    match write_all(out, &output) {
+    match write_all(out, &output.bytes) {
+        Ok(()) if output.is_no => Status::No,
         Ok(()) => Status::Done,
         Err(WriteFault) => Status::WriteFault,
     }
@@ -217,18 +220,23 @@ fn output_of<'a, S: Source>(
     alloc: Global,
     words: &'a [&'a str],
     source: &mut S,
-) -> Result<Vec<u8>, Status>
+) -> Result<Written, Status>
     ensures unread { ¬ Reads (command_in words.now) → source.new ≡ source.old }
     ensures made { IfOk result (λ output. IsMade (command_in words.now)
         (told_source S.left S.faults source.old) (told_source S.left S.faults source.new)
-        output.items) }
+        output.is_no output.bytes.items) }
     ensures failure { IfErr result (IsFailure (command_in words.now)
         (told_source S.left S.faults source.old) (told_source S.left S.faults source.new)) }
 {
     match command_in(alloc, words)? {
         None => Err(Status::Usage),
         Some(Command::Optimise { best, report }) => output_of_opt(alloc, best, report, source),
+        Some(Command::Reduce) => output_of_reduce(alloc, source),
+        Some(Command::Flow) => output_of_flow(alloc, source),
+        Some(Command::Graph) => output_of_graph(alloc, source),
+        Some(Command::Compile) => output_of_compile(alloc, source),
         Some(Command::Teleport) => output_of_teleport(alloc, source),
+        Some(Command::Same) => output_of_same(alloc, source),
         Some(
             Command::Generate {
                 seed,
@@ -236,8 +244,11 @@ fn output_of<'a, S: Source>(
                 gates,
             },
         ) => {
-            let output = generation_report(alloc, seed, qubits, gates)?;
-            Ok(output)
+            let bytes = generation_report(alloc, seed, qubits, gates)?;
+            Ok(Written {
+                bytes,
+                is_no: false,
+            })
         }
     }
 }
@@ -248,27 +259,101 @@ fn output_of_opt<S: Source>(
     best: bool,
     report: bool,
     source: &mut S,
-) -> Result<Vec<u8>, Status>
+) -> Result<Written, Status>
     ensures made { IfOk result (λ output. IsMade (Some (Optimise best report))
         (told_source S.left S.faults source.old) (told_source S.left S.faults source.new)
-        output.items) }
+        output.is_no output.bytes.items) }
     ensures failure { IfErr result (IsFailure (Some (Optimise best report))
         (told_source S.left S.faults source.old) (told_source S.left S.faults source.new)) }
 {
     let read = read_circuit(alloc, source)?;
-    let output = optimised_text(alloc, &read, best, report)?;
-    Ok(output)
+    let bytes = optimised_text(alloc, &read, best, report)?;
+    Ok(Written {
+        bytes,
+        is_no: false,
+    })
 }
 
 // What `teleport` writes for the text that the source gives.
-fn output_of_teleport<S: Source>(alloc: Global, source: &mut S) -> Result<Vec<u8>, Status>
+fn output_of_teleport<S: Source>(alloc: Global, source: &mut S) -> Result<Written, Status>
     ensures made { IfOk result (λ output. IsMade (Some Teleport)
         (told_source S.left S.faults source.old) (told_source S.left S.faults source.new)
-        output.items) }
+        output.is_no output.bytes.items) }
     ensures failure { IfErr result (IsFailure (Some Teleport)
         (told_source S.left S.faults source.old) (told_source S.left S.faults source.new)) }
 {
     let read = read_circuit(alloc, source)?;
-    let output = teleported_text(alloc, &read)?;
+    let bytes = teleported_text(alloc, &read)?;
+    Ok(Written {
+        bytes,
+        is_no: false,
+    })
+}
+
+// What `reduce` writes for the file that the source gives.
+fn output_of_reduce<S: Source>(alloc: Global, source: &mut S) -> Result<Written, Status>
+    ensures made { IfOk result (λ output. IsMade (Some Reduce)
+        (told_source S.left S.faults source.old) (told_source S.left S.faults source.new)
+        output.is_no output.bytes.items) }
+    ensures failure { IfErr result (IsFailure (Some Reduce)
+        (told_source S.left S.faults source.old) (told_source S.left S.faults source.new)) }
+{
+    let (graph, table) = read_flow_file(alloc, source)?;
+    let output = reduction(alloc, graph, table)?;
+    Ok(output)
+}
+
+// What `flow` writes for the file that the source gives.
+fn output_of_flow<S: Source>(alloc: Global, source: &mut S) -> Result<Written, Status>
+    ensures made { IfOk result (λ output. IsMade (Some Flow)
+        (told_source S.left S.faults source.old) (told_source S.left S.faults source.new)
+        output.is_no output.bytes.items) }
+    ensures failure { IfErr result (IsFailure (Some Flow)
+        (told_source S.left S.faults source.old) (told_source S.left S.faults source.new)) }
+{
+    let (graph, table) = read_flow_file(alloc, source)?;
+    let output = flow_verdict(alloc, &graph, &table)?;
+    Ok(output)
+}
+
+// What `graph` writes for the file that the source gives.
+fn output_of_graph<S: Source>(alloc: Global, source: &mut S) -> Result<Written, Status>
+    ensures made { IfOk result (λ output. IsMade (Some Graph)
+        (told_source S.left S.faults source.old) (told_source S.left S.faults source.new)
+        output.is_no output.bytes.items) }
+    ensures failure { IfErr result (IsFailure (Some Graph)
+        (told_source S.left S.faults source.old) (told_source S.left S.faults source.new)) }
+{
+    let diagram = read_diagram_file(alloc, source)?;
+    let bytes = graph_text(alloc, diagram)?;
+    Ok(Written {
+        bytes,
+        is_no: false,
+    })
+}
+
+// What `compile` writes for the file that the source gives.
+fn output_of_compile<S: Source>(alloc: Global, source: &mut S) -> Result<Written, Status>
+    ensures made { IfOk result (λ output. IsMade (Some Compile)
+        (told_source S.left S.faults source.old) (told_source S.left S.faults source.new)
+        output.is_no output.bytes.items) }
+    ensures failure { IfErr result (IsFailure (Some Compile)
+        (told_source S.left S.faults source.old) (told_source S.left S.faults source.new)) }
+{
+    let diagram = read_square_diagram(alloc, source)?;
+    let output = compiled_text(alloc, diagram)?;
+    Ok(output)
+}
+
+// What `same` writes for the two texts that the source gives.
+fn output_of_same<S: Source>(alloc: Global, source: &mut S) -> Result<Written, Status>
+    ensures made { IfOk result (λ output. IsMade (Some Same)
+        (told_source S.left S.faults source.old) (told_source S.left S.faults source.new)
+        output.is_no output.bytes.items) }
+    ensures failure { IfErr result (IsFailure (Some Same)
+        (told_source S.left S.faults source.old) (told_source S.left S.faults source.new)) }
+{
+    let (one, other) = read_two_circuits(alloc, source)?;
+    let output = comparison_text(alloc, &one, &other)?;
     Ok(output)
 }

@@ -6,6 +6,7 @@ ghost use Rattle.zx_run.specs.FirstFault.{IsAccepted, IsFirstFault, fault_of};
 ghost use Rattle.zx_run.specs.ErrorAnswers.{answer_to_read_error, answer_to_text_error};
 ghost use Rattle.zx_run.specs.Internal.Answers.{IsReadFailure, told_source};
 
+use crate::input::MOST_BYTES;
 use crate::status::{Fault, Status};
 use bumpalo::Bump;
 use qasm_inline::{PieceReader, TextError};
@@ -13,9 +14,6 @@ use qasm_scope::Cause;
 use std::alloc::Global;
 use zx_gates::Elementary;
 use zx_io::{ReadError, Source, read_pieces};
-
-// The most bytes that are read.
-const MOST_BYTES: usize = 16_777_216;
 
 /// The circuit that the text of a source means. The text is read piece by piece, and isn't kept.
 ///

@@ -3,7 +3,7 @@
 ghost use Rattle.std.specs.Prelude.{List, ℕ, IfOk};
 ghost use Rattle.zx_gates.specs.Elementary.{IsElementary};
 ghost use Rattle.zx_run.specs.FirstFault.{IsAccepted};
-ghost use Rattle.zx_run.specs.Outcome.{IsTeleportedText};
+ghost use Rattle.zx_run.specs.CircuitTexts.{IsTeleportedText};
 
 use qasm_writer::write_text;
 use std::alloc::{AllocError, Global};

@@ -17,11 +17,7 @@
 
 mod fates;
 mod groups;
-#[cfg(test)]
-mod maps;
 mod notes;
 mod teleporting;
-#[cfg(test)]
-mod tests;
 
 pub use teleporting::{Teleported, teleport};

@@ -1,2 +1,14 @@
 pub mod NumberLemmas
 pub mod WrittenLemmas
+pub mod PieceLemmas
+pub mod PartLemmas
+pub mod SetLemmas
+pub mod LineLemmas
+pub mod RunLemmas
+pub mod SaidLemmas
+pub mod LeadsLemmas
+pub mod WalkLemmas
+pub mod StopLemmas
+pub mod OutcomeLemmas
+pub mod NumberedLemmas
+pub mod FiledLemmas

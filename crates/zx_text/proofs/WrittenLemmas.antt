@@ -43,7 +43,7 @@ fewer (x ∷ xs) u v le =
     let also : ltb x v ≡ true = lt-ltb x v (omega arith) in rw (t, also) (omega (arith, rest)))
     (λ f. by_test (ltb x v) (λ s. rw (f, s) (omega (arith, rest))) (λ s. rw (f, s) rest))
 
-number_less : (all : List ℕ) (u v : ℕ) → member u all ≡ true → u < v → number_in all u < number_in all v
+pub number_less : (all : List ℕ) (u v : ℕ) → member u all ≡ true → u < v → number_in all u < number_in all v
 number_less [] u v there lt = absurd (true≢false (sym there))
 number_less (x ∷ xs) u v there lt =
     by_equal u x
@@ -61,7 +61,7 @@ number_less (x ∷ xs) u v there lt =
     let also : ltb x v ≡ true = lt-ltb x v (omega arith) in rw (t, also) (omega (arith, rest)))
     (λ g. by_test (ltb x v) (λ s. rw (g, s) (omega (arith, rest))) (λ s. rw (g, s) rest)))
 
-number_injective : (all : List ℕ) (u v : ℕ) → member u all ≡ true → member v all ≡ true → number_in all u ≡ number_in all v → u ≡ v
+pub number_injective : (all : List ℕ) (u v : ℕ) → member u all ≡ true → member v all ≡ true → number_in all u ≡ number_in all v → u ≡ v
 number_injective all u v u_there v_there e =
     by_test (ltb u v)
     (λ t. let less = number_less all u v u_there (ltb-true u v t) in absurd (omega arith))
@@ -69,30 +69,30 @@ number_injective all u v u_there v_there e =
     (λ t. let less = number_less all v u v_there (ltb-true v u t) in absurd (omega arith))
     (λ g. let a = ltb-false u v f in let b = ltb-false v u g in omega arith))
 
-same_test : (f : ℕ → ℕ) (u v : ℕ) → (f u ≡ f v → u ≡ v) → eqb (f u) (f v) ≡ eqb u v
+pub same_test : (f : ℕ → ℕ) (u v : ℕ) → (f u ≡ f v → u ≡ v) → eqb (f u) (f v) ≡ eqb u v
 same_test f u v injective =
     by_equal u v (λ t s. eq-eqb (f u) (f v) (ap f s) ∙ sym t) (λ t n. ne_eqb (f u) (f v) (λ s. n (injective s)) ∙ sym t)
 
-member-map : (f : ℕ → ℕ) (v : ℕ) (es : List ℕ) → ((e : ℕ) → member e es ≡ true → f v ≡ f e → v ≡ e) → member (f v) (map f es) ≡ member v es
+pub member-map : (f : ℕ → ℕ) (v : ℕ) (es : List ℕ) → ((e : ℕ) → member e es ≡ true → f v ≡ f e → v ≡ e) → member (f v) (map f es) ≡ member v es
 member-map f v [] injective = refl
 member-map f v (e ∷ es) injective =
     ap₂ (λ a b. a || b) (same_test f v e (injective e (member-here e es)))
     (member-map f v es (λ d there. injective d (member-there d e es there)))
 
 -- ---- lists of the numbered graph
-ids-with : (f : ℕ → ℕ) (vs : List Vertex) → ids (map (vertex_with f) vs) ≡ map f (ids vs)
+pub ids-with : (f : ℕ → ℕ) (vs : List Vertex) → ids (map (vertex_with f) vs) ≡ map f (ids vs)
 ids-with f [] = refl
 ids-with f (v ∷ vs) = ap (λ t. f v.id ∷ t) (ids-with f vs)
 
-end_vertices-with : (f : ℕ → ℕ) (es : List End) → end_vertices (map (end_with f) es) ≡ map f (end_vertices es)
+pub end_vertices-with : (f : ℕ → ℕ) (es : List End) → end_vertices (map (end_with f) es) ≡ map f (end_vertices es)
 end_vertices-with f [] = refl
 end_vertices-with f (e ∷ es) = ap (λ t. f e.vertex ∷ t) (end_vertices-with f es)
 
-order_of-with : (f : ℕ → ℕ) (t : List Correction) → order_of (map (correction_with f) t) ≡ map f (order_of t)
+pub order_of-with : (f : ℕ → ℕ) (t : List Correction) → order_of (map (correction_with f) t) ≡ map f (order_of t)
 order_of-with f [] = refl
 order_of-with f (c ∷ cs) = ap (λ t. f c.vertex ∷ t) (order_of-with f cs)
 
-set_of-with : (f : ℕ → ℕ) (t : List Correction) (v : ℕ) → ((e : ℕ) → member e (order_of t) ≡ true → f v ≡ f e → v ≡ e) → set_of (map (correction_with f) t) (f v) ≡ map f (set_of t v)
+pub set_of-with : (f : ℕ → ℕ) (t : List Correction) (v : ℕ) → ((e : ℕ) → member e (order_of t) ≡ true → f v ≡ f e → v ≡ e) → set_of (map (correction_with f) t) (f v) ≡ map f (set_of t v)
 set_of-with f [] v injective = refl
 set_of-with f (c ∷ cs) v injective =
     let same : eqb (f v) (f c.vertex) ≡ eqb v c.vertex = same_test f v c.vertex (injective c.vertex (member-here c.vertex (order_of cs))) in

@@ -1,7 +1,7 @@
 //! Graph files that are written.
 
-ghost use Rattle.std.specs.Prelude.{◌≡◌, ◌++◌, true, codes, decimal, IfOk, OnOk, ltb};
-ghost use Rattle.std.specs.List.{flat_map};
+ghost use Rattle.std.specs.Prelude.{◌≡◌, ◌≤◌, ◌++◌, true, codes, decimal, length, IfOk, IfSome, OnOk, ltb};
+ghost use Rattle.std.specs.List.{flat_map, list_all};
 ghost use Rattle.std.specs.Option.{ForSome, option_map};
 ghost use Rattle.zx_calculus.specs.Graph.{in_order, Live};
 ghost use Rattle.zx_calculus.specs.Graph as zx;
@@ -12,7 +12,8 @@ ghost use Rattle.zx_text.specs.Files.{Two, spelled};
 ghost use Rattle.zx_text.specs.Lines.{plane_name, mark};
 ghost use Rattle.zx_text.specs.Numbered.{numbered, numbered_flow, number_in};
 ghost use Rattle.zx_text.specs.Internal.Writing.{part, end_text, edge_text, vertex_text};
-ghost use Rattle.zx_text.specs.Internal.Writing.{correction_text, set_text, flow_text, lent_text};
+ghost use Rattle.zx_text.specs.Reading.{most_ends, Spells};
+ghost use Rattle.zx_text.specs.Internal.Writing.{correction_text, set_text, flow_text, lent_text, rises};
 
 use itoa::Buffer;
 use open_graph::{End, Ids, OpenGraph, Plane, VertexId};
@@ -29,6 +30,9 @@ use zx_model::Sixteenth;
 pub fn write_graph(alloc: Global, g: &OpenGraph, f: Option<&Flow>) -> Result<Vec<u8>, AllocError>
     requires flow { ForSome f (λ flow. IsTableOf (seen g.now.graph) flow.now.flow) }
     ensures text { IfOk result (λ text. text.items ≡ spelled Two (numbered g.now.graph)
+        (numbered_flow g.now.graph (option_map (λ flow. flow.now.flow) f.entry))) }
+    ensures file { IfOk result (λ text. length g.now.graph.inputs ≤ most_ends →
+        length g.now.graph.outputs ≤ most_ends → Spells text.items (numbered g.now.graph)
         (numbered_flow g.now.graph (option_map (λ flow. flow.now.flow) f.entry))) }
 {
     let used = ids_of(alloc, g)?;
@@ -198,8 +202,10 @@ fn push_lent(
 ) -> Result<(), AllocError>
     requires rising { in_order ltb used.now ≡ true }
     requires flow { ForSome f (λ flow. IsTableOf (seen g.now.graph) flow.now.flow) }
-    ensures { OnOk result (text.new.items ≡ text.old.items
+    ensures text { OnOk result (text.new.items ≡ text.old.items
         ++ lent_text g.now.graph used.now (option_map (λ flow. flow.now.flow) f.entry)) }
+    ensures rising { OnOk result (IfSome (option_map (λ flow. flow.now.flow) f.entry) (λ table.
+        list_all (rises g.now.graph table) (zx.ids g.now.graph.vertices) ≡ true)) }
 {
     match f {
         Some(flow) => push_flow(text, g, flow, used),
@@ -216,8 +222,10 @@ fn push_flow(
 ) -> Result<(), AllocError>
     requires rising { in_order ltb used.now ≡ true }
     requires table { IsTableOf (seen g.now.graph) flow.now.flow }
-    ensures { OnOk result
+    ensures text { OnOk result
         (text.new.items ≡ text.old.items ++ flow_text g.now.graph used.now flow.now.flow) }
+    ensures rising { OnOk result
+        (list_all (rises g.now.graph flow.now.flow) (zx.ids g.now.graph.vertices) ≡ true) }
 {
     text.extend_from_slice(b"flow\norder")?;
     push_order(text, flow.order(), used)?;
@@ -263,8 +271,9 @@ fn push_set(
     requires rising { in_order ltb used.now ≡ true }
     requires table { IsTableOf (seen g.now.graph) flow.now.flow }
     requires live { Live g.now.graph v }
-    ensures { OnOk result
+    ensures text { OnOk result
         (text.new.items ≡ text.old.items ++ set_text g.now.graph used.now flow.now.flow v) }
+    ensures rising { OnOk result (rises g.now.graph flow.now.flow v ≡ true) }
 {
     if g.output_at(v).is_some() {
         return Ok(());

@@ -6,7 +6,8 @@ use Rattle.std.specs.Str.{bytes_eq}
 use Rattle.std.specs.Str.Parse.{digits_value}
 use denote.Ref.{Bor}
 use Rattle.zx_words.specs.declared.words.Command.{Command}
-use Rattle.zx_words.specs.declared.words.Command.TheVariants.{Optimise, Teleport, Generate}
+use Rattle.zx_words.specs.declared.words.Command.TheVariants.{Optimise, Reduce, Flow, Graph, Compile}
+use Rattle.zx_words.specs.declared.words.Command.TheVariants.{Teleport, Same, Generate}
 
 abbrev pub Text : Type 0
 Text = List ℕ
@@ -73,7 +74,12 @@ command_of [] = None
 command_of (word ∷ rest) =
     if bytes_eq word (codes "opt") then optimisation_of (without_end rest) else
     if bytes_eq word (codes "gen") then generation_of (without_separator rest) else
-    if bytes_eq word (codes "teleport") then alone Teleport (without_end rest) else None
+    if bytes_eq word (codes "reduce") then alone Reduce (without_end rest) else
+    if bytes_eq word (codes "flow") then alone Flow (without_end rest) else
+    if bytes_eq word (codes "graph") then alone Graph (without_end rest) else
+    if bytes_eq word (codes "compile") then alone Compile (without_end rest) else
+    if bytes_eq word (codes "teleport") then alone Teleport (without_end rest) else
+    if bytes_eq word (codes "same") then alone Same (without_end rest) else None
 
 -- the command of words that are borrowed
 abbrev pub command_in : List (Bor Text) → Option Command

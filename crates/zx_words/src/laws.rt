@@ -2,7 +2,7 @@
 
 ghost use Rattle.std.specs.Prelude.{◌≡◌, ◌<◌, ◌≤◌, ◌^◌, ℕ, [], ◌∷◌, codes, decimal};
 ghost use Rattle.std.specs.Prelude.{Some, None, true, false};
-ghost use Rattle.zx_words.specs.declared.words.Command.TheVariants.{Optimise, Teleport, Generate};
+ghost use Rattle.zx_words.specs.declared.words.Command.TheVariants.{Optimise, Reduce, Flow, Graph, Compile, Teleport, Same, Generate};
 ghost use Rattle.zx_words.specs.Command.{Text, command_of, number_in};
 
 /// What some words give.
@@ -18,6 +18,11 @@ pub fn worked_words()
     ensures separator { command_of (codes "opt" ∷ codes "--best" ∷ codes "--" ∷ [])
         ≡ Some (Optimise true false) }
     ensures behind { command_of (codes "opt" ∷ codes "--" ∷ codes "--best" ∷ []) ≡ None }
+    ensures reduce { command_of (codes "reduce" ∷ []) ≡ Some Reduce }
+    ensures flow { command_of (codes "flow" ∷ []) ≡ Some Flow }
+    ensures graph { command_of (codes "graph" ∷ []) ≡ Some Graph }
+    ensures compile { command_of (codes "compile" ∷ []) ≡ Some Compile }
+    ensures same { command_of (codes "same" ∷ []) ≡ Some Same }
     ensures teleport { command_of (codes "teleport" ∷ []) ≡ Some Teleport }
     ensures teleport_end { command_of (codes "teleport" ∷ codes "--" ∷ []) ≡ Some Teleport }
     ensures teleport_flag { command_of (codes "teleport" ∷ codes "--report" ∷ []) ≡ None }

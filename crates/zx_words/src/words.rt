@@ -24,8 +24,18 @@ pub enum Command {
         /// Whether the numbers of gates are told.
         report: bool,
     },
+    /// To simplify the graph of the file that is read, along its flow.
+    Reduce,
+    /// To tell whether the table of the file that is read is a flow.
+    Flow,
+    /// To write the graph-like form of the diagram that is read.
+    Graph,
+    /// To find a circuit for the diagram that is read.
+    Compile,
     /// To change the phases of the circuit that is read, and nothing else.
     Teleport,
+    /// To tell whether the two circuits that are read have one linear map.
+    Same,
     /// To make a circuit from a seed, and to optimise it.
     Generate {
         /// The seed.
@@ -64,7 +74,12 @@ fn definition<'a>(alloc: Global) -> Result<clap::Command<'a>, AllocError>
     let with_opt = bare_definition(alloc).subcommand(opt)?;
     let generate = gen_definition(alloc)?;
     let with_gen = with_opt.subcommand(generate)?;
-    with_alone(alloc, with_gen, "teleport")
+    let with_reduce = with_alone(alloc, with_gen, "reduce")?;
+    let with_flow = with_alone(alloc, with_reduce, "flow")?;
+    let with_graph = with_alone(alloc, with_flow, "graph")?;
+    let with_compile = with_alone(alloc, with_graph, "compile")?;
+    let with_teleport = with_alone(alloc, with_compile, "teleport")?;
+    with_alone(alloc, with_teleport, "same")
 }
 
 // The command with one subcommand more, which has no words of its own.
@@ -168,8 +183,23 @@ fn command_by(matches: &ArgMatches) -> Option<Command>
     if name == "gen" {
         return generation_by(given);
     }
+    if name == "reduce" {
+        return Some(Command::Reduce);
+    }
+    if name == "flow" {
+        return Some(Command::Flow);
+    }
+    if name == "graph" {
+        return Some(Command::Graph);
+    }
+    if name == "compile" {
+        return Some(Command::Compile);
+    }
     if name == "teleport" {
         return Some(Command::Teleport);
+    }
+    if name == "same" {
+        return Some(Command::Same);
     }
     None
 }

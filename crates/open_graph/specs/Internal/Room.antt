@@ -3,6 +3,7 @@ use Rattle.std.specs.Prelude.{◌≡◌, ◌<◌, ◌≤◌, ℕ, suc, List, [],
 use Rattle.open_graph.specs.VertexSets.{VertexSet}
 use Rattle.zx_calculus.specs.Graph.{End}
 use Rattle.open_graph.specs.declared.slot.Slot.{Slot}
+use Rattle.open_graph.specs.declared.scratch.Scratch.{Scratch}
 use Rattle.open_graph.specs.Internal.Slots.{IsSound}
 
 -- how many places have no vertex
@@ -52,8 +53,14 @@ pub record HasRoom (reach : ℕ) (slots : List (Option Slot)) (kept : List Verte
   pub covers : reach ≤ length kept
   pub empty : AreEmpty kept
 
--- what is kept of a graph is sound, and its rows have their room
-pub record IsKept (slots : List (Option Slot)) (inputs outputs : List End) (kept : List VertexSet) (reach : ℕ)
-    : Type 0 where
+-- both sets have room for all ids below the reach
+pub record CanHold (reach : ℕ) (scratch : Scratch) : Type 0 where
+  pub near : reach ≤ scratch.near.room
+  pub far : reach ≤ scratch.far.room
+
+-- what is kept of a graph is sound, and its rows have their room, and so have the sets that calls fill
+pub record IsKept (slots : List (Option Slot)) (inputs outputs : List End) (kept : List VertexSet) (sets : Scratch)
+    (reach : ℕ) : Type 0 where
   pub sound : IsSound slots inputs outputs
   pub room : HasRoom reach slots kept
+  pub scratch : CanHold reach sets

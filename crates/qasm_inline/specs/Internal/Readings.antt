@@ -2,6 +2,8 @@
 use Rattle.std.specs.Prelude.{◌≡◌, ℕ, List, [], ◌++◌, drop, Option, None, Some, Result, Ok, Err}
 use Rattle.std.specs.Borrow.{Bor}
 use Rattle.zx_gates.specs.declared.elementary.Elementary.{Elementary}
+use Rattle.qasm_lexer.specs.declared.errors.LexError.{LexError}
+use Rattle.qasm_lexer.specs.declared.errors.LexError.TheVariants as lex_error
 use Rattle.qasm_lexer.specs.declared.token.Token.{Token}
 use Rattle.qasm_lexer.specs.Tokens.{Lexeme, lexemes, IsCut, IsBadByte}
 use Rattle.qasm_reader.specs.declared.parts.BodyPart.{BodyPart}
@@ -115,3 +117,9 @@ IsTextAnswer text (Err (Syntax at)) =
 IsTextAnswer text (Err (TooDeep at)) = (tokens : List Lexeme) × IsCut 0 text tokens × (too_deep tokens ≡ Some at)
 IsTextAnswer text (Err (BadByte at)) = IsBadByte text at
 IsTextAnswer text (Err NoMemory) = Unit {0}
+
+-- the reader has read the whole text, or its bad byte is told
+abbrev pub IsReadTo : List ℕ → Reader → Result (Unit {0}) LexError → Type 0
+IsReadTo text reader (Ok done) = (all : List Lexeme) × IsCut 0 text all × Keeps all reader
+IsReadTo text reader (Err (lex_error.BadByte at)) = IsBadByte text at
+IsReadTo text reader (Err lex_error.NoMemory) = Unit {0}

@@ -1,14 +1,15 @@
 -- What the answer of a run says of the two streams.
-use Rattle.std.specs.Prelude.{◌≡◌, ◌≢◌, ℕ, List, [], Option, None, Some}
+use Rattle.std.specs.Prelude.{◌≡◌, ◌≢◌, ℕ, Bool, true, false, List, [], Option, None, Some}
+use Rattle.zx_calculus.specs.Graph.{Graph}
+use Rattle.gflow_laws.specs.Flow.{Correction, IsFlow}
 use Rattle.zx_io.specs.Causes.{Rose}
 use Rattle.zx_words.specs.declared.words.Command.{Command}
-use Rattle.zx_words.specs.declared.words.Command.TheVariants.{Optimise, Teleport, Generate}
 use Rattle.zx_run.specs.declared.status.Status.{Status}
 use Rattle.zx_run.specs.declared.status.Status.TheVariants.{Done, Refused, Usage, ReadFault, WriteFault, NoMemory, No}
 use Rattle.zx_run.specs.declared.status.Fault.{Fault}
 use Rattle.zx_run.specs.declared.status.Fault.TheVariants.{TooLong}
-use Rattle.zx_run.specs.FirstFault.{IsFirstFault}
-use Rattle.zx_run.specs.Outcome.{Gains, GainsPrefix, IsOutputFor}
+use Rattle.zx_run.specs.FlowFiles.{IsFailureLine}
+use Rattle.zx_run.specs.Outcome.{Gains, GainsPrefix, IsFirstFaultFor, IsNoFor, IsOutputFor, ReadsSource}
 
 -- what is told of a source: the bytes that are left, and how many calls failed
 pub record ToldSource : Type 0 where
@@ -29,35 +30,35 @@ told_source left faults source = record { left = left source; faults = faults so
 abbrev pub told_output : {O : Type 0} → (O → Option (List ℕ)) → (O → ℕ) → (O → ℕ) → O → ToldOutput
 told_output taken faults pending out = record { taken = taken out; faults = faults out; pending = pending out }
 
--- the bytes are what was asked for
-abbrev pub IsOutputOf : Option Command → Option (List ℕ) → List ℕ → Type 0
-IsOutputOf None left bytes = ⊥
-IsOutputOf (Some command) left bytes = IsOutputFor command left bytes
+-- the bytes are what was asked for, with the answer No or with Done
+abbrev pub IsOutputOf : Option Command → Bool → Option (List ℕ) → List ℕ → Type 0
+IsOutputOf None says_no left bytes = ⊥
+IsOutputOf (Some command) false left bytes = IsOutputFor command left bytes
+IsOutputOf (Some command) true left bytes = IsNoFor command left bytes
 
--- the command reads a circuit
-abbrev pub ReadsCircuit : Command → Type 0
-ReadsCircuit (Optimise best report) = Unit {0}
-ReadsCircuit Teleport = Unit {0}
-ReadsCircuit (Generate seed qubits gates) = ⊥
+-- the table is a flow and what has to be was written, or it isn't, and the line of its first failure was
+abbrev pub IsVerdict : Graph → List Correction → Type 0 → List ℕ → Bool → Type 0
+IsVerdict graph table good bytes false = IsFlow graph table × good
+IsVerdict graph table good bytes true = (IsFlow graph table → ⊥) × IsFailureLine graph table bytes
 
 -- what is asked for reads the source
 abbrev pub Reads : Option Command → Type 0
 Reads None = ⊥
-Reads (Some command) = ReadsCircuit command
+Reads (Some command) = ReadsSource command
 
 -- what is asked for finds this fault first in a text
-abbrev pub IsFirstFaultFor : Option Command → List ℕ → Fault → Type 0
-IsFirstFaultFor None text fault = ⊥
-IsFirstFaultFor (Some command) text fault = IsFirstFault text fault
+abbrev pub IsFirstFaultOf : Option Command → List ℕ → Fault → Type 0
+IsFirstFaultOf None text fault = ⊥
+IsFirstFaultOf (Some command) text fault = IsFirstFaultFor command text fault
 
 -- what reads the source has read a text that is told as left to its end
 abbrev pub IsAllRead : Option Command → ToldSource → ToldSource → Type 0
 IsAllRead given before after = Reads given → (text : List ℕ) → before.left ≡ Some text → after.left ≡ Some []
 
--- an output was made, and no read failed
-pub record IsMade (given : Option Command) (before after : ToldSource) (bytes : List ℕ) : Type 0 where
+-- an output was made for the answer No or for Done, and no read failed
+pub record IsMade (given : Option Command) (before after : ToldSource) (says_no : Bool) (bytes : List ℕ) : Type 0 where
   pub reads_well : after.faults ≡ before.faults
-  pub output : IsOutputOf given before.left bytes
+  pub output : IsOutputOf given says_no before.left bytes
   pub all_read : IsAllRead given before after
 
 -- a text was refused for its first fault, as `first` tells it, and but for one that is too long all was read
@@ -75,7 +76,7 @@ IsReadFailure first before after status = ⊥
 
 -- what is asked for reads the source, and refused what it read
 abbrev pub IsRefused : Fault → Option Command → ToldSource → ToldSource → Type 0
-IsRefused fault given before after = Reads given × IsRefusedBy (IsFirstFaultFor given) fault before after
+IsRefused fault given before after = Reads given × IsRefusedBy (IsFirstFaultOf given) fault before after
 
 -- no output was made, for this reason
 abbrev pub IsFailure : Option Command → ToldSource → ToldSource → Status → Type 0
@@ -110,8 +111,12 @@ streams source output = record { source = source; output = output }
 -- what an answer says of the streams before and after a run of the command that was given
 abbrev pub IsAnswer : Option Command → Streams → Streams → Status → Type 0
 IsAnswer given before after Done =
-    (bytes : List ℕ) × IsMade given before.source after.source bytes × IsWritten before.output after.output bytes
+    (bytes : List ℕ) × IsMade given before.source after.source false bytes
+    × IsWritten before.output after.output bytes
+IsAnswer given before after No =
+    (bytes : List ℕ) × IsMade given before.source after.source true bytes × IsWritten before.output after.output bytes
 IsAnswer given before after WriteFault =
-    (bytes : List ℕ) × IsMade given before.source after.source bytes × IsCutShort before.output after.output bytes
+    (bytes : List ℕ) × (says_no : Bool) × IsMade given before.source after.source says_no bytes
+    × IsCutShort before.output after.output bytes
 IsAnswer given before after status =
     IsFailure given before.source after.source status × (after.output ≡ before.output)

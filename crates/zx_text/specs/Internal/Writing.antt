@@ -1,8 +1,8 @@
 -- The lines of a graph as they are written, with ids replaced by their numbers.
-use Rattle.std.specs.Prelude.{ℕ, ◌++◌, List, [], codes, decimal, if◌then◌else◌, ltb, Option, None, Some}
+use Rattle.std.specs.Prelude.{ℕ, Bool, ◌||◌, ◌++◌, List, [], codes, decimal, if◌then◌else◌, ltb, Option, None, Some}
 use Rattle.std.specs.List.{flat_map}
 use Rattle.zx_model.specs.Bits.{member}
-use Rattle.zx_calculus.specs.Graph.{Graph, End, ids, plane_of, phase_of, end_vertices}
+use Rattle.zx_calculus.specs.Graph.{Graph, End, ids, plane_of, phase_of, end_vertices, in_order}
 use Rattle.gflow_laws.specs.Flow.{Correction, order_of, set_of}
 use Rattle.zx_text.specs.Lines.{plane_name, mark}
 use Rattle.zx_text.specs.Numbered.{number_in}
@@ -31,6 +31,10 @@ correction_text used v set =
 abbrev pub set_text : Graph → List ℕ → List Correction → ℕ → List ℕ
 set_text g used table v =
     if member v (end_vertices g.outputs) then [] else correction_text used v (set_of table v)
+
+-- whether it rises, where v has no output
+abbrev pub rises : Graph → List Correction → ℕ → Bool
+rises g table v = member v (end_vertices g.outputs) || in_order ltb (set_of table v)
 
 abbrev pub flow_text : Graph → List ℕ → List Correction → List ℕ
 flow_text g used table =

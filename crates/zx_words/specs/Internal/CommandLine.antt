@@ -11,7 +11,8 @@ use Rattle.clap.specs.Simple.{on_top}
 use Rattle.clap.specs.declared.builder.action.ArgAction.TheVariants.{SetTrue}
 use Rattle.zx_words.specs.Command.{Text, number_in, ◌>>=◌}
 use Rattle.zx_words.specs.declared.words.Command.{Command}
-use Rattle.zx_words.specs.declared.words.Command.TheVariants.{Optimise, Teleport, Generate}
+use Rattle.zx_words.specs.declared.words.Command.TheVariants.{Optimise, Reduce, Flow, Graph, Compile}
+use Rattle.zx_words.specs.declared.words.Command.TheVariants.{Teleport, Same, Generate}
 
 -- ---- the command line, as it is defined
 
@@ -43,7 +44,12 @@ bare = on_top (λ shape. record shape {
 unfoldable pub zxopt_app : App
 zxopt_app =
     let with_gen = with_subcommand (with_subcommand (bare (new_app (codes "zxopt"))) opt_app.top) gen_app.top in
-    with_subcommand with_gen (new_app (codes "teleport")).top
+    let with_reduce = with_subcommand with_gen (new_app (codes "reduce")).top in
+    let with_flow = with_subcommand with_reduce (new_app (codes "flow")).top in
+    let with_graph = with_subcommand with_flow (new_app (codes "graph")).top in
+    let with_compile = with_subcommand with_graph (new_app (codes "compile")).top in
+    let with_teleport = with_subcommand with_compile (new_app (codes "teleport")).top in
+    with_subcommand with_teleport (new_app (codes "same")).top
 
 -- ---- what its matches mean
 
@@ -73,7 +79,12 @@ command_by (Some p) =
     if bytes_eq p.0 (codes "opt")
     then Some (Optimise (has_flag (codes "best") p.1) (has_flag (codes "report") p.1)) else
     if bytes_eq p.0 (codes "gen") then generation_by p.1 else
-    if bytes_eq p.0 (codes "teleport") then Some Teleport else None
+    if bytes_eq p.0 (codes "reduce") then Some Reduce else
+    if bytes_eq p.0 (codes "flow") then Some Flow else
+    if bytes_eq p.0 (codes "graph") then Some Graph else
+    if bytes_eq p.0 (codes "compile") then Some Compile else
+    if bytes_eq p.0 (codes "teleport") then Some Teleport else
+    if bytes_eq p.0 (codes "same") then Some Same else None
 
 -- ---- the command of words, as `clap` takes them: none where the command line has a fault in them
 abbrev pub clap_command_of : List Text → Option Command

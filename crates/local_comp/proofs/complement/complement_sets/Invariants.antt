@@ -1,11 +1,16 @@
--- The sets so far are changed.
-use Rattle.std.proofs.Common.{take}
+-- The sets so far are changed, but that of u.
+use Rattle.std.proofs.Common.{◌≡◌, take}
 use Rattle.gflow_laws.specs.Seen.{seen}
 use Rattle.gflow_laws.specs.Flow.{order_of, set_of}
-use Rattle.gflow_laws.specs.Changes.{AreChanged, complement_change}
+use Rattle.gflow_laws.specs.Changes.{AreChanged}
+use Rattle.zx_flow.specs.Changes.{beside_change}
 use Rattle.local_comp.proofs.complement.complement_sets.Given as goal
 
 abbrev pub invariant-loop-i : goal.invariant-loop-i
 invariant-loop-i l =
     let t = l.initial.f.flow in
-    AreChanged (complement_change (seen l.g.graph) l.u (set_of t l.u)) (take l.i (order_of t)) t l.f.flow
+    record {
+      sets : AreChanged (beside_change (seen l.g.graph) l.u (set_of t l.u)) (take l.i (order_of t)) t l.f.flow;
+      spare : l.f.spare ≡ l.initial.f.spare;
+      reach : l.f.reach ≡ l.initial.f.reach;
+    }

@@ -1,8 +1,9 @@
 -- The input at its place moves to the new vertex.
-use Rattle.std.proofs.Common.{◌<◌, ◌∙◌, sym, ap, subst, length, set, List, rules}
-use Rattle.zx_calculus.specs.Graph.{End}
-use Rattle.zx_calculus.specs.Splits.{IsSplitInput}
-use Rattle.zx_boundary.proofs.Spiders.{end_live, new_live, new_plane, new_free}
+use Rattle.std.proofs.Common.{◌<◌, ◌∙◌, sym, ap, subst, length, set, List, IsOk, rules}
+use Rattle.std.proofs.lemmas.Bool.{false≢true}
+use Rattle.zx_calculus.specs.Graph.{End, ids}
+use Rattle.zx_calculus.specs.Splits.{new_vertex, IsSplitInput}
+use Rattle.zx_boundary.proofs.Spiders.{old_below, new_below, end_live, new_live, new_plane, new_free}
 use Rattle.zx_boundary.proofs.Splits.{place_within, end_moved, input_split}
 use Rattle.zx_boundary.proofs.inputs.split_input_in_graph.Goals as goal
 
@@ -53,3 +54,11 @@ returns-clause-step c =
     ∙ end_moved c.args.g.now.graph.inputs c.unwrap-place.result c.args.b c.in_ok-new.new c.index-inputs-place.result c.toggled.result
     c.inputs-inputs.ensures.valid.inputs.one_each found read c.toggled.ensures)
     c.move_input.ensures.ok)
+
+pub returns-in_err-new-clause-has_room : goal.returns-in_err-new-clause-has_room
+returns-in_err-new-clause-has_room c spare below =
+    let g = c.args.g.now.graph in
+    let live = end_live g g.inputs c.args.b c.inputs-inputs.ensures.valid.inputs c.requires in
+    absurd (false≢true (subst IsOk c.in_err-new.was
+    (c.add_spider.ensures.has_room spare (old_below (new_vertex g) (ids g.vertices) c.args.g.now.reach below c.args.b live)
+    (new_below (new_vertex g) (ids g.vertices) c.args.g.now.reach below))))

@@ -1,42 +1,92 @@
 -- One more set is changed.
-use Rattle.std.proofs.Common.{◌≡◌, ◌∙◌, sym, ap, subst, ◌<◌, [], ◌∷◌, length, get_or, take, take_all, arith}
+use Rattle.std.proofs.Common.{◌≡◌, ◌∙◌, sym, ap, subst, ◌<◌, true, IsOk, [], ◌∷◌, length, get_or, take, take_all, arith}
+use Rattle.std.proofs.lemmas.Bool.{false≢true}
+use Rattle.zx_model.specs.Bits.{member}
+use Rattle.zx_calculus.proofs.Positions.{on_ok}
 use Rattle.gflow_laws.specs.Seen.{seen}
 use Rattle.gflow_laws.specs.Flow.{order_of, set_of}
+use Rattle.gflow_laws.specs.Changes.{AreChanged}
+use Rattle.gflow_laws.proofs.SetChanges.{changed_grows}
 use Rattle.gflow_laws.specs.Correcting.{odd_in}
 use Rattle.gflow_laws.proofs.Views.{Simple-seen}
-use Rattle.gflow_laws.specs.Changes.{AreChanged, complement_change}
-use Rattle.gflow_laws.proofs.SetChanges.{changed_grows}
-use Rattle.gflow_laws.proofs.TableSteps.{complement_done}
+use Rattle.zx_flow.specs.Changes.{beside_change}
+use Rattle.zx_flow.proofs.Beside.{own_kept_beside, beside_same, complement_last}
 use Rattle.zx_pivot.specs.Internal.Stages.{view}
 use Rattle.zx_pivot.proofs.StageLemmas.{plane_of_view}
 use Rattle.zx_pivot.proofs.flow.complement_sets.Goals as goal
 
 pub vertex_at-x-requires : goal.vertex_at-x-requires
-vertex_at-x-requires c = omega (arith, ap length c.order-i-end.ensures.value, ap length c.loop-i.invariant.order)
+vertex_at-x-requires c = omega (arith, ap length c.order-i-end.ensures.value, ap length c.loop-i.invariant.sets.order)
+
+pub complement_set-requires-clause-u_there : goal.complement_set-requires-clause-u_there
+complement_set-requires-clause-u_there c = ap (member c.args.u) c.loop-i.invariant.sets.order ∙ c.requires.there
 
 pub loop-i-preserved : goal.loop-i-preserved
 loop-i-preserved c =
-    let g = c.args.g.now.graph in
     let t = c.args.f.now.flow in
-    let s = view c.args.stage (seen g) c.args.u c.args.w in
+    let now = c.loop-i.f.flow in
+    let own = set_of t c.args.u in
+    let s = view c.args.stage (seen c.args.g.now.graph) c.args.u c.args.w in
     let within : c.loop-i.i < length (order_of t) = omega (arith, ap length c.order-i-end.ensures.value) in
-    changed_grows (complement_change s c.args.u (set_of t c.args.u)) (order_of t) c.loop-i.i c.vertex_at-x.result t
-    c.loop-i.f.flow c.complement_set.new.self.flow c.order-i-end.ensures.valid within
-    (c.vertex_at-x.ensures.value ∙ ap (λ order. get_or order c.loop-i.i 0) c.loop-i.invariant.order) c.loop-i.invariant
-    (subst (λ set. AreChanged (complement_change s c.args.u set) (c.vertex_at-x.result ∷ []) c.loop-i.f.flow c.complement_set.new.self.flow)
-    c.in_ok-own.ensures
-    (c.in_ok-complement_set.ensures.sets s
-    (c.changes_plane-changes.ensures.value
-    ∙ ap odd_in (sym (plane_of_view (seen g) c.args.u c.args.w (Simple-seen g c.changes_plane-changes.ensures.valid)
-    c.requires.u_live c.requires.w_live c.requires.adjacent c.args.stage)))
-    c.odd_has-is_odd.ensures))
+    record {
+      sets = changed_grows (beside_change s c.args.u own) (order_of t) c.loop-i.i c.vertex_at-x.result t
+          now c.complement_set.new.self.flow c.order-i-end.ensures.valid within
+          (c.vertex_at-x.ensures.value ∙ ap (λ order. get_or order c.loop-i.i 0) c.loop-i.invariant.sets.order) c.loop-i.invariant.sets
+          (beside_same s c.args.u own (set_of now c.args.u) (c.vertex_at-x.result ∷ []) now c.complement_set.new.self.flow
+          (own_kept_beside s c.args.u own (take c.loop-i.i (order_of t)) t now c.loop-i.invariant.sets)
+          (c.in_ok-complement_set.ensures.sets s (c.changes_plane-changes.ensures.value
+          ∙ ap odd_in (sym (plane_of_view (seen c.args.g.now.graph) c.args.u c.args.w (Simple-seen c.args.g.now.graph c.changes_plane-changes.ensures.valid)
+          c.requires.u_live c.requires.w_live c.requires.adjacent c.args.stage))) c.odd_has-is_odd.ensures));
+      spare = c.complement_set.ensures.spare ∙ c.loop-i.invariant.spare;
+      reach = c.complement_set.ensures.reach ∙ c.loop-i.invariant.reach;
+    }
+
+pub returns-in_err-complement_set-clause-has_room : goal.returns-in_err-complement_set-clause-has_room
+returns-in_err-complement_set-clause-has_room c order own =
+    let t = c.args.f.now.flow in
+    let now = c.loop-i.f.flow in
+    let same = sym c.loop-i.invariant.reach in
+    let listed : member c.vertex_at-x.result (order_of t) ≡ true =
+    sym (ap (member c.vertex_at-x.result) c.loop-i.invariant.sets.order) ∙ c.vertex_at-x.ensures.there in
+    let fits = c.complement_set.ensures.has_room (subst (λ r. c.vertex_at-x.result < r) same (order c.vertex_at-x.result listed))
+    (subst (λ r. c.args.u < r) same (order c.args.u c.requires.there))
+    (λ w inside. subst (λ r. w < r) same (own w
+    (sym (own_kept_beside (view c.args.stage (seen c.args.g.now.graph) c.args.u c.args.w) c.args.u (set_of t c.args.u) (take c.loop-i.i (order_of t)) t now c.loop-i.invariant.sets w) ∙ inside))) in
+    absurd (false≢true (subst IsOk c.in_err-complement_set.was fits))
+
+pub complement_own-requires : goal.complement_own-requires
+complement_own-requires c = ap (member c.args.u) c.loop-i.invariant.sets.order ∙ c.requires.there
 
 pub returns-clause-table : goal.returns-clause-table
 returns-clause-table c =
-    let s = view c.args.stage (seen c.args.g.now.graph) c.args.u c.args.w in
     let t = c.args.f.now.flow in
+    let s = view c.args.stage (seen c.args.g.now.graph) c.args.u c.args.w in
     let all : take c.loop-i.i (order_of t) ≡ order_of t =
     take_all c.loop-i.i (order_of t) (omega (arith, ap length c.order-i-end.ensures.value)) in
-    complement_done s c.args.u t c.loop-i.f.flow
-    (subst (λ done. AreChanged (complement_change s c.args.u (set_of t c.args.u)) done t c.loop-i.f.flow) all
-    c.loop-i.invariant)
+    on_ok c.complement_own.result
+    (λ own. complement_last s c.args.u t c.loop-i.f.flow c.complement_own.new.self.flow c.requires.there
+    (subst (λ done. AreChanged (beside_change s c.args.u (set_of t c.args.u)) done t c.loop-i.f.flow) all
+    c.loop-i.invariant.sets)
+    (own s (c.changes_plane-changes.ensures.value
+    ∙ ap odd_in (sym (plane_of_view (seen c.args.g.now.graph) c.args.u c.args.w (Simple-seen c.args.g.now.graph c.changes_plane-changes.ensures.valid)
+    c.requires.u_live c.requires.w_live c.requires.adjacent c.args.stage))) (set_of t c.args.u)))
+    c.complement_own.ensures.sets
+
+pub returns-clause-has_room : goal.returns-clause-has_room
+returns-clause-has_room c order own =
+    c.complement_own.ensures.has_room (subst (λ r. c.args.u < r) (sym c.loop-i.invariant.reach) (order c.args.u c.requires.there))
+
+pub returns-clause-spare : goal.returns-clause-spare
+returns-clause-spare c = c.complement_own.ensures.spare ∙ c.loop-i.invariant.spare
+
+pub returns-clause-reach : goal.returns-clause-reach
+returns-clause-reach c = c.complement_own.ensures.reach ∙ c.loop-i.invariant.reach
+
+pub returns-clause-order : goal.returns-clause-order
+returns-clause-order c =
+    on_ok c.complement_own.result
+    (λ own. (own (view c.args.stage (seen c.args.g.now.graph) c.args.u c.args.w)
+    (c.changes_plane-changes.ensures.value
+    ∙ ap odd_in (sym (plane_of_view (seen c.args.g.now.graph) c.args.u c.args.w (Simple-seen c.args.g.now.graph c.changes_plane-changes.ensures.valid)
+    c.requires.u_live c.requires.w_live c.requires.adjacent c.args.stage))) (set_of c.args.f.now.flow c.args.u)).order ∙ c.loop-i.invariant.sets.order)
+    c.complement_own.ensures.sets

@@ -1,12 +1,15 @@
 -- The common neighbours, the edges, and the two vertices.
-use Rattle.std.proofs.Common.{◌∙◌, ap, subst}
-use Rattle.zx_calculus.specs.Graph.{Graph, joined, neighbours}
+use Rattle.std.proofs.Common.{◌∙◌, ap, subst, IsOk}
+use Rattle.std.proofs.lemmas.Bool.{false≢true}
+use Rattle.zx_bits.specs.Sets.{IsBelow}
+use Rattle.zx_calculus.specs.Graph.{Graph, ids, joined, neighbours}
 use Rattle.zx_calculus.specs.Edits.{at_vertex}
 use Rattle.zx_calculus.specs.Turns.{pivoted}
 use Rattle.zx_calculus.specs.Toggles.{with_changed}
 use Rattle.zx_calculus.proofs.Allowed.{pivot_live, pivot_live_too, pivot_joined}
 use Rattle.zx_calculus.proofs.ChangedKinds.{turned_live}
 use Rattle.zx_pivot.specs.Internal.Changes.{IsRewired, half_turned_in}
+use Rattle.zx_pivot.proofs.Rewiring.{turned_below}
 use Rattle.zx_pivot.proofs.PivotSteps.{adjacent_apart, rewired_live, pivot_step}
 use Rattle.zx_pivot.proofs.graph.pivot_in_graph.Goals as goal
 
@@ -53,3 +56,11 @@ returns-clause-step c =
     (subst (λ (k : Graph). IsRewired k c.args.u c.args.v c.rewire.new.g.graph) c.turn_common.ensures.turned c.in_ok-rewire.ensures.rewired)
     c.pivot_own-2.new.g.graph
     (c.pivot_own-2.ensures.own ∙ ap (with_changed (at_vertex c.args.v pivoted)) c.pivot_own.ensures.own) c.pivot_own-2.ensures.valid
+
+pub returns-in_err-rewire-clause-has_room : goal.returns-in_err-rewire-clause-has_room
+returns-in_err-rewire-clause-has_room c below =
+    let g = c.args.g.now.graph in
+    let halves = half_turned_in (neighbours g c.args.u) (joined g.edges c.args.v) in
+    absurd (false≢true (subst IsOk c.in_err-rewire.was
+    (subst (λ r. IsBelow r (ids c.turn_common.new.g.graph.vertices) → IsOk c.rewire.result) c.turn_common.ensures.reach c.rewire.ensures.has_room
+    (turned_below halves g c.turn_common.new.g.graph c.args.g.now.reach c.turn_common.ensures.turned below))))

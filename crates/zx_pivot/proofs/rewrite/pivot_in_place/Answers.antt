@@ -1,4 +1,7 @@
 -- The sets and the graph are changed as the step says.
+use Rattle.std.proofs.Common.{subst, IsOk}
+use Rattle.std.proofs.lemmas.Bool.{false≢true}
+use Rattle.zx_flow.proofs.Below.{order_below, all_sets_below}
 use Rattle.zx_calculus.proofs.Allowed.{pivot_live, pivot_live_too, pivot_joined}
 use Rattle.zx_calculus.proofs.Positions.{on_ok}
 use Rattle.gflow_laws.proofs.Rewriting.{rewritten}
@@ -22,9 +25,19 @@ pub pivot_sets-requires-clause-v_there : goal.pivot_sets-requires-clause-v_there
 pivot_sets-requires-clause-v_there c =
     second_listed c.args.g.now.graph c.args.f.now.flow c.args.u c.args.v c.requires.flow c.requires.allowed
 
-pub returns : goal.returns
-returns c = record {
-  rewritten = on_ok c.pivot_in_graph.result
-      (λ step. rewritten c.pivot_in_graph.ensures.was_valid c.requires.flow step c.in_ok-pivot_sets.ensures)
-      c.pivot_in_graph.ensures.step;
-}
+pub returns-clause-rewritten : goal.returns-clause-rewritten
+returns-clause-rewritten c =
+    on_ok c.pivot_in_graph.result
+    (λ step. rewritten c.pivot_in_graph.ensures.was_valid c.requires.flow step c.in_ok-pivot_sets.ensures.sets)
+    c.pivot_in_graph.ensures.step
+
+pub returns-in_err-pivot_sets-clause-has_room : goal.returns-in_err-pivot_sets-clause-has_room
+returns-in_err-pivot_sets-clause-has_room c room =
+    let g = c.args.g.now.graph in
+    let t = c.args.f.now.flow in
+    absurd (false≢true (subst IsOk c.in_err-pivot_sets.was
+    (c.pivot_sets.ensures.has_room (order_below g t c.args.f.now.reach c.requires.flow room.1)
+    (all_sets_below g t c.args.f.now.reach c.requires.flow room.1))))
+
+pub returns-clause-has_room : goal.returns-clause-has_room
+returns-clause-has_room c room = c.pivot_in_graph.ensures.has_room room.0

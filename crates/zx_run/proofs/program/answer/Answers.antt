@@ -1,5 +1,10 @@
 -- Each clause on the streams follows from what the answer says of them.
+use Rattle.std.proofs.Common.{◌≡◌, Some, subst}
 use Rattle.zx_words.specs.Command.{command_in}
+use Rattle.zx_words.specs.declared.words.Command.{Command}
+use Rattle.zx_words.specs.declared.words.Command.TheVariants.{Generate}
+use Rattle.zx_run.specs.declared.status.Status.{Status}
+use Rattle.zx_run.specs.declared.status.Status.TheVariants.{Done, Refused, WriteFault, No}
 use Rattle.zx_run.specs.Internal.Answers.{Streams, streams, told_source, told_output, IsAnswer}
 use Rattle.zx_run.proofs.AnswerLemmas as answers
 use Rattle.zx_run.proofs.program.answer.Given.{Over}
@@ -25,8 +30,11 @@ returns-clause-done g c = answers.done _ (before g c) (after g c) _ (told g c)
 pub returns-clause-done_flushed : goal.returns-clause-done_flushed
 returns-clause-done_flushed g c = answers.done_flushed _ (before g c) (after g c) _ (told g c)
 
-pub returns-clause-done_output : goal.returns-clause-done_output
-returns-clause-done_output g c = answers.done_output _ (before g c) (after g c) _ (told g c)
+pub returns-clause-no : goal.returns-clause-no
+returns-clause-no g c = answers.no_well _ (before g c) (after g c) _ (told g c)
+
+pub returns-clause-no_flushed : goal.returns-clause-no_flushed
+returns-clause-no_flushed g c = answers.no_flushed _ (before g c) (after g c) _ (told g c)
 
 pub returns-clause-usage : goal.returns-clause-usage
 returns-clause-usage g c = answers.usage _ (before g c) (after g c) _ (told g c)
@@ -41,14 +49,6 @@ returns-clause-usage_unread g c = λ is.
 pub returns-clause-refused : goal.returns-clause-refused
 returns-clause-refused g c = answers.refused _ (before g c) (after g c) _ (told g c)
 
-pub returns-clause-refused_first : goal.returns-clause-refused_first
-returns-clause-refused_first g c = λ fault text is opt.
-    answers.refused_first _ (before g c) (after g c) _ (told g c) fault text is (answers.opt_asks _ opt)
-
-pub returns-clause-refused_where : goal.returns-clause-refused_where
-returns-clause-refused_where g c = λ fault text opt.
-    answers.refused_where _ (before g c) (after g c) _ (told g c) fault text (answers.opt_asks _ opt)
-
 pub returns-clause-read_fault : goal.returns-clause-read_fault
 returns-clause-read_fault g c = answers.read_fault _ (before g c) (after g c) _ (told g c)
 
@@ -61,44 +61,51 @@ returns-clause-write_fault g c = answers.write_fault _ (before g c) (after g c) 
 pub returns-clause-write_fault_where : goal.returns-clause-write_fault_where
 returns-clause-write_fault_where g c = answers.write_fault_where _ (before g c) (after g c) _ (told g c)
 
-pub returns-clause-write_fault_output : goal.returns-clause-write_fault_output
-returns-clause-write_fault_output g c = answers.write_fault_output _ (before g c) (after g c) _ (told g c)
+-- ---- of the command that was given
+told_of : (g : Over) (c : goal.After-answered g) (command : Command) → command_in c.args.words.now ≡ Some command
+    → IsAnswer (Some command) (before g c) (after g c) c.answered.result
+told_of g c command given = subst (λ o. IsAnswer o (before g c) (after g c) c.answered.result) given (told g c)
 
-pub returns-clause-never_no : goal.returns-clause-never_no
-returns-clause-never_no g c = λ opt. answers.never_no _ (before g c) (after g c) _ (told g c)
+told_as : (g : Over) (c : goal.After-answered g) (command : Command) (status : Status) → command_in c.args.words.now ≡ Some command
+    → c.answered.result ≡ status → IsAnswer (Some command) (before g c) (after g c) status
+told_as g c command status given is = subst (IsAnswer (Some command) (before g c) (after g c)) is (told_of g c command given)
+
+pub returns-clause-done_output : goal.returns-clause-done_output
+returns-clause-done_output g c = λ command is given.
+    answers.done_output command (before g c) (after g c) (told_as g c command Done given is)
+
+pub returns-clause-no_output : goal.returns-clause-no_output
+returns-clause-no_output g c = λ command is given.
+    answers.no_output command (before g c) (after g c) (told_as g c command No given is)
+
+pub returns-clause-write_fault_output : goal.returns-clause-write_fault_output
+returns-clause-write_fault_output g c = λ command is given.
+    answers.write_fault_output command (before g c) (after g c) (told_as g c command WriteFault given is)
+
+pub returns-clause-refused_first : goal.returns-clause-refused_first
+returns-clause-refused_first g c = λ command text fault given left is.
+    answers.refused_first command (before g c) (after g c) text left fault (told_as g c command (Refused fault) given is)
+
+pub returns-clause-refused_where : goal.returns-clause-refused_where
+returns-clause-refused_where g c = λ command text fault given left.
+    answers.refused_where command (before g c) (after g c) text left _ (told_of g c command given) fault
 
 pub returns-clause-complete : goal.returns-clause-complete
-returns-clause-complete g c = λ text faultless opt.
-    answers.complete _ (before g c) (after g c) _ (told g c) text faultless (answers.opt_asks _ opt)
+returns-clause-complete g c = λ command text given left none.
+    answers.complete command (before g c) (after g c) text left _ (told_of g c command given) none
 
+pub returns-clause-read_to_end : goal.returns-clause-read_to_end
+returns-clause-read_to_end g c = λ command text given left reads.
+    answers.read_to_end command (before g c) (after g c) text left _ (told_of g c command given) reads
+
+-- ---- of `gen`
 pub returns-clause-gen_answers : goal.returns-clause-gen_answers
-returns-clause-gen_answers g c = answers.gen_answers _ (before g c) (after g c) _ (told g c)
+returns-clause-gen_answers g c = λ gen.
+    answers.gen_answers gen.0 gen.1 gen.2 (before g c) (after g c) _ (told_of g c (Generate gen.0 gen.1 gen.2) gen.3)
 
 pub returns-clause-gen_complete : goal.returns-clause-gen_complete
-returns-clause-gen_complete g c = answers.gen_complete _ (before g c) (after g c) _ (told g c)
+returns-clause-gen_complete g c = λ gen.
+    answers.gen_complete gen.0 gen.1 gen.2 (before g c) (after g c) _ (told_of g c (Generate gen.0 gen.1 gen.2) gen.3)
 
 pub returns-clause-gen_unread : goal.returns-clause-gen_unread
 returns-clause-gen_unread g c = λ gen. c.answered.ensures.unread (answers.gen_apart _ gen)
-
-pub returns-clause-read_to_end : goal.returns-clause-read_to_end
-returns-clause-read_to_end g c = λ text opt.
-    answers.read_to_end _ (before g c) (after g c) _ (told g c) text (answers.opt_asks _ opt)
-
-pub returns-clause-teleport_refused_first : goal.returns-clause-teleport_refused_first
-returns-clause-teleport_refused_first g c = λ fault text is given.
-    answers.refused_first _ (before g c) (after g c) _ (told g c) fault text is (answers.teleport_asks _ given)
-
-pub returns-clause-teleport_refuses : goal.returns-clause-teleport_refuses
-returns-clause-teleport_refuses g c = λ fault text given.
-    answers.refused_where _ (before g c) (after g c) _ (told g c) fault text (answers.teleport_asks _ given)
-
-pub returns-clause-teleport_never_no : goal.returns-clause-teleport_never_no
-returns-clause-teleport_never_no g c = λ given. answers.never_no _ (before g c) (after g c) _ (told g c)
-
-pub returns-clause-teleport_done : goal.returns-clause-teleport_done
-returns-clause-teleport_done g c = λ text faultless given.
-    answers.complete _ (before g c) (after g c) _ (told g c) text faultless (answers.teleport_asks _ given)
-
-pub returns-clause-teleport_read_to_end : goal.returns-clause-teleport_read_to_end
-returns-clause-teleport_read_to_end g c = λ text given.
-    answers.read_to_end _ (before g c) (after g c) _ (told g c) text (answers.teleport_asks _ given)

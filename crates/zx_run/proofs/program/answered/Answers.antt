@@ -4,7 +4,8 @@ use Rattle.zx_run.proofs.program.answered.Goals as goal
 
 pub returns-clause-answers : goal.returns-clause-answers
 returns-clause-answers g c = (
-  c.in-Ok.output.items,
+  c.in-Ok.output.bytes.items,
+  c.in-Ok.output.is_no,
   c.in-Ok.ensures.made,
   record {
     rose = c.in-Err-write_all.ensures.write_fault;

@@ -4,7 +4,7 @@ use Rattle.std.proofs.lemmas.Result.{err_from_is_err_and}
 use Rattle.zx_words.specs.declared.words.Command.TheVariants.{Teleport}
 use Rattle.zx_run.specs.declared.status.Status.{Status}
 use Rattle.zx_run.specs.Internal.Answers.{ToldSource, IsFailure, told_source}
-use Rattle.zx_run.proofs.AnswerLemmas.{circuit_failure}
+use Rattle.zx_run.proofs.AnswerLemmas.{read_failure}
 use Rattle.zx_run.proofs.program.output_of_teleport.Goals as goal
 
 pub returns-in_err-read-clause-failure : goal.returns-in_err-read-clause-failure
@@ -14,4 +14,4 @@ returns-in_err-read-clause-failure g c =
     let after : ToldSource = told_source g.S.Source.left g.S.Source.faults c.read_circuit.new.source in
     let why : Status → Type 0 = IsFailure (Some Teleport) before after in
     subst (λ r. IfErr r why) (sym p.1)
-    (subst why (sym p.2) (circuit_failure Teleport tt before after _ c.in_err-read.ensures.failure))
+    (subst why (sym p.2) (read_failure Teleport tt before after _ c.in_err-read.ensures.failure))

@@ -40,3 +40,18 @@ returns-clause-teleport_end c = refl
 
 pub returns-clause-teleport_flag : goal.returns-clause-teleport_flag
 returns-clause-teleport_flag c = refl
+
+pub returns-clause-reduce : goal.returns-clause-reduce
+returns-clause-reduce c = refl
+
+pub returns-clause-flow : goal.returns-clause-flow
+returns-clause-flow c = refl
+
+pub returns-clause-graph : goal.returns-clause-graph
+returns-clause-graph c = refl
+
+pub returns-clause-compile : goal.returns-clause-compile
+returns-clause-compile c = refl
+
+pub returns-clause-same : goal.returns-clause-same
+returns-clause-same c = refl

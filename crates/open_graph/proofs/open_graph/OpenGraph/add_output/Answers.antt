@@ -17,6 +17,7 @@ invariant_of-self c =
     record {
       sound = rw (c.in_err-add_end.ensures.err.0, c.in_err-add_end.ensures.err.1) c.self.invariant.sound;
       room = room_kept c.self.inside.reach c.self.inside.slots.slots c.add_end.new.slots.slots c.self.inside.kept.items c.self.invariant.room (c.add_end.ensures.room c.self.inside.reach);
+      scratch = c.self.invariant.scratch;
     }
 
 pub returns-in_err-add_end-clause-err : goal.returns-in_err-add_end-clause-err
@@ -33,6 +34,7 @@ invariant_of-self-2 c =
       sound = (becomes_end_added c.self.inside.slots.slots c.self.inside.inputs.items c.self.inside.outputs.items c.self.invariant.sound Output c.add_end.new.slots.slots c.add_end.new.ends.items c.args.end c.in_ok-add_end.ensures.ends
           (subst (λ (g : OpenGraph). MayHold g.graph g.graph.outputs c.args.end) (sym c.self.view_is) (c.requires.live, c.requires.plane, c.requires.free)) c.in_ok-add_end.ensures.slots).sound;
       room = room_kept c.self.inside.reach c.self.inside.slots.slots c.add_end.new.slots.slots c.self.inside.kept.items c.self.invariant.room (c.add_end.ensures.room c.self.inside.reach);
+      scratch = c.self.invariant.scratch;
     }
 
 pub returns-clause-ok : goal.returns-clause-ok

@@ -19,6 +19,7 @@ invariant_of-self c =
     record {
       sound = (becomes_same c.self.inside.slots.slots c.add.new.slots.slots c.self.inside.inputs.items c.self.inside.outputs.items c.self.invariant.sound c.in_err-v.ensures.err).sound;
       room = c.add.ensures.room c.self.inside.reach c.self.invariant.room;
+      scratch = c.self.invariant.scratch;
     }
 
 pub returns-in_err-v-clause-err : goal.returns-in_err-v-clause-err
@@ -36,6 +37,7 @@ invariant_of-self-2 c =
     record {
       sound = (becomes_added c.self.inside.slots.slots c.add.new.slots.slots c.self.inside.inputs.items c.self.inside.outputs.items c.self.invariant.sound c.in_ok-v.v _ c.in_ok-v.ensures.vacant (search rules) c.in_ok-v.ensures.ok).sound;
       room = c.add.ensures.room c.self.inside.reach c.self.invariant.room;
+      scratch = c.self.invariant.scratch;
     }
 
 pub returns-clause-fresh : goal.returns-clause-fresh

@@ -1,4 +1,4 @@
-use Rattle.std.proofs.Common.{◌∙◌, ap}
+use Rattle.std.proofs.Common.{◌∙◌, ap, arith}
 use Rattle.open_graph.proofs.Keeping.{becomes_copied}
 use Rattle.open_graph.proofs.ReachLemmas.{no_room}
 use Rattle.open_graph.proofs.open_graph.OpenGraph.copy.Goals as goal
@@ -10,6 +10,7 @@ invariant_of-result c =
           c.self.invariant.sound c.in_ok-from_slice.field-0.items c.in_ok-from_slice-2.field-0.items c.in_ok-clone.ensures.cases
           (c.in_ok-from_slice.ensures.items ∙ c.deref.ensures.value) (c.in_ok-from_slice-2.ensures.items ∙ c.deref-2.ensures.value)).sound;
       room = no_room c.in_ok-clone.field-0.slots c.new.result.items c.new.ensures.items;
+      scratch = record { near = omega arith; far = omega arith };
     }
 
 pub returns-clause-ok : goal.returns-clause-ok

@@ -26,6 +26,7 @@ invariant_of-self c =
           (subst (λ (g : OpenGraph). c.args.i < length g.graph.inputs) (sym c.self.view_is) c.requires.in_range)
           (subst (λ (g : OpenGraph). MayHold g.graph (remove g.graph.inputs c.args.i) c.args.end) (sym c.self.view_is) (c.requires.live, c.requires.plane, c.requires.free)) c.move_end.ensures.slots).sound;
       room = room_kept c.self.inside.reach c.self.inside.slots.slots c.move_end.new.slots.slots c.self.inside.kept.items c.self.invariant.room (c.move_end.ensures.room c.self.inside.reach);
+      scratch = c.self.invariant.scratch;
     }
 
 pub returns-clause-ok : goal.returns-clause-ok

@@ -18,6 +18,7 @@ invariant_of-self c =
       sound = (becomes_removed c.self.inside.slots.slots c.remove.new.slots.slots c.self.inside.inputs.items c.self.inside.outputs.items c.self.invariant.sound c.args.v
           (subst (λ (g : OpenGraph). Interior g.graph c.args.v) (sym c.self.view_is) c.requires.interior) c.remove.ensures.removed).sound;
       room = c.remove.ensures.room c.self.inside.reach c.self.invariant.room;
+      scratch = c.self.invariant.scratch;
     }
 
 pub returns-clause-ok : goal.returns-clause-ok

@@ -18,6 +18,7 @@ invariant_of-self c =
       sound = (becomes_weight c.self.inside.slots.slots c.self.inside.inputs.items c.self.inside.outputs.items c.self.invariant.sound c.set_kind.new.slots.slots c.args.v (in_plane (plane_named c.args.plane) c.args.phase)
           (search rules) (λ e. c.requires.plane (ap (λ g. is_interior g.graph c.args.v) (sym c.self.view_is) ∙ e)) c.set_kind.ensures.puts).sound;
       room = room_kept c.self.inside.reach c.self.inside.slots.slots c.set_kind.new.slots.slots c.self.inside.kept.items c.self.invariant.room (c.set_kind.ensures.room c.self.inside.reach);
+      scratch = c.self.invariant.scratch;
     }
 
 pub returns-clause-ok : goal.returns-clause-ok

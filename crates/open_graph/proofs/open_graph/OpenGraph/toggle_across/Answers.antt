@@ -23,6 +23,7 @@ invariant_of-self-in_default c =
     record {
       sound = (becomes_across c.self.inside.slots.slots c.toggle_across.new.slots.slots c.self.inside.inputs.items c.self.inside.outputs.items c.self.invariant.sound c.args.left.now.ids c.args.right.now.ids c.in_default.ensures.toggled).sound;
       room = room_kept c.self.inside.reach c.self.inside.slots.slots c.toggle_across.new.slots.slots c.self.inside.kept.items c.self.invariant.room (c.toggle_across.ensures.room);
+      scratch = c.self.invariant.scratch;
     }
 
 pub returns-clause-ok : goal.returns-clause-ok
@@ -42,6 +43,7 @@ invariant_of-self c =
       sound = (becomes_empty c.clear.new.slots.slots c.clear-in-Err.new.self.items c.clear-in-Err-2.new.self.items c.clear.ensures.gone c.clear-in-Err.ensures.items c.clear-in-Err-2.ensures.items).sound;
       room = c.clear.ensures.room c.self.inside.reach
           (room_kept c.self.inside.reach c.self.inside.slots.slots c.toggle_across.new.slots.slots c.self.inside.kept.items c.self.invariant.room c.toggle_across.ensures.room);
+      scratch = c.self.invariant.scratch;
     }
 
 pub returns-in-Err-clause-err : goal.returns-in-Err-clause-err

@@ -22,6 +22,7 @@ invariant_of-self c =
     record {
       sound = (becomes_same c.self.inside.slots.slots c.toggle.new.slots.slots c.self.inside.inputs.items c.self.inside.outputs.items c.self.invariant.sound c.in_err-toggle.ensures.err).sound;
       room = room_kept c.self.inside.reach c.self.inside.slots.slots c.toggle.new.slots.slots c.self.inside.kept.items c.self.invariant.room (c.toggle.ensures.room);
+      scratch = c.self.invariant.scratch;
     }
 
 pub returns-in_err-toggle-clause-err : goal.returns-in_err-toggle-clause-err
@@ -41,6 +42,7 @@ invariant_of-self-2 c =
           (ap (λ g. member c.args.u (ids g.graph.vertices)) c.self.view_is ∙ c.requires.u_live) (ap (λ g. member c.args.v (ids g.graph.vertices)) c.self.view_is ∙ c.requires.v_live)
           c.requires.different c.in_ok-toggle.ensures.ok).sound;
       room = room_kept c.self.inside.reach c.self.inside.slots.slots c.toggle.new.slots.slots c.self.inside.kept.items c.self.invariant.room (c.toggle.ensures.room);
+      scratch = c.self.invariant.scratch;
     }
 
 pub returns-clause-ok : goal.returns-clause-ok

@@ -1,0 +1,9 @@
+//! Tests of diagrams and their graph-like forms. There is no running code.
+#![tactic(auto)]
+
+#[cfg(test)]
+mod classes;
+#[cfg(test)]
+mod diagrams;
+#[cfg(test)]
+mod like_forms;

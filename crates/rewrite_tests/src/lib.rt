@@ -1,0 +1,14 @@
+//! Tests of rewrites, of the search for the next move and of simplification, on graphs drawn by hand. There is no running
+//! code: what is tested here stands in crates below, which aren't proved once more for it.
+#![tactic(auto)]
+
+#[cfg(test)]
+mod drawings;
+#[cfg(test)]
+mod moves;
+#[cfg(test)]
+mod reductions;
+#[cfg(test)]
+mod refusals;
+#[cfg(test)]
+mod rewrites;

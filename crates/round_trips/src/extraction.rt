@@ -1,0 +1,16 @@
+//! That a circuit is found with ample memory.
+
+use open_graph::OpenGraph;
+use std::test::Fail;
+use zx_extract::extract;
+use zx_flow::{Flow, FlowTable};
+
+#[test]
+fn no_qubits_have_no_gates(rt: HostRuntime) -> Result<(), Fail> {
+    let graph = OpenGraph::new(rt.alloc());
+    let flow = Flow::of_table(&graph, FlowTable::new(rt.alloc()))?;
+    let circuit = extract(rt.alloc(), graph, flow)?;
+    assert_eq!(rt; circuit.qubits(), 0);
+    assert!(rt; circuit.gates().is_empty());
+    Ok(())
+}

@@ -1,0 +1,78 @@
+//! The bytes of worked examples.
+
+use crate::streams::run_with;
+use std::test::Fail;
+
+#[test]
+fn worked_runs_write_these_bytes(rt: HostRuntime) -> Result<(), Fail> {
+    // The words, the text, and what the output and the error output get. Two T are one S; the numbers of
+    // gates are counted by hand.
+    let rows: [(&[&str], &[u8], &[u8], &[u8]); 10] = [
+        (
+            &["opt"],
+            b"OPENQASM 2.0;\ninclude \"qelib1.inc\";\nqreg q[1];\nt q[0];\nt q[0];\n",
+            b"OPENQASM 2.0;\ninclude \"qelib1.inc\";\nqreg q[1];\ns q[0];\n",
+            b"",
+        ),
+        (
+            &["opt", "--report", "--best"],
+            b"OPENQASM 2.0;\ninclude \"qelib1.inc\";\nqreg q[1];\nt q[0];\nt q[0];\n",
+            b"OPENQASM 2.0;\ninclude \"qelib1.inc\";\nqreg q[1];\ns q[0];\n// read gates 2 odd 2 two-qubit 0 h 0 phase 2 cz 0 cx 0 not 0\n// written gates 1 odd 0 two-qubit 0 h 0 phase 1 cz 0 cx 0 not 0\n",
+            b"",
+        ),
+        (
+            &["gen", "7", "1", "0"],
+            b"",
+            b"// gen 7 1 0\n// read gates 0 odd 0 two-qubit 0 h 0 phase 0 cz 0 cx 0 not 0\n// written gates 0 odd 0 two-qubit 0 h 0 phase 0 cz 0 cx 0 not 0\n",
+            b"",
+        ),
+        (
+            &["opt"],
+            b"OPENQASM 2.0;\ninclude \"other.inc\";\n",
+            b"",
+            b"zxopt: fault 5 Include at 14\n",
+        ),
+        (
+            &["opt"],
+            b"OPENQASM 2.0;\ninclude \"qelib1.inc\";\nqreg q[1]; creg c[1]; measure q[0] -> c[0];",
+            b"OPENQASM 2.0;\ninclude \"qelib1.inc\";\nqreg q[1];\ncreg c[1];\nmeasure q[0] -> c[0];\n",
+            b"",
+        ),
+        (
+            &["opt"],
+            b"OPENQASM 2.0;\ninclude \"qelib1.inc\";\nqreg q[1]; creg c[1]; measure q[0] -> c[0]; h q[0];",
+            b"",
+            b"zxopt: fault 22 AfterMeasure at 80\n",
+        ),
+        (
+            &["teleport"],
+            b"OPENQASM 2.0;\ninclude \"qelib1.inc\";\nqreg q[1];\nt q[0];\nt q[0];\n",
+            b"OPENQASM 2.0;\ninclude \"qelib1.inc\";\nqreg q[1];\ns q[0];\n",
+            b"",
+        ),
+        (
+            &["teleport"],
+            b"OPENQASM 2.0;\ninclude \"qelib1.inc\";\nqreg q[1];\ncreg c[1];\nt q[0]; h q[0]; h q[0]; t q[0]; measure q[0] -> c[0];",
+            b"OPENQASM 2.0;\ninclude \"qelib1.inc\";\nqreg q[1];\ncreg c[1];\ns q[0];\nh q[0];\nh q[0];\nmeasure q[0] -> c[0];\n",
+            b"",
+        ),
+        (
+            &["teleport"],
+            b"OPENQASM 2.0;\ninclude \"qelib1.inc\";\nqreg q[1]; @",
+            b"",
+            b"zxopt: fault 2 BadByte at 47\n",
+        ),
+        (
+            &["Opt"],
+            b"",
+            b"",
+            b"usage: zxopt opt [--best] [--report] | reduce | flow | graph | gen SEED QUBITS GATES | compile | teleport | same\n",
+        ),
+    ];
+    for (i, (words, text, written, told)) in rows.into_iter().enumerate() {
+        let (_, out, err) = run_with(rt.alloc(), words, text, [&[], &[], &[]])?;
+        assert_eq!(rt; out.bytes(), written, "row {i}");
+        assert_eq!(rt; err.bytes(), told, "row {i}");
+    }
+    Ok(())
+}

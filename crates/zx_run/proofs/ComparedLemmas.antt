@@ -1,0 +1,90 @@
+-- What is said of two circuits.
+use Rattle.std.proofs.Common.{◌≡◌, ◌≢◌, ◌≤◌, ◌<◌, ◌+◌, ℕ, List, Bool, true, false, length, map, sym, ap₂, subst, Contains}
+use Rattle.zx_model.specs.Proportional.{Proportional}
+use Rattle.zx_calculus.specs.Graph.{Graph}
+use Rattle.zx_calculus.specs.Reduced.{IsReduced}
+use Rattle.zx_calculus.specs.Steps.{IsRun}
+use Rattle.zx_gates.specs.declared.elementary.Elementary.{Elementary}
+use Rattle.zx_gates.specs.declared.elementary.Measure.{Measure}
+use Rattle.zx_gates.specs.declared.gate.Gate.{Gate}
+use Rattle.zx_gates.specs.Circuit.{Circuit, circuit_of, gate_odd_phases}
+use Rattle.zx_gates.specs.Lowering.{lowered}
+use Rattle.zx_gates.specs.Maps.{amp}
+use Rattle.zx_peephole.specs.Tidy.{IsTidy}
+use Rattle.circuit_graph.specs.Translation.{translated}
+use Rattle.zx_reduce.specs.declared.step.Step.{Step}
+use Rattle.zx_reduce.specs.Steps.{step_named}
+use Rattle.zx_extract.specs.Simplified.{gate_bound}
+use Rattle.zx_same.specs.declared.comparing.Sameness.{Sameness}
+use Rattle.zx_same.specs.declared.comparing.Sameness.TheVariants.{Same, NotShown}
+use Rattle.zx_same.specs.Bare.{is_bare}
+use Rattle.zx_same.specs.Comparing.{IfNotShown}
+use Rattle.zx_same.specs.Inverse.{undone_by}
+use Rattle.zx_run.specs.Comparing.{HaveSameMeasures, IsLeft, circuit_for}
+use Rattle.zx_run.specs.TwoTexts.{AreAccepted}
+use Rattle.zx_run.specs.Internal.Verdicts.{IsComparison, IsComparisonOf}
+
+-- ---- measurements
+
+module _ (one other : Elementary) (these those : List Measure) (first : these ≡ one.measured) (second : those ≡ other.measured) where
+  pub same_measures : one.bits ≡ other.bits → ((m : Measure) → Contains these m → Contains those m)
+      → ((m : Measure) → Contains those m → Contains these m) → HaveSameMeasures one other
+  same_measures bits all back = (
+    bits,
+    λ m. (
+      λ k. subst (λ l. Contains l m) second (all m (subst (λ l. Contains l m) (sym first) k)),
+      λ k. subst (λ l. Contains l m) first (back m (subst (λ l. Contains l m) (sym second) k)),
+    ),
+  )
+
+  pub some_missing : (((m : Measure) → Contains these m → Contains those m) → ⊥) → HaveSameMeasures one other → ⊥
+  some_missing missing same =
+      missing (λ m k. subst (λ l. Contains l m) (sym second) ((same.1 m).0 (subst (λ l. Contains l m) first k)))
+
+  pub some_further : (((m : Measure) → Contains those m → Contains these m) → ⊥) → HaveSameMeasures one other → ⊥
+  some_further missing same =
+      missing (λ m k. subst (λ l. Contains l m) (sym first) ((same.1 m).1 (subst (λ l. Contains l m) second k)))
+
+-- ---- gates
+pub lowered_is : (read : Elementary) (c : Circuit) → c.qubits ≡ read.qubits → c.gates ≡ lowered read.gates → c ≡ circuit_for read
+lowered_is read c qubits gates = ap₂ circuit_of qubits gates
+
+-- what is left of two circuits that differ
+abbrev pub Differ : Circuit → Circuit → Circuit → List Step → Graph → Type 0
+Differ a b left steps end = (a.gates ≢ b.gates) × IsLeft a b left
+
+pub left_of_both : (a b : Circuit) (answer : Sameness)
+    → IfNotShown (λ left steps end. a.gates ≢ b.gates) answer
+    → IfNotShown (λ left steps end. IsRun (translated (undone_by a b)) (map step_named steps) end) answer
+    → IfNotShown (λ left steps end. IsReduced end) answer
+    → IfNotShown (λ left steps end. is_bare end ≡ false) answer
+    → IfNotShown (λ left steps end. left.qubits ≡ a.qubits) answer
+    → IfNotShown (λ left steps end. Proportional a.qubits a.qubits (amp (undone_by a b).gates) (amp left.gates)) answer
+    → IfNotShown (λ left steps end. IsTidy left.gates) answer
+    → IfNotShown (λ left steps end. 0 < length left.gates) answer
+    → IfNotShown (λ left steps end. gate_odd_phases left.gates ≤ gate_odd_phases a.gates + gate_odd_phases b.gates) answer
+    → IfNotShown (λ left steps end. length left.gates ≤ gate_bound a.qubits (gate_odd_phases a.gates + gate_odd_phases b.gates)) answer
+    → IfNotShown (Differ a b) answer
+left_of_both a b Same different run reduced not_bare qubits same_map tidy some odd few = tt
+left_of_both a b (NotShown left trace end) different run reduced not_bare qubits same_map tidy some odd few = (
+  different,
+  record {
+    steps = map step_named trace.steps;
+    end = end.graph;
+    run = run;
+    reduced = reduced;
+    not_bare = not_bare;
+    qubits = qubits;
+    map = same_map;
+    tidy = tidy;
+    some = some;
+    odd = odd;
+    few = few;
+  },
+)
+
+-- ---- of the circuits and of the texts that mean them
+pub comparison_for : (text bytes : List ℕ) (one other : Elementary) (no : Bool) → AreAccepted text one other
+    → IsComparisonOf one other bytes no → IsComparison text bytes no
+comparison_for text bytes one other false accepted said = record { one = one; other = other; accepted = accepted; same = said }
+comparison_for text bytes one other true accepted said = record { one = one; other = other; accepted = accepted; difference = said }

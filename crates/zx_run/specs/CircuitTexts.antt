@@ -1,0 +1,77 @@
+-- What `opt`, `teleport` and `gen` may write.
+use Rattle.std.specs.Prelude.{◌≡◌, ◌≤◌, ◌++◌, ℕ, Bool, true, if◌then◌else◌, List, [], codes, decimal}
+use Rattle.zx_gates.specs.declared.elementary.Elementary.{Elementary}
+use Rattle.zx_gates.specs.declared.gate.Gate.{Gate}
+use Rattle.zx_gates.specs.Circuit.{Circuit, IsCircuit}
+use Rattle.zx_gates.specs.Elementary.{elementary_odd_phases}
+use Rattle.zx_gates.specs.ElementaryMaps.{amp_elementary}
+use Rattle.zx_gates.specs.Lowering.{lowered}
+use Rattle.zx_gen.specs.Generator.{generated}
+use Rattle.zx_model.specs.Proportional.{Proportional}
+use Rattle.zx_report.specs.Report.{report_lines}
+use Rattle.qasm_scope.specs.Texts.{TextMeans, program_size}
+use Rattle.qasm_writer.specs.Elements.{elements_of}
+use Rattle.qasm_writer.specs.Written.{written}
+use Rattle.zx_run.specs.FirstFault.{IsAccepted}
+use Rattle.zx_extract.specs.Simplified.{gate_bound}
+use Rattle.zx_run.specs.Optimising.{Optimises, Teleports, IsBest, counts_of}
+
+-- a number of qubits, and gates on them
+abbrev pub circuit_on : ℕ → List Gate → Circuit
+circuit_on qubits gates = record { qubits = qubits; gates = gates }
+
+-- the report of two lists of gates, where it is asked for
+abbrev pub report_if : Bool → List Gate → List Gate → List ℕ
+report_if report read made = if report then report_lines (counts_of read) (counts_of made) else []
+
+-- The bytes are what `opt` may write for a text, with the flags `best` and `report` or without: the text
+-- has no fault, and they are the text of a circuit that optimises the one that is meant, lowered, and its
+-- report. That text means, with n qubits and t odd phases in the text that was read, the same linear map up
+-- to a nonzero scalar, with at most t odd phases, and behind it the same measurements, in the same order, into
+-- as many bits. Its program applies at most 4*n*n + 6*n + 3*n*t gates.
+pub record IsOptimisedText (best report : Bool) (text bytes : List ℕ) : Type 0 where
+  pub read : Elementary
+  pub circuit : Circuit
+  pub accepted : IsAccepted text read
+  pub spelled : bytes ≡ written circuit read.bits read.measured ++ report_if report (lowered read.gates) circuit.gates
+  -- the headline
+  pub means : TextMeans (written circuit read.bits read.measured) read.qubits (elements_of circuit.gates) read.bits
+      read.measured
+  pub same_map : Proportional read.qubits read.qubits (amp_elementary read.gates)
+      (amp_elementary (elements_of circuit.gates))
+  pub no_more_odd : elementary_odd_phases (elements_of circuit.gates) ≤ elementary_odd_phases read.gates
+  pub few_gates : program_size means.program ≤ gate_bound read.qubits (elementary_odd_phases read.gates)
+  -- what more is known of the circuit
+  pub valid : IsCircuit circuit
+  pub optimises : Optimises (circuit_on read.qubits (lowered read.gates)) circuit
+  pub is_best : best ≡ true → IsBest (circuit_on read.qubits (lowered read.gates)) circuit
+
+-- The bytes are what `teleport` may write for a text: the text has no fault, and they are the text of a circuit in
+-- which phases alone differ from the one that is meant, lowered. That text means the same linear map up to a nonzero
+-- scalar, with no more odd phases, and behind it the same measurements, in the same order, into as many bits.
+pub record IsTeleportedText (text bytes : List ℕ) : Type 0 where
+  pub read : Elementary
+  pub circuit : Circuit
+  pub accepted : IsAccepted text read
+  pub spelled : bytes ≡ written circuit read.bits read.measured
+  pub means : TextMeans (written circuit read.bits read.measured) read.qubits (elements_of circuit.gates) read.bits
+      read.measured
+  pub same_map : Proportional read.qubits read.qubits (amp_elementary read.gates)
+      (amp_elementary (elements_of circuit.gates))
+  pub no_more_odd : elementary_odd_phases (elements_of circuit.gates) ≤ elementary_odd_phases read.gates
+  -- what more is known of the circuit
+  pub valid : IsCircuit circuit
+  pub teleports : Teleports (circuit_on read.qubits (lowered read.gates)) circuit
+
+-- the line of the words of `gen`
+abbrev pub generation_line : ℕ → ℕ → ℕ → List ℕ
+generation_line seed qubits gates =
+    codes "// gen " ++ decimal seed ++ codes " " ++ decimal qubits ++ codes " " ++ decimal gates ++ codes "\n"
+
+-- the bytes are what `gen` may write: its words, and the report of the circuit of the seed and of one that
+-- optimises it
+pub record IsGenerationReport (seed qubits gates : ℕ) (bytes : List ℕ) : Type 0 where
+  pub made : Circuit
+  pub optimises : Optimises (circuit_on qubits (generated seed qubits gates)) made
+  pub spelled : bytes ≡ generation_line seed qubits gates
+      ++ report_lines (counts_of (generated seed qubits gates)) (counts_of made.gates)

@@ -1,0 +1,115 @@
+-- What `same` writes for two texts in one.
+use Rattle.std.specs.Prelude.{◌≡◌, ◌≢◌, ◌≤◌, ◌<◌, ◌+◌, ◌↔◌, ◌⊎◌, ℕ, false, List, ◌++◌, length, codes, decimal, Contains}
+use Rattle.zx_model.specs.Proportional.{Proportional}
+use Rattle.zx_calculus.specs.Graph.{Graph}
+use Rattle.zx_calculus.specs.Reduced.{IsReduced}
+use Rattle.zx_calculus.specs.Steps.{Step, IsRun}
+use Rattle.zx_gates.specs.declared.elementary.Elementary.{Elementary}
+use Rattle.zx_gates.specs.declared.elementary.Measure.{Measure}
+use Rattle.zx_gates.specs.declared.gate.Gate.{Gate}
+use Rattle.zx_gates.specs.Circuit.{Circuit, circuit_of, gate_odd_phases}
+use Rattle.zx_gates.specs.Lowering.{lowered}
+use Rattle.zx_gates.specs.Maps.{amp}
+use Rattle.zx_peephole.specs.Tidy.{IsTidy}
+use Rattle.circuit_graph.specs.Translation.{translated}
+use Rattle.zx_extract.specs.Simplified.{gate_bound}
+use Rattle.zx_same.specs.Bare.{is_bare}
+use Rattle.zx_same.specs.Inverse.{undone_by}
+use Rattle.zx_run.specs.declared.status.Status.{Status}
+use Rattle.zx_run.specs.declared.status.Status.TheVariants.{Done, No}
+use Rattle.zx_run.specs.TwoTexts.{AreAccepted}
+
+-- as many qubits
+abbrev pub HaveSameWidths : Elementary → Elementary → Type 0
+HaveSameWidths one other = one.qubits ≡ other.qubits
+
+-- as many bits, and the same measurements, in whatever order
+abbrev pub HaveSameMeasures : Elementary → Elementary → Type 0
+HaveSameMeasures one other =
+    (one.bits ≡ other.bits) × ((measure : Measure) → Contains one.measured measure ↔ Contains other.measured measure)
+
+-- Steps lead from the graph of the first circuit, followed by the inverse of the second, to a reduced graph that isn't
+-- just wires. What is left in the end is a circuit of their map that isn't empty, and in which no gates cancel or
+-- merge.
+pub record IsLeft (one other : Circuit) (left : Circuit) : Type 0 where
+  pub steps : List Step
+  pub end : Graph
+  pub run : IsRun (translated (undone_by one other)) steps end
+  pub reduced : IsReduced end
+  pub not_bare : is_bare end ≡ false
+  pub qubits : left.qubits ≡ one.qubits
+  pub map : Proportional one.qubits one.qubits (amp (undone_by one other).gates) (amp left.gates)
+  pub tidy : IsTidy left.gates
+  pub some : 0 < length left.gates
+  pub odd : gate_odd_phases left.gates ≤ gate_odd_phases one.gates + gate_odd_phases other.gates
+  pub few : length left.gates ≤ gate_bound one.qubits (gate_odd_phases one.gates + gate_odd_phases other.gates)
+
+-- the lowered circuit
+abbrev pub circuit_for : Elementary → Circuit
+circuit_for read = circuit_of read.qubits (lowered read.gates)
+
+-- ---- what is said of the circuits that two texts mean
+
+-- they are on different numbers of qubits
+pub record IsOfWidths (one other : Elementary) (bytes : List ℕ) : Type 0 where
+  pub differ : HaveSameWidths one other → ⊥
+  pub spelled : bytes ≡ codes "widths " ++ (decimal one.qubits ++ (codes " " ++ (decimal other.qubits ++ codes "\n")))
+
+-- they are on as many qubits, but their bits or measurements differ
+pub record IsOfMeasures (one other : Elementary) (bytes : List ℕ) : Type 0 where
+  pub widths : HaveSameWidths one other
+  pub differ : HaveSameMeasures one other → ⊥
+  pub spelled : bytes ≡ codes "measures differ\n"
+
+-- these agree, but the gates differ, and so many gates are left of both
+pub record IsNotShown (one other : Elementary) (bytes : List ℕ) : Type 0 where
+  pub widths : HaveSameWidths one other
+  pub measures : HaveSameMeasures one other
+  pub gates_differ : lowered one.gates ≢ lowered other.gates
+  pub left : Circuit
+  pub is_left : IsLeft (circuit_for one) (circuit_for other) left
+  pub spelled : bytes ≡ codes "not shown " ++ (decimal (length left.gates) ++ codes "\n")
+
+-- these agree, and the maps are equal up to a nonzero scalar
+pub record IsSame (one other : Elementary) (bytes : List ℕ) : Type 0 where
+  pub widths : HaveSameWidths one other
+  pub measures : HaveSameMeasures one other
+  pub same_map : Proportional one.qubits one.qubits (amp (lowered one.gates)) (amp (lowered other.gates))
+  pub spelled : bytes ≡ codes "same\n"
+
+-- The bytes are what `same` writes with the answer Done for two texts in one.
+pub record IsSameText (text bytes : List ℕ) : Type 0 where
+  pub one : Elementary
+  pub other : Elementary
+  pub accepted : AreAccepted text one other
+  pub same : IsSame one other bytes
+
+-- Which of three lines `same` writes with the answer No: the widths differ; they agree, but the measurements differ; or
+-- these agree too, but that the circuits are the same isn't shown, and their gates differ.
+abbrev pub IsDifference : Elementary → Elementary → List ℕ → Type 0
+IsDifference one other bytes = IsOfWidths one other bytes ⊎ (IsOfMeasures one other bytes ⊎ IsNotShown one other bytes)
+
+-- The bytes are what `same` writes with the answer No for two texts in one.
+pub record IsDifferentText (text bytes : List ℕ) : Type 0 where
+  pub one : Elementary
+  pub other : Elementary
+  pub accepted : AreAccepted text one other
+  pub difference : IsDifference one other bytes
+
+-- they agree in qubits, bits and measurements, and their maps are equal up to a nonzero scalar
+pub record HaveOneMap (one other : Elementary) : Type 0 where
+  pub widths : HaveSameWidths one other
+  pub measures : HaveSameMeasures one other
+  pub same_map : Proportional one.qubits one.qubits (amp (lowered one.gates)) (amp (lowered other.gates))
+
+-- they differ in qubits, in bits or measurements, or in their lowered gates
+abbrev pub AreDifferent : Elementary → Elementary → Type 0
+AreDifferent one other =
+    (HaveSameWidths one other → ⊥) ⊎ ((HaveSameMeasures one other → ⊥) ⊎ (lowered one.gates ≢ lowered other.gates))
+
+-- The answer is Done only where the circuits have one map, and No only where they are different; so it is Done where
+-- they are equal.
+abbrev pub IsSamenessVerdict : List ℕ → Status → Type 0
+IsSamenessVerdict text status =
+    (one : Elementary) × (other : Elementary) × AreAccepted text one other
+    × (((status ≡ Done) × HaveOneMap one other) ⊎ ((status ≡ No) × AreDifferent one other))

@@ -1,0 +1,127 @@
+//! From the two circuits that are read to the line about whether they are the same.
+
+ghost use Rattle.std.specs.Prelude.{◌≡◌, true, false, List, ℕ, Contains, IfOk};
+ghost use Rattle.zx_gates.specs.declared.elementary.Measure.{Measure as Measured};
+ghost use Rattle.zx_gates.specs.Elementary.{IsElementary};
+ghost use Rattle.zx_run.specs.Comparing.{HaveSameMeasures, HaveSameWidths};
+ghost use Rattle.zx_run.specs.TwoTexts.{AreAccepted};
+ghost use Rattle.zx_run.specs.Internal.Verdicts.{IsComparison, IsComparisonOf};
+
+use crate::written::Written;
+use std::alloc::{AllocError, Global};
+use zx_gates::{Elementary, Measure, lower};
+use zx_same::{Sameness, compare};
+
+/// The line about two circuits: `same`, or no with `widths N M`, `measures differ` or `not shown K`.
+///
+/// # Errors
+///
+/// Only where memory runs out.
+pub fn comparison_text(
+    alloc: Global,
+    one: &Elementary,
+    other: &Elementary,
+) -> Result<Written, AllocError>
+    requires one { IsElementary one.now }
+    requires other { IsElementary other.now }
+    ensures { (text : List ℕ) → AreAccepted text one.now other.now
+        → IfOk result (λ written. IsComparison text written.bytes.items written.is_no) }
+{
+    let written = line_about(alloc, one, other)?;
+    Ok(written)
+}
+
+// The line about two circuits.
+fn line_about(alloc: Global, one: &Elementary, other: &Elementary) -> Result<Written, AllocError>
+    requires one { IsElementary one.now }
+    requires other { IsElementary other.now }
+    ensures { IfOk result (λ written.
+        IsComparisonOf one.now other.now written.bytes.items written.is_no) }
+{
+    if one.qubits != other.qubits {
+        let these = one.qubits;
+        let those = other.qubits;
+        let line = format!(in alloc; "widths {these} {those}\n")?;
+        return Ok(no(line.into_bytes()));
+    }
+    if !have_same_measures(one, other) {
+        let line = format!(in alloc; "measures differ\n")?;
+        return Ok(no(line.into_bytes()));
+    }
+    line_about_gates(alloc, one, other)
+}
+
+// The line about two circuits that agree but for their gates.
+fn line_about_gates(
+    alloc: Global,
+    one: &Elementary,
+    other: &Elementary,
+) -> Result<Written, AllocError>
+    requires one { IsElementary one.now }
+    requires other { IsElementary other.now }
+    requires widths { HaveSameWidths one.now other.now }
+    requires measures { HaveSameMeasures one.now other.now }
+    ensures { IfOk result (λ written.
+        IsComparisonOf one.now other.now written.bytes.items written.is_no) }
+{
+    let first = lower(alloc, one)?;
+    let second = lower(alloc, other)?;
+    match compare(alloc, &first, &second)? {
+        Sameness::Same => {
+            let line = format!(in alloc; "same\n")?;
+            Ok(Written::done(line.into_bytes()))
+        }
+        Sameness::NotShown { left, .. } => {
+            let count = left.gates().len();
+            let line = format!(in alloc; "not shown {count}\n")?;
+            Ok(no(line.into_bytes()))
+        }
+    }
+}
+
+// What is written by a command that says no.
+fn no(bytes: Vec<u8>) -> Written
+    ensures bytes { result.bytes ≡ bytes }
+    ensures no { result.is_no ≡ true }
+{
+    Written { bytes, is_no: true }
+}
+
+// Whether two circuits have as many bits and the same measurements.
+fn have_same_measures(one: &Elementary, other: &Elementary) -> bool
+    ensures same { result ≡ true → HaveSameMeasures one.now other.now }
+    ensures differ { result ≡ false → HaveSameMeasures one.now other.now → ⊥ }
+{
+    if one.bits != other.bits {
+        return false;
+    }
+    let these = one.measured.as_slice();
+    let those = other.measured.as_slice();
+    if !are_all_in(these, those) {
+        return false;
+    }
+    are_all_in(those, these)
+}
+
+// Whether each of these measurements is one of those.
+fn are_all_in(these: &[Measure], those: &[Measure]) -> bool
+    ensures all { result ≡ true → (measure : Measured) → Contains these.now measure
+        → Contains those.now measure }
+    ensures some { result ≡ false → ((measure : Measured) → Contains these.now measure
+        → Contains those.now measure) → ⊥ }
+{
+    for measure in these {
+        if !is_in(*measure, those) {
+            return false;
+        }
+    }
+    true
+}
+
+// Whether a measurement is one of those.
+fn is_in(measure: Measure, those: &[Measure]) -> bool
+    ensures is { result ≡ true → Contains those.now measure }
+    ensures other { result ≡ false → Contains those.now measure → ⊥ }
+{
+    those.contains(&measure)
+}

@@ -1,0 +1,62 @@
+//! From a graph with a table of corrections to what `reduce` writes.
+
+ghost use Rattle.std.specs.Prelude.{◌≡◌, ◌<◌, IfOk};
+ghost use Rattle.gflow_laws.specs.Flow.{IsFlow, IsTableOf};
+ghost use Rattle.gflow_laws.specs.Seen.{seen};
+ghost use Rattle.zx_run.specs.FlowFiles.{IsReducedFile};
+ghost use Rattle.zx_run.specs.Internal.Answers.{IsVerdict};
+
+use crate::flow_verdict::failure;
+use crate::written::Written;
+use flow_check::{Verdict, check};
+use open_graph::OpenGraph;
+use std::alloc::{AllocError, Global};
+use std::marker::Brand;
+use std::sync::ledger::{Blank, Ledger};
+use zx_flow::{Flow, FlowTable};
+use zx_reduce::{Steps, Trace, reduce};
+use zx_text::write_graph;
+
+/// The file of the reduced graph with its flow, or where the table isn't one, no and the line of its
+/// first failure.
+///
+/// # Errors
+///
+/// Only where memory runs out.
+pub fn reduction(alloc: Global, graph: OpenGraph, table: FlowTable) -> Result<Written, AllocError>
+    requires { IsTableOf (seen graph.graph) table.table }
+    ensures { IfOk result (λ written. IsVerdict graph.graph table.table
+        (IsReducedFile graph.graph written.bytes.items) written.bytes.items written.is_no) }
+{
+    match check(alloc, &graph, &table)? {
+        Verdict::Flow => {
+            let bytes = reduced_file::<Brand>(alloc, graph, table, Blank::new(1))?;
+            Ok(Written {
+                bytes,
+                is_no: false,
+            })
+        }
+        Verdict::Fails { vertex, condition } => failure(alloc, vertex, condition),
+    }
+}
+
+// The file of the reduced graph with its flow. The moves are counted for nobody.
+fn reduced_file<L: Ledger>(
+    alloc: Global,
+    graph: OpenGraph,
+    table: FlowTable,
+    blank: Blank,
+) -> Result<Vec<u8>, AllocError>
+    requires flow { IsFlow graph.graph table.table }
+    requires name { blank.name ≡ L.name }
+    requires parts { blank.parts ≡ L.parts }
+    requires some { 0 < L.parts }
+    ensures { IfOk result (λ bytes. IsReducedFile graph.graph bytes.items) }
+{
+    let mut graph = graph;
+    let mut flow = Flow::of_table(&graph, table)?;
+    let mut trace = Trace::new(alloc);
+    let mut moves = Steps::<L>::new(blank);
+    reduce(&mut graph, &mut flow, &mut trace, &mut moves)?;
+    write_graph(alloc, &graph, Some(&flow))
+}

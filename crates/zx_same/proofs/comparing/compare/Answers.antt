@@ -1,0 +1,26 @@
+-- Equal lists have one map, and so have circuits of which one undoes the other.
+use Rattle.std.proofs.Common.{sym, ◌∙◌, subst}
+use Rattle.zx_model.specs.Proportional.{Proportional}
+use Rattle.zx_model.proofs.ProportionalLemmas.{proportional_refl}
+use Rattle.zx_gates.specs.Maps.{amp}
+use Rattle.zx_same.proofs.Comparisons.{same_seen, left_odd, left_few}
+use Rattle.zx_same.proofs.comparing.compare.Goals as goal
+
+pub returns-then-are_equal-clause-same_map : goal.returns-then-are_equal-clause-same_map
+returns-then-are_equal-clause-same_map c =
+    let a = c.args.a.now in
+    subst (λ gates. Proportional a.qubits a.qubits (amp a.gates) (amp gates)) (sym c.gates.ensures.value ∙ c.are_equal.ensures.0 c.if-are_equal.true ∙ c.gates-2.ensures.value)
+    (proportional_refl a.qubits a.qubits (amp a.gates))
+
+pub returns-then-is_identity-clause-same_map : goal.returns-then-is_identity-clause-same_map
+returns-then-is_identity-clause-same_map c =
+    same_seen c.args.a.now c.args.b.now c.in_ok-both.both c.in_ok-found.found c.requires.qubits c.gates-2.ensures.valid
+    c.in_ok-both.ensures c.in_ok-found.ensures (sym c.is_identity.ensures ∙ c.if-is_identity.true)
+
+pub returns-clause-left_odd : goal.returns-clause-left_odd
+returns-clause-left_odd c =
+    left_odd c.args.a.now c.args.b.now c.in_ok-both.both c.in_ok-found.found c.gates-2.ensures.valid c.in_ok-both.ensures c.in_ok-found.ensures
+
+pub returns-clause-left_few : goal.returns-clause-left_few
+returns-clause-left_few c =
+    left_few c.args.a.now c.args.b.now c.in_ok-both.both c.in_ok-found.found c.gates-2.ensures.valid c.in_ok-both.ensures c.in_ok-found.ensures

@@ -1,0 +1,28 @@
+-- What the graph of a circuit is simplified to.
+use Rattle.std.specs.Prelude.{◌≡◌, ◌≤◌, length, map}
+use Rattle.zx_model.specs.Proportional.{Proportional}
+use Rattle.zx_calculus.specs.Graph.{WellFormed}
+use Rattle.zx_calculus.specs.Reduced.{IsReduced}
+use Rattle.zx_calculus.specs.Steps.{IsRun}
+use Rattle.zx_calculus.specs.Sum.{sum}
+use Rattle.zx_gates.specs.Circuit.{Circuit, gate_odd_phases}
+use Rattle.zx_gates.specs.Maps.{amp}
+use Rattle.zx_peephole.specs.Tidy.{IsTidy}
+use Rattle.zx_reduce.specs.Steps.{step_named}
+use Rattle.zx_extract.specs.Simplified.{gate_bound}
+use Rattle.circuit_graph.specs.Translation.{translated}
+use Rattle.zx_simplify.specs.declared.simplifying.Simplified.{Simplified}
+
+-- Steps lead from the circuit's graph to the reduced one, whose sum is proportional to the circuit's map. So is the
+-- map of what is left, which is tidy, with no more odd phases than the circuit and few gates.
+pub record Simplifies (circuit : Circuit) (made : Simplified) : Type 0 where
+  pub run : IsRun (translated circuit) (map step_named made.trace.steps) made.reduced.graph
+  pub reduced : IsReduced made.reduced.graph
+  pub well_formed : WellFormed made.reduced.graph
+  pub inputs : length made.reduced.graph.inputs ≡ circuit.qubits
+  pub kept : Proportional circuit.qubits circuit.qubits (amp circuit.gates) (sum made.reduced.graph)
+  pub qubits : made.gates.qubits ≡ circuit.qubits
+  pub map : Proportional circuit.qubits circuit.qubits (amp circuit.gates) (amp made.gates.gates)
+  pub tidy : IsTidy made.gates.gates
+  pub odd : gate_odd_phases made.gates.gates ≤ gate_odd_phases circuit.gates
+  pub few : length made.gates.gates ≤ gate_bound circuit.qubits (gate_odd_phases circuit.gates)

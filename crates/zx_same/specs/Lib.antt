@@ -1,0 +1,4 @@
+pub mod Inverse
+pub mod Bare
+pub mod Comparing
+pub mod Internal

@@ -1,0 +1,129 @@
+//! Two circuits compared, by simplifying the one followed by the inverse of the other.
+
+ghost use Rattle.std.specs.Prelude.{◌≡◌, ◌≢◌, ◌≤◌, ◌<◌, ◌↔◌, ◌+◌, ◌==◌, ◌||◌, false, length, map, IsTrue, IfOk};
+ghost use Rattle.zx_model.specs.Proportional.{Proportional};
+ghost use Rattle.zx_calculus.specs.Reduced.{IsReduced};
+ghost use Rattle.zx_calculus.specs.Steps.{IsRun};
+ghost use Rattle.zx_gates.specs.Circuit.{gate_odd_phases};
+ghost use Rattle.zx_gates.specs.Maps.{amp};
+ghost use Rattle.zx_peephole.specs.Tidy.{IsTidy};
+ghost use Rattle.zx_reduce.specs.Steps.{step_named};
+ghost use Rattle.circuit_graph.specs.Translation.{translated};
+ghost use Rattle.zx_extract.specs.Simplified.{gate_bound};
+ghost use Rattle.zx_same.specs.Bare.{is_bare};
+ghost use Rattle.zx_same.specs.Comparing.{IfSame, IfNotShown, IsSame};
+ghost use Rattle.zx_same.specs.Internal.Simplifying.{Simplifies};
+ghost use Rattle.zx_same.specs.Inverse.{undone_by};
+
+use crate::bare::is_bare;
+use crate::inversion::push_inverse;
+use circuit_graph::translate;
+use open_graph::OpenGraph;
+use std::alloc::{AllocError, Global};
+use zx_gates::{Gate, GateList};
+use zx_reduce::Trace;
+use zx_simplify::{Simplified, simplify};
+
+/// Whether two circuits have one linear map, as far as simplification shows.
+#[derive(Drop)]
+pub enum Sameness {
+    /// The maps are equal up to a number other than 0.
+    Same,
+    /// It isn't shown that they are. This is left of the first circuit followed by the inverse of the
+    /// second.
+    NotShown {
+        /// The circuit of the reduced graph, after cleanup.
+        left: GateList,
+        /// The steps from the graph of both circuits.
+        trace: Trace,
+        /// The graph to which they lead.
+        reduced: OpenGraph,
+    },
+}
+
+/// Compares two circuits on as many qubits.
+///
+/// # Errors
+///
+/// Only where memory runs out.
+pub fn compare(alloc: Global, a: &GateList, b: &GateList) -> Result<Sameness, AllocError>
+    requires qubits { a.now.qubits ≡ b.now.qubits }
+
+    // Yes is right, and is said of equal lists.
+    ensures same_map { IfOk result (IfSame (Proportional a.now.qubits a.now.qubits
+        (amp a.now.gates) (amp b.now.gates))) }
+    ensures equal_lists { a.now.gates ≡ b.now.gates → IfOk result IsSame }
+
+    // Where it isn't shown, the lists differ, and steps lead to a reduced graph that isn't just wires.
+    ensures different_lists { IfOk result (IfNotShown (λ left steps reduced.
+        a.now.gates ≢ b.now.gates)) }
+    ensures run { IfOk result (IfNotShown (λ left steps reduced.
+        IsRun (translated (undone_by a.now b.now)) (map step_named steps) reduced)) }
+    ensures reduced { IfOk result (IfNotShown (λ left steps reduced. IsReduced reduced)) }
+    ensures not_bare { IfOk result (IfNotShown (λ left steps reduced. is_bare reduced ≡ false)) }
+
+    // What is left has the map of the one circuit followed by the inverse of the other.
+    ensures left_qubits { IfOk result (IfNotShown (λ left steps reduced.
+        left.qubits ≡ a.now.qubits)) }
+    ensures left_map { IfOk result (IfNotShown (λ left steps reduced.
+        Proportional a.now.qubits a.now.qubits
+        (amp (undone_by a.now b.now).gates) (amp left.gates))) }
+    ensures left_tidy { IfOk result (IfNotShown (λ left steps reduced. IsTidy left.gates)) }
+    ensures left_some { IfOk result (IfNotShown (λ left steps reduced. 0 < length left.gates)) }
+
+    // At most as many phases are odd as in both, and there are few gates.
+    ensures left_odd { IfOk result (IfNotShown (λ left steps reduced. gate_odd_phases left.gates ≤
+        gate_odd_phases a.now.gates + gate_odd_phases b.now.gates)) }
+    ensures left_few { IfOk result (IfNotShown (λ left steps reduced. length left.gates ≤
+        gate_bound a.now.qubits (gate_odd_phases a.now.gates + gate_odd_phases b.now.gates))) }
+{
+    if are_equal(a.gates(), b.gates()) {
+        return Ok(Sameness::Same);
+    }
+    let both = undone_by(a, b)?;
+    let found = simplified(alloc, &both)?;
+    if is_identity(&found) {
+        return Ok(Sameness::Same);
+    }
+    Ok(Sameness::NotShown {
+        left: found.gates,
+        trace: found.trace,
+        reduced: found.reduced,
+    })
+}
+
+// Whether two lists of gates are equal.
+fn are_equal(a: &[Gate], b: &[Gate]) -> bool
+    ensures { IsTrue result ↔ (a.now ≡ b.now) }
+{
+    a == b
+}
+
+// The first circuit, followed by the inverse of the second.
+fn undone_by(a: &GateList, b: &GateList) -> Result<GateList, AllocError>
+    requires { a.now.qubits ≡ b.now.qubits }
+    ensures { IfOk result (λ made. made ≡ undone_by a.now b.now) }
+{
+    let mut made = a.copy()?;
+    push_inverse(&mut made, b)?;
+    Ok(made)
+}
+
+// What a circuit's graph is simplified to.
+fn simplified(alloc: Global, circuit: &GateList) -> Result<Simplified, AllocError>
+    ensures { IfOk result (Simplifies circuit.now) }
+{
+    // A circuit has no more qubits than a graph may have outputs.
+    prove!(circuit.qubits() <= 1_024);
+    let (graph, flow) = translate(alloc, circuit)?;
+    let made = simplify(alloc, graph, flow)?;
+    Ok(made)
+}
+
+// Whether it is seen that a simplified circuit is the identity: no gate is left, or nothing but wires is
+// left of the graph.
+fn is_identity(found: &Simplified) -> bool
+    ensures { result ≡ ((length found.now.gates.gates == 0) || is_bare found.now.reduced.graph) }
+{
+    found.gates.gates().is_empty() || is_bare(&found.reduced)
+}

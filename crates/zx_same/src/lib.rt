@@ -1,0 +1,27 @@
+//! Whether two circuits have one linear map, up to a number other than 0.
+//!
+//! Proved of `compare`: it answers `Same` only where the maps are equal up to a number other than 0, and
+//! always where the circuits are the same gates in the same order. Else it tells what is left of the first
+//! circuit followed by the inverse of the second: the steps that it tells lead from the graph of these
+//! gates to the reduced graph that it tells, which isn't just wires; the circuit that it tells has their
+//! map, isn't empty, and nothing in it cancels or merges. That the maps differ then isn't proved.
+//! `inverse` gives the gates backwards, each undone.
+//!
+//! ```rust
+//! match compare(alloc, &circuit, &other)? {
+//!     Sameness::Same => ..,
+//!     Sameness::NotShown { left, .. } => ..,
+//! }
+//! ```
+#![tactic(auto)]
+
+mod bare;
+mod comparing;
+mod inversion;
+mod laws;
+#[cfg(test)]
+mod tests;
+
+pub use comparing::{Sameness, compare};
+pub use inversion::inverse;
+pub use laws::{bare_graphs_are_the_identity, inverses_undo_circuits};

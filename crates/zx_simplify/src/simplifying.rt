@@ -1,0 +1,107 @@
+//! Simplification, extraction and cleanup in a row.
+
+ghost use Rattle.std.specs.Prelude.{◌≡◌, ◌<◌, ◌≤◌, length, map, IfOk};
+ghost use Rattle.zx_model.specs.Proportional.{Proportional};
+ghost use Rattle.zx_calculus.specs.Counts.{odd_phases};
+ghost use Rattle.zx_calculus.specs.Exact.{KeepsMap};
+ghost use Rattle.zx_calculus.specs.Reduced.{IsReduced};
+ghost use Rattle.zx_calculus.specs.Steps.{IsRun};
+ghost use Rattle.zx_calculus.specs.Sum.{sum};
+ghost use Rattle.zx_calculus.specs.Graph.{WellFormed};
+ghost use Rattle.gflow_laws.specs.Flow.{IsFlow};
+ghost use Rattle.zx_gates.specs.Circuit.{gate_odd_phases, most_qubits};
+ghost use Rattle.zx_gates.specs.Maps.{amp};
+ghost use Rattle.zx_peephole.specs.Tidy.{IsTidy};
+ghost use Rattle.zx_reduce.specs.Steps.{step_named};
+ghost use Rattle.zx_extract.specs.Simplified.{gate_bound};
+ghost use Rattle.zx_simplify.specs.Internal.Reducing.{Reduces};
+
+use open_graph::OpenGraph;
+use std::alloc::{AllocError, Global};
+use std::marker::Brand;
+use std::sync::ledger::{Blank, Ledger};
+use zx_extract::extract;
+use zx_flow::Flow;
+use zx_gates::GateList;
+use zx_peephole::tidy;
+use zx_reduce::{Steps, Trace, reduce};
+
+/// The circuit of a simplified graph, the steps by which the graph was simplified, and what they
+/// lead to.
+#[derive(Drop)]
+pub struct Simplified {
+    /// The circuit, after cleanup.
+    pub gates: GateList,
+    /// The steps from the graph that was given.
+    pub trace: Trace,
+    /// The graph to which they lead.
+    pub reduced: OpenGraph,
+}
+
+/// Simplifies a graph with a flow, and turns what is left into a circuit. It has as many inputs as
+/// outputs, at most 1,024.
+///
+/// # Errors
+///
+/// Only where memory runs out.
+pub fn simplify(alloc: Global, graph: OpenGraph, flow: Flow) -> Result<Simplified, AllocError>
+    requires flow { IsFlow graph.graph flow.flow }
+    requires ends { length graph.graph.inputs ≡ length graph.graph.outputs }
+    requires few { length graph.graph.outputs ≤ most_qubits }
+
+    // The steps lead to the reduced graph, whose sum is proportional.
+    ensures run { IfOk result (λ made.
+        IsRun graph.graph (map step_named made.trace.steps) made.reduced.graph) }
+    ensures reduced { IfOk result (λ made. IsReduced made.reduced.graph) }
+    ensures well_formed { IfOk result (λ made. WellFormed made.reduced.graph) }
+    ensures reduced_map { IfOk result (λ made. KeepsMap graph.graph made.reduced.graph) }
+    ensures inputs { IfOk result (λ made.
+        length made.reduced.graph.inputs ≡ length graph.graph.inputs) }
+    ensures outputs { IfOk result (λ made.
+        length made.reduced.graph.outputs ≡ length graph.graph.outputs) }
+
+    // The circuit's map is the graph's sum up to a number other than 0.
+    ensures qubits { IfOk result (λ made. made.gates.qubits ≡ length graph.graph.outputs) }
+    ensures map { IfOk result (λ made. Proportional (length graph.graph.outputs)
+        (length graph.graph.outputs) (sum graph.graph) (amp made.gates.gates)) }
+    ensures tidy { IfOk result (λ made. IsTidy made.gates.gates) }
+
+    // At most as many phases are odd as in the reduced graph, and there are few gates.
+    ensures odd { IfOk result (λ made.
+        gate_odd_phases made.gates.gates ≤ odd_phases made.reduced.graph) }
+    ensures fewer { IfOk result (λ made.
+        odd_phases made.reduced.graph ≤ odd_phases graph.graph) }
+    ensures few_gates { IfOk result (λ made. length made.gates.gates ≤
+        gate_bound (length graph.graph.outputs) (odd_phases graph.graph)) }
+{
+    let (reduced, flow, trace) = reduce_counted::<Brand>(alloc, graph, flow, Blank::new(1))?;
+    let mut gates = extract(alloc, reduced.copy()?, flow)?;
+    tidy(&mut gates);
+    Ok(Simplified {
+        gates,
+        trace,
+        reduced,
+    })
+}
+
+// The reduced graph with its flow, and the steps that lead to it. The moves are counted for nobody.
+fn reduce_counted<L: Ledger>(
+    alloc: Global,
+    graph: OpenGraph,
+    flow: Flow,
+    blank: Blank,
+) -> Result<(OpenGraph, Flow, Trace), AllocError>
+    requires name { blank.name ≡ L.name }
+    requires parts { blank.parts ≡ L.parts }
+    requires some { 0 < L.parts }
+    requires flow { IsFlow graph.graph flow.flow }
+    ensures { IfOk result (λ made.
+        Reduces graph.graph made.0.graph made.1.flow made.2.steps) }
+{
+    let mut reduced = graph;
+    let mut flow = flow;
+    let mut trace = Trace::new(alloc);
+    let mut moves = Steps::<L>::new(blank);
+    reduce(&mut reduced, &mut flow, &mut trace, &mut moves)?;
+    Ok((reduced, flow, trace))
+}

@@ -1,0 +1,6 @@
+-- No separator so far.
+use Rattle.std.proofs.Common.{◌≡◌, ℕ, ◌<◌, get_or}
+use Rattle.zx_text.proofs.pieces.cut.Given as goal
+
+abbrev pub invariant-loop-place : goal.invariant-loop-place
+invariant-loop-place l = (k : ℕ) → k < l.place → get_or l.text k 0 ≡ l.separator → ⊥

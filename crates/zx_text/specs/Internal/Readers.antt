@@ -1,0 +1,26 @@
+-- What the reader's values stand for.
+use Rattle.std.specs.Prelude.{Bool, true, false}
+use Rattle.std.specs.Option.{option_map}
+use Rattle.zx_text.specs.Reading.{Wanted, AnyFile, OnlyWithFlow}
+use Rattle.zx_text.specs.Internal.Stepping.{State, InGraph, AtFlow, InSets, Over}
+use Rattle.zx_text.specs.declared.reader.Reader.{Reader}
+use Rattle.zx_text.specs.declared.reader.Reader.TheVariants as reader
+
+-- which files a reader is for
+abbrev pub wanted_by : Bool → Wanted
+wanted_by true = OnlyWithFlow
+wanted_by false = AnyFile
+
+-- what its lines so far say
+abbrev pub state_of : Reader → State
+state_of (reader.Graph part) = InGraph part
+state_of (reader.Flow part) = AtFlow part.graph
+state_of (reader.Sets part) = InSets part
+state_of (reader.Over graph table) = Over graph.graph (option_map (λ t. t.table) table)
+
+-- the last line of a file is read
+abbrev pub is_over : State → Bool
+is_over (InGraph part) = false
+is_over (AtFlow g) = false
+is_over (InSets part) = false
+is_over (Over g table) = true

@@ -1,0 +1,98 @@
+//! Graph files that are read.
+
+ghost use Rattle.std.specs.Prelude.{◌≡◌, ◌<◌, ◌≤◌, ◌⊎◌, ℕ, List, Option, Some, true, length, IfOk, IsOk, IsErrOf};
+ghost use Rattle.std.specs.Option.{option_map};
+ghost use Rattle.zx_calculus.specs.Graph.{Graph};
+ghost use Rattle.gflow_laws.specs.Flow.{Correction};
+ghost use Rattle.zx_text.specs.Reading.{most_bytes, Spells, AnyFile, OnlyWithFlow, IsBadLine};
+ghost use Rattle.zx_text.specs.Internal.Readers.{wanted_by};
+ghost use Rattle.zx_text.specs.Internal.Outcomes.{IsReading, Excludes};
+ghost use Rattle.zx_text.specs.declared.error.TextError.TheVariants.{BadLine, TooLong, NoMemory};
+
+use crate::error::TextError;
+use crate::line_reader::{Outcome, read_lines};
+use crate::pieces::cut;
+use crate::version::Version;
+use open_graph::OpenGraph;
+use std::alloc::{AllocError, Global};
+use zx_flow::FlowTable;
+
+/// The graph that a file spells, with the ids that are its numbers, and its flow if it has one.
+///
+/// # Errors
+///
+/// `TooLong` where there are more than 16,777,216 bytes; else `BadLine` with the number of the first
+/// line that doesn't fit, where the bytes aren't a file; `NoMemory` where memory runs out.
+pub fn read_graph(alloc: Global, bytes: &[u8]) -> Result<(OpenGraph, Option<FlowTable>), TextError>
+    ensures ok { IfOk result (λ read.
+        Spells bytes.now read.0.graph (option_map (λ t. t.table) read.1)) }
+    ensures short { IsOk result → length bytes.now ≤ most_bytes }
+    ensures accepted { (g : Graph) (table : Option (List Correction)) → Spells bytes.now g table →
+        length bytes.now ≤ most_bytes → IsOk result ⊎ IsErrOf result NoMemory }
+    ensures too_long { IsErrOf result TooLong → most_bytes < length bytes.now }
+    ensures is_too_long { most_bytes < length bytes.now → IsErrOf result TooLong }
+    ensures bad_line { (line : ℕ) → IsErrOf result (BadLine line) →
+        (length bytes.now ≤ most_bytes) × IsBadLine AnyFile bytes.now line }
+    ensures refused { (line : ℕ) → IsBadLine AnyFile bytes.now line →
+        length bytes.now ≤ most_bytes → IsErrOf result (BadLine line) ⊎ IsErrOf result NoMemory }
+{
+    if bytes.len() > MOST_BYTES {
+        return Err(TextError::TooLong);
+    }
+    let outcome = outcome_of(alloc, false, bytes)?;
+    match outcome {
+        Outcome::File(graph, table) => Ok((graph, table)),
+        Outcome::BadLine(line) => Err(TextError::BadLine { line }),
+    }
+}
+
+/// The same of files that have a flow: where a file has none, its last line doesn't fit.
+///
+/// # Errors
+///
+/// Those of `read_graph`, and `BadLine` at the last line of a file without a flow.
+pub fn read_graph_with_flow(
+    alloc: Global,
+    bytes: &[u8],
+) -> Result<(OpenGraph, FlowTable), TextError>
+    ensures ok { IfOk result (λ read. Spells bytes.now read.0.graph (Some read.1.table)) }
+    ensures short { IsOk result → length bytes.now ≤ most_bytes }
+    ensures accepted { (g : Graph) (table : List Correction) → Spells bytes.now g (Some table) →
+        length bytes.now ≤ most_bytes → IsOk result ⊎ IsErrOf result NoMemory }
+    ensures too_long { IsErrOf result TooLong → most_bytes < length bytes.now }
+    ensures is_too_long { most_bytes < length bytes.now → IsErrOf result TooLong }
+    ensures bad_line { (line : ℕ) → IsErrOf result (BadLine line) →
+        (length bytes.now ≤ most_bytes) × IsBadLine OnlyWithFlow bytes.now line }
+    ensures refused { (line : ℕ) → IsBadLine OnlyWithFlow bytes.now line →
+        length bytes.now ≤ most_bytes → IsErrOf result (BadLine line) ⊎ IsErrOf result NoMemory }
+{
+    if bytes.len() > MOST_BYTES {
+        return Err(TextError::TooLong);
+    }
+    let outcome = outcome_of(alloc, true, bytes)?;
+    match outcome {
+        Outcome::File(graph, table) => match table {
+            Some(table) => Ok((graph, table)),
+            None => unreachable!(),
+        },
+        Outcome::BadLine(line) => Err(TextError::BadLine { line }),
+    }
+}
+
+// What comes of the lines of a text, the first one too.
+fn outcome_of(alloc: Global, with_flow: bool, bytes: &[u8]) -> Result<Outcome, AllocError>
+    requires short { length bytes.now ≤ most_bytes }
+    ensures reading { IfOk result (λ outcome. IsReading (wanted_by with_flow) bytes.now outcome) }
+    ensures excludes { IfOk result (λ outcome. Excludes (wanted_by with_flow) bytes.now outcome) }
+{
+    let Some((first, rest)) = cut(bytes, b'\n') else {
+        return Ok(Outcome::BadLine(1));
+    };
+    match Version::of_header(first) {
+        Some(version) => read_lines(alloc, version, with_flow, rest),
+        None => Ok(Outcome::BadLine(1)),
+    }
+}
+
+/// The most bytes that a file may have.
+pub const MOST_BYTES: usize = 16_777_216;

@@ -1,0 +1,145 @@
+//! A graph file taken in line by line.
+
+ghost use Rattle.std.specs.Prelude.{◌≡◌, ◌<◌, ◌^◌, ◌∷◌, [], drop, length, IfOk};
+ghost use Rattle.std.specs.Option.{option_map};
+ghost use Rattle.zx_text.specs.Versions.{version_named};
+ghost use Rattle.zx_text.specs.Internal.Taking.{line_said};
+ghost use Rattle.zx_text.specs.Internal.Stepping.{step, graph_step, flow_step, set_step, vertices_of};
+ghost use Rattle.zx_text.specs.Internal.Readers.{state_of, wanted_by};
+
+use crate::graph_part::GraphPart;
+use crate::line::Line;
+use crate::set_part::SetPart;
+use crate::version::Version;
+use open_graph::{OpenGraph, VertexId};
+use std::alloc::{AllocError, Global};
+use zx_flow::FlowTable;
+
+// What the lines so far say.
+#[derive(Drop)]
+pub(crate) enum Reader {
+    // Before the line of a flow.
+    Graph(GraphPart),
+    // Behind it.
+    Flow(GraphPart),
+    // Behind that of its order.
+    Sets(SetPart),
+    // Behind the last line.
+    Over(OpenGraph, Option<FlowTable>),
+}
+
+// What one more line leads to, if it fits.
+pub(crate) fn taken(
+    alloc: Global,
+    version: Version,
+    with_flow: bool,
+    reader: Reader,
+    line: &Line,
+) -> Result<Option<Reader>, AllocError>
+    requires room { length (vertices_of (state_of reader)) < 2 ^ 32 }
+    ensures { IfOk result (λ next. option_map state_of next
+        ≡ step (version_named version) (wanted_by with_flow) (state_of reader) (line_said line.now)) }
+{
+    match reader {
+        Reader::Graph(part) => graph_taken(version, with_flow, part, line),
+        Reader::Flow(part) => order_taken(alloc, part, line),
+        Reader::Sets(part) => set_taken(part, line),
+        Reader::Over(_graph, _table) => Ok(None),
+    }
+}
+
+// The same before the line of a flow.
+fn graph_taken(
+    version: Version,
+    with_flow: bool,
+    part: GraphPart,
+    line: &Line,
+) -> Result<Option<Reader>, AllocError>
+    requires room { length part.graph.vertices < 2 ^ 32 }
+    ensures { IfOk result (λ next. option_map state_of next
+        ≡ graph_step (version_named version) (wanted_by with_flow) part (line_said line.now)) }
+{
+    let mut part = part;
+    let fits = match line {
+        Line::Vertex {
+            number,
+            plane,
+            phase,
+        } => part.take_vertex(version, *number, *plane, *phase)?,
+        Line::Edge(a, b) => part.take_edge(*a, *b)?,
+        Line::Input(v, hadamard) => part.take_input(*v, *hadamard)?,
+        Line::Output(v, hadamard) => part.take_output(*v, *hadamard)?,
+        Line::Flow => return Ok(Some(Reader::Flow(part))),
+        Line::Order(_) | Line::Correct(_, _) => false,
+        Line::End => {
+            if with_flow {
+                return Ok(None);
+            }
+            return Ok(Some(Reader::Over(part.graph, None)));
+        }
+    };
+    if fits {
+        Ok(Some(Reader::Graph(part)))
+    } else {
+        Ok(None)
+    }
+}
+
+// The same behind the line of a flow.
+fn order_taken(alloc: Global, part: GraphPart, line: &Line) -> Result<Option<Reader>, AllocError>
+    ensures { IfOk result (λ next. option_map state_of next ≡ flow_step part.graph (line_said line.now)) }
+{
+    match line {
+        Line::Order(order) => match SetPart::of_order(alloc, part, order)? {
+            Some(sets) => Ok(Some(Reader::Sets(sets))),
+            None => Ok(None),
+        },
+        _ => Ok(None),
+    }
+}
+
+// The same behind that of its order.
+fn set_taken(part: SetPart, line: &Line) -> Result<Option<Reader>, AllocError>
+    ensures { IfOk result (λ next. option_map state_of next ≡ set_step part part.left (line_said line.now)) }
+{
+    match part.next() {
+        Some(next) => member_line_taken(part, next, line),
+        None => end_taken(part, line),
+    }
+}
+
+// The same where the set of this vertex comes next.
+fn member_line_taken(
+    part: SetPart,
+    next: VertexId,
+    line: &Line,
+) -> Result<Option<Reader>, AllocError>
+    requires next { part.left ≡ next ∷ drop 1 part.left }
+    ensures { IfOk result (λ next. option_map state_of next ≡ set_step part part.left (line_said line.now)) }
+{
+    match line {
+        Line::Correct(v, members) => {
+            if *v != next.get() {
+                return Ok(None);
+            }
+            let mut part = part;
+            if part.take_set(next, members)? {
+                Ok(Some(Reader::Sets(part)))
+            } else {
+                Ok(None)
+            }
+        }
+        _ => Ok(None),
+    }
+}
+
+// The same where no set is to come.
+fn end_taken(part: SetPart, line: &Line) -> Result<Option<Reader>, AllocError>
+    requires none { part.left ≡ [] }
+    ensures { IfOk result (λ next. option_map state_of next ≡ set_step part part.left (line_said line.now)) }
+{
+    match line {
+        Line::End => Ok(Some(Reader::Over(part.graph, Some(part.table)))),
+        _ => Ok(None),
+    }
+}
