@@ -1,5 +1,5 @@
 -- What holds of the graph of a circuit.
-use Rattle.std.proofs.Common.{◌≡◌, sym, ◌∙◌, ap, subst, [], length, arith}
+use Rattle.std.proofs.Common.{◌≡◌, sym, ◌∙◌, ap, subst, ltb-true, [], length, arith}
 use Rattle.std.specs.List.{All}
 use Rattle.zx_model.specs.Number.{one, mul}
 use Rattle.zx_model.specs.Proportional.{Proportional}
@@ -27,6 +27,7 @@ run_translates c t r on run = record {
   well_formed = comes.ready.well_formed;
   flow = comes.ready.flow;
   spiders = omega (arith, comes.spiders, length-map-range_with_len spider_of_phase_zero 0 c.qubits, spiders-written c.gates);
+  ids = λ u there. ltb-true u (length t.graph.vertices) (sym (comes.ready.numbered u) ∙ there);
   planes = comes.ready.planes;
   odd = omega (arith, comes.odd, odd-wires c.qubits, odd-written c.gates);
   inputs = inputs;

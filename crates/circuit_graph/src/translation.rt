@@ -1,6 +1,6 @@
 //! The graph of a circuit, with its flow.
 
-ghost use Rattle.std.specs.Prelude.{◌≡◌, ◌≤◌, ℕ, true, Bool, List, length, IfOk};
+ghost use Rattle.std.specs.Prelude.{◌≡◌, ◌<◌, ◌≤◌, ℕ, true, Bool, List, length, IfOk};
 ghost use Rattle.zx_model.specs.Number.{mul};
 ghost use Rattle.zx_model.specs.Proportional.{Proportional};
 ghost use Rattle.zx_calculus.specs.Graph.{plane_of, Live, WellFormed};
@@ -38,6 +38,8 @@ pub fn translate(alloc: Global, circuit: &GateList) -> Result<(OpenGraph, Flow),
 
     // Its vertices.
     ensures spiders { IfOk result (λ made. length made.0.graph.vertices ≡ spiders_of circuit.now) }
+    ensures ids { IfOk result (λ made. (v : ℕ) → Live made.0.graph v →
+        v < length made.0.graph.vertices) }
     ensures planes { IfOk result (λ made. (v : ℕ) → Live made.0.graph v →
         plane_of made.0.graph v ≡ zx.XY) }
     ensures odd { IfOk result (λ made.

@@ -9,6 +9,7 @@ ghost use Rattle.open_graph.specs.Planes.{plane_named};
 ghost use Rattle.move_laws.specs.Orders.{HasFlowAlong};
 ghost use Rattle.graph_tests.specs.Drawn.{with_vertex, with_input, with_output, set_beside_an_output, shared_output_table};
 
+use crate::graphs::toggle;
 use flow_find::{Found, find, find_along, find_by_rank};
 use open_graph::{End, OpenGraph, Plane, VertexId};
 use std::alloc::Global;
@@ -184,15 +185,34 @@ fn left_of(alloc: Global, graph: &OpenGraph) -> Result<Vec<VertexId>, Fail> {
     }
 }
 
+// An input without neighbours, and an output.
+fn draw_cut_wire(rt: &impl Abort, graph: &mut OpenGraph) -> Result<(), Fail> {
+    add(rt, graph, 0, Plane::XY)?;
+    add(rt, graph, 1, Plane::XY)?;
+    add_input(rt, graph, 0)?;
+    add_output(rt, graph, 1)?;
+    Ok(())
+}
+
 // Nothing is odd at a vertex without neighbours.
 #[test]
 fn a_vertex_beside_nothing_is_left(rt: HostRuntime) -> Result<(), Fail> {
     let mut graph = OpenGraph::new(rt.alloc());
-    add(&rt, &mut graph, 0, Plane::XY)?;
-    add(&rt, &mut graph, 1, Plane::XY)?;
-    add_input(&rt, &mut graph, 0)?;
-    add_output(&rt, &mut graph, 1)?;
+    draw_cut_wire(&rt, &mut graph)?;
     assert!(rt; left_of(rt.alloc(), &graph)?.as_slice() == [id(0)].as_slice());
+    Ok(())
+}
+
+// The vertex 2 beside the output 3, and the vertices 0 and 1 beside 2.
+fn draw_fork(rt: &impl Abort, graph: &mut OpenGraph) -> Result<(), Fail> {
+    add(rt, graph, 0, Plane::XY)?;
+    add(rt, graph, 1, Plane::XY)?;
+    add(rt, graph, 2, Plane::XY)?;
+    add(rt, graph, 3, Plane::XY)?;
+    add_output(rt, graph, 3)?;
+    toggle(rt, graph, 2, 3)?;
+    toggle(rt, graph, 0, 2)?;
+    toggle(rt, graph, 1, 2)?;
     Ok(())
 }
 
@@ -200,14 +220,7 @@ fn a_vertex_beside_nothing_is_left(rt: HostRuntime) -> Result<(), Fail> {
 #[test]
 fn two_vertices_are_left(rt: HostRuntime) -> Result<(), Fail> {
     let mut graph = OpenGraph::new(rt.alloc());
-    add(&rt, &mut graph, 0, Plane::XY)?;
-    add(&rt, &mut graph, 1, Plane::XY)?;
-    add(&rt, &mut graph, 2, Plane::XY)?;
-    add(&rt, &mut graph, 3, Plane::XY)?;
-    add_output(&rt, &mut graph, 3)?;
-    join(&mut graph, 2, 3)?;
-    join(&mut graph, 0, 2)?;
-    join(&mut graph, 1, 2)?;
+    draw_fork(&rt, &mut graph)?;
     assert!(rt; left_of(rt.alloc(), &graph)?.as_slice() == [id(0), id(1)].as_slice());
     Ok(())
 }

@@ -125,22 +125,29 @@ fn correction(rt: &impl Abort, alloc: Global, flow: &Flow, v: usize) -> Result<u
     Ok(digits(&ids))
 }
 
-#[test]
-fn a_flow_is_changed(rt: HostRuntime) -> Result<(), Fail> {
-    let mut flow = path_flow(&rt, rt.alloc())?;
-
-    // After a local complement about the middle it is in its own set.
-    toggle(&rt, rt.alloc(), &mut flow, 1, 1)?;
+// After a local complement about the middle it is in its own set.
+fn complement_middle(rt: &impl Abort, alloc: Global, flow: &mut Flow) -> Result<(), Fail> {
+    toggle(rt, alloc, flow, 1, 1)?;
     let copy = flow.copy()?;
-    assert_eq!(rt; correction(&rt, rt.alloc(), &copy, 1)?, 12);
+    assert_eq!(rt; correction(rt, alloc, &copy, 1)?, 12);
     assert_eq!(rt; copy.last(), Some(VertexId::new(1)));
+    Ok(())
+}
 
-    // After the middle was deleted, its set is toggled in that of the first.
-    toggle_set(&rt, &mut flow, 0, 1)?;
+// After the middle was deleted, its set is toggled in that of the first.
+fn delete_middle(rt: &impl Abort, alloc: Global, flow: &mut Flow) -> Result<(), Fail> {
+    toggle_set(rt, flow, 0, 1)?;
     assert!(rt; stands_in(flow.order(), VertexId::new(1)));
     flow.remove(VertexId::new(1));
     assert_eq!(rt; digits(flow.order()), 0);
     assert_eq!(rt; flow.order().len(), 1);
-    assert_eq!(rt; correction(&rt, rt.alloc(), &flow, 0)?, 2);
+    assert_eq!(rt; correction(rt, alloc, flow, 0)?, 2);
     Ok(())
+}
+
+#[test]
+fn a_flow_is_changed(rt: HostRuntime) -> Result<(), Fail> {
+    let mut flow = path_flow(&rt, rt.alloc())?;
+    complement_middle(&rt, rt.alloc(), &mut flow)?;
+    delete_middle(&rt, rt.alloc(), &mut flow)
 }

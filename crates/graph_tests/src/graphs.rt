@@ -39,19 +39,25 @@ fn neighbours(rt: &impl Abort, graph: &OpenGraph, v: usize) -> usize {
     digits
 }
 
+// Joins 1 to 0 and 2, and 0 to 2, and takes the last edge away again.
+fn join_three(rt: &impl Abort, graph: &mut OpenGraph) -> Result<(), Fail> {
+    toggle(rt, graph, 0, 1)?;
+    toggle(rt, graph, 2, 1)?;
+    toggle(rt, graph, 0, 2)?;
+    assert_eq!(rt; neighbours(rt, graph, 0), 12);
+    assert_eq!(rt; neighbours(rt, graph, 1), 2);
+    assert!(rt; has_edge(rt, graph, 2, 0));
+
+    // A controlled Z twice is none.
+    toggle(rt, graph, 0, 2)?;
+    assert_eq!(rt; neighbours(rt, graph, 0), 1);
+    Ok(())
+}
+
 #[test]
 fn edges_join_neighbours(rt: HostRuntime) -> Result<(), Fail> {
     let mut graph = three_vertices(rt.alloc())?;
-    toggle(&rt, &mut graph, 0, 1)?;
-    toggle(&rt, &mut graph, 2, 1)?;
-    toggle(&rt, &mut graph, 0, 2)?;
-    assert_eq!(rt; neighbours(&rt, &graph, 0), 12);
-    assert_eq!(rt; neighbours(&rt, &graph, 1), 2);
-    assert!(rt; has_edge(&rt, &graph, 2, 0));
-
-    // A controlled Z twice is none.
-    toggle(&rt, &mut graph, 0, 2)?;
-    assert_eq!(rt; neighbours(&rt, &graph, 0), 1);
+    join_three(&rt, &mut graph)?;
     assert_eq!(rt; neighbours(&rt, &graph.copy()?, 1), 2);
     Ok(())
 }
@@ -74,22 +80,25 @@ fn cross(rt: &impl Abort, graph: &mut OpenGraph, u: usize, v: usize) -> Result<(
     Ok(())
 }
 
+// Complements the neighbours of 1 twice; then 1 alone is across from 0 and 2.
+fn toggle_rows(rt: &impl Abort, graph: &mut OpenGraph) -> Result<(), Fail> {
+    toggle(rt, graph, 0, 1)?;
+    toggle(rt, graph, 2, 1)?;
+    complement(rt, graph, 1)?;
+    assert_eq!(rt; neighbours(rt, graph, 0), 12);
+    assert_eq!(rt; neighbours(rt, graph, 1), 2);
+    complement(rt, graph, 1)?;
+    assert!(rt; !has_edge(rt, graph, 2, 0));
+    cross(rt, graph, 0, 1)?;
+    assert_eq!(rt; neighbours(rt, graph, 0), 0);
+    assert_eq!(rt; neighbours(rt, graph, 2), 0);
+    Ok(())
+}
+
 #[test]
 fn edges_are_toggled_by_rows(rt: HostRuntime) -> Result<(), Fail> {
     let mut graph = three_vertices(rt.alloc())?;
-    toggle(&rt, &mut graph, 0, 1)?;
-    toggle(&rt, &mut graph, 2, 1)?;
-    complement(&rt, &mut graph, 1)?;
-    assert_eq!(rt; neighbours(&rt, &graph, 0), 12);
-    assert_eq!(rt; neighbours(&rt, &graph, 1), 2);
-    complement(&rt, &mut graph, 1)?;
-    assert!(rt; !has_edge(&rt, &graph, 2, 0));
-
-    // Vertex 1 alone is across from 0 and 2.
-    cross(&rt, &mut graph, 0, 1)?;
-    assert_eq!(rt; neighbours(&rt, &graph, 0), 0);
-    assert_eq!(rt; neighbours(&rt, &graph, 2), 0);
-    Ok(())
+    toggle_rows(&rt, &mut graph)
 }
 
 pub fn add_input(rt: &impl Abort, graph: &mut OpenGraph, end: End) -> Result<(), Fail> {

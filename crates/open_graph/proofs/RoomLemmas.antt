@@ -1,13 +1,23 @@
 -- How many places have no vertex, through each change of the places.
-use Rattle.std.proofs.Common.{◌≡◌, refl, sym, ap, ℕ, zero, suc, ◌+◌, ◌<◌, true, false, List, [], ◌∷◌, ◌++◌, length, set, Option, Some, None, is_some, IsSome, slice_index_or, arith}
+use Rattle.std.proofs.Common.{◌≡◌, refl, sym, ap, ℕ, zero, suc, ◌+◌, ◌-◌, ◌<◌, true, false, List, [], ◌∷◌, ◌++◌, length, set, Option, Some, None, is_some, IsSome, slice_index_or, arith}
 use Rattle.std.proofs.lemmas.Bool.{false≢true}
 use Rattle.open_graph.specs.declared.slot.Slot.{Slot}
 use Rattle.open_graph.specs.Internal.Room.{vacant_in}
+use Rattle.open_graph.specs.Internal.Slots.{vertices_from, vertices_of}
 
 pub vacant-append : (xs ys : List (Option Slot)) → vacant_in (xs ++ ys) ≡ vacant_in xs + vacant_in ys
 vacant-append [] ys = omega arith
 vacant-append (None ∷ xs) ys = omega (arith, vacant-append xs ys)
 vacant-append (Some s ∷ xs) ys = vacant-append xs ys
+
+vertices-vacant : (first : ℕ) (slots : List (Option Slot)) → length (vertices_from first slots) + vacant_in slots ≡ length slots
+vertices-vacant first [] = refl
+vertices-vacant first (None ∷ rest) = omega (arith, vertices-vacant (suc first) rest)
+vertices-vacant first (Some s ∷ rest) = omega (arith, vertices-vacant (suc first) rest)
+
+-- the others have one
+pub count-vertices : (slots : List (Option Slot)) → length slots - vacant_in slots ≡ length (vertices_of slots)
+count-vertices slots = omega (arith, vertices-vacant 0 slots)
 
 pub vacant-none : (xs : List (Option Slot)) → ((p : ℕ) → p < length xs → is_some (slice_index_or xs p None) ≡ true) → vacant_in xs ≡ 0
 vacant-none [] all = refl

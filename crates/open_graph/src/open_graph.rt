@@ -510,6 +510,28 @@ impl OpenGraph {
         self.slots.first_from(start).map(VertexId::new)
     }
 
+    /// The number of vertices.
+    pub fn vertex_count(&self) -> usize
+        ensures { result ≡ length self.now.graph.vertices }
+    {
+        self.slots.filled()
+    }
+
+    /// The id that the next vertex gets: the least that no vertex has.
+    pub fn next_id(&self) -> usize
+        ensures value { result ≡ least_free (ids self.now.graph.vertices) }
+        ensures valid { WellFormed self.now.graph }
+    {
+        self.slots.next_id()
+    }
+
+    /// How many vertices can be added without memory.
+    pub fn spare(&self) -> usize
+        ensures { result ≡ self.now.spare }
+    {
+        self.slots.vacant()
+    }
+
     /// The bound below which edges are toggled without memory.
     pub fn reach(&self) -> usize
         ensures { result ≡ self.now.reach }

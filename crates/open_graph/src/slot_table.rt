@@ -152,8 +152,26 @@ impl SlotTable {
         self.entries.len()
     }
 
+    // How many entries have a slot.
+    pub(crate) fn filled(&self) -> usize
+        ensures { result ≡ length self.now.slots - vacant_in self.now.slots }
+    {
+        self.entries.len().saturating_sub(self.vacant())
+    }
+
+    // The least id that has no slot.
+    pub(crate) fn next_id(&self) -> usize
+        ensures vacant { slot_at self.now result ≡ None }
+        ensures least { (lower : ℕ) → lower < result → HasSlot self.now lower }
+    {
+        match self.free.bit_from(0) {
+            Some(id) => id,
+            None => self.entries.len(),
+        }
+    }
+
     // How many entries have no slot.
-    fn vacant(&self) -> usize
+    pub(crate) fn vacant(&self) -> usize
         ensures { result ≡ vacant_in self.now.slots }
     {
         let mut vacant = 0;

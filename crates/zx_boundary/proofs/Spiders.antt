@@ -1,5 +1,5 @@
 -- What holds once a spider was added.
-use Rattle.std.proofs.Common.{◌≡◌, ◌≢◌, refl, sym, ◌∙◌, ap, ap₂, ℕ, zero, suc, ◌<◌, Bool, true, false, ◌&&◌, ◌||◌, eqb, List, [], ◌∷◌, remove, eqb-true, true≢false}
+use Rattle.std.proofs.Common.{◌≡◌, ◌≢◌, refl, sym, ◌∙◌, ap, ap₂, ℕ, zero, suc, ◌<◌, Bool, true, false, ◌&&◌, ◌||◌, eqb, List, [], ◌∷◌, remove, eqb-true, true≢false, arith}
 use Rattle.zx_model.specs.Bits.{xor, member}
 use Rattle.zx_bits.specs.Sets.{IsBelow}
 use Rattle.zx_calculus.specs.Graph.{XY, Kind, End, Graph, ids, kind_of, plane_of, joined, end_vertices, insert_vertex, Live, OrderedEnds, WellFormed}
@@ -7,7 +7,7 @@ use Rattle.zx_calculus.specs.Splits.{spider_of_phase_zero}
 use Rattle.zx_calculus.specs.Edits.{is_pair, IsToggle}
 use Rattle.zx_calculus.specs.Turns.{in_plane}
 use Rattle.zx_calculus.proofs.Booleans.{or-apart, or-true}
-use Rattle.zx_calculus.proofs.Ids.{eqb-self, or-left, or-right, apart_of_member}
+use Rattle.zx_calculus.proofs.Ids.{by_equal, eqb-self, or-left, or-right, apart_of_member}
 use Rattle.zx_calculus.proofs.Edges.{joined_comm}
 use Rattle.zx_calculus.proofs.Vertices.{member-insert, kind_of-insert}
 use Rattle.zx_calculus.proofs.Splitting.{all_at, absent_from, joined-absent}
@@ -23,6 +23,9 @@ new_below new old reach below = below new (ap (λ c. c || member new old) (eqb-s
 
 pub old_below : (new : ℕ) (old : List ℕ) (reach : ℕ) → IsBelow reach (new ∷ old) → (b : ℕ) → member b old ≡ true → b < reach
 old_below new old reach below b there = below b (ap (λ c. eqb b new || c) there ∙ or-true (eqb b new))
+
+pub all_below : (new : ℕ) (old : List ℕ) (reach : ℕ) → new < reach → IsBelow reach old → IsBelow reach (new ∷ old)
+all_below new old reach first rest v there = by_equal v new (λ t e. omega (arith, e, first)) (λ f n. rest v (ap (λ b. b || member v old) (sym f) ∙ there))
 
 -- ---- g is the graph with the new vertex, before its edge
 module _ (old : Graph) (b new phase : ℕ) (g : Graph) (b_live : Live old b) (fresh : member new (ids old.vertices) ≡ false) (zero_phase : phase ≡ 0)

@@ -8,6 +8,7 @@ ghost use Rattle.zx_calculus.specs.Steps.{allowed, IsStep, SplitInput};
 ghost use Rattle.gflow_laws.specs.Flow.{IsFlow};
 ghost use Rattle.gflow_laws.specs.Splits.{split_input_table};
 ghost use Rattle.gflow_laws.specs.Rewritten.{IsRewritten};
+ghost use Rattle.zx_flow.specs.Flows.{HavePlace};
 
 use crate::spider::{add_spider, toggled};
 use open_graph::{OpenGraph, VertexId};
@@ -16,8 +17,31 @@ use zx_flow::Flow;
 
 /// Puts a new XY vertex of phase 0, with the least free id, between a vertex b and its input, whose
 /// mark is toggled: b holds no input any more. The new vertex comes first in the flow, corrected by
-/// b. Where memory runs out, graph and flow stay as they were.
+/// b. Where memory runs out, graph and flow stay as they were; where both have a place for a vertex
+/// more, none is needed.
 pub fn split_input(g: &mut OpenGraph, f: &mut Flow, b: VertexId) -> Result<(), AllocError>
+    requires flow { IsFlow g.old.graph f.old.flow }
+    requires allowed { allowed g.old.graph (SplitInput b) ≡ true }
+    ensures rewritten { OnOk result
+        (IsRewritten g.old.graph f.old.flow (SplitInput b) g.new.graph f.new.flow) }
+    ensures table { OnOk result (f.new.flow ≡
+        split_input_table b (new_vertex g.old.graph) f.old.flow) }
+    ensures err { OnErr result ((g.new.graph ≡ g.old.graph) × (f.new.flow ≡ f.old.flow)) }
+    ensures has_room { HavePlace g.old f.old → IsOk result }
+    ensures spare { HavePlace g.old f.old →
+        (g.new.spare ≡ g.old.spare - 1) × (f.old.spare ≤ f.new.spare + 1) }
+    ensures reach { HavePlace g.old f.old →
+        (g.new.reach ≡ g.old.reach) × (f.new.reach ≡ f.old.reach) }
+    ensures valid { WellFormed g.new.graph }
+{
+    if f.has_place(g) {
+        return split_input_in_place(g, f, b);
+    }
+    split_input_in_copies(g, f, b)
+}
+
+// The same on copies, which then take the place of graph and flow.
+fn split_input_in_copies(g: &mut OpenGraph, f: &mut Flow, b: VertexId) -> Result<(), AllocError>
     requires flow { IsFlow g.old.graph f.old.flow }
     requires allowed { allowed g.old.graph (SplitInput b) ≡ true }
     ensures rewritten { OnOk result

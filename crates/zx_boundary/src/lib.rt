@@ -8,7 +8,7 @@
 //! `may_split_input` and `may_split_output` tell exactly where each is allowed.
 //! `split_input_in_place` and `split_output_in_place` make the same change without copies; where
 //! memory runs out they say nothing. `split_input_in_graph` and `split_output_in_graph` change the
-//! graph alone, by the same step, and answer the new vertex. These four take no memory where graph
+//! graph alone, by the same step, and answer the new vertex. None of these takes memory where graph
 //! and flow have a place for a vertex, and all vertices and the new one are below the reach of both.
 //!
 //! ```rust

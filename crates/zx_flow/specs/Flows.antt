@@ -1,8 +1,9 @@
 -- What contracts see of a flow and of a table in memory.
-use Rattle.std.specs.Prelude.{◌≡◌, ◌⊎◌, ℕ, true, List}
+use Rattle.std.specs.Prelude.{◌≡◌, ◌⊎◌, ◌<◌, ℕ, true, List}
 use Rattle.zx_model.specs.Bits.{member}
 use Rattle.zx_bits.specs.Sets.{IsBelow}
 use Rattle.zx_calculus.specs.Graph.{ids}
+use Rattle.zx_calculus.specs.Splits.{new_vertex}
 use Rattle.open_graph.specs.OpenGraph.{OpenGraph}
 use Rattle.gflow_laws.specs.Flow.{Correction, order_of, set_of}
 
@@ -25,3 +26,11 @@ IsNamed table v =
 -- all vertices of the graph are below its reach and that of the flow
 abbrev pub HaveReach : OpenGraph → Flow → Type 0
 HaveReach g f = IsBelow g.reach (ids g.graph.vertices) × IsBelow f.reach (ids g.graph.vertices)
+
+-- each has a place for one vertex more, and all vertices and the new one are below the reach of both
+pub record HavePlace (g : OpenGraph) (f : Flow) : Type 0 where
+  pub place : 0 < g.spare
+  pub flow_place : 0 < f.spare
+  pub below : new_vertex g.graph < g.reach
+  pub flow_below : new_vertex g.graph < f.reach
+  pub reach : HaveReach g f

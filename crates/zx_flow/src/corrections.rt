@@ -173,6 +173,13 @@ impl Corrections {
         self.sets.clear(v);
     }
 
+    // How many vertices can be added without memory.
+    pub(crate) fn spare(&self) -> usize
+        ensures { result ≡ self.now.spare }
+    {
+        self.order.capacity().saturating_sub(self.order.len())
+    }
+
     // Below which bound sets change without memory.
     pub(crate) fn reach(&self) -> usize
         ensures { result ≡ self.now.reach }

@@ -8,7 +8,7 @@ ghost use Rattle.gflow_laws.specs.Seen.{seen, odd};
 ghost use Rattle.gflow_laws.specs.Flow.{order_of, set_of, is_in, IsFlow, SameSets};
 ghost use Rattle.gflow_laws.specs.Tables.{without_set};
 ghost use Rattle.zx_bits.specs.Sets.{IsBelow};
-ghost use Rattle.zx_flow.specs.Flows.{IsNamed, HaveReach};
+ghost use Rattle.zx_flow.specs.Flows.{IsNamed, HavePlace, HaveReach};
 ghost use Rattle.zx_flow.specs.Changes.{set_toggled};
 
 use crate::corrections::Corrections;
@@ -209,6 +209,31 @@ impl Flow {
         ensures valid { WellFormed g.now.graph }
     {
         g.is_below(g.reach()) && g.is_below(self.corrections.reach())
+    }
+
+    /// Whether a graph and the flow each have a place for one vertex more, with all ids below the reach
+    /// of both.
+    pub fn has_place(&self, g: &OpenGraph) -> bool
+        ensures value { (result ≡ true) ↔ HavePlace g.now self.now }
+        ensures valid { WellFormed g.now.graph }
+    {
+        let new = g.next_id();
+        let is_below = new < g.reach() && new < self.reach();
+        g.spare() > 0 && self.spare() > 0 && is_below && self.has_reach(g)
+    }
+
+    /// How many vertices can be added without memory.
+    pub fn spare(&self) -> usize
+        ensures { result ≡ self.now.spare }
+    {
+        self.corrections.spare()
+    }
+
+    /// The bound below which sets change without memory.
+    pub fn reach(&self) -> usize
+        ensures { result ≡ self.now.reach }
+    {
+        self.corrections.reach()
     }
 
     /// The same flow once more.

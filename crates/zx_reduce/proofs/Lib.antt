@@ -12,3 +12,7 @@ mod MovesMade
 mod CandidateSets
 mod Guided
 mod Ranking
+mod DemandMoves
+mod RoomLemmas
+mod InPlace
+mod StepsNeeded

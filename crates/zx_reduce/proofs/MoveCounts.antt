@@ -300,7 +300,7 @@ AreMoves-few g (suc n) steps h w a =
 
 -- ---- where a graph begins
 -- graphs all of whose vertices are XY, as those of circuits
-not_XY-none : (g : Graph) → WellFormed g → ((v : ℕ) → Live g v → plane_of g v ≡ XY) → not_XY g ≡ 0
+pub not_XY-none : (g : Graph) → WellFormed g → ((v : ℕ) → Live g v → plane_of g v ≡ XY) → not_XY g ≡ 0
 not_XY-none g w planes =
     count_same (λ p k. not (is_XY k.plane)) (λ p k. false) g.vertices (distinct g w)
     (λ p there. ap (λ plane. not (is_XY plane)) (planes p there))

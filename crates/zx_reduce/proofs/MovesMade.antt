@@ -11,7 +11,7 @@ use Rattle.zx_reduce.specs.declared.moves.Move.{Move}
 use Rattle.zx_reduce.specs.declared.step.Step.{Step}
 use Rattle.zx_reduce.specs.Steps.{step_named}
 use Rattle.zx_reduce.specs.Search.{AppliesAt, IsOfFirstKind}
-use Rattle.zx_reduce.specs.Moving.{steps_of, AreMoves, most_moves, GainsMoves, GainsRun}
+use Rattle.zx_reduce.specs.Moving.{steps_of, AreMoves, most_moves, CountsMoves, GainsMoves, GainsRun}
 use Rattle.zx_reduce.specs.declared.candidates.Candidates.{Candidates}
 use Rattle.zx_reduce.specs.declared.ranks.Ranks.{Ranks}
 use Rattle.zx_reduce.specs.Internal.Guiding.{HasCandidates, IsGuided}
@@ -78,6 +78,34 @@ pub record AreMade (g h : Graph) (order : Ranks) (candidates : Candidates) (befo
 pub still_guided : {g : Graph} {order : Ranks} {candidates others : Candidates} → IsGuided g order candidates → HasCandidates g others → IsGuided g order others
 still_guided guided has = record { valid = guided.valid; flow = guided.flow; candidates = has }
 
+pub gains_none : (g : Graph) (before : List Step) (start : ℕ) → GainsMoves g g before before start start
+gains_none g before start = record {
+  gained = [];
+  count = 0;
+  trace = sym (append-nil before);
+  counter = sym (add-zero start);
+  moves = (refl, refl);
+}
+
+counted_on : (start now later n : ℕ) → now ≡ start + n → later ≡ now + 1 → later ≡ start + (n + 1)
+counted_on start now later n e f = omega arith
+
+pub gains_more : {g k h : Graph} {m : Move} {before after more : List Step} {start now ticked : ℕ} →
+    GainsMoves g k before after start now → AppliesAt k m → IsOfFirstKind k m → GainsMove k m h after more →
+    ticked ≡ now + 1 → GainsMoves g h before more start ticked
+gains_more {g} {k} {h} {m} {before = before} {start = start} {now = now} {ticked = ticked} gains applies first one tick =
+    record {
+      gained = gains.gained ++ one.gained;
+      count = gains.count + 1;
+      trace = one.trace ∙ ap (λ (s : List Step). s ++ one.gained) gains.trace
+          ∙ append_assoc before gains.gained one.gained;
+      counter = counted_on start now ticked gains.count gains.counter tick;
+      moves = subst (λ s. AreMoves g (gains.count + 1) s h)
+          (sym (map-append step_named gains.gained one.gained ∙ ap (λ s. map step_named gains.gained ++ s) one.planned))
+          (AreMoves-snoc g gains.count (map step_named gains.gained) k m h gains.moves
+          (record { applies = applies; first = first; run = one.run }));
+    }
+
 pub none_made : {g h : Graph} {order : Ranks} {candidates : Candidates} {before after : List Step} (start : ℕ) →
     IsGuided h order candidates → h ≡ g → after ≡ before → AreMade g h order candidates before after start start
 none_made {g} {h} {before = before} start guided same_graph same_trace = record {
@@ -91,30 +119,14 @@ none_made {g} {h} {before = before} start guided same_graph same_trace = record 
   guided = guided;
 }
 
-counted_on : (start now later n : ℕ) → now ≡ start + n → later ≡ now + 1 → later ≡ start + (n + 1)
-counted_on start now later n e f = omega arith
-
 pub one_made : {g k h : Graph} {m : Move} {order later : Ranks} {candidates others : Candidates}
     {before after more : List Step} {start now ticked : ℕ} →
     AreMade g k order candidates before after start now → AppliesAt k m → IsOfFirstKind k m → GainsMove k m h after more →
     IsGuided h later others → ticked ≡ now + 1 → AreMade g h later others before more start ticked
-one_made {g} {k} {h} {m} {before = before} {start = start} {now = now} {ticked = ticked}
-    made applies first one guided tick =
-    let gained = made.gains.gained in
-    record {
-      gains = record {
-        gained = gained ++ one.gained;
-        count = made.gains.count + 1;
-        trace = one.trace ∙ ap (λ (s : List Step). s ++ one.gained) made.gains.trace
-            ∙ append_assoc before gained one.gained;
-        counter = counted_on start now ticked made.gains.count made.gains.counter tick;
-        moves = subst (λ s. AreMoves g (made.gains.count + 1) s h)
-            (sym (map-append step_named gained one.gained ∙ ap (λ s. map step_named gained ++ s) one.planned))
-            (AreMoves-snoc g made.gains.count (map step_named gained) k m h made.gains.moves
-            (record { applies = applies; first = first; run = one.run }));
-      };
-      guided = guided;
-    }
+one_made {m = m} made applies first one guided tick = record {
+  gains = gains_more {m = m} made.gains applies first one tick;
+  guided = guided;
+}
 
 few_more : (start now n most left : ℕ) → now ≡ start + n → n + left ≤ most → now ≤ start + most
 few_more start now n most left e f = omega arith
@@ -162,3 +174,17 @@ module _ {g h : Graph} {before after : List Step} {start now : ℕ} (gains : Gai
   gained_keeps table w flow =
       run_keeps g (map step_named gains.gained) h table w
       (AreMoves-run g gains.count (map step_named gains.gained) h gains.moves) flow
+
+-- the moves that were counted
+pub no_moves : (g : Graph) (start : ℕ) → CountsMoves g start start
+no_moves g start = record { count = 0; counter = sym (add-zero start); steps = []; end = g; moves = (refl, refl) }
+
+pub gained_moves : {g h : Graph} {before after : List Step} {start now : ℕ} →
+    GainsMoves g h before after start now → CountsMoves g start now
+gained_moves {g} {h} gains = record {
+  count = gains.count;
+  counter = gains.counter;
+  steps = map step_named gains.gained;
+  end = h;
+  moves = gains.moves;
+}

@@ -2,3 +2,4 @@
 pub mod Searching
 pub mod Planning
 pub mod Guiding
+pub mod Rooms

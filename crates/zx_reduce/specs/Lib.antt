@@ -3,4 +3,5 @@ pub mod Traces
 pub mod Applied
 pub mod Search
 pub mod Moving
+pub mod Rooms
 pub mod Internal

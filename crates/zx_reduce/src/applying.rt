@@ -1,10 +1,11 @@
 //! One step, where it is allowed.
 
-ghost use Rattle.std.specs.Prelude.{◌≡◌, ◌↔◌, true, false, OnOk, OnErr, IsErrOf};
+ghost use Rattle.std.specs.Prelude.{◌≡◌, ◌↔◌, true, false, IsOk, OnOk, OnErr, IsErrOf};
 ghost use Rattle.zx_calculus.specs.Graph.{WellFormed};
 ghost use Rattle.zx_calculus.specs.Steps.{allowed};
 ghost use Rattle.gflow_laws.specs.Flow.{IsFlow};
 ghost use Rattle.gflow_laws.specs.Rewritten.{IsRewritten};
+ghost use Rattle.zx_reduce.specs.Rooms.{HaveRoomFor, UsesPlaces};
 ghost use Rattle.zx_reduce.specs.Steps.{step_named};
 
 use crate::refusal::StepRefused;
@@ -19,7 +20,7 @@ use zx_pivot::pivot;
 
 /// Does a step on a graph with its flow, where it is allowed: where its ids are those of vertices,
 /// and its side condition holds. Where it isn't, or memory runs out, graph and flow stay as they
-/// were.
+/// were. Where both have the memory that the step needs, it takes none.
 pub fn apply(g: &mut OpenGraph, f: &mut Flow, step: Step) -> Result<(), StepRefused>
     requires flow { IsFlow g.old.graph f.old.flow }
 
@@ -33,6 +34,11 @@ pub fn apply(g: &mut OpenGraph, f: &mut Flow, step: Step) -> Result<(), StepRefu
     ensures rewritten { OnOk result (IsRewritten g.old.graph f.old.flow (step_named step)
         g.new.graph f.new.flow) }
     ensures err { OnErr result ((g.new.graph ≡ g.old.graph) × (f.new.flow ≡ f.old.flow)) }
+    ensures has_room { allowed g.old.graph (step_named step) ≡ true →
+        HaveRoomFor (step_named step) g.old f.old → IsOk result }
+    ensures places { allowed g.old.graph (step_named step) ≡ true →
+        HaveRoomFor (step_named step) g.old f.old →
+        UsesPlaces (step_named step) g.old f.old g.new f.new }
     ensures valid { WellFormed g.new.graph }
 {
     if !step.is_allowed(g) {
@@ -43,12 +49,15 @@ pub fn apply(g: &mut OpenGraph, f: &mut Flow, step: Step) -> Result<(), StepRefu
 }
 
 // Does a step that is allowed.
-fn rewrite(g: &mut OpenGraph, f: &mut Flow, step: &Step) -> Result<(), AllocError>
+pub(crate) fn rewrite(g: &mut OpenGraph, f: &mut Flow, step: &Step) -> Result<(), AllocError>
     requires flow { IsFlow g.old.graph f.old.flow }
     requires allowed { allowed g.old.graph (step_named step.now) ≡ true }
     ensures rewritten { OnOk result (IsRewritten g.old.graph f.old.flow (step_named step.now)
         g.new.graph f.new.flow) }
     ensures err { OnErr result ((g.new.graph ≡ g.old.graph) × (f.new.flow ≡ f.old.flow)) }
+    ensures has_room { HaveRoomFor (step_named step.now) g.old f.old → IsOk result }
+    ensures places { HaveRoomFor (step_named step.now) g.old f.old →
+        UsesPlaces (step_named step.now) g.old f.old g.new f.new }
     ensures valid { WellFormed g.new.graph }
 {
     match step {

@@ -12,6 +12,9 @@
 //!
 //! While moves are made no correction set is kept, only the order along which the graph has a flow;
 //! sets are found along it at the end. The next move is looked for where rewrites changed something.
+//! Where graph, flow and trace have room for it, `reduce` takes no memory: it changes them where they
+//! are, by the rewrites in place. `reserved_room_suffices` tells how much room is enough for the graph
+//! of a circuit. `apply` takes none where graph and flow have the room that the step needs.
 //!
 //! ```rust
 //! let mut trace = Trace::new(alloc);
@@ -29,6 +32,7 @@ mod step;
 mod moves;
 mod planning;
 mod reduction;
+mod room_laws;
 mod search;
 mod simplification_laws;
 mod steps;
@@ -37,7 +41,9 @@ mod trace;
 // What it works on.
 mod candidates;
 mod in_graph;
+mod in_place;
 mod ranks;
+mod room;
 mod working;
 
 pub use applying::apply;
@@ -45,6 +51,7 @@ pub use laws::{applied_steps_are_a_run, every_run_keeps_a_flow};
 pub use moves::{KINDS, Kind, Move};
 pub use reduction::reduce;
 pub use refusal::StepRefused;
+pub use room_laws::{moves_raise_no_demand, reserved_room_suffices};
 pub use search::next_move;
 pub use simplification_laws::{
     graphs_of_circuits_allow_few_moves, moves_are_a_run, moves_are_short, moves_begin_allowed,

@@ -1,13 +1,16 @@
 //! Simplification: moves until none is left.
 
-ghost use Rattle.std.specs.Prelude.{◌≡◌, ◌≤◌, ◌+◌, ◌*◌, length, OnOk, OnErr};
+ghost use Rattle.std.specs.Prelude.{◌≡◌, ◌≤◌, ◌+◌, ◌*◌, length, IsOk, OnOk, OnErr};
 ghost use Rattle.zx_calculus.specs.Graph.{WellFormed};
 ghost use Rattle.zx_calculus.specs.Counts.{odd_phases};
 ghost use Rattle.zx_calculus.specs.Reduced.{IsReduced};
 ghost use Rattle.gflow_laws.specs.Flow.{IsFlow};
 ghost use Rattle.zx_calculus.specs.Exact.{KeepsMap};
-ghost use Rattle.zx_reduce.specs.Moving.{most_moves, GainsMoves, GainsRun};
+ghost use Rattle.zx_reduce.specs.Moving.{CountsMoves, GainsMoves, GainsRun, most_moves};
+ghost use Rattle.zx_reduce.specs.Rooms.{HasRoom};
 
+use crate::in_place::reduce_in_place;
+use crate::room::has_room;
 use crate::steps::Steps;
 use crate::trace::Trace;
 use crate::working::Working;
@@ -21,8 +24,8 @@ use zx_flow::Flow;
 ///
 /// # Errors
 ///
-/// Only where memory runs out. Then graph, flow and trace stay as they were; the counter has the
-/// moves that were made on copies of them.
+/// Only where memory runs out, and never where graph, flow and trace have room for simplification. Then
+/// they stay as they were; the counter has the moves that were made on copies of them, and no others.
 pub fn reduce<L: Ledger>(
     g: &mut OpenGraph,
     f: &mut Flow,
@@ -52,6 +55,35 @@ pub fn reduce<L: Ledger>(
     ensures err_trace { OnErr result (trace.new.steps ≡ trace.old.steps) }
     ensures err_counter { OnErr result
         ((steps.old ≤ steps.new) × (steps.new ≤ steps.old + most_moves g.old.graph)) }
+    ensures err_moves { OnErr result (CountsMoves g.old.graph steps.old steps.new) }
+
+    ensures has_room { HasRoom g.old f.old trace.old → IsOk result }
+    ensures valid { WellFormed g.new.graph }
+{
+    if has_room(g, f, trace) {
+        return reduce_in_place(g, f, trace, steps);
+    }
+    reduce_in_copies(g, f, trace, steps)
+}
+
+// The same on copies, which then take the place of graph, flow and trace. No sets are kept meanwhile,
+// and moves are looked for where rewrites changed something.
+fn reduce_in_copies<L: Ledger>(
+    g: &mut OpenGraph,
+    f: &mut Flow,
+    trace: &mut Trace,
+    steps: &mut Steps<L>,
+) -> Result<(), AllocError>
+    requires flow { IsFlow g.old.graph f.old.flow }
+    ensures reduced { OnOk result (IsReduced g.new.graph) }
+    ensures flow { OnOk result (IsFlow g.new.graph f.new.flow) }
+    ensures moves { OnOk result
+        (GainsMoves g.old.graph g.new.graph trace.old.steps trace.new.steps steps.old steps.new) }
+    ensures err_graph { OnErr result ((g.new.graph ≡ g.old.graph) × (f.new.flow ≡ f.old.flow)) }
+    ensures err_trace { OnErr result (trace.new.steps ≡ trace.old.steps) }
+    ensures err_counter { OnErr result
+        ((steps.old ≤ steps.new) × (steps.new ≤ steps.old + most_moves g.old.graph)) }
+    ensures err_moves { OnErr result (CountsMoves g.old.graph steps.old steps.new) }
     ensures valid { WellFormed g.new.graph }
 {
     let mut work = Working::begin(g, f, trace)?;

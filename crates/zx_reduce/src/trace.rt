@@ -1,6 +1,6 @@
 //! Traces of steps.
 
-ghost use Rattle.std.specs.Prelude.{◌≡◌, ◌++◌, [], ◌∷◌, IfOk, OnOk, OnErr};
+ghost use Rattle.std.specs.Prelude.{◌≡◌, ◌<◌, ◌≤◌, ◌+◌, ◌++◌, [], ◌∷◌, length, drop, IsOk, IfOk, OnOk, OnErr};
 
 use crate::step::Step;
 use std::alloc::{AllocError, Global};
@@ -18,7 +18,12 @@ impl Model for Trace {
 
     ghost Value = { Seen };
 
-    ghost view = { λ t. record { steps = t.steps.items } };
+    ghost use Rattle.std.specs.Prelude.{◌-◌, vec_len, vec_capacity};
+
+    ghost view = { λ t. record {
+      steps = t.steps.items;
+      spare = vec_capacity t.steps - vec_len t.steps;
+    } };
 }
 
 impl Trace {
@@ -32,9 +37,11 @@ impl Trace {
         }
     }
 
-    /// Makes room for so many more steps.
+    /// Takes the memory for so many more steps.
     pub fn reserve(&mut self, steps: usize) -> Result<(), AllocError>
-        ensures { self.new.steps ≡ self.old.steps }
+        ensures steps { self.new.steps ≡ self.old.steps }
+        ensures spare { OnOk result (steps ≤ self.new.spare) }
+        ensures keeps_spare { self.old.spare ≤ self.new.spare }
     {
         self.steps.reserve(steps)
     }
@@ -46,13 +53,30 @@ impl Trace {
         &self.steps
     }
 
+    /// How many more steps can be added without memory.
+    pub fn spare(&self) -> usize
+        ensures { result ≡ self.now.spare }
+    {
+        self.steps.capacity().saturating_sub(self.steps.len())
+    }
+
     // Adds a step after all others. Where memory runs out the trace stays as it was.
     pub(crate) fn push(&mut self, step: Step) -> Result<(), AllocError>
         ensures ok { OnOk result (self.new.steps ≡ self.old.steps ++ step ∷ []) }
         ensures err { OnErr result (self.new.steps ≡ self.old.steps) }
+        ensures has_room { 0 < self.old.spare → IsOk result }
+        ensures spare { OnOk result (self.old.spare ≤ self.new.spare + 1) }
     {
         self.steps.push(step)?;
         Ok(())
+    }
+
+    // The steps from a place on.
+    pub(crate) fn steps_from(&self, start: usize) -> &[Step]
+        requires { start ≤ length self.now.steps }
+        ensures { result.now ≡ drop start self.now.steps }
+    {
+        &self.steps[start..]
     }
 
     // The same trace once more.

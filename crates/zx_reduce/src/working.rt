@@ -13,7 +13,7 @@ ghost use Rattle.zx_reduce.specs.Internal.Planning.{GainsMove};
 use crate::candidates::Candidates;
 use crate::in_graph::{add_vertices_near, rewrite};
 use crate::moves::Move;
-use crate::planning::steps_of;
+use crate::planning::add_steps;
 use crate::ranks::Ranks;
 use crate::step::Step;
 use crate::trace::Trace;
@@ -62,9 +62,10 @@ impl Working {
         ensures guided { OnOk result
             (IsGuided self.new.graph.graph self.new.order self.new.candidates) }
     {
-        let steps = steps_of(self.trace.alloc(), &self.graph, m)?;
+        let mut steps = Trace::new(self.trace.alloc());
+        add_steps(&mut steps, &self.graph, m)?;
         let mut touched = Vec::new(self.trace.alloc());
-        for step in &steps {
+        for step in steps.as_slice() {
             self.do_step(step, &mut touched)?;
         }
         without_repetition(&mut touched);

@@ -69,7 +69,10 @@ fn line_taken(
 {
     match parse(alloc, text)? {
         Some(line) => taken(alloc, version, with_flow, reader, &line),
-        None => Ok(None),
+        None => {
+            drop(reader);
+            Ok(None)
+        }
     }
 }
 
@@ -80,9 +83,11 @@ fn ended(reader: Reader, rest: &[u8], line: usize) -> Outcome
         IsReadOn version wanted text line (state_of reader) rest.now → IsOutcome version wanted text result }
 {
     if !rest.is_empty() {
+        drop(reader);
         return Outcome::BadLine(line);
     }
     if !is_over(&reader) {
+        drop(reader);
         return Outcome::BadLine(line);
     }
     file_of(reader)

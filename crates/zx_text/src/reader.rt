@@ -73,6 +73,7 @@ fn graph_taken(
         Line::Order(_) | Line::Correct(_, _) => false,
         Line::End => {
             if with_flow {
+                drop(part);
                 return Ok(None);
             }
             return Ok(Some(Reader::Over(part.graph, None)));
@@ -81,6 +82,7 @@ fn graph_taken(
     if fits {
         Ok(Some(Reader::Graph(part)))
     } else {
+        drop(part);
         Ok(None)
     }
 }
@@ -120,12 +122,14 @@ fn member_line_taken(
     match line {
         Line::Correct(v, members) => {
             if *v != next.get() {
+                drop(part);
                 return Ok(None);
             }
             let mut part = part;
             if part.take_set(next, members)? {
                 Ok(Some(Reader::Sets(part)))
             } else {
+                drop(part);
                 Ok(None)
             }
         }

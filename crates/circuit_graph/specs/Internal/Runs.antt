@@ -1,9 +1,9 @@
 -- A translation under way: the graph so far, and the corrections of the spiders that the wires have left.
-use Rattle.std.specs.Prelude.{◌≡◌, ℕ, ◌+◌, ◌≤◌, ltb, Bool, true, List, [], ◌∷◌, length}
+use Rattle.std.specs.Prelude.{◌≡◌, ℕ, ◌+◌, ◌<◌, ◌≤◌, ltb, Bool, true, List, [], ◌∷◌, length}
 use Rattle.std.specs.List.{count_by, fold}
 use Rattle.zx_model.specs.Number.{one, mul}
 use Rattle.zx_calculus.specs.Sum.{sum}
-use Rattle.zx_calculus.specs.Graph.{XY, Vertex, Graph, ids, plane_of, WellFormed}
+use Rattle.zx_calculus.specs.Graph.{XY, Vertex, Graph, ids, plane_of, Live, WellFormed}
 use Rattle.zx_model.specs.Bits.{member}
 use Rattle.zx_calculus.specs.Counts.{odd_phases}
 use Rattle.zx_gates.specs.Circuit.{Circuit, gate_odd_phases}
@@ -79,6 +79,7 @@ pub record Translates (c : Circuit) (t : State) : Type 0 where
   pub well_formed : WellFormed t.graph
   pub flow : IsFlow t.graph t.table
   pub spiders : length t.graph.vertices ≡ spiders_of c
+  pub ids : (u : ℕ) → Live t.graph u → u < length t.graph.vertices
   pub planes : (u : ℕ) → plane_of t.graph u ≡ XY
   pub odd : odd_phases t.graph ≤ gate_odd_phases c.gates
   pub inputs : length t.graph.inputs ≡ c.qubits

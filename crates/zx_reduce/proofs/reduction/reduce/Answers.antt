@@ -1,63 +1,67 @@
--- The moves one after the other, and what they come to at the end.
-use Rattle.zx_reduce.proofs.MoveCounts.{most_moves-move}
-use Rattle.zx_reduce.proofs.MoveEnds.{stuck-reduced}
-use Rattle.zx_reduce.proofs.MovesMade.{none_made, one_made, gained_run, gained_few_moves, gained_counter, on_error, gained_few_steps, gained_ends, gained_keeps, still_guided}
+-- In place where there is room, else on copies; what the moves come to.
+use Rattle.std.proofs.Common.{sym, ◌∙◌, true≢false}
+use Rattle.zx_calculus.proofs.Positions.{on_ok}
+use Rattle.zx_flow.proofs.Answering.{no_err}
+use Rattle.zx_reduce.proofs.MovesMade.{gained_run, gained_few_moves, gained_few_steps, gained_ends, gained_keeps}
 use Rattle.zx_reduce.proofs.reduction.reduce.Goals as goal
 
-pub loop-found-init : goal.loop-found-init
-loop-found-init g c =
-    none_made c.args.steps.now c.in_ok-work.ensures.guided c.in_ok-work.ensures.graph c.in_ok-work.ensures.trace
+pub returns-then-has_room-clause-map : goal.returns-then-has_room-clause-map
+returns-then-has_room-clause-map g c = on_ok c.reduce_in_place.result (λ gains. (gained_keeps gains c.args.f.now.flow c.has_room.ensures.valid c.requires.flow).proportional) c.reduce_in_place.ensures.moves
 
-pub loop-found-smaller : goal.loop-found-smaller
-loop-found-smaller g c =
-    most_moves-move c.loop-found.work.graph.graph c.make.new.self.graph.graph c.in-Some.found
-    c.loop-found.invariant.guided.valid c.in-Some.ensures.found c.in_ok-make.ensures.gains.run
+pub returns-then-has_room-clause-odd : goal.returns-then-has_room-clause-odd
+returns-then-has_room-clause-odd g c = on_ok c.reduce_in_place.result (λ gains. (gained_keeps gains c.args.f.now.flow c.has_room.ensures.valid c.requires.flow).no_more_odd) c.reduce_in_place.ensures.moves
 
-pub loop-found-preserved : goal.loop-found-preserved
-loop-found-preserved g c =
-    one_made {m = c.in-Some.found} c.loop-found.invariant c.in-Some.ensures.found c.in-Some.ensures.first
-    c.in_ok-make.ensures.gains c.in_ok-make.ensures.guided c.tick.ensures
+pub returns-then-has_room-clause-inputs : goal.returns-then-has_room-clause-inputs
+returns-then-has_room-clause-inputs g c = on_ok c.reduce_in_place.result (λ gains. (gained_ends gains).0) c.reduce_in_place.ensures.moves
 
-pub returns-clause-reduced : goal.returns-clause-reduced
-returns-clause-reduced g c =
-    stuck-reduced c.loop-found.work.graph.graph c.loop-found.invariant.guided.flow.flow.flow.table
-    c.loop-found.invariant.guided.valid c.loop-found.invariant.guided.flow.flow.flow.flow c.in_default.ensures.none
+pub returns-then-has_room-clause-outputs : goal.returns-then-has_room-clause-outputs
+returns-then-has_room-clause-outputs g c = on_ok c.reduce_in_place.result (λ gains. (gained_ends gains).1) c.reduce_in_place.ensures.moves
+
+pub returns-then-has_room-clause-run : goal.returns-then-has_room-clause-run
+returns-then-has_room-clause-run g c = on_ok c.reduce_in_place.result (λ gains. gained_run gains) c.reduce_in_place.ensures.moves
+
+pub returns-then-has_room-clause-few_moves : goal.returns-then-has_room-clause-few_moves
+returns-then-has_room-clause-few_moves g c = on_ok c.reduce_in_place.result (λ gains. gained_few_moves gains c.has_room.ensures.valid) c.reduce_in_place.ensures.moves
+
+pub returns-then-has_room-clause-few_steps : goal.returns-then-has_room-clause-few_steps
+returns-then-has_room-clause-few_steps g c = on_ok c.reduce_in_place.result (λ gains. gained_few_steps gains) c.reduce_in_place.ensures.moves
 
 pub returns-clause-map : goal.returns-clause-map
-returns-clause-map g c =
-    (gained_keeps c.loop-found.invariant.gains c.args.f.now.flow c.begin.ensures.valid c.requires.flow).proportional
+returns-clause-map g c = on_ok c.reduce_in_copies.result (λ gains. (gained_keeps gains c.args.f.now.flow c.has_room.ensures.valid c.requires.flow).proportional) c.reduce_in_copies.ensures.moves
 
 pub returns-clause-odd : goal.returns-clause-odd
-returns-clause-odd g c =
-    (gained_keeps c.loop-found.invariant.gains c.args.f.now.flow c.begin.ensures.valid c.requires.flow).no_more_odd
+returns-clause-odd g c = on_ok c.reduce_in_copies.result (λ gains. (gained_keeps gains c.args.f.now.flow c.has_room.ensures.valid c.requires.flow).no_more_odd) c.reduce_in_copies.ensures.moves
 
 pub returns-clause-inputs : goal.returns-clause-inputs
-returns-clause-inputs g c = (gained_ends c.loop-found.invariant.gains).0
+returns-clause-inputs g c = on_ok c.reduce_in_copies.result (λ gains. (gained_ends gains).0) c.reduce_in_copies.ensures.moves
 
 pub returns-clause-outputs : goal.returns-clause-outputs
-returns-clause-outputs g c = (gained_ends c.loop-found.invariant.gains).1
+returns-clause-outputs g c = on_ok c.reduce_in_copies.result (λ gains. (gained_ends gains).1) c.reduce_in_copies.ensures.moves
 
 pub returns-clause-run : goal.returns-clause-run
-returns-clause-run g c = gained_run c.loop-found.invariant.gains
+returns-clause-run g c = on_ok c.reduce_in_copies.result (λ gains. gained_run gains) c.reduce_in_copies.ensures.moves
 
 pub returns-clause-few_moves : goal.returns-clause-few_moves
-returns-clause-few_moves g c = gained_few_moves c.loop-found.invariant.gains c.begin.ensures.valid
+returns-clause-few_moves g c = on_ok c.reduce_in_copies.result (λ gains. gained_few_moves gains c.has_room.ensures.valid) c.reduce_in_copies.ensures.moves
 
 pub returns-clause-few_steps : goal.returns-clause-few_steps
-returns-clause-few_steps g c = gained_few_steps c.loop-found.invariant.gains
+returns-clause-few_steps g c = on_ok c.reduce_in_copies.result (λ gains. gained_few_steps gains) c.reduce_in_copies.ensures.moves
 
-pub returns-in_err-make-clause-err_counter : goal.returns-in_err-make-clause-err_counter
-returns-in_err-make-clause-err_counter g c =
-    on_error c.from_residual-in_err-make.result
-    (gained_counter c.loop-found.invariant.gains c.begin.ensures.valid)
+pub returns-then-has_room-clause-err_graph : goal.returns-then-has_room-clause-err_graph
+returns-then-has_room-clause-err_graph g c =
+    no_err _ c.reduce_in_place.result (c.reduce_in_place.ensures.has_room (c.has_room.ensures.value.0 c.if-has_room.true))
 
-pub returns-in_err-flow-clause-err_counter : goal.returns-in_err-flow-clause-err_counter
-returns-in_err-flow-clause-err_counter g c =
-    on_error c.from_residual-in_err-flow.result
-    (gained_counter c.loop-found.invariant.gains c.begin.ensures.valid)
+pub returns-then-has_room-clause-err_trace : goal.returns-then-has_room-clause-err_trace
+returns-then-has_room-clause-err_trace g c =
+    no_err _ c.reduce_in_place.result (c.reduce_in_place.ensures.has_room (c.has_room.ensures.value.0 c.if-has_room.true))
 
-pub make-requires-clause-guided : goal.make-requires-clause-guided
-make-requires-clause-guided g c = still_guided c.loop-found.invariant.guided c.next_move.ensures.all
+pub returns-then-has_room-clause-err_counter : goal.returns-then-has_room-clause-err_counter
+returns-then-has_room-clause-err_counter g c =
+    no_err _ c.reduce_in_place.result (c.reduce_in_place.ensures.has_room (c.has_room.ensures.value.0 c.if-has_room.true))
 
-pub flow-requires : goal.flow-requires
-flow-requires g c = record { guided = still_guided c.loop-found.invariant.guided c.next_move.ensures.all }
+pub returns-then-has_room-clause-err_moves : goal.returns-then-has_room-clause-err_moves
+returns-then-has_room-clause-err_moves g c =
+    no_err _ c.reduce_in_place.result (c.reduce_in_place.ensures.has_room (c.has_room.ensures.value.0 c.if-has_room.true))
+
+pub returns-clause-has_room : goal.returns-clause-has_room
+returns-clause-has_room g c room = absurd (true≢false (sym (c.has_room.ensures.value.1 room) ∙ c.if-has_room.false))

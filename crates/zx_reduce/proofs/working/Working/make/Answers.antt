@@ -1,6 +1,7 @@
 -- The steps one after the other.
-use Rattle.std.proofs.Common.{◌≡◌, ◌∙◌, sym, ap, subst, map, add-one, arith}
+use Rattle.std.proofs.Common.{◌≡◌, ◌∙◌, sym, ap, subst, List, ◌++◌, map, add-one, arith}
 use Rattle.zx_model.specs.Bits.{member}
+use Rattle.zx_reduce.specs.declared.step.Step.{Step}
 use Rattle.zx_reduce.specs.Steps.{step_named}
 use Rattle.zx_reduce.specs.Moving.{steps_of}
 use Rattle.zx_reduce.specs.Internal.Planning.{AreAllowed}
@@ -11,11 +12,12 @@ use Rattle.zx_reduce.proofs.working.Working.make.Goals as goal
 
 pub loop-step-init : goal.loop-step-init
 loop-step-init c =
-    let planned : map step_named c.deref-step-items.result.now ≡ steps_of c.args.self.now.graph.graph c.args.m.now =
-    ap (map step_named) c.deref-step-items.ensures.value ∙ c.in_ok-steps.ensures in
+    let adds = c.in_ok-add_steps.ensures.added in
+    let planned : map step_named c.as_slice-step-items.result.now ≡ steps_of c.args.self.now.graph.graph c.args.m.now =
+    ap (map step_named) (c.as_slice-step-items.ensures ∙ adds.trace ∙ ap (λ (s : List Step). s ++ adds.added) c.new-steps.ensures) ∙ adds.named in
     record {
       planned = planned;
-      way = begun c.args.self.now.graph.graph c.deref-step-items.result.now c.args.self.now.trace.steps
+      way = begun c.args.self.now.graph.graph c.as_slice-step-items.result.now c.args.self.now.trace.steps
           (subst (AreAllowed c.args.self.now.graph.graph) (sym planned)
           (steps_allowed c.args.self.now.graph.graph c.args.m.now c.requires.guided.valid c.requires.applies
           c.requires.first));

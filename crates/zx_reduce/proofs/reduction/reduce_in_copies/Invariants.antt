@@ -1,7 +1,7 @@
 -- So many moves are made, and each leaves fewer.
 use Rattle.zx_reduce.specs.Moving.{most_moves}
 use Rattle.zx_reduce.proofs.MovesMade.{AreMade}
-use Rattle.zx_reduce.proofs.reduction.reduce.Given as goal
+use Rattle.zx_reduce.proofs.reduction.reduce_in_copies.Given as goal
 
 abbrev pub invariant-loop-found : goal.invariant-loop-found
 invariant-loop-found r l =

@@ -1,0 +1,4 @@
+pub mod Matrices
+pub mod Reorderings
+pub mod Replacements
+pub mod Gathering

@@ -1,0 +1,3 @@
+pub mod Replacement
+pub mod Reordering
+pub mod Walks

@@ -1,0 +1,49 @@
+-- One step more, for which there is room.
+use Rattle.std.proofs.Common.{subst, map, [], add-one, IsOk, arith}
+use Rattle.std.proofs.lemmas.Bool.{false≢true}
+use Rattle.std.proofs.lemmas.List.{take_all}
+use Rattle.zx_calculus.specs.Steps.{IsRun}
+use Rattle.zx_reduce.specs.Steps.{step_named}
+use Rattle.zx_reduce.proofs.MovesMade.{begun, next_allowed}
+use Rattle.zx_reduce.proofs.RoomLemmas.{room_for, places_after}
+use Rattle.zx_reduce.proofs.InPlace.{one_done, still_few}
+use Rattle.zx_reduce.proofs.in_place.do_steps.Goals as goal
+
+pub loop-step-init : goal.loop-step-init
+loop-step-init c = record {
+  way = begun c.args.g.now.graph c.args.steps.now [] c.requires.allowed;
+  valid = c.requires.valid;
+  flow = c.requires.flow;
+  places = λ n d places fits stays. places;
+}
+
+pub rewrite-requires-clause-allowed : goal.rewrite-requires-clause-allowed
+rewrite-requires-clause-allowed c =
+    next_allowed c.step-item.result c.loop-step.invariant.way c.loop-step-test.true c.step-item.is
+
+pub loop-step-preserved : goal.loop-step-preserved
+loop-step-preserved c =
+    let done = c.in_ok-rewrite.ensures.rewritten in
+    record {
+      way = rw add-one (one_done c.step-item.result c.loop-step.invariant.way c.loop-step-test.true c.step-item.is done.step);
+      valid = done.valid;
+      flow = done.flow;
+      places = λ n d places fits stays.
+          let now = c.loop-step.invariant.places n d places fits stays in
+          let few = still_few n d c.loop-step.invariant.way fits stays in
+          places_after n c.loop-step.g c.loop-step.f c.loop-step.invariant.valid now few (step_named c.step-item.result)
+          c.rewrite.new.g c.rewrite.new.f done.step
+          (c.rewrite.ensures.places (room_for n c.loop-step.g c.loop-step.f c.loop-step.invariant.valid now few (step_named c.step-item.result)));
+    }
+
+pub returns-in_err-rewrite-clause-has_room : goal.returns-in_err-rewrite-clause-has_room
+returns-in_err-rewrite-clause-has_room c n d places fits stays =
+    let now = c.loop-step.invariant.places n d places fits stays in
+    let few = still_few n d c.loop-step.invariant.way fits stays in
+    absurd (false≢true (subst IsOk c.in_err-rewrite.was
+    (c.rewrite.ensures.has_room (room_for n c.loop-step.g c.loop-step.f c.loop-step.invariant.valid now few (step_named c.step-item.result)))))
+
+pub returns-clause-run : goal.returns-clause-run
+returns-clause-run c =
+    subst (λ s. IsRun c.args.g.now.graph (map step_named s) c.loop-step.g.graph)
+    (take_all c.loop-step.step-index c.args.steps.now (omega arith)) c.loop-step.invariant.way.run

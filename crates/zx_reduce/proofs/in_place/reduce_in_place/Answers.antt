@@ -1,0 +1,47 @@
+-- One move more, for which there is room.
+use Rattle.std.proofs.Common.{subst, IsOk}
+use Rattle.std.proofs.lemmas.Bool.{false≢true}
+use Rattle.zx_reduce.proofs.MoveCounts.{most_moves-move}
+use Rattle.zx_reduce.proofs.MoveEnds.{stuck-reduced}
+use Rattle.zx_reduce.proofs.MovesMade.{gains_none, gains_more}
+use Rattle.zx_reduce.proofs.InPlace.{room_begins, six_left, room_stays}
+use Rattle.zx_reduce.proofs.in_place.reduce_in_place.Goals as goal
+
+pub loop-found-init : goal.loop-found-init
+loop-found-init r c = record {
+  valid = c.requires.valid;
+  flow = c.requires.flow;
+  gains = gains_none c.args.g.now.graph c.args.trace.now.steps c.args.steps.now;
+  room = room_begins c.args.g.now c.args.f.now c.args.trace.now c.requires.valid;
+}
+
+pub loop-found-smaller : goal.loop-found-smaller
+loop-found-smaller r c =
+    most_moves-move c.loop-found.g.graph c.make.new.g.graph c.in-Some.found c.loop-found.invariant.valid
+    c.in-Some.ensures.found c.in_ok-make.ensures.gains.run
+
+pub loop-found-preserved : goal.loop-found-preserved
+loop-found-preserved r c = record {
+  valid = c.make.ensures.valid;
+  flow = c.in_ok-make.ensures.flow;
+  gains = gains_more {m = c.in-Some.found} c.loop-found.invariant.gains c.in-Some.ensures.found c.in-Some.ensures.first
+      c.in_ok-make.ensures.gains c.tick.ensures;
+  room = λ room.
+      let left = c.loop-found.invariant.room room in
+      room_stays c.args.g.now c.loop-found.g c.loop-found.f c.loop-found.trace c.in-Some.found c.loop-found.invariant.valid
+      c.in-Some.ensures.found left c.make.new.g c.make.new.f c.make.new.trace c.in_ok-make.ensures.gains.run
+      (c.in_ok-make.ensures.places _ left.places left.ids) c.in_ok-make.ensures.spare;
+}
+
+pub returns-in_err-make-clause-has_room : goal.returns-in_err-make-clause-has_room
+returns-in_err-make-clause-has_room r c room =
+    let left = c.loop-found.invariant.room room in
+    absurd (false≢true (subst IsOk c.in_err-make.was
+    (c.make.ensures.has_room _ left.places left.ids
+    (six_left c.args.g.now c.loop-found.g c.loop-found.f c.loop-found.trace c.in-Some.found c.loop-found.invariant.valid
+    c.in-Some.ensures.found left c.in-Some.ensures.first))))
+
+pub returns-clause-reduced : goal.returns-clause-reduced
+returns-clause-reduced r c =
+    stuck-reduced c.loop-found.g.graph c.loop-found.f.flow c.loop-found.invariant.valid c.loop-found.invariant.flow
+    c.in_default.ensures.none

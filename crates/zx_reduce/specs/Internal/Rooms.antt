@@ -1,0 +1,35 @@
+-- Room while moves are made.
+use Rattle.std.specs.Prelude.{◌≡◌, ◌≤◌, ◌+◌, ◌++◌, ℕ, List, [], ◌∷◌, length, map}
+use Rattle.zx_calculus.specs.Graph.{Graph, Plane, XY, XZ, YZ}
+use Rattle.zx_calculus.specs.Steps as calculus
+use Rattle.zx_calculus.specs.Steps.{IsStep}
+use Rattle.move_laws.specs.Demand.{demand}
+use Rattle.open_graph.specs.OpenGraph.{OpenGraph}
+use Rattle.zx_flow.specs.Flows.{Flow, HaveReach}
+use Rattle.zx_reduce.specs.declared.step.Step.{Step}
+use Rattle.zx_reduce.specs.Steps.{step_named}
+
+-- graph and flow have memory for n vertices with ids below n, those that are there among them
+pub record HavePlaces (n : ℕ) (g : OpenGraph) (f : Flow) : Type 0 where
+  pub places : n ≤ g.spare + length g.graph.vertices
+  pub flow_places : n ≤ f.spare + length g.graph.vertices
+  pub ids : n ≤ g.reach
+  pub flow_ids : n ≤ f.reach
+  pub reach : HaveReach g f
+
+-- whatever graphs the steps lead to, their demand is at most d, but for one more before the last step is done
+abbrev pub StaysWithin : ℕ → Graph → List calculus.Step → Type 0
+StaysWithin d g [] = demand g ≤ d
+StaysWithin d g (s ∷ rest) = (demand g ≤ d + 1) × ((h : Graph) → IsStep g s h → StaysWithin d h rest)
+
+-- how many steps simplification needs for a vertex of this plane
+abbrev pub steps_needed : Plane → ℕ
+steps_needed XY = 12
+steps_needed XZ = 18
+steps_needed YZ = 18
+
+-- these steps come behind those of a trace
+pub record AddsSteps (before after : List Step) (steps : List calculus.Step) : Type 0 where
+  pub added : List Step
+  pub trace : after ≡ before ++ added
+  pub named : map step_named added ≡ steps

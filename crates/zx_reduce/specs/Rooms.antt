@@ -1,0 +1,58 @@
+-- When rewrites and simplification need no memory.
+use Rattle.std.specs.Prelude.{◌≡◌, ◌<◌, ◌≤◌, ◌+◌, ◌*◌, ℕ, length}
+use Rattle.zx_model.specs.Bits.{one_if}
+use Rattle.zx_calculus.specs.Graph.{XY, Graph, plane_of, Live}
+use Rattle.zx_calculus.specs.Counts.{not_XY}
+use Rattle.zx_calculus.specs.Steps.{Step, LocalComplement, Delete, Pivot, SplitInput, SplitOutput}
+use Rattle.zx_calculus.specs.Steps.{DropLone, FuseInto, FuseTwin}
+use Rattle.move_laws.specs.Demand.{taken_out}
+use Rattle.move_laws.specs.Orders.{is_split}
+use Rattle.open_graph.specs.OpenGraph.{OpenGraph}
+use Rattle.zx_flow.specs.Flows.{Flow, HavePlace, HaveReach}
+use Rattle.zx_reduce.specs.Traces.{Trace}
+
+-- graph and flow have the memory that a step needs: all ids are below the reach of both, and a split finds a place
+abbrev pub HaveRoomFor : Step → OpenGraph → Flow → Type 0
+HaveRoomFor (LocalComplement u) g f = HaveReach g f
+HaveRoomFor (Delete u) g f = HaveReach g f
+HaveRoomFor (Pivot u v) g f = HaveReach g f
+HaveRoomFor (SplitInput b) g f = HavePlace g f
+HaveRoomFor (SplitOutput b) g f = HavePlace g f
+HaveRoomFor (DropLone u) g f = HaveReach g f
+HaveRoomFor (FuseInto u) g f = HaveReach g f
+HaveRoomFor (FuseTwin u v) g f = HaveReach g f
+
+-- of the places for vertices a step uses one where it is a split, and gives back one for each vertex that goes
+pub record UsesPlaces (s : Step) (g : OpenGraph) (f : Flow) (h : OpenGraph) (k : Flow) : Type 0 where
+  pub places : g.spare + taken_out s ≤ h.spare + one_if (is_split s)
+  pub flow_places : f.spare + taken_out s ≤ k.spare + one_if (is_split s)
+  pub reach : h.reach ≡ g.reach
+  pub flow_reach : k.reach ≡ f.reach
+
+-- graph and flow have memory for n more vertices, and for all ids below n
+pub record AreReserved (n : ℕ) (g : OpenGraph) (f : Flow) : Type 0 where
+  pub places : n ≤ g.spare
+  pub flow_places : n ≤ f.spare
+  pub ids : n ≤ g.reach
+  pub flow_ids : n ≤ f.reach
+
+-- the memory that simplification needs: places for as many vertices as there are inputs, and two more, all ids below
+-- the reach, those of so many new ones too, and in the trace twelve steps for each XY vertex, eighteen for any other
+pub record HasRoom (g : OpenGraph) (f : Flow) (trace : Trace) : Type 0 where
+  pub places : length g.graph.inputs + 2 ≤ g.spare
+  pub flow_places : length g.graph.inputs + 2 ≤ f.spare
+  pub ids : length g.graph.vertices + length g.graph.inputs + 2 ≤ g.reach
+  pub flow_ids : length g.graph.vertices + length g.graph.inputs + 2 ≤ f.reach
+  pub reach : HaveReach g f
+  pub steps : 12 * length g.graph.vertices + 6 * not_XY g.graph ≤ trace.spare
+
+-- as in the graph of a circuit all vertices are XY, and their ids are the numbers below that of the vertices
+pub record IsNumberedXY (g : Graph) : Type 0 where
+  pub planes : (v : ℕ) → Live g v → plane_of g v ≡ XY
+  pub ids : (v : ℕ) → Live g v → v < length g.vertices
+
+-- memory was taken for as many vertices as there are, twice the number of inputs and two more, and for twelve steps a
+-- vertex
+pub record IsReservedFor (g : OpenGraph) (f : Flow) (trace : Trace) : Type 0 where
+  pub places : AreReserved (length g.graph.vertices + 2 * length g.graph.inputs + 2) g f
+  pub steps : 12 * length g.graph.vertices ≤ trace.spare

@@ -1,0 +1,91 @@
+//! Simplification of a graph with its flow without copies. The sets are kept by the rewrites, and moves
+//! are looked for over all vertices.
+
+ghost use Rattle.std.specs.Prelude.{◌≤◌, ◌+◌, ℕ, map, IsOk, OnOk};
+ghost use Rattle.zx_calculus.specs.Graph.{WellFormed};
+ghost use Rattle.zx_calculus.specs.Reduced.{IsReduced};
+ghost use Rattle.zx_calculus.specs.Steps.{IsRun};
+ghost use Rattle.gflow_laws.specs.Flow.{IsFlow};
+ghost use Rattle.move_laws.specs.Demand.{demand};
+ghost use Rattle.zx_reduce.specs.Moving.{GainsMoves};
+ghost use Rattle.zx_reduce.specs.Rooms.{HasRoom};
+ghost use Rattle.zx_reduce.specs.Search.{AppliesAt, IsOfFirstKind};
+ghost use Rattle.zx_reduce.specs.Steps.{step_named};
+ghost use Rattle.zx_reduce.specs.Internal.Planning.{AreAllowed, GainsMove};
+ghost use Rattle.zx_reduce.specs.Internal.Rooms.{HavePlaces, StaysWithin};
+
+use crate::applying::rewrite;
+use crate::moves::Move;
+use crate::planning::add_steps;
+use crate::search::next_move;
+use crate::step::Step;
+use crate::steps::Steps;
+use crate::trace::Trace;
+use open_graph::OpenGraph;
+use std::alloc::AllocError;
+use std::sync::ledger::Ledger;
+use zx_flow::Flow;
+
+// Does moves until none applies. Where memory runs out, a part of a move is done; where there is the
+// memory that simplification needs, none is taken.
+pub(crate) fn reduce_in_place<L: Ledger>(
+    g: &mut OpenGraph,
+    f: &mut Flow,
+    trace: &mut Trace,
+    steps: &mut Steps<L>,
+) -> Result<(), AllocError>
+    requires valid { WellFormed g.old.graph }
+    requires flow { IsFlow g.old.graph f.old.flow }
+    ensures reduced { OnOk result (IsReduced g.new.graph) }
+    ensures flow { OnOk result (IsFlow g.new.graph f.new.flow) }
+    ensures moves { OnOk result
+        (GainsMoves g.old.graph g.new.graph trace.old.steps trace.new.steps steps.old steps.new) }
+    ensures has_room { HasRoom g.old f.old trace.old → IsOk result }
+    ensures valid { WellFormed g.new.graph }
+{
+    while let Some(found) = next_move(g) {
+        make(g, f, trace, &found)?;
+        steps.tick();
+    }
+    Ok(())
+}
+
+// Makes a move. Its steps are put into the trace before they are done.
+fn make(g: &mut OpenGraph, f: &mut Flow, trace: &mut Trace, m: &Move) -> Result<(), AllocError>
+    requires valid { WellFormed g.old.graph }
+    requires flow { IsFlow g.old.graph f.old.flow }
+    requires applies { AppliesAt g.old.graph m.now }
+    requires first { IsOfFirstKind g.old.graph m.now }
+    ensures gains { OnOk result (GainsMove g.old.graph m.now g.new.graph
+        trace.old.steps trace.new.steps) }
+    ensures flow { OnOk result (IsFlow g.new.graph f.new.flow) }
+    ensures valid { WellFormed g.new.graph }
+    ensures has_room { (n : ℕ) → HavePlaces n g.old f.old → demand g.old.graph + 2 ≤ n →
+        6 ≤ trace.old.spare → IsOk result }
+    ensures places { OnOk result ((n : ℕ) → HavePlaces n g.old f.old →
+        demand g.old.graph + 2 ≤ n → HavePlaces n g.new f.new) }
+    ensures spare { OnOk result (trace.old.spare ≤ trace.new.spare + 6) }
+{
+    let start = trace.as_slice().len();
+    add_steps(trace, g, m)?;
+    do_steps(g, f, trace.steps_from(start))
+}
+
+// Does steps that can be done one after the other.
+fn do_steps(g: &mut OpenGraph, f: &mut Flow, steps: &[Step]) -> Result<(), AllocError>
+    requires valid { WellFormed g.old.graph }
+    requires flow { IsFlow g.old.graph f.old.flow }
+    requires allowed { AreAllowed g.old.graph (map step_named steps.now) }
+    ensures run { OnOk result (IsRun g.old.graph (map step_named steps.now) g.new.graph) }
+    ensures flow { OnOk result (IsFlow g.new.graph f.new.flow) }
+    ensures valid { WellFormed g.new.graph }
+    ensures has_room { (n d : ℕ) → HavePlaces n g.old f.old → d + 2 ≤ n →
+        StaysWithin d g.old.graph (map step_named steps.now) → IsOk result }
+    ensures places { OnOk result ((n d : ℕ) → HavePlaces n g.old f.old → d + 2 ≤ n →
+        StaysWithin d g.old.graph (map step_named steps.now) → HavePlaces n g.new f.new) }
+{
+    for step in steps {
+        rewrite(g, f, step)?;
+    }
+    Ok(())
+}
