@@ -1,11 +1,10 @@
 -- Where a graph has a flow, no set of vertices but the empty one is stuck.
-use Rattle.std.proofs.Common.{◌≡◌, refl, sym, ◌∙◌, ap, ap₂, subst, ℕ, Bool, true, false, not, ◌&&◌, ◌||◌, eqb, List, [], ◌∷◌, ◌++◌, append_assoc}
+use Rattle.std.proofs.Common.{◌≡◌, refl, sym, ◌∙◌, ap, subst, ℕ, true, false, not, ◌||◌, List, [], ◌∷◌, ◌++◌, append_assoc}
 use Rattle.std.proofs.lemmas.Bool.{true≢false}
 use Rattle.zx_model.specs.Bits.{member}
 use Rattle.zx_calculus.specs.Graph.{Graph, Distinct}
-use Rattle.zx_calculus.proofs.Booleans.{or-true}
-use Rattle.zx_calculus.proofs.Ids.{by_test, by_equal, eqb-self, member-here, member-append, or-left, not-true}
-use Rattle.gflow_laws.specs.Seen.{Seen, seen}
+use Rattle.zx_calculus.proofs.Ids.{by_test, by_equal, member-here, member-append, not-true}
+use Rattle.gflow_laws.specs.Seen.{seen}
 use Rattle.gflow_laws.specs.Flow.{Correction, order_of, set_of, is_in, is_later, IsFlow}
 use Rattle.gflow_laws.specs.Correcting.{FlowAsFunctions}
 use Rattle.gflow_laws.proofs.Flows.{Flows-from}

@@ -3,14 +3,15 @@ use Rattle.std.proofs.Common.{◌≡◌, refl, sym, ◌∙◌, ap, ap₂, subst,
 use Rattle.std.proofs.lemmas.Bool.{true≢false}
 use Rattle.zx_model.specs.Bits.{member}
 use Rattle.zx_calculus.specs.Graph.{Graph}
-use Rattle.zx_calculus.proofs.Booleans.{and-false, and-true}
+use Rattle.zx_calculus.proofs.Booleans.{and-false}
 use Rattle.zx_calculus.proofs.Ids.{by_test, by_equal, member-filter}
 use Rattle.gflow_laws.specs.Seen.{Seen, seen}
 use Rattle.gflow_laws.specs.Flow.{Correction, order_of, set_of, is_in, IsFlow}
 use Rattle.gflow_laws.specs.Tables.{with_sets}
 use Rattle.flow_find.specs.Stuck.{HasSet, HasFlow, IsStuck, IsLargestStuck}
 use Rattle.flow_find.specs.Internal.Next.{HasSetsOf}
-use Rattle.flow_find.proofs.Searching.{IsSearch, begun, measured_left, lives, taken, all_taken, one_less_left}
+use Rattle.flow_find.specs.Internal.Searching.{IsSearch}
+use Rattle.flow_find.proofs.Searching.{begun, measured_left, lives, taken, all_taken, one_less_left}
 use Rattle.flow_find.proofs.Leaving.{none_listed}
 
 -- a table in another order

@@ -5,7 +5,7 @@ use Rattle.zx_model.specs.Bits.{member}
 use Rattle.zx_calculus.specs.Graph.{Graph, WellFormed, Distinct, in_order}
 use Rattle.zx_calculus.proofs.Booleans.{and-false, or-true}
 use Rattle.zx_calculus.proofs.Ids.{by_test, by_equal, eqb-self, and-left, and-right, not-true, member-filter}
-use Rattle.gflow_laws.specs.Seen.{Seen, seen}
+use Rattle.gflow_laws.specs.Seen.{seen}
 use Rattle.gflow_laws.specs.Flow.{Correction, order_of, set_of, is_in, is_later, IsFlow}
 use Rattle.gflow_laws.specs.Tables.{with_sets}
 use Rattle.gflow_laws.specs.Correcting.{Simple, Corrects}
@@ -17,23 +17,11 @@ use Rattle.flow_find.specs.Frontiers.{IsLeft, IsCorrectable, IsFrontierOf}
 use Rattle.flow_find.specs.Stuck.{after_those, HasSet, IsStuck, IsLargestStuck}
 use Rattle.flow_find.specs.Internal.Next.{HasSetsOf}
 use Rattle.flow_find.specs.Internal.Rows.{IsPassable}
+use Rattle.flow_find.specs.Internal.Searching.{goes_after, IsSearch}
 use Rattle.flow_find.specs.Internal.Solving.{IsNext, AreMissed}
 use Rattle.flow_find.specs.declared.search.Correctable.{Correctable}
 use Rattle.flow_find.proofs.Orders.{still_left}
 use Rattle.flow_find.proofs.Solving.{missed, solved, is_left, correctable_with, set_of_rows}
-
--- the order from a vertex on, and none that is left
-abbrev pub goes_after : (ℕ → Bool) → List ℕ → ℕ → ℕ → Bool
-goes_after left order v w = not (left w) && is_later order v w
-
--- the vertices taken so far, the last one first, have their sets, and each stuck vertex is left
-pub record IsSearch (g : Graph) (order : List ℕ) (left : ℕ → Bool) (table : List Correction) : Type 0 where
-  pub each_once : Distinct order
-  pub parts : (w : ℕ) → (left w || member w order) ≡ (member w (seen g).ids && not ((seen g).output w))
-  pub apart : (w : ℕ) → member w order ≡ true → left w ≡ false
-  pub listed : (w : ℕ) → member w (order_of table) ≡ (member w (seen g).ids && not ((seen g).output w))
-  pub corrected : (u : ℕ) → member u order ≡ true → Corrects (seen g) (goes_after left order) u (is_in (set_of table u))
-  pub kept : (other : List ℕ) → IsStuck g other → (v : ℕ) → member v other ≡ true → left v ≡ true
 
 or_none : (b : Bool) → (b || false) ≡ b
 or_none true = refl

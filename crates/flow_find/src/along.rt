@@ -1,6 +1,6 @@
 //! Correction sets found along an order.
 
-ghost use Rattle.std.specs.Prelude.{◌≡◌, ◌≤◌, ◌&&◌, ℕ, not, length, IfOk};
+ghost use Rattle.std.specs.Prelude.{◌≡◌, ◌≤◌, ◌&&◌, ◌==◌, ℕ, not, true, length, IfOk, OnOk};
 ghost use Rattle.zx_model.specs.Bits.{member};
 ghost use Rattle.zx_calculus.specs.Graph.{Live, Distinct, WellFormed};
 ghost use Rattle.gflow_laws.specs.Seen.{seen};
@@ -9,6 +9,8 @@ ghost use Rattle.gflow_laws.specs.Correcting.{inside_in, odd_in};
 ghost use Rattle.open_graph.specs.Planes.{plane_named};
 ghost use Rattle.move_laws.specs.Orders.{HasFlowAlong};
 ghost use Rattle.flow_find.specs.Frontiers.{set_from, IsFrontierOf};
+ghost use Rattle.flow_find.specs.Internal.Rows.{IsPassable};
+ghost use Rattle.flow_find.specs.Internal.Next.{IsSetFrom};
 
 use crate::frontier::{insert, pass};
 use crate::picked::Around;
@@ -31,15 +33,55 @@ pub fn find_along(alloc: Global, g: &OpenGraph, order: &[VertexId]) -> Result<Fl
     ensures flow { IfOk result (λ table. IsFlow g.now.graph table.table) }
 {
     let mut table = table_of(alloc, order)?;
+    correct_along(alloc, g, order, &mut table)?;
+    Ok(table)
+}
+
+// Puts the sets into the table of the order.
+fn correct_along(
+    alloc: Global,
+    g: &OpenGraph,
+    order: &[VertexId],
+    table: &mut FlowTable,
+) -> Result<(), AllocError>
+    requires along { HasFlowAlong g.now.graph order.now }
+    requires table { order_of table.old.table ≡ order.now }
+    ensures order { OnOk result (order_of table.new.table ≡ order.now) }
+    ensures flow { OnOk result (IsFlow g.now.graph table.new.table) }
+{
     let mut left = set_of(alloc, order)?;
     let mut rows = first_rows(alloc, g, &left)?;
     for i in (0..order.len()).rev() {
         let v = order[i];
-        table.set(v, correction(alloc, g, &rows, v)?);
-        take_out(&mut left, v)?;
-        pass(&mut rows, alloc, g, v, &left)?;
+        correct_last(alloc, g, v, table, &mut left, &mut rows)?;
     }
-    Ok(table)
+    Ok(())
+}
+
+// Puts the set of the last vertex left into the table, and the vertex goes.
+pub(crate) fn correct_last(
+    alloc: Global,
+    g: &OpenGraph,
+    v: VertexId,
+    table: &mut FlowTable,
+    left: &mut VertexSet,
+    rows: &mut Vec<Row>,
+) -> Result<(), AllocError>
+    requires live { Live g.now.graph v }
+    requires listed { member v (order_of table.old.table) ≡ true }
+    ensures table { OnOk result
+        (IsSetFrom (seen g.now.graph) rows.old.items v table.old.table table.new.table) }
+    ensures left { OnOk result
+        ((w : ℕ) → is_in left.new.ids w ≡ (not (w == v) && is_in left.old.ids w)) }
+    ensures rows { OnOk result (IsPassable (seen g.now.graph) (is_in left.new.ids) v rows.old.items →
+        IsFrontierOf (seen g.now.graph) (is_in left.new.ids) rows.new.items) }
+    ensures few { OnOk result (IsPassable (seen g.now.graph) (is_in left.new.ids) v rows.old.items →
+        length rows.new.items ≤ length rows.old.items) }
+{
+    table.set(v, correction(alloc, g, rows, v)?);
+    take_out(left, v)?;
+    pass(rows, alloc, g, v, left)?;
+    Ok(())
 }
 
 // The order with sets without members.

@@ -1,18 +1,17 @@
 //! Correction sets found along an order that is chosen on the way: the vertex that comes next is
 //! one with a small set.
 
-ghost use Rattle.std.specs.Prelude.{◌≡◌, ◌<◌, ◌≤◌, ℕ, true, length, IfOk, IfSome, OnOk, ltb};
+ghost use Rattle.std.specs.Prelude.{◌≡◌, ◌<◌, ◌≤◌, ℕ, List, true, length, IfOk, IfSome, OnOk, ltb};
 ghost use Rattle.zx_model.specs.Bits.{member};
 ghost use Rattle.zx_calculus.specs.Graph.{XY, Distinct, plane_of, in_order};
 ghost use Rattle.gflow_laws.specs.Seen.{seen};
-ghost use Rattle.gflow_laws.specs.Flow.{order_of, set_of, IsFlow};
+ghost use Rattle.gflow_laws.specs.Flow.{Correction, order_of, set_of, IsFlow};
 ghost use Rattle.move_laws.specs.Orders.{HasFlowAlong};
 ghost use Rattle.flow_find.specs.Internal.Next.{HasSetsOf, IsAloneIn, IsAlone, IsPlaceBefore, IsNextPlace, IsPutOff, IsChosen};
 
-use crate::along::{correction, first_rows, table_of};
-use crate::frontier::pass;
+use crate::along::{correct_last, first_rows, table_of};
 use crate::row::Row;
-use crate::sets::{set_of, take_out};
+use crate::sets::set_of;
 use open_graph::{OpenGraph, Plane, VertexId};
 use std::alloc::{AllocError, Global};
 use zx_flow::FlowTable;
@@ -32,16 +31,33 @@ pub fn find_cheap(
     ensures { IfOk result (λ table. IsFlow g.now.graph table.table) }
 {
     let mut table = table_of(alloc, &order)?;
-    let mut left = set_of(alloc, &order)?;
+    correct_all(alloc, g, &mut order, &mut table)?;
+    reordered(alloc, &table, &order)
+}
+
+// Puts the sets into a table, and the vertices in the order in which they are a flow.
+fn correct_all(
+    alloc: Global,
+    g: &OpenGraph,
+    order: &mut Vec<VertexId>,
+    table: &mut FlowTable,
+) -> Result<(), AllocError>
+    requires along { HasFlowAlong g.now.graph order.old.items }
+    requires table { order_of table.old.table ≡ order.old.items }
+    ensures once { OnOk result (Distinct order.new.items) }
+    ensures listed { OnOk result ((v : ℕ) → member v order.new.items ≡ true →
+        member v (order_of table.new.table) ≡ true) }
+    ensures flow { OnOk result ((new : List Correction) → order_of new ≡ order.new.items →
+        HasSetsOf table.new.table order.new.items new → IsFlow g.now.graph new) }
+{
+    let mut left = set_of(alloc, order)?;
     let mut rows = first_rows(alloc, g, &left)?;
     for i in (0..order.len()).rev() {
-        choose(&mut order, g, i, &rows)?;
+        choose(order, g, i, &rows)?;
         let v = order[i];
-        table.set(v, correction(alloc, g, &rows, v)?);
-        take_out(&mut left, v)?;
-        pass(&mut rows, alloc, g, v, &left)?;
+        correct_last(alloc, g, v, table, &mut left, &mut rows)?;
     }
-    reordered(alloc, &table, &order)
+    Ok(())
 }
 
 // The sets of a table in another order.

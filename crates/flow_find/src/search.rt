@@ -1,14 +1,15 @@
 //! A flow found where a graph has one.
 
-ghost use Rattle.std.specs.Prelude.{◌≡◌, ◌≢◌, ◌&&◌, ℕ, true, false, [], reverse, IfOk, IfSome, IfNone, ltb};
+ghost use Rattle.std.specs.Prelude.{◌≡◌, ◌≢◌, ◌<◌, ◌&&◌, ℕ, true, false, [], reverse, filter, not, IfOk, IfSome, IfNone, OnOk, ltb};
 ghost use Rattle.zx_model.specs.Bits.{member};
-ghost use Rattle.zx_calculus.specs.Graph.{Live, Distinct, is_XY, plane_of, in_order};
+ghost use Rattle.zx_calculus.specs.Graph.{Live, Distinct, WellFormed, is_XY, plane_of, in_order};
 ghost use Rattle.gflow_laws.specs.Seen.{seen};
 ghost use Rattle.gflow_laws.specs.Flow.{is_in, order_of, IsFlow};
 ghost use Rattle.flow_find.specs.Frontiers.{AreAll, around, set_from};
 ghost use Rattle.flow_find.specs.Stuck.{IsLargestStuck};
 ghost use Rattle.flow_find.specs.Found.{IfFlow, IfNoFlow};
 ghost use Rattle.flow_find.specs.Internal.Next.{HasSetsOf};
+ghost use Rattle.flow_find.specs.Internal.Searching.{IsUnderWay, left_in};
 ghost use Rattle.flow_find.specs.Internal.Solving.{lacking, IsNeeded, IsMissed, IsNext, AreMissed};
 
 use crate::along::{first_rows, table_of, target_of};
@@ -43,6 +44,17 @@ pub(crate) struct Correctable {
     pub(crate) members: VertexSet,
 }
 
+// The vertices that are left and the rows on them; the sets of those that were taken, which stand here
+// with the last one at the end; and vertices beside them, one of which may come next.
+#[derive(Drop)]
+pub(crate) struct Search {
+    pub(crate) left: VertexSet,
+    pub(crate) rows: Vec<Row>,
+    pub(crate) table: FlowTable,
+    pub(crate) order: Vec<VertexId>,
+    pub(crate) beside: Vec<VertexId>,
+}
+
 /// A flow of a graph, where it has one, and else the largest set of vertices that shows that it
 /// has none.
 ///
@@ -56,42 +68,92 @@ pub fn find(alloc: Global, g: &OpenGraph) -> Result<Found, AllocError>
         IfNoFlow found (λ left. IsLargestStuck g.now.graph left.items)) }
     ensures some { IfOk result (λ found. IfNoFlow found (λ left. left.items ≢ [])) }
 {
-    let all = measured(alloc, g)?;
-    let mut table = table_of(alloc, &all)?;
-    let mut left = set_of(alloc, &all)?;
-    let mut rows = first_rows(alloc, g, &left)?;
-    let mut order = Vec::new(alloc);
-    let mut beside = Vec::new(alloc);
-    'search: while let Some(found) = next_correctable(alloc, g, &rows, &left, &mut beside)? {
-        let v = found.vertex;
-        table.set(v, found.members);
-        order.push(v)?;
-        take_out(&mut left, v)?;
-        pass(&mut rows, alloc, g, v, &left)?;
-        note_neighbours(&mut beside, g, v)?;
-    }
-    if left.is_empty() {
-        let flow = backwards(alloc, &table, order)?;
+    let mut search = Search::begin(alloc, g)?;
+    'taking: while search.take_next(alloc, g)? {}
+    if search.left.is_empty() {
+        let flow = backwards(alloc, &search.table, &mut search.order)?;
         return Ok(Found::Flow(flow));
     }
-    let stuck = listed(alloc, &left)?;
+    let stuck = listed(alloc, &search.left)?;
     Ok(Found::NoFlow { left: stuck })
+}
+
+impl Search {
+    // Before any vertex is taken.
+    fn begin(alloc: Global, g: &OpenGraph) -> Result<Search, AllocError>
+        ensures { IfOk result (IsUnderWay g.now.graph) }
+    {
+        let all = measured(alloc, g)?;
+        Search::of_vertices(alloc, g, &all)
+    }
+
+    // The same, by the vertices without outputs.
+    fn of_vertices(alloc: Global, g: &OpenGraph, all: &[VertexId]) -> Result<Search, AllocError>
+        requires all { all.now ≡ filter (λ v. not ((seen g.now.graph).output v)) (seen g.now.graph).ids }
+        requires valid { WellFormed g.now.graph }
+        ensures { IfOk result (IsUnderWay g.now.graph) }
+    {
+        let left = set_of(alloc, all)?;
+        let rows = first_rows(alloc, g, &left)?;
+        let table = table_of(alloc, all)?;
+        Ok(Search {
+            left,
+            rows,
+            table,
+            order: Vec::new(alloc),
+            beside: Vec::new(alloc),
+        })
+    }
+
+    // Takes one vertex more, and tells whether there was one.
+    fn take_next(&mut self, alloc: Global, g: &OpenGraph) -> Result<bool, AllocError>
+        requires { IsUnderWay g.now.graph self.old }
+        ensures under_way { OnOk result (IsUnderWay g.now.graph self.new) }
+        ensures fewer { IfOk result (λ more. more ≡ true →
+            left_in g.now.graph self.new < left_in g.now.graph self.old) }
+        ensures none { IfOk result (λ more. more ≡ false →
+            AreMissed (seen g.now.graph) (is_in self.new.left.ids) self.new.rows.items) }
+    {
+        match next_correctable(alloc, g, &self.rows, &self.left, &mut self.beside)? {
+            Some(found) => {
+                self.take(alloc, g, found)?;
+                Ok(true)
+            }
+            None => Ok(false),
+        }
+    }
+
+    // Takes this vertex.
+    fn take(&mut self, alloc: Global, g: &OpenGraph, found: Correctable) -> Result<(), AllocError>
+        requires under_way { IsUnderWay g.now.graph self.old }
+        requires next { IsNext (seen g.now.graph) (is_in self.old.left.ids) self.old.rows.items found }
+        ensures under_way { OnOk result (IsUnderWay g.now.graph self.new) }
+        ensures fewer { OnOk result (left_in g.now.graph self.new < left_in g.now.graph self.old) }
+    {
+        let v = found.vertex;
+        self.table.set(v, found.members);
+        self.order.push(v)?;
+        take_out(&mut self.left, v)?;
+        pass(&mut self.rows, alloc, g, v, &self.left)?;
+        note_neighbours(&mut self.beside, g, v)?;
+        Ok(())
+    }
 }
 
 // The sets of a table in the order that is the other way round.
 fn backwards(
     alloc: Global,
     table: &FlowTable,
-    mut order: Vec<VertexId>,
+    order: &mut Vec<VertexId>,
 ) -> Result<FlowTable, AllocError>
-    requires once { Distinct (reverse order.items) }
-    requires listed { (v : ℕ) → member v (reverse order.items) ≡ true →
+    requires once { Distinct (reverse order.old.items) }
+    requires listed { (v : ℕ) → member v (reverse order.old.items) ≡ true →
         member v (order_of table.now.table) ≡ true }
-    ensures order { IfOk result (λ new. order_of new.table ≡ reverse order.items) }
-    ensures sets { IfOk result (λ new. HasSetsOf table.now.table (reverse order.items) new.table) }
+    ensures order { IfOk result (λ new. order_of new.table ≡ reverse order.old.items) }
+    ensures sets { IfOk result (λ new. HasSetsOf table.now.table (reverse order.old.items) new.table) }
 {
     order.reverse();
-    reordered(alloc, table, &order)
+    reordered(alloc, table, order)
 }
 
 // The vertices of a set.

@@ -4,15 +4,6 @@ use std::process::Abort;
 use std::test::Fail;
 use zx_bits::{BitMatrix, BitRow, BitSet, Solved, solve};
 
-// A row with these places set.
-fn row(rt: &impl Abort, alloc: Global, bits: usize, places: &[usize]) -> Result<BitRow, Fail> {
-    let mut row = BitRow::new(alloc, bits);
-    for place in places {
-        flip(rt, &mut row, *place)?;
-    }
-    Ok(row)
-}
-
 fn flip(rt: &impl Abort, row: &mut BitRow, place: usize) -> Result<(), Fail> {
     assert!(rt; place < row.len());
     row.flip(place)?;
@@ -24,56 +15,90 @@ fn get(rt: &impl Abort, row: &BitRow, place: usize) -> bool {
     row.get(place)
 }
 
+// Negates the bits at these places.
+fn flip_each(rt: &impl Abort, row: &mut BitRow, places: &[usize]) -> Result<(), Fail> {
+    for place in places {
+        flip(rt, row, *place)?;
+    }
+    Ok(())
+}
+
+// Beside each place stands the first set bit from there on.
+fn has_next(rt: &impl Abort, row: &BitRow, rows: &[(usize, Option<usize>)]) {
+    for (start, next) in rows {
+        assert_eq!(rt; row.bit_from(*start), *next, "from {start}");
+    }
+}
+
+// Grows a row of one bit.
+fn grow(rt: &impl Abort, row: &mut BitRow) -> Result<(), Fail> {
+    flip(rt, row, 0)?;
+    assert!(rt; row.len() < 2);
+    row.grow(300)?;
+    assert_eq!(rt; row.len(), 301);
+    assert!(rt; get(rt, row, 0) && !get(rt, row, 300));
+    flip_each(rt, row, &[0, 200, 300, 63, 191])?;
+    let rows = [
+        (0, Some(63)),
+        (63, Some(63)),
+        (64, Some(191)),
+        (192, Some(200)),
+        (201, Some(300)),
+        (301, None),
+    ];
+    has_next(rt, row, &rows);
+    flip(rt, row, 300)?;
+    has_next(rt, row, &[(201, None)]);
+    row.reserve()?;
+    has_next(rt, row, &[(127, Some(191))]);
+    Ok(())
+}
+
 #[test]
 fn a_row_grows_both_ways(rt: HostRuntime) -> Result<(), Fail> {
-    let mut one = row(&rt, rt.alloc(), 1, &[0])?;
-    assert!(rt; one.len() < 2);
-    one.grow(300)?;
-    assert_eq!(rt; one.len(), 301);
-    assert!(rt; get(&rt, &one, 0) && !get(&rt, &one, 300));
-    flip(&rt, &mut one, 0)?;
-    for place in [200, 300, 63, 191] {
-        flip(&rt, &mut one, place)?;
-    }
-    assert_eq!(rt; one.bit_from(0), Some(63));
-    assert_eq!(rt; one.bit_from(63), Some(63));
-    assert_eq!(rt; one.bit_from(64), Some(191));
-    assert_eq!(rt; one.bit_from(192), Some(200));
-    assert_eq!(rt; one.bit_from(201), Some(300));
-    assert_eq!(rt; one.bit_from(301), None);
-    flip(&rt, &mut one, 300)?;
-    assert_eq!(rt; one.bit_from(201), None);
-    one.reserve()?;
-    assert_eq!(rt; one.bit_from(127), Some(191));
+    grow(&rt, &mut BitRow::new(rt.alloc(), 1))
+}
+
+// Adds a row to another one.
+fn add(rt: &impl Abort, row: &mut BitRow, other: &BitRow) -> Result<(), Fail> {
+    assert!(rt; row.len() == other.len());
+    row.xor(other)?;
+    Ok(())
+}
+
+// Whether an odd number of places are set in both rows.
+fn has_parity(rt: &impl Abort, row: &BitRow, other: &BitRow) -> bool {
+    assert!(rt; row.len() == other.len());
+    row.parity_with(other)
+}
+
+// Adds the second of two rows to the first, and then the first to the second.
+fn add_both(rt: &impl Abort, left: &mut BitRow, right: &mut BitRow) -> Result<(), Fail> {
+    flip_each(rt, left, &[500, 639])?;
+    flip_each(rt, right, &[3, 500])?;
+    assert!(rt; has_parity(rt, left, right));
+    add(rt, left, right)?;
+    has_next(rt, left, &[(0, Some(3)), (4, Some(639))]);
+    add(rt, right, left)?;
+    has_next(rt, right, &[(0, Some(500)), (501, Some(639))]);
+    assert!(rt; has_parity(rt, left, right));
+    assert!(rt; !has_parity(rt, right, right));
     Ok(())
 }
 
 #[test]
 fn rows_add_at_two_offsets(rt: HostRuntime) -> Result<(), Fail> {
-    let mut left = row(&rt, rt.alloc(), 640, &[500, 639])?;
-    let mut right = row(&rt, rt.alloc(), 640, &[3, 500])?;
-    assert!(rt; left.len() == right.len());
-    assert!(rt; left.parity_with(&right));
-    left.xor(&right)?;
-    assert_eq!(rt; left.bit_from(0), Some(3));
-    assert_eq!(rt; left.bit_from(4), Some(639));
-    assert!(rt; left.len() == right.len());
-    right.xor(&left)?;
-    assert_eq!(rt; right.bit_from(0), Some(500));
-    assert_eq!(rt; right.bit_from(501), Some(639));
-    assert!(rt; left.len() == right.len());
-    assert!(rt; left.parity_with(&right));
-    assert!(rt; !right.parity_with(&right));
-    Ok(())
+    let mut left = BitRow::new(rt.alloc(), 640);
+    let mut right = BitRow::new(rt.alloc(), 640);
+    add_both(&rt, &mut left, &mut right)
 }
 
-// A set of these numbers.
-fn set(alloc: Global, numbers: &[usize]) -> Result<BitSet, Fail> {
-    let mut set = BitSet::new(alloc);
+// Toggles these numbers.
+fn toggle_each(set: &mut BitSet, numbers: &[usize]) -> Result<(), Fail> {
     for number in numbers {
         set.toggle(*number)?;
     }
-    Ok(set)
+    Ok(())
 }
 
 // Whether a set has just these numbers, which rise.
@@ -88,74 +113,109 @@ fn has_just(set: &BitSet, numbers: &[usize]) -> bool {
     set.first_from(start).is_none() && set.len() == numbers.len()
 }
 
-#[test]
-fn a_set_takes_numbers_in_and_out(rt: HostRuntime) -> Result<(), Fail> {
-    let mut numbers = set(rt.alloc(), &[])?;
-    assert!(rt; has_just(&numbers, &[]));
-    for number in [127, 0, 300, 64, 63] {
-        numbers.toggle(number)?;
-    }
-    assert!(rt; has_just(&numbers, &[0, 63, 64, 127, 300]));
+// Takes numbers into a set without any, and out again.
+fn take(rt: &impl Abort, numbers: &mut BitSet) -> Result<(), Fail> {
+    assert!(rt; has_just(numbers, &[]));
+    toggle_each(numbers, &[127, 0, 300, 64, 63])?;
+    assert!(rt; has_just(numbers, &[0, 63, 64, 127, 300]));
     assert!(rt; !numbers.contains(1) && !numbers.contains(128) && !numbers.contains(100_000));
     assert_eq!(rt; numbers.first_from(65), Some(127));
     assert_eq!(rt; numbers.first_from(128), Some(300));
-    numbers.toggle(127)?;
-    assert!(rt; has_just(&numbers, &[0, 63, 64, 300]));
-    numbers.remove(0);
-    numbers.remove(300);
-    numbers.remove(5);
-    assert!(rt; has_just(&numbers, &[63, 64]));
-    numbers.toggle(63)?;
-    numbers.toggle(64)?;
-    assert!(rt; has_just(&numbers, &[]));
-    numbers.toggle(100_000)?;
-    assert!(rt; has_just(&numbers, &[100_000]));
+    toggle_each(numbers, &[127])?;
+    assert!(rt; has_just(numbers, &[0, 63, 64, 300]));
+    for number in [0, 300, 5] {
+        numbers.remove(number);
+    }
+    assert!(rt; has_just(numbers, &[63, 64]));
+    toggle_each(numbers, &[63, 64])?;
+    assert!(rt; has_just(numbers, &[]));
+    toggle_each(numbers, &[100_000])?;
+    assert!(rt; has_just(numbers, &[100_000]));
+    Ok(())
+}
+
+#[test]
+fn a_set_takes_numbers_in_and_out(rt: HostRuntime) -> Result<(), Fail> {
+    take(&rt, &mut BitSet::new(rt.alloc()))
+}
+
+// Takes the greatest number, and then the least and the greatest of those that are too great.
+fn take_greatest(rt: &impl Abort, numbers: &mut BitSet) -> Result<(), Fail> {
+    numbers.toggle(usize::MAX - 64)?;
+    assert!(rt; numbers.toggle(usize::MAX - 63).is_err());
+    assert!(rt; numbers.toggle(usize::MAX).is_err());
+    assert!(rt; has_just(numbers, &[usize::MAX - 64]));
     Ok(())
 }
 
 #[test]
 fn the_greatest_numbers_are_refused(rt: HostRuntime) -> Result<(), Fail> {
-    let mut numbers = set(rt.alloc(), &[usize::MAX - 64])?;
-    assert!(rt; numbers.toggle(usize::MAX - 63).is_err());
-    assert!(rt; numbers.toggle(usize::MAX).is_err());
-    assert!(rt; has_just(&numbers, &[usize::MAX - 64]));
+    take_greatest(&rt, &mut BitSet::new(rt.alloc()))
+}
+
+// Takes room, and a number for which there is room.
+fn take_room(rt: &impl Abort, numbers: &mut BitSet) -> Result<(), Fail> {
+    numbers.reserve(1000)?;
+    numbers.toggle(999)?;
+    assert!(rt; has_just(numbers, &[999]));
     Ok(())
 }
 
 #[test]
 fn a_set_takes_room(rt: HostRuntime) -> Result<(), Fail> {
-    let mut numbers = BitSet::new(rt.alloc());
-    numbers.reserve(1000)?;
-    numbers.toggle(999)?;
-    assert!(rt; has_just(&numbers, &[999]));
+    take_room(&rt, &mut BitSet::new(rt.alloc()))
+}
+
+// Takes these numbers into two sets without any, and the second set into the first.
+fn take_both(
+    left: &mut BitSet,
+    right: &mut BitSet,
+    numbers: &[usize],
+    others: &[usize],
+) -> Result<(), Fail> {
+    toggle_each(left, numbers)?;
+    toggle_each(right, others)?;
+    left.xor(right)?;
     Ok(())
 }
 
-// The sum of two sets of these numbers.
-fn sum_of(alloc: Global, left: &[usize], right: &[usize]) -> Result<BitSet, Fail> {
-    let mut sum = set(alloc, left)?;
-    let right = set(alloc, right)?;
-    sum.xor(&right)?;
-    Ok(sum)
+// The sum of sets of these numbers has those.
+fn add_to(
+    rt: &impl Abort,
+    alloc: Global,
+    numbers: &[usize],
+    others: &[usize],
+    sum: &[usize],
+) -> Result<(), Fail> {
+    let mut set = BitSet::new(alloc);
+    take_both(&mut set, &mut BitSet::new(alloc), numbers, others)?;
+    assert!(rt; has_just(&set, sum));
+    Ok(())
 }
 
 #[test]
 fn sets_add(rt: HostRuntime) -> Result<(), Fail> {
-    let sum = sum_of(rt.alloc(), &[3, 64, 300], &[64, 127, 300, 700])?;
-    assert!(rt; has_just(&sum, &[3, 127, 700]));
-    let none = sum_of(rt.alloc(), &[3, 700], &[700, 3])?;
-    assert!(rt; has_just(&none, &[]));
+    let left = [3, 64, 300];
+    let right = [64, 127, 300, 700];
+    add_to(&rt, rt.alloc(), &left, &right, &[3, 127, 700])?;
+    add_to(&rt, rt.alloc(), &[3, 700], &[700, 3], &[])
+}
+
+// Compares sets of these numbers.
+fn compare(rt: &impl Abort, left: &mut BitSet, right: &mut BitSet) -> Result<(), Fail> {
+    toggle_each(left, &[3, 64, 300])?;
+    toggle_each(right, &[64, 127, 300, 700])?;
+    assert!(rt; left.common_with(right) == 2 && !left.is_same(right));
+    let copy = left.clone()?;
+    assert!(rt; left.is_same(&copy));
     Ok(())
 }
 
 #[test]
 fn sets_are_compared(rt: HostRuntime) -> Result<(), Fail> {
-    let left = set(rt.alloc(), &[3, 64, 300])?;
-    let right = set(rt.alloc(), &[64, 127, 300, 700])?;
-    assert!(rt; left.common_with(&right) == 2 && !left.is_same(&right));
-    let copy = left.clone()?;
-    assert!(rt; left.is_same(&copy));
-    Ok(())
+    let mut left = BitSet::new(rt.alloc());
+    let mut right = BitSet::new(rt.alloc());
+    compare(&rt, &mut left, &mut right)
 }
 
 // The bit of a word at a place.
@@ -164,36 +224,29 @@ fn is_set(rt: &impl Abort, word: u64, place: usize) -> bool {
     word >> place & 1 == 1
 }
 
-// A matrix whose rows are the low bits of words.
-fn matrix(
-    rt: &impl Abort,
-    alloc: Global,
-    columns: usize,
-    words: &[u64],
-) -> Result<BitMatrix, Fail> {
-    let mut m = BitMatrix::new(alloc, columns);
+// Adds rows to a matrix: the low bits of words.
+fn add_rows(rt: &impl Abort, m: &mut BitMatrix, words: &[u64]) -> Result<(), Fail> {
     m.reserve(words.len())?;
     for (r, word) in words.iter().enumerate() {
         m.push_row()?;
-        for c in 0..columns {
+        for c in 0..m.columns() {
             if is_set(rt, *word, c) {
                 assert!(rt; r < m.height() && c < m.columns());
                 m.flip(r, c)?;
             }
         }
     }
-    Ok(m)
+    Ok(())
 }
 
-// The row of the low bits of a word.
-fn row_of(rt: &impl Abort, alloc: Global, columns: usize, word: u64) -> Result<BitRow, Fail> {
-    let mut row = BitRow::new(alloc, columns);
-    for c in 0..columns {
+// Adds the low bits of a word to a row.
+fn add_bits(rt: &impl Abort, row: &mut BitRow, word: u64) -> Result<(), Fail> {
+    for c in 0..row.len() {
         if is_set(rt, word, c) {
-            flip(rt, &mut row, c)?;
+            flip(rt, row, c)?;
         }
     }
-    Ok(row)
+    Ok(())
 }
 
 // The word whose low bits are those of a row.
@@ -240,6 +293,44 @@ fn least(kept: &[u64], word: u64) -> u64 {
     left
 }
 
+// An answer as a word.
+#[derive(Clone, Copy)]
+enum Answer {
+    Rows(u64),
+    None(u64),
+}
+
+// What is answered where a matrix gets these rows, and a row these bits.
+fn answered(
+    rt: &impl Abort,
+    alloc: Global,
+    m: &mut BitMatrix,
+    goal: &mut BitRow,
+    words: &[u64],
+    target: u64,
+) -> Result<Answer, Fail> {
+    add_rows(rt, m, words)?;
+    add_bits(rt, goal, target)?;
+    assert!(rt; goal.len() == m.columns());
+    match solve(alloc, m, goal)? {
+        Solved::Rows(set) => Ok(Answer::Rows(word_of(rt, &set))),
+        Solved::None(dual) => Ok(Answer::None(word_of(rt, &dual))),
+    }
+}
+
+// What is answered of a matrix with so many columns.
+fn solved(
+    rt: &impl Abort,
+    alloc: Global,
+    columns: usize,
+    words: &[u64],
+    target: u64,
+) -> Result<Answer, Fail> {
+    let mut m = BitMatrix::new(alloc, columns);
+    let mut goal = BitRow::new(alloc, columns);
+    answered(rt, alloc, &mut m, &mut goal, words, target)
+}
+
 // Both answers, checked on words.
 fn check(
     rt: &impl Abort,
@@ -248,21 +339,17 @@ fn check(
     words: &[u64],
     target: u64,
 ) -> Result<(), Fail> {
-    let m = matrix(rt, alloc, columns, words)?;
-    let goal = row_of(rt, alloc, columns, target)?;
-    assert!(rt; goal.len() == m.columns());
-    match solve(alloc, &m, &goal)? {
-        Solved::Rows(set) => {
-            let set = word_of(rt, &set);
-            assert!(rt; has_sum(alloc, words, target)?);
+    let is_sum = has_sum(alloc, words, target)?;
+    match solved(rt, alloc, columns, words, target)? {
+        Answer::Rows(set) => {
+            assert!(rt; is_sum);
             assert_eq!(rt; sum(rt, words, set), target);
             for part in 0..set {
                 assert!(rt; part & set != part || sum(rt, words, part) != target);
             }
         }
-        Solved::None(dual) => {
-            let dual = word_of(rt, &dual);
-            assert!(rt; !has_sum(alloc, words, target)?);
+        Answer::None(dual) => {
+            assert!(rt; !is_sum);
             assert!(rt;
                 words
                     .iter()
@@ -290,9 +377,9 @@ fn rows_of_two_places_have_even_sums(rt: HostRuntime) -> Result<(), Fail> {
     check(&rt, rt.alloc(), 3, &[3, 6, 5], 5)
 }
 
-#[test]
-fn rows_of_a_matrix_add(rt: HostRuntime) -> Result<(), Fail> {
-    let mut m = matrix(&rt, rt.alloc(), 2, &[1, 2, 3])?;
+// Adds the third of three rows to the first, and to itself.
+fn add_third(rt: &impl Abort, m: &mut BitMatrix) -> Result<(), Fail> {
+    add_rows(rt, m, &[1, 2, 3])?;
     assert!(rt; m.height() == 3 && m.columns() == 2);
     m.add_row(2, 0)?;
     assert!(rt; m.height() == 3 && m.columns() == 2);
@@ -301,6 +388,11 @@ fn rows_of_a_matrix_add(rt: HostRuntime) -> Result<(), Fail> {
     assert!(rt; m.height() == 3 && m.columns() == 2);
     assert!(rt; !m.get(2, 0) && !m.get(2, 1));
     Ok(())
+}
+
+#[test]
+fn rows_of_a_matrix_add(rt: HostRuntime) -> Result<(), Fail> {
+    add_third(&rt, &mut BitMatrix::new(rt.alloc(), 2))
 }
 
 #[test]

@@ -1,15 +1,15 @@
 //! Sets found on small graphs, which were worked out by hand.
 
-ghost use Rattle.std.specs.Prelude.{◌≡◌, ◌≢◌, [], ◌∷◌, OnOk, IfOk};
+ghost use Rattle.std.specs.Prelude.{◌≡◌, ◌≢◌, [], ◌∷◌, OnOk};
 ghost use Rattle.zx_model.specs.Bits.{member};
 ghost use Rattle.zx_calculus.specs.Graph.{Live};
 ghost use Rattle.zx_calculus.proofs.EditPrograms.{toggled};
-ghost use Rattle.gflow_laws.specs.Flow.{IsFlow};
+ghost use Rattle.gflow_laws.specs.Examples.{beside_an_output, shared_output};
 ghost use Rattle.open_graph.specs.Planes.{plane_named};
 ghost use Rattle.move_laws.specs.Orders.{HasFlowAlong};
-ghost use Rattle.graph_tests.specs.Drawn.{with_vertex, with_input, with_output, set_beside_an_output, shared_output_table};
+ghost use Rattle.graph_tests.specs.Drawn.{no_graph, four_vertices, with_vertex, with_input, with_output};
 
-use crate::graphs::toggle;
+use crate::graphs::toggle_each;
 use flow_find::{Found, find, find_along, find_by_rank};
 use open_graph::{End, OpenGraph, Plane, VertexId};
 use std::alloc::Global;
@@ -88,16 +88,16 @@ fn set_in(rt: &impl Abort, table: &FlowTable, v: usize) -> usize {
     digits
 }
 
-// The vertex 0 of this plane beside the output 1.
-fn beside_an_output(rt: &impl Abort, alloc: Global, plane: Plane) -> Result<OpenGraph, Fail>
-    ensures { IfOk result (λ g. IsFlow g.graph (set_beside_an_output (plane_named plane))) }
+// Draws the vertex 0 of this plane beside the output 1.
+fn draw_beside_an_output(rt: &impl Abort, graph: &mut OpenGraph, plane: Plane) -> Result<(), Fail>
+    requires { graph.old.graph ≡ no_graph }
+    ensures { OnOk result (graph.new.graph ≡ beside_an_output (plane_named plane)) }
 {
-    let mut graph = OpenGraph::new(alloc);
-    add(rt, &mut graph, 0, plane)?;
-    add(rt, &mut graph, 1, Plane::XY)?;
-    add_output(rt, &mut graph, 1)?;
-    join(&mut graph, 0, 1)?;
-    Ok(graph)
+    add(rt, graph, 0, plane)?;
+    add(rt, graph, 1, Plane::XY)?;
+    add_output(rt, graph, 1)?;
+    join(graph, 0, 1)?;
+    Ok(())
 }
 
 // The set found for the vertex 0 alone.
@@ -108,55 +108,77 @@ fn only_set(rt: &impl Abort, alloc: Global, graph: &OpenGraph) -> Result<usize, 
     Ok(set_in(rt, &table, 0))
 }
 
-fn set_beside(rt: &impl Abort, alloc: Global, plane: Plane) -> Result<usize, Fail> {
-    let graph = beside_an_output(rt, alloc, plane)?;
-    only_set(rt, alloc, &graph)
+fn set_beside(
+    rt: &impl Abort,
+    alloc: Global,
+    graph: &mut OpenGraph,
+    plane: Plane,
+) -> Result<usize, Fail>
+    requires { graph.old.graph ≡ no_graph }
+{
+    draw_beside_an_output(rt, graph, plane)?;
+    only_set(rt, alloc, graph)
 }
 
 #[test]
 fn each_plane_has_its_set(rt: HostRuntime) -> Result<(), Fail> {
-    assert_eq!(rt; set_beside(&rt, rt.alloc(), Plane::XY)?, 2);
-    assert_eq!(rt; set_beside(&rt, rt.alloc(), Plane::XZ)?, 12);
-    assert_eq!(rt; set_beside(&rt, rt.alloc(), Plane::YZ)?, 1);
+    for (plane, wanted) in [(Plane::XY, 2), (Plane::XZ, 12), (Plane::YZ, 1)] {
+        let mut graph = OpenGraph::new(rt.alloc());
+        let set = set_beside(&rt, rt.alloc(), &mut graph, plane)?;
+        assert_eq!(rt; set, wanted);
+    }
     Ok(())
 }
 
-// Two inputs: output 2 is adjacent to both, output 3 to the first alone.
-fn shared_output(rt: &impl Abort, alloc: Global) -> Result<OpenGraph, Fail>
-    ensures { IfOk result (λ g. IsFlow g.graph shared_output_table) }
+// Adds four vertices.
+fn add_four(rt: &impl Abort, graph: &mut OpenGraph) -> Result<(), Fail>
+    requires { graph.old.graph ≡ no_graph }
+    ensures { OnOk result (graph.new.graph ≡ four_vertices) }
 {
-    let mut graph = OpenGraph::new(alloc);
-    add(rt, &mut graph, 0, Plane::XY)?;
-    add(rt, &mut graph, 1, Plane::XY)?;
-    add(rt, &mut graph, 2, Plane::XY)?;
-    add(rt, &mut graph, 3, Plane::XY)?;
-    add_input(rt, &mut graph, 0)?;
-    add_input(rt, &mut graph, 1)?;
-    add_output(rt, &mut graph, 2)?;
-    add_output(rt, &mut graph, 3)?;
-    join(&mut graph, 0, 2)?;
-    join(&mut graph, 0, 3)?;
-    join(&mut graph, 1, 2)?;
-    Ok(graph)
+    add(rt, graph, 0, Plane::XY)?;
+    add(rt, graph, 1, Plane::XY)?;
+    add(rt, graph, 2, Plane::XY)?;
+    add(rt, graph, 3, Plane::XY)?;
+    Ok(())
 }
 
-// What is found along 0 and 1.
-fn found(alloc: Global, graph: &OpenGraph) -> Result<FlowTable, Fail>
+// Draws two inputs: output 2 is adjacent to both, output 3 to the first alone.
+fn draw_shared_output(rt: &impl Abort, graph: &mut OpenGraph) -> Result<(), Fail>
+    requires { graph.old.graph ≡ no_graph }
+    ensures { OnOk result (graph.new.graph ≡ shared_output) }
+{
+    add_four(rt, graph)?;
+    add_input(rt, graph, 0)?;
+    add_input(rt, graph, 1)?;
+    add_output(rt, graph, 2)?;
+    add_output(rt, graph, 3)?;
+    join(graph, 0, 2)?;
+    join(graph, 0, 3)?;
+    join(graph, 1, 2)?;
+    Ok(())
+}
+
+// The sets found along 0 and 1.
+fn sets_along(rt: &impl Abort, alloc: Global, graph: &OpenGraph) -> Result<[usize; 2], Fail>
     requires { HasFlowAlong graph.now.graph (0 ∷ 1 ∷ []) }
 {
-    Ok(find_along(alloc, graph, &[id(0), id(1)])?)
+    let table = find_along(alloc, graph, &[id(0), id(1)])?;
+    Ok([set_in(rt, &table, 0), set_in(rt, &table, 1)])
+}
+
+// Nothing but both outputs is odd at 1 alone; at 0 the second or the third serves.
+fn find_shared(rt: &impl Abort, alloc: Global, graph: &mut OpenGraph) -> Result<(), Fail>
+    requires { graph.old.graph ≡ no_graph }
+{
+    draw_shared_output(rt, graph)?;
+    let sets = sets_along(rt, alloc, graph)?;
+    assert!(rt; sets == [3, 34] || sets == [4, 34]);
+    Ok(())
 }
 
 #[test]
 fn rows_are_added(rt: HostRuntime) -> Result<(), Fail> {
-    let graph = shared_output(&rt, rt.alloc())?;
-    let table = found(rt.alloc(), &graph)?;
-
-    // Nothing but both outputs is odd at 1 alone; at 0 the second or the third serves.
-    assert_eq!(rt; set_in(&rt, &table, 1), 34);
-    let first = set_in(&rt, &table, 0);
-    assert!(rt; first == 3 || first == 4);
-    Ok(())
+    find_shared(&rt, rt.alloc(), &mut OpenGraph::new(rt.alloc()))
 }
 
 // What is found where the rank of 0 is below that of 1. The outputs still have ranks.
@@ -167,71 +189,83 @@ fn found_by_rank(alloc: Global, graph: &OpenGraph) -> Result<FlowTable, Fail>
 }
 
 // The set of 1 alone has to have both outputs; behind 0, which has one, it has one too.
-#[test]
-fn small_sets_come_last(rt: HostRuntime) -> Result<(), Fail> {
-    let graph = shared_output(&rt, rt.alloc())?;
-    let table = found_by_rank(rt.alloc(), &graph)?;
+fn find_small_last(rt: &impl Abort, alloc: Global, graph: &mut OpenGraph) -> Result<(), Fail>
+    requires { graph.old.graph ≡ no_graph }
+{
+    draw_shared_output(rt, graph)?;
+    let table = found_by_rank(alloc, graph)?;
     assert!(rt; table.order() == [id(1), id(0)].as_slice());
-    assert_eq!(rt; set_in(&rt, &table, 0), 4);
-    assert_eq!(rt; set_in(&rt, &table, 1), 3);
+    assert_eq!(rt; set_in(rt, &table, 0), 4);
+    assert_eq!(rt; set_in(rt, &table, 1), 3);
     Ok(())
 }
 
-// The vertices left, where there is no flow.
-fn left_of(alloc: Global, graph: &OpenGraph) -> Result<Vec<VertexId>, Fail> {
-    match find(alloc, graph)? {
-        Found::Flow(_) => Ok(Vec::new(alloc)),
-        Found::NoFlow { left } => Ok(left),
-    }
+#[test]
+fn small_sets_come_last(rt: HostRuntime) -> Result<(), Fail> {
+    find_small_last(&rt, rt.alloc(), &mut OpenGraph::new(rt.alloc()))
 }
 
-// An input without neighbours, and an output.
-fn draw_cut_wire(rt: &impl Abort, graph: &mut OpenGraph) -> Result<(), Fail> {
+// The vertices left are these; none are where there is a flow.
+fn are_left(
+    rt: &impl Abort,
+    alloc: Global,
+    graph: &OpenGraph,
+    wanted: &[VertexId],
+) -> Result<(), Fail> {
+    match find(alloc, graph)? {
+        Found::Flow(_) => assert!(rt; wanted.is_empty()),
+        Found::NoFlow { left } => assert!(rt; left.as_slice() == wanted),
+    }
+    Ok(())
+}
+
+// An input without neighbours, and an output: nothing is odd at a vertex without neighbours.
+fn cut_wire(rt: &impl Abort, alloc: Global, graph: &mut OpenGraph) -> Result<(), Fail> {
     add(rt, graph, 0, Plane::XY)?;
     add(rt, graph, 1, Plane::XY)?;
     add_input(rt, graph, 0)?;
     add_output(rt, graph, 1)?;
-    Ok(())
+    are_left(rt, alloc, graph, &[id(0)])
 }
 
-// Nothing is odd at a vertex without neighbours.
 #[test]
 fn a_vertex_beside_nothing_is_left(rt: HostRuntime) -> Result<(), Fail> {
-    let mut graph = OpenGraph::new(rt.alloc());
-    draw_cut_wire(&rt, &mut graph)?;
-    assert!(rt; left_of(rt.alloc(), &graph)?.as_slice() == [id(0)].as_slice());
-    Ok(())
+    cut_wire(&rt, rt.alloc(), &mut OpenGraph::new(rt.alloc()))
 }
 
-// The vertex 2 beside the output 3, and the vertices 0 and 1 beside 2.
-fn draw_fork(rt: &impl Abort, graph: &mut OpenGraph) -> Result<(), Fail> {
-    add(rt, graph, 0, Plane::XY)?;
-    add(rt, graph, 1, Plane::XY)?;
-    add(rt, graph, 2, Plane::XY)?;
-    add(rt, graph, 3, Plane::XY)?;
+// The vertex 2 beside the output 3, and the vertices 0 and 1 beside 2. The vertex 2 goes by the output; then its
+// neighbours 0 and 1 are in one set or in none.
+fn fork(rt: &impl Abort, alloc: Global, graph: &mut OpenGraph) -> Result<(), Fail> {
+    for number in 0..4 {
+        add(rt, graph, number, Plane::XY)?;
+    }
     add_output(rt, graph, 3)?;
-    toggle(rt, graph, 2, 3)?;
-    toggle(rt, graph, 0, 2)?;
-    toggle(rt, graph, 1, 2)?;
-    Ok(())
+    toggle_each(rt, graph, &[(2, 3), (0, 2), (1, 2)])?;
+    are_left(rt, alloc, graph, &[id(0), id(1)])
 }
 
-// The vertex 2 goes by the output 3; then its neighbours 0 and 1 are in one set or in none.
 #[test]
 fn two_vertices_are_left(rt: HostRuntime) -> Result<(), Fail> {
-    let mut graph = OpenGraph::new(rt.alloc());
-    draw_fork(&rt, &mut graph)?;
-    assert!(rt; left_of(rt.alloc(), &graph)?.as_slice() == [id(0), id(1)].as_slice());
+    fork(&rt, rt.alloc(), &mut OpenGraph::new(rt.alloc()))
+}
+
+// How many vertices have a set, where there is a flow.
+fn size_of_flow(alloc: Global, graph: &OpenGraph) -> Result<usize, Fail> {
+    match find(alloc, graph)? {
+        Found::Flow(table) => Ok(table.order().len()),
+        Found::NoFlow { .. } => Ok(0),
+    }
+}
+
+fn find_without_order(rt: &impl Abort, alloc: Global, graph: &mut OpenGraph) -> Result<(), Fail>
+    requires { graph.old.graph ≡ no_graph }
+{
+    draw_shared_output(rt, graph)?;
+    assert_eq!(rt; size_of_flow(alloc, graph)?, 2);
     Ok(())
 }
 
 #[test]
 fn a_flow_is_found_without_an_order(rt: HostRuntime) -> Result<(), Fail> {
-    let graph = shared_output(&rt, rt.alloc())?;
-    let size = match find(rt.alloc(), &graph)? {
-        Found::Flow(table) => table.order().len(),
-        Found::NoFlow { .. } => 0,
-    };
-    assert_eq!(rt; size, 2);
-    Ok(())
+    find_without_order(&rt, rt.alloc(), &mut OpenGraph::new(rt.alloc()))
 }

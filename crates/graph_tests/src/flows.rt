@@ -4,6 +4,7 @@ ghost use Rattle.std.specs.Prelude.{◌≡◌, ◌==◌};
 ghost use Rattle.std.specs.List.{list_any};
 ghost use Rattle.zx_model.specs.Bits.{member};
 
+use crate::graphs::toggle_each;
 use open_graph::{OpenGraph, Plane, VertexId, VertexSet};
 use std::alloc::Global;
 use std::process::Abort;
@@ -38,16 +39,20 @@ fn add(rt: &impl Abort, table: &mut FlowTable, v: usize, w: usize) -> Result<(),
     Ok(())
 }
 
-#[test]
-fn a_table_holds_what_was_added(rt: HostRuntime) -> Result<(), Fail> {
-    let mut table = FlowTable::new(rt.alloc());
-    add(&rt, &mut table, 1, 2)?;
-    add(&rt, &mut table, 0, 1)?;
+// Adds 1, corrected by 2, and 0, corrected by 1.
+fn add_two(rt: &impl Abort, alloc: Global, table: &mut FlowTable) -> Result<(), Fail> {
+    add(rt, table, 1, 2)?;
+    add(rt, table, 0, 1)?;
     assert_eq!(rt; digits(table.order()), 10);
     assert!(rt; stands_in(table.order(), VertexId::new(1)));
-    let ids: Vec<VertexId> = table.correction(VertexId::new(1)).collect(rt.alloc())?;
+    let ids: Vec<VertexId> = table.correction(VertexId::new(1)).collect(alloc)?;
     assert_eq!(rt; digits(&ids), 2);
     Ok(())
+}
+
+#[test]
+fn a_table_holds_what_was_added(rt: HostRuntime) -> Result<(), Fail> {
+    add_two(&rt, rt.alloc(), &mut FlowTable::new(rt.alloc()))
 }
 
 // The flow of the graph without vertices.
@@ -58,32 +63,26 @@ fn empty_flow(alloc: Global) -> Result<Flow, Fail> {
 }
 
 // Along a path of three, 0 is corrected by 1, and 1 by 2.
-fn path_flow(rt: &impl Abort, alloc: Global) -> Result<Flow, Fail> {
-    let mut flow = empty_flow(alloc)?;
+fn add_path(rt: &impl Abort, flow: &mut Flow) -> Result<(), Fail> {
     flow.reserve(3)?;
     assert!(rt; !stands_in(flow.order(), VertexId::new(1)));
     flow.add_last(VertexId::new(1), VertexId::new(2))?;
     assert!(rt; !stands_in(flow.order(), VertexId::new(0)));
     flow.add_first(VertexId::new(0), VertexId::new(1))?;
-    Ok(flow)
-}
-
-fn join(rt: &impl Abort, graph: &mut OpenGraph, u: VertexId, v: VertexId) -> Result<(), Fail> {
-    assert!(rt; graph.is_live(u));
-    assert!(rt; graph.is_live(v));
-    assert!(rt; u != v);
-    graph.toggle_edge(u, v)?;
     Ok(())
 }
 
-fn path(rt: &impl Abort, alloc: Global) -> Result<OpenGraph, Fail> {
-    let mut graph = OpenGraph::new(alloc);
-    let first = graph.add_vertex(Plane::XY, Sixteenth::new(0))?;
-    let middle = graph.add_vertex(Plane::XY, Sixteenth::quarter_turn())?;
-    let last = graph.add_vertex(Plane::XY, Sixteenth::new(0))?;
-    join(rt, &mut graph, first, middle)?;
-    join(rt, &mut graph, middle, last)?;
-    Ok(graph)
+// Draws a path of three.
+fn draw_path(rt: &impl Abort, graph: &mut OpenGraph) -> Result<(), Fail> {
+    let phases = [
+        Sixteenth::new(0),
+        Sixteenth::quarter_turn(),
+        Sixteenth::new(0),
+    ];
+    for phase in phases {
+        graph.add_vertex(Plane::XY, phase)?;
+    }
+    toggle_each(rt, graph, &[(0, 1), (1, 2)])
 }
 
 fn odd_has(rt: &impl Abort, flow: &Flow, graph: &OpenGraph, v: usize, w: usize) -> bool {
@@ -91,17 +90,32 @@ fn odd_has(rt: &impl Abort, flow: &Flow, graph: &OpenGraph, v: usize, w: usize) 
     flow.odd_has(graph, VertexId::new(v), VertexId::new(w))
 }
 
+// Along the path 0 and 2 have an odd number of neighbours in the set of 0, and 1 has in that of 1; 3 is no vertex.
+fn tell_parities(rt: &impl Abort, flow: &mut Flow, graph: &mut OpenGraph) -> Result<(), Fail> {
+    add_path(rt, flow)?;
+    draw_path(rt, graph)?;
+    assert_eq!(rt; digits(flow.order()), 1);
+    let rows = [
+        (0, 0, true),
+        (0, 1, false),
+        (0, 2, true),
+        (1, 0, false),
+        (1, 3, false),
+    ];
+    for (v, w, is_odd) in rows {
+        assert_eq!(rt;
+            odd_has(rt, flow, graph, v, w),
+            is_odd,
+            "{w} at the set of {v}"
+        );
+    }
+    Ok(())
+}
+
 #[test]
 fn a_flow_tells_its_parities(rt: HostRuntime) -> Result<(), Fail> {
-    let flow = path_flow(&rt, rt.alloc())?;
-    let graph = path(&rt, rt.alloc())?;
-    assert_eq!(rt; digits(flow.order()), 1);
-    assert!(rt; odd_has(&rt, &flow, &graph, 0, 0));
-    assert!(rt; !odd_has(&rt, &flow, &graph, 0, 1));
-    assert!(rt; odd_has(&rt, &flow, &graph, 0, 2));
-    assert!(rt; !odd_has(&rt, &flow, &graph, 1, 0));
-    assert!(rt; !odd_has(&rt, &flow, &graph, 1, 3));
-    Ok(())
+    let mut flow = empty_flow(rt.alloc())?;
+    tell_parities(&rt, &mut flow, &mut OpenGraph::new(rt.alloc()))
 }
 
 fn toggle(rt: &impl Abort, alloc: Global, flow: &mut Flow, v: usize, w: usize) -> Result<(), Fail> {
@@ -125,13 +139,18 @@ fn correction(rt: &impl Abort, alloc: Global, flow: &Flow, v: usize) -> Result<u
     Ok(digits(&ids))
 }
 
+// The middle is last, and in its own set.
+fn is_complemented(rt: &impl Abort, alloc: Global, flow: &Flow) -> Result<(), Fail> {
+    assert_eq!(rt; correction(rt, alloc, flow, 1)?, 12);
+    assert_eq!(rt; flow.last(), Some(VertexId::new(1)));
+    Ok(())
+}
+
 // After a local complement about the middle it is in its own set.
 fn complement_middle(rt: &impl Abort, alloc: Global, flow: &mut Flow) -> Result<(), Fail> {
     toggle(rt, alloc, flow, 1, 1)?;
     let copy = flow.copy()?;
-    assert_eq!(rt; correction(rt, alloc, &copy, 1)?, 12);
-    assert_eq!(rt; copy.last(), Some(VertexId::new(1)));
-    Ok(())
+    is_complemented(rt, alloc, &copy)
 }
 
 // After the middle was deleted, its set is toggled in that of the first.
@@ -145,9 +164,15 @@ fn delete_middle(rt: &impl Abort, alloc: Global, flow: &mut Flow) -> Result<(), 
     Ok(())
 }
 
+// Changes the flow of a path of three.
+fn change(rt: &impl Abort, alloc: Global, flow: &mut Flow) -> Result<(), Fail> {
+    add_path(rt, flow)?;
+    complement_middle(rt, alloc, flow)?;
+    delete_middle(rt, alloc, flow)
+}
+
 #[test]
 fn a_flow_is_changed(rt: HostRuntime) -> Result<(), Fail> {
-    let mut flow = path_flow(&rt, rt.alloc())?;
-    complement_middle(&rt, rt.alloc(), &mut flow)?;
-    delete_middle(&rt, rt.alloc(), &mut flow)
+    let mut flow = empty_flow(rt.alloc())?;
+    change(&rt, rt.alloc(), &mut flow)
 }

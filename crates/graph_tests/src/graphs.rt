@@ -1,18 +1,21 @@
 //! That calls succeed with ample memory, on graphs of three vertices.
 use open_graph::{End, OpenGraph, Plane, VertexId};
-use std::alloc::Global;
 use std::process::Abort;
 use std::test::Fail;
 use zx_model::Sixteenth;
 
-// Three vertices without edges: XY of an eighth turn, XY of phase 0 and YZ of a quarter turn.
-fn three_vertices(alloc: Global) -> Result<OpenGraph, Fail> {
-    let mut graph = OpenGraph::new(alloc);
+// Adds three vertices without edges: XY of an eighth turn, XY of phase 0 and YZ of a quarter turn.
+fn add_three(graph: &mut OpenGraph) -> Result<(), Fail> {
     graph.reserve(3)?;
-    graph.add_vertex(Plane::XY, Sixteenth::eighth_turn())?;
-    graph.add_vertex(Plane::XY, Sixteenth::new(0))?;
-    graph.add_vertex(Plane::YZ, Sixteenth::quarter_turn())?;
-    Ok(graph)
+    let weights = [
+        (Plane::XY, Sixteenth::eighth_turn()),
+        (Plane::XY, Sixteenth::new(0)),
+        (Plane::YZ, Sixteenth::quarter_turn()),
+    ];
+    for (plane, phase) in weights {
+        graph.add_vertex(plane, phase)?;
+    }
+    Ok(())
 }
 
 pub fn toggle(rt: &impl Abort, graph: &mut OpenGraph, u: usize, v: usize) -> Result<(), Fail> {
@@ -21,6 +24,18 @@ pub fn toggle(rt: &impl Abort, graph: &mut OpenGraph, u: usize, v: usize) -> Res
     assert!(rt; graph.is_live(v));
     assert!(rt; u != v);
     graph.toggle_edge(u, v)?;
+    Ok(())
+}
+
+// Toggles these edges.
+pub fn toggle_each(
+    rt: &impl Abort,
+    graph: &mut OpenGraph,
+    edges: &[(usize, usize)],
+) -> Result<(), Fail> {
+    for (u, v) in edges {
+        toggle(rt, graph, *u, *v)?;
+    }
     Ok(())
 }
 
@@ -41,9 +56,8 @@ fn neighbours(rt: &impl Abort, graph: &OpenGraph, v: usize) -> usize {
 
 // Joins 1 to 0 and 2, and 0 to 2, and takes the last edge away again.
 fn join_three(rt: &impl Abort, graph: &mut OpenGraph) -> Result<(), Fail> {
-    toggle(rt, graph, 0, 1)?;
-    toggle(rt, graph, 2, 1)?;
-    toggle(rt, graph, 0, 2)?;
+    add_three(graph)?;
+    toggle_each(rt, graph, &[(0, 1), (2, 1), (0, 2)])?;
     assert_eq!(rt; neighbours(rt, graph, 0), 12);
     assert_eq!(rt; neighbours(rt, graph, 1), 2);
     assert!(rt; has_edge(rt, graph, 2, 0));
@@ -51,15 +65,13 @@ fn join_three(rt: &impl Abort, graph: &mut OpenGraph) -> Result<(), Fail> {
     // A controlled Z twice is none.
     toggle(rt, graph, 0, 2)?;
     assert_eq!(rt; neighbours(rt, graph, 0), 1);
+    assert_eq!(rt; neighbours(rt, &graph.copy()?, 1), 2);
     Ok(())
 }
 
 #[test]
 fn edges_join_neighbours(rt: HostRuntime) -> Result<(), Fail> {
-    let mut graph = three_vertices(rt.alloc())?;
-    join_three(&rt, &mut graph)?;
-    assert_eq!(rt; neighbours(&rt, &graph.copy()?, 1), 2);
-    Ok(())
+    join_three(&rt, &mut OpenGraph::new(rt.alloc()))
 }
 
 // Toggles the edges among the neighbours of a vertex.
@@ -82,8 +94,8 @@ fn cross(rt: &impl Abort, graph: &mut OpenGraph, u: usize, v: usize) -> Result<(
 
 // Complements the neighbours of 1 twice; then 1 alone is across from 0 and 2.
 fn toggle_rows(rt: &impl Abort, graph: &mut OpenGraph) -> Result<(), Fail> {
-    toggle(rt, graph, 0, 1)?;
-    toggle(rt, graph, 2, 1)?;
+    add_three(graph)?;
+    toggle_each(rt, graph, &[(0, 1), (2, 1)])?;
     complement(rt, graph, 1)?;
     assert_eq!(rt; neighbours(rt, graph, 0), 12);
     assert_eq!(rt; neighbours(rt, graph, 1), 2);
@@ -97,8 +109,7 @@ fn toggle_rows(rt: &impl Abort, graph: &mut OpenGraph) -> Result<(), Fail> {
 
 #[test]
 fn edges_are_toggled_by_rows(rt: HostRuntime) -> Result<(), Fail> {
-    let mut graph = three_vertices(rt.alloc())?;
-    toggle_rows(&rt, &mut graph)
+    toggle_rows(&rt, &mut OpenGraph::new(rt.alloc()))
 }
 
 pub fn add_input(rt: &impl Abort, graph: &mut OpenGraph, end: End) -> Result<(), Fail> {
@@ -133,27 +144,35 @@ fn move_output(rt: &impl Abort, graph: &mut OpenGraph, end: End) {
     graph.move_output(0, end);
 }
 
-#[test]
-fn ends_are_added_and_moved(rt: HostRuntime) -> Result<(), Fail> {
-    let mut graph = three_vertices(rt.alloc())?;
+// The one input and the one output are these ends.
+fn has_ends(rt: &impl Abort, graph: &OpenGraph, end: End) {
+    assert_eq!(rt; graph.inputs(), [end].as_slice());
+    assert_eq!(rt; graph.outputs(), [end].as_slice());
+}
+
+// Adds an input and an output at 1, and moves both to 0.
+fn add_and_move(rt: &impl Abort, graph: &mut OpenGraph) -> Result<(), Fail> {
+    add_three(graph)?;
     let end = End {
         vertex: VertexId::new(1),
         hadamard: true,
     };
-    add_input(&rt, &mut graph, end)?;
-    add_output(&rt, &mut graph, end)?;
-    let copy = graph.copy()?;
-    assert_eq!(rt; copy.inputs(), [end].as_slice());
-    assert_eq!(rt; copy.outputs(), [end].as_slice());
+    add_input(rt, graph, end)?;
+    add_output(rt, graph, end)?;
+    has_ends(rt, &graph.copy()?, end);
     let other = End {
         vertex: VertexId::new(0),
         hadamard: false,
     };
-    move_input(&rt, &mut graph, other);
-    move_output(&rt, &mut graph, other);
-    assert_eq!(rt; graph.inputs(), [other].as_slice());
-    assert_eq!(rt; graph.outputs(), [other].as_slice());
+    move_input(rt, graph, other);
+    move_output(rt, graph, other);
+    has_ends(rt, graph, other);
     Ok(())
+}
+
+#[test]
+fn ends_are_added_and_moved(rt: HostRuntime) -> Result<(), Fail> {
+    add_and_move(&rt, &mut OpenGraph::new(rt.alloc()))
 }
 
 fn turn(rt: &impl Abort, graph: &mut OpenGraph, v: VertexId) -> Plane {
@@ -169,58 +188,72 @@ fn remove(rt: &impl Abort, graph: &mut OpenGraph, v: VertexId) {
     graph.remove_vertex(v);
 }
 
-#[test]
-fn vertices_are_turned_and_removed(rt: HostRuntime) -> Result<(), Fail> {
-    let mut graph = three_vertices(rt.alloc())?;
-    assert!(rt; matches!(turn(&rt, &mut graph, VertexId::new(2)), Plane::XZ));
-    remove(&rt, &mut graph, VertexId::new(1));
-    let mut left = 0usize;
+// The ids of the vertices, as the digits of a number.
+fn vertices(graph: &OpenGraph) -> usize {
+    let mut digits = 0usize;
     for v in graph.vertices() {
-        left = left.wrapping_mul(10).wrapping_add(v.get());
+        digits = digits.wrapping_mul(10).wrapping_add(v.get());
     }
+    digits
+}
+
+// Turns the vertex 2, and removes the vertex 1.
+fn turn_and_remove(rt: &impl Abort, graph: &mut OpenGraph) -> Result<(), Fail> {
+    add_three(graph)?;
+    assert!(rt; matches!(turn(rt, graph, VertexId::new(2)), Plane::XZ));
+    remove(rt, graph, VertexId::new(1));
 
     // Vertices 0 and 2 are left.
-    assert_eq!(rt; left, 2);
+    assert_eq!(rt; vertices(graph), 2);
     Ok(())
 }
 
-// The ids of three new vertices, as digits behind a 1.
-fn added(graph: &mut OpenGraph) -> Result<usize, Fail> {
-    let mut digits = 1usize;
-    for _ in 0..3 {
-        let v = graph.add_vertex(Plane::XY, Sixteenth::new(0))?;
-        digits = digits.wrapping_mul(10).wrapping_add(v.get());
+#[test]
+fn vertices_are_turned_and_removed(rt: HostRuntime) -> Result<(), Fail> {
+    turn_and_remove(&rt, &mut OpenGraph::new(rt.alloc()))
+}
+
+// The id of a new vertex.
+fn add_one(graph: &mut OpenGraph) -> Result<usize, Fail> {
+    let v = graph.add_vertex(Plane::XY, Sixteenth::new(0))?;
+    Ok(v.get())
+}
+
+// Removes the vertices 2 and 0, and adds three.
+fn add_again(rt: &impl Abort, graph: &mut OpenGraph) -> Result<(), Fail> {
+    add_three(graph)?;
+    remove(rt, graph, VertexId::new(2));
+    remove(rt, graph, VertexId::new(0));
+    assert!(rt; graph.vertex_from(0) == Some(VertexId::new(1)));
+
+    // 0 and 2 come again, and then a new one.
+    for id in [0, 2, 3] {
+        assert_eq!(rt; add_one(graph)?, id);
     }
-    Ok(digits)
+    Ok(())
 }
 
 #[test]
 fn a_removed_id_comes_again_the_least_first(rt: HostRuntime) -> Result<(), Fail> {
-    let mut graph = three_vertices(rt.alloc())?;
-    remove(&rt, &mut graph, VertexId::new(2));
-    remove(&rt, &mut graph, VertexId::new(0));
-    assert!(rt; graph.vertex_from(0) == Some(VertexId::new(1)));
+    add_again(&rt, &mut OpenGraph::new(rt.alloc()))
+}
 
-    // 0 and 2 come again, and then a new one.
-    assert_eq!(rt; added(&mut graph)?, 1023);
+// Removes 1, which has edges to 2 and 3, of which 3 is above the reach, and adds it again.
+fn add_row_again(rt: &impl Abort, graph: &mut OpenGraph) -> Result<(), Fail> {
+    add_three(graph)?;
+    add_one(graph)?;
+    toggle_each(rt, graph, &[(1, 2), (1, 3)])?;
+    remove(rt, graph, VertexId::new(1));
+    assert_eq!(rt; add_one(graph)?, 1);
+    assert_eq!(rt; neighbours(rt, graph, 1), 0);
+    toggle(rt, graph, 1, 3)?;
+    graph.reserve(100)?;
+    toggle(rt, graph, 1, 2)?;
+    assert_eq!(rt; neighbours(rt, graph, 1), 23);
     Ok(())
 }
 
 #[test]
 fn rows_are_kept_for_ids_below_the_reach(rt: HostRuntime) -> Result<(), Fail> {
-    let mut graph = three_vertices(rt.alloc())?;
-    graph.add_vertex(Plane::XY, Sixteenth::new(0))?;
-    toggle(&rt, &mut graph, 1, 2)?;
-
-    // 3 is above the reach.
-    toggle(&rt, &mut graph, 1, 3)?;
-    remove(&rt, &mut graph, VertexId::new(1));
-    let again = graph.add_vertex(Plane::XY, Sixteenth::new(0))?;
-    assert_eq!(rt; again.get(), 1);
-    assert_eq!(rt; neighbours(&rt, &graph, 1), 0);
-    toggle(&rt, &mut graph, 1, 3)?;
-    graph.reserve(100)?;
-    toggle(&rt, &mut graph, 1, 2)?;
-    assert_eq!(rt; neighbours(&rt, &graph, 1), 23);
-    Ok(())
+    add_row_again(&rt, &mut OpenGraph::new(rt.alloc()))
 }

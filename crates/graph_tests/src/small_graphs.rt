@@ -217,24 +217,23 @@ fn stuck(graph: &SmallGraph) -> u8 {
     stuck
 }
 
-// The same graph in memory.
-fn in_memory(rt: &impl Abort, alloc: Global, small: &SmallGraph) -> Result<OpenGraph, Fail> {
-    let mut graph = OpenGraph::new(alloc);
+// Draws the same graph in memory.
+fn draw(rt: &impl Abort, graph: &mut OpenGraph, small: &SmallGraph) -> Result<(), Fail> {
     for (v, vertex) in small.vertices.iter().enumerate() {
         graph.add_vertex(vertex.plane, Sixteenth::new(0))?;
         for (w, other) in small.vertices.iter().enumerate() {
             if w < v && vertex.near & other.bit != 0 {
-                toggle(rt, &mut graph, v, w)?;
+                toggle(rt, graph, v, w)?;
             }
         }
         if vertex.bit & small.inputs != 0 {
-            add_input(rt, &mut graph, End::plain(VertexId::new(v)))?;
+            add_input(rt, graph, End::plain(VertexId::new(v)))?;
         }
         if vertex.bit & small.outputs != 0 {
-            add_output(rt, &mut graph, End::plain(VertexId::new(v)))?;
+            add_output(rt, graph, End::plain(VertexId::new(v)))?;
         }
     }
-    Ok(graph)
+    Ok(())
 }
 
 // These vertices as a set.
@@ -246,9 +245,15 @@ fn set_of(ids: &[VertexId]) -> u8 {
     set
 }
 
-// What is found is what there is.
-fn is_found(rt: &impl Abort, alloc: Global, small: &SmallGraph) -> Result<(), Fail> {
-    match find(alloc, &in_memory(rt, alloc, small)?)? {
+// What is found in memory is what there is.
+fn is_found(
+    rt: &impl Abort,
+    alloc: Global,
+    graph: &mut OpenGraph,
+    small: &SmallGraph,
+) -> Result<(), Fail> {
+    draw(rt, graph, small)?;
+    match find(alloc, graph)? {
         Found::Flow(_) => assert!(rt; has_flow(small) && stuck(small) == 0),
         Found::NoFlow { left } => {
             assert!(rt; !has_flow(small));
@@ -256,6 +261,17 @@ fn is_found(rt: &impl Abort, alloc: Global, small: &SmallGraph) -> Result<(), Fa
         }
     }
     Ok(())
+}
+
+fn check(
+    rt: &impl Abort,
+    alloc: Global,
+    count: usize,
+    kinds: usize,
+    edges: usize,
+) -> Result<(), Fail> {
+    let small = drawn(alloc, count, kinds, edges)?;
+    is_found(rt, alloc, &mut OpenGraph::new(alloc), &small)
 }
 
 #[test]
@@ -266,7 +282,7 @@ fn a_flow_is_found_where_there_is_one(rt: HostRuntime) -> Result<(), Fail> {
         for kinds in 0..choices {
             if is_rising(count, kinds) {
                 for edges in 0..joins {
-                    is_found(&rt, rt.alloc(), &drawn(rt.alloc(), count, kinds, edges)?)?;
+                    check(&rt, rt.alloc(), count, kinds, edges)?;
                 }
             }
         }

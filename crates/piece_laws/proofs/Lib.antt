@@ -2,3 +2,4 @@ pub mod Matrices
 pub mod Reorderings
 pub mod Replacements
 pub mod Gathering
+pub mod Placements

@@ -61,7 +61,7 @@ no_larger_part before old new after (inr same) =
     )
 
 -- ---- what holds of each gate
-All-parts : (P : Gate → Type 0) (xs ys : List Gate) → All P (xs ++ ys) → All P xs × All P ys
+pub All-parts : (P : Gate → Type 0) (xs ys : List Gate) → All P (xs ++ ys) → All P xs × All P ys
 All-parts P [] ys all = (All-nil P, all)
 All-parts P (x ∷ xs) ys all =
     let rest = All-parts P xs ys (All-tail P x (xs ++ ys) all) in (All-cons P x xs (All-head P x (xs ++ ys) all) rest.0, rest.1)

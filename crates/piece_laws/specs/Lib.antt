@@ -1,3 +1,4 @@
+pub mod Places
 pub mod Replacement
 pub mod Reordering
 pub mod Walks

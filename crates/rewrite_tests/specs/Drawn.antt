@@ -1,7 +1,10 @@
 -- Graphs that tests draw.
 use Rattle.std.specs.Prelude.{◌++◌, ℕ, [], ◌∷◌}
 use Rattle.zx_calculus.specs.Graph.{XY, YZ, Graph, insert_vertex}
-use Rattle.zx_calculus.specs.Worked.{plain, vertex}
+use Rattle.zx_calculus.specs.Worked.{plain, vertex, graph}
+
+abbrev pub no_graph : Graph
+no_graph = graph [] [] [] []
 
 -- with a new spider of phase 0 between an input and an output
 abbrev pub with_wire : ℕ → Graph → Graph

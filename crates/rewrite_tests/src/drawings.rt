@@ -6,7 +6,7 @@ ghost use Rattle.zx_calculus.specs.Graph.{Live, WellFormed};
 ghost use Rattle.zx_calculus.proofs.EditPrograms.{toggled};
 ghost use Rattle.gflow_laws.specs.Flow.{IsFlow};
 ghost use Rattle.gflow_laws.specs.Examples.{by_itself};
-ghost use Rattle.rewrite_tests.specs.Drawn.{with_wire, with_gadget};
+ghost use Rattle.rewrite_tests.specs.Drawn.{no_graph, with_wire, with_gadget};
 
 use open_graph::{End, OpenGraph, Plane, VertexId};
 use std::alloc::Global;
@@ -20,16 +20,90 @@ pub fn id(number: usize) -> VertexId {
     VertexId::new(number)
 }
 
-// The vertex 0 between an input and an output, which carry a Hadamard or not.
-pub fn wire(
-    alloc: Global,
+// What a test begins with, of vertices 0, 1, 2 and so on.
+#[derive(Clone, Copy)]
+pub enum Start {
+    // A vertex of this phase between an input and an output, which carry a Hadamard or not.
+    Wire(Sixteenth, bool, bool),
+    // The path 1, 0, 2 with a quarter turn in its middle: both ends of a wire are split.
+    PathOfThree,
+    // The path 0, 1, 2, 3, each corrected by the next.
+    PathOfFour,
+    // Input, 0, 1, 2, output, with an eighth of a turn at 0: the circuit T, H, H.
+    PathAfterAnEighth,
+    // Two wires, and on both of them two gadgets of these phases.
+    Twins(Sixteenth, Sixteenth),
+    // A wire, a gadget on it, and one without legs.
+    SmallGadgets,
+}
+
+// The flow of the graph without vertices.
+pub fn no_flow(alloc: Global) -> Result<Flow, Fail>
+    ensures { IfOk result (λ flow. flow.flow ≡ []) }
+{
+    let graph = OpenGraph::new(alloc);
+    let flow = Flow::of_table(&graph, FlowTable::new(alloc))?;
+    Ok(flow)
+}
+
+// Draws a start into a graph without vertices, and its flow.
+pub fn draw(
+    rt: &impl Abort,
+    graph: &mut OpenGraph,
+    flow: &mut Flow,
+    start: Start,
+) -> Result<(), Fail>
+    requires graph { graph.old.graph ≡ no_graph }
+    requires flow { flow.old.flow ≡ [] }
+    ensures { OnOk result (IsFlow graph.new.graph flow.new.flow) }
+{
+    match start {
+        Start::Wire(phase, input, output) => split(graph, flow, phase, input, output, &[]),
+        Start::PathOfThree => {
+            let steps = [Step::SplitInput(id(0)), Step::SplitOutput(id(0))];
+            split(graph, flow, Sixteenth::new(4), true, true, &steps)
+        }
+        Start::PathOfFour => {
+            let steps = [
+                Step::SplitOutput(id(0)),
+                Step::SplitOutput(id(1)),
+                Step::SplitOutput(id(2)),
+            ];
+            split(graph, flow, Sixteenth::new(0), false, true, &steps)
+        }
+        Start::PathAfterAnEighth => {
+            let steps = [Step::SplitOutput(id(0)), Step::SplitOutput(id(1))];
+            split(graph, flow, Sixteenth::new(2), false, false, &steps)
+        }
+        Start::Twins(first, second) => draw_twins(rt, graph, flow, first, second),
+        Start::SmallGadgets => draw_small_gadgets(rt, graph, flow),
+    }
+}
+
+// Draws the vertex 0 between an input and an output, which carry a Hadamard or not, and does steps.
+fn split(
+    graph: &mut OpenGraph,
+    flow: &mut Flow,
     phase: Sixteenth,
     input: bool,
     output: bool,
-) -> Result<(OpenGraph, Flow), Fail>
-    ensures { IfOk result (λ made. IsFlow made.0.graph made.1.flow) }
+    steps: &[Step],
+) -> Result<(), Fail>
+    requires graph { graph.old.graph ≡ no_graph }
+    requires flow { flow.old.flow ≡ [] }
+    ensures { OnOk result (IsFlow graph.new.graph flow.new.flow) }
 {
-    let mut graph = OpenGraph::new(alloc);
+    draw_wire(graph, phase, input, output)?;
+    for step in steps {
+        apply(graph, flow, *step)?;
+    }
+    Ok(())
+}
+
+fn draw_wire(graph: &mut OpenGraph, phase: Sixteenth, input: bool, output: bool) -> Result<(), Fail>
+    requires { graph.old.graph ≡ no_graph }
+    ensures { OnOk result (IsFlow graph.new.graph []) }
+{
     let vertex = graph.add_vertex(Plane::XY, phase)?;
     graph.add_input(End {
         vertex,
@@ -39,29 +113,7 @@ pub fn wire(
         vertex,
         hadamard: output,
     })?;
-    let flow = Flow::of_table(&graph, FlowTable::new(alloc))?;
-    Ok((graph, flow))
-}
-
-// The path 1, 0, 2 with a quarter turn in its middle: both ends of a wire are split.
-pub fn path_of_three(alloc: Global) -> Result<(OpenGraph, Flow), Fail>
-    ensures { IfOk result (λ made. IsFlow made.0.graph made.1.flow) }
-{
-    let (mut graph, mut flow) = wire(alloc, Sixteenth::new(4), true, true)?;
-    apply(&mut graph, &mut flow, Step::SplitInput(id(0)))?;
-    apply(&mut graph, &mut flow, Step::SplitOutput(id(0)))?;
-    Ok((graph, flow))
-}
-
-// The path 0, 1, 2, 3, each corrected by the next.
-pub fn path_of_four(alloc: Global) -> Result<(OpenGraph, Flow), Fail>
-    ensures { IfOk result (λ made. IsFlow made.0.graph made.1.flow) }
-{
-    let (mut graph, mut flow) = wire(alloc, Sixteenth::new(0), false, true)?;
-    apply(&mut graph, &mut flow, Step::SplitOutput(id(0)))?;
-    apply(&mut graph, &mut flow, Step::SplitOutput(id(1)))?;
-    apply(&mut graph, &mut flow, Step::SplitOutput(id(2)))?;
-    Ok((graph, flow))
+    Ok(())
 }
 
 fn stands_in(order: &[VertexId], v: VertexId) -> bool
@@ -124,39 +176,40 @@ fn join(graph: &mut OpenGraph, u: usize, v: usize) -> Result<(), Fail>
     Ok(())
 }
 
-// Two gadgets of these phases, with equal neighbours.
-pub fn twins(
+// Draws two gadgets of these phases, with equal neighbours.
+fn draw_twins(
     rt: &impl Abort,
-    alloc: Global,
+    graph: &mut OpenGraph,
+    flow: &mut Flow,
     first: Sixteenth,
     second: Sixteenth,
-) -> Result<(OpenGraph, Flow), Fail>
-    ensures { IfOk result (λ made. IsFlow made.0.graph made.1.flow) }
+) -> Result<(), Fail>
+    requires graph { graph.old.graph ≡ no_graph }
+    requires flow { flow.old.flow ≡ [] }
+    ensures { OnOk result (IsFlow graph.new.graph flow.new.flow) }
 {
-    let mut graph = OpenGraph::new(alloc);
-    let mut flow = Flow::of_table(&graph, FlowTable::new(alloc))?;
-    add_wire(rt, &mut graph, 0)?;
-    add_wire(rt, &mut graph, 1)?;
-    add_gadget(rt, &mut graph, &mut flow, 2, first)?;
-    add_gadget(rt, &mut graph, &mut flow, 3, second)?;
-    join(&mut graph, 0, 2)?;
-    join(&mut graph, 0, 3)?;
-    join(&mut graph, 1, 2)?;
-    join(&mut graph, 1, 3)?;
-    Ok((graph, flow))
+    add_wire(rt, graph, 0)?;
+    add_wire(rt, graph, 1)?;
+    add_gadget(rt, graph, flow, 2, first)?;
+    add_gadget(rt, graph, flow, 3, second)?;
+    join(graph, 0, 2)?;
+    join(graph, 0, 3)?;
+    join(graph, 1, 2)?;
+    join(graph, 1, 3)?;
+    Ok(())
 }
 
-// A gadget of one leg, and one without legs.
-pub fn small_gadgets(rt: &impl Abort, alloc: Global) -> Result<(OpenGraph, Flow), Fail>
-    ensures { IfOk result (λ made. IsFlow made.0.graph made.1.flow) }
+// Draws a gadget of one leg, and one without legs.
+fn draw_small_gadgets(rt: &impl Abort, graph: &mut OpenGraph, flow: &mut Flow) -> Result<(), Fail>
+    requires graph { graph.old.graph ≡ no_graph }
+    requires flow { flow.old.flow ≡ [] }
+    ensures { OnOk result (IsFlow graph.new.graph flow.new.flow) }
 {
-    let mut graph = OpenGraph::new(alloc);
-    let mut flow = Flow::of_table(&graph, FlowTable::new(alloc))?;
-    add_wire(rt, &mut graph, 0)?;
-    add_gadget(rt, &mut graph, &mut flow, 1, Sixteenth::new(6))?;
-    add_gadget(rt, &mut graph, &mut flow, 2, Sixteenth::new(10))?;
-    join(&mut graph, 0, 1)?;
-    Ok((graph, flow))
+    add_wire(rt, graph, 0)?;
+    add_gadget(rt, graph, flow, 1, Sixteenth::new(6))?;
+    add_gadget(rt, graph, flow, 2, Sixteenth::new(10))?;
+    join(graph, 0, 1)?;
+    Ok(())
 }
 
 // The letter of a vertex, where the names of 0, 1, 2 and so on are these.
@@ -229,27 +282,37 @@ fn add_corrections(text: &mut Vec<u8>, names: &[u8], flow: &Flow) -> Result<(), 
     Ok(())
 }
 
-// The odd phases by rising id.
-pub fn odd_phases(alloc: Global, graph: &OpenGraph) -> Result<Vec<Sixteenth>, Fail> {
-    let mut found = Vec::new(alloc);
+// How many phases are odd.
+pub fn odd_phases(graph: &OpenGraph) -> usize {
+    let mut odd = 0usize;
     for v in graph.vertices() {
-        if graph.is_live(v) {
-            let (_, phase) = graph.weight(v);
-            if phase.is_odd() {
-                found.push(phase)?;
-            }
+        if graph.is_live(v) && graph.weight(v).1.is_odd() {
+            odd = odd.saturating_add(1);
         }
     }
-    Ok(found)
+    odd
 }
 
-// Weights by rising id, edges, inputs, outputs and the corrections of the flow.
-pub fn drawn(alloc: Global, names: &[u8], graph: &OpenGraph, flow: &Flow) -> Result<Vec<u8>, Fail> {
+// Adds weights by rising id, edges, inputs, outputs and the corrections of the flow.
+fn add_all(text: &mut Vec<u8>, names: &[u8], graph: &OpenGraph, flow: &Flow) -> Result<(), Fail> {
+    add_weights(text, graph)?;
+    add_edges(text, names, graph)?;
+    add_ends(text, names, b':', graph.inputs())?;
+    add_ends(text, names, b'>', graph.outputs())?;
+    add_corrections(text, names, flow)
+}
+
+// Graph and flow are drawn so.
+pub fn is_drawn(
+    rt: &impl Abort,
+    alloc: Global,
+    names: &[u8],
+    graph: &OpenGraph,
+    flow: &Flow,
+    wanted: &str,
+) -> Result<(), Fail> {
     let mut text = Vec::new(alloc);
-    add_weights(&mut text, graph)?;
-    add_edges(&mut text, names, graph)?;
-    add_ends(&mut text, names, b':', graph.inputs())?;
-    add_ends(&mut text, names, b'>', graph.outputs())?;
-    add_corrections(&mut text, names, flow)?;
-    Ok(text)
+    add_all(&mut text, names, graph, flow)?;
+    assert_eq!(rt; text.as_slice(), wanted.as_bytes());
+    Ok(())
 }

@@ -10,19 +10,10 @@ fn id(number: usize) -> VertexId {
     VertexId::new(number)
 }
 
-fn xy(graph: &mut OpenGraph, phase: Sixteenth) -> Result<(), Fail> {
-    graph.add_vertex(Plane::XY, phase)?;
-    Ok(())
-}
-
-fn yz(graph: &mut OpenGraph, phase: Sixteenth) -> Result<(), Fail> {
-    graph.add_vertex(Plane::YZ, phase)?;
-    Ok(())
-}
-
 // Joins two vertices.
 fn join(graph: &mut OpenGraph, u: usize, v: usize) -> Result<(), Fail> {
-    let (u, v) = (id(u), id(v));
+    let u = id(u);
+    let v = id(v);
     if graph.is_live(u) && graph.is_live(v) && u != v {
         graph.toggle_edge(u, v)?;
     }
@@ -45,95 +36,128 @@ fn input(graph: &mut OpenGraph, v: usize) -> Result<(), Fail> {
     Ok(())
 }
 
-// A spider of a quarter turn, interior, and then earlier kinds at later vertices.
-fn find_single_vertices(rt: &impl Abort, graph: &mut OpenGraph) -> Result<(), Fail> {
-    assert_eq!(rt; next_move(graph), None);
-    xy(graph, Sixteenth::new(2))?;
-    assert_eq!(rt; next_move(graph), None);
-    xy(graph, Sixteenth::new(12))?;
-    join(graph, 0, 1)?;
-    assert_eq!(rt; next_move(graph), Some(Move::QuarterSpider(id(1))));
-    graph.add_vertex(Plane::XZ, Sixteenth::new(6))?;
-    join(graph, 0, 2)?;
-    assert_eq!(rt; next_move(graph), Some(Move::FromXZ(id(2))));
-    yz(graph, Sixteenth::new(4))?;
-    join(graph, 0, 3)?;
-    assert_eq!(rt; next_move(graph), Some(Move::QuarterGadget(id(3))));
-    yz(graph, Sixteenth::new(8))?;
-    join(graph, 0, 4)?;
-    assert_eq!(rt; next_move(graph), Some(Move::Delete(id(4))));
-    assert_eq!(rt; Move::Delete(id(4)).kind(), KINDS[0]);
+// What is done with a graph: vertices are added, joined and given inputs, and the next move is told.
+#[derive(Clone, Copy)]
+enum Act {
+    Vertex(Plane, u8),
+    Edge(usize, usize),
+    Input(usize),
+    Next(Option<Move>),
+}
+
+// Adds an XY vertex of so many sixteenth turns.
+fn xy(turns: u8) -> Act {
+    Act::Vertex(Plane::XY, turns)
+}
+
+// Adds a YZ vertex of so many sixteenth turns.
+fn yz(turns: u8) -> Act {
+    Act::Vertex(Plane::YZ, turns)
+}
+
+// The next move is this one.
+fn next(wanted: Move) -> Act {
+    Act::Next(Some(wanted))
+}
+
+// One act after the other.
+fn follow(rt: &impl Abort, graph: &mut OpenGraph, acts: &[Act]) -> Result<(), Fail> {
+    for (i, act) in acts.iter().enumerate() {
+        match act {
+            Act::Vertex(plane, turns) => {
+                graph.add_vertex(*plane, Sixteenth::new(*turns % 16))?;
+            }
+            Act::Edge(u, v) => join(graph, *u, *v)?,
+            Act::Input(v) => input(graph, *v)?,
+            Act::Next(wanted) => assert_eq!(rt; next_move(graph), *wanted, "at {i}"),
+        }
+    }
     Ok(())
 }
 
+// A spider of a quarter turn, interior, and then earlier kinds at later vertices.
 #[test]
 fn vertices_that_go_by_themselves(rt: HostRuntime) -> Result<(), Fail> {
-    find_single_vertices(&rt, &mut OpenGraph::new(rt.alloc()))
+    assert_eq!(rt; Move::Delete(id(4)).kind(), KINDS[0]);
+    let acts = [
+        Act::Next(None),
+        xy(2),
+        Act::Next(None),
+        xy(12),
+        Act::Edge(0, 1),
+        next(Move::QuarterSpider(id(1))),
+        Act::Vertex(Plane::XZ, 6),
+        Act::Edge(0, 2),
+        next(Move::FromXZ(id(2))),
+        yz(4),
+        Act::Edge(0, 3),
+        next(Move::QuarterGadget(id(3))),
+        yz(8),
+        Act::Edge(0, 4),
+        next(Move::Delete(id(4))),
+    ];
+    follow(&rt, &mut OpenGraph::new(rt.alloc()), &acts)
 }
 
 // A spider of half a turn beside a vertex with an input, and then with more neighbours.
-fn find_pivots(rt: &impl Abort, graph: &mut OpenGraph) -> Result<(), Fail> {
-    xy(graph, Sixteenth::new(8))?;
-    xy(graph, Sixteenth::new(0))?;
-    input(graph, 1)?;
-    join(graph, 0, 1)?;
-    assert_eq!(rt; next_move(graph), Some(Move::BoundaryPivot(id(0), id(1))));
-
-    // Two interior neighbours: the pivot with the second one adds fewer edges.
-    xy(graph, Sixteenth::new(2))?;
-    xy(graph, Sixteenth::new(6))?;
-    xy(graph, Sixteenth::new(10))?;
-    join(graph, 0, 2)?;
-    join(graph, 0, 3)?;
-    join(graph, 2, 1)?;
-    join(graph, 2, 4)?;
-    assert_eq!(rt; next_move(graph), Some(Move::InnerPivot(id(0), id(3))));
-
-    // The first one has more neighbours, but the pivot with it takes out more edges.
-    join(graph, 3, 1)?;
-    join(graph, 4, 1)?;
-    assert_eq!(rt; next_move(graph), Some(Move::InnerPivot(id(0), id(2))));
-    Ok(())
+#[test]
+fn pivots(rt: HostRuntime) -> Result<(), Fail> {
+    let acts = [
+        xy(8),
+        xy(0),
+        Act::Input(1),
+        Act::Edge(0, 1),
+        next(Move::BoundaryPivot(id(0), id(1))),
+        // Two interior neighbours: the pivot with the second one adds fewer edges.
+        xy(2),
+        xy(6),
+        xy(10),
+        Act::Edge(0, 2),
+        Act::Edge(0, 3),
+        Act::Edge(2, 1),
+        Act::Edge(2, 4),
+        next(Move::InnerPivot(id(0), id(3))),
+        // The first one has more neighbours, but the pivot with it takes out more edges.
+        Act::Edge(3, 1),
+        Act::Edge(4, 1),
+        next(Move::InnerPivot(id(0), id(2))),
+    ];
+    follow(&rt, &mut OpenGraph::new(rt.alloc()), &acts)
 }
 
 // Two gadgets, at first without legs.
-fn find_gadgets(rt: &impl Abort, graph: &mut OpenGraph) -> Result<(), Fail> {
-    yz(graph, Sixteenth::new(2))?;
-    assert_eq!(rt; next_move(graph), Some(Move::LoneGadget(id(0))));
-    yz(graph, Sixteenth::new(6))?;
-    join(graph, 0, 1)?;
-    assert_eq!(rt; next_move(graph), Some(Move::GadgetPair(id(0), id(1))));
-    Ok(())
-}
-
 #[test]
-fn pivots(rt: HostRuntime) -> Result<(), Fail> {
-    find_pivots(&rt, &mut OpenGraph::new(rt.alloc()))?;
-    find_gadgets(&rt, &mut OpenGraph::new(rt.alloc()))
+fn gadgets_go_alone_and_in_pairs(rt: HostRuntime) -> Result<(), Fail> {
+    let acts = [
+        yz(2),
+        next(Move::LoneGadget(id(0))),
+        yz(6),
+        Act::Edge(0, 1),
+        next(Move::GadgetPair(id(0), id(1))),
+    ];
+    follow(&rt, &mut OpenGraph::new(rt.alloc()), &acts)
 }
 
 // The spiders 0, 1 and 2, and gadgets on them: 3 on 0 and 1, 4 on 0 and 2, and one more on 0, and then on
 // 0 and 1.
-fn find_twins(rt: &impl Abort, graph: &mut OpenGraph) -> Result<(), Fail> {
-    xy(graph, Sixteenth::new(2))?;
-    xy(graph, Sixteenth::new(6))?;
-    xy(graph, Sixteenth::new(10))?;
-    yz(graph, Sixteenth::new(14))?;
-    join(graph, 3, 0)?;
-    join(graph, 3, 1)?;
-    yz(graph, Sixteenth::new(2))?;
-    join(graph, 4, 0)?;
-    join(graph, 4, 2)?;
-    assert_eq!(rt; next_move(graph), None);
-    yz(graph, Sixteenth::new(6))?;
-    join(graph, 5, 0)?;
-    assert_eq!(rt; next_move(graph), Some(Move::SingleGadget(id(5))));
-    join(graph, 5, 1)?;
-    assert_eq!(rt; next_move(graph), Some(Move::Twins(id(3), id(5))));
-    Ok(())
-}
-
 #[test]
 fn gadgets_are_fused(rt: HostRuntime) -> Result<(), Fail> {
-    find_twins(&rt, &mut OpenGraph::new(rt.alloc()))
+    let acts = [
+        xy(2),
+        xy(6),
+        xy(10),
+        yz(14),
+        Act::Edge(3, 0),
+        Act::Edge(3, 1),
+        yz(2),
+        Act::Edge(4, 0),
+        Act::Edge(4, 2),
+        Act::Next(None),
+        yz(6),
+        Act::Edge(5, 0),
+        next(Move::SingleGadget(id(5))),
+        Act::Edge(5, 1),
+        next(Move::Twins(id(3), id(5))),
+    ];
+    follow(&rt, &mut OpenGraph::new(rt.alloc()), &acts)
 }

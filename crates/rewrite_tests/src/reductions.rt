@@ -1,9 +1,10 @@
 //! Graphs that are reduced, worked by hand.
 
-ghost use Rattle.std.specs.Prelude.{◌≡◌, ◌<◌, IfOk};
+ghost use Rattle.std.specs.Prelude.{◌≡◌, ◌<◌, []};
 ghost use Rattle.gflow_laws.specs.Flow.{IsFlow};
+ghost use Rattle.rewrite_tests.specs.Drawn.{no_graph};
 
-use crate::drawings::{drawn, id, path_of_three, small_gadgets, twins, wire};
+use crate::drawings::{Start, draw, id, is_drawn, no_flow};
 use open_graph::OpenGraph;
 use std::alloc::Global;
 use std::marker::Brand;
@@ -12,17 +13,7 @@ use std::sync::ledger::{Blank, Ledger};
 use std::test::Fail;
 use zx_flow::Flow;
 use zx_model::Sixteenth;
-use zx_reduce::{Step, Steps, Trace, apply, reduce};
-
-// Input, 0, 1, 2, output, with an eighth of a turn at 0: the circuit T, H, H.
-fn path_after_an_eighth(alloc: Global) -> Result<(OpenGraph, Flow), Fail>
-    ensures { IfOk result (λ made. IsFlow made.0.graph made.1.flow) }
-{
-    let (mut graph, mut flow) = wire(alloc, Sixteenth::new(2), false, false)?;
-    apply(&mut graph, &mut flow, Step::SplitOutput(id(0)))?;
-    apply(&mut graph, &mut flow, Step::SplitOutput(id(1)))?;
-    Ok((graph, flow))
-}
+use zx_reduce::{Step, Steps, Trace, reduce};
 
 fn reduce_counted<L: Ledger>(
     blank: Blank,
@@ -40,36 +31,56 @@ fn reduce_counted<L: Ledger>(
     Ok(())
 }
 
-// Reduces a graph with its flow; the trace gains the steps.
-fn traced(start: (OpenGraph, Flow), trace: &mut Trace) -> Result<(OpenGraph, Flow), Fail>
-    requires { IsFlow start.0.graph start.1.flow }
+// Draws a start and reduces it; the trace gains the steps.
+fn draw_and_reduce(
+    rt: &impl Abort,
+    graph: &mut OpenGraph,
+    flow: &mut Flow,
+    start: Start,
+    trace: &mut Trace,
+) -> Result<(), Fail>
+    requires graph { graph.old.graph ≡ no_graph }
+    requires flow { flow.old.flow ≡ [] }
 {
-    let (mut graph, mut flow) = start;
-    reduce_counted::<Brand>(Blank::new(1), &mut graph, &mut flow, trace)?;
-    Ok((graph, flow))
+    draw(rt, graph, flow, start)?;
+    reduce_counted::<Brand>(Blank::new(1), graph, flow, trace)
 }
 
-// What a graph with its flow is reduced to by these steps, where a, b and so on are 0, 1 and so on.
-fn reduced(
+// By these steps the start is reduced to what is drawn so, where a, b and so on are 0, 1 and so on.
+fn reduces(
     rt: &impl Abort,
     alloc: Global,
-    start: (OpenGraph, Flow),
+    start: Start,
     steps: &[Step],
-) -> Result<Vec<u8>, Fail>
-    requires { IsFlow start.0.graph start.1.flow }
+    text: &str,
+) -> Result<(), Fail> {
+    let mut flow = no_flow(alloc)?;
+    let mut graph = OpenGraph::new(alloc);
+    has_steps(rt, alloc, &mut graph, &mut flow, start, steps, text)
+}
+
+fn has_steps(
+    rt: &impl Abort,
+    alloc: Global,
+    graph: &mut OpenGraph,
+    flow: &mut Flow,
+    start: Start,
+    steps: &[Step],
+    text: &str,
+) -> Result<(), Fail>
+    requires graph { graph.old.graph ≡ no_graph }
+    requires flow { flow.old.flow ≡ [] }
 {
     let mut trace = Trace::new(alloc);
-    let (graph, flow) = traced(start, &mut trace)?;
+    draw_and_reduce(rt, graph, flow, start, &mut trace)?;
     assert!(rt; trace.as_slice() == steps);
-    drawn(alloc, b"abcd", &graph, &flow)
+    is_drawn(rt, alloc, b"abcd", graph, flow, text)
 }
 
 #[test]
 fn a_quarter_turn_goes(rt: HostRuntime) -> Result<(), Fail> {
     let steps = [Step::LocalComplement(id(0)), Step::Delete(id(0))];
-    let text = reduced(&rt, rt.alloc(), path_of_three(rt.alloc())?, &steps)?;
-    assert_eq!(rt; text.as_slice(), b"CC bc:b>c< bc".as_slice());
-    Ok(())
+    reduces(&rt, rt.alloc(), Start::PathOfThree, &steps, "CC bc:b>c< bc")
 }
 
 #[test]
@@ -80,9 +91,13 @@ fn a_pivot_at_the_boundary(rt: HostRuntime) -> Result<(), Fail> {
         Step::Delete(id(1)),
         Step::FuseInto(id(0)),
     ];
-    let text = reduced(&rt, rt.alloc(), path_after_an_eighth(rt.alloc())?, &steps)?;
-    assert_eq!(rt; text.as_slice(), b"20 cd:d->c< dc".as_slice());
-    Ok(())
+    reduces(
+        &rt,
+        rt.alloc(),
+        Start::PathAfterAnEighth,
+        &steps,
+        "20 cd:d->c< dc",
+    )
 }
 
 #[test]
@@ -92,27 +107,28 @@ fn twins_make_an_edge(rt: HostRuntime) -> Result<(), Fail> {
         Step::LocalComplement(id(2)),
         Step::Delete(id(2)),
     ];
-    let start = twins(&rt, rt.alloc(), Sixteenth::new(2), Sixteenth::new(2))?;
-    let text = reduced(&rt, rt.alloc(), start, &steps)?;
-    assert_eq!(rt; text.as_slice(), b"44 ab:ab>ab<".as_slice());
-    Ok(())
+    let start = Start::Twins(Sixteenth::new(2), Sixteenth::new(2));
+    reduces(&rt, rt.alloc(), start, &steps, "44 ab:ab>ab<")
 }
 
 #[test]
 fn small_gadgets_go(rt: HostRuntime) -> Result<(), Fail> {
     let steps = [Step::DropLone(id(2)), Step::FuseInto(id(1))];
-    let text = reduced(&rt, rt.alloc(), small_gadgets(&rt, rt.alloc())?, &steps)?;
-    assert_eq!(rt; text.as_slice(), b"6:a>a<".as_slice());
-    Ok(())
+    reduces(&rt, rt.alloc(), Start::SmallGadgets, &steps, "6:a>a<")
 }
 
-#[test]
-fn a_trace_keeps_its_steps(rt: HostRuntime) -> Result<(), Fail> {
-    let mut trace = Trace::new(rt.alloc());
+// The trace gains the steps that reduce a start.
+fn traced(rt: &impl Abort, alloc: Global, start: Start, trace: &mut Trace) -> Result<(), Fail> {
+    let mut flow = no_flow(alloc)?;
+    draw_and_reduce(rt, &mut OpenGraph::new(alloc), &mut flow, start, trace)
+}
+
+// Reduces two graphs with one trace.
+fn trace_two(rt: &impl Abort, alloc: Global, trace: &mut Trace) -> Result<(), Fail> {
     trace.reserve(4)?;
     assert!(rt; trace.as_slice().is_empty());
-    traced(path_of_three(rt.alloc())?, &mut trace)?;
-    traced(small_gadgets(&rt, rt.alloc())?, &mut trace)?;
+    traced(rt, alloc, Start::PathOfThree, trace)?;
+    traced(rt, alloc, Start::SmallGadgets, trace)?;
     let steps = [
         Step::LocalComplement(id(0)),
         Step::Delete(id(0)),
@@ -121,4 +137,9 @@ fn a_trace_keeps_its_steps(rt: HostRuntime) -> Result<(), Fail> {
     ];
     assert!(rt; trace.as_slice() == steps.as_slice());
     Ok(())
+}
+
+#[test]
+fn a_trace_keeps_its_steps(rt: HostRuntime) -> Result<(), Fail> {
+    trace_two(&rt, rt.alloc(), &mut Trace::new(rt.alloc()))
 }

@@ -1,10 +1,14 @@
 //! Steps that are refused on a path of three, drawn by hand.
 
-use crate::drawings::{drawn, id, path_of_three};
-use open_graph::VertexId;
+ghost use Rattle.std.specs.Prelude.{◌≡◌, []};
+ghost use Rattle.rewrite_tests.specs.Drawn.{no_graph};
+
+use crate::drawings::{Start, draw, id, is_drawn, no_flow};
+use open_graph::{OpenGraph, VertexId};
 use std::alloc::Global;
 use std::process::Abort;
 use std::test::Fail;
+use zx_flow::Flow;
 use zx_reduce::{Step, StepRefused, apply};
 
 // The middle of the path.
@@ -24,12 +28,24 @@ fn c() -> VertexId {
 
 // A step on the path is refused, and the path stays as it was.
 fn refused(rt: &impl Abort, alloc: Global, step: Step) -> Result<(), Fail> {
-    let (mut graph, mut flow) = path_of_three(alloc)?;
-    let answer = apply(&mut graph, &mut flow, step);
-    assert_eq!(rt; answer, Err(StepRefused::NotAllowed));
-    let text = drawn(alloc, b"bac", &graph, &flow)?;
-    assert_eq!(rt; text.as_slice(), b"400 ba bc:a>c< ab bc".as_slice());
-    Ok(())
+    let mut flow = no_flow(alloc)?;
+    let mut graph = OpenGraph::new(alloc);
+    draw_and_refuse(rt, alloc, &mut graph, &mut flow, step)
+}
+
+fn draw_and_refuse(
+    rt: &impl Abort,
+    alloc: Global,
+    graph: &mut OpenGraph,
+    flow: &mut Flow,
+    step: Step,
+) -> Result<(), Fail>
+    requires graph { graph.old.graph ≡ no_graph }
+    requires flow { flow.old.flow ≡ [] }
+{
+    draw(rt, graph, flow, Start::PathOfThree)?;
+    assert_eq!(rt; apply(graph, flow, step), Err(StepRefused::NotAllowed));
+    is_drawn(rt, alloc, b"bac", graph, flow, "400 ba bc:a>c< ab bc")
 }
 
 #[test]

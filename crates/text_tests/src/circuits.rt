@@ -14,15 +14,8 @@ fn measurements_are_numbered_through_all_registers(rt: HostRuntime) -> Result<()
     let text = b"OPENQASM 2.0; qreg p[1]; qreg q[2]; creg b[3]; creg c[2]; measure q -> c;";
     let circuit = read(rt.alloc(), text)?;
     assert_eq!(rt; circuit.bits, 5);
-    assert_eq!(rt; circuit.measured.as_slice().len(), 2);
-    assert_eq!(rt;
-        circuit.measured.as_slice()[0],
-        Measure { qubit: 1, bit: 3 }
-    );
-    assert_eq!(rt;
-        circuit.measured.as_slice()[1],
-        Measure { qubit: 2, bit: 4 }
-    );
+    let measured = [Measure { qubit: 1, bit: 3 }, Measure { qubit: 2, bit: 4 }];
+    assert_eq!(rt; circuit.measured.as_slice(), measured.as_slice());
     Ok(())
 }
 
@@ -86,51 +79,59 @@ fn read_in_pieces(alloc: Global, text: &[u8], count: usize) -> Result<Elementary
     reader.finish()
 }
 
+// How many qubits, gates and measurements a text in pieces has.
+fn counts(alloc: Global, text: &[u8], count: usize) -> Result<[usize; 3], TextError>
+    requires { 0 < count }
+{
+    let circuit = read_in_pieces(alloc, text, count)?;
+    Ok([
+        usize::from(circuit.qubits),
+        circuit.gates.as_slice().len(),
+        circuit.measured.as_slice().len(),
+    ])
+}
+
 #[test]
 fn texts_are_read_whatever_the_pieces(rt: HostRuntime) -> Result<(), Fail> {
     let alloc = rt.alloc();
     let text =
         b"OPENQASM 2.0;\nqreg pp[1]; qreg qq[2]; creg b[3];\ngate g(x) a {\nU(x,0,0) a; } // g\ng(pi/4)\nqq; measure qq[1] -> b[2];";
+    let bad_byte = b"OPENQASM 2.0;\nqreg q[1];\nU(0,0,0) p[0];\n?";
+    let unknown = b"OPENQASM 2.0;\nqreg q[1];\nU(0,0,0) p[0];";
+    let wrong = TextError::Wrong {
+        cause: Cause::Unknown,
+        at: 25,
+    };
     for count in [1, 7, 1000] {
-        let circuit = read_in_pieces(alloc, text, count.max(1))?;
-        assert_eq!(rt; circuit.qubits, 3);
-        assert_eq!(rt; circuit.gates.as_slice().len(), 2);
-        assert_eq!(rt; circuit.measured.as_slice().len(), 1);
-        let told = read_in_pieces(
-            alloc,
-            b"OPENQASM 2.0;\nqreg q[1];\nU(0,0,0) p[0];\n?",
-            count.max(1),
-        );
-        assert_eq!(rt; told.err(), Some(TextError::BadByte { at: 40 }));
-        let told = read_in_pieces(
-            alloc,
-            b"OPENQASM 2.0;\nqreg q[1];\nU(0,0,0) p[0];",
-            count.max(1),
-        );
+        let count = count.max(1);
+        assert_eq!(rt; counts(alloc, text, count), Ok([3, 2, 1]));
         assert_eq!(rt;
-            told.err(),
-            Some(TextError::Wrong {
-                cause: Cause::Unknown,
-                at: 25
-            })
+            counts(alloc, bad_byte, count),
+            Err(TextError::BadByte { at: 40 })
         );
+        assert_eq!(rt; counts(alloc, unknown, count), Err(wrong));
+    }
+    Ok(())
+}
+
+// 23 bytes, and 500 statements of 12 tokens in 14 bytes each.
+fn add_line(text: &mut Vec<u8>) -> Result<(), Fail> {
+    text.extend_from_slice(b"OPENQASM 2.0;qreg q[1];")?;
+    for _ in 0..500 {
+        text.extend_from_slice(b"U(0,0,0) q[0];")?;
     }
     Ok(())
 }
 
 #[test]
 fn a_long_line_is_read_in_batches(rt: HostRuntime) -> Result<(), Fail> {
-    let alloc = rt.alloc();
-    let mut text = Vec::new(alloc);
-    // 23 bytes, and 500 statements of 12 tokens in 14 bytes each.
-    text.extend_from_slice(b"OPENQASM 2.0;qreg q[1];")?;
-    for _ in 0..500 {
-        text.extend_from_slice(b"U(0,0,0) q[0];")?;
-    }
-    let circuit = read_in_pieces(alloc, &text, 1000)?;
-    assert_eq!(rt; circuit.gates.as_slice().len(), 500);
-    text.extend_from_slice(b"?")?;
-    let told = read_in_pieces(alloc, &text, 1000);
-    assert_eq!(rt; told.err(), Some(TextError::BadByte { at: 7023 }));
+    let mut text = Vec::new(rt.alloc());
+    add_line(&mut text)?;
+    assert_eq!(rt; counts(rt.alloc(), &text, 1000), Ok([1, 500, 0]));
+    text.push(b'?')?;
+    assert_eq!(rt;
+        counts(rt.alloc(), &text, 1000),
+        Err(TextError::BadByte { at: 7023 })
+    );
     Ok(())
 }

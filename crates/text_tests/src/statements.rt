@@ -7,6 +7,7 @@ use qasm_reader::{
     StatementKind, next_in_body, next_part, parse,
 };
 use std::alloc::Global;
+use std::process::Abort;
 use std::test::Fail;
 
 // The tokens of a text.
@@ -30,9 +31,8 @@ fn word_of<'a>(item: &Item<'a>) -> &'a [u8] {
     }
 }
 
-// The angles of the applications in a program, in postfix order, with a space after each word.
-fn angles_of(alloc: Global, program: &Program<'_>) -> Result<Vec<u8>, Fail> {
-    let mut text = Vec::new(alloc);
+// Adds the angles of the applications in a program, in postfix order, with a space after each word.
+fn add_angles(text: &mut Vec<u8>, program: &Program<'_>) -> Result<(), Fail> {
     for element in &program.elements {
         if let ProgramElement::Statement(statement) = element {
             if let StatementKind::Operation(Operation::Apply(application)) = &statement.kind {
@@ -45,12 +45,27 @@ fn angles_of(alloc: Global, program: &Program<'_>) -> Result<Vec<u8>, Fail> {
             }
         }
     }
+    Ok(())
+}
+
+// The angles of the program that tokens are.
+fn angles_of(alloc: Global, tokens: &[Token<'_>]) -> Result<Vec<u8>, Fail> {
+    let mut text = Vec::new(alloc);
+    let program = parse(alloc, tokens).ok().ok_or("no program")?;
+    add_angles(&mut text, &program)?;
     Ok(text)
+}
+
+// The program that a text is has these angles.
+fn has_angles(rt: &impl Abort, alloc: Global, text: &[u8], angles: &[u8]) -> Result<(), Fail> {
+    let tokens = tokens_of(alloc, text)?;
+    let found = angles_of(alloc, &tokens)?;
+    assert_eq!(rt; found.as_slice(), angles);
+    Ok(())
 }
 
 #[test]
 fn operators_bind_as_the_grammar_says(rt: HostRuntime) -> Result<(), Fail> {
-    let alloc = rt.alloc();
     let rows: [(&[u8], &[u8]); 10] = [
         (b"g ( a - b - c ) q ;", b"a b - c - "),
         (b"g ( a / b / c ) q ;", b"a b / c / "),
@@ -67,9 +82,7 @@ fn operators_bind_as_the_grammar_says(rt: HostRuntime) -> Result<(), Fail> {
         (b"g ( ) q ; g q ; U ( a , b , c ) q ;", b"a b c "),
     ];
     for (text, angles) in rows {
-        let tokens = tokens_of(alloc, text)?;
-        let program = parse(alloc, &tokens).ok().ok_or("no program")?;
-        assert_eq!(rt; angles_of(alloc, &program)?.as_slice(), angles);
+        has_angles(&rt, rt.alloc(), text, angles)?;
     }
     Ok(())
 }
@@ -98,6 +111,21 @@ fn form_of_statement(kind: &StatementKind<'_>) -> usize {
     }
 }
 
+// Tokens are one statement of this form.
+fn is_one_of(
+    rt: &impl Abort,
+    alloc: Global,
+    tokens: &[Token<'_>],
+    form: usize,
+) -> Result<(), Fail> {
+    let program = parse(alloc, tokens).ok().ok_or("no program")?;
+    assert_eq!(rt; program.elements.len(), 1);
+    for element in &program.elements {
+        assert_eq!(rt; form_of(element), form);
+    }
+    Ok(())
+}
+
 #[test]
 fn each_form_of_statement_is_read(rt: HostRuntime) -> Result<(), Fail> {
     let alloc = rt.alloc();
@@ -124,35 +152,65 @@ fn each_form_of_statement_is_read(rt: HostRuntime) -> Result<(), Fail> {
     ];
     for (text, form) in rows {
         let tokens = tokens_of(alloc, text)?;
-        let program = parse(alloc, &tokens).ok().ok_or("no program")?;
-        assert_eq!(rt; program.elements.len(), 1);
-        for element in &program.elements {
-            assert_eq!(rt; form_of(element), form);
-        }
+        is_one_of(&rt, alloc, &tokens, form)?;
     }
+    Ok(())
+}
+
+// The tokens behind a heading.
+fn behind_heading<'t, 'a>(
+    rt: &impl Abort,
+    alloc: Global,
+    tokens: &'t [Token<'a>],
+) -> Result<&'t [Token<'a>], Fail> {
+    let (part, rest) = next_part(alloc, tokens)?.ok_or("no part")?;
+    assert!(rt; matches!(part, Part::Heading { place: 0, .. }));
+    Ok(rest)
+}
+
+// A part of a gate's body.
+#[derive(Clone, Copy, PartialEq, Eq)]
+enum InBody {
+    Apply,
+    Barrier,
+    End,
+}
+
+fn part_of(part: &BodyPart<'_>) -> InBody {
+    match part {
+        BodyPart::Statement(BodyStatement::Apply(_)) => InBody::Apply,
+        BodyPart::Statement(BodyStatement::Barrier(_)) => InBody::Barrier,
+        BodyPart::End => InBody::End,
+    }
+}
+
+// The tokens behind such a part.
+fn behind_part<'t, 'a>(
+    rt: &impl Abort,
+    alloc: Global,
+    tokens: &'t [Token<'a>],
+    wanted: InBody,
+) -> Result<&'t [Token<'a>], Fail> {
+    let (part, rest) = next_in_body(alloc, tokens)?.ok_or("no part")?;
+    assert!(rt; part_of(&part) == wanted);
+    Ok(rest)
+}
+
+// A gate of three statements, which five tokens follow.
+fn read_parts(rt: &impl Abort, alloc: Global, tokens: &[Token<'_>]) -> Result<(), Fail> {
+    let mut rest = behind_heading(rt, alloc, tokens)?;
+    for part in [InBody::Apply, InBody::Barrier, InBody::Apply, InBody::End] {
+        rest = behind_part(rt, alloc, rest, part)?;
+    }
+    assert_eq!(rt; rest.len(), 5);
     Ok(())
 }
 
 #[test]
 fn a_gate_is_read_part_by_part(rt: HostRuntime) -> Result<(), Fail> {
-    let alloc = rt.alloc();
     let text = b"gate g a , b { h a ; barrier a , b ; CX a , b ; } g q , r ;";
-    let tokens = tokens_of(alloc, text)?;
-    let (part, mut rest) = next_part(alloc, &tokens)?.ok_or("no part")?;
-    assert!(rt; matches!(part, Part::Heading { place: 0, .. }));
-    for is_barrier in [false, true, false] {
-        let (part, end) = next_in_body(alloc, rest)?.ok_or("no statement")?;
-        match part {
-            BodyPart::Statement(BodyStatement::Apply(_)) => assert!(rt; !is_barrier),
-            BodyPart::Statement(BodyStatement::Barrier(_)) => assert!(rt; is_barrier),
-            BodyPart::End => return Err("the body ends early".into()),
-        }
-        rest = end;
-    }
-    let (part, rest) = next_in_body(alloc, rest)?.ok_or("no brace")?;
-    assert!(rt; matches!(part, BodyPart::End));
-    assert_eq!(rt; rest.len(), 5);
-    Ok(())
+    let tokens = tokens_of(rt.alloc(), text)?;
+    read_parts(&rt, rt.alloc(), &tokens)
 }
 
 #[test]
@@ -188,66 +246,75 @@ fn other_tokens_are_refused_where_the_statement_begins(rt: HostRuntime) -> Resul
     Ok(())
 }
 
-// An application with the words repeated before its one angle, and after it.
-fn repeated<'a>(
+// An application whose one angle has so many words before it, and so many after it.
+type Repeated = (usize, &'static [u8], &'static [u8]);
+
+// Adds the tokens of a text, so many times.
+fn add_tokens<'a>(
+    tokens: &mut Vec<Token<'a>>,
     alloc: Global,
     count: usize,
-    before: &[Token<'a>],
-    following: &[Token<'a>],
-) -> Result<Vec<Token<'a>>, Fail> {
-    let mut tokens = tokens_of(alloc, b"g (")?;
+    text: &'a [u8],
+) -> Result<(), Fail> {
+    let more = tokens_of(alloc, text)?;
     for _ in 0..count {
-        tokens.extend_from_slice(before)?;
+        tokens.extend_from_slice(&more)?;
     }
-    tokens.extend_from_slice(&tokens_of(alloc, b"a")?)?;
-    for _ in 0..count {
-        tokens.extend_from_slice(following)?;
+    Ok(())
+}
+
+fn add_repeated(
+    tokens: &mut Vec<Token<'static>>,
+    alloc: Global,
+    repeated: Repeated,
+) -> Result<(), Fail> {
+    add_tokens(tokens, alloc, 1, b"g (")?;
+    add_tokens(tokens, alloc, repeated.0, repeated.1)?;
+    add_tokens(tokens, alloc, 1, b"a")?;
+    add_tokens(tokens, alloc, repeated.0, repeated.2)?;
+    add_tokens(tokens, alloc, 1, b") q ;")
+}
+
+// What is wrong with such applications, one after the other.
+fn fault_of(alloc: Global, all: &[Repeated]) -> Result<Option<ParseError>, Fail> {
+    let mut tokens = Vec::new(alloc);
+    for repeated in all {
+        add_repeated(&mut tokens, alloc, *repeated)?;
     }
-    tokens.extend_from_slice(&tokens_of(alloc, b") q ;")?)?;
-    Ok(tokens)
+    Ok(parse(alloc, &tokens).err())
 }
 
 #[test]
 fn long_expressions_are_read(rt: HostRuntime) -> Result<(), Fail> {
-    let alloc = rt.alloc();
-    let rows: [(&[u8], &[u8]); 4] = [
-        (b"-", b""),
-        (b"a ^", b""),
-        (b"", b"+ a"),
-        (b"a ^ a *", b"- a"),
+    let all: [Repeated; 4] = [
+        (100_000, b"-", b""),
+        (100_000, b"a ^", b""),
+        (100_000, b"", b"+ a"),
+        (100_000, b"a ^ a *", b"- a"),
     ];
-    for (before, following) in rows {
-        let before = tokens_of(alloc, before)?;
-        let following = tokens_of(alloc, following)?;
-        let tokens = repeated(alloc, 100_000, &before, &following)?;
-        assert_eq!(rt; parse(alloc, &tokens).err(), None);
+    for repeated in all {
+        assert_eq!(rt; fault_of(rt.alloc(), &[repeated])?, None);
     }
     Ok(())
 }
 
 #[test]
 fn more_than_256_open_parentheses_are_too_deep(rt: HostRuntime) -> Result<(), Fail> {
-    let alloc = rt.alloc();
-    let before = tokens_of(alloc, b"(")?;
-    let following = tokens_of(alloc, b")")?;
-    let last = tokens_of(alloc, b"      (")?;
-    let most = repeated(alloc, 255, &before, &following)?;
-    assert_eq!(rt; parse(alloc, &most).err(), None);
-    let over = repeated(alloc, 256, &before, &following)?;
+    let most: Repeated = (255, b"(", b")");
+    let over: Repeated = (256, b"(", b")");
+    let open: Repeated = (255, b"(", b"");
+    let last: Repeated = (255, b"(", b"      (");
+    assert_eq!(rt; fault_of(rt.alloc(), &[most])?, None);
     assert_eq!(rt;
-        parse(alloc, &over).err(),
+        fault_of(rt.alloc(), &[over])?,
         Some(ParseError::TooDeep { at: 0 })
     );
-    let mut two = repeated(alloc, 255, &before, &[])?;
-    two.extend_from_slice(&repeated(alloc, 255, &before, &[])?)?;
     assert_eq!(rt;
-        parse(alloc, &two).err(),
+        fault_of(rt.alloc(), &[open, open])?,
         Some(ParseError::Syntax { at: 0 })
     );
-    let mut later = repeated(alloc, 255, &before, &following)?;
-    later.extend_from_slice(&repeated(alloc, 255, &before, &last)?)?;
     assert_eq!(rt;
-        parse(alloc, &later).err(),
+        fault_of(rt.alloc(), &[most, last])?,
         Some(ParseError::TooDeep { at: 6 })
     );
     Ok(())

@@ -3,6 +3,7 @@ ghost use Rattle.std.specs.Prelude.{◌<◌};
 
 use qasm_lexer::{LexError, PieceLexer, Token, TokenKind, TokenList, lex};
 use std::alloc::Global;
+use std::process::Abort;
 use std::test::Fail;
 use zx_io::Pieces;
 
@@ -104,14 +105,18 @@ fn is_at(tokens: &[Token], i: usize, kind: TokenKind, bytes: &[u8], place: usize
     }
 }
 
-#[test]
-fn a_page_has_its_tokens(rt: HostRuntime) -> Result<(), Fail> {
-    let alloc = rt.alloc();
-    let tokens = lex(alloc, PAGE)?;
+// The tokens are those of the page.
+fn are_of_page(rt: &impl Abort, tokens: &[Token]) {
     assert_eq!(rt; tokens.len(), PAGE_TOKENS.len());
     for (i, (kind, bytes, place)) in PAGE_TOKENS.iter().enumerate() {
-        assert!(rt; is_at(&tokens, i, *kind, bytes, *place), "token {i}");
+        assert!(rt; is_at(tokens, i, *kind, bytes, *place), "token {i}");
     }
+}
+
+#[test]
+fn a_page_has_its_tokens(rt: HostRuntime) -> Result<(), Fail> {
+    let tokens = lex(rt.alloc(), PAGE)?;
+    are_of_page(&rt, &tokens);
     Ok(())
 }
 
@@ -154,32 +159,28 @@ fn lex_in_pieces(alloc: Global, text: &[u8], count: usize) -> Result<TokenList, 
     lexer.finish()
 }
 
+// The list has the tokens of the page.
+fn is_page(rt: &impl Abort, list: &TokenList) -> Result<(), Fail> {
+    are_of_page(rt, &list.tokens()?);
+    assert!(rt;
+        list.pool()
+            .starts_with(b"OPENQASM2.0;include\"qelib1.inc\";gategates(pis)")
+    );
+    Ok(())
+}
+
 #[test]
 fn a_page_in_pieces_has_its_tokens(rt: HostRuntime) -> Result<(), Fail> {
     let alloc = rt.alloc();
     for count in [1, 7, 1000] {
         let list = lex_in_pieces(alloc, PAGE, count.max(1))?;
-        let tokens = list.tokens()?;
-        assert_eq!(rt; tokens.len(), PAGE_TOKENS.len());
-        for (i, (kind, bytes, place)) in PAGE_TOKENS.iter().enumerate() {
-            assert!(rt;
-                is_at(&tokens, i, *kind, bytes, *place),
-                "token {i} in pieces of {count}"
-            );
-        }
-        assert!(rt;
-            list.pool()
-                .starts_with(b"OPENQASM2.0;include\"qelib1.inc\";gategates(pis)")
-        );
+        is_page(&rt, &list)?;
     }
     Ok(())
 }
 
-#[test]
-fn pieces_end_anywhere(rt: HostRuntime) -> Result<(), Fail> {
-    let alloc = rt.alloc();
-    // A number that goes on, a comment that ends with its piece, and a last token with nothing behind it.
-    let mut lexer = PieceLexer::new(alloc);
+// Takes pieces in: a number that goes on, a comment that ends with its piece, and a last token with nothing behind it.
+fn take_pieces(lexer: &mut PieceLexer) -> Result<(), Fail> {
     for piece in [
         b"q 1".as_slice(),
         b"2.5e+",
@@ -192,7 +193,11 @@ fn pieces_end_anywhere(rt: HostRuntime) -> Result<(), Fail> {
     ] {
         lexer.take(piece)?;
     }
-    let list = lexer.finish()?;
+    Ok(())
+}
+
+// The list has the tokens of these pieces.
+fn has_tokens(rt: &impl Abort, list: &TokenList) -> Result<(), Fail> {
     assert_eq!(rt; list.pool(), b"q12.5e+7cmeasure".as_slice());
     let tokens = list.tokens()?;
     assert_eq!(rt; tokens.len(), 4);
@@ -200,6 +205,14 @@ fn pieces_end_anywhere(rt: HostRuntime) -> Result<(), Fail> {
     assert!(rt; is_at(&tokens, 2, TokenKind::Identifier, b"c", 18));
     assert!(rt; is_at(&tokens, 3, TokenKind::Measure, b"measure", 20));
     Ok(())
+}
+
+#[test]
+fn pieces_end_anywhere(rt: HostRuntime) -> Result<(), Fail> {
+    let mut lexer = PieceLexer::new(rt.alloc());
+    take_pieces(&mut lexer)?;
+    let list = lexer.finish()?;
+    has_tokens(&rt, &list)
 }
 
 #[test]

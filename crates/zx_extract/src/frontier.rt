@@ -2,7 +2,8 @@
 
 ghost use Rattle.std.specs.Prelude.{◌≡◌, ◌≢◌, ◌<◌, ◌≤◌, ℕ, true, false, [], ◌∷◌, ◌++◌, length, slice_get, Some, IfOk, OnOk};
 ghost use Rattle.zx_model.specs.Bits.{member};
-ghost use Rattle.zx_calculus.specs.Graph.{end_vertices, WellFormed};
+ghost use Rattle.zx_calculus.specs.Graph.{end_vertices, Live, WellFormed};
+ghost use Rattle.zx_calculus.specs.Toggles.{across, IsToggled};
 ghost use Rattle.gflow_laws.specs.Flow.{IsFlow, SameSets};
 ghost use Rattle.zx_gates.specs.Circuit.{most_qubits};
 ghost use Rattle.zx_gates.specs.Lowering.{phase_gates};
@@ -168,8 +169,7 @@ impl Frontier {
         let added = self.present(c);
         let to = self.present(t);
         let row = self.graph.neighbour_set(added).clone()?;
-        let target = VertexSet::one(self.alloc, to)?;
-        self.graph.toggle_across(&target, &row)?;
+        toggle_edges(self.alloc, &mut self.graph, to, &row)?;
         self.flow.add_row(added, to)?;
         self.write_cx(t, c)
     }
@@ -189,4 +189,20 @@ impl Frontier {
             target: c,
         })
     }
+}
+
+// Toggles the edges between a vertex and those of a set. Where memory runs out, the graph may be any.
+pub(crate) fn toggle_edges(
+    alloc: Global,
+    graph: &mut OpenGraph,
+    v: VertexId,
+    others: &VertexSet,
+) -> Result<(), AllocError>
+    requires live { Live graph.old.graph v }
+    requires others_live { (w : ℕ) → member w others.now.ids ≡ true → Live graph.old.graph w }
+    ensures { OnOk result
+        (IsToggled graph.old.graph (across (v ∷ []) others.now.ids) graph.new.graph) }
+{
+    let one = VertexSet::one(alloc, v)?;
+    graph.toggle_across(&one, others)
 }

@@ -1,8 +1,8 @@
 //! The last correction set of a flow, and sums of its rows.
 
 ghost use Rattle.std.specs.Prelude.{◌≡◌, ◌<◌, ℕ, true, false, not, ◌&&◌, ◌==◌, length, IfOk, IfNone, IfSome, OnOk};
-ghost use Rattle.zx_model.specs.Bits.{member};
-ghost use Rattle.zx_calculus.specs.Graph.{end_vertices, plane_of, Live, WellFormed};
+ghost use Rattle.zx_model.specs.Bits.{member, xor};
+ghost use Rattle.zx_calculus.specs.Graph.{end_vertices, joined, plane_of, Live, WellFormed};
 ghost use Rattle.zx_calculus.specs.Graph as zx;
 ghost use Rattle.circuit_laws.specs.Peeling.{HasPlainOutput, are_plain};
 ghost use Rattle.zx_extract.specs.Internal.Frontiers.{state_of};
@@ -11,8 +11,8 @@ ghost use Rattle.zx_extract.specs.Internal.Lists.{last_set};
 ghost use Rattle.zx_extract.specs.Internal.Steps.{HasLast, IsPicked, HasNoOutput, IsGathered, IsGatheredBesideRow, IsRowReplaced};
 
 use crate::choosing::{Candidate, cheaper};
-use crate::frontier::Frontier;
-use open_graph::{End, VertexId, VertexSet};
+use crate::frontier::{Frontier, toggle_edges};
+use open_graph::{End, OpenGraph, VertexId, VertexSet};
 use std::alloc::AllocError;
 use zx_gates::Qubit;
 
@@ -79,11 +79,8 @@ impl Frontier {
         ensures { OnOk result (IsRowReplaced (state_of self.old) v t (state_of self.new)) }
     {
         let link = self.present(t);
-        let row = self.graph.neighbour_set(v).clone()?;
-        let mut change = without_ends(row, self.graph.outputs())?;
-        change.toggle_all(self.graph.neighbour_set(link))?;
-        let target = VertexSet::one(self.alloc, link)?;
-        self.graph.toggle_across(&target, &change)
+        let change = row_change(&self.graph, v, link)?;
+        toggle_edges(self.alloc, &mut self.graph, link, &change)
     }
 
     // Gathers the set of a gadget at an output, whose row is then that of the gadget without its
@@ -100,6 +97,21 @@ impl Frontier {
         self.gather_sets(t)?;
         self.replace_row(v, t)
     }
+}
+
+// What the neighbours of v that aren't outputs differ in from those of another vertex.
+fn row_change(g: &OpenGraph, v: VertexId, link: VertexId) -> Result<VertexSet, AllocError>
+    requires live { Live g.now.graph v }
+    requires link_live { Live g.now.graph link }
+    ensures members { IfOk result (λ change. (w : ℕ) → member w change.ids ≡
+        xor (joined g.now.graph.edges v w && not (member w (end_vertices g.now.graph.outputs)))
+        (joined g.now.graph.edges link w)) }
+    ensures live { IfOk result (λ change. (w : ℕ) → member w change.ids ≡ true → Live g.now.graph w) }
+{
+    let row = g.neighbour_set(v).clone()?;
+    let mut change = without_ends(row, g.outputs())?;
+    change.toggle_all(g.neighbour_set(link))?;
+    Ok(change)
 }
 
 // A set without the vertices of ends.

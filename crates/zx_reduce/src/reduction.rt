@@ -8,6 +8,7 @@ ghost use Rattle.gflow_laws.specs.Flow.{IsFlow};
 ghost use Rattle.zx_calculus.specs.Exact.{KeepsMap};
 ghost use Rattle.zx_reduce.specs.Moving.{CountsMoves, GainsMoves, GainsRun, most_moves};
 ghost use Rattle.zx_reduce.specs.Rooms.{HasRoom};
+ghost use Rattle.zx_reduce.specs.Internal.Guiding.{IsGuided};
 
 use crate::in_place::reduce_in_place;
 use crate::room::has_room;
@@ -87,10 +88,43 @@ fn reduce_in_copies<L: Ledger>(
     ensures valid { WellFormed g.new.graph }
 {
     let mut work = Working::begin(g, f, trace)?;
+    make_moves(&mut work, steps)?;
+    put_back(work, g, f, trace)
+}
+
+// Makes moves until none is left.
+fn make_moves<L: Ledger>(work: &mut Working, steps: &mut Steps<L>) -> Result<(), AllocError>
+    requires { IsGuided work.old.graph.graph work.old.order work.old.candidates }
+    ensures reduced { OnOk result (IsReduced work.new.graph.graph) }
+    ensures guided { OnOk result
+        (IsGuided work.new.graph.graph work.new.order work.new.candidates) }
+    ensures moves { OnOk result (GainsMoves work.old.graph.graph work.new.graph.graph
+        work.old.trace.steps work.new.trace.steps steps.old steps.new) }
+    ensures err_counter { OnErr result
+        ((steps.old ≤ steps.new) × (steps.new ≤ steps.old + most_moves work.old.graph.graph)) }
+    ensures err_moves { OnErr result (CountsMoves work.old.graph.graph steps.old steps.new) }
+{
     while let Some(found) = work.candidates.next_move(&work.graph) {
         work.make(&found)?;
         steps.tick();
     }
+    Ok(())
+}
+
+// Graph and trace take the place of others, and a flow of the graph that of another.
+fn put_back(
+    work: Working,
+    g: &mut OpenGraph,
+    f: &mut Flow,
+    trace: &mut Trace,
+) -> Result<(), AllocError>
+    requires { IsGuided work.graph.graph work.order work.candidates }
+    ensures graph { OnOk result (g.new.graph ≡ work.graph.graph) }
+    ensures flow { OnOk result (IsFlow g.new.graph f.new.flow) }
+    ensures trace { OnOk result (trace.new.steps ≡ work.trace.steps) }
+    ensures err_graph { OnErr result ((g.new.graph ≡ g.old.graph) × (f.new.flow ≡ f.old.flow)) }
+    ensures err_trace { OnErr result (trace.new.steps ≡ trace.old.steps) }
+{
     let flow = work.flow()?;
     *g = work.graph;
     *f = flow;

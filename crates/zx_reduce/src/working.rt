@@ -7,7 +7,7 @@ ghost use Rattle.zx_calculus.specs.Steps.{allowed, IsStep};
 ghost use Rattle.gflow_laws.specs.Flow.{IsFlow};
 ghost use Rattle.zx_reduce.specs.Steps.{step_named};
 ghost use Rattle.zx_reduce.specs.Search.{AppliesAt, IsOfFirstKind};
-ghost use Rattle.zx_reduce.specs.Internal.Guiding.{IsGuided, IsGuidedBut};
+ghost use Rattle.zx_reduce.specs.Internal.Guiding.{IsGuided, IsGuidedBut, HasFlowIn, HasCandidates};
 ghost use Rattle.zx_reduce.specs.Internal.Planning.{GainsMove};
 
 use crate::candidates::Candidates;
@@ -44,10 +44,29 @@ impl Working {
         ensures valid { WellFormed g.now.graph }
     {
         let alloc = trace.alloc();
+        let candidates = Candidates::of_graph(alloc, g)?;
+        let order = Ranks::of_order(alloc, f.order())?;
+        Working::along(g, order, candidates, trace)
+    }
+
+    // The same with that order and these candidates.
+    fn along(
+        g: &OpenGraph,
+        order: Ranks,
+        candidates: Candidates,
+        trace: &Trace,
+    ) -> Result<Working, AllocError>
+        requires order { HasFlowIn g.now.graph order }
+        requires candidates { HasCandidates g.now.graph candidates }
+        ensures graph { IfOk result (λ work. work.graph.graph ≡ g.now.graph) }
+        ensures trace { IfOk result (λ work. work.trace.steps ≡ trace.now.steps) }
+        ensures guided { IfOk result (λ work.
+            IsGuided work.graph.graph work.order work.candidates) }
+    {
         Ok(Working {
             graph: g.copy()?,
-            order: Ranks::of_order(alloc, f.order())?,
-            candidates: Candidates::of_graph(alloc, g)?,
+            order,
+            candidates,
             trace: trace.copy()?,
         })
     }

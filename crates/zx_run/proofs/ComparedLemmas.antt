@@ -22,7 +22,7 @@ use Rattle.zx_same.specs.Comparing.{IfNotShown}
 use Rattle.zx_same.specs.Inverse.{undone_by}
 use Rattle.zx_run.specs.Comparing.{HaveSameMeasures, IsLeft, circuit_for}
 use Rattle.zx_run.specs.TwoTexts.{AreAccepted}
-use Rattle.zx_run.specs.Internal.Verdicts.{IsComparison, IsComparisonOf}
+use Rattle.zx_run.specs.Internal.Verdicts.{HasLeft, IsComparison, IsComparisonOf}
 
 -- ---- measurements
 
@@ -88,3 +88,9 @@ pub comparison_for : (text bytes : List ℕ) (one other : Elementary) (no : Bool
     → IsComparisonOf one other bytes no → IsComparison text bytes no
 comparison_for text bytes one other false accepted said = record { one = one; other = other; accepted = accepted; same = said }
 comparison_for text bytes one other true accepted said = record { one = one; other = other; accepted = accepted; difference = said }
+
+-- the circuit of which so many gates are left
+pub left_told : (a b : Circuit) (found : Sameness) (count : ℕ) → HasLeft found count → IfNotShown (Differ a b) found →
+    (left : Circuit) × (count ≡ length left.gates) × (a.gates ≢ b.gates) × IsLeft a b left
+left_told a b Same count told differ = absurd told
+left_told a b (NotShown left trace end) count told differ = (left, told, differ.0, differ.1)

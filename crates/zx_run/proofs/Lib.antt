@@ -1,5 +1,6 @@
 pub mod CountsLemmas
 pub mod OptimiseLemmas
+pub mod CandidateLemmas
 pub mod FaultLemmas
 pub mod ReadLemmas
 pub mod FileLemmas

@@ -66,8 +66,20 @@ pub record IsCleaned (read made : Circuit) : Type 0 where
 
 -- The circuit that is made is no dearer than a cleanup of the read one, where that is within the bound; nor
 -- than the read one, where that is.
-pub record IsBest (read made : Circuit) : Type 0 where
+pub record IsNoDearerThanRead (read made : Circuit) : Type 0 where
   pub cleaned : Circuit
   pub cleanup : IsCleaned read cleaned
   pub no_dearer : length cleaned.gates ≤ bound_of read → IsNoDearer (counts_of made.gates) (counts_of cleaned.gates)
   pub no_dearer_than_read : length read.gates ≤ bound_of read → IsNoDearer (counts_of made.gates) (counts_of read.gates)
+
+-- It is no dearer than one whose phases alone are changed, where that is within the bound.
+pub record IsNoDearerThanTeleported (read made : Circuit) : Type 0 where
+  pub teleported : Circuit
+  pub teleports : Teleports read teleported
+  pub no_dearer : length teleported.gates ≤ bound_of read →
+      IsNoDearer (counts_of made.gates) (counts_of teleported.gates)
+
+-- It is no dearer than these candidates.
+pub record IsBest (read made : Circuit) : Type 0 where
+  pub than_read : IsNoDearerThanRead read made
+  pub than_teleported : IsNoDearerThanTeleported read made

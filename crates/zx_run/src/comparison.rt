@@ -1,11 +1,12 @@
 //! From the two circuits that are read to the line about whether they are the same.
 
-ghost use Rattle.std.specs.Prelude.{◌≡◌, true, false, List, ℕ, Contains, IfOk};
+ghost use Rattle.std.specs.Prelude.{◌≡◌, true, false, List, ℕ, Contains, IfNone, IfOk, IfSome};
 ghost use Rattle.zx_gates.specs.declared.elementary.Measure.{Measure as Measured};
 ghost use Rattle.zx_gates.specs.Elementary.{IsElementary};
 ghost use Rattle.zx_run.specs.Comparing.{HaveSameMeasures, HaveSameWidths};
 ghost use Rattle.zx_run.specs.TwoTexts.{AreAccepted};
-ghost use Rattle.zx_run.specs.Internal.Verdicts.{IsComparison, IsComparisonOf};
+ghost use Rattle.zx_run.specs.Internal.Verdicts.{HasLeft, IsComparison, IsComparisonOf};
+ghost use Rattle.zx_same.specs.declared.comparing.Sameness.TheVariants.{Same};
 
 use crate::written::Written;
 use std::alloc::{AllocError, Global};
@@ -66,16 +67,31 @@ fn line_about_gates(
 {
     let first = lower(alloc, one)?;
     let second = lower(alloc, other)?;
-    match compare(alloc, &first, &second)? {
-        Sameness::Same => {
+    let found = compare(alloc, &first, &second)?;
+    drop(first);
+    drop(second);
+    let left = gates_left(&found);
+    drop(found);
+    match left {
+        None => {
             let line = format!(in alloc; "same\n")?;
             Ok(Written::done(line.into_bytes()))
         }
-        Sameness::NotShown { left, .. } => {
-            let count = left.gates().len();
+        Some(count) => {
             let line = format!(in alloc; "not shown {count}\n")?;
             Ok(no(line.into_bytes()))
         }
+    }
+}
+
+// How many gates are left where it isn't shown that the circuits are the same.
+fn gates_left(found: &Sameness) -> Option<usize>
+    ensures none { IfNone result (found.now ≡ Same) }
+    ensures some { IfSome result (HasLeft found.now) }
+{
+    match found {
+        Sameness::Same => None,
+        Sameness::NotShown { left, .. } => Some(left.gates().len()),
     }
 }
 

@@ -7,21 +7,24 @@ ghost use Rattle.zx_gates.specs.Maps.{amp};
 ghost use Rattle.zx_peephole.specs.Tidy.{IsTidy};
 ghost use Rattle.circuit_graph.specs.Translation.{translated};
 ghost use Rattle.zx_extract.specs.Simplified.{gate_bound, IsThroughReduced};
-ghost use Rattle.zx_run.specs.Optimising.{bound_of, counts_of, IsBest, IsCleaned, IsNoDearer, Optimises};
-ghost use Rattle.zx_run.specs.Internal.Candidates.{is_dearer};
+ghost use Rattle.zx_run.specs.Optimising.{bound_of, IsBest, IsCleaned, IsNoDearerThanRead, IsNoDearerThanTeleported, Optimises};
+ghost use Rattle.zx_run.specs.Internal.Candidates.{is_dearer, IsCandidate, IsNoDearerThan, IsTeleportedCleanup};
 
 use circuit_graph::translate;
 use std::alloc::{AllocError, Global};
 use zx_gates::{Counts, GateList, Qubit, counts};
 use zx_peephole::tidy;
+use zx_pieces::shrink;
 use zx_simplify::simplify;
+use zx_teleport::teleport;
 
 /// The optimised circuit: its linear map is the read one's up to a nonzero scalar, it has no more odd
 /// phases, and few gates for these and its qubits.
 ///
-/// With `best` the read circuit after cleanup is a candidate too, where it then has few enough gates. The
-/// candidate with the fewest odd phases is taken, then that with the fewest gates on two qubits, then
-/// the shorter one.
+/// With `best` there are further candidates, of which those are taken into account that have few enough gates: the read
+/// circuit after cleanup; the one whose phases alone are changed, after cleanup; and two that have pieces of this one and of
+/// the optimised one replaced by smaller circuits. The candidate with the fewest odd phases is taken, then that
+/// with the fewest gates on two qubits, then the shortest.
 ///
 /// # Errors
 ///
@@ -39,7 +42,7 @@ pub fn optimise(alloc: Global, read: &GateList, best: bool) -> Result<GateList, 
 {
     let simplified = simplified(alloc, read)?;
     if best {
-        better(read, simplified)
+        best_of(alloc, read, simplified)
     } else {
         Ok(simplified)
     }
@@ -56,20 +59,68 @@ fn simplified(alloc: Global, read: &GateList) -> Result<GateList, AllocError>
     Ok(made.gates)
 }
 
-// The simplified circuit, or the read one after cleanup where that is within the bound and cheaper.
-fn better(read: &GateList, simplified: GateList) -> Result<GateList, AllocError>
+// The best of all candidates.
+fn best_of(alloc: Global, read: &GateList, simplified: GateList) -> Result<GateList, AllocError>
     requires { Optimises read.now simplified }
     ensures optimises { IfOk result (Optimises read.now) }
     ensures best { IfOk result (IsBest read.now) }
 {
+    let shrunk = shrink(alloc, &simplified)?;
+    let best = cheaper(read, simplified, shrunk);
+    let best = beside_read(read, best)?;
+    let best = beside_teleported(alloc, read, best)?;
+    Ok(best)
+}
+
+// The cheaper one of a circuit and the read one after cleanup.
+fn beside_read(read: &GateList, best: GateList) -> Result<GateList, AllocError>
+    requires { Optimises read.now best }
+    ensures optimises { IfOk result (Optimises read.now) }
+    ensures than_read { IfOk result (IsNoDearerThanRead read.now) }
+{
     let cleaned = cleaned(read)?;
-    if !is_within_bound(read.qubits(), counts(read).odd, counts(&cleaned).total) {
-        return Ok(simplified);
+    Ok(cheaper(read, best, cleaned))
+}
+
+// The cheapest one of a circuit, the one whose phases alone are changed, and what pieces of that are replaced by.
+fn beside_teleported(alloc: Global, read: &GateList, best: GateList) -> Result<GateList, AllocError>
+    requires { Optimises read.now best }
+    ensures optimises { IfOk result (Optimises read.now) }
+    ensures than_best { IfOk result (λ made. IsNoDearerThan made best) }
+    ensures than_teleported { IfOk result (IsNoDearerThanTeleported read.now) }
+{
+    let teleported = teleported(alloc, read)?;
+    let shrunk = shrink(alloc, &teleported)?;
+    Ok(cheaper(read, cheaper(read, best, teleported), shrunk))
+}
+
+// The circuit whose phases alone are changed, after cleanup.
+fn teleported(alloc: Global, read: &GateList) -> Result<GateList, AllocError>
+    ensures { IfOk result (IsTeleportedCleanup read.now) }
+{
+    let found = teleport(alloc, read)?;
+    let mut made = found.gates;
+    tidy(&mut made);
+    Ok(made)
+}
+
+// A circuit, or a candidate where that is within the bound and cheaper.
+fn cheaper(read: &GateList, best: GateList, candidate: GateList) -> GateList
+    requires best { Optimises read.now best }
+    requires candidate { IsCandidate read.now candidate }
+    ensures optimises { Optimises read.now result }
+    ensures than_best { IsNoDearerThan result best }
+    ensures than_candidate { length candidate.gates ≤ bound_of read.now →
+        IsNoDearerThan result candidate }
+{
+    let count = counts(&candidate);
+    if !is_within_bound(read.qubits(), counts(read).odd, count.total) {
+        return best;
     }
-    if is_dearer(counts(&simplified), counts(&cleaned)) {
-        Ok(cleaned)
+    if is_dearer(counts(&best), count) {
+        candidate
     } else {
-        Ok(simplified)
+        best
     }
 }
 

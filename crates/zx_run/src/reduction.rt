@@ -1,6 +1,10 @@
 //! From a graph with a table of corrections to what `reduce` writes.
 
-ghost use Rattle.std.specs.Prelude.{◌≡◌, ◌<◌, IfOk};
+ghost use Rattle.std.specs.Prelude.{◌≡◌, ◌<◌, ◌≤◌, List, IfOk, OnOk};
+ghost use Rattle.zx_calculus.specs.Counts.{odd_phases};
+ghost use Rattle.zx_calculus.specs.Exact.{KeepsMap};
+ghost use Rattle.zx_calculus.specs.Reduced.{IsReduced};
+ghost use Rattle.zx_calculus.specs.Steps.{Step, IsRun};
 ghost use Rattle.gflow_laws.specs.Flow.{IsFlow, IsTableOf};
 ghost use Rattle.gflow_laws.specs.Seen.{seen};
 ghost use Rattle.zx_run.specs.FlowFiles.{IsReducedFile};
@@ -36,11 +40,15 @@ pub fn reduction(alloc: Global, graph: OpenGraph, table: FlowTable) -> Result<Wr
                 is_no: false,
             })
         }
-        Verdict::Fails { vertex, condition } => failure(alloc, vertex, condition),
+        Verdict::Fails { vertex, condition } => {
+            drop(graph);
+            drop(table);
+            failure(alloc, vertex, condition)
+        }
     }
 }
 
-// The file of the reduced graph with its flow. The moves are counted for nobody.
+// The file of the reduced graph with its flow.
 fn reduced_file<L: Ledger>(
     alloc: Global,
     graph: OpenGraph,
@@ -55,8 +63,28 @@ fn reduced_file<L: Ledger>(
 {
     let mut graph = graph;
     let mut flow = Flow::of_table(&graph, table)?;
+    reduce_alone::<L>(alloc, &mut graph, &mut flow, blank)?;
+    write_graph(alloc, &graph, Some(&flow))
+}
+
+// Reduces a graph along its flow. The steps aren't kept, and the moves are counted for nobody.
+fn reduce_alone<L: Ledger>(
+    alloc: Global,
+    graph: &mut OpenGraph,
+    flow: &mut Flow,
+    blank: Blank,
+) -> Result<(), AllocError>
+    requires flow { IsFlow graph.old.graph flow.old.flow }
+    requires name { blank.name ≡ L.name }
+    requires parts { blank.parts ≡ L.parts }
+    requires some { 0 < L.parts }
+    ensures run { OnOk result ((steps : List Step) × IsRun graph.old.graph steps graph.new.graph) }
+    ensures reduced { OnOk result (IsReduced graph.new.graph) }
+    ensures map { OnOk result (KeepsMap graph.old.graph graph.new.graph) }
+    ensures odd { OnOk result (odd_phases graph.new.graph ≤ odd_phases graph.old.graph) }
+    ensures is_flow { OnOk result (IsFlow graph.new.graph flow.new.flow) }
+{
     let mut trace = Trace::new(alloc);
     let mut moves = Steps::<L>::new(blank);
-    reduce(&mut graph, &mut flow, &mut trace, &mut moves)?;
-    write_graph(alloc, &graph, Some(&flow))
+    reduce(graph, flow, &mut trace, &mut moves)
 }

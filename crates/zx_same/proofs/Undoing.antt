@@ -17,7 +17,7 @@ use Rattle.zx_gates.specs.Maps.{amp, act, acts}
 use Rattle.zx_gates.specs.declared.gate.Gate.{Gate}
 use Rattle.zx_gates.specs.declared.gate.Gate.TheVariants.{H, Phase, Cz, Cx, Not}
 use Rattle.zx_gates.proofs.MapLemmas.{amp-acts, acts-append}
-use Rattle.zx_gates.proofs.Multiples.{Multiple, TakesOutFactors, multiple-refl, act-factor, proportional_of_multiple}
+use Rattle.zx_gates.proofs.Multiples.{Multiple, multiple-refl, act-factor, proportional_of_multiple}
 use Rattle.zx_peephole.specs.Tidy.{is_pair}
 use Rattle.zx_peephole.specs.Internal.Merging.{merged, doublings}
 use Rattle.zx_peephole.proofs.PairLemmas.{pair_law}
@@ -71,11 +71,6 @@ All-inverse n (gate ∷ gates) on =
 power-nonzero : (p : ℕ) → power_of_two p ≢ zero
 power-nonzero nought = one_nonzero
 power-nonzero (suc p) = mul-nonzero two (power_of_two p) two_nonzero (power-nonzero p)
-
-pub acts-factor : (n : ℕ) (gates : List Gate) → TakesOutFactors n (acts gates)
-acts-factor n [] d f g e x l = e x l
-acts-factor n (gate ∷ gates) d f g e x l =
-    act-factor n gate d (acts gates f) (acts gates g) (λ z lz. acts-factor n gates d f g e z lz) x l
 
 phases-cancel : (k : ℕ) → k < turn → sum_of_phases k (opposite_phase k) ≡ 0
 phases-cancel k below = omega arith

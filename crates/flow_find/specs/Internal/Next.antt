@@ -1,11 +1,13 @@
 -- Which vertex comes next, from the end of an order.
 use Rattle.std.specs.Prelude.{◌≡◌, true, ◌<◌, ◌≤◌, ℕ, ◌==◌, ◌⊎◌, List, ◌∷◌, ◌++◌, length}
-use Rattle.std.specs.Prelude.{slice_index_or}
+use Rattle.std.specs.Prelude.{slice_index_or, if◌then◌else◌}
 use Rattle.zx_model.specs.Bits.{member}
 use Rattle.zx_calculus.specs.Graph.{XY}
 use Rattle.gflow_laws.specs.Seen.{Seen}
 use Rattle.gflow_laws.specs.Flow.{Correction, set_of, is_in}
+use Rattle.gflow_laws.specs.Tables.{with_sets}
 use Rattle.flow_find.specs.declared.row.Row.{Row}
+use Rattle.flow_find.specs.Frontiers.{set_from}
 
 -- v is the only column of a row, and XY
 pub record IsAloneIn (s : Seen) (row : Row) (v : ℕ) : Type 0 where
@@ -50,6 +52,12 @@ pub record IsMoved (s : Seen) (rows : List Row) (last : ℕ) (old new : List ℕ
 
 abbrev pub IsChosen : Seen → List Row → ℕ → List ℕ → List ℕ → Type 0
 IsChosen s rows last old new = IsMoved s rows last old new ⊎ (new ≡ old)
+
+-- the set of v that the rows give is put into a table
+pub record IsSetFrom (s : Seen) (rows : List Row) (v : ℕ) (old new : List Correction) : Type 0 where
+  pub members : List ℕ
+  pub given : (w : ℕ) → member w members ≡ set_from s rows v w
+  pub put : new ≡ with_sets (λ u set. if u == v then members else set) old
 
 -- the vertices of these have the sets of a table in another
 abbrev pub HasSetsOf : List Correction → List ℕ → List Correction → Type 0

@@ -2,7 +2,6 @@
 use Rattle.std.specs.Prelude.{◌≡◌, ℕ, Bool, true, false, ◌&&◌, List}
 use Rattle.zx_model.specs.Bits.{xor, member}
 use Rattle.gflow_laws.specs.Seen.{Seen}
-use Rattle.gflow_laws.specs.Flow.{is_in}
 use Rattle.flow_find.specs.declared.row.Row.{Row}
 use Rattle.flow_find.specs.declared.search.Correctable.{Correctable}
 use Rattle.flow_find.specs.Frontiers.{combined, target_of, set_from}

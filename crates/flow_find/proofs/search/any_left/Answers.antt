@@ -1,9 +1,7 @@
 -- One vertex more was tried.
-use Rattle.std.proofs.Common.{◌≡◌, ℕ, Option, true}
-use Rattle.zx_model.specs.Bits.{member}
 use Rattle.gflow_laws.specs.Seen.{seen}
 use Rattle.gflow_laws.specs.Flow.{is_in}
-use Rattle.open_graph.proofs.Walks.{next_some, next_none, next_there, next_all, next_passed, all_passed}
+use Rattle.open_graph.proofs.Walks.{next_some, next_there, next_all, next_passed}
 use Rattle.flow_find.specs.Internal.Solving.{IsMissed}
 use Rattle.flow_find.proofs.search.any_left.Goals as goal
 

@@ -1,6 +1,5 @@
 -- One row more is without the column.
-use Rattle.std.proofs.Common.{◌∙◌, sym, subst, add-one, take_all, arith, true≢false, List}
-use Rattle.flow_find.specs.declared.row.Row.{Row}
+use Rattle.std.proofs.Common.{◌∙◌, sym, subst, add-one, take_all, arith, true≢false}
 use Rattle.flow_find.specs.Frontiers.{AreAll}
 use Rattle.flow_find.proofs.Changing.{IsWithout}
 use Rattle.flow_find.proofs.Solving.{without_more}

@@ -1,5 +1,5 @@
 -- An XY vertex itself, or a neighbour of another.
-use Rattle.std.proofs.Common.{◌≡◌, ◌∙◌, sym, ap, true}
+use Rattle.std.proofs.Common.{◌≡◌, ◌∙◌, sym, true}
 use Rattle.zx_model.specs.Bits.{member}
 use Rattle.zx_calculus.specs.Graph.{neighbours}
 use Rattle.zx_calculus.proofs.Toggling.{member-neighbours}

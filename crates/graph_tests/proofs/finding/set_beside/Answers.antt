@@ -1,18 +1,16 @@
 -- The flow of each plane.
-use Rattle.std.proofs.Common.{refl}
+use Rattle.std.proofs.Common.{rules, refl, sym, subst, [], ◌∷◌}
 use Rattle.open_graph.specs.Planes.{plane_named}
-use Rattle.graph_tests.specs.Drawn.{set_beside_an_output}
+use Rattle.zx_calculus.specs.Graph.{Plane, XY, XZ, YZ}
+use Rattle.gflow_laws.specs.Examples.{beside_an_output, by_both, by_itself, first_by_second}
 use Rattle.move_laws.specs.Orders.{HasFlowAlong}
-use Rattle.zx_calculus.specs.Graph as zx
-use Rattle.zx_calculus.specs.Graph.{Graph}
-use Rattle.gflow_laws.specs.Flow.{IsFlow}
-use Rattle.std.proofs.Common.{[], ◌∷◌}
 use Rattle.graph_tests.proofs.finding.set_beside.Goals as goal
 
-along : (g : Graph) (plane : zx.Plane) → IsFlow g (set_beside_an_output plane) → HasFlowAlong g (0 ∷ [])
-along g zx.XY flow = record { table = set_beside_an_output zx.XY; flow = flow; along = refl }
-along g zx.XZ flow = record { table = set_beside_an_output zx.XZ; flow = flow; along = refl }
-along g zx.YZ flow = record { table = set_beside_an_output zx.YZ; flow = flow; along = refl }
+along : (plane : Plane) → HasFlowAlong (beside_an_output plane) (0 ∷ [])
+along XY = record { table = first_by_second; flow = search rules; along = refl }
+along XZ = record { table = by_both; flow = search rules; along = refl }
+along YZ = record { table = by_itself 0 ∷ []; flow = search rules; along = refl }
 
 pub only_set-requires : goal.only_set-requires
-only_set-requires g c = along c.in_ok-graph.graph.graph (plane_named c.args.plane) c.in_ok-graph.ensures
+only_set-requires g c =
+    subst (λ h. HasFlowAlong h (0 ∷ [])) (sym c.in_ok-draw_beside_an_output.ensures) (along (plane_named c.args.plane))

@@ -1,52 +1,46 @@
--- The moves one after the other, and what they come to at the end.
-use Rattle.zx_reduce.proofs.MoveCounts.{most_moves-move}
-use Rattle.zx_reduce.proofs.MoveEnds.{stuck-reduced}
-use Rattle.zx_reduce.proofs.MovesMade.{none_made, one_made, gained_counter, gained_moves, no_moves, on_error, still_guided}
+-- What the moves on the copies come to.
+use Rattle.std.proofs.Common.{sym, subst, ◌≤◌, ◌+◌}
+use Rattle.zx_calculus.specs.Graph.{Graph}
+use Rattle.zx_calculus.specs.Reduced.{IsReduced}
+use Rattle.zx_calculus.proofs.Positions.{on_ok}
+use Rattle.zx_reduce.specs.Moving.{CountsMoves, most_moves}
+use Rattle.zx_reduce.proofs.Ranking.{on_all}
+use Rattle.zx_reduce.proofs.MovesMade.{gained_counter, gained_moves, no_moves, on_error, from_copies}
 use Rattle.zx_reduce.proofs.reduction.reduce_in_copies.Goals as goal
-
-pub loop-found-init : goal.loop-found-init
-loop-found-init g c =
-    none_made c.args.steps.now c.in_ok-work.ensures.guided c.in_ok-work.ensures.graph c.in_ok-work.ensures.trace
-
-pub loop-found-smaller : goal.loop-found-smaller
-loop-found-smaller g c =
-    most_moves-move c.loop-found.work.graph.graph c.make.new.self.graph.graph c.in-Some.found
-    c.loop-found.invariant.guided.valid c.in-Some.ensures.found c.in_ok-make.ensures.gains.run
-
-pub loop-found-preserved : goal.loop-found-preserved
-loop-found-preserved g c =
-    one_made {m = c.in-Some.found} c.loop-found.invariant c.in-Some.ensures.found c.in-Some.ensures.first
-    c.in_ok-make.ensures.gains c.in_ok-make.ensures.guided c.tick.ensures
 
 pub returns-clause-reduced : goal.returns-clause-reduced
 returns-clause-reduced g c =
-    stuck-reduced c.loop-found.work.graph.graph c.loop-found.invariant.guided.flow.flow.flow.table
-    c.loop-found.invariant.guided.valid c.loop-found.invariant.guided.flow.flow.flow.flow c.in_default.ensures.none
+    on_ok c.put_back.result (λ same. subst IsReduced (sym same) c.in_ok-make_moves.ensures.reduced) c.put_back.ensures.graph
 
-pub returns-in_err-make-clause-err_counter : goal.returns-in_err-make-clause-err_counter
-returns-in_err-make-clause-err_counter g c =
-    on_error c.from_residual-in_err-make.result
-    (gained_counter c.loop-found.invariant.gains c.begin.ensures.valid)
-
-pub returns-in_err-flow-clause-err_counter : goal.returns-in_err-flow-clause-err_counter
-returns-in_err-flow-clause-err_counter g c =
-    on_error c.from_residual-in_err-flow.result
-    (gained_counter c.loop-found.invariant.gains c.begin.ensures.valid)
+pub returns-clause-moves : goal.returns-clause-moves
+returns-clause-moves g c =
+    on_all c.put_back.result c.put_back.ensures.graph c.put_back.ensures.trace c.put_back.ensures.graph
+    (λ graph trace _. from_copies c.in_ok-work.ensures.graph c.in_ok-work.ensures.trace graph trace c.in_ok-make_moves.ensures.moves)
 
 pub returns-in_err-work-clause-err_moves : goal.returns-in_err-work-clause-err_moves
 returns-in_err-work-clause-err_moves g c =
     on_error c.from_residual.result (no_moves c.args.g.now.graph c.args.steps.now)
 
-pub returns-in_err-make-clause-err_moves : goal.returns-in_err-make-clause-err_moves
-returns-in_err-make-clause-err_moves g c =
-    on_error c.from_residual-in_err-make.result (gained_moves c.loop-found.invariant.gains)
+pub returns-in_err-make_moves-clause-err_counter : goal.returns-in_err-make_moves-clause-err_counter
+returns-in_err-make_moves-clause-err_counter g c =
+    on_error c.from_residual-in_err-make_moves.result
+    (subst (λ (h : Graph). (c.args.steps.now ≤ c.make_moves.new.steps) × (c.make_moves.new.steps ≤ c.args.steps.now + most_moves h))
+    c.in_ok-work.ensures.graph c.in_err-make_moves.ensures.err_counter)
 
-pub returns-in_err-flow-clause-err_moves : goal.returns-in_err-flow-clause-err_moves
-returns-in_err-flow-clause-err_moves g c =
-    on_error c.from_residual-in_err-flow.result (gained_moves c.loop-found.invariant.gains)
+pub returns-in_err-make_moves-clause-err_moves : goal.returns-in_err-make_moves-clause-err_moves
+returns-in_err-make_moves-clause-err_moves g c =
+    on_error c.from_residual-in_err-make_moves.result
+    (subst (λ (h : Graph). CountsMoves h c.args.steps.now c.make_moves.new.steps) c.in_ok-work.ensures.graph
+    c.in_err-make_moves.ensures.err_moves)
 
-pub make-requires-clause-guided : goal.make-requires-clause-guided
-make-requires-clause-guided g c = still_guided c.loop-found.invariant.guided c.next_move.ensures.all
+pub returns-clause-err_counter : goal.returns-clause-err_counter
+returns-clause-err_counter g c =
+    on_error c.put_back.result
+    (subst (λ (h : Graph). (c.args.steps.now ≤ c.make_moves.new.steps) × (c.make_moves.new.steps ≤ c.args.steps.now + most_moves h))
+    c.in_ok-work.ensures.graph (gained_counter c.in_ok-make_moves.ensures.moves c.in_ok-work.ensures.guided.valid))
 
-pub flow-requires : goal.flow-requires
-flow-requires g c = record { guided = still_guided c.loop-found.invariant.guided c.next_move.ensures.all }
+pub returns-clause-err_moves : goal.returns-clause-err_moves
+returns-clause-err_moves g c =
+    on_error c.put_back.result
+    (subst (λ (h : Graph). CountsMoves h c.args.steps.now c.make_moves.new.steps) c.in_ok-work.ensures.graph
+    (gained_moves c.in_ok-make_moves.ensures.moves))

@@ -1,0 +1,113 @@
+//! Circuits that may stand for others.
+
+ghost use Rattle.std.specs.Prelude.{◌≡◌, ◌≤◌, IfOk, IfSome, IsTrue};
+ghost use Rattle.zx_gates.specs.Circuit.{IsOnQubits, most_qubits};
+
+use crate::network::{Limits, rewritten};
+use crate::strings::MOST_QUBITS;
+use std::alloc::{AllocError, Global};
+use zx_gates::{Gate, GateList, Qubit};
+
+// How many looks at a string there are for each gate.
+const LOOKS: u64 = 100_000;
+
+/// A circuit that may have the map of another one, and fewer gates on two qubits, where such is found. Nothing is
+/// promised of either.
+///
+/// # Errors
+///
+/// Only where memory runs out.
+pub fn propose(alloc: Global, circuit: &GateList) -> Result<Option<GateList>, AllocError>
+    ensures { IfOk result (λ found. IfSome found (λ made. made.qubits ≡ circuit.now.qubits)) }
+{
+    let qubits = circuit.qubits();
+    if qubits > MOST_QUBITS {
+        return Ok(None);
+    }
+    let forwards = rewritten(alloc, qubits, circuit.gates(), limits_for(circuit.gates()))?;
+    let undone = inverse(alloc, circuit.gates())?;
+    let backwards = match rewritten(alloc, qubits, &undone, limits_for(&undone))? {
+        Some(gates) => Some(inverse(alloc, &gates)?),
+        None => None,
+    };
+    match shorter(forwards, backwards) {
+        Some(gates) => circuit_of(alloc, qubits, &gates),
+        None => Ok(None),
+    }
+}
+
+// The limits for gates: those on two qubits are to become no more.
+fn limits_for(gates: &[Gate]) -> Limits {
+    let count = u64::try_from(gates.len()).unwrap_or(u64::MAX);
+    Limits {
+        two_qubit: two_qubit_gates(gates).saturating_add(1),
+        looks: LOOKS.saturating_mul(count),
+    }
+}
+
+// How many gates are on two qubits.
+fn two_qubit_gates(gates: &[Gate]) -> usize {
+    gates
+        .iter()
+        .filter(|gate| matches!(gate, Gate::Cz(..) | Gate::Cx { .. }))
+        .count()
+}
+
+// The list with fewer gates on two qubits, or as many and no more gates in all.
+fn shorter(a: Option<Vec<Gate>>, b: Option<Vec<Gate>>) -> Option<Vec<Gate>> {
+    match (a, b) {
+        (Some(a), Some(b)) => Some(shorter_of(a, b)),
+        (Some(a), None) => Some(a),
+        (None, b) => b,
+    }
+}
+
+fn shorter_of(a: Vec<Gate>, b: Vec<Gate>) -> Vec<Gate> {
+    let (first, second) = (two_qubit_gates(&a), two_qubit_gates(&b));
+    if first < second || (first == second && a.len() <= b.len()) {
+        a
+    } else {
+        b
+    }
+}
+
+// The gates backwards, each with the opposite phase.
+fn inverse(alloc: Global, gates: &[Gate]) -> Result<Vec<Gate>, AllocError> {
+    let mut made = Vec::new(alloc);
+    for gate in gates.iter().rev() {
+        let undone = match *gate {
+            Gate::Phase(q, phase) => Gate::Phase(q, phase.neg()),
+            other => other,
+        };
+        made.push(undone)?;
+    }
+    Ok(made)
+}
+
+// The circuit of gates, where each is on its qubits.
+fn circuit_of(alloc: Global, qubits: Qubit, gates: &[Gate]) -> Result<Option<GateList>, AllocError>
+    requires { qubits ≤ most_qubits }
+    ensures { IfOk result (λ found. IfSome found (λ made. made.qubits ≡ qubits)) }
+{
+    let mut made = GateList::new(alloc, qubits);
+    for gate in gates {
+        if !is_on_qubits(qubits, gate) {
+            return Ok(None);
+        }
+        made.push(*gate)?;
+    }
+    Ok(Some(made))
+}
+
+// Whether a gate is one of a circuit of so many qubits.
+fn is_on_qubits(qubits: Qubit, gate: &Gate) -> bool
+    ensures { IsTrue result → IsOnQubits qubits gate.now }
+{
+    match *gate {
+        Gate::H(q) => q < qubits,
+        Gate::Phase(q, phase) => q < qubits && phase.get() != 0,
+        Gate::Cz(p, q) => p < qubits && q < qubits && p != q,
+        Gate::Cx { control, target } => control < qubits && target < qubits && control != target,
+        Gate::Not(q) => q < qubits,
+    }
+}

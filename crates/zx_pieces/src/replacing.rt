@@ -1,0 +1,224 @@
+//! Pieces of a circuit, one after the other, replaced by smaller ones.
+
+ghost use Rattle.std.specs.Prelude.{◌≡◌, ◌≤◌, ◌<◌, ◌-◌, ◌+◌, ◌++◌, length, drop, IfOk, IfSome, OnOk, IsTrue};
+ghost use Rattle.zx_model.specs.Proportional.{Proportional};
+ghost use Rattle.std.specs.List.{All};
+ghost use Rattle.zx_gates.specs.Circuit.{gate_odd_phases, most_qubits, IsCircuit, IsGateOn};
+ghost use Rattle.zx_gates.specs.Maps.{amp};
+ghost use Rattle.piece_laws.specs.Places.{ArePlaces, placed};
+ghost use Rattle.piece_laws.specs.Replacement.{IsNoLarger, IsReplacement};
+ghost use Rattle.zx_pieces.specs.Internal.Working.{Adds, IsAt, left_of};
+
+use crate::narrowing::{narrowed, widened};
+use crate::walking::gather;
+use pauli_network::propose;
+use std::alloc::{AllocError, Global};
+use zx_gates::{Gate, GateList, Qubit, counts};
+use zx_peephole::tidy;
+use zx_same::{Sameness, compare};
+
+/// Replaces pieces of a circuit by smaller circuits of the same map, where such are found. A piece is
+/// on at most `most` qubits, or has one gate alone; its gates stand among `reach` gates in a row, or
+/// did so after pieces before it were taken out.
+///
+/// # Errors
+///
+/// Only where memory runs out.
+pub fn replace_pieces(
+    alloc: Global,
+    circuit: &GateList,
+    most: usize,
+    reach: usize,
+) -> Result<GateList, AllocError>
+    ensures qubits { IfOk result (λ made. made.qubits ≡ circuit.now.qubits) }
+    ensures replacement { IfOk result (λ made.
+        IsReplacement circuit.now.qubits circuit.now.gates made.gates) }
+{
+    let gates = circuit.gates();
+    let mut work = Work {
+        done: GateList::new(alloc, circuit.qubits()),
+        passed: Vec::new(alloc),
+        next: 0,
+    };
+    'pieces: while work.next < gates.len() || !work.passed.is_empty() {
+        work.replace_one(alloc, gates, most, reach)?;
+    }
+    Ok(work.done)
+}
+
+// Where the replacement stands.
+#[derive(Drop)]
+struct Work {
+    // The pieces so far, as they were replaced.
+    done: GateList,
+    // The gates that were passed over.
+    passed: Vec<Gate>,
+    // The first gate that wasn't reached.
+    next: usize,
+}
+
+impl Work {
+    // Gathers a piece from the gates that are left, and puts what replaces it behind what is done.
+    fn replace_one(
+        &mut self,
+        alloc: Global,
+        gates: &[Gate],
+        most: usize,
+        reach: usize,
+    ) -> Result<(), AllocError>
+        requires at { IsAt self.old.done.qubits gates.now self.old }
+        requires some { 0 < left_of gates.now self.old }
+        ensures qubits { OnOk result (self.new.done.qubits ≡ self.old.done.qubits) }
+        ensures at { OnOk result (IsAt self.old.done.qubits gates.now self.new) }
+        ensures fewer { OnOk result (left_of gates.now self.new < left_of gates.now self.old) }
+    {
+        self.fill(gates, reach)?;
+        let walk = gather(alloc, self.done.qubits(), &self.passed, most)?;
+        add_piece(&mut self.done, alloc, &walk.piece, &walk.places)?;
+        self.passed = walk.passed;
+        Ok(())
+    }
+
+    // Puts gates behind those that were passed over, up to so many of both, one at least if there is
+    // one.
+    fn fill(&mut self, gates: &[Gate], reach: usize) -> Result<(), AllocError>
+        requires { self.old.next ≤ length gates.now }
+        ensures done { self.new.done ≡ self.old.done }
+        ensures within { OnOk result (self.new.next ≤ length gates.now) }
+        ensures same { OnOk result (self.new.passed.items ++ drop self.new.next gates.now ≡
+            self.old.passed.items ++ drop self.old.next gates.now) }
+        ensures some { 0 < left_of gates.now self.old → OnOk result (0 < length self.new.passed.items) }
+    {
+        let rest = &gates[self.next..];
+        let room = reach.saturating_sub(self.passed.len()).max(1);
+        let count = rest.len().min(room);
+        self.passed.extend_from_slice(&rest[..count])?;
+        self.next += count;
+        Ok(())
+    }
+}
+
+// Adds a piece on these qubits after all other gates, or what replaces it.
+fn add_piece(
+    done: &mut GateList,
+    alloc: Global,
+    piece: &GateList,
+    places: &[Qubit],
+) -> Result<(), AllocError>
+    requires places { ArePlaces piece.now.qubits places.now }
+    requires piece { IsCircuit piece.now }
+    requires same { done.old.qubits ≡ piece.now.qubits }
+    ensures qubits { OnOk result (done.new.qubits ≡ done.old.qubits) }
+    ensures adds { OnOk result
+        (Adds piece.now.qubits done.old.gates piece.now.gates done.new.gates) }
+{
+    match replacement(alloc, piece, places)? {
+        Some(made) => append(done, &made),
+        None => append(done, piece),
+    }
+}
+
+// What a piece on these qubits is replaced by: a smaller circuit that is shown to be the same, if one is
+// found.
+fn replacement(
+    alloc: Global,
+    piece: &GateList,
+    places: &[Qubit],
+) -> Result<Option<GateList>, AllocError>
+    requires { ArePlaces piece.now.qubits places.now }
+    ensures qubits { IfOk result (λ found. IfSome found (λ made. made.qubits ≡ piece.now.qubits)) }
+    ensures replacement { IfOk result (λ found. IfSome found (λ made.
+        IsReplacement piece.now.qubits piece.now.gates made.gates)) }
+{
+    match narrowed(alloc, piece, places)? {
+        Some(small) => widened_smaller(alloc, piece.qubits(), &small, places),
+        None => Ok(None),
+    }
+}
+
+// The same for a piece on its own qubits alone, which are these of so many.
+fn widened_smaller(
+    alloc: Global,
+    qubits: Qubit,
+    small: &GateList,
+    places: &[Qubit],
+) -> Result<Option<GateList>, AllocError>
+    requires few { qubits ≤ most_qubits }
+    requires places { ArePlaces qubits places.now }
+    requires small { small.now.qubits ≡ length places.now }
+    requires gates { All (IsGateOn (length places.now)) small.now.gates }
+    ensures qubits { IfOk result (λ found. IfSome found (λ made. made.qubits ≡ qubits)) }
+    ensures replacement { IfOk result (λ found. IfSome found (λ made.
+        IsReplacement qubits (placed places.now small.now.gates) made.gates)) }
+{
+    match smaller(alloc, small)? {
+        Some(made) => Ok(Some(widened(alloc, qubits, &made, places)?)),
+        None => Ok(None),
+    }
+}
+
+// A smaller circuit that is shown to be the same, if one is found.
+fn smaller(alloc: Global, piece: &GateList) -> Result<Option<GateList>, AllocError>
+    ensures qubits { IfOk result (λ found. IfSome found (λ made. made.qubits ≡ piece.now.qubits)) }
+    ensures replacement { IfOk result (λ found. IfSome found (λ made.
+        IsReplacement piece.now.qubits piece.now.gates made.gates)) }
+{
+    let Some(made) = proposal(alloc, piece)? else {
+        return Ok(None);
+    };
+    if is_smaller(&made, piece) && are_same(alloc, piece, &made)? {
+        return Ok(Some(made));
+    }
+    Ok(None)
+}
+
+// Another circuit on as many qubits, after cleanup.
+fn proposal(alloc: Global, piece: &GateList) -> Result<Option<GateList>, AllocError>
+    ensures { IfOk result (λ found. IfSome found (λ made. made.qubits ≡ piece.now.qubits)) }
+{
+    let Some(mut made) = propose(alloc, piece)? else {
+        return Ok(None);
+    };
+    tidy(&mut made);
+    Ok(Some(made))
+}
+
+// Whether a circuit has no more odd phases than another, and fewer gates on two qubits, or as many of
+// these and fewer gates in all.
+fn is_smaller(this: &GateList, that: &GateList) -> bool
+    ensures odd { IsTrue result → gate_odd_phases this.now.gates ≤ gate_odd_phases that.now.gates }
+    ensures size { IsTrue result → IsNoLarger this.now.gates that.now.gates }
+{
+    let (this, that) = (counts(this), counts(that));
+    if this.odd > that.odd {
+        return false;
+    }
+    if this.two_qubit != that.two_qubit {
+        return this.two_qubit < that.two_qubit;
+    }
+    this.total < that.total
+}
+
+// Whether it is shown that two circuits have one map.
+fn are_same(alloc: Global, a: &GateList, b: &GateList) -> Result<bool, AllocError>
+    requires { a.now.qubits ≡ b.now.qubits }
+    ensures { IfOk result (λ same. IsTrue same →
+        Proportional a.now.qubits a.now.qubits (amp a.now.gates) (amp b.now.gates)) }
+{
+    match compare(alloc, a, b)? {
+        Sameness::Same => Ok(true),
+        Sameness::NotShown { .. } => Ok(false),
+    }
+}
+
+// Adds the gates of a circuit after all others.
+fn append(list: &mut GateList, other: &GateList) -> Result<(), AllocError>
+    requires { list.old.qubits ≡ other.now.qubits }
+    ensures qubits { OnOk result (list.new.qubits ≡ list.old.qubits) }
+    ensures gates { OnOk result (list.new.gates ≡ list.old.gates ++ other.now.gates) }
+{
+    for gate in other.gates() {
+        list.push(*gate)?;
+    }
+    Ok(())
+}
