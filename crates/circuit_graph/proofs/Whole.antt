@@ -1,8 +1,12 @@
 -- What holds of the graph of a circuit.
-use Rattle.std.proofs.Common.{◌≡◌, sym, ◌∙◌, ap, subst, ltb-true, [], length, arith}
+use Rattle.std.proofs.Common.{◌≡◌, refl, sym, ◌∙◌, ap, subst, ltb-true, ℕ, ◌+◌, ◌*◌, pos, neg_ℤ, [], length, arith}
+use borrow.Author.Differences.{ints, up, down}
 use Rattle.std.specs.List.{All}
-use Rattle.zx_model.specs.Number.{one, mul}
+use Rattle.zx_model.specs.Number.{one, mul, root_power}
 use Rattle.zx_model.specs.Proportional.{Proportional}
+use Rattle.zx_model.specs.Scalar.{IsScaled}
+use Rattle.zx_model.proofs.Powers.{root_power-zero}
+use Rattle.zx_model.proofs.Scalars.{scaled_if}
 use Rattle.zx_model.proofs.Ring.{one-mul, one_nonzero}
 use Rattle.std.proofs.lemmas.List.FromFn.{length-map-range_with_len}
 use Rattle.zx_calculus.specs.Sum.{sum}
@@ -11,12 +15,14 @@ use Rattle.zx_calculus.specs.Worked.{plain}
 use Rattle.zx_gates.specs.Circuit.{Circuit, IsOnQubits}
 use Rattle.zx_gates.specs.Maps.{amp}
 use Rattle.zx_gates.proofs.MapLemmas.{amp-acts}
+use Rattle.zx_gates.proofs.Scaling.{root_of_two_power-twice}
 use Rattle.circuit_laws.specs.Followed.{EndsAt}
 use Rattle.circuit_laws.proofs.Composing.{peels_at_end, ends_at_sum}
 use Rattle.circuit_graph.specs.Translation.{wires, written_out, scalar_of}
 use Rattle.circuit_graph.specs.Internal.Runs.{State, begun, IsReady, IsRun, Comes, Translates}
+use Rattle.circuit_graph.specs.Internal.Scalars.{map_scalar, written_count}
 use Rattle.circuit_graph.proofs.RunLemmas.{run_comes}
-use Rattle.circuit_graph.proofs.WrittenOut.{spiders-written, odd-written, map-written, scalar_of-nonzero}
+use Rattle.circuit_graph.proofs.WrittenOut.{spiders-written, odd-written, map-written, scalar_of-nonzero, scalar_of-power}
 use Rattle.circuit_graph.proofs.Beginning.{odd-wires, begun_ends}
 use Rattle.circuit_laws.specs.Peeling.{are_plain}
 
@@ -60,3 +66,17 @@ translated_map c t e = record {
   right_nonzero = scalar_of-nonzero c.gates;
   equal = λ x y l m. one-mul _ ∙ e.sum x y l m;
 }
+
+-- the circuit's map by the sum
+pub translated_scaled : (c : Circuit) (t : State) → Translates c t → IsScaled c.qubits c.qubits (amp c.gates) (map_scalar c.gates) (sum t.graph)
+translated_scaled c t e =
+    scaled_if c.qubits c.qubits (amp c.gates) (sum t.graph) (map_scalar c.gates) (2 * count) 0 0 exponents refl (λ x y l m.
+    ap (λ k. mul k (amp c.gates x y)) (root_of_two_power-twice count ∙ sym (scalar_of-power c.gates))
+    ∙ sym (e.sum x y l m)
+    ∙ sym (ap (λ k. mul k (sum t.graph x y)) (one-mul (root_power 0) ∙ root_power-zero) ∙ one-mul (sum t.graph x y)))
+  where
+    count : ℕ
+    count = written_count c.gates
+
+    exponents : up (neg_ℤ (pos (2 * count))) + 2 * count ≡ 0 + down (neg_ℤ (pos (2 * count)))
+    exponents = omega (arith, ints)

@@ -1,10 +1,12 @@
 -- What becomes of a circuit's numbers and map when Cx and Not are written out.
-use Rattle.std.proofs.Common.{◌≡◌, ◌≢◌, refl, sym, ◌∙◌, ap, ℕ, ◌+◌, ◌*◌, Bool, cond, List, [], ◌∷◌, ◌++◌, arith}
+use Rattle.std.proofs.Common.{◌≡◌, ◌≢◌, refl, sym, ◌∙◌, ap, ap₂, ℕ, ◌+◌, ◌*◌, Bool, cond, List, [], ◌∷◌, ◌++◌, arith}
 use Rattle.std.specs.List.{All, count_by}
 use Rattle.std.proofs.lemmas.List.Elements.{All-head, All-tail}
 use Rattle.std.proofs.lemmas.List.Sums.{sum_by-append}
 use Rattle.zx_model.specs.Number.{Number, zero, mul}
-use Rattle.zx_model.proofs.Ring.{one-mul, one_nonzero, two_nonzero, mul_assoc}
+use Rattle.zx_model.specs.Constants.{two, power_of_two}
+use Rattle.zx_model.proofs.Powers.{power_of_two-add}
+use Rattle.zx_model.proofs.Ring.{one-mul, mul-one, one_nonzero, two_nonzero, mul_assoc}
 use Rattle.zx_model.proofs.Domain.{mul-nonzero}
 use Rattle.zx_gates.specs.Circuit.{IsOnQubits, gate_odd_phases, is_odd_phase}
 use Rattle.zx_gates.specs.Counting.{is_h, is_cx, is_not}
@@ -16,6 +18,7 @@ use Rattle.zx_gates.proofs.Multiples.{act-factor}
 use Rattle.circuit_laws.specs.Followed.{IsMultiple}
 use Rattle.circuit_laws.proofs.ByHadamards.{cx_by_three, not_by_three}
 use Rattle.circuit_graph.specs.Translation.{by_hadamards, written_out, gate_scalar, scalar_of}
+use Rattle.circuit_graph.specs.Internal.Scalars.{written_count}
 
 pub count-cons : (p : Gate → Bool) (gate : Gate) (gates : List Gate) →
     count_by p (gate ∷ gates) ≡ count_by p (gate ∷ []) + count_by p gates
@@ -75,3 +78,18 @@ gate_scalar-nonzero (Not q) = two_nonzero
 pub scalar_of-nonzero : (gates : List Gate) → scalar_of gates ≢ zero
 scalar_of-nonzero [] = one_nonzero
 scalar_of-nonzero (gate ∷ gates) = mul-nonzero (gate_scalar gate) (scalar_of gates) (gate_scalar-nonzero gate) (scalar_of-nonzero gates)
+
+-- the number of a list is a power of two
+power-gate : (gate : Gate) → gate_scalar gate ≡ power_of_two (written_count (gate ∷ []))
+power-gate (H q) = refl
+power-gate (Phase q k) = refl
+power-gate (Cz p q) = refl
+power-gate (Cx control target) = sym (mul-one two)
+power-gate (Not q) = sym (mul-one two)
+
+pub scalar_of-power : (gates : List Gate) → scalar_of gates ≡ power_of_two (written_count gates)
+scalar_of-power [] = refl
+scalar_of-power (gate ∷ gates) =
+    let both : written_count (gate ∷ []) + written_count gates ≡ written_count (gate ∷ gates) =
+    omega (arith, count-cons is_cx gate gates, count-cons is_not gate gates) in
+    ap₂ mul (power-gate gate) (scalar_of-power gates) ∙ sym (power_of_two-add (written_count (gate ∷ [])) (written_count gates)) ∙ ap power_of_two both

@@ -2,13 +2,13 @@
 //!
 //! Proved of `translate`: the graph is well-formed, and the one that the definition makes of the
 //! circuit, whose vertices have the ids 0, 1, 2 and so on; its sum is the circuit's map times two
-//! for each Cx and Not, entry by entry; it has a spider for each qubit and each H, and two for each
-//! Cx and Not, all XY, no more odd phases than the circuit, and an input and an output for each
-//! qubit, all plain; the flow is one of it. `translate_placed` answers besides to which vertex each
-//! phase gate adds its phase.
+//! for each Cx and Not, entry by entry, and the scalar tells that the other way round; it has a
+//! spider for each qubit and each H, and two for each Cx and Not, all XY, no more odd phases than
+//! the circuit, and an input and an output for each qubit, all plain; the flow is one of it.
+//! `translate_placed` answers besides to which vertex each phase gate adds its phase.
 //!
 //! ```rust
-//! let (graph, flow) = translate(alloc, &circuit)?;
+//! let (graph, flow, scalar) = translate(alloc, &circuit)?;
 //! ```
 #![tactic(auto)]
 

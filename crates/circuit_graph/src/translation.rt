@@ -1,8 +1,9 @@
 //! The graph of a circuit, with its flow.
 
-ghost use Rattle.std.specs.Prelude.{◌≡◌, ◌<◌, ◌≤◌, ℕ, true, Bool, List, length, IfOk};
+ghost use Rattle.std.specs.Prelude.{◌≡◌, ◌<◌, ◌≤◌, ◌*◌, ℕ, true, Bool, List, length, IfOk};
 ghost use Rattle.zx_model.specs.Number.{mul};
 ghost use Rattle.zx_model.specs.Proportional.{Proportional};
+ghost use Rattle.zx_model.specs.Scalar.{IsScaled, IsWithin};
 ghost use Rattle.zx_calculus.specs.Graph.{plane_of, Live, WellFormed};
 ghost use Rattle.zx_calculus.specs.Graph as zx;
 ghost use Rattle.zx_calculus.specs.Sum.{sum};
@@ -14,16 +15,18 @@ ghost use Rattle.circuit_laws.specs.Peeling.{are_plain};
 ghost use Rattle.circuit_graph.specs.Translation.{spiders_of, scalar_of, translated, places};
 ghost use Rattle.circuit_graph.specs.Internal.Wires.{state_of};
 ghost use Rattle.circuit_graph.specs.Internal.Runs.{Translates};
+ghost use Rattle.circuit_graph.specs.Internal.Scalars.{map_scalar};
 
 use crate::wires::Wires;
 use open_graph::{OpenGraph, VertexId};
 use std::alloc::{AllocError, Global};
 use zx_flow::Flow;
-use zx_gates::GateList;
+use zx_gates::{GateList, counts};
+use zx_model::{Scalar, Sixteenth};
 
 /// The open graph of a circuit, and a flow of it: each spider but the last of a wire is corrected by the next one, in
-/// the order in which the wires leave them.
-pub fn translate(alloc: Global, circuit: &GateList) -> Result<(OpenGraph, Flow), AllocError>
+/// the order in which the wires leave them; and the scalar that the circuit's map is times the sum of the graph.
+pub fn translate(alloc: Global, circuit: &GateList) -> Result<(OpenGraph, Flow, Scalar), AllocError>
     ensures graph { IfOk result (λ made. made.0.graph ≡ translated circuit.now) }
     ensures well_formed { IfOk result (λ made. WellFormed made.0.graph) }
     ensures flow { IfOk result (λ made. IsFlow made.0.graph made.1.flow) }
@@ -35,6 +38,9 @@ pub fn translate(alloc: Global, circuit: &GateList) -> Result<(OpenGraph, Flow),
     ensures exact { IfOk result (λ made. (x y : List Bool) →
         length x ≡ circuit.now.qubits → length y ≡ circuit.now.qubits →
         sum made.0.graph x y ≡ mul (scalar_of circuit.now.gates) (amp circuit.now.gates x y)) }
+    ensures scaled { IfOk result (λ made. IsScaled circuit.now.qubits circuit.now.qubits
+        (amp circuit.now.gates) made.2 (sum made.0.graph)) }
+    ensures small { IfOk result (λ made. IsWithin (4 * length circuit.now.gates) made.2) }
 
     // Its vertices.
     ensures spiders { IfOk result (λ made. length made.0.graph.vertices ≡ spiders_of circuit.now) }
@@ -54,7 +60,20 @@ pub fn translate(alloc: Global, circuit: &GateList) -> Result<(OpenGraph, Flow),
     let wires = wires_of(alloc, circuit)?;
     let graph = wires.graph;
     let flow = Flow::of_table(&graph, wires.table)?;
-    Ok((graph, flow))
+    Ok((graph, flow, scalar_of(circuit)))
+}
+
+// The scalar that a circuit's map is times the sum of its graph: half for each gate that is written out.
+fn scalar_of(circuit: &GateList) -> Scalar
+    ensures value { result ≡ map_scalar circuit.now.gates }
+    ensures small { IsWithin (4 * length circuit.now.gates) result }
+{
+    let counts = counts(circuit);
+    let power = 2 * (counts.cx + counts.nots);
+    Scalar {
+        root2: -(power as i64),
+        turn: Sixteenth::new(0),
+    }
 }
 
 /// The same, and for each gate the vertex to which it adds a phase, where it is a phase gate.

@@ -11,4 +11,6 @@ mod lowering;
 #[cfg(test)]
 mod reports;
 #[cfg(test)]
+mod scalars;
+#[cfg(test)]
 mod texts;

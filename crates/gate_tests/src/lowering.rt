@@ -70,7 +70,7 @@ fn lowered_unitary(alloc: Global, angles: [u8; 3]) -> Result<Vec<u8>, Fail> {
         bits: 0,
         measured: Measures::new(alloc),
     };
-    let list = lower(alloc, &circuit)?;
+    let (list, _) = lower(alloc, &circuit)?;
     let mut bytes = Vec::new(alloc);
     for gate in list.gates() {
         bytes.push(match *gate {
@@ -126,7 +126,7 @@ fn cx_stays(rt: HostRuntime) -> Result<(), Fail> {
         bits: 0,
         measured: Measures::new(rt.alloc()),
     };
-    let list = lower(rt.alloc(), &circuit)?;
+    let (list, _) = lower(rt.alloc(), &circuit)?;
     assert_eq!(rt;
         list.gates(),
         [Gate::Cx {

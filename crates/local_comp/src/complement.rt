@@ -1,6 +1,6 @@
 //! The local complement about a vertex.
 
-ghost use Rattle.std.specs.Prelude.{◌≡◌, true, IsOk, OnOk, OnErr};
+ghost use Rattle.std.specs.Prelude.{◌≡◌, true, IsOk, IfOk, OnOk, OnErr};
 ghost use Rattle.zx_model.specs.Bits.{member};
 ghost use Rattle.zx_calculus.specs.Graph.{ids, plane_of, Live, Interior, WellFormed};
 ghost use Rattle.zx_calculus.specs.Steps.{allowed, IsStep, LocalComplement};
@@ -9,6 +9,7 @@ ghost use Rattle.zx_calculus.specs.Toggles.{with_changed};
 ghost use Rattle.zx_calculus.specs.Turns.{in_plane, complemented};
 ghost use Rattle.zx_bits.specs.Sets.{IsBelow};
 ghost use Rattle.gflow_laws.specs.Seen.{seen};
+ghost use Rattle.zx_calculus.specs.StepScalars.{step_scalar};
 ghost use Rattle.gflow_laws.specs.Flow.{order_of, set_of, IsFlow, SameSets};
 ghost use Rattle.gflow_laws.specs.Complements.{complement_table};
 ghost use Rattle.gflow_laws.specs.Correcting.{odd_in};
@@ -17,20 +18,23 @@ ghost use Rattle.open_graph.specs.Planes.{plane_named};
 ghost use Rattle.zx_flow.specs.Flows.{HaveReach};
 
 use crate::neighbours::turn_neighbours;
+use crate::scalars::complement_scalar;
 use open_graph::{OpenGraph, Plane, VertexId};
 use std::alloc::AllocError;
+use std::mem;
 use zx_flow::Flow;
-use zx_model::Sixteenth;
+use zx_model::{Scalar, Sixteenth};
 
 /// A local complement about an interior vertex: each edge between two of its neighbours comes where
 /// there is none and goes where there is one, each neighbour turns by a quarter, and the vertex
 /// gets a change of its own. Where memory runs out, graph and flow stay as they were; where all
 /// vertices are below the reach of both, none is needed.
-pub fn local_complement(g: &mut OpenGraph, f: &mut Flow, u: VertexId) -> Result<(), AllocError>
+pub fn local_complement(g: &mut OpenGraph, f: &mut Flow, u: VertexId) -> Result<Scalar, AllocError>
     requires flow { IsFlow g.old.graph f.old.flow }
     requires allowed { allowed g.old.graph (LocalComplement u) ≡ true }
     ensures rewritten { OnOk result
         (IsRewritten g.old.graph f.old.flow (LocalComplement u) g.new.graph f.new.flow) }
+    ensures scalar { IfOk result (λ s. s ≡ step_scalar g.old.graph (LocalComplement u)) }
     ensures err { OnErr result ((g.new.graph ≡ g.old.graph) × (f.new.flow ≡ f.old.flow)) }
     ensures has_room { HaveReach g.old f.old → IsOk result }
     ensures spare { HaveReach g.old f.old →
@@ -50,20 +54,21 @@ fn local_complement_in_copies(
     g: &mut OpenGraph,
     f: &mut Flow,
     u: VertexId,
-) -> Result<(), AllocError>
+) -> Result<Scalar, AllocError>
     requires flow { IsFlow g.old.graph f.old.flow }
     requires allowed { allowed g.old.graph (LocalComplement u) ≡ true }
     ensures rewritten { OnOk result
         (IsRewritten g.old.graph f.old.flow (LocalComplement u) g.new.graph f.new.flow) }
+    ensures scalar { IfOk result (λ s. s ≡ step_scalar g.old.graph (LocalComplement u)) }
     ensures err { OnErr result ((g.new.graph ≡ g.old.graph) × (f.new.flow ≡ f.old.flow)) }
     ensures valid { WellFormed g.new.graph }
 {
     let mut graph = g.copy()?;
     let mut flow = f.copy()?;
-    local_complement_in_place(&mut graph, &mut flow, u)?;
-    *g = graph;
-    *f = flow;
-    Ok(())
+    let scalar = local_complement_in_place(&mut graph, &mut flow, u)?;
+    mem::swap(g, &mut graph);
+    mem::swap(f, &mut flow);
+    Ok(scalar)
 }
 
 /// Whether the id is that of an interior vertex.
@@ -80,17 +85,20 @@ pub fn local_complement_in_place(
     g: &mut OpenGraph,
     f: &mut Flow,
     u: VertexId,
-) -> Result<(), AllocError>
+) -> Result<Scalar, AllocError>
     requires flow { IsFlow g.old.graph f.old.flow }
     requires allowed { allowed g.old.graph (LocalComplement u) ≡ true }
     ensures rewritten { OnOk result
         (IsRewritten g.old.graph f.old.flow (LocalComplement u) g.new.graph f.new.flow) }
+    ensures scalar { IfOk result (λ s. s ≡ step_scalar g.old.graph (LocalComplement u)) }
     ensures has_room { HaveReach g.old f.old → IsOk result }
     ensures spare { OnOk result ((g.new.spare ≡ g.old.spare) × (f.new.spare ≡ f.old.spare)) }
     ensures reach { (g.new.reach ≡ g.old.reach) × (f.new.reach ≡ f.old.reach) }
 {
+    let scalar = complement_scalar(g, u);
     complement_sets(f, g, u)?;
-    local_complement_in_graph(g, u)
+    local_complement_in_graph(g, u)?;
+    Ok(scalar)
 }
 
 /// The graph's part of `local_complement`: where memory runs out, the graph may be any. Where all its

@@ -1,28 +1,32 @@
 //! The deletion of a vertex of half turns.
 
-ghost use Rattle.std.specs.Prelude.{◌≡◌, ◌+◌, true, IsOk, OnOk, OnErr};
+ghost use Rattle.std.specs.Prelude.{◌≡◌, ◌+◌, true, IsOk, IfOk, OnOk, OnErr};
 ghost use Rattle.zx_calculus.specs.Graph.{joined, phase_of, Live, WellFormed};
 ghost use Rattle.zx_calculus.specs.Steps.{allowed, Delete, IsStep};
 ghost use Rattle.zx_calculus.specs.Deletions.{delete_kind};
 ghost use Rattle.zx_calculus.specs.Toggles.{with_changed};
+ghost use Rattle.zx_calculus.specs.StepScalars.{step_scalar};
 ghost use Rattle.gflow_laws.specs.Flow.{IsFlow};
 ghost use Rattle.gflow_laws.specs.Rewritten.{IsRewritten};
 ghost use Rattle.zx_flow.specs.Flows.{HaveReach};
 
 use crate::neighbours::turn_neighbours;
+use crate::scalars::delete_scalar;
 use open_graph::{OpenGraph, Plane, VertexId};
 use std::alloc::AllocError;
+use std::mem;
 use zx_flow::Flow;
-use zx_model::Sixteenth;
+use zx_model::{Scalar, Sixteenth};
 
 /// Deletes an XZ or YZ vertex of phase 0 or of a half turn, which then each of its neighbours
 /// gets. Where memory runs out, graph and flow stay as they were; where all vertices are below the
 /// reach of both, none is needed.
-pub fn delete(g: &mut OpenGraph, f: &mut Flow, u: VertexId) -> Result<(), AllocError>
+pub fn delete(g: &mut OpenGraph, f: &mut Flow, u: VertexId) -> Result<Scalar, AllocError>
     requires flow { IsFlow g.old.graph f.old.flow }
     requires allowed { allowed g.old.graph (Delete u) ≡ true }
     ensures rewritten { OnOk result
         (IsRewritten g.old.graph f.old.flow (Delete u) g.new.graph f.new.flow) }
+    ensures scalar { IfOk result (λ s. s ≡ step_scalar g.old.graph (Delete u)) }
     ensures err { OnErr result ((g.new.graph ≡ g.old.graph) × (f.new.flow ≡ f.old.flow)) }
     ensures has_room { HaveReach g.old f.old → IsOk result }
     ensures spare { HaveReach g.old f.old →
@@ -38,20 +42,21 @@ pub fn delete(g: &mut OpenGraph, f: &mut Flow, u: VertexId) -> Result<(), AllocE
 }
 
 // The same on copies, which then take the place of graph and flow.
-fn delete_in_copies(g: &mut OpenGraph, f: &mut Flow, u: VertexId) -> Result<(), AllocError>
+fn delete_in_copies(g: &mut OpenGraph, f: &mut Flow, u: VertexId) -> Result<Scalar, AllocError>
     requires flow { IsFlow g.old.graph f.old.flow }
     requires allowed { allowed g.old.graph (Delete u) ≡ true }
     ensures rewritten { OnOk result
         (IsRewritten g.old.graph f.old.flow (Delete u) g.new.graph f.new.flow) }
+    ensures scalar { IfOk result (λ s. s ≡ step_scalar g.old.graph (Delete u)) }
     ensures err { OnErr result ((g.new.graph ≡ g.old.graph) × (f.new.flow ≡ f.old.flow)) }
     ensures valid { WellFormed g.new.graph }
 {
     let mut graph = g.copy()?;
     let mut flow = f.copy()?;
-    delete_in_place(&mut graph, &mut flow, u)?;
-    *g = graph;
-    *f = flow;
-    Ok(())
+    let scalar = delete_in_place(&mut graph, &mut flow, u)?;
+    mem::swap(g, &mut graph);
+    mem::swap(f, &mut flow);
+    Ok(scalar)
 }
 
 /// Whether the id is that of an XZ or YZ vertex of phase 0 or of a half turn.
@@ -68,18 +73,21 @@ pub fn may_delete(g: &OpenGraph, u: VertexId) -> bool
 
 /// As `delete`, but where memory runs out, graph and flow may be any. Where all vertices are below the
 /// reach of both, none is needed.
-pub fn delete_in_place(g: &mut OpenGraph, f: &mut Flow, u: VertexId) -> Result<(), AllocError>
+pub fn delete_in_place(g: &mut OpenGraph, f: &mut Flow, u: VertexId) -> Result<Scalar, AllocError>
     requires flow { IsFlow g.old.graph f.old.flow }
     requires allowed { allowed g.old.graph (Delete u) ≡ true }
     ensures rewritten { OnOk result
         (IsRewritten g.old.graph f.old.flow (Delete u) g.new.graph f.new.flow) }
+    ensures scalar { IfOk result (λ s. s ≡ step_scalar g.old.graph (Delete u)) }
     ensures has_room { HaveReach g.old f.old → IsOk result }
     ensures spare { OnOk result
         ((g.new.spare ≡ g.old.spare + 1) × (f.new.spare ≡ f.old.spare + 1)) }
     ensures reach { (g.new.reach ≡ g.old.reach) × (f.new.reach ≡ f.old.reach) }
 {
+    let scalar = delete_scalar(g, u);
     delete_in_graph(g, u);
-    f.eliminate(u)
+    f.eliminate(u)?;
+    Ok(scalar)
 }
 
 /// The graph's part of `delete`.

@@ -2,9 +2,10 @@
 //!
 //! Proved of `local_complement` about an interior vertex and `delete` of an XZ or YZ vertex of half
 //! turns: with Ok the graph is the rewritten one and the flow the table that `gflow_laws` gives for
-//! that, a flow of the new graph; the sum is kept with the exact factors of `zx_calculus`, and odd
+//! that, a flow of the new graph; the sum before is the answered scalar times the sum after, and odd
 //! phases don't rise; want of memory leaves both as they were.
-//! `may_complement` and `may_delete` tell exactly where each is allowed. `local_complement_in_place`
+//! `may_complement` and `may_delete` tell exactly where each is allowed, `complement_scalar` and
+//! `delete_scalar` by which scalar it changes the sum. `local_complement_in_place`
 //! and `delete_in_place` make the same change without copies; where memory runs out they say nothing.
 //! `local_complement_in_graph` and `delete_in_graph` change the graph alone, by the same step. Where
 //! all vertices are below the reach of graph and flow, none of these takes memory, and what both have
@@ -20,8 +21,10 @@
 mod complement;
 mod deletion;
 mod neighbours;
+mod scalars;
 
 pub use complement::{
     local_complement, local_complement_in_graph, local_complement_in_place, may_complement,
 };
 pub use deletion::{delete, delete_in_graph, delete_in_place, may_delete};
+pub use scalars::{complement_scalar, delete_scalar};

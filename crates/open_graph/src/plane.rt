@@ -2,6 +2,7 @@
 
 ghost use Rattle.std.specs.Prelude.{◌≡◌};
 ghost use Rattle.zx_calculus.specs.Turns.{in_plane, quarter_turned};
+ghost use Rattle.zx_calculus.specs.StepScalars.{quarter_power_in, half_power_in};
 
 use zx_model::Sixteenth;
 
@@ -27,6 +28,28 @@ impl Plane {
             Plane::XY => (Plane::XY, phase.add(Sixteenth::quarter_turn())),
             Plane::XZ => (Plane::YZ, phase.neg()),
             Plane::YZ => (Plane::XZ, phase),
+        }
+    }
+
+    /// The power of z that the sum gets by a quarter turn of a vertex of this plane and phase, in
+    /// sixteenth turns.
+    pub fn quarter_power(self, phase: Sixteenth) -> Sixteenth
+        ensures { result ≡ quarter_power_in (plane_named self) phase }
+    {
+        match self {
+            Plane::XY | Plane::YZ => Sixteenth::new(0),
+            Plane::XZ => phase,
+        }
+    }
+
+    /// The power of z that the sum gets by a half turn of a vertex of this plane and phase, in
+    /// sixteenth turns.
+    pub fn half_power(self, phase: Sixteenth) -> Sixteenth
+        ensures { result ≡ half_power_in (plane_named self) phase }
+    {
+        match self {
+            Plane::XY => Sixteenth::new(0),
+            Plane::XZ | Plane::YZ => phase,
         }
     }
 }

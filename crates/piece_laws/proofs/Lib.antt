@@ -3,3 +3,4 @@ pub mod Reorderings
 pub mod Replacements
 pub mod Gathering
 pub mod Placements
+pub mod Scaling

@@ -63,13 +63,22 @@ scaled-total n gates c f x l =
     ∙ sym (total-map_mul c (λ y. mul (amp gates x y) (f y)) (all_labels n))
     ∙ ap (λ (g : List Bool → Number). total (map g (all_labels n))) (λ i y. sym (mul_assoc c (amp gates x y) (f y)) i)
 
+-- d times a matrix is e times another, on n bits
+abbrev pub AreMultiples : ℕ → Number → Number → (List Bool → List Bool → Number) → (List Bool → List Bool → Number) → Type 0
+AreMultiples n d e f g = (x y : List Bool) → length x ≡ n → length y ≡ n → mul d (f x y) ≡ mul e (g x y)
+
+-- then their gates do the same to each function, up to the two numbers
+pub multiples-acts : (n : ℕ) (gates others : List Gate) (d e : Number) → AreMultiples n d e (amp gates) (amp others) → (f : List Bool → Number)
+    → (x : List Bool) → length x ≡ n → mul d (acts gates f x) ≡ mul e (acts others f x)
+multiples-acts n gates others d e same f x l =
+    scaled-total n gates d f x l
+    ∙ total_same n _ _ (λ y ly. ap (λ t. mul t (f y)) (same x y l ly))
+    ∙ sym (scaled-total n others e f x l)
+
 -- gates whose matrices are proportional do the same to each function, up to the two numbers
 pub proportional-acts : (n : ℕ) (gates others : List Gate) (p : Proportional n n (amp gates) (amp others)) (f : List Bool → Number) (x : List Bool)
     → length x ≡ n → mul p.left (acts gates f x) ≡ mul p.right (acts others f x)
-proportional-acts n gates others p f x l =
-    scaled-total n gates p.left f x l
-    ∙ total_same n _ _ (λ y ly. ap (λ t. mul t (f y)) (p.equal x y l ly))
-    ∙ sym (scaled-total n others p.right f x l)
+proportional-acts n gates others p = multiples-acts n gates others p.left p.right p.equal
 
 -- the map of a list of which a part is looked at
 part : (before middle after : List Gate) (x y : List Bool) →
@@ -78,6 +87,18 @@ part before middle after x y =
     amp-acts (before ++ middle ++ after) x y
     ∙ (λ i. (acts-append (before ++ middle) after (λ z. amp [] z y) ∙ acts-append before middle (acts after (λ z. amp [] z y))) i x)
 
+pub replaced_multiples : (n : ℕ) (before old new after : List Gate) (d e : Number) → AreMultiples n d e (amp old) (amp new)
+    → AreMultiples n d e (amp (before ++ old ++ after)) (amp (before ++ new ++ after))
+replaced_multiples n before old new after d e same = λ x y lx ly.
+    ap (mul d) (part before old after x y)
+    ∙ through (acts after (λ z. amp [] z y)) x lx
+    ∙ sym (ap (mul e) (part before new after x y))
+  where
+    through : (f : List Bool → Number) (x : List Bool) → length x ≡ n → mul d (acts before (acts old f) x) ≡ mul e (acts before (acts new f) x)
+    through f x l =
+        sym (acts-factor n before d (λ z. mul d (acts old f z)) (acts old f) (λ z lz. refl) x l)
+        ∙ acts-factor n before e (λ z. mul d (acts old f z)) (acts new f) (λ z lz. multiples-acts n old new d e same f z lz) x l
+
 pub replaced_map : (n : ℕ) (before old new after : List Gate) → Proportional n n (amp old) (amp new) →
     Proportional n n (amp (before ++ old ++ after)) (amp (before ++ new ++ after))
 replaced_map n before old new after p = record {
@@ -85,13 +106,5 @@ replaced_map n before old new after p = record {
   right = p.right;
   left_nonzero = p.left_nonzero;
   right_nonzero = p.right_nonzero;
-  equal = λ x y lx ly.
-      ap (mul p.left) (part before old after x y)
-      ∙ through (acts after (λ z. amp [] z y)) x lx
-      ∙ sym (ap (mul p.right) (part before new after x y));
+  equal = replaced_multiples n before old new after p.left p.right p.equal;
 }
-  where
-    through : (f : List Bool → Number) (x : List Bool) → length x ≡ n → mul p.left (acts before (acts old f) x) ≡ mul p.right (acts before (acts new f) x)
-    through f x l =
-        sym (acts-factor n before p.left (λ z. mul p.left (acts old f z)) (acts old f) (λ z lz. refl) x l)
-        ∙ acts-factor n before p.right (λ z. mul p.left (acts old f z)) (acts new f) (λ z lz. proportional-acts n old new p f z lz) x l

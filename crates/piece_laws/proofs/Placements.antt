@@ -1,5 +1,5 @@
 -- What gates of a small circuit do on the qubits of a larger one.
-use Rattle.std.proofs.Common.{◌≡◌, ◌≢◌, ◌≤◌, ◌<◌, inl, inr, ◌+◌, ℕ, zero, suc, Bool, false, true, cond, ◌&&◌, eqb, List, [], ◌∷◌, map, length, set, get_or, refl, sym, ap, ap₂, ◌∙◌, subst, arith}
+use Rattle.std.proofs.Common.{◌≡◌, ◌≢◌, ◌≤◌, ◌<◌, inl, inr, ◌+◌, ℕ, zero, suc, Bool, false, true, cond, ◌&&◌, eqb, List, [], ◌∷◌, map, length, set, refl, sym, ap, ap₂, ◌∙◌, subst, arith}
 use Rattle.std.specs.List.{All, AllByRecursion, IsDistinct, sum_by}
 use Rattle.std.proofs.lemmas.Bool.{eqb-false}
 use Rattle.std.proofs.lemmas.List.{length-map, length-set, get_or-map, get_or-set_same, get_or-set_other, set-get_or, set-set, set_comm}
@@ -18,7 +18,7 @@ use Rattle.zx_gates.specs.declared.gate.Gate.TheVariants.{H, Phase, Cz, Cx, Not}
 use Rattle.zx_gates.proofs.MapLemmas.{amp-acts}
 use Rattle.piece_laws.specs.Places.{ArePlaces, place, placed_gate, placed}
 use Rattle.piece_laws.specs.Replacement.{IsReplacement}
-use Rattle.piece_laws.proofs.Matrices.{acts-factor, proportional-acts}
+use Rattle.piece_laws.proofs.Matrices.{AreMultiples, acts-factor, multiples-acts}
 
 -- ---- places that differ
 other_place : (p : ℕ) (places : List ℕ) (q : ℕ) → IsDistinct eqb (p ∷ places) → q < length places → p ≢ place places q
@@ -133,6 +133,14 @@ acts-placed places n apart low (gate ∷ gates) on f x l =
     placed_step places n apart low gate (All-head (IsGateOn (length places)) gate gates on) gates f
     (λ y ly. acts-placed places n apart low gates (All-tail (IsGateOn (length places)) gate gates on) f y ly) x l
 
+pub placed_multiples : (places : List ℕ) (n : ℕ) → IsDistinct eqb places → All (λ p. p < n) places → (old new : List Gate)
+    → All (IsGateOn (length places)) old → All (IsGateOn (length places)) new → (d e : Number)
+    → AreMultiples (length places) d e (amp old) (amp new) → AreMultiples n d e (amp (placed places old)) (amp (placed places new))
+placed_multiples places n apart low old new on on' d e same = λ x y lx ly.
+    ap (mul d) (amp-acts (placed places old) x y ∙ acts-placed places n apart low old on (λ z. amp [] z y) x lx)
+    ∙ multiples-acts (length places) old new d e same (λ z. amp [] (with_bits places z x) y) (bits_at places x) (length-map places (bit x))
+    ∙ ap (mul e) (sym (amp-acts (placed places new) x y ∙ acts-placed places n apart low new on' (λ z. amp [] z y) x lx))
+
 placed_map : (places : List ℕ) (n : ℕ) → IsDistinct eqb places → All (λ p. p < n) places → (old new : List Gate)
     → All (IsGateOn (length places)) old → All (IsGateOn (length places)) new
     → Proportional (length places) (length places) (amp old) (amp new) → Proportional n n (amp (placed places old)) (amp (placed places new))
@@ -141,10 +149,7 @@ placed_map places n apart low old new on on' p = record {
   right = p.right;
   left_nonzero = p.left_nonzero;
   right_nonzero = p.right_nonzero;
-  equal = λ x y lx ly.
-      ap (mul p.left) (amp-acts (placed places old) x y ∙ acts-placed places n apart low old on (λ z. amp [] z y) x lx)
-      ∙ proportional-acts (length places) old new p (λ z. amp [] (with_bits places z x) y) (bits_at places x) (length-map places (bit x))
-      ∙ ap (mul p.right) (sym (amp-acts (placed places new) x y ∙ acts-placed places n apart low new on' (λ z. amp [] z y) x lx));
+  equal = placed_multiples places n apart low old new on on' p.left p.right p.equal;
 }
 
 -- ---- qubits and counts

@@ -2,6 +2,8 @@
 use Rattle.std.specs.Prelude.{◌≡◌, ◌≤◌, ◌<◌, ◌⊎◌, ℕ, List, length}
 use Rattle.std.specs.List.{All, count_by}
 use Rattle.zx_model.specs.Proportional.{Proportional}
+use Rattle.zx_model.specs.Scalar.{IsScaled}
+use Rattle.zx_model.specs.declared.scalar.Scalar.{Scalar}
 use Rattle.zx_gates.specs.declared.gate.Gate.{Gate}
 use Rattle.zx_gates.specs.Circuit.{IsGateOn, gate_odd_phases}
 use Rattle.zx_gates.specs.Counting.{is_two_qubit}
@@ -23,3 +25,7 @@ pub record IsReplacement (n : ℕ) (old new : List Gate) : Type 0 where
   pub map : Proportional n n (amp old) (amp new)
   pub odd : gate_odd_phases new ≤ gate_odd_phases old
   pub size : IsNoLarger new old
+
+-- the map of a list of gates of n qubits is s times that of another
+abbrev pub AreScaled : ℕ → List Gate → Scalar → List Gate → Type 0
+AreScaled n old s new = IsScaled n n (amp old) s (amp new)

@@ -33,6 +33,7 @@ use Rattle.qasm_scope.specs.Measurements.{measured_by}
 use Rattle.qasm_scope.specs.Scope.{Scope, Gate, bit_count, declared, qubit_count}
 use Rattle.qasm_scope.proofs.Placing.{placed_or}
 use Rattle.qasm_inline.proofs.Elementary.{meant-few, meant-few-bits, meant-on, meant-once, meant-within}
+use Rattle.qasm_inline.proofs.CountLemmas.{faultless-few_gates}
 use Rattle.qasm_inline.proofs.MeantLemmas.{faultless-few}
 
 -- ---- the version
@@ -152,6 +153,7 @@ elementary program circuit h =
     let m : Means program circuit.qubits circuit.gates circuit.bits circuit.measured = record { most = most_calls; faultless = h.0; as_many_qubits = h.1; same_gates = h.2; as_many_bits = h.3; same_measures = h.4 } in
     record {
       few_qubits = meant-few program circuit.qubits circuit.gates circuit.bits circuit.measured m;
+      few_gates = let few : length circuit.gates ≤ most_calls = subst (λ gates. length gates ≤ most_calls) (sym h.2) (faultless-few_gates most_calls program h.0) in omega arith;
       on_qubits = meant-on program circuit.qubits circuit.gates circuit.bits circuit.measured m;
       few_bits = meant-few-bits program circuit.qubits circuit.gates circuit.bits circuit.measured m;
       measures_within = meant-within program circuit.qubits circuit.gates circuit.bits circuit.measured m;

@@ -10,6 +10,7 @@ pub mod InstanceLemmas
 pub mod ApplyLemmas
 pub mod CallLemmas
 pub mod MeantLemmas
+pub mod CountLemmas
 pub mod MemberLemmas
 pub mod RangeLemmas
 pub mod OnceLemmas

@@ -4,3 +4,4 @@ pub mod Maps
 pub mod GateLines
 pub mod Continuing
 pub mod WrittenLemmas
+pub mod LineScalars

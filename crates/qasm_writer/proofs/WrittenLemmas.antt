@@ -78,14 +78,14 @@ text_means c bits measured is behind =
     record { program = w.program; is = w.is; means = w.means }
 
 -- ---- what the elements are
-phase_lowered : (q k : ℕ) → k ≢ 0 → k < turn → lowered (elements (Phase q k)) ≡ Phase q k ∷ []
-phase_lowered q k some below =
+pub phase_is_lowered : (q k : ℕ) → k ≢ 0 → k < turn → lowered_gate (elementary.U q 0 0 k) ≡ Phase q k ∷ []
+phase_is_lowered q k some below =
     let same : sum_of_phases 0 k ≡ k = omega arith in
-    ap (λ j. phase_gates q j ++ []) same ∙ ap (λ b. (if b then [] else Phase q k ∷ []) ++ []) (ne_eqb k 0 some)
+    ap (phase_gates q) same ∙ ap (λ b. if b then [] else Phase q k ∷ []) (ne_eqb k 0 some)
 
 gate_lowered : (n : ℕ) (gate : Gate) → IsGateOn n gate → lowered (elements gate) ≡ gate_without_cz gate
 gate_lowered n (H q) on = refl
-gate_lowered n (Phase q k) on = phase_lowered q k on.0.1 on.1
+gate_lowered n (Phase q k) on = ap (λ gs. gs ++ []) (phase_is_lowered q k on.0.1 on.1)
 gate_lowered n (Cz q r) on = refl
 gate_lowered n (Cx control target) on = refl
 gate_lowered n (Not q) on = refl

@@ -4,12 +4,14 @@ use open_graph::OpenGraph;
 use std::test::Fail;
 use zx_extract::extract;
 use zx_flow::{Flow, FlowTable};
+use zx_reduce::check_size;
 
 #[test]
 fn no_qubits_have_no_gates(rt: HostRuntime) -> Result<(), Fail> {
     let graph = OpenGraph::new(rt.alloc());
     let flow = Flow::of_table(&graph, FlowTable::new(rt.alloc()))?;
-    let circuit = extract(rt.alloc(), graph, flow)?;
+    check_size(&graph)?;
+    let (circuit, _) = extract(rt.alloc(), graph, flow)?;
     assert_eq!(rt; circuit.qubits(), 0);
     assert!(rt; circuit.gates().is_empty());
     Ok(())

@@ -153,7 +153,7 @@ fn drawn(alloc: Global, qubits: u16, gates: &[Gate]) -> Result<Vec<u8>, Fail>
     requires { qubits ≤ 1024 }
 {
     let list = circuit(alloc, qubits, gates)?;
-    let (graph, flow) = translate(alloc, &list)?;
+    let (graph, flow, _) = translate(alloc, &list)?;
     let mut text = Vec::new(alloc);
     add_phases(&mut text, &graph)?;
     add_edges(&mut text, &graph)?;
@@ -194,10 +194,30 @@ fn hadamards_on_one_wire(rt: HostRuntime) -> Result<(), Fail> {
     Ok(())
 }
 
+// A circuit's map is half the sum for each Cx and Not, and for no other gate.
+#[test]
+fn scalars_of_translations(rt: HostRuntime) -> Result<(), Fail> {
+    let gates = [
+        Gate::H(0),
+        cx(0, 1),
+        Gate::Not(1),
+        Gate::Cz(0, 1),
+        t(0),
+        cx(1, 0),
+    ];
+    for (count, root2) in [(1, 0), (2, -2), (3, -4), (5, -4), (6, -6)] {
+        let list = circuit(rt.alloc(), 2, &gates[..count])?;
+        let (_graph, _flow, scalar) = translate(rt.alloc(), &list)?;
+        assert_eq!(rt; scalar.root2, root2);
+        assert_eq!(rt; scalar.turn, Sixteenth::new(0));
+    }
+    Ok(())
+}
+
 // The phases of the graph of a circuit on three qubits.
 fn phases(alloc: Global, gates: &[Gate]) -> Result<Vec<u8>, Fail> {
     let list = circuit(alloc, 3, gates)?;
-    let (graph, _flow) = translate(alloc, &list)?;
+    let (graph, _flow, _) = translate(alloc, &list)?;
     let mut text = Vec::new(alloc);
     add_phases(&mut text, &graph)?;
     Ok(text)

@@ -16,7 +16,7 @@ use std::test::Fail;
 use zx_extract::extract;
 use zx_flow::Flow;
 use zx_gates::{Gate, GateList, counts};
-use zx_reduce::{Step, Steps, Trace, apply, reduce};
+use zx_reduce::{Step, Steps, Trace, apply, check_size, reduce};
 
 // The gates that are found in the graph that steps make of the gates' graph have that graph's sum
 // as their map, and that of the gates, up to a number other than 0.
@@ -52,7 +52,8 @@ fn extracted(rt: &impl Abort, alloc: Global, graph: OpenGraph, flow: Flow) -> Re
     assert!(rt; has_no_xz(&graph));
     assert!(rt; graph.inputs().len() == graph.outputs().len());
     assert!(rt; graph.outputs().len() <= 1024);
-    let found = extract(alloc, graph, flow)?;
+    check_size(&graph)?;
+    let (found, _) = extract(alloc, graph, flow)?;
     Ok(found)
 }
 
@@ -60,7 +61,7 @@ fn extracted(rt: &impl Abort, alloc: Global, graph: OpenGraph, flow: Flow) -> Re
 fn reduced(alloc: Global, circuit: &GateList) -> Result<(OpenGraph, Flow), Fail>
     ensures { IfOk result (λ made. IsFlow made.0.graph made.1.flow) }
 {
-    let (mut graph, mut flow) = translate(alloc, circuit)?;
+    let (mut graph, mut flow, _) = translate(alloc, circuit)?;
     reduce_traced(&mut graph, &mut flow, &mut Trace::new(alloc))?;
     Ok((graph, flow))
 }
@@ -85,6 +86,7 @@ fn reduce_counted<L: Ledger>(
     requires flow { IsFlow graph.old.graph flow.old.flow }
     ensures { OnOk result (IsFlow graph.new.graph flow.new.flow) }
 {
+    check_size(graph)?;
     let mut steps = Steps::<L>::new(blank);
     reduce(graph, flow, trace, &mut steps)?;
     Ok(())
@@ -134,7 +136,7 @@ pub fn rewritten(
 ) -> Result<(OpenGraph, Flow), Fail>
     ensures { IfOk result (λ made. IsFlow made.0.graph made.1.flow) }
 {
-    let (mut graph, mut flow) = translate(alloc, circuit)?;
+    let (mut graph, mut flow, _) = translate(alloc, circuit)?;
     for step in steps {
         rewrite(&mut graph, &mut flow, *step)?;
     }

@@ -65,7 +65,9 @@ fn error_outputs_that_fail_change_no_answer(rt: HostRuntime) -> Result<(), Fail>
         let (status, err) = run_with_err(rt.alloc(), &[], b"", call)?;
         assert_eq!(rt; status, Status::Usage);
         assert!(rt;
-            b"usage: zxopt opt [--best] [--report] | reduce | flow | graph".starts_with(err.bytes())
+            b"usage: zxopt opt [--best] [--report] [--scalar] | reduce | flow | graph".starts_with(
+                err.bytes()
+            )
         );
         let (status, err) = run_with_err(rt.alloc(), &["opt"], b"x", call)?;
         assert_eq!(rt; status, Status::Refused(Fault::Syntax { at: 0 }));

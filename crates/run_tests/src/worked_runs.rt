@@ -7,7 +7,7 @@ use std::test::Fail;
 fn worked_runs_write_these_bytes(rt: HostRuntime) -> Result<(), Fail> {
     // The words, the text, and what the output and the error output get. Two T are one S; the numbers of
     // gates are counted by hand.
-    let rows: [(&[&str], &[u8], &[u8], &[u8]); 10] = [
+    let rows: [(&[&str], &[u8], &[u8], &[u8]); 14] = [
         (
             &["opt"],
             b"OPENQASM 2.0;\ninclude \"qelib1.inc\";\nqreg q[1];\nt q[0];\nt q[0];\n",
@@ -18,6 +18,30 @@ fn worked_runs_write_these_bytes(rt: HostRuntime) -> Result<(), Fail> {
             &["opt", "--report", "--best"],
             b"OPENQASM 2.0;\ninclude \"qelib1.inc\";\nqreg q[1];\nt q[0];\nt q[0];\n",
             b"OPENQASM 2.0;\ninclude \"qelib1.inc\";\nqreg q[1];\ns q[0];\n// read gates 2 odd 2 two-qubit 0 h 0 phase 2 cz 0 cx 0 not 0\n// written gates 1 odd 0 two-qubit 0 h 0 phase 1 cz 0 cx 0 not 0\n",
+            b"",
+        ),
+        (
+            &["opt", "--scalar"],
+            b"OPENQASM 2.0;\ninclude \"qelib1.inc\";\nqreg q[1];\nh q[0]; h q[0];",
+            b"OPENQASM 2.0;\ninclude \"qelib1.inc\";\nqreg q[1];\n// scalar root2 4 turn 4\n",
+            b"",
+        ),
+        (
+            &["opt", "--scalar", "--best"],
+            b"OPENQASM 2.0;\ninclude \"qelib1.inc\";\nqreg q[1];\nt q[0]; t q[0];",
+            b"OPENQASM 2.0;\ninclude \"qelib1.inc\";\nqreg q[1];\ns q[0];\n// scalar root2 2 turn 0\n",
+            b"",
+        ),
+        (
+            &["opt", "--scalar"],
+            b"OPENQASM 2.0;\ninclude \"qelib1.inc\";\nqreg q[1];\nx q[0];",
+            b"OPENQASM 2.0;\ninclude \"qelib1.inc\";\nqreg q[1];\nx q[0];\n// scalar root2 0 turn 0\n",
+            b"",
+        ),
+        (
+            &["opt", "--scalar"],
+            b"OPENQASM 2.0; qreg q[1]; U(pi/2,0,pi) q[0];",
+            b"OPENQASM 2.0;\ninclude \"qelib1.inc\";\nqreg q[1];\nh q[0];\n// scalar root2 0 turn 0\n",
             b"",
         ),
         (
@@ -66,7 +90,7 @@ fn worked_runs_write_these_bytes(rt: HostRuntime) -> Result<(), Fail> {
             &["Opt"],
             b"",
             b"",
-            b"usage: zxopt opt [--best] [--report] | reduce | flow | graph | gen SEED QUBITS GATES | compile | teleport | same\n",
+            b"usage: zxopt opt [--best] [--report] [--scalar] | reduce | flow | graph | gen SEED QUBITS GATES | compile | teleport | same\n",
         ),
     ];
     for (i, (words, text, written, told)) in rows.into_iter().enumerate() {

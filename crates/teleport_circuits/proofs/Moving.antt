@@ -42,7 +42,7 @@ use Rattle.teleport_laws.proofs.Runs.{shifted-none}
 use Rattle.teleport_circuits.specs.Circuits.{IsSkeleton, phase_in, with_phase_in, with_phases, without_idle, added_at, added_from, added_by}
 use Rattle.teleport_circuits.proofs.Existing.{HasRun, wires_formed, ready, gates_run}
 
-abbrev shifted_state : (ℕ → ℕ) → State → State
+abbrev pub shifted_state : (ℕ → ℕ) → State → State
 shifted_state more s = record { graph = shifted more s.graph; table = s.table }
 
 ordered-shifted : (more : ℕ → ℕ) (g : Graph) → OrderedEdges (ids g.vertices) g.edges → OrderedEdges (ids (shifted more g).vertices) g.edges
@@ -242,7 +242,7 @@ acts-idle (Phase q k ∷ gates) f =
     (λ t n. ap (act (Phase q k)) (acts-idle gates f)
     ∙ ap (λ b. acts (written_out (cond (not b) (Phase q k ∷ without_idle gates) (without_idle gates))) f) (sym t))
 
-left_on : (n : ℕ) (phase : ℕ → ℕ) (i : ℕ) (gates : List Gate) → All (IsOnQubits n) gates → All (IsOnQubits n) (without_idle (with_phases phase i gates))
+pub left_on : (n : ℕ) (phase : ℕ → ℕ) (i : ℕ) (gates : List Gate) → All (IsOnQubits n) gates → All (IsOnQubits n) (without_idle (with_phases phase i gates))
 left_on n phase i [] on = on
 left_on n phase i (H q ∷ gates) on = All-cons (IsOnQubits n) (H q) _ (All-head (IsOnQubits n) (H q) gates on) (left_on n phase (suc i) gates (All-tail (IsOnQubits n) (H q) gates on))
 left_on n phase i (Cz p q ∷ gates) on = All-cons (IsOnQubits n) (Cz p q) _ (All-head (IsOnQubits n) (Cz p q) gates on) (left_on n phase (suc i) gates (All-tail (IsOnQubits n) (Cz p q) gates on))
@@ -268,7 +268,7 @@ none_more : (g : Graph) → IsShift g (λ v. 0)
 none_more g = record { below = λ v. omega arith; absent = λ v absent. refl }
 
 module _ (c : Circuit) (phase : ℕ → ℕ) (formed : IsCircuit c) where
-  on : All (IsOnQubits c.qubits) c.gates
+  pub on : All (IsOnQubits c.qubits) c.gates
   on = λ k d within. (formed.on_qubits k d within).0
 
   outputs_begun : length (wires c.qubits).outputs ≡ c.qubits

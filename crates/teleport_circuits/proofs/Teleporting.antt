@@ -25,11 +25,12 @@ use Rattle.teleport_laws.specs.Spots.{At, Spot, spot_at}
 use Rattle.teleport_laws.specs.Groups.{placed, change, teleported, AreGatesOf}
 use Rattle.teleport_laws.proofs.Carrying.{AreBelow, held-below, none_plus, cond-below}
 use Rattle.teleport_laws.proofs.Grouping.{change_balanced, teleported-low}
-use Rattle.teleport_laws.proofs.Placing.{keeps_the_sum}
+use Rattle.teleport_laws.proofs.Placing.{leads_to_the_same, keeps_the_sum}
 use Rattle.teleport_circuits.specs.Circuits.{phase_in, added_by}
-use Rattle.teleport_circuits.specs.Teleporting.{gate_at, phase_at, vertex_at, odd_gates, new_phase, spots_of, teleported_gates}
+use Rattle.teleport_circuits.specs.Teleporting.{gate_at, phase_at, vertex_at, odd_gates, new_phase, spots_of, teleported_gates, teleported_circuit}
 use Rattle.teleport_circuits.proofs.Existing.{wires_formed, ready}
 use Rattle.teleport_circuits.proofs.Moving.{translation, translates, shifted_map}
+use Rattle.teleport_circuits.proofs.WithPhases.{translates_there, graph_there}
 use Rattle.teleport_circuits.proofs.Agreeing.{added_agrees, places_live, odd_placed}
 
 -- ---- numbers of gates
@@ -107,6 +108,17 @@ module _ (c : Circuit) (formed : IsCircuit c) where
       where
         sum_low : (j k : ℕ) → sum_of_phases j k < turn
         sum_low j k = omega arith
+
+    -- the graph of the new circuit, and the run from it
+    pub formed_there : WellFormed (translated (teleported_circuit c steps h run))
+    formed_there =
+        let there = translates_there c (new_phase c (spots_of c steps h run)) formed in subst WellFormed there.graph there.well_formed
+
+    pub same_run : IsRun (translated (teleported_circuit c steps h run)) steps h
+    same_run = subst (λ g. IsRun g steps h) (sym (graph_there c (new_phase c (spots_of c steps h run)) formed))
+        (subst (λ m. IsRun (shifted m (translated c)) steps h) (λ i v. sym (adds v) i)
+        (leads_to_the_same (translated c) steps h run graph_formed _ (vertex_at c) (odd_gates c) change_gates
+        (change_balanced (phase_at c) (spots_of c steps h run) (odd_gates c) (phase_at-low c formed) (odd_gates-distinct c))))
 
     sum_kept : KeepsMap (shifted (placed (change (phase_at c) (teleported (phase_at c) (spots_of c steps h run) (odd_gates c))) (vertex_at c) (odd_gates c)) (translated c)) (translated c)
     sum_kept = keeps_the_sum (translated c) steps h run graph_formed _ (vertex_at c) (odd_gates c) change_gates

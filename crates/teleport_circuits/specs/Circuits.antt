@@ -56,3 +56,7 @@ added_from phase i g (gate ∷ gates) more =
 
 abbrev pub added_by : Circuit → (ℕ → ℕ) → ℕ → ℕ
 added_by c phase = added_from phase 0 (wires c.qubits) c.gates (λ v. 0)
+
+-- as many qubits, with other gates
+abbrev pub with_gates : Circuit → List Gate → Circuit
+with_gates c gates = record { qubits = c.qubits; gates = gates }

@@ -5,25 +5,29 @@ ghost use Rattle.zx_bits.specs.Sets.{IsBelow};
 ghost use Rattle.zx_calculus.specs.Graph.{ids, WellFormed};
 ghost use Rattle.zx_calculus.specs.Splits.{new_vertex};
 ghost use Rattle.zx_calculus.specs.Steps.{allowed, IsStep, SplitInput};
+ghost use Rattle.zx_calculus.specs.StepScalars.{step_scalar};
 ghost use Rattle.gflow_laws.specs.Flow.{IsFlow};
 ghost use Rattle.gflow_laws.specs.Splits.{split_input_table};
 ghost use Rattle.gflow_laws.specs.Rewritten.{IsRewritten};
 ghost use Rattle.zx_flow.specs.Flows.{HavePlace};
 
-use crate::spider::{add_spider, toggled};
+use crate::spider::{add_spider, split_scalar, toggled};
 use open_graph::{OpenGraph, VertexId};
 use std::alloc::AllocError;
+use std::mem;
 use zx_flow::Flow;
+use zx_model::Scalar;
 
 /// Puts a new XY vertex of phase 0, with the least free id, between a vertex b and its input, whose
 /// mark is toggled: b holds no input any more. The new vertex comes first in the flow, corrected by
 /// b. Where memory runs out, graph and flow stay as they were; where both have a place for a vertex
 /// more, none is needed.
-pub fn split_input(g: &mut OpenGraph, f: &mut Flow, b: VertexId) -> Result<(), AllocError>
+pub fn split_input(g: &mut OpenGraph, f: &mut Flow, b: VertexId) -> Result<Scalar, AllocError>
     requires flow { IsFlow g.old.graph f.old.flow }
     requires allowed { allowed g.old.graph (SplitInput b) ≡ true }
     ensures rewritten { OnOk result
         (IsRewritten g.old.graph f.old.flow (SplitInput b) g.new.graph f.new.flow) }
+    ensures scalar { IfOk result (λ s. s ≡ step_scalar g.old.graph (SplitInput b)) }
     ensures table { OnOk result (f.new.flow ≡
         split_input_table b (new_vertex g.old.graph) f.old.flow) }
     ensures err { OnErr result ((g.new.graph ≡ g.old.graph) × (f.new.flow ≡ f.old.flow)) }
@@ -41,11 +45,12 @@ pub fn split_input(g: &mut OpenGraph, f: &mut Flow, b: VertexId) -> Result<(), A
 }
 
 // The same on copies, which then take the place of graph and flow.
-fn split_input_in_copies(g: &mut OpenGraph, f: &mut Flow, b: VertexId) -> Result<(), AllocError>
+fn split_input_in_copies(g: &mut OpenGraph, f: &mut Flow, b: VertexId) -> Result<Scalar, AllocError>
     requires flow { IsFlow g.old.graph f.old.flow }
     requires allowed { allowed g.old.graph (SplitInput b) ≡ true }
     ensures rewritten { OnOk result
         (IsRewritten g.old.graph f.old.flow (SplitInput b) g.new.graph f.new.flow) }
+    ensures scalar { IfOk result (λ s. s ≡ step_scalar g.old.graph (SplitInput b)) }
     ensures table { OnOk result (f.new.flow ≡
         split_input_table b (new_vertex g.old.graph) f.old.flow) }
     ensures err { OnErr result ((g.new.graph ≡ g.old.graph) × (f.new.flow ≡ f.old.flow)) }
@@ -53,10 +58,10 @@ fn split_input_in_copies(g: &mut OpenGraph, f: &mut Flow, b: VertexId) -> Result
 {
     let mut graph = g.copy()?;
     let mut flow = f.copy()?;
-    split_input_in_place(&mut graph, &mut flow, b)?;
-    *g = graph;
-    *f = flow;
-    Ok(())
+    let scalar = split_input_in_place(&mut graph, &mut flow, b)?;
+    mem::swap(g, &mut graph);
+    mem::swap(f, &mut flow);
+    Ok(scalar)
 }
 
 /// Whether the id is that of a vertex with an input.
@@ -67,13 +72,29 @@ pub fn may_split_input(g: &OpenGraph, b: VertexId) -> bool
     g.is_live(b) && g.input_at(b).is_some()
 }
 
+/// The scalar of the split of an input: the sum before is so many times the sum after.
+pub fn split_input_scalar(g: &OpenGraph, b: VertexId) -> Scalar
+    requires { allowed g.now.graph (SplitInput b) ≡ true }
+    ensures value { result ≡ step_scalar g.now.graph (SplitInput b) }
+    ensures valid { WellFormed g.now.graph }
+{
+    let ends = g.inputs();
+    let place = g.input_at(b).unwrap();
+    split_scalar(ends[place])
+}
+
 /// As `split_input`, but where memory runs out, graph and flow may be any. Where both can take a vertex
 /// more, and all vertices and the new one are below the reach of both, none is needed.
-pub fn split_input_in_place(g: &mut OpenGraph, f: &mut Flow, b: VertexId) -> Result<(), AllocError>
+pub fn split_input_in_place(
+    g: &mut OpenGraph,
+    f: &mut Flow,
+    b: VertexId,
+) -> Result<Scalar, AllocError>
     requires flow { IsFlow g.old.graph f.old.flow }
     requires allowed { allowed g.old.graph (SplitInput b) ≡ true }
     ensures rewritten { OnOk result
         (IsRewritten g.old.graph f.old.flow (SplitInput b) g.new.graph f.new.flow) }
+    ensures scalar { IfOk result (λ s. s ≡ step_scalar g.old.graph (SplitInput b)) }
     ensures table { OnOk result (f.new.flow ≡
         split_input_table b (new_vertex g.old.graph) f.old.flow) }
     ensures has_room { let all = new_vertex g.old.graph ∷ ids g.old.graph.vertices in
@@ -83,8 +104,10 @@ pub fn split_input_in_place(g: &mut OpenGraph, f: &mut Flow, b: VertexId) -> Res
     ensures flow_spare { OnOk result (f.old.spare ≤ f.new.spare + 1) }
     ensures reach { (g.new.reach ≡ g.old.reach) × (f.new.reach ≡ f.old.reach) }
 {
+    let scalar = split_input_scalar(g, b);
     let new = split_input_in_graph(g, b)?;
-    f.add_first(new, b)
+    f.add_first(new, b)?;
+    Ok(scalar)
 }
 
 /// The graph's part of `split_input`, which answers the new vertex: where memory runs out, the

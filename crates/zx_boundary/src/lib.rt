@@ -3,9 +3,10 @@
 //!
 //! Proved of `split_input` and `split_output` of a vertex with that end: with Ok the graph is the
 //! rewritten one and the flow the table that `gflow_laws` gives for that, a flow of the new graph;
-//! the sum is kept with the exact factors of `zx_calculus`, and odd phases don't rise; want of
+//! the sum before is the answered scalar times the sum after, and odd phases don't rise; want of
 //! memory leaves both as they were.
-//! `may_split_input` and `may_split_output` tell exactly where each is allowed.
+//! `may_split_input` and `may_split_output` tell exactly where each is allowed,
+//! `split_input_scalar` and `split_output_scalar` by which scalar it changes the sum.
 //! `split_input_in_place` and `split_output_in_place` make the same change without copies; where
 //! memory runs out they say nothing. `split_input_in_graph` and `split_output_in_graph` change the
 //! graph alone, by the same step, and answer the new vertex. None of these takes memory where graph
@@ -22,5 +23,10 @@ mod inputs;
 mod outputs;
 mod spider;
 
-pub use inputs::{may_split_input, split_input, split_input_in_graph, split_input_in_place};
-pub use outputs::{may_split_output, split_output, split_output_in_graph, split_output_in_place};
+pub use inputs::{
+    may_split_input, split_input, split_input_in_graph, split_input_in_place, split_input_scalar,
+};
+pub use outputs::{
+    may_split_output, split_output, split_output_in_graph, split_output_in_place,
+    split_output_scalar,
+};

@@ -3,11 +3,12 @@
 ghost use Rattle.std.specs.Prelude.{◌≡◌, ◌<◌, ◌-◌, not, IsOk, IfOk, OnOk};
 ghost use Rattle.zx_calculus.specs.Graph.{Live, WellFormed};
 ghost use Rattle.zx_calculus.specs.Splits.{new_vertex};
+ghost use Rattle.zx_calculus.specs.StepScalars.{split_scalar};
 ghost use Rattle.zx_boundary.specs.Internal.Spiders.{IsSpiderAdded};
 
 use open_graph::{End, OpenGraph, Plane, VertexId};
 use std::alloc::AllocError;
-use zx_model::Sixteenth;
+use zx_model::{Scalar, Sixteenth};
 
 // A new spider of phase 0, adjacent to b alone.
 pub(crate) fn add_spider(g: &mut OpenGraph, b: VertexId) -> Result<VertexId, AllocError>
@@ -33,5 +34,19 @@ pub(crate) fn toggled(end: End, vertex: VertexId) -> End
     End {
         vertex,
         hadamard: !end.hadamard,
+    }
+}
+
+// The scalar of the split of an end: a half, where that is plain.
+pub(crate) fn split_scalar(end: End) -> Scalar
+    ensures { result ≡ split_scalar end.hadamard }
+{
+    if end.hadamard {
+        Scalar::one()
+    } else {
+        Scalar {
+            root2: -2,
+            turn: Sixteenth::new(0),
+        }
     }
 }

@@ -37,3 +37,4 @@ pub mod EditPrograms
 pub mod ReducedLemmas
 pub mod PhaseGateSum
 pub mod WorkedSums
+pub mod StepScalars

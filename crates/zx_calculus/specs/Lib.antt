@@ -19,3 +19,4 @@ pub mod Reduced
 pub mod Worked
 pub mod PhaseGates
 pub mod Tables
+pub mod StepScalars

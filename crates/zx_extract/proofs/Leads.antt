@@ -14,7 +14,7 @@ use Rattle.zx_extract.specs.Internal.Leading.{State, Leads}
 use Rattle.zx_model.proofs.Powers.{power_of_two-add}
 use Rattle.zx_gates.proofs.LoweringLemmas.{gate_odd_phases-append}
 
-pub leads_nothing : (s : State) → Leads s 0 0 0 s
+unfoldable pub leads_nothing : (s : State) → Leads s 0 0 0 s
 leads_nothing s = record {
   taken = [];
   gates = refl;
@@ -30,7 +30,7 @@ leads_nothing s = record {
   outputs = refl;
 }
 
-pub leads_then : (s : State) (k p q : ℕ) (t : State) (l p' q' : ℕ) (u : State) → Leads s k p q t → Leads t l p' q' u →
+unfoldable pub leads_then : (s : State) (k p q : ℕ) (t : State) (l p' q' : ℕ) (u : State) → Leads s k p q t → Leads t l p' q' u →
     Leads s (k + l) (p + p') (q + q') u
 leads_then s k p q t l p' q' u a b = record {
   taken = b.taken ++ a.taken;
@@ -59,7 +59,7 @@ leads_then s k p q t l p' q' u a b = record {
     both_gone : (x y z p q : ℕ) → y + p ≡ x → z + q ≡ y → z + (p + q) ≡ x
     both_gone x y z p q e f = omega arith
 
-pub leads_within : (s : State) (k p q l : ℕ) (t : State) → k ≤ l → Leads s k p q t → Leads s l p q t
+unfoldable pub leads_within : (s : State) (k p q l : ℕ) (t : State) → k ≤ l → Leads s k p q t → Leads s l p q t
 leads_within s k p q l t within a = record {
   taken = a.taken;
   gates = a.gates;

@@ -136,7 +136,7 @@ module _ (s : State) (v : ℕ) (t : State) (r : IsReady s) (f : IsFrontier s.gra
 -- ---- a gadget on outputs
 module _ (s : State) (v : ℕ) (qubits : List ℕ) (t : State) (r : IsReady s) (f : IsFrontier s.graph)
     (legs : AreLegs s.graph v qubits) (a : IsGadgetTaken s v qubits t) where
-  gadget_formed : WellFormed t.graph
+  pub gadget_formed : WellFormed t.graph
   gadget_formed = gadget_formed_back s.graph v qubits t.graph r.given.well_formed a.peel
 
   pub gadget_ready : IsReady t
@@ -148,7 +148,7 @@ module _ (s : State) (v : ℕ) (qubits : List ℕ) (t : State) (r : IsReady s) (
   pub gadget_shorter : length t.table + 1 ≡ length s.table
   gadget_shorter = removed_shorter s v t r f a.last a.peel.plane a.peel.removal gadget_formed a.table
 
-  pub gadget_leads : Leads s (2 * length (legs_of s.graph v)) 0 1 t
+  unfoldable pub gadget_leads : Leads s (2 * length (legs_of s.graph v)) 0 1 t
   gadget_leads = record {
     taken = gadget_gates (phase_of s.graph v) qubits;
     gates = a.gates;
@@ -171,7 +171,7 @@ module _ (s : State) (v : ℕ) (qubits : List ℕ) (t : State) (r : IsReady s) (
 -- ---- a gadget through an output
 module _ (s : State) (v q : ℕ) (qubits : List ℕ) (t : State) (r : IsReady s) (f : IsFrontier s.graph)
     (legs : AreLegs s.graph v qubits) (a : IsLinkedGadgetTaken s v q qubits t) where
-  linked_formed : WellFormed t.graph
+  pub linked_formed : WellFormed t.graph
   linked_formed = linked_gadget_formed_back s.graph v q qubits t.graph r.given.well_formed a.peel
 
   pub linked_ready : IsReady t
@@ -183,7 +183,7 @@ module _ (s : State) (v q : ℕ) (qubits : List ℕ) (t : State) (r : IsReady s)
   pub linked_shorter : length t.table + 1 ≡ length s.table
   linked_shorter = removed_shorter s v t r f a.last a.peel.plane a.peel.removal linked_formed a.table
 
-  pub linked_leads : Leads s (2 * length (legs_of s.graph v) + 3) 0 1 t
+  unfoldable pub linked_leads : Leads s (2 * length (legs_of s.graph v) + 3) 0 1 t
   linked_leads = record {
     taken = linked_gadget_gates (phase_of s.graph v) q qubits;
     gates = a.gates;

@@ -1,9 +1,12 @@
 -- Vertices that are taken off one after the other, and the gates that each costs.
-use Rattle.std.proofs.Common.{◌≡◌, ◌≢◌, refl, sym, ◌∙◌, ap, subst, ℕ, ◌+◌, ◌-◌, ◌*◌, ◌≤◌, ◌<◌, true, cond, ◌&&◌, ne_eqb, true≢false, List, lt-ltb, length, mul-add, arith}
+use Rattle.std.proofs.Common.{◌≡◌, ◌≢◌, refl, sym, ◌∙◌, ap, ap₂, subst, le_of_eq, ℕ, ◌+◌, ◌-◌, ◌*◌, ◌≤◌, ◌<◌, true, cond, not, ◌&&◌, ne_eqb, true≢false, List, lt-ltb, length, mul-add, arith}
 use Rattle.std.specs.Prelude.{slice_get}
 use Rattle.zx_model.specs.Bits.{member}
 use Rattle.zx_calculus.specs.Graph.{Live, joined, kind_of, plane_of, end_vertices}
 use Rattle.zx_calculus.specs.Graph as graph
+use Rattle.zx_calculus.specs.Graph.{is_XY}
+use Rattle.zx_calculus.specs.Counts.{not_XY}
+use Rattle.std.proofs.lemmas.List.Filters.{length-filter_both}
 use Rattle.zx_calculus.specs.Turns.{in_plane}
 use Rattle.zx_calculus.specs.Worked.{plain}
 use Rattle.zx_calculus.proofs.Ids.{and-left, and-right}
@@ -14,7 +17,7 @@ use Rattle.gflow_laws.specs.Flow.{Correction, order_of}
 use Rattle.circuit_laws.specs.Peeling.{HasPlainOutput}
 use Rattle.circuit_laws.proofs.Places.{member-places}
 use Rattle.zx_extract.specs.Internal.Lists.{others_below, legs_of}
-use Rattle.zx_extract.specs.Internal.Leading.{State, Leads, IsReady, IsFrontier, IsTaken}
+use Rattle.zx_extract.specs.Internal.Leading.{State, Leads, IsReady, IsFrontier, IsTaken, cost_of}
 use Rattle.zx_extract.specs.Internal.Steps.{IsGathered, HasLast, HasNoOutput, HasOneOutput, AreLegs, AreLegsFree, TakesLegs, IsGadgetTaken, IsLinkedGadgetTaken, IsAdvanced, IsSettling}
 use Rattle.zx_extract.proofs.Lasts.{keeps_last, length-order}
 use Rattle.zx_extract.proofs.SettledOutputs.{settled_whole}
@@ -26,11 +29,13 @@ use Rattle.zx_extract.proofs.Advancing.{advanced_ready, advanced_leads, advanced
 use Rattle.zx_extract.proofs.Removing.{gadget_leads, gadget_ready, gadget_frontier, gadget_shorter, linked_leads, linked_ready, linked_frontier, linked_shorter}
 use Rattle.zx_extract.proofs.Leads.{leads_nothing, leads_then, leads_within}
 
-pub taken_nothing : (s : State) → IsReady s → IsFrontier s.graph → IsTaken s s
+pub taken_nothing : (s : State) → IsReady s → IsFrontier s.graph → IsTaken 0 s s
+unfolding leads_within leads_nothing
 taken_nothing s r f = record {
   spiders = 0;
   gadgets = 0;
   leads = leads_within s 0 0 0 _ s (omega arith) (leads_nothing s);
+  doubled = refl;
   ready = r;
   frontier = f;
 }
@@ -38,13 +43,15 @@ taken_nothing s r f = record {
 cost-add : (n p q p' q' : ℕ) → (2 * n * p + 3 * n * q) + (2 * n * p' + 3 * n * q') ≤ 2 * n * (p + p') + 3 * n * (q + q')
 cost-add n p q p' q' = omega (arith, mul-add (2 * n) p p', mul-add (3 * n) q q')
 
-pub taken_then : (s t u : State) → IsTaken s t → IsTaken t u → IsTaken s u
+pub taken_then : {d e : ℕ} (s t u : State) → IsTaken d s t → IsTaken e t u → IsTaken (d + e) s u
+unfolding leads_within leads_then
 taken_then s t u a b = record {
   spiders = a.spiders + b.spiders;
   gadgets = a.gadgets + b.gadgets;
   leads = leads_within s _ _ _ _ u (cost-add (length s.graph.outputs) a.spiders a.gadgets b.spiders b.gadgets)
       (leads_then s _ _ _ t _ _ _ u a.leads
-      (subst (λ n. Leads t (2 * n * b.spiders + 3 * n * b.gadgets) b.spiders b.gadgets u) a.leads.outputs b.leads));
+      (leads_within t _ _ _ _ u (le_of_eq (ap (λ n. 2 * n * b.spiders + 3 * n * b.gadgets) a.leads.outputs)) b.leads));
+  doubled = ap₂ (λ m n. m + n) a.doubled b.doubled;
   ready = b.ready;
   frontier = b.frontier;
 }
@@ -53,13 +60,15 @@ others_of : (q n : ℕ) → q < n → others_below q n ≡ n - 1
 others_of q n within = ap (λ b. cond b (n - 1) n) (lt-ltb q n within)
 
 -- rows of legs are added, and a gadget on outputs goes
-pub taken_gadget : (s : State) (v : ℕ) (t u : State) → TakesLegs s v t → Leads t (2 * length (legs_of t.graph v)) 0 1 u →
-    IsReady u → IsFrontier u.graph → IsTaken s u
-taken_gadget s v t u legs leads r f = record {
+pub taken_gadget : (s : State) (v : ℕ) (t u : State) → TakesLegs s v t → (leads : Leads t (2 * length (legs_of t.graph v)) 0 1 u) → leads.doublings ≡ 1 →
+    IsReady u → IsFrontier u.graph → IsTaken 1 s u
+unfolding leads_within leads_then
+taken_gadget s v t u legs leads one r f = record {
   spiders = 0;
   gadgets = 1;
   leads = leads_within s _ 0 1 _ u (cost _ _ _ _ legs.fewer (legs_few s.graph v))
       (leads_then s _ 0 0 t _ 0 1 u legs.rows.leads leads);
+  doubled = omega (arith, legs.rows.leads.few_doublings, one);
   ready = r;
   frontier = f;
 }
@@ -70,14 +79,17 @@ taken_gadget s v t u legs leads r f = record {
 -- rows are gathered at an output, rows of legs are added, and a gadget goes through the output
 pub taken_linked : (s : State) (q v : ℕ) (t u w : State) → q < length s.graph.outputs →
     IsGathered s q (length s.graph.outputs) t → length (legs_of t.graph v) + 1 ≤ length t.graph.outputs →
-    TakesLegs t v u → Leads u (2 * length (legs_of u.graph v) + 3) 0 1 w → IsReady w → IsFrontier w.graph → IsTaken s w
-taken_linked s q v t u w within g fewer legs leads r f = record {
+    TakesLegs t v u → (leads : Leads u (2 * length (legs_of u.graph v) + 3) 0 1 w) → leads.doublings ≡ 0 → IsReady w →
+    IsFrontier w.graph → IsTaken 0 s w
+unfolding leads_within leads_then
+taken_linked s q v t u w within g fewer legs leads none r f = record {
   spiders = 0;
   gadgets = 1;
   leads = leads_within s _ 0 1 _ w
       (cost (length s.graph.outputs) _ _ _ _ within (others_of q _ within) legs.fewer
       (subst (λ n. length (legs_of t.graph v) + 1 ≤ n) g.rows.leads.outputs fewer))
       (leads_then s _ 0 0 t _ 0 1 w g.rows.leads (leads_then t _ 0 0 u _ 0 1 w legs.rows.leads leads));
+  doubled = omega (arith, g.rows.leads.few_doublings, legs.rows.leads.few_doublings, none);
   ready = r;
   frontier = f;
 }
@@ -90,16 +102,20 @@ taken_linked s q v t u w within g fewer legs leads r f = record {
 pub taken_spider : (s : State) (q : ℕ) (t u w : State) → q < length s.graph.outputs →
     IsGathered s q (length s.graph.outputs) t →
     Leads t 1 1 0 u → Leads u (1 + others_below q (length u.graph.outputs)) 0 0 w → IsReady w → IsFrontier w.graph →
-    IsTaken s w
-taken_spider s q t u w within g advanced settled r f = record {
-  spiders = 1;
-  gadgets = 0;
-  leads = leads_within s _ 1 0 _ w (cost (length s.graph.outputs) _ within (others_of q _ within))
-      (leads_then s _ 0 0 t _ 1 0 w g.rows.leads (leads_then t 1 1 0 u _ 0 0 w advanced
-      (subst (λ n. Leads u (1 + others_below q n) 0 0 w) (advanced.outputs ∙ g.rows.leads.outputs) settled)));
-  ready = r;
-  frontier = f;
-}
+    IsTaken 0 s w
+taken_spider s q t u w within g advanced settled r f =
+    let whole : Leads s (cost_of (length s.graph.outputs) 1 0) 1 0 w =
+    leads_within s _ 1 0 _ w (cost (length s.graph.outputs) _ within (others_of q _ within))
+    (leads_then s _ 0 0 t _ 1 0 w g.rows.leads (leads_then t 1 1 0 u _ 0 0 w advanced
+    (subst (λ n. Leads u (1 + others_below q n) 0 0 w) (advanced.outputs ∙ g.rows.leads.outputs) settled))) in
+    record {
+      spiders = 1;
+      gadgets = 0;
+      leads = whole;
+      doubled = omega (arith, whole.few_doublings);
+      ready = r;
+      frontier = f;
+    }
   where
     cost : (n others : ℕ) → q < n → others ≡ n - 1 → others + (1 + (1 + others)) ≤ 2 * n * 1 + 3 * n * 0
     cost n others within e = omega arith
@@ -130,9 +146,10 @@ none_free s v r none u there =
 
 pub gadget_taken : (s : State) (v : ℕ) (t u : State) → TakesLegs s v t →
     ((qubits : List ℕ) × AreLegs t.graph v qubits × IsGadgetTaken t v qubits u) →
-    IsTaken s u × (length u.table + 1 ≡ length s.table)
+    IsTaken 1 s u × (length u.table + 1 ≡ length s.table)
+unfolding gadget_leads
 gadget_taken s v t u legs a = (
-  taken_gadget s v t u legs (gadget_leads t v a.0 u legs.rows.ready legs.rows.frontier a.1 a.2)
+  taken_gadget s v t u legs (gadget_leads t v a.0 u legs.rows.ready legs.rows.frontier a.1 a.2) refl
       (gadget_ready t v a.0 u legs.rows.ready legs.rows.frontier a.1 a.2)
       (gadget_frontier t v a.0 u legs.rows.ready legs.rows.frontier a.1 a.2),
   gadget_shorter t v a.0 u legs.rows.ready legs.rows.frontier a.1 a.2 ∙ as_long s.table t.table legs.rows.order,
@@ -179,10 +196,11 @@ module _ (s : State) (v q : ℕ) (t : State) (within : q < length s.graph.output
 
     pub linked_taken : (u w : State) → TakesLegs t v u →
         ((qubits : List ℕ) × AreLegs u.graph v qubits × IsLinkedGadgetTaken u v q qubits w) →
-        IsTaken s w × (length w.table + 1 ≡ length s.table)
+        IsTaken 0 s w × (length w.table + 1 ≡ length s.table)
+    unfolding linked_leads
     linked_taken u w legs a = (
       taken_linked s q v t u w within g fewer legs
-          (linked_leads u v q a.0 w legs.rows.ready legs.rows.frontier a.1 a.2)
+          (linked_leads u v q a.0 w legs.rows.ready legs.rows.frontier a.1 a.2) refl
           (linked_ready u v q a.0 w legs.rows.ready legs.rows.frontier a.1 a.2)
           (linked_frontier u v q a.0 w legs.rows.ready legs.rows.frontier a.1 a.2),
       linked_shorter u v q a.0 w legs.rows.ready legs.rows.frontier a.1 a.2
@@ -205,7 +223,7 @@ module _ (s : State) (v q : ℕ) (t : State) (within : q < length s.graph.output
       spider_ready = advanced_ready t v q u g.rows.ready g.rows.frontier still_XY one_left a
 
       pub spider_taken : (w : State) → IsSettling u q (length u.graph.outputs) w →
-          IsTaken s w × (length w.table + 1 ≡ length s.table)
+          IsTaken 0 s w × (length w.table + 1 ≡ length s.table)
       spider_taken w c = (
         taken_spider s q t u w within g (advanced_leads t v q u g.rows.ready g.rows.frontier still_XY one_left a)
             c.settles.leads c.settles.ready
@@ -213,3 +231,15 @@ module _ (s : State) (v q : ℕ) (t : State) (within : q < length s.graph.output
         ap (λ table. length table + 1) c.settles.table
             ∙ advanced_shorter t v q u g.rows.ready g.rows.frontier still_XY one_left a ∙ as_long s.table t.table g.rows.order,
       )
+
+-- the sum is doubled no more often than there are vertices that aren't XY
+pub doubled_few : {d : ℕ} {s t : State} → IsTaken d s t → d ≤ not_XY s.graph
+doubled_few {d} {s} {t} a = few d _ _ _ _ a.doubled a.leads.few_doublings a.leads.others
+  where
+    few : (d doublings gadgets left all : ℕ) → doublings ≡ d → doublings ≤ gadgets → left + gadgets ≡ all → d ≤ all
+    few d doublings gadgets left all e f g = omega (arith, e, f, g)
+
+pub few_not_XY : (g : graph.Graph) → not_XY g ≤ length g.vertices
+few_not_XY g =
+    let both = length-filter_both (λ (x : graph.Vertex). not (is_XY x.kind.plane)) (λ x. not (not (is_XY x.kind.plane))) (λ x. refl) g.vertices in
+    omega (arith, both)

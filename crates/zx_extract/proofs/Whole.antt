@@ -1,12 +1,15 @@
 -- What the gates are to the graph when all were taken off.
-use Rattle.std.proofs.Common.{◌≡◌, refl, sym, ◌∙◌, ap, subst, ℕ, ◌+◌, ◌-◌, ◌*◌, ◌/◌, ◌≤◌, true, false, List, [], ◌∷◌, ◌++◌, length, length-append, append-nil, reverse, mul-le-mul_left, arith}
+use Rattle.std.proofs.Common.{◌≡◌, refl, sym, ◌∙◌, ap, subst, ℕ, ◌+◌, ◌-◌, ◌*◌, ◌/◌, ◌≤◌, true, false, List, [], ◌∷◌, ◌++◌, length, length-append, append-nil, reverse, mul-le-mul_left, arith, le_of_eq, zero as nought, suc, pos, ap₂}
 use Rattle.std.specs.List.{All}
 use Rattle.std.proofs.lemmas.List.Elements.{All-nil, All-head, All-tail, All-push}
 use Rattle.std.proofs.lemmas.List.{reverse-append, reverse-reverse}
 use Rattle.zx_model.specs.Bits.{member}
 use Rattle.zx_model.specs.Number.{one, mul}
 use Rattle.zx_model.specs.Proportional.{Proportional}
-use Rattle.zx_model.proofs.Ring.{mul-one}
+use Rattle.zx_model.specs.Scalar.{root_of_two_power, IsScaled}
+use Rattle.zx_model.proofs.Ring.{mul-one, one-mul}
+use Rattle.zx_model.proofs.Powers.{root_power-zero}
+use Rattle.zx_model.proofs.Scalars.{root_of_two_squared, root_of_two_power-add}
 use Rattle.zx_calculus.specs.Graph.{Graph, ids, joined, end_vertices, Live, WellFormed}
 use Rattle.zx_calculus.specs.Sum.{sum}
 use Rattle.zx_calculus.specs.Counts.{odd_phases, not_XY, XY_without_output}
@@ -28,10 +31,10 @@ use Rattle.circuit_laws.proofs.GateLists.{hadamards_few}
 use Rattle.zx_extract.specs.Extraction.{HasExactMap, most_extracted_gates}
 use Rattle.zx_extract.specs.Internal.Lists.{in_line}
 use Rattle.zx_extract.specs.Internal.Leading.{State, Leads, IsReady, IsFrontier, IsTaken}
-use Rattle.zx_extract.proofs.Leads.{leads_then}
+use Rattle.zx_extract.proofs.Leads.{leads_then, leads_within}
 use Rattle.zx_extract.proofs.Places.{place_of_output}
 use Rattle.zx_extract.proofs.Exchanges.{places-plain, plain-map}
-use Rattle.zx_model.specs.Constants.{power_of_two}
+use Rattle.zx_model.specs.Constants.{root_of_two, power_of_two}
 use Rattle.zx_gates.proofs.LoweringLemmas.{gate_odd_phases-append}
 
 -- with the outputs in line, wires are left
@@ -82,9 +85,8 @@ module _ (s : State) (k p q : ℕ) (t : State) (a : Leads s k p q t) (none : s.g
       (amp (hadamards_from 0 s.graph.inputs ++ t.gates))
   whole_map = ends_proportional s.graph (hadamards_from 0 s.graph.inputs ++ t.gates) ends_at.0
 
-  pub whole_exact : HasExactMap s.graph (hadamards_from 0 s.graph.inputs ++ t.gates)
+  pub whole_exact : HasExactMap a.doublings s.graph (hadamards_from 0 s.graph.inputs ++ t.gates)
   whole_exact = record {
-    doublings = a.doublings;
     few = omega (arith, a.few_doublings, a.others);
     equal = ends_at_sum (power_of_two a.doublings) s.graph (hadamards_from 0 s.graph.inputs ++ t.gates) ends_at;
   }
@@ -118,16 +120,16 @@ few_in_all n k marks settled p q p0 q0 taken crossed inputs a b c d e more_p mor
     sum_up n k half a b c d e f g = omega arith
 
 -- ---- the steps in a row
-pub record IsExtracted (g : Graph) (gates : List Gate) : Type 0 where
+pub record IsExtracted (doublings : ℕ) (g : Graph) (gates : List Gate) : Type 0 where
   pub map : Proportional (length g.inputs) (length g.outputs) (sum g) (amp gates)
-  pub exact : HasExactMap g gates
+  pub exact : HasExactMap doublings g gates
   pub odd : gate_odd_phases gates ≤ odd_phases g
   pub few : length gates ≤ most_extracted_gates (length g.outputs) (XY_without_output g) (not_XY g)
 
-module _ (s0 s1 s2 s3 s4 : State) (none : s0.gates ≡ []) (ends : length s0.graph.inputs ≡ length s0.graph.outputs)
+module _ {doublings : ℕ} (s0 s1 s2 s3 s4 : State) (none : s0.gates ≡ []) (ends : length s0.graph.inputs ≡ length s0.graph.outputs)
     (marks : Leads s0 (length s0.graph.outputs) 0 0 s1)
     (settled : Leads s1 (length s1.graph.outputs * (length s1.graph.outputs - 1) / 2 + length s1.graph.outputs) 0 0 s2)
-    (taken : IsTaken s2 s3) (all : s3.table ≡ [])
+    (taken : IsTaken doublings s2 s3) (all : s3.table ≡ [])
     (crossed : Leads s3 (3 * length s3.graph.outputs) 0 0
     (record { graph = in_line s3.graph; table = s4.table; gates = s4.gates }))
     (formed : WellFormed (in_line s3.graph)) where
@@ -153,23 +155,32 @@ module _ (s0 s1 s2 s3 s4 : State) (none : s0.gates ≡ []) (ends : length s0.gra
   pub ends3 : length s3.graph.inputs ≡ length s3.graph.outputs
   ends3 = ap length inputs3 ∙ ends ∙ sym outputs3
 
+  settled_here : Leads s1 (n * (n - 1) / 2 + n) 0 0 s2
+  settled_here = subst (λ m. Leads s1 (m * (m - 1) / 2 + m) 0 0 s2) outputs1 settled
+
+  taken_here : Leads s2 (2 * n * taken.spiders + 3 * n * taken.gadgets) taken.spiders taken.gadgets s3
+  taken_here = leads_within s2 _ _ _ _ s3 (le_of_eq (ap (λ m. 2 * m * taken.spiders + 3 * m * taken.gadgets) outputs2)) taken.leads
+
+  crossed_here : Leads s3 (3 * n) 0 0 last
+  crossed_here = subst (λ m. Leads s3 (3 * m) 0 0 last) outputs3 crossed
+
   together : Leads s0 (n + ((n * (n - 1) / 2 + n) + ((2 * n * taken.spiders + 3 * n * taken.gadgets) + 3 * n)))
       (0 + (0 + (taken.spiders + 0))) (0 + (0 + (taken.gadgets + 0))) last
   together =
       leads_then s0 n 0 0 s1 _ _ _ last marks
-      (leads_then s1 _ 0 0 s2 _ _ _ last (subst (λ m. Leads s1 (m * (m - 1) / 2 + m) 0 0 s2) outputs1 settled)
-      (leads_then s2 _ taken.spiders taken.gadgets s3 _ 0 0 last
-      (subst (λ m. Leads s2 (2 * m * taken.spiders + 3 * m * taken.gadgets) taken.spiders taken.gadgets s3)
-      outputs2 taken.leads)
-      (subst (λ m. Leads s3 (3 * m) 0 0 last) outputs3 crossed)))
+      (leads_then s1 _ 0 0 s2 _ _ _ last settled_here (leads_then s2 _ taken.spiders taken.gadgets s3 _ 0 0 last taken_here crossed_here))
+
+  doubled : together.doublings ≡ doublings
+  unfolding together leads_then taken_here leads_within
+  doubled = omega (arith, marks.few_doublings, settled_here.few_doublings, crossed_here.few_doublings, taken.doubled)
 
   wires : IsWires (in_line s3.graph)
   wires = line_wires s3 taken.ready taken.frontier all ends3
 
-  pub extracted : IsExtracted s0.graph (hadamards_from 0 s0.graph.inputs ++ s4.gates)
+  pub extracted : IsExtracted doublings s0.graph (hadamards_from 0 s0.graph.inputs ++ s4.gates)
   extracted = record {
     map = whole_map s0 _ _ _ last together none formed wires;
-    exact = whole_exact s0 _ _ _ last together none formed wires;
+    exact = subst (λ d. HasExactMap d s0.graph (hadamards_from 0 s0.graph.inputs ++ s4.gates)) doubled (whole_exact s0 _ _ _ last together none formed wires);
     odd = whole_odd s0 _ _ _ last together none formed wires;
     few = few_in_all n _ n (n * (n - 1) / 2 + n) taken.spiders taken.gadgets (XY_without_output s0.graph)
         (not_XY s0.graph) (2 * n * taken.spiders + 3 * n * taken.gadgets) (3 * n) (length s0.graph.inputs)
@@ -192,9 +203,9 @@ module _ (s0 s1 s2 s3 s4 : State) (none : s0.gates ≡ []) (ends : length s0.gra
     pub as_many_inputs : length s4.graph.inputs ≡ length g.outputs
     as_many_inputs = ap length inputs4 ∙ ends ∙ ap (λ (h : Graph). length h.outputs) given
 
-    pub circuit_is : (gates : List Gate) → gates ≡ hadamards_from 0 s4.graph.inputs ++ s4.gates → IsExtracted g gates
-    circuit_is gates is = subst (IsExtracted g) (sym (is ∙ ap (λ es. hadamards_from 0 es ++ s4.gates) inputs4))
-        (subst (λ h. IsExtracted h (hadamards_from 0 s0.graph.inputs ++ s4.gates)) given extracted)
+    pub circuit_is : (gates : List Gate) → gates ≡ hadamards_from 0 s4.graph.inputs ++ s4.gates → IsExtracted doublings g gates
+    circuit_is gates is = subst (IsExtracted doublings g) (sym (is ∙ ap (λ es. hadamards_from 0 es ++ s4.gates) inputs4))
+        (subst (λ h. IsExtracted doublings h (hadamards_from 0 s0.graph.inputs ++ s4.gates)) given extracted)
 
     pub on_all_inputs : All (IsOnQubits (length s4.graph.inputs)) s4.gates
     on_all_inputs = subst (λ es. All (IsOnQubits (length es)) s4.gates) (sym inputs4) on_inputs
@@ -207,3 +218,17 @@ All-backwards P gates all = subst (All P) (reverse-reverse gates) (turned (rever
     turned [] all = All-nil P
     turned (gate ∷ gates) all = subst (All P) (sym (reverse-append (gate ∷ []) gates))
         (All-push P (reverse gates) gate (turned gates (All-tail P gate gates all)) (All-head P gate gates all))
+
+-- ---- the scalar
+twos : (d : ℕ) → root_of_two_power (2 * d) ≡ power_of_two d
+twos nought = refl
+twos (suc d) =
+    let longer : 2 * suc d ≡ 2 + 2 * d = omega arith in
+    ap root_of_two_power longer ∙ root_of_two_power-add 2 (2 * d)
+    ∙ ap₂ mul (ap (mul root_of_two) (mul-one root_of_two) ∙ root_of_two_squared) (twos d)
+
+pub exact_scaled : (d : ℕ) (g : Graph) (gates : List Gate) → HasExactMap d g gates →
+    IsScaled (length g.inputs) (length g.outputs) (sum g) (record { root2 = pos (2 * d); turn = 0 }) (amp gates)
+exact_scaled d g gates e = λ x y p q.
+    one-mul (sum g x y) ∙ e.equal x y p q
+    ∙ ap (λ z. mul z (amp gates x y)) (sym (twos d) ∙ sym (mul-one (root_of_two_power (2 * d))) ∙ ap (mul (root_of_two_power (2 * d))) (sym root_power-zero))

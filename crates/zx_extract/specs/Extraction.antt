@@ -12,8 +12,7 @@ use Rattle.zx_model.specs.Constants.{power_of_two}
 
 -- The graph's sum is the map of the gates times a power of two, with at most one factor for each vertex
 -- that isn't XY: each phase gadget that stood on outputs alone doubles the sum.
-pub record HasExactMap (g : Graph) (gates : List Gate) : Type 0 where
-  pub doublings : ℕ
+pub record HasExactMap (doublings : ℕ) (g : Graph) (gates : List Gate) : Type 0 where
   pub few : doublings ≤ not_XY g
   pub equal : (x y : List Bool) → length x ≡ length g.inputs → length y ≡ length g.outputs →
       sum g x y ≡ mul (power_of_two doublings) (amp gates x y)

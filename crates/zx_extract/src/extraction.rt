@@ -1,7 +1,8 @@
 //! The circuit of a graph with a flow.
 
-ghost use Rattle.std.specs.Prelude.{◌≡◌, ◌≢◌, ◌≤◌, ℕ, length, IfOk};
+ghost use Rattle.std.specs.Prelude.{◌≡◌, ◌≢◌, ◌<◌, ◌≤◌, ◌*◌, ℕ, pos, length, IfOk};
 ghost use Rattle.zx_model.specs.Proportional.{Proportional};
+ghost use Rattle.zx_model.specs.Scalar.{IsScaled, IsWithin};
 ghost use Rattle.zx_calculus.specs.Graph.{plane_of, Live};
 ghost use Rattle.zx_calculus.specs.Graph as zx;
 ghost use Rattle.zx_calculus.specs.Sum.{sum};
@@ -9,39 +10,58 @@ ghost use Rattle.zx_calculus.specs.Counts.{odd_phases, not_XY, XY_without_output
 ghost use Rattle.gflow_laws.specs.Flow.{IsFlow};
 ghost use Rattle.zx_gates.specs.Circuit.{most_qubits, gate_odd_phases};
 ghost use Rattle.zx_gates.specs.Maps.{amp};
-ghost use Rattle.zx_extract.specs.Extraction.{HasExactMap, most_extracted_gates};
+ghost use Rattle.zx_calculus.specs.StepScalars.{most_vertices};
+ghost use Rattle.zx_extract.specs.Extraction.{most_extracted_gates};
 
 use crate::frontier::Frontier;
 use open_graph::OpenGraph;
 use std::alloc::{AllocError, Global};
 use zx_flow::Flow;
 use zx_gates::GateList;
+use zx_model::{Scalar, Sixteenth};
 
 /// The circuit of a graph with a flow, taken off the graph gate by gate, from the outputs on.
 ///
 /// The graph has as many inputs as outputs, at most 1,024, and no vertex in the XZ plane. Then gates
-/// are found until none is left to find: the only error is want of memory.
-pub fn extract(alloc: Global, g: OpenGraph, f: Flow) -> Result<GateList, AllocError>
+/// are found until none is left to find: the only error is want of memory. Beside the circuit stands the
+/// scalar between the two: the graph's sum is so many times the circuit's map. The graph has fewer than
+/// 2^56 vertices.
+pub fn extract(alloc: Global, g: OpenGraph, f: Flow) -> Result<(GateList, Scalar), AllocError>
     requires flow { IsFlow g.graph f.flow }
     requires planes { (v : ℕ) → Live g.graph v → plane_of g.graph v ≢ zx.XZ }
     requires ends { length g.graph.inputs ≡ length g.graph.outputs }
     requires few { length g.graph.outputs ≤ most_qubits }
-    ensures qubits { IfOk result (λ c. c.qubits ≡ length g.graph.outputs) }
+    requires few_vertices { length g.graph.vertices < most_vertices }
+    ensures qubits { IfOk result (λ made. made.0.qubits ≡ length g.graph.outputs) }
 
     // The map is kept: the graph's sum is the circuit's map times a power of two.
-    ensures map { IfOk result (λ c. Proportional (length g.graph.inputs) (length g.graph.outputs)
-        (sum g.graph) (amp c.gates)) }
-    ensures exact { IfOk result (λ c. HasExactMap g.graph c.gates) }
+    ensures map { IfOk result (λ made. Proportional
+        (length g.graph.inputs) (length g.graph.outputs) (sum g.graph) (amp made.0.gates)) }
+    ensures scalar { IfOk result (λ made. IsScaled
+        (length g.graph.inputs) (length g.graph.outputs) (sum g.graph) made.1 (amp made.0.gates)) }
+    ensures small { IfOk result (λ made. IsWithin (2 * not_XY g.graph) made.1) }
 
     // Its gates.
-    ensures odd { IfOk result (λ c. gate_odd_phases c.gates ≤ odd_phases g.graph) }
-    ensures few_gates { IfOk result (λ c. length c.gates ≤
+    ensures odd { IfOk result (λ made. gate_odd_phases made.0.gates ≤ odd_phases g.graph) }
+    ensures few_gates { IfOk result (λ made. length made.0.gates ≤
         most_extracted_gates (length g.graph.outputs) (XY_without_output g.graph) (not_XY g.graph)) }
 {
     let mut frontier = Frontier::begin(alloc, g, &f)?;
     frontier.take_marks()?;
     frontier.settle_all()?;
-    frontier.take_vertices()?;
+    let doublings = frontier.take_vertices()?;
     frontier.uncross()?;
-    frontier.into_circuit()
+    let gates = frontier.into_circuit()?;
+    Ok((gates, doubled(doublings)))
+}
+
+// The scalar of a sum that was doubled so often.
+fn doubled(doublings: u64) -> Scalar
+    requires { doublings < most_vertices }
+    ensures { result ≡ record { root2 = pos (2 * doublings); turn = 0 } }
+{
+    Scalar {
+        root2: 2 * doublings as i64,
+        turn: Sixteenth::new(0),
+    }
 }

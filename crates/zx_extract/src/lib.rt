@@ -1,15 +1,15 @@
 //! The circuit of an open graph with a flow.
 //!
 //! Proved of `extract`, for every graph with a flow, without XZ vertices and with as many inputs as
-//! outputs, at most 1,024: it answers a circuit on as many qubits; the graph's sum is the circuit's
-//! map times a power of two, entry by entry, with at most one factor two for each YZ vertex; it has
+//! outputs, at most 1,024: it answers a circuit on as many qubits and a scalar; the graph's sum is the
+//! circuit's map times that scalar, a power of two with at most one factor two for each YZ vertex; it has
 //! no more odd phases than the graph, and at most n(n-1)/2 + 6n + 2np + 3nq gates for n outputs, p
 //! other XY vertices and q YZ vertices. `choose_rows` answers with a least set of rows that sum to a
 //! target, with no more members than a set that is known to. The rows of the outputs that are no
 //! inputs, over the vertices that are no outputs, are linearly independent.
 //!
 //! ```rust
-//! let circuit = extract(alloc, graph, flow)?;
+//! let (circuit, scalar) = extract(alloc, graph, flow)?;
 //! let set = choose_rows(alloc, &m, &target, &kept)?;
 //! ```
 #![tactic(auto)]

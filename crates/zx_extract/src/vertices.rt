@@ -1,8 +1,10 @@
 //! Vertices taken off a graph in the order of its flow, the last one first.
 
-ghost use Rattle.std.specs.Prelude.{◌≡◌, ◌<◌, ◌+◌, ℕ, List, [], length, OnOk};
+ghost use Rattle.std.specs.Prelude.{◌≡◌, ◌<◌, ◌+◌, ℕ, List, [], length, IfOk, OnOk};
 ghost use Rattle.zx_calculus.specs.Graph.{plane_of};
 ghost use Rattle.zx_calculus.specs.Graph as zx;
+ghost use Rattle.zx_calculus.specs.Counts.{not_XY};
+ghost use Rattle.zx_calculus.specs.StepScalars.{most_vertices};
 ghost use Rattle.zx_extract.specs.Internal.Frontiers.{state_of};
 ghost use Rattle.zx_extract.specs.Internal.Leading.{State, IsReady, IsFrontier, IsTaken};
 ghost use Rattle.zx_extract.specs.Internal.Steps.{HasLast, IsPicked, IsGathered, HasNoOutput, HasOneOutput, IsAdvanced, IsGadgetTaken, IsLinkedGadgetTaken, AreLegs};
@@ -77,7 +79,7 @@ impl Frontier {
         requires frontier { IsFrontier self.old.graph.graph }
         requires last { HasLast self.old.flow.flow v }
         requires picked { IsPicked (state_of self.old) q }
-        ensures taken { OnOk result (IsTaken (state_of self.old) (state_of self.new)) }
+        ensures taken { OnOk result (IsTaken 0 (state_of self.old) (state_of self.new)) }
         ensures shorter { OnOk result (length self.new.flow.flow + 1 ≡ length self.old.flow.flow) }
     {
         let (plane, _phase) = self.graph.weight(v);
@@ -94,33 +96,42 @@ impl Frontier {
         }
     }
 
-    // Takes off the last vertex.
-    fn take_vertex(&mut self, v: VertexId) -> Result<(), AllocError>
+    // Takes off the last vertex, and answers how often the sum is doubled: once, where that was a gadget on
+    // outputs alone.
+    fn take_vertex(&mut self, v: VertexId) -> Result<u64, AllocError>
         requires ready { IsReady (state_of self.old) }
         requires frontier { IsFrontier self.old.graph.graph }
         requires last { HasLast self.old.flow.flow v }
-        ensures taken { OnOk result (IsTaken (state_of self.old) (state_of self.new)) }
+        ensures taken { IfOk result (λ doublings.
+            IsTaken doublings (state_of self.old) (state_of self.new)) }
         ensures shorter { OnOk result (length self.new.flow.flow + 1 ≡ length self.old.flow.flow) }
     {
         match self.pick() {
-            Some(q) => self.take_through(v, q),
+            Some(q) => {
+                self.take_through(v, q)?;
+                Ok(0)
+            }
             None => {
                 self.take_legs(v)?;
-                self.take_gadget(v)
+                self.take_gadget(v)?;
+                Ok(1)
             }
         }
     }
 
-    // Takes off all vertices of the order.
-    pub(crate) fn take_vertices(&mut self) -> Result<(), AllocError>
+    // Takes off all vertices of the order, and answers how often the sum is doubled.
+    pub(crate) fn take_vertices(&mut self) -> Result<u64, AllocError>
         requires ready { IsReady (state_of self.old) }
         requires frontier { IsFrontier self.old.graph.graph }
-        ensures taken { OnOk result (IsTaken (state_of self.old) (state_of self.new)) }
+        requires few { not_XY self.old.graph.graph < most_vertices }
+        ensures taken { IfOk result (λ doublings.
+            IsTaken doublings (state_of self.old) (state_of self.new)) }
         ensures all { OnOk result (self.new.flow.flow ≡ []) }
     {
+        let mut doublings = 0;
         while let Some(v) = self.flow.last() {
-            self.take_vertex(v)?;
+            doublings += self.take_vertex(v)?;
         }
-        Ok(())
+        Ok(doublings)
     }
 }

@@ -1,14 +1,15 @@
 //! What the rewrites of gadgets are made of.
 
-ghost use Rattle.std.specs.Prelude.{◌≡◌, ◌+◌};
+ghost use Rattle.std.specs.Prelude.{◌≡◌, ◌+◌, pos};
 ghost use Rattle.zx_calculus.specs.Graph.{plane_of, phase_of, Live, WellFormed};
 ghost use Rattle.zx_calculus.specs.Graph as zx;
 ghost use Rattle.zx_calculus.specs.Edits.{IsRemoval};
 ghost use Rattle.zx_calculus.specs.Gadgets.{fuse_kind, is_gadget};
+ghost use Rattle.zx_calculus.specs.StepScalars.{root_of_two_to};
 ghost use Rattle.zx_calculus.specs.Toggles.{with_changed};
 
 use open_graph::{OpenGraph, Plane, VertexId};
-use zx_model::Sixteenth;
+use zx_model::{Scalar, Sixteenth};
 
 /// Whether an id is that of a gadget.
 pub fn is_gadget(g: &OpenGraph, v: VertexId) -> bool
@@ -20,6 +21,16 @@ pub fn is_gadget(g: &OpenGraph, v: VertexId) -> bool
     }
     let (plane, _) = g.weight(v);
     matches!(plane, Plane::YZ)
+}
+
+/// The scalar of each of the three rewrites, 2: the sum before is so many times the sum after.
+pub fn gadget_scalar() -> Scalar
+    ensures { result ≡ root_of_two_to (pos 2) }
+{
+    Scalar {
+        root2: 2,
+        turn: Sixteenth::new(0),
+    }
 }
 
 // Takes a gadget out of a graph, and answers its phase.

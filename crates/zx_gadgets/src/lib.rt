@@ -2,8 +2,8 @@
 //!
 //! Proved of `drop_lone` of a YZ vertex without neighbours, `fuse_into` of one whose only neighbour
 //! is XY, and `fuse_twin` of two with equal neighbours: with Ok the graph is the rewritten one and
-//! the flow the table that `gflow_laws` gives for that, a flow of the new graph; the sum is kept
-//! with the exact factors of `zx_calculus`, and odd phases don't rise; want of memory leaves both
+//! the flow the table that `gflow_laws` gives for that, a flow of the new graph; the sum before
+//! is twice the sum after, the answered scalar, and odd phases don't rise; want of memory leaves both
 //! as they were.
 //! `may_drop_lone`, `may_fuse_into` and `may_fuse_twin` tell exactly where each is allowed. The calls
 //! in place make the same change without copies; where memory runs out they say nothing.
@@ -23,7 +23,7 @@ mod lone;
 mod single;
 mod twins;
 
-pub use gadget::is_gadget;
+pub use gadget::{gadget_scalar, is_gadget};
 pub use lone::{drop_lone, drop_lone_in_graph, drop_lone_in_place, may_drop_lone};
 pub use single::{fuse_into, fuse_into_in_graph, fuse_into_in_place, may_fuse_into};
 pub use twins::{fuse_twin, fuse_twin_in_graph, fuse_twin_in_place, may_fuse_twin};

@@ -1,25 +1,29 @@
 //! The fusion of a gadget of one neighbour into that.
 
-ghost use Rattle.std.specs.Prelude.{◌≡◌, ◌+◌, true, IsOk, OnOk, OnErr};
+ghost use Rattle.std.specs.Prelude.{◌≡◌, ◌+◌, true, IsOk, IfOk, OnOk, OnErr};
 ghost use Rattle.zx_calculus.specs.Graph.{is_XY, plane_of, Live, WellFormed};
 ghost use Rattle.zx_calculus.specs.Steps.{allowed, FuseInto, IsStep};
+ghost use Rattle.zx_calculus.specs.StepScalars.{step_scalar};
 ghost use Rattle.gflow_laws.specs.Flow.{IsFlow};
 ghost use Rattle.gflow_laws.specs.Rewritten.{IsRewritten};
 ghost use Rattle.zx_flow.specs.Flows.{HaveReach};
 
-use crate::gadget::{add_phase, is_gadget, take_out};
+use crate::gadget::{add_phase, gadget_scalar, is_gadget, take_out};
 use open_graph::{OpenGraph, Plane, VertexId};
 use std::alloc::AllocError;
+use std::mem;
 use zx_flow::Flow;
+use zx_model::Scalar;
 
 /// Takes out a YZ vertex with one neighbour, an XY vertex, which gains its phase. Where memory runs
 /// out, graph and flow stay as they were; where all vertices are below the reach of both, none is
 /// needed.
-pub fn fuse_into(g: &mut OpenGraph, f: &mut Flow, u: VertexId) -> Result<(), AllocError>
+pub fn fuse_into(g: &mut OpenGraph, f: &mut Flow, u: VertexId) -> Result<Scalar, AllocError>
     requires flow { IsFlow g.old.graph f.old.flow }
     requires allowed { allowed g.old.graph (FuseInto u) ≡ true }
     ensures rewritten { OnOk result
         (IsRewritten g.old.graph f.old.flow (FuseInto u) g.new.graph f.new.flow) }
+    ensures scalar { IfOk result (λ s. s ≡ step_scalar g.old.graph (FuseInto u)) }
     ensures err { OnErr result ((g.new.graph ≡ g.old.graph) × (f.new.flow ≡ f.old.flow)) }
     ensures has_room { HaveReach g.old f.old → IsOk result }
     ensures spare { HaveReach g.old f.old →
@@ -35,20 +39,21 @@ pub fn fuse_into(g: &mut OpenGraph, f: &mut Flow, u: VertexId) -> Result<(), All
 }
 
 // The same on copies, which then take the place of graph and flow.
-fn fuse_into_in_copies(g: &mut OpenGraph, f: &mut Flow, u: VertexId) -> Result<(), AllocError>
+fn fuse_into_in_copies(g: &mut OpenGraph, f: &mut Flow, u: VertexId) -> Result<Scalar, AllocError>
     requires flow { IsFlow g.old.graph f.old.flow }
     requires allowed { allowed g.old.graph (FuseInto u) ≡ true }
     ensures rewritten { OnOk result
         (IsRewritten g.old.graph f.old.flow (FuseInto u) g.new.graph f.new.flow) }
+    ensures scalar { IfOk result (λ s. s ≡ step_scalar g.old.graph (FuseInto u)) }
     ensures err { OnErr result ((g.new.graph ≡ g.old.graph) × (f.new.flow ≡ f.old.flow)) }
     ensures valid { WellFormed g.new.graph }
 {
     let mut graph = g.copy()?;
     let mut flow = f.copy()?;
-    fuse_into_in_place(&mut graph, &mut flow, u)?;
-    *g = graph;
-    *f = flow;
-    Ok(())
+    let scalar = fuse_into_in_place(&mut graph, &mut flow, u)?;
+    mem::swap(g, &mut graph);
+    mem::swap(f, &mut flow);
+    Ok(scalar)
 }
 
 /// Whether the id is that of a YZ vertex with one neighbour, an XY vertex.
@@ -70,18 +75,25 @@ pub fn may_fuse_into(g: &OpenGraph, u: VertexId) -> bool
 
 /// As `fuse_into`, but where memory runs out, graph and flow may be any. Where all vertices are below
 /// the reach of both, none is needed.
-pub fn fuse_into_in_place(g: &mut OpenGraph, f: &mut Flow, u: VertexId) -> Result<(), AllocError>
+pub fn fuse_into_in_place(
+    g: &mut OpenGraph,
+    f: &mut Flow,
+    u: VertexId,
+) -> Result<Scalar, AllocError>
     requires flow { IsFlow g.old.graph f.old.flow }
     requires allowed { allowed g.old.graph (FuseInto u) ≡ true }
     ensures rewritten { OnOk result
         (IsRewritten g.old.graph f.old.flow (FuseInto u) g.new.graph f.new.flow) }
+    ensures scalar { IfOk result (λ s. s ≡ step_scalar g.old.graph (FuseInto u)) }
     ensures has_room { HaveReach g.old f.old → IsOk result }
     ensures spare { OnOk result
         ((g.new.spare ≡ g.old.spare + 1) × (f.new.spare ≡ f.old.spare + 1)) }
     ensures reach { (g.new.reach ≡ g.old.reach) × (f.new.reach ≡ f.old.reach) }
 {
+    let scalar = gadget_scalar();
     fuse_into_in_graph(g, u);
-    f.eliminate(u)
+    f.eliminate(u)?;
+    Ok(scalar)
 }
 
 /// The graph's part of `fuse_into`.

@@ -1,16 +1,19 @@
 //! The fusion of two gadgets of equal neighbours.
 
-ghost use Rattle.std.specs.Prelude.{◌≡◌, ◌+◌, true, IsOk, OnOk, OnErr};
+ghost use Rattle.std.specs.Prelude.{◌≡◌, ◌+◌, true, IsOk, IfOk, OnOk, OnErr};
 ghost use Rattle.zx_calculus.specs.Graph.{WellFormed};
 ghost use Rattle.zx_calculus.specs.Steps.{allowed, FuseTwin, IsStep};
+ghost use Rattle.zx_calculus.specs.StepScalars.{step_scalar};
 ghost use Rattle.gflow_laws.specs.Flow.{IsFlow};
 ghost use Rattle.gflow_laws.specs.Rewritten.{IsRewritten};
 ghost use Rattle.zx_flow.specs.Flows.{HaveReach};
 
-use crate::gadget::{add_phase, is_gadget, take_out};
+use crate::gadget::{add_phase, gadget_scalar, is_gadget, take_out};
 use open_graph::{OpenGraph, VertexId};
 use std::alloc::AllocError;
+use std::mem;
 use zx_flow::Flow;
+use zx_model::Scalar;
 
 /// Takes out the second of two YZ vertices with equal neighbours; the first gains its phase. Where
 /// memory runs out, graph and flow stay as they were; where all vertices are below the reach of both,
@@ -20,11 +23,12 @@ pub fn fuse_twin(
     f: &mut Flow,
     u: VertexId,
     v: VertexId,
-) -> Result<(), AllocError>
+) -> Result<Scalar, AllocError>
     requires flow { IsFlow g.old.graph f.old.flow }
     requires allowed { allowed g.old.graph (FuseTwin u v) ≡ true }
     ensures rewritten { OnOk result
         (IsRewritten g.old.graph f.old.flow (FuseTwin u v) g.new.graph f.new.flow) }
+    ensures scalar { IfOk result (λ s. s ≡ step_scalar g.old.graph (FuseTwin u v)) }
     ensures err { OnErr result ((g.new.graph ≡ g.old.graph) × (f.new.flow ≡ f.old.flow)) }
     ensures has_room { HaveReach g.old f.old → IsOk result }
     ensures spare { HaveReach g.old f.old →
@@ -45,20 +49,21 @@ fn fuse_twin_in_copies(
     f: &mut Flow,
     u: VertexId,
     v: VertexId,
-) -> Result<(), AllocError>
+) -> Result<Scalar, AllocError>
     requires flow { IsFlow g.old.graph f.old.flow }
     requires allowed { allowed g.old.graph (FuseTwin u v) ≡ true }
     ensures rewritten { OnOk result
         (IsRewritten g.old.graph f.old.flow (FuseTwin u v) g.new.graph f.new.flow) }
+    ensures scalar { IfOk result (λ s. s ≡ step_scalar g.old.graph (FuseTwin u v)) }
     ensures err { OnErr result ((g.new.graph ≡ g.old.graph) × (f.new.flow ≡ f.old.flow)) }
     ensures valid { WellFormed g.new.graph }
 {
     let mut graph = g.copy()?;
     let mut flow = f.copy()?;
-    fuse_twin_in_place(&mut graph, &mut flow, u, v)?;
-    *g = graph;
-    *f = flow;
-    Ok(())
+    let scalar = fuse_twin_in_place(&mut graph, &mut flow, u, v)?;
+    mem::swap(g, &mut graph);
+    mem::swap(f, &mut flow);
+    Ok(scalar)
 }
 
 /// Whether the ids are those of two YZ vertices with equal neighbours.
@@ -88,18 +93,21 @@ pub fn fuse_twin_in_place(
     f: &mut Flow,
     u: VertexId,
     v: VertexId,
-) -> Result<(), AllocError>
+) -> Result<Scalar, AllocError>
     requires flow { IsFlow g.old.graph f.old.flow }
     requires allowed { allowed g.old.graph (FuseTwin u v) ≡ true }
     ensures rewritten { OnOk result
         (IsRewritten g.old.graph f.old.flow (FuseTwin u v) g.new.graph f.new.flow) }
+    ensures scalar { IfOk result (λ s. s ≡ step_scalar g.old.graph (FuseTwin u v)) }
     ensures has_room { HaveReach g.old f.old → IsOk result }
     ensures spare { OnOk result
         ((g.new.spare ≡ g.old.spare + 1) × (f.new.spare ≡ f.old.spare + 1)) }
     ensures reach { (g.new.reach ≡ g.old.reach) × (f.new.reach ≡ f.old.reach) }
 {
+    let scalar = gadget_scalar();
     fuse_twin_in_graph(g, u, v);
-    f.eliminate(v)
+    f.eliminate(v)?;
+    Ok(scalar)
 }
 
 /// The graph's part of `fuse_twin`.

@@ -3,3 +3,4 @@ pub mod MapLemmas
 pub mod Multiples
 pub mod UnitaryLemmas
 pub mod WorkedLemmas
+pub mod Scaling

@@ -1,32 +1,35 @@
--- Lowering keeps the linear map up to a nonzero scalar, and the number of odd phases.
-use Rattle.std.proofs.Common.{◌≡◌, ◌≢◌, ℕ, ◌+◌, ◌<◌, ◌≤◌, take, ◌%◌, Bool, true, false, cond, eqb, List, [], ◌∷◌, ◌++◌, length, set, refl, sym, ap, ap₂, ◌∙◌, subst, arith, pos, negsuc, ℤ}
+-- Lowering keeps the linear map up to a scalar, and the number of odd phases.
+use Rattle.std.proofs.Common.{◌≡◌, ◌≢◌, ℕ, ◌+◌, ◌*◌, ◌<◌, ◌≤◌, get_or, take, add-one, ◌%◌, Bool, true, false, cond, eqb, List, [], ◌∷◌, ◌++◌, length, set, refl, sym, ap, ap₂, ◌∙◌, subst, arith}
 use Rattle.std.specs.List.{All}
-use Rattle.std.proofs.Math.Seq.{take-length}
-use Rattle.std.proofs.lemmas.List.{length-set}
+use Rattle.std.proofs.Math.Seq.{take-length, take-suc}
+use Rattle.std.proofs.lemmas.List.{flat_map_more}
 use Rattle.std.proofs.lemmas.List.Elements.{All-head, All-tail}
 use Rattle.std.proofs.lemmas.List.Sums.{sum_by-append, sum_by-cons}
 use Rattle.std.proofs.lemmas.Bool.{eqb-true, ne_eqb, eqb-false}
-use Rattle.zx_model.specs.Phase.{turn, half_turn, quarter_turn, sum_of_phases, opposite_phase}
+use Rattle.zx_model.specs.Phase.{turn, half_turn, quarter_turn, eighth_turn, sum_of_phases, opposite_phase}
 use Rattle.zx_model.specs.Number.{Number, zero, one, add, neg, mul, root_power}
-use Rattle.zx_model.specs.Cyclotomic.{add_cyclotomic, neg_cyclotomic, mul_cyclotomic}
-use Rattle.zx_model.specs.Constants.{two}
+use Rattle.zx_model.specs.Constants.{two, root_of_two}
 use Rattle.zx_model.specs.Bits.{bit, one_if}
 use Rattle.zx_model.specs.Proportional.{Proportional}
-use Rattle.zx_model.proofs.Ring.{expand, sorted, one_nonzero, two_nonzero, mul_comm, mul-zero, add-neg}
+use Rattle.zx_model.specs.Scalar.{root_of_two_power, numerator, denominator, IsScaled, IsWithin, most_root2, one_scalar, product_of_scalars}
+use Rattle.zx_model.specs.declared.scalar.Scalar.{Scalar}
+use Rattle.zx_model.proofs.Ring.{expand, sorted, one-mul, mul-one, mul_assoc, mul_comm, mul_left_comm, mul-zero, add-neg}
 use Rattle.zx_model.proofs.Odd.{is_odd-sum_half, is_odd-sum_quarter, is_odd-minus_quarter}
-use Rattle.zx_model.proofs.Powers.{root_power-add, root_power-mod, root_power-sum_of_phases, root_power-half_turn, root_power-zero, root_power-nonzero}
-use Rattle.zx_model.proofs.Domain.{mul-nonzero}
+use Rattle.zx_model.proofs.Powers.{root_power-add, root_power-mod, root_power-sum_of_phases, root_power-half_turn, root_power-zero}
+use Rattle.zx_model.proofs.Scalars.{root_of_two_squared, scaled_proportional}
 use Rattle.zx_gates.specs.Circuit.{gate_odd_phases, is_odd_phase}
 use Rattle.zx_gates.specs.Maps.{Matrix, amp, act, acts, act_on}
-use Rattle.zx_gates.specs.Elementary.{IsElementaryGateOn, difference_of_phases, odd_of, odd_elementary, elementary_odd_phases}
+use Rattle.zx_gates.specs.Elementary.{elementary_bound, IsElementaryGateOn, difference_of_phases, odd_of, odd_elementary, elementary_odd_phases}
 use Rattle.zx_gates.specs.ElementaryMaps.{unitary, act_elementary, acts_elementary, amp_elementary}
-use Rattle.zx_gates.specs.Lowering.{phase_gates, lowered_gate, lowered}
+use Rattle.zx_gates.specs.Lowering.{phase_gates, lowered_gate, lowered, lowering_scalar, unitary_scalar}
 use Rattle.zx_gates.specs.declared.gate.Gate.{Gate}
 use Rattle.zx_gates.specs.declared.gate.Gate.TheVariants.{H, Phase, Not}
 use Rattle.zx_gates.specs.declared.elementary.ElementaryGate.{ElementaryGate}
 use Rattle.zx_gates.specs.declared.elementary.ElementaryGate.TheVariants.{U, Cx}
 use Rattle.zx_gates.proofs.MapLemmas.{acts-append, act-phase-zero}
-use Rattle.zx_gates.proofs.Multiples.{Multiple, TakesOutFactors, multiple-refl, multiple-then, act_on-factor, proportional_of_multiple}
+use Rattle.zx_gates.proofs.Multiples.{acts-factor}
+use Rattle.zx_gates.proofs.Scaling.{IsTimes, Scaled, scaled-refl, scaled-then, scaled_if_times, scaled_amp}
+use Rattle.zx_model.proofs.Scalars.{within_product}
 use Rattle.zx_gates.proofs.UnitaryLemmas.{HasRows, act_on-rows, turned, mixed, exchanged, set_phase, set_hadamard, set_exchange, at_phase, none_mixed, one_mixed, two_mixed, one_exchanged}
 
 -- ---- the five lists
@@ -44,14 +47,14 @@ pub by_angle : (P : List Gate → Type 0) (q a b c : ℕ)
     → (a ≡ quarter_turn → P (turn_gates q (sum_of_phases c half_turn) b))
     → (a ≡ half_turn → P (phase_gates q (sum_of_phases (difference_of_phases c b) half_turn) ++ Not q ∷ []))
     → (a ≡ half_turn + quarter_turn → P (turn_gates q c (sum_of_phases b half_turn)))
-    → (a ≢ 0 → a ≢ half_turn → P (turn_gates q (sum_of_phases c (opposite_phase quarter_turn)) a ++ H q ∷ phase_gates q (sum_of_phases b quarter_turn)))
+    → (a ≢ 0 → a ≢ quarter_turn → a ≢ half_turn → a ≢ half_turn + quarter_turn → P (turn_gates q (sum_of_phases c (opposite_phase quarter_turn)) a ++ H q ∷ phase_gates q (sum_of_phases b quarter_turn)))
     → P (lowered_gate (U q a b c))
 by_angle P q a b c none quarter half three other =
     choose P (eqb a 0) _ _ (λ e. none (eqb-true a 0 e)) (λ not_none.
-    choose P (eqb a quarter_turn) _ _ (λ e. quarter (eqb-true a quarter_turn e)) (λ _.
+    choose P (eqb a quarter_turn) _ _ (λ e. quarter (eqb-true a quarter_turn e)) (λ not_quarter.
     choose P (eqb a half_turn) _ _ (λ e. half (eqb-true a half_turn e)) (λ not_half.
-    choose P (eqb a (half_turn + quarter_turn)) _ _ (λ e. three (eqb-true a (half_turn + quarter_turn) e)) (λ _.
-    other (eqb-false a 0 not_none) (eqb-false a half_turn not_half)))))
+    choose P (eqb a (half_turn + quarter_turn)) _ _ (λ e. three (eqb-true a (half_turn + quarter_turn) e)) (λ not_three.
+    other (eqb-false a 0 not_none) (eqb-false a quarter_turn not_quarter) (eqb-false a half_turn not_half) (eqb-false a (half_turn + quarter_turn) not_three)))))
 
 -- ---- odd phases
 pub gate_odd_phases-append : (xs ys : List Gate) → gate_odd_phases (xs ++ ys) ≡ gate_odd_phases xs + gate_odd_phases ys
@@ -98,7 +101,7 @@ odd_lowered_gate (U q a b c) =
     (λ e. rw e (omega (arith, odd-turn_gates q (sum_of_phases c half_turn) b, odd-half c)))
     (λ e. rw e (omega (arith, gate_odd_phases-append (phase_gates q (sum_of_phases (difference_of_phases c b) half_turn)) (Not q ∷ []), odd-phase_gates q (sum_of_phases (difference_of_phases c b) half_turn), odd-half (difference_of_phases c b))))
     (λ e. rw e (omega (arith, odd-turn_gates q c (sum_of_phases b half_turn), odd-half b)))
-    (λ not_none not_half. odd-two_turns q a b c ∙ sym (odd_elementary-other q a b c not_none not_half))
+    (λ not_none _ not_half _. odd-two_turns q a b c ∙ sym (odd_elementary-other q a b c not_none not_half))
 
 pub odd_lowered : (gates : List ElementaryGate) → gate_odd_phases (lowered gates) ≡ elementary_odd_phases gates
 odd_lowered [] = refl
@@ -118,65 +121,49 @@ acts-turn_gates q j k f =
     ∙ acts-phase_gates q j (act (H q) (acts (phase_gates q k) f))
     ∙ ap (λ g. act (Phase q j) (act (H q) g)) (acts-phase_gates q k f)
 
-by_phase : (n q : ℕ) (m : Matrix) (d : Number) (k : ℕ) → q < n → d ≢ zero → HasRows m d zero zero (mul d (root_power k))
-    → Multiple n (act_on m q) (acts (phase_gates q k))
-by_phase n q m d k below nonzero rows = record {
-  factor = d;
-  nonzero = nonzero;
-  equal = λ f x l.
-      act_on-rows m d zero zero (mul d (root_power k)) rows q f x
-      ∙ none_mixed d (root_power k) (λ b. f (set x q b)) (bit x q)
-      ∙ ap (mul d) (sym (at_phase q k f (λ b. f (set x q b)) x (λ b. refl)) ∙ ap (λ g. g x) (sym (acts-phase_gates q k f)));
-}
+by_phase : (n q : ℕ) (m : Matrix) (d : Number) (k : ℕ) → HasRows m d zero zero (mul d (root_power k))
+    → IsTimes n d (act_on m q) (acts (phase_gates q k))
+by_phase n q m d k rows f x l =
+    act_on-rows m d zero zero (mul d (root_power k)) rows q f x
+    ∙ none_mixed d (root_power k) (λ b. f (set x q b)) (bit x q)
+    ∙ ap (mul d) (sym (at_phase q k f (λ b. f (set x q b)) x (λ b. refl)) ∙ ap (λ g. g x) (sym (acts-phase_gates q k f)))
 
-by_exchange : (n q : ℕ) (m : Matrix) (d : Number) (k : ℕ) → q < n → d ≢ zero → HasRows m zero (mul d (root_power k)) d zero
-    → Multiple n (act_on m q) (acts (phase_gates q k ++ Not q ∷ []))
-by_exchange n q m d k below nonzero rows = record {
-  factor = d;
-  nonzero = nonzero;
-  equal = λ f x l. let within : q < length x = omega arith in
-      act_on-rows m zero (mul d (root_power k)) d zero rows q f x
-      ∙ one_exchanged d (root_power k) (λ b. f (set x q b)) (bit x q)
-      ∙ ap (mul d) (sym (at_phase q k (act (Not q) f) (exchanged (λ b. f (set x q b))) x (set_exchange q f (λ b. f (set x q b)) x within (λ b. refl)))
-      ∙ ap (λ g. g x) (sym (acts-append (phase_gates q k) (Not q ∷ []) f ∙ acts-phase_gates q k (act (Not q) f))));
-}
+by_exchange : (n q : ℕ) (m : Matrix) (d : Number) (k : ℕ) → q < n → HasRows m zero (mul d (root_power k)) d zero
+    → IsTimes n d (act_on m q) (acts (phase_gates q k ++ Not q ∷ []))
+by_exchange n q m d k below rows f x l = let within : q < length x = omega arith in
+    act_on-rows m zero (mul d (root_power k)) d zero rows q f x
+    ∙ one_exchanged d (root_power k) (λ b. f (set x q b)) (bit x q)
+    ∙ ap (mul d) (sym (at_phase q k (act (Not q) f) (exchanged (λ b. f (set x q b))) x (set_exchange q f (λ b. f (set x q b)) x within (λ b. refl)))
+    ∙ ap (λ g. g x) (sym (acts-append (phase_gates q k) (Not q ∷ []) f ∙ acts-phase_gates q k (act (Not q) f))))
 
-by_turn : (n q : ℕ) (m : Matrix) (d : Number) (j k : ℕ) → q < n → d ≢ zero
+by_turn : (n q : ℕ) (m : Matrix) (d : Number) (j k : ℕ) → q < n
     → HasRows m d (mul d (root_power j)) (mul d (root_power k)) (neg (mul d (mul (root_power j) (root_power k))))
-    → Multiple n (act_on m q) (acts (turn_gates q j k))
-by_turn n q m d j k below nonzero rows = record {
-  factor = d;
-  nonzero = nonzero;
-  equal = λ f x l. let within : q < length x = omega arith in
-      let g : Bool → Number = λ b. f (set x q b) in
-      act_on-rows m _ _ _ _ rows q f x
-      ∙ one_mixed d (root_power j) (root_power k) g (bit x q)
-      ∙ ap (mul d) (sym (at_phase q j (act (H q) (act (Phase q k) f)) (mixed (turned (root_power k) g)) x
-      (set_hadamard q (act (Phase q k) f) (turned (root_power k) g) x within
-      (set_phase q k f g x within (λ b. refl))))
-      ∙ ap (λ h. h x) (sym (acts-turn_gates q j k f)));
-}
+    → IsTimes n d (act_on m q) (acts (turn_gates q j k))
+by_turn n q m d j k below rows f x l = let within : q < length x = omega arith in
+    let g : Bool → Number = λ b. f (set x q b) in
+    act_on-rows m _ _ _ _ rows q f x
+    ∙ one_mixed d (root_power j) (root_power k) g (bit x q)
+    ∙ ap (mul d) (sym (at_phase q j (act (H q) (act (Phase q k) f)) (mixed (turned (root_power k) g)) x
+    (set_hadamard q (act (Phase q k) f) (turned (root_power k) g) x within
+    (set_phase q k f g x within (λ b. refl))))
+    ∙ ap (λ h. h x) (sym (acts-turn_gates q j k f)))
 
 by_two_turns : (n q : ℕ) (m : Matrix) (j k l : ℕ) → q < n
     → HasRows m (add one (root_power k)) (neg (mul (root_power j) (add (root_power k) (neg one)))) (neg (mul (root_power l) (add (root_power k) (neg one)))) (mul (mul (root_power j) (root_power l)) (add one (root_power k)))
-    → Multiple n (act_on m q) (acts (turn_gates q j k ++ H q ∷ phase_gates q l))
-by_two_turns n q m j k l below rows = record {
-  factor = one;
-  nonzero = one_nonzero;
-  equal = λ f x lx. let within : q < length x = omega arith in
-      let g : Bool → Number = λ b. f (set x q b) in
-      let last : List Bool → Number = act (H q) (act (Phase q l) f) in
-      let at_last : (b : Bool) → last (set x q b) ≡ mixed (turned (root_power l) g) b =
-      set_hadamard q (act (Phase q l) f) (turned (root_power l) g) x within (set_phase q l f g x within (λ b. refl)) in
-      act_on-rows m _ _ _ _ rows q f x
-      ∙ two_mixed (root_power j) (root_power k) (root_power l) g (bit x q)
-      ∙ ap (mul one) (sym (at_phase q j (act (H q) (act (Phase q k) last)) (mixed (turned (root_power k) (mixed (turned (root_power l) g)))) x
-      (set_hadamard q (act (Phase q k) last) (turned (root_power k) (mixed (turned (root_power l) g))) x within
-      (set_phase q k last (mixed (turned (root_power l) g)) x within at_last)))
-      ∙ ap (λ h. h x) (sym (acts-append (turn_gates q j k) (H q ∷ phase_gates q l) f
-      ∙ ap (λ h. acts (turn_gates q j k) (act (H q) h)) (acts-phase_gates q l f)
-      ∙ acts-turn_gates q j k last)));
-}
+    → IsTimes n one (act_on m q) (acts (turn_gates q j k ++ H q ∷ phase_gates q l))
+by_two_turns n q m j k l below rows f x lx = let within : q < length x = omega arith in
+    let g : Bool → Number = λ b. f (set x q b) in
+    let last : List Bool → Number = act (H q) (act (Phase q l) f) in
+    let at_last : (b : Bool) → last (set x q b) ≡ mixed (turned (root_power l) g) b =
+    set_hadamard q (act (Phase q l) f) (turned (root_power l) g) x within (set_phase q l f g x within (λ b. refl)) in
+    act_on-rows m _ _ _ _ rows q f x
+    ∙ two_mixed (root_power j) (root_power k) (root_power l) g (bit x q)
+    ∙ ap (mul one) (sym (at_phase q j (act (H q) (act (Phase q k) last)) (mixed (turned (root_power k) (mixed (turned (root_power l) g)))) x
+    (set_hadamard q (act (Phase q k) last) (turned (root_power k) (mixed (turned (root_power l) g))) x within
+    (set_phase q k last (mixed (turned (root_power l) g)) x within at_last)))
+    ∙ ap (λ h. h x) (sym (acts-append (turn_gates q j k) (H q ∷ phase_gates q l) f
+    ∙ ap (λ h. acts (turn_gates q j k) (act (H q) h)) (acts-phase_gates q l f)
+    ∙ acts-turn_gates q j k last)))
 
 -- ---- the rows of U, by z^a, z^b and z^c
 power_of_three_quarters : root_power (half_turn + quarter_turn) ≡ neg (root_power quarter_turn)
@@ -320,54 +307,205 @@ rows_of_half a b c e d d_is =
     turned_about s t u = simp sorted
 
 -- ---- the factors
-minus_two_nonzero : add (neg one) (neg one) ≢ zero
-unfolding add neg add_cyclotomic neg_cyclotomic
-minus_two_nonzero e = let h : ◌≡◌ {A = ℤ} (negsuc 1) (pos 0) = ap (λ (s : Number). s.plain.c0) e in cc
+squared : root_of_two_power 2 ≡ two
+squared = ap (mul root_of_two) (mul-one root_of_two) ∙ root_of_two_squared
 
-one_and_i_nonzero : add one (root_power quarter_turn) ≢ zero
-unfolding add root_power mul add_cyclotomic mul_cyclotomic
-one_and_i_nonzero e = let h : pos 1 ≡ pos 0 = ap (λ (s : Number). s.plain.c0) e in cc
+factor_of_none : two ≡ mul (root_of_two_power 2) (root_power 0)
+factor_of_none = sym (ap₂ mul squared root_power-zero ∙ mul-one two)
 
-one_without_i_nonzero : add one (neg (root_power quarter_turn)) ≢ zero
-unfolding add root_power mul neg add_cyclotomic mul_cyclotomic neg_cyclotomic
-one_without_i_nonzero e = let h : pos 1 ≡ pos 0 = ap (λ (s : Number). s.plain.c0) e in cc
+-- the root of two by w and i, where w*w = i
+root_of_two-is : root_of_two ≡ add (root_power eighth_turn) (neg (mul (root_power eighth_turn) (root_power quarter_turn)))
+root_of_two-is = ap (λ s. add (root_power eighth_turn) (neg s)) (root_power-add eighth_turn quarter_turn)
+
+eighths : mul (root_power eighth_turn) (root_power eighth_turn) ≡ root_power quarter_turn
+eighths = sym (root_power-add eighth_turn eighth_turn)
+
+spread_quarter : (w i : Number) → mul (mul (add w (neg (mul w i))) one) w ≡ add (mul w w) (neg (mul (mul w w) i))
+spread_quarter w i = simp expand
+
+by_quarter : (w i : Number) → mul w w ≡ i → mul i i ≡ neg one → add one i ≡ mul (mul (add w (neg (mul w i))) one) w
+by_quarter w i e square = sym (spread_quarter w i ∙ ap (λ s. add s (neg (mul s i))) e ∙ ap (λ s. add i (neg s)) square ∙ simp expand)
+
+spread_three_quarters : (w i : Number) → mul (mul (add w (neg (mul w i))) one) (neg (mul w i)) ≡ add (neg (mul (mul w w) i)) (mul (mul w w) (mul i i))
+spread_three_quarters w i = simp expand
+
+by_three_quarters : (w i : Number) → mul w w ≡ i → mul i i ≡ neg one → add one (neg i) ≡ mul (mul (add w (neg (mul w i))) one) (neg (mul w i))
+by_three_quarters w i e square =
+    sym (spread_three_quarters w i ∙ ap (λ s. add (neg (mul s i)) (mul s (mul i i))) e ∙ ap (λ s. add (neg s) (mul i s)) square ∙ simp expand)
+
+factor_of_quarter : add one (root_power quarter_turn) ≡ mul (root_of_two_power 1) (root_power eighth_turn)
+factor_of_quarter =
+    by_quarter (root_power eighth_turn) (root_power quarter_turn) eighths square
+    ∙ ap (λ s. mul (mul s one) (root_power eighth_turn)) (sym root_of_two-is)
+
+power_of_seven_eighths : root_power (opposite_phase eighth_turn) ≡ neg (mul (root_power eighth_turn) (root_power quarter_turn))
+power_of_seven_eighths =
+    root_power-add (half_turn + quarter_turn) eighth_turn
+    ∙ ap (λ s. mul s (root_power eighth_turn)) power_of_three_quarters
+    ∙ turned_round (root_power quarter_turn) (root_power eighth_turn)
+  where
+    turned_round : (i w : Number) → mul (neg i) w ≡ neg (mul w i)
+    turned_round i w = simp expand
+
+factor_of_three_quarters : add one (neg (root_power quarter_turn)) ≡ mul (root_of_two_power 1) (root_power (opposite_phase eighth_turn))
+factor_of_three_quarters =
+    by_three_quarters (root_power eighth_turn) (root_power quarter_turn) eighths square
+    ∙ ap₂ (λ s t. mul (mul s one) t) (sym root_of_two-is) (sym power_of_seven_eighths)
+
+minus_two_times : (i : Number) → mul (neg i) (add (neg one) (neg one)) ≡ mul two i
+minus_two_times i = simp expand
+
+minus_two : mul (root_power (half_turn + quarter_turn)) (add (neg one) (neg one)) ≡ mul (root_of_two_power 2) (root_power quarter_turn)
+minus_two =
+    ap (λ s. mul s (add (neg one) (neg one))) power_of_three_quarters
+    ∙ minus_two_times (root_power quarter_turn)
+    ∙ ap (λ s. mul s (root_power quarter_turn)) (sym squared)
+
+factor_of_half : (b : ℕ) → mul (root_power (b + (half_turn + quarter_turn))) (add (neg one) (neg one))
+    ≡ mul (root_of_two_power 2) (root_power (sum_of_phases b quarter_turn))
+factor_of_half b =
+    ap (λ s. mul s (add (neg one) (neg one))) (root_power-add b (half_turn + quarter_turn))
+    ∙ mul_assoc (root_power b) (root_power (half_turn + quarter_turn)) (add (neg one) (neg one))
+    ∙ ap (mul (root_power b)) minus_two
+    ∙ mul_left_comm (root_power b) (root_of_two_power 2) (root_power quarter_turn)
+    ∙ ap (mul (root_of_two_power 2)) (sym (root_power-sum_of_phases b quarter_turn))
+
+unitary_scalar-other : (a b : ℕ) → a ≢ 0 → a ≢ quarter_turn → a ≢ half_turn → a ≢ half_turn + quarter_turn → unitary_scalar a b ≡ one_scalar
+unitary_scalar-other a b none quarter half three =
+    rw (ne_eqb a 0 none, ne_eqb a quarter_turn quarter, ne_eqb a half_turn half, ne_eqb a (half_turn + quarter_turn) three) refl
 
 -- ---- gates and lists
-multiple_unitary : (n q a b c : ℕ) → q < n → Multiple n (act_on (unitary a b c) q) (acts (lowered_gate (U q a b c)))
-multiple_unitary n q a b c below =
-    by_angle (λ gs. Multiple n (act_on (unitary a b c) q) (acts gs)) q a b c
-    (λ e. by_phase n q (unitary a b c) two (sum_of_phases b c) below two_nonzero (rows_of_none a b c e))
-    (λ e. by_turn n q (unitary a b c) (add one (root_power quarter_turn)) (sum_of_phases c half_turn) b below one_and_i_nonzero (rows_of_quarter a b c e _ refl))
-    (λ e. by_exchange n q (unitary a b c) (mul (root_power (b + (half_turn + quarter_turn))) (add (neg one) (neg one))) (sum_of_phases (difference_of_phases c b) half_turn) below
-    (mul-nonzero _ _ (root_power-nonzero (b + (half_turn + quarter_turn))) minus_two_nonzero) (rows_of_half a b c e _ refl))
-    (λ e. by_turn n q (unitary a b c) (add one (neg (root_power quarter_turn))) c (sum_of_phases b half_turn) below one_without_i_nonzero (rows_of_three_quarters a b c e _ refl))
-    (λ _ _. by_two_turns n q (unitary a b c) (sum_of_phases c (opposite_phase quarter_turn)) a (sum_of_phases b quarter_turn) below
-    (rows_of_two_turns a b c _ _ (power-minus_quarter c) (root_power-sum_of_phases b quarter_turn)))
+-- a scalar that belongs to an angle
+at_angle : (n : ℕ) (F G : (List Bool → Number) → List Bool → Number) (a b angle : ℕ) → a ≡ angle → Scaled n F (unitary_scalar angle b) G
+    → Scaled n F (unitary_scalar a b) G
+at_angle n F G a b angle e p = subst (λ k. Scaled n F (unitary_scalar k b) G) (sym e) p
 
-pub multiple_gate : (n : ℕ) (gate : ElementaryGate) → IsElementaryGateOn n gate → Multiple n (act_elementary gate) (acts (lowered_gate gate))
-multiple_gate n (U q a b c) on = multiple_unitary n q a b c on
-multiple_gate n (Cx control target) on = multiple-refl n (act_elementary (Cx control target))
+scaled_unitary : (n q a b c : ℕ) → q < n → Scaled n (act_on (unitary a b c) q) (unitary_scalar a b) (acts (lowered_gate (U q a b c)))
+scaled_unitary n q a b c below =
+    by_angle (λ gs. Scaled n (act_on (unitary a b c) q) (unitary_scalar a b) (acts gs)) q a b c
+    (λ e. at_angle n _ _ a b 0 e (scaled_if_times n _ _ two 2 0 factor_of_none
+    (by_phase n q (unitary a b c) two (sum_of_phases b c) (rows_of_none a b c e))))
+    (λ e. at_angle n _ _ a b quarter_turn e (scaled_if_times n _ _ (add one (root_power quarter_turn)) 1 eighth_turn factor_of_quarter
+    (by_turn n q (unitary a b c) (add one (root_power quarter_turn)) (sum_of_phases c half_turn) b below (rows_of_quarter a b c e _ refl))))
+    (λ e. at_angle n _ _ a b half_turn e (scaled_if_times n _ _ half 2 (sum_of_phases b quarter_turn) (factor_of_half b)
+    (by_exchange n q (unitary a b c) half (sum_of_phases (difference_of_phases c b) half_turn) below (rows_of_half a b c e _ refl))))
+    (λ e. at_angle n _ _ a b (half_turn + quarter_turn) e (scaled_if_times n _ _ (add one (neg (root_power quarter_turn))) 1 (opposite_phase eighth_turn) factor_of_three_quarters
+    (by_turn n q (unitary a b c) (add one (neg (root_power quarter_turn))) c (sum_of_phases b half_turn) below (rows_of_three_quarters a b c e _ refl))))
+    (λ none quarter not_half three. subst (λ s. Scaled n (act_on (unitary a b c) q) s (acts others)) (sym (unitary_scalar-other a b none quarter not_half three))
+    (scaled_if_times n _ _ one 0 0 factor_of_others
+    (by_two_turns n q (unitary a b c) (sum_of_phases c (opposite_phase quarter_turn)) a (sum_of_phases b quarter_turn) below
+    (rows_of_two_turns a b c _ _ (power-minus_quarter c) (root_power-sum_of_phases b quarter_turn)))))
+  where
+    half : Number
+    half = mul (root_power (b + (half_turn + quarter_turn))) (add (neg one) (neg one))
 
-act_elementary-factor : (n : ℕ) (gate : ElementaryGate) → TakesOutFactors n (act_elementary gate)
-act_elementary-factor n (U q a b c) = act_on-factor n (unitary a b c) q
-act_elementary-factor n (Cx control target) = λ d f g e x l. e _ (length-set x target _ ∙ l)
+    others : List Gate
+    others = turn_gates q (sum_of_phases c (opposite_phase quarter_turn)) a ++ H q ∷ phase_gates q (sum_of_phases b quarter_turn)
 
--- the map of a list of gates, and that of the list that stands for it
-pub multiple_gates : (n : ℕ) (gates : List ElementaryGate) → All (IsElementaryGateOn n) gates → Multiple n (acts_elementary gates) (acts (lowered gates))
-multiple_gates n [] on = multiple-refl n (λ f. f)
-multiple_gates n (gate ∷ gates) on =
-    subst (Multiple n (acts_elementary (gate ∷ gates))) (λ i f. sym (acts-append (lowered_gate gate) (lowered gates) f) i)
-    (multiple-then n (act_elementary gate) (acts_elementary gates) (acts (lowered_gate gate)) (acts (lowered gates)) (act_elementary-factor n gate)
-    (multiple_gate n gate (All-head (IsElementaryGateOn n) gate gates on)) (multiple_gates n gates (All-tail (IsElementaryGateOn n) gate gates on)))
+    factor_of_others : one ≡ mul (root_of_two_power 0) (root_power 0)
+    factor_of_others = sym root_power-zero ∙ sym (one-mul (root_power 0))
+
+pub scaled_gate : (n : ℕ) (gate : ElementaryGate) → IsElementaryGateOn n gate → Scaled n (act_elementary gate) (lowering_scalar gate) (acts (lowered_gate gate))
+scaled_gate n (U q a b c) on = scaled_unitary n q a b c on
+scaled_gate n (Cx control target) on = scaled-refl n (act_elementary (Cx control target))
+
+pub acts_elementary-append : (first second : List ElementaryGate) (f : List Bool → Number) → acts_elementary (first ++ second) f ≡ acts_elementary first (acts_elementary second f)
+acts_elementary-append [] second f = refl
+acts_elementary-append (gate ∷ first) second f = ap (act_elementary gate) (acts_elementary-append first second f)
+
+-- one gate more behind a list, and its gates behind those of the list
+pub scaled_more : (n : ℕ) (before : List ElementaryGate) (gate : ElementaryGate) (s : Scalar) → IsElementaryGateOn n gate
+    → Scaled n (acts_elementary before) s (acts (lowered before))
+    → Scaled n (acts_elementary (before ++ gate ∷ [])) (product_of_scalars s (lowering_scalar gate)) (acts (lowered (before ++ gate ∷ [])))
+scaled_more n before gate s on p = record {
+  equal = λ f x l.
+      ap (λ h. mul (denominator t.root2) (h x)) (acts_elementary-append before (gate ∷ []) f)
+      ∙ joined.equal f x l
+      ∙ ap (λ h. mul (mul (numerator t.root2) (root_power t.turn)) (h x)) (sym (acts-append (lowered before) (lowered_gate gate) f) ∙ ap (λ gs. acts gs f) (flat_map_more lowered_gate [] before gate));
+}
+  where
+    t : Scalar
+    t = product_of_scalars s (lowering_scalar gate)
+
+    joined : Scaled n (λ f. acts_elementary before (act_elementary gate f)) t (λ f. acts (lowered before) (acts (lowered_gate gate) f))
+    joined = scaled-then n (acts_elementary before) (act_elementary gate) (acts (lowered before)) (acts (lowered_gate gate)) s (lowering_scalar gate)
+        (acts-factor n (lowered before)) p (scaled_gate n gate on)
 
 -- an entry is what the gates make of the entry of the empty list
 pub amp_elementary-acts : (gates : List ElementaryGate) (x y : List Bool) → amp_elementary gates x y ≡ acts_elementary gates (λ z. amp_elementary [] z y) x
 amp_elementary-acts [] x y = refl
 amp_elementary-acts (gate ∷ gates) x y = λ i. act_elementary gate (λ z. amp_elementary-acts gates z y i) x
 
+pub scaled_lowered : (n : ℕ) (gates : List ElementaryGate) (s : Scalar) → Scaled n (acts_elementary gates) s (acts (lowered gates))
+    → IsScaled n n (amp_elementary gates) s (amp (lowered gates))
+scaled_lowered n gates s p = scaled_amp n (amp_elementary gates) (acts_elementary gates) s (lowered gates) (amp_elementary-acts gates) p
+
+-- the scalar of a list
+abbrev whole_scalar : List ElementaryGate → Scalar
+whole_scalar [] = one_scalar
+whole_scalar (gate ∷ gates) = product_of_scalars (lowering_scalar gate) (whole_scalar gates)
+
+scaled_gates : (n : ℕ) (gates : List ElementaryGate) → All (IsElementaryGateOn n) gates → Scaled n (acts_elementary gates) (whole_scalar gates) (acts (lowered gates))
+scaled_gates n [] on = scaled-refl n (λ f. f)
+scaled_gates n (gate ∷ gates) on =
+    subst (Scaled n (acts_elementary (gate ∷ gates)) (whole_scalar (gate ∷ gates))) (λ i f. sym (acts-append (lowered_gate gate) (lowered gates) f) i)
+    (scaled-then n (act_elementary gate) (acts_elementary gates) (acts (lowered_gate gate)) (acts (lowered gates)) (lowering_scalar gate) (whole_scalar gates)
+    (acts-factor n (lowered_gate gate)) (scaled_gate n gate (All-head (IsElementaryGateOn n) gate gates on))
+    (scaled_gates n gates (All-tail (IsElementaryGateOn n) gate gates on)))
+
 pub proportional_lowered : (n : ℕ) (gates : List ElementaryGate) → All (IsElementaryGateOn n) gates → Proportional n n (amp_elementary gates) (amp (lowered gates))
 proportional_lowered n gates on =
-    proportional_of_multiple n (amp_elementary gates) (acts_elementary gates) (lowered gates) (amp_elementary-acts gates) (multiple_gates n gates on)
+    scaled_proportional n n (amp_elementary gates) (amp (lowered gates)) (whole_scalar gates) (scaled_lowered n gates (whole_scalar gates) (scaled_gates n gates on))
+
+-- ---- how large the scalars are
+within_unitary : (a b : ℕ) → IsWithin 2 (unitary_scalar a b)
+within_unitary a b =
+    choose (IsWithin 2) (eqb a 0) _ _ (λ _. omega arith) (λ _.
+    choose (IsWithin 2) (eqb a quarter_turn) _ _ (λ _. omega arith) (λ _.
+    choose (IsWithin 2) (eqb a half_turn) _ _ (λ _. omega arith) (λ _.
+    choose (IsWithin 2) (eqb a (half_turn + quarter_turn)) _ _ (λ _. omega arith) (λ _. omega arith))))
+
+pub within_lowering : (gate : ElementaryGate) → IsWithin 2 (lowering_scalar gate)
+within_lowering (U q a b c) = within_unitary a b
+within_lowering (Cx control target) = omega arith
+
+-- ---- the loop over the gates
+-- what holds after the first gates
+pub record IsLoweredTo (n : ℕ) (gates : List ElementaryGate) (i : ℕ) (list : List Gate) (s : Scalar) : Type 0 where
+  pub gates_are : list ≡ lowered (take i gates)
+  pub scaled : Scaled n (acts_elementary (take i gates)) s (acts (lowered (take i gates)))
+  pub within : IsWithin (2 * i) s
+
+pub lowered_none : (n : ℕ) (gates : List ElementaryGate) → IsLoweredTo n gates 0 [] one_scalar
+lowered_none n gates = record { gates_are = refl; scaled = scaled-refl n (λ f. f); within = omega arith }
+
+pub lowered_more : (n : ℕ) (gates : List ElementaryGate) (i : ℕ) (gate : ElementaryGate) (list list' : List Gate) (s : Scalar) → i < length gates
+    → gate ≡ get_or gates i gate → All (IsElementaryGateOn n) gates → list' ≡ list ++ lowered_gate gate → IsLoweredTo n gates i list s
+    → IsLoweredTo n gates (i + 1) list' (product_of_scalars s (lowering_scalar gate))
+lowered_more n gates i gate list list' s inside is on more d = record {
+  gates_are = more ∙ ap (λ xs. xs ++ lowered_gate gate) d.gates_are ∙ flat_map_more lowered_gate [] (take i gates) gate ∙ ap lowered (sym one_more);
+  scaled = subst (λ xs. Scaled n (acts_elementary xs) (product_of_scalars s (lowering_scalar gate)) (acts (lowered xs))) (sym one_more)
+      (scaled_more n (take i gates) gate s (subst (IsElementaryGateOn n) (sym is) (on i gate inside)) d.scaled);
+  within = let h : 2 * (i + 1) ≡ 2 * i + 2 = omega arith in
+      subst (λ k. IsWithin k (product_of_scalars s (lowering_scalar gate))) (sym h) (within_product (2 * i) 2 s (lowering_scalar gate) d.within (within_lowering gate));
+}
+  where
+    one_more : take (i + 1) gates ≡ take i gates ++ gate ∷ []
+    one_more = rw add-one (take-suc gates i gate inside) ∙ ap (λ g. take i gates ++ g ∷ []) (sym is)
+
+pub lowered_whole : (n : ℕ) (gates : List ElementaryGate) (i : ℕ) (list : List Gate) (s : Scalar) → i ≡ length gates → IsLoweredTo n gates i list s
+    → IsScaled n n (amp_elementary gates) s (amp list)
+lowered_whole n gates i list s whole d =
+    subst (λ xs. IsScaled n n (amp_elementary gates) s (amp xs)) (sym (d.gates_are ∙ ap lowered all))
+    (scaled_lowered n gates s (subst (λ xs. Scaled n (acts_elementary xs) s (acts (lowered xs))) all d.scaled))
+  where
+    all : take i gates ≡ gates
+    all = ap (λ k. take k gates) whole ∙ take-length gates
+
+-- the exponent fits
+pub lowered_within : (n : ℕ) (gates : List ElementaryGate) (i : ℕ) (gate : ElementaryGate) (list : List Gate) (s : Scalar) → i < length gates → length gates < elementary_bound
+    → IsLoweredTo n gates i list s → IsWithin most_root2 (product_of_scalars s (lowering_scalar gate))
+lowered_within n gates i gate list s inside few d = omega (arith, within_product (2 * i) 2 s (lowering_scalar gate) d.within (within_lowering gate), inside, few)
 
 -- what the loop over the gates has done in the end
 pub all_lowered : (list : List Gate) (items gates : List ElementaryGate) (i : ℕ) → list ≡ lowered (take i gates) → items ≡ gates

@@ -1,5 +1,5 @@
 -- Maps of which one is a number other than 0 times the other, and how they compose.
-use Rattle.std.proofs.Common.{◌≡◌, ◌≢◌, ℕ, Bool, true, false, ◌&&◌, List, [], length, set, sym, ap, ap₂, ◌∙◌}
+use Rattle.std.proofs.Common.{◌≡◌, ◌≢◌, ℕ, Bool, true, false, ◌&&◌, List, [], ◌∷◌, length, set, sym, ap, ap₂, ◌∙◌}
 use Rattle.std.proofs.lemmas.List.{length-set}
 use Rattle.zx_model.specs.Number.{Number, zero, one, add, mul, sign}
 use Rattle.zx_model.specs.Bits.{bit}
@@ -41,19 +41,12 @@ act-factor n (Not q) = act_on-factor n exchange q
 act-factor n (Cz q r) = λ d f g e x l. ap (mul (sign (bit x q && bit x r))) (e x l) ∙ mul_left_comm (sign (bit x q && bit x r)) d (g x)
 act-factor n (Cx control target) = λ d f g e x l. e _ (length-set x target _ ∙ l)
 
--- one map after the other, where the first takes out factors
-pub multiple-then : (n : ℕ) (F F' G G' : (List Bool → Number) → List Bool → Number) → TakesOutFactors n F → Multiple n F G → Multiple n F' G'
-    → Multiple n (λ f. F (F' f)) (λ f. G (G' f))
-multiple-then n F F' G G' out first rest = record {
-  factor = mul rest.factor first.factor;
-  nonzero = mul-nonzero rest.factor first.factor rest.nonzero first.nonzero;
-  equal = λ f x l.
-      out rest.factor (F' f) (G' f) (λ z lz. rest.equal f z lz) x l
-      ∙ ap (mul rest.factor) (first.equal (G' f) x l)
-      ∙ sym (mul_assoc rest.factor first.factor (G (G' f) x));
-}
+pub acts-factor : (n : ℕ) (gates : List Gate) → TakesOutFactors n (acts gates)
+acts-factor n [] d f g e x l = e x l
+acts-factor n (gate ∷ gates) d f g e x l =
+    act-factor n gate d (acts gates f) (acts gates g) (λ z lz. acts-factor n gates d f g e z lz) x l
 
--- the same, where the second does
+-- one map after the other, where the second takes out factors
 pub multiple-then_second : (n : ℕ) (F F' G G' : (List Bool → Number) → List Bool → Number) → TakesOutFactors n G → Multiple n F G → Multiple n F' G'
     → Multiple n (λ f. F (F' f)) (λ f. G (G' f))
 multiple-then_second n F F' G G' out first rest = record {

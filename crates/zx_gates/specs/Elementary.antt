@@ -1,5 +1,5 @@
 -- Circuits of the two gates that are built into OpenQASM 2.0, and measurements at their ends.
-use Rattle.std.specs.Prelude.{◌≢◌, ◌≤◌, ◌<◌, ◌==◌, ◌+◌, ◌%◌, ℕ, List, map, if◌then◌else◌}
+use Rattle.std.specs.Prelude.{◌≢◌, ◌≤◌, ◌<◌, ◌==◌, ◌+◌, ◌%◌, ◌^◌, ℕ, List, length, map, if◌then◌else◌}
 use Rattle.std.specs.List.{All, IsDistinct, sum_by}
 use Rattle.zx_model.specs.Phase.{turn, half_turn, sum_of_phases, opposite_phase, is_odd}
 use Rattle.zx_model.specs.Bits.{one_if}
@@ -13,6 +13,10 @@ use Rattle.zx_gates.specs.declared.elementary.Measure.{Measure}
 abbrev pub IsElementaryGateOn : ℕ → ElementaryGate → Type 0
 IsElementaryGateOn n (U q theta phi lambda) = q < n
 IsElementaryGateOn n (Cx control target) = (control < n) × (target < n) × (control ≢ target)
+
+-- fewer gates than this
+abbrev pub elementary_bound : ℕ
+elementary_bound = 2 ^ 40
 
 -- the most bits that a circuit may have
 abbrev pub most_bits : ℕ
@@ -30,6 +34,7 @@ pub record AreOnce (measures : List Measure) : Type 0 where
 
 pub record IsElementary (circuit : Elementary) : Type 0 where
   pub few_qubits : circuit.qubits ≤ most_qubits
+  pub few_gates : length circuit.gates < elementary_bound
   pub on_qubits : All (IsElementaryGateOn circuit.qubits) circuit.gates
   pub few_bits : circuit.bits ≤ most_bits
   pub measures_within : All (IsMeasureOn circuit.qubits circuit.bits) circuit.measured

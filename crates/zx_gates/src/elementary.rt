@@ -128,7 +128,7 @@ impl Measures {
 pub struct Elementary {
     /// How many qubits there are, at most 1,024.
     pub qubits: u16,
-    /// Its gates, on qubits below that number; the two of a `Cx` differ.
+    /// Its gates, fewer than 2^40, on qubits below that number; the two of a `Cx` differ.
     pub gates: Elements,
     /// How many bits there are, at most 65,536.
     pub bits: u32,

@@ -1,7 +1,7 @@
 //! Circuits as lists of gates.
 
-ghost use Rattle.std.specs.Prelude.{◌≡◌, ◌≤◌, ◌++◌, [], ◌∷◌, length, IfOk, OnOk, OnErr};
-ghost use Rattle.zx_gates.specs.Circuit.{Circuit, IsCircuit, IsOnQubits, HasRoom, most_qubits, circuit_of};
+ghost use Rattle.std.specs.Prelude.{◌≡◌, ◌≤◌, ◌<◌, ◌++◌, [], ◌∷◌, length, IfOk, OnOk, OnErr};
+ghost use Rattle.zx_gates.specs.Circuit.{Circuit, IsCircuit, IsOnQubits, HasRoom, gate_bound, most_qubits, circuit_of};
 
 use crate::gate::{Gate, Qubit};
 use std::alloc::{AllocError, Global};
@@ -88,6 +88,7 @@ impl GateList {
     pub fn gates(&self) -> &[Gate]
         ensures value { result.now ≡ self.now.gates }
         ensures valid { IsCircuit self.now }
+        ensures few { length self.now.gates < gate_bound }
     {
         &self.gates
     }

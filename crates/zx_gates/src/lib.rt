@@ -2,9 +2,9 @@
 //! stand for, and circuits of the gates that are built into OpenQASM.
 //!
 //! Proved: gate lists keep their conditions, and each call makes its one change; `lower` gives the
-//! gates of a table for each built-in gate of OpenQASM, and keeps the linear map up to a nonzero
-//! scalar and the number of odd phases; `counts` counts gates by kind; a dozen facts on the maps of
-//! small circuits.
+//! gates of a table for each built-in gate of OpenQASM, tells by which scalar the linear map
+//! changes, and keeps the number of odd phases; `counts` counts gates by kind; a dozen facts on the
+//! maps of small circuits.
 //!
 //! ```rust
 //! let mut circuit = GateList::new(alloc, 2);

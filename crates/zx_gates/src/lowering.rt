@@ -1,35 +1,76 @@
 //! Circuits of elementary gates, by the gates that the optimiser works on.
 
-ghost use Rattle.std.specs.Prelude.{◌≡◌, ◌<◌, ◌++◌, ◌∷◌, IfOk, OnOk};
+ghost use Rattle.std.specs.Prelude.{◌≡◌, ◌<◌, ◌*◌, ◌++◌, ◌∷◌, length, IfOk, OnOk};
 ghost use Rattle.zx_model.specs.Proportional.{Proportional};
+ghost use Rattle.zx_model.specs.Scalar.{IsScaled, IsWithin};
 ghost use Rattle.zx_gates.specs.Circuit.{gate_odd_phases};
 ghost use Rattle.zx_gates.specs.Maps.{amp};
 ghost use Rattle.zx_gates.specs.Elementary.{IsElementary, IsElementaryGateOn, elementary_odd_phases};
 ghost use Rattle.zx_gates.specs.ElementaryMaps.{amp_elementary};
-ghost use Rattle.zx_gates.specs.Lowering.{lowered, lowered_gate, phase_gates};
+ghost use Rattle.zx_gates.specs.Lowering.{lowered, lowered_gate, lowering_scalar, phase_gates, unitary_scalar};
 ghost use Rattle.zx_gates.specs.declared.elementary.ElementaryGate.TheVariants.{U};
 
 use crate::elementary::{Elementary, ElementaryGate};
 use crate::gate::{Gate, Qubit};
 use crate::gate_list::GateList;
 use std::alloc::{AllocError, Global};
-use zx_model::Sixteenth;
+use zx_model::{Scalar, Sixteenth};
 
-/// The circuit by the optimiser's own gates, with the same linear map up to a nonzero scalar.
-pub fn lower(alloc: Global, e: &Elementary) -> Result<GateList, AllocError>
+/// The circuit by the optimiser's own gates, and the scalar that its map is times theirs.
+pub fn lower(alloc: Global, e: &Elementary) -> Result<(GateList, Scalar), AllocError>
     requires { IsElementary e.now }
-    ensures qubits { IfOk result (λ list. list.qubits ≡ e.now.qubits) }
-    ensures list { IfOk result (λ list. list.gates ≡ lowered e.now.gates) }
-    ensures map { IfOk result (λ list.
-        Proportional e.now.qubits e.now.qubits (amp_elementary e.now.gates) (amp list.gates)) }
-    ensures odd { IfOk result (λ list.
-        gate_odd_phases list.gates ≡ elementary_odd_phases e.now.gates) }
+    ensures qubits { IfOk result (λ made. made.0.qubits ≡ e.now.qubits) }
+    ensures list { IfOk result (λ made. made.0.gates ≡ lowered e.now.gates) }
+    ensures map { IfOk result (λ made. Proportional e.now.qubits e.now.qubits
+        (amp_elementary e.now.gates) (amp made.0.gates)) }
+    ensures scaled { IfOk result (λ made. IsScaled e.now.qubits e.now.qubits
+        (amp_elementary e.now.gates) made.1 (amp made.0.gates)) }
+    ensures small { IfOk result (λ made. IsWithin (2 * length e.now.gates) made.1) }
+    ensures odd { IfOk result (λ made.
+        gate_odd_phases made.0.gates ≡ elementary_odd_phases e.now.gates) }
 {
     let mut list = GateList::new(alloc, e.qubits);
+    let mut scalar = Scalar::one();
     for gate in e.gates.as_slice() {
         push_lowered(&mut list, gate)?;
+        scalar = scalar.times(lowering_scalar(gate));
     }
-    Ok(list)
+    Ok((list, scalar))
+}
+
+// The scalar that a gate is times the gates that stand for it.
+fn lowering_scalar(gate: &ElementaryGate) -> Scalar
+    ensures { result ≡ lowering_scalar gate.now }
+{
+    match *gate {
+        ElementaryGate::U { theta, phi, .. } => unitary_scalar(theta, phi),
+        ElementaryGate::Cx { .. } => Scalar::one(),
+    }
+}
+
+// The scalar that U of these two angles is times the gates that stand for it.
+fn unitary_scalar(theta: Sixteenth, phi: Sixteenth) -> Scalar
+    ensures { result ≡ unitary_scalar theta phi }
+{
+    match theta.get() {
+        0 => Scalar {
+            root2: 2,
+            turn: Sixteenth::new(0),
+        },
+        4 => Scalar {
+            root2: 1,
+            turn: Sixteenth::new(2),
+        },
+        8 => Scalar {
+            root2: 2,
+            turn: phi.add(Sixteenth::new(4)),
+        },
+        12 => Scalar {
+            root2: 1,
+            turn: Sixteenth::new(14),
+        },
+        _ => Scalar::one(),
+    }
 }
 
 // Adds the gates that stand for one.

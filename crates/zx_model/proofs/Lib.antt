@@ -10,3 +10,5 @@ pub mod BitLemmas
 pub mod SumLemmas
 pub mod Odd
 pub mod Phases
+pub mod Scalars
+pub mod Factors

@@ -5,3 +5,4 @@ pub mod Constants
 pub mod Bits
 pub mod Sums
 pub mod Proportional
+pub mod Scalar

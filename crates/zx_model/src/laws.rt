@@ -7,6 +7,8 @@ ghost use Rattle.zx_model.specs.Phase.{turn, half_turn, quarter_turn, sum_of_pha
 ghost use Rattle.zx_model.specs.Bits.{xor, one_if};
 ghost use Rattle.zx_model.specs.Sums.{total, all_labels, label_of, over, sum_over};
 ghost use Rattle.zx_model.specs.Proportional.{Proportional};
+ghost use Rattle.zx_model.specs.declared.scalar.Scalar.{Scalar};
+ghost use Rattle.zx_model.specs.Scalar.{IsScaled, one_scalar, product_of_scalars, quotient_of_scalars};
 
 /// Numbers form a commutative ring.
 pub fn numbers_form_a_commutative_ring()
@@ -54,6 +56,18 @@ pub fn proportionality_is_an_equivalence()
     ensures symmetric { (n m : ℕ) (f g : List Bool → List Bool → Number) → Proportional n m f g → Proportional n m g f }
     ensures transitive { (n m : ℕ) (f g h : List Bool → List Bool → Number) →
         Proportional n m f g → Proportional n m g h → Proportional n m f h }
+{}
+
+/// A matrix that is a scalar times another, times another again, is the product times that; the quotient goes
+/// back. So matrices are equal up to scalars other than zero.
+pub fn scalars_multiply()
+    ensures unit { (n m : ℕ) (f : List Bool → List Bool → Number) → IsScaled n m f one_scalar f }
+    ensures products { (n m : ℕ) (f g h : List Bool → List Bool → Number) (s t : Scalar) →
+        IsScaled n m f s g → IsScaled n m g t h → IsScaled n m f (product_of_scalars s t) h }
+    ensures quotients { (n m : ℕ) (f g h : List Bool → List Bool → Number) (s t : Scalar) → t.turn < turn →
+        IsScaled n m f s g → IsScaled n m h t g → IsScaled n m f (quotient_of_scalars s t) h }
+    ensures proportional { (n m : ℕ) (f g : List Bool → List Bool → Number) (s : Scalar) →
+        IsScaled n m f s g → Proportional n m f g }
 {}
 
 /// Bits form a field, with `xor` as the sum and `&&` as the product; `sign` takes their sum to a product.

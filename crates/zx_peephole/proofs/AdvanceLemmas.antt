@@ -12,7 +12,7 @@ use Rattle.zx_gates.specs.declared.gate.Gate.TheVariants.{H, Phase, Not}
 use Rattle.zx_gates.specs.Circuit.{IsGateOn, IsOnQubits}
 use Rattle.zx_peephole.specs.Tidy.{is_turned}
 use Rattle.zx_peephole.specs.declared.chains.Chains.{Chains}
-use Rattle.zx_peephole.specs.Internal.Merging.{merged, conjugated}
+use Rattle.zx_peephole.specs.Internal.Merging.{merged, doublings, conjugated}
 use Rattle.zx_peephole.specs.Internal.Chains.{nothing, is_left, gate_at, kept, place_of, next_of, all_left, IsReading, IsKept}
 use Rattle.zx_peephole.specs.Internal.Changes.{IsPairAt, IsTripleAt, Shortens, IsAdvance}
 use Rattle.zx_peephole.proofs.FindingLemmas.{Extends}
@@ -41,21 +41,21 @@ module _ (old : Chains) (reading : IsReading old) (w : Chains) (qubits : w.qubit
   reads : drop old.next old.gates.items ≡ next_of old ∷ drop (old.next + 1) old.gates.items
   reads = drop_more old.gates.items old.next nothing reading.more
 
-  by_brings : length w.gates.items ≡ length old.gates.items
-      → Brings old.qubits (kept old) (next_of old ∷ drop (old.next + 1) old.gates.items) (kept w) (drop w.next w.gates.items)
-      → length (kept w) + 2 * old.next < length (kept old) + 2 * w.next → IsAdvance old w
-  by_brings as_long b closer = record {
+  by_brings : (power : ℕ) → length w.gates.items ≡ length old.gates.items
+      → Brings old.qubits power (kept old) (next_of old ∷ drop (old.next + 1) old.gates.items) (kept w) (drop w.next w.gates.items)
+      → length (kept w) + 2 * old.next < length (kept old) + 2 * w.next → IsAdvance old power w
+  by_brings power as_long b closer = record {
     qubits = qubits;
-    shortened = subst (λ (xs : List Gate). Shortens old.qubits (kept old ++ xs) (all_left w)) (sym reads) b.shortened;
+    shortened = subst (λ (xs : List Gate). Shortens old.qubits power (kept old ++ xs) (all_left w)) (sym reads) b.shortened;
     tidy = b.tidy;
     as_long = as_long;
     closer = closer;
   }
 
   -- the next gate is kept
-  pub keeps : w.gates ≡ old.gates → w.next ≡ old.next + 1 → Extends (kept old) (next_of old) → IsAdvance old w
+  pub keeps : w.gates ≡ old.gates → w.next ≡ old.next + 1 → Extends (kept old) (next_of old) → IsAdvance old 0 w
   keeps gates next more =
-      by_brings (ap (λ v. length v.items) gates)
+      by_brings 0 (ap (λ v. length v.items) gates)
       (kept_brings old.qubits (kept old) (next_of old) (drop (old.next + 1) old.gates.items) (kept w) (drop w.next w.gates.items)
       more_kept (ap₂ (λ n v. drop n v.items) next gates) more)
       (omega (arith, next, ap length more_kept, length-append (kept old) (next_of old ∷ [])))
@@ -92,23 +92,27 @@ module _ (old : Chains) (reading : IsReading old) (w : Chains) (qubits : w.qubit
         ∙ ap (λ xs. get_or xs (place_of old i) nothing) p.pair.cut
         ∙ get_or_at p.pair.before p.pair.first p.pair.between nothing (place_of old i) p.pair.at
 
+    same_first : a ≡ p.pair.first
+    same_first = read_at old.gates.items i a inside a_read ∙ first_is
+
     becomes : merged a b ≡ merged p.pair.first (next_of old)
-    becomes = ap₂ merged (read_at old.gates.items i a inside a_read ∙ first_is) (read_at old.gates.items old.next b reading.more b_read)
+    becomes = ap₂ merged same_first (read_at old.gates.items old.next b reading.more b_read)
 
     on : IsOnQubits old.qubits p.pair.first
     on = (subst (IsGateOn old.qubits) first_is (reading.sound.on_qubits i inside p.first.left)).0
 
-    pub pair_one : (x : Gate) → x ∷ [] ≡ merged a b → w.gates.items ≡ set (set old.gates.items i nothing) old.next x
-        → w.next ≡ old.next → IsAdvance old w
-    pair_one x one gates next =
-        by_brings (as_long i p.first x gates)
+    pub pair_one : (power : ℕ) → power ≡ doublings a → (x : Gate) → x ∷ [] ≡ merged a b → w.gates.items ≡ set (set old.gates.items i nothing) old.next x
+        → w.next ≡ old.next → IsAdvance old power w
+    pair_one power is x one gates next =
+        subst (λ (k : ℕ). IsAdvance old k w) (sym (is ∙ ap doublings same_first))
+        (by_brings (doublings p.pair.first) (as_long i p.first x gates)
         (pair_brings old.qubits (kept old) (next_of old) (drop (old.next + 1) old.gates.items) (kept w) (drop w.next w.gates.items)
         (place_of old i) p.pair on less
         (ap₂ drop next gates
         ∙ drop-set (set old.gates.items i nothing) old.next x (within i p.first x gates)
         ∙ ap (λ xs. x ∷ xs) (rest_stays i p.first x gates)
         ∙ ap (λ xs. xs ++ drop (old.next + 1) old.gates.items) (one ∙ becomes)))
-        (omega (arith, next, ap length less, one_less (kept old) (next_of old) (place_of old i) p.pair))
+        (omega (arith, next, ap length less, one_less (kept old) (next_of old) (place_of old i) p.pair)))
       where
         less : kept w ≡ remove (kept old) (place_of old i)
         less =
@@ -116,17 +120,18 @@ module _ (old : Chains) (reading : IsReading old) (w : Chains) (qubits : w.qubit
             ∙ ap (filter is_left) (take-set (set old.gates.items i nothing) old.next x)
             ∙ front_gone i p.first x gates
 
-    pub pair_none : [] ≡ merged a b → w.gates.items ≡ set (set old.gates.items i nothing) old.next nothing
-        → w.next ≡ old.next + 1 → IsAdvance old w
-    pair_none none gates next =
-        by_brings (as_long i p.first nothing gates)
+    pub pair_none : (power : ℕ) → power ≡ doublings a → [] ≡ merged a b → w.gates.items ≡ set (set old.gates.items i nothing) old.next nothing
+        → w.next ≡ old.next + 1 → IsAdvance old power w
+    pair_none power is none gates next =
+        subst (λ (k : ℕ). IsAdvance old k w) (sym (is ∙ ap doublings same_first))
+        (by_brings (doublings p.pair.first) (as_long i p.first nothing gates)
         (pair_brings old.qubits (kept old) (next_of old) (drop (old.next + 1) old.gates.items) (kept w) (drop w.next w.gates.items)
         (place_of old i) p.pair on less
         (ap₂ drop next gates
         ∙ drop-set-lt (old.next + 1) (set old.gates.items i nothing) old.next nothing (omega arith)
         ∙ rest_stays i p.first nothing gates
         ∙ ap (λ xs. xs ++ drop (old.next + 1) old.gates.items) (none ∙ becomes)))
-        (omega (arith, next, ap length less, one_less (kept old) (next_of old) (place_of old i) p.pair))
+        (omega (arith, next, ap length less, one_less (kept old) (next_of old) (place_of old i) p.pair)))
       where
         less : kept w ≡ remove (kept old) (place_of old i)
         less =
@@ -167,9 +172,9 @@ module _ (old : Chains) (reading : IsReading old) (w : Chains) (qubits : w.qubit
     qubit_on = (subst (IsGateOn old.qubits) first_hadamard (reading.sound.on_qubits i inside_first t.first.left)).0
 
     pub turned_one : (x : Gate) → x ≡ conjugated g
-        → w.gates.items ≡ set (set (set old.gates.items j nothing) i nothing) old.next x → w.next ≡ old.next → IsAdvance old w
+        → w.gates.items ≡ set (set (set old.gates.items j nothing) i nothing) old.next x → w.next ≡ old.next → IsAdvance old 1 w
     turned_one x x_is gates next =
-        by_brings (ap length gates ∙ length-set two old.next x ∙ length-set one i nothing ∙ length-set old.gates.items j nothing)
+        by_brings 1 (ap length gates ∙ length-set two old.next x ∙ length-set one i nothing ∙ length-set old.gates.items j nothing)
         (triple_brings old.qubits (kept old) (next_of old) (drop (old.next + 1) old.gates.items) (kept w) (drop w.next w.gates.items)
         (place_of old i) (place_of old j) t.triple qubit_on less
         (ap₂ drop next gates

@@ -1,5 +1,5 @@
 -- What a pair or triple becomes in its list: the map is kept up to a power of two, and nothing grows.
-use Rattle.std.proofs.Common.{◌≡◌, ◌≢◌, ℕ, zero, suc, ◌+◌, ◌<◌, ◌≤◌, Bool, true, false, cond, eqb, List, [], ◌∷◌}
+use Rattle.std.proofs.Common.{◌≡◌, ◌≢◌, ℕ, zero, suc, ◌+◌, ◌*◌, ◌<◌, ◌≤◌, pos, Bool, true, false, cond, eqb, List, [], ◌∷◌}
 use Rattle.std.proofs.Common.{◌++◌, append_assoc, length, drop, refl, sym, ap, ap₂, ◌∙◌, subst}
 use Rattle.std.proofs.Common.{arith}
 use Rattle.std.specs.List.{list_all, remove, sum_by}
@@ -11,17 +11,20 @@ use Rattle.zx_model.specs.Number.{Number, zero as nought, one, mul}
 use Rattle.zx_model.specs.Constants.{two, power_of_two}
 use Rattle.zx_model.specs.Bits.{one_if}
 use Rattle.zx_model.specs.Proportional.{Proportional}
+use Rattle.zx_model.specs.Scalar.{IsScaled}
 use Rattle.zx_model.proofs.Ring.{one-mul, mul_assoc, one_nonzero, two_nonzero}
 use Rattle.zx_model.proofs.Domain.{mul-nonzero}
 use Rattle.zx_model.proofs.Odd.{one_if-odd_sum}
 use Rattle.zx_model.proofs.ProportionalLemmas.{proportional_of_scaled}
 use Rattle.zx_gates.specs.Circuit.{IsOnQubits, is_odd_phase}
 use Rattle.zx_gates.specs.Counting.{is_two_qubit}
+use Rattle.zx_gates.specs.Lowering.{scalar}
 use Rattle.zx_gates.specs.Maps.{amp, act, acts}
 use Rattle.zx_gates.specs.declared.gate.Gate.{Gate}
 use Rattle.zx_gates.specs.declared.gate.Gate.TheVariants.{H, Phase, Not}
 use Rattle.zx_gates.proofs.MapLemmas.{amp-acts, acts-append}
-use Rattle.zx_gates.proofs.Multiples.{TakesOutFactors, act-factor}
+use Rattle.zx_gates.proofs.Multiples.{acts-factor}
+use Rattle.zx_gates.proofs.Scaling.{scaled_amp, scaled_if_doubled}
 use Rattle.zx_peephole.specs.Commuting.{commutes}
 use Rattle.zx_peephole.specs.Tidy.{is_pair, is_turned, is_off, IsTidy}
 use Rattle.zx_peephole.specs.Doubling.{IsDoubled}
@@ -39,34 +42,38 @@ power-nonzero zero = one_nonzero
 power-nonzero (suc p) = mul-nonzero two (power_of_two p) two_nonzero (power-nonzero p)
 
 -- ---- changes one after the other
-pub shortens-refl : (n : ℕ) (gates : List Gate) → Shortens n gates gates
+pub shortens-refl : (n : ℕ) (gates : List Gate) → Shortens n 0 gates gates
 shortens-refl n gates = record {
-  power = 0;
   map = λ f x l. sym (one-mul (acts gates f x));
   no_longer = omega arith;
   odd = omega arith;
   two_qubit = omega arith;
 }
 
-pub shortens-trans : (n : ℕ) (a b c : List Gate) → Shortens n a b → Shortens n b c → Shortens n a c
-shortens-trans n a b c first second = record {
-  power = first.power + second.power;
+pub shortens-trans : (n j k : ℕ) (a b c : List Gate) → Shortens n j a b → Shortens n k b c → Shortens n (j + k) a c
+shortens-trans n j k a b c first second = record {
   map = λ f x l.
       first.map f x l
-      ∙ ap (mul (power_of_two first.power)) (second.map f x l)
-      ∙ sym (mul_assoc (power_of_two first.power) (power_of_two second.power) (acts c f x))
-      ∙ ap (λ p. mul p (acts c f x)) (sym (power_of_two-add first.power second.power));
+      ∙ ap (mul (power_of_two j)) (second.map f x l)
+      ∙ sym (mul_assoc (power_of_two j) (power_of_two k) (acts c f x))
+      ∙ ap (λ p. mul p (acts c f x)) (sym (power_of_two-add j k));
   no_longer = omega (arith, first.no_longer, second.no_longer);
   odd = omega (arith, first.odd, second.odd);
   two_qubit = omega (arith, first.two_qubit, second.two_qubit);
 }
 
-pub shortens_doubled : (n : ℕ) (old new : List Gate) → Shortens n old new → IsDoubled n (amp old) (amp new)
-shortens_doubled n old new s = record {
-  power = s.power;
+pub shortens_doubled : (n k : ℕ) (old new : List Gate) → Shortens n k old new → IsDoubled n (amp old) (amp new)
+shortens_doubled n k old new s = record {
+  power = k;
   equal = λ x y lx ly. amp-acts old x y ∙ s.map (λ z. amp [] z y) x lx
-      ∙ ap (mul (power_of_two s.power)) (sym (amp-acts new x y));
+      ∙ ap (mul (power_of_two k)) (sym (amp-acts new x y));
 }
+
+pub shortens_scaled : (n k : ℕ) (old new : List Gate) → Shortens n k old new
+    → IsScaled n n (amp old) (scalar (pos (2 * k)) 0) (amp new)
+shortens_scaled n k old new s =
+    scaled_amp n (amp old) (acts old) (scalar (pos (2 * k)) 0) new (amp-acts old)
+    (scaled_if_doubled n (acts old) (acts new) k (λ f x l. s.map f x l))
 
 pub doubled_proportional : (n : ℕ) (f g : List Bool → List Bool → Number) → IsDoubled n f g → Proportional n n f g
 doubled_proportional n f g d =
@@ -74,11 +81,6 @@ doubled_proportional n f g d =
     (λ x y lx ly. one-mul (f x y) ∙ d.equal x y lx ly)
 
 -- ---- maps
-acts-factor : (n : ℕ) (gates : List Gate) → TakesOutFactors n (acts gates)
-acts-factor n [] d f g e x l = e x l
-acts-factor n (gate ∷ gates) d f g e x l =
-    act-factor n gate d (acts gates f) (acts gates g) (λ z lz. acts-factor n gates d f g e z lz) x l
-
 -- the first gate of a pair goes past the gates between
 pair_map : (n : ℕ) (before between after : List Gate) (g h : Gate) → is_pair g h ≡ true → IsOnQubits n g
     → list_all (commutes g) between ≡ true → (f : List Bool → Number) (x : List Bool) → length x ≡ n
@@ -180,9 +182,9 @@ merged_two_qubit (Phase q j) (Phase r k) =
     (λ none. omega arith) (λ some. omega arith)
 merged_two_qubit g h = omega arith
 
-length-merged : (g h : Gate) → length (merged g h) ≤ 1
+length-merged : (g h : Gate) → length (merged g h) + 2 * doublings g ≤ 2
 length-merged (Phase q j) (Phase r k) =
-    cond_both (eqb (sum_of_phases j k) 0) [] (Phase r (sum_of_phases j k) ∷ []) (λ gates. length gates ≤ 1)
+    cond_both (eqb (sum_of_phases j k) 0) [] (Phase r (sum_of_phases j k) ∷ []) (λ gates. length gates + 2 * 0 ≤ 2)
     (λ none. omega arith) (λ some. omega arith)
 length-merged g h = omega arith
 
@@ -199,9 +201,8 @@ conjugated_two_qubit q g turned = absurd (let h : false ≡ true = turned in cc)
 -- ---- pairs and triples in their list
 pub pair_shortens : (n : ℕ) (before between after : List Gate) (g h : Gate) → is_pair g h ≡ true → IsOnQubits n g
     → list_all (commutes g) between ≡ true
-    → Shortens n (before ++ g ∷ (between ++ h ∷ after)) (before ++ (between ++ (merged g h ++ after)))
+    → Shortens n (doublings g) (before ++ g ∷ (between ++ h ∷ after)) (before ++ (between ++ (merged g h ++ after)))
 pair_shortens n before between after g h merge on commute = record {
-  power = doublings g;
   map = λ f x l. pair_map n before between after g h merge on commute f x l;
   no_longer = omega (
     arith,
@@ -218,10 +219,9 @@ pair_shortens n before between after g h merge on commute = record {
 
 pub triple_shortens : (n q : ℕ) (before left right after : List Gate) (g : Gate) → is_turned q g ≡ true → q < n
     → list_all (is_off q) left ≡ true → list_all (is_off q) right ≡ true
-    → Shortens n (before ++ H q ∷ (left ++ g ∷ (right ++ H q ∷ after)))
+    → Shortens n 1 (before ++ H q ∷ (left ++ g ∷ (right ++ H q ∷ after)))
     (before ++ (left ++ (right ++ conjugated g ∷ after)))
 triple_shortens n q before left right after g turned within left_off right_off = record {
-  power = 1;
   map = λ f x l. triple_map n q before left right after g turned within left_off right_off f x l;
   no_longer = omega (
     arith,
@@ -275,21 +275,21 @@ triple_gone front g i j t =
 
 -- ---- a change brings the list on
 -- from lists that are equal to these
-shortens_by : (n : ℕ) (a b c d : List Gate) → a ≡ b → d ≡ c → Shortens n b c → Shortens n a d
-shortens_by n a b c d first second s =
-    subst (λ (xs : List Gate). Shortens n xs d) (sym first) (subst (λ (xs : List Gate). Shortens n b xs) (sym second) s)
+shortens_by : (n k : ℕ) (a b c d : List Gate) → a ≡ b → d ≡ c → Shortens n k b c → Shortens n k a d
+shortens_by n k a b c d first second s =
+    subst (λ (xs : List Gate). Shortens n k xs d) (sym first) (subst (λ (xs : List Gate). Shortens n k b xs) (sym second) s)
 
 -- the gates that are kept and those that aren't read yet, after a gate that is read next
-pub record Brings (n : ℕ) (front rest front' rest' : List Gate) : Type 0 where
-  pub shortened : Shortens n (front ++ rest) (front' ++ rest')
+pub record Brings (n power : ℕ) (front rest front' rest' : List Gate) : Type 0 where
+  pub shortened : Shortens n power (front ++ rest) (front' ++ rest')
   pub tidy : IsTidy front → IsTidy front'
 
 module _ (n : ℕ) (front : List Gate) (g : Gate) (rest front' rest' : List Gate) where
   -- it is kept
   pub kept_brings : front' ≡ front ++ g ∷ [] → rest' ≡ rest → (IsTidy front → IsTidy (front ++ g ∷ []))
-      → Brings n front (g ∷ rest) front' rest'
+      → Brings n 0 front (g ∷ rest) front' rest'
   kept_brings front_is rest_is more = record {
-    shortened = shortens_by n _ (front ++ g ∷ rest) (front ++ g ∷ rest) _ refl
+    shortened = shortens_by n 0 _ (front ++ g ∷ rest) (front ++ g ∷ rest) _ refl
         (ap₂ (λ xs ys. xs ++ ys) front_is rest_is ∙ append_assoc front (g ∷ []) rest)
         (shortens-refl n (front ++ g ∷ rest));
     tidy = λ tidy. subst IsTidy (sym front_is) (more tidy);
@@ -297,9 +297,9 @@ module _ (n : ℕ) (front : List Gate) (g : Gate) (rest front' rest' : List Gate
 
   -- it is merged with one of those that are kept
   pub pair_brings : (i : ℕ) (p : EndsPair front g i) → IsOnQubits n p.first → front' ≡ remove front i
-      → rest' ≡ merged p.first g ++ rest → Brings n front (g ∷ rest) front' rest'
+      → rest' ≡ merged p.first g ++ rest → Brings n (doublings p.first) front (g ∷ rest) front' rest'
   pair_brings i p on front_is rest_is = record {
-    shortened = shortens_by n _ (p.before ++ p.first ∷ (p.between ++ g ∷ rest))
+    shortened = shortens_by n (doublings p.first) _ (p.before ++ p.first ∷ (p.between ++ g ∷ rest))
         (p.before ++ (p.between ++ (merged p.first g ++ rest))) _
         (ap (λ xs. xs ++ g ∷ rest) p.cut ∙ simp append_assoc)
         (ap₂ (λ xs ys. xs ++ ys) (front_is ∙ pair_gone front g i p) rest_is
@@ -310,9 +310,9 @@ module _ (n : ℕ) (front : List Gate) (g : Gate) (rest front' rest' : List Gate
 
   -- it is turned over with two of those that are kept
   pub triple_brings : (i j : ℕ) (t : EndsTriple front g i j) → t.qubit < n → front' ≡ remove (remove front j) i
-      → rest' ≡ conjugated t.middle ∷ rest → Brings n front (g ∷ rest) front' rest'
+      → rest' ≡ conjugated t.middle ∷ rest → Brings n 1 front (g ∷ rest) front' rest'
   triple_brings i j t on front_is rest_is = record {
-    shortened = shortens_by n _
+    shortened = shortens_by n 1 _
         (t.before ++ H t.qubit ∷ (t.left ++ t.middle ∷ (t.right ++ H t.qubit ∷ rest)))
         (t.before ++ (t.left ++ (t.right ++ conjugated t.middle ∷ rest))) _
         (ap₂ (λ xs x. xs ++ x ∷ rest) t.cut t.is ∙ simp append_assoc)

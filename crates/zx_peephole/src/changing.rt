@@ -7,7 +7,7 @@ ghost use Rattle.zx_peephole.specs.Internal.Chains.{IsOn, IsSound, IsKept, IsRea
 ghost use Rattle.zx_peephole.specs.Internal.Changes.{IsPairAt, IsTripleAt, IsAdvance};
 
 use crate::chains::{Chains, first_qubit, nothing, second_qubit};
-use crate::pairs::{conjugated, merged};
+use crate::pairs::{conjugated, doublings, merged};
 use zx_gates::{Links, Qubit};
 
 // The next gate is kept.
@@ -15,7 +15,7 @@ pub(crate) fn keep(work: &mut Chains)
     requires reading { IsReading work.old }
     requires tidy { IsTidy (kept work.old) → IsTidy (kept work.old ++ next_of work.old ∷ []) }
     ensures sound { IsSound work.new }
-    ensures advance { IsAdvance work.old work.new }
+    ensures advance { IsAdvance work.old 0 work.new }
 {
     let gate = &work.gates[work.next];
     let first = usize::from(first_qubit(gate));
@@ -29,20 +29,27 @@ pub(crate) fn keep(work: &mut Chains)
     work.last[second] = work.next as u32;
 }
 
-// The next gate is merged with one that is kept. A phase gate that they become is to be read next.
-pub(crate) fn merge_pair(work: &mut Chains, first: usize)
+// The next gate is merged with one that is kept. A phase gate that they become is to be read next. The power of two
+// is answered that the map loses.
+pub(crate) fn merge_pair(work: &mut Chains, first: usize) -> u32
     requires reading { IsReading work.old }
     requires pair { IsPairAt work.old first }
     ensures sound { IsSound work.new }
-    ensures advance { IsAdvance work.old work.new }
+    ensures advance { IsAdvance work.old result work.new }
 {
-    let one = merged(&work.gates[first], &work.gates[work.next]);
+    let earlier = &work.gates[first];
+    let power = doublings(earlier);
+    let one = merged(earlier, &work.gates[work.next]);
     remove(work, first);
     match one {
-        Some(gate) => work.gates[work.next] = gate,
+        Some(gate) => {
+            work.gates[work.next] = gate;
+            power
+        }
         None => {
             work.gates[work.next] = nothing();
             work.next += 1;
+            power
         }
     }
 }
@@ -52,7 +59,7 @@ pub(crate) fn turn_over(work: &mut Chains, first: usize, middle: usize)
     requires reading { IsReading work.old }
     requires triple { IsTripleAt work.old first middle }
     ensures sound { IsSound work.new }
-    ensures advance { IsAdvance work.old work.new }
+    ensures advance { IsAdvance work.old 1 work.new }
 {
     let gate = conjugated(&work.gates[middle]);
     remove(work, middle);

@@ -2,10 +2,11 @@
 //!
 //! Proved of `tidy`: it leaves no pair and no triple of gates that are nothing or one gate
 //! together, where gates may pass each other by a table; the map is a power of two times the new
-//! one; length, odd phases and gates on two qubits don't rise; no memory is taken.
+//! one, which it answers; length, odd phases and gates on two qubits don't rise; no memory is
+//! taken.
 //!
 //! ```rust
-//! tidy(&mut circuit);
+//! let scalar = tidy(&mut circuit);
 //! ```
 #![tactic(auto)]
 

@@ -4,7 +4,7 @@ ghost use Rattle.std.specs.Prelude.{◌≡◌, IsTrue};
 ghost use Rattle.std.specs.Option.{option_to_list};
 ghost use Rattle.zx_peephole.specs.Commuting.{commutes};
 ghost use Rattle.zx_peephole.specs.Tidy.{is_pair, is_turned};
-ghost use Rattle.zx_peephole.specs.Internal.Merging.{merged, conjugated};
+ghost use Rattle.zx_peephole.specs.Internal.Merging.{merged, doublings, conjugated};
 ghost use Rattle.zx_peephole.specs.Internal.Stops.{stops, turns};
 
 use crate::commuting::commutes;
@@ -31,6 +31,16 @@ pub(crate) fn merged(first: &Gate, second: &Gate) -> Option<Gate>
     match *first {
         Gate::Phase(_, phase) => with_phase_added(phase, second),
         _ => None,
+    }
+}
+
+// The power of two that goes with what a pair becomes that begins with the gate: two H are twice nothing.
+pub(crate) fn doublings(gate: &Gate) -> u32
+    ensures { result ≡ doublings gate.now }
+{
+    match *gate {
+        Gate::H(_) => 1,
+        _ => 0,
     }
 }
 

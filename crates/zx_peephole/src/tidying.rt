@@ -1,9 +1,11 @@
 //! The whole cleanup.
 
-ghost use Rattle.std.specs.Prelude.{◌≡◌, ◌≤◌, ◌++◌, [], ◌∷◌, length, take, count_by, IfSome, IfNone};
+ghost use Rattle.std.specs.Prelude.{◌≡◌, ◌≤◌, ◌<◌, ◌*◌, ◌^◌, pos, ◌++◌, [], ◌∷◌, length, take, count_by, IfSome, IfNone};
 ghost use Rattle.zx_model.specs.Proportional.{Proportional};
-ghost use Rattle.zx_gates.specs.Circuit.{gate_odd_phases};
+ghost use Rattle.zx_model.specs.Scalar.{IsScaled, IsWithin};
+ghost use Rattle.zx_gates.specs.Circuit.{gate_bound, gate_odd_phases};
 ghost use Rattle.zx_gates.specs.Counting.{is_two_qubit};
+ghost use Rattle.zx_gates.specs.Lowering.{scalar};
 ghost use Rattle.zx_gates.specs.Maps.{amp};
 ghost use Rattle.zx_peephole.specs.Tidy.{IsTidy};
 ghost use Rattle.zx_peephole.specs.Doubling.{IsDoubled};
@@ -15,18 +17,23 @@ use crate::chains::{Chains, MOST_QUBITS, is_left};
 use crate::changing::{keep, merge_pair, turn_over};
 use crate::finding::{Change, find};
 use zx_gates::{GateList, Parts};
+use zx_model::{Scalar, Sixteenth};
 
 /// Tidies a circuit in place, without memory: gates of which one passes all gates up to the other and that are
-/// nothing or one gate together are merged, and so are half turns and NOT between two H, until none are left.
+/// nothing or one gate together are merged, and so are half turns and NOT between two H, until none are left. The
+/// scalar is answered that the circuit's map was times the new one.
 ///
 /// A merged phase gate stands at the later gate's place. The time is that of looking, for each gate, at the kept ones
 /// before it that it commutes with and shares a qubit with.
-pub fn tidy(g: &mut GateList)
+pub fn tidy(g: &mut GateList) -> Scalar
     ensures tidy { IsTidy g.new.gates }
     ensures qubits { g.new.qubits ≡ g.old.qubits }
 
     // Each two H that go, with or without a gate between them, make it half as large.
     ensures map { IsDoubled g.old.qubits (amp g.old.gates) (amp g.new.gates) }
+    ensures scaled { IsScaled g.old.qubits g.old.qubits
+        (amp g.old.gates) result (amp g.new.gates) }
+    ensures small { IsWithin gate_bound result }
     ensures proportional { Proportional g.old.qubits g.old.qubits
         (amp g.old.gates) (amp g.new.gates) }
 
@@ -35,10 +42,24 @@ pub fn tidy(g: &mut GateList)
     ensures two_qubit { count_by is_two_qubit g.new.gates ≤ count_by is_two_qubit g.old.gates }
 {
     let mut work = begin(g.take());
+    let mut power = 0;
     while work.next < work.gates.len() {
-        settle(&mut work);
+        power += settle(&mut work);
     }
     *g = GateList::from_parts(end(work));
+    power_of_two(power)
+}
+
+// A power of two as a scalar.
+fn power_of_two(power: u32) -> Scalar
+    requires { 2 * power < 2 ^ 32 }
+    ensures value { result ≡ scalar (pos (2 * power)) 0 }
+    ensures small { IsWithin gate_bound result }
+{
+    Scalar {
+        root2: i64::from(2 * power),
+        turn: Sixteenth::new(0),
+    }
 }
 
 // No gate is read yet.
@@ -75,15 +96,21 @@ fn end(work: Chains) -> Parts
     }
 }
 
-// Reads the next gate.
-fn settle(work: &mut Chains)
+// Reads the next gate, and answers the power of two that the map loses.
+fn settle(work: &mut Chains) -> u32
     requires { IsReading work.old }
     ensures sound { IsSound work.new }
-    ensures advance { IsAdvance work.old work.new }
+    ensures advance { IsAdvance work.old result work.new }
 {
     match find(work) {
         Some(Change::Pair(first)) => merge_pair(work, first),
-        Some(Change::Triple(first, middle)) => turn_over(work, first, middle),
-        None => keep(work),
+        Some(Change::Triple(first, middle)) => {
+            turn_over(work, first, middle);
+            1
+        }
+        None => {
+            keep(work);
+            0
+        }
     }
 }

@@ -1,3 +1,4 @@
+pub mod Growth
 pub mod Places
 pub mod Walks
 pub mod Works

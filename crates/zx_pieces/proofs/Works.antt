@@ -1,30 +1,65 @@
 -- A piece is replaced, and what is left gets shorter.
-use Rattle.std.proofs.Common.{◌≡◌, ◌≤◌, ◌<◌, ◌+◌, ◌-◌, inl, inr, ℕ, List, [], ◌++◌, append_assoc, length, take, drop, refl, sym, ap, ◌∙◌, subst, arith}
+use Rattle.std.proofs.Common.{◌≡◌, ◌≤◌, ◌<◌, ◌+◌, ◌-◌, inl, inr, ℕ, List, ◌++◌, append_assoc, length, take, drop, refl, sym, ap, ◌∙◌, subst, arith}
 use Rattle.std.specs.List.{All}
-use Rattle.std.proofs.lemmas.List.{length-append, length-drop, drop-drop, take-append-drop, drop_all, append-nil}
+use Rattle.std.proofs.lemmas.List.{length-append, length-drop, drop-drop, take-append-drop}
 use Rattle.std.proofs.lemmas.List.Sorted.{length_permutation}
 use Rattle.std.proofs.Math.Nat.{eq-or-lt_of_le}
 use Rattle.zx_model.specs.Proportional.{Proportional}
+use Rattle.zx_model.specs.Scalar.{IsScaled, product_of_scalars}
+use Rattle.zx_model.specs.declared.scalar.Scalar.{Scalar}
+use Rattle.zx_model.proofs.Scalars.{scaled_trans}
 use Rattle.zx_gates.specs.Circuit.{IsGateOn, gate_odd_phases}
 use Rattle.zx_gates.specs.Maps.{amp}
 use Rattle.zx_gates.specs.declared.gate.Gate.{Gate}
 use Rattle.piece_laws.specs.Reordering.{gates_on, IsReordered}
-use Rattle.piece_laws.specs.Replacement.{two_qubit_gates, IsReplacement}
+use Rattle.piece_laws.specs.Replacement.{two_qubit_gates, AreScaled, IsReplacement}
 use Rattle.piece_laws.proofs.Reorderings.{reordered-append, reordered_gates}
-use Rattle.piece_laws.proofs.Replacements.{All-parts, replaced_in_front, replacement-trans}
+use Rattle.piece_laws.proofs.Replacements.{All-parts, replaced_in_front, replacement-refl, replacement-trans}
+use Rattle.piece_laws.proofs.Scaling.{scaled_part, front_map}
+use Rattle.zx_pieces.specs.Internal.Working.{IsRescaled, Adds}
 
 -- the gates of the window are on the qubits
 pub window_on : (n : ℕ) (gates done window rest : List Gate) → IsReplacement n gates (done ++ (window ++ rest)) → All (IsGateOn n) window
 window_on n gates done window rest r =
     (All-parts (IsGateOn n) window rest (All-parts (IsGateOn n) done (window ++ rest) r.on_qubits).1).0
 
--- a piece of the window is replaced
+-- a piece of the window comes to its front
+piece_first : (window piece passed rest : List Gate) → IsReordered window (piece ++ passed) → IsReordered (window ++ rest) (piece ++ (passed ++ rest))
+piece_first window piece passed rest same q =
+    reordered-append window (piece ++ passed) rest rest same (λ p. refl) q ∙ ap (gates_on q) (append_assoc piece passed rest)
+
+-- it is replaced
 pub replaced_more : (n : ℕ) (gates done window piece passed new rest : List Gate) → IsReplacement n gates (done ++ (window ++ rest))
     → IsReordered window (piece ++ passed) → IsReplacement n piece new → IsReplacement n gates (done ++ new ++ (passed ++ rest))
 replaced_more n gates done window piece passed new rest all same r =
     replacement-trans n gates (done ++ (window ++ rest)) (done ++ new ++ (passed ++ rest)) all
-    (replaced_in_front n done (window ++ rest) piece (passed ++ rest) new r all.on_qubits
-    (λ q. reordered-append window (piece ++ passed) rest rest same (λ p. refl) q ∙ ap (gates_on q) (append_assoc piece passed rest)))
+    (replaced_in_front n done (window ++ rest) piece (passed ++ rest) new r all.on_qubits (piece_first window piece passed rest same))
+
+pub rescaled_more : (n : ℕ) (gates done window piece passed after rest : List Gate) (s t : Scalar)
+    → AreScaled n gates s (done ++ (window ++ rest)) → IsReordered window (piece ++ passed) → IsRescaled n (done ++ piece) after s t
+    → AreScaled n gates t (after ++ (passed ++ rest))
+rescaled_more n gates done window piece passed after rest s t all same r =
+    r (amp gates) (passed ++ rest)
+    (subst (IsScaled n n (amp gates) s) (front_map done (window ++ rest) piece (passed ++ rest) (piece_first window piece passed rest same)) all)
+
+-- the scalar is multiplied by that between the piece and what replaces it
+pub rescaled_by : (n : ℕ) (before piece new after : List Gate) (s factor t : Scalar) → after ≡ before ++ new → t ≡ product_of_scalars s factor
+    → AreScaled n piece factor new → IsRescaled n (before ++ piece) after s t
+rescaled_by n before piece new after s factor t same is scaled = λ f behind e.
+    subst (λ gs. IsScaled n n f t (amp (gs ++ behind))) (sym same)
+    (subst (λ u. IsScaled n n f u (amp (before ++ new ++ behind))) (sym is)
+    (scaled_trans n n f (amp (before ++ piece ++ behind)) (amp (before ++ new ++ behind)) s factor e (scaled_part n before piece new behind factor scaled)))
+
+-- the piece replaces itself, and the scalar stays
+pub adds_itself : (n : ℕ) (before piece after : List Gate) → after ≡ before ++ piece → All (IsGateOn n) piece → Adds n before piece after
+adds_itself n before piece after same all = record {
+  new = piece;
+  gates = same;
+  replaces = replacement-refl n piece all;
+}
+
+pub rescaled_same : (n : ℕ) (old new : List Gate) (s : Scalar) → new ≡ old → IsRescaled n old new s s
+rescaled_same n old new s same = λ f behind e. subst (λ gs. IsScaled n n f s (amp (gs ++ behind))) (sym same) e
 
 -- the window gets the next gates
 pub filled : (passed gates : List Gate) (next count : ℕ) → passed ++ take count (drop next gates) ++ drop (next + count) gates ≡ passed ++ drop next gates
@@ -47,13 +82,6 @@ fewer_left old window piece passed gates next end same order some =
   where
     at : (p q w k all : ℕ) → 0 < p → p + q ≡ w → w + k ≡ all → q + k < all
     at p q w k all more sum whole = omega arith
-
--- nothing is left
-pub all_done : (n : ℕ) (gates done passed : List Gate) (next : ℕ) → length gates ≤ next → passed ≡ []
-    → IsReplacement n gates (done ++ (passed ++ drop next gates)) → IsReplacement n gates done
-all_done n gates done passed next past none r =
-    subst (IsReplacement n gates)
-    (ap (λ gs. done ++ (gs ++ drop next gates)) none ∙ ap (λ gs. done ++ gs) (drop_all next gates past) ∙ append-nil done) r
 
 -- what is cleaned up replaces
 pub replaced-cleaned : (n : ℕ) (old new : List Gate) → All (IsGateOn n) new → Proportional n n (amp old) (amp new) → gate_odd_phases new ≤ gate_odd_phases old

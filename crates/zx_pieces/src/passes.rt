@@ -1,12 +1,16 @@
 //! Passes over a circuit, each with pieces on more qubits.
 
 ghost use Rattle.std.specs.Prelude.{◌≡◌, IfOk};
+ghost use Rattle.zx_model.specs.Scalar.{IsScaled, IsWithin};
+ghost use Rattle.zx_gates.specs.Maps.{amp};
 ghost use Rattle.zx_peephole.specs.Tidy.{IsTidy};
 ghost use Rattle.piece_laws.specs.Replacement.{IsReplacement};
+ghost use Rattle.zx_pieces.specs.Scaling.{most_root2_of_passes};
 
 use crate::replacing::replace_pieces;
 use std::alloc::{AllocError, Global};
 use zx_gates::GateList;
+use zx_model::Scalar;
 use zx_peephole::tidy;
 
 // On how many qubits a piece is at most, pass by pass.
@@ -18,23 +22,29 @@ const REACH: usize = 3_000;
 // The same for the pieces that are taken first, as large as may be.
 const FAR: usize = 30_000;
 
-/// Replaces pieces of a circuit by smaller ones, pass after pass, and tidies what is left.
+/// Replaces pieces of a circuit by smaller ones, pass after pass, and tidies what is left. The scalar is
+/// answered that the circuit's map is times the new one's.
 ///
 /// # Errors
 ///
 /// Only where memory runs out.
-pub fn shrink(alloc: Global, circuit: &GateList) -> Result<GateList, AllocError>
-    ensures qubits { IfOk result (λ made. made.qubits ≡ circuit.now.qubits) }
+pub fn shrink(alloc: Global, circuit: &GateList) -> Result<(GateList, Scalar), AllocError>
+    ensures qubits { IfOk result (λ made. made.0.qubits ≡ circuit.now.qubits) }
     ensures replacement { IfOk result (λ made.
-        IsReplacement circuit.now.qubits circuit.now.gates made.gates) }
-    ensures tidy { IfOk result (λ made. IsTidy made.gates) }
+        IsReplacement circuit.now.qubits circuit.now.gates made.0.gates) }
+    ensures scalar { IfOk result (λ made. IsScaled circuit.now.qubits circuit.now.qubits
+        (amp circuit.now.gates) made.1 (amp made.0.gates)) }
+    ensures small { IfOk result (λ made. IsWithin most_root2_of_passes made.1) }
+    ensures tidy { IfOk result (λ made. IsTidy made.0.gates) }
 {
-    let mut made = replace_pieces(alloc, circuit, usize::MAX, FAR)?;
+    let (mut made, mut scalar) = replace_pieces(alloc, circuit, usize::MAX, FAR)?;
     for most in SIZES {
-        made = replace_pieces(alloc, &made, most, REACH)?;
+        let (next, factor) = replace_pieces(alloc, &made, most, REACH)?;
+        made = next;
+        scalar = scalar.times(factor);
     }
-    tidy(&mut made);
+    scalar = scalar.times(tidy(&mut made));
     // Its gates are on its qubits, as those of any circuit.
     prove!(made.qubits() <= 1_024);
-    Ok(made)
+    Ok((made, scalar))
 }

@@ -1,25 +1,30 @@
 //! Pieces of a circuit, one after the other, replaced by smaller ones.
 
-ghost use Rattle.std.specs.Prelude.{◌≡◌, ◌≤◌, ◌<◌, ◌-◌, ◌+◌, ◌++◌, length, drop, IfOk, IfSome, OnOk, IsTrue};
-ghost use Rattle.zx_model.specs.Proportional.{Proportional};
+ghost use Rattle.std.specs.Prelude.{◌≡◌, ◌≤◌, ◌<◌, ◌-◌, ◌+◌, ◌++◌, length, drop, IfOk, IfSome, IsSome, OnOk, IsTrue};
 ghost use Rattle.std.specs.List.{All};
+ghost use Rattle.zx_model.specs.Scalar.{IsScaled, IsWithin};
 ghost use Rattle.zx_gates.specs.Circuit.{gate_odd_phases, most_qubits, IsCircuit, IsGateOn};
 ghost use Rattle.zx_gates.specs.Maps.{amp};
 ghost use Rattle.piece_laws.specs.Places.{ArePlaces, placed};
-ghost use Rattle.piece_laws.specs.Replacement.{IsNoLarger, IsReplacement};
-ghost use Rattle.zx_pieces.specs.Internal.Working.{Adds, IsAt, left_of};
+ghost use Rattle.piece_laws.specs.Replacement.{AreScaled, IsNoLarger, IsReplacement};
+ghost use Rattle.zx_pieces.specs.Internal.Working.{Adds, IsAt, IsRescaled, left_of};
+ghost use Rattle.zx_pieces.specs.Scaling.{most_root2_of_pass};
 
 use crate::narrowing::{narrowed, widened};
+use crate::scaling::product;
 use crate::walking::gather;
 use pauli_network::propose;
 use std::alloc::{AllocError, Global};
 use zx_gates::{Gate, GateList, Qubit, counts};
+use zx_model::Scalar;
 use zx_peephole::tidy;
-use zx_same::{Sameness, compare};
+use zx_same::quotient;
 
 /// Replaces pieces of a circuit by smaller circuits of the same map, where such are found. A piece is
 /// on at most `most` qubits, or has one gate alone; its gates stand among `reach` gates in a row, or
-/// did so after pieces before it were taken out.
+/// did so after pieces before it were taken out. The scalar is answered that the circuit's map is times
+/// the new one's; a piece stays as it is where its exponent of the root of two would be more than 2^50
+/// in size.
 ///
 /// # Errors
 ///
@@ -29,21 +34,25 @@ pub fn replace_pieces(
     circuit: &GateList,
     most: usize,
     reach: usize,
-) -> Result<GateList, AllocError>
-    ensures qubits { IfOk result (λ made. made.qubits ≡ circuit.now.qubits) }
+) -> Result<(GateList, Scalar), AllocError>
+    ensures qubits { IfOk result (λ made. made.0.qubits ≡ circuit.now.qubits) }
     ensures replacement { IfOk result (λ made.
-        IsReplacement circuit.now.qubits circuit.now.gates made.gates) }
+        IsReplacement circuit.now.qubits circuit.now.gates made.0.gates) }
+    ensures scalar { IfOk result (λ made. IsScaled circuit.now.qubits circuit.now.qubits
+        (amp circuit.now.gates) made.1 (amp made.0.gates)) }
+    ensures small { IfOk result (λ made. IsWithin most_root2_of_pass made.1) }
 {
     let gates = circuit.gates();
     let mut work = Work {
         done: GateList::new(alloc, circuit.qubits()),
+        scalar: Scalar::one(),
         passed: Vec::new(alloc),
         next: 0,
     };
     'pieces: while work.next < gates.len() || !work.passed.is_empty() {
         work.replace_one(alloc, gates, most, reach)?;
     }
-    Ok(work.done)
+    Ok((work.done, work.scalar))
 }
 
 // Where the replacement stands.
@@ -51,6 +60,8 @@ pub fn replace_pieces(
 struct Work {
     // The pieces so far, as they were replaced.
     done: GateList,
+    // By what the circuit's map is that of what is done and what is left.
+    scalar: Scalar,
     // The gates that were passed over.
     passed: Vec<Gate>,
     // The first gate that wasn't reached.
@@ -74,7 +85,13 @@ impl Work {
     {
         self.fill(gates, reach)?;
         let walk = gather(alloc, self.done.qubits(), &self.passed, most)?;
-        add_piece(&mut self.done, alloc, &walk.piece, &walk.places)?;
+        self.scalar = add_piece(
+            &mut self.done,
+            self.scalar,
+            alloc,
+            &walk.piece,
+            &walk.places,
+        )?;
         self.passed = walk.passed;
         Ok(())
     }
@@ -84,6 +101,7 @@ impl Work {
     fn fill(&mut self, gates: &[Gate], reach: usize) -> Result<(), AllocError>
         requires { self.old.next ≤ length gates.now }
         ensures done { self.new.done ≡ self.old.done }
+        ensures scalar { self.new.scalar ≡ self.old.scalar }
         ensures within { OnOk result (self.new.next ≤ length gates.now) }
         ensures same { OnOk result (self.new.passed.items ++ drop self.new.next gates.now ≡
             self.old.passed.items ++ drop self.old.next gates.now) }
@@ -98,24 +116,74 @@ impl Work {
     }
 }
 
-// Adds a piece on these qubits after all other gates, or what replaces it.
+// Adds a piece on these qubits after all other gates, or what replaces it. This scalar is answered, times
+// that of what replaces it.
 fn add_piece(
     done: &mut GateList,
+    scalar: Scalar,
     alloc: Global,
     piece: &GateList,
     places: &[Qubit],
-) -> Result<(), AllocError>
+) -> Result<Scalar, AllocError>
     requires places { ArePlaces piece.now.qubits places.now }
     requires piece { IsCircuit piece.now }
     requires same { done.old.qubits ≡ piece.now.qubits }
+    requires small { IsWithin most_root2_of_pass scalar }
     ensures qubits { OnOk result (done.new.qubits ≡ done.old.qubits) }
     ensures adds { OnOk result
         (Adds piece.now.qubits done.old.gates piece.now.gates done.new.gates) }
+    ensures scalar { IfOk result (IsRescaled piece.now.qubits
+        (done.old.gates ++ piece.now.gates) done.new.gates scalar) }
+    ensures small { IfOk result (IsWithin most_root2_of_pass) }
 {
     match replacement(alloc, piece, places)? {
-        Some(made) => append(done, &made),
-        None => append(done, piece),
+        Some(made) => add_smaller(done, scalar, &made.gates, made.scalar, piece),
+        None => {
+            append(done, piece)?;
+            Ok(scalar)
+        }
     }
+}
+
+// The same where the piece's map is a factor times that of this circuit, which replaces it as long as the
+// scalar stays small.
+fn add_smaller(
+    done: &mut GateList,
+    scalar: Scalar,
+    made: &GateList,
+    factor: Scalar,
+    piece: &GateList,
+) -> Result<Scalar, AllocError>
+    requires piece { IsCircuit piece.now }
+    requires same { done.old.qubits ≡ piece.now.qubits }
+    requires qubits { made.now.qubits ≡ piece.now.qubits }
+    requires replacement { IsReplacement piece.now.qubits piece.now.gates made.now.gates }
+    requires scaled { AreScaled piece.now.qubits piece.now.gates factor made.now.gates }
+    requires small { IsWithin most_root2_of_pass scalar }
+    ensures qubits { OnOk result (done.new.qubits ≡ done.old.qubits) }
+    ensures adds { OnOk result
+        (Adds piece.now.qubits done.old.gates piece.now.gates done.new.gates) }
+    ensures scalar { IfOk result (IsRescaled piece.now.qubits
+        (done.old.gates ++ piece.now.gates) done.new.gates scalar) }
+    ensures small { IfOk result (IsWithin most_root2_of_pass) }
+{
+    match product(&scalar, &factor) {
+        Some(product) => {
+            append(done, made)?;
+            Ok(product)
+        }
+        None => {
+            append(done, piece)?;
+            Ok(scalar)
+        }
+    }
+}
+
+// A circuit that replaces another, and the scalar that the other's map is times its own.
+#[derive(Drop)]
+struct Substitute {
+    gates: GateList,
+    scalar: Scalar,
 }
 
 // What a piece on these qubits is replaced by: a smaller circuit that is shown to be the same, if one is
@@ -124,11 +192,14 @@ fn replacement(
     alloc: Global,
     piece: &GateList,
     places: &[Qubit],
-) -> Result<Option<GateList>, AllocError>
+) -> Result<Option<Substitute>, AllocError>
     requires { ArePlaces piece.now.qubits places.now }
-    ensures qubits { IfOk result (λ found. IfSome found (λ made. made.qubits ≡ piece.now.qubits)) }
+    ensures qubits { IfOk result (λ found. IfSome found (λ made.
+        made.gates.qubits ≡ piece.now.qubits)) }
     ensures replacement { IfOk result (λ found. IfSome found (λ made.
-        IsReplacement piece.now.qubits piece.now.gates made.gates)) }
+        IsReplacement piece.now.qubits piece.now.gates made.gates.gates)) }
+    ensures scaled { IfOk result (λ found. IfSome found (λ made.
+        AreScaled piece.now.qubits piece.now.gates made.scalar made.gates.gates)) }
 {
     match narrowed(alloc, piece, places)? {
         Some(small) => widened_smaller(alloc, piece.qubits(), &small, places),
@@ -142,34 +213,42 @@ fn widened_smaller(
     qubits: Qubit,
     small: &GateList,
     places: &[Qubit],
-) -> Result<Option<GateList>, AllocError>
+) -> Result<Option<Substitute>, AllocError>
     requires few { qubits ≤ most_qubits }
     requires places { ArePlaces qubits places.now }
     requires small { small.now.qubits ≡ length places.now }
     requires gates { All (IsGateOn (length places.now)) small.now.gates }
-    ensures qubits { IfOk result (λ found. IfSome found (λ made. made.qubits ≡ qubits)) }
+    ensures qubits { IfOk result (λ found. IfSome found (λ made. made.gates.qubits ≡ qubits)) }
     ensures replacement { IfOk result (λ found. IfSome found (λ made.
-        IsReplacement qubits (placed places.now small.now.gates) made.gates)) }
+        IsReplacement qubits (placed places.now small.now.gates) made.gates.gates)) }
+    ensures scaled { IfOk result (λ found. IfSome found (λ made.
+        AreScaled qubits (placed places.now small.now.gates) made.scalar made.gates.gates)) }
 {
     match smaller(alloc, small)? {
-        Some(made) => Ok(Some(widened(alloc, qubits, &made, places)?)),
+        Some(made) => Ok(Some(Substitute {
+            gates: widened(alloc, qubits, &made.gates, places)?,
+            scalar: made.scalar,
+        })),
         None => Ok(None),
     }
 }
 
 // A smaller circuit that is shown to be the same, if one is found.
-fn smaller(alloc: Global, piece: &GateList) -> Result<Option<GateList>, AllocError>
-    ensures qubits { IfOk result (λ found. IfSome found (λ made. made.qubits ≡ piece.now.qubits)) }
+fn smaller(alloc: Global, piece: &GateList) -> Result<Option<Substitute>, AllocError>
+    ensures qubits { IfOk result (λ found. IfSome found (λ made.
+        made.gates.qubits ≡ piece.now.qubits)) }
     ensures replacement { IfOk result (λ found. IfSome found (λ made.
-        IsReplacement piece.now.qubits piece.now.gates made.gates)) }
+        IsReplacement piece.now.qubits piece.now.gates made.gates.gates)) }
+    ensures scaled { IfOk result (λ found. IfSome found (λ made.
+        AreScaled piece.now.qubits piece.now.gates made.scalar made.gates.gates)) }
 {
-    let Some(made) = proposal(alloc, piece)? else {
+    let Some(gates) = proposal(alloc, piece)? else {
         return Ok(None);
     };
-    if is_smaller(&made, piece) && are_same(alloc, piece, &made)? {
-        return Ok(Some(made));
+    match scalar_to_smaller(alloc, piece, &gates)? {
+        Some(scalar) => Ok(Some(Substitute { gates, scalar })),
+        None => Ok(None),
     }
-    Ok(None)
 }
 
 // Another circuit on as many qubits, after cleanup.
@@ -181,6 +260,26 @@ fn proposal(alloc: Global, piece: &GateList) -> Result<Option<GateList>, AllocEr
     };
     tidy(&mut made);
     Ok(Some(made))
+}
+
+// By which scalar a circuit's map is that of a smaller one, if it is smaller and this is shown.
+fn scalar_to_smaller(
+    alloc: Global,
+    piece: &GateList,
+    made: &GateList,
+) -> Result<Option<Scalar>, AllocError>
+    requires { piece.now.qubits ≡ made.now.qubits }
+    ensures odd { IfOk result (λ found. IsSome found →
+        gate_odd_phases made.now.gates ≤ gate_odd_phases piece.now.gates) }
+    ensures size { IfOk result (λ found. IsSome found → IsNoLarger made.now.gates piece.now.gates) }
+    ensures scaled { IfOk result (λ found. IfSome found (λ s.
+        AreScaled piece.now.qubits piece.now.gates s made.now.gates)) }
+{
+    if is_smaller(made, piece) {
+        quotient(alloc, piece, made)
+    } else {
+        Ok(None)
+    }
 }
 
 // Whether a circuit has no more odd phases than another, and fewer gates on two qubits, or as many of
@@ -197,18 +296,6 @@ fn is_smaller(this: &GateList, that: &GateList) -> bool
         return this.two_qubit < that.two_qubit;
     }
     this.total < that.total
-}
-
-// Whether it is shown that two circuits have one map.
-fn are_same(alloc: Global, a: &GateList, b: &GateList) -> Result<bool, AllocError>
-    requires { a.now.qubits ≡ b.now.qubits }
-    ensures { IfOk result (λ same. IsTrue same →
-        Proportional a.now.qubits a.now.qubits (amp a.now.gates) (amp b.now.gates)) }
-{
-    match compare(alloc, a, b)? {
-        Sameness::Same => Ok(true),
-        Sameness::NotShown { .. } => Ok(false),
-    }
 }
 
 // Adds the gates of a circuit after all others.

@@ -1,10 +1,10 @@
 //! Pivots along an edge, of a graph with its flow.
 //!
 //! Proved of `pivot` of two adjacent interior vertices: with Ok the graph is the rewritten one and
-//! the flow the table that `gflow_laws` gives for that, a flow of the new graph; the sum is kept
-//! with the exact factors of `zx_calculus`, and odd phases don't rise; want of memory leaves both
+//! the flow the table that `gflow_laws` gives for that, a flow of the new graph; the sum before
+//! is the answered scalar times the sum after, and odd phases don't rise; want of memory leaves both
 //! as they were.
-//! `may_pivot` tells exactly where it is allowed. `pivot_in_place` makes the same change without
+//! `may_pivot` tells exactly where it is allowed, `pivot_scalar` by which scalar it changes the sum. `pivot_in_place` makes the same change without
 //! copies; where memory runs out it says nothing. `pivot_in_graph` changes the graph alone, by the
 //! same step. Where all vertices are below the reach of graph and flow, none of these takes memory,
 //! and what both have memory for stays.
@@ -19,6 +19,8 @@
 mod flow;
 mod graph;
 mod rewrite;
+mod scalar;
 
 pub use graph::pivot_in_graph;
 pub use rewrite::{may_pivot, pivot, pivot_in_place};
+pub use scalar::pivot_scalar;

@@ -1,27 +1,37 @@
 //! The pivot of a graph with its flow.
 
-ghost use Rattle.std.specs.Prelude.{◌≡◌, true, IsOk, OnOk, OnErr};
+ghost use Rattle.std.specs.Prelude.{◌≡◌, true, IsOk, IfOk, OnOk, OnErr};
 ghost use Rattle.zx_calculus.specs.Graph.{WellFormed};
 ghost use Rattle.zx_calculus.specs.Steps.{allowed, Pivot};
+ghost use Rattle.zx_calculus.specs.StepScalars.{step_scalar};
 ghost use Rattle.gflow_laws.specs.Flow.{IsFlow};
 ghost use Rattle.gflow_laws.specs.Rewritten.{IsRewritten};
 ghost use Rattle.zx_flow.specs.Flows.{HaveReach};
 
 use crate::flow::pivot_sets;
 use crate::graph::pivot_in_graph;
+use crate::scalar::pivot_scalar;
 use open_graph::{OpenGraph, VertexId};
 use std::alloc::AllocError;
+use std::mem;
 use zx_flow::Flow;
+use zx_model::Scalar;
 
 /// A pivot of two adjacent interior vertices u and v: they exchange their other neighbours, the
 /// edges between the classes (adjacent to u alone, to v alone, to both) are toggled, and the common
 /// neighbours turn by a half. Where memory runs out, graph and flow stay as they were; where all
 /// vertices are below the reach of both, none is needed.
-pub fn pivot(g: &mut OpenGraph, f: &mut Flow, u: VertexId, v: VertexId) -> Result<(), AllocError>
+pub fn pivot(
+    g: &mut OpenGraph,
+    f: &mut Flow,
+    u: VertexId,
+    v: VertexId,
+) -> Result<Scalar, AllocError>
     requires flow { IsFlow g.old.graph f.old.flow }
     requires allowed { allowed g.old.graph (Pivot u v) ≡ true }
     ensures rewritten { OnOk result
         (IsRewritten g.old.graph f.old.flow (Pivot u v) g.new.graph f.new.flow) }
+    ensures scalar { IfOk result (λ s. s ≡ step_scalar g.old.graph (Pivot u v)) }
     ensures err { OnErr result ((g.new.graph ≡ g.old.graph) × (f.new.flow ≡ f.old.flow)) }
     ensures has_room { HaveReach g.old f.old → IsOk result }
     ensures spare { HaveReach g.old f.old →
@@ -42,20 +52,21 @@ fn pivot_in_copies(
     f: &mut Flow,
     u: VertexId,
     v: VertexId,
-) -> Result<(), AllocError>
+) -> Result<Scalar, AllocError>
     requires flow { IsFlow g.old.graph f.old.flow }
     requires allowed { allowed g.old.graph (Pivot u v) ≡ true }
     ensures rewritten { OnOk result
         (IsRewritten g.old.graph f.old.flow (Pivot u v) g.new.graph f.new.flow) }
+    ensures scalar { IfOk result (λ s. s ≡ step_scalar g.old.graph (Pivot u v)) }
     ensures err { OnErr result ((g.new.graph ≡ g.old.graph) × (f.new.flow ≡ f.old.flow)) }
     ensures valid { WellFormed g.new.graph }
 {
     let mut graph = g.copy()?;
     let mut flow = f.copy()?;
-    pivot_in_place(&mut graph, &mut flow, u, v)?;
-    *g = graph;
-    *f = flow;
-    Ok(())
+    let scalar = pivot_in_place(&mut graph, &mut flow, u, v)?;
+    mem::swap(g, &mut graph);
+    mem::swap(f, &mut flow);
+    Ok(scalar)
 }
 
 /// Whether the ids are those of two adjacent interior vertices.
@@ -73,15 +84,18 @@ pub fn pivot_in_place(
     f: &mut Flow,
     u: VertexId,
     v: VertexId,
-) -> Result<(), AllocError>
+) -> Result<Scalar, AllocError>
     requires flow { IsFlow g.old.graph f.old.flow }
     requires allowed { allowed g.old.graph (Pivot u v) ≡ true }
     ensures rewritten { OnOk result
         (IsRewritten g.old.graph f.old.flow (Pivot u v) g.new.graph f.new.flow) }
+    ensures scalar { IfOk result (λ s. s ≡ step_scalar g.old.graph (Pivot u v)) }
     ensures has_room { HaveReach g.old f.old → IsOk result }
     ensures spare { OnOk result ((g.new.spare ≡ g.old.spare) × (f.new.spare ≡ f.old.spare)) }
     ensures reach { (g.new.reach ≡ g.old.reach) × (f.new.reach ≡ f.old.reach) }
 {
+    let scalar = pivot_scalar(g, u, v);
     pivot_sets(f, g, u, v)?;
-    pivot_in_graph(g, u, v)
+    pivot_in_graph(g, u, v)?;
+    Ok(scalar)
 }

@@ -1,5 +1,5 @@
 -- How many ids a graph needs, inside a move and over moves.
-use Rattle.std.proofs.Common.{◌≡◌, ◌≢◌, refl, sym, ◌∙◌, ap, subst, ℕ, zero, suc, ◌+◌, ◌≤◌, Bool, true, false, if◌then◌else◌, not, ◌&&◌, ◌||◌, eqb, ne_eqb, true≢false, List, [], ◌∷◌, ◌++◌, length, arith}
+use Rattle.std.proofs.Common.{◌≡◌, refl, sym, ap, subst, ℕ, zero, suc, ◌+◌, ◌≤◌, Bool, true, false, if◌then◌else◌, not, ◌&&◌, ◌||◌, ne_eqb, true≢false, List, [], ◌∷◌, ◌++◌, length, arith}
 use Rattle.std.proofs.lemmas.List.{append-nil}
 use Rattle.std.specs.List.{list_all}
 use Rattle.zx_model.specs.Phase.{is_half_turns, is_quarter_turn}
@@ -12,12 +12,12 @@ use Rattle.zx_calculus.proofs.CountLemmas.{Test, count, count-cons, count_same, 
 use Rattle.zx_calculus.proofs.Ids.{by_test, not-true, and-left, and-right, Distinct, apart_of_member}
 use Rattle.zx_calculus.proofs.Splitting.{distinct}
 use Rattle.zx_calculus.proofs.Steps.{step_kept, run_kept}
-use Rattle.move_laws.specs.Demand.{demand, has_both, taken_out}
+use Rattle.move_laws.specs.Demand.{demand, has_both}
 use Rattle.move_laws.specs.Orders.{is_split}
 use Rattle.move_laws.proofs.DemandLemmas.{no_split, split_input, only_input, only_output, split_both}
 use Rattle.zx_reduce.specs.declared.moves.Move.{Move}
 use Rattle.zx_reduce.specs.declared.moves.Move.TheVariants as moves
-use Rattle.zx_reduce.specs.Moving.{splits_of, removal_of, steps_of, AreMoves}
+use Rattle.zx_reduce.specs.Moving.{removal_of, steps_of, AreMoves}
 use Rattle.zx_reduce.specs.Internal.Rooms.{StaysWithin}
 
 less : (a t b d : ℕ) → a + t ≡ b → b ≤ d → a ≤ d

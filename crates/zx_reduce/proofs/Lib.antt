@@ -16,3 +16,4 @@ mod DemandMoves
 mod RoomLemmas
 mod InPlace
 mod StepsNeeded
+pub mod Scaling

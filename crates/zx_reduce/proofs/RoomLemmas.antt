@@ -2,19 +2,18 @@
 use Rattle.std.proofs.Common.{◌≡◌, refl, sym, ◌∙◌, ap, subst, ℕ, suc, ◌+◌, ◌-◌, ◌*◌, ◌<◌, ◌≤◌, true, List, [], ◌∷◌, length, arith}
 use Rattle.zx_model.specs.Bits.{one_if}
 use Rattle.zx_bits.specs.Sets.{IsBelow}
-use Rattle.zx_calculus.specs.Graph.{XY, Graph, Vertex, ids, with_kinds, without, insert_vertex, plane_of, kind_of, Live, WellFormed}
-use Rattle.zx_calculus.specs.Counts.{not_XY}
+use Rattle.zx_calculus.specs.Graph.{XY, Graph, Vertex, ids, with_kinds, without, insert_vertex, plane_of, Live, WellFormed}
 use Rattle.zx_calculus.specs.Splits.{new_vertex, spider_of_phase_zero}
 use Rattle.zx_calculus.specs.Steps.{Step, IsStep, LocalComplement, Delete, Pivot, SplitInput, SplitOutput, DropLone, FuseInto, FuseTwin}
 use Rattle.zx_calculus.proofs.CountLemmas.{Test, count, count_front, count-with_kinds, count-insert}
 use Rattle.zx_calculus.proofs.Counting.{Change}
 use Rattle.zx_calculus.proofs.ReducedLemmas.{counts_within}
 use Rattle.zx_calculus.proofs.Splitting.{distinct}
-use Rattle.move_laws.specs.Demand.{demand, with_both, taken_out}
+use Rattle.move_laws.specs.Demand.{demand, taken_out}
 use Rattle.move_laws.specs.Orders.{is_split}
 use Rattle.move_laws.proofs.DemandLemmas.{new_within, kept_below}
 use Rattle.open_graph.specs.OpenGraph.{OpenGraph}
-use Rattle.zx_flow.specs.Flows.{Flow, HavePlace, HaveReach}
+use Rattle.zx_flow.specs.Flows.{Flow, HavePlace}
 use Rattle.zx_reduce.specs.Moving.{most_moves}
 use Rattle.zx_reduce.specs.Traces.{Trace}
 use Rattle.zx_reduce.specs.Rooms.{HaveRoomFor, UsesPlaces, AreReserved, HasRoom}

@@ -1,8 +1,8 @@
 -- The steps that simplification needs, summed up over the vertices.
-use Rattle.std.proofs.Common.{◌≡◌, refl, sym, ◌∙◌, ap, ap₂, ℕ, ◌+◌, ◌*◌, ◌<◌, ◌≤◌, Bool, true, false, cond, not, ◌||◌, eqb, ne_eqb, List, [], ◌∷◌, ◌++◌, length, arith}
+use Rattle.std.proofs.Common.{◌≡◌, refl, sym, ◌∙◌, ap, ap₂, ℕ, ◌+◌, ◌*◌, ◌<◌, ◌≤◌, true, false, cond, not, ne_eqb, List, [], ◌∷◌, ◌++◌, length, arith}
 use Rattle.std.proofs.lemmas.List.{append-nil}
 use Rattle.zx_model.specs.Bits.{member, one_if}
-use Rattle.zx_calculus.specs.Graph.{Plane, XY, XZ, YZ, Kind, Vertex, Graph, ids, is_XY, kind_of, plane_of, WellFormed}
+use Rattle.zx_calculus.specs.Graph.{Plane, XY, XZ, YZ, Vertex, Graph, ids, is_XY, kind_of, plane_of, WellFormed}
 use Rattle.zx_calculus.specs.Counts.{not_XY}
 use Rattle.zx_calculus.proofs.CountLemmas.{count, count-cons}
 use Rattle.zx_calculus.proofs.Ids.{Distinct, apart_of_member, eqb-self, member-here, member-there}

@@ -3,3 +3,4 @@ pub mod Searching
 pub mod Planning
 pub mod Guiding
 pub mod Rooms
+pub mod Scaling

@@ -5,3 +5,4 @@ pub mod Search
 pub mod Moving
 pub mod Rooms
 pub mod Internal
+pub mod Scaling

@@ -1,8 +1,9 @@
 //! One step, where it is allowed.
 
-ghost use Rattle.std.specs.Prelude.{◌≡◌, ◌↔◌, true, false, IsOk, OnOk, OnErr, IsErrOf};
+ghost use Rattle.std.specs.Prelude.{◌≡◌, ◌↔◌, true, false, IsOk, IfOk, OnOk, OnErr, IsErrOf};
 ghost use Rattle.zx_calculus.specs.Graph.{WellFormed};
 ghost use Rattle.zx_calculus.specs.Steps.{allowed};
+ghost use Rattle.zx_calculus.specs.StepScalars.{step_scalar};
 ghost use Rattle.gflow_laws.specs.Flow.{IsFlow};
 ghost use Rattle.gflow_laws.specs.Rewritten.{IsRewritten};
 ghost use Rattle.zx_reduce.specs.Rooms.{HaveRoomFor, UsesPlaces};
@@ -16,12 +17,14 @@ use std::alloc::AllocError;
 use zx_boundary::{split_input, split_output};
 use zx_flow::Flow;
 use zx_gadgets::{drop_lone, fuse_into, fuse_twin};
+use zx_model::Scalar;
 use zx_pivot::pivot;
 
 /// Does a step on a graph with its flow, where it is allowed: where its ids are those of vertices,
-/// and its side condition holds. Where it isn't, or memory runs out, graph and flow stay as they
+/// and its side condition holds, and answers its scalar: the sum before is so many times the sum
+/// after. Where it isn't, or memory runs out, graph and flow stay as they
 /// were. Where both have the memory that the step needs, it takes none.
-pub fn apply(g: &mut OpenGraph, f: &mut Flow, step: Step) -> Result<(), StepRefused>
+pub fn apply(g: &mut OpenGraph, f: &mut Flow, step: Step) -> Result<Scalar, StepRefused>
     requires flow { IsFlow g.old.graph f.old.flow }
 
     // Whether the step is allowed is tested before memory is asked for.
@@ -33,6 +36,7 @@ pub fn apply(g: &mut OpenGraph, f: &mut Flow, step: Step) -> Result<(), StepRefu
 
     ensures rewritten { OnOk result (IsRewritten g.old.graph f.old.flow (step_named step)
         g.new.graph f.new.flow) }
+    ensures scalar { IfOk result (λ s. s ≡ step_scalar g.old.graph (step_named step)) }
     ensures err { OnErr result ((g.new.graph ≡ g.old.graph) × (f.new.flow ≡ f.old.flow)) }
     ensures has_room { allowed g.old.graph (step_named step) ≡ true →
         HaveRoomFor (step_named step) g.old f.old → IsOk result }
@@ -44,16 +48,17 @@ pub fn apply(g: &mut OpenGraph, f: &mut Flow, step: Step) -> Result<(), StepRefu
     if !step.is_allowed(g) {
         return Err(StepRefused::NotAllowed);
     }
-    rewrite(g, f, &step)?;
-    Ok(())
+    let scalar = rewrite(g, f, &step)?;
+    Ok(scalar)
 }
 
 // Does a step that is allowed.
-pub(crate) fn rewrite(g: &mut OpenGraph, f: &mut Flow, step: &Step) -> Result<(), AllocError>
+pub(crate) fn rewrite(g: &mut OpenGraph, f: &mut Flow, step: &Step) -> Result<Scalar, AllocError>
     requires flow { IsFlow g.old.graph f.old.flow }
     requires allowed { allowed g.old.graph (step_named step.now) ≡ true }
     ensures rewritten { OnOk result (IsRewritten g.old.graph f.old.flow (step_named step.now)
         g.new.graph f.new.flow) }
+    ensures scalar { IfOk result (λ s. s ≡ step_scalar g.old.graph (step_named step.now)) }
     ensures err { OnErr result ((g.new.graph ≡ g.old.graph) × (f.new.flow ≡ f.old.flow)) }
     ensures has_room { HaveRoomFor (step_named step.now) g.old f.old → IsOk result }
     ensures places { HaveRoomFor (step_named step.now) g.old f.old →

@@ -1,7 +1,7 @@
 //! Simplification of a graph with its flow without copies. The sets are kept by the rewrites, and moves
 //! are looked for over all vertices.
 
-ghost use Rattle.std.specs.Prelude.{◌≤◌, ◌+◌, ℕ, map, IsOk, OnOk};
+ghost use Rattle.std.specs.Prelude.{◌<◌, ◌≤◌, ◌+◌, ℕ, length, map, IsOk, IfOk, OnOk};
 ghost use Rattle.zx_calculus.specs.Graph.{WellFormed};
 ghost use Rattle.zx_calculus.specs.Reduced.{IsReduced};
 ghost use Rattle.zx_calculus.specs.Steps.{IsRun};
@@ -9,10 +9,13 @@ ghost use Rattle.gflow_laws.specs.Flow.{IsFlow};
 ghost use Rattle.move_laws.specs.Demand.{demand};
 ghost use Rattle.zx_reduce.specs.Moving.{GainsMoves};
 ghost use Rattle.zx_reduce.specs.Rooms.{HasRoom};
+ghost use Rattle.zx_calculus.specs.StepScalars.{most_vertices};
+ghost use Rattle.zx_reduce.specs.Scaling.{most_exponent};
 ghost use Rattle.zx_reduce.specs.Search.{AppliesAt, IsOfFirstKind};
 ghost use Rattle.zx_reduce.specs.Steps.{step_named};
 ghost use Rattle.zx_reduce.specs.Internal.Planning.{AreAllowed, GainsMove};
 ghost use Rattle.zx_reduce.specs.Internal.Rooms.{HavePlaces, StaysWithin};
+ghost use Rattle.zx_reduce.specs.Internal.Scaling.{Scales};
 
 use crate::applying::rewrite;
 use crate::moves::Move;
@@ -25,39 +28,45 @@ use open_graph::OpenGraph;
 use std::alloc::AllocError;
 use std::sync::ledger::Ledger;
 use zx_flow::Flow;
+use zx_model::Scalar;
 
-// Does moves until none applies. Where memory runs out, a part of a move is done; where there is the
+// Does moves until none applies, and answers by which scalar they change the sum. Where memory runs out, a part of a move is done; where there is the
 // memory that simplification needs, none is taken.
 pub(crate) fn reduce_in_place<L: Ledger>(
     g: &mut OpenGraph,
     f: &mut Flow,
     trace: &mut Trace,
     steps: &mut Steps<L>,
-) -> Result<(), AllocError>
+) -> Result<Scalar, AllocError>
     requires valid { WellFormed g.old.graph }
     requires flow { IsFlow g.old.graph f.old.flow }
+    requires few { length g.old.graph.vertices < most_vertices }
     ensures reduced { OnOk result (IsReduced g.new.graph) }
     ensures flow { OnOk result (IsFlow g.new.graph f.new.flow) }
     ensures moves { OnOk result
         (GainsMoves g.old.graph g.new.graph trace.old.steps trace.new.steps steps.old steps.new) }
+    ensures scalar { IfOk result (λ s.
+        Scales g.old.graph (most_exponent g.old.graph) s g.new.graph) }
     ensures has_room { HasRoom g.old f.old trace.old → IsOk result }
     ensures valid { WellFormed g.new.graph }
 {
+    let mut scalar = Scalar::one();
     while let Some(found) = next_move(g) {
-        make(g, f, trace, &found)?;
+        scalar = scalar.times(make(g, f, trace, &found)?);
         steps.tick();
     }
-    Ok(())
+    Ok(scalar)
 }
 
 // Makes a move. Its steps are put into the trace before they are done.
-fn make(g: &mut OpenGraph, f: &mut Flow, trace: &mut Trace, m: &Move) -> Result<(), AllocError>
+fn make(g: &mut OpenGraph, f: &mut Flow, trace: &mut Trace, m: &Move) -> Result<Scalar, AllocError>
     requires valid { WellFormed g.old.graph }
     requires flow { IsFlow g.old.graph f.old.flow }
     requires applies { AppliesAt g.old.graph m.now }
     requires first { IsOfFirstKind g.old.graph m.now }
     ensures gains { OnOk result (GainsMove g.old.graph m.now g.new.graph
         trace.old.steps trace.new.steps) }
+    ensures scalar { IfOk result (λ s. Scales g.old.graph 12 s g.new.graph) }
     ensures flow { OnOk result (IsFlow g.new.graph f.new.flow) }
     ensures valid { WellFormed g.new.graph }
     ensures has_room { (n : ℕ) → HavePlaces n g.old f.old → demand g.old.graph + 2 ≤ n →
@@ -72,11 +81,13 @@ fn make(g: &mut OpenGraph, f: &mut Flow, trace: &mut Trace, m: &Move) -> Result<
 }
 
 // Does steps that can be done one after the other.
-fn do_steps(g: &mut OpenGraph, f: &mut Flow, steps: &[Step]) -> Result<(), AllocError>
+fn do_steps(g: &mut OpenGraph, f: &mut Flow, steps: &[Step]) -> Result<Scalar, AllocError>
     requires valid { WellFormed g.old.graph }
     requires flow { IsFlow g.old.graph f.old.flow }
     requires allowed { AreAllowed g.old.graph (map step_named steps.now) }
+    requires few { length steps.now ≤ 6 }
     ensures run { OnOk result (IsRun g.old.graph (map step_named steps.now) g.new.graph) }
+    ensures scalar { IfOk result (λ s. Scales g.old.graph 12 s g.new.graph) }
     ensures flow { OnOk result (IsFlow g.new.graph f.new.flow) }
     ensures valid { WellFormed g.new.graph }
     ensures has_room { (n d : ℕ) → HavePlaces n g.old f.old → d + 2 ≤ n →
@@ -84,8 +95,9 @@ fn do_steps(g: &mut OpenGraph, f: &mut Flow, steps: &[Step]) -> Result<(), Alloc
     ensures places { OnOk result ((n d : ℕ) → HavePlaces n g.old f.old → d + 2 ≤ n →
         StaysWithin d g.old.graph (map step_named steps.now) → HavePlaces n g.new f.new) }
 {
+    let mut scalar = Scalar::one();
     for step in steps {
-        rewrite(g, f, step)?;
+        scalar = scalar.times(rewrite(g, f, step)?);
     }
-    Ok(())
+    Ok(scalar)
 }

@@ -35,6 +35,7 @@ mod reduction;
 mod room_laws;
 mod search;
 mod simplification_laws;
+mod size;
 mod steps;
 mod trace;
 
@@ -57,6 +58,7 @@ pub use simplification_laws::{
     graphs_of_circuits_allow_few_moves, moves_are_a_run, moves_are_short, moves_begin_allowed,
     moves_can_be_made, moves_end_in_reduced_graphs,
 };
+pub use size::check_size;
 pub use step::Step;
 pub use steps::Steps;
 pub use trace::Trace;

@@ -1,14 +1,16 @@
 //! Rewrites by their names.
 
-ghost use Rattle.std.specs.Prelude.{◌≡◌};
+ghost use Rattle.std.specs.Prelude.{◌≡◌, true};
 ghost use Rattle.zx_calculus.specs.Graph.{WellFormed};
 ghost use Rattle.zx_calculus.specs.Steps.{allowed};
+ghost use Rattle.zx_calculus.specs.StepScalars.{step_scalar};
 
-use local_comp::{may_complement, may_delete};
+use local_comp::{complement_scalar, delete_scalar, may_complement, may_delete};
 use open_graph::{OpenGraph, VertexId};
-use zx_boundary::{may_split_input, may_split_output};
-use zx_gadgets::{may_drop_lone, may_fuse_into, may_fuse_twin};
-use zx_pivot::may_pivot;
+use zx_boundary::{may_split_input, may_split_output, split_input_scalar, split_output_scalar};
+use zx_gadgets::{gadget_scalar, may_drop_lone, may_fuse_into, may_fuse_twin};
+use zx_model::Scalar;
+use zx_pivot::{may_pivot, pivot_scalar};
 
 /// A rewrite with the vertices that it is about.
 #[derive(Clone, Copy, Debug, PartialEq, Eq)]
@@ -48,6 +50,21 @@ impl Step {
             Step::DropLone(u) => may_drop_lone(g, *u),
             Step::FuseInto(u) => may_fuse_into(g, *u),
             Step::FuseTwin(u, v) => may_fuse_twin(g, *u, *v),
+        }
+    }
+
+    /// The scalar of the step, where that is allowed: the sum before is so many times the sum after.
+    pub fn scalar(&self, g: &OpenGraph) -> Scalar
+        requires { allowed g.now.graph (step_named self.now) ≡ true }
+        ensures { result ≡ step_scalar g.now.graph (step_named self.now) }
+    {
+        match self {
+            Step::LocalComplement(u) => complement_scalar(g, *u),
+            Step::Delete(u) => delete_scalar(g, *u),
+            Step::Pivot(u, v) => pivot_scalar(g, *u, *v),
+            Step::SplitInput(b) => split_input_scalar(g, *b),
+            Step::SplitOutput(b) => split_output_scalar(g, *b),
+            Step::DropLone(_) | Step::FuseInto(_) | Step::FuseTwin(_, _) => gadget_scalar(),
         }
     }
 }

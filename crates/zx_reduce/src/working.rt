@@ -9,6 +9,7 @@ ghost use Rattle.zx_reduce.specs.Steps.{step_named};
 ghost use Rattle.zx_reduce.specs.Search.{AppliesAt, IsOfFirstKind};
 ghost use Rattle.zx_reduce.specs.Internal.Guiding.{IsGuided, IsGuidedBut, HasFlowIn, HasCandidates};
 ghost use Rattle.zx_reduce.specs.Internal.Planning.{GainsMove};
+ghost use Rattle.zx_reduce.specs.Internal.Scaling.{Scales};
 
 use crate::candidates::Candidates;
 use crate::in_graph::{add_vertices_near, rewrite};
@@ -21,6 +22,7 @@ use flow_find::find_by_rank;
 use open_graph::{OpenGraph, VertexId};
 use std::alloc::AllocError;
 use zx_flow::Flow;
+use zx_model::Scalar;
 
 /// A graph, the order along which it has a flow, where moves may begin, and the steps that led to
 /// it. No correction set is kept. After a call that ran out of memory a part of a step may be done,
@@ -71,30 +73,33 @@ impl Working {
         })
     }
 
-    /// Makes a move.
-    pub(crate) fn make(&mut self, m: &Move) -> Result<(), AllocError>
+    /// Makes a move, and answers by which scalar that changes the sum.
+    pub(crate) fn make(&mut self, m: &Move) -> Result<Scalar, AllocError>
         requires guided { IsGuided self.old.graph.graph self.old.order self.old.candidates }
         requires applies { AppliesAt self.old.graph.graph m.now }
         requires first { IsOfFirstKind self.old.graph.graph m.now }
         ensures gains { OnOk result (GainsMove self.old.graph.graph m.now self.new.graph.graph
             self.old.trace.steps self.new.trace.steps) }
+        ensures scalar { IfOk result (λ s.
+            Scales self.old.graph.graph 12 s self.new.graph.graph) }
         ensures guided { OnOk result
             (IsGuided self.new.graph.graph self.new.order self.new.candidates) }
     {
         let mut steps = Trace::new(self.trace.alloc());
         add_steps(&mut steps, &self.graph, m)?;
         let mut touched = Vec::new(self.trace.alloc());
+        let mut scalar = Scalar::one();
         for step in steps.as_slice() {
-            self.do_step(step, &mut touched)?;
+            scalar = scalar.times(self.do_step(step, &mut touched)?);
         }
         without_repetition(&mut touched);
         self.candidates.touch_all(&self.graph, &touched)?;
-        Ok(())
+        Ok(scalar)
     }
 
     // Does a step that is allowed, adds it to the trace, and the vertices near it to those that are
     // to become candidates.
-    fn do_step(&mut self, step: &Step, touched: &mut Vec<VertexId>) -> Result<(), AllocError>
+    fn do_step(&mut self, step: &Step, touched: &mut Vec<VertexId>) -> Result<Scalar, AllocError>
         requires guided { IsGuidedBut touched.old.items
             self.old.graph.graph self.old.order self.old.candidates }
         requires allowed { allowed self.old.graph.graph (step_named step.now) ≡ true }
@@ -102,12 +107,16 @@ impl Working {
             (IsStep self.old.graph.graph (step_named step.now) self.new.graph.graph) }
         ensures trace { OnOk result
             (self.new.trace.steps ≡ self.old.trace.steps ++ step.now ∷ []) }
+        ensures scalar { IfOk result (λ s.
+            Scales self.old.graph.graph 2 s self.new.graph.graph) }
         ensures guided { OnOk result (IsGuidedBut touched.new.items
             self.new.graph.graph self.new.order self.new.candidates) }
     {
+        let scalar = step.scalar(&self.graph);
         add_vertices_near(touched, &self.graph, step)?;
         rewrite(&mut self.graph, &mut self.order, step)?;
-        self.trace.push(*step)
+        self.trace.push(*step)?;
+        Ok(scalar)
     }
 
     /// A flow of the graph, with sets found along the order.

@@ -3,7 +3,11 @@
 -- own:
 -- // read gates A odd B two-qubit C h D phase E cz F cx G not I
 -- // written gates A odd B two-qubit C h D phase E cz F cx G not I
+-- and that of a scalar:
+-- // scalar root2 A turn B
 use Rattle.std.specs.Prelude.{ℕ, ◌++◌, List, codes, decimal}
+use Rattle.std.specs.Fmt.{signed_decimal}
+use Rattle.zx_model.specs.declared.scalar.Scalar.{Scalar}
 use Rattle.zx_gates.specs.declared.tally.Counts.{Counts}
 
 -- the name of a kind of gates, and how many there are
@@ -27,3 +31,8 @@ report_line circuit counts =
 -- both lines
 abbrev pub report_lines : Counts → Counts → List ℕ
 report_lines read written = report_line (codes "read") read ++ report_line (codes "written") written
+
+-- the line of a scalar: the exponent of the root of two, with `-` where it is negative, and that of z, from 0 to 15
+abbrev pub scalar_line : Scalar → List ℕ
+scalar_line s =
+    codes "// scalar root2 " ++ signed_decimal s.root2 ++ codes " turn " ++ decimal s.turn ++ codes "\n"

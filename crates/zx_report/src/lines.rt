@@ -1,11 +1,12 @@
 //! The lines of numbers of gates.
 
 ghost use Rattle.std.specs.Prelude.{◌≡◌, ◌++◌, IfOk, OnOk, decimal};
-ghost use Rattle.zx_report.specs.Report.{report_lines, report_line, count_of};
+ghost use Rattle.zx_report.specs.Report.{report_lines, report_line, count_of, scalar_line};
 
 use itoa::Buffer;
 use std::alloc::{AllocError, Global};
 use zx_gates::Counts;
+use zx_model::Scalar;
 
 /// Two comment lines of OpenQASM, each with its line feed: how many gates of each kind the circuit
 /// has that was read, and how many the one that was written.
@@ -20,6 +21,24 @@ pub fn report(alloc: Global, read: &Counts, written: &Counts) -> Result<Vec<u8>,
     push_line(&mut lines, b"read", read)?;
     push_line(&mut lines, b"written", written)?;
     Ok(lines)
+}
+
+/// One comment line of OpenQASM, with its line feed: the exponents of a scalar, that of the root of two
+/// and that of z.
+///
+/// # Errors
+///
+/// Only where memory runs out.
+pub fn scalar_line(alloc: Global, s: &Scalar) -> Result<Vec<u8>, AllocError>
+    ensures { IfOk result (λ line. line.items ≡ scalar_line s.now) }
+{
+    let mut buffer = Buffer::new();
+    let mut line = Vec::from_slice(alloc, b"// scalar root2 ")?;
+    line.extend_from_slice(buffer.format(s.root2).as_bytes())?;
+    line.extend_from_slice(b" turn ")?;
+    line.extend_from_slice(buffer.format(s.turn.get()).as_bytes())?;
+    line.extend_from_slice(b"\n")?;
+    Ok(line)
 }
 
 // Adds the line of a circuit.

@@ -1,15 +1,22 @@
 -- Candidates for the best circuit, one after the other.
-use Rattle.std.proofs.Common.{◌≡◌, ◌≤◌, ◌<◌, ◌⊎◌, inl, inr, ℕ, length, le_trans, subst, arith, ◌∙◌}
+use Rattle.std.proofs.Common.{◌≡◌, ◌≤◌, ◌<◌, ◌⊎◌, inl, inr, ℕ, ◌+◌, Bool, true, cond, eqb, nat_lt, List, length, le_trans, sym, subst, arith, ◌∙◌}
 use Rattle.std.proofs.Math.Nat.{eq-or-lt_of_le}
-use Rattle.zx_model.specs.Proportional.{Proportional}
-use Rattle.zx_model.proofs.ProportionalLemmas.{proportional_trans}
+use Rattle.std.proofs.lemmas.Bool.{eqb-true, ltb-true}
+use Rattle.zx_model.specs.Number.{Number}
+use Rattle.zx_model.specs.Scalar.{IsScaled, IsWithin, product_of_scalars}
+use Rattle.zx_model.specs.declared.scalar.Scalar.{Scalar}
+use Rattle.zx_model.proofs.Scalars.{scaled_proportional, scaled_trans, within_more, within_product}
 use Rattle.zx_gates.specs.declared.tally.Counts.{Counts}
-use Rattle.zx_gates.specs.Circuit.{Circuit, gate_odd_phases}
+use Rattle.zx_gates.specs.Circuit.{Circuit, gate_odd_phases, gate_bound as list_bound}
 use Rattle.zx_gates.specs.Maps.{amp}
+use Rattle.zx_calculus.proofs.Ids.{by_test}
 use Rattle.piece_laws.specs.Replacement.{IsReplacement}
 use Rattle.zx_peephole.specs.Tidy.{IsTidy}
-use Rattle.zx_run.specs.Optimising.{bound_of, counts_of, IsBest, IsCleaned, IsNoDearer, IsNoDearerThanRead, IsNoDearerThanTeleported, Optimises, Teleports}
-use Rattle.zx_run.specs.Internal.Candidates.{IsCandidate, IsNoDearerThan, IsTeleportedCleanup}
+use Rattle.zx_pieces.specs.Scaling.{most_root2_of_passes}
+use Rattle.zx_teleport.specs.Scalars.{most_teleported_root2}
+use Rattle.zx_run.specs.declared.optimiser.Candidate.{Candidate}
+use Rattle.zx_run.specs.Optimising.{bound_of, counts_of, most_optimised_root2, IsCleaned, IsMapTimes, IsNoDearerThanRead, IsNoDearerThanTeleported, Teleports}
+use Rattle.zx_run.specs.Internal.Candidates.{is_dearer, most_whole_root2, IsCandidate, IsNoDearerThan, IsTeleportedCleanup, Offers}
 
 -- ---- what costs less
 -- of three numbers each, of which the first decide
@@ -40,6 +47,14 @@ no_dearer_by-parts a b c x y z odd two total =
       | inl same ↦ inr (same, elim (eq-or-lt_of_le two) [ inr less ↦ inl less | inl alike ↦ inr (alike, total) ])
     ]
 
+-- what is dearer than another has no fewer odd phases
+pub dearer-odd : (a b : Counts) → is_dearer a b ≡ true → b.odd ≤ a.odd
+dearer-odd a b h =
+    by_test (eqb a.odd b.odd) (λ t. let e : a.odd ≡ b.odd = eqb-true a.odd b.odd t in omega (arith, e))
+    (λ f.
+    let less : nat_lt b.odd a.odd ≡ true = subst (λ t. cond t (cond (eqb a.two_qubit b.two_qubit) (nat_lt b.total a.total) (nat_lt b.two_qubit a.two_qubit)) (nat_lt b.odd a.odd) ≡ true) f h in
+    let below : b.odd < a.odd = ltb-true b.odd a.odd less in omega (arith, below))
+
 -- a cleanup is no dearer
 cleanup_cheap : (read made : Circuit) → IsCleaned read made → IsNoDearerThan made read
 cleanup_cheap read made clean =
@@ -48,30 +63,90 @@ cleanup_cheap read made clean =
     no_dearer_by-parts p.odd p.two_qubit p.total q.odd q.two_qubit q.total clean.odd clean.two_qubit clean.total
 
 -- ---- candidates
-pub candidate-cleaned : (read made : Circuit) → IsCleaned read made → IsCandidate read made
-candidate-cleaned read made clean = record { qubits = clean.qubits; map = clean.map; odd = clean.odd; tidy = clean.tidy }
+-- a circuit by way of another, which is on as many qubits
+pub scaled_by_way : (n m : ℕ) (f g h : List Bool → List Bool → Number) (s t made : Scalar) → m ≡ n → IsScaled n n f s g → IsScaled m m g t h →
+    made ≡ product_of_scalars s t → IsScaled n n f made h
+scaled_by_way n m f g h s t made same first second is =
+    subst (λ u. IsScaled n n f u h) (sym is) (scaled_trans n n f g h s t first (subst (λ k. IsScaled k k g t h) same second))
 
-pub candidate-teleported : (read made : Circuit) → IsTeleportedCleanup read made → IsCandidate read made
-candidate-teleported read made t = record {
-  qubits = t.cleanup.qubits ∙ t.teleports.qubits;
-  map = proportional_trans read.qubits read.qubits (amp read.gates) (amp t.teleported.gates) (amp made.gates) t.teleports.map
-      (subst (λ n. Proportional n n (amp t.teleported.gates) (amp made.gates)) t.teleports.qubits t.cleanup.map);
-  odd = le_trans t.cleanup.odd t.teleports.odd;
-  tidy = t.cleanup.tidy;
+pub candidate-offered : (k : ℕ) (read : Circuit) (made : Candidate) → Offers k read made → IsCandidate k read made
+candidate-offered k read made o = record { qubits = o.optimises.qubits; odd = o.optimises.odd; tidy = o.optimises.tidy; scalar = o.scalar; small = o.small }
+
+pub candidate-whole : (read : Circuit) (made : Candidate) → IsCandidate most_whole_root2 read made → IsCandidate most_optimised_root2 read made
+candidate-whole read made is = record {
+  qubits = is.qubits;
+  odd = is.odd;
+  tidy = is.tidy;
+  scalar = is.scalar;
+  small = within_more most_whole_root2 most_optimised_root2 made.scalar is.small (omega arith);
 }
 
-pub candidate-optimised : (read made : Circuit) → Optimises read made → IsCandidate read made
-candidate-optimised read made o = record { qubits = o.qubits; map = o.map; odd = o.odd; tidy = o.tidy }
+pub offers-whole : (read : Circuit) (made : Candidate) → Offers most_whole_root2 read made → Offers most_optimised_root2 read made
+offers-whole read made o = record {
+  optimises = o.optimises;
+  scalar = o.scalar;
+  small = within_more most_whole_root2 most_optimised_root2 made.scalar o.small (omega arith);
+}
 
--- pieces of a candidate are replaced
-pub candidate-shrunk : (read made shrunk : Circuit) → IsCandidate read made → shrunk.qubits ≡ made.qubits
-    → IsReplacement made.qubits made.gates shrunk.gates → IsTidy shrunk.gates → IsCandidate read shrunk
-candidate-shrunk read made shrunk is qubits replaced tidy = record {
+-- a candidate that is taken: it is within the bound, and has no more odd phases than the one in whose place it comes
+pub offers-candidate : (k : ℕ) (read : Circuit) (best made : Candidate) → Offers k read best → IsCandidate k read made →
+    length made.gates.gates ≤ bound_of read → gate_odd_phases made.gates.gates ≤ gate_odd_phases best.gates.gates → Offers k read made
+offers-candidate k read best made o is few fewer = record {
+  optimises = record {
+    qubits = is.qubits;
+    map = scaled_proportional read.qubits read.qubits (amp read.gates) (amp made.gates.gates) made.scalar is.scalar;
+    odd = is.odd;
+    tidy = is.tidy;
+    few_gates = few;
+    reduced = record {
+      steps = o.optimises.reduced.steps;
+      end = o.optimises.reduced.end;
+      run = o.optimises.reduced.run;
+      reduced = o.optimises.reduced.reduced;
+      odd = le_trans fewer o.optimises.reduced.odd;
+    };
+  };
+  scalar = is.scalar;
+  small = is.small;
+}
+
+-- pieces of a candidate are replaced, and what is left is tidied
+pub candidate-shrunk : (read : Circuit) (made shrunk : Candidate) (s : Scalar) → IsCandidate most_whole_root2 read made →
+    shrunk.gates.qubits ≡ made.gates.qubits → IsReplacement made.gates.qubits made.gates.gates shrunk.gates.gates →
+    IsScaled made.gates.qubits made.gates.qubits (amp made.gates.gates) s (amp shrunk.gates.gates) →
+    IsWithin most_root2_of_passes s → IsTidy shrunk.gates.gates → shrunk.scalar ≡ product_of_scalars made.scalar s → IsCandidate most_optimised_root2 read shrunk
+candidate-shrunk read made shrunk s is qubits replaced scaled few tidy product = record {
   qubits = qubits ∙ is.qubits;
-  map = proportional_trans read.qubits read.qubits (amp read.gates) (amp made.gates) (amp shrunk.gates) is.map
-      (subst (λ n. Proportional n n (amp made.gates) (amp shrunk.gates)) is.qubits replaced.map);
   odd = le_trans replaced.odd is.odd;
   tidy = tidy;
+  scalar = scaled_by_way read.qubits made.gates.qubits (amp read.gates) (amp made.gates.gates) (amp shrunk.gates.gates) made.scalar s shrunk.scalar is.qubits is.scalar scaled product;
+  small = subst (IsWithin most_optimised_root2) (sym product)
+      (within_more (most_whole_root2 + most_root2_of_passes) most_optimised_root2 (product_of_scalars made.scalar s)
+      (within_product most_whole_root2 most_root2_of_passes made.scalar s is.small few) (omega arith));
+}
+
+-- ---- what is cleaned up
+pub candidate-cleaned : (read : Circuit) (made : Candidate) → IsCleaned read made.gates → IsMapTimes read made.scalar made.gates →
+    IsWithin list_bound made.scalar → IsCandidate most_whole_root2 read made
+candidate-cleaned read made clean scaled few = record {
+  qubits = clean.qubits;
+  odd = clean.odd;
+  tidy = clean.tidy;
+  scalar = scaled;
+  small = within_more list_bound most_whole_root2 made.scalar few (omega arith);
+}
+
+pub candidate-teleported : (read : Circuit) (teleported : Circuit) (made : Candidate) (s t : Scalar) → Teleports read teleported → IsCleaned teleported made.gates →
+    IsMapTimes read s teleported → IsWithin most_teleported_root2 s → IsMapTimes teleported t made.gates → IsWithin list_bound t →
+    made.scalar ≡ product_of_scalars s t → IsCandidate most_whole_root2 read made
+candidate-teleported read teleported made s t teleports clean first few second fewer product = record {
+  qubits = clean.qubits ∙ teleports.qubits;
+  odd = le_trans clean.odd teleports.odd;
+  tidy = clean.tidy;
+  scalar = scaled_by_way read.qubits teleported.qubits (amp read.gates) (amp teleported.gates) (amp made.gates.gates) s t made.scalar teleports.qubits first second product;
+  small = subst (IsWithin most_whole_root2) (sym product)
+      (within_more (most_teleported_root2 + list_bound) most_whole_root2 (product_of_scalars s t)
+      (within_product most_teleported_root2 list_bound s t few fewer) (omega arith));
 }
 
 -- ---- what is no dearer than some circuit is so than all that this was

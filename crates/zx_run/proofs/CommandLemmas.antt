@@ -14,7 +14,7 @@ use Rattle.zx_run.proofs.FileLemmas.{one_file_fault, file_or_fault, has_no_flow}
 
 -- a text has one first fault at most
 pub one_fault : (command : Command) (text : List ℕ) (f g : Fault) → IsFirstFaultFor command text f → IsFirstFaultFor command text g → f ≡ g
-one_fault (Optimise best report) text f g a b = one_first_fault text f g a b
+one_fault (Optimise best report scalar) text f g a b = one_first_fault text f g a b
 one_fault Teleport text f g a b = one_first_fault text f g a b
 one_fault Reduce text f g a b = one_file_fault text f g a b
 one_fault Flow text f g a b = one_file_fault text f g a b
@@ -25,7 +25,7 @@ one_fault (Generate seed qubits gates) text f g a b = absurd a
 
 -- and none if it is faultless
 pub fault_or_none : (command : Command) (text : List ℕ) (f : Fault) → IsFirstFaultFor command text f → IsFaultlessFor command text → ⊥
-fault_or_none (Optimise best report) text f first none = not_faultless text f first none
+fault_or_none (Optimise best report scalar) text f first none = not_faultless text f first none
 fault_or_none Teleport text f first none = not_faultless text f first none
 fault_or_none Reduce text f first file = file_or_fault text f first file
 fault_or_none Flow text f first file = file_or_fault text f first file
@@ -46,7 +46,7 @@ different one other bytes (inr (inr is)) = inr (inr is.gates_differ)
 -- what has an output is faultless, and its answer is one that the command may give
 pub output_answers : (command : Command) (left : Option (List ℕ)) (bytes text : List ℕ) → IsOutputFor command left bytes → left ≡ Some text
     → IsFaultlessFor command text × MayAnswer command text Done
-output_answers (Optimise best report) left bytes text output told =
+output_answers (Optimise best report scalar) left bytes text output told =
     let is = output text told in ((is.read, is.accepted), refl)
 output_answers Teleport left bytes text output told = let is = output text told in ((is.read, is.accepted), refl)
 output_answers Reduce left bytes text output told =
@@ -63,7 +63,7 @@ output_answers (Generate seed qubits gates) left bytes text output told = (tt, r
 
 pub no_answers : (command : Command) (left : Option (List ℕ)) (bytes text : List ℕ) → IsNoFor command left bytes → left ≡ Some text
     → IsFaultlessFor command text × MayAnswer command text No
-no_answers (Optimise best report) left bytes text output told = absurd output
+no_answers (Optimise best report scalar) left bytes text output told = absurd output
 no_answers Teleport left bytes text output told = absurd output
 no_answers Reduce left bytes text output told = let no_flow = has_no_flow text bytes (output text told) in (no_flow.0, inr (refl, no_flow))
 no_answers Flow left bytes text output told = let no_flow = has_no_flow text bytes (output text told) in (no_flow.0, inr (refl, no_flow))

@@ -1,5 +1,5 @@
 -- The text of a circuit for a diagram.
-use Rattle.std.proofs.Common.{◌≡◌, ◌≤◌, ◌≢◌, ℕ, List, [], length, sym, subst, rules, arith}
+use Rattle.std.proofs.Common.{◌≡◌, ◌≤◌, ℕ, List, [], length, sym, subst, rules, arith}
 use Rattle.std.specs.List.{IsDistinct}
 use Rattle.zx_model.specs.Proportional.{Proportional}
 use Rattle.zx_model.proofs.ProportionalLemmas.{proportional_sym, proportional_trans}
@@ -8,7 +8,6 @@ use Rattle.flow_find.specs.Stuck.{HasFlow}
 use Rattle.zx_diagram.specs.Diagram.{Diagram}
 use Rattle.zx_diagram.specs.Sum.{sum}
 use Rattle.zx_gates.specs.Circuit.{Circuit, IsCircuit, gate_odd_phases}
-use Rattle.zx_gates.specs.Elementary.{elementary_odd_phases}
 use Rattle.zx_gates.specs.ElementaryMaps.{amp_elementary}
 use Rattle.zx_gates.specs.Maps.{amp}
 use Rattle.zx_peephole.specs.Tidy.{IsTidy}
@@ -17,7 +16,6 @@ use Rattle.zx_compile.specs.declared.compiling.Compiled.{Compiled}
 use Rattle.zx_compile.specs.declared.compiling.Compiled.TheVariants as compiled
 use Rattle.zx_compile.specs.Compiled.{HasForm, IfCircuit}
 use Rattle.qasm_scope.specs.Meaning.{Means}
-use Rattle.qasm_scope.specs.Texts.{program_size}
 use Rattle.qasm_writer.specs.Elements.{elements_of}
 use Rattle.qasm_writer.specs.Measuring.{AreBehind}
 use Rattle.qasm_writer.specs.Written.{written}

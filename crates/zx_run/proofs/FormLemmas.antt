@@ -1,5 +1,5 @@
 -- The graph-like form of a diagram has the ids 0, 1, 2 and so on, so the numbers in its file are its ids.
-use Rattle.std.proofs.Common.{◌≡◌, ◌<◌, ◌≤◌, ◌+◌, ℕ, suc, zero as nought, Bool, true, false, true≢false, ltb, lt-ltb, List, [], ◌∷◌, ◌++◌, length, map, filter, inl, inr, refl, sym, ap, ap₂, ◌∙◌, arith}
+use Rattle.std.proofs.Common.{◌≡◌, ◌<◌, ◌≤◌, ◌+◌, ℕ, suc, zero as nought, true, true≢false, ltb, lt-ltb, List, [], ◌∷◌, ◌++◌, length, map, filter, inl, inr, refl, sym, ap, ap₂, ◌∙◌, arith}
 use Rattle.std.specs.List.{list_all}
 use Rattle.std.proofs.lemmas.Bool.{cases_lt, le-ltb}
 use Rattle.zx_model.specs.Bits.{member}

@@ -1,7 +1,12 @@
 -- From what is read to what is written for it.
-use Rattle.std.proofs.Common.{◌≡◌, ◌≤◌, ◌++◌, ℕ, Bool, true, List, length, sym, ap₂, subst}
+use Rattle.std.proofs.Common.{◌≡◌, ◌≤◌, ◌<◌, ◌++◌, ℕ, Bool, true, List, length, sym, ap₂, subst, ◌∙◌}
 use Rattle.std.specs.List.{All}
+use Rattle.zx_model.specs.Number.{Number}
+use Rattle.zx_model.specs.Phase.{turn}
 use Rattle.zx_model.specs.Proportional.{Proportional}
+use Rattle.zx_model.specs.Scalar.{IsScaled, product_of_scalars, quotient_of_scalars}
+use Rattle.zx_model.specs.declared.scalar.Scalar.{Scalar}
+use Rattle.zx_model.proofs.Scalars.{scaled_over, scaled_trans}
 use Rattle.zx_model.proofs.ProportionalLemmas.{proportional_sym, proportional_trans}
 use Rattle.zx_gates.specs.declared.elementary.Elementary.{Elementary}
 use Rattle.zx_gates.specs.declared.gate.Gate.{Gate}
@@ -19,9 +24,9 @@ use Rattle.qasm_writer.specs.Measuring.{AreBehind}
 use Rattle.qasm_writer.specs.Written.{written}
 use Rattle.qasm_writer.proofs.WrittenLemmas.{IsWritten, is_written, odd_elements, same_map}
 use Rattle.zx_run.specs.FirstFault.{IsAccepted}
-use Rattle.zx_run.specs.CircuitTexts.{circuit_on, report_if, generation_line, IsOptimisedText, IsTeleportedText, IsGenerationReport}
+use Rattle.zx_run.specs.CircuitTexts.{circuit_on, report_if, scalar_if, generation_line, IsOptimisedText, IsTeleportedText, IsGenerationReport}
 use Rattle.zx_extract.specs.Simplified.{gate_bound}
-use Rattle.zx_run.specs.Optimising.{counts_of, Optimises, Teleports, IsBest}
+use Rattle.zx_run.specs.Optimising.{counts_of, IsMapTimes, Optimises, Teleports, IsBest}
 
 pub same_circuit : (c : Circuit) (qubits : ℕ) (gates : List Gate) → c.qubits ≡ qubits → c.gates ≡ gates → c ≡ circuit_on qubits gates
 same_circuit c qubits gates same_qubits same_gates = ap₂ circuit_on same_qubits same_gates
@@ -54,23 +59,37 @@ IsTextFor-written read circuit as_many map odd kept fewer is behind =
       size = w.size;
     }
 
--- the text of a circuit that optimises the lowered one, and its report
-IsOptimisedText-lowered : (best reported : Bool) (text bytes : List ℕ) (read : Elementary) (circuit : Circuit)
+-- from what is read to what is written, by way of the lowered circuit and the one that optimises it
+exact_factor : (n m k : ℕ) (read from made text : List Bool → List Bool → Number) (s t u factor : Scalar) → m ≡ n → k ≡ n → u.turn < turn →
+    IsScaled n n read s from → IsScaled m m from t made → IsScaled k k text u made → factor ≡ quotient_of_scalars (product_of_scalars s t) u →
+    IsScaled n n read factor text
+exact_factor n m k read from made text s t u factor same alike below first second third is =
+    subst (λ (f : Scalar). IsScaled n n read f text) (sym is)
+    (scaled_over n n read made text (product_of_scalars s t) u below
+    (scaled_trans n n read from made s t first (subst (λ i. IsScaled i i from t made) same second))
+    (subst (λ i. IsScaled i i text u made) alike third))
+
+-- the text of a circuit that optimises the lowered one, its report, and the line of a scalar
+IsOptimisedText-lowered : (best reported scaled : Bool) (text bytes : List ℕ) (read : Elementary) (circuit : Circuit) (factor : Scalar)
     → IsAccepted text read
     → Proportional read.qubits read.qubits (amp_elementary read.gates) (amp (lowered read.gates))
     → gate_odd_phases (lowered read.gates) ≡ elementary_odd_phases read.gates
     → Optimises (circuit_on read.qubits (lowered read.gates)) circuit
     → (best ≡ true → IsBest (circuit_on read.qubits (lowered read.gates)) circuit) → IsCircuit circuit → AreBehind circuit read.bits read.measured
-    → bytes ≡ written circuit read.bits read.measured ++ report_if reported (lowered read.gates) circuit.gates → IsOptimisedText best reported text bytes
-IsOptimisedText-lowered best reported text bytes read circuit accepted map odd better is_best is behind spelled =
+    → IsScaled read.qubits read.qubits (amp_elementary read.gates) factor (amp_elementary (elements_of circuit.gates))
+    → bytes ≡ written circuit read.bits read.measured ++ (report_if reported (lowered read.gates) circuit.gates ++ scalar_if scaled factor)
+    → IsOptimisedText best reported scaled text bytes
+IsOptimisedText-lowered best reported scaled text bytes read circuit factor accepted map odd better is_best is behind exact spelled =
     let t = IsTextFor-written read circuit better.qubits map odd better.map better.odd is behind in
     record {
       read = read;
       circuit = circuit;
+      factor = factor;
       accepted = accepted;
       spelled = spelled;
       means = t.means;
       same_map = t.same_map;
+      exact = exact;
       no_more_odd = t.no_more_odd;
       few_gates = subst (λ size. size ≤ gate_bound read.qubits (elementary_odd_phases read.gates)) (sym t.size)
           (subst (λ t. length circuit.gates ≤ gate_bound read.qubits t) odd better.few_gates);
@@ -79,20 +98,27 @@ IsOptimisedText-lowered best reported text bytes read circuit accepted map odd b
       is_best = is_best;
     }
 
-pub IsOptimisedText-written : (best reported : Bool) (text bytes : List ℕ) (read : Elementary) (from circuit : Circuit)
+pub IsOptimisedText-written : (best reported scaled : Bool) (text bytes : List ℕ) (read : Elementary) (from circuit : Circuit) (s t u factor : Scalar)
     → IsAccepted text read
     → from.qubits ≡ read.qubits → from.gates ≡ lowered read.gates
     → Proportional read.qubits read.qubits (amp_elementary read.gates) (amp from.gates) → gate_odd_phases from.gates ≡ elementary_odd_phases read.gates
     → Optimises from circuit → (best ≡ true → IsBest from circuit) → IsCircuit circuit → AreBehind circuit read.bits read.measured
-    → bytes ≡ written circuit read.bits read.measured ++ report_if reported from.gates circuit.gates → IsOptimisedText best reported text bytes
-IsOptimisedText-written best reported text bytes read from circuit accepted same_qubits same_gates map odd better is_best is behind spelled =
+    → IsScaled read.qubits read.qubits (amp_elementary read.gates) s (amp from.gates) → IsMapTimes from t circuit
+    → IsScaled circuit.qubits circuit.qubits (amp_elementary (elements_of circuit.gates)) u (amp circuit.gates) → u.turn < turn
+    → factor ≡ quotient_of_scalars (product_of_scalars s t) u
+    → bytes ≡ written circuit read.bits read.measured ++ (report_if reported from.gates circuit.gates ++ scalar_if scaled factor)
+    → IsOptimisedText best reported scaled text bytes
+IsOptimisedText-written best reported scaled text bytes read from circuit s t u factor accepted same_qubits same_gates map odd better is_best is behind
+    first second third below is_factor spelled =
     let same = same_circuit from read.qubits (lowered read.gates) same_qubits same_gates in
-    IsOptimisedText-lowered best reported text bytes read circuit accepted
+    IsOptimisedText-lowered best reported scaled text bytes read circuit factor accepted
     (subst (λ gates. Proportional read.qubits read.qubits (amp_elementary read.gates) (amp gates)) same_gates map)
     (subst (λ gates. gate_odd_phases gates ≡ elementary_odd_phases read.gates) same_gates odd)
     (subst (λ c. Optimises c circuit) same better)
     (λ asked. subst (λ c. IsBest c circuit) same (is_best asked)) is behind
-    (subst (λ gates. bytes ≡ written circuit read.bits read.measured ++ report_if reported gates circuit.gates) same_gates spelled)
+    (exact_factor read.qubits from.qubits circuit.qubits (amp_elementary read.gates) (amp from.gates) (amp circuit.gates)
+    (amp_elementary (elements_of circuit.gates)) s t u factor same_qubits (better.qubits ∙ same_qubits) below first second third is_factor)
+    (subst (λ gates. bytes ≡ written circuit read.bits read.measured ++ (report_if reported gates circuit.gates ++ scalar_if scaled factor)) same_gates spelled)
 
 -- the text of a circuit with other phases than the lowered one
 pub IsTeleportedText-written : (text bytes : List ℕ) (read : Elementary) (from circuit : Circuit)

@@ -1,12 +1,12 @@
 -- Where a line parts two texts.
-use Rattle.std.proofs.Common.{◌≡◌, ◌<◌, ◌≤◌, ◌+◌, ◌-◌, suc, ◌⊎◌, ℕ, List, [], ◌∷◌, ◌++◌, length, take, drop, inl, inr, refl, sym, ap, subst, ◌∙◌, add-one, arith, codes, get_or, Bool, true, false, true≢false, zero, eqb}
+use Rattle.std.proofs.Common.{◌≡◌, ◌<◌, ◌≤◌, ◌+◌, ◌-◌, suc, ◌⊎◌, ℕ, List, [], ◌∷◌, ◌++◌, length, take, drop, inl, inr, refl, sym, ap, subst, ◌∙◌, add-one, arith, get_or, Bool, true, false, true≢false, zero, eqb}
 use Rattle.std.proofs.lemmas.Bool.{cases_lt}
 use Rattle.std.proofs.Common.{length-append, length-drop}
 use Rattle.std.proofs.lemmas.List.{take-append-drop, append_cancel_left, drop-drop, length-take-le}
 use Rattle.std.specs.List.{starts_with}
 use Rattle.std.proofs.lemmas.Bool.Decides.{Decides-eqb, eqb_tells}
 use Rattle.std.proofs.lemmas.Slice.Eq.{starts_is}
-use Rattle.std.proofs.Math.Seq.{take-length, take-suc, take-append_seam, drop-append_seam, drop-append-add}
+use Rattle.std.proofs.Math.Seq.{take-length, take-suc, take-append_seam, drop-append_seam}
 use Rattle.qasm_lexer.specs.Taken.{AreLines}
 use Rattle.zx_run.specs.TwoTexts.{parting_line, IsParted, AreTexts}
 

@@ -1,10 +1,9 @@
 -- What the answer is where nothing was read, or what was read is refused.
-use Rattle.std.proofs.Common.{◌≡◌, ◌<◌, ◌≤◌, ℕ, List, [], length, inl, inr, Some, refl, sym, ap, subst, ◌∙◌}
+use Rattle.std.proofs.Common.{◌≡◌, ◌<◌, ℕ, List, [], length, Some, refl, subst}
 use Rattle.zx_io.specs.Causes.{Rose}
 use Rattle.zx_io.specs.declared.errors.ReadError.{ReadError}
 use Rattle.zx_io.specs.declared.errors.ReadError.TheVariants as read
 use Rattle.zx_run.specs.declared.status.Fault.{Fault}
-use Rattle.zx_run.specs.declared.status.Fault.TheVariants.{TooLong}
 use Rattle.zx_run.specs.declared.status.Status.{Status}
 use Rattle.zx_run.specs.declared.status.Status.TheVariants.{Done, Refused, Usage, ReadFault, WriteFault, NoMemory, No}
 use Rattle.zx_run.specs.ErrorAnswers.{answer_to_read_error}

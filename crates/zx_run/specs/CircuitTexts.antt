@@ -8,7 +8,9 @@ use Rattle.zx_gates.specs.ElementaryMaps.{amp_elementary}
 use Rattle.zx_gates.specs.Lowering.{lowered}
 use Rattle.zx_gen.specs.Generator.{generated}
 use Rattle.zx_model.specs.Proportional.{Proportional}
-use Rattle.zx_report.specs.Report.{report_lines}
+use Rattle.zx_model.specs.Scalar.{IsScaled}
+use Rattle.zx_model.specs.declared.scalar.Scalar.{Scalar}
+use Rattle.zx_report.specs.Report.{report_lines, scalar_line}
 use Rattle.qasm_scope.specs.Texts.{TextMeans, program_size}
 use Rattle.qasm_writer.specs.Elements.{elements_of}
 use Rattle.qasm_writer.specs.Written.{written}
@@ -24,20 +26,29 @@ circuit_on qubits gates = record { qubits = qubits; gates = gates }
 abbrev pub report_if : Bool → List Gate → List Gate → List ℕ
 report_if report read made = if report then report_lines (counts_of read) (counts_of made) else []
 
--- The bytes are what `opt` may write for a text, with the flags `best` and `report` or without: the text
--- has no fault, and they are the text of a circuit that optimises the one that is meant, lowered, and its
--- report. That text means, with n qubits and t odd phases in the text that was read, the same linear map up
--- to a nonzero scalar, with at most t odd phases, and behind it the same measurements, in the same order, into
--- as many bits. Its program applies at most 4*n*n + 6*n + 3*n*t gates.
-pub record IsOptimisedText (best report : Bool) (text bytes : List ℕ) : Type 0 where
+-- the line of a scalar, where it is asked for
+abbrev pub scalar_if : Bool → Scalar → List ℕ
+scalar_if asked s = if asked then scalar_line s else []
+
+-- The bytes are what `opt` may write for a text, with the flags `best`, `report` and `scalar` or without: the text
+-- has no fault, and they are the text of a circuit that optimises the one that is meant, lowered, its report, and the
+-- line of a scalar. That text means, with n qubits and t odd phases in the text that was read, the same linear map up
+-- to a nonzero scalar, with at most t odd phases, and behind it the same measurements, in the same order, into as many
+-- bits; the map of the text that was read is exactly the scalar that is told times that of the text that is written.
+-- Its program applies at most 4*n*n + 6*n + 3*n*t gates.
+pub record IsOptimisedText (best report scalar : Bool) (text bytes : List ℕ) : Type 0 where
   pub read : Elementary
   pub circuit : Circuit
+  pub factor : Scalar
   pub accepted : IsAccepted text read
-  pub spelled : bytes ≡ written circuit read.bits read.measured ++ report_if report (lowered read.gates) circuit.gates
+  pub spelled : bytes ≡ written circuit read.bits read.measured
+      ++ (report_if report (lowered read.gates) circuit.gates ++ scalar_if scalar factor)
   -- the headline
   pub means : TextMeans (written circuit read.bits read.measured) read.qubits (elements_of circuit.gates) read.bits
       read.measured
   pub same_map : Proportional read.qubits read.qubits (amp_elementary read.gates)
+      (amp_elementary (elements_of circuit.gates))
+  pub exact : IsScaled read.qubits read.qubits (amp_elementary read.gates) factor
       (amp_elementary (elements_of circuit.gates))
   pub no_more_odd : elementary_odd_phases (elements_of circuit.gates) ≤ elementary_odd_phases read.gates
   pub few_gates : program_size means.program ≤ gate_bound read.qubits (elementary_odd_phases read.gates)

@@ -46,7 +46,7 @@ fault_text NoSecond = codes "26 NoSecond"
 -- the line, with its line end; Done and No have none
 abbrev pub error_line : Status → List ℕ
 error_line (Refused fault) = codes "zxopt: fault " ++ fault_text fault ++ codes "\n"
-error_line Usage = codes "usage: zxopt opt [--best] [--report] | reduce | flow | graph | gen SEED QUBITS GATES | compile | teleport | same\n"
+error_line Usage = codes "usage: zxopt opt [--best] [--report] [--scalar] | reduce | flow | graph | gen SEED QUBITS GATES | compile | teleport | same\n"
 error_line ReadFault = codes "zxopt: read fault\n"
 error_line WriteFault = codes "zxopt: write fault\n"
 error_line NoMemory = codes "zxopt: no memory\n"

@@ -1,7 +1,9 @@
 -- What the optimiser may make of a circuit, and what becomes of one whose phases alone are changed.
-use Rattle.std.specs.Prelude.{◌≡◌, ◌<◌, ◌≤◌, ◌⊎◌, ℕ, List, length}
+use Rattle.std.specs.Prelude.{◌≡◌, ◌<◌, ◌≤◌, ◌^◌, ◌⊎◌, ℕ, List, length}
 use Rattle.std.specs.List.{count_by}
 use Rattle.zx_model.specs.Proportional.{Proportional}
+use Rattle.zx_model.specs.Scalar.{IsScaled}
+use Rattle.zx_model.specs.declared.scalar.Scalar.{Scalar}
 use Rattle.zx_gates.specs.declared.gate.Gate.{Gate}
 use Rattle.zx_gates.specs.declared.tally.Counts.{Counts}
 use Rattle.zx_gates.specs.Circuit.{Circuit, gate_odd_phases}
@@ -15,6 +17,14 @@ use Rattle.zx_peephole.specs.Tidy.{IsTidy}
 -- the most gates of the answer to a circuit
 abbrev pub bound_of : Circuit → ℕ
 bound_of read = gate_bound read.qubits (gate_odd_phases read.gates)
+
+-- the map of the one circuit is s times that of the other
+abbrev pub IsMapTimes : Circuit → Scalar → Circuit → Type 0
+IsMapTimes read s made = IsScaled read.qubits read.qubits (amp read.gates) s (amp made.gates)
+
+-- the greatest exponent of the root of two in the scalar of an answer, in size
+abbrev pub most_optimised_root2 : ℕ
+most_optimised_root2 = 2 ^ 58
 
 -- The circuit that is made is on as many qubits as the read one, with a proportional linear map and no
 -- more odd phases. No gates in it cancel or merge, and it has no more than the bound.

@@ -20,7 +20,7 @@ use Rattle.zx_run.specs.CircuitTexts.{IsOptimisedText, IsTeleportedText, IsGener
 
 -- the command reads the source
 abbrev pub ReadsSource : Command → Type 0
-ReadsSource (Optimise best report) = Unit {0}
+ReadsSource (Optimise best report scalar) = Unit {0}
 ReadsSource Teleport = Unit {0}
 ReadsSource Reduce = Unit {0}
 ReadsSource Flow = Unit {0}
@@ -31,7 +31,7 @@ ReadsSource (Generate seed qubits gates) = ⊥
 
 -- the fault is the first one of the text, as the command reads it
 abbrev pub IsFirstFaultFor : Command → List ℕ → Fault → Type 0
-IsFirstFaultFor (Optimise best report) text fault = IsFirstFault text fault
+IsFirstFaultFor (Optimise best report scalar) text fault = IsFirstFault text fault
 IsFirstFaultFor Teleport text fault = IsFirstFault text fault
 IsFirstFaultFor Reduce text fault = IsFirstFileFault text fault
 IsFirstFaultFor Flow text fault = IsFirstFileFault text fault
@@ -42,7 +42,7 @@ IsFirstFaultFor (Generate seed qubits gates) text fault = ⊥
 
 -- the text has no fault, as the command reads it
 abbrev pub IsFaultlessFor : Command → List ℕ → Type 0
-IsFaultlessFor (Optimise best report) text = IsFaultless text
+IsFaultlessFor (Optimise best report scalar) text = IsFaultless text
 IsFaultlessFor Teleport text = IsFaultless text
 IsFaultlessFor Reduce text = IsFlowFile text
 IsFaultlessFor Flow text = IsFlowFile text
@@ -53,7 +53,7 @@ IsFaultlessFor (Generate seed qubits gates) text = Unit {0}
 
 -- the command may give this answer, Done or No, to a text without fault
 abbrev pub MayAnswer : Command → List ℕ → Status → Type 0
-MayAnswer (Optimise best report) text status = status ≡ Done
+MayAnswer (Optimise best report scalar) text status = status ≡ Done
 MayAnswer Teleport text status = status ≡ Done
 MayAnswer Reduce text status = IsVerdictOn text status
 MayAnswer Flow text status = IsVerdictOn text status
@@ -64,8 +64,8 @@ MayAnswer (Generate seed qubits gates) text status = status ≡ Done
 
 -- the bytes are what a command may write with the answer Done, where this is told as left in the source
 abbrev pub IsOutputFor : Command → Option (List ℕ) → List ℕ → Type 0
-IsOutputFor (Optimise best report) left bytes =
-    (text : List ℕ) → left ≡ Some text → IsOptimisedText best report text bytes
+IsOutputFor (Optimise best report scalar) left bytes =
+    (text : List ℕ) → left ≡ Some text → IsOptimisedText best report scalar text bytes
 IsOutputFor Teleport left bytes = (text : List ℕ) → left ≡ Some text → IsTeleportedText text bytes
 IsOutputFor Reduce left bytes = (text : List ℕ) → left ≡ Some text → IsReducedText text bytes
 IsOutputFor Flow left bytes = (text : List ℕ) → left ≡ Some text → IsFlowText text bytes
@@ -76,7 +76,7 @@ IsOutputFor (Generate seed qubits gates) left bytes = IsGenerationReport seed qu
 
 -- the bytes are what a command may write with the answer No, if it ever gives it
 abbrev pub IsNoFor : Command → Option (List ℕ) → List ℕ → Type 0
-IsNoFor (Optimise best report) left bytes = ⊥
+IsNoFor (Optimise best report scalar) left bytes = ⊥
 IsNoFor Teleport left bytes = ⊥
 IsNoFor Reduce left bytes = (text : List ℕ) → left ≡ Some text → IsNoText text bytes
 IsNoFor Flow left bytes = (text : List ℕ) → left ≡ Some text → IsNoText text bytes

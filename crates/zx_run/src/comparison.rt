@@ -65,8 +65,8 @@ fn line_about_gates(
     ensures { IfOk result (λ written.
         IsComparisonOf one.now other.now written.bytes.items written.is_no) }
 {
-    let first = lower(alloc, one)?;
-    let second = lower(alloc, other)?;
+    let (first, _) = lower(alloc, one)?;
+    let (second, _) = lower(alloc, other)?;
     let found = compare(alloc, &first, &second)?;
     drop(first);
     drop(second);

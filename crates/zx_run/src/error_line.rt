@@ -36,7 +36,7 @@ fn error_line(status: Status) -> Line
         Status::Done | Status::No => Line::new(),
         Status::Refused(fault) => refusal_line(fault),
         Status::Usage => line_with(
-            "usage: zxopt opt [--best] [--report] | reduce | flow | graph | gen SEED QUBITS GATES | compile | teleport | same\n",
+            "usage: zxopt opt [--best] [--report] [--scalar] | reduce | flow | graph | gen SEED QUBITS GATES | compile | teleport | same\n",
         ),
         Status::ReadFault => line_with("zxopt: read fault\n"),
         Status::WriteFault => line_with("zxopt: write fault\n"),

@@ -2,23 +2,25 @@
 
 ghost use Rattle.std.specs.Prelude.{◌≡◌, ◌≤◌, true, length, nat_le, IfOk};
 ghost use Rattle.zx_model.specs.Proportional.{Proportional};
-ghost use Rattle.zx_gates.specs.Circuit.{gate_odd_phases};
+ghost use Rattle.zx_model.specs.Scalar.{IsWithin};
+ghost use Rattle.zx_gates.specs.Circuit.{Circuit, gate_odd_phases};
 ghost use Rattle.zx_gates.specs.Maps.{amp};
 ghost use Rattle.zx_peephole.specs.Tidy.{IsTidy};
 ghost use Rattle.circuit_graph.specs.Translation.{translated};
 ghost use Rattle.zx_extract.specs.Simplified.{gate_bound, IsThroughReduced};
-ghost use Rattle.zx_run.specs.Optimising.{bound_of, IsBest, IsCleaned, IsNoDearerThanRead, IsNoDearerThanTeleported, Optimises};
-ghost use Rattle.zx_run.specs.Internal.Candidates.{is_dearer, IsCandidate, IsNoDearerThan, IsTeleportedCleanup};
+ghost use Rattle.zx_run.specs.Optimising.{bound_of, most_optimised_root2, IsBest, IsCleaned, IsMapTimes, IsNoDearerThanRead, IsNoDearerThanTeleported};
+ghost use Rattle.zx_run.specs.Internal.Candidates.{is_dearer, most_whole_root2, IsCandidate, IsNoDearerThan, IsTeleportedCleanup, Offers};
 
 use circuit_graph::translate;
 use std::alloc::{AllocError, Global};
 use zx_gates::{Counts, GateList, Qubit, counts};
+use zx_model::Scalar;
 use zx_peephole::tidy;
 use zx_pieces::shrink;
 use zx_simplify::simplify;
 use zx_teleport::teleport;
 
-/// The optimised circuit: its linear map is the read one's up to a nonzero scalar, it has no more odd
+/// The optimised circuit, and the scalar that the read one's linear map is times its own: it has no more odd
 /// phases, and few gates for these and its qubits.
 ///
 /// With `best` there are further candidates, of which those are taken into account that have few enough gates: the read
@@ -29,16 +31,37 @@ use zx_teleport::teleport;
 /// # Errors
 ///
 /// Only where memory runs out.
-pub fn optimise(alloc: Global, read: &GateList, best: bool) -> Result<GateList, AllocError>
-    ensures qubits { IfOk result (λ made. made.qubits ≡ read.now.qubits) }
-    ensures map { IfOk result (λ made.
-        Proportional read.now.qubits read.now.qubits (amp read.now.gates) (amp made.gates)) }
-    ensures odd { IfOk result (λ made. gate_odd_phases made.gates ≤ gate_odd_phases
+pub fn optimise(
+    alloc: Global,
+    read: &GateList,
+    best: bool,
+) -> Result<(GateList, Scalar), AllocError>
+    ensures qubits { IfOk result (λ made. made.0.qubits ≡ read.now.qubits) }
+    ensures map { IfOk result (λ made. Proportional read.now.qubits read.now.qubits
+        (amp read.now.gates) (amp made.0.gates)) }
+    ensures scalar { IfOk result (λ made. IsMapTimes read.now made.1 made.0) }
+    ensures small { IfOk result (λ made. IsWithin most_optimised_root2 made.1) }
+    ensures odd { IfOk result (λ made. gate_odd_phases made.0.gates ≤ gate_odd_phases
         read.now.gates) }
-    ensures tidy { IfOk result (λ made. IsTidy made.gates) }
-    ensures few_gates { IfOk result (λ made. length made.gates ≤ bound_of read.now) }
-    ensures reduced { IfOk result (IsThroughReduced (translated read.now)) }
-    ensures best { best ≡ true → IfOk result (IsBest read.now) }
+    ensures tidy { IfOk result (λ made. IsTidy made.0.gates) }
+    ensures few_gates { IfOk result (λ made. length made.0.gates ≤ bound_of read.now) }
+    ensures reduced { IfOk result (λ made. IsThroughReduced (translated read.now) made.0) }
+    ensures best { best ≡ true → IfOk result (λ made. IsBest read.now made.0) }
+{
+    let made = optimised(alloc, read, best)?;
+    Ok((made.gates, made.scalar))
+}
+
+// A circuit that may be written, and the scalar that the read one's map is times its own.
+#[derive(Drop)]
+struct Candidate {
+    gates: GateList,
+    scalar: Scalar,
+}
+
+fn optimised(alloc: Global, read: &GateList, best: bool) -> Result<Candidate, AllocError>
+    ensures offers { IfOk result (Offers most_optimised_root2 read.now) }
+    ensures best { best ≡ true → IfOk result (λ made. IsBest read.now made.gates) }
 {
     let simplified = simplified(alloc, read)?;
     if best {
@@ -49,75 +72,97 @@ pub fn optimise(alloc: Global, read: &GateList, best: bool) -> Result<GateList, 
 }
 
 // The circuit of the reduced graph, after cleanup.
-fn simplified(alloc: Global, read: &GateList) -> Result<GateList, AllocError>
-    ensures { IfOk result (Optimises read.now) }
+fn simplified(alloc: Global, read: &GateList) -> Result<Candidate, AllocError>
+    ensures { IfOk result (Offers most_whole_root2 read.now) }
 {
-    // A circuit has no more qubits than `simplify` takes outputs.
+    // A circuit has no more qubits than `simplify` takes outputs, and not too many gates.
     prove!(read.qubits() <= 1_024);
-    let (graph, flow) = translate(alloc, read)?;
+    prove!(read.gates().len() <= u32::MAX as usize);
+    let (graph, flow, scalar) = translate(alloc, read)?;
     let made = simplify(alloc, graph, flow)?;
-    Ok(made.gates)
+    Ok(Candidate {
+        gates: made.gates,
+        scalar: scalar.times(made.scalar),
+    })
 }
 
 // The best of all candidates.
-fn best_of(alloc: Global, read: &GateList, simplified: GateList) -> Result<GateList, AllocError>
-    requires { Optimises read.now simplified }
-    ensures optimises { IfOk result (Optimises read.now) }
-    ensures best { IfOk result (IsBest read.now) }
+fn best_of(alloc: Global, read: &GateList, simplified: Candidate) -> Result<Candidate, AllocError>
+    requires { Offers most_whole_root2 read.now simplified }
+    ensures offers { IfOk result (Offers most_optimised_root2 read.now) }
+    ensures best { IfOk result (λ made. IsBest read.now made.gates) }
 {
-    let shrunk = shrink(alloc, &simplified)?;
+    let shrunk = shrunk(alloc, &simplified)?;
     let best = cheaper(read, simplified, shrunk);
     let best = beside_read(read, best)?;
     let best = beside_teleported(alloc, read, best)?;
     Ok(best)
 }
 
+// The candidate with pieces of it replaced by smaller circuits.
+fn shrunk(alloc: Global, candidate: &Candidate) -> Result<Candidate, AllocError>
+    requires { IsWithin most_whole_root2 candidate.now.scalar }
+    ensures { (read : Circuit) → IsCandidate most_whole_root2 read candidate.now →
+        IfOk result (IsCandidate most_optimised_root2 read) }
+{
+    let (gates, scalar) = shrink(alloc, &candidate.gates)?;
+    Ok(Candidate {
+        gates,
+        scalar: candidate.scalar.times(scalar),
+    })
+}
+
 // The cheaper one of a circuit and the read one after cleanup.
-fn beside_read(read: &GateList, best: GateList) -> Result<GateList, AllocError>
-    requires { Optimises read.now best }
-    ensures optimises { IfOk result (Optimises read.now) }
-    ensures than_read { IfOk result (IsNoDearerThanRead read.now) }
+fn beside_read(read: &GateList, best: Candidate) -> Result<Candidate, AllocError>
+    requires { Offers most_optimised_root2 read.now best }
+    ensures offers { IfOk result (Offers most_optimised_root2 read.now) }
+    ensures than_read { IfOk result (λ made. IsNoDearerThanRead read.now made.gates) }
 {
     let cleaned = cleaned(read)?;
     Ok(cheaper(read, best, cleaned))
 }
 
 // The cheapest one of a circuit, the one whose phases alone are changed, and what pieces of that are replaced by.
-fn beside_teleported(alloc: Global, read: &GateList, best: GateList) -> Result<GateList, AllocError>
-    requires { Optimises read.now best }
-    ensures optimises { IfOk result (Optimises read.now) }
-    ensures than_best { IfOk result (λ made. IsNoDearerThan made best) }
-    ensures than_teleported { IfOk result (IsNoDearerThanTeleported read.now) }
+fn beside_teleported(
+    alloc: Global,
+    read: &GateList,
+    best: Candidate,
+) -> Result<Candidate, AllocError>
+    requires { Offers most_optimised_root2 read.now best }
+    ensures offers { IfOk result (Offers most_optimised_root2 read.now) }
+    ensures than_best { IfOk result (λ made. IsNoDearerThan made.gates best.gates) }
+    ensures than_teleported { IfOk result (λ made. IsNoDearerThanTeleported read.now made.gates) }
 {
     let teleported = teleported(alloc, read)?;
-    let shrunk = shrink(alloc, &teleported)?;
+    let shrunk = shrunk(alloc, &teleported)?;
     Ok(cheaper(read, cheaper(read, best, teleported), shrunk))
 }
 
 // The circuit whose phases alone are changed, after cleanup.
-fn teleported(alloc: Global, read: &GateList) -> Result<GateList, AllocError>
-    ensures { IfOk result (IsTeleportedCleanup read.now) }
+fn teleported(alloc: Global, read: &GateList) -> Result<Candidate, AllocError>
+    ensures cleanup { IfOk result (λ made. IsTeleportedCleanup read.now made.gates) }
+    ensures candidate { IfOk result (IsCandidate most_whole_root2 read.now) }
 {
     let found = teleport(alloc, read)?;
-    let mut made = found.gates;
-    tidy(&mut made);
-    Ok(made)
+    let mut gates = found.gates;
+    let scalar = found.scalar.times(tidy(&mut gates));
+    Ok(Candidate { gates, scalar })
 }
 
 // A circuit, or a candidate where that is within the bound and cheaper.
-fn cheaper(read: &GateList, best: GateList, candidate: GateList) -> GateList
-    requires best { Optimises read.now best }
-    requires candidate { IsCandidate read.now candidate }
-    ensures optimises { Optimises read.now result }
-    ensures than_best { IsNoDearerThan result best }
-    ensures than_candidate { length candidate.gates ≤ bound_of read.now →
-        IsNoDearerThan result candidate }
+fn cheaper(read: &GateList, best: Candidate, candidate: Candidate) -> Candidate
+    requires best { Offers most_optimised_root2 read.now best }
+    requires candidate { IsCandidate most_optimised_root2 read.now candidate }
+    ensures offers { Offers most_optimised_root2 read.now result }
+    ensures than_best { IsNoDearerThan result.gates best.gates }
+    ensures than_candidate { length candidate.gates.gates ≤ bound_of read.now →
+        IsNoDearerThan result.gates candidate.gates }
 {
-    let count = counts(&candidate);
+    let count = counts(&candidate.gates);
     if !is_within_bound(read.qubits(), counts(read).odd, count.total) {
         return best;
     }
-    if is_dearer(counts(&best), count) {
+    if is_dearer(counts(&best.gates), count) {
         candidate
     } else {
         best
@@ -148,10 +193,11 @@ fn is_dearer(this: Counts, that: Counts) -> bool
 }
 
 // The read circuit after cleanup.
-fn cleaned(read: &GateList) -> Result<GateList, AllocError>
-    ensures { IfOk result (IsCleaned read.now) }
+fn cleaned(read: &GateList) -> Result<Candidate, AllocError>
+    ensures cleaned { IfOk result (λ made. IsCleaned read.now made.gates) }
+    ensures candidate { IfOk result (IsCandidate most_whole_root2 read.now) }
 {
-    let mut made = read.copy()?;
-    tidy(&mut made);
-    Ok(made)
+    let mut gates = read.copy()?;
+    let scalar = tidy(&mut gates);
+    Ok(Candidate { gates, scalar })
 }

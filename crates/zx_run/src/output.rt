@@ -1,18 +1,20 @@
 //! From the circuit that is read to what is written for it.
 
-ghost use Rattle.std.specs.Prelude.{◌≡◌, List, ℕ, IfOk};
+ghost use Rattle.std.specs.Prelude.{◌≡◌, ◌++◌, List, ℕ, IfOk, OnOk};
 ghost use Rattle.zx_gates.specs.Elementary.{IsElementary};
 ghost use Rattle.zx_run.specs.FirstFault.{IsAccepted};
-ghost use Rattle.zx_run.specs.CircuitTexts.{IsOptimisedText, report_if};
+ghost use Rattle.zx_run.specs.CircuitTexts.{IsOptimisedText, report_if, scalar_if};
 
 use crate::optimiser::optimise;
 use crate::reporting::report_lines;
-use qasm_writer::write_text;
+use qasm_writer::{text_scalar, write_text};
 use std::alloc::{AllocError, Global};
 use zx_gates::{Elementary, GateList, lower};
+use zx_model::Scalar;
+use zx_report::scalar_line;
 
 /// The text of the optimised circuit with the measurements behind the one that is read, and with a
-/// report where that is asked for.
+/// report and the line of the scalar between the two maps where they are asked for.
 ///
 /// # Errors
 ///
@@ -22,14 +24,20 @@ pub fn optimised_text(
     read: &Elementary,
     best: bool,
     reported: bool,
+    scaled: bool,
 ) -> Result<Vec<u8>, AllocError>
     requires { IsElementary read.now }
     ensures { (text : List ℕ) → IsAccepted text read.now
-        → IfOk result (λ output. IsOptimisedText best reported text output.items) }
+        → IfOk result (λ output. IsOptimisedText best reported scaled text output.items) }
 {
-    let lowered = lower(alloc, read)?;
-    let optimised = optimise(alloc, &lowered, best)?;
-    let lines = report_if(alloc, reported, &lowered, &optimised)?;
+    let (lowered, before) = lower(alloc, read)?;
+    let (optimised, between) = optimise(alloc, &lowered, best)?;
+    let own = text_scalar(&optimised);
+    // What `turn` says of a phase: it is below a whole turn.
+    prove!(own.turn.get() < 16);
+    let scalar = before.times(between).over(own);
+    let mut lines = report_if(alloc, reported, &lowered, &optimised)?;
+    push_scalar_if(&mut lines, alloc, scaled, &scalar)?;
     let mut output = write_text(alloc, &optimised, read.bits, read.measured.as_slice())?;
     output.extend_from_slice(&lines)?;
     Ok(output)
@@ -49,4 +57,20 @@ fn report_if(
         return Ok(Vec::new(alloc));
     }
     report_lines(alloc, read, made)
+}
+
+// Adds the line of a scalar where it is asked for, and else nothing.
+fn push_scalar_if(
+    lines: &mut Vec<u8>,
+    alloc: Global,
+    asked: bool,
+    scalar: &Scalar,
+) -> Result<(), AllocError>
+    ensures { OnOk result (lines.new.items ≡ lines.old.items ++ scalar_if asked scalar.now) }
+{
+    if !asked {
+        return Ok(());
+    }
+    let line = scalar_line(alloc, scalar)?;
+    lines.extend_from_slice(&line)
 }

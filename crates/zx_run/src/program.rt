@@ -230,7 +230,13 @@ fn output_of<'a, S: Source>(
 {
     match command_in(alloc, words)? {
         None => Err(Status::Usage),
-        Some(Command::Optimise { best, report }) => output_of_opt(alloc, best, report, source),
+        Some(
+            Command::Optimise {
+                best,
+                report,
+                scalar,
+            },
+        ) => output_of_opt(alloc, best, report, scalar, source),
         Some(Command::Reduce) => output_of_reduce(alloc, source),
         Some(Command::Flow) => output_of_flow(alloc, source),
         Some(Command::Graph) => output_of_graph(alloc, source),
@@ -258,16 +264,17 @@ fn output_of_opt<S: Source>(
     alloc: Global,
     best: bool,
     report: bool,
+    scalar: bool,
     source: &mut S,
 ) -> Result<Written, Status>
-    ensures made { IfOk result (λ output. IsMade (Some (Optimise best report))
+    ensures made { IfOk result (λ output. IsMade (Some (Optimise best report scalar))
         (told_source S.left S.faults source.old) (told_source S.left S.faults source.new)
         output.is_no output.bytes.items) }
-    ensures failure { IfErr result (IsFailure (Some (Optimise best report))
+    ensures failure { IfErr result (IsFailure (Some (Optimise best report scalar))
         (told_source S.left S.faults source.old) (told_source S.left S.faults source.new)) }
 {
     let read = read_circuit(alloc, source)?;
-    let bytes = optimised_text(alloc, &read, best, report)?;
+    let bytes = optimised_text(alloc, &read, best, report, scalar)?;
     Ok(Written {
         bytes,
         is_no: false,

@@ -1,9 +1,10 @@
 //! From a graph with a table of corrections to what `reduce` writes.
 
-ghost use Rattle.std.specs.Prelude.{◌≡◌, ◌<◌, ◌≤◌, List, IfOk, OnOk};
+ghost use Rattle.std.specs.Prelude.{◌≡◌, ◌<◌, ◌≤◌, List, length, IfOk, OnOk};
 ghost use Rattle.zx_calculus.specs.Counts.{odd_phases};
 ghost use Rattle.zx_calculus.specs.Exact.{KeepsMap};
 ghost use Rattle.zx_calculus.specs.Reduced.{IsReduced};
+ghost use Rattle.zx_calculus.specs.StepScalars.{most_vertices};
 ghost use Rattle.zx_calculus.specs.Steps.{Step, IsRun};
 ghost use Rattle.gflow_laws.specs.Flow.{IsFlow, IsTableOf};
 ghost use Rattle.gflow_laws.specs.Seen.{seen};
@@ -18,7 +19,7 @@ use std::alloc::{AllocError, Global};
 use std::marker::Brand;
 use std::sync::ledger::{Blank, Ledger};
 use zx_flow::{Flow, FlowTable};
-use zx_reduce::{Steps, Trace, reduce};
+use zx_reduce::{Steps, Trace, check_size, reduce};
 use zx_text::write_graph;
 
 /// The file of the reduced graph with its flow, or where the table isn't one, no and the line of its
@@ -62,6 +63,7 @@ fn reduced_file<L: Ledger>(
     ensures { IfOk result (λ bytes. IsReducedFile graph.graph bytes.items) }
 {
     let mut graph = graph;
+    check_size(&graph)?;
     let mut flow = Flow::of_table(&graph, table)?;
     reduce_alone::<L>(alloc, &mut graph, &mut flow, blank)?;
     write_graph(alloc, &graph, Some(&flow))
@@ -75,6 +77,7 @@ fn reduce_alone<L: Ledger>(
     blank: Blank,
 ) -> Result<(), AllocError>
     requires flow { IsFlow graph.old.graph flow.old.flow }
+    requires few { length graph.old.graph.vertices < most_vertices }
     requires name { blank.name ≡ L.name }
     requires parts { blank.parts ≡ L.parts }
     requires some { 0 < L.parts }
@@ -86,5 +89,6 @@ fn reduce_alone<L: Ledger>(
 {
     let mut trace = Trace::new(alloc);
     let mut moves = Steps::<L>::new(blank);
-    reduce(graph, flow, &mut trace, &mut moves)
+    reduce(graph, flow, &mut trace, &mut moves)?;
+    Ok(())
 }

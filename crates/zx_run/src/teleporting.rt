@@ -20,7 +20,7 @@ pub fn teleported_text(alloc: Global, read: &Elementary) -> Result<Vec<u8>, Allo
     ensures { (text : List ℕ) → IsAccepted text read.now
         → IfOk result (λ output. IsTeleportedText text output.items) }
 {
-    let lowered = lower(alloc, read)?;
+    let (lowered, _) = lower(alloc, read)?;
     let teleported = teleport(alloc, &lowered)?;
     let gates = teleported.gates;
     write_text(alloc, &gates, read.bits, read.measured.as_slice())

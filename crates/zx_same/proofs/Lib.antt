@@ -1,5 +1,6 @@
 mod Undoing
 mod OneMap
+mod Quotients
 mod WireSums
 mod BareGraphs
 mod GateEquality

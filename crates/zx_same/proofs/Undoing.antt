@@ -1,23 +1,27 @@
 -- A list of gates followed by its inverse is the identity, up to a scalar.
-use Rattle.std.proofs.Common.{◌≡◌, ◌≢◌, ℕ, zero as nought, suc, ◌<◌, Bool, true, ◌&&◌, ◌||◌, eqb, List, [], ◌∷◌, ◌++◌, map, reverse, append_assoc, refl, sym, ap, ap₂, ◌∙◌, subst, arith}
-use Rattle.std.specs.List.{All}
+use Rattle.std.proofs.Common.{◌≡◌, ◌≢◌, ℕ, zero as nought, suc, ◌+◌, ◌<◌, Bool, true, cond, ◌&&◌, ◌||◌, eqb, List, [], ◌∷◌, ◌++◌, map, reverse, append_assoc, refl, sym, ap, ap₂, ◌∙◌, subst, arith}
+use Rattle.std.specs.List.{All, count_by}
 use Rattle.std.proofs.lemmas.Bool.{eq-eqb}
 use Rattle.std.proofs.lemmas.Grind.{reverse_onto}
 use Rattle.std.proofs.lemmas.List.{map-append, reverse-append}
+use Rattle.std.proofs.lemmas.List.Sums.{sum_by-append, sum_by-cons}
 use Rattle.std.proofs.lemmas.List.Elements.{All-head, All-tail, All-append, All-cons, All-nil}
 use Rattle.zx_model.specs.Phase.{turn, opposite_phase, sum_of_phases}
-use Rattle.zx_model.specs.Number.{Number, zero, mul}
+use Rattle.zx_model.specs.Number.{zero, mul}
 use Rattle.zx_model.specs.Constants.{two, power_of_two}
 use Rattle.zx_model.specs.Proportional.{Proportional}
-use Rattle.zx_model.proofs.Ring.{mul_assoc, one_nonzero, two_nonzero}
+use Rattle.zx_model.proofs.Powers.{power_of_two-add}
+use Rattle.zx_model.proofs.Ring.{mul_assoc, one-mul, one_nonzero, two_nonzero}
 use Rattle.zx_model.proofs.Domain.{mul-nonzero}
 use Rattle.zx_gates.specs.Circuit.{IsGateOn}
+use Rattle.zx_gates.specs.Counting.{is_h}
 use Rattle.zx_gates.specs.Lowering.{phase_gates}
 use Rattle.zx_gates.specs.Maps.{amp, act, acts}
 use Rattle.zx_gates.specs.declared.gate.Gate.{Gate}
 use Rattle.zx_gates.specs.declared.gate.Gate.TheVariants.{H, Phase, Cz, Cx, Not}
 use Rattle.zx_gates.proofs.MapLemmas.{amp-acts, acts-append}
-use Rattle.zx_gates.proofs.Multiples.{Multiple, multiple-refl, act-factor, proportional_of_multiple}
+use Rattle.zx_gates.proofs.Multiples.{Multiple, act-factor, proportional_of_multiple}
+use Rattle.zx_gates.proofs.Scaling.{IsTimes}
 use Rattle.zx_peephole.specs.Tidy.{is_pair}
 use Rattle.zx_peephole.specs.Internal.Merging.{merged, doublings}
 use Rattle.zx_peephole.proofs.PairLemmas.{pair_law}
@@ -67,8 +71,33 @@ All-inverse n (gate ∷ gates) on =
     (All-append (IsGateOn n) (inverse_of gates) (inverse_gate gate ∷ []) (All-inverse n gates (All-tail (IsGateOn n) gate gates on))
     (All-cons (IsGateOn n) (inverse_gate gate) [] (inverse_on n gate (All-head (IsGateOn n) gate gates on)) (All-nil (IsGateOn n))))
 
+-- as many gates of a kind, where a gate and what undoes it are both of the kind or neither is
+pub count-inverse : (n : ℕ) (kind : Gate → Bool) → ((gate : Gate) → IsGateOn n gate → kind (inverse_gate gate) ≡ kind gate) → (gates : List Gate)
+    → All (IsGateOn n) gates → count_by kind (inverse_of gates) ≡ count_by kind gates
+count-inverse n kind same [] on = refl
+count-inverse n kind same (gate ∷ gates) on =
+    ap (count_by kind) (inverse-more gate gates)
+    ∙ sum_by-append weight (inverse_of gates) (inverse_gate gate ∷ [])
+    ∙ ap₂ (λ j k. j + k) (count-inverse n kind same gates (All-tail (IsGateOn n) gate gates on))
+    (sum_by-cons weight (inverse_gate gate) [] ∙ ap (λ b. cond b 1 0 + 0) (same gate (All-head (IsGateOn n) gate gates on)))
+    ∙ exchanged (count_by kind gates) (weight gate)
+    ∙ sym (sum_by-cons weight gate gates)
+  where
+    weight : Gate → ℕ
+    weight g = cond (kind g) 1 0
+
+    exchanged : (j k : ℕ) → j + (k + 0) ≡ k + j
+    exchanged j k = omega arith
+
+is_h-inverse : (n : ℕ) (gate : Gate) → IsGateOn n gate → is_h (inverse_gate gate) ≡ is_h gate
+is_h-inverse n (H q) on = refl
+is_h-inverse n (Phase q k) on = refl
+is_h-inverse n (Cz q r) on = refl
+is_h-inverse n (Cx control target) on = refl
+is_h-inverse n (Not q) on = refl
+
 -- ---- maps
-power-nonzero : (p : ℕ) → power_of_two p ≢ zero
+pub power-nonzero : (p : ℕ) → power_of_two p ≢ zero
 power-nonzero nought = one_nonzero
 power-nonzero (suc p) = mul-nonzero two (power_of_two p) two_nonzero (power-nonzero p)
 
@@ -92,36 +121,51 @@ merged-inverse n (Cz q r) on = refl
 merged-inverse n (Cx control target) on = refl
 merged-inverse n (Not q) on = refl
 
-gate_undone : (n : ℕ) (gate : Gate) → IsGateOn n gate → Multiple n (λ f. act gate (act (inverse_gate gate) f)) (λ f. f)
-gate_undone n gate on = record {
-  factor = power_of_two (doublings gate);
-  nonzero = power-nonzero (doublings gate);
-  equal = λ f x l.
-      pair_law n gate (inverse_gate gate) (is_pair-inverse gate) on.0 f x l
-      ∙ ap (λ gates. mul (power_of_two (doublings gate)) (acts gates f x)) (merged-inverse n gate on);
-}
+gate_undone : (n : ℕ) (gate : Gate) → IsGateOn n gate
+    → IsTimes n (power_of_two (doublings gate)) (λ f. act gate (act (inverse_gate gate) f)) (λ f. f)
+gate_undone n gate on f x l =
+    pair_law n gate (inverse_gate gate) (is_pair-inverse gate) on.0 f x l
+    ∙ ap (λ gates. mul (power_of_two (doublings gate)) (acts gates f x)) (merged-inverse n gate on)
 
--- gates followed by their inverse give back what follows, times a number other than 0
-pub undone : (n : ℕ) (gates : List Gate) → All (IsGateOn n) gates → Multiple n (acts (gates ++ inverse_of gates)) (λ f. f)
-undone n [] on = multiple-refl n (λ f. f)
-undone n (gate ∷ gates) on =
-    let first = gate_undone n gate (All-head (IsGateOn n) gate gates on) in
-    let rest = undone n gates (All-tail (IsGateOn n) gate gates on) in
-    record {
-      factor = mul rest.factor first.factor;
-      nonzero = mul-nonzero rest.factor first.factor rest.nonzero first.nonzero;
-      equal = λ f x l.
-          (λ i. act gate (inside f i) x)
-          ∙ act-factor n gate rest.factor (acts (gates ++ inverse_of gates) (act (inverse_gate gate) f)) (act (inverse_gate gate) f)
-          (λ z lz. rest.equal (act (inverse_gate gate) f) z lz) x l
-          ∙ ap (mul rest.factor) (first.equal f x l)
-          ∙ sym (mul_assoc rest.factor first.factor (f x));
-    }
+-- how often gates are doubled where they are undone: once for each H
+abbrev pub times_doubled : List Gate → ℕ
+times_doubled gates = count_by is_h gates
+
+doubled-more : (gate : Gate) (gates : List Gate) →
+    power_of_two (times_doubled (gate ∷ gates)) ≡ mul (power_of_two (times_doubled gates)) (power_of_two (doublings gate))
+doubled-more gate gates =
+    ap power_of_two (sum_by-cons (λ g. cond (is_h g) 1 0) gate gates ∙ exchanged (doublings gate) (times_doubled gates))
+    ∙ power_of_two-add (times_doubled gates) (doublings gate)
   where
-    inside : (f : List Bool → Number) → acts (gates ++ inverse_of (gate ∷ gates)) f ≡ acts (gates ++ inverse_of gates) (act (inverse_gate gate) f)
-    inside f =
+    exchanged : (j k : ℕ) → j + k ≡ k + j
+    exchanged j k = omega arith
+
+-- gates followed by their inverse give back what follows, doubled for each H
+pub undone_times : (n : ℕ) (gates : List Gate) → All (IsGateOn n) gates
+    → IsTimes n (power_of_two (times_doubled gates)) (acts (gates ++ inverse_of gates)) (λ f. f)
+undone_times n [] on f x l = sym (one-mul (f x))
+undone_times n (gate ∷ gates) on f x l =
+    (λ i. act gate (inside i) x)
+    ∙ act-factor n gate (power_of_two (times_doubled gates)) (acts (gates ++ inverse_of gates) (act (inverse_gate gate) f)) (act (inverse_gate gate) f)
+    (λ z lz. undone_times n gates (All-tail (IsGateOn n) gate gates on) (act (inverse_gate gate) f) z lz) x l
+    ∙ ap (mul (power_of_two (times_doubled gates))) (gate_undone n gate (All-head (IsGateOn n) gate gates on) f x l)
+    ∙ sym (mul_assoc (power_of_two (times_doubled gates)) (power_of_two (doublings gate)) (f x))
+    ∙ ap (λ k. mul k (f x)) (sym (doubled-more gate gates))
+  where
+    inside : acts (gates ++ inverse_of (gate ∷ gates)) f ≡ acts (gates ++ inverse_of gates) (act (inverse_gate gate) f)
+    inside =
         ap (λ gs. acts gs f) (ap (λ gs. gates ++ gs) (inverse-more gate gates) ∙ sym (append_assoc gates (inverse_of gates) (inverse_gate gate ∷ [])))
         ∙ acts-append (gates ++ inverse_of gates) (inverse_gate gate ∷ []) f
+
+pub times_doubled-inverse : (n : ℕ) (gates : List Gate) → All (IsGateOn n) gates → times_doubled (inverse_of gates) ≡ times_doubled gates
+times_doubled-inverse n = count-inverse n is_h (is_h-inverse n)
+
+undone : (n : ℕ) (gates : List Gate) → All (IsGateOn n) gates → Multiple n (acts (gates ++ inverse_of gates)) (λ f. f)
+undone n gates on = record {
+  factor = power_of_two (times_doubled gates);
+  nonzero = power-nonzero (times_doubled gates);
+  equal = undone_times n gates on;
+}
 
 pub undone_map : (n : ℕ) (gates : List Gate) → All (IsGateOn n) gates → Proportional n n (amp (gates ++ inverse_of gates)) (amp [])
 undone_map n gates on =

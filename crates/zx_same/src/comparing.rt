@@ -100,7 +100,7 @@ fn are_equal(a: &[Gate], b: &[Gate]) -> bool
 }
 
 // The first circuit, followed by the inverse of the second.
-fn undone_by(a: &GateList, b: &GateList) -> Result<GateList, AllocError>
+pub(crate) fn undone_by(a: &GateList, b: &GateList) -> Result<GateList, AllocError>
     requires { a.now.qubits ≡ b.now.qubits }
     ensures { IfOk result (λ made. made ≡ undone_by a.now b.now) }
 {
@@ -109,14 +109,16 @@ fn undone_by(a: &GateList, b: &GateList) -> Result<GateList, AllocError>
     Ok(made)
 }
 
-// What a circuit's graph is simplified to.
-fn simplified(alloc: Global, circuit: &GateList) -> Result<Simplified, AllocError>
+// What a circuit's graph is simplified to, with the scalar by which the circuit's map is that of what is left.
+pub(crate) fn simplified(alloc: Global, circuit: &GateList) -> Result<Simplified, AllocError>
     ensures { IfOk result (Simplifies circuit.now) }
 {
-    // A circuit has no more qubits than a graph may have outputs.
+    // A circuit has no more qubits than a graph may have outputs, and not too many gates.
     prove!(circuit.qubits() <= 1_024);
-    let (graph, flow) = translate(alloc, circuit)?;
-    let made = simplify(alloc, graph, flow)?;
+    prove!(circuit.gates().len() <= u32::MAX as usize);
+    let (graph, flow, scalar) = translate(alloc, circuit)?;
+    let mut made = simplify(alloc, graph, flow)?;
+    made.scalar = scalar.times(made.scalar);
     Ok(made)
 }
 

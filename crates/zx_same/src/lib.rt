@@ -5,7 +5,8 @@
 //! circuit followed by the inverse of the second: the steps that it tells lead from the graph of these
 //! gates to the reduced graph that it tells, which isn't just wires; the circuit that it tells has their
 //! map, isn't empty, and nothing in it cancels or merges. That the maps differ then isn't proved.
-//! `inverse` gives the gates backwards, each undone.
+//! `inverse` gives the gates backwards, each undone. `quotient` tells the number too, where no gate is left:
+//! the map of the first circuit is proved to be so many times that of the second.
 //!
 //! ```rust
 //! match compare(alloc, &circuit, &other)? {
@@ -17,11 +18,13 @@
 
 mod bare;
 mod comparing;
+mod division;
 mod inversion;
 mod laws;
 #[cfg(test)]
 mod tests;
 
 pub use comparing::{Sameness, compare};
+pub use division::quotient;
 pub use inversion::inverse;
 pub use laws::{bare_graphs_are_the_identity, inverses_undo_circuits};

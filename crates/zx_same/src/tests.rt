@@ -1,11 +1,11 @@
 //! Pairs of circuits, worked by hand.
 
-use crate::{Sameness, compare, inverse};
+use crate::{Sameness, compare, inverse, quotient};
 use std::alloc::Global;
 use std::process::Abort;
 use std::test::Fail;
 use zx_gates::{Gate, GateList};
-use zx_model::Sixteenth;
+use zx_model::{Scalar, Sixteenth};
 
 fn t(q: u16) -> Gate {
     Gate::Phase(q, Sixteenth::eighth_turn())
@@ -116,6 +116,52 @@ fn other_gates_with_one_map(rt: HostRuntime) -> Result<(), Fail> {
     let by_hadamards = [Gate::H(1), Gate::Cz(0, 1), Gate::H(1)];
     assert!(rt; gates_left(&rt, rt.alloc(), &[cx(0, 1)], &by_hadamards)?.is_none());
     assert!(rt; gates_left(&rt, rt.alloc(), &[Gate::H(0), Gate::H(0)], &[])?.is_none());
+    Ok(())
+}
+
+// By which number the map of the first circuit is that of the second.
+fn number(
+    rt: &impl Abort,
+    alloc: Global,
+    first: &[Gate],
+    second: &[Gate],
+) -> Result<Option<Scalar>, Fail> {
+    let a = circuit(rt, alloc, first)?;
+    let b = circuit(rt, alloc, second)?;
+    assert!(rt; a.qubits() == b.qubits());
+    Ok(quotient(alloc, &a, &b)?)
+}
+
+// A power of the root of two.
+fn root2(exponent: i64) -> Option<Scalar> {
+    Some(Scalar {
+        root2: exponent,
+        turn: Sixteenth::new(0),
+    })
+}
+
+// H is taken without its factor 1/sqrt 2, so two of them are two times the identity.
+#[test]
+fn two_hadamards_are_two(rt: HostRuntime) -> Result<(), Fail> {
+    let twice = [Gate::H(0), Gate::H(0)];
+    assert!(rt; number(&rt, rt.alloc(), &twice, &[])? == root2(2));
+    assert!(rt; number(&rt, rt.alloc(), &[], &twice)? == root2(-2));
+    Ok(())
+}
+
+// Not before H is H before Z; T, Not, T and Not in a row turn both states by an eighth.
+#[test]
+fn numbers_of_turns(rt: HostRuntime) -> Result<(), Fail> {
+    let not = Gate::Not(0);
+    let z = Gate::Phase(0, Sixteenth::half_turn());
+    assert!(rt; number(&rt, rt.alloc(), &[t(0), t(0)], &[s(0)])? == root2(0));
+    assert!(rt; number(&rt, rt.alloc(), &[not, Gate::H(0)], &[Gate::H(0), z])? == root2(0));
+    let turned = Scalar {
+        root2: 0,
+        turn: Sixteenth::eighth_turn(),
+    };
+    assert!(rt; number(&rt, rt.alloc(), &[t(0), not, t(0), not], &[])? == Some(turned));
+    assert!(rt; number(&rt, rt.alloc(), &[t(0)], &[s(0)])?.is_none());
     Ok(())
 }
 

@@ -2,6 +2,7 @@
 
 ghost use Rattle.std.specs.Prelude.{◌≡◌, ◌<◌, ◌≤◌, length, map, IfOk};
 ghost use Rattle.zx_model.specs.Proportional.{Proportional};
+ghost use Rattle.zx_model.specs.Scalar.{IsScaled, IsWithin};
 ghost use Rattle.zx_calculus.specs.Counts.{odd_phases};
 ghost use Rattle.zx_calculus.specs.Exact.{KeepsMap};
 ghost use Rattle.zx_calculus.specs.Reduced.{IsReduced};
@@ -12,9 +13,11 @@ ghost use Rattle.gflow_laws.specs.Flow.{IsFlow};
 ghost use Rattle.zx_gates.specs.Circuit.{gate_odd_phases, most_qubits};
 ghost use Rattle.zx_gates.specs.Maps.{amp};
 ghost use Rattle.zx_peephole.specs.Tidy.{IsTidy};
+ghost use Rattle.zx_reduce.specs.Scaling.{memory_bound};
 ghost use Rattle.zx_reduce.specs.Steps.{step_named};
 ghost use Rattle.zx_extract.specs.Simplified.{gate_bound};
-ghost use Rattle.zx_simplify.specs.Internal.Reducing.{Reduces};
+ghost use Rattle.zx_simplify.specs.Scaling.{most_simplified_root2};
+ghost use Rattle.zx_simplify.specs.Internal.Reducing.{Extracts, Reduces};
 
 use open_graph::OpenGraph;
 use std::alloc::{AllocError, Global};
@@ -23,8 +26,9 @@ use std::sync::ledger::{Blank, Ledger};
 use zx_extract::extract;
 use zx_flow::Flow;
 use zx_gates::GateList;
+use zx_model::Scalar;
 use zx_peephole::tidy;
-use zx_reduce::{Steps, Trace, reduce};
+use zx_reduce::{Steps, Trace, check_size, reduce};
 
 /// The circuit of a simplified graph, the steps by which the graph was simplified, and what they
 /// lead to.
@@ -32,6 +36,8 @@ use zx_reduce::{Steps, Trace, reduce};
 pub struct Simplified {
     /// The circuit, after cleanup.
     pub gates: GateList,
+    /// The graph's sum is so many times the circuit's map.
+    pub scalar: Scalar,
     /// The steps from the graph that was given.
     pub trace: Trace,
     /// The graph to which they lead.
@@ -60,10 +66,13 @@ pub fn simplify(alloc: Global, graph: OpenGraph, flow: Flow) -> Result<Simplifie
     ensures outputs { IfOk result (λ made.
         length made.reduced.graph.outputs ≡ length graph.graph.outputs) }
 
-    // The circuit's map is the graph's sum up to a number other than 0.
+    // The graph's sum is a number other than 0 times the circuit's map.
     ensures qubits { IfOk result (λ made. made.gates.qubits ≡ length graph.graph.outputs) }
     ensures map { IfOk result (λ made. Proportional (length graph.graph.outputs)
         (length graph.graph.outputs) (sum graph.graph) (amp made.gates.gates)) }
+    ensures scalar { IfOk result (λ made. IsScaled (length graph.graph.outputs)
+        (length graph.graph.outputs) (sum graph.graph) made.scalar (amp made.gates.gates)) }
+    ensures small { IfOk result (λ made. IsWithin most_simplified_root2 made.scalar) }
     ensures tidy { IfOk result (λ made. IsTidy made.gates.gates) }
 
     // At most as many phases are odd as in the reduced graph, and there are few gates.
@@ -74,34 +83,61 @@ pub fn simplify(alloc: Global, graph: OpenGraph, flow: Flow) -> Result<Simplifie
     ensures few_gates { IfOk result (λ made. length made.gates.gates ≤
         gate_bound (length graph.graph.outputs) (odd_phases graph.graph)) }
 {
-    let (reduced, flow, trace) = reduce_counted::<Brand>(alloc, graph, flow, Blank::new(1))?;
-    let mut gates = extract(alloc, reduced.copy()?, flow)?;
-    tidy(&mut gates);
+    check_size(&graph)?;
+    let (reduced, flow, trace, before) = reduce_counted::<Brand>(
+        alloc,
+        graph,
+        flow,
+        Blank::new(1),
+    )?;
+    let (mut gates, between) = extract_copy(alloc, &reduced, flow)?;
+    let after = tidy(&mut gates);
     Ok(Simplified {
         gates,
+        scalar: before.times(between).times(after),
         trace,
         reduced,
     })
 }
 
-// The reduced graph with its flow, and the steps that lead to it. The moves are counted for nobody.
+// The reduced graph with its flow, the steps that lead to it, and the scalar that the sum was times its own. The
+// moves are counted for nobody.
 fn reduce_counted<L: Ledger>(
     alloc: Global,
     graph: OpenGraph,
     flow: Flow,
     blank: Blank,
-) -> Result<(OpenGraph, Flow, Trace), AllocError>
+) -> Result<(OpenGraph, Flow, Trace, Scalar), AllocError>
     requires name { blank.name ≡ L.name }
     requires parts { blank.parts ≡ L.parts }
     requires some { 0 < L.parts }
     requires flow { IsFlow graph.graph flow.flow }
+    requires few { length graph.graph.vertices < memory_bound }
     ensures { IfOk result (λ made.
-        Reduces graph.graph made.0.graph made.1.flow made.2.steps) }
+        Reduces graph.graph made.0.graph made.1.flow made.2.steps made.3) }
 {
     let mut reduced = graph;
     let mut flow = flow;
     let mut trace = Trace::new(alloc);
     let mut moves = Steps::<L>::new(blank);
-    reduce(&mut reduced, &mut flow, &mut trace, &mut moves)?;
-    Ok((reduced, flow, trace))
+    let scalar = reduce(&mut reduced, &mut flow, &mut trace, &mut moves)?;
+    Ok((reduced, flow, trace, scalar))
+}
+
+// The circuit of a reduced graph, which stays, and the scalar that the graph's sum is times its map.
+fn extract_copy(
+    alloc: Global,
+    reduced: &OpenGraph,
+    flow: Flow,
+) -> Result<(GateList, Scalar), AllocError>
+    requires flow { IsFlow reduced.now.graph flow.flow }
+    requires reduced { IsReduced reduced.now.graph }
+    requires well_formed { WellFormed reduced.now.graph }
+    requires ends { length reduced.now.graph.inputs ≡ length reduced.now.graph.outputs }
+    requires few { length reduced.now.graph.outputs ≤ most_qubits }
+    ensures { IfOk result (λ made. Extracts reduced.now.graph made.0 made.1) }
+{
+    check_size(reduced)?;
+    let made = extract(alloc, reduced.copy()?, flow)?;
+    Ok(made)
 }

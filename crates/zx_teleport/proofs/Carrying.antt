@@ -121,6 +121,12 @@ module _ (g : Graph) (steps : List named.Step) (i : ℕ) (x : named.Step) (there
     pub next_may_run : MayRun k (map step_named (drop (i + 1) steps))
     next_may_run = may_run_on g k (step_named x) (map step_named (drop (i + 1) steps)) begins.formed step begins
 
+    -- whatever the steps lead to, those that are left lead to from here
+    pub next_left : (h : Graph) → IsRun g (map step_named (drop i steps)) h → IsRun k (map step_named (drop (i + 1) steps)) h
+    next_left h run =
+        let all : IsRun g (step_named x ∷ map step_named (drop (i + 1) steps)) h = subst (λ xs. IsRun g (map step_named xs) h) cut run in
+        subst (λ j. IsRun j (map step_named (drop (i + 1) steps)) h) (sym (one_end g k (step_named x) (map step_named (drop (i + 1) steps)) begins.formed step all.0 all.1)) all.2
+
     pub next_noted : (g0 : Graph) (all : List Step) (before after : List Note) (note : Note) → IsNoted g (step_named x) note → after ≡ before ++ note ∷ [] →
         ((rest : List Note) → AreNoted g (map step_named (drop i steps)) rest → AreNoted g0 all (before ++ rest)) →
         (rest : List Note) → AreNoted k (map step_named (drop (i + 1) steps)) rest → AreNoted g0 all (after ++ rest)

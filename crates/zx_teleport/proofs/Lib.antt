@@ -3,4 +3,5 @@ mod Carrying
 mod Negating
 mod Grouped
 mod Written
+mod Scaling
 mod Results

@@ -1,20 +1,27 @@
 -- What holds of the gates that teleported phases give.
-use Rattle.std.proofs.Common.{◌≡◌, sym, subst, ◌≤◌, List, map}
+use Rattle.std.proofs.Common.{◌≡◌, sym, ◌∙◌, subst, ◌<◌, ◌≤◌, List, map}
+use Rattle.zx_model.specs.Phase.{turn}
+use Rattle.zx_model.specs.Scalar.{IsScaled, quotient_of_scalars}
+use Rattle.zx_model.specs.declared.scalar.Scalar.{Scalar}
 use Rattle.zx_model.specs.Proportional.{Proportional}
 use Rattle.zx_calculus.specs.Graph.{Graph}
 use Rattle.zx_calculus.specs.Counts.{odd_phases}
 use Rattle.zx_calculus.specs.Steps.{IsRun}
+use Rattle.zx_calculus.specs.StepScalars.{IsSumTimes}
 use Rattle.zx_gates.specs.Circuit.{Circuit, IsCircuit, gate_odd_phases}
 use Rattle.zx_gates.specs.Maps.{amp}
 use Rattle.zx_gates.specs.declared.gate.Gate.{Gate}
 use Rattle.circuit_graph.specs.Translation.{translated}
 use Rattle.teleport_circuits.specs.Circuits.{IsSkeleton}
-use Rattle.teleport_circuits.specs.Teleporting.{new_phase, spots_of, teleported_gates}
+use Rattle.teleport_circuits.specs.Teleporting.{new_phase, spots_of, teleported_gates, teleported_circuit}
 use Rattle.teleport_circuits.proofs.Moving.{skeleton_left}
-use Rattle.teleport_circuits.proofs.Teleporting.{teleported_map}
+use Rattle.teleport_circuits.proofs.Teleporting.{teleported_map, same_run, formed_there}
+use Rattle.teleport_circuits.proofs.Quotients.{teleported_quotient}
 use Rattle.teleport_circuits.proofs.OddPhases.{teleported_odd, teleported_fewer}
 use Rattle.zx_reduce.specs.declared.step.Step as named
 use Rattle.zx_reduce.specs.Steps.{step_named}
+use Rattle.zx_teleport.specs.Internal.Noting.{MayRun}
+use Rattle.zx_teleport.specs.Internal.Scaling.{HaveScalar}
 
 -- the gates that these steps give, whatever they lead to
 abbrev pub AreTeleported : Circuit → List named.Step → List Gate → Type 0
@@ -40,3 +47,20 @@ module _ (c : Circuit) (g : Graph) (steps seen : List named.Step) (h : Graph) (g
 
   pub fewer_odd : IsCircuit c → gate_odd_phases gates ≤ gate_odd_phases c.gates
   fewer_odd formed = subst (λ gs. gate_odd_phases gs ≤ gate_odd_phases c.gates) (sym is) (teleported_fewer c (map step_named steps) h leads formed)
+
+  -- the circuit with these gates
+  module _ (formed : IsCircuit c) (made : Circuit) (qubits : made.qubits ≡ c.qubits) (its_gates : made.gates ≡ gates) where
+    made_is : made ≡ teleported_circuit c (map step_named steps) h leads
+    made_is = λ i. record { qubits = qubits i; gates = (its_gates ∙ is) i }
+
+    pub may_run : MayRun (translated made) (map step_named seen)
+    may_run = subst (λ (d : Circuit). MayRun (translated d) (map step_named seen)) (sym made_is)
+        (subst (λ s. MayRun (translated (teleported_circuit c (map step_named steps) h leads)) (map step_named s)) (sym same)
+        (record { formed = formed_there c formed (map step_named steps) h leads; end = h; run = same_run c formed (map step_named steps) h leads }))
+
+    pub scalar_kept : (s t : Scalar) → t.turn < turn → IsSumTimes g s h → HaveScalar (translated made) (map step_named seen) t →
+        IsScaled c.qubits c.qubits (amp c.gates) (quotient_of_scalars s t) (amp gates)
+    scalar_kept s t low p q = subst (λ gs. IsScaled c.qubits c.qubits (amp c.gates) (quotient_of_scalars s t) (amp gs)) (sym is)
+        (teleported_quotient c (map step_named steps) h leads formed s t low (subst (λ k. IsSumTimes k s h) start p)
+        (subst (λ (d : Circuit). HaveScalar (translated d) (map step_named steps) t) made_is (subst (λ s. HaveScalar (translated made) (map step_named s) t) same q)
+        h (same_run c formed (map step_named steps) h leads)))

@@ -2,3 +2,4 @@
 pub mod Noting
 pub mod Fates
 pub mod Grouping
+pub mod Scaling

@@ -2,13 +2,16 @@
 //! the circuit may be put together, while all other gates stay where they are.
 //!
 //! Proved of `teleport`: it answers a circuit on as many qubits, with the gates of the read one in
-//! their places but for phase gates, which have other phases or are gone; the linear map is the read
-//! one's up to a number other than 0; the steps that it tells lead from the graph of the read circuit
-//! to the reduced graph that it tells; no more phases are odd than in that graph, nor than were read.
+//! their places but for phase gates, which have other phases or are gone; the linear map of the read
+//! one is the scalar that it tells times that of the answered one; the steps that it tells lead from
+//! the graph of the read circuit to the reduced graph that it tells; no more phases are odd than in
+//! that graph, nor than were read.
 //!
 //! The steps of the simplification are done once more on the first graph, and noted: which phases
 //! each negates, and where that of a vertex goes that goes itself. Backwards through the notes it is
-//! told for each vertex who holds its phase at the end, and with which sign.
+//! told for each vertex who holds its phase at the end, and with which sign. The same steps lead from
+//! the graph of the new circuit to the same end, so they are done on that, too: the scalar of the steps
+//! from the first graph over that of the steps from the new one is the scalar between the maps.
 //!
 //! ```rust
 //! let found = teleport(alloc, &circuit)?;
@@ -18,6 +21,7 @@
 mod fates;
 mod groups;
 mod notes;
+mod scalars;
 mod teleporting;
 
 pub use teleporting::{Teleported, teleport};

@@ -190,7 +190,7 @@ fn leg_of(graph: &OpenGraph, u: VertexId) -> VertexId
 }
 
 // Does a step that is allowed. Where memory runs out, a part of it is done.
-fn rewrite(graph: &mut OpenGraph, step: &Step) -> Result<(), AllocError>
+pub(crate) fn rewrite(graph: &mut OpenGraph, step: &Step) -> Result<(), AllocError>
     requires { allowed graph.old.graph (step_named step.now) ≡ true }
     ensures { OnOk result (IsStep graph.old.graph (step_named step.now) graph.new.graph) }
 {

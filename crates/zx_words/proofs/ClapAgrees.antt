@@ -1,7 +1,7 @@
 -- `clap` takes words for the command that is defined, whichever they are.
 use Rattle.std.proofs.Common.{◌≡◌, ◌∙◌, suc, Bool, true, false, List, [], ◌∷◌, length, Option, None, Some}
 use Rattle.std.proofs.Common.{refl, sym, ap, subst, arith, codes, option_and_then, if◌then◌else◌, is_some}
-use Rattle.std.proofs.lemmas.Bool.{false_from_ne_true, ne_eqb, true≢false}
+use Rattle.std.proofs.lemmas.Bool.{ne_eqb}
 use Rattle.std.proofs.lemmas.Slice.Eq.{bytes_eq-Decides}
 use Rattle.std.specs.Str.{bytes_eq}
 use Rattle.clap.specs.Walk.{Row, Text, Walk, finished, idle, is_empty, nothing_held, rows_after, settled, subcommand_met, walk_from}
@@ -16,7 +16,7 @@ use Rattle.zx_words.specs.declared.words.Command.{Command}
 use Rattle.zx_words.specs.declared.words.Command.TheVariants.{Reduce, Flow, Graph, Compile, Teleport, Same}
 use Rattle.zx_words.specs.Command.{command_of}
 use Rattle.zx_words.specs.Internal.CommandLine.{zxopt_app, clap_command_of, command_by}
-use Rattle.zx_words.proofs.Levels.{IsFault, between, level, other_word, first_fault, stray_turn, unless_fault}
+use Rattle.zx_words.proofs.Levels.{IsFault, between, level, not_said, other_word, first_fault, stray_turn, unless_fault}
 use Rattle.zx_words.proofs.OptAgrees.{by_opt, opt_agrees, opt_leaf}
 use Rattle.zx_words.proofs.AloneAgrees.{alone_agrees, alone_leaf, by_name}
 use Rattle.zx_words.proofs.GenAgrees.{by_gen, gen_agrees, gen_leaf}
@@ -116,10 +116,6 @@ teleport_words rest =
     ∙ below (entered_fault a (Some (codes "teleport", rest))) (codes "teleport") (rows_after (alone_leaf (codes "teleport")).rules [] rest)
 
 -- ---- a first word that is no subcommand
-not_said : (name word : Text) → bytes_eq word name ≡ false → bytes_eq name word ≡ false
-not_said name word not_name = false_from_ne_true (bytes_eq name word)
-    (λ is. true≢false (sym ((bytes_eq-Decides word name).1 (sym ((bytes_eq-Decides name word).0 is))) ∙ not_name))
-
 only_separator : (rest : List Text) → IsFault (fault_of zxopt_app (codes "--" ∷ rest))
 unfolding zxopt_app clap_on_literals
 only_separator [] = tt

@@ -2,7 +2,8 @@
 use Rattle.std.proofs.Common.{◌≡◌, ◌∙◌, ◌==◌, ℕ, suc, zero, Bool, true, false, List, [], ◌∷◌, length, Option, None, Some, inl, inr, ◌⊎◌}
 use Rattle.std.proofs.Common.{refl, sym, ap, subst, option_and_then, if◌then◌else◌, is_some, true≢false}
 use Rattle.std.proofs.Math.Numerals.{one-add}
-use Rattle.std.proofs.lemmas.Bool.{eqb-true, or_parts}
+use Rattle.std.proofs.lemmas.Bool.{eqb-true, false_from_ne_true, or_parts}
+use Rattle.std.proofs.lemmas.Slice.Eq.{bytes_eq-Decides}
 use Rattle.std.specs.Prelude.{slice_get, unwrap_or}
 use Rattle.std.specs.List.{after_first, before_first, fold}
 use Rattle.std.specs.Option.{option_map_or}
@@ -142,6 +143,11 @@ pub stray_turn : (s : Shape) (names : Names) (h : Held) (position : ℕ) (word :
 stray_turn s names h position word (inl p) stray =
     subst IsFault (λ i. or_else (sym p.0 i) (step_fault s position (sym p.1 i).0 (sym p.1 i).1)) stray
 stray_turn s names h position word (inr fault) stray = first_fault _ _ fault
+
+-- ---- words that differ
+pub not_said : (name word : Text) → bytes_eq word name ≡ false → bytes_eq name word ≡ false
+not_said name word not_name = false_from_ne_true (bytes_eq name word)
+    (λ is. true≢false (sym ((bytes_eq-Decides word name).1 (sym ((bytes_eq-Decides name word).0 is))) ∙ not_name))
 
 -- ---- what words begin with
 

@@ -1,5 +1,6 @@
 mod AloneAgrees
 mod ClapAgrees
+mod Flags
 mod GenAgrees
 mod Levels
 mod OptAgrees

@@ -1,5 +1,5 @@
 -- The command that the words after the program's name give.
-use Rattle.std.specs.Prelude.{◌≤◌, ◌-◌, ◌^◌, ◌&&◌, ◌||◌, ℕ, Bool, true, not, List, [], ◌∷◌, map, codes, decimal}
+use Rattle.std.specs.Prelude.{◌≤◌, ◌-◌, ◌^◌, ◌&&◌, ℕ, Bool, true, not, List, [], ◌∷◌, map, codes, decimal}
 use Rattle.std.specs.Prelude.{Option, None, Some, if◌then◌else◌, nat_le, option_and_then}
 use Rattle.std.specs.List.{list_any}
 use Rattle.std.specs.Str.{bytes_eq}
@@ -27,15 +27,19 @@ without_end [] = []
 without_end (word ∷ []) = if is_separator word then [] else word ∷ []
 without_end (word ∷ next ∷ rest) = word ∷ without_end (next ∷ rest)
 
+abbrev pub flag_words : List Text
+flag_words = codes "--best" ∷ codes "--report" ∷ codes "--scalar" ∷ []
+
 -- each of the words is a flag, and none comes twice
 abbrev pub are_flags : List Text → Bool
 are_flags [] = true
-are_flags (word ∷ rest) =
-    (bytes_eq word (codes "--best") || bytes_eq word (codes "--report")) && (not (has word rest) && are_flags rest)
+are_flags (word ∷ rest) = has word flag_words && (not (has word rest) && are_flags rest)
 
 abbrev pub optimisation_of : List Text → Option Command
 optimisation_of words =
-    if are_flags words then Some (Optimise (has (codes "--best") words) (has (codes "--report") words)) else None
+    if are_flags words
+    then Some (Optimise (has (codes "--best") words) (has (codes "--report") words) (has (codes "--scalar") words))
+    else None
 
 -- ---- `gen`, and three numbers
 

@@ -7,16 +7,20 @@ ghost use Rattle.zx_words.specs.Command.{Text, command_of, number_in};
 
 /// What some words give.
 pub fn worked_words()
-    ensures plain { command_of (codes "opt" ∷ []) ≡ Some (Optimise false false) }
+    ensures plain { command_of (codes "opt" ∷ []) ≡ Some (Optimise false false false) }
     ensures flags { command_of (codes "opt" ∷ codes "--report" ∷ codes "--best" ∷ [])
-        ≡ Some (Optimise true true) }
+        ≡ Some (Optimise true true false) }
+    ensures scalar { command_of (codes "opt" ∷ codes "--report" ∷ codes "--scalar" ∷ codes "--best"
+        ∷ []) ≡ Some (Optimise true true true) }
+    ensures scalar_twice { command_of (codes "opt" ∷ codes "--scalar" ∷ codes "--best"
+        ∷ codes "--scalar" ∷ []) ≡ None }
     ensures twice { command_of (codes "opt" ∷ codes "--best" ∷ codes "--best" ∷ []) ≡ None }
     ensures valued { command_of (codes "opt" ∷ codes "--best=true" ∷ []) ≡ None }
     ensures no_word { command_of [] ≡ None }
     ensures further { command_of (codes "opt" ∷ codes "x" ∷ []) ≡ None }
     ensures help { command_of (codes "--help" ∷ []) ≡ None }
     ensures separator { command_of (codes "opt" ∷ codes "--best" ∷ codes "--" ∷ [])
-        ≡ Some (Optimise true false) }
+        ≡ Some (Optimise true false false) }
     ensures behind { command_of (codes "opt" ∷ codes "--" ∷ codes "--best" ∷ []) ≡ None }
     ensures reduce { command_of (codes "reduce" ∷ []) ≡ Some Reduce }
     ensures flow { command_of (codes "flow" ∷ []) ≡ Some Flow }

@@ -5,7 +5,7 @@
 //!
 //! ```rust
 //! let command = command_in(alloc, &["opt", "--best"])?;
-//! // Some(Command::Optimise { best: true, report: false })
+//! // Some(Command::Optimise { best: true, report: false, scalar: false })
 //! ```
 #![tactic(auto)]
 

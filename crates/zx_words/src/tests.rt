@@ -7,14 +7,17 @@ fn words_of_opt(rt: HostRuntime) -> Result<(), Fail> {
     let plain = Some(Command::Optimise {
         best: false,
         report: false,
+        scalar: false,
     });
     let both = Some(Command::Optimise {
         best: true,
         report: true,
+        scalar: false,
     });
     let best = Some(Command::Optimise {
         best: true,
         report: false,
+        scalar: false,
     });
     assert_eq!(rt; command_in(rt.alloc(), ["opt"].as_slice())?, plain);
     assert_eq!(rt; command_in(rt.alloc(), ["opt", "--best"].as_slice())?, best);
@@ -25,6 +28,36 @@ fn words_of_opt(rt: HostRuntime) -> Result<(), Fail> {
     assert_eq!(rt;
         command_in(rt.alloc(), ["opt", "--report", "--best"].as_slice())?,
         both
+    );
+    Ok(())
+}
+
+#[test]
+fn words_of_opt_with_scalar(rt: HostRuntime) -> Result<(), Fail> {
+    let scalar = Some(Command::Optimise {
+        best: false,
+        report: false,
+        scalar: true,
+    });
+    let all = Some(Command::Optimise {
+        best: true,
+        report: true,
+        scalar: true,
+    });
+    assert_eq!(rt;
+        command_in(rt.alloc(), ["opt", "--scalar"].as_slice())?,
+        scalar
+    );
+    assert_eq!(rt;
+        command_in(rt.alloc(), ["opt", "--scalar", "--"].as_slice())?,
+        scalar
+    );
+    assert_eq!(rt;
+        command_in(
+            rt.alloc(),
+            ["opt", "--report", "--scalar", "--best"].as_slice()
+        )?,
+        all
     );
     Ok(())
 }
@@ -54,7 +87,7 @@ fn words_of_teleport(rt: HostRuntime) -> Result<(), Fail> {
 
 #[test]
 fn other_words(rt: HostRuntime) -> Result<(), Fail> {
-    let none: [&[&str]; 19] = [
+    let none: [&[&str]; 22] = [
         &[],
         &["help"],
         &["-h"],
@@ -62,6 +95,9 @@ fn other_words(rt: HostRuntime) -> Result<(), Fail> {
         &["--version"],
         &["opt", "x"],
         &["opt", "--best", "--best"],
+        &["opt", "--scalar", "--best", "--scalar"],
+        &["opt", "--scalar=true"],
+        &["opt", "--", "--scalar"],
         &["opt", "--best=true"],
         &["opt", "--help"],
         &["opt", "help"],

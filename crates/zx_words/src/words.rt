@@ -23,6 +23,8 @@ pub enum Command {
         best: bool,
         /// Whether the numbers of gates are told.
         report: bool,
+        /// Whether the number is told that the read circuit's linear map is times the written one's.
+        scalar: bool,
     },
     /// To simplify the graph of the file that is read, along its flow.
     Reduce,
@@ -111,7 +113,8 @@ fn opt_definition<'a>(alloc: Global) -> Result<clap::Command<'a>, AllocError>
     ensures local { IfOk result (λ command. (out-Command command).has_globals ≡ false) }
 {
     let with_best = with_flag(alloc, clap::Command::new(alloc, "opt"), "best")?;
-    with_flag(alloc, with_best, "report")
+    let with_report = with_flag(alloc, with_best, "report")?;
+    with_flag(alloc, with_report, "scalar")
 }
 
 // `gen`, with its words.
@@ -178,6 +181,7 @@ fn command_by(matches: &ArgMatches) -> Option<Command>
         return Some(Command::Optimise {
             best: has_flag(given, "best"),
             report: has_flag(given, "report"),
+            scalar: has_flag(given, "scalar"),
         });
     }
     if name == "gen" {

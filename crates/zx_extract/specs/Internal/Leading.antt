@@ -71,10 +71,12 @@ pub record Settles (s : State) (k : ℕ) (t : State) : Type 0 where
 abbrev pub cost_of : ℕ → ℕ → ℕ → ℕ
 cost_of n p q = 2 * n * p + 3 * n * q
 
--- t is s after some vertices were taken off, each for as many gates as it may cost
-pub record IsTaken (s t : State) : Type 0 where
+-- t is s after some vertices were taken off, each for as many gates as it may cost, by which the sum was doubled so
+-- often
+pub record IsTaken (doublings : ℕ) (s t : State) : Type 0 where
   pub spiders : ℕ
   pub gadgets : ℕ
   pub leads : Leads s (cost_of (length s.graph.outputs) spiders gadgets) spiders gadgets t
+  pub doubled : leads.doublings ≡ doublings
   pub ready : IsReady t
   pub frontier : IsFrontier t.graph

@@ -58,19 +58,19 @@ IsChange w (Pair first) = IsPairAt w first
 IsChange w (Triple first middle) = IsTripleAt w first middle
 
 -- ---- lists that change
--- on n qubits, up to a power of two the old gates have the map of the new ones, of which there are no more of any kind
-pub record Shortens (n : ℕ) (old new : List Gate) : Type 0 where
-  pub power : ℕ
+-- on n qubits the old gates have the map of the new ones times this power of two, for each factor of which two gates
+-- went; and there are no more of any kind
+pub record Shortens (n power : ℕ) (old new : List Gate) : Type 0 where
   pub map : (f : List Bool → Number) (x : List Bool) → length x ≡ n
       → acts old f x ≡ mul (power_of_two power) (acts new f x)
-  pub no_longer : length new ≤ length old
+  pub no_longer : length new + 2 * power ≤ length old
   pub odd : gate_odd_phases new ≤ gate_odd_phases old
   pub two_qubit : count_by is_two_qubit new ≤ count_by is_two_qubit old
 
--- a step of the cleanup: what is kept stays tidy, and fewer gates are left to read or to keep
-pub record IsAdvance (old new : Chains) : Type 0 where
+-- a step of the cleanup, with its power of two: what is kept stays tidy, and fewer gates are left to read or to keep
+pub record IsAdvance (old : Chains) (power : ℕ) (new : Chains) : Type 0 where
   pub qubits : new.qubits ≡ old.qubits
-  pub shortened : Shortens old.qubits (all_left old) (all_left new)
+  pub shortened : Shortens old.qubits power (all_left old) (all_left new)
   pub tidy : IsTidy (kept old) → IsTidy (kept new)
   pub as_long : length new.gates.items ≡ length old.gates.items
   pub closer : length (kept new) + 2 * old.next < length (kept old) + 2 * new.next

@@ -1,11 +1,11 @@
 -- Which candidate for the best circuit is taken.
-use Rattle.std.specs.Prelude.{◌≡◌, ◌≤◌, ◌==◌, nat_lt, Bool, if◌then◌else◌}
-use Rattle.zx_model.specs.Proportional.{Proportional}
+use Rattle.std.specs.Prelude.{◌≡◌, ◌≤◌, ◌==◌, ◌^◌, ℕ, nat_lt, Bool, if◌then◌else◌}
+use Rattle.zx_model.specs.Scalar.{IsWithin}
 use Rattle.zx_gates.specs.declared.tally.Counts.{Counts}
 use Rattle.zx_gates.specs.Circuit.{Circuit, gate_odd_phases}
-use Rattle.zx_gates.specs.Maps.{amp}
 use Rattle.zx_peephole.specs.Tidy.{IsTidy}
-use Rattle.zx_run.specs.Optimising.{counts_of, IsCleaned, IsNoDearer, Teleports}
+use Rattle.zx_run.specs.declared.optimiser.Candidate.{Candidate}
+use Rattle.zx_run.specs.Optimising.{counts_of, IsCleaned, IsMapTimes, IsNoDearer, Optimises, Teleports}
 
 -- whether these are more, by odd phases, then by gates on two qubits, then by all gates
 abbrev pub is_dearer : Counts → Counts → Bool
@@ -18,12 +18,24 @@ is_dearer a b =
 abbrev pub IsNoDearerThan : Circuit → Circuit → Type 0
 IsNoDearerThan a b = IsNoDearer (counts_of a.gates) (counts_of b.gates)
 
--- what may be taken in the place of a circuit, where it is within the bound
-pub record IsCandidate (read made : Circuit) : Type 0 where
-  pub qubits : made.qubits ≡ read.qubits
-  pub map : Proportional read.qubits read.qubits (amp read.gates) (amp made.gates)
-  pub odd : gate_odd_phases made.gates ≤ gate_odd_phases read.gates
-  pub tidy : IsTidy made.gates
+-- the greatest exponent of the root of two in the scalar of a candidate of which no pieces are replaced yet
+abbrev pub most_whole_root2 : ℕ
+most_whole_root2 = 2 ^ 57
+
+-- what may be taken in the place of a circuit, where it is within the bound; the exponent of the root of two in its
+-- scalar is at most k
+pub record IsCandidate (k : ℕ) (read : Circuit) (made : Candidate) : Type 0 where
+  pub qubits : made.gates.qubits ≡ read.qubits
+  pub odd : gate_odd_phases made.gates.gates ≤ gate_odd_phases read.gates
+  pub tidy : IsTidy made.gates.gates
+  pub scalar : IsMapTimes read made.scalar made.gates
+  pub small : IsWithin k made.scalar
+
+-- what may be written for a circuit
+pub record Offers (k : ℕ) (read : Circuit) (made : Candidate) : Type 0 where
+  pub optimises : Optimises read made.gates
+  pub scalar : IsMapTimes read made.scalar made.gates
+  pub small : IsWithin k made.scalar
 
 -- a cleanup of a circuit whose phases alone are changed
 pub record IsTeleportedCleanup (read made : Circuit) : Type 0 where

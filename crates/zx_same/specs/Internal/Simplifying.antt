@@ -1,6 +1,7 @@
 -- What the graph of a circuit is simplified to.
-use Rattle.std.specs.Prelude.{◌≡◌, ◌≤◌, length, map}
+use Rattle.std.specs.Prelude.{◌≡◌, ◌≤◌, ℕ, ◌^◌, length, map}
 use Rattle.zx_model.specs.Proportional.{Proportional}
+use Rattle.zx_model.specs.Scalar.{IsScaled, IsWithin}
 use Rattle.zx_calculus.specs.Graph.{WellFormed}
 use Rattle.zx_calculus.specs.Reduced.{IsReduced}
 use Rattle.zx_calculus.specs.Steps.{IsRun}
@@ -13,8 +14,12 @@ use Rattle.zx_extract.specs.Simplified.{gate_bound}
 use Rattle.circuit_graph.specs.Translation.{translated}
 use Rattle.zx_simplify.specs.declared.simplifying.Simplified.{Simplified}
 
+-- the greatest exponent of the root of two, in size, in the scalar of a simplified circuit
+abbrev pub most_left_root2 : ℕ
+most_left_root2 = 2 ^ 55
+
 -- Steps lead from the circuit's graph to the reduced one, whose sum is proportional to the circuit's map. So is the
--- map of what is left, which is tidy, with no more odd phases than the circuit and few gates.
+-- map of what is left, by the scalar; this is tidy, with no more odd phases than the circuit and few gates.
 pub record Simplifies (circuit : Circuit) (made : Simplified) : Type 0 where
   pub run : IsRun (translated circuit) (map step_named made.trace.steps) made.reduced.graph
   pub reduced : IsReduced made.reduced.graph
@@ -23,6 +28,8 @@ pub record Simplifies (circuit : Circuit) (made : Simplified) : Type 0 where
   pub kept : Proportional circuit.qubits circuit.qubits (amp circuit.gates) (sum made.reduced.graph)
   pub qubits : made.gates.qubits ≡ circuit.qubits
   pub map : Proportional circuit.qubits circuit.qubits (amp circuit.gates) (amp made.gates.gates)
+  pub scaled : IsScaled circuit.qubits circuit.qubits (amp circuit.gates) made.scalar (amp made.gates.gates)
+  pub small : IsWithin most_left_root2 made.scalar
   pub tidy : IsTidy made.gates.gates
   pub odd : gate_odd_phases made.gates.gates ≤ gate_odd_phases circuit.gates
   pub few : length made.gates.gates ≤ gate_bound circuit.qubits (gate_odd_phases circuit.gates)

@@ -1,4 +1,4 @@
--- The command line as `clap` is told of it: the subcommands `opt`, which has two flags, `gen`, which has three
+-- The command line as `clap` is told of it: the subcommands `opt`, which has three flags, `gen`, which has three
 -- words, and those that have no words of their own; and what its matches mean.
 use Rattle.std.specs.Prelude.{◌-◌, ◌^◌, ℕ, Bool, true, false, List, codes}
 use Rattle.std.specs.Prelude.{Option, None, Some, if◌then◌else◌, nat_le, option_and_then}
@@ -25,8 +25,8 @@ abbrev pub word_rule : Text → Rule
 word_rule name = record (new_rule name) { required = true }
 
 abbrev pub opt_app : App
-opt_app = with_rule (with_rule (new_app (codes "opt")) (flag_rule (codes "best")))
-    (flag_rule (codes "report"))
+opt_app = with_rule (with_rule (with_rule (new_app (codes "opt")) (flag_rule (codes "best")))
+    (flag_rule (codes "report"))) (flag_rule (codes "scalar"))
 
 abbrev pub gen_app : App
 gen_app = with_rule (with_rule (with_rule (new_app (codes "gen")) (word_rule (codes "seed")))
@@ -77,7 +77,7 @@ abbrev pub command_by : Option (Text × List Row) → Option Command
 command_by None = None
 command_by (Some p) =
     if bytes_eq p.0 (codes "opt")
-    then Some (Optimise (has_flag (codes "best") p.1) (has_flag (codes "report") p.1)) else
+    then Some (Optimise (has_flag (codes "best") p.1) (has_flag (codes "report") p.1) (has_flag (codes "scalar") p.1)) else
     if bytes_eq p.0 (codes "gen") then generation_by p.1 else
     if bytes_eq p.0 (codes "reduce") then Some Reduce else
     if bytes_eq p.0 (codes "flow") then Some Flow else

@@ -11,6 +11,7 @@ pub lower-requires : goal.lower-requires
 lower-requires g c =
     record {
       few_qubits = omega arith;
+      few_gates = search rules;
       on_qubits = search rules;
       few_bits = omega arith;
       measures_within = subst (All (IsMeasureOn 2 0)) (sym c.new.ensures) (λ k d lt. absurd (omega (arith, lt)));

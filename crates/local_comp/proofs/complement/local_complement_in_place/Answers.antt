@@ -3,7 +3,6 @@ use Rattle.std.proofs.Common.{subst, IsOk}
 use Rattle.std.proofs.lemmas.Bool.{false≢true}
 use Rattle.zx_flow.proofs.Below.{order_below, set_below}
 use Rattle.zx_calculus.proofs.Allowed.{complement_live, complement_interior}
-use Rattle.zx_calculus.proofs.Positions.{on_ok}
 use Rattle.gflow_laws.proofs.Rewriting.{rewritten, interior_listed}
 use Rattle.local_comp.proofs.complement.local_complement_in_place.Goals as goal
 
@@ -18,9 +17,7 @@ complement_sets-requires-clause-there c =
 
 pub returns-clause-rewritten : goal.returns-clause-rewritten
 returns-clause-rewritten c =
-    on_ok c.local_complement_in_graph.result
-    (λ step. rewritten c.local_complement_in_graph.ensures.was_valid c.requires.flow step c.in_ok-complement_sets.ensures.sets)
-    c.local_complement_in_graph.ensures.step
+    rewritten c.local_complement_in_graph.ensures.was_valid c.requires.flow c.in_ok-local_complement_in_graph.ensures.step c.in_ok-complement_sets.ensures.sets
 
 pub returns-in_err-complement_sets-clause-has_room : goal.returns-in_err-complement_sets-clause-has_room
 returns-in_err-complement_sets-clause-has_room c room =
@@ -32,5 +29,7 @@ returns-in_err-complement_sets-clause-has_room c room =
     (c.complement_sets.ensures.has_room (order_below g t c.args.f.now.reach c.requires.flow room.1)
     (set_below g t c.args.f.now.reach c.requires.flow room.1 u listed))))
 
-pub returns-clause-has_room : goal.returns-clause-has_room
-returns-clause-has_room c room = c.local_complement_in_graph.ensures.has_room room.0
+pub returns-in_err-local_complement_in_graph-clause-has_room : goal.returns-in_err-local_complement_in_graph-clause-has_room
+returns-in_err-local_complement_in_graph-clause-has_room c room =
+    absurd (false≢true (subst IsOk c.in_err-local_complement_in_graph.was
+    (c.local_complement_in_graph.ensures.has_room room.0)))

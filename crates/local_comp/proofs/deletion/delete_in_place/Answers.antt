@@ -1,5 +1,6 @@
 -- The vertex stands in the order, and the step is that of the graph.
-use Rattle.zx_calculus.proofs.Positions.{on_ok}
+use Rattle.std.proofs.Common.{subst, IsOk}
+use Rattle.std.proofs.lemmas.Bool.{false≢true}
 use Rattle.zx_flow.proofs.Below.{order_below, set_below}
 use Rattle.gflow_laws.proofs.Rewriting.{rewritten}
 use Rattle.local_comp.proofs.GraphSteps.{deletable_listed}
@@ -12,14 +13,13 @@ eliminate-requires c =
 
 pub returns-clause-rewritten : goal.returns-clause-rewritten
 returns-clause-rewritten c =
-    on_ok c.eliminate.result
-    (rewritten c.delete_in_graph.ensures.was_valid c.requires.flow c.delete_in_graph.ensures.step)
-    c.eliminate.ensures.flow
+    rewritten c.delete_in_graph.ensures.was_valid c.requires.flow c.delete_in_graph.ensures.step c.in_ok-eliminate.ensures.flow
 
-pub returns-clause-has_room : goal.returns-clause-has_room
-returns-clause-has_room c room =
+pub returns-in_err-eliminate-clause-has_room : goal.returns-in_err-eliminate-clause-has_room
+returns-in_err-eliminate-clause-has_room c room =
     let g = c.args.g.now.graph in
     let t = c.args.f.now.flow in
     let listed = deletable_listed g t c.args.u c.delete_in_graph.ensures.was_valid c.requires.flow c.requires.allowed in
-    c.eliminate.ensures.has_room (order_below g t c.args.f.now.reach c.requires.flow room.1)
-    (set_below g t c.args.f.now.reach c.requires.flow room.1 c.args.u listed)
+    absurd (false≢true (subst IsOk c.in_err-eliminate.was
+    (c.eliminate.ensures.has_room (order_below g t c.args.f.now.reach c.requires.flow room.1)
+    (set_below g t c.args.f.now.reach c.requires.flow room.1 c.args.u listed))))

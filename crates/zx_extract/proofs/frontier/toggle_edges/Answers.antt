@@ -1,5 +1,5 @@
 -- A set of one vertex.
-use Rattle.std.proofs.Common.{◌≡◌, ◌∙◌, ℕ, List, ap, sym, subst, eqb-true}
+use Rattle.std.proofs.Common.{◌∙◌, ℕ, List, ap, sym, subst, eqb-true}
 use Rattle.std.proofs.lemmas.Result.{on_ok_weaker}
 use Rattle.zx_model.specs.Bits.{member}
 use Rattle.zx_calculus.specs.Graph.{Live}

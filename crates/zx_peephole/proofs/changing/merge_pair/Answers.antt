@@ -14,10 +14,10 @@ returns-in-Some-clause-sound c =
     let w = c.args.work.now in
     let r = c.remove.ensures.removed in
     let reading = c.requires.reading in
-    let next = read_at w.gates.items w.next c.index-2.result.now reading.more c.index-2.ensures in
+    let next = read_at w.gates.items w.next c.index.result.now reading.more c.index.ensures in
     let on : IsGateOn c.remove.new.work.qubits c.in-Some.gate =
     subst (λ (n : ℕ). IsGateOn n c.in-Some.gate) (sym r.qubits)
-    (merged_on w.qubits c.index.result.now c.index-2.result.now c.in-Some.gate
+    (merged_on w.qubits c.index-earlier.result.now c.index.result.now c.in-Some.gate
     (subst (IsGateOn w.qubits) (sym next)
     (reading.sound.on_qubits w.next reading.more (reading.sound.unread w.next (omega arith) reading.more)))
     (sym (ap option_to_list c.in-Some.is) ∙ c.merged-one.ensures)) in
@@ -28,8 +28,8 @@ returns-in-Some-clause-sound c =
 pub returns-in-Some-clause-advance : goal.returns-in-Some-clause-advance
 returns-in-Some-clause-advance c =
     let r = c.remove.ensures.removed in
-    pair_one c.args.work.now c.requires.reading _ r.qubits c.args.first c.requires.pair c.index.result.now
-    c.index-2.result.now c.index.ensures c.index-2.ensures c.in-Some.gate
+    pair_one c.args.work.now c.requires.reading _ r.qubits c.args.first c.requires.pair c.index-earlier.result.now
+    c.index.result.now c.index-earlier.ensures c.index.ensures c.doublings-power.result c.doublings-power.ensures c.in-Some.gate
     (sym (ap option_to_list c.in-Some.is) ∙ c.merged-one.ensures)
     (ap₂ (λ xs n. set xs n c.in-Some.gate) r.gates r.next) r.next
 
@@ -44,8 +44,8 @@ returns-in-None-clause-sound c =
 pub returns-in-None-clause-advance : goal.returns-in-None-clause-advance
 returns-in-None-clause-advance c =
     let r = c.remove.ensures.removed in
-    pair_none c.args.work.now c.requires.reading _ r.qubits c.args.first c.requires.pair c.index.result.now
-    c.index-2.result.now c.index.ensures c.index-2.ensures
+    pair_none c.args.work.now c.requires.reading _ r.qubits c.args.first c.requires.pair c.index-earlier.result.now
+    c.index.result.now c.index-earlier.ensures c.index.ensures c.doublings-power.result c.doublings-power.ensures
     (sym (ap option_to_list c.in-None.is) ∙ c.merged-one.ensures)
     (ap₂ (λ xs n. set xs n c.nothing.result) r.gates r.next
     ∙ ap (set (set c.args.work.now.gates.items c.args.first nothing) c.args.work.now.next) c.nothing.ensures)

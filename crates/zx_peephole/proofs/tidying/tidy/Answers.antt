@@ -1,14 +1,17 @@
 -- Each step shortens the list, and at the end all that is left is kept.
-use Rattle.std.proofs.Common.{ℕ, ◌≤◌, List, length, sym, ap, ◌∙◌, subst, arith}
+use Rattle.std.proofs.Common.{ℕ, ◌*◌, ◌≤◌, pos, List, length, sym, ap, ◌∙◌, subst, arith}
 use Rattle.zx_gates.specs.declared.gate.Gate.{Gate}
 use Rattle.zx_gates.specs.Circuit.{Circuit}
+use Rattle.zx_model.specs.Scalar.{IsScaled}
+use Rattle.zx_model.specs.declared.scalar.Scalar.{Scalar}
+use Rattle.zx_gates.specs.Lowering.{scalar}
 use Rattle.zx_gates.specs.Maps.{amp}
 use Rattle.zx_peephole.specs.Tidy.{IsTidy}
 use Rattle.zx_peephole.specs.Doubling.{IsDoubled}
 use Rattle.zx_peephole.specs.Internal.Chains.{all_left}
 use Rattle.zx_peephole.specs.Internal.Changes.{Shortens}
 use Rattle.zx_peephole.proofs.TidyLemmas.{tidy-none}
-use Rattle.zx_peephole.proofs.ChangeLemmas.{shortens-refl, shortens-trans, shortens_doubled, doubled_proportional}
+use Rattle.zx_peephole.proofs.ChangeLemmas.{shortens-refl, shortens-trans, shortens_doubled, shortens_scaled, doubled_proportional}
 use Rattle.zx_peephole.proofs.AdvanceLemmas.{kept_none, left_first, left_last}
 use Rattle.zx_peephole.proofs.tidying.tidy.Goals as goal
 
@@ -20,21 +23,21 @@ loop-work-init c =
       sound = c.begin-work.ensures.sound;
       tidy = subst IsTidy (sym (kept_none w c.begin-work.ensures.next)) tidy-none;
       qubits = c.begin-work.ensures.qubits ∙ ap (λ (d : Circuit). d.qubits) c.take.ensures.circuit;
-      shortened = subst (λ (xs : List Gate). Shortens c.args.g.now.qubits c.args.g.now.gates xs)
+      shortened = subst (λ (xs : List Gate). Shortens c.args.g.now.qubits 0 c.args.g.now.gates xs)
           (sym (left_first w c.begin-work.ensures.next ∙ gates)) (shortens-refl c.args.g.now.qubits c.args.g.now.gates);
     }
 
 pub loop-work-preserved : goal.loop-work-preserved
 loop-work-preserved c =
-    let a = c.settle.ensures.advance in
+    let a = c.settle-power.ensures.advance in
     let l = c.loop-work.invariant in
     record {
-      sound = c.settle.ensures.sound;
+      sound = c.settle-power.ensures.sound;
       tidy = a.tidy l.tidy;
       qubits = a.qubits ∙ l.qubits;
-      shortened = shortens-trans c.args.g.now.qubits c.args.g.now.gates (all_left c.loop-work.work) (all_left c.settle.new.work)
+      shortened = shortens-trans c.args.g.now.qubits c.loop-work.power c.settle-power.result c.args.g.now.gates (all_left c.loop-work.work) (all_left c.settle-power.new.work)
           l.shortened
-          (subst (λ (n : ℕ). Shortens n (all_left c.loop-work.work) (all_left c.settle.new.work)) l.qubits a.shortened);
+          (subst (λ (n : ℕ). Shortens n c.settle-power.result (all_left c.loop-work.work) (all_left c.settle-power.new.work)) l.qubits a.shortened);
     }
 
 pub returns-clause-map : goal.returns-clause-map
@@ -42,7 +45,15 @@ returns-clause-map c =
     let all : length c.loop-work.work.gates.items ≤ c.loop-work.work.next = omega (arith, c.loop-work-test.false, c.len.ensures) in
     let gates = ap (λ (d : Circuit). d.gates) c.from_parts.ensures ∙ c.end.ensures.gates ∙ sym (left_last c.loop-work.work all) in
     subst (λ (xs : List Gate). IsDoubled c.args.g.now.qubits (amp c.args.g.now.gates) (amp xs)) (sym gates)
-    (shortens_doubled c.args.g.now.qubits c.args.g.now.gates (all_left c.loop-work.work) c.loop-work.invariant.shortened)
+    (shortens_doubled c.args.g.now.qubits c.loop-work.power c.args.g.now.gates (all_left c.loop-work.work) c.loop-work.invariant.shortened)
+
+pub returns-clause-scaled : goal.returns-clause-scaled
+returns-clause-scaled c =
+    let all : length c.loop-work.work.gates.items ≤ c.loop-work.work.next = omega (arith, c.loop-work-test.false, c.len.ensures) in
+    let gates = ap (λ (d : Circuit). d.gates) c.from_parts.ensures ∙ c.end.ensures.gates ∙ sym (left_last c.loop-work.work all) in
+    subst (λ (s : Scalar). IsScaled c.args.g.now.qubits c.args.g.now.qubits (amp c.args.g.now.gates) s (amp c.from_parts.result.gates)) (sym c.power_of_two.ensures.value)
+    (subst (λ (xs : List Gate). IsScaled c.args.g.now.qubits c.args.g.now.qubits (amp c.args.g.now.gates) (scalar (pos (2 * c.loop-work.power)) 0) (amp xs)) (sym gates)
+    (shortens_scaled c.args.g.now.qubits c.loop-work.power c.args.g.now.gates (all_left c.loop-work.work) c.loop-work.invariant.shortened))
 
 pub returns-clause-proportional : goal.returns-clause-proportional
 returns-clause-proportional c =
@@ -50,4 +61,4 @@ returns-clause-proportional c =
     let gates = ap (λ (d : Circuit). d.gates) c.from_parts.ensures ∙ c.end.ensures.gates ∙ sym (left_last c.loop-work.work all) in
     doubled_proportional c.args.g.now.qubits (amp c.args.g.now.gates) (amp c.from_parts.result.gates)
     (subst (λ (xs : List Gate). IsDoubled c.args.g.now.qubits (amp c.args.g.now.gates) (amp xs)) (sym gates)
-    (shortens_doubled c.args.g.now.qubits c.args.g.now.gates (all_left c.loop-work.work) c.loop-work.invariant.shortened))
+    (shortens_doubled c.args.g.now.qubits c.loop-work.power c.args.g.now.gates (all_left c.loop-work.work) c.loop-work.invariant.shortened))

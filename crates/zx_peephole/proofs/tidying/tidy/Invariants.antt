@@ -10,7 +10,7 @@ invariant-loop-work l = record {
   sound : IsSound l.work;
   tidy : IsTidy (kept l.work);
   qubits : l.work.qubits ≡ l.fn.g.qubits;
-  shortened : Shortens l.fn.g.qubits l.fn.g.gates (all_left l.work);
+  shortened : Shortens l.fn.g.qubits l.power l.fn.g.gates (all_left l.work);
 }
 
 abbrev pub decreases-loop-work : goal.decreases-loop-work

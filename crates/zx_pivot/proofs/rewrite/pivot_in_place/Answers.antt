@@ -3,7 +3,6 @@ use Rattle.std.proofs.Common.{subst, IsOk}
 use Rattle.std.proofs.lemmas.Bool.{false≢true}
 use Rattle.zx_flow.proofs.Below.{order_below, all_sets_below}
 use Rattle.zx_calculus.proofs.Allowed.{pivot_live, pivot_live_too, pivot_joined}
-use Rattle.zx_calculus.proofs.Positions.{on_ok}
 use Rattle.gflow_laws.proofs.Rewriting.{rewritten}
 use Rattle.zx_pivot.proofs.PivotSteps.{first_listed, second_listed}
 use Rattle.zx_pivot.proofs.rewrite.pivot_in_place.Goals as goal
@@ -27,9 +26,7 @@ pivot_sets-requires-clause-v_there c =
 
 pub returns-clause-rewritten : goal.returns-clause-rewritten
 returns-clause-rewritten c =
-    on_ok c.pivot_in_graph.result
-    (λ step. rewritten c.pivot_in_graph.ensures.was_valid c.requires.flow step c.in_ok-pivot_sets.ensures.sets)
-    c.pivot_in_graph.ensures.step
+    rewritten c.pivot_in_graph.ensures.was_valid c.requires.flow c.in_ok-pivot_in_graph.ensures.step c.in_ok-pivot_sets.ensures.sets
 
 pub returns-in_err-pivot_sets-clause-has_room : goal.returns-in_err-pivot_sets-clause-has_room
 returns-in_err-pivot_sets-clause-has_room c room =
@@ -39,5 +36,7 @@ returns-in_err-pivot_sets-clause-has_room c room =
     (c.pivot_sets.ensures.has_room (order_below g t c.args.f.now.reach c.requires.flow room.1)
     (all_sets_below g t c.args.f.now.reach c.requires.flow room.1))))
 
-pub returns-clause-has_room : goal.returns-clause-has_room
-returns-clause-has_room c room = c.pivot_in_graph.ensures.has_room room.0
+pub returns-in_err-pivot_in_graph-clause-has_room : goal.returns-in_err-pivot_in_graph-clause-has_room
+returns-in_err-pivot_in_graph-clause-has_room c room =
+    absurd (false≢true (subst IsOk c.in_err-pivot_in_graph.was
+    (c.pivot_in_graph.ensures.has_room room.0)))

@@ -3,12 +3,12 @@ use Rattle.std.proofs.Common.{subst, IsOk}
 use Rattle.std.proofs.lemmas.Bool.{false≢true}
 use Rattle.zx_reduce.proofs.applying.apply.Goals as goal
 
-pub returns-in_err-rewrite-clause-has_room : goal.returns-in_err-rewrite-clause-has_room
-returns-in_err-rewrite-clause-has_room c allowed room =
-    absurd (false≢true (subst IsOk c.in_err-rewrite.was (c.rewrite.ensures.has_room room)))
+pub returns-in_err-scalar-clause-has_room : goal.returns-in_err-scalar-clause-has_room
+returns-in_err-scalar-clause-has_room c allowed room =
+    absurd (false≢true (subst IsOk c.in_err-scalar.was (c.rewrite.ensures.has_room room)))
 
-pub returns-in_err-rewrite-clause-places : goal.returns-in_err-rewrite-clause-places
-returns-in_err-rewrite-clause-places c allowed room = c.rewrite.ensures.places room
+pub returns-in_err-scalar-clause-places : goal.returns-in_err-scalar-clause-places
+returns-in_err-scalar-clause-places c allowed room = c.rewrite.ensures.places room
 
 pub returns-clause-places : goal.returns-clause-places
 returns-clause-places c allowed room = c.rewrite.ensures.places room

@@ -1,5 +1,5 @@
 -- One step more, for which there is room.
-use Rattle.std.proofs.Common.{subst, map, [], add-one, IsOk, arith}
+use Rattle.std.proofs.Common.{sym, subst, map, length, [], add-one, IsOk, arith}
 use Rattle.std.proofs.lemmas.Bool.{false≢true}
 use Rattle.std.proofs.lemmas.List.{take_all}
 use Rattle.zx_calculus.specs.Steps.{IsRun}
@@ -7,6 +7,10 @@ use Rattle.zx_reduce.specs.Steps.{step_named}
 use Rattle.zx_reduce.proofs.MovesMade.{begun, next_allowed}
 use Rattle.zx_reduce.proofs.RoomLemmas.{room_for, places_after}
 use Rattle.zx_reduce.proofs.InPlace.{one_done, still_few}
+use Rattle.zx_model.specs.Scalar.{IsWithin}
+use Rattle.zx_calculus.proofs.StepScalars.{step_within}
+use Rattle.zx_reduce.specs.Internal.Scaling.{Scales}
+use Rattle.zx_reduce.proofs.Scaling.{scales_none, scales_more, scales_next, scales_step, few_fit, twelve}
 use Rattle.zx_reduce.proofs.in_place.do_steps.Goals as goal
 
 pub loop-step-init : goal.loop-step-init
@@ -14,6 +18,7 @@ loop-step-init c = record {
   way = begun c.args.g.now.graph c.args.steps.now [] c.requires.allowed;
   valid = c.requires.valid;
   flow = c.requires.flow;
+  scales = subst (λ t. Scales c.args.g.now.graph 0 t c.args.g.now.graph) (sym c.one-scalar.ensures) (scales_none c.args.g.now.graph);
   places = λ n d places fits stays. places;
 }
 
@@ -28,6 +33,9 @@ loop-step-preserved c =
       way = rw add-one (one_done c.step-item.result c.loop-step.invariant.way c.loop-step-test.true c.step-item.is done.step);
       valid = done.valid;
       flow = done.flow;
+      scales = scales_next c.loop-step.step-index c.loop-step.invariant.scales
+          (scales_step c.loop-step.g.graph (step_named c.step-item.result) c.rewrite.new.g.graph c.in_ok-rewrite.field-0 c.loop-step.invariant.valid done.step c.in_ok-rewrite.ensures.scalar)
+          c.times-scalar.ensures;
       places = λ n d places fits stays.
           let now = c.loop-step.invariant.places n d places fits stays in
           let few = still_few n d c.loop-step.invariant.way fits stays in
@@ -35,6 +43,15 @@ loop-step-preserved c =
           c.rewrite.new.g c.rewrite.new.f done.step
           (c.rewrite.ensures.places (room_for n c.loop-step.g c.loop-step.f c.loop-step.invariant.valid now few (step_named c.step-item.result)));
     }
+
+pub times-scalar-requires : goal.times-scalar-requires
+times-scalar-requires c =
+    few_fit c.loop-step.step-index (length c.args.steps.now) c.loop-step.scalar c.in_ok-rewrite.field-0 c.requires.few c.loop-step-test.true c.loop-step.invariant.scales.small
+    (subst (IsWithin 2) (sym c.in_ok-rewrite.ensures.scalar) (step_within c.loop-step.g.graph (step_named c.step-item.result)))
+
+pub returns-clause-scalar : goal.returns-clause-scalar
+returns-clause-scalar c =
+    scales_more 12 c.loop-step.invariant.scales (twelve c.loop-step.step-index (length c.args.steps.now) c.requires.few (omega arith))
 
 pub returns-in_err-rewrite-clause-has_room : goal.returns-in_err-rewrite-clause-has_room
 returns-in_err-rewrite-clause-has_room c n d places fits stays =

@@ -10,6 +10,7 @@ use Rattle.zx_reduce.proofs.DemandMoves.{move_within}
 use Rattle.zx_reduce.proofs.MoveSteps.{steps_allowed}
 use Rattle.zx_reduce.proofs.Ranking.{on_any}
 use Rattle.zx_reduce.proofs.InPlace.{planned_steps, trace_with}
+use Rattle.zx_reduce.proofs.Scaling.{steps_six}
 use Rattle.zx_reduce.proofs.in_place.make.Goals as goal
 
 pub steps_from-requires : goal.steps_from-requires
@@ -23,6 +24,11 @@ do_steps-requires-clause-allowed c =
     subst (AreAllowed c.args.g.now.graph)
     (sym (planned_steps (length c.as_slice-start.result.now) c.in_ok-add_steps.ensures.added (ap length c.as_slice-start.ensures) c.steps_from.ensures))
     (steps_allowed c.args.g.now.graph c.args.m.now c.requires.valid c.requires.applies c.requires.first)
+
+pub do_steps-requires-clause-few : goal.do_steps-requires-clause-few
+do_steps-requires-clause-few c =
+    steps_six c.args.g.now.graph c.args.m.now c.steps_from.result.now
+    (planned_steps (length c.as_slice-start.result.now) c.in_ok-add_steps.ensures.added (ap length c.as_slice-start.ensures) c.steps_from.ensures)
 
 pub returns-clause-gains : goal.returns-clause-gains
 returns-clause-gains c =

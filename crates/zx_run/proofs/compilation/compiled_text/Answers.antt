@@ -1,5 +1,5 @@
 -- What is written of a circuit is its text.
-use Rattle.std.proofs.Common.{◌≡◌, ◌∙◌, ap, subst, sym}
+use Rattle.std.proofs.Common.{◌∙◌, ap, subst, sym}
 use Rattle.zx_gates.specs.Circuit.{IsCircuit}
 use Rattle.zx_run.specs.Internal.Verdicts.{IsCompilation}
 use Rattle.zx_run.proofs.CompiledLemmas.{IsCompiledText-made, none_behind}

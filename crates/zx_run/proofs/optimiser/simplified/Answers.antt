@@ -1,18 +1,29 @@
 -- The graph is between the two circuits: maps, odd phases and widths carry over from one to the next.
-use Rattle.std.proofs.Common.{◌≤◌, ℕ, ◌*◌, map, length, le_trans, ◌∙◌, subst, arith, mul-le-mul_left}
-use Rattle.zx_model.specs.Proportional.{Proportional}
-use Rattle.zx_model.proofs.ProportionalLemmas.{proportional_sym, proportional_trans}
+use Rattle.std.proofs.Common.{◌≤◌, ◌<◌, ℕ, ◌+◌, ◌*◌, map, length, le_trans, ◌∙◌, sym, subst, arith, mul-le-mul_left}
+use Rattle.zx_model.specs.Scalar.{IsScaled, IsWithin, most_root2, product_of_scalars}
+use Rattle.zx_model.proofs.Scalars.{scaled_proportional, within_more, within_product}
+use Rattle.zx_model.specs.declared.scalar.Scalar.{Scalar}
+use Rattle.zx_gates.specs.Circuit.{gate_bound as list_bound}
 use Rattle.zx_calculus.specs.Steps.{IsRun}
 use Rattle.zx_calculus.specs.Sum.{sum}
 use Rattle.zx_calculus.specs.Counts.{odd_phases}
 use Rattle.zx_gates.specs.Maps.{amp}
 use Rattle.zx_reduce.specs.Steps.{step_named}
 use Rattle.zx_extract.specs.Simplified.{gate_bound}
+use Rattle.zx_simplify.specs.Scaling.{most_simplified_root2}
+use Rattle.zx_run.specs.Internal.Candidates.{most_whole_root2}
+use Rattle.zx_run.proofs.CandidateLemmas.{scaled_by_way}
 use Rattle.zx_run.proofs.optimiser.simplified.Goals as goal
 
 -- more odd phases allow more gates
 bound-rises : (n s t : ℕ) → s ≤ t → gate_bound n s ≤ gate_bound n t
 bound-rises n s t fewer = let more : 3 * n * s ≤ 3 * n * t = mul-le-mul_left (3 * n) fewer in omega arith
+
+small_enough : (most : ℕ) → 4 * list_bound + most_simplified_root2 ≤ most → (gates : ℕ) (s t : Scalar) → gates < list_bound → IsWithin (4 * gates) s →
+    IsWithin most_simplified_root2 t → IsWithin most (product_of_scalars s t)
+small_enough most fits gates s t few first second =
+    within_more (4 * gates + most_simplified_root2) most (product_of_scalars s t) (within_product (4 * gates) most_simplified_root2 s t first second)
+    (omega (arith, few, fits))
 
 pub returns : goal.returns
 returns c =
@@ -24,20 +35,30 @@ returns c =
     let circuit = made.gates in
     let n = read.qubits in
     let steps = map step_named made.trace.steps in
+    let scaled : IsScaled n n (amp read.gates) c.times.result (amp circuit.gates) =
+    scaled_by_way n (length start.outputs) (amp read.gates) (sum start) (amp circuit.gates) c.in_ok-graph.scalar made.scalar c.times.result first.outputs first.scaled simplified.scalar c.times.ensures in
     record {
-      qubits = simplified.qubits ∙ first.outputs;
-      map = proportional_trans n n (amp read.gates) (sum start) (amp circuit.gates)
-          (proportional_sym n n (sum start) (amp read.gates) first.map)
-          (subst (λ k. Proportional k k (sum start) (amp circuit.gates)) first.outputs simplified.map);
-      odd = le_trans simplified.odd (le_trans simplified.fewer first.odd);
-      tidy = simplified.tidy;
-      few_gates = le_trans (subst (λ k. length circuit.gates ≤ gate_bound k (odd_phases start)) first.outputs simplified.few_gates)
-          (bound-rises n _ _ first.odd);
-      reduced = record {
-        steps = steps;
-        end = made.reduced.graph;
-        run = subst (λ g. IsRun g steps made.reduced.graph) first.graph simplified.run;
-        reduced = simplified.reduced;
-        odd = simplified.odd;
+      optimises = record {
+        qubits = simplified.qubits ∙ first.outputs;
+        map = scaled_proportional n n (amp read.gates) (amp circuit.gates) c.times.result scaled;
+        odd = le_trans simplified.odd (le_trans simplified.fewer first.odd);
+        tidy = simplified.tidy;
+        few_gates = le_trans (subst (λ k. length circuit.gates ≤ gate_bound k (odd_phases start)) first.outputs simplified.few_gates)
+            (bound-rises n _ _ first.odd);
+        reduced = record {
+          steps = steps;
+          end = made.reduced.graph;
+          run = subst (λ g. IsRun g steps made.reduced.graph) first.graph simplified.run;
+          reduced = simplified.reduced;
+          odd = simplified.odd;
+        };
       };
+      scalar = scaled;
+      small = subst (IsWithin most_whole_root2) (sym c.times.ensures)
+          (small_enough most_whole_root2 (omega arith) (length read.gates) c.in_ok-graph.scalar made.scalar c.gates.ensures.few first.small simplified.small);
     }
+
+pub times-requires : goal.times-requires
+times-requires c =
+    small_enough most_root2 (omega arith) (length c.args.read.now.gates) c.in_ok-graph.scalar c.in_ok-made.made.scalar c.gates.ensures.few
+    c.in_ok-graph.ensures.small c.in_ok-made.ensures.small

@@ -1,12 +1,17 @@
 -- Cleanup of what teleporting phases makes.
-use Rattle.std.proofs.Common.{map}
+use Rattle.std.proofs.Common.{map, arith}
+use Rattle.zx_model.specs.Scalar.{most_root2, product_of_scalars}
 use Rattle.zx_model.proofs.ProportionalLemmas.{proportional_sym}
+use Rattle.zx_model.proofs.Scalars.{within_more, within_product}
+use Rattle.zx_gates.specs.Circuit.{gate_bound}
 use Rattle.zx_gates.specs.Maps.{amp}
 use Rattle.zx_reduce.specs.Steps.{step_named}
+use Rattle.zx_teleport.specs.Scalars.{most_teleported_root2}
+use Rattle.zx_run.proofs.CandidateLemmas.{candidate-teleported}
 use Rattle.zx_run.proofs.optimiser.teleported.Goals as goal
 
-pub returns : goal.returns
-returns c =
+pub returns-clause-cleanup : goal.returns-clause-cleanup
+returns-clause-cleanup c =
     let read = c.args.read.now in
     let found = c.in_ok-found.found in
     let made = c.in_ok-found.ensures in
@@ -34,3 +39,17 @@ returns c =
         two_qubit = c.tidy.ensures.two_qubit;
       };
     }
+
+pub returns-clause-candidate : goal.returns-clause-candidate
+unfolding returns-clause-cleanup
+returns-clause-candidate c =
+    let found = c.in_ok-found.found in
+    let made = c.in_ok-found.ensures in
+    let t = returns-clause-cleanup c in
+    candidate-teleported c.args.read.now found.gates (record { gates = c.tidy.new.g; scalar = c.times-scalar.result }) found.scalar c.tidy.result
+    t.teleports t.cleanup made.scalar made.small c.tidy.ensures.scaled c.tidy.ensures.small c.times-scalar.ensures
+
+pub times-scalar-requires : goal.times-scalar-requires
+times-scalar-requires c =
+    within_more _ most_root2 (product_of_scalars c.in_ok-found.found.scalar c.tidy.result)
+    (within_product most_teleported_root2 gate_bound c.in_ok-found.found.scalar c.tidy.result c.in_ok-found.ensures.small c.tidy.ensures.small) (omega arith)

@@ -10,7 +10,7 @@ pub returns-in-Some-Optimise-clause-failure : goal.returns-in-Some-Optimise-clau
 returns-in-Some-Optimise-clause-failure g c =
     let before : ToldSource = told_source g.S.Source.left g.S.Source.faults c.args.source.now in
     let after : ToldSource = told_source g.S.Source.left g.S.Source.faults c.output_of_opt.new.source in
-    let given : ◌≡◌ {A = Option Command} (Some (Optimise c.in-Some-Optimise.best c.in-Some-Optimise.report)) (command_in c.args.words.now) = search rules in
+    let given : ◌≡◌ {A = Option Command} (Some (Optimise c.in-Some-Optimise.best c.in-Some-Optimise.report c.in-Some-Optimise.scalar)) (command_in c.args.words.now) = search rules in
     subst (λ o. IfErr c.output_of_opt.result (IsFailure o before after)) given c.output_of_opt.ensures.failure
 
 pub returns-in-Some-Teleport-clause-failure : goal.returns-in-Some-Teleport-clause-failure

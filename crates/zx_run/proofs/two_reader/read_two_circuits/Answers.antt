@@ -1,5 +1,5 @@
 -- What fails is the reading of the bytes, or what they say.
-use Rattle.std.proofs.Common.{◌≡◌, ℕ, List, [], Some, IfErr, inl, sym, subst, ◌∙◌}
+use Rattle.std.proofs.Common.{IfErr, inl, sym, subst, ◌∙◌}
 use Rattle.std.proofs.lemmas.Result.{err_from_is_err_and, IfErr-weaker}
 use Rattle.zx_run.specs.declared.status.Status.{Status}
 use Rattle.zx_run.specs.TwoTexts.{IsFirstFaultOfTwo}

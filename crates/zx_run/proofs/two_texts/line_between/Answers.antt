@@ -1,9 +1,7 @@
 -- What was passed has no such line.
-use Rattle.std.proofs.Common.{◌≡◌, ◌≤◌, ◌++◌, ◌+◌, ℕ, List, true, false, true≢false, length, take, drop, ap, sym, subst, ◌∙◌, arith}
+use Rattle.std.proofs.Common.{true≢false, sym, ◌∙◌, arith}
 use Rattle.std.proofs.lemmas.List.{length-take-le}
 use Rattle.std.proofs.lemmas.Bool.Decides.{Decides-eqb}
-use Rattle.qasm_lexer.specs.Taken.{AreLines}
-use Rattle.zx_run.specs.TwoTexts.{parting_line, IsParted, AreTexts}
 use Rattle.zx_run.proofs.PartingLemmas.{are_lines_up_to, lines_up_to, parted_at, no_earlier, ends_inside}
 use Rattle.zx_run.proofs.two_texts.line_between.Goals as goal
 use Rattle.zx_run.proofs.two_texts.line_between.Goals.{else-begins-via-then-begins+else-is_line_at, else-begins-via-else-begins}

@@ -1,5 +1,6 @@
 -- From the circuit to its graph, and on.
-use Rattle.std.proofs.Common.{length, map, ◌∙◌, subst, le_trans}
+use Rattle.std.proofs.Common.{length, map, sym, ◌∙◌, subst, le_trans}
+use Rattle.zx_model.specs.Scalar.{IsWithin}
 use Rattle.zx_calculus.specs.Counts.{odd_phases}
 use Rattle.zx_calculus.specs.Graph.{Graph}
 use Rattle.zx_calculus.specs.Steps.{IsRun}
@@ -7,7 +8,8 @@ use Rattle.zx_calculus.specs.Sum.{sum}
 use Rattle.zx_gates.specs.Circuit.{gate_odd_phases}
 use Rattle.zx_gates.specs.Maps.{amp}
 use Rattle.zx_reduce.specs.Steps.{step_named}
-use Rattle.zx_same.proofs.Comparisons.{from_circuit, bound_rises}
+use Rattle.zx_same.specs.Internal.Simplifying.{most_left_root2}
+use Rattle.zx_same.proofs.Comparisons.{from_circuit, scaled_whole, small_whole, bound_rises}
 use Rattle.zx_same.proofs.comparing.simplified.Goals as goal
 
 pub returns : goal.returns
@@ -25,6 +27,8 @@ returns c =
       kept = from_circuit circuit.qubits (length start.inputs) (length start.outputs) start (amp circuit.gates) (sum made.reduced.graph) f.inputs f.outputs f.map r.reduced_map;
       qubits = r.qubits ∙ f.outputs;
       map = from_circuit circuit.qubits (length start.outputs) (length start.outputs) start (amp circuit.gates) (amp made.gates.gates) f.outputs f.outputs f.map r.map;
+      scaled = scaled_whole circuit.qubits (length start.outputs) (amp circuit.gates) (sum start) (amp made.gates.gates) _ _ _ f.outputs f.scaled r.scalar c.times-made.ensures;
+      small = subst (IsWithin most_left_root2) (sym c.times-made.ensures) (small_whole (length circuit.gates) c.in_ok-graph.scalar made.scalar c.gates.ensures.few f.small r.small);
       tidy = r.tidy;
       odd = le_trans r.odd (le_trans r.fewer f.odd);
       few = bound_rises circuit.qubits (length start.outputs) (odd_phases start) (gate_odd_phases circuit.gates) (length made.gates.gates) f.outputs f.odd r.few_gates;

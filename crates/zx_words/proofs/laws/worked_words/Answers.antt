@@ -8,6 +8,12 @@ returns-clause-plain c = refl
 pub returns-clause-flags : goal.returns-clause-flags
 returns-clause-flags c = refl
 
+pub returns-clause-scalar : goal.returns-clause-scalar
+returns-clause-scalar c = refl
+
+pub returns-clause-scalar_twice : goal.returns-clause-scalar_twice
+returns-clause-scalar_twice c = refl
+
 pub returns-clause-twice : goal.returns-clause-twice
 returns-clause-twice c = refl
 

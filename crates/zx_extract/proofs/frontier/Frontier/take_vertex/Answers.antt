@@ -4,7 +4,6 @@ use Rattle.zx_extract.specs.Internal.Frontiers.{state_of}
 use Rattle.zx_extract.proofs.LastVertex.{only_YZ}
 use Rattle.zx_extract.proofs.Taking.{none_free, legs_last, legs_none, legs_plane, gadget_taken}
 use Rattle.zx_extract.proofs.frontier.Frontier.take_vertex.Goals as goal
-use Rattle.std.proofs.lemmas.Result.{on_ok_weaker}
 
 pub take_legs-requires-clause-free : goal.take_legs-requires-clause-free
 take_legs-requires-clause-free c = none_free (state_of c.args.self.now) c.args.v c.requires.ready c.in-None.ensures.none
@@ -22,12 +21,12 @@ pub take_gadget-requires-clause-alone : goal.take_gadget-requires-clause-alone
 take_gadget-requires-clause-alone c = legs_none (state_of c.args.self.now) c.args.v (state_of c.take_legs.new.self)
     c.requires.last c.in_ok-take_legs-in-None.ensures.taken c.in-None.ensures.none
 
-pub returns-in_ok-take_legs-in-None-clause-taken : goal.returns-in_ok-take_legs-in-None-clause-taken
-returns-in_ok-take_legs-in-None-clause-taken c = on_ok_weaker c.take_gadget.result (λ step.
+pub returns-in_ok-take_gadget-in-None-clause-taken : goal.returns-in_ok-take_gadget-in-None-clause-taken
+returns-in_ok-take_gadget-in-None-clause-taken c =
     (gadget_taken (state_of c.args.self.now) c.args.v (state_of c.take_legs.new.self)
-    (state_of c.take_gadget.new.self) c.in_ok-take_legs-in-None.ensures.taken step).0) c.take_gadget.ensures
+    (state_of c.take_gadget.new.self) c.in_ok-take_legs-in-None.ensures.taken c.in_ok-take_gadget-in-None.ensures).0
 
-pub returns-in_ok-take_legs-in-None-clause-shorter : goal.returns-in_ok-take_legs-in-None-clause-shorter
-returns-in_ok-take_legs-in-None-clause-shorter c = on_ok_weaker c.take_gadget.result (λ step.
+pub returns-in_ok-take_gadget-in-None-clause-shorter : goal.returns-in_ok-take_gadget-in-None-clause-shorter
+returns-in_ok-take_gadget-in-None-clause-shorter c =
     (gadget_taken (state_of c.args.self.now) c.args.v (state_of c.take_legs.new.self)
-    (state_of c.take_gadget.new.self) c.in_ok-take_legs-in-None.ensures.taken step).1) c.take_gadget.ensures
+    (state_of c.take_gadget.new.self) c.in_ok-take_legs-in-None.ensures.taken c.in_ok-take_gadget-in-None.ensures).1

@@ -1,4 +1,4 @@
-use Rattle.std.proofs.Common.{sym, ◌∙◌, ap, ltb, List, ℕ, length}
+use Rattle.std.proofs.Common.{sym, ◌∙◌, ap, ltb, List, length}
 use Rattle.std.specs.Prelude.{count_by}
 use Rattle.zx_calculus.specs.Graph.{in_order}
 use Rattle.gflow_laws.specs.Flow.{Correction, is_in}

@@ -1,7 +1,7 @@
 -- A gate more is seen.
 use Rattle.std.proofs.Common.{rules, ◌≡◌, ◌<◌, ◌++◌, [], ◌∷◌, length, refl, subst, sym}
 use Rattle.std.proofs.lemmas.Result.{on_ok_weaker}
-use Rattle.zx_pieces.specs.Internal.Walking.{AreWalked, IsBlocking, IsWalk}
+use Rattle.zx_pieces.specs.Internal.Walking.{IsBlocking}
 use Rattle.zx_pieces.proofs.Walks.{after_taken, after_passed, on_both, walked_same}
 use Rattle.zx_pieces.proofs.walking.Walk.read.Goals as goal
 

@@ -1,5 +1,5 @@
 -- The steps one after the other.
-use Rattle.std.proofs.Common.{◌≡◌, ◌∙◌, sym, ap, subst, List, ◌++◌, map, add-one, arith}
+use Rattle.std.proofs.Common.{◌≡◌, ◌∙◌, sym, ap, subst, List, length, ◌++◌, map, add-one, arith}
 use Rattle.zx_model.specs.Bits.{member}
 use Rattle.zx_reduce.specs.declared.step.Step.{Step}
 use Rattle.zx_reduce.specs.Steps.{step_named}
@@ -8,6 +8,8 @@ use Rattle.zx_reduce.specs.Internal.Planning.{AreAllowed}
 use Rattle.zx_reduce.proofs.Guided.{candidates_all, candidates_but}
 use Rattle.zx_reduce.proofs.MoveSteps.{steps_allowed}
 use Rattle.zx_reduce.proofs.MovesMade.{begun, next_allowed, next_done, all_done}
+use Rattle.zx_reduce.specs.Internal.Scaling.{Scales}
+use Rattle.zx_reduce.proofs.Scaling.{scales_none, scales_more, scales_next, few_fit, steps_six, twelve}
 use Rattle.zx_reduce.proofs.working.Working.make.Goals as goal
 
 pub loop-step-init : goal.loop-step-init
@@ -21,6 +23,7 @@ loop-step-init c =
           (subst (AreAllowed c.args.self.now.graph.graph) (sym planned)
           (steps_allowed c.args.self.now.graph.graph c.args.m.now c.requires.guided.valid c.requires.applies
           c.requires.first));
+      scales = subst (λ t. Scales c.args.self.now.graph.graph 0 t c.args.self.now.graph.graph) (sym c.one-scalar.ensures) (scales_none c.args.self.now.graph.graph);
       guided = record {
         valid = c.requires.guided.valid;
         flow = c.requires.guided.flow;
@@ -34,8 +37,20 @@ loop-step-preserved c = record {
   planned = c.loop-step.invariant.planned;
   way = rw add-one (next_done c.step-item.result c.loop-step.invariant.way c.loop-step-test.true c.step-item.is
       c.in_ok-do_step.ensures.step c.in_ok-do_step.ensures.trace);
+  scales = scales_next c.loop-step.step-index c.loop-step.invariant.scales c.in_ok-do_step.ensures.scalar c.times-scalar.ensures;
   guided = c.in_ok-do_step.ensures.guided;
 }
+
+pub times-scalar-requires : goal.times-scalar-requires
+times-scalar-requires c =
+    few_fit c.loop-step.step-index (length c.as_slice-step-items.result.now) c.loop-step.scalar c.in_ok-do_step.field-0
+    (steps_six c.args.self.now.graph.graph c.args.m.now c.as_slice-step-items.result.now c.loop-step.invariant.planned) c.loop-step-test.true
+    c.loop-step.invariant.scales.small c.in_ok-do_step.ensures.scalar.small
+
+pub returns-clause-scalar : goal.returns-clause-scalar
+returns-clause-scalar c =
+    scales_more 12 c.loop-step.invariant.scales
+    (twelve c.loop-step.step-index (length c.as_slice-step-items.result.now) (steps_six c.args.self.now.graph.graph c.args.m.now c.as_slice-step-items.result.now c.loop-step.invariant.planned) (omega arith))
 
 pub do_step-requires-clause-allowed : goal.do_step-requires-clause-allowed
 do_step-requires-clause-allowed c =

@@ -1,0 +1,45 @@
+//! By which number the map of a circuit is that of another.
+
+ghost use Rattle.std.specs.Prelude.{◌≡◌, ◌*◌, IfOk, IfSome};
+ghost use Rattle.zx_model.specs.Scalar.{IsScaled, IsWithin};
+ghost use Rattle.zx_gates.specs.Circuit.{gate_bound};
+ghost use Rattle.zx_gates.specs.Maps.{amp};
+ghost use Rattle.zx_same.specs.Internal.UndoneScalar.{undone_scalar};
+
+use crate::comparing::{simplified, undone_by};
+use std::alloc::{AllocError, Global};
+use zx_gates::{GateList, counts};
+use zx_model::{Scalar, Sixteenth};
+
+/// By which number the map of a circuit is that of another, where simplification shows it: where the first
+/// followed by the inverse of the second is simplified to no gate. None says nothing.
+///
+/// # Errors
+///
+/// Only where memory runs out.
+pub fn quotient(alloc: Global, a: &GateList, b: &GateList) -> Result<Option<Scalar>, AllocError>
+    requires qubits { a.now.qubits ≡ b.now.qubits }
+    ensures { IfOk result (λ found. IfSome found (λ s.
+        IsScaled a.now.qubits a.now.qubits (amp a.now.gates) s (amp b.now.gates))) }
+{
+    // What `qubits` says of a circuit: its gates are on them.
+    prove!(b.qubits() <= 1_024);
+    let both = undone_by(a, b)?;
+    let found = simplified(alloc, &both)?;
+    if found.gates.gates().is_empty() {
+        Ok(Some(found.scalar.over(undone_scalar(b))))
+    } else {
+        Ok(None)
+    }
+}
+
+// By which number a circuit followed by its inverse is the identity.
+fn undone_scalar(circuit: &GateList) -> Scalar
+    ensures value { result ≡ undone_scalar circuit.now.gates }
+    ensures small { IsWithin (2 * gate_bound) result }
+{
+    Scalar {
+        root2: 2 * counts(circuit).h as i64,
+        turn: Sixteenth::new(0),
+    }
+}

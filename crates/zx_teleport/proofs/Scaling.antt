@@ -1,0 +1,77 @@
+-- The scalars of steps that are done one after the other, and how large they are.
+use Rattle.std.proofs.Common.{◌≡◌, sym, subst, ℕ, ◌+◌, ◌*◌, ◌<◌, ◌≤◌, Bool, not, refl, List, [], length, filter, drop, map, arith}
+use borrow.Author.Differences.{ints}
+use Rattle.std.proofs.lemmas.List.Filters.{length-filter_both}
+use Rattle.zx_model.specs.Scalar.{IsWithin, most_root2, product_of_scalars, quotient_of_scalars}
+use Rattle.zx_model.specs.declared.scalar.Scalar.{Scalar}
+use Rattle.zx_model.proofs.Scalars.{within_product, within_more}
+use Rattle.zx_calculus.specs.Graph.{Vertex, Graph, WellFormed, is_XY}
+use Rattle.zx_calculus.specs.Steps.{IsRun}
+use Rattle.zx_calculus.specs.StepScalars.{IsSumTimes}
+use Rattle.zx_calculus.proofs.ReducedLemmas.{counts_within}
+use Rattle.zx_reduce.specs.declared.step.Step as named
+use Rattle.zx_reduce.specs.Steps.{step_named}
+use Rattle.zx_reduce.specs.Scaling.{memory_bound}
+use Rattle.zx_reduce.specs.Moving.{most_moves}
+use Rattle.zx_reduce.specs.Internal.Scaling.{Scales}
+use Rattle.zx_teleport.specs.Scalars.{most_teleported_root2}
+use Rattle.zx_teleport.specs.Internal.Scaling.{most_steps, HaveScalar}
+
+-- one step more
+pub next_fits : (i n : ℕ) (s t : Scalar) → n ≤ most_steps → i < n → IsWithin (2 * i) s → IsWithin 2 t → IsWithin most_root2 (product_of_scalars s t)
+next_fits i n s t few below p q = within_more (2 * i + 2) most_root2 (product_of_scalars s t) (within_product (2 * i) 2 s t p q) (fits i n few below)
+  where
+    fits : (i n : ℕ) → n ≤ most_steps → i < n → 2 * i + 2 ≤ most_root2
+    fits i n a b = omega (arith, a, b)
+
+-- all steps
+pub all_done : (g k : Graph) (steps : List named.Step) (i n : ℕ) (s : Scalar) → drop i steps ≡ [] → Scales g n s k →
+    ((h : Graph) → IsRun g (map step_named steps) h → IsRun k (map step_named (drop i steps)) h) → HaveScalar g (map step_named steps) s
+all_done g k steps i n s done scales left h run =
+    subst (IsSumTimes g s) (subst (λ xs. IsRun k (map step_named xs) h) done (left h run)) scales.sum
+
+pub twice : (i n : ℕ) (s : Scalar) → i ≤ n → IsWithin (2 * i) s → IsWithin (2 * n) s
+twice i n s few p = within_more (2 * i) (2 * n) s p (more i n few)
+  where
+    more : (i n : ℕ) → i ≤ n → 2 * i ≤ 2 * n
+    more i n a = omega (arith, a)
+
+-- the steps of a simplification
+filter_few : {X : Type 0} (p : X → Bool) (xs : List X) → length (filter p xs) ≤ length xs
+filter_few p xs = let both = length-filter_both p (λ x. not (p x)) (λ x. refl) xs in omega (arith, both)
+
+most_moves-few : (g : Graph) → WellFormed g → most_moves g ≤ 3 * length g.vertices
+most_moves-few g w = few _ _ _ _ (counts_within g w) (filter_few (λ (v : Vertex). not (is_XY v.kind.plane)) g.vertices)
+  where
+    few : (e o q n : ℕ) → e + o ≤ n → q ≤ n → 2 * e + q + 2 * o ≤ 3 * n
+    few e o q n a b = omega (arith, a, b)
+
+pub few_steps : (g k : Graph) (before after start end : ℕ) → k ≡ g → WellFormed g → before ≡ 0 → end ≤ start + most_moves k → after + 6 * start ≤ before + 6 * end → after ≤ 18 * length g.vertices
+few_steps g k before after start end same w none moves steps = few before after start end (most_moves k) (length g.vertices) none moves steps (subst (λ x. most_moves x ≤ 3 * length g.vertices) (sym same) (most_moves-few g w))
+  where
+    few : (before after start end moves n : ℕ) → before ≡ 0 → end ≤ start + moves → after + 6 * start ≤ before + 6 * end → moves ≤ 3 * n → after ≤ 18 * n
+    few before after start end moves n a b c d = omega (arith, a, b, c, d)
+
+few_seen : (n : ℕ) (steps seen : List named.Step) → seen ≡ steps → length steps ≤ 18 * n → length seen ≤ 18 * n
+few_seen n steps seen same few = subst (λ xs. length xs ≤ 18 * n) (sym same) few
+
+pub few_done : (n : ℕ) (steps seen : List named.Step) → n < memory_bound → seen ≡ steps → length steps ≤ 18 * n → length seen ≤ most_steps
+few_done n steps seen fits same few = below n (length seen) fits (few_seen n steps seen same few)
+  where
+    below : (n count : ℕ) → n < memory_bound → count ≤ 18 * n → count ≤ most_steps
+    below n count a b = omega (arith, a, b)
+
+-- the quotient of two
+within_quotient : (a b : ℕ) (s t : Scalar) → IsWithin a s → IsWithin b t → IsWithin (a + b) (quotient_of_scalars s t)
+within_quotient a b s t p q = omega (arith, ints, p, q)
+
+pub quotient_small : (n : ℕ) (steps seen : List named.Step) (s t : Scalar) → n < memory_bound → seen ≡ steps → length steps ≤ 18 * n → IsWithin (36 * n) s → IsWithin (2 * length seen) t →
+    IsWithin most_teleported_root2 (quotient_of_scalars s t)
+quotient_small n steps seen s t fits same few p q =
+    within_more (36 * n + 2 * length seen) most_teleported_root2 (quotient_of_scalars s t) (within_quotient (36 * n) (2 * length seen) s t p q) (below n (length seen) fits (few_seen n steps seen same few))
+  where
+    below : (n count : ℕ) → n < memory_bound → count ≤ 18 * n → 36 * n + 2 * count ≤ most_teleported_root2
+    below n count a b = omega (arith, a, b)
+
+pub quotient_fits : (s : Scalar) → IsWithin most_teleported_root2 s → IsWithin most_root2 s
+quotient_fits s p = within_more most_teleported_root2 most_root2 s p (omega arith)
