@@ -1,6 +1,7 @@
 //! Graphs that are written, with ample memory.
 
 use open_graph::{End, OpenGraph, Plane, VertexId};
+use std::alloc::Global;
 use std::process::Abort;
 use std::test::Fail;
 use zx_flow::{Flow, FlowTable};
@@ -26,18 +27,25 @@ fn give_ends(rt: &impl Abort, g: &mut OpenGraph, u: VertexId, v: VertexId) -> Re
     Ok(())
 }
 
+// The file of a graph without a flow is this text.
+fn is_written(rt: &impl Abort, alloc: Global, g: &OpenGraph, text: &[u8]) -> Result<(), Fail> {
+    let written = write_graph(alloc, g, None)?;
+    assert_eq!(rt; written.as_slice(), text);
+    Ok(())
+}
+
 #[test]
 fn the_graph_without_vertices_has_two_lines(rt: HostRuntime) -> Result<(), Fail> {
     let g = OpenGraph::new(rt.alloc());
-    assert_eq!(rt;
-        write_graph(rt.alloc(), &g, None)?.as_slice(),
-        b"zxg 2\nend\n".as_slice()
-    );
+    is_written(&rt, rt.alloc(), &g, b"zxg 2\nend\n")
+}
+
+#[test]
+fn the_flow_without_vertices_has_two_lines_more(rt: HostRuntime) -> Result<(), Fail> {
+    let g = OpenGraph::new(rt.alloc());
     let flow = Flow::of_table(&g, FlowTable::new(rt.alloc()))?;
-    assert_eq!(rt;
-        write_graph(rt.alloc(), &g, Some(&flow))?.as_slice(),
-        b"zxg 2\nflow\norder\nend\n".as_slice()
-    );
+    let written = write_graph(rt.alloc(), &g, Some(&flow))?;
+    assert_eq!(rt; written.as_slice(), b"zxg 2\nflow\norder\nend\n".as_slice());
     Ok(())
 }
 
@@ -65,14 +73,11 @@ fn remove(rt: &impl Abort, g: &mut OpenGraph, v: VertexId) {
 fn vertices_are_numbered_by_rising_id(rt: HostRuntime) -> Result<(), Fail> {
     let mut g = OpenGraph::new(rt.alloc());
     let middle = draw_path(&rt, &mut g)?;
-    assert_eq!(rt;
-        write_graph(rt.alloc(), &g, None)?.as_slice(),
-        b"zxg 2\nvertex 0 XY 0\nvertex 1 XZ 15\nvertex 2 XY 4\nvertex 3 YZ 2\nedge 0 1\nedge 0 3\nedge 1 2\nedge 2 3\ninput 0 plain\noutput 2 had\nend\n".as_slice()
-    );
+    let text =
+        b"zxg 2\nvertex 0 XY 0\nvertex 1 XZ 15\nvertex 2 XY 4\nvertex 3 YZ 2\nedge 0 1\nedge 0 3\nedge 1 2\nedge 2 3\ninput 0 plain\noutput 2 had\nend\n";
+    is_written(&rt, rt.alloc(), &g, text)?;
     remove(&rt, &mut g, middle);
-    assert_eq!(rt;
-        write_graph(rt.alloc(), &g, None)?.as_slice(),
-        b"zxg 2\nvertex 0 XY 0\nvertex 1 XY 4\nvertex 2 YZ 2\nedge 0 2\nedge 1 2\ninput 0 plain\noutput 1 had\nend\n".as_slice()
-    );
-    Ok(())
+    let text =
+        b"zxg 2\nvertex 0 XY 0\nvertex 1 XY 4\nvertex 2 YZ 2\nedge 0 2\nedge 1 2\ninput 0 plain\noutput 1 had\nend\n";
+    is_written(&rt, rt.alloc(), &g, text)
 }

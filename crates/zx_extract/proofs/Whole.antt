@@ -29,6 +29,7 @@ use Rattle.circuit_laws.proofs.Counts.{hadamards_odd}
 use Rattle.circuit_laws.proofs.Wires.{wires_end}
 use Rattle.circuit_laws.proofs.GateLists.{hadamards_few}
 use Rattle.zx_extract.specs.Extraction.{HasExactMap, most_extracted_gates}
+use Rattle.zx_extract.specs.Internal.Extracted.{IsExtracted, IsTakenApart}
 use Rattle.zx_extract.specs.Internal.Lists.{in_line}
 use Rattle.zx_extract.specs.Internal.Leading.{State, Leads, IsReady, IsFrontier, IsTaken}
 use Rattle.zx_extract.proofs.Leads.{leads_then, leads_within}
@@ -120,12 +121,6 @@ few_in_all n k marks settled p q p0 q0 taken crossed inputs a b c d e more_p mor
     sum_up n k half a b c d e f g = omega arith
 
 -- ---- the steps in a row
-pub record IsExtracted (doublings : ℕ) (g : Graph) (gates : List Gate) : Type 0 where
-  pub map : Proportional (length g.inputs) (length g.outputs) (sum g) (amp gates)
-  pub exact : HasExactMap doublings g gates
-  pub odd : gate_odd_phases gates ≤ odd_phases g
-  pub few : length gates ≤ most_extracted_gates (length g.outputs) (XY_without_output g) (not_XY g)
-
 module _ {doublings : ℕ} (s0 s1 s2 s3 s4 : State) (none : s0.gates ≡ []) (ends : length s0.graph.inputs ≡ length s0.graph.outputs)
     (marks : Leads s0 (length s0.graph.outputs) 0 0 s1)
     (settled : Leads s1 (length s1.graph.outputs * (length s1.graph.outputs - 1) / 2 + length s1.graph.outputs) 0 0 s2)
@@ -200,15 +195,13 @@ module _ {doublings : ℕ} (s0 s1 s2 s3 s4 : State) (none : s0.gates ≡ []) (en
     inputs4 : s4.graph.inputs ≡ s0.graph.inputs
     inputs4 = ap (λ (h : Graph). h.inputs) stays ∙ inputs3
 
-    pub as_many_inputs : length s4.graph.inputs ≡ length g.outputs
-    as_many_inputs = ap length inputs4 ∙ ends ∙ ap (λ (h : Graph). length h.outputs) given
-
-    pub circuit_is : (gates : List Gate) → gates ≡ hadamards_from 0 s4.graph.inputs ++ s4.gates → IsExtracted doublings g gates
-    circuit_is gates is = subst (IsExtracted doublings g) (sym (is ∙ ap (λ es. hadamards_from 0 es ++ s4.gates) inputs4))
-        (subst (λ h. IsExtracted doublings h (hadamards_from 0 s0.graph.inputs ++ s4.gates)) given extracted)
-
-    pub on_all_inputs : All (IsOnQubits (length s4.graph.inputs)) s4.gates
-    on_all_inputs = subst (λ es. All (IsOnQubits (length es)) s4.gates) (sym inputs4) on_inputs
+    pub taken_apart : IsTakenApart doublings g s4
+    taken_apart = record {
+      extracted = subst (λ es. IsExtracted doublings g (hadamards_from 0 es ++ s4.gates)) (sym inputs4)
+          (subst (λ h. IsExtracted doublings h (hadamards_from 0 s0.graph.inputs ++ s4.gates)) given extracted);
+      on_qubits = subst (λ es. All (IsOnQubits (length es)) s4.gates) (sym inputs4) on_inputs;
+      qubits = ap length inputs4 ∙ ends ∙ ap (λ (h : Graph). length h.outputs) given;
+    }
 
 -- gates that are kept backwards
 pub All-backwards : (P : Gate → Type 0) (gates : List Gate) → All P (reverse gates) → All P gates

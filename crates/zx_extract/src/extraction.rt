@@ -1,6 +1,6 @@
 //! The circuit of a graph with a flow.
 
-ghost use Rattle.std.specs.Prelude.{◌≡◌, ◌≢◌, ◌<◌, ◌≤◌, ◌*◌, ℕ, pos, length, IfOk};
+ghost use Rattle.std.specs.Prelude.{◌≡◌, ◌≢◌, ◌<◌, ◌≤◌, ◌*◌, ℕ, pos, [], length, IfOk};
 ghost use Rattle.zx_model.specs.Proportional.{Proportional};
 ghost use Rattle.zx_model.specs.Scalar.{IsScaled, IsWithin};
 ghost use Rattle.zx_calculus.specs.Graph.{plane_of, Live};
@@ -12,6 +12,8 @@ ghost use Rattle.zx_gates.specs.Circuit.{most_qubits, gate_odd_phases};
 ghost use Rattle.zx_gates.specs.Maps.{amp};
 ghost use Rattle.zx_calculus.specs.StepScalars.{most_vertices};
 ghost use Rattle.zx_extract.specs.Extraction.{most_extracted_gates};
+ghost use Rattle.zx_extract.specs.Internal.Extracted.{IsTakenApart};
+ghost use Rattle.zx_extract.specs.Internal.Frontiers.{state_of};
 
 use crate::frontier::Frontier;
 use open_graph::OpenGraph;
@@ -47,12 +49,30 @@ pub fn extract(alloc: Global, g: OpenGraph, f: Flow) -> Result<(GateList, Scalar
         most_extracted_gates (length g.graph.outputs) (XY_without_output g.graph) (not_XY g.graph)) }
 {
     let mut frontier = Frontier::begin(alloc, g, &f)?;
-    frontier.take_marks()?;
-    frontier.settle_all()?;
-    let doublings = frontier.take_vertices()?;
-    frontier.uncross()?;
+    let doublings = frontier.take_all()?;
     let gates = frontier.into_circuit()?;
     Ok((gates, doubled(doublings)))
+}
+
+impl Frontier {
+    // Takes off all gates but the Hadamards of the inputs, and answers how often the sum is doubled.
+    fn take_all(&mut self) -> Result<u64, AllocError>
+        requires flow { IsFlow self.old.graph.graph self.old.flow.flow }
+        requires planes { (v : ℕ) → Live self.old.graph.graph v →
+            plane_of self.old.graph.graph v ≢ zx.XZ }
+        requires ends { length self.old.graph.graph.inputs ≡ length self.old.graph.graph.outputs }
+        requires few { length self.old.graph.graph.outputs ≤ most_qubits }
+        requires few_vertices { length self.old.graph.graph.vertices < most_vertices }
+        requires none { self.old.gates.items ≡ [] }
+        ensures { IfOk result (λ doublings.
+            IsTakenApart doublings self.old.graph.graph (state_of self.new)) }
+    {
+        self.take_marks()?;
+        self.settle_all()?;
+        let doublings = self.take_vertices()?;
+        self.uncross()?;
+        Ok(doublings)
+    }
 }
 
 // The scalar of a sum that was doubled so often.

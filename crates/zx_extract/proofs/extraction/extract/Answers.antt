@@ -1,76 +1,57 @@
--- What holds of all gates.
-use Rattle.std.proofs.Common.{◌≡◌, ◌≢◌, ◌≤◌, ◌∙◌, ℕ, ap, sym, subst, length, reverse, ◌+◌, ◌*◌, ◌<◌, mul-le-mul_left, arith}
+-- The frontier begins as the graph.
+use Rattle.std.proofs.Common.{◌≡◌, ◌≢◌, ◌≤◌, ◌∙◌, ℕ, ◌*◌, ◌<◌, ◌++◌, ap, sym, subst, length, mul-le-mul_left, arith}
 use Rattle.zx_calculus.specs.Graph.{XZ, Graph, Live, plane_of}
-use Rattle.zx_gates.specs.Circuit.{IsOnQubits, most_qubits}
-use Rattle.zx_extract.specs.Internal.Frontiers.{state_of}
 use Rattle.zx_model.specs.Scalar.{IsScaled, IsWithin}
 use Rattle.zx_calculus.specs.Counts.{not_XY}
-use Rattle.zx_calculus.specs.Sum.{sum}
-use Rattle.zx_gates.specs.Maps.{amp}
 use Rattle.zx_calculus.specs.StepScalars.{most_vertices}
-use Rattle.zx_extract.proofs.Taking.{doubled_few, few_not_XY}
-use Rattle.zx_extract.proofs.Whole.{IsExtracted, exact_scaled, as_many_inputs, circuit_is, on_all_inputs, All-backwards}
+use Rattle.zx_calculus.specs.Sum.{sum}
+use Rattle.zx_gates.specs.Circuit.{IsOnQubits, most_qubits}
+use Rattle.zx_gates.specs.Maps.{amp}
+use Rattle.zx_extract.specs.Internal.Extracted.{IsExtracted, IsTakenApart}
+use Rattle.zx_extract.specs.Internal.Frontiers.{state_of}
+use Rattle.zx_extract.proofs.Taking.{few_not_XY}
+use Rattle.zx_extract.proofs.Whole.{exact_scaled, All-backwards}
 use Rattle.zx_extract.proofs.extraction.extract.Goals as goal
 
-pub take_marks-requires-clause-planes : goal.take_marks-requires-clause-planes
-take_marks-requires-clause-planes c =
+pub take_all-requires-clause-planes : goal.take_all-requires-clause-planes
+take_all-requires-clause-planes c =
     subst (λ (g : Graph). (v : ℕ) → Live g v → plane_of g v ≢ XZ) (sym c.in_ok-frontier.ensures.graph) c.requires.planes
 
-pub take_marks-requires-clause-few : goal.take_marks-requires-clause-few
-take_marks-requires-clause-few c =
+pub take_all-requires-clause-ends : goal.take_all-requires-clause-ends
+take_all-requires-clause-ends c =
+    subst (λ (g : Graph). length g.inputs ≡ length g.outputs) (sym c.in_ok-frontier.ensures.graph) c.requires.ends
+
+pub take_all-requires-clause-few : goal.take_all-requires-clause-few
+take_all-requires-clause-few c =
     subst (λ (g : Graph). length g.outputs ≤ most_qubits) (sym c.in_ok-frontier.ensures.graph) c.requires.few
+
+pub take_all-requires-clause-few_vertices : goal.take_all-requires-clause-few_vertices
+take_all-requires-clause-few_vertices c =
+    subst (λ (g : Graph). length g.vertices < most_vertices) (sym c.in_ok-frontier.ensures.graph) c.requires.few_vertices
 
 pub into_circuit-requires-clause-on_qubits : goal.into_circuit-requires-clause-on_qubits
 into_circuit-requires-clause-on_qubits c =
-    All-backwards (IsOnQubits (length c.uncross.new.self.graph.graph.inputs)) c.uncross.new.self.gates.items
-    (on_all_inputs (state_of c.in_ok-frontier.frontier) (state_of c.take_marks.new.self)
-    (state_of c.settle_all.new.self) (state_of c.take_vertices.new.self) (state_of c.uncross.new.self)
-    (ap reverse c.in_ok-frontier.ensures.gates) (subst (λ g. length g.inputs ≡ length g.outputs)
-    (sym c.in_ok-frontier.ensures.graph) c.requires.ends)
-    c.in_ok-take_marks.ensures.leads c.in_ok-settle_all.ensures.leads c.in_ok-doublings.ensures.taken
-    c.in_ok-doublings.ensures.all c.in_ok-uncross.ensures.leads c.in_ok-uncross.ensures.formed
-    c.args.g.graph c.in_ok-frontier.ensures.graph c.in_ok-uncross.ensures.graph)
+    All-backwards (IsOnQubits (length c.take_all.new.self.graph.graph.inputs)) c.take_all.new.self.gates.items c.in_ok-doublings.ensures.on_qubits
 
-pub take_vertices-requires-clause-few : goal.take_vertices-requires-clause-few
-take_vertices-requires-clause-few c =
-    few _ _ _ _ c.in_ok-settle_all.ensures.leads.others c.in_ok-take_marks.ensures.leads.others
-    (ap not_XY c.in_ok-frontier.ensures.graph) (few_not_XY c.args.g.graph) c.requires.few_vertices
-  where
-    few : (a b d n : ℕ) → a + 0 ≡ b → b + 0 ≡ d → {m : ℕ} → d ≡ m → m ≤ n → n < most_vertices → a < most_vertices
-    few a b d n e f g h i = omega (arith, e, f, g, h, i)
+pub into_circuit-requires-clause-few : goal.into_circuit-requires-clause-few
+into_circuit-requires-clause-few c =
+    subst (λ n. n ≤ most_qubits) (sym (c.in_ok-doublings.ensures.qubits ∙ ap (λ (g : Graph). length g.outputs) c.in_ok-frontier.ensures.graph)) c.requires.few
 
 -- the sum is doubled no more often than the graph has vertices that aren't XY
-twice_few : (a b d n m : ℕ) → m ≤ a → a + 0 ≡ b → b + 0 ≡ d → d ≡ n → m ≤ n
-twice_few a b d n m e f g h = omega (arith, e, f, g, h)
-
 pub doubled-requires : goal.doubled-requires
 doubled-requires c =
-    below _ _ _
-    (twice_few _ _ _ _ _ (doubled_few c.in_ok-doublings.ensures.taken) c.in_ok-settle_all.ensures.leads.others c.in_ok-take_marks.ensures.leads.others (ap not_XY c.in_ok-frontier.ensures.graph))
-    (few_not_XY c.args.g.graph) c.requires.few_vertices
+    few _ _ _ c.in_ok-doublings.ensures.extracted.exact.few (ap not_XY c.in_ok-frontier.ensures.graph) (few_not_XY c.args.g.graph) c.requires.few_vertices
   where
-    below : (m n v : ℕ) → m ≤ n → n ≤ v → v < most_vertices → m < most_vertices
-    below m n v e f g = omega (arith, e, f, g)
+    few : (m n o : ℕ) → m ≤ n → n ≡ o → {v : ℕ} → o ≤ v → v < most_vertices → m < most_vertices
+    few m n o e f g h = omega (arith, e, f, g, h)
 
 pub returns : goal.returns
 returns c =
+    let t = subst (λ g. IsTakenApart c.in_ok-doublings.doublings g (state_of c.take_all.new.self)) c.in_ok-frontier.ensures.graph c.in_ok-doublings.ensures in
     let made : IsExtracted c.in_ok-doublings.doublings c.args.g.graph c.in_ok-gates.gates.gates =
-    circuit_is (state_of c.in_ok-frontier.frontier) (state_of c.take_marks.new.self) (state_of c.settle_all.new.self)
-    (state_of c.take_vertices.new.self) (state_of c.uncross.new.self)
-    (ap reverse c.in_ok-frontier.ensures.gates) (subst (λ g. length g.inputs ≡ length g.outputs)
-    (sym c.in_ok-frontier.ensures.graph) c.requires.ends)
-    c.in_ok-take_marks.ensures.leads c.in_ok-settle_all.ensures.leads c.in_ok-doublings.ensures.taken
-    c.in_ok-doublings.ensures.all c.in_ok-uncross.ensures.leads c.in_ok-uncross.ensures.formed
-    c.args.g.graph c.in_ok-frontier.ensures.graph c.in_ok-uncross.ensures.graph c.in_ok-gates.gates.gates c.in_ok-gates.ensures.gates in
+    subst (IsExtracted c.in_ok-doublings.doublings c.args.g.graph) (sym c.in_ok-gates.ensures.gates) t.extracted in
     record {
-      qubits = c.in_ok-gates.ensures.qubits
-          ∙ as_many_inputs (state_of c.in_ok-frontier.frontier) (state_of c.take_marks.new.self)
-          (state_of c.settle_all.new.self) (state_of c.take_vertices.new.self) (state_of c.uncross.new.self)
-          (ap reverse c.in_ok-frontier.ensures.gates) (subst (λ g. length g.inputs ≡ length g.outputs)
-          (sym c.in_ok-frontier.ensures.graph) c.requires.ends)
-          c.in_ok-take_marks.ensures.leads c.in_ok-settle_all.ensures.leads c.in_ok-doublings.ensures.taken
-          c.in_ok-doublings.ensures.all c.in_ok-uncross.ensures.leads c.in_ok-uncross.ensures.formed
-          c.args.g.graph c.in_ok-frontier.ensures.graph c.in_ok-uncross.ensures.graph;
+      qubits = c.in_ok-gates.ensures.qubits ∙ t.qubits;
       map = made.map;
       scalar = subst (λ s. IsScaled (length c.args.g.graph.inputs) (length c.args.g.graph.outputs) (sum c.args.g.graph) s (amp c.in_ok-gates.gates.gates)) (sym c.doubled.ensures)
           (exact_scaled c.in_ok-doublings.doublings c.args.g.graph c.in_ok-gates.gates.gates made.exact);

@@ -1,0 +1,26 @@
+-- What gates are to the graph off which they were taken.
+use Rattle.std.specs.Prelude.{◌≡◌, ◌≤◌, ℕ, List, ◌++◌, length}
+use Rattle.std.specs.List.{All}
+use Rattle.zx_model.specs.Proportional.{Proportional}
+use Rattle.zx_calculus.specs.Graph.{Graph}
+use Rattle.zx_calculus.specs.Sum.{sum}
+use Rattle.zx_calculus.specs.Counts.{odd_phases, not_XY, XY_without_output}
+use Rattle.zx_gates.specs.Circuit.{IsOnQubits, gate_odd_phases}
+use Rattle.zx_gates.specs.Maps.{amp}
+use Rattle.zx_gates.specs.declared.gate.Gate.{Gate}
+use Rattle.circuit_laws.specs.Gates.{hadamards_from}
+use Rattle.zx_extract.specs.Extraction.{HasExactMap, most_extracted_gates}
+use Rattle.zx_extract.specs.Internal.Leading.{State}
+
+-- the gates are the circuit of g, whose sum is doubled so often
+pub record IsExtracted (doublings : ℕ) (g : Graph) (gates : List Gate) : Type 0 where
+  pub map : Proportional (length g.inputs) (length g.outputs) (sum g) (amp gates)
+  pub exact : HasExactMap doublings g gates
+  pub odd : gate_odd_phases gates ≤ odd_phases g
+  pub few : length gates ≤ most_extracted_gates (length g.outputs) (XY_without_output g) (not_XY g)
+
+-- all gates of g were taken off, but for the Hadamards of its inputs
+pub record IsTakenApart (doublings : ℕ) (g : Graph) (s : State) : Type 0 where
+  pub extracted : IsExtracted doublings g (hadamards_from 0 s.graph.inputs ++ s.gates)
+  pub on_qubits : All (IsOnQubits (length s.graph.inputs)) s.gates
+  pub qubits : length s.graph.inputs ≡ length g.outputs
