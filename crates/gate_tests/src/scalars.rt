@@ -122,3 +122,16 @@ fn lines_of_scalars(rt: HostRuntime) -> Result<(), Fail> {
     );
     Ok(())
 }
+
+// 2^62 is the greatest exponent of a product, and that of a scalar times one.
+#[test]
+fn the_greatest_exponent_is_taken(rt: HostRuntime) -> Result<(), Fail> {
+    let greatest = Scalar {
+        root2: 4_611_686_018_427_387_904,
+        turn: Sixteenth::new(3),
+    };
+    let product = greatest.times(Scalar::one());
+    assert!(rt; product.root2 == 4_611_686_018_427_387_904);
+    assert!(rt; product.turn.get() == 3);
+    Ok(())
+}
