@@ -1,6 +1,7 @@
-// Gates that Qiskit writes and the header hasn't, by Clifford gates and T. To use one, copy it into a text, behind its
-// include (rcccx with rc3x, cu with cu3). `tests/gates` compares each with its matrix, as Qiskit's library of standard
-// gates has it.
+// Gates that Qiskit and others write and the header hasn't, by Clifford gates and T. To use one, copy it into a text, behind
+// its include, with those that it is made of (rcccx with rc3x, c3x with c3z, cu with cu3, rxxyyzz and fsim with rxx and ryy).
+// `tests/gates` compares each with its matrix, as Qiskit's library of standard gates and the headers of the other tools
+// have it. `examples/more_gates.qasm` and `python/zxopt/library.qasm` are copies of each other.
 OPENQASM 2.0;
 include "qelib1.inc";
 
@@ -21,15 +22,33 @@ gate rc3x a,b,c,d {
     h d; t d; cx c,d; tdg d; h d;
 }
 gate rcccx a,b,c,d { rc3x a,b,c,d; }
+// by roots of T: without an ancilla, no circuit with whole numbers of sixteenth turns has more controls
+gate c3z a,b,c,d {
+    u1(pi/8) a; u1(pi/8) b; u1(pi/8) c; u1(pi/8) d;
+    cx a,b; u1(-pi/8) b; cx a,b;
+    cx b,c; u1(-pi/8) c; cx a,c; u1(pi/8) c; cx b,c; u1(-pi/8) c; cx a,c;
+    cx c,d; u1(-pi/8) d; cx b,d; u1(pi/8) d; cx c,d; u1(-pi/8) d; cx a,d; u1(pi/8) d;
+    cx c,d; u1(-pi/8) d; cx b,d; u1(pi/8) d; cx c,d; u1(-pi/8) d; cx a,d;
+}
+gate c3x a,b,c,d { h d; c3z a,b,c,d; h d; }
+gate zz a,b { rzz(pi/2) a,b; }
 
 // -- with angles: any whole number of sixteenth turns (pi/8)
 
+gate phase(lambda) q { u1(lambda) q; }
+gate rzq(n,d) q { u1(n*pi/d) q; }
 gate r(theta,phi) q { u3(theta,phi-pi/2,pi/2-phi) q; }
+gate u1q(theta,phi) q { u3(theta,phi-pi/2,pi/2-phi) q; }
 gate rxx(theta) a,b { h a; h b; rzz(theta) a,b; h a; h b; }
 gate ryy(theta) a,b { rx(pi/2) a; rx(pi/2) b; rzz(theta) a,b; rx(-pi/2) a; rx(-pi/2) b; }
 gate rzx(theta) a,b { h b; rzz(theta) a,b; h b; }
+gate rxxyyzz(alpha,beta,gamma) a,b { rxx(alpha) a,b; ryy(beta) a,b; rzz(gamma) a,b; }
 
-// -- with angles whose halves are taken: theta and phi+lambda have to be even numbers of sixteenth turns
+// -- with angles whose halves are taken: theta, phi of fsim, lambda of cphase, and phi+lambda have to be even numbers of
+// sixteenth turns
+
+gate cphase(lambda) a,b { cu1(lambda) a,b; }
+gate fsim(theta,phi) a,b { rxx(theta) a,b; ryy(theta) a,b; cu1(-phi) a,b; }
 
 // as in Qiskit's header; that of the language's first edition leaves out the first statement, which is another map
 gate cu3(theta,phi,lambda) c,t {

@@ -1,0 +1,53 @@
+"""zxopt: lowers the number of T gates in circuits of Clifford gates and phases of whole multiples of pi/8, written in
+OpenQASM 2.0.
+
+    import zxopt
+    better = zxopt.optimise(text)               # text in, text out
+    assert zxopt.same(text, better)             # a yes is always right
+
+This package stands outside of the proved program `zxopt`, and runs it. What is proved is about the text that the
+program reads and the text that it writes; what this package does before and behind that is tested, and not proved. The
+program is $ZXOPT, or the one that was built beside this package, or `zxopt` on the path.
+
+The functions are safe from several threads. `python3 -m zxopt` has the same and more as commands, and these modules
+stand beside: `zxopt.prepare` makes texts of the usual tools such that the program reads them; `zxopt.parts` optimises
+what can be of texts that the program refuses for a statement; `zxopt.batch` optimises many files on all processors;
+`zxopt.spelling` writes gates in other words.
+"""
+from __future__ import annotations
+
+from .commands import (
+    Counts,
+    GateCounts,
+    Optimised,
+    Scalar,
+    compile_diagram,
+    counts,
+    optimise,
+    optimise_counted,
+    same,
+    teleport,
+)
+from .faults import FAULTS, Fault, NoFlow, Refused
+from .program import find_program, run
+
+__version__ = "1.0.0"
+
+__all__ = [
+    "Counts",
+    "FAULTS",
+    "Fault",
+    "GateCounts",
+    "NoFlow",
+    "Optimised",
+    "Refused",
+    "Scalar",
+    "compile_diagram",
+    "counts",
+    "find_program",
+    "optimise",
+    "optimise_counted",
+    "run",
+    "same",
+    "teleport",
+]

@@ -1,0 +1,340 @@
+"""Optimises many files on all processors: `python3 -m zxopt batch FILES.. --to FOLDER`.
+
+A line for each file tells its T gates (odd phases: T, its square roots and their like) and its gates on two qubits, before
+and after, and the seconds that it took; a text that is refused is told with its place on standard error, and the
+others go on. This module stands outside of what is proved of the program, which it runs once for each file, or more
+often where a check is asked for or a time limit was met.
+"""
+from __future__ import annotations
+
+import argparse
+import csv
+import os
+import shutil
+import sys
+import time
+from concurrent.futures import ThreadPoolExecutor
+from dataclasses import dataclass
+from pathlib import Path
+from typing import IO, Any, Iterable, Iterator, List, Optional, Sequence, Tuple
+
+from . import cli, spelling
+from .commands import optimise_counted, same
+from .faults import Refused
+from .program import Program, find_program
+
+__all__ = ["Job", "Outcome", "Settings", "main", "optimise_file", "optimise_files", "plan"]
+
+_TOO_MANY_GATES = 19
+_SPELLERS = {"only-t": spelling.only_t, "by-cx": spelling.by_cx}
+
+
+@dataclass(frozen=True)
+class Job:
+    """A file that is read, and the file that is written for it."""
+
+    source: Path
+    target: Path
+
+
+@dataclass(frozen=True)
+class Settings:
+    """How files are optimised.
+
+    best: takes the best of several circuits. seconds: how long one call of the program may take; where `best` takes
+    longer, the file is optimised without it, with as many seconds again. check: asks `same` of each result.
+    prepare: each text goes through `zxopt.prepare` first, and what is checked is the text that this writes. parts: it
+    is optimised by `zxopt.parts`, where a part that takes longer than `seconds` is left as it was read; `same` can't be
+    asked of a text that the program refuses as a whole. spelled: `only-t` or `by-cx`, a spelling of what is written.
+    program: the program.
+    """
+
+    best: bool = True
+    seconds: Optional[float] = None
+    check: bool = False
+    prepare: bool = False
+    parts: bool = False
+    spelled: Optional[str] = None
+    program: Optional[Program] = None
+
+
+@dataclass(frozen=True)
+class Outcome:
+    """What became of a file.
+
+    state: `written`, `refused` (the text is) or `failed` (the program or the files are to blame); then nothing is
+    written, and `told` has the reason.
+    t, two_qubit, gates: counts before and after, or None where nothing is written.
+    seconds: how long it took, with the check.
+    best: whether the best of several circuits was taken, and not given up for its time.
+    check: `same`, `not shown`, `not checked`, or nothing where it wasn't asked for.
+    told: why nothing is written or a result wasn't checked, and how many changes and parts were made.
+    """
+
+    job: Job
+    state: str
+    seconds: float
+    t: Optional[Tuple[int, int]] = None
+    two_qubit: Optional[Tuple[int, int]] = None
+    gates: Optional[Tuple[int, int]] = None
+    best: bool = True
+    check: str = ""
+    told: str = ""
+
+    @property
+    def is_good(self) -> bool:
+        """Whether the file was written, and shown to be the same where that was asked for."""
+        return self.state == "written" and self.check in ("", "same")
+
+
+@dataclass(frozen=True)
+class _Written:
+    """A text that was made of another, with counts before and after, and what else is told of it."""
+
+    text: str
+    t: Tuple[int, int]
+    two_qubit: Tuple[int, int]
+    gates: Optional[Tuple[int, int]] = None
+    told: str = ""
+
+
+def plan(files: Iterable[str], to: str) -> List[Job]:
+    """Which file is written for each: it stands below the folder `to` as it stands below the deepest folder that all
+    files share, so no two of them have one target. Of a folder all files `*.qasm` below it are taken, but for those
+    below `to`.
+
+    Raises ValueError where there is no file, or one of them would be written over; FileNotFoundError where one
+    is missing.
+    """
+    sources = list(dict.fromkeys(_all_files(files, os.path.realpath(to))))
+    if not sources:
+        raise ValueError("there is no file to read")
+    shared = os.path.commonpath([os.path.dirname(source) for source in sources])
+    jobs = [Job(Path(source), Path(to, os.path.relpath(source, shared))) for source in sources]
+    read = {os.path.realpath(source) for source in sources}
+    for job in jobs:
+        if os.path.realpath(job.target) in read:
+            raise ValueError(f"{job.target} is a file that is read: name another folder")
+    return jobs
+
+
+def optimise_files(jobs: Sequence[Job], settings: Settings = Settings(), processes: int = 1) -> Iterator[Outcome]:
+    """Optimises files, so many of them at a time, and answers what became of each, in their order, as soon as that is
+    known. A text that is refused doesn't keep the others from going on."""
+    pool = ThreadPoolExecutor(max_workers=processes)
+    try:
+        for future in [pool.submit(optimise_file, job, settings) for job in jobs]:
+            yield future.result()
+    finally:
+        pool.shutdown(wait=True, cancel_futures=True)
+
+
+def optimise_file(job: Job, settings: Settings = Settings()) -> Outcome:
+    """Optimises a file, and answers what became of it, also where that is nothing."""
+    began = time.monotonic()
+    try:
+        text, changed = _prepared(job.source.read_bytes(), settings)
+        written, best = _optimised(text, settings)
+        job.target.parent.mkdir(parents=True, exist_ok=True)
+        cli.write_file(job.target, written.text)
+        check, unchecked = _checked(text, written.text, settings) if settings.check else ("", "")
+    except ValueError as refused:
+        return Outcome(job, "refused", time.monotonic() - began, told=cli.placed(job.source, refused))
+    except (MemoryError, OSError) as failed:
+        return Outcome(job, "failed", time.monotonic() - began, told=f"{job.source}: {failed}")
+    seconds = time.monotonic() - began
+    told = "; ".join(filter(None, (changed, written.told, unchecked)))
+    return Outcome(job, "written", seconds, written.t, written.two_qubit, written.gates, best, check, told)
+
+
+def main(argv: Optional[Sequence[str]] = None) -> int:
+    """The command `python3 -m zxopt batch` with these words, and its exit status."""
+    parser = _parser()
+    asked = parser.parse_args(argv)
+    if asked.parts and asked.spelled:
+        parser.error("other spellings are of circuits alone, and not of --parts")
+    return cli.guarded(lambda: _run(asked), "zxopt batch")
+
+
+def _parser() -> argparse.ArgumentParser:
+    parser = argparse.ArgumentParser(
+        prog="python3 -m zxopt batch",
+        description="Optimises many files of OpenQASM 2.0 on all processors, with a line for each: T gates (odd "
+        "phases) and gates on two qubits before and after, and seconds.",
+        epilog="Each file is written below FOLDER as it stands below the deepest folder that all files share. The exit "
+        "status is 1 where a file was refused or failed, or a check didn't say that it is the same.",
+    )
+    add = parser.add_argument
+    add("files", nargs="+", metavar="FILE", help="a file, or a folder of files *.qasm, also in folders below it")
+    add("--to", required=True, metavar="FOLDER", help="where the files are written")
+    add("--jobs", type=cli.positive_int, metavar="N", help="how many files at a time; else one for each processor")
+    add(
+        "--seconds",
+        type=cli.positive_seconds,
+        metavar="N",
+        help="a time limit for each: where the best circuit takes longer, one alone is made, with as many seconds again",
+    )
+    add("--best", action=argparse.BooleanOptionalAction, default=True, help="take the best of several circuits")
+    add("--check", action="store_true", help="ask of each file whether what is written is the same; a yes is always right")
+    add("--csv", metavar="FILE", help="write a table of all files, too")
+    add("--prepare", action="store_true", help="put each text into the program's form first, exactly")
+    add("--parts", action="store_true", help="optimise in parts what the program refuses as a whole; names are kept")
+    spelled = parser.add_mutually_exclusive_group()
+    for name, told in (("only-t", "write u1(3*pi/4) as s and t, and the like"), ("by-cx", "write by U and CX alone")):
+        spelled.add_argument(f"--{name}", dest="spelled", action="store_const", const=name, help=told)
+    return parser
+
+
+def _run(asked: argparse.Namespace) -> int:
+    program = find_program()
+    if shutil.which(program) is None:
+        raise FileNotFoundError(f"{program} is no program")
+    settings = Settings(asked.best, asked.seconds, asked.check, asked.prepare, asked.parts, asked.spelled, program)
+    jobs = plan(asked.files, asked.to)
+    began = time.monotonic()
+    outcomes = []
+    with open(asked.csv or os.devnull, "w", newline="", encoding="utf-8") as table:
+        rows = _begin_table(table)
+        for outcome in optimise_files(jobs, settings, min(asked.jobs or _processors(), len(jobs))):
+            outcomes.append(outcome)
+            _tell(outcome)
+            rows.writerow(_row(outcome))
+            table.flush()
+    print(_summary(outcomes, time.monotonic() - began, settings.check))
+    return 0 if all(outcome.is_good for outcome in outcomes) else 1
+
+
+def _all_files(files: Iterable[str], to: str) -> Iterator[str]:
+    """The files with their whole paths, those of folders among them but for those below `to`."""
+    for file in files:
+        whole = os.path.abspath(file)
+        if os.path.isdir(whole):
+            found = sorted(str(path) for path in Path(whole).rglob("*.qasm") if path.is_file())
+            yield from (path for path in found if not os.path.realpath(path).startswith(to + os.sep))
+        elif os.path.exists(whole):
+            yield whole
+        else:
+            raise FileNotFoundError(f"there is no file {file}")
+
+
+def _prepared(data: bytes, settings: Settings) -> Tuple[bytes, str]:
+    """A text as the program is to read it, and what is told of that."""
+    if not settings.prepare:
+        return data, ""
+    from .prepare import prepare
+
+    done = prepare(data)
+    return done.text.encode("utf-8", "replace"), _many(len(done.changes), "change", "changes") + " by prepare"
+
+
+def _optimised(text: bytes, settings: Settings) -> Tuple[_Written, bool]:
+    """What is made of a text, and whether the best of several circuits was taken."""
+    make = _in_parts if settings.parts else _as_a_whole
+    if settings.best:
+        try:
+            return make(text, True, settings), True
+        except TimeoutError:
+            pass
+    return make(text, False, settings), False
+
+
+def _as_a_whole(text: bytes, best: bool, settings: Settings) -> _Written:
+    made = optimise_counted(text, best, timeout=settings.seconds, program=settings.program)
+    read, written = made.counts.read, made.counts.written
+    spelled = _SPELLERS[settings.spelled](made.text) if settings.spelled else made.text
+    return _Written(
+        spelled, (read.odd, written.odd), (read.two_qubit, written.two_qubit), (read.gates, written.gates)
+    )
+
+
+def _in_parts(text: bytes, best: bool, settings: Settings) -> _Written:
+    from .parts import optimise_parts
+
+    program = None if settings.program is None else os.fspath(settings.program)
+    made = optimise_parts(text, best=best, timeout=settings.seconds, program=program)
+    told = f"{_many(made.parts, 'part', 'parts')}, {_many(made.kept, 'statement stays', 'statements stay')}"
+    t, two_qubit = (made.before.t, made.after.t), (made.before.two_qubit, made.after.two_qubit)
+    return _Written(made.text, t, two_qubit, told=told)
+
+
+def _checked(read: bytes, written: str, settings: Settings) -> Tuple[str, str]:
+    """What `same` says of both texts, and why it wasn't asked where that couldn't be done."""
+    try:
+        try:
+            is_same = same(read, written, timeout=settings.seconds, program=settings.program)
+        except Refused as refused:
+            # what is written isn't bound to the limit of calls, but is within it by other names
+            if refused.number != _TOO_MANY_GATES or refused.which != 2:
+                raise
+            is_same = same(read, spelling.by_cx(written), timeout=settings.seconds, program=settings.program)
+    except (ValueError, MemoryError, OSError) as why:
+        return "not checked", str(why)
+    return ("same" if is_same else "not shown"), ""
+
+
+def _tell(outcome: Outcome) -> None:
+    """The line of a file."""
+    sys.stdout.flush()
+    if outcome.t is None or outcome.two_qubit is None:
+        print(outcome.told, file=sys.stderr, flush=True)
+        return
+    ends = ["" if outcome.best else "not the best of several", outcome.check, outcome.told]
+    line = f"{outcome.job.source}: T {_change(outcome.t)}, two-qubit {_change(outcome.two_qubit)}, {outcome.seconds:.2f} s"
+    print(", ".join([line, *filter(None, ends)]), flush=True)
+
+
+def _summary(outcomes: Sequence[Outcome], seconds: float, is_checked: bool) -> str:
+    """The line of all files."""
+    states = [outcome.state for outcome in outcomes]
+    parts = [f"{states.count(state)} {state}" for state in ("written", "refused", "failed")]
+    said = f"{_many(len(outcomes), 'file', 'files')}: {', '.join(parts)}"
+    t = [outcome.t for outcome in outcomes if outcome.t]
+    two_qubit = [outcome.two_qubit for outcome in outcomes if outcome.two_qubit]
+    said += f"; T {_change(_sums(t))}, two-qubit {_change(_sums(two_qubit))}"
+    if is_checked:
+        checks = [outcome.check for outcome in outcomes]
+        said += "; " + ", ".join(f"{checks.count(check)} {check}" for check in ("same", "not shown", "not checked"))
+    return f"{said}; {seconds:.2f} s"
+
+
+def _change(both: Tuple[int, int]) -> str:
+    return f"{both[0]} -> {both[1]}"
+
+
+def _many(number: int, one: str, many: str) -> str:
+    return f"{number} {one if number == 1 else many}"
+
+
+def _sums(pairs: Iterable[Tuple[int, int]]) -> Tuple[int, int]:
+    whole = list(pairs)
+    return sum(before for before, _ in whole), sum(after for _, after in whole)
+
+
+_COLUMNS = ["file", "written", "state"]
+_COLUMNS += [f"{what}_{when}" for what in ("t", "two_qubit", "gates") for when in ("before", "after")]
+_COLUMNS += ["seconds", "best", "check", "told"]
+
+
+def _begin_table(table: IO[str]) -> Any:
+    rows = csv.writer(table, lineterminator="\n")
+    rows.writerow(_COLUMNS)
+    return rows
+
+
+def _row(outcome: Outcome) -> List[str]:
+    """The row of a file."""
+    nothing = ("", "")
+    target = str(outcome.job.target) if outcome.state == "written" else ""
+    row = [str(outcome.job.source), target, outcome.state]
+    for both in (outcome.t, outcome.two_qubit, outcome.gates):
+        row += map(str, both or nothing)
+    best = ("yes" if outcome.best else "no") if outcome.state == "written" else ""
+    return row + [f"{outcome.seconds:.3f}", best, outcome.check, outcome.told]
+
+
+def _processors() -> int:
+    """How many processors this process may use."""
+    try:
+        return len(os.sched_getaffinity(0))
+    except AttributeError:
+        return os.cpu_count() or 1

@@ -1,0 +1,104 @@
+"""What the commands of `python3 -m zxopt` have in common: texts in and out, and an exit status for each exception.
+
+The statuses are those of the program: 1 where a text is refused, 2 where the words are no command, 4 where standard
+output is closed, 5 where memory ran out, 6 where the answer is no, and 70 where the program couldn't be run, took
+too long, or a file couldn't be read or written.
+"""
+from __future__ import annotations
+
+import argparse
+import os
+import sys
+from pathlib import Path
+from typing import Callable, Optional, Union
+
+from .faults import NoFlow, Refused
+from .qasm import QasmError
+
+__all__ = ["guarded", "placed", "positive_int", "positive_seconds", "read_text", "write_file", "write_text"]
+
+REFUSED, NO_OUTPUT, NO_MEMORY, NO, UNABLE, INTERRUPTED = 1, 4, 5, 6, 70, 130
+
+
+def guarded(work: Callable[[], int], name: str = "zxopt", file: Optional[str] = None) -> int:
+    """Does some work, and answers its exit status; an exception is told on standard error instead, with its status.
+
+    name: what stands before what is told. file: which text may be refused, by its place.
+    """
+    if sys.stdout is None:
+        return _told(f"{name}: standard output is closed", NO_OUTPUT)
+    try:
+        status = work()
+        sys.stdout.flush()
+        return status
+    except BrokenPipeError:
+        # nothing more can be written, not even at the interpreter's end
+        os.dup2(os.open(os.devnull, os.O_WRONLY), sys.stdout.fileno())
+        return NO_OUTPUT
+    except NoFlow as no:
+        return _told(f"{name}: {no}", NO)
+    except ValueError as refused:
+        return _told(placed(file, refused) if file else f"{name}: {refused}", REFUSED)
+    except MemoryError as none:
+        return _told(str(none) or f"{name}: no memory", NO_MEMORY)
+    except OSError as failed:
+        return _told(f"{name}: {failed}", UNABLE)
+    except KeyboardInterrupt:
+        return _told(f"{name}: interrupted", INTERRUPTED)
+
+
+def read_text(file: Optional[str]) -> bytes:
+    """The bytes of a file, or of standard input for None and `-`."""
+    if file is None or file == "-":
+        if sys.stdin is None:
+            raise OSError("standard input is closed")
+        return sys.stdin.buffer.read()
+    return Path(file).read_bytes()
+
+
+def write_text(text: str, file: Optional[str]) -> None:
+    """Writes a text to a file, or to standard output for None and `-`."""
+    if file is None or file == "-":
+        sys.stdout.write(text)
+    else:
+        write_file(Path(file), text)
+
+
+def write_file(file: Path, text: str) -> None:
+    """Writes a file such that it has all of the text, or stays as it was."""
+    beside = file.with_name(f".{file.name}.{os.getpid()}.new")
+    try:
+        beside.write_bytes(text.encode("utf-8"))
+        os.replace(beside, file)
+    except BaseException:
+        beside.unlink(missing_ok=True)
+        raise
+
+
+def positive_int(word: str) -> int:
+    """A whole number above 0, for argparse."""
+    number = int(word)
+    if number < 1:
+        raise argparse.ArgumentTypeError(f"{word} isn't above 0")
+    return number
+
+
+def positive_seconds(word: str) -> float:
+    """A number of seconds above 0, for argparse."""
+    number = float(word)
+    if not 0 < number < float("inf"):
+        raise argparse.ArgumentTypeError(f"{word} isn't above 0")
+    return number
+
+
+def placed(file: Union[str, Path], refused: ValueError) -> str:
+    """What is told of a text that is refused, as `FILE:LINE:COLUMN: ..` where there is a place."""
+    if isinstance(refused, QasmError):
+        return f"{file}:{refused.line}: {refused.sentence}"
+    is_placed = isinstance(refused, Refused) and refused.where
+    return f"{file}:{refused}" if is_placed else f"{file}: {refused}"
+
+
+def _told(line: str, status: int) -> int:
+    print(line, file=sys.stderr)
+    return status
