@@ -17,11 +17,15 @@ lib = $(DESTDIR)$(PREFIX)/lib/zxopt
 man = $(DESTDIR)$(PREFIX)/share/man/man1
 doc = $(DESTDIR)$(PREFIX)/share/doc/zxopt
 
+# A program that stands beside its object file is taken as it is: no rule of make's own links it.
+MAKEFLAGS += --no-builtin-rules
+.SUFFIXES:
+
 .PHONY: all install uninstall check prove package
 
 all: $(PROGRAM)
 
-# ./zxopt proves and builds it.
+# ./zxopt takes the program in dist/, or proves and builds it.
 out/zxopt:
 	./zxopt opt <examples/nothing_left.qasm >/dev/null
 

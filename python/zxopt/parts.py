@@ -273,8 +273,8 @@ class _Cutting:
         qubits = self.circuit.qubits
         if done.lines is None:
             return [f"{it.text} {','.join([qubits[at] for at in it.qubits])};" for it in piece.operations]
-        named = {str(place): qubits[at] for place, at in enumerate(piece.qubits)}
-        return _PLACE.sub(lambda it: named[it[1]], "\n".join(done.lines)).splitlines()
+        named = [qubits[at] for at in piece.qubits]
+        return [_PLACE.sub(lambda it: named[int(it[1])], line) for line in done.lines]
 
 
 def main(argv: Sequence[str]) -> int:

@@ -67,7 +67,8 @@ class Optimised(InRoom):
     def test_written(self) -> None:
         job = self.job(example("tof_3.qasm"))
         outcome = optimise_file(job, Settings(check=True))
-        self.assertEqual((outcome.state, outcome.t, outcome.two_qubit), ("written", (21, 15), (18, 15)))
+        self.assertEqual((outcome.state, outcome.t, outcome.two_qubit[0]), ("written", (21, 15), 18))
+        self.assertLessEqual(outcome.two_qubit[1], 13)
         self.assertEqual((outcome.check, outcome.best, outcome.told), ("same", True, ""))
         self.assertEqual(job.target.read_text(), zxopt.optimise(example("tof_3.qasm")))
         self.assertTrue(outcome.is_good)
@@ -178,13 +179,16 @@ class Command(InRoom):
         ran = self.command("batch", ".", "--to", "out", "--check", "--csv", "out.csv", "--jobs", "2")
         self.assertEqual(ran.returncode, 1)
         room = os.path.realpath(self.room)
+        made = {name: zxopt.counts(example(f"{name}.qasm")).written.two_qubit for name in ("tof_3", "tof_4")}
+        self.assertLess(made["tof_3"], 18)
+        self.assertLess(made["tof_4"], 30)
         self.assertEqual(
             [re.sub(r"\d+\.\d\d s", "0 s", line) for line in ran.stdout.splitlines()],
             [
-                f"{room}/more/two_t.qasm: T 35 -> 23, two-qubit 30 -> 20, 0 s, same",
-                f"{room}/tof_3.qasm: T 21 -> 15, two-qubit 18 -> 15, 0 s, same",
+                f"{room}/more/two_t.qasm: T 35 -> 23, two-qubit 30 -> {made['tof_4']}, 0 s, same",
+                f"{room}/tof_3.qasm: T 21 -> 15, two-qubit 18 -> {made['tof_3']}, 0 s, same",
                 f"{room}/two_t.qasm: T 2 -> 0, two-qubit 0 -> 0, 0 s, same",
-                "4 files: 3 written, 1 refused, 0 failed; T 58 -> 38, two-qubit 48 -> 35; "
+                f"4 files: 3 written, 1 refused, 0 failed; T 58 -> 38, two-qubit 48 -> {sum(made.values())}; "
                 "3 same, 0 not shown, 0 not checked; 0 s",
             ],
         )
@@ -198,7 +202,8 @@ class Command(InRoom):
             rows = {Path(row["file"]).relative_to(os.path.realpath(self.room)): row for row in csv.DictReader(file)}
         self.assertEqual(len(rows), 4)
         tof = rows[Path("tof_3.qasm")]
-        self.assertEqual((tof["t_before"], tof["t_after"], tof["two_qubit_after"], tof["check"]), ("21", "15", "15", "same"))
+        self.assertEqual((tof["t_before"], tof["t_after"], tof["check"]), ("21", "15", "same"))
+        self.assertLess(int(tof["two_qubit_after"]), 18)
         bad = rows[Path("refused.qasm")]
         self.assertEqual((bad["state"], bad["t_before"], bad["written"]), ("refused", "", ""))
         self.assertIn("refused.qasm:5:1: ", bad["told"])

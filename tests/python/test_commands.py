@@ -51,7 +51,8 @@ class Commands(InRoom):
     def test_counts(self) -> None:
         ran = self.command("counts", str(EXAMPLES / "tof_3.qasm"))
         told = json.loads(ran.stdout)
-        self.assertEqual((told["read"]["odd"], told["written"]["odd"], told["written"]["two_qubit"]), (21, 15, 15))
+        self.assertEqual((told["read"]["odd"], told["written"]["odd"]), (21, 15))
+        self.assertLessEqual(told["written"]["two_qubit"], 13)
 
     def test_compile(self) -> None:
         self.writes(HEAD + "qreg q[1];\nt q[0];\n", "compile", str(EXAMPLES / "diagram.zxd"))

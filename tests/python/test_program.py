@@ -36,12 +36,12 @@ class Commands(unittest.TestCase):
         self.assertEqual(counts.written, zxopt.GateCounts(56, 16, 28, 12, 16, 12, 16, 0))
 
     def test_counts_of_the_best(self) -> None:
-        rows = [("tof_3", 21, 15, 15), ("tof_4", 35, 23, 20), ("barenco_tof_3", 28, 16, 17), ("adder", 28, 16, 24)]
-        for name, read, written, two_qubit in rows:
+        rows = [("tof_3", 21, 15, 13), ("tof_4", 35, 23, 18), ("barenco_tof_3", 28, 16, 13), ("adder", 28, 16, 24)]
+        for name, read, written, most_two_qubit in rows:
             with self.subTest(name=name):
                 counts = zxopt.counts(example(f"{name}.qasm"))
                 self.assertEqual((counts.read.odd, counts.written.odd), (read, written))
-                self.assertEqual(counts.written.two_qubit, two_qubit)
+                self.assertLessEqual(counts.written.two_qubit, most_two_qubit)
 
     def test_optimise_counted(self) -> None:
         made = zxopt.optimise_counted(example("across_cx.qasm"))

@@ -1,5 +1,5 @@
 -- What each gate does to a translation under way.
-use Rattle.std.proofs.Common.{◌≡◌, refl, sym, ◌∙◌, ap, ap₂, subst, ℕ, suc, ◌+◌, Bool, true, false, cond, ltb, eqb, List, [], ◌∷◌, length, set, le_of_eq, arith, ◌||◌, ltb-true, lt-ltb, le-ltb}
+use Rattle.std.proofs.Common.{◌≡◌, refl, sym, ◌∙◌, ap, ap₂, subst, ℕ, suc, ◌+◌, Bool, true, false, cond, ltb, eqb, List, [], ◌∷◌, ◌++◌, append-nil, length, set, le_of_eq, arith, ◌||◌, ltb-true, lt-ltb, le-ltb}
 use Rattle.std.proofs.lemmas.Bool.{ltb_from_iff}
 use Rattle.std.proofs.Math.ListN.{length-set}
 use Rattle.std.proofs.lemmas.List.{set-set}
@@ -18,10 +18,12 @@ use Rattle.zx_calculus.proofs.Splits.{is_pair-self}
 use Rattle.zx_calculus.proofs.Kept.{kind_of-insert_other}
 use Rattle.zx_calculus.proofs.Edits.{set-move_end}
 use Rattle.gflow_laws.specs.Seen.{seen}
-use Rattle.gflow_laws.specs.Flow.{IsFlow}
+use Rattle.gflow_laws.specs.Flow.{IsFlow, SameSets}
+use Rattle.gflow_laws.specs.Splits.{split_output_table}
 use Rattle.gflow_laws.specs.Outputs.{toggled, IsNewOutput}
 use Rattle.gflow_laws.specs.Correcting.{Alike}
 use Rattle.gflow_laws.proofs.Seeing.{phases_unseen, flow-same_sets}
+use Rattle.gflow_laws.proofs.Rewriting.{same_of_equal}
 use Rattle.gflow_laws.proofs.OutputLaws.{toggled_flow}
 use Rattle.gflow_laws.proofs.Splits.{new_output_flow}
 use Rattle.zx_gates.specs.declared.gate.Gate.{Gate}
@@ -32,8 +34,8 @@ use Rattle.circuit_laws.proofs.Keeping.{spider_formed, phase_formed, edge_formed
 use Rattle.circuit_laws.proofs.Counts.{same_vertices, phase_odd, spider_odd}
 use Rattle.circuit_laws.proofs.Settling.{phase_peels, edge_peels}
 use Rattle.circuit_laws.proofs.Advancing.{spider_peels}
-use Rattle.circuit_graph.specs.Translation.{with_spider}
-use Rattle.circuit_graph.proofs.Graphs.{spider_is, phase_is, toggle_is}
+use Rattle.circuit_graph.specs.Translation.{present, with_spider}
+use Rattle.circuit_graph.proofs.Graphs.{present_is, spider_is, phase_is, toggle_is}
 use Rattle.circuit_graph.specs.Internal.Runs.{State, AreNumbered, IsReady, IsSpiderStep, IsPhaseStep, IsToggleStep, IsGateStep, Comes}
 
 length-insert : (n : Vertex) (vs : List Vertex) → length (insert_vertex n vs) ≡ length vs + 1
@@ -118,12 +120,23 @@ spider_ready s q t r c = record {
   plain = ap are_plain c.peel.outputs ∙ plain-set s.graph.outputs q c.peel.spider r.plain;
 }
 
+-- the old spider is the present one, and the new one has the next id
+spider_table : (s : State) (q : ℕ) (t : State) → IsSpiderStep s q t → SameSets t.table (split_output_table (present s.graph q) (length s.graph.vertices) s.table)
+spider_table s q t c =
+    subst (λ u. SameSets t.table (split_output_table u (length s.graph.vertices) s.table)) (sym (present_is s.graph.outputs q c.peel.next c.peel.output))
+    (subst (λ new. SameSets t.table (split_output_table c.peel.next new s.table)) c.id c.table)
+
+-- no spider is left
+same_table : (s t : State) → t.table ≡ s.table → SameSets t.table (s.table ++ [])
+same_table s t e = same_of_equal (e ∙ sym (append-nil s.table))
+
 spider_comes : (s : State) (q : ℕ) (t : State) → IsReady s → IsSpiderStep s q t → Comes s (H q ∷ []) t
 spider_comes s q t r c =
     let ready : IsReady t = spider_ready s q t r c in
     record {
       ready = ready;
       graph = spider_is s.graph q t.graph ready.well_formed c.peel ∙ ap (λ v. with_spider v q s.graph) c.id;
+      table = spider_table s q t c;
       map = spider_peels t.graph q s.graph r.well_formed c.peel ready.well_formed;
       spiders = ap length c.peel.vertices ∙ length-insert (spider_of_phase_zero c.peel.spider) s.graph.vertices;
       odd = le_of_eq (as_many (spider_odd t.graph q s.graph c.peel));
@@ -142,6 +155,7 @@ phase_comes s q k t r c = record {
     plain = ap are_plain c.peel.outputs ∙ r.plain;
   };
   graph = phase_is s.graph q k t.graph c.peel;
+  table = same_table s t c.table;
   map = phase_peels t.graph q k s.graph formed r.well_formed c.peel;
   spiders = as_many same_length;
   odd = phase_odd t.graph q k s.graph r.well_formed c.peel;
@@ -186,6 +200,7 @@ toggle_comes s p q t r c = record {
     plain = ap are_plain c.peel.frame.outputs ∙ r.plain;
   };
   graph = toggle_is s.graph p q t.graph formed c.peel;
+  table = same_table s t c.table;
   map = edge_peels t.graph p q s.graph formed r.well_formed c.peel;
   spiders = as_many (ap length c.peel.vertices);
   odd = le_of_eq (as_many (same_vertices t.graph s.graph c.peel.vertices));

@@ -5,4 +5,5 @@ pub mod Beginning
 pub mod Graphs
 pub mod Whole
 pub mod Places
+pub mod Tables
 pub mod Calls

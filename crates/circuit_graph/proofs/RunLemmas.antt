@@ -1,10 +1,11 @@
 -- What a list of gates does to a translation under way.
-use Rattle.std.proofs.Common.{◌≡◌, refl, sym, ◌∙◌, ap, subst, ℕ, ◌+◌, ◌≤◌, ◌<◌, take, get_or, add-one, List, [], ◌∷◌, ◌++◌, length, arith}
+use Rattle.std.proofs.Common.{◌≡◌, refl, sym, ◌∙◌, ap, subst, ℕ, ◌+◌, ◌≤◌, ◌<◌, take, get_or, add-one, List, [], ◌∷◌, ◌++◌, append-nil, length, arith}
 use Rattle.std.specs.List.{fold}
 use Rattle.std.proofs.lemmas.List.{flat_map_more}
 use Rattle.std.proofs.Math.Seq.{take-suc}
 use Rattle.zx_model.specs.Number.{one}
 use Rattle.zx_model.proofs.Ring.{one-mul}
+use Rattle.gflow_laws.proofs.Rewriting.{same_of_equal}
 use Rattle.zx_gates.specs.Circuit.{is_odd_phase}
 use Rattle.zx_gates.specs.Counting.{is_h}
 use Rattle.zx_gates.specs.declared.gate.Gate.{Gate}
@@ -14,12 +15,14 @@ use Rattle.circuit_graph.specs.Translation.{by_hadamards, written_out, with_gate
 use Rattle.circuit_graph.specs.Internal.Runs.{State, IsReady, IsRun, Comes}
 use Rattle.circuit_graph.proofs.WrittenOut.{count-cons}
 use Rattle.circuit_graph.proofs.Gates.{gate_comes, as_many}
+use Rattle.circuit_graph.proofs.Tables.{corrected_then}
 
 -- one gate after the other
 join : (s : State) (gate : Gate) (u : State) (gates : List Gate) (t : State) → Comes s (gate ∷ []) u → Comes u gates t → Comes s (gate ∷ gates) t
 join s gate u gates t c d = record {
   ready = d.ready;
   graph = d.graph ∙ ap (λ g. fold with_gate g gates) c.graph;
+  table = corrected_then s.graph u.graph gate gates s.table u.table t.table c.graph c.table d.table;
   map = subst (λ k. PeelsAt k t.graph (gate ∷ gates) s.graph) (one-mul one) (peels_at_then one one t.graph u.graph s.graph (gate ∷ []) gates d.map c.map);
   spiders = more _ _ _ _ _ _ d.spiders c.spiders (count-cons is_h gate gates);
   odd = no_more _ _ _ _ _ _ d.odd c.odd (count-cons is_odd_phase gate gates);
@@ -34,7 +37,7 @@ join s gate u gates t c d = record {
     no_more a b c first rest all e f g = omega arith
 
 nothing_comes : (s : State) → IsReady s → Comes s [] s
-nothing_comes s r = record { ready = r; graph = refl; map = peels_nothing s.graph; spiders = as_many refl; odd = omega arith; inputs = refl; outputs = refl }
+nothing_comes s r = record { ready = r; graph = refl; table = same_of_equal (sym (append-nil s.table)); map = peels_nothing s.graph; spiders = as_many refl; odd = omega arith; inputs = refl; outputs = refl }
 
 pub run_comes : (s : State) (gates : List Gate) (t : State) → IsReady s → IsRun s gates t → Comes s gates t
 run_comes s [] t r e = subst (Comes s []) e (nothing_comes s r)

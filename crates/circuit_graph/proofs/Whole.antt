@@ -32,6 +32,7 @@ run_translates c t r on run = record {
   graph = comes.graph;
   well_formed = comes.ready.well_formed;
   flow = comes.ready.flow;
+  table = comes.table;
   spiders = omega (arith, comes.spiders, length-map-range_with_len spider_of_phase_zero 0 c.qubits, spiders-written c.gates);
   ids = λ u there. ltb-true u (length t.graph.vertices) (sym (comes.ready.numbered u) ∙ there);
   planes = comes.ready.planes;

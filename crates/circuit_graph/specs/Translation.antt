@@ -1,7 +1,7 @@
 -- The open graph of a circuit: each wire is a path of spiders, which its Hadamard gates join.
 -- Duncan, Kissinger, Perdrix and van de Wetering, "Graph-theoretic simplification of quantum circuits with the
 -- ZX-calculus" (Quantum 4, 279, 2020), on graph-like diagrams.
-use Rattle.std.specs.Prelude.{ℕ, ◌+◌, ◌*◌, List, [], ◌∷◌, length, map, get_or, slice_set, Option, Some, None}
+use Rattle.std.specs.Prelude.{ℕ, ◌+◌, ◌*◌, List, [], ◌∷◌, ◌++◌, length, map, get_or, slice_set, Option, Some, None}
 use Rattle.std.specs.List.{count_by, flat_map, fold, range_with_len}
 use Rattle.zx_model.specs.Bits.{xor}
 use Rattle.zx_model.specs.Phase.{half_turn}
@@ -13,6 +13,7 @@ use Rattle.zx_calculus.specs.Edits.{is_pair}
 use Rattle.zx_calculus.specs.Gadgets.{fuse_kind}
 use Rattle.zx_calculus.specs.Adjacency.{adjacent_graph}
 use Rattle.zx_calculus.specs.Worked.{plain}
+use Rattle.gflow_laws.specs.Flow.{Correction}
 use Rattle.zx_gates.specs.Circuit.{Circuit}
 use Rattle.zx_gates.specs.Counting.{is_h, is_cx, is_not}
 use Rattle.zx_gates.specs.declared.gate.Gate.{Gate}
@@ -84,6 +85,22 @@ with_gate g other = g
 -- before all others.
 abbrev pub translated : Circuit → Graph
 translated c = fold with_gate (wires c.qubits) (written_out c.gates)
+
+-- With H the wire leaves its present spider, which is corrected by the next one on the wire, the new one, alone.
+abbrev pub corrected_by : Graph → Gate → List Correction
+corrected_by g (H q) = record { vertex = present g q; members = length g.vertices ∷ [] } ∷ []
+corrected_by g other = []
+
+-- the same of each gate, in the order of the gates, where these come after the graph
+abbrev pub table_from : Graph → List Gate → List Correction
+table_from g [] = []
+table_from g (gate ∷ gates) = corrected_by g gate ++ table_from (with_gate g gate) gates
+
+-- The flow of the graph of a circuit: the spiders stand in the order in which the wires leave them, and each is
+-- corrected by the next one on its wire. Of the outputs, the last spiders of the wires, there is none.
+-- Danos and Kashefi, "Determinism in the one-way model" (Phys. Rev. A 74, 052310, 2006), on such flows.
+abbrev pub translated_table : Circuit → List Correction
+translated_table c = table_from (wires c.qubits) (written_out c.gates)
 
 -- the vertex to which a gate adds a phase: the present spider of its qubit, where it is a phase gate
 abbrev pub place_of : Graph → Gate → Option ℕ

@@ -1,8 +1,9 @@
 -- Circuits and their graphs, written down by hand.
-use Rattle.std.specs.Prelude.{◌+◌, [], ◌∷◌}
+use Rattle.std.specs.Prelude.{◌+◌, List, [], ◌∷◌}
 use Rattle.zx_model.specs.Phase.{quarter_turn, eighth_turn, opposite_phase}
 use Rattle.zx_calculus.specs.Graph.{XY, Graph}
 use Rattle.zx_calculus.specs.Worked.{vertex, edge, plain, graph}
+use Rattle.gflow_laws.specs.Flow.{Correction}
 use Rattle.zx_gates.specs.Circuit.{Circuit}
 use Rattle.zx_gates.specs.declared.gate.Gate.TheVariants.{H, Phase, Cz, Cx}
 
@@ -16,6 +17,14 @@ bell_graph =
     graph (vertex 0 XY 0 ∷ vertex 1 XY 0 ∷ vertex 2 XY 0 ∷ vertex 3 XY 0 ∷ vertex 4 XY 0 ∷ [])
     (edge 0 2 ∷ edge 1 3 ∷ edge 2 3 ∷ edge 3 4 ∷ [])
     (plain 0 ∷ plain 1 ∷ []) (plain 2 ∷ plain 4 ∷ [])
+
+-- the first wire leaves 0 for 2, then the second one leaves 1 for 3 and 3 for 4
+abbrev pub bell_table : List Correction
+bell_table =
+    record { vertex = 0; members = 2 ∷ [] }
+    ∷ record { vertex = 1; members = 3 ∷ [] }
+    ∷ record { vertex = 3; members = 4 ∷ [] }
+    ∷ []
 
 -- Cz twice, with phases between that add up
 abbrev pub double_cz : Circuit

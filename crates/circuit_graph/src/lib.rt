@@ -4,8 +4,17 @@
 //! circuit, whose vertices have the ids 0, 1, 2 and so on; its sum is the circuit's map times two
 //! for each Cx and Not, entry by entry, and the scalar tells that the other way round; it has a
 //! spider for each qubit and each H, and two for each Cx and Not, all XY, no more odd phases than
-//! the circuit, and an input and an output for each qubit, all plain; the flow is one of it.
-//! `translate_placed` answers besides to which vertex each phase gate adds its phase.
+//! the circuit, and an input and an output for each qubit, all plain; the flow is one of it: each
+//! spider but the last of a wire is corrected by the next one alone, in the order in which the wires
+//! leave them. All that is proved of `translate_placed` too, but for the scalar; it answers instead to
+//! which vertex each phase gate adds its phase.
+//!
+//! Inside:
+//!
+//! - `wires`: the translation under way, gate by gate; each method ensures that it takes the one
+//!   step of its gate.
+//! - `translation`: `translate`.
+//! - `laws`: worked graphs.
 //!
 //! ```rust
 //! let (graph, flow, scalar) = translate(alloc, &circuit)?;

@@ -8,11 +8,11 @@ ghost use Rattle.zx_calculus.specs.Graph.{plane_of, Live, WellFormed};
 ghost use Rattle.zx_calculus.specs.Graph as zx;
 ghost use Rattle.zx_calculus.specs.Sum.{sum};
 ghost use Rattle.zx_calculus.specs.Counts.{odd_phases};
-ghost use Rattle.gflow_laws.specs.Flow.{IsFlow};
+ghost use Rattle.gflow_laws.specs.Flow.{IsFlow, SameSets};
 ghost use Rattle.zx_gates.specs.Circuit.{gate_odd_phases};
 ghost use Rattle.zx_gates.specs.Maps.{amp};
 ghost use Rattle.circuit_laws.specs.Peeling.{are_plain};
-ghost use Rattle.circuit_graph.specs.Translation.{spiders_of, scalar_of, translated, places};
+ghost use Rattle.circuit_graph.specs.Translation.{spiders_of, scalar_of, translated, translated_table, places};
 ghost use Rattle.circuit_graph.specs.Internal.Wires.{state_of};
 ghost use Rattle.circuit_graph.specs.Internal.Runs.{Translates};
 ghost use Rattle.circuit_graph.specs.Internal.Scalars.{map_scalar};
@@ -30,6 +30,7 @@ pub fn translate(alloc: Global, circuit: &GateList) -> Result<(OpenGraph, Flow, 
     ensures graph { IfOk result (λ made. made.0.graph ≡ translated circuit.now) }
     ensures well_formed { IfOk result (λ made. WellFormed made.0.graph) }
     ensures flow { IfOk result (λ made. IsFlow made.0.graph made.1.flow) }
+    ensures table { IfOk result (λ made. SameSets made.1.flow (translated_table circuit.now)) }
 
     // The map is kept: the sum is the circuit's map times a number other than 0.
     ensures map { IfOk result (λ made.
@@ -76,7 +77,7 @@ fn scalar_of(circuit: &GateList) -> Scalar
     }
 }
 
-/// The same, and for each gate the vertex to which it adds a phase, where it is a phase gate.
+/// The same graph with the same flow; and for each gate the vertex to which it adds a phase, where it is a phase gate.
 pub fn translate_placed(
     alloc: Global,
     circuit: &GateList,
@@ -84,9 +85,31 @@ pub fn translate_placed(
     ensures graph { IfOk result (λ made. made.0.graph ≡ translated circuit.now) }
     ensures well_formed { IfOk result (λ made. WellFormed made.0.graph) }
     ensures flow { IfOk result (λ made. IsFlow made.0.graph made.1.flow) }
+    ensures table { IfOk result (λ made. SameSets made.1.flow (translated_table circuit.now)) }
+    ensures places { IfOk result (λ made. made.2.items ≡ places circuit.now) }
+
+    // The map is kept: the sum is the circuit's map times a number other than 0.
+    ensures map { IfOk result (λ made.
+        Proportional circuit.now.qubits circuit.now.qubits
+        (sum made.0.graph) (amp circuit.now.gates)) }
+    ensures exact { IfOk result (λ made. (x y : List Bool) →
+        length x ≡ circuit.now.qubits → length y ≡ circuit.now.qubits →
+        sum made.0.graph x y ≡ mul (scalar_of circuit.now.gates) (amp circuit.now.gates x y)) }
+
+    // Its vertices.
+    ensures spiders { IfOk result (λ made. length made.0.graph.vertices ≡ spiders_of circuit.now) }
+    ensures ids { IfOk result (λ made. (v : ℕ) → Live made.0.graph v →
+        v < length made.0.graph.vertices) }
+    ensures planes { IfOk result (λ made. (v : ℕ) → Live made.0.graph v →
+        plane_of made.0.graph v ≡ zx.XY) }
     ensures odd { IfOk result (λ made.
         odd_phases made.0.graph ≤ gate_odd_phases circuit.now.gates) }
-    ensures places { IfOk result (λ made. made.2.items ≡ places circuit.now) }
+
+    // Its ends.
+    ensures inputs { IfOk result (λ made. length made.0.graph.inputs ≡ circuit.now.qubits) }
+    ensures outputs { IfOk result (λ made. length made.0.graph.outputs ≡ circuit.now.qubits) }
+    ensures plain_inputs { IfOk result (λ made. are_plain made.0.graph.inputs ≡ true) }
+    ensures plain_outputs { IfOk result (λ made. are_plain made.0.graph.outputs ≡ true) }
 {
     let (made, places) = wires_placed(alloc, circuit)?;
     let graph = made.graph;

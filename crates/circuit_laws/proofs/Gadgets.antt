@@ -8,7 +8,8 @@ use Rattle.zx_model.specs.Sums.{labelled, sum_over}
 use Rattle.zx_model.proofs.Ring.{expand, sorted, one-mul, two_nonzero}
 use Rattle.zx_model.proofs.Powers.{root_power-zero}
 use Rattle.zx_model.proofs.SumLemmas.{labelled-same, labelled-other, labelled-labelled, sum_over_same, sum_over_mul}
-use Rattle.zx_calculus.specs.Parity.{masked, quad}
+use Rattle.zx_calculus.specs.Parity.{masked}
+use Rattle.zx_calculus.specs.Internal.Pairs.{quad}
 use Rattle.zx_calculus.specs.Graph.{YZ, Vertex, End, Graph, ids, kind_of, plane_of, phase_of, joined, end_vertices, is_XY, in_order, different, without, Distinct, WellFormed, Interior}
 use Rattle.zx_calculus.specs.Edits.{IsRemoval}
 use Rattle.zx_calculus.specs.Sum.{factor, spider, vertex_product, end_product}

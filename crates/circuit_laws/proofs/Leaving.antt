@@ -6,7 +6,7 @@ use Rattle.zx_model.specs.Number.{Number, add, mul, sign}
 use Rattle.zx_model.specs.Sums.{total, all_labels, labelled}
 use Rattle.zx_model.proofs.Ring.{expand, sorted, mul_assoc, one-mul}
 use Rattle.zx_model.proofs.SumLemmas.{labelled-same, labelled-other, sum_over_same}
-use Rattle.zx_calculus.specs.Parity.{quad}
+use Rattle.zx_calculus.specs.Internal.Pairs.{quad}
 use Rattle.zx_calculus.specs.Graph.{End, Graph, ids, joined, end_vertices, in_order, different, WellFormed}
 use Rattle.zx_calculus.specs.Sum.{spider, vertex_product, end_factor, end_product}
 use Rattle.zx_calculus.specs.Worked.{plain}

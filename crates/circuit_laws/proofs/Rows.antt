@@ -6,7 +6,8 @@ use Rattle.zx_model.specs.Number.{Number, one, add, mul, sign}
 use Rattle.zx_model.specs.Sums.{labelled, sum_over}
 use Rattle.zx_model.proofs.Ring.{expand}
 use Rattle.zx_model.proofs.SumLemmas.{labelled-same, labelled-other, labelled-labelled, sum_over_same}
-use Rattle.zx_calculus.specs.Parity.{masked, quad}
+use Rattle.zx_calculus.specs.Parity.{masked}
+use Rattle.zx_calculus.specs.Internal.Pairs.{quad}
 use Rattle.zx_calculus.specs.Graph.{Vertex, Graph, ids, kind_of, joined, end_vertices, is_XY, without, Distinct, WellFormed}
 use Rattle.zx_calculus.specs.Sum.{factor, vertex_product, end_product}
 use Rattle.zx_calculus.specs.Worked.{plain}

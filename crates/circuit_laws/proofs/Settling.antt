@@ -6,7 +6,7 @@ use Rattle.zx_model.specs.Number.{Number, one, mul, sign}
 use Rattle.zx_model.specs.Sums.{sum_over}
 use Rattle.zx_model.proofs.Ring.{sorted, mul-sign}
 use Rattle.zx_model.proofs.SumLemmas.{sum_over_same}
-use Rattle.zx_calculus.specs.Parity.{quad}
+use Rattle.zx_calculus.specs.Internal.Pairs.{quad}
 use Rattle.zx_calculus.specs.Graph.{Graph, ids, joined, with_kinds, WellFormed}
 use Rattle.zx_calculus.specs.Gadgets.{fuse_kind}
 use Rattle.zx_calculus.specs.Sum.{vertex_product, end_product}

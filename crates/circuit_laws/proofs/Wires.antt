@@ -10,7 +10,7 @@ use Rattle.zx_model.specs.Sums.{labelled, sum_over}
 use Rattle.zx_model.proofs.Ring.{expand, mul_assoc, one-mul, one_nonzero}
 use Rattle.zx_model.proofs.Powers.{root_power-zero}
 use Rattle.zx_model.proofs.SumLemmas.{labelled-same, labelled-other, sum_over_same, sum_over_add, sum_over_mul}
-use Rattle.zx_calculus.specs.Parity.{quad}
+use Rattle.zx_calculus.specs.Internal.Pairs.{quad}
 use Rattle.zx_calculus.specs.Graph.{Plane, XY, XZ, YZ, Kind, Vertex, End, Graph, ids, kind_of, is_XY, joined, end_vertices, in_order, different, WellFormed}
 use Rattle.zx_calculus.specs.Sum.{factor, factor_in, vertex_product, end_factor, end_product}
 use Rattle.zx_calculus.specs.Worked.{plain}

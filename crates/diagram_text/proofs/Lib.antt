@@ -6,3 +6,4 @@ pub mod LeadsLemmas
 pub mod WalkLemmas
 pub mod StopLemmas
 pub mod OutcomeLemmas
+pub mod DecisionLemmas

@@ -18,32 +18,32 @@ use Rattle.diagram_text.specs.Lines.{colour_name, parts, text_of, spelled_line}
 use Rattle.diagram_text.specs.Internal.Stepping.{has_small}
 
 -- ---- the line of some parts
-abbrev colour_of_name : List ℕ → Colour
+abbrev pub colour_of_name : List ℕ → Colour
 colour_of_name name = if eqb (get_or name 0 0) 88 then X else Z
 
-abbrev leg_of : ℕ → Bool → Leg
+abbrev pub leg_of : ℕ → Bool → Leg
 leg_of spider hadamard = record { spider = spider; hadamard = hadamard }
 
-abbrev wire_of : Bool → ℕ → ℕ → Wire
+abbrev pub wire_of : Bool → ℕ → ℕ → Wire
 wire_of hadamard a b = record { a = a; b = b; hadamard = hadamard }
 
-abbrev spider_of : List (List ℕ) → Line
+abbrev pub spider_of : List (List ℕ) → Line
 spider_of (i ∷ colour ∷ phase ∷ []) = Spider (value i) (colour_of_name colour) (value phase)
 spider_of others = End
 
-abbrev edge_of : List (List ℕ) → Line
+abbrev pub edge_of : List (List ℕ) → Line
 edge_of (a ∷ b ∷ m ∷ []) = Edge (wire_of (mark_of_name m) (value a) (value b))
 edge_of others = End
 
-abbrev input_of : List (List ℕ) → Line
+abbrev pub input_of : List (List ℕ) → Line
 input_of (s ∷ m ∷ []) = Input (leg_of (value s) (mark_of_name m))
 input_of others = End
 
-abbrev output_of : List (List ℕ) → Line
+abbrev pub output_of : List (List ℕ) → Line
 output_of (s ∷ m ∷ []) = Output (leg_of (value s) (mark_of_name m))
 output_of others = End
 
-abbrev line_of : ℕ → ℕ → List (List ℕ) → Line
+abbrev pub line_of : ℕ → ℕ → List (List ℕ) → Line
 line_of first second rest =
     if eqb first 115 then spider_of rest
     else if eqb first 105 then input_of rest
@@ -51,7 +51,7 @@ line_of first second rest =
     else if eqb second 100 then edge_of rest
     else End
 
-abbrev read : List (List ℕ) → Line
+abbrev pub read : List (List ℕ) → Line
 read [] = End
 read (word ∷ rest) = line_of (get_or word 0 0) (get_or word 1 0) rest
 
@@ -59,7 +59,7 @@ colour-name : (c : Colour) → colour_of_name (colour_name c) ≡ c
 colour-name Z = refl
 colour-name X = refl
 
-read-parts : (l : Line) → has_small l ≡ true → read (parts l) ≡ l
+pub read-parts : (l : Line) → has_small l ≡ true → read (parts l) ≡ l
 read-parts (Spider i colour phase) small =
     ap₂ (λ j k. Spider j (colour_of_name (colour_name colour)) k) (value-decimal i (and-left _ _ small)) (value-decimal phase (and-right _ _ small))
     ∙ ap (λ c. Spider i c phase) (colour-name colour)

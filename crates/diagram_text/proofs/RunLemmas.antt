@@ -7,7 +7,8 @@ use Rattle.zx_model.specs.Phase.{turn}
 use Rattle.zx_calculus.proofs.Ids.{and-left, and-right}
 use Rattle.zx_calculus.proofs.Kept.{both}
 use Rattle.zx_text.specs.Files.{Version, One, Two, unit}
-use Rattle.zx_text.specs.Pieces.{pieces, is_small}
+use Rattle.zx_text.specs.Pieces.{pieces}
+use Rattle.zx_text.specs.Internal.SmallNumbers.{is_small}
 use Rattle.zx_text.proofs.PartLemmas.{all-last, length-last}
 use Rattle.diagram_text.specs.declared.line.Line.{Line}
 use Rattle.diagram_text.specs.declared.line.Line.TheVariants.{Spider, Edge, Input, Output, End}

@@ -1,4 +1,4 @@
--- Diagram files. The form is this project's own; docs/FORMATS.md has it on one page.
+-- Diagram files. The form is this project's own; docs/LANGUAGE.md has it on one page.
 use Rattle.std.specs.Prelude.{ℕ, suc, ◌/◌, List, [], ◌∷◌, ◌++◌, map, codes}
 use Rattle.std.specs.List.{flat_map}
 use Rattle.zx_diagram.specs.declared.spider.Spider as diagram

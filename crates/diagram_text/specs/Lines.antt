@@ -1,4 +1,4 @@
--- The lines of a diagram file. The form is this project's own; docs/FORMATS.md has it on one page.
+-- The lines of a diagram file. The form is this project's own; docs/LANGUAGE.md has it on one page.
 use Rattle.std.specs.Prelude.{ℕ, ◌++◌, List, [], ◌∷◌, codes, decimal}
 use Rattle.std.specs.List.{join_with_byte}
 use Rattle.zx_diagram.specs.declared.spider.Colour.{Colour}

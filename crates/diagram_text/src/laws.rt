@@ -1,6 +1,6 @@
 //! Laws of diagram files.
 
-ghost use Rattle.std.specs.Prelude.{◌≡◌, ◌≤◌, ℕ, List, length};
+ghost use Rattle.std.specs.Prelude.{◌≡◌, ◌≤◌, ◌⊎◌, ℕ, List, length};
 ghost use Rattle.zx_diagram.specs.Diagram.{Diagram};
 ghost use Rattle.zx_text.specs.Reading.{most_bytes};
 ghost use Rattle.diagram_text.specs.Reading.{SpellsDiagram, IsBadLine};
@@ -13,5 +13,13 @@ pub fn texts_have_one_reading()
     ensures one_bad_line { (text : List ℕ) (line other : ℕ) →
         IsBadLine text line → IsBadLine text other → line ≡ other }
     ensures no_file { (text : List ℕ) (line : ℕ) (d : Diagram) →
+        IsBadLine text line → SpellsDiagram text d → ⊥ }
+{}
+
+/// A text of at most 16,777,216 bytes is a file or has a bad line, never both.
+pub fn each_text_is_a_file_or_has_a_bad_line()
+    ensures either { (text : List ℕ) → length text ≤ most_bytes →
+        ((d : Diagram) × SpellsDiagram text d) ⊎ ((line : ℕ) × IsBadLine text line) }
+    ensures never_both { (text : List ℕ) (line : ℕ) (d : Diagram) →
         IsBadLine text line → SpellsDiagram text d → ⊥ }
 {}

@@ -4,7 +4,8 @@ ghost use Rattle.std.specs.Prelude.{◌≡◌, ◌≢◌, ◌∷◌, ◌&&◌, �
 ghost use Rattle.std.specs.Option.{option_map_or};
 ghost use Rattle.zx_diagram.specs.declared.spider.Colour as diagram;
 ghost use Rattle.zx_text.specs.Lines as marks;
-ghost use Rattle.zx_text.specs.Pieces.{pieces, is_small};
+ghost use Rattle.zx_text.specs.Pieces.{pieces};
+ghost use Rattle.zx_text.specs.Internal.SmallNumbers.{is_small};
 ghost use Rattle.diagram_text.specs.Lines.{parts, colour_name};
 ghost use Rattle.diagram_text.specs.Internal.Stepping.{has_small};
 ghost use Rattle.diagram_text.specs.declared.line.Line as zx;

@@ -6,6 +6,14 @@
 //! stand beside it: no condition fails exactly where the table is a flow, and there is one first
 //! failure at most.
 //!
+//! Inside:
+//!
+//! - `verdict`: `Verdict` and `Condition`.
+//! - `conditions`: the first condition that fails at one vertex, each test being whether two sets
+//!   of ids have a vertex in common.
+//! - `checking`: `check`, vertex by vertex.
+//! - `laws`: there is one first failure at most, and none in a flow.
+//!
 //! ```rust
 //! match check(alloc, &graph, &table)? {
 //!     Verdict::Flow => println!(rt; "flow")?,

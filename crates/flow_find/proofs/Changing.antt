@@ -9,7 +9,8 @@ use Rattle.gflow_laws.specs.Flow.{is_in}
 use Rattle.gflow_laws.proofs.Linear.{masked-same, masked-of-xor, masked-of-and}
 use Rattle.gflow_laws.proofs.Corrects.{xor_true}
 use Rattle.flow_find.specs.declared.row.Row.{Row}
-use Rattle.flow_find.specs.Frontiers.{AreAll, combined, IsRow, IsFrontier, IsShort, with_one}
+use Rattle.flow_find.specs.Frontiers.{AreAll, combined, IsRow, IsFrontier, with_one}
+use Rattle.flow_find.specs.Internal.Lacking.{IsShort}
 use Rattle.flow_find.specs.Internal.Rows.{AreEach, IsAdded, IsCleared, IsDropped, IsPivoted, IsSpent, IsPut, IsTaken}
 use Rattle.flow_find.proofs.Sums.{AreAll-weaker, AreAll-append, AreAll-front, AreAll-back, combined-append, combined-front}
 

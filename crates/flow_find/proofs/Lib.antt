@@ -15,3 +15,4 @@ pub mod Solving
 pub mod Searching
 pub mod Leaving
 pub mod NoFlow
+pub mod Unions

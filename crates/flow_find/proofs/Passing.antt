@@ -12,7 +12,8 @@ use Rattle.gflow_laws.proofs.Linear.{masked-same, masked-of-xor, masked-one}
 use Rattle.gflow_laws.proofs.Lists.{is_in-one}
 use Rattle.gflow_laws.proofs.Corrects.{xor_true}
 use Rattle.flow_find.specs.declared.row.Row.{Row}
-use Rattle.flow_find.specs.Frontiers.{AreAll, combined, gathered, around, usable, IsRow, IsFrontier, IsShort, IsFrontierOf, IsCorrectable, IsSpanned, with_one}
+use Rattle.flow_find.specs.Frontiers.{AreAll, combined, gathered, around, usable, IsRow, IsFrontier, IsFrontierOf, IsCorrectable, IsSpanned, with_one}
+use Rattle.flow_find.specs.Internal.Lacking.{IsShort}
 use Rattle.flow_find.specs.Internal.Rows.{IsSum, IsPut}
 use Rattle.flow_find.proofs.Sums.{combined_alike, odd-gathered, gathered_may}
 use Rattle.flow_find.proofs.Finding.{spanned}

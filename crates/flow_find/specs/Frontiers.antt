@@ -61,12 +61,6 @@ pub record IsFrontier (s : Seen) (left held may : ℕ → Bool) (rows : List Row
   pub spans : (u w : ℕ) → may u ≡ true → left w ≡ true →
       s.adjacent u w ≡ combined (s.adjacent u) rows w
 
--- what the rows lack of the neighbours of any vertex is a multiple of one row
-pub record IsShort (s : Seen) (left may : ℕ → Bool) (rows : List Row) (columns : List ℕ) : Type 0 where
-  pub times : ℕ → Bool
-  pub lacks : (u w : ℕ) → may u ≡ true → left w ≡ true →
-      xor (s.adjacent u w) (combined (s.adjacent u) rows w) ≡ (times u && member w columns)
-
 -- among vertices that are left, v is one, and has no input where it is in its own set
 pub record IsLeft (s : Seen) (left : ℕ → Bool) (v : ℕ) : Type 0 where
   pub vertices : (w : ℕ) → left w ≡ true → member w s.ids ≡ true

@@ -4,3 +4,4 @@ pub mod Rows
 pub mod Next
 pub mod Solving
 pub mod Searching
+pub mod Lacking

@@ -1,13 +1,13 @@
 //! Why the sets that the rows give correct their vertices.
 
-ghost use Rattle.std.specs.Prelude.{◌≡◌, ◌≢◌, ◌==◌, [], ℕ, Bool, true, false, List};
+ghost use Rattle.std.specs.Prelude.{◌≡◌, ◌≢◌, ◌==◌, ◌++◌, [], ℕ, Bool, true, false, List};
 ghost use Rattle.zx_model.specs.Bits.{member};
 ghost use Rattle.zx_calculus.specs.Graph.{Graph, XY};
 ghost use Rattle.gflow_laws.specs.Seen.{Seen};
 ghost use Rattle.gflow_laws.specs.Correcting.{Simple, Corrects, inside_in};
 ghost use Rattle.flow_find.specs.declared.row.Row.{Row};
 ghost use Rattle.flow_find.specs.Frontiers.{usable, set_from, IsLeft, NoneLeftAfter, AllGoneAfter, IsCorrectable, IsRow, IsFrontier, IsFrontierOf, IsSpanned, with_one};
-ghost use Rattle.flow_find.specs.Stuck.{HasFlow, IsStuck, IsLargestStuck};
+ghost use Rattle.flow_find.specs.Stuck.{HasFlow, HasSet, IsStuck, IsLargestStuck};
 
 /// A vertex that is left is correctable where some set corrects it and nothing left comes after it,
 /// and where it is XY and alone in a row. Where it is correctable, the set that the rows give
@@ -38,4 +38,15 @@ pub fn a_flow_leaves_nothing_stuck()
     ensures none { (g : Graph) (stuck : List ℕ) → HasFlow g → IsStuck g stuck → stuck ≡ [] }
     ensures some { (g : Graph) (stuck : List ℕ) → IsLargestStuck g stuck → ¬ HasFlow g →
         stuck ≢ [] }
+{}
+
+/// A vertex that some set corrects while many vertices are left is corrected by it while only some
+/// of these are. So two stuck sets are one together, and of the largest one there is one.
+pub fn stuck_sets_are_one_together()
+    ensures fewer { (s : Seen) (few many : ℕ → Bool) (v : ℕ) →
+        ((w : ℕ) → few w ≡ true → many w ≡ true) → HasSet s many v → HasSet s few v }
+    ensures union { (g : Graph) (one other : List ℕ) → IsStuck g one → IsStuck g other →
+        IsStuck g (one ++ other) }
+    ensures one_largest { (g : Graph) (one other : List ℕ) → IsLargestStuck g one →
+        IsLargestStuck g other → one ≡ other }
 {}

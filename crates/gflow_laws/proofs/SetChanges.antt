@@ -8,7 +8,7 @@ use Rattle.gflow_laws.specs.Flow.{Correction, order_of, set_of, is_in, SameSets}
 use Rattle.gflow_laws.specs.Tables.{with_sets}
 use Rattle.gflow_laws.proofs.Lists.{is_in-one}
 use Rattle.gflow_laws.proofs.Tables.{order_of-with_sets, set_of-with_sets, set_of-outside}
-use Rattle.gflow_laws.specs.Changes.{AreChanged}
+use Rattle.gflow_laws.specs.Internal.Changes.{AreChanged}
 use Rattle.zx_calculus.proofs.Positions.{fresh_next, member-grown}
 
 -- one more

@@ -11,7 +11,7 @@ use Rattle.gflow_laws.specs.Removals.{removal_table}
 use Rattle.gflow_laws.specs.Correcting.{odd_in}
 use Rattle.gflow_laws.proofs.Lists.{is_in-symmetric_difference, is_in-one}
 use Rattle.gflow_laws.proofs.Complements.{is_in-set_about, is_in-set_beside}
-use Rattle.gflow_laws.specs.Changes.{AreChanged, complement_change, removal_change}
+use Rattle.gflow_laws.specs.Internal.Changes.{AreChanged, complement_change, removal_change}
 use Rattle.gflow_laws.proofs.SetChanges.{all_changed, changed_at, IsToggledAt, IsToggledAt-none, IsToggledAt-more}
 
 twice : (a o e : Bool) → xor a (xor o false) ≡ xor (xor a (xor o e)) e

@@ -10,5 +10,5 @@ pub mod Correcting
 pub mod Examples
 pub mod Kept
 pub mod Outputs
-pub mod Changes
 pub mod Rewritten
+pub mod Internal

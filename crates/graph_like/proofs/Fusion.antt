@@ -12,7 +12,7 @@ use Rattle.zx_model.proofs.Ring.{one-mul, mul-one, mul-sign, sorted}
 use Rattle.zx_model.proofs.Powers.{root_power-zero, root_power-add, root_power-mod, root_power-half_turn}
 use Rattle.zx_model.proofs.SumLemmas.{all_lists, labelled-same, labelled-other}
 use Rattle.zx_calculus.specs.Sum.{spider, vertex_product, end_factor, end_product}
-use Rattle.zx_calculus.specs.Parity.{quad}
+use Rattle.zx_calculus.specs.Internal.Pairs.{quad}
 use Rattle.zx_calculus.specs.Edits.{is_pair}
 use Rattle.zx_calculus.proofs.Ids.{by_equal, Distinct, or-left, or-right, eqb-self, member-filter}
 use Rattle.zx_calculus.proofs.Parity.{quad-xor, masked-false}

@@ -9,7 +9,7 @@ use Rattle.zx_model.proofs.Domain.{mul-nonzero}
 use Rattle.zx_model.proofs.SumLemmas.{sum_over_same, sum_over_mul, labelled-same, labelled-other}
 use Rattle.zx_calculus.specs.Graph.{End, end_vertices}
 use Rattle.zx_calculus.specs.Sum.{end_factor, end_product}
-use Rattle.zx_calculus.specs.Parity.{quad}
+use Rattle.zx_calculus.specs.Internal.Pairs.{quad}
 use Rattle.zx_calculus.specs.Edits.{is_pair}
 use Rattle.zx_calculus.specs.Splits.{split_left}
 use Rattle.zx_calculus.proofs.Ids.{by_test, by_equal, member-here, member-there}

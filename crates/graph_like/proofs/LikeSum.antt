@@ -12,7 +12,8 @@ use Rattle.zx_model.proofs.SumLemmas.{all_lists, sum_over_same, labelled-other}
 use Rattle.zx_calculus.specs.Graph.{Vertex, End, Graph, ids, joined, end_vertices, in_order}
 use Rattle.zx_calculus.specs.Sum as graph
 use Rattle.zx_calculus.specs.Sum.{vertex_product, edge_product, end_product}
-use Rattle.zx_calculus.specs.Parity.{masked, quad}
+use Rattle.zx_calculus.specs.Parity.{masked}
+use Rattle.zx_calculus.specs.Internal.Pairs.{quad}
 use Rattle.zx_calculus.specs.Adjacency.{edges_of}
 use Rattle.zx_calculus.specs.Edits.{is_pair}
 use Rattle.zx_calculus.specs.Splits.{spider_of_phase_zero}

@@ -4,6 +4,18 @@
 //! to a nonzero scalar; a diagram has one such form; `least_spiders` names the classes, each by its
 //! smallest spider.
 //!
+//! Inside:
+//!
+//! - `marks`: the change of colour.
+//! - `near`: a spider's neighbours along plain edges.
+//! - `classes`: plain edges contracted one at a time, the classes that they leave.
+//! - `homes`: the vertex of each spider's class.
+//! - `phases`: the phases of classes.
+//! - `vertices`: their vertices and the edges between them.
+//! - `ends`: inputs and outputs, each further one at a new vertex.
+//! - `form`: the call.
+//! - `laws`: the form keeps the map.
+//!
 //! ```rust
 //! let least = least_spiders(alloc, &diagram)?;
 //! let fused = least[u] == least[v];              // whether two spiders are of one class

@@ -11,7 +11,8 @@ use Rattle.zx_calculus.specs.Turns.{quarter_turned, half_turned, complemented}
 use Rattle.zx_calculus.proofs.Ids.{by_equal}
 use Rattle.zx_calculus.proofs.Vertices.{with_kinds_same, with_kinds-unchanged, without-with_kinds}
 use Rattle.zx_calculus.proofs.Splitting.{no_loop, interior_of, off_XY}
-use Rattle.zx_calculus.specs.Toggles.{IsToggled, among, changed_in, with_changed}
+use Rattle.zx_calculus.specs.Toggles.{IsToggled, among}
+use Rattle.zx_calculus.specs.Internal.ChangedKinds.{changed_in, with_changed}
 use Rattle.zx_calculus.proofs.Toggling.{member-neighbours, row_stays}
 use Rattle.zx_calculus.proofs.ChangedKinds.{KeepsEnds-changed, with_kinds-with_kinds, turned_neighbours, turned_live, turned_twice}
 use Rattle.zx_calculus.proofs.Allowed.{delete_live}

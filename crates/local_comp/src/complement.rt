@@ -1,11 +1,11 @@
 //! The local complement about a vertex.
 
-ghost use Rattle.std.specs.Prelude.{◌≡◌, true, IsOk, IfOk, OnOk, OnErr};
+ghost use Rattle.std.specs.Prelude.{◌≡◌, ◌≤◌, true, IsOk, IfOk, OnOk, OnErr};
 ghost use Rattle.zx_model.specs.Bits.{member};
 ghost use Rattle.zx_calculus.specs.Graph.{ids, plane_of, Live, Interior, WellFormed};
 ghost use Rattle.zx_calculus.specs.Steps.{allowed, IsStep, LocalComplement};
 ghost use Rattle.zx_calculus.specs.Edits.{at_vertex};
-ghost use Rattle.zx_calculus.specs.Toggles.{with_changed};
+ghost use Rattle.zx_calculus.specs.Internal.ChangedKinds.{with_changed};
 ghost use Rattle.zx_calculus.specs.Turns.{in_plane, complemented};
 ghost use Rattle.zx_bits.specs.Sets.{IsBelow};
 ghost use Rattle.gflow_laws.specs.Seen.{seen};
@@ -37,20 +37,21 @@ pub fn local_complement(g: &mut OpenGraph, f: &mut Flow, u: VertexId) -> Result<
     ensures scalar { IfOk result (λ s. s ≡ step_scalar g.old.graph (LocalComplement u)) }
     ensures err { OnErr result ((g.new.graph ≡ g.old.graph) × (f.new.flow ≡ f.old.flow)) }
     ensures has_room { HaveReach g.old f.old → IsOk result }
-    ensures spare { HaveReach g.old f.old →
-        (g.new.spare ≡ g.old.spare) × (f.new.spare ≡ f.old.spare) }
-    ensures reach { HaveReach g.old f.old →
-        (g.new.reach ≡ g.old.reach) × (f.new.reach ≡ f.old.reach) }
+    ensures spare { OnOk result
+        ((g.new.spare ≡ g.old.spare) × (f.new.spare ≡ f.old.spare)) }
+    ensures keeps_spare { OnErr result
+        ((g.new.spare ≡ g.old.spare) × (f.old.spare ≤ f.new.spare)) }
+    ensures reach { (g.new.reach ≡ g.old.reach) × (f.new.reach ≡ f.old.reach) }
     ensures valid { WellFormed g.new.graph }
 {
     if f.has_reach(g) {
         return local_complement_in_place(g, f, u);
     }
-    local_complement_in_copies(g, f, u)
+    local_complement_with_copies(g, f, u)
 }
 
-// The same on copies, which then take the place of graph and flow.
-fn local_complement_in_copies(
+// The same in place. Where memory runs out, copies take the place of graph and flow.
+fn local_complement_with_copies(
     g: &mut OpenGraph,
     f: &mut Flow,
     u: VertexId,
@@ -61,14 +62,23 @@ fn local_complement_in_copies(
         (IsRewritten g.old.graph f.old.flow (LocalComplement u) g.new.graph f.new.flow) }
     ensures scalar { IfOk result (λ s. s ≡ step_scalar g.old.graph (LocalComplement u)) }
     ensures err { OnErr result ((g.new.graph ≡ g.old.graph) × (f.new.flow ≡ f.old.flow)) }
+    ensures spare { OnOk result
+        ((g.new.spare ≡ g.old.spare) × (f.new.spare ≡ f.old.spare)) }
+    ensures keeps_spare { OnErr result
+        ((g.new.spare ≡ g.old.spare) × (f.old.spare ≤ f.new.spare)) }
+    ensures reach { (g.new.reach ≡ g.old.reach) × (f.new.reach ≡ f.old.reach) }
     ensures valid { WellFormed g.new.graph }
 {
     let mut graph = g.copy()?;
     let mut flow = f.copy()?;
-    let scalar = local_complement_in_place(&mut graph, &mut flow, u)?;
-    mem::swap(g, &mut graph);
-    mem::swap(f, &mut flow);
-    Ok(scalar)
+    match local_complement_in_place(g, f, u) {
+        Ok(scalar) => Ok(scalar),
+        Err(error) => {
+            mem::swap(g, &mut graph);
+            mem::swap(f, &mut flow);
+            Err(error)
+        }
+    }
 }
 
 /// Whether the id is that of an interior vertex.

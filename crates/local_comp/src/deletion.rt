@@ -1,10 +1,10 @@
 //! The deletion of a vertex of half turns.
 
-ghost use Rattle.std.specs.Prelude.{◌≡◌, ◌+◌, true, IsOk, IfOk, OnOk, OnErr};
+ghost use Rattle.std.specs.Prelude.{◌≡◌, ◌≤◌, ◌+◌, true, IsOk, IfOk, OnOk, OnErr};
 ghost use Rattle.zx_calculus.specs.Graph.{joined, phase_of, Live, WellFormed};
 ghost use Rattle.zx_calculus.specs.Steps.{allowed, Delete, IsStep};
 ghost use Rattle.zx_calculus.specs.Deletions.{delete_kind};
-ghost use Rattle.zx_calculus.specs.Toggles.{with_changed};
+ghost use Rattle.zx_calculus.specs.Internal.ChangedKinds.{with_changed};
 ghost use Rattle.zx_calculus.specs.StepScalars.{step_scalar};
 ghost use Rattle.gflow_laws.specs.Flow.{IsFlow};
 ghost use Rattle.gflow_laws.specs.Rewritten.{IsRewritten};
@@ -29,34 +29,44 @@ pub fn delete(g: &mut OpenGraph, f: &mut Flow, u: VertexId) -> Result<Scalar, Al
     ensures scalar { IfOk result (λ s. s ≡ step_scalar g.old.graph (Delete u)) }
     ensures err { OnErr result ((g.new.graph ≡ g.old.graph) × (f.new.flow ≡ f.old.flow)) }
     ensures has_room { HaveReach g.old f.old → IsOk result }
-    ensures spare { HaveReach g.old f.old →
-        (g.new.spare ≡ g.old.spare + 1) × (f.new.spare ≡ f.old.spare + 1) }
-    ensures reach { HaveReach g.old f.old →
-        (g.new.reach ≡ g.old.reach) × (f.new.reach ≡ f.old.reach) }
+    ensures spare { OnOk result
+        ((g.new.spare ≡ g.old.spare + 1) × (f.new.spare ≡ f.old.spare + 1)) }
+    ensures keeps_spare { OnErr result
+        ((g.new.spare ≡ g.old.spare) × (f.old.spare ≤ f.new.spare)) }
+    ensures reach { (g.new.reach ≡ g.old.reach) × (f.new.reach ≡ f.old.reach) }
     ensures valid { WellFormed g.new.graph }
 {
     if f.has_reach(g) {
         return delete_in_place(g, f, u);
     }
-    delete_in_copies(g, f, u)
+    delete_with_copies(g, f, u)
 }
 
-// The same on copies, which then take the place of graph and flow.
-fn delete_in_copies(g: &mut OpenGraph, f: &mut Flow, u: VertexId) -> Result<Scalar, AllocError>
+// The same in place. Where memory runs out, copies take the place of graph and flow.
+fn delete_with_copies(g: &mut OpenGraph, f: &mut Flow, u: VertexId) -> Result<Scalar, AllocError>
     requires flow { IsFlow g.old.graph f.old.flow }
     requires allowed { allowed g.old.graph (Delete u) ≡ true }
     ensures rewritten { OnOk result
         (IsRewritten g.old.graph f.old.flow (Delete u) g.new.graph f.new.flow) }
     ensures scalar { IfOk result (λ s. s ≡ step_scalar g.old.graph (Delete u)) }
     ensures err { OnErr result ((g.new.graph ≡ g.old.graph) × (f.new.flow ≡ f.old.flow)) }
+    ensures spare { OnOk result
+        ((g.new.spare ≡ g.old.spare + 1) × (f.new.spare ≡ f.old.spare + 1)) }
+    ensures keeps_spare { OnErr result
+        ((g.new.spare ≡ g.old.spare) × (f.old.spare ≤ f.new.spare)) }
+    ensures reach { (g.new.reach ≡ g.old.reach) × (f.new.reach ≡ f.old.reach) }
     ensures valid { WellFormed g.new.graph }
 {
     let mut graph = g.copy()?;
     let mut flow = f.copy()?;
-    let scalar = delete_in_place(&mut graph, &mut flow, u)?;
-    mem::swap(g, &mut graph);
-    mem::swap(f, &mut flow);
-    Ok(scalar)
+    match delete_in_place(g, f, u) {
+        Ok(scalar) => Ok(scalar),
+        Err(error) => {
+            mem::swap(g, &mut graph);
+            mem::swap(f, &mut flow);
+            Err(error)
+        }
+    }
 }
 
 /// Whether the id is that of an XZ or YZ vertex of phase 0 or of a half turn.

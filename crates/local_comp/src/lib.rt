@@ -8,8 +8,15 @@
 //! `delete_scalar` by which scalar it changes the sum. `local_complement_in_place`
 //! and `delete_in_place` make the same change without copies; where memory runs out they say nothing.
 //! `local_complement_in_graph` and `delete_in_graph` change the graph alone, by the same step. Where
-//! all vertices are below the reach of graph and flow, none of these takes memory, and what both have
-//! memory for stays.
+//! all vertices are below the reach of graph and flow, none of these takes memory. What both have
+//! memory for stays in any case: a deletion gives back a place for a vertex, and no reach changes.
+//!
+//! Inside:
+//!
+//! - `complement`, `deletion`: a rewrite each, with its test, its scalar, its change of the graph
+//!   alone and in place, and the safe call.
+//! - `neighbours`: what is done to each neighbour of a vertex.
+//! - `scalars`: by which scalars the rewrites change the sum.
 //!
 //! ```rust
 //! if may_complement(&graph, u) {

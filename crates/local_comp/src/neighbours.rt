@@ -3,7 +3,7 @@
 ghost use Rattle.std.specs.Prelude.{◌≡◌};
 ghost use Rattle.zx_calculus.specs.Graph.{neighbours, Live, WellFormed};
 ghost use Rattle.zx_calculus.specs.Turns.{quarter_turned};
-ghost use Rattle.zx_calculus.specs.Toggles.{changed_in, with_changed};
+ghost use Rattle.zx_calculus.specs.Internal.ChangedKinds.{changed_in, with_changed};
 
 use open_graph::{OpenGraph, VertexId};
 

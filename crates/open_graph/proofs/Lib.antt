@@ -4,6 +4,7 @@ pub mod Toggling
 pub mod PlaceLemmas
 pub mod TableLemmas
 pub mod SlotLemmas
+pub mod CopyLemmas
 pub mod Keeping
 pub mod Removing
 pub mod RowToggles

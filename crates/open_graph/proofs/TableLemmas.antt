@@ -13,12 +13,11 @@ use Rattle.open_graph.proofs.SlotLemmas.{live_if_some}
 
 -- an entry and its bit are changed
 row_set : (slots : List (Option Slot)) (free new : BitRow) (v : ℕ) (slot : Option Slot) → IsFreeRow slots free → v < length slots →
-    length new.bits ≡ length free.bits → new.has_room ≡ true → ((p : ℕ) → bit new.bits p ≡ cond (eqb p v) (not (is_some slot)) (bit free.bits p)) →
+    length new.bits ≡ length free.bits → ((p : ℕ) → bit new.bits p ≡ cond (eqb p v) (not (is_some slot)) (bit free.bits p)) →
     IsFreeRow (set slots v slot) new
-row_set slots free new v slot row within long room bits =
+row_set slots free new v slot row within long bits =
     record {
       covers = omega (arith, row.covers, long, length-set slots v slot);
-      has_room = λ _. room;
       vacant = λ p lt. bits p ∙ by_equal p v
           (λ t e. rw t (sym (ap (λ o. not (is_some o)) (ap (λ q. get_or (set slots v slot) q None) e ∙ get_or-set_same slots v slot None within))))
           (λ f n. rw f (row.vacant p (omega (arith, lt, length-set slots v slot)) ∙ sym (ap (λ o. not (is_some o)) (get_or-set_other slots v p slot None n))));
@@ -44,12 +43,6 @@ module _ (slots : List (Option Slot)) (free : BitRow) (row : IsFreeRow slots fre
   free_within v is_set =
       by_test (ltb v (length slots)) (λ t. ltb-true v (length slots) t) (λ f. absurd (true≢false (sym is_set ∙ row.none_after v (ltb-false v (length slots) f))))
 
-  room_within : (v : ℕ) → v < length free.bits → free.has_room ≡ true
-  room_within v within = row.has_room (omega (arith, within))
-
-  pub room_free : (v : ℕ) → bit free.bits v ≡ true → free.has_room ≡ true
-  room_free v is_set = room_within v (place_within free.bits v is_set)
-
   -- an id whose bit is set has no slot, and where no bit is, all have one
   pub is_vacant : (v : ℕ) → bit free.bits v ≡ true → is_some (slice_index_or slots v None) ≡ false
   is_vacant v is_set = turned (is_some (slice_index_or slots v None)) (sym (row.vacant v (free_within v is_set)) ∙ is_set)
@@ -67,10 +60,10 @@ module _ (slots : List (Option Slot)) (free : BitRow) (row : IsFreeRow slots fre
 
   -- a free entry takes a slot
   pub row_filled : (new : BitRow) (v : ℕ) (slot : Slot) → bit free.bits v ≡ true → new.bits ≡ flipped free.bits v →
-      (free.has_room ≡ true → new.has_room ≡ true) → IsFreeRow (set slots v (Some slot)) new
-  row_filled new v slot is_set turned room =
+      IsFreeRow (set slots v (Some slot)) new
+  row_filled new v slot is_set turned =
       let within = place_within free.bits v is_set in
-      row_set slots free new v (Some slot) row (free_within v is_set) (ap length turned ∙ length-flipped free.bits v) (room (room_within v within))
+      row_set slots free new v (Some slot) row (free_within v is_set) (ap length turned ∙ length-flipped free.bits v)
       (λ p. ap (λ xs. bit xs p) turned ∙ flipped_to free.bits v p false within is_set)
 
   module _ (v : ℕ) (there : IsSome (slice_index_or slots v None)) where
@@ -80,16 +73,13 @@ module _ (slots : List (Option Slot)) (free : BitRow) (row : IsFreeRow slots fre
     bit_within : v < length free.bits
     bit_within = omega (arith, slot_within, row.covers)
 
-    pub room_at : free.has_room ≡ true
-    room_at = room_within v bit_within
-
     unset : bit free.bits v ≡ false
     unset = row.vacant v slot_within ∙ ap not there
 
     -- a slot is taken out
-    pub row_emptied : (new : BitRow) → new.bits ≡ flipped free.bits v → (free.has_room ≡ true → new.has_room ≡ true) → IsFreeRow (set slots v None) new
-    row_emptied new turned room =
-        row_set slots free new v None row slot_within (ap length turned ∙ length-flipped free.bits v) (room room_at)
+    pub row_emptied : (new : BitRow) → new.bits ≡ flipped free.bits v → IsFreeRow (set slots v None) new
+    row_emptied new turned =
+        row_set slots free new v None row slot_within (ap length turned ∙ length-flipped free.bits v)
         (λ p. ap (λ xs. bit xs p) turned ∙ flipped_to free.bits v p true bit_within unset)
 
   -- a slot behind all entries
@@ -97,7 +87,6 @@ module _ (slots : List (Option Slot)) (free : BitRow) (row : IsFreeRow slots fre
   row_pushed slot more =
       record {
         covers = omega (arith, more, length_push slots (Some slot));
-        has_room = row.has_room;
         vacant = λ p lt. by_test (ltb p (length slots))
             (λ t. row.vacant p (ltb-true p (length slots) t) ∙ sym (ap (λ o. not (is_some o)) (get_or_append_left slots (Some slot ∷ []) None p (ltb-true p (length slots) t))))
             (λ f. let past : length slots ≤ p = ltb-false p (length slots) f in
@@ -111,11 +100,10 @@ module _ (slots : List (Option Slot)) (free : BitRow) (row : IsFreeRow slots fre
 
   -- an entry without a slot behind all
   pub row_pushed_none : (new : BitRow) → length slots < length free.bits → new.bits ≡ flipped free.bits (length slots) →
-      (free.has_room ≡ true → new.has_room ≡ true) → IsFreeRow (slots ++ None ∷ []) new
-  row_pushed_none new more turned room =
+      IsFreeRow (slots ++ None ∷ []) new
+  row_pushed_none new more turned =
       record {
         covers = omega (arith, more, size_more, ap length turned, length-flipped free.bits (length slots));
-        has_room = λ some. room (room_within (length slots) more);
         vacant = λ p lt. ap (λ xs. bit xs p) turned ∙ bit-flipped free.bits (length slots) p more ∙ by_test (ltb p (length slots))
             (λ t. let lt' = ltb-true p (length slots) t in
             ap (xor (bit free.bits p)) (ne_eqb p (length slots) (omega arith)) ∙ xor-false (bit free.bits p)
@@ -130,11 +118,10 @@ module _ (slots : List (Option Slot)) (free : BitRow) (row : IsFreeRow slots fre
 
 -- other slots under the same ids
 pub row_same : (slots new : List (Option Slot)) (free copy : BitRow) → IsFreeRow slots free → length new ≡ length slots → ((p : ℕ) → told new p ≡ told slots p) →
-    copy.bits ≡ free.bits → copy.has_room ≡ true → IsFreeRow new copy
-row_same slots new free copy row size same bits room =
+    copy.bits ≡ free.bits → IsFreeRow new copy
+row_same slots new free copy row size same bits =
     record {
       covers = omega (arith, row.covers, size, ap length bits);
-      has_room = λ some. room;
       vacant = λ p lt. ap (λ xs. bit xs p) bits ∙ row.vacant p (omega (arith, lt, size)) ∙ ap not (live_if_some _ ∙ sym (ap (λ t. t.live) (same p)) ∙ sym (live_if_some _));
       none_after = λ p le. ap (λ xs. bit xs p) bits ∙ row.none_after p (omega (arith, le, size));
     }

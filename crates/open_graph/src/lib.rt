@@ -6,7 +6,22 @@
 //! but leaves no vertex where it stops one of the calls that toggle whole rows. A graph tells how
 //! many vertices it takes without memory, and its reach, below which any edges are toggled without
 //! memory; a set of vertices tells below which bound it takes any id without memory; `reserve` raises
-//! each, and no call lowers a reach.
+//! each, no call lowers a reach, and a copy has as many places for vertices and the same reach.
+//!
+//! Inside:
+//!
+//! - `id`, `plane`, `end`: what the calls take and give.
+//! - `vertices`, `ids`: the iterators over a graph and over a set.
+//! - `vertex_set`: a set of ids, which tells its room.
+//! - `slot`: what is kept of a vertex.
+//! - `slot_table`: slots under their ids, the least free one found by a row of bits, with spare
+//!   entries in reserve.
+//! - `slots`: changes of one slot, of the rows of two, and of many rows at once, and the rows kept
+//!   for ids that no vertex has.
+//! - `scratch`: two sets that calls fill.
+//! - `side`: changes of the inputs or of the outputs.
+//! - `open_graph`: `OpenGraph` with its calls. What slots tell of each id (`told`) decides the
+//!   lists, so each call is shown as a change of what is told.
 //!
 //! ```rust
 //! let mut g = OpenGraph::new(alloc);

@@ -344,17 +344,61 @@ impl OpenGraph {
         let Some(reach) = self.slots.len().checked_add(vertices) else {
             return Err(AllocError);
         };
-        let reach = reach.max(self.reach);
         self.slots.reserve(vertices)?;
-        slots::reserve(&mut self.slots, &mut self.kept, self.alloc, reach)?;
-        self.scratch.reserve(reach)?;
-        self.reach = reach;
+        self.extend_reach(reach)
+    }
+
+    /// Takes the memory that another graph has: for as many vertices in all, and for all edges below its
+    /// reach. Where it runs out, some may be taken.
+    pub fn reserve_like(&mut self, other: &OpenGraph) -> Result<(), AllocError>
+        ensures same { self.new.graph ≡ self.old.graph }
+        ensures places { OnOk result (other.now.spare + length other.now.graph.vertices
+            ≤ self.new.spare + length self.new.graph.vertices) }
+        ensures reach { OnOk result (other.now.reach ≤ self.new.reach) }
+        ensures keeps_spare { self.old.spare ≤ self.new.spare }
+        ensures keeps_reach { self.old.reach ≤ self.new.reach }
+        ensures valid { WellFormed self.new.graph }
+    {
+        let vacant = other.slots.len().saturating_sub(self.slots.filled());
+        self.slots.reserve(vacant)?;
+        self.extend_reach(other.reach)
+    }
+
+    // Moves the reach up to a bound at least, with the memory for all edges below it: a bit for each
+    // two ids. Where it runs out, some may be taken.
+    fn extend_reach(&mut self, bound: usize) -> Result<(), AllocError>
+        ensures same { self.new.graph ≡ self.old.graph }
+        ensures spare { self.new.spare ≡ self.old.spare }
+        ensures ok { OnOk result (bound ≤ self.new.reach) }
+        ensures least { OnOk result (self.old.reach ≤ bound → self.new.reach ≡ bound) }
+        ensures keeps { self.old.reach ≤ self.new.reach }
+        ensures valid { WellFormed self.new.graph }
+    {
+        if bound <= self.reach {
+            return Ok(());
+        }
+        slots::reserve(&mut self.slots, &mut self.kept, self.alloc, bound)?;
+        self.scratch.reserve(bound)?;
+        self.reach = bound;
         Ok(())
     }
 
-    /// The same graph once more, of reach 0.
+    /// The same graph once more, with memory for as many vertices more, and with the same reach.
     pub fn copy(&self) -> Result<OpenGraph, AllocError>
         ensures ok { IfOk result (λ copy. copy.graph ≡ self.now.graph) }
+        ensures spare { IfOk result (λ copy. copy.spare ≡ self.now.spare) }
+        ensures reach { IfOk result (λ copy. copy.reach ≡ self.now.reach) }
+        ensures valid { WellFormed self.now.graph }
+    {
+        let mut copy = self.copy_without_reach()?;
+        copy.extend_reach(self.reach)?;
+        Ok(copy)
+    }
+
+    // The same graph once more, of reach 0.
+    fn copy_without_reach(&self) -> Result<OpenGraph, AllocError>
+        ensures ok { IfOk result (λ copy. copy.graph ≡ self.now.graph) }
+        ensures spare { IfOk result (λ copy. copy.spare ≡ self.now.spare) }
         ensures reach { IfOk result (λ copy. copy.reach ≡ 0) }
         ensures valid { WellFormed self.now.graph }
     {

@@ -36,11 +36,11 @@ impl Model for SlotTable {
 }
 
 impl Clone for SlotTable {
-    ghost is_clone = { λ table copy. SameTold table.slots copy.slots };
+    ghost is_clone = { λ table copy. SameTold table.slots copy.slots
+        × (vacant_in copy.slots ≡ vacant_in table.slots) };
 
     fn clone(&self) -> Result<SlotTable, AllocError> {
-        let mut free = self.free.clone()?;
-        free.reserve()?;
+        let free = self.free.clone()?;
         Ok(SlotTable {
             entries: copy_entries(*self.entries.allocator(), &self.entries)?,
             free,
@@ -79,7 +79,7 @@ impl SlotTable {
     {
         SlotTable {
             entries: Vec::new(alloc),
-            free: BitRow::new(alloc, 0),
+            free: BitRow::empty(alloc),
         }
     }
 
@@ -94,7 +94,7 @@ impl SlotTable {
         ensures spare { OnOk result (vacant_in self.new.slots ≡ vacant_in self.old.slots - 1) }
     {
         if let Some(id) = self.free.bit_from(0) {
-            self.free.flip(id)?;
+            self.free.flip(id);
             self.entries[id] = Some(slot);
             return Ok(id);
         }
@@ -111,7 +111,7 @@ impl SlotTable {
         ensures updates { Updates self.old self.new id None }
         ensures spare { vacant_in self.new.slots ≡ vacant_in self.old.slots + 1 }
     {
-        self.free.flip(id).unwrap();
+        self.free.flip(id);
         self.entries[id].take().unwrap()
     }
 
@@ -191,7 +191,7 @@ impl SlotTable {
         let id = self.entries.len();
         make_room(&mut self.free, id + 1)?;
         self.entries.push(None)?;
-        self.free.flip(id).unwrap();
+        self.free.flip(id);
         Ok(())
     }
 
@@ -251,9 +251,5 @@ fn make_room(free: &mut BitRow, bits: usize) -> Result<(), AllocError>
     if bits <= free.len() {
         return Ok(());
     }
-    let mut longer = free.clone()?;
-    longer.grow(bits.max(64))?;
-    longer.reserve()?;
-    *free = longer;
-    Ok(())
+    free.grow(bits.max(64))
 }

@@ -82,7 +82,27 @@ impl Frame {
         set_row(&mut self.xs, q, turned);
     }
 
-    /// A Clifford gate is taken off the front.
+    /// A Cz is taken off the front.
+    pub(crate) fn pass_cz(&mut self, p: Qubit, q: Qubit) {
+        for string in &mut self.xs {
+            string.pass_cz(p, q);
+        }
+        for string in &mut self.zs {
+            string.pass_cz(p, q);
+        }
+    }
+
+    /// An H is taken off the front.
+    pub(crate) fn pass_h(&mut self, q: Qubit) {
+        for string in &mut self.xs {
+            string.pass_h(q);
+        }
+        for string in &mut self.zs {
+            string.pass_h(q);
+        }
+    }
+
+    /// Any Clifford gate is taken off the front.
     pub(crate) fn pass(&mut self, gate: &Gate) {
         for string in &mut self.xs {
             string.pass(gate);

@@ -1,7 +1,7 @@
 //! Circuits written again with fewer gates on two qubits, as phases about strings of Pauli letters.
 //!
-//! Nothing is proved of `propose` but that what it makes is a circuit on as many qubits: who takes it in
-//! the other's place has to show that the maps are the same.
+//! Nothing is proved of `propose` and `rewrite` but that what they make is a circuit on as many qubits: who takes
+//! it in the other's place has to show that the maps are the same.
 //!
 //! The circuit is read as a list of phases about Pauli strings, and a Clifford map behind them. Gates are
 //! written again, and taken off the front of what is left: a phase once its string is a single letter;
@@ -16,8 +16,9 @@
 
 mod frame;
 mod network;
+mod noise;
 mod proposing;
 mod scores;
 mod strings;
 
-pub use proposing::propose;
+pub use proposing::{circuit_of, inverse, propose, rewrite};

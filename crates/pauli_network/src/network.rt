@@ -1,6 +1,7 @@
 //! Circuits written again, phase by phase.
 
 use crate::frame::Frame;
+use crate::noise::Noise;
 use crate::scores::{Controlled, Kept, Row, UNIT, best, best_towards, row_of};
 use crate::strings::{Letter, PauliString, bit};
 use std::alloc::{AllocError, Global};
@@ -22,8 +23,8 @@ pub(crate) struct Limits {
     pub(crate) looks: u64,
 }
 
-/// Writes gates again, as phases about Pauli strings and a Clifford map behind them; or none, where a
-/// limit is met.
+/// Writes gates again, as phases about Pauli strings and a Clifford map behind them, with noise on the
+/// scores; or none, where a limit is met.
 ///
 /// # Errors
 ///
@@ -33,8 +34,9 @@ pub(crate) fn rewritten(
     qubits: Qubit,
     gates: &[Gate],
     limits: Limits,
+    noise: Noise,
 ) -> Result<Option<Vec<Gate>>, AllocError> {
-    let mut network = Network::new(alloc, qubits, limits)?;
+    let mut network = Network::new(alloc, qubits, limits, noise)?;
     let mut next = 0;
     // Each time a gate is written, or more are read.
     for _ in 0..gates.len().saturating_add(limits.two_qubit) {
@@ -74,10 +76,16 @@ struct Network {
     // The rows of the score.
     rows: Vec<Row>,
     limits: Limits,
+    noise: Noise,
 }
 
 impl Network {
-    fn new(alloc: Global, qubits: Qubit, limits: Limits) -> Result<Network, AllocError> {
+    fn new(
+        alloc: Global,
+        qubits: Qubit,
+        limits: Limits,
+        noise: Noise,
+    ) -> Result<Network, AllocError> {
         Ok(Network {
             qubits,
             pending: Vec::new(alloc),
@@ -85,6 +93,7 @@ impl Network {
             made: Vec::new(alloc),
             rows: Vec::new(alloc),
             limits,
+            noise,
         })
     }
 
@@ -131,12 +140,37 @@ impl Network {
 
     // Writes a Clifford gate.
     fn write(&mut self, gate: Gate) -> Result<(), AllocError> {
-        for rotation in &mut self.pending {
-            rotation.string.pass(&gate);
+        match gate {
+            Gate::Cz(p, q) => self.pass_cz(p, q),
+            Gate::H(q) => self.pass_h(q),
+            _ => self.pass_other(&gate),
         }
-        self.frame.pass(&gate);
         self.made.push(gate)?;
         Ok(())
+    }
+
+    // All that is to be written is behind a Cz.
+    fn pass_cz(&mut self, p: Qubit, q: Qubit) {
+        for rotation in &mut self.pending {
+            rotation.string.pass_cz(p, q);
+        }
+        self.frame.pass_cz(p, q);
+    }
+
+    // The same for an H.
+    fn pass_h(&mut self, q: Qubit) {
+        for rotation in &mut self.pending {
+            rotation.string.pass_h(q);
+        }
+        self.frame.pass_h(q);
+    }
+
+    // The same for any gate.
+    fn pass_other(&mut self, gate: &Gate) {
+        for rotation in &mut self.pending {
+            rotation.string.pass(gate);
+        }
+        self.frame.pass(gate);
     }
 
     // Writes each phase about a string of one letter that nothing blocks.
@@ -228,7 +262,13 @@ impl Network {
     fn shorten(&mut self, string: &PauliString) -> Result<(), AllocError> {
         self.fill_rows()?;
         self.look(string);
-        match best(&self.rows, self.qubits, string, Kept::Nothing) {
+        match best(
+            &self.rows,
+            self.qubits,
+            string,
+            Kept::Nothing,
+            self.noise.for_choice(),
+        ) {
             Some(gate) => self.write_controlled(&gate),
             None => Ok(()),
         }
@@ -324,7 +364,13 @@ impl Network {
         let gate = if string.weight() <= 1 {
             best_towards(&self.rows, string, q)
         } else {
-            best(&self.rows, self.qubits, string, Kept::LetterOn(q))
+            best(
+                &self.rows,
+                self.qubits,
+                string,
+                Kept::LetterOn(q),
+                self.noise.for_choice(),
+            )
         };
         match gate {
             Some(gate) => self.write_controlled(&gate),
@@ -342,7 +388,8 @@ impl Network {
             self.rows.clear();
             self.add_frame_rows(UNIT)?;
             self.look(&string);
-            if let Some(gate) = best(&self.rows, self.qubits, &string, Kept::ZOn(q)) {
+            let noise = self.noise.for_choice();
+            if let Some(gate) = best(&self.rows, self.qubits, &string, Kept::ZOn(q), noise) {
                 self.write_controlled(&gate)?;
             }
         }

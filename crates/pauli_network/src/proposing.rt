@@ -4,6 +4,7 @@ ghost use Rattle.std.specs.Prelude.{◌≡◌, ◌≤◌, IfOk, IfSome, IsTrue};
 ghost use Rattle.zx_gates.specs.Circuit.{IsOnQubits, most_qubits};
 
 use crate::network::{Limits, rewritten};
+use crate::noise::Noise;
 use crate::strings::MOST_QUBITS;
 use std::alloc::{AllocError, Global};
 use zx_gates::{Gate, GateList, Qubit};
@@ -24,14 +25,67 @@ pub fn propose(alloc: Global, circuit: &GateList) -> Result<Option<GateList>, Al
     if qubits > MOST_QUBITS {
         return Ok(None);
     }
-    let forwards = rewritten(alloc, qubits, circuit.gates(), limits_for(circuit.gates()))?;
-    let undone = inverse(alloc, circuit.gates())?;
-    let backwards = match rewritten(alloc, qubits, &undone, limits_for(&undone))? {
-        Some(gates) => Some(inverse(alloc, &gates)?),
-        None => None,
-    };
+    let forwards = rewritten(
+        alloc,
+        qubits,
+        circuit.gates(),
+        limits_for(circuit.gates()),
+        Noise::none(),
+    )?;
+    let backwards = rewritten_backwards(alloc, qubits, circuit.gates(), Noise::none())?;
     match shorter(forwards, backwards) {
         Some(gates) => circuit_of(alloc, qubits, &gates),
+        None => Ok(None),
+    }
+}
+
+/// A circuit that may have the map of another one, and no more gates on two qubits, where such is found: by the
+/// same means as `propose`, from one end alone, and with a little noise from a seed in what is chosen. Nothing is
+/// promised of either.
+///
+/// # Errors
+///
+/// Only where memory runs out.
+pub fn rewrite(
+    alloc: Global,
+    circuit: &GateList,
+    is_backwards: bool,
+    seed: u64,
+) -> Result<Option<GateList>, AllocError>
+    ensures { IfOk result (λ found. IfSome found (λ made. made.qubits ≡ circuit.now.qubits)) }
+{
+    let qubits = circuit.qubits();
+    if qubits > MOST_QUBITS {
+        return Ok(None);
+    }
+    let noise = Noise::of_seed(seed);
+    let found = if is_backwards {
+        rewritten_backwards(alloc, qubits, circuit.gates(), noise)?
+    } else {
+        rewritten(
+            alloc,
+            qubits,
+            circuit.gates(),
+            limits_for(circuit.gates()),
+            noise,
+        )?
+    };
+    match found {
+        Some(gates) => circuit_of(alloc, qubits, &gates),
+        None => Ok(None),
+    }
+}
+
+// Writes gates again from the last one on.
+fn rewritten_backwards(
+    alloc: Global,
+    qubits: Qubit,
+    gates: &[Gate],
+    noise: Noise,
+) -> Result<Option<Vec<Gate>>, AllocError> {
+    let undone = inverse(alloc, gates)?;
+    match rewritten(alloc, qubits, &undone, limits_for(&undone), noise)? {
+        Some(gates) => Ok(Some(inverse(alloc, &gates)?)),
         None => Ok(None),
     }
 }
@@ -71,9 +125,13 @@ fn shorter_of(a: Vec<Gate>, b: Vec<Gate>) -> Vec<Gate> {
     }
 }
 
-// The gates backwards, each with the opposite phase.
-fn inverse(alloc: Global, gates: &[Gate]) -> Result<Vec<Gate>, AllocError> {
-    let mut made = Vec::new(alloc);
+/// The gates backwards, each with the opposite phase.
+///
+/// # Errors
+///
+/// Only where memory runs out.
+pub fn inverse(alloc: Global, gates: &[Gate]) -> Result<Vec<Gate>, AllocError> {
+    let mut made = Vec::with_capacity(alloc, gates.len())?;
     for gate in gates.iter().rev() {
         let undone = match *gate {
             Gate::Phase(q, phase) => Gate::Phase(q, phase.neg()),
@@ -84,8 +142,16 @@ fn inverse(alloc: Global, gates: &[Gate]) -> Result<Vec<Gate>, AllocError> {
     Ok(made)
 }
 
-// The circuit of gates, where each is on its qubits.
-fn circuit_of(alloc: Global, qubits: Qubit, gates: &[Gate]) -> Result<Option<GateList>, AllocError>
+/// The circuit of gates, where each is on its qubits.
+///
+/// # Errors
+///
+/// Only where memory runs out.
+pub fn circuit_of(
+    alloc: Global,
+    qubits: Qubit,
+    gates: &[Gate],
+) -> Result<Option<GateList>, AllocError>
     requires { qubits ≤ most_qubits }
     ensures { IfOk result (λ found. IfSome found (λ made. made.qubits ≡ qubits)) }
 {

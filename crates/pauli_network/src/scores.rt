@@ -2,6 +2,7 @@
 
 ghost use Rattle.std.specs.Prelude.{◌<◌};
 
+use crate::noise::Noise;
 use crate::strings::{Letter, PauliString, bit};
 use zx_gates::Qubit;
 
@@ -72,14 +73,15 @@ impl Kept {
     }
 }
 
-/// The best gate that takes a letter from a string of two or more.
+/// The best gate that takes a letter from a string of two or more, with noise on the scores.
 pub(crate) fn best(
     rows: &[Row],
     qubits: Qubit,
     string: &PauliString,
     kept: Kept,
+    noise: Noise,
 ) -> Option<Controlled> {
-    let mut choice = Choice::new();
+    let mut choice = Choice::new(noise);
     for second in 0..qubits {
         if string.at(second).is_some() {
             for first in 0..second {
@@ -97,7 +99,7 @@ pub(crate) fn best_towards(rows: &[Row], string: &PauliString, q: Qubit) -> Opti
     let from = u16::try_from(string.first()).ok()?;
     let tally = Tally::of(rows, from, q);
     let here = string.at(from).another();
-    let mut choice = Choice::new();
+    let mut choice = Choice::new(Noise::none());
     for on_first in [here, here.times(string.at(from))] {
         for on_second in [Letter::Z, Letter::Z.another(), Letter { x: true, z: true }] {
             choice.offer(
@@ -119,13 +121,15 @@ pub(crate) fn best_towards(rows: &[Row], string: &PauliString, q: Qubit) -> Opti
 struct Choice {
     gate: Option<Controlled>,
     score: u64,
+    noise: Noise,
 }
 
 impl Choice {
-    fn new() -> Choice {
+    fn new(noise: Noise) -> Choice {
         Choice {
             gate: None,
             score: 0,
+            noise,
         }
     }
 
@@ -167,7 +171,7 @@ impl Choice {
 
     // Takes a gate that is better than all before.
     fn offer(&mut self, tally: &Tally, gate: Controlled) {
-        let score = tally.score(&gate);
+        let score = tally.score(&gate).wrapping_add(self.noise.next());
         if self.gate.is_none() || score > self.score {
             self.gate = Some(gate);
             self.score = score;
@@ -203,20 +207,20 @@ impl Tally {
         Tally { falls, rises }
     }
 
-    // More than `NO_CHANGE` where a gate gains, and less where it loses.
+    // More than `NO_CHANGE` where a gate gains, and less where it loses. A letter falls away or comes where
+    // one of the gate's letters anticommutes with what is there, and the other doesn't.
     fn score(&self, gate: &Controlled) -> u64 {
+        let (p, q) = (gate.on_first, gate.on_second);
         let mut score = NO_CHANGE;
-        for p in Letter::ALL {
-            for q in Letter::ALL {
-                let class = class_of(p, q);
-                let (before, after) = (count(p, q), count_behind(gate, p, q));
-                if after < before {
-                    score = score.wrapping_add(self.falls[class]);
-                }
-                if after > before {
-                    score = score.wrapping_sub(self.rises[class]);
-                }
-            }
+        for other in [p.another(), p.another().times(p)] {
+            score = score
+                .wrapping_add(self.falls[class_of(other, q)])
+                .wrapping_sub(self.rises[class_of(other, Letter::NONE)]);
+        }
+        for other in [q.another(), q.another().times(q)] {
+            score = score
+                .wrapping_add(self.falls[class_of(p, other)])
+                .wrapping_sub(self.rises[class_of(Letter::NONE, other)]);
         }
         score
     }
@@ -227,30 +231,4 @@ fn class_of(p: Letter, q: Letter) -> usize
     ensures { result < 16 }
 {
     p.number() + 4 * q.number()
-}
-
-// How many of two places have a letter.
-fn count(p: Letter, q: Letter) -> u8
-    ensures { result < 3 }
-{
-    match (p.is_some(), q.is_some()) {
-        (true, true) => 2,
-        (false, false) => 0,
-        _ => 1,
-    }
-}
-
-// How many of them have one behind a gate.
-fn count_behind(gate: &Controlled, p: Letter, q: Letter) -> u8
-    ensures { result < 3 }
-{
-    let mut on_first = p;
-    let mut on_second = q;
-    if q.anticommutes(gate.on_second) {
-        on_first = p.times(gate.on_first);
-    }
-    if p.anticommutes(gate.on_first) {
-        on_second = q.times(gate.on_second);
-    }
-    count(on_first, on_second)
 }

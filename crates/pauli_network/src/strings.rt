@@ -25,15 +25,10 @@ impl Letter {
     /// The letter Z.
     pub(crate) const Z: Letter = Letter { x: false, z: true };
 
-    /// None, and the three letters.
-    pub(crate) const ALL: [Letter; 4] = [
-        Letter { x: false, z: false },
-        Letter { x: true, z: false },
-        Letter { x: false, z: true },
-        Letter { x: true, z: true },
-    ];
+    /// No letter.
+    pub(crate) const NONE: Letter = Letter { x: false, z: false };
 
-    /// Its place in `ALL`.
+    /// Its number, from 0 for none.
     pub(crate) fn number(self) -> usize
         ensures { result < 4 }
     {
@@ -53,11 +48,6 @@ impl Letter {
     /// Whether it is the letter Z.
     pub(crate) fn is_z(self) -> bool {
         self.z && !self.x
-    }
-
-    /// Whether two letters anticommute.
-    pub(crate) fn anticommutes(self, other: Letter) -> bool {
-        (self.x && other.z) != (self.z && other.x)
     }
 
     /// The product of two letters, without its factor.
@@ -198,13 +188,14 @@ impl PauliString {
         }
     }
 
-    // X and Z change places.
-    fn pass_h(&mut self, q: Qubit) {
+    /// The same for an H: X and Z change places.
+    #[inline(always)]
+    pub(crate) fn pass_h(&mut self, q: Qubit) {
         let here = bit(q);
-        let (x, z) = (self.x & here, self.z & here);
-        self.turn_where(x & z);
-        self.x = (self.x & !here) | z;
-        self.z = (self.z & !here) | x;
+        let differs = (self.x ^ self.z) & here;
+        self.negative = self.negative != (self.x & self.z & here != 0);
+        self.x ^= differs;
+        self.z ^= differs;
     }
 
     // So many quarter turns about Z.
@@ -221,18 +212,15 @@ impl PauliString {
         }
     }
 
-    // An X on either qubit brings a Z on the other one.
-    fn pass_cz(&mut self, p: Qubit, q: Qubit) {
-        let (at_p, at_q) = (self.at(p), self.at(q));
-        if at_p.x && at_q.x && at_p.z != at_q.z {
-            self.negative = !self.negative;
-        }
-        if at_p.x {
-            self.z ^= bit(q);
-        }
-        if at_q.x {
-            self.z ^= bit(p);
-        }
+    /// The same for a Cz: an X on either qubit brings a Z on the other one.
+    #[inline(always)]
+    pub(crate) fn pass_cz(&mut self, p: Qubit, q: Qubit) {
+        let (to_p, to_q) = (u32::from(p), u32::from(q));
+        let x_at_p = self.x.wrapping_shr(to_p) & 1;
+        let x_at_q = self.x.wrapping_shr(to_q) & 1;
+        let differ = (self.z.wrapping_shr(to_p) ^ self.z.wrapping_shr(to_q)) & 1;
+        self.negative = self.negative != (x_at_p & x_at_q & differ != 0);
+        self.z ^= x_at_p.wrapping_shl(to_q) ^ x_at_q.wrapping_shl(to_p);
     }
 
     // The sign changes where there is one of the bits.

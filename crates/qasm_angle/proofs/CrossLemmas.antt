@@ -6,7 +6,8 @@ use Rattle.std.proofs.lemmas.Nat.Gcd.{dvd_antisymm, dvd-zero, dvd_trans}
 use Rattle.std.proofs.lemmas.Int.{unsigned_abs-mul}
 use Rattle.std.proofs.Math.Nat.{mul-div_cancel', mul_comm, one-dvd, dvd-mul_left, mul-pos}
 use Rattle.zx_model.proofs.Whole.{expand, mul-neg}
-use Rattle.qasm_angle.specs.Ratio.{Ratio, gcd, lowest, limited, over, signed, product, quotient, IsFraction}
+use Rattle.qasm_angle.specs.Ratio.{Ratio, gcd, lowest, limited, over, product, quotient, IsFraction}
+use Rattle.qasm_angle.specs.Internal.Signs.{signed}
 use Rattle.qasm_angle.proofs.GcdLemmas.{IsGcd-gcd, divides_other, gcd_comm}
 use Rattle.qasm_angle.proofs.RatioLemmas.{lowest-signed, nat_abs-signed}
 use Rattle.qasm_angle.proofs.LowestLemmas.{lowest_pos, lowest_coprime, lowest_same}

@@ -5,7 +5,8 @@ use Rattle.std.proofs.lemmas.Int.{to_z-of_z, fits_signed_from_abs}
 use Rattle.std.proofs.Math.Nat.{div-le_self}
 use mir.Val.{SFits, of_z, to_z}
 use mir.Syntax.{w64}
-use Rattle.qasm_angle.specs.Ratio.{Ratio, gcd, lowest, limited, largest, signed, is_zero, IsFraction}
+use Rattle.qasm_angle.specs.Ratio.{Ratio, gcd, lowest, limited, largest, is_zero, IsFraction}
+use Rattle.qasm_angle.specs.Internal.Signs.{signed}
 use Rattle.qasm_angle.proofs.GcdLemmas.{gcd-quotients, quotient_pos}
 
 pub nat_abs-signed : (negative : Bool) (size : ℕ) → nat_abs (signed negative size) ≡ size

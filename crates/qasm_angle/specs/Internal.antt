@@ -3,3 +3,4 @@ pub mod Constants
 pub mod Significands
 pub mod Stack
 pub mod TreeCode
+pub mod Signs

@@ -1,5 +1,5 @@
 -- Fractions of whole numbers, as in school: lowest terms, and the four operations on them.
-use Rattle.std.specs.Prelude.{◌≡◌, ℕ, zero, suc, ◌*◌, ◌/◌, ◌%◌, ◌^◌, ◌<◌, ◌≤◌, Bool, true, false, ◌&&◌, nat_le, ◌==◌}
+use Rattle.std.specs.Prelude.{◌≡◌, ℕ, zero, suc, ◌*◌, ◌/◌, ◌%◌, ◌^◌, ◌<◌, ◌≤◌, Bool, ◌&&◌, nat_le, ◌==◌}
 use Rattle.std.specs.Prelude.{if◌then◌else◌, ℤ, pos, negsuc, ◌+ℤ◌, ◌*ℤ◌, neg_ℤ, unsigned_abs, int_div, Option, Some}
 use Rattle.std.specs.Prelude.{None}
 
@@ -64,8 +64,3 @@ pub record IsFraction (a : Ratio) : Type 0 where
   pub lowest : gcd (unsigned_abs a.numerator) a.denominator ≡ 1
   pub small_numerator : unsigned_abs a.numerator ≤ largest
   pub small_denominator : a.denominator ≤ largest
-
--- the whole number of that size, with or without a minus
-abbrev pub signed : Bool → ℕ → ℤ
-signed true size = neg_ℤ (pos size)
-signed false size = pos size

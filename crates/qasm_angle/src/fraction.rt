@@ -1,7 +1,8 @@
 //! Fractions in lowest terms.
 
 ghost use Rattle.std.specs.Prelude.{◌≡◌, ◌*◌, ◌%◌, ◌^◌, ◌<◌, ◌≤◌, false, pos, ◌*ℤ◌, unsigned_abs};
-ghost use Rattle.qasm_angle.specs.Ratio.{Ratio, gcd, lowest, limited, largest, whole, is_zero, opposite, sum, product, quotient, signed, IsFraction};
+ghost use Rattle.qasm_angle.specs.Ratio.{Ratio, gcd, lowest, limited, largest, whole, is_zero, opposite, sum, product, quotient, IsFraction};
+ghost use Rattle.qasm_angle.specs.Internal.Signs.{signed};
 
 use std::marker::Model;
 

@@ -5,7 +5,7 @@ use Rattle.std.proofs.lemmas.List.{map-append}
 use Rattle.qasm_lexer.specs.declared.errors.LexError.{LexError}
 use Rattle.qasm_lexer.specs.declared.errors.LexError.TheVariants.{BadByte, NoMemory}
 use Rattle.qasm_lexer.specs.Tokens.{Lexeme, IsCut, IsBadByte}
-use Rattle.qasm_lexer.specs.TokenLists.{moved}
+use Rattle.qasm_lexer.specs.Internal.Moved.{moved}
 use Rattle.qasm_lexer.specs.Taken.{IsLineBegun, HasBadLine}
 use Rattle.qasm_lexer.proofs.Cuts.{IsCutUpTo-none}
 use Rattle.qasm_lexer.proofs.LineCuts.{bad_byte_stays, line_cut, line_bad}

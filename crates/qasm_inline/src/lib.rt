@@ -7,6 +7,26 @@
 //! and a CX on two that differ; and at most 65,536 bits. Its measurements are of these qubits into
 //! these bits, none of them named twice.
 //!
+//! Inside:
+//!
+//! - `applications`, `overlaps`, `applying`: the arguments of an application, and what is wrong
+//!   with it.
+//! - `instances`: its instances, one call after the other.
+//! - `unroll`, `values`: calls unrolled depth first, on stacks of frames, angles and qubits that
+//!   are kept between applications.
+//! - `statements`, `circuit`: statements taken in one after the other, after the version, a gate's
+//!   declaration also in parts.
+//! - `meaning`: those of a program.
+//! - `reading`: a text in one pass: a batch of tokens is cut, the parts that begin it are taken
+//!   in, and what is left waits for more, or is dropped where a syntax fault is certain.
+//! - `piece_reader`: a text that comes in pieces: the bytes of the last lines wait until the lines
+//!   are over and worth while, and are then read by `reading`.
+//! - `words`: the texts of tokens that outlive these bytes, in an arena; those of one character
+//!   stand in the program.
+//! - `laws`: circuits that programs mean are elementary.
+//! - `measuring`, `measured`: measurements in statements, and what was measured so far.
+//! - `error`: why a program or a text has no meaning as a circuit.
+//!
 //! ```rust
 //! let circuit = read(alloc, b"OPENQASM 2.0; qreg q[1]; U(0,0,pi/4) q[0];")?;
 //! ```

@@ -5,7 +5,7 @@ ghost use Rattle.std.specs.List.{All};
 ghost use Rattle.std.specs.Borrow.{Bor};
 ghost use Rattle.zx_gates.specs.Elementary.{IsElementary};
 ghost use Rattle.qasm_lexer.specs.declared.token.Token.{Token};
-ghost use Rattle.qasm_lexer.specs.TokenLists.{moved};
+ghost use Rattle.qasm_lexer.specs.Internal.Moved.{moved};
 ghost use Rattle.qasm_lexer.specs.Tokens.{Lexeme, lexemes, IsCut, IsBadByte};
 ghost use Rattle.qasm_reader.specs.Depth.{too_deep, IsDepth};
 ghost use Rattle.qasm_reader.specs.Grammar.{IsSyntaxFault};

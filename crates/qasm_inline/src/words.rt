@@ -3,7 +3,7 @@
 ghost use Rattle.std.specs.Prelude.{◌≡◌, ◌+◌, ◌^◌, ◌<◌, ◌≤◌, ◌++◌, ◌∷◌, [], map, IfOk, OnOk};
 ghost use Rattle.std.specs.List.{All};
 ghost use Rattle.qasm_lexer.specs.Tokens.{lexeme, lexemes};
-ghost use Rattle.qasm_lexer.specs.TokenLists.{moved};
+ghost use Rattle.qasm_lexer.specs.Internal.Moved.{moved};
 
 use bumpalo::Bump;
 use qasm_lexer::Token;

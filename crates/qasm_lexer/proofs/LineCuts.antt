@@ -8,7 +8,7 @@ use Rattle.std.proofs.Math.Seq.{drop-append-add}
 use Rattle.qasm_lexer.specs.declared.token.Token.{Token}
 use Rattle.qasm_lexer.specs.declared.token.TokenKind.{TokenKind}
 use Rattle.qasm_lexer.specs.Tokens.{is_form, kind_of, IsPiece, ArePieces, Lexeme, lexemes, tokens_in, IsCut, IsCutUpTo, HasNoPiece, IsBadByte}
-use Rattle.qasm_lexer.specs.TokenLists.{moved}
+use Rattle.qasm_lexer.specs.Internal.Moved.{moved}
 use Rattle.qasm_lexer.specs.Taken.{AreLines, IsLineBegun}
 use Rattle.qasm_lexer.proofs.Leads.{IsLongest, piece_form}
 use Rattle.qasm_lexer.proofs.Cuts.{IsCutUpTo-then, IsCutUpTo-none, same_tokens}

@@ -4,7 +4,8 @@ use Rattle.std.specs.List.{concat}
 use Rattle.std.proofs.lemmas.List.{nil_from_length, take-append-drop, take_all, take-append-le, drop-append-le, drop-drop}
 use Rattle.qasm_lexer.specs.declared.token_list.Entry.{Entry}
 use Rattle.qasm_lexer.specs.Tokens.{Lexeme}
-use Rattle.qasm_lexer.specs.TokenLists.{texts, listed, count_of}
+use Rattle.qasm_lexer.specs.TokenLists.{texts}
+use Rattle.qasm_lexer.specs.Internal.Entries.{listed, count_of}
 
 -- an entry as a token with this text
 abbrev pub with_text : Entry → List ℕ → Lexeme

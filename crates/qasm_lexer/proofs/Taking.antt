@@ -7,7 +7,7 @@ use Rattle.qasm_lexer.specs.declared.errors.LexError.{LexError}
 use Rattle.qasm_lexer.specs.declared.errors.LexError.TheVariants.{BadByte, NoMemory}
 use Rattle.qasm_lexer.specs.declared.piece_lexer.PieceLexer.{PieceLexer}
 use Rattle.qasm_lexer.specs.Tokens.{Lexeme, lexemes, IsCut, IsCutUpTo, IsBadByte}
-use Rattle.qasm_lexer.specs.TokenLists.{moved}
+use Rattle.qasm_lexer.specs.Internal.Moved.{moved}
 use Rattle.qasm_lexer.specs.Taken.{AreLines, IsLineBegun, HasBadLine, CameWith}
 use Rattle.qasm_lexer.proofs.Cuts.{same_tokens, not_both}
 use Rattle.qasm_lexer.proofs.Lexing.{only_memory, bad_or_memory}

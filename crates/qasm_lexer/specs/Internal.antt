@@ -1,2 +1,5 @@
 -- What only private contracts and proofs cite: nobody has to read it to trust a promise of this crate.
 pub mod FirstPiece
+pub mod UnderWay
+pub mod Entries
+pub mod Moved

@@ -35,10 +35,6 @@ CameWith (Some NoMemory) lexer passed bytes = ⊥
 abbrev pub HasPassed : PieceLexer → List Lexeme → List ℕ → Type 0
 HasPassed lexer passed bytes = CameWith lexer.fault lexer passed bytes
 
--- the same where nothing has failed
-abbrev pub IsUnderWay : PieceLexer → List Lexeme → List ℕ → Type 0
-IsUnderWay lexer passed bytes = CameWith None lexer passed bytes
-
 -- these are the bytes that a lexer has taken, where no token was passed on
 abbrev pub HasTaken : PieceLexer → List ℕ → Type 0
 HasTaken lexer bytes = HasPassed lexer [] bytes

@@ -1,24 +1,7 @@
--- Tokens whose texts are kept one behind the other.
-use Rattle.std.specs.Prelude.{ℕ, ◌+◌, List, [], ◌∷◌, take, drop, map}
-use Rattle.qasm_lexer.specs.declared.token_list.Entry.{Entry}
+-- Lists of tokens: their texts, and tokens behind other bytes.
+use Rattle.std.specs.Prelude.{ℕ, List, map}
 use Rattle.qasm_lexer.specs.Tokens.{Lexeme}
 
 -- the texts of tokens
 abbrev pub texts : List Lexeme → List (List ℕ)
 texts tokens = map (λ token. token.text) tokens
-
--- a token where so many bytes stand before the text
-abbrev pub moved : ℕ → Lexeme → Lexeme
-moved from token = record { kind = token.kind; text = token.text; place = from + token.place }
-
--- the tokens of entries, of which the first one's text begins the pool
-abbrev pub listed : List ℕ → List Entry → List Lexeme
-listed pool [] = []
-listed pool (entry ∷ entries) =
-    record { kind = entry.kind; text = take entry.count pool; place = entry.place }
-    ∷ listed (drop entry.count pool) entries
-
--- how many bytes their texts have
-abbrev pub count_of : List Entry → ℕ
-count_of [] = 0
-count_of (entry ∷ entries) = entry.count + count_of entries

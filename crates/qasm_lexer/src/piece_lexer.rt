@@ -3,8 +3,9 @@
 ghost use Rattle.std.specs.Prelude.{◌≡◌, ◌⊎◌, ◌+◌, ◌^◌, ◌<◌, ◌≤◌, ◌++◌, [], ℕ, List, length, take, drop, map, None, Some, Err, OnOk, OnErr, IfOk, IfErr, IsErrAnd, MatchResult, alloc_error};
 ghost use Rattle.qasm_lexer.specs.declared.errors.LexError.TheVariants.{BadByte, NoMemory};
 ghost use Rattle.qasm_lexer.specs.Tokens.{Lexeme, lexemes, IsCut, IsBadByte, IsBegun};
-ghost use Rattle.qasm_lexer.specs.TokenLists.{moved};
-ghost use Rattle.qasm_lexer.specs.Taken.{AreLines, HasBadLine, HasTaken, HasPassed, HasFailed, IsUnderWay};
+ghost use Rattle.qasm_lexer.specs.Internal.Moved.{moved};
+ghost use Rattle.qasm_lexer.specs.Taken.{AreLines, HasBadLine, HasTaken, HasPassed, HasFailed};
+ghost use Rattle.qasm_lexer.specs.Internal.UnderWay.{IsUnderWay};
 
 use crate::errors::LexError;
 use crate::lexer::lex_further;

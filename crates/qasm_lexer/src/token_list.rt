@@ -3,7 +3,9 @@
 ghost use Rattle.std.specs.Prelude.{◌≡◌, ◌+◌, ◌^◌, ◌<◌, ◌≤◌, ◌∷◌, [], ◌++◌, ℕ, List, length, drop, vec_len, map, IfOk, OnOk};
 ghost use Rattle.std.specs.List.{concat, All};
 ghost use Rattle.qasm_lexer.specs.Tokens.{Lexeme, lexemes};
-ghost use Rattle.qasm_lexer.specs.TokenLists.{texts, moved, listed, count_of};
+ghost use Rattle.qasm_lexer.specs.TokenLists.{texts};
+ghost use Rattle.qasm_lexer.specs.Internal.Moved.{moved};
+ghost use Rattle.qasm_lexer.specs.Internal.Entries.{listed, count_of};
 
 use crate::token::{Token, TokenKind};
 use std::alloc::{AllocError, Global};

@@ -8,7 +8,8 @@ use Rattle.qasm_reader.specs.Parts.{with_statement}
 use Rattle.qasm_reader.specs.Syntax.{BodyApply, BodySentence, BodyApplied, BodyBarrier, DeclareGate, GateForm}
 use Rattle.qasm_scope.specs.Faults.{wrong_in, body_is_unsupported, body_has_same_qubit}
 use Rattle.qasm_names.specs.Begun.{IsBegun}
-use Rattle.qasm_names.specs.Bodies.{no_faults, is_faulty, joined, cause_of, statement_faults, faults_of, IsCall}
+use Rattle.qasm_names.specs.Bodies.{no_faults, is_faulty, joined, cause_of, faults_of}
+use Rattle.qasm_names.specs.Internal.Applications.{statement_faults, IsCall}
 use Rattle.qasm_names.specs.Checks.{Symbols, is_unknown, is_wrong_count, calls_by}
 use Rattle.qasm_names.specs.Places.{unplaced}
 use Rattle.qasm_names.specs.Kept.{Represents, kept_call, kept_calls}

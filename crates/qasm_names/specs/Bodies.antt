@@ -1,25 +1,12 @@
 -- What is wrong with the bodies of gates, and the calls that their statements are kept as.
-use Rattle.std.specs.Prelude.{◌≡◌, Bool, false, ◌||◌, List, [], ◌∷◌, map, Option}
+use Rattle.std.specs.Prelude.{Bool, false, ◌||◌, List, Option}
 use Rattle.std.specs.List.{list_any}
-use Rattle.qasm_reader.specs.Postfix.{formula_of}
-use Rattle.qasm_reader.specs.Syntax.{BodyApply, BodySentence, BodyApplied}
-use Rattle.qasm_reader.specs.Views.{callee}
-use Rattle.qasm_reader.specs.declared.program.BodyApplication.{BodyApplication}
+use Rattle.qasm_reader.specs.Syntax.{BodySentence}
 use Rattle.qasm_scope.specs.Faults.{body_is_unsupported, body_has_same_qubit}
 use Rattle.qasm_names.specs.declared.body_faults.BodyFaults.{BodyFaults}
 use Rattle.qasm_scope.specs.declared.causes.Cause.{Cause}
 use Rattle.qasm_names.specs.declared.formals.Formals.{Formals}
-use Rattle.qasm_names.specs.declared.gates.GateCall.{GateCall}
-use Rattle.qasm_names.specs.Checks.{Symbols, calls_by, gate_cause, is_unknown, is_wrong_count}
-use Rattle.qasm_names.specs.Kept.{kept_call}
-
--- an application, without where it lies in memory
-abbrev pub apply_of : BodyApplication → BodyApply
-apply_of a = record {
-  gate = callee a.gate;
-  angles = map formula_of a.angles.items;
-  qubits = map (λ name. name.now) a.qubits.items;
-}
+use Rattle.qasm_names.specs.Checks.{Symbols, gate_cause, is_unknown, is_wrong_count}
 
 -- no fault
 abbrev pub no_faults : BodyFaults
@@ -42,19 +29,6 @@ joined f g = record {
 abbrev pub cause_of : BodyFaults → Bool → Option Cause
 cause_of f redeclared = gate_cause f.unsupported redeclared f.unknown f.wrong_count f.same_qubit
 
--- what is wrong with a statement, by what names are kept as
-abbrev pub statement_faults : Symbols → Formals → BodySentence → BodyFaults
-statement_faults symbols formals statement = record {
-  unsupported = body_is_unsupported statement;
-  unknown = is_unknown symbols formals.parameters formals.qubits statement;
-  wrong_count = is_wrong_count symbols statement;
-  same_qubit = body_has_same_qubit statement;
-}
-
--- what is wrong with an application
-abbrev pub application_faults : Symbols → Formals → BodyApply → BodyFaults
-application_faults symbols formals a = statement_faults symbols formals (BodyApplied a)
-
 -- what is wrong with a body
 abbrev pub faults_of : Symbols → Formals → List BodySentence → BodyFaults
 faults_of symbols formals statements = record {
@@ -63,8 +37,3 @@ faults_of symbols formals statements = record {
   wrong_count = list_any (is_wrong_count symbols) statements;
   same_qubit = list_any body_has_same_qubit statements;
 }
-
--- nothing is wrong with the application, and it is kept as this call
-pub record IsCall (symbols : Symbols) (formals : Formals) (a : BodyApply) (call : GateCall) : Type 0 where
-  pub faultless : application_faults symbols formals a ≡ no_faults
-  pub same : kept_call call ∷ [] ≡ calls_by symbols formals.parameters formals.qubits (BodyApplied a ∷ [])

@@ -3,3 +3,5 @@ pub mod Called
 pub mod Entries
 pub mod Included
 pub mod Registers
+pub mod Applications
+pub mod PlacedAngles

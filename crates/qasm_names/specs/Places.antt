@@ -1,11 +1,11 @@
 -- Formal names of gates by their places in a list, and expressions in these names.
-use Rattle.std.specs.Prelude.{◌≡◌, ℕ, Bool, false, not, ◌||◌, List, Option, map}
-use Rattle.std.specs.List.{list_any, position_from}
+use Rattle.std.specs.Prelude.{◌≡◌, ℕ, Bool, false, not, ◌||◌, List, Option}
+use Rattle.std.specs.List.{position_from}
 use Rattle.std.specs.Option.{is_some}
 use Rattle.std.specs.Str.{bytes_eq}
 use Rattle.qasm_angle.specs.Literals.{literal_value}
 use Rattle.qasm_reader.specs.Syntax.{Formula, Number, Pi, Name, Negate, Binary, Call}
-use Rattle.qasm_scope.specs.Angles.{is_unsupported, place_or_zero, binary}
+use Rattle.qasm_scope.specs.Angles.{place_or_zero, binary}
 use Rattle.qasm_names.specs.declared.places.Places.{Places}
 use Rattle.qasm_names.specs.Kept.{found}
 use Rattle.qasm_angle.specs.Trees as tree
@@ -31,10 +31,6 @@ has_unplaced places (Negate f) = has_unplaced places f
 has_unplaced places (Binary operator f g) = has_unplaced places f || has_unplaced places g
 has_unplaced places (Call function f) = has_unplaced places f
 
--- one of the expressions holds `^`, a function or a name that has no place
-abbrev pub any_other : Places → List Formula → Bool
-any_other places fs = list_any is_unsupported fs || list_any (has_unplaced places) fs
-
 -- an expression without `^` and functions, its parameters by their places
 abbrev pub placed : Places → Formula → tree.Tree
 placed places (Number text) = tree.Number (literal_value text)
@@ -43,9 +39,3 @@ placed places (Name name) = tree.Parameter (place_or_zero (place_in places name)
 placed places (Negate f) = tree.Negate (placed places f)
 placed places (Binary operator f g) = binary operator (placed places f) (placed places g)
 placed places (Call function f) = placed places f
-
--- none of the expressions holds `^`, a function or a name without a place, and these are their trees
-pub record ArePlaced (places : Places) (fs : List Formula) (trees : List tree.Tree) : Type 0 where
-  pub supported : list_any is_unsupported fs ≡ false
-  pub all_placed : list_any (has_unplaced places) fs ≡ false
-  pub same : trees ≡ map (placed places) fs

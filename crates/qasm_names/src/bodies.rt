@@ -2,7 +2,8 @@
 
 ghost use Rattle.std.specs.Prelude.{◌≡◌, map, IfOk, IfSome, IfNone, true};
 ghost use Rattle.std.specs.List.{list_any};
-ghost use Rattle.qasm_names.specs.Bodies.{apply_of, is_faulty, application_faults, IsCall};
+ghost use Rattle.qasm_names.specs.Bodies.{is_faulty};
+ghost use Rattle.qasm_names.specs.Internal.Applications.{apply_of, application_faults, IsCall};
 ghost use Rattle.qasm_names.specs.Internal.Called.{AreFound};
 ghost use Rattle.qasm_names.specs.Places.{unplaced};
 

@@ -6,7 +6,8 @@ ghost use Rattle.qasm_reader.specs.Items.{entry};
 ghost use Rattle.qasm_reader.specs.Postfix.{formula_of};
 ghost use Rattle.qasm_scope.specs.Angles.{is_power, is_unsupported};
 ghost use Rattle.qasm_names.specs.Internal.Entries.{has_no_place, has_other, is_other_entry, operator_of, IsStep, AreSteps, IsPlaced};
-ghost use Rattle.qasm_names.specs.Places.{has_unplaced, any_other, ArePlaced};
+ghost use Rattle.qasm_names.specs.Places.{has_unplaced};
+ghost use Rattle.qasm_names.specs.Internal.PlacedAngles.{any_other, ArePlaced};
 
 use crate::places::Places;
 use qasm_angle::{Expr, ExprItem, Literal, folded};

@@ -8,7 +8,7 @@ ghost use Rattle.qasm_reader.specs.Views.{body_sentence, form_of};
 ghost use Rattle.qasm_scope.specs.declared.causes.Cause.{Cause};
 ghost use Rattle.qasm_scope.specs.Faults.{wrong_in};
 ghost use Rattle.qasm_names.specs.Begun.{IsBegun, IsFaultlessGate};
-ghost use Rattle.qasm_names.specs.Bodies.{apply_of};
+ghost use Rattle.qasm_names.specs.Internal.Applications.{apply_of};
 ghost use Rattle.qasm_names.specs.Checks.{is_redeclared_by};
 ghost use Rattle.qasm_names.specs.Kept.{Represents, gate_declaration};
 ghost use Rattle.qasm_names.specs.declared.names.Names.{Names};

@@ -6,6 +6,22 @@
 //! names, gates by their numbers with their calls resolved, qubits and bits. A gate's declaration is
 //! taken in statement by statement.
 //!
+//! Inside:
+//!
+//! - `names`: what names stand for.
+//! - `gates`: gates as they are kept, by numbers.
+//! - `places`: places of formal names.
+//! - `numerals`: whole numbers as they are spelled.
+//! - `applied_gates`, `expressions`: the gate and the angles of an application, names resolved, in
+//!   a statement or in a gate's body, and what is wrong with them.
+//! - `gate_in_progress`: a gate whose declaration is taken in statement by statement.
+//! - `formals`: its formal names.
+//! - `bodies`: an application in its body as the call that it is kept as.
+//! - `body_faults`: what is wrong with a body so far.
+//! - `registers`, `header`: registers, and the gates of the header, which are read from its texts
+//!   like any other and declared one by one.
+//! - `statement_error`: why a statement isn't taken in.
+//!
 //! ```rust
 //! include(alloc, &mut names, b"\"qelib1.inc\"")?;
 //! ```

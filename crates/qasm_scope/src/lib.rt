@@ -5,6 +5,11 @@
 //! contracts are the laws. A text is one program at most; the gates that the header's texts declare
 //! are those of given trees, and each of them is without fault.
 //!
+//! Inside:
+//!
+//! - `causes`: what may be wrong with a statement.
+//! - `laws`: the laws of the header.
+//!
 //! ```rust
 //! the_header_is_faultless();
 //! ```

@@ -10,8 +10,9 @@ use Rattle.zx_model.specs.Phase.{half_turn, quarter_turn, eighth_turn}
 use Rattle.zx_model.specs.Scalar.{numerator, denominator, IsScaled, IsWithin, most_root2, one_scalar, product_of_scalars}
 use Rattle.zx_model.specs.declared.scalar.Scalar.{Scalar}
 use Rattle.zx_gates.specs.Circuit.{IsGateOn, gate_bound}
-use Rattle.zx_gates.specs.ElementaryMaps.{act_elementary, acts_elementary, amp_elementary}
-use Rattle.zx_gates.specs.Lowering.{scalar}
+use Rattle.zx_gates.specs.ElementaryMaps.{act_elementary, amp_elementary}
+use Rattle.zx_gates.specs.Internal.Lowering.{acts_elementary}
+use Rattle.zx_gates.specs.Internal.Scalars.{scalar}
 use Rattle.zx_gates.specs.Maps.{act, acts, amp}
 use Rattle.zx_gates.specs.declared.elementary.ElementaryGate.TheVariants as elementary
 use Rattle.zx_gates.specs.declared.gate.Gate.{Gate}
@@ -21,7 +22,8 @@ use Rattle.zx_gates.proofs.MapLemmas.{acts-append}
 use Rattle.zx_gates.proofs.Multiples.{act-factor, acts-factor}
 use Rattle.zx_gates.proofs.Scaling.{Scaled, scaled-refl, scaled-then, scaled-trans, scaled_amp, scaled_if_doubled}
 use Rattle.zx_model.proofs.Scalars.{within_product}
-use Rattle.qasm_writer.specs.Elements.{h, elements, elements_of, line_scalar}
+use Rattle.qasm_writer.specs.Elements.{h, elements, elements_of}
+use Rattle.qasm_writer.specs.Internal.LineScalars.{line_scalar}
 use Rattle.qasm_writer.proofs.Maps.{cz_by_cx}
 use Rattle.qasm_writer.proofs.WrittenLemmas.{phase_is_lowered}
 

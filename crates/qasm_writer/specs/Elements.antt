@@ -1,12 +1,9 @@
 -- What the lines of a circuit's text come to through the header that it includes, in the two gates that are built into
 -- OpenQASM 2.0 (Cross, Bishop, Smolin and Gambetta, "Open quantum assembly language", arXiv 1707.03429): there h is
 -- U(pi/2,0,pi), x is U(pi,0,pi), z, s, sdg, t, tdg and u1 are U(0,0,lambda), and cz is h, cx and h.
-use Rattle.std.specs.Prelude.{ℕ, pos, List, [], ◌∷◌}
+use Rattle.std.specs.Prelude.{ℕ, List, [], ◌∷◌}
 use Rattle.std.specs.List.{flat_map}
-use Rattle.zx_model.specs.Phase.{half_turn, quarter_turn, eighth_turn}
-use Rattle.zx_model.specs.Scalar.{one_scalar}
-use Rattle.zx_model.specs.declared.scalar.Scalar.{Scalar}
-use Rattle.zx_gates.specs.Lowering.{scalar}
+use Rattle.zx_model.specs.Phase.{half_turn, quarter_turn}
 use Rattle.zx_gates.specs.declared.elementary.ElementaryGate.{ElementaryGate}
 use Rattle.zx_gates.specs.declared.elementary.ElementaryGate.TheVariants as elementary
 use Rattle.zx_gates.specs.declared.gate.Gate.{Gate}
@@ -36,11 +33,3 @@ gate_without_cz (Not q) = Not q ∷ []
 
 abbrev pub without_cz : List Gate → List Gate
 without_cz gates = flat_map gate_without_cz gates
-
--- the scalar that the elements of a gate are times the gate
-abbrev pub line_scalar : Gate → Scalar
-line_scalar (H q) = scalar (pos 1) eighth_turn
-line_scalar (Phase q k) = scalar (pos 2) 0
-line_scalar (Cz q r) = scalar (pos 4) quarter_turn
-line_scalar (Cx control target) = one_scalar
-line_scalar (Not q) = scalar (pos 2) quarter_turn

@@ -1,3 +1,4 @@
 pub mod Elements
 pub mod Measuring
 pub mod Written
+pub mod Internal

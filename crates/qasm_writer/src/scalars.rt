@@ -4,7 +4,8 @@ ghost use Rattle.std.specs.Prelude.{◌≡◌, ◌*◌, length};
 ghost use Rattle.zx_model.specs.Scalar.{IsScaled, IsWithin};
 ghost use Rattle.zx_gates.specs.ElementaryMaps.{amp_elementary};
 ghost use Rattle.zx_gates.specs.Maps.{amp};
-ghost use Rattle.qasm_writer.specs.Elements.{elements_of, line_scalar};
+ghost use Rattle.qasm_writer.specs.Elements.{elements_of};
+ghost use Rattle.qasm_writer.specs.Internal.LineScalars.{line_scalar};
 
 use zx_gates::{Gate, GateList};
 use zx_model::{Scalar, Sixteenth};

@@ -126,9 +126,10 @@ fn traced(rt: &impl Abort, alloc: Global, start: Start, trace: &mut Trace) -> Re
 
 // Reduces two graphs with one trace.
 fn trace_two(rt: &impl Abort, alloc: Global, trace: &mut Trace) -> Result<(), Fail> {
-    trace.reserve(4)?;
+    trace.reserve(100)?;
     assert!(rt; trace.as_slice().is_empty());
     traced(rt, alloc, Start::PathOfThree, trace)?;
+    assert!(rt; trace.spare() >= 98);
     traced(rt, alloc, Start::SmallGadgets, trace)?;
     let steps = [
         Step::LocalComplement(id(0)),

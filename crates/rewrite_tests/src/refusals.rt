@@ -73,3 +73,26 @@ fn refusals_say_why(rt: HostRuntime) -> Result<(), Fail> {
     assert_eq!(rt; told.as_str(), "no memory");
     Ok(())
 }
+
+// A rewrite leaves a flow its room where the graph has none.
+fn room_of_flow(rt: &impl Abort, graph: &mut OpenGraph, flow: &mut Flow) -> Result<(), Fail>
+    requires graph { graph.old.graph ≡ no_graph }
+    requires flow { flow.old.flow ≡ [] }
+{
+    draw(rt, graph, flow, Start::PathOfThree)?;
+    flow.reserve(50)?;
+    let spare = flow.spare();
+    let reach = flow.reach();
+    apply(graph, flow, Step::LocalComplement(b()))?;
+    assert_eq!(rt; flow.spare(), spare);
+    assert_eq!(rt; flow.reach(), reach);
+    Ok(())
+}
+
+#[test]
+fn room_of_a_flow_stays(rt: HostRuntime) -> Result<(), Fail> {
+    let alloc = rt.alloc();
+    let mut flow = no_flow(alloc)?;
+    let mut graph = OpenGraph::new(alloc);
+    room_of_flow(&rt, &mut graph, &mut flow)
+}

@@ -16,14 +16,14 @@ fn four_rows(alloc: Global) -> Result<BitMatrix, AllocError>
 {
     let mut m = BitMatrix::new(alloc, 2);
     m.push_row()?;
-    m.flip(0, 0)?;
+    m.flip(0, 0);
     m.push_row()?;
-    m.flip(1, 1)?;
+    m.flip(1, 1);
     m.push_row()?;
-    m.flip(2, 1)?;
+    m.flip(2, 1);
     m.push_row()?;
-    m.flip(3, 0)?;
-    m.flip(3, 1)?;
+    m.flip(3, 0);
+    m.flip(3, 1);
     Ok(m)
 }
 
@@ -31,8 +31,8 @@ fn four_rows(alloc: Global) -> Result<BitMatrix, AllocError>
 fn zero(alloc: Global) -> Result<BitRow, AllocError>
     ensures { IfOk result (λ row. row.bits ≡ true ∷ false ∷ []) }
 {
-    let mut row = BitRow::new(alloc, 2);
-    row.flip(0)?;
+    let mut row = BitRow::new(alloc, 2)?;
+    row.flip(0);
     Ok(row)
 }
 
@@ -41,7 +41,7 @@ fn zero_and_one(alloc: Global) -> Result<BitRow, AllocError>
     ensures { IfOk result (λ row. row.bits ≡ true ∷ true ∷ []) }
 {
     let mut row = zero(alloc)?;
-    row.flip(1)?;
+    row.flip(1);
     Ok(row)
 }
 
@@ -49,10 +49,10 @@ fn zero_and_one(alloc: Global) -> Result<BitRow, AllocError>
 fn but_last(alloc: Global) -> Result<BitRow, AllocError>
     ensures { IfOk result (λ row. row.bits ≡ true ∷ true ∷ true ∷ false ∷ []) }
 {
-    let mut row = BitRow::new(alloc, 4);
-    row.flip(0)?;
-    row.flip(1)?;
-    row.flip(2)?;
+    let mut row = BitRow::new(alloc, 4)?;
+    row.flip(0);
+    row.flip(1);
+    row.flip(2);
     Ok(row)
 }
 
@@ -60,8 +60,8 @@ fn but_last(alloc: Global) -> Result<BitRow, AllocError>
 fn last(alloc: Global) -> Result<BitRow, AllocError>
     ensures { IfOk result (λ row. row.bits ≡ false ∷ false ∷ false ∷ true ∷ []) }
 {
-    let mut row = BitRow::new(alloc, 4);
-    row.flip(3)?;
+    let mut row = BitRow::new(alloc, 4)?;
+    row.flip(3);
     Ok(row)
 }
 

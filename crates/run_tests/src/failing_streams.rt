@@ -1,19 +1,21 @@
-//! Sources, outputs and error outputs that fail at one call, at each in turn.
+//! Sources, outputs and error outputs that fail at one call, at each in turn. One call moves 20 bytes.
 
 use crate::streams::run_with;
-use std::alloc::Global;
 use std::process::Abort;
 use std::test::Fail;
-use zx_io::MemSink;
 use zx_run::{Fault, Status};
 
-// Two T gates, in 65 bytes: four reads, and one that tells the end.
+// Two T gates, in 63 bytes: four reads, and one that tells the end.
 const TEXT: &[u8] = b"OPENQASM 2.0;\ninclude \"qelib1.inc\";\nqreg q[1];\nt q[0];\nt q[0];\n";
 
-// The commands that read a circuit, and what each writes: 57 bytes, so three writes and a flush.
+// The commands that read a circuit, and what each writes: 55 bytes, so three writes and a flush.
 const COMMANDS: [&str; 2] = ["opt", "teleport"];
 
 const WRITTEN: &[u8] = b"OPENQASM 2.0;\ninclude \"qelib1.inc\";\nqreg q[1];\ns q[0];\n";
+
+// A graph of two vertices without an edge, with a table of corrections that isn't a flow.
+const NO_FLOW: &[u8] =
+    b"zxg 1\nvertex 0 XY 0\nvertex 1 XY 0\ninput 0 plain\noutput 1 plain\nflow\norder 0\ncorrect 0 1\nend\n";
 
 #[test]
 fn each_read_that_fails_is_told(rt: HostRuntime) -> Result<(), Fail> {
@@ -24,54 +26,96 @@ fn each_read_that_fails_is_told(rt: HostRuntime) -> Result<(), Fail> {
             assert_eq!(rt; out.bytes(), b"".as_slice());
             assert_eq!(rt; err.bytes(), b"zxopt: read fault\n".as_slice());
         }
-        let (status, out, _) = run_with(rt.alloc(), &[command], TEXT, [&[6], &[], &[]])?;
+        let (status, out, err) = run_with(rt.alloc(), &[command], TEXT, [&[6], &[], &[]])?;
         assert_eq!(rt; status, Status::Done);
         assert_eq!(rt; out.bytes(), WRITTEN);
+        assert_eq!(rt; err.bytes(), b"".as_slice());
     }
     Ok(())
 }
 
 #[test]
 fn each_write_that_fails_is_told(rt: HostRuntime) -> Result<(), Fail> {
+    // The call that fails, and what was taken before: 0, 20, 40 and 55 bytes.
+    let rows: [(u64, &[u8]); 4] = [
+        (1, b""),
+        (2, b"OPENQASM 2.0;\ninclud"),
+        (3, b"OPENQASM 2.0;\ninclude \"qelib1.inc\";\nqreg"),
+        (4, WRITTEN),
+    ];
     for command in COMMANDS {
-        for call in 1..5 {
+        for (call, taken) in rows {
             let (status, out, err) = run_with(rt.alloc(), &[command], TEXT, [&[], &[call], &[]])?;
             assert_eq!(rt; status, Status::WriteFault, "call {call}");
-            assert!(rt; WRITTEN.starts_with(out.bytes()));
+            assert_eq!(rt; out.bytes(), taken, "call {call}");
             assert_eq!(rt; err.bytes(), b"zxopt: write fault\n".as_slice());
         }
-        let (status, out, _) = run_with(rt.alloc(), &[command], TEXT, [&[], &[5], &[]])?;
+        let (status, out, err) = run_with(rt.alloc(), &[command], TEXT, [&[], &[5], &[]])?;
         assert_eq!(rt; status, Status::Done);
         assert_eq!(rt; out.bytes(), WRITTEN);
+        assert_eq!(rt; err.bytes(), b"".as_slice());
     }
     Ok(())
 }
 
-// What is written to an error output of which this call fails.
-fn run_with_err(
-    alloc: Global,
-    words: &[&str],
-    text: &[u8],
-    call: u64,
-) -> Result<(Status, MemSink), Fail> {
-    let (status, _, err) = run_with(alloc, words, text, [&[], &[], &[call]])?;
-    Ok((status, err))
-}
-
-// The usage line, and the line of a refusal, are cut off, and the answer stays.
 #[test]
 fn error_outputs_that_fail_change_no_answer(rt: HostRuntime) -> Result<(), Fail> {
-    for call in 1..4 {
-        let (status, err) = run_with_err(rt.alloc(), &[], b"", call)?;
-        assert_eq!(rt; status, Status::Usage);
-        assert!(rt;
-            b"usage: zxopt opt [--best] [--report] [--scalar] | reduce | flow | graph".starts_with(
-                err.bytes()
-            )
-        );
-        let (status, err) = run_with_err(rt.alloc(), &["opt"], b"x", call)?;
-        assert_eq!(rt; status, Status::Refused(Fault::Syntax { at: 0 }));
-        assert!(rt; b"zxopt: fault 3 Syntax at 0\n".starts_with(err.bytes()));
+    // The words, the text, the call of the source that fails and that of the output, or 0 where none does, the answer,
+    // and its line: of at most 124 bytes, so at most seven writes and a flush.
+    let rows: [(&[&str], &[u8], u64, u64, Status, &[u8]); 6] = [
+        (&["opt"], TEXT, 0, 0, Status::Done, b""),
+        (&["flow"], NO_FLOW, 0, 0, Status::No, b""),
+        (
+            &["opt"],
+            b"x",
+            0,
+            0,
+            Status::Refused(Fault::Syntax { at: 0 }),
+            b"zxopt: fault 3 Syntax at 0\n",
+        ),
+        (
+            &[],
+            b"",
+            0,
+            0,
+            Status::Usage,
+            b"usage: zxopt opt [--best] [--report] [--scalar] | reduce | flow | graph | gen SEED QUBITS GATES | compile | teleport | same\n",
+        ),
+        (
+            &["opt"],
+            TEXT,
+            1,
+            0,
+            Status::ReadFault,
+            b"zxopt: read fault\n",
+        ),
+        (
+            &["opt"],
+            TEXT,
+            0,
+            1,
+            Status::WriteFault,
+            b"zxopt: write fault\n",
+        ),
+    ];
+    for (i, (words, text, read, write, expected, line)) in rows.into_iter().enumerate() {
+        // The call of the error output that fails, and how many bytes were taken before it at most.
+        for (call, most) in [
+            (1, 0),
+            (2, 20),
+            (3, 40),
+            (4, 60),
+            (5, 80),
+            (6, 100),
+            (7, 120),
+            (8, 140),
+        ] {
+            let fails: [&[u64]; 3] = [&[read], &[write], &[call]];
+            let (status, _, err) = run_with(rt.alloc(), words, text, fails)?;
+            let taken = line.get(..most).unwrap_or(line);
+            assert_eq!(rt; status, expected, "row {i}, call {call}");
+            assert_eq!(rt; err.bytes(), taken, "row {i}, call {call}");
+        }
     }
     Ok(())
 }

@@ -1,9 +1,8 @@
 -- What the rows in memory say of a matrix.
-use Rattle.std.proofs.Common.{◌≡◌, ◌≢◌, sym, ◌∙◌, ap, subst, ℕ, ◌<◌, Bool, false, List, [], map, set, get_or, length, Result, Ok, Err, OnOk, OnErr, arith}
+use Rattle.std.proofs.Common.{◌≡◌, ◌≢◌, sym, ◌∙◌, ap, subst, ℕ, ◌<◌, Bool, List, [], map, set, get_or, length, arith}
 use Rattle.std.specs.List.{All}
 use Rattle.std.proofs.lemmas.List.{map-set, get_or-map, get_or-set_other, length-map}
-use Rattle.zx_bits.specs.Rows.{BitRow, BitMatrix, row_at, flipped, xor_lists}
-use Rattle.zx_bits.proofs.Vectors.{length-flipped, length-xor}
+use Rattle.zx_bits.specs.Rows.{BitRow, BitMatrix, row_at}
 
 -- rows in memory that are seen as those of a matrix
 module _ (columns : ℕ) (items : List BitRow) (m : BitMatrix) (view_is : record { columns = columns; rows = map (λ row. row.bits) items } ≡ m) where
@@ -17,7 +16,7 @@ module _ (columns : ℕ) (items : List BitRow) (m : BitMatrix) (view_is : record
 
   pub row_size : All (λ row. length row.bits ≡ columns) items → (r : ℕ) → r < length m.rows → length (row_at m r) ≡ columns
   row_size all r lt =
-      let none : BitRow = record { bits = []; has_room = false } in
+      let none : BitRow = record { bits = [] } in
       ap (λ n. length (row_at n r)) (sym view_is) ∙ ap length (get_or-map (λ b. b.bits) items r none [] (omega (arith, count_is))) ∙ all r none (omega (arith, count_is))
 
   -- another row at an index
@@ -27,19 +26,6 @@ module _ (columns : ℕ) (items : List BitRow) (m : BitMatrix) (view_is : record
       let put : BitMatrix → BitMatrix = λ n. record n { rows = set n.rows r bits } in
       ap seen (map-set (λ b. b.bits) items r row ∙ ap (set (map (λ b. b.bits) items) r) e)
       ∙ ap put view_is
-
-pub flipped_size : {E : Type 0} (result : Result (Unit {0}) E) (old new : BitRow) (place : ℕ) → OnOk result (new.bits ≡ flipped old.bits place) → OnErr result (new ≡ old) → length new.bits ≡ length old.bits
-flipped_size (Ok u) old new place ok err = ap length ok ∙ length-flipped old.bits place
-flipped_size (Err e) old new place ok err = ap (λ b. length b.bits) err
-
-pub added_size : {E : Type 0} (result : Result (Unit {0}) E) (old other new : BitRow) → length other.bits ≡ length old.bits → OnOk result (new.bits ≡ xor_lists old.bits other.bits) → OnErr result (new ≡ old) →
-    length new.bits ≡ length old.bits
-added_size (Ok u) old other new size ok err = ap length ok ∙ length-xor old.bits other.bits size
-added_size (Err e) old other new size ok err = ap (λ b. length b.bits) err
-
-pub on_err_weaker : {E P Q : Type 0} (result : Result (Unit {0}) E) → (P → Q) → OnErr result P → OnErr result Q
-on_err_weaker (Ok u) f p = p
-on_err_weaker (Err e) f p = f p
 
 -- a row at an index, while another one is away
 pub other_row : (items : List BitRow) (from to : ℕ) (away row : BitRow) → from ≢ to → row ≡ get_or (set items to away) from row → row ≡ get_or items from row

@@ -1,10 +1,10 @@
 -- What the kept words say of the list of bits.
-use Rattle.std.proofs.Common.{◌≡◌, sym, ◌∙◌, ap, ap₂, subst, inl, inr, ℕ, ◌+◌, ◌*◌, ◌/◌, ◌<◌, ◌≤◌, max, true, ◌&&◌, eqb, length, Result, Ok, Err, OnOk, OnErr, arith}
-use Rattle.std.proofs.lemmas.Bool.{cases_lt, leb-true, ne_eqb}
+use Rattle.std.proofs.Common.{◌≡◌, sym, ◌∙◌, ap, ap₂, inl, inr, ℕ, ◌+◌, ◌*◌, ◌/◌, ◌%◌, ◌<◌, ◌≤◌, max, ◌&&◌, eqb, length, Result, Ok, Err, IsOk, OnOk, arith}
+use Rattle.std.proofs.lemmas.Bool.{cases_lt, false≢true, ne_eqb}
 use Rattle.zx_model.specs.Bits.{xor, bit}
 use Rattle.zx_bits.specs.Rows.{BitRow, flipped, xor_lists, parity_of}
-use Rattle.zx_bits.specs.Internal.Words.{told, is_odd}
-use Rattle.zx_bits.specs.Internal.Windows.{is_set, end_of, IsWithin, row_of}
+use Rattle.zx_bits.specs.Internal.Words.{digit, told, is_odd}
+use Rattle.zx_bits.specs.Internal.Windows.{word_from, is_set, end_of, IsWithin, row_of}
 use Rattle.zx_bits.specs.declared.window.Window.{Window}
 use Rattle.zx_bits.proofs.Lists.{length-told, told-same, bit-told, bit-past, flipped-told, xor_lists-told, parity_of-told}
 
@@ -24,12 +24,6 @@ module _ (len : ℕ) (w : Window) (row : BitRow) (view_is : row_of len w ≡ row
             | inl l ↦ bit-told len (is_set w) k l
             | inr g ↦ bit-past (told len (is_set w)) k (omega (arith, length-told len (is_set w))) ∙ sym (within.unset k g)
           ]
-
-  -- it keeps room for the words up to any that holds one of its bits
-  pub has_capacity : row.has_room ≡ true → (stop : ℕ) → 64 * stop < len + 64 → stop ≤ w.words.capacity
-  has_capacity room stop below =
-      let le : len ≤ 64 * w.words.capacity = leb-true _ _ (ap (λ r. r.has_room) view_is ∙ room) in
-      omega arith
 
   pub told-flipped : (new : Window) (place : ℕ) → ((k : ℕ) → is_set new k ≡ xor (is_set w k) (eqb k place)) → told len (is_set new) ≡ flipped row.bits place
   told-flipped new place is =
@@ -53,22 +47,34 @@ module _ (len : ℕ) (w : Window) (row : BitRow) (view_is : row_of len w ≡ row
 
 -- ---- what stays so
 
-pub within_flipped : (len place : ℕ) (old new : Window) {E : Type 0} (r : Result (Unit {0}) E) → IsWithin len old → place < len →
-    OnOk r ((k : ℕ) → is_set new k ≡ xor (is_set old k) (eqb k place)) → OnOk r (end_of new ≤ max (end_of old) (place / 64 + 1)) →
-    OnErr r (new ≡ old) → IsWithin len new
-within_flipped len place old new (Ok u) within lt is stop err = record {
+pub same_set : (old new : Window) → new.offset ≡ old.offset → new.words.items ≡ old.words.items → is_set new ≡ is_set old
+same_set old new offset items = ap₂ (λ o words place. digit (word_from o words (place / 64)) (place % 64)) offset items
+
+-- there is room for the words up to any that holds one of its bits
+pub has_capacity : (len : ℕ) (w : Window) → IsWithin len w → (stop : ℕ) → 64 * stop < len + 64 → stop ≤ w.words.capacity
+has_capacity len w within stop below = omega (arith, within.room)
+
+pub within_flipped : (len place : ℕ) (old new : Window) → IsWithin len old → place < len →
+    ((k : ℕ) → is_set new k ≡ xor (is_set old k) (eqb k place)) → end_of new ≤ max (end_of old) (place / 64 + 1) →
+    old.words.capacity ≤ new.words.capacity → IsWithin len new
+within_flipped len place old new within lt is stop more = record {
   unset = λ k le. is k ∙ ap₂ xor (within.unset k le) (ne_eqb k place (λ e. omega arith));
   end = omega (arith, within.end, stop);
   fits = within.fits;
+  room = omega (arith, within.room, more);
 }
-within_flipped len place old new (Err e) within lt is stop err = subst (IsWithin len) (sym err) within
 
-pub within_added : (len : ℕ) (old other new : Window) {E : Type 0} (r : Result (Unit {0}) E) → IsWithin len old → IsWithin len other →
-    OnOk r ((k : ℕ) → is_set new k ≡ xor (is_set old k) (is_set other k)) → OnOk r (end_of new ≤ max (end_of old) (end_of other)) →
-    OnErr r (new ≡ old) → IsWithin len new
-within_added len old other new (Ok u) within also is stop err = record {
+pub within_added : (len : ℕ) (old other new : Window) → IsWithin len old → IsWithin len other →
+    ((k : ℕ) → is_set new k ≡ xor (is_set old k) (is_set other k)) → end_of new ≤ max (end_of old) (end_of other) →
+    old.words.capacity ≤ new.words.capacity → IsWithin len new
+within_added len old other new within also is stop more = record {
   unset = λ k le. is k ∙ ap₂ xor (within.unset k le) (also.unset k le);
   end = omega (arith, within.end, also.end, stop);
   fits = within.fits;
+  room = omega (arith, within.room, more);
 }
-within_added len old other new (Err e) within also is stop err = subst (IsWithin len) (sym err) within
+
+-- what is said of an answer that came
+pub from_ok : {T E P : Type 0} (r : Result T E) → IsOk r → OnOk r P → P
+from_ok (Ok x) ok p = p
+from_ok (Err e) ok p = absurd (false≢true ok)

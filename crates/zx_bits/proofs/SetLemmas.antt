@@ -1,5 +1,5 @@
 -- What the words that are kept say of a set of numbers.
-use Rattle.std.proofs.Common.{◌≡◌, sym, ◌∙◌, ap, ap₂, inl, inr, ℕ, ◌+◌, ◌-◌, ◌*◌, ◌/◌, ◌^◌, ◌<◌, ◌≤◌, max, min, Bool, true, false, ◌&&◌, List, length, get_or, count_by, Result, Ok, Err, OnOk, OnErr, IsOk, arith}
+use Rattle.std.proofs.Common.{◌≡◌, sym, ◌∙◌, ap, ap₂, inl, inr, ℕ, ◌+◌, ◌-◌, ◌*◌, ◌^◌, ◌<◌, ◌≤◌, max, min, Bool, ◌&&◌, length, get_or, count_by, Result, Ok, Err, OnOk, OnErr, arith}
 use Rattle.std.specs.Int.RustNames.{bit_and, count_ones}
 use Rattle.std.proofs.lemmas.Bool.{cases_lt, cond-true, cond-false, le-leb, lt-leb, false_from_ne_true}
 use Rattle.std.proofs.lemmas.Nat.{and_le_l}

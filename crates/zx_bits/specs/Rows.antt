@@ -3,10 +3,8 @@ use Rattle.std.specs.Prelude.{◌≡◌, ◌<◌, ◌≤◌, ℕ, zero, suc, Boo
 use Rattle.std.specs.Prelude.{List, [], ◌∷◌, get_or, slice_set}
 use Rattle.zx_model.specs.Bits.{xor}
 
--- the bits, and whether no further memory is needed to set any of them
 pub record BitRow : Type 0 where
   pub bits : List Bool
-  pub has_room : Bool
 
 -- how many bits each row has, and the rows
 pub record BitMatrix : Type 0 where

@@ -80,7 +80,7 @@ impl BitMatrix {
             { rows = self.old.rows ++ replicate self.old.columns false ∷ [] }) }
         ensures err { OnErr result (self.new ≡ self.old) }
     {
-        self.rows.push(BitRow::new(self.alloc, self.columns))?;
+        self.rows.push(BitRow::new(self.alloc, self.columns)?)?;
         Ok(())
     }
 
@@ -93,33 +93,28 @@ impl BitMatrix {
         self.row(r).get(c)
     }
 
-    /// Negates a bit. Where memory runs out, the matrix is as it was.
-    pub fn flip(&mut self, r: usize, c: usize) -> Result<(), AllocError>
+    /// Negates a bit. It takes no memory.
+    pub fn flip(&mut self, r: usize, c: usize)
         requires row { r < length self.old.rows }
         requires column { c < self.old.columns }
-        ensures ok { OnOk result (self.new ≡
-            with_row self.old r (flipped (row_at self.old r) c)) }
-        ensures err { OnErr result (self.new ≡ self.old) }
+        ensures { self.new ≡ with_row self.old r (flipped (row_at self.old r) c) }
     {
-        self.rows[r].flip(c)
+        self.rows[r].flip(c);
     }
 
-    /// Adds one row to another. Where memory runs out, the matrix is as it was.
-    pub fn add_row(&mut self, from: usize, to: usize) -> Result<(), AllocError>
+    /// Adds one row to another. It takes no memory.
+    pub fn add_row(&mut self, from: usize, to: usize)
         requires from { from < length self.old.rows }
         requires to { to < length self.old.rows }
-        ensures ok { OnOk result (self.new ≡
-            with_row self.old to (xor_lists (row_at self.old to) (row_at self.old from))) }
-        ensures err { OnErr result (self.new ≡ self.old) }
+        ensures { self.new ≡
+            with_row self.old to (xor_lists (row_at self.old to) (row_at self.old from)) }
     {
-        let none = BitRow::new(self.alloc, self.columns);
         if from == to {
-            self.rows[to] = none;
-            return Ok(());
+            self.rows[to].clear();
+            return;
         }
-        let mut row = mem::replace(&mut self.rows[to], none);
-        let added = row.xor(&self.rows[from]);
+        let mut row = mem::replace(&mut self.rows[to], BitRow::empty(self.alloc));
+        row.xor(&self.rows[from]);
         self.rows[to] = row;
-        added
     }
 }

@@ -1,7 +1,7 @@
 //! Rows of bits.
 
-ghost use Rattle.std.specs.Prelude.{◌≡◌, ◌<◌, ◌≤◌, ◌+◌, ◌++◌, true, false, length, replicate};
-ghost use Rattle.std.specs.Prelude.{IsOk, IfOk, OnOk, OnErr};
+ghost use Rattle.std.specs.Prelude.{◌≡◌, ◌<◌, ◌≤◌, ◌+◌, ◌++◌, [], false, length, replicate};
+ghost use Rattle.std.specs.Prelude.{IfOk, OnOk, OnErr};
 ghost use Rattle.zx_model.specs.Bits.{bit};
 ghost use Rattle.zx_bits.specs.Rows.{flipped, xor_lists, parity_of, IsFirstFrom};
 
@@ -9,7 +9,7 @@ use crate::window::Window;
 use std::alloc::{AllocError, Global};
 use std::marker::Model;
 
-/// A row of bits, seen as their list, and whether no more memory is needed to set any of them.
+/// A row of bits, seen as their list. It has the memory for all of them, whichever are set.
 #[derive(Drop)]
 pub struct BitRow {
     len: usize,
@@ -32,20 +32,35 @@ impl Clone for BitRow {
     ghost is_clone = { λ row copy. copy.bits ≡ row.bits };
 
     fn clone(&self) -> Result<BitRow, AllocError> {
+        let mut window = self.window.copy()?;
+        window.reserve(self.len.div_ceil(64))?;
         Ok(BitRow {
             len: self.len,
-            window: self.window.copy()?,
+            window,
         })
     }
 }
 
 impl BitRow {
-    /// A row of so many bits, none of them set. It takes no memory.
-    pub fn new(alloc: Global, bits: usize) -> BitRow
-        ensures { result.bits ≡ replicate bits false }
+    /// A row of so many bits, none of them set.
+    ///
+    /// # Errors
+    ///
+    /// Where memory runs out.
+    pub fn new(alloc: Global, bits: usize) -> Result<BitRow, AllocError>
+        ensures { IfOk result (λ row. row.bits ≡ replicate bits false) }
+    {
+        let mut row = BitRow::empty(alloc);
+        row.grow(bits)?;
+        Ok(row)
+    }
+
+    /// The row without bits. It takes no memory.
+    pub fn empty(alloc: Global) -> BitRow
+        ensures { result.bits ≡ [] }
     {
         BitRow {
-            len: bits,
+            len: 0,
             window: Window::new(alloc),
         }
     }
@@ -65,26 +80,27 @@ impl BitRow {
         self.window.is_set(i)
     }
 
-    /// Negates a bit. Where memory runs out, the row is as it was.
-    pub fn flip(&mut self, i: usize) -> Result<(), AllocError>
+    /// Negates a bit. It takes no memory.
+    pub fn flip(&mut self, i: usize)
         requires { i < length self.old.bits }
-        ensures ok { OnOk result (self.new.bits ≡ flipped self.old.bits i) }
-        ensures err { OnErr result (self.new ≡ self.old) }
-        ensures has_room { self.old.has_room ≡ true → IsOk result }
-        ensures keeps_room { self.old.has_room ≡ true → self.new.has_room ≡ true }
+        ensures { self.new.bits ≡ flipped self.old.bits i }
     {
-        self.window.flip(i)
+        self.window.flip(i).unwrap()
     }
 
-    /// Adds a row of the same length. Where memory runs out, the row is as it was.
-    pub fn xor(&mut self, other: &BitRow) -> Result<(), AllocError>
+    /// Adds a row of the same length. It takes no memory.
+    pub fn xor(&mut self, other: &BitRow)
         requires { length other.now.bits ≡ length self.old.bits }
-        ensures ok { OnOk result (self.new.bits ≡ xor_lists self.old.bits other.now.bits) }
-        ensures err { OnErr result (self.new ≡ self.old) }
-        ensures has_room { self.old.has_room ≡ true → IsOk result }
-        ensures keeps_room { self.old.has_room ≡ true → self.new.has_room ≡ true }
+        ensures { self.new.bits ≡ xor_lists self.old.bits other.now.bits }
     {
-        self.window.xor(&other.window)
+        self.window.xor(&other.window).unwrap()
+    }
+
+    /// Unsets each bit. It takes no memory.
+    pub fn clear(&mut self)
+        ensures { self.new.bits ≡ replicate (length self.old.bits) false }
+    {
+        self.window.clear();
     }
 
     /// Whether an odd number of places are set in both rows, which have the same length.
@@ -102,28 +118,22 @@ impl BitRow {
         self.window.first_from(i)
     }
 
-    /// Adds bits at the end, none of them set. Where their number would leave its type, the row is
-    /// as it was.
+    /// Adds bits at the end, none of them set.
+    ///
+    /// # Errors
+    ///
+    /// Where memory runs out, and where their number would leave its type: the row is as it was.
     pub fn grow(&mut self, bits: usize) -> Result<(), AllocError>
         ensures ok { OnOk result (self.new.bits ≡ self.old.bits ++ replicate bits false) }
         ensures err { OnErr result (self.new ≡ self.old) }
-        ensures room { bits ≡ 0 → self.new ≡ self.old }
     {
         match self.len.checked_add(bits) {
             Some(len) => {
+                self.window.reserve(len.div_ceil(64))?;
                 self.len = len;
                 Ok(())
             }
             None => Err(AllocError),
         }
-    }
-
-    /// Takes the memory for all bits. Where it runs out, the row is as it was.
-    pub fn reserve(&mut self) -> Result<(), AllocError>
-        ensures bits { self.new.bits ≡ self.old.bits }
-        ensures ok { OnOk result (self.new.has_room ≡ true) }
-        ensures err { OnErr result (self.new ≡ self.old) }
-    {
-        self.window.reserve(self.len.div_ceil(64))
     }
 }

@@ -1,23 +1,24 @@
 //! Rows of bits, sets of numbers, matrices, and which rows sum to a target.
 //!
-//! A row and a set keep only the words between that of their first set bit and that of their last,
-//! four of them without an allocation. So a set takes any numbers but the greatest 64, and needs no
-//! length.
+//! A row and a set keep only the words between that of their first set bit and that of their last.
+//! A set has memory for no more than these, four of them without an allocation. So it takes any
+//! numbers but the greatest 64, and needs no length.
 //!
-//! Proved: each call reads its list of bits or makes its one named change of it; want of memory
-//! leaves a row or a matrix as it was, and comes at no call where the row has room. A set is the
+//! Proved: each call reads its list of bits or makes its one named change of it. A row takes the
+//! memory for all its bits when it is made, grown or added to a matrix; what changes them then takes
+//! none. Where memory runs out, a row or a matrix is as it was. A set is the
 //! rising list of its numbers: each call reads that list or changes which numbers are in it as it
 //! says, and want of memory leaves the set as it was. A set also tells its room, a bound below which
 //! any number goes in without memory: `reserve` raises it, and changes below it don't lower it.
 //! `solve` answers with rows that sum to the target, of which no smaller part does, or with a list
-//! of bits that shows that no rows do.
+//! of bits that shows that no rows do; a law says that not both can be right.
 //!
 //! ```rust
 //! let mut m = BitMatrix::new(alloc, 2);
 //! m.push_row()?;
-//! m.flip(0, 1)?;                    // its bit 1 is set, and its bit 0 isn't
-//! let mut target = BitRow::new(alloc, 2);
-//! target.flip(1)?;
+//! m.flip(0, 1);                     // its bit 1 is set, and its bit 0 isn't
+//! let mut target = BitRow::new(alloc, 2)?;
+//! target.flip(1);
 //! let answer = solve(alloc, &m, &target)?;      // Solved::Rows, the first row alone
 //!
 //! let mut set = BitSet::new(alloc);
@@ -36,4 +37,4 @@ mod window;
 pub use bit_matrix::BitMatrix;
 pub use bit_row::BitRow;
 pub use bit_set::BitSet;
-pub use solving::{Solved, solve};
+pub use solving::{Solved, a_dual_leaves_no_sum, solve};

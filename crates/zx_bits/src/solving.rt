@@ -40,8 +40,8 @@ pub fn solve(alloc: Global, m: &BitMatrix, target: &BitRow) -> Result<Solved, Al
 {
     let basis = basis_of(alloc, m)?;
     let mut rest = target.clone()?;
-    let mut set = BitRow::new(alloc, m.height());
-    reduce(&basis, &mut rest, &mut set)?;
+    let mut set = BitRow::new(alloc, m.height())?;
+    reduce(&basis, &mut rest, &mut set);
     match rest.bit_from(0) {
         None => Ok(Solved::Rows(set)),
         Some(column) => Ok(Solved::None(dual(alloc, m, &basis, column)?)),
@@ -55,9 +55,9 @@ fn basis_of(alloc: Global, m: &BitMatrix) -> Result<Vec<Reduced>, AllocError>
     let mut basis = Vec::new(alloc);
     for i in 0..m.height() {
         let mut row = m.row(i).clone()?;
-        let mut from = BitRow::new(alloc, m.height());
-        from.flip(i)?;
-        reduce(&basis, &mut row, &mut from)?;
+        let mut from = BitRow::new(alloc, m.height())?;
+        from.flip(i);
+        reduce(&basis, &mut row, &mut from);
         keep(&mut basis, row, from)?;
     }
     Ok(basis)
@@ -77,28 +77,26 @@ fn keep(basis: &mut Vec<Reduced>, row: BitRow, from: BitRow) -> Result<(), Alloc
 }
 
 // Adds each of the basis whose pivot is set, so that none is.
-fn reduce(basis: &[Reduced], row: &mut BitRow, from: &mut BitRow) -> Result<(), AllocError>
+fn reduce(basis: &[Reduced], row: &mut BitRow, from: &mut BitRow)
     requires { HasSizes (length row.old.bits) (length from.old.bits) basis.now }
-    ensures { OnOk result (record { row = row.new.bits; from = from.new.bits }
-        ≡ reduced basis.now (record { row = row.old.bits; from = from.old.bits })) }
+    ensures { record { row = row.new.bits; from = from.new.bits }
+        ≡ reduced basis.now (record { row = row.old.bits; from = from.old.bits }) }
 {
     for entry in basis {
-        add_if_set(entry, row, from)?;
+        add_if_set(entry, row, from);
     }
-    Ok(())
 }
 
 // Adds one of the basis where its pivot is set.
-fn add_if_set(entry: &Reduced, row: &mut BitRow, from: &mut BitRow) -> Result<(), AllocError>
+fn add_if_set(entry: &Reduced, row: &mut BitRow, from: &mut BitRow)
     requires { HasSize (length row.old.bits) (length from.old.bits) entry.now }
-    ensures { OnOk result (record { row = row.new.bits; from = from.new.bits }
-        ≡ step entry.now (record { row = row.old.bits; from = from.old.bits })) }
+    ensures { record { row = row.new.bits; from = from.new.bits }
+        ≡ step entry.now (record { row = row.old.bits; from = from.old.bits }) }
 {
     if row.get(entry.pivot) {
-        row.xor(&entry.row)?;
-        from.xor(&entry.from)?;
+        row.xor(&entry.row);
+        from.xor(&entry.from);
     }
-    Ok(())
 }
 
 // What has an even number of places in common with each of the basis, and of the columns that are
@@ -114,28 +112,27 @@ fn dual(
     ensures { IfOk result (λ dual.
         dual.bits ≡ dual_of basis.now (flipped (zeros m.now.columns) column)) }
 {
-    let mut dual = BitRow::new(alloc, m.columns());
-    dual.flip(column)?;
+    let mut dual = BitRow::new(alloc, m.columns())?;
+    dual.flip(column);
     for i in (0..basis.len()).rev() {
-        even_out(&basis[i], &mut dual)?;
+        even_out(&basis[i], &mut dual);
     }
     Ok(dual)
 }
 
 // Flips the pivot of one of the basis that has an odd number of places in common with the dual.
-fn even_out(entry: &Reduced, dual: &mut BitRow) -> Result<(), AllocError>
+fn even_out(entry: &Reduced, dual: &mut BitRow)
     requires size { length entry.now.row.bits ≡ length dual.old.bits }
     requires pivot { entry.now.pivot < length dual.old.bits }
-    ensures { OnOk result (dual.new.bits ≡ evened entry.now dual.old.bits) }
+    ensures { dual.new.bits ≡ evened entry.now dual.old.bits }
 {
     if entry.row.parity_with(dual) {
-        dual.flip(entry.pivot)?;
+        dual.flip(entry.pivot);
     }
-    Ok(())
 }
 
-// What has a dual is no sum of rows: of the two answers one is right.
-pub(crate) fn a_dual_leaves_no_sum()
+/// What has a dual is no sum of rows: of the two answers of `solve` exactly one can be right.
+pub fn a_dual_leaves_no_sum()
     ensures { (m : BitMatrix) (target dual set : List Bool) → IsDual m target dual →
         sum_of_rows m.columns m.rows set ≢ target }
 {}

@@ -32,20 +32,25 @@ pub fn split_input(g: &mut OpenGraph, f: &mut Flow, b: VertexId) -> Result<Scala
         split_input_table b (new_vertex g.old.graph) f.old.flow) }
     ensures err { OnErr result ((g.new.graph ≡ g.old.graph) × (f.new.flow ≡ f.old.flow)) }
     ensures has_room { HavePlace g.old f.old → IsOk result }
-    ensures spare { HavePlace g.old f.old →
-        (g.new.spare ≡ g.old.spare - 1) × (f.old.spare ≤ f.new.spare + 1) }
-    ensures reach { HavePlace g.old f.old →
-        (g.new.reach ≡ g.old.reach) × (f.new.reach ≡ f.old.reach) }
+    ensures spare { OnOk result
+        ((g.new.spare ≡ g.old.spare - 1) × (f.old.spare ≤ f.new.spare + 1)) }
+    ensures keeps_spare { OnErr result
+        ((g.new.spare ≡ g.old.spare) × (f.old.spare ≤ f.new.spare)) }
+    ensures reach { (g.new.reach ≡ g.old.reach) × (f.new.reach ≡ f.old.reach) }
     ensures valid { WellFormed g.new.graph }
 {
     if f.has_place(g) {
         return split_input_in_place(g, f, b);
     }
-    split_input_in_copies(g, f, b)
+    split_input_with_copies(g, f, b)
 }
 
-// The same on copies, which then take the place of graph and flow.
-fn split_input_in_copies(g: &mut OpenGraph, f: &mut Flow, b: VertexId) -> Result<Scalar, AllocError>
+// The same in place. Where memory runs out, copies take the place of graph and flow.
+fn split_input_with_copies(
+    g: &mut OpenGraph,
+    f: &mut Flow,
+    b: VertexId,
+) -> Result<Scalar, AllocError>
     requires flow { IsFlow g.old.graph f.old.flow }
     requires allowed { allowed g.old.graph (SplitInput b) ≡ true }
     ensures rewritten { OnOk result
@@ -54,14 +59,23 @@ fn split_input_in_copies(g: &mut OpenGraph, f: &mut Flow, b: VertexId) -> Result
     ensures table { OnOk result (f.new.flow ≡
         split_input_table b (new_vertex g.old.graph) f.old.flow) }
     ensures err { OnErr result ((g.new.graph ≡ g.old.graph) × (f.new.flow ≡ f.old.flow)) }
+    ensures spare { OnOk result
+        ((g.new.spare ≡ g.old.spare - 1) × (f.old.spare ≤ f.new.spare + 1)) }
+    ensures keeps_spare { OnErr result
+        ((g.new.spare ≡ g.old.spare) × (f.old.spare ≤ f.new.spare)) }
+    ensures reach { (g.new.reach ≡ g.old.reach) × (f.new.reach ≡ f.old.reach) }
     ensures valid { WellFormed g.new.graph }
 {
     let mut graph = g.copy()?;
     let mut flow = f.copy()?;
-    let scalar = split_input_in_place(&mut graph, &mut flow, b)?;
-    mem::swap(g, &mut graph);
-    mem::swap(f, &mut flow);
-    Ok(scalar)
+    match split_input_in_place(g, f, b) {
+        Ok(scalar) => Ok(scalar),
+        Err(error) => {
+            mem::swap(g, &mut graph);
+            mem::swap(f, &mut flow);
+            Err(error)
+        }
+    }
 }
 
 /// Whether the id is that of a vertex with an input.

@@ -11,6 +11,13 @@
 //! memory runs out they say nothing. `split_input_in_graph` and `split_output_in_graph` change the
 //! graph alone, by the same step, and answer the new vertex. None of these takes memory where graph
 //! and flow have a place for a vertex, and all vertices and the new one are below the reach of both.
+//! What both have memory for stays in any case, but for the place that the new vertex takes.
+//!
+//! Inside:
+//!
+//! - `inputs`, `outputs`: a split each, with its test, its scalar, its change of the graph alone
+//!   and in place, and the safe call.
+//! - `spider`: what both splits are made of.
 //!
 //! ```rust
 //! if may_split_output(&graph, b) {

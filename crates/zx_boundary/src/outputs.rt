@@ -32,20 +32,21 @@ pub fn split_output(g: &mut OpenGraph, f: &mut Flow, b: VertexId) -> Result<Scal
         split_output_table b (new_vertex g.old.graph) f.old.flow) }
     ensures err { OnErr result ((g.new.graph ≡ g.old.graph) × (f.new.flow ≡ f.old.flow)) }
     ensures has_room { HavePlace g.old f.old → IsOk result }
-    ensures spare { HavePlace g.old f.old →
-        (g.new.spare ≡ g.old.spare - 1) × (f.old.spare ≤ f.new.spare + 1) }
-    ensures reach { HavePlace g.old f.old →
-        (g.new.reach ≡ g.old.reach) × (f.new.reach ≡ f.old.reach) }
+    ensures spare { OnOk result
+        ((g.new.spare ≡ g.old.spare - 1) × (f.old.spare ≤ f.new.spare + 1)) }
+    ensures keeps_spare { OnErr result
+        ((g.new.spare ≡ g.old.spare) × (f.old.spare ≤ f.new.spare)) }
+    ensures reach { (g.new.reach ≡ g.old.reach) × (f.new.reach ≡ f.old.reach) }
     ensures valid { WellFormed g.new.graph }
 {
     if f.has_place(g) {
         return split_output_in_place(g, f, b);
     }
-    split_output_in_copies(g, f, b)
+    split_output_with_copies(g, f, b)
 }
 
-// The same on copies, which then take the place of graph and flow.
-fn split_output_in_copies(
+// The same in place. Where memory runs out, copies take the place of graph and flow.
+fn split_output_with_copies(
     g: &mut OpenGraph,
     f: &mut Flow,
     b: VertexId,
@@ -58,14 +59,23 @@ fn split_output_in_copies(
     ensures table { OnOk result (f.new.flow ≡
         split_output_table b (new_vertex g.old.graph) f.old.flow) }
     ensures err { OnErr result ((g.new.graph ≡ g.old.graph) × (f.new.flow ≡ f.old.flow)) }
+    ensures spare { OnOk result
+        ((g.new.spare ≡ g.old.spare - 1) × (f.old.spare ≤ f.new.spare + 1)) }
+    ensures keeps_spare { OnErr result
+        ((g.new.spare ≡ g.old.spare) × (f.old.spare ≤ f.new.spare)) }
+    ensures reach { (g.new.reach ≡ g.old.reach) × (f.new.reach ≡ f.old.reach) }
     ensures valid { WellFormed g.new.graph }
 {
     let mut graph = g.copy()?;
     let mut flow = f.copy()?;
-    let scalar = split_output_in_place(&mut graph, &mut flow, b)?;
-    mem::swap(g, &mut graph);
-    mem::swap(f, &mut flow);
-    Ok(scalar)
+    match split_output_in_place(g, f, b) {
+        Ok(scalar) => Ok(scalar),
+        Err(error) => {
+            mem::swap(g, &mut graph);
+            mem::swap(f, &mut flow);
+            Err(error)
+        }
+    }
 }
 
 /// Whether the id is that of a vertex with an output.

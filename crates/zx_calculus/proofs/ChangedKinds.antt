@@ -6,7 +6,7 @@ use Rattle.zx_calculus.specs.Edits.{KeepsEnds}
 use Rattle.zx_calculus.specs.Turns.{quarter_turned, half_turned}
 use Rattle.zx_calculus.proofs.StepIdentities.{quarter_turned-quarter_turned}
 use Rattle.zx_calculus.proofs.Vertices.{ids-with_kinds, with_kinds_same}
-use Rattle.zx_calculus.specs.Toggles.{changed_in, with_changed}
+use Rattle.zx_calculus.specs.Internal.ChangedKinds.{changed_in, with_changed}
 
 pub with_kinds-with_kinds : (f g : ℕ → Kind → Kind) (vs : List Vertex) →
     with_kinds f (with_kinds g vs) ≡ with_kinds (λ p k. f p (g p k)) vs

@@ -12,7 +12,8 @@ use Rattle.zx_model.proofs.Odd.{is_odd-minus_quarter, is_odd-quarter_minus, is_o
 use Rattle.zx_calculus.specs.Graph.{YZ, Plane, XY, XZ, end_vertices, WellFormed, joined, Graph, kind_of, plane_of, ids, Kind, with_kinds, Vertex, phase_of, without, is_XZ, is_XY}
 use Rattle.zx_calculus.specs.Turns.{complemented_in, quarter_turned, complemented, in_plane, half_turned}
 use Rattle.zx_calculus.specs.Complements.{complement_kind, IsLocalComplement, complement_right, complement_left_in, complement_right_in}
-use Rattle.zx_calculus.specs.Parity.{quad, masked}
+use Rattle.zx_calculus.specs.Parity.{masked}
+use Rattle.zx_calculus.specs.Internal.Pairs.{quad}
 use Rattle.zx_calculus.specs.Scalars.{quarter_cost, product_of}
 use Rattle.zx_calculus.specs.Sum.{spider, sum, vertex_product}
 use Rattle.zx_calculus.specs.Counts.{odd_phases, even_interior, not_XY}

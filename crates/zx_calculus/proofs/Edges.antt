@@ -4,7 +4,8 @@ use Rattle.std.specs.List.{list_all}
 use Rattle.zx_model.specs.Bits.{xor, member}
 use Rattle.zx_model.specs.Number.{mul, sign}
 use Rattle.zx_model.proofs.Ring.{mul-sign}
-use Rattle.zx_calculus.specs.Parity.{masked, quad}
+use Rattle.zx_calculus.specs.Parity.{masked}
+use Rattle.zx_calculus.specs.Internal.Pairs.{quad}
 use Rattle.zx_calculus.specs.Graph.{Edge, joins, joined, edge_before, OrderedEdges}
 use Rattle.zx_calculus.specs.Sum.{edge_product}
 use Rattle.zx_calculus.proofs.Booleans.{parities, or_comm, or-apart, and_comm}

@@ -5,7 +5,8 @@ use Rattle.zx_model.specs.Bits.{xor, member}
 use Rattle.zx_model.specs.Number.{Number, add, mul, sign}
 use Rattle.zx_model.specs.Sums.{total, all_labels, label_of, labelled, over, sum_over}
 use Rattle.zx_model.proofs.Ring.{mul-sign, mul_left_comm, expand}
-use Rattle.zx_calculus.specs.Parity.{masked, quad}
+use Rattle.zx_calculus.specs.Parity.{masked}
+use Rattle.zx_calculus.specs.Internal.Pairs.{quad}
 use Rattle.zx_calculus.specs.Graph.{Kind, Vertex, End, Graph, ids, kind_of, joined, end_vertices, without, WellFormed}
 use Rattle.zx_calculus.specs.Sum.{factor, vertex_product, end_product, end_factor, term, sum}
 use Rattle.zx_calculus.proofs.Ids.{by_equal, removed, Distinct, Distinct-rising, Symmetric, quad_front, or-left, or-right, apart_of_member}

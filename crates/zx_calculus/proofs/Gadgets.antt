@@ -15,7 +15,8 @@ use Rattle.zx_calculus.specs.Graph.{WellFormed, without, is_XY, Graph, phase_of,
 use Rattle.zx_calculus.specs.Edits.{KeepsEnds}
 use Rattle.zx_calculus.specs.Turns.{with_phase_added, in_plane}
 use Rattle.zx_calculus.specs.Sum.{spider, vertex_product, sum, factor_in, factor}
-use Rattle.zx_calculus.specs.Parity.{quad, masked}
+use Rattle.zx_calculus.specs.Parity.{masked}
+use Rattle.zx_calculus.specs.Internal.Pairs.{quad}
 use Rattle.zx_calculus.specs.Counts.{even_interior, not_XY, is_even_at, odd_phases, is_odd_at, is_even_interior, is_odd_fused, is_even_fused}
 use Rattle.zx_calculus.specs.Steps.{DropLone, FuseInto, FuseTwin, allowed, after}
 use Rattle.zx_calculus.proofs.Kept.{Below, sum_below, cond_below, kept_removal, KeepsXY, cond_XY, both}

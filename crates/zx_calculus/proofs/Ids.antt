@@ -5,7 +5,8 @@ use Rattle.std.specs.List.{list_all}
 pub use Rattle.zx_model.proofs.BitLemmas.{and-left, and-right}
 pub use Rattle.zx_calculus.specs.Graph.{Distinct}
 use Rattle.zx_model.specs.Bits.{xor, member}
-use Rattle.zx_calculus.specs.Parity.{masked, quad}
+use Rattle.zx_calculus.specs.Parity.{masked}
+use Rattle.zx_calculus.specs.Internal.Pairs.{quad}
 use Rattle.zx_calculus.specs.Graph.{in_order, different}
 use Rattle.zx_calculus.proofs.Booleans.{parities, or-true, or_assoc, and-false}
 

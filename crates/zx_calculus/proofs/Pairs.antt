@@ -1,7 +1,7 @@
 -- An edge toggled between two vertices, in the parity of edges.
 use Rattle.std.proofs.Common.{◌≡◌, ◌≢◌, sym, ◌∙◌, ap, ap₂, ℕ, Bool, true, false, ◌&&◌, eqb, List, ne_eqb}
 use Rattle.zx_model.specs.Bits.{xor, member}
-use Rattle.zx_calculus.specs.Parity.{quad}
+use Rattle.zx_calculus.specs.Internal.Pairs.{quad}
 use Rattle.zx_calculus.specs.Edits.{is_pair}
 use Rattle.zx_calculus.proofs.Booleans.{parities, or-apart, and-false}
 use Rattle.zx_calculus.proofs.Ids.{by_equal, Distinct}

@@ -1,7 +1,8 @@
 -- `masked` and `quad` are linear in what is adjacent, and don't mind the order of the list.
 use Rattle.std.proofs.Common.{◌≡◌, refl, ◌∙◌, ap, ap₂, ℕ, Bool, true, false, ◌&&◌, List, [], ◌∷◌}
 use Rattle.zx_model.specs.Bits.{xor, member}
-use Rattle.zx_calculus.specs.Parity.{masked, quad}
+use Rattle.zx_calculus.specs.Parity.{masked}
+use Rattle.zx_calculus.specs.Internal.Pairs.{quad}
 use Rattle.zx_calculus.proofs.Booleans.{parities}
 use Rattle.zx_calculus.proofs.Ids.{member-here, member-there}
 

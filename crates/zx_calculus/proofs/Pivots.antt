@@ -15,7 +15,8 @@ use Rattle.zx_calculus.specs.Graph.{YZ, Plane, XY, XZ, end_vertices, WellFormed,
 use Rattle.zx_calculus.specs.Turns.{pivoted_in, half_turned, pivoted}
 use Rattle.zx_calculus.specs.Pivots.{pivot_kind, IsPivot, pivot_right_in, pivot_right, pivot_adjacent}
 use Rattle.zx_calculus.specs.Sum.{factor, sum, vertex_product}
-use Rattle.zx_calculus.specs.Parity.{quad, masked}
+use Rattle.zx_calculus.specs.Parity.{masked}
+use Rattle.zx_calculus.specs.Internal.Pairs.{quad}
 use Rattle.zx_calculus.specs.Scalars.{product_of, half_cost}
 use Rattle.zx_calculus.specs.Counts.{odd_phases, even_interior, not_XY}
 use Rattle.zx_calculus.specs.Adjacency.{edges_of}

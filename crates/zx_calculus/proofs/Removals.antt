@@ -6,7 +6,8 @@ use Rattle.zx_model.proofs.Ring.{sorted}
 use Rattle.zx_model.proofs.SumLemmas.{sum_over_same, sum_over_scaled}
 use Rattle.zx_calculus.specs.Graph.{Kind, joined, without, with_kinds, Live, Graph, Interior, kind_of, WellFormed, ids, Vertex}
 use Rattle.zx_calculus.specs.Edits.{KeepsEnds}
-use Rattle.zx_calculus.specs.Parity.{quad, masked}
+use Rattle.zx_calculus.specs.Parity.{masked}
+use Rattle.zx_calculus.specs.Internal.Pairs.{quad}
 use Rattle.zx_calculus.specs.Sum.{sum, vertex_product}
 use Rattle.zx_calculus.proofs.Vertices.{ids-with_kinds}
 use Rattle.zx_calculus.proofs.Ids.{apart_of_member}

@@ -12,7 +12,7 @@ use Rattle.zx_model.proofs.Powers.{root_power-zero}
 use Rattle.zx_calculus.specs.Splits.{move_end, spider_of_phase_zero, IsSplitInput, IsSplitOutput, split_left, mark_of, split_vertices, split_input_graph, split_output_graph}
 use Rattle.zx_calculus.specs.Graph.{end_vertices, End, different, in_order, kind_of, ids, OrderedEnds, insert_vertex, is_XY, Vertex, WellFormed, Graph, joined, Edge, XY, is_interior, Live}
 use Rattle.zx_calculus.specs.Sum.{end_factor, end_product, sum, vertex_product}
-use Rattle.zx_calculus.specs.Parity.{quad}
+use Rattle.zx_calculus.specs.Internal.Pairs.{quad}
 use Rattle.zx_calculus.specs.Edits.{is_pair}
 use Rattle.zx_calculus.specs.Turns.{in_plane}
 use Rattle.zx_calculus.specs.Counts.{even_interior, not_XY, has_input, is_even_at, has_output, odd_phases}

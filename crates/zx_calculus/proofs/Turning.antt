@@ -6,7 +6,8 @@ use Rattle.zx_model.specs.Bits.{xor}
 use Rattle.zx_model.specs.Number.{Number, one, add, mul, neg, sign, root_power}
 use Rattle.zx_model.proofs.Ring.{mul-sign, mul_comm, mul_assoc, expand, sorted, one-mul, mul-one, add_left_comm, add-neg, add-zero}
 use Rattle.zx_model.proofs.Powers.{root_power-add, root_power-half_turn, root_power-sum_of_phases, root_power-opposite_phase}
-use Rattle.zx_calculus.specs.Parity.{masked, quad}
+use Rattle.zx_calculus.specs.Parity.{masked}
+use Rattle.zx_calculus.specs.Internal.Pairs.{quad}
 use Rattle.zx_calculus.specs.Graph.{Plane, XY, XZ, YZ}
 use Rattle.zx_calculus.specs.Sum.{factor, factor_in, spider}
 use Rattle.zx_calculus.specs.Turns.{in_plane, quarter_turned_in, half_turned_in, complemented_in, pivoted_in}

@@ -20,3 +20,4 @@ pub mod Worked
 pub mod PhaseGates
 pub mod Tables
 pub mod StepScalars
+pub mod Internal

@@ -28,7 +28,8 @@ use Rattle.circuit_laws.proofs.Composing.{peels_at_end, ends_at_sum, ends_propor
 use Rattle.circuit_laws.proofs.Counts.{hadamards_odd}
 use Rattle.circuit_laws.proofs.Wires.{wires_end}
 use Rattle.circuit_laws.proofs.GateLists.{hadamards_few}
-use Rattle.zx_extract.specs.Extraction.{HasExactMap, most_extracted_gates}
+use Rattle.zx_extract.specs.Extraction.{most_extracted_gates}
+use Rattle.zx_extract.specs.Internal.Extracted.{HasExactMap}
 use Rattle.zx_extract.specs.Internal.Extracted.{IsExtracted, IsTakenApart}
 use Rattle.zx_extract.specs.Internal.Lists.{in_line}
 use Rattle.zx_extract.specs.Internal.Leading.{State, Leads, IsReady, IsFrontier, IsTaken}

@@ -77,7 +77,7 @@ fn push_copy(m: &mut BitMatrix, row: &BitRow) -> Result<(), AllocError>
     m.push_row()?;
     for c in 0..row.len() {
         if row.get(c) {
-            m.flip(last, c)?;
+            m.flip(last, c);
         }
     }
     Ok(())

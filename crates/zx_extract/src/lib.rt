@@ -8,6 +8,22 @@
 //! target, with no more members than a set that is known to. The rows of the outputs that are no
 //! inputs, over the vertices that are no outputs, are linearly independent.
 //!
+//! Inside:
+//!
+//! - `frontier`: what is left of the graph and its flow, with the gates taken off so far; each
+//!   method ensures that it takes the one step of its gates.
+//! - `holders`: the flow turned over: of each vertex, in which correction sets it stands.
+//! - `settling`: outputs made plain, of phase 0 and without edges among themselves.
+//! - `gathering`: rows added until one output has the neighbours that the last vertex needs.
+//! - `sharing`: rows of a gadget's legs added until one leg is left.
+//! - `gadgets`: phase gadgets.
+//! - `choosing`: which of some outputs costs least.
+//! - `vertices`: the vertices one after the other, the last of the order first.
+//! - `crossing`: the wires that are left.
+//! - `extraction`: `extract`.
+//! - `few_rows`: `choose_rows`.
+//! - `laws`: which rows of a graph with a flow are independent.
+//!
 //! ```rust
 //! let (circuit, scalar) = extract(alloc, graph, flow)?;
 //! let set = choose_rows(alloc, &m, &target, &kept)?;

@@ -7,11 +7,11 @@ use Rattle.gflow_laws.specs.Seen.{Seen, odd}
 use Rattle.gflow_laws.specs.Flow.{Correction, order_of, set_of, is_in, SameSets}
 use Rattle.gflow_laws.specs.Complements.{complement_table}
 use Rattle.gflow_laws.specs.Correcting.{odd_in}
-use Rattle.gflow_laws.specs.Changes.{AreChanged, complement_change}
+use Rattle.gflow_laws.specs.Internal.Changes.{AreChanged, complement_change}
 use Rattle.gflow_laws.proofs.Lists.{is_in-one}
 use Rattle.gflow_laws.proofs.SetChanges.{changed_at, IsToggledAt-none}
 use Rattle.gflow_laws.proofs.TableSteps.{complement_done}
-use Rattle.zx_flow.specs.Changes.{beside_change}
+use Rattle.zx_flow.specs.Internal.Beside.{beside_change}
 
 -- the set of another vertex changes in both
 pub beside_of : (s : Seen) (u v : ℕ) (own : List ℕ) (t t' : List Correction) → eqb v u ≡ false →

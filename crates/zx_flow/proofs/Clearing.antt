@@ -6,7 +6,7 @@ use Rattle.zx_calculus.proofs.Ids.{by_equal, eqb_comm, eqb-self}
 use Rattle.gflow_laws.specs.Flow.{Correction, order_of, set_of, is_in, SameSets}
 use Rattle.gflow_laws.specs.Tables.{symmetric_difference, with_sets, without_set}
 use Rattle.gflow_laws.specs.Removals.{removal_table}
-use Rattle.gflow_laws.specs.Changes.{AreChanged}
+use Rattle.gflow_laws.specs.Internal.Changes.{AreChanged}
 use Rattle.gflow_laws.proofs.Lists.{is_in-symmetric_difference}
 use Rattle.gflow_laws.proofs.Tables.{same-without_set}
 use Rattle.gflow_laws.proofs.SetChanges.{all_changed, changed_at, IsToggledAt, IsToggledAt-none}

@@ -3,7 +3,7 @@ use Rattle.std.proofs.Common.{◌≡◌, ◌≢◌, refl, sym, ◌∙◌, ap, ap
 use Rattle.std.proofs.lemmas.Bool.{cases_lt, le-ltb}
 use Rattle.zx_calculus.specs.Graph.{Kind, Graph, joined, WellFormed}
 use Rattle.zx_calculus.specs.Edits.{at_vertex}
-use Rattle.zx_calculus.specs.Toggles.{with_changed}
+use Rattle.zx_calculus.specs.Internal.ChangedKinds.{with_changed}
 use Rattle.zx_calculus.proofs.Booleans.{and-false}
 use Rattle.zx_calculus.proofs.ChangedKinds.{changed_twice}
 use Rattle.zx_calculus.proofs.Ids.{by_equal}

@@ -6,9 +6,9 @@ ghost use Rattle.gflow_laws.specs.Seen.{Seen, odd};
 ghost use Rattle.gflow_laws.specs.Flow.{order_of, set_of, is_in, SameSets};
 ghost use Rattle.gflow_laws.specs.Removals.{removal_table};
 ghost use Rattle.gflow_laws.specs.Correcting.{odd_in};
-ghost use Rattle.gflow_laws.specs.Changes.{AreChanged, complement_change};
+ghost use Rattle.gflow_laws.specs.Internal.Changes.{AreChanged, complement_change};
 ghost use Rattle.zx_bits.specs.Sets.{IsBelow};
-ghost use Rattle.zx_flow.specs.Changes.{beside_change};
+ghost use Rattle.zx_flow.specs.Internal.Beside.{beside_change};
 ghost use Rattle.zx_flow.specs.Internal.Clearing.{clearing_change};
 
 use crate::flow::Flow;

@@ -187,12 +187,17 @@ impl Corrections {
         self.sets.reach()
     }
 
+    // The same once more, with room for as many vertices more, and sets with the same reach.
     pub(crate) fn copy(&self) -> Result<Corrections, AllocError>
-        ensures { IfOk result (λ copy. copy.table ≡ self.now.table) }
+        ensures table { IfOk result (λ copy. copy.table ≡ self.now.table) }
+        ensures spare { IfOk result (λ copy. self.now.spare ≤ copy.spare) }
+        ensures reach { IfOk result (λ copy. copy.reach ≡ self.now.reach) }
     {
+        let mut order = Vec::from_slice(self.alloc, &self.order)?;
+        order.reserve(self.spare())?;
         Ok(Corrections {
             alloc: self.alloc,
-            order: Vec::from_slice(self.alloc, &self.order)?,
+            order,
             sets: self.sets.copy()?,
         })
     }
@@ -212,5 +217,19 @@ impl Corrections {
             Some(bound) => self.sets.reserve(bound),
             None => Err(AllocError),
         }
+    }
+
+    // Takes the memory that others have: for as many vertices in all, and below the same bound.
+    pub(crate) fn reserve_like(&mut self, other: &Corrections) -> Result<(), AllocError>
+        ensures table { self.new.table ≡ self.old.table }
+        ensures places { OnOk result (other.now.spare + length (order_of other.now.table)
+            ≤ self.new.spare + length (order_of self.new.table)) }
+        ensures reach { OnOk result (other.now.reach ≤ self.new.reach) }
+        ensures keeps_spare { self.old.spare ≤ self.new.spare }
+        ensures keeps_reach { self.old.reach ≤ self.new.reach }
+    {
+        let places = other.order.capacity();
+        self.order.reserve(places.saturating_sub(self.order.len()))?;
+        self.sets.reserve(other.reach())
     }
 }

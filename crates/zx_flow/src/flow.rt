@@ -236,9 +236,11 @@ impl Flow {
         self.corrections.reach()
     }
 
-    /// The same flow once more.
+    /// The same flow once more, with memory for as many vertices more, and with the same reach.
     pub fn copy(&self) -> Result<Flow, AllocError>
-        ensures { IfOk result (λ copy. copy.flow ≡ self.now.flow) }
+        ensures flow { IfOk result (λ copy. copy.flow ≡ self.now.flow) }
+        ensures spare { IfOk result (λ copy. self.now.spare ≤ copy.spare) }
+        ensures reach { IfOk result (λ copy. copy.reach ≡ self.now.reach) }
     {
         Ok(Flow {
             alloc: self.alloc,
@@ -257,5 +259,18 @@ impl Flow {
         ensures keeps_reach { self.old.reach ≤ self.new.reach }
     {
         self.corrections.reserve(vertices)
+    }
+
+    /// Takes the memory that another flow has: for as many vertices in all, and for the sets of all
+    /// vertices below its reach. Where it runs out, some may be taken.
+    pub fn reserve_like(&mut self, other: &Flow) -> Result<(), AllocError>
+        ensures flow { self.new.flow ≡ self.old.flow }
+        ensures places { OnOk result (other.now.spare + length (order_of other.now.flow)
+            ≤ self.new.spare + length (order_of self.new.flow)) }
+        ensures reach { OnOk result (other.now.reach ≤ self.new.reach) }
+        ensures keeps_spare { self.old.spare ≤ self.new.spare }
+        ensures keeps_reach { self.old.reach ≤ self.new.reach }
+    {
+        self.corrections.reserve_like(&other.corrections)
     }
 }

@@ -4,8 +4,18 @@
 //! holds each vertex once, and sets are told by rising id; `last` tells the last of the order, or
 //! that there is none; `has` tells whether a vertex is in a set, `odd_has` the parity of neighbours
 //! in it, for any vertex or id; want of memory leaves the table as it was, and within the room that
-//! `reserve` made, to toggle, add and eliminate needs none. That a table is a flow of a graph is a
-//! condition of the calls that need it.
+//! `reserve` made, to toggle, add and eliminate needs none; a copy has that room too. That a table is
+//! a flow of a graph is a condition of the calls that need it.
+//!
+//! Inside:
+//!
+//! - `sets`: sets by the number of their vertex, and below which number each has room for all
+//!   below it.
+//! - `corrections`: the order and the sets, with the proofs that a change of these is the change
+//!   of the table.
+//! - `changing`: what rewrites make of sets: of one by a local complement, of all where a vertex
+//!   goes.
+//! - `table`, `flow`: the two types over `corrections`, which differ in their calls.
 //!
 //! ```rust
 //! let mut table = FlowTable::new(alloc);

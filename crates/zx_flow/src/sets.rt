@@ -153,14 +153,18 @@ impl Sets {
         self.reach
     }
 
+    // The same sets once more, with room below the same bound.
     pub(crate) fn copy(&self) -> Result<Sets, AllocError>
         ensures same { IfOk result (λ copy. SameSetsAt self.now.lists copy.lists) }
         ensures length { IfOk result (λ copy. length copy.lists ≡ length self.now.lists) }
+        ensures reach { IfOk result (λ copy. copy.reach ≡ self.now.reach) }
     {
+        let mut lists = self.lists.clone()?;
+        reserve_each(&mut lists, self.reach)?;
         Ok(Sets {
             alloc: self.alloc,
-            lists: self.lists.clone()?,
-            reach: 0,
+            lists,
+            reach: self.reach,
         })
     }
 
@@ -214,13 +218,17 @@ fn grow(lists: &mut Vec<VertexSet>, alloc: Global, number: usize) -> Result<(), 
     Ok(())
 }
 
-// Gives each set room for all ids below a bound. Where memory runs out, some have it.
+// Gives each set room for all ids below a bound, and takes nothing where that is 0. Where memory runs
+// out, some have it.
 fn reserve_each(lists: &mut [VertexSet], bound: usize) -> Result<(), AllocError>
     ensures ok { OnOk result ((p : ℕ) → p < length lists.new → bound ≤ room_at lists.new p) }
     ensures length { length lists.new ≡ length lists.old }
     ensures same { SameSetsAt lists.old lists.new }
     ensures room { (p : ℕ) → room_at lists.old p ≤ room_at lists.new p }
 {
+    if bound == 0 {
+        return Ok(());
+    }
     for set in lists.iter_mut() {
         set.reserve(bound)?;
     }

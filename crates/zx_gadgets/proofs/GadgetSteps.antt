@@ -6,7 +6,7 @@ use Rattle.zx_calculus.specs.Graph.{YZ, Graph, is_XY, ids, joined, plane_of, pha
 use Rattle.zx_calculus.specs.Steps.{allowed, after, DropLone, FuseInto, FuseTwin}
 use Rattle.zx_calculus.specs.Edits.{IsRemoval}
 use Rattle.zx_calculus.specs.Gadgets.{IsDropLone, IsFuseInto, IsFuseTwin, fuse_kind}
-use Rattle.zx_calculus.specs.Toggles.{with_changed}
+use Rattle.zx_calculus.specs.Internal.ChangedKinds.{with_changed}
 use Rattle.zx_calculus.proofs.Forms.{ids-without}
 use Rattle.zx_calculus.proofs.Ids.{eqb-self, member-removed_other}
 use Rattle.zx_calculus.proofs.Steps.{after_step}

@@ -6,7 +6,7 @@ ghost use Rattle.zx_calculus.specs.Graph as zx;
 ghost use Rattle.zx_calculus.specs.Edits.{IsRemoval};
 ghost use Rattle.zx_calculus.specs.Gadgets.{fuse_kind, is_gadget};
 ghost use Rattle.zx_calculus.specs.StepScalars.{root_of_two_to};
-ghost use Rattle.zx_calculus.specs.Toggles.{with_changed};
+ghost use Rattle.zx_calculus.specs.Internal.ChangedKinds.{with_changed};
 
 use open_graph::{OpenGraph, Plane, VertexId};
 use zx_model::{Scalar, Sixteenth};

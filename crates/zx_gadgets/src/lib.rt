@@ -9,7 +9,14 @@
 //! in place make the same change without copies; where memory runs out they say nothing.
 //! `drop_lone_in_graph`, `fuse_into_in_graph` and `fuse_twin_in_graph` change the graph alone, by
 //! the same step, and can't fail. Where all vertices are below the reach of graph and flow, none of
-//! these takes memory, and what both have memory for stays.
+//! these takes memory. What both have memory for stays in any case: each gives back a place for a
+//! vertex, and no reach changes.
+//!
+//! Inside:
+//!
+//! - `lone`, `single`, `twins`: a rewrite each, with its test, its change of the graph alone and
+//!   in place, and the safe call.
+//! - `gadget`: what the rewrites of gadgets are made of.
 //!
 //! ```rust
 //! if may_fuse_twin(&graph, u, v) {

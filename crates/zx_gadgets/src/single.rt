@@ -1,6 +1,6 @@
 //! The fusion of a gadget of one neighbour into that.
 
-ghost use Rattle.std.specs.Prelude.{◌≡◌, ◌+◌, true, IsOk, IfOk, OnOk, OnErr};
+ghost use Rattle.std.specs.Prelude.{◌≡◌, ◌≤◌, ◌+◌, true, IsOk, IfOk, OnOk, OnErr};
 ghost use Rattle.zx_calculus.specs.Graph.{is_XY, plane_of, Live, WellFormed};
 ghost use Rattle.zx_calculus.specs.Steps.{allowed, FuseInto, IsStep};
 ghost use Rattle.zx_calculus.specs.StepScalars.{step_scalar};
@@ -26,34 +26,44 @@ pub fn fuse_into(g: &mut OpenGraph, f: &mut Flow, u: VertexId) -> Result<Scalar,
     ensures scalar { IfOk result (λ s. s ≡ step_scalar g.old.graph (FuseInto u)) }
     ensures err { OnErr result ((g.new.graph ≡ g.old.graph) × (f.new.flow ≡ f.old.flow)) }
     ensures has_room { HaveReach g.old f.old → IsOk result }
-    ensures spare { HaveReach g.old f.old →
-        (g.new.spare ≡ g.old.spare + 1) × (f.new.spare ≡ f.old.spare + 1) }
-    ensures reach { HaveReach g.old f.old →
-        (g.new.reach ≡ g.old.reach) × (f.new.reach ≡ f.old.reach) }
+    ensures spare { OnOk result
+        ((g.new.spare ≡ g.old.spare + 1) × (f.new.spare ≡ f.old.spare + 1)) }
+    ensures keeps_spare { OnErr result
+        ((g.new.spare ≡ g.old.spare) × (f.old.spare ≤ f.new.spare)) }
+    ensures reach { (g.new.reach ≡ g.old.reach) × (f.new.reach ≡ f.old.reach) }
     ensures valid { WellFormed g.new.graph }
 {
     if f.has_reach(g) {
         return fuse_into_in_place(g, f, u);
     }
-    fuse_into_in_copies(g, f, u)
+    fuse_into_with_copies(g, f, u)
 }
 
-// The same on copies, which then take the place of graph and flow.
-fn fuse_into_in_copies(g: &mut OpenGraph, f: &mut Flow, u: VertexId) -> Result<Scalar, AllocError>
+// The same in place. Where memory runs out, copies take the place of graph and flow.
+fn fuse_into_with_copies(g: &mut OpenGraph, f: &mut Flow, u: VertexId) -> Result<Scalar, AllocError>
     requires flow { IsFlow g.old.graph f.old.flow }
     requires allowed { allowed g.old.graph (FuseInto u) ≡ true }
     ensures rewritten { OnOk result
         (IsRewritten g.old.graph f.old.flow (FuseInto u) g.new.graph f.new.flow) }
     ensures scalar { IfOk result (λ s. s ≡ step_scalar g.old.graph (FuseInto u)) }
     ensures err { OnErr result ((g.new.graph ≡ g.old.graph) × (f.new.flow ≡ f.old.flow)) }
+    ensures spare { OnOk result
+        ((g.new.spare ≡ g.old.spare + 1) × (f.new.spare ≡ f.old.spare + 1)) }
+    ensures keeps_spare { OnErr result
+        ((g.new.spare ≡ g.old.spare) × (f.old.spare ≤ f.new.spare)) }
+    ensures reach { (g.new.reach ≡ g.old.reach) × (f.new.reach ≡ f.old.reach) }
     ensures valid { WellFormed g.new.graph }
 {
     let mut graph = g.copy()?;
     let mut flow = f.copy()?;
-    let scalar = fuse_into_in_place(&mut graph, &mut flow, u)?;
-    mem::swap(g, &mut graph);
-    mem::swap(f, &mut flow);
-    Ok(scalar)
+    match fuse_into_in_place(g, f, u) {
+        Ok(scalar) => Ok(scalar),
+        Err(error) => {
+            mem::swap(g, &mut graph);
+            mem::swap(f, &mut flow);
+            Err(error)
+        }
+    }
 }
 
 /// Whether the id is that of a YZ vertex with one neighbour, an XY vertex.

@@ -1,6 +1,6 @@
 //! The fusion of two gadgets of equal neighbours.
 
-ghost use Rattle.std.specs.Prelude.{◌≡◌, ◌+◌, true, IsOk, IfOk, OnOk, OnErr};
+ghost use Rattle.std.specs.Prelude.{◌≡◌, ◌≤◌, ◌+◌, true, IsOk, IfOk, OnOk, OnErr};
 ghost use Rattle.zx_calculus.specs.Graph.{WellFormed};
 ghost use Rattle.zx_calculus.specs.Steps.{allowed, FuseTwin, IsStep};
 ghost use Rattle.zx_calculus.specs.StepScalars.{step_scalar};
@@ -31,20 +31,21 @@ pub fn fuse_twin(
     ensures scalar { IfOk result (λ s. s ≡ step_scalar g.old.graph (FuseTwin u v)) }
     ensures err { OnErr result ((g.new.graph ≡ g.old.graph) × (f.new.flow ≡ f.old.flow)) }
     ensures has_room { HaveReach g.old f.old → IsOk result }
-    ensures spare { HaveReach g.old f.old →
-        (g.new.spare ≡ g.old.spare + 1) × (f.new.spare ≡ f.old.spare + 1) }
-    ensures reach { HaveReach g.old f.old →
-        (g.new.reach ≡ g.old.reach) × (f.new.reach ≡ f.old.reach) }
+    ensures spare { OnOk result
+        ((g.new.spare ≡ g.old.spare + 1) × (f.new.spare ≡ f.old.spare + 1)) }
+    ensures keeps_spare { OnErr result
+        ((g.new.spare ≡ g.old.spare) × (f.old.spare ≤ f.new.spare)) }
+    ensures reach { (g.new.reach ≡ g.old.reach) × (f.new.reach ≡ f.old.reach) }
     ensures valid { WellFormed g.new.graph }
 {
     if f.has_reach(g) {
         return fuse_twin_in_place(g, f, u, v);
     }
-    fuse_twin_in_copies(g, f, u, v)
+    fuse_twin_with_copies(g, f, u, v)
 }
 
-// The same on copies, which then take the place of graph and flow.
-fn fuse_twin_in_copies(
+// The same in place. Where memory runs out, copies take the place of graph and flow.
+fn fuse_twin_with_copies(
     g: &mut OpenGraph,
     f: &mut Flow,
     u: VertexId,
@@ -56,14 +57,23 @@ fn fuse_twin_in_copies(
         (IsRewritten g.old.graph f.old.flow (FuseTwin u v) g.new.graph f.new.flow) }
     ensures scalar { IfOk result (λ s. s ≡ step_scalar g.old.graph (FuseTwin u v)) }
     ensures err { OnErr result ((g.new.graph ≡ g.old.graph) × (f.new.flow ≡ f.old.flow)) }
+    ensures spare { OnOk result
+        ((g.new.spare ≡ g.old.spare + 1) × (f.new.spare ≡ f.old.spare + 1)) }
+    ensures keeps_spare { OnErr result
+        ((g.new.spare ≡ g.old.spare) × (f.old.spare ≤ f.new.spare)) }
+    ensures reach { (g.new.reach ≡ g.old.reach) × (f.new.reach ≡ f.old.reach) }
     ensures valid { WellFormed g.new.graph }
 {
     let mut graph = g.copy()?;
     let mut flow = f.copy()?;
-    let scalar = fuse_twin_in_place(&mut graph, &mut flow, u, v)?;
-    mem::swap(g, &mut graph);
-    mem::swap(f, &mut flow);
-    Ok(scalar)
+    match fuse_twin_in_place(g, f, u, v) {
+        Ok(scalar) => Ok(scalar),
+        Err(error) => {
+            mem::swap(g, &mut graph);
+            mem::swap(f, &mut flow);
+            Err(error)
+        }
+    }
 }
 
 /// Whether the ids are those of two YZ vertices with equal neighbours.

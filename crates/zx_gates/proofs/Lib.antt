@@ -4,3 +4,4 @@ pub mod Multiples
 pub mod UnitaryLemmas
 pub mod WorkedLemmas
 pub mod Scaling
+pub mod Nonzero

@@ -20,8 +20,10 @@ use Rattle.zx_model.proofs.Scalars.{root_of_two_squared, scaled_proportional}
 use Rattle.zx_gates.specs.Circuit.{gate_odd_phases, is_odd_phase}
 use Rattle.zx_gates.specs.Maps.{Matrix, amp, act, acts, act_on}
 use Rattle.zx_gates.specs.Elementary.{elementary_bound, IsElementaryGateOn, difference_of_phases, odd_of, odd_elementary, elementary_odd_phases}
-use Rattle.zx_gates.specs.ElementaryMaps.{unitary, act_elementary, acts_elementary, amp_elementary}
-use Rattle.zx_gates.specs.Lowering.{phase_gates, lowered_gate, lowered, lowering_scalar, unitary_scalar}
+use Rattle.zx_gates.specs.ElementaryMaps.{unitary, act_elementary, amp_elementary}
+use Rattle.zx_gates.specs.Internal.Lowering.{acts_elementary}
+use Rattle.zx_gates.specs.Lowering.{phase_gates, lowered_gate, lowered}
+use Rattle.zx_gates.specs.Internal.Lowering.{lowering_scalar, unitary_scalar}
 use Rattle.zx_gates.specs.declared.gate.Gate.{Gate}
 use Rattle.zx_gates.specs.declared.gate.Gate.TheVariants.{H, Phase, Not}
 use Rattle.zx_gates.specs.declared.elementary.ElementaryGate.{ElementaryGate}

@@ -1,5 +1,5 @@
 -- Maps of which one is a scalar times the other, and how they compose.
-use Rattle.std.proofs.Common.{◌≡◌, ℕ, zero as nought, suc, ◌+◌, ◌*◌, ℤ, pos, Bool, List, [], length, refl, sym, ap, ap₂, ◌∙◌, arith}
+use Rattle.std.proofs.Common.{◌≡◌, ℕ, zero as nought, suc, ◌*◌, pos, Bool, List, [], length, refl, sym, ap, ap₂, ◌∙◌, arith}
 use Rattle.zx_model.specs.Constants.{root_of_two, power_of_two}
 use Rattle.zx_model.specs.Number.{Number, mul, root_power}
 use Rattle.zx_model.specs.Scalar.{root_of_two_power, numerator, denominator, IsScaled, one_scalar, product_of_scalars}
@@ -8,7 +8,7 @@ use Rattle.zx_model.proofs.Powers.{root_power-zero}
 use Rattle.zx_model.proofs.Ring.{one-mul, mul-one, mul_assoc}
 use Rattle.zx_model.proofs.Scalars.{root_of_two_squared, scaled_refl, scaled_trans}
 use Rattle.zx_gates.specs.Maps.{amp, acts}
-use Rattle.zx_gates.specs.Lowering.{scalar}
+use Rattle.zx_gates.specs.Internal.Scalars.{scalar}
 use Rattle.zx_gates.specs.declared.gate.Gate.{Gate}
 use Rattle.zx_gates.proofs.MapLemmas.{amp-acts}
 use Rattle.zx_gates.proofs.Multiples.{TakesOutFactors}

@@ -24,11 +24,6 @@ act_elementary (U q theta phi lambda) f x = act_on (unitary theta phi lambda) q 
 -- the control's bit is added to the target's
 act_elementary (Cx control target) f x = f (slice_set x target (xor (bit x control) (bit x target)))
 
--- the same through a list of gates
-abbrev pub acts_elementary : List ElementaryGate → (List Bool → Number) → List Bool → Number
-acts_elementary [] f = f
-acts_elementary (gate ∷ gates) f = act_elementary gate (acts_elementary gates f)
-
 -- The entry of a circuit's matrix at the column x and the row y, the bits of the qubits before and after it.
 abbrev pub amp_elementary : List ElementaryGate → List Bool → List Bool → Number
 amp_elementary [] x y = if same_bits x y then one else zero

@@ -4,3 +4,4 @@ pub mod Elementary
 pub mod ElementaryMaps
 pub mod Lowering
 pub mod Maps
+pub mod Internal

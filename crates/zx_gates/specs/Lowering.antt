@@ -1,9 +1,7 @@
 -- Elementary gates by the gates that the optimiser works on.
-use Rattle.std.specs.Prelude.{ℕ, ◌+◌, ◌++◌, ◌==◌, ℤ, pos, List, [], ◌∷◌, if◌then◌else◌}
+use Rattle.std.specs.Prelude.{ℕ, ◌+◌, ◌++◌, ◌==◌, List, [], ◌∷◌, if◌then◌else◌}
 use Rattle.std.specs.List.{flat_map}
-use Rattle.zx_model.specs.Phase.{half_turn, quarter_turn, eighth_turn, sum_of_phases, opposite_phase}
-use Rattle.zx_model.specs.Scalar.{one_scalar}
-use Rattle.zx_model.specs.declared.scalar.Scalar.{Scalar}
+use Rattle.zx_model.specs.Phase.{half_turn, quarter_turn, sum_of_phases, opposite_phase}
 use Rattle.zx_gates.specs.declared.gate.Gate.{Gate}
 use Rattle.zx_gates.specs.declared.gate.Gate.TheVariants.{H, Phase, Not}
 use Rattle.zx_gates.specs.declared.gate.Gate.TheVariants as gates
@@ -30,20 +28,3 @@ lowered_gate (Cx control target) = gates.Cx control target ∷ []
 
 abbrev pub lowered : List ElementaryGate → List Gate
 lowered list = flat_map lowered_gate list
-
--- the root of two to a power, times a power of z
-abbrev pub scalar : ℤ → ℕ → Scalar
-scalar power turns = record { root2 = power; turn = turns }
-
--- The scalar that U(a, b, c) is times the gates that stand for it: it is multiplied by 2*exp(i*(a+b+c)/2), and H by the
--- root of two.
-abbrev pub unitary_scalar : ℕ → ℕ → Scalar
-unitary_scalar a b =
-    if a == 0 then scalar (pos 2) 0 else
-    if a == quarter_turn then scalar (pos 1) eighth_turn else
-    if a == half_turn then scalar (pos 2) (sum_of_phases b quarter_turn) else
-    if a == half_turn + quarter_turn then scalar (pos 1) (opposite_phase eighth_turn) else one_scalar
-
-abbrev pub lowering_scalar : ElementaryGate → Scalar
-lowering_scalar (U q a b c) = unitary_scalar a b
-lowering_scalar (Cx control target) = one_scalar

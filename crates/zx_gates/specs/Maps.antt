@@ -2,7 +2,7 @@
 -- H is taken without its factor 1/sqrt 2, so a map is known up to a nonzero scalar.
 -- The matrices are those of Cross, Bishop, Smolin and Gambetta, "Open quantum assembly language"
 -- (arXiv 1707.03429).
-use Rattle.std.specs.Prelude.{ℕ, Bool, true, false, ◌&&◌, not, if◌then◌else◌, List, [], ◌∷◌, slice_set}
+use Rattle.std.specs.Prelude.{◌≡◌, ℕ, Bool, true, false, ◌&&◌, not, if◌then◌else◌, List, [], ◌∷◌, length, slice_set}
 use Rattle.zx_model.specs.Number.{Number, zero, one, add, mul, sign, root_power}
 use Rattle.zx_model.specs.Bits.{xor, bit}
 use Rattle.zx_gates.specs.declared.gate.Gate.{Gate}
@@ -64,3 +64,11 @@ amp (gate ∷ gates) x y = act gate (λ z. amp gates z y) x
 -- the map that exchanges two qubits
 abbrev pub swap_two : List Bool → List Bool → Number
 swap_two x y = if same_bits (bit x 1 ∷ bit x 0 ∷ []) y then one else zero
+
+-- each entry in the row y of a map's matrix is 0, where the columns are for n bits
+abbrev pub IsZeroRow : ℕ → (List Bool → List Bool → Number) → List Bool → Type 0
+IsZeroRow n map y = (x : List Bool) → length x ≡ n → map x y ≡ zero
+
+-- each entry of the matrix is 0, where there are n bits before and after it
+abbrev pub IsZeroMap : ℕ → (List Bool → List Bool → Number) → Type 0
+IsZeroMap n map = (y : List Bool) → length y ≡ n → IsZeroRow n map y

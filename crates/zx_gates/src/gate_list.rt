@@ -1,6 +1,7 @@
 //! Circuits as lists of gates.
 
-ghost use Rattle.std.specs.Prelude.{◌≡◌, ◌≤◌, ◌<◌, ◌++◌, [], ◌∷◌, length, IfOk, OnOk, OnErr};
+ghost use Rattle.std.specs.Prelude.{◌≡◌, ◌≤◌, ◌<◌, ◌+◌, ◌++◌, [], ◌∷◌, length, slice_set, take, drop};
+ghost use Rattle.std.specs.Prelude.{IfOk, OnOk, OnErr};
 ghost use Rattle.zx_gates.specs.Circuit.{Circuit, IsCircuit, IsOnQubits, HasRoom, gate_bound, most_qubits, circuit_of};
 
 use crate::gate::{Gate, Qubit};
@@ -112,6 +113,24 @@ impl GateList {
         }
         self.gates.push(gate)?;
         Ok(())
+    }
+
+    /// Puts a gate in the place of another. It takes no memory.
+    pub fn set(&mut self, i: usize, gate: Gate)
+        requires index { i < length self.old.gates }
+        requires gate { IsOnQubits self.old.qubits gate }
+        ensures { self.new ≡ record self.old { gates = slice_set self.old.gates i gate } }
+    {
+        self.gates[i] = gate;
+    }
+
+    /// Takes a gate out, so that those behind it move up by one place. It takes no memory.
+    pub fn remove(&mut self, i: usize)
+        requires { i < length self.old.gates }
+        ensures { self.new ≡ record self.old
+            { gates = take i self.old.gates ++ drop (i + 1) self.old.gates } }
+    {
+        self.gates.remove(i);
     }
 
     /// Takes the circuit apart, and leaves one without qubits behind.

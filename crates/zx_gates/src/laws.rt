@@ -1,15 +1,16 @@
 //! What the definitions of linear maps say of small circuits, for anyone to check by hand, and the laws of lowering.
 
-ghost use Rattle.std.specs.Prelude.{◌≡◌, ℕ, List, [], ◌∷◌};
+ghost use Rattle.std.specs.Prelude.{◌≡◌, ℕ, Bool, List, [], ◌∷◌, length};
 ghost use Rattle.std.specs.List.{All};
 ghost use Rattle.zx_model.specs.Phase.{half_turn, quarter_turn, eighth_turn, opposite_phase};
 ghost use Rattle.zx_model.specs.Proportional.{Proportional};
 ghost use Rattle.zx_gates.specs.declared.elementary.ElementaryGate.{ElementaryGate};
-ghost use Rattle.zx_gates.specs.Circuit.{gate_odd_phases};
-ghost use Rattle.zx_gates.specs.Elementary.{IsElementaryGateOn, elementary_odd_phases};
+ghost use Rattle.zx_gates.specs.declared.elementary.Elementary.{Elementary};
+ghost use Rattle.zx_gates.specs.Circuit.{Circuit, IsCircuit, IsOnQubits, gate_odd_phases};
+ghost use Rattle.zx_gates.specs.Elementary.{IsElementary, IsElementaryGateOn, elementary_odd_phases};
 ghost use Rattle.zx_gates.specs.ElementaryMaps.{amp_elementary};
 ghost use Rattle.zx_gates.specs.Lowering.{lowered};
-ghost use Rattle.zx_gates.specs.Maps.{amp, swap_two};
+ghost use Rattle.zx_gates.specs.Maps.{amp, swap_two, IsZeroRow, IsZeroMap};
 
 use crate::gate::Gate;
 
@@ -51,4 +52,16 @@ pub fn lowering_keeps_map_and_odd_phases()
         Proportional n n (amp_elementary gates) (amp (lowered gates)) }
     ensures odd { (gates : List ElementaryGate) →
         gate_odd_phases (lowered gates) ≡ elementary_odd_phases gates }
+{}
+
+/// No circuit's map is the zero map, and no row of its matrix is zero. So the maps that are equal to one up to a
+/// nonzero scalar are not all maps, nor is zero among them.
+pub fn no_map_is_zero()
+    ensures circuit { (c : Circuit) → IsCircuit c → ¬ IsZeroMap c.qubits (amp c.gates) }
+    ensures elementary { (e : Elementary) → IsElementary e →
+        ¬ IsZeroMap e.qubits (amp_elementary e.gates) }
+    ensures row { (n : ℕ) (gates : List Gate) (y : List Bool) → All (IsOnQubits n) gates →
+        length y ≡ n → ¬ IsZeroRow n (amp gates) y }
+    ensures elementary_row { (n : ℕ) (gates : List ElementaryGate) (y : List Bool) →
+        All (IsElementaryGateOn n) gates → length y ≡ n → ¬ IsZeroRow n (amp_elementary gates) y }
 {}

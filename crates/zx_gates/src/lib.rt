@@ -3,8 +3,8 @@
 //!
 //! Proved: gate lists keep their conditions, and each call makes its one change; `lower` gives the
 //! gates of a table for each built-in gate of OpenQASM, tells by which scalar the linear map
-//! changes, and keeps the number of odd phases; `counts` counts gates by kind; a dozen facts on the
-//! maps of small circuits.
+//! changes, and keeps the number of odd phases; `counts` counts gates by kind; no circuit's map is
+//! zero; a dozen facts on the maps of small circuits.
 //!
 //! ```rust
 //! let mut circuit = GateList::new(alloc, 2);
@@ -25,6 +25,6 @@ pub use counting::counts;
 pub use elementary::{Elementary, ElementaryGate, Elements, Measure, Measures};
 pub use gate::{Gate, Qubit};
 pub use gate_list::{GateList, Links, Parts};
-pub use laws::{lowering_keeps_map_and_odd_phases, worked_maps};
+pub use laws::{lowering_keeps_map_and_odd_phases, no_map_is_zero, worked_maps};
 pub use lowering::lower;
 pub use tally::Counts;

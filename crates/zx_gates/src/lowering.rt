@@ -7,7 +7,8 @@ ghost use Rattle.zx_gates.specs.Circuit.{gate_odd_phases};
 ghost use Rattle.zx_gates.specs.Maps.{amp};
 ghost use Rattle.zx_gates.specs.Elementary.{IsElementary, IsElementaryGateOn, elementary_odd_phases};
 ghost use Rattle.zx_gates.specs.ElementaryMaps.{amp_elementary};
-ghost use Rattle.zx_gates.specs.Lowering.{lowered, lowered_gate, lowering_scalar, phase_gates, unitary_scalar};
+ghost use Rattle.zx_gates.specs.Lowering.{lowered, lowered_gate, phase_gates};
+ghost use Rattle.zx_gates.specs.Internal.Lowering.{lowering_scalar, unitary_scalar};
 ghost use Rattle.zx_gates.specs.declared.elementary.ElementaryGate.TheVariants.{U};
 
 use crate::elementary::{Elementary, ElementaryGate};

@@ -18,7 +18,7 @@ use Rattle.zx_model.proofs.Odd.{one_if-odd_sum}
 use Rattle.zx_model.proofs.ProportionalLemmas.{proportional_of_scaled}
 use Rattle.zx_gates.specs.Circuit.{IsOnQubits, is_odd_phase}
 use Rattle.zx_gates.specs.Counting.{is_two_qubit}
-use Rattle.zx_gates.specs.Lowering.{scalar}
+use Rattle.zx_gates.specs.Internal.Scalars.{scalar}
 use Rattle.zx_gates.specs.Maps.{amp, act, acts}
 use Rattle.zx_gates.specs.declared.gate.Gate.{Gate}
 use Rattle.zx_gates.specs.declared.gate.Gate.TheVariants.{H, Phase, Not}

@@ -5,7 +5,7 @@ ghost use Rattle.zx_model.specs.Proportional.{Proportional};
 ghost use Rattle.zx_model.specs.Scalar.{IsScaled, IsWithin};
 ghost use Rattle.zx_gates.specs.Circuit.{gate_bound, gate_odd_phases};
 ghost use Rattle.zx_gates.specs.Counting.{is_two_qubit};
-ghost use Rattle.zx_gates.specs.Lowering.{scalar};
+ghost use Rattle.zx_gates.specs.Internal.Scalars.{scalar};
 ghost use Rattle.zx_gates.specs.Maps.{amp};
 ghost use Rattle.zx_peephole.specs.Tidy.{IsTidy};
 ghost use Rattle.zx_peephole.specs.Doubling.{IsDoubled};

@@ -28,6 +28,13 @@ piece_first : (window piece passed rest : List Gate) → IsReordered window (pie
 piece_first window piece passed rest same q =
     reordered-append window (piece ++ passed) rest rest same (λ p. refl) q ∙ ap (gates_on q) (append_assoc piece passed rest)
 
+-- so does a piece that was walked along a part of a list
+pub walked_front : (gates piece passed : List Gate) (next : ℕ) → IsReordered (take next gates) (piece ++ passed)
+    → IsReordered gates (piece ++ (passed ++ drop next gates))
+walked_front gates piece passed next same =
+    subst (λ gs. IsReordered gs (piece ++ (passed ++ drop next gates))) (take-append-drop next gates)
+    (piece_first (take next gates) piece passed (drop next gates) same)
+
 -- it is replaced
 pub replaced_more : (n : ℕ) (gates done window piece passed new rest : List Gate) → IsReplacement n gates (done ++ (window ++ rest))
     → IsReordered window (piece ++ passed) → IsReplacement n piece new → IsReplacement n gates (done ++ new ++ (passed ++ rest))

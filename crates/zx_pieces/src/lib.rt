@@ -12,6 +12,8 @@
 //! ```
 #![tactic(auto)]
 
+mod choosing;
+mod manner;
 mod narrowing;
 mod passes;
 mod replacing;

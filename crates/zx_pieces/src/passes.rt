@@ -7,20 +7,12 @@ ghost use Rattle.zx_peephole.specs.Tidy.{IsTidy};
 ghost use Rattle.piece_laws.specs.Replacement.{IsReplacement};
 ghost use Rattle.zx_pieces.specs.Scaling.{most_root2_of_passes};
 
-use crate::replacing::replace_pieces;
+use crate::manner::{Manner, is_long, passes};
+use crate::replacing::replace_by;
 use std::alloc::{AllocError, Global};
 use zx_gates::GateList;
 use zx_model::Scalar;
 use zx_peephole::tidy;
-
-// On how many qubits a piece is at most, pass by pass.
-const SIZES: [usize; 17] = [4, 8, 12, 15, 20, 24, 3, 5, 7, 9, 11, 13, 16, 20, 24, 28, 32];
-
-// Along how many gates a piece is looked for.
-const REACH: usize = 3_000;
-
-// The same for the pieces that are taken first, as large as may be.
-const FAR: usize = 30_000;
 
 /// Replaces pieces of a circuit by smaller ones, pass after pass, and tidies what is left. The scalar is
 /// answered that the circuit's map is times the new one's.
@@ -37,9 +29,11 @@ pub fn shrink(alloc: Global, circuit: &GateList) -> Result<(GateList, Scalar), A
     ensures small { IfOk result (λ made. IsWithin most_root2_of_passes made.1) }
     ensures tidy { IfOk result (λ made. IsTidy made.0.gates) }
 {
-    let (mut made, mut scalar) = replace_pieces(alloc, circuit, usize::MAX, FAR)?;
-    for most in SIZES {
-        let (next, factor) = replace_pieces(alloc, &made, most, REACH)?;
+    let long = is_long(circuit);
+    let (mut made, mut scalar) = replace_by(alloc, circuit, &Manner::first(long))?;
+    for number in 0..passes(long) {
+        let manner = Manner::of_pass(number, long);
+        let (next, factor) = replace_by(alloc, &made, &manner)?;
         made = next;
         scalar = scalar.times(factor);
     }

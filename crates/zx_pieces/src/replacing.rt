@@ -10,15 +10,20 @@ ghost use Rattle.piece_laws.specs.Replacement.{AreScaled, IsNoLarger, IsReplacem
 ghost use Rattle.zx_pieces.specs.Internal.Working.{Adds, IsAt, IsRescaled, left_of};
 ghost use Rattle.zx_pieces.specs.Scaling.{most_root2_of_pass};
 
+use crate::manner::{Effort, Manner};
 use crate::narrowing::{narrowed, widened};
 use crate::scaling::product;
 use crate::walking::gather;
 use pauli_network::propose;
+use pauli_search::search;
 use std::alloc::{AllocError, Global};
 use zx_gates::{Gate, GateList, Qubit, counts};
 use zx_model::Scalar;
 use zx_peephole::tidy;
 use zx_same::quotient;
+
+// The seed of what a search draws.
+const SEED: u64 = 1;
 
 /// Replaces pieces of a circuit by smaller circuits of the same map, where such are found. A piece is
 /// on at most `most` qubits, or has one gate alone; its gates stand among `reach` gates in a row, or
@@ -42,6 +47,31 @@ pub fn replace_pieces(
         (amp circuit.now.gates) made.1 (amp made.0.gates)) }
     ensures small { IfOk result (λ made. IsWithin most_root2_of_pass made.1) }
 {
+    replace_by(
+        alloc,
+        circuit,
+        &Manner {
+            qubits: most,
+            gates: usize::MAX,
+            reach,
+            effort: Effort::ONCE,
+        },
+    )
+}
+
+/// The same where pieces are gathered in this manner.
+pub(crate) fn replace_by(
+    alloc: Global,
+    circuit: &GateList,
+    manner: &Manner,
+) -> Result<(GateList, Scalar), AllocError>
+    ensures qubits { IfOk result (λ made. made.0.qubits ≡ circuit.now.qubits) }
+    ensures replacement { IfOk result (λ made.
+        IsReplacement circuit.now.qubits circuit.now.gates made.0.gates) }
+    ensures scalar { IfOk result (λ made. IsScaled circuit.now.qubits circuit.now.qubits
+        (amp circuit.now.gates) made.1 (amp made.0.gates)) }
+    ensures small { IfOk result (λ made. IsWithin most_root2_of_pass made.1) }
+{
     let gates = circuit.gates();
     let mut work = Work {
         done: GateList::new(alloc, circuit.qubits()),
@@ -50,7 +80,7 @@ pub fn replace_pieces(
         next: 0,
     };
     'pieces: while work.next < gates.len() || !work.passed.is_empty() {
-        work.replace_one(alloc, gates, most, reach)?;
+        work.replace_one(alloc, gates, manner)?;
     }
     Ok((work.done, work.scalar))
 }
@@ -74,8 +104,7 @@ impl Work {
         &mut self,
         alloc: Global,
         gates: &[Gate],
-        most: usize,
-        reach: usize,
+        manner: &Manner,
     ) -> Result<(), AllocError>
         requires at { IsAt self.old.done.qubits gates.now self.old }
         requires some { 0 < left_of gates.now self.old }
@@ -83,14 +112,15 @@ impl Work {
         ensures at { OnOk result (IsAt self.old.done.qubits gates.now self.new) }
         ensures fewer { OnOk result (left_of gates.now self.new < left_of gates.now self.old) }
     {
-        self.fill(gates, reach)?;
-        let walk = gather(alloc, self.done.qubits(), &self.passed, most)?;
+        self.fill(gates, manner.reach)?;
+        let walk = gather(alloc, self.done.qubits(), &self.passed, manner)?;
         self.scalar = add_piece(
             &mut self.done,
             self.scalar,
             alloc,
             &walk.piece,
             &walk.places,
+            manner.effort,
         )?;
         self.passed = walk.passed;
         Ok(())
@@ -124,6 +154,7 @@ fn add_piece(
     alloc: Global,
     piece: &GateList,
     places: &[Qubit],
+    effort: Effort,
 ) -> Result<Scalar, AllocError>
     requires places { ArePlaces piece.now.qubits places.now }
     requires piece { IsCircuit piece.now }
@@ -136,7 +167,7 @@ fn add_piece(
         (done.old.gates ++ piece.now.gates) done.new.gates scalar) }
     ensures small { IfOk result (IsWithin most_root2_of_pass) }
 {
-    match replacement(alloc, piece, places)? {
+    match replacement(alloc, piece, places, effort)? {
         Some(made) => add_smaller(done, scalar, &made.gates, made.scalar, piece),
         None => {
             append(done, piece)?;
@@ -192,6 +223,7 @@ fn replacement(
     alloc: Global,
     piece: &GateList,
     places: &[Qubit],
+    effort: Effort,
 ) -> Result<Option<Substitute>, AllocError>
     requires { ArePlaces piece.now.qubits places.now }
     ensures qubits { IfOk result (λ found. IfSome found (λ made.
@@ -202,7 +234,7 @@ fn replacement(
         AreScaled piece.now.qubits piece.now.gates made.scalar made.gates.gates)) }
 {
     match narrowed(alloc, piece, places)? {
-        Some(small) => widened_smaller(alloc, piece.qubits(), &small, places),
+        Some(small) => widened_smaller(alloc, piece.qubits(), &small, places, effort),
         None => Ok(None),
     }
 }
@@ -213,6 +245,7 @@ fn widened_smaller(
     qubits: Qubit,
     small: &GateList,
     places: &[Qubit],
+    effort: Effort,
 ) -> Result<Option<Substitute>, AllocError>
     requires few { qubits ≤ most_qubits }
     requires places { ArePlaces qubits places.now }
@@ -224,7 +257,7 @@ fn widened_smaller(
     ensures scaled { IfOk result (λ found. IfSome found (λ made.
         AreScaled qubits (placed places.now small.now.gates) made.scalar made.gates.gates)) }
 {
-    match smaller(alloc, small)? {
+    match smaller(alloc, small, effort)? {
         Some(made) => Ok(Some(Substitute {
             gates: widened(alloc, qubits, &made.gates, places)?,
             scalar: made.scalar,
@@ -234,7 +267,11 @@ fn widened_smaller(
 }
 
 // A smaller circuit that is shown to be the same, if one is found.
-fn smaller(alloc: Global, piece: &GateList) -> Result<Option<Substitute>, AllocError>
+fn smaller(
+    alloc: Global,
+    piece: &GateList,
+    effort: Effort,
+) -> Result<Option<Substitute>, AllocError>
     ensures qubits { IfOk result (λ found. IfSome found (λ made.
         made.gates.qubits ≡ piece.now.qubits)) }
     ensures replacement { IfOk result (λ found. IfSome found (λ made.
@@ -242,7 +279,7 @@ fn smaller(alloc: Global, piece: &GateList) -> Result<Option<Substitute>, AllocE
     ensures scaled { IfOk result (λ found. IfSome found (λ made.
         AreScaled piece.now.qubits piece.now.gates made.scalar made.gates.gates)) }
 {
-    let Some(gates) = proposal(alloc, piece)? else {
+    let Some(gates) = proposal(alloc, piece, effort)? else {
         return Ok(None);
     };
     match scalar_to_smaller(alloc, piece, &gates)? {
@@ -252,14 +289,24 @@ fn smaller(alloc: Global, piece: &GateList) -> Result<Option<Substitute>, AllocE
 }
 
 // Another circuit on as many qubits, after cleanup.
-fn proposal(alloc: Global, piece: &GateList) -> Result<Option<GateList>, AllocError>
+fn proposal(alloc: Global, piece: &GateList, effort: Effort) -> Result<Option<GateList>, AllocError>
     ensures { IfOk result (λ found. IfSome found (λ made. made.qubits ≡ piece.now.qubits)) }
 {
-    let Some(mut made) = propose(alloc, piece)? else {
+    let Some(mut made) = proposed(alloc, piece, effort)? else {
         return Ok(None);
     };
     tidy(&mut made);
     Ok(Some(made))
+}
+
+// What is proposed with an effort.
+fn proposed(alloc: Global, piece: &GateList, effort: Effort) -> Result<Option<GateList>, AllocError>
+    ensures { IfOk result (λ found. IfSome found (λ made. made.qubits ≡ piece.now.qubits)) }
+{
+    match effort.tries_of(piece.gates().len()) {
+        0 => propose(alloc, piece),
+        tries => search(alloc, piece, tries, SEED),
+    }
 }
 
 // By which scalar a circuit's map is that of a smaller one, if it is smaller and this is shown.

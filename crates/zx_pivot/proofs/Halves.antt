@@ -3,7 +3,7 @@ use Rattle.std.proofs.Common.{◌≡◌, refl, ℕ, Bool, true, false, cond, eqb
 use Rattle.zx_calculus.specs.Graph.{Kind, Graph}
 use Rattle.zx_calculus.specs.Edits.{at_vertex}
 use Rattle.zx_calculus.specs.Turns.{quarter_turned, half_turned}
-use Rattle.zx_calculus.specs.Toggles.{with_changed}
+use Rattle.zx_calculus.specs.Internal.ChangedKinds.{with_changed}
 use Rattle.zx_calculus.proofs.StepIdentities.{quarter_turned-quarter_turned}
 use Rattle.zx_calculus.proofs.ChangedKinds.{changed_twice}
 

@@ -11,7 +11,7 @@ use Rattle.zx_calculus.proofs.Ids.{by_equal}
 use Rattle.zx_calculus.proofs.Vertices.{with_kinds_same}
 use Rattle.zx_calculus.proofs.Splitting.{no_loop}
 use Rattle.gflow_laws.specs.Flow.{Correction, order_of, IsFlow}
-use Rattle.zx_calculus.specs.Toggles.{with_changed}
+use Rattle.zx_calculus.specs.Internal.ChangedKinds.{with_changed}
 use Rattle.zx_calculus.proofs.Allowed.{pivot_live, pivot_live_too, pivot_interior, pivot_interior_too, pivot_joined}
 use Rattle.gflow_laws.proofs.Rewriting.{interior_listed}
 use Rattle.zx_calculus.proofs.Toggling.{member-neighbours}

@@ -3,7 +3,8 @@ use Rattle.std.proofs.Common.{◌≡◌, ◌≢◌, sym, ◌∙◌, ap, ap₂, �
 use Rattle.zx_model.specs.Bits.{xor, member}
 use Rattle.zx_bits.specs.Sets.{IsBelow}
 use Rattle.zx_calculus.specs.Graph.{Kind, Graph, ids, joined, neighbours, Live, WellFormed}
-use Rattle.zx_calculus.specs.Toggles.{IsToggled, with_changed}
+use Rattle.zx_calculus.specs.Toggles.{IsToggled}
+use Rattle.zx_calculus.specs.Internal.ChangedKinds.{with_changed}
 use Rattle.zx_calculus.proofs.Vertices.{ids-with_kinds}
 use Rattle.zx_calculus.proofs.Booleans.{parities, xor-false, and_comm, and-true}
 use Rattle.zx_calculus.proofs.Ids.{by_equal, eqb-self}

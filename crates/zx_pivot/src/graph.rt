@@ -7,7 +7,7 @@ ghost use Rattle.zx_calculus.specs.Steps.{allowed, IsStep, Pivot};
 ghost use Rattle.zx_calculus.specs.Edits.{at_vertex};
 ghost use Rattle.zx_calculus.specs.Turns.{in_plane, half_turned, pivoted};
 ghost use Rattle.open_graph.specs.Planes.{plane_named};
-ghost use Rattle.zx_calculus.specs.Toggles.{with_changed};
+ghost use Rattle.zx_calculus.specs.Internal.ChangedKinds.{with_changed};
 ghost use Rattle.zx_pivot.specs.Internal.Changes.{IsRewired, half_turned_in};
 
 use open_graph::{OpenGraph, Plane, VertexId};

@@ -6,8 +6,14 @@
 //! as they were.
 //! `may_pivot` tells exactly where it is allowed, `pivot_scalar` by which scalar it changes the sum. `pivot_in_place` makes the same change without
 //! copies; where memory runs out it says nothing. `pivot_in_graph` changes the graph alone, by the
-//! same step. Where all vertices are below the reach of graph and flow, none of these takes memory,
-//! and what both have memory for stays.
+//! same step. Where all vertices are below the reach of graph and flow, none of these takes memory.
+//! What both have memory for stays in any case.
+//!
+//! Inside:
+//!
+//! - `graph`, `flow`: what a pivot makes of each.
+//! - `rewrite`: the test, the change in place and the safe call, on top of these.
+//! - `scalar`: by which scalar a pivot changes the sum.
 //!
 //! ```rust
 //! if may_pivot(&graph, u, v) {

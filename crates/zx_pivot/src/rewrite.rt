@@ -1,6 +1,6 @@
 //! The pivot of a graph with its flow.
 
-ghost use Rattle.std.specs.Prelude.{◌≡◌, true, IsOk, IfOk, OnOk, OnErr};
+ghost use Rattle.std.specs.Prelude.{◌≡◌, ◌≤◌, true, IsOk, IfOk, OnOk, OnErr};
 ghost use Rattle.zx_calculus.specs.Graph.{WellFormed};
 ghost use Rattle.zx_calculus.specs.Steps.{allowed, Pivot};
 ghost use Rattle.zx_calculus.specs.StepScalars.{step_scalar};
@@ -34,20 +34,21 @@ pub fn pivot(
     ensures scalar { IfOk result (λ s. s ≡ step_scalar g.old.graph (Pivot u v)) }
     ensures err { OnErr result ((g.new.graph ≡ g.old.graph) × (f.new.flow ≡ f.old.flow)) }
     ensures has_room { HaveReach g.old f.old → IsOk result }
-    ensures spare { HaveReach g.old f.old →
-        (g.new.spare ≡ g.old.spare) × (f.new.spare ≡ f.old.spare) }
-    ensures reach { HaveReach g.old f.old →
-        (g.new.reach ≡ g.old.reach) × (f.new.reach ≡ f.old.reach) }
+    ensures spare { OnOk result
+        ((g.new.spare ≡ g.old.spare) × (f.new.spare ≡ f.old.spare)) }
+    ensures keeps_spare { OnErr result
+        ((g.new.spare ≡ g.old.spare) × (f.old.spare ≤ f.new.spare)) }
+    ensures reach { (g.new.reach ≡ g.old.reach) × (f.new.reach ≡ f.old.reach) }
     ensures valid { WellFormed g.new.graph }
 {
     if f.has_reach(g) {
         return pivot_in_place(g, f, u, v);
     }
-    pivot_in_copies(g, f, u, v)
+    pivot_with_copies(g, f, u, v)
 }
 
-// The same on copies, which then take the place of graph and flow.
-fn pivot_in_copies(
+// The same in place. Where memory runs out, copies take the place of graph and flow.
+fn pivot_with_copies(
     g: &mut OpenGraph,
     f: &mut Flow,
     u: VertexId,
@@ -59,14 +60,23 @@ fn pivot_in_copies(
         (IsRewritten g.old.graph f.old.flow (Pivot u v) g.new.graph f.new.flow) }
     ensures scalar { IfOk result (λ s. s ≡ step_scalar g.old.graph (Pivot u v)) }
     ensures err { OnErr result ((g.new.graph ≡ g.old.graph) × (f.new.flow ≡ f.old.flow)) }
+    ensures spare { OnOk result
+        ((g.new.spare ≡ g.old.spare) × (f.new.spare ≡ f.old.spare)) }
+    ensures keeps_spare { OnErr result
+        ((g.new.spare ≡ g.old.spare) × (f.old.spare ≤ f.new.spare)) }
+    ensures reach { (g.new.reach ≡ g.old.reach) × (f.new.reach ≡ f.old.reach) }
     ensures valid { WellFormed g.new.graph }
 {
     let mut graph = g.copy()?;
     let mut flow = f.copy()?;
-    let scalar = pivot_in_place(&mut graph, &mut flow, u, v)?;
-    mem::swap(g, &mut graph);
-    mem::swap(f, &mut flow);
-    Ok(scalar)
+    match pivot_in_place(g, f, u, v) {
+        Ok(scalar) => Ok(scalar),
+        Err(error) => {
+            mem::swap(g, &mut graph);
+            mem::swap(f, &mut flow);
+            Err(error)
+        }
+    }
 }
 
 /// Whether the ids are those of two adjacent interior vertices.

@@ -26,7 +26,7 @@ use Rattle.zx_reduce.specs.Search.{AppliesAt, kind_of, IsOfFirstKind}
 use Rattle.zx_reduce.specs.Internal.Searching.{IsMoveAt, NoneAt}
 use Rattle.zx_reduce.specs.Internal.Guiding.{place_kind, place_of, candidate_cmp, candidate_at, is_candidate, HasCandidates, HasCandidatesBut, IsListed, KeepsCandidates, near, near_step}
 use Rattle.zx_reduce.proofs.CandidateSets.{at_place, none_earlier, removed}
-use Rattle.zx_reduce.proofs.SearchKinds.{stands_once}
+use Rattle.zx_reduce.proofs.SearchKinds.{stands_once, stands_at}
 
 -- no place is at a vertex with an end
 boundary_none : (g : Graph) (k : MoveKind) (u v : ℕ) → plane_of g u ≡ XY → is_interior g u ≡ false → ¬ IsPlaceOf g k u v
@@ -219,8 +219,8 @@ module _ (g : Graph) (c : Candidates) (x : Candidate) (has : HasCandidates g c) 
   pub first_kind : (m : Move) → IsMoveAt g x.place m → IsOfFirstKind g m
   first_kind m is other before applies =
       let at = place_at g other applies in
-      let here : before.later_place ≡ x.place = stands_once before.later_place x.place (kind_of m) before.later_kind is.kind in
-      let there : before.place ≡ place_of (kind_of other) = stands_once before.place (place_of (kind_of other)) (kind_of other) before.kind (at_place (kind_of other)) in
+      let here : before.later_place ≡ x.place = stands_once before.later_place x.place (kind_of m) (stands_at before.later_place (kind_of m) before.later_kind) is.kind in
+      let there : before.place ≡ place_of (kind_of other) = stands_once before.place (place_of (kind_of other)) (kind_of other) (stands_at before.place (kind_of other) before.kind) (at_place (kind_of other)) in
       none_before (kind_of other) at.0 at.1 (subst (λ n. n < x.place) there (subst (λ n. before.place < n) here before.earlier)) at.2
 
   pub first_gone : (after : Candidates) → Updates candidate_cmp c.set after.set x false

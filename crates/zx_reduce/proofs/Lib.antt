@@ -14,6 +14,7 @@ mod Guided
 mod Ranking
 mod DemandMoves
 mod RoomLemmas
+mod RoomKept
 mod InPlace
 mod StepsNeeded
 pub mod Scaling

@@ -1,5 +1,5 @@
 -- The steps of a move, done one after the other, and moves one after the other.
-use Rattle.std.proofs.Common.{Result, Ok, Err, OnErr, ◌≡◌, refl, sym, ◌∙◌, ap, subst, ℕ, suc, ◌+◌, ◌*◌, ◌<◌, ◌≤◌, true, List, [], ◌∷◌, ◌++◌, length, map, take, drop, get_or, append_assoc, length-append, add-zero, drop-cons, arith}
+use Rattle.std.proofs.Common.{◌≡◌, refl, sym, ◌∙◌, ap, subst, ℕ, suc, ◌+◌, ◌*◌, ◌<◌, ◌≤◌, true, List, [], ◌∷◌, ◌++◌, length, map, take, drop, get_or, append_assoc, length-append, add-zero, drop-cons, arith}
 use Rattle.std.proofs.Math.Seq.{take-suc}
 use Rattle.std.proofs.lemmas.List.{append-nil, length-map, map-append, take_all}
 use Rattle.zx_calculus.specs.Graph.{Graph, WellFormed}
@@ -11,7 +11,7 @@ use Rattle.zx_reduce.specs.declared.moves.Move.{Move}
 use Rattle.zx_reduce.specs.declared.step.Step.{Step}
 use Rattle.zx_reduce.specs.Steps.{step_named}
 use Rattle.zx_reduce.specs.Search.{AppliesAt, IsOfFirstKind}
-use Rattle.zx_reduce.specs.Moving.{steps_of, AreMoves, most_moves, CountsMoves, GainsMoves, GainsRun}
+use Rattle.zx_reduce.specs.Moving.{steps_of, AreMoves, most_moves, GainsMoves, GainsRun}
 use Rattle.zx_reduce.specs.declared.candidates.Candidates.{Candidates}
 use Rattle.zx_reduce.specs.declared.ranks.Ranks.{Ranks}
 use Rattle.zx_reduce.specs.Internal.Guiding.{HasCandidates, IsGuided}
@@ -119,25 +119,12 @@ none_made {g} {h} {before = before} start guided same_graph same_trace = record 
   guided = guided;
 }
 
-pub one_made : {g k h : Graph} {m : Move} {order later : Ranks} {candidates others : Candidates}
-    {before after more : List Step} {start now ticked : ℕ} →
-    AreMade g k order candidates before after start now → AppliesAt k m → IsOfFirstKind k m → GainsMove k m h after more →
-    IsGuided h later others → ticked ≡ now + 1 → AreMade g h later others before more start ticked
-one_made {m = m} made applies first one guided tick = record {
-  gains = gains_more {m = m} made.gains applies first one tick;
-  guided = guided;
-}
-
 few_more : (start now n most left : ℕ) → now ≡ start + n → n + left ≤ most → now ≤ start + most
 few_more start now n most left e f = omega arith
 
 six_each : (start now n old new gained : ℕ) → now ≡ start + n → new ≡ old + gained → gained ≤ 6 * n →
     new + 6 * start ≤ old + 6 * now
 six_each start now n old new gained e f l = omega arith
-
-pub on_error : {T E P : Type 0} (r : Result T E) → P → OnErr r P
-on_error (Ok v) p = tt
-on_error (Err e) p = p
 
 module _ {g h : Graph} {before after : List Step} {start now : ℕ} (gains : GainsMoves g h before after start now) where
   pub gained_run : GainsRun g h before after
@@ -151,12 +138,6 @@ module _ {g h : Graph} {before after : List Step} {start now : ℕ} (gains : Gai
   gained_few_moves w =
       few_more start now gains.count (most_moves g) (most_moves h) gains.counter
       (AreMoves-few g gains.count (map step_named gains.gained) h w gains.moves)
-
-  pub gained_counter : WellFormed g → (start ≤ now) × (now ≤ start + most_moves g)
-  gained_counter w = (more start now gains.count gains.counter, gained_few_moves w)
-    where
-      more : (start now n : ℕ) → now ≡ start + n → start ≤ now
-      more start now n e = omega arith
 
   pub gained_few_steps : length after + 6 * start ≤ length before + 6 * now
   gained_few_steps =
@@ -175,19 +156,19 @@ module _ {g h : Graph} {before after : List Step} {start now : ℕ} (gains : Gai
       run_keeps g (map step_named gains.gained) h table w
       (AreMoves-run g gains.count (map step_named gains.gained) h gains.moves) flow
 
--- the moves that were counted
-pub no_moves : (g : Graph) (start : ℕ) → CountsMoves g start start
-no_moves g start = record { count = 0; counter = sym (add-zero start); steps = []; end = g; moves = (refl, refl) }
-
-pub gained_moves : {g h : Graph} {before after : List Step} {start now : ℕ} →
-    GainsMoves g h before after start now → CountsMoves g start now
-gained_moves {g} {h} gains = record {
+-- moves that are counted once all of them are made
+pub counted_later : {g h : Graph} {before after : List Step} {start now moves : ℕ} → now ≡ start + moves →
+    GainsMoves g h before after 0 moves → GainsMoves g h before after start now
+counted_later {start = start} {now = now} {moves = moves} tick gains = record {
+  gained = gains.gained;
   count = gains.count;
-  counter = gains.counter;
-  steps = map step_named gains.gained;
-  end = h;
+  trace = gains.trace;
+  counter = in_all start now moves gains.count tick gains.counter;
   moves = gains.moves;
 }
+  where
+    in_all : (start now moves n : ℕ) → now ≡ start + moves → moves ≡ 0 + n → now ≡ start + n
+    in_all start now moves n e f = omega (arith, e, f)
 
 -- what moves on copies come to is what they come to where graph and trace take the place of those copied
 pub from_copies : {g h k m : Graph} {before after old new : List Step} {start now : ℕ} →

@@ -66,6 +66,14 @@ most_moves-few g w = few _ _ _ _ (counts_within g w) (filter_few (λ (v : Vertex
     few : (e o q n : ℕ) → e + o ≤ n → q ≤ n → 2 * e + q + 2 * o ≤ 3 * n
     few e o q n a b = omega (arith, a, b)
 
+-- a graph with few vertices allows few moves
+pub few_made : {g h : Graph} {before after : List TraceStep} {made : ℕ} → GainsMoves g h before after 0 made → WellFormed g →
+    made ≤ 3 * length g.vertices
+few_made {g} {made = made} gains w = few made (most_moves g) (length g.vertices) (gained_few_moves gains w) (most_moves-few g w)
+  where
+    few : (made moves n : ℕ) → made ≤ 0 + moves → moves ≤ 3 * n → made ≤ 3 * n
+    few made moves n a b = omega (arith, a, b)
+
 -- so many moves are made, and one more is multiplied in
 pub one_more_fits : {g h : Graph} {before after : List TraceStep} {start now : ℕ} (s t : Scalar) → GainsMoves g h before after start now → WellFormed g → length g.vertices < most_vertices →
     IsWithin (12 * (now - start)) s → IsWithin 12 t → IsWithin most_root2 (product_of_scalars s t)

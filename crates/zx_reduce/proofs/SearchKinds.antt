@@ -1,5 +1,5 @@
 -- Moves by their kinds, and kinds in their order.
-use Rattle.std.proofs.Common.{Option, Some, None, IfSome, IfNone, ◌≡◌, refl, subst, ℕ, ◌<◌, slice_get, lit<, arith}
+use Rattle.std.proofs.Common.{Option, Some, None, IfSome, IfNone, ◌≡◌, refl, ◌∙◌, ap, subst, ℕ, ◌<◌, List, slice_get, lit<, arith}
 use Rattle.zx_calculus.specs.Graph.{Graph, Live}
 use Rattle.zx_calculus.specs.Moves.{IsStuck}
 use Rattle.zx_reduce.specs.declared.moves.Move.{Move}
@@ -7,8 +7,15 @@ use Rattle.zx_reduce.specs.declared.moves.Move.TheVariants as moves
 use Rattle.zx_reduce.specs.declared.moves.Kind.{Kind}
 use Rattle.zx_reduce.specs.declared.moves.Kind.TheVariants as kinds
 use Rattle.zx_reduce.specs.declared.moves.TheConstants.{KINDS}
-use Rattle.zx_reduce.specs.Search.{AppliesAt, kind_of, IsOfFirstKind}
+use Rattle.zx_reduce.specs.Search.{AppliesAt, kind_of, kinds_in_order, IsOfFirstKind}
 use Rattle.zx_reduce.specs.Internal.Searching.{IsMoveAt, NoneBefore}
+
+-- the kinds are tried in the order that is promised
+pub in_order : KINDS ≡ kinds_in_order
+in_order = refl
+
+pub stands_at : (i : ℕ) (k : Kind) → slice_get kinds_in_order i ≡ Some k → slice_get KINDS i ≡ Some k
+stands_at i k at = ap (λ (ks : List Kind). slice_get ks i) in_order ∙ at
 
 -- no kind stands twice
 pub stands_once : (i j : ℕ) (k : Kind) → slice_get KINDS i ≡ Some k → slice_get KINDS j ≡ Some k → i ≡ j
@@ -35,8 +42,9 @@ none_applies g n none (moves.Twins u v) i lt at a =
 
 first_found : (g : Graph) (n : ℕ) (m : Move) → NoneAnywhere g n → IsMoveAt g n m → IsOfFirstKind g m
 first_found g n m none is other before =
-    let same : before.later_place ≡ n = stands_once before.later_place n (kind_of m) before.later_kind is.kind in
-    none_applies g n none other before.place (subst (λ (i : ℕ). before.place < i) same before.earlier) before.kind
+    let same : before.later_place ≡ n = stands_once before.later_place n (kind_of m) (stands_at before.later_place (kind_of m) before.later_kind) is.kind in
+    none_applies g n none other before.place (subst (λ (i : ℕ). before.place < i) same before.earlier)
+    (stands_at before.place (kind_of other) before.kind)
 
 stuck : (g : Graph) → NoneAnywhere g 10 → IsStuck g
 stuck g none = record {

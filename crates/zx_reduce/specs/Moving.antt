@@ -63,14 +63,6 @@ pub record GainsMoves (g h : Graph) (before after : List Step) (counted_before c
   pub counter : counted_after ≡ counted_before + count
   pub moves : AreMoves g count (map step_named gained) h
 
--- as many moves as the counter rose by can be made one after the other from g on
-pub record CountsMoves (g : Graph) (counted_before counted_after : ℕ) : Type 0 where
-  pub count : ℕ
-  pub counter : counted_after ≡ counted_before + count
-  pub steps : List calculus.Step
-  pub end : Graph
-  pub moves : AreMoves g count steps end
-
 -- what a trace gained is a run from g to h
 pub record GainsRun (g h : Graph) (before after : List Step) : Type 0 where
   pub gained : List Step

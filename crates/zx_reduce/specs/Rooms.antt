@@ -5,6 +5,7 @@ use Rattle.zx_calculus.specs.Graph.{XY, Graph, plane_of, Live}
 use Rattle.zx_calculus.specs.Counts.{not_XY}
 use Rattle.zx_calculus.specs.Steps.{Step, LocalComplement, Delete, Pivot, SplitInput, SplitOutput}
 use Rattle.zx_calculus.specs.Steps.{DropLone, FuseInto, FuseTwin}
+use Rattle.gflow_laws.specs.Flow.{order_of}
 use Rattle.move_laws.specs.Demand.{taken_out}
 use Rattle.move_laws.specs.Orders.{is_split}
 use Rattle.open_graph.specs.OpenGraph.{OpenGraph}
@@ -28,6 +29,24 @@ pub record UsesPlaces (s : Step) (g : OpenGraph) (f : Flow) (h : OpenGraph) (k :
   pub flow_places : f.spare + taken_out s ≤ k.spare + one_if (is_split s)
   pub reach : h.reach ≡ g.reach
   pub flow_reach : k.reach ≡ f.reach
+
+-- no memory of graph and flow is lost: vertices that are there, or that can be added without memory, are no fewer, and
+-- no reach falls
+pub record KeepPlaces (g : OpenGraph) (f : Flow) (h : OpenGraph) (k : Flow) : Type 0 where
+  pub places : g.spare + length g.graph.vertices ≤ h.spare + length h.graph.vertices
+  pub flow_places : f.spare + length (order_of f.flow) ≤ k.spare + length (order_of k.flow)
+  pub reach : g.reach ≤ h.reach
+  pub flow_reach : f.reach ≤ k.reach
+
+-- steps of a trace that are there, or that can be added without memory, are no fewer
+abbrev pub KeepSteps : Trace → Trace → Type 0
+KeepSteps before after = before.spare + length before.steps ≤ after.spare + length after.steps
+
+-- no memory of graph, flow and trace is lost
+pub record KeepRoom (g : OpenGraph) (f : Flow) (trace : Trace) (h : OpenGraph) (k : Flow) (longer : Trace)
+    : Type 0 where
+  pub places : KeepPlaces g f h k
+  pub steps : KeepSteps trace longer
 
 -- graph and flow have memory for n more vertices, and for all ids below n
 pub record AreReserved (n : ℕ) (g : OpenGraph) (f : Flow) : Type 0 where

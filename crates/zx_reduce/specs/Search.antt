@@ -1,5 +1,5 @@
 -- Moves that values of the code name, and which of them comes first.
-use Rattle.std.specs.Prelude.{◌≡◌, ◌<◌, ℕ, Some, slice_get}
+use Rattle.std.specs.Prelude.{◌≡◌, ◌<◌, ℕ, List, [], ◌∷◌, Some, slice_get}
 use Rattle.zx_calculus.specs.Graph.{Graph}
 use Rattle.zx_calculus.specs.Deletions.{IsDeletable}
 use Rattle.zx_calculus.specs.Moves.{IsQuarterGadget, IsInXZ, IsQuarterSpider, IsInnerPivot, IsBoundaryPivot}
@@ -9,7 +9,6 @@ use Rattle.zx_reduce.specs.declared.moves.Move.TheVariants.{Delete, QuarterGadge
 use Rattle.zx_reduce.specs.declared.moves.Move.TheVariants.{BoundaryPivot, GadgetPair, LoneGadget, SingleGadget, Twins}
 use Rattle.zx_reduce.specs.declared.moves.Kind.{Kind}
 use Rattle.zx_reduce.specs.declared.moves.Kind.TheVariants as kinds
-use Rattle.zx_reduce.specs.declared.moves.TheConstants.{KINDS}
 
 -- the graph has the place that the move names
 abbrev pub AppliesAt : Graph → Move → Type 0
@@ -37,12 +36,19 @@ kind_of (LoneGadget u) = kinds.LoneGadget
 kind_of (SingleGadget u) = kinds.SingleGadget
 kind_of (Twins u v) = kinds.Twins
 
--- k stands before l in the order in which kinds are tried
+-- the kinds in the order in which simplification tries them: a move of one is made only where none of those before it
+-- applies anywhere
+abbrev pub kinds_in_order : List Kind
+kinds_in_order =
+    kinds.Delete ∷ kinds.QuarterGadget ∷ kinds.FromXZ ∷ kinds.QuarterSpider ∷ kinds.InnerPivot
+    ∷ kinds.BoundaryPivot ∷ kinds.GadgetPair ∷ kinds.LoneGadget ∷ kinds.SingleGadget ∷ kinds.Twins ∷ []
+
+-- k stands before l in that order
 pub record ComesBefore (k l : Kind) : Type 0 where
   pub place : ℕ
   pub later_place : ℕ
-  pub kind : slice_get KINDS place ≡ Some k
-  pub later_kind : slice_get KINDS later_place ≡ Some l
+  pub kind : slice_get kinds_in_order place ≡ Some k
+  pub later_kind : slice_get kinds_in_order later_place ≡ Some l
   pub earlier : place < later_place
 
 -- no move of a kind before that of m applies anywhere

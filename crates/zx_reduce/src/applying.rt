@@ -6,7 +6,7 @@ ghost use Rattle.zx_calculus.specs.Steps.{allowed};
 ghost use Rattle.zx_calculus.specs.StepScalars.{step_scalar};
 ghost use Rattle.gflow_laws.specs.Flow.{IsFlow};
 ghost use Rattle.gflow_laws.specs.Rewritten.{IsRewritten};
-ghost use Rattle.zx_reduce.specs.Rooms.{HaveRoomFor, UsesPlaces};
+ghost use Rattle.zx_reduce.specs.Rooms.{HaveRoomFor, KeepPlaces, UsesPlaces};
 ghost use Rattle.zx_reduce.specs.Steps.{step_named};
 
 use crate::refusal::StepRefused;
@@ -23,7 +23,9 @@ use zx_pivot::pivot;
 /// Does a step on a graph with its flow, where it is allowed: where its ids are those of vertices,
 /// and its side condition holds, and answers its scalar: the sum before is so many times the sum
 /// after. Where it isn't, or memory runs out, graph and flow stay as they
-/// were. Where both have the memory that the step needs, it takes none.
+/// were. Where both have the memory that the step needs, it takes none. None that they have is lost: a
+/// split uses one place for a vertex, one is given back for each vertex that goes, and the reach of
+/// both stays.
 pub fn apply(g: &mut OpenGraph, f: &mut Flow, step: Step) -> Result<Scalar, StepRefused>
     requires flow { IsFlow g.old.graph f.old.flow }
 
@@ -40,9 +42,8 @@ pub fn apply(g: &mut OpenGraph, f: &mut Flow, step: Step) -> Result<Scalar, Step
     ensures err { OnErr result ((g.new.graph ≡ g.old.graph) × (f.new.flow ≡ f.old.flow)) }
     ensures has_room { allowed g.old.graph (step_named step) ≡ true →
         HaveRoomFor (step_named step) g.old f.old → IsOk result }
-    ensures places { allowed g.old.graph (step_named step) ≡ true →
-        HaveRoomFor (step_named step) g.old f.old →
-        UsesPlaces (step_named step) g.old f.old g.new f.new }
+    ensures places { OnOk result (UsesPlaces (step_named step) g.old f.old g.new f.new) }
+    ensures err_places { OnErr result (KeepPlaces g.old f.old g.new f.new) }
     ensures valid { WellFormed g.new.graph }
 {
     if !step.is_allowed(g) {
@@ -61,8 +62,9 @@ pub(crate) fn rewrite(g: &mut OpenGraph, f: &mut Flow, step: &Step) -> Result<Sc
     ensures scalar { IfOk result (λ s. s ≡ step_scalar g.old.graph (step_named step.now)) }
     ensures err { OnErr result ((g.new.graph ≡ g.old.graph) × (f.new.flow ≡ f.old.flow)) }
     ensures has_room { HaveRoomFor (step_named step.now) g.old f.old → IsOk result }
-    ensures places { HaveRoomFor (step_named step.now) g.old f.old →
-        UsesPlaces (step_named step.now) g.old f.old g.new f.new }
+    ensures places { OnOk result
+        (UsesPlaces (step_named step.now) g.old f.old g.new f.new) }
+    ensures err_places { OnErr result (KeepPlaces g.old f.old g.new f.new) }
     ensures valid { WellFormed g.new.graph }
 {
     match step {

@@ -8,7 +8,7 @@ ghost use Rattle.zx_calculus.specs.Steps.{IsRun};
 ghost use Rattle.gflow_laws.specs.Flow.{IsFlow};
 ghost use Rattle.move_laws.specs.Demand.{demand};
 ghost use Rattle.zx_reduce.specs.Moving.{GainsMoves};
-ghost use Rattle.zx_reduce.specs.Rooms.{HasRoom};
+ghost use Rattle.zx_reduce.specs.Rooms.{HasRoom, KeepPlaces, KeepRoom};
 ghost use Rattle.zx_calculus.specs.StepScalars.{most_vertices};
 ghost use Rattle.zx_reduce.specs.Scaling.{most_exponent};
 ghost use Rattle.zx_reduce.specs.Search.{AppliesAt, IsOfFirstKind};
@@ -48,6 +48,7 @@ pub(crate) fn reduce_in_place<L: Ledger>(
     ensures scalar { IfOk result (λ s.
         Scales g.old.graph (most_exponent g.old.graph) s g.new.graph) }
     ensures has_room { HasRoom g.old f.old trace.old → IsOk result }
+    ensures room { OnOk result (KeepRoom g.old f.old trace.old g.new f.new trace.new) }
     ensures valid { WellFormed g.new.graph }
 {
     let mut scalar = Scalar::one();
@@ -74,6 +75,7 @@ fn make(g: &mut OpenGraph, f: &mut Flow, trace: &mut Trace, m: &Move) -> Result<
     ensures places { OnOk result ((n : ℕ) → HavePlaces n g.old f.old →
         demand g.old.graph + 2 ≤ n → HavePlaces n g.new f.new) }
     ensures spare { OnOk result (trace.old.spare ≤ trace.new.spare + 6) }
+    ensures room { OnOk result (KeepRoom g.old f.old trace.old g.new f.new trace.new) }
 {
     let start = trace.as_slice().len();
     add_steps(trace, g, m)?;
@@ -94,6 +96,7 @@ fn do_steps(g: &mut OpenGraph, f: &mut Flow, steps: &[Step]) -> Result<Scalar, A
         StaysWithin d g.old.graph (map step_named steps.now) → IsOk result }
     ensures places { OnOk result ((n d : ℕ) → HavePlaces n g.old f.old → d + 2 ≤ n →
         StaysWithin d g.old.graph (map step_named steps.now) → HavePlaces n g.new f.new) }
+    ensures room { OnOk result (KeepPlaces g.old f.old g.new f.new) }
 {
     let mut scalar = Scalar::one();
     for step in steps {

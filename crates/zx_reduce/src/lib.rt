@@ -8,13 +8,33 @@
 //! reduced, with a flow, a proportional sum, as many ends and no more odd phases; the trace gained
 //! the steps of moves from the old graph to the new one, each of the first kind that applied; the
 //! counter rose by the number of moves, at most 2E+Q+2O (interior vertices of even phase, vertices
-//! that aren't XY, odd phases). Want of memory leaves graph, flow and trace as they were.
+//! that aren't XY, odd phases). Want of memory leaves graph, flow, trace and counter as they were. No
+//! room is lost, whether memory runs out or not: neither reach falls, and graph, flow and trace take
+//! no fewer vertices and steps in all without memory than before.
 //!
 //! While moves are made no correction set is kept, only the order along which the graph has a flow;
 //! sets are found along it at the end. The next move is looked for where rewrites changed something.
 //! Where graph, flow and trace have room for it, `reduce` takes no memory: it changes them where they
 //! are, by the rewrites in place. `reserved_room_suffices` tells how much room is enough for the graph
-//! of a circuit. `apply` takes none where graph and flow have the room that the step needs.
+//! of a circuit. `apply` takes none where graph and flow have the room that the step needs, and uses no
+//! more of it than one place for a vertex, where it splits an end.
+//!
+//! Inside:
+//!
+//! - `step`, `refusal`, `applying`, `trace`: steps by their names, lists of cases over the
+//!   rewrites' own tests and calls.
+//! - `moves`: the moves, their kinds and the order of kinds. `search` finds the next one in a
+//!   graph, `planning` lists its steps.
+//! - `reduction`: moves until none is left.
+//! - `steps`: their counter.
+//! - `working`: one copy of the graph, without correction sets, on which moves are made; beside it
+//!   stand the order of its flow (`ranks`) and the vertices at which moves may begin
+//!   (`candidates`). `in_graph` does a step on graph and order. At the end `flow_find` finds sets
+//!   along that order, or a cheaper one.
+//! - `in_place`: the moves on graph, flow and trace as they are, where these have room (`room`
+//!   tests it). `room_laws` tells how much suffices.
+//! - `size`: that a graph is one for which there can be memory.
+//! - `laws`, `simplification_laws`: the laws of steps, and of moves.
 //!
 //! ```rust
 //! let mut trace = Trace::new(alloc);

@@ -7,6 +7,7 @@ ghost use Rattle.zx_reduce.specs.Search.{AppliesAt};
 ghost use Rattle.zx_reduce.specs.Moving.{steps_of, splits_of, removal_of};
 ghost use Rattle.zx_reduce.specs.Internal.Rooms.{AddsSteps};
 ghost use Rattle.zx_reduce.specs.declared.moves.Move.TheVariants as moves;
+ghost use Rattle.zx_reduce.specs.Rooms.{KeepSteps};
 
 use crate::moves::Move;
 use crate::step::Step;
@@ -23,6 +24,7 @@ pub(crate) fn add_steps(steps: &mut Trace, g: &OpenGraph, m: &Move) -> Result<()
         (AddsSteps steps.old.steps steps.new.steps (steps_of g.now.graph m.now)) }
     ensures has_room { 6 ≤ steps.old.spare → IsOk result }
     ensures spare { OnOk result (steps.old.spare ≤ steps.new.spare + 6) }
+    ensures room { OnOk result (KeepSteps steps.old steps.new) }
 {
     match m {
         Move::Delete(u) => steps.push(Step::Delete(*u)),
@@ -44,6 +46,7 @@ fn add_two(steps: &mut Trace, first: Step, second: Step) -> Result<(), AllocErro
         (step_named first ∷ step_named second ∷ [])) }
     ensures has_room { 2 ≤ steps.old.spare → IsOk result }
     ensures spare { OnOk result (steps.old.spare ≤ steps.new.spare + 2) }
+    ensures room { OnOk result (KeepSteps steps.old steps.new) }
 {
     steps.push(first)?;
     steps.push(second)
@@ -61,6 +64,7 @@ fn add_boundary_steps(
         (steps_of g.now.graph (moves.BoundaryPivot u b))) }
     ensures has_room { 6 ≤ steps.old.spare → IsOk result }
     ensures spare { OnOk result (steps.old.spare ≤ steps.new.spare + 6) }
+    ensures room { OnOk result (KeepSteps steps.old steps.new) }
 {
     add_splits(steps, g, b)?;
     add_two(steps, Step::Pivot(u, b), Step::Delete(u))?;
@@ -75,6 +79,7 @@ fn add_splits(steps: &mut Trace, g: &OpenGraph, b: VertexId) -> Result<(), Alloc
         (AddsSteps steps.old.steps steps.new.steps (splits_of g.now.graph b)) }
     ensures has_room { 2 ≤ steps.old.spare → IsOk result }
     ensures spare { OnOk result (steps.old.spare ≤ steps.new.spare + 2) }
+    ensures room { OnOk result (KeepSteps steps.old steps.new) }
 {
     if g.input_at(b).is_some() {
         steps.push(Step::SplitInput(b))?;
@@ -91,6 +96,7 @@ fn add_removal(steps: &mut Trace, phase: Sixteenth, b: VertexId) -> Result<(), A
         (AddsSteps steps.old.steps steps.new.steps (removal_of phase b)) }
     ensures has_room { 2 ≤ steps.old.spare → IsOk result }
     ensures spare { OnOk result (steps.old.spare ≤ steps.new.spare + 2) }
+    ensures room { OnOk result (KeepSteps steps.old steps.new) }
 {
     if phase.is_half_turns() {
         steps.push(Step::Delete(b))

@@ -7,8 +7,8 @@ ghost use Rattle.zx_calculus.specs.Counts.{odd_phases};
 ghost use Rattle.zx_calculus.specs.Reduced.{IsReduced};
 ghost use Rattle.gflow_laws.specs.Flow.{IsFlow};
 ghost use Rattle.zx_calculus.specs.Exact.{KeepsMap};
-ghost use Rattle.zx_reduce.specs.Moving.{CountsMoves, GainsMoves, GainsRun, most_moves};
-ghost use Rattle.zx_reduce.specs.Rooms.{HasRoom};
+ghost use Rattle.zx_reduce.specs.Moving.{GainsMoves, GainsRun, most_moves};
+ghost use Rattle.zx_reduce.specs.Rooms.{HasRoom, KeepRoom};
 ghost use Rattle.zx_calculus.specs.StepScalars.{most_vertices, IsSumTimes};
 ghost use Rattle.zx_reduce.specs.Scaling.{most_exponent};
 ghost use Rattle.zx_reduce.specs.Internal.Guiding.{IsGuided};
@@ -26,6 +26,13 @@ use std::sync::ledger::Ledger;
 use zx_flow::Flow;
 use zx_model::Scalar;
 
+// How many moves were made, and by which scalar they changed the sum.
+#[derive(Drop)]
+struct Made {
+    scalar: Scalar,
+    moves: u64,
+}
+
 /// Does moves on a graph with its flow until none applies, each time one of the first kind that
 /// applies anywhere, and answers by which scalar they change the sum: the sum before is so many times
 /// the sum after. The graph has fewer than 2^56 vertices. The trace gains the step of each rewrite, the counter one for each move.
@@ -33,7 +40,8 @@ use zx_model::Scalar;
 /// # Errors
 ///
 /// Only where memory runs out, and never where graph, flow and trace have room for simplification. Then
-/// they stay as they were; the counter has the moves that were made on copies of them, and no others.
+/// they stay as they were, and so does the counter. No room that they have is lost, with Ok or
+/// without.
 pub fn reduce<L: Ledger>(
     g: &mut OpenGraph,
     f: &mut Flow,
@@ -64,10 +72,10 @@ pub fn reduce<L: Ledger>(
 
     ensures err_graph { OnErr result ((g.new.graph ≡ g.old.graph) × (f.new.flow ≡ f.old.flow)) }
     ensures err_trace { OnErr result (trace.new.steps ≡ trace.old.steps) }
-    ensures err_counter { OnErr result
-        ((steps.old ≤ steps.new) × (steps.new ≤ steps.old + most_moves g.old.graph)) }
-    ensures err_moves { OnErr result (CountsMoves g.old.graph steps.old steps.new) }
+    ensures err_counter { OnErr result (steps.new ≡ steps.old) }
 
+    // With Ok or without, no room is lost.
+    ensures room { KeepRoom g.old f.old trace.old g.new f.new trace.new }
     ensures has_room { HasRoom g.old f.old trace.old → IsOk result }
     ensures valid { WellFormed g.new.graph }
 {
@@ -95,41 +103,40 @@ fn reduce_in_copies<L: Ledger>(
         Scales g.old.graph (most_exponent g.old.graph) s g.new.graph) }
     ensures err_graph { OnErr result ((g.new.graph ≡ g.old.graph) × (f.new.flow ≡ f.old.flow)) }
     ensures err_trace { OnErr result (trace.new.steps ≡ trace.old.steps) }
-    ensures err_counter { OnErr result
-        ((steps.old ≤ steps.new) × (steps.new ≤ steps.old + most_moves g.old.graph)) }
-    ensures err_moves { OnErr result (CountsMoves g.old.graph steps.old steps.new) }
+    ensures err_counter { OnErr result (steps.new ≡ steps.old) }
+    ensures room { KeepRoom g.old f.old trace.old g.new f.new trace.new }
     ensures valid { WellFormed g.new.graph }
 {
     let mut work = Working::begin(g, f, trace)?;
-    let scalar = make_moves(&mut work, steps)?;
+    let made = make_moves(&mut work)?;
     put_back(work, g, f, trace)?;
-    Ok(scalar)
+    steps.count(made.moves);
+    Ok(made.scalar)
 }
 
-// Makes moves until none is left, and answers by which scalar they change the sum.
-fn make_moves<L: Ledger>(work: &mut Working, steps: &mut Steps<L>) -> Result<Scalar, AllocError>
+// Makes moves until none is left, and answers how many, and by which scalar they change the sum.
+fn make_moves(work: &mut Working) -> Result<Made, AllocError>
     requires guided { IsGuided work.old.graph.graph work.old.order work.old.candidates }
     requires few { length work.old.graph.graph.vertices < most_vertices }
     ensures reduced { OnOk result (IsReduced work.new.graph.graph) }
     ensures guided { OnOk result
         (IsGuided work.new.graph.graph work.new.order work.new.candidates) }
-    ensures moves { OnOk result (GainsMoves work.old.graph.graph work.new.graph.graph
-        work.old.trace.steps work.new.trace.steps steps.old steps.new) }
-    ensures scalar { IfOk result (λ s. Scales work.old.graph.graph
-        (most_exponent work.old.graph.graph) s work.new.graph.graph) }
-    ensures err_counter { OnErr result
-        ((steps.old ≤ steps.new) × (steps.new ≤ steps.old + most_moves work.old.graph.graph)) }
-    ensures err_moves { OnErr result (CountsMoves work.old.graph.graph steps.old steps.new) }
+    ensures moves { IfOk result (λ made. GainsMoves work.old.graph.graph work.new.graph.graph
+        work.old.trace.steps work.new.trace.steps 0 made.moves) }
+    ensures scalar { IfOk result (λ made. Scales work.old.graph.graph
+        (most_exponent work.old.graph.graph) made.scalar work.new.graph.graph) }
 {
     let mut scalar = Scalar::one();
+    let mut moves = 0;
     while let Some(found) = work.candidates.next_move(&work.graph) {
         scalar = scalar.times(work.make(&found)?);
-        steps.tick();
+        moves += 1;
     }
-    Ok(scalar)
+    Ok(Made { scalar, moves })
 }
 
-// Graph and trace take the place of others, and a flow of the graph that of another.
+// Graph and trace take the place of others, and a flow of the graph that of another, each with the
+// memory that the other has.
 fn put_back(
     work: Working,
     g: &mut OpenGraph,
@@ -142,11 +149,33 @@ fn put_back(
     ensures trace { OnOk result (trace.new.steps ≡ work.trace.steps) }
     ensures err_graph { OnErr result ((g.new.graph ≡ g.old.graph) × (f.new.flow ≡ f.old.flow)) }
     ensures err_trace { OnErr result (trace.new.steps ≡ trace.old.steps) }
+    ensures room { KeepRoom g.old f.old trace.old g.new f.new trace.new }
 {
     let mut work = work;
     let mut flow = work.flow()?;
+    take_room(&mut work, &mut flow, g, f, trace)?;
     mem::swap(g, &mut work.graph);
     mem::swap(f, &mut flow);
     mem::swap(trace, &mut work.trace);
+    Ok(())
+}
+
+// Takes the memory that others have.
+fn take_room(
+    work: &mut Working,
+    flow: &mut Flow,
+    g: &OpenGraph,
+    f: &Flow,
+    trace: &Trace,
+) -> Result<(), AllocError>
+    ensures graph { work.new.graph.graph ≡ work.old.graph.graph }
+    ensures flow { flow.new.flow ≡ flow.old.flow }
+    ensures trace { work.new.trace.steps ≡ work.old.trace.steps }
+    ensures room { OnOk result
+        (KeepRoom g.now f.now trace.now work.new.graph flow.new work.new.trace) }
+{
+    work.graph.reserve_like(g)?;
+    work.trace.reserve_like(trace)?;
+    flow.reserve_like(f)?;
     Ok(())
 }

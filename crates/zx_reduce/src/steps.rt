@@ -5,7 +5,7 @@ ghost use Rattle.std.specs.Prelude.{◌≡◌, ◌<◌, ℕ, ◌+◌};
 use std::marker::Model;
 use std::sync::ledger::{Blank, Book, Ledger, Share};
 
-/// How many moves were done. It takes no bytes, and only `tick` changes it.
+/// How many moves were done. It takes no bytes, and only simplification changes it.
 #[derive(Drop)]
 pub struct Steps<L: Ledger> {
     book: Book<L>,
@@ -37,5 +37,12 @@ impl<L: Ledger> Steps<L> {
         ensures { self.new ≡ self.old + 1 }
     {
         self.book.add(&mut self.share, 1);
+    }
+
+    // Counts so many moves.
+    pub(crate) fn count(&mut self, moves: u64)
+        ensures { self.new ≡ self.old + moves }
+    {
+        self.book.add(&mut self.share, moves);
     }
 }

@@ -1,6 +1,7 @@
 //! Traces of steps.
 
 ghost use Rattle.std.specs.Prelude.{◌≡◌, ◌<◌, ◌≤◌, ◌+◌, ◌++◌, [], ◌∷◌, length, drop, IsOk, IfOk, OnOk, OnErr};
+ghost use Rattle.zx_reduce.specs.Rooms.{KeepSteps};
 
 use crate::step::Step;
 use std::alloc::{AllocError, Global};
@@ -60,12 +61,22 @@ impl Trace {
         self.steps.capacity().saturating_sub(self.steps.len())
     }
 
+    // Takes the memory that another trace has, for as many steps in all.
+    pub(crate) fn reserve_like(&mut self, other: &Trace) -> Result<(), AllocError>
+        ensures same { self.new.steps ≡ self.old.steps }
+        ensures room { OnOk result (KeepSteps other.now self.new) }
+    {
+        let steps = other.steps.capacity();
+        self.steps.reserve(steps.saturating_sub(self.steps.len()))
+    }
+
     // Adds a step after all others. Where memory runs out the trace stays as it was.
     pub(crate) fn push(&mut self, step: Step) -> Result<(), AllocError>
         ensures ok { OnOk result (self.new.steps ≡ self.old.steps ++ step ∷ []) }
         ensures err { OnErr result (self.new.steps ≡ self.old.steps) }
         ensures has_room { 0 < self.old.spare → IsOk result }
         ensures spare { OnOk result (self.old.spare ≤ self.new.spare + 1) }
+        ensures room { OnOk result (KeepSteps self.old self.new) }
     {
         self.steps.push(step)?;
         Ok(())

@@ -4,11 +4,12 @@ use Rattle.zx_io.specs.Causes.{Rose}
 use Rattle.zx_words.specs.declared.words.Command.{Command}
 use Rattle.zx_words.specs.declared.words.Command.TheVariants.{Generate}
 use Rattle.zx_run.specs.declared.status.Fault.{Fault}
+use Rattle.zx_run.specs.declared.status.Fault.TheVariants.{TooLong}
 use Rattle.zx_run.specs.declared.status.Status.{Status}
 use Rattle.zx_run.specs.declared.status.Status.TheVariants.{Done, Refused, Usage, ReadFault, WriteFault, NoMemory, No}
 use Rattle.zx_run.specs.Outcome.{GainsNoFor, GainsOutputFor, GainsPrefixFor, IsAnswerOfGen, IsFaultlessFor, IsFirstFaultFor, IsGen, IsNoFor}
 use Rattle.zx_run.specs.Outcome.{IsOrNoMemory, IsOutputFor, MayAnswer, ReadsSource, SaysEnd, IsFailed, IsOrFailedRead}
-use Rattle.zx_run.specs.Internal.Answers.{ToldSource, Streams, IsAnswer, IsMade, IsOutputOf, IsFailure, IsReadFailure, Reads}
+use Rattle.zx_run.specs.Internal.Answers.{ToldSource, Streams, IsAnswer, IsMade, IsOutputOf, IsFailure, IsLeftOf, IsReadFailure, Reads}
 use Rattle.zx_run.proofs.CommandLemmas.{one_fault, fault_or_none, output_answers, no_answers}
 
 -- where nothing was read there is no output, for the same reason
@@ -151,8 +152,14 @@ module _ (command : Command) (before after : Streams) where
         (subst (IsAnswer (Some command) before after) finished a).1.all_read reads text told
     read_to_end status a reads (inr (inl refused)) =
         (subst (IsAnswer (Some command) before after) refused a).1.all_read reads text told
-    read_to_end status a reads (inr (inr (fault, other, is))) =
+    read_to_end status a reads (inr (inr (inl cut))) =
+        (subst (IsAnswer (Some command) before after) cut a).2.all_read reads text told
+    read_to_end status a reads (inr (inr (inr (fault, other, is)))) =
         ((subst (IsAnswer (Some command) before after) is a).0.1.1 text told).1 other
+
+    -- what follows is left of a text that is too long
+    pub too_long_unread : IsAnswer (Some command) before after (Refused TooLong) → IsLeftOf text after.source.left
+    too_long_unread a = (a.0.1.1 text told).2
 
 -- ---- of `gen`
 module _ (seed qubits gates : ℕ) (before after : Streams) where

@@ -1,5 +1,5 @@
 -- Candidates for the best circuit, one after the other.
-use Rattle.std.proofs.Common.{◌≡◌, ◌≤◌, ◌<◌, ◌⊎◌, inl, inr, ℕ, ◌+◌, Bool, true, cond, eqb, nat_lt, List, length, le_trans, sym, subst, arith, ◌∙◌}
+use Rattle.std.proofs.Common.{◌≡◌, ◌≤◌, ◌<◌, ◌⊎◌, inl, inr, ℕ, ◌+◌, Bool, true, cond, eqb, nat_lt, List, length, Result, Ok, Err, IfOk, le_refl, le_trans, refl, sym, ap, subst, arith, ◌∙◌}
 use Rattle.std.proofs.Math.Nat.{eq-or-lt_of_le}
 use Rattle.std.proofs.lemmas.Bool.{eqb-true, ltb-true}
 use Rattle.zx_model.specs.Number.{Number}
@@ -15,8 +15,8 @@ use Rattle.zx_peephole.specs.Tidy.{IsTidy}
 use Rattle.zx_pieces.specs.Scaling.{most_root2_of_passes}
 use Rattle.zx_teleport.specs.Scalars.{most_teleported_root2}
 use Rattle.zx_run.specs.declared.optimiser.Candidate.{Candidate}
-use Rattle.zx_run.specs.Optimising.{bound_of, counts_of, most_optimised_root2, IsCleaned, IsMapTimes, IsNoDearerThanRead, IsNoDearerThanTeleported, Teleports}
-use Rattle.zx_run.specs.Internal.Candidates.{is_dearer, most_whole_root2, IsCandidate, IsNoDearerThan, IsTeleportedCleanup, Offers}
+use Rattle.zx_run.specs.Optimising.{bound_of, counts_of, most_optimised_root2, IsCleaned, IsMapTimes, IsBest, IsNoDearerThanRead, IsNoDearerThanTeleported, IsPlain, Teleports}
+use Rattle.zx_run.specs.Internal.Candidates.{is_dearer, most_whole_root2, IsCandidate, IsCheaper, IsNoDearerThan, IsTakenOver, IsTeleportedCleanup, Offers}
 
 -- ---- what costs less
 -- of three numbers each, of which the first decide
@@ -47,6 +47,34 @@ no_dearer_by-parts a b c x y z odd two total =
       | inl same ↦ inr (same, elim (eq-or-lt_of_le two) [ inr less ↦ inl less | inl alike ↦ inr (alike, total) ])
     ]
 
+-- of which the last is less, where the others are equal
+abbrev Cheaper : (a b c x y z : ℕ) → Type 0
+Cheaper a b c x y z = (a < x) ⊎ ((a ≡ x) × ((b < y) ⊎ ((b ≡ y) × (c < z))))
+
+cheaper-no_dearer : (a b c x y z : ℕ) → Cheaper a b c x y z → NoDearer a b c x y z
+cheaper-no_dearer a b c x y z (inl less) = inl less
+cheaper-no_dearer a b c x y z (inr (e, inl less)) = inr (e, inl less)
+cheaper-no_dearer a b c x y z (inr (e, inr (f, less))) = inr (e, inr (f, omega arith))
+
+cheaper_by-trans : (a b c x y z u v w : ℕ) → Cheaper a b c x y z → Cheaper x y z u v w → Cheaper a b c u v w
+cheaper_by-trans a b c x y z u v w (inl less) (inl more) = inl (omega arith)
+cheaper_by-trans a b c x y z u v w (inl less) (inr (f, more)) = inl (omega arith)
+cheaper_by-trans a b c x y z u v w (inr (e, less)) (inl more) = inl (omega arith)
+cheaper_by-trans a b c x y z u v w (inr (e, inl less)) (inr (f, inl more)) = inr (e ∙ f, inl (omega arith))
+cheaper_by-trans a b c x y z u v w (inr (e, inl less)) (inr (f, inr (g, more))) = inr (e ∙ f, inl (omega arith))
+cheaper_by-trans a b c x y z u v w (inr (e, inr (g, less))) (inr (f, inl more)) = inr (e ∙ f, inl (omega arith))
+cheaper_by-trans a b c x y z u v w (inr (e, inr (g, less))) (inr (f, inr (h, more))) = inr (e ∙ f, inr (g ∙ h, omega arith))
+
+-- nothing is cheaper than what is no dearer
+cheaper-dearer : (a b c x y z : ℕ) → Cheaper a b c x y z → NoDearer x y z a b c → ⊥
+cheaper-dearer a b c x y z (inl less) (inl more) = absurd (omega arith)
+cheaper-dearer a b c x y z (inl less) (inr (f, more)) = absurd (omega arith)
+cheaper-dearer a b c x y z (inr (e, less)) (inl more) = absurd (omega arith)
+cheaper-dearer a b c x y z (inr (e, inl less)) (inr (f, inl more)) = absurd (omega arith)
+cheaper-dearer a b c x y z (inr (e, inl less)) (inr (f, inr (g, more))) = absurd (omega arith)
+cheaper-dearer a b c x y z (inr (e, inr (g, less))) (inr (f, inl more)) = absurd (omega arith)
+cheaper-dearer a b c x y z (inr (e, inr (g, less))) (inr (f, inr (h, more))) = absurd (omega arith)
+
 -- what is dearer than another has no fewer odd phases
 pub dearer-odd : (a b : Counts) → is_dearer a b ≡ true → b.odd ≤ a.odd
 dearer-odd a b h =
@@ -61,6 +89,48 @@ cleanup_cheap read made clean =
     let p = counts_of made.gates in
     let q = counts_of read.gates in
     no_dearer_by-parts p.odd p.two_qubit p.total q.odd q.two_qubit q.total clean.odd clean.two_qubit clean.total
+
+-- ---- what is taken in the place of another
+pub taken-trans : (first second third : Candidate) → IsTakenOver first second → IsTakenOver second third → IsTakenOver first third
+taken-trans first second third (inl same) (inl again) = inl (again ∙ same)
+taken-trans first second third (inl same) (inr less) =
+    inr (subst (λ (best : Candidate). IsCheaper (counts_of third.gates.gates) (counts_of best.gates.gates)) same less)
+taken-trans first second third (inr less) (inl same) =
+    inr (subst (λ (made : Candidate). IsCheaper (counts_of made.gates.gates) (counts_of first.gates.gates)) (sym same) less)
+taken-trans first second third (inr less) (inr more) =
+    let p = counts_of third.gates.gates in
+    let q = counts_of second.gates.gates in
+    let r = counts_of first.gates.gates in
+    inr (cheaper_by-trans p.odd p.two_qubit p.total q.odd q.two_qubit q.total r.odd r.two_qubit r.total more less)
+
+pub taken_cheap : (best made : Candidate) → IsTakenOver best made → IsNoDearerThan made.gates best.gates
+taken_cheap best made (inl same) = subst (λ (b : Candidate). IsNoDearerThan made.gates b.gates) same (inr (refl, inr (refl, le_refl _)))
+taken_cheap best made (inr less) =
+    let p = counts_of made.gates.gates in
+    let q = counts_of best.gates.gates in
+    cheaper-no_dearer p.odd p.two_qubit p.total q.odd q.two_qubit q.total less
+
+taken_at_tie : (best made : Candidate) → IsTakenOver best made → IsNoDearerThan best.gates made.gates → made.gates ≡ best.gates
+taken_at_tie best made (inl same) cheap = ap (λ (c : Candidate). c.gates) same
+taken_at_tie best made (inr less) cheap =
+    let p = counts_of made.gates.gates in
+    let q = counts_of best.gates.gates in
+    absurd (cheaper-dearer p.odd p.two_qubit p.total q.odd q.two_qubit q.total less cheap)
+
+pub best_of_all : {E : Type 0} (read : Circuit) (plain : Candidate) (found : Result Candidate E) → IsPlain read plain.gates
+    → IfOk found (IsTakenOver plain) → IfOk found (λ made. IsNoDearerThanRead read made.gates)
+    → IfOk found (λ made. IsNoDearerThanTeleported read made.gates) → IfOk found (λ made. IsBest read made.gates)
+best_of_all read plain (Err error) is taken than_read than_teleported = tt
+best_of_all read plain (Ok made) is taken than_read than_teleported = record {
+  than_plain = record {
+    plain = plain.gates;
+    is_plain = is;
+    no_dearer = taken_cheap plain made taken;
+    at_tie = taken_at_tie plain made taken;
+  };
+  than_read = than_read;
+  than_teleported = than_teleported;
+}
 
 -- ---- candidates
 -- a circuit by way of another, which is on as many qubits

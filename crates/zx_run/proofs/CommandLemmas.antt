@@ -41,7 +41,7 @@ one_map one other bytes is = record { widths = is.widths; measures = is.measures
 different : (one other : Elementary) (bytes : List ℕ) → IsDifference one other bytes → AreDifferent one other
 different one other bytes (inl is) = inl is.differ
 different one other bytes (inr (inl is)) = inr (inl is.differ)
-different one other bytes (inr (inr is)) = inr (inr is.gates_differ)
+different one other bytes (inr (inr is)) = inr (inr is.differ)
 
 -- what has an output is faultless, and its answer is one that the command may give
 pub output_answers : (command : Command) (left : Option (List ℕ)) (bytes text : List ℕ) → IsOutputFor command left bytes → left ≡ Some text

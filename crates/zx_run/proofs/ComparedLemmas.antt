@@ -1,12 +1,13 @@
 -- What is said of two circuits.
-use Rattle.std.proofs.Common.{◌≡◌, ◌≢◌, ◌≤◌, ◌<◌, ◌+◌, ℕ, List, Bool, true, false, length, map, sym, ap₂, subst, Contains}
+use Rattle.std.proofs.Common.{◌≡◌, ◌≢◌, ◌≤◌, ◌<◌, ◌+◌, ◌∙◌, ℕ, List, Bool, true, false, length, map, sym, ap₂, subst, Contains}
 use Rattle.zx_model.specs.Proportional.{Proportional}
 use Rattle.zx_calculus.specs.Graph.{Graph}
 use Rattle.zx_calculus.specs.Reduced.{IsReduced}
 use Rattle.zx_calculus.specs.Steps.{IsRun}
 use Rattle.zx_gates.specs.declared.elementary.Elementary.{Elementary}
 use Rattle.zx_gates.specs.declared.elementary.Measure.{Measure}
-use Rattle.zx_gates.specs.Circuit.{Circuit, circuit_of, gate_odd_phases}
+use Rattle.zx_gates.specs.Circuit.{Circuit, IsCircuit, circuit_of, gate_odd_phases}
+use Rattle.zx_gates.specs.Elementary.{elementary_odd_phases}
 use Rattle.zx_gates.specs.Lowering.{lowered}
 use Rattle.zx_gates.specs.Maps.{amp}
 use Rattle.zx_peephole.specs.Tidy.{IsTidy}
@@ -16,10 +17,10 @@ use Rattle.zx_reduce.specs.Steps.{step_named}
 use Rattle.zx_extract.specs.Simplified.{gate_bound}
 use Rattle.zx_same.specs.declared.comparing.Sameness.{Sameness}
 use Rattle.zx_same.specs.declared.comparing.Sameness.TheVariants.{Same, NotShown}
-use Rattle.zx_same.specs.Bare.{is_bare}
-use Rattle.zx_same.specs.Comparing.{IfNotShown}
+use Rattle.zx_same.specs.Bare.{has_only_ends, is_bare}
+use Rattle.zx_same.specs.Comparing.{IfNotShown, IsSame}
 use Rattle.zx_same.specs.Inverse.{undone_by}
-use Rattle.zx_run.specs.Comparing.{HaveSameMeasures, IsLeft, circuit_for}
+use Rattle.zx_run.specs.Comparing.{AreProportional, HaveSameMeasures, IsLeft, circuit_for}
 use Rattle.zx_run.specs.TwoTexts.{AreAccepted}
 use Rattle.zx_run.specs.Internal.Verdicts.{HasLeft, IsComparison, IsComparisonOf}
 
@@ -57,6 +58,7 @@ pub left_of_both : (a b : Circuit) (answer : Sameness)
     → IfNotShown (λ left steps end. IsRun (translated (undone_by a b)) (map step_named steps) end) answer
     → IfNotShown (λ left steps end. IsReduced end) answer
     → IfNotShown (λ left steps end. is_bare end ≡ false) answer
+    → IfNotShown (λ left steps end. has_only_ends end ≡ true → Proportional a.qubits a.qubits (amp a.gates) (amp b.gates) → ⊥) answer
     → IfNotShown (λ left steps end. left.qubits ≡ a.qubits) answer
     → IfNotShown (λ left steps end. Proportional a.qubits a.qubits (amp (undone_by a b).gates) (amp left.gates)) answer
     → IfNotShown (λ left steps end. IsTidy left.gates) answer
@@ -64,8 +66,8 @@ pub left_of_both : (a b : Circuit) (answer : Sameness)
     → IfNotShown (λ left steps end. gate_odd_phases left.gates ≤ gate_odd_phases a.gates + gate_odd_phases b.gates) answer
     → IfNotShown (λ left steps end. length left.gates ≤ gate_bound a.qubits (gate_odd_phases a.gates + gate_odd_phases b.gates)) answer
     → IfNotShown (Differ a b) answer
-left_of_both a b Same different run reduced not_bare qubits same_map tidy some odd few = tt
-left_of_both a b (NotShown left trace end) different run reduced not_bare qubits same_map tidy some odd few = (
+left_of_both a b Same different run reduced not_bare decides qubits same_map tidy some odd few = tt
+left_of_both a b (NotShown left trace end) different run reduced not_bare decides qubits same_map tidy some odd few = (
   different,
   record {
     steps = map step_named trace.steps;
@@ -73,6 +75,7 @@ left_of_both a b (NotShown left trace end) different run reduced not_bare qubits
     run = run;
     reduced = reduced;
     not_bare = not_bare;
+    decides = decides;
     qubits = qubits;
     map = same_map;
     tidy = tidy;
@@ -90,6 +93,21 @@ comparison_for text bytes one other true accepted said = record { one = one; oth
 
 -- the circuit of which so many gates are left
 pub left_told : (a b : Circuit) (found : Sameness) (count : ℕ) → HasLeft found count → IfNotShown (Differ a b) found →
-    (left : Circuit) × (count ≡ length left.gates) × (a.gates ≢ b.gates) × IsLeft a b left
+    (left : Circuit) × (count ≡ length left.gates) × (a.gates ≢ b.gates) × IsLeft a b left × IsCircuit left
 left_told a b Same count told differ = absurd told
-left_told a b (NotShown left trace end) count told differ = (left, told, differ.0, differ.1)
+left_told a b (NotShown left trace end) count told differ = (left, told.0, differ.0, differ.1, told.1)
+
+-- two circuits without odd phases have different maps where they aren't shown to be the same
+pub maps_differ : (one other : Elementary) (a b : Circuit) (found : Sameness) (count : ℕ) → HasLeft found count → a ≡ circuit_for one → b ≡ circuit_for other
+    → gate_odd_phases a.gates ≡ elementary_odd_phases one.gates → gate_odd_phases b.gates ≡ elementary_odd_phases other.gates
+    → (gate_odd_phases a.gates ≡ 0 → gate_odd_phases b.gates ≡ 0 → Proportional a.qubits a.qubits (amp a.gates) (amp b.gates) → IsSame found)
+    → elementary_odd_phases one.gates ≡ 0 → elementary_odd_phases other.gates ≡ 0 → AreProportional one other → ⊥
+maps_differ one other a b found count told first second as_one as_other clifford none nothing same =
+    not_same found told
+    (clifford (as_one ∙ none) (as_other ∙ nothing)
+    (subst (λ (y : Circuit). Proportional a.qubits a.qubits (amp a.gates) (amp y.gates)) (sym second)
+    (subst (λ (x : Circuit). Proportional x.qubits x.qubits (amp x.gates) (amp (circuit_for other).gates)) (sym first) same)))
+  where
+    not_same : (found : Sameness) → HasLeft found count → IsSame found → ⊥
+    not_same Same told is = told
+    not_same (NotShown left trace end) told is = subst (IfNotShown (λ left steps end. ⊥)) (sym is) tt

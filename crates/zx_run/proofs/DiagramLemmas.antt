@@ -9,7 +9,7 @@ use Rattle.zx_run.specs.declared.status.Fault.{Fault}
 use Rattle.zx_run.specs.declared.status.Fault.TheVariants.{BadLine}
 use Rattle.zx_run.specs.declared.status.Status.{Status}
 use Rattle.zx_run.specs.DiagramFiles.{IsDiagramFile, IsFirstDiagramFault, IsFirstSquareFault, IsSquare}
-use Rattle.zx_run.specs.ErrorAnswers.{answer_to_file_error}
+use Rattle.zx_run.specs.Internal.ErrorAnswers.{answer_to_file_error}
 use Rattle.zx_run.specs.FirstFault.{most_bytes}
 use Rattle.zx_run.specs.Internal.Refusals.{IsRefusalFor}
 

@@ -12,11 +12,12 @@ use Rattle.zx_text.specs.declared.error.TextError.{TextError}
 use Rattle.zx_text.specs.declared.error.TextError.TheVariants as file
 use Rattle.zx_words.specs.declared.words.Command.TheVariants.{Reduce, Flow}
 use Rattle.zx_run.specs.declared.status.Fault.TheVariants.{BadLine}
-use Rattle.zx_run.specs.ErrorAnswers.{answer_to_file_error}
+use Rattle.zx_run.specs.Internal.ErrorAnswers.{answer_to_file_error}
 use Rattle.zx_run.specs.FirstFault.{most_bytes}
 use Rattle.zx_run.specs.FlowFiles.{IsFileOf, IsFirstFileFault, IsReducedFile, fails_line}
 use Rattle.zx_run.specs.declared.written.Written.{Written}
 use Rattle.zx_run.specs.Internal.Answers.{ToldSource, IsOutputOf, IsReadFailure, IsVerdict}
+use Rattle.zx_run.proofs.RefusalLemmas.{all_left}
 
 -- all bytes were read, and are no graph file with a flow
 module _ {A : Type 0} (bytes : List ℕ) (result : Result A TextError) (short : length bytes ≤ most_bytes)
@@ -30,7 +31,11 @@ module _ {A : Type 0} (bytes : List ℕ) (result : Result A TextError) (short : 
     λ text told.
         let bad = bad_line line (subst (λ r. IsErrOf r (file.BadLine line)) (sym is) refl) in
         let first : IsFirstFileFault bytes (BadLine line) = inr (short, (line, bad.1, refl)) in
-        (subst (λ t. IsFirstFileFault t (BadLine line)) (all text told).0 first, λ other. (all text told).1),
+        let read = all text told in (
+          subst (λ t. IsFirstFileFault t (BadLine line)) read.0 first,
+          λ other. read.1,
+          all_left text after.left (subst (λ t. length t ≤ most_bytes) read.0 short) read.1,
+        ),
   )
   file_failed file.TooLong is =
       let long = too_long (subst (λ r. IsErrOf r file.TooLong) (sym is) refl) in absurd (omega (arith, long, short))

@@ -1,5 +1,5 @@
 -- From what is read to what is written for it.
-use Rattle.std.proofs.Common.{◌≡◌, ◌≤◌, ◌<◌, ◌++◌, ℕ, Bool, true, List, length, sym, ap₂, subst, ◌∙◌}
+use Rattle.std.proofs.Common.{◌≡◌, ◌≤◌, ◌<◌, ◌++◌, ℕ, Bool, true, false, List, length, arith, sym, ap₂, subst, ◌∙◌}
 use Rattle.std.specs.List.{All}
 use Rattle.zx_model.specs.Number.{Number}
 use Rattle.zx_model.specs.Phase.{turn}
@@ -26,7 +26,7 @@ use Rattle.qasm_writer.proofs.WrittenLemmas.{IsWritten, is_written, odd_elements
 use Rattle.zx_run.specs.FirstFault.{IsAccepted}
 use Rattle.zx_run.specs.CircuitTexts.{circuit_on, report_if, scalar_if, generation_line, IsOptimisedText, IsTeleportedText, IsGenerationReport}
 use Rattle.zx_extract.specs.Simplified.{gate_bound}
-use Rattle.zx_run.specs.Optimising.{counts_of, IsMapTimes, Optimises, Teleports, IsBest}
+use Rattle.zx_run.specs.Optimising.{counts_of, IsMapTimes, Optimises, Teleports, IsBest, IsPlain}
 
 pub same_circuit : (c : Circuit) (qubits : ℕ) (gates : List Gate) → c.qubits ≡ qubits → c.gates ≡ gates → c ≡ circuit_on qubits gates
 same_circuit c qubits gates same_qubits same_gates = ap₂ circuit_on same_qubits same_gates
@@ -75,11 +75,12 @@ IsOptimisedText-lowered : (best reported scaled : Bool) (text bytes : List ℕ) 
     → Proportional read.qubits read.qubits (amp_elementary read.gates) (amp (lowered read.gates))
     → gate_odd_phases (lowered read.gates) ≡ elementary_odd_phases read.gates
     → Optimises (circuit_on read.qubits (lowered read.gates)) circuit
+    → (best ≡ false → IsPlain (circuit_on read.qubits (lowered read.gates)) circuit)
     → (best ≡ true → IsBest (circuit_on read.qubits (lowered read.gates)) circuit) → IsCircuit circuit → AreBehind circuit read.bits read.measured
-    → IsScaled read.qubits read.qubits (amp_elementary read.gates) factor (amp_elementary (elements_of circuit.gates))
+    → IsScaled read.qubits read.qubits (amp_elementary read.gates) factor (amp_elementary (elements_of circuit.gates)) → factor.turn < turn
     → bytes ≡ written circuit read.bits read.measured ++ (report_if reported (lowered read.gates) circuit.gates ++ scalar_if scaled factor)
     → IsOptimisedText best reported scaled text bytes
-IsOptimisedText-lowered best reported scaled text bytes read circuit factor accepted map odd better is_best is behind exact spelled =
+IsOptimisedText-lowered best reported scaled text bytes read circuit factor accepted map odd better is_plain is_best is behind exact below spelled =
     let t = IsTextFor-written read circuit better.qubits map odd better.map better.odd is behind in
     record {
       read = read;
@@ -90,11 +91,13 @@ IsOptimisedText-lowered best reported scaled text bytes read circuit factor acce
       means = t.means;
       same_map = t.same_map;
       exact = exact;
+      within_a_turn = below;
       no_more_odd = t.no_more_odd;
       few_gates = subst (λ size. size ≤ gate_bound read.qubits (elementary_odd_phases read.gates)) (sym t.size)
           (subst (λ t. length circuit.gates ≤ gate_bound read.qubits t) odd better.few_gates);
       valid = is;
       optimises = better;
+      is_plain = is_plain;
       is_best = is_best;
     }
 
@@ -102,22 +105,24 @@ pub IsOptimisedText-written : (best reported scaled : Bool) (text bytes : List �
     → IsAccepted text read
     → from.qubits ≡ read.qubits → from.gates ≡ lowered read.gates
     → Proportional read.qubits read.qubits (amp_elementary read.gates) (amp from.gates) → gate_odd_phases from.gates ≡ elementary_odd_phases read.gates
-    → Optimises from circuit → (best ≡ true → IsBest from circuit) → IsCircuit circuit → AreBehind circuit read.bits read.measured
+    → Optimises from circuit → (best ≡ false → IsPlain from circuit) → (best ≡ true → IsBest from circuit) → IsCircuit circuit → AreBehind circuit read.bits read.measured
     → IsScaled read.qubits read.qubits (amp_elementary read.gates) s (amp from.gates) → IsMapTimes from t circuit
     → IsScaled circuit.qubits circuit.qubits (amp_elementary (elements_of circuit.gates)) u (amp circuit.gates) → u.turn < turn
     → factor ≡ quotient_of_scalars (product_of_scalars s t) u
     → bytes ≡ written circuit read.bits read.measured ++ (report_if reported from.gates circuit.gates ++ scalar_if scaled factor)
     → IsOptimisedText best reported scaled text bytes
-IsOptimisedText-written best reported scaled text bytes read from circuit s t u factor accepted same_qubits same_gates map odd better is_best is behind
+IsOptimisedText-written best reported scaled text bytes read from circuit s t u factor accepted same_qubits same_gates map odd better is_plain is_best is behind
     first second third below is_factor spelled =
     let same = same_circuit from read.qubits (lowered read.gates) same_qubits same_gates in
     IsOptimisedText-lowered best reported scaled text bytes read circuit factor accepted
     (subst (λ gates. Proportional read.qubits read.qubits (amp_elementary read.gates) (amp gates)) same_gates map)
     (subst (λ gates. gate_odd_phases gates ≡ elementary_odd_phases read.gates) same_gates odd)
     (subst (λ c. Optimises c circuit) same better)
+    (λ asked. subst (λ c. IsPlain c circuit) same (is_plain asked))
     (λ asked. subst (λ c. IsBest c circuit) same (is_best asked)) is behind
     (exact_factor read.qubits from.qubits circuit.qubits (amp_elementary read.gates) (amp from.gates) (amp circuit.gates)
     (amp_elementary (elements_of circuit.gates)) s t u factor same_qubits (better.qubits ∙ same_qubits) below first second third is_factor)
+    (subst (λ (f : Scalar). f.turn < turn) (sym is_factor) (omega arith))
     (subst (λ gates. bytes ≡ written circuit read.bits read.measured ++ (report_if reported gates circuit.gates ++ scalar_if scaled factor)) same_gates spelled)
 
 -- the text of a circuit with other phases than the lowered one
@@ -155,12 +160,14 @@ measured_behind read circuit is as_many = record {
 
 -- the report of a circuit that optimises the one of a seed
 pub IsGenerationReport-written : (seed qubits gates : ℕ) (bytes : List ℕ) (read made : Circuit)
-    → read.qubits ≡ qubits → read.gates ≡ generated seed qubits gates → Optimises read made
+    → read.qubits ≡ qubits → read.gates ≡ generated seed qubits gates → IsCircuit made → Optimises read made → IsPlain read made
     → bytes ≡ generation_line seed qubits gates ++ report_lines (counts_of read.gates) (counts_of made.gates)
     → IsGenerationReport seed qubits gates bytes
-IsGenerationReport-written seed qubits gates bytes read made same_qubits same_gates better spelled =
+IsGenerationReport-written seed qubits gates bytes read made same_qubits same_gates is better is_plain spelled =
     record {
       made = made;
+      valid = is;
       optimises = subst (λ circuit. Optimises circuit made) (same_circuit read qubits (generated seed qubits gates) same_qubits same_gates) better;
+      is_plain = subst (λ circuit. IsPlain circuit made) (same_circuit read qubits (generated seed qubits gates) same_qubits same_gates) is_plain;
       spelled = subst (λ list. bytes ≡ generation_line seed qubits gates ++ report_lines (counts_of list) (counts_of made.gates)) same_gates spelled;
     }

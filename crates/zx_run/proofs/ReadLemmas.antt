@@ -13,9 +13,10 @@ use Rattle.zx_run.specs.declared.status.Fault.TheVariants.{BadByte, TooDeep, Syn
 use Rattle.zx_run.specs.declared.status.Status.{Status}
 use Rattle.zx_run.specs.declared.status.Status.TheVariants.{Refused}
 use Rattle.zx_run.specs.Internal.Answers.{ToldSource, IsReadFailure}
-use Rattle.zx_run.specs.ErrorAnswers.{answer_to_text_error}
+use Rattle.zx_run.specs.Internal.ErrorAnswers.{answer_to_text_error}
 use Rattle.zx_run.specs.FirstFault.{most_bytes, fault_of, IsAccepted, IsFirstFault}
 use Rattle.zx_run.specs.FirstFault.{IsShortFault, HasDeepParenthesis, HasSyntaxFault, HasWrongStatement}
+use Rattle.zx_run.proofs.RefusalLemmas.{all_left}
 
 pub read_accepted : (text : List ℕ) → length text ≤ most_bytes → (circuit : Elementary)
     → (program : List Placed) × IsProgramText text program × (first_fault most_calls program ≡ None)
@@ -29,8 +30,12 @@ module _ (before after : ToldSource) (well : after.faults ≡ before.faults)
     (all : (text : List ℕ) → before.left ≡ Some text → (length text ≤ most_bytes) × (after.left ≡ Some [])) where
   refused : (fault : Fault) → ((text : List ℕ) → before.left ≡ Some text → IsShortFault text fault)
       → IsReadFailure IsFirstFault before after (Refused fault)
-  refused fault first =
-      (well, λ text told. (inr ((all text told).0, first text told), λ other. (all text told).1))
+  refused fault first = (
+    well,
+    λ text told.
+        let read = all text told in
+        (inr (read.0, first text told), λ other. read.1, all_left text after.left read.0 read.1),
+  )
 
   module _ (error : TextError)
       (bad : (text : List ℕ) → before.left ≡ Some text

@@ -1,32 +1,37 @@
 -- What the answer is where nothing was read, or what was read is refused.
-use Rattle.std.proofs.Common.{◌≡◌, ◌<◌, ℕ, List, [], length, Some, refl, subst}
+use Rattle.std.proofs.Common.{◌≡◌, ◌<◌, ◌≤◌, ◌+◌, ℕ, List, [], length, drop, Option, Some, refl, sym, ap, ◌∙◌, subst, arith}
+use Rattle.std.proofs.lemmas.List.{drop_all}
 use Rattle.zx_io.specs.Causes.{Rose}
 use Rattle.zx_io.specs.declared.errors.ReadError.{ReadError}
 use Rattle.zx_io.specs.declared.errors.ReadError.TheVariants as read
 use Rattle.zx_run.specs.declared.status.Fault.{Fault}
 use Rattle.zx_run.specs.declared.status.Status.{Status}
 use Rattle.zx_run.specs.declared.status.Status.TheVariants.{Done, Refused, Usage, ReadFault, WriteFault, NoMemory, No}
-use Rattle.zx_run.specs.ErrorAnswers.{answer_to_read_error}
+use Rattle.zx_run.specs.Internal.ErrorAnswers.{answer_to_read_error}
 use Rattle.zx_run.specs.FirstFault.{most_bytes}
-use Rattle.zx_run.specs.Internal.Answers.{ToldSource, IsReadFailure}
+use Rattle.zx_run.specs.Internal.Answers.{ToldSource, IsLeftOf, IsReadFailure}
 use Rattle.zx_run.specs.Internal.Refusals.{IsTooLong, IsRefusalFor}
+
+-- nothing follows the bytes of a text that isn't too long
+pub all_left : (text : List ℕ) (left : Option (List ℕ)) → length text ≤ most_bytes → left ≡ Some [] → IsLeftOf text left
+all_left text left short none = none ∙ ap Some (sym (drop_all (most_bytes + 1) text (omega (arith, short))))
 
 -- not all bytes were read
 pub read_failed : (before after : ToldSource) (error : ReadError)
     → (error ≡ read.ReadFault → Rose before.faults after.faults)
-    → (error ≡ read.TooLong → (text : List ℕ) → before.left ≡ Some text → most_bytes < length text)
+    → (error ≡ read.TooLong → (text : List ℕ) → before.left ≡ Some text → (most_bytes < length text) × IsLeftOf text after.left)
     → (error ≡ read.TooLong → after.faults ≡ before.faults) → (error ≡ read.NoMemory → after.faults ≡ before.faults)
     → IsReadFailure IsTooLong before after (answer_to_read_error error)
 read_failed before after read.ReadFault rose long well no_memory = rose refl
 read_failed before after read.TooLong rose long well no_memory =
-    (well refl, λ text told. ((long refl text told, refl), λ other. absurd (other refl)))
+    (well refl, λ text told. (((long refl text told).0, refl), λ other. absurd (other refl), (long refl text told).1))
 read_failed before after read.NoMemory rose long well no_memory = no_memory refl
 
 -- a fault for one reason is one for another
 pub failed_by : (these those : List ℕ → Fault → Type 0) → ((text : List ℕ) (fault : Fault) → these text fault → those text fault)
     → (before after : ToldSource) (status : Status) → IsReadFailure these before after status → IsReadFailure those before after status
 failed_by these those give before after (Refused fault) why =
-    (why.0, λ text told. (give text fault (why.1 text told).0, (why.1 text told).1))
+    (why.0, λ text told. let w = why.1 text told in (give text fault w.0, w.1, w.2))
 failed_by these those give before after ReadFault why = why
 failed_by these those give before after NoMemory why = why
 failed_by these those give before after Done why = absurd why
@@ -45,14 +50,21 @@ refused_by these those give WriteFault why = absurd why
 refused_by these those give No why = absurd why
 
 -- all bytes were read, and refused
-pub refusal_failed : (first : List ℕ → Fault → Type 0) (bytes : List ℕ) (before after : ToldSource) → after.faults ≡ before.faults
+pub refusal_failed : (first : List ℕ → Fault → Type 0) (bytes : List ℕ) (before after : ToldSource) → length bytes ≤ most_bytes → after.faults ≡ before.faults
     → ((text : List ℕ) → before.left ≡ Some text → (bytes ≡ text) × (after.left ≡ Some []))
     → (status : Status) → IsRefusalFor (first bytes) status → IsReadFailure first before after status
-refusal_failed first bytes before after well all (Refused fault) why =
-    (well, λ text told. (subst (λ t. first t fault) (all text told).0 why, λ other. (all text told).1))
-refusal_failed first bytes before after well all NoMemory why = well
-refusal_failed first bytes before after well all ReadFault why = absurd why
-refusal_failed first bytes before after well all Done why = absurd why
-refusal_failed first bytes before after well all Usage why = absurd why
-refusal_failed first bytes before after well all WriteFault why = absurd why
-refusal_failed first bytes before after well all No why = absurd why
+refusal_failed first bytes before after short well all (Refused fault) why = (
+  well,
+  λ text told.
+      let known = all text told in (
+        subst (λ t. first t fault) known.0 why,
+        λ other. known.1,
+        all_left text after.left (subst (λ t. length t ≤ most_bytes) known.0 short) known.1,
+      ),
+)
+refusal_failed first bytes before after short well all NoMemory why = well
+refusal_failed first bytes before after short well all ReadFault why = absurd why
+refusal_failed first bytes before after short well all Done why = absurd why
+refusal_failed first bytes before after short well all Usage why = absurd why
+refusal_failed first bytes before after short well all WriteFault why = absurd why
+refusal_failed first bytes before after short well all No why = absurd why

@@ -16,7 +16,7 @@ use Rattle.zx_run.specs.declared.status.Fault.TheVariants.{NotSixteenthTurn, Too
 use Rattle.zx_run.specs.declared.status.Fault.TheVariants.{AfterMeasure, BitTwice, TooManyBits, NotSquare, NoSecond}
 use Rattle.zx_run.specs.declared.status.Status.{Status}
 use Rattle.zx_run.specs.declared.status.Status.TheVariants.{Done, Refused, Usage, ReadFault, WriteFault, NoMemory, No}
-use Rattle.zx_run.specs.ErrorAnswers.{answer_to_text_error}
+use Rattle.zx_run.specs.Internal.ErrorAnswers.{answer_to_text_error}
 use Rattle.zx_run.specs.FirstFault.{most_bytes, fault_of, IsAccepted, IsFaultless, IsFirstFault, HasDeepParenthesis, HasSyntaxFault, HasWrongStatement}
 use Rattle.zx_run.specs.TwoTexts.{parting_line, second_place, IsParted, AreTexts, moved, IsFaultOfEither, IsFirstFaultOfTwo, AreAccepted}
 use Rattle.zx_run.specs.Internal.Refusals.{IsFaultFrom, IsRefusalFor, moved_answer, moved_error}

@@ -1,5 +1,5 @@
 -- What `opt`, `teleport` and `gen` may write.
-use Rattle.std.specs.Prelude.{◌≡◌, ◌≤◌, ◌++◌, ℕ, Bool, true, if◌then◌else◌, List, [], codes, decimal}
+use Rattle.std.specs.Prelude.{◌≡◌, ◌≤◌, ◌<◌, ◌++◌, ℕ, Bool, true, false, if◌then◌else◌, List, [], codes, decimal}
 use Rattle.zx_gates.specs.declared.elementary.Elementary.{Elementary}
 use Rattle.zx_gates.specs.declared.gate.Gate.{Gate}
 use Rattle.zx_gates.specs.Circuit.{Circuit, IsCircuit}
@@ -7,6 +7,7 @@ use Rattle.zx_gates.specs.Elementary.{elementary_odd_phases}
 use Rattle.zx_gates.specs.ElementaryMaps.{amp_elementary}
 use Rattle.zx_gates.specs.Lowering.{lowered}
 use Rattle.zx_gen.specs.Generator.{generated}
+use Rattle.zx_model.specs.Phase.{turn}
 use Rattle.zx_model.specs.Proportional.{Proportional}
 use Rattle.zx_model.specs.Scalar.{IsScaled}
 use Rattle.zx_model.specs.declared.scalar.Scalar.{Scalar}
@@ -16,7 +17,7 @@ use Rattle.qasm_writer.specs.Elements.{elements_of}
 use Rattle.qasm_writer.specs.Written.{written}
 use Rattle.zx_run.specs.FirstFault.{IsAccepted}
 use Rattle.zx_extract.specs.Simplified.{gate_bound}
-use Rattle.zx_run.specs.Optimising.{Optimises, Teleports, IsBest, counts_of}
+use Rattle.zx_run.specs.Optimising.{Optimises, Teleports, IsBest, IsPlain, counts_of}
 
 -- a number of qubits, and gates on them
 abbrev pub circuit_on : ℕ → List Gate → Circuit
@@ -34,8 +35,8 @@ scalar_if asked s = if asked then scalar_line s else []
 -- has no fault, and they are the text of a circuit that optimises the one that is meant, lowered, its report, and the
 -- line of a scalar. That text means, with n qubits and t odd phases in the text that was read, the same linear map up
 -- to a nonzero scalar, with at most t odd phases, and behind it the same measurements, in the same order, into as many
--- bits; the map of the text that was read is exactly the scalar that is told times that of the text that is written.
--- Its program applies at most 4*n*n + 6*n + 3*n*t gates.
+-- bits; the map of the text that was read is exactly the scalar that is told, its turn below 16, times that of the text
+-- that is written. Its program applies at most `gate_bound` gates for n and t.
 pub record IsOptimisedText (best report scalar : Bool) (text bytes : List ℕ) : Type 0 where
   pub read : Elementary
   pub circuit : Circuit
@@ -50,11 +51,13 @@ pub record IsOptimisedText (best report scalar : Bool) (text bytes : List ℕ) :
       (amp_elementary (elements_of circuit.gates))
   pub exact : IsScaled read.qubits read.qubits (amp_elementary read.gates) factor
       (amp_elementary (elements_of circuit.gates))
+  pub within_a_turn : factor.turn < turn
   pub no_more_odd : elementary_odd_phases (elements_of circuit.gates) ≤ elementary_odd_phases read.gates
   pub few_gates : program_size means.program ≤ gate_bound read.qubits (elementary_odd_phases read.gates)
   -- what more is known of the circuit
   pub valid : IsCircuit circuit
   pub optimises : Optimises (circuit_on read.qubits (lowered read.gates)) circuit
+  pub is_plain : best ≡ false → IsPlain (circuit_on read.qubits (lowered read.gates)) circuit
   pub is_best : best ≡ true → IsBest (circuit_on read.qubits (lowered read.gates)) circuit
 
 -- The bytes are what `teleport` may write for a text: the text has no fault, and they are the text of a circuit in
@@ -79,10 +82,12 @@ abbrev pub generation_line : ℕ → ℕ → ℕ → List ℕ
 generation_line seed qubits gates =
     codes "// gen " ++ decimal seed ++ codes " " ++ decimal qubits ++ codes " " ++ decimal gates ++ codes "\n"
 
--- the bytes are what `gen` may write: its words, and the report of the circuit of the seed and of one that
--- optimises it
+-- the bytes are what `gen` may write: its words, and the report of two circuits, that of the seed and what `opt` makes
+-- of it
 pub record IsGenerationReport (seed qubits gates : ℕ) (bytes : List ℕ) : Type 0 where
   pub made : Circuit
+  pub valid : IsCircuit made
   pub optimises : Optimises (circuit_on qubits (generated seed qubits gates)) made
+  pub is_plain : IsPlain (circuit_on qubits (generated seed qubits gates)) made
   pub spelled : bytes ≡ generation_line seed qubits gates
       ++ report_lines (counts_of (generated seed qubits gates)) (counts_of made.gates)

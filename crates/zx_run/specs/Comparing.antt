@@ -1,18 +1,20 @@
 -- What `same` writes for two texts in one.
-use Rattle.std.specs.Prelude.{◌≡◌, ◌≢◌, ◌≤◌, ◌<◌, ◌+◌, ◌↔◌, ◌⊎◌, ℕ, false, List, ◌++◌, length, codes, decimal, Contains}
+use Rattle.std.specs.Prelude.{◌≡◌, ◌≢◌, ◌≤◌, ◌<◌, ◌+◌, ◌↔◌, ◌⊎◌, ℕ, true, false, List, ◌++◌, length, codes, decimal}
+use Rattle.std.specs.Prelude.{Contains}
 use Rattle.zx_model.specs.Proportional.{Proportional}
 use Rattle.zx_calculus.specs.Graph.{Graph}
 use Rattle.zx_calculus.specs.Reduced.{IsReduced}
 use Rattle.zx_calculus.specs.Steps.{Step, IsRun}
 use Rattle.zx_gates.specs.declared.elementary.Elementary.{Elementary}
 use Rattle.zx_gates.specs.declared.elementary.Measure.{Measure}
-use Rattle.zx_gates.specs.Circuit.{Circuit, circuit_of, gate_odd_phases}
+use Rattle.zx_gates.specs.Circuit.{Circuit, IsCircuit, circuit_of, gate_odd_phases}
+use Rattle.zx_gates.specs.Elementary.{elementary_odd_phases}
 use Rattle.zx_gates.specs.Lowering.{lowered}
 use Rattle.zx_gates.specs.Maps.{amp}
 use Rattle.zx_peephole.specs.Tidy.{IsTidy}
 use Rattle.circuit_graph.specs.Translation.{translated}
 use Rattle.zx_extract.specs.Simplified.{gate_bound}
-use Rattle.zx_same.specs.Bare.{is_bare}
+use Rattle.zx_same.specs.Bare.{has_only_ends, is_bare}
 use Rattle.zx_same.specs.Inverse.{undone_by}
 use Rattle.zx_run.specs.declared.status.Status.{Status}
 use Rattle.zx_run.specs.declared.status.Status.TheVariants.{Done, No}
@@ -28,14 +30,15 @@ HaveSameMeasures one other =
     (one.bits ≡ other.bits) × ((measure : Measure) → Contains one.measured measure ↔ Contains other.measured measure)
 
 -- Steps lead from the graph of the first circuit, followed by the inverse of the second, to a reduced graph that isn't
--- just wires. What is left in the end is a circuit of their map that isn't empty, and in which no gates cancel or
--- merge.
+-- just wires; where no vertex of it is interior, the maps differ. What is left in the end is a circuit of their map
+-- that isn't empty, and in which no gates cancel or merge.
 pub record IsLeft (one other : Circuit) (left : Circuit) : Type 0 where
   pub steps : List Step
   pub end : Graph
   pub run : IsRun (translated (undone_by one other)) steps end
   pub reduced : IsReduced end
   pub not_bare : is_bare end ≡ false
+  pub decides : has_only_ends end ≡ true → Proportional one.qubits one.qubits (amp one.gates) (amp other.gates) → ⊥
   pub qubits : left.qubits ≡ one.qubits
   pub map : Proportional one.qubits one.qubits (amp (undone_by one other).gates) (amp left.gates)
   pub tidy : IsTidy left.gates
@@ -60,12 +63,24 @@ pub record IsOfMeasures (one other : Elementary) (bytes : List ℕ) : Type 0 whe
   pub differ : HaveSameMeasures one other → ⊥
   pub spelled : bytes ≡ codes "measures differ\n"
 
+-- one linear map, up to a nonzero scalar
+abbrev pub AreProportional : Elementary → Elementary → Type 0
+AreProportional one other = Proportional one.qubits one.qubits (amp (lowered one.gates)) (amp (lowered other.gates))
+
+-- The lowered gates differ. Where neither circuit has an odd phase, so that both are Clifford circuits, the maps
+-- differ.
+pub record HaveOtherGates (one other : Elementary) : Type 0 where
+  pub gates : lowered one.gates ≢ lowered other.gates
+  pub maps : elementary_odd_phases one.gates ≡ 0 → elementary_odd_phases other.gates ≡ 0 →
+      AreProportional one other → ⊥
+
 -- these agree, but the gates differ, and so many gates are left of both
 pub record IsNotShown (one other : Elementary) (bytes : List ℕ) : Type 0 where
   pub widths : HaveSameWidths one other
   pub measures : HaveSameMeasures one other
-  pub gates_differ : lowered one.gates ≢ lowered other.gates
+  pub differ : HaveOtherGates one other
   pub left : Circuit
+  pub valid : IsCircuit left
   pub is_left : IsLeft (circuit_for one) (circuit_for other) left
   pub spelled : bytes ≡ codes "not shown " ++ (decimal (length left.gates) ++ codes "\n")
 
@@ -73,7 +88,7 @@ pub record IsNotShown (one other : Elementary) (bytes : List ℕ) : Type 0 where
 pub record IsSame (one other : Elementary) (bytes : List ℕ) : Type 0 where
   pub widths : HaveSameWidths one other
   pub measures : HaveSameMeasures one other
-  pub same_map : Proportional one.qubits one.qubits (amp (lowered one.gates)) (amp (lowered other.gates))
+  pub same_map : AreProportional one other
   pub spelled : bytes ≡ codes "same\n"
 
 -- The bytes are what `same` writes with the answer Done for two texts in one.
@@ -99,15 +114,16 @@ pub record IsDifferentText (text bytes : List ℕ) : Type 0 where
 pub record HaveOneMap (one other : Elementary) : Type 0 where
   pub widths : HaveSameWidths one other
   pub measures : HaveSameMeasures one other
-  pub same_map : Proportional one.qubits one.qubits (amp (lowered one.gates)) (amp (lowered other.gates))
+  pub same_map : AreProportional one other
 
--- they differ in qubits, in bits or measurements, or in their lowered gates
+-- they differ in qubits, in bits or measurements, or in their lowered gates, and then in their maps too where neither
+-- has an odd phase
 abbrev pub AreDifferent : Elementary → Elementary → Type 0
 AreDifferent one other =
-    (HaveSameWidths one other → ⊥) ⊎ ((HaveSameMeasures one other → ⊥) ⊎ (lowered one.gates ≢ lowered other.gates))
+    (HaveSameWidths one other → ⊥) ⊎ ((HaveSameMeasures one other → ⊥) ⊎ HaveOtherGates one other)
 
 -- The answer is Done only where the circuits have one map, and No only where they are different; so it is Done where
--- they are equal.
+-- they are equal, and of two Clifford circuits with the same measurements exactly where they have one map.
 abbrev pub IsSamenessVerdict : List ℕ → Status → Type 0
 IsSamenessVerdict text status =
     (one : Elementary) × (other : Elementary) × AreAccepted text one other

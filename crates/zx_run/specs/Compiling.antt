@@ -22,7 +22,7 @@ use Rattle.zx_run.specs.DiagramFiles.{IsDiagramFile, IsSquare}
 -- The bytes are what `compile` may write for a text: the file of a diagram with as many outputs as inputs, whose
 -- graph-like form has a flow, and they are the text of a circuit. That text means, with n inputs and t odd phases in
 -- the graph-like form, the diagram's linear map up to a nonzero scalar, with at most t odd phases and no measurements.
--- Its program applies at most 4*n*n + 6*n + 3*n*t gates.
+-- Its program applies at most `gate_bound` gates for n and t.
 pub record IsCompiledText (text bytes : List ℕ) : Type 0 where
   pub diagram : Diagram
   pub circuit : Circuit

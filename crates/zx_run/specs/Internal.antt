@@ -4,3 +4,4 @@ pub mod Candidates
 pub mod Places
 pub mod Refusals
 pub mod Verdicts
+pub mod ErrorAnswers

@@ -8,5 +8,4 @@ pub mod CircuitTexts
 pub mod FlowFiles
 pub mod Outcome
 pub mod ErrorLine
-pub mod ErrorAnswers
 pub mod Internal

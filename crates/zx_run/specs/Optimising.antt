@@ -4,6 +4,11 @@ use Rattle.std.specs.List.{count_by}
 use Rattle.zx_model.specs.Proportional.{Proportional}
 use Rattle.zx_model.specs.Scalar.{IsScaled}
 use Rattle.zx_model.specs.declared.scalar.Scalar.{Scalar}
+use Rattle.zx_calculus.specs.Counts.{odd_phases}
+use Rattle.zx_calculus.specs.Graph.{Graph}
+use Rattle.zx_calculus.specs.Reduced.{IsReduced}
+use Rattle.zx_calculus.specs.Steps.{Step, IsRun}
+use Rattle.zx_calculus.specs.Sum.{sum}
 use Rattle.zx_gates.specs.declared.gate.Gate.{Gate}
 use Rattle.zx_gates.specs.declared.tally.Counts.{Counts}
 use Rattle.zx_gates.specs.Circuit.{Circuit, gate_odd_phases}
@@ -11,6 +16,7 @@ use Rattle.zx_gates.specs.Counting.{is_h, is_phase, is_cz, is_cx, is_not, is_two
 use Rattle.zx_gates.specs.Maps.{amp}
 use Rattle.circuit_graph.specs.Translation.{translated}
 use Rattle.teleport_circuits.specs.Circuits.{IsSkeleton}
+use Rattle.teleport_circuits.specs.Teleporting.{teleported_gates}
 use Rattle.zx_extract.specs.Simplified.{gate_bound, IsThroughReduced}
 use Rattle.zx_peephole.specs.Tidy.{IsTidy}
 
@@ -37,13 +43,16 @@ pub record Optimises (read made : Circuit) : Type 0 where
   pub reduced : IsThroughReduced (translated read) made
 
 -- The circuit that is made is on as many qubits as the read one, and has its gates in their order, but that phase
--- gates may have other phases or be left out. It has a proportional linear map and no more odd phases.
+-- gates may have other phases or be left out. It has a proportional linear map and no more odd phases. Its phases are
+-- the read ones with those put together that rewrites of the graph bring together: the first gate of such a group gets
+-- their sum, with its own sign, the others 0, and even phases stay.
 pub record Teleports (read made : Circuit) : Type 0 where
   pub qubits : made.qubits ≡ read.qubits
   pub skeleton : IsSkeleton read.gates made.gates
   pub map : Proportional read.qubits read.qubits (amp read.gates) (amp made.gates)
   pub odd : gate_odd_phases made.gates ≤ gate_odd_phases read.gates
   pub reduced : IsThroughReduced (translated read) made
+  pub put_together : made.gates ≡ teleported_gates read reduced.steps reduced.end reduced.run
 
 -- how many gates of each kind there are
 abbrev pub counts_of : List Gate → Counts
@@ -64,6 +73,22 @@ abbrev pub IsNoDearer : Counts → Counts → Type 0
 IsNoDearer a b =
     (a.odd < b.odd) ⊎ ((a.odd ≡ b.odd)
     × ((a.two_qubit < b.two_qubit) ⊎ ((a.two_qubit ≡ b.two_qubit) × (a.total ≤ b.total))))
+
+-- What `opt` makes of a circuit without `--best`, by simplification, extraction and cleanup: rewrites lead from its
+-- graph to a reduced one, and the circuit that is made of that has its map, no more odd phases, and few gates for its
+-- qubits and the graph's odd phases. The read circuit's map is exactly the factor times its own.
+pub record IsPlain (read made : Circuit) : Type 0 where
+  pub steps : List Step
+  pub end : Graph
+  pub run : IsRun (translated read) steps end
+  pub reduced : IsReduced end
+  pub qubits : made.qubits ≡ read.qubits
+  pub same_map : Proportional read.qubits read.qubits (sum end) (amp made.gates)
+  pub factor : Scalar
+  pub exact : IsMapTimes read factor made
+  pub odd : gate_odd_phases made.gates ≤ odd_phases end
+  pub few_gates : length made.gates ≤ gate_bound read.qubits (odd_phases (translated read))
+  pub tidy : IsTidy made.gates
 
 -- what cleanup may make of a circuit
 pub record IsCleaned (read made : Circuit) : Type 0 where
@@ -89,7 +114,15 @@ pub record IsNoDearerThanTeleported (read made : Circuit) : Type 0 where
   pub no_dearer : length teleported.gates ≤ bound_of read →
       IsNoDearer (counts_of made.gates) (counts_of teleported.gates)
 
+-- It is no dearer than what `opt` makes without `--best`; and where that is no dearer either, it is that.
+pub record IsNoDearerThanPlain (read made : Circuit) : Type 0 where
+  pub plain : Circuit
+  pub is_plain : IsPlain read plain
+  pub no_dearer : IsNoDearer (counts_of made.gates) (counts_of plain.gates)
+  pub at_tie : IsNoDearer (counts_of plain.gates) (counts_of made.gates) → made ≡ plain
+
 -- It is no dearer than these candidates.
 pub record IsBest (read made : Circuit) : Type 0 where
+  pub than_plain : IsNoDearerThanPlain read made
   pub than_read : IsNoDearerThanRead read made
   pub than_teleported : IsNoDearerThanTeleported read made

@@ -130,7 +130,8 @@ IsFailed status = (status ≡ ReadFault) ⊎ ((status ≡ WriteFault) ⊎ (statu
 -- the answers of a command that reads the source after which that was read to its end
 abbrev pub SaysEnd : Status → Type 0
 SaysEnd status =
-    (status ≡ Done) ⊎ ((status ≡ No) ⊎ ((fault : Fault) × (fault ≢ TooLong) × (status ≡ Refused fault)))
+    (status ≡ Done) ⊎ ((status ≡ No) ⊎ ((status ≡ WriteFault)
+    ⊎ ((fault : Fault) × (fault ≢ TooLong) × (status ≡ Refused fault))))
 
 -- the answers that `gen` may give
 abbrev pub IsAnswerOfGen : Status → Type 0

@@ -3,7 +3,7 @@
 ghost use Rattle.std.specs.Prelude.{◌≡◌, ◌≤◌, List, ℕ, [], Some, length, IfOk, IfErr, OnOk};
 ghost use Rattle.zx_text.specs.Reading.{most_ends};
 ghost use Rattle.zx_run.specs.DiagramFiles.{IsDiagramFile, IsSquare, IsFirstDiagramFault, IsFirstSquareFault};
-ghost use Rattle.zx_run.specs.ErrorAnswers.{answer_to_file_error};
+ghost use Rattle.zx_run.specs.Internal.ErrorAnswers.{answer_to_file_error};
 ghost use Rattle.zx_run.specs.FirstFault.{most_bytes};
 ghost use Rattle.zx_run.specs.Internal.Answers.{IsReadFailure, told_source};
 ghost use Rattle.zx_run.specs.Internal.Refusals.{IsRefusalFor};

@@ -1,6 +1,6 @@
 //! Circuits through the graph and back.
 
-ghost use Rattle.std.specs.Prelude.{◌≡◌, ◌≤◌, true, length, nat_le, IfOk};
+ghost use Rattle.std.specs.Prelude.{◌≡◌, ◌≤◌, true, false, length, nat_le, IfOk};
 ghost use Rattle.zx_model.specs.Proportional.{Proportional};
 ghost use Rattle.zx_model.specs.Scalar.{IsWithin};
 ghost use Rattle.zx_gates.specs.Circuit.{Circuit, gate_odd_phases};
@@ -8,8 +8,8 @@ ghost use Rattle.zx_gates.specs.Maps.{amp};
 ghost use Rattle.zx_peephole.specs.Tidy.{IsTidy};
 ghost use Rattle.circuit_graph.specs.Translation.{translated};
 ghost use Rattle.zx_extract.specs.Simplified.{gate_bound, IsThroughReduced};
-ghost use Rattle.zx_run.specs.Optimising.{bound_of, most_optimised_root2, IsBest, IsCleaned, IsMapTimes, IsNoDearerThanRead, IsNoDearerThanTeleported};
-ghost use Rattle.zx_run.specs.Internal.Candidates.{is_dearer, most_whole_root2, IsCandidate, IsNoDearerThan, IsTeleportedCleanup, Offers};
+ghost use Rattle.zx_run.specs.Optimising.{bound_of, most_optimised_root2, IsBest, IsCleaned, IsMapTimes, IsNoDearerThanRead, IsNoDearerThanTeleported, IsPlain};
+ghost use Rattle.zx_run.specs.Internal.Candidates.{is_dearer, most_whole_root2, IsCandidate, IsNoDearerThan, IsTakenOver, IsTeleportedCleanup, Offers};
 
 use circuit_graph::translate;
 use std::alloc::{AllocError, Global};
@@ -23,10 +23,11 @@ use zx_teleport::teleport;
 /// The optimised circuit, and the scalar that the read one's linear map is times its own: it has no more odd
 /// phases, and few gates for these and its qubits.
 ///
-/// With `best` there are further candidates, of which those are taken into account that have few enough gates: the read
-/// circuit after cleanup; the one whose phases alone are changed, after cleanup; and two that have pieces of this one and of
-/// the optimised one replaced by smaller circuits. The candidate with the fewest odd phases is taken, then that
-/// with the fewest gates on two qubits, then the shortest.
+/// Without `best` it is the plain one, which simplification of the graph, extraction and cleanup make. With `best` there
+/// are further candidates, of which those are taken into account that have few enough gates: the read circuit after
+/// cleanup; the one whose phases alone are changed, after cleanup; and two that have pieces of this one and of the plain
+/// one replaced by smaller circuits. The candidate with the fewest odd phases is taken, then that with the fewest gates
+/// on two qubits, then the shortest, and the plain one where it is as cheap.
 ///
 /// # Errors
 ///
@@ -46,6 +47,7 @@ pub fn optimise(
     ensures tidy { IfOk result (λ made. IsTidy made.0.gates) }
     ensures few_gates { IfOk result (λ made. length made.0.gates ≤ bound_of read.now) }
     ensures reduced { IfOk result (λ made. IsThroughReduced (translated read.now) made.0) }
+    ensures plain { best ≡ false → IfOk result (λ made. IsPlain read.now made.0) }
     ensures best { best ≡ true → IfOk result (λ made. IsBest read.now made.0) }
 {
     let made = optimised(alloc, read, best)?;
@@ -61,19 +63,21 @@ struct Candidate {
 
 fn optimised(alloc: Global, read: &GateList, best: bool) -> Result<Candidate, AllocError>
     ensures offers { IfOk result (Offers most_optimised_root2 read.now) }
+    ensures plain { best ≡ false → IfOk result (λ made. IsPlain read.now made.gates) }
     ensures best { best ≡ true → IfOk result (λ made. IsBest read.now made.gates) }
 {
-    let simplified = simplified(alloc, read)?;
+    let plain = plain(alloc, read)?;
     if best {
-        best_of(alloc, read, simplified)
+        best_of(alloc, read, plain)
     } else {
-        Ok(simplified)
+        Ok(plain)
     }
 }
 
 // The circuit of the reduced graph, after cleanup.
-fn simplified(alloc: Global, read: &GateList) -> Result<Candidate, AllocError>
-    ensures { IfOk result (Offers most_whole_root2 read.now) }
+fn plain(alloc: Global, read: &GateList) -> Result<Candidate, AllocError>
+    ensures offers { IfOk result (Offers most_whole_root2 read.now) }
+    ensures plain { IfOk result (λ made. IsPlain read.now made.gates) }
 {
     // A circuit has no more qubits than `simplify` takes outputs, and not too many gates.
     prove!(read.qubits() <= 1_024);
@@ -86,17 +90,37 @@ fn simplified(alloc: Global, read: &GateList) -> Result<Candidate, AllocError>
     })
 }
 
-// The best of all candidates.
-fn best_of(alloc: Global, read: &GateList, simplified: Candidate) -> Result<Candidate, AllocError>
-    requires { Offers most_whole_root2 read.now simplified }
+// The best of all candidates: the plain one, or one that is cheaper.
+fn best_of(alloc: Global, read: &GateList, plain: Candidate) -> Result<Candidate, AllocError>
+    requires { Offers most_whole_root2 read.now plain }
     ensures offers { IfOk result (Offers most_optimised_root2 read.now) }
-    ensures best { IfOk result (λ made. IsBest read.now made.gates) }
+    ensures than_plain { IfOk result (IsTakenOver plain) }
+    ensures than_read { IfOk result (λ made. IsNoDearerThanRead read.now made.gates) }
+    ensures than_teleported { IfOk result (λ made. IsNoDearerThanTeleported read.now made.gates) }
 {
-    let shrunk = shrunk(alloc, &simplified)?;
-    let best = cheaper(read, simplified, shrunk);
+    let best = beside_shrunk(alloc, read, plain)?;
     let best = beside_read(read, best)?;
     let best = beside_teleported(alloc, read, best)?;
     Ok(best)
+}
+
+// The cheaper one of the plain circuit and the one with pieces of it replaced, which are looked for where it has less
+// than three quarters of the read one's gates on two qubits alone: else the teleported one is a better start.
+fn beside_shrunk(alloc: Global, read: &GateList, plain: Candidate) -> Result<Candidate, AllocError>
+    requires { Offers most_whole_root2 read.now plain }
+    ensures offers { IfOk result (Offers most_optimised_root2 read.now) }
+    ensures than_plain { IfOk result (IsTakenOver plain) }
+{
+    if !is_worth_shrinking(&plain.gates, read) {
+        return Ok(plain);
+    }
+    let shrunk = shrunk(alloc, &plain)?;
+    Ok(cheaper(read, plain, shrunk))
+}
+
+// Whether a circuit has less than three quarters of another one's gates on two qubits.
+fn is_worth_shrinking(this: &GateList, that: &GateList) -> bool {
+    counts(this).two_qubit / 3 < counts(that).two_qubit / 4
 }
 
 // The candidate with pieces of it replaced by smaller circuits.
@@ -116,6 +140,7 @@ fn shrunk(alloc: Global, candidate: &Candidate) -> Result<Candidate, AllocError>
 fn beside_read(read: &GateList, best: Candidate) -> Result<Candidate, AllocError>
     requires { Offers most_optimised_root2 read.now best }
     ensures offers { IfOk result (Offers most_optimised_root2 read.now) }
+    ensures than_best { IfOk result (IsTakenOver best) }
     ensures than_read { IfOk result (λ made. IsNoDearerThanRead read.now made.gates) }
 {
     let cleaned = cleaned(read)?;
@@ -130,7 +155,7 @@ fn beside_teleported(
 ) -> Result<Candidate, AllocError>
     requires { Offers most_optimised_root2 read.now best }
     ensures offers { IfOk result (Offers most_optimised_root2 read.now) }
-    ensures than_best { IfOk result (λ made. IsNoDearerThan made.gates best.gates) }
+    ensures than_best { IfOk result (IsTakenOver best) }
     ensures than_teleported { IfOk result (λ made. IsNoDearerThanTeleported read.now made.gates) }
 {
     let teleported = teleported(alloc, read)?;
@@ -149,12 +174,12 @@ fn teleported(alloc: Global, read: &GateList) -> Result<Candidate, AllocError>
     Ok(Candidate { gates, scalar })
 }
 
-// A circuit, or a candidate where that is within the bound and cheaper.
+// A candidate, or another one where that is within the bound and cheaper.
 fn cheaper(read: &GateList, best: Candidate, candidate: Candidate) -> Candidate
     requires best { Offers most_optimised_root2 read.now best }
     requires candidate { IsCandidate most_optimised_root2 read.now candidate }
     ensures offers { Offers most_optimised_root2 read.now result }
-    ensures than_best { IsNoDearerThan result.gates best.gates }
+    ensures than_best { IsTakenOver best result }
     ensures than_candidate { length candidate.gates.gates ≤ bound_of read.now →
         IsNoDearerThan result.gates candidate.gates }
 {

@@ -1,11 +1,12 @@
 //! A run of the program, over any source and sinks.
 
-ghost use Rattle.std.specs.Prelude.{◌≡◌, ◌≢◌, ◌⊎◌, List, ℕ, [], None, Some, IfOk, IfErr};
+ghost use Rattle.std.specs.Prelude.{◌≡◌, ◌≢◌, ◌⊎◌, ◌+◌, List, ℕ, [], drop, None, Some, IfOk, IfErr};
 ghost use Rattle.zx_io.specs.Causes.{Rose};
 ghost use Rattle.zx_words.specs.declared.words.Command.{Command};
 ghost use Rattle.zx_words.specs.declared.words.Command.TheVariants.{Optimise, Reduce, Flow, Graph, Compile, Teleport, Same};
 ghost use Rattle.zx_words.specs.Command.{command_in};
 ghost use Rattle.zx_run.specs.declared.status.Fault.{Fault};
+ghost use Rattle.zx_run.specs.FirstFault.{most_bytes};
 ghost use Rattle.zx_run.specs.Outcome.{Gains, GainsNoFor, GainsOutputFor, GainsPrefix, GainsPrefixFor, IsAnswerOfGen, IsGen, IsOrNoMemory};
 ghost use Rattle.zx_run.specs.Outcome.{IsFailed, IsFaultlessFor, IsFirstFaultFor, IsOrFailedRead, LeavesOutput, MayAnswer, ReadsSource, SaysEnd};
 ghost use Rattle.zx_run.specs.ErrorLine.{error_line};
@@ -37,7 +38,7 @@ use zx_words::{Command, command_in};
 /// tells whether it is a flow; `reduce` simplifies the graph along it. `graph` and `compile` read a
 /// diagram, and write its graph-like form, or a circuit for it. `gen` reads nothing, and writes the
 /// report of a circuit from a seed. A line about any other answer than Done and No goes to `err`,
-/// whose failures change nothing.
+/// whose failures change nothing: it is `answer`, and then `report`.
 ///
 /// Want of memory may take the place of Done, No, Usage and a refusal, and of no other answer.
 pub fn run<'a, S: Source, O: Sink, E: Sink>(
@@ -108,6 +109,9 @@ pub fn run<'a, S: Source, O: Sink, E: Sink>(
     ensures read_to_end { (command : Command) (text : List ℕ) →
         command_in words.now ≡ Some command → S.left source.old ≡ Some text →
         ReadsSource command → SaysEnd result → S.left source.new ≡ Some [] }
+    ensures too_long_unread { (command : Command) (text : List ℕ) →
+        command_in words.now ≡ Some command → S.left source.old ≡ Some text →
+        result ≡ Status.Refused Fault.TooLong → S.left source.new ≡ Some (drop (most_bytes + 1) text) }
     ensures out_kept { LeavesOutput result → out.new ≡ out.old }
     ensures err_prefix { GainsPrefix (E.taken err.old) (E.taken err.new) (error_line result) }
     ensures err_whole { ¬ Rose (E.faults err.old) (E.faults err.new) →
@@ -186,6 +190,9 @@ pub fn answer<'a, S: Source, O: Sink>(
     ensures read_to_end { (command : Command) (text : List ℕ) →
         command_in words.now ≡ Some command → S.left source.old ≡ Some text →
         ReadsSource command → SaysEnd result → S.left source.new ≡ Some [] }
+    ensures too_long_unread { (command : Command) (text : List ℕ) →
+        command_in words.now ≡ Some command → S.left source.old ≡ Some text →
+        result ≡ Status.Refused Fault.TooLong → S.left source.new ≡ Some (drop (most_bytes + 1) text) }
     ensures out_kept { LeavesOutput result → out.new ≡ out.old }
 {
     answered(alloc, words, source, out)

@@ -3,7 +3,7 @@
 ghost use Rattle.std.specs.Prelude.{◌≡◌, ◌≤◌, ◌⊎◌, List, ℕ, [], Some, length, IfOk, IfErr, IfSome, OnOk};
 ghost use Rattle.zx_gates.specs.Elementary.{IsElementary};
 ghost use Rattle.zx_run.specs.declared.status.Status.TheVariants.{NoMemory};
-ghost use Rattle.zx_run.specs.ErrorAnswers.{answer_to_text_error};
+ghost use Rattle.zx_run.specs.Internal.ErrorAnswers.{answer_to_text_error};
 ghost use Rattle.zx_run.specs.FirstFault.{most_bytes, IsAccepted};
 ghost use Rattle.zx_run.specs.TwoTexts.{AreAccepted, IsFirstFaultOfTwo};
 ghost use Rattle.zx_run.specs.Internal.Answers.{IsReadFailure, told_source};

@@ -86,7 +86,7 @@ is_odd_phase-inverse n (Cz q r) on = refl
 is_odd_phase-inverse n (Cx control target) on = refl
 is_odd_phase-inverse n (Not q) on = refl
 
-odd-undone : (a b : Circuit) → IsCircuit b → gate_odd_phases (undone_by a b).gates ≡ gate_odd_phases a.gates + gate_odd_phases b.gates
+pub odd-undone : (a b : Circuit) → IsCircuit b → gate_odd_phases (undone_by a b).gates ≡ gate_odd_phases a.gates + gate_odd_phases b.gates
 odd-undone a b is =
     sum_by-append (λ gate. cond (is_odd_phase gate) 1 0) a.gates (inverse_of b.gates)
     ∙ ap (λ k. gate_odd_phases a.gates + k) (count-inverse b.qubits is_odd_phase (is_odd_phase-inverse b.qubits) b.gates is.on_qubits)

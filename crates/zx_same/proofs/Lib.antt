@@ -6,3 +6,7 @@ mod BareGraphs
 mod GateEquality
 mod WireWalks
 mod Comparisons
+mod EndTransforms
+mod Meetings
+mod IdentityGraphs
+mod Deciding

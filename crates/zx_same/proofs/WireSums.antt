@@ -9,7 +9,8 @@ use Rattle.zx_model.proofs.Domain.{mul-nonzero}
 use Rattle.zx_model.proofs.Ring.{expand, sorted, mul-sign, one_nonzero, two_nonzero}
 use Rattle.zx_model.proofs.SumLemmas.{labelled-same, labelled-other, sum_over_same, sum_over_mul}
 use Rattle.zx_calculus.specs.Graph.{End, end_vertices, Distinct}
-use Rattle.zx_calculus.specs.Parity.{masked, quad}
+use Rattle.zx_calculus.specs.Parity.{masked}
+use Rattle.zx_calculus.specs.Internal.Pairs.{quad}
 use Rattle.zx_calculus.specs.Sum.{end_factor, end_product}
 use Rattle.zx_calculus.proofs.Booleans.{parities}
 use Rattle.zx_calculus.proofs.Forms.{quad-labelled, end_product-labelled}

@@ -36,3 +36,7 @@ abbrev pub is_bare : Graph → Bool
 is_bare g =
     list_all (is_bare_vertex g) (ids g.vertices) && (length g.inputs == length g.outputs)
     && list_all (is_bare_wire g) (zip g.inputs g.outputs)
+
+-- no vertex is interior
+abbrev pub has_only_ends : Graph → Bool
+has_only_ends g = list_all (λ v. not (is_interior g v)) (ids g.vertices)

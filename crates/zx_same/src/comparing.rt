@@ -1,6 +1,6 @@
 //! Two circuits compared, by simplifying the one followed by the inverse of the other.
 
-ghost use Rattle.std.specs.Prelude.{◌≡◌, ◌≢◌, ◌≤◌, ◌<◌, ◌↔◌, ◌+◌, ◌==◌, ◌||◌, false, length, map, IsTrue, IfOk};
+ghost use Rattle.std.specs.Prelude.{◌≡◌, ◌≢◌, ◌≤◌, ◌<◌, ◌↔◌, ◌+◌, ◌==◌, ◌||◌, false, length, map, true, IsTrue, IfOk};
 ghost use Rattle.zx_model.specs.Proportional.{Proportional};
 ghost use Rattle.zx_calculus.specs.Reduced.{IsReduced};
 ghost use Rattle.zx_calculus.specs.Steps.{IsRun};
@@ -10,7 +10,7 @@ ghost use Rattle.zx_peephole.specs.Tidy.{IsTidy};
 ghost use Rattle.zx_reduce.specs.Steps.{step_named};
 ghost use Rattle.circuit_graph.specs.Translation.{translated};
 ghost use Rattle.zx_extract.specs.Simplified.{gate_bound};
-ghost use Rattle.zx_same.specs.Bare.{is_bare};
+ghost use Rattle.zx_same.specs.Bare.{has_only_ends, is_bare};
 ghost use Rattle.zx_same.specs.Comparing.{IfSame, IfNotShown, IsSame};
 ghost use Rattle.zx_same.specs.Internal.Simplifying.{Simplifies};
 ghost use Rattle.zx_same.specs.Inverse.{undone_by};
@@ -61,6 +61,12 @@ pub fn compare(alloc: Global, a: &GateList, b: &GateList) -> Result<Sameness, Al
         IsRun (translated (undone_by a.now b.now)) (map step_named steps) reduced)) }
     ensures reduced { IfOk result (IfNotShown (λ left steps reduced. IsReduced reduced)) }
     ensures not_bare { IfOk result (IfNotShown (λ left steps reduced. is_bare reduced ≡ false)) }
+
+    // Where no vertex of that graph is interior, the maps differ. So circuits without odd phases are told apart.
+    ensures decides { IfOk result (IfNotShown (λ left steps reduced. has_only_ends reduced ≡ true →
+        Proportional a.now.qubits a.now.qubits (amp a.now.gates) (amp b.now.gates) → ⊥)) }
+    ensures clifford { gate_odd_phases a.now.gates ≡ 0 → gate_odd_phases b.now.gates ≡ 0 →
+        Proportional a.now.qubits a.now.qubits (amp a.now.gates) (amp b.now.gates) → IfOk result IsSame }
 
     // What is left has the map of the one circuit followed by the inverse of the other.
     ensures left_qubits { IfOk result (IfNotShown (λ left steps reduced.

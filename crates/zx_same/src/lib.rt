@@ -4,9 +4,18 @@
 //! always where the circuits are the same gates in the same order. Else it tells what is left of the first
 //! circuit followed by the inverse of the second: the steps that it tells lead from the graph of these
 //! gates to the reduced graph that it tells, which isn't just wires; the circuit that it tells has their
-//! map, isn't empty, and nothing in it cancels or merges. That the maps differ then isn't proved.
+//! map, isn't empty, and nothing in it cancels or merges. Where no vertex of that graph is interior, as where
+//! neither circuit has an odd phase, the maps differ then; else that they do isn't proved.
 //! `inverse` gives the gates backwards, each undone. `quotient` tells the number too, where no gate is left:
 //! the map of the first circuit is proved to be so many times that of the second.
+//!
+//! Inside:
+//!
+//! - `inversion`: the gates that undo a circuit.
+//! - `bare`: whether nothing is left of a graph but wires.
+//! - `comparing`: `compare`.
+//! - `division`: `quotient`.
+//! - `laws`: of inverses, and of graphs that are just wires.
 //!
 //! ```rust
 //! match compare(alloc, &circuit, &other)? {
@@ -27,4 +36,4 @@ mod tests;
 pub use comparing::{Sameness, compare};
 pub use division::quotient;
 pub use inversion::inverse;
-pub use laws::{bare_graphs_are_the_identity, inverses_undo_circuits};
+pub use laws::{bare_graphs_are_the_identity, identity_graphs_are_bare, inverses_undo_circuits};

@@ -13,6 +13,17 @@
 //! the graph of the new circuit to the same end, so they are done on that, too: the scalar of the steps
 //! from the first graph over that of the steps from the new one is the scalar between the maps.
 //!
+//! Inside:
+//!
+//! - `notes`: the steps of simplification done once more on the first graph, and of each which
+//!   phases it negates and where that of a vertex goes which goes itself.
+//! - `fates`: backwards through the notes, who holds the phase of each vertex at the end, and
+//!   whether negated.
+//! - `groups`: the sum and the first gate of each group, from the last gate to the first, and the
+//!   circuit with the new phases.
+//! - `teleporting`: `teleport`.
+//! - `scalars`: by which scalar steps change the sum of a graph.
+//!
 //! ```rust
 //! let found = teleport(alloc, &circuit)?;
 //! ```

@@ -14,6 +14,7 @@ ghost use Rattle.gflow_laws.specs.Flow.{IsFlow};
 ghost use Rattle.circuit_graph.specs.Translation.{places, translated};
 ghost use Rattle.teleport_circuits.specs.Circuits.{IsSkeleton};
 ghost use Rattle.teleport_circuits.specs.Teleporting.{teleported_gates};
+ghost use Rattle.zx_teleport.specs.Together.{IsPutTogether};
 ghost use Rattle.zx_reduce.specs.Scaling.{most_exponent};
 ghost use Rattle.zx_reduce.specs.Steps.{step_named};
 ghost use Rattle.zx_teleport.specs.Scalars.{most_teleported_root2};
@@ -67,6 +68,10 @@ pub fn teleport(alloc: Global, read: &GateList) -> Result<Teleported, AllocError
     ensures run { IfOk result (λ found.
         IsRun (translated read.now) (map step_named found.trace.steps) found.reduced.graph) }
     ensures reduced { IfOk result (λ found. IsReduced found.reduced.graph) }
+
+    // The gates are the read ones with the phases that these steps put together.
+    ensures gates { IfOk result (λ found. IsPutTogether read.now
+        (map step_named found.trace.steps) found.reduced.graph found.gates.gates) }
 
     // At most as many phases are odd as in that graph, and as were read.
     ensures odd { IfOk result (λ found.

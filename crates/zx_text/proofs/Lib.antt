@@ -12,3 +12,4 @@ pub mod StopLemmas
 pub mod OutcomeLemmas
 pub mod NumberedLemmas
 pub mod FiledLemmas
+pub mod DecisionLemmas

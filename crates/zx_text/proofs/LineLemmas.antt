@@ -6,7 +6,8 @@ use Rattle.std.proofs.lemmas.Fmt.{decimal_is_IsNumeral}
 use Rattle.zx_calculus.specs.Graph.{Plane, XY, XZ, YZ}
 use Rattle.zx_calculus.proofs.Ids.{by_test, and-left, and-right}
 use Rattle.zx_text.specs.Lines.{Line, VertexLine, EdgeLine, InputLine, OutputLine, FlowLine, OrderLine, CorrectLine, EndLine, parts, plane_name, mark, spelled_line}
-use Rattle.zx_text.specs.Pieces.{pieces, longer, is_small}
+use Rattle.zx_text.specs.Pieces.{pieces, longer}
+use Rattle.zx_text.specs.Internal.SmallNumbers.{is_small}
 use Rattle.zx_text.specs.Internal.Taking.{has_small}
 use Rattle.zx_text.proofs.PieceLemmas.{pieces_some}
 
@@ -14,33 +15,33 @@ use Rattle.zx_text.proofs.PieceLemmas.{pieces_some}
 abbrev pub value : List ℕ → ℕ
 value digits = digits_value 10 digits
 
-abbrev plane_of_name : List ℕ → Plane
+abbrev pub plane_of_name : List ℕ → Plane
 plane_of_name name = if eqb (get_or name 0 0) 89 then YZ else if eqb (get_or name 1 0) 89 then XY else XZ
 
 abbrev pub mark_of_name : List ℕ → Bool
 mark_of_name name = eqb (get_or name 0 0) 104
 
-abbrev vertex_of : List (List ℕ) → Line
+abbrev pub vertex_of : List (List ℕ) → Line
 vertex_of (i ∷ plane ∷ phase ∷ []) = VertexLine (value i) (plane_of_name plane) (value phase)
 vertex_of others = EndLine
 
-abbrev edge_of : List (List ℕ) → Line
+abbrev pub edge_of : List (List ℕ) → Line
 edge_of (a ∷ b ∷ []) = EdgeLine (value a) (value b)
 edge_of others = EndLine
 
-abbrev input_of : List (List ℕ) → Line
+abbrev pub input_of : List (List ℕ) → Line
 input_of (v ∷ m ∷ []) = InputLine (value v) (mark_of_name m)
 input_of others = EndLine
 
-abbrev output_of : List (List ℕ) → Line
+abbrev pub output_of : List (List ℕ) → Line
 output_of (v ∷ m ∷ []) = OutputLine (value v) (mark_of_name m)
 output_of others = EndLine
 
-abbrev correct_of : List (List ℕ) → Line
+abbrev pub correct_of : List (List ℕ) → Line
 correct_of (v ∷ ws) = CorrectLine (value v) (map value ws)
 correct_of [] = EndLine
 
-abbrev line_of : ℕ → ℕ → List (List ℕ) → Line
+abbrev pub line_of : ℕ → ℕ → List (List ℕ) → Line
 line_of first second rest =
     if eqb first 118 then vertex_of rest
     else if eqb first 105 then input_of rest
@@ -51,7 +52,7 @@ line_of first second rest =
     else if eqb second 114 then OrderLine (map value rest)
     else EndLine
 
-abbrev read : List (List ℕ) → Line
+abbrev pub read : List (List ℕ) → Line
 read [] = EndLine
 read (word ∷ rest) = line_of (get_or word 0 0) (get_or word 1 0) rest
 
@@ -71,7 +72,7 @@ pub mark-name : (b : Bool) → mark_of_name (mark b) ≡ b
 mark-name true = refl
 mark-name false = refl
 
-read-parts : (l : Line) → has_small l ≡ true → read (parts l) ≡ l
+pub read-parts : (l : Line) → has_small l ≡ true → read (parts l) ≡ l
 read-parts (VertexLine i plane phase) small =
     ap₂ (λ j k. VertexLine j (plane_of_name (plane_name plane)) k) (value-decimal i (and-left _ _ small)) (value-decimal phase (and-right _ _ small))
     ∙ ap (λ p. VertexLine i p phase) (plane-name plane)

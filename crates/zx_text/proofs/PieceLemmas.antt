@@ -5,7 +5,8 @@ use Rattle.std.proofs.lemmas.Fmt.{parse-decimal}
 use Rattle.std.specs.Str.Parse.{ParsesUnsigned}
 use Rattle.zx_model.specs.Bits.{member}
 use Rattle.zx_calculus.proofs.Ids.{by_test, eqb-self, eqb_comm, or-left, or-right, and-left, and-right}
-use Rattle.zx_text.specs.Pieces.{pieces, longer, is_small}
+use Rattle.zx_text.specs.Pieces.{pieces, longer}
+use Rattle.zx_text.specs.Internal.SmallNumbers.{is_small}
 
 pub none_before : (separator : ℕ) (bs : List ℕ) (n : ℕ) → ((k : ℕ) → k < n → get_or bs k 0 ≡ separator → ⊥)
     → member separator (take n bs) ≡ false

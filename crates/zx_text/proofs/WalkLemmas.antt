@@ -11,7 +11,8 @@ use Rattle.gflow_laws.specs.Flow.{Correction}
 use Rattle.zx_text.specs.Files.{Version, One, Two, unit, non_outputs}
 use Rattle.zx_text.specs.Lines.{Line, VertexLine, EdgeLine, InputLine, OutputLine, FlowLine, OrderLine, CorrectLine, EndLine, parts, plane_name, mark, spelled_line}
 use Rattle.zx_text.specs.Reading.{Wanted}
-use Rattle.zx_text.specs.Pieces.{pieces, is_small}
+use Rattle.zx_text.specs.Pieces.{pieces}
+use Rattle.zx_text.specs.Internal.SmallNumbers.{is_small}
 use Rattle.zx_text.specs.Internal.Taking.{has_small}
 use Rattle.zx_text.specs.Internal.Stepping.{State, InGraph, AtFlow, InSets, Over, step, flow_step, set_step, run, begun, vertices_of, order_fits, set_fits}
 use Rattle.zx_text.specs.Internal.Said.{AreSetsOf, IsSoFar}

@@ -1,4 +1,4 @@
--- Graph files. The form is this project's own; docs/FORMATS.md has it on one page.
+-- Graph files. The form is this project's own; docs/LANGUAGE.md has it on one page.
 use Rattle.std.specs.Prelude.{ℕ, ◌/◌, not, List, [], ◌∷◌, ◌++◌, map, filter, codes, Option, None, Some}
 use Rattle.std.specs.List.{flat_map}
 use Rattle.zx_model.specs.Bits.{member}

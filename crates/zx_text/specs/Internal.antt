@@ -7,3 +7,4 @@ pub mod Parts
 pub mod Readers
 pub mod Said
 pub mod Writing
+pub mod SmallNumbers

@@ -1,4 +1,4 @@
--- The lines of a graph file. The form is this project's own; docs/FORMATS.md has it on one page.
+-- The lines of a graph file. The form is this project's own; docs/LANGUAGE.md has it on one page.
 use Rattle.std.specs.Prelude.{ℕ, Bool, true, false, ◌++◌, List, [], ◌∷◌, map, codes, decimal}
 use Rattle.std.specs.List.{join_with_byte}
 use Rattle.zx_calculus.specs.Graph.{Plane, XY, XZ, YZ}

@@ -1,5 +1,5 @@
 -- A text as the pieces between its separators.
-use Rattle.std.specs.Prelude.{ℕ, ◌^◌, Bool, if◌then◌else◌, ◌==◌, ltb, List, [], ◌∷◌}
+use Rattle.std.specs.Prelude.{ℕ, if◌then◌else◌, ◌==◌, List, [], ◌∷◌}
 
 -- a byte more in front of the first piece
 abbrev pub longer : ℕ → List (List ℕ) → List (List ℕ)
@@ -10,7 +10,3 @@ longer b (piece ∷ others) = (b ∷ piece) ∷ others
 abbrev pub pieces : ℕ → List ℕ → List (List ℕ)
 pieces separator [] = [] ∷ []
 pieces separator (b ∷ bs) = if b == separator then [] ∷ pieces separator bs else longer b (pieces separator bs)
-
--- a number that fits the code's own
-abbrev pub is_small : ℕ → Bool
-is_small n = ltb n (2 ^ 64)

@@ -43,6 +43,13 @@ is_wanted AnyFile table = true
 is_wanted OnlyWithFlow None = false
 is_wanted OnlyWithFlow (Some table) = true
 
+-- the text is a wanted file of some graph
+pub record IsFileText (wanted : Wanted) (text : List ℕ) : Type 0 where
+  pub graph : Graph
+  pub table : Option (List Correction)
+  pub spells : Spells text graph table
+  pub is_wanted : is_wanted wanted table ≡ true
+
 -- some wanted file begins with these bytes
 pub record CanBegin (wanted : Wanted) (bytes : List ℕ) : Type 0 where
   pub graph : Graph

@@ -6,7 +6,8 @@
 //! files, in both versions, and answers the graph and the flow that a file spells; of any other text
 //! it answers the first line that doesn't fit: the lines before it can begin a file, and with it they
 //! can't. `read_graph_with_flow` does so for the files that have a flow. A text spells one graph and
-//! one flow at most, has one bad line at most, and then is no file. `cut`, `next_part`, `last_part`,
+//! one flow at most, has one bad line at most, and then is no file; a text that isn't too long is a
+//! file or has a bad line. `cut`, `next_part`, `last_part`,
 //! `number`, `mark` and `Version` read the parts of a line, for other files of the same form too.
 //!
 //! ```rust
@@ -32,7 +33,9 @@ mod version;
 pub use error::TextError;
 pub use graph_reader::{MOST_BYTES, read_graph, read_graph_with_flow};
 pub use graph_writer::write_graph;
-pub use laws::{files_spell_numbered_graphs, texts_have_one_reading};
+pub use laws::{
+    each_text_is_a_file_or_has_a_bad_line, files_spell_numbered_graphs, texts_have_one_reading,
+};
 pub use line::mark;
 pub use numbers::number;
 pub use pieces::{cut, last_part, next_part};

@@ -7,7 +7,8 @@ ghost use Rattle.zx_calculus.specs.Graph as graph;
 ghost use Rattle.open_graph.specs.Planes.{plane_named};
 ghost use Rattle.zx_text.specs.Lines.{parts, plane_name};
 ghost use Rattle.zx_text.specs.Lines as zx;
-ghost use Rattle.zx_text.specs.Pieces.{pieces, is_small};
+ghost use Rattle.zx_text.specs.Pieces.{pieces};
+ghost use Rattle.zx_text.specs.Internal.SmallNumbers.{is_small};
 ghost use Rattle.zx_text.specs.Internal.Taking.{line_said, has_small};
 
 use crate::numbers::{number, numbers};

@@ -3,7 +3,8 @@
 ghost use Rattle.std.specs.Prelude.{◌≡◌, ◌≤◌, ◌^◌, ℕ, List, [], true, false, map, decimal, IfNone, IfSome, IfOk};
 ghost use Rattle.std.specs.List.{list_all};
 ghost use Rattle.std.specs.Option.{option_map_or};
-ghost use Rattle.zx_text.specs.Pieces.{pieces, is_small};
+ghost use Rattle.zx_text.specs.Pieces.{pieces};
+ghost use Rattle.zx_text.specs.Internal.SmallNumbers.{is_small};
 
 use crate::pieces::next_part;
 use itoa::Buffer;

@@ -6,7 +6,7 @@ use Rattle.clap.specs.Simple.{Shape, new_app}
 use Rattle.clap.proofs.OnLiterals.{clap_on_literals}
 use Rattle.zx_words.specs.declared.words.Command.{Command}
 use Rattle.zx_words.specs.Command.{alone, is_separator, without_end}
-use Rattle.zx_words.specs.Internal.CommandLine.{command_by}
+use Rattle.zx_words.specs.CommandLine.{command_by}
 use Rattle.zx_words.proofs.Levels.{between, level, none_at, one_word, other_word, stray_turn, trailing_next}
 use Rattle.zx_words.proofs.OptAgrees.{kept, leaf}
 

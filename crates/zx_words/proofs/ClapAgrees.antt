@@ -15,7 +15,7 @@ use Rattle.clap.proofs.OnLiterals.{clap_on_literals}
 use Rattle.zx_words.specs.declared.words.Command.{Command}
 use Rattle.zx_words.specs.declared.words.Command.TheVariants.{Reduce, Flow, Graph, Compile, Teleport, Same}
 use Rattle.zx_words.specs.Command.{command_of}
-use Rattle.zx_words.specs.Internal.CommandLine.{zxopt_app, clap_command_of, command_by}
+use Rattle.zx_words.specs.CommandLine.{zxopt_app, clap_command_of, command_by}
 use Rattle.zx_words.proofs.Levels.{IsFault, between, level, not_said, other_word, first_fault, stray_turn, unless_fault}
 use Rattle.zx_words.proofs.OptAgrees.{by_opt, opt_agrees, opt_leaf}
 use Rattle.zx_words.proofs.AloneAgrees.{alone_agrees, alone_leaf, by_name}

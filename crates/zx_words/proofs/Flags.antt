@@ -13,7 +13,7 @@ use Rattle.clap.specs.Kinds.{Kinds, or_else}
 use Rattle.clap.specs.Faults.{defaults_fault}
 use Rattle.clap.specs.declared.parser.matches.ValueSource.TheVariants.{CommandLine, DefaultValue}
 use Rattle.zx_words.specs.Command.{are_flags, flag_words, has}
-use Rattle.zx_words.specs.Internal.CommandLine.{flag_rule, has_flag}
+use Rattle.zx_words.specs.CommandLine.{flag_rule, has_flag}
 use Rattle.zx_words.proofs.Levels.{not_said}
 
 -- ---- flags by their names

@@ -12,7 +12,7 @@ use Rattle.clap.specs.Faults.{step_fault}
 use Rattle.clap.proofs.OnLiterals.{clap_on_literals}
 use Rattle.zx_words.specs.declared.words.Command.{Command}
 use Rattle.zx_words.specs.Command.{generation_of, number_in, without_separator}
-use Rattle.zx_words.specs.Internal.CommandLine.{command_by, gen_app, word_rule, generation_from}
+use Rattle.zx_words.specs.CommandLine.{command_by, gen_app, word_rule, generation_from}
 use Rattle.zx_words.proofs.Levels.{between, first_fault, held, hyphen, level, none_at, one_word, other_word, plain_next}
 use Rattle.zx_words.proofs.Levels.{trailing_next, unless_fault}
 use Rattle.zx_words.proofs.OptAgrees.{leaf}

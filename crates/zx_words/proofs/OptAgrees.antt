@@ -15,7 +15,7 @@ use Rattle.clap.proofs.OnLiterals.{clap_on_literals}
 use Rattle.zx_words.specs.declared.words.Command.{Command}
 use Rattle.zx_words.specs.declared.words.Command.TheVariants.{Optimise}
 use Rattle.zx_words.specs.Command.{are_flags, flag_words, has, is_separator, optimisation_of, without_end}
-use Rattle.zx_words.specs.Internal.CommandLine.{bare, command_by, has_flag, opt_app}
+use Rattle.zx_words.specs.CommandLine.{bare, command_by, has_flag, opt_app}
 use Rattle.zx_words.proofs.Flags.{behind, defaults_unset, flag_known, no_default_fault, once_more, row_known, rows_of}
 use Rattle.zx_words.proofs.Flags.{rule_of, twice, used_rows, word_of, words_of}
 use Rattle.zx_words.proofs.Levels.{IsFault, between, held, level, long_is, none_at, one_word, other_word, stray_turn, unless_fault}

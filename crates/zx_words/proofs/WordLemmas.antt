@@ -14,7 +14,7 @@ use Rattle.clap.specs.declared.builder.command.Command.{Command}
 use Rattle.clap.specs.declared.builder.command.Command.TheOpen.{Command-F}
 use Rattle.clap.proofs.OnLiterals.{clap_on_literals}
 use Rattle.zx_words.specs.Command.{number_in}
-use Rattle.zx_words.specs.Internal.CommandLine.{zxopt_app, bare, number_at, has_flag}
+use Rattle.zx_words.specs.CommandLine.{zxopt_app, bare, number_at, has_flag}
 
 -- ---- numbers
 both : (a b : Bool) → (a && b) ≡ true → (a ≡ true) × (b ≡ true)

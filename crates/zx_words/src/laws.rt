@@ -1,9 +1,10 @@
-//! Worked words.
+//! Worked words, and that the definition of the command is what `clap` states of this command line.
 
-ghost use Rattle.std.specs.Prelude.{◌≡◌, ◌<◌, ◌≤◌, ◌^◌, ℕ, [], ◌∷◌, codes, decimal};
+ghost use Rattle.std.specs.Prelude.{◌≡◌, ◌<◌, ◌≤◌, ◌^◌, ℕ, List, [], ◌∷◌, codes, decimal};
 ghost use Rattle.std.specs.Prelude.{Some, None, true, false};
 ghost use Rattle.zx_words.specs.declared.words.Command.TheVariants.{Optimise, Reduce, Flow, Graph, Compile, Teleport, Same, Generate};
 ghost use Rattle.zx_words.specs.Command.{Text, command_of, number_in};
+ghost use Rattle.zx_words.specs.CommandLine.{clap_command_of};
 
 /// What some words give.
 pub fn worked_words()
@@ -62,4 +63,9 @@ pub fn numbers_are_read_of_their_digits()
         → number_in most (decimal number) ≡ Some number }
     ensures only { (most number : ℕ) (text : Text) → number_in most text ≡ Some number
         → (text ≡ decimal number) × (number ≤ most) }
+{}
+
+/// Whichever the words are, what `clap` states of this command line is the command that is defined without it.
+pub fn clap_agrees()
+    ensures { (words : List Text) → clap_command_of words ≡ command_of words }
 {}

@@ -1,7 +1,8 @@
 //! The words of the command line.
 //!
 //! Proved of `command_in`: it gives the command that the definition makes of the words, or that
-//! they are none; only want of memory is an error.
+//! they are none; only want of memory is an error. In that definition `clap` doesn't occur: the law
+//! `clap_agrees` says that it is what `clap` states of this command line.
 //!
 //! ```rust
 //! let command = command_in(alloc, &["opt", "--best"])?;

@@ -5,9 +5,9 @@ ghost use Rattle.clap.specs.Words.{app_of, found_of, new_app, rule_of, rows_of, 
 ghost use Rattle.clap.specs.Words.{subcommand_rows_of};
 ghost use Rattle.clap.specs.declared.builder.command.Command.TheViews.{out-Command};
 ghost use Rattle.zx_words.specs.Command.{IsWithinLimits, command_in, number_in};
-ghost use Rattle.zx_words.specs.Internal.CommandLine.{bare, flag_rule, word_rule, opt_app, gen_app};
-ghost use Rattle.zx_words.specs.Internal.CommandLine.{zxopt_app, command_by, generation_by};
-ghost use Rattle.zx_words.specs.Internal.CommandLine.{has_flag, number_at};
+ghost use Rattle.zx_words.specs.CommandLine.{bare, flag_rule, word_rule, opt_app, gen_app};
+ghost use Rattle.zx_words.specs.CommandLine.{zxopt_app, command_by, generation_by};
+ghost use Rattle.zx_words.specs.CommandLine.{has_flag, number_at};
 
 use clap::error::ErrorKind;
 use clap::{Arg, ArgAction, ArgMatches};
@@ -19,7 +19,7 @@ use std::alloc::{AllocError, Global};
 pub enum Command {
     /// To optimise the circuit that is read.
     Optimise {
-        /// Whether the read circuit, after cleanup, is a candidate too.
+        /// Whether the best of several circuits is taken, and not only the one from the graph.
         best: bool,
         /// Whether the numbers of gates are told.
         report: bool,

@@ -10,7 +10,7 @@ use std::alloc::{AllocError, Global};
 use std::env;
 use std::process::ExitCode;
 use zx_io::{ReadAdapter, WriteAdapter};
-use zx_run::{Status, run};
+use zx_run::{Status, answer, report};
 
 fn main(rt: HostRuntime) -> ExitCode {
     ExitCode::from(exit_status(run_on_streams(&rt)))
@@ -23,7 +23,8 @@ fn run_on_streams(rt: &HostRuntime) -> Result<Status, NoRun> {
     let mut source = ReadAdapter::new(rt.stdin());
     let mut out = WriteAdapter::new(rt.stdout());
     let mut err = WriteAdapter::new(rt.stderr());
-    Ok(run(rt.alloc(), &texts, &mut source, &mut out, &mut err))
+    let status = answer(rt.alloc(), &texts, &mut source, &mut out);
+    Ok(report(status, &mut err))
 }
 
 // The texts of the words, each whole.

@@ -1,5 +1,5 @@
 -- A translation under way: the graph so far, and the corrections of the spiders that the wires have left.
-use Rattle.std.specs.Prelude.{◌≡◌, ℕ, ◌+◌, ◌<◌, ◌≤◌, ltb, Bool, true, List, [], ◌∷◌, length}
+use Rattle.std.specs.Prelude.{◌≡◌, ℕ, ◌+◌, ◌<◌, ◌≤◌, ltb, Bool, true, List, [], ◌∷◌, ◌++◌, length}
 use Rattle.std.specs.List.{count_by, fold}
 use Rattle.zx_model.specs.Number.{one, mul}
 use Rattle.zx_calculus.specs.Sum.{sum}
@@ -15,7 +15,8 @@ use Rattle.gflow_laws.specs.Flow.{Correction, IsFlow, SameSets}
 use Rattle.gflow_laws.specs.Splits.{split_output_table}
 use Rattle.circuit_laws.specs.Followed.{PeelsAt}
 use Rattle.circuit_laws.specs.Peeling.{IsSpiderPeel, IsPhasePeel, IsEdgePeel, are_plain}
-use Rattle.circuit_graph.specs.Translation.{wires, with_gate, spiders_of, scalar_of, translated}
+use Rattle.circuit_graph.specs.Translation.{wires, with_gate, spiders_of, scalar_of}
+use Rattle.circuit_graph.specs.Translation.{table_from, translated, translated_table}
 
 pub record State : Type 0 where
   pub graph : Graph
@@ -67,6 +68,7 @@ IsRun s (gate ∷ gates) t = (u : State) × IsGateStep s gate u × IsRun u gates
 pub record Comes (s : State) (gates : List Gate) (t : State) : Type 0 where
   pub ready : IsReady t
   pub graph : t.graph ≡ fold with_gate s.graph gates
+  pub table : SameSets t.table (s.table ++ table_from s.graph gates)
   pub map : PeelsAt one t.graph gates s.graph
   pub spiders : length t.graph.vertices ≡ length s.graph.vertices + count_by is_h gates
   pub odd : odd_phases t.graph ≤ odd_phases s.graph + gate_odd_phases gates
@@ -78,6 +80,7 @@ pub record Translates (c : Circuit) (t : State) : Type 0 where
   pub graph : t.graph ≡ translated c
   pub well_formed : WellFormed t.graph
   pub flow : IsFlow t.graph t.table
+  pub table : SameSets t.table (translated_table c)
   pub spiders : length t.graph.vertices ≡ spiders_of c
   pub ids : (u : ℕ) → Live t.graph u → u < length t.graph.vertices
   pub planes : (u : ℕ) → plane_of t.graph u ≡ XY

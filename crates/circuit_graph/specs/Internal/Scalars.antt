@@ -2,7 +2,7 @@
 use Rattle.std.specs.Prelude.{ℕ, ◌+◌, ◌*◌, pos, neg_ℤ, List, count_by}
 use Rattle.zx_model.specs.declared.scalar.Scalar.{Scalar}
 use Rattle.zx_gates.specs.Counting.{is_cx, is_not}
-use Rattle.zx_gates.specs.Lowering.{scalar}
+use Rattle.zx_gates.specs.Internal.Scalars.{scalar}
 use Rattle.zx_gates.specs.declared.gate.Gate.{Gate}
 
 -- how many gates are written out

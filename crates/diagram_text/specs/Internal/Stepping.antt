@@ -8,7 +8,7 @@ use Rattle.zx_diagram.specs.declared.wire.Leg.{Leg}
 use Rattle.zx_diagram.specs.Diagram.{Diagram}
 use Rattle.zx_text.specs.Files.{Version, One, Two, unit}
 use Rattle.zx_text.specs.Reading.{most_ends}
-use Rattle.zx_text.specs.Pieces.{is_small}
+use Rattle.zx_text.specs.Internal.SmallNumbers.{is_small}
 use Rattle.diagram_text.specs.declared.line.Line.{Line}
 use Rattle.diagram_text.specs.declared.line.Line.TheVariants.{Spider, Edge, Input, Output, End}
 use Rattle.diagram_text.specs.declared.reader.Reader.{Reader}

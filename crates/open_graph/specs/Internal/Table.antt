@@ -1,5 +1,5 @@
 -- What private contracts see of a table of slots, and of the row of bits that tells which of its entries are free.
-use Rattle.std.specs.Prelude.{◌≡◌, ◌≢◌, ◌<◌, ◌≤◌, ℕ, true, false, not, List, length, Option, Some, None}
+use Rattle.std.specs.Prelude.{◌≡◌, ◌≢◌, ◌<◌, ◌≤◌, ℕ, false, not, List, length, Option, Some, None}
 use Rattle.std.specs.Prelude.{is_some, IsSome, slice_index_or, slice_set}
 use Rattle.zx_model.specs.Bits.{bit}
 use Rattle.zx_bits.specs.Rows.{BitRow}
@@ -25,10 +25,8 @@ pub record Updates (old new : SlotTable) (id : ℕ) (slot : Option Slot) : Type 
   pub changed : slot_at new id ≡ slot
   pub others : (other : ℕ) → other ≢ id → slot_at new other ≡ slot_at old other
 
--- the row has a bit for each entry at least, any of which can be set without memory, and set are those of the
--- entries without a slot
+-- the row has a bit for each entry at least, and set are those of the entries without a slot
 pub record IsFreeRow (slots : List (Option Slot)) (free : BitRow) : Type 0 where
   pub covers : length slots ≤ length free.bits
-  pub has_room : 0 < length free.bits → free.has_room ≡ true
   pub vacant : (id : ℕ) → id < length slots → bit free.bits id ≡ not (is_some (slice_index_or slots id None))
   pub none_after : (id : ℕ) → length slots ≤ id → bit free.bits id ≡ false

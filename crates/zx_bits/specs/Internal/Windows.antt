@@ -39,15 +39,17 @@ pub record AddsTo (number mask : ℕ) (old new : Window) : Type 0 where
   pub size : length new.words.items ≡ length old.words.items
   pub capacity : new.words.capacity ≡ old.words.capacity
 
--- no bit from a place on is set, and the words end with that of the last place before it
+-- no bit from a place on is set, the words end with that of the last place before it, and there is memory for all
+-- words up to that
 pub record IsWithin (len : ℕ) (w : Window) : Type 0 where
   pub unset : (place : ℕ) → len ≤ place → is_set w place ≡ false
   pub end : 64 * end_of w < len + 64
   pub fits : len < 2 ^ 64
+  pub room : len ≤ 64 * w.words.capacity
 
 -- the row of so many bits
 abbrev pub row_of : ℕ → Window → BitRow
-row_of len w = record { bits = told len (is_set w); has_room = leb len (64 * w.words.capacity) }
+row_of len w = record { bits = told len (is_set w) }
 
 -- the places that are set, by rising number
 abbrev pub places_of : Window → List ℕ

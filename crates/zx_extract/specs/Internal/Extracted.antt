@@ -1,6 +1,8 @@
 -- What gates are to the graph off which they were taken.
-use Rattle.std.specs.Prelude.{◌≡◌, ◌≤◌, ℕ, List, ◌++◌, length}
+use Rattle.std.specs.Prelude.{◌≡◌, ◌≤◌, ℕ, Bool, List, ◌++◌, length}
 use Rattle.std.specs.List.{All}
+use Rattle.zx_model.specs.Constants.{power_of_two}
+use Rattle.zx_model.specs.Number.{mul}
 use Rattle.zx_model.specs.Proportional.{Proportional}
 use Rattle.zx_calculus.specs.Graph.{Graph}
 use Rattle.zx_calculus.specs.Sum.{sum}
@@ -9,8 +11,15 @@ use Rattle.zx_gates.specs.Circuit.{IsOnQubits, gate_odd_phases}
 use Rattle.zx_gates.specs.Maps.{amp}
 use Rattle.zx_gates.specs.declared.gate.Gate.{Gate}
 use Rattle.circuit_laws.specs.Gates.{hadamards_from}
-use Rattle.zx_extract.specs.Extraction.{HasExactMap, most_extracted_gates}
+use Rattle.zx_extract.specs.Extraction.{most_extracted_gates}
 use Rattle.zx_extract.specs.Internal.Leading.{State}
+
+-- The graph's sum is the map of the gates times a power of two, with at most one factor for each vertex
+-- that isn't XY: each phase gadget that stood on outputs alone doubles the sum.
+pub record HasExactMap (doublings : ℕ) (g : Graph) (gates : List Gate) : Type 0 where
+  pub few : doublings ≤ not_XY g
+  pub equal : (x y : List Bool) → length x ≡ length g.inputs → length y ≡ length g.outputs →
+      sum g x y ≡ mul (power_of_two doublings) (amp gates x y)
 
 -- the gates are the circuit of g, whose sum is doubled so often
 pub record IsExtracted (doublings : ℕ) (g : Graph) (gates : List Gate) : Type 0 where

@@ -1,6 +1,6 @@
 -- What a vertex that goes changes in the sets, while its own set still stands.
 use Rattle.std.specs.Prelude.{ℕ, Bool, if◌then◌else◌, ◌==◌, List}
-use Rattle.gflow_laws.specs.Changes.{removal_change}
+use Rattle.gflow_laws.specs.Internal.Changes.{removal_change}
 
 -- the set of u itself stays
 abbrev pub clearing_change : ℕ → List ℕ → ℕ → (ℕ → Bool) → ℕ → Bool

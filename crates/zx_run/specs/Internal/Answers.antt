@@ -1,5 +1,5 @@
 -- What the answer of a run says of the two streams.
-use Rattle.std.specs.Prelude.{◌≡◌, ◌≢◌, ℕ, Bool, true, false, List, [], Option, None, Some}
+use Rattle.std.specs.Prelude.{◌≡◌, ◌≢◌, ◌+◌, ℕ, Bool, true, false, List, [], drop, Option, None, Some}
 use Rattle.zx_calculus.specs.Graph.{Graph}
 use Rattle.gflow_laws.specs.Flow.{Correction, IsFlow}
 use Rattle.zx_io.specs.Causes.{Rose}
@@ -8,6 +8,7 @@ use Rattle.zx_run.specs.declared.status.Status.{Status}
 use Rattle.zx_run.specs.declared.status.Status.TheVariants.{Done, Refused, Usage, ReadFault, WriteFault, NoMemory, No}
 use Rattle.zx_run.specs.declared.status.Fault.{Fault}
 use Rattle.zx_run.specs.declared.status.Fault.TheVariants.{TooLong}
+use Rattle.zx_run.specs.FirstFault.{most_bytes}
 use Rattle.zx_run.specs.FlowFiles.{IsFailureLine}
 use Rattle.zx_run.specs.Outcome.{Gains, GainsPrefix, IsFirstFaultFor, IsNoFor, IsOutputFor, ReadsSource}
 
@@ -61,10 +62,14 @@ pub record IsMade (given : Option Command) (before after : ToldSource) (says_no 
   pub output : IsOutputOf given says_no before.left bytes
   pub all_read : IsAllRead given before after
 
+-- what follows one byte more than a text may have is left of it; of a text that isn't too long, nothing
+abbrev pub IsLeftOf : List ℕ → Option (List ℕ) → Type 0
+IsLeftOf text left = left ≡ Some (drop (most_bytes + 1) text)
+
 -- a text was refused for its first fault, as `first` tells it, and but for one that is too long all was read
 abbrev pub IsRefusedBy : (List ℕ → Fault → Type 0) → Fault → ToldSource → ToldSource → Type 0
 IsRefusedBy first fault before after = (text : List ℕ) → before.left ≡ Some text →
-    first text fault × (fault ≢ TooLong → after.left ≡ Some [])
+    first text fault × (fault ≢ TooLong → after.left ≡ Some []) × IsLeftOf text after.left
 
 -- nothing was read of a source, for this reason
 abbrev pub IsReadFailure : (List ℕ → Fault → Type 0) → ToldSource → ToldSource → Status → Type 0

@@ -1,5 +1,5 @@
 -- Which candidate for the best circuit is taken.
-use Rattle.std.specs.Prelude.{◌≡◌, ◌≤◌, ◌==◌, ◌^◌, ℕ, nat_lt, Bool, if◌then◌else◌}
+use Rattle.std.specs.Prelude.{◌≡◌, ◌<◌, ◌≤◌, ◌==◌, ◌^◌, ◌⊎◌, ℕ, nat_lt, Bool, if◌then◌else◌}
 use Rattle.zx_model.specs.Scalar.{IsWithin}
 use Rattle.zx_gates.specs.declared.tally.Counts.{Counts}
 use Rattle.zx_gates.specs.Circuit.{Circuit, gate_odd_phases}
@@ -36,6 +36,16 @@ pub record Offers (k : ℕ) (read : Circuit) (made : Candidate) : Type 0 where
   pub optimises : Optimises read made.gates
   pub scalar : IsMapTimes read made.scalar made.gates
   pub small : IsWithin k made.scalar
+
+-- fewer odd phases; or as many of them and fewer gates on two qubits; or as many of both and fewer gates in all
+abbrev pub IsCheaper : Counts → Counts → Type 0
+IsCheaper a b =
+    (a.odd < b.odd) ⊎ ((a.odd ≡ b.odd)
+    × ((a.two_qubit < b.two_qubit) ⊎ ((a.two_qubit ≡ b.two_qubit) × (a.total < b.total))))
+
+-- the one candidate is the other, or was taken in its place since it is cheaper
+abbrev pub IsTakenOver : Candidate → Candidate → Type 0
+IsTakenOver best made = (made ≡ best) ⊎ IsCheaper (counts_of made.gates.gates) (counts_of best.gates.gates)
 
 -- a cleanup of a circuit whose phases alone are changed
 pub record IsTeleportedCleanup (read made : Circuit) : Type 0 where

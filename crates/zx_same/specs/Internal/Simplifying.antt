@@ -2,6 +2,7 @@
 use Rattle.std.specs.Prelude.{◌≡◌, ◌≤◌, ℕ, ◌^◌, length, map}
 use Rattle.zx_model.specs.Proportional.{Proportional}
 use Rattle.zx_model.specs.Scalar.{IsScaled, IsWithin}
+use Rattle.zx_calculus.specs.Counts.{odd_phases}
 use Rattle.zx_calculus.specs.Graph.{WellFormed}
 use Rattle.zx_calculus.specs.Reduced.{IsReduced}
 use Rattle.zx_calculus.specs.Steps.{IsRun}
@@ -25,6 +26,8 @@ pub record Simplifies (circuit : Circuit) (made : Simplified) : Type 0 where
   pub reduced : IsReduced made.reduced.graph
   pub well_formed : WellFormed made.reduced.graph
   pub inputs : length made.reduced.graph.inputs ≡ circuit.qubits
+  pub outputs : length made.reduced.graph.outputs ≡ circuit.qubits
+  pub fewer : odd_phases made.reduced.graph ≤ gate_odd_phases circuit.gates
   pub kept : Proportional circuit.qubits circuit.qubits (amp circuit.gates) (sum made.reduced.graph)
   pub qubits : made.gates.qubits ≡ circuit.qubits
   pub map : Proportional circuit.qubits circuit.qubits (amp circuit.gates) (amp made.gates.gates)

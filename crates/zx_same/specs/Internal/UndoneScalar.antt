@@ -3,7 +3,7 @@ use Rattle.std.specs.Prelude.{◌*◌, pos, List}
 use Rattle.std.specs.List.{count_by}
 use Rattle.zx_model.specs.declared.scalar.Scalar.{Scalar}
 use Rattle.zx_gates.specs.Counting.{is_h}
-use Rattle.zx_gates.specs.Lowering.{scalar}
+use Rattle.zx_gates.specs.Internal.Scalars.{scalar}
 use Rattle.zx_gates.specs.declared.gate.Gate.{Gate}
 
 -- H has the matrix 1 1 / 1 -1, so two of them are two times the identity: twice the root of two for each H

@@ -3,7 +3,7 @@ use Rattle.std.specs.Prelude.{Bool, true, ◌&&◌}
 use Rattle.std.specs.List.{list_all}
 use Rattle.open_graph.specs.Planes.{plane_named}
 use Rattle.zx_text.specs.Lines as zx
-use Rattle.zx_text.specs.Pieces.{is_small}
+use Rattle.zx_text.specs.Internal.SmallNumbers.{is_small}
 use Rattle.zx_text.specs.declared.line.Line.{Line}
 use Rattle.zx_text.specs.declared.line.Line.TheVariants.{Vertex, Edge, Input, Output, Flow, Order, Correct, End}
 

@@ -3,7 +3,8 @@ use Rattle.std.proofs.Common.{subst, IsOk}
 use Rattle.std.proofs.lemmas.Bool.{false≢true}
 use Rattle.zx_calculus.specs.Graph.{neighbours}
 use Rattle.zx_calculus.specs.Turns.{quarter_turned}
-use Rattle.zx_calculus.specs.Toggles.{among, changed_in}
+use Rattle.zx_calculus.specs.Toggles.{among}
+use Rattle.zx_calculus.specs.Internal.ChangedKinds.{changed_in}
 use Rattle.zx_calculus.proofs.Allowed.{complement_live, complement_interior}
 use Rattle.zx_calculus.proofs.Toggling.{toggled_live, neighbour_live}
 use Rattle.zx_calculus.proofs.ChangedKinds.{turned_live}

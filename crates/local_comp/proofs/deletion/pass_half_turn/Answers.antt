@@ -2,7 +2,7 @@
 use Rattle.std.proofs.Common.{◌∙◌, ap, ap₂, sym, eqb, eqb-true}
 use Rattle.zx_calculus.specs.Graph.{Kind, neighbours}
 use Rattle.zx_calculus.specs.Turns.{quarter_turned}
-use Rattle.zx_calculus.specs.Toggles.{changed_in}
+use Rattle.zx_calculus.specs.Internal.ChangedKinds.{changed_in}
 use Rattle.zx_calculus.proofs.ChangedKinds.{turned_live}
 use Rattle.local_comp.proofs.GraphSteps.{half_turn_passed, no_half_turn_passed}
 use Rattle.local_comp.proofs.deletion.pass_half_turn.Goals as goal

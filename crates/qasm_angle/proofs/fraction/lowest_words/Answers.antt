@@ -4,7 +4,8 @@ use Rattle.std.specs.Prelude.{int_lt}
 use Rattle.std.proofs.lemmas.Int.{to_z-of_z}
 use mir.Val.{of_z, to_z}
 use mir.Syntax.{w64}
-use Rattle.qasm_angle.specs.Ratio.{largest, signed}
+use Rattle.qasm_angle.specs.Ratio.{largest}
+use Rattle.qasm_angle.specs.Internal.Signs.{signed}
 use Rattle.qasm_angle.proofs.GcdLemmas.{gcd_pos}
 use Rattle.qasm_angle.proofs.RatioLemmas.{are_terms, IsFraction-terms, signed_same, quotient_small}
 use Rattle.qasm_angle.proofs.fraction.lowest_words.Goals as goal

@@ -1,7 +1,7 @@
 -- Up to here the text is cut, and its tokens were added.
 use Rattle.std.proofs.Common.{◌≡◌, ◌-◌, ◌≤◌, ◌++◌, List, length, drop, map}
 use Rattle.qasm_lexer.specs.Tokens.{Lexeme, IsCutUpTo}
-use Rattle.qasm_lexer.specs.TokenLists.{moved}
+use Rattle.qasm_lexer.specs.Internal.Moved.{moved}
 use Rattle.qasm_lexer.proofs.piece_lexer.add_tokens.Given as goal
 
 abbrev pub invariant-loop-done : goal.invariant-loop-done

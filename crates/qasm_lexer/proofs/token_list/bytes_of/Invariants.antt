@@ -1,5 +1,5 @@
 use Rattle.std.proofs.Common.{◌≡◌, ◌+◌, drop}
-use Rattle.qasm_lexer.specs.TokenLists.{count_of}
+use Rattle.qasm_lexer.specs.Internal.Entries.{count_of}
 use Rattle.qasm_lexer.proofs.token_list.bytes_of.Given as goal
 
 abbrev pub invariant-loop-entry : goal.invariant-loop-entry

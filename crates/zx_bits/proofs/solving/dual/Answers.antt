@@ -23,6 +23,6 @@ pub loop-i-preserved : goal.loop-i-preserved
 loop-i-preserved c =
     let start = flipped (zeros c.args.m.now.columns) c.args.column in
     let next : c.loop-i.i ≡ c.loop-i.i - 1 + 1 = omega arith in
-    c.in_ok-even_out.ensures
+    c.even_out.ensures
     ∙ ap (evened c.index-basis-i.result) (c.loop-i.invariant ∙ ap (λ k. dual_of (drop k c.args.basis.now) start) next)
     ∙ dual_more c.args.basis.now (c.loop-i.i - 1) c.index-basis-i.result start (omega arith) c.index-basis-i.is

@@ -1,4 +1,4 @@
--- Where both have a place for a vertex more, in place; else on copies.
+-- Where both have a place for a vertex more, in place without copies.
 use Rattle.std.proofs.Common.{sym, ◌∙◌, true≢false}
 use Rattle.zx_flow.proofs.Answering.{from_ok, no_err}
 use Rattle.zx_boundary.proofs.Spiders.{all_below}
@@ -20,16 +20,10 @@ returns-then-has_place-clause-valid c =
     (returns-then-has_place-clause-has_room c (c.has_place.ensures.value.0 c.if-has_place.true))
     c.split_input_in_place.ensures.rewritten).valid
 
-pub returns-then-has_place-clause-spare : goal.returns-then-has_place-clause-spare
-returns-then-has_place-clause-spare c room =
-    let ok = returns-then-has_place-clause-has_room c room in
-    (from_ok c.split_input_in_place.result ok c.split_input_in_place.ensures.spare, from_ok c.split_input_in_place.result ok c.split_input_in_place.ensures.flow_spare)
+pub returns-then-has_place-clause-keeps_spare : goal.returns-then-has_place-clause-keeps_spare
+returns-then-has_place-clause-keeps_spare c =
+    no_err _ c.split_input_in_place.result
+    (returns-then-has_place-clause-has_room c (c.has_place.ensures.value.0 c.if-has_place.true))
 
 pub returns-clause-has_room : goal.returns-clause-has_room
 returns-clause-has_room c room = absurd (true≢false (sym (c.has_place.ensures.value.1 room) ∙ c.if-has_place.false))
-
-pub returns-clause-spare : goal.returns-clause-spare
-returns-clause-spare c room = absurd (true≢false (sym (c.has_place.ensures.value.1 room) ∙ c.if-has_place.false))
-
-pub returns-clause-reach : goal.returns-clause-reach
-returns-clause-reach c room = absurd (true≢false (sym (c.has_place.ensures.value.1 room) ∙ c.if-has_place.false))

@@ -4,7 +4,7 @@ use Rattle.zx_gates.specs.declared.gate.Gate.{Gate}
 use Rattle.zx_gates.specs.Circuit.{Circuit}
 use Rattle.zx_model.specs.Scalar.{IsScaled}
 use Rattle.zx_model.specs.declared.scalar.Scalar.{Scalar}
-use Rattle.zx_gates.specs.Lowering.{scalar}
+use Rattle.zx_gates.specs.Internal.Scalars.{scalar}
 use Rattle.zx_gates.specs.Maps.{amp}
 use Rattle.zx_peephole.specs.Tidy.{IsTidy}
 use Rattle.zx_peephole.specs.Doubling.{IsDoubled}

@@ -1,5 +1,5 @@
 -- One pass more, and cleanup at the end.
-use Rattle.std.proofs.Common.{◌+◌, ◌*◌, sym, ◌∙◌, subst}
+use Rattle.std.proofs.Common.{◌+◌, ◌*◌, sym, ◌∙◌, subst, arith}
 use Rattle.std.specs.List.{All}
 use Rattle.zx_model.specs.Scalar.{IsWithin}
 use Rattle.zx_model.specs.declared.scalar.Scalar.{Scalar}
@@ -15,55 +15,58 @@ use Rattle.zx_pieces.proofs.passes.shrink.Goals as goal
 
 pub times-scalar-requires : goal.times-scalar-requires
 times-scalar-requires c =
-    small_product c.loop-most.most-index c.loop-most.scalar c.in_ok-next.factor c.loop-most-test.true c.loop-most.invariant.small c.in_ok-next.ensures.small
+    small_product c.loop-number.number c.loop-number.scalar c.in_ok-next.factor
+    (omega (arith, c.loop-number-test.true, c.passes-number-end.ensures)) c.loop-number.invariant.small c.in_ok-next.ensures.small
 
-pub loop-most-preserved : goal.loop-most-preserved
-loop-most-preserved c =
+pub loop-number-preserved : goal.loop-number-preserved
+loop-number-preserved c =
     let n = c.args.circuit.now.qubits in
     let gates = c.args.circuit.now.gates in
-    let made = c.loop-most.made in
+    let made = c.loop-number.made in
     let next = c.in_ok-next.next.gates in
-    let s = c.loop-most.scalar in
+    let s = c.loop-number.scalar in
     let t = c.in_ok-next.factor in
     record {
-      qubits = c.in_ok-next.ensures.qubits ∙ c.loop-most.invariant.qubits;
-      all = replacement-trans n gates made.gates next c.loop-most.invariant.all
-          (subst (λ m. IsReplacement m made.gates next) c.loop-most.invariant.qubits c.in_ok-next.ensures.replacement);
+      qubits = c.in_ok-next.ensures.qubits ∙ c.loop-number.invariant.qubits;
+      all = replacement-trans n gates made.gates next c.loop-number.invariant.all
+          (subst (λ m. IsReplacement m made.gates next) c.loop-number.invariant.qubits c.in_ok-next.ensures.replacement);
       scaled = subst (λ (u : Scalar). AreScaled n gates u next) (sym c.times-scalar.ensures)
-          (scaled_trans n n (amp gates) (amp made.gates) (amp next) s t c.loop-most.invariant.scaled
-          (subst (λ m. AreScaled m made.gates t next) c.loop-most.invariant.qubits c.in_ok-next.ensures.scalar));
-      small = subst (λ (u : Scalar). IsWithin ((c.loop-most.most-index + 1 + 1) * most_root2_of_pass) u) (sym c.times-scalar.ensures)
-          (small_more c.loop-most.most-index s t c.loop-most.invariant.small c.in_ok-next.ensures.small);
+          (scaled_trans n n (amp gates) (amp made.gates) (amp next) s t c.loop-number.invariant.scaled
+          (subst (λ m. AreScaled m made.gates t next) c.loop-number.invariant.qubits c.in_ok-next.ensures.scalar));
+      small = subst (λ (u : Scalar). IsWithin ((c.loop-number.number + 1 + 1) * most_root2_of_pass) u) (sym c.times-scalar.ensures)
+          (small_more c.loop-number.number s t c.loop-number.invariant.small c.in_ok-next.ensures.small);
     }
 
 pub times-scalar-requires-2 : goal.times-scalar-requires-2
 times-scalar-requires-2 c =
-    told_whole c.loop-most.most-index c.loop-most.scalar c.tidy.result c.loop-most.auto.most-index-end c.loop-most.invariant.small c.tidy.ensures.small
+    told_whole c.loop-number.number c.loop-number.scalar c.tidy.result (omega (arith, c.loop-number.auto.number-end, c.passes-number-end.ensures))
+    c.loop-number.invariant.small c.tidy.ensures.small
 
 pub returns-clause-replacement : goal.returns-clause-replacement
 returns-clause-replacement c =
     let n = c.args.circuit.now.qubits in
-    let old = c.loop-most.made.gates in
+    let old = c.loop-number.made.gates in
     let new = c.tidy.new.g.gates in
-    let same = c.loop-most.invariant.qubits in
+    let same = c.loop-number.invariant.qubits in
     let on : All (IsGateOn n) new = subst (λ m. All (IsGateOn m) new) (c.tidy.ensures.qubits ∙ same) c.qubits.ensures.valid.on_qubits in
-    replacement-trans n c.args.circuit.now.gates old new c.loop-most.invariant.all
+    replacement-trans n c.args.circuit.now.gates old new c.loop-number.invariant.all
     (subst (λ m. IsReplacement m old new) same
-    (replaced-cleaned c.loop-most.made.qubits old new (subst (λ m. All (IsGateOn m) new) (sym same) on) c.tidy.ensures.proportional c.tidy.ensures.odd
+    (replaced-cleaned c.loop-number.made.qubits old new (subst (λ m. All (IsGateOn m) new) (sym same) on) c.tidy.ensures.proportional c.tidy.ensures.odd
     c.tidy.ensures.two_qubit c.tidy.ensures.length))
 
 pub returns-clause-scalar : goal.returns-clause-scalar
 returns-clause-scalar c =
     let n = c.args.circuit.now.qubits in
     let gates = c.args.circuit.now.gates in
-    let old = c.loop-most.made.gates in
+    let old = c.loop-number.made.gates in
     let new = c.tidy.new.g.gates in
     let tidied = c.tidy.result in
     subst (λ (u : Scalar). AreScaled n gates u new) (sym c.times-scalar-2.ensures)
-    (scaled_trans n n (amp gates) (amp old) (amp new) c.loop-most.scalar tidied c.loop-most.invariant.scaled
-    (subst (λ m. AreScaled m old tidied new) c.loop-most.invariant.qubits c.tidy.ensures.scaled))
+    (scaled_trans n n (amp gates) (amp old) (amp new) c.loop-number.scalar tidied c.loop-number.invariant.scaled
+    (subst (λ m. AreScaled m old tidied new) c.loop-number.invariant.qubits c.tidy.ensures.scaled))
 
 pub returns-clause-small : goal.returns-clause-small
 returns-clause-small c =
     subst (λ (u : Scalar). IsWithin most_root2_of_passes u) (sym c.times-scalar-2.ensures)
-    (small_whole c.loop-most.most-index c.loop-most.scalar c.tidy.result c.loop-most.auto.most-index-end c.loop-most.invariant.small c.tidy.ensures.small)
+    (small_whole c.loop-number.number c.loop-number.scalar c.tidy.result (omega (arith, c.loop-number.auto.number-end, c.passes-number-end.ensures))
+    c.loop-number.invariant.small c.tidy.ensures.small)

@@ -5,11 +5,11 @@ use Rattle.zx_model.specs.Bits.{member}
 use Rattle.zx_calculus.proofs.Positions.{on_ok}
 use Rattle.gflow_laws.specs.Seen.{seen}
 use Rattle.gflow_laws.specs.Flow.{order_of, set_of}
-use Rattle.gflow_laws.specs.Changes.{AreChanged}
+use Rattle.gflow_laws.specs.Internal.Changes.{AreChanged}
 use Rattle.gflow_laws.proofs.SetChanges.{changed_grows}
 use Rattle.gflow_laws.specs.Correcting.{odd_in}
 use Rattle.gflow_laws.proofs.Views.{Simple-seen}
-use Rattle.zx_flow.specs.Changes.{beside_change}
+use Rattle.zx_flow.specs.Internal.Beside.{beside_change}
 use Rattle.zx_flow.proofs.Beside.{own_kept_beside, beside_same, complement_last}
 use Rattle.zx_pivot.specs.Internal.Stages.{view}
 use Rattle.zx_pivot.proofs.StageLemmas.{plane_of_view}

@@ -2,8 +2,8 @@
 use Rattle.std.proofs.Common.{◌≡◌, take}
 use Rattle.gflow_laws.specs.Seen.{seen}
 use Rattle.gflow_laws.specs.Flow.{order_of, set_of}
-use Rattle.gflow_laws.specs.Changes.{AreChanged}
-use Rattle.zx_flow.specs.Changes.{beside_change}
+use Rattle.gflow_laws.specs.Internal.Changes.{AreChanged}
+use Rattle.zx_flow.specs.Internal.Beside.{beside_change}
 use Rattle.zx_pivot.specs.Internal.Stages.{view}
 use Rattle.zx_pivot.proofs.flow.complement_sets.Given as goal
 

@@ -5,7 +5,7 @@ use Rattle.zx_bits.specs.Sets.{IsBelow}
 use Rattle.zx_calculus.specs.Graph.{Graph, ids, joined, neighbours}
 use Rattle.zx_calculus.specs.Edits.{at_vertex}
 use Rattle.zx_calculus.specs.Turns.{pivoted}
-use Rattle.zx_calculus.specs.Toggles.{with_changed}
+use Rattle.zx_calculus.specs.Internal.ChangedKinds.{with_changed}
 use Rattle.zx_calculus.proofs.Allowed.{pivot_live, pivot_live_too, pivot_joined}
 use Rattle.zx_calculus.proofs.ChangedKinds.{turned_live}
 use Rattle.zx_pivot.specs.Internal.Changes.{IsRewired, half_turned_in}

@@ -4,7 +4,7 @@ use Rattle.zx_calculus.specs.Graph.{Kind}
 use Rattle.zx_calculus.specs.Turns.{pivoted}
 use Rattle.zx_calculus.specs.Edits.{at_vertex}
 use Rattle.zx_calculus.proofs.Edits.{with_kinds-at}
-use Rattle.zx_calculus.specs.Toggles.{with_changed}
+use Rattle.zx_calculus.specs.Internal.ChangedKinds.{with_changed}
 use Rattle.zx_pivot.proofs.graph.pivot_own.Goals as goal
 
 pub returns-clause-own : goal.returns-clause-own

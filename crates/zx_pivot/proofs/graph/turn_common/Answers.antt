@@ -4,7 +4,7 @@ use Rattle.zx_model.specs.Bits.{member}
 use Rattle.zx_calculus.specs.Graph.{Graph, joined, neighbours, WellFormed}
 use Rattle.zx_calculus.specs.Turns.{half_turned}
 use Rattle.zx_calculus.specs.Edits.{at_vertex}
-use Rattle.zx_calculus.specs.Toggles.{with_changed}
+use Rattle.zx_calculus.specs.Internal.ChangedKinds.{with_changed}
 use Rattle.zx_calculus.proofs.Toggling.{member-neighbours}
 use Rattle.zx_calculus.proofs.ChangedKinds.{turned_live}
 use Rattle.zx_bits.specs.Rows.{IsFirstFrom}

@@ -2,7 +2,7 @@
 use Rattle.std.proofs.Common.{◌∙◌, ap}
 use Rattle.zx_calculus.specs.Edits.{at_vertex}
 use Rattle.zx_calculus.specs.Turns.{quarter_turned}
-use Rattle.zx_calculus.specs.Toggles.{with_changed}
+use Rattle.zx_calculus.specs.Internal.ChangedKinds.{with_changed}
 use Rattle.zx_pivot.proofs.Halves.{half_at}
 use Rattle.zx_calculus.proofs.ChangedKinds.{turned_live}
 use Rattle.zx_pivot.proofs.graph.turn_half.Goals as goal

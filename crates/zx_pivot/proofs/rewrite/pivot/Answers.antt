@@ -1,4 +1,4 @@
--- Where both have the reach, in place; else on copies.
+-- Where both have the reach, in place without copies.
 use Rattle.std.proofs.Common.{sym, ◌∙◌, true≢false}
 use Rattle.zx_flow.proofs.Answering.{from_ok, no_err}
 use Rattle.zx_pivot.proofs.rewrite.pivot.Goals as goal
@@ -11,14 +11,9 @@ pub returns-then-has_reach-clause-valid : goal.returns-then-has_reach-clause-val
 returns-then-has_reach-clause-valid c =
     (from_ok c.pivot_in_place.result (c.pivot_in_place.ensures.has_room (c.has_reach.ensures.value.0 c.if-has_reach.true)) c.pivot_in_place.ensures.rewritten).valid
 
-pub returns-then-has_reach-clause-spare : goal.returns-then-has_reach-clause-spare
-returns-then-has_reach-clause-spare c room = from_ok c.pivot_in_place.result (c.pivot_in_place.ensures.has_room room) c.pivot_in_place.ensures.spare
+pub returns-then-has_reach-clause-keeps_spare : goal.returns-then-has_reach-clause-keeps_spare
+returns-then-has_reach-clause-keeps_spare c =
+    no_err _ c.pivot_in_place.result (c.pivot_in_place.ensures.has_room (c.has_reach.ensures.value.0 c.if-has_reach.true))
 
 pub returns-clause-has_room : goal.returns-clause-has_room
 returns-clause-has_room c room = absurd (true≢false (sym (c.has_reach.ensures.value.1 room) ∙ c.if-has_reach.false))
-
-pub returns-clause-spare : goal.returns-clause-spare
-returns-clause-spare c room = absurd (true≢false (sym (c.has_reach.ensures.value.1 room) ∙ c.if-has_reach.false))
-
-pub returns-clause-reach : goal.returns-clause-reach
-returns-clause-reach c room = absurd (true≢false (sym (c.has_reach.ensures.value.1 room) ∙ c.if-has_reach.false))

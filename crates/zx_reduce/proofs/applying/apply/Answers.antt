@@ -6,9 +6,3 @@ use Rattle.zx_reduce.proofs.applying.apply.Goals as goal
 pub returns-in_err-scalar-clause-has_room : goal.returns-in_err-scalar-clause-has_room
 returns-in_err-scalar-clause-has_room c allowed room =
     absurd (false≢true (subst IsOk c.in_err-scalar.was (c.rewrite.ensures.has_room room)))
-
-pub returns-in_err-scalar-clause-places : goal.returns-in_err-scalar-clause-places
-returns-in_err-scalar-clause-places c allowed room = c.rewrite.ensures.places room
-
-pub returns-clause-places : goal.returns-clause-places
-returns-clause-places c allowed room = c.rewrite.ensures.places room

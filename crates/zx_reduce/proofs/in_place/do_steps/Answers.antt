@@ -6,6 +6,7 @@ use Rattle.zx_calculus.specs.Steps.{IsRun}
 use Rattle.zx_reduce.specs.Steps.{step_named}
 use Rattle.zx_reduce.proofs.MovesMade.{begun, next_allowed}
 use Rattle.zx_reduce.proofs.RoomLemmas.{room_for, places_after}
+use Rattle.zx_reduce.proofs.RoomKept.{places_same, places_then, step_keeps_places}
 use Rattle.zx_reduce.proofs.InPlace.{one_done, still_few}
 use Rattle.zx_model.specs.Scalar.{IsWithin}
 use Rattle.zx_calculus.proofs.StepScalars.{step_within}
@@ -20,6 +21,7 @@ loop-step-init c = record {
   flow = c.requires.flow;
   scales = subst (λ t. Scales c.args.g.now.graph 0 t c.args.g.now.graph) (sym c.one-scalar.ensures) (scales_none c.args.g.now.graph);
   places = λ n d places fits stays. places;
+  kept = places_same c.args.g.now c.args.f.now;
 }
 
 pub rewrite-requires-clause-allowed : goal.rewrite-requires-clause-allowed
@@ -40,8 +42,9 @@ loop-step-preserved c =
           let now = c.loop-step.invariant.places n d places fits stays in
           let few = still_few n d c.loop-step.invariant.way fits stays in
           places_after n c.loop-step.g c.loop-step.f c.loop-step.invariant.valid now few (step_named c.step-item.result)
-          c.rewrite.new.g c.rewrite.new.f done.step
-          (c.rewrite.ensures.places (room_for n c.loop-step.g c.loop-step.f c.loop-step.invariant.valid now few (step_named c.step-item.result)));
+          c.rewrite.new.g c.rewrite.new.f done.step c.in_ok-rewrite.ensures.places;
+      kept = places_then c.loop-step.invariant.kept
+          (step_keeps_places (step_named c.step-item.result) c.loop-step.invariant.valid c.loop-step.invariant.flow done c.in_ok-rewrite.ensures.places);
     }
 
 pub times-scalar-requires : goal.times-scalar-requires

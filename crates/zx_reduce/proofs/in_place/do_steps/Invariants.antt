@@ -1,9 +1,10 @@
 -- The steps so far are done, the sum changed by so much, the steps that are left can be done, and there are as many
--- places.
+-- places, of which none was lost.
 use Rattle.std.proofs.Common.{ℕ, ◌+◌, ◌*◌, ◌≤◌, map}
 use Rattle.zx_calculus.specs.Graph.{WellFormed}
 use Rattle.gflow_laws.specs.Flow.{IsFlow}
 use Rattle.zx_reduce.specs.Steps.{step_named}
+use Rattle.zx_reduce.specs.Rooms.{KeepPlaces}
 use Rattle.zx_reduce.specs.Internal.Rooms.{HavePlaces, StaysWithin}
 use Rattle.zx_reduce.specs.Internal.Scaling.{Scales}
 use Rattle.zx_reduce.proofs.InPlace.{AreUnderWay}
@@ -17,4 +18,5 @@ invariant-loop-step l = record {
   scales : Scales l.fn.g.graph (2 * l.step-index) l.scalar l.g.graph;
   places : (n d : ℕ) → HavePlaces n l.fn.g l.fn.f → d + 2 ≤ n → StaysWithin d l.fn.g.graph (map step_named l.steps) →
       HavePlaces n l.g l.f;
+  kept : KeepPlaces l.fn.g l.fn.f l.g l.f;
 }

@@ -64,3 +64,7 @@ returns-clause-places c =
 
 pub returns-clause-spare : goal.returns-clause-spare
 returns-clause-spare c = on_any c.do_steps.result c.in_ok-add_steps.ensures.spare
+
+pub returns-clause-room : goal.returns-clause-room
+returns-clause-room c =
+    on_ok c.do_steps.result (λ kept. record { places = kept; steps = c.in_ok-add_steps.ensures.room }) c.do_steps.ensures.room

@@ -4,6 +4,7 @@ use Rattle.std.proofs.lemmas.Bool.{false≢true}
 use Rattle.zx_reduce.proofs.MoveCounts.{most_moves-move}
 use Rattle.zx_reduce.proofs.MoveEnds.{stuck-reduced}
 use Rattle.zx_reduce.proofs.MovesMade.{gains_none, gains_more}
+use Rattle.zx_reduce.proofs.RoomKept.{room_same, room_then}
 use Rattle.zx_reduce.proofs.InPlace.{room_begins, six_left, room_stays}
 use Rattle.zx_reduce.proofs.Scaling.{scales_begin, one_more_fits, one_more_scales, all_scale}
 use Rattle.zx_reduce.proofs.in_place.reduce_in_place.Goals as goal
@@ -15,6 +16,7 @@ loop-found-init r c = record {
   gains = gains_none c.args.g.now.graph c.args.trace.now.steps c.args.steps.now;
   scales = scales_begin c.args.steps.now c.one-scalar.ensures refl;
   room = room_begins c.args.g.now c.args.f.now c.args.trace.now c.requires.valid;
+  kept = room_same c.args.g.now c.args.f.now c.args.trace.now;
 }
 
 pub times-scalar-requires : goal.times-scalar-requires
@@ -40,6 +42,7 @@ loop-found-preserved r c = record {
       room_stays c.args.g.now c.loop-found.g c.loop-found.f c.loop-found.trace c.in-Some.found c.loop-found.invariant.valid
       c.in-Some.ensures.found left c.make.new.g c.make.new.f c.make.new.trace c.in_ok-make.ensures.gains.run
       (c.in_ok-make.ensures.places _ left.places left.ids) c.in_ok-make.ensures.spare;
+  kept = room_then c.loop-found.invariant.kept c.in_ok-make.ensures.room;
 }
 
 pub returns-in_err-make-clause-has_room : goal.returns-in_err-make-clause-has_room

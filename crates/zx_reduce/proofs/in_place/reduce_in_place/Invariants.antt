@@ -1,9 +1,9 @@
--- So many moves are made, each leaves fewer, the sum changed by so much, and there is room for them.
+-- So many moves are made, each leaves fewer, the sum changed by so much, there is room for them, and none was lost.
 use Rattle.std.proofs.Common.{◌*◌, ◌-◌}
 use Rattle.zx_calculus.specs.Graph.{WellFormed}
 use Rattle.gflow_laws.specs.Flow.{IsFlow}
 use Rattle.zx_reduce.specs.Moving.{most_moves, GainsMoves}
-use Rattle.zx_reduce.specs.Rooms.{HasRoom}
+use Rattle.zx_reduce.specs.Rooms.{HasRoom, KeepRoom}
 use Rattle.zx_reduce.specs.Internal.Scaling.{Scales}
 use Rattle.zx_reduce.proofs.InPlace.{IsRoomLeft}
 use Rattle.zx_reduce.proofs.in_place.reduce_in_place.Given as goal
@@ -15,6 +15,7 @@ invariant-loop-found r l = record {
   gains : GainsMoves l.fn.g.graph l.g.graph l.fn.trace.steps l.trace.steps l.fn.steps l.steps;
   scales : Scales l.fn.g.graph (12 * (l.steps - l.fn.steps)) l.scalar l.g.graph;
   room : HasRoom l.fn.g l.fn.f l.fn.trace → IsRoomLeft l.fn.g l.g l.f l.trace;
+  kept : KeepRoom l.fn.g l.fn.f l.fn.trace l.g l.f l.trace;
 }
 
 abbrev pub decreases-loop-found : goal.decreases-loop-found

@@ -1,7 +1,7 @@
 -- In place where there is room, else on copies; what the moves come to.
 use Rattle.std.proofs.Common.{sym, ◌∙◌, true≢false}
 use Rattle.zx_calculus.proofs.Positions.{on_ok}
-use Rattle.zx_flow.proofs.Answering.{no_err}
+use Rattle.zx_flow.proofs.Answering.{from_ok, no_err}
 use Rattle.zx_reduce.proofs.MovesMade.{gained_run, gained_few_moves, gained_few_steps, gained_ends, gained_keeps}
 use Rattle.zx_reduce.proofs.reduction.reduce.Goals as goal
 
@@ -59,9 +59,10 @@ pub returns-then-has_room-clause-err_counter : goal.returns-then-has_room-clause
 returns-then-has_room-clause-err_counter g c =
     no_err _ c.reduce_in_place.result (c.reduce_in_place.ensures.has_room (c.has_room.ensures.value.0 c.if-has_room.true))
 
-pub returns-then-has_room-clause-err_moves : goal.returns-then-has_room-clause-err_moves
-returns-then-has_room-clause-err_moves g c =
-    no_err _ c.reduce_in_place.result (c.reduce_in_place.ensures.has_room (c.has_room.ensures.value.0 c.if-has_room.true))
+pub returns-then-has_room-clause-room : goal.returns-then-has_room-clause-room
+returns-then-has_room-clause-room g c =
+    from_ok c.reduce_in_place.result (c.reduce_in_place.ensures.has_room (c.has_room.ensures.value.0 c.if-has_room.true))
+    c.reduce_in_place.ensures.room
 
 pub returns-clause-has_room : goal.returns-clause-has_room
 returns-clause-has_room g c room = absurd (true≢false (sym (c.has_room.ensures.value.1 room) ∙ c.if-has_room.false))

@@ -3,7 +3,7 @@ use Rattle.std.proofs.Common.{◌≡◌, ◌++◌, ◌∙◌, ap, codes, decimal
 use Rattle.zx_gates.specs.Circuit.{Circuit}
 use Rattle.zx_run.specs.Comparing.{IsLeft, circuit_for}
 use Rattle.zx_run.specs.Internal.Verdicts.{HasLeft, IsComparisonOf}
-use Rattle.zx_run.proofs.ComparedLemmas.{left_of_both, left_told, lowered_is}
+use Rattle.zx_run.proofs.ComparedLemmas.{left_of_both, left_told, lowered_is, maps_differ}
 use Rattle.zx_run.proofs.comparison.line_about_gates.Goals as goal
 
 pub returns-in_ok-line-in-Some : goal.returns-in_ok-line-in-Some
@@ -18,7 +18,7 @@ returns-in_ok-line-in-Some c =
     let second : b ≡ circuit_for other = lowered_is other b c.in_ok-second.ensures.qubits c.in_ok-second.ensures.list in
     let told : HasLeft c.in_ok-found.found c.in-Some.count = rw c.in-Some.is at c.gates_left-left.ensures.some in
     let kept = left_told a b c.in_ok-found.found c.in-Some.count told (left_of_both a b c.in_ok-found.found said.different_lists said.run
-    said.reduced said.not_bare said.left_qubits said.left_map said.left_tidy said.left_some said.left_odd said.left_few) in
+    said.reduced said.not_bare said.decides said.left_qubits said.left_map said.left_tidy said.left_some said.left_odd said.left_few) in
     let left : Circuit = kept.0 in
     let here : ((circuit_for one).gates ≢ (circuit_for other).gates) × IsLeft (circuit_for one) (circuit_for other) left =
     subst (λ (y : Circuit). ((circuit_for one).gates ≢ y.gates) × IsLeft (circuit_for one) y left) second
@@ -28,8 +28,12 @@ returns-in_ok-line-in-Some c =
     (inr (inr (record {
       widths = c.requires.widths;
       measures = c.requires.measures;
-      gates_differ = here.0;
+      differ = record {
+        gates = here.0;
+        maps = maps_differ one other a b c.in_ok-found.found c.in-Some.count told first second c.in_ok-first.ensures.odd c.in_ok-second.ensures.odd said.clifford;
+      };
       left = left;
+      valid = kept.4;
       is_left = here.1;
       spelled = spelled ∙ ap (λ n. codes "not shown " ++ (decimal n ++ codes "\n")) kept.1;
     })))

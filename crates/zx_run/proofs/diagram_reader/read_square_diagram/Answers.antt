@@ -1,8 +1,9 @@
 -- What fails is the reading of the bytes, or what they say.
-use Rattle.std.proofs.Common.{IfErr, inl, sym, subst, ◌∙◌}
+use Rattle.std.proofs.Common.{◌≤◌, length, IfErr, inl, sym, subst, ◌∙◌}
 use Rattle.std.proofs.lemmas.Result.{err_from_is_err_and, IfErr-weaker}
 use Rattle.zx_run.specs.declared.status.Status.{Status}
 use Rattle.zx_run.specs.DiagramFiles.{IsFirstSquareFault}
+use Rattle.zx_run.specs.FirstFault.{most_bytes}
 use Rattle.zx_run.specs.Internal.Answers.{ToldSource, IsReadFailure, told_source}
 use Rattle.zx_run.specs.Internal.Refusals.{IsTooLong}
 use Rattle.zx_run.proofs.RefusalLemmas.{failed_by, refusal_failed}
@@ -22,6 +23,7 @@ returns-clause-failure g c =
     let before : ToldSource = told_source g.S.Source.left g.S.Source.faults c.args.source.now in
     let after : ToldSource = told_source g.S.Source.left g.S.Source.faults c.read_bytes.new.source in
     IfErr-weaker c.square_diagram_of.result _ _
-    (λ status why. refusal_failed IsFirstSquareFault c.deref.result.now before after c.in_ok-bytes.ensures.reads_well
+    (λ status why. refusal_failed IsFirstSquareFault c.deref.result.now before after
+    (subst (λ bytes. length bytes ≤ most_bytes) (sym c.deref.ensures.value) c.in_ok-bytes.ensures.short) c.in_ok-bytes.ensures.reads_well
     (λ text told. (c.deref.ensures.value ∙ c.in_ok-bytes.ensures.text text told, c.in_ok-bytes.ensures.end text told)) status why)
     c.square_diagram_of.ensures.refusal

@@ -29,6 +29,7 @@ returns-clause-cleanup c =
           reduced = made.reduced;
           odd = made.odd;
         };
+        put_together = made.gates made.run;
       };
       cleanup = record {
         qubits = c.tidy.ensures.qubits;

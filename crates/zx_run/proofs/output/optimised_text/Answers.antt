@@ -19,7 +19,7 @@ returns c = λ text accepted.
     IsOptimisedText-written _ _ _ _ _ c.args.read.now c.in_ok-lowered.lowered circuit c.in_ok-lowered.before c.in_ok-optimised.between c.text_scalar-own.result c.over-scalar.result
     accepted lowered.qubits lowered.list lowered.map lowered.odd
     (record { qubits = made.qubits; map = made.map; odd = made.odd; tidy = made.tidy; few_gates = made.few_gates; reduced = made.reduced })
-    made.best (subst IsCircuit c.optimised.view_is c.optimised.invariant.circuit)
+    made.plain made.best (subst IsCircuit c.optimised.view_is c.optimised.invariant.circuit)
     (measured_behind c.args.read.now circuit c.requires (made.qubits ∙ lowered.qubits))
     lowered.scaled made.scalar c.text_scalar-own.ensures.scaled (subst (λ k. k < turn) c.get.ensures.value c.get.ensures.below_a_turn)
     (c.over-scalar.ensures ∙ ap (λ (s : Scalar). quotient_of_scalars s c.text_scalar-own.result) c.times.ensures)

@@ -3,6 +3,7 @@ use Rattle.std.proofs.Common.{◌≡◌, Some, subst}
 use Rattle.zx_words.specs.Command.{command_in}
 use Rattle.zx_words.specs.declared.words.Command.{Command}
 use Rattle.zx_words.specs.declared.words.Command.TheVariants.{Generate}
+use Rattle.zx_run.specs.declared.status.Fault.TheVariants.{TooLong}
 use Rattle.zx_run.specs.declared.status.Status.{Status}
 use Rattle.zx_run.specs.declared.status.Status.TheVariants.{Done, Refused, WriteFault, No}
 use Rattle.zx_run.specs.Internal.Answers.{Streams, streams, told_source, told_output, IsAnswer}
@@ -97,6 +98,10 @@ returns-clause-complete g c = λ command text given left none.
 pub returns-clause-read_to_end : goal.returns-clause-read_to_end
 returns-clause-read_to_end g c = λ command text given left reads.
     answers.read_to_end command (before g c) (after g c) text left _ (told_of g c command given) reads
+
+pub returns-clause-too_long_unread : goal.returns-clause-too_long_unread
+returns-clause-too_long_unread g c = λ command text given left is.
+    answers.too_long_unread command (before g c) (after g c) text left (told_as g c command (Refused TooLong) given is)
 
 -- ---- of `gen`
 pub returns-clause-gen_answers : goal.returns-clause-gen_answers

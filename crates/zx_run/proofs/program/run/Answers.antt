@@ -21,3 +21,7 @@ returns-clause-complete g c = λ command text given told none.
 pub returns-clause-read_to_end : goal.returns-clause-read_to_end
 returns-clause-read_to_end g c = λ command text given told reads says.
     c.answer-status.ensures.read_to_end command text given told reads (subst SaysEnd c.report.ensures.answer says)
+
+pub returns-clause-too_long_unread : goal.returns-clause-too_long_unread
+returns-clause-too_long_unread g c = λ command text given told is.
+    c.answer-status.ensures.too_long_unread command text given told (sym c.report.ensures.answer ∙ is)

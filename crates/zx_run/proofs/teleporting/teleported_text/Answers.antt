@@ -30,6 +30,7 @@ returns c = λ text accepted.
         reduced = made.reduced;
         odd = made.odd;
       };
+      put_together = made.gates made.run;
     })
     (subst IsCircuit c.gates.view_is c.gates.invariant.circuit)
     (measured_behind c.args.read.now circuit c.requires (made.qubits ∙ lowered.qubits))

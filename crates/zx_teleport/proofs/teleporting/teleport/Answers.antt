@@ -1,10 +1,14 @@
 -- The laws of teleported phases.
-use Rattle.std.proofs.Common.{refl, sym, subst, length}
+use Rattle.std.proofs.Common.{refl, sym, subst, length, map, List}
 use Rattle.zx_model.specs.Scalar.{IsScaled, IsWithin, quotient_of_scalars}
 use Rattle.zx_gates.specs.Maps.{amp}
 use Rattle.zx_teleport.specs.Scalars.{most_teleported_root2}
 use Rattle.zx_teleport.proofs.Results.{skeleton, map_kept, few_odd, fewer_odd, may_run, scalar_kept}
 use Rattle.zx_teleport.proofs.Scaling.{few_done, quotient_small, quotient_fits}
+use Rattle.zx_calculus.specs.Graph.{Graph}
+use Rattle.zx_reduce.specs.Steps.{step_named}
+use Rattle.zx_reduce.specs.declared.step.Step.{Step}
+use Rattle.zx_teleport.specs.Together.{IsPutTogether}
 use Rattle.zx_teleport.proofs.teleporting.teleport.Goals as goal
 
 pub returns-clause-skeleton : goal.returns-clause-skeleton
@@ -54,3 +58,8 @@ returns-clause-small c =
     subst (IsWithin most_teleported_root2) (sym c.over.ensures)
     (quotient_small (length c.in_ok-graph.graph.graph.vertices) c.in_ok-reduced.trace.steps c.as_slice-steps.result.now c.in_ok-reduced.before c.in_ok-after.after
     c.in_ok-check_size.ensures.fits c.as_slice-steps.ensures c.in_ok-reduced.ensures.few_steps c.in_ok-reduced.ensures.small c.in_ok-after.ensures.small)
+
+pub returns-clause-gates : goal.returns-clause-gates
+returns-clause-gates c =
+    subst (λ (steps : List Step). IsPutTogether c.args.read.now (map step_named steps) c.in_ok-reduced.reduced.graph c.in_ok-gates.gates.gates) c.as_slice-steps.ensures
+    (c.in_ok-gates.ensures.gates c.in_ok-reduced.reduced.graph)

@@ -2,7 +2,8 @@
 use Rattle.std.proofs.Common.{◌≡◌, true, ◌+◌, ◌++◌, [], map, length, decimal}
 use Rattle.std.specs.List.{list_all}
 use Rattle.std.specs.Option.{option_map_or}
-use Rattle.zx_text.specs.Pieces.{pieces, is_small}
+use Rattle.zx_text.specs.Pieces.{pieces}
+use Rattle.zx_text.specs.Internal.SmallNumbers.{is_small}
 use Rattle.zx_text.proofs.numbers.numbers.Given as goal
 
 abbrev pub invariant-loop-rest : goal.invariant-loop-rest

@@ -1,7 +1,7 @@
 -- What the parse says of the words is what is stated of them.
 use Rattle.std.proofs.Common.{◌∙◌, ap, map, List, inl, inr}
 use Rattle.clap.specs.Words.{Text, app_of, is_simple, is_simple_and_free}
-use Rattle.zx_words.specs.Internal.CommandLine.{command_by}
+use Rattle.zx_words.specs.CommandLine.{command_by}
 use Rattle.zx_words.proofs.ClapAgrees.{refused, taken}
 use Rattle.zx_words.proofs.WordLemmas.{simple, free}
 use Rattle.zx_words.proofs.words.command_in.Goals as goal

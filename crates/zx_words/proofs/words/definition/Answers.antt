@@ -2,7 +2,7 @@
 use Rattle.std.proofs.Common.{◌≡◌, ◌∙◌, ap, ap₂, codes}
 use Rattle.std.proofs.lemmas.Result.{IfOk-weaker}
 use Rattle.clap.specs.Words.{App, Text, app_of, new_app, with_subcommand}
-use Rattle.zx_words.specs.Internal.CommandLine.{zxopt_app, bare, opt_app}
+use Rattle.zx_words.specs.CommandLine.{zxopt_app, bare, opt_app}
 use Rattle.zx_words.proofs.words.definition.Goals as goal
 
 -- one subcommand more that has no words of its own

@@ -4,10 +4,10 @@ use Rattle.open_graph.proofs.RoomLemmas.{vacant-filled, vacant-append, vacant-no
 use Rattle.open_graph.proofs.TableLemmas.{row_filled, row_pushed, free_within, is_vacant, all_taken}
 use Rattle.open_graph.proofs.slot_table.SlotTable.insert.Goals as goal
 
-pub invariant_of-self-in-Some : goal.invariant_of-self-in-Some
-invariant_of-self-in-Some c =
+pub invariant_of-self : goal.invariant_of-self
+invariant_of-self c =
     let first = rw c.in-Some.is at c.bit_from.ensures in
-    row_filled c.self.inside.entries.items c.self.inside.free c.self.invariant c.flip.new.self c.in-Some.id c.args.slot first.1 c.in_ok-flip.ensures.ok c.flip.ensures.keeps_room
+    row_filled c.self.inside.entries.items c.self.inside.free c.self.invariant c.flip.new.self c.in-Some.id c.args.slot first.1 c.flip.ensures
 
 pub invariant_of-self-in_err-push : goal.invariant_of-self-in_err-push
 invariant_of-self-in_err-push c = rw c.in_err-push.ensures.items (c.make_room.ensures.kept c.self.inside.entries.items c.self.invariant)

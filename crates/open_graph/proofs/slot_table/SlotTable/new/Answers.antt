@@ -7,7 +7,6 @@ pub invariant_of-result : goal.invariant_of-result
 invariant_of-result c =
     record {
       covers = omega (arith, ap length c.new.ensures.items);
-      has_room = λ some. absurd (omega (arith, some, ap length c.new-2.ensures));
       vacant = λ id lt. absurd (omega (arith, lt, ap length c.new.ensures.items));
-      none_after = λ id le. ap (λ bits. bit bits id) c.new-2.ensures;
+      none_after = λ id le. ap (λ bits. bit bits id) c.empty.ensures;
     }

@@ -4,7 +4,8 @@ use Rattle.std.specs.Prelude.{int_lt}
 use Rattle.std.proofs.lemmas.Int.{to_z-of_z}
 use mir.Val.{of_z, to_z}
 use mir.Syntax.{w64}
-use Rattle.qasm_angle.specs.Ratio.{Ratio, is_zero, largest, product, quotient, signed}
+use Rattle.qasm_angle.specs.Ratio.{Ratio, is_zero, largest, product, quotient}
+use Rattle.qasm_angle.specs.Internal.Signs.{signed}
 use Rattle.qasm_angle.proofs.CrossLemmas.{IsFraction-inverse, product-inverse}
 use Rattle.qasm_angle.proofs.RatioLemmas.{nonzero_numerator, signed_same, SFits-small}
 use Rattle.qasm_angle.proofs.fraction.Fraction.inverse.Goals as goal

@@ -1,7 +1,7 @@
 -- Each batch lengthens the cut, and is read.
 use Rattle.std.proofs.Common.{◌++◌, Err, map, ap, arith, subst}
 use Rattle.qasm_lexer.specs.Tokens.{lexemes}
-use Rattle.qasm_lexer.specs.TokenLists.{moved}
+use Rattle.qasm_lexer.specs.Internal.Moved.{moved}
 use Rattle.qasm_lexer.proofs.LineCuts.{places_fit}
 use Rattle.qasm_lexer.proofs.Taking.{no_batch_yet, bad_within}
 use Rattle.qasm_inline.specs.Internal.Readings.{ReadsOn}

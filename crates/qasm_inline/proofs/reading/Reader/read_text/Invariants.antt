@@ -1,7 +1,7 @@
 -- Up to here the text is cut, and its tokens were read.
 use Rattle.std.proofs.Common.{◌-◌, ◌≤◌, List, length, drop, map}
 use Rattle.qasm_lexer.specs.Tokens.{Lexeme, IsCutUpTo}
-use Rattle.qasm_lexer.specs.TokenLists.{moved}
+use Rattle.qasm_lexer.specs.Internal.Moved.{moved}
 use Rattle.qasm_inline.specs.Internal.Readings.{ReadsOn}
 use Rattle.qasm_inline.proofs.reading.Reader.read_text.Given as goal
 

@@ -1,7 +1,7 @@
 -- The tokens that were left and the new ones come next.
 use Rattle.std.proofs.Common.{◌≡◌, ◌-◌, List, ◌++◌, arith, length, take, drop, map, sym, ap, ◌∙◌, subst, append_assoc}
 use Rattle.qasm_lexer.specs.Tokens.{Lexeme, lexemes}
-use Rattle.qasm_lexer.specs.TokenLists.{moved}
+use Rattle.qasm_lexer.specs.Internal.Moved.{moved}
 use Rattle.qasm_reader.specs.Depth.{IsDepth}
 use Rattle.qasm_inline.specs.Internal.Readings.{IsKept}
 use Rattle.qasm_inline.proofs.ReadingLemmas.{behind_known, kept-left}

@@ -1,7 +1,7 @@
 -- The list so far and the tokens that are left make the list with all tokens.
 use Rattle.std.proofs.Common.{◌≡◌, ◌++◌, drop, map}
 use Rattle.qasm_lexer.specs.Tokens.{lexemes}
-use Rattle.qasm_lexer.specs.TokenLists.{moved}
+use Rattle.qasm_lexer.specs.Internal.Moved.{moved}
 use Rattle.qasm_lexer.proofs.token_list.TokenList.add.Given as goal
 
 abbrev pub invariant-loop-token : goal.invariant-loop-token

@@ -1,7 +1,7 @@
 -- The pool loses as many bytes as the texts have.
 use Rattle.std.proofs.Common.{◌≤◌, length, take, drop, sym, ap, ◌∙◌, arith, length-drop}
 use Rattle.std.proofs.lemmas.List.{length-take-le}
-use Rattle.qasm_lexer.specs.TokenLists.{count_of}
+use Rattle.qasm_lexer.specs.Internal.Entries.{count_of}
 use Rattle.qasm_lexer.proofs.Listed.{count_of-split, listed-drop, length-listed}
 use Rattle.qasm_lexer.proofs.token_list.TokenList.drop_first.Goals as goal
 

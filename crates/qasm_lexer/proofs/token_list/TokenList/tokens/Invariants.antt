@@ -1,7 +1,7 @@
 -- The tokens so far and those of the entries that are left are those of all entries.
 use Rattle.std.proofs.Common.{◌≡◌, ◌+◌, ◌++◌, length, drop}
 use Rattle.qasm_lexer.specs.Tokens.{lexemes}
-use Rattle.qasm_lexer.specs.TokenLists.{listed, count_of}
+use Rattle.qasm_lexer.specs.Internal.Entries.{listed, count_of}
 use Rattle.qasm_lexer.proofs.token_list.TokenList.tokens.Given as goal
 
 abbrev pub invariant-loop-entry : goal.invariant-loop-entry

@@ -1,6 +1,7 @@
 use Rattle.std.proofs.Common.{◌≡◌, sym, ap, ◌∙◌}
 use Rattle.qasm_reader.specs.Syntax.{BodyApplied}
-use Rattle.qasm_names.specs.Bodies.{apply_of, is_faulty, joined, application_faults, IsCall}
+use Rattle.qasm_names.specs.Bodies.{is_faulty, joined}
+use Rattle.qasm_names.specs.Internal.Applications.{apply_of, application_faults, IsCall}
 use Rattle.qasm_names.proofs.BodyLemmas.{begun-call, begun-faults, faulty_earlier, faulty_later}
 use Rattle.qasm_names.proofs.gate_in_progress.GateInProgress.take_application.Goals.{then-not-any+in_ok-call+in_default, else-not-any}
 use Rattle.qasm_names.proofs.gate_in_progress.GateInProgress.take_application.Goals as goal

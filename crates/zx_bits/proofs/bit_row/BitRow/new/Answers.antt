@@ -1,7 +1,5 @@
-use Rattle.zx_bits.specs.Internal.Windows.{is_set}
-use Rattle.zx_bits.proofs.Lists.{told-unset}
-use Rattle.zx_bits.proofs.WindowLemmas.{none_without_words}
+use Rattle.std.proofs.Common.{◌∙◌, ap, ◌++◌, replicate, false}
 use Rattle.zx_bits.proofs.bit_row.BitRow.new.Goals as goal
 
 pub returns : goal.returns
-returns c = told-unset c.args.bits (is_set c.new.result) (none_without_words c.new.result c.new.ensures.none)
+returns c = c.in_ok-grow.ensures.ok ∙ ap (λ xs. xs ++ replicate c.args.bits false) c.empty-row.ensures

@@ -2,7 +2,7 @@
 use Rattle.std.proofs.Common.{◌≡◌, ◌∙◌, ap, subst, ◌<◌, [], ◌∷◌, length, get_or, take, take_all, arith}
 use Rattle.zx_model.specs.Bits.{member}
 use Rattle.gflow_laws.specs.Flow.{order_of, set_of}
-use Rattle.gflow_laws.specs.Changes.{AreChanged}
+use Rattle.gflow_laws.specs.Internal.Changes.{AreChanged}
 use Rattle.gflow_laws.proofs.SetChanges.{changed_grows}
 use Rattle.zx_flow.specs.Internal.Clearing.{clearing_change}
 use Rattle.zx_flow.proofs.Clearing.{own_kept, changed_by_own, cleared_done}

@@ -1,7 +1,7 @@
 -- The sets so far are cleared.
 use Rattle.std.proofs.Common.{◌≡◌, take}
 use Rattle.gflow_laws.specs.Flow.{order_of, set_of}
-use Rattle.gflow_laws.specs.Changes.{AreChanged}
+use Rattle.gflow_laws.specs.Internal.Changes.{AreChanged}
 use Rattle.zx_flow.specs.Internal.Clearing.{clearing_change}
 use Rattle.zx_flow.proofs.flow.Flow.eliminate.Given as goal
 

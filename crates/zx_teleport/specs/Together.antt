@@ -1,0 +1,17 @@
+-- The gates of a circuit with the phases put together that a run of rewrites of its graph brings together.
+-- Kissinger and van de Wetering, "Reducing the number of non-Clifford gates in quantum circuits" (Phys. Rev. A 102,
+-- 022406, 2020), on phase teleportation.
+use Rattle.std.specs.Prelude.{◌≡◌, List}
+use Rattle.zx_calculus.specs.Graph.{Graph}
+use Rattle.zx_calculus.specs.Steps.{Step, IsRun}
+use Rattle.zx_gates.specs.Circuit.{Circuit}
+use Rattle.zx_gates.specs.declared.gate.Gate.{Gate}
+use Rattle.circuit_graph.specs.Translation.{translated}
+use Rattle.teleport_circuits.specs.Teleporting.{teleported_gates}
+
+-- The gates are those of the circuit c with other phases, as steps from its graph to h tell them. Even phases stay. The
+-- gates of odd phases whose phases end up in one place are a group: its first gate gets the sum of all of them, each
+-- negated where the steps negate it, and this sum is negated where the steps negate that gate's own phase; the others
+-- get 0, and so do all of a group whose place is dropped. A phase gate of phase 0 is left out.
+abbrev pub IsPutTogether : Circuit → List Step → Graph → List Gate → Type 0
+IsPutTogether c steps h gates = (run : IsRun (translated c) steps h) → gates ≡ teleported_gates c steps h run
