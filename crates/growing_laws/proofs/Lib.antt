@@ -1,0 +1,14 @@
+pub mod KindChanges
+pub mod Parts
+pub mod Placing
+pub mod StepsPlaced
+pub mod Peeled
+pub mod RunsGrown
+pub mod Wiring
+pub mod TranslatedGraphs
+pub mod FlowsGrown
+pub mod Renamed
+pub mod Renamings
+pub mod SameButNames
+pub mod GrownGraphs
+pub mod DemandGrown
