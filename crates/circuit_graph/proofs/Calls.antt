@@ -18,9 +18,10 @@ use Rattle.gflow_laws.specs.Flow.{order_of, SameSets}
 use Rattle.gflow_laws.specs.Splits.{split_output_table}
 use Rattle.gflow_laws.proofs.Flows.{Flows-from}
 use Rattle.gflow_laws.proofs.Tables.{unlisted}
-use Rattle.circuit_laws.specs.Peeling.{HasPlainOutput}
+use Rattle.circuit_laws.specs.Peeling.{HasPlainOutput, IsSpiderPeel, IsPhasePeel, IsEdgePeel}
 use Rattle.circuit_laws.proofs.Places.{member-places, output_there, one_place, absent-remove}
-use Rattle.circuit_graph.specs.Translation.{wires}
+use Rattle.circuit_graph.specs.Translation.{wires, with_spider}
+use Rattle.circuit_graph.proofs.Graphs.{spider_is}
 use Rattle.circuit_graph.proofs.Gates.{least_is}
 use Rattle.circuit_graph.proofs.Beginning.{at_both, next_is, one_more_wire}
 use Rattle.circuit_graph.specs.Internal.Runs.{State, IsReady, IsSpiderStep, IsPhaseStep, IsToggleStep}
@@ -72,73 +73,108 @@ module _ (s : Graph) (v phase : ℕ) (g : Graph) (fresh : member v (ids s.vertic
       ∙ one_more_wire n s v e (next_is n s v e w least)
 
 -- ---- H: a vertex is added, joined to the present spider, and takes the output over
+module _ (s : Graph) (q here next phase : ℕ) (g : Graph) (w : WellFormed s) (output : HasPlainOutput s q here) (fresh : member next (ids s.vertices) ≡ false)
+    (zero_phase : phase ≡ 0) (added : g ≡ record { vertices = insert_vertex (record { id = next; kind = in_plane XY phase }) s.vertices; edges = s.edges; inputs = s.inputs; outputs = s.outputs }) where
+  pub here_there : Live g here
+  here_there = member_is s next phase g fresh zero_phase added here ∙ ap (λ b. eqb here next || b) (here_live s q here w output) ∙ or-true (eqb here next)
+
+  pub here_other : here ≢ next
+  here_other = apart_of_member here next (ids s.vertices) (here_live s q here w output) fresh
+
+  module _ (h : Graph) (toggle : IsToggle g here next h) where
+    pub next_there : Live h next
+    next_there = ap (λ vs. member next (ids vs)) toggle.vertices ∙ new_live s next phase g fresh zero_phase added
+
+    pub next_plane_there : plane_of h next ≡ XY
+    next_plane_there = ap (λ vs. (kind_of vs next).plane) toggle.vertices ∙ new_plane s next phase g fresh zero_phase added
+
+    outputs_are : h.outputs ≡ s.outputs
+    outputs_are = toggle.frame.outputs ∙ ap (λ (h : Graph). h.outputs) added
+
+    pub next_free_there : (i : ℕ) → member next (end_vertices (remove h.outputs i)) ≡ false
+    next_free_there i = absent-remove next h.outputs i
+        (ap (λ es. member next (end_vertices es)) outputs_are ∙ absent_from (ids s.vertices) (end_vertices s.outputs) next w.outputs.there fresh)
+
+    pub spider_peel : (t : Graph) → t ≡ record { vertices = h.vertices; edges = h.edges; inputs = h.inputs; outputs = set h.outputs q (plain next) } →
+        IsSpiderPeel t q s
+    spider_peel t moved = record {
+      spider = next;
+      next = here;
+      fresh = fresh;
+      output = output;
+      vertices = ap (λ (h : Graph). h.vertices) moved ∙ toggle.vertices ∙ vertices_are s next phase g fresh zero_phase added;
+      ordered = subst (λ (h : Graph). OrderedEdges (ids h.vertices) h.edges) (sym moved) toggle.frame.ordered;
+      ordered_too = w.edges;
+      edges = λ p v. ap (λ (h : Graph). joined h.edges p v) moved ∙ toggle.edges p v ∙ ap (λ (h : Graph). xor (joined h.edges p v) (is_pair here next p v)) added ∙ sym (or-apart (joined s.edges p v) (is_pair here next p v) (none p v));
+      inputs = ap (λ (h : Graph). h.inputs) moved ∙ toggle.frame.inputs ∙ ap (λ (h : Graph). h.inputs) added;
+      outputs = ap (λ (h : Graph). h.outputs) moved ∙ ap (λ es. set es q (plain next)) outputs_are;
+    }
+      where
+        -- a new vertex has no edges
+        none : (p v : ℕ) → (joined s.edges p v && is_pair here next p v) ≡ false
+        none p v = pair_absent (joined s.edges p v) (eqb p here) (eqb v next) (eqb p next) (eqb v here) (λ e. joined_comm s.edges p v ∙ no_edge v p e) (λ e. no_edge p v e)
+          where
+            no_edge : (a b : ℕ) → eqb a next ≡ true → joined s.edges a b ≡ false
+            no_edge a b e = joined-absent (ids s.vertices) s.edges a b w.edges.lower_there w.edges.higher_there
+                (ap (λ u. member u (ids s.vertices)) (eqb-true a next e) ∙ fresh)
+
+    pub spider_comes : (t : Graph) → WellFormed t → t ≡ record { vertices = h.vertices; edges = h.edges; inputs = h.inputs; outputs = set h.outputs q (plain next) } →
+        t ≡ with_spider next q s
+    unfolding spider_peel
+    spider_comes t formed moved = spider_is s q t formed (spider_peel t moved)
+
+-- the same of a translation under way
 module _ (s : State) (q here next phase : ℕ) (g : Graph) (r : IsReady s) (output : HasPlainOutput s.graph q here) (fresh : member next (ids s.graph.vertices) ≡ false)
     (zero_phase : phase ≡ 0) (added : g ≡ record { vertices = insert_vertex (record { id = next; kind = in_plane XY phase }) s.graph.vertices; edges = s.graph.edges; inputs = s.graph.inputs; outputs = s.graph.outputs }) where
   pub here_still_live : Live g here
-  here_still_live = member_is s.graph next phase g fresh zero_phase added here ∙ ap (λ b. eqb here next || b) (here_live s.graph q here r.well_formed output) ∙ or-true (eqb here next)
+  here_still_live = here_there s.graph q here next phase g r.well_formed output fresh zero_phase added
 
   pub here_apart : here ≢ next
-  here_apart = apart_of_member here next (ids s.graph.vertices) (here_live s.graph q here r.well_formed output) fresh
+  here_apart = here_other s.graph q here next phase g r.well_formed output fresh zero_phase added
 
   module _ (h : Graph) (toggle : IsToggle g here next h) where
     pub next_still_live : Live h next
-    next_still_live = ap (λ vs. member next (ids vs)) toggle.vertices ∙ new_live s.graph next phase g fresh zero_phase added
+    next_still_live = next_there s.graph q here next phase g r.well_formed output fresh zero_phase added h toggle
 
     pub next_plane : plane_of h next ≡ XY
-    next_plane = ap (λ vs. (kind_of vs next).plane) toggle.vertices ∙ new_plane s.graph next phase g fresh zero_phase added
-
-    outputs_are : h.outputs ≡ s.graph.outputs
-    outputs_are = toggle.frame.outputs ∙ ap (λ (h : Graph). h.outputs) added
+    next_plane = next_plane_there s.graph q here next phase g r.well_formed output fresh zero_phase added h toggle
 
     pub next_free : (i : ℕ) → member next (end_vertices (remove h.outputs i)) ≡ false
-    next_free i = absent-remove next h.outputs i
-        (ap (λ es. member next (end_vertices es)) outputs_are ∙ absent_from (ids s.graph.vertices) (end_vertices s.graph.outputs) next r.well_formed.outputs.there fresh)
+    next_free = next_free_there s.graph q here next phase g r.well_formed output fresh zero_phase added h toggle
 
     pub here_uncorrected : member here (order_of s.table) ≡ false
     here_uncorrected = unlisted (seen s.graph) s.table (Flows-from (seen s.graph) s.table r.flow) here (member-places s.graph.outputs q (plain here) output)
 
     pub spider_step : (t : State) → next ≡ least_free (ids s.graph.vertices) → t.graph ≡ record { vertices = h.vertices; edges = h.edges; inputs = h.inputs; outputs = set h.outputs q (plain next) } →
         SameSets t.table (split_output_table here next s.table) → IsSpiderStep s q t
+    unfolding spider_peel
     spider_step t least moved same = record {
-      peel = record {
-        spider = next;
-        next = here;
-        fresh = fresh;
-        output = output;
-        vertices = ap (λ (h : Graph). h.vertices) moved ∙ toggle.vertices ∙ vertices_are s.graph next phase g fresh zero_phase added;
-        ordered = subst (λ (h : Graph). OrderedEdges (ids h.vertices) h.edges) (sym moved) toggle.frame.ordered;
-        ordered_too = r.well_formed.edges;
-        edges = λ p v. ap (λ (h : Graph). joined h.edges p v) moved ∙ toggle.edges p v ∙ ap (λ (h : Graph). xor (joined h.edges p v) (is_pair here next p v)) added ∙ sym (or-apart (joined s.graph.edges p v) (is_pair here next p v) (none p v));
-        inputs = ap (λ (h : Graph). h.inputs) moved ∙ toggle.frame.inputs ∙ ap (λ (h : Graph). h.inputs) added;
-        outputs = ap (λ (h : Graph). h.outputs) moved ∙ ap (λ es. set es q (plain next)) outputs_are;
-      };
+      peel = spider_peel s.graph q here next phase g r.well_formed output fresh zero_phase added h toggle t.graph moved;
       id = least ∙ least_is s.graph r.well_formed r.numbered;
       table = same;
     }
-      where
-        -- a new vertex has no edges
-        none : (p v : ℕ) → (joined s.graph.edges p v && is_pair here next p v) ≡ false
-        none p v = pair_absent (joined s.graph.edges p v) (eqb p here) (eqb v next) (eqb p next) (eqb v here) (λ e. joined_comm s.graph.edges p v ∙ no_edge v p e) (λ e. no_edge p v e)
-          where
-            no_edge : (a b : ℕ) → eqb a next ≡ true → joined s.graph.edges a b ≡ false
-            no_edge a b e = joined-absent (ids s.graph.vertices) s.graph.edges a b r.well_formed.edges.lower_there r.well_formed.edges.higher_there
-                (ap (λ u. member u (ids s.graph.vertices)) (eqb-true a next e) ∙ fresh)
 
 -- ---- Phase
+pub phase_peel : (s : Graph) (q here k before after : ℕ) (plane : Plane) (t : Graph) → WellFormed s → HasPlainOutput s q here →
+    in_plane plane before ≡ kind_of s.vertices here → in_plane plane after ≡ with_phase_added k (in_plane plane before) →
+    t ≡ record { vertices = with_kinds (at_vertex here (λ _. in_plane plane after)) s.vertices; edges = s.edges; inputs = s.inputs; outputs = s.outputs } →
+    IsPhasePeel t q k s
+phase_peel s q here k before after plane t w output was becomes set = record {
+  vertex = here;
+  output = ap (λ (h : Graph). slice_get h.outputs q) set ∙ output;
+  vertices = ap (λ (h : Graph). h.vertices) set ∙ ap (λ kind. with_kinds (at_vertex here (λ _. kind)) s.vertices) (becomes ∙ ap (with_phase_added k) was)
+      ∙ with_kinds-at here (with_phase_added k) s.vertices w.vertices_rising;
+  edges = ap (λ (h : Graph). h.edges) set;
+  inputs = ap (λ (h : Graph). h.inputs) set;
+  outputs = ap (λ (h : Graph). h.outputs) set;
+}
+
 pub phase_step : (s : State) (q here k before after : ℕ) (plane : Plane) (t : State) → IsReady s → HasPlainOutput s.graph q here →
     in_plane plane before ≡ kind_of s.graph.vertices here → in_plane plane after ≡ with_phase_added k (in_plane plane before) →
     t.graph ≡ record { vertices = with_kinds (at_vertex here (λ _. in_plane plane after)) s.graph.vertices; edges = s.graph.edges; inputs = s.graph.inputs; outputs = s.graph.outputs } →
     t.table ≡ s.table → IsPhaseStep s q k t
 phase_step s q here k before after plane t r output was becomes set same = record {
-  peel = record {
-    vertex = here;
-    output = ap (λ (h : Graph). slice_get h.outputs q) set ∙ output;
-    vertices = ap (λ (h : Graph). h.vertices) set ∙ ap (λ kind. with_kinds (at_vertex here (λ _. kind)) s.graph.vertices) (becomes ∙ ap (with_phase_added k) was)
-        ∙ with_kinds-at here (with_phase_added k) s.graph.vertices r.well_formed.vertices_rising;
-    edges = ap (λ (h : Graph). h.edges) set;
-    inputs = ap (λ (h : Graph). h.inputs) set;
-    outputs = ap (λ (h : Graph). h.outputs) set;
-  };
+  peel = phase_peel s.graph q here k before after plane t.graph r.well_formed output was becomes set;
   table = same;
 }
 
@@ -146,19 +182,23 @@ phase_step s q here k before after plane t r output was becomes set same = recor
 pub wires_apart : (g : Graph) (p q u v : ℕ) → WellFormed g → HasPlainOutput g p u → HasPlainOutput g q v → p ≢ q → u ≢ v
 wires_apart g p q u v w h i n e = n (one_place g.outputs p q (plain u) (plain v) w.outputs.one_each h i e)
 
+pub toggle_peel : (s : Graph) (p q u v : ℕ) (t : Graph) → WellFormed s → HasPlainOutput s p u → HasPlainOutput s q v → p ≢ q →
+    IsToggle s u v t → IsEdgePeel t p q s
+toggle_peel s p q u v t w h i n toggle = record {
+  first = u;
+  second = v;
+  different = wires_apart s p q u v w h i n;
+  output = ap (λ es. slice_get es p) toggle.frame.outputs ∙ h;
+  output_too = ap (λ es. slice_get es q) toggle.frame.outputs ∙ i;
+  vertices = toggle.vertices;
+  ordered_too = w.edges;
+  edges = λ a b _. toggle.edges a b;
+  frame = toggle.frame;
+}
+
 pub toggle_step : (s : State) (p q u v : ℕ) (t : State) → IsReady s → HasPlainOutput s.graph p u → HasPlainOutput s.graph q v → p ≢ q →
     IsToggle s.graph u v t.graph → t.table ≡ s.table → IsToggleStep s p q t
 toggle_step s p q u v t r h i n toggle same = record {
-  peel = record {
-    first = u;
-    second = v;
-    different = wires_apart s.graph p q u v r.well_formed h i n;
-    output = ap (λ es. slice_get es p) toggle.frame.outputs ∙ h;
-    output_too = ap (λ es. slice_get es q) toggle.frame.outputs ∙ i;
-    vertices = toggle.vertices;
-    ordered_too = r.well_formed.edges;
-    edges = λ a b _. toggle.edges a b;
-    frame = toggle.frame;
-  };
+  peel = toggle_peel s.graph p q u v t.graph r.well_formed h i n toggle;
   table = same;
 }

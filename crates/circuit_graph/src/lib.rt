@@ -27,3 +27,4 @@ mod wires;
 
 pub use laws::worked_translations;
 pub use translation::{translate, translate_placed};
+pub use wires::wires_alone;

@@ -28,7 +28,7 @@ impl Wires {
         ensures begun { IfOk result (λ w. state_of w ≡ begun qubits) }
         ensures ready { IfOk result (λ w. IsReady (state_of w)) }
     {
-        let graph = without_gates(alloc, qubits)?;
+        let graph = wires_alone(alloc, qubits)?;
         Ok(Wires {
             graph,
             table: FlowTable::new(alloc),
@@ -133,8 +133,8 @@ impl Wires {
     }
 }
 
-// So many wires without gates.
-fn without_gates(alloc: Global, qubits: Qubit) -> Result<OpenGraph, AllocError>
+/// The graph of so many wires without gates: a spider of phase 0 with both ends for each.
+pub fn wires_alone(alloc: Global, qubits: Qubit) -> Result<OpenGraph, AllocError>
     ensures begun { IfOk result (λ g. g.graph ≡ wires qubits) }
     ensures well_formed { IfOk result (λ g. WellFormed g.graph) }
 {

@@ -1,5 +1,6 @@
 -- A vertex that is alone in a row, and its way towards the end.
-use Rattle.std.proofs.Common.{Result, Ok, Err, IfOk, cond, false, ◌||◌, ◌≡◌, refl, sym, ◌∙◌, ap, subst, inl, inr, not, ◌&&◌, append-nil, ℕ, suc, zero, ◌-◌, ◌<◌, ◌≤◌, Bool, true, eqb, eqb-true, true≢false, List, [], ◌∷◌, ◌++◌, length, take, drop, get_or, insert, remove, arith}
+use Rattle.std.proofs.Common.{◌+◌, Result, Ok, Err, IfOk, cond, false, ◌||◌, ◌≡◌, refl, sym, ◌∙◌, ap, subst, inl, inr, not, ◌&&◌, append-nil, ℕ, suc, zero, ◌-◌, ◌<◌, ◌≤◌, Bool, true, eqb, eqb-true, true≢false, List, [], ◌∷◌, ◌++◌, length, take, drop, get_or, insert, remove, arith}
+use Rattle.std.proofs.lemmas.Bool.{cases_lt, cases_eq, eq-eqb, ne_eqb}
 use Rattle.std.proofs.lemmas.List.{take-append-drop}
 use Rattle.zx_model.specs.Bits.{member}
 use Rattle.zx_calculus.proofs.Booleans.{or-false, or-true}
@@ -17,10 +18,16 @@ use Rattle.flow_find.specs.Internal.Rows.{IsPassable}
 use Rattle.flow_find.proofs.Orders.{IsOrder, IsPlace, is_place, is_live, last_left, correctable_at, still_left, one_less, listed, corrected_more, whole_flow, Distinct-drop}
 use Rattle.flow_find.proofs.Moving.{moved, member-moved, Distinct-moved, later_moved}
 
-pub only_one : (vs : List ℕ) (v : ℕ) → length vs ≡ 1 → member v vs ≡ true → (w : ℕ) → member w vs ≡ eqb w v
-only_one [] v size there w = absurd (true≢false (sym there))
-only_one (x ∷ []) v size there w = or-false (eqb w x) ∙ ap (eqb w) (sym (eqb-true v x (sym (or-false (eqb v x)) ∙ there)))
-only_one (x ∷ y ∷ vs) v size there w = absurd (omega (arith, size))
+-- no vertex stands below v or above
+pub only_one : (vs : List ℕ) (v : ℕ) → member v vs ≡ true → ((w : ℕ) → 0 ≤ w → w < v → member w vs ≡ false) →
+    ((w : ℕ) → v + 1 ≤ w → member w vs ≡ false) → (w : ℕ) → member w vs ≡ eqb w v
+only_one vs v there below above w = elim (cases_eq w v) [
+  | inl same ↦ ap (λ x. member x vs) same ∙ there ∙ sym (eq-eqb w v same)
+  | inr differ ↦ elim (cases_lt w v) [
+    | inl low ↦ below w (omega arith) low
+    | inr high ↦ above w (omega arith)
+  ] ∙ sym (ne_eqb w v differ)
+]
 
 pub row_at : (P : Row → Type 0) (rows : List Row) (i : ℕ) (r : Row) → i < length rows → r ≡ get_or rows i r → AreAll P rows → P r
 row_at P [] i r within is each = absurd (omega arith)

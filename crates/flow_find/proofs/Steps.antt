@@ -41,6 +41,14 @@ sum_all t rows i start now over so_far = record {
     none : drop i rows ≡ []
     none = drop_all i rows over
 
+-- with its members counted
+pub counted : (t : ℕ → Bool) (rows : List Row) (start sum now : Row) → now.columns.ids ≡ sum.columns.ids → now.members.ids ≡ sum.members.ids →
+    IsSum t rows start sum → IsSum t rows start now
+counted t rows start sum now columns members s = record {
+  columns = λ w. ap (member w) columns ∙ s.columns w;
+  members = λ w. ap (member w) members ∙ s.members w;
+}
+
 -- the first i rows have changed, and the others haven't
 abbrev pub AreChanged : (Row → Row → Type 0) → ℕ → List Row → List Row → Type 0
 AreChanged change zero old new = old ≡ new

@@ -141,6 +141,7 @@ pub(crate) fn correction(
         pivot: v,
         columns: VertexSet::new(alloc),
         members,
+        size: 0,
     };
     add_picked(&mut row, g, &target, rows)?;
     Ok(row.members)

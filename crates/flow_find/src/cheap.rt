@@ -153,7 +153,7 @@ pub(crate) fn cheapest(g: &OpenGraph, rows: &[Row]) -> Option<VertexId>
     let mut best = None;
     let mut fewest = usize::MAX;
     for row in rows {
-        let size = row.members.len();
+        let size = row.size;
         if size < fewest {
             if let Some(v) = alone_in(g, row) {
                 best = Some(v);
@@ -168,11 +168,9 @@ pub(crate) fn cheapest(g: &OpenGraph, rows: &[Row]) -> Option<VertexId>
 fn alone_in(g: &OpenGraph, row: &Row) -> Option<VertexId>
     ensures { IfSome result (λ v. IsAloneIn (seen g.now.graph) row.now v) }
 {
-    if row.columns.len() != 1 {
-        return None;
-    }
-    match row.columns.first_from(0) {
-        Some(v) if is_xy(g, v) => Some(v),
+    let v = row.columns.first_from(0)?;
+    match row.columns.first_from(v.get() + 1) {
+        None if is_xy(g, v) => Some(v),
         _ => None,
     }
 }

@@ -82,6 +82,7 @@ pub(crate) fn insert(
         pivot: u,
         columns: left_neighbours(alloc, g, u, left)?,
         members: VertexSet::one(alloc, u)?,
+        size: 1,
     };
     let neighbours = Around {
         vertex: u,
@@ -89,6 +90,7 @@ pub(crate) fn insert(
         itself: false,
     };
     add_picked(&mut row, g, &neighbours, rows)?;
+    row.count();
     put(rows, row)?;
     Ok(())
 }

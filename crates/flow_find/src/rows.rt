@@ -60,7 +60,7 @@ fn clear_column(rows: &mut [Row], column: VertexId, row: &Row) -> Result<(), All
 {
     for other in rows.iter_mut() {
         let has_it = other.columns.contains(column);
-        other.add_if(has_it, row)?;
+        other.add_counted_if(has_it, row)?;
     }
     Ok(())
 }
@@ -82,7 +82,7 @@ fn clear_member(rows: &mut [Row], member: VertexId, row: &Row) -> Result<(), All
 {
     for other in rows.iter_mut() {
         let has_it = other.members.contains(member);
-        other.add_if(has_it, row)?;
+        other.add_counted_if(has_it, row)?;
     }
     Ok(())
 }

@@ -388,6 +388,7 @@ fn solved(
         pivot: v,
         columns: left_around(alloc, g, left, &target)?,
         members,
+        size: 0,
     };
     add_picked(&mut row, g, &target, rows)?;
     Ok(row)

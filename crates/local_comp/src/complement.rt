@@ -21,9 +21,9 @@ use crate::neighbours::turn_neighbours;
 use crate::scalars::complement_scalar;
 use open_graph::{OpenGraph, Plane, VertexId};
 use std::alloc::AllocError;
-use std::mem;
 use zx_flow::Flow;
 use zx_model::{Scalar, Sixteenth};
+use zx_rewrite::{Rewrite, perform};
 
 /// A local complement about an interior vertex: each edge between two of its neighbours comes where
 /// there is none and goes where there is one, each neighbour turns by a quarter, and the vertex
@@ -44,41 +44,7 @@ pub fn local_complement(g: &mut OpenGraph, f: &mut Flow, u: VertexId) -> Result<
     ensures reach { (g.new.reach ≡ g.old.reach) × (f.new.reach ≡ f.old.reach) }
     ensures valid { WellFormed g.new.graph }
 {
-    if f.has_reach(g) {
-        return local_complement_in_place(g, f, u);
-    }
-    local_complement_with_copies(g, f, u)
-}
-
-// The same in place. Where memory runs out, copies take the place of graph and flow.
-fn local_complement_with_copies(
-    g: &mut OpenGraph,
-    f: &mut Flow,
-    u: VertexId,
-) -> Result<Scalar, AllocError>
-    requires flow { IsFlow g.old.graph f.old.flow }
-    requires allowed { allowed g.old.graph (LocalComplement u) ≡ true }
-    ensures rewritten { OnOk result
-        (IsRewritten g.old.graph f.old.flow (LocalComplement u) g.new.graph f.new.flow) }
-    ensures scalar { IfOk result (λ s. s ≡ step_scalar g.old.graph (LocalComplement u)) }
-    ensures err { OnErr result ((g.new.graph ≡ g.old.graph) × (f.new.flow ≡ f.old.flow)) }
-    ensures spare { OnOk result
-        ((g.new.spare ≡ g.old.spare) × (f.new.spare ≡ f.old.spare)) }
-    ensures keeps_spare { OnErr result
-        ((g.new.spare ≡ g.old.spare) × (f.old.spare ≤ f.new.spare)) }
-    ensures reach { (g.new.reach ≡ g.old.reach) × (f.new.reach ≡ f.old.reach) }
-    ensures valid { WellFormed g.new.graph }
-{
-    let mut graph = g.copy()?;
-    let mut flow = f.copy()?;
-    match local_complement_in_place(g, f, u) {
-        Ok(scalar) => Ok(scalar),
-        Err(error) => {
-            mem::swap(g, &mut graph);
-            mem::swap(f, &mut flow);
-            Err(error)
-        }
-    }
+    perform(g, f, &Complement { u })
 }
 
 /// Whether the id is that of an interior vertex.
@@ -89,43 +55,46 @@ pub fn may_complement(g: &OpenGraph, u: VertexId) -> bool
     g.is_live(u) && g.is_interior(u)
 }
 
-/// As `local_complement`, but where memory runs out, graph and flow may be any. Where all vertices
-/// are below the reach of both, none is needed.
-pub fn local_complement_in_place(
-    g: &mut OpenGraph,
-    f: &mut Flow,
+// The local complement about a vertex.
+#[derive(Drop)]
+struct Complement {
     u: VertexId,
-) -> Result<Scalar, AllocError>
-    requires flow { IsFlow g.old.graph f.old.flow }
-    requires allowed { allowed g.old.graph (LocalComplement u) ≡ true }
-    ensures rewritten { OnOk result
-        (IsRewritten g.old.graph f.old.flow (LocalComplement u) g.new.graph f.new.flow) }
-    ensures scalar { IfOk result (λ s. s ≡ step_scalar g.old.graph (LocalComplement u)) }
-    ensures has_room { HaveReach g.old f.old → IsOk result }
-    ensures spare { OnOk result ((g.new.spare ≡ g.old.spare) × (f.new.spare ≡ f.old.spare)) }
-    ensures reach { (g.new.reach ≡ g.old.reach) × (f.new.reach ≡ f.old.reach) }
-{
-    let scalar = complement_scalar(g, u);
-    complement_sets(f, g, u)?;
-    local_complement_in_graph(g, u)?;
-    Ok(scalar)
 }
 
-/// The graph's part of `local_complement`: where memory runs out, the graph may be any. Where all its
-/// vertices are below its reach, none is needed.
-pub fn local_complement_in_graph(g: &mut OpenGraph, u: VertexId) -> Result<(), AllocError>
+impl Rewrite for Complement {
+    ghost step = { λ by. LocalComplement by.u };
+
+    ghost needs = { λ by g f. HaveReach g f };
+
+    ghost leaves = { λ by g f h k. (h.spare ≡ g.spare) × (k.spare ≡ f.spare) };
+
+    fn has_room(&self, g: &OpenGraph, f: &Flow) -> bool {
+        f.has_reach(g)
+    }
+
+    fn in_place(&self, g: &mut OpenGraph, f: &mut Flow) -> Result<Scalar, AllocError> {
+        complement_sets(f, g, self.u)?;
+        local_complement_in_graph(g, self.u)
+    }
+}
+
+/// The graph's part of `local_complement`, with its scalar: where memory runs out, the graph may be any.
+/// Where all its vertices are below its reach, none is needed.
+pub fn local_complement_in_graph(g: &mut OpenGraph, u: VertexId) -> Result<Scalar, AllocError>
     requires { allowed g.old.graph (LocalComplement u) ≡ true }
     ensures step { OnOk result (IsStep g.old.graph (LocalComplement u) g.new.graph) }
+    ensures scalar { IfOk result (λ s. s ≡ step_scalar g.old.graph (LocalComplement u)) }
     ensures has_room { IsBelow g.old.reach (ids g.old.graph.vertices) → IsOk result }
     ensures spare { OnOk result (g.new.spare ≡ g.old.spare) }
     ensures reach { g.new.reach ≡ g.old.reach }
     ensures was_valid { WellFormed g.old.graph }
     ensures valid { WellFormed g.new.graph }
 {
+    let scalar = complement_scalar(g, u);
     g.toggle_neighbours(u)?;
     turn_neighbours(g, u);
     complement_own(g, u);
-    Ok(())
+    Ok(scalar)
 }
 
 // What a local complement of the graph about u makes of the sets; the graph is that before it.

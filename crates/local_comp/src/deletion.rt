@@ -14,9 +14,9 @@ use crate::neighbours::turn_neighbours;
 use crate::scalars::delete_scalar;
 use open_graph::{OpenGraph, Plane, VertexId};
 use std::alloc::AllocError;
-use std::mem;
 use zx_flow::Flow;
 use zx_model::{Scalar, Sixteenth};
+use zx_rewrite::{Rewrite, perform};
 
 /// Deletes an XZ or YZ vertex of phase 0 or of a half turn, which then each of its neighbours
 /// gets. Where memory runs out, graph and flow stay as they were; where all vertices are below the
@@ -36,37 +36,7 @@ pub fn delete(g: &mut OpenGraph, f: &mut Flow, u: VertexId) -> Result<Scalar, Al
     ensures reach { (g.new.reach ≡ g.old.reach) × (f.new.reach ≡ f.old.reach) }
     ensures valid { WellFormed g.new.graph }
 {
-    if f.has_reach(g) {
-        return delete_in_place(g, f, u);
-    }
-    delete_with_copies(g, f, u)
-}
-
-// The same in place. Where memory runs out, copies take the place of graph and flow.
-fn delete_with_copies(g: &mut OpenGraph, f: &mut Flow, u: VertexId) -> Result<Scalar, AllocError>
-    requires flow { IsFlow g.old.graph f.old.flow }
-    requires allowed { allowed g.old.graph (Delete u) ≡ true }
-    ensures rewritten { OnOk result
-        (IsRewritten g.old.graph f.old.flow (Delete u) g.new.graph f.new.flow) }
-    ensures scalar { IfOk result (λ s. s ≡ step_scalar g.old.graph (Delete u)) }
-    ensures err { OnErr result ((g.new.graph ≡ g.old.graph) × (f.new.flow ≡ f.old.flow)) }
-    ensures spare { OnOk result
-        ((g.new.spare ≡ g.old.spare + 1) × (f.new.spare ≡ f.old.spare + 1)) }
-    ensures keeps_spare { OnErr result
-        ((g.new.spare ≡ g.old.spare) × (f.old.spare ≤ f.new.spare)) }
-    ensures reach { (g.new.reach ≡ g.old.reach) × (f.new.reach ≡ f.old.reach) }
-    ensures valid { WellFormed g.new.graph }
-{
-    let mut graph = g.copy()?;
-    let mut flow = f.copy()?;
-    match delete_in_place(g, f, u) {
-        Ok(scalar) => Ok(scalar),
-        Err(error) => {
-            mem::swap(g, &mut graph);
-            mem::swap(f, &mut flow);
-            Err(error)
-        }
-    }
+    perform(g, f, &Deletion { u })
 }
 
 /// Whether the id is that of an XZ or YZ vertex of phase 0 or of a half turn.
@@ -81,36 +51,44 @@ pub fn may_delete(g: &OpenGraph, u: VertexId) -> bool
     !matches!(plane, Plane::XY) && phase.is_half_turns()
 }
 
-/// As `delete`, but where memory runs out, graph and flow may be any. Where all vertices are below the
-/// reach of both, none is needed.
-pub fn delete_in_place(g: &mut OpenGraph, f: &mut Flow, u: VertexId) -> Result<Scalar, AllocError>
-    requires flow { IsFlow g.old.graph f.old.flow }
-    requires allowed { allowed g.old.graph (Delete u) ≡ true }
-    ensures rewritten { OnOk result
-        (IsRewritten g.old.graph f.old.flow (Delete u) g.new.graph f.new.flow) }
-    ensures scalar { IfOk result (λ s. s ≡ step_scalar g.old.graph (Delete u)) }
-    ensures has_room { HaveReach g.old f.old → IsOk result }
-    ensures spare { OnOk result
-        ((g.new.spare ≡ g.old.spare + 1) × (f.new.spare ≡ f.old.spare + 1)) }
-    ensures reach { (g.new.reach ≡ g.old.reach) × (f.new.reach ≡ f.old.reach) }
-{
-    let scalar = delete_scalar(g, u);
-    delete_in_graph(g, u);
-    f.eliminate(u)?;
-    Ok(scalar)
+// The deletion of a vertex.
+#[derive(Drop)]
+struct Deletion {
+    u: VertexId,
 }
 
-/// The graph's part of `delete`.
-pub fn delete_in_graph(g: &mut OpenGraph, u: VertexId)
+impl Rewrite for Deletion {
+    ghost step = { λ by. Delete by.u };
+
+    ghost needs = { λ by g f. HaveReach g f };
+
+    ghost leaves = { λ by g f h k. (h.spare ≡ g.spare + 1) × (k.spare ≡ f.spare + 1) };
+
+    fn has_room(&self, g: &OpenGraph, f: &Flow) -> bool {
+        f.has_reach(g)
+    }
+
+    fn in_place(&self, g: &mut OpenGraph, f: &mut Flow) -> Result<Scalar, AllocError> {
+        let scalar = delete_in_graph(g, self.u);
+        f.eliminate(self.u)?;
+        Ok(scalar)
+    }
+}
+
+/// The graph's part of `delete`, with its scalar.
+pub fn delete_in_graph(g: &mut OpenGraph, u: VertexId) -> Scalar
     requires { allowed g.old.graph (Delete u) ≡ true }
     ensures step { IsStep g.old.graph (Delete u) g.new.graph }
+    ensures scalar { result ≡ step_scalar g.old.graph (Delete u) }
     ensures spare { g.new.spare ≡ g.old.spare + 1 }
     ensures reach { g.new.reach ≡ g.old.reach }
     ensures was_valid { WellFormed g.old.graph }
     ensures valid { WellFormed g.new.graph }
 {
+    let scalar = delete_scalar(g, u);
     pass_half_turn(g, u);
     g.remove_vertex(u);
+    scalar
 }
 
 // Gives each neighbour of a vertex of a half turn a half turn.

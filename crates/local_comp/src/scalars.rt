@@ -10,9 +10,9 @@ ghost use Rattle.open_graph.specs.Planes.{plane_named};
 use open_graph::{OpenGraph, Plane, VertexId};
 use zx_model::{Scalar, Sixteenth};
 
-/// The scalar of a local complement about an interior vertex: the sum before is so many times the sum
-/// after.
-pub fn complement_scalar(g: &OpenGraph, u: VertexId) -> Scalar
+// The scalar of a local complement about an interior vertex: the sum before is so many times the sum
+// after.
+pub(crate) fn complement_scalar(g: &OpenGraph, u: VertexId) -> Scalar
     requires { allowed g.now.graph (LocalComplement u) ≡ true }
     ensures value { result ≡ step_scalar g.now.graph (LocalComplement u) }
     ensures valid { WellFormed g.now.graph }
@@ -21,8 +21,8 @@ pub fn complement_scalar(g: &OpenGraph, u: VertexId) -> Scalar
     own_complement_scalar(plane, phase).times(turn_by(quarter_powers(g, u)))
 }
 
-/// The scalar of the deletion of a vertex: the sum before is so many times the sum after.
-pub fn delete_scalar(g: &OpenGraph, u: VertexId) -> Scalar
+// The scalar of the deletion of a vertex: the sum before is so many times the sum after.
+pub(crate) fn delete_scalar(g: &OpenGraph, u: VertexId) -> Scalar
     requires { allowed g.now.graph (Delete u) ≡ true }
     ensures value { result ≡ step_scalar g.now.graph (Delete u) }
     ensures valid { WellFormed g.now.graph }

@@ -4,25 +4,20 @@ ghost use Rattle.std.specs.Iterator.{YieldsFirst, item_count};
 
 use crate::id::VertexId;
 use std::marker::Model;
-use zx_bits::BitSet;
+use zx_bits::Numbers;
 
 /// The vertices of a set by rising id, seen as the list of those that are left.
 #[derive(Drop)]
 pub struct Ids<'a> {
-    pub(crate) numbers: &'a BitSet,
-    pub(crate) next: usize,
+    pub(crate) numbers: Numbers<'a>,
 }
 
 impl<'a> Model for Ids<'a> {
-    ghost use Rattle.std.specs.Prelude.{◌≡◌, ℕ, List, true, ltb};
-    ghost use Rattle.zx_calculus.specs.Graph.{in_order};
-    ghost use Rattle.open_graph.specs.Internal.Rows.{not_below};
+    ghost use Rattle.std.specs.Prelude.{ℕ, List};
 
     ghost Value = { List ℕ };
 
-    ghost view = { λ it. not_below it.next it.numbers.now.numbers };
-
-    ghost invariant = { λ it. in_order ltb it.numbers.now.numbers ≡ true };
+    ghost view = { λ it. it.numbers };
 }
 
 impl<'a> Iterator for Ids<'a> {
@@ -33,11 +28,8 @@ impl<'a> Iterator for Ids<'a> {
     ghost remaining = { item_count (λ rest. rest) };
 
     fn next(&mut self) -> Option<VertexId> {
-        match self.numbers.first_from(self.next) {
-            Some(first) => {
-                self.next = first + 1;
-                Some(VertexId::new(first))
-            }
+        match self.numbers.next() {
+            Some(number) => Some(VertexId::new(number)),
             None => None,
         }
     }

@@ -91,8 +91,7 @@ impl VertexSet {
         ensures rising { in_order ltb self.now.ids ≡ true }
     {
         Ids {
-            numbers: &self.numbers,
-            next: 0,
+            numbers: self.numbers.iter(),
         }
     }
 

@@ -25,7 +25,7 @@ use Rattle.qasm_inline.specs.declared.measured.Measured.{Measured}
 use Rattle.qasm_inline.specs.declared.unroll.Unrolled.{Unrolled}
 use Rattle.qasm_scope.specs.Calls.{applied, call_count}
 use Rattle.qasm_inline.specs.Circuits.{HasTaken, HasTakenAt, IsCircuitAnswer, IsEmpty, IsOpen, LeadsTo, gate_at}
-use Rattle.qasm_inline.specs.Internal.KeptCalls.{Continues}
+use Rattle.qasm_inline.specs.Internal.KeptCalls.{Continues, expand_number}
 use Rattle.qasm_scope.specs.Faults.{wrong_in}
 use Rattle.qasm_names.specs.Kept.{Represents}
 use Rattle.qasm_scope.specs.Meaning.{Means, after_statement, events_of, fault_after, first_fault, gates_after, is_version, measures_after, most_calls, scope_after, wrong_with}
@@ -34,6 +34,7 @@ use Rattle.qasm_scope.specs.Scope.{Scope, Gate, bit_count, declared, qubit_count
 use Rattle.qasm_scope.proofs.Placing.{placed_or}
 use Rattle.qasm_inline.proofs.Elementary.{meant-few, meant-few-bits, meant-on, meant-once, meant-within}
 use Rattle.qasm_inline.proofs.CountLemmas.{faultless-few_gates}
+use Rattle.qasm_inline.proofs.KnownLemmas.{known-declared, nothing-known}
 use Rattle.qasm_inline.proofs.MeantLemmas.{faultless-few}
 
 -- ---- the version
@@ -74,6 +75,7 @@ first_by s names measured unrolled true h e = record {
   represents = e.represents;
   remembers = e.remembers;
   leads = leads-version s measured.list unrolled.calls unrolled.gates h e.no_measures e.no_calls e.no_gates;
+  knows = nothing-known (expand_number []) 0 unrolled.known.items e.no_known;
 }
 first_by s names measured unrolled false h e = λ more. first_is s more false h
 
@@ -82,7 +84,7 @@ pub first-taken : (s : Placed) (stage : Stage) (program : List Placed) (names : 
     → stage ≡ (if is_version s.sentence then Open else Stopped (Fault cause.Version s.place)) → IsEmpty program names measured unrolled
     → HasTakenAt stage (program ++ s ∷ []) names measured unrolled
 first-taken s stage program names measured unrolled h e =
-    let start : IsEmpty [] names measured unrolled = record { none = refl; represents = e.represents; no_calls = e.no_calls; no_gates = e.no_gates; remembers = e.remembers; no_measures = e.no_measures } in
+    let start : IsEmpty [] names measured unrolled = record { none = refl; represents = e.represents; no_calls = e.no_calls; no_gates = e.no_gates; no_known = e.no_known; remembers = e.remembers; no_measures = e.no_measures } in
     subst (λ x. HasTakenAt x (program ++ s ∷ []) names measured unrolled) (sym h)
     (subst (λ ss. HasTakenAt (if is_version s.sentence then Open else Stopped (Fault cause.Version s.place)) (ss ++ s ∷ []) names measured unrolled) (sym e.none)
     (first_by s names measured unrolled (is_version s.sentence) refl start))
@@ -136,6 +138,7 @@ gate-declared program names later measured unrolled place form is right represen
   remembers = is.remembers;
   leads = leads-next program is.scope measured.list unrolled.calls unrolled.gates (gate_at place form) measured.list unrolled.calls unrolled.gates is.leads
       (ap (λ o. option_or o None) (right is.scope is.represents)) (record { same_wrong = refl; same_gates = refl; same_calls = refl }) (sym (append-nil measured.list));
+  knows = known-declared (declared form.name (Gate form)) is.scope unrolled.known.items is.knows;
 }
 
 pub gate-wrong : (program : List Placed) (names : Names) (measured : Measured) (unrolled : Unrolled) (place : ℕ) (form : GateForm) (what : Cause) → IsOpen program names measured unrolled

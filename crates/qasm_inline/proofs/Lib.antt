@@ -1,7 +1,9 @@
 pub mod Unrolling
 pub mod StackLemmas
 pub mod Keeping
+pub mod PlacedLemmas
 pub mod Numbers
+pub mod KnownLemmas
 pub mod SpanLemmas
 pub mod EventLemmas
 pub mod SizeLemmas

@@ -15,6 +15,7 @@ use Rattle.qasm_scope.specs.Scope.{Scope, Meaning, Qubits, Bits, Gate}
 use Rattle.qasm_names.proofs.Tests.{if-false}
 use Rattle.qasm_inline.proofs.Keeping.{Agrees, Agrees-before, Agrees-itself, kept_events, kept_events-calls, body-same}
 use Rattle.qasm_names.proofs.Symbols.{kept-length}
+use Rattle.qasm_inline.proofs.PlacedLemmas.{number-renamed}
 
 -- the calls of the gate of a number
 abbrev pub kept_at : Option (List KeptCall) → List KeptCall
@@ -97,4 +98,5 @@ kept-unrolls gates scope sound e = record {
       ∙ ap (λ o. kept_events (expand_number scope) depth angles qubits (kept_at o)) (slice_get-map kept_body gates n)
       ∙ ap (kept_events (expand_number scope) depth angles qubits) (sym (kept-of (slice_get gates n)))
       ∙ sym (kept_events-calls (expand_number scope) depth angles qubits (calls_of (slice_get gates n)));
+  by_places = number-renamed scope;
 }

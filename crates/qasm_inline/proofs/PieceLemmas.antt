@@ -1,9 +1,10 @@
 -- The steps of the reader that takes pieces.
-use Rattle.std.proofs.Common.{◌≡◌, ℕ, ◌+◌, List, [], ◌++◌, map, Result, Ok, Err, refl, sym, ap, ◌∙◌, subst, inl, append_assoc, append-nil}
+use Rattle.std.proofs.Common.{◌≡◌, ℕ, ◌+◌, List, [], ◌++◌, map, Result, Err, refl, sym, ap, ◌∙◌, subst, inl, append_assoc, append-nil}
 use Rattle.std.specs.Prelude.{OnOk}
 use Rattle.std.proofs.lemmas.List.{map-append}
+use Rattle.std.proofs.lemmas.Result.{on_ok_weaker}
 use Rattle.qasm_lexer.specs.declared.errors.LexError.{LexError}
-use Rattle.qasm_lexer.specs.declared.errors.LexError.TheVariants.{BadByte, NoMemory}
+use Rattle.qasm_lexer.specs.declared.errors.LexError.TheVariants.{BadByte}
 use Rattle.qasm_lexer.specs.Tokens.{Lexeme, IsCut, IsBadByte}
 use Rattle.qasm_lexer.specs.Internal.Moved.{moved}
 use Rattle.qasm_lexer.specs.Taken.{IsLineBegun, HasBadLine}
@@ -12,7 +13,7 @@ use Rattle.qasm_lexer.proofs.LineCuts.{bad_byte_stays, line_cut, line_bad}
 use Rattle.qasm_lexer.proofs.Taking.{line_longer}
 use Rattle.qasm_inline.specs.declared.piece_reader.PieceReader.{PieceReader}
 use Rattle.qasm_inline.specs.declared.reading.Reader.{Reader}
-use Rattle.qasm_inline.specs.Internal.Readings.{IsReadTo, Keeps, ReadsOn}
+use Rattle.qasm_inline.specs.Internal.Readings.{Keeps, ReadsOn}
 use Rattle.qasm_inline.specs.PieceReadings.{IsReadOff}
 
 -- nothing more is read
@@ -43,17 +44,11 @@ first_line text = record { lines = []; whole = refl; are = inl refl; cut = IsCut
 pub bad_line_told : (at : ℕ) (bytes : List ℕ) → HasBadLine at bytes → IsBadByte bytes at
 bad_line_told at bytes bad = rw bad.whole (bad_byte_stays bad.lines bad.rest at bad.are bad.bad)
 
--- what is told of the last lines
-pub read_to : {P : Type 0} (text : List ℕ) (reader : Reader) (told : Result (Unit {0}) LexError) → OnOk told P
-    → (P → (all : List Lexeme) × IsCut 0 text all × Keeps all reader) → ((at : ℕ) → told ≡ Err (BadByte at) → IsBadByte text at) → IsReadTo text reader told
-read_to text reader (Ok done) read keeps bad = keeps read
-read_to text reader (Err (BadByte at)) read keeps bad = bad at refl
-read_to text reader (Err NoMemory) read keeps bad = tt
-
 -- the text is read from its start
 pub read_whole : (text : List ℕ) (old new : Reader) (told : Result (Unit {0}) LexError) → Keeps [] old
-    → OnOk told ((tokens : List Lexeme) × IsCut 0 text tokens × ReadsOn old (map (moved 0) tokens) new)
-    → ((at : ℕ) → told ≡ Err (BadByte at) → (there : ℕ) × IsBadByte text there × (at ≡ 0 + there)) → IsReadTo text new told
-read_whole text old new told start read bad =
-    read_to text new told read (λ r. (_, line_cut [] r.0 text 0 text (first_line text) r.1, r.2 [] start))
-    (λ at e. let b = bad at e in subst (IsBadByte text) (sym b.2) (line_bad [] text 0 b.0 text (first_line text) b.1))
+    → OnOk told ((tokens : List Lexeme) × IsCut 0 text tokens × ReadsOn old (map (moved 0) tokens) new) → OnOk told ((all : List Lexeme) × IsCut 0 text all × Keeps all new)
+read_whole text old new told start read = on_ok_weaker told (λ r. (_, line_cut [] r.0 text 0 text (first_line text) r.1, r.2 [] start)) read
+
+pub bad_whole : (text : List ℕ) (told : Result (Unit {0}) LexError) → ((at : ℕ) → told ≡ Err (BadByte at) → (there : ℕ) × IsBadByte text there × (at ≡ 0 + there))
+    → (at : ℕ) → told ≡ Err (BadByte at) → IsBadByte text at
+bad_whole text told bad at e = let b = bad at e in subst (IsBadByte text) (sym b.2) (line_bad [] text 0 b.0 text (first_line text) b.1)

@@ -1,12 +1,12 @@
 -- The reader of a text, batch by batch.
-use Rattle.std.proofs.Common.{◌≡◌, ℕ, zero, suc, ◌-◌, ◌<◌, ◌≤◌, List, [], ◌∷◌, ◌++◌, length, take, drop, map, Option, None, Some, Result, Ok, Err, refl, sym, ap, ◌∙◌, subst, append_assoc, append-nil, arith, length-append, get_or, Bool, false, true}
-use Rattle.std.specs.Prelude.{IfOk}
+use Rattle.std.proofs.Common.{◌≡◌, ℕ, zero, suc, ◌-◌, ◌<◌, ◌≤◌, List, [], ◌∷◌, ◌++◌, length, take, drop, map, Option, None, Some, Result, Ok, Err, refl, sym, ap, ◌∙◌, subst, append_assoc, append-nil, arith, length-append, Bool, false, true}
+use Rattle.std.specs.Prelude.{IfOk, MatchOption}
+use Rattle.std.specs.Option.{option_or}
 use Rattle.std.proofs.lemmas.List.{length-map, take_rest}
 use Rattle.zx_gates.specs.declared.elementary.Elementary.{Elementary}
 use Rattle.zx_gates.specs.Elementary.{IsElementary}
 use Rattle.qasm_lexer.specs.declared.token.Token.{Token}
-use Rattle.qasm_lexer.specs.Tokens.{Lexeme, lexeme, lexemes, IsCut}
-use Rattle.qasm_reader.specs.Depth.{too_deep}
+use Rattle.qasm_lexer.specs.Tokens.{Lexeme, lexeme, lexemes}
 use Rattle.qasm_reader.specs.Grammar.{BeginsAt, BeginsWithStatement, IsFirstStatement, IsProgram, IsSyntaxFault}
 use Rattle.qasm_reader.specs.Parts.{BeginNone, IsBehind, IsInBody, has_end}
 use Rattle.qasm_reader.specs.Syntax.{GateForm, Placed}
@@ -16,12 +16,9 @@ use Rattle.qasm_scope.specs.Meaning.{Means, first_fault, most_calls}
 use Rattle.qasm_scope.specs.Texts.{IsProgramText}
 use Rattle.qasm_inline.specs.declared.circuit.Circuit.{Circuit}
 use Rattle.qasm_inline.specs.declared.circuit.OpenGate.{OpenGate}
-use Rattle.qasm_inline.specs.declared.reading.Reader.{Reader}
-use Rattle.qasm_inline.specs.declared.reading.Reading.{Reading}
 use Rattle.qasm_inline.specs.declared.error.TextError.{TextError}
-use Rattle.qasm_inline.specs.declared.error.TextError.TheVariants.{BadByte, TooDeep, Syntax, Wrong, NoMemory}
 use Rattle.qasm_inline.specs.Circuits.{HasBegun, HasTaken, gate_at}
-use Rattle.qasm_inline.specs.Internal.Readings.{AreAllTaken, AreTaken, AreTakenAs, IsCertain, IsKept, IsKeptAs, IsReadAs, IsProgramAnswer, IsTakenAs, IsTakenNext, IsTextAnswer}
+use Rattle.qasm_inline.specs.Internal.Readings.{AreTaken, IsKept, IsTextAnswer, open_place}
 use Rattle.qasm_inline.proofs.CircuitLemmas.{means-from, valid-from}
 
 -- ---- tokens behind tokens
@@ -63,164 +60,113 @@ some_taken tokens rest b =
 begins-more : (ts more : List Lexeme) (at : ℕ) → BeginsAt ts at → BeginsAt (ts ++ more) at
 begins-more ts more at b = (b.0, b.1 ++ more, ap (λ x. x ++ more) b.2, b.3)
 
--- ---- parts
-pub statement-taken : (all ts rest : List Lexeme) (gate : Option OpenGate) (circuit later : Circuit) (s : Placed) → gate ≡ None
-    → AreTaken all (record { circuit = circuit; gate = gate }) ts → IsFirstStatement s ts rest
-    → ((program : List Placed) → HasTaken circuit program → HasTaken later (program ++ s ∷ [])) → AreTaken all (record { circuit = later; gate = gate }) rest
-statement-taken all ts rest gate circuit later s e r first step =
-    let taken : (r.behind ≡ ts) × HasTaken circuit r.statements = subst (λ g. AreTakenAs g circuit r.statements r.behind ts) e r.taken in
-    let p = prefix_first all ts rest r.statements s (r.before, r.same ∙ ap (λ x. r.before ++ x) taken.0, r.program) first in
-    record {
-      before = p.0;
-      behind = rest;
-      statements = r.statements ++ s ∷ [];
-      same = p.1;
-      program = p.2;
-      taken = subst (λ g. AreTakenAs g later (r.statements ++ s ∷ []) rest rest) (sym e) (refl, step r.statements taken.1);
-    }
+-- ---- what was taken in
 
-pub end-taken : (all ts rest : List Lexeme) (circuit later : Circuit) (gate : OpenGate) (over : Option OpenGate) → over ≡ None
-    → AreTaken all (record { circuit = circuit; gate = Some gate }) ts
+pub nothing-taken : (circuit : Circuit) → HasTaken circuit [] → IsKept None [] None circuit []
+nothing-taken circuit taken = (record { before = []; behind = []; statements = []; same = refl; program = refl; taken = (refl, taken) }, nothing_begins)
+
+pub statement-taken : (all ts rest : List Lexeme) (gate : Option OpenGate) (circuit later : Circuit) (s : Placed) → gate ≡ None → AreTaken all gate circuit ts
+    → IsFirstStatement s ts rest → ((program : List Placed) → HasTaken circuit program → HasTaken later (program ++ s ∷ [])) → AreTaken all gate later rest
+statement-taken all ts rest gate circuit later s e r first step =
+    let taken = rw e at r.taken in
+    let p = prefix_first all ts rest r.statements s (r.before, r.same ∙ ap (λ x. r.before ++ x) taken.0, r.program) first in
+    record { before = p.0; behind = rest; statements = r.statements ++ s ∷ []; same = p.1; program = p.2; taken = rw e (refl, step r.statements taken.1) }
+
+pub end-taken : (all ts rest : List Lexeme) (circuit later : Circuit) (gate : OpenGate) (over : Option OpenGate) → over ≡ None → AreTaken all (Some gate) circuit ts
     → ((form : GateForm) (behind : List Lexeme) → IsInBody gate.place form behind ts → IsFirstStatement (gate_at gate.place form) behind rest)
     → ((program : List Placed) (form : GateForm) → HasBegun circuit gate program form → HasTaken later (program ++ gate_at gate.place form ∷ []))
-    → AreTaken all (record { circuit = later; gate = over }) rest
+    → AreTaken all over later rest
 end-taken all ts rest circuit later gate over e r first step =
-    let form = r.taken.0 in
-    let p = prefix_first all r.behind rest r.statements (gate_at gate.place form) (r.before, r.same, r.program) (first form r.behind r.taken.1) in
-    record {
-      before = p.0;
-      behind = rest;
-      statements = r.statements ++ gate_at gate.place form ∷ [];
-      same = p.1;
-      program = p.2;
-      taken = subst (λ g. AreTakenAs g later (r.statements ++ gate_at gate.place form ∷ []) rest rest) (sym e) (refl, step r.statements form r.taken.2);
-    }
+    let s = gate_at gate.place r.taken.0 in
+    let p = prefix_first all r.behind rest r.statements s (r.before, r.same, r.program) (first r.taken.0 r.behind r.taken.1) in
+    record { before = p.0; behind = rest; statements = r.statements ++ s ∷ []; same = p.1; program = p.2; taken = rw e (refl, step r.statements r.taken.0 r.taken.2) }
 
--- ---- no part
-pub none-between : (all ts : List Lexeme) (gate : Option OpenGate) (circuit : Circuit) → gate ≡ None → AreTaken all (record { circuit = circuit; gate = gate }) ts
-    → BeginNone ts ts → AreAllTaken all (record { circuit = circuit; gate = gate }) ts
-none-between all ts gate circuit e r none =
-    let taken : (r.behind ≡ ts) × HasTaken circuit r.statements = subst (λ g. AreTakenAs g circuit r.statements r.behind ts) e r.taken in
-    record { read = r; none = subst (λ x. BeginNone x ts) (sym taken.0) none }
+-- no part begins what is left
+pub none-between : (all ts : List Lexeme) (gate : Option OpenGate) (circuit : Circuit) → gate ≡ None → AreTaken all gate circuit ts → BeginNone ts ts → IsKept None all gate circuit ts
+none-between all ts gate circuit e r none = (r, (let taken = rw e at r.taken in subst (λ x. BeginNone x ts) (sym taken.0) none))
 
-pub none-inside : (all ts : List Lexeme) (gate : OpenGate) (circuit : Circuit) → AreTaken all (record { circuit = circuit; gate = Some gate }) ts
-    → ((form : GateForm) (behind : List Lexeme) → IsInBody gate.place form behind ts → BeginNone behind ts)
-    → AreAllTaken all (record { circuit = circuit; gate = Some gate }) ts
-none-inside all ts gate circuit r none = record { read = r; none = none r.taken.0 r.behind r.taken.1 }
+pub none-next : (all : List Lexeme) (gate : Option OpenGate) (circuit : Circuit) (count : Option ℕ) (tokens : List Token) → ((n : ℕ) → count ≡ Some n → ⊥)
+    → MatchOption count (IsKept None all gate circuit (lexemes tokens)) (λ n. AreTaken all gate circuit (lexemes (drop n tokens))) → IsKept None all gate circuit (lexemes tokens)
+none-next all gate circuit None tokens none h = h
+none-next all gate circuit (Some n) tokens none h = absurd (none n refl)
 
-pub none-next : (all : List Lexeme) (count : Option ℕ) (reading : Reading) (tokens : List Token) → ((n : ℕ) → count ≡ Some n → ⊥)
-    → IsTakenNext all count reading tokens → AreAllTaken all reading (lexemes tokens)
-none-next all None reading tokens none h = h
-none-next all (Some n) reading tokens none h = absurd (none n refl)
-
--- ---- batches
-pub read-start : (circuit : Circuit) → HasTaken circuit [] → AreAllTaken [] (record { circuit = circuit; gate = None }) []
-read-start circuit taken = record {
-  read = record { before = []; behind = []; statements = []; same = refl; program = refl; taken = (refl, taken) };
-  none = nothing_begins;
+-- tokens more
+inside-more : (place : ℕ) (form : GateForm) (behind rest more : List Lexeme) → IsInBody place form behind rest → IsInBody place form (behind ++ more) (rest ++ more)
+inside-more place form behind rest more is = record {
+  heading = is.heading;
+  body = is.body;
+  same = ap (λ x. x ++ more) is.same ∙ append_assoc (is.heading ++ is.body) rest more;
+  begins = is.begins;
+  is_heading = is.is_heading;
+  is_body = is.is_body;
 }
 
--- what stands before the tokens that are left stands before others too
-before-rest : (all before behind rest : List Lexeme) (gate : Option OpenGate) (circuit : Circuit) (statements : List Placed) → all ≡ before ++ behind
-    → IsProgram before statements → AreTakenAs gate circuit statements behind rest
-    → (front : List Lexeme) × (all ≡ front ++ rest) × ((later : List Lexeme) → AreTaken (front ++ later) (record { circuit = circuit; gate = gate }) later)
-before-rest all before behind rest None circuit statements e program taken = (
-  before,
-  e ∙ ap (λ x. before ++ x) taken.0,
-  λ later. record { before = before; behind = later; statements = statements; same = refl; program = program; taken = (refl, taken.1) },
-)
-before-rest all before behind rest (Some gate) circuit statements e program (form, is, begun) = (
-  before ++ (is.heading ++ is.body),
-  e ∙ ap (λ x. before ++ x) is.same ∙ sym (append_assoc before (is.heading ++ is.body) rest),
-  λ later. record {
-    before = before;
-    behind = is.heading ++ is.body ++ later;
-    statements = statements;
-    same = append_assoc before (is.heading ++ is.body) later;
-    program = program;
-    taken = (
-      form,
-      record { heading = is.heading; body = is.body; same = refl; begins = is.begins; is_heading = is.is_heading; is_body = is.is_body },
-      begun,
-    );
-  },
-)
+more-taken : (gate : Option OpenGate) (circuit : Circuit) (statements : List Placed) (behind rest more : List Lexeme)
+    → MatchOption gate ((behind ≡ rest) × HasTaken circuit statements) (λ begun. (form : GateForm) × IsInBody begun.place form behind rest × HasBegun circuit begun statements form)
+    → MatchOption gate ((behind ++ more ≡ rest ++ more) × HasTaken circuit statements)
+    (λ begun. (form : GateForm) × IsInBody begun.place form (behind ++ more) (rest ++ more) × HasBegun circuit begun statements form)
+more-taken None circuit statements behind rest more (same, taken) = (ap (λ x. x ++ more) same, taken)
+more-taken (Some gate) circuit statements behind rest more (form, is, begun) = (form, inside-more gate.place form behind rest more is, begun)
 
-pub before-left : (all rest : List Lexeme) (reading : Reading) → AreTaken all reading rest
-    → (front : List Lexeme) × (all ≡ front ++ rest) × ((later : List Lexeme) → AreTaken (front ++ later) reading later)
-before-left all rest reading r = before-rest all r.before r.behind rest reading.gate reading.circuit r.statements r.same r.program r.taken
+pub taken-more : (all rest more : List Lexeme) (gate : Option OpenGate) (circuit : Circuit) → IsKept None all gate circuit rest → AreTaken (all ++ more) gate circuit (rest ++ more)
+taken-more all rest more gate circuit (r, none) = record {
+  before = r.before;
+  behind = r.behind ++ more;
+  statements = r.statements;
+  same = ap (λ x. x ++ more) r.same ∙ append_assoc r.before r.behind more;
+  program = r.program;
+  taken = more-taken gate circuit r.statements r.behind rest more r.taken;
+}
 
--- ---- certain faults
-certain-as : (all before behind rest more : List Lexeme) (gate : Option OpenGate) (circuit : Circuit) (statements : List Placed) → all ≡ before ++ behind → IsProgram before statements
-    → AreTakenAs gate circuit statements behind rest → (BeginsWithStatement (behind ++ more) → ⊥)
-    → ((at : ℕ) → BeginsAt rest at → gate ≡ None → IsSyntaxFault (all ++ more) at) × ((one : OpenGate) → gate ≡ Some one → IsSyntaxFault (all ++ more) one.place)
-certain-as all before behind rest more gate circuit statements e program taken none = (
-  λ at begins is.
-      let t : (behind ≡ rest) × HasTaken circuit statements = subst (λ g. AreTakenAs g circuit statements behind rest) is taken in
-      (before, behind ++ more, statements, ap (λ x. x ++ more) e ∙ append_assoc before behind more, program, begins-more behind more at (subst (λ x. BeginsAt x at) (sym t.0) begins), none),
-  λ one is.
-      let t : (form : GateForm) × IsInBody one.place form behind rest × HasBegun circuit one statements form = subst (λ g. AreTakenAs g circuit statements behind rest) is taken in (
-        before,
-        behind ++ more,
-        statements,
-        ap (λ x. x ++ more) e ∙ append_assoc before behind more,
-        program,
-        begins-more behind more one.place (subst (λ x. BeginsAt x one.place) (sym (t.1.same ∙ append_assoc t.1.heading t.1.body rest)) (begins-more t.1.heading (t.1.body ++ rest) one.place t.1.begins)),
-        none,
-      ),
-)
+-- ---- faults
 
--- where no part begins the tokens and one of them ends a part, the fault is certain
-certain-between : (all rest : List Lexeme) (reading : Reading) (t : Lexeme) (ts : List Lexeme) → reading.gate ≡ None → rest ≡ t ∷ ts → AreAllTaken all reading rest → has_end rest ≡ true
-    → IsCertain all (Some t.place)
-certain-between all rest reading t ts gate first is end = λ more.
-    let r = is.read in
-    (certain-as all r.before r.behind rest more reading.gate reading.circuit r.statements r.same r.program r.taken (is.none.none_later end more)).0 t.place (t, ts, first, refl) gate
+-- what isn't over begins behind whole statements
+open-begins : (all rest : List Lexeme) (gate : Option OpenGate) (circuit : Circuit) (at : ℕ) (r : AreTaken all gate circuit rest) → open_place gate rest ≡ Some at → BeginsAt r.behind at
+open-begins all [] None circuit at r e = absurd (let h : ◌≡◌ {A = Option ℕ} None (Some at) = e in cc)
+open-begins all (t ∷ ts) None circuit at r e = (t, ts, r.taken.0, (let h : ◌≡◌ {A = Option ℕ} (Some t.place) (Some at) = e in cc))
+open-begins all rest (Some gate) circuit at r e =
+    let same : gate.place ≡ at = (let h : ◌≡◌ {A = Option ℕ} (Some gate.place) (Some at) = e in cc) in
+    let is = r.taken.1 in
+    subst (λ x. BeginsAt x at) (sym (is.same ∙ append_assoc is.heading is.body rest)) (begins-more is.heading (is.body ++ rest) at (subst (BeginsAt is.heading) same is.begins))
 
-pub certain-first : (all : List Lexeme) (tokens : List Token) (reading : Reading) (first : Token) → reading.gate ≡ None → first ≡ get_or tokens 0 first → AreAllTaken all reading (lexemes tokens)
-    → has_end (lexemes tokens) ≡ true → IsCertain all (Some first.place)
-certain-first all [] reading first gate same is end = absurd (let h : ◌≡◌ {A = Bool} false true = end in cc)
-certain-first all (t ∷ ts) reading first gate same is end =
-    subst (λ (x : Token). IsCertain all (Some x.place)) (sym same) (certain-between all (lexemes (t ∷ ts)) reading (lexeme t) (lexemes ts) gate refl is end)
+fault-at : (all rest more : List Lexeme) (gate : Option OpenGate) (circuit : Circuit) (at : ℕ) (r : AreTaken all gate circuit rest) → open_place gate rest ≡ Some at
+    → (BeginsWithStatement (r.behind ++ more) → ⊥) → IsSyntaxFault (all ++ more) at
+fault-at all rest more gate circuit at r e none =
+    (r.before, r.behind ++ more, r.statements, ap (λ x. x ++ more) r.same ∙ append_assoc r.before r.behind more, r.program, begins-more r.behind more at (open-begins all rest gate circuit at r e), none)
 
-pub certain-inside : (all rest : List Lexeme) (reading : Reading) (gate : OpenGate) → reading.gate ≡ Some gate → AreAllTaken all reading rest → has_end rest ≡ true
-    → IsCertain all (Some gate.place)
-certain-inside all rest reading gate inside is end = λ more.
-    let r = is.read in
-    (certain-as all r.before r.behind rest more reading.gate reading.circuit r.statements r.same r.program r.taken (is.none.none_later end more)).1 gate inside
+-- where one of the tokens that are left ends a part, something isn't over
+open-there : (gate : Option OpenGate) (rest : List Lexeme) → has_end rest ≡ true → open_place gate rest ≡ None → ⊥
+open-there None [] end none = let h : ◌≡◌ {A = Bool} false true = end in cc
+open-there None (t ∷ ts) end none = let h : ◌≡◌ {A = Option ℕ} (Some t.place) None = none in cc
+open-there (Some gate) rest end none = let h : ◌≡◌ {A = Option ℕ} (Some gate.place) None = none in cc
 
-pub certain-taken : (all : List Lexeme) (fault : Option ℕ) (reading : Reading) (rest : List Lexeme) → IsCertain all fault → IsTakenAs fault all reading rest
-certain-taken all None reading rest certain = absurd certain
-certain-taken all (Some at) reading rest certain = certain
+-- and the fault is certain
+pub certain-kept : (all rest : List Lexeme) (gate : Option OpenGate) (circuit : Circuit) (fault : Option ℕ) → IsKept None all gate circuit rest → has_end rest ≡ true
+    → fault ≡ open_place gate rest → IsKept fault all gate circuit []
+certain-kept all rest gate circuit None (r, none) end e = absurd (open-there gate rest end (sym e))
+certain-kept all rest gate circuit (Some at) (r, none) end e = (refl, λ more. fault-at all rest more gate circuit at r (sym e) (none.none_later end more))
 
--- what stands before the tokens that are kept stands before others too
-kept-as : (fault : Option ℕ) (all : List Lexeme) (reader : Reader) → IsKeptAs fault all reader
-    → (front : List Lexeme) × (all ≡ front ++ lexemes reader.tokens.items) × ((later : List Lexeme) → IsReadAs fault (front ++ later) reader.reading later)
-kept-as None all reader is = before-left all (lexemes reader.tokens.items) reader.reading is.read
-kept-as (Some at) all reader (none, certain) = (
-  all,
-  sym (append-nil all) ∙ ap (λ x. all ++ x) (sym none),
-  λ later more. subst (λ x. IsSyntaxFault x at) (sym (append_assoc all later more)) (certain (later ++ more)),
-)
+pub still-certain : (all known more : List Lexeme) (gate : Option OpenGate) (circuit : Circuit) (at : ℕ) → IsKept (Some at) all gate circuit known → IsKept (Some at) (all ++ more) gate circuit []
+still-certain all known more gate circuit at kept = (refl, λ later. subst (λ x. IsSyntaxFault x at) (sym (append_assoc all more later)) (kept.1 (more ++ later)))
 
-pub kept-left : (all : List Lexeme) (reader : Reader) → IsKept all reader
-    → (front : List Lexeme) × (all ≡ front ++ lexemes reader.tokens.items) × ((later : List Lexeme) → IsReadAs reader.fault (front ++ later) reader.reading later)
-kept-left all reader is = kept-as reader.fault all reader is
+-- where the text is over
+pub kept-fault : (all kept : List Lexeme) (gate : Option OpenGate) (circuit : Circuit) (fault : Option ℕ) (at : ℕ) → IsKept fault all gate circuit kept → option_or fault (open_place gate kept) ≡ Some at
+    → IsSyntaxFault all at
+kept-fault all kept gate circuit None at (r, none) e =
+    subst (λ x. IsSyntaxFault x at) (append-nil all) (fault-at all kept [] gate circuit at r e (λ begins. none.none (subst BeginsWithStatement (append-nil r.behind) begins)))
+kept-fault all kept gate circuit (Some place) at (none, certain) e =
+    let same : place ≡ at = (let h : ◌≡◌ {A = Option ℕ} (Some place) (Some at) = e in cc) in
+    subst (IsSyntaxFault all) same (subst (λ x. IsSyntaxFault x place) (append-nil all) (certain []))
 
--- a certain fault is one where the text is over
-pub certain-end : (all : List Lexeme) (at : ℕ) → IsCertain all (Some at) → IsSyntaxFault all at
-certain-end all at certain = subst (λ x. IsSyntaxFault x at) (append-nil all) (certain [])
+pub kept-whole : (all kept : List Lexeme) (gate : Option OpenGate) (circuit : Circuit) (fault : Option ℕ) → IsKept fault all gate circuit kept → option_or fault (open_place gate kept) ≡ None
+    → (statements : List Placed) × IsProgram all statements × HasTaken circuit statements
+kept-whole all [] None circuit None (r, none) e =
+    (r.statements, subst (λ x. IsProgram x r.statements) (sym (r.same ∙ ap (λ x. r.before ++ x) r.taken.0 ∙ append-nil r.before)) r.program, r.taken.1)
+kept-whole all (t ∷ ts) None circuit None r e = absurd (let h : ◌≡◌ {A = Option ℕ} (Some t.place) None = e in cc)
+kept-whole all kept (Some gate) circuit None r e = absurd (let h : ◌≡◌ {A = Option ℕ} (Some gate.place) None = e in cc)
+kept-whole all kept gate circuit (Some at) r e = absurd (let h : ◌≡◌ {A = Option ℕ} (Some at) None = e in cc)
 
 -- ---- answers
-pub text-answer : (text : List ℕ) (tokens : List Lexeme) (program : List Placed) (result : Result Elementary TextError) → IsCut 0 text tokens → too_deep tokens ≡ None
-    → IsProgram tokens program → IsProgramAnswer program result → IsTextAnswer text result
-text-answer text tokens program (Ok circuit) cut shallow is h = (program, record { tokens = tokens; cut = cut; shallow = shallow; grammar = is }, h)
-text-answer text tokens program (Err (Wrong cause at)) cut shallow is h = (program, record { tokens = tokens; cut = cut; shallow = shallow; grammar = is }, h)
-text-answer text tokens program (Err NoMemory) cut shallow is h = tt
-text-answer text tokens program (Err (BadByte at)) cut shallow is h = absurd h
-text-answer text tokens program (Err (TooDeep at)) cut shallow is h = absurd h
-text-answer text tokens program (Err (Syntax at)) cut shallow is h = absurd h
-
 pub text-means : (text : List ℕ) (result : Result Elementary TextError) → IsTextAnswer text result
     → IfOk result (λ circuit. (program : List Placed) × IsProgramText text program × (first_fault most_calls program ≡ None) × Means program circuit.qubits circuit.gates circuit.bits circuit.measured)
 text-means text (Ok circuit) (program, is, answer) = (program, is, answer.0, means-from program (Ok circuit) answer)

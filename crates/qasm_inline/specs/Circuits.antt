@@ -13,6 +13,7 @@ use Rattle.qasm_inline.specs.declared.error.InlineError.TheVariants.{Fault, NoMe
 use Rattle.qasm_inline.specs.declared.measured.Measured.{Measured}
 use Rattle.qasm_inline.specs.declared.unroll.Unrolled.{Unrolled}
 use Rattle.qasm_inline.specs.Internal.KeptMeasures.{Remembers}
+use Rattle.qasm_inline.specs.Internal.KnownCalls.{Knows}
 use Rattle.qasm_names.specs.declared.gate_in_progress.GateInProgress.{GateInProgress}
 use Rattle.qasm_names.specs.declared.names.Names.{Names}
 use Rattle.qasm_names.specs.Begun.{IsBegun}
@@ -45,6 +46,7 @@ pub record IsOpen (program : List Placed) (names : Names) (measured : Measured) 
   pub represents : Represents names scope
   pub remembers : Remembers measured
   pub leads : LeadsTo program scope measured.list unrolled.calls unrolled.gates
+  pub knows : Knows scope unrolled
 
 -- there is no statement yet, and nothing is declared
 pub record IsEmpty (program : List Placed) (names : Names) (measured : Measured) (unrolled : Unrolled) : Type 0 where
@@ -52,6 +54,7 @@ pub record IsEmpty (program : List Placed) (names : Names) (measured : Measured)
   pub represents : Represents names []
   pub no_calls : unrolled.calls ≡ 0
   pub no_gates : unrolled.gates ≡ []
+  pub no_known : unrolled.known.items ≡ []
   pub remembers : Remembers measured
   pub no_measures : measured.list ≡ []
 

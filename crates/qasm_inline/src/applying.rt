@@ -9,6 +9,7 @@ ghost use Rattle.qasm_scope.specs.Applications.{application_events, has_twice, i
 ghost use Rattle.qasm_names.specs.Kept.{Represents};
 ghost use Rattle.qasm_inline.specs.Internal.KeptCalls.{ComesTo};
 ghost use Rattle.qasm_inline.specs.Internal.KeptMeasures.{Remembers, wrong_next};
+ghost use Rattle.qasm_inline.specs.Internal.KnownCalls.{Knows};
 ghost use Rattle.qasm_scope.specs.Faults.{has_other_size, wrong_behind, wrong_in};
 ghost use Rattle.qasm_scope.specs.Scope.{Scope};
 ghost use Rattle.qasm_inline.specs.Internal.Spans.{span_range, no_register_by, is_unknown, is_wrong_count, IsResolved, is_unresolved, unresolved_cause, resolved_cause};
@@ -57,11 +58,13 @@ pub fn apply<'a>(
         → Remembers measured.now → wrong_behind scope measured.now.list
         (Act (Applied (views.application application.now))) ≡ None) }
     ensures events { OnOk result ((scope : Scope) → Represents names.now scope
-        → ComesTo unrolled.old (application_events scope (views.application application.now))
-        unrolled.new []) }
+        → Knows scope unrolled.old → ComesTo unrolled.old
+        (application_events scope (views.application application.now)) unrolled.new []) }
+    ensures knows { OnOk result ((scope : Scope) → Represents names.now scope
+        → Knows scope unrolled.old → Knows scope unrolled.new) }
     ensures err { (cause : Cause) (scope : Scope) → result ≡ Err (StatementError.Wrong cause)
-        → Represents names.now scope → Remembers measured.now → wrong_next scope measured.now
-        unrolled.old (Act (Applied (views.application application.now))) ≡ Some cause }
+        → Represents names.now scope → Remembers measured.now → Knows scope unrolled.old → wrong_next scope
+        measured.now unrolled.old (Act (Applied (views.application application.now))) ≡ Some cause }
 {
     let Some(resolved) = resolved(alloc, names, application)? else {
         let cause = unresolved_cause(alloc, names, application);

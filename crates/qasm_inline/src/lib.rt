@@ -14,6 +14,7 @@
 //! - `instances`: its instances, one call after the other.
 //! - `unroll`, `values`: calls unrolled depth first, on stacks of frames, angles and qubits that
 //!   are kept between applications.
+//! - `expansions`: what calls without angles come to, kept for the next calls and copied to their qubits.
 //! - `statements`, `circuit`: statements taken in one after the other, after the version, a gate's
 //!   declaration also in parts.
 //! - `meaning`: those of a program.
@@ -36,6 +37,7 @@ mod applications;
 mod applying;
 mod circuit;
 mod error;
+mod expansions;
 mod instances;
 mod laws;
 mod meaning;

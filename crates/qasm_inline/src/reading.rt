@@ -1,6 +1,6 @@
 //! Reading: from a text to the circuit that it means, in one pass over the text.
 
-ghost use Rattle.std.specs.Prelude.{◌≡◌, ◌+◌, ◌^◌, ◌<◌, ◌≤◌, ◌++◌, List, [], ℕ, length, map, true, None, Some, Ok, Err, IfOk, IfSome, OnOk};
+ghost use Rattle.std.specs.Prelude.{◌≡◌, ◌+◌, ◌^◌, ◌<◌, ◌≤◌, ◌++◌, List, [], ℕ, length, map, None, Some, Err, IfOk, IfSome, MatchOption, OnOk};
 ghost use Rattle.std.specs.List.{All};
 ghost use Rattle.std.specs.Borrow.{Bor};
 ghost use Rattle.zx_gates.specs.Elementary.{IsElementary};
@@ -9,13 +9,13 @@ ghost use Rattle.qasm_lexer.specs.Internal.Moved.{moved};
 ghost use Rattle.qasm_lexer.specs.Tokens.{Lexeme, lexemes, IsCut, IsBadByte};
 ghost use Rattle.qasm_reader.specs.Depth.{too_deep, IsDepth};
 ghost use Rattle.qasm_reader.specs.Grammar.{IsSyntaxFault};
-ghost use Rattle.qasm_reader.specs.Parts.{IsFirstPart, has_end};
+ghost use Rattle.qasm_reader.specs.Parts.{IsFirstPart};
 ghost use Rattle.qasm_reader.specs.Syntax.{Placed};
 ghost use Rattle.qasm_scope.specs.declared.causes.Cause.{Cause};
 ghost use Rattle.qasm_scope.specs.Meaning.{Means, first_fault, most_calls};
 ghost use Rattle.qasm_scope.specs.Texts.{IsProgramText};
 ghost use Rattle.qasm_inline.specs.Circuits.{HasTaken};
-ghost use Rattle.qasm_inline.specs.Internal.Readings.{AreAllTaken, AreTaken, IsCertain, IsEnd, IsKept, IsReadAs, IsTakenAs, IsProgramAnswer, IsNextOf, IsReadTo, Keeps, IsTakenNext, IsTextAnswer, ReadsOn, TakesIn, inside};
+ghost use Rattle.qasm_inline.specs.Internal.Readings.{AreTaken, IsKept, IsNextOf, IsTakenNext, IsTextAnswer, Keeps, ReadsOn, open_place};
 
 use crate::circuit::{Circuit, OpenGate};
 use crate::error::{InlineError, TextError};
@@ -24,6 +24,7 @@ use bumpalo::Bump;
 use qasm_lexer::{LexError, Token, lex_further};
 use qasm_reader::{BodyPart, Depth, Part, has_end, next_in_body, next_part};
 use std::alloc::{AllocError, Global};
+use std::mem;
 use zx_gates::Elementary;
 
 // How many tokens are cut off a text at once.
@@ -64,8 +65,10 @@ pub fn read(alloc: Global, text: &[u8]) -> Result<Elementary, TextError>
 // The reader of a text, which goes through it batch by batch.
 #[derive(Drop)]
 pub(crate) struct Reader<'a> {
-    // What is read so far.
-    reading: Reading<'a>,
+    // The circuit, which has taken in what was read.
+    circuit: Circuit<'a>,
+    // The gate whose declaration isn't over.
+    gate: Option<OpenGate<'a>>,
     // The tokens behind that, which no part begins.
     tokens: Vec<Token<'a>>,
     // How deep parentheses are nested behind these.
@@ -80,7 +83,8 @@ impl<'a> Reader<'a> {
         ensures { Keeps [] result }
     {
         Reader {
-            reading: Reading::new(alloc),
+            circuit: Circuit::new(alloc),
+            gate: None,
             tokens: Vec::new(alloc),
             depth: Depth::start(),
             fault: None,
@@ -126,10 +130,14 @@ impl<'a> Reader<'a> {
         requires { All (λ token. from + token.place < 2 ^ 64) tokens.now }
         ensures { OnOk result (ReadsOn self.old (map (moved from) (lexemes tokens.now)) self.new) }
     {
-        let known = self.tokens.len();
-        words.keep_all(tokens, from, &mut self.tokens)?;
-        self.depth = self.depth.after(&self.tokens[known..]);
-        self.take_parts(alloc)?;
+        let mut kept = mem::replace(&mut self.tokens, Vec::new(alloc));
+        let known = kept.len();
+        words.keep_all(tokens, from, &mut kept)?;
+        let depth = self.depth.after(&kept[known..]);
+        let fault = self.read_kept(alloc, &mut kept)?;
+        self.tokens = kept;
+        self.depth = depth;
+        self.fault = fault;
         Ok(())
     }
 
@@ -140,100 +148,34 @@ impl<'a> Reader<'a> {
         self.tokens.len().max(BATCH)
     }
 
-    // Takes in the parts that the tokens begin with. Once a syntax fault is certain, the tokens are dropped.
-    fn take_parts(&mut self, alloc: Global) -> Result<(), AllocError>
-        ensures read { OnOk result ((all : List Lexeme)
-            → IsReadAs self.old.fault all self.old.reading (lexemes self.old.tokens.items)
-            → IsKept all self.new) }
-        ensures depth { self.new.depth ≡ self.old.depth }
-    {
-        self.fault = self.certain_fault(alloc)?;
-        match self.fault {
-            Some(_) => {
-                self.tokens.clear();
-                Ok(())
-            }
-            None => Ok(()),
-        }
-    }
-
-    // The place of the syntax fault, where it is certain. Else the parts that the tokens begin with are taken in.
-    fn certain_fault(&mut self, alloc: Global) -> Result<Option<usize>, AllocError>
-        ensures read { IfOk result (λ fault. (all : List Lexeme)
-            → IsReadAs self.old.fault all self.old.reading (lexemes self.old.tokens.items)
-            → IsTakenAs fault all self.new.reading (lexemes self.new.tokens.items)) }
-        ensures depth { self.new.depth ≡ self.old.depth }
-    {
-        match self.fault {
-            Some(at) => Ok(Some(at)),
-            None => self.reading.take_parts(alloc, &mut self.tokens),
-        }
-    }
-
-    // What is answered where the text is over, by what its last lines were told to be.
-    pub(crate) fn answer(self, told: Result<(), LexError>) -> Result<Elementary, TextError>
-        ensures { (text : List ℕ) → IsReadTo text self.entry told → IsTextAnswer text result }
-    {
-        match told {
-            Ok(()) => self.finish(),
-            Err(LexError::BadByte { at }) => Err(TextError::BadByte { at }),
-            Err(LexError::NoMemory) => Err(TextError::NoMemory),
-        }
-    }
-
-    // What is answered where the whole text is read.
-    fn finish(self) -> Result<Elementary, TextError>
-        ensures { (text : List ℕ) (all : List Lexeme) → IsCut 0 text all → Keeps all self.entry
-            → IsTextAnswer text result }
-    {
-        let fault = self.last_fault();
-        // The circuit takes its place.
-        drop(self.tokens);
-        ended(self.depth, fault, self.reading.circuit)
-    }
-
-    // The place of the syntax fault, where the text is over.
-    fn last_fault(&self) -> Option<usize>
-        ensures { (all : List Lexeme) → IsKept all self.now
-            → IsEnd all self.now.reading.circuit result }
-    {
-        match self.fault {
-            Some(at) => Some(at),
-            None => self.reading.fault(&self.tokens),
-        }
-    }
-}
-
-// What is read of a text so far.
-#[derive(Drop)]
-struct Reading<'a> {
-    // The circuit, which has taken in what was read.
-    circuit: Circuit<'a>,
-    // The gate whose declaration isn't over.
-    gate: Option<OpenGate<'a>>,
-}
-
-impl<'a> Reading<'a> {
-    // Nothing is read.
-    fn new(alloc: Global) -> Reading<'a>
-        ensures { AreAllTaken [] result [] }
-    {
-        Reading {
-            circuit: Circuit::new(alloc),
-            gate: None,
-        }
-    }
-
-    // Takes in the parts that the tokens begin with, and leaves the tokens behind them. The place of the syntax fault is
-    // given, if there is one whatever follows.
-    fn take_parts(
+    // Reads on in the tokens that are kept, of which the last ones are new, and leaves those that are still needed. The
+    // place of the syntax fault is given, if there is one whatever follows.
+    fn read_kept(
         &mut self,
         alloc: Global,
-        tokens: &mut Vec<Token<'a>>,
+        kept: &mut Vec<Token<'a>>,
     ) -> Result<Option<usize>, AllocError>
-        ensures { IfOk result (λ fault. (all : List Lexeme)
-            → AreTaken all self.old (lexemes tokens.old.items)
-            → IsTakenAs fault all self.new (lexemes tokens.new.items)) }
+        ensures { (all known more : List Lexeme) → lexemes kept.old.items ≡ known ++ more
+            → IsKept self.old.fault all self.old.gate self.old.circuit known → IfOk result (λ fault.
+            IsKept fault (all ++ more) self.new.gate self.new.circuit (lexemes kept.new.items)) }
+    {
+        match self.fault {
+            Some(at) => {
+                kept.clear();
+                Ok(Some(at))
+            }
+            None => {
+                self.take_parts(alloc, kept)?;
+                Ok(self.certain_fault(kept))
+            }
+        }
+    }
+
+    // Takes in the parts that the tokens begin with, and leaves the tokens behind them.
+    fn take_parts(&mut self, alloc: Global, tokens: &mut Vec<Token<'a>>) -> Result<(), AllocError>
+        ensures { (all : List Lexeme)
+            → AreTaken all self.old.gate self.old.circuit (lexemes tokens.old.items)
+            → OnOk result (IsKept None all self.new.gate self.new.circuit (lexemes tokens.new.items)) }
     {
         let mut taken = 0;
         while let Some(count) = self.take_next(alloc, &tokens[taken..])? {
@@ -241,7 +183,7 @@ impl<'a> Reading<'a> {
         }
         tokens.rotate_left(taken);
         tokens.truncate(tokens.len() - taken);
-        Ok(self.certain_fault(tokens))
+        Ok(())
     }
 
     // Takes in the part that the tokens begin with, and tells how many tokens it has; `None` where no part begins them.
@@ -250,7 +192,8 @@ impl<'a> Reading<'a> {
         alloc: Global,
         tokens: &[Token<'a>],
     ) -> Result<Option<usize>, AllocError>
-        ensures taken { (all : List Lexeme) → AreTaken all self.old (lexemes tokens.now)
+        ensures taken { (all : List Lexeme)
+            → AreTaken all self.old.gate self.old.circuit (lexemes tokens.now)
             → IfOk result (λ count. IsTakenNext all count self.new tokens.now) }
         ensures some { IfOk result (λ count. IfSome count (λ n.
             (0 < n) × (n ≤ length tokens.now))) }
@@ -268,7 +211,8 @@ impl<'a> Reading<'a> {
         tokens: &[Token<'a>],
     ) -> Result<Option<usize>, AllocError>
         requires { self.old.gate ≡ None }
-        ensures taken { (all : List Lexeme) → AreTaken all self.old (lexemes tokens.now)
+        ensures taken { (all : List Lexeme)
+            → AreTaken all self.old.gate self.old.circuit (lexemes tokens.now)
             → IfOk result (λ count. IsTakenNext all count self.new tokens.now) }
         ensures some { IfOk result (λ count. IfSome count (λ n.
             (0 < n) × (n ≤ length tokens.now))) }
@@ -285,8 +229,9 @@ impl<'a> Reading<'a> {
     // Takes in a part of a program.
     fn take_part(&mut self, part: &Part<'a>)
         requires { self.old.gate ≡ None }
-        ensures { (ts rest : List Lexeme) → IsFirstPart part.now ts rest
-            → TakesIn self.old ts self.new rest }
+        ensures { (all ts rest : List Lexeme) → IsFirstPart part.now ts rest
+            → AreTaken all self.old.gate self.old.circuit ts
+            → AreTaken all self.new.gate self.new.circuit rest }
     {
         match part {
             Part::Statement(statement) => self.circuit.take(statement),
@@ -305,7 +250,7 @@ impl<'a> Reading<'a> {
     ) -> Result<Option<usize>, AllocError>
         requires { self.old.gate ≡ None }
         ensures taken { (all : List Lexeme)
-            → AreTaken all (inside self.old gate.entry) (lexemes tokens.now)
+            → AreTaken all (Some gate.entry) self.old.circuit (lexemes tokens.now)
             → IfOk result (λ count. IsTakenNext all count self.new tokens.now) }
         ensures some { IfOk result (λ count. IfSome count (λ n.
             (0 < n) × (n ≤ length tokens.now))) }
@@ -325,9 +270,9 @@ impl<'a> Reading<'a> {
     // Takes in a part of this gate's body.
     fn take_body_part(&mut self, mut gate: OpenGate<'a>, part: &BodyPart<'a>)
         requires { self.old.gate ≡ None }
-        ensures { (ts : List Lexeme) (rest : Bor (List Token))
-            → IsNextOf gate.entry.place ts (Some (part.now, rest))
-            → TakesIn (inside self.old gate.entry) ts self.new (lexemes rest.now) }
+        ensures { (all ts : List Lexeme) (rest : Bor (List Token))
+            → IsNextOf gate.entry.place ts (Some (part.now, rest)) → AreTaken all (Some gate.entry) self.old.circuit ts
+            → AreTaken all self.new.gate self.new.circuit (lexemes rest.now) }
     {
         match part {
             BodyPart::Statement(statement) => {
@@ -338,24 +283,23 @@ impl<'a> Reading<'a> {
         }
     }
 
-    // The place of the syntax fault, where these tokens are left and one of them ends a part.
-    fn certain_fault(&self, tokens: &[Token<'_>]) -> Option<usize>
-        ensures { (all : List Lexeme) → AreAllTaken all self.now (lexemes tokens.now)
-            → IsTakenAs result all self.now (lexemes tokens.now) }
+    // The place of the syntax fault, where these tokens are left and one of them ends a part. Then they are dropped.
+    fn certain_fault(&self, tokens: &mut Vec<Token<'_>>) -> Option<usize>
+        ensures { (all : List Lexeme) → IsKept None all self.now.gate self.now.circuit (lexemes tokens.old.items)
+            → IsKept result all self.now.gate self.now.circuit (lexemes tokens.new.items) }
     {
         if has_end(tokens) {
-            self.fault(tokens)
+            let fault = self.open_place(tokens);
+            tokens.clear();
+            fault
         } else {
             None
         }
     }
 
-    // The place of the syntax fault, where the text is over and these tokens are left.
-    fn fault(&self, tokens: &[Token<'_>]) -> Option<usize>
-        ensures end { (all : List Lexeme) → AreAllTaken all self.now (lexemes tokens.now)
-            → IsEnd all self.now.circuit result }
-        ensures certain { (all : List Lexeme) → AreAllTaken all self.now (lexemes tokens.now)
-            → has_end (lexemes tokens.now) ≡ true → IsCertain all result }
+    // The place of what isn't over, where these tokens are left: the gate's declaration, or else the first of them.
+    fn open_place(&self, tokens: &[Token<'_>]) -> Option<usize>
+        ensures { result ≡ open_place self.now.gate (lexemes tokens.now) }
     {
         match &self.gate {
             Some(gate) => Some(gate.place),
@@ -365,26 +309,55 @@ impl<'a> Reading<'a> {
             },
         }
     }
-}
 
-// What is answered of a text where parentheses are so deep, and this is the place of its syntax fault.
-fn ended(depth: Depth, fault: Option<usize>, circuit: Circuit<'_>) -> Result<Elementary, TextError>
-    ensures { (text : List ℕ) (all : List Lexeme) → IsCut 0 text all → IsDepth depth all
-        → IsEnd all circuit.entry fault → IsTextAnswer text result }
-{
-    match depth {
-        Depth::TooDeep(at) => Err(TextError::TooDeep { at }),
-        Depth::Open(_) => match fault {
-            Some(at) => Err(TextError::Syntax { at }),
-            None => finished(circuit),
-        },
+    // What is answered where the text is over, by what its last lines were told to be.
+    pub(crate) fn answer(self, told: Result<(), LexError>) -> Result<Elementary, TextError>
+        ensures { (text : List ℕ) → OnOk told ((all : List Lexeme) × IsCut 0 text all × Keeps all self.entry)
+            → ((at : ℕ) → told ≡ Err (LexError.BadByte at) → IsBadByte text at)
+            → IsTextAnswer text result }
+    {
+        match told {
+            Ok(()) => self.finish(),
+            Err(LexError::BadByte { at }) => Err(TextError::BadByte { at }),
+            Err(LexError::NoMemory) => Err(TextError::NoMemory),
+        }
+    }
+
+    // What is answered where the whole text is read.
+    fn finish(self) -> Result<Elementary, TextError>
+        ensures { (text : List ℕ) (all : List Lexeme) → IsCut 0 text all → Keeps all self.entry
+            → IsTextAnswer text result }
+    {
+        match self.grammar_fault() {
+            Some(error) => Err(error),
+            None => {
+                // The circuit takes their place.
+                drop(self.tokens);
+                finished(self.circuit)
+            }
+        }
+    }
+
+    // Why the text is no program, where it is over.
+    fn grammar_fault(&self) -> Option<TextError>
+        ensures { (text : List ℕ) (all : List Lexeme) → IsCut 0 text all → Keeps all self.now
+            → MatchOption result ((program : List Placed) × IsProgramText text program
+            × HasTaken self.now.circuit program) (λ error. IsTextAnswer text (Err error)) }
+    {
+        match self.depth {
+            Depth::TooDeep(at) => Some(TextError::TooDeep { at }),
+            Depth::Open(_) => match self.fault.or(self.open_place(&self.tokens)) {
+                Some(at) => Some(TextError::Syntax { at }),
+                None => None,
+            },
+        }
     }
 }
 
 // The circuit, or its first fault.
 fn finished(circuit: Circuit<'_>) -> Result<Elementary, TextError>
-    ensures { (program : List Placed) → HasTaken circuit.entry program
-        → IsProgramAnswer program result }
+    ensures { (text : List ℕ) (program : List Placed) → IsProgramText text program
+        → HasTaken circuit.entry program → IsTextAnswer text result }
 {
     match circuit.finish() {
         Ok(circuit) => Ok(circuit),

@@ -6,6 +6,7 @@ ghost use Rattle.qasm_reader.specs.Syntax.{Act};
 ghost use Rattle.qasm_names.specs.Kept.{Represents};
 ghost use Rattle.qasm_inline.specs.Internal.KeptCalls.{ComesTo};
 ghost use Rattle.qasm_inline.specs.Internal.KeptMeasures.{Adds, Remembers, wrong_next};
+ghost use Rattle.qasm_inline.specs.Internal.KnownCalls.{Knows};
 ghost use Rattle.qasm_scope.specs.Measurements.{measured_by};
 ghost use Rattle.qasm_scope.specs.Meaning.{after_statement, events_of};
 ghost use Rattle.qasm_scope.specs.Scope.{Scope};
@@ -30,15 +31,19 @@ pub fn read_statement<'a>(
     kind: &StatementKind<'a>,
 ) -> Result<(), StatementError>
     ensures ok { OnOk result ((scope : Scope) → Represents names.old scope → Remembers measured.old
-        → wrong_next scope measured.old unrolled.old (sentence kind.now) ≡ None) }
+        → Knows scope unrolled.old → wrong_next scope measured.old unrolled.old (sentence kind.now) ≡ None) }
     ensures after { OnOk result ((scope : Scope) → Represents names.old scope
         → Represents names.new (after_statement scope (sentence kind.now))) }
     ensures events { OnOk result ((scope : Scope) → Represents names.old scope
-        → ComesTo unrolled.old (events_of scope (sentence kind.now)) unrolled.new []) }
+        → Knows scope unrolled.old → ComesTo unrolled.old
+        (events_of scope (sentence kind.now)) unrolled.new []) }
+    ensures knows { OnOk result ((scope : Scope) → Represents names.old scope
+        → Knows scope unrolled.old
+        → Knows (after_statement scope (sentence kind.now)) unrolled.new) }
     ensures measures { OnOk result ((scope : Scope) → Represents names.old scope
         → Adds measured.old measured.new (measured_by scope (sentence kind.now))) }
     ensures err { (cause : Cause) (scope : Scope) → result ≡ Err (StatementError.Wrong cause)
-        → Represents names.old scope → Remembers measured.old
+        → Represents names.old scope → Remembers measured.old → Knows scope unrolled.old
         → wrong_next scope measured.old unrolled.old (sentence kind.now) ≡ Some cause }
 {
     match kind {
@@ -64,13 +69,16 @@ fn operate<'a>(
     operation: &Operation<'a>,
 ) -> Result<(), StatementError>
     ensures ok { OnOk result ((scope : Scope) → Represents names.now scope → Remembers measured.old
-        → wrong_next scope measured.old unrolled.old (Act (action operation.now)) ≡ None) }
+        → Knows scope unrolled.old → wrong_next scope measured.old unrolled.old (Act (action operation.now)) ≡ None) }
     ensures events { OnOk result ((scope : Scope) → Represents names.now scope
-        → ComesTo unrolled.old (events_of scope (Act (action operation.now))) unrolled.new []) }
+        → Knows scope unrolled.old → ComesTo unrolled.old
+        (events_of scope (Act (action operation.now))) unrolled.new []) }
+    ensures knows { OnOk result ((scope : Scope) → Represents names.now scope
+        → Knows scope unrolled.old → Knows scope unrolled.new) }
     ensures measures { OnOk result ((scope : Scope) → Represents names.now scope
         → Adds measured.old measured.new (measured_by scope (Act (action operation.now)))) }
     ensures err { (cause : Cause) (scope : Scope) → result ≡ Err (StatementError.Wrong cause)
-        → Represents names.now scope → Remembers measured.old
+        → Represents names.now scope → Remembers measured.old → Knows scope unrolled.old
         → wrong_next scope measured.old unrolled.old (Act (action operation.now)) ≡ Some cause }
 {
     match operation {

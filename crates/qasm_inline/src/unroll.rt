@@ -1,19 +1,22 @@
 //! Unrolling of calls, depth first, with a stack of its own.
 
-ghost use Rattle.std.specs.Prelude.{◌≡◌, ◌+◌, ◌-◌, ◌*◌, ◌<◌, ◌≤◌, ◌++◌, ◌∷◌, List, ℕ, length, take, drop, Err, IfOk, IfErr, OnOk, [], slice_get};
+ghost use Rattle.std.specs.Prelude.{◌≡◌, ◌+◌, ◌-◌, ◌*◌, ◌<◌, ◌≤◌, ◌++◌, ◌∷◌, List, ℕ, length, take, drop, Err, IfOk, IfErr, IfSome, OnOk, true, false, [], slice_get};
 ghost use Rattle.zx_gates.specs.declared.elementary.ElementaryGate.{ElementaryGate};
 ghost use Rattle.qasm_scope.specs.declared.causes.Cause.{Cause};
 ghost use Rattle.qasm_scope.specs.Calls.{Event, Called, Undefined, applied, first_wrong};
-ghost use Rattle.qasm_inline.specs.Internal.KeptCalls.{Leads, StopsAt, IsBase, IsStacked, frames_of, first_events, entered_events, left_events, no_events, gate_events, calls_of, u_events, cx_events};
+ghost use Rattle.qasm_inline.specs.Internal.KeptCalls.{Numbered, Unrolls, ComesTo, Leads, StopsAt, IsBase, IsStacked, frames_of, first_events, entered_events, left_events, no_events, gate_events, calls_of, u_events, cx_events};
+ghost use Rattle.qasm_inline.specs.Internal.KnownCalls.{AreKnown, IsExpansion};
 ghost use Rattle.qasm_inline.specs.Internal.Spans.{instance_events};
+ghost use Rattle.qasm_names.specs.declared.gates.GateBody.{GateBody};
 ghost use Rattle.qasm_scope.specs.Meaning.{most_calls};
 
 use crate::applications::Span;
+use crate::expansions::{Expansion, known_expansion, push_placed};
 use crate::values::{push_instance, push_picked, push_values, sixteenth_of};
 use qasm_angle::{Angle, Expr};
 use qasm_names::{CalledGate, GateBody, GateCall, StatementError};
 use qasm_scope::Cause;
-use std::alloc::Global;
+use std::alloc::{AllocError, Global};
 use zx_gates::{ElementaryGate, Elements, Qubit};
 
 // The most calls of a program.
@@ -21,6 +24,15 @@ const MOST_CALLS: usize = 1_000_000;
 
 // The deepest that calls may be nested.
 const DEEPEST: usize = 256;
+
+// Of how many gates it is kept what calls come to.
+const MOST_KNOWN: usize = 256;
+
+// How many calls may be made in one that is kept.
+const MOST_KEPT: usize = 64;
+
+// How many qubits a call may have that is copied.
+const WIDEST: usize = 4;
 
 // How many angles and qubits lie on the stacks.
 #[derive(Clone, Copy)]
@@ -54,6 +66,8 @@ pub struct Unrolled {
     angles: Vec<Angle>,
     /// Their qubits, in the same way.
     qubits: Vec<Qubit>,
+    /// What calls without angles come to, by the gate's number, where that is kept.
+    known: Vec<Option<Expansion>>,
 }
 
 impl Unrolled {
@@ -61,6 +75,10 @@ impl Unrolled {
     pub fn new(alloc: Global) -> Unrolled
         ensures gates { result.gates ≡ [] }
         ensures calls { result.calls ≡ 0 }
+        ensures known { result.known.items ≡ [] }
+        ensures frames { result.frames.items ≡ [] }
+        ensures angles { result.angles.items ≡ [] }
+        ensures qubits { result.qubits.items ≡ [] }
     {
         Unrolled {
             alloc,
@@ -69,6 +87,7 @@ impl Unrolled {
             frames: Vec::new(alloc),
             angles: Vec::new(alloc),
             qubits: Vec::new(alloc),
+            known: Vec::new(alloc),
         }
     }
 
@@ -79,9 +98,76 @@ impl Unrolled {
         self.gates
     }
 
+    /// Learns what calls without angles come to, of the first gates of which it isn't known yet.
+    pub fn learn(&mut self, gates: &[GateBody]) -> Result<(), AllocError>
+        ensures known { OnOk result ((numbered : Numbered) → Unrolls gates.now numbered
+            → AreKnown numbered (length gates.now) self.old.known.items
+            → AreKnown numbered (length gates.now) self.new.known.items) }
+        ensures others { OnOk result (self.new ≡ record self.old { known = self.new.known }) }
+    {
+        for number in self.known.len()..gates.len().min(MOST_KNOWN) {
+            let kept = expansion(self.alloc, gates, number)?;
+            self.known.push(kept)?;
+        }
+        Ok(())
+    }
+
     /// The instance of an application at an index: a call with these angles on its qubits, and all that it comes to.
-    /// What an earlier application left on the stacks is taken off first.
     pub fn instance(
+        &mut self,
+        gates: &[GateBody],
+        called: CalledGate,
+        angles: &[Expr],
+        spans: &[Span],
+        index: usize,
+    ) -> Result<(), StatementError>
+        ensures ok { OnOk result ((numbered : Numbered) (count : ℕ) → Unrolls gates.now numbered
+            → AreKnown numbered count self.old.known.items → ComesTo self.old
+            (instance_events called angles.now spans.now index numbered) self.new []) }
+        ensures err { (cause : Cause) → result ≡ Err (StatementError.Wrong cause)
+            → StopsAt gates.now self.old (instance_events called angles.now spans.now index) cause }
+        ensures known { self.new.known ≡ self.old.known }
+    {
+        if self.copy_instance(called, angles, spans, index)? {
+            return Ok(());
+        }
+        self.unroll_instance(gates, called, angles, spans, index)
+    }
+
+    // The same by a copy of what is known, where that is kept and makes not too many calls; tells whether it is.
+    fn copy_instance(
+        &mut self,
+        called: CalledGate,
+        angles: &[Expr],
+        spans: &[Span],
+        index: usize,
+    ) -> Result<bool, AllocError>
+        ensures copied { IfOk result (λ copied. copied ≡ true → (numbered : Numbered) (gates : List GateBody)
+            (count : ℕ) → Unrolls gates numbered → AreKnown numbered count self.old.known.items →
+            ComesTo self.old (instance_events called angles.now spans.now index numbered) self.new []) }
+        ensures left { IfOk result (λ copied. copied ≡ false → self.new ≡ self.old) }
+        ensures known { self.new.known ≡ self.old.known }
+    {
+        if !angles.is_empty() || spans.len() > WIDEST {
+            return Ok(false);
+        }
+        let Some(kept) = known_expansion(&self.known, called) else {
+            return Ok(false);
+        };
+        let calls = self.calls.saturating_add(kept.calls);
+        if calls > MOST_CALLS {
+            return Ok(false);
+        }
+        self.qubits.clear();
+        self.qubits.push(0)?;
+        push_instance(spans, index, &mut self.qubits)?;
+        push_placed(kept.gates.as_slice(), &self.qubits, &mut self.gates)?;
+        self.calls = calls;
+        Ok(true)
+    }
+
+    // The same by unrolling. What an earlier application left on the stacks is taken off first.
+    fn unroll_instance(
         &mut self,
         gates: &[GateBody],
         called: CalledGate,
@@ -93,6 +179,7 @@ impl Unrolled {
             self.old (instance_events called angles.now spans.now index) self.new no_events) }
         ensures err { (cause : Cause) → result ≡ Err (StatementError.Wrong cause)
             → StopsAt gates.now self.old (instance_events called angles.now spans.now index) cause }
+        ensures known { self.new.known ≡ self.old.known }
     {
         self.count(1)?;
         self.frames.clear();
@@ -110,6 +197,7 @@ impl Unrolled {
             self.old (first_events called self.old) self.new no_events) }
         ensures err { (cause : Cause) → result ≡ Err (StatementError.Wrong cause)
             → StopsAt gates.now self.old (first_events called self.old) cause }
+        ensures known { self.new.known ≡ self.old.known }
     {
         let base = Heights {
             angles: 0,
@@ -156,6 +244,7 @@ impl Unrolled {
         ensures stacked { OnOk result (IsStacked (frames_of self.new) self.new) }
         ensures ends { OnOk result (2 * (most_calls - self.new.calls) + length self.new.frames.items
             < 2 * (most_calls - self.old.calls) + (1 + length self.old.frames.items)) }
+        ensures known { self.new.known ≡ self.old.known }
     {
         let Some(call) = calls_of(gates, frame.gate).get(frame.next) else {
             self.take_off(frame.base);
@@ -195,6 +284,7 @@ impl Unrolled {
         ensures calls { OnOk result (self.new.calls ≡ self.old.calls) }
         ensures frames { OnOk result
             (length self.new.frames.items ≤ length self.old.frames.items + 1) }
+        ensures known { self.new.known ≡ self.old.known }
     {
         match called {
             CalledGate::U => match self.top_u(base) {
@@ -227,6 +317,7 @@ impl Unrolled {
         ensures frames { self.new.frames ≡ self.old.frames }
         ensures calls { self.new.calls ≡ self.old.calls }
         ensures err { IfErr result (λ stopped. stopped ≡ StatementError.NoMemory) }
+        ensures known { self.new.known ≡ self.old.known }
     {
         if let Some(gate) = gate {
             self.gates.push(gate)?;
@@ -281,6 +372,30 @@ impl Unrolled {
     {
         self.angles.truncate(base.angles);
         self.qubits.truncate(base.qubits);
+    }
+}
+
+// What calls of a gate without angles come to, by the call on places, which is counted first; none where something is
+// wrong in it or it makes too many calls.
+fn expansion(
+    alloc: Global,
+    gates: &[GateBody],
+    number: usize,
+) -> Result<Option<Expansion>, AllocError>
+    ensures { IfOk result (λ found. IfSome found (λ kept. (numbered : Numbered)
+        → Unrolls gates.now numbered → IsExpansion numbered number kept)) }
+{
+    let before = MOST_CALLS - MOST_KEPT;
+    let mut unrolled = Unrolled::new(alloc);
+    unrolled.calls = before + 1;
+    unrolled.qubits.extend_from_slice(&[1, 2, 3, 4])?;
+    match unrolled.unroll(gates, CalledGate::Gate(number)) {
+        Ok(()) => Ok(Some(Expansion {
+            calls: unrolled.calls.saturating_sub(before),
+            gates: unrolled.into_gates(),
+        })),
+        Err(StatementError::Wrong(_)) => Ok(None),
+        Err(StatementError::NoMemory) => Err(AllocError),
     }
 }
 

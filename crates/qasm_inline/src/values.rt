@@ -79,8 +79,8 @@ pub fn push_instance(
     Ok(())
 }
 
-// The qubit at a place; where there is none, 0.
-fn qubit_at(qubits: &[Qubit], place: usize) -> Qubit
+/// The qubit at a place; where there is none, 0.
+pub fn qubit_at(qubits: &[Qubit], place: usize) -> Qubit
     ensures { result ≡ slice_index_or qubits.now place 0 }
 {
     if place < qubits.len() {

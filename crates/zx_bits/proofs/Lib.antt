@@ -4,6 +4,7 @@ pub mod Lists
 pub mod Digits
 pub mod Places
 pub mod WindowLemmas
+pub mod Reading
 pub mod SetLemmas
 pub mod RowLemmas
 pub mod Vectors

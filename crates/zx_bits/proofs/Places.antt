@@ -94,6 +94,27 @@ picked-either f m n none_m none_n =
     let e : m + n ≡ n + m = omega arith in
     sym (picked-beyond f m n 0 (λ k le. none_m k (omega arith))) ∙ ap (picked f 0) e ∙ picked-beyond f n m 0 (λ k le. none_n k (omega arith))
 
+-- the first that passes, and those that pass behind it
+pub picked-first : (f g : ℕ → Bool) (n start first : ℕ) → start ≤ first → first < start + n → f first ≡ true →
+    ((k : ℕ) → k < first → f k ≡ false) → g first ≡ false → ((k : ℕ) → ¬ (k ≡ first) → g k ≡ f k) → picked f start n ≡ first ∷ picked g start n
+picked-first f g zero start first le lt is none gone same = absurd (omega arith)
+picked-first f g (suc n) start first le lt is none gone same =
+    elim (cases_eq start first) [
+      | inl e ↦
+          ap (λ b. if b then start ∷ picked f (start + 1) n else picked f (start + 1) n) (ap f e ∙ is)
+          ∙ ap₂ (λ x xs. x ∷ xs) e (picked-alike f g n (start + 1) (λ k le. sym (same k (λ at. omega (arith, at, e, le)))))
+          ∙ ap (λ b. first ∷ (if b then start ∷ picked g (start + 1) n else picked g (start + 1) n)) (sym (ap g e ∙ gone))
+      | inr apart ↦
+          ap (λ b. if b then start ∷ picked f (start + 1) n else picked f (start + 1) n) (none start (omega arith))
+          ∙ picked-first f g n (start + 1) first (omega arith) (omega arith) is none gone same
+          ∙ ap (λ b. first ∷ (if b then start ∷ picked g (start + 1) n else picked g (start + 1) n)) (sym (same start apart ∙ none start (omega arith)))
+    ]
+  where
+    picked-alike : (f g : ℕ → Bool) (n start : ℕ) → ((k : ℕ) → start ≤ k → f k ≡ g k) → picked f start n ≡ picked g start n
+    picked-alike f g zero start same = refl
+    picked-alike f g (suc n) start same =
+        ap₂ (λ b xs. if b then start ∷ xs else xs) (same start (omega arith)) (picked-alike f g n (start + 1) (λ k le. same k (omega arith)))
+
 -- ---- how many there are
 
 length-kept : (b : Bool) (x : ℕ) (xs : List ℕ) → length (if b then x ∷ xs else xs) ≡ one_if b + length xs

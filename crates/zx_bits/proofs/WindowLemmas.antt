@@ -101,7 +101,7 @@ common_at_last a b number len past unset =
 
 -- ---- the first set bit
 
-lowest : (word : ℕ) → 0 < word → word < 2 ^ 64 →
+pub lowest : (word : ℕ) → 0 < word → word < 2 ^ 64 →
     (trailing_zeros w64 word < 64) × (digit word (trailing_zeros w64 word) ≡ true) × ((k : ℕ) → k < trailing_zeros w64 word → digit word k ≡ false)
 lowest word some fits =
     let low = bit_at-trailing_zeros w64 word some fits in

@@ -6,6 +6,7 @@ ghost use Rattle.zx_model.specs.Bits.{xor, member};
 ghost use Rattle.zx_bits.specs.Rows.{IsFirstFrom};
 ghost use Rattle.zx_bits.specs.Sets.{IsRising, IsBelow};
 
+use crate::numbers::Numbers;
 use crate::window::Window;
 use std::alloc::{AllocError, Global};
 use std::marker::Model;
@@ -72,6 +73,14 @@ impl BitSet {
         ensures bounded { IfSome result (λ first. first < usize.MAX) }
     {
         self.window.first_from(start)
+    }
+
+    /// The numbers, by rising size.
+    pub fn iter(&self) -> Numbers<'_>
+        ensures value { result ≡ self.now.numbers }
+        ensures rising { IsRising self.now.numbers }
+    {
+        Numbers::of_window(&self.window)
     }
 
     /// Adds a number that isn't in the set, and takes out one that is. The greatest 64 numbers of

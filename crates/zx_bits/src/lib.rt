@@ -31,10 +31,12 @@
 mod bit_matrix;
 mod bit_row;
 mod bit_set;
+mod numbers;
 mod solving;
 mod window;
 
 pub use bit_matrix::BitMatrix;
 pub use bit_row::BitRow;
 pub use bit_set::BitSet;
+pub use numbers::Numbers;
 pub use solving::{Solved, a_dual_leaves_no_sum, solve};

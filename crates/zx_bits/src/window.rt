@@ -14,7 +14,7 @@ use smallvec::SmallVec;
 use std::alloc::{AllocError, Global};
 
 // How many bits a word has.
-const WORD: usize = 64;
+pub(crate) const WORD: usize = 64;
 
 // The words of a row from the first that has a bit set to the last, and how many come before them.
 #[derive(Drop)]
@@ -45,7 +45,7 @@ impl Window {
     }
 
     // The word of the whole row with this number.
-    fn word(&self, number: usize) -> u64
+    pub(crate) fn word(&self, number: usize) -> u64
         ensures { result ≡ word_at self.now number }
     {
         if number < self.offset {
@@ -83,6 +83,7 @@ impl Window {
     }
 
     // Keeps these words too. Where memory runs out, the words are as they were.
+    #[inline(always)]
     fn cover(&mut self, first: usize, end: usize) -> Result<(), AllocError>
         requires some { first < end }
         requires within { end ≤ 2 ^ 58 }
@@ -94,6 +95,18 @@ impl Window {
         if self.offset <= first && end <= self.end() {
             return Ok(());
         }
+        self.widen(first, end)
+    }
+
+    // The same where some of them may not be kept.
+    fn widen(&mut self, first: usize, end: usize) -> Result<(), AllocError>
+        requires some { first < end }
+        requires within { end ≤ 2 ^ 58 }
+        requires bounded { end_of self.old ≤ 2 ^ 58 }
+        ensures ok { OnOk result (Covers first end self.old self.new) }
+        ensures err { OnErr result (self.new ≡ self.old) }
+        ensures room { max (end_of self.old) end ≤ self.old.words.capacity → IsOk result }
+    {
         let start = self.start(first);
         let last = start + self.words.len();
         let offset = start.min(first);
@@ -106,15 +119,25 @@ impl Window {
     }
 
     // Lets the words at both ends go that have no bit set.
+    #[inline(always)]
     fn trim(&mut self)
         requires { end_of self.old ≤ 2 ^ 58 }
         ensures words { (number : ℕ) → word_at self.new number ≡ word_at self.old number }
         ensures end { end_of self.new ≤ end_of self.old }
         ensures capacity { self.new.words.capacity ≡ self.old.words.capacity }
     {
-        if is_tight(self.words.as_slice()) {
-            return;
+        if !is_tight(self.words.as_slice()) {
+            self.trim_ends();
         }
+    }
+
+    // The same where there may be some.
+    fn trim_ends(&mut self)
+        requires { end_of self.old ≤ 2 ^ 58 }
+        ensures words { (number : ℕ) → word_at self.new number ≡ word_at self.old number }
+        ensures end { end_of self.new ≤ end_of self.old }
+        ensures capacity { self.new.words.capacity ≡ self.old.words.capacity }
+    {
         let end = used(self.words.as_slice());
         self.words.truncate(end);
         let unused = unused_before(self.words.as_slice());
@@ -302,6 +325,9 @@ fn move_back(words: &mut [u64], count: usize)
         get_or words.new i 0 ≡ (if ltb i count then 0 else get_or words.old (i - count) 0) }
     ensures len { length words.new ≡ length words.old }
 {
+    if count == 0 {
+        return;
+    }
     let kept = words.len() - count;
     for moved in 0..kept {
         let from = kept - 1 - moved;

@@ -14,9 +14,9 @@ ghost use Rattle.zx_flow.specs.Flows.{HavePlace};
 use crate::spider::{add_spider, split_scalar, toggled};
 use open_graph::{OpenGraph, VertexId};
 use std::alloc::AllocError;
-use std::mem;
 use zx_flow::Flow;
 use zx_model::Scalar;
+use zx_rewrite::{Rewrite, perform};
 
 /// Puts a new XY vertex of phase 0, with the least free id, between a vertex b and its input, whose
 /// mark is toggled: b holds no input any more. The new vertex comes first in the flow, corrected by
@@ -39,43 +39,7 @@ pub fn split_input(g: &mut OpenGraph, f: &mut Flow, b: VertexId) -> Result<Scala
     ensures reach { (g.new.reach ≡ g.old.reach) × (f.new.reach ≡ f.old.reach) }
     ensures valid { WellFormed g.new.graph }
 {
-    if f.has_place(g) {
-        return split_input_in_place(g, f, b);
-    }
-    split_input_with_copies(g, f, b)
-}
-
-// The same in place. Where memory runs out, copies take the place of graph and flow.
-fn split_input_with_copies(
-    g: &mut OpenGraph,
-    f: &mut Flow,
-    b: VertexId,
-) -> Result<Scalar, AllocError>
-    requires flow { IsFlow g.old.graph f.old.flow }
-    requires allowed { allowed g.old.graph (SplitInput b) ≡ true }
-    ensures rewritten { OnOk result
-        (IsRewritten g.old.graph f.old.flow (SplitInput b) g.new.graph f.new.flow) }
-    ensures scalar { IfOk result (λ s. s ≡ step_scalar g.old.graph (SplitInput b)) }
-    ensures table { OnOk result (f.new.flow ≡
-        split_input_table b (new_vertex g.old.graph) f.old.flow) }
-    ensures err { OnErr result ((g.new.graph ≡ g.old.graph) × (f.new.flow ≡ f.old.flow)) }
-    ensures spare { OnOk result
-        ((g.new.spare ≡ g.old.spare - 1) × (f.old.spare ≤ f.new.spare + 1)) }
-    ensures keeps_spare { OnErr result
-        ((g.new.spare ≡ g.old.spare) × (f.old.spare ≤ f.new.spare)) }
-    ensures reach { (g.new.reach ≡ g.old.reach) × (f.new.reach ≡ f.old.reach) }
-    ensures valid { WellFormed g.new.graph }
-{
-    let mut graph = g.copy()?;
-    let mut flow = f.copy()?;
-    match split_input_in_place(g, f, b) {
-        Ok(scalar) => Ok(scalar),
-        Err(error) => {
-            mem::swap(g, &mut graph);
-            mem::swap(f, &mut flow);
-            Err(error)
-        }
-    }
+    perform(g, f, &InputSplit { b })
 }
 
 /// Whether the id is that of a vertex with an input.
@@ -86,51 +50,38 @@ pub fn may_split_input(g: &OpenGraph, b: VertexId) -> bool
     g.is_live(b) && g.input_at(b).is_some()
 }
 
-/// The scalar of the split of an input: the sum before is so many times the sum after.
-pub fn split_input_scalar(g: &OpenGraph, b: VertexId) -> Scalar
-    requires { allowed g.now.graph (SplitInput b) ≡ true }
-    ensures value { result ≡ step_scalar g.now.graph (SplitInput b) }
-    ensures valid { WellFormed g.now.graph }
-{
-    let ends = g.inputs();
-    let place = g.input_at(b).unwrap();
-    split_scalar(ends[place])
-}
-
-/// As `split_input`, but where memory runs out, graph and flow may be any. Where both can take a vertex
-/// more, and all vertices and the new one are below the reach of both, none is needed.
-pub fn split_input_in_place(
-    g: &mut OpenGraph,
-    f: &mut Flow,
+// The split of the input of a vertex.
+#[derive(Drop)]
+struct InputSplit {
     b: VertexId,
-) -> Result<Scalar, AllocError>
-    requires flow { IsFlow g.old.graph f.old.flow }
-    requires allowed { allowed g.old.graph (SplitInput b) ≡ true }
-    ensures rewritten { OnOk result
-        (IsRewritten g.old.graph f.old.flow (SplitInput b) g.new.graph f.new.flow) }
-    ensures scalar { IfOk result (λ s. s ≡ step_scalar g.old.graph (SplitInput b)) }
-    ensures table { OnOk result (f.new.flow ≡
-        split_input_table b (new_vertex g.old.graph) f.old.flow) }
-    ensures has_room { let all = new_vertex g.old.graph ∷ ids g.old.graph.vertices in
-        0 < g.old.spare → 0 < f.old.spare → IsBelow g.old.reach all → IsBelow f.old.reach all →
-        IsOk result }
-    ensures spare { OnOk result (g.new.spare ≡ g.old.spare - 1) }
-    ensures flow_spare { OnOk result (f.old.spare ≤ f.new.spare + 1) }
-    ensures reach { (g.new.reach ≡ g.old.reach) × (f.new.reach ≡ f.old.reach) }
-{
-    let scalar = split_input_scalar(g, b);
-    let new = split_input_in_graph(g, b)?;
-    f.add_first(new, b)?;
-    Ok(scalar)
 }
 
-/// The graph's part of `split_input`, which answers the new vertex: where memory runs out, the
-/// graph may be any. Where it can take a vertex more, and all vertices and the new one are below its
-/// reach, none is needed.
-pub fn split_input_in_graph(g: &mut OpenGraph, b: VertexId) -> Result<VertexId, AllocError>
+impl Rewrite for InputSplit {
+    ghost step = { λ by. SplitInput by.b };
+
+    ghost needs = { λ by g f. HavePlace g f };
+
+    ghost leaves = { λ by g f h k. (h.spare ≡ g.spare - 1) × (f.spare ≤ k.spare + 1)
+        × (k.flow ≡ split_input_table by.b (new_vertex g.graph) f.flow) };
+
+    fn has_room(&self, g: &OpenGraph, f: &Flow) -> bool {
+        f.has_place(g)
+    }
+
+    fn in_place(&self, g: &mut OpenGraph, f: &mut Flow) -> Result<Scalar, AllocError> {
+        let added = VertexId::new(g.next_id());
+        let scalar = split_input_in_graph(g, self.b)?;
+        f.add_first(added, self.b)?;
+        Ok(scalar)
+    }
+}
+
+/// The graph's part of `split_input`, with its scalar: where memory runs out, the graph may be any.
+/// Where it can take a vertex more, and all vertices and the new one are below its reach, none is needed.
+pub fn split_input_in_graph(g: &mut OpenGraph, b: VertexId) -> Result<Scalar, AllocError>
     requires { allowed g.old.graph (SplitInput b) ≡ true }
     ensures step { OnOk result (IsStep g.old.graph (SplitInput b) g.new.graph) }
-    ensures new { IfOk result (λ new. new ≡ new_vertex g.old.graph) }
+    ensures scalar { IfOk result (λ s. s ≡ step_scalar g.old.graph (SplitInput b)) }
     ensures has_room { let all = new_vertex g.old.graph ∷ ids g.old.graph.vertices in
         0 < g.old.spare → IsBelow g.old.reach all → IsOk result }
     ensures spare { OnOk result (g.new.spare ≡ g.old.spare - 1) }
@@ -143,5 +94,5 @@ pub fn split_input_in_graph(g: &mut OpenGraph, b: VertexId) -> Result<VertexId, 
     let end = inputs[place];
     let new = add_spider(g, b)?;
     g.move_input(place, toggled(end, new));
-    Ok(new)
+    Ok(split_scalar(end))
 }

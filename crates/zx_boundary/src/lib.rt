@@ -5,18 +5,16 @@
 //! rewritten one and the flow the table that `gflow_laws` gives for that, a flow of the new graph;
 //! the sum before is the answered scalar times the sum after, and odd phases don't rise; want of
 //! memory leaves both as they were.
-//! `may_split_input` and `may_split_output` tell exactly where each is allowed,
-//! `split_input_scalar` and `split_output_scalar` by which scalar it changes the sum.
-//! `split_input_in_place` and `split_output_in_place` make the same change without copies; where
-//! memory runs out they say nothing. `split_input_in_graph` and `split_output_in_graph` change the
-//! graph alone, by the same step, and answer the new vertex. None of these takes memory where graph
-//! and flow have a place for a vertex, and all vertices and the new one are below the reach of both.
-//! What both have memory for stays in any case, but for the place that the new vertex takes.
+//! `may_split_input` and `may_split_output` tell exactly where each is allowed. `split_input_in_graph` and
+//! `split_output_in_graph` change the graph alone, by the same step, with the same scalar; where memory runs out
+//! they say nothing. None of these takes memory where graph and flow have a place for a vertex, and all vertices
+//! and the new one are below the reach of both. What both have memory for stays in any case, but for the place
+//! that the new vertex takes.
 //!
 //! Inside:
 //!
-//! - `inputs`, `outputs`: a split each, with its test, its scalar, its change of the graph alone
-//!   and in place, and the safe call.
+//! - `inputs`, `outputs`: a split each, with its test, the safe call, what it does in place, and its change of
+//!   the graph alone.
 //! - `spider`: what both splits are made of.
 //!
 //! ```rust
@@ -30,10 +28,5 @@ mod inputs;
 mod outputs;
 mod spider;
 
-pub use inputs::{
-    may_split_input, split_input, split_input_in_graph, split_input_in_place, split_input_scalar,
-};
-pub use outputs::{
-    may_split_output, split_output, split_output_in_graph, split_output_in_place,
-    split_output_scalar,
-};
+pub use inputs::{may_split_input, split_input, split_input_in_graph};
+pub use outputs::{may_split_output, split_output, split_output_in_graph};

@@ -23,8 +23,8 @@ pub fn is_gadget(g: &OpenGraph, v: VertexId) -> bool
     matches!(plane, Plane::YZ)
 }
 
-/// The scalar of each of the three rewrites, 2: the sum before is so many times the sum after.
-pub fn gadget_scalar() -> Scalar
+// The scalar of each of the three rewrites, 2: the sum before is so many times the sum after.
+pub(crate) fn gadget_scalar() -> Scalar
     ensures { result ≡ root_of_two_to (pos 2) }
 {
     Scalar {

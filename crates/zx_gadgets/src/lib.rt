@@ -5,17 +5,16 @@
 //! the flow the table that `gflow_laws` gives for that, a flow of the new graph; the sum before
 //! is twice the sum after, the answered scalar, and odd phases don't rise; want of memory leaves both
 //! as they were.
-//! `may_drop_lone`, `may_fuse_into` and `may_fuse_twin` tell exactly where each is allowed. The calls
-//! in place make the same change without copies; where memory runs out they say nothing.
+//! `may_drop_lone`, `may_fuse_into` and `may_fuse_twin` tell exactly where each is allowed.
 //! `drop_lone_in_graph`, `fuse_into_in_graph` and `fuse_twin_in_graph` change the graph alone, by
-//! the same step, and can't fail. Where all vertices are below the reach of graph and flow, none of
-//! these takes memory. What both have memory for stays in any case: each gives back a place for a
+//! the same step, with the same scalar, and can't fail. Where all vertices are below the reach of graph and flow,
+//! none of these takes memory. What both have memory for stays in any case: each gives back a place for a
 //! vertex, and no reach changes.
 //!
 //! Inside:
 //!
-//! - `lone`, `single`, `twins`: a rewrite each, with its test, its change of the graph alone and
-//!   in place, and the safe call.
+//! - `lone`, `single`, `twins`: a rewrite each, with its test, the safe call, what it does in place, and its
+//!   change of the graph alone.
 //! - `gadget`: what the rewrites of gadgets are made of.
 //!
 //! ```rust
@@ -30,7 +29,7 @@ mod lone;
 mod single;
 mod twins;
 
-pub use gadget::{gadget_scalar, is_gadget};
-pub use lone::{drop_lone, drop_lone_in_graph, drop_lone_in_place, may_drop_lone};
-pub use single::{fuse_into, fuse_into_in_graph, fuse_into_in_place, may_fuse_into};
-pub use twins::{fuse_twin, fuse_twin_in_graph, fuse_twin_in_place, may_fuse_twin};
+pub use gadget::is_gadget;
+pub use lone::{drop_lone, drop_lone_in_graph, may_drop_lone};
+pub use single::{fuse_into, fuse_into_in_graph, may_fuse_into};
+pub use twins::{fuse_twin, fuse_twin_in_graph, may_fuse_twin};

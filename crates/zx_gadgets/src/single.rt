@@ -11,9 +11,9 @@ ghost use Rattle.zx_flow.specs.Flows.{HaveReach};
 use crate::gadget::{add_phase, gadget_scalar, is_gadget, take_out};
 use open_graph::{OpenGraph, Plane, VertexId};
 use std::alloc::AllocError;
-use std::mem;
 use zx_flow::Flow;
 use zx_model::Scalar;
+use zx_rewrite::{Rewrite, perform};
 
 /// Takes out a YZ vertex with one neighbour, an XY vertex, which gains its phase. Where memory runs
 /// out, graph and flow stay as they were; where all vertices are below the reach of both, none is
@@ -33,37 +33,7 @@ pub fn fuse_into(g: &mut OpenGraph, f: &mut Flow, u: VertexId) -> Result<Scalar,
     ensures reach { (g.new.reach ≡ g.old.reach) × (f.new.reach ≡ f.old.reach) }
     ensures valid { WellFormed g.new.graph }
 {
-    if f.has_reach(g) {
-        return fuse_into_in_place(g, f, u);
-    }
-    fuse_into_with_copies(g, f, u)
-}
-
-// The same in place. Where memory runs out, copies take the place of graph and flow.
-fn fuse_into_with_copies(g: &mut OpenGraph, f: &mut Flow, u: VertexId) -> Result<Scalar, AllocError>
-    requires flow { IsFlow g.old.graph f.old.flow }
-    requires allowed { allowed g.old.graph (FuseInto u) ≡ true }
-    ensures rewritten { OnOk result
-        (IsRewritten g.old.graph f.old.flow (FuseInto u) g.new.graph f.new.flow) }
-    ensures scalar { IfOk result (λ s. s ≡ step_scalar g.old.graph (FuseInto u)) }
-    ensures err { OnErr result ((g.new.graph ≡ g.old.graph) × (f.new.flow ≡ f.old.flow)) }
-    ensures spare { OnOk result
-        ((g.new.spare ≡ g.old.spare + 1) × (f.new.spare ≡ f.old.spare + 1)) }
-    ensures keeps_spare { OnErr result
-        ((g.new.spare ≡ g.old.spare) × (f.old.spare ≤ f.new.spare)) }
-    ensures reach { (g.new.reach ≡ g.old.reach) × (f.new.reach ≡ f.old.reach) }
-    ensures valid { WellFormed g.new.graph }
-{
-    let mut graph = g.copy()?;
-    let mut flow = f.copy()?;
-    match fuse_into_in_place(g, f, u) {
-        Ok(scalar) => Ok(scalar),
-        Err(error) => {
-            mem::swap(g, &mut graph);
-            mem::swap(f, &mut flow);
-            Err(error)
-        }
-    }
+    perform(g, f, &LegFusion { u })
 }
 
 /// Whether the id is that of a YZ vertex with one neighbour, an XY vertex.
@@ -83,33 +53,35 @@ pub fn may_fuse_into(g: &OpenGraph, u: VertexId) -> bool
     }
 }
 
-/// As `fuse_into`, but where memory runs out, graph and flow may be any. Where all vertices are below
-/// the reach of both, none is needed.
-pub fn fuse_into_in_place(
-    g: &mut OpenGraph,
-    f: &mut Flow,
+// The fusion of a gadget into its only neighbour.
+#[derive(Drop)]
+struct LegFusion {
     u: VertexId,
-) -> Result<Scalar, AllocError>
-    requires flow { IsFlow g.old.graph f.old.flow }
-    requires allowed { allowed g.old.graph (FuseInto u) ≡ true }
-    ensures rewritten { OnOk result
-        (IsRewritten g.old.graph f.old.flow (FuseInto u) g.new.graph f.new.flow) }
-    ensures scalar { IfOk result (λ s. s ≡ step_scalar g.old.graph (FuseInto u)) }
-    ensures has_room { HaveReach g.old f.old → IsOk result }
-    ensures spare { OnOk result
-        ((g.new.spare ≡ g.old.spare + 1) × (f.new.spare ≡ f.old.spare + 1)) }
-    ensures reach { (g.new.reach ≡ g.old.reach) × (f.new.reach ≡ f.old.reach) }
-{
-    let scalar = gadget_scalar();
-    fuse_into_in_graph(g, u);
-    f.eliminate(u)?;
-    Ok(scalar)
 }
 
-/// The graph's part of `fuse_into`.
-pub fn fuse_into_in_graph(g: &mut OpenGraph, u: VertexId)
+impl Rewrite for LegFusion {
+    ghost step = { λ by. FuseInto by.u };
+
+    ghost needs = { λ by g f. HaveReach g f };
+
+    ghost leaves = { λ by g f h k. (h.spare ≡ g.spare + 1) × (k.spare ≡ f.spare + 1) };
+
+    fn has_room(&self, g: &OpenGraph, f: &Flow) -> bool {
+        f.has_reach(g)
+    }
+
+    fn in_place(&self, g: &mut OpenGraph, f: &mut Flow) -> Result<Scalar, AllocError> {
+        let scalar = fuse_into_in_graph(g, self.u);
+        f.eliminate(self.u)?;
+        Ok(scalar)
+    }
+}
+
+/// The graph's part of `fuse_into`, with its scalar.
+pub fn fuse_into_in_graph(g: &mut OpenGraph, u: VertexId) -> Scalar
     requires { allowed g.old.graph (FuseInto u) ≡ true }
     ensures step { IsStep g.old.graph (FuseInto u) g.new.graph }
+    ensures scalar { result ≡ step_scalar g.old.graph (FuseInto u) }
     ensures spare { g.new.spare ≡ g.old.spare + 1 }
     ensures reach { g.new.reach ≡ g.old.reach }
     ensures was_valid { WellFormed g.old.graph }
@@ -118,6 +90,7 @@ pub fn fuse_into_in_graph(g: &mut OpenGraph, u: VertexId)
     let into = g.neighbour_from(u, 0).unwrap();
     let phase = take_out(g, u);
     add_phase(g, into, phase);
+    gadget_scalar()
 }
 
 fn is_xy(g: &OpenGraph, v: VertexId) -> bool

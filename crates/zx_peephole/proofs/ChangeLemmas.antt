@@ -256,7 +256,7 @@ triple_tidy front g i j t tidy =
         (turned_all t.qubit t.middle t.right t.turned t.right_off)
 
 -- ---- the edits that make them
-remove_at : (xs ys : List Gate) (x : Gate) (i : ℕ) → length xs ≡ i → remove (xs ++ x ∷ ys) i ≡ xs ++ ys
+pub remove_at : (xs ys : List Gate) (x : Gate) (i : ℕ) → length xs ≡ i → remove (xs ++ x ∷ ys) i ≡ xs ++ ys
 remove_at xs ys x i l =
     ap₂ (λ s t. s ++ t) (take_at xs (x ∷ ys) i l)
     (ap (drop (suc i)) (sym (append_assoc xs (x ∷ []) ys))

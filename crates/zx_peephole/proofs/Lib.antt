@@ -9,5 +9,6 @@ pub mod LeftLemmas
 pub mod ChainLemmas
 pub mod WalkLemmas
 pub mod SearchLemmas
+pub mod MarkLemmas
 pub mod SoundLemmas
 pub mod AdvanceLemmas

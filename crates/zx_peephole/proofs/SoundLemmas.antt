@@ -15,6 +15,8 @@ use Rattle.zx_peephole.specs.declared.chains.Chains.{Chains}
 use Rattle.zx_peephole.specs.Internal.Chains.{nothing, is_left, gate_at, IsOn, no_links, link_of, link_at, IsChain, Without}
 use Rattle.zx_peephole.specs.Internal.Chains.{first_qubit, second_qubit, IsSound, IsKept, kept, IsUnlinked}
 use Rattle.zx_peephole.specs.Internal.Chains.{IsUnlinkedFromAll}
+use Rattle.zx_peephole.specs.Internal.Marks.{IsMarked, IsMarkedBehind, IsMarkedWithout}
+use Rattle.zx_peephole.proofs.MarkLemmas.{marked_begun, marked_kept, marked_removed, marked_written, marked_passed}
 use Rattle.zx_peephole.proofs.ChainLemmas.{chain-same, chain-more, chain-past, on_second}
 
 -- a gate's qubits are the first and the second
@@ -155,8 +157,8 @@ pub sound_set : (old w : Chains) (i : ℕ) (g : Gate) → IsSound old → w.qubi
     → length w.last ≡ length old.last → (is_left g ≡ true → IsGateOn old.qubits g) → (w.next ≤ i → is_left g ≡ true)
     → ((q : ℕ) → q < most_qubits → IsChain (IsOn (set old.gates.items i g) q) (link_at (set old.gates.items i g) w.links.items q)
     (get_or w.last q 0) w.next)
-    → IsSound w
-sound_set old w i g sound qubits more within inside gates room table on unread chains = record {
+    → IsMarked w.marks (kept w) → IsSound w
+sound_set old w i g sound qubits more within inside gates room table on unread chains marks = record {
   places = record {
     qubits = table ∙ sound.places.qubits;
     within = omega (arith, size, within);
@@ -166,6 +168,7 @@ sound_set old w i g sound qubits more within inside gates room table on unread c
   chains = λ q few.
       subst (λ (xs : List Gate). IsChain (IsOn xs q) (link_at xs w.links.items q) (get_or w.last q 0) w.next) (sym gates)
       (chains q few);
+  marks = marks;
   few_qubits = omega (arith, qubits, sound.few_qubits);
   on_qubits = λ j below left.
       subst (λ (n : ℕ). IsGateOn n (gate_at w.gates.items j)) (sym qubits)
@@ -192,11 +195,11 @@ sound_set old w i g sound qubits more within inside gates room table on unread c
 -- a gate is gone
 pub sound_removed : (old new : Chains) (i : ℕ) (g : Gate) (w : Chains) → g ≡ nothing → IsSound old → IsKept old i
     → IsUnlinkedFromAll old new i → w.gates.items ≡ set new.gates.items i g → w.qubits ≡ new.qubits → w.links ≡ new.links
-    → w.last ≡ new.last → w.next ≡ new.next → IsSound w
-sound_removed old new i g w gone sound kept u gates qubits links last next =
+    → w.last ≡ new.last → w.next ≡ new.next → IsMarkedWithout new.marks w.marks (gate_at old.gates.items i) → IsSound w
+sound_removed old new i g w gone sound kept u gates qubits links last next marks =
     sound_set old w i g sound (qubits ∙ ap (λ (v : Chains). v.qubits) u.same) (omega (arith, same_next))
     (omega (arith, same_next, sound.places.within)) inside
-    (gates ∙ ap (λ (v : Chains). set v.gates.items i g) u.same) (ap (λ l. length l.items) links ∙ u.room)
+    same_gates (ap (λ l. length l.items) links ∙ u.room)
     (ap length last ∙ u.table)
     (λ left. absurd (both_ways (is_left nothing) refl (ap is_left (sym gone) ∙ left)))
     (λ past. absurd (omega (arith, same_next, kept.before)))
@@ -206,7 +209,13 @@ sound_removed old new i g w gone sound kept u gates qubits links last next =
     (subst (λ (l : List ℕ). IsChain (Without i (IsOn old.gates.items q)) (link_at old.gates.items w.links.items q) (get_or l q 0) old.next)
     (sym last) (subst (λ (l : List Links). IsChain (Without i (IsOn old.gates.items q)) (link_at old.gates.items l q) (get_or new.last q 0) old.next)
     (sym (ap (λ l. l.items) links)) (u.chains q few)))))
+    (marked_removed old w i sound.marks kept.before sound.places.within kept.left
+    (subst (λ (l : List ℕ). IsMarkedWithout l w.marks (gate_at old.gates.items i)) (ap (λ (v : Chains). v.marks) u.same) marks)
+    (same_gates ∙ ap (set old.gates.items i) gone) same_next)
   where
+    same_gates : w.gates.items ≡ set old.gates.items i g
+    same_gates = gates ∙ ap (λ (v : Chains). set v.gates.items i g) u.same
+
     inside : i < length old.gates.items
     inside = omega (arith, kept.before, sound.places.within)
 
@@ -216,8 +225,8 @@ sound_removed old new i g w gone sound kept u gates qubits links last next =
 -- another gate is to be read next
 pub sound_written : (old w : Chains) (g : Gate) → IsSound old → old.next < length old.gates.items → IsGateOn old.qubits g
     → is_left g ≡ true → w.gates.items ≡ set old.gates.items old.next g → w.qubits ≡ old.qubits → w.links ≡ old.links
-    → w.last ≡ old.last → w.next ≡ old.next → IsSound w
-sound_written old w g sound more on left gates qubits links last next =
+    → w.last ≡ old.last → w.next ≡ old.next → w.marks ≡ old.marks → IsSound w
+sound_written old w g sound more on left gates qubits links last next marks =
     sound_set old w old.next g sound qubits (omega (arith, next)) (omega (arith, next, more)) more gates
     (ap (λ l. length l.items) links) (ap length last) (λ is. on) (λ past. left)
     (λ q few. subst (λ (n : ℕ). IsChain (IsOn (set old.gates.items old.next g) q) (link_at (set old.gates.items old.next g) w.links.items q)
@@ -226,12 +235,13 @@ sound_written old w g sound more on left gates qubits links last next =
     (subst (λ (l : List ℕ). IsChain (IsOn old.gates.items q) (link_at old.gates.items w.links.items q) (get_or l q 0) old.next)
     (sym last) (subst (λ (l : List Links). IsChain (IsOn old.gates.items q) (link_at old.gates.items l q) (get_or old.last q 0) old.next)
     (sym (ap (λ l. l.items) links)) (sound.chains q few)))))
+    (marked_written old w g sound.marks gates marks next)
 
 -- nothing is left of the next gate
 pub sound_passed : (old w : Chains) (g : Gate) → g ≡ nothing → IsSound old → old.next < length old.gates.items
     → w.gates.items ≡ set old.gates.items old.next g → w.qubits ≡ old.qubits → w.links ≡ old.links
-    → w.last ≡ old.last → w.next ≡ old.next + 1 → IsSound w
-sound_passed old w g gone sound more gates qubits links last next =
+    → w.last ≡ old.last → w.next ≡ old.next + 1 → w.marks ≡ old.marks → IsSound w
+sound_passed old w g gone sound more gates qubits links last next marks =
     sound_set old w old.next g sound qubits (omega (arith, next)) (omega (arith, next, more)) more gates
     (ap (λ l. length l.items) links) (ap length last)
     (λ left. absurd (both_ways (is_left nothing) refl (ap is_left (sym gone) ∙ left)))
@@ -244,6 +254,7 @@ sound_passed old w g gone sound more gates qubits links last next =
     (subst (λ (l : List ℕ). IsChain (IsOn old.gates.items q) (link_at old.gates.items w.links.items q) (get_or l q 0) old.next)
     (sym last) (subst (λ (l : List Links). IsChain (IsOn old.gates.items q) (link_at old.gates.items l q) (get_or old.last q 0) old.next)
     (sym (ap (λ l. l.items) links)) (sound.chains q few))))))
+    (marked_passed old w sound.marks more (gates ∙ ap (set old.gates.items old.next) gone) marks next)
   where
     off : (q : ℕ) → IsOn (set old.gates.items old.next g) q old.next → ⊥
     off q on =
@@ -271,8 +282,9 @@ pub sound_kept : (old : Chains) (f s : ℕ) (l : Links) (w : Chains) → IsSound
     → f ≡ first_qubit (gate_at old.gates.items old.next) → s ≡ second_qubit (gate_at old.gates.items old.next)
     → l.first ≡ get_or old.last f 0 → l.second ≡ get_or old.last s 0
     → w.gates ≡ old.gates → w.qubits ≡ old.qubits → w.links.items ≡ set old.links.items old.next l
-    → w.last ≡ set (set old.last f (old.next + 1)) s (old.next + 1) → w.next ≡ old.next + 1 → IsSound w
-sound_kept old f s l w sound more f_is s_is first second gates qubits links last next = record {
+    → w.last ≡ set (set old.last f (old.next + 1)) s (old.next + 1) → w.next ≡ old.next + 1
+    → IsMarkedBehind old.marks w.marks (gate_at old.gates.items old.next) → IsSound w
+sound_kept old f s l w sound more f_is s_is first second gates qubits links last next marks = record {
   places = record {
     qubits = ap length last ∙ length-set (set old.last f (old.next + 1)) s (old.next + 1) ∙ length-set old.last f (old.next + 1)
         ∙ sound.places.qubits;
@@ -284,6 +296,7 @@ sound_kept old f s l w sound more f_is s_is first second gates qubits links last
       subst (λ (xs : List Gate). IsChain (IsOn xs q) (link_at xs w.links.items q) (get_or w.last q 0) w.next) (sym (ap (λ v. v.items) gates))
       (subst (λ (n : ℕ). IsChain (IsOn old.gates.items q) (link_at old.gates.items w.links.items q) (get_or w.last q 0) n) (sym next)
       (elim (cases_Bool (is_on q g)) [ inl on ↦ linked q few on | inr off ↦ passed q few off ]));
+  marks = marked_kept old w sound.marks more (sound.unread old.next (omega arith) more) marks gates next;
   few_qubits = omega (arith, qubits, sound.few_qubits);
   on_qubits = subst (λ (n : ℕ). (j : ℕ) → j < length w.gates.items → is_left (gate_at w.gates.items j) ≡ true
       → IsGateOn n (gate_at w.gates.items j)) (sym qubits)
@@ -368,8 +381,8 @@ sound_kept old f s l w sound more f_is s_is first second gates qubits links last
 -- ---- at the start
 -- no gate is read
 pub sound_begun : (w : Chains) → HasRoom (circuit_of w.qubits w.gates.items) (length w.links.items)
-    → w.last ≡ replicate 1024 0 → w.next ≡ 0 → IsSound w
-sound_begun w room last next = record {
+    → w.last ≡ replicate 1024 0 → w.marks ≡ replicate 1024 0 → w.next ≡ 0 → IsSound w
+sound_begun w room last marks next = record {
   places = record {
     qubits = ap length last ∙ length-replicate {A = ℕ} 1024 0;
     within = omega (arith, next);
@@ -384,6 +397,7 @@ sound_begun w room last next = record {
     };
     links = λ i before. absurd (omega (arith, next));
   };
+  marks = marked_begun w marks next;
   few_qubits = room.circuit.few_qubits;
   on_qubits = λ i below left. room.circuit.on_qubits i nothing below;
   unread = λ i past below. left_on w.qubits (gate_at w.gates.items i) (room.circuit.on_qubits i nothing below);

@@ -1,5 +1,6 @@
 -- What only private contracts and proofs cite: nobody has to read it to trust a promise of this crate.
 pub mod Merging
+pub mod Marks
 pub mod Chains
 pub mod Stops
 pub mod Changes

@@ -11,13 +11,15 @@ pub(crate) const MOST_QUBITS: usize = 1024;
 
 // A list that is being tidied. Of the gates before the next one to be read each is kept, or has left nothing at its
 // place. The kept ones on a qubit form a chain, from the last one, each linked to the one before it on that qubit. A
-// link is how many places there are up to and with the gate that it leads to, or 0 where there is none.
+// link is how many places there are up to and with the gate that it leads to, or 0 where there is none. The marks tell
+// of most Cz that none is kept that they could meet.
 #[derive(Drop)]
 pub(crate) struct Chains {
     pub(crate) qubits: Qubit,
     pub(crate) gates: Vec<Gate>,
     pub(crate) links: Vec<Links>,
     pub(crate) last: [u32; MOST_QUBITS],
+    pub(crate) marks: [u128; MOST_QUBITS],
     pub(crate) next: usize,
 }
 

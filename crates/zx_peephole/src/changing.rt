@@ -7,6 +7,7 @@ ghost use Rattle.zx_peephole.specs.Internal.Chains.{IsOn, IsSound, IsKept, IsRea
 ghost use Rattle.zx_peephole.specs.Internal.Changes.{IsPairAt, IsTripleAt, IsAdvance};
 
 use crate::chains::{Chains, first_qubit, nothing, second_qubit};
+use crate::marks::{mark, open};
 use crate::pairs::{conjugated, doublings, merged};
 use zx_gates::{Links, Qubit};
 
@@ -18,6 +19,7 @@ pub(crate) fn keep(work: &mut Chains)
     ensures advance { IsAdvance work.old 0 work.new }
 {
     let gate = &work.gates[work.next];
+    mark(&mut work.marks, gate);
     let first = usize::from(first_qubit(gate));
     let second = usize::from(second_qubit(gate));
     work.links[work.next] = Links {
@@ -75,6 +77,7 @@ fn remove(work: &mut Chains, place: usize)
     ensures removed { IsRemoved work.old work.new place }
 {
     unlink_all(work, place);
+    open(&mut work.marks, &work.gates[place]);
     work.gates[place] = nothing();
 }
 

@@ -35,7 +35,7 @@ fn are_apart(gate: &Gate, other: &Gate) -> bool
 }
 
 // Whether the gate is a phase gate or Cz.
-fn is_diagonal(gate: &Gate) -> bool
+pub(crate) fn is_diagonal(gate: &Gate) -> bool
     ensures { result ≡ is_diagonal gate.now }
 {
     matches!(*gate, Gate::Phase(..) | Gate::Cz(..))

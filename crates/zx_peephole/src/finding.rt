@@ -7,6 +7,7 @@ ghost use Rattle.zx_peephole.specs.Internal.Stops.{IsStop, IsFreeBetween, IsWalk
 ghost use Rattle.zx_peephole.specs.Internal.Changes.{IsChange};
 
 use crate::chains::{Chains, first_qubit, second_qubit};
+use crate::marks::meets_none;
 use crate::pairs::{is_pair, stops, turns};
 use zx_gates::{Gate, Qubit};
 
@@ -34,6 +35,9 @@ pub(crate) fn find(work: &Chains) -> Option<Change>
     ensures none { IfNone result (IsTidy (kept work.now) → IsTidy (kept work.now ++ next_of work.now ∷ [])) }
 {
     let gate = &work.gates[work.next];
+    if meets_none(&work.marks, gate) {
+        return None;
+    }
     let stop = last_stop(work, gate, start(work, gate))?;
     let earlier = &work.gates[stop];
     if is_pair(earlier, gate) {

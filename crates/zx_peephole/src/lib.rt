@@ -15,6 +15,7 @@ mod changing;
 mod commuting;
 mod finding;
 mod laws;
+mod marks;
 mod pairs;
 mod tidying;
 

@@ -24,7 +24,7 @@ use zx_model::{Scalar, Sixteenth};
 /// scalar is answered that the circuit's map was times the new one.
 ///
 /// A merged phase gate stands at the later gate's place. The time is that of looking, for each gate, at the kept ones
-/// before it that it commutes with and shares a qubit with.
+/// before it that it commutes with and shares a qubit with; most Cz that meet no other look at none.
 pub fn tidy(g: &mut GateList) -> Scalar
     ensures tidy { IsTidy g.new.gates }
     ensures qubits { g.new.qubits ≡ g.old.qubits }
@@ -75,6 +75,7 @@ fn begin(parts: Parts) -> Chains
         gates: parts.gates,
         links: parts.links,
         last: [0; MOST_QUBITS],
+        marks: [0; MOST_QUBITS],
         next: 0,
     }
 }

@@ -1,35 +1,39 @@
 //! What a pivot makes of a graph.
 
-ghost use Rattle.std.specs.Prelude.{◌≡◌, ◌≢◌, true, IsOk, OnOk};
+ghost use Rattle.std.specs.Prelude.{◌≡◌, ◌≢◌, true, IsOk, IfOk, OnOk};
 ghost use Rattle.zx_bits.specs.Sets.{IsBelow};
 ghost use Rattle.zx_calculus.specs.Graph.{ids, joined, neighbours, Live, Interior, WellFormed};
 ghost use Rattle.zx_calculus.specs.Steps.{allowed, IsStep, Pivot};
+ghost use Rattle.zx_calculus.specs.StepScalars.{step_scalar};
 ghost use Rattle.zx_calculus.specs.Edits.{at_vertex};
 ghost use Rattle.zx_calculus.specs.Turns.{in_plane, half_turned, pivoted};
 ghost use Rattle.open_graph.specs.Planes.{plane_named};
 ghost use Rattle.zx_calculus.specs.Internal.ChangedKinds.{with_changed};
 ghost use Rattle.zx_pivot.specs.Internal.Changes.{IsRewired, half_turned_in};
 
+use crate::scalar::pivot_scalar;
 use open_graph::{OpenGraph, Plane, VertexId};
 use std::alloc::AllocError;
-use zx_model::Sixteenth;
+use zx_model::{Scalar, Sixteenth};
 
-/// The graph's part of `pivot`, in which u and v get a change of their own too: where memory runs
-/// out, the graph may be any. Where all its vertices are below its reach, none is needed.
-pub fn pivot_in_graph(g: &mut OpenGraph, u: VertexId, v: VertexId) -> Result<(), AllocError>
+/// The graph's part of `pivot`, in which u and v get a change of their own too, with its scalar: where
+/// memory runs out, the graph may be any. Where all its vertices are below its reach, none is needed.
+pub fn pivot_in_graph(g: &mut OpenGraph, u: VertexId, v: VertexId) -> Result<Scalar, AllocError>
     requires { allowed g.old.graph (Pivot u v) ≡ true }
     ensures step { OnOk result (IsStep g.old.graph (Pivot u v) g.new.graph) }
+    ensures scalar { IfOk result (λ s. s ≡ step_scalar g.old.graph (Pivot u v)) }
     ensures has_room { IsBelow g.old.reach (ids g.old.graph.vertices) → IsOk result }
     ensures spare { OnOk result (g.new.spare ≡ g.old.spare) }
     ensures reach { g.new.reach ≡ g.old.reach }
     ensures was_valid { WellFormed g.old.graph }
     ensures valid { WellFormed g.new.graph }
 {
+    let scalar = pivot_scalar(g, u, v);
     turn_common(g, u, v);
     rewire(g, u, v)?;
     pivot_own(g, u);
     pivot_own(g, v);
-    Ok(())
+    Ok(scalar)
 }
 
 // Turns the common neighbours of two vertices by a half.

@@ -4,15 +4,14 @@
 //! the flow the table that `gflow_laws` gives for that, a flow of the new graph; the sum before
 //! is the answered scalar times the sum after, and odd phases don't rise; want of memory leaves both
 //! as they were.
-//! `may_pivot` tells exactly where it is allowed, `pivot_scalar` by which scalar it changes the sum. `pivot_in_place` makes the same change without
-//! copies; where memory runs out it says nothing. `pivot_in_graph` changes the graph alone, by the
-//! same step. Where all vertices are below the reach of graph and flow, none of these takes memory.
-//! What both have memory for stays in any case.
+//! `may_pivot` tells exactly where it is allowed. `pivot_in_graph` changes the graph alone, by the same step,
+//! with the same scalar; where memory runs out it says nothing. Where all vertices are below the reach of graph
+//! and flow, neither takes memory. What both have memory for stays in any case.
 //!
 //! Inside:
 //!
 //! - `graph`, `flow`: what a pivot makes of each.
-//! - `rewrite`: the test, the change in place and the safe call, on top of these.
+//! - `rewrite`: the test, the safe call and what it does in place, on top of these.
 //! - `scalar`: by which scalar a pivot changes the sum.
 //!
 //! ```rust
@@ -28,5 +27,4 @@ mod rewrite;
 mod scalar;
 
 pub use graph::pivot_in_graph;
-pub use rewrite::{may_pivot, pivot, pivot_in_place};
-pub use scalar::pivot_scalar;
+pub use rewrite::{may_pivot, pivot};

@@ -10,12 +10,11 @@ ghost use Rattle.zx_flow.specs.Flows.{HaveReach};
 
 use crate::flow::pivot_sets;
 use crate::graph::pivot_in_graph;
-use crate::scalar::pivot_scalar;
 use open_graph::{OpenGraph, VertexId};
 use std::alloc::AllocError;
-use std::mem;
 use zx_flow::Flow;
 use zx_model::Scalar;
+use zx_rewrite::{Rewrite, perform};
 
 /// A pivot of two adjacent interior vertices u and v: they exchange their other neighbours, the
 /// edges between the classes (adjacent to u alone, to v alone, to both) are toggled, and the common
@@ -41,42 +40,7 @@ pub fn pivot(
     ensures reach { (g.new.reach ≡ g.old.reach) × (f.new.reach ≡ f.old.reach) }
     ensures valid { WellFormed g.new.graph }
 {
-    if f.has_reach(g) {
-        return pivot_in_place(g, f, u, v);
-    }
-    pivot_with_copies(g, f, u, v)
-}
-
-// The same in place. Where memory runs out, copies take the place of graph and flow.
-fn pivot_with_copies(
-    g: &mut OpenGraph,
-    f: &mut Flow,
-    u: VertexId,
-    v: VertexId,
-) -> Result<Scalar, AllocError>
-    requires flow { IsFlow g.old.graph f.old.flow }
-    requires allowed { allowed g.old.graph (Pivot u v) ≡ true }
-    ensures rewritten { OnOk result
-        (IsRewritten g.old.graph f.old.flow (Pivot u v) g.new.graph f.new.flow) }
-    ensures scalar { IfOk result (λ s. s ≡ step_scalar g.old.graph (Pivot u v)) }
-    ensures err { OnErr result ((g.new.graph ≡ g.old.graph) × (f.new.flow ≡ f.old.flow)) }
-    ensures spare { OnOk result
-        ((g.new.spare ≡ g.old.spare) × (f.new.spare ≡ f.old.spare)) }
-    ensures keeps_spare { OnErr result
-        ((g.new.spare ≡ g.old.spare) × (f.old.spare ≤ f.new.spare)) }
-    ensures reach { (g.new.reach ≡ g.old.reach) × (f.new.reach ≡ f.old.reach) }
-    ensures valid { WellFormed g.new.graph }
-{
-    let mut graph = g.copy()?;
-    let mut flow = f.copy()?;
-    match pivot_in_place(g, f, u, v) {
-        Ok(scalar) => Ok(scalar),
-        Err(error) => {
-            mem::swap(g, &mut graph);
-            mem::swap(f, &mut flow);
-            Err(error)
-        }
-    }
+    perform(g, f, &EdgePivot { u, v })
 }
 
 /// Whether the ids are those of two adjacent interior vertices.
@@ -87,25 +51,26 @@ pub fn may_pivot(g: &OpenGraph, u: VertexId, v: VertexId) -> bool
     g.is_live(u) && g.is_live(v) && g.is_interior(u) && g.is_interior(v) && g.has_edge(u, v)
 }
 
-/// As `pivot`, but where memory runs out, graph and flow may be any. Where all vertices are below the
-/// reach of both, none is needed.
-pub fn pivot_in_place(
-    g: &mut OpenGraph,
-    f: &mut Flow,
+// The pivot along the edge of two vertices.
+#[derive(Drop)]
+struct EdgePivot {
     u: VertexId,
     v: VertexId,
-) -> Result<Scalar, AllocError>
-    requires flow { IsFlow g.old.graph f.old.flow }
-    requires allowed { allowed g.old.graph (Pivot u v) ≡ true }
-    ensures rewritten { OnOk result
-        (IsRewritten g.old.graph f.old.flow (Pivot u v) g.new.graph f.new.flow) }
-    ensures scalar { IfOk result (λ s. s ≡ step_scalar g.old.graph (Pivot u v)) }
-    ensures has_room { HaveReach g.old f.old → IsOk result }
-    ensures spare { OnOk result ((g.new.spare ≡ g.old.spare) × (f.new.spare ≡ f.old.spare)) }
-    ensures reach { (g.new.reach ≡ g.old.reach) × (f.new.reach ≡ f.old.reach) }
-{
-    let scalar = pivot_scalar(g, u, v);
-    pivot_sets(f, g, u, v)?;
-    pivot_in_graph(g, u, v)?;
-    Ok(scalar)
+}
+
+impl Rewrite for EdgePivot {
+    ghost step = { λ by. Pivot by.u by.v };
+
+    ghost needs = { λ by g f. HaveReach g f };
+
+    ghost leaves = { λ by g f h k. (h.spare ≡ g.spare) × (k.spare ≡ f.spare) };
+
+    fn has_room(&self, g: &OpenGraph, f: &Flow) -> bool {
+        f.has_reach(g)
+    }
+
+    fn in_place(&self, g: &mut OpenGraph, f: &mut Flow) -> Result<Scalar, AllocError> {
+        pivot_sets(f, g, self.u, self.v)?;
+        pivot_in_graph(g, self.u, self.v)
+    }
 }

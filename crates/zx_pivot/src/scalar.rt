@@ -9,8 +9,8 @@ ghost use Rattle.zx_calculus.specs.StepScalars.{step_scalar, pivot_scalar_in, co
 use open_graph::{OpenGraph, Plane, VertexId};
 use zx_model::{Scalar, Sixteenth};
 
-/// The scalar of a pivot of two adjacent interior vertices: the sum before is so many times the sum after.
-pub fn pivot_scalar(g: &OpenGraph, u: VertexId, v: VertexId) -> Scalar
+// The scalar of a pivot of two adjacent interior vertices: the sum before is so many times the sum after.
+pub(crate) fn pivot_scalar(g: &OpenGraph, u: VertexId, v: VertexId) -> Scalar
     requires { allowed g.now.graph (Pivot u v) ≡ true }
     ensures value { result ≡ step_scalar g.now.graph (Pivot u v) }
     ensures valid { WellFormed g.now.graph }

@@ -1,8 +1,9 @@
 -- Candidates and ranks stay right while steps are done.
-use Rattle.std.proofs.Common.{length, Bor, IfSome, option_copied, arith, IsTrue, ◌+◌, if◌then◌else◌, Option, Some, None, IfNone, slice_get, ◌<◌, lit<, ◌⊎◌, inl, inr, ◌≡◌, refl, sym, ◌∙◌, ap, ap₂, subst, ℕ, Bool, true, false, not, ◌&&◌, ◌||◌, eqb, List, [], ◌∷◌, ◌++◌, true≢false}
-use Rattle.std.specs.BTreeSet.{contains, Updates, IsLowerBound}
+use Rattle.std.proofs.Common.{arith, ◌+◌, IfSome, ◌≤◌, ltb, ltb-true, ltb-false, slice_get, Option, Some, None, IfNone, ◌<◌, lit<, ◌⊎◌, inl, inr, ◌≡◌, refl, sym, ◌∙◌, ap, ap₂, subst, ℕ, Bool, true, false, not, ◌&&◌, ◌||◌, eqb, List, [], ◌∷◌, ◌++◌, true≢false}
+use Rattle.std.proofs.lemmas.Bool.Decides.{nat_tests}
 use Rattle.zx_model.specs.Bits.{member}
-use Rattle.zx_calculus.specs.Graph.{XY, Graph, plane_of, neighbours, end_vertices, is_interior, WellFormed}
+use Rattle.zx_model.specs.Phase.{IsOdd}
+use Rattle.zx_calculus.specs.Graph.{XY, Graph, ids, plane_of, neighbours, end_vertices, is_interior, WellFormed}
 use Rattle.zx_calculus.specs.Moves.{IsGadgetOf, IsStuck}
 use Rattle.zx_calculus.specs.Splits.{new_vertex}
 use Rattle.zx_calculus.specs.Steps.{Step, IsStep, LocalComplement, Delete, Pivot, SplitInput, SplitOutput, DropLone, FuseInto, FuseTwin}
@@ -14,8 +15,6 @@ use Rattle.zx_calculus.proofs.Splits.{member-move_end-new}
 use Rattle.zx_calculus.proofs.Steps.{step_kept}
 use Rattle.move_laws.specs.Candidates.{MoveKind, Deletion, QuarterGadget, InXZ, QuarterSpider, InnerPivot, BoundaryPivot, GadgetPair, LoneGadget, SingleGadget, Twins, IsPlaceOf, is_mutual, Covers, touched_by, with_touched}
 use Rattle.move_laws.proofs.Covering.{exchanged, kept_by_step, lives, none_left}
-use Rattle.move_laws.proofs.Touching.{step_touches}
-use Rattle.zx_reduce.specs.declared.candidates.Candidate.{Candidate}
 use Rattle.zx_reduce.specs.declared.candidates.Candidates.{Candidates}
 use Rattle.zx_reduce.specs.declared.moves.Kind.{Kind}
 use Rattle.zx_reduce.specs.declared.moves.Kind.TheVariants as kinds
@@ -23,9 +22,9 @@ use Rattle.zx_reduce.specs.declared.moves.Move.{Move}
 use Rattle.zx_reduce.specs.declared.moves.Move.TheVariants as moves
 use Rattle.zx_reduce.specs.declared.moves.TheConstants.{KINDS}
 use Rattle.zx_reduce.specs.Search.{AppliesAt, kind_of, IsOfFirstKind}
-use Rattle.zx_reduce.specs.Internal.Searching.{IsMoveAt, NoneAt}
-use Rattle.zx_reduce.specs.Internal.Guiding.{place_kind, place_of, candidate_cmp, candidate_at, is_candidate, HasCandidates, HasCandidatesBut, IsListed, KeepsCandidates, near, near_step}
-use Rattle.zx_reduce.proofs.CandidateSets.{at_place, none_earlier, removed}
+use Rattle.zx_reduce.specs.Internal.Searching.{IsMoveAt, IsMoveOf, IsSettled, NoneAt}
+use Rattle.zx_reduce.specs.Internal.Guiding.{place_kind, place_of, list_place, standing, IsListing, StandElsewhere, is_candidate, HasCandidates, HasCandidatesBut, IsListed, KeepsCandidates, near, near_step}
+use Rattle.zx_reduce.proofs.CandidateLists.{at_place, place_within, place_rises, no_list}
 use Rattle.zx_reduce.proofs.SearchKinds.{stands_once, stands_at}
 
 -- no place is at a vertex with an end
@@ -40,6 +39,22 @@ boundary_none g GadgetPair u v plane out c = let e = sym plane ∙ c.plane in cc
 boundary_none g LoneGadget u v plane out c = let e = sym plane ∙ c.plane in cc
 boundary_none g SingleGadget u v plane out c = let e = sym plane ∙ c.plane in cc
 boundary_none g Twins u v plane out c = let e = sym plane ∙ c.plane in cc
+
+-- no place is at a vertex of an odd phase that is XY
+pub settled_none : (g : Graph) (k : MoveKind) (u v : ℕ) → IsSettled g u → ¬ IsPlaceOf g k u v
+settled_none g Deletion u v s c = c.plane s.plane
+settled_none g QuarterGadget u v s c = let e = sym s.plane ∙ c.plane in cc
+settled_none g InXZ u v s c = let e = sym s.plane ∙ c.plane in cc
+settled_none g QuarterSpider u v s c =
+    elim c.phase [ inl e ↦ true≢false (sym (subst (λ n. IsOdd n) e s.phase)) | inr e ↦ true≢false (sym (subst (λ n. IsOdd n) e s.phase)) ]
+settled_none g InnerPivot u v s c =
+    elim c.spider.phase [ inl e ↦ true≢false (sym (subst (λ n. IsOdd n) e s.phase)) | inr e ↦ true≢false (sym (subst (λ n. IsOdd n) e s.phase)) ]
+settled_none g BoundaryPivot u v s c =
+    elim c.spider.phase [ inl e ↦ true≢false (sym (subst (λ n. IsOdd n) e s.phase)) | inr e ↦ true≢false (sym (subst (λ n. IsOdd n) e s.phase)) ]
+settled_none g GadgetPair u v s c = let e = sym s.plane ∙ c.plane in cc
+settled_none g LoneGadget u v s c = let e = sym s.plane ∙ c.plane in cc
+settled_none g SingleGadget u v s c = let e = sym s.plane ∙ c.plane in cc
+settled_none g Twins u v s c = let e = sym s.plane ∙ c.plane in cc
 
 -- one of four, of which the second pair counts where m
 one_of_four : (a b c d m x y : Bool) → ((a || b) || (m && (c || d))) ≡ true → (a ≡ true → x ≡ true) → (b ≡ true → x ≡ true)
@@ -134,41 +149,95 @@ or_last a b c e = ap (λ t. a || (b || t)) e ∙ ap (λ t. a || t) (or-true b) �
 -- candidates after a step but for the vertices near it, as before it but for others
 module _ (touched : List ℕ) (g : Graph) (s : Step) (h : Graph) (c : Candidates) (formed : WellFormed g) (step : IsStep g s h) where
   abbrev but_near : Kind → ℕ → Bool
-  but_near k = with_touched (touched ++ near_step g s) (is_candidate h c k)
+  but_near k = with_touched (touched ++ near_step g s) (is_candidate c k)
 
-  -- a vertex that isn't touched has as many neighbours as before
   still_but : (k : Kind) (w p : ℕ) → IsPlaceOf h (place_kind k) w p → member w (touched_by g s) ≡ false
-      → with_touched touched (is_candidate g c k) w ≡ true → but_near k w ≡ true
+      → with_touched touched (is_candidate c k) w ≡ true → but_near k w ≡ true
   still_but k w p at f there =
-      ap₂ (λ a b. a || b)
-      (ap (λ (row : List ℕ). contains candidate_cmp c.set (record { place = place_of k; neighbours = length row; number = w }))
-      (step_touches g s h formed step w (lives h (place_kind k) w p at) f).row)
-      (member-append w touched (near_step g s))
-      ∙ or_more (is_candidate g c k w) (member w touched) (member w (near_step g s)) there
+      ap (λ b. is_candidate c k w || b) (member-append w touched (near_step g s))
+      ∙ or_more (is_candidate c k w) (member w touched) (member w (near_step g s)) there
 
   near_but : (w : ℕ) → member w (near_step g s) ≡ true → IsListedIn h w but_near
   near_but w there k v place =
-      ap (λ b. is_candidate h c k w || b) (member-append w touched (near_step g s))
-      ∙ or_last (is_candidate h c k w) (member w touched) (member w (near_step g s)) there
+      ap (λ b. is_candidate c k w || b) (member-append w touched (near_step g s))
+      ∙ or_last (is_candidate c k w) (member w touched) (member w (near_step g s)) there
 
   pub candidates_after : HasCandidatesBut touched g c → HasCandidatesBut (touched ++ near_step g s) h c
-  candidates_after has =
-      covered_where g s h (λ k. with_touched touched (is_candidate g c k)) but_near formed step has still_but
-      (near_listed g s h but_near (step_kept g s h formed step) step near_but)
+  candidates_after has = record {
+    listing = has.listing;
+    covers = covered_where g s h (λ k. with_touched touched (is_candidate c k)) but_near formed step has.covers still_but
+        (near_listed g s h but_near (step_kept g s h formed step) step near_but);
+  }
 
 -- all of them, once the vertices that are left out are listed
-pub candidates_all : (touched : List ℕ) (g : Graph) (before after : Candidates) → HasCandidatesBut touched g before → KeepsCandidates before after →
-    ((w : ℕ) → member w touched ≡ true → IsListed g w after) → HasCandidates g after
-candidates_all touched g before after has keeps listed k u v place =
-    one_of_four (is_candidate g before k u) (member u touched) (is_candidate g before k v) (member v touched)
-    (is_mutual (place_kind k)) (is_candidate g after k u) (is_candidate g after k v) (has k u v place)
-    (keeps (candidate_at g k u)) (λ t. listed u t k v place)
-    (λ m. keeps (candidate_at g k v)) (λ m t. listed v t k u (exchanged g (place_kind k) u v m place))
+pub candidates_all : (touched : List ℕ) (g : Graph) (before after : Candidates) → HasCandidatesBut touched g before → IsListing after
+    → KeepsCandidates g before after → ((w : ℕ) → member w touched ≡ true → IsListed g w after) → HasCandidates g after
+candidates_all touched g before after has listing keeps listed = record {
+  listing = listing;
+  covers = λ k u v place. let back = exchanged g (place_kind k) u v in
+      one_of_four (is_candidate before k u) (member u touched) (is_candidate before k v) (member v touched)
+      (is_mutual (place_kind k)) (is_candidate after k u) (is_candidate after k v) (has.covers k u v place)
+      (keeps k u v place) (λ t. listed u t k v place)
+      (λ m. keeps k v u (back m place)) (λ m t. listed v t k u (back m place));
+}
 
 pub candidates_but : (touched : List ℕ) (g : Graph) (c : Candidates) → touched ≡ [] → HasCandidates g c → HasCandidatesBut touched g c
-candidates_but touched g c none has k u v place =
-    ap (λ (vs : List ℕ). with_touched vs (is_candidate g c k) u || (is_mutual (place_kind k) && with_touched vs (is_candidate g c k) v)) none
-    ∙ ap₂ (λ a b. a || (is_mutual (place_kind k) && b)) (or-false (is_candidate g c k u)) (or-false (is_candidate g c k v)) ∙ has k u v place
+candidates_but touched g c none has = record {
+  listing = has.listing;
+  covers = λ k u v place.
+      ap (λ (vs : List ℕ). with_touched vs (is_candidate c k) u || (is_mutual (place_kind k) && with_touched vs (is_candidate c k) v)) none
+      ∙ ap₂ (λ a b. a || (is_mutual (place_kind k) && b)) (or-false (is_candidate c k u)) (or-false (is_candidate c k v)) ∙ has.covers k u v place;
+}
+
+-- other candidates, none of which went that has a place
+pub candidates_kept : (g : Graph) (before after : Candidates) → HasCandidates g before → IsListing after → KeepsCandidates g before after
+    → HasCandidates g after
+candidates_kept g before after has listing keeps =
+    candidates_all [] g before after (candidates_but [] g before refl has) listing keeps (λ w there. absurd (true≢false (sym there)))
+
+-- candidates where each vertex is listed
+pub candidates_listed : (g : Graph) (c : Candidates) → IsListing c → ((w : ℕ) → member w (ids g.vertices) ≡ true → IsListed g w c)
+    → HasCandidates g c
+candidates_listed g c listing listed = record {
+  listing = listing;
+  covers = λ k u v place. ap (λ b. b || (is_mutual (place_kind k) && is_candidate c k v)) (listed u (lives g (place_kind k) u v place) k v place);
+}
+
+-- ---- where a vertex stands
+pub listed_at : (c : Candidates) (k : Kind) (u l : ℕ) → standing c u ≡ l → list_place l ≤ place_of k → is_candidate c k u ≡ true
+listed_at c k u l at le = ap (λ n. ltb (list_place n) (place_of k + 1)) at ∙ grind (arith, nat_tests)
+
+pub not_after : (c : Candidates) (k : Kind) (u : ℕ) → is_candidate c k u ≡ true → list_place (standing c u) ≤ place_of k
+not_after c k u there = let lt = ltb-true (list_place (standing c u)) (place_of k + 1) there in omega (arith, lt)
+
+-- u goes to a list before whose kind nothing begins there
+pub put_keeps : (g : Graph) (before after : Candidates) (u l : ℕ) → StandElsewhere u before after → standing after u ≡ l
+    → ((k : Kind) (v : ℕ) → list_place (standing before u) ≤ place_of k → IsPlaceOf g (place_kind k) u v → list_place l ≤ place_of k)
+    → KeepsCandidates g before after
+put_keeps g before after u l others stands early k w v place there =
+    by_equal w u
+    (λ t e. subst (λ x. is_candidate after k x ≡ true) (sym e)
+    (listed_at after k u l stands (early k v (not_after before k u (subst (λ x. is_candidate before k x ≡ true) e there)) (subst (λ x. IsPlaceOf g (place_kind k) x v) e place))))
+    (λ f n. ap (λ s. ltb (list_place s) (place_of k + 1)) (others w n) ∙ there)
+
+pub put_listed : (g : Graph) (after : Candidates) (u l : ℕ) → standing after u ≡ l
+    → ((k : Kind) (v : ℕ) → 0 ≤ place_of k → place_of k < list_place l → ¬ IsPlaceOf g (place_kind k) u v) → IsListed g u after
+put_listed g after u l stands none k v place =
+    by_test (ltb (place_of k) (list_place l))
+    (λ t. absurd (none k v (omega arith) (ltb-true _ _ t) place))
+    (λ f. listed_at after k u l stands (ltb-false _ _ f))
+
+pub put_all : (g : Graph) (before after : Candidates) (u l : ℕ) → StandElsewhere u before after → IsListed g u after → KeepsCandidates g before after
+put_all g before after u l others listed k w v place there =
+    by_equal w u
+    (λ t e. subst (λ x. is_candidate after k x ≡ true) (sym e) (listed k v (subst (λ x. IsPlaceOf g (place_kind k) x v) e place)))
+    (λ f n. ap (λ s. ltb (list_place s) (place_of k + 1)) (others w n) ∙ there)
+
+pub stand_over : (u : ℕ) (a b c : Candidates) → StandElsewhere u a b → StandElsewhere u b c → StandElsewhere u a c
+stand_over u a b c first second w other = second w other ∙ first w other
+
+pub same_keep : (g : Graph) (before after : Candidates) → ((w : ℕ) → standing after w ≡ standing before w) → KeepsCandidates g before after
+same_keep g before after same k w v place there = ap (λ s. ltb (list_place s) (place_of k + 1)) (same w) ∙ there
 
 -- ---- the first candidate
 -- no place is where nothing of its kind applies; two gadgets without neighbours are an earlier kind than twins
@@ -203,54 +272,75 @@ one_of_two true c m h = inl refl
 one_of_two false c true h = inr (refl, h)
 one_of_two false c false h = absurd (true≢false (sym h))
 
-two_of : (a c m : Bool) → (a ≡ true) ⊎ ((m ≡ true) × (c ≡ true)) → (a || (m && c)) ≡ true
-two_of a c m (inl e) = ap (λ t. t || (m && c)) e
-two_of a c m (inr e) = ap₂ (λ s t. a || (s && t)) e.0 e.1 ∙ or-true a
-
-module _ (g : Graph) (c : Candidates) (x : Candidate) (has : HasCandidates g c) (least : IsLowerBound candidate_cmp c.set x) where
-  -- no kind before that of the first candidate has a place
-  none_before : (k : Kind) (u v : ℕ) → place_of k < x.place → ¬ IsPlaceOf g (place_kind k) u v
+module _ (g : Graph) (c : Candidates) (l : ℕ) (has : HasCandidates g c) (least : (w : ℕ) → l ≤ standing c w) where
+  -- no kind before that of the first list has a place
+  none_before : (k : Kind) (u v : ℕ) → place_of k < list_place l → ¬ IsPlaceOf g (place_kind k) u v
   none_before k u v lt place =
-      elim (one_of_two (is_candidate g c k u) (is_candidate g c k v) (is_mutual (place_kind k)) (has k u v place)) [
-        | inl there ↦ none_earlier c.set x (candidate_at g k u) least there lt
-        | inr there ↦ none_earlier c.set x (candidate_at g k v) least there.1 lt
+      elim (one_of_two (is_candidate c k u) (is_candidate c k v) (is_mutual (place_kind k)) (has.covers k u v place)) [
+        | inl there ↦ earlier u there
+        | inr there ↦ earlier v there.1
       ]
+    where
+      earlier : (w : ℕ) → ¬ (is_candidate c k w ≡ true)
+      earlier w there =
+          let here = not_after c k w there in
+          let rises = place_rises l (standing c w) (least w) in
+          omega (arith, here, rises, lt)
 
-  pub first_kind : (m : Move) → IsMoveAt g x.place m → IsOfFirstKind g m
+  pub first_kind : (m : Move) → IsMoveAt g (list_place l) m → IsOfFirstKind g m
   first_kind m is other before applies =
       let at = place_at g other applies in
-      let here : before.later_place ≡ x.place = stands_once before.later_place x.place (kind_of m) (stands_at before.later_place (kind_of m) before.later_kind) is.kind in
+      let here : before.later_place ≡ list_place l = stands_once before.later_place (list_place l) (kind_of m) (stands_at before.later_place (kind_of m) before.later_kind) is.kind in
       let there : before.place ≡ place_of (kind_of other) = stands_once before.place (place_of (kind_of other)) (kind_of other) (stands_at before.place (kind_of other) before.kind) (at_place (kind_of other)) in
-      none_before (kind_of other) at.0 at.1 (subst (λ n. n < x.place) there (subst (λ n. before.place < n) here before.earlier)) at.2
+      none_before (kind_of other) at.0 at.1 (subst (λ n. n < list_place l) there (subst (λ n. before.place < n) here before.earlier)) at.2
 
-  pub first_gone : (after : Candidates) → Updates candidate_cmp c.set after.set x false
-      → ((k : Kind) → slice_get KINDS x.place ≡ Some k → x.neighbours ≡ length (neighbours g x.number) → NoneAt g k x.number)
+  -- where u has no move of that kind, and none of the kinds up to that of another list
+  goes_on : (u next : ℕ)
+      → ((k : Kind) (v : ℕ) → place_of k ≡ list_place l → (k ≡ kinds.Twins → ¬ IsGadgetOf g u 0) → ¬ IsPlaceOf g (place_kind k) u v)
+      → ((k : Kind) (v : ℕ) → list_place l + 1 ≤ place_of k → place_of k < list_place next → ¬ IsPlaceOf g (place_kind k) u v)
+      → (k : Kind) (v : ℕ) → list_place l ≤ place_of k → IsPlaceOf g (place_kind k) u v → list_place next ≤ place_of k
+  goes_on u next none later k v low place =
+      by_test (ltb (place_of k) (list_place next))
+      (λ t. absurd (by_equal (place_of k) (list_place l)
+      (λ s e. none k v e (λ twins. none_before kinds.LoneGadget u u (subst (λ n. 7 < n) (sym (ap place_of twins) ∙ e) (lit< tt))) place)
+      (λ f n. later k v (omega (arith, n, low)) (ltb-true _ _ t) place)))
+      (λ f. ltb-false _ _ f)
+
+  -- u stands next in the list of the move found, or of a later kind
+  stands_next : (u next : ℕ) (found : Option Move)
+      → IfNone found ((k : Kind) (v : ℕ) → place_of k ≡ list_place l → (k ≡ kinds.Twins → ¬ IsGadgetOf g u 0) → ¬ IsPlaceOf g (place_kind k) u v)
+      → IfSome found (λ m. list_place next ≡ list_place l)
+      → IfNone found ((k : Kind) (v : ℕ) → list_place l + 1 ≤ place_of k → place_of k < list_place next → ¬ IsPlaceOf g (place_kind k) u v)
+      → (k : Kind) (v : ℕ) → list_place l ≤ place_of k → IsPlaceOf g (place_kind k) u v → list_place next ≤ place_of k
+  stands_next u next None none same later k v low place = goes_on u next none later k v low place
+  stands_next u next (Some m) none same later k v low place = subst (λ n. n ≤ place_of k) (sym same) low
+
+  pub turned : (u next : ℕ) (found : Option Move) (taken after : Candidates) → standing c u ≡ l → StandElsewhere u c taken → StandElsewhere u taken after
+      → standing after u ≡ next → IsListing after
+      → IfNone found ((k : Kind) (v : ℕ) → place_of k ≡ list_place l → (k ≡ kinds.Twins → ¬ IsGadgetOf g u 0) → ¬ IsPlaceOf g (place_kind k) u v)
+      → IfSome found (λ m. list_place next ≡ list_place l)
+      → IfNone found ((k : Kind) (v : ℕ) → list_place l + 1 ≤ place_of k → place_of k < list_place next → ¬ IsPlaceOf g (place_kind k) u v)
       → HasCandidates g after
-  first_gone after change none k u v place =
-      two_of (is_candidate g after k u) (is_candidate g after k v) (is_mutual (place_kind k))
-      (elim (one_of_two (is_candidate g c k u) (is_candidate g c k v) (is_mutual (place_kind k)) (has k u v place)) [
-        | inl there ↦ inl (stays u v there place)
-        | inr there ↦ inr (there.0, stays v u there.1 (exchanged g (place_kind k) u v there.0 place))
-      ])
-    where
-      lone_first : (w : ℕ) → x ≡ candidate_at g k w → k ≡ kinds.Twins → ¬ IsGadgetOf g w 0
-      lone_first w same twins = none_before kinds.LoneGadget w w (subst (λ n. 7 < n) (sym (ap (λ (y : Candidate). y.place) same ∙ ap place_of twins)) (lit< tt))
+  turned u next found taken after stood first second stands listing none same later =
+      candidates_kept g c after has listing
+      (put_keeps g c after u next (stand_over u c taken after first second) stands
+      (λ k v low place. stands_next u next found none same later k v (subst (λ s. list_place s ≤ place_of k) stood low) place))
 
-      nothing : (w : ℕ) → x ≡ candidate_at g k w → NoneAt g k w
-      nothing w same =
-          subst (λ n. NoneAt g k n) (ap (λ (y : Candidate). y.number) same)
-          (none k (ap (λ (y : Candidate). slice_get KINDS y.place) same ∙ at_place k)
-          (ap (λ (y : Candidate). y.neighbours) same ∙ ap (λ n. length (neighbours g n)) (sym (ap (λ (y : Candidate). y.number) same))))
+  pub all_first : (found : Option Move) → IfSome found (IsMoveAt g (list_place l)) → IfSome found (IsOfFirstKind g)
+  all_first None is = tt
+  all_first (Some m) is = first_kind m is
 
-      stays : (w p : ℕ) → is_candidate g c k w ≡ true → IsPlaceOf g (place_kind k) w p → is_candidate g after k w ≡ true
-      stays w p there at =
-          elim (removed c.set after.set x (candidate_at g k w) change there) [
-            | inl same ↦ absurd (none_place g k w p (nothing w same) (lone_first w same) at)
-            | inr still ↦ still
-          ]
+pub all_apply : (g : Graph) (place : ℕ) (found : Option Move) → IfSome found (IsMoveAt g place) → IfSome found (AppliesAt g)
+all_apply g place None is = tt
+all_apply g place (Some m) is = is.applies
+
+-- who answers a list that isn't later has found a move
+pub found_one : (P : Type 0) (l next : ℕ) (found : Option Move) → next ≤ l → IfNone found (l < next) → IfNone found P
+found_one P l next None here later = absurd (omega (arith, here, later))
+found_one P l next (Some m) here later = tt
 
 -- without candidates no move is left
-pub none_stuck : (g : Graph) (c : Candidates) → HasCandidates g c → ((x : Candidate) → contains candidate_cmp c.set x ≡ false) → IsStuck g
+pub none_stuck : (g : Graph) (c : Candidates) → HasCandidates g c → ((w : ℕ) → 264 ≤ standing c w) → IsStuck g
 none_stuck g c has empty = record {
   no_deletion = λ u. nothing kinds.Delete u u;
   no_quarter_gadget = λ u. nothing kinds.QuarterGadget u u;
@@ -264,24 +354,51 @@ none_stuck g c has empty = record {
   no_twins = nothing kinds.Twins;
 }
   where
+    nowhere : (k : Kind) (w : ℕ) → is_candidate c k w ≡ false
+    nowhere k w =
+        let far = no_list (standing c w) (empty w) in
+        let few = place_within k in
+        by_test (is_candidate c k w)
+        (λ t. absurd (let near = not_after c k w t in omega (arith, near, far, few)))
+        (λ f. f)
+
     nothing : (k : Kind) (u v : ℕ) → ¬ IsPlaceOf g (place_kind k) u v
-    nothing k = none_left g (place_kind k) (is_candidate g c k) (has k) (λ w. empty (candidate_at g k w))
+    nothing k = none_left g (place_kind k) (is_candidate c k) (has.covers k) (nowhere k)
 
--- where nothing of a kind is at u, nothing is of the kind at its place
-pub none_of_place : (g : Graph) (place u : ℕ) (kind : Kind) (Q : Type 0) (r : Option Move) → slice_get KINDS place ≡ Some kind → IfNone r (NoneAt g kind u)
-    → IfNone r ((k : Kind) → slice_get KINDS place ≡ Some k → Q → NoneAt g k u)
-none_of_place g place u kind Q (Some m) at none = tt
-none_of_place g place u kind Q None at none = λ k here q.
-    let same : Some kind ≡ Some k = sym at ∙ here in
+-- what holds of a move found, or where none was, whichever it is
+pub where_some : {P : Type 0} (found : Option Move) → P → IfSome found (λ m. P)
+where_some None p = tt
+where_some (Some m) p = p
+
+pub where_none : {P : Type 0} (found : Option Move) → P → IfNone found P
+where_none None p = p
+where_none (Some m) p = tt
+
+pub is_none : {P : Type 0} (found : Option Move) → ((m : Move) → found ≡ Some m → ⊥) → IfNone found P → P
+is_none None none is = is
+is_none (Some m) none is = absurd (none m refl)
+
+-- one kind more of which nothing begins at u
+pub none_more : (g : Graph) (u start place : ℕ) (kind : Kind) → ((k : Kind) → place_of k ≡ place → kind ≡ k)
+    → ((v : ℕ) → ¬ IsPlaceOf g (place_kind kind) u v)
+    → ((k : Kind) (v : ℕ) → start ≤ place_of k → place_of k < place → ¬ IsPlaceOf g (place_kind k) u v)
+    → (k : Kind) (v : ℕ) → start ≤ place_of k → place_of k < place + 1 → ¬ IsPlaceOf g (place_kind k) u v
+none_more g u start place kind is none past k v low high at =
+    by_equal (place_of k) place
+    (λ t e. none v (subst (λ l. IsPlaceOf g (place_kind l) u v) (sym (is k e)) at))
+    (λ f n. past k v low (omega (arith, n, high)) at)
+
+-- a move of a kind is one at the place of the kind
+pub found_at : (g : Graph) (place : ℕ) (kind : Kind) (found : Option Move) → slice_get KINDS place ≡ Some kind → IfSome found (IsMoveOf g kind)
+    → IfSome found (IsMoveAt g place)
+found_at g place kind None at is = tt
+found_at g place kind (Some m) at is = record { applies = is.applies; kind = at ∙ ap Some (sym is.kind) }
+
+-- where nothing of a kind is at u, no place of the kind that stands there is
+pub none_of_place : (g : Graph) (place u : ℕ) (kind : Kind) (r : Option Move) → slice_get KINDS place ≡ Some kind → IfNone r (NoneAt g kind u)
+    → IfNone r ((k : Kind) (v : ℕ) → place_of k ≡ place → (k ≡ kinds.Twins → ¬ IsGadgetOf g u 0) → ¬ IsPlaceOf g (place_kind k) u v)
+none_of_place g place u kind (Some m) at none = tt
+none_of_place g place u kind None at none = λ k v here lone.
+    let same : Some kind ≡ Some k = sym at ∙ ap (λ n. slice_get KINDS n) (sym here) ∙ at_place k in
     let is : kind ≡ k = cc in
-    subst (λ l. NoneAt g l u) is none
-
--- a set without one of its members is smaller
-pub smaller : (new old : ℕ) (there gone : Bool) → IsTrue there → gone ≡ there → new + (if gone then 1 else 0) ≡ old → new < old
-smaller new old true true t e h = omega (arith, h)
-smaller new old true false t e h = absurd (true≢false (sym e))
-smaller new old false gone t e h = absurd (true≢false (sym t))
-
-pub copied_there : {C : Type 0} (P : C → Type 0) (o : Option (Bor C)) → IfSome o (λ k. P k.now) → IfSome (option_copied o) P
-copied_there P None h = tt
-copied_there P (Some k) h = h
+    none_place g k u v (subst (λ l. NoneAt g l u) is none) lone

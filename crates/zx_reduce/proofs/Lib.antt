@@ -9,7 +9,7 @@ pub mod MoveCounts
 pub mod MoveEnds
 pub mod MoveSteps
 mod MovesMade
-mod CandidateSets
+mod CandidateLists
 mod Guided
 mod Ranking
 mod DemandMoves
@@ -18,3 +18,4 @@ mod RoomKept
 mod InPlace
 mod StepsNeeded
 pub mod Scaling
+pub mod GatesOrdered

@@ -3,7 +3,8 @@ use Rattle.std.proofs.Common.{Result, Ok, Err, OnOk, ◌≡◌, refl, sym, ◌�
 use Rattle.zx_model.specs.Bits.{member}
 use Rattle.zx_calculus.specs.Graph.{Graph, WellFormed}
 use Rattle.zx_calculus.specs.Splits.{new_vertex}
-use Rattle.zx_calculus.specs.Steps.{Step, IsStep, SplitInput, SplitOutput}
+use Rattle.zx_calculus.specs.Steps.{Step, IsStep, LocalComplement, Delete, Pivot, SplitInput, SplitOutput, DropLone}
+use Rattle.zx_calculus.specs.Steps.{FuseInto, FuseTwin}
 use Rattle.zx_calculus.proofs.Booleans.{or-false}
 use Rattle.zx_calculus.proofs.Ids.{by_equal, member-append}
 use Rattle.gflow_laws.specs.Flow.{Correction, order_of, IsFlow}
@@ -12,6 +13,7 @@ use Rattle.move_laws.specs.Ranks.{RisesBy, HasFlowBy, rank_in, ranked}
 use Rattle.move_laws.proofs.Ranks.{ranked-self, ranked_other, rises-ranked, rises-append, kept_by, first_by, last_by}
 use Rattle.zx_reduce.specs.declared.ranks.Ranks.{Ranks}
 use Rattle.zx_reduce.specs.Internal.Guiding.{AreRanked, HasFlowIn}
+use Rattle.zx_reduce.specs.Internal.Ranked.{AreRanksAfter}
 
 module _ (vs : List ℕ) (b : ℕ) (before after : Ranks) (out : member b vs ≡ false) (so_far : AreRanked vs before)
     (same : (w : ℕ) → rank_in after.ranks.items w ≡ ranked b before.high (rank_in before.ranks.items) w)
@@ -86,6 +88,19 @@ module _ (g h : Graph) (before after : Ranks) (formed : WellFormed g) (has : Has
             (subst (HasFlowBy h (ranked b before.high (rank_in before.ranks.items)) before.low) (sym high)
             (last_by g b h (rank_in before.ranks.items) before.low before.high formed step has.flow has.bounds)));
       }
+
+  -- after any step
+  pub flow_after : (s : Step) (new : ℕ) → new ≡ new_vertex g → IsStep g s h → AreRanksAfter s new before after →
+      HasFlowIn h after
+  flow_after (LocalComplement u) new is step same = subst (HasFlowIn h) (sym same) (flow_kept (LocalComplement u) refl step)
+  flow_after (Delete u) new is step same = subst (HasFlowIn h) (sym same) (flow_kept (Delete u) refl step)
+  flow_after (Pivot u v) new is step same = subst (HasFlowIn h) (sym same) (flow_kept (Pivot u v) refl step)
+  flow_after (SplitInput b) new is step ranks =
+      flow_first b step (λ w. ranks.0 w ∙ ap (λ n. ranked n after.low (rank_in before.ranks.items) w) is) ranks.1 ranks.2
+  flow_after (SplitOutput b) new is step ranks = flow_last b step ranks.0 ranks.1 ranks.2
+  flow_after (DropLone u) new is step same = subst (HasFlowIn h) (sym same) (flow_kept (DropLone u) refl step)
+  flow_after (FuseInto u) new is step same = subst (HasFlowIn h) (sym same) (flow_kept (FuseInto u) refl step)
+  flow_after (FuseTwin u v) new is step same = subst (HasFlowIn h) (sym same) (flow_kept (FuseTwin u v) refl step)
 
 -- what follows from three facts, where they hold on Ok
 pub on_all : {T E A B C D : Type 0} (r : Result T E) → OnOk r A → OnOk r B → OnOk r C → (A → B → C → D) → OnOk r D

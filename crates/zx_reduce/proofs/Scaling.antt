@@ -1,25 +1,28 @@
 -- Scalars of steps one after the other.
-use Rattle.std.proofs.Common.{◌≡◌, refl, sym, ◌∙◌, ap, subst, ℕ, ◌+◌, ◌*◌, ◌-◌, ◌<◌, ◌≤◌, length, arith, List, Bool, not, filter, map}
+use Rattle.std.proofs.Common.{◌≡◌, refl, sym, ◌∙◌, ap, subst, ℕ, ◌+◌, ◌*◌, ◌-◌, ◌<◌, ◌≤◌, length, arith, List, [], Bool, not, filter, map}
 use Rattle.std.proofs.lemmas.List.Filters.{length-filter_both}
 use Rattle.zx_model.specs.Scalar.{IsScaled, IsWithin, one_scalar, product_of_scalars, most_root2}
 use Rattle.zx_model.specs.declared.scalar.Scalar.{Scalar}
 use Rattle.zx_model.proofs.Scalars.{scaled_refl, scaled_trans, within_product, within_more}
 use Rattle.zx_calculus.specs.Graph.{Graph, WellFormed}
 use Rattle.zx_calculus.specs.Sum.{sum}
-use Rattle.zx_calculus.specs.Steps.{Step, IsStep}
+use Rattle.zx_calculus.specs.Steps.{Step, IsStep, IsRun}
 use Rattle.zx_calculus.specs.StepScalars.{step_scalar, most_vertices}
 use Rattle.zx_calculus.proofs.Steps.{step_sum, inputs_kept, outputs_kept}
 use Rattle.zx_calculus.proofs.StepScalars.{step_scaled, step_within}
 use Rattle.zx_calculus.specs.Graph.{Vertex, is_XY}
 use Rattle.zx_calculus.proofs.ReducedLemmas.{counts_within}
 use Rattle.zx_reduce.specs.declared.step.Step.{Step as TraceStep}
-use Rattle.zx_reduce.specs.Moving.{most_moves, steps_of, GainsMoves}
+use Rattle.gflow_laws.specs.Flow.{Correction, IsFlow}
+use Rattle.zx_calculus.specs.Reduced.{IsReduced}
+use Rattle.zx_reduce.specs.Moving.{most_moves, steps_of, AreMoves, GainsMoves}
+use Rattle.zx_reduce.specs.Reducing.{Reduces}
 use Rattle.zx_reduce.specs.Scaling.{most_exponent}
 use Rattle.zx_reduce.specs.Internal.Scaling.{Scales}
 use Rattle.zx_reduce.specs.declared.moves.Move.{Move}
 use Rattle.zx_reduce.specs.Steps.{step_named}
-use Rattle.zx_reduce.proofs.MovesMade.{gained_few_moves}
-use Rattle.zx_reduce.proofs.MoveRuns.{length-steps_of}
+use Rattle.zx_reduce.proofs.MovesMade.{gained_few_moves, gained_few_steps, gained_ends, gained_keeps}
+use Rattle.zx_reduce.proofs.MoveRuns.{length-steps_of, AreMoves-run}
 use Rattle.std.proofs.lemmas.List.{length-map}
 
 pub scales_none : (g : Graph) → Scales g 0 one_scalar g
@@ -100,6 +103,31 @@ all_scale {g} {start = start} {now = now} gains w p =
   where
     few : (start now moves n : ℕ) → now ≤ start + moves → moves ≤ 3 * n → 12 * (now - start) ≤ 36 * n
     few start now moves n a b = omega (arith, a, b)
+
+-- what all moves come to, from a graph on, with a trace that began empty
+pub all_reduced : (g h : Graph) (table found : List Correction) (steps : List TraceStep) (moves : ℕ) (s : Scalar) → WellFormed g → IsFlow g table
+    → GainsMoves g h [] steps 0 moves → IsReduced h → IsFlow h found → Scales g (most_exponent g) s h → Reduces g h found steps s
+all_reduced g h table found steps moves s w flow gains reduced found_flow scales =
+    let kept = gained_keeps gains table w flow in
+    record {
+      count = gains.count;
+      moves = subst (λ (xs : List TraceStep). AreMoves g gains.count (map step_named xs) h) (sym gains.trace) gains.moves;
+      run = subst (λ (xs : List TraceStep). IsRun g (map step_named xs) h) (sym gains.trace)
+          (AreMoves-run g gains.count (map step_named gains.gained) h gains.moves);
+      reduced = reduced;
+      well_formed = kept.well_formed;
+      map = kept.proportional;
+      scalar = scales.sum;
+      small = scales.small;
+      flow = found_flow;
+      odd = kept.no_more_odd;
+      inputs = (gained_ends gains).0;
+      outputs = (gained_ends gains).1;
+      few_steps = few (length steps) moves (most_moves g) (length g.vertices) (gained_few_steps gains) (gained_few_moves gains w) (most_moves-few g w);
+    }
+  where
+    few : (steps moves most n : ℕ) → steps + 6 * 0 ≤ 0 + 6 * moves → moves ≤ 0 + most → most ≤ 3 * n → steps ≤ 18 * n
+    few steps moves most n a b c = omega (arith, a, b, c)
 
 -- ---- steps of a move
 pub steps_six : (g : Graph) (m : Move) (steps : List TraceStep) → map step_named steps ≡ steps_of g m → length steps ≤ 6

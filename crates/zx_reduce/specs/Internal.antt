@@ -4,3 +4,4 @@ pub mod Planning
 pub mod Guiding
 pub mod Rooms
 pub mod Scaling
+pub mod Ranked

@@ -3,6 +3,8 @@ pub mod Traces
 pub mod Applied
 pub mod Search
 pub mod Moving
+pub mod Reducing
 pub mod Rooms
+pub mod Ordering
 pub mod Internal
 pub mod Scaling

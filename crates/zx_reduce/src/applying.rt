@@ -49,8 +49,7 @@ pub fn apply(g: &mut OpenGraph, f: &mut Flow, step: Step) -> Result<Scalar, Step
     if !step.is_allowed(g) {
         return Err(StepRefused::NotAllowed);
     }
-    let scalar = rewrite(g, f, &step)?;
-    Ok(scalar)
+    Ok(rewrite(g, f, &step)?)
 }
 
 // Does a step that is allowed.

@@ -1,38 +1,46 @@
 //! Where the next move of simplification may be found.
 
-ghost use Rattle.std.specs.Prelude.{◌≡◌, ◌<◌, ℕ, true, false, length, Some, IsTrue, IfSome, IfNone, IfOk, OnOk, slice_get};
-ghost use Rattle.std.specs.BTreeSet.{contains, IsLowerBound};
+ghost use Rattle.std.specs.Prelude.{◌≡◌, ◌≢◌, ◌<◌, ◌≤◌, ◌+◌, ◌-◌, ◌∷◌, ◌++◌, ℕ, true, [], length, set, option_to_list, IfSome, IfNone, IfOk, OnOk};
 ghost use Rattle.zx_model.specs.Bits.{member};
-ghost use Rattle.zx_calculus.specs.Graph.{neighbours, Live, WellFormed};
-ghost use Rattle.zx_calculus.specs.Moves.{IsStuck};
-ghost use Rattle.zx_reduce.specs.declared.candidates.Candidate.{Candidate};
+ghost use Rattle.zx_calculus.specs.Graph.{WellFormed};
+ghost use Rattle.zx_calculus.specs.Moves.{IsStuck, IsGadgetOf};
 ghost use Rattle.zx_reduce.specs.declared.moves.Kind.{Kind};
+ghost use Rattle.zx_reduce.specs.declared.moves.Kind.TheVariants as kinds;
 ghost use Rattle.zx_reduce.specs.Search.{AppliesAt, IsOfFirstKind};
 ghost use Rattle.move_laws.specs.Candidates.{IsPlaceOf};
-ghost use Rattle.zx_reduce.specs.Internal.Guiding.{place_kind, candidate_cmp, is_candidate, HasCandidates, IsListed, KeepsCandidates};
-ghost use Rattle.zx_reduce.specs.Internal.Searching.{IsMoveAt, NoneAt};
+ghost use Rattle.zx_reduce.specs.Internal.Guiding.{place_kind, place_of, list_place, pile_at, weight, standing, IsListing, StandElsewhere, IsTaken, IsPassed, HasCandidates, IsListed, KeepsCandidates};
+ghost use Rattle.zx_reduce.specs.Internal.Searching.{IsMoveAt};
 
+use crate::levels::{LEVELS, level_in, levels_of};
 use crate::moves::{KINDS, Move};
-use crate::search::{is_settled, may_begin, move_at};
+use crate::pile::Pile;
+use crate::search::{degree, is_settled, may_begin, move_at};
 use open_graph::{OpenGraph, VertexId};
 use std::alloc::{AllocError, Global};
-use std::collections::BTreeSet;
 
-// The number of a vertex at which a move may begin, with the place of the move's kind in KINDS and how
-// many neighbours the vertex has. Where it has others by now, another candidate tells these.
-#[derive(Clone, Copy, Debug, PartialEq, Eq, PartialOrd, Ord, Drop)]
-pub(crate) struct Candidate {
-    pub(crate) place: usize,
-    pub(crate) neighbours: usize,
-    pub(crate) number: usize,
-}
+// Classes of numbers of neighbours: 0, 1, 2 and 3, 4 to 7, and so on; the last has all from 64 on.
+const CLASSES: usize = 8;
 
-/// Vertices at which moves may begin, those of earlier kinds first, and of one kind those with few
-/// neighbours: for each move that applies its vertex, or of two that are alike one. Some of them have
-/// no move any more.
+// The lists of a kind with levels: one for each level and class.
+const WIDE: usize = LEVELS * CLASSES;
+
+// The lists of all kinds. Those at places 3 and 4 have levels, each other kind has one list.
+const LISTS: usize = 2 * WIDE + 8;
+
+/// Vertices at which moves may begin. Each stands in one list at most, that of the first kind of
+/// which a move may begin there; lists of earlier kinds come first. Of kinds that most moves are of
+/// there is a list for each level and class of numbers of neighbours, lower levels first. For each
+/// move that applies its vertex stands in a list of its kind or an earlier one, or another vertex
+/// of the same move does. Some of them have no move any more.
 #[derive(Drop)]
 pub(crate) struct Candidates {
-    pub(crate) set: BTreeSet<Candidate>,
+    // What was put into each list. Some of these vertices stand elsewhere by now.
+    pub(crate) lists: Vec<Pile>,
+    // By number: the list in which a vertex stands, or LISTS where it stands in none.
+    pub(crate) places: Vec<usize>,
+    pub(crate) levels: Vec<u8>,
+    // All lists before this one are empty.
+    pub(crate) first: usize,
 }
 
 impl Candidates {
@@ -41,8 +49,12 @@ impl Candidates {
         ensures all { IfOk result (HasCandidates g.now.graph) }
         ensures valid { WellFormed g.now.graph }
     {
+        let levels = levels_of(alloc, g)?;
         let mut candidates = Candidates {
-            set: BTreeSet::new(alloc),
+            lists: empty_lists(alloc)?,
+            places: Vec::new(alloc),
+            levels,
+            first: 0,
         };
         for u in g.vertices() {
             candidates.touch(g, u)?;
@@ -51,65 +63,211 @@ impl Candidates {
     }
 
     /// The first kind of move that applies anywhere, and where, or None where no move is left.
-    /// Candidates that come before it and have no move go.
-    pub(crate) fn next_move(&mut self, g: &OpenGraph) -> Option<Move>
+    /// Candidates that come before it and have no move go on to the lists of later kinds.
+    pub(crate) fn next_move(&mut self, g: &OpenGraph) -> Result<Option<Move>, AllocError>
         requires { HasCandidates g.now.graph self.old }
-        ensures found { IfSome result (AppliesAt g.now.graph) }
-        ensures first { IfSome result (IsOfFirstKind g.now.graph) }
-        ensures none { IfNone result (IsStuck g.now.graph) }
-        ensures all { HasCandidates g.now.graph self.new }
+        ensures found { IfOk result (λ next. IfSome next (AppliesAt g.now.graph)) }
+        ensures first { IfOk result (λ next. IfSome next (IsOfFirstKind g.now.graph)) }
+        ensures none { IfOk result (λ next. IfNone next (IsStuck g.now.graph)) }
+        ensures all { OnOk result (HasCandidates g.now.graph self.new) }
     {
-        while let Some(candidate) = self.first() {
-            if let Some(found) = move_of(g, candidate) {
-                return Some(found);
+        while let Some(taken) = self.take_first() {
+            let (list, u) = taken;
+            let found = move_of(g, u, list, &self.levels);
+            let next = self.list_after(g, u, list, &found);
+            self.put(u, next)?;
+            if next <= list {
+                return Ok(found);
             }
-            self.set.remove(&candidate);
+        }
+        Ok(None)
+    }
+
+    // Takes a vertex out of the first list in which any stands, and answers both.
+    fn take_first(&mut self) -> Option<(usize, VertexId)>
+        requires { IsListing self.old }
+        ensures listing { IsListing self.new }
+        ensures taken { IfSome result (λ r. IsTaken r.0 r.1 self.old self.new) }
+        ensures none { IfNone result ((w : ℕ) → 264 ≤ standing self.old w) }
+        ensures same { IfNone result ((w : ℕ) → standing self.new w ≡ standing self.old w) }
+    {
+        while self.first < LISTS {
+            if let Some(taken) = self.take_last() {
+                return Some(taken);
+            }
         }
         None
     }
 
-    // The first candidate.
-    fn first(&self) -> Option<Candidate>
-        ensures least { IfSome result (IsLowerBound candidate_cmp self.now.set) }
-        ensures there { IfSome result (λ first. IsTrue (contains candidate_cmp self.now.set first)) }
-        ensures none { IfNone result ((x : Candidate) → contains candidate_cmp self.now.set x ≡ false) }
+    // Takes out what was put last into the first list, and answers both where it stood there. Where
+    // the list is empty, the next one is the first.
+    fn take_last(&mut self) -> Option<(usize, VertexId)>
+        requires listing { IsListing self.old }
+        requires within { self.old.first < 264 }
+        ensures listing { IsListing self.new }
+        ensures taken { IfSome result (λ r. IsTaken r.0 r.1 self.old self.new) }
+        ensures passed { IfNone result (IsPassed self.old self.new) }
     {
-        self.set.first().copied()
+        let list = self.first;
+        let Some(u) = self.pop(list) else {
+            self.first += 1;
+            return None;
+        };
+        if self.list_of(u) != list {
+            return None;
+        }
+        self.stand(u, LISTS);
+        Some((list, u))
+    }
+
+    // Takes out what was put into a list last.
+    fn pop(&mut self, list: usize) -> Option<VertexId>
+        requires { list < length self.old.lists.items }
+        ensures lists { self.new.lists.items
+            ≡ set self.old.lists.items list (pile_at self.new.lists.items list) }
+        ensures popped { pile_at self.old.lists.items list
+            ≡ pile_at self.new.lists.items list ++ option_to_list result }
+        ensures empty { IfNone result (pile_at self.old.lists.items list ≡ []) }
+        ensures places { self.new.places ≡ self.old.places }
+        ensures first { self.new.first ≡ self.old.first }
+    {
+        self.lists[list].pop()
+    }
+
+    // The list in which a vertex stands, or LISTS.
+    fn list_of(&self, u: VertexId) -> usize
+        ensures { result ≡ standing self.now u }
+    {
+        match self.places.get(u.get()) {
+            Some(list) => *list,
+            None => LISTS,
+        }
     }
 
     /// Adds a vertex of which the plane, the phase, the neighbours or ends near it changed, where
     /// moves may begin there.
     pub(crate) fn touch(&mut self, g: &OpenGraph, u: VertexId) -> Result<(), AllocError>
-        ensures keeps { OnOk result (KeepsCandidates self.old self.new) }
+        requires listing { IsListing self.old }
+        ensures listing { OnOk result (IsListing self.new) }
+        ensures keeps { OnOk result (KeepsCandidates g.now.graph self.old self.new) }
         ensures listed { OnOk result (IsListed g.now.graph u self.new) }
     {
-        if !g.is_live(u) || is_settled(g, u) {
+        let list = self.list_from(g, u, 0);
+        self.put(u, list)?;
+        Ok(())
+    }
+
+    // Of the kinds from a place on, the list of a vertex for the first of which a move may begin
+    // there, or LISTS.
+    fn list_from(&self, g: &OpenGraph, u: VertexId, start: usize) -> usize
+        requires { start ≤ 10 }
+        ensures within { result ≤ 264 }
+        ensures from { start ≤ list_place result }
+        ensures none { (k : Kind) (v : ℕ) → start ≤ place_of k → place_of k < list_place result →
+            ¬ IsPlaceOf g.now.graph (place_kind k) u v }
+        ensures valid { WellFormed g.now.graph }
+    {
+        if !g.is_live(u) {
+            return LISTS;
+        }
+        if is_settled(g, u) {
+            return LISTS;
+        }
+        for place in start..KINDS.len() {
+            if may_begin(g, u, KINDS[place]) {
+                return list_for(place, level_in(&self.levels, u), g.degree(u));
+            }
+        }
+        LISTS
+    }
+
+    // The list in which a vertex stands next after a look at it: that of the move found, or of a
+    // later kind.
+    fn list_after(&self, g: &OpenGraph, u: VertexId, list: usize, found: &Option<Move>) -> usize
+        requires { list < 264 }
+        ensures within { result ≤ 264 }
+        ensures found { IfSome found.now (λ m. list_place result ≡ list_place list) }
+        ensures later { IfNone found.now (list < result) }
+        ensures none { IfNone found.now ((k : Kind) (v : ℕ) → list_place list + 1 ≤ place_of k →
+            place_of k < list_place result → ¬ IsPlaceOf g.now.graph (place_kind k) u v) }
+    {
+        let place = place_of_list(list);
+        match found {
+            Some(m) => list_for(place, self.level_of_move(u, m), degree(g, u)),
+            None => self.list_from(g, u, place + 1),
+        }
+    }
+
+    // The level of a move at a vertex: of a pivot the higher one of the levels of its vertices.
+    fn level_of_move(&self, u: VertexId, m: &Move) -> usize
+        ensures { result < 16 }
+    {
+        let own = level_in(&self.levels, u);
+        match m {
+            Move::InnerPivot(_, v) => own.max(level_in(&self.levels, *v)),
+            _ => own,
+        }
+    }
+
+    // A vertex stands in this list from now on, or in none.
+    fn put(&mut self, u: VertexId, list: usize) -> Result<(), AllocError>
+        requires listing { IsListing self.old }
+        requires within { list ≤ 264 }
+        ensures listing { OnOk result (IsListing self.new) }
+        ensures stands { OnOk result (standing self.new u ≡ list) }
+        ensures others { OnOk result (StandElsewhere u self.old self.new) }
+        ensures heavier { OnOk result
+            (weight self.new.lists.items ≤ weight self.old.lists.items + (264 - list)) }
+    {
+        self.make_place(u)?;
+        if self.list_of(u) == list {
             return Ok(());
         }
-        for place in 0..KINDS.len() {
-            self.touch_as(g, u, place)?;
+        if list == LISTS {
+            self.stand(u, list);
+            return Ok(());
+        }
+        self.push(u, list)?;
+        self.stand(u, list);
+        Ok(())
+    }
+
+    // Writes down where a vertex stands, and at which level.
+    fn stand(&mut self, u: VertexId, list: usize)
+        requires { u < length self.old.places.items }
+        ensures stands { standing self.new u ≡ list }
+        ensures others { StandElsewhere u self.old self.new }
+        ensures lists { self.new.lists ≡ self.old.lists }
+        ensures first { self.new.first ≡ self.old.first }
+    {
+        self.places[u.get()] = list;
+        keep_level(&mut self.levels, u, list);
+    }
+
+    // Makes the table of places long enough for a vertex.
+    fn make_place(&mut self, u: VertexId) -> Result<(), AllocError>
+        ensures long { OnOk result (u < length self.new.places.items) }
+        ensures same { OnOk result ((w : ℕ) → standing self.new w ≡ standing self.old w) }
+        ensures lists { self.new.lists ≡ self.old.lists }
+        ensures first { self.new.first ≡ self.old.first }
+    {
+        while self.places.len() <= u.get() {
+            self.places.push(LISTS)?;
         }
         Ok(())
     }
 
-    // Adds a vertex where a move of the kind at this place may begin there.
-    fn touch_as(&mut self, g: &OpenGraph, u: VertexId, place: usize) -> Result<(), AllocError>
-        requires valid { WellFormed g.now.graph }
-        requires live { Live g.now.graph u }
-        requires within { place < 10 }
-        ensures keeps { OnOk result (KeepsCandidates self.old self.new) }
-        ensures listed { OnOk result ((k : Kind) (v : ℕ) → slice_get KINDS place ≡ Some k →
-            IsPlaceOf g.now.graph (place_kind k) u v → is_candidate g.now.graph self.new k u ≡ true) }
+    // Puts a vertex into a list.
+    fn push(&mut self, u: VertexId, list: usize) -> Result<(), AllocError>
+        requires { list < length self.old.lists.items }
+        ensures lists { OnOk result (self.new.lists.items
+            ≡ set self.old.lists.items list (pile_at self.old.lists.items list ++ u ∷ [])) }
+        ensures places { self.new.places ≡ self.old.places }
+        ensures first { OnOk result (self.new.first ≤ self.old.first) }
+        ensures reached { OnOk result (self.new.first ≤ list) }
     {
-        if may_begin(g, u, KINDS[place]) {
-            let neighbours = g.degree(u);
-            let number = u.get();
-            self.set.insert(Candidate {
-                place,
-                neighbours,
-                number,
-            })?;
-        }
+        self.lists[list].push(u)?;
+        self.first = self.first.min(list);
         Ok(())
     }
 
@@ -119,7 +277,9 @@ impl Candidates {
         g: &OpenGraph,
         vertices: &[VertexId],
     ) -> Result<(), AllocError>
-        ensures keeps { OnOk result (KeepsCandidates self.old self.new) }
+        requires listing { IsListing self.old }
+        ensures listing { OnOk result (IsListing self.new) }
+        ensures keeps { OnOk result (KeepsCandidates g.now.graph self.old self.new) }
         ensures listed { OnOk result ((w : ℕ) → member w vertices.now ≡ true →
             IsListed g.now.graph w self.new) }
     {
@@ -130,18 +290,78 @@ impl Candidates {
     }
 }
 
-// The move that begins at a candidate, where one does.
-fn move_of(g: &OpenGraph, candidate: Candidate) -> Option<Move>
-    ensures found { IfSome result (IsMoveAt g.now.graph candidate.place) }
-    ensures none { IfNone result ((k : Kind) → slice_get KINDS candidate.place ≡ Some k →
-        candidate.neighbours ≡ length (neighbours g.now.graph candidate.number) →
-        NoneAt g.now.graph k candidate.number) }
+// So many empty lists as there are.
+fn empty_lists(alloc: Global) -> Result<Vec<Pile>, AllocError>
+    ensures count { IfOk result (λ lists. length lists.items ≡ 264) }
+{
+    let mut lists = Vec::new(alloc);
+    for _ in 0..LISTS {
+        lists.push(Pile::new(alloc))?;
+    }
+    Ok(lists)
+}
+
+// The move of a list's kind that begins at a vertex, where one does.
+fn move_of(g: &OpenGraph, u: VertexId, list: usize, levels: &[u8]) -> Option<Move>
+    requires { list < 264 }
+    ensures found { IfSome result (IsMoveAt g.now.graph (list_place list)) }
+    ensures none { IfNone result ((k : Kind) (v : ℕ) → place_of k ≡ list_place list →
+        (k ≡ kinds.Twins → ¬ IsGadgetOf g.now.graph u 0) →
+        ¬ IsPlaceOf g.now.graph (place_kind k) u v) }
     ensures valid { WellFormed g.now.graph }
 {
-    let u = VertexId::new(candidate.number);
-    if !g.is_live(u) || g.degree(u) != candidate.neighbours {
+    if !g.is_live(u) {
         return None;
     }
-    let kind = KINDS.get(candidate.place)?;
-    move_at(g, u, *kind)
+    let place = place_of_list(list);
+    move_at(g, u, KINDS[place], levels)
+}
+
+// The list for a vertex of this level and with so many neighbours of the kind at a place.
+fn list_for(place: usize, level: usize, neighbours: usize) -> usize
+    requires place { place < 10 }
+    requires level { level < 16 }
+    ensures within { result < 264 }
+    ensures kind { list_place result ≡ place }
+{
+    if place < 3 {
+        place
+    } else if place < 5 {
+        3 + (place - 3) * WIDE + level * CLASSES + class_of(neighbours)
+    } else {
+        place - 2 + 2 * WIDE
+    }
+}
+
+// A vertex has the level of its list from now on, where that has one.
+fn keep_level(levels: &mut [u8], u: VertexId, list: usize) {
+    if list < 3 || list >= 3 + 2 * WIDE {
+        return;
+    }
+    if let Some(level) = levels.get_mut(u.get()) {
+        *level = ((list - 3) % WIDE / CLASSES) as u8;
+    }
+}
+
+// The class of a number of neighbours.
+fn class_of(neighbours: usize) -> usize
+    ensures { result < 8 }
+{
+    let bits = usize::BITS - neighbours.leading_zeros();
+    (bits as usize).min(CLASSES - 1)
+}
+
+// The place of the kind that a list is of.
+fn place_of_list(list: usize) -> usize
+    ensures { result ≡ list_place list }
+{
+    if list < 3 {
+        list
+    } else if list < 3 + WIDE {
+        3
+    } else if list < 3 + 2 * WIDE {
+        4
+    } else {
+        list - (2 * WIDE - 2)
+    }
 }

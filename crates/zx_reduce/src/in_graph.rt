@@ -1,57 +1,50 @@
 //! Rewrites of a graph and of the order of its flow, by their names: where memory runs out, a part of
 //! the rewrite is done.
 
-ghost use Rattle.std.specs.Prelude.{◌≡◌, ◌++◌, ◌∷◌, true, OnOk};
+ghost use Rattle.std.specs.Prelude.{◌≡◌, ◌++◌, ◌∷◌, true, IfOk, OnOk};
 ghost use Rattle.zx_calculus.specs.Graph.{neighbours, Live, WellFormed};
 ghost use Rattle.zx_calculus.specs.Steps.{allowed, IsStep};
+ghost use Rattle.zx_calculus.specs.StepScalars.{step_scalar};
 ghost use Rattle.zx_reduce.specs.Steps.{step_named};
+ghost use Rattle.zx_reduce.specs.Internal.Ranked.{AreRanksAfter};
 ghost use Rattle.zx_reduce.specs.Internal.Guiding.{HasFlowIn, near, near_step};
 
 use crate::ranks::Ranks;
 use crate::step::Step;
-use local_comp::{delete_in_graph, local_complement_in_graph};
 use open_graph::{OpenGraph, VertexId};
 use std::alloc::AllocError;
-use zx_boundary::{split_input_in_graph, split_output_in_graph};
-use zx_gadgets::{drop_lone_in_graph, fuse_into_in_graph, fuse_twin_in_graph};
-use zx_pivot::pivot_in_graph;
+use zx_model::Scalar;
 
-// Does a step that is allowed. A vertex that goes keeps its rank, which doesn't matter any more.
-pub(crate) fn rewrite(g: &mut OpenGraph, order: &mut Ranks, step: &Step) -> Result<(), AllocError>
+// Does a step that is allowed, and answers its scalar. A vertex that goes keeps its rank, which doesn't
+// matter any more.
+pub(crate) fn rewrite(
+    g: &mut OpenGraph,
+    order: &mut Ranks,
+    step: &Step,
+) -> Result<Scalar, AllocError>
     requires allowed { allowed g.old.graph (step_named step.now) ≡ true }
     requires flow { HasFlowIn g.old.graph order.old }
     ensures step { OnOk result (IsStep g.old.graph (step_named step.now) g.new.graph) }
+    ensures scalar { IfOk result (λ s. s ≡ step_scalar g.old.graph (step_named step.now)) }
     ensures flow { OnOk result (HasFlowIn g.new.graph order.new) }
     ensures was_valid { WellFormed g.old.graph }
     ensures valid { WellFormed g.new.graph }
 {
+    let added = VertexId::new(g.next_id());
+    let scalar = step.do_in(g)?;
+    rank(order, step, added)?;
+    Ok(scalar)
+}
+
+// Gives a rank to the vertex that comes into the order where the step splits an end: of an input, the new
+// one.
+fn rank(order: &mut Ranks, step: &Step, added: VertexId) -> Result<(), AllocError>
+    ensures { OnOk result (AreRanksAfter (step_named step.now) added order.old order.new) }
+{
     match step {
-        Step::LocalComplement(u) => local_complement_in_graph(g, *u),
-        Step::Delete(u) => {
-            delete_in_graph(g, *u);
-            Ok(())
-        }
-        Step::Pivot(u, v) => pivot_in_graph(g, *u, *v),
-        Step::SplitInput(b) => {
-            let new = split_input_in_graph(g, *b)?;
-            order.add_first(new)
-        }
-        Step::SplitOutput(b) => {
-            split_output_in_graph(g, *b)?;
-            order.add_last(*b)
-        }
-        Step::DropLone(u) => {
-            drop_lone_in_graph(g, *u);
-            Ok(())
-        }
-        Step::FuseInto(u) => {
-            fuse_into_in_graph(g, *u);
-            Ok(())
-        }
-        Step::FuseTwin(u, v) => {
-            fuse_twin_in_graph(g, *u, *v);
-            Ok(())
-        }
+        Step::SplitInput(_) => order.add_first(added),
+        Step::SplitOutput(b) => order.add_last(*b),
+        _ => Ok(()),
     }
 }
 

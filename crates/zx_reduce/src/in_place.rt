@@ -20,43 +20,42 @@ ghost use Rattle.zx_reduce.specs.Internal.Scaling.{Scales};
 use crate::applying::rewrite;
 use crate::moves::Move;
 use crate::planning::add_steps;
+use crate::reduction::Made;
 use crate::search::next_move;
 use crate::step::Step;
-use crate::steps::Steps;
 use crate::trace::Trace;
 use open_graph::OpenGraph;
 use std::alloc::AllocError;
-use std::sync::ledger::Ledger;
 use zx_flow::Flow;
 use zx_model::Scalar;
 
-// Does moves until none applies, and answers by which scalar they change the sum. Where memory runs out, a part of a move is done; where there is the
-// memory that simplification needs, none is taken.
-pub(crate) fn reduce_in_place<L: Ledger>(
+// Does moves until none applies. Where memory runs out, a part of a move is done; where there is the memory that
+// simplification needs, none is taken.
+pub(crate) fn reduce_in_place(
     g: &mut OpenGraph,
     f: &mut Flow,
     trace: &mut Trace,
-    steps: &mut Steps<L>,
-) -> Result<Scalar, AllocError>
+) -> Result<Made, AllocError>
     requires valid { WellFormed g.old.graph }
     requires flow { IsFlow g.old.graph f.old.flow }
     requires few { length g.old.graph.vertices < most_vertices }
     ensures reduced { OnOk result (IsReduced g.new.graph) }
     ensures flow { OnOk result (IsFlow g.new.graph f.new.flow) }
-    ensures moves { OnOk result
-        (GainsMoves g.old.graph g.new.graph trace.old.steps trace.new.steps steps.old steps.new) }
-    ensures scalar { IfOk result (λ s.
-        Scales g.old.graph (most_exponent g.old.graph) s g.new.graph) }
+    ensures moves { IfOk result (λ made.
+        GainsMoves g.old.graph g.new.graph trace.old.steps trace.new.steps 0 made.moves) }
+    ensures scalar { IfOk result (λ made.
+        Scales g.old.graph (most_exponent g.old.graph) made.scalar g.new.graph) }
     ensures has_room { HasRoom g.old f.old trace.old → IsOk result }
     ensures room { OnOk result (KeepRoom g.old f.old trace.old g.new f.new trace.new) }
     ensures valid { WellFormed g.new.graph }
 {
     let mut scalar = Scalar::one();
+    let mut moves = 0;
     while let Some(found) = next_move(g) {
         scalar = scalar.times(make(g, f, trace, &found)?);
-        steps.tick();
+        moves += 1;
     }
-    Ok(scalar)
+    Ok(Made { scalar, moves })
 }
 
 // Makes a move. Its steps are put into the trace before they are done.

@@ -10,7 +10,8 @@
 //! counter rose by the number of moves, at most 2E+Q+2O (interior vertices of even phase, vertices
 //! that aren't XY, odd phases). Want of memory leaves graph, flow, trace and counter as they were. No
 //! room is lost, whether memory runs out or not: neither reach falls, and graph, flow and trace take
-//! no fewer vertices and steps in all without memory than before.
+//! no fewer vertices and steps in all without memory than before. `reduce_owned` does the same on a graph
+//! that its caller gives away, without copies and without a counter. `Step::do_in` does a step on a graph alone.
 //!
 //! While moves are made no correction set is kept, only the order along which the graph has a flow;
 //! sets are found along it at the end. The next move is looked for where rewrites changed something.
@@ -29,8 +30,9 @@
 //! - `steps`: their counter.
 //! - `working`: one copy of the graph, without correction sets, on which moves are made; beside it
 //!   stand the order of its flow (`ranks`) and the vertices at which moves may begin
-//!   (`candidates`). `in_graph` does a step on graph and order. At the end `flow_find` finds sets
-//!   along that order, or a cheaper one.
+//!   (`candidates`), in lists (`pile`) by kind, by how far they reach in the circuit (`levels`) and
+//!   by the number of neighbours. `in_graph` does a step on graph and order. At the end `flow_find`
+//!   finds sets along that order, or a cheaper one.
 //! - `in_place`: the moves on graph, flow and trace as they are, where these have room (`room`
 //!   tests it). `room_laws` tells how much suffices.
 //! - `size`: that a graph is one for which there can be memory.
@@ -63,17 +65,22 @@ mod trace;
 mod candidates;
 mod in_graph;
 mod in_place;
+mod levels;
+mod ordered;
+mod pile;
 mod ranks;
 mod room;
 mod working;
 
 pub use applying::apply;
 pub use laws::{applied_steps_are_a_run, every_run_keeps_a_flow};
+pub use levels::{LEVELS, level_between};
 pub use moves::{KINDS, Kind, Move};
-pub use reduction::reduce;
+pub use ordered::Ordered;
+pub use reduction::{Reduction, reduce, reduce_owned};
 pub use refusal::StepRefused;
 pub use room_laws::{moves_raise_no_demand, reserved_room_suffices};
-pub use search::next_move;
+pub use search::{next_move, pivot_cost};
 pub use simplification_laws::{
     graphs_of_circuits_allow_few_moves, moves_are_a_run, moves_are_short, moves_begin_allowed,
     moves_can_be_made, moves_end_in_reduced_graphs,

@@ -1,6 +1,6 @@
 //! Simplification: moves until none is left.
 
-ghost use Rattle.std.specs.Prelude.{◌≡◌, ◌<◌, ◌≤◌, ◌+◌, ◌*◌, length, IsOk, IfOk, OnOk, OnErr};
+ghost use Rattle.std.specs.Prelude.{◌≡◌, ◌<◌, ◌≤◌, ◌+◌, ◌*◌, [], length, IsOk, IfOk, OnOk, OnErr};
 ghost use Rattle.zx_model.specs.Scalar.{IsWithin};
 ghost use Rattle.zx_calculus.specs.Graph.{WellFormed};
 ghost use Rattle.zx_calculus.specs.Counts.{odd_phases};
@@ -8,29 +8,44 @@ ghost use Rattle.zx_calculus.specs.Reduced.{IsReduced};
 ghost use Rattle.gflow_laws.specs.Flow.{IsFlow};
 ghost use Rattle.zx_calculus.specs.Exact.{KeepsMap};
 ghost use Rattle.zx_reduce.specs.Moving.{GainsMoves, GainsRun, most_moves};
+ghost use Rattle.zx_reduce.specs.Reducing.{Reduces};
 ghost use Rattle.zx_reduce.specs.Rooms.{HasRoom, KeepRoom};
 ghost use Rattle.zx_calculus.specs.StepScalars.{most_vertices, IsSumTimes};
 ghost use Rattle.zx_reduce.specs.Scaling.{most_exponent};
-ghost use Rattle.zx_reduce.specs.Internal.Guiding.{IsGuided};
+ghost use Rattle.zx_reduce.specs.Internal.Guiding.{IsGuided, HasFlowIn};
 ghost use Rattle.zx_reduce.specs.Internal.Scaling.{Scales};
 
 use crate::in_place::reduce_in_place;
+use crate::ranks::Ranks;
 use crate::room::has_room;
 use crate::steps::Steps;
 use crate::trace::Trace;
 use crate::working::Working;
 use open_graph::OpenGraph;
-use std::alloc::AllocError;
+use std::alloc::{AllocError, Global};
 use std::mem;
 use std::sync::ledger::Ledger;
 use zx_flow::Flow;
 use zx_model::Scalar;
 
-// How many moves were made, and by which scalar they changed the sum.
+/// A graph that was simplified, with its flow and the steps that led to it.
 #[derive(Drop)]
-struct Made {
-    scalar: Scalar,
-    moves: u64,
+pub struct Reduction {
+    /// The graph.
+    pub graph: OpenGraph,
+    /// A flow of it.
+    pub flow: Flow,
+    /// The steps from the graph before.
+    pub trace: Trace,
+    /// The sum before is so many times the sum after.
+    pub scalar: Scalar,
+}
+
+// What moves came to: the sum before is so many times the sum after, and so many moves were made.
+#[derive(Drop)]
+pub(crate) struct Made {
+    pub(crate) scalar: Scalar,
+    pub(crate) moves: u64,
 }
 
 /// Does moves on a graph with its flow until none applies, each time one of the first kind that
@@ -79,39 +94,142 @@ pub fn reduce<L: Ledger>(
     ensures has_room { HasRoom g.old f.old trace.old → IsOk result }
     ensures valid { WellFormed g.new.graph }
 {
-    if has_room(g, f, trace) {
-        return reduce_in_place(g, f, trace, steps);
-    }
-    reduce_in_copies(g, f, trace, steps)
+    let made = reduce_graph(g, f, trace)?;
+    steps.count(made.moves);
+    Ok(made.scalar)
 }
 
-// The same on copies, which then take the place of graph, flow and trace. No sets are kept meanwhile,
-// and moves are looked for where rewrites changed something.
-fn reduce_in_copies<L: Ledger>(
-    g: &mut OpenGraph,
-    f: &mut Flow,
-    trace: &mut Trace,
-    steps: &mut Steps<L>,
-) -> Result<Scalar, AllocError>
+/// Does the moves of `reduce` on a graph that its caller gives away: on the graph itself, and without a counter. No more
+/// than the order of the flow is kept meanwhile.
+///
+/// # Errors
+///
+/// Only where memory runs out.
+pub fn reduce_owned(alloc: Global, graph: OpenGraph, flow: Flow) -> Result<Reduction, AllocError>
+    requires flow { IsFlow graph.graph flow.flow }
+    requires few { length graph.graph.vertices < most_vertices }
+    ensures { IfOk result (λ made. Reduces graph.graph
+        made.graph.graph made.flow.flow made.trace.steps made.scalar) }
+{
+    let work = Working::begin(graph, &flow, Trace::new(alloc))?;
+    drop(flow);
+    reduce_working(work)
+}
+
+// The same from an order along which the graph has a flow.
+pub(crate) fn reduce_ordered(
+    alloc: Global,
+    graph: OpenGraph,
+    order: Ranks,
+) -> Result<Reduction, AllocError>
+    requires flow { HasFlowIn graph.graph order }
+    requires few { length graph.graph.vertices < most_vertices }
+    ensures { IfOk result (λ made. Reduces graph.graph
+        made.graph.graph made.flow.flow made.trace.steps made.scalar) }
+{
+    let work = Working::ordered(graph, order, Trace::new(alloc))?;
+    reduce_working(work)
+}
+
+// Does all moves, and finds a flow then.
+fn reduce_working(work: Working) -> Result<Reduction, AllocError>
+    requires guided { IsGuided work.graph.graph work.order work.candidates }
+    requires few { length work.graph.graph.vertices < most_vertices }
+    requires new { work.trace.steps ≡ [] }
+    ensures { IfOk result (λ made. Reduces work.graph.graph
+        made.graph.graph made.flow.flow made.trace.steps made.scalar) }
+{
+    let mut work = work;
+    let made = make_moves(&mut work)?;
+    let flow = work.flow()?;
+    let Working { graph, trace, .. } = work;
+    Ok(Reduction {
+        graph,
+        flow,
+        trace,
+        scalar: made.scalar,
+    })
+}
+
+// The moves of `reduce`, which aren't counted yet.
+fn reduce_graph(g: &mut OpenGraph, f: &mut Flow, trace: &mut Trace) -> Result<Made, AllocError>
+    requires flow { IsFlow g.old.graph f.old.flow }
+    requires few { length g.old.graph.vertices < most_vertices }
+
+    // The graph is reduced, with a proportional sum, a flow and no more odd phases.
+    ensures reduced { OnOk result (IsReduced g.new.graph) }
+    ensures map { OnOk result (KeepsMap g.old.graph g.new.graph) }
+    ensures scalar { IfOk result (λ made. IsSumTimes g.old.graph made.scalar g.new.graph) }
+    ensures small { IfOk result (λ made. IsWithin (most_exponent g.old.graph) made.scalar) }
+    ensures flow { OnOk result (IsFlow g.new.graph f.new.flow) }
+    ensures odd { OnOk result (odd_phases g.new.graph ≤ odd_phases g.old.graph) }
+    ensures inputs { OnOk result (length g.new.graph.inputs ≡ length g.old.graph.inputs) }
+    ensures outputs { OnOk result (length g.new.graph.outputs ≡ length g.old.graph.outputs) }
+
+    // The steps that the trace gained lead there, and are those of so many moves.
+    ensures run { OnOk result
+        (GainsRun g.old.graph g.new.graph trace.old.steps trace.new.steps) }
+    ensures moves { IfOk result (λ made.
+        GainsMoves g.old.graph g.new.graph trace.old.steps trace.new.steps 0 made.moves) }
+    ensures few_moves { IfOk result (λ made. made.moves ≤ most_moves g.old.graph) }
+    ensures few_steps { IfOk result (λ made.
+        length trace.new.steps ≤ length trace.old.steps + 6 * made.moves) }
+
+    ensures err_graph { OnErr result ((g.new.graph ≡ g.old.graph) × (f.new.flow ≡ f.old.flow)) }
+    ensures err_trace { OnErr result (trace.new.steps ≡ trace.old.steps) }
+
+    // With Ok or without, no room is lost.
+    ensures room { KeepRoom g.old f.old trace.old g.new f.new trace.new }
+    ensures has_room { HasRoom g.old f.old trace.old → IsOk result }
+    ensures was_valid { WellFormed g.old.graph }
+    ensures valid { WellFormed g.new.graph }
+{
+    do_moves(g, f, trace)
+}
+
+// The same, without what follows from the moves that the trace gained: in place where there is room.
+fn do_moves(g: &mut OpenGraph, f: &mut Flow, trace: &mut Trace) -> Result<Made, AllocError>
     requires flow { IsFlow g.old.graph f.old.flow }
     requires few { length g.old.graph.vertices < most_vertices }
     ensures reduced { OnOk result (IsReduced g.new.graph) }
     ensures flow { OnOk result (IsFlow g.new.graph f.new.flow) }
-    ensures moves { OnOk result
-        (GainsMoves g.old.graph g.new.graph trace.old.steps trace.new.steps steps.old steps.new) }
-    ensures scalar { IfOk result (λ s.
-        Scales g.old.graph (most_exponent g.old.graph) s g.new.graph) }
+    ensures moves { IfOk result (λ made.
+        GainsMoves g.old.graph g.new.graph trace.old.steps trace.new.steps 0 made.moves) }
+    ensures scalar { IfOk result (λ made.
+        Scales g.old.graph (most_exponent g.old.graph) made.scalar g.new.graph) }
     ensures err_graph { OnErr result ((g.new.graph ≡ g.old.graph) × (f.new.flow ≡ f.old.flow)) }
     ensures err_trace { OnErr result (trace.new.steps ≡ trace.old.steps) }
-    ensures err_counter { OnErr result (steps.new ≡ steps.old) }
+    ensures room { KeepRoom g.old f.old trace.old g.new f.new trace.new }
+    ensures has_room { HasRoom g.old f.old trace.old → IsOk result }
+    ensures was_valid { WellFormed g.old.graph }
+    ensures valid { WellFormed g.new.graph }
+{
+    if has_room(g, f, trace) {
+        return reduce_in_place(g, f, trace);
+    }
+    reduce_in_copies(g, f, trace)
+}
+
+// The same on copies, which then take the place of graph, flow and trace. No sets are kept meanwhile,
+// and moves are looked for where rewrites changed something.
+fn reduce_in_copies(g: &mut OpenGraph, f: &mut Flow, trace: &mut Trace) -> Result<Made, AllocError>
+    requires flow { IsFlow g.old.graph f.old.flow }
+    requires few { length g.old.graph.vertices < most_vertices }
+    ensures reduced { OnOk result (IsReduced g.new.graph) }
+    ensures flow { OnOk result (IsFlow g.new.graph f.new.flow) }
+    ensures moves { IfOk result (λ made.
+        GainsMoves g.old.graph g.new.graph trace.old.steps trace.new.steps 0 made.moves) }
+    ensures scalar { IfOk result (λ made.
+        Scales g.old.graph (most_exponent g.old.graph) made.scalar g.new.graph) }
+    ensures err_graph { OnErr result ((g.new.graph ≡ g.old.graph) × (f.new.flow ≡ f.old.flow)) }
+    ensures err_trace { OnErr result (trace.new.steps ≡ trace.old.steps) }
     ensures room { KeepRoom g.old f.old trace.old g.new f.new trace.new }
     ensures valid { WellFormed g.new.graph }
 {
-    let mut work = Working::begin(g, f, trace)?;
+    let mut work = Working::begin(g.copy()?, f, trace.copy()?)?;
     let made = make_moves(&mut work)?;
     put_back(work, g, f, trace)?;
-    steps.count(made.moves);
-    Ok(made.scalar)
+    Ok(made)
 }
 
 // Makes moves until none is left, and answers how many, and by which scalar they change the sum.
@@ -128,7 +246,7 @@ fn make_moves(work: &mut Working) -> Result<Made, AllocError>
 {
     let mut scalar = Scalar::one();
     let mut moves = 0;
-    while let Some(found) = work.candidates.next_move(&work.graph) {
+    while let Some(found) = work.candidates.next_move(&work.graph)? {
         scalar = scalar.times(work.make(&found)?);
         moves += 1;
     }

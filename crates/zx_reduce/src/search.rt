@@ -14,6 +14,7 @@ ghost use Rattle.zx_reduce.specs.Internal.Searching.{is_twin, IsMoveOf, IsMoveAt
 ghost use Rattle.zx_reduce.specs.Internal.Guiding.{place_kind};
 ghost use Rattle.move_laws.specs.Candidates.{IsPlaceOf};
 
+use crate::levels::level_in;
 use crate::moves::{KINDS, Kind, Move};
 use local_comp::{may_complement, may_delete};
 use open_graph::{OpenGraph, Plane, VertexId};
@@ -62,7 +63,7 @@ fn first_at(g: &OpenGraph, u: VertexId, limit: usize) -> Option<(usize, Move)>
         return None;
     }
     for i in 0..limit {
-        if let Some(found) = move_at(g, u, KINDS[i]) {
+        if let Some(found) = move_at(g, u, KINDS[i], &[]) {
             return Some((i, found));
         }
     }
@@ -97,7 +98,7 @@ pub(crate) fn may_begin(g: &OpenGraph, u: VertexId, kind: Kind) -> bool
 }
 
 // The move of this kind that applies at a vertex.
-pub(crate) fn move_at(g: &OpenGraph, u: VertexId, kind: Kind) -> Option<Move>
+pub(crate) fn move_at(g: &OpenGraph, u: VertexId, kind: Kind, levels: &[u8]) -> Option<Move>
     requires valid { WellFormed g.now.graph }
     requires live { Live g.now.graph u }
     ensures found { IfSome result (IsMoveOf g.now.graph kind) }
@@ -108,7 +109,7 @@ pub(crate) fn move_at(g: &OpenGraph, u: VertexId, kind: Kind) -> Option<Move>
         Kind::QuarterGadget => is_quarter_gadget(g, u).then_some(Move::QuarterGadget(u)),
         Kind::FromXZ => is_in_xz(g, u).then_some(Move::FromXZ(u)),
         Kind::QuarterSpider => is_quarter_spider(g, u).then_some(Move::QuarterSpider(u)),
-        Kind::InnerPivot => inner_pivot_at(g, u),
+        Kind::InnerPivot => inner_pivot_at(g, u, levels),
         Kind::BoundaryPivot => boundary_pivot_at(g, u),
         Kind::GadgetPair => gadget_pair_at(g, u),
         Kind::LoneGadget => is_gadget_of(g, u, 0).then_some(Move::LoneGadget(u)),
@@ -117,7 +118,7 @@ pub(crate) fn move_at(g: &OpenGraph, u: VertexId, kind: Kind) -> Option<Move>
     }
 }
 
-fn inner_pivot_at(g: &OpenGraph, u: VertexId) -> Option<Move>
+fn inner_pivot_at(g: &OpenGraph, u: VertexId, levels: &[u8]) -> Option<Move>
     requires valid { WellFormed g.now.graph }
     requires live { Live g.now.graph u }
     ensures found { IfSome result (IsMoveOf g.now.graph kinds.InnerPivot) }
@@ -126,7 +127,7 @@ fn inner_pivot_at(g: &OpenGraph, u: VertexId) -> Option<Move>
     if !is_half_spider(g, u) {
         return None;
     }
-    let v = inner_neighbour(g, u)?;
+    let v = inner_neighbour(g, u, levels)?;
     Some(Move::InnerPivot(u, v))
 }
 
@@ -139,7 +140,7 @@ fn boundary_pivot_at(g: &OpenGraph, u: VertexId) -> Option<Move>
     if !is_half_spider(g, u) {
         return None;
     }
-    if inner_neighbour(g, u).is_some() {
+    if inner_neighbour(g, u, &[]).is_some() {
         return None;
     }
     let v = first_neighbour(g, u)?;
@@ -175,7 +176,7 @@ fn twins_at(g: &OpenGraph, u: VertexId) -> Option<Move>
 }
 
 // Of the neighbours without ends the one whose pivot with u costs least.
-fn inner_neighbour(g: &OpenGraph, u: VertexId) -> Option<VertexId>
+fn inner_neighbour(g: &OpenGraph, u: VertexId, levels: &[u8]) -> Option<VertexId>
     requires { Live g.now.graph u }
     ensures found { IfSome result (λ v.
         (member v (neighbours g.now.graph u) ≡ true) × (may_complement g.now.graph v ≡ true)) }
@@ -183,9 +184,9 @@ fn inner_neighbour(g: &OpenGraph, u: VertexId) -> Option<VertexId>
         may_complement g.now.graph v ≡ false) }
 {
     let mut best = None;
-    let mut least = 0;
+    let mut least = (0, 0);
     for v in g.neighbours(u) {
-        (best, least) = better_of(g, u, best, least, v);
+        (best, least) = better_of(g, u, levels, best, least, v);
     }
     best
 }
@@ -194,10 +195,11 @@ fn inner_neighbour(g: &OpenGraph, u: VertexId) -> Option<VertexId>
 fn better_of(
     g: &OpenGraph,
     u: VertexId,
+    levels: &[u8],
     best: Option<VertexId>,
-    least: usize,
+    least: (usize, usize),
     v: VertexId,
-) -> (Option<VertexId>, usize)
+) -> (Option<VertexId>, (usize, usize))
     requires { Live g.now.graph u }
     ensures found { IfSome result.0 (λ w.
         ((w ≡ v) × (may_complement g.now.graph v ≡ true)) ⊎ (best ≡ Some w)) }
@@ -206,18 +208,22 @@ fn better_of(
     if !may_complement(g, v) {
         return (best, least);
     }
-    let cost = cost(g, u, v);
-    if best.is_none() || cost < least {
-        (Some(v), cost)
+    let level = level_in(levels, u).max(level_in(levels, v));
+    if best.is_some() && level > least.0 {
+        return (best, least);
+    }
+    let cost = pivot_cost(g, u, v);
+    if best.is_none() || level < least.0 || cost < least.1 {
+        (Some(v), (level, cost))
     } else {
         (best, least)
     }
 }
 
-// What a pivot of u with v costs, to compare it with those of u with other vertices: about how many
-// edges there are more once it is made and u deleted. Where there are too many pairs to count edges,
-// it is above all costs that are counted, and rises with the neighbours of v.
-fn cost(g: &OpenGraph, u: VertexId, v: VertexId) -> usize
+/// What a pivot of u with v costs, to compare it with those of u with other vertices: about how many
+/// edges there are more once it is made and u deleted. Where there are too many pairs to count edges,
+/// it is above all costs that are counted, and rises with the neighbours of v.
+pub fn pivot_cost(g: &OpenGraph, u: VertexId, v: VertexId) -> usize
     requires { Live g.now.graph u }
 {
     // How many other neighbours each has. Once u is deleted, v has those of u, and as many edges are
@@ -265,8 +271,8 @@ fn common_neighbours(g: &OpenGraph, p: VertexId, v: VertexId) -> usize {
     g.neighbour_set(p).common_with(g.neighbour_set(v))
 }
 
-// The number of a vertex's neighbours.
-fn degree(g: &OpenGraph, v: VertexId) -> usize {
+/// The number of a vertex's neighbours.
+pub(crate) fn degree(g: &OpenGraph, v: VertexId) -> usize {
     if g.is_live(v) { g.degree(v) } else { 0 }
 }
 

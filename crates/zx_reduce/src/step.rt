@@ -1,16 +1,21 @@
 //! Rewrites by their names.
 
-ghost use Rattle.std.specs.Prelude.{◌≡◌, true};
+ghost use Rattle.std.specs.Prelude.{◌≡◌, true, IfOk, OnOk};
 ghost use Rattle.zx_calculus.specs.Graph.{WellFormed};
-ghost use Rattle.zx_calculus.specs.Steps.{allowed};
+ghost use Rattle.zx_calculus.specs.Steps.{allowed, IsStep};
 ghost use Rattle.zx_calculus.specs.StepScalars.{step_scalar};
+ghost use Rattle.move_laws.specs.Orders.{is_split};
 
-use local_comp::{complement_scalar, delete_scalar, may_complement, may_delete};
+use local_comp::{delete_in_graph, local_complement_in_graph, may_complement, may_delete};
 use open_graph::{OpenGraph, VertexId};
-use zx_boundary::{may_split_input, may_split_output, split_input_scalar, split_output_scalar};
-use zx_gadgets::{gadget_scalar, may_drop_lone, may_fuse_into, may_fuse_twin};
+use std::alloc::AllocError;
+use zx_boundary::{may_split_input, may_split_output, split_input_in_graph, split_output_in_graph};
+use zx_gadgets::{
+    drop_lone_in_graph, fuse_into_in_graph, fuse_twin_in_graph, may_drop_lone, may_fuse_into,
+    may_fuse_twin,
+};
 use zx_model::Scalar;
-use zx_pivot::{may_pivot, pivot_scalar};
+use zx_pivot::{may_pivot, pivot_in_graph};
 
 /// A rewrite with the vertices that it is about.
 #[derive(Clone, Copy, Debug, PartialEq, Eq)]
@@ -53,18 +58,39 @@ impl Step {
         }
     }
 
-    /// The scalar of the step, where that is allowed: the sum before is so many times the sum after.
-    pub fn scalar(&self, g: &OpenGraph) -> Scalar
-        requires { allowed g.now.graph (step_named self.now) ≡ true }
-        ensures { result ≡ step_scalar g.now.graph (step_named self.now) }
+    /// Whether it splits an end.
+    pub fn is_split(&self) -> bool
+        ensures { result ≡ is_split (step_named self.now) }
     {
         match self {
-            Step::LocalComplement(u) => complement_scalar(g, *u),
-            Step::Delete(u) => delete_scalar(g, *u),
-            Step::Pivot(u, v) => pivot_scalar(g, *u, *v),
-            Step::SplitInput(b) => split_input_scalar(g, *b),
-            Step::SplitOutput(b) => split_output_scalar(g, *b),
-            Step::DropLone(_) | Step::FuseInto(_) | Step::FuseTwin(_, _) => gadget_scalar(),
+            Step::SplitInput(_) | Step::SplitOutput(_) => true,
+            Step::LocalComplement(_)
+            | Step::Delete(_)
+            | Step::Pivot(_, _)
+            | Step::DropLone(_)
+            | Step::FuseInto(_)
+            | Step::FuseTwin(_, _) => false,
+        }
+    }
+
+    /// Does the step in a graph, where it is allowed, and answers its scalar: the sum before is so many
+    /// times the sum after. Where memory runs out, a part of it is done.
+    pub fn do_in(&self, g: &mut OpenGraph) -> Result<Scalar, AllocError>
+        requires { allowed g.old.graph (step_named self.now) ≡ true }
+        ensures step { OnOk result (IsStep g.old.graph (step_named self.now) g.new.graph) }
+        ensures scalar { IfOk result (λ s. s ≡ step_scalar g.old.graph (step_named self.now)) }
+        ensures was_valid { WellFormed g.old.graph }
+        ensures valid { WellFormed g.new.graph }
+    {
+        match self {
+            Step::LocalComplement(u) => local_complement_in_graph(g, *u),
+            Step::Delete(u) => Ok(delete_in_graph(g, *u)),
+            Step::Pivot(u, v) => pivot_in_graph(g, *u, *v),
+            Step::SplitInput(b) => split_input_in_graph(g, *b),
+            Step::SplitOutput(b) => split_output_in_graph(g, *b),
+            Step::DropLone(u) => Ok(drop_lone_in_graph(g, *u)),
+            Step::FuseInto(u) => Ok(fuse_into_in_graph(g, *u)),
+            Step::FuseTwin(u, v) => Ok(fuse_twin_in_graph(g, *u, *v)),
         }
     }
 }

@@ -32,13 +32,6 @@ impl<L: Ledger> Steps<L> {
         Steps { book, share }
     }
 
-    // Counts one move.
-    pub(crate) fn tick(&mut self)
-        ensures { self.new ≡ self.old + 1 }
-    {
-        self.book.add(&mut self.share, 1);
-    }
-
     // Counts so many moves.
     pub(crate) fn count(&mut self, moves: u64)
         ensures { self.new ≡ self.old + moves }

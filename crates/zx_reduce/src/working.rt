@@ -36,40 +36,38 @@ pub(crate) struct Working {
 }
 
 impl Working {
-    /// A copy of a graph with a flow, and of a trace.
-    pub(crate) fn begin(g: &OpenGraph, f: &Flow, trace: &Trace) -> Result<Working, AllocError>
-        requires flow { IsFlow g.now.graph f.now.flow }
-        ensures graph { IfOk result (λ work. work.graph.graph ≡ g.now.graph) }
-        ensures trace { IfOk result (λ work. work.trace.steps ≡ trace.now.steps) }
+    /// A graph with the order of its flow, before its first move.
+    pub(crate) fn begin(graph: OpenGraph, f: &Flow, trace: Trace) -> Result<Working, AllocError>
+        requires flow { IsFlow graph.graph f.now.flow }
+        ensures graph { IfOk result (λ work. work.graph.graph ≡ graph.graph) }
+        ensures trace { IfOk result (λ work. work.trace.steps ≡ trace.steps) }
         ensures guided { IfOk result (λ work.
             IsGuided work.graph.graph work.order work.candidates) }
-        ensures valid { WellFormed g.now.graph }
+        ensures valid { WellFormed graph.graph }
     {
-        let alloc = trace.alloc();
-        let candidates = Candidates::of_graph(alloc, g)?;
-        let order = Ranks::of_order(alloc, f.order())?;
-        Working::along(g, order, candidates, trace)
+        let order = Ranks::of_order(trace.alloc(), f.order())?;
+        Working::ordered(graph, order, trace)
     }
 
-    // The same with that order and these candidates.
-    fn along(
-        g: &OpenGraph,
+    /// A graph with the order along which it has a flow, before its first move.
+    pub(crate) fn ordered(
+        graph: OpenGraph,
         order: Ranks,
-        candidates: Candidates,
-        trace: &Trace,
+        trace: Trace,
     ) -> Result<Working, AllocError>
-        requires order { HasFlowIn g.now.graph order }
-        requires candidates { HasCandidates g.now.graph candidates }
-        ensures graph { IfOk result (λ work. work.graph.graph ≡ g.now.graph) }
-        ensures trace { IfOk result (λ work. work.trace.steps ≡ trace.now.steps) }
+        requires flow { HasFlowIn graph.graph order }
+        ensures graph { IfOk result (λ work. work.graph.graph ≡ graph.graph) }
+        ensures trace { IfOk result (λ work. work.trace.steps ≡ trace.steps) }
         ensures guided { IfOk result (λ work.
             IsGuided work.graph.graph work.order work.candidates) }
+        ensures valid { WellFormed graph.graph }
     {
+        let candidates = Candidates::of_graph(trace.alloc(), &graph)?;
         Ok(Working {
-            graph: g.copy()?,
+            graph,
             order,
             candidates,
-            trace: trace.copy()?,
+            trace,
         })
     }
 
@@ -112,9 +110,8 @@ impl Working {
         ensures guided { OnOk result (IsGuidedBut touched.new.items
             self.new.graph.graph self.new.order self.new.candidates) }
     {
-        let scalar = step.scalar(&self.graph);
         add_vertices_near(touched, &self.graph, step)?;
-        rewrite(&mut self.graph, &mut self.order, step)?;
+        let scalar = rewrite(&mut self.graph, &mut self.order, step)?;
         self.trace.push(*step)?;
         Ok(scalar)
     }

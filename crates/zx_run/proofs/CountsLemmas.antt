@@ -5,7 +5,7 @@ use Rattle.zx_gates.specs.declared.gate.Gate.{Gate}
 use Rattle.zx_gates.specs.declared.tally.Counts.{Counts}
 use Rattle.zx_gates.specs.Circuit.{gate_odd_phases}
 use Rattle.zx_gates.specs.Counting.{is_h, is_phase, is_cz, is_cx, is_not, is_two_qubit}
-use Rattle.zx_run.specs.Optimising.{counts_of}
+use Rattle.zx_optimise.specs.Optimising.{counts_of}
 
 abbrev counts_by : (total odd two h phase cz cx nots : ℕ) → Counts
 counts_by total odd two h phase cz cx nots =

@@ -1,6 +1,5 @@
 pub mod CountsLemmas
 pub mod OptimiseLemmas
-pub mod CandidateLemmas
 pub mod FaultLemmas
 pub mod ReadLemmas
 pub mod FileLemmas

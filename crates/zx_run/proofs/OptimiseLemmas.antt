@@ -26,7 +26,7 @@ use Rattle.qasm_writer.proofs.WrittenLemmas.{IsWritten, is_written, odd_elements
 use Rattle.zx_run.specs.FirstFault.{IsAccepted}
 use Rattle.zx_run.specs.CircuitTexts.{circuit_on, report_if, scalar_if, generation_line, IsOptimisedText, IsTeleportedText, IsGenerationReport}
 use Rattle.zx_extract.specs.Simplified.{gate_bound}
-use Rattle.zx_run.specs.Optimising.{counts_of, IsMapTimes, Optimises, Teleports, IsBest, IsPlain}
+use Rattle.zx_optimise.specs.Optimising.{counts_of, IsMapTimes, Optimises, Teleports, IsBest, IsPlain}
 
 pub same_circuit : (c : Circuit) (qubits : ℕ) (gates : List Gate) → c.qubits ≡ qubits → c.gates ≡ gates → c ≡ circuit_on qubits gates
 same_circuit c qubits gates same_qubits same_gates = ap₂ circuit_on same_qubits same_gates

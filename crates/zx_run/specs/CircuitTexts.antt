@@ -17,7 +17,7 @@ use Rattle.qasm_writer.specs.Elements.{elements_of}
 use Rattle.qasm_writer.specs.Written.{written}
 use Rattle.zx_run.specs.FirstFault.{IsAccepted}
 use Rattle.zx_extract.specs.Simplified.{gate_bound}
-use Rattle.zx_run.specs.Optimising.{Optimises, Teleports, IsBest, IsPlain, counts_of}
+use Rattle.zx_optimise.specs.Optimising.{Optimises, Teleports, IsBest, IsPlain, counts_of}
 
 -- a number of qubits, and gates on them
 abbrev pub circuit_on : ℕ → List Gate → Circuit

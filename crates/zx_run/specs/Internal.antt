@@ -1,6 +1,5 @@
 -- What private contracts alone cite.
 pub mod Answers
-pub mod Candidates
 pub mod Places
 pub mod Refusals
 pub mod Verdicts

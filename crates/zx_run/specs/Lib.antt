@@ -3,7 +3,6 @@ pub mod TwoTexts
 pub mod DiagramFiles
 pub mod Compiling
 pub mod Comparing
-pub mod Optimising
 pub mod CircuitTexts
 pub mod FlowFiles
 pub mod Outcome

@@ -5,11 +5,11 @@ ghost use Rattle.zx_gates.specs.Circuit.{most_qubits};
 ghost use Rattle.zx_gen.specs.Generator.{most_drawn_gates};
 ghost use Rattle.zx_run.specs.CircuitTexts.{IsGenerationReport, generation_line};
 
-use crate::optimiser::optimise;
 use crate::reporting::report_lines;
 use std::alloc::{AllocError, Global};
 use zx_gates::Qubit;
 use zx_gen::generate;
+use zx_optimise::optimise;
 
 /// The line of the seed and the numbers of qubits and gates, and the report of the circuit that they
 /// give and of the optimised one.

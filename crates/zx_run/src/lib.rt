@@ -20,9 +20,6 @@
 //! - `graph_form`: the file of its graph-like form.
 //! - `compilation`: the text of a circuit for it, or the line of the vertices that show that it
 //!   has none.
-//! - `optimiser`: `optimise`, which is `translate` and `simplify`, and is proved from what these
-//!   promise, with no word of vertices and edges; with `best` the best of the five circuits that
-//!   README lists is taken.
 //! - `output`: `lower`, `optimise` and `write_text` in a row, from the circuit that is read to the
 //!   text, its report and its scalar.
 //! - `teleporting`: `lower`, `teleport` and `write_text`.
@@ -53,7 +50,6 @@ mod generation;
 mod graph_form;
 mod input;
 mod laws;
-mod optimiser;
 mod output;
 mod program;
 mod reader;
@@ -70,6 +66,6 @@ pub use laws::{
     diagram_files_have_one_reading, each_text_is_accepted_or_has_a_first_fault,
     each_text_means_one_circuit_at_most, two_texts_are_accepted_or_have_a_first_fault,
 };
-pub use optimiser::optimise;
 pub use program::{answer, run};
 pub use status::{Fault, Status};
+pub use zx_optimise::optimise;

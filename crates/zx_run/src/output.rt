@@ -5,12 +5,12 @@ ghost use Rattle.zx_gates.specs.Elementary.{IsElementary};
 ghost use Rattle.zx_run.specs.FirstFault.{IsAccepted};
 ghost use Rattle.zx_run.specs.CircuitTexts.{IsOptimisedText, report_if, scalar_if};
 
-use crate::optimiser::optimise;
 use crate::reporting::report_lines;
 use qasm_writer::{text_scalar, write_text};
 use std::alloc::{AllocError, Global};
 use zx_gates::{Elementary, GateList, lower};
 use zx_model::Scalar;
+use zx_optimise::optimise;
 use zx_report::scalar_line;
 
 /// The text of the optimised circuit with the measurements behind the one that is read, and with a

@@ -2,7 +2,7 @@
 
 ghost use Rattle.std.specs.Prelude.{◌≡◌, IfOk};
 ghost use Rattle.zx_report.specs.Report.{report_lines};
-ghost use Rattle.zx_run.specs.Optimising.{counts_of};
+ghost use Rattle.zx_optimise.specs.Optimising.{counts_of};
 
 use std::alloc::{AllocError, Global};
 use zx_gates::{GateList, counts};

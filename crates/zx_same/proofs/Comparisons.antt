@@ -9,15 +9,17 @@ use Rattle.zx_model.specs.Proportional.{Proportional}
 use Rattle.zx_model.specs.Scalar.{IsScaled, IsWithin, product_of_scalars}
 use Rattle.zx_model.specs.declared.scalar.Scalar.{Scalar}
 use Rattle.zx_model.proofs.Odd.{is_odd-opposite}
-use Rattle.zx_model.proofs.Scalars.{scaled_trans, within_product, within_more}
+use Rattle.zx_model.proofs.Scalars.{scaled_proportional, scaled_trans, within_product, within_more}
 use Rattle.zx_model.proofs.ProportionalLemmas.{proportional_sym, proportional_trans}
-use Rattle.zx_calculus.specs.Graph.{Graph}
+use Rattle.zx_calculus.specs.Graph.{Graph, WellFormed}
 use Rattle.zx_calculus.specs.Sum.{sum}
+use Rattle.gflow_laws.specs.Flow.{Correction}
 use Rattle.zx_gates.specs.Circuit.{Circuit, IsCircuit, IsGateOn, is_odd_phase, gate_odd_phases, gate_bound as list_bound}
 use Rattle.zx_gates.specs.Maps.{amp}
 use Rattle.zx_gates.specs.declared.gate.Gate.{Gate}
 use Rattle.zx_gates.specs.declared.gate.Gate.TheVariants.{H, Phase, Cz, Cx, Not}
 use Rattle.zx_extract.specs.Simplified.{gate_bound}
+use Rattle.zx_grow.specs.Grown.{GrowsTo}
 use Rattle.zx_simplify.specs.Scaling.{most_simplified_root2}
 use Rattle.zx_simplify.specs.declared.simplifying.Simplified.{Simplified}
 use Rattle.zx_same.specs.Bare.{is_bare}
@@ -59,24 +61,38 @@ bound_rises n m t u gates same more few = at (subst (λ k. gates ≤ gate_bound 
     at : gates ≤ gate_bound n t → gates ≤ gate_bound n u
     at within = let rises : 3 * n * t ≤ 3 * n * u = mul-le-mul_left (3 * n) more in omega arith
 
+-- a circuit of which a bare graph is left is the identity
+bare_seen : (circuit : Circuit) (g : Graph) → WellFormed g → length g.inputs ≡ circuit.qubits →
+    Proportional circuit.qubits circuit.qubits (amp circuit.gates) (sum g) → is_bare g ≡ true → Proportional circuit.qubits circuit.qubits (amp circuit.gates) (amp [])
+bare_seen circuit g valid inputs kept bare =
+    let n = circuit.qubits in
+    proportional_trans n n (amp circuit.gates) (sum g) (amp []) kept
+    (at_n n (length g.inputs) (length g.inputs) (sum g) (amp []) inputs inputs (bare_identity g valid bare))
+
+pub grown_seen : (circuit : Circuit) (g : Graph) (table : List Correction) (s : Scalar) → GrowsTo circuit g table s → is_bare g ≡ true →
+    Proportional circuit.qubits circuit.qubits (amp circuit.gates) (amp [])
+grown_seen circuit g table s grown =
+    bare_seen circuit g grown.well_formed grown.inputs (scaled_proportional circuit.qubits circuit.qubits (amp circuit.gates) (sum g) s grown.scaled)
+
+-- where the one circuit followed by the inverse of the other is the identity, they have one map
+pub same_undone : (a b both : Circuit) → a.qubits ≡ b.qubits → IsCircuit b → both ≡ undone_by a b →
+    Proportional both.qubits both.qubits (amp both.gates) (amp []) → Proportional a.qubits a.qubits (amp a.gates) (amp b.gates)
+same_undone a b both same is undone identity =
+    one_map a.qubits a.gates b.gates (subst (λ n. All (IsGateOn n) b.gates) (sym same) is.on_qubits)
+    (subst (λ (c : Circuit). Proportional c.qubits c.qubits (amp c.gates) (amp [])) undone identity)
+
 -- a circuit that is simplified to no gates, or to a bare graph, is the identity
 identity_seen : (circuit : Circuit) (made : Simplified) → Simplifies circuit made →
     (nat_eq (length made.gates.gates) 0 || is_bare made.reduced.graph) ≡ true → Proportional circuit.qubits circuit.qubits (amp circuit.gates) (amp [])
 identity_seen circuit made s seen =
     elim (or_cases (nat_eq (length made.gates.gates) 0) (is_bare made.reduced.graph) seen) [
       | inl none ↦ subst (λ gates. Proportional circuit.qubits circuit.qubits (amp circuit.gates) (amp gates)) (no_gates made.gates.gates none) s.map
-      | inr bare ↦
-          let n = circuit.qubits in
-          proportional_trans n n (amp circuit.gates) (sum made.reduced.graph) (amp []) s.kept
-          (at_n n (length made.reduced.graph.inputs) (length made.reduced.graph.inputs) (sum made.reduced.graph) (amp []) s.inputs s.inputs
-          (bare_identity made.reduced.graph s.well_formed bare))
+      | inr bare ↦ bare_seen circuit made.reduced.graph s.well_formed s.inputs s.kept bare
     ]
 
 pub same_seen : (a b both : Circuit) (made : Simplified) → a.qubits ≡ b.qubits → IsCircuit b → both ≡ undone_by a b → Simplifies both made →
     (nat_eq (length made.gates.gates) 0 || is_bare made.reduced.graph) ≡ true → Proportional a.qubits a.qubits (amp a.gates) (amp b.gates)
-same_seen a b both made same is undone s seen =
-    one_map a.qubits a.gates b.gates (subst (λ n. All (IsGateOn n) b.gates) (sym same) is.on_qubits)
-    (identity_seen (undone_by a b) made (subst (λ c. Simplifies c made) undone s) seen)
+same_seen a b both made same is undone s seen = same_undone a b both same is undone (identity_seen both made s seen)
 
 -- ---- odd phases
 is_odd_phase-inverse : (n : ℕ) (gate : Gate) → IsGateOn n gate → is_odd_phase (inverse_gate gate) ≡ is_odd_phase gate

@@ -1,6 +1,6 @@
 //! Two circuits compared, by simplifying the one followed by the inverse of the other.
 
-ghost use Rattle.std.specs.Prelude.{◌≡◌, ◌≢◌, ◌≤◌, ◌<◌, ◌↔◌, ◌+◌, ◌==◌, ◌||◌, false, length, map, true, IsTrue, IfOk};
+ghost use Rattle.std.specs.Prelude.{◌≡◌, ◌≢◌, ◌≤◌, ◌<◌, ◌↔◌, ◌+◌, ◌==◌, ◌||◌, [], false, length, map, true, IsTrue, IfOk};
 ghost use Rattle.zx_model.specs.Proportional.{Proportional};
 ghost use Rattle.zx_calculus.specs.Reduced.{IsReduced};
 ghost use Rattle.zx_calculus.specs.Steps.{IsRun};
@@ -21,6 +21,7 @@ use circuit_graph::translate;
 use open_graph::OpenGraph;
 use std::alloc::{AllocError, Global};
 use zx_gates::{Gate, GateList};
+use zx_grow::grow;
 use zx_reduce::Trace;
 use zx_simplify::{Simplified, simplify};
 
@@ -87,6 +88,10 @@ pub fn compare(alloc: Global, a: &GateList, b: &GateList) -> Result<Sameness, Al
         return Ok(Sameness::Same);
     }
     let both = undone_by(a, b)?;
+    let bare = grows_bare(alloc, &both)?;
+    if bare {
+        return Ok(Sameness::Same);
+    }
     let found = simplified(alloc, &both)?;
     if is_identity(&found) {
         return Ok(Sameness::Same);
@@ -115,8 +120,18 @@ pub(crate) fn undone_by(a: &GateList, b: &GateList) -> Result<GateList, AllocErr
     Ok(made)
 }
 
+// Whether nothing but wires is left of a circuit's graph that is simplified while it grows: no step is kept, so it
+// takes less time and memory than to simplify the whole graph.
+fn grows_bare(alloc: Global, circuit: &GateList) -> Result<bool, AllocError>
+    ensures { IfOk result (λ bare. bare ≡ true →
+        Proportional circuit.now.qubits circuit.now.qubits (amp circuit.now.gates) (amp [])) }
+{
+    let grown = grow(alloc, circuit)?;
+    Ok(is_bare(&grown.graph))
+}
+
 // What a circuit's graph is simplified to, with the scalar by which the circuit's map is that of what is left.
-pub(crate) fn simplified(alloc: Global, circuit: &GateList) -> Result<Simplified, AllocError>
+fn simplified(alloc: Global, circuit: &GateList) -> Result<Simplified, AllocError>
     ensures { IfOk result (Simplifies circuit.now) }
 {
     // A circuit has no more qubits than a graph may have outputs, and not too many gates.

@@ -6,10 +6,11 @@ ghost use Rattle.zx_gates.specs.Circuit.{gate_bound};
 ghost use Rattle.zx_gates.specs.Maps.{amp};
 ghost use Rattle.zx_same.specs.Internal.UndoneScalar.{undone_scalar};
 
-use crate::comparing::{simplified, undone_by};
+use crate::comparing::undone_by;
 use std::alloc::{AllocError, Global};
 use zx_gates::{GateList, counts};
 use zx_model::{Scalar, Sixteenth};
+use zx_simplify::simplify_circuit;
 
 /// By which number the map of a circuit is that of another, where simplification shows it: where the first
 /// followed by the inverse of the second is simplified to no gate. None says nothing.
@@ -25,7 +26,7 @@ pub fn quotient(alloc: Global, a: &GateList, b: &GateList) -> Result<Option<Scal
     // What `qubits` says of a circuit: its gates are on them.
     prove!(b.qubits() <= 1_024);
     let both = undone_by(a, b)?;
-    let found = simplified(alloc, &both)?;
+    let found = simplify_circuit(alloc, &both)?;
     if found.gates.gates().is_empty() {
         Ok(Some(found.scalar.over(undone_scalar(b))))
     } else {

@@ -1,2 +1,3 @@
 pub mod Scaling
+pub mod Circuits
 pub mod Internal

@@ -1,6 +1,10 @@
--- How large the scalar between a graph and its circuit is.
+-- How large the scalars between a graph or a circuit and the simplified circuit are.
 use Rattle.std.specs.Prelude.{ℕ, ◌^◌}
 
--- the greatest exponent of the root of two, in size
+-- the greatest exponent of the root of two, in size, between a graph and its circuit
 abbrev pub most_simplified_root2 : ℕ
 most_simplified_root2 = 2 ^ 54
+
+-- the same between two circuits
+abbrev pub most_circuit_root2 : ℕ
+most_circuit_root2 = 2 ^ 55

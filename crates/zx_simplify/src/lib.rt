@@ -1,4 +1,4 @@
-//! A graph with a flow, simplified and turned into a circuit.
+//! A circuit through its graph and back: simplified, extracted and tidied.
 //!
 //! Proved of `simplify`: the circuit's linear map is the graph's sum up to a number other than 0; the
 //! steps that it tells lead from the graph to the reduced graph that it tells, which has a
@@ -6,11 +6,23 @@
 //! that, no gates in it cancel or merge, and there are few of them for its qubits and the graph's odd
 //! phases.
 //!
+//! Proved of `simplify_circuit`: the same of a circuit's graph, of which neither steps nor reduced graph are kept.
+//!
+//! Inside:
+//!
+//! - `extracting`: the tidied circuit of a reduced graph.
+//! - `simplifying`: `simplify`.
+//! - `circuits`: `simplify_circuit`.
+//!
 //! ```rust
-//! let simplified = simplify(alloc, graph, flow)?;
+//! let made = simplify_circuit(alloc, &circuit)?;
 //! ```
 #![tactic(auto)]
 
+mod circuits;
+mod extracting;
 mod simplifying;
 
+pub use circuits::simplify_circuit;
+pub use extracting::ScaledCircuit;
 pub use simplifying::{Simplified, simplify};

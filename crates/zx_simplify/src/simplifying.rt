@@ -1,6 +1,6 @@
-//! Simplification, extraction and cleanup in a row.
+//! A graph to a circuit, with the steps and the graph on the way.
 
-ghost use Rattle.std.specs.Prelude.{◌≡◌, ◌<◌, ◌≤◌, length, map, IfOk};
+ghost use Rattle.std.specs.Prelude.{◌≡◌, ◌≤◌, length, map, IfOk};
 ghost use Rattle.zx_model.specs.Proportional.{Proportional};
 ghost use Rattle.zx_model.specs.Scalar.{IsScaled, IsWithin};
 ghost use Rattle.zx_calculus.specs.Counts.{odd_phases};
@@ -13,22 +13,18 @@ ghost use Rattle.gflow_laws.specs.Flow.{IsFlow};
 ghost use Rattle.zx_gates.specs.Circuit.{gate_odd_phases, most_qubits};
 ghost use Rattle.zx_gates.specs.Maps.{amp};
 ghost use Rattle.zx_peephole.specs.Tidy.{IsTidy};
-ghost use Rattle.zx_reduce.specs.Scaling.{memory_bound};
 ghost use Rattle.zx_reduce.specs.Steps.{step_named};
 ghost use Rattle.zx_extract.specs.Simplified.{gate_bound};
 ghost use Rattle.zx_simplify.specs.Scaling.{most_simplified_root2};
-ghost use Rattle.zx_simplify.specs.Internal.Reducing.{Extracts, Reduces};
+ghost use Rattle.zx_simplify.specs.Internal.Extracting.{Extracts};
 
+use crate::extracting::{ScaledCircuit, extract_tidy};
 use open_graph::OpenGraph;
 use std::alloc::{AllocError, Global};
-use std::marker::Brand;
-use std::sync::ledger::{Blank, Ledger};
-use zx_extract::extract;
 use zx_flow::Flow;
 use zx_gates::GateList;
 use zx_model::Scalar;
-use zx_peephole::tidy;
-use zx_reduce::{Steps, Trace, check_size, reduce};
+use zx_reduce::{Trace, check_size, reduce_owned};
 
 /// The circuit of a simplified graph, the steps by which the graph was simplified, and what they
 /// lead to.
@@ -84,60 +80,25 @@ pub fn simplify(alloc: Global, graph: OpenGraph, flow: Flow) -> Result<Simplifie
         gate_bound (length graph.graph.outputs) (odd_phases graph.graph)) }
 {
     check_size(&graph)?;
-    let (reduced, flow, trace, before) = reduce_counted::<Brand>(
-        alloc,
-        graph,
-        flow,
-        Blank::new(1),
-    )?;
-    let (mut gates, between) = extract_copy(alloc, &reduced, flow)?;
-    let after = tidy(&mut gates);
+    let made = reduce_owned(alloc, graph, flow)?;
+    let flow = made.flow;
+    let circuit = extract_copy(alloc, &made.graph, flow)?;
     Ok(Simplified {
-        gates,
-        scalar: before.times(between).times(after),
-        trace,
-        reduced,
+        gates: circuit.gates,
+        scalar: made.scalar.times(circuit.scalar),
+        trace: made.trace,
+        reduced: made.graph,
     })
 }
 
-// The reduced graph with its flow, the steps that lead to it, and the scalar that the sum was times its own. The
-// moves are counted for nobody.
-fn reduce_counted<L: Ledger>(
-    alloc: Global,
-    graph: OpenGraph,
-    flow: Flow,
-    blank: Blank,
-) -> Result<(OpenGraph, Flow, Trace, Scalar), AllocError>
-    requires name { blank.name ≡ L.name }
-    requires parts { blank.parts ≡ L.parts }
-    requires some { 0 < L.parts }
-    requires flow { IsFlow graph.graph flow.flow }
-    requires few { length graph.graph.vertices < memory_bound }
-    ensures { IfOk result (λ made.
-        Reduces graph.graph made.0.graph made.1.flow made.2.steps made.3) }
-{
-    let mut reduced = graph;
-    let mut flow = flow;
-    let mut trace = Trace::new(alloc);
-    let mut moves = Steps::<L>::new(blank);
-    let scalar = reduce(&mut reduced, &mut flow, &mut trace, &mut moves)?;
-    Ok((reduced, flow, trace, scalar))
-}
-
-// The circuit of a reduced graph, which stays, and the scalar that the graph's sum is times its map.
-fn extract_copy(
-    alloc: Global,
-    reduced: &OpenGraph,
-    flow: Flow,
-) -> Result<(GateList, Scalar), AllocError>
+// The circuit of a reduced graph, which stays.
+fn extract_copy(alloc: Global, reduced: &OpenGraph, flow: Flow) -> Result<ScaledCircuit, AllocError>
     requires flow { IsFlow reduced.now.graph flow.flow }
     requires reduced { IsReduced reduced.now.graph }
     requires well_formed { WellFormed reduced.now.graph }
     requires ends { length reduced.now.graph.inputs ≡ length reduced.now.graph.outputs }
     requires few { length reduced.now.graph.outputs ≤ most_qubits }
-    ensures { IfOk result (λ made. Extracts reduced.now.graph made.0 made.1) }
+    ensures { IfOk result (λ made. Extracts reduced.now.graph made.gates made.scalar) }
 {
-    check_size(reduced)?;
-    let made = extract(alloc, reduced.copy()?, flow)?;
-    Ok(made)
+    extract_tidy(alloc, reduced.copy()?, flow)
 }

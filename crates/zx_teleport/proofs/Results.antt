@@ -20,21 +20,22 @@ use Rattle.teleport_circuits.proofs.Quotients.{teleported_quotient}
 use Rattle.teleport_circuits.proofs.OddPhases.{teleported_odd, teleported_fewer}
 use Rattle.zx_reduce.specs.declared.step.Step as named
 use Rattle.zx_reduce.specs.Steps.{step_named}
+use Rattle.zx_teleport.specs.Together.{IsPutTogether}
 use Rattle.zx_teleport.specs.Internal.Noting.{MayRun}
 use Rattle.zx_teleport.specs.Internal.Scaling.{HaveScalar}
 
--- the gates that these steps give, whatever they lead to
-abbrev pub AreTeleported : Circuit → List named.Step → List Gate → Type 0
-AreTeleported c steps gates =
-    (h : Graph) (run : IsRun (translated c) (map step_named steps) h) → gates ≡ teleported_gates c (map step_named steps) h run
+-- as the steps are seen
+pub put_seen : (c : Circuit) (steps seen : List named.Step) (h : Graph) (gates : List Gate) → seen ≡ steps →
+    IsPutTogether c (map step_named steps) h gates → IsPutTogether c (map step_named seen) h gates
+put_seen c steps seen h gates same put = subst (λ s. IsPutTogether c (map step_named s) h gates) (sym same) put
 
 module _ (c : Circuit) (g : Graph) (steps seen : List named.Step) (h : Graph) (gates : List Gate) (start : g ≡ translated c) (same : seen ≡ steps)
-    (run : IsRun g (map step_named steps) h) (are : AreTeleported c seen gates) where
+    (run : IsRun g (map step_named steps) h) (are : IsPutTogether c (map step_named seen) h gates) where
   leads : IsRun (translated c) (map step_named steps) h
   leads = subst (λ k. IsRun k (map step_named steps) h) start run
 
   is : gates ≡ teleported_gates c (map step_named steps) h leads
-  is = subst (λ s. AreTeleported c s gates) same are h leads
+  is = subst (λ s. IsPutTogether c (map step_named s) h gates) same are leads
 
   pub skeleton : IsSkeleton c.gates gates
   skeleton = subst (IsSkeleton c.gates) (sym is) (skeleton_left (new_phase c (spots_of c (map step_named steps) h leads)) 0 c.gates)

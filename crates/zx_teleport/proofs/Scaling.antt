@@ -1,18 +1,15 @@
 -- The scalars of steps that are done one after the other, and how large they are.
-use Rattle.std.proofs.Common.{◌≡◌, sym, subst, ℕ, ◌+◌, ◌*◌, ◌<◌, ◌≤◌, Bool, not, refl, List, [], length, filter, drop, map, arith}
+use Rattle.std.proofs.Common.{◌≡◌, sym, subst, ℕ, ◌+◌, ◌*◌, ◌<◌, ◌≤◌, List, [], length, drop, map, arith}
 use borrow.Author.Differences.{ints}
-use Rattle.std.proofs.lemmas.List.Filters.{length-filter_both}
 use Rattle.zx_model.specs.Scalar.{IsWithin, most_root2, product_of_scalars, quotient_of_scalars}
 use Rattle.zx_model.specs.declared.scalar.Scalar.{Scalar}
 use Rattle.zx_model.proofs.Scalars.{within_product, within_more}
-use Rattle.zx_calculus.specs.Graph.{Vertex, Graph, WellFormed, is_XY}
+use Rattle.zx_calculus.specs.Graph.{Graph}
 use Rattle.zx_calculus.specs.Steps.{IsRun}
 use Rattle.zx_calculus.specs.StepScalars.{IsSumTimes}
-use Rattle.zx_calculus.proofs.ReducedLemmas.{counts_within}
 use Rattle.zx_reduce.specs.declared.step.Step as named
 use Rattle.zx_reduce.specs.Steps.{step_named}
 use Rattle.zx_reduce.specs.Scaling.{memory_bound}
-use Rattle.zx_reduce.specs.Moving.{most_moves}
 use Rattle.zx_reduce.specs.Internal.Scaling.{Scales}
 use Rattle.zx_teleport.specs.Scalars.{most_teleported_root2}
 use Rattle.zx_teleport.specs.Internal.Scaling.{most_steps, HaveScalar}
@@ -37,21 +34,6 @@ twice i n s few p = within_more (2 * i) (2 * n) s p (more i n few)
     more i n a = omega (arith, a)
 
 -- the steps of a simplification
-filter_few : {X : Type 0} (p : X → Bool) (xs : List X) → length (filter p xs) ≤ length xs
-filter_few p xs = let both = length-filter_both p (λ x. not (p x)) (λ x. refl) xs in omega (arith, both)
-
-most_moves-few : (g : Graph) → WellFormed g → most_moves g ≤ 3 * length g.vertices
-most_moves-few g w = few _ _ _ _ (counts_within g w) (filter_few (λ (v : Vertex). not (is_XY v.kind.plane)) g.vertices)
-  where
-    few : (e o q n : ℕ) → e + o ≤ n → q ≤ n → 2 * e + q + 2 * o ≤ 3 * n
-    few e o q n a b = omega (arith, a, b)
-
-pub few_steps : (g k : Graph) (before after start end : ℕ) → k ≡ g → WellFormed g → before ≡ 0 → end ≤ start + most_moves k → after + 6 * start ≤ before + 6 * end → after ≤ 18 * length g.vertices
-few_steps g k before after start end same w none moves steps = few before after start end (most_moves k) (length g.vertices) none moves steps (subst (λ x. most_moves x ≤ 3 * length g.vertices) (sym same) (most_moves-few g w))
-  where
-    few : (before after start end moves n : ℕ) → before ≡ 0 → end ≤ start + moves → after + 6 * start ≤ before + 6 * end → moves ≤ 3 * n → after ≤ 18 * n
-    few before after start end moves n a b c d = omega (arith, a, b, c, d)
-
 few_seen : (n : ℕ) (steps seen : List named.Step) → seen ≡ steps → length steps ≤ 18 * n → length seen ≤ 18 * n
 few_seen n steps seen same few = subst (λ xs. length xs ≤ 18 * n) (sym same) few
 

@@ -11,7 +11,8 @@
 //! each negates, and where that of a vertex goes that goes itself. Backwards through the notes it is
 //! told for each vertex who holds its phase at the end, and with which sign. The same steps lead from
 //! the graph of the new circuit to the same end, so they are done on that, too: the scalar of the steps
-//! from the first graph over that of the steps from the new one is the scalar between the maps.
+//! from the first graph over that of the steps from the new one is the scalar between the maps. `teleport_unscaled`
+//! leaves that out.
 //!
 //! Inside:
 //!
@@ -21,7 +22,7 @@
 //!   whether negated.
 //! - `groups`: the sum and the first gate of each group, from the last gate to the first, and the
 //!   circuit with the new phases.
-//! - `teleporting`: `teleport`.
+//! - `teleporting`: `teleport`, with the scalar and without.
 //! - `scalars`: by which scalar steps change the sum of a graph.
 //!
 //! ```rust
@@ -35,4 +36,4 @@ mod notes;
 mod scalars;
 mod teleporting;
 
-pub use teleporting::{Teleported, teleport};
+pub use teleporting::{Teleported, Unscaled, teleport, teleport_unscaled};

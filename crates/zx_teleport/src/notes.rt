@@ -4,18 +4,14 @@ ghost use Rattle.std.specs.Prelude.{◌≡◌, ◌==◌, ◌&&◌, ◌||◌, ℕ
 ghost use Rattle.zx_model.specs.Bits.{xor};
 ghost use Rattle.zx_model.specs.Phase.{half_turn};
 ghost use Rattle.zx_calculus.specs.Graph.{joined, is_XY, is_XZ, plane_of, phase_of, Live};
-ghost use Rattle.zx_calculus.specs.Steps.{FuseInto, allowed, IsStep};
+ghost use Rattle.zx_calculus.specs.Steps.{FuseInto, allowed};
 ghost use Rattle.zx_reduce.specs.Steps.{step_named};
 ghost use Rattle.teleport_laws.specs.Shifts.{negates, into_of};
 ghost use Rattle.zx_teleport.specs.Internal.Noting.{stands_odd, parting_by, IsNoted, AreNoted, MayRun};
 
-use local_comp::{delete_in_graph, local_complement_in_graph};
 use open_graph::{OpenGraph, Plane, VertexId};
 use std::alloc::{AllocError, Global};
-use zx_boundary::{split_input_in_graph, split_output_in_graph};
-use zx_gadgets::{drop_lone_in_graph, fuse_into_in_graph, fuse_twin_in_graph};
 use zx_model::Sixteenth;
-use zx_pivot::pivot_in_graph;
 use zx_reduce::Step;
 
 // Where the phase of a vertex goes that goes itself.
@@ -51,7 +47,7 @@ pub(crate) fn notes_of(
     let mut notes = Vec::new(alloc);
     for step in steps {
         notes.push(note_of(alloc, &graph, step)?)?;
-        rewrite(&mut graph, step)?;
+        step.do_in(&mut graph)?;
     }
     Ok(notes)
 }
@@ -187,39 +183,4 @@ fn leg_of(graph: &OpenGraph, u: VertexId) -> VertexId
     ensures { result ≡ into_of graph.now.graph u }
 {
     graph.neighbour_from(u, 0).unwrap()
-}
-
-// Does a step that is allowed. Where memory runs out, a part of it is done.
-pub(crate) fn rewrite(graph: &mut OpenGraph, step: &Step) -> Result<(), AllocError>
-    requires { allowed graph.old.graph (step_named step.now) ≡ true }
-    ensures { OnOk result (IsStep graph.old.graph (step_named step.now) graph.new.graph) }
-{
-    match step {
-        Step::LocalComplement(u) => local_complement_in_graph(graph, *u),
-        Step::Delete(u) => {
-            delete_in_graph(graph, *u);
-            Ok(())
-        }
-        Step::Pivot(u, v) => pivot_in_graph(graph, *u, *v),
-        Step::SplitInput(b) => {
-            split_input_in_graph(graph, *b)?;
-            Ok(())
-        }
-        Step::SplitOutput(b) => {
-            split_output_in_graph(graph, *b)?;
-            Ok(())
-        }
-        Step::DropLone(u) => {
-            drop_lone_in_graph(graph, *u);
-            Ok(())
-        }
-        Step::FuseInto(u) => {
-            fuse_into_in_graph(graph, *u);
-            Ok(())
-        }
-        Step::FuseTwin(u, v) => {
-            fuse_twin_in_graph(graph, *u, *v);
-            Ok(())
-        }
-    }
 }

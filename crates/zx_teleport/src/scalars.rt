@@ -8,7 +8,6 @@ ghost use Rattle.zx_reduce.specs.Steps.{step_named};
 ghost use Rattle.zx_teleport.specs.Internal.Noting.{MayRun};
 ghost use Rattle.zx_teleport.specs.Internal.Scaling.{most_steps, HaveScalar};
 
-use crate::notes::rewrite;
 use circuit_graph::translate;
 use open_graph::OpenGraph;
 use std::alloc::{AllocError, Global};
@@ -45,8 +44,7 @@ fn scalar_of_run(graph: OpenGraph, steps: &[Step]) -> Result<Scalar, AllocError>
     let mut graph = graph;
     let mut scalar = Scalar::one();
     for step in steps {
-        scalar = scalar.times(step.scalar(&graph));
-        rewrite(&mut graph, step)?;
+        scalar = scalar.times(step.do_in(&mut graph)?);
     }
     Ok(scalar)
 }

@@ -14,8 +14,9 @@ ghost use Rattle.gflow_laws.specs.Flow.{IsFlow};
 ghost use Rattle.circuit_graph.specs.Translation.{places, translated};
 ghost use Rattle.teleport_circuits.specs.Circuits.{IsSkeleton};
 ghost use Rattle.teleport_circuits.specs.Teleporting.{teleported_gates};
-ghost use Rattle.zx_teleport.specs.Together.{IsPutTogether};
-ghost use Rattle.zx_reduce.specs.Scaling.{most_exponent};
+ghost use Rattle.zx_teleport.specs.Together.{IsPutTogether, IsTeleported};
+ghost use Rattle.zx_reduce.specs.Reducing.{Reduces};
+ghost use Rattle.zx_reduce.specs.Scaling.{memory_bound, most_exponent};
 ghost use Rattle.zx_reduce.specs.Steps.{step_named};
 ghost use Rattle.zx_teleport.specs.Scalars.{most_teleported_root2};
 ghost use Rattle.zx_teleport.specs.Internal.Noting.{MayRun};
@@ -27,12 +28,10 @@ use crate::scalars::scalar_of;
 use circuit_graph::translate_placed;
 use open_graph::{OpenGraph, VertexId};
 use std::alloc::{AllocError, Global};
-use std::marker::Brand;
-use std::sync::ledger::{Blank, Ledger};
 use zx_flow::Flow;
 use zx_gates::GateList;
 use zx_model::Scalar;
-use zx_reduce::{Step, Steps, Trace, check_size, reduce};
+use zx_reduce::{Reduction, Step, Trace, check_size, reduce_owned};
 
 /// A circuit whose phases were put together, the steps by which its graph was simplified to see
 /// which, the simplified graph, and the scalar between the maps.
@@ -46,6 +45,20 @@ pub struct Teleported {
     pub reduced: OpenGraph,
     /// The map of the circuit that was read is so many times that of `gates`.
     pub scalar: Scalar,
+}
+
+/// A circuit whose phases were put together, the steps by which its graph was simplified to see
+/// which, and the simplified graph.
+#[derive(Drop)]
+pub struct Unscaled {
+    /// The circuit.
+    pub gates: GateList,
+    /// The steps from the graph of the circuit that was read.
+    pub trace: Trace,
+    /// The graph to which they lead.
+    pub reduced: OpenGraph,
+    /// The sum of the graph of the circuit that was read is so many times that of `reduced`.
+    pub before: Scalar,
 }
 
 /// Puts phases of a circuit together where its simplified graph shows that they may be; all other
@@ -79,47 +92,54 @@ pub fn teleport(alloc: Global, read: &GateList) -> Result<Teleported, AllocError
     ensures fewer { IfOk result (λ found.
         gate_odd_phases found.gates.gates ≤ gate_odd_phases read.now.gates) }
 {
-    let (graph, flow, places) = translate_placed(alloc, read)?;
-    check_size(&graph)?;
-    let (reduced, trace, before) = simplified::<Brand>(Blank::new(1), alloc, &graph, flow)?;
-    let steps = trace.as_slice();
-    let gates = put_together(alloc, read, graph, &places, steps)?;
-    let after = scalar_of(alloc, &gates, steps)?;
+    let found = teleport_unscaled(alloc, read)?;
+    let after = scalar_of(alloc, &found.gates, found.trace.as_slice())?;
     Ok(Teleported {
-        gates,
-        trace,
-        reduced,
-        scalar: before.over(after),
+        gates: found.gates,
+        trace: found.trace,
+        reduced: found.reduced,
+        scalar: found.before.over(after),
     })
 }
 
-// The graph that simplification makes of a graph with its flow, the steps that lead to it, and their
-// scalar.
-fn simplified<L: Ledger>(
-    blank: Blank,
-    alloc: Global,
-    graph: &OpenGraph,
-    flow: Flow,
-) -> Result<(OpenGraph, Trace, Scalar), AllocError>
-    requires name { blank.name ≡ L.name }
-    requires parts { blank.parts ≡ L.parts }
-    requires some { 0 < L.parts }
+/// As `teleport`, where the scalar between the maps isn't asked for: it takes the steps once more on the graph of
+/// the new circuit.
+///
+/// # Errors
+///
+/// Those of `teleport`.
+pub fn teleport_unscaled(alloc: Global, read: &GateList) -> Result<Unscaled, AllocError>
+    ensures circuit { OnOk result (IsCircuit read.now) }
+    ensures teleported { IfOk result (λ found. IsTeleported read.now found.gates
+        (map step_named found.trace.steps) found.reduced.graph) }
+    ensures before { IfOk result (λ found.
+        IsSumTimes (translated read.now) found.before found.reduced.graph) }
+    ensures small { IfOk result (λ found.
+        IsWithin (most_exponent (translated read.now)) found.before) }
+    ensures few { OnOk result (length (translated read.now).vertices < memory_bound) }
+    ensures few_steps { IfOk result (λ found.
+        length found.trace.steps ≤ 18 * length (translated read.now).vertices) }
+{
+    let (graph, flow, places) = translate_placed(alloc, read)?;
+    check_size(&graph)?;
+    let simplified = simplified(alloc, &graph, flow)?;
+    let gates = put_together(alloc, read, graph, &places, simplified.trace.as_slice())?;
+    Ok(Unscaled {
+        gates,
+        trace: simplified.trace,
+        reduced: simplified.graph,
+        before: simplified.scalar,
+    })
+}
+
+// What simplification makes of a copy of a graph with its flow.
+fn simplified(alloc: Global, graph: &OpenGraph, flow: Flow) -> Result<Reduction, AllocError>
     requires flow { IsFlow graph.now.graph flow.flow }
     requires few { length graph.now.graph.vertices < most_vertices }
-    ensures reduced { IfOk result (λ made. IsReduced made.0.graph) }
-    ensures run { IfOk result (λ made.
-        IsRun graph.now.graph (map step_named made.1.steps) made.0.graph) }
-    ensures few_steps { IfOk result (λ made.
-        length made.1.steps ≤ 18 * length graph.now.graph.vertices) }
-    ensures scalar { IfOk result (λ made. IsSumTimes graph.now.graph made.2 made.0.graph) }
-    ensures small { IfOk result (λ made. IsWithin (most_exponent graph.now.graph) made.2) }
+    ensures { IfOk result (λ made. Reduces graph.now.graph
+        made.graph.graph made.flow.flow made.trace.steps made.scalar) }
 {
-    let mut reduced = graph.copy()?;
-    let mut flow = flow;
-    let mut trace = Trace::new(alloc);
-    let mut steps = Steps::<L>::new(blank);
-    let scalar = reduce(&mut reduced, &mut flow, &mut trace, &mut steps)?;
-    Ok((reduced, trace, scalar))
+    reduce_owned(alloc, graph.copy()?, flow)
 }
 
 // The circuit with the phases put together that end up together where these steps are done.
@@ -141,6 +161,5 @@ fn put_together(
 {
     let notes = notes_of(alloc, graph, steps)?;
     let fates = Fates::of_notes(alloc, &notes)?;
-    let made = regrouped(alloc, read, at, &fates)?;
-    Ok(made)
+    regrouped(alloc, read, at, &fates)
 }

@@ -19,7 +19,7 @@ use Rattle.qasm_scope.specs.Meaning.{most_calls}
 use Rattle.qasm_scope.specs.Angles.{in_prefix, with_cause}
 use Rattle.qasm_names.specs.Kept.{gate_count}
 use Rattle.qasm_scope.specs.Scope.{Scope, Meaning, Qubits, Bits, Gate}
-use Rattle.qasm_scope.specs.Calls.{Event, Called, Applied, expand_meaning, expand_declared, u_of}
+use Rattle.qasm_scope.specs.Calls.{Event, Called, Undefined, Applied, expand_meaning, expand_declared, u_of}
 use Rattle.qasm_scope.specs.Calls.{after_angles, applied, call_count, first_wrong}
 
 -- the values of expressions in numbered parameters
@@ -67,11 +67,29 @@ abbrev pub calls_of : Option GateBody → List GateCall
 calls_of None = []
 calls_of (Some gate) = gate.calls.items
 
--- each gate is its body
+-- a gate on other qubits
+abbrev pub renamed : (ℕ → ℕ) → ElementaryGate → ElementaryGate
+renamed f (elementary.U q theta phi lambda) = elementary.U (f q) theta phi lambda
+renamed f (elementary.Cx control target) = elementary.Cx (f control) (f target)
+
+abbrev pub renamed_event : (ℕ → ℕ) → Event → Event
+renamed_event f (Called depth) = Called depth
+renamed_event f (Undefined cause) = Undefined cause
+renamed_event f (Applied gate) = Applied (renamed f gate)
+
+-- the later qubits stand in the same places as the ones before; where there is none, 0 stands for it
+pub record AreRenamed (f : ℕ → ℕ) (qubits later : List ℕ) : Type 0 where
+  pub none : f 0 ≡ 0
+  pub each : (place : ℕ) → slice_index_or later place 0 ≡ f (slice_index_or qubits place 0)
+
+-- each gate is its body, and comes to the same on other qubits
 pub record Unrolls (gates : List GateBody) (numbered : Numbered) : Type 0 where
   pub each : (number depth : ℕ) (angles : List Angle) (qubits : List ℕ)
       → numbered number depth angles qubits ≡ calls_events numbered depth angles qubits
       (calls_of (slice_get gates number))
+  pub by_places : (number depth : ℕ) (angles : List Angle) (f : ℕ → ℕ) (qubits later : List ℕ)
+      → AreRenamed f qubits later
+      → numbered number depth angles later ≡ map (renamed_event f) (numbered number depth angles qubits)
 
 -- the calls of a gate on the stack that are left
 abbrev pub calls_left : List GateBody → Frame → List GateCall

@@ -1,5 +1,5 @@
 -- The words of a row that are kept, with how many come before them.
-use Rattle.std.specs.Prelude.{◌≡◌, ◌<◌, ◌≤◌, ◌+◌, ◌-◌, ◌/◌, ◌%◌, ◌*◌, ◌^◌, ◌==◌, ℕ, Bool, false, if◌then◌else◌}
+use Rattle.std.specs.Prelude.{◌≡◌, ◌<◌, ◌≤◌, ◌+◌, ◌-◌, ◌/◌, ◌%◌, ◌*◌, ◌^◌, ◌==◌, ◌&&◌, ℕ, Bool, false, if◌then◌else◌}
 use Rattle.std.specs.Prelude.{List, ltb, leb, length, get_or, max, min, filter}
 use Rattle.std.specs.List.{range_with_len}
 use Rattle.std.specs.Int.RustNames.{bit_xor}
@@ -66,3 +66,15 @@ room_of w = if leb (end_of w) w.words.capacity then min (64 * w.words.capacity) 
 -- the set of these numbers
 abbrev pub set_of : Window → BitSet
 set_of w = record { numbers = places_of w; room = room_of w }
+
+-- whether a place is set that wasn't told yet: of these words the one with an index is read, of whose bits this rest
+-- is left
+abbrev pub is_left : ℕ → List ℕ → ℕ → ℕ → ℕ → Bool
+is_left offset words index rest place =
+    if place / 64 == offset + index then digit rest (place % 64) else
+    ltb (offset + index) (place / 64) && digit (word_from offset words (place / 64)) (place % 64)
+
+-- these places, by rising number
+abbrev pub left_of : ℕ → List ℕ → ℕ → ℕ → List ℕ
+left_of offset words index rest =
+    filter (is_left offset words index rest) (range_with_len 0 (64 * (offset + length words)))

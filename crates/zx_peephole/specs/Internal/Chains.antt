@@ -8,6 +8,7 @@ use Rattle.zx_gates.specs.declared.gate.Gate.TheVariants.{H, Phase, Cz, Cx, Not}
 use Rattle.zx_gates.specs.declared.gate_list.Links.{Links}
 use Rattle.zx_gates.specs.Circuit.{most_qubits, gate_bound, IsGateOn}
 use Rattle.zx_peephole.specs.Commuting.{is_on}
+use Rattle.zx_peephole.specs.Internal.Marks.{IsMarked}
 use Rattle.zx_peephole.specs.declared.chains.Chains.{Chains}
 
 -- ---- gates that are gone
@@ -79,21 +80,22 @@ pub record HasPlaces (w : Chains) : Type 0 where
   pub few_gates : length w.gates.items < gate_bound
   pub enough : length w.gates.items ≤ length w.links.items
 
--- what holds of a list while it is tidied: the gates that are kept are linked, those that aren't read yet are all left,
--- and all that are left are on the qubits
+-- the gates that are kept
+abbrev pub kept : Chains → List Gate
+kept w = filter is_left (take w.next w.gates.items)
+
+-- what holds of a list while it is tidied: the gates that are kept are linked, and the Cz of them marked; those that
+-- aren't read yet are all left, and all that are left are on the qubits
 pub record IsSound (w : Chains) : Type 0 where
   pub places : HasPlaces w
   pub chains : (q : ℕ) → q < most_qubits → IsChainOf w q
+  pub marks : IsMarked w.marks (kept w)
   pub few_qubits : w.qubits ≤ most_qubits
   pub on_qubits : (i : ℕ) → i < length w.gates.items → IsTrue (is_left (gate_at w.gates.items i))
       → IsGateOn w.qubits (gate_at w.gates.items i)
   pub unread : (i : ℕ) → w.next ≤ i → i < length w.gates.items → IsTrue (is_left (gate_at w.gates.items i))
 
 -- ---- the list as it is now
--- the gates that are kept
-abbrev pub kept : Chains → List Gate
-kept w = filter is_left (take w.next w.gates.items)
-
 -- how many of them stand before place i
 abbrev pub place_of : Chains → ℕ → ℕ
 place_of w i = length (filter is_left (take i w.gates.items))

@@ -1,8 +1,6 @@
 -- What guides simplification: the order along which a graph has a flow, by ranks, and the candidates of the next move.
-use Rattle.std.specs.Prelude.{◌≡◌, ◌<◌, ◌≤◌, ◌++◌, ℕ, Bool, true, List, ◌∷◌, length}
-use Rattle.std.specs.BTreeSet.{contains}
-use Rattle.std.specs.Ordering.{nat_cmp, then_cmp, on}
-use Rattle.std.specs.declared.cmp.Ordering.{Ordering}
+use Rattle.std.specs.Prelude.{◌≡◌, ◌≢◌, ◌<◌, ◌≤◌, ◌+◌, ◌-◌, ◌*◌, ◌++◌, suc, ltb, if◌then◌else◌, ℕ, Bool, true}
+use Rattle.std.specs.Prelude.{List, [], ◌∷◌, length, slice_index_or}
 use Rattle.zx_model.specs.Bits.{member}
 use Rattle.zx_calculus.specs.Graph.{Graph, neighbours, WellFormed}
 use Rattle.zx_calculus.specs.Steps.{Step, LocalComplement, Delete, Pivot, SplitInput, SplitOutput}
@@ -11,7 +9,6 @@ use Rattle.move_laws.specs.Candidates.{MoveKind, Deletion, QuarterGadget, InXZ, 
 use Rattle.move_laws.specs.Candidates.{BoundaryPivot, GadgetPair, LoneGadget, SingleGadget, Twins}
 use Rattle.move_laws.specs.Candidates.{IsPlaceOf, Covers, with_touched}
 use Rattle.move_laws.specs.Ranks.{RisesBy, HasFlowBy, rank_in}
-use Rattle.zx_reduce.specs.declared.candidates.Candidate.{Candidate}
 use Rattle.zx_reduce.specs.declared.candidates.Candidates.{Candidates}
 use Rattle.zx_reduce.specs.declared.moves.Kind.{Kind}
 use Rattle.zx_reduce.specs.declared.moves.Kind.TheVariants as kinds
@@ -55,36 +52,70 @@ place_of kinds.LoneGadget = 7
 place_of kinds.SingleGadget = 8
 place_of kinds.Twins = 9
 
--- candidates are compared by the place of their kind, then by the number of their neighbours, then by their own
-abbrev pub candidate_cmp : Candidate → Candidate → Ordering
-candidate_cmp =
-    then_cmp (on (λ (x : Candidate). x.place) nat_cmp)
-    (then_cmp (on (λ (x : Candidate). x.neighbours) nat_cmp) (on (λ (x : Candidate). x.number) nat_cmp))
+-- the place of the kind that a list is of; 10 for no list
+unfoldable pub list_place : ℕ → ℕ
+list_place l = if ltb l 3 then l else (if ltb l 131 then 3 else (if ltb l 259 then 4 else l - 254))
 
--- u as a candidate of this kind
-abbrev pub candidate_at : Graph → Kind → ℕ → Candidate
-candidate_at g k u = record { place = place_of k; neighbours = length (neighbours g u); number = u }
+-- what was put into a list
+abbrev pub pile_at : List (List ℕ) → ℕ → List ℕ
+pile_at piles l = slice_index_or piles l []
 
--- u stands among the candidates of this kind
-abbrev pub is_candidate : Graph → Candidates → Kind → ℕ → Bool
-is_candidate g c k u = contains candidate_cmp c.set (candidate_at g k u)
+-- the list in which u stands; 264 where it stands in none
+abbrev pub standing : Candidates → ℕ → ℕ
+standing c u = slice_index_or c.places.items u 264
+
+-- how far what was put into lists is from having left all: in a list each vertex counts as many lists as follow, with
+-- its own
+unfoldable pub weight : List (List ℕ) → ℕ
+weight [] = 0
+weight (pile ∷ rest) = length pile * suc (length rest) + weight rest
+
+-- who stands in a list was put into it, and the first lists are empty
+pub record IsListing (c : Candidates) : Type 0 where
+  pub count : length c.lists.items ≡ 264
+  pub held : (u : ℕ) → standing c u < 264 → member u (pile_at c.lists.items (standing c u)) ≡ true
+  pub nothing : (l : ℕ) → l < c.first → pile_at c.lists.items l ≡ []
+
+-- all but u stand where they stood
+abbrev pub StandElsewhere : ℕ → Candidates → Candidates → Type 0
+StandElsewhere u before after = (w : ℕ) → w ≢ u → standing after w ≡ standing before w
+
+-- u stood in a list, before which nothing stood, and is taken out
+pub record IsTaken (l u : ℕ) (before after : Candidates) : Type 0 where
+  pub stood : standing before u ≡ l
+  pub within : l < 264
+  pub least : (w : ℕ) → l ≤ standing before w
+  pub others : StandElsewhere u before after
+  pub lighter : weight after.lists.items + (264 - l) ≤ weight before.lists.items
+
+-- all stand where they stood, and less is left to look at
+pub record IsPassed (before after : Candidates) : Type 0 where
+  pub same : (w : ℕ) → standing after w ≡ standing before w
+  pub no_heavier : weight after.lists.items ≤ weight before.lists.items
+  pub less : weight after.lists.items + (264 - after.first) < weight before.lists.items + (264 - before.first)
+
+-- u stands in a list of this kind or of an earlier one
+abbrev pub is_candidate : Candidates → Kind → ℕ → Bool
+is_candidate c k u = ltb (list_place (standing c u)) (place_of k + 1)
 
 -- each place of each kind has a candidate
-abbrev pub HasCandidates : Graph → Candidates → Type 0
-HasCandidates g c = (k : Kind) → Covers g (place_kind k) (is_candidate g c k)
+pub record HasCandidates (g : Graph) (c : Candidates) : Type 0 where
+  pub listing : IsListing c
+  pub covers : (k : Kind) → Covers g (place_kind k) (is_candidate c k)
 
 -- the same but for places at these vertices
-abbrev pub HasCandidatesBut : List ℕ → Graph → Candidates → Type 0
-HasCandidatesBut touched g c = (k : Kind) → Covers g (place_kind k) (with_touched touched (is_candidate g c k))
+pub record HasCandidatesBut (touched : List ℕ) (g : Graph) (c : Candidates) : Type 0 where
+  pub listing : IsListing c
+  pub covers : (k : Kind) → Covers g (place_kind k) (with_touched touched (is_candidate c k))
 
 -- u is a candidate of each kind of which it has a place
 abbrev pub IsListed : Graph → ℕ → Candidates → Type 0
-IsListed g u c = (k : Kind) (v : ℕ) → IsPlaceOf g (place_kind k) u v → is_candidate g c k u ≡ true
+IsListed g u c = (k : Kind) (v : ℕ) → IsPlaceOf g (place_kind k) u v → is_candidate c k u ≡ true
 
--- no candidate goes
-abbrev pub KeepsCandidates : Candidates → Candidates → Type 0
-KeepsCandidates before after =
-    (x : Candidate) → contains candidate_cmp before.set x ≡ true → contains candidate_cmp after.set x ≡ true
+-- no candidate goes that has a place
+abbrev pub KeepsCandidates : Graph → Candidates → Candidates → Type 0
+KeepsCandidates g before after = (k : Kind) (w v : ℕ) → IsPlaceOf g (place_kind k) w v → is_candidate before k w ≡ true
+    → is_candidate after k w ≡ true
 
 -- both are right for the graph
 pub record IsGuided (g : Graph) (order : Ranks) (c : Candidates) : Type 0 where

@@ -15,12 +15,13 @@ use Rattle.qasm_scope.specs.Meaning.{most_calls}
 use Rattle.qasm_inline.specs.Internal.KeptCalls.{expand_number, values_of}
 use Rattle.qasm_inline.specs.Internal.Spans.{span_range, IsResolved, is_unresolved, resolved_cause, instances_events}
 use Rattle.qasm_inline.proofs.ApplyLemmas.{behind-resolved, wrong-unresolved, wrong-resolved, resolved-events}
+use Rattle.qasm_inline.proofs.KnownLemmas.{known-by-bodies, known-in-scope}
 use Rattle.qasm_inline.proofs.Numbers.{kept-unrolls}
 use Rattle.qasm_inline.proofs.Unrolling.{Continues-same, Continues-join}
 use Rattle.qasm_inline.proofs.applying.apply.Goals as goal
 
 pub returns-in_default-clause-err : goal.returns-in_default-clause-err
-returns-in_default-clause-err c = λ cause scope e r m.
+returns-in_default-clause-err c = λ cause scope e r m k.
     let a = application c.args.application.now in
     let unresolved : is_unresolved c.args.names.now.symbols a ≡ true = rw c.in_default.is at c.in_ok-resolved.ensures.none in
     let same : c.unresolved_cause-cause.result ≡ cause = cc in
@@ -28,7 +29,7 @@ returns-in_default-clause-err c = λ cause scope e r m.
     (wrong-unresolved c.args.names.now.symbols scope a r.same_symbols unresolved ∙ ap Some (sym c.unresolved_cause-cause.ensures ∙ same))
 
 pub returns-in-Some-resolved_cause-clause-err : goal.returns-in-Some-resolved_cause-clause-err
-returns-in-Some-resolved_cause-clause-err c = λ cause scope e r m.
+returns-in-Some-resolved_cause-clause-err c = λ cause scope e r m k.
     let a = application c.args.application.now in
     let found = c.in-Some.resolved in
     let resolved : IsResolved c.args.names.now.symbols a found.gate found.angles.items (map span_range found.spans.items) = rw c.in-Some.is at c.in_ok-resolved.ensures.some in
@@ -39,7 +40,7 @@ returns-in-Some-resolved_cause-clause-err c = λ cause scope e r m.
     ∙ sym c.resolved_cause.ensures ∙ c.in-Some-resolved_cause.is ∙ ap Some same)
 
 pub returns-then-has_any_qubit-clause-err : goal.returns-then-has_any_qubit-clause-err
-returns-then-has_any_qubit-clause-err c = λ cause scope e r m.
+returns-then-has_any_qubit-clause-err c = λ cause scope e r m k.
     let a = application c.args.application.now in
     let found = c.in-Some.resolved in
     let resolved : IsResolved c.args.names.now.symbols a found.gate found.angles.items (map span_range found.spans.items) = rw c.in-Some.is at c.in_ok-resolved.ensures.some in
@@ -70,16 +71,23 @@ returns-clause-behind c = on_ok_weaker c.call_instances.result (λ h scope r m.
     ∙ ap (λ b. if b then Some AfterMeasure else None) (sym (c.has_any_qubit.ensures m) ∙ c.if-has_any_qubit.false)) c.call_instances.ensures.ok
 
 pub returns-clause-events : goal.returns-clause-events
-returns-clause-events c = on_ok_weaker c.call_instances.result (λ h scope r.
+returns-clause-events c = on_ok_weaker c.call_instances.result (λ h scope r k.
     let found = c.in-Some.resolved in
     let resolved : IsResolved c.args.names.now.symbols (application c.args.application.now) found.gate found.angles.items (map span_range found.spans.items) = rw c.in-Some.is at c.in_ok-resolved.ensures.some in
     let unrolls = kept-unrolls c.deref-3.result.now scope r.sound (ap (map kept_body) c.deref-3.ensures.value ∙ r.same_gates) in
     let same = ap₂ (λ ts ss. instances_events (expand_number scope) found.gate (values_of ts []) (map span_range ss)) c.deref-4.ensures.value c.deref-5.ensures.value
     ∙ resolved-events scope r.same_symbols r.sound resolved in
-    Continues-join _ _ _ _ _ _ _ _ _ _ (Continues-same _ _ _ _ _ (sym same)) (h (expand_number scope) unrolls)) c.call_instances.ensures.ok
+    Continues-join _ _ _ _ _ _ _ _ _ _ (Continues-same _ _ _ _ _ (sym same)) (h (expand_number scope) unrolls (known-by-bodies c.deref-3.result.now scope c.args.unrolled.now.known.items (ap (map kept_body) c.deref-3.ensures.value ∙ r.same_gates) k))) c.call_instances.ensures.ok
+
+pub returns-clause-knows : goal.returns-clause-knows
+returns-clause-knows c = on_ok_weaker c.call_instances.result (λ h scope r k.
+    let same = ap (map kept_body) c.deref-3.ensures.value ∙ r.same_gates in
+    known-in-scope c.deref-3.result.now scope c.call_instances.new.unrolled.known.items same
+    (h (expand_number scope) (kept-unrolls c.deref-3.result.now scope r.sound same) (known-by-bodies c.deref-3.result.now scope c.args.unrolled.now.known.items same k)))
+    c.call_instances.ensures.known
 
 pub returns-clause-err : goal.returns-clause-err
-returns-clause-err c = λ cause scope e r m.
+returns-clause-err c = λ cause scope e r m k.
     let a = application c.args.application.now in
     let found = c.in-Some.resolved in
     let resolved : IsResolved c.args.names.now.symbols a found.gate found.angles.items (map span_range found.spans.items) = rw c.in-Some.is at c.in_ok-resolved.ensures.some in
@@ -96,3 +104,4 @@ returns-clause-err c = λ cause scope e r m.
     ∙ ap (λ b. if b then Some AfterMeasure else None) (sym (c.has_any_qubit.ensures m) ∙ c.if-has_any_qubit.false))
     ∙ ap (first_wrong most_calls c.args.unrolled.now.calls) (sym same)
     ∙ c.call_instances.ensures.err cause (expand_number scope) e unrolls
+    (known-by-bodies c.deref-3.result.now scope c.args.unrolled.now.known.items (ap (map kept_body) c.deref-3.ensures.value ∙ r.same_gates) k)

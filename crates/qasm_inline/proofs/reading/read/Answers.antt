@@ -1,36 +1,20 @@
 -- Each clause follows from what the answer says of the text.
-use Rattle.std.proofs.Common.{[], subst}
+use Rattle.std.proofs.Common.{subst}
 use Rattle.qasm_inline.specs.Internal.Readings.{IsTextAnswer}
-use Rattle.qasm_inline.proofs.PieceLemmas.{read_whole}
+use Rattle.qasm_inline.proofs.PieceLemmas.{bad_whole, read_whole}
 use Rattle.qasm_inline.proofs.ReadingLemmas.{text-means, text-valid}
 use Rattle.qasm_inline.proofs.reading.read.Goals as goal
 
-pub returns-clause-means : goal.returns-clause-means
-returns-clause-means c =
+pub returns : goal.returns
+returns c =
     let text = c.args.text.now in
-    text-means text c.answer.result (c.answer.ensures text (read_whole text _ _ _ c.new-reader.ensures c.read_text-told.ensures.read c.read_text-told.ensures.bad_byte))
-
-pub returns-clause-valid : goal.returns-clause-valid
-returns-clause-valid c =
-    let text = c.args.text.now in
-    text-valid text c.answer.result (c.answer.ensures text (read_whole text _ _ _ c.new-reader.ensures c.read_text-told.ensures.read c.read_text-told.ensures.bad_byte))
-
-pub returns-clause-bad_byte : goal.returns-clause-bad_byte
-returns-clause-bad_byte c = λ at e.
-    let text = c.args.text.now in
-    subst (IsTextAnswer text) e (c.answer.ensures text (read_whole text _ _ _ c.new-reader.ensures c.read_text-told.ensures.read c.read_text-told.ensures.bad_byte))
-
-pub returns-clause-too_deep : goal.returns-clause-too_deep
-returns-clause-too_deep c = λ at e.
-    let text = c.args.text.now in
-    subst (IsTextAnswer text) e (c.answer.ensures text (read_whole text _ _ _ c.new-reader.ensures c.read_text-told.ensures.read c.read_text-told.ensures.bad_byte))
-
-pub returns-clause-syntax : goal.returns-clause-syntax
-returns-clause-syntax c = λ at e.
-    let text = c.args.text.now in
-    subst (IsTextAnswer text) e (c.answer.ensures text (read_whole text _ _ _ c.new-reader.ensures c.read_text-told.ensures.read c.read_text-told.ensures.bad_byte))
-
-pub returns-clause-wrong : goal.returns-clause-wrong
-returns-clause-wrong c = λ cause at e.
-    let text = c.args.text.now in
-    subst (IsTextAnswer text) e (c.answer.ensures text (read_whole text _ _ _ c.new-reader.ensures c.read_text-told.ensures.read c.read_text-told.ensures.bad_byte))
+    let answer : IsTextAnswer text c.answer.result =
+    c.answer.ensures text (read_whole text _ _ _ c.new-reader.ensures c.read_text-told.ensures.read) (bad_whole text _ c.read_text-told.ensures.bad_byte) in
+    record {
+      means = text-means text c.answer.result answer;
+      valid = text-valid text c.answer.result answer;
+      bad_byte = λ at e. subst (IsTextAnswer text) e answer;
+      too_deep = λ at e. subst (IsTextAnswer text) e answer;
+      syntax = λ at e. subst (IsTextAnswer text) e answer;
+      wrong = λ cause at e. subst (IsTextAnswer text) e answer;
+    }

@@ -2,9 +2,10 @@
 use Rattle.std.proofs.Common.{◌<◌, ◌∙◌, sym, ap, subst, length, set, List, IsOk, rules}
 use Rattle.std.proofs.lemmas.Bool.{false≢true}
 use Rattle.zx_calculus.specs.Graph.{End, ids}
+use Rattle.zx_calculus.specs.StepScalars.{split_scalar}
 use Rattle.zx_calculus.specs.Splits.{new_vertex, IsSplitInput}
 use Rattle.zx_boundary.proofs.Spiders.{old_below, new_below, end_live, new_live, new_plane, new_free}
-use Rattle.zx_boundary.proofs.Splits.{place_within, end_moved, input_split}
+use Rattle.zx_boundary.proofs.Splits.{place_within, end_moved, mark_of_end, input_split}
 use Rattle.zx_boundary.proofs.inputs.split_input_in_graph.Goals as goal
 
 pub input_at-requires : goal.input_at-requires
@@ -54,6 +55,13 @@ returns-clause-step c =
     ∙ end_moved c.args.g.now.graph.inputs c.unwrap-place.result c.args.b c.in_ok-new.new c.index-inputs-place.result c.toggled.result
     c.inputs-inputs.ensures.valid.inputs.one_each found read c.toggled.ensures)
     c.move_input.ensures.ok)
+
+pub returns-clause-scalar : goal.returns-clause-scalar
+returns-clause-scalar c =
+    let found = rw c.unwrap-place.ensures at c.input_at.ensures.place in
+    let read = rw c.inputs-inputs.ensures.value at c.index-inputs-place.is in
+    c.split_scalar.ensures
+    ∙ ap split_scalar (sym (mark_of_end c.args.g.now.graph.inputs c.unwrap-place.result c.args.b c.index-inputs-place.result c.inputs-inputs.ensures.valid.inputs.one_each found read))
 
 pub returns-in_err-new-clause-has_room : goal.returns-in_err-new-clause-has_room
 returns-in_err-new-clause-has_room c spare below =

@@ -1,29 +1,9 @@
--- Where both have a place for a vertex more, in place without copies.
-use Rattle.std.proofs.Common.{sym, ◌∙◌, true≢false}
-use Rattle.zx_flow.proofs.Answering.{from_ok, no_err}
-use Rattle.zx_boundary.proofs.Spiders.{all_below}
+-- What the split leaves.
+use Rattle.std.proofs.lemmas.Result.{on_ok_weaker}
 use Rattle.zx_boundary.proofs.outputs.split_output.Goals as goal
 
-pub returns-then-has_place-clause-has_room : goal.returns-then-has_place-clause-has_room
-returns-then-has_place-clause-has_room c room =
-    c.split_output_in_place.ensures.has_room room.place room.flow_place (all_below _ _ _ room.below room.reach.0)
-    (all_below _ _ _ room.flow_below room.reach.1)
+pub returns-clause-table : goal.returns-clause-table
+returns-clause-table c = on_ok_weaker c.perform.result (λ left. left.2) c.perform.ensures.left
 
-pub returns-then-has_place-clause-err : goal.returns-then-has_place-clause-err
-returns-then-has_place-clause-err c =
-    no_err _ c.split_output_in_place.result
-    (returns-then-has_place-clause-has_room c (c.has_place.ensures.value.0 c.if-has_place.true))
-
-pub returns-then-has_place-clause-valid : goal.returns-then-has_place-clause-valid
-returns-then-has_place-clause-valid c =
-    (from_ok c.split_output_in_place.result
-    (returns-then-has_place-clause-has_room c (c.has_place.ensures.value.0 c.if-has_place.true))
-    c.split_output_in_place.ensures.rewritten).valid
-
-pub returns-then-has_place-clause-keeps_spare : goal.returns-then-has_place-clause-keeps_spare
-returns-then-has_place-clause-keeps_spare c =
-    no_err _ c.split_output_in_place.result
-    (returns-then-has_place-clause-has_room c (c.has_place.ensures.value.0 c.if-has_place.true))
-
-pub returns-clause-has_room : goal.returns-clause-has_room
-returns-clause-has_room c room = absurd (true≢false (sym (c.has_place.ensures.value.1 room) ∙ c.if-has_place.false))
+pub returns-clause-spare : goal.returns-clause-spare
+returns-clause-spare c = on_ok_weaker c.perform.result (λ left. (left.0, left.1)) c.perform.ensures.left

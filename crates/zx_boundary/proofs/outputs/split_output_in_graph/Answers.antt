@@ -2,9 +2,10 @@
 use Rattle.std.proofs.Common.{◌<◌, ◌∙◌, sym, ap, subst, length, set, List, IsOk, rules}
 use Rattle.std.proofs.lemmas.Bool.{false≢true}
 use Rattle.zx_calculus.specs.Graph.{End, ids}
+use Rattle.zx_calculus.specs.StepScalars.{split_scalar}
 use Rattle.zx_calculus.specs.Splits.{new_vertex, IsSplitOutput}
 use Rattle.zx_boundary.proofs.Spiders.{old_below, new_below, end_live, new_live, new_plane, new_free}
-use Rattle.zx_boundary.proofs.Splits.{place_within, end_moved, output_split}
+use Rattle.zx_boundary.proofs.Splits.{place_within, end_moved, mark_of_end, output_split}
 use Rattle.zx_boundary.proofs.outputs.split_output_in_graph.Goals as goal
 
 pub output_at-requires : goal.output_at-requires
@@ -54,6 +55,13 @@ returns-clause-step c =
     ∙ end_moved c.args.g.now.graph.outputs c.unwrap-place.result c.args.b c.in_ok-new.new c.index-outputs-place.result c.toggled.result
     c.outputs-outputs.ensures.valid.outputs.one_each found read c.toggled.ensures)
     c.move_output.ensures.ok)
+
+pub returns-clause-scalar : goal.returns-clause-scalar
+returns-clause-scalar c =
+    let found = rw c.unwrap-place.ensures at c.output_at.ensures.place in
+    let read = rw c.outputs-outputs.ensures.value at c.index-outputs-place.is in
+    c.split_scalar.ensures
+    ∙ ap split_scalar (sym (mark_of_end c.args.g.now.graph.outputs c.unwrap-place.result c.args.b c.index-outputs-place.result c.outputs-outputs.ensures.valid.outputs.one_each found read))
 
 pub returns-in_err-new-clause-has_room : goal.returns-in_err-new-clause-has_room
 returns-in_err-new-clause-has_room c spare below =

@@ -23,7 +23,7 @@ returns-in-Some-clause-sound c =
     (sym (ap option_to_list c.in-Some.is) ∙ c.merged-one.ensures)) in
     sound_written c.remove.new.work _ c.in-Some.gate c.remove.ensures.sound
     (omega (arith, r.next, ap length r.gates, length-set w.gates.items c.args.first nothing, reading.more)) on
-    (left_on c.remove.new.work.qubits c.in-Some.gate on) refl refl refl refl refl
+    (left_on c.remove.new.work.qubits c.in-Some.gate on) refl refl refl refl refl refl
 
 pub returns-in-Some-clause-advance : goal.returns-in-Some-clause-advance
 returns-in-Some-clause-advance c =
@@ -39,7 +39,7 @@ returns-in-None-clause-sound c =
     let r = c.remove.ensures.removed in
     sound_passed c.remove.new.work _ c.nothing.result c.nothing.ensures c.remove.ensures.sound
     (omega (arith, r.next, ap length r.gates, length-set w.gates.items c.args.first nothing, c.requires.reading.more))
-    refl refl refl refl refl
+    refl refl refl refl refl refl
 
 pub returns-in-None-clause-advance : goal.returns-in-None-clause-advance
 returns-in-None-clause-advance c =

@@ -34,7 +34,7 @@ returns-clause-sound c =
       length-set w.gates.items c.args.middle nothing,
       c.requires.reading.more,
     )) on
-    (left_on c.remove-2.new.work.qubits c.conjugated-gate.result on) refl refl refl refl refl
+    (left_on c.remove-2.new.work.qubits c.conjugated-gate.result on) refl refl refl refl refl refl
 
 pub returns-clause-advance : goal.returns-clause-advance
 returns-clause-advance c =

@@ -2,9 +2,14 @@
 use Rattle.std.proofs.Common.{sym, ◌∙◌, subst, ℕ}
 use Rattle.zx_peephole.specs.Internal.Stops.{IsStop, IsFreeBetween}
 use Rattle.zx_peephole.proofs.FindingLemmas.{if_none}
-use Rattle.zx_peephole.proofs.SearchLemmas.{nothing_stops, stops_as_pair, stops_straight, nothing_before}
+use Rattle.zx_peephole.proofs.SearchLemmas.{unmet, nothing_stops, stops_as_pair, stops_straight, nothing_before}
 use Rattle.zx_peephole.proofs.SearchLemmas.{stops_as_triple, other_before}
 use Rattle.zx_peephole.proofs.finding.find.Goals as goal
+
+pub returns-then-meets_none-clause-none : goal.returns-then-meets_none-clause-none
+returns-then-meets_none-clause-none c =
+    unmet c.args.work.now c.requires c.index-gate.result.now c.index-gate.ensures
+    (sym c.meets_none.ensures ∙ c.if-meets_none.true)
 
 pub returns-in_err-stop-clause-none : goal.returns-in_err-stop-clause-none
 returns-in_err-stop-clause-none c =

@@ -3,6 +3,6 @@ use Rattle.std.proofs.Common.{subst, IsOk}
 use Rattle.std.proofs.lemmas.Bool.{false≢true}
 use Rattle.zx_reduce.proofs.applying.apply.Goals as goal
 
-pub returns-in_err-scalar-clause-has_room : goal.returns-in_err-scalar-clause-has_room
-returns-in_err-scalar-clause-has_room c allowed room =
-    absurd (false≢true (subst IsOk c.in_err-scalar.was (c.rewrite.ensures.has_room room)))
+pub returns-in_err-rewrite-clause-has_room : goal.returns-in_err-rewrite-clause-has_room
+returns-in_err-rewrite-clause-has_room c allowed room =
+    absurd (false≢true (subst IsOk c.in_err-rewrite.was (c.rewrite.ensures.has_room room)))

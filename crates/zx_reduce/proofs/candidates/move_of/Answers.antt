@@ -1,15 +1,29 @@
 -- Where nothing of this kind is found, nothing is of the kind at that place.
-use Rattle.std.proofs.Common.{◌≡◌, length, refl, sym, subst, IfNone}
-use Rattle.std.proofs.lemmas.Bool.{ltb-true}
-use Rattle.std.proofs.lemmas.Option.{slice_get_read}
+use Rattle.std.proofs.Common.{◌∙◌, sym, get_or, true≢false, arith}
+use Rattle.move_laws.proofs.Covering.{lives}
+use Rattle.zx_reduce.specs.declared.moves.Kind.TheVariants as kinds
 use Rattle.zx_reduce.specs.declared.moves.TheConstants.{KINDS}
-use Rattle.zx_calculus.specs.Graph.{neighbours}
-use Rattle.zx_reduce.specs.Internal.Searching.{NoneAt}
-use Rattle.zx_reduce.proofs.Guided.{none_of_place}
+use Rattle.zx_reduce.specs.Internal.Guiding.{place_kind, list_place}
+use Rattle.zx_reduce.proofs.CandidateLists.{of_some_kind, kind_stands}
+use Rattle.zx_reduce.proofs.Guided.{none_of_place, found_at}
 use Rattle.zx_reduce.proofs.candidates.move_of.Goals as goal
+
+pub returns-then-not-is_live-clause-none : goal.returns-then-not-is_live-clause-none
+returns-then-not-is_live-clause-none c k v here lone place =
+    true≢false (sym (c.is_live.ensures.value ∙ lives c.args.g.now.graph (place_kind k) c.args.u v place) ∙ c.if-not-is_live.true)
+
+pub bounds-place-place : goal.bounds-place-place
+bounds-place-place c =
+    let near = of_some_kind c.args.list c.requires in omega (arith, near, c.place_of_list-place.ensures)
+
+pub returns-clause-found : goal.returns-clause-found
+returns-clause-found c =
+    let place = c.place_of_list-place.result in
+    found_at c.args.g.now.graph (list_place c.args.list) (get_or KINDS place kinds.Delete) c.move_at.result
+    (kind_stands place (list_place c.args.list) c.place_of_list-place.ensures (of_some_kind c.args.list c.requires)) c.move_at.ensures.found
 
 pub returns-clause-none : goal.returns-clause-none
 returns-clause-none c =
-    none_of_place c.args.g.now.graph c.args.candidate.place c.args.candidate.number c.in_ok-kind.kind.now (c.args.candidate.neighbours ≡ length (neighbours c.args.g.now.graph c.args.candidate.number)) c.move_at.result
-    (slice_get_read KINDS 10 c.args.candidate.place c.in_ok-kind.kind.now refl (ltb-true c.args.candidate.place 10 (sym c.in_ok-kind.ensures.lookup.0)) c.in_ok-kind.ensures.lookup.1)
-    (subst (λ n. IfNone c.move_at.result (NoneAt c.args.g.now.graph c.in_ok-kind.kind.now n)) c.new-u.ensures c.move_at.ensures.none)
+    let place = c.place_of_list-place.result in
+    none_of_place c.args.g.now.graph (list_place c.args.list) c.args.u (get_or KINDS place kinds.Delete) c.move_at.result
+    (kind_stands place (list_place c.args.list) c.place_of_list-place.ensures (of_some_kind c.args.list c.requires)) c.move_at.ensures.none

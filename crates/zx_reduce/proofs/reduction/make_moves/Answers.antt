@@ -1,5 +1,6 @@
 -- The moves one after the other, and what they come to at the end.
 use Rattle.std.proofs.Common.{refl, arith}
+use Rattle.zx_reduce.proofs.Guided.{is_none}
 use Rattle.zx_reduce.proofs.MoveCounts.{most_moves-move}
 use Rattle.zx_reduce.proofs.MoveEnds.{stuck-reduced}
 use Rattle.zx_reduce.proofs.MovesMade.{none_made, gains_more, still_guided}
@@ -21,12 +22,12 @@ times-scalar-requires c =
 pub loop-found-smaller : goal.loop-found-smaller
 loop-found-smaller c =
     most_moves-move c.loop-found.work.graph.graph c.make.new.self.graph.graph c.in-Some.found
-    c.loop-found.invariant.made.guided.valid c.in-Some.ensures.found c.in_ok-make.ensures.gains.run
+    c.loop-found.invariant.made.guided.valid (rw c.in-Some.is at c.in_ok-found.ensures.found) c.in_ok-make.ensures.gains.run
 
 pub loop-found-preserved : goal.loop-found-preserved
 loop-found-preserved c =
-    let more = gains_more {m = c.in-Some.found} c.loop-found.invariant.made.gains c.in-Some.ensures.found c.in-Some.ensures.first
-    c.in_ok-make.ensures.gains refl in
+    let more = gains_more {m = c.in-Some.found} c.loop-found.invariant.made.gains (rw c.in-Some.is at c.in_ok-found.ensures.found)
+    (rw c.in-Some.is at c.in_ok-found.ensures.first) c.in_ok-make.ensures.gains refl in
     record {
       made = record { gains = more; guided = c.in_ok-make.ensures.guided };
       scales = one_more_scales c.loop-found.invariant.made.gains c.loop-found.invariant.scales c.in_ok-make.ensures.scalar c.times-scalar.ensures
@@ -38,12 +39,19 @@ pub returns-clause-scalar : goal.returns-clause-scalar
 returns-clause-scalar c = all_scale c.loop-found.invariant.made.gains c.requires.guided.valid c.loop-found.invariant.scales
 
 pub make-requires-clause-guided : goal.make-requires-clause-guided
-make-requires-clause-guided c = still_guided c.loop-found.invariant.made.guided c.next_move.ensures.all
+make-requires-clause-guided c = still_guided c.loop-found.invariant.made.guided c.in_ok-found.ensures.all
+
+pub make-requires-clause-applies : goal.make-requires-clause-applies
+make-requires-clause-applies c = rw c.in-Some.is at c.in_ok-found.ensures.found
+
+pub make-requires-clause-first : goal.make-requires-clause-first
+make-requires-clause-first c = rw c.in-Some.is at c.in_ok-found.ensures.first
 
 pub returns-clause-reduced : goal.returns-clause-reduced
 returns-clause-reduced c =
     stuck-reduced c.loop-found.work.graph.graph c.loop-found.invariant.made.guided.flow.flow.flow.table
-    c.loop-found.invariant.made.guided.valid c.loop-found.invariant.made.guided.flow.flow.flow.flow c.in_default.ensures.none
+    c.loop-found.invariant.made.guided.valid c.loop-found.invariant.made.guided.flow.flow.flow.flow
+    (is_none c.in_ok-found.field-0 c.in_default.not-Some c.in_ok-found.ensures.none)
 
 pub returns-clause-guided : goal.returns-clause-guided
-returns-clause-guided c = still_guided c.loop-found.invariant.made.guided c.next_move.ensures.all
+returns-clause-guided c = still_guided c.loop-found.invariant.made.guided c.in_ok-found.ensures.all

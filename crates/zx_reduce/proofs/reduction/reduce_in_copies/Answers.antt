@@ -1,33 +1,43 @@
 -- What the moves on the copies come to.
-use Rattle.std.proofs.Common.{sym, subst, length, ◌<◌}
+use Rattle.std.proofs.Common.{sym, subst, ◌∙◌, length, ◌<◌}
 use Rattle.zx_calculus.specs.Graph.{Graph}
 use Rattle.zx_calculus.specs.Reduced.{IsReduced}
 use Rattle.zx_calculus.specs.StepScalars.{most_vertices}
+use Rattle.gflow_laws.specs.Flow.{IsFlow}
 use Rattle.zx_reduce.specs.Scaling.{most_exponent}
 use Rattle.zx_reduce.specs.Internal.Scaling.{Scales}
-use Rattle.zx_reduce.proofs.MovesMade.{counted_later, from_copies}
+use Rattle.zx_reduce.proofs.MovesMade.{from_copies}
 use Rattle.zx_reduce.proofs.RoomKept.{room_same}
 use Rattle.zx_reduce.proofs.reduction.reduce_in_copies.Goals as goal
 
 pub returns-clause-reduced : goal.returns-clause-reduced
-returns-clause-reduced g c = subst IsReduced (sym c.in_ok-put_back.ensures.graph) c.in_ok-made.ensures.reduced
+returns-clause-reduced c = subst IsReduced (sym c.in_ok-put_back.ensures.graph) c.in_ok-made.ensures.reduced
 
 pub returns-clause-moves : goal.returns-clause-moves
-returns-clause-moves g c =
-    counted_later c.count.ensures
-    (from_copies c.in_ok-work.ensures.graph c.in_ok-work.ensures.trace c.in_ok-put_back.ensures.graph c.in_ok-put_back.ensures.trace
-    c.in_ok-made.ensures.moves)
+returns-clause-moves c =
+    from_copies (c.in_ok-work.ensures.graph ∙ c.in_ok-copy.ensures.ok) (c.in_ok-work.ensures.trace ∙ c.in_ok-copy-2.ensures) c.in_ok-put_back.ensures.graph c.in_ok-put_back.ensures.trace
+    c.in_ok-made.ensures.moves
 
 pub make_moves-requires-clause-few : goal.make_moves-requires-clause-few
-make_moves-requires-clause-few g c = subst (λ (h : Graph). length h.vertices < most_vertices) (sym c.in_ok-work.ensures.graph) c.requires.few
+make_moves-requires-clause-few c = subst (λ (h : Graph). length h.vertices < most_vertices) (sym (c.in_ok-work.ensures.graph ∙ c.in_ok-copy.ensures.ok)) c.requires.few
 
 pub returns-clause-scalar : goal.returns-clause-scalar
-returns-clause-scalar g c =
+returns-clause-scalar c =
     subst (λ h. Scales c.args.g.now.graph (most_exponent c.args.g.now.graph) c.in_ok-made.made.scalar h) (sym c.in_ok-put_back.ensures.graph)
-    (subst (λ h. Scales h (most_exponent h) c.in_ok-made.made.scalar c.make_moves.new.work.graph.graph) c.in_ok-work.ensures.graph c.in_ok-made.ensures.scalar)
+    (subst (λ h. Scales h (most_exponent h) c.in_ok-made.made.scalar c.make_moves.new.work.graph.graph)
+    (c.in_ok-work.ensures.graph ∙ c.in_ok-copy.ensures.ok) c.in_ok-made.ensures.scalar)
+
+pub begin-requires : goal.begin-requires
+begin-requires c = record { flow = subst (λ (h : Graph). IsFlow h c.args.f.now.flow) (sym c.in_ok-copy.ensures.ok) c.requires.flow }
+
+pub returns-in_err-copy-clause-room : goal.returns-in_err-copy-clause-room
+returns-in_err-copy-clause-room c = room_same c.args.g.now c.args.f.now c.args.trace.now
+
+pub returns-in_err-copy-2-clause-room : goal.returns-in_err-copy-2-clause-room
+returns-in_err-copy-2-clause-room c = room_same c.args.g.now c.args.f.now c.args.trace.now
 
 pub returns-in_err-work-clause-room : goal.returns-in_err-work-clause-room
-returns-in_err-work-clause-room g c = room_same c.args.g.now c.args.f.now c.args.trace.now
+returns-in_err-work-clause-room c = room_same c.args.g.now c.args.f.now c.args.trace.now
 
 pub returns-in_err-made-clause-room : goal.returns-in_err-made-clause-room
-returns-in_err-made-clause-room g c = room_same c.args.g.now c.args.f.now c.args.trace.now
+returns-in_err-made-clause-room c = room_same c.args.g.now c.args.f.now c.args.trace.now

@@ -7,7 +7,7 @@ use Rattle.zx_model.specs.declared.scalar.Scalar.{Scalar}
 use Rattle.zx_model.proofs.Scalars.{within_product}
 use Rattle.zx_gates.specs.Circuit.{Circuit, IsCircuit, gate_bound}
 use Rattle.zx_gates.specs.Elementary.{elementary_bound}
-use Rattle.zx_run.specs.Optimising.{most_optimised_root2}
+use Rattle.zx_optimise.specs.Optimising.{most_optimised_root2}
 use Rattle.zx_run.proofs.OptimiseLemmas.{IsOptimisedText-written, measured_behind}
 use Rattle.zx_run.proofs.output.optimised_text.Goals as goal
 

@@ -1,7 +1,7 @@
 -- The numbers are those of the gates.
 use Rattle.std.proofs.Common.{◌≡◌, IfOk, subst}
 use Rattle.zx_report.specs.Report.{report_lines}
-use Rattle.zx_run.specs.Optimising.{counts_of}
+use Rattle.zx_optimise.specs.Optimising.{counts_of}
 use Rattle.zx_run.proofs.CountsLemmas.{same_counts}
 use Rattle.zx_run.proofs.reporting.report_lines.Goals as goal
 

@@ -14,7 +14,7 @@ returns c = λ text accepted.
     let from = c.in_ok-lowered.lowered in
     let lowered = c.in_ok-lowered.ensures in
     let found = c.in_ok-teleported.teleported in
-    let made = c.in_ok-teleported.ensures in
+    let made = c.in_ok-teleported.ensures.teleported in
     let circuit = found.gates in
     IfOk-weaker c.write_text.result _ _
     (λ output h. IsTeleportedText-written text output.items c.args.read.now from circuit accepted lowered.qubits lowered.list lowered.map lowered.odd

@@ -4,7 +4,7 @@ use Rattle.zx_model.specs.Proportional.{Proportional}
 use Rattle.zx_model.proofs.ProportionalLemmas.{proportional_refl}
 use Rattle.zx_calculus.proofs.Ids.{or-right}
 use Rattle.zx_gates.specs.Maps.{amp}
-use Rattle.zx_same.proofs.Comparisons.{same_seen, left_odd, left_few}
+use Rattle.zx_same.proofs.Comparisons.{same_seen, same_undone, left_odd, left_few}
 use Rattle.zx_same.proofs.Deciding.{decided, no_odd_only_ends, none_odd}
 use Rattle.zx_same.proofs.comparing.compare.Goals as goal
 
@@ -13,6 +13,11 @@ returns-then-are_equal-clause-same_map c =
     let a = c.args.a.now in
     subst (λ gates. Proportional a.qubits a.qubits (amp a.gates) (amp gates)) (sym c.gates.ensures.value ∙ c.are_equal.ensures.0 c.if-are_equal.true ∙ c.gates-2.ensures.value)
     (proportional_refl a.qubits a.qubits (amp a.gates))
+
+pub returns-then-bare-clause-same_map : goal.returns-then-bare-clause-same_map
+returns-then-bare-clause-same_map c =
+    same_undone c.args.a.now c.args.b.now c.in_ok-both.both c.requires.qubits c.gates-2.ensures.valid c.in_ok-both.ensures
+    (c.in_ok-bare.ensures c.if-bare.true)
 
 pub returns-then-is_identity-clause-same_map : goal.returns-then-is_identity-clause-same_map
 returns-then-is_identity-clause-same_map c =

@@ -19,27 +19,24 @@ loop-step-init c = record {
   turn = subst (λ (t : Scalar). t.turn < turn) (sym c.one-scalar.ensures) (omega arith);
 }
 
-pub scalar-requires : goal.scalar-requires
-scalar-requires c = next_allowed c.loop-step.graph.graph c.args.steps.now c.loop-step.step-index c.step-item.result c.loop-step-test.true c.step-item.is c.loop-step.invariant.may
-
 pub times-scalar-requires : goal.times-scalar-requires
 times-scalar-requires c =
-    next_fits c.loop-step.step-index (length c.args.steps.now) c.loop-step.scalar c.scalar.result c.requires.few c.loop-step-test.true c.loop-step.invariant.scales.small
-    (subst (IsWithin 2) (sym c.scalar.ensures) (step_within c.loop-step.graph.graph (step_named c.step-item.result)))
+    next_fits c.loop-step.step-index (length c.args.steps.now) c.loop-step.scalar c.in_ok-do_in.field-0 c.requires.few c.loop-step-test.true c.loop-step.invariant.scales.small
+    (subst (IsWithin 2) (sym c.in_ok-do_in.ensures.scalar) (step_within c.loop-step.graph.graph (step_named c.step-item.result)))
 
-pub rewrite-requires : goal.rewrite-requires
-rewrite-requires c = next_allowed c.loop-step.graph.graph c.args.steps.now c.loop-step.step-index c.step-item.result c.loop-step-test.true c.step-item.is c.loop-step.invariant.may
+pub do_in-requires : goal.do_in-requires
+do_in-requires c = next_allowed c.loop-step.graph.graph c.args.steps.now c.loop-step.step-index c.step-item.result c.loop-step-test.true c.step-item.is c.loop-step.invariant.may
 
 pub loop-step-preserved : goal.loop-step-preserved
 loop-step-preserved c = record {
   may = next_may_run c.loop-step.graph.graph c.args.steps.now c.loop-step.step-index c.step-item.result c.loop-step-test.true c.step-item.is c.loop-step.invariant.may
-      c.rewrite.new.graph.graph c.in_ok-rewrite.ensures;
+      c.do_in.new.g.graph c.in_ok-do_in.ensures.step;
   left = λ h run. next_left c.loop-step.graph.graph c.args.steps.now c.loop-step.step-index c.step-item.result c.loop-step-test.true c.step-item.is c.loop-step.invariant.may
-      c.rewrite.new.graph.graph c.in_ok-rewrite.ensures h (c.loop-step.invariant.left h run);
+      c.do_in.new.g.graph c.in_ok-do_in.ensures.step h (c.loop-step.invariant.left h run);
   scales = scales_next c.loop-step.step-index c.loop-step.invariant.scales
-      (scales_step c.loop-step.graph.graph (step_named c.step-item.result) c.rewrite.new.graph.graph c.scalar.result c.loop-step.invariant.may.formed c.in_ok-rewrite.ensures c.scalar.ensures)
+      (scales_step c.loop-step.graph.graph (step_named c.step-item.result) c.do_in.new.g.graph c.in_ok-do_in.field-0 c.loop-step.invariant.may.formed c.in_ok-do_in.ensures.step c.in_ok-do_in.ensures.scalar)
       c.times-scalar.ensures;
-  turn = subst (λ (t : Scalar). t.turn < turn) (sym c.times-scalar.ensures) (low_sum c.loop-step.scalar.turn c.scalar.result.turn);
+  turn = subst (λ (t : Scalar). t.turn < turn) (sym c.times-scalar.ensures) (low_sum c.loop-step.scalar.turn c.in_ok-do_in.field-0.turn);
 }
   where
     low_sum : (j k : _) → sum_of_phases j k < turn

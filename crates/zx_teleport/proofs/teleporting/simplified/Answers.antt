@@ -1,9 +1,18 @@
--- Few moves are few steps.
-use Rattle.std.proofs.Common.{ap, length}
-use Rattle.zx_teleport.proofs.Scaling.{few_steps}
+-- What is said of the copy is said of the graph.
+use Rattle.std.proofs.Common.{◌<◌, IfOk, sym, subst, length}
+use Rattle.zx_calculus.specs.Graph.{Graph}
+use Rattle.zx_calculus.specs.StepScalars.{most_vertices}
+use Rattle.gflow_laws.specs.Flow.{IsFlow}
+use Rattle.zx_reduce.specs.Reducing.{Reduces}
 use Rattle.zx_teleport.proofs.teleporting.simplified.Goals as goal
 
-pub returns-clause-few_steps : goal.returns-clause-few_steps
-returns-clause-few_steps g c =
-    few_steps c.args.graph.now.graph c.in_ok-reduced.reduced.graph (length c.new-trace.result.steps) (length c.reduce.new.trace.steps) c.new-steps.result c.reduce.new.steps
-    c.in_ok-reduced.ensures.ok c.copy.ensures.valid (ap length c.new-trace.ensures) c.in_ok-scalar.ensures.few_moves c.in_ok-scalar.ensures.few_steps
+pub reduce_owned-requires-clause-flow : goal.reduce_owned-requires-clause-flow
+reduce_owned-requires-clause-flow c = subst (λ (g : Graph). IsFlow g c.args.flow.flow) (sym c.in_ok-copy.ensures.ok) c.requires.flow
+
+pub reduce_owned-requires-clause-few : goal.reduce_owned-requires-clause-few
+reduce_owned-requires-clause-few c = subst (λ (g : Graph). length g.vertices < most_vertices) (sym c.in_ok-copy.ensures.ok) c.requires.few
+
+pub returns : goal.returns
+returns c =
+    subst (λ (h : Graph). IfOk c.reduce_owned.result (λ made. Reduces h made.graph.graph made.flow.flow made.trace.steps made.scalar))
+    c.in_ok-copy.ensures.ok c.reduce_owned.ensures

@@ -1,65 +1,44 @@
--- The laws of teleported phases.
-use Rattle.std.proofs.Common.{refl, sym, subst, length, map, List}
+-- The scalar of the steps from the first graph over that of the steps from the new one.
+use Rattle.std.proofs.Common.{refl, sym, subst, length}
 use Rattle.zx_model.specs.Scalar.{IsScaled, IsWithin, quotient_of_scalars}
 use Rattle.zx_gates.specs.Maps.{amp}
+use Rattle.circuit_graph.specs.Translation.{translated}
 use Rattle.zx_teleport.specs.Scalars.{most_teleported_root2}
-use Rattle.zx_teleport.proofs.Results.{skeleton, map_kept, few_odd, fewer_odd, may_run, scalar_kept}
+use Rattle.zx_teleport.proofs.Results.{put_seen, may_run, scalar_kept}
 use Rattle.zx_teleport.proofs.Scaling.{few_done, quotient_small, quotient_fits}
-use Rattle.zx_calculus.specs.Graph.{Graph}
-use Rattle.zx_reduce.specs.Steps.{step_named}
-use Rattle.zx_reduce.specs.declared.step.Step.{Step}
-use Rattle.zx_teleport.specs.Together.{IsPutTogether}
 use Rattle.zx_teleport.proofs.teleporting.teleport.Goals as goal
-
-pub returns-clause-skeleton : goal.returns-clause-skeleton
-returns-clause-skeleton c =
-    skeleton c.args.read.now c.in_ok-graph.graph.graph c.in_ok-reduced.trace.steps c.as_slice-steps.result.now c.in_ok-reduced.reduced.graph c.in_ok-gates.gates.gates
-    c.in_ok-graph.ensures.graph c.as_slice-steps.ensures c.in_ok-reduced.ensures.run c.in_ok-gates.ensures.gates
-
-pub returns-clause-map : goal.returns-clause-map
-returns-clause-map c =
-    map_kept c.args.read.now c.in_ok-graph.graph.graph c.in_ok-reduced.trace.steps c.as_slice-steps.result.now c.in_ok-reduced.reduced.graph c.in_ok-gates.gates.gates
-    c.in_ok-graph.ensures.graph c.as_slice-steps.ensures c.in_ok-reduced.ensures.run c.in_ok-gates.ensures.gates c.in_ok-gates.ensures.circuit
-
-pub returns-clause-odd : goal.returns-clause-odd
-returns-clause-odd c =
-    few_odd c.args.read.now c.in_ok-graph.graph.graph c.in_ok-reduced.trace.steps c.as_slice-steps.result.now c.in_ok-reduced.reduced.graph c.in_ok-gates.gates.gates
-    c.in_ok-graph.ensures.graph c.as_slice-steps.ensures c.in_ok-reduced.ensures.run c.in_ok-gates.ensures.gates c.in_ok-gates.ensures.circuit
-
-pub returns-clause-fewer : goal.returns-clause-fewer
-returns-clause-fewer c =
-    fewer_odd c.args.read.now c.in_ok-graph.graph.graph c.in_ok-reduced.trace.steps c.as_slice-steps.result.now c.in_ok-reduced.reduced.graph c.in_ok-gates.gates.gates
-    c.in_ok-graph.ensures.graph c.as_slice-steps.ensures c.in_ok-reduced.ensures.run c.in_ok-gates.ensures.gates c.in_ok-gates.ensures.circuit
 
 pub scalar_of-requires-clause-run : goal.scalar_of-requires-clause-run
 scalar_of-requires-clause-run c =
-    may_run c.args.read.now c.in_ok-graph.graph.graph c.in_ok-reduced.trace.steps c.as_slice-steps.result.now c.in_ok-reduced.reduced.graph c.in_ok-gates.gates.gates
-    c.in_ok-graph.ensures.graph c.as_slice-steps.ensures c.in_ok-reduced.ensures.run c.in_ok-gates.ensures.gates c.in_ok-gates.ensures.circuit c.in_ok-gates.gates c.in_ok-gates.ensures.qubits refl
+    let found = c.in_ok-found.found in
+    let is = c.in_ok-found.ensures.teleported in
+    let put = put_seen c.args.read.now found.trace.steps c.as_slice.result.now found.reduced.graph found.gates.gates c.as_slice.ensures is.gates in
+    may_run c.args.read.now (translated c.args.read.now) found.trace.steps c.as_slice.result.now found.reduced.graph found.gates.gates
+    refl c.as_slice.ensures is.run put c.in_ok-found.ensures.circuit found.gates is.qubits refl
 
 pub scalar_of-requires-clause-few : goal.scalar_of-requires-clause-few
 scalar_of-requires-clause-few c =
-    few_done (length c.in_ok-graph.graph.graph.vertices) c.in_ok-reduced.trace.steps c.as_slice-steps.result.now c.in_ok-check_size.ensures.fits c.as_slice-steps.ensures c.in_ok-reduced.ensures.few_steps
-
-pub over-requires : goal.over-requires
-over-requires c =
-    quotient_fits (quotient_of_scalars c.in_ok-reduced.before c.in_ok-after.after)
-    (quotient_small (length c.in_ok-graph.graph.graph.vertices) c.in_ok-reduced.trace.steps c.as_slice-steps.result.now c.in_ok-reduced.before c.in_ok-after.after
-    c.in_ok-check_size.ensures.fits c.as_slice-steps.ensures c.in_ok-reduced.ensures.few_steps c.in_ok-reduced.ensures.small c.in_ok-after.ensures.small)
-
-pub returns-clause-scalar : goal.returns-clause-scalar
-returns-clause-scalar c =
-    subst (λ s. IsScaled c.args.read.now.qubits c.args.read.now.qubits (amp c.args.read.now.gates) s (amp c.in_ok-gates.gates.gates)) (sym c.over.ensures)
-    (scalar_kept c.args.read.now c.in_ok-graph.graph.graph c.in_ok-reduced.trace.steps c.as_slice-steps.result.now c.in_ok-reduced.reduced.graph c.in_ok-gates.gates.gates
-    c.in_ok-graph.ensures.graph c.as_slice-steps.ensures c.in_ok-reduced.ensures.run c.in_ok-gates.ensures.gates c.in_ok-gates.ensures.circuit c.in_ok-gates.gates c.in_ok-gates.ensures.qubits refl
-    c.in_ok-reduced.before c.in_ok-after.after c.in_ok-after.ensures.turn c.in_ok-reduced.ensures.scalar c.in_ok-after.ensures.scalar)
+    few_done (length (translated c.args.read.now).vertices) c.in_ok-found.found.trace.steps c.as_slice.result.now c.in_ok-found.ensures.few c.as_slice.ensures
+    c.in_ok-found.ensures.few_steps
 
 pub returns-clause-small : goal.returns-clause-small
 returns-clause-small c =
     subst (IsWithin most_teleported_root2) (sym c.over.ensures)
-    (quotient_small (length c.in_ok-graph.graph.graph.vertices) c.in_ok-reduced.trace.steps c.as_slice-steps.result.now c.in_ok-reduced.before c.in_ok-after.after
-    c.in_ok-check_size.ensures.fits c.as_slice-steps.ensures c.in_ok-reduced.ensures.few_steps c.in_ok-reduced.ensures.small c.in_ok-after.ensures.small)
+    (quotient_small (length (translated c.args.read.now).vertices) c.in_ok-found.found.trace.steps c.as_slice.result.now c.in_ok-found.found.before c.in_ok-after.after
+    c.in_ok-found.ensures.few c.as_slice.ensures c.in_ok-found.ensures.few_steps c.in_ok-found.ensures.small c.in_ok-after.ensures.small)
 
-pub returns-clause-gates : goal.returns-clause-gates
-returns-clause-gates c =
-    subst (λ (steps : List Step). IsPutTogether c.args.read.now (map step_named steps) c.in_ok-reduced.reduced.graph c.in_ok-gates.gates.gates) c.as_slice-steps.ensures
-    (c.in_ok-gates.ensures.gates c.in_ok-reduced.reduced.graph)
+pub over-requires : goal.over-requires
+over-requires c =
+    quotient_fits (quotient_of_scalars c.in_ok-found.found.before c.in_ok-after.after)
+    (quotient_small (length (translated c.args.read.now).vertices) c.in_ok-found.found.trace.steps c.as_slice.result.now c.in_ok-found.found.before c.in_ok-after.after
+    c.in_ok-found.ensures.few c.as_slice.ensures c.in_ok-found.ensures.few_steps c.in_ok-found.ensures.small c.in_ok-after.ensures.small)
+
+pub returns-clause-scalar : goal.returns-clause-scalar
+returns-clause-scalar c =
+    let found = c.in_ok-found.found in
+    let is = c.in_ok-found.ensures.teleported in
+    let put = put_seen c.args.read.now found.trace.steps c.as_slice.result.now found.reduced.graph found.gates.gates c.as_slice.ensures is.gates in
+    subst (λ s. IsScaled c.args.read.now.qubits c.args.read.now.qubits (amp c.args.read.now.gates) s (amp found.gates.gates)) (sym c.over.ensures)
+    (scalar_kept c.args.read.now (translated c.args.read.now) found.trace.steps c.as_slice.result.now found.reduced.graph found.gates.gates
+    refl c.as_slice.ensures is.run put c.in_ok-found.ensures.circuit found.gates is.qubits refl
+    found.before c.in_ok-after.after c.in_ok-after.ensures.turn c.in_ok-found.ensures.before c.in_ok-after.ensures.scalar)

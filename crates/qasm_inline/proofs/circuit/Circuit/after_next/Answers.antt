@@ -12,12 +12,13 @@ returns-in-Ok c = λ program is. record {
   represents = c.in-Ok.ensures.after is.scope is.represents;
   remembers = (c.in-Ok.ensures.measures is.scope is.represents).remembers is.remembers;
   leads = leads-next program is.scope _ _ _ (placed c.args.statement.now) _ _ _ is.leads
-      (c.in-Ok.ensures.ok is.scope is.represents is.remembers) (c.in-Ok.ensures.events is.scope is.represents)
+      (c.in-Ok.ensures.ok is.scope is.represents is.remembers is.knows) (c.in-Ok.ensures.events is.scope is.represents is.knows)
       (c.in-Ok.ensures.measures is.scope is.represents).same;
+  knows = c.in-Ok.ensures.knows is.scope is.represents is.knows;
 }
 
 pub returns-in-Err-Wrong : goal.returns-in-Err-Wrong
 returns-in-Err-Wrong c = λ program is.
     let wrong : c.read_statement.result ≡ Err (Wrong c.in-Err-Wrong.cause) = search rules in
     leads-wrong program is.scope _ _ _ (placed c.args.statement.now) c.in-Err-Wrong.cause is.leads
-    (c.read_statement.ensures.err c.in-Err-Wrong.cause is.scope wrong is.represents is.remembers)
+    (c.read_statement.ensures.err c.in-Err-Wrong.cause is.scope wrong is.represents is.remembers is.knows)

@@ -1,31 +1,22 @@
-use Rattle.std.proofs.Common.{◌≡◌, [], Err, map, ap, sym, ◌∙◌}
-use Rattle.std.proofs.lemmas.Result.{err_from_is_err_and, on_ok_weaker}
-use Rattle.qasm_names.specs.declared.statement_error.StatementError.TheVariants.{Wrong}
-use Rattle.qasm_scope.specs.Calls.{after_angles}
-use Rattle.qasm_scope.specs.Meaning.{most_calls}
-use Rattle.qasm_inline.specs.Internal.KeptCalls.{expand_called, values_of}
-use Rattle.qasm_inline.specs.Internal.Spans.{span_range, cut_instance}
-use Rattle.qasm_inline.proofs.Unrolling.{Continues-counted, wrong-counted, instance-called}
+-- A copy, or the calls one by one.
+use Rattle.std.proofs.Common.{[], subst}
+use Rattle.std.proofs.lemmas.Result.{on_ok_weaker}
+use Rattle.qasm_inline.specs.Internal.KeptCalls.{ComesTo, StopsAt}
+use Rattle.qasm_inline.specs.Internal.Spans.{instance_events}
 use Rattle.qasm_inline.proofs.unroll.Unrolled.instance.Goals as goal
 
-pub returns-in_err-count-clause-err : goal.returns-in_err-count-clause-err
-returns-in_err-count-clause-err c = λ cause e numbered unrolls.
-    let p = err_from_is_err_and c.from_residual.result c.from_residual.ensures.1 in
-    let same : c.count.result ≡ Err (Wrong cause) = c.in_err-count.was ∙ ap Err (sym p.2) ∙ sym p.1 ∙ e in
-    c.count.ensures.err cause (after_angles (values_of c.args.angles.now []) (λ values. expand_called numbered c.args.called 1 values (cut_instance (map span_range c.args.spans.now) c.args.index))) same
+pub returns-then-branch-clause-ok : goal.returns-then-branch-clause-ok
+returns-then-branch-clause-ok c = λ numbered count unrolls known.
+    c.in_ok-copy_instance.ensures.copied c.if-branch.true numbered c.args.gates.now count unrolls known
 
 pub returns-clause-ok : goal.returns-clause-ok
-returns-clause-ok c = on_ok_weaker c.unroll.result
-    (λ h numbered unrolls.
-    Continues-counted most_calls _ _ _ _ _ _ _ _ _ _
-    (instance-called numbered c.args.called c.args.angles.now c.clear-2.new.self.items c.push_values.new.angles.items c.clear-3.new.self.items
-    (cut_instance (map span_range c.args.spans.now) c.args.index) c.push_instance.new.qubits.items c.clear-2.ensures.items c.clear-3.ensures.items c.in_ok-push_values.ensures.ok c.in_ok-push_instance.ensures)
-    c.in_ok-count.ensures.ok c.in_ok-count.ensures.calls (ap (λ u. u.gates) c.count.ensures.others) (h numbered unrolls))
-    c.unroll.ensures.ok
+returns-clause-ok c = on_ok_weaker c.unroll_instance.result
+    (λ h numbered count unrolls known.
+    subst (λ u. ComesTo u (instance_events c.args.called c.args.angles.now c.args.spans.now c.args.index numbered) c.unroll_instance.new.self [])
+    (c.in_ok-copy_instance.ensures.left c.if-branch.false) (h numbered unrolls))
+    c.unroll_instance.ensures.ok
 
 pub returns-clause-err : goal.returns-clause-err
-returns-clause-err c = λ cause e numbered unrolls.
-    wrong-counted most_calls _ _ _ _ _ cause
-    (instance-called numbered c.args.called c.args.angles.now c.clear-2.new.self.items c.push_values.new.angles.items c.clear-3.new.self.items
-    (cut_instance (map span_range c.args.spans.now) c.args.index) c.push_instance.new.qubits.items c.clear-2.ensures.items c.clear-3.ensures.items c.in_ok-push_values.ensures.ok c.in_ok-push_instance.ensures)
-    c.in_ok-count.ensures.ok (c.unroll.ensures.err cause e numbered unrolls)
+returns-clause-err c = λ cause e.
+    subst (λ u. StopsAt c.args.gates.now u (instance_events c.args.called c.args.angles.now c.args.spans.now c.args.index) cause)
+    (c.in_ok-copy_instance.ensures.left c.if-branch.false) (c.unroll_instance.ensures.err cause e)

@@ -1,25 +1,51 @@
--- The first candidate has a move, or goes.
-use Rattle.std.proofs.Common.{length}
-use Rattle.std.specs.BTreeSet.{contains}
-use Rattle.zx_reduce.specs.Internal.Guiding.{candidate_cmp}
-use Rattle.zx_reduce.proofs.Guided.{first_kind, first_gone, none_stuck, smaller}
+-- A vertex of the first list has a move, or goes on to a later list.
+use Rattle.std.proofs.Common.{arith}
+use Rattle.zx_calculus.specs.Moves.{IsStuck}
+use Rattle.zx_reduce.specs.Internal.Guiding.{list_place}
+use Rattle.zx_reduce.proofs.Guided.{turned, all_first, all_apply, found_one, none_stuck, candidates_kept, same_keep}
 use Rattle.zx_reduce.proofs.candidates.Candidates.next_move.Goals as goal
 
-pub returns-in-Some-move_of-clause-first : goal.returns-in-Some-move_of-clause-first
-returns-in-Some-move_of-clause-first c =
-    first_kind c.args.g.now.graph c.loop-candidate.self c.in-Some.candidate c.loop-candidate.invariant c.in-Some.ensures.least
-    c.in-Some-move_of.found c.in-Some-move_of.ensures.found
+pub move_of-found-requires : goal.move_of-found-requires
+move_of-found-requires c = c.in-Some.ensures.taken.within
 
-pub loop-candidate-preserved : goal.loop-candidate-preserved
-loop-candidate-preserved c =
-    first_gone c.args.g.now.graph c.loop-candidate.self c.in-Some.candidate c.loop-candidate.invariant c.in-Some.ensures.least
-    (record { set = c.remove.new.self }) c.remove.ensures.updates c.in_default-move_of.ensures.none
+pub list_after-next-requires : goal.list_after-next-requires
+list_after-next-requires c = c.in-Some.ensures.taken.within
+
+pub loop-taken-preserved : goal.loop-taken-preserved
+loop-taken-preserved c =
+    let taken = c.in-Some.ensures.taken in
+    turned c.args.g.now.graph c.loop-taken.self c.in-Some.taken.0 c.loop-taken.invariant taken.least c.in-Some.taken.1 c.list_after-next.result
+    c.move_of-found.result c.take_first.new.self c.put.new.self taken.stood taken.others c.in_ok-put.ensures.others c.in_ok-put.ensures.stands
+    c.in_ok-put.ensures.listing c.move_of-found.ensures.none c.list_after-next.ensures.found c.list_after-next.ensures.none
+
+pub loop-taken-smaller : goal.loop-taken-smaller
+loop-taken-smaller c = omega (arith, c.in-Some.ensures.taken.lighter, c.in-Some.ensures.taken.within, c.in_ok-put.ensures.heavier)
+
+pub returns-then-next-list-clause-all : goal.returns-then-next-list-clause-all
+returns-then-next-list-clause-all c =
+    let taken = c.in-Some.ensures.taken in
+    turned c.args.g.now.graph c.loop-taken.self c.in-Some.taken.0 c.loop-taken.invariant taken.least c.in-Some.taken.1 c.list_after-next.result
+    c.move_of-found.result c.take_first.new.self c.put.new.self taken.stood taken.others c.in_ok-put.ensures.others c.in_ok-put.ensures.stands
+    c.in_ok-put.ensures.listing c.move_of-found.ensures.none c.list_after-next.ensures.found c.list_after-next.ensures.none
+
+pub returns-then-next-list-clause-found : goal.returns-then-next-list-clause-found
+returns-then-next-list-clause-found c =
+    all_apply c.args.g.now.graph (list_place c.in-Some.taken.0) c.move_of-found.result c.move_of-found.ensures.found
+
+pub returns-then-next-list-clause-first : goal.returns-then-next-list-clause-first
+returns-then-next-list-clause-first c =
+    all_first c.args.g.now.graph c.loop-taken.self c.in-Some.taken.0 c.loop-taken.invariant c.in-Some.ensures.taken.least
+    c.move_of-found.result c.move_of-found.ensures.found
+
+pub returns-then-next-list-clause-none : goal.returns-then-next-list-clause-none
+returns-then-next-list-clause-none c =
+    found_one (IsStuck c.args.g.now.graph) c.in-Some.taken.0 c.list_after-next.result c.move_of-found.result c.if-next-list.true
+    c.list_after-next.ensures.later
 
 pub returns-clause-none : goal.returns-clause-none
-returns-clause-none c = none_stuck c.args.g.now.graph c.loop-candidate.self c.loop-candidate.invariant c.in_default.ensures.none
+returns-clause-none c = none_stuck c.args.g.now.graph c.loop-taken.self c.loop-taken.invariant c.in_default.ensures.none
 
-pub loop-candidate-smaller : goal.loop-candidate-smaller
-loop-candidate-smaller c =
-    smaller (length c.remove.new.self.keys) (length c.loop-candidate.self.set.keys)
-    (contains candidate_cmp c.loop-candidate.self.set c.in-Some.candidate) c.remove.result c.in-Some.ensures.there
-    c.remove.ensures.test c.remove.ensures.len
+pub returns-clause-all : goal.returns-clause-all
+returns-clause-all c =
+    candidates_kept c.args.g.now.graph c.loop-taken.self c.take_first.new.self c.loop-taken.invariant c.take_first.ensures.listing
+    (same_keep c.args.g.now.graph c.loop-taken.self c.take_first.new.self c.in_default.ensures.same)

@@ -64,7 +64,7 @@ returns-clause-guided c = record {
   valid = c.loop-step.invariant.guided.valid;
   flow = c.loop-step.invariant.guided.flow;
   candidates = candidates_all c.loop-step.touched.items c.loop-step.self.graph.graph c.loop-step.self.candidates c.touch_all.new.self
-      c.loop-step.invariant.guided.candidates c.in_ok-touch_all.ensures.keeps
+      c.loop-step.invariant.guided.candidates c.in_ok-touch_all.ensures.listing c.in_ok-touch_all.ensures.keeps
       (λ w there. c.in_ok-touch_all.ensures.listed w
       (ap (member w) c.deref.ensures.value ∙ c.without_repetition.ensures w there));
 }

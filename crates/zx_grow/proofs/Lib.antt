@@ -1,0 +1,3 @@
+pub mod Growths
+pub mod Scalars
+pub mod Finished

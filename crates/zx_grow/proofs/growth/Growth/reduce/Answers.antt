@@ -1,0 +1,1 @@
+-- The moves at the end change the scalar as they do.

@@ -1,0 +1,78 @@
+//! Blocks of spiders, in the order in which these come.
+
+use open_graph::VertexId;
+use std::alloc::{AllocError, Global};
+use zx_gates::Qubit;
+use zx_reduce::{LEVELS, level_between};
+
+// A block has so many spiders for each qubit.
+const OF_QUBIT: usize = 14;
+
+// A block has at least so many spiders.
+const LEAST_BLOCK: usize = 64;
+
+// How far the present block is, and in which block each vertex came. Blocks are parted in pairs, pairs of
+// pairs and so on: a vertex between two blocks has the level of the least such group that has both.
+#[derive(Drop)]
+pub(crate) struct Blocks {
+    // By number of the vertex.
+    born: Vec<usize>,
+    size: usize,
+    left: usize,
+    number: usize,
+}
+
+impl Blocks {
+    // Before the first spider of so many qubits.
+    pub(crate) fn begin(alloc: Global, qubits: Qubit) -> Blocks {
+        let size = usize::from(qubits)
+            .saturating_mul(OF_QUBIT)
+            .max(LEAST_BLOCK);
+        Blocks {
+            born: Vec::new(alloc),
+            size,
+            left: size,
+            number: 0,
+        }
+    }
+
+    // Writes down that a vertex comes in the present block.
+    pub(crate) fn bear(&mut self, v: VertexId) -> Result<(), AllocError> {
+        for _ in self.born.len()..=v.get() {
+            self.born.push(0)?;
+        }
+        if let Some(born) = self.born.get_mut(v.get()) {
+            *born = self.number;
+        }
+        Ok(())
+    }
+
+    // A vertex is as old as another from now on.
+    pub(crate) fn inherit(&mut self, v: VertexId, other: VertexId) {
+        let Some(number) = self.born.get(other.get()).copied() else {
+            return;
+        };
+        if let Some(born) = self.born.get_mut(v.get()) {
+            *born = number;
+        }
+    }
+
+    // The level of a vertex behind which the present block is.
+    pub(crate) fn level_of(&self, v: VertexId) -> u8 {
+        match self.born.get(v.get()) {
+            Some(born) => level_between(*born, self.number),
+            None => 0,
+        }
+    }
+
+    // Counts a spider, and answers up to which level groups of blocks end with it, where a block does.
+    pub(crate) fn count(&mut self) -> Option<usize> {
+        self.left = self.left.saturating_sub(1);
+        if self.left > 0 {
+            return None;
+        }
+        self.left = self.size;
+        self.number = self.number.saturating_add(1);
+        Some((self.number.trailing_zeros() as usize).min(LEVELS - 1))
+    }
+}

@@ -1,0 +1,247 @@
+-- Candidates for the best circuit, one after the other.
+use Rattle.std.proofs.Common.{◌≡◌, ◌≤◌, ◌<◌, ◌⊎◌, inl, inr, ℕ, ◌+◌, Bool, true, cond, eqb, nat_lt, List, length, Result, Ok, Err, IfOk, le_refl, le_trans, refl, sym, ap, subst, arith, ◌∙◌}
+use Rattle.std.proofs.Math.Nat.{eq-or-lt_of_le}
+use Rattle.std.proofs.lemmas.Bool.{eqb-true, ltb-true}
+use Rattle.zx_model.specs.Number.{Number}
+use Rattle.zx_model.specs.Scalar.{IsScaled, IsWithin, product_of_scalars}
+use Rattle.zx_model.specs.declared.scalar.Scalar.{Scalar}
+use Rattle.zx_model.proofs.Scalars.{scaled_proportional, scaled_trans, within_more, within_product}
+use Rattle.zx_gates.specs.declared.tally.Counts.{Counts}
+use Rattle.zx_gates.specs.Circuit.{Circuit, gate_odd_phases, gate_bound as list_bound}
+use Rattle.zx_gates.specs.Maps.{amp}
+use Rattle.zx_calculus.proofs.Ids.{by_test}
+use Rattle.piece_laws.specs.Replacement.{IsReplacement}
+use Rattle.zx_peephole.specs.Tidy.{IsTidy}
+use Rattle.zx_pieces.specs.Scaling.{most_root2_of_passes}
+use Rattle.zx_teleport.specs.Scalars.{most_teleported_root2}
+use Rattle.zx_optimise.specs.declared.optimiser.Candidate.{Candidate}
+use Rattle.zx_optimise.specs.Optimising.{bound_of, counts_of, most_optimised_root2, IsCleaned, IsMapTimes, IsBest, IsNoDearerThanRead, IsNoDearerThanTeleported, IsPlain, Teleports}
+use Rattle.zx_optimise.specs.Internal.Candidates.{is_dearer, most_whole_root2, IsCandidate, IsCheaper, IsNoDearerThan, IsTakenOver, IsTeleportedCleanup, Offers}
+
+-- ---- what costs less
+-- of three numbers each, of which the first decide
+abbrev NoDearer : (a b c x y z : ℕ) → Type 0
+NoDearer a b c x y z = (a < x) ⊎ ((a ≡ x) × ((b < y) ⊎ ((b ≡ y) × (c ≤ z))))
+
+no_dearer_by-trans : (a b c x y z u v w : ℕ) → NoDearer a b c x y z → NoDearer x y z u v w → NoDearer a b c u v w
+no_dearer_by-trans a b c x y z u v w (inl less) (inl more) = inl (omega arith)
+no_dearer_by-trans a b c x y z u v w (inl less) (inr same) = inl (let e : x ≡ u = same.0 in omega arith)
+no_dearer_by-trans a b c x y z u v w (inr same) (inl more) = inl (let e : a ≡ x = same.0 in omega arith)
+no_dearer_by-trans a b c x y z u v w (inr (e, inl less)) (inr (f, inl more)) = inr (e ∙ f, inl (omega arith))
+no_dearer_by-trans a b c x y z u v w (inr (e, inl less)) (inr (f, inr same)) = inr (e ∙ f, inl (let g : y ≡ v = same.0 in omega arith))
+no_dearer_by-trans a b c x y z u v w (inr (e, inr same)) (inr (f, inl more)) = inr (e ∙ f, inl (let g : b ≡ y = same.0 in omega arith))
+no_dearer_by-trans a b c x y z u v w (inr (e, inr same)) (inr (f, inr again)) =
+    inr (e ∙ f, inr (same.0 ∙ again.0, (let p : c ≤ z = same.1 in let q : z ≤ w = again.1 in omega arith)))
+
+pub no_dearer-trans : (a b c : Circuit) → IsNoDearerThan a b → IsNoDearerThan b c → IsNoDearerThan a c
+no_dearer-trans a b c =
+    let p = counts_of a.gates in
+    let q = counts_of b.gates in
+    let r = counts_of c.gates in
+    no_dearer_by-trans p.odd p.two_qubit p.total q.odd q.two_qubit q.total r.odd r.two_qubit r.total
+
+no_dearer_by-parts : (a b c x y z : ℕ) → a ≤ x → b ≤ y → c ≤ z → NoDearer a b c x y z
+no_dearer_by-parts a b c x y z odd two total =
+    elim (eq-or-lt_of_le odd) [
+      | inr less ↦ inl less
+      | inl same ↦ inr (same, elim (eq-or-lt_of_le two) [ inr less ↦ inl less | inl alike ↦ inr (alike, total) ])
+    ]
+
+-- of which the last is less, where the others are equal
+abbrev Cheaper : (a b c x y z : ℕ) → Type 0
+Cheaper a b c x y z = (a < x) ⊎ ((a ≡ x) × ((b < y) ⊎ ((b ≡ y) × (c < z))))
+
+cheaper-no_dearer : (a b c x y z : ℕ) → Cheaper a b c x y z → NoDearer a b c x y z
+cheaper-no_dearer a b c x y z (inl less) = inl less
+cheaper-no_dearer a b c x y z (inr (e, inl less)) = inr (e, inl less)
+cheaper-no_dearer a b c x y z (inr (e, inr (f, less))) = inr (e, inr (f, omega arith))
+
+cheaper_by-trans : (a b c x y z u v w : ℕ) → Cheaper a b c x y z → Cheaper x y z u v w → Cheaper a b c u v w
+cheaper_by-trans a b c x y z u v w (inl less) (inl more) = inl (omega arith)
+cheaper_by-trans a b c x y z u v w (inl less) (inr (f, more)) = inl (omega arith)
+cheaper_by-trans a b c x y z u v w (inr (e, less)) (inl more) = inl (omega arith)
+cheaper_by-trans a b c x y z u v w (inr (e, inl less)) (inr (f, inl more)) = inr (e ∙ f, inl (omega arith))
+cheaper_by-trans a b c x y z u v w (inr (e, inl less)) (inr (f, inr (g, more))) = inr (e ∙ f, inl (omega arith))
+cheaper_by-trans a b c x y z u v w (inr (e, inr (g, less))) (inr (f, inl more)) = inr (e ∙ f, inl (omega arith))
+cheaper_by-trans a b c x y z u v w (inr (e, inr (g, less))) (inr (f, inr (h, more))) = inr (e ∙ f, inr (g ∙ h, omega arith))
+
+-- nothing is cheaper than what is no dearer
+cheaper-dearer : (a b c x y z : ℕ) → Cheaper a b c x y z → NoDearer x y z a b c → ⊥
+cheaper-dearer a b c x y z (inl less) (inl more) = absurd (omega arith)
+cheaper-dearer a b c x y z (inl less) (inr (f, more)) = absurd (omega arith)
+cheaper-dearer a b c x y z (inr (e, less)) (inl more) = absurd (omega arith)
+cheaper-dearer a b c x y z (inr (e, inl less)) (inr (f, inl more)) = absurd (omega arith)
+cheaper-dearer a b c x y z (inr (e, inl less)) (inr (f, inr (g, more))) = absurd (omega arith)
+cheaper-dearer a b c x y z (inr (e, inr (g, less))) (inr (f, inl more)) = absurd (omega arith)
+cheaper-dearer a b c x y z (inr (e, inr (g, less))) (inr (f, inr (h, more))) = absurd (omega arith)
+
+-- what is dearer than another has no fewer odd phases
+pub dearer-odd : (a b : Counts) → is_dearer a b ≡ true → b.odd ≤ a.odd
+dearer-odd a b h =
+    by_test (eqb a.odd b.odd) (λ t. let e : a.odd ≡ b.odd = eqb-true a.odd b.odd t in omega (arith, e))
+    (λ f.
+    let less : nat_lt b.odd a.odd ≡ true = subst (λ t. cond t (cond (eqb a.two_qubit b.two_qubit) (nat_lt b.total a.total) (nat_lt b.two_qubit a.two_qubit)) (nat_lt b.odd a.odd) ≡ true) f h in
+    let below : b.odd < a.odd = ltb-true b.odd a.odd less in omega (arith, below))
+
+-- a cleanup is no dearer
+cleanup_cheap : (read made : Circuit) → IsCleaned read made → IsNoDearerThan made read
+cleanup_cheap read made clean =
+    let p = counts_of made.gates in
+    let q = counts_of read.gates in
+    no_dearer_by-parts p.odd p.two_qubit p.total q.odd q.two_qubit q.total clean.odd clean.two_qubit clean.total
+
+-- ---- what is taken in the place of another
+pub taken-trans : (first second third : Candidate) → IsTakenOver first second → IsTakenOver second third → IsTakenOver first third
+taken-trans first second third (inl same) (inl again) = inl (again ∙ same)
+taken-trans first second third (inl same) (inr less) =
+    inr (subst (λ (best : Candidate). IsCheaper (counts_of third.gates.gates) (counts_of best.gates.gates)) same less)
+taken-trans first second third (inr less) (inl same) =
+    inr (subst (λ (made : Candidate). IsCheaper (counts_of made.gates.gates) (counts_of first.gates.gates)) (sym same) less)
+taken-trans first second third (inr less) (inr more) =
+    let p = counts_of third.gates.gates in
+    let q = counts_of second.gates.gates in
+    let r = counts_of first.gates.gates in
+    inr (cheaper_by-trans p.odd p.two_qubit p.total q.odd q.two_qubit q.total r.odd r.two_qubit r.total more less)
+
+pub taken_cheap : (best made : Candidate) → IsTakenOver best made → IsNoDearerThan made.gates best.gates
+taken_cheap best made (inl same) = subst (λ (b : Candidate). IsNoDearerThan made.gates b.gates) same (inr (refl, inr (refl, le_refl _)))
+taken_cheap best made (inr less) =
+    let p = counts_of made.gates.gates in
+    let q = counts_of best.gates.gates in
+    cheaper-no_dearer p.odd p.two_qubit p.total q.odd q.two_qubit q.total less
+
+taken_at_tie : (best made : Candidate) → IsTakenOver best made → IsNoDearerThan best.gates made.gates → made.gates ≡ best.gates
+taken_at_tie best made (inl same) cheap = ap (λ (c : Candidate). c.gates) same
+taken_at_tie best made (inr less) cheap =
+    let p = counts_of made.gates.gates in
+    let q = counts_of best.gates.gates in
+    absurd (cheaper-dearer p.odd p.two_qubit p.total q.odd q.two_qubit q.total less cheap)
+
+pub best_of_all : {E : Type 0} (read : Circuit) (plain : Candidate) (found : Result Candidate E) → IsPlain read plain.gates
+    → IfOk found (IsTakenOver plain) → IfOk found (λ made. IsNoDearerThanRead read made.gates)
+    → IfOk found (λ made. IsNoDearerThanTeleported read made.gates) → IfOk found (λ made. IsBest read made.gates)
+best_of_all read plain (Err error) is taken than_read than_teleported = tt
+best_of_all read plain (Ok made) is taken than_read than_teleported = record {
+  than_plain = record {
+    plain = plain.gates;
+    is_plain = is;
+    no_dearer = taken_cheap plain made taken;
+    at_tie = taken_at_tie plain made taken;
+  };
+  than_read = than_read;
+  than_teleported = than_teleported;
+}
+
+-- ---- candidates
+-- a circuit by way of another, which is on as many qubits
+pub scaled_by_way : (n m : ℕ) (f g h : List Bool → List Bool → Number) (s t made : Scalar) → m ≡ n → IsScaled n n f s g → IsScaled m m g t h →
+    made ≡ product_of_scalars s t → IsScaled n n f made h
+scaled_by_way n m f g h s t made same first second is =
+    subst (λ u. IsScaled n n f u h) (sym is) (scaled_trans n n f g h s t first (subst (λ k. IsScaled k k g t h) same second))
+
+pub candidate-offered : (k : ℕ) (read : Circuit) (made : Candidate) → Offers k read made → IsCandidate k read made
+candidate-offered k read made o = record { qubits = o.optimises.qubits; odd = o.optimises.odd; tidy = o.optimises.tidy; scalar = o.scalar; small = o.small }
+
+pub candidate-whole : (read : Circuit) (made : Candidate) → IsCandidate most_whole_root2 read made → IsCandidate most_optimised_root2 read made
+candidate-whole read made is = record {
+  qubits = is.qubits;
+  odd = is.odd;
+  tidy = is.tidy;
+  scalar = is.scalar;
+  small = within_more most_whole_root2 most_optimised_root2 made.scalar is.small (omega arith);
+}
+
+pub offers-whole : (read : Circuit) (made : Candidate) → Offers most_whole_root2 read made → Offers most_optimised_root2 read made
+offers-whole read made o = record {
+  optimises = o.optimises;
+  scalar = o.scalar;
+  small = within_more most_whole_root2 most_optimised_root2 made.scalar o.small (omega arith);
+}
+
+-- a candidate that is taken: it is within the bound, and has no more odd phases than the one in whose place it comes
+pub offers-candidate : (k : ℕ) (read : Circuit) (best made : Candidate) → Offers k read best → IsCandidate k read made →
+    length made.gates.gates ≤ bound_of read → gate_odd_phases made.gates.gates ≤ gate_odd_phases best.gates.gates → Offers k read made
+offers-candidate k read best made o is few fewer = record {
+  optimises = record {
+    qubits = is.qubits;
+    map = scaled_proportional read.qubits read.qubits (amp read.gates) (amp made.gates.gates) made.scalar is.scalar;
+    odd = is.odd;
+    tidy = is.tidy;
+    few_gates = few;
+    reduced = record {
+      steps = o.optimises.reduced.steps;
+      end = o.optimises.reduced.end;
+      run = o.optimises.reduced.run;
+      reduced = o.optimises.reduced.reduced;
+      odd = le_trans fewer o.optimises.reduced.odd;
+    };
+  };
+  scalar = is.scalar;
+  small = is.small;
+}
+
+-- pieces of a candidate are replaced, and what is left is tidied
+pub candidate-shrunk : (read : Circuit) (made shrunk : Candidate) (s : Scalar) → IsCandidate most_whole_root2 read made →
+    shrunk.gates.qubits ≡ made.gates.qubits → IsReplacement made.gates.qubits made.gates.gates shrunk.gates.gates →
+    IsScaled made.gates.qubits made.gates.qubits (amp made.gates.gates) s (amp shrunk.gates.gates) →
+    IsWithin most_root2_of_passes s → IsTidy shrunk.gates.gates → shrunk.scalar ≡ product_of_scalars made.scalar s → IsCandidate most_optimised_root2 read shrunk
+candidate-shrunk read made shrunk s is qubits replaced scaled few tidy product = record {
+  qubits = qubits ∙ is.qubits;
+  odd = le_trans replaced.odd is.odd;
+  tidy = tidy;
+  scalar = scaled_by_way read.qubits made.gates.qubits (amp read.gates) (amp made.gates.gates) (amp shrunk.gates.gates) made.scalar s shrunk.scalar is.qubits is.scalar scaled product;
+  small = subst (IsWithin most_optimised_root2) (sym product)
+      (within_more (most_whole_root2 + most_root2_of_passes) most_optimised_root2 (product_of_scalars made.scalar s)
+      (within_product most_whole_root2 most_root2_of_passes made.scalar s is.small few) (omega arith));
+}
+
+-- ---- what is cleaned up
+pub candidate-cleaned : (read : Circuit) (made : Candidate) → IsCleaned read made.gates → IsMapTimes read made.scalar made.gates →
+    IsWithin list_bound made.scalar → IsCandidate most_whole_root2 read made
+candidate-cleaned read made clean scaled few = record {
+  qubits = clean.qubits;
+  odd = clean.odd;
+  tidy = clean.tidy;
+  scalar = scaled;
+  small = within_more list_bound most_whole_root2 made.scalar few (omega arith);
+}
+
+pub candidate-teleported : (read : Circuit) (teleported : Circuit) (made : Candidate) (s t : Scalar) → Teleports read teleported → IsCleaned teleported made.gates →
+    IsMapTimes read s teleported → IsWithin most_teleported_root2 s → IsMapTimes teleported t made.gates → IsWithin list_bound t →
+    made.scalar ≡ product_of_scalars s t → IsCandidate most_whole_root2 read made
+candidate-teleported read teleported made s t teleports clean first few second fewer product = record {
+  qubits = clean.qubits ∙ teleports.qubits;
+  odd = le_trans clean.odd teleports.odd;
+  tidy = clean.tidy;
+  scalar = scaled_by_way read.qubits teleported.qubits (amp read.gates) (amp teleported.gates) (amp made.gates.gates) s t made.scalar teleports.qubits first second product;
+  small = subst (IsWithin most_whole_root2) (sym product)
+      (within_more (most_teleported_root2 + list_bound) most_whole_root2 (product_of_scalars s t)
+      (within_product most_teleported_root2 list_bound s t few fewer) (omega arith));
+}
+
+-- ---- what is no dearer than some circuit is so than all that this was
+pub than_read : (read made : Circuit) (cleaned : Circuit) → IsCleaned read cleaned → (length cleaned.gates ≤ bound_of read → IsNoDearerThan made cleaned)
+    → IsNoDearerThanRead read made
+than_read read made cleaned clean cheap = record {
+  cleaned = cleaned;
+  cleanup = clean;
+  no_dearer = cheap;
+  no_dearer_than_read = λ within. no_dearer-trans made cleaned read (cheap (le_trans clean.total within)) (cleanup_cheap read cleaned clean);
+}
+
+pub than_read-trans : (read made best : Circuit) → IsNoDearerThan made best → IsNoDearerThanRead read best → IsNoDearerThanRead read made
+than_read-trans read made best cheap is = record {
+  cleaned = is.cleaned;
+  cleanup = is.cleanup;
+  no_dearer = λ within. no_dearer-trans made best is.cleaned cheap (is.no_dearer within);
+  no_dearer_than_read = λ within. no_dearer-trans made best read cheap (is.no_dearer_than_read within);
+}
+
+pub than_teleported : (read made candidate : Circuit) → (t : IsTeleportedCleanup read candidate)
+    → (length candidate.gates ≤ bound_of read → IsNoDearerThan made candidate) → IsNoDearerThanTeleported read made
+than_teleported read made candidate t cheap = record {
+  teleported = t.teleported;
+  teleports = t.teleports;
+  no_dearer = λ within.
+      no_dearer-trans made candidate t.teleported (cheap (le_trans t.cleanup.total within)) (cleanup_cheap t.teleported candidate t.cleanup);
+}

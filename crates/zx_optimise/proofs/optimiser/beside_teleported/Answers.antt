@@ -1,0 +1,18 @@
+-- Both circuits may be taken.
+use Rattle.zx_optimise.proofs.CandidateLemmas.{candidate-whole, no_dearer-trans, taken_cheap, than_teleported}
+use Rattle.zx_optimise.proofs.optimiser.beside_teleported.Goals as goal
+
+pub cheaper-requires-clause-candidate : goal.cheaper-requires-clause-candidate
+cheaper-requires-clause-candidate c = candidate-whole c.args.read.now c.in_ok-teleported.teleported c.in_ok-teleported.ensures.candidate
+
+pub cheaper-requires-2-clause-candidate : goal.cheaper-requires-2-clause-candidate
+cheaper-requires-2-clause-candidate c = c.in_ok-shrunk.ensures c.args.read.now c.in_ok-teleported.ensures.candidate
+
+pub returns-clause-than_teleported : goal.returns-clause-than_teleported
+returns-clause-than_teleported c =
+    let made = c.cheaper-2.result in
+    let between = c.cheaper.result in
+    let teleported = c.in_ok-teleported.teleported in
+    than_teleported c.args.read.now made.gates teleported.gates c.in_ok-teleported.ensures.cleanup
+    (λ within. no_dearer-trans made.gates between.gates teleported.gates
+    (taken_cheap between made c.cheaper-2.ensures.than_best) (c.cheaper.ensures.than_candidate within))

@@ -1,0 +1,223 @@
+//! Circuits through the graph and back.
+
+ghost use Rattle.std.specs.Prelude.{◌≡◌, ◌≤◌, true, false, length, nat_le, IfOk};
+ghost use Rattle.zx_model.specs.Proportional.{Proportional};
+ghost use Rattle.zx_model.specs.Scalar.{IsWithin};
+ghost use Rattle.zx_gates.specs.Circuit.{Circuit, gate_odd_phases};
+ghost use Rattle.zx_gates.specs.Maps.{amp};
+ghost use Rattle.zx_peephole.specs.Tidy.{IsTidy};
+ghost use Rattle.circuit_graph.specs.Translation.{translated};
+ghost use Rattle.zx_extract.specs.Simplified.{gate_bound, IsThroughReduced};
+ghost use Rattle.zx_optimise.specs.Optimising.{bound_of, most_optimised_root2, IsBest, IsCleaned, IsMapTimes, IsNoDearerThanRead, IsNoDearerThanTeleported, IsPlain};
+ghost use Rattle.zx_optimise.specs.Internal.Candidates.{is_dearer, most_whole_root2, IsCandidate, IsNoDearerThan, IsTakenOver, IsTeleportedCleanup, Offers};
+
+use std::alloc::{AllocError, Global};
+use zx_gates::{Counts, GateList, Qubit, counts};
+use zx_model::Scalar;
+use zx_peephole::tidy;
+use zx_pieces::shrink;
+use zx_simplify::simplify_circuit;
+use zx_teleport::teleport;
+
+/// The optimised circuit, and the scalar that the read one's linear map is times its own: it has no more odd
+/// phases, and few gates for these and its qubits.
+///
+/// Without `best` it is the plain one, which simplification of the graph, extraction and cleanup make. With `best` there
+/// are further candidates, of which those are taken into account that have few enough gates: the read circuit after
+/// cleanup; the one whose phases alone are changed, after cleanup; and two that have pieces of this one and of the plain
+/// one replaced by smaller circuits. The candidate with the fewest odd phases is taken, then that with the fewest gates
+/// on two qubits, then the shortest, and the plain one where it is as cheap.
+///
+/// # Errors
+///
+/// Only where memory runs out.
+pub fn optimise(
+    alloc: Global,
+    read: &GateList,
+    best: bool,
+) -> Result<(GateList, Scalar), AllocError>
+    ensures qubits { IfOk result (λ made. made.0.qubits ≡ read.now.qubits) }
+    ensures map { IfOk result (λ made. Proportional read.now.qubits read.now.qubits
+        (amp read.now.gates) (amp made.0.gates)) }
+    ensures scalar { IfOk result (λ made. IsMapTimes read.now made.1 made.0) }
+    ensures small { IfOk result (λ made. IsWithin most_optimised_root2 made.1) }
+    ensures odd { IfOk result (λ made. gate_odd_phases made.0.gates ≤ gate_odd_phases
+        read.now.gates) }
+    ensures tidy { IfOk result (λ made. IsTidy made.0.gates) }
+    ensures few_gates { IfOk result (λ made. length made.0.gates ≤ bound_of read.now) }
+    ensures reduced { IfOk result (λ made. IsThroughReduced (translated read.now) made.0) }
+    ensures plain { best ≡ false → IfOk result (λ made. IsPlain read.now made.0) }
+    ensures best { best ≡ true → IfOk result (λ made. IsBest read.now made.0) }
+{
+    let made = optimised(alloc, read, best)?;
+    Ok((made.gates, made.scalar))
+}
+
+// A circuit that may be written, and the scalar that the read one's map is times its own.
+#[derive(Drop)]
+struct Candidate {
+    gates: GateList,
+    scalar: Scalar,
+}
+
+fn optimised(alloc: Global, read: &GateList, best: bool) -> Result<Candidate, AllocError>
+    ensures offers { IfOk result (Offers most_optimised_root2 read.now) }
+    ensures plain { best ≡ false → IfOk result (λ made. IsPlain read.now made.gates) }
+    ensures best { best ≡ true → IfOk result (λ made. IsBest read.now made.gates) }
+{
+    let plain = plain(alloc, read)?;
+    if best {
+        best_of(alloc, read, plain)
+    } else {
+        Ok(plain)
+    }
+}
+
+// The circuit of the reduced graph, after cleanup.
+fn plain(alloc: Global, read: &GateList) -> Result<Candidate, AllocError>
+    ensures offers { IfOk result (Offers most_whole_root2 read.now) }
+    ensures plain { IfOk result (λ made. IsPlain read.now made.gates) }
+{
+    let made = simplify_circuit(alloc, read)?;
+    Ok(Candidate {
+        gates: made.gates,
+        scalar: made.scalar,
+    })
+}
+
+// The best of all candidates: the plain one, or one that is cheaper.
+fn best_of(alloc: Global, read: &GateList, plain: Candidate) -> Result<Candidate, AllocError>
+    requires { Offers most_whole_root2 read.now plain }
+    ensures offers { IfOk result (Offers most_optimised_root2 read.now) }
+    ensures than_plain { IfOk result (IsTakenOver plain) }
+    ensures than_read { IfOk result (λ made. IsNoDearerThanRead read.now made.gates) }
+    ensures than_teleported { IfOk result (λ made. IsNoDearerThanTeleported read.now made.gates) }
+{
+    let best = beside_shrunk(alloc, read, plain)?;
+    let best = beside_read(read, best)?;
+    let best = beside_teleported(alloc, read, best)?;
+    Ok(best)
+}
+
+// The cheaper one of the plain circuit and the one with pieces of it replaced, which are looked for where it has less
+// than three quarters of the read one's gates on two qubits alone: else the teleported one is a better start.
+fn beside_shrunk(alloc: Global, read: &GateList, plain: Candidate) -> Result<Candidate, AllocError>
+    requires { Offers most_whole_root2 read.now plain }
+    ensures offers { IfOk result (Offers most_optimised_root2 read.now) }
+    ensures than_plain { IfOk result (IsTakenOver plain) }
+{
+    if !is_worth_shrinking(&plain.gates, read) {
+        return Ok(plain);
+    }
+    let shrunk = shrunk(alloc, &plain)?;
+    Ok(cheaper(read, plain, shrunk))
+}
+
+// Whether a circuit has less than three quarters of another one's gates on two qubits.
+fn is_worth_shrinking(this: &GateList, that: &GateList) -> bool {
+    counts(this).two_qubit / 3 < counts(that).two_qubit / 4
+}
+
+// The candidate with pieces of it replaced by smaller circuits.
+fn shrunk(alloc: Global, candidate: &Candidate) -> Result<Candidate, AllocError>
+    requires { IsWithin most_whole_root2 candidate.now.scalar }
+    ensures { (read : Circuit) → IsCandidate most_whole_root2 read candidate.now →
+        IfOk result (IsCandidate most_optimised_root2 read) }
+{
+    let (gates, scalar) = shrink(alloc, &candidate.gates)?;
+    Ok(Candidate {
+        gates,
+        scalar: candidate.scalar.times(scalar),
+    })
+}
+
+// The cheaper one of a circuit and the read one after cleanup.
+fn beside_read(read: &GateList, best: Candidate) -> Result<Candidate, AllocError>
+    requires { Offers most_optimised_root2 read.now best }
+    ensures offers { IfOk result (Offers most_optimised_root2 read.now) }
+    ensures than_best { IfOk result (IsTakenOver best) }
+    ensures than_read { IfOk result (λ made. IsNoDearerThanRead read.now made.gates) }
+{
+    let cleaned = cleaned(read)?;
+    Ok(cheaper(read, best, cleaned))
+}
+
+// The cheapest one of a circuit, the one whose phases alone are changed, and what pieces of that are replaced by.
+fn beside_teleported(
+    alloc: Global,
+    read: &GateList,
+    best: Candidate,
+) -> Result<Candidate, AllocError>
+    requires { Offers most_optimised_root2 read.now best }
+    ensures offers { IfOk result (Offers most_optimised_root2 read.now) }
+    ensures than_best { IfOk result (IsTakenOver best) }
+    ensures than_teleported { IfOk result (λ made. IsNoDearerThanTeleported read.now made.gates) }
+{
+    let teleported = teleported(alloc, read)?;
+    let shrunk = shrunk(alloc, &teleported)?;
+    Ok(cheaper(read, cheaper(read, best, teleported), shrunk))
+}
+
+// The circuit whose phases alone are changed, after cleanup.
+fn teleported(alloc: Global, read: &GateList) -> Result<Candidate, AllocError>
+    ensures cleanup { IfOk result (λ made. IsTeleportedCleanup read.now made.gates) }
+    ensures candidate { IfOk result (IsCandidate most_whole_root2 read.now) }
+{
+    let found = teleport(alloc, read)?;
+    let mut gates = found.gates;
+    let scalar = found.scalar.times(tidy(&mut gates));
+    Ok(Candidate { gates, scalar })
+}
+
+// A candidate, or another one where that is within the bound and cheaper.
+fn cheaper(read: &GateList, best: Candidate, candidate: Candidate) -> Candidate
+    requires best { Offers most_optimised_root2 read.now best }
+    requires candidate { IsCandidate most_optimised_root2 read.now candidate }
+    ensures offers { Offers most_optimised_root2 read.now result }
+    ensures than_best { IsTakenOver best result }
+    ensures than_candidate { length candidate.gates.gates ≤ bound_of read.now →
+        IsNoDearerThan result.gates candidate.gates }
+{
+    let count = counts(&candidate.gates);
+    if !is_within_bound(read.qubits(), counts(read).odd, count.total) {
+        return best;
+    }
+    if is_dearer(counts(&best.gates), count) {
+        candidate
+    } else {
+        best
+    }
+}
+
+// Whether so many gates are within the bound for what is written, for a read circuit of so many qubits
+// and odd phases.
+fn is_within_bound(qubits: Qubit, odd: u64, gates: u64) -> bool
+    ensures { result ≡ nat_le gates (gate_bound qubits odd) }
+{
+    let n = u128::from(qubits);
+    u128::from(gates) <= 4 * n * n + 6 * n + 3 * n * u128::from(odd)
+}
+
+// Whether one circuit has more odd phases than another, or as many and more gates on two qubits, or as
+// many of both and more gates.
+fn is_dearer(this: Counts, that: Counts) -> bool
+    ensures { result ≡ is_dearer this that }
+{
+    if this.odd != that.odd {
+        return this.odd > that.odd;
+    }
+    if this.two_qubit != that.two_qubit {
+        return this.two_qubit > that.two_qubit;
+    }
+    this.total > that.total
+}
+
+// The read circuit after cleanup.
+fn cleaned(read: &GateList) -> Result<Candidate, AllocError>
+    ensures cleaned { IfOk result (λ made. IsCleaned read.now made.gates) }
+    ensures candidate { IfOk result (IsCandidate most_whole_root2 read.now) }
+{
+    let mut gates = read.copy()?;
+    let scalar = tidy(&mut gates);
+    Ok(Candidate { gates, scalar })
+}

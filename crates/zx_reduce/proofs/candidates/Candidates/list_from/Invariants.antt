@@ -1,0 +1,9 @@
+-- No move of the kinds so far begins at the vertex.
+use Rattle.std.proofs.Common.{◌≤◌, ◌<◌, ℕ}
+use Rattle.move_laws.specs.Candidates.{IsPlaceOf}
+use Rattle.zx_reduce.specs.declared.moves.Kind.{Kind}
+use Rattle.zx_reduce.specs.Internal.Guiding.{place_kind, place_of}
+use Rattle.zx_reduce.proofs.candidates.Candidates.list_from.Given as goal
+
+abbrev pub invariant-loop-place : goal.invariant-loop-place
+invariant-loop-place l = (k : Kind) (v : ℕ) → l.fn.start ≤ place_of k → place_of k < l.place → ¬ IsPlaceOf l.g.graph (place_kind k) l.u v

@@ -1,0 +1,51 @@
+-- The gate that the toggled edge is.
+use Rattle.std.proofs.Common.{◌≡◌, subst, sym}
+use Rattle.std.proofs.lemmas.Result.{on_ok_weaker}
+use Rattle.zx_calculus.specs.Graph.{ids, Live, WellFormed}
+use Rattle.zx_calculus.specs.Splits.{least_free}
+use Rattle.zx_calculus.proofs.LeastFree.{least_free-fresh}
+use Rattle.zx_gates.specs.declared.gate.Gate.TheVariants.{Cz}
+use Rattle.circuit_laws.specs.Peeling.{HasPlainOutput}
+use Rattle.circuit_graph.proofs.Calls.{here_live, wires_apart, toggle_peel}
+use Rattle.circuit_graph.proofs.Graphs.{toggle_is}
+use Rattle.growing_laws.specs.Growing.{placed}
+use Rattle.zx_reduce.specs.Ordering.{Ordered, IsOrdered}
+use Rattle.zx_reduce.proofs.GatesOrdered.{ordered_edge}
+use Rattle.zx_reduce.proofs.ordered.Ordered.toggle.Goals as goal
+
+pub toggle_edge-requires-clause-u_live : goal.toggle_edge-requires-clause-u_live
+toggle_edge-requires-clause-u_live c =
+    subst (λ (o : Ordered). Live o.graph c.present-first.result) (sym c.self.view_is)
+    (here_live c.args.self.now.graph c.args.p c.present-first.result c.present-first.ensures.valid c.present-first.ensures.value)
+
+pub toggle_edge-requires-clause-v_live : goal.toggle_edge-requires-clause-v_live
+toggle_edge-requires-clause-v_live c =
+    subst (λ (o : Ordered). Live o.graph c.present-second.result) (sym c.self.view_is)
+    (here_live c.args.self.now.graph c.args.q c.present-second.result c.present-second.ensures.valid c.present-second.ensures.value)
+
+pub toggle_edge-requires-clause-different : goal.toggle_edge-requires-clause-different
+toggle_edge-requires-clause-different c =
+    wires_apart c.args.self.now.graph c.args.p c.args.q c.present-first.result c.present-second.result c.present-first.ensures.valid c.present-first.ensures.value c.present-second.ensures.value c.requires.apart
+
+pub returns-clause-gate : goal.returns-clause-gate
+returns-clause-gate c =
+    let g = c.self.inside.graph.graph in
+    let back = sym c.self.view_is in
+    on_ok_weaker c.toggle_edge.result (λ toggled.
+    subst (λ (o : Ordered). c.toggle_edge.new.self.graph ≡ placed 0 o.graph (Cz c.args.p c.args.q)) c.self.view_is
+    (toggle_is g c.args.p c.args.q c.toggle_edge.new.self.graph c.toggle_edge.ensures.valid
+    (toggle_peel g c.args.p c.args.q c.present-first.result c.present-second.result c.toggle_edge.new.self.graph
+    (subst (λ (o : Ordered). WellFormed o.graph) back c.present-first.ensures.valid)
+    (subst (λ (o : Ordered). HasPlainOutput o.graph c.args.p c.present-first.result) back c.present-first.ensures.value)
+    (subst (λ (o : Ordered). HasPlainOutput o.graph c.args.q c.present-second.result) back c.present-second.ensures.value) c.requires.apart toggled)))
+    c.toggle_edge.ensures.ok
+
+pub returns-clause-ordered : goal.returns-clause-ordered
+returns-clause-ordered c =
+    let vs = ids c.args.self.now.graph.vertices in
+    on_ok_weaker c.toggle_edge.result (λ gate.
+    subst (λ (o : Ordered). IsOrdered c.args.self.now → IsOrdered (record { graph = c.toggle_edge.new.self.graph; ranks = o.ranks; low = o.low; high = o.high }))
+    (sym c.self.view_is)
+    (ordered_edge (least_free vs) c.args.self.now c.toggle_edge.new.self.graph c.requires.plain
+    (least_free-fresh vs c.present-first.ensures.valid.vertices_rising) c.args.p c.args.q (c.requires.p_on_qubits, c.requires.q_on_qubits, c.requires.apart) gate))
+    (returns-clause-gate c)

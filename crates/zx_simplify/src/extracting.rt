@@ -1,0 +1,48 @@
+//! Extraction and cleanup in a row.
+
+ghost use Rattle.std.specs.Prelude.{◌≡◌, ◌≤◌, length, IfOk};
+ghost use Rattle.zx_calculus.specs.Graph.{WellFormed};
+ghost use Rattle.zx_calculus.specs.Reduced.{IsReduced};
+ghost use Rattle.gflow_laws.specs.Flow.{IsFlow};
+ghost use Rattle.zx_gates.specs.Circuit.{most_qubits};
+ghost use Rattle.zx_simplify.specs.Internal.Extracting.{Extracts};
+
+use open_graph::OpenGraph;
+use std::alloc::{AllocError, Global};
+use zx_extract::extract;
+use zx_flow::Flow;
+use zx_gates::GateList;
+use zx_model::Scalar;
+use zx_peephole::tidy;
+use zx_reduce::check_size;
+
+/// A circuit, and by which scalar what it was made from is its linear map.
+#[derive(Drop)]
+pub struct ScaledCircuit {
+    /// The circuit.
+    pub gates: GateList,
+    /// What it was made from is so many times the circuit's map.
+    pub scalar: Scalar,
+}
+
+// The tidied circuit of a reduced graph, whose sum is so many times its map.
+pub(crate) fn extract_tidy(
+    alloc: Global,
+    reduced: OpenGraph,
+    flow: Flow,
+) -> Result<ScaledCircuit, AllocError>
+    requires flow { IsFlow reduced.graph flow.flow }
+    requires reduced { IsReduced reduced.graph }
+    requires well_formed { WellFormed reduced.graph }
+    requires ends { length reduced.graph.inputs ≡ length reduced.graph.outputs }
+    requires few { length reduced.graph.outputs ≤ most_qubits }
+    ensures { IfOk result (λ made. Extracts reduced.graph made.gates made.scalar) }
+{
+    check_size(&reduced)?;
+    let (mut gates, between) = extract(alloc, reduced, flow)?;
+    let after = tidy(&mut gates);
+    Ok(ScaledCircuit {
+        gates,
+        scalar: between.times(after),
+    })
+}
