@@ -18,9 +18,8 @@ use Rattle.zx_gates.proofs.MapLemmas.{amp-acts}
 use Rattle.zx_gates.proofs.Scaling.{root_of_two_power-twice}
 use Rattle.circuit_laws.specs.Followed.{EndsAt}
 use Rattle.circuit_laws.proofs.Composing.{peels_at_end, ends_at_sum}
-use Rattle.circuit_graph.specs.Translation.{wires, written_out, scalar_of}
+use Rattle.circuit_graph.specs.Translation.{wires, written_out, written_count, scalar_of, map_scalar, IsTranslation}
 use Rattle.circuit_graph.specs.Internal.Runs.{State, begun, IsReady, IsRun, Comes, Translates}
-use Rattle.circuit_graph.specs.Internal.Scalars.{map_scalar, written_count}
 use Rattle.circuit_graph.proofs.RunLemmas.{run_comes}
 use Rattle.circuit_graph.proofs.WrittenOut.{spiders-written, odd-written, map-written, scalar_of-nonzero, scalar_of-power}
 use Rattle.circuit_graph.proofs.Beginning.{odd-wires, begun_ends}
@@ -81,3 +80,21 @@ translated_scaled c t e =
 
     exponents : up (neg_ℤ (pos (2 * count))) + 2 * count ≡ 0 + down (neg_ℤ (pos (2 * count)))
     exponents = omega (arith, ints)
+
+-- all that is promised
+pub is_translation : (c : Circuit) (t : State) → Translates c t → IsTranslation c t.graph t.table
+is_translation c t e = record {
+  graph = e.graph;
+  well_formed = e.well_formed;
+  flow = e.flow;
+  table = e.table;
+  scaled = translated_scaled c t e;
+  spiders = e.spiders;
+  ids = e.ids;
+  planes = λ v live. e.planes v;
+  odd = e.odd;
+  inputs = e.inputs;
+  outputs = e.outputs;
+  plain_inputs = e.plain_inputs;
+  plain_outputs = e.plain_outputs;
+}

@@ -17,8 +17,7 @@ use Rattle.zx_gates.proofs.MapLemmas.{acts-append}
 use Rattle.zx_gates.proofs.Multiples.{act-factor}
 use Rattle.circuit_laws.specs.Followed.{IsMultiple}
 use Rattle.circuit_laws.proofs.ByHadamards.{cx_by_three, not_by_three}
-use Rattle.circuit_graph.specs.Translation.{by_hadamards, written_out, gate_scalar, scalar_of}
-use Rattle.circuit_graph.specs.Internal.Scalars.{written_count}
+use Rattle.circuit_graph.specs.Translation.{by_hadamards, written_out, written_count, gate_scalar, scalar_of}
 
 pub count-cons : (p : Gate → Bool) (gate : Gate) (gates : List Gate) →
     count_by p (gate ∷ gates) ≡ count_by p (gate ∷ []) + count_by p gates

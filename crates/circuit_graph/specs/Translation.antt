@@ -1,23 +1,30 @@
 -- The open graph of a circuit: each wire is a path of spiders, which its Hadamard gates join.
 -- Duncan, Kissinger, Perdrix and van de Wetering, "Graph-theoretic simplification of quantum circuits with the
 -- ZX-calculus" (Quantum 4, 279, 2020), on graph-like diagrams.
-use Rattle.std.specs.Prelude.{ℕ, ◌+◌, ◌*◌, List, [], ◌∷◌, ◌++◌, length, map, get_or, slice_set, Option, Some, None}
+use Rattle.std.specs.Prelude.{◌≡◌, ◌<◌, ◌≤◌, true, ℕ, ◌+◌, ◌*◌, pos, neg_ℤ, List, [], ◌∷◌, ◌++◌}
+use Rattle.std.specs.Prelude.{length, map, get_or, slice_set, Option, Some, None}
 use Rattle.std.specs.List.{count_by, flat_map, fold, range_with_len}
 use Rattle.zx_model.specs.Bits.{xor}
 use Rattle.zx_model.specs.Phase.{half_turn}
 use Rattle.zx_model.specs.Number.{Number, one, mul}
 use Rattle.zx_model.specs.Constants.{two}
-use Rattle.zx_calculus.specs.Graph.{Graph, joined, end_vertices, with_kinds}
+use Rattle.zx_model.specs.Scalar.{IsScaled}
+use Rattle.zx_model.specs.declared.scalar.Scalar.{Scalar}
+use Rattle.zx_calculus.specs.Counts.{odd_phases}
+use Rattle.zx_calculus.specs.Graph.{XY, Graph, Live, WellFormed, joined, end_vertices, plane_of, with_kinds}
+use Rattle.zx_calculus.specs.Sum.{sum}
 use Rattle.zx_calculus.specs.Splits.{spider_of_phase_zero, split_vertices, split_edges}
 use Rattle.zx_calculus.specs.Edits.{is_pair}
 use Rattle.zx_calculus.specs.Gadgets.{fuse_kind}
 use Rattle.zx_calculus.specs.Adjacency.{adjacent_graph}
 use Rattle.zx_calculus.specs.Worked.{plain}
-use Rattle.gflow_laws.specs.Flow.{Correction}
-use Rattle.zx_gates.specs.Circuit.{Circuit}
+use Rattle.gflow_laws.specs.Flow.{Correction, IsFlow, SameSets}
+use Rattle.zx_gates.specs.Circuit.{Circuit, gate_odd_phases}
 use Rattle.zx_gates.specs.Counting.{is_h, is_cx, is_not}
+use Rattle.zx_gates.specs.Maps.{amp}
 use Rattle.zx_gates.specs.declared.gate.Gate.{Gate}
 use Rattle.zx_gates.specs.declared.gate.Gate.TheVariants.{H, Phase, Cz, Cx, Not}
+use Rattle.circuit_laws.specs.Peeling.{are_plain}
 
 -- Cx as H, Cz and H, and Not as H, a half turn and H
 abbrev pub by_hadamards : Gate → List Gate
@@ -43,6 +50,14 @@ gate_scalar other = one
 abbrev pub scalar_of : List Gate → Number
 scalar_of [] = one
 scalar_of (gate ∷ gates) = mul (gate_scalar gate) (scalar_of gates)
+
+-- how many gates are written out by others
+abbrev pub written_count : List Gate → ℕ
+written_count gates = count_by is_cx gates + count_by is_not gates
+
+-- the scalar that the circuit's map is times that sum: half for each of these
+abbrev pub map_scalar : List Gate → Scalar
+map_scalar gates = record { root2 = neg_ℤ (pos (2 * written_count gates)); turn = 0 }
 
 -- the present spider of a wire, which holds its output
 abbrev pub present : Graph → ℕ → ℕ
@@ -114,3 +129,22 @@ places_from g (gate ∷ gates) = place_of g gate ∷ places_from (fold with_gate
 
 abbrev pub places : Circuit → List (Option ℕ)
 places c = places_from (wires c.qubits) c.gates
+
+-- the graph of a circuit and a flow of it, and what holds of them
+pub record IsTranslation (c : Circuit) (g : Graph) (f : List Correction) : Type 0 where
+  pub graph : g ≡ translated c
+  pub well_formed : WellFormed g
+  pub flow : IsFlow g f
+  pub table : SameSets f (translated_table c)
+  -- the circuit's map is so many times the sum of the graph
+  pub scaled : IsScaled c.qubits c.qubits (amp c.gates) (map_scalar c.gates) (sum g)
+  -- all vertices are spiders, and their ids are 0, 1, 2 and so on
+  pub spiders : length g.vertices ≡ spiders_of c
+  pub ids : (v : ℕ) → Live g v → v < length g.vertices
+  pub planes : (v : ℕ) → Live g v → plane_of g v ≡ XY
+  pub odd : odd_phases g ≤ gate_odd_phases c.gates
+  -- each qubit has an input and an output, with no Hadamard on them
+  pub inputs : length g.inputs ≡ c.qubits
+  pub outputs : length g.outputs ≡ c.qubits
+  pub plain_inputs : are_plain g.inputs ≡ true
+  pub plain_outputs : are_plain g.outputs ≡ true

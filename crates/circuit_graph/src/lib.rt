@@ -2,11 +2,11 @@
 //!
 //! Proved of `translate`: the graph is well-formed, and the one that the definition makes of the
 //! circuit, whose vertices have the ids 0, 1, 2 and so on; its sum is the circuit's map times two
-//! for each Cx and Not, entry by entry, and the scalar tells that the other way round; it has a
+//! for each Cx and Not, entry by entry, which the scalar tells the other way round; it has a
 //! spider for each qubit and each H, and two for each Cx and Not, all XY, no more odd phases than
 //! the circuit, and an input and an output for each qubit, all plain; the flow is one of it: each
 //! spider but the last of a wire is corrected by the next one alone, in the order in which the wires
-//! leave them. All that is proved of `translate_placed` too, but for the scalar; it answers instead to
+//! leave them. All that is proved of `translate_placed` too, which answers in place of the scalar to
 //! which vertex each phase gate adds its phase.
 //!
 //! Inside:
@@ -17,7 +17,7 @@
 //! - `laws`: worked graphs.
 //!
 //! ```rust
-//! let (graph, flow, scalar) = translate(alloc, &circuit)?;
+//! let made = translate(alloc, &circuit)?;
 //! ```
 #![tactic(auto)]
 
@@ -26,5 +26,5 @@ mod translation;
 mod wires;
 
 pub use laws::worked_translations;
-pub use translation::{translate, translate_placed};
+pub use translation::{Placed, Translation, translate, translate_placed};
 pub use wires::wires_alone;

@@ -1,21 +1,10 @@
 //! The graph of a circuit, with its flow.
 
-ghost use Rattle.std.specs.Prelude.{◌≡◌, ◌<◌, ◌≤◌, ◌*◌, ℕ, true, Bool, List, length, IfOk};
-ghost use Rattle.zx_model.specs.Number.{mul};
-ghost use Rattle.zx_model.specs.Proportional.{Proportional};
-ghost use Rattle.zx_model.specs.Scalar.{IsScaled, IsWithin};
-ghost use Rattle.zx_calculus.specs.Graph.{plane_of, Live, WellFormed};
-ghost use Rattle.zx_calculus.specs.Graph as zx;
-ghost use Rattle.zx_calculus.specs.Sum.{sum};
-ghost use Rattle.zx_calculus.specs.Counts.{odd_phases};
-ghost use Rattle.gflow_laws.specs.Flow.{IsFlow, SameSets};
-ghost use Rattle.zx_gates.specs.Circuit.{gate_odd_phases};
-ghost use Rattle.zx_gates.specs.Maps.{amp};
-ghost use Rattle.circuit_laws.specs.Peeling.{are_plain};
-ghost use Rattle.circuit_graph.specs.Translation.{spiders_of, scalar_of, translated, translated_table, places};
+ghost use Rattle.std.specs.Prelude.{◌≡◌, ◌*◌, length, IfOk};
+ghost use Rattle.zx_model.specs.Scalar.{IsWithin};
+ghost use Rattle.circuit_graph.specs.Translation.{IsTranslation, map_scalar, places};
 ghost use Rattle.circuit_graph.specs.Internal.Wires.{state_of};
 ghost use Rattle.circuit_graph.specs.Internal.Runs.{Translates};
-ghost use Rattle.circuit_graph.specs.Internal.Scalars.{map_scalar};
 
 use crate::wires::Wires;
 use open_graph::{OpenGraph, VertexId};
@@ -25,43 +14,43 @@ use zx_gates::{GateList, counts};
 use zx_model::{Scalar, Sixteenth};
 
 /// The open graph of a circuit, and a flow of it: each spider but the last of a wire is corrected by the next one, in
-/// the order in which the wires leave them; and the scalar that the circuit's map is times the sum of the graph.
-pub fn translate(alloc: Global, circuit: &GateList) -> Result<(OpenGraph, Flow, Scalar), AllocError>
-    ensures graph { IfOk result (λ made. made.0.graph ≡ translated circuit.now) }
-    ensures well_formed { IfOk result (λ made. WellFormed made.0.graph) }
-    ensures flow { IfOk result (λ made. IsFlow made.0.graph made.1.flow) }
-    ensures table { IfOk result (λ made. SameSets made.1.flow (translated_table circuit.now)) }
+/// the order in which the wires leave them.
+#[derive(Drop)]
+pub struct Translation {
+    /// The graph.
+    pub graph: OpenGraph,
+    /// The flow.
+    pub flow: Flow,
+    /// The circuit's map is so many times the sum of the graph.
+    pub scalar: Scalar,
+}
 
-    // The map is kept: the sum is the circuit's map times a number other than 0.
-    ensures map { IfOk result (λ made.
-        Proportional circuit.now.qubits circuit.now.qubits
-        (sum made.0.graph) (amp circuit.now.gates)) }
-    ensures exact { IfOk result (λ made. (x y : List Bool) →
-        length x ≡ circuit.now.qubits → length y ≡ circuit.now.qubits →
-        sum made.0.graph x y ≡ mul (scalar_of circuit.now.gates) (amp circuit.now.gates x y)) }
-    ensures scaled { IfOk result (λ made. IsScaled circuit.now.qubits circuit.now.qubits
-        (amp circuit.now.gates) made.2 (sum made.0.graph)) }
-    ensures small { IfOk result (λ made. IsWithin (4 * length circuit.now.gates) made.2) }
+/// The same graph and flow, and where the phases of the gates went.
+#[derive(Drop)]
+pub struct Placed {
+    /// The graph.
+    pub graph: OpenGraph,
+    /// The flow.
+    pub flow: Flow,
+    /// For each gate the vertex to which it adds a phase, where it is a phase gate.
+    pub places: Vec<Option<VertexId>>,
+}
 
-    // Its vertices.
-    ensures spiders { IfOk result (λ made. length made.0.graph.vertices ≡ spiders_of circuit.now) }
-    ensures ids { IfOk result (λ made. (v : ℕ) → Live made.0.graph v →
-        v < length made.0.graph.vertices) }
-    ensures planes { IfOk result (λ made. (v : ℕ) → Live made.0.graph v →
-        plane_of made.0.graph v ≡ zx.XY) }
-    ensures odd { IfOk result (λ made.
-        odd_phases made.0.graph ≤ gate_odd_phases circuit.now.gates) }
-
-    // Its ends.
-    ensures inputs { IfOk result (λ made. length made.0.graph.inputs ≡ circuit.now.qubits) }
-    ensures outputs { IfOk result (λ made. length made.0.graph.outputs ≡ circuit.now.qubits) }
-    ensures plain_inputs { IfOk result (λ made. are_plain made.0.graph.inputs ≡ true) }
-    ensures plain_outputs { IfOk result (λ made. are_plain made.0.graph.outputs ≡ true) }
+/// The open graph of a circuit with its flow, and the scalar that the circuit's map is times the sum of the graph.
+pub fn translate(alloc: Global, circuit: &GateList) -> Result<Translation, AllocError>
+    ensures translation { IfOk result (λ made.
+        IsTranslation circuit.now made.graph.graph made.flow.flow) }
+    ensures scalar { IfOk result (λ made. made.scalar ≡ map_scalar circuit.now.gates) }
+    ensures small { IfOk result (λ made. IsWithin (4 * length circuit.now.gates) made.scalar) }
 {
     let wires = wires_of(alloc, circuit)?;
     let graph = wires.graph;
     let flow = Flow::of_table(&graph, wires.table)?;
-    Ok((graph, flow, scalar_of(circuit)))
+    Ok(Translation {
+        graph,
+        flow,
+        scalar: scalar_of(circuit),
+    })
 }
 
 // The scalar that a circuit's map is times the sum of its graph: half for each gate that is written out.
@@ -77,44 +66,20 @@ fn scalar_of(circuit: &GateList) -> Scalar
     }
 }
 
-/// The same graph with the same flow; and for each gate the vertex to which it adds a phase, where it is a phase gate.
-pub fn translate_placed(
-    alloc: Global,
-    circuit: &GateList,
-) -> Result<(OpenGraph, Flow, Vec<Option<VertexId>>), AllocError>
-    ensures graph { IfOk result (λ made. made.0.graph ≡ translated circuit.now) }
-    ensures well_formed { IfOk result (λ made. WellFormed made.0.graph) }
-    ensures flow { IfOk result (λ made. IsFlow made.0.graph made.1.flow) }
-    ensures table { IfOk result (λ made. SameSets made.1.flow (translated_table circuit.now)) }
-    ensures places { IfOk result (λ made. made.2.items ≡ places circuit.now) }
-
-    // The map is kept: the sum is the circuit's map times a number other than 0.
-    ensures map { IfOk result (λ made.
-        Proportional circuit.now.qubits circuit.now.qubits
-        (sum made.0.graph) (amp circuit.now.gates)) }
-    ensures exact { IfOk result (λ made. (x y : List Bool) →
-        length x ≡ circuit.now.qubits → length y ≡ circuit.now.qubits →
-        sum made.0.graph x y ≡ mul (scalar_of circuit.now.gates) (amp circuit.now.gates x y)) }
-
-    // Its vertices.
-    ensures spiders { IfOk result (λ made. length made.0.graph.vertices ≡ spiders_of circuit.now) }
-    ensures ids { IfOk result (λ made. (v : ℕ) → Live made.0.graph v →
-        v < length made.0.graph.vertices) }
-    ensures planes { IfOk result (λ made. (v : ℕ) → Live made.0.graph v →
-        plane_of made.0.graph v ≡ zx.XY) }
-    ensures odd { IfOk result (λ made.
-        odd_phases made.0.graph ≤ gate_odd_phases circuit.now.gates) }
-
-    // Its ends.
-    ensures inputs { IfOk result (λ made. length made.0.graph.inputs ≡ circuit.now.qubits) }
-    ensures outputs { IfOk result (λ made. length made.0.graph.outputs ≡ circuit.now.qubits) }
-    ensures plain_inputs { IfOk result (λ made. are_plain made.0.graph.inputs ≡ true) }
-    ensures plain_outputs { IfOk result (λ made. are_plain made.0.graph.outputs ≡ true) }
+/// The same graph with the same flow, and the places of the phases.
+pub fn translate_placed(alloc: Global, circuit: &GateList) -> Result<Placed, AllocError>
+    ensures translation { IfOk result (λ made.
+        IsTranslation circuit.now made.graph.graph made.flow.flow) }
+    ensures places { IfOk result (λ made. made.places.items ≡ places circuit.now) }
 {
     let (made, places) = wires_placed(alloc, circuit)?;
     let graph = made.graph;
     let flow = Flow::of_table(&graph, made.table)?;
-    Ok((graph, flow, places))
+    Ok(Placed {
+        graph,
+        flow,
+        places,
+    })
 }
 
 // The wires with all gates, and to which vertices these add phases.

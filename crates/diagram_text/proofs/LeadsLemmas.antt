@@ -1,5 +1,5 @@
 -- The lines of a file lead to its end.
-use Rattle.std.proofs.Common.{◌≡◌, ℕ, ◌*◌, ◌/◌, ◌%◌, ◌≤◌, suc, Bool, true, false, ltb, List, [], ◌∷◌, ◌++◌, map, length, refl, sym, ap, ◌∙◌, subst, lt-ltb, eqb-true, append_assoc, append-nil, length-append, arith, Some}
+use Rattle.std.proofs.Common.{◌≡◌, ℕ, ◌*◌, ◌/◌, ◌%◌, ◌≤◌, suc, true, ltb, List, [], ◌∷◌, ◌++◌, map, length, refl, sym, ap, ◌∙◌, subst, lt-ltb, eqb-true, append_assoc, append-nil, length-append, arith, Some}
 use Rattle.std.specs.List.{list_all}
 use Rattle.zx_model.specs.Phase.{turn}
 use Rattle.zx_calculus.proofs.Ids.{and-left, and-right, eqb-self}
@@ -8,25 +8,17 @@ use Rattle.zx_diagram.specs.declared.spider.Spider as diagram
 use Rattle.zx_diagram.specs.declared.wire.Wire.{Wire}
 use Rattle.zx_diagram.specs.declared.wire.Leg.{Leg}
 use Rattle.zx_diagram.specs.Diagram.{Diagram}
-use Rattle.zx_text.specs.Files.{Version, One, Two, unit}
+use Rattle.zx_text.specs.Files.{Version, unit}
 use Rattle.zx_text.specs.Reading.{most_ends}
+use Rattle.zx_text.specs.Formats.{run}
 use Rattle.zx_text.proofs.PartLemmas.{length-last}
-use Rattle.diagram_text.specs.declared.line.Line.{Line}
+use Rattle.zx_text.proofs.RunLemmas.{then_run, run_step, fitting}
+use Rattle.zx_text.proofs.LeadsLemmas.{redone}
 use Rattle.diagram_text.specs.declared.line.Line.TheVariants.{Spider, Edge, Input, Output}
-use Rattle.diagram_text.specs.declared.reader.Reader.{Reader}
 use Rattle.diagram_text.specs.declared.reader.Reader.TheVariants.{Open, Over}
 use Rattle.diagram_text.specs.Files.{spider_lines, lines}
 use Rattle.diagram_text.specs.Reading.{IsFile, are_sorted, has_phase_of, is_edge_among}
-use Rattle.diagram_text.specs.Internal.Stepping.{only_if, step, run, begun, follows, spider_fits, edge_fits, input_fits, output_fits}
-use Rattle.diagram_text.proofs.RunLemmas.{run-append}
-
-fitting : {A : Type 0} (test : Bool) (x : A) → test ≡ true → only_if test x ≡ Some x
-fitting true x e = refl
-fitting false x e = absurd (cc)
-
-run_step : (version : Version) (d next : Diagram) (l : Line) (ls : List Line) → step version (Open d) l ≡ Some (Open next)
-    → run version (Some (Open d)) (l ∷ ls) ≡ run version (Some (Open next)) ls
-run_step version d next l ls e = ap (λ s. run version s ls) e
+use Rattle.diagram_text.specs.Internal.Stepping.{step, begun, follows, spider_fits, edge_fits, input_fits, output_fits}
 
 abbrev with_parts : List diagram.Spider → List Wire → List Leg → List Leg → Diagram
 with_parts spiders edges inputs outputs = record { spiders = spiders; edges = edges; inputs = inputs; outputs = outputs }
@@ -35,13 +27,9 @@ with_parts spiders edges inputs outputs = record { spiders = spiders; edges = ed
 moved : {A : Type 0} (done : List A) (x : A) (rest : List A) → (done ++ x ∷ []) ++ rest ≡ done ++ x ∷ rest
 moved done x rest = append_assoc done (x ∷ []) rest
 
-redone : (version : Version) (phase : ℕ) → phase % unit version ≡ 0 → (phase / unit version) * unit version ≡ phase
-redone One phase even = omega (arith, even)
-redone Two phase even = omega arith
-
 -- ---- spiders
 spiders_run : (version : Version) (done rest : List diagram.Spider) → list_all (has_phase_of version) rest ≡ true
-    → run version (Some (Open (with_parts done [] [] []))) (spider_lines version (length done) rest) ≡ Some (Open (with_parts (done ++ rest) [] [] []))
+    → run (step version) (Some (Open (with_parts done [] [] []))) (spider_lines version (length done) rest) ≡ Some (Open (with_parts (done ++ rest) [] [] []))
 spiders_run version done [] fits = ap (λ ss. Some (Open (with_parts ss [] [] []))) (sym (append-nil done))
 spiders_run version done (s ∷ ss) fits =
     let k : ℕ = s.phase / unit version in
@@ -51,10 +39,10 @@ spiders_run version done (s ∷ ss) fits =
     let fit : spider_fits version (with_parts done [] [] []) (length done) k ≡ true = both _ _ below (both _ _ (eqb-self (length done)) refl) in
     let added : record { colour = s.colour; phase = k * unit version } ≡ s = ap (λ n. record { colour = s.colour; phase = n }) exact in
     let next : length (done ++ s ∷ []) ≡ suc (length done) = length-last done s ∙ (omega arith) in
-    run_step version (with_parts done [] [] []) (with_parts (done ++ record { colour = s.colour; phase = k * unit version } ∷ []) [] [] [])
+    run_step (step version) (Open (with_parts done [] [] [])) (Open (with_parts (done ++ record { colour = s.colour; phase = k * unit version } ∷ []) [] [] []))
     (Spider (length done) s.colour k) (spider_lines version (suc (length done)) ss) (fitting _ _ fit)
-    ∙ ap (λ x. run version (Some (Open (with_parts (done ++ x ∷ []) [] [] []))) (spider_lines version (suc (length done)) ss)) added
-    ∙ ap (λ n. run version (Some (Open (with_parts (done ++ s ∷ []) [] [] []))) (spider_lines version n ss)) (sym next)
+    ∙ ap (λ x. run (step version) (Some (Open (with_parts (done ++ x ∷ []) [] [] []))) (spider_lines version (suc (length done)) ss)) added
+    ∙ ap (λ n. run (step version) (Some (Open (with_parts (done ++ s ∷ []) [] [] []))) (spider_lines version n ss)) (sym next)
     ∙ spiders_run version (done ++ s ∷ []) ss (and-right _ _ fits)
     ∙ ap (λ xs. Some (Open (with_parts xs [] [] []))) (moved done s ss)
 
@@ -66,11 +54,11 @@ follows_at (d ∷ f ∷ done) e rest sorted = follows_at (f ∷ done) e rest (an
 
 edges_run : (version : Version) (ss : List diagram.Spider) (done rest : List Wire) → list_all (is_edge_among (length ss)) rest ≡ true
     → are_sorted (done ++ rest) ≡ true
-    → run version (Some (Open (with_parts ss done [] []))) (map Edge rest) ≡ Some (Open (with_parts ss (done ++ rest) [] []))
+    → run (step version) (Some (Open (with_parts ss done [] []))) (map Edge rest) ≡ Some (Open (with_parts ss (done ++ rest) [] []))
 edges_run version ss done [] among sorted = ap (λ es. Some (Open (with_parts ss es [] []))) (sym (append-nil done))
 edges_run version ss done (e ∷ es) among sorted =
     let fit : edge_fits (with_parts ss done [] []) e ≡ true = both _ _ (and-left _ _ among) (both _ _ (follows_at done e es sorted) refl) in
-    run_step version (with_parts ss done [] []) (with_parts ss (done ++ e ∷ []) [] []) (Edge e) (map Edge es) (fitting _ _ fit)
+    run_step (step version) (Open (with_parts ss done [] [])) (Open (with_parts ss (done ++ e ∷ []) [] [])) (Edge e) (map Edge es) (fitting _ _ fit)
     ∙ edges_run version ss (done ++ e ∷ []) es (and-right _ _ among) (ap are_sorted (moved done e es) ∙ sorted)
     ∙ ap (λ xs. Some (Open (with_parts ss xs [] []))) (moved done e es)
 
@@ -82,31 +70,28 @@ few_so_far done x rest few =
 
 inputs_run : (version : Version) (ss : List diagram.Spider) (es : List Wire) (done rest : List Leg) → list_all (λ leg. ltb leg.spider (length ss)) rest ≡ true
     → length (done ++ rest) ≤ most_ends
-    → run version (Some (Open (with_parts ss es done []))) (map Input rest) ≡ Some (Open (with_parts ss es (done ++ rest) []))
+    → run (step version) (Some (Open (with_parts ss es done []))) (map Input rest) ≡ Some (Open (with_parts ss es (done ++ rest) []))
 inputs_run version ss es done [] there few = ap (λ ls. Some (Open (with_parts ss es ls []))) (sym (append-nil done))
 inputs_run version ss es done (leg ∷ legs) there few =
     let fit : input_fits (with_parts ss es done []) leg ≡ true = both _ _ (and-left _ _ there) (both _ _ (few_so_far done leg legs few) refl) in
-    run_step version (with_parts ss es done []) (with_parts ss es (done ++ leg ∷ []) []) (Input leg) (map Input legs) (fitting _ _ fit)
+    run_step (step version) (Open (with_parts ss es done [])) (Open (with_parts ss es (done ++ leg ∷ []) [])) (Input leg) (map Input legs) (fitting _ _ fit)
     ∙ inputs_run version ss es (done ++ leg ∷ []) legs (and-right _ _ there) (subst (λ ls. length ls ≤ most_ends) (sym (moved done leg legs)) few)
     ∙ ap (λ xs. Some (Open (with_parts ss es xs []))) (moved done leg legs)
 
 outputs_run : (version : Version) (ss : List diagram.Spider) (es : List Wire) (is done rest : List Leg) → list_all (λ leg. ltb leg.spider (length ss)) rest ≡ true
     → length (done ++ rest) ≤ most_ends
-    → run version (Some (Open (with_parts ss es is done))) (map Output rest) ≡ Some (Open (with_parts ss es is (done ++ rest)))
+    → run (step version) (Some (Open (with_parts ss es is done))) (map Output rest) ≡ Some (Open (with_parts ss es is (done ++ rest)))
 outputs_run version ss es is done [] there few = ap (λ ls. Some (Open (with_parts ss es is ls))) (sym (append-nil done))
 outputs_run version ss es is done (leg ∷ legs) there few =
     let fit : output_fits (with_parts ss es is done) leg ≡ true = both _ _ (and-left _ _ there) (few_so_far done leg legs few) in
-    run_step version (with_parts ss es is done) (with_parts ss es is (done ++ leg ∷ [])) (Output leg) (map Output legs) (fitting _ _ fit)
+    run_step (step version) (Open (with_parts ss es is done)) (Open (with_parts ss es is (done ++ leg ∷ []))) (Output leg) (map Output legs) (fitting _ _ fit)
     ∙ outputs_run version ss es is (done ++ leg ∷ []) legs (and-right _ _ there) (subst (λ ls. length ls ≤ most_ends) (sym (moved done leg legs)) few)
     ∙ ap (λ xs. Some (Open (with_parts ss es is xs))) (moved done leg legs)
 
 -- ---- all lines
-then_run : (version : Version) (st next : Reader) (ls ms : List Line) → run version (Some st) ls ≡ Some next → run version (Some st) (ls ++ ms) ≡ run version (Some next) ms
-then_run version st next ls ms e = run-append version (Some st) ls ms ∙ ap (λ s. run version s ms) e
-
-pub complete : (version : Version) (d : Diagram) → IsFile version d → run version (Some begun) (lines version d) ≡ Some (Over d)
+pub complete : (version : Version) (d : Diagram) → IsFile version d → run (step version) (Some begun) (lines version d) ≡ Some (Over d)
 complete version d file =
-    then_run version begun _ (spider_lines version 0 d.spiders) _ (spiders_run version [] d.spiders file.phases)
-    ∙ then_run version _ _ (map Edge d.edges) _ (edges_run version d.spiders [] d.edges file.edges file.sorted)
-    ∙ then_run version _ _ (map Input d.inputs) _ (inputs_run version d.spiders d.edges [] d.inputs file.inputs file.few_inputs)
-    ∙ then_run version _ _ (map Output d.outputs) _ (outputs_run version d.spiders d.edges d.inputs [] d.outputs file.outputs file.few_outputs)
+    then_run (step version) (Some begun) _ (spider_lines version 0 d.spiders) _ (spiders_run version [] d.spiders file.phases)
+    ∙ then_run (step version) (Some _) _ (map Edge d.edges) _ (edges_run version d.spiders [] d.edges file.edges file.sorted)
+    ∙ then_run (step version) (Some _) _ (map Input d.inputs) _ (inputs_run version d.spiders d.edges [] d.inputs file.inputs file.few_inputs)
+    ∙ then_run (step version) (Some _) _ (map Output d.outputs) _ (outputs_run version d.spiders d.edges d.inputs [] d.outputs file.outputs file.few_outputs)

@@ -1,9 +1,6 @@
 pub mod EdgeLemmas
 pub mod LineLemmas
-pub mod RunLemmas
+pub mod StepLemmas
 pub mod SaidLemmas
 pub mod LeadsLemmas
-pub mod WalkLemmas
 pub mod StopLemmas
-pub mod OutcomeLemmas
-pub mod DecisionLemmas

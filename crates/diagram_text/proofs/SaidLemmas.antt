@@ -1,5 +1,5 @@
 -- Lines that lead anywhere are the lines of what they say.
-use Rattle.std.proofs.Common.{◌≡◌, ℕ, ◌+◌, ◌*◌, ◌/◌, ◌%◌, ◌<◌, suc, Bool, true, eqb, ltb, ◌&&◌, List, [], ◌∷◌, ◌++◌, map, length, refl, sym, ap, ap₂, ◌∙◌, subst, ltb-true, eqb-true, append_assoc, append-nil, arith, Some}
+use Rattle.std.proofs.Common.{◌≡◌, ℕ, ◌+◌, ◌*◌, ◌/◌, ◌<◌, suc, Bool, true, eqb, ltb, ◌&&◌, List, [], ◌∷◌, ◌++◌, map, length, refl, sym, ap, ap₂, ◌∙◌, subst, ltb-true, eqb-true, append_assoc, arith, Some}
 use Rattle.std.specs.List.{list_all}
 use Rattle.zx_model.specs.Phase.{turn}
 use Rattle.zx_calculus.proofs.Ids.{and-left, and-right}
@@ -9,17 +9,19 @@ use Rattle.zx_diagram.specs.declared.spider.Colour.{Colour}
 use Rattle.zx_diagram.specs.declared.wire.Wire.{Wire}
 use Rattle.zx_diagram.specs.declared.wire.Leg.{Leg}
 use Rattle.zx_diagram.specs.Diagram.{Diagram}
-use Rattle.zx_text.specs.Files.{Version, One, Two, unit}
+use Rattle.zx_text.specs.Files.{Version, unit}
 use Rattle.zx_text.specs.Reading.{most_ends}
+use Rattle.zx_text.specs.Formats.{run}
 use Rattle.zx_text.proofs.PartLemmas.{all-last, length-last}
+use Rattle.zx_text.proofs.RunLemmas.{same_state, passed, only, kept_by_run}
+use Rattle.zx_text.proofs.SaidLemmas.{map-last, shift, undone, whole_units}
 use Rattle.diagram_text.specs.declared.line.Line.{Line}
 use Rattle.diagram_text.specs.declared.line.Line.TheVariants.{Spider, Edge, Input, Output, End}
 use Rattle.diagram_text.specs.declared.reader.Reader.{Reader}
 use Rattle.diagram_text.specs.declared.reader.Reader.TheVariants.{Open, Over}
 use Rattle.diagram_text.specs.Files.{spider_lines, lines}
 use Rattle.diagram_text.specs.Reading.{IsFile, are_sorted, has_phase_of, is_edge_among}
-use Rattle.diagram_text.specs.Internal.Stepping.{step, run, begun, is_none, follows, spider_fits, edge_fits, input_fits, output_fits, spider_added, edge_added, input_added, output_added}
-use Rattle.diagram_text.proofs.RunLemmas.{first_step, same_state, passed, only}
+use Rattle.diagram_text.specs.Internal.Stepping.{step, begun, is_none, follows, spider_fits, edge_fits, input_fits, output_fits, spider_added, edge_added, input_added, output_added}
 
 -- the lines of a diagram, before the last one
 abbrev pub diagram_lines : Version → Diagram → List Line
@@ -41,16 +43,6 @@ record IsSoFar (version : Version) (st : Reader) (so_far : List Line) : Type 0 w
   file : IsFile version (diagram_of st)
 
 -- ---- lists
-map-last : {A B : Type 0} (f : A → B) (xs : List A) (x : A) → map f (xs ++ x ∷ []) ≡ map f xs ++ f x ∷ []
-map-last f [] x = refl
-map-last f (y ∷ ys) x = ap (λ t. f y ∷ t) (map-last f ys x)
-
--- one more behind the first part, where the second one is empty
-shift : {A : Type 0} (a b : List A) (x : A) → b ≡ [] → (a ++ b) ++ x ∷ [] ≡ (a ++ x ∷ []) ++ b
-shift a b x none =
-    subst (λ c. (a ++ c) ++ x ∷ [] ≡ (a ++ x ∷ []) ++ c) (sym none)
-    (ap (λ t. t ++ x ∷ []) (append-nil a) ∙ sym (append-nil (a ++ x ∷ [])))
-
 none_there : {A : Type 0} (xs : List A) → is_none xs ≡ true → xs ≡ []
 none_there [] e = refl
 none_there (x ∷ xs) e = let none : length (x ∷ xs) ≡ 0 = eqb-true (length (x ∷ xs)) 0 e in absurd (omega (arith, none))
@@ -63,14 +55,6 @@ counted : {A : Type 0} (test : ℕ → A → Bool) (n m : ℕ) (xs : List A) →
 counted test n m xs e all = ap (λ k. list_all (test k) xs) (sym e) ∙ all
 
 -- ---- phases and numbers of spiders
-undone : (version : Version) (phase : ℕ) → (phase * unit version) / unit version ≡ phase
-undone One phase = omega arith
-undone Two phase = omega arith
-
-whole_units : (version : Version) (phase : ℕ) → eqb ((phase * unit version) % unit version) 0 ≡ true
-whole_units One phase = let e : (phase * 2) % 2 ≡ 0 = omega arith in rw e refl
-whole_units Two phase = let e : (phase * 1) % 1 ≡ 0 = omega arith in rw e refl
-
 spider_lines-last : (version : Version) (n : ℕ) (ss : List diagram.Spider) (s : diagram.Spider)
     → spider_lines version n (ss ++ s ∷ []) ≡ spider_lines version n ss ++ Spider (n + length ss) s.colour (s.phase / unit version) ∷ []
 spider_lines-last version n [] s = let e : n ≡ n + 0 = omega arith in ap (λ k. Spider k s.colour (s.phase / unit version) ∷ []) e
@@ -267,15 +251,9 @@ so_far_more version (Open d) l next so_far so e =
     record { lines_said = ap (λ t. t ++ l ∷ []) so.lines_said ∙ here.lines_said; file = here.file }
 so_far_more version (Over d) l next so_far so e = absurd (cc)
 
-so_far_run : (version : Version) (st : Reader) (ls : List Line) (last : Reader) (so_far : List Line) → IsSoFar version st so_far → run version (Some st) ls ≡ Some last
-    → IsSoFar version last (so_far ++ ls)
-so_far_run version st [] last so_far so e =
-    subst (λ s. IsSoFar version s (so_far ++ [])) (same_state e)
-    (record { lines_said = append-nil so_far ∙ so.lines_said; file = so.file })
-so_far_run version st (l ∷ ls) last so_far so e =
-    let first = first_step version st l ls last e in
-    subst (IsSoFar version last) (append_assoc so_far (l ∷ []) ls)
-    (so_far_run version first.next ls last (so_far ++ l ∷ []) (so_far_more version st l first.next so_far so first.at) first.rest)
+so_far_run : (version : Version) (st : Reader) (ls : List Line) (last : Reader) (so_far : List Line) → IsSoFar version st so_far
+    → run (step version) (Some st) ls ≡ Some last → IsSoFar version last (so_far ++ ls)
+so_far_run version = kept_by_run (step version) (IsSoFar version) (so_far_more version)
 
 so_far_begun : (version : Version) → IsSoFar version begun []
 so_far_begun version = record {
@@ -284,7 +262,7 @@ so_far_begun version = record {
 }
 
 -- lines that lead to the end are all lines of a file
-pub sound : (version : Version) (ls : List Line) (d : Diagram) → run version (Some begun) ls ≡ Some (Over d) → (ls ≡ lines version d) × IsFile version d
+pub sound : (version : Version) (ls : List Line) (d : Diagram) → run (step version) (Some begun) ls ≡ Some (Over d) → (ls ≡ lines version d) × IsFile version d
 sound version ls d e =
     let so = so_far_run version begun ls (Over d) [] (so_far_begun version) e in
     (so.lines_said, so.file)

@@ -1,13 +1,14 @@
 -- Which texts are diagram files, and what is wrong with those that aren't.
-use Rattle.std.specs.Prelude.{◌≡◌, ℕ, ◌+◌, ◌%◌, ◌<◌, ◌≤◌, Bool, true, not, ◌||◌, ◌&&◌}
-use Rattle.std.specs.Prelude.{◌==◌, ltb, nat_le, List, [], ◌∷◌, ◌++◌, length}
+use Rattle.std.specs.Prelude.{◌≡◌, ℕ, ◌%◌, ◌≤◌, Bool, true, not, ◌||◌, ◌&&◌}
+use Rattle.std.specs.Prelude.{◌==◌, ltb, nat_le, List, [], ◌∷◌, length}
 use Rattle.std.specs.List.{list_all}
 use Rattle.zx_model.specs.Phase.{turn}
 use Rattle.zx_diagram.specs.declared.spider.Spider.{Spider}
 use Rattle.zx_diagram.specs.declared.wire.Wire.{Wire}
 use Rattle.zx_diagram.specs.Diagram.{Diagram}
 use Rattle.zx_text.specs.Files.{Version, unit}
-use Rattle.zx_text.specs.Reading.{most_ends, line_ends, first_lines}
+use Rattle.zx_text.specs.BadLines.{IsFirstBad}
+use Rattle.zx_text.specs.Reading.{most_ends}
 use Rattle.diagram_text.specs.Files.{spelled}
 
 -- whether an edge may stand right before another: by the first spiders, then by the second ones, and of two edges
@@ -46,18 +47,11 @@ pub record SpellsDiagram (text : List ℕ) (d : Diagram) : Type 0 where
   pub file : IsFile version d
   pub bytes : text ≡ spelled version d
 
--- some file begins with these bytes
-pub record CanBegin (bytes : List ℕ) : Type 0 where
+-- the text is a file of some diagram
+pub record IsFileText (text : List ℕ) : Type 0 where
   pub diagram : Diagram
-  pub rest : List ℕ
-  pub spells : SpellsDiagram (bytes ++ rest) diagram
+  pub spells : SpellsDiagram text diagram
 
--- the lines before the one of this number, counted from 1, can begin a file, and with it they can't; where the text
--- ends before that line does, the text is no file
-pub record IsBadLine (text : List ℕ) (line : ℕ) : Type 0 where
-  pub before : ℕ
-  pub number : line ≡ before + 1
-  pub are_there : before ≤ line_ends text
-  pub can_begin : CanBegin (first_lines before text)
-  pub unfit : before < line_ends text → CanBegin (first_lines line text) → ⊥
-  pub not_whole : line_ends text ≡ before → (d : Diagram) → SpellsDiagram text d → ⊥
+-- the line is the first one with which no file begins
+abbrev pub IsBadLine : List ℕ → ℕ → Type 0
+IsBadLine text line = IsFirstBad IsFileText text line

@@ -9,7 +9,7 @@
 //!
 //! - `line`: what a line says, by its parts.
 //! - `reader`: the diagram so far, and whether one more line fits.
-//! - `line_reader`: the lines behind the first one.
+//! - `diagram_lines`: how `zx_text::read_file` reads these lines.
 //! - `diagram_reader`: the call.
 //! - `laws`: a text has one reading.
 //!
@@ -18,10 +18,10 @@
 //! ```
 #![tactic(auto)]
 
+mod diagram_lines;
 mod diagram_reader;
 mod laws;
 mod line;
-mod line_reader;
 mod reader;
 
 pub use diagram_reader::read_diagram;

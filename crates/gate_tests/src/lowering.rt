@@ -70,9 +70,9 @@ fn lowered_unitary(alloc: Global, angles: [u8; 3]) -> Result<Vec<u8>, Fail> {
         bits: 0,
         measured: Measures::new(alloc),
     };
-    let (list, _) = lower(alloc, &circuit)?;
+    let made = lower(alloc, &circuit)?;
     let mut bytes = Vec::new(alloc);
-    for gate in list.gates() {
+    for gate in made.gates.gates() {
         bytes.push(match *gate {
             Gate::H(0) => b'h',
             Gate::Phase(0, phase) => digit(phase),
@@ -126,9 +126,9 @@ fn cx_stays(rt: HostRuntime) -> Result<(), Fail> {
         bits: 0,
         measured: Measures::new(rt.alloc()),
     };
-    let (list, _) = lower(rt.alloc(), &circuit)?;
+    let made = lower(rt.alloc(), &circuit)?;
     assert_eq!(rt;
-        list.gates(),
+        made.gates.gates(),
         [Gate::Cx {
             control: 1,
             target: 0

@@ -35,8 +35,8 @@ fn lowering_scalar(alloc: Global, angles: [u8; 3]) -> Result<Scalar, Fail> {
         bits: 0,
         measured: Measures::new(alloc),
     };
-    let (_list, scalar) = lower(alloc, &circuit)?;
-    Ok(scalar)
+    let made = lower(alloc, &circuit)?;
+    Ok(made.scalar)
 }
 
 #[test]

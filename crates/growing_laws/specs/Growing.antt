@@ -1,16 +1,13 @@
 -- Gates put behind the outputs of a graph of which vertices may have gone.
 -- Duncan, Kissinger, Perdrix and van de Wetering, "Graph-theoretic simplification of quantum circuits with the
 -- ZX-calculus" (Quantum 4, 279, 2020), on graph-like diagrams of circuits.
-use Rattle.std.specs.Prelude.{◌≡◌, ◌+◌, ◌<◌, ℕ, true, false, not, List, [], ◌∷◌, ◌++◌, length, count_by}
-use Rattle.std.specs.Prelude.{◌*◌, pos, neg_ℤ}
+use Rattle.std.specs.Prelude.{◌≡◌, ◌+◌, ◌<◌, ℕ, true, false, not, List, [], ◌∷◌, ◌++◌, length}
 use Rattle.std.specs.List.{All, list_all}
 use Rattle.zx_model.specs.Bits.{member}
 use Rattle.zx_calculus.specs.Graph.{Graph, ids, Live, WellFormed}
 use Rattle.zx_calculus.specs.Steps.{Step}
 use Rattle.move_laws.specs.Orders.{is_split}
-use Rattle.zx_model.specs.declared.scalar.Scalar.{Scalar}
 use Rattle.zx_gates.specs.Circuit.{Circuit, IsOnQubits}
-use Rattle.zx_gates.specs.Counting.{is_cx, is_not}
 use Rattle.zx_gates.specs.declared.gate.Gate.{Gate}
 use Rattle.zx_gates.specs.declared.gate.Gate.TheVariants.{H, Phase, Cz, Cx, Not}
 use Rattle.circuit_laws.specs.Peeling.{are_plain}
@@ -76,7 +73,3 @@ IsBasic other = Unit {0}
 -- the circuit with more gates behind it
 abbrev pub followed_by : Circuit → List Gate → Circuit
 followed_by c gates = record { qubits = c.qubits; gates = c.gates ++ gates }
-
--- what the map of a circuit is times the sum of its graph: half for each gate that is written out
-abbrev pub map_scalar : List Gate → Scalar
-map_scalar gates = record { root2 = neg_ℤ (pos (2 * (count_by is_cx gates + count_by is_not gates))); turn = 0 }

@@ -4,6 +4,7 @@ ghost use Rattle.std.specs.Prelude.{◌≡◌, ◌≤◌, ℕ, Bool, true, List,
 ghost use Rattle.zx_model.specs.Number.{mul};
 ghost use Rattle.zx_model.specs.Scalar.{IsScaled};
 ghost use Rattle.zx_model.specs.declared.scalar.Scalar.{Scalar};
+ghost use Rattle.zx_model.specs.Constants.{power_of_two};
 ghost use Rattle.zx_calculus.specs.Graph.{XY, Graph, plane_of, WellFormed};
 ghost use Rattle.zx_calculus.specs.Sum.{sum};
 ghost use Rattle.zx_calculus.specs.Counts.{odd_phases};
@@ -13,10 +14,10 @@ ghost use Rattle.gflow_laws.specs.Flow.{IsFlow};
 ghost use Rattle.zx_gates.specs.Circuit.{Circuit, circuit_of, gate_odd_phases};
 ghost use Rattle.zx_gates.specs.Maps.{amp};
 ghost use Rattle.circuit_laws.specs.Peeling.{are_plain};
-ghost use Rattle.circuit_graph.specs.Translation.{wires, written_out, spiders_of, scalar_of, translated};
+ghost use Rattle.circuit_graph.specs.Translation.{wires, written_out, spiders_of, scalar_of, written_count, map_scalar, translated};
 ghost use Rattle.circuit_graph.specs.Translation.{translated_table};
 ghost use Rattle.move_laws.specs.Ranks.{HasFlowBy};
-ghost use Rattle.growing_laws.specs.Growing.{AreOn, ids_after, grown, IsGrowing, SplitNothing, followed_by, map_scalar};
+ghost use Rattle.growing_laws.specs.Growing.{AreOn, ids_after, grown, IsGrowing, SplitNothing, followed_by};
 
 use zx_gates::Gate;
 
@@ -36,6 +37,7 @@ pub fn graphs_of_circuits()
     ensures exact { (c : Circuit) → AreOn c.qubits c.gates → (x y : List Bool) →
         length x ≡ c.qubits → length y ≡ c.qubits →
         sum (translated c) x y ≡ mul (scalar_of c.gates) (amp c.gates x y) }
+    ensures power { (gates : List Gate) → scalar_of gates ≡ power_of_two (written_count gates) }
     ensures scaled { (c : Circuit) → AreOn c.qubits c.gates →
         IsScaled c.qubits c.qubits (amp c.gates) (map_scalar c.gates) (sum (translated c)) }
     ensures spiders { (c : Circuit) → AreOn c.qubits c.gates →

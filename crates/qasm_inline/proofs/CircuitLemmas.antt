@@ -151,7 +151,7 @@ gate-wrong program names measured unrolled place form what is wrong =
 few-cut : (count most limit : ℕ) → count ≤ most → most < 2 ^ limit → min count (2 ^ limit - 1) ≡ count
 few-cut count most limit few large = omega arith
 
-elementary : (program : List Placed) (circuit : Elementary) → IsCircuitAnswer program (Ok circuit) → IsElementary circuit
+pub elementary : (program : List Placed) (circuit : Elementary) → IsCircuitAnswer program (Ok circuit) → IsElementary circuit
 elementary program circuit h =
     let m : Means program circuit.qubits circuit.gates circuit.bits circuit.measured = record { most = most_calls; faultless = h.0; as_many_qubits = h.1; same_gates = h.2; as_many_bits = h.3; same_measures = h.4 } in
     record {
@@ -199,8 +199,11 @@ pub faultless-from : (program : List Placed) (result : Result Elementary InlineE
 faultless-from program (Ok circuit) h = h.0
 faultless-from program (Err error) h = tt
 
+pub means : (program : List Placed) (circuit : Elementary) → IsCircuitAnswer program (Ok circuit) → Means program circuit.qubits circuit.gates circuit.bits circuit.measured
+means program circuit h = record { most = most_calls; faultless = h.0; as_many_qubits = h.1; same_gates = h.2; as_many_bits = h.3; same_measures = h.4 }
+
 pub means-from : (program : List Placed) (result : Result Elementary InlineError) → IsCircuitAnswer program result → IfOk result (λ circuit. Means program circuit.qubits circuit.gates circuit.bits circuit.measured)
-means-from program (Ok circuit) h = record { most = most_calls; faultless = h.0; as_many_qubits = h.1; same_gates = h.2; as_many_bits = h.3; same_measures = h.4 }
+means-from program (Ok circuit) h = means program circuit h
 means-from program (Err error) h = tt
 
 pub fault-from : (program : List Placed) (result : Result Elementary InlineError) → IsCircuitAnswer program result → (what : Cause) (at : ℕ) → result ≡ Err (Fault what at)

@@ -1,10 +1,8 @@
 -- The reader of a text, batch by batch.
-use Rattle.std.proofs.Common.{◌≡◌, ℕ, zero, suc, ◌-◌, ◌<◌, ◌≤◌, List, [], ◌∷◌, ◌++◌, length, take, drop, map, Option, None, Some, Result, Ok, Err, refl, sym, ap, ◌∙◌, subst, append_assoc, append-nil, arith, length-append, Bool, false, true}
-use Rattle.std.specs.Prelude.{IfOk, MatchOption}
+use Rattle.std.proofs.Common.{◌≡◌, ℕ, zero, suc, ◌-◌, ◌<◌, ◌≤◌, List, [], ◌∷◌, ◌++◌, length, take, drop, map, Option, None, Some, refl, sym, ap, ◌∙◌, subst, append_assoc, append-nil, arith, length-append, Bool, false, true}
+use Rattle.std.specs.Prelude.{MatchOption}
 use Rattle.std.specs.Option.{option_or}
 use Rattle.std.proofs.lemmas.List.{length-map, take_rest}
-use Rattle.zx_gates.specs.declared.elementary.Elementary.{Elementary}
-use Rattle.zx_gates.specs.Elementary.{IsElementary}
 use Rattle.qasm_lexer.specs.declared.token.Token.{Token}
 use Rattle.qasm_lexer.specs.Tokens.{Lexeme, lexeme, lexemes}
 use Rattle.qasm_reader.specs.Grammar.{BeginsAt, BeginsWithStatement, IsFirstStatement, IsProgram, IsSyntaxFault}
@@ -12,14 +10,10 @@ use Rattle.qasm_reader.specs.Parts.{BeginNone, IsBehind, IsInBody, has_end}
 use Rattle.qasm_reader.specs.Syntax.{GateForm, Placed}
 use Rattle.qasm_reader.proofs.PartWise.{nothing_begins}
 use Rattle.qasm_reader.proofs.Programs.{prefix_first}
-use Rattle.qasm_scope.specs.Meaning.{Means, first_fault, most_calls}
-use Rattle.qasm_scope.specs.Texts.{IsProgramText}
 use Rattle.qasm_inline.specs.declared.circuit.Circuit.{Circuit}
 use Rattle.qasm_inline.specs.declared.circuit.OpenGate.{OpenGate}
-use Rattle.qasm_inline.specs.declared.error.TextError.{TextError}
 use Rattle.qasm_inline.specs.Circuits.{HasBegun, HasTaken, gate_at}
-use Rattle.qasm_inline.specs.Internal.Readings.{AreTaken, IsKept, IsTextAnswer, open_place}
-use Rattle.qasm_inline.proofs.CircuitLemmas.{means-from, valid-from}
+use Rattle.qasm_inline.specs.Internal.Readings.{AreTaken, IsKept, open_place}
 
 -- ---- tokens behind tokens
 drop_behind : {A : Type 0} (xs ys : List A) → drop (length xs) (xs ++ ys) ≡ ys
@@ -165,13 +159,3 @@ kept-whole all [] None circuit None (r, none) e =
 kept-whole all (t ∷ ts) None circuit None r e = absurd (let h : ◌≡◌ {A = Option ℕ} (Some t.place) None = e in cc)
 kept-whole all kept (Some gate) circuit None r e = absurd (let h : ◌≡◌ {A = Option ℕ} (Some gate.place) None = e in cc)
 kept-whole all kept gate circuit (Some at) r e = absurd (let h : ◌≡◌ {A = Option ℕ} (Some at) None = e in cc)
-
--- ---- answers
-pub text-means : (text : List ℕ) (result : Result Elementary TextError) → IsTextAnswer text result
-    → IfOk result (λ circuit. (program : List Placed) × IsProgramText text program × (first_fault most_calls program ≡ None) × Means program circuit.qubits circuit.gates circuit.bits circuit.measured)
-text-means text (Ok circuit) (program, is, answer) = (program, is, answer.0, means-from program (Ok circuit) answer)
-text-means text (Err error) h = tt
-
-pub text-valid : (text : List ℕ) (result : Result Elementary TextError) → IsTextAnswer text result → IfOk result (λ circuit. IsElementary circuit)
-text-valid text (Ok circuit) (program, is, answer) = valid-from program (Ok circuit) answer
-text-valid text (Err error) h = tt

@@ -1,3 +1,4 @@
 pub mod Circuits
+pub mod TextAnswers
 pub mod Internal
 pub mod PieceReadings

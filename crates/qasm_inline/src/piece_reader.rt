@@ -1,18 +1,12 @@
 //! Reading a text that comes piece by piece.
 
-ghost use Rattle.std.specs.Prelude.{◌≡◌, ◌+◌, ◌^◌, ◌<◌, ◌≤◌, ◌++◌, List, [], ℕ, length, take, true, None, Some, Ok, Err, IfOk, OnOk, OnErr, alloc_error};
-ghost use Rattle.zx_gates.specs.Elementary.{IsElementary};
+ghost use Rattle.std.specs.Prelude.{◌≡◌, ◌+◌, ◌^◌, ◌<◌, ◌≤◌, ◌++◌, List, [], ℕ, length, take, true, None, Some, Ok, Err, OnOk, OnErr, alloc_error};
 ghost use Rattle.qasm_lexer.specs.declared.errors.LexError.TheVariants.{BadByte};
 ghost use Rattle.qasm_lexer.specs.Taken.{AreLines, HasBadLine};
 ghost use Rattle.qasm_lexer.specs.Tokens.{Lexeme, IsCut, IsBadByte};
-ghost use Rattle.qasm_reader.specs.Depth.{too_deep};
-ghost use Rattle.qasm_reader.specs.Grammar.{IsSyntaxFault};
-ghost use Rattle.qasm_reader.specs.Syntax.{Placed};
-ghost use Rattle.qasm_scope.specs.declared.causes.Cause.{Cause};
-ghost use Rattle.qasm_scope.specs.Meaning.{Means, first_fault, most_calls};
-ghost use Rattle.qasm_scope.specs.Texts.{IsProgramText};
 ghost use Rattle.qasm_inline.specs.PieceReadings.{CameWith, HasRead, IsReadOff};
-ghost use Rattle.qasm_inline.specs.Internal.Readings.{IsTextAnswer, Keeps};
+ghost use Rattle.qasm_inline.specs.TextAnswers.{IsTextAnswer};
+ghost use Rattle.qasm_inline.specs.Internal.Readings.{Keeps};
 
 use crate::error::TextError;
 use crate::reading::Reader;
@@ -63,24 +57,7 @@ impl<'a> PieceReader<'a> {
     /// `BadByte`, `TooDeep`, `Syntax` and `Wrong` with the text's first fault, in this order: where the text has none of
     /// the kinds before. `NoMemory` where memory runs out, or has before.
     pub fn finish(self) -> Result<Elementary, TextError>
-        // The text is a program without fault, and the circuit is what it means.
-        ensures means { (text : List ℕ) → HasRead self.entry text → IfOk result (λ circuit. (program : List Placed)
-            × IsProgramText text program × (first_fault most_calls program ≡ None)
-            × Means program circuit.qubits circuit.gates circuit.bits circuit.measured) }
-        ensures valid { (text : List ℕ) → HasRead self.entry text
-            → IfOk result (λ circuit. IsElementary circuit) }
-        // A fault that is told is the text's.
-        ensures bad_byte { (text : List ℕ) (at : ℕ) → HasRead self.entry text
-            → result ≡ Err (TextError.BadByte at) → IsBadByte text at }
-        ensures too_deep { (text : List ℕ) (at : ℕ) → HasRead self.entry text
-            → result ≡ Err (TextError.TooDeep at)
-            → (tokens : List Lexeme) × IsCut 0 text tokens × (too_deep tokens ≡ Some at) }
-        ensures syntax { (text : List ℕ) (at : ℕ) → HasRead self.entry text
-            → result ≡ Err (TextError.Syntax at) → (tokens : List Lexeme) × IsCut 0 text tokens
-            × (too_deep tokens ≡ None) × IsSyntaxFault tokens at }
-        ensures wrong { (text : List ℕ) (cause : Cause) (at : ℕ) → HasRead self.entry text
-            → result ≡ Err (TextError.Wrong cause at) → (program : List Placed)
-            × IsProgramText text program × (first_fault most_calls program ≡ Some (cause, at)) }
+        ensures answers { (text : List ℕ) → HasRead self.entry text → IsTextAnswer text result }
         ensures failed { self.entry.failed ≡ true → result ≡ Err TextError.NoMemory }
     {
         if self.failed {

@@ -3,19 +3,15 @@
 ghost use Rattle.std.specs.Prelude.{◌≡◌, ◌+◌, ◌^◌, ◌<◌, ◌≤◌, ◌++◌, List, [], ℕ, length, map, None, Some, Err, IfOk, IfSome, MatchOption, OnOk};
 ghost use Rattle.std.specs.List.{All};
 ghost use Rattle.std.specs.Borrow.{Bor};
-ghost use Rattle.zx_gates.specs.Elementary.{IsElementary};
 ghost use Rattle.qasm_lexer.specs.declared.token.Token.{Token};
 ghost use Rattle.qasm_lexer.specs.Internal.Moved.{moved};
 ghost use Rattle.qasm_lexer.specs.Tokens.{Lexeme, lexemes, IsCut, IsBadByte};
-ghost use Rattle.qasm_reader.specs.Depth.{too_deep, IsDepth};
-ghost use Rattle.qasm_reader.specs.Grammar.{IsSyntaxFault};
 ghost use Rattle.qasm_reader.specs.Parts.{IsFirstPart};
 ghost use Rattle.qasm_reader.specs.Syntax.{Placed};
-ghost use Rattle.qasm_scope.specs.declared.causes.Cause.{Cause};
-ghost use Rattle.qasm_scope.specs.Meaning.{Means, first_fault, most_calls};
 ghost use Rattle.qasm_scope.specs.Texts.{IsProgramText};
 ghost use Rattle.qasm_inline.specs.Circuits.{HasTaken};
-ghost use Rattle.qasm_inline.specs.Internal.Readings.{AreTaken, IsKept, IsNextOf, IsTakenNext, IsTextAnswer, Keeps, ReadsOn, open_place};
+ghost use Rattle.qasm_inline.specs.TextAnswers.{IsTextAnswer};
+ghost use Rattle.qasm_inline.specs.Internal.Readings.{AreTaken, IsKept, IsNextOf, IsTakenNext, Keeps, ReadsOn, open_place};
 
 use crate::circuit::{Circuit, OpenGate};
 use crate::error::{InlineError, TextError};
@@ -39,21 +35,7 @@ const BATCH: usize = 4096;
 /// `BadByte`, `TooDeep`, `Syntax` and `Wrong` with the text's first fault, in this order: where the text has none of
 /// the kinds before. `NoMemory` where memory runs out.
 pub fn read(alloc: Global, text: &[u8]) -> Result<Elementary, TextError>
-    // The text is a program without fault, and the circuit is what it means.
-    ensures means { IfOk result (λ circuit. (program : List Placed) × IsProgramText text.now program
-        × (first_fault most_calls program ≡ None)
-        × Means program circuit.qubits circuit.gates circuit.bits circuit.measured) }
-    ensures valid { IfOk result (λ circuit. IsElementary circuit) }
-    // A fault that is told is the text's.
-    ensures bad_byte { (at : ℕ) → result ≡ Err (TextError.BadByte at) → IsBadByte text.now at }
-    ensures too_deep { (at : ℕ) → result ≡ Err (TextError.TooDeep at)
-        → (tokens : List Lexeme) × IsCut 0 text.now tokens × (too_deep tokens ≡ Some at) }
-    ensures syntax { (at : ℕ) → result ≡ Err (TextError.Syntax at)
-        → (tokens : List Lexeme) × IsCut 0 text.now tokens × (too_deep tokens ≡ None)
-        × IsSyntaxFault tokens at }
-    ensures wrong { (cause : Cause) (at : ℕ) → result ≡ Err (TextError.Wrong cause at)
-        → (program : List Placed) × IsProgramText text.now program
-        × (first_fault most_calls program ≡ Some (cause, at)) }
+    ensures answers { IsTextAnswer text.now result }
 {
     let arena = Bump::new(alloc);
     let mut words = Words::new(alloc, &arena);

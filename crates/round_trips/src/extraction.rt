@@ -11,8 +11,8 @@ fn no_qubits_have_no_gates(rt: HostRuntime) -> Result<(), Fail> {
     let graph = OpenGraph::new(rt.alloc());
     let flow = Flow::of_table(&graph, FlowTable::new(rt.alloc()))?;
     check_size(&graph)?;
-    let (circuit, _) = extract(rt.alloc(), graph, flow)?;
-    assert_eq!(rt; circuit.qubits(), 0);
-    assert!(rt; circuit.gates().is_empty());
+    let made = extract(rt.alloc(), graph, flow)?;
+    assert_eq!(rt; made.gates.qubits(), 0);
+    assert!(rt; made.gates.gates().is_empty());
     Ok(())
 }

@@ -36,7 +36,9 @@ fn steps_done(
     circuit: &GateList,
     steps: &[Step],
 ) -> Result<u64, Fail> {
-    let (mut graph, mut flow, _) = translate(alloc, circuit)?;
+    let made = translate(alloc, circuit)?;
+    let mut graph = made.graph;
+    let mut flow = made.flow;
     let mut done = 0u64;
     for step in steps {
         if step.is_allowed(&graph) {

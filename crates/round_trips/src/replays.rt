@@ -38,7 +38,9 @@ fn drawn_gate(seed: &mut u64) -> Gate {
 #[test]
 fn all_steps_lead_there_again(rt: HostRuntime) -> Result<(), Fail> {
     let given = drawn(&rt, rt.alloc(), 1, 250)?;
-    let (mut graph, mut flow, _) = translate(rt.alloc(), &given)?;
+    let made = translate(rt.alloc(), &given)?;
+    let mut graph = made.graph;
+    let mut flow = made.flow;
     let mut trace = Trace::new(rt.alloc());
     reduce_traced(&mut graph, &mut flow, &mut trace)?;
     assert!(rt; trace.as_slice().len() > 100);
@@ -69,7 +71,9 @@ fn steps_with_room(
     given: &GateList,
     qubits: u16,
 ) -> Result<Trace, Fail> {
-    let (mut graph, mut flow, _) = translate(alloc, given)?;
+    let made = translate(alloc, given)?;
+    let mut graph = made.graph;
+    let mut flow = made.flow;
     let mut trace = Trace::new(alloc);
     reduce_with_room(&mut graph, &mut flow, &mut trace, qubits)?;
     leads_there(rt, alloc, given, &trace, &graph)?;

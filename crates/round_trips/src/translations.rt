@@ -153,13 +153,13 @@ fn drawn(alloc: Global, qubits: u16, gates: &[Gate]) -> Result<Vec<u8>, Fail>
     requires { qubits ≤ 1024 }
 {
     let list = circuit(alloc, qubits, gates)?;
-    let (graph, flow, _) = translate(alloc, &list)?;
+    let made = translate(alloc, &list)?;
     let mut text = Vec::new(alloc);
-    add_phases(&mut text, &graph)?;
-    add_edges(&mut text, &graph)?;
-    add_ends(&mut text, b':', graph.inputs())?;
-    add_ends(&mut text, b'>', graph.outputs())?;
-    add_corrections(&mut text, &flow)?;
+    add_phases(&mut text, &made.graph)?;
+    add_edges(&mut text, &made.graph)?;
+    add_ends(&mut text, b':', made.graph.inputs())?;
+    add_ends(&mut text, b'>', made.graph.outputs())?;
+    add_corrections(&mut text, &made.flow)?;
     Ok(text)
 }
 
@@ -207,9 +207,9 @@ fn scalars_of_translations(rt: HostRuntime) -> Result<(), Fail> {
     ];
     for (count, root2) in [(1, 0), (2, -2), (3, -4), (5, -4), (6, -6)] {
         let list = circuit(rt.alloc(), 2, &gates[..count])?;
-        let (_graph, _flow, scalar) = translate(rt.alloc(), &list)?;
-        assert_eq!(rt; scalar.root2, root2);
-        assert_eq!(rt; scalar.turn, Sixteenth::new(0));
+        let made = translate(rt.alloc(), &list)?;
+        assert_eq!(rt; made.scalar.root2, root2);
+        assert_eq!(rt; made.scalar.turn, Sixteenth::new(0));
     }
     Ok(())
 }
@@ -217,9 +217,9 @@ fn scalars_of_translations(rt: HostRuntime) -> Result<(), Fail> {
 // The phases of the graph of a circuit on three qubits.
 fn phases(alloc: Global, gates: &[Gate]) -> Result<Vec<u8>, Fail> {
     let list = circuit(alloc, 3, gates)?;
-    let (graph, _flow, _) = translate(alloc, &list)?;
+    let made = translate(alloc, &list)?;
     let mut text = Vec::new(alloc);
-    add_phases(&mut text, &graph)?;
+    add_phases(&mut text, &made.graph)?;
     Ok(text)
 }
 

@@ -53,15 +53,17 @@ fn extracted(rt: &impl Abort, alloc: Global, graph: OpenGraph, flow: Flow) -> Re
     assert!(rt; graph.inputs().len() == graph.outputs().len());
     assert!(rt; graph.outputs().len() <= 1024);
     check_size(&graph)?;
-    let (found, _) = extract(alloc, graph, flow)?;
-    Ok(found)
+    let found = extract(alloc, graph, flow)?;
+    Ok(found.gates)
 }
 
 // What simplification makes of a circuit's graph with its flow.
 fn reduced(alloc: Global, circuit: &GateList) -> Result<(OpenGraph, Flow), Fail>
     ensures { IfOk result (λ made. IsFlow made.0.graph made.1.flow) }
 {
-    let (mut graph, mut flow, _) = translate(alloc, circuit)?;
+    let made = translate(alloc, circuit)?;
+    let mut graph = made.graph;
+    let mut flow = made.flow;
     reduce_traced(&mut graph, &mut flow, &mut Trace::new(alloc))?;
     Ok((graph, flow))
 }
@@ -136,7 +138,9 @@ pub fn rewritten(
 ) -> Result<(OpenGraph, Flow), Fail>
     ensures { IfOk result (λ made. IsFlow made.0.graph made.1.flow) }
 {
-    let (mut graph, mut flow, _) = translate(alloc, circuit)?;
+    let made = translate(alloc, circuit)?;
+    let mut graph = made.graph;
+    let mut flow = made.flow;
     for step in steps {
         rewrite(&mut graph, &mut flow, *step)?;
     }

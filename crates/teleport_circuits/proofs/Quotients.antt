@@ -14,9 +14,8 @@ use Rattle.zx_calculus.specs.StepScalars.{IsSumTimes}
 use Rattle.zx_gates.specs.Circuit.{Circuit, IsCircuit}
 use Rattle.zx_gates.specs.Maps.{amp}
 use Rattle.zx_gates.specs.declared.gate.Gate.{Gate}
-use Rattle.circuit_graph.specs.Translation.{translated}
+use Rattle.circuit_graph.specs.Translation.{map_scalar, translated}
 use Rattle.circuit_graph.specs.Internal.Runs.{State, Translates}
-use Rattle.circuit_graph.specs.Internal.Scalars.{map_scalar}
 use Rattle.circuit_graph.proofs.Whole.{translated_scaled}
 use Rattle.teleport_circuits.specs.Circuits.{with_gates}
 use Rattle.teleport_circuits.specs.Teleporting.{new_phase, spots_of, teleported_circuit, HaveQuotient}

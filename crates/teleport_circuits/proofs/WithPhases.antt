@@ -11,9 +11,8 @@ use Rattle.zx_gates.specs.Counting.{is_cx, is_not}
 use Rattle.zx_gates.specs.Internal.Scalars.{scalar}
 use Rattle.zx_gates.specs.declared.gate.Gate.{Gate}
 use Rattle.zx_gates.specs.declared.gate.Gate.TheVariants.{H, Phase, Cz, Cx, Not}
-use Rattle.circuit_graph.specs.Translation.{by_hadamards, written_out, translated}
+use Rattle.circuit_graph.specs.Translation.{by_hadamards, written_out, written_count, map_scalar, translated}
 use Rattle.circuit_graph.specs.Internal.Runs.{State, begun, IsReady, IsRun, IsPhaseStep, Translates}
-use Rattle.circuit_graph.specs.Internal.Scalars.{map_scalar, written_count}
 use Rattle.circuit_graph.proofs.RunLemmas.{run_comes, run-append}
 use Rattle.circuit_graph.proofs.Whole.{run_translates}
 use Rattle.circuit_graph.proofs.WrittenOut.{count-cons}

@@ -5,7 +5,6 @@ use Rattle.std.proofs.lemmas.List.Elements.{All-nil, All-head, All-tail, All-pus
 use Rattle.std.proofs.lemmas.List.{reverse-append, reverse-reverse}
 use Rattle.zx_model.specs.Bits.{member}
 use Rattle.zx_model.specs.Number.{one, mul}
-use Rattle.zx_model.specs.Proportional.{Proportional}
 use Rattle.zx_model.specs.Scalar.{root_of_two_power, IsScaled}
 use Rattle.zx_model.proofs.Ring.{mul-one, one-mul}
 use Rattle.zx_model.proofs.Powers.{root_power-zero}
@@ -24,7 +23,7 @@ use Rattle.zx_gates.specs.declared.gate.Gate.{Gate}
 use Rattle.circuit_laws.specs.Followed.{EndsAt}
 use Rattle.circuit_laws.specs.Gates.{hadamards_from}
 use Rattle.circuit_laws.specs.Peeling.{HasPlainOutput, IsWires}
-use Rattle.circuit_laws.proofs.Composing.{peels_at_end, ends_at_sum, ends_proportional}
+use Rattle.circuit_laws.proofs.Composing.{peels_at_end, ends_at_sum}
 use Rattle.circuit_laws.proofs.Counts.{hadamards_odd}
 use Rattle.circuit_laws.proofs.Wires.{wires_end}
 use Rattle.circuit_laws.proofs.GateLists.{hadamards_few}
@@ -82,10 +81,6 @@ module _ (s : State) (k p q : ℕ) (t : State) (a : Leads s k p q t) (none : s.g
       (subst (λ es. EndsAt (mul (power_of_two a.doublings) one) s.graph (hadamards_from 0 es ++ a.taken)) a.inputs
       (peels_at_end (power_of_two a.doublings) one s.graph t.graph (hadamards_from 0 t.graph.inputs) a.taken a.map
       (wires_end t.graph w wires))))
-
-  pub whole_map : Proportional (length s.graph.inputs) (length s.graph.outputs) (sum s.graph)
-      (amp (hadamards_from 0 s.graph.inputs ++ t.gates))
-  whole_map = ends_proportional s.graph (hadamards_from 0 s.graph.inputs ++ t.gates) ends_at.0
 
   pub whole_exact : HasExactMap a.doublings s.graph (hadamards_from 0 s.graph.inputs ++ t.gates)
   whole_exact = record {
@@ -175,7 +170,6 @@ module _ {doublings : ℕ} (s0 s1 s2 s3 s4 : State) (none : s0.gates ≡ []) (en
 
   pub extracted : IsExtracted doublings s0.graph (hadamards_from 0 s0.graph.inputs ++ s4.gates)
   extracted = record {
-    map = whole_map s0 _ _ _ last together none formed wires;
     exact = subst (λ d. HasExactMap d s0.graph (hadamards_from 0 s0.graph.inputs ++ s4.gates)) doubled (whole_exact s0 _ _ _ last together none formed wires);
     odd = whole_odd s0 _ _ _ last together none formed wires;
     few = few_in_all n _ n (n * (n - 1) / 2 + n) taken.spiders taken.gadgets (XY_without_output s0.graph)

@@ -1,7 +1,6 @@
 //! The circuit of a graph with a flow.
 
 ghost use Rattle.std.specs.Prelude.{◌≡◌, ◌≢◌, ◌<◌, ◌≤◌, ◌*◌, ℕ, pos, [], length, IfOk};
-ghost use Rattle.zx_model.specs.Proportional.{Proportional};
 ghost use Rattle.zx_model.specs.Scalar.{IsScaled, IsWithin};
 ghost use Rattle.zx_calculus.specs.Graph.{plane_of, Live};
 ghost use Rattle.zx_calculus.specs.Graph as zx;
@@ -19,7 +18,7 @@ use crate::frontier::Frontier;
 use open_graph::OpenGraph;
 use std::alloc::{AllocError, Global};
 use zx_flow::Flow;
-use zx_gates::GateList;
+use zx_gates::ScaledCircuit;
 use zx_model::{Scalar, Sixteenth};
 
 /// The circuit of a graph with a flow, taken off the graph gate by gate, from the outputs on.
@@ -28,30 +27,31 @@ use zx_model::{Scalar, Sixteenth};
 /// are found until none is left to find: the only error is want of memory. Beside the circuit stands the
 /// scalar between the two: the graph's sum is so many times the circuit's map. The graph has fewer than
 /// 2^56 vertices.
-pub fn extract(alloc: Global, g: OpenGraph, f: Flow) -> Result<(GateList, Scalar), AllocError>
+pub fn extract(alloc: Global, g: OpenGraph, f: Flow) -> Result<ScaledCircuit, AllocError>
     requires flow { IsFlow g.graph f.flow }
     requires planes { (v : ℕ) → Live g.graph v → plane_of g.graph v ≢ zx.XZ }
     requires ends { length g.graph.inputs ≡ length g.graph.outputs }
     requires few { length g.graph.outputs ≤ most_qubits }
     requires few_vertices { length g.graph.vertices < most_vertices }
-    ensures qubits { IfOk result (λ made. made.0.qubits ≡ length g.graph.outputs) }
+    ensures qubits { IfOk result (λ made. made.gates.qubits ≡ length g.graph.outputs) }
 
     // The map is kept: the graph's sum is the circuit's map times a power of two.
-    ensures map { IfOk result (λ made. Proportional
-        (length g.graph.inputs) (length g.graph.outputs) (sum g.graph) (amp made.0.gates)) }
-    ensures scalar { IfOk result (λ made. IsScaled
-        (length g.graph.inputs) (length g.graph.outputs) (sum g.graph) made.1 (amp made.0.gates)) }
-    ensures small { IfOk result (λ made. IsWithin (2 * not_XY g.graph) made.1) }
+    ensures scalar { IfOk result (λ made. IsScaled (length g.graph.inputs) (length g.graph.outputs)
+        (sum g.graph) made.scalar (amp made.gates.gates)) }
+    ensures small { IfOk result (λ made. IsWithin (2 * not_XY g.graph) made.scalar) }
 
     // Its gates.
-    ensures odd { IfOk result (λ made. gate_odd_phases made.0.gates ≤ odd_phases g.graph) }
-    ensures few_gates { IfOk result (λ made. length made.0.gates ≤
+    ensures odd { IfOk result (λ made. gate_odd_phases made.gates.gates ≤ odd_phases g.graph) }
+    ensures few_gates { IfOk result (λ made. length made.gates.gates ≤
         most_extracted_gates (length g.graph.outputs) (XY_without_output g.graph) (not_XY g.graph)) }
 {
     let mut frontier = Frontier::begin(alloc, g, &f)?;
     let doublings = frontier.take_all()?;
     let gates = frontier.into_circuit()?;
-    Ok((gates, doubled(doublings)))
+    Ok(ScaledCircuit {
+        gates,
+        scalar: doubled(doublings),
+    })
 }
 
 impl Frontier {

@@ -25,7 +25,7 @@
 //! - `laws`: which rows of a graph with a flow are independent.
 //!
 //! ```rust
-//! let (circuit, scalar) = extract(alloc, graph, flow)?;
+//! let made = extract(alloc, graph, flow)?;
 //! let set = choose_rows(alloc, &m, &target, &kept)?;
 //! ```
 #![tactic(auto)]

@@ -19,6 +19,7 @@ mod gate;
 mod gate_list;
 mod laws;
 mod lowering;
+mod scaled_circuit;
 mod tally;
 
 pub use counting::counts;
@@ -27,4 +28,5 @@ pub use gate::{Gate, Qubit};
 pub use gate_list::{GateList, Links, Parts};
 pub use laws::{lowering_keeps_map_and_odd_phases, no_map_is_zero, worked_maps};
 pub use lowering::lower;
+pub use scaled_circuit::ScaledCircuit;
 pub use tally::Counts;

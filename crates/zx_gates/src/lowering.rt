@@ -1,7 +1,6 @@
 //! Circuits of elementary gates, by the gates that the optimiser works on.
 
 ghost use Rattle.std.specs.Prelude.{◌≡◌, ◌<◌, ◌*◌, ◌++◌, ◌∷◌, length, IfOk, OnOk};
-ghost use Rattle.zx_model.specs.Proportional.{Proportional};
 ghost use Rattle.zx_model.specs.Scalar.{IsScaled, IsWithin};
 ghost use Rattle.zx_gates.specs.Circuit.{gate_odd_phases};
 ghost use Rattle.zx_gates.specs.Maps.{amp};
@@ -14,21 +13,20 @@ ghost use Rattle.zx_gates.specs.declared.elementary.ElementaryGate.TheVariants.{
 use crate::elementary::{Elementary, ElementaryGate};
 use crate::gate::{Gate, Qubit};
 use crate::gate_list::GateList;
+use crate::scaled_circuit::ScaledCircuit;
 use std::alloc::{AllocError, Global};
 use zx_model::{Scalar, Sixteenth};
 
 /// The circuit by the optimiser's own gates, and the scalar that its map is times theirs.
-pub fn lower(alloc: Global, e: &Elementary) -> Result<(GateList, Scalar), AllocError>
+pub fn lower(alloc: Global, e: &Elementary) -> Result<ScaledCircuit, AllocError>
     requires { IsElementary e.now }
-    ensures qubits { IfOk result (λ made. made.0.qubits ≡ e.now.qubits) }
-    ensures list { IfOk result (λ made. made.0.gates ≡ lowered e.now.gates) }
-    ensures map { IfOk result (λ made. Proportional e.now.qubits e.now.qubits
-        (amp_elementary e.now.gates) (amp made.0.gates)) }
+    ensures qubits { IfOk result (λ made. made.gates.qubits ≡ e.now.qubits) }
+    ensures list { IfOk result (λ made. made.gates.gates ≡ lowered e.now.gates) }
     ensures scaled { IfOk result (λ made. IsScaled e.now.qubits e.now.qubits
-        (amp_elementary e.now.gates) made.1 (amp made.0.gates)) }
-    ensures small { IfOk result (λ made. IsWithin (2 * length e.now.gates) made.1) }
+        (amp_elementary e.now.gates) made.scalar (amp made.gates.gates)) }
+    ensures small { IfOk result (λ made. IsWithin (2 * length e.now.gates) made.scalar) }
     ensures odd { IfOk result (λ made.
-        gate_odd_phases made.0.gates ≡ elementary_odd_phases e.now.gates) }
+        gate_odd_phases made.gates.gates ≡ elementary_odd_phases e.now.gates) }
 {
     let mut list = GateList::new(alloc, e.qubits);
     let mut scalar = Scalar::one();
@@ -36,7 +34,10 @@ pub fn lower(alloc: Global, e: &Elementary) -> Result<(GateList, Scalar), AllocE
         push_lowered(&mut list, gate)?;
         scalar = scalar.times(lowering_scalar(gate));
     }
-    Ok((list, scalar))
+    Ok(ScaledCircuit {
+        gates: list,
+        scalar,
+    })
 }
 
 // The scalar that a gate is times the gates that stand for it.

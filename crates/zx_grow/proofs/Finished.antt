@@ -12,10 +12,9 @@ use Rattle.zx_calculus.proofs.Steps.{run_odd}
 use Rattle.gflow_laws.specs.Flow.{Correction}
 use Rattle.zx_gates.specs.Circuit.{Circuit, IsOnQubits}
 use Rattle.zx_gates.specs.Maps.{amp}
-use Rattle.circuit_graph.specs.Translation.{translated, translated_table, written_out}
+use Rattle.circuit_graph.specs.Translation.{map_scalar, translated, translated_table, written_out}
 use Rattle.circuit_graph.specs.Internal.Runs.{Translates}
 use Rattle.circuit_graph.proofs.Whole.{translated_scaled}
-use Rattle.growing_laws.specs.Growing.{map_scalar}
 use Rattle.growing_laws.specs.Growth.{Reaches}
 use Rattle.growing_laws.proofs.GrownGraphs.{grown_reached, reached_odd}
 use Rattle.growing_laws.proofs.TranslatedGraphs.{translates}

@@ -67,18 +67,8 @@ pub gains_then : (first second : List Gate) (a b c : Growth) → Gains first a b
 gains_then first second a b c f s n gates grown =
     subst (λ l. IsGrown n l c) (append_assoc gates first second) (s n (gates ++ first) (f n gates grown))
 
-pub still_grown : (more : List Gate) (a b : Growth) → Gains more a b → HasGrown a → HasGrown b
-still_grown more a b gains has = record { qubits = has.qubits; gates = has.gates ++ more; grown = gains has.qubits has.gates has.grown }
-
 pub plain_outputs : (g : Growth) → HasGrown g → are_plain g.ordered.graph.outputs ≡ true
 plain_outputs g has = grown_plain has.qubits has.gates has.grown.on_qubits g.ordered.graph has.grown.comes
-
--- gates leave as many outputs
-pub same_width : (more : List Gate) (a b : Growth) → Gains more a b → HasGrown a → length b.ordered.graph.outputs ≡ length a.ordered.graph.outputs
-same_width more a b gains has =
-    let after = gains has.qubits has.gates has.grown in
-    grown_outputs has.qubits (has.gates ++ more) after.on_qubits b.ordered.graph after.comes
-    ∙ sym (grown_outputs has.qubits has.gates has.grown.on_qubits a.ordered.graph has.grown.comes)
 
 -- a step that splits nothing
 pub keeps_step : (before after : Growth) (s : Step) (t : Scalar) → is_split s ≡ false → IsStep before.ordered.graph s after.ordered.graph →

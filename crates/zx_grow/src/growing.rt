@@ -1,11 +1,10 @@
 //! Gates one after the other, and moves after each block of spiders.
 
-ghost use Rattle.std.specs.Prelude.{◌≡◌, ◌<◌, ◌≤◌, ◌*◌, [], ◌∷◌, length, IfOk, OnOk};
+ghost use Rattle.std.specs.Prelude.{◌≡◌, ◌<◌, ◌*◌, [], ◌∷◌, length, IfOk, OnOk};
 ghost use Rattle.zx_model.specs.Scalar.{IsWithin};
 ghost use Rattle.zx_gates.specs.Circuit.{IsOnQubits};
 ghost use Rattle.zx_gates.specs.declared.gate.Gate.TheVariants.{H};
-ghost use Rattle.circuit_graph.specs.Translation.{by_hadamards};
-ghost use Rattle.growing_laws.specs.Growing.{map_scalar};
+ghost use Rattle.circuit_graph.specs.Translation.{by_hadamards, map_scalar};
 ghost use Rattle.zx_grow.specs.Grown.{GrowsTo};
 ghost use Rattle.zx_grow.specs.Internal.Growing.{IsGrown, HasGrown, Keeps, Gains};
 

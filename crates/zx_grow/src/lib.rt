@@ -1,9 +1,9 @@
 //! Circuits to reduced graphs, by graphs that are simplified while they grow.
 //!
-//! Gates are put behind the outputs of a graph one after the other. After each block of new spiders moves
-//! are made at vertices that no gate reaches any more, so that the graph stays small, and parts of the
-//! circuit that are far from each other are joined as late as possible. Moves that split an end are made at
-//! the end alone.
+//! Gates are put behind the outputs of a graph one after the other. A spider of an even phase between two
+//! others goes at once. After each block of new spiders moves are made at vertices that no gate reaches any
+//! more, so that the graph stays small, and parts of the circuit that are far from each other are joined as
+//! late as possible. Moves that split an end are made at the end alone.
 //!
 //! Inside:
 //!

@@ -6,6 +6,7 @@ use Rattle.zx_model.specs.Number.{Number}
 use Rattle.zx_model.specs.Scalar.{IsScaled, IsWithin, product_of_scalars}
 use Rattle.zx_model.specs.declared.scalar.Scalar.{Scalar}
 use Rattle.zx_model.proofs.Scalars.{scaled_proportional, scaled_trans, within_more, within_product}
+use Rattle.zx_gates.specs.declared.scaled_circuit.ScaledCircuit.{ScaledCircuit}
 use Rattle.zx_gates.specs.declared.tally.Counts.{Counts}
 use Rattle.zx_gates.specs.Circuit.{Circuit, gate_odd_phases, gate_bound as list_bound}
 use Rattle.zx_gates.specs.Maps.{amp}
@@ -14,7 +15,6 @@ use Rattle.piece_laws.specs.Replacement.{IsReplacement}
 use Rattle.zx_peephole.specs.Tidy.{IsTidy}
 use Rattle.zx_pieces.specs.Scaling.{most_root2_of_passes}
 use Rattle.zx_teleport.specs.Scalars.{most_teleported_root2}
-use Rattle.zx_optimise.specs.declared.optimiser.Candidate.{Candidate}
 use Rattle.zx_optimise.specs.Optimising.{bound_of, counts_of, most_optimised_root2, IsCleaned, IsMapTimes, IsBest, IsNoDearerThanRead, IsNoDearerThanTeleported, IsPlain, Teleports}
 use Rattle.zx_optimise.specs.Internal.Candidates.{is_dearer, most_whole_root2, IsCandidate, IsCheaper, IsNoDearerThan, IsTakenOver, IsTeleportedCleanup, Offers}
 
@@ -91,33 +91,33 @@ cleanup_cheap read made clean =
     no_dearer_by-parts p.odd p.two_qubit p.total q.odd q.two_qubit q.total clean.odd clean.two_qubit clean.total
 
 -- ---- what is taken in the place of another
-pub taken-trans : (first second third : Candidate) → IsTakenOver first second → IsTakenOver second third → IsTakenOver first third
+pub taken-trans : (first second third : ScaledCircuit) → IsTakenOver first second → IsTakenOver second third → IsTakenOver first third
 taken-trans first second third (inl same) (inl again) = inl (again ∙ same)
 taken-trans first second third (inl same) (inr less) =
-    inr (subst (λ (best : Candidate). IsCheaper (counts_of third.gates.gates) (counts_of best.gates.gates)) same less)
+    inr (subst (λ (best : ScaledCircuit). IsCheaper (counts_of third.gates.gates) (counts_of best.gates.gates)) same less)
 taken-trans first second third (inr less) (inl same) =
-    inr (subst (λ (made : Candidate). IsCheaper (counts_of made.gates.gates) (counts_of first.gates.gates)) (sym same) less)
+    inr (subst (λ (made : ScaledCircuit). IsCheaper (counts_of made.gates.gates) (counts_of first.gates.gates)) (sym same) less)
 taken-trans first second third (inr less) (inr more) =
     let p = counts_of third.gates.gates in
     let q = counts_of second.gates.gates in
     let r = counts_of first.gates.gates in
     inr (cheaper_by-trans p.odd p.two_qubit p.total q.odd q.two_qubit q.total r.odd r.two_qubit r.total more less)
 
-pub taken_cheap : (best made : Candidate) → IsTakenOver best made → IsNoDearerThan made.gates best.gates
-taken_cheap best made (inl same) = subst (λ (b : Candidate). IsNoDearerThan made.gates b.gates) same (inr (refl, inr (refl, le_refl _)))
+pub taken_cheap : (best made : ScaledCircuit) → IsTakenOver best made → IsNoDearerThan made.gates best.gates
+taken_cheap best made (inl same) = subst (λ (b : ScaledCircuit). IsNoDearerThan made.gates b.gates) same (inr (refl, inr (refl, le_refl _)))
 taken_cheap best made (inr less) =
     let p = counts_of made.gates.gates in
     let q = counts_of best.gates.gates in
     cheaper-no_dearer p.odd p.two_qubit p.total q.odd q.two_qubit q.total less
 
-taken_at_tie : (best made : Candidate) → IsTakenOver best made → IsNoDearerThan best.gates made.gates → made.gates ≡ best.gates
-taken_at_tie best made (inl same) cheap = ap (λ (c : Candidate). c.gates) same
+taken_at_tie : (best made : ScaledCircuit) → IsTakenOver best made → IsNoDearerThan best.gates made.gates → made.gates ≡ best.gates
+taken_at_tie best made (inl same) cheap = ap (λ (c : ScaledCircuit). c.gates) same
 taken_at_tie best made (inr less) cheap =
     let p = counts_of made.gates.gates in
     let q = counts_of best.gates.gates in
     absurd (cheaper-dearer p.odd p.two_qubit p.total q.odd q.two_qubit q.total less cheap)
 
-pub best_of_all : {E : Type 0} (read : Circuit) (plain : Candidate) (found : Result Candidate E) → IsPlain read plain.gates
+pub best_of_all : {E : Type 0} (read : Circuit) (plain : ScaledCircuit) (found : Result ScaledCircuit E) → IsPlain read plain.gates
     → IfOk found (IsTakenOver plain) → IfOk found (λ made. IsNoDearerThanRead read made.gates)
     → IfOk found (λ made. IsNoDearerThanTeleported read made.gates) → IfOk found (λ made. IsBest read made.gates)
 best_of_all read plain (Err error) is taken than_read than_teleported = tt
@@ -139,10 +139,10 @@ pub scaled_by_way : (n m : ℕ) (f g h : List Bool → List Bool → Number) (s 
 scaled_by_way n m f g h s t made same first second is =
     subst (λ u. IsScaled n n f u h) (sym is) (scaled_trans n n f g h s t first (subst (λ k. IsScaled k k g t h) same second))
 
-pub candidate-offered : (k : ℕ) (read : Circuit) (made : Candidate) → Offers k read made → IsCandidate k read made
+pub candidate-offered : (k : ℕ) (read : Circuit) (made : ScaledCircuit) → Offers k read made → IsCandidate k read made
 candidate-offered k read made o = record { qubits = o.optimises.qubits; odd = o.optimises.odd; tidy = o.optimises.tidy; scalar = o.scalar; small = o.small }
 
-pub candidate-whole : (read : Circuit) (made : Candidate) → IsCandidate most_whole_root2 read made → IsCandidate most_optimised_root2 read made
+pub candidate-whole : (read : Circuit) (made : ScaledCircuit) → IsCandidate most_whole_root2 read made → IsCandidate most_optimised_root2 read made
 candidate-whole read made is = record {
   qubits = is.qubits;
   odd = is.odd;
@@ -151,7 +151,7 @@ candidate-whole read made is = record {
   small = within_more most_whole_root2 most_optimised_root2 made.scalar is.small (omega arith);
 }
 
-pub offers-whole : (read : Circuit) (made : Candidate) → Offers most_whole_root2 read made → Offers most_optimised_root2 read made
+pub offers-whole : (read : Circuit) (made : ScaledCircuit) → Offers most_whole_root2 read made → Offers most_optimised_root2 read made
 offers-whole read made o = record {
   optimises = o.optimises;
   scalar = o.scalar;
@@ -159,7 +159,7 @@ offers-whole read made o = record {
 }
 
 -- a candidate that is taken: it is within the bound, and has no more odd phases than the one in whose place it comes
-pub offers-candidate : (k : ℕ) (read : Circuit) (best made : Candidate) → Offers k read best → IsCandidate k read made →
+pub offers-candidate : (k : ℕ) (read : Circuit) (best made : ScaledCircuit) → Offers k read best → IsCandidate k read made →
     length made.gates.gates ≤ bound_of read → gate_odd_phases made.gates.gates ≤ gate_odd_phases best.gates.gates → Offers k read made
 offers-candidate k read best made o is few fewer = record {
   optimises = record {
@@ -181,7 +181,7 @@ offers-candidate k read best made o is few fewer = record {
 }
 
 -- pieces of a candidate are replaced, and what is left is tidied
-pub candidate-shrunk : (read : Circuit) (made shrunk : Candidate) (s : Scalar) → IsCandidate most_whole_root2 read made →
+pub candidate-shrunk : (read : Circuit) (made shrunk : ScaledCircuit) (s : Scalar) → IsCandidate most_whole_root2 read made →
     shrunk.gates.qubits ≡ made.gates.qubits → IsReplacement made.gates.qubits made.gates.gates shrunk.gates.gates →
     IsScaled made.gates.qubits made.gates.qubits (amp made.gates.gates) s (amp shrunk.gates.gates) →
     IsWithin most_root2_of_passes s → IsTidy shrunk.gates.gates → shrunk.scalar ≡ product_of_scalars made.scalar s → IsCandidate most_optimised_root2 read shrunk
@@ -196,7 +196,7 @@ candidate-shrunk read made shrunk s is qubits replaced scaled few tidy product =
 }
 
 -- ---- what is cleaned up
-pub candidate-cleaned : (read : Circuit) (made : Candidate) → IsCleaned read made.gates → IsMapTimes read made.scalar made.gates →
+pub candidate-cleaned : (read : Circuit) (made : ScaledCircuit) → IsCleaned read made.gates → IsMapTimes read made.scalar made.gates →
     IsWithin list_bound made.scalar → IsCandidate most_whole_root2 read made
 candidate-cleaned read made clean scaled few = record {
   qubits = clean.qubits;
@@ -206,7 +206,7 @@ candidate-cleaned read made clean scaled few = record {
   small = within_more list_bound most_whole_root2 made.scalar few (omega arith);
 }
 
-pub candidate-teleported : (read : Circuit) (teleported : Circuit) (made : Candidate) (s t : Scalar) → Teleports read teleported → IsCleaned teleported made.gates →
+pub candidate-teleported : (read : Circuit) (teleported : Circuit) (made : ScaledCircuit) (s t : Scalar) → Teleports read teleported → IsCleaned teleported made.gates →
     IsMapTimes read s teleported → IsWithin most_teleported_root2 s → IsMapTimes teleported t made.gates → IsWithin list_bound t →
     made.scalar ≡ product_of_scalars s t → IsCandidate most_whole_root2 read made
 candidate-teleported read teleported made s t teleports clean first few second fewer product = record {

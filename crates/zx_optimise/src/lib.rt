@@ -8,7 +8,7 @@
 //! It is proved from what `simplify_circuit`, `teleport`, `tidy` and `shrink` promise, with no word of vertices and edges.
 //!
 //! ```rust
-//! let (circuit, scalar) = optimise(alloc, &read, true)?;
+//! let made = optimise(alloc, &read, true)?;
 //! ```
 #![tactic(auto)]
 

@@ -1,10 +1,8 @@
 //! Circuits through the graph and back.
 
 ghost use Rattle.std.specs.Prelude.{◌≡◌, ◌≤◌, true, false, length, nat_le, IfOk};
-ghost use Rattle.zx_model.specs.Proportional.{Proportional};
 ghost use Rattle.zx_model.specs.Scalar.{IsWithin};
 ghost use Rattle.zx_gates.specs.Circuit.{Circuit, gate_odd_phases};
-ghost use Rattle.zx_gates.specs.Maps.{amp};
 ghost use Rattle.zx_peephole.specs.Tidy.{IsTidy};
 ghost use Rattle.circuit_graph.specs.Translation.{translated};
 ghost use Rattle.zx_extract.specs.Simplified.{gate_bound, IsThroughReduced};
@@ -12,8 +10,7 @@ ghost use Rattle.zx_optimise.specs.Optimising.{bound_of, most_optimised_root2, I
 ghost use Rattle.zx_optimise.specs.Internal.Candidates.{is_dearer, most_whole_root2, IsCandidate, IsNoDearerThan, IsTakenOver, IsTeleportedCleanup, Offers};
 
 use std::alloc::{AllocError, Global};
-use zx_gates::{Counts, GateList, Qubit, counts};
-use zx_model::Scalar;
+use zx_gates::{Counts, GateList, Qubit, ScaledCircuit, counts};
 use zx_peephole::tidy;
 use zx_pieces::shrink;
 use zx_simplify::simplify_circuit;
@@ -31,36 +28,24 @@ use zx_teleport::teleport;
 /// # Errors
 ///
 /// Only where memory runs out.
-pub fn optimise(
-    alloc: Global,
-    read: &GateList,
-    best: bool,
-) -> Result<(GateList, Scalar), AllocError>
-    ensures qubits { IfOk result (λ made. made.0.qubits ≡ read.now.qubits) }
-    ensures map { IfOk result (λ made. Proportional read.now.qubits read.now.qubits
-        (amp read.now.gates) (amp made.0.gates)) }
-    ensures scalar { IfOk result (λ made. IsMapTimes read.now made.1 made.0) }
-    ensures small { IfOk result (λ made. IsWithin most_optimised_root2 made.1) }
-    ensures odd { IfOk result (λ made. gate_odd_phases made.0.gates ≤ gate_odd_phases
+pub fn optimise(alloc: Global, read: &GateList, best: bool) -> Result<ScaledCircuit, AllocError>
+    ensures qubits { IfOk result (λ made. made.gates.qubits ≡ read.now.qubits) }
+    ensures scalar { IfOk result (λ made. IsMapTimes read.now made.scalar made.gates) }
+    ensures small { IfOk result (λ made. IsWithin most_optimised_root2 made.scalar) }
+    ensures odd { IfOk result (λ made. gate_odd_phases made.gates.gates ≤ gate_odd_phases
         read.now.gates) }
-    ensures tidy { IfOk result (λ made. IsTidy made.0.gates) }
-    ensures few_gates { IfOk result (λ made. length made.0.gates ≤ bound_of read.now) }
-    ensures reduced { IfOk result (λ made. IsThroughReduced (translated read.now) made.0) }
-    ensures plain { best ≡ false → IfOk result (λ made. IsPlain read.now made.0) }
-    ensures best { best ≡ true → IfOk result (λ made. IsBest read.now made.0) }
+    ensures tidy { IfOk result (λ made. IsTidy made.gates.gates) }
+    ensures few_gates { IfOk result (λ made. length made.gates.gates ≤ bound_of read.now) }
+    ensures reduced { IfOk result (λ made. IsThroughReduced (translated read.now) made.gates) }
+    ensures plain { best ≡ false → IfOk result (λ made. IsPlain read.now made.gates) }
+    ensures best { best ≡ true → IfOk result (λ made. IsBest read.now made.gates) }
 {
     let made = optimised(alloc, read, best)?;
-    Ok((made.gates, made.scalar))
+    Ok(made)
 }
 
-// A circuit that may be written, and the scalar that the read one's map is times its own.
-#[derive(Drop)]
-struct Candidate {
-    gates: GateList,
-    scalar: Scalar,
-}
-
-fn optimised(alloc: Global, read: &GateList, best: bool) -> Result<Candidate, AllocError>
+// The same, as what may be written for a circuit.
+fn optimised(alloc: Global, read: &GateList, best: bool) -> Result<ScaledCircuit, AllocError>
     ensures offers { IfOk result (Offers most_optimised_root2 read.now) }
     ensures plain { best ≡ false → IfOk result (λ made. IsPlain read.now made.gates) }
     ensures best { best ≡ true → IfOk result (λ made. IsBest read.now made.gates) }
@@ -74,19 +59,20 @@ fn optimised(alloc: Global, read: &GateList, best: bool) -> Result<Candidate, Al
 }
 
 // The circuit of the reduced graph, after cleanup.
-fn plain(alloc: Global, read: &GateList) -> Result<Candidate, AllocError>
+fn plain(alloc: Global, read: &GateList) -> Result<ScaledCircuit, AllocError>
     ensures offers { IfOk result (Offers most_whole_root2 read.now) }
     ensures plain { IfOk result (λ made. IsPlain read.now made.gates) }
 {
     let made = simplify_circuit(alloc, read)?;
-    Ok(Candidate {
-        gates: made.gates,
-        scalar: made.scalar,
-    })
+    Ok(made)
 }
 
 // The best of all candidates: the plain one, or one that is cheaper.
-fn best_of(alloc: Global, read: &GateList, plain: Candidate) -> Result<Candidate, AllocError>
+fn best_of(
+    alloc: Global,
+    read: &GateList,
+    plain: ScaledCircuit,
+) -> Result<ScaledCircuit, AllocError>
     requires { Offers most_whole_root2 read.now plain }
     ensures offers { IfOk result (Offers most_optimised_root2 read.now) }
     ensures than_plain { IfOk result (IsTakenOver plain) }
@@ -101,7 +87,11 @@ fn best_of(alloc: Global, read: &GateList, plain: Candidate) -> Result<Candidate
 
 // The cheaper one of the plain circuit and the one with pieces of it replaced, which are looked for where it has less
 // than three quarters of the read one's gates on two qubits alone: else the teleported one is a better start.
-fn beside_shrunk(alloc: Global, read: &GateList, plain: Candidate) -> Result<Candidate, AllocError>
+fn beside_shrunk(
+    alloc: Global,
+    read: &GateList,
+    plain: ScaledCircuit,
+) -> Result<ScaledCircuit, AllocError>
     requires { Offers most_whole_root2 read.now plain }
     ensures offers { IfOk result (Offers most_optimised_root2 read.now) }
     ensures than_plain { IfOk result (IsTakenOver plain) }
@@ -119,20 +109,20 @@ fn is_worth_shrinking(this: &GateList, that: &GateList) -> bool {
 }
 
 // The candidate with pieces of it replaced by smaller circuits.
-fn shrunk(alloc: Global, candidate: &Candidate) -> Result<Candidate, AllocError>
+fn shrunk(alloc: Global, candidate: &ScaledCircuit) -> Result<ScaledCircuit, AllocError>
     requires { IsWithin most_whole_root2 candidate.now.scalar }
     ensures { (read : Circuit) → IsCandidate most_whole_root2 read candidate.now →
         IfOk result (IsCandidate most_optimised_root2 read) }
 {
-    let (gates, scalar) = shrink(alloc, &candidate.gates)?;
-    Ok(Candidate {
-        gates,
-        scalar: candidate.scalar.times(scalar),
+    let made = shrink(alloc, &candidate.gates)?;
+    Ok(ScaledCircuit {
+        gates: made.gates,
+        scalar: candidate.scalar.times(made.scalar),
     })
 }
 
 // The cheaper one of a circuit and the read one after cleanup.
-fn beside_read(read: &GateList, best: Candidate) -> Result<Candidate, AllocError>
+fn beside_read(read: &GateList, best: ScaledCircuit) -> Result<ScaledCircuit, AllocError>
     requires { Offers most_optimised_root2 read.now best }
     ensures offers { IfOk result (Offers most_optimised_root2 read.now) }
     ensures than_best { IfOk result (IsTakenOver best) }
@@ -146,8 +136,8 @@ fn beside_read(read: &GateList, best: Candidate) -> Result<Candidate, AllocError
 fn beside_teleported(
     alloc: Global,
     read: &GateList,
-    best: Candidate,
-) -> Result<Candidate, AllocError>
+    best: ScaledCircuit,
+) -> Result<ScaledCircuit, AllocError>
     requires { Offers most_optimised_root2 read.now best }
     ensures offers { IfOk result (Offers most_optimised_root2 read.now) }
     ensures than_best { IfOk result (IsTakenOver best) }
@@ -159,18 +149,18 @@ fn beside_teleported(
 }
 
 // The circuit whose phases alone are changed, after cleanup.
-fn teleported(alloc: Global, read: &GateList) -> Result<Candidate, AllocError>
+fn teleported(alloc: Global, read: &GateList) -> Result<ScaledCircuit, AllocError>
     ensures cleanup { IfOk result (λ made. IsTeleportedCleanup read.now made.gates) }
     ensures candidate { IfOk result (IsCandidate most_whole_root2 read.now) }
 {
     let found = teleport(alloc, read)?;
     let mut gates = found.gates;
     let scalar = found.scalar.times(tidy(&mut gates));
-    Ok(Candidate { gates, scalar })
+    Ok(ScaledCircuit { gates, scalar })
 }
 
 // A candidate, or another one where that is within the bound and cheaper.
-fn cheaper(read: &GateList, best: Candidate, candidate: Candidate) -> Candidate
+fn cheaper(read: &GateList, best: ScaledCircuit, candidate: ScaledCircuit) -> ScaledCircuit
     requires best { Offers most_optimised_root2 read.now best }
     requires candidate { IsCandidate most_optimised_root2 read.now candidate }
     ensures offers { Offers most_optimised_root2 read.now result }
@@ -213,11 +203,11 @@ fn is_dearer(this: Counts, that: Counts) -> bool
 }
 
 // The read circuit after cleanup.
-fn cleaned(read: &GateList) -> Result<Candidate, AllocError>
+fn cleaned(read: &GateList) -> Result<ScaledCircuit, AllocError>
     ensures cleaned { IfOk result (λ made. IsCleaned read.now made.gates) }
     ensures candidate { IfOk result (IsCandidate most_whole_root2 read.now) }
 {
     let mut gates = read.copy()?;
     let scalar = tidy(&mut gates);
-    Ok(Candidate { gates, scalar })
+    Ok(ScaledCircuit { gates, scalar })
 }

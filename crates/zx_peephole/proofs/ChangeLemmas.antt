@@ -1,5 +1,5 @@
 -- What a pair or triple becomes in its list: the map is kept up to a power of two, and nothing grows.
-use Rattle.std.proofs.Common.{◌≡◌, ◌≢◌, ℕ, zero, suc, ◌+◌, ◌*◌, ◌<◌, ◌≤◌, pos, Bool, true, false, cond, eqb, List, [], ◌∷◌}
+use Rattle.std.proofs.Common.{◌≡◌, ℕ, suc, ◌+◌, ◌*◌, ◌<◌, ◌≤◌, pos, Bool, true, false, cond, eqb, List, [], ◌∷◌}
 use Rattle.std.proofs.Common.{◌++◌, append_assoc, length, drop, refl, sym, ap, ap₂, ◌∙◌, subst}
 use Rattle.std.proofs.Common.{arith}
 use Rattle.std.specs.List.{list_all, remove, sum_by}
@@ -7,15 +7,12 @@ use Rattle.std.proofs.lemmas.Bool.{cond_both}
 use Rattle.std.proofs.lemmas.List.{length-append, take_at, drop_at}
 use Rattle.std.proofs.lemmas.List.Sums.{sum_by-append, sum_by-cons}
 use Rattle.zx_model.specs.Phase.{sum_of_phases, is_odd}
-use Rattle.zx_model.specs.Number.{Number, zero as nought, one, mul}
-use Rattle.zx_model.specs.Constants.{two, power_of_two}
+use Rattle.zx_model.specs.Number.{Number, mul}
+use Rattle.zx_model.specs.Constants.{power_of_two}
 use Rattle.zx_model.specs.Bits.{one_if}
-use Rattle.zx_model.specs.Proportional.{Proportional}
 use Rattle.zx_model.specs.Scalar.{IsScaled}
-use Rattle.zx_model.proofs.Ring.{one-mul, mul_assoc, one_nonzero, two_nonzero}
-use Rattle.zx_model.proofs.Domain.{mul-nonzero}
+use Rattle.zx_model.proofs.Ring.{one-mul, mul_assoc}
 use Rattle.zx_model.proofs.Odd.{one_if-odd_sum}
-use Rattle.zx_model.proofs.ProportionalLemmas.{proportional_of_scaled}
 use Rattle.zx_gates.specs.Circuit.{IsOnQubits, is_odd_phase}
 use Rattle.zx_gates.specs.Counting.{is_two_qubit}
 use Rattle.zx_gates.specs.Internal.Scalars.{scalar}
@@ -27,7 +24,6 @@ use Rattle.zx_gates.proofs.Multiples.{acts-factor}
 use Rattle.zx_gates.proofs.Scaling.{scaled_amp, scaled_if_doubled}
 use Rattle.zx_peephole.specs.Commuting.{commutes}
 use Rattle.zx_peephole.specs.Tidy.{is_pair, is_turned, is_off, IsTidy}
-use Rattle.zx_peephole.specs.Doubling.{IsDoubled}
 use Rattle.zx_peephole.specs.Internal.Merging.{merged, doublings, conjugated}
 use Rattle.zx_peephole.specs.Internal.Changes.{EndsPair, EndsTriple, Shortens}
 use Rattle.zx_peephole.proofs.Cuts.{all-append}
@@ -35,11 +31,6 @@ use Rattle.zx_peephole.proofs.CommutingLemmas.{acts-past, off_all, turned_all}
 use Rattle.zx_peephole.proofs.PairLemmas.{pair_law, triple_law}
 use Rattle.zx_peephole.proofs.TidyLemmas.{tidy-without}
 use Rattle.zx_model.proofs.Powers.{power_of_two-add}
-
--- ---- powers of two
-power-nonzero : (p : ℕ) → power_of_two p ≢ nought
-power-nonzero zero = one_nonzero
-power-nonzero (suc p) = mul-nonzero two (power_of_two p) two_nonzero (power-nonzero p)
 
 -- ---- changes one after the other
 pub shortens-refl : (n : ℕ) (gates : List Gate) → Shortens n 0 gates gates
@@ -62,23 +53,11 @@ shortens-trans n j k a b c first second = record {
   two_qubit = omega (arith, first.two_qubit, second.two_qubit);
 }
 
-pub shortens_doubled : (n k : ℕ) (old new : List Gate) → Shortens n k old new → IsDoubled n (amp old) (amp new)
-shortens_doubled n k old new s = record {
-  power = k;
-  equal = λ x y lx ly. amp-acts old x y ∙ s.map (λ z. amp [] z y) x lx
-      ∙ ap (mul (power_of_two k)) (sym (amp-acts new x y));
-}
-
 pub shortens_scaled : (n k : ℕ) (old new : List Gate) → Shortens n k old new
     → IsScaled n n (amp old) (scalar (pos (2 * k)) 0) (amp new)
 shortens_scaled n k old new s =
     scaled_amp n (amp old) (acts old) (scalar (pos (2 * k)) 0) new (amp-acts old)
     (scaled_if_doubled n (acts old) (acts new) k (λ f x l. s.map f x l))
-
-pub doubled_proportional : (n : ℕ) (f g : List Bool → List Bool → Number) → IsDoubled n f g → Proportional n n f g
-doubled_proportional n f g d =
-    proportional_of_scaled n n f g one (power_of_two d.power) one_nonzero (power-nonzero d.power)
-    (λ x y lx ly. one-mul (f x y) ∙ d.equal x y lx ly)
 
 -- ---- maps
 -- the first gate of a pair goes past the gates between

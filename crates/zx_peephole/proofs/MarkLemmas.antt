@@ -1,22 +1,24 @@
 -- What the marks say of the Cz that are kept.
-use Rattle.std.proofs.Common.{◌≡◌, inl, inr, ℕ, ◌+◌, ◌-◌, ◌*◌, ◌%◌, ◌^◌, ◌<◌, ◌≤◌, true, false, not, ◌&&◌, ◌||◌, eqb, List, [], ◌∷◌, ◌++◌, append_assoc}
+use Rattle.std.proofs.Common.{◌≡◌, inl, inr, ℕ, ◌+◌, ◌-◌, ◌*◌, ◌/◌, ◌%◌, ◌^◌, ◌≢◌, ◌<◌, ◌≤◌, true, false, not, ◌&&◌, ◌||◌, eqb, List, [], ◌∷◌, ◌++◌, append_assoc}
 use Rattle.std.proofs.Common.{length, take, get_or, set, replicate, refl, sym, ap, ap₂, ◌∙◌, subst, arith}
 use Rattle.std.specs.Int.{bit_at, w128}
 use Rattle.std.specs.Int.RustNames.{bit_or}
 use Rattle.std.specs.List.{filter, list_all, remove}
 use Rattle.std.proofs.lemmas.Bool.{cases_Bool, cases_eq, eqb-true, eq-eqb, ne_eqb, and_parts, and_from, or_cases, or_parts, or_left, both_ways}
 use Rattle.std.proofs.lemmas.Bool.{not-true, not_from_false, false_from_ne_true}
-use Rattle.std.proofs.lemmas.List.{append-nil, get_or-set_same, get_or-set_other, length-set, length-replicate, take-set, take_more_set}
+use Rattle.std.proofs.lemmas.List.{append-nil, get_or-set_same, get_or-set_other, get_or-replicate, take-set, take_more_set}
 use Rattle.std.proofs.lemmas.List.Elements.{filter-append, filter_more}
 use Rattle.std.proofs.lemmas.Nat.Bits.{bit_at_set_same, bit_at_set_other, bit_at_ones}
 use mathlib.Core.Bool.{or_comm}
 use Rattle.zx_gates.specs.declared.gate.Gate.{Gate}
 use Rattle.zx_gates.specs.declared.gate.Gate.TheVariants.{H, Phase, Cz, Cx, Not}
+use Rattle.zx_gates.specs.Circuit.{most_qubits}
 use Rattle.zx_peephole.specs.Commuting.{is_on, are_apart, is_diagonal, shares_control, negate_freely, passes, commutes}
 use Rattle.zx_peephole.specs.Tidy.{is_pair}
 use Rattle.zx_peephole.specs.declared.chains.Chains.{Chains}
-use Rattle.zx_peephole.specs.Internal.Marks.{bars, is_open, has_mark, IsMarked, meets_none, IsMarkedBehind, IsMarkedWithout}
+use Rattle.zx_peephole.specs.Internal.Marks.{bars, is_open, has_bit, has_mark, IsMarked, meets_none, IsMarkedBehind, IsMarkedWithout}
 use Rattle.zx_peephole.specs.Internal.Chains.{nothing, is_left, gate_at, second_qubit, kept, next_of}
+use Rattle.zx_peephole.specs.Internal.Stops.{HasFewQubits}
 use Rattle.zx_peephole.specs.Internal.Changes.{EndsPair}
 use Rattle.zx_peephole.proofs.Cuts.{cut_cases, cut_one, cut_none, all_parts, all_at, all_with, all_weaker}
 use Rattle.zx_peephole.proofs.CommutingLemmas.{apart_off, alike}
@@ -25,31 +27,61 @@ use Rattle.zx_peephole.proofs.FindingLemmas.{Extends}
 use Rattle.zx_peephole.proofs.ChangeLemmas.{remove_at}
 use Rattle.zx_peephole.proofs.LeftLemmas.{left-set_nothing, left_cut, left_behind, one_left}
 
--- ---- words
--- the word of place i gets the mark of qubit j
-module _ (marks : List ℕ) (i j : ℕ) (within : i < length marks) where
-  abbrev marked_word : ℕ
-  marked_word = bit_or (get_or marks i 0) (1 * 2 ^ (j % 128) % 2 ^ 128)
+-- ---- rows
+-- the row of place i is another one
+module _ (marks : List (List ℕ)) (i : ℕ) (row : List ℕ) where
+  row_here : i < length marks → (q r : ℕ) → q ≡ i → has_mark (set marks i row) q r ≡ has_bit row r
+  row_here within q r same =
+      ap (λ m. has_mark (set marks i row) m r) same ∙ ap (λ l. has_bit l r) (get_or-set_same marks i row [] within)
 
-  pub mark_here : (q r : ℕ) → i ≡ q → j ≡ r → has_mark (set marks i marked_word) q r ≡ true
+  row_elsewhere : (q r : ℕ) → q ≢ i → has_mark (set marks i row) q r ≡ has_mark marks q r
+  row_elsewhere q r differ = ap (λ l. has_bit l r) (get_or-set_other marks i q row [] differ)
+
+-- a row gets the bit of qubit j
+abbrev word_with : List ℕ → ℕ → ℕ
+word_with row j = bit_or (get_or row (j / 128) 0) (1 * 2 ^ (j % 128) % 2 ^ 128)
+
+abbrev row_with : List ℕ → ℕ → List ℕ
+row_with row j = set row (j / 128) (word_with row j)
+
+module _ (row : List ℕ) (j : ℕ) (room : j / 128 < length row) where
+  bit_here : has_bit (row_with row j) j ≡ true
+  bit_here =
+      ap (λ n. eqb (bit_at n (j % 128)) 1) (get_or-set_same row (j / 128) (word_with row j) 0 room)
+      ∙ ap (λ d. eqb d 1) (bit_at_set_same w128 (get_or row (j / 128) 0) (j % 128) (omega arith))
+
+  bit_stays : (s : ℕ) → has_bit row s ≡ true → has_bit (row_with row j) s ≡ true
+  bit_stays s has =
+      elim (cases_eq (s / 128) (j / 128)) [
+        | inl same ↦ elim (cases_eq (s % 128) (j % 128)) [
+          | inl e ↦ ap₂ (λ m n. eqb (bit_at (get_or (row_with row j) m 0) n) 1) same e ∙ bit_here
+          | inr differ ↦
+              ap (λ m. eqb (bit_at (get_or (row_with row j) m 0) (s % 128)) 1) same
+              ∙ ap (λ n. eqb (bit_at n (s % 128)) 1) (get_or-set_same row (j / 128) (word_with row j) 0 room)
+              ∙ ap (λ d. eqb d 1) (bit_at_set_other w128 (get_or row (j / 128) 0) (j % 128) (omega arith) (s % 128) differ)
+              ∙ ap (λ m. eqb (bit_at (get_or row m 0) (s % 128)) 1) (sym same) ∙ has
+        ]
+        | inr differ ↦
+            ap (λ n. eqb (bit_at n (s % 128)) 1) (get_or-set_other row (j / 128) (s / 128) (word_with row j) 0 differ) ∙ has
+      ]
+
+-- the row of place i gets the mark of qubit j
+module _ (marks : List (List ℕ)) (i j : ℕ) (within : i < length marks) (room : j / 128 < length (get_or marks i [])) where
+  abbrev more : List (List ℕ)
+  more = set marks i (row_with (get_or marks i []) j)
+
+  pub mark_here : (q r : ℕ) → i ≡ q → j ≡ r → has_mark more q r ≡ true
   mark_here q r qubit other =
-      ap₂ (λ p s. has_mark (set marks i marked_word) p s) (sym qubit) (sym other)
-      ∙ ap (λ n. eqb (bit_at n (j % 128)) 1) (get_or-set_same marks i marked_word 0 within)
-      ∙ ap (λ d. eqb d 1) (bit_at_set_same w128 (get_or marks i 0) (j % 128) (omega arith))
+      ap (has_mark more q) (sym other)
+      ∙ row_here marks i (row_with (get_or marks i []) j) within q j (sym qubit)
+      ∙ bit_here (get_or marks i []) j room
 
-  pub mark_stays : (p s : ℕ) → has_mark marks p s ≡ true → has_mark (set marks i marked_word) p s ≡ true
+  pub mark_stays : (p s : ℕ) → has_mark marks p s ≡ true → has_mark more p s ≡ true
   mark_stays p s has =
       elim (cases_eq p i) [
-        | inl same ↦ elim (cases_eq (s % 128) (j % 128)) [
-          | inl e ↦ ap₂ (λ m n. eqb (bit_at (get_or (set marks i marked_word) m 0) n) 1) same e
-              ∙ mark_here i j refl refl
-          | inr differ ↦
-              ap (λ m. has_mark (set marks i marked_word) m s) same
-              ∙ ap (λ n. eqb (bit_at n (s % 128)) 1) (get_or-set_same marks i marked_word 0 within)
-              ∙ ap (λ d. eqb d 1) (bit_at_set_other w128 (get_or marks i 0) (j % 128) (omega arith) (s % 128) differ)
-              ∙ ap (λ m. has_mark marks m s) (sym same) ∙ has
-        ]
-        | inr differ ↦ ap (λ n. eqb (bit_at n (s % 128)) 1) (get_or-set_other marks i p marked_word 0 differ) ∙ has
+        | inl same ↦ row_here marks i (row_with (get_or marks i []) j) within p s same
+            ∙ bit_stays (get_or marks i []) j room s (ap (λ m. has_mark marks m s) (sym same) ∙ has)
+        | inr differ ↦ row_elsewhere marks i (row_with (get_or marks i []) j) p s differ ∙ has
       ]
 
 -- the qubit that a gate bars is its second, the target of Cx
@@ -61,21 +93,23 @@ bar_second q (Phase p k) bar = absurd (let h : false ≡ true = bar in cc)
 bar_second q (Cz p r) bar = absurd (let h : false ≡ true = bar in cc)
 
 -- all marks of it are set
-pub marks_opened : (marks : List ℕ) (i : ℕ) (g : Gate) → i < length marks → i ≡ second_qubit g
-    → IsMarkedWithout marks (set marks i (2 ^ 128 - 1)) g
+abbrev all_ones : List ℕ
+all_ones = replicate 8 (2 ^ 128 - 1)
+
+pub marks_opened : (marks : List (List ℕ)) (i : ℕ) (g : Gate) → i < length marks → i ≡ second_qubit g
+    → IsMarkedWithout marks (set marks i all_ones) g
 marks_opened marks i g within place = record {
-  table = length-set marks i (2 ^ 128 - 1);
-  stays = λ q r has. elim (cases_eq q i) [
-    | inl same ↦ all q r same
-    | inr differ ↦ ap (λ n. eqb (bit_at n (r % 128)) 1) (get_or-set_other marks i q (2 ^ 128 - 1) 0 differ) ∙ has
+  stays = λ q r few has. elim (cases_eq q i) [
+    | inl same ↦ all q r few same
+    | inr differ ↦ row_elsewhere marks i all_ones q r differ ∙ has
   ];
-  opens = λ q r bar. all q r (sym (bar_second q g bar) ∙ sym place);
+  opens = λ q r few bar. all q r few (sym (bar_second q g bar) ∙ sym place);
 }
   where
-    all : (q r : ℕ) → q ≡ i → has_mark (set marks i (2 ^ 128 - 1)) q r ≡ true
-    all q r same =
-        ap (λ m. has_mark (set marks i (2 ^ 128 - 1)) m r) same
-        ∙ ap (λ n. eqb (bit_at n (r % 128)) 1) (get_or-set_same marks i (2 ^ 128 - 1) 0 within)
+    all : (q r : ℕ) → r < most_qubits → q ≡ i → has_mark (set marks i all_ones) q r ≡ true
+    all q r few same =
+        row_here marks i all_ones within q r same
+        ∙ ap (λ n. eqb (bit_at n (r % 128)) 1) (get_or-replicate 8 (r / 128) (2 ^ 128 - 1) 0 (omega (arith, few)))
         ∙ ap (λ d. eqb d 1) (bit_at_ones 128 (r % 128) (omega arith))
 
 -- a diagonal gate bars none
@@ -86,11 +120,10 @@ diagonal_open q (Cx c t) diagonal = absurd (let h : false ≡ true = diagonal in
 diagonal_open q (Phase p k) diagonal = refl
 diagonal_open q (Cz p r) diagonal = refl
 
-pub marks_stay : (marks : List ℕ) (g : Gate) → is_diagonal g ≡ true → IsMarkedWithout marks marks g
+pub marks_stay : (marks : List (List ℕ)) (g : Gate) → is_diagonal g ≡ true → IsMarkedWithout marks marks g
 marks_stay marks g diagonal = record {
-  table = refl;
-  stays = λ q r has. has;
-  opens = λ q r bar. absurd (both_ways (bars q g) (not-true (bars q g) (diagonal_open q g diagonal)) bar);
+  stays = λ q r few has. has;
+  opens = λ q r few bar. absurd (both_ways (bars q g) (not-true (bars q g) (diagonal_open q g diagonal)) bar);
 }
 
 -- ---- no Cz passes a gate that bars it
@@ -152,62 +185,60 @@ either_order q r (Cz s t) pair = or_comm (eqb s r && eqb t q) (eqb s q && eqb t 
 either_order q r first pair = absurd (let h : false ≡ true = pair in cc)
 
 -- ---- a Cz that lacks a mark
-module _ (marks : List ℕ) (gates : List Gate) (m : IsMarked marks gates) where
-  pair_marked : (q r : ℕ) (g : Gate) (i : ℕ) (e : EndsPair gates g i) → is_pair e.first (Cz q r) ≡ true
-      → has_mark marks q r ≡ true
-  pair_marked q r g i e pair =
-      m.marked q r e.before e.between e.first e.cut pair
+module _ (marks : List (List ℕ)) (gates : List Gate) (m : IsMarked marks gates) where
+  pair_marked : (q r : ℕ) (g : Gate) (i : ℕ) (e : EndsPair gates g i) → r < most_qubits
+      → is_pair e.first (Cz q r) ≡ true → has_mark marks q r ≡ true
+  pair_marked q r g i e few pair =
+      m.marked q r e.before e.between e.first few e.cut pair
       (all_weaker (commutes e.first) (is_open q) (λ x passed. passes_open q r e.first x pair passed) e.between e.commute)
 
-  no_pair : (q r : ℕ) → meets_none marks (Cz q r) ≡ true → (i : ℕ) → EndsPair gates (Cz q r) i → ⊥
-  no_pair q r none i e =
+  no_pair : (q r : ℕ) → HasFewQubits (Cz q r) → meets_none marks (Cz q r) ≡ true → (i : ℕ)
+      → EndsPair gates (Cz q r) i → ⊥
+  no_pair q r few none i e =
       both_ways (has_mark marks q r && has_mark marks r q) (not-true (has_mark marks q r && has_mark marks r q) none)
-      (and_from (has_mark marks q r) (has_mark marks r q) (pair_marked q r (Cz q r) i e e.merge)
-      (pair_marked r q (Cz q r) i e (either_order q r e.first e.merge)))
+      (and_from (has_mark marks q r) (has_mark marks r q) (pair_marked q r (Cz q r) i e few.second e.merge)
+      (pair_marked r q (Cz q r) i e few.first (either_order q r e.first e.merge)))
 
-  pub unmet_extends : (g : Gate) → meets_none marks g ≡ true → Extends gates g
-  unmet_extends (Cz q r) none = tidy-more gates (Cz q r) (no_pair q r none)
+  pub unmet_extends : (g : Gate) → HasFewQubits g → meets_none marks g ≡ true → Extends gates g
+  unmet_extends (Cz q r) few none = tidy-more gates (Cz q r) (no_pair q r few none)
       (λ i j e. let h : Cz q r ≡ H e.qubit = e.is in cc)
-  unmet_extends g none = absurd (let h : false ≡ true = none in cc)
+  unmet_extends g few none = absurd (let h : false ≡ true = none in cc)
 
 -- ---- one more gate, and one less
-pub marked_more : (old new : List ℕ) (gates : List Gate) (g : Gate) → IsMarked old gates → IsMarkedBehind old new g
+pub marked_more : (old new : List (List ℕ)) (gates : List Gate) (g : Gate) → IsMarked old gates → IsMarkedBehind old new g
     → IsMarked new (gates ++ g ∷ [])
 marked_more old new gates g m b = record {
-  table = b.table ∙ m.table;
-  marked = λ q r before between first cut pair clear. elim (cut_cases gates (g ∷ []) before between first cut) [
+  marked = λ q r before between first few cut pair clear. elim (cut_cases gates (g ∷ []) before between first cut) [
     | inl c ↦ b.stays q r (not-true (bars q g) (all_at (is_open q) between c.rest [] g c.second clear))
-        (m.marked q r before c.rest first c.first pair
+        (m.marked q r before c.rest first few c.first pair
         (all_parts (is_open q) c.rest (g ∷ []) (ap (list_all (is_open q)) (sym c.second) ∙ clear)).0)
     | inr c ↦ b.comes q r (ap (λ x. is_pair x (Cz q r)) (cut_one g first c.rest between c.second).1 ∙ pair)
   ];
 }
 
-pub marked_less : (old new : List ℕ) (xs ys : List Gate) (g : Gate) → IsMarked old (xs ++ g ∷ ys)
+pub marked_less : (old new : List (List ℕ)) (xs ys : List Gate) (g : Gate) → IsMarked old (xs ++ g ∷ ys)
     → IsMarkedWithout old new g → IsMarked new (xs ++ ys)
 marked_less old new xs ys g m b = record {
-  table = b.table ∙ m.table;
-  marked = λ q r before between first cut pair clear. elim (cut_cases xs ys before between first cut) [
+  marked = λ q r before between first few cut pair clear. elim (cut_cases xs ys before between first cut) [
     | inl c ↦ elim (cases_Bool (bars q g)) [
-      | inl bar ↦ b.opens q r bar
-      | inr free ↦ b.stays q r (m.marked q r before (c.rest ++ g ∷ ys) first
+      | inl bar ↦ b.opens q r few bar
+      | inr free ↦ b.stays q r few (m.marked q r before (c.rest ++ g ∷ ys) first few
           (ap (λ zs. zs ++ g ∷ ys) c.first ∙ simp append_assoc) pair
           (all_with (is_open q) c.rest ys g (ap (list_all (is_open q)) (sym c.second) ∙ clear)
           (not_from_false (bars q g) free)))
     ]
-    | inr c ↦ b.stays q r (m.marked q r (xs ++ g ∷ c.rest) between first
+    | inr c ↦ b.stays q r few (m.marked q r (xs ++ g ∷ c.rest) between first few
         (ap (λ zs. xs ++ g ∷ zs) c.second ∙ simp append_assoc) pair clear)
   ];
 }
 
-marked_same : (a b : List ℕ) (xs ys : List Gate) → a ≡ b → xs ≡ ys → IsMarked b ys → IsMarked a xs
-marked_same a b xs ys e f m = subst (λ (l : List ℕ). IsMarked l xs) (sym e) (subst (IsMarked b) (sym f) m)
+marked_same : (a b : List (List ℕ)) (xs ys : List Gate) → a ≡ b → xs ≡ ys → IsMarked b ys → IsMarked a xs
+marked_same a b xs ys e f m = subst (λ (l : List (List ℕ)). IsMarked l xs) (sym e) (subst (IsMarked b) (sym f) m)
 
 -- ---- the list that is being tidied
-pub marked_begun : (w : Chains) → w.marks ≡ replicate 1024 0 → w.next ≡ 0 → IsMarked w.marks (kept w)
-marked_begun w marks next = record {
-  table = ap length marks ∙ length-replicate {A = ℕ} 1024 0;
-  marked = λ q r before between first cut.
+pub marked_begun : (w : Chains) → w.next ≡ 0 → IsMarked w.marks (kept w)
+marked_begun w next = record {
+  marked = λ q r before between first few cut.
       absurd (cut_none first before between (sym (ap (λ n. filter is_left (take n w.gates.items)) next) ∙ cut));
 }
 

@@ -210,7 +210,7 @@ sound_removed old new i g w gone sound kept u gates qubits links last next marks
     (sym last) (subst (λ (l : List Links). IsChain (Without i (IsOn old.gates.items q)) (link_at old.gates.items l q) (get_or new.last q 0) old.next)
     (sym (ap (λ l. l.items) links)) (u.chains q few)))))
     (marked_removed old w i sound.marks kept.before sound.places.within kept.left
-    (subst (λ (l : List ℕ). IsMarkedWithout l w.marks (gate_at old.gates.items i)) (ap (λ (v : Chains). v.marks) u.same) marks)
+    (subst (λ (l : List (List ℕ)). IsMarkedWithout l w.marks (gate_at old.gates.items i)) (ap (λ (v : Chains). v.marks) u.same) marks)
     (same_gates ∙ ap (set old.gates.items i) gone) same_next)
   where
     same_gates : w.gates.items ≡ set old.gates.items i g
@@ -263,14 +263,14 @@ sound_passed old w g gone sound more gates qubits links last next marks =
         (get_or-set_same old.gates.items old.next g nothing more ∙ gone) on)
 
 -- the qubits of a gate are below their number
-first_below : (n : ℕ) (g : Gate) → IsGateOn n g → first_qubit g < n
+pub first_below : (n : ℕ) (g : Gate) → IsGateOn n g → first_qubit g < n
 first_below n (H q) on = on.0
 first_below n (Phase q k) on = on.0.0
 first_below n (Not q) on = on.0
 first_below n (Cz q r) on = on.0.0
 first_below n (Cx q r) on = on.0.0
 
-second_below : (n : ℕ) (g : Gate) → IsGateOn n g → second_qubit g < n
+pub second_below : (n : ℕ) (g : Gate) → IsGateOn n g → second_qubit g < n
 second_below n (H q) on = on.0
 second_below n (Phase q k) on = on.0.0
 second_below n (Not q) on = on.0
@@ -381,8 +381,8 @@ sound_kept old f s l w sound more f_is s_is first second gates qubits links last
 -- ---- at the start
 -- no gate is read
 pub sound_begun : (w : Chains) → HasRoom (circuit_of w.qubits w.gates.items) (length w.links.items)
-    → w.last ≡ replicate 1024 0 → w.marks ≡ replicate 1024 0 → w.next ≡ 0 → IsSound w
-sound_begun w room last marks next = record {
+    → w.last ≡ replicate 1024 0 → w.next ≡ 0 → IsSound w
+sound_begun w room last next = record {
   places = record {
     qubits = ap length last ∙ length-replicate {A = ℕ} 1024 0;
     within = omega (arith, next);
@@ -397,7 +397,7 @@ sound_begun w room last marks next = record {
     };
     links = λ i before. absurd (omega (arith, next));
   };
-  marks = marked_begun w marks next;
+  marks = marked_begun w next;
   few_qubits = room.circuit.few_qubits;
   on_qubits = λ i below left. room.circuit.on_qubits i nothing below;
   unread = λ i past below. left_on w.qubits (gate_at w.gates.items i) (room.circuit.on_qubits i nothing below);

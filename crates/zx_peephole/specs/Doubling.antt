@@ -1,9 +1,8 @@
--- Linear maps that differ by powers of two, since H is taken without its factor 1/sqrt 2.
-use Rattle.std.specs.Prelude.{◌≡◌, ℕ, Bool, List, length}
-use Rattle.zx_model.specs.Number.{Number, mul}
-use Rattle.zx_model.specs.Constants.{power_of_two}
+-- Scalars between linear maps where H is taken without its factor 1/sqrt 2: two H that go leave a factor two.
+use Rattle.std.specs.Prelude.{◌≡◌, ℕ, ◌*◌, pos}
+use Rattle.zx_model.specs.declared.scalar.Scalar.{Scalar}
 
--- on n qubits the first matrix is the second one, times some power of two
-pub record IsDoubled (n : ℕ) (f g : List Bool → List Bool → Number) : Type 0 where
+-- the scalar is two to some power, which is the root of two to twice that
+pub record IsPowerOfTwo (s : Scalar) : Type 0 where
   pub power : ℕ
-  pub equal : (x y : List Bool) → length x ≡ n → length y ≡ n → f x y ≡ mul (power_of_two power) (g x y)
+  pub is : s ≡ record { root2 = pos (2 * power); turn = 0 }

@@ -3,6 +3,7 @@
 ghost use Rattle.std.specs.Prelude.{◌≡◌, ◌<◌, length};
 ghost use Rattle.zx_peephole.specs.Internal.Chains.{nothing, is_left, first_qubit, second_qubit, link_at};
 
+use crate::marks::Marks;
 use zx_gates::{Gate, Links, Qubit};
 use zx_model::Sixteenth;
 
@@ -19,7 +20,7 @@ pub(crate) struct Chains {
     pub(crate) gates: Vec<Gate>,
     pub(crate) links: Vec<Links>,
     pub(crate) last: [u32; MOST_QUBITS],
-    pub(crate) marks: [u128; MOST_QUBITS],
+    pub(crate) marks: Marks,
     pub(crate) next: usize,
 }
 

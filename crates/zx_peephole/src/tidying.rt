@@ -1,14 +1,13 @@
 //! The whole cleanup.
 
 ghost use Rattle.std.specs.Prelude.{◌≡◌, ◌≤◌, ◌<◌, ◌*◌, ◌^◌, pos, ◌++◌, [], ◌∷◌, length, take, count_by, IfSome, IfNone};
-ghost use Rattle.zx_model.specs.Proportional.{Proportional};
 ghost use Rattle.zx_model.specs.Scalar.{IsScaled, IsWithin};
 ghost use Rattle.zx_gates.specs.Circuit.{gate_bound, gate_odd_phases};
 ghost use Rattle.zx_gates.specs.Counting.{is_two_qubit};
 ghost use Rattle.zx_gates.specs.Internal.Scalars.{scalar};
 ghost use Rattle.zx_gates.specs.Maps.{amp};
 ghost use Rattle.zx_peephole.specs.Tidy.{IsTidy};
-ghost use Rattle.zx_peephole.specs.Doubling.{IsDoubled};
+ghost use Rattle.zx_peephole.specs.Doubling.{IsPowerOfTwo};
 ghost use Rattle.zx_gates.specs.Circuit.{Circuit, HasRoom, circuit_of};
 ghost use Rattle.zx_peephole.specs.Internal.Chains.{IsSound, IsReading, is_left, kept, all_left};
 ghost use Rattle.zx_peephole.specs.Internal.Changes.{IsAdvance};
@@ -16,6 +15,7 @@ ghost use Rattle.zx_peephole.specs.Internal.Changes.{IsAdvance};
 use crate::chains::{Chains, MOST_QUBITS, is_left};
 use crate::changing::{keep, merge_pair, turn_over};
 use crate::finding::{Change, find};
+use crate::marks::WORDS;
 use zx_gates::{GateList, Parts};
 use zx_model::{Scalar, Sixteenth};
 
@@ -30,12 +30,10 @@ pub fn tidy(g: &mut GateList) -> Scalar
     ensures qubits { g.new.qubits ≡ g.old.qubits }
 
     // Each two H that go, with or without a gate between them, make it half as large.
-    ensures map { IsDoubled g.old.qubits (amp g.old.gates) (amp g.new.gates) }
     ensures scaled { IsScaled g.old.qubits g.old.qubits
         (amp g.old.gates) result (amp g.new.gates) }
+    ensures power { IsPowerOfTwo result }
     ensures small { IsWithin gate_bound result }
-    ensures proportional { Proportional g.old.qubits g.old.qubits
-        (amp g.old.gates) (amp g.new.gates) }
 
     ensures length { length g.new.gates ≤ length g.old.gates }
     ensures odd { gate_odd_phases g.new.gates ≤ gate_odd_phases g.old.gates }
@@ -75,7 +73,7 @@ fn begin(parts: Parts) -> Chains
         gates: parts.gates,
         links: parts.links,
         last: [0; MOST_QUBITS],
-        marks: [0; MOST_QUBITS],
+        marks: [[0; WORDS]; MOST_QUBITS],
         next: 0,
     }
 }

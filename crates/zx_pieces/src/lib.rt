@@ -8,7 +8,7 @@
 //! merge.
 //!
 //! ```rust
-//! let (smaller, scalar) = shrink(alloc, &circuit)?;
+//! let smaller = shrink(alloc, &circuit)?;
 //! ```
 #![tactic(auto)]
 

@@ -17,7 +17,7 @@ use crate::walking::gather;
 use pauli_network::propose;
 use pauli_search::search;
 use std::alloc::{AllocError, Global};
-use zx_gates::{Gate, GateList, Qubit, counts};
+use zx_gates::{Gate, GateList, Qubit, ScaledCircuit, counts};
 use zx_model::Scalar;
 use zx_peephole::tidy;
 use zx_same::quotient;
@@ -39,13 +39,13 @@ pub fn replace_pieces(
     circuit: &GateList,
     most: usize,
     reach: usize,
-) -> Result<(GateList, Scalar), AllocError>
-    ensures qubits { IfOk result (λ made. made.0.qubits ≡ circuit.now.qubits) }
+) -> Result<ScaledCircuit, AllocError>
+    ensures qubits { IfOk result (λ made. made.gates.qubits ≡ circuit.now.qubits) }
     ensures replacement { IfOk result (λ made.
-        IsReplacement circuit.now.qubits circuit.now.gates made.0.gates) }
+        IsReplacement circuit.now.qubits circuit.now.gates made.gates.gates) }
     ensures scalar { IfOk result (λ made. IsScaled circuit.now.qubits circuit.now.qubits
-        (amp circuit.now.gates) made.1 (amp made.0.gates)) }
-    ensures small { IfOk result (λ made. IsWithin most_root2_of_pass made.1) }
+        (amp circuit.now.gates) made.scalar (amp made.gates.gates)) }
+    ensures small { IfOk result (λ made. IsWithin most_root2_of_pass made.scalar) }
 {
     replace_by(
         alloc,
@@ -64,13 +64,13 @@ pub(crate) fn replace_by(
     alloc: Global,
     circuit: &GateList,
     manner: &Manner,
-) -> Result<(GateList, Scalar), AllocError>
-    ensures qubits { IfOk result (λ made. made.0.qubits ≡ circuit.now.qubits) }
+) -> Result<ScaledCircuit, AllocError>
+    ensures qubits { IfOk result (λ made. made.gates.qubits ≡ circuit.now.qubits) }
     ensures replacement { IfOk result (λ made.
-        IsReplacement circuit.now.qubits circuit.now.gates made.0.gates) }
+        IsReplacement circuit.now.qubits circuit.now.gates made.gates.gates) }
     ensures scalar { IfOk result (λ made. IsScaled circuit.now.qubits circuit.now.qubits
-        (amp circuit.now.gates) made.1 (amp made.0.gates)) }
-    ensures small { IfOk result (λ made. IsWithin most_root2_of_pass made.1) }
+        (amp circuit.now.gates) made.scalar (amp made.gates.gates)) }
+    ensures small { IfOk result (λ made. IsWithin most_root2_of_pass made.scalar) }
 {
     let gates = circuit.gates();
     let mut work = Work {
@@ -82,7 +82,10 @@ pub(crate) fn replace_by(
     'pieces: while work.next < gates.len() || !work.passed.is_empty() {
         work.replace_one(alloc, gates, manner)?;
     }
-    Ok((work.done, work.scalar))
+    Ok(ScaledCircuit {
+        gates: work.done,
+        scalar: work.scalar,
+    })
 }
 
 // Where the replacement stands.
@@ -210,13 +213,6 @@ fn add_smaller(
     }
 }
 
-// A circuit that replaces another, and the scalar that the other's map is times its own.
-#[derive(Drop)]
-struct Substitute {
-    gates: GateList,
-    scalar: Scalar,
-}
-
 // What a piece on these qubits is replaced by: a smaller circuit that is shown to be the same, if one is
 // found.
 fn replacement(
@@ -224,7 +220,7 @@ fn replacement(
     piece: &GateList,
     places: &[Qubit],
     effort: Effort,
-) -> Result<Option<Substitute>, AllocError>
+) -> Result<Option<ScaledCircuit>, AllocError>
     requires { ArePlaces piece.now.qubits places.now }
     ensures qubits { IfOk result (λ found. IfSome found (λ made.
         made.gates.qubits ≡ piece.now.qubits)) }
@@ -246,7 +242,7 @@ fn widened_smaller(
     small: &GateList,
     places: &[Qubit],
     effort: Effort,
-) -> Result<Option<Substitute>, AllocError>
+) -> Result<Option<ScaledCircuit>, AllocError>
     requires few { qubits ≤ most_qubits }
     requires places { ArePlaces qubits places.now }
     requires small { small.now.qubits ≡ length places.now }
@@ -258,7 +254,7 @@ fn widened_smaller(
         AreScaled qubits (placed places.now small.now.gates) made.scalar made.gates.gates)) }
 {
     match smaller(alloc, small, effort)? {
-        Some(made) => Ok(Some(Substitute {
+        Some(made) => Ok(Some(ScaledCircuit {
             gates: widened(alloc, qubits, &made.gates, places)?,
             scalar: made.scalar,
         })),
@@ -271,7 +267,7 @@ fn smaller(
     alloc: Global,
     piece: &GateList,
     effort: Effort,
-) -> Result<Option<Substitute>, AllocError>
+) -> Result<Option<ScaledCircuit>, AllocError>
     ensures qubits { IfOk result (λ found. IfSome found (λ made.
         made.gates.qubits ≡ piece.now.qubits)) }
     ensures replacement { IfOk result (λ found. IfSome found (λ made.
@@ -283,7 +279,7 @@ fn smaller(
         return Ok(None);
     };
     match scalar_to_smaller(alloc, piece, &gates)? {
-        Some(scalar) => Ok(Some(Substitute { gates, scalar })),
+        Some(scalar) => Ok(Some(ScaledCircuit { gates, scalar })),
         None => Ok(None),
     }
 }

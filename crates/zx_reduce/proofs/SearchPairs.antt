@@ -11,7 +11,7 @@ use Rattle.zx_calculus.specs.Complements.{may_complement}
 use Rattle.zx_calculus.specs.Gadgets.{is_gadget}
 use Rattle.zx_calculus.specs.Moves.{IsHalfSpider, IsInnerPivot, IsBoundaryPivot, IsGadgetPair, IsGadgetOf, AreTwins}
 use Rattle.zx_calculus.proofs.Edges.{joined_comm}
-use Rattle.zx_calculus.proofs.Ids.{and-left, and-right, not-true, member-here}
+use Rattle.zx_calculus.proofs.Ids.{and-left, and-right, by_test, not-true, member-here}
 use Rattle.zx_calculus.proofs.Kept.{both}
 use Rattle.zx_calculus.proofs.Splitting.{plane_YZ}
 use Rattle.zx_calculus.proofs.Results.{interior_from, interior_true}
@@ -110,6 +110,15 @@ module _ (g : Graph) (w : WellFormed g) (u : ℕ) where
       let beside : member near (neighbours g v) ≡ true = subst (λ (xs : List ℕ). member near xs ≡ true) a.equal_neighbours (first-member (neighbours g u) near first) in
       let back : joined g.edges near v ≡ true = joined_comm g.edges near v ∙ joined_near g w v near beside in
       true≢false (sym (twin_to v a) ∙ find-none (is_twin g u) (neighbours g near) e v (near_joined g w near v back))
+
+  -- what isn't beside each neighbour has others
+  pub not_beside : (near v : ℕ) → member near (neighbours g u) ≡ true → joined g.edges near v ≡ false → pointwise nat_eq (neighbours g v) (neighbours g u) ≡ false
+  not_beside near v there apart =
+      by_test (pointwise nat_eq (neighbours g v) (neighbours g u))
+      (λ alike.
+      let beside : member near (neighbours g v) ≡ true = subst (λ (xs : List ℕ). member near xs ≡ true) (sym (equal_lists (neighbours g v) (neighbours g u) alike)) there in
+      absurd (true≢false (sym (joined_comm g.edges near v ∙ joined_near g w v near beside) ∙ apart)))
+      (λ other. other)
 
 -- ---- rows as sets
 -- the test of equal sets is that of equal lists

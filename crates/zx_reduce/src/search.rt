@@ -343,10 +343,27 @@ fn is_twin(g: &OpenGraph, u: VertexId, v: VertexId) -> bool
     requires { Live g.now.graph u }
     ensures { result ≡ is_twin g.now.graph u v }
 {
+    if !is_beside_all(g, u, v) {
+        return false;
+    }
     if !g.is_live(v) {
         return false;
     }
     v != u && is_gadget(g, v) && are_alike(g, u, v)
+}
+
+// Whether a vertex is beside each neighbour of u. A gadget that is no twin of u mostly fails this at one of the first,
+// whose row is at hand.
+fn is_beside_all(g: &OpenGraph, u: VertexId, v: VertexId) -> bool
+    requires { Live g.now.graph u }
+    ensures { IsFalse result → pointwise nat_eq (neighbours g.now.graph v) (neighbours g.now.graph u) ≡ false }
+{
+    for near in g.neighbours(u) {
+        if !g.has_edge(near, v) {
+            return false;
+        }
+    }
+    true
 }
 
 // Whether two vertices have the same neighbours.

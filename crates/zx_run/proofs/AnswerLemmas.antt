@@ -9,7 +9,8 @@ use Rattle.zx_run.specs.declared.status.Status.{Status}
 use Rattle.zx_run.specs.declared.status.Status.TheVariants.{Done, Refused, Usage, ReadFault, WriteFault, NoMemory, No}
 use Rattle.zx_run.specs.Outcome.{GainsNoFor, GainsOutputFor, GainsPrefixFor, IsAnswerOfGen, IsFaultlessFor, IsFirstFaultFor, IsGen, IsNoFor}
 use Rattle.zx_run.specs.Outcome.{IsOrNoMemory, IsOutputFor, MayAnswer, ReadsSource, SaysEnd, IsFailed, IsOrFailedRead}
-use Rattle.zx_run.specs.Internal.Answers.{ToldSource, Streams, IsAnswer, IsMade, IsOutputOf, IsFailure, IsLeftOf, IsReadFailure, Reads}
+use Rattle.zx_run.specs.Answers.{ToldSource, Streams, IsAnswer, IsMade, IsOutputOf, IsFailure, IsLeftOf, Reads}
+use Rattle.zx_run.specs.Internal.Parts.{IsReadFailure}
 use Rattle.zx_run.proofs.CommandLemmas.{one_fault, fault_or_none, output_answers, no_answers}
 
 -- where nothing was read there is no output, for the same reason

@@ -1,26 +1,19 @@
 -- What is said of two circuits.
-use Rattle.std.proofs.Common.{◌≡◌, ◌≢◌, ◌≤◌, ◌<◌, ◌+◌, ◌∙◌, ℕ, List, Bool, true, false, length, map, sym, ap₂, subst, Contains}
+use Rattle.std.proofs.Common.{◌≡◌, ◌≢◌, ◌∙◌, ℕ, List, Bool, true, false, length, map, sym, ap₂, subst, Contains}
 use Rattle.zx_model.specs.Proportional.{Proportional}
 use Rattle.zx_calculus.specs.Graph.{Graph}
-use Rattle.zx_calculus.specs.Reduced.{IsReduced}
-use Rattle.zx_calculus.specs.Steps.{IsRun}
+use Rattle.zx_calculus.specs.Steps.{Step}
 use Rattle.zx_gates.specs.declared.elementary.Elementary.{Elementary}
 use Rattle.zx_gates.specs.declared.elementary.Measure.{Measure}
 use Rattle.zx_gates.specs.Circuit.{Circuit, IsCircuit, circuit_of, gate_odd_phases}
 use Rattle.zx_gates.specs.Elementary.{elementary_odd_phases}
 use Rattle.zx_gates.specs.Lowering.{lowered}
 use Rattle.zx_gates.specs.Maps.{amp}
-use Rattle.zx_peephole.specs.Tidy.{IsTidy}
-use Rattle.circuit_graph.specs.Translation.{translated}
-use Rattle.zx_reduce.specs.declared.step.Step.{Step}
 use Rattle.zx_reduce.specs.Steps.{step_named}
-use Rattle.zx_extract.specs.Simplified.{gate_bound}
 use Rattle.zx_same.specs.declared.comparing.Sameness.{Sameness}
 use Rattle.zx_same.specs.declared.comparing.Sameness.TheVariants.{Same, NotShown}
-use Rattle.zx_same.specs.Bare.{has_only_ends, is_bare}
-use Rattle.zx_same.specs.Comparing.{IfNotShown, IsSame}
-use Rattle.zx_same.specs.Inverse.{undone_by}
-use Rattle.zx_run.specs.Comparing.{AreProportional, HaveSameMeasures, IsLeft, circuit_for}
+use Rattle.zx_same.specs.Comparing.{IfNotShown, IsLeftOfBoth, IsSame}
+use Rattle.zx_run.specs.Comparing.{AreProportional, HaveSameMeasures, circuit_for}
 use Rattle.zx_run.specs.TwoTexts.{AreAccepted}
 use Rattle.zx_run.specs.Internal.Verdicts.{HasLeft, IsComparison, IsComparisonOf}
 
@@ -49,53 +42,24 @@ module _ (one other : Elementary) (these those : List Measure) (first : these �
 pub lowered_is : (read : Elementary) (c : Circuit) → c.qubits ≡ read.qubits → c.gates ≡ lowered read.gates → c ≡ circuit_for read
 lowered_is read c qubits gates = ap₂ circuit_of qubits gates
 
--- what is left of two circuits that differ
-abbrev pub Differ : Circuit → Circuit → Circuit → List Step → Graph → Type 0
-Differ a b left steps end = (a.gates ≢ b.gates) × IsLeft a b left
-
-pub left_of_both : (a b : Circuit) (answer : Sameness)
-    → IfNotShown (λ left steps end. a.gates ≢ b.gates) answer
-    → IfNotShown (λ left steps end. IsRun (translated (undone_by a b)) (map step_named steps) end) answer
-    → IfNotShown (λ left steps end. IsReduced end) answer
-    → IfNotShown (λ left steps end. is_bare end ≡ false) answer
-    → IfNotShown (λ left steps end. has_only_ends end ≡ true → Proportional a.qubits a.qubits (amp a.gates) (amp b.gates) → ⊥) answer
-    → IfNotShown (λ left steps end. left.qubits ≡ a.qubits) answer
-    → IfNotShown (λ left steps end. Proportional a.qubits a.qubits (amp (undone_by a b).gates) (amp left.gates)) answer
-    → IfNotShown (λ left steps end. IsTidy left.gates) answer
-    → IfNotShown (λ left steps end. 0 < length left.gates) answer
-    → IfNotShown (λ left steps end. gate_odd_phases left.gates ≤ gate_odd_phases a.gates + gate_odd_phases b.gates) answer
-    → IfNotShown (λ left steps end. length left.gates ≤ gate_bound a.qubits (gate_odd_phases a.gates + gate_odd_phases b.gates)) answer
-    → IfNotShown (Differ a b) answer
-left_of_both a b Same different run reduced not_bare decides qubits same_map tidy some odd few = tt
-left_of_both a b (NotShown left trace end) different run reduced not_bare decides qubits same_map tidy some odd few = (
-  different,
-  record {
-    steps = map step_named trace.steps;
-    end = end.graph;
-    run = run;
-    reduced = reduced;
-    not_bare = not_bare;
-    decides = decides;
-    qubits = qubits;
-    map = same_map;
-    tidy = tidy;
-    some = some;
-    odd = odd;
-    few = few;
-  },
-)
-
 -- ---- of the circuits and of the texts that mean them
 pub comparison_for : (text bytes : List ℕ) (one other : Elementary) (no : Bool) → AreAccepted text one other
     → IsComparisonOf one other bytes no → IsComparison text bytes no
 comparison_for text bytes one other false accepted said = record { one = one; other = other; accepted = accepted; same = said }
 comparison_for text bytes one other true accepted said = record { one = one; other = other; accepted = accepted; difference = said }
 
--- the circuit of which so many gates are left
-pub left_told : (a b : Circuit) (found : Sameness) (count : ℕ) → HasLeft found count → IfNotShown (Differ a b) found →
-    (left : Circuit) × (count ≡ length left.gates) × (a.gates ≢ b.gates) × IsLeft a b left × IsCircuit left
-left_told a b Same count told differ = absurd told
-left_told a b (NotShown left trace end) count told differ = (left, told.0, differ.0, differ.1, told.1)
+-- where a circuit is left, it isn't shown that both are the same
+not_same : (found : Sameness) (count : ℕ) → HasLeft found count → IsSame found → ⊥
+not_same Same count told is = told
+not_same (NotShown left trace end) count told is = subst (IfNotShown (λ left steps end. ⊥)) (sym is) tt
+
+-- the circuit of which so many gates are left, with what it is left of
+pub left_told : (a b : Circuit) (found : Sameness) (count : ℕ) → HasLeft found count → (a.gates ≡ b.gates → IsSame found) →
+    IfNotShown (λ left steps end. IsLeftOfBoth a b left (map step_named steps) end) found →
+    (left : Circuit) × (steps : List Step) × (end : Graph) × (count ≡ length left.gates) × (a.gates ≢ b.gates) × IsLeftOfBoth a b left steps end × IsCircuit left
+left_told a b Same count told equal is_left = absurd told
+left_told a b (NotShown left trace end) count told equal is_left =
+    (left, map step_named trace.steps, end.graph, told.0, λ same. not_same (NotShown left trace end) count told (equal same), is_left, told.1)
 
 -- two circuits without odd phases have different maps where they aren't shown to be the same
 pub maps_differ : (one other : Elementary) (a b : Circuit) (found : Sameness) (count : ℕ) → HasLeft found count → a ≡ circuit_for one → b ≡ circuit_for other
@@ -103,11 +67,7 @@ pub maps_differ : (one other : Elementary) (a b : Circuit) (found : Sameness) (c
     → (gate_odd_phases a.gates ≡ 0 → gate_odd_phases b.gates ≡ 0 → Proportional a.qubits a.qubits (amp a.gates) (amp b.gates) → IsSame found)
     → elementary_odd_phases one.gates ≡ 0 → elementary_odd_phases other.gates ≡ 0 → AreProportional one other → ⊥
 maps_differ one other a b found count told first second as_one as_other clifford none nothing same =
-    not_same found told
+    not_same found count told
     (clifford (as_one ∙ none) (as_other ∙ nothing)
     (subst (λ (y : Circuit). Proportional a.qubits a.qubits (amp a.gates) (amp y.gates)) (sym second)
     (subst (λ (x : Circuit). Proportional x.qubits x.qubits (amp x.gates) (amp (circuit_for other).gates)) (sym first) same)))
-  where
-    not_same : (found : Sameness) → HasLeft found count → IsSame found → ⊥
-    not_same Same told is = told
-    not_same (NotShown left trace end) told is = subst (IfNotShown (λ left steps end. ⊥)) (sym is) tt

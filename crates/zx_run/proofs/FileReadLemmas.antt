@@ -16,7 +16,8 @@ use Rattle.zx_run.specs.Internal.ErrorAnswers.{answer_to_file_error}
 use Rattle.zx_run.specs.FirstFault.{most_bytes}
 use Rattle.zx_run.specs.FlowFiles.{IsFileOf, IsFirstFileFault, IsReducedFile, fails_line}
 use Rattle.zx_run.specs.declared.written.Written.{Written}
-use Rattle.zx_run.specs.Internal.Answers.{ToldSource, IsOutputOf, IsReadFailure, IsVerdict}
+use Rattle.zx_run.specs.Answers.{ToldSource, IsOutputOf}
+use Rattle.zx_run.specs.Internal.Parts.{IsReadFailure, IsVerdict}
 use Rattle.zx_run.proofs.RefusalLemmas.{all_left}
 
 -- all bytes were read, and are no graph file with a flow

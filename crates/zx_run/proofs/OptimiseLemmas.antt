@@ -6,7 +6,7 @@ use Rattle.zx_model.specs.Phase.{turn}
 use Rattle.zx_model.specs.Proportional.{Proportional}
 use Rattle.zx_model.specs.Scalar.{IsScaled, product_of_scalars, quotient_of_scalars}
 use Rattle.zx_model.specs.declared.scalar.Scalar.{Scalar}
-use Rattle.zx_model.proofs.Scalars.{scaled_over, scaled_trans}
+use Rattle.zx_model.proofs.Scalars.{scaled_over, scaled_proportional, scaled_trans}
 use Rattle.zx_model.proofs.ProportionalLemmas.{proportional_sym, proportional_trans}
 use Rattle.zx_gates.specs.declared.elementary.Elementary.{Elementary}
 use Rattle.zx_gates.specs.declared.gate.Gate.{Gate}
@@ -103,17 +103,17 @@ IsOptimisedText-lowered best reported scaled text bytes read circuit factor acce
 
 pub IsOptimisedText-written : (best reported scaled : Bool) (text bytes : List ℕ) (read : Elementary) (from circuit : Circuit) (s t u factor : Scalar)
     → IsAccepted text read
-    → from.qubits ≡ read.qubits → from.gates ≡ lowered read.gates
-    → Proportional read.qubits read.qubits (amp_elementary read.gates) (amp from.gates) → gate_odd_phases from.gates ≡ elementary_odd_phases read.gates
+    → from.qubits ≡ read.qubits → from.gates ≡ lowered read.gates → gate_odd_phases from.gates ≡ elementary_odd_phases read.gates
     → Optimises from circuit → (best ≡ false → IsPlain from circuit) → (best ≡ true → IsBest from circuit) → IsCircuit circuit → AreBehind circuit read.bits read.measured
     → IsScaled read.qubits read.qubits (amp_elementary read.gates) s (amp from.gates) → IsMapTimes from t circuit
     → IsScaled circuit.qubits circuit.qubits (amp_elementary (elements_of circuit.gates)) u (amp circuit.gates) → u.turn < turn
     → factor ≡ quotient_of_scalars (product_of_scalars s t) u
     → bytes ≡ written circuit read.bits read.measured ++ (report_if reported from.gates circuit.gates ++ scalar_if scaled factor)
     → IsOptimisedText best reported scaled text bytes
-IsOptimisedText-written best reported scaled text bytes read from circuit s t u factor accepted same_qubits same_gates map odd better is_plain is_best is behind
+IsOptimisedText-written best reported scaled text bytes read from circuit s t u factor accepted same_qubits same_gates odd better is_plain is_best is behind
     first second third below is_factor spelled =
     let same = same_circuit from read.qubits (lowered read.gates) same_qubits same_gates in
+    let map = scaled_proportional read.qubits read.qubits (amp_elementary read.gates) (amp from.gates) s first in
     IsOptimisedText-lowered best reported scaled text bytes read circuit factor accepted
     (subst (λ gates. Proportional read.qubits read.qubits (amp_elementary read.gates) (amp gates)) same_gates map)
     (subst (λ gates. gate_odd_phases gates ≡ elementary_odd_phases read.gates) same_gates odd)

@@ -9,7 +9,8 @@ use Rattle.zx_run.specs.declared.status.Status.{Status}
 use Rattle.zx_run.specs.declared.status.Status.TheVariants.{Done, Refused, Usage, ReadFault, WriteFault, NoMemory, No}
 use Rattle.zx_run.specs.Internal.ErrorAnswers.{answer_to_read_error}
 use Rattle.zx_run.specs.FirstFault.{most_bytes}
-use Rattle.zx_run.specs.Internal.Answers.{ToldSource, IsLeftOf, IsReadFailure}
+use Rattle.zx_run.specs.Answers.{ToldSource, IsLeftOf}
+use Rattle.zx_run.specs.Internal.Parts.{IsReadFailure}
 use Rattle.zx_run.specs.Internal.Refusals.{IsTooLong, IsRefusalFor}
 
 -- nothing follows the bytes of a text that isn't too long

@@ -1,11 +1,11 @@
 -- Two texts in one: one first fault at most, and none where both are accepted.
-use Rattle.std.proofs.Common.{◌≡◌, ◌≤◌, ◌+◌, ◌-◌, ◌⊎◌, ℕ, List, length, take, drop, inl, inr, refl, sym, ap, subst, ◌∙◌, arith}
+use Rattle.std.proofs.Common.{◌≡◌, ◌≤◌, ◌+◌, ◌-◌, ◌⊎◌, ℕ, List, length, take, drop, Err, inl, inr, refl, sym, ap, subst, ◌∙◌, arith}
 use Rattle.std.proofs.lemmas.Bool.{cases_lt}
 use Rattle.std.proofs.lemmas.List.{length-take-le}
 use Rattle.zx_gates.specs.declared.elementary.Elementary.{Elementary}
+use Rattle.qasm_inline.specs.TextAnswers.{IsTextAnswer}
 use Rattle.qasm_inline.specs.declared.error.TextError.{TextError}
 use Rattle.qasm_inline.specs.declared.error.TextError.TheVariants as error
-use Rattle.qasm_lexer.specs.Tokens.{IsBadByte}
 use Rattle.qasm_scope.specs.declared.causes.Cause.{Cause}
 use Rattle.qasm_scope.specs.declared.causes.Cause.TheVariants as cause
 use Rattle.zx_run.specs.declared.status.Fault.{Fault}
@@ -17,7 +17,7 @@ use Rattle.zx_run.specs.declared.status.Fault.TheVariants.{AfterMeasure, BitTwic
 use Rattle.zx_run.specs.declared.status.Status.{Status}
 use Rattle.zx_run.specs.declared.status.Status.TheVariants.{Done, Refused, Usage, ReadFault, WriteFault, NoMemory, No}
 use Rattle.zx_run.specs.Internal.ErrorAnswers.{answer_to_text_error}
-use Rattle.zx_run.specs.FirstFault.{most_bytes, fault_of, IsAccepted, IsFaultless, IsFirstFault, HasDeepParenthesis, HasSyntaxFault, HasWrongStatement}
+use Rattle.zx_run.specs.FirstFault.{most_bytes, fault_of, IsAccepted, IsFaultless, IsFirstFault}
 use Rattle.zx_run.specs.TwoTexts.{parting_line, second_place, IsParted, AreTexts, moved, IsFaultOfEither, IsFirstFaultOfTwo, AreAccepted}
 use Rattle.zx_run.specs.Internal.Refusals.{IsFaultFrom, IsRefusalFor, moved_answer, moved_error}
 use Rattle.zx_run.proofs.FaultLemmas.{one_first_fault, not_faultless, one_circuit, accepted_or_fault}
@@ -96,23 +96,18 @@ moved_refusal by text WriteFault why = absurd why
 moved_refusal by text No why = absurd why
 
 -- the reader's error tells why there is no circuit
-module _ (text : List ℕ) (short : length text ≤ most_bytes) (e : TextError)
-    (bad : (at : ℕ) → e ≡ error.BadByte at → IsBadByte text at)
-    (deep : (at : ℕ) → e ≡ error.TooDeep at → HasDeepParenthesis text at)
-    (syntax : (at : ℕ) → e ≡ error.Syntax at → HasSyntaxFault text at)
-    (wrong : (what : Cause) (at : ℕ) → e ≡ error.Wrong what at → HasWrongStatement text what at) where
-  refused : (f : TextError) → e ≡ f → IsRefusalFor (IsFirstFault text) (answer_to_text_error f)
-  refused (error.BadByte at) is = inr (short, inl (at, bad at is, refl))
-  refused (error.TooDeep at) is = inr (short, inr (inl (at, deep at is, refl)))
-  refused (error.Syntax at) is = inr (short, inr (inr (inl (at, syntax at is, refl))))
-  refused (error.Wrong what at) is = inr (short, inr (inr (inr (what, at, wrong what at is, refl))))
-  refused error.NoMemory is = tt
+refused : (text : List ℕ) → length text ≤ most_bytes → (e : TextError) → IsTextAnswer text (Err e) → IsRefusalFor (IsFirstFault text) (answer_to_text_error e)
+refused text short (error.BadByte at) why = inr (short, inl (at, why, refl))
+refused text short (error.TooDeep at) why = inr (short, inr (inl (at, why, refl)))
+refused text short (error.Syntax at) why = inr (short, inr (inr (inl (at, why, refl))))
+refused text short (error.Wrong what at) why = inr (short, inr (inr (inr (what, at, why, refl))))
+refused text short error.NoMemory why = tt
 
-  pub refused_from : (from : ℕ) (status : Status) → (status ≡ NoMemory) ⊎ (status ≡ moved_answer from (answer_to_text_error e))
-      → IsRefusalFor (IsFaultFrom from text) status
-  refused_from from status (inl is) = subst (IsRefusalFor (IsFaultFrom from text)) (sym is) tt
-  refused_from from status (inr is) =
-      subst (IsRefusalFor (IsFaultFrom from text)) (sym is) (moved_refusal from text (answer_to_text_error e) (refused e refl))
+pub refused_from : (text : List ℕ) → length text ≤ most_bytes → (e : TextError) → IsTextAnswer text (Err e) → (from : ℕ) (status : Status)
+    → (status ≡ NoMemory) ⊎ (status ≡ moved_answer from (answer_to_text_error e)) → IsRefusalFor (IsFaultFrom from text) status
+refused_from text short e why from status (inl is) = subst (IsRefusalFor (IsFaultFrom from text)) (sym is) tt
+refused_from text short e why from status (inr is) =
+    subst (IsRefusalFor (IsFaultFrom from text)) (sym is) (moved_refusal from text (answer_to_text_error e) (refused text short e why))
 
 -- ---- the laws
 either_fault : (first second : List ℕ) (this that : Fault) → IsFaultOfEither first second this → IsFaultOfEither first second that → this ≡ that

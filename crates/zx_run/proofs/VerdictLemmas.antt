@@ -1,7 +1,7 @@
 -- What is written for a text, with the answer Done or No.
 use Rattle.std.proofs.Common.{◌≡◌, ℕ, List, Bool, true, false, Option, Some}
 use Rattle.zx_words.specs.declared.words.Command.TheVariants.{Compile, Same}
-use Rattle.zx_run.specs.Internal.Answers.{IsOutputOf}
+use Rattle.zx_run.specs.Answers.{IsOutputOf}
 use Rattle.zx_run.specs.Internal.Verdicts.{IsCompilation, IsComparison}
 
 pub compile_output : (left : Option (List ℕ)) (says_no : Bool) (bytes : List ℕ)

@@ -1,21 +1,16 @@
 -- What `same` writes for two texts in one.
-use Rattle.std.specs.Prelude.{◌≡◌, ◌≢◌, ◌≤◌, ◌<◌, ◌+◌, ◌↔◌, ◌⊎◌, ℕ, true, false, List, ◌++◌, length, codes, decimal}
+use Rattle.std.specs.Prelude.{◌≡◌, ◌≢◌, ◌+◌, ◌↔◌, ◌⊎◌, ℕ, List, ◌++◌, length, codes, decimal}
 use Rattle.std.specs.Prelude.{Contains}
 use Rattle.zx_model.specs.Proportional.{Proportional}
 use Rattle.zx_calculus.specs.Graph.{Graph}
-use Rattle.zx_calculus.specs.Reduced.{IsReduced}
-use Rattle.zx_calculus.specs.Steps.{Step, IsRun}
+use Rattle.zx_calculus.specs.Steps.{Step}
 use Rattle.zx_gates.specs.declared.elementary.Elementary.{Elementary}
 use Rattle.zx_gates.specs.declared.elementary.Measure.{Measure}
-use Rattle.zx_gates.specs.Circuit.{Circuit, IsCircuit, circuit_of, gate_odd_phases}
+use Rattle.zx_gates.specs.Circuit.{Circuit, IsCircuit, circuit_of}
 use Rattle.zx_gates.specs.Elementary.{elementary_odd_phases}
 use Rattle.zx_gates.specs.Lowering.{lowered}
 use Rattle.zx_gates.specs.Maps.{amp}
-use Rattle.zx_peephole.specs.Tidy.{IsTidy}
-use Rattle.circuit_graph.specs.Translation.{translated}
-use Rattle.zx_extract.specs.Simplified.{gate_bound}
-use Rattle.zx_same.specs.Bare.{has_only_ends, is_bare}
-use Rattle.zx_same.specs.Inverse.{undone_by}
+use Rattle.zx_same.specs.Comparing.{IsLeftOfBoth}
 use Rattle.zx_run.specs.declared.status.Status.{Status}
 use Rattle.zx_run.specs.declared.status.Status.TheVariants.{Done, No}
 use Rattle.zx_run.specs.TwoTexts.{AreAccepted}
@@ -28,23 +23,6 @@ HaveSameWidths one other = one.qubits ≡ other.qubits
 abbrev pub HaveSameMeasures : Elementary → Elementary → Type 0
 HaveSameMeasures one other =
     (one.bits ≡ other.bits) × ((measure : Measure) → Contains one.measured measure ↔ Contains other.measured measure)
-
--- Steps lead from the graph of the first circuit, followed by the inverse of the second, to a reduced graph that isn't
--- just wires; where no vertex of it is interior, the maps differ. What is left in the end is a circuit of their map
--- that isn't empty, and in which no gates cancel or merge.
-pub record IsLeft (one other : Circuit) (left : Circuit) : Type 0 where
-  pub steps : List Step
-  pub end : Graph
-  pub run : IsRun (translated (undone_by one other)) steps end
-  pub reduced : IsReduced end
-  pub not_bare : is_bare end ≡ false
-  pub decides : has_only_ends end ≡ true → Proportional one.qubits one.qubits (amp one.gates) (amp other.gates) → ⊥
-  pub qubits : left.qubits ≡ one.qubits
-  pub map : Proportional one.qubits one.qubits (amp (undone_by one other).gates) (amp left.gates)
-  pub tidy : IsTidy left.gates
-  pub some : 0 < length left.gates
-  pub odd : gate_odd_phases left.gates ≤ gate_odd_phases one.gates + gate_odd_phases other.gates
-  pub few : length left.gates ≤ gate_bound one.qubits (gate_odd_phases one.gates + gate_odd_phases other.gates)
 
 -- the lowered circuit
 abbrev pub circuit_for : Elementary → Circuit
@@ -81,7 +59,9 @@ pub record IsNotShown (one other : Elementary) (bytes : List ℕ) : Type 0 where
   pub differ : HaveOtherGates one other
   pub left : Circuit
   pub valid : IsCircuit left
-  pub is_left : IsLeft (circuit_for one) (circuit_for other) left
+  pub steps : List Step
+  pub end : Graph
+  pub is_left : IsLeftOfBoth (circuit_for one) (circuit_for other) left steps end
   pub spelled : bytes ≡ codes "not shown " ++ (decimal (length left.gates) ++ codes "\n")
 
 -- these agree, and the maps are equal up to a nonzero scalar

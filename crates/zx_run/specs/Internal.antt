@@ -1,5 +1,5 @@
 -- What private contracts alone cite.
-pub mod Answers
+pub mod Parts
 pub mod Places
 pub mod Refusals
 pub mod Verdicts

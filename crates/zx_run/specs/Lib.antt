@@ -6,5 +6,6 @@ pub mod Comparing
 pub mod CircuitTexts
 pub mod FlowFiles
 pub mod Outcome
+pub mod Answers
 pub mod ErrorLine
 pub mod Internal

@@ -65,9 +65,9 @@ fn line_about_gates(
     ensures { IfOk result (λ written.
         IsComparisonOf one.now other.now written.bytes.items written.is_no) }
 {
-    let (first, _) = lower(alloc, one)?;
-    let (second, _) = lower(alloc, other)?;
-    let found = compare(alloc, &first, &second)?;
+    let first = lower(alloc, one)?;
+    let second = lower(alloc, other)?;
+    let found = compare(alloc, &first.gates, &second.gates)?;
     drop(first);
     drop(second);
     let left = gates_left(&found);

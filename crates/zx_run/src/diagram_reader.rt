@@ -5,7 +5,8 @@ ghost use Rattle.zx_text.specs.Reading.{most_ends};
 ghost use Rattle.zx_run.specs.DiagramFiles.{IsDiagramFile, IsSquare, IsFirstDiagramFault, IsFirstSquareFault};
 ghost use Rattle.zx_run.specs.Internal.ErrorAnswers.{answer_to_file_error};
 ghost use Rattle.zx_run.specs.FirstFault.{most_bytes};
-ghost use Rattle.zx_run.specs.Internal.Answers.{IsReadFailure, told_source};
+ghost use Rattle.zx_run.specs.Answers.{told_source};
+ghost use Rattle.zx_run.specs.Internal.Parts.{IsReadFailure};
 ghost use Rattle.zx_run.specs.Internal.Refusals.{IsRefusalFor};
 
 use crate::input::read_bytes;

@@ -4,7 +4,8 @@ ghost use Rattle.std.specs.Prelude.{◌≡◌, List, ℕ, [], Some, IfOk, IfErr,
 ghost use Rattle.gflow_laws.specs.Flow.{IsTableOf};
 ghost use Rattle.gflow_laws.specs.Seen.{seen};
 ghost use Rattle.zx_run.specs.FlowFiles.{IsFileOf, IsFirstFileFault};
-ghost use Rattle.zx_run.specs.Internal.Answers.{IsReadFailure, told_source};
+ghost use Rattle.zx_run.specs.Answers.{told_source};
+ghost use Rattle.zx_run.specs.Internal.Parts.{IsReadFailure};
 
 use crate::input::MOST_BYTES;
 use crate::status::Status;

@@ -4,7 +4,7 @@ ghost use Rattle.std.specs.Prelude.{◌≡◌, true, codes, IfOk};
 ghost use Rattle.gflow_laws.specs.Flow.{IsFlow, IsTableOf};
 ghost use Rattle.gflow_laws.specs.Seen.{seen};
 ghost use Rattle.zx_run.specs.FlowFiles.{IsFailureLine, condition_name, fails_line};
-ghost use Rattle.zx_run.specs.Internal.Answers.{IsVerdict};
+ghost use Rattle.zx_run.specs.Internal.Parts.{IsVerdict};
 
 use crate::written::Written;
 use flow_check::{Condition, Verdict, check};

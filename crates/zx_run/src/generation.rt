@@ -29,7 +29,8 @@ pub fn generation_report(
     ensures { IfOk result (λ output. IsGenerationReport seed qubits gates output.items) }
 {
     let read = generate(alloc, seed, qubits, gates)?;
-    let (made, _) = optimise(alloc, &read, false)?;
+    let optimised = optimise(alloc, &read, false)?;
+    let made = optimised.gates;
     let lines = report_lines(alloc, &read, &made)?;
     let mut output = generation_line(alloc, seed, qubits, gates)?;
     output.extend_from_slice(&lines)?;

@@ -2,7 +2,8 @@
 
 ghost use Rattle.std.specs.Prelude.{◌≡◌, ◌≤◌, List, ℕ, [], Some, length, IfOk, IfErr, OnOk};
 ghost use Rattle.zx_run.specs.FirstFault.{most_bytes};
-ghost use Rattle.zx_run.specs.Internal.Answers.{IsReadFailure, told_source};
+ghost use Rattle.zx_run.specs.Answers.{told_source};
+ghost use Rattle.zx_run.specs.Internal.Parts.{IsReadFailure};
 ghost use Rattle.zx_run.specs.Internal.Refusals.{IsTooLong};
 
 use crate::status::Status;

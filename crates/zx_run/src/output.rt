@@ -30,15 +30,16 @@ pub fn optimised_text(
     ensures { (text : List ℕ) → IsAccepted text read.now
         → IfOk result (λ output. IsOptimisedText best reported scaled text output.items) }
 {
-    let (lowered, before) = lower(alloc, read)?;
-    let (optimised, between) = optimise(alloc, &lowered, best)?;
-    let own = text_scalar(&optimised);
+    let lowered = lower(alloc, read)?;
+    let optimised = optimise(alloc, &lowered.gates, best)?;
+    let circuit = optimised.gates;
+    let own = text_scalar(&circuit);
     // What `turn` says of a phase: it is below a whole turn.
     prove!(own.turn.get() < 16);
-    let scalar = before.times(between).over(own);
-    let mut lines = report_if(alloc, reported, &lowered, &optimised)?;
+    let scalar = lowered.scalar.times(optimised.scalar).over(own);
+    let mut lines = report_if(alloc, reported, &lowered.gates, &circuit)?;
     push_scalar_if(&mut lines, alloc, scaled, &scalar)?;
-    let mut output = write_text(alloc, &optimised, read.bits, read.measured.as_slice())?;
+    let mut output = write_text(alloc, &circuit, read.bits, read.measured.as_slice())?;
     output.extend_from_slice(&lines)?;
     Ok(output)
 }

@@ -10,7 +10,7 @@ ghost use Rattle.zx_run.specs.FirstFault.{most_bytes};
 ghost use Rattle.zx_run.specs.Outcome.{Gains, GainsNoFor, GainsOutputFor, GainsPrefix, GainsPrefixFor, IsAnswerOfGen, IsGen, IsOrNoMemory};
 ghost use Rattle.zx_run.specs.Outcome.{IsFailed, IsFaultlessFor, IsFirstFaultFor, IsOrFailedRead, LeavesOutput, MayAnswer, ReadsSource, SaysEnd};
 ghost use Rattle.zx_run.specs.ErrorLine.{error_line};
-ghost use Rattle.zx_run.specs.Internal.Answers.{IsAnswer, IsFailure, IsMade, Reads, streams, told_output, told_source};
+ghost use Rattle.zx_run.specs.Answers.{IsAnswer, IsFailure, IsMade, Reads, streams, told_output, told_source};
 
 use crate::comparison::comparison_text;
 use crate::compilation::compiled_text;
@@ -121,85 +121,9 @@ pub fn run<'a, S: Source, O: Sink, E: Sink>(
     report(status, err)
 }
 
-/// The answer of `run`, without its line. Where there is an output, all of it is made before its first byte
-/// is written.
+/// The answer of `run`, without its line: what it says of the source and the output before and after, by cases. Where
+/// there is an output, all of it is made before its first byte is written.
 pub fn answer<'a, S: Source, O: Sink>(
-    alloc: Global,
-    words: &'a [&'a str],
-    source: &mut S,
-    out: &mut O,
-) -> Status
-    // Done: no stream failed, the output was flushed, and it gained what the command may write.
-    ensures done { result ≡ Status.Done →
-        (S.faults source.new ≡ S.faults source.old) × (O.faults out.new ≡ O.faults out.old) }
-    ensures done_flushed { result ≡ Status.Done → O.pending out.new ≡ 0 }
-    ensures done_output { (command : Command) → result ≡ Status.Done →
-        command_in words.now ≡ Some command →
-        GainsOutputFor command (S.left source.old) (O.taken out.old) (O.taken out.new) }
-
-    // No: the same, but that the output gained what the command may write with this answer.
-    ensures no { result ≡ Status.No →
-        (S.faults source.new ≡ S.faults source.old) × (O.faults out.new ≡ O.faults out.old) }
-    ensures no_flushed { result ≡ Status.No → O.pending out.new ≡ 0 }
-    ensures no_output { (command : Command) → result ≡ Status.No →
-        command_in words.now ≡ Some command →
-        GainsNoFor command (S.left source.old) (O.taken out.old) (O.taken out.new) }
-
-    // Usage: only where the words are no command, and always there, unless memory runs out. Nothing is
-    // read then.
-    ensures usage { result ≡ Status.Usage → command_in words.now ≡ None }
-    ensures usage_where { command_in words.now ≡ None → IsOrNoMemory Status.Usage result }
-    ensures usage_unread { result ≡ Status.Usage → source.new ≡ source.old }
-
-    // Refused: no read failed. Exactly where the fault is the first one of the text, as the command
-    // reads it, unless a read fails or memory runs out.
-    ensures refused { (fault : Fault) → result ≡ Status.Refused fault
-        → S.faults source.new ≡ S.faults source.old }
-    ensures refused_first { (command : Command) (text : List ℕ) (fault : Fault) →
-        command_in words.now ≡ Some command → S.left source.old ≡ Some text →
-        result ≡ Status.Refused fault → IsFirstFaultFor command text fault }
-    ensures refused_where { (command : Command) (text : List ℕ) (fault : Fault) →
-        command_in words.now ≡ Some command → S.left source.old ≡ Some text →
-        IsFirstFaultFor command text fault → IsOrFailedRead (Status.Refused fault) result }
-
-    // ReadFault and WriteFault: only where that stream failed in this call, and always where its count
-    // tells so.
-    ensures read_fault { result ≡ Status.ReadFault
-        → Rose (S.faults source.old) (S.faults source.new) }
-    ensures read_fault_where { S.faults source.new ≢ S.faults source.old
-        → result ≡ Status.ReadFault }
-    ensures write_fault { result ≡ Status.WriteFault →
-        Rose (O.faults out.old) (O.faults out.new) × (S.faults source.new ≡ S.faults source.old) }
-    ensures write_fault_where { O.faults out.new ≢ O.faults out.old → result ≡ Status.WriteFault }
-    ensures write_fault_output { (command : Command) → result ≡ Status.WriteFault →
-        command_in words.now ≡ Some command →
-        GainsPrefixFor command (S.left source.old) (O.taken out.old) (O.taken out.new) }
-
-    // A text without fault is answered as it decides, unless a stream fails or memory runs out.
-    ensures complete { (command : Command) (text : List ℕ) → command_in words.now ≡ Some command →
-        S.left source.old ≡ Some text → IsFaultlessFor command text →
-        MayAnswer command text result ⊎ IsFailed result }
-
-    // `gen` reads nothing, and is done unless the output fails or memory runs out.
-    ensures gen_answers { IsGen (command_in words.now) → IsAnswerOfGen result }
-    ensures gen_complete { IsGen (command_in words.now) →
-        ¬ Rose (O.faults out.old) (O.faults out.new) → IsOrNoMemory Status.Done result }
-    ensures gen_unread { IsGen (command_in words.now) → source.new ≡ source.old }
-
-    // What stands after the answer.
-    ensures read_to_end { (command : Command) (text : List ℕ) →
-        command_in words.now ≡ Some command → S.left source.old ≡ Some text →
-        ReadsSource command → SaysEnd result → S.left source.new ≡ Some [] }
-    ensures too_long_unread { (command : Command) (text : List ℕ) →
-        command_in words.now ≡ Some command → S.left source.old ≡ Some text →
-        result ≡ Status.Refused Fault.TooLong → S.left source.new ≡ Some (drop (most_bytes + 1) text) }
-    ensures out_kept { LeavesOutput result → out.new ≡ out.old }
-{
-    answered(alloc, words, source, out)
-}
-
-// The answer: what it says of the source and the output before and after.
-fn answered<'a, S: Source, O: Sink>(
     alloc: Global,
     words: &'a [&'a str],
     source: &mut S,

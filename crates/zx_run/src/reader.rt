@@ -4,7 +4,8 @@ ghost use Rattle.std.specs.Prelude.{◌≡◌, List, ℕ, [], Some, IfOk, IfErr,
 ghost use Rattle.zx_gates.specs.Elementary.{IsElementary};
 ghost use Rattle.zx_run.specs.FirstFault.{IsAccepted, IsFirstFault, fault_of};
 ghost use Rattle.zx_run.specs.Internal.ErrorAnswers.{answer_to_read_error, answer_to_text_error};
-ghost use Rattle.zx_run.specs.Internal.Answers.{IsReadFailure, told_source};
+ghost use Rattle.zx_run.specs.Answers.{told_source};
+ghost use Rattle.zx_run.specs.Internal.Parts.{IsReadFailure};
 
 use crate::input::MOST_BYTES;
 use crate::status::{Fault, Status};

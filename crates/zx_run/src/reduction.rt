@@ -4,7 +4,7 @@ ghost use Rattle.std.specs.Prelude.{IfOk};
 ghost use Rattle.gflow_laws.specs.Flow.{IsFlow, IsTableOf};
 ghost use Rattle.gflow_laws.specs.Seen.{seen};
 ghost use Rattle.zx_run.specs.FlowFiles.{IsReducedFile};
-ghost use Rattle.zx_run.specs.Internal.Answers.{IsVerdict};
+ghost use Rattle.zx_run.specs.Internal.Parts.{IsVerdict};
 
 use crate::flow_verdict::failure;
 use crate::written::Written;

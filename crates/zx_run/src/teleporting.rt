@@ -20,8 +20,8 @@ pub fn teleported_text(alloc: Global, read: &Elementary) -> Result<Vec<u8>, Allo
     ensures { (text : List ℕ) → IsAccepted text read.now
         → IfOk result (λ output. IsTeleportedText text output.items) }
 {
-    let (lowered, _) = lower(alloc, read)?;
-    let teleported = teleport_unscaled(alloc, &lowered)?;
+    let lowered = lower(alloc, read)?;
+    let teleported = teleport_unscaled(alloc, &lowered.gates)?;
     let gates = teleported.gates;
     write_text(alloc, &gates, read.bits, read.measured.as_slice())
 }

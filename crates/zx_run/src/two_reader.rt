@@ -6,7 +6,8 @@ ghost use Rattle.zx_run.specs.declared.status.Status.TheVariants.{NoMemory};
 ghost use Rattle.zx_run.specs.Internal.ErrorAnswers.{answer_to_text_error};
 ghost use Rattle.zx_run.specs.FirstFault.{most_bytes, IsAccepted};
 ghost use Rattle.zx_run.specs.TwoTexts.{AreAccepted, IsFirstFaultOfTwo};
-ghost use Rattle.zx_run.specs.Internal.Answers.{IsReadFailure, told_source};
+ghost use Rattle.zx_run.specs.Answers.{told_source};
+ghost use Rattle.zx_run.specs.Internal.Parts.{IsReadFailure};
 ghost use Rattle.zx_run.specs.Internal.Refusals.{IsFaultFrom, IsRefusalFor, moved_answer, moved_error};
 
 use crate::input::read_bytes;

@@ -10,7 +10,7 @@ use Rattle.zx_model.specs.Scalar.{IsScaled, IsWithin, product_of_scalars}
 use Rattle.zx_model.specs.declared.scalar.Scalar.{Scalar}
 use Rattle.zx_model.proofs.Odd.{is_odd-opposite}
 use Rattle.zx_model.proofs.Scalars.{scaled_proportional, scaled_trans, within_product, within_more}
-use Rattle.zx_model.proofs.ProportionalLemmas.{proportional_sym, proportional_trans}
+use Rattle.zx_model.proofs.ProportionalLemmas.{proportional_trans}
 use Rattle.zx_calculus.specs.Graph.{Graph, WellFormed}
 use Rattle.zx_calculus.specs.Sum.{sum}
 use Rattle.gflow_laws.specs.Flow.{Correction}
@@ -34,11 +34,11 @@ use Rattle.zx_same.proofs.Undoing.{count-inverse}
 pub at_n : (n i o : ℕ) (f g : List Bool → List Bool → Number) → i ≡ n → o ≡ n → Proportional i o f g → Proportional n n f g
 at_n n i o f g wide high p = subst (λ m. Proportional n m f g) high (subst (λ m. Proportional m o f g) wide p)
 
--- from a graph's sum to the circuit that it was made from
+-- from a circuit by the sum of its graph
 pub from_circuit : (n i o : ℕ) (start : Graph) (f g : List Bool → List Bool → Number) → i ≡ n → o ≡ n →
-    Proportional n n (sum start) f → Proportional i o (sum start) g → Proportional n n f g
+    Proportional n n f (sum start) → Proportional i o (sum start) g → Proportional n n f g
 from_circuit n i o start f g wide high first second =
-    proportional_trans n n f (sum start) g (proportional_sym n n (sum start) f first) (at_n n i o (sum start) g wide high second)
+    proportional_trans n n f (sum start) g first (at_n n i o (sum start) g wide high second)
 
 -- the same by scalars
 pub scaled_whole : (n o : ℕ) (f g h : List Bool → List Bool → Number) (s t made : Scalar) → o ≡ n → IsScaled n n f s g → IsScaled o o g t h →
@@ -106,15 +106,3 @@ pub odd-undone : (a b : Circuit) → IsCircuit b → gate_odd_phases (undone_by 
 odd-undone a b is =
     sum_by-append (λ gate. cond (is_odd_phase gate) 1 0) a.gates (inverse_of b.gates)
     ∙ ap (λ k. gate_odd_phases a.gates + k) (count-inverse b.qubits is_odd_phase (is_odd_phase-inverse b.qubits) b.gates is.on_qubits)
-
-pub left_odd : (a b both : Circuit) (made : Simplified) → IsCircuit b → both ≡ undone_by a b → Simplifies both made →
-    gate_odd_phases made.gates.gates ≤ gate_odd_phases a.gates + gate_odd_phases b.gates
-left_odd a b both made is undone s =
-    let left : Simplifies (undone_by a b) made = subst (λ c. Simplifies c made) undone s in
-    subst (λ k. gate_odd_phases made.gates.gates ≤ k) (odd-undone a b is) left.odd
-
-pub left_few : (a b both : Circuit) (made : Simplified) → IsCircuit b → both ≡ undone_by a b → Simplifies both made →
-    length made.gates.gates ≤ gate_bound a.qubits (gate_odd_phases a.gates + gate_odd_phases b.gates)
-left_few a b both made is undone s =
-    let left : Simplifies (undone_by a b) made = subst (λ c. Simplifies c made) undone s in
-    subst (λ k. length made.gates.gates ≤ gate_bound a.qubits k) (odd-undone a b is) left.few

@@ -1,9 +1,9 @@
 -- Where no vertex of the reduced graph is interior, its sum tells whether both circuits have one map.
-use Rattle.std.proofs.Common.{◌≡◌, ◌≤◌, ℕ, suc, ◌+◌, Bool, true, false, not, ◌&&◌, ◌||◌, List, [], ◌∷◌, ◌++◌, length, filter, sym, ap, ap₂, ◌∙◌, refl, subst, true≢false, arith}
-use Rattle.std.specs.List.{All, list_all}
+use Rattle.std.proofs.Common.{◌≡◌, ◌≤◌, ◌<◌, ℕ, zero, suc, ◌+◌, Bool, true, false, not, ◌||◌, List, [], ◌∷◌, ◌++◌, length, map, filter, nat_eq, sym, ap, ◌∙◌, subst, true≢false, arith}
+use Rattle.std.specs.List.{All}
 use Rattle.zx_model.specs.Bits.{member}
-use Rattle.zx_model.specs.Number.{Number, mul}
-use Rattle.zx_model.specs.Phase.{is_odd, IsOdd}
+use Rattle.zx_model.specs.Number.{mul}
+use Rattle.zx_model.specs.Phase.{is_odd}
 use Rattle.zx_model.specs.Proportional.{Proportional}
 use Rattle.zx_model.proofs.ProportionalLemmas.{proportional_sym, proportional_trans}
 use Rattle.zx_calculus.specs.Counts.{odd_phases}
@@ -14,12 +14,15 @@ use Rattle.zx_calculus.proofs.Ids.{by_equal, by_test, or-left, or-right}
 use Rattle.zx_calculus.proofs.Results.{interior_from}
 use Rattle.zx_calculus.proofs.Splitting.{all_at}
 use Rattle.zx_gates.specs.Circuit.{Circuit, IsCircuit, IsGateOn, gate_odd_phases}
+use Rattle.zx_reduce.specs.Steps.{step_named}
+use Rattle.zx_extract.specs.Simplified.{gate_bound}
 use Rattle.zx_gates.specs.Maps.{amp, acts}
 use Rattle.zx_gates.specs.declared.gate.Gate.{Gate}
 use Rattle.zx_gates.proofs.MapLemmas.{amp-acts, acts-append}
 use Rattle.zx_simplify.specs.declared.simplifying.Simplified.{Simplified}
 use Rattle.piece_laws.proofs.Matrices.{proportional-acts}
 use Rattle.zx_same.specs.Bare.{is_bare, has_only_ends}
+use Rattle.zx_same.specs.Comparing.{IsLeftOfBoth}
 use Rattle.zx_same.specs.Internal.Simplifying.{Simplifies}
 use Rattle.zx_same.specs.Inverse.{inverse_of, undone_by}
 use Rattle.zx_same.proofs.Comparisons.{at_n, odd-undone}
@@ -105,3 +108,27 @@ none_odd a b both made is undone s first second =
   where
     least : {m n : ℕ} → n ≡ gate_odd_phases a.gates + gate_odd_phases b.gates → m ≤ n → m ≡ 0
     least e f = omega (arith, first, second)
+
+-- what is left where neither of the two signs is seen
+pub is_left : (a b both : Circuit) (made : Simplified) → a.qubits ≡ b.qubits → IsCircuit b → both ≡ undone_by a b → Simplifies both made →
+    (nat_eq (length made.gates.gates) 0 || is_bare made.reduced.graph) ≡ false →
+    IsLeftOfBoth a b made.gates (map step_named made.trace.steps) made.reduced.graph
+is_left a b both made same is undone s unseen =
+    let left : Simplifies (undone_by a b) made = subst (λ c. Simplifies c made) undone s in
+    let not_bare : is_bare made.reduced.graph ≡ false = or-right (nat_eq (length made.gates.gates) 0) (is_bare made.reduced.graph) unseen in
+    record {
+      run = left.run;
+      reduced = left.reduced;
+      not_bare = not_bare;
+      decides = λ only one. true≢false (sym (decided a b both made same is undone s only one) ∙ not_bare);
+      qubits = left.qubits;
+      map = left.map;
+      tidy = left.tidy;
+      some = some (length made.gates.gates) (or-left (nat_eq (length made.gates.gates) 0) (is_bare made.reduced.graph) unseen);
+      odd = subst (λ k. gate_odd_phases made.gates.gates ≤ k) (odd-undone a b is) left.odd;
+      few = subst (λ k. length made.gates.gates ≤ gate_bound a.qubits k) (odd-undone a b is) left.few;
+    }
+  where
+    some : (n : ℕ) → nat_eq n 0 ≡ false → 0 < n
+    some zero e = absurd (true≢false e)
+    some (suc n) e = omega arith

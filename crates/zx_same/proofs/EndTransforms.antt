@@ -1,17 +1,14 @@
 -- The sum of a graph with its ends taken off: summed over all bits with the ends' own factors at given labels, only these
 -- labels are left.
-use Rattle.std.proofs.Common.{◌≡◌, ◌≢◌, ◌⊎◌, inl, inr, refl, sym, ◌∙◌, ap, ap₂, ℕ, zero as nought, suc, Bool, true, false, not, cond, ◌&&◌, ◌||◌, eqb, List, [], ◌∷◌, length, true≢false, arith}
-use Rattle.std.specs.Prelude.{if◌then◌else◌}
-use Rattle.zx_model.specs.Bits.{xor, member}
-use Rattle.zx_model.specs.Constants.{two}
-use Rattle.zx_model.specs.Number.{Number, zero, one, add, mul, sign}
+use Rattle.std.proofs.Common.{◌≡◌, ◌≢◌, refl, sym, ◌∙◌, ap, ap₂, ℕ, zero as nought, suc, Bool, true, false, List, [], ◌∷◌, length, true≢false, arith}
+use Rattle.zx_model.specs.Bits.{member}
+use Rattle.zx_model.specs.Number.{Number, zero, one, add, mul}
 use Rattle.zx_model.specs.Sums.{labelled, over, sum_over}
-use Rattle.zx_model.proofs.Domain.{mul-nonzero}
-use Rattle.zx_model.proofs.Ring.{expand, sorted, one_nonzero, two_nonzero, mul-zero, zero-mul, mul-add, add-zero, zero-add, mul-one, mul_assoc, mul_comm, mul_left_comm}
+use Rattle.zx_model.proofs.Ring.{expand, sorted, mul-zero, zero-mul, mul-add, add-zero, zero-add, mul-one, mul_assoc, mul_comm, mul_left_comm}
 use Rattle.zx_model.proofs.SumLemmas.{labelled-same, labelled-other, sum_over_same, sum_over_mul, sum_over_add}
-use Rattle.zx_calculus.specs.Graph.{End, end_vertices, Distinct}
+use Rattle.zx_calculus.specs.Graph.{End, Distinct}
 use Rattle.zx_calculus.specs.Sum.{end_factor, end_product}
-use Rattle.zx_calculus.proofs.Ids.{by_equal, by_test, apart_of_member, member-here, member-there, or-left, or-right}
+use Rattle.zx_calculus.proofs.Ids.{by_equal, apart_of_member, member-here, member-there}
 use Rattle.zx_gates.specs.Maps.{amp}
 
 -- f summed over all lists of n bits

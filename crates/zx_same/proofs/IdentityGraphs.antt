@@ -1,9 +1,9 @@
 -- A graph of which each vertex has an end, and whose sum is the identity's map up to a scalar, is bare.
-use Rattle.std.proofs.Common.{◌≡◌, ◌≢◌, ◌⊎◌, inl, inr, refl, sym, ◌∙◌, ap, ap₂, subst, ℕ, suc, zero as nought, ◌<◌, Bool, true, false, not, cond, ◌&&◌, ◌||◌, eqb, List, [], ◌∷◌, length, filter, true≢false, eq-eqb, ne_eqb, arith}
+use Rattle.std.proofs.Common.{◌≡◌, ◌≢◌, inl, inr, refl, sym, ◌∙◌, ap, ap₂, subst, ℕ, suc, zero as nought, ◌<◌, Bool, true, false, not, cond, ◌&&◌, ◌||◌, eqb, List, [], ◌∷◌, length, filter, true≢false, eq-eqb, ne_eqb, arith}
 use Rattle.std.specs.List.{list_all, zip}
 use Rattle.std.specs.Prelude.{ℤ, pos, ◌+◌, ◌≤◌}
 use borrow.Author.Differences.{up}
-use Rattle.std.proofs.lemmas.Bool.{eqb-true, or_cases}
+use Rattle.std.proofs.lemmas.Bool.{or_cases}
 use Rattle.zx_model.specs.Bits.{xor, member}
 use Rattle.zx_model.specs.Cyclotomic.{add_cyclotomic, neg_cyclotomic, mul_cyclotomic}
 use Rattle.zx_model.specs.Number.{Number, zero, one, add, neg, mul, sign, root_power}
@@ -12,24 +12,23 @@ use Rattle.zx_model.specs.Proportional.{Proportional}
 use Rattle.zx_model.specs.Sums.{sum_over}
 use Rattle.zx_model.proofs.Domain.{mul-nonzero, mul_left_cancel}
 use Rattle.zx_model.proofs.Powers.{root_power-nonzero, root_power-zero}
-use Rattle.zx_model.proofs.Ring.{sorted, mul-zero, zero-mul, one-mul, mul-one, mul-neg, one_nonzero, mul_assoc}
+use Rattle.zx_model.proofs.Ring.{sorted, mul-zero, zero-mul, one-mul, mul-one, mul-neg, mul_assoc}
 use Rattle.zx_model.proofs.SumLemmas.{sum_over_same, sum_over_mul}
-use Rattle.zx_calculus.specs.Graph.{XY, XZ, YZ, Plane, Kind, Vertex, End, Graph, Live, ids, kind_of, joined, neighbours, is_XY, is_interior, phase_of, end_vertices, in_order, different, Distinct, WellFormed}
+use Rattle.zx_calculus.specs.Graph.{XY, XZ, YZ, Plane, Kind, Vertex, End, Graph, ids, kind_of, joined, neighbours, is_XY, phase_of, end_vertices, Distinct, WellFormed}
 use Rattle.zx_calculus.specs.Parity.{masked}
 use Rattle.zx_calculus.specs.Internal.Pairs.{quad}
-use Rattle.zx_calculus.specs.Sum.{factor, factor_in, vertex_product, end_product, sum}
+use Rattle.zx_calculus.specs.Sum.{factor, factor_in, vertex_product, sum}
 use Rattle.zx_calculus.proofs.Booleans.{or-true, parities}
 use Rattle.zx_calculus.proofs.Edges.{joined_comm}
-use Rattle.zx_calculus.proofs.Forms.{sum_is_form, vertex_product_front, ids-without, at_front}
-use Rattle.zx_calculus.proofs.Ids.{and-left, and-right, or-left, or-right, not-true, by_test, by_equal, eqb-self, eqb_comm, member-there, member-here, apart_of_member, removed, member-removed, member-removed_other, Distinct-removed, Distinct-different, Symmetric, masked_front, quad_front}
+use Rattle.zx_calculus.proofs.Forms.{sum_is_form}
+use Rattle.zx_calculus.proofs.Ids.{by_test, by_equal, eqb-self, member-there, member-here, apart_of_member, removed, member-removed, member-removed_other, Distinct-removed, Distinct-different, Symmetric, masked_front, quad_front}
 use Rattle.zx_calculus.proofs.Parity.{masked_labels, quad_labels}
-use Rattle.zx_calculus.proofs.Splitting.{distinct, all_at, absent_from, no_loop, joined-absent, member-without, Distinct-without}
-use Rattle.zx_calculus.proofs.Toggling.{member-neighbours}
+use Rattle.zx_calculus.proofs.Splitting.{distinct, all_at, no_loop}
 use Rattle.zx_calculus.proofs.Vertices.{phase-kind_of}
 use Rattle.zx_gates.specs.Maps.{amp}
 use Rattle.zx_same.specs.Bare.{is_bare_vertex, is_only_neighbour, is_wire_at_vertex, is_wire_along_edge, is_bare_wire, is_bare}
 use Rattle.zx_same.proofs.EndTransforms.{meeting, meetings, ends_taken_off, picked, restricted, restricted_at}
-use Rattle.zx_same.proofs.Meetings.{Meet, meets_input, meets_output, input_meets, output_meets, one_input, one_output, weight, whole_nonzero, meetings-own, meetings-apart, at_labels, meetings-zero, meetings-nonzero, meetings-same, meetings-turned, meeting-marks, meeting-alike, meeting-other, marks_nonzero, alike_nonzero}
+use Rattle.zx_same.proofs.Meetings.{Meet, meets_input, meets_output, one_input, one_output, weight, whole_nonzero, meetings-own, meetings-apart, at_labels, meetings-zero, meetings-nonzero, meetings-same, meetings-turned, meeting-marks, meeting-alike, meeting-other, marks_nonzero, alike_nonzero}
 
 -- ---- labels of no vertex, of one and of two
 abbrev pub none : ℕ → Bool

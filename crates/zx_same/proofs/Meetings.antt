@@ -1,14 +1,13 @@
 -- Which ends meet, and what meetings come to at labels of some few vertices.
-use Rattle.std.proofs.Common.{◌≡◌, ◌≢◌, ◌⊎◌, inl, inr, refl, sym, ◌∙◌, ap, ap₂, ℕ, suc, Bool, true, false, not, ◌&&◌, ◌||◌, eqb, List, [], ◌∷◌, length, true≢false, arith}
+use Rattle.std.proofs.Common.{◌≡◌, ◌≢◌, ◌⊎◌, inl, inr, refl, sym, ◌∙◌, ap, ap₂, ℕ, Bool, true, false, ◌&&◌, List, [], ◌∷◌, length, true≢false, arith}
 use Rattle.std.specs.Prelude.{if◌then◌else◌}
 use Rattle.zx_model.specs.Bits.{xor, member}
 use Rattle.zx_model.specs.Constants.{two}
-use Rattle.zx_model.specs.Number.{Number, zero, one, add, neg, mul, sign}
+use Rattle.zx_model.specs.Number.{Number, zero, one, neg, mul, sign}
 use Rattle.zx_model.proofs.Domain.{mul-nonzero}
 use Rattle.zx_model.proofs.Ring.{expand, one_nonzero, two_nonzero, mul-zero, zero-mul, mul-neg, neg-mul, neg-neg, neg-zero}
 use Rattle.zx_calculus.specs.Graph.{End, end_vertices, Distinct}
-use Rattle.zx_calculus.specs.Sum.{end_factor}
-use Rattle.zx_calculus.proofs.Ids.{by_equal, by_test, apart_of_member, member-here, member-there, eqb-self}
+use Rattle.zx_calculus.proofs.Ids.{by_equal, member-here, member-there}
 use Rattle.zx_same.proofs.EndTransforms.{meeting, meetings}
 
 -- ---- two ends that meet, at each labels

@@ -1,17 +1,12 @@
 //! Two circuits compared, by simplifying the one followed by the inverse of the other.
 
-ghost use Rattle.std.specs.Prelude.{◌≡◌, ◌≢◌, ◌≤◌, ◌<◌, ◌↔◌, ◌+◌, ◌==◌, ◌||◌, [], false, length, map, true, IsTrue, IfOk};
+ghost use Rattle.std.specs.Prelude.{◌≡◌, ◌↔◌, ◌==◌, ◌||◌, [], length, map, true, IsTrue, IfOk};
 ghost use Rattle.zx_model.specs.Proportional.{Proportional};
-ghost use Rattle.zx_calculus.specs.Reduced.{IsReduced};
-ghost use Rattle.zx_calculus.specs.Steps.{IsRun};
 ghost use Rattle.zx_gates.specs.Circuit.{gate_odd_phases};
 ghost use Rattle.zx_gates.specs.Maps.{amp};
-ghost use Rattle.zx_peephole.specs.Tidy.{IsTidy};
 ghost use Rattle.zx_reduce.specs.Steps.{step_named};
-ghost use Rattle.circuit_graph.specs.Translation.{translated};
-ghost use Rattle.zx_extract.specs.Simplified.{gate_bound};
-ghost use Rattle.zx_same.specs.Bare.{has_only_ends, is_bare};
-ghost use Rattle.zx_same.specs.Comparing.{IfSame, IfNotShown, IsSame};
+ghost use Rattle.zx_same.specs.Bare.{is_bare};
+ghost use Rattle.zx_same.specs.Comparing.{IfSame, IfNotShown, IsLeftOfBoth, IsSame};
 ghost use Rattle.zx_same.specs.Internal.Simplifying.{Simplifies};
 ghost use Rattle.zx_same.specs.Inverse.{undone_by};
 
@@ -55,34 +50,13 @@ pub fn compare(alloc: Global, a: &GateList, b: &GateList) -> Result<Sameness, Al
         (amp a.now.gates) (amp b.now.gates))) }
     ensures equal_lists { a.now.gates ≡ b.now.gates → IfOk result IsSame }
 
-    // Where it isn't shown, the lists differ, and steps lead to a reduced graph that isn't just wires.
-    ensures different_lists { IfOk result (IfNotShown (λ left steps reduced.
-        a.now.gates ≢ b.now.gates)) }
-    ensures run { IfOk result (IfNotShown (λ left steps reduced.
-        IsRun (translated (undone_by a.now b.now)) (map step_named steps) reduced)) }
-    ensures reduced { IfOk result (IfNotShown (λ left steps reduced. IsReduced reduced)) }
-    ensures not_bare { IfOk result (IfNotShown (λ left steps reduced. is_bare reduced ≡ false)) }
-
-    // Where no vertex of that graph is interior, the maps differ. So circuits without odd phases are told apart.
-    ensures decides { IfOk result (IfNotShown (λ left steps reduced. has_only_ends reduced ≡ true →
-        Proportional a.now.qubits a.now.qubits (amp a.now.gates) (amp b.now.gates) → ⊥)) }
+    // Circuits without odd phases are told apart.
     ensures clifford { gate_odd_phases a.now.gates ≡ 0 → gate_odd_phases b.now.gates ≡ 0 →
         Proportional a.now.qubits a.now.qubits (amp a.now.gates) (amp b.now.gates) → IfOk result IsSame }
 
-    // What is left has the map of the one circuit followed by the inverse of the other.
-    ensures left_qubits { IfOk result (IfNotShown (λ left steps reduced.
-        left.qubits ≡ a.now.qubits)) }
-    ensures left_map { IfOk result (IfNotShown (λ left steps reduced.
-        Proportional a.now.qubits a.now.qubits
-        (amp (undone_by a.now b.now).gates) (amp left.gates))) }
-    ensures left_tidy { IfOk result (IfNotShown (λ left steps reduced. IsTidy left.gates)) }
-    ensures left_some { IfOk result (IfNotShown (λ left steps reduced. 0 < length left.gates)) }
-
-    // At most as many phases are odd as in both, and there are few gates.
-    ensures left_odd { IfOk result (IfNotShown (λ left steps reduced. gate_odd_phases left.gates ≤
-        gate_odd_phases a.now.gates + gate_odd_phases b.now.gates)) }
-    ensures left_few { IfOk result (IfNotShown (λ left steps reduced. length left.gates ≤
-        gate_bound a.now.qubits (gate_odd_phases a.now.gates + gate_odd_phases b.now.gates))) }
+    // Where it isn't shown, this is left.
+    ensures left { IfOk result (IfNotShown (λ left steps reduced.
+        IsLeftOfBoth a.now b.now left (map step_named steps) reduced)) }
 {
     if are_equal(a.gates(), b.gates()) {
         return Ok(Sameness::Same);
@@ -137,9 +111,9 @@ fn simplified(alloc: Global, circuit: &GateList) -> Result<Simplified, AllocErro
     // A circuit has no more qubits than a graph may have outputs, and not too many gates.
     prove!(circuit.qubits() <= 1_024);
     prove!(circuit.gates().len() <= u32::MAX as usize);
-    let (graph, flow, scalar) = translate(alloc, circuit)?;
-    let mut made = simplify(alloc, graph, flow)?;
-    made.scalar = scalar.times(made.scalar);
+    let read = translate(alloc, circuit)?;
+    let mut made = simplify(alloc, read.graph, read.flow)?;
+    made.scalar = read.scalar.times(made.scalar);
     Ok(made)
 }
 

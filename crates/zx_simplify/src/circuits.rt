@@ -3,9 +3,9 @@
 ghost use Rattle.std.specs.Prelude.{IfOk};
 ghost use Rattle.zx_simplify.specs.Circuits.{IsSimplified};
 
-use crate::extracting::{ScaledCircuit, extract_tidy};
+use crate::extracting::extract_tidy;
 use std::alloc::{AllocError, Global};
-use zx_gates::GateList;
+use zx_gates::{GateList, ScaledCircuit};
 use zx_grow::grow;
 
 /// The circuit of a circuit's simplified graph, and the scalar that the read one's linear map is times its own. The

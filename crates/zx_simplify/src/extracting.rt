@@ -11,19 +11,9 @@ use open_graph::OpenGraph;
 use std::alloc::{AllocError, Global};
 use zx_extract::extract;
 use zx_flow::Flow;
-use zx_gates::GateList;
-use zx_model::Scalar;
+use zx_gates::ScaledCircuit;
 use zx_peephole::tidy;
 use zx_reduce::check_size;
-
-/// A circuit, and by which scalar what it was made from is its linear map.
-#[derive(Drop)]
-pub struct ScaledCircuit {
-    /// The circuit.
-    pub gates: GateList,
-    /// What it was made from is so many times the circuit's map.
-    pub scalar: Scalar,
-}
 
 // The tidied circuit of a reduced graph, whose sum is so many times its map.
 pub(crate) fn extract_tidy(
@@ -39,10 +29,11 @@ pub(crate) fn extract_tidy(
     ensures { IfOk result (λ made. Extracts reduced.graph made.gates made.scalar) }
 {
     check_size(&reduced)?;
-    let (mut gates, between) = extract(alloc, reduced, flow)?;
+    let made = extract(alloc, reduced, flow)?;
+    let mut gates = made.gates;
     let after = tidy(&mut gates);
     Ok(ScaledCircuit {
         gates,
-        scalar: between.times(after),
+        scalar: made.scalar.times(after),
     })
 }

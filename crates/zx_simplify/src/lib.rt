@@ -24,5 +24,4 @@ mod extracting;
 mod simplifying;
 
 pub use circuits::simplify_circuit;
-pub use extracting::ScaledCircuit;
 pub use simplifying::{Simplified, simplify};

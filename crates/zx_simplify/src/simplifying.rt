@@ -1,7 +1,6 @@
 //! A graph to a circuit, with the steps and the graph on the way.
 
 ghost use Rattle.std.specs.Prelude.{◌≡◌, ◌≤◌, length, map, IfOk};
-ghost use Rattle.zx_model.specs.Proportional.{Proportional};
 ghost use Rattle.zx_model.specs.Scalar.{IsScaled, IsWithin};
 ghost use Rattle.zx_calculus.specs.Counts.{odd_phases};
 ghost use Rattle.zx_calculus.specs.Exact.{KeepsMap};
@@ -18,11 +17,11 @@ ghost use Rattle.zx_extract.specs.Simplified.{gate_bound};
 ghost use Rattle.zx_simplify.specs.Scaling.{most_simplified_root2};
 ghost use Rattle.zx_simplify.specs.Internal.Extracting.{Extracts};
 
-use crate::extracting::{ScaledCircuit, extract_tidy};
+use crate::extracting::extract_tidy;
 use open_graph::OpenGraph;
 use std::alloc::{AllocError, Global};
 use zx_flow::Flow;
-use zx_gates::GateList;
+use zx_gates::{GateList, ScaledCircuit};
 use zx_model::Scalar;
 use zx_reduce::{Trace, check_size, reduce_owned};
 
@@ -64,8 +63,6 @@ pub fn simplify(alloc: Global, graph: OpenGraph, flow: Flow) -> Result<Simplifie
 
     // The graph's sum is a number other than 0 times the circuit's map.
     ensures qubits { IfOk result (λ made. made.gates.qubits ≡ length graph.graph.outputs) }
-    ensures map { IfOk result (λ made. Proportional (length graph.graph.outputs)
-        (length graph.graph.outputs) (sum graph.graph) (amp made.gates.gates)) }
     ensures scalar { IfOk result (λ made. IsScaled (length graph.graph.outputs)
         (length graph.graph.outputs) (sum graph.graph) made.scalar (amp made.gates.gates)) }
     ensures small { IfOk result (λ made. IsWithin most_simplified_root2 made.scalar) }

@@ -29,8 +29,8 @@ pub(crate) fn scalar_of(
     ensures small { IfOk result (IsWithin (2 * length steps.now)) }
     ensures turn { IfOk result (λ s. s.turn < turn) }
 {
-    let (graph, _, _) = translate(alloc, circuit)?;
-    scalar_of_run(graph, steps)
+    let made = translate(alloc, circuit)?;
+    scalar_of_run(made.graph, steps)
 }
 
 // The same on any graph.

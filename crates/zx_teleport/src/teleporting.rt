@@ -120,9 +120,11 @@ pub fn teleport_unscaled(alloc: Global, read: &GateList) -> Result<Unscaled, All
     ensures few_steps { IfOk result (λ found.
         length found.trace.steps ≤ 18 * length (translated read.now).vertices) }
 {
-    let (graph, flow, places) = translate_placed(alloc, read)?;
+    let placed = translate_placed(alloc, read)?;
+    let graph = placed.graph;
+    let places = placed.places;
     check_size(&graph)?;
-    let simplified = simplified(alloc, &graph, flow)?;
+    let simplified = simplified(alloc, &graph, placed.flow)?;
     let gates = put_together(alloc, read, graph, &places, simplified.trace.as_slice())?;
     Ok(Unscaled {
         gates,

@@ -2,19 +2,14 @@
 use Rattle.std.proofs.Common.{◌≡◌, ◌≢◌, ℕ, ◌+◌, ◌<◌, ◌≤◌, suc, zero, true, false, eqb, ◌||◌, ◌⊎◌, inl, inr, List, [], ◌∷◌, ◌++◌, length, refl, sym, ap, ap₂, ◌∙◌, subst, ne_eqb, true≢false, arith, length-append, Option, None, Some}
 use Rattle.std.proofs.lemmas.Bool.{cases_Bool, cases_eq}
 use Rattle.zx_model.specs.Bits.{member}
-use Rattle.zx_calculus.specs.Graph.{Graph}
-use Rattle.gflow_laws.specs.Flow.{Correction}
-use Rattle.zx_text.specs.Files.{Version, One, Two, header}
-use Rattle.zx_text.specs.Lines.{Line, parts}
+use Rattle.zx_text.specs.Files.{Version, One, Two}
 use Rattle.zx_text.specs.Pieces.{pieces}
-use Rattle.zx_text.specs.Reading.{Wanted, most_bytes, IsFileText, IsBadLine}
-use Rattle.zx_text.specs.Internal.Taking.{has_small}
-use Rattle.zx_text.specs.Internal.Stepping.{State, InGraph, AtFlow, InSets, Over, begun, step}
-use Rattle.zx_text.specs.Internal.Lined.{IsReadOn, IsWhole, IsStopped, IsCutShort, IsTaken, IsRefused}
-use Rattle.zx_text.specs.Internal.Said.{word}
-use Rattle.zx_text.proofs.LineLemmas.{read, read-parts}
-use Rattle.zx_text.proofs.RunLemmas.{read_on}
-use Rattle.zx_text.proofs.StopLemmas.{header_is, whole_spells, stopped_bad, no_line_bad, no_header_bad}
+use Rattle.zx_text.specs.BadLines.{IsFirstBad}
+use Rattle.zx_text.specs.Reading.{most_bytes}
+use Rattle.zx_text.specs.Formats.{Format, IsFormat, IsTaken, IsRefused, IsWhole}
+use Rattle.zx_text.specs.Internal.Lined.{IsReadOn, IsStopped}
+use Rattle.zx_text.proofs.WalkLemmas.{read_on, only_whole}
+use Rattle.zx_text.proofs.BadLineLemmas.{whole_file, stopped_bad, no_line_bad, no_header_bad}
 
 -- ---- two lists are equal or not
 same_or_not : {A : Type 0} → ((x y : A) → (x ≡ y) ⊎ (x ≢ y)) → (xs ys : List A) → (xs ≡ ys) ⊎ (xs ≢ ys)
@@ -34,20 +29,20 @@ same_or_not {A} decide (x ∷ xs) (y ∷ ys) = both (decide x y) (same_or_not de
     both (inl e) (inr n) = inr (λ f. n (rest_of f))
     both (inr n) others = inr (λ f. n (first_of f))
 
-pub same_text : (a b : List ℕ) → (a ≡ b) ⊎ (a ≢ b)
+same_text : (a b : List ℕ) → (a ≡ b) ⊎ (a ≢ b)
 same_text a b = same_or_not cases_eq a b
 
-pub same_pieces : (a b : List (List ℕ)) → (a ≡ b) ⊎ (a ≢ b)
+same_pieces : (a b : List (List ℕ)) → (a ≡ b) ⊎ (a ≢ b)
 same_pieces a b = same_or_not same_text a b
 
 -- ---- a text has a first line, or no line feed
-pub record IsCut (text : List ℕ) : Type 0 where
-  pub line : List ℕ
-  pub more : List ℕ
-  pub cut : text ≡ line ++ 10 ∷ more
-  pub is_line : member 10 line ≡ false
+record IsCut (text : List ℕ) : Type 0 where
+  line : List ℕ
+  more : List ℕ
+  cut : text ≡ line ++ 10 ∷ more
+  is_line : member 10 line ≡ false
 
-pub cut_or_not : (text : List ℕ) → IsCut text ⊎ (member 10 text ≡ false)
+cut_or_not : (text : List ℕ) → IsCut text ⊎ (member 10 text ≡ false)
 cut_or_not [] = inr refl
 cut_or_not (b ∷ bs) = at (cases_eq b 10) (cut_or_not bs)
   where
@@ -60,106 +55,100 @@ cut_or_not (b ∷ bs) = at (cases_eq b 10) (cut_or_not bs)
         inl (record { line = b ∷ c.line; more = c.more; cut = ap (λ xs. b ∷ xs) c.cut; is_line = ap (λ x. x || member 10 c.line) (other n) ∙ c.is_line })
     at (inr n) (inr none) = inr (ap (λ x. x || member 10 bs) (other n) ∙ none)
 
-pub cut_shorter : {text : List ℕ} → (c : IsCut text) → length c.more < length text
+cut_shorter : {text : List ℕ} → (c : IsCut text) → length c.more < length text
 cut_shorter {text} c =
     let whole = ap length c.cut ∙ length-append c.line (10 ∷ c.more) in
     omega (arith, whole)
 
--- ---- a line leads on, or no line of its parts does
-taken_or_not : (version : Version) (wanted : Wanted) (st : State) (line : List ℕ) →
-    ((next : State) × IsTaken version wanted st line next) ⊎ IsRefused version wanted st line
-taken_or_not version wanted st line = at (same_pieces (parts said) (pieces 32 line)) (cases_Bool (has_small said)) (step version wanted st said) refl
-  where
-    said : Line
-    said = read (pieces 32 line)
+module _ (F : Format) (laws : IsFormat F) where
+  -- ---- a line leads on, or no line of its parts does
+  taken_or_not : (version : Version) (st : F.State) (line : List ℕ) → ((next : F.State) × IsTaken F version st line next) ⊎ IsRefused F version st line
+  taken_or_not version st line = at (same_pieces (F.parts said) (pieces 32 line)) (cases_Bool (F.is_small said)) (F.step version st said) refl
+    where
+      said : F.Line
+      said = laws.read (pieces 32 line)
 
-    only_said : (l : Line) → has_small l ≡ true → parts l ≡ pieces 32 line → l ≡ said
-    only_said l fits is = sym (read-parts l fits) ∙ ap read is
+      only_said : (l : F.Line) → F.is_small l ≡ true → F.parts l ≡ pieces 32 line → l ≡ said
+      only_said l fits is = sym (laws.read_parts l fits) ∙ ap laws.read is
 
-    at : (parts said ≡ pieces 32 line) ⊎ (parts said ≢ pieces 32 line) → (has_small said ≡ true) ⊎ (has_small said ≡ false) → (o : Option State) →
-        step version wanted st said ≡ o → ((next : State) × IsTaken version wanted st line next) ⊎ IsRefused version wanted st line
-    at (inl same) (inl small) (Some next) leads = inl (next, record { said = said; small = small; parts = same; leads = leads })
-    at (inl same) (inl small) None leads = inr (λ l fits is. ap (step version wanted st) (only_said l fits is) ∙ leads)
-    at (inl same) (inr large) o leads = inr (λ l fits is. absurd (true≢false (sym fits ∙ ap has_small (only_said l fits is) ∙ large)))
-    at (inr other) small o leads = inr (λ l fits is. absurd (other (ap parts (sym (only_said l fits is)) ∙ is)))
+      at : (F.parts said ≡ pieces 32 line) ⊎ (F.parts said ≢ pieces 32 line) → (F.is_small said ≡ true) ⊎ (F.is_small said ≡ false) → (o : Option F.State)
+          → F.step version st said ≡ o → ((next : F.State) × IsTaken F version st line next) ⊎ IsRefused F version st line
+      at (inl same) (inl small) (Some next) leads = inl (next, record { said = said; small = small; parts = same; leads = leads })
+      at (inl same) (inl small) None leads = inr (λ l fits is. ap (F.step version st) (only_said l fits is) ∙ leads)
+      at (inl same) (inr large) o leads = inr (λ l fits is. absurd (true≢false (sym fits ∙ ap F.is_small (only_said l fits is) ∙ large)))
+      at (inr other) small o leads = inr (λ l fits is. absurd (other (ap F.parts (sym (only_said l fits is)) ∙ is)))
 
--- ---- the lines of a text are those of a file, or one of them doesn't fit
-abbrev IsTold : Version → Wanted → List ℕ → Type 0
-IsTold version wanted text =
-    ((g : Graph) × (table : Option (List Correction)) × IsWhole version wanted text g table) ⊎ ((line : ℕ) × IsStopped version wanted text line)
+  -- ---- the lines of a text are those of a file, or one of them doesn't fit
+  abbrev IsTold : Version → List ℕ → Type 0
+  IsTold version text = ((end : F.State) × IsWhole F version text end) ⊎ ((line : ℕ) × IsStopped F version text line)
 
-short_there : {version : Version} {wanted : Wanted} {text rest : List ℕ} {line : ℕ} {st : State} → IsReadOn version wanted text line st rest →
-    IsCutShort st rest → IsTold version wanted text
-short_there {rest = rest} {line = line} {st = st} done short = inr (line, record { state = st; rest = rest; read = done; why = inr short })
+  ended : (version : Version) (text rest : List ℕ) (line : ℕ) (st : F.State) → IsReadOn F version text line st rest → member 10 rest ≡ false → IsTold version text
+  ended version text rest line st done none = at rest refl (cases_Bool (F.is_over st))
+    where
+      short : (rest ≡ [] → F.is_over st ≡ false) → IsTold version text
+      short not_over = inr (line, record { state = st; rest = rest; read = done; why = inr (record { no_line = none; not_over = not_over }) })
 
-ended : (version : Version) (wanted : Wanted) (text rest : List ℕ) (line : ℕ) (st : State) → IsReadOn version wanted text line st rest →
-    member 10 rest ≡ false → IsTold version wanted text
-ended version wanted text (b ∷ bs) line st done none = short_there done (record { no_line = none; not_over = λ e. absurd (cc) })
-ended version wanted text [] line (InGraph p) done none = short_there done (record { no_line = none; not_over = λ e g table f. cc })
-ended version wanted text [] line (AtFlow h) done none = short_there done (record { no_line = none; not_over = λ e g table f. cc })
-ended version wanted text [] line (InSets p) done none = short_there done (record { no_line = none; not_over = λ e g table f. cc })
-ended version wanted text [] line (Over g table) done none = inl (g, table, record { lines = done.lines; read = done.read })
+      at : (found : List ℕ) → rest ≡ found → (F.is_over st ≡ true) ⊎ (F.is_over st ≡ false) → IsTold version text
+      at (b ∷ bs) is over = short (λ e. absurd (cc))
+      at [] is (inl over) = inl (st, only_whole F done is over)
+      at [] is (inr not_over) = short (λ e. not_over)
 
-line_more : (version : Version) (wanted : Wanted) (text rest : List ℕ) (line : ℕ) (st : State) → IsReadOn version wanted text line st rest →
-    ((next : State) (more : List ℕ) → length more < length rest → IsReadOn version wanted text (line + 1) next more → IsTold version wanted text) →
-    IsTold version wanted text
-line_more version wanted text rest line st done further = at (cut_or_not rest)
-  where
-    by_line : (c : IsCut rest) → ((next : State) × IsTaken version wanted st c.line next) ⊎ IsRefused version wanted st c.line → IsTold version wanted text
-    by_line c (inl taken) = further taken.0 c.more (cut_shorter c) (read_on done c.cut taken.1)
-    by_line c (inr none) =
-        inr (
-          line,
-          record {
-            state = st;
-            rest = rest;
-            read = done;
-            why = inl (record { line = c.line; more = c.more; cut = c.cut; is_line = c.is_line; unfit = none });
-          },
-        )
+  line_more : (version : Version) (text rest : List ℕ) (line : ℕ) (st : F.State) → IsReadOn F version text line st rest
+      → ((next : F.State) (more : List ℕ) → length more < length rest → IsReadOn F version text (line + 1) next more → IsTold version text)
+      → IsTold version text
+  line_more version text rest line st done further = at (cut_or_not rest)
+    where
+      by_line : (c : IsCut rest) → ((next : F.State) × IsTaken F version st c.line next) ⊎ IsRefused F version st c.line → IsTold version text
+      by_line c (inl taken) = further taken.0 c.more (cut_shorter c) (read_on F done c.cut taken.1)
+      by_line c (inr none) =
+          inr (
+            line,
+            record {
+              state = st;
+              rest = rest;
+              read = done;
+              why = inl (record { line = c.line; more = c.more; cut = c.cut; is_line = c.is_line; unfit = none });
+            },
+          )
 
-    at : IsCut rest ⊎ (member 10 rest ≡ false) → IsTold version wanted text
-    at (inl c) = by_line c (taken_or_not version wanted st c.line)
-    at (inr none) = ended version wanted text rest line st done none
+      at : IsCut rest ⊎ (member 10 rest ≡ false) → IsTold version text
+      at (inl c) = by_line c (taken_or_not version st c.line)
+      at (inr none) = ended version text rest line st done none
 
-told : (most : ℕ) (version : Version) (wanted : Wanted) (text rest : List ℕ) (line : ℕ) (st : State) → length rest ≤ most →
-    IsReadOn version wanted text line st rest → IsTold version wanted text
-told zero version wanted text rest line st few done = line_more version wanted text rest line st done (λ next more less read. absurd (omega (arith, few, less)))
-told (suc most) version wanted text rest line st few done =
-    line_more version wanted text rest line st done (λ next more less read. told most version wanted text more (line + 1) next (omega (arith, few, less)) read)
+  told : (most : ℕ) (version : Version) (text rest : List ℕ) (line : ℕ) (st : F.State) → length rest ≤ most → IsReadOn F version text line st rest → IsTold version text
+  told zero version text rest line st few done = line_more version text rest line st done (λ next more less read. absurd (omega (arith, few, less)))
+  told (suc most) version text rest line st few done =
+      line_more version text rest line st done (λ next more less read. told most version text more (line + 1) next (omega (arith, few, less)) read)
 
--- ---- a whole text
-behind_header : (version : Version) (wanted : Wanted) (text : List ℕ) → length text ≤ most_bytes →
-    IsFileText wanted (header version ++ text) ⊎ ((line : ℕ) × IsBadLine wanted (header version ++ text) line)
-behind_header version wanted text short =
-    at (told (length text) version wanted text text 2 (InGraph begun) (omega arith) (record { lines = []; read = record { cut = refl; leads = refl }; number = refl }))
-  where
-    at : IsTold version wanted text → IsFileText wanted (header version ++ text) ⊎ ((line : ℕ) × IsBadLine wanted (header version ++ text) line)
-    at (inl whole) =
-        let spells = whole_spells version wanted text whole.0 whole.1 whole.2 in
-        inl (record { graph = whole.0; table = whole.1; spells = spells.0; is_wanted = spells.1 })
-    at (inr stopped) = inr (stopped.0, stopped_bad version wanted text stopped.0 stopped.1 short)
+  -- ---- a whole text
+  abbrev IsDecided : List ℕ → Type 0
+  IsDecided text = F.IsFile text ⊎ ((line : ℕ) × IsFirstBad F.IsFile text line)
 
-pub file_or_bad : (wanted : Wanted) (text : List ℕ) → length text ≤ most_bytes → IsFileText wanted text ⊎ ((line : ℕ) × IsBadLine wanted text line)
-file_or_bad wanted text short = at (cut_or_not text)
-  where
-    headed : (version : Version) (c : IsCut text) → word version ≡ c.line → IsFileText wanted text ⊎ ((line : ℕ) × IsBadLine wanted text line)
-    headed version c first =
-        let less = cut_shorter c in
-        subst (λ t. IsFileText wanted t ⊎ ((line : ℕ) × IsBadLine wanted t line))
-        (header_is version c.more ∙ ap (λ l. l ++ 10 ∷ c.more) first ∙ sym c.cut)
-        (behind_header version wanted c.more (omega (arith, short, less)))
+  behind_header : (version : Version) (text : List ℕ) → length text ≤ most_bytes → IsDecided (F.word version ++ 10 ∷ text)
+  behind_header version text short =
+      at (told (length text) version text text 2 F.begun (omega arith) (record { lines = []; cut = refl; leads = refl; number = refl }))
+    where
+      at : IsTold version text → IsDecided (F.word version ++ 10 ∷ text)
+      at (inl whole) = inl (laws.is_file _ whole.0 (whole_file F laws version text whole.0 whole.1))
+      at (inr stopped) = inr (stopped.0, stopped_bad F laws version text stopped.0 stopped.1 short)
 
-    neither : (line : List ℕ) → word One ≢ line → word Two ≢ line → (version : Version) → word version ≢ line
-    neither line n m One = n
-    neither line n m Two = m
+  pub file_or_bad : (text : List ℕ) → length text ≤ most_bytes → F.IsFile text ⊎ ((line : ℕ) × IsFirstBad F.IsFile text line)
+  file_or_bad text short = at (cut_or_not text)
+    where
+      headed : (version : Version) (c : IsCut text) → F.word version ≡ c.line → IsDecided text
+      headed version c first =
+          let less = cut_shorter c in
+          subst IsDecided (ap (λ l. l ++ 10 ∷ c.more) first ∙ sym c.cut) (behind_header version c.more (omega (arith, short, less)))
 
-    by_header : (c : IsCut text) → (word One ≡ c.line) ⊎ (word One ≢ c.line) → (word Two ≡ c.line) ⊎ (word Two ≢ c.line) →
-        IsFileText wanted text ⊎ ((line : ℕ) × IsBadLine wanted text line)
-    by_header c (inl e) second = headed One c e
-    by_header c (inr n) (inl e) = headed Two c e
-    by_header c (inr n) (inr m) = inr (1, no_header_bad wanted text c.line c.more c.cut c.is_line (neither c.line n m))
+      neither : (line : List ℕ) → F.word One ≢ line → F.word Two ≢ line → (version : Version) → F.word version ≢ line
+      neither line n m One = n
+      neither line n m Two = m
 
-    at : IsCut text ⊎ (member 10 text ≡ false) → IsFileText wanted text ⊎ ((line : ℕ) × IsBadLine wanted text line)
-    at (inl c) = by_header c (same_text (word One) c.line) (same_text (word Two) c.line)
-    at (inr none) = inr (1, no_line_bad wanted text none)
+      by_header : (c : IsCut text) → (F.word One ≡ c.line) ⊎ (F.word One ≢ c.line) → (F.word Two ≡ c.line) ⊎ (F.word Two ≢ c.line) → IsDecided text
+      by_header c (inl e) second = headed One c e
+      by_header c (inr n) (inl e) = headed Two c e
+      by_header c (inr n) (inr m) = inr (1, no_header_bad F laws text c.line c.more c.cut c.is_line (neither c.line n m))
+
+      at : IsCut text ⊎ (member 10 text ≡ false) → IsDecided text
+      at (inl c) = by_header c (same_text (F.word One) c.line) (same_text (F.word Two) c.line)
+      at (inr none) = inr (1, no_line_bad F laws text none)

@@ -1,15 +1,16 @@
--- A line is told by its parts, and its text by both.
-use Rattle.std.proofs.Common.{◌≡◌, ◌≢◌, ℕ, ◌^◌, Bool, true, false, if◌then◌else◌, eqb, List, [], ◌∷◌, ◌++◌, map, get_or, refl, sym, ap, ap₂, ◌∙◌, ltb-true, eqb-true, codes, decimal}
-use Rattle.std.specs.List.{list_all, join_with_byte}
+-- A line is told by its parts, and these are plain.
+use Rattle.std.proofs.Common.{◌≡◌, ◌≢◌, ℕ, ◌^◌, Bool, true, false, if◌then◌else◌, eqb, List, [], ◌∷◌, map, get_or, refl, ap, ap₂, ◌∙◌, ltb-true, decimal}
+use Rattle.std.specs.List.{list_all}
 use Rattle.std.specs.Str.Parse.{digits_value}
 use Rattle.std.proofs.lemmas.Fmt.{decimal_is_IsNumeral}
 use Rattle.zx_calculus.specs.Graph.{Plane, XY, XZ, YZ}
-use Rattle.zx_calculus.proofs.Ids.{by_test, and-left, and-right}
-use Rattle.zx_text.specs.Lines.{Line, VertexLine, EdgeLine, InputLine, OutputLine, FlowLine, OrderLine, CorrectLine, EndLine, parts, plane_name, mark, spelled_line}
-use Rattle.zx_text.specs.Pieces.{pieces, longer}
+use Rattle.zx_calculus.proofs.Ids.{and-left, and-right}
+use Rattle.zx_calculus.proofs.Kept.{both}
+use Rattle.zx_text.specs.Lines.{Line, VertexLine, EdgeLine, InputLine, OutputLine, FlowLine, OrderLine, CorrectLine, EndLine, parts, plane_name, mark}
+use Rattle.zx_text.specs.Formats.{is_plain}
 use Rattle.zx_text.specs.Internal.SmallNumbers.{is_small}
 use Rattle.zx_text.specs.Internal.Taking.{has_small}
-use Rattle.zx_text.proofs.PieceLemmas.{pieces_some}
+use Rattle.zx_text.proofs.TextLemmas.{decimal_plain, decimals_plain, mark_plain}
 
 -- ---- the line of some parts
 abbrev pub value : List ℕ → ℕ
@@ -84,27 +85,23 @@ read-parts (OrderLine order) small = ap OrderLine (values-decimal order small)
 read-parts (CorrectLine v members) small = ap₂ CorrectLine (value-decimal v (and-left _ _ small)) (values-decimal members (and-right _ _ small))
 read-parts EndLine small = refl
 
-pub same_parts : (l k : Line) → has_small l ≡ true → has_small k ≡ true → parts l ≡ parts k → l ≡ k
-same_parts l k small small' e = sym (read-parts l small) ∙ ap read e ∙ read-parts k small'
+-- ---- plain parts
+plane_plain : (p : Plane) → is_plain (plane_name p) ≡ true
+plane_plain XY = refl
+plane_plain XZ = refl
+plane_plain YZ = refl
 
--- ---- a text is its pieces with the separator between them
-join-longer : (separator b : ℕ) (found : List (List ℕ)) → found ≢ [] → join_with_byte separator (longer b found) ≡ b ∷ join_with_byte separator found
-join-longer separator b [] some = absurd (some refl)
-join-longer separator b (piece ∷ []) some = refl
-join-longer separator b (piece ∷ next ∷ others) some = refl
+pub plain_parts : (l : Line) → has_small l ≡ true → list_all is_plain (parts l) ≡ true
+plain_parts (VertexLine i plane phase) fits =
+    both _ _ refl (both _ _ (decimal_plain i (and-left _ _ fits)) (both _ _ (plane_plain plane) (both _ _ (decimal_plain phase (and-right _ _ fits)) refl)))
+plain_parts (EdgeLine a b) fits = both _ _ refl (both _ _ (decimal_plain a (and-left _ _ fits)) (both _ _ (decimal_plain b (and-right _ _ fits)) refl))
+plain_parts (InputLine v hadamard) fits = both _ _ refl (both _ _ (decimal_plain v fits) (both _ _ (mark_plain hadamard) refl))
+plain_parts (OutputLine v hadamard) fits = both _ _ refl (both _ _ (decimal_plain v fits) (both _ _ (mark_plain hadamard) refl))
+plain_parts FlowLine fits = refl
+plain_parts (OrderLine order) fits = both _ _ refl (decimals_plain order fits)
+plain_parts (CorrectLine v members) fits = both _ _ refl (both _ _ (decimal_plain v (and-left _ _ fits)) (decimals_plain members (and-right _ _ fits)))
+plain_parts EndLine fits = refl
 
-join-next : (separator : ℕ) (found : List (List ℕ)) → found ≢ [] → join_with_byte separator ([] ∷ found) ≡ separator ∷ join_with_byte separator found
-join-next separator [] some = absurd (some refl)
-join-next separator (piece ∷ others) some = refl
-
-pub join-pieces : (separator : ℕ) (text : List ℕ) → join_with_byte separator (pieces separator text) ≡ text
-join-pieces separator [] = refl
-join-pieces separator (b ∷ bs) =
-    by_test (eqb b separator)
-    (λ t. let same : b ≡ separator = eqb-true b separator t in
-    rw t (join-next separator (pieces separator bs) (pieces_some separator bs) ∙ ap₂ (λ x xs. x ∷ xs) (sym same) (join-pieces separator bs)))
-    (λ f. rw f (join-longer separator b (pieces separator bs) (pieces_some separator bs) ∙ ap (λ xs. b ∷ xs) (join-pieces separator bs)))
-
--- a line with these parts is spelled so
-pub spelled_is : (l : Line) (text : List ℕ) → parts l ≡ pieces 32 text → spelled_line l ≡ text ++ codes "\n"
-spelled_is l text same = ap (λ ps. join_with_byte 32 ps ++ codes "\n") same ∙ ap (λ t. t ++ codes "\n") (join-pieces 32 text)
+pub some_part : (l : Line) → parts l ≢ []
+some_part EndLine = λ e. cc
+some_part l = λ e. cc

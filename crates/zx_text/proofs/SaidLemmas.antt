@@ -12,18 +12,20 @@ use Rattle.gflow_laws.proofs.Tables.{order_of-with_sets, set_of-with_sets}
 use Rattle.zx_text.specs.Files.{Version, One, Two, unit, non_outputs, lines, flow_lines, vertex_line, edge_line, input_line, output_line}
 use Rattle.zx_text.specs.Lines.{Line, VertexLine, EdgeLine, InputLine, OutputLine, FlowLine, OrderLine, CorrectLine, EndLine}
 use Rattle.zx_text.specs.Reading.{Wanted, AnyFile, OnlyWithFlow, is_wanted, most_ends, IsFile, IsFlowOfFile}
-use Rattle.zx_text.specs.Internal.Stepping.{Part, Sets, State, InGraph, AtFlow, InSets, Over, only_if, step, flow_step, set_step, run, begun, vertex_fits, edge_fits, end_fits, order_fits, set_fits, vertex_added, edge_added, input_added, output_added, ordered, no_sets, set_added, with_set}
+use Rattle.zx_text.specs.Formats.{run}
+use Rattle.zx_text.specs.Internal.Stepping.{Part, Sets, State, InGraph, AtFlow, InSets, Over, step, flow_step, set_step, begun, vertex_fits, edge_fits, end_fits, order_fits, set_fits, vertex_added, edge_added, input_added, output_added, ordered, no_sets, set_added, with_set}
 use Rattle.zx_text.specs.Internal.Said.{graph_lines, set_lines, IsInSection, AreSetsOf, IsSoFar}
 use Rattle.zx_text.proofs.PartLemmas.{all-last, order-last, in_range, ids-last, length-last}
 use Rattle.zx_text.proofs.SetLemmas.{different_from, order_of-no_sets, in_all, list_all-same, none_out}
-use Rattle.zx_text.proofs.RunLemmas.{only, run-none}
+use Rattle.zx_text.proofs.RunLemmas.{only, passed, kept_by_run}
 
 -- ---- lists
 pub map-last : {A B : Type 0} (f : A → B) (xs : List A) (x : A) → map f (xs ++ x ∷ []) ≡ map f xs ++ f x ∷ []
 map-last f [] x = refl
 map-last f (y ∷ ys) x = ap (λ t. f y ∷ t) (map-last f ys x)
 
-shift : {A : Type 0} (a b : List A) (x : A) → b ≡ [] → (a ++ b) ++ x ∷ [] ≡ (a ++ x ∷ []) ++ b
+-- one more behind the first part, where the second one is empty
+pub shift : {A : Type 0} (a b : List A) (x : A) → b ≡ [] → (a ++ b) ++ x ∷ [] ≡ (a ++ x ∷ []) ++ b
 shift a b x none =
     subst (λ c. (a ++ c) ++ x ∷ [] ≡ (a ++ x ∷ []) ++ c) (sym none)
     (ap (λ t. t ++ x ∷ []) (append-nil a) ∙ sym (append-nil (a ++ x ∷ [])))
@@ -31,10 +33,6 @@ shift a b x none =
 pub end_vertices-last : (ends : List End) (e : End) → end_vertices (ends ++ e ∷ []) ≡ end_vertices ends ++ e.vertex ∷ []
 end_vertices-last [] e = refl
 end_vertices-last (x ∷ xs) e = ap (λ l. x.vertex ∷ l) (end_vertices-last xs e)
-
-pub passed : {A : Type 0} (test : Bool) (x y : A) → only_if test x ≡ Some y → test ≡ true
-passed true x y e = refl
-passed false x y e = absurd (cc)
 
 -- ---- numbers of vertices
 above_range : (b a n : ℕ) → b < a → list_all (ltb b) (range_with_len a n) ≡ true
@@ -90,7 +88,7 @@ pub undone : (version : Version) (phase : ℕ) → (phase * unit version) / unit
 undone One phase = omega arith
 undone Two phase = omega arith
 
-whole_units : (version : Version) (phase : ℕ) → eqb ((phase * unit version) % unit version) 0 ≡ true
+pub whole_units : (version : Version) (phase : ℕ) → eqb ((phase * unit version) % unit version) 0 ≡ true
 whole_units One phase = let e : (phase * 2) % 2 ≡ 0 = omega arith in rw e refl
 whole_units Two phase = let e : (phase * 1) % 1 ≡ 0 = omega arith in rw e refl
 
@@ -492,58 +490,23 @@ so_far_more version wanted (InGraph p) EndLine next so_far so e = subst (λ s. M
 so_far_more version wanted (AtFlow g) l next so_far so e = flow_more l e
   where
     flow_more : (l : Line) → flow_step g l ≡ Some next → IsSoFar version wanted next (so_far ++ l ∷ [])
-    flow_more (VertexLine i plane phase) e = absurd (cc)
-    flow_more (EdgeLine a b) e = absurd (cc)
-    flow_more (InputLine v hadamard) e = absurd (cc)
-    flow_more (OutputLine v hadamard) e = absurd (cc)
-    flow_more FlowLine e = absurd (cc)
     flow_more (OrderLine order) e = subst (λ s. More version wanted s so_far (OrderLine order)) (only _ _ next e) (more_order so order (passed _ _ _ e))
-    flow_more (CorrectLine v members) e = absurd (cc)
-    flow_more EndLine e = absurd (cc)
+    flow_more l e = absurd (cc)
 so_far_more version wanted (InSets p) l next so_far so e = set_more p.left l refl e
   where
     set_more : (left : List ℕ) (l : Line) → p.left ≡ left → set_step p left l ≡ Some next → IsSoFar version wanted next (so_far ++ l ∷ [])
-    set_more [] (VertexLine i plane phase) at e = absurd (cc)
-    set_more [] (EdgeLine a b) at e = absurd (cc)
-    set_more [] (InputLine v hadamard) at e = absurd (cc)
-    set_more [] (OutputLine v hadamard) at e = absurd (cc)
-    set_more [] FlowLine at e = absurd (cc)
-    set_more [] (OrderLine order) at e = absurd (cc)
-    set_more [] (CorrectLine v members) at e = absurd (cc)
     set_more [] EndLine at e = subst (λ s. More version wanted s so_far EndLine) (only true (Over p.graph (Some p.table)) next e) (more_end_of_sets so at)
-    set_more (v ∷ left) (VertexLine i plane phase) at e = absurd (cc)
-    set_more (v ∷ left) (EdgeLine a b) at e = absurd (cc)
-    set_more (v ∷ left) (InputLine u hadamard) at e = absurd (cc)
-    set_more (v ∷ left) (OutputLine u hadamard) at e = absurd (cc)
-    set_more (v ∷ left) FlowLine at e = absurd (cc)
-    set_more (v ∷ left) (OrderLine order) at e = absurd (cc)
     set_more (v ∷ left) (CorrectLine u members) at e =
         let fits = passed _ _ _ e in
         let same : u ≡ v = eqb-true u v (and-left _ _ fits) in
         subst (λ s. More version wanted s so_far (CorrectLine u members)) (only _ _ next e)
         (more_set so u left members (at ∙ ap (λ w. w ∷ left) (sym same)) (and-right (eqb u v) _ fits))
-    set_more (v ∷ left) EndLine at e = absurd (cc)
+    set_more left l at e = absurd (cc)
 so_far_more version wanted (Over g table) l next so_far so e = absurd (cc)
 
--- a run that comes to a state goes on after its first line
-pub first_step : {P : Type 0} (version : Version) (wanted : Wanted) (to : Option State) (ls : List Line) (end : State) → run version wanted to ls ≡ Some end
-    → ((next : State) → to ≡ Some next → run version wanted (Some next) ls ≡ Some end → P) → P
-first_step version wanted None ls end e f = absurd (no_state (sym (run-none version wanted ls) ∙ e))
-  where
-    no_state : {b : State} → None ≡ Some b → ⊥
-    no_state e = cc
-first_step version wanted (Some next) ls end e f = f next refl e
-
-pub same_state : {b c : State} → Some b ≡ Some c → b ≡ c
-same_state e = cc
-
 pub so_far_run : (version : Version) (wanted : Wanted) (st : State) (ls : List Line) (end : State) (so_far : List Line) → IsSoFar version wanted st so_far
-    → run version wanted (Some st) ls ≡ Some end → IsSoFar version wanted end (so_far ++ ls)
-so_far_run version wanted st [] end so_far so e = subst (λ s. IsSoFar version wanted s (so_far ++ [])) (same_state e) (subst (IsSoFar version wanted st) (sym (append-nil so_far)) so)
-so_far_run version wanted st (l ∷ ls) end so_far so e =
-    first_step version wanted (step version wanted st l) ls end e
-    (λ next at rest. subst (IsSoFar version wanted end) (append_assoc so_far (l ∷ []) ls)
-    (so_far_run version wanted next ls end (so_far ++ l ∷ []) (so_far_more version wanted st l next so_far so at) rest))
+    → run (step version wanted) (Some st) ls ≡ Some end → IsSoFar version wanted end (so_far ++ ls)
+so_far_run version wanted = kept_by_run (step version wanted) (IsSoFar version wanted) (so_far_more version wanted)
 
 pub so_far_begun : (version : Version) (wanted : Wanted) → IsSoFar version wanted (InGraph begun) []
 so_far_begun version wanted = record {
@@ -566,7 +529,7 @@ so_far_begun version wanted = record {
 }
 
 -- lines that lead to the end are all lines of a file
-pub sound : (version : Version) (wanted : Wanted) (ls : List Line) (g : Graph) (table : Option (List Correction)) → run version wanted (Some (InGraph begun)) ls ≡ Some (Over g table)
+pub sound : (version : Version) (wanted : Wanted) (ls : List Line) (g : Graph) (table : Option (List Correction)) → run (step version wanted) (Some (InGraph begun)) ls ≡ Some (Over g table)
     → (ls ≡ lines version g table) × (IsFile version g table × (is_wanted wanted table ≡ true))
 sound version wanted ls g table e =
     let so : IsSoFar version wanted (Over g table) ls = so_far_run version wanted (InGraph begun) ls (Over g table) [] (so_far_begun version wanted) e in (

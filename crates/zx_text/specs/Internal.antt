@@ -2,9 +2,10 @@
 pub mod Taking
 pub mod Stepping
 pub mod Lined
-pub mod Outcomes
+pub mod Answers
 pub mod Parts
 pub mod Readers
 pub mod Said
+pub mod GraphFormat
 pub mod Writing
 pub mod SmallNumbers

@@ -1,7 +1,9 @@
 pub mod Lines
 pub mod Files
 pub mod Numbered
+pub mod BadLines
 pub mod Reading
 pub mod Pieces
+pub mod Formats
 pub mod Versions
 pub mod Internal

@@ -1,11 +1,12 @@
 -- Which texts are graph files, and what is wrong with those that aren't.
-use Rattle.std.specs.Prelude.{◌≡◌, ℕ, zero, suc, ◌+◌, ◌%◌, ◌<◌, ◌≤◌, Bool, true, false, ◌==◌, if◌then◌else◌, ltb}
-use Rattle.std.specs.Prelude.{List, [], ◌∷◌, ◌++◌, length, filter, Option, None, Some, IfSome}
+use Rattle.std.specs.Prelude.{◌≡◌, ℕ, ◌%◌, ◌≤◌, Bool, true, false, ◌==◌, ltb}
+use Rattle.std.specs.Prelude.{List, length, Option, None, Some, IfSome}
 use Rattle.std.specs.List.{list_all, range_with_len}
 use Rattle.zx_calculus.specs.Graph.{Graph, WellFormed, ids, in_order}
 use Rattle.gflow_laws.specs.Flow.{Correction, IsTableOf, order_of, set_of}
 use Rattle.gflow_laws.specs.Seen.{seen}
 use Rattle.zx_text.specs.Files.{Version, unit, spelled}
+use Rattle.zx_text.specs.BadLines.{IsFirstBad}
 
 abbrev pub most_bytes : ℕ
 most_bytes = 16777216
@@ -50,32 +51,6 @@ pub record IsFileText (wanted : Wanted) (text : List ℕ) : Type 0 where
   pub spells : Spells text graph table
   pub is_wanted : is_wanted wanted table ≡ true
 
--- some wanted file begins with these bytes
-pub record CanBegin (wanted : Wanted) (bytes : List ℕ) : Type 0 where
-  pub graph : Graph
-  pub table : Option (List Correction)
-  pub rest : List ℕ
-  pub spells : Spells (bytes ++ rest) graph table
-  pub is_wanted : is_wanted wanted table ≡ true
-
--- how many line feeds the text has
-abbrev pub line_ends : List ℕ → ℕ
-line_ends text = length (filter (λ byte. byte == 10) text)
-
--- so many lines of the text from its start on, each with its line feed, or the whole text where it has fewer
-abbrev pub first_lines : ℕ → List ℕ → List ℕ
-first_lines zero text = []
-first_lines (suc n) [] = []
-first_lines (suc n) (byte ∷ text) = byte ∷ first_lines (if byte == 10 then n else suc n) text
-
--- the lines before the one of this number, counted from 1, can begin a wanted file, and with it they can't; where the
--- text ends before that line does, the text is no wanted file
-pub record IsBadLine (wanted : Wanted) (text : List ℕ) (line : ℕ) : Type 0 where
-  pub before : ℕ
-  pub number : line ≡ before + 1
-  pub are_there : before ≤ line_ends text
-  pub can_begin : CanBegin wanted (first_lines before text)
-  pub unfit : before < line_ends text → CanBegin wanted (first_lines line text) → ⊥
-  pub not_whole :
-      line_ends text ≡ before → (g : Graph) (table : Option (List Correction)) → Spells text g table
-      → is_wanted wanted table ≡ true → ⊥
+-- the line is the first one with which no wanted file begins
+abbrev pub IsBadLine : Wanted → List ℕ → ℕ → Type 0
+IsBadLine wanted text line = IsFirstBad (IsFileText wanted) text line

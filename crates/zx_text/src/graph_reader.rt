@@ -5,16 +5,14 @@ ghost use Rattle.std.specs.Option.{option_map};
 ghost use Rattle.zx_calculus.specs.Graph.{Graph};
 ghost use Rattle.gflow_laws.specs.Flow.{Correction};
 ghost use Rattle.zx_text.specs.Reading.{most_bytes, Spells, AnyFile, OnlyWithFlow, IsBadLine};
-ghost use Rattle.zx_text.specs.Internal.Readers.{wanted_by};
-ghost use Rattle.zx_text.specs.Internal.Outcomes.{IsReading, Excludes};
 ghost use Rattle.zx_text.specs.declared.error.TextError.TheVariants.{BadLine, TooLong, NoMemory};
 
 use crate::error::TextError;
-use crate::line_reader::{Outcome, read_lines};
-use crate::pieces::cut;
-use crate::version::Version;
+use crate::graph_lines::GraphLines;
+use crate::line_reader::read_file;
+use crate::reader::Reader;
 use open_graph::OpenGraph;
-use std::alloc::{AllocError, Global};
+use std::alloc::Global;
 use zx_flow::FlowTable;
 
 /// The graph that a file spells, with the ids that are its numbers, and its flow if it has one.
@@ -36,13 +34,10 @@ pub fn read_graph(alloc: Global, bytes: &[u8]) -> Result<(OpenGraph, Option<Flow
     ensures refused { (line : ℕ) → IsBadLine AnyFile bytes.now line →
         length bytes.now ≤ most_bytes → IsErrOf result (BadLine line) ⊎ IsErrOf result NoMemory }
 {
-    if bytes.len() > MOST_BYTES {
-        return Err(TextError::TooLong);
-    }
-    let outcome = outcome_of(alloc, false, bytes)?;
-    match outcome {
-        Outcome::File(graph, table) => Ok((graph, table)),
-        Outcome::BadLine(line) => Err(TextError::BadLine { line }),
+    let GraphLines(reader) = read_file::<GraphLines<false>>(alloc, bytes)?;
+    match reader {
+        Reader::Over(graph, table) => Ok((graph, table)),
+        _ => unreachable!(),
     }
 }
 
@@ -66,33 +61,12 @@ pub fn read_graph_with_flow(
     ensures refused { (line : ℕ) → IsBadLine OnlyWithFlow bytes.now line →
         length bytes.now ≤ most_bytes → IsErrOf result (BadLine line) ⊎ IsErrOf result NoMemory }
 {
-    if bytes.len() > MOST_BYTES {
-        return Err(TextError::TooLong);
-    }
-    let outcome = outcome_of(alloc, true, bytes)?;
-    match outcome {
-        Outcome::File(graph, table) => match table {
+    let GraphLines(reader) = read_file::<GraphLines<true>>(alloc, bytes)?;
+    match reader {
+        Reader::Over(graph, table) => match table {
             Some(table) => Ok((graph, table)),
             None => unreachable!(),
         },
-        Outcome::BadLine(line) => Err(TextError::BadLine { line }),
+        _ => unreachable!(),
     }
 }
-
-// What comes of the lines of a text, the first one too.
-fn outcome_of(alloc: Global, with_flow: bool, bytes: &[u8]) -> Result<Outcome, AllocError>
-    requires short { length bytes.now ≤ most_bytes }
-    ensures reading { IfOk result (λ outcome. IsReading (wanted_by with_flow) bytes.now outcome) }
-    ensures excludes { IfOk result (λ outcome. Excludes (wanted_by with_flow) bytes.now outcome) }
-{
-    let Some((first, rest)) = cut(bytes, b'\n') else {
-        return Ok(Outcome::BadLine(1));
-    };
-    match Version::of_header(first) {
-        Some(version) => read_lines(alloc, version, with_flow, rest),
-        None => Ok(Outcome::BadLine(1)),
-    }
-}
-
-/// The most bytes that a file may have.
-pub const MOST_BYTES: usize = 16_777_216;

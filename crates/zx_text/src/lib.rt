@@ -8,7 +8,8 @@
 //! can't. `read_graph_with_flow` does so for the files that have a flow. A text spells one graph and
 //! one flow at most, has one bad line at most, and then is no file; a text that isn't too long is a
 //! file or has a bad line. `cut`, `next_part`, `last_part`,
-//! `number`, `mark` and `Version` read the parts of a line, for other files of the same form too.
+//! `number`, `mark` and `Version` read the parts of a line, for other files of the same form too, and
+//! `read_file` reads the lines of files of any kind whose lines a `LineReader` takes.
 //!
 //! ```rust
 //! let text = write_graph(alloc, &g, Some(&flow))?;
@@ -17,6 +18,7 @@
 #![tactic(auto)]
 
 mod error;
+mod graph_lines;
 mod graph_part;
 mod graph_reader;
 mod graph_writer;
@@ -31,12 +33,13 @@ mod set_part;
 mod version;
 
 pub use error::TextError;
-pub use graph_reader::{MOST_BYTES, read_graph, read_graph_with_flow};
+pub use graph_reader::{read_graph, read_graph_with_flow};
 pub use graph_writer::write_graph;
 pub use laws::{
     each_text_is_a_file_or_has_a_bad_line, files_spell_numbered_graphs, texts_have_one_reading,
 };
 pub use line::mark;
+pub use line_reader::{LineReader, MOST_BYTES, read_file};
 pub use numbers::number;
 pub use pieces::{cut, last_part, next_part};
 pub use version::Version;

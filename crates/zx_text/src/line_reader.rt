@@ -1,118 +1,112 @@
-//! The lines of a graph file, behind the first one.
+//! Files of any kind, read line by line.
 
-ghost use Rattle.std.specs.Prelude.{◌≡◌, ℕ, List, [], true, false, ◌<◌, ◌≤◌, ◌+◌, ◌^◌, length, IfOk, IfNone, IfSome, OnOk};
-ghost use Rattle.zx_model.specs.Bits.{member};
+ghost use Rattle.std.specs.Prelude.{◌≡◌, ◌≢◌, ◌⊎◌, ℕ, ◌<◌, ◌≤◌, ◌^◌, length, IfOk, IsOk, IsErrOf, IfNone, IfSome};
+ghost use Rattle.zx_text.specs.BadLines.{IsFirstBad};
 ghost use Rattle.zx_text.specs.Files.{Version as Written};
-ghost use Rattle.zx_text.specs.Reading.{Wanted};
+ghost use Rattle.zx_text.specs.Formats.{Format, IsFormat, IsTaken, IsRefused, IsHeaded};
+ghost use Rattle.zx_text.specs.Reading.{most_bytes};
 ghost use Rattle.zx_text.specs.Versions.{version_named};
-ghost use Rattle.zx_text.specs.Internal.Stepping.{vertices_of};
-ghost use Rattle.zx_text.specs.Internal.Readers.{is_over, state_of, wanted_by};
-ghost use Rattle.zx_text.specs.Internal.Lined.{IsTaken, IsRefused, IsReadOn};
-ghost use Rattle.zx_text.specs.Internal.Outcomes.{IsOutcome};
+ghost use Rattle.zx_text.specs.Internal.Answers.{IsLinesAnswer, IsTextAnswer};
+ghost use Rattle.zx_text.specs.declared.error.TextError.TheVariants.{BadLine, TooLong, NoMemory};
 
-use crate::graph_part::GraphPart;
-use crate::line::parse;
+use crate::error::TextError;
 use crate::pieces::cut;
-use crate::reader::{Reader, taken};
 use crate::version::Version;
-use open_graph::OpenGraph;
 use std::alloc::{AllocError, Global};
-use zx_flow::FlowTable;
 
-// What comes of the lines of a file.
-#[derive(Drop)]
-pub(crate) enum Outcome {
-    // All fit, and the last one is the end.
-    File(OpenGraph, Option<FlowTable>),
-    // The first that doesn't fit, by its number from 1, the first line of the text counted too.
-    BadLine(usize),
+/// What the lines so far of a file say. Files of one kind are read by one such type.
+pub trait LineReader: Drop {
+    // The kind of files.
+    ghost format: { Format };
+
+    // What the lines so far say.
+    ghost state: { Self → format.State };
+
+    /// Before the first line behind that of the version.
+    fn new(alloc: Global) -> Self
+        ensures { state result ≡ format.begun };
+
+    /// The version that has this first line, here without its line feed.
+    fn version_of(line: &[u8]) -> Option<Version>
+        ensures some { IfSome result (λ version. format.word (version_named version) ≡ line.now) }
+        ensures none { IfNone result ((version : Written) → format.word version ≢ line.now) };
+
+    /// Whether the last line of a file is read.
+    fn is_over(&self) -> bool
+        ensures { result ≡ format.is_over (state self.now) };
+
+    /// What one more line leads to, here without its line feed, if it fits.
+    fn taken(self, alloc: Global, version: Version, line: &[u8]) -> Result<Option<Self>, AllocError>
+        requires room { format.size (state self) < 2 ^ 32 }
+        ensures taken { IfOk result (λ found. IfSome found (λ next.
+            IsTaken format (version_named version) (state self) line.now (state next))) }
+        ensures none { IfOk result (λ found. IfNone found
+            (IsRefused format (version_named version) (state self) line.now)) };
 }
 
-// What the lines come to that stand behind the first one.
-pub(crate) fn read_lines(
-    alloc: Global,
-    version: Version,
-    with_flow: bool,
-    text: &[u8],
-) -> Result<Outcome, AllocError>
-    requires short { length text.now < 2 ^ 32 }
-    ensures { IfOk result (λ outcome.
-        IsOutcome (version_named version) (wanted_by with_flow) text.now outcome) }
+/// What the lines of a file say, up to its end.
+///
+/// # Errors
+///
+/// `TooLong` where there are more than 16,777,216 bytes; else `BadLine` with the number of the first
+/// line that doesn't fit, where the bytes aren't a file; `NoMemory` where memory runs out.
+pub fn read_file<R: LineReader>(alloc: Global, bytes: &[u8]) -> Result<R, TextError>
+    requires by_lines { IsFormat R.format }
+    ensures ok { IfOk result (λ reader. IsHeaded R.format bytes.now (R.state reader)) }
+    ensures short { IsOk result → length bytes.now ≤ most_bytes }
+    ensures accepted { R.format.IsFile bytes.now → length bytes.now ≤ most_bytes →
+        IsOk result ⊎ IsErrOf result NoMemory }
+    ensures too_long { IsErrOf result TooLong → most_bytes < length bytes.now }
+    ensures is_too_long { most_bytes < length bytes.now → IsErrOf result TooLong }
+    ensures bad_line { (line : ℕ) → IsErrOf result (BadLine line) →
+        (length bytes.now ≤ most_bytes) × IsFirstBad R.format.IsFile bytes.now line }
+    ensures refused { (line : ℕ) → IsFirstBad R.format.IsFile bytes.now line →
+        length bytes.now ≤ most_bytes → IsErrOf result (BadLine line) ⊎ IsErrOf result NoMemory }
 {
-    let mut reader = Reader::Graph(GraphPart::new(alloc));
+    if bytes.len() > MOST_BYTES {
+        return Err(TextError::TooLong);
+    }
+    read_text(alloc, bytes)
+}
+
+// The same of a text that isn't too long.
+fn read_text<R: LineReader>(alloc: Global, bytes: &[u8]) -> Result<R, TextError>
+    requires by_lines { IsFormat R.format }
+    requires short { length bytes.now ≤ most_bytes }
+    ensures { IsTextAnswer R.format R.state bytes.now result }
+{
+    let Some((first, rest)) = cut(bytes, b'\n') else {
+        return Err(TextError::BadLine { line: 1 });
+    };
+    match R::version_of(first) {
+        Some(version) => read_lines(alloc, version, rest),
+        None => Err(TextError::BadLine { line: 1 }),
+    }
+}
+
+// The same of the lines behind the first one.
+fn read_lines<R: LineReader>(alloc: Global, version: Version, text: &[u8]) -> Result<R, TextError>
+    requires by_lines { IsFormat R.format }
+    requires short { length text.now ≤ most_bytes }
+    ensures { IsLinesAnswer R.format R.state (version_named version) text.now result }
+{
+    let mut reader = R::new(alloc);
     let mut rest = text;
     let mut line = 2;
     while let Some((found, further)) = cut(rest, b'\n') {
-        match line_taken(alloc, version, with_flow, reader, found)? {
+        match reader.taken(alloc, version, found)? {
             Some(next) => reader = next,
-            None => return Ok(Outcome::BadLine(line)),
+            None => return Err(TextError::BadLine { line }),
         }
         rest = further;
         line += 1;
     }
-    Ok(ended(reader, rest, line))
-}
-
-// What one more line leads to, if it fits.
-fn line_taken(
-    alloc: Global,
-    version: Version,
-    with_flow: bool,
-    reader: Reader,
-    text: &[u8],
-) -> Result<Option<Reader>, AllocError>
-    requires room { length (vertices_of (state_of reader)) < 2 ^ 32 }
-    ensures taken { IfOk result (λ found. IfSome found (λ next. IsTaken
-        (version_named version) (wanted_by with_flow) (state_of reader) text.now (state_of next))) }
-    ensures none { IfOk result (λ found. IfNone found (IsRefused
-        (version_named version) (wanted_by with_flow) (state_of reader) text.now)) }
-{
-    match parse(alloc, text)? {
-        Some(line) => taken(alloc, version, with_flow, reader, &line),
-        None => {
-            drop(reader);
-            Ok(None)
-        }
+    if rest.is_empty() && reader.is_over() {
+        Ok(reader)
+    } else {
+        Err(TextError::BadLine { line })
     }
 }
 
-// What it comes to where no line feed is left.
-fn ended(reader: Reader, rest: &[u8], line: usize) -> Outcome
-    requires { member 10 rest.now ≡ false }
-    ensures { (version : Written) (wanted : Wanted) (text : List ℕ) →
-        IsReadOn version wanted text line (state_of reader) rest.now → IsOutcome version wanted text result }
-{
-    if !rest.is_empty() {
-        drop(reader);
-        return Outcome::BadLine(line);
-    }
-    if !is_over(&reader) {
-        drop(reader);
-        return Outcome::BadLine(line);
-    }
-    file_of(reader)
-}
-
-// The file of which the last line is read.
-fn file_of(reader: Reader) -> Outcome
-    requires { is_over (state_of reader) ≡ true }
-    ensures { (version : Written) (wanted : Wanted) (text : List ℕ) (line : ℕ) →
-        IsReadOn version wanted text line (state_of reader) [] → IsOutcome version wanted text result }
-{
-    match reader {
-        Reader::Over(graph, table) => Outcome::File(graph, table),
-        Reader::Graph(_part) => unreachable!(),
-        Reader::Flow(_part) => unreachable!(),
-        Reader::Sets(_part) => unreachable!(),
-    }
-}
-
-// Whether the last line of a file is read.
-fn is_over(reader: &Reader) -> bool
-    ensures { result ≡ is_over (state_of reader.now) }
-{
-    match reader {
-        Reader::Over(_, _) => true,
-        Reader::Graph(_) | Reader::Flow(_) | Reader::Sets(_) => false,
-    }
-}
+/// The most bytes that a file may have.
+pub const MOST_BYTES: usize = 16_777_216;

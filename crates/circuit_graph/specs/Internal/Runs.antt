@@ -75,7 +75,7 @@ pub record Comes (s : State) (gates : List Gate) (t : State) : Type 0 where
   pub inputs : t.graph.inputs ≡ s.graph.inputs
   pub outputs : length t.graph.outputs ≡ length s.graph.outputs
 
--- all that is promised of the graph of a circuit
+-- all that is shown of a translation: what `IsTranslation` says, and the sum by a number
 pub record Translates (c : Circuit) (t : State) : Type 0 where
   pub graph : t.graph ≡ translated c
   pub well_formed : WellFormed t.graph

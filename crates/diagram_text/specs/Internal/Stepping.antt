@@ -1,5 +1,5 @@
 -- What lines lead to, one after the other: a file is taken in exactly where its lines lead from nothing to its end.
-use Rattle.std.specs.Prelude.{ℕ, ◌*◌, Bool, true, ◌&&◌, ◌==◌, if◌then◌else◌, ltb, List, []}
+use Rattle.std.specs.Prelude.{ℕ, ◌*◌, Bool, true, false, ◌&&◌, ◌==◌, ltb, List, []}
 use Rattle.std.specs.Prelude.{◌∷◌, ◌++◌, length, Option, None, Some, codes}
 use Rattle.zx_model.specs.Phase.{turn}
 use Rattle.zx_diagram.specs.declared.spider.Colour.{Colour}
@@ -9,6 +9,7 @@ use Rattle.zx_diagram.specs.Diagram.{Diagram}
 use Rattle.zx_text.specs.Files.{Version, One, Two, unit}
 use Rattle.zx_text.specs.Reading.{most_ends}
 use Rattle.zx_text.specs.Internal.SmallNumbers.{is_small}
+use Rattle.zx_text.specs.Internal.Stepping.{only_if}
 use Rattle.diagram_text.specs.declared.line.Line.{Line}
 use Rattle.diagram_text.specs.declared.line.Line.TheVariants.{Spider, Edge, Input, Output, End}
 use Rattle.diagram_text.specs.declared.reader.Reader.{Reader}
@@ -22,9 +23,6 @@ has_small (Edge e) = is_small e.a && is_small e.b
 has_small (Input leg) = is_small leg.spider
 has_small (Output leg) = is_small leg.spider
 has_small End = true
-
-abbrev pub only_if : {A : Type 0} → Bool → A → Option A
-only_if test x = if test then Some x else None
 
 abbrev pub is_none : {A : Type 0} → List A → Bool
 is_none xs = length xs == 0
@@ -79,12 +77,6 @@ abbrev pub step : Version → Reader → Line → Option Reader
 step version (Open d) line = line_step version d line
 step version (Over d) line = None
 
--- what lines lead to, one after the other
-abbrev pub run : Version → Option Reader → List Line → Option Reader
-run version st [] = st
-run version None (line ∷ others) = None
-run version (Some st) (line ∷ others) = run version (step version st line) others
-
 -- before the first line behind the header
 abbrev pub begun : Reader
 begun = Open (record { spiders = []; edges = []; inputs = []; outputs = [] })
@@ -98,3 +90,8 @@ spiders_of (Over d) = length d.spiders
 abbrev pub word : Version → List ℕ
 word One = codes "zxd 1"
 word Two = codes "zxd 2"
+
+-- the last line of a file is read
+abbrev pub is_over : Reader → Bool
+is_over (Open d) = false
+is_over (Over d) = true

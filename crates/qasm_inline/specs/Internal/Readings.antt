@@ -1,22 +1,17 @@
--- What the reader of a text keeps, and what its answer says of the text: a private matter of the program.
-use Rattle.std.specs.Prelude.{◌≡◌, ℕ, List, [], ◌∷◌, ◌++◌, drop, Option, None, Some, Result, Ok, Err, MatchOption}
+-- What the reader of a text keeps: a private matter of the program.
+use Rattle.std.specs.Prelude.{◌≡◌, ℕ, List, [], ◌∷◌, ◌++◌, drop, Option, None, Some, MatchOption}
 use Rattle.std.specs.Borrow.{Bor}
-use Rattle.zx_gates.specs.declared.elementary.Elementary.{Elementary}
 use Rattle.qasm_lexer.specs.declared.token.Token.{Token}
-use Rattle.qasm_lexer.specs.Tokens.{Lexeme, lexemes, IsCut, IsBadByte}
+use Rattle.qasm_lexer.specs.Tokens.{Lexeme, lexemes}
 use Rattle.qasm_reader.specs.declared.parts.BodyPart.{BodyPart}
-use Rattle.qasm_reader.specs.Depth.{too_deep, IsDepth}
+use Rattle.qasm_reader.specs.Depth.{IsDepth}
 use Rattle.qasm_reader.specs.Grammar.{IsProgram, IsSyntaxFault}
 use Rattle.qasm_reader.specs.Parts.{BeginNone, IsInBody, IsNextInBody}
 use Rattle.qasm_reader.specs.Syntax.{GateForm, Placed}
-use Rattle.qasm_scope.specs.Meaning.{first_fault, most_calls}
-use Rattle.qasm_scope.specs.Texts.{IsProgramText}
 use Rattle.qasm_inline.specs.declared.circuit.Circuit.{Circuit}
 use Rattle.qasm_inline.specs.declared.circuit.OpenGate.{OpenGate}
 use Rattle.qasm_inline.specs.declared.reading.Reader.{Reader}
-use Rattle.qasm_inline.specs.declared.error.TextError.{TextError}
-use Rattle.qasm_inline.specs.declared.error.TextError.TheVariants.{BadByte, TooDeep, Syntax, Wrong, NoMemory}
-use Rattle.qasm_inline.specs.Circuits.{HasBegun, HasTaken, IsCircuitAnswer}
+use Rattle.qasm_inline.specs.Circuits.{HasBegun, HasTaken}
 
 -- All tokens up to the rest were taken in: those of whole statements, and behind these, where a gate's declaration
 -- isn't over, those of its heading and of its body so far.
@@ -59,15 +54,3 @@ abbrev pub open_place : Option OpenGate → List Lexeme → Option ℕ
 open_place (Some gate) rest = Some gate.place
 open_place None [] = None
 open_place None (t ∷ rest) = Some t.place
-
--- the circuit of a text, or its first fault
-abbrev pub IsTextAnswer : List ℕ → Result Elementary TextError → Type 0
-IsTextAnswer text (Ok circuit) =
-    (program : List Placed) × IsProgramText text program × IsCircuitAnswer program (Ok circuit)
-IsTextAnswer text (Err (Wrong cause at)) =
-    (program : List Placed) × IsProgramText text program × (first_fault most_calls program ≡ Some (cause, at))
-IsTextAnswer text (Err (Syntax at)) =
-    (tokens : List Lexeme) × IsCut 0 text tokens × (too_deep tokens ≡ None) × IsSyntaxFault tokens at
-IsTextAnswer text (Err (TooDeep at)) = (tokens : List Lexeme) × IsCut 0 text tokens × (too_deep tokens ≡ Some at)
-IsTextAnswer text (Err (BadByte at)) = IsBadByte text at
-IsTextAnswer text (Err NoMemory) = Unit {0}

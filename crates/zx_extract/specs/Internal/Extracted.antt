@@ -3,7 +3,6 @@ use Rattle.std.specs.Prelude.{◌≡◌, ◌≤◌, ℕ, Bool, List, ◌++◌, l
 use Rattle.std.specs.List.{All}
 use Rattle.zx_model.specs.Constants.{power_of_two}
 use Rattle.zx_model.specs.Number.{mul}
-use Rattle.zx_model.specs.Proportional.{Proportional}
 use Rattle.zx_calculus.specs.Graph.{Graph}
 use Rattle.zx_calculus.specs.Sum.{sum}
 use Rattle.zx_calculus.specs.Counts.{odd_phases, not_XY, XY_without_output}
@@ -23,7 +22,6 @@ pub record HasExactMap (doublings : ℕ) (g : Graph) (gates : List Gate) : Type 
 
 -- the gates are the circuit of g, whose sum is doubled so often
 pub record IsExtracted (doublings : ℕ) (g : Graph) (gates : List Gate) : Type 0 where
-  pub map : Proportional (length g.inputs) (length g.outputs) (sum g) (amp gates)
   pub exact : HasExactMap doublings g gates
   pub odd : gate_odd_phases gates ≤ odd_phases g
   pub few : length gates ≤ most_extracted_gates (length g.outputs) (XY_without_output g) (not_XY g)

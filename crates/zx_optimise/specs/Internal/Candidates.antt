@@ -1,10 +1,10 @@
 -- Which candidate for the best circuit is taken.
 use Rattle.std.specs.Prelude.{◌≡◌, ◌<◌, ◌≤◌, ◌==◌, ◌^◌, ◌⊎◌, ℕ, nat_lt, Bool, if◌then◌else◌}
 use Rattle.zx_model.specs.Scalar.{IsWithin}
+use Rattle.zx_gates.specs.declared.scaled_circuit.ScaledCircuit.{ScaledCircuit}
 use Rattle.zx_gates.specs.declared.tally.Counts.{Counts}
 use Rattle.zx_gates.specs.Circuit.{Circuit, gate_odd_phases}
 use Rattle.zx_peephole.specs.Tidy.{IsTidy}
-use Rattle.zx_optimise.specs.declared.optimiser.Candidate.{Candidate}
 use Rattle.zx_optimise.specs.Optimising.{counts_of, IsCleaned, IsMapTimes, IsNoDearer, Optimises, Teleports}
 
 -- whether these are more, by odd phases, then by gates on two qubits, then by all gates
@@ -24,7 +24,7 @@ most_whole_root2 = 2 ^ 57
 
 -- what may be taken in the place of a circuit, where it is within the bound; the exponent of the root of two in its
 -- scalar is at most k
-pub record IsCandidate (k : ℕ) (read : Circuit) (made : Candidate) : Type 0 where
+pub record IsCandidate (k : ℕ) (read : Circuit) (made : ScaledCircuit) : Type 0 where
   pub qubits : made.gates.qubits ≡ read.qubits
   pub odd : gate_odd_phases made.gates.gates ≤ gate_odd_phases read.gates
   pub tidy : IsTidy made.gates.gates
@@ -32,7 +32,7 @@ pub record IsCandidate (k : ℕ) (read : Circuit) (made : Candidate) : Type 0 wh
   pub small : IsWithin k made.scalar
 
 -- what may be written for a circuit
-pub record Offers (k : ℕ) (read : Circuit) (made : Candidate) : Type 0 where
+pub record Offers (k : ℕ) (read : Circuit) (made : ScaledCircuit) : Type 0 where
   pub optimises : Optimises read made.gates
   pub scalar : IsMapTimes read made.scalar made.gates
   pub small : IsWithin k made.scalar
@@ -44,7 +44,7 @@ IsCheaper a b =
     × ((a.two_qubit < b.two_qubit) ⊎ ((a.two_qubit ≡ b.two_qubit) × (a.total < b.total))))
 
 -- the one candidate is the other, or was taken in its place since it is cheaper
-abbrev pub IsTakenOver : Candidate → Candidate → Type 0
+abbrev pub IsTakenOver : ScaledCircuit → ScaledCircuit → Type 0
 IsTakenOver best made = (made ≡ best) ⊎ IsCheaper (counts_of made.gates.gates) (counts_of best.gates.gates)
 
 -- a cleanup of a circuit whose phases alone are changed

@@ -134,12 +134,6 @@ step version wanted (AtFlow g) line = flow_step g line
 step version wanted (InSets p) line = set_step p p.left line
 step version wanted (Over g table) line = None
 
--- what lines lead to, one after the other
-abbrev pub run : Version → Wanted → Option State → List Line → Option State
-run version wanted st [] = st
-run version wanted None (line ∷ others) = None
-run version wanted (Some st) (line ∷ others) = run version wanted (step version wanted st line) others
-
 -- the vertices so far
 abbrev pub vertices_of : State → List Vertex
 vertices_of (InGraph p) = p.graph.vertices

@@ -1,19 +1,14 @@
--- The map up to a number other than 0, and by the scalar.
-use Rattle.std.proofs.Common.{sym, subst}
-use Rattle.zx_model.specs.Scalar.{IsScaled}
-use Rattle.zx_model.specs.declared.scalar.Scalar.{Scalar}
-use Rattle.zx_calculus.specs.Sum.{sum}
-use Rattle.zx_gates.specs.Maps.{amp}
+-- The flow is the table of the wires.
+use Rattle.std.proofs.Common.{List, sym, subst}
+use Rattle.gflow_laws.specs.Flow.{Correction}
+use Rattle.circuit_graph.specs.Translation.{IsTranslation}
 use Rattle.circuit_graph.specs.Internal.Wires.{state_of}
-use Rattle.circuit_graph.proofs.Whole.{translated_map, translated_scaled}
+use Rattle.circuit_graph.proofs.Whole.{is_translation}
 use Rattle.circuit_graph.proofs.translation.translate.Goals as goal
 
-pub returns-clause-map : goal.returns-clause-map
-returns-clause-map c = translated_map c.args.circuit.now (state_of c.in_ok-wires.wires) c.in_ok-wires.ensures
-
-pub returns-clause-scaled : goal.returns-clause-scaled
-returns-clause-scaled c =
+pub returns-clause-translation : goal.returns-clause-translation
+returns-clause-translation c =
     let circuit = c.args.circuit.now in
-    let t = state_of c.in_ok-wires.wires in
-    subst (λ (s : Scalar). IsScaled circuit.qubits circuit.qubits (amp circuit.gates) s (sum t.graph)) (sym c.scalar_of.ensures.value)
-    (translated_scaled circuit t c.in_ok-wires.ensures)
+    let wires = c.in_ok-wires.wires in
+    subst (λ (f : List Correction). IsTranslation circuit wires.graph.graph f) (sym c.in_ok-flow.ensures)
+    (is_translation circuit (state_of wires) c.in_ok-wires.ensures)

@@ -1,19 +1,19 @@
--- What is read excludes what isn't.
-use Rattle.std.proofs.Common.{Err, ap, sym, inl}
-use Rattle.zx_text.specs.declared.error.TextError.TheVariants.{BadLine}
+-- The lines of a file are those of its diagram.
+use Rattle.std.proofs.Common.{subst}
+use Rattle.zx_text.specs.Formats.{IsHeaded}
+use Rattle.zx_text.proofs.AnswerLemmas.{no_refusal, passed_on}
+use Rattle.diagram_text.specs.Internal.DiagramFormat.{diagram_files}
+use Rattle.diagram_text.proofs.StopLemmas.{by_lines, headed_spells}
 use Rattle.diagram_text.proofs.diagram_reader.read_diagram.Goals as goal
 
-pub returns-in-File-clause-refused : goal.returns-in-File-clause-refused
-returns-in-File-clause-refused c = λ line bad short.
-    let none = rw c.in-File.is at c.in_ok-outcome.ensures.excludes in
-    absurd (none line bad)
+pub read_file-requires : goal.read_file-requires
+read_file-requires c = record { by_lines = by_lines }
 
-pub returns-in-BadLine-clause-accepted : goal.returns-in-BadLine-clause-accepted
-returns-in-BadLine-clause-accepted c = λ d spells short.
-    let none = rw c.in-BadLine.is at c.in_ok-outcome.ensures.excludes in
-    absurd (none.0 d spells)
+pub returns-in_err-diagram-clause-refused : goal.returns-in_err-diagram-clause-refused
+returns-in_err-diagram-clause-refused c = λ line bad short. passed_on c.from_residual.result c.from_residual.ensures.1 (c.in_err-diagram.ensures.refused line bad short)
 
-pub returns-in-BadLine-clause-refused : goal.returns-in-BadLine-clause-refused
-returns-in-BadLine-clause-refused c = λ line bad short.
-    let others = rw c.in-BadLine.is at c.in_ok-outcome.ensures.excludes in
-    inl (ap (λ n. Err (BadLine n)) (sym (others.1 line bad)))
+pub returns-clause-ok : goal.returns-clause-ok
+returns-clause-ok c = headed_spells c.args.bytes.now c.in-Over.diagram (subst (IsHeaded diagram_files c.args.bytes.now) c.in-Over.is c.in_ok-diagram.ensures.ok)
+
+pub returns-clause-refused : goal.returns-clause-refused
+returns-clause-refused c = λ line bad short. no_refusal (c.in_ok-diagram.ensures.refused line bad short)

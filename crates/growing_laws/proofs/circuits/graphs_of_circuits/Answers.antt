@@ -1,5 +1,6 @@
 -- The laws, by their lemmas.
 use Rattle.circuit_graph.proofs.Whole.{translated_scaled}
+use Rattle.circuit_graph.proofs.WrittenOut.{scalar_of-power}
 use Rattle.growing_laws.proofs.TranslatedGraphs.{translates}
 use Rattle.growing_laws.proofs.circuits.graphs_of_circuits.Goals as goal
 
@@ -11,6 +12,9 @@ returns-clause-flow c = λ d on. (translates d on).flow
 
 pub returns-clause-exact : goal.returns-clause-exact
 returns-clause-exact c = λ d on. (translates d on).sum
+
+pub returns-clause-power : goal.returns-clause-power
+returns-clause-power c = scalar_of-power
 
 pub returns-clause-scaled : goal.returns-clause-scaled
 returns-clause-scaled c = λ d on. translated_scaled d _ (translates d on)

@@ -2,6 +2,7 @@
 use Rattle.std.proofs.Common.{◌≢◌, [], ◌≤◌, sym, ◌∙◌, length, subst}
 use Rattle.zx_model.specs.Proportional.{Proportional}
 use Rattle.zx_model.proofs.ProportionalLemmas.{proportional_trans}
+use Rattle.zx_model.proofs.Scalars.{scaled_proportional}
 use Rattle.zx_calculus.specs.Sum as graph
 use Rattle.zx_calculus.specs.Counts.{odd_phases}
 use Rattle.zx_diagram.specs.Sum.{sum}
@@ -32,13 +33,15 @@ pub returns-in_ok-simplified-in-Flow-clause-map : goal.returns-in_ok-simplified-
 returns-in_ok-simplified-in-Flow-clause-map c =
     let d = c.args.d in
     let g = c.in_ok-graph.graph.graph in
-    let gates = c.in_ok-simplified-in-Flow.simplified.gates.gates in
+    let made = c.in_ok-simplified-in-Flow.simplified in
+    let gates = made.gates.gates in
     let n = length d.inputs in
+    let high = length g.outputs in
     let square = sym c.requires.square in
     proportional_trans n n (sum d) (graph.sum g) (amp gates)
     (subst (λ k. Proportional n k (sum d) (graph.sum g)) square c.in_ok-graph.ensures.map)
     (subst (λ k. Proportional k k (graph.sum g) (amp gates)) (form_outputs d g c.in_ok-graph.ensures.form ∙ square)
-    c.in_ok-simplified-in-Flow.ensures.map)
+    (scaled_proportional high high (graph.sum g) (amp gates) made.scalar c.in_ok-simplified-in-Flow.ensures.scalar))
 
 pub returns-in_ok-simplified-in-Flow-clause-few_gates : goal.returns-in_ok-simplified-in-Flow-clause-few_gates
 returns-in_ok-simplified-in-Flow-clause-few_gates c =

@@ -52,7 +52,6 @@ returns c =
     subst (IsExtracted c.in_ok-doublings.doublings c.args.g.graph) (sym c.in_ok-gates.ensures.gates) t.extracted in
     record {
       qubits = c.in_ok-gates.ensures.qubits ∙ t.qubits;
-      map = made.map;
       scalar = subst (λ s. IsScaled (length c.args.g.graph.inputs) (length c.args.g.graph.outputs) (sum c.args.g.graph) s (amp c.in_ok-gates.gates.gates)) (sym c.doubled.ensures)
           (exact_scaled c.in_ok-doublings.doublings c.args.g.graph c.in_ok-gates.gates.gates made.exact);
       small = subst (IsWithin (2 * not_XY c.args.g.graph)) (sym c.doubled.ensures) (mul-le-mul_left 2 made.exact.few);

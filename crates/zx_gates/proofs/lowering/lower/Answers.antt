@@ -1,14 +1,11 @@
 -- All gates are lowered, and lowering keeps the map up to the scalar, and the odd phases.
 use Rattle.std.proofs.Common.{ℕ, ◌+◌, ◌*◌, ◌<◌, get_or, length, List, ◌≡◌, ◌∙◌, ap, sym, subst, arith}
-use Rattle.zx_model.specs.Proportional.{Proportional}
 use Rattle.zx_model.specs.Scalar.{IsWithin, most_root2, one_scalar, product_of_scalars}
 use Rattle.zx_model.specs.declared.scalar.Scalar.{Scalar}
 use Rattle.zx_gates.specs.Circuit.{Circuit, gate_odd_phases}
 use Rattle.zx_gates.specs.declared.elementary.ElementaryGate.{ElementaryGate}
 use Rattle.zx_gates.specs.Elementary.{elementary_bound}
-use Rattle.zx_gates.specs.Maps.{amp}
-use Rattle.zx_gates.specs.ElementaryMaps.{amp_elementary}
-use Rattle.zx_gates.proofs.LoweringLemmas.{IsLoweredTo, proportional_lowered, odd_lowered, all_lowered, lowered_none, lowered_more, lowered_whole, lowered_within}
+use Rattle.zx_gates.proofs.LoweringLemmas.{IsLoweredTo, odd_lowered, all_lowered, lowered_none, lowered_more, lowered_whole, lowered_within}
 use Rattle.zx_gates.proofs.lowering.lower.Goals as goal
 
 pub loop-gate-init : goal.loop-gate-init
@@ -50,13 +47,6 @@ pub returns-clause-list : goal.returns-clause-list
 returns-clause-list c =
     all_lowered c.loop-gate.list.gates _ c.args.e.now.gates _ c.loop-gate.invariant.lowered.gates_are c.as_slice-gate-items.ensures
     c.loop-gate-test.false c.loop-gate.auto.gate-index-end
-
-pub returns-clause-map : goal.returns-clause-map
-returns-clause-map c =
-    subst (λ gates. Proportional c.args.e.now.qubits c.args.e.now.qubits (amp_elementary c.args.e.now.gates) (amp gates))
-    (sym (all_lowered c.loop-gate.list.gates _ c.args.e.now.gates _ c.loop-gate.invariant.lowered.gates_are c.as_slice-gate-items.ensures
-    c.loop-gate-test.false c.loop-gate.auto.gate-index-end))
-    (proportional_lowered c.args.e.now.qubits c.args.e.now.gates c.requires.on_qubits)
 
 pub returns-clause-scaled : goal.returns-clause-scaled
 returns-clause-scaled c =

@@ -2,7 +2,7 @@
 use Rattle.std.proofs.Common.{map, arith}
 use Rattle.zx_model.specs.Scalar.{most_root2, product_of_scalars}
 use Rattle.zx_model.proofs.ProportionalLemmas.{proportional_sym}
-use Rattle.zx_model.proofs.Scalars.{within_more, within_product}
+use Rattle.zx_model.proofs.Scalars.{scaled_proportional, within_more, within_product}
 use Rattle.zx_gates.specs.Circuit.{gate_bound}
 use Rattle.zx_gates.specs.Maps.{amp}
 use Rattle.zx_reduce.specs.Steps.{step_named}
@@ -33,7 +33,7 @@ returns-clause-cleanup c =
       };
       cleanup = record {
         qubits = c.tidy.ensures.qubits;
-        map = c.tidy.ensures.proportional;
+        map = scaled_proportional found.gates.qubits found.gates.qubits (amp found.gates.gates) (amp c.tidy.new.g.gates) c.tidy.result c.tidy.ensures.scaled;
         tidy = c.tidy.ensures.tidy;
         total = c.tidy.ensures.length;
         odd = c.tidy.ensures.odd;

@@ -6,8 +6,7 @@ use Rattle.zx_peephole.proofs.marks.open.Goals as goal
 pub returns-then-not-is_diagonal : goal.returns-then-not-is_diagonal
 returns-then-not-is_diagonal c =
     marks_opened c.args.marks.now c.from.result c.args.gate.now
-    (omega (arith, c.from.ensures, c.second_qubit.ensures, c.requires.qubits.second, c.requires.table))
-    (c.from.ensures ∙ c.second_qubit.ensures)
+    (omega (arith, c.from.ensures, c.second_qubit.ensures, c.requires.qubits.second)) (c.from.ensures ∙ c.second_qubit.ensures)
 
 pub returns-else-not-is_diagonal : goal.returns-else-not-is_diagonal
 returns-else-not-is_diagonal c =

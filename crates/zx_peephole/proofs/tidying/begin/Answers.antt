@@ -4,4 +4,4 @@ use Rattle.zx_peephole.proofs.SoundLemmas.{sound_begun}
 use Rattle.zx_peephole.proofs.tidying.begin.Goals as goal
 
 pub returns-clause-sound : goal.returns-clause-sound
-returns-clause-sound c = sound_begun _ c.requires refl refl refl
+returns-clause-sound c = sound_begun _ c.requires refl refl

@@ -7,11 +7,10 @@ use Rattle.zx_model.specs.declared.scalar.Scalar.{Scalar}
 use Rattle.zx_gates.specs.Internal.Scalars.{scalar}
 use Rattle.zx_gates.specs.Maps.{amp}
 use Rattle.zx_peephole.specs.Tidy.{IsTidy}
-use Rattle.zx_peephole.specs.Doubling.{IsDoubled}
 use Rattle.zx_peephole.specs.Internal.Chains.{all_left}
 use Rattle.zx_peephole.specs.Internal.Changes.{Shortens}
 use Rattle.zx_peephole.proofs.TidyLemmas.{tidy-none}
-use Rattle.zx_peephole.proofs.ChangeLemmas.{shortens-refl, shortens-trans, shortens_doubled, shortens_scaled, doubled_proportional}
+use Rattle.zx_peephole.proofs.ChangeLemmas.{shortens-refl, shortens-trans, shortens_scaled}
 use Rattle.zx_peephole.proofs.AdvanceLemmas.{kept_none, left_first, left_last}
 use Rattle.zx_peephole.proofs.tidying.tidy.Goals as goal
 
@@ -40,13 +39,6 @@ loop-work-preserved c =
           (subst (λ (n : ℕ). Shortens n c.settle-power.result (all_left c.loop-work.work) (all_left c.settle-power.new.work)) l.qubits a.shortened);
     }
 
-pub returns-clause-map : goal.returns-clause-map
-returns-clause-map c =
-    let all : length c.loop-work.work.gates.items ≤ c.loop-work.work.next = omega (arith, c.loop-work-test.false, c.len.ensures) in
-    let gates = ap (λ (d : Circuit). d.gates) c.from_parts.ensures ∙ c.end.ensures.gates ∙ sym (left_last c.loop-work.work all) in
-    subst (λ (xs : List Gate). IsDoubled c.args.g.now.qubits (amp c.args.g.now.gates) (amp xs)) (sym gates)
-    (shortens_doubled c.args.g.now.qubits c.loop-work.power c.args.g.now.gates (all_left c.loop-work.work) c.loop-work.invariant.shortened)
-
 pub returns-clause-scaled : goal.returns-clause-scaled
 returns-clause-scaled c =
     let all : length c.loop-work.work.gates.items ≤ c.loop-work.work.next = omega (arith, c.loop-work-test.false, c.len.ensures) in
@@ -55,10 +47,5 @@ returns-clause-scaled c =
     (subst (λ (xs : List Gate). IsScaled c.args.g.now.qubits c.args.g.now.qubits (amp c.args.g.now.gates) (scalar (pos (2 * c.loop-work.power)) 0) (amp xs)) (sym gates)
     (shortens_scaled c.args.g.now.qubits c.loop-work.power c.args.g.now.gates (all_left c.loop-work.work) c.loop-work.invariant.shortened))
 
-pub returns-clause-proportional : goal.returns-clause-proportional
-returns-clause-proportional c =
-    let all : length c.loop-work.work.gates.items ≤ c.loop-work.work.next = omega (arith, c.loop-work-test.false, c.len.ensures) in
-    let gates = ap (λ (d : Circuit). d.gates) c.from_parts.ensures ∙ c.end.ensures.gates ∙ sym (left_last c.loop-work.work all) in
-    doubled_proportional c.args.g.now.qubits (amp c.args.g.now.gates) (amp c.from_parts.result.gates)
-    (subst (λ (xs : List Gate). IsDoubled c.args.g.now.qubits (amp c.args.g.now.gates) (amp xs)) (sym gates)
-    (shortens_doubled c.args.g.now.qubits c.loop-work.power c.args.g.now.gates (all_left c.loop-work.work) c.loop-work.invariant.shortened))
+pub returns-clause-power : goal.returns-clause-power
+returns-clause-power c = record { power = c.loop-work.power; is = c.power_of_two.ensures.value }

@@ -3,7 +3,7 @@ use Rattle.std.proofs.Common.{◌+◌, ◌*◌, sym, ◌∙◌, subst, arith}
 use Rattle.std.specs.List.{All}
 use Rattle.zx_model.specs.Scalar.{IsWithin}
 use Rattle.zx_model.specs.declared.scalar.Scalar.{Scalar}
-use Rattle.zx_model.proofs.Scalars.{scaled_trans}
+use Rattle.zx_model.proofs.Scalars.{scaled_proportional, scaled_trans}
 use Rattle.zx_gates.specs.Circuit.{IsGateOn}
 use Rattle.zx_gates.specs.Maps.{amp}
 use Rattle.piece_laws.specs.Replacement.{AreScaled, IsReplacement}
@@ -15,7 +15,7 @@ use Rattle.zx_pieces.proofs.passes.shrink.Goals as goal
 
 pub times-scalar-requires : goal.times-scalar-requires
 times-scalar-requires c =
-    small_product c.loop-number.number c.loop-number.scalar c.in_ok-next.factor
+    small_product c.loop-number.number c.loop-number.scalar c.in_ok-next.next.scalar
     (omega (arith, c.loop-number-test.true, c.passes-number-end.ensures)) c.loop-number.invariant.small c.in_ok-next.ensures.small
 
 pub loop-number-preserved : goal.loop-number-preserved
@@ -23,9 +23,9 @@ loop-number-preserved c =
     let n = c.args.circuit.now.qubits in
     let gates = c.args.circuit.now.gates in
     let made = c.loop-number.made in
-    let next = c.in_ok-next.next.gates in
+    let next = c.in_ok-next.next.gates.gates in
     let s = c.loop-number.scalar in
-    let t = c.in_ok-next.factor in
+    let t = c.in_ok-next.next.scalar in
     record {
       qubits = c.in_ok-next.ensures.qubits ∙ c.loop-number.invariant.qubits;
       all = replacement-trans n gates made.gates next c.loop-number.invariant.all
@@ -48,10 +48,12 @@ returns-clause-replacement c =
     let old = c.loop-number.made.gates in
     let new = c.tidy.new.g.gates in
     let same = c.loop-number.invariant.qubits in
+    let wide = c.loop-number.made.qubits in
     let on : All (IsGateOn n) new = subst (λ m. All (IsGateOn m) new) (c.tidy.ensures.qubits ∙ same) c.qubits.ensures.valid.on_qubits in
     replacement-trans n c.args.circuit.now.gates old new c.loop-number.invariant.all
     (subst (λ m. IsReplacement m old new) same
-    (replaced-cleaned c.loop-number.made.qubits old new (subst (λ m. All (IsGateOn m) new) (sym same) on) c.tidy.ensures.proportional c.tidy.ensures.odd
+    (replaced-cleaned wide old new (subst (λ k. All (IsGateOn k) new) (sym same) on)
+    (scaled_proportional wide wide (amp old) (amp new) c.tidy.result c.tidy.ensures.scaled) c.tidy.ensures.odd
     c.tidy.ensures.two_qubit c.tidy.ensures.length))
 
 pub returns-clause-scalar : goal.returns-clause-scalar

@@ -4,7 +4,8 @@ use Rattle.std.proofs.lemmas.Result.{err_from_is_err_and, IfErr-weaker}
 use Rattle.zx_run.specs.declared.status.Status.{Status}
 use Rattle.zx_run.specs.DiagramFiles.{IsFirstDiagramFault}
 use Rattle.zx_run.specs.FirstFault.{most_bytes}
-use Rattle.zx_run.specs.Internal.Answers.{ToldSource, IsReadFailure, told_source}
+use Rattle.zx_run.specs.Answers.{ToldSource, told_source}
+use Rattle.zx_run.specs.Internal.Parts.{IsReadFailure}
 use Rattle.zx_run.specs.Internal.Refusals.{IsTooLong}
 use Rattle.zx_run.proofs.RefusalLemmas.{failed_by, refusal_failed}
 use Rattle.zx_run.proofs.diagram_reader.read_diagram_file.Goals as goal

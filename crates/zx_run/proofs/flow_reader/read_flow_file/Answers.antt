@@ -4,7 +4,8 @@ use Rattle.std.proofs.lemmas.Result.{err_from_is_err_and}
 use Rattle.zx_text.specs.Reading.{OnlyWithFlow, IsBadLine}
 use Rattle.zx_run.specs.FirstFault.{most_bytes}
 use Rattle.zx_run.specs.FlowFiles.{IsFirstFileFault}
-use Rattle.zx_run.specs.Internal.Answers.{IsReadFailure, told_source}
+use Rattle.zx_run.specs.Answers.{told_source}
+use Rattle.zx_run.specs.Internal.Parts.{IsReadFailure}
 use Rattle.zx_run.proofs.FileReadLemmas.{file_failed}
 use Rattle.zx_run.proofs.flow_reader.read_flow_file.Goals as goal
 

@@ -3,7 +3,7 @@ use Rattle.std.proofs.Common.{◌≡◌, Option, Some, IfErr, rules, subst}
 use Rattle.zx_words.specs.Command.{command_in}
 use Rattle.zx_words.specs.declared.words.Command.{Command}
 use Rattle.zx_words.specs.declared.words.Command.TheVariants.{Optimise, Reduce, Flow, Graph, Compile, Teleport, Same}
-use Rattle.zx_run.specs.Internal.Answers.{ToldSource, IsFailure, told_source}
+use Rattle.zx_run.specs.Answers.{ToldSource, IsFailure, told_source}
 use Rattle.zx_run.proofs.program.output_of.Goals as goal
 
 pub returns-in-Some-Optimise-clause-failure : goal.returns-in-Some-Optimise-clause-failure

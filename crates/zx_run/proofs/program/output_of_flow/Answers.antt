@@ -3,7 +3,7 @@ use Rattle.std.proofs.Common.{IfErr, Some, subst, sym}
 use Rattle.std.proofs.lemmas.Result.{err_from_is_err_and}
 use Rattle.zx_words.specs.declared.words.Command.TheVariants.{Flow}
 use Rattle.zx_run.specs.declared.status.Status.{Status}
-use Rattle.zx_run.specs.Internal.Answers.{ToldSource, IsFailure, told_source}
+use Rattle.zx_run.specs.Answers.{ToldSource, IsFailure, told_source}
 use Rattle.zx_run.proofs.AnswerLemmas.{read_failure}
 use Rattle.zx_run.proofs.FileReadLemmas.{flow_output}
 use Rattle.zx_run.proofs.program.output_of_flow.Goals as goal

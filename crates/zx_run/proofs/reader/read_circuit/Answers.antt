@@ -3,7 +3,8 @@ use Rattle.std.proofs.Common.{◌≡◌, ℕ, List, [], Some, Err, IfErr, inl, a
 use Rattle.std.proofs.lemmas.Result.{err_from_is_err_and}
 use Rattle.qasm_inline.specs.PieceReadings.{HasRead}
 use Rattle.zx_run.specs.FirstFault.{IsFirstFault}
-use Rattle.zx_run.specs.Internal.Answers.{IsReadFailure, told_source}
+use Rattle.zx_run.specs.Answers.{told_source}
+use Rattle.zx_run.specs.Internal.Parts.{IsReadFailure}
 use Rattle.zx_run.specs.Internal.Refusals.{IsTooLong}
 use Rattle.zx_run.proofs.ReadLemmas.{read_accepted, text_failed}
 use Rattle.zx_run.proofs.RefusalLemmas.{failed_by, read_failed}
@@ -19,23 +20,18 @@ returns-in_err-circuit-clause-failure g c =
     let is_read : (text : List ℕ) → g.S.Source.left c.args.source.now ≡ Some text → HasRead c.read_pieces.new.to text =
     λ text told. read.bytes [] text c.new-reader.ensures (omega arith) told in
     subst (λ r. IfErr r (IsReadFailure IsFirstFault before after)) (sym p.1)
-    (text_failed before after read.ok read.end c.in_err-circuit.field-0.0
-    (λ text told at is. fault.bad_byte text at (is_read text told) (ap Err is))
-    (λ text told at is. fault.too_deep text at (is_read text told) (ap Err is))
-    (λ text told at is. fault.syntax text at (is_read text told) (ap Err is))
-    (λ text told cause at is. fault.wrong text cause at (is_read text told) (ap Err is))
-    p.0 p.2)
+    (text_failed before after read.ok read.end c.in_err-circuit.field-0.0 (λ text told. fault.answers text (is_read text told)) p.0 p.2)
 
 pub returns-clause-accepted : goal.returns-clause-accepted
 returns-clause-accepted g c = λ text told.
     let read = c.in_ok-read_pieces.ensures in
     read_accepted text (read.end text told).0 c.in_ok-circuit.circuit
-    (c.in_ok-circuit.ensures.means text (read.bytes [] text c.new-reader.ensures (omega arith) told))
+    (c.in_ok-circuit.ensures.answers text (read.bytes [] text c.new-reader.ensures (omega arith) told))
 
 pub returns-clause-valid : goal.returns-clause-valid
 returns-clause-valid g c =
     let text = c.in_ok-read_pieces.ensures.within [] c.new-reader.ensures (omega arith) in
-    c.in_ok-circuit.ensures.valid text.0 text.2
+    (c.in_ok-circuit.ensures.answers text.0 text.2).0
 
 pub returns-in_err-read_pieces-clause-failure : goal.returns-in_err-read_pieces-clause-failure
 returns-in_err-read_pieces-clause-failure g c =

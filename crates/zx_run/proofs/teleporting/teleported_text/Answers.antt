@@ -2,8 +2,10 @@
 use Rattle.std.proofs.Common.{◌∙◌, ap, map, rules, subst}
 use Rattle.std.proofs.lemmas.Result.{IfOk-weaker}
 use Rattle.zx_gates.specs.Circuit.{IsCircuit}
+use Rattle.zx_gates.specs.ElementaryMaps.{amp_elementary}
 use Rattle.zx_gates.specs.Maps.{amp}
 use Rattle.zx_model.proofs.ProportionalLemmas.{proportional_sym}
+use Rattle.zx_model.proofs.Scalars.{scaled_proportional}
 use Rattle.zx_reduce.specs.Steps.{step_named}
 use Rattle.qasm_writer.specs.Written.{written}
 use Rattle.zx_run.proofs.OptimiseLemmas.{IsTeleportedText-written, measured_behind}
@@ -11,13 +13,14 @@ use Rattle.zx_run.proofs.teleporting.teleported_text.Goals as goal
 
 pub returns : goal.returns
 returns c = λ text accepted.
-    let from = c.in_ok-lowered.lowered in
+    let from = c.in_ok-lowered.lowered.gates in
     let lowered = c.in_ok-lowered.ensures in
     let found = c.in_ok-teleported.teleported in
     let made = c.in_ok-teleported.ensures.teleported in
     let circuit = found.gates in
     IfOk-weaker c.write_text.result _ _
-    (λ output h. IsTeleportedText-written text output.items c.args.read.now from circuit accepted lowered.qubits lowered.list lowered.map lowered.odd
+    (λ output h. IsTeleportedText-written text output.items c.args.read.now from circuit accepted lowered.qubits lowered.list
+    (scaled_proportional c.args.read.now.qubits c.args.read.now.qubits (amp_elementary c.args.read.now.gates) (amp from.gates) c.in_ok-lowered.lowered.scalar lowered.scaled) lowered.odd
     (record {
       qubits = made.qubits;
       skeleton = made.skeleton;

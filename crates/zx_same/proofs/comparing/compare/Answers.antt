@@ -4,8 +4,8 @@ use Rattle.zx_model.specs.Proportional.{Proportional}
 use Rattle.zx_model.proofs.ProportionalLemmas.{proportional_refl}
 use Rattle.zx_calculus.proofs.Ids.{or-right}
 use Rattle.zx_gates.specs.Maps.{amp}
-use Rattle.zx_same.proofs.Comparisons.{same_seen, same_undone, left_odd, left_few}
-use Rattle.zx_same.proofs.Deciding.{decided, no_odd_only_ends, none_odd}
+use Rattle.zx_same.proofs.Comparisons.{same_seen, same_undone}
+use Rattle.zx_same.proofs.Deciding.{decided, none_odd, is_left}
 use Rattle.zx_same.proofs.comparing.compare.Goals as goal
 
 pub returns-then-are_equal-clause-same_map : goal.returns-then-are_equal-clause-same_map
@@ -24,19 +24,10 @@ returns-then-is_identity-clause-same_map c =
     same_seen c.args.a.now c.args.b.now c.in_ok-both.both c.in_ok-found.found c.requires.qubits c.gates-2.ensures.valid
     c.in_ok-both.ensures c.in_ok-found.ensures (sym c.is_identity.ensures ∙ c.if-is_identity.true)
 
-pub returns-clause-left_odd : goal.returns-clause-left_odd
-returns-clause-left_odd c =
-    left_odd c.args.a.now c.args.b.now c.in_ok-both.both c.in_ok-found.found c.gates-2.ensures.valid c.in_ok-both.ensures c.in_ok-found.ensures
-
-pub returns-clause-left_few : goal.returns-clause-left_few
-returns-clause-left_few c =
-    left_few c.args.a.now c.args.b.now c.in_ok-both.both c.in_ok-found.found c.gates-2.ensures.valid c.in_ok-both.ensures c.in_ok-found.ensures
-
-pub returns-clause-decides : goal.returns-clause-decides
-returns-clause-decides c = λ only one_map.
-    let bare = decided c.args.a.now c.args.b.now c.in_ok-both.both c.in_ok-found.found c.requires.qubits c.gates-2.ensures.valid
-    c.in_ok-both.ensures c.in_ok-found.ensures only one_map in
-    true≢false (sym bare ∙ or-right _ _ (sym c.is_identity.ensures ∙ c.if-is_identity.false))
+pub returns-clause-left : goal.returns-clause-left
+returns-clause-left c =
+    is_left c.args.a.now c.args.b.now c.in_ok-both.both c.in_ok-found.found c.requires.qubits c.gates-2.ensures.valid c.in_ok-both.ensures
+    c.in_ok-found.ensures (sym c.is_identity.ensures ∙ c.if-is_identity.false)
 
 pub returns-clause-clifford : goal.returns-clause-clifford
 returns-clause-clifford c = λ none nothing one_map.

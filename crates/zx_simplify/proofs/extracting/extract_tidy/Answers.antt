@@ -30,23 +30,23 @@ small g s t few p q =
 
 pub times-requires : goal.times-requires
 times-requires c =
-    within_more (2 * memory_bound + gate_bound) most_root2 (product_of_scalars c.in_ok-gates.between c.tidy-after.result)
-    (small c.args.reduced.graph c.in_ok-gates.between c.tidy-after.result c.in_ok-check_size.ensures.fits c.in_ok-gates.ensures.small c.tidy-after.ensures.small)
+    within_more (2 * memory_bound + gate_bound) most_root2 (product_of_scalars c.in_ok-made.made.scalar c.tidy-after.result)
+    (small c.args.reduced.graph c.in_ok-made.made.scalar c.tidy-after.result c.in_ok-check_size.ensures.fits c.in_ok-made.ensures.small c.tidy-after.ensures.small)
     (omega arith)
 
 pub returns : goal.returns
 returns c =
     let g = c.args.reduced.graph in
-    let e = c.in_ok-gates.ensures in
+    let e = c.in_ok-made.ensures in
     let t = c.tidy-after.ensures in
     let n = length g.outputs in
-    let between = c.in_ok-gates.between in
+    let between = c.in_ok-made.made.scalar in
     let after = c.tidy-after.result in
     record {
       qubits = t.qubits ∙ e.qubits;
       scaled = subst (λ (s : Scalar). IsScaled (length g.inputs) n (sum g) s (amp c.tidy-after.new.g.gates)) (sym c.times.ensures)
           (subst (λ m. IsScaled m n (sum g) (product_of_scalars between after) (amp c.tidy-after.new.g.gates)) (sym c.requires.ends)
-          (scaled_then n (length g.inputs) n c.in_ok-gates.gates.qubits c.in_ok-gates.gates.qubits (sum g) (amp c.in_ok-gates.gates.gates) (amp c.tidy-after.new.g.gates)
+          (scaled_then n (length g.inputs) n c.in_ok-made.made.gates.qubits c.in_ok-made.made.gates.qubits (sum g) (amp c.in_ok-made.made.gates.gates) (amp c.tidy-after.new.g.gates)
           between after c.requires.ends refl e.qubits e.qubits e.scalar t.scaled));
       small = subst (IsWithin (2 * memory_bound + gate_bound)) (sym c.times.ensures)
           (small g between after c.in_ok-check_size.ensures.fits e.small t.small);

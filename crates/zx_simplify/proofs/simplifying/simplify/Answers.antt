@@ -2,7 +2,6 @@
 use Rattle.std.proofs.Common.{◌<◌, ℕ, length, refl, sym, ◌∙◌, subst, arith, le_refl}
 use Rattle.zx_model.specs.Scalar.{IsScaled, IsWithin, most_root2}
 use Rattle.zx_model.specs.declared.scalar.Scalar.{Scalar}
-use Rattle.zx_model.proofs.Scalars.{scaled_proportional}
 use Rattle.zx_calculus.specs.StepScalars.{most_vertices}
 use Rattle.zx_calculus.specs.Sum.{sum}
 use Rattle.zx_gates.specs.Maps.{amp}
@@ -28,11 +27,6 @@ returns-clause-scalar c =
     subst (λ (s : Scalar). IsScaled n n (sum start) s (amp c.in_ok-circuit.circuit.gates.gates)) (sym c.times.ensures)
     (scaled_then n (length start.inputs) n (length end.inputs) (length end.outputs) (sum start) (sum end) (amp c.in_ok-circuit.circuit.gates.gates)
     c.in_ok-made.made.scalar c.in_ok-circuit.circuit.scalar c.requires.ends refl (r.inputs ∙ c.requires.ends) r.outputs r.scalar e.scaled)
-
-pub returns-clause-map : goal.returns-clause-map
-returns-clause-map c =
-    scaled_proportional (length c.args.graph.graph.outputs) (length c.args.graph.graph.outputs) (sum c.args.graph.graph)
-    (amp c.in_ok-circuit.circuit.gates.gates) c.times.result (returns-clause-scalar c)
 
 pub returns-clause-small : goal.returns-clause-small
 returns-clause-small c =
