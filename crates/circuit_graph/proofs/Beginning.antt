@@ -19,15 +19,15 @@ use Rattle.circuit_graph.specs.Translation.{wires}
 use Rattle.circuit_graph.specs.Internal.Runs.{begun, AreNumbered, IsReady}
 use Rattle.circuit_graph.proofs.Gates.{numbered_more, least_is}
 
-ids-spiders : (us : List ℕ) → ids (map spider_of_phase_zero us) ≡ us
+pub ids-spiders : (us : List ℕ) → ids (map spider_of_phase_zero us) ≡ us
 ids-spiders [] = refl
 ids-spiders (u ∷ us) = ap (λ vs. u ∷ vs) (ids-spiders us)
 
-places-plain : (us : List ℕ) → end_vertices (map plain us) ≡ us
+pub places-plain : (us : List ℕ) → end_vertices (map plain us) ≡ us
 places-plain [] = refl
 places-plain (u ∷ us) = ap (λ vs. u ∷ vs) (places-plain us)
 
-kinds-spiders : (us : List ℕ) (v : ℕ) → kind_of (map spider_of_phase_zero us) v ≡ in_plane XY 0
+pub kinds-spiders : (us : List ℕ) (v : ℕ) → kind_of (map spider_of_phase_zero us) v ≡ in_plane XY 0
 kinds-spiders [] v = refl
 kinds-spiders (u ∷ us) v = by_equal v u (λ t e. rw t refl) (λ f n. rw f (kinds-spiders us v))
 

@@ -1,5 +1,5 @@
 -- What each gate does to a translation under way.
-use Rattle.std.proofs.Common.{◌≡◌, refl, sym, ◌∙◌, ap, ap₂, subst, ℕ, suc, ◌+◌, Bool, true, false, cond, ltb, eqb, List, [], ◌∷◌, ◌++◌, append-nil, length, set, le_of_eq, arith, ◌||◌, ltb-true, lt-ltb, le-ltb}
+use Rattle.std.proofs.Common.{◌≡◌, refl, sym, ◌∙◌, ap, ap₂, subst, ℕ, ◌+◌, Bool, true, false, cond, ltb, eqb, List, [], ◌∷◌, ◌++◌, append-nil, length, set, le_of_eq, arith, ◌||◌, ltb-true, lt-ltb, le-ltb}
 use Rattle.std.proofs.lemmas.Bool.{ltb_from_iff}
 use Rattle.std.proofs.Math.ListN.{length-set}
 use Rattle.std.proofs.lemmas.List.{set-set}
@@ -11,7 +11,7 @@ use Rattle.zx_calculus.specs.Gadgets.{fuse_kind}
 use Rattle.zx_calculus.specs.Turns.{with_phase_added}
 use Rattle.zx_calculus.specs.Worked.{plain}
 use Rattle.zx_calculus.proofs.Ids.{by_equal}
-use Rattle.zx_calculus.proofs.Vertices.{ids-with_kinds, kind_of-insert, member-insert}
+use Rattle.zx_calculus.proofs.Vertices.{ids-with_kinds, length-with_kinds, kind_of-insert, length-insert, member-insert}
 use Rattle.zx_calculus.proofs.LeastFree.{least_free-unique}
 use Rattle.zx_calculus.proofs.Splitting.{no_loop}
 use Rattle.zx_calculus.proofs.Splits.{is_pair-self}
@@ -38,18 +38,6 @@ use Rattle.circuit_graph.specs.Translation.{present, with_spider}
 use Rattle.circuit_graph.proofs.Graphs.{present_is, spider_is, phase_is, toggle_is}
 use Rattle.circuit_graph.specs.Internal.Runs.{State, AreNumbered, IsReady, IsSpiderStep, IsPhaseStep, IsToggleStep, IsGateStep, Comes}
 
-length-insert : (n : Vertex) (vs : List Vertex) → length (insert_vertex n vs) ≡ length vs + 1
-length-insert n [] = refl
-length-insert n (v ∷ vs) = at (ltb n.id v.id) (length-insert n vs)
-  where
-    at : (b : Bool) → length (insert_vertex n vs) ≡ length vs + 1 → length (cond b (n ∷ (v ∷ vs)) (v ∷ insert_vertex n vs)) ≡ length (v ∷ vs) + 1
-    at true again = omega arith
-    at false again = omega arith
-
-length-with_kinds : (f : ℕ → Kind → Kind) (vs : List Vertex) → length (with_kinds f vs) ≡ length vs
-length-with_kinds f [] = refl
-length-with_kinds f (v ∷ vs) = ap (λ n. suc n) (length-with_kinds f vs)
-
 -- an added phase changes no plane
 plane-fused : (u k p : ℕ) (kind : Kind) → (fuse_kind u k p kind).plane ≡ kind.plane
 plane-fused u k p kind = at (eqb p u)
@@ -67,7 +55,7 @@ planes-fused u k (v ∷ vs) p = at (eqb p v.id) (planes-fused u k vs p)
     at true again = plane-fused u k v.id v.kind
     at false again = again
 
-places-set : (es : List End) (q u v : ℕ) → in_order different (end_vertices es) ≡ true → slice_get es q ≡ Some (plain u) →
+pub places-set : (es : List End) (q u v : ℕ) → in_order different (end_vertices es) ≡ true → slice_get es q ≡ Some (plain u) →
     end_vertices (set es q (plain v)) ≡ end_vertices (move_end u v es)
 places-set es q u v once h =
     sym (places-same (set es q (plain v)) q (plain v) (marked v) (slice_get-set es q (plain u) (plain v) h) refl)
@@ -98,7 +86,7 @@ least_is g w numbered =
     sym (least_free-unique (ids g.vertices) (length g.vertices) w.vertices_rising
     (numbered (length g.vertices) ∙ le-ltb (length g.vertices) (length g.vertices) (omega arith)) (λ q below. numbered q ∙ lt-ltb q (length g.vertices) below))
 
-is_new_output : (s : Graph) (q : ℕ) (t : Graph) → WellFormed s → (c : IsSpiderPeel t q s) → IsNewOutput s c.next t
+abbrev pub is_new_output : (s : Graph) (q : ℕ) (t : Graph) → WellFormed s → (c : IsSpiderPeel t q s) → IsNewOutput s c.next t
 is_new_output s q t w c = record {
   new = c.spider;
   fresh = c.fresh;
@@ -110,7 +98,6 @@ is_new_output s q t w c = record {
 }
 
 spider_ready : (s : State) (q : ℕ) (t : State) → IsReady s → IsSpiderStep s q t → IsReady t
-unfolding is_new_output
 spider_ready s q t r c = record {
   well_formed = spider_formed t.graph q s.graph r.well_formed c.peel;
   numbered = subst AreNumbered (sym c.peel.vertices) (numbered_more c.peel.spider s.graph.vertices c.id r.numbered);

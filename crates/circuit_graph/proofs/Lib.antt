@@ -7,3 +7,5 @@ pub mod Whole
 pub mod Places
 pub mod Tables
 pub mod Calls
+pub mod Wiring
+pub mod Existing

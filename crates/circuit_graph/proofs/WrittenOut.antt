@@ -1,13 +1,13 @@
 -- What becomes of a circuit's numbers and map when Cx and Not are written out.
-use Rattle.std.proofs.Common.{◌≡◌, ◌≢◌, refl, sym, ◌∙◌, ap, ap₂, ℕ, ◌+◌, ◌*◌, Bool, cond, List, [], ◌∷◌, ◌++◌, arith}
+use Rattle.std.proofs.Common.{◌≡◌, refl, sym, ◌∙◌, ap, ap₂, ℕ, ◌+◌, ◌*◌, Bool, cond, List, [], ◌∷◌, ◌++◌, arith}
 use Rattle.std.specs.List.{All, count_by}
 use Rattle.std.proofs.lemmas.List.Elements.{All-head, All-tail}
 use Rattle.std.proofs.lemmas.List.Sums.{sum_by-append}
-use Rattle.zx_model.specs.Number.{Number, zero, mul}
-use Rattle.zx_model.specs.Constants.{two, power_of_two}
+use Rattle.zx_model.specs.Number.{Number, one, mul}
+use Rattle.zx_model.specs.Constants.{two}
+use Rattle.zx_model.specs.Internal.Powers.{power_of_two}
 use Rattle.zx_model.proofs.Powers.{power_of_two-add}
-use Rattle.zx_model.proofs.Ring.{one-mul, mul-one, one_nonzero, two_nonzero, mul_assoc}
-use Rattle.zx_model.proofs.Domain.{mul-nonzero}
+use Rattle.zx_model.proofs.Ring.{one-mul, mul-one, mul_assoc}
 use Rattle.zx_gates.specs.Circuit.{IsOnQubits, gate_odd_phases, is_odd_phase}
 use Rattle.zx_gates.specs.Counting.{is_h, is_cx, is_not}
 use Rattle.zx_gates.specs.Maps.{acts}
@@ -17,13 +17,24 @@ use Rattle.zx_gates.proofs.MapLemmas.{acts-append}
 use Rattle.zx_gates.proofs.Multiples.{act-factor}
 use Rattle.circuit_laws.specs.Followed.{IsMultiple}
 use Rattle.circuit_laws.proofs.ByHadamards.{cx_by_three, not_by_three}
-use Rattle.circuit_graph.specs.Translation.{by_hadamards, written_out, written_count, gate_scalar, scalar_of}
+use Rattle.circuit_graph.specs.Translation.{by_hadamards, written_out, written_count}
+
+-- H, Cz and H are two times Cx, and likewise for Not
+abbrev pub gate_scalar : Gate → Number
+gate_scalar (Cx control target) = two
+gate_scalar (Not q) = two
+gate_scalar other = one
+
+-- the number that the sum of a circuit's graph is times the circuit's map
+abbrev pub scalar_of : List Gate → Number
+scalar_of [] = one
+scalar_of (gate ∷ gates) = mul (gate_scalar gate) (scalar_of gates)
 
 pub count-cons : (p : Gate → Bool) (gate : Gate) (gates : List Gate) →
     count_by p (gate ∷ gates) ≡ count_by p (gate ∷ []) + count_by p gates
 count-cons p gate gates = sum_by-append (λ g. cond (p g) 1 0) (gate ∷ []) gates
 
-count-append : (p : Gate → Bool) (first second : List Gate) → count_by p (first ++ second) ≡ count_by p first + count_by p second
+pub count-append : (p : Gate → Bool) (first second : List Gate) → count_by p (first ++ second) ≡ count_by p first + count_by p second
 count-append p first second = sum_by-append (λ g. cond (p g) 1 0) first second
 
 -- a gate's spiders, and its odd phase
@@ -66,17 +77,6 @@ map-written n (gate ∷ gates) all f z l =
     ∙ gate-written n gate (All-head (IsOnQubits n) gate gates all) (acts (written_out gates) f) z l
     ∙ ap (mul (gate_scalar gate)) (act-factor n gate (scalar_of gates) (acts (written_out gates) f) (acts gates f) (map-written n gates (All-tail (IsOnQubits n) gate gates all) f) z l)
     ∙ sym (mul_assoc (gate_scalar gate) (scalar_of gates) (acts (gate ∷ gates) f z))
-
-gate_scalar-nonzero : (gate : Gate) → gate_scalar gate ≢ zero
-gate_scalar-nonzero (H q) = one_nonzero
-gate_scalar-nonzero (Phase q k) = one_nonzero
-gate_scalar-nonzero (Cz p q) = one_nonzero
-gate_scalar-nonzero (Cx control target) = two_nonzero
-gate_scalar-nonzero (Not q) = two_nonzero
-
-pub scalar_of-nonzero : (gates : List Gate) → scalar_of gates ≢ zero
-scalar_of-nonzero [] = one_nonzero
-scalar_of-nonzero (gate ∷ gates) = mul-nonzero (gate_scalar gate) (scalar_of gates) (gate_scalar-nonzero gate) (scalar_of-nonzero gates)
 
 -- the number of a list is a power of two
 power-gate : (gate : Gate) → gate_scalar gate ≡ power_of_two (written_count (gate ∷ []))

@@ -6,8 +6,6 @@ use Rattle.std.specs.Prelude.{length, map, get_or, slice_set, Option, Some, None
 use Rattle.std.specs.List.{count_by, flat_map, fold, range_with_len}
 use Rattle.zx_model.specs.Bits.{xor}
 use Rattle.zx_model.specs.Phase.{half_turn}
-use Rattle.zx_model.specs.Number.{Number, one, mul}
-use Rattle.zx_model.specs.Constants.{two}
 use Rattle.zx_model.specs.Scalar.{IsScaled}
 use Rattle.zx_model.specs.declared.scalar.Scalar.{Scalar}
 use Rattle.zx_calculus.specs.Counts.{odd_phases}
@@ -40,22 +38,12 @@ written_out gates = flat_map by_hadamards gates
 abbrev pub spiders_of : Circuit → ℕ
 spiders_of c = c.qubits + count_by is_h c.gates + 2 * count_by is_cx c.gates + 2 * count_by is_not c.gates
 
--- H, Cz and H are two times Cx, and likewise for Not
-abbrev pub gate_scalar : Gate → Number
-gate_scalar (Cx control target) = two
-gate_scalar (Not q) = two
-gate_scalar other = one
-
--- the number that the sum of a circuit's graph is times the circuit's map
-abbrev pub scalar_of : List Gate → Number
-scalar_of [] = one
-scalar_of (gate ∷ gates) = mul (gate_scalar gate) (scalar_of gates)
-
 -- how many gates are written out by others
 abbrev pub written_count : List Gate → ℕ
 written_count gates = count_by is_cx gates + count_by is_not gates
 
--- the scalar that the circuit's map is times that sum: half for each of these
+-- the scalar that the circuit's map is times the sum of its graph: half for each of these, as H, Cz and H are two
+-- times Cx, and likewise for Not
 abbrev pub map_scalar : List Gate → Scalar
 map_scalar gates = record { root2 = neg_ℤ (pos (2 * written_count gates)); turn = 0 }
 

@@ -26,5 +26,5 @@ mod translation;
 mod wires;
 
 pub use laws::worked_translations;
-pub use translation::{Placed, Translation, translate, translate_placed};
+pub use translation::{Placed, Translation, scalar_of, translate, translate_placed};
 pub use wires::wires_alone;

@@ -53,8 +53,8 @@ pub fn translate(alloc: Global, circuit: &GateList) -> Result<Translation, Alloc
     })
 }
 
-// The scalar that a circuit's map is times the sum of its graph: half for each gate that is written out.
-fn scalar_of(circuit: &GateList) -> Scalar
+/// The scalar that a circuit's map is times the sum of its graph: half for each gate that is written out.
+pub fn scalar_of(circuit: &GateList) -> Scalar
     ensures value { result ≡ map_scalar circuit.now.gates }
     ensures small { IsWithin (4 * length circuit.now.gates) result }
 {

@@ -8,7 +8,8 @@ use Rattle.zx_model.specs.Number.{Number, one, mul}
 use Rattle.zx_model.proofs.Ring.{one-mul}
 use Rattle.zx_calculus.specs.Graph.{End, Graph, end_vertices, in_order, different, WellFormed}
 use Rattle.zx_calculus.specs.Sum.{sum}
-use Rattle.zx_calculus.specs.Splits.{split_left, IsSplitOutput, move_end, mark_of}
+use Rattle.zx_calculus.proofs.Factors.{split_left}
+use Rattle.zx_calculus.specs.Splits.{IsSplitOutput, move_end, mark_of}
 use Rattle.zx_calculus.specs.Worked.{plain}
 use Rattle.zx_calculus.proofs.Ids.{and-left, and-right, member-different, eqb-self}
 use Rattle.zx_calculus.proofs.Splits.{move_end-absent, split_output_sum}

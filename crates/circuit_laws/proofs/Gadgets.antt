@@ -5,7 +5,7 @@ use Rattle.std.specs.List.{list_all, AllZip}
 use Rattle.zx_model.specs.Bits.{xor, member}
 use Rattle.zx_model.specs.Number.{Number, one, add, neg, mul, sign, root_power}
 use Rattle.zx_model.specs.Sums.{labelled, sum_over}
-use Rattle.zx_model.proofs.Ring.{expand, sorted, one-mul, two_nonzero}
+use Rattle.zx_model.proofs.Ring.{expand, sorted, one-mul, two_nonzero, mul_assoc}
 use Rattle.zx_model.proofs.Powers.{root_power-zero}
 use Rattle.zx_model.proofs.SumLemmas.{labelled-same, labelled-other, labelled-labelled, sum_over_same, sum_over_mul}
 use Rattle.zx_calculus.specs.Parity.{masked}
@@ -38,6 +38,7 @@ use Rattle.circuit_laws.proofs.Leaving.{leave, around, followed_is_form, leave-l
 use Rattle.circuit_laws.proofs.Places.{member-places}
 use Rattle.circuit_laws.proofs.Rows.{summed}
 use Rattle.circuit_laws.proofs.Wires.{factor-zero, labelled_back}
+use Rattle.zx_calculus.proofs.Pivots.{move_inside}
 
 -- ---- parities
 -- of the labels of listed vertices
@@ -118,9 +119,6 @@ leave-gadget es k (q ∷ qs) [] f label once d zip = absurd zip
 leave-gadget es k (q ∷ qs) (w ∷ us) f label once d zip = leave-gadget_on es k q w qs us f label once zip.0 d.0 zip.1
 
 -- ---- a YZ vertex summed out
-scalar_out : (t s v : Number) → mul (mul t s) v ≡ mul t (mul s v)
-scalar_out t s v = simp sorted
-
 module _ (g : Graph) (v : ℕ) (h : Graph) (wg : WellFormed g) (wh : WellFormed h) (plane : plane_of g v ≡ YZ) (r : IsRemoval g v h) where
   abbrev ws : List Vertex
   ws = without v g.vertices
@@ -136,7 +134,7 @@ module _ (g : Graph) (v : ℕ) (h : Graph) (wg : WellFormed g) (wh : WellFormed 
       ∙ sum_out (joined g.edges) (around g.inputs g.outputs x f) (kind_of g.vertices v) v ws unseen (member-without v g.vertices)
       ∙ sum_over_same (ids ws) _ _
       (λ label. ap (λ t. mul t (value (joined g.edges) (around g.inputs g.outputs x f) ws label)) (gadget_at (kind_of g.vertices v) (masked (joined g.edges v) (ids ws) label) plane)
-      ∙ scalar_out two (spider (phase_of g v) (masked (joined g.edges v) (ids ws) label)) (value (joined g.edges) (around g.inputs g.outputs x f) ws label))
+      ∙ mul_assoc two (spider (phase_of g v) (masked (joined g.edges v) (ids ws) label)) (value (joined g.edges) (around g.inputs g.outputs x f) ws label))
       ∙ sum_over_mul two (ids ws) (λ label. mul (spider (phase_of g v) (masked (joined g.edges v) (ids ws) label)) (value (joined g.edges) (around g.inputs g.outputs x f) ws label))
     where
       unseen : Ignores (around g.inputs g.outputs x f) v
@@ -213,9 +211,6 @@ picked_parity false e s t given =
     sym (signed_in e (given false) s t one) ∙ sym (even_parts e (mul (given false) (add s (mul one t))) (mul (given true) (add s (mul (neg one) t))))
 picked_parity true e s t given =
     sym (signed_in e (given true) s t (neg one)) ∙ sym (odd_parts e (mul (given false) (add s (mul one t))) (mul (given true) (add s (mul (neg one) t))))
-
-spider_in : (s p q e : Number) → mul s (mul p (mul q e)) ≡ mul p (mul q (mul s e))
-spider_in s p q e = simp sorted
 
 module _ (g : Graph) (v q : ℕ) (qubits : List ℕ) (h : Graph) (wg : WellFormed g) (wh : WellFormed h) (c : IsLinkedGadgetPeel g v q qubits h) (f : List Bool → Number) (x : List Bool) where
   abbrev left : List Vertex
@@ -309,11 +304,11 @@ module _ (g : Graph) (v q : ℕ) (qubits : List ℕ) (h : Graph) (wg : WellForme
   linked_gadget_peeled =
       gadget_out g v h wg wh c.plane c.removal f x
       ∙ ap (mul two)
-      (sum_over_same (ids left) _ _ (λ label. spider_in _ _ _ _)
+      (sum_over_same (ids left) _ _ (λ label. move_inside _ _ _ _)
       ∙ summed a (λ label. mul (spider phase (masked (a v) (ids left) label)) (around g.inputs g.outputs x f label)) c.link left (joined_comm g.edges) left_distinct link_there one_factor)
       ∙ sym (sum_over_mul two (ids others) _)
       ∙ sum_over_same (ids others) _ _
-      (λ label. spider_in _ _ _ _ ∙ ap (λ z. mul (vertex_product others label) (mul (sign (quad a (ids others) label)) z)) (linked_term label))
+      (λ label. move_inside _ _ _ _ ∙ ap (λ z. mul (vertex_product others label) (mul (sign (quad a (ids others) label)) z)) (linked_term label))
       ∙ sym (summed a (around g.inputs g.outputs x (acts (linked_gadget_gates phase q qubits) f)) c.link left (joined_comm g.edges) left_distinct link_there one_factor)
       ∙ sym (without_gadget g v h wg wh c.plane c.removal (acts (linked_gadget_gates phase q qubits) f) x)
 

@@ -1,17 +1,18 @@
 -- The worked graphs.
-use Rattle.std.proofs.Common.{◌≡◌, sym, ◌∙◌, ap, ap₂, refl, ℕ, Bool, true, false, cond, ◌&&◌, ◌||◌, eqb, ne_eqb, List, [], ◌∷◌, ◌<◌, lt-ltb, arith}
+use Rattle.std.proofs.Common.{◌≡◌, sym, ◌∙◌, ap, ap₂, refl, ℕ, Bool, true, false, cond, ◌&&◌, ◌||◌, eqb, ltb, ne_eqb, List, [], ◌∷◌, ◌<◌, lt-ltb, arith}
 use Rattle.zx_model.specs.Phase.{turn, eighth_turn}
-use Rattle.zx_model.specs.Bits.{xor}
+use Rattle.zx_model.specs.Bits.{xor, member}
 use Rattle.zx_model.specs.Cyclotomic.{add_cyclotomic, mul_cyclotomic, neg_cyclotomic}
 use Rattle.zx_model.specs.Number.{zero, one, add, mul, neg, root_power}
 use Rattle.zx_model.specs.Proportional.{Proportional}
 use Rattle.zx_model.proofs.Ring.{one_nonzero, mul-zero, two_nonzero}
-use Rattle.zx_calculus.specs.Graph.{XY, Graph, joined, joins, WellFormed, OrderedEdges}
+use Rattle.std.specs.List.{list_all}
+use Rattle.zx_calculus.specs.Graph.{XY, Vertex, Edge, End, Graph, ids, joined, joins, kind_of, is_XY, end_vertices, in_order, different, edge_before, WellFormed, OrderedEdges, OrderedEnds}
 use Rattle.zx_calculus.specs.Turns.{in_plane}
 use Rattle.zx_calculus.specs.Sum.{sum}
 use Rattle.zx_calculus.specs.Worked.{edge}
 use Rattle.zx_calculus.proofs.Booleans.{or-false, and_comm, and-true, and-false, xor_comm}
-use Rattle.zx_calculus.proofs.Ids.{eqb_comm}
+use Rattle.zx_calculus.proofs.Ids.{eqb_comm, and-left, and-right}
 use Rattle.zx_calculus.proofs.Pairs.{not_both}
 use Rattle.zx_calculus.proofs.Edges.{joins-xor, joined-xor}
 use Rattle.zx_gates.specs.Maps.{act, amp}
@@ -31,6 +32,48 @@ use Rattle.circuit_laws.proofs.Advancing.{spider_peels}
 use Rattle.circuit_laws.proofs.Gadgets.{gadget_peels, linked_gadget_peels}
 use Rattle.circuit_laws.proofs.Rows.{row_peels}
 
+-- ---- graphs whose form is tested
+abbrev ends_pass : List Vertex → List End → Bool
+ends_pass vs ends =
+    in_order different (end_vertices ends)
+    && (list_all (λ u. member u (ids vs)) (end_vertices ends) && list_all (λ u. is_XY (kind_of vs u).plane) (end_vertices ends))
+
+ends_by_tests : (vs : List Vertex) (ends : List End) → ends_pass vs ends ≡ true → OrderedEnds vs ends
+ends_by_tests vs ends h = record { one_each = and-left _ _ h; there = and-left _ _ (and-right _ _ h); at_XY = and-right _ _ (and-right _ _ h) }
+
+abbrev edges_pass : List ℕ → List Edge → Bool
+edges_pass vs es =
+    (list_all (λ e. ltb e.lower e.higher) es && in_order edge_before es)
+    && (list_all (λ e. member e.lower vs) es && list_all (λ e. member e.higher vs) es)
+
+edges_by_tests : (vs : List ℕ) (es : List Edge) → edges_pass vs es ≡ true → OrderedEdges vs es
+edges_by_tests vs es h = record {
+  lower_first = and-left _ _ (and-left _ _ h);
+  rising = and-right _ _ (and-left _ _ h);
+  lower_there = and-left _ _ (and-right _ _ h);
+  higher_there = and-right _ _ (and-right _ _ h);
+}
+
+abbrev passes : Graph → Bool
+passes g =
+    (in_order ltb (ids g.vertices) && edges_pass (ids g.vertices) g.edges)
+    && (ends_pass g.vertices g.inputs && ends_pass g.vertices g.outputs)
+
+by_tests : (g : Graph) → list_all (λ v. ltb v.kind.phase turn) g.vertices ≡ true → passes g ≡ true → WellFormed g
+by_tests g phases h = record {
+  vertices_rising = and-left _ _ (and-left _ _ h);
+  phases_below_a_turn = phases;
+  edges = edges_by_tests (ids g.vertices) g.edges (and-right _ _ (and-left _ _ h));
+  inputs = ends_by_tests g.vertices g.inputs (and-left _ _ (and-right _ _ h));
+  outputs = ends_by_tests g.vertices g.outputs (and-right _ _ (and-right _ _ h));
+}
+
+-- two vertices of phase 0
+no_phase : (a b : Bool) → (cond a (in_plane XY 0) (cond b (in_plane XY 0) (in_plane XY 0))).phase ≡ 0
+no_phase true b = refl
+no_phase false true = refl
+no_phase false false = refl
+
 -- ---- the Bell pair
 pub bell_entries : Proportional 2 2 (sum bell_pair) (amp (H 0 ∷ Cx 0 1 ∷ []))
 unfolding add mul neg root_power add_cyclotomic mul_cyclotomic neg_cyclotomic
@@ -39,13 +82,7 @@ bell_entries =
     ((refl, refl, refl, refl), (refl, refl, refl, refl), (refl, refl, refl, refl), (refl, refl, refl, refl))
 
 bell_formed : WellFormed bell_pair
-bell_formed = record {
-  vertices_rising = refl;
-  phases_below_a_turn = refl;
-  edges = record { lower_first = refl; rising = refl; lower_there = refl; higher_there = refl };
-  inputs = record { one_each = refl; there = refl; at_XY = refl };
-  outputs = record { one_each = refl; there = refl; at_XY = refl };
-}
+bell_formed = by_tests bell_pair refl refl
 
 pub bell_mark : IsMarkPeel bell_pair 1 bell_unmarked
 bell_mark = record { vertex = 1; output = refl; vertices = refl; edges = refl; inputs = refl; outputs = refl }
@@ -74,17 +111,12 @@ wires_formed = edge_formed_back bell_unmarked 0 1 bell_wires unmarked_formed bel
 
 pub bell_wires_left : IsWires bell_wires
 bell_wires_left = record {
-  phase = λ u t. none (eqb u 0) (eqb u 1);
+  phase = λ u t. no_phase (eqb u 0) (eqb u 1);
   output = λ u t. t;
   in_line = refl;
   plain_outputs = refl;
   no_edges = λ p q. refl;
 }
-  where
-    none : (a b : Bool) → (cond a (in_plane XY 0) (cond b (in_plane XY 0) (in_plane XY 0))).phase ≡ 0
-    none true b = refl
-    none false true = refl
-    none false false = refl
 
 pub bell_gates : Ends bell_pair (H 0 ∷ H 1 ∷ Cz 0 1 ∷ H 1 ∷ [])
 bell_gates =
@@ -120,25 +152,14 @@ gadget_entries =
     wires = wires_with_gadget eighth_turn
 
     formed : WellFormed wires
-    formed = record {
-      vertices_rising = refl;
-      phases_below_a_turn = refl;
-      edges = record { lower_first = refl; rising = refl; lower_there = refl; higher_there = refl };
-      inputs = record { one_each = refl; there = refl; at_XY = refl };
-      outputs = record { one_each = refl; there = refl; at_XY = refl };
-    }
+    formed = by_tests wires refl refl
 
     left_formed : WellFormed two_wires
     left_formed = gadget_formed_back wires 2 (0 ∷ 1 ∷ []) two_wires formed (gadget_of_two eighth_turn)
 
-    none : (a b : Bool) → (cond a (in_plane XY 0) (cond b (in_plane XY 0) (in_plane XY 0))).phase ≡ 0
-    none true b = refl
-    none false true = refl
-    none false false = refl
-
     are_wires : IsWires two_wires
     are_wires = record {
-      phase = λ u t. none (eqb u 0) (eqb u 1);
+      phase = λ u t. no_phase (eqb u 0) (eqb u 1);
       output = λ u t. t;
       in_line = refl;
       plain_outputs = refl;
@@ -147,13 +168,7 @@ gadget_entries =
 
 -- ---- an added row
 before_formed : WellFormed before_addition
-before_formed = record {
-  vertices_rising = refl;
-  phases_below_a_turn = refl;
-  edges = record { lower_first = refl; rising = refl; lower_there = refl; higher_there = refl };
-  inputs = record { one_each = refl; there = refl; at_XY = refl };
-  outputs = record { one_each = refl; there = refl; at_XY = refl };
-}
+before_formed = by_tests before_addition refl refl
 
 pub row_is_added : IsRowAddition before_addition 1 0 after_addition
 row_is_added = record {
@@ -279,13 +294,7 @@ linked_gates k below =
     (wires_end advanced_wires wires_left are_wires).0)
   where
     formed : WellFormed (linked_gadget k)
-    formed = record {
-      vertices_rising = refl;
-      phases_below_a_turn = ap (λ b. b && true) (lt-ltb k turn below);
-      edges = record { lower_first = refl; rising = refl; lower_there = refl; higher_there = refl };
-      inputs = record { one_each = refl; there = refl; at_XY = refl };
-      outputs = record { one_each = refl; there = refl; at_XY = refl };
-    }
+    formed = by_tests (linked_gadget k) (ap (λ b. b && true) (lt-ltb k turn below)) refl
 
     unlinked_formed : WellFormed unlinked
     unlinked_formed = linked_gadget_formed_back (linked_gadget k) 3 0 (1 ∷ []) unlinked formed (gadget_linked k)
@@ -293,14 +302,9 @@ linked_gates k below =
     wires_left : WellFormed advanced_wires
     wires_left = advanced_formed unlinked 0 advanced_wires unlinked_formed advance_over refl refl refl
 
-    none : (a b : Bool) → (cond a (in_plane XY 0) (cond b (in_plane XY 0) (in_plane XY 0))).phase ≡ 0
-    none true b = refl
-    none false true = refl
-    none false false = refl
-
     are_wires : IsWires advanced_wires
     are_wires = record {
-      phase = λ u t. none (eqb u 1) (eqb u 2);
+      phase = λ u t. no_phase (eqb u 1) (eqb u 2);
       output = λ u t. comes (eqb u 1) (eqb u 2) t;
       in_line = refl;
       plain_outputs = refl;

@@ -2,6 +2,8 @@
 #![tactic(auto)]
 
 #[cfg(test)]
+mod circuits;
+#[cfg(test)]
 mod classes;
 #[cfg(test)]
 mod diagrams;

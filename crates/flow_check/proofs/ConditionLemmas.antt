@@ -1,5 +1,5 @@
 -- The conditions at a vertex as the code tests them, by sets that have no vertex in common.
-use Rattle.std.proofs.Common.{◌≡◌, refl, sym, ◌∙◌, ap, ap₂, ℕ, Bool, true, false, not, ◌&&◌, ◌||◌, eqb, List, [], ◌∷◌, ◌++◌, true≢false}
+use Rattle.std.proofs.Common.{◌≡◌, refl, sym, ◌∙◌, ap, ap₂, subst, ℕ, Bool, true, false, not, ◌&&◌, ◌||◌, eqb, List, [], ◌∷◌, ◌++◌, true≢false}
 use Rattle.std.specs.List.{list_all}
 use Rattle.zx_model.specs.Bits.{member}
 use Rattle.zx_calculus.specs.Graph.{Graph, Plane, XY, XZ, YZ, is_XY, is_XZ, is_YZ, ids, WellFormed}
@@ -82,59 +82,39 @@ plane_passes XY inside is_odd e = ap (λ b. b && true) e
 plane_passes XZ inside is_odd e = ap (λ b. b && true) e
 plane_passes YZ inside is_odd e = ap (λ b. b && true) e
 
-pub XY_fails : (p : Plane) (inside is_odd : Bool) → p ≡ XY → plane_test p inside is_odd ≡ false →
-    IsFirstToFail (holds_in_plane p inside is_odd) conditions condition.XY
-XY_fails XY inside is_odd is e = record {
+abbrev pub condition_of : Plane → Condition
+condition_of XY = condition.XY
+condition_of XZ = condition.XZ
+condition_of YZ = condition.YZ
+
+own_fails : (p : Plane) (inside is_odd : Bool) → plane_test p inside is_odd ≡ false →
+    IsFirstToFail (holds_in_plane p inside is_odd) conditions (condition_of p)
+own_fails XY inside is_odd e = record {
   before = condition.Input ∷ condition.Order ∷ condition.Odd ∷ [];
   after = condition.XZ ∷ condition.YZ ∷ [];
   place = refl;
   all_pass = refl;
   fails = e;
 }
-XY_fails XZ inside is_odd is e = absurd (apart is)
-  where
-    apart : XZ ≡ XY → ⊥
-    apart q = cc
-XY_fails YZ inside is_odd is e = absurd (apart is)
-  where
-    apart : YZ ≡ XY → ⊥
-    apart q = cc
-
-pub XZ_fails : (p : Plane) (inside is_odd : Bool) → p ≡ XZ → plane_test p inside is_odd ≡ false →
-    IsFirstToFail (holds_in_plane p inside is_odd) conditions condition.XZ
-XZ_fails XZ inside is_odd is e = record {
+own_fails XZ inside is_odd e = record {
   before = condition.Input ∷ condition.Order ∷ condition.Odd ∷ condition.XY ∷ [];
   after = condition.YZ ∷ [];
   place = refl;
   all_pass = refl;
   fails = e;
 }
-XZ_fails XY inside is_odd is e = absurd (apart is)
-  where
-    apart : XY ≡ XZ → ⊥
-    apart q = cc
-XZ_fails YZ inside is_odd is e = absurd (apart is)
-  where
-    apart : YZ ≡ XZ → ⊥
-    apart q = cc
-
-pub YZ_fails : (p : Plane) (inside is_odd : Bool) → p ≡ YZ → plane_test p inside is_odd ≡ false →
-    IsFirstToFail (holds_in_plane p inside is_odd) conditions condition.YZ
-YZ_fails YZ inside is_odd is e = record {
+own_fails YZ inside is_odd e = record {
   before = condition.Input ∷ condition.Order ∷ condition.Odd ∷ condition.XY ∷ condition.XZ ∷ [];
   after = [];
   place = refl;
   all_pass = refl;
   fails = e;
 }
-YZ_fails XY inside is_odd is e = absurd (apart is)
-  where
-    apart : XY ≡ YZ → ⊥
-    apart q = cc
-YZ_fails XZ inside is_odd is e = absurd (apart is)
-  where
-    apart : XZ ≡ YZ → ⊥
-    apart q = cc
+
+pub plane_fails : (p q : Plane) (inside is_odd : Bool) → p ≡ q → plane_test p inside is_odd ≡ false →
+    IsFirstToFail (holds_in_plane p inside is_odd) conditions (condition_of q)
+plane_fails p q inside is_odd same e =
+    subst (λ (r : Plane). IsFirstToFail (holds_in_plane p inside is_odd) conditions (condition_of r)) same (own_fails p inside is_odd e)
 
 -- the first three conditions
 module _ (s : Seen) (table : List Correction) (v : ℕ) where

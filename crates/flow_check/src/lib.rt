@@ -25,8 +25,6 @@
 mod checking;
 mod conditions;
 mod laws;
-#[cfg(test)]
-mod tests;
 mod verdict;
 
 pub use checking::check;

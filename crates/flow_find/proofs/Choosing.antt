@@ -1,5 +1,5 @@
 -- A vertex that is alone in a row, and its way towards the end.
-use Rattle.std.proofs.Common.{◌+◌, Result, Ok, Err, IfOk, cond, false, ◌||◌, ◌≡◌, refl, sym, ◌∙◌, ap, subst, inl, inr, not, ◌&&◌, append-nil, ℕ, suc, zero, ◌-◌, ◌<◌, ◌≤◌, Bool, true, eqb, eqb-true, true≢false, List, [], ◌∷◌, ◌++◌, length, take, drop, get_or, insert, remove, arith}
+use Rattle.std.proofs.Common.{◌+◌, Result, Ok, Err, IfOk, cond, false, ◌||◌, ◌≡◌, refl, sym, ◌∙◌, ap, subst, inl, inr, not, ◌&&◌, append-nil, ℕ, suc, zero, ◌-◌, ◌<◌, ◌≤◌, Bool, true, eqb, true≢false, List, [], ◌∷◌, ◌++◌, length, take, drop, get_or, insert, remove, arith}
 use Rattle.std.proofs.lemmas.Bool.{cases_lt, cases_eq, eq-eqb, ne_eqb}
 use Rattle.std.proofs.lemmas.List.{take-append-drop}
 use Rattle.zx_model.specs.Bits.{member}

@@ -1,5 +1,5 @@
 -- Two stuck sets together are one: what a set corrects while more is left, it corrects while less is.
-use Rattle.std.proofs.Common.{◌≡◌, sym, ◌∙◌, ap, ⊎_elim, ℕ, Bool, true, false, not, ◌&&◌, ◌||◌, List, ◌++◌, true≢false}
+use Rattle.std.proofs.Common.{◌≡◌, sym, ◌∙◌, ap, ℕ, Bool, true, not, ◌&&◌, ◌||◌, List, ◌++◌, true≢false}
 use Rattle.zx_model.specs.Bits.{member}
 use Rattle.zx_calculus.specs.Graph.{Graph}
 use Rattle.zx_calculus.proofs.Booleans.{or-true}

@@ -34,14 +34,13 @@ pub(crate) fn measured(alloc: Global, g: &OpenGraph) -> Result<Vec<VertexId>, Al
         order.items ≡ filter (λ v. not ((seen g.now.graph).output v)) (seen g.now.graph).ids) }
     ensures valid { WellFormed g.now.graph }
 {
-    g.vertices().filter(|v| is_measured(g, *v)).collect(alloc)
-}
-
-// Whether a vertex has no output.
-fn is_measured(g: &OpenGraph, v: VertexId) -> bool
-    ensures { result ≡ not ((seen g.now.graph).output v) }
-{
-    !g.is_live(v) || g.output_at(v).is_none()
+    let mut order = Vec::new(alloc);
+    for v in g.vertices() {
+        if g.output_at(v).is_none() {
+            order.push(v)?;
+        }
+    }
+    Ok(order)
 }
 
 fn sort_by_rank(order: &mut Vec<VertexId>, ranks: &[u64])

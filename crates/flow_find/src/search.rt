@@ -1,6 +1,6 @@
 //! A flow found where a graph has one.
 
-ghost use Rattle.std.specs.Prelude.{◌≡◌, ◌≢◌, ◌<◌, ◌&&◌, ℕ, true, false, [], reverse, filter, not, IfOk, IfSome, IfNone, OnOk, ltb};
+ghost use Rattle.std.specs.Prelude.{◌≡◌, ◌≢◌, ◌<◌, ◌&&◌, ℕ, true, false, [], reverse, filter, not, IfOk, IfSome, IfNone, IsTrue, OnOk, ltb};
 ghost use Rattle.zx_model.specs.Bits.{member};
 ghost use Rattle.zx_calculus.specs.Graph.{Live, Distinct, WellFormed, is_XY, plane_of, in_order};
 ghost use Rattle.gflow_laws.specs.Seen.{seen};
@@ -197,10 +197,10 @@ fn next_correctable(
     if let Some(found) = any_noted(alloc, g, rows, left, beside)? {
         return Ok(Some(found));
     }
-    if let Some(found) = not_xy(alloc, g, rows, left)? {
+    if let Some(found) = first_left(alloc, g, rows, left, false)? {
         return Ok(Some(found));
     }
-    any_left(alloc, g, rows, left)
+    first_left(alloc, g, rows, left, true)
 }
 
 // An XY vertex that is alone in a row.
@@ -242,43 +242,25 @@ fn any_noted(
     Ok(None)
 }
 
-// The first correctable vertex that isn't XY.
-fn not_xy(
+// The first correctable vertex, of all or of those that aren't XY.
+fn first_left(
     alloc: Global,
     g: &OpenGraph,
     rows: &[Row],
     left: &VertexSet,
-) -> Result<Option<Correctable>, AllocError>
-    requires { (w : ℕ) → is_in left.now.ids w ≡ true → Live g.now.graph w }
-    ensures { IfOk result (λ next.
-        IfSome next (IsNext (seen g.now.graph) (is_in left.now.ids) rows.now)) }
-{
-    for v in left.iter() {
-        if !has_xy_plane(g, v) {
-            if let Some(found) = with_set(alloc, g, rows, left, v)? {
-                return Ok(Some(found));
-            }
-        }
-    }
-    Ok(None)
-}
-
-// The first correctable vertex.
-fn any_left(
-    alloc: Global,
-    g: &OpenGraph,
-    rows: &[Row],
-    left: &VertexSet,
+    all: bool,
 ) -> Result<Option<Correctable>, AllocError>
     requires { (w : ℕ) → is_in left.now.ids w ≡ true → Live g.now.graph w }
     ensures some { IfOk result (λ next.
         IfSome next (IsNext (seen g.now.graph) (is_in left.now.ids) rows.now)) }
-    ensures none { IfOk result (λ next.
-        IfNone next (AreMissed (seen g.now.graph) (is_in left.now.ids) rows.now)) }
+    ensures none { IfOk result (λ next. IfNone next (IsTrue all →
+        AreMissed (seen g.now.graph) (is_in left.now.ids) rows.now)) }
 {
     for v in left.iter() {
-        if let Some(found) = with_set(alloc, g, rows, left, v)? {
-            return Ok(Some(found));
+        if all || !has_xy_plane(g, v) {
+            if let Some(found) = with_set(alloc, g, rows, left, v)? {
+                return Ok(Some(found));
+            }
         }
     }
     Ok(None)

@@ -1,13 +1,14 @@
 -- Where every vertex is an output, and there are as many inputs, every vertex is an input.
-use Rattle.std.proofs.Common.{◌≡◌, refl, sym, ◌∙◌, ap, ap₂, ℕ, suc, ◌<◌, ◌≤◌, true, not, ◌&&◌, ◌||◌, eqb, List, [], ◌∷◌, length, true≢false, arith}
+use Rattle.std.proofs.Common.{◌≡◌, refl, sym, ◌∙◌, ap, ap₂, ℕ, ◌<◌, ◌≤◌, true, not, ◌&&◌, ◌||◌, eqb, List, [], ◌∷◌, length, true≢false, arith}
 use Rattle.zx_model.specs.Bits.{member}
-use Rattle.zx_calculus.specs.Graph.{End, Graph, ids, end_vertices, Distinct, WellFormed}
+use Rattle.zx_calculus.specs.Graph.{Graph, ids, end_vertices, Distinct, WellFormed}
 use Rattle.zx_calculus.proofs.Ids.{by_test, by_equal, removed, member-here, member-there, Distinct-different}
 use Rattle.zx_calculus.proofs.Splitting.{all_at}
 use Rattle.gflow_laws.specs.Seen.{seen}
 use Rattle.gflow_laws.specs.Flow.{IsFlow}
 use Rattle.gflow_laws.proofs.Linear.{member-removed}
 use Rattle.gflow_laws.proofs.Flows.{Flows-from}
+use Rattle.zx_calculus.proofs.ReducedLemmas.{length-places}
 
 length-removed_le : (x : ℕ) (ys : List ℕ) → length (removed x ys) ≤ length ys
 length-removed_le x [] = omega arith
@@ -35,10 +36,6 @@ same_members (x ∷ xs) ys d short inside w =
   where
     within : (v : ℕ) → member v xs ≡ true → member v (removed x ys) ≡ true
     within v t = member-removed v x ys ∙ ap₂ (λ a b. not a && b) (by_equal v x (λ s same. absurd (true≢false (sym t ∙ ap (λ y. member y xs) same ∙ d.0))) (λ f ne. f)) (inside v (member-there v x xs t))
-
-pub length-places : (ends : List End) → length (end_vertices ends) ≡ length ends
-length-places [] = refl
-length-places (e ∷ es) = ap suc (length-places es)
 
 pub all_ends : (g : Graph) → WellFormed g → IsFlow g [] → length g.inputs ≡ length g.outputs → (v : ℕ) → member v (ids g.vertices) ≡ true →
     (member v (end_vertices g.inputs) ≡ true) × (member v (end_vertices g.outputs) ≡ true)

@@ -62,7 +62,7 @@ no_members : (vs : List ℕ) → ((w : ℕ) → member w vs ≡ false) → vs �
 no_members [] none = refl
 no_members (v ∷ vs) none = absurd (true≢false (sym (member-here v vs) ∙ none v))
 
-rest_of : (b m : Bool) → (b ≡ true → m ≡ false) → (not b && (b || m)) ≡ m
+pub rest_of : (b m : Bool) → (b ≡ true → m ≡ false) → (not b && (b || m)) ≡ m
 rest_of true m out = sym (out refl)
 rest_of false m out = refl
 

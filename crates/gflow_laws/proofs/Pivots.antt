@@ -18,6 +18,7 @@ use Rattle.gflow_laws.specs.Complements.{complement_table}
 use Rattle.gflow_laws.proofs.Views.{half_kept, Simple-seen}
 use Rattle.gflow_laws.proofs.Complements.{same-complement_table, Flows-complement}
 use Rattle.gflow_laws.proofs.Flows.{Flows-alike, Flows-from, IsFlowOf-from}
+use Rattle.zx_calculus.proofs.Pivots.{added_twice}
 
 -- a local complement leads to a simple graph
 pub Simple-complemented : (s : Seen) (u : ℕ) → Simple s → Simple (complemented s u)
@@ -36,9 +37,6 @@ apart s u p q ne = ap (λ e. not e && xor (s.adjacent p q) (s.adjacent u p && s.
 about_self : (s : Seen) (u q : ℕ) → Simple s → u ≢ q → (complemented s u).adjacent u q ≡ s.adjacent u q
 about_self s u q simple ne =
     apart s u u q ne ∙ ap (λ b. xor (s.adjacent u q) (b && s.adjacent u q)) (simple.no_loop u) ∙ xor-false (s.adjacent u q)
-
-exchanged_u : (x y : Bool) → xor x (xor y x) ≡ y
-exchanged_u x y = simp parities
 
 exchanged_v : (x y : Bool) → xor (xor y x) y ≡ x
 exchanged_v x y = simp parities
@@ -82,7 +80,7 @@ module _ (s : Seen) (u v : ℕ) (simple : Simple s) (uv : s.adjacent u v ≡ tru
   second_u x nu nv =
       apart first v u x (λ e. nu (sym e))
       ∙ ap₂ xor (about_self s u x simple (λ e. nu (sym e))) (ap₂ (λ b c. b && c) first_vu (first_v x nu nv))
-      ∙ exchanged_u (s.adjacent u x) (s.adjacent v x)
+      ∙ added_twice (s.adjacent u x) (s.adjacent v x)
 
   third_uv : third.adjacent u v ≡ true
   third_uv = about_self second u v simple_second u_not_v ∙ second_uv

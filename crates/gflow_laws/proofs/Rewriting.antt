@@ -4,8 +4,7 @@ use Rattle.zx_model.specs.Bits.{member}
 use Rattle.zx_calculus.specs.Graph.{XY, Graph, plane_of, Live, Interior, WellFormed}
 use Rattle.zx_calculus.specs.Steps.{Step, IsStep}
 use Rattle.zx_calculus.proofs.Splitting.{interior_of, off_XY}
-use Rattle.zx_calculus.proofs.Steps.{step_kept, step_sum, step_proportional, step_odd}
-use Rattle.zx_calculus.proofs.StepScalars.{step_scaled}
+use Rattle.zx_calculus.proofs.Steps.{step_kept, step_sum_times, step_odd}
 use Rattle.gflow_laws.specs.Seen.{seen}
 use Rattle.gflow_laws.specs.Flow.{Correction, order_of, set_of, is_in, IsFlow, SameSets}
 use Rattle.gflow_laws.specs.Steps.{table_after}
@@ -23,9 +22,7 @@ rewritten {g} {s} {h} {table} {after} w flow step same = record {
   valid = step_kept g s h w step;
   flow = flow-same_sets h (table_after g s table) after
       (record { order = sym same.order; members = λ v x. sym (same.members v x) }) (step_flow g s h table w step flow);
-  exact = λ x y. step_sum g s h x y w step;
-  scaled = step_scaled g s h w (λ x y. step_sum g s h x y w step);
-  map = step_proportional g s h w step;
+  scaled = step_sum_times g s h w step;
   odd = step_odd g s h w step;
 }
 

@@ -18,7 +18,7 @@ use Rattle.gflow_laws.specs.Correcting.{Distinct, Corrects, odd_in, inside_in, F
 use Rattle.gflow_laws.specs.Splits.{split_output_table, split_input_table}
 use Rattle.gflow_laws.specs.Flow.{is_later, Correction, is_in, set_of, order_of, SameSets, IsFlow}
 use Rattle.gflow_laws.specs.Outputs.{IsNewOutput}
-use Rattle.gflow_laws.proofs.Linear.{masked-members, Distinct-removed, masked-same, member-removed, removed, masked-one}
+use Rattle.gflow_laws.proofs.Linear.{masked-members, Distinct-removed, masked-same, member-removed, removed, masked-one, rest_of}
 use Rattle.gflow_laws.proofs.Lists.{is_later-outside, is_in-one, Distinct-append, is_later-append, member-append}
 use Rattle.gflow_laws.proofs.Tables.{unlisted, set_of-last, Corrects-same, order_of-append, set_of-append, absent}
 use Rattle.gflow_laws.proofs.Flows.{live, Flows-from, IsFlowOf-from}
@@ -41,10 +41,6 @@ old_there s t new b w grown there = grown.ids w ∙ or_right (eqb w new) (member
 new_there : (s t : Seen) (new b : ℕ) → Grown s new b t → member new t.ids ≡ true
 new_there s t new b grown = grown.ids new ∙ ap (λ c. c || member new s.ids) (eq-eqb new new refl)
 
-old_or_new : (e m : Bool) → (e ≡ true → m ≡ false) → (not e && (e || m)) ≡ m
-old_or_new true m out = sym (out refl)
-old_or_new false m out = refl
-
 outside : (s t : Seen) (new b : ℕ) (A : ℕ → Bool) → Grown s new b t → ((w : ℕ) → A w ≡ true → member w s.ids ≡ true) → A new ≡ false
 outside s t new b A grown within = false_from_ne_true (A new) (λ e. true≢false (sym (within new e) ∙ grown.fresh))
 
@@ -57,7 +53,7 @@ odd-grown s t new b A v grown within there =
     (ap (λ c. t.adjacent v new && c) (outside s t new b A grown within) ∙ and-false (t.adjacent v new))
     ∙ masked-members (t.adjacent v) (removed new t.ids) s.ids A (Distinct-removed new t.ids grown.distinct_after) grown.distinct
     (λ w. member-removed w new t.ids ∙ ap (λ c. not (eqb w new) && c) (grown.ids w)
-    ∙ old_or_new (eqb w new) (member w s.ids) (λ e. ap (λ x. member x s.ids) (eqb-true w new e) ∙ grown.fresh))
+    ∙ rest_of (eqb w new) (member w s.ids) (λ e. ap (λ x. member x s.ids) (eqb-true w new e) ∙ grown.fresh))
     ∙ masked-same (t.adjacent v) (s.adjacent v) s.ids A A (λ w h. ap (λ c. c && A w) (grown.adjacent v w there h))
 
 -- the new vertex has an odd number of neighbours in the sets that have b

@@ -11,7 +11,7 @@ use Rattle.zx_calculus.specs.Graph.{End, end_vertices}
 use Rattle.zx_calculus.specs.Sum.{end_factor, end_product}
 use Rattle.zx_calculus.specs.Internal.Pairs.{quad}
 use Rattle.zx_calculus.specs.Edits.{is_pair}
-use Rattle.zx_calculus.specs.Splits.{split_left}
+use Rattle.zx_calculus.proofs.Factors.{split_left}
 use Rattle.zx_calculus.proofs.Ids.{by_test, by_equal, member-here, member-there}
 use Rattle.zx_calculus.proofs.Parity.{quad-xor}
 use Rattle.zx_calculus.proofs.Pairs.{quad-pair}

@@ -12,3 +12,5 @@ mod flows;
 mod graphs;
 #[cfg(test)]
 mod small_graphs;
+#[cfg(test)]
+mod verdicts;

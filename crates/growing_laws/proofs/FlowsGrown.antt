@@ -1,23 +1,17 @@
 -- Flows of graphs with a gate behind their outputs.
-use Rattle.std.proofs.Common.{◌≡◌, refl, sym, ◌∙◌, ap, subst, ℕ, suc, ◌<◌, ◌≤◌, Bool, true, false, cond, ◌||◌, eqb, arith, List, [], ◌∷◌, ◌++◌, length, set}
-use Rattle.std.proofs.lemmas.List.{set-set}
-use Rattle.std.specs.Prelude.{slice_get, Some}
+use Rattle.std.proofs.Common.{◌≡◌, refl, sym, ◌∙◌, ap, subst, ℕ, suc, ◌<◌, ◌≤◌, Bool, true, false, cond, ◌||◌, eqb, arith, List, [], ◌∷◌, ◌++◌, length}
 use Rattle.zx_model.specs.Bits.{member}
-use Rattle.zx_calculus.specs.Graph.{Kind, Vertex, End, Graph, ids, kind_of, end_vertices, in_order, different, with_kinds, WellFormed}
+use Rattle.zx_calculus.specs.Graph.{Vertex, Graph, ids, kind_of, end_vertices, with_kinds, WellFormed}
 use Rattle.zx_calculus.specs.Edits.{IsToggle}
 use Rattle.zx_calculus.specs.Gadgets.{fuse_kind}
-use Rattle.zx_calculus.specs.Splits.{move_end}
-use Rattle.zx_calculus.specs.Turns.{with_phase_added}
-use Rattle.zx_calculus.specs.Worked.{plain}
 use Rattle.zx_calculus.proofs.Booleans.{or-false}
-use Rattle.zx_calculus.proofs.Edits.{set-move_end}
 use Rattle.zx_calculus.proofs.EditPrograms.{toggled as toggled_graph, toggled_is_toggle}
 use Rattle.zx_calculus.proofs.Ids.{by_equal, member-append}
 use Rattle.zx_calculus.proofs.Vertices.{ids-with_kinds}
 use Rattle.gflow_laws.specs.Seen.{seen}
 use Rattle.gflow_laws.specs.Flow.{Correction, IsFlow}
 use Rattle.gflow_laws.specs.Splits.{split_output_table}
-use Rattle.gflow_laws.specs.Outputs.{toggled, IsNewOutput}
+use Rattle.gflow_laws.specs.Outputs.{toggled}
 use Rattle.gflow_laws.specs.Correcting.{Alike}
 use Rattle.gflow_laws.proofs.Flows.{Flows-from}
 use Rattle.gflow_laws.proofs.OutputLaws.{toggled_flow}
@@ -26,39 +20,21 @@ use Rattle.gflow_laws.proofs.Splits.{new_output_flow}
 use Rattle.gflow_laws.proofs.Tables.{order_of-append, unlisted}
 use Rattle.zx_gates.specs.Circuit.{IsOnQubits}
 use Rattle.zx_gates.specs.declared.gate.Gate.TheVariants.{H, Phase, Cz}
-use Rattle.circuit_laws.specs.Peeling.{IsSpiderPeel, marked, are_plain}
-use Rattle.circuit_laws.proofs.Places.{member-places, places-same, slice_get-set}
+use Rattle.circuit_laws.specs.Peeling.{IsSpiderPeel, are_plain}
+use Rattle.circuit_graph.proofs.Gates.{is_new_output}
 use Rattle.move_laws.specs.Orders.{HasFlowAlong}
 use Rattle.move_laws.specs.Ranks.{HasFlowBy, ranked}
 use Rattle.move_laws.proofs.Ranks.{ranked-self, ranked_other, rises-ranked, rises-append}
 use Rattle.growing_laws.specs.Growing.{placed}
-use Rattle.growing_laws.proofs.Parts.{spot, spot_there}
+use Rattle.growing_laws.proofs.Parts.{spot, spot_there, plane_fused}
 use Rattle.growing_laws.proofs.Placing.{spot_live, spots_differ}
 use Rattle.growing_laws.proofs.Peeled.{spider_peel, spider_next, placed_formed}
 
 -- ---- a vertex that comes last
-places-set : (es : List End) (q u v : ℕ) → in_order different (end_vertices es) ≡ true → slice_get es q ≡ Some (plain u) →
-    end_vertices (set es q (plain v)) ≡ end_vertices (move_end u v es)
-places-set es q u v once h =
-    sym (places-same (set es q (plain v)) q (plain v) (marked v) (slice_get-set es q (plain u) (plain v) h) refl)
-    ∙ ap end_vertices (set-set es q (plain v) (marked v) ∙ set-move_end es q (plain u) v once h)
-
-new_output : (g : Graph) (q : ℕ) (h : Graph) → WellFormed g → (c : IsSpiderPeel h q g) → IsNewOutput g c.next h
-new_output g q h w c = record {
-  new = c.spider;
-  fresh = c.fresh;
-  has_output = member-places g.outputs q (plain c.next) c.output;
-  vertices = c.vertices;
-  edges = c.edges;
-  inputs = ap end_vertices c.inputs;
-  outputs = ap end_vertices c.outputs ∙ places-set g.outputs q c.next c.spider w.outputs.one_each c.output;
-}
-
 spider_along : (g : Graph) (q : ℕ) (h : Graph) (order : List ℕ) → WellFormed g → (c : IsSpiderPeel h q g) → HasFlowAlong g order → HasFlowAlong h (order ++ c.next ∷ [])
-unfolding new_output
 spider_along g q h order w c f = record {
   table = split_output_table c.next c.spider f.table;
-  flow = new_output_flow g c.next h f.table w (new_output g q h w c) f.flow;
+  flow = new_output_flow g c.next h f.table w (is_new_output g q h w c) f.flow;
   along = order_of-append f.table (record { vertex = c.next; members = c.spider ∷ [] }) ∙ ap (λ vs. vs ++ c.next ∷ []) f.along;
 }
 
@@ -85,17 +61,13 @@ last_by g h rank low high b some at_end f along = record {
     before v n there = sym (or-false (member v f.order)) ∙ sym (ap (λ t. member v f.order || (t || false)) n) ∙ sym (member-append v f.order (b ∷ [])) ∙ there
 
 -- ---- an added phase changes no plane
-plane-fused : (b : Bool) (k : ℕ) (kind : Kind) → (cond b (with_phase_added k kind) kind).plane ≡ kind.plane
-plane-fused true k kind = refl
-plane-fused false k kind = refl
-
 planes-fused : (u k : ℕ) (vs : List Vertex) (p : ℕ) → (kind_of vs p).plane ≡ (kind_of (with_kinds (fuse_kind u k) vs) p).plane
 planes-fused u k [] p = refl
 planes-fused u k (v ∷ vs) p = at (eqb p v.id) (planes-fused u k vs p)
   where
     at : (b : Bool) → (kind_of vs p).plane ≡ (kind_of (with_kinds (fuse_kind u k) vs) p).plane →
         (cond b v.kind (kind_of vs p)).plane ≡ (cond b (fuse_kind u k v.id v.kind) (kind_of (with_kinds (fuse_kind u k) vs) p)).plane
-    at true again = sym (plane-fused (eqb v.id u) k v.kind)
+    at true again = sym (plane_fused (eqb v.id u) k v.kind)
     at false again = again
 
 same_order : (g h : Graph) (rank : ℕ → ℕ) (low high : ℕ) → ((table : List Correction) → IsFlow g table → IsFlow h table) →

@@ -1,29 +1,10 @@
 -- Changes of kinds along a list of vertices, beside a new vertex and one that goes.
-use Rattle.std.proofs.Common.{◌≡◌, ◌≢◌, refl, ap, ap₂, subst, ℕ, Bool, true, cond, ltb, ne_eqb, ltb-true, lt-ltb, arith, List, [], ◌∷◌}
+use Rattle.std.proofs.Common.{◌≡◌, ◌≢◌, refl, ap, ℕ, Bool, true, ltb, ne_eqb, ltb-true, lt-ltb, arith, List, [], ◌∷◌}
 use Rattle.std.specs.List.{list_all}
-use Rattle.zx_model.specs.Bits.{member}
-use Rattle.zx_calculus.specs.Graph.{Kind, Vertex, ids, kind_of, in_order, with_kinds, without, insert_vertex, Distinct}
-use Rattle.zx_calculus.proofs.Ids.{by_test, by_equal, and-left, and-right, eqb-self, member-here, member-there, apart_of_member}
+use Rattle.zx_calculus.specs.Graph.{Vertex, ids, in_order, without, insert_vertex}
+use Rattle.zx_calculus.proofs.Ids.{by_test, by_equal, and-left, and-right}
 use Rattle.zx_calculus.proofs.Vertices.{list_all-without}
 use Rattle.zx_calculus.proofs.Kept.{both}
-
--- a change at each vertex's own kind
-pub with_kinds_at : (f k : ℕ → Kind → Kind) (vs : List Vertex) → Distinct (ids vs) →
-    ((p : ℕ) → member p (ids vs) ≡ true → f p (kind_of vs p) ≡ k p (kind_of vs p)) → with_kinds f vs ≡ with_kinds k vs
-with_kinds_at f k [] d same = refl
-with_kinds_at f k (v ∷ vs) d same =
-    ap₂ (λ kind rest. record { id = v.id; kind = kind } ∷ rest)
-    (subst (λ kind. f v.id kind ≡ k v.id kind) (ap (λ b. cond b v.kind (kind_of vs v.id)) (eqb-self v.id)) (same v.id (member-here v.id (ids vs))))
-    (with_kinds_at f k vs d.1
-    (λ p there. subst (λ kind. f p kind ≡ k p kind)
-    (ap (λ b. cond b v.kind (kind_of vs p)) (ne_eqb p v.id (apart_of_member p v.id (ids vs) there d.0))) (same p (member-there p v.id (ids vs) there))))
-
-pub with_kinds-insert : (f : ℕ → Kind → Kind) (n : Vertex) (vs : List Vertex) →
-    with_kinds f (insert_vertex n vs) ≡ insert_vertex (record { id = n.id; kind = f n.id n.kind }) (with_kinds f vs)
-with_kinds-insert f n [] = refl
-with_kinds-insert f n (v ∷ vs) =
-    by_test (ltb n.id v.id) (λ t. rw t refl)
-    (λ t. rw t (ap (λ rest. record { id = v.id; kind = f v.id v.kind } ∷ rest) (with_kinds-insert f n vs)))
 
 -- a vertex below all others comes first
 abbrev is_below : Vertex → Vertex → Bool

@@ -4,7 +4,6 @@ pub mod Placing
 pub mod StepsPlaced
 pub mod Peeled
 pub mod RunsGrown
-pub mod Wiring
 pub mod TranslatedGraphs
 pub mod FlowsGrown
 pub mod Renamed

@@ -9,37 +9,31 @@ use Rattle.zx_calculus.specs.Splits.{spider_of_phase_zero}
 use Rattle.zx_calculus.specs.Turns.{in_plane, with_phase_added}
 use Rattle.zx_calculus.specs.Worked.{plain}
 use Rattle.zx_calculus.proofs.Booleans.{or-true}
-use Rattle.zx_calculus.proofs.Ids.{by_equal, or-left, or-right, member-here, member-there}
+use Rattle.zx_calculus.proofs.Ids.{by_equal, or-left, or-right}
 use Rattle.zx_calculus.proofs.Vertices.{ids-with_kinds, kind_of-with_kinds, without-with_kinds, member-insert}
 use Rattle.zx_calculus.proofs.ChangedKinds.{with_kinds-with_kinds}
 use Rattle.zx_calculus.proofs.Kept.{kind_of-insert_other}
 use Rattle.zx_gates.specs.Circuit.{IsOnQubits}
 use Rattle.zx_gates.specs.declared.gate.Gate.{Gate}
 use Rattle.zx_gates.specs.declared.gate.Gate.TheVariants.{H, Phase, Cz, Cx, Not}
-use Rattle.growing_laws.proofs.KindChanges.{with_kinds_at, with_kinds-insert, insert-without}
+use Rattle.zx_calculus.proofs.ChangedKinds.{with_kinds_at, with_kinds-insert}
+use Rattle.growing_laws.proofs.KindChanges.{insert-without}
+use Rattle.zx_calculus.proofs.ReducedLemmas.{length-places}
+use Rattle.zx_calculus.proofs.Positions.{member-get_or}
 
 -- ---- the vertex at an end
 abbrev pub spot : List End → ℕ → ℕ
 spot es q = get_or (end_vertices es) q 0
 
-pub length-places : (es : List End) → length (end_vertices es) ≡ length es
-length-places [] = refl
-length-places (e ∷ es) = ap (λ n. suc n) (length-places es)
-
-at_there : (xs : List ℕ) (q : ℕ) → q < length xs → member (get_or xs q 0) xs ≡ true
-at_there [] q lt = absurd (omega arith)
-at_there (x ∷ xs) zero lt = member-here x xs
-at_there (x ∷ xs) (suc q) lt = member-there (get_or xs q 0) x xs (at_there xs q (omega arith))
-
 at_apart : (xs : List ℕ) (p q : ℕ) → Distinct xs → p < length xs → q < length xs → p ≢ q → get_or xs p 0 ≢ get_or xs q 0
 at_apart [] p q d i j n e = absurd (omega arith)
 at_apart (x ∷ xs) zero zero d i j n e = n refl
-at_apart (x ∷ xs) zero (suc q) d i j n e = true≢false (sym (at_there xs q (omega arith)) ∙ ap (λ v. member v xs) (sym e) ∙ d.0)
-at_apart (x ∷ xs) (suc p) zero d i j n e = true≢false (sym (at_there xs p (omega arith)) ∙ ap (λ v. member v xs) e ∙ d.0)
+at_apart (x ∷ xs) zero (suc q) d i j n e = true≢false (sym (member-get_or xs q (omega arith)) ∙ ap (λ v. member v xs) (sym e) ∙ d.0)
+at_apart (x ∷ xs) (suc p) zero d i j n e = true≢false (sym (member-get_or xs p (omega arith)) ∙ ap (λ v. member v xs) e ∙ d.0)
 at_apart (x ∷ xs) (suc p) (suc q) d i j n e = at_apart xs p q d.1 (omega arith) (omega arith) (λ s. n (ap (λ k. suc k) s)) e
 
 pub spot_there : (es : List End) (q : ℕ) → q < length es → member (spot es q) (end_vertices es) ≡ true
-spot_there es q lt = let same = length-places es in at_there (end_vertices es) q (omega (arith, same, lt))
+spot_there es q lt = let same = length-places es in member-get_or (end_vertices es) q (omega (arith, same, lt))
 
 pub spots_apart : (es : List End) (p q : ℕ) → Distinct (end_vertices es) → p < length es → q < length es → p ≢ q → spot es p ≢ spot es q
 spots_apart es p q d i j n =
@@ -115,7 +109,7 @@ extended_kind new es (Cx a b) vs u on out n there = refl
 extended_kind new es (Not q) vs u on out n there = refl
 
 -- an added phase changes no plane
-plane_fused : (b : Bool) (k : ℕ) (kind : Kind) → (cond b (with_phase_added k kind) kind).plane ≡ kind.plane
+pub plane_fused : (b : Bool) (k : ℕ) (kind : Kind) → (cond b (with_phase_added k kind) kind).plane ≡ kind.plane
 plane_fused true k kind = refl
 plane_fused false k kind = refl
 

@@ -1,17 +1,17 @@
 -- A gate behind a graph whose outputs are plain can be taken off again.
-use Rattle.std.proofs.Common.{◌≡◌, refl, sym, ◌∙◌, ap, ℕ, suc, ◌<◌, ◌≤◌, ◌+◌, Bool, true, false, cond, ltb, ◌||◌, arith, List, [], ◌∷◌, length}
+use Rattle.std.proofs.Common.{◌≡◌, refl, sym, ◌∙◌, ap, ℕ, ◌<◌, ◌≤◌, ◌+◌, true, false, ◌||◌, arith, [], ◌∷◌, length}
 use Rattle.std.proofs.Math.ListN.{length-set}
 use Rattle.std.proofs.lemmas.Option.{slice_get-get_or}
 use Rattle.zx_model.specs.Bits.{member}
 use Rattle.zx_model.specs.Number.{one}
-use Rattle.zx_calculus.specs.Graph.{Kind, Vertex, Graph, ids, end_vertices, with_kinds, insert_vertex, WellFormed}
+use Rattle.zx_calculus.specs.Graph.{Graph, ids, end_vertices, WellFormed}
 use Rattle.zx_calculus.specs.Edits.{IsToggle}
 use Rattle.zx_calculus.specs.Gadgets.{fuse_kind}
 use Rattle.zx_calculus.specs.Splits.{IsSplitOutput, split_output_graph, spider_of_phase_zero}
 use Rattle.zx_calculus.specs.Counts.{odd_phases}
 use Rattle.zx_calculus.specs.Worked.{plain}
 use Rattle.zx_calculus.proofs.Ids.{by_test, by_equal}
-use Rattle.zx_calculus.proofs.Vertices.{ids-with_kinds, member-insert}
+use Rattle.zx_calculus.proofs.Vertices.{ids-with_kinds, length-with_kinds, length-insert, member-insert}
 use Rattle.zx_calculus.proofs.Splits.{after_split_output}
 use Rattle.zx_calculus.proofs.EditPrograms.{toggled, toggled_is_toggle}
 use Rattle.zx_gates.specs.Circuit.{IsOnQubits, gate_odd_phases}
@@ -25,8 +25,9 @@ use Rattle.circuit_laws.proofs.Counts.{phase_odd, spider_odd}
 use Rattle.circuit_laws.proofs.Settling.{phase_peels, edge_peels}
 use Rattle.circuit_laws.proofs.Advancing.{spider_peels}
 use Rattle.growing_laws.specs.Growing.{placed, next_id, AreBelow, IsBasic}
-use Rattle.growing_laws.proofs.Parts.{spot, spot_there, length-places}
+use Rattle.growing_laws.proofs.Parts.{spot, spot_there}
 use Rattle.growing_laws.proofs.Placing.{spot_live, spots_differ}
+use Rattle.zx_calculus.proofs.ReducedLemmas.{length-places}
 
 no_more : (a b : ℕ) → a ≡ b → a ≤ b + 0
 no_more a b e = omega arith
@@ -147,18 +148,6 @@ below_bound new bound g (Cx p q) lt below v there = below v there
 below_bound new bound g (Not q) lt below v there = below v there
 
 -- ---- how many vertices
-length-insert : (n : Vertex) (vs : List Vertex) → length (insert_vertex n vs) ≡ length vs + 1
-length-insert n [] = refl
-length-insert n (v ∷ vs) = at (ltb n.id v.id) (length-insert n vs)
-  where
-    at : (b : Bool) → length (insert_vertex n vs) ≡ length vs + 1 → length (cond b (n ∷ (v ∷ vs)) (v ∷ insert_vertex n vs)) ≡ length (v ∷ vs) + 1
-    at true again = omega arith
-    at false again = omega arith
-
-length-with_kinds : (f : ℕ → Kind → Kind) (vs : List Vertex) → length (with_kinds f vs) ≡ length vs
-length-with_kinds f [] = refl
-length-with_kinds f (v ∷ vs) = ap (λ n. suc n) (length-with_kinds f vs)
-
 pub placed_length : (new : ℕ) (g : Graph) (gate : Gate) → length (placed new g gate).vertices ≡ next_id (length g.vertices) gate
 placed_length new g (H q) = length-insert (spider_of_phase_zero new) g.vertices
 placed_length new g (Phase q k) = length-with_kinds (fuse_kind (spot g.outputs q) k) g.vertices

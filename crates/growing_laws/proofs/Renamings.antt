@@ -14,7 +14,7 @@ use Rattle.zx_calculus.proofs.Ids.{by_equal, and-left, and-right, eqb-self, apar
 use Rattle.zx_calculus.proofs.Kept.{kind_of-insert_other}
 use Rattle.zx_calculus.proofs.LeastFree.{least_free-fresh}
 use Rattle.zx_calculus.proofs.Programs.{absent_left, absent_right, end_there}
-use Rattle.zx_calculus.proofs.Splits.{after_split_input, after_split_output}
+use Rattle.zx_calculus.proofs.Splits.{mirrored, mirrored_formed, mirrored_split, split_mirrored, after_split_input, after_split_output}
 use Rattle.zx_calculus.proofs.Vertices.{ids-with_kinds, kind_of-with_kinds, kind_of-insert, member-insert}
 use Rattle.move_laws.proofs.Ranks.{ranked-self, ranked_other}
 use Rattle.zx_gates.specs.Circuit.{IsOnQubits}
@@ -259,23 +259,21 @@ module _ (to back : ℕ → ℕ) (g h : Graph) (wg : WellFormed g) (wh : WellFor
           ∙ member-renamed to (λ p. member p (ids g.vertices)) g.inputs b wg.inputs.there (λ p t. eqb-named to back g h wg wh R b p there t) ∙ c.has_input)
           (new_vertex h) (least_free-fresh (ids h.vertices) wh.vertices_rising)
 
-  pub split_output_renamed : (b : ℕ) (k : Graph) → IsSplitOutput g b (new_vertex g) k →
-      (l : Graph) × IsSplitOutput h (to b) (new_vertex h) l × IsRenamed (with_name (new_vertex g) (new_vertex h) to) (with_name (new_vertex h) (new_vertex g) back) k l
-  split_output_renamed b k c = (
-    split_output_graph h (to b) (new_vertex h),
-    step,
-    one_more_renamed (new_vertex g) (new_vertex h) b c.fresh step.fresh there k (split_output_graph h (to b) (new_vertex h)) c.vertices refl c.edges step.edges
-        (R.inputs ∙ ends_named (new_vertex g) (new_vertex h) b c.fresh step.fresh there g.inputs wg.inputs.there
-        ∙ ap (renamed_ends (with_name (new_vertex g) (new_vertex h) to)) (sym c.inputs))
-        (ap (move_end (to b) (new_vertex h)) R.outputs ∙ ends_moved (new_vertex g) (new_vertex h) b c.fresh step.fresh there g.outputs wg.outputs.there
-        ∙ ap (renamed_ends (with_name (new_vertex g) (new_vertex h) to)) (sym c.outputs)),
-  )
-    where
-      there : Live g b
-      there = end_there g wg b g.outputs wg.outputs.there c.has_output
+-- inputs and outputs exchanged
+mirrored_renamed : (to back : ℕ → ℕ) (g h : Graph) → IsRenamed to back g h → IsRenamed to back (mirrored g) (mirrored h)
+mirrored_renamed to back g h r = record {
+  there = r.there;
+  there_back = r.there_back;
+  same = r.same;
+  same_back = r.same_back;
+  kinds = r.kinds;
+  edges = r.edges;
+  inputs = r.outputs;
+  outputs = r.inputs;
+}
 
-      step : IsSplitOutput h (to b) (new_vertex h) (split_output_graph h (to b) (new_vertex h))
-      step = after_split_output h wh (to b)
-          (ap (λ es. member (to b) (end_vertices es)) R.outputs
-          ∙ member-renamed to (λ p. member p (ids g.vertices)) g.outputs b wg.outputs.there (λ p t. eqb-named to back g h wg wh R b p there t) ∙ c.has_output)
-          (new_vertex h) (least_free-fresh (ids h.vertices) wh.vertices_rising)
+pub split_output_renamed : (to back : ℕ → ℕ) (g h : Graph) → WellFormed g → WellFormed h → IsRenamed to back g h → (b : ℕ) (k : Graph) → IsSplitOutput g b (new_vertex g) k →
+    (l : Graph) × IsSplitOutput h (to b) (new_vertex h) l × IsRenamed (with_name (new_vertex g) (new_vertex h) to) (with_name (new_vertex h) (new_vertex g) back) k l
+split_output_renamed to back g h wg wh r b k c =
+    let made = split_input_renamed to back (mirrored g) (mirrored h) (mirrored_formed g wg) (mirrored_formed h wh) (mirrored_renamed to back g h r) b (mirrored k) (mirrored_split g b (new_vertex g) k c) in
+    (mirrored made.0, split_mirrored h (to b) (new_vertex h) made.0 made.1, mirrored_renamed _ _ (mirrored k) made.0 made.2)

@@ -5,13 +5,14 @@ use Rattle.zx_model.specs.Bits.{xor, member}
 use Rattle.zx_calculus.specs.Graph.{XY, YZ, Kind, Vertex, End, Graph, ids, joined, kind_of, plane_of, phase_of, neighbours, end_vertices, insert_vertex, with_kinds, without, Live, Interior, WellFormed}
 use Rattle.zx_calculus.specs.Edits.{KeepsEnds}
 use Rattle.zx_calculus.specs.Turns.{in_plane, with_phase_added, quarter_turned, half_turned}
-use Rattle.zx_calculus.specs.Complements.{IsLocalComplement, complement_kind}
-use Rattle.zx_calculus.specs.Deletions.{IsDelete, delete_kind}
-use Rattle.zx_calculus.specs.Pivots.{IsPivot, pivot_kind}
+use Rattle.zx_calculus.specs.Complements.{IsLocalComplement, complement_kind, complement_scalar, complement_scalar_in}
+use Rattle.zx_calculus.specs.Deletions.{IsDelete, delete_kind, delete_scalar, delete_scalar_in}
+use Rattle.zx_calculus.specs.Pivots.{IsPivot, pivot_kind, common_neighbours, pivot_scalar, pivot_scalar_in}
 use Rattle.zx_calculus.specs.Gadgets.{fuse_kind, IsDropLone, IsFuseInto, IsFuseTwin}
 use Rattle.zx_model.specs.Scalar.{product_of_scalars}
 use Rattle.zx_calculus.specs.Splits.{spider_of_phase_zero}
-use Rattle.zx_calculus.specs.StepScalars.{quarter_power, quarter_power_in, half_power, half_power_in, quarter_powers, half_powers, turn_by, root_of_two_to, common_neighbours, complement_scalar, complement_scalar_in, delete_scalar, delete_scalar_in, pivot_scalar, pivot_scalar_in, step_scalar}
+use Rattle.zx_calculus.specs.Scalars.{quarter_power, quarter_power_in, half_power, half_power_in, quarter_powers, half_powers, turn_by, root_of_two_to}
+use Rattle.zx_calculus.specs.StepScalars.{step_scalar}
 use Rattle.zx_calculus.specs.Steps.{Step, IsStep, LocalComplement, Delete, Pivot, SplitInput, SplitOutput, DropLone, FuseInto, FuseTwin}
 use Rattle.zx_calculus.proofs.Booleans.{parities, xor-false, and-false}
 use Rattle.zx_calculus.proofs.Ids.{by_test, and-left, apart_of_member, member-filter, member-absent_removed}

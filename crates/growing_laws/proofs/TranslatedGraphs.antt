@@ -1,36 +1,31 @@
 -- The graph of a circuit as gates behind wires, and behind that of its first gates.
-use Rattle.std.proofs.Common.{◌≡◌, ◌≢◌, refl, sym, ◌∙◌, ap, ap₂, subst, ℕ, ◌+◌, le-ltb, ltb-true, true≢false, Bool, false, cond, arith, List, [], ◌∷◌, ◌++◌, append-nil, append_assoc, length}
+use Rattle.std.proofs.Common.{◌≡◌, ◌≢◌, refl, sym, ◌∙◌, ap, ap₂, subst, ℕ, ◌+◌, ltb-true, true≢false, arith, List, [], ◌∷◌, length}
 use Rattle.std.specs.List.{All, count_by, fold}
 use Rattle.std.proofs.lemmas.List.Elements.{All-head, All-tail, All-cons, All-append}
-use Rattle.std.proofs.lemmas.List.Sums.{fold-append, sum_by-append}
+use Rattle.std.proofs.lemmas.List.Sums.{fold-append}
 use Rattle.std.proofs.lemmas.List.FromFn.{length-map-range_with_len}
 use Rattle.std.proofs.lemmas.Grind.{flat_map-append}
-use Rattle.zx_model.specs.Bits.{member}
 use Rattle.zx_model.specs.Phase.{half_turn}
 use Rattle.zx_model.specs.declared.scalar.Scalar.{Scalar}
-use Rattle.zx_calculus.specs.Graph.{Graph, ids}
+use Rattle.zx_calculus.specs.Graph.{Graph}
 use Rattle.zx_calculus.specs.Splits.{spider_of_phase_zero}
 use Rattle.zx_calculus.specs.StepScalars.{IsSumTimes}
 use Rattle.zx_calculus.specs.Steps.{Step, IsRun}
-use Rattle.gflow_laws.specs.Splits.{split_output_table}
-use Rattle.gflow_laws.proofs.Rewriting.{same_of_equal}
 use Rattle.zx_calculus.specs.Worked.{plain}
 use Rattle.zx_gates.specs.Circuit.{Circuit, IsOnQubits}
 use Rattle.zx_gates.specs.Counting.{is_h, is_cx, is_not}
 use Rattle.zx_gates.specs.declared.gate.Gate.{Gate}
 use Rattle.zx_gates.specs.declared.gate.Gate.TheVariants.{H, Phase, Cz, Cx, Not}
-use Rattle.circuit_graph.specs.Translation.{wires, with_gate, by_hadamards, written_out, spiders_of, translated, corrected_by, table_from, translated_table}
-use Rattle.circuit_graph.specs.Internal.Runs.{State, begun, IsReady, IsGateStep, Translates}
-use Rattle.circuit_graph.specs.Internal.Runs as runs
+use Rattle.circuit_graph.specs.Translation.{wires, with_gate, by_hadamards, written_out, spiders_of, translated, translated_table}
+use Rattle.circuit_graph.specs.Internal.Runs.{begun, IsReady, Translates}
 use Rattle.circuit_graph.proofs.Beginning.{begun_ready}
-use Rattle.circuit_graph.proofs.Gates.{gate_comes}
-use Rattle.circuit_graph.proofs.Whole.{run_translates}
-use Rattle.circuit_graph.proofs.WrittenOut.{count-cons, spiders-written}
+use Rattle.circuit_graph.proofs.Wiring.{wires_formed}
+use Rattle.circuit_graph.proofs.Existing.{translates}
+use Rattle.circuit_graph.proofs.WrittenOut.{count-cons, spiders-written, count-append}
 use Rattle.move_laws.specs.Ranks.{HasFlowBy}
 use Rattle.growing_laws.specs.Growing.{placed, next_id, ids_after, grown, IsGrowing, SplitNothing, IsBasic, followed_by}
-use Rattle.growing_laws.proofs.Peeled.{placed_length, spider_peel, spider_id, spider_next, phase_peel, edge_peel}
+use Rattle.growing_laws.proofs.Peeled.{placed_length}
 use Rattle.growing_laws.proofs.RunsGrown.{run_grown, grown_scaled}
-use Rattle.growing_laws.proofs.Wiring.{wires_formed}
 
 -- ---- gates written out
 half_is_some : half_turn ≢ 0
@@ -86,51 +81,6 @@ fold_grown g [] = refl
 fold_grown g (gate ∷ gates) =
     fold_grown (with_gate g gate) gates ∙ ap₂ (λ n k. grown n k gates) (length-next g gate) (same_gate g gate)
 
--- ---- the graph of a circuit is one of it
-one_step : (s : State) (gate : Gate) → IsReady s → IsBasic gate → IsOnQubits (length s.graph.outputs) gate →
-    IsGateStep s gate (record { graph = with_gate s.graph gate; table = s.table ++ corrected_by s.graph gate })
-one_step s gate r basic on = at gate basic on
-  where
-    fresh : member (length s.graph.vertices) (ids s.graph.vertices) ≡ false
-    fresh = r.numbered (length s.graph.vertices) ∙ le-ltb (length s.graph.vertices) (length s.graph.vertices) (omega arith)
-
-    at : (gate : Gate) → IsBasic gate → IsOnQubits (length s.graph.outputs) gate →
-        IsGateStep s gate (record { graph = with_gate s.graph gate; table = s.table ++ corrected_by s.graph gate })
-    at (H q) basic on = record {
-      peel = spider_peel (length s.graph.vertices) s.graph r.well_formed fresh r.plain q on;
-      id = spider_id (length s.graph.vertices) s.graph r.well_formed fresh r.plain q on;
-      table = same_of_equal (ap₂ (λ b new. split_output_table b new s.table)
-          (sym (spider_next (length s.graph.vertices) s.graph r.well_formed fresh r.plain q on))
-          (sym (spider_id (length s.graph.vertices) s.graph r.well_formed fresh r.plain q on)));
-    }
-    at (Phase q k) basic on = record { peel = phase_peel (length s.graph.vertices) s.graph r.well_formed fresh r.plain q k on.0; table = append-nil s.table }
-    at (Cz p q) basic on = record { peel = edge_peel (length s.graph.vertices) s.graph r.well_formed fresh r.plain p q on; table = append-nil s.table }
-    at (Cx p q) basic on = absurd basic
-    at (Not q) basic on = absurd basic
-
-all_steps : (n : ℕ) (s : State) (gates : List Gate) → IsReady s → length s.graph.outputs ≡ n → All IsBasic gates → All (IsOnQubits n) gates →
-    runs.IsRun s gates (record { graph = fold with_gate s.graph gates; table = s.table ++ table_from s.graph gates })
-all_steps n s [] r outputs basic on = λ i. record { graph = s.graph; table = sym (append-nil s.table) i }
-all_steps n s (gate ∷ gates) r outputs basic on = (
-  t,
-  step,
-  subst (λ table. runs.IsRun t gates (record { graph = fold with_gate t.graph gates; table = table }))
-      (append_assoc s.table (corrected_by s.graph gate) (table_from (with_gate s.graph gate) gates))
-      (all_steps n t gates (gate_comes s gate t r step).ready ((gate_comes s gate t r step).outputs ∙ outputs) (All-tail IsBasic gate gates basic) (All-tail (IsOnQubits n) gate gates on)),
-)
-  where
-    t : State
-    t = record { graph = with_gate s.graph gate; table = s.table ++ corrected_by s.graph gate }
-
-    step : IsGateStep s gate t
-    step = one_step s gate r (All-head IsBasic gate gates basic) (subst (λ k. IsOnQubits k gate) (sym outputs) (All-head (IsOnQubits n) gate gates on))
-
-pub translates : (c : Circuit) → All (IsOnQubits c.qubits) c.gates → Translates c (record { graph = translated c; table = translated_table c })
-translates c on =
-    let ready : IsReady (begun c.qubits) = begun_ready c.qubits (wires_formed c.qubits) in
-    run_translates c _ ready on
-    (all_steps c.qubits (begun c.qubits) (written_out c.gates) ready (length-map-range_with_len plain 0 c.qubits) (all_written_basic c.gates) (all_written_on c.qubits c.gates on))
-
 -- ---- no gates
 pub wires_growing : (n : ℕ) → IsGrowing n n (wires n)
 wires_growing n =
@@ -185,9 +135,6 @@ ids_after_is new (gate ∷ gates) =
     next_is (Cz p q) = omega arith
     next_is (Cx p q) = omega arith
     next_is (Not q) = omega arith
-
-count-append : (p : Gate → Bool) (first second : List Gate) → count_by p (first ++ second) ≡ count_by p first + count_by p second
-count-append p first second = sum_by-append (λ g. cond (p g) 1 0) first second
 
 pub spiders_more : (c : Circuit) (gates : List Gate) → ids_after (spiders_of c) (written_out gates) ≡ spiders_of (followed_by c gates)
 spiders_more c gates =

@@ -1,20 +1,12 @@
 //! The laws of the graphs of circuits, and of those of longer ones.
 
-ghost use Rattle.std.specs.Prelude.{◌≡◌, ◌≤◌, ℕ, Bool, true, List, [], length};
-ghost use Rattle.zx_model.specs.Number.{mul};
-ghost use Rattle.zx_model.specs.Scalar.{IsScaled};
+ghost use Rattle.std.specs.Prelude.{◌≡◌, ℕ, List, []};
 ghost use Rattle.zx_model.specs.declared.scalar.Scalar.{Scalar};
-ghost use Rattle.zx_model.specs.Constants.{power_of_two};
-ghost use Rattle.zx_calculus.specs.Graph.{XY, Graph, plane_of, WellFormed};
-ghost use Rattle.zx_calculus.specs.Sum.{sum};
-ghost use Rattle.zx_calculus.specs.Counts.{odd_phases};
+ghost use Rattle.zx_calculus.specs.Graph.{Graph};
 ghost use Rattle.zx_calculus.specs.Steps.{Step, IsRun};
 ghost use Rattle.zx_calculus.specs.StepScalars.{IsSumTimes};
-ghost use Rattle.gflow_laws.specs.Flow.{IsFlow};
-ghost use Rattle.zx_gates.specs.Circuit.{Circuit, circuit_of, gate_odd_phases};
-ghost use Rattle.zx_gates.specs.Maps.{amp};
-ghost use Rattle.circuit_laws.specs.Peeling.{are_plain};
-ghost use Rattle.circuit_graph.specs.Translation.{wires, written_out, spiders_of, scalar_of, written_count, map_scalar, translated};
+ghost use Rattle.zx_gates.specs.Circuit.{Circuit, circuit_of};
+ghost use Rattle.circuit_graph.specs.Translation.{IsTranslation, wires, written_out, spiders_of, translated};
 ghost use Rattle.circuit_graph.specs.Translation.{translated_table};
 ghost use Rattle.move_laws.specs.Ranks.{HasFlowBy};
 ghost use Rattle.growing_laws.specs.Growing.{AreOn, ids_after, grown, IsGrowing, SplitNothing, followed_by};
@@ -31,25 +23,8 @@ pub fn growth_begins_with_wires()
 
 /// What holds of the graph of a circuit, whoever makes it.
 pub fn graphs_of_circuits()
-    ensures well_formed { (c : Circuit) → AreOn c.qubits c.gates → WellFormed (translated c) }
-    ensures flow { (c : Circuit) → AreOn c.qubits c.gates →
-        IsFlow (translated c) (translated_table c) }
-    ensures exact { (c : Circuit) → AreOn c.qubits c.gates → (x y : List Bool) →
-        length x ≡ c.qubits → length y ≡ c.qubits →
-        sum (translated c) x y ≡ mul (scalar_of c.gates) (amp c.gates x y) }
-    ensures power { (gates : List Gate) → scalar_of gates ≡ power_of_two (written_count gates) }
-    ensures scaled { (c : Circuit) → AreOn c.qubits c.gates →
-        IsScaled c.qubits c.qubits (amp c.gates) (map_scalar c.gates) (sum (translated c)) }
-    ensures spiders { (c : Circuit) → AreOn c.qubits c.gates →
-        length (translated c).vertices ≡ spiders_of c }
-    ensures planes { (c : Circuit) → AreOn c.qubits c.gates → (v : ℕ) →
-        plane_of (translated c) v ≡ XY }
-    ensures odd { (c : Circuit) → AreOn c.qubits c.gates →
-        odd_phases (translated c) ≤ gate_odd_phases c.gates }
-    ensures inputs { (c : Circuit) → AreOn c.qubits c.gates →
-        length (translated c).inputs ≡ c.qubits }
-    ensures plain_inputs { (c : Circuit) → AreOn c.qubits c.gates →
-        are_plain (translated c).inputs ≡ true }
+    ensures { (c : Circuit) → AreOn c.qubits c.gates →
+        IsTranslation c (translated c) (translated_table c) }
 {}
 
 /// More gates behind a circuit are these gates behind its graph. So a run from the graph of the

@@ -150,10 +150,7 @@ module _ (a half : Angle) (k : ℕ) (e : half_of a ≡ Ok half) (f : phase_of ha
 
   cp_events : header_events (codes "cp") (a ∷ []) (0 ∷ 1 ∷ []) ≡ cu1_calls k
   unfolding with_header angle_of gcd lowest limited phase_of literal_value decimal
-  cp_events =
-      ap₂ (λ r s. with_angle (codes "u1") 2 0 r ++ (cx_at 2 ++ (with_angle (codes "u1") 2 1 s ++ (cx_at 2 ++ (with_angle (codes "u1") 2 1 r ++ []))))) plus minus
-      ∙ ap₂ (λ r s. (Called 2 ∷ r) ++ (cx_at 2 ++ ((Called 2 ∷ s) ++ (cx_at 2 ++ ((Called 2 ∷ inner (codes "u1") 2 (half ∷ []) (1 ∷ [])) ++ []))))) (u1_plus 2 0) (u1_minus 2 1)
-      ∙ ap (λ r. u1_at k 2 0 ++ (cx_at 2 ++ (u1_at (opposite_phase k) 2 1 ++ (cx_at 2 ++ ((Called 2 ∷ r) ++ []))))) (u1_plus 2 1)
+  cp_events = cu1_events
 
   pub cp_map : HasMap (codes "cp") (a ∷ []) (0 ∷ 1 ∷ []) (controlled one (single (phase (2 * k))))
   cp_map = has_map (comes cp_events refl) (certified (cu1_certified k below))

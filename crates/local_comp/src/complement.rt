@@ -1,6 +1,6 @@
 //! The local complement about a vertex.
 
-ghost use Rattle.std.specs.Prelude.{◌≡◌, ◌≤◌, true, IsOk, IfOk, OnOk, OnErr};
+ghost use Rattle.std.specs.Prelude.{◌≡◌, true, IsOk, IfOk, OnOk, OnErr};
 ghost use Rattle.zx_model.specs.Bits.{member};
 ghost use Rattle.zx_calculus.specs.Graph.{ids, plane_of, Live, Interior, WellFormed};
 ghost use Rattle.zx_calculus.specs.Steps.{allowed, IsStep, LocalComplement};
@@ -16,6 +16,7 @@ ghost use Rattle.gflow_laws.specs.Correcting.{odd_in};
 ghost use Rattle.gflow_laws.specs.Rewritten.{IsRewritten};
 ghost use Rattle.open_graph.specs.Planes.{plane_named};
 ghost use Rattle.zx_flow.specs.Flows.{HaveReach};
+ghost use Rattle.open_graph.specs.Rooms.{IsLeft};
 
 use crate::neighbours::turn_neighbours;
 use crate::scalars::complement_scalar;
@@ -37,11 +38,10 @@ pub fn local_complement(g: &mut OpenGraph, f: &mut Flow, u: VertexId) -> Result<
     ensures scalar { IfOk result (λ s. s ≡ step_scalar g.old.graph (LocalComplement u)) }
     ensures err { OnErr result ((g.new.graph ≡ g.old.graph) × (f.new.flow ≡ f.old.flow)) }
     ensures has_room { HaveReach g.old f.old → IsOk result }
-    ensures spare { OnOk result
-        ((g.new.spare ≡ g.old.spare) × (f.new.spare ≡ f.old.spare)) }
-    ensures keeps_spare { OnErr result
-        ((g.new.spare ≡ g.old.spare) × (f.old.spare ≤ f.new.spare)) }
-    ensures reach { (g.new.reach ≡ g.old.reach) × (f.new.reach ≡ f.old.reach) }
+    ensures room { OnOk result
+        ((g.new.room ≡ g.old.room) × (f.new.room ≡ f.old.room)) }
+    ensures keeps_room { OnErr result
+        ((g.new.room ≡ g.old.room) × IsLeft f.old.room f.new.room) }
     ensures valid { WellFormed g.new.graph }
 {
     perform(g, f, &Complement { u })
@@ -66,7 +66,7 @@ impl Rewrite for Complement {
 
     ghost needs = { λ by g f. HaveReach g f };
 
-    ghost leaves = { λ by g f h k. (h.spare ≡ g.spare) × (k.spare ≡ f.spare) };
+    ghost leaves = { λ by g f h k. (h.room ≡ g.room) × (k.room ≡ f.room) };
 
     fn has_room(&self, g: &OpenGraph, f: &Flow) -> bool {
         f.has_reach(g)
@@ -84,9 +84,9 @@ pub fn local_complement_in_graph(g: &mut OpenGraph, u: VertexId) -> Result<Scala
     requires { allowed g.old.graph (LocalComplement u) ≡ true }
     ensures step { OnOk result (IsStep g.old.graph (LocalComplement u) g.new.graph) }
     ensures scalar { IfOk result (λ s. s ≡ step_scalar g.old.graph (LocalComplement u)) }
-    ensures has_room { IsBelow g.old.reach (ids g.old.graph.vertices) → IsOk result }
-    ensures spare { OnOk result (g.new.spare ≡ g.old.spare) }
-    ensures reach { g.new.reach ≡ g.old.reach }
+    ensures has_room { IsBelow g.old.room.reach (ids g.old.graph.vertices) → IsOk result }
+    ensures room { OnOk result (g.new.room ≡ g.old.room) }
+    ensures reach { g.new.room.reach ≡ g.old.room.reach }
     ensures was_valid { WellFormed g.old.graph }
     ensures valid { WellFormed g.new.graph }
 {
@@ -102,10 +102,9 @@ fn complement_sets(f: &mut Flow, g: &OpenGraph, u: VertexId) -> Result<(), Alloc
     requires live { Live g.now.graph u }
     requires there { member u (order_of f.old.flow) ≡ true }
     ensures sets { OnOk result (SameSets f.new.flow (complement_table (seen g.now.graph) u f.old.flow)) }
-    ensures has_room { IsBelow f.old.reach (order_of f.old.flow) →
-        IsBelow f.old.reach (set_of f.old.flow u) → IsOk result }
-    ensures spare { f.new.spare ≡ f.old.spare }
-    ensures reach { f.new.reach ≡ f.old.reach }
+    ensures has_room { IsBelow f.old.room.reach (order_of f.old.flow) →
+        IsBelow f.old.room.reach (set_of f.old.flow u) → IsOk result }
+    ensures room { f.new.room ≡ f.old.room }
 {
     let changes = changes_plane(g, u);
     for i in 0..f.order().len() {
@@ -132,8 +131,7 @@ fn complement_own(g: &mut OpenGraph, u: VertexId)
     requires live { Live g.old.graph u }
     requires interior { Interior g.old.graph u }
     ensures own { g.new.graph ≡ with_changed (at_vertex u complemented) g.old.graph }
-    ensures spare { g.new.spare ≡ g.old.spare }
-    ensures reach { g.new.reach ≡ g.old.reach }
+    ensures room { g.new.room ≡ g.old.room }
     ensures valid { WellFormed g.new.graph }
 {
     let (plane, phase) = g.weight(u);

@@ -1,6 +1,6 @@
 //! The deletion of a vertex of half turns.
 
-ghost use Rattle.std.specs.Prelude.{◌≡◌, ◌≤◌, ◌+◌, true, IsOk, IfOk, OnOk, OnErr};
+ghost use Rattle.std.specs.Prelude.{◌≡◌, true, IsOk, IfOk, OnOk, OnErr};
 ghost use Rattle.zx_calculus.specs.Graph.{joined, phase_of, Live, WellFormed};
 ghost use Rattle.zx_calculus.specs.Steps.{allowed, Delete, IsStep};
 ghost use Rattle.zx_calculus.specs.Deletions.{delete_kind};
@@ -9,6 +9,7 @@ ghost use Rattle.zx_calculus.specs.StepScalars.{step_scalar};
 ghost use Rattle.gflow_laws.specs.Flow.{IsFlow};
 ghost use Rattle.gflow_laws.specs.Rewritten.{IsRewritten};
 ghost use Rattle.zx_flow.specs.Flows.{HaveReach};
+ghost use Rattle.open_graph.specs.Rooms.{with_place, IsLeft};
 
 use crate::neighbours::turn_neighbours;
 use crate::scalars::delete_scalar;
@@ -29,11 +30,10 @@ pub fn delete(g: &mut OpenGraph, f: &mut Flow, u: VertexId) -> Result<Scalar, Al
     ensures scalar { IfOk result (λ s. s ≡ step_scalar g.old.graph (Delete u)) }
     ensures err { OnErr result ((g.new.graph ≡ g.old.graph) × (f.new.flow ≡ f.old.flow)) }
     ensures has_room { HaveReach g.old f.old → IsOk result }
-    ensures spare { OnOk result
-        ((g.new.spare ≡ g.old.spare + 1) × (f.new.spare ≡ f.old.spare + 1)) }
-    ensures keeps_spare { OnErr result
-        ((g.new.spare ≡ g.old.spare) × (f.old.spare ≤ f.new.spare)) }
-    ensures reach { (g.new.reach ≡ g.old.reach) × (f.new.reach ≡ f.old.reach) }
+    ensures room { OnOk result
+        ((g.new.room ≡ with_place g.old.room) × (f.new.room ≡ with_place f.old.room)) }
+    ensures keeps_room { OnErr result
+        ((g.new.room ≡ g.old.room) × IsLeft f.old.room f.new.room) }
     ensures valid { WellFormed g.new.graph }
 {
     perform(g, f, &Deletion { u })
@@ -62,7 +62,7 @@ impl Rewrite for Deletion {
 
     ghost needs = { λ by g f. HaveReach g f };
 
-    ghost leaves = { λ by g f h k. (h.spare ≡ g.spare + 1) × (k.spare ≡ f.spare + 1) };
+    ghost leaves = { λ by g f h k. (h.room ≡ with_place g.room) × (k.room ≡ with_place f.room) };
 
     fn has_room(&self, g: &OpenGraph, f: &Flow) -> bool {
         f.has_reach(g)
@@ -80,8 +80,7 @@ pub fn delete_in_graph(g: &mut OpenGraph, u: VertexId) -> Scalar
     requires { allowed g.old.graph (Delete u) ≡ true }
     ensures step { IsStep g.old.graph (Delete u) g.new.graph }
     ensures scalar { result ≡ step_scalar g.old.graph (Delete u) }
-    ensures spare { g.new.spare ≡ g.old.spare + 1 }
-    ensures reach { g.new.reach ≡ g.old.reach }
+    ensures room { g.new.room ≡ with_place g.old.room }
     ensures was_valid { WellFormed g.old.graph }
     ensures valid { WellFormed g.new.graph }
 {
@@ -96,8 +95,7 @@ fn pass_half_turn(g: &mut OpenGraph, u: VertexId)
     requires { Live g.old.graph u }
     ensures turned { let near = joined g.old.graph.edges u in
         g.new.graph ≡ with_changed (delete_kind (phase_of g.old.graph u) near) g.old.graph }
-    ensures spare { g.new.spare ≡ g.old.spare }
-    ensures reach { g.new.reach ≡ g.old.reach }
+    ensures room { g.new.room ≡ g.old.room }
     ensures was_valid { WellFormed g.old.graph }
 {
     let (_, phase) = g.weight(u);

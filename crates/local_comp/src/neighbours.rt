@@ -12,8 +12,7 @@ pub(crate) fn turn_neighbours(g: &mut OpenGraph, u: VertexId)
     requires { Live g.old.graph u }
     ensures turned { let near = neighbours g.old.graph u in
         g.new.graph ≡ with_changed (changed_in near quarter_turned) g.old.graph }
-    ensures spare { g.new.spare ≡ g.old.spare }
-    ensures reach { g.new.reach ≡ g.old.reach }
+    ensures room { g.new.room ≡ g.old.room }
     ensures valid { WellFormed g.new.graph }
 {
     let mut start = 0;

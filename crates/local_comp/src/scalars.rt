@@ -4,8 +4,13 @@ ghost use Rattle.std.specs.Prelude.{◌≡◌, true};
 ghost use Rattle.zx_model.specs.Scalar.{IsWithin};
 ghost use Rattle.zx_calculus.specs.Graph.{neighbours, Live, WellFormed};
 ghost use Rattle.zx_calculus.specs.Steps.{allowed, Delete, LocalComplement};
-ghost use Rattle.zx_calculus.specs.StepScalars.{step_scalar, turn_by, complement_scalar_in, delete_scalar_in, quarter_powers, half_powers};
+ghost use Rattle.zx_calculus.specs.StepScalars.{step_scalar};
+ghost use Rattle.zx_calculus.specs.Scalars.{turn_by};
+ghost use Rattle.zx_calculus.specs.Complements.{complement_scalar_in};
+ghost use Rattle.zx_calculus.specs.Deletions.{delete_scalar_in};
+ghost use Rattle.zx_calculus.specs.Turns.{in_plane};
 ghost use Rattle.open_graph.specs.Planes.{plane_named};
+ghost use Rattle.local_comp.specs.Internal.Powers.{power_of, powers_of};
 
 use open_graph::{OpenGraph, Plane, VertexId};
 use zx_model::{Scalar, Sixteenth};
@@ -18,7 +23,7 @@ pub(crate) fn complement_scalar(g: &OpenGraph, u: VertexId) -> Scalar
     ensures valid { WellFormed g.now.graph }
 {
     let (plane, phase) = g.weight(u);
-    own_complement_scalar(plane, phase).times(turn_by(quarter_powers(g, u)))
+    own_complement_scalar(plane, phase).times(turn_by(powers(g, u, Turn::Quarter)))
 }
 
 // The scalar of the deletion of a vertex: the sum before is so many times the sum after.
@@ -29,7 +34,7 @@ pub(crate) fn delete_scalar(g: &OpenGraph, u: VertexId) -> Scalar
 {
     let (plane, phase) = g.weight(u);
     if phase == Sixteenth::half_turn() {
-        own_delete_scalar(plane).times(turn_by(half_powers(g, u)))
+        own_delete_scalar(plane).times(turn_by(powers(g, u, Turn::Half)))
     } else {
         Scalar {
             root2: 2,
@@ -75,28 +80,34 @@ fn turn_by(turn: Sixteenth) -> Scalar
     Scalar { root2: 0, turn }
 }
 
-// The power of z that a quarter turn of each neighbour of a vertex gives.
-fn quarter_powers(g: &OpenGraph, u: VertexId) -> Sixteenth
+// The power of z that a quarter or a half turn of each neighbour of a vertex gives.
+fn powers(g: &OpenGraph, u: VertexId, turn: Turn) -> Sixteenth
     requires { Live g.now.graph u }
-    ensures value { result ≡ quarter_powers g.now.graph (neighbours g.now.graph u) }
+    ensures value { result ≡ powers_of turn g.now.graph (neighbours g.now.graph u) }
 {
     let mut sum = Sixteenth::new(0);
     for p in g.neighbours(u) {
         let (plane, phase) = g.weight(p);
-        sum = sum.add(plane.quarter_power(phase));
+        sum = sum.add(turn.power(plane, phase));
     }
     sum
 }
 
-// The power of z that a half turn of each neighbour of a vertex gives.
-fn half_powers(g: &OpenGraph, u: VertexId) -> Sixteenth
-    requires { Live g.now.graph u }
-    ensures value { result ≡ half_powers g.now.graph (neighbours g.now.graph u) }
-{
-    let mut sum = Sixteenth::new(0);
-    for p in g.neighbours(u) {
-        let (plane, phase) = g.weight(p);
-        sum = sum.add(plane.half_power(phase));
+// How far a vertex is turned.
+#[derive(Clone, Copy)]
+enum Turn {
+    Quarter,
+    Half,
+}
+
+impl Turn {
+    // The power of z that it gives.
+    fn power(self, plane: Plane, phase: Sixteenth) -> Sixteenth
+        ensures { result ≡ power_of self (in_plane (plane_named plane) phase) }
+    {
+        match self {
+            Turn::Quarter => plane.quarter_power(phase),
+            Turn::Half => plane.half_power(phase),
+        }
     }
-    sum
 }

@@ -7,13 +7,13 @@ use Rattle.zx_calculus.specs.Counts.{has_input, has_output}
 use Rattle.zx_calculus.specs.Edits.{KeepsEnds}
 use Rattle.zx_calculus.specs.Splits.{new_vertex, least_free_from, spider_of_phase_zero, move_end}
 use Rattle.zx_calculus.specs.Steps.{Step, IsStep, IsRun, LocalComplement, Delete, Pivot, SplitInput, SplitOutput, DropLone, FuseInto, FuseTwin}
-use Rattle.zx_calculus.proofs.Booleans.{and-false, and-true}
+use Rattle.zx_calculus.proofs.Booleans.{and_comm, and-false}
 use Rattle.zx_calculus.proofs.CountLemmas.{Test, count, count_front, count-with_kinds, count_apart, count-insert}
 use Rattle.zx_calculus.proofs.Counting.{Change, YZ_apart}
-use Rattle.zx_calculus.proofs.Forms.{ids-without}
+use Rattle.zx_calculus.proofs.Forms.{ids-without, length-ids}
 use Rattle.zx_calculus.proofs.Ids.{by_test, by_equal, and-left, and-right, not-true, apart_of_member, member-removed_other}
 use Rattle.zx_calculus.proofs.Programs.{end_there}
-use Rattle.zx_calculus.proofs.Splits.{member-move_end-old, member-move_end-other}
+use Rattle.zx_calculus.proofs.Splits.{mirrored, mirrored_formed, mirrored_split, member-move_end-old, member-move_end-other}
 use Rattle.zx_calculus.proofs.Splitting.{absent_from, distinct, interior_of, off_XY, member-without}
 use Rattle.zx_calculus.proofs.Steps.{step_kept}
 use Rattle.zx_calculus.proofs.Vertices.{ids-with_kinds, member-insert}
@@ -122,22 +122,14 @@ split_input g b h w c =
     apart : b ≢ new_vertex g
     apart = apart_of_member b (new_vertex g) (ids g.vertices) there c.fresh
 
+mirrored_demand : (g : Graph) → demand (mirrored g) ≡ demand g
+mirrored_demand g = λ i. length g.vertices + count (λ p k. and_comm (member p (end_vertices g.outputs)) (member p (end_vertices g.inputs)) i) g.vertices
+
 pub split_output : (g : Graph) (b : ℕ) (h : Graph) → WellFormed g → IsStep g (SplitOutput b) h → demand h + one_if (has_input g b) ≡ demand g + 1
 split_output g b h w c =
-    ap (λ t. demand h + one_if t) (sym (ap (λ t. has_input g b && t) c.has_output ∙ and-true (has_input g b)))
-    ∙ split g h b (new_vertex g) w c.fresh there c.vertices
-    (λ p k. member p (end_vertices g.inputs) && member p (end_vertices (move_end b (new_vertex g) g.outputs)))
-    (ap (λ t. t && member (new_vertex g) (end_vertices (move_end b (new_vertex g) g.outputs)))
-    (absent_from (ids g.vertices) (end_vertices g.inputs) (new_vertex g) w.inputs.there c.fresh))
-    (ap (λ t. member b (end_vertices g.inputs) && t) (member-move_end-old b (new_vertex g) g.outputs apart) ∙ and-false _)
-    (λ p n m. ap (λ t. member p (end_vertices g.inputs) && t) (member-move_end-other b (new_vertex g) g.outputs p n m))
-    (ap₂ (λ ins outs. count (λ p k. member p (end_vertices ins) && member p (end_vertices outs)) h.vertices) c.inputs c.outputs)
-  where
-    there : Live g b
-    there = end_there g w b g.outputs w.outputs.there c.has_output
-
-    apart : b ≢ new_vertex g
-    apart = apart_of_member b (new_vertex g) (ids g.vertices) there c.fresh
+    ap (λ n. n + one_if (has_input g b)) (sym (mirrored_demand h))
+    ∙ split_input (mirrored g) b (mirrored h) (mirrored_formed g w) (mirrored_split g b (new_vertex g) h c)
+    ∙ ap (λ n. n + 1) (mirrored_demand g)
 
 -- ---- steps one after the other
 
@@ -181,10 +173,6 @@ least_within n (x ∷ xs) =
     by_test (eqb n x)
     (λ t. let rest : least_free_from (suc n) xs ≤ suc n + length xs = least_within (suc n) xs in rw t (omega (arith, rest)))
     (λ f. rw f (omega arith))
-
-length-ids : (vs : List Vertex) → length (ids vs) ≡ length vs
-length-ids [] = refl
-length-ids (v ∷ vs) = ap (λ n. suc n) (length-ids vs)
 
 pub new_within : (g : Graph) → WellFormed g → new_vertex g ≤ length g.vertices
 new_within g w = let le = least_within 0 (ids g.vertices) in let is = length-ids g.vertices in omega (arith, le, is)

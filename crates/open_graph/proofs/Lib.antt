@@ -11,3 +11,4 @@ pub mod RowToggles
 pub mod NearLemmas
 pub mod RoomLemmas
 pub mod ReachLemmas
+pub mod Seeing

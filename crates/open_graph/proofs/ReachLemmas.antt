@@ -68,6 +68,23 @@ keeps_put reach xs u s t here row =
     at : (p : ℕ) → p ≡ u → slice_index_or (set xs u (Some s)) p None ≡ Some s
     at p e = ap (λ q. slice_index_or (set xs u (Some s)) q None) e ∙ get_or-set_same xs u (Some s) None (place_within xs u t here)
 
+-- the same where the row keeps room up to a bound, which is the reach for a vertex below it
+module _ (reach bound : ℕ) (xs : List (Option Slot)) (u at : ℕ) (t : Slot) (is : at ≡ u) (here : slice_index_or xs at None ≡ Some t)
+    (below : u < reach → bound ≡ reach) where
+  pub keeps_bounded : (s : Slot) → (bound ≤ t.row.room → bound ≤ s.row.room) → KeepsRoom reach xs (set xs at (Some s))
+  keeps_bounded s row =
+      keeps_put reach xs at s t here
+      (λ lt le.
+      let bounded = below (omega (arith, lt, is)) in
+      let kept = row (omega (arith, bounded, le)) in
+      omega (arith, bounded, kept))
+
+  pub rows_bounded : HasRows reach xs → u < reach → bound ≤ t.row.room
+  rows_bounded rows lt =
+      let bounded = below lt in
+      let le = rows_at reach xs at t rows here (omega (arith, lt, is)) in
+      omega (arith, bounded, le)
+
 -- another row of the same vertices
 pub same_put : (xs : List (Option Slot)) (u : ℕ) (row : VertexSet) (t : Slot) → slice_index_or xs u None ≡ Some t →
     row.ids ≡ t.row.ids → SameTold xs (set xs u (Some (record t { row = row })))

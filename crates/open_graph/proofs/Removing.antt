@@ -35,6 +35,11 @@ member-take_more (x ∷ xs) (suc k) w lt is p = ap (λ b. eqb p x || b) (member-
     or_swap true false c = refl
     or_swap false b c = refl
 
+-- only the row differs
+only_row : (v : ℕ) (b : Bool) (t : Told) → cond b (without_neighbour v t) t ≡ record t { row = cond b (removed v t.row) t.row }
+only_row v true t = refl
+only_row v false t = refl
+
 without_twice : (v : ℕ) (t : Told) → without_neighbour v (without_neighbour v t) ≡ without_neighbour v t
 without_twice v t = ap {B = Told} (λ r. record t { row = r }) (removed-absent v (removed v t.row) (member-removed v t.row))
 
@@ -62,12 +67,8 @@ module _ (old : List (Option Slot)) (v : ℕ) (symmetric : (p q : ℕ) → adjac
   neighbour_contained now w rows before near =
       some_of_live (slice_index_or now w None)
       (ap (λ t. t.live) (before w ∙ ap (λ b. cond b nothing (cond (member w rows) (without_neighbour v (told old w)) (told old w))) (ne_eqb w v (neighbour_apart w near)))
-      ∙ either (member w rows) (told old w)
+      ∙ ap (λ t. t.live) (only_row v (member w rows) (told old w))
       ∙ by_test (told old w).live (λ t. t) (λ f. absurd (true≢false (sym near ∙ symmetric v w ∙ ap (member v) (row_of_dead _ f)))))
-    where
-      either : (b : Bool) (t : Told) → (cond b (without_neighbour v t) t).live ≡ t.live
-      either true t = refl
-      either false t = refl
 
 -- with its mention gone from the rows of all neighbours, slots tell the graph without the vertex
 keeps_removed : (old new : List (Option Slot)) (h : Graph) (v : ℕ) → WellFormed h → Interior h v → Keeps old h → RemovedFrom old new v (told old v).row → Keeps new (removal h v)
@@ -75,40 +76,26 @@ keeps_removed old new h v w interior k gone =
     record {
       live = λ p. by_equal p v
           (λ t e. ap (λ x. x.live) (at p t) ∙ sym (ap (λ q. member q (ids (without v h.vertices))) e ∙ member-without v h.vertices))
-          (λ f n. ap (λ x. x.live) (off p f) ∙ live_either (member p (told old v).row) (told old p) ∙ k.live p ∙ sym (ap (member p) (ids-without v h.vertices) ∙ member-removed_other p v (ids h.vertices) n));
+          (λ f n. ap (λ x. x.live) (off p f) ∙ k.live p ∙ sym (ap (member p) (ids-without v h.vertices) ∙ member-removed_other p v (ids h.vertices) n));
       kind = λ p t. by_equal p v (λ s e. absurd (true≢false (sym t ∙ ap (λ x. x.live) (at p s))))
-          (λ f n. ap (λ x. x.kind) (off p f) ∙ kind_either (member p (told old v).row) (told old p)
-          ∙ k.kind p (sym (ap (λ x. x.live) (off p f) ∙ live_either (member p (told old v).row) (told old p)) ∙ t) ∙ sym (kind_of-without p v h.vertices n));
+          (λ f n. ap (λ x. x.kind) (off p f) ∙ k.kind p (sym (ap (λ x. x.live) (off p f)) ∙ t) ∙ sym (kind_of-without p v h.vertices n));
       adjacent = rows;
       input = λ p. by_equal p v
           (λ t e. ap (λ x. x.input) (at p t) ∙ sym (ap (λ q. place_of q h.inputs) e ∙ place_of-absent v h.inputs interior.no_input))
-          (λ f n. ap (λ x. x.input) (off p f) ∙ input_either (member p (told old v).row) (told old p) ∙ k.input p);
+          (λ f n. ap (λ x. x.input) (off p f) ∙ k.input p);
       output = λ p. by_equal p v
           (λ t e. ap (λ x. x.output) (at p t) ∙ sym (ap (λ q. place_of q h.outputs) e ∙ place_of-absent v h.outputs interior.no_output))
-          (λ f n. ap (λ x. x.output) (off p f) ∙ output_either (member p (told old v).row) (told old p) ∙ k.output p);
+          (λ f n. ap (λ x. x.output) (off p f) ∙ k.output p);
     }
   where
     at : (p : ℕ) → eqb p v ≡ true → told new p ≡ nothing
     at p t = gone p ∙ ap (λ b. cond b nothing (cond (member p (told old v).row) (without_neighbour v (told old p)) (told old p))) t
 
-    off : (p : ℕ) → eqb p v ≡ false → told new p ≡ cond (member p (told old v).row) (without_neighbour v (told old p)) (told old p)
-    off p f = gone p ∙ ap (λ b. cond b nothing (cond (member p (told old v).row) (without_neighbour v (told old p)) (told old p))) f
-
-    live_either : (b : Bool) (t : Told) → (cond b (without_neighbour v t) t).live ≡ t.live
-    live_either true t = refl
-    live_either false t = refl
-
-    kind_either : (b : Bool) (t : Told) → (cond b (without_neighbour v t) t).kind ≡ t.kind
-    kind_either true t = refl
-    kind_either false t = refl
-
-    input_either : (b : Bool) (t : Told) → (cond b (without_neighbour v t) t).input ≡ t.input
-    input_either true t = refl
-    input_either false t = refl
-
-    output_either : (b : Bool) (t : Told) → (cond b (without_neighbour v t) t).output ≡ t.output
-    output_either true t = refl
-    output_either false t = refl
+    off : (p : ℕ) → eqb p v ≡ false →
+        told new p ≡ record (told old p) { row = cond (member p (told old v).row) (removed v (told old p).row) (told old p).row }
+    off p f =
+        gone p ∙ ap (λ b. cond b nothing (cond (member p (told old v).row) (without_neighbour v (told old p)) (told old p))) f
+        ∙ only_row v (member p (told old v).row) (told old p)
 
     after : IsRemoval h v (removal h v)
     after = removal_is_removal h v w
@@ -120,13 +107,13 @@ keeps_removed old new h v w interior k gone =
     symmetric p q = k.adjacent p q ∙ joined_comm h.edges p q ∙ sym (k.adjacent q p)
 
     -- v stands in no row that is left
-    mention : (b : Bool) (t : Told) → member v t.row ≡ b → member v (cond b (without_neighbour v t) t).row ≡ false
-    mention true t m = member-removed v t.row
-    mention false t m = m
+    mention : (b : Bool) (row : List ℕ) → member v row ≡ b → member v (cond b (removed v row) row) ≡ false
+    mention true row m = member-removed v row
+    mention false row m = m
 
-    others : (b : Bool) (t : Told) (q : ℕ) → q ≢ v → member q (cond b (without_neighbour v t) t).row ≡ member q t.row
-    others true t q n = member-removed_other q v t.row n
-    others false t q n = refl
+    others : (b : Bool) (row : List ℕ) (q : ℕ) → q ≢ v → member q (cond b (removed v row) row) ≡ member q row
+    others true row q n = member-removed_other q v row n
+    others false row q n = refl
 
     rows : (p q : ℕ) → adjacent new p q ≡ joined (removal h v).edges p q
     rows p q =
@@ -134,10 +121,10 @@ keeps_removed old new h v w interior k gone =
         (λ t e. ap (λ x. member q x.row) (at p t) ∙ sym (ap (λ r. joined (removal h v).edges r q) e ∙ not_there q))
         (λ f n. by_equal q v
         (λ s e. ap (λ x. member q x.row) (off p f)
-        ∙ ap (λ r. member r (cond (member p (told old v).row) (without_neighbour v (told old p)) (told old p)).row) e
-        ∙ mention (member p (told old v).row) (told old p) (symmetric p v)
+        ∙ ap (λ r. member r (cond (member p (told old v).row) (removed v (told old p).row) (told old p).row)) e
+        ∙ mention (member p (told old v).row) (told old p).row (symmetric p v)
         ∙ sym (ap (joined (removal h v).edges p) e ∙ joined_comm (removal h v).edges p v ∙ not_there p))
-        (λ s m. ap (λ x. member q x.row) (off p f) ∙ others (member p (told old v).row) (told old p) q m ∙ k.adjacent p q ∙ sym (after.edges p q n m)))
+        (λ s m. ap (λ x. member q x.row) (off p f) ∙ others (member p (told old v).row) (told old p).row q m ∙ k.adjacent p q ∙ sym (after.edges p q n m)))
 
 pub becomes_removed : (old new : List (Option Slot)) (inputs outputs : List End) → IsSound old inputs outputs → (v : ℕ) → Interior (graph_of old inputs outputs) v → RemovedFrom old new v (told old v).row → Becomes new inputs outputs (removal (graph_of old inputs outputs) v)
 becomes_removed old new inputs outputs sound v interior gone =

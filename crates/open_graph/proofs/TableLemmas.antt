@@ -9,6 +9,8 @@ use Rattle.zx_bits.proofs.Vectors.{length-flipped, bit-flipped, place_within}
 use Rattle.open_graph.specs.declared.slot.Slot.{Slot}
 use Rattle.open_graph.specs.Internal.Table.{IsFreeRow}
 use Rattle.open_graph.specs.Internal.Slots.{told}
+use Rattle.open_graph.specs.Internal.Room.{vacant_in}
+use Rattle.open_graph.proofs.RoomLemmas.{vacant-none}
 use Rattle.open_graph.proofs.SlotLemmas.{live_if_some}
 
 -- an entry and its bit are changed
@@ -51,12 +53,15 @@ module _ (slots : List (Option Slot)) (free : BitRow) (row : IsFreeRow slots fre
       turned true e = sym e
       turned false e = refl
 
-  pub all_taken : ((v : ℕ) → bit free.bits v ≡ false) → (p : ℕ) → p < length slots → is_some (slice_index_or slots p None) ≡ true
+  all_taken : ((v : ℕ) → bit free.bits v ≡ false) → (p : ℕ) → p < length slots → is_some (slice_index_or slots p None) ≡ true
   all_taken none p lt = turned (is_some (slice_index_or slots p None)) (sym (row.vacant p lt) ∙ none p)
     where
       turned : (b : Bool) → not b ≡ false → b ≡ true
       turned true e = refl
       turned false e = sym e
+
+  pub none_vacant : ((v : ℕ) → bit free.bits v ≡ false) → vacant_in slots ≡ 0
+  none_vacant none = vacant-none slots (all_taken none)
 
   -- a free entry takes a slot
   pub row_filled : (new : BitRow) (v : ℕ) (slot : Slot) → bit free.bits v ≡ true → new.bits ≡ flipped free.bits v →

@@ -28,9 +28,6 @@ impl<'a> Iterator for Ids<'a> {
     ghost remaining = { item_count (λ rest. rest) };
 
     fn next(&mut self) -> Option<VertexId> {
-        match self.numbers.next() {
-            Some(number) => Some(VertexId::new(number)),
-            None => None,
-        }
+        self.numbers.next().map(VertexId::new)
     }
 }

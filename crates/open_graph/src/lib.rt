@@ -1,12 +1,13 @@
 //! Open graphs in memory: vertices with planes and phases, edges, inputs and outputs.
 //!
 //! Proved: each call makes its one named change of the graph's lists, and all else stays; the graph
-//! stays well-formed; a new id is the least that no vertex has; readers tell the lists, neighbours
-//! and vertices by rising id; a copy has the same lists; want of memory leaves them as they were,
-//! but leaves no vertex where it stops one of the calls that toggle whole rows. A graph tells how
-//! many vertices it takes without memory, and its reach, below which any edges are toggled without
-//! memory; a set of vertices tells below which bound it takes any id without memory; `reserve` raises
-//! each, no call lowers a reach, and a copy has as many places for vertices and the same reach.
+//! stays well-formed; a new id is the least that no vertex has, and ids are below 2^32; readers tell
+//! the lists, neighbours and vertices by rising id; a copy has the same lists; want of memory leaves
+//! them as they were, but leaves no vertex where it stops one of the calls that toggle whole rows. A
+//! graph tells how many vertices it takes without memory, and its reach, below which any edges are
+//! toggled without memory; a set of vertices tells below which bound it takes any id without memory;
+//! `reserve` raises each, no call lowers a reach, and a copy has as many places for vertices and the
+//! same reach.
 //!
 //! Inside:
 //!

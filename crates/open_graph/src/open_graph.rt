@@ -13,6 +13,8 @@ ghost use Rattle.zx_calculus.specs.Toggles.{IsToggled, across, among};
 ghost use Rattle.zx_bits.specs.Rows.{IsFirstFrom};
 ghost use Rattle.zx_bits.specs.Sets.{IsBelow};
 ghost use Rattle.open_graph.specs.Planes.{plane_named};
+ghost use Rattle.open_graph.specs.OpenGraph.{most_vertices_in_memory};
+ghost use Rattle.open_graph.specs.Rooms.{without_place, with_place, IsLeft, IsAtLeast};
 ghost use Rattle.open_graph.specs.Internal.Slots.{Tells};
 
 use crate::end::End;
@@ -32,6 +34,7 @@ use zx_model::Sixteenth;
 
 /// An open graph: vertices with planes and phases, edges, and lists of inputs and outputs. It has a
 /// reach, 0 at first: edges between vertices whose ids are below it are toggled without memory.
+/// Ids are below 2^32: a call that would go past that fails as where memory runs out.
 #[derive(Drop)]
 pub struct OpenGraph {
     alloc: Global,
@@ -56,8 +59,7 @@ impl Model for OpenGraph {
 
     ghost view = { λ g. record {
       graph = graph_of g.slots.slots g.inputs.items g.outputs.items;
-      spare = vacant_in g.slots.slots;
-      reach = g.reach;
+      room = record { spare = vacant_in g.slots.slots; reach = g.reach };
     } };
 
     ghost invariant = { λ g.
@@ -80,8 +82,8 @@ impl OpenGraph {
         }
     }
 
-    /// Adds a vertex without edges and ends, of the least id that is free. Where memory runs out the
-    /// graph stays as it was.
+    /// Adds a vertex without edges and ends, of the least id that is free. Where memory runs out, and
+    /// where that id isn't below 2^32, the graph stays as it was.
     pub fn add_vertex(&mut self, plane: Plane, phase: Sixteenth) -> Result<VertexId, AllocError>
         ensures fresh { IfOk result (λ v. member v (ids self.old.graph.vertices) ≡ false) }
         ensures least { IfOk result (λ v. v ≡ least_free (ids self.old.graph.vertices)) }
@@ -89,14 +91,12 @@ impl OpenGraph {
           vertices = insert_vertex (vertex v (plane_named plane) phase) self.old.graph.vertices;
         }) }
         ensures err { OnErr result (self.new.graph ≡ self.old.graph) }
-        ensures has_room { 0 < self.old.spare → IsOk result }
-        ensures spare { OnOk result (self.new.spare ≡ self.old.spare - 1) }
-        ensures same_spare { OnErr result (self.new.spare ≡ self.old.spare) }
-        ensures reach { self.new.reach ≡ self.old.reach }
+        ensures has_room { 0 < self.old.room.spare → IsOk result }
+        ensures room { OnOk result (self.new.room ≡ without_place self.old.room) }
+        ensures same_room { OnErr result (self.new.room ≡ self.old.room) }
         ensures valid { WellFormed self.new.graph }
     {
-        let v = slots::add(&mut self.slots, &mut self.kept, self.alloc, plane, phase)?;
-        Ok(v)
+        slots::add(&mut self.slots, &mut self.kept, self.alloc, plane, phase)
     }
 
     /// Adds an input after all others. Where memory runs out the graph stays as it was.
@@ -107,12 +107,10 @@ impl OpenGraph {
         ensures ok { OnOk result (self.new.graph ≡
             record self.old.graph { inputs = self.old.graph.inputs ++ end ∷ [] }) }
         ensures err { OnErr result (self.new.graph ≡ self.old.graph) }
-        ensures room { self.new.spare ≡ self.old.spare }
-        ensures reach { self.new.reach ≡ self.old.reach }
+        ensures room { self.new.room ≡ self.old.room }
         ensures valid { WellFormed self.new.graph }
     {
-        side::add_end(&mut self.inputs, &mut self.slots, Side::Input, end)?;
-        Ok(())
+        side::add_end(&mut self.inputs, &mut self.slots, Side::Input, end)
     }
 
     /// Adds an output after all others. Where memory runs out the graph stays as it was.
@@ -123,12 +121,10 @@ impl OpenGraph {
         ensures ok { OnOk result (self.new.graph ≡
             record self.old.graph { outputs = self.old.graph.outputs ++ end ∷ [] }) }
         ensures err { OnErr result (self.new.graph ≡ self.old.graph) }
-        ensures room { self.new.spare ≡ self.old.spare }
-        ensures reach { self.new.reach ≡ self.old.reach }
+        ensures room { self.new.room ≡ self.old.room }
         ensures valid { WellFormed self.new.graph }
     {
-        side::add_end(&mut self.outputs, &mut self.slots, Side::Output, end)?;
-        Ok(())
+        side::add_end(&mut self.outputs, &mut self.slots, Side::Output, end)
     }
 
     /// Replaces the input at a place.
@@ -138,8 +134,7 @@ impl OpenGraph {
         requires plane { plane_of self.old.graph end.vertex ≡ zx.XY }
         requires free { member end.vertex (end_vertices (remove self.old.graph.inputs i)) ≡ false }
         ensures ok { self.new.graph ≡ record self.old.graph { inputs = slice_set self.old.graph.inputs i end } }
-        ensures room { self.new.spare ≡ self.old.spare }
-        ensures reach { self.new.reach ≡ self.old.reach }
+        ensures room { self.new.room ≡ self.old.room }
         ensures valid { WellFormed self.new.graph }
     {
         side::move_end(&mut self.inputs, &mut self.slots, Side::Input, i, end);
@@ -152,8 +147,7 @@ impl OpenGraph {
         requires plane { plane_of self.old.graph end.vertex ≡ zx.XY }
         requires free { member end.vertex (end_vertices (remove self.old.graph.outputs i)) ≡ false }
         ensures ok { self.new.graph ≡ record self.old.graph { outputs = slice_set self.old.graph.outputs i end } }
-        ensures room { self.new.spare ≡ self.old.spare }
-        ensures reach { self.new.reach ≡ self.old.reach }
+        ensures room { self.new.room ≡ self.old.room }
         ensures valid { WellFormed self.new.graph }
     {
         side::move_end(&mut self.outputs, &mut self.slots, Side::Output, i, end);
@@ -164,8 +158,7 @@ impl OpenGraph {
         requires live { Live self.old.graph v }
         requires interior { Interior self.old.graph v }
         ensures ok { IsRemoval self.old.graph v self.new.graph }
-        ensures spare { self.new.spare ≡ self.old.spare + 1 }
-        ensures reach { self.new.reach ≡ self.old.reach }
+        ensures room { self.new.room ≡ with_place self.old.room }
         ensures valid { WellFormed self.new.graph }
     {
         slots::remove(&mut self.slots, &mut self.kept, v);
@@ -179,13 +172,11 @@ impl OpenGraph {
         requires different { u ≢ v }
         ensures ok { OnOk result (IsToggle self.old.graph u v self.new.graph) }
         ensures err { OnErr result (self.new.graph ≡ self.old.graph) }
-        ensures room { self.new.spare ≡ self.old.spare }
-        ensures reach { self.new.reach ≡ self.old.reach }
-        ensures has_room { u < self.old.reach → v < self.old.reach → IsOk result }
+        ensures room { self.new.room ≡ self.old.room }
+        ensures has_room { u < self.old.room.reach → v < self.old.room.reach → IsOk result }
         ensures valid { WellFormed self.new.graph }
     {
-        slots::toggle(&mut self.slots, self.reach, u, v)?;
-        Ok(())
+        slots::toggle(&mut self.slots, self.reach, u, v)
     }
 
     /// Toggles each edge between a vertex on the left and one on the right: twice, so not at all,
@@ -198,19 +189,21 @@ impl OpenGraph {
             (IsToggled self.old.graph (across left.now.ids right.now.ids) self.new.graph) }
         ensures err { OnErr result (self.new.graph ≡
             record { vertices = []; edges = []; inputs = []; outputs = [] }) }
-        ensures room { OnOk result (self.new.spare ≡ self.old.spare) }
-        ensures keeps_spare { self.old.spare ≤ self.new.spare }
-        ensures reach { self.new.reach ≡ self.old.reach }
-        ensures has_room { IsBelow self.old.reach left.now.ids →
-            IsBelow self.old.reach right.now.ids → IsOk result }
+        ensures room { OnOk result (self.new.room ≡ self.old.room) }
+        ensures left { IsLeft self.old.room self.new.room }
+        ensures has_room { IsBelow self.old.room.reach left.now.ids →
+            IsBelow self.old.room.reach right.now.ids → IsOk result }
         ensures was_valid { WellFormed self.old.graph }
         ensures valid { WellFormed self.new.graph }
     {
         if let Err(error) = slots::toggle_across(&mut self.slots, self.reach, left, right) {
             // Some edges may stand in one of their two rows alone.
-            slots::clear(&mut self.slots, &mut self.kept);
-            self.inputs.clear();
-            self.outputs.clear();
+            side::clear(
+                &mut self.slots,
+                &mut self.kept,
+                &mut self.inputs,
+                &mut self.outputs,
+            );
             return Err(error);
         }
         Ok(())
@@ -223,18 +216,20 @@ impl OpenGraph {
         ensures ok { OnOk result (IsToggled self.old.graph (among vertices.now.ids) self.new.graph) }
         ensures err { OnErr result (self.new.graph ≡
             record { vertices = []; edges = []; inputs = []; outputs = [] }) }
-        ensures room { OnOk result (self.new.spare ≡ self.old.spare) }
-        ensures keeps_spare { self.old.spare ≤ self.new.spare }
-        ensures reach { self.new.reach ≡ self.old.reach }
-        ensures has_room { IsBelow self.old.reach vertices.now.ids → IsOk result }
+        ensures room { OnOk result (self.new.room ≡ self.old.room) }
+        ensures left { IsLeft self.old.room self.new.room }
+        ensures has_room { IsBelow self.old.room.reach vertices.now.ids → IsOk result }
         ensures was_valid { WellFormed self.old.graph }
         ensures valid { WellFormed self.new.graph }
     {
         if let Err(error) = slots::toggle_among(&mut self.slots, self.reach, vertices) {
             // Some edges may stand in one of their two rows alone.
-            slots::clear(&mut self.slots, &mut self.kept);
-            self.inputs.clear();
-            self.outputs.clear();
+            side::clear(
+                &mut self.slots,
+                &mut self.kept,
+                &mut self.inputs,
+                &mut self.outputs,
+            );
             return Err(error);
         }
         Ok(())
@@ -248,18 +243,20 @@ impl OpenGraph {
             (IsToggled self.old.graph (among (zx.neighbours self.old.graph u)) self.new.graph) }
         ensures err { OnErr result (self.new.graph ≡
             record { vertices = []; edges = []; inputs = []; outputs = [] }) }
-        ensures room { OnOk result (self.new.spare ≡ self.old.spare) }
-        ensures keeps_spare { self.old.spare ≤ self.new.spare }
-        ensures reach { self.new.reach ≡ self.old.reach }
-        ensures has_room { IsBelow self.old.reach (zx.neighbours self.old.graph u) → IsOk result }
+        ensures room { OnOk result (self.new.room ≡ self.old.room) }
+        ensures left { IsLeft self.old.room self.new.room }
+        ensures has_room { IsBelow self.old.room.reach (zx.neighbours self.old.graph u) → IsOk result }
         ensures was_valid { WellFormed self.old.graph }
         ensures valid { WellFormed self.new.graph }
     {
         if let Err(error) = slots::toggle_near(&mut self.slots, &mut self.scratch, self.reach, u) {
             // Some edges may stand in one of their two rows alone.
-            slots::clear(&mut self.slots, &mut self.kept);
-            self.inputs.clear();
-            self.outputs.clear();
+            side::clear(
+                &mut self.slots,
+                &mut self.kept,
+                &mut self.inputs,
+                &mut self.outputs,
+            );
             return Err(error);
         }
         Ok(())
@@ -276,11 +273,10 @@ impl OpenGraph {
             OnOk result (IsToggled self.old.graph (across near far) self.new.graph) }
         ensures err { OnErr result (self.new.graph ≡
             record { vertices = []; edges = []; inputs = []; outputs = [] }) }
-        ensures room { OnOk result (self.new.spare ≡ self.old.spare) }
-        ensures keeps_spare { self.old.spare ≤ self.new.spare }
-        ensures reach { self.new.reach ≡ self.old.reach }
-        ensures has_room { IsBelow self.old.reach (u ∷ zx.neighbours self.old.graph u) →
-            IsBelow self.old.reach (v ∷ zx.neighbours self.old.graph v) → IsOk result }
+        ensures room { OnOk result (self.new.room ≡ self.old.room) }
+        ensures left { IsLeft self.old.room self.new.room }
+        ensures has_room { IsBelow self.old.room.reach (u ∷ zx.neighbours self.old.graph u) →
+            IsBelow self.old.room.reach (v ∷ zx.neighbours self.old.graph v) → IsOk result }
         ensures was_valid { WellFormed self.old.graph }
         ensures valid { WellFormed self.new.graph }
     {
@@ -292,9 +288,12 @@ impl OpenGraph {
             v,
         ) {
             // Some edges may stand in one of their two rows alone.
-            slots::clear(&mut self.slots, &mut self.kept);
-            self.inputs.clear();
-            self.outputs.clear();
+            side::clear(
+                &mut self.slots,
+                &mut self.kept,
+                &mut self.inputs,
+                &mut self.outputs,
+            );
             return Err(error);
         }
         Ok(())
@@ -307,8 +306,7 @@ impl OpenGraph {
         ensures ok { self.new.graph ≡ record self.old.graph {
           vertices = with_kinds (at_vertex v (λ _. in_plane (plane_named plane) phase)) self.old.graph.vertices;
         } }
-        ensures room { self.new.spare ≡ self.old.spare }
-        ensures reach { self.new.reach ≡ self.old.reach }
+        ensures room { self.new.room ≡ self.old.room }
         ensures valid { WellFormed self.new.graph }
     {
         slots::set_kind(&mut self.slots, v, plane, phase);
@@ -320,8 +318,7 @@ impl OpenGraph {
         ensures ok { self.new.graph ≡ record self.old.graph {
           vertices = with_kinds (at_vertex v quarter_turned) self.old.graph.vertices;
         } }
-        ensures room { self.new.spare ≡ self.old.spare }
-        ensures reach { self.new.reach ≡ self.old.reach }
+        ensures room { self.new.room ≡ self.old.room }
         ensures valid { WellFormed self.new.graph }
     {
         let (plane, phase) = self.weight(v);
@@ -333,45 +330,52 @@ impl OpenGraph {
     /// memory for all edges below it: a bit for each two ids. Where it runs out, some may be taken.
     pub fn reserve(&mut self, vertices: usize) -> Result<(), AllocError>
         ensures same { self.new.graph ≡ self.old.graph }
-        ensures spare { OnOk result (vertices ≤ self.new.spare) }
-        ensures keeps_spare { self.old.spare ≤ self.new.spare }
+        ensures room { OnOk result (IsAtLeast (record { spare = vertices; reach = vertices }) self.new.room) }
         ensures reach { OnOk result ((v : ℕ) → Live self.old.graph v →
-            v + vertices < self.new.reach) }
-        ensures least_reach { OnOk result (vertices ≤ self.new.reach) }
-        ensures keeps_reach { self.old.reach ≤ self.new.reach }
+            v + vertices < self.new.room.reach) }
+        ensures keeps_room { IsAtLeast self.old.room self.new.room }
         ensures valid { WellFormed self.new.graph }
     {
         let Some(reach) = self.slots.len().checked_add(vertices) else {
             return Err(AllocError);
         };
-        self.slots.reserve(vertices)?;
-        self.extend_reach(reach)
+        self.reserve_room(vertices, reach)
     }
 
     /// Takes the memory that another graph has: for as many vertices in all, and for all edges below its
     /// reach. Where it runs out, some may be taken.
     pub fn reserve_like(&mut self, other: &OpenGraph) -> Result<(), AllocError>
         ensures same { self.new.graph ≡ self.old.graph }
-        ensures places { OnOk result (other.now.spare + length other.now.graph.vertices
-            ≤ self.new.spare + length self.new.graph.vertices) }
-        ensures reach { OnOk result (other.now.reach ≤ self.new.reach) }
-        ensures keeps_spare { self.old.spare ≤ self.new.spare }
-        ensures keeps_reach { self.old.reach ≤ self.new.reach }
+        ensures places { OnOk result (other.now.room.spare + length other.now.graph.vertices
+            ≤ self.new.room.spare + length self.new.graph.vertices) }
+        ensures reach { OnOk result (other.now.room.reach ≤ self.new.room.reach) }
+        ensures keeps_room { IsAtLeast self.old.room self.new.room }
         ensures valid { WellFormed self.new.graph }
     {
         let vacant = other.slots.len().saturating_sub(self.slots.filled());
-        self.slots.reserve(vacant)?;
-        self.extend_reach(other.reach)
+        self.reserve_room(vacant, other.reach)
+    }
+
+    // Takes the memory for so many more vertices, and moves the reach up to a bound at least. Where it
+    // runs out, some may be taken.
+    fn reserve_room(&mut self, vertices: usize, bound: usize) -> Result<(), AllocError>
+        ensures same { self.new.graph ≡ self.old.graph }
+        ensures room { OnOk result (IsAtLeast (record { spare = vertices; reach = bound }) self.new.room) }
+        ensures keeps_room { IsAtLeast self.old.room self.new.room }
+        ensures valid { WellFormed self.new.graph }
+    {
+        self.slots.reserve(vertices)?;
+        self.extend_reach(bound)
     }
 
     // Moves the reach up to a bound at least, with the memory for all edges below it: a bit for each
     // two ids. Where it runs out, some may be taken.
     fn extend_reach(&mut self, bound: usize) -> Result<(), AllocError>
         ensures same { self.new.graph ≡ self.old.graph }
-        ensures spare { self.new.spare ≡ self.old.spare }
-        ensures ok { OnOk result (bound ≤ self.new.reach) }
-        ensures least { OnOk result (self.old.reach ≤ bound → self.new.reach ≡ bound) }
-        ensures keeps { self.old.reach ≤ self.new.reach }
+        ensures spare { self.new.room.spare ≡ self.old.room.spare }
+        ensures ok { OnOk result (bound ≤ self.new.room.reach) }
+        ensures least { OnOk result (self.old.room.reach ≤ bound → self.new.room.reach ≡ bound) }
+        ensures keeps { self.old.room.reach ≤ self.new.room.reach }
         ensures valid { WellFormed self.new.graph }
     {
         if bound <= self.reach {
@@ -386,8 +390,7 @@ impl OpenGraph {
     /// The same graph once more, with memory for as many vertices more, and with the same reach.
     pub fn copy(&self) -> Result<OpenGraph, AllocError>
         ensures ok { IfOk result (λ copy. copy.graph ≡ self.now.graph) }
-        ensures spare { IfOk result (λ copy. copy.spare ≡ self.now.spare) }
-        ensures reach { IfOk result (λ copy. copy.reach ≡ self.now.reach) }
+        ensures room { IfOk result (λ copy. copy.room ≡ self.now.room) }
         ensures valid { WellFormed self.now.graph }
     {
         let mut copy = self.copy_without_reach()?;
@@ -398,8 +401,7 @@ impl OpenGraph {
     // The same graph once more, of reach 0.
     fn copy_without_reach(&self) -> Result<OpenGraph, AllocError>
         ensures ok { IfOk result (λ copy. copy.graph ≡ self.now.graph) }
-        ensures spare { IfOk result (λ copy. copy.spare ≡ self.now.spare) }
-        ensures reach { IfOk result (λ copy. copy.reach ≡ 0) }
+        ensures room { IfOk result (λ copy. copy.room ≡ record self.now.room { reach = 0 }) }
         ensures valid { WellFormed self.now.graph }
     {
         Ok(OpenGraph {
@@ -549,6 +551,7 @@ impl OpenGraph {
     pub fn vertex_from(&self, start: usize) -> Option<VertexId>
         ensures first { IsFirstFrom (λ v. member v (ids self.now.graph.vertices)) start result }
         ensures bounded { IfSome result (λ v. v < usize.MAX) }
+        ensures few { IfSome result (λ v. v < most_vertices_in_memory) }
         ensures valid { WellFormed self.now.graph }
     {
         self.slots.first_from(start).map(VertexId::new)
@@ -556,7 +559,8 @@ impl OpenGraph {
 
     /// The number of vertices.
     pub fn vertex_count(&self) -> usize
-        ensures { result ≡ length self.now.graph.vertices }
+        ensures value { result ≡ length self.now.graph.vertices }
+        ensures few { length self.now.graph.vertices ≤ most_vertices_in_memory }
     {
         self.slots.filled()
     }
@@ -564,6 +568,7 @@ impl OpenGraph {
     /// The id that the next vertex gets: the least that no vertex has.
     pub fn next_id(&self) -> usize
         ensures value { result ≡ least_free (ids self.now.graph.vertices) }
+        ensures few { result ≤ most_vertices_in_memory }
         ensures valid { WellFormed self.now.graph }
     {
         self.slots.next_id()
@@ -571,14 +576,14 @@ impl OpenGraph {
 
     /// How many vertices can be added without memory.
     pub fn spare(&self) -> usize
-        ensures { result ≡ self.now.spare }
+        ensures { result ≡ self.now.room.spare }
     {
         self.slots.vacant()
     }
 
     /// The bound below which edges are toggled without memory.
     pub fn reach(&self) -> usize
-        ensures { result ≡ self.now.reach }
+        ensures { result ≡ self.now.room.reach }
     {
         self.reach
     }
@@ -588,10 +593,7 @@ impl OpenGraph {
         ensures value { (result ≡ true) ↔ IsBelow bound (ids self.now.graph.vertices) }
         ensures valid { WellFormed self.now.graph }
     {
-        match self.vertex_from(bound) {
-            Some(_) => false,
-            None => true,
-        }
+        self.vertex_from(bound).is_none()
     }
 
     // What is kept of a vertex.

@@ -2,7 +2,7 @@
 
 ghost use Rattle.std.specs.Prelude.{◌≡◌};
 ghost use Rattle.zx_calculus.specs.Turns.{in_plane, quarter_turned};
-ghost use Rattle.zx_calculus.specs.StepScalars.{quarter_power_in, half_power_in};
+ghost use Rattle.zx_calculus.specs.Scalars.{quarter_power_in, half_power_in};
 
 use zx_model::Sixteenth;
 

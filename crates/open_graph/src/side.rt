@@ -1,15 +1,16 @@
 //! The two sides of a graph, and changes of the ends of either.
 
-ghost use Rattle.std.specs.Prelude.{◌≡◌, ◌<◌, ◌++◌, ℕ, [], ◌∷◌, Some, length, slice_set, slice_index_or, OnOk, OnErr};
+ghost use Rattle.std.specs.Prelude.{◌≡◌, ◌<◌, ◌≤◌, ◌++◌, ℕ, [], ◌∷◌, Some, length, slice_set, slice_index_or, OnOk, OnErr};
 ghost use Rattle.open_graph.specs.Internal.Table.{HasSlot};
-ghost use Rattle.open_graph.specs.Internal.Slots.{told};
-ghost use Rattle.open_graph.specs.Internal.Room.{KeepsRoom};
+ghost use Rattle.open_graph.specs.Internal.Slots.{told, graph_of, IsSound};
+ghost use Rattle.open_graph.specs.Internal.Room.{vacant_in, KeepsRoom, HasRoom};
 ghost use Rattle.open_graph.specs.Internal.Sides.{with_place, Moves};
 ghost use Rattle.open_graph.specs.Internal.Changes.{Puts};
 
 use crate::end::End;
 use crate::slot_table::SlotTable;
 use crate::slots;
+use crate::vertex_set::VertexSet;
 use std::alloc::AllocError;
 
 // Whether a wire is an input or an output.
@@ -53,4 +54,24 @@ pub(crate) fn move_end(ends: &mut Vec<End>, slots: &mut SlotTable, side: Side, i
     slots::set_place(slots, before.vertex, side, None);
     slots::set_place(slots, end.vertex, side, Some(i));
     ends[i] = end;
+}
+
+// Removes all vertices, whose rows may tell different edges, and all ends, and keeps the rows for
+// their ids.
+pub(crate) fn clear(
+    slots: &mut SlotTable,
+    kept: &mut Vec<VertexSet>,
+    inputs: &mut Vec<End>,
+    outputs: &mut Vec<End>,
+)
+    ensures sound { IsSound slots.new.slots inputs.new.items outputs.new.items }
+    ensures empty { graph_of slots.new.slots inputs.new.items outputs.new.items ≡
+        record { vertices = []; edges = []; inputs = []; outputs = [] } }
+    ensures spare { vacant_in slots.old.slots ≤ vacant_in slots.new.slots }
+    ensures room { (reach : ℕ) → HasRoom reach slots.old.slots kept.old.items →
+        HasRoom reach slots.new.slots kept.new.items }
+{
+    slots::clear(slots, kept);
+    inputs.clear();
+    outputs.clear();
 }

@@ -4,6 +4,7 @@ ghost use Rattle.std.specs.Prelude.{◌≡◌, ◌↔◌, ◌<◌, ◌≤◌, �
 ghost use Rattle.std.specs.Prelude.{IsTrue, IsSome, IsOk, IfOk, IfSome, OnOk, OnErr};
 ghost use Rattle.std.specs.Borrow.{sem};
 ghost use Rattle.zx_bits.specs.Rows.{IsFirstFrom};
+ghost use Rattle.open_graph.specs.OpenGraph.{most_vertices_in_memory};
 ghost use Rattle.open_graph.specs.Internal.Table.{slot_at, HasSlot, Updates, IsFreeRow};
 ghost use Rattle.open_graph.specs.declared.slot.Slot.{Slot};
 ghost use Rattle.open_graph.specs.Internal.Lending.{LendsEntry};
@@ -17,6 +18,9 @@ use std::marker::Model;
 use std::ops::{Index, IndexMut};
 use zx_bits::BitRow;
 
+// More entries are refused as where memory runs out: so many slots take hundreds of gigabytes.
+const MOST_ENTRIES: usize = 1 << 32;
+
 // A table of slots, seen as what stands under each id.
 #[derive(Drop)]
 pub(crate) struct SlotTable {
@@ -26,13 +30,13 @@ pub(crate) struct SlotTable {
 }
 
 impl Model for SlotTable {
-    ghost use Rattle.open_graph.specs.Internal.Table.{SlotTable as Seen, IsFreeRow};
+    ghost use Rattle.open_graph.specs.Internal.Table.{SlotTable as Seen, IsTable};
 
     ghost Value = { Seen };
 
     ghost view = { λ t. record { slots = t.entries.items } };
 
-    ghost invariant = { λ t. IsFreeRow t.entries.items t.free };
+    ghost invariant = { λ t. IsTable t.entries.items t.free };
 }
 
 impl Clone for SlotTable {
@@ -136,6 +140,7 @@ impl SlotTable {
     pub(crate) fn first_from(&self, start: usize) -> Option<usize>
         ensures first { IsFirstFrom (λ id. is_some (slot_at self.now id)) start result }
         ensures bounded { IfSome result (λ id. id < usize.MAX) }
+        ensures few { IfSome result (λ id. id < most_vertices_in_memory) }
     {
         for id in start..self.entries.len() {
             if self.entries[id].is_some() {
@@ -154,7 +159,8 @@ impl SlotTable {
 
     // How many entries have a slot.
     pub(crate) fn filled(&self) -> usize
-        ensures { result ≡ length self.now.slots - vacant_in self.now.slots }
+        ensures value { result ≡ length self.now.slots - vacant_in self.now.slots }
+        ensures few { result ≤ most_vertices_in_memory }
     {
         self.entries.len().saturating_sub(self.vacant())
     }
@@ -163,11 +169,9 @@ impl SlotTable {
     pub(crate) fn next_id(&self) -> usize
         ensures vacant { slot_at self.now result ≡ None }
         ensures least { (lower : ℕ) → lower < result → HasSlot self.now lower }
+        ensures few { result ≤ most_vertices_in_memory }
     {
-        match self.free.bit_from(0) {
-            Some(id) => id,
-            None => self.entries.len(),
-        }
+        self.free.bit_from(0).unwrap_or(self.entries.len())
     }
 
     // How many entries have no slot.
@@ -242,12 +246,16 @@ fn slot_of(entry: &mut Option<Slot>) -> &mut Slot
 }
 
 // Makes a row at least so many bits long, and twice as long where it grows. What it tells of
-// entries stays, also where memory runs out.
+// entries stays, also where memory runs out, as it does for more bits than a table has entries.
 fn make_room(free: &mut BitRow, bits: usize) -> Result<(), AllocError>
     ensures kept { (slots : List (Option Slot)) →
         IsFreeRow slots free.old → IsFreeRow slots free.new }
     ensures ok { OnOk result (bits ≤ length free.new.bits) }
+    ensures few { OnOk result (bits ≤ most_vertices_in_memory) }
 {
+    if bits > MOST_ENTRIES {
+        return Err(AllocError);
+    }
     if bits <= free.len() {
         return Ok(());
     }

@@ -278,8 +278,7 @@ fn copy_row(
         IsOk result }
     ensures keeps_room { reach ≤ set.old.room → reach ≤ set.new.room }
 {
-    let end = slots.len();
-    set.copy_within(&slots[u.get()].row, reach, end)
+    set.copy_within(&slots[u.get()].row, reach, slots.len())
 }
 
 // Makes a set that of a vertex and its neighbours.

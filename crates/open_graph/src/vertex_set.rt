@@ -176,8 +176,7 @@ impl VertexSet {
         ensures has_room { IsBelow bound other.now.ids → bound ≤ self.old.room → IsOk result }
         ensures keeps_room { bound ≤ self.old.room → bound ≤ self.new.room }
     {
-        let outside = bound > 0 && other.first_from(bound).is_some();
-        if outside {
+        if bound > 0 && other.first_from(bound).is_some() {
             self.reserve(end)?;
         }
         self.toggle_all(other)

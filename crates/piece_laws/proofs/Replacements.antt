@@ -42,11 +42,14 @@ fewer b m m' a s s' e e' less = omega arith
 abbrev NoLarger : ℕ → ℕ → ℕ → ℕ → Type 0
 NoLarger s k t l = (s < t) ⊎ ((s ≡ t) × (k ≤ l))
 
-no_larger-trans : (s k t l u m : ℕ) → NoLarger s k t l → NoLarger t l u m → NoLarger s k u m
-no_larger-trans s k t l u m (inl less) (inl more) = inl (omega arith)
-no_larger-trans s k t l u m (inl less) (inr same) = inl (let e : t ≡ u = same.0 in omega arith)
-no_larger-trans s k t l u m (inr same) (inl more) = inl (let e : s ≡ t = same.0 in omega arith)
-no_larger-trans s k t l u m (inr same) (inr again) = inr (same.0 ∙ again.0, (let a : k ≤ l = same.1 in let b : l ≤ m = again.1 in omega arith))
+counts-trans : (s k t l u m : ℕ) → NoLarger s k t l → NoLarger t l u m → NoLarger s k u m
+counts-trans s k t l u m (inl less) (inl more) = inl (omega arith)
+counts-trans s k t l u m (inl less) (inr same) = inl (let e : t ≡ u = same.0 in omega arith)
+counts-trans s k t l u m (inr same) (inl more) = inl (let e : s ≡ t = same.0 in omega arith)
+counts-trans s k t l u m (inr same) (inr again) = inr (same.0 ∙ again.0, (let a : k ≤ l = same.1 in let b : l ≤ m = again.1 in omega arith))
+
+pub no_larger-trans : (a b c : List Gate) → IsNoLarger a b → IsNoLarger b c → IsNoLarger a c
+no_larger-trans a b c = counts-trans (two_qubit_gates a) (length a) (two_qubit_gates b) (length b) (two_qubit_gates c) (length c)
 
 no_larger_part : (before old new after : List Gate) → IsNoLarger new old → IsNoLarger (before ++ new ++ after) (before ++ old ++ after)
 no_larger_part before old new after (inl less) =
@@ -88,7 +91,7 @@ replacement-trans n a b c first second = record {
   on_qubits = second.on_qubits;
   map = proportional_trans n n (amp a) (amp b) (amp c) first.map second.map;
   odd = at_most-trans (gate_odd_phases c) (gate_odd_phases b) (gate_odd_phases a) second.odd first.odd;
-  size = no_larger-trans (two_qubit_gates c) (length c) (two_qubit_gates b) (length b) (two_qubit_gates a) (length a) second.size first.size;
+  size = no_larger-trans c b a second.size first.size;
 }
   where
     at_most-trans : (s t u : ℕ) → s ≤ t → t ≤ u → s ≤ u

@@ -8,25 +8,20 @@ use Rattle.std.proofs.lemmas.Bool.Decides.{nat_tests}
 use Rattle.std.proofs.lemmas.List.Sums.{prefix_len-le-length}
 use Rattle.std.specs.Char.{is_ascii_digit}
 use Rattle.std.specs.List.{position, position_or_len}
+use Rattle.std.specs.Option.{unwrap_or}
 use Rattle.qasm_angle.specs.Ratio.{lowest, limited}
 use Rattle.qasm_angle.specs.Literals.{digits_of, number_from, number_of, significant, most_significant, decimal, is_negative, size_of, places_of, value_of_parts}
 use Rattle.qasm_angle.proofs.DecimalLemmas.{ten_pow_mono, none-small, none-raised, raised-scaled, zero-scaled}
 
-some_by : (found : Bool) (n i : ℕ) → ◌≡◌ {A = Option ℕ} (Some i) (cond found (Some n) None) → i ≡ n
-some_by true n i e = cc
-some_by false n i e = cc
-
-none_by : (found : Bool) (n len : ℕ) → ltb n len ≡ found → ◌≡◌ {A = Option ℕ} None (cond found (Some n) None) → n ≤ len → len ≡ n
-none_by true n len t e h = cc
-none_by false n len t e h = omega (arith, ltb-false n len t)
-
 -- the place of a mark, or the end
-module _ (p : ℕ → Bool) (text : List ℕ) where
-  within : position_or_len p text ≤ length text
-  within = prefix_len-le-length (λ x. not (p x)) text
+or-end : (found : Bool) (n len : ℕ) → ltb n len ≡ found → n ≤ len → unwrap_or (cond found (Some n) None) len ≡ n
+or-end true n len t h = refl
+or-end false n len t h = omega (arith, ltb-false n len t)
 
-  pub place-none : None ≡ position p text → length text ≡ position_or_len p text
-  place-none e = none_by (ltb (position_or_len p text) (length text)) (position_or_len p text) (length text) refl e within
+pub place-or-end : (p : ℕ → Bool) (text : List ℕ) (place : Option ℕ) → place ≡ position p text → unwrap_or place (length text) ≡ position_or_len p text
+place-or-end p text place e =
+    ap (λ o. unwrap_or o (length text)) e
+    ∙ or-end (ltb (position_or_len p text) (length text)) (position_or_len p text) (length text) refl (prefix_len-le-length (λ x. not (p x)) text)
 
 -- the digits with zeros after them
 pub decimal-from : (digits : List ℕ) (leading zeros raised lowered : ℕ) → ltb most_significant (significant digits) ≡ false → number_of digits ≡ leading * 10 ^ zeros →

@@ -1,5 +1,5 @@
 -- Expressions as trees, and their steps in postfix order.
-use Rattle.std.specs.Prelude.{◌≡◌, ℕ, List, [], ◌∷◌, ◌++◌, Option, refl}
+use Rattle.std.specs.Prelude.{◌≡◌, ℕ, List, [], ◌∷◌, ◌++◌, Option, get_or, refl}
 use Rattle.std.proofs.Common.{append_assoc, append-nil, ap, sym, ◌∙◌}
 use Rattle.qasm_angle.specs.Ratio.{Ratio}
 use Rattle.qasm_angle.specs.declared.expression.Operation.{Operation}
@@ -37,13 +37,9 @@ abbrev pub after_steps : List ExprItem → List Tree → List Tree
 after_steps [] trees = trees
 after_steps (s ∷ steps) trees = after_steps steps (after_step s trees)
 
-abbrev pub first_tree : List Tree → Tree
-first_tree [] = Pi
-first_tree (t ∷ trees) = t
-
 -- the tree whose steps these are, where there is one
 unfoldable pub tree_of : List ExprItem → Tree
-tree_of steps = first_tree (after_steps steps [])
+tree_of steps = get_or (after_steps steps []) 0 Pi
 
 -- reading the steps of a tree adds that tree
 pub after_steps-postfix : (t : Tree) (steps : List ExprItem) (trees : List Tree) →
@@ -64,7 +60,8 @@ after_steps-postfix (Binary operator a b) steps trees =
 pub tree_of-postfix : (t : Tree) → tree_of (postfix t) ≡ t
 unfolding tree_of
 tree_of-postfix t =
-    ap first_tree (ap (λ steps. after_steps steps []) (sym (append-nil (postfix t))) ∙ after_steps-postfix t [] [])
+    ap (λ trees. get_or trees 0 Pi)
+    (ap (λ steps. after_steps steps []) (sym (append-nil (postfix t))) ∙ after_steps-postfix t [] [])
 
 pub tree_of-steps : (steps : List ExprItem) (t : Tree) → steps ≡ postfix t → tree_of steps ≡ t
 tree_of-steps steps t e = ap tree_of e ∙ tree_of-postfix t

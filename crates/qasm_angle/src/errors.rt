@@ -4,7 +4,7 @@ ghost use Rattle.std.specs.Prelude.{◌≡◌};
 ghost use Rattle.qasm_angle.specs.Errors.{error_of};
 ghost use Rattle.qasm_angle.specs.declared.errors.AngleError.TheVariants.{NoMemory};
 
-use std::alloc::{AllocError, AllocFailed};
+use std::alloc::AllocFailed;
 use thiserror::Error;
 
 /// Why an expression has no angle.
@@ -35,14 +35,6 @@ pub enum AngleError {
     /// There was no memory for the intermediate angles.
     #[error("no memory")]
     NoMemory,
-}
-
-impl From<AllocError> for AngleError {
-    ghost from_gives = { λ _ e. e ≡ NoMemory };
-
-    fn from(_error: AllocError) -> AngleError {
-        AngleError::NoMemory
-    }
 }
 
 impl<T: Drop> From<AllocFailed<T>> for AngleError {

@@ -26,22 +26,29 @@ pub fn eval(alloc: Global, e: &Expr, args: &[Angle]) -> Result<Angle, AngleError
     ensures not_an_angle { result ≡ Err AngleError.NotAnAngle
         → value e.now args.now ≡ Err cause.NotAnAngle }
 {
-    if let Some(angle) = e.constant() {
-        return Ok(angle);
+    match e.constant() {
+        Some(angle) => Ok(angle),
+        None => angle_of(alloc, e, args),
     }
+}
+
+// The angle of an expression, by its steps.
+#[inline(always)]
+fn angle_of(alloc: Global, e: &Expr, args: &[Angle]) -> Result<Angle, AngleError>
+    ensures value { IfOk result (λ angle. value e.now args.now ≡ Ok angle) }
+    ensures cause { (c : AngleFault) → result ≡ Err (error_of c) → value e.now args.now ≡ Err c }
+{
     let Some((last, before)) = e.steps().split_last() else {
         return Err(AngleError::NotAnAngle);
     };
     if before.is_empty() {
-        let alone = angle_alone(last, args)?;
-        return Ok(alone);
+        return Ok(angle_alone(last, args)?);
     }
     let mut angles = Vec::new(alloc);
     for step in before {
         push_step(&mut angles, step, args)?;
     }
-    let angle = take_step(&mut angles, last, args)?;
-    Ok(angle)
+    Ok(take_step(&mut angles, last, args)?)
 }
 
 /// The same expression, and where it is long and names no parameter, with its angle, so that `eval` finds it at

@@ -83,17 +83,7 @@ fn exponent_mark(text: &[u8]) -> usize
     ensures place { result ≡ position_or_len is_exponent_mark text.now }
     ensures within { result ≤ length text.now }
 {
-    match first_exponent_mark(text) {
-        Some(place) => place,
-        None => text.len(),
-    }
-}
-
-// The place of the first mark that an exponent begins with.
-fn first_exponent_mark(text: &[u8]) -> Option<usize>
-    ensures { result ≡ position is_exponent_mark text.now }
-{
-    text.iter().position(|b| *b == b'e' || *b == b'E')
+    first_exponent_mark(text).unwrap_or(text.len())
 }
 
 // The place of the point, or the end.
@@ -101,10 +91,14 @@ fn point(text: &[u8]) -> usize
     ensures place { result ≡ position_or_len is_point text.now }
     ensures within { result ≤ length text.now }
 {
-    match first_point(text) {
-        Some(place) => place,
-        None => text.len(),
-    }
+    first_point(text).unwrap_or(text.len())
+}
+
+// The place of the first mark that an exponent begins with.
+fn first_exponent_mark(text: &[u8]) -> Option<usize>
+    ensures { result ≡ position is_exponent_mark text.now }
+{
+    text.iter().position(|b| *b == b'e' || *b == b'E')
 }
 
 // The place of the first point.

@@ -1,5 +1,5 @@
 -- The reader of a text, batch by batch.
-use Rattle.std.proofs.Common.{◌≡◌, ℕ, zero, suc, ◌-◌, ◌<◌, ◌≤◌, List, [], ◌∷◌, ◌++◌, length, take, drop, map, Option, None, Some, refl, sym, ap, ◌∙◌, subst, append_assoc, append-nil, arith, length-append, Bool, false, true}
+use Rattle.std.proofs.Common.{◌≡◌, ℕ, ◌-◌, ◌<◌, ◌≤◌, List, [], ◌∷◌, ◌++◌, length, take, drop, Option, None, Some, refl, sym, ap, ◌∙◌, subst, append_assoc, append-nil, arith, length-append, Bool, false, true}
 use Rattle.std.specs.Prelude.{MatchOption}
 use Rattle.std.specs.Option.{option_or}
 use Rattle.std.proofs.lemmas.List.{length-map, take_rest}
@@ -10,36 +10,19 @@ use Rattle.qasm_reader.specs.Parts.{BeginNone, IsBehind, IsInBody, has_end}
 use Rattle.qasm_reader.specs.Syntax.{GateForm, Placed}
 use Rattle.qasm_reader.proofs.PartWise.{nothing_begins}
 use Rattle.qasm_reader.proofs.Programs.{prefix_first}
+use Rattle.qasm_names.proofs.Including.{behind_front, drop_behind, map_drop}
 use Rattle.qasm_inline.specs.declared.circuit.Circuit.{Circuit}
 use Rattle.qasm_inline.specs.declared.circuit.OpenGate.{OpenGate}
 use Rattle.qasm_inline.specs.Circuits.{HasBegun, HasTaken, gate_at}
 use Rattle.qasm_inline.specs.Internal.Readings.{AreTaken, IsKept, open_place}
 
 -- ---- tokens behind tokens
-drop_behind : {A : Type 0} (xs ys : List A) → drop (length xs) (xs ++ ys) ≡ ys
-drop_behind [] ys = refl
-drop_behind (x ∷ xs) ys = drop_behind xs ys
-
-map_drop : {A B : Type 0} (f : A → B) (n : ℕ) (xs : List A) → map f (drop n xs) ≡ drop n (map f xs)
-map_drop f zero xs = refl
-map_drop f (suc n) [] = refl
-map_drop f (suc n) (x ∷ xs) = map_drop f n xs
-
 -- the tokens behind those that were known
 pub behind_known : (old new : List Token) (more : List Lexeme) (n : ℕ) → n ≡ length old → lexemes new ≡ lexemes old ++ more
     → lexemes (take (length new - n) (drop n new)) ≡ more
 behind_known old new more n e is =
     let same : n ≡ length (lexemes old) = e ∙ sym (length-map old lexeme) in
     ap lexemes (take_rest new n) ∙ map_drop lexeme n new ∙ ap (drop n) is ∙ ap (λ m. drop m (lexemes old ++ more)) same ∙ drop_behind (lexemes old) more
-
-behind_front : (tokens rest : List Token) (front : List Lexeme) → lexemes tokens ≡ front ++ lexemes rest
-    → lexemes (drop (length tokens - length rest) tokens) ≡ lexemes rest
-behind_front tokens rest front e =
-    let n : length (lexemes tokens) ≡ length (front ++ lexemes rest) = ap length e in
-    let count : length tokens - length rest ≡ length front =
-    omega (arith, n, length-append front (lexemes rest), length-map tokens lexeme, length-map rest lexeme) in
-    map_drop lexeme (length tokens - length rest) tokens ∙ ap (drop (length tokens - length rest)) e
-    ∙ ap (λ m. drop m (front ++ lexemes rest)) count ∙ drop_behind front (lexemes rest)
 
 pub rest_is : (tokens rest : List Token) → IsBehind (lexemes rest) (lexemes tokens) → lexemes (drop (length tokens - length rest) tokens) ≡ lexemes rest
 rest_is tokens rest b = behind_front tokens rest (b.0 ∷ b.1) b.2

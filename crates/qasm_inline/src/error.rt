@@ -1,11 +1,6 @@
 //! Why a program or a text has no meaning as a circuit.
 
-ghost use Rattle.std.specs.Prelude.{◌≡◌};
-ghost use Rattle.qasm_inline.specs.declared.error.InlineError.TheVariants.{NoMemory};
-ghost use Rattle.qasm_inline.specs.declared.error.TextError.TheVariants as read;
-
 use qasm_scope::Cause;
-use std::alloc::AllocError;
 use thiserror::Error;
 
 /// Why a program has no circuit.
@@ -22,14 +17,6 @@ pub enum InlineError {
     /// There was no memory.
     #[error("no memory")]
     NoMemory,
-}
-
-impl From<AllocError> for InlineError {
-    ghost from_gives = { λ _ e. e ≡ NoMemory };
-
-    fn from(_error: AllocError) -> InlineError {
-        InlineError::NoMemory
-    }
 }
 
 /// Why a text has no circuit.
@@ -64,12 +51,4 @@ pub enum TextError {
     /// There was no memory.
     #[error("no memory")]
     NoMemory,
-}
-
-impl From<AllocError> for TextError {
-    ghost from_gives = { λ _ e. e ≡ read.NoMemory };
-
-    fn from(_error: AllocError) -> TextError {
-        TextError::NoMemory
-    }
 }

@@ -1,6 +1,6 @@
 //! Reading a text that comes piece by piece.
 
-ghost use Rattle.std.specs.Prelude.{◌≡◌, ◌+◌, ◌^◌, ◌<◌, ◌≤◌, ◌++◌, List, [], ℕ, length, take, true, None, Some, Ok, Err, OnOk, OnErr, alloc_error};
+ghost use Rattle.std.specs.Prelude.{◌≡◌, ◌+◌, ◌^◌, ◌<◌, ◌≤◌, ◌++◌, List, [], ℕ, length, true, None, Some, Ok, Err, OnOk, OnErr, alloc_error};
 ghost use Rattle.qasm_lexer.specs.declared.errors.LexError.TheVariants.{BadByte};
 ghost use Rattle.qasm_lexer.specs.Taken.{AreLines, HasBadLine};
 ghost use Rattle.qasm_lexer.specs.Tokens.{Lexeme, IsCut, IsBadByte};
@@ -12,7 +12,7 @@ use crate::error::TextError;
 use crate::reading::Reader;
 use crate::words::Words;
 use bumpalo::Bump;
-use qasm_lexer::LexError;
+use qasm_lexer::{LexError, whole_lines};
 use std::alloc::{AllocError, Global};
 use zx_gates::Elementary;
 use zx_io::Pieces;
@@ -191,16 +191,4 @@ impl<'a> Pieces for PieceReader<'a> {
             }
         }
     }
-}
-
-// How many bytes stand up to the last line feed, together with it; 0 where there is none.
-fn whole_lines(bytes: &[u8]) -> usize
-    ensures within { result ≤ length bytes.now }
-    ensures lines { AreLines (take result bytes.now) }
-{
-    let mut count = bytes.len();
-    while count > 0 && bytes[count - 1] != b'\n' {
-        count -= 1;
-    }
-    count
 }

@@ -36,8 +36,8 @@ IsFirstPiece text None = IsEnd text
 IsFirstPiece text (Some p) = IsFirst text p.0 p.1
 
 module _ (b : ℕ) (p after text : List ℕ) (count : ℕ) (whole : (b ∷ p) ++ after ≡ text) (count_is : suc (length p) ≡ count) where
-  one_blank : IsPiece (b ∷ p) after → kind_of (b ∷ p) ≡ None → IsFirst text Blank count
-  one_blank is kind = record {
+  one_piece : (sort : Sort) → IsPiece (b ∷ p) after → ((place : ℕ) → tokens_in place ((b ∷ p) ∷ []) ≡ piece_tokens sort place (b ∷ p)) → IsFirst text sort count
+  one_piece sort is tokens = record {
     piece = b ∷ p;
     after = after;
     whole = whole;
@@ -46,21 +46,14 @@ module _ (b : ℕ) (p after text : List ℕ) (count : ℕ) (whole : (b ∷ p) ++
     pieces = (b ∷ p) ∷ [];
     pieces_are = append-nil (b ∷ p);
     each = (is, tt);
-    tokens_are = λ place. rw kind refl;
+    tokens_are = tokens;
   }
 
+  one_blank : IsPiece (b ∷ p) after → kind_of (b ∷ p) ≡ None → IsFirst text Blank count
+  one_blank is kind = one_piece Blank is (λ place. rw kind refl)
+
   one_token : (k : TokenKind) → IsPiece (b ∷ p) after × (kind_of (b ∷ p) ≡ Some k) → IsFirst text (Token k) count
-  one_token k is = record {
-    piece = b ∷ p;
-    after = after;
-    whole = whole;
-    count_is = count_is;
-    some = omega arith;
-    pieces = (b ∷ p) ∷ [];
-    pieces_are = append-nil (b ∷ p);
-    each = (is.0, tt);
-    tokens_are = λ place. rw is.1 refl;
-  }
+  one_token k is = one_piece (Token k) is.0 (λ place. rw is.1 refl)
 
 white_first : (b : ℕ) (t : List ℕ) → is_space b ≡ true → IsFirst (b ∷ t) Blank 1
 white_first b t e = one_blank b [] t (b ∷ t) 1 refl refl (pieces.white_piece b t e) (pieces.white_kind b e)

@@ -78,12 +78,8 @@ table_all test (row ∷ rows) all form e =
     ]
 
 abbrev pub is_other : Lead → Bool
-is_other white = false
-is_other letter = false
-is_other digit = false
-is_other point = false
-is_other quote = false
 is_other other = true
+is_other l = false
 
 is_other_true : (l : Lead) → is_other l ≡ true → l ≡ other
 is_other_true white e = absurd (false≢true e)

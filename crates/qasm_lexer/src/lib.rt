@@ -22,6 +22,7 @@ mod token_list;
 pub use errors::LexError;
 pub use laws::{cuts_of_lines_go_together, one_cut, worked_cuts};
 pub use lexer::{lex, lex_further};
+pub use lines::whole_lines;
 pub use piece_lexer::PieceLexer;
 pub use token::{Token, TokenKind};
 pub use token_list::TokenList;

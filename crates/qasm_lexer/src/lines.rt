@@ -3,8 +3,8 @@
 ghost use Rattle.std.specs.Prelude.{◌≤◌, length, take};
 ghost use Rattle.qasm_lexer.specs.Taken.{AreLines};
 
-// How many bytes stand up to the last line feed, together with it; 0 where there is none.
-pub(crate) fn whole_lines(bytes: &[u8]) -> usize
+/// How many bytes stand up to the last line feed, together with it; 0 where there is none.
+pub fn whole_lines(bytes: &[u8]) -> usize
     ensures within { result ≤ length bytes.now }
     ensures lines { AreLines (take result bytes.now) }
 {

@@ -69,7 +69,7 @@ statement-next names (form ∷ forms) tokens ts rest s (t ∷ program, p, e) fir
     no_gate s.kind form (o.0 ∙ declares)
 
 -- so many tokens are before the rest
-drop_behind : {A : Type 0} (xs ys : List A) → drop (length xs) (xs ++ ys) ≡ ys
+pub drop_behind : {A : Type 0} (xs ys : List A) → drop (length xs) (xs ++ ys) ≡ ys
 drop_behind [] ys = refl
 drop_behind (x ∷ xs) ys = drop_behind xs ys
 
@@ -82,12 +82,12 @@ drop_twice zero n xs = let same : n ≡ 0 + n = omega arith in ap (λ k. drop k 
 drop_twice (suc m) n [] = drop_none n ∙ sym (drop_none (suc m + n))
 drop_twice (suc m) n (x ∷ xs) = let same : suc (m + n) ≡ suc m + n = omega arith in drop_twice m n xs ∙ ap (λ k. drop k (x ∷ xs)) same
 
-map_drop : {A B : Type 0} (f : A → B) (n : ℕ) (xs : List A) → map f (drop n xs) ≡ drop n (map f xs)
+pub map_drop : {A B : Type 0} (f : A → B) (n : ℕ) (xs : List A) → map f (drop n xs) ≡ drop n (map f xs)
 map_drop f zero xs = refl
 map_drop f (suc n) [] = refl
 map_drop f (suc n) (x ∷ xs) = map_drop f n xs
 
-behind_front : (tokens rest : List Token) (front : List Lexeme) → lexemes tokens ≡ front ++ lexemes rest
+pub behind_front : (tokens rest : List Token) (front : List Lexeme) → lexemes tokens ≡ front ++ lexemes rest
     → lexemes (drop (length tokens - length rest) tokens) ≡ lexemes rest
 behind_front tokens rest front e =
     let n : length (lexemes tokens) ≡ length (front ++ lexemes rest) = ap length e in

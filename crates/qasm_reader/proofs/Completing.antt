@@ -4,8 +4,8 @@ use Rattle.std.proofs.Common.{◌≡◌, ℕ, ◌≤◌, true, List, [], ◌∷�
 use Rattle.qasm_lexer.specs.declared.token.TokenKind.{TokenKind}
 use Rattle.qasm_lexer.specs.declared.token.TokenKind.TheVariants as kind
 use Rattle.qasm_lexer.specs.Tokens.{Lexeme}
+use Rattle.qasm_reader.proofs.Steps.{each_function}
 use Rattle.qasm_reader.specs.declared.expression.Function.{Function}
-use Rattle.qasm_reader.specs.declared.expression.Function.TheVariants.{Sin, Cos, Tan, Exp, Ln, Sqrt}
 use Rattle.qasm_reader.specs.declared.expression.Operator.{Operator}
 use Rattle.qasm_reader.specs.declared.expression.Operator.TheVariants.{Add, Subtract, Multiply, Divide, Power}
 use Rattle.qasm_reader.specs.declared.machine.Awaited.TheVariants as awaited
@@ -51,12 +51,8 @@ unfolding run step
 left_step t ts output ps is = ap (λ (k : TokenKind). go_on (on_operand (operand_of k t.text) k (operand output ps)) (t ∷ ts) (run ts)) is
 
 name_step : (f : Function) (text : List ℕ) (s : State) → on_operand (operand_of (function_kind f) text) (function_kind f) s ≡ (true, record s { awaited = awaited.Parenthesis f })
-name_step Sin text s = refl
-name_step Cos text s = refl
-name_step Tan text s = refl
-name_step Exp text s = refl
-name_step Ln text s = refl
-name_step Sqrt text s = refl
+name_step f text s =
+    each_function (λ g. on_operand (operand_of (function_kind g) text) (function_kind g) s ≡ (true, record s { awaited = awaited.Parenthesis g })) refl refl refl refl refl refl f
 
 function_step : (f : Function) (t l : Lexeme) (ts : List Lexeme) (output : List Entry) (ps : List Pending) → t.kind ≡ function_kind f → l.kind ≡ kind.LeftParenthesis
     → run (t ∷ l ∷ ts) (operand output ps) ≡ run ts (operand output (pending.Call f ∷ ps))

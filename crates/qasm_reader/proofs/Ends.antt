@@ -8,13 +8,12 @@ use Rattle.qasm_lexer.specs.declared.token.TokenKind.TheVariants as kind
 use Rattle.qasm_lexer.specs.declared.token.Token.{Token}
 use Rattle.qasm_lexer.specs.Tokens.{Lexeme, lexemes}
 use Rattle.qasm_reader.specs.declared.expression.Function.{Function}
-use Rattle.qasm_reader.specs.declared.expression.Function.TheVariants.{Sin, Cos, Tan, Exp, Ln, Sqrt}
 use Rattle.qasm_reader.specs.Syntax.{Formula, Operand, Callee, Declared, U, Cx, Action, Applied, Measured, Reset, BodySentence, BodyApplied, BodyBarrier, Sentence, Version, Include, QubitRegister, BitRegister, DeclareGate, Opaque, If, Barrier, Act}
 use Rattle.qasm_reader.specs.Grammar.{◌⋅◌, Sign, Word, Repeated, IsCommaList, IsOptionalList, function_kind, IsExpression, OneTerm, Sum, Difference, IsTerm, OnePower, Product, Quotient, IsPower, OneFactor, ToThePower, IsFactor, Negative, RealNumber, WholeNumber, PiWord, Parameter, InParentheses, ValueOf, IsIdentifier, IsName, IsIndex, IsArgument, IsArguments, IsIdentifiers, IsAngles, IsParameters, IsQuantumOperation, IsBodyStatement, IsStatement}
 use Rattle.qasm_reader.specs.Parts.{ends_part, has_end}
 use Rattle.qasm_reader.specs.Internal.Taking.{Heading}
 use Rattle.qasm_reader.proofs.Statements.{IsOpening}
-use Rattle.qasm_reader.proofs.Steps.{Sound}
+use Rattle.qasm_reader.proofs.Steps.{Sound, each_function}
 
 -- ---- tests
 
@@ -76,12 +75,7 @@ between_free : (us vs : List Lexeme) (t : Lexeme) (k : TokenKind) → t.kind ≡
 between_free us vs t k is free a b = append_free us (t ∷ vs) a (append_free (t ∷ []) vs (one_free t k is free) b)
 
 function_free : (f : Function) → ends_part (function_kind f) ≡ false
-function_free Sin = refl
-function_free Cos = refl
-function_free Tan = refl
-function_free Exp = refl
-function_free Ln = refl
-function_free Sqrt = refl
+function_free = each_function (λ f. ends_part (function_kind f) ≡ false) refl refl refl refl refl refl
 
 mutual
   expression_free : (f : Formula) (us : List Lexeme) → IsExpression f us → has_end us ≡ false

@@ -4,7 +4,6 @@ use Rattle.qasm_lexer.specs.declared.token.TokenKind.{TokenKind}
 use Rattle.qasm_lexer.specs.declared.token.TokenKind.TheVariants as kind
 use Rattle.qasm_lexer.specs.Tokens.{Lexeme}
 use Rattle.qasm_reader.specs.declared.expression.Function.{Function}
-use Rattle.qasm_reader.specs.declared.expression.Function.TheVariants.{Sin, Cos, Tan, Exp, Ln, Sqrt}
 use Rattle.qasm_reader.specs.declared.machine.Pending.{Pending}
 use Rattle.qasm_reader.specs.Syntax.{Formula, Number, Pi, Name, Negate, Binary, Call}
 use Rattle.qasm_reader.specs.Postfix.{Entry, NegateEntry, BinaryEntry, CallEntry, postfix, push_entries, formula_of, first_or_pi, IsPostfix}
@@ -13,7 +12,7 @@ use Rattle.qasm_reader.specs.Grammar.{function_kind, IsExpression, OneTerm, Sum,
 use Rattle.qasm_reader.specs.Internal.Taking.{same_kind, after}
 use Rattle.qasm_reader.proofs.Completing.{operator, expression_runs}
 use Rattle.qasm_reader.proofs.Reading.{entries_read}
-use Rattle.qasm_reader.proofs.Steps.{Sound, Complete, Shrinks, same, after_other}
+use Rattle.qasm_reader.proofs.Steps.{Sound, each_function, Complete, Shrinks, same, after_other}
 
 -- ---- postfix order and back
 
@@ -73,12 +72,7 @@ opens_more (t ∷ ts) vs o = o
 
 function_opens : (f : Function) → OpensWith (function_kind f)
 unfolding same_kind
-function_opens Sin = refl
-function_opens Cos = refl
-function_opens Tan = refl
-function_opens Exp = refl
-function_opens Ln = refl
-function_opens Sqrt = refl
+function_opens = each_function (λ f. OpensWith (function_kind f)) refl refl refl refl refl refl
 
 by_kind : (k l : TokenKind) → k ≡ l → OpensWith l → OpensWith k
 by_kind k l is o = ap (λ (x : TokenKind). same_kind x kind.RightParenthesis) is ∙ o

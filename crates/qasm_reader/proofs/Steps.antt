@@ -5,6 +5,8 @@ use denote.Enum.Bare.{same_true, true_same}
 use Rattle.qasm_lexer.specs.contracts.token.TokenKind.{the_type}
 use Rattle.qasm_lexer.specs.declared.token.TokenKind.{TokenKind}
 use Rattle.qasm_lexer.specs.Tokens.{Lexeme}
+use Rattle.qasm_reader.specs.declared.expression.Function.{Function}
+use Rattle.qasm_reader.specs.declared.expression.Function.TheVariants.{Sin, Cos, Tan, Exp, Ln, Sqrt}
 use Rattle.qasm_reader.specs.Grammar.{Sign, Word, ◌⋅◌}
 use Rattle.qasm_reader.specs.Internal.Taking.{◌>>=◌, same_kind, after, text}
 
@@ -154,3 +156,12 @@ pub then_begins : (k : TokenKind) (Front Back : List Lexeme → Type 0) → ((us
     → (us rest : List Lexeme) → (Front ⋅ Back) us → after k (us ++ rest) ≡ None
 then_begins k Front Back prefix us rest s =
     ap (after k) (ap (λ (x : List Lexeme). x ++ rest) s.2 ∙ append_assoc s.0 s.1 rest) ∙ prefix s.0 (s.1 ++ rest) s.3
+
+-- what holds of each function holds of any
+pub each_function : (P : Function → Type 0) → P Sin → P Cos → P Tan → P Exp → P Ln → P Sqrt → (f : Function) → P f
+each_function P sin cos tan exp ln sqrt Sin = sin
+each_function P sin cos tan exp ln sqrt Cos = cos
+each_function P sin cos tan exp ln sqrt Tan = tan
+each_function P sin cos tan exp ln sqrt Exp = exp
+each_function P sin cos tan exp ln sqrt Ln = ln
+each_function P sin cos tan exp ln sqrt Sqrt = sqrt

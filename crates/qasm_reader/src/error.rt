@@ -1,9 +1,5 @@
 //! Why tokens are no program.
 
-ghost use Rattle.std.specs.Prelude.{◌≡◌};
-ghost use Rattle.qasm_reader.specs.declared.error.ParseError.TheVariants.{NoMemory};
-
-use std::alloc::{AllocError, AllocFailed};
 use thiserror::Error;
 
 /// Why tokens were not read as a program.
@@ -24,20 +20,4 @@ pub enum ParseError {
     /// There was no memory for the program.
     #[error("no memory")]
     NoMemory,
-}
-
-impl From<AllocError> for ParseError {
-    ghost from_gives = { λ _ e. e ≡ NoMemory };
-
-    fn from(_error: AllocError) -> ParseError {
-        ParseError::NoMemory
-    }
-}
-
-impl<T: Drop> From<AllocFailed<T>> for ParseError {
-    ghost from_gives = { λ _ e. e ≡ NoMemory };
-
-    fn from(_error: AllocFailed<T>) -> ParseError {
-        ParseError::NoMemory
-    }
 }

@@ -50,8 +50,8 @@ fn program<'a>(alloc: Global, tokens: &[Token<'a>]) -> Result<Program<'a>, Parse
 {
     let mut rest = shallow(tokens)?;
     let mut elements = Vec::new(alloc);
-    while let Some((element, end)) = next_element(alloc, rest)? {
-        elements.push(element)?;
+    while let Some((element, end)) = next_element(alloc, rest).or(Err(ParseError::NoMemory))? {
+        elements.push(element).or(Err(ParseError::NoMemory))?;
         rest = end;
     }
     match rest.first() {

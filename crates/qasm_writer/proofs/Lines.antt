@@ -14,7 +14,7 @@ use Rattle.qasm_lexer.proofs.Pieces.{ends_sign, long_sign_piece}
 use Rattle.qasm_lexer.proofs.Feeds.{IsCut-append}
 use Rattle.qasm_lexer.proofs.Scan.{IsCut-tokens_of}
 use Rattle.qasm_reader.specs.Depth.{too_deep, too_deep_from}
-use Rattle.qasm_reader.specs.Grammar.{IsProgram, IsStatement, IsArgument, IsArguments, IsAngles, IsExpression, BeginsAt, OneTerm, Product, Quotient, OnePower, OneFactor, WholeNumber, PiWord, Sign, IsIdentifier, IsIndex, ◌⋅◌}
+use Rattle.qasm_reader.specs.Grammar.{IsProgram, IsStatement, IsArgument, IsArguments, IsAngles, IsExpression, BeginsAt, OneTerm, Product, Quotient, OnePower, OneFactor, WholeNumber, PiWord, Sign, Word, IsIdentifier, IsIndex, ◌⋅◌}
 use Rattle.qasm_reader.specs.Syntax.{Formula, Operand, Sentence, Version, Include, QubitRegister, BitRegister, Placed}
 use Rattle.qasm_writer.specs.Written.{bit, measure_line, on_one, on_two, qubit}
 use Rattle.qasm_writer.proofs.Statements.{application, measurement, operand, pi_over, pi_times_over}
@@ -299,35 +299,34 @@ abbrev pub include_line : List ℕ
 include_line = codes "include \"qelib1.inc\";\n"
 
 -- ---- the lines at the head
+-- a line of a keyword, one word and the semicolon
+head_is : (place m n : ℕ) (line prefix u v : List ℕ) (j k : TokenKind) (s : Sentence) → line ≡ prefix ++ 10 ∷ []
+    → IsCut place line (token j u place ∷ token k v m ∷ token kind.Semicolon (codes ";") n ∷ [])
+    → ((rest : List Lexeme) → too_deep_from 0 (token j u place ∷ token k v m ∷ token kind.Semicolon (codes ";") n ∷ rest) ≡ too_deep_from 0 rest)
+    → ((us : List Lexeme) → (Sign j ⋅ Word k v ⋅ Sign kind.Semicolon) us → IsStatement s us) → IsLine place line s
+head_is place m n line prefix u v j k s ends cut closed grammar =
+    let a : Lexeme = token j u place in
+    let b : Lexeme = token k v m in
+    let c : Lexeme = token kind.Semicolon (codes ";") n in
+    record {
+      prefix = prefix;
+      ends = ends;
+      tokens = a ∷ b ∷ c ∷ [];
+      cut = cut;
+      begins = (a, b ∷ c ∷ [], refl, refl);
+      closed = closed;
+      statement = grammar (a ∷ b ∷ c ∷ []) (a ∷ [], b ∷ c ∷ [], refl, (a, refl, refl), (b ∷ [], c ∷ [], refl, (b, refl, refl, refl), (c, refl, refl)));
+    }
+
 pub version_is : IsLine 0 version_line (Version (codes "2.0"))
 version_is =
-    let a : Lexeme = token kind.Openqasm (codes "OPENQASM") 0 in
-    let b : Lexeme = token kind.Real (codes "2.0") 9 in
-    let c : Lexeme = token kind.Semicolon (codes ";") 12 in
-    record {
-      prefix = codes "OPENQASM 2.0;";
-      ends = refl;
-      tokens = a ∷ b ∷ c ∷ [];
-      cut = IsCut-tokens_of 0 version_line (a ∷ b ∷ c ∷ []) refl;
-      begins = (a, b ∷ c ∷ [], refl, refl);
-      closed = λ rest. refl;
-      statement = (a ∷ [], b ∷ c ∷ [], refl, (a, refl, refl), (b ∷ [], c ∷ [], refl, (b, refl, refl, refl), (c, refl, refl)));
-    }
+    head_is 0 9 12 version_line (codes "OPENQASM 2.0;") (codes "OPENQASM") (codes "2.0") kind.Openqasm kind.Real (Version (codes "2.0")) refl
+    (IsCut-tokens_of 0 version_line _ refl) (λ rest. refl) (λ us is. is)
 
 pub include_is : IsLine 14 include_line (Include (codes "\"qelib1.inc\""))
 include_is =
-    let a : Lexeme = token kind.Include (codes "include") 14 in
-    let b : Lexeme = token kind.Text (codes "\"qelib1.inc\"") 22 in
-    let c : Lexeme = token kind.Semicolon (codes ";") 34 in
-    record {
-      prefix = codes "include \"qelib1.inc\";";
-      ends = refl;
-      tokens = a ∷ b ∷ c ∷ [];
-      cut = IsCut-tokens_of 14 include_line (a ∷ b ∷ c ∷ []) refl;
-      begins = (a, b ∷ c ∷ [], refl, refl);
-      closed = λ rest. refl;
-      statement = (a ∷ [], b ∷ c ∷ [], refl, (a, refl, refl), (b ∷ [], c ∷ [], refl, (b, refl, refl, refl), (c, refl, refl)));
-    }
+    head_is 14 22 34 include_line (codes "include \"qelib1.inc\";") (codes "include") (codes "\"qelib1.inc\"") kind.Include kind.Text (Include (codes "\"qelib1.inc\"")) refl
+    (IsCut-tokens_of 14 include_line _ refl) (λ rest. refl) (λ us is. is)
 
 -- ---- the lines of registers, of four letters and a name of one
 module _ (place n : ℕ) (word name : List ℕ) (k : TokenKind) (s : Sentence) where

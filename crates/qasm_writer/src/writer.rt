@@ -51,8 +51,7 @@ fn push_register(text: &mut Vec<u8>, qubits: Qubit) -> Result<(), AllocError>
     }
     text.extend_from_slice(b"qreg q[")?;
     push_number(text, u32::from(qubits))?;
-    text.extend_from_slice(b"];\n")?;
-    Ok(())
+    text.extend_from_slice(b"];\n")
 }
 
 // Adds the line of the register of bits.
@@ -64,8 +63,7 @@ fn push_bits(text: &mut Vec<u8>, bits: u32) -> Result<(), AllocError>
     }
     text.extend_from_slice(b"creg c[")?;
     push_number(text, bits)?;
-    text.extend_from_slice(b"];\n")?;
-    Ok(())
+    text.extend_from_slice(b"];\n")
 }
 
 // Adds the line of a gate.
@@ -137,8 +135,7 @@ fn push_operand(text: &mut Vec<u8>, q: Qubit) -> Result<(), AllocError>
 {
     text.extend_from_slice(b" ")?;
     push_qubit(text, q)?;
-    text.extend_from_slice(b";\n")?;
-    Ok(())
+    text.extend_from_slice(b";\n")
 }
 
 // Adds the line of a gate on two qubits.
@@ -150,8 +147,7 @@ fn push_on_two(text: &mut Vec<u8>, name: &[u8], q: Qubit, r: Qubit) -> Result<()
     push_qubit(text, q)?;
     text.extend_from_slice(b",")?;
     push_qubit(text, r)?;
-    text.extend_from_slice(b";\n")?;
-    Ok(())
+    text.extend_from_slice(b";\n")
 }
 
 // Adds a qubit of the register.
@@ -160,8 +156,7 @@ fn push_qubit(text: &mut Vec<u8>, q: Qubit) -> Result<(), AllocError>
 {
     text.extend_from_slice(b"q[")?;
     push_number(text, u32::from(q))?;
-    text.extend_from_slice(b"]")?;
-    Ok(())
+    text.extend_from_slice(b"]")
 }
 
 // Adds the lines of measurements.
@@ -183,8 +178,7 @@ fn push_measure(text: &mut Vec<u8>, measure: Measure) -> Result<(), AllocError>
     push_qubit(text, measure.qubit)?;
     text.extend_from_slice(b" -> c[")?;
     push_number(text, measure.bit)?;
-    text.extend_from_slice(b"];\n")?;
-    Ok(())
+    text.extend_from_slice(b"];\n")
 }
 
 // Adds a number in decimal digits.

@@ -42,8 +42,7 @@ pub fn no_flow(alloc: Global) -> Result<Flow, Fail>
     ensures { IfOk result (λ flow. flow.flow ≡ []) }
 {
     let graph = OpenGraph::new(alloc);
-    let flow = Flow::of_table(&graph, FlowTable::new(alloc))?;
-    Ok(flow)
+    Ok(Flow::of_table(&graph, FlowTable::new(alloc))?)
 }
 
 // Draws a start into a graph without vertices, and its flow.

@@ -13,7 +13,7 @@ use std::sync::ledger::{Blank, Ledger};
 use std::test::Fail;
 use zx_flow::Flow;
 use zx_model::Sixteenth;
-use zx_reduce::{Step, Steps, Trace, check_size, reduce};
+use zx_reduce::{Step, Steps, Trace, reduce};
 
 fn reduce_counted<L: Ledger>(
     blank: Blank,
@@ -26,7 +26,6 @@ fn reduce_counted<L: Ledger>(
     requires some { 0 < L.parts }
     requires flow { IsFlow graph.old.graph flow.old.flow }
 {
-    check_size(graph)?;
     let mut steps = Steps::<L>::new(blank);
     reduce(graph, flow, trace, &mut steps)?;
     Ok(())

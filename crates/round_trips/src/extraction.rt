@@ -4,13 +4,11 @@ use open_graph::OpenGraph;
 use std::test::Fail;
 use zx_extract::extract;
 use zx_flow::{Flow, FlowTable};
-use zx_reduce::check_size;
 
 #[test]
 fn no_qubits_have_no_gates(rt: HostRuntime) -> Result<(), Fail> {
     let graph = OpenGraph::new(rt.alloc());
     let flow = Flow::of_table(&graph, FlowTable::new(rt.alloc()))?;
-    check_size(&graph)?;
     let made = extract(rt.alloc(), graph, flow)?;
     assert_eq!(rt; made.gates.qubits(), 0);
     assert!(rt; made.gates.gates().is_empty());

@@ -13,6 +13,8 @@ mod modular;
 #[cfg(test)]
 mod replays;
 #[cfg(test)]
+mod sameness;
+#[cfg(test)]
 mod sums;
 #[cfg(test)]
 mod teleported;

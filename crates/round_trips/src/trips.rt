@@ -16,7 +16,7 @@ use std::test::Fail;
 use zx_extract::extract;
 use zx_flow::Flow;
 use zx_gates::{Gate, GateList, counts};
-use zx_reduce::{Step, Steps, Trace, apply, check_size, reduce};
+use zx_reduce::{Step, Steps, Trace, apply, reduce};
 
 // The gates that are found in the graph that steps make of the gates' graph have that graph's sum
 // as their map, and that of the gates, up to a number other than 0.
@@ -52,7 +52,6 @@ fn extracted(rt: &impl Abort, alloc: Global, graph: OpenGraph, flow: Flow) -> Re
     assert!(rt; has_no_xz(&graph));
     assert!(rt; graph.inputs().len() == graph.outputs().len());
     assert!(rt; graph.outputs().len() <= 1024);
-    check_size(&graph)?;
     let found = extract(alloc, graph, flow)?;
     Ok(found.gates)
 }
@@ -88,7 +87,6 @@ fn reduce_counted<L: Ledger>(
     requires flow { IsFlow graph.old.graph flow.old.flow }
     ensures { OnOk result (IsFlow graph.new.graph flow.new.flow) }
 {
-    check_size(graph)?;
     let mut steps = Steps::<L>::new(blank);
     reduce(graph, flow, trace, &mut steps)?;
     Ok(())

@@ -19,22 +19,13 @@ use Rattle.circuit_graph.proofs.RunLemmas.{run_comes}
 use Rattle.circuit_graph.proofs.Calls.{here_live}
 use Rattle.teleport_laws.specs.Spots.{At, spot_at}
 use Rattle.teleport_laws.specs.Groups.{placed, change}
-use Rattle.teleport_laws.proofs.Carrying.{AreBelow, held-below}
+use Rattle.teleport_laws.proofs.Carrying.{AreBelow, held-below, none_plus, cond-below}
 use Rattle.teleport_circuits.specs.Circuits.{phase_in, added_at, added_from}
 use Rattle.teleport_circuits.specs.Teleporting.{place_number}
 use Rattle.teleport_circuits.proofs.Moving.{output_before, phase_here, cut}
-
-low_sum : (i j : ℕ) → sum_of_phases i j < turn
-low_sum i j = omega arith
-
-none_less : (k : ℕ) → k < turn → sum_of_phases k (opposite_phase k) ≡ 0
-none_less k low = omega arith
-
-plus_none : (k : ℕ) → k < turn → sum_of_phases k 0 ≡ k
-plus_none k low = omega arith
-
-none_plus : (k : ℕ) → k < turn → sum_of_phases 0 k ≡ k
-none_plus k low = omega arith
+use Rattle.zx_calculus.proofs.Kept.{sum_below}
+use Rattle.teleport_laws.proofs.Shifting.{plus_none}
+use Rattle.teleport_laws.proofs.Grouping.{none_of_it}
 
 sum_assoc : (a b c : ℕ) → sum_of_phases (sum_of_phases a b) c ≡ sum_of_phases a (sum_of_phases b c)
 sum_assoc a b c = omega arith
@@ -45,13 +36,9 @@ index i j = omega arith
 start : (i : ℕ) → i + 0 ≡ i
 start i = omega arith
 
-cond_low : (b : Bool) (j k : ℕ) → j < turn → k < turn → cond b j k < turn
-cond_low true j k x y = x
-cond_low false j k x y = y
-
 added_low : (place : Option ℕ) (k : ℕ) (more : ℕ → ℕ) → AreBelow more → AreBelow (added_at place k more)
 added_low None k more low v = low v
-added_low (Some u) k more low v = cond_low (eqb v u) _ _ (low_sum (more v) k) (low v)
+added_low (Some u) k more low v = cond-below (eqb v u) _ _ (sum_below (more v) k) (low v)
 
 -- what one phase adds, as a part of the sum
 added_part : (u d rest : ℕ) (more : ℕ → ℕ) (v : ℕ) → AreBelow more → rest < turn → d < turn →
@@ -74,10 +61,10 @@ module _ (old phase vertex_of : ℕ → ℕ) (pick : ℕ → Bool) (low_old : (i
       sum_of_phases (added_at place (change old phase i) more v) (sum_over (filter pick rest) v) ≡ sum_of_phases (more v) (sum_over (filter pick (i ∷ rest)) v)
   one_added i place true rest more v low picked some same =
       ap (λ p. sum_of_phases (added_at p (change old phase i) more v) (sum_over (filter pick rest) v)) (some refl)
-      ∙ added_part (vertex_of i) (change old phase i) (sum_over (filter pick rest) v) more v low (held-below (change old phase) (λ x. spot_at (vertex_of x)) (filter pick rest) (At v)) (low_sum (phase i) (opposite_phase (old i)))
+      ∙ added_part (vertex_of i) (change old phase i) (sum_over (filter pick rest) v) more v low (held-below (change old phase) (λ x. spot_at (vertex_of x)) (filter pick rest) (At v)) (sum_below (phase i) (opposite_phase (old i)))
       ∙ ap (λ b. sum_of_phases (more v) (sum_over (cond b (i ∷ filter pick rest) (filter pick rest)) v)) (sym picked)
   one_added i place false rest more v low picked some same =
-      ap (λ m. sum_of_phases m (sum_over (filter pick rest) v)) (nothing_added place (change old phase i) more v low (ap (λ k. sum_of_phases k (opposite_phase (old i))) (same refl) ∙ none_less (old i) (low_old i)))
+      ap (λ m. sum_of_phases m (sum_over (filter pick rest) v)) (nothing_added place (change old phase i) more v low (ap (λ k. sum_of_phases k (opposite_phase (old i))) (same refl) ∙ none_of_it (old i) (low_old i)))
       ∙ ap (λ b. sum_of_phases (more v) (sum_over (cond b (i ∷ filter pick rest) (filter pick rest)) v)) (sym picked)
 
   some_place : (g : Graph) (gate : Gate) → is_odd_phase gate ≡ true → place_of g gate ≡ Some (place_number (place_of g gate))

@@ -1,4 +1,3 @@
-pub mod Existing
 pub mod Moving
 pub mod WithPhases
 pub mod Agreeing

@@ -1,56 +1,43 @@
 -- With other phases, the gates of a circuit make its graph with the differences added.
-use Rattle.std.proofs.Common.{◌≡◌, ◌≢◌, inl, inr, refl, sym, ◌∙◌, ap, subst, ℕ, suc, ◌<◌, Bool, true, false, cond, not, eqb, List, [], ◌∷◌, ◌++◌, length, true≢false, ne_eqb, arith}
+use Rattle.std.proofs.Common.{◌≡◌, ◌≢◌, inl, inr, refl, sym, ◌∙◌, ap, subst, ℕ, suc, ◌<◌, Bool, true, false, cond, eqb, List, [], ◌∷◌, ◌++◌, length, true≢false, ne_eqb, arith}
 use Rattle.std.specs.Prelude.{slice_get, Some}
 use Rattle.std.specs.List.{All}
 use Rattle.std.proofs.lemmas.List.Elements.{All-head, All-tail, All-cons, All-nil}
 use Rattle.std.proofs.lemmas.List.FromFn.{length-map-range_with_len}
 use Rattle.zx_model.specs.Phase.{turn, half_turn, sum_of_phases, opposite_phase}
-use Rattle.zx_model.specs.Number.{Number, one, mul}
-use Rattle.zx_model.specs.Proportional.{Proportional}
 use Rattle.zx_model.specs.Bits.{member}
-use Rattle.zx_model.proofs.Ring.{one-mul, one_nonzero}
-use Rattle.zx_calculus.specs.Graph.{Kind, Vertex, Graph, ids, with_kinds, insert_vertex, OrderedEdges}
-use Rattle.zx_calculus.specs.Sum.{sum}
+use Rattle.zx_calculus.specs.Graph.{Kind, Graph, ids, with_kinds, insert_vertex, OrderedEdges}
 use Rattle.zx_calculus.specs.Splits.{spider_of_phase_zero}
 use Rattle.zx_calculus.specs.Gadgets.{fuse_kind}
 use Rattle.zx_calculus.specs.Turns.{in_plane}
 use Rattle.zx_calculus.specs.Worked.{plain}
 use Rattle.zx_calculus.specs.Graph.{XY}
 use Rattle.zx_calculus.proofs.Ids.{by_equal, or-right}
-use Rattle.zx_calculus.proofs.Vertices.{ids-with_kinds, with_kinds_same, member-insert}
-use Rattle.zx_calculus.proofs.ChangedKinds.{with_kinds-with_kinds}
+use Rattle.zx_calculus.proofs.Vertices.{ids-with_kinds, length-with_kinds, with_kinds_same, member-insert}
+use Rattle.zx_calculus.proofs.ChangedKinds.{with_kinds-with_kinds, with_kinds-insert}
 use Rattle.zx_gates.specs.Circuit.{Circuit, IsCircuit, IsOnQubits, IsBelowATurn}
-use Rattle.zx_gates.specs.Maps.{amp, act, acts}
 use Rattle.zx_gates.specs.declared.gate.Gate.{Gate}
 use Rattle.zx_gates.specs.declared.gate.Gate.TheVariants.{H, Phase, Cz, Cx, Not}
-use Rattle.zx_gates.proofs.MapLemmas.{amp-acts, act-phase-zero}
-use Rattle.circuit_laws.specs.Followed.{EndsAt}
 use Rattle.circuit_laws.specs.Peeling.{HasPlainOutput}
-use Rattle.circuit_laws.proofs.Composing.{peels_at_end, ends_at_sum}
-use Rattle.circuit_graph.specs.Translation.{by_hadamards, written_out, place_of, present, wires, scalar_of, translated}
+use Rattle.circuit_graph.specs.Translation.{by_hadamards, written_out, place_of, present, wires}
 use Rattle.circuit_graph.specs.Internal.Runs.{State, begun, IsReady, IsGateStep, IsRun, IsSpiderStep, IsPhaseStep, IsToggleStep, Comes, Translates}
 use Rattle.circuit_graph.proofs.RunLemmas.{run_comes, run-append}
 use Rattle.circuit_graph.proofs.Gates.{gate_comes}
 use Rattle.circuit_graph.proofs.Graphs.{present_is}
 use Rattle.circuit_graph.proofs.Calls.{here_live}
-use Rattle.circuit_graph.proofs.Beginning.{begun_ends}
 use Rattle.circuit_graph.proofs.Whole.{run_translates}
-use Rattle.circuit_graph.proofs.WrittenOut.{map-written, scalar_of-nonzero}
 use Rattle.teleport_laws.specs.Shifts.{add_kind, shifted, IsShift}
-use Rattle.teleport_laws.proofs.Shifting.{ids-shifted, with_kinds-insert}
+use Rattle.teleport_laws.proofs.Shifting.{ids-shifted}
 use Rattle.teleport_laws.proofs.Runs.{shifted-none}
 use Rattle.teleport_circuits.specs.Circuits.{IsSkeleton, phase_in, with_phase_in, with_phases, without_idle, added_at, added_from, added_by}
-use Rattle.teleport_circuits.proofs.Existing.{HasRun, wires_formed, ready, gates_run}
+use Rattle.circuit_graph.proofs.Wiring.{wires_formed}
+use Rattle.circuit_graph.proofs.Existing.{HasRun, ready, gates_run}
 
 abbrev pub shifted_state : (ℕ → ℕ) → State → State
 shifted_state more s = record { graph = shifted more s.graph; table = s.table }
 
 ordered-shifted : (more : ℕ → ℕ) (g : Graph) → OrderedEdges (ids g.vertices) g.edges → OrderedEdges (ids (shifted more g).vertices) g.edges
 ordered-shifted more g o = subst (λ vs. OrderedEdges vs g.edges) (sym (ids-shifted more g)) o
-
-length-shifted : (f : ℕ → Kind → Kind) (vs : List Vertex) → length (with_kinds f vs) ≡ length vs
-length-shifted f [] = refl
-length-shifted f (v ∷ vs) = ap suc (length-shifted f vs)
 
 -- what a gate leads to
 record Shifts (s : State) (gates : List Gate) (more after : ℕ → ℕ) (t : State) : Type 0 where
@@ -73,7 +60,7 @@ spider_shifts s q t more shift c = record {
     inputs = c.peel.inputs;
     outputs = c.peel.outputs;
   };
-  id = c.id ∙ sym (length-shifted (add_kind more) s.graph.vertices);
+  id = c.id ∙ sym (length-with_kinds (add_kind more) s.graph.vertices);
   table = c.table;
 }
 
@@ -229,19 +216,6 @@ gates_shift phase i (gate ∷ gates) s t more r shift low run =
     (All-tail IsBelowATurn gate gates low) parts.behind))
 
 -- ---- phase gates of phase 0
-acts-idle : (gates : List Gate) (f : List Bool → Number) → acts (written_out gates) f ≡ acts (written_out (without_idle gates)) f
-acts-idle [] f = refl
-acts-idle (H q ∷ gates) f = ap (act (H q)) (acts-idle gates f)
-acts-idle (Cz p q ∷ gates) f = ap (act (Cz p q)) (acts-idle gates f)
-acts-idle (Cx control target ∷ gates) f = ap (acts (by_hadamards (Cx control target))) (acts-idle gates f)
-acts-idle (Not q ∷ gates) f = ap (acts (by_hadamards (Not q))) (acts-idle gates f)
-acts-idle (Phase q k ∷ gates) f =
-    by_equal k 0
-    (λ t e. ap (λ j. act (Phase q j) (acts (written_out gates) f)) e ∙ act-phase-zero q (acts (written_out gates) f) ∙ acts-idle gates f
-    ∙ ap (λ b. acts (written_out (cond (not b) (Phase q k ∷ without_idle gates) (without_idle gates))) f) (sym t))
-    (λ t n. ap (act (Phase q k)) (acts-idle gates f)
-    ∙ ap (λ b. acts (written_out (cond (not b) (Phase q k ∷ without_idle gates) (without_idle gates))) f) (sym t))
-
 pub left_on : (n : ℕ) (phase : ℕ → ℕ) (i : ℕ) (gates : List Gate) → All (IsOnQubits n) gates → All (IsOnQubits n) (without_idle (with_phases phase i gates))
 left_on n phase i [] on = on
 left_on n phase i (H q ∷ gates) on = All-cons (IsOnQubits n) (H q) _ (All-head (IsOnQubits n) (H q) gates on) (left_on n phase (suc i) gates (All-tail (IsOnQubits n) (H q) gates on))
@@ -291,33 +265,3 @@ module _ (c : Circuit) (phase : ℕ → ℕ) (formed : IsCircuit c) where
   run_there =
       subst (λ g. IsRun (record { graph = g; table = [] }) (written_out (with_phases phase 0 c.gates)) (shifted_state (added_by c phase) translation.last)) (shifted-none (wires c.qubits) (λ v. 0) (wires_formed c.qubits) (λ v. refl))
       (gates_shift phase 0 c.gates (begun c.qubits) translation.last (λ v. 0) (ready c.qubits) (none_more (wires c.qubits)) (λ k d within. (formed.on_qubits k d within).1) translation.run).run
-
-  comes_there : Comes (begun c.qubits) (written_out (with_phases phase 0 c.gates)) (shifted_state (added_by c phase) translation.last)
-  comes_there = run_comes (begun c.qubits) (written_out (with_phases phase 0 c.gates)) (shifted_state (added_by c phase) translation.last) (ready c.qubits) run_there
-
-  ends_there : EndsAt one (shifted (added_by c phase) translation.last.graph) (written_out (with_phases phase 0 c.gates))
-  ends_there = subst (λ k. EndsAt k (shifted (added_by c phase) translation.last.graph) (written_out (with_phases phase 0 c.gates))) (one-mul one)
-      (peels_at_end one one (shifted (added_by c phase) translation.last.graph) (wires c.qubits) [] (written_out (with_phases phase 0 c.gates)) comes_there.map (begun_ends c.qubits (wires_formed c.qubits)))
-
-  entry : (x y : List Bool) → length x ≡ c.qubits → length y ≡ c.qubits →
-      sum (shifted (added_by c phase) translation.last.graph) x y ≡ mul (scalar_of (without_idle (with_phases phase 0 c.gates))) (amp (without_idle (with_phases phase 0 c.gates)) x y)
-  entry x y l m =
-      ends_at_sum one (shifted (added_by c phase) translation.last.graph) (written_out (with_phases phase 0 c.gates)) ends_there x y (l ∙ sym translates.inputs) (m ∙ sym translates.outputs) ∙ one-mul _
-      ∙ amp-acts (written_out (with_phases phase 0 c.gates)) x y
-      ∙ ap (λ (h : List Bool → Number). h x) (acts-idle (with_phases phase 0 c.gates) (λ z. amp [] z y))
-      ∙ map-written c.qubits (without_idle (with_phases phase 0 c.gates)) (left_on c.qubits phase 0 c.gates on) (λ z. amp [] z y) x l
-      ∙ ap (mul (scalar_of (without_idle (with_phases phase 0 c.gates)))) (sym (amp-acts (without_idle (with_phases phase 0 c.gates)) x y))
-
-  pub map_there : Proportional c.qubits c.qubits (sum (shifted (added_by c phase) (translated c))) (amp (without_idle (with_phases phase 0 c.gates)))
-  map_there = subst (λ g. Proportional c.qubits c.qubits (sum (shifted (added_by c phase) g)) (amp (without_idle (with_phases phase 0 c.gates)))) translates.graph
-      (record {
-        left = one;
-        right = scalar_of (without_idle (with_phases phase 0 c.gates));
-        left_nonzero = one_nonzero;
-        right_nonzero = scalar_of-nonzero (without_idle (with_phases phase 0 c.gates));
-        equal = λ x y l m. one-mul _ ∙ entry x y l m;
-      })
-
-pub shifted_map : (c : Circuit) (phase : ℕ → ℕ) → IsCircuit c → ((i : ℕ) → phase i < turn) →
-    Proportional c.qubits c.qubits (sum (shifted (added_by c phase) (translated c))) (amp (without_idle (with_phases phase 0 c.gates)))
-shifted_map c phase formed low = map_there c phase formed

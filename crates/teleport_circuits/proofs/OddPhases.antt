@@ -13,7 +13,7 @@ use Rattle.zx_calculus.specs.Splits.{spider_of_phase_zero}
 use Rattle.zx_calculus.specs.Steps.{Step, IsRun}
 use Rattle.zx_calculus.proofs.Ids.{by_test, by_equal}
 use Rattle.zx_calculus.proofs.Vertices.{ids-with_kinds, kind_of-with_kinds, kind_of-insert}
-use Rattle.zx_calculus.proofs.Kept.{kind_of-insert_other}
+use Rattle.zx_calculus.proofs.Kept.{kind_of-insert_other, opposite_below}
 use Rattle.zx_calculus.proofs.Steps.{run_odd}
 use Rattle.zx_gates.specs.Circuit.{Circuit, IsCircuit, is_odd_phase, gate_odd_phases}
 use Rattle.zx_gates.specs.declared.gate.Gate.{Gate}
@@ -25,7 +25,7 @@ use Rattle.teleport_laws.specs.Shifts.{shifted}
 use Rattle.teleport_laws.specs.Spots.{At, spot_at}
 use Rattle.teleport_laws.specs.Groups.{placed, change, teleported, odd_among, IsOfGates}
 use Rattle.teleport_laws.proofs.Carrying.{AreBelow, held-below, none_plus}
-use Rattle.teleport_laws.proofs.Shifting.{phase-shifted}
+use Rattle.teleport_laws.proofs.Shifting.{phase-shifted, opposite-sum}
 use Rattle.teleport_laws.proofs.Resting.{kind_of-absent}
 use Rattle.teleport_laws.proofs.Placing.{has_few_odd, placed-absent}
 use Rattle.teleport_circuits.specs.Circuits.{phase_in, with_phase_in, added_by, with_phases, is_idle, without_idle}
@@ -92,12 +92,6 @@ even_gate (Cz p q) e = refl
 even_gate (Cx a b) e = refl
 even_gate (Not q) e = refl
 
-opposite-sum : (a b : ℕ) → a < turn → b < turn → opposite_phase (sum_of_phases a b) ≡ sum_of_phases (opposite_phase a) (opposite_phase b)
-opposite-sum a b low low' = omega arith
-
-opposite_low : (k : ℕ) → opposite_phase k < turn
-opposite_low k = omega arith
-
 cond_low : (b : Bool) (j : ℕ) → j < turn → cond b j 0 < turn
 cond_low true j low = low
 cond_low false j low = omega arith
@@ -135,7 +129,7 @@ module _ (c : Circuit) (formed : IsCircuit c) where
       (λ j even. ap (λ b. cond b 0 (phase_at c (0 + j))) (ap (λ i. is_odd_phase (gate_at c i)) (zero_plus j) ∙ even))
       ∙ none_plus _ (held-below (change (phase_at c) (λ i. cond (is_odd_phase (gate_at c i)) 0 (phase_at c i))) (λ i. spot_at (vertex_at c i)) (odd_gates c) (At v))
       ∙ placed_same (change (phase_at c) (λ i. cond (is_odd_phase (gate_at c i)) 0 (phase_at c i))) (λ i. opposite_phase (phase_at c i)) (vertex_at c) (λ i. is_odd_phase (gate_at c i)) (range_with_len 0 (length c.gates)) v
-      (λ i odd. ap (λ b. sum_of_phases (cond b 0 (phase_at c i)) (opposite_phase (phase_at c i))) odd ∙ none_plus (opposite_phase (phase_at c i)) (opposite_low (phase_at c i)))
+      (λ i odd. ap (λ b. sum_of_phases (cond b 0 (phase_at c i)) (opposite_phase (phase_at c i))) odd ∙ none_plus (opposite_phase (phase_at c i)) (opposite_below (phase_at c i)))
       ∙ placed-opposite (phase_at c) (vertex_at c) (odd_gates c) v (phase_at-low c formed)
     where
       zero_plus : (j : ℕ) → 0 + j ≡ j

@@ -16,18 +16,18 @@ use Rattle.zx_gates.specs.Maps.{amp}
 use Rattle.zx_gates.specs.declared.gate.Gate.{Gate}
 use Rattle.circuit_graph.specs.Translation.{map_scalar, translated}
 use Rattle.circuit_graph.specs.Internal.Runs.{State, Translates}
-use Rattle.circuit_graph.proofs.Whole.{translated_scaled}
 use Rattle.teleport_circuits.specs.Circuits.{with_gates}
 use Rattle.teleport_circuits.specs.Teleporting.{new_phase, spots_of, teleported_circuit, HaveQuotient}
 use Rattle.teleport_circuits.proofs.Moving.{translates}
 use Rattle.teleport_circuits.proofs.WithPhases.{translates_there, scalar-left}
+use Rattle.zx_calculus.proofs.Kept.{sum_below}
 
 -- the map of a circuit by a graph to which its own leads
 by_end : (c : Circuit) (t : State) (h : Graph) (s : Scalar) → Translates c t → IsSumTimes (translated c) s h →
     IsScaled c.qubits c.qubits (amp c.gates) (product_of_scalars (map_scalar c.gates) s) (sum h)
 by_end c t h s e p =
     scaled_trans c.qubits c.qubits (amp c.gates) (sum (translated c)) (sum h) (map_scalar c.gates) s
-    (subst (λ g. IsScaled c.qubits c.qubits (amp c.gates) (map_scalar c.gates) (sum g)) e.graph (translated_scaled c t e))
+    (subst (λ g. IsScaled c.qubits c.qubits (amp c.gates) (map_scalar c.gates) (sum g)) e.graph e.scaled)
     (λ x y l m. p x y (l ∙ sym inputs) (m ∙ sym outputs))
   where
     inputs : length (translated c).inputs ≡ c.qubits
@@ -40,14 +40,11 @@ by_end c t h s e p =
 common_turn : (j k : ℕ) → k < turn → sum_of_phases (sum_of_phases 0 j) (opposite_phase (sum_of_phases 0 k)) ≡ sum_of_phases j (opposite_phase k)
 common_turn j k low = omega (arith, low)
 
-low_sum : (j k : ℕ) → sum_of_phases j k < turn
-low_sum j k = omega arith
-
 have_quotient : (c : Circuit) (gates : List Gate) (h : Graph) (u v : State) → Translates c u → Translates (with_gates c gates) v → map_scalar gates ≡ map_scalar c.gates → HaveQuotient c (with_gates c gates) h
 have_quotient c gates h u v a b same s t low p q =
     scaled_renamed c.qubits c.qubits (amp c.gates) (amp gates) (quotient_of_scalars (product_of_scalars (map_scalar c.gates) s) (product_of_scalars (map_scalar gates) t)) (quotient_of_scalars s t)
     exponents (ap root_power (common_turn s.turn t.turn low))
-    (scaled_over c.qubits c.qubits (amp c.gates) (sum h) (amp gates) (product_of_scalars (map_scalar c.gates) s) (product_of_scalars (map_scalar gates) t) (low_sum 0 t.turn)
+    (scaled_over c.qubits c.qubits (amp c.gates) (sum h) (amp gates) (product_of_scalars (map_scalar c.gates) s) (product_of_scalars (map_scalar gates) t) (sum_below 0 t.turn)
     (by_end c u h s a p) (by_end (with_gates c gates) v h t b q))
   where
     exponents : (quotient_of_scalars (product_of_scalars (map_scalar c.gates) s) (product_of_scalars (map_scalar gates) t)).root2 ≡ s.root2 -ℤ t.root2

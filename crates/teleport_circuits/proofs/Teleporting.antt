@@ -1,16 +1,15 @@
 -- Teleported phases keep the map.
-use Rattle.std.proofs.Common.{◌≡◌, refl, sym, ◌∙◌, ap, ap₂, subst, ℕ, ◌+◌, ◌<◌, Bool, true, cond, ltb, eqb, List, [], ◌∷◌, length, map, filter, ltb-true, ltb-false, arith}
+use Rattle.std.proofs.Common.{◌≡◌, refl, sym, ◌∙◌, ap, ap₂, subst, ℕ, ◌+◌, ◌<◌, Bool, true, cond, ltb, eqb, List, [], ◌∷◌, length, filter, ltb-true, ltb-false, arith}
 use Rattle.std.specs.List.{range_with_len}
 use Rattle.std.proofs.lemmas.List.{get_or_past}
 use Rattle.zx_model.specs.Phase.{turn, sum_of_phases}
 use Rattle.zx_model.specs.Proportional.{Proportional}
 use Rattle.zx_model.specs.Bits.{member}
 use Rattle.zx_model.proofs.ProportionalLemmas.{proportional_sym, proportional_trans}
-use Rattle.zx_calculus.specs.Graph.{Graph, ids, in_order, Live, WellFormed, Distinct}
+use Rattle.zx_calculus.specs.Graph.{Graph, in_order, Live, WellFormed, Distinct}
 use Rattle.zx_calculus.specs.Sum.{sum}
-use Rattle.zx_calculus.specs.Splits.{spider_of_phase_zero}
 use Rattle.zx_calculus.specs.Steps.{Step, IsRun}
-use Rattle.zx_calculus.specs.Exact.{KeepsMap}
+use Rattle.zx_calculus.specs.StepScalars.{KeepsMap}
 use Rattle.zx_calculus.proofs.Ids.{by_test, Distinct-rising, member-filter, and-right}
 use Rattle.zx_calculus.proofs.Extensionality.{in_order-filter}
 use Rattle.zx_gates.specs.Circuit.{Circuit, IsCircuit, IsBelowATurn, is_odd_phase}
@@ -28,16 +27,14 @@ use Rattle.teleport_laws.proofs.Grouping.{change_balanced, teleported-low}
 use Rattle.teleport_laws.proofs.Placing.{leads_to_the_same, keeps_the_sum}
 use Rattle.teleport_circuits.specs.Circuits.{phase_in, added_by}
 use Rattle.teleport_circuits.specs.Teleporting.{gate_at, phase_at, vertex_at, odd_gates, new_phase, spots_of, teleported_gates, teleported_circuit}
-use Rattle.teleport_circuits.proofs.Existing.{wires_formed, ready}
-use Rattle.teleport_circuits.proofs.Moving.{translation, translates, shifted_map}
-use Rattle.teleport_circuits.proofs.WithPhases.{translates_there, graph_there}
+use Rattle.circuit_graph.proofs.Wiring.{wires_formed}
+use Rattle.circuit_graph.proofs.Existing.{ready}
+use Rattle.teleport_circuits.proofs.Moving.{translation, translates}
+use Rattle.teleport_circuits.proofs.WithPhases.{translates_there, graph_there, map_there}
 use Rattle.teleport_circuits.proofs.Agreeing.{added_agrees, places_live, odd_placed}
+use Rattle.circuit_graph.proofs.Beginning.{ids-spiders}
 
 -- ---- numbers of gates
-ids-spiders : (us : List ℕ) → ids (map spider_of_phase_zero us) ≡ us
-ids-spiders [] = refl
-ids-spiders (u ∷ us) = ap (λ vs. u ∷ vs) (ids-spiders us)
-
 range-rising : (n : ℕ) → in_order ltb (range_with_len 0 n) ≡ true
 range-rising n = ap (in_order ltb) (sym (ids-spiders (range_with_len 0 n))) ∙ (wires_formed n).vertices_rising
 
@@ -136,7 +133,7 @@ module _ (c : Circuit) (formed : IsCircuit c) where
 
     new_map : Proportional c.qubits c.qubits (sum (shifted (placed (change (phase_at c) (teleported (phase_at c) (spots_of c steps h run) (odd_gates c))) (vertex_at c) (odd_gates c)) (translated c))) (amp (teleported_gates c steps h run))
     new_map = subst (λ m. Proportional c.qubits c.qubits (sum (shifted m (translated c))) (amp (teleported_gates c steps h run))) (λ i v. adds v i)
-        (shifted_map c (new_phase c (spots_of c steps h run)) formed (new_phase-low c (spots_of c steps h run) formed))
+        (map_there c (new_phase c (spots_of c steps h run)) formed)
 
     kept : Proportional c.qubits c.qubits (sum (shifted (placed (change (phase_at c) (teleported (phase_at c) (spots_of c steps h run) (odd_gates c))) (vertex_at c) (odd_gates c)) (translated c))) (sum (translated c))
     kept = subst (λ n. Proportional n c.qubits (sum (shifted (placed (change (phase_at c) (teleported (phase_at c) (spots_of c steps h run) (odd_gates c))) (vertex_at c) (odd_gates c)) (translated c))) (sum (translated c))) inputs

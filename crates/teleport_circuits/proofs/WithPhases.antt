@@ -1,12 +1,15 @@
 -- The graph of a circuit with other phases is that of the circuit, with the differences added.
 use Rattle.std.proofs.Common.{◌≡◌, refl, sym, ◌∙◌, ap, subst, ℕ, suc, ◌+◌, ◌*◌, ◌<◌, pos, neg_ℤ, List, [], ◌∷◌, ◌++◌, zero-add, arith}
-use Rattle.zx_model.specs.Phase.{turn, sum_of_phases}
+use Rattle.zx_model.specs.Phase.{turn}
+use Rattle.zx_model.specs.Proportional.{Proportional}
 use Rattle.zx_calculus.specs.Graph.{Kind, with_kinds}
+use Rattle.zx_calculus.specs.Sum.{sum}
 use Rattle.zx_calculus.specs.Gadgets.{fuse_kind}
 use Rattle.zx_calculus.specs.Turns.{in_plane}
 use Rattle.zx_calculus.proofs.Ids.{by_equal}
 use Rattle.zx_calculus.proofs.StepIdentities.{with_kinds-kept}
 use Rattle.zx_gates.specs.Circuit.{Circuit, IsCircuit}
+use Rattle.zx_gates.specs.Maps.{amp}
 use Rattle.zx_gates.specs.Counting.{is_cx, is_not}
 use Rattle.zx_gates.specs.Internal.Scalars.{scalar}
 use Rattle.zx_gates.specs.declared.gate.Gate.{Gate}
@@ -14,17 +17,15 @@ use Rattle.zx_gates.specs.declared.gate.Gate.TheVariants.{H, Phase, Cz, Cx, Not}
 use Rattle.circuit_graph.specs.Translation.{by_hadamards, written_out, written_count, map_scalar, translated}
 use Rattle.circuit_graph.specs.Internal.Runs.{State, begun, IsReady, IsRun, IsPhaseStep, Translates}
 use Rattle.circuit_graph.proofs.RunLemmas.{run_comes, run-append}
-use Rattle.circuit_graph.proofs.Whole.{run_translates}
+use Rattle.circuit_graph.proofs.Whole.{run_translates, translated_map}
 use Rattle.circuit_graph.proofs.WrittenOut.{count-cons}
 use Rattle.teleport_laws.specs.Shifts.{shifted}
 use Rattle.teleport_circuits.specs.Circuits.{with_phases, without_idle, with_gates, added_by}
-use Rattle.teleport_circuits.proofs.Existing.{ready}
+use Rattle.circuit_graph.proofs.Existing.{ready}
 use Rattle.teleport_circuits.proofs.Moving.{cut, on, left_on, translation, translates, shifted_state, run_there}
+use Rattle.teleport_laws.proofs.Shifting.{plus_none}
 
 -- ---- phase gates of phase 0 leave the graph as it is
-no_phase : (k : ℕ) → k < turn → sum_of_phases k 0 ≡ k
-no_phase k low = omega arith
-
 idle_step : (s : State) (q : ℕ) (t : State) → IsReady s → IsPhaseStep s q 0 t → t ≡ s
 idle_step s q t r c = λ i. record {
   graph = record { vertices = (c.peel.vertices ∙ kept) i; edges = c.peel.edges i; inputs = c.peel.inputs i; outputs = c.peel.outputs i };
@@ -33,7 +34,7 @@ idle_step s q t r c = λ i. record {
   where
     same : (p : ℕ) (kind : Kind) → kind.phase < turn → fuse_kind c.peel.vertex 0 p kind ≡ kind
     same p kind low =
-        by_equal p c.peel.vertex (λ t e. rw t (ap (in_plane kind.plane) (no_phase kind.phase low))) (λ t n. rw t refl)
+        by_equal p c.peel.vertex (λ t e. rw t (ap (in_plane kind.plane) (plus_none kind.phase low))) (λ t n. rw t refl)
 
     kept : with_kinds (fuse_kind c.peel.vertex 0) s.graph.vertices ≡ s.graph.vertices
     kept = with_kinds-kept (fuse_kind c.peel.vertex 0) s.graph.vertices r.well_formed.phases_below_a_turn same
@@ -67,6 +68,10 @@ module _ (c : Circuit) (phase : ℕ → ℕ) (formed : IsCircuit c) where
 
   pub graph_there : translated (with_gates c (without_idle (with_phases phase 0 c.gates))) ≡ shifted (added_by c phase) (translated c)
   graph_there = sym translates_there.graph ∙ ap (shifted (added_by c phase)) (translates c phase formed).graph
+
+  pub map_there : Proportional c.qubits c.qubits (sum (shifted (added_by c phase) (translated c))) (amp (without_idle (with_phases phase 0 c.gates)))
+  map_there = subst (λ g. Proportional c.qubits c.qubits (sum (shifted (added_by c phase) g)) (amp (without_idle (with_phases phase 0 c.gates)))) (translates c phase formed).graph
+      (translated_map _ (shifted_state (added_by c phase) (translation c phase formed).last) translates_there)
 
 -- ---- as many gates are written out
 written-cons : (gate : Gate) (gates : List Gate) → written_count (gate ∷ gates) ≡ written_count (gate ∷ []) + written_count gates

@@ -11,6 +11,7 @@ use Rattle.zx_calculus.proofs.Gadgets.{neighbours_into}
 use Rattle.teleport_laws.specs.Shifts.{signed, negates, into_of, joined_phases, more_after}
 use Rattle.teleport_laws.specs.Spots.{Holder, At, Deleted, Dropped, Spot, spot_after, moved}
 use Rattle.teleport_laws.specs.Groups.{same_holder, part, held}
+use Rattle.teleport_laws.proofs.Shifting.{plus_none, four_phases}
 
 -- ---- signs
 pub signed-below : (b : Bool) (k : ℕ) → k < turn → signed b k < turn
@@ -34,9 +35,6 @@ signed-signed false false k low = refl
 pub none_plus : (k : ℕ) → k < turn → sum_of_phases 0 k ≡ k
 none_plus k low = omega arith
 
-pub plus_none : (k : ℕ) → k < turn → sum_of_phases k 0 ≡ k
-plus_none k low = omega arith
-
 -- ---- sums of what gates add
 abbrev pub AreBelow : (ℕ → ℕ) → Type 0
 AreBelow phase = (i : ℕ) → phase i < turn
@@ -59,9 +57,6 @@ held-below phase spot (i ∷ is) holder = low (part holder (spot i) (phase i)) (
     low j k = omega arith
 
 -- ---- what becomes of a sum is the sum of what becomes of each
-four_phases : (a b c d : ℕ) → sum_of_phases (sum_of_phases a b) (sum_of_phases c d) ≡ sum_of_phases (sum_of_phases a c) (sum_of_phases b d)
-four_phases a b c d = omega arith
-
 left_out-sum : (b : Bool) (x y z : ℕ) → x ≡ sum_of_phases y z → cond b 0 x ≡ sum_of_phases (cond b 0 y) (cond b 0 z)
 left_out-sum true x y z e = refl
 left_out-sum false x y z e = e

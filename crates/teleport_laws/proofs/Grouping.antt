@@ -6,7 +6,9 @@ use Rattle.zx_calculus.proofs.Ids.{by_test, by_equal, eqb-self, Distinct}
 use Rattle.teleport_laws.specs.Shifts.{signed}
 use Rattle.teleport_laws.specs.Spots.{Holder, At, Deleted, Dropped, Spot}
 use Rattle.teleport_laws.specs.Groups.{same_holder, is_dropped, part, held, first_of, teleported, change, IsBalanced}
-use Rattle.teleport_laws.proofs.Carrying.{AreBelow, signed-below, signed-none, signed-sum, zero_low, cond-below, part-below, held-below, none_plus, plus_none}
+use Rattle.teleport_laws.proofs.Carrying.{AreBelow, signed-below, signed-none, signed-sum, zero_low, cond-below, part-below, held-below, none_plus}
+use Rattle.teleport_laws.proofs.Shifting.{plus_none, opposite-sum, four_phases}
+use Rattle.zx_calculus.proofs.Kept.{opposite_below}
 
 pub same_holder-true : (h k : Holder) → same_holder h k ≡ true → h ≡ k
 same_holder-true (At v) (At w) e = ap At (eqb-true v w e)
@@ -110,15 +112,6 @@ first_gets_all phase spot gates holder matters d =
         same false = refl
 
 -- ---- the change
-opposite-low : (k : ℕ) → opposite_phase k < turn
-opposite-low k = omega arith
-
-four_phases : (a b c d : ℕ) → sum_of_phases (sum_of_phases a b) (sum_of_phases c d) ≡ sum_of_phases (sum_of_phases a c) (sum_of_phases b d)
-four_phases a b c d = omega arith
-
-opposite-sum : (a b : ℕ) → a < turn → b < turn → opposite_phase (sum_of_phases a b) ≡ sum_of_phases (opposite_phase a) (opposite_phase b)
-opposite-sum a b low low' = omega arith
-
 signed-opposite : (b : Bool) (k : ℕ) → k < turn → signed b (opposite_phase k) ≡ opposite_phase (signed b k)
 signed-opposite true k low = refl
 signed-opposite false k low = refl
@@ -126,7 +119,7 @@ signed-opposite false k low = refl
 part-change : (holder : Holder) (spot : Spot) (j k : ℕ) → j < turn → k < turn → part holder spot (sum_of_phases j (opposite_phase k)) ≡ sum_of_phases (part holder spot j) (opposite_phase (part holder spot k))
 part-change holder spot j k low low' =
     by_test (same_holder spot.holder holder)
-    (λ t. rw t (signed-sum spot.negated j (opposite_phase k) low (opposite-low k) ∙ ap (sum_of_phases (signed spot.negated j)) (signed-opposite spot.negated k low')))
+    (λ t. rw t (signed-sum spot.negated j (opposite_phase k) low (opposite_below k) ∙ ap (sum_of_phases (signed spot.negated j)) (signed-opposite spot.negated k low')))
     (λ f. rw f refl)
 
 pub held-change : (old new : ℕ → ℕ) (spot : ℕ → Spot) (gates : List ℕ) (holder : Holder) → AreBelow old → AreBelow new →
@@ -138,7 +131,7 @@ held-change old new spot (i ∷ is) holder low low' =
     ∙ ap (sum_of_phases (sum_of_phases (part holder (spot i) (new i)) (held new spot is holder)))
     (sym (opposite-sum (part holder (spot i) (old i)) (held old spot is holder) (part-below holder (spot i) (old i) (low i)) (held-below old spot is holder)))
 
-none_of_it : (k : ℕ) → k < turn → sum_of_phases k (opposite_phase k) ≡ 0
+pub none_of_it : (k : ℕ) → k < turn → sum_of_phases k (opposite_phase k) ≡ 0
 none_of_it k low = omega arith
 
 pub teleported-low : (phase : ℕ → ℕ) (spot : ℕ → Spot) (gates : List ℕ) → AreBelow (teleported phase spot gates)

@@ -8,7 +8,7 @@ use Rattle.zx_calculus.specs.Sum.{sum}
 use Rattle.zx_calculus.specs.Steps.{Step, IsRun}
 use Rattle.zx_calculus.proofs.Ids.{member-here, member-there, apart_of_member}
 use Rattle.zx_calculus.proofs.Kept.{kept_kinds}
-use Rattle.zx_calculus.proofs.Steps.{run_proportional, step_kept}
+use Rattle.zx_calculus.proofs.Steps.{run_proportional, run_kept}
 use Rattle.std.proofs.Common.{ne_eqb}
 use Rattle.teleport_laws.specs.Shifts.{add_kind, shifted, IsShift}
 use Rattle.teleport_laws.specs.Spots.{At, spot_at}
@@ -50,10 +50,6 @@ keeps_the_sum g steps h run w phase vertex_of gates of balanced =
     (run_proportional (shifted (placed phase vertex_of gates) g) steps h (shifted_formed g (placed phase vertex_of gates) w) (leads_to_the_same g steps h run w phase vertex_of gates of balanced))
     (proportional_sym (length g.inputs) (length g.outputs) (sum g) (sum h) (run_proportional g steps h w run))
 
-pub run_formed : (g : Graph) (steps : List Step) (h : Graph) → WellFormed g → IsRun g steps h → WellFormed h
-run_formed g [] h w run = subst WellFormed run w
-run_formed g (s ∷ steps) h w run = run_formed run.0 steps h (step_kept g s run.0 w run.1) run.2
-
 pub has_few_odd : (g : Graph) (steps : List Step) (h : Graph) (run : IsRun g steps h) → WellFormed g → HasFewOdd g steps h run
 has_few_odd g steps h run w phase vertex_of gates of d even =
-    odd_at_most g steps h run phase vertex_of gates w (run_formed g steps h w run) of.below d even
+    odd_at_most g steps h run phase vertex_of gates w (run_kept g steps h w run) of.below d even

@@ -16,15 +16,13 @@ use Rattle.zx_calculus.proofs.Steps.{step_kept}
 use Rattle.teleport_laws.specs.Shifts.{add_kind, shifted, IsShift, signed, negates, into_of, joined_phases, more_after, IsFree}
 use Rattle.teleport_laws.specs.Spots.{Holder, At, Deleted, Dropped, Spot, spot_after, moved, carried}
 use Rattle.teleport_laws.specs.Groups.{same_holder, part, held, IsBalanced}
-use Rattle.teleport_laws.proofs.Shifting.{step_carries}
-use Rattle.teleport_laws.proofs.Carrying.{signed-none, signed-below, AreBelow, zero_low, cond-below, plus_none, step_apart, after_held}
+use Rattle.teleport_laws.proofs.Shifting.{step_carries, plus_none}
+use Rattle.teleport_laws.proofs.Carrying.{signed-none, signed-below, AreBelow, zero_low, cond-below, step_apart, after_held}
+use Rattle.zx_calculus.proofs.Kept.{sum_below}
 
 -- ---- phases stay below a turn, and where vertices are
-sum_low : (j k : ℕ) → sum_of_phases j k < turn
-sum_low j k = omega arith
-
 joined_low : (u into : ℕ) (more : ℕ → ℕ) (v : ℕ) → AreBelow more → joined_phases u into more v < turn
-joined_low u into more v low = cond-below (eqb v u) _ _ zero_low (cond-below (eqb v into) _ _ (sum_low (more into) (more u)) (low v))
+joined_low u into more v low = cond-below (eqb v u) _ _ zero_low (cond-below (eqb v into) _ _ (sum_below (more into) (more u)) (low v))
 
 after_low : (g : Graph) (s : Step) (more : ℕ → ℕ) (v : ℕ) → AreBelow more → more_after g s more v < turn
 after_low g (LocalComplement u) more v low = signed-below (negates g (LocalComplement u) v) (more v) (low v)

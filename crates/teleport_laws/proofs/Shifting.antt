@@ -1,5 +1,5 @@
 -- Rewrites carry added phases along.
-use Rattle.std.proofs.Common.{◌≡◌, ◌≢◌, refl, sym, ◌∙◌, ap, ap₂, subst, ℕ, ◌<◌, Bool, true, false, cond, not, ◌&&◌, ◌||◌, eqb, ltb, List, [], ◌∷◌, arith}
+use Rattle.std.proofs.Common.{◌≡◌, ◌≢◌, refl, sym, ◌∙◌, ap, subst, ℕ, ◌<◌, Bool, true, false, cond, not, ◌&&◌, ◌||◌, eqb, List, [], ◌∷◌, arith}
 use Rattle.zx_model.specs.Phase.{turn, half_turn, quarter_turn, sum_of_phases, opposite_phase}
 use Rattle.zx_model.specs.Bits.{member}
 use Rattle.zx_calculus.specs.Graph.{Plane, XY, XZ, YZ, Kind, Vertex, Graph, ids, joined, kind_of, plane_of, phase_of, is_XY, is_XZ, Live, Interior, with_kinds, without, insert_vertex, WellFormed, OrderedEdges}
@@ -11,32 +11,15 @@ use Rattle.zx_calculus.specs.Pivots.{pivot_kind, IsPivot}
 use Rattle.zx_calculus.specs.Splits.{spider_of_phase_zero, new_vertex, IsSplitInput, IsSplitOutput}
 use Rattle.zx_calculus.specs.Gadgets.{fuse_kind, first_of_list, IsDropLone, IsFuseInto, IsFuseTwin}
 use Rattle.zx_calculus.specs.Steps.{Step, LocalComplement, Delete, Pivot, SplitInput, SplitOutput, DropLone, FuseInto, FuseTwin, IsStep}
-use Rattle.zx_calculus.proofs.Ids.{by_test, by_equal, eqb-self, Distinct, apart_of_member, member-here, member-there}
+use Rattle.zx_calculus.proofs.Ids.{by_equal, apart_of_member}
+use Rattle.zx_calculus.proofs.Splits.{mirrored, mirrored_formed, mirrored_split, split_mirrored}
 use Rattle.zx_calculus.proofs.Splitting.{distinct, distinct_without, member-without}
 use Rattle.zx_calculus.proofs.CountLemmas.{member-without_other}
 use Rattle.zx_calculus.proofs.Vertices.{ids-with_kinds, without-with_kinds, kind_of-with_kinds, kind_of-without, phase-kind_of}
-use Rattle.zx_calculus.proofs.ChangedKinds.{with_kinds-with_kinds}
+use Rattle.zx_calculus.proofs.ChangedKinds.{with_kinds-with_kinds, with_kinds_at, with_kinds-insert}
 use Rattle.zx_calculus.proofs.Gadgets.{neighbours_into}
 use Rattle.std.proofs.Common.{ne_eqb}
 use Rattle.teleport_laws.specs.Shifts.{add_kind, shifted, IsShift, signed, joined_phases, more_after, IsFree}
-
--- ---- a change of kinds at each vertex's own kind
-pub with_kinds_at : (f k : ℕ → Kind → Kind) (vs : List Vertex) → Distinct (ids vs) →
-    ((p : ℕ) → member p (ids vs) ≡ true → f p (kind_of vs p) ≡ k p (kind_of vs p)) → with_kinds f vs ≡ with_kinds k vs
-with_kinds_at f k [] d same = refl
-with_kinds_at f k (v ∷ vs) d same =
-    ap₂ (λ kind rest. record { id = v.id; kind = kind } ∷ rest)
-    (subst (λ kind. f v.id kind ≡ k v.id kind) (ap (λ b. cond b v.kind (kind_of vs v.id)) (eqb-self v.id)) (same v.id (member-here v.id (ids vs))))
-    (with_kinds_at f k vs d.1
-    (λ p there. subst (λ kind. f p kind ≡ k p kind)
-    (ap (λ b. cond b v.kind (kind_of vs p)) (ne_eqb p v.id (apart_of_member p v.id (ids vs) there d.0))) (same p (member-there p v.id (ids vs) there))))
-
-pub with_kinds-insert : (f : ℕ → Kind → Kind) (n : Vertex) (vs : List Vertex) →
-    with_kinds f (insert_vertex n vs) ≡ insert_vertex (record { id = n.id; kind = f n.id n.kind }) (with_kinds f vs)
-with_kinds-insert f n [] = refl
-with_kinds-insert f n (v ∷ vs) =
-    by_test (ltb n.id v.id) (λ t. rw t refl)
-    (λ t. rw t (ap (λ rest. record { id = v.id; kind = f v.id v.kind } ∷ rest) (with_kinds-insert f n vs)))
 
 -- phases that are added leave all else
 pub plane-added : (more : ℕ → ℕ) (vs : List Vertex) (v : ℕ) → (kind_of (with_kinds (add_kind more) vs) v).plane ≡ (kind_of vs v).plane
@@ -66,20 +49,20 @@ frame-shifted more after g h frame = record {
 }
 
 -- ---- phases and turns
-plus_none : (k : ℕ) → k < turn → sum_of_phases k 0 ≡ k
+pub plus_none : (k : ℕ) → k < turn → sum_of_phases k 0 ≡ k
 plus_none k below = omega arith
 
 swap_last : (a b c : ℕ) → sum_of_phases (sum_of_phases a b) c ≡ sum_of_phases (sum_of_phases a c) b
 swap_last a b c = omega arith
 
-opposite-sum : (a b : ℕ) → a < turn → b < turn → opposite_phase (sum_of_phases a b) ≡ sum_of_phases (opposite_phase a) (opposite_phase b)
+pub opposite-sum : (a b : ℕ) → a < turn → b < turn → opposite_phase (sum_of_phases a b) ≡ sum_of_phases (opposite_phase a) (opposite_phase b)
 opposite-sum a b low low' = omega arith
 
 quarter_less : (a b : ℕ) → a < turn → b < turn →
     sum_of_phases quarter_turn (opposite_phase (sum_of_phases a b)) ≡ sum_of_phases (sum_of_phases quarter_turn (opposite_phase a)) (opposite_phase b)
 quarter_less a b low low' = omega arith
 
-four_phases : (a b c d : ℕ) → sum_of_phases (sum_of_phases a b) (sum_of_phases c d) ≡ sum_of_phases (sum_of_phases a c) (sum_of_phases b d)
+pub four_phases : (a b c d : ℕ) → sum_of_phases (sum_of_phases a b) (sum_of_phases c d) ≡ sum_of_phases (sum_of_phases a c) (sum_of_phases b d)
 four_phases a b c d = omega arith
 
 -- what a turn of a kind makes of an added phase
@@ -213,17 +196,6 @@ module _ (g : Graph) (w : WellFormed g) (more : ℕ → ℕ) (shift : IsShift g 
     outputs = c.outputs;
   }
 
-  carry_split_output : (b : ℕ) (h : Graph) → IsSplitOutput g b (new_vertex g) h → IsSplitOutput (shifted more g) b (new_vertex (shifted more g)) (shifted more h)
-  carry_split_output b h c = rw (ids-shifted more g) record {
-    fresh = ap (member (new_vertex g)) (ids-shifted more g) ∙ c.fresh;
-    has_output = c.has_output;
-    vertices = alike_new (new_vertex g) h c.fresh c.vertices;
-    ordered = subst (λ vs. OrderedEdges vs h.edges) (sym (ids-shifted more h)) c.ordered;
-    edges = c.edges;
-    inputs = c.inputs;
-    outputs = c.outputs;
-  }
-
   carry_drop : (u : ℕ) (h : Graph) → IsDropLone g u h → IsDropLone (shifted more g) u (shifted (more_after g (DropLone u) more) h)
   carry_drop u h c = record {
     there = live-shifted more g u c.there;
@@ -273,6 +245,12 @@ module _ (g : Graph) (w : WellFormed g) (more : ℕ → ℕ) (shift : IsShift g 
     edges = c.edges;
     frame = frame-shifted more _ g h c.frame;
   }
+
+carry_split_output : (g : Graph) (w : WellFormed g) (more : ℕ → ℕ) → IsShift g more → (b : ℕ) (h : Graph) →
+    IsSplitOutput g b (new_vertex g) h → IsSplitOutput (shifted more g) b (new_vertex (shifted more g)) (shifted more h)
+carry_split_output g w more shift b h c =
+    split_mirrored (shifted more g) b (new_vertex (shifted more g)) (shifted more (mirrored h))
+    (carry_split_input (mirrored g) (mirrored_formed g w) more (record { below = shift.below; absent = shift.absent }) b (mirrored h) (mirrored_split g b (new_vertex g) h c))
 
 pub step_carries : (g : Graph) (s : Step) (h : Graph) (more : ℕ → ℕ) → WellFormed g → IsStep g s h → IsShift g more → IsFree more s →
     IsStep (shifted more g) s (shifted (more_after g s more) h)

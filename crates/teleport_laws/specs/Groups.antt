@@ -8,7 +8,7 @@ use Rattle.zx_model.specs.Phase.{turn, quarter_turn, is_odd, sum_of_phases, oppo
 use Rattle.zx_model.specs.Bits.{member}
 use Rattle.zx_calculus.specs.Graph.{Graph, phase_of, Live, Distinct}
 use Rattle.zx_calculus.specs.Counts.{odd_phases}
-use Rattle.zx_calculus.specs.Exact.{KeepsMap}
+use Rattle.zx_calculus.specs.StepScalars.{KeepsMap}
 use Rattle.zx_calculus.specs.Steps.{Step, IsRun}
 use Rattle.teleport_laws.specs.Shifts.{signed, shifted}
 use Rattle.teleport_laws.specs.Spots.{Holder, At, Deleted, Dropped, Spot, spot_at, ends_up}

@@ -74,7 +74,7 @@ fn read_in_pieces(alloc: Global, text: &[u8], count: usize) -> Result<Elementary
     let arena = Bump::new(alloc);
     let mut reader = PieceReader::new(alloc, &arena);
     for piece in text.chunks(count) {
-        reader.take(piece)?;
+        reader.take(piece).or(Err(TextError::NoMemory))?;
     }
     reader.finish()
 }

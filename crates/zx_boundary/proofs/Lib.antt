@@ -1,3 +1,2 @@
 mod Spiders
 mod Splits
-mod Calls

@@ -1,15 +1,61 @@
--- The end at a vertex moves to the spider that was added.
+-- The ends of a side, and the split of one of them.
 use Rattle.std.proofs.Common.{◌≡◌, refl, sym, ◌∙◌, ap, subst, not, ℕ, zero, suc, ◌<◌, true, false, ◌||◌, eqb, eq-eqb, List, [], ◌∷◌, length, set, slice_get, get_or, Some}
 use Rattle.std.proofs.lemmas.Option.{slice_get-get_or, slice_get_within, same_Some}
 use Rattle.zx_model.specs.Bits.{member}
-use Rattle.zx_calculus.specs.Graph.{End, Graph, ids, joined, end_vertices, in_order, different, OrderedEdges}
-use Rattle.zx_calculus.specs.Splits.{mark_of, move_end, IsSplitInput, IsSplitOutput}
+use Rattle.zx_calculus.specs.Graph.{End, Graph, end_vertices, in_order, different, Live, OrderedEnds, WellFormed}
+use Rattle.zx_calculus.specs.Splits.{mark_of, move_end, new_vertex, IsSplitInput, IsSplitOutput}
+use Rattle.zx_calculus.specs.Steps.{allowed, IsStep}
+use Rattle.zx_calculus.specs.StepScalars.{step_scalar}
+use Rattle.zx_calculus.specs.Splits.{split_scalar}
+use Rattle.zx_calculus.specs.Edits.{KeepsEnds}
 use Rattle.zx_calculus.proofs.Edits.{set-move_end}
-use Rattle.open_graph.proofs.PlaceLemmas.{slice_get-places}
 use Rattle.zx_calculus.proofs.Ids.{and-left, and-right, eqb_comm, not-true, member-there}
 use Rattle.zx_calculus.proofs.Splitting.{all_at}
+use Rattle.gflow_laws.specs.Seen.{seen}
+use Rattle.gflow_laws.specs.Flow.{Correction, order_of, IsFlow, SameSets}
+use Rattle.gflow_laws.specs.Steps.{table_after}
+use Rattle.gflow_laws.proofs.Flows.{Flows-from}
+use Rattle.gflow_laws.proofs.Rewriting.{same_of_equal}
+use Rattle.gflow_laws.proofs.Tables.{absent, unlisted}
+use Rattle.open_graph.proofs.PlaceLemmas.{slice_get-places}
+use Rattle.zx_boundary.specs.declared.side.Side.{Side}
+use Rattle.zx_boundary.specs.declared.side.Side.TheVariants.{Input, Output}
+use Rattle.zx_boundary.specs.Internal.Sides.{split_of, ends_of, with_ends, corrected, split_table}
 use Rattle.zx_boundary.specs.Internal.Spiders.{IsSpiderAdded}
+use Rattle.zx_boundary.proofs.Spiders.{end_live}
 
+pub allowed_is : (side : Side) (g : Graph) (b : ℕ) → allowed g (split_of side b) ≡ member b (end_vertices (ends_of side g))
+allowed_is Input g b = refl
+allowed_is Output g b = refl
+
+pub scalar_is : (side : Side) (g : Graph) (b : ℕ) → step_scalar g (split_of side b) ≡ split_scalar (mark_of (ends_of side g) b)
+scalar_is Input g b = refl
+scalar_is Output g b = refl
+
+pub ends_ordered : (side : Side) (g : Graph) → WellFormed g → OrderedEnds g.vertices (ends_of side g)
+ends_ordered Input g w = w.inputs
+ends_ordered Output g w = w.outputs
+
+pub ends_kept : (side : Side) (g h : Graph) → KeepsEnds g h → ends_of side h ≡ ends_of side g
+ends_kept Input g h kept = kept.inputs
+ends_kept Output g h kept = kept.outputs
+
+-- the vertex of an end that may be split is live
+pub split_live : (side : Side) (g : Graph) (b : ℕ) → WellFormed g → allowed g (split_of side b) ≡ true → Live g b
+split_live side g b w may = end_live g (ends_of side g) b (ends_ordered side g w) (sym (allowed_is side g b) ∙ may)
+
+-- the vertex that the flow then corrects isn't in the order
+pub not_corrected : (side : Side) (g : Graph) (b : ℕ) (h : Graph) (table : List Correction) → IsFlow g table → IsStep g (split_of side b) h →
+    member (corrected side b (new_vertex g)) (order_of table) ≡ false
+not_corrected Input g b h table flow step = absent (seen g) table (Flows-from (seen g) table flow) (new_vertex g) step.fresh
+not_corrected Output g b h table flow step = unlisted (seen g) table (Flows-from (seen g) table flow) b step.has_output
+
+pub table_is : (side : Side) (g : Graph) (b : ℕ) (table after : List Correction) → after ≡ split_table side b (new_vertex g) table →
+    SameSets after (table_after g (split_of side b) table)
+table_is Input g b table after e = same_of_equal e
+table_is Output g b table after e = same_of_equal e
+
+-- ---- the end at b, and its place
 length-places : (ends : List End) → length (end_vertices ends) ≡ length ends
 length-places [] = refl
 length-places (e ∷ es) = ap (λ n. suc n) (length-places es)
@@ -50,26 +96,12 @@ mark_of_end ends i b e once found read =
     let same : e.vertex ≡ b = same_Some e.vertex b (sym (slice_get-places ends i e here) ∙ found) in
     ap (mark_of ends) (sym same) ∙ mark_at ends i e once here
 
-pub input_split : (old : Graph) (b new : ℕ) (h k : Graph) (inputs : List End) → IsSpiderAdded old b new h → member b (end_vertices old.inputs) ≡ true →
-    inputs ≡ move_end b new old.inputs → k ≡ record { vertices = h.vertices; edges = h.edges; inputs = inputs; outputs = h.outputs } → IsSplitInput old b new k
-input_split old b new h k inputs s there moved made = record {
-  fresh = s.fresh;
-  has_input = there;
-  vertices = ap (λ (g : Graph). g.vertices) made ∙ s.vertices;
-  ordered = subst (λ (g : Graph). OrderedEdges (ids g.vertices) g.edges) (sym made) s.frame.ordered;
-  edges = λ p q. ap (λ (g : Graph). joined g.edges p q) made ∙ s.edges p q;
-  inputs = ap (λ (g : Graph). g.inputs) made ∙ moved;
-  outputs = ap (λ (g : Graph). g.outputs) made ∙ s.frame.outputs;
-}
-
-pub output_split : (old : Graph) (b new : ℕ) (h k : Graph) (outputs : List End) → IsSpiderAdded old b new h → member b (end_vertices old.outputs) ≡ true →
-    outputs ≡ move_end b new old.outputs → k ≡ record { vertices = h.vertices; edges = h.edges; inputs = h.inputs; outputs = outputs } → IsSplitOutput old b new k
-output_split old b new h k outputs s there moved made = record {
-  fresh = s.fresh;
-  has_output = there;
-  vertices = ap (λ (g : Graph). g.vertices) made ∙ s.vertices;
-  ordered = subst (λ (g : Graph). OrderedEdges (ids g.vertices) g.edges) (sym made) s.frame.ordered;
-  edges = λ p q. ap (λ (g : Graph). joined g.edges p q) made ∙ s.edges p q;
-  inputs = ap (λ (g : Graph). g.inputs) made ∙ s.frame.inputs;
-  outputs = ap (λ (g : Graph). g.outputs) made ∙ moved;
-}
+-- with the end moved, the graph is that after the split
+pub split_step : (side : Side) (old : Graph) (b new : ℕ) (h k : Graph) (ends : List End) → IsSpiderAdded old b new h → new ≡ new_vertex old →
+    allowed old (split_of side b) ≡ true → ends ≡ move_end b new (ends_of side old) → k ≡ with_ends side ends h → IsStep old (split_of side b) k
+split_step Input old b new h k ends s least there moved made =
+    subst (λ (g : Graph). IsSplitInput old b (new_vertex old) g) (sym made) (subst (λ n. IsSplitInput old b n (record h { inputs = ends })) least
+    (record { fresh = s.fresh; has_input = there; vertices = s.vertices; ordered = s.frame.ordered; edges = s.edges; inputs = moved; outputs = s.frame.outputs }))
+split_step Output old b new h k ends s least there moved made =
+    subst (λ (g : Graph). IsSplitOutput old b (new_vertex old) g) (sym made) (subst (λ n. IsSplitOutput old b n (record h { outputs = ends })) least
+    (record { fresh = s.fresh; has_output = there; vertices = s.vertices; ordered = s.frame.ordered; edges = s.edges; inputs = s.frame.inputs; outputs = moved }))

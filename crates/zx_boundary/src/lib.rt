@@ -13,9 +13,9 @@
 //!
 //! Inside:
 //!
-//! - `inputs`, `outputs`: a split each, with its test, the safe call, what it does in place, and its change of
-//!   the graph alone.
-//! - `spider`: what both splits are made of.
+//! - `split`: the splits, each with its test, the safe call and its change of the graph alone.
+//! - `side`: what differs between an input and an output.
+//! - `spider`: what a split is made of.
 //!
 //! ```rust
 //! if may_split_output(&graph, b) {
@@ -24,9 +24,11 @@
 //! ```
 #![tactic(auto)]
 
-mod inputs;
-mod outputs;
+mod side;
 mod spider;
+mod split;
 
-pub use inputs::{may_split_input, split_input, split_input_in_graph};
-pub use outputs::{may_split_output, split_output, split_output_in_graph};
+pub use split::{
+    may_split_input, may_split_output, split_input, split_input_in_graph, split_output,
+    split_output_in_graph,
+};

@@ -1,10 +1,10 @@
-//! What both splits are made of.
+//! What a split is made of.
 
-ghost use Rattle.std.specs.Prelude.{◌≡◌, ◌<◌, ◌-◌, not, IsOk, IfOk, OnOk};
+ghost use Rattle.std.specs.Prelude.{◌≡◌, ◌<◌, not, IsOk, IfOk, OnOk};
 ghost use Rattle.zx_calculus.specs.Graph.{Live, WellFormed};
-ghost use Rattle.zx_calculus.specs.Splits.{new_vertex};
-ghost use Rattle.zx_calculus.specs.StepScalars.{split_scalar};
+ghost use Rattle.zx_calculus.specs.Splits.{new_vertex, split_scalar};
 ghost use Rattle.zx_boundary.specs.Internal.Spiders.{IsSpiderAdded};
+ghost use Rattle.open_graph.specs.Rooms.{without_place};
 
 use open_graph::{End, OpenGraph, Plane, VertexId};
 use std::alloc::AllocError;
@@ -16,10 +16,10 @@ pub(crate) fn add_spider(g: &mut OpenGraph, b: VertexId) -> Result<VertexId, All
     requires valid { WellFormed g.old.graph }
     ensures new { IfOk result (λ new. new ≡ new_vertex g.old.graph) }
     ensures added { IfOk result (λ new. IsSpiderAdded g.old.graph b new g.new.graph) }
-    ensures has_room { 0 < g.old.spare → b < g.old.reach → new_vertex g.old.graph < g.old.reach →
+    ensures has_room { 0 < g.old.room.spare → b < g.old.room.reach → new_vertex g.old.graph < g.old.room.reach →
         IsOk result }
-    ensures spare { OnOk result (g.new.spare ≡ g.old.spare - 1) }
-    ensures reach { g.new.reach ≡ g.old.reach }
+    ensures room { OnOk result (g.new.room ≡ without_place g.old.room) }
+    ensures reach { g.new.room.reach ≡ g.old.room.reach }
     ensures valid { WellFormed g.new.graph }
 {
     let new = g.add_vertex(Plane::XY, Sixteenth::new(0))?;

@@ -1,9 +1,10 @@
 -- Planes and phases changed vertex by vertex.
-use Rattle.std.proofs.Common.{◌≡◌, refl, sym, ◌∙◌, ap, subst, ℕ, Bool, true, false, cond, List, [], ◌∷◌, filter}
+use Rattle.std.proofs.Common.{◌≡◌, refl, sym, ◌∙◌, ap, ap₂, subst, ℕ, Bool, true, false, cond, ltb, ne_eqb, List, [], ◌∷◌, filter}
 use Rattle.zx_model.specs.Bits.{member}
-use Rattle.zx_calculus.specs.Graph.{Kind, Vertex, Graph, ids, joined, neighbours, with_kinds, Live, OrderedEdges}
+use Rattle.zx_calculus.specs.Graph.{Kind, Vertex, Graph, ids, joined, kind_of, neighbours, with_kinds, insert_vertex, Distinct, Live, OrderedEdges}
 use Rattle.zx_calculus.specs.Edits.{KeepsEnds}
 use Rattle.zx_calculus.specs.Turns.{quarter_turned, half_turned}
+use Rattle.zx_calculus.proofs.Ids.{by_test, eqb-self, member-here, member-there, apart_of_member}
 use Rattle.zx_calculus.proofs.StepIdentities.{quarter_turned-quarter_turned}
 use Rattle.zx_calculus.proofs.Vertices.{ids-with_kinds, with_kinds_same}
 use Rattle.zx_calculus.specs.Internal.ChangedKinds.{changed_in, with_changed}
@@ -13,6 +14,24 @@ pub with_kinds-with_kinds : (f g : ℕ → Kind → Kind) (vs : List Vertex) →
 with_kinds-with_kinds f g [] = refl
 with_kinds-with_kinds f g (v ∷ vs) =
     ap (λ ws. record { id = v.id; kind = f v.id (g v.id v.kind) } ∷ ws) (with_kinds-with_kinds f g vs)
+
+-- a change at each vertex's own kind
+pub with_kinds_at : (f k : ℕ → Kind → Kind) (vs : List Vertex) → Distinct (ids vs) →
+    ((p : ℕ) → member p (ids vs) ≡ true → f p (kind_of vs p) ≡ k p (kind_of vs p)) → with_kinds f vs ≡ with_kinds k vs
+with_kinds_at f k [] d same = refl
+with_kinds_at f k (v ∷ vs) d same =
+    ap₂ (λ kind rest. record { id = v.id; kind = kind } ∷ rest)
+    (subst (λ kind. f v.id kind ≡ k v.id kind) (ap (λ b. cond b v.kind (kind_of vs v.id)) (eqb-self v.id)) (same v.id (member-here v.id (ids vs))))
+    (with_kinds_at f k vs d.1
+    (λ p there. subst (λ kind. f p kind ≡ k p kind)
+    (ap (λ b. cond b v.kind (kind_of vs p)) (ne_eqb p v.id (apart_of_member p v.id (ids vs) there d.0))) (same p (member-there p v.id (ids vs) there))))
+
+pub with_kinds-insert : (f : ℕ → Kind → Kind) (n : Vertex) (vs : List Vertex) →
+    with_kinds f (insert_vertex n vs) ≡ insert_vertex (record { id = n.id; kind = f n.id n.kind }) (with_kinds f vs)
+with_kinds-insert f n [] = refl
+with_kinds-insert f n (v ∷ vs) =
+    by_test (ltb n.id v.id) (λ t. rw t refl)
+    (λ t. rw t (ap (λ rest. record { id = v.id; kind = f v.id v.kind } ∷ rest) (with_kinds-insert f n vs)))
 
 -- ends and the order of edges stay, whatever planes and phases become
 pub KeepsEnds-changed : (f : ℕ → Kind → Kind) (g h : Graph) → KeepsEnds g h → KeepsEnds g (with_changed f h)

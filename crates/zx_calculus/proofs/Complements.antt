@@ -3,18 +3,16 @@ use Rattle.std.proofs.Common.{◌≡◌, ◌≢◌, refl, sym, ◌∙◌, ap, su
 use Rattle.zx_model.specs.Phase.{quarter_turn, opposite_phase, turn, is_odd}
 use Rattle.zx_model.specs.Bits.{xor, member, one_if}
 use Rattle.zx_model.specs.Sums.{sum_over}
-use Rattle.zx_model.specs.Number.{sign, Number, mul, zero}
+use Rattle.zx_model.specs.Number.{sign, Number, mul}
 use Rattle.zx_model.proofs.SumLemmas.{sum_over_scaled}
-use Rattle.zx_model.proofs.Ring.{mul-sign, one_nonzero}
-use Rattle.zx_model.proofs.Powers.{root_power-nonzero}
-use Rattle.zx_model.proofs.Domain.{mul-nonzero}
+use Rattle.zx_model.proofs.Ring.{mul-sign}
 use Rattle.zx_model.proofs.Odd.{is_odd-minus_quarter, is_odd-quarter_minus, is_odd-sum_quarter}
 use Rattle.zx_calculus.specs.Graph.{YZ, Plane, XY, XZ, end_vertices, WellFormed, joined, Graph, kind_of, plane_of, ids, Kind, with_kinds, Vertex, phase_of, without, is_XZ, is_XY}
 use Rattle.zx_calculus.specs.Turns.{complemented_in, quarter_turned, complemented, in_plane, half_turned}
-use Rattle.zx_calculus.specs.Complements.{complement_kind, IsLocalComplement, complement_right, complement_left_in, complement_right_in}
+use Rattle.zx_calculus.specs.Complements.{complement_kind, IsLocalComplement}
 use Rattle.zx_calculus.specs.Parity.{masked}
 use Rattle.zx_calculus.specs.Internal.Pairs.{quad}
-use Rattle.zx_calculus.specs.Scalars.{quarter_cost, product_of}
+use Rattle.zx_calculus.proofs.Factors.{quarter_cost, product_of, complement_right, complement_left_in, complement_right_in}
 use Rattle.zx_calculus.specs.Sum.{spider, sum, vertex_product}
 use Rattle.zx_calculus.specs.Counts.{odd_phases, even_interior, not_XY}
 use Rattle.zx_calculus.specs.Adjacency.{edges_of}
@@ -28,7 +26,6 @@ use Rattle.zx_calculus.proofs.Forms.{at_ends, value, transform}
 use Rattle.zx_calculus.proofs.Parity.{quad-xor, masked_same}
 use Rattle.zx_calculus.proofs.Edges.{quad_same, joined_comm}
 use Rattle.zx_calculus.proofs.Splitting.{member-without, distinct_without, sum_without, no_loop, distinct, joined-self}
-use Rattle.zx_calculus.proofs.Scalars.{one_plus_i-nonzero, one_minus_i-nonzero}
 use Rattle.zx_calculus.proofs.Counting.{quarter_odd, cond_odd, KeepsOdd, phases_below, odd_changed, odd_test, even_kept, even_test, even_changed, quarter_plane, cond_plane, plane_test, Change}
 use Rattle.zx_calculus.proofs.CountLemmas.{count, count_apart, count-with_kinds}
 use Rattle.zx_calculus.proofs.Booleans.{and_comm, and-false, xor-false}
@@ -142,16 +139,6 @@ module _ (g : Graph) (u : ℕ) (h : Graph) (wg : WellFormed g) (wh : WellFormed 
         ap (mul (complement_left_in (plane_of g u))) (sum_without g u x y wg c.there c.interior)
         ∙ sum_over_scaled (complement_left_in (plane_of g u)) (mul own cost) (ids ws) _ _ at_label
         ∙ ap₂ mul (ap (mul own) (product_of-without near quarter_cost u g.vertices (no_loop g u wg))) (sym sum_after)
-
-pub complement_left-nonzero : (plane : Plane) → complement_left_in plane ≢ zero
-complement_left-nonzero XY = one_plus_i-nonzero
-complement_left-nonzero XZ = one_nonzero
-complement_left-nonzero YZ = one_nonzero
-
-pub complement_right-nonzero : (plane : Plane) (k : ℕ) → complement_right_in plane k ≢ zero
-complement_right-nonzero XY k = one_nonzero
-complement_right-nonzero XZ k = mul-nonzero _ _ one_minus_i-nonzero (root_power-nonzero k)
-complement_right-nonzero YZ k = one_nonzero
 
 complemented_odd : (plane : Plane) (k : ℕ) → k < turn → is_odd (complemented_in plane k).phase ≡ is_odd k
 complemented_odd XY k h = is_odd-sum_quarter k

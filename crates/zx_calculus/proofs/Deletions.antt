@@ -1,19 +1,18 @@
 -- The deletion of a vertex of half turns: the form of the graph, the sum, the counts, and the program.
 use Rattle.std.proofs.Common.{◌≡◌, ◌≢◌, ◌⊎◌, inl, inr, refl, sym, ◌∙◌, ap, ℕ, Bool, true, false, cond, ◌&&◌, eqb, ltb, List, true≢false, arith, ap₂, ◌+◌, not}
 use Rattle.std.specs.List.{list_all}
-use Rattle.zx_model.specs.Phase.{half_turn, turn, quarter_turn, IsHalfTurns, is_odd}
+use Rattle.zx_model.specs.Phase.{half_turn, turn, IsHalfTurns, is_odd}
 use Rattle.zx_model.specs.Constants.{two, i}
-use Rattle.zx_model.specs.Number.{Number, sign, neg, add, one, mul, zero}
+use Rattle.zx_model.specs.Number.{Number, sign, neg, add, one, mul}
 use Rattle.zx_model.specs.Bits.{one_if}
-use Rattle.zx_model.proofs.Ring.{expand, sorted, two_nonzero}
-use Rattle.zx_model.proofs.Powers.{root_power-zero, root_power-half_turn, root_power-nonzero}
-use Rattle.zx_model.proofs.Domain.{mul-nonzero}
+use Rattle.zx_model.proofs.Ring.{expand, sorted}
+use Rattle.zx_model.proofs.Powers.{root_power-zero, root_power-half_turn}
 use Rattle.zx_model.proofs.Phases.{half_turns_from, half_turns_to}
-use Rattle.zx_calculus.specs.Deletions.{delete_kind, IsDeletable, IsDelete, may_delete, delete_half_in, delete_right}
+use Rattle.zx_calculus.specs.Deletions.{delete_kind, IsDeletable, IsDelete, may_delete}
 use Rattle.zx_calculus.specs.Turns.{half_turned, in_plane}
 use Rattle.zx_calculus.specs.Graph.{phase_of, WellFormed, joined, Graph, plane_of, YZ, Plane, XY, XZ, ids, with_kinds, Vertex, without, kind_of, Kind, is_XY}
 use Rattle.zx_calculus.specs.Sum.{vertex_product, sum}
-use Rattle.zx_calculus.specs.Scalars.{half_cost, product_of}
+use Rattle.zx_calculus.proofs.Factors.{half_cost, product_of, delete_half_in, delete_right}
 use Rattle.zx_calculus.specs.Parity.{masked}
 use Rattle.zx_calculus.specs.Counts.{not_XY, odd_phases, even_interior}
 use Rattle.zx_calculus.specs.Steps.{allowed, after, Delete}
@@ -96,15 +95,6 @@ delete_sum g u h x y wg wh c =
     removal_sum g u (delete_kind (phase_of g u) (joined g.edges u)) h wg wh (is_removal g u h wg c) (delete_right g u) x y
     (λ label. deleted_at (plane_of g u) (phase_of g u) (joined g.edges u) (masked (joined g.edges u) (ids (without u g.vertices)) label) g.vertices (without u g.vertices) label c.deletable.plane c.deletable.phase
     (product_of-without (joined g.edges u) half_cost u g.vertices (no_loop g u wg)) refl (list_all-without _ u g.vertices wg.phases_below_a_turn))
-
-pub delete_half-nonzero : (plane : Plane) → delete_half_in plane ≢ zero
-delete_half-nonzero XY = two_nonzero
-delete_half-nonzero XZ = mul-nonzero _ _ two_nonzero (root_power-nonzero quarter_turn)
-delete_half-nonzero YZ = two_nonzero
-
-pub choice-nonzero : (b : Bool) (m n : Number) → m ≢ zero → n ≢ zero → cond b m n ≢ zero
-choice-nonzero true m n p q = p
-choice-nonzero false m n p q = q
 
 delete_keeps_odd : (phase : ℕ) (near : ℕ → Bool) → KeepsOdd (delete_kind phase near)
 delete_keeps_odd phase near p k h = cond_odd (eqb phase half_turn && near p) _ _ _ (half_odd k.plane k.phase h) refl

@@ -25,7 +25,7 @@ form a e vs = sum_over (ids vs) (value a e vs)
 abbrev pub at_ends : List End → List End → List Bool → List Bool → (ℕ → Bool) → Number
 at_ends inputs outputs x y label = mul (end_product inputs x label) (end_product outputs y label)
 
-length-ids : (vs : List Vertex) → length (ids vs) ≡ length vs
+pub length-ids : (vs : List Vertex) → length (ids vs) ≡ length vs
 length-ids [] = refl
 length-ids (v ∷ vs) = ap (λ n. suc n) (length-ids vs)
 

@@ -73,7 +73,7 @@ insert-below n (v ∷ vs) lt h =
 pub sum_below : (j k : ℕ) → sum_of_phases j k < turn
 sum_below j k = omega arith
 
-opposite_below : (k : ℕ) → opposite_phase k < turn
+pub opposite_below : (k : ℕ) → opposite_phase k < turn
 opposite_below k = omega arith
 
 pub quarter_below : (plane : Plane) (k : ℕ) → k < turn → (quarter_turned_in plane k).phase < turn

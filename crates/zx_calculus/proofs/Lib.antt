@@ -18,7 +18,7 @@ pub mod Positions
 pub mod Toggling
 pub mod ChangedKinds
 pub mod Kept
-pub mod Scalars
+pub mod Factors
 pub mod Counting
 pub mod Gathering
 pub mod Results

@@ -2,22 +2,20 @@
 use Rattle.std.proofs.Common.{◌≡◌, ◌≢◌, ◌⊎◌, inl, inr, refl, sym, ◌∙◌, ap, subst, ℕ, ◌<◌, Bool, true, false, cond, ◌&&◌, ◌||◌, eqb, List, [], ◌∷◌, true≢false, ne_eqb, ltb-true, arith, ap₂, not, ◌+◌}
 use Rattle.zx_model.specs.Phase.{quarter_turn, opposite_phase, turn, is_odd}
 use Rattle.zx_model.specs.Constants.{two}
-use Rattle.zx_model.specs.Number.{Number, sign, add, mul, one, neg, zero}
+use Rattle.zx_model.specs.Number.{Number, sign, add, mul, one, neg}
 use Rattle.zx_model.specs.Sums.{labelled, sum_over}
 use Rattle.zx_model.specs.Bits.{xor, member, one_if}
-use Rattle.zx_model.proofs.Ring.{expand, sorted, mul-sign, one_nonzero, two_nonzero}
+use Rattle.zx_model.proofs.Ring.{expand, sorted, mul-sign}
 use Rattle.zx_model.proofs.SumLemmas.{sum_over_same, labelled-same, sum_over_scaled}
-use Rattle.zx_model.proofs.Powers.{root_power-nonzero}
-use Rattle.zx_model.proofs.Domain.{mul-nonzero}
 use Rattle.zx_model.proofs.Odd.{is_odd-quarter_minus}
 use Rattle.zx_model.proofs.BitLemmas.{expand as expand_bits}
 use Rattle.zx_calculus.specs.Graph.{YZ, Plane, XY, XZ, end_vertices, WellFormed, joined, Graph, Kind, kind_of, Live, Interior, ids, Vertex, without, plane_of, with_kinds, phase_of, is_XY, is_YZ, is_interior}
 use Rattle.zx_calculus.specs.Turns.{pivoted_in, half_turned, pivoted}
-use Rattle.zx_calculus.specs.Pivots.{pivot_kind, IsPivot, pivot_right_in, pivot_right, pivot_adjacent}
+use Rattle.zx_calculus.specs.Pivots.{pivot_kind, IsPivot, pivot_adjacent}
 use Rattle.zx_calculus.specs.Sum.{factor, sum, vertex_product}
 use Rattle.zx_calculus.specs.Parity.{masked}
 use Rattle.zx_calculus.specs.Internal.Pairs.{quad}
-use Rattle.zx_calculus.specs.Scalars.{product_of, half_cost}
+use Rattle.zx_calculus.proofs.Factors.{product_of, half_cost, pivot_right_in, pivot_right}
 use Rattle.zx_calculus.specs.Counts.{odd_phases, even_interior, not_XY}
 use Rattle.zx_calculus.specs.Adjacency.{edges_of}
 use Rattle.zx_calculus.specs.Steps.{Pivot, allowed, after}
@@ -32,7 +30,6 @@ use Rattle.zx_calculus.proofs.Turning.{around, exchange, picked_signs, half_fact
 use Rattle.zx_calculus.proofs.Gathering.{gather, with_parts, parts_are}
 use Rattle.zx_calculus.proofs.Booleans.{xor_comm, and-false, or-true, parities, and_comm, or_comm}
 use Rattle.zx_calculus.proofs.Parity.{quad-xor, cross_identity, masked_same}
-use Rattle.zx_calculus.proofs.Scalars.{one_minus_i-nonzero}
 use Rattle.zx_calculus.proofs.Counting.{half_odd, cond_odd, KeepsOdd, phases_below, odd_changed, odd_test, even_kept, even_test, even_changed, cond_plane, half_plane, plane_test, Change}
 use Rattle.zx_calculus.proofs.CountLemmas.{count, count_apart_two, count-with_kinds}
 use Rattle.zx_calculus.proofs.Programs.{absent_right, edges_full, rising_kinds, absent_left}
@@ -69,7 +66,7 @@ pair_sum k l p q = add (mul (factor l false) (transform k p)) (mul (mul (factor 
 distribute : (r s f e F t p q E : Number) → mul p (mul q (add (mul f (mul t E)) (mul (mul F s) (mul r E)))) ≡ mul (add (mul f t) (mul (mul F s) r)) (mul p (mul q E))
 distribute r s f e F t p q E = simp expand
 
-move_inside : (t p q e : Number) → mul t (mul p (mul q e)) ≡ mul p (mul q (mul t e))
+pub move_inside : (t p q e : Number) → mul t (mul p (mul q e)) ≡ mul p (mul q (mul t e))
 move_inside t p q e = simp sorted
 
 -- two adjacent interior vertices summed out
@@ -284,11 +281,6 @@ module _ (g : Graph) (u v : ℕ) (h : Graph) (wg : WellFormed g) (wh : WellForme
         (ap (mul own) (product_of-without common half_cost v (without u g.vertices) (not_common v (inr refl)) ∙ product_of-without common half_cost u g.vertices (not_common u (inl refl))))
         (sym sum_after)
 
-pub pivot_right-nonzero : (plane : Plane) (k : ℕ) → pivot_right_in plane k ≢ zero
-pivot_right-nonzero XY k = one_nonzero
-pivot_right-nonzero XZ k = mul-nonzero _ _ one_minus_i-nonzero (root_power-nonzero k)
-pivot_right-nonzero YZ k = two_nonzero
-
 pivoted_odd : (plane : Plane) (k : ℕ) → k < turn → is_odd (pivoted_in plane k).phase ≡ is_odd k
 pivoted_odd XY k h = refl
 pivoted_odd XZ k h = is_odd-quarter_minus k h
@@ -478,7 +470,7 @@ pivot_comm g u v h c = record {
 three_toggles : (r a b c d : Bool) → xor (xor (xor r (a && c)) (xor b a && xor d c)) (b && d) ≡ xor r (xor (a && d) (b && c))
 three_toggles r a b c d = simp expand_bits
 
-added_twice : (a b : Bool) → xor a (xor b a) ≡ b
+pub added_twice : (a b : Bool) → xor a (xor b a) ≡ b
 added_twice a b = simp expand_bits
 
 pub pivot_as_complements : (g : Graph) (u v : ℕ) (h i j k : Graph) → WellFormed g → IsPivot g u v h → IsLocalComplement g u i → IsLocalComplement i v j → IsLocalComplement j u k → k.edges ≡ h.edges

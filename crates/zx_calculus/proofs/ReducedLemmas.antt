@@ -73,7 +73,7 @@ count_listed (x ∷ xs) vs d =
     together : (a b c d : ℕ) → a + b ≤ c + d → c ≤ 1 → d ≤ length xs → a ≤ suc (length xs)
     together a b c d e f g = omega arith
 
-length-places : (ends : List End) → length (end_vertices ends) ≡ length ends
+pub length-places : (ends : List End) → length (end_vertices ends) ≡ length ends
 length-places [] = refl
 length-places (e ∷ es) = ap (λ n. suc n) (length-places es)
 

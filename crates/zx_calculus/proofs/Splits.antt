@@ -1,17 +1,17 @@
 -- The split of an end: the form of the graph, where ends stand, the sum, the counts, and the program.
-use Rattle.std.proofs.Common.{◌≡◌, ◌≢◌, ◌⊎◌, inl, inr, refl, sym, ◌∙◌, ap, subst, ℕ, Bool, true, false, cond, ◌&&◌, ◌||◌, eqb, ltb, List, [], ◌∷◌, true≢false, ne_eqb, eq-eqb, arith, ap₂, ⊎_elim, not, length, suc, ◌+◌, eqb-true}
+use Rattle.std.proofs.Common.{◌≡◌, ◌≢◌, ◌⊎◌, inl, inr, refl, sym, ◌∙◌, ap, subst, ℕ, Bool, true, false, cond, ◌&&◌, ◌||◌, eqb, ltb, List, [], ◌∷◌, true≢false, ne_eqb, eq-eqb, arith, ap₂, ⊎_elim, not, length, map, suc, ◌+◌, eqb-true}
 use Rattle.std.specs.List.{list_all}
 use Rattle.std.proofs.lemmas.Bool.{cases_Bool, cases_eq, eqb-true, or_left}
 use Rattle.zx_model.specs.Bits.{member, one_if}
-use Rattle.zx_model.specs.Number.{Number, sign, add, mul, one, root_power, zero}
-use Rattle.zx_model.specs.Sums.{labelled, sum_over}
+use Rattle.zx_model.specs.Number.{Number, sign, add, mul, one, root_power}
+use Rattle.zx_model.specs.Sums.{labelled, sum_over, total, all_labels, label_of}
 use Rattle.zx_model.specs.Phase.{is_odd}
-use Rattle.zx_model.proofs.Ring.{expand, sorted, one_nonzero, two_nonzero}
+use Rattle.zx_model.proofs.Ring.{expand, sorted, mul_comm, mul_left_comm}
 use Rattle.zx_model.proofs.SumLemmas.{labelled-same, labelled-other, sum_over_same, sum_over_scaled}
 use Rattle.zx_model.proofs.Powers.{root_power-zero}
-use Rattle.zx_calculus.specs.Splits.{move_end, spider_of_phase_zero, IsSplitInput, IsSplitOutput, split_left, mark_of, split_vertices, split_input_graph, split_output_graph}
+use Rattle.zx_calculus.specs.Splits.{move_end, spider_of_phase_zero, IsSplitInput, IsSplitOutput, mark_of, split_vertices, split_input_graph, split_output_graph}
 use Rattle.zx_calculus.specs.Graph.{end_vertices, End, different, in_order, kind_of, ids, OrderedEnds, insert_vertex, is_XY, Vertex, WellFormed, Graph, joined, Edge, XY, is_interior, Live}
-use Rattle.zx_calculus.specs.Sum.{end_factor, end_product, sum, vertex_product}
+use Rattle.zx_calculus.specs.Sum.{end_factor, end_product, edge_product, sum, term, vertex_product}
 use Rattle.zx_calculus.specs.Internal.Pairs.{quad}
 use Rattle.zx_calculus.specs.Edits.{is_pair}
 use Rattle.zx_calculus.specs.Turns.{in_plane}
@@ -27,7 +27,8 @@ use Rattle.zx_calculus.proofs.Edges.{joined_comm, quad_same, masked-pick}
 use Rattle.zx_calculus.proofs.Parity.{masked_same}
 use Rattle.zx_calculus.proofs.CountLemmas.{count-insert, count_apart, count}
 use Rattle.zx_calculus.proofs.Counting.{plane_test, odd_test}
-use Rattle.zx_calculus.proofs.Booleans.{or-false, or-true, or_comm, and_comm, and-false}
+use Rattle.zx_calculus.proofs.Booleans.{or_comm, and_comm, and-false}
+use Rattle.zx_calculus.proofs.Factors.{split_left}
 use Rattle.zx_calculus.proofs.Programs.{edges_full, absent_left, end_there}
 use Rattle.zx_calculus.proofs.EdgeLists.{OrderedEdges-edges_of}
 
@@ -106,15 +107,33 @@ split_input_kept g b new h w c =
       outputs = rw (c.vertices, c.outputs) (ends_insert (spider_of_phase_zero new) g.vertices g.outputs c.fresh w.outputs);
     }
 
+-- ---- inputs and outputs exchanged: what holds of a split input holds of a split output
+abbrev pub mirrored : Graph → Graph
+mirrored g = record g { inputs = g.outputs; outputs = g.inputs }
+
+pub mirrored_formed : (g : Graph) → WellFormed g → WellFormed (mirrored g)
+mirrored_formed g w = record { vertices_rising = w.vertices_rising; phases_below_a_turn = w.phases_below_a_turn; edges = w.edges; inputs = w.outputs; outputs = w.inputs }
+
+pub mirrored_split : (g : Graph) (b new : ℕ) (h : Graph) → IsSplitOutput g b new h → IsSplitInput (mirrored g) b new (mirrored h)
+mirrored_split g b new h c =
+    record { fresh = c.fresh; has_input = c.has_output; vertices = c.vertices; ordered = c.ordered; edges = c.edges; inputs = c.outputs; outputs = c.inputs }
+
+pub split_mirrored : (g : Graph) (b new : ℕ) (h : Graph) → IsSplitInput (mirrored g) b new h → IsSplitOutput g b new (mirrored h)
+split_mirrored g b new h c =
+    record { fresh = c.fresh; has_output = c.has_input; vertices = c.vertices; ordered = c.ordered; edges = c.edges; inputs = c.outputs; outputs = c.inputs }
+
+mirrored_sum : (g : Graph) (x y : List Bool) → sum (mirrored g) y x ≡ sum g x y
+mirrored_sum g x y = λ i. total (map (λ hs. mirrored_term (label_of (ids g.vertices) hs) i) (all_labels (length g.vertices)))
+  where
+    mirrored_term : (label : ℕ → Bool) → term (mirrored g) y x label ≡ term g x y label
+    mirrored_term label =
+        ap (λ z. mul (vertex_product g.vertices label) (mul (edge_product g.edges label) z)) (mul_comm (end_product g.outputs y label) (end_product g.inputs x label))
+
+mirrored_even : (g : Graph) → even_interior (mirrored g) ≡ even_interior g
+mirrored_even g = λ i. count (λ p k. not (or_comm (member p (end_vertices g.outputs)) (member p (end_vertices g.inputs)) i) && not (is_odd k.phase)) g.vertices
+
 pub split_output_kept : (g : Graph) (b new : ℕ) (h : Graph) → WellFormed g → IsSplitOutput g b new h → WellFormed h
-split_output_kept g b new h w c =
-    record {
-      vertices_rising = ap (λ vs. in_order ltb (ids vs)) c.vertices ∙ in_order-insert (spider_of_phase_zero new) g.vertices c.fresh w.vertices_rising;
-      phases_below_a_turn = ap all_below_a_turn c.vertices ∙ insert-below (spider_of_phase_zero new) g.vertices (omega arith) w.phases_below_a_turn;
-      edges = c.ordered;
-      inputs = rw (c.vertices, c.inputs) (ends_insert (spider_of_phase_zero new) g.vertices g.inputs c.fresh w.inputs);
-      outputs = rw (c.vertices, c.outputs) (ends_moved b new g.vertices g.outputs c.fresh w.outputs);
-    }
+split_output_kept g b new h w c = mirrored_formed (mirrored h) (split_input_kept (mirrored g) b new (mirrored h) (mirrored_formed g w) (mirrored_split g b new h c))
 
 pub member-move_end-old : (b new : ℕ) (ends : List End) → b ≢ new → member b (end_vertices (move_end b new ends)) ≡ false
 member-move_end-old b new [] ne = refl
@@ -180,9 +199,6 @@ mark_toggled false false false p = simp expand
 out_of_sum : (f s p q : Number) → add (mul f p) (mul s (mul f q)) ≡ mul f (add p (mul s q))
 out_of_sum f s p q = simp expand
 
-swap_out : (f c p : Number) → mul f (mul c p) ≡ mul c (mul f p)
-swap_out f c p = simp sorted
-
 pub moved_ends : (b new : ℕ) (ends : List End) (bits : List Bool) (label : ℕ → Bool) → member new (end_vertices ends) ≡ false → b ≢ new → in_order different (end_vertices ends) ≡ true → member b (end_vertices ends) ≡ true → length bits ≡ length ends →
     add (end_product (move_end b new ends) bits (labelled label new false)) (mul (sign (label b)) (end_product (move_end b new ends) bits (labelled label new true)))
     ≡ mul (split_left (mark_of ends b)) (end_product ends bits label)
@@ -207,7 +223,7 @@ moved_ends b new (e ∷ es) (bit ∷ bits) label fresh apart once there long =
     (stays false) (stays true)
     ∙ out_of_sum _ _ _ _
     ∙ ap (mul (end_factor e.hadamard (label e.vertex) bit)) (moved_ends b new es bits label (or-right _ _ fresh) apart (and-right _ _ once) later (omega arith))
-    ∙ swap_out _ _ _))
+    ∙ mul_left_comm _ _ _))
 
 -- a new vertex of phase 0 at b, whatever the ends
 module _ (g : Graph) (b new : ℕ) (es : List Edge) (inputs outputs : List End) (wg : WellFormed g)
@@ -266,9 +282,6 @@ module _ (g : Graph) (b new : ℕ) (es : List Edge) (inputs outputs : List End) 
 factor_first : (i j s o : Number) → add (mul i o) (mul s (mul j o)) ≡ mul (add i (mul s j)) o
 factor_first i j s o = simp expand
 
-factor_second : (i j s o : Number) → add (mul o i) (mul s (mul o j)) ≡ mul (add i (mul s j)) o
-factor_second i j s o = simp expand
-
 with_cost : (c p q a o : Number) → mul c (mul p (mul q (mul a o))) ≡ mul one (mul p (mul q (mul (mul c a) o)))
 with_cost c p q a o = simp sorted
 
@@ -300,40 +313,12 @@ split_input_sum g b new h x y wg wh c long =
     fresh_out : member new (end_vertices g.outputs) ≡ false
     fresh_out = absent_from (ids g.vertices) (end_vertices g.outputs) new wg.outputs.there c.fresh
 
-with_cost_second : (c p q o a : Number) → mul c (mul p (mul q (mul o a))) ≡ mul one (mul p (mul q (mul (mul c a) o)))
-with_cost_second c p q o a = simp sorted
-
 pub split_output_sum : (g : Graph) (b new : ℕ) (h : Graph) (x y : List Bool) → WellFormed g → WellFormed h → IsSplitOutput g b new h → length y ≡ length g.outputs →
     mul (split_left (mark_of g.outputs b)) (sum g x y) ≡ mul one (sum h x y)
 split_output_sum g b new h x y wg wh c long =
-    ap (mul (split_left (mark_of g.outputs b))) (sum_is_form g x y wg)
-    ∙ sum_over_scaled (split_left (mark_of g.outputs b)) one (ids g.vertices) _ _
-    (λ label. with_cost_second _ _ _ _ _
-    ∙ ap (λ z. mul one (mul (vertex_product g.vertices label) (mul (sign (quad (joined g.edges) (ids g.vertices) label)) z)))
-    (ap (λ z. mul z (end_product g.inputs x label)) (sym (moved_ends b new g.outputs y label fresh_out apart wg.outputs.one_each c.has_output long))
-    ∙ sym (factor_second _ _ _ _)
-    ∙ ap₂ (λ o p. add (mul o (end_product (move_end b new g.outputs) y (labelled label new false))) (mul (sign (label b)) (mul p (end_product (move_end b new g.outputs) y (labelled label new true)))))
-    (sym (end_product-labelled new g.inputs x label false fresh_in)) (sym (end_product-labelled new g.inputs x label true fresh_in))))
-    ∙ ap (mul one) (sym (split_after g b new h.edges g.inputs (move_end b new g.outputs) wg (subst WellFormed shape wh) c.fresh there c.edges x y) ∙ sym (ap (λ k. sum k x y) shape))
-  where
-    shape : h ≡ record { vertices = insert_vertex (spider_of_phase_zero new) g.vertices; edges = h.edges; inputs = g.inputs; outputs = move_end b new g.outputs }
-    shape = λ j. record { vertices = c.vertices j; edges = h.edges; inputs = c.inputs j; outputs = c.outputs j }
-
-    there : member b (ids g.vertices) ≡ true
-    there = all_at (λ u. member u (ids g.vertices)) (end_vertices g.outputs) b wg.outputs.there c.has_output
-
-    apart : b ≢ new
-    apart = apart_of_member b new (ids g.vertices) there c.fresh
-
-    fresh_in : member new (end_vertices g.inputs) ≡ false
-    fresh_in = absent_from (ids g.vertices) (end_vertices g.inputs) new wg.inputs.there c.fresh
-
-    fresh_out : member new (end_vertices g.outputs) ≡ false
-    fresh_out = absent_from (ids g.vertices) (end_vertices g.outputs) new wg.outputs.there c.fresh
-
-pub split_left-nonzero : (b : Bool) → split_left b ≢ zero
-split_left-nonzero true = one_nonzero
-split_left-nonzero false = two_nonzero
+    ap (mul (split_left (mark_of g.outputs b))) (sym (mirrored_sum g x y))
+    ∙ split_input_sum (mirrored g) b new (mirrored h) y x (mirrored_formed g wg) (mirrored_formed h wh) (mirrored_split g b new h c) long
+    ∙ ap (mul one) (mirrored_sum h x y)
 
 pub length-move_end : (b new : ℕ) (ends : List End) → length (move_end b new ends) ≡ length ends
 length-move_end b new [] = refl
@@ -383,24 +368,11 @@ module _ (g : Graph) (b new : ℕ) (h : Graph) (w : WellFormed g) (c : IsSplitIn
       (λ p n m. ap (λ t. not (t || member p (end_vertices g.outputs))) (member-move_end-other b new g.inputs p n m))
       ∙ ap (λ t. even_interior g + one_if (not (t || member b (end_vertices g.outputs)) && is_even_at g b)) (member-move_end-old b new g.inputs input_not_new)
 
-module _ (g : Graph) (b new : ℕ) (h : Graph) (w : WellFormed g) (c : IsSplitOutput g b new h) where
-  output_there : Live g b
-  output_there = end_there g w b g.outputs w.outputs.there c.has_output
-
-  output_not_new : b ≢ new
-  output_not_new = apart_of_member b new (ids g.vertices) output_there c.fresh
-
-  pub even-split_output : even_interior h ≡ even_interior g + one_if (not (has_input g b) && is_even_at g b)
-  even-split_output =
-      ap₂ (λ ins outs. count (λ p k. not (member p (end_vertices ins) || member p (end_vertices outs)) && not (is_odd k.phase)) h.vertices) c.inputs c.outputs
-      ∙ ap (count (λ p k. not (member p (end_vertices g.inputs) || member p (end_vertices (move_end b new g.outputs))) && not (is_odd k.phase))) c.vertices
-      ∙ even_grown (is_interior g) (λ p. not (member p (end_vertices g.inputs) || member p (end_vertices (move_end b new g.outputs)))) b new g.vertices (distinct g w) output_there c.fresh
-      (ap (λ t. not (member new (end_vertices g.inputs) || t)) (member-move_end-new b new g.outputs ∙ ap (λ t. t || member new (end_vertices g.outputs)) c.has_output)
-      ∙ ap not (or-true (member new (end_vertices g.inputs))))
-      (ap (λ t. not (member b (end_vertices g.inputs) || t)) c.has_output ∙ ap not (or-true (member b (end_vertices g.inputs))))
-      (λ p n m. ap (λ t. not (member p (end_vertices g.inputs) || t)) (member-move_end-other b new g.outputs p n m))
-      ∙ ap (λ t. even_interior g + one_if (not (member b (end_vertices g.inputs) || t) && is_even_at g b)) (member-move_end-old b new g.outputs output_not_new)
-      ∙ ap (λ t. even_interior g + one_if (not t && is_even_at g b)) (or-false (member b (end_vertices g.inputs)))
+pub even-split_output : (g : Graph) (b new : ℕ) (h : Graph) → WellFormed g → IsSplitOutput g b new h →
+    even_interior h ≡ even_interior g + one_if (not (has_input g b) && is_even_at g b)
+even-split_output g b new h w c =
+    sym (mirrored_even h) ∙ even-split_input (mirrored g) b new (mirrored h) (mirrored_formed g w) (mirrored_split g b new h c)
+    ∙ ap (λ n. n + one_if (not (has_input g b) && is_even_at g b)) (mirrored_even g)
 
 pub is_pair_comm : (b new : ℕ) → Symmetric (is_pair b new)
 is_pair_comm b new p q = or_comm (eqb p b && eqb q new) (eqb p new && eqb q b) ∙ ap₂ (λ x y. x || y) (and_comm (eqb p new) (eqb q b)) (and_comm (eqb p b) (eqb q new))
@@ -456,14 +428,6 @@ module _ (g : Graph) (w : WellFormed g) where
         outputs = refl;
       }
 
-  pub after_split_output : (b : ℕ) → allowed g (SplitOutput b) ≡ true → (new : ℕ) → member new (ids g.vertices) ≡ false → IsSplitOutput g b new (split_output_graph g b new)
-  after_split_output b h new fresh =
-      record {
-        fresh = fresh;
-        has_output = h;
-        vertices = refl;
-        ordered = OrderedEdges-edges_of _ _ (rising_split b new fresh (end_there g w b g.outputs w.outputs.there h));
-        edges = split_law b new fresh (end_there g w b g.outputs w.outputs.there h);
-        inputs = refl;
-        outputs = refl;
-      }
+pub after_split_output : (g : Graph) → WellFormed g → (b : ℕ) → allowed g (SplitOutput b) ≡ true → (new : ℕ) → member new (ids g.vertices) ≡ false → IsSplitOutput g b new (split_output_graph g b new)
+after_split_output g w b h new fresh =
+    split_mirrored g b new (split_input_graph (mirrored g) b new) (after_split_input (mirrored g) (mirrored_formed g w) b h new fresh)

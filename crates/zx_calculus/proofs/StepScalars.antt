@@ -1,29 +1,29 @@
 -- The scalar of each rewrite is that between the sums before and after.
-use Rattle.std.proofs.Common.{◌≡◌, refl, sym, ◌∙◌, ap, ap₂, arith, ℕ, ◌≤◌, ◌+◌, ◌%◌, ℤ, pos, negsuc, ◌+ℤ◌, nat_abs, Bool, true, false, cond, ◌&&◌, ◌||◌, eqb, ne_eqb, true≢false, subst, filter, List, [], ◌∷◌, ◌++◌, length}
+use Rattle.std.proofs.Common.{◌≡◌, refl, sym, ◌∙◌, ap, ap₂, arith, ℕ, pos, negsuc, Bool, true, false, cond, ◌&&◌, ◌||◌, eqb, ne_eqb, true≢false, subst, filter, List, [], ◌∷◌, ◌++◌, length}
 use borrow.Author.Differences.{ints}
 use Rattle.zx_model.specs.Number.{Number, one, add, neg, mul, root_power}
 use Rattle.zx_model.specs.Cyclotomic.{add_cyclotomic, neg_cyclotomic, mul_cyclotomic}
 use Rattle.zx_model.specs.Bits.{member}
-use Rattle.zx_model.specs.Phase.{turn, half_turn, quarter_turn, sum_of_phases}
+use Rattle.zx_model.specs.Phase.{half_turn, quarter_turn, sum_of_phases}
 use Rattle.zx_model.specs.Constants.{two, i, root_of_two}
 use Rattle.zx_model.specs.Scalar.{IsScaled, IsWithin, one_scalar, product_of_scalars}
 use Rattle.zx_model.specs.declared.scalar.Scalar.{Scalar}
 use Rattle.zx_model.proofs.Ring.{mul-one, one-mul}
-use Rattle.zx_model.proofs.Powers.{root_power-zero, root_power-mod, root_power-sum_of_phases}
+use Rattle.zx_model.proofs.Powers.{root_power-zero, root_power-sum_of_phases}
 use Rattle.zx_model.proofs.Scalars.{root_of_two_squared, within_product}
 use Rattle.zx_model.proofs.Factors.{IsScalar, is_one, is_turn, is_product, is_renamed, scaled_between}
 use Rattle.zx_calculus.specs.Graph.{Graph, Plane, XY, XZ, YZ, Kind, Vertex, Distinct, WellFormed, ids, joined, kind_of, neighbours, plane_of, phase_of}
 use Rattle.zx_calculus.proofs.Ids.{eqb-self, by_test, and-left, member-filter, Distinct-rising}
 use Rattle.zx_calculus.proofs.Booleans.{or-true}
-use Rattle.zx_calculus.specs.Exact.{IsExact}
 use Rattle.zx_calculus.specs.Sum.{sum}
-use Rattle.zx_calculus.specs.Scalars.{one_plus_i, one_minus_i, quarter_cost, quarter_cost_in, half_cost, half_cost_in, product_of}
-use Rattle.zx_calculus.specs.Complements.{complement_left_in, complement_right_in, complement_right}
-use Rattle.zx_calculus.specs.Deletions.{delete_half_in, delete_right}
-use Rattle.zx_calculus.specs.Pivots.{pivot_right_in, pivot_right}
-use Rattle.zx_calculus.specs.Splits.{mark_of, split_left}
-use Rattle.zx_calculus.specs.Steps.{Step, LocalComplement, Delete, Pivot, SplitInput, SplitOutput, DropLone, FuseInto, FuseTwin, left_factor, right_factor}
-use Rattle.zx_calculus.specs.StepScalars.{root_of_two_to, turn_by, quarter_power, quarter_power_in, half_power, half_power_in, sum_of_powers, quarter_powers, half_powers, common_neighbours, complement_scalar_in, complement_scalar, delete_scalar_in, delete_scalar, pivot_scalar_in, pivot_scalar, split_scalar, step_scalar}
+use Rattle.zx_calculus.specs.Scalars.{root_of_two_to, turn_by, quarter_power, quarter_power_in, half_power, half_power_in, sum_of_powers, quarter_powers, half_powers}
+use Rattle.zx_calculus.specs.Complements.{complement_scalar_in}
+use Rattle.zx_calculus.specs.Deletions.{delete_scalar_in}
+use Rattle.zx_calculus.specs.Pivots.{common_neighbours, pivot_scalar_in}
+use Rattle.zx_calculus.specs.Splits.{mark_of, split_scalar}
+use Rattle.zx_calculus.proofs.Factors.{one_plus_i, one_minus_i, quarter_cost, quarter_cost_in, half_cost, half_cost_in, product_of, complement_left_in, complement_right_in, delete_half_in, pivot_right_in, pivot_right, split_left, IsExact}
+use Rattle.zx_calculus.specs.Steps.{Step, LocalComplement, Delete, Pivot, SplitInput, SplitOutput, DropLone, FuseInto, FuseTwin}
+use Rattle.zx_calculus.specs.StepScalars.{step_scalar}
 
 -- ---- numbers with a name
 two_is : IsScalar two (root_of_two_to (pos 2))

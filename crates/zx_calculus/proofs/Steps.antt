@@ -1,31 +1,32 @@
 -- What holds of each rewrite, and of lists of them.
-use Rattle.std.proofs.Common.{◌≡◌, ◌≢◌, sym, ◌∙◌, ap, subst, ℕ, ◌≤◌, Bool, true, ◌&&◌, ◌||◌, eqb, List, [], ◌∷◌, true≢false, ne_eqb, arith, length, ◌+◌, le_of_eq, not}
-use Rattle.zx_model.specs.Number.{mul, zero}
-use Rattle.zx_model.specs.Phase.{half_turn}
+use Rattle.std.proofs.Common.{◌≡◌, ◌≢◌, sym, ◌∙◌, ap, subst, ℕ, ◌≤◌, Bool, true, ◌&&◌, ◌||◌, List, [], ◌∷◌, true≢false, ne_eqb, arith, length, ◌+◌, le_of_eq, not}
+use Rattle.zx_model.specs.Number.{mul}
 use Rattle.zx_model.specs.Proportional.{Proportional}
 use Rattle.zx_model.specs.Bits.{one_if, xor}
 use Rattle.zx_model.specs.Constants.{two}
-use Rattle.zx_model.proofs.Ring.{one_nonzero, two_nonzero}
-use Rattle.zx_model.proofs.Domain.{mul-nonzero, mul_left_cancel}
-use Rattle.zx_model.proofs.ProportionalLemmas.{proportional_of_scaled, proportional_refl, proportional_trans}
+use Rattle.zx_model.proofs.Ring.{two_nonzero}
+use Rattle.zx_model.proofs.Domain.{mul_left_cancel}
+use Rattle.zx_model.proofs.Scalars.{scaled_proportional}
+use Rattle.zx_model.proofs.ProportionalLemmas.{proportional_refl, proportional_trans}
 use Rattle.zx_model.proofs.Odd.{one_if-odd_sum}
-use Rattle.zx_calculus.specs.Steps.{FuseInto, Pivot, FuseTwin, SplitOutput, DropLone, Delete, LocalComplement, IsStep, SplitInput, Step, IsRun, right_factor, left_factor, allowed, after}
-use Rattle.zx_calculus.specs.Graph.{WellFormed, Graph, End, plane_of, phase_of, joined, ids, is_XY, is_YZ, with_kinds, without}
+use Rattle.zx_calculus.specs.Steps.{FuseInto, Pivot, FuseTwin, SplitOutput, DropLone, Delete, LocalComplement, IsStep, SplitInput, Step, IsRun, allowed, after}
+use Rattle.zx_calculus.specs.Graph.{WellFormed, Graph, End, phase_of, joined, ids, is_XY, is_YZ, with_kinds, without}
 use Rattle.zx_calculus.specs.Sum.{sum}
-use Rattle.zx_calculus.specs.Splits.{mark_of, split_vertices, split_edges}
-use Rattle.zx_calculus.specs.Scalars.{half_cost, quarter_cost}
+use Rattle.zx_calculus.specs.Splits.{split_vertices, split_edges}
+use Rattle.zx_calculus.specs.StepScalars.{IsSumTimes, step_scalar}
 use Rattle.zx_calculus.specs.Counts.{is_odd_fused, odd_phases, is_odd_at}
 use Rattle.zx_calculus.specs.Gadgets.{is_one_XY, is_empty, fuse_kind, first_of_list, IsFuseTwin}
 use Rattle.zx_calculus.specs.Deletions.{delete_kind}
 use Rattle.zx_calculus.specs.Edits.{is_pair}
 use Rattle.zx_calculus.specs.Pivots.{pivot_adjacent}
 use Rattle.zx_calculus.proofs.LeastFree.{least_free-fresh}
-use Rattle.zx_calculus.proofs.Deletions.{delete_kept, delete_sum, choice-nonzero, delete_half-nonzero, odd-delete, deletable_to, after_delete}
-use Rattle.zx_calculus.proofs.Splits.{split_output_kept, split_input_kept, split_input_sum, split_output_sum, split_left-nonzero, length-move_end, odd-split, split_symmetric, after_split_output, after_split_input}
+use Rattle.zx_calculus.proofs.Deletions.{delete_kept, delete_sum, odd-delete, deletable_to, after_delete}
+use Rattle.zx_calculus.proofs.Splits.{split_output_kept, split_input_kept, split_input_sum, split_output_sum, length-move_end, odd-split, split_symmetric, after_split_output, after_split_input}
 use Rattle.zx_calculus.proofs.Gadgets.{fuse_into_kept, fuse_twin_kept, drop_lone_kept, fuse_into_sum, fuse_twin_sum, drop_lone_sum, odd-fuse_twin, odd-drop, odd-fuse_into, filter-none, equal_everywhere, neighbours_into, after_fuse_twin, after_drop, after_fuse_into}
-use Rattle.zx_calculus.proofs.Complements.{local_complement_kept, complement_sum, complement_left-nonzero, complement_right-nonzero, odd-complement, complement_symmetric, after_complement}
-use Rattle.zx_calculus.proofs.Pivots.{pivot_kept, pivot_sum, pivot_right-nonzero, odd-pivot, pivot_law, pivot_symmetric, after_pivot}
-use Rattle.zx_calculus.proofs.Scalars.{quarter_cost-nonzero, half_cost-nonzero, product_of-nonzero}
+use Rattle.zx_calculus.proofs.Complements.{local_complement_kept, complement_sum, odd-complement, complement_symmetric, after_complement}
+use Rattle.zx_calculus.proofs.Pivots.{pivot_kept, pivot_sum, odd-pivot, pivot_law, pivot_symmetric, after_pivot}
+use Rattle.zx_calculus.proofs.Factors.{left_factor, right_factor}
+use Rattle.zx_calculus.proofs.StepScalars.{step_scaled}
 use Rattle.zx_calculus.proofs.Results.{interior_true, gone_plain, gone, edges_are, graph_is}
 use Rattle.zx_calculus.proofs.Kept.{both}
 use Rattle.zx_calculus.proofs.Splitting.{no_loop}
@@ -55,34 +56,13 @@ step_sum g (DropLone u) h x y w c m n = drop_lone_sum g u h x y w (step_kept g (
 step_sum g (FuseInto u) h x y w c m n = fuse_into_sum g u h x y w (step_kept g (FuseInto u) h w c) c
 step_sum g (FuseTwin u v) h x y w c m n = fuse_twin_sum g u v h w (step_kept g (FuseTwin u v) h w c) c x y
 
-pub left-nonzero : (g : Graph) (s : Step) → left_factor g s ≢ zero
-left-nonzero g (LocalComplement u) = complement_left-nonzero (plane_of g u)
-left-nonzero g (Delete u) = one_nonzero
-left-nonzero g (Pivot u v) = two_nonzero
-left-nonzero g (SplitInput b) = split_left-nonzero (mark_of g.inputs b)
-left-nonzero g (SplitOutput b) = split_left-nonzero (mark_of g.outputs b)
-left-nonzero g (DropLone u) = one_nonzero
-left-nonzero g (FuseInto u) = one_nonzero
-left-nonzero g (FuseTwin u v) = one_nonzero
-
-pub right-nonzero : (g : Graph) (s : Step) → right_factor g s ≢ zero
-right-nonzero g (LocalComplement u) =
-    mul-nonzero _ _ (complement_right-nonzero (plane_of g u) (phase_of g u)) (product_of-nonzero (joined g.edges u) quarter_cost g.vertices (λ k. quarter_cost-nonzero k.plane k.phase))
-right-nonzero g (Delete u) =
-    choice-nonzero (eqb (phase_of g u) half_turn) _ _
-    (mul-nonzero _ _ (delete_half-nonzero (plane_of g u)) (product_of-nonzero (joined g.edges u) half_cost g.vertices (λ k. half_cost-nonzero k.plane k.phase))) two_nonzero
-right-nonzero g (Pivot u v) =
-    mul-nonzero _ _ (mul-nonzero _ _ (pivot_right-nonzero (plane_of g u) (phase_of g u)) (pivot_right-nonzero (plane_of g v) (phase_of g v)))
-    (product_of-nonzero (λ p. joined g.edges u p && joined g.edges v p) half_cost g.vertices (λ k. half_cost-nonzero k.plane k.phase))
-right-nonzero g (SplitInput b) = one_nonzero
-right-nonzero g (SplitOutput b) = one_nonzero
-right-nonzero g (DropLone u) = two_nonzero
-right-nonzero g (FuseInto u) = two_nonzero
-right-nonzero g (FuseTwin u v) = two_nonzero
+-- the sum before is the step's scalar times the sum after
+pub step_sum_times : (g : Graph) (s : Step) (h : Graph) → WellFormed g → IsStep g s h → IsSumTimes g (step_scalar g s) h
+step_sum_times g s h w c = step_scaled g s h w (λ x y. step_sum g s h x y w c)
 
 pub step_proportional : (g : Graph) (s : Step) (h : Graph) → WellFormed g → IsStep g s h → Proportional (length g.inputs) (length g.outputs) (sum g) (sum h)
 step_proportional g s h w c =
-    proportional_of_scaled (length g.inputs) (length g.outputs) (sum g) (sum h) (left_factor g s) (right_factor g s) (left-nonzero g s) (right-nonzero g s) (λ x y m n. step_sum g s h x y w c m n)
+    scaled_proportional (length g.inputs) (length g.outputs) (sum g) (sum h) (step_scalar g s) (step_sum_times g s h w c)
 
 -- a step keeps the number of ends
 pub inputs_kept : (g : Graph) (s : Step) (h : Graph) → IsStep g s h → length h.inputs ≡ length g.inputs

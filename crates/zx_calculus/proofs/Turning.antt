@@ -12,9 +12,7 @@ use Rattle.zx_calculus.specs.Graph.{Plane, XY, XZ, YZ}
 use Rattle.zx_calculus.specs.Sum.{factor, factor_in, spider}
 use Rattle.zx_calculus.specs.Turns.{in_plane, quarter_turned_in, half_turned_in, complemented_in, pivoted_in}
 use Rattle.zx_model.specs.Constants.{two, i}
-use Rattle.zx_calculus.specs.Scalars.{one_minus_i, quarter_cost_in, half_cost_in}
-use Rattle.zx_calculus.specs.Complements.{complement_left_in, complement_right_in}
-use Rattle.zx_calculus.specs.Pivots.{pivot_right_in}
+use Rattle.zx_calculus.proofs.Factors.{one_minus_i, quarter_cost_in, half_cost_in, complement_left_in, complement_right_in, pivot_right_in}
 use Rattle.zx_calculus.proofs.Booleans.{parities}
 use Rattle.zx_calculus.proofs.Parity.{masked-and}
 use Rattle.zx_calculus.proofs.Forms.{transform}
@@ -181,7 +179,7 @@ turn_step false m = even _
     even : (j : Number) → mul (mul one one) j ≡ j
     even j = simp expand
 
-regroup : (a t b q : Number) → mul (mul a t) (mul b q) ≡ mul (mul a b) (mul t q)
+pub regroup : (a t b q : Number) → mul (mul a t) (mul b q) ≡ mul (mul a b) (mul t q)
 regroup a t b q = simp sorted
 
 -- a quarter turn of each neighbour, and the edges between them, add up to a quarter turn of their parity

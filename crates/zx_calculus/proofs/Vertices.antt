@@ -1,20 +1,32 @@
 -- Changes of planes and phases along a list of vertices, and of its vertices.
-use Rattle.std.proofs.Common.{◌≡◌, ◌≢◌, refl, sym, ◌∙◌, ap, ap₂, ℕ, ◌<◌, Bool, true, false, cond, ◌&&◌, ◌||◌, eqb, ltb, List, [], ◌∷◌, true≢false, eq-eqb, ne_eqb, ltb-true, arith}
+use Rattle.std.proofs.Common.{◌≡◌, ◌≢◌, refl, sym, ◌∙◌, ap, ap₂, ℕ, suc, ◌+◌, length, ◌<◌, Bool, true, false, cond, ◌&&◌, ◌||◌, eqb, ltb, List, [], ◌∷◌, true≢false, eq-eqb, ne_eqb, ltb-true, arith}
 use Rattle.std.specs.List.{list_all}
 use Rattle.zx_model.specs.Phase.{turn}
 use Rattle.zx_model.specs.Bits.{member}
 use Rattle.zx_model.specs.Number.{Number, one, mul}
-use Rattle.zx_model.proofs.Ring.{sorted, one-mul}
+use Rattle.zx_model.proofs.Ring.{one-mul}
 use Rattle.zx_calculus.specs.Graph.{Kind, Vertex, ids, kind_of, with_kinds, without, insert_vertex}
 use Rattle.zx_calculus.specs.Sum.{factor, vertex_product}
-use Rattle.zx_calculus.specs.Scalars.{product_of}
+use Rattle.zx_calculus.proofs.Factors.{product_of}
 use Rattle.zx_calculus.proofs.Ids.{by_test, by_equal, and-left, and-right, or-left, or-right, member-here, member-there}
 use Rattle.zx_calculus.proofs.Forms.{without-absent, at_front}
-use Rattle.zx_calculus.proofs.Turning.{picked_spiders}
+use Rattle.zx_calculus.proofs.Turning.{picked_spiders, regroup}
 
 pub ids-with_kinds : (f : ℕ → Kind → Kind) (vs : List Vertex) → ids (with_kinds f vs) ≡ ids vs
 ids-with_kinds f [] = refl
 ids-with_kinds f (v ∷ vs) = ap (λ r. v.id ∷ r) (ids-with_kinds f vs)
+
+pub length-insert : (n : Vertex) (vs : List Vertex) → length (insert_vertex n vs) ≡ length vs + 1
+length-insert n [] = refl
+length-insert n (v ∷ vs) = at (ltb n.id v.id) (length-insert n vs)
+  where
+    at : (b : Bool) → length (insert_vertex n vs) ≡ length vs + 1 → length (cond b (n ∷ (v ∷ vs)) (v ∷ insert_vertex n vs)) ≡ length (v ∷ vs) + 1
+    at true again = omega arith
+    at false again = omega arith
+
+pub length-with_kinds : (f : ℕ → Kind → Kind) (vs : List Vertex) → length (with_kinds f vs) ≡ length vs
+length-with_kinds f [] = refl
+length-with_kinds f (v ∷ vs) = ap (λ n. suc n) (length-with_kinds f vs)
 
 pub without-with_kinds : (f : ℕ → Kind → Kind) (u : ℕ) (vs : List Vertex) → without u (with_kinds f vs) ≡ with_kinds f (without u vs)
 without-with_kinds f u [] = refl
@@ -68,17 +80,14 @@ kind_of-without p u (v ∷ vs) n =
 abbrev pub turn_near : (Kind → Kind) → (ℕ → Bool) → ℕ → Kind → Kind
 turn_near turned near p kind = cond (near p) (turned kind) kind
 
-split_four : (c n t p : Number) → mul (mul c n) (mul t p) ≡ mul (mul c t) (mul n p)
-split_four c n t p = simp sorted
-
 pub turned_product : (cost : Kind → Number) (turned : Kind → Kind) (s : Bool → Number) (near : ℕ → Bool) (vs : List Vertex) (label : ℕ → Bool) →
     ((k : Kind) (h : Bool) → k.phase < turn → mul (cost k) (factor (turned k) h) ≡ mul (s h) (factor k h)) → s false ≡ one → all_below_a_turn vs ≡ true →
     mul (product_of near cost vs) (vertex_product (with_kinds (turn_near turned near) vs) label) ≡ mul (picked_spiders s near (ids vs) label) (vertex_product vs label)
 turned_product cost turned s near [] label law none below = refl
 turned_product cost turned s near (v ∷ vs) label law none below =
-    split_four (cond (near v.id) (cost v.kind) one) (product_of near cost vs) (factor (turn_near turned near v.id v.kind) (label v.id)) (vertex_product (with_kinds (turn_near turned near) vs) label)
+    regroup (cond (near v.id) (cost v.kind) one) (product_of near cost vs) (factor (turn_near turned near v.id v.kind) (label v.id)) (vertex_product (with_kinds (turn_near turned near) vs) label)
     ∙ ap₂ mul (here (near v.id)) (turned_product cost turned s near vs label law none (and-right _ _ below))
-    ∙ split_four (s (near v.id && label v.id)) (factor v.kind (label v.id)) (picked_spiders s near (ids vs) label) (vertex_product vs label)
+    ∙ regroup (s (near v.id && label v.id)) (factor v.kind (label v.id)) (picked_spiders s near (ids vs) label) (vertex_product vs label)
   where
     here : (b : Bool) → mul (cond b (cost v.kind) one) (factor (cond b (turned v.kind) v.kind) (label v.id)) ≡ mul (s (b && label v.id)) (factor v.kind (label v.id))
     here true = law v.kind (label v.id) (ltb-true v.kind.phase turn (and-left _ _ below))

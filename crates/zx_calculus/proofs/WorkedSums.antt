@@ -7,7 +7,7 @@ use Rattle.zx_model.specs.Phase.{quarter_turn, eighth_turn}
 use Rattle.zx_model.specs.Constants.{i, root_of_two}
 use Rattle.zx_model.proofs.Ring.{expand}
 use Rattle.zx_model.proofs.Powers.{root_power-add}
-use Rattle.zx_calculus.specs.Scalars.{one_minus_i}
+use Rattle.zx_calculus.proofs.Factors.{one_minus_i}
 use Rattle.zx_calculus.specs.Sum.{sum, term, spider}
 use Rattle.zx_calculus.specs.Tables.{hadamard_wire, controlled_z, crossing, marked_spider}
 

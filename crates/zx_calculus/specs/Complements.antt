@@ -1,15 +1,17 @@
 -- Local complementation about a vertex.
 -- Duncan and others (Quantum 4, 279, 2020), on local complementation; Backens and others (Quantum 5, 421, 2021), on the
 -- same in all three planes.
-use Rattle.std.specs.Prelude.{◌≡◌, ◌≢◌, ◌+◌, ℕ, Bool, if◌then◌else◌, ◌&&◌, ◌==◌}
+use Rattle.std.specs.Prelude.{◌≡◌, ◌≢◌, ◌+◌, ℕ, pos, negsuc, Bool, if◌then◌else◌, ◌&&◌, ◌==◌}
+use Rattle.zx_model.specs.Phase.{sum_of_phases}
 use Rattle.zx_model.specs.Bits.{xor, member, one_if}
-use Rattle.zx_model.specs.Number.{Number, one, mul, root_power}
+use Rattle.zx_model.specs.Scalar.{one_scalar, product_of_scalars}
+use Rattle.zx_model.specs.declared.scalar.Scalar.{Scalar}
 use Rattle.zx_calculus.specs.Graph.{Plane, XY, XZ, YZ, Kind, Graph, ids, joined, plane_of, phase_of, is_XY, is_XZ}
-use Rattle.zx_calculus.specs.Graph.{is_interior, Live, Interior, with_kinds}
+use Rattle.zx_calculus.specs.Graph.{is_interior, neighbours, Live, Interior, with_kinds}
 use Rattle.zx_calculus.specs.Turns.{quarter_turned, complemented}
 use Rattle.zx_calculus.specs.Adjacency.{adjacent_graph}
 use Rattle.zx_calculus.specs.Edits.{KeepsEnds}
-use Rattle.zx_calculus.specs.Scalars.{one_plus_i, one_minus_i, quarter_cost, product_of}
+use Rattle.zx_calculus.specs.Scalars.{turn_by, quarter_powers}
 use Rattle.zx_calculus.specs.Counts.{odd_phases, even_interior, not_XY}
 
 -- each neighbour of u gets a quarter turn, and u its own change
@@ -36,21 +38,19 @@ complemented_graph g u =
     adjacent_graph g (with_kinds (complement_kind u (joined g.edges u)) g.vertices)
     (λ p q. xor (joined g.edges p q) (joined g.edges u p && joined g.edges u q))
 
--- the factor of the sum before, and what the vertex that it is about gives to that of the sum after
-abbrev pub complement_left_in : Plane → Number
-complement_left_in XY = one_plus_i
-complement_left_in XZ = one
-complement_left_in YZ = one
+-- its scalar: the change of u itself, with 1+i the root of two times z^2 and 1-i the root of two times z^14, and a
+-- quarter turn of each neighbour.
+-- Backens and others (Quantum 5, 421, 2021) give the rewrite up to a scalar; the exact one follows from the values of
+-- the effects before and after
+abbrev pub complement_scalar_in : Plane → ℕ → Scalar
+complement_scalar_in XY k = record { root2 = negsuc 0; turn = 14 }
+complement_scalar_in XZ k = record { root2 = pos 1; turn = sum_of_phases k 14 }
+complement_scalar_in YZ k = one_scalar
 
-abbrev pub complement_right_in : Plane → ℕ → Number
-complement_right_in XY k = one
-complement_right_in XZ k = mul one_minus_i (root_power k)
-complement_right_in YZ k = one
-
--- the factor of the sum after: each neighbour's quarter turn, and the vertex's own change
-abbrev pub complement_right : Graph → ℕ → Number
-complement_right g u =
-    mul (complement_right_in (plane_of g u) (phase_of g u)) (product_of (joined g.edges u) quarter_cost g.vertices)
+abbrev pub complement_scalar : Graph → ℕ → Scalar
+complement_scalar g u =
+    product_of_scalars (complement_scalar_in (plane_of g u) (phase_of g u))
+    (turn_by (quarter_powers g (neighbours g u)))
 
 -- what it does to the counts: u alone becomes XY, or is XY no more
 pub record CountsAfterComplement (g : Graph) (u : ℕ) (h : Graph) : Type 0 where

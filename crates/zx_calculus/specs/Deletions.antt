@@ -1,16 +1,16 @@
 -- The deletion of a vertex of whole half turns.
 -- Backens and others (Quantum 5, 421, 2021), on eliminating Clifford vertices.
-use Rattle.std.specs.Prelude.{◌≡◌, ◌≢◌, ◌+◌, ℕ, Bool, if◌then◌else◌, not, ◌&&◌, ◌==◌}
-use Rattle.zx_model.specs.Phase.{half_turn, is_half_turns, IsHalfTurns}
+use Rattle.std.specs.Prelude.{◌≡◌, ◌≢◌, ◌+◌, ℕ, pos, Bool, if◌then◌else◌, not, ◌&&◌, ◌==◌}
+use Rattle.zx_model.specs.Phase.{half_turn, quarter_turn, is_half_turns, IsHalfTurns}
 use Rattle.zx_model.specs.Bits.{member}
-use Rattle.zx_model.specs.Number.{Number, mul}
-use Rattle.zx_model.specs.Constants.{two, i}
+use Rattle.zx_model.specs.Scalar.{product_of_scalars}
+use Rattle.zx_model.specs.declared.scalar.Scalar.{Scalar}
 use Rattle.zx_calculus.specs.Graph.{Plane, XY, XZ, YZ, Kind, Graph, ids, joined, plane_of, phase_of, is_XY, Live}
-use Rattle.zx_calculus.specs.Graph.{with_kinds, without}
+use Rattle.zx_calculus.specs.Graph.{neighbours, with_kinds, without}
 use Rattle.zx_calculus.specs.Turns.{half_turned}
 use Rattle.zx_calculus.specs.Adjacency.{adjacent_graph}
 use Rattle.zx_calculus.specs.Edits.{KeepsEnds}
-use Rattle.zx_calculus.specs.Scalars.{half_cost, product_of}
+use Rattle.zx_calculus.specs.Scalars.{root_of_two_to, turn_by, half_powers}
 use Rattle.zx_calculus.specs.Counts.{odd_phases, even_interior, not_XY}
 
 -- where the deleted vertex has a half turn, each of its neighbours gets one
@@ -40,17 +40,20 @@ deleted_graph g u =
     adjacent_graph g (with_kinds (delete_kind (phase_of g u) (joined g.edges u)) (without u g.vertices))
     (joined g.edges)
 
--- what the vertex gives to the factor of the sum after, where it has a half turn
-abbrev pub delete_half_in : Plane → Number
-delete_half_in XY = two
-delete_half_in XZ = mul two i
-delete_half_in YZ = two
+-- its scalar: 2, or with a half turn also i in the plane XZ, and a half turn of each neighbour.
+-- Backens and others (Quantum 5, 421, 2021) give the rewrite up to a scalar; the exact one is the value of the
+-- effect at the label where it is not 0
+abbrev pub delete_scalar_in : Plane → Scalar
+delete_scalar_in XY = root_of_two_to (pos 2)
+delete_scalar_in XZ = record { root2 = pos 2; turn = quarter_turn }
+delete_scalar_in YZ = root_of_two_to (pos 2)
 
--- the factor of the sum after: 2, or with a half turn also each neighbour's
-abbrev pub delete_right : Graph → ℕ → Number
-delete_right g u =
+abbrev pub delete_scalar : Graph → ℕ → Scalar
+delete_scalar g u =
     if phase_of g u == half_turn
-    then mul (delete_half_in (plane_of g u)) (product_of (joined g.edges u) half_cost g.vertices) else two
+    then product_of_scalars (delete_scalar_in (plane_of g u))
+    (turn_by (half_powers g (neighbours g u)))
+    else root_of_two_to (pos 2)
 
 -- what it does to the counts: u was interior and of an even phase, and not XY
 pub record CountsAfterDeletion (g : Graph) (u : ℕ) (h : Graph) : Type 0 where

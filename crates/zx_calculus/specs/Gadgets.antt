@@ -1,11 +1,13 @@
 -- Phase gadgets: a YZ vertex adds its phase where the labels of its neighbours have odd parity.
 -- Kissinger and van de Wetering, "Reducing T-count with the ZX-calculus" (arXiv 1903.10477, 2020), on phase gadgets.
-use Rattle.std.specs.Prelude.{◌≡◌, ◌≢◌, ◌+◌, ℕ, Bool, true, false, if◌then◌else◌, not, ◌&&◌, ◌==◌, List, [], ◌∷◌}
+use Rattle.std.specs.Prelude.{◌≡◌, ◌≢◌, ◌+◌, ℕ, pos, Bool, true, false, if◌then◌else◌, not, ◌&&◌, ◌==◌, List, [], ◌∷◌}
 use Rattle.std.specs.List.{list_all}
 use Rattle.zx_model.specs.Bits.{xor, member, one_if}
+use Rattle.zx_model.specs.declared.scalar.Scalar.{Scalar}
 use Rattle.zx_calculus.specs.Graph.{XY, YZ, Kind, Graph, ids, joined, plane_of, phase_of, is_XY, is_YZ, is_interior}
 use Rattle.zx_calculus.specs.Graph.{neighbours, Live, with_kinds, without}
 use Rattle.zx_calculus.specs.Turns.{with_phase_added}
+use Rattle.zx_calculus.specs.Scalars.{root_of_two_to}
 use Rattle.zx_calculus.specs.Adjacency.{adjacent_graph}
 use Rattle.zx_calculus.specs.Edits.{KeepsEnds}
 use Rattle.zx_calculus.specs.Counts.{odd_phases, even_interior, not_XY, is_odd_at, is_even_at, is_even_interior}
@@ -97,6 +99,11 @@ fused_into_graph g u =
 abbrev pub fused_twin_graph : Graph → ℕ → ℕ → Graph
 fused_twin_graph g u v =
     adjacent_graph g (with_kinds (fuse_kind u (phase_of g v)) (without v g.vertices)) (joined g.edges)
+
+-- the scalar of each of the three: 2, as the sum over the labels of a gadget is twice a power of z.
+-- Kissinger and van de Wetering (2020) give the rewrites up to a scalar
+abbrev pub gadget_scalar : Scalar
+gadget_scalar = root_of_two_to (pos 2)
 
 -- what they do to the counts: u was interior
 pub record CountsAfterDropLone (g : Graph) (u : ℕ) (h : Graph) : Type 0 where

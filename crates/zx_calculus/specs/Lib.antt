@@ -13,7 +13,6 @@ pub mod Splits
 pub mod Gadgets
 pub mod Steps
 pub mod Moves
-pub mod Exact
 pub mod Toggles
 pub mod Reduced
 pub mod Worked

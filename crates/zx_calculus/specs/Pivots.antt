@@ -1,16 +1,18 @@
 -- The pivot along an edge.
 -- Duncan and others (Quantum 4, 279, 2020), on pivoting; Backens and others (Quantum 5, 421, 2021), on the same in all
 -- three planes.
-use Rattle.std.specs.Prelude.{◌≡◌, ◌≢◌, ◌+◌, ℕ, Bool, true, if◌then◌else◌, ◌&&◌, ◌||◌, ◌==◌}
+use Rattle.std.specs.Prelude.{◌≡◌, ◌≢◌, ◌+◌, ℕ, pos, negsuc, Bool, true, if◌then◌else◌, ◌&&◌, ◌||◌, ◌==◌, List}
+use Rattle.std.specs.List.{filter}
+use Rattle.zx_model.specs.Phase.{sum_of_phases}
 use Rattle.zx_model.specs.Bits.{xor, member, one_if}
-use Rattle.zx_model.specs.Number.{Number, one, mul, root_power}
-use Rattle.zx_model.specs.Constants.{two}
+use Rattle.zx_model.specs.Scalar.{one_scalar, product_of_scalars}
+use Rattle.zx_model.specs.declared.scalar.Scalar.{Scalar}
 use Rattle.zx_calculus.specs.Graph.{Plane, XY, XZ, YZ, Kind, Graph, ids, joined, plane_of, phase_of, is_XY, is_YZ}
-use Rattle.zx_calculus.specs.Graph.{is_interior, Live, Interior, with_kinds}
+use Rattle.zx_calculus.specs.Graph.{is_interior, neighbours, Live, Interior, with_kinds}
 use Rattle.zx_calculus.specs.Turns.{half_turned, pivoted}
 use Rattle.zx_calculus.specs.Adjacency.{adjacent_graph}
 use Rattle.zx_calculus.specs.Edits.{KeepsEnds}
-use Rattle.zx_calculus.specs.Scalars.{one_minus_i, half_cost, product_of}
+use Rattle.zx_calculus.specs.Scalars.{root_of_two_to, turn_by, half_powers}
 use Rattle.zx_calculus.specs.Counts.{odd_phases, even_interior, not_XY}
 
 -- u and v get their own change, and each common neighbour a half turn
@@ -57,17 +59,23 @@ pivoted_graph g u v =
     adjacent_graph g (with_kinds (pivot_kind u v (joined g.edges u) (joined g.edges v)) g.vertices)
     (pivot_adjacent (joined g.edges) u v)
 
--- what each of the two vertices gives to the factor of the sum after
-abbrev pub pivot_right_in : Plane → ℕ → Number
-pivot_right_in XY k = one
-pivot_right_in XZ k = mul one_minus_i (root_power k)
-pivot_right_in YZ k = two
+abbrev pub common_neighbours : Graph → ℕ → ℕ → List ℕ
+common_neighbours g u v = filter (joined g.edges v) (neighbours g u)
 
--- the factor of the sum after: each common neighbour's half turn, and the two vertices' own changes; before it is 2
-abbrev pub pivot_right : Graph → ℕ → ℕ → Number
-pivot_right g u v =
-    mul (mul (pivot_right_in (plane_of g u) (phase_of g u)) (pivot_right_in (plane_of g v) (phase_of g v)))
-    (product_of (λ p. joined g.edges u p && joined g.edges v p) half_cost g.vertices)
+-- its scalar: a half, the change of each of the two, with 1-i the root of two times z^14, and a half turn of each
+-- common neighbour.
+-- Backens and others (Quantum 5, 421, 2021) give the rewrite up to a scalar; the exact one follows from the values of
+-- the effects before and after
+abbrev pub pivot_scalar_in : Plane → ℕ → Scalar
+pivot_scalar_in XY k = one_scalar
+pivot_scalar_in XZ k = record { root2 = pos 1; turn = sum_of_phases k 14 }
+pivot_scalar_in YZ k = root_of_two_to (pos 2)
+
+abbrev pub pivot_scalar : Graph → ℕ → ℕ → Scalar
+pivot_scalar g u v =
+    product_of_scalars (root_of_two_to (negsuc 1)) (product_of_scalars
+    (product_of_scalars (pivot_scalar_in (plane_of g u) (phase_of g u)) (pivot_scalar_in (plane_of g v) (phase_of g v)))
+    (turn_by (half_powers g (common_neighbours g u v))))
 
 -- what it does to the counts: XY and YZ are exchanged at u and v alone
 pub record CountsAfterPivot (g : Graph) (u v : ℕ) (h : Graph) : Type 0 where

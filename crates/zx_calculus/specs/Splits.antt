@@ -1,14 +1,15 @@
 -- The split of an end: an identity spider between a vertex and its input or output wire.
 -- Duncan and others (Quantum 4, 279, 2020), on boundary pivots; Backens and others (Quantum 5, 421, 2021), on
 -- inserting identity spiders at inputs and outputs.
-use Rattle.std.specs.Prelude.{◌≡◌, ◌+◌, ℕ, suc, Bool, true, false, if◌then◌else◌, not, ◌&&◌, ◌||◌, ◌==◌, List, []}
-use Rattle.std.specs.Prelude.{◌∷◌}
+use Rattle.std.specs.Prelude.{◌≡◌, ◌+◌, ℕ, suc, negsuc, Bool, true, false, if◌then◌else◌, not, ◌&&◌, ◌||◌, ◌==◌}
+use Rattle.std.specs.Prelude.{List, [], ◌∷◌}
 use Rattle.zx_model.specs.Bits.{member, one_if}
-use Rattle.zx_model.specs.Number.{Number, one}
-use Rattle.zx_model.specs.Constants.{two}
+use Rattle.zx_model.specs.Scalar.{one_scalar}
+use Rattle.zx_model.specs.declared.scalar.Scalar.{Scalar}
 use Rattle.zx_calculus.specs.Graph.{XY, Vertex, Edge, End, Graph, ids, joined, end_vertices, OrderedEdges}
 use Rattle.zx_calculus.specs.Graph.{insert_vertex}
 use Rattle.zx_calculus.specs.Turns.{in_plane}
+use Rattle.zx_calculus.specs.Scalars.{root_of_two_to}
 use Rattle.zx_calculus.specs.Adjacency.{edges_of}
 use Rattle.zx_calculus.specs.Edits.{is_pair}
 use Rattle.zx_calculus.specs.Counts.{odd_phases, even_interior, not_XY, has_input, has_output, is_even_at}
@@ -95,9 +96,10 @@ abbrev pub mark_of : List End → ℕ → Bool
 mark_of [] b = false
 mark_of (e ∷ es) b = if b == e.vertex then e.hadamard else mark_of es b
 
--- the factor of the sum before: 2 at a plain end; after it is 1
-abbrev pub split_left : Bool → Number
-split_left hadamard = if hadamard then one else two
+-- its scalar: a half, where the end is plain, as two Hadamard edges in a row are twice a wire.
+-- Backens and others (Quantum 5, 421, 2021) give the rewrite up to a scalar
+abbrev pub split_scalar : Bool → Scalar
+split_scalar hadamard = if hadamard then one_scalar else root_of_two_to (negsuc 1)
 
 -- what it does to the counts: b becomes interior, unless it has an output; the new vertex has the input
 pub record CountsAfterSplitInput (g : Graph) (b : ℕ) (h : Graph) : Type 0 where

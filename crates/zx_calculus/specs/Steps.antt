@@ -1,16 +1,11 @@
--- One rewrite of an open graph, and lists of rewrites: which it is, where it is allowed, what it makes, and by which
--- exact factors it changes the sum.
+-- One rewrite of an open graph, and lists of rewrites: which it is, where it is allowed, and what it makes.
 use Rattle.std.specs.Prelude.{◌≡◌, ℕ, Bool, List, [], ◌∷◌}
-use Rattle.zx_model.specs.Number.{Number, one}
-use Rattle.zx_model.specs.Constants.{two}
-use Rattle.zx_calculus.specs.Graph.{Graph, plane_of}
-use Rattle.zx_calculus.specs.Complements.{IsLocalComplement, may_complement, complemented_graph, complement_left_in}
-use Rattle.zx_calculus.specs.Complements.{complement_right}
-use Rattle.zx_calculus.specs.Deletions.{IsDelete, may_delete, deleted_graph, delete_right}
-use Rattle.zx_calculus.specs.Pivots.{IsPivot, may_pivot, pivoted_graph, pivot_right}
+use Rattle.zx_calculus.specs.Graph.{Graph}
+use Rattle.zx_calculus.specs.Complements.{IsLocalComplement, may_complement, complemented_graph}
+use Rattle.zx_calculus.specs.Deletions.{IsDelete, may_delete, deleted_graph}
+use Rattle.zx_calculus.specs.Pivots.{IsPivot, may_pivot, pivoted_graph}
 use Rattle.zx_calculus.specs.Splits.{IsSplitInput, IsSplitOutput, may_split_input, may_split_output, split_input_graph}
-use Rattle.zx_calculus.specs.Splits.{split_output_graph}
-use Rattle.zx_calculus.specs.Splits.{new_vertex, mark_of, split_left}
+use Rattle.zx_calculus.specs.Splits.{split_output_graph, new_vertex}
 use Rattle.zx_calculus.specs.Gadgets.{IsDropLone, IsFuseInto, IsFuseTwin, may_drop_lone, may_fuse_into, may_fuse_twin}
 use Rattle.zx_calculus.specs.Gadgets.{dropped_graph, fused_into_graph, fused_twin_graph}
 
@@ -58,25 +53,3 @@ after (SplitOutput b) g = split_output_graph g b (new_vertex g)
 after (DropLone u) g = dropped_graph g u
 after (FuseInto u) g = fused_into_graph g u
 after (FuseTwin u v) g = fused_twin_graph g u v
-
--- what the sum before is multiplied by
-abbrev pub left_factor : Graph → Step → Number
-left_factor g (LocalComplement u) = complement_left_in (plane_of g u)
-left_factor g (Delete u) = one
-left_factor g (Pivot u v) = two
-left_factor g (SplitInput b) = split_left (mark_of g.inputs b)
-left_factor g (SplitOutput b) = split_left (mark_of g.outputs b)
-left_factor g (DropLone u) = one
-left_factor g (FuseInto u) = one
-left_factor g (FuseTwin u v) = one
-
--- what the sum after is multiplied by
-abbrev pub right_factor : Graph → Step → Number
-right_factor g (LocalComplement u) = complement_right g u
-right_factor g (Delete u) = delete_right g u
-right_factor g (Pivot u v) = pivot_right g u v
-right_factor g (SplitInput b) = one
-right_factor g (SplitOutput b) = one
-right_factor g (DropLone u) = two
-right_factor g (FuseInto u) = two
-right_factor g (FuseTwin u v) = two

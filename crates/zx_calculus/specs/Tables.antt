@@ -1,5 +1,5 @@
 -- Tables of the factors of a vertex, computed apart from the definitions, and sums of small graphs.
-use Rattle.std.specs.Prelude.{ℕ, ℤ, pos, negsuc, true, List, [], ◌∷◌}
+use Rattle.std.specs.Prelude.{ℕ, ℤ, pos, negsuc, true, List, [], ◌∷◌, ◌++◌}
 use Rattle.zx_model.specs.Number.{Number, one}
 use Rattle.zx_calculus.specs.Graph.{XY, Graph}
 use Rattle.zx_calculus.specs.Worked.{vertex, edge, plain, graph}
@@ -39,9 +39,9 @@ factors_XY_1 =
     ∷ number (pos 0) (pos 0) (pos 0) (pos 0) (pos 0) (pos 0) (negsuc 0) (pos 0)
     ∷ number (pos 0) (pos 0) (pos 0) (pos 0) (pos 0) (pos 0) (pos 0) (negsuc 0) ∷ []
 
--- labels 0 in YZ, at each phase
-abbrev pub factors_YZ_0 : List Number
-factors_YZ_0 =
+-- 1 + z^k for each k below 8, and 1 - z^k
+abbrev pub one_plus_powers : List Number
+one_plus_powers =
     number (pos 2) (pos 0) (pos 0) (pos 0) (pos 0) (pos 0) (pos 0) (pos 0)
     ∷ number (pos 1) (pos 1) (pos 0) (pos 0) (pos 0) (pos 0) (pos 0) (pos 0)
     ∷ number (pos 1) (pos 0) (pos 1) (pos 0) (pos 0) (pos 0) (pos 0) (pos 0)
@@ -49,8 +49,11 @@ factors_YZ_0 =
     ∷ number (pos 1) (pos 0) (pos 0) (pos 0) (pos 1) (pos 0) (pos 0) (pos 0)
     ∷ number (pos 1) (pos 0) (pos 0) (pos 0) (pos 0) (pos 1) (pos 0) (pos 0)
     ∷ number (pos 1) (pos 0) (pos 0) (pos 0) (pos 0) (pos 0) (pos 1) (pos 0)
-    ∷ number (pos 1) (pos 0) (pos 0) (pos 0) (pos 0) (pos 0) (pos 0) (pos 1)
-    ∷ number (pos 0) (pos 0) (pos 0) (pos 0) (pos 0) (pos 0) (pos 0) (pos 0)
+    ∷ number (pos 1) (pos 0) (pos 0) (pos 0) (pos 0) (pos 0) (pos 0) (pos 1) ∷ []
+
+abbrev pub one_minus_powers : List Number
+one_minus_powers =
+    number (pos 0) (pos 0) (pos 0) (pos 0) (pos 0) (pos 0) (pos 0) (pos 0)
     ∷ number (pos 1) (negsuc 0) (pos 0) (pos 0) (pos 0) (pos 0) (pos 0) (pos 0)
     ∷ number (pos 1) (pos 0) (negsuc 0) (pos 0) (pos 0) (pos 0) (pos 0) (pos 0)
     ∷ number (pos 1) (pos 0) (pos 0) (negsuc 0) (pos 0) (pos 0) (pos 0) (pos 0)
@@ -59,25 +62,13 @@ factors_YZ_0 =
     ∷ number (pos 1) (pos 0) (pos 0) (pos 0) (pos 0) (pos 0) (negsuc 0) (pos 0)
     ∷ number (pos 1) (pos 0) (pos 0) (pos 0) (pos 0) (pos 0) (pos 0) (negsuc 0) ∷ []
 
+-- labels 0 in YZ, at each phase
+abbrev pub factors_YZ_0 : List Number
+factors_YZ_0 = one_plus_powers ++ one_minus_powers
+
 -- labels 1 in YZ, at each phase
 abbrev pub factors_YZ_1 : List Number
-factors_YZ_1 =
-    number (pos 0) (pos 0) (pos 0) (pos 0) (pos 0) (pos 0) (pos 0) (pos 0)
-    ∷ number (pos 1) (negsuc 0) (pos 0) (pos 0) (pos 0) (pos 0) (pos 0) (pos 0)
-    ∷ number (pos 1) (pos 0) (negsuc 0) (pos 0) (pos 0) (pos 0) (pos 0) (pos 0)
-    ∷ number (pos 1) (pos 0) (pos 0) (negsuc 0) (pos 0) (pos 0) (pos 0) (pos 0)
-    ∷ number (pos 1) (pos 0) (pos 0) (pos 0) (negsuc 0) (pos 0) (pos 0) (pos 0)
-    ∷ number (pos 1) (pos 0) (pos 0) (pos 0) (pos 0) (negsuc 0) (pos 0) (pos 0)
-    ∷ number (pos 1) (pos 0) (pos 0) (pos 0) (pos 0) (pos 0) (negsuc 0) (pos 0)
-    ∷ number (pos 1) (pos 0) (pos 0) (pos 0) (pos 0) (pos 0) (pos 0) (negsuc 0)
-    ∷ number (pos 2) (pos 0) (pos 0) (pos 0) (pos 0) (pos 0) (pos 0) (pos 0)
-    ∷ number (pos 1) (pos 1) (pos 0) (pos 0) (pos 0) (pos 0) (pos 0) (pos 0)
-    ∷ number (pos 1) (pos 0) (pos 1) (pos 0) (pos 0) (pos 0) (pos 0) (pos 0)
-    ∷ number (pos 1) (pos 0) (pos 0) (pos 1) (pos 0) (pos 0) (pos 0) (pos 0)
-    ∷ number (pos 1) (pos 0) (pos 0) (pos 0) (pos 1) (pos 0) (pos 0) (pos 0)
-    ∷ number (pos 1) (pos 0) (pos 0) (pos 0) (pos 0) (pos 1) (pos 0) (pos 0)
-    ∷ number (pos 1) (pos 0) (pos 0) (pos 0) (pos 0) (pos 0) (pos 1) (pos 0)
-    ∷ number (pos 1) (pos 0) (pos 0) (pos 0) (pos 0) (pos 0) (pos 0) (pos 1) ∷ []
+factors_YZ_1 = one_minus_powers ++ one_plus_powers
 
 -- labels 0 in XZ, at each phase: the same as in YZ
 abbrev pub factors_XZ_0 : List Number

@@ -1,43 +1,33 @@
 //! The laws of rewrites and of the sums that they keep.
 
-ghost use Rattle.std.specs.Prelude.{◌≡◌, ◌≢◌, ◌≤◌, ℕ, Bool, List, [], ◌∷◌, length, map, true, false, ◌&&◌, ◌||◌, if◌then◌else◌};
-ghost use Rattle.zx_model.specs.Number.{zero, one, mul, root_power, sign};
+ghost use Rattle.std.specs.Prelude.{◌≡◌, ◌≤◌, ℕ, Bool, List, [], ◌∷◌, length, map, true, false, ◌&&◌, ◌||◌, if◌then◌else◌};
+ghost use Rattle.zx_model.specs.Number.{zero, one, add, neg, mul, root_power, sign};
 ghost use Rattle.zx_model.specs.Phase.{eighth_turn};
 ghost use Rattle.zx_model.specs.Bits.{xor};
-ghost use Rattle.zx_model.specs.Proportional.{Proportional};
-ghost use Rattle.zx_model.specs.Scalar.{IsScaled, IsWithin};
+ghost use Rattle.zx_model.specs.Scalar.{IsWithin};
 ghost use Rattle.zx_calculus.specs.Graph.{XY, XZ, YZ, Graph, WellFormed};
 ghost use Rattle.zx_calculus.specs.Sum.{sum, factor, spider};
 ghost use Rattle.zx_calculus.specs.Turns.{in_plane};
-ghost use Rattle.zx_model.specs.Constants.{two, root_of_two};
-ghost use Rattle.zx_calculus.specs.Scalars.{one_plus_i, one_minus_i};
+ghost use Rattle.zx_model.specs.Constants.{two, i, root_of_two};
 ghost use Rattle.zx_calculus.specs.Pivots.{IsPivot};
 ghost use Rattle.zx_calculus.specs.Splits.{new_vertex};
-ghost use Rattle.zx_calculus.specs.Steps.{Step, LocalComplement, Delete, Pivot, SplitInput, DropLone, FuseInto, FuseTwin, IsStep, IsRun, left_factor, right_factor, allowed, after};
-ghost use Rattle.zx_calculus.specs.StepScalars.{step_scalar};
+ghost use Rattle.zx_calculus.specs.Steps.{Step, LocalComplement, Delete, Pivot, SplitInput, DropLone, FuseInto, FuseTwin, IsStep, IsRun, allowed, after};
+ghost use Rattle.zx_calculus.specs.StepScalars.{IsSumTimes, KeepsMap, step_scalar};
 ghost use Rattle.zx_calculus.specs.Counts.{odd_phases};
 ghost use Rattle.zx_calculus.specs.Worked.{path_of_three, path_complemented, path_deleted, path_of_four, path_pivoted, twins, twins_reduced, small_gadgets, small_gadgets_reduced, triangle, triangle_pivoted, path_split, overlapping_gadgets};
 ghost use Rattle.zx_calculus.specs.Tables.{all_phases, factors_XY_0, factors_XY_1, factors_XZ_0, factors_XZ_1, factors_YZ_0, factors_YZ_1, hadamard_wire, controlled_z, crossing, marked_spider};
 
-/// Each rewrite keeps the sum, with the exact factors of its kind, and neither factor is zero. So the sum
-/// before is a scalar times the sum after, a power of the root of two times one of z.
+/// Each rewrite keeps the sum: that before is the rewrite's scalar times that after, a power of the root of two times
+/// one of z.
 pub fn step_keeps_sum()
-    ensures exact { (g : Graph) (s : Step) (h : Graph) (x y : List Bool) → WellFormed g →
-        IsStep g s h → length x ≡ length g.inputs → length y ≡ length g.outputs →
-        mul (left_factor g s) (sum g x y) ≡ mul (right_factor g s) (sum h x y) }
     ensures scaled { (g : Graph) (s : Step) (h : Graph) → WellFormed g → IsStep g s h →
-        IsScaled (length g.inputs) (length g.outputs) (sum g) (step_scalar g s) (sum h) }
+        IsSumTimes g (step_scalar g s) h }
     ensures small { (g : Graph) (s : Step) → IsWithin 2 (step_scalar g s) }
-    ensures left_nonzero { (g : Graph) (s : Step) → left_factor g s ≢ zero }
-    ensures right_nonzero { (g : Graph) (s : Step) → right_factor g s ≢ zero }
-    ensures proportional { (g : Graph) (s : Step) (h : Graph) → WellFormed g → IsStep g s h →
-        Proportional (length g.inputs) (length g.outputs) (sum g) (sum h) }
 {}
 
 /// Every list of rewrites keeps the sum up to a nonzero scalar.
 pub fn run_keeps_sum()
-    ensures { (g : Graph) (steps : List Step) (h : Graph) → WellFormed g → IsRun g steps h →
-        Proportional (length g.inputs) (length g.outputs) (sum g) (sum h) }
+    ensures { (g : Graph) (steps : List Step) (h : Graph) → WellFormed g → IsRun g steps h → KeepsMap g h }
 {}
 
 /// Each rewrite, and so every list of them, keeps well-formedness and the numbers of inputs and outputs.
@@ -102,8 +92,8 @@ pub fn worked_sums()
     ensures YZ_0 { map (λ k. factor (in_plane YZ k) false) all_phases ≡ factors_YZ_0 }
     ensures YZ_1 { map (λ k. factor (in_plane YZ k) true) all_phases ≡ factors_YZ_1 }
     ensures two { two ≡ mul root_of_two root_of_two }
-    ensures one_plus_i { one_plus_i ≡ mul root_of_two (root_power eighth_turn) }
-    ensures one_minus_i { mul one_minus_i (root_power eighth_turn) ≡ root_of_two }
+    ensures one_plus_i { add one i ≡ mul root_of_two (root_power eighth_turn) }
+    ensures one_minus_i { mul (add one (neg i)) (root_power eighth_turn) ≡ root_of_two }
     ensures hadamard { (x y : Bool) → sum hadamard_wire (x ∷ []) (y ∷ []) ≡ sign (x && y) }
     ensures marked { (k : ℕ) (x y : Bool) →
         sum (marked_spider k) (x ∷ []) (y ∷ []) ≡ mul (spider k x) (sign (x && y)) }

@@ -1,7 +1,7 @@
 //! What an open graph of the ZX-calculus means, and the rewrites that keep it.
 //!
 //! There is no running code: the definitions stand in `specs/`, and the functions do nothing: their
-//! contracts are the laws. Each of the eight rewrites keeps the sum, with its exact factor, keeps
+//! contracts are the laws. Each of the eight rewrites keeps the sum, by its exact scalar, keeps
 //! the form of the graph and raises no number of odd phases, and so does every list of them in any
 //! order. A rewrite's result is the graph that a plain program makes, exactly where its side
 //! condition holds, and no other: so a list of rewrites has one end. Besides: how each changes the

@@ -16,7 +16,5 @@
 #![tactic(auto)]
 
 mod compiling;
-#[cfg(test)]
-mod tests;
 
 pub use compiling::{Compiled, compile};

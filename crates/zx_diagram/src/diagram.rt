@@ -52,7 +52,6 @@ impl Diagram {
         ensures err { OnErr result (self.new ≡ self.old) }
     {
         let number = self.spiders.len();
-        let _below_a_turn = phase.get();
         self.spiders.push(Spider { colour, phase })?;
         Ok(number)
     }

@@ -12,7 +12,7 @@ use Rattle.zx_calculus.proofs.Ids.{by_test, and-left, and-right, Distinct-differ
 use Rattle.zx_calculus.proofs.Booleans.{or-true}
 use Rattle.zx_calculus.proofs.Splitting.{all_at}
 use Rattle.gflow_laws.specs.Flow.{IsFlow}
-use Rattle.gflow_laws.proofs.AllEnds.{same_members, length-places, all_ends}
+use Rattle.gflow_laws.proofs.AllEnds.{same_members, all_ends}
 use Rattle.zx_gates.specs.declared.gate.Gate.{Gate}
 use Rattle.circuit_laws.specs.Gates.{exchange_gates}
 use Rattle.circuit_laws.specs.Peeling.{IsExchange, are_plain}
@@ -24,6 +24,7 @@ use Rattle.zx_extract.specs.Internal.Leading.{State, Leads, IsReady, IsFrontier}
 use Rattle.zx_extract.specs.Internal.Steps.{IsUncrossed}
 use Rattle.zx_extract.proofs.Leads.{leads_same, leads_nothing, leads_then, leads_within}
 use Rattle.circuit_laws.proofs.Places.{plain_end}
+use Rattle.zx_calculus.proofs.ReducedLemmas.{length-places}
 
 pub places-plain : (us : List ℕ) → end_vertices (map plain us) ≡ us
 places-plain [] = refl

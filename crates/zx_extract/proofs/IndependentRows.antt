@@ -14,7 +14,8 @@ use Rattle.gflow_laws.specs.Correcting.{Corrects, FlowAsFunctions, inside_in, od
 use Rattle.gflow_laws.proofs.Linear.{masked-none, member-removed as member-of_removed}
 use Rattle.gflow_laws.proofs.Corrects.{odd-xor}
 use Rattle.gflow_laws.proofs.Flows.{Flows-from, live}
-use Rattle.gflow_laws.proofs.AllEnds.{same_members, length-places}
+use Rattle.gflow_laws.proofs.AllEnds.{same_members}
+use Rattle.zx_calculus.proofs.ReducedLemmas.{length-places}
 
 -- ---- lists without repetition
 

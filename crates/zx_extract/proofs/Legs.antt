@@ -7,7 +7,7 @@ use Rattle.std.proofs.lemmas.List.Sums.{length-filter, count_by-le-length}
 use Rattle.zx_model.specs.Bits.{member}
 use Rattle.zx_calculus.specs.Graph.{Graph, joined, end_vertices, Distinct, WellFormed}
 use Rattle.zx_calculus.proofs.Ids.{by_test, by_equal, member-filter, Distinct-different}
-use Rattle.gflow_laws.proofs.AllEnds.{length-places}
+use Rattle.zx_calculus.proofs.ReducedLemmas.{length-places}
 use Rattle.circuit_laws.specs.Peeling.{HasPlainOutput}
 use Rattle.zx_extract.specs.Internal.Lists.{legs_of}
 use Rattle.zx_extract.specs.Internal.Steps.{AreLegs}

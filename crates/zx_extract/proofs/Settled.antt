@@ -19,7 +19,7 @@ use Rattle.gflow_laws.specs.Outputs.{toggled}
 use Rattle.gflow_laws.specs.Correcting.{Alike}
 use Rattle.gflow_laws.proofs.Seeing.{phases_unseen}
 use Rattle.gflow_laws.proofs.OutputLaws.{toggled_flow}
-use Rattle.gflow_laws.proofs.AllEnds.{length-places}
+use Rattle.zx_calculus.proofs.ReducedLemmas.{length-places}
 use Rattle.zx_gates.specs.Circuit.{IsOnQubits, most_qubits}
 use Rattle.zx_gates.specs.declared.gate.Gate.TheVariants.{H, Cz}
 use Rattle.zx_gates.specs.Lowering.{phase_gates}

@@ -35,7 +35,8 @@ use Rattle.zx_extract.specs.Internal.Leading.{State, Leads, IsReady, IsFrontier,
 use Rattle.zx_extract.proofs.Leads.{leads_then, leads_within}
 use Rattle.zx_extract.proofs.Places.{place_of_output}
 use Rattle.zx_extract.proofs.Exchanges.{places-plain, plain-map}
-use Rattle.zx_model.specs.Constants.{root_of_two, power_of_two}
+use Rattle.zx_model.specs.Constants.{root_of_two}
+use Rattle.zx_model.specs.Internal.Powers.{power_of_two}
 use Rattle.zx_gates.proofs.LoweringLemmas.{gate_odd_phases-append}
 
 -- with the outputs in line, wires are left

@@ -1,15 +1,14 @@
 //! The circuit of a graph with a flow.
 
-ghost use Rattle.std.specs.Prelude.{◌≡◌, ◌≢◌, ◌<◌, ◌≤◌, ◌*◌, ℕ, pos, [], length, IfOk};
-ghost use Rattle.zx_model.specs.Scalar.{IsScaled, IsWithin};
+ghost use Rattle.std.specs.Prelude.{◌≡◌, ◌≢◌, ◌≤◌, ◌*◌, ℕ, pos, [], length, IfOk};
 ghost use Rattle.zx_calculus.specs.Graph.{plane_of, Live};
 ghost use Rattle.zx_calculus.specs.Graph as zx;
 ghost use Rattle.zx_calculus.specs.Sum.{sum};
 ghost use Rattle.zx_calculus.specs.Counts.{odd_phases, not_XY, XY_without_output};
 ghost use Rattle.gflow_laws.specs.Flow.{IsFlow};
-ghost use Rattle.zx_gates.specs.Circuit.{most_qubits, gate_odd_phases};
-ghost use Rattle.zx_gates.specs.Maps.{amp};
-ghost use Rattle.zx_calculus.specs.StepScalars.{most_vertices};
+ghost use Rattle.zx_gates.specs.Circuit.{most_qubits};
+ghost use Rattle.zx_gates.specs.Passes.{Implements};
+ghost use Rattle.open_graph.specs.OpenGraph.{most_vertices_in_memory};
 ghost use Rattle.zx_extract.specs.Extraction.{most_extracted_gates};
 ghost use Rattle.zx_extract.specs.Internal.Extracted.{IsTakenApart};
 ghost use Rattle.zx_extract.specs.Internal.Frontiers.{state_of};
@@ -25,26 +24,19 @@ use zx_model::{Scalar, Sixteenth};
 ///
 /// The graph has as many inputs as outputs, at most 1,024, and no vertex in the XZ plane. Then gates
 /// are found until none is left to find: the only error is want of memory. Beside the circuit stands the
-/// scalar between the two: the graph's sum is so many times the circuit's map. The graph has fewer than
-/// 2^56 vertices.
+/// scalar between the two: the graph's sum is so many times the circuit's map.
 pub fn extract(alloc: Global, g: OpenGraph, f: Flow) -> Result<ScaledCircuit, AllocError>
     requires flow { IsFlow g.graph f.flow }
     requires planes { (v : ℕ) → Live g.graph v → plane_of g.graph v ≢ zx.XZ }
     requires ends { length g.graph.inputs ≡ length g.graph.outputs }
     requires few { length g.graph.outputs ≤ most_qubits }
-    requires few_vertices { length g.graph.vertices < most_vertices }
-    ensures qubits { IfOk result (λ made. made.gates.qubits ≡ length g.graph.outputs) }
-
-    // The map is kept: the graph's sum is the circuit's map times a power of two.
-    ensures scalar { IfOk result (λ made. IsScaled (length g.graph.inputs) (length g.graph.outputs)
-        (sum g.graph) made.scalar (amp made.gates.gates)) }
-    ensures small { IfOk result (λ made. IsWithin (2 * not_XY g.graph) made.scalar) }
-
-    // Its gates.
-    ensures odd { IfOk result (λ made. gate_odd_phases made.gates.gates ≤ odd_phases g.graph) }
+    ensures kept { IfOk result (λ made. Implements (length g.graph.outputs) (sum g.graph)
+        (odd_phases g.graph) (2 * not_XY g.graph) made.gates made.scalar) }
     ensures few_gates { IfOk result (λ made. length made.gates.gates ≤
         most_extracted_gates (length g.graph.outputs) (XY_without_output g.graph) (not_XY g.graph)) }
 {
+    // So the exponent of the scalar fits.
+    prove!(g.vertex_count() as u64 <= 1 << 32);
     let mut frontier = Frontier::begin(alloc, g, &f)?;
     let doublings = frontier.take_all()?;
     let gates = frontier.into_circuit()?;
@@ -62,7 +54,6 @@ impl Frontier {
             plane_of self.old.graph.graph v ≢ zx.XZ }
         requires ends { length self.old.graph.graph.inputs ≡ length self.old.graph.graph.outputs }
         requires few { length self.old.graph.graph.outputs ≤ most_qubits }
-        requires few_vertices { length self.old.graph.graph.vertices < most_vertices }
         requires none { self.old.gates.items ≡ [] }
         ensures { IfOk result (λ doublings.
             IsTakenApart doublings self.old.graph.graph (state_of self.new)) }
@@ -77,7 +68,7 @@ impl Frontier {
 
 // The scalar of a sum that was doubled so often.
 fn doubled(doublings: u64) -> Scalar
-    requires { doublings < most_vertices }
+    requires { doublings ≤ most_vertices_in_memory }
     ensures { result ≡ record { root2 = pos (2 * doublings); turn = 0 } }
 {
     Scalar {

@@ -3,8 +3,6 @@
 ghost use Rattle.std.specs.Prelude.{◌≡◌, ◌<◌, ◌+◌, ℕ, List, [], length, IfOk, OnOk};
 ghost use Rattle.zx_calculus.specs.Graph.{plane_of};
 ghost use Rattle.zx_calculus.specs.Graph as zx;
-ghost use Rattle.zx_calculus.specs.Counts.{not_XY};
-ghost use Rattle.zx_calculus.specs.StepScalars.{most_vertices};
 ghost use Rattle.zx_extract.specs.Internal.Frontiers.{state_of};
 ghost use Rattle.zx_extract.specs.Internal.Leading.{State, IsReady, IsFrontier, IsTaken};
 ghost use Rattle.zx_extract.specs.Internal.Steps.{HasLast, IsPicked, IsGathered, HasNoOutput, HasOneOutput, IsAdvanced, IsGadgetTaken, IsLinkedGadgetTaken, AreLegs};
@@ -123,11 +121,11 @@ impl Frontier {
     pub(crate) fn take_vertices(&mut self) -> Result<u64, AllocError>
         requires ready { IsReady (state_of self.old) }
         requires frontier { IsFrontier self.old.graph.graph }
-        requires few { not_XY self.old.graph.graph < most_vertices }
         ensures taken { IfOk result (λ doublings.
             IsTaken doublings (state_of self.old) (state_of self.new)) }
         ensures all { OnOk result (self.new.flow.flow ≡ []) }
     {
+        prove!(self.graph.vertex_count() as u64 <= 1 << 32);
         let mut doublings = 0;
         while let Some(v) = self.flow.last() {
             doublings += self.take_vertex(v)?;

@@ -9,3 +9,7 @@ from_ok (Err e) ok h = absurd (false≢true ok)
 pub no_err : {T E : Type 0} (P : Type 0) (r : Result T E) → IsOk r → OnErr r P
 no_err P (Ok x) ok = tt
 no_err P (Err e) ok = absurd (false≢true ok)
+
+pub on_both : {T E P Q R : Type 0} (r : Result T E) → (P → Q → R) → OnOk r P → OnOk r Q → OnOk r R
+on_both (Ok x) f p q = f p q
+on_both (Err e) f p q = tt

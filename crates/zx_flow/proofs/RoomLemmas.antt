@@ -1,5 +1,5 @@
 -- Sets by number: what becomes of them and of their room where one is put in.
-use Rattle.std.proofs.Common.{◌≡◌, ◌≢◌, refl, sym, ◌∙◌, ap, ap₂, subst, ℕ, zero, suc, ◌+◌, ◌<◌, ◌≤◌, Bool, true, false, ◌||◌, eqb, ltb, List, [], ◌∷◌, ◌++◌, length, get_or, set, arith, true≢false}
+use Rattle.std.proofs.Common.{◌≡◌, ◌≢◌, refl, sym, ◌∙◌, ap, ap₂, subst, ℕ, zero, suc, ◌+◌, ◌<◌, ◌≤◌, true, false, eqb, ltb, List, [], ◌∷◌, ◌++◌, length, get_or, set, arith, true≢false}
 use Rattle.std.specs.List.{AllZip}
 use Rattle.std.proofs.lemmas.List.{get_or-set_other, length-set}
 use Rattle.std.proofs.lemmas.Grind.{get_or-set_at}
@@ -13,9 +13,6 @@ use Rattle.zx_flow.specs.Internal.Sets.{no_set, set_at, room_at, SameSetsAt, Sam
 abbrev ids_of : VertexSet → List ℕ
 ids_of s = s.ids
 
-abbrev room_of : VertexSet → ℕ
-room_of s = s.room
-
 apart : (p v : ℕ) → eqb p v ≡ false → p ≢ v
 apart p v f e = true≢false (sym (eqb-self v) ∙ ap (λ x. eqb x v) (sym e) ∙ f)
 
@@ -25,11 +22,16 @@ set_at-own lists v s lt = ap ids_of (get_or-set_at lists v v s no_set refl lt)
 pub set_at-but : (lists : List VertexSet) (v : ℕ) (s : VertexSet) → SameSetsBut v lists (set lists v s)
 set_at-but lists v s p f = ap ids_of (get_or-set_other lists v p s no_set (apart p v f))
 
+-- what holds of the set that is put in, where it is that at p, and else of the one that was there
+at_put : (P : VertexSet → Type 0) (lists : List VertexSet) (v p : ℕ) (s : VertexSet) → v < length lists → (p ≡ v → P s) → (p ≢ v → P (get_or lists p no_set)) →
+    P (get_or (set lists v s) p no_set)
+at_put P lists v p s lt own other =
+    by_equal p v (λ t e. subst P (sym (get_or-set_at lists v p s no_set e lt)) (own e)) (λ f n. subst P (sym (get_or-set_other lists v p s no_set n)) (other n))
+
 -- a set that has the same members
 pub same_put : (lists : List VertexSet) (v : ℕ) (s : VertexSet) → v < length lists → s.ids ≡ set_at lists v → SameSetsAt lists (set lists v s)
 same_put lists v s lt same p =
-    by_equal p v (λ t e. subst (λ x. set_at (set lists v s) x ≡ set_at lists x) (sym e) (set_at-own lists v s lt ∙ same))
-    (λ f n. set_at-but lists v s p f)
+    at_put (λ x. x.ids ≡ set_at lists p) lists v p s lt (λ e. same ∙ ap (set_at lists) (sym e)) (λ n. refl)
 
 -- a set in which some are toggled
 pub toggled_at : (lists : List VertexSet) (v : ℕ) (s : VertexSet) (members : List ℕ) → v < length lists →
@@ -43,10 +45,7 @@ pub HasReach-set : (reach : ℕ) (lists : List VertexSet) (v : ℕ) (s : VertexS
     HasReach reach (set lists v s)
 HasReach-set reach lists v s has lt room = record {
   there = rw (length-set lists v s) has.there;
-  room = λ p below.
-      by_equal p v
-      (λ t e. subst (λ r. reach ≤ r) (sym (ap room_of (get_or-set_at lists v p s no_set e lt))) (room (subst (λ x. x < reach) e below)))
-      (λ f n. subst (λ r. reach ≤ r) (sym (ap room_of (get_or-set_other lists v p s no_set n))) (has.room p below));
+  room = λ p below. at_put (λ x. reach ≤ x.room) lists v p s lt (λ e. room (subst (λ x. x < reach) e below)) (λ n. has.room p below);
 }
 
 pub HasReach-grown : (reach : ℕ) (old new : List VertexSet) → HasReach reach old → length old ≤ length new →
@@ -132,20 +131,14 @@ pushed_room (x ∷ xs) s (suc p) = pushed_room xs s p
 pub more_room : (lists : List VertexSet) (v : ℕ) (s : VertexSet) → v < length lists → room_at lists v ≤ s.room → (p : ℕ) →
     room_at lists p ≤ room_at (set lists v s) p
 more_room lists v s lt more p =
-    by_equal p v (λ t e. subst (λ r. room_at lists p ≤ r) (sym (ap room_of (get_or-set_at lists v p s no_set e lt))) (subst (λ x. room_at lists x ≤ s.room) (sym e) more))
-    (λ f n. let same : room_at (set lists v s) p ≡ room_at lists p = ap room_of (get_or-set_other lists v p s no_set n) in omega (arith, same))
+    at_put (λ x. room_at lists p ≤ x.room) lists v p s lt (λ e. subst (λ x. room_at lists x ≤ s.room) (sym e) more) (λ n. omega arith)
 
 pub next_room : (lists : List VertexSet) (v bound : ℕ) (s : VertexSet) → v < length lists → bound ≤ s.room → ((p : ℕ) → p < v → bound ≤ room_at lists p) → (p : ℕ) → p < v + 1 →
     bound ≤ room_at (set lists v s) p
 next_room lists v bound s lt room before p below =
-    by_equal p v (λ t e. subst (λ r. bound ≤ r) (sym (ap room_of (get_or-set_at lists v p s no_set e lt))) room)
-    (λ f n. subst (λ r. bound ≤ r) (sym (ap room_of (get_or-set_other lists v p s no_set n))) (before p (omega (arith, below, n))))
+    at_put (λ x. bound ≤ x.room) lists v p s lt (λ e. room) (λ n. before p (omega (arith, below, n)))
 
 -- a set of one vertex
-pub one_member : (old new : List ℕ) (v : ℕ) → old ≡ [] → in_order ltb new ≡ true → ((w : ℕ) → member w new ≡ xor (member w old) (eqb w v)) → new ≡ v ∷ []
+pub one_member : (old new : List ℕ) (v : ℕ) → old ≡ [] → in_order ltb new ≡ true → ((w : ℕ) → member w new ≡ xor (member w old) (member w (v ∷ []))) → new ≡ v ∷ []
 one_member old new v empty rising toggled =
-    rising_ext new (v ∷ []) rising refl (λ w. toggled w ∙ ap (λ l. xor (member w l) (eqb w v)) empty ∙ both (eqb w v))
-  where
-    both : (b : Bool) → xor false b ≡ (b || false)
-    both true = refl
-    both false = refl
+    rising_ext new (v ∷ []) rising refl (λ w. toggled w ∙ ap (λ l. xor (member w l) (member w (v ∷ []))) empty)

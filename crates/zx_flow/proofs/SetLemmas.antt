@@ -1,11 +1,10 @@
 -- Tables that are kept as an order and sets: what changes of these are as changes of the table.
-use Rattle.std.proofs.Common.{◌≡◌, refl, sym, ◌∙◌, ap, ap₂, subst, ℕ, ◌<◌, ◌≤◌, Bool, true, false, suc, cond, not, ◌&&◌, ◌||◌, eqb, List, [], ◌∷◌, ◌++◌, length, filter, true≢false, arith}
+use Rattle.std.proofs.Common.{◌≡◌, refl, sym, ◌∙◌, ap, ap₂, ℕ, ◌<◌, ◌≤◌, Bool, true, false, suc, cond, not, ◌&&◌, eqb, List, [], ◌∷◌, ◌++◌, length, filter, true≢false, arith}
 use Rattle.zx_model.specs.Bits.{member}
 use Rattle.zx_calculus.specs.Graph.{Distinct}
 use Rattle.zx_calculus.proofs.Ids.{by_test, by_equal, eqb_comm, apart_of_member, member-here, member-there, member-filter}
 use Rattle.gflow_laws.specs.Flow.{Correction, order_of, set_of}
 use Rattle.gflow_laws.specs.Tables.{with_sets, without_set}
-use Rattle.gflow_laws.proofs.Lists.{Distinct-append, member-append}
 use Rattle.open_graph.specs.VertexSets.{VertexSet}
 use Rattle.zx_flow.specs.Internal.Sets.{set_at, table_of, HoldsOnce, SameSetsAt, SameSetsBut}
 
@@ -23,7 +22,7 @@ table_of-same old new [] same = refl
 table_of-same old new (x ∷ xs) same =
     ap₂ (λ (s : List ℕ) (r : List Correction). record { vertex = x; members = s } ∷ r) (same x (member-here x xs)) (table_of-same old new xs (λ p h. same p (member-there p x xs h)))
 
-table_of-append : (sets : List VertexSet) (order : List ℕ) (v : ℕ) → table_of sets (order ++ v ∷ []) ≡ table_of sets order ++ record { vertex = v; members = set_at sets v } ∷ []
+pub table_of-append : (sets : List VertexSet) (order : List ℕ) (v : ℕ) → table_of sets (order ++ v ∷ []) ≡ table_of sets order ++ record { vertex = v; members = set_at sets v } ∷ []
 table_of-append sets [] v = refl
 table_of-append sets (x ∷ xs) v = ap (λ r. record { vertex = x; members = set_at sets x } ∷ r) (table_of-append sets xs v)
 
@@ -42,17 +41,6 @@ but_one p v order h fresh = by_equal p v (λ t e. absurd (apart_of_member p v or
 -- the sets of the others, after place was made for v and its set put there
 pub others : (old grown new : List VertexSet) (v : ℕ) → SameSetsAt old grown → SameSetsBut v grown new → SameSetsBut v old new
 others old grown new v same but p f = but p f ∙ same p
-
-pub table_of-last : (old new : List VertexSet) (order : List ℕ) (v : ℕ) (members : List ℕ) → SameSetsBut v old new → set_at new v ≡ members → member v order ≡ false →
-    table_of new (order ++ v ∷ []) ≡ table_of old order ++ record { vertex = v; members = members } ∷ []
-table_of-last old new order v members but own fresh =
-    table_of-append new order v
-    ∙ ap₂ (λ (r : List Correction) (m : List ℕ). r ++ record { vertex = v; members = m } ∷ []) (table_of-same old new order (λ p h. but p (but_one p v order h fresh))) own
-
-pub table_of-first : (old new : List VertexSet) (order : List ℕ) (v : ℕ) (members : List ℕ) → SameSetsBut v old new → set_at new v ≡ members → member v order ≡ false →
-    table_of new (v ∷ order) ≡ record { vertex = v; members = members } ∷ table_of old order
-table_of-first old new order v members but own fresh =
-    ap₂ (λ (m : List ℕ) (r : List Correction). record { vertex = v; members = m } ∷ r) own (table_of-same old new order (λ p h. but p (but_one p v order h fresh)))
 
 pub table_of-fresh : (old new : List VertexSet) (order : List ℕ) (v : ℕ) → SameSetsBut v old new → member v order ≡ false → table_of new order ≡ table_of old order
 table_of-fresh old new order v but fresh = table_of-same old new order (λ p h. but p (but_one p v order h fresh))
@@ -87,24 +75,8 @@ length-without v (x ∷ xs) once there =
     by_equal x v (λ t e. rw t (ap suc (length-out v xs (ap (λ u. member u xs) (sym e) ∙ once.0))))
     (λ f n. let apart : eqb v x ≡ false = eqb_comm v x ∙ f in let rest : member v xs ≡ true = rw apart at there in rw f (ap suc (length-without v xs once.1 rest)))
 
-pub HoldsOnce-grown : (old new : List VertexSet) (order : List ℕ) → HoldsOnce old order → length old ≤ length new → HoldsOnce new order
-HoldsOnce-grown old new order holds le = record { each_once = holds.each_once; within = λ p h. let lt : p < length old = holds.within p h in omega (arith, le, lt) }
-
-pub HoldsOnce-first : (old new : List VertexSet) (order : List ℕ) (v : ℕ) → HoldsOnce old order → length old ≤ length new → v < length new → member v order ≡ false → HoldsOnce new (v ∷ order)
-HoldsOnce-first old new order v holds le lt fresh = record {
-  each_once = (fresh, holds.each_once);
-  within = λ p h. by_equal p v (λ t e. subst (λ n. n < length new) (sym e) lt)
-      (λ f n. let there : member p order ≡ true = rw f at h in let below : p < length old = holds.within p there in omega (arith, le, below));
-}
-
-pub HoldsOnce-last : (old new : List VertexSet) (order : List ℕ) (v : ℕ) → HoldsOnce old order → length old ≤ length new → v < length new → member v order ≡ false → HoldsOnce new (order ++ v ∷ [])
-HoldsOnce-last old new order v holds le lt fresh =
-    record { each_once = Distinct-append order v holds.each_once fresh; within = λ p h. at p (sym (member-append p order (v ∷ [])) ∙ h) }
-  where
-    at : (p : ℕ) → (member p order || (eqb p v || false)) ≡ true → p < length new
-    at p h = by_equal p v (λ t e. subst (λ n. n < length new) (sym e) lt)
-        (λ f n. by_test (member p order) (λ there. let below : p < length old = holds.within p there in omega (arith, le, below))
-        (λ absent. let no : false ≡ true = rw (f, absent) at h in absurd (true≢false (sym no))))
+pub HoldsOnce-grown : {old new : List VertexSet} {order : List ℕ} → HoldsOnce old order → length old ≤ length new → HoldsOnce new order
+HoldsOnce-grown {old} {new} {order} holds le = record { each_once = holds.each_once; within = λ p h. let lt : p < length old = holds.within p h in omega (arith, le, lt) }
 
 Distinct-filter : (t : ℕ → Bool) (xs : List ℕ) → Distinct xs → Distinct (filter t xs)
 Distinct-filter t [] d = d

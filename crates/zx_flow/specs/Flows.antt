@@ -5,14 +5,13 @@ use Rattle.zx_bits.specs.Sets.{IsBelow}
 use Rattle.zx_calculus.specs.Graph.{ids}
 use Rattle.zx_calculus.specs.Splits.{new_vertex}
 use Rattle.open_graph.specs.OpenGraph.{OpenGraph}
+use Rattle.open_graph.specs.Rooms.{Room}
 use Rattle.gflow_laws.specs.Flow.{Correction, order_of, set_of}
 
--- its table; clauses say where it is a flow. So many vertices can be added without memory; and memory is
--- there for the sets of all vertices below `reach`, as long as their members are below it too
+-- its table, which clauses say where it is a flow, and the memory that it has
 pub record Flow : Type 0 where
   pub flow : List Correction
-  pub spare : ℕ
-  pub reach : ℕ
+  pub room : Room
 
 -- its table, which need not be a flow of any graph
 pub record FlowTable : Type 0 where
@@ -25,12 +24,12 @@ IsNamed table v =
 
 -- all vertices of the graph are below its reach and that of the flow
 abbrev pub HaveReach : OpenGraph → Flow → Type 0
-HaveReach g f = IsBelow g.reach (ids g.graph.vertices) × IsBelow f.reach (ids g.graph.vertices)
+HaveReach g f = IsBelow g.room.reach (ids g.graph.vertices) × IsBelow f.room.reach (ids g.graph.vertices)
 
 -- each has a place for one vertex more, and all vertices and the new one are below the reach of both
 pub record HavePlace (g : OpenGraph) (f : Flow) : Type 0 where
-  pub place : 0 < g.spare
-  pub flow_place : 0 < f.spare
-  pub below : new_vertex g.graph < g.reach
-  pub flow_below : new_vertex g.graph < f.reach
+  pub place : 0 < g.room.spare
+  pub flow_place : 0 < f.room.spare
+  pub below : new_vertex g.graph < g.room.reach
+  pub flow_below : new_vertex g.graph < f.room.reach
   pub reach : HaveReach g f

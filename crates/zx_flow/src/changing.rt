@@ -1,6 +1,6 @@
 //! What rewrites make of the sets of a flow.
 
-ghost use Rattle.std.specs.Prelude.{◌≡◌, ◌<◌, ◌≤◌, ◌+◌, ℕ, true, List, [], ◌∷◌, IsOk, OnOk, OnErr};
+ghost use Rattle.std.specs.Prelude.{◌≡◌, ◌<◌, ℕ, true, List, [], ◌∷◌, IsOk, OnOk, OnErr};
 ghost use Rattle.zx_model.specs.Bits.{member};
 ghost use Rattle.gflow_laws.specs.Seen.{Seen, odd};
 ghost use Rattle.gflow_laws.specs.Flow.{order_of, set_of, is_in, SameSets};
@@ -8,6 +8,7 @@ ghost use Rattle.gflow_laws.specs.Removals.{removal_table};
 ghost use Rattle.gflow_laws.specs.Correcting.{odd_in};
 ghost use Rattle.gflow_laws.specs.Internal.Changes.{AreChanged, complement_change};
 ghost use Rattle.zx_bits.specs.Sets.{IsBelow};
+ghost use Rattle.open_graph.specs.Rooms.{with_place, IsLeft};
 ghost use Rattle.zx_flow.specs.Internal.Beside.{beside_change};
 ghost use Rattle.zx_flow.specs.Internal.Clearing.{clearing_change};
 
@@ -32,10 +33,9 @@ impl Flow {
         ensures sets { OnOk result ((s : Seen) → changes ≡ odd_in (s.plane u) →
             is_odd ≡ odd s (is_in (set_of self.old.flow v)) u → AreChanged
             (beside_change s u (set_of self.old.flow u)) (v ∷ []) self.old.flow self.new.flow) }
-        ensures has_room { v < self.old.reach → u < self.old.reach →
-            IsBelow self.old.reach (set_of self.old.flow u) → IsOk result }
-        ensures spare { self.new.spare ≡ self.old.spare }
-        ensures reach { self.new.reach ≡ self.old.reach }
+        ensures has_room { v < self.old.room.reach → u < self.old.room.reach →
+            IsBelow self.old.room.reach (set_of self.old.flow u) → IsOk result }
+        ensures room { self.new.room ≡ self.old.room }
     {
         if v == u {
             return Ok(());
@@ -58,9 +58,8 @@ impl Flow {
         requires { member u (order_of self.old.flow) ≡ true }
         ensures sets { OnOk result ((s : Seen) → changes ≡ odd_in (s.plane u) → (own : List ℕ) →
             AreChanged (complement_change s u own) (u ∷ []) self.old.flow self.new.flow) }
-        ensures has_room { u < self.old.reach → IsOk result }
-        ensures spare { self.new.spare ≡ self.old.spare }
-        ensures reach { self.new.reach ≡ self.old.reach }
+        ensures has_room { u < self.old.room.reach → IsOk result }
+        ensures room { self.new.room ≡ self.old.room }
     {
         if changes {
             self.toggle_one(u, u)
@@ -75,11 +74,10 @@ impl Flow {
     pub fn eliminate(&mut self, u: VertexId) -> Result<(), AllocError>
         requires { member u (order_of self.old.flow) ≡ true }
         ensures flow { OnOk result (SameSets self.new.flow (removal_table u self.old.flow)) }
-        ensures has_room { IsBelow self.old.reach (order_of self.old.flow) →
-            IsBelow self.old.reach (set_of self.old.flow u) → IsOk result }
-        ensures spare { OnOk result (self.new.spare ≡ self.old.spare + 1) }
-        ensures keeps_spare { OnErr result (self.old.spare ≤ self.new.spare) }
-        ensures reach { self.new.reach ≡ self.old.reach }
+        ensures has_room { IsBelow self.old.room.reach (order_of self.old.flow) →
+            IsBelow self.old.room.reach (set_of self.old.flow u) → IsOk result }
+        ensures room { OnOk result (self.new.room ≡ with_place self.old.room) }
+        ensures keeps_room { OnErr result (IsLeft self.old.room self.new.room) }
     {
         for i in 0..self.order().len() {
             let v = self.vertex_at(i);
@@ -95,10 +93,9 @@ impl Flow {
         requires v_there { member v (order_of self.old.flow) ≡ true }
         ensures sets { OnOk result (AreChanged (clearing_change u (set_of self.old.flow u)) (v ∷ [])
             self.old.flow self.new.flow) }
-        ensures has_room { v < self.old.reach →
-            IsBelow self.old.reach (set_of self.old.flow u) → IsOk result }
-        ensures spare { self.new.spare ≡ self.old.spare }
-        ensures reach { self.new.reach ≡ self.old.reach }
+        ensures has_room { v < self.old.room.reach →
+            IsBelow self.old.room.reach (set_of self.old.flow u) → IsOk result }
+        ensures room { self.new.room ≡ self.old.room }
     {
         if v == u {
             return Ok(());

@@ -6,6 +6,7 @@ ghost use Rattle.zx_calculus.specs.Graph.{Distinct};
 ghost use Rattle.gflow_laws.specs.Flow.{order_of, set_of, SameSets};
 ghost use Rattle.gflow_laws.specs.Tables.{with_sets, without_set};
 ghost use Rattle.zx_bits.specs.Sets.{IsBelow};
+ghost use Rattle.open_graph.specs.Rooms.{without_place, with_place, IsLeft, IsAtLeast};
 ghost use Rattle.zx_flow.specs.Flows.{IsNamed};
 ghost use Rattle.zx_flow.specs.Changes.{set_toggled};
 
@@ -30,8 +31,7 @@ impl Model for Corrections {
 
     ghost view = { λ c. record {
       table = table_of c.sets.lists c.order.items;
-      spare = vec_capacity c.order - vec_len c.order;
-      reach = c.sets.reach;
+      room = record { spare = vec_capacity c.order - vec_len c.order; reach = c.sets.reach };
     } };
 
     ghost invariant = { λ c. HoldsOnce c.sets.lists c.order.items };
@@ -90,10 +90,9 @@ impl Corrections {
         ensures ok { OnOk result (SameSets self.new.table
             (set_toggled v members.now.ids self.old.table)) }
         ensures err { OnErr result (self.new.table ≡ self.old.table) }
-        ensures has_room { v < self.old.reach → IsBelow self.old.reach members.now.ids →
-            IsOk result }
-        ensures spare { self.new.spare ≡ self.old.spare }
-        ensures reach { self.new.reach ≡ self.old.reach }
+        ensures has_room { v < self.old.room.reach →
+            IsBelow self.old.room.reach members.now.ids → IsOk result }
+        ensures room { self.new.room ≡ self.old.room }
     {
         self.sets.toggle(v, members)
     }
@@ -103,9 +102,8 @@ impl Corrections {
         requires { member v (order_of self.old.table) ≡ true }
         ensures ok { OnOk result (SameSets self.new.table (set_toggled v (w ∷ []) self.old.table)) }
         ensures err { OnErr result (self.new.table ≡ self.old.table) }
-        ensures has_room { v < self.old.reach → w < self.old.reach → IsOk result }
-        ensures spare { self.new.spare ≡ self.old.spare }
-        ensures reach { self.new.reach ≡ self.old.reach }
+        ensures has_room { v < self.old.room.reach → w < self.old.room.reach → IsOk result }
+        ensures room { self.new.room ≡ self.old.room }
     {
         self.sets.toggle_one(v, w)
     }
@@ -118,10 +116,9 @@ impl Corrections {
         ensures ok { OnOk result (SameSets self.new.table
             (set_toggled v (set_of self.old.table u) self.old.table)) }
         ensures err { OnErr result (self.new.table ≡ self.old.table) }
-        ensures has_room { v < self.old.reach →
-            IsBelow self.old.reach (set_of self.old.table u) → IsOk result }
-        ensures spare { self.new.spare ≡ self.old.spare }
-        ensures reach { self.new.reach ≡ self.old.reach }
+        ensures has_room { v < self.old.room.reach →
+            IsBelow self.old.room.reach (set_of self.old.table u) → IsOk result }
+        ensures room { self.new.room ≡ self.old.room }
     {
         self.sets.toggle_set(v, u)
     }
@@ -132,14 +129,12 @@ impl Corrections {
         ensures ok { OnOk result (self.new.table ≡
             self.old.table ++ record { vertex = v; members = w ∷ [] } ∷ []) }
         ensures err { OnErr result (self.new.table ≡ self.old.table) }
-        ensures has_room { 0 < self.old.spare → v < self.old.reach → w < self.old.reach →
-            IsOk result }
-        ensures spare { OnOk result (self.old.spare ≤ self.new.spare + 1) }
-        ensures keeps_spare { OnErr result (self.old.spare ≤ self.new.spare) }
-        ensures reach { self.new.reach ≡ self.old.reach }
+        ensures has_room { 0 < self.old.room.spare → v < self.old.room.reach →
+            w < self.old.room.reach → IsOk result }
+        ensures room { OnOk result (IsLeft (without_place self.old.room) self.new.room) }
+        ensures keeps_room { OnErr result (IsLeft self.old.room self.new.room) }
     {
-        self.sets.make_place(v)?;
-        self.sets.put_one(v, w)?;
+        self.sets.add_one(v, w)?;
         self.order.push(v)?;
         Ok(())
     }
@@ -150,14 +145,12 @@ impl Corrections {
         ensures ok { OnOk result (self.new.table ≡
             record { vertex = v; members = w ∷ [] } ∷ self.old.table) }
         ensures err { OnErr result (self.new.table ≡ self.old.table) }
-        ensures has_room { 0 < self.old.spare → v < self.old.reach → w < self.old.reach →
-            IsOk result }
-        ensures spare { OnOk result (self.old.spare ≤ self.new.spare + 1) }
-        ensures keeps_spare { OnErr result (self.old.spare ≤ self.new.spare) }
-        ensures reach { self.new.reach ≡ self.old.reach }
+        ensures has_room { 0 < self.old.room.spare → v < self.old.room.reach →
+            w < self.old.room.reach → IsOk result }
+        ensures room { OnOk result (IsLeft (without_place self.old.room) self.new.room) }
+        ensures keeps_room { OnErr result (IsLeft self.old.room self.new.room) }
     {
-        self.sets.make_place(v)?;
-        self.sets.put_one(v, w)?;
+        self.sets.add_one(v, w)?;
         self.order.insert(0, v)?;
         Ok(())
     }
@@ -166,8 +159,7 @@ impl Corrections {
     pub(crate) fn remove(&mut self, v: VertexId)
         requires { member v (order_of self.old.table) ≡ true }
         ensures table { self.new.table ≡ without_set v self.old.table }
-        ensures spare { self.new.spare ≡ self.old.spare + 1 }
-        ensures reach { self.new.reach ≡ self.old.reach }
+        ensures room { self.new.room ≡ with_place self.old.room }
     {
         self.order.retain(|u| *u != v);
         self.sets.clear(v);
@@ -175,14 +167,14 @@ impl Corrections {
 
     // How many vertices can be added without memory.
     pub(crate) fn spare(&self) -> usize
-        ensures { result ≡ self.now.spare }
+        ensures { result ≡ self.now.room.spare }
     {
         self.order.capacity().saturating_sub(self.order.len())
     }
 
     // Below which bound sets change without memory.
     pub(crate) fn reach(&self) -> usize
-        ensures { result ≡ self.now.reach }
+        ensures { result ≡ self.now.room.reach }
     {
         self.sets.reach()
     }
@@ -190,8 +182,7 @@ impl Corrections {
     // The same once more, with room for as many vertices more, and sets with the same reach.
     pub(crate) fn copy(&self) -> Result<Corrections, AllocError>
         ensures table { IfOk result (λ copy. copy.table ≡ self.now.table) }
-        ensures spare { IfOk result (λ copy. self.now.spare ≤ copy.spare) }
-        ensures reach { IfOk result (λ copy. copy.reach ≡ self.now.reach) }
+        ensures room { IfOk result (λ copy. IsLeft self.now.room copy.room) }
     {
         let mut order = Vec::from_slice(self.alloc, &self.order)?;
         order.reserve(self.spare())?;
@@ -205,12 +196,11 @@ impl Corrections {
     // Takes the memory for so many vertices more, above all that are named.
     pub(crate) fn reserve(&mut self, vertices: usize) -> Result<(), AllocError>
         ensures table { self.new.table ≡ self.old.table }
-        ensures spare { OnOk result (vertices ≤ self.new.spare) }
-        ensures reach { OnOk result (vertices ≤ self.new.reach) }
+        ensures room { OnOk result
+            (IsAtLeast (record { spare = vertices; reach = vertices }) self.new.room) }
         ensures named { OnOk result ((v : ℕ) → IsNamed self.old.table v →
-            v + vertices < self.new.reach) }
-        ensures keeps_spare { self.old.spare ≤ self.new.spare }
-        ensures keeps_reach { self.old.reach ≤ self.new.reach }
+            v + vertices < self.new.room.reach) }
+        ensures keeps_room { IsAtLeast self.old.room self.new.room }
     {
         self.order.reserve(vertices)?;
         match self.sets.end().checked_add(vertices) {
@@ -222,11 +212,10 @@ impl Corrections {
     // Takes the memory that others have: for as many vertices in all, and below the same bound.
     pub(crate) fn reserve_like(&mut self, other: &Corrections) -> Result<(), AllocError>
         ensures table { self.new.table ≡ self.old.table }
-        ensures places { OnOk result (other.now.spare + length (order_of other.now.table)
-            ≤ self.new.spare + length (order_of self.new.table)) }
-        ensures reach { OnOk result (other.now.reach ≤ self.new.reach) }
-        ensures keeps_spare { self.old.spare ≤ self.new.spare }
-        ensures keeps_reach { self.old.reach ≤ self.new.reach }
+        ensures places { OnOk result (other.now.room.spare + length (order_of other.now.table)
+            ≤ self.new.room.spare + length (order_of self.new.table)) }
+        ensures reach { OnOk result (other.now.room.reach ≤ self.new.room.reach) }
+        ensures keeps_room { IsAtLeast self.old.room self.new.room }
     {
         let places = other.order.capacity();
         self.order.reserve(places.saturating_sub(self.order.len()))?;

@@ -8,6 +8,7 @@ ghost use Rattle.gflow_laws.specs.Seen.{seen, odd};
 ghost use Rattle.gflow_laws.specs.Flow.{order_of, set_of, is_in, IsFlow, SameSets};
 ghost use Rattle.gflow_laws.specs.Tables.{without_set};
 ghost use Rattle.zx_bits.specs.Sets.{IsBelow};
+ghost use Rattle.open_graph.specs.Rooms.{without_place, with_place, IsLeft, IsAtLeast};
 ghost use Rattle.zx_flow.specs.Flows.{IsNamed, HavePlace, HaveReach};
 ghost use Rattle.zx_flow.specs.Changes.{set_toggled};
 
@@ -31,8 +32,7 @@ impl Model for Flow {
 
     ghost view = { λ f. record {
       flow = f.corrections.table;
-      spare = f.corrections.spare;
-      reach = f.corrections.reach;
+      room = f.corrections.room;
     } };
 }
 
@@ -123,10 +123,9 @@ impl Flow {
         ensures ok { OnOk result (SameSets self.new.flow
             (set_toggled v members.now.ids self.old.flow)) }
         ensures err { OnErr result (self.new.flow ≡ self.old.flow) }
-        ensures has_room { v < self.old.reach → IsBelow self.old.reach members.now.ids →
-            IsOk result }
-        ensures spare { self.new.spare ≡ self.old.spare }
-        ensures reach { self.new.reach ≡ self.old.reach }
+        ensures has_room { v < self.old.room.reach →
+            IsBelow self.old.room.reach members.now.ids → IsOk result }
+        ensures room { self.new.room ≡ self.old.room }
     {
         self.corrections.toggle(v, members)
     }
@@ -140,10 +139,9 @@ impl Flow {
         ensures ok { OnOk result (SameSets self.new.flow
             (set_toggled v (set_of self.old.flow u) self.old.flow)) }
         ensures err { OnErr result (self.new.flow ≡ self.old.flow) }
-        ensures has_room { v < self.old.reach →
-            IsBelow self.old.reach (set_of self.old.flow u) → IsOk result }
-        ensures spare { self.new.spare ≡ self.old.spare }
-        ensures reach { self.new.reach ≡ self.old.reach }
+        ensures has_room { v < self.old.room.reach →
+            IsBelow self.old.room.reach (set_of self.old.flow u) → IsOk result }
+        ensures room { self.new.room ≡ self.old.room }
     {
         self.corrections.toggle_set(v, u)
     }
@@ -154,9 +152,8 @@ impl Flow {
         requires { member v (order_of self.old.flow) ≡ true }
         ensures toggled { OnOk result
             (SameSets self.new.flow (set_toggled v (w ∷ []) self.old.flow)) }
-        ensures has_room { v < self.old.reach → w < self.old.reach → IsOk result }
-        ensures spare { self.new.spare ≡ self.old.spare }
-        ensures reach { self.new.reach ≡ self.old.reach }
+        ensures has_room { v < self.old.room.reach → w < self.old.room.reach → IsOk result }
+        ensures room { self.new.room ≡ self.old.room }
     {
         self.corrections.toggle_one(v, w)
     }
@@ -168,11 +165,10 @@ impl Flow {
         ensures ok { OnOk result (self.new.flow ≡
             self.old.flow ++ record { vertex = v; members = w ∷ [] } ∷ []) }
         ensures err { OnErr result (self.new.flow ≡ self.old.flow) }
-        ensures has_room { 0 < self.old.spare → v < self.old.reach → w < self.old.reach →
-            IsOk result }
-        ensures spare { OnOk result (self.old.spare ≤ self.new.spare + 1) }
-        ensures keeps_spare { OnErr result (self.old.spare ≤ self.new.spare) }
-        ensures reach { self.new.reach ≡ self.old.reach }
+        ensures has_room { 0 < self.old.room.spare → v < self.old.room.reach →
+            w < self.old.room.reach → IsOk result }
+        ensures room { OnOk result (IsLeft (without_place self.old.room) self.new.room) }
+        ensures keeps_room { OnErr result (IsLeft self.old.room self.new.room) }
     {
         self.corrections.add_last(v, w)
     }
@@ -184,11 +180,10 @@ impl Flow {
         ensures ok { OnOk result (self.new.flow ≡
             record { vertex = v; members = w ∷ [] } ∷ self.old.flow) }
         ensures err { OnErr result (self.new.flow ≡ self.old.flow) }
-        ensures has_room { 0 < self.old.spare → v < self.old.reach → w < self.old.reach →
-            IsOk result }
-        ensures spare { OnOk result (self.old.spare ≤ self.new.spare + 1) }
-        ensures keeps_spare { OnErr result (self.old.spare ≤ self.new.spare) }
-        ensures reach { self.new.reach ≡ self.old.reach }
+        ensures has_room { 0 < self.old.room.spare → v < self.old.room.reach →
+            w < self.old.room.reach → IsOk result }
+        ensures room { OnOk result (IsLeft (without_place self.old.room) self.new.room) }
+        ensures keeps_room { OnErr result (IsLeft self.old.room self.new.room) }
     {
         self.corrections.add_first(v, w)
     }
@@ -197,8 +192,7 @@ impl Flow {
     pub fn remove(&mut self, v: VertexId)
         requires { member v (order_of self.old.flow) ≡ true }
         ensures flow { self.new.flow ≡ without_set v self.old.flow }
-        ensures spare { self.new.spare ≡ self.old.spare + 1 }
-        ensures reach { self.new.reach ≡ self.old.reach }
+        ensures room { self.new.room ≡ with_place self.old.room }
     {
         self.corrections.remove(v);
     }
@@ -224,14 +218,14 @@ impl Flow {
 
     /// How many vertices can be added without memory.
     pub fn spare(&self) -> usize
-        ensures { result ≡ self.now.spare }
+        ensures { result ≡ self.now.room.spare }
     {
         self.corrections.spare()
     }
 
     /// The bound below which sets change without memory.
     pub fn reach(&self) -> usize
-        ensures { result ≡ self.now.reach }
+        ensures { result ≡ self.now.room.reach }
     {
         self.corrections.reach()
     }
@@ -239,8 +233,7 @@ impl Flow {
     /// The same flow once more, with memory for as many vertices more, and with the same reach.
     pub fn copy(&self) -> Result<Flow, AllocError>
         ensures flow { IfOk result (λ copy. copy.flow ≡ self.now.flow) }
-        ensures spare { IfOk result (λ copy. self.now.spare ≤ copy.spare) }
-        ensures reach { IfOk result (λ copy. copy.reach ≡ self.now.reach) }
+        ensures room { IfOk result (λ copy. IsLeft self.now.room copy.room) }
     {
         Ok(Flow {
             alloc: self.alloc,
@@ -251,12 +244,11 @@ impl Flow {
     /// Takes the memory for so many more vertices, and for all ids of the flow and so many more.
     pub fn reserve(&mut self, vertices: usize) -> Result<(), AllocError>
         ensures flow { self.new.flow ≡ self.old.flow }
-        ensures spare { OnOk result (vertices ≤ self.new.spare) }
-        ensures reach { OnOk result (vertices ≤ self.new.reach) }
+        ensures room { OnOk result
+            (IsAtLeast (record { spare = vertices; reach = vertices }) self.new.room) }
         ensures named { OnOk result ((v : ℕ) → IsNamed self.old.flow v →
-            v + vertices < self.new.reach) }
-        ensures keeps_spare { self.old.spare ≤ self.new.spare }
-        ensures keeps_reach { self.old.reach ≤ self.new.reach }
+            v + vertices < self.new.room.reach) }
+        ensures keeps_room { IsAtLeast self.old.room self.new.room }
     {
         self.corrections.reserve(vertices)
     }
@@ -265,11 +257,10 @@ impl Flow {
     /// vertices below its reach. Where it runs out, some may be taken.
     pub fn reserve_like(&mut self, other: &Flow) -> Result<(), AllocError>
         ensures flow { self.new.flow ≡ self.old.flow }
-        ensures places { OnOk result (other.now.spare + length (order_of other.now.flow)
-            ≤ self.new.spare + length (order_of self.new.flow)) }
-        ensures reach { OnOk result (other.now.reach ≤ self.new.reach) }
-        ensures keeps_spare { self.old.spare ≤ self.new.spare }
-        ensures keeps_reach { self.old.reach ≤ self.new.reach }
+        ensures places { OnOk result (other.now.room.spare + length (order_of other.now.flow)
+            ≤ self.new.room.spare + length (order_of self.new.flow)) }
+        ensures reach { OnOk result (other.now.room.reach ≤ self.new.room.reach) }
+        ensures keeps_room { IsAtLeast self.old.room self.new.room }
     {
         self.corrections.reserve_like(&other.corrections)
     }

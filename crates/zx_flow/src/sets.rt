@@ -1,7 +1,8 @@
 //! Sets of vertices by number.
 
-ghost use Rattle.std.specs.Prelude.{◌≡◌, ◌≢◌, ◌<◌, ◌≤◌, ℕ, [], ◌∷◌, length, IsOk, IfOk, OnOk, OnErr};
+ghost use Rattle.std.specs.Prelude.{◌≡◌, ◌≢◌, ◌<◌, ◌≤◌, ℕ, true, [], ◌∷◌, length, IsOk, IfOk, OnOk, OnErr, ltb};
 ghost use Rattle.zx_model.specs.Bits.{xor, member};
+ghost use Rattle.zx_calculus.specs.Graph.{in_order};
 ghost use Rattle.zx_bits.specs.Sets.{IsBelow};
 ghost use Rattle.zx_flow.specs.Internal.Sets.{set_at, room_at, SameSetsAt, SameSetsBut, AreToggledAt};
 
@@ -72,15 +73,16 @@ impl Sets {
         self.lists[v.get()] = members;
     }
 
-    // Puts a set of one vertex w in the place of that of v. Where memory runs out, v has any set.
-    pub(crate) fn put_one(&mut self, v: VertexId, w: VertexId) -> Result<(), AllocError>
-        requires { v < length self.old.lists }
-        ensures ok { OnOk result (set_at self.new.lists v ≡ w ∷ []) }
+    // Makes place for the set of a vertex v, with w alone in it. Where memory runs out, v may have any set.
+    pub(crate) fn add_one(&mut self, v: VertexId, w: VertexId) -> Result<(), AllocError>
+        ensures place { OnOk result (v < length self.new.lists) }
+        ensures own { OnOk result (set_at self.new.lists v ≡ w ∷ []) }
         ensures others { SameSetsBut v self.old.lists self.new.lists }
-        ensures length { length self.new.lists ≡ length self.old.lists }
+        ensures grown { length self.old.lists ≤ length self.new.lists }
         ensures reach { self.new.reach ≡ self.old.reach }
         ensures has_room { v < self.old.reach → w < self.old.reach → IsOk result }
     {
+        self.make_place(v)?;
         let kept = self.kept(v);
         put_within(&mut self.lists[v.get()], kept, w)
     }
@@ -258,6 +260,7 @@ fn toggle_one_within(set: &mut VertexSet, kept: usize, id: VertexId) -> Result<(
         member w set.new.ids ≡ xor (member w set.old.ids) (member w (id ∷ []))) }
     ensures err { OnErr result (set.new.ids ≡ set.old.ids) }
     ensures keeps { kept ≤ set.new.room }
+    ensures rising { OnOk result (in_order ltb set.new.ids ≡ true) }
     ensures has_room { id < kept → IsOk result }
 {
     if kept > 0 && id.get() >= kept {
@@ -286,14 +289,7 @@ fn put_within(set: &mut VertexSet, kept: usize, id: VertexId) -> Result<(), Allo
     ensures has_room { id < kept → IsOk result }
 {
     set.clear();
-    if kept == 0 || id.get() < kept {
-        return set.toggle(id);
-    }
-    match id.get().checked_add(1) {
-        Some(end) => set.reserve(end)?,
-        None => return Err(AllocError),
-    }
-    set.toggle(id)
+    toggle_one_within(set, kept, id)
 }
 
 // A number above those of all members.

@@ -1,2 +1,3 @@
 mod GadgetSteps
 mod GadgetTests
+mod Removals

@@ -1,12 +1,13 @@
 //! What the rewrites of gadgets are made of.
 
-ghost use Rattle.std.specs.Prelude.{◌≡◌, ◌+◌, pos};
+ghost use Rattle.std.specs.Prelude.{◌≡◌, pos};
 ghost use Rattle.zx_calculus.specs.Graph.{plane_of, phase_of, Live, WellFormed};
 ghost use Rattle.zx_calculus.specs.Graph as zx;
 ghost use Rattle.zx_calculus.specs.Edits.{IsRemoval};
 ghost use Rattle.zx_calculus.specs.Gadgets.{fuse_kind, is_gadget};
-ghost use Rattle.zx_calculus.specs.StepScalars.{root_of_two_to};
+ghost use Rattle.zx_calculus.specs.Scalars.{root_of_two_to};
 ghost use Rattle.zx_calculus.specs.Internal.ChangedKinds.{with_changed};
+ghost use Rattle.open_graph.specs.Rooms.{with_place};
 
 use open_graph::{OpenGraph, Plane, VertexId};
 use zx_model::{Scalar, Sixteenth};
@@ -39,8 +40,7 @@ pub(crate) fn take_out(g: &mut OpenGraph, u: VertexId) -> Sixteenth
     requires gadget { plane_of g.old.graph u ≡ zx.YZ }
     ensures phase { result ≡ phase_of g.old.graph u }
     ensures removed { IsRemoval g.old.graph u g.new.graph }
-    ensures spare { g.new.spare ≡ g.old.spare + 1 }
-    ensures reach { g.new.reach ≡ g.old.reach }
+    ensures room { g.new.room ≡ with_place g.old.room }
     ensures was_valid { WellFormed g.old.graph }
     ensures valid { WellFormed g.new.graph }
 {
@@ -53,8 +53,7 @@ pub(crate) fn take_out(g: &mut OpenGraph, u: VertexId) -> Sixteenth
 pub(crate) fn add_phase(g: &mut OpenGraph, v: VertexId, phase: Sixteenth)
     requires { Live g.old.graph v }
     ensures added { g.new.graph ≡ with_changed (fuse_kind v phase) g.old.graph }
-    ensures spare { g.new.spare ≡ g.old.spare }
-    ensures reach { g.new.reach ≡ g.old.reach }
+    ensures room { g.new.room ≡ g.old.room }
     ensures valid { WellFormed g.new.graph }
 {
     let (plane, before) = g.weight(v);

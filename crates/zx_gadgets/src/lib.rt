@@ -13,8 +13,7 @@
 //!
 //! Inside:
 //!
-//! - `lone`, `single`, `twins`: a rewrite each, with its test, the safe call, what it does in place, and its
-//!   change of the graph alone.
+//! - `rewrites`: the rewrites, each with its test, the safe call and its change of the graph alone.
 //! - `gadget`: what the rewrites of gadgets are made of.
 //!
 //! ```rust
@@ -25,11 +24,10 @@
 #![tactic(auto)]
 
 mod gadget;
-mod lone;
-mod single;
-mod twins;
+mod rewrites;
 
 pub use gadget::is_gadget;
-pub use lone::{drop_lone, drop_lone_in_graph, may_drop_lone};
-pub use single::{fuse_into, fuse_into_in_graph, may_fuse_into};
-pub use twins::{fuse_twin, fuse_twin_in_graph, may_fuse_twin};
+pub use rewrites::{
+    drop_lone, drop_lone_in_graph, fuse_into, fuse_into_in_graph, fuse_twin, fuse_twin_in_graph,
+    may_drop_lone, may_fuse_into, may_fuse_twin,
+};

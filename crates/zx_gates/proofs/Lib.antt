@@ -4,4 +4,5 @@ pub mod Multiples
 pub mod UnitaryLemmas
 pub mod WorkedLemmas
 pub mod Scaling
+pub mod Passing
 pub mod Nonzero

@@ -1,5 +1,5 @@
 -- Lowering keeps the linear map up to a scalar, and the number of odd phases.
-use Rattle.std.proofs.Common.{◌≡◌, ◌≢◌, ℕ, ◌+◌, ◌*◌, ◌<◌, ◌≤◌, get_or, take, add-one, ◌%◌, Bool, true, false, cond, eqb, List, [], ◌∷◌, ◌++◌, length, set, refl, sym, ap, ap₂, ◌∙◌, subst, arith}
+use Rattle.std.proofs.Common.{◌≡◌, ◌≢◌, ℕ, ◌+◌, ◌*◌, ◌<◌, ◌≤◌, get_or, take, add-one, ◌%◌, Bool, true, false, cond, eqb, List, [], ◌∷◌, ◌++◌, length, set, refl, sym, ap, ap₂, ◌∙◌, subst, le_of_eq, arith}
 use Rattle.std.specs.List.{All}
 use Rattle.std.proofs.Math.Seq.{take-length, take-suc}
 use Rattle.std.proofs.lemmas.List.{flat_map_more}
@@ -17,8 +17,9 @@ use Rattle.zx_model.proofs.Ring.{expand, sorted, one-mul, mul-one, mul_assoc, mu
 use Rattle.zx_model.proofs.Odd.{is_odd-sum_half, is_odd-sum_quarter, is_odd-minus_quarter}
 use Rattle.zx_model.proofs.Powers.{root_power-add, root_power-mod, root_power-sum_of_phases, root_power-half_turn, root_power-zero}
 use Rattle.zx_model.proofs.Scalars.{root_of_two_squared, scaled_proportional}
-use Rattle.zx_gates.specs.Circuit.{gate_odd_phases, is_odd_phase}
+use Rattle.zx_gates.specs.Circuit.{Circuit, gate_odd_phases, is_odd_phase}
 use Rattle.zx_gates.specs.Maps.{Matrix, amp, act, acts, act_on}
+use Rattle.zx_gates.specs.Passes.{Implements}
 use Rattle.zx_gates.specs.Elementary.{elementary_bound, IsElementaryGateOn, difference_of_phases, odd_of, odd_elementary, elementary_odd_phases}
 use Rattle.zx_gates.specs.ElementaryMaps.{unitary, act_elementary, amp_elementary}
 use Rattle.zx_gates.specs.Internal.Lowering.{acts_elementary}
@@ -495,14 +496,22 @@ lowered_more n gates i gate list list' s inside is on more d = record {
     one_more : take (i + 1) gates ≡ take i gates ++ gate ∷ []
     one_more = rw add-one (take-suc gates i gate inside) ∙ ap (λ g. take i gates ++ g ∷ []) (sym is)
 
-pub lowered_whole : (n : ℕ) (gates : List ElementaryGate) (i : ℕ) (list : List Gate) (s : Scalar) → i ≡ length gates → IsLoweredTo n gates i list s
-    → IsScaled n n (amp_elementary gates) s (amp list)
-lowered_whole n gates i list s whole d =
-    subst (λ xs. IsScaled n n (amp_elementary gates) s (amp xs)) (sym (d.gates_are ∙ ap lowered all))
-    (scaled_lowered n gates s (subst (λ xs. Scaled n (acts_elementary xs) s (acts (lowered xs))) all d.scaled))
+-- where all gates are lowered
+pub lowered_implements : (n : ℕ) (gates : List ElementaryGate) (i : ℕ) (made : Circuit) (s : Scalar) → i ≡ length gates → made.qubits ≡ n
+    → IsLoweredTo n gates i made.gates s → Implements n (amp_elementary gates) (elementary_odd_phases gates) (2 * length gates) made s
+lowered_implements n gates i made s whole qubits d = record {
+  qubits = qubits;
+  scaled = subst (λ xs. IsScaled n n (amp_elementary gates) s (amp xs)) (sym list)
+      (scaled_lowered n gates s (subst (λ xs. Scaled n (acts_elementary xs) s (acts (lowered xs))) all d.scaled));
+  small = subst (λ k. IsWithin (2 * k) s) whole d.within;
+  odd = subst (λ xs. gate_odd_phases xs ≤ elementary_odd_phases gates) (sym list) (le_of_eq (odd_lowered gates));
+}
   where
     all : take i gates ≡ gates
     all = ap (λ k. take k gates) whole ∙ take-length gates
+
+    list : made.gates ≡ lowered gates
+    list = d.gates_are ∙ ap lowered all
 
 -- the exponent fits
 pub lowered_within : (n : ℕ) (gates : List ElementaryGate) (i : ℕ) (gate : ElementaryGate) (list : List Gate) (s : Scalar) → i < length gates → length gates < elementary_bound

@@ -1,6 +1,7 @@
 -- Maps of which one is a scalar times the other, and how they compose.
 use Rattle.std.proofs.Common.{◌≡◌, ℕ, zero as nought, suc, ◌*◌, pos, Bool, List, [], length, refl, sym, ap, ap₂, ◌∙◌, arith}
-use Rattle.zx_model.specs.Constants.{root_of_two, power_of_two}
+use Rattle.zx_model.specs.Constants.{root_of_two}
+use Rattle.zx_model.specs.Internal.Powers.{power_of_two}
 use Rattle.zx_model.specs.Number.{Number, mul, root_power}
 use Rattle.zx_model.specs.Scalar.{root_of_two_power, numerator, denominator, IsScaled, one_scalar, product_of_scalars}
 use Rattle.zx_model.specs.declared.scalar.Scalar.{Scalar}

@@ -4,4 +4,5 @@ pub mod Elementary
 pub mod ElementaryMaps
 pub mod Lowering
 pub mod Maps
+pub mod Passes
 pub mod Internal

@@ -1,9 +1,8 @@
 //! Circuits of elementary gates, by the gates that the optimiser works on.
 
 ghost use Rattle.std.specs.Prelude.{◌≡◌, ◌<◌, ◌*◌, ◌++◌, ◌∷◌, length, IfOk, OnOk};
-ghost use Rattle.zx_model.specs.Scalar.{IsScaled, IsWithin};
 ghost use Rattle.zx_gates.specs.Circuit.{gate_odd_phases};
-ghost use Rattle.zx_gates.specs.Maps.{amp};
+ghost use Rattle.zx_gates.specs.Passes.{Implements};
 ghost use Rattle.zx_gates.specs.Elementary.{IsElementary, IsElementaryGateOn, elementary_odd_phases};
 ghost use Rattle.zx_gates.specs.ElementaryMaps.{amp_elementary};
 ghost use Rattle.zx_gates.specs.Lowering.{lowered, lowered_gate, phase_gates};
@@ -20,11 +19,9 @@ use zx_model::{Scalar, Sixteenth};
 /// The circuit by the optimiser's own gates, and the scalar that its map is times theirs.
 pub fn lower(alloc: Global, e: &Elementary) -> Result<ScaledCircuit, AllocError>
     requires { IsElementary e.now }
-    ensures qubits { IfOk result (λ made. made.gates.qubits ≡ e.now.qubits) }
     ensures list { IfOk result (λ made. made.gates.gates ≡ lowered e.now.gates) }
-    ensures scaled { IfOk result (λ made. IsScaled e.now.qubits e.now.qubits
-        (amp_elementary e.now.gates) made.scalar (amp made.gates.gates)) }
-    ensures small { IfOk result (λ made. IsWithin (2 * length e.now.gates) made.scalar) }
+    ensures kept { IfOk result (λ made. Implements e.now.qubits (amp_elementary e.now.gates)
+        (elementary_odd_phases e.now.gates) (2 * length e.now.gates) made.gates made.scalar) }
     ensures odd { IfOk result (λ made.
         gate_odd_phases made.gates.gates ≡ elementary_odd_phases e.now.gates) }
 {

@@ -14,10 +14,9 @@ use Rattle.zx_gates.specs.Circuit.{Circuit, IsOnQubits}
 use Rattle.zx_gates.specs.Maps.{amp}
 use Rattle.circuit_graph.specs.Translation.{map_scalar, translated, translated_table, written_out}
 use Rattle.circuit_graph.specs.Internal.Runs.{Translates}
-use Rattle.circuit_graph.proofs.Whole.{translated_scaled}
 use Rattle.growing_laws.specs.Growth.{Reaches}
 use Rattle.growing_laws.proofs.GrownGraphs.{grown_reached, reached_odd}
-use Rattle.growing_laws.proofs.TranslatedGraphs.{translates}
+use Rattle.circuit_graph.proofs.Existing.{translates}
 use Rattle.zx_reduce.specs.Reducing.{Reduces}
 use Rattle.zx_reduce.specs.Steps.{step_named}
 use Rattle.zx_reduce.specs.declared.step.Step.{Step}
@@ -42,7 +41,7 @@ grown_whole c g h table steps t s on grown r is small = record {
       (run_odd (translated c) reaches.steps reaches.graph read.well_formed reaches.run);
   scaled = subst (λ q. IsScaled n n (amp c.gates) q (sum h)) (sym is)
       (scaled_trans n n (amp c.gates) (sum (translated c)) (sum h) (map_scalar c.gates) (product_of_scalars g.scalar t)
-      (translated_scaled c (record { graph = translated c; table = translated_table c }) read)
+      read.scaled
       (scaled_trans n n (sum (translated c)) (sum g.ordered.graph) (sum h) g.scalar t
       (at_n n (length (translated c).inputs) (length (translated c).outputs) (sum (translated c)) g.scalar (sum g.ordered.graph) read.inputs read.outputs grown.sum)
       (at_n n (length g.ordered.graph.inputs) (length g.ordered.graph.outputs) (sum g.ordered.graph) t (sum h) inputs outputs r.scalar)));

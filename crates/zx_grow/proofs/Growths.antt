@@ -1,7 +1,7 @@
 -- A graph while it grows: begun, after a step, and with a gate more.
-use Rattle.std.proofs.Common.{◌≡◌, sym, ◌∙◌, ap, subst, ℕ, true, false, List, [], ◌∷◌, ◌++◌, append_assoc, add-one, take, get_or, ◌+◌, ◌<◌, length, arith}
+use Rattle.std.proofs.Common.{◌≡◌, refl, sym, ◌∙◌, ap, subst, ℕ, true, false, List, [], ◌∷◌, ◌++◌, append_assoc, add-one, take, get_or, ◌+◌, ◌<◌, length, arith}
 use Rattle.std.specs.List.{All}
-use Rattle.std.specs.Prelude.{Result, Ok, Err, OnOk}
+use Rattle.std.specs.Prelude.{Result, Ok, Err, IfOk, OnOk}
 use Rattle.std.proofs.lemmas.List.{flat_map_more}
 use Rattle.std.proofs.Math.Seq.{take-suc}
 use Rattle.std.proofs.lemmas.List.Elements.{All-cons, All-append}
@@ -9,15 +9,18 @@ use Rattle.std.proofs.lemmas.List.Sums.{fold-append}
 use Rattle.zx_model.specs.Scalar.{IsScaled, one_scalar, product_of_scalars}
 use Rattle.zx_model.specs.declared.scalar.Scalar.{Scalar}
 use Rattle.zx_model.proofs.Scalars.{scaled_refl, scaled_trans}
-use Rattle.zx_calculus.specs.Graph.{Graph, WellFormed}
+use Rattle.zx_calculus.specs.Graph.{Graph, ids, WellFormed}
+use Rattle.zx_calculus.specs.Splits.{least_free}
 use Rattle.zx_calculus.specs.Sum.{sum}
 use Rattle.zx_calculus.specs.Steps.{Step, IsStep}
 use Rattle.zx_calculus.specs.StepScalars.{step_scalar, IsSumTimes}
+use Rattle.zx_calculus.proofs.LeastFree.{least_free-fresh}
 use Rattle.zx_calculus.proofs.Steps.{step_sum, inputs_kept, outputs_kept}
 use Rattle.zx_calculus.proofs.StepScalars.{step_scaled}
 use Rattle.move_laws.specs.Orders.{is_split}
 use Rattle.zx_gates.specs.Circuit.{IsOnQubits}
 use Rattle.zx_gates.specs.declared.gate.Gate.{Gate}
+use Rattle.zx_gates.specs.declared.gate.Gate.TheVariants.{H, Phase, Cz, Cx, Not}
 use Rattle.circuit_laws.specs.Peeling.{are_plain}
 use Rattle.circuit_graph.specs.Translation.{wires, with_gate, written_out, by_hadamards}
 use Rattle.growing_laws.specs.Growing.{placed, IsFree, IsBasic}
@@ -26,6 +29,7 @@ use Rattle.growing_laws.proofs.GrownGraphs.{grown_begin, grown_step, grown_gate,
 use Rattle.growing_laws.proofs.Peeled.{placed_inputs, placed_outputs}
 use Rattle.growing_laws.proofs.TranslatedGraphs.{same_gate}
 use Rattle.zx_reduce.specs.Ordering.{Ordered, IsOrdered}
+use Rattle.zx_reduce.proofs.GatesOrdered.{AddsNone, placed_still}
 use Rattle.zx_grow.specs.Internal.Growing.{Growth, IsGrown, Keeps, Gains, HasGrown}
 
 -- no gates are on any qubits
@@ -48,6 +52,15 @@ grown_wires n g is ordered one = record {
 pub on_any : {T E P : Type 0} (r : Result T E) → P → OnOk r P
 on_any (Ok v) p = p
 on_any (Err e) p = tt
+
+-- clauses of an answer together
+pub ok_both : {T E : Type 0} {P Q S : T → Type 0} (r : Result T E) → IfOk r P → IfOk r Q → ((x : T) → P x → Q x → S x) → IfOk r S
+ok_both (Ok x) p q f = f x p q
+ok_both (Err e) p q f = tt
+
+pub ok_three : {T E : Type 0} {P Q R S : T → Type 0} (r : Result T E) → IfOk r P → IfOk r Q → IfOk r R → ((x : T) → P x → Q x → R x → S x) → IfOk r S
+ok_three (Ok x) p q s f = f x p q s
+ok_three (Err e) p q s f = tt
 
 -- the same graph
 pub keeps_none : (g : Growth) → Keeps g g
@@ -121,6 +134,36 @@ gains_gate new gate before after basic fresh on is times ordered n gates grown =
       inputs = ap (λ (k : Graph). length k.inputs) is ∙ ap length (placed_inputs new h gate) ∙ grown.inputs ∙ sym (same_inputs n gates gate);
       outputs = ap (λ (k : Graph). length k.outputs) is ∙ placed_outputs new h gate ∙ grown.outputs ∙ sym (same_outputs n gates gate);
     }
+
+-- the same of a struct that holds what is seen of it
+abbrev pub growth_of : Ordered → Scalar → Growth
+growth_of o s = record { ordered = o; scalar = s }
+
+none_basic : (gate : Gate) → AddsNone gate → IsBasic gate
+none_basic (Phase q k) none = tt
+none_basic (Cz p q) none = tt
+none_basic (H q) none = absurd none
+none_basic (Cx p q) none = absurd none
+none_basic (Not q) none = absurd none
+
+module _ (o : Ordered) (s : Scalar) (before : Growth) (is : growth_of o s ≡ before) where
+  pub plain_inside : HasGrown before → are_plain o.graph.outputs ≡ true
+  plain_inside has = plain_outputs (growth_of o s) (subst HasGrown (sym is) has)
+
+  pub gate_inside : (new : ℕ) (gate : Gate) (after : Ordered) → IsBasic gate → (WellFormed o.graph → IsFree new o.graph) →
+      IsOnQubits (length before.ordered.graph.outputs) gate → after.graph ≡ placed new o.graph gate → (IsOrdered o → IsOrdered after) →
+      Gains (gate ∷ []) before (growth_of after s)
+  gate_inside new gate after basic fresh on grown ordered =
+      subst (λ (g : Growth). Gains (gate ∷ []) g (growth_of after s)) is
+      (gains_gate new gate (growth_of o s) (growth_of after s) basic fresh
+      (subst (λ (g : Growth). IsOnQubits (length g.ordered.graph.outputs) gate) (sym is) on) grown refl ordered)
+
+  pub still_inside : (gate : Gate) (after : Ordered) → AddsNone gate → IsOnQubits (length before.ordered.graph.outputs) gate →
+      after.graph ≡ placed 0 o.graph gate → (IsOrdered o → IsOrdered after) → Gains (gate ∷ []) before (growth_of after s)
+  still_inside gate after none on grown ordered =
+      let vs = ids o.graph.vertices in
+      gate_inside (least_free vs) gate after (none_basic gate none) (λ formed. least_free-fresh vs formed.vertices_rising) on
+      (grown ∙ placed_still (least_free vs) o.graph gate none) ordered
 
 -- the next gate of a list
 pub one_more : (n : ℕ) (gates : List Gate) (i : ℕ) (gate : Gate) (before after : Growth) → i < length gates → gate ≡ get_or gates i gate →

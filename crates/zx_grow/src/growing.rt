@@ -1,10 +1,9 @@
 //! Gates one after the other, and moves after each block of spiders.
 
-ghost use Rattle.std.specs.Prelude.{◌≡◌, ◌<◌, ◌*◌, [], ◌∷◌, length, IfOk, OnOk};
-ghost use Rattle.zx_model.specs.Scalar.{IsWithin};
+ghost use Rattle.std.specs.Prelude.{◌<◌, [], ◌∷◌, length, IfOk, OnOk};
 ghost use Rattle.zx_gates.specs.Circuit.{IsOnQubits};
 ghost use Rattle.zx_gates.specs.declared.gate.Gate.TheVariants.{H};
-ghost use Rattle.circuit_graph.specs.Translation.{by_hadamards, map_scalar};
+ghost use Rattle.circuit_graph.specs.Translation.{by_hadamards};
 ghost use Rattle.zx_grow.specs.Grown.{GrowsTo};
 ghost use Rattle.zx_grow.specs.Internal.Growing.{IsGrown, HasGrown, Keeps, Gains};
 
@@ -13,10 +12,11 @@ use crate::growth::Growth;
 use crate::plan::{Plan, plan_at, plan_between};
 use crate::queue::Queue;
 use crate::twins::Twins;
+use circuit_graph::scalar_of;
 use open_graph::{OpenGraph, VertexId};
 use std::alloc::{AllocError, Global};
 use zx_flow::Flow;
-use zx_gates::{Gate, GateList, Qubit, counts};
+use zx_gates::{Gate, GateList, Qubit};
 use zx_model::{Scalar, Sixteenth};
 use zx_reduce::Step;
 
@@ -46,26 +46,14 @@ pub fn grow(alloc: Global, circuit: &GateList) -> Result<Grown, AllocError>
     for gate in circuit.gates() {
         growing.add_gate(*gate)?;
     }
-    let (made, scalar) = growing.growth.reduce()?;
-    let scalar = scalar_of(circuit).times(scalar);
+    let reduced = growing.growth.reduce()?;
+    let scalar = scalar_of(circuit).times(reduced.scalar);
+    let reduction = reduced.reduction;
     Ok(Grown {
-        graph: made.graph,
-        flow: made.flow,
+        graph: reduction.graph,
+        flow: reduction.flow,
         scalar,
     })
-}
-
-// The scalar that a circuit's map is times the sum of its graph: half for each gate that is written out.
-fn scalar_of(circuit: &GateList) -> Scalar
-    ensures value { result ≡ map_scalar circuit.now.gates }
-    ensures small { IsWithin (4 * length circuit.now.gates) result }
-{
-    let counts = counts(circuit);
-    let power = 2 * (counts.cx + counts.nots);
-    Scalar {
-        root2: -(power as i64),
-        turn: Sixteenth::new(0),
-    }
 }
 
 // A graph that grows, and what is tried on it.

@@ -1,13 +1,12 @@
 //! A graph behind which gates are put, and what its sum is.
 
-ghost use Rattle.std.specs.Prelude.{◌≡◌, ◌≢◌, ◌<◌, ◌≤◌, ◌+◌, ◌*◌, [], ◌∷◌, length, IfOk, OnOk};
+ghost use Rattle.std.specs.Prelude.{◌≡◌, ◌<◌, ◌+◌, ◌*◌, [], ◌∷◌, length, IfOk, OnOk};
 ghost use Rattle.zx_model.specs.Scalar.{IsWithin, product_of_scalars};
-ghost use Rattle.zx_calculus.specs.Graph.{WellFormed};
 ghost use Rattle.zx_gates.specs.Circuit.{IsOnQubits};
 ghost use Rattle.zx_gates.specs.declared.gate.Gate.TheVariants.{H, Phase, Cz};
+ghost use Rattle.open_graph.specs.OpenGraph.{most_vertices_in_memory};
 ghost use Rattle.zx_reduce.specs.Ordering.{IsOrdered};
 ghost use Rattle.zx_reduce.specs.Reducing.{Reduces};
-ghost use Rattle.zx_reduce.specs.Scaling.{memory_bound};
 ghost use Rattle.zx_grow.specs.Internal.Growing.{IsGrown, HasGrown, Keeps, Gains, most_steps};
 
 use open_graph::{OpenGraph, VertexId};
@@ -15,7 +14,7 @@ use std::alloc::{AllocError, Global};
 use std::marker::Model;
 use zx_gates::Qubit;
 use zx_model::{Scalar, Sixteenth};
-use zx_reduce::{Ordered, Reduction, Step, check_size};
+use zx_reduce::{Ordered, Reduction, Step};
 
 // No more steps are done: as many take longer than anyone waits.
 const MOST_STEPS: u64 = 1 << 51;
@@ -26,6 +25,15 @@ pub(crate) struct Growth {
     ordered: Ordered,
     scalar: Scalar,
     steps: u64,
+}
+
+// Such a graph once no move is left.
+#[derive(Drop)]
+pub(crate) struct Reduced {
+    // The reduced graph, with its flow and the last steps.
+    pub(crate) reduction: Reduction,
+    // The sum of the graph of the gates is so many times that of the reduced graph.
+    pub(crate) scalar: Scalar,
 }
 
 impl Model for Growth {
@@ -64,8 +72,7 @@ impl Growth {
         requires on_qubits { q < length self.old.ordered.graph.outputs }
         ensures { OnOk result (Gains (H q ∷ []) self.old self.new) }
     {
-        let next = self.ordered.add_hadamard(q)?;
-        Ok(next)
+        self.ordered.add_hadamard(q)
     }
 
     // Puts a phase gate behind the output of a qubit.
@@ -83,8 +90,7 @@ impl Growth {
         requires on_qubits { IsOnQubits (length self.old.ordered.graph.outputs) (Cz p q) }
         ensures { OnOk result (Gains (Cz p q ∷ []) self.old self.new) }
     {
-        self.ordered.toggle(p, q)?;
-        Ok(())
+        self.ordered.toggle(p, q)
     }
 
     // Does a step where it is allowed, and answers whether it was done.
@@ -104,24 +110,24 @@ impl Growth {
         }
     }
 
-    // Does all moves that are left. The sum of the graph of the gates is the scalar that is answered beside
-    // times that of the reduced graph.
-    pub(crate) fn reduce(self) -> Result<(Reduction, Scalar), AllocError>
+    // Does all moves that are left.
+    pub(crate) fn reduce(self) -> Result<Reduced, AllocError>
         requires { IsOrdered self.ordered }
-        ensures reduces { IfOk result (λ made. Reduces self.ordered.graph
-            made.0.graph.graph made.0.flow.flow made.0.trace.steps made.0.scalar) }
+        ensures reduces { IfOk result (λ made. Reduces self.ordered.graph made.reduction.graph.graph
+            made.reduction.flow.flow made.reduction.trace.steps made.reduction.scalar) }
         ensures scalar { IfOk result (λ made.
-            made.1 ≡ product_of_scalars self.scalar made.0.scalar) }
-        ensures small { IfOk result (λ made. IsWithin (2 * most_steps + 36 * memory_bound) made.1) }
+            made.scalar ≡ product_of_scalars self.scalar made.reduction.scalar) }
+        ensures small { IfOk result (λ made. IsWithin (2 * most_steps + 36 * most_vertices_in_memory) made.scalar) }
     {
-        check_size(self.graph())?;
+        // So the exponent of the scalar fits.
+        prove!(self.graph().vertex_count() as u64 <= 1 << 32);
         let Growth {
             ordered,
             scalar,
             ..
         } = self;
-        let made = ordered.reduce()?;
-        let scalar = scalar.times(made.scalar);
-        Ok((made, scalar))
+        let reduction = ordered.reduce()?;
+        let scalar = scalar.times(reduction.scalar);
+        Ok(Reduced { reduction, scalar })
     }
 }

@@ -137,10 +137,9 @@ fn partner_of(g: &OpenGraph, u: VertexId, levels: &[u8]) -> Partner
 
 // At which level a neighbour of a vertex of a level may be its partner: one with an output later, one with an
 // input alone never.
-fn level_beside(g: &OpenGraph, v: VertexId, levels: &[u8], own: u8) -> u8 {
-    if !g.is_live(v) {
-        return u8::MAX;
-    }
+fn level_beside(g: &OpenGraph, v: VertexId, levels: &[u8], own: u8) -> u8
+    requires { Live g.now.graph v }
+{
     if g.is_interior(v) {
         return level_in(levels, v);
     }

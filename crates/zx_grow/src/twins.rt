@@ -46,9 +46,6 @@ impl Twins {
 
 // Whether two vertices are gadgets of the same neighbours.
 fn are_twins(g: &OpenGraph, u: VertexId, v: VertexId) -> bool {
-    if !g.is_live(u) || !g.is_live(v) {
-        return false;
-    }
     is_gadget(g, u) && is_gadget(g, v) && g.neighbour_set(u).is_same(g.neighbour_set(v))
 }
 

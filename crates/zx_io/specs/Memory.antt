@@ -28,23 +28,11 @@ SourceFails s = Contains s.fails (counted s.calls)
 
 -- the source after a call that moved k bytes
 abbrev pub source_moved : SourceInMemory → ℕ → SourceInMemory
-source_moved s k = record {
-  left = drop k s.left;
-  piece = s.piece;
-  fails = s.fails;
-  calls = counted s.calls;
-  faults = s.faults;
-}
+source_moved s k = record s { left = drop k s.left; calls = counted s.calls }
 
 -- the source after a call that failed
 abbrev pub source_failed : SourceInMemory → SourceInMemory
-source_failed s = record {
-  left = s.left;
-  piece = s.piece;
-  fails = s.fails;
-  calls = counted s.calls;
-  faults = counted s.faults;
-}
+source_failed s = record s { calls = counted s.calls; faults = counted s.faults }
 
 -- how many bytes the sink has room for still
 abbrev pub place_left : SinkInMemory → ℕ
@@ -68,36 +56,12 @@ empty_sink room piece fails = record {
 
 -- the sink after a call that took bytes
 abbrev pub sink_took : SinkInMemory → List ℕ → SinkInMemory
-sink_took k bytes = record {
-  taken = k.taken ++ bytes;
-  flushed = k.flushed;
-  room = k.room;
-  piece = k.piece;
-  fails = k.fails;
-  calls = counted k.calls;
-  faults = k.faults;
-}
+sink_took k bytes = record k { taken = k.taken ++ bytes; calls = counted k.calls }
 
 -- the sink after a call that failed
 abbrev pub sink_failed : SinkInMemory → SinkInMemory
-sink_failed k = record {
-  taken = k.taken;
-  flushed = k.flushed;
-  room = k.room;
-  piece = k.piece;
-  fails = k.fails;
-  calls = counted k.calls;
-  faults = counted k.faults;
-}
+sink_failed k = record k { calls = counted k.calls; faults = counted k.faults }
 
 -- the sink after a flush that didn't fail
 abbrev pub sink_flushed : SinkInMemory → SinkInMemory
-sink_flushed k = record {
-  taken = k.taken;
-  flushed = length k.taken;
-  room = k.room;
-  piece = k.piece;
-  fails = k.fails;
-  calls = counted k.calls;
-  faults = k.faults;
-}
+sink_flushed k = record k { flushed = length k.taken; calls = counted k.calls }

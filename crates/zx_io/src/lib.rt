@@ -19,8 +19,6 @@ mod moving;
 mod never_fail;
 mod pieces;
 mod streams;
-#[cfg(test)]
-mod tests;
 
 pub use adapters::{ReadAdapter, WriteAdapter};
 pub use errors::{ReadError, WriteFault};

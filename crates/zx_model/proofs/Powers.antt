@@ -3,7 +3,8 @@ use Rattle.std.proofs.Common.{◌≡◌, ◌≢◌, ℕ, zero as nought, suc, �
 use Rattle.zx_model.specs.Cyclotomic.{zero_cyclotomic, eighth_root, add_cyclotomic, neg_cyclotomic, mul_cyclotomic}
 use Rattle.zx_model.specs.Number.{Number, zero, one, root, neg, mul, root_power}
 use Rattle.zx_model.specs.Phase.{turn, half_turn, sum_of_phases, opposite_phase}
-use Rattle.zx_model.specs.Constants.{two, power_of_two}
+use Rattle.zx_model.specs.Constants.{two}
+use Rattle.zx_model.specs.Internal.Powers.{power_of_two}
 use Rattle.zx_model.proofs.Ring as Ring
 use Rattle.zx_model.proofs.Ring.{one-mul, mul_assoc, unit-nonzero, mul-sign_same}
 

@@ -1,15 +1,10 @@
 -- Numbers with a name of their own.
-use Rattle.std.specs.Prelude.{ℕ, zero as nought, suc, ◌+◌}
+use Rattle.std.specs.Prelude.{◌+◌}
 use Rattle.zx_model.specs.Phase.{quarter_turn, eighth_turn}
-use Rattle.zx_model.specs.Number.{Number, one, add, neg, mul, root_power}
+use Rattle.zx_model.specs.Number.{Number, one, add, neg, root_power}
 
 abbrev pub two : Number
 two = add one one
-
--- 2^k
-abbrev pub power_of_two : ℕ → Number
-power_of_two nought = one
-power_of_two (suc k) = mul two (power_of_two k)
 
 -- exp(i*pi/2)
 abbrev pub i : Number

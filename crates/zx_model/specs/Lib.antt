@@ -6,3 +6,4 @@ pub mod Bits
 pub mod Sums
 pub mod Proportional
 pub mod Scalar
+pub mod Internal

@@ -2,20 +2,12 @@
 use Rattle.std.proofs.Common.{◌≡◌, ◌≤◌, ◌<◌, ◌⊎◌, inl, inr, ℕ, ◌+◌, Bool, true, cond, eqb, nat_lt, List, length, Result, Ok, Err, IfOk, le_refl, le_trans, refl, sym, ap, subst, arith, ◌∙◌}
 use Rattle.std.proofs.Math.Nat.{eq-or-lt_of_le}
 use Rattle.std.proofs.lemmas.Bool.{eqb-true, ltb-true}
-use Rattle.zx_model.specs.Number.{Number}
-use Rattle.zx_model.specs.Scalar.{IsScaled, IsWithin, product_of_scalars}
-use Rattle.zx_model.specs.declared.scalar.Scalar.{Scalar}
-use Rattle.zx_model.proofs.Scalars.{scaled_proportional, scaled_trans, within_more, within_product}
 use Rattle.zx_gates.specs.declared.scaled_circuit.ScaledCircuit.{ScaledCircuit}
 use Rattle.zx_gates.specs.declared.tally.Counts.{Counts}
-use Rattle.zx_gates.specs.Circuit.{Circuit, gate_odd_phases, gate_bound as list_bound}
-use Rattle.zx_gates.specs.Maps.{amp}
+use Rattle.zx_gates.specs.Circuit.{Circuit, gate_odd_phases}
+use Rattle.zx_gates.proofs.Passing.{implements_more}
 use Rattle.zx_calculus.proofs.Ids.{by_test}
-use Rattle.piece_laws.specs.Replacement.{IsReplacement}
-use Rattle.zx_peephole.specs.Tidy.{IsTidy}
-use Rattle.zx_pieces.specs.Scaling.{most_root2_of_passes}
-use Rattle.zx_teleport.specs.Scalars.{most_teleported_root2}
-use Rattle.zx_optimise.specs.Optimising.{bound_of, counts_of, most_optimised_root2, IsCleaned, IsMapTimes, IsBest, IsNoDearerThanRead, IsNoDearerThanTeleported, IsPlain, Teleports}
+use Rattle.zx_optimise.specs.Optimising.{bound_of, counts_of, most_optimised_root2, IsCleaned, IsBest, IsNoDearerThanRead, IsNoDearerThanTeleported, IsPlain}
 use Rattle.zx_optimise.specs.Internal.Candidates.{is_dearer, most_whole_root2, IsCandidate, IsCheaper, IsNoDearerThan, IsTakenOver, IsTeleportedCleanup, Offers}
 
 -- ---- what costs less
@@ -117,106 +109,63 @@ taken_at_tie best made (inr less) cheap =
     let q = counts_of best.gates.gates in
     absurd (cheaper-dearer p.odd p.two_qubit p.total q.odd q.two_qubit q.total less cheap)
 
-pub best_of_all : {E : Type 0} (read : Circuit) (plain : ScaledCircuit) (found : Result ScaledCircuit E) → IsPlain read plain.gates
-    → IfOk found (IsTakenOver plain) → IfOk found (λ made. IsNoDearerThanRead read made.gates)
-    → IfOk found (λ made. IsNoDearerThanTeleported read made.gates) → IfOk found (λ made. IsBest read made.gates)
-best_of_all read plain (Err error) is taken than_read than_teleported = tt
-best_of_all read plain (Ok made) is taken than_read than_teleported = record {
-  than_plain = record {
-    plain = plain.gates;
-    is_plain = is;
-    no_dearer = taken_cheap plain made taken;
-    at_tie = taken_at_tie plain made taken;
-  };
-  than_read = than_read;
-  than_teleported = than_teleported;
+pub than_read-trans : (read made best : Circuit) → IsNoDearerThan made best → IsNoDearerThanRead read best → IsNoDearerThanRead read made
+than_read-trans read made best cheap is = record {
+  cleaned = is.cleaned;
+  cleanup = is.cleanup;
+  no_dearer = λ within. no_dearer-trans made best is.cleaned cheap (is.no_dearer within);
+  no_dearer_than_read = λ within. no_dearer-trans made best read cheap (is.no_dearer_than_read within);
 }
 
--- ---- candidates
--- a circuit by way of another, which is on as many qubits
-pub scaled_by_way : (n m : ℕ) (f g h : List Bool → List Bool → Number) (s t made : Scalar) → m ≡ n → IsScaled n n f s g → IsScaled m m g t h →
-    made ≡ product_of_scalars s t → IsScaled n n f made h
-scaled_by_way n m f g h s t made same first second is =
-    subst (λ u. IsScaled n n f u h) (sym is) (scaled_trans n n f g h s t first (subst (λ k. IsScaled k k g t h) same second))
+pub best_of_all : {E : Type 0} (read : Circuit) (plain best : ScaledCircuit) (found : Result ScaledCircuit E) → IsPlain read plain.gates
+    → IsTakenOver plain best → IsNoDearerThanRead read best.gates → IfOk found (IsTakenOver best)
+    → IfOk found (λ made. IsNoDearerThanTeleported read made.gates) → IfOk found (λ made. IsBest read made.gates)
+best_of_all read plain best (Err error) is first than_read then than_teleported = tt
+best_of_all read plain best (Ok made) is first than_read then than_teleported =
+    let taken = taken-trans plain best made first then in
+    record {
+      than_plain = record {
+        plain = plain.gates;
+        is_plain = is;
+        no_dearer = taken_cheap plain made taken;
+        at_tie = taken_at_tie plain made taken;
+      };
+      than_read = than_read-trans read made.gates best.gates (taken_cheap best made then) than_read;
+      than_teleported = than_teleported;
+    }
 
+-- ---- candidates
 pub candidate-offered : (k : ℕ) (read : Circuit) (made : ScaledCircuit) → Offers k read made → IsCandidate k read made
-candidate-offered k read made o = record { qubits = o.optimises.qubits; odd = o.optimises.odd; tidy = o.optimises.tidy; scalar = o.scalar; small = o.small }
+candidate-offered k read made o = record { kept = o.kept; tidy = o.tidy }
 
 pub candidate-whole : (read : Circuit) (made : ScaledCircuit) → IsCandidate most_whole_root2 read made → IsCandidate most_optimised_root2 read made
 candidate-whole read made is = record {
-  qubits = is.qubits;
-  odd = is.odd;
+  kept = implements_more is.kept (le_refl (gate_odd_phases read.gates)) (omega arith);
   tidy = is.tidy;
-  scalar = is.scalar;
-  small = within_more most_whole_root2 most_optimised_root2 made.scalar is.small (omega arith);
 }
 
 pub offers-whole : (read : Circuit) (made : ScaledCircuit) → Offers most_whole_root2 read made → Offers most_optimised_root2 read made
 offers-whole read made o = record {
-  optimises = o.optimises;
-  scalar = o.scalar;
-  small = within_more most_whole_root2 most_optimised_root2 made.scalar o.small (omega arith);
+  kept = implements_more o.kept (le_refl (gate_odd_phases read.gates)) (omega arith);
+  tidy = o.tidy;
+  few_gates = o.few_gates;
+  reduced = o.reduced;
 }
 
 -- a candidate that is taken: it is within the bound, and has no more odd phases than the one in whose place it comes
 pub offers-candidate : (k : ℕ) (read : Circuit) (best made : ScaledCircuit) → Offers k read best → IsCandidate k read made →
     length made.gates.gates ≤ bound_of read → gate_odd_phases made.gates.gates ≤ gate_odd_phases best.gates.gates → Offers k read made
 offers-candidate k read best made o is few fewer = record {
-  optimises = record {
-    qubits = is.qubits;
-    map = scaled_proportional read.qubits read.qubits (amp read.gates) (amp made.gates.gates) made.scalar is.scalar;
-    odd = is.odd;
-    tidy = is.tidy;
-    few_gates = few;
-    reduced = record {
-      steps = o.optimises.reduced.steps;
-      end = o.optimises.reduced.end;
-      run = o.optimises.reduced.run;
-      reduced = o.optimises.reduced.reduced;
-      odd = le_trans fewer o.optimises.reduced.odd;
-    };
+  kept = is.kept;
+  tidy = is.tidy;
+  few_gates = few;
+  reduced = record {
+    steps = o.reduced.steps;
+    end = o.reduced.end;
+    run = o.reduced.run;
+    reduced = o.reduced.reduced;
+    odd = le_trans fewer o.reduced.odd;
   };
-  scalar = is.scalar;
-  small = is.small;
-}
-
--- pieces of a candidate are replaced, and what is left is tidied
-pub candidate-shrunk : (read : Circuit) (made shrunk : ScaledCircuit) (s : Scalar) → IsCandidate most_whole_root2 read made →
-    shrunk.gates.qubits ≡ made.gates.qubits → IsReplacement made.gates.qubits made.gates.gates shrunk.gates.gates →
-    IsScaled made.gates.qubits made.gates.qubits (amp made.gates.gates) s (amp shrunk.gates.gates) →
-    IsWithin most_root2_of_passes s → IsTidy shrunk.gates.gates → shrunk.scalar ≡ product_of_scalars made.scalar s → IsCandidate most_optimised_root2 read shrunk
-candidate-shrunk read made shrunk s is qubits replaced scaled few tidy product = record {
-  qubits = qubits ∙ is.qubits;
-  odd = le_trans replaced.odd is.odd;
-  tidy = tidy;
-  scalar = scaled_by_way read.qubits made.gates.qubits (amp read.gates) (amp made.gates.gates) (amp shrunk.gates.gates) made.scalar s shrunk.scalar is.qubits is.scalar scaled product;
-  small = subst (IsWithin most_optimised_root2) (sym product)
-      (within_more (most_whole_root2 + most_root2_of_passes) most_optimised_root2 (product_of_scalars made.scalar s)
-      (within_product most_whole_root2 most_root2_of_passes made.scalar s is.small few) (omega arith));
-}
-
--- ---- what is cleaned up
-pub candidate-cleaned : (read : Circuit) (made : ScaledCircuit) → IsCleaned read made.gates → IsMapTimes read made.scalar made.gates →
-    IsWithin list_bound made.scalar → IsCandidate most_whole_root2 read made
-candidate-cleaned read made clean scaled few = record {
-  qubits = clean.qubits;
-  odd = clean.odd;
-  tidy = clean.tidy;
-  scalar = scaled;
-  small = within_more list_bound most_whole_root2 made.scalar few (omega arith);
-}
-
-pub candidate-teleported : (read : Circuit) (teleported : Circuit) (made : ScaledCircuit) (s t : Scalar) → Teleports read teleported → IsCleaned teleported made.gates →
-    IsMapTimes read s teleported → IsWithin most_teleported_root2 s → IsMapTimes teleported t made.gates → IsWithin list_bound t →
-    made.scalar ≡ product_of_scalars s t → IsCandidate most_whole_root2 read made
-candidate-teleported read teleported made s t teleports clean first few second fewer product = record {
-  qubits = clean.qubits ∙ teleports.qubits;
-  odd = le_trans clean.odd teleports.odd;
-  tidy = clean.tidy;
-  scalar = scaled_by_way read.qubits teleported.qubits (amp read.gates) (amp teleported.gates) (amp made.gates.gates) s t made.scalar teleports.qubits first second product;
-  small = subst (IsWithin most_whole_root2) (sym product)
-      (within_more (most_teleported_root2 + list_bound) most_whole_root2 (product_of_scalars s t)
-      (within_product most_teleported_root2 list_bound s t few fewer) (omega arith));
 }
 
 -- ---- what is no dearer than some circuit is so than all that this was
@@ -227,14 +176,6 @@ than_read read made cleaned clean cheap = record {
   cleanup = clean;
   no_dearer = cheap;
   no_dearer_than_read = λ within. no_dearer-trans made cleaned read (cheap (le_trans clean.total within)) (cleanup_cheap read cleaned clean);
-}
-
-pub than_read-trans : (read made best : Circuit) → IsNoDearerThan made best → IsNoDearerThanRead read best → IsNoDearerThanRead read made
-than_read-trans read made best cheap is = record {
-  cleaned = is.cleaned;
-  cleanup = is.cleanup;
-  no_dearer = λ within. no_dearer-trans made best is.cleaned cheap (is.no_dearer within);
-  no_dearer_than_read = λ within. no_dearer-trans made best read cheap (is.no_dearer_than_read within);
 }
 
 pub than_teleported : (read made candidate : Circuit) → (t : IsTeleportedCleanup read candidate)

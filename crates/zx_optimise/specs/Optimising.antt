@@ -2,13 +2,13 @@
 use Rattle.std.specs.Prelude.{◌≡◌, ◌<◌, ◌≤◌, ◌^◌, ◌⊎◌, ℕ, List, length}
 use Rattle.std.specs.List.{count_by}
 use Rattle.zx_model.specs.Proportional.{Proportional}
-use Rattle.zx_model.specs.Scalar.{IsScaled}
 use Rattle.zx_model.specs.declared.scalar.Scalar.{Scalar}
 use Rattle.zx_gates.specs.declared.gate.Gate.{Gate}
 use Rattle.zx_gates.specs.declared.tally.Counts.{Counts}
 use Rattle.zx_gates.specs.Circuit.{Circuit, gate_odd_phases}
 use Rattle.zx_gates.specs.Counting.{is_h, is_phase, is_cz, is_cx, is_not, is_two_qubit}
 use Rattle.zx_gates.specs.Maps.{amp}
+use Rattle.zx_gates.specs.Passes.{Preserves}
 use Rattle.circuit_graph.specs.Translation.{translated}
 use Rattle.teleport_circuits.specs.Circuits.{IsSkeleton}
 use Rattle.teleport_circuits.specs.Teleporting.{teleported_gates}
@@ -20,20 +20,13 @@ use Rattle.zx_simplify.specs.Circuits.{IsSimplified}
 abbrev pub bound_of : Circuit → ℕ
 bound_of read = gate_bound read.qubits (gate_odd_phases read.gates)
 
--- the map of the one circuit is s times that of the other
-abbrev pub IsMapTimes : Circuit → Scalar → Circuit → Type 0
-IsMapTimes read s made = IsScaled read.qubits read.qubits (amp read.gates) s (amp made.gates)
-
 -- the greatest exponent of the root of two in the scalar of an answer, in size
 abbrev pub most_optimised_root2 : ℕ
 most_optimised_root2 = 2 ^ 58
 
--- The circuit that is made is on as many qubits as the read one, with a proportional linear map and no
--- more odd phases. No gates in it cancel or merge, and it has no more than the bound.
-pub record Optimises (read made : Circuit) : Type 0 where
-  pub qubits : made.qubits ≡ read.qubits
-  pub map : Proportional read.qubits read.qubits (amp read.gates) (amp made.gates)
-  pub odd : gate_odd_phases made.gates ≤ gate_odd_phases read.gates
+-- A pass over the read circuit makes the other one. No gates in it cancel or merge, and it has no more than the bound.
+pub record Optimises (most : ℕ) (read made : Circuit) (s : Scalar) : Type 0 where
+  pub kept : Preserves most read made s
   pub tidy : IsTidy made.gates
   pub few_gates : length made.gates ≤ bound_of read
   pub reduced : IsThroughReduced (translated read) made

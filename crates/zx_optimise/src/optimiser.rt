@@ -2,11 +2,9 @@
 
 ghost use Rattle.std.specs.Prelude.{◌≡◌, ◌≤◌, true, false, length, nat_le, IfOk};
 ghost use Rattle.zx_model.specs.Scalar.{IsWithin};
-ghost use Rattle.zx_gates.specs.Circuit.{Circuit, gate_odd_phases};
-ghost use Rattle.zx_peephole.specs.Tidy.{IsTidy};
-ghost use Rattle.circuit_graph.specs.Translation.{translated};
-ghost use Rattle.zx_extract.specs.Simplified.{gate_bound, IsThroughReduced};
-ghost use Rattle.zx_optimise.specs.Optimising.{bound_of, most_optimised_root2, IsBest, IsCleaned, IsMapTimes, IsNoDearerThanRead, IsNoDearerThanTeleported, IsPlain};
+ghost use Rattle.zx_gates.specs.Circuit.{Circuit};
+ghost use Rattle.zx_extract.specs.Simplified.{gate_bound};
+ghost use Rattle.zx_optimise.specs.Optimising.{bound_of, most_optimised_root2, IsBest, IsCleaned, IsNoDearerThanRead, IsNoDearerThanTeleported, IsPlain, Optimises};
 ghost use Rattle.zx_optimise.specs.Internal.Candidates.{is_dearer, most_whole_root2, IsCandidate, IsNoDearerThan, IsTakenOver, IsTeleportedCleanup, Offers};
 
 use std::alloc::{AllocError, Global};
@@ -29,32 +27,15 @@ use zx_teleport::teleport;
 ///
 /// Only where memory runs out.
 pub fn optimise(alloc: Global, read: &GateList, best: bool) -> Result<ScaledCircuit, AllocError>
-    ensures qubits { IfOk result (λ made. made.gates.qubits ≡ read.now.qubits) }
-    ensures scalar { IfOk result (λ made. IsMapTimes read.now made.scalar made.gates) }
-    ensures small { IfOk result (λ made. IsWithin most_optimised_root2 made.scalar) }
-    ensures odd { IfOk result (λ made. gate_odd_phases made.gates.gates ≤ gate_odd_phases
-        read.now.gates) }
-    ensures tidy { IfOk result (λ made. IsTidy made.gates.gates) }
-    ensures few_gates { IfOk result (λ made. length made.gates.gates ≤ bound_of read.now) }
-    ensures reduced { IfOk result (λ made. IsThroughReduced (translated read.now) made.gates) }
+    ensures optimises { IfOk result (λ made.
+        Optimises most_optimised_root2 read.now made.gates made.scalar) }
     ensures plain { best ≡ false → IfOk result (λ made. IsPlain read.now made.gates) }
     ensures best { best ≡ true → IfOk result (λ made. IsBest read.now made.gates) }
 {
-    let made = optimised(alloc, read, best)?;
-    Ok(made)
-}
-
-// The same, as what may be written for a circuit.
-fn optimised(alloc: Global, read: &GateList, best: bool) -> Result<ScaledCircuit, AllocError>
-    ensures offers { IfOk result (Offers most_optimised_root2 read.now) }
-    ensures plain { best ≡ false → IfOk result (λ made. IsPlain read.now made.gates) }
-    ensures best { best ≡ true → IfOk result (λ made. IsBest read.now made.gates) }
-{
-    let plain = plain(alloc, read)?;
     if best {
-        best_of(alloc, read, plain)
+        best_of(alloc, read)
     } else {
-        Ok(plain)
+        plain(alloc, read)
     }
 }
 
@@ -63,26 +44,18 @@ fn plain(alloc: Global, read: &GateList) -> Result<ScaledCircuit, AllocError>
     ensures offers { IfOk result (Offers most_whole_root2 read.now) }
     ensures plain { IfOk result (λ made. IsPlain read.now made.gates) }
 {
-    let made = simplify_circuit(alloc, read)?;
-    Ok(made)
+    simplify_circuit(alloc, read)
 }
 
 // The best of all candidates: the plain one, or one that is cheaper.
-fn best_of(
-    alloc: Global,
-    read: &GateList,
-    plain: ScaledCircuit,
-) -> Result<ScaledCircuit, AllocError>
-    requires { Offers most_whole_root2 read.now plain }
+fn best_of(alloc: Global, read: &GateList) -> Result<ScaledCircuit, AllocError>
     ensures offers { IfOk result (Offers most_optimised_root2 read.now) }
-    ensures than_plain { IfOk result (IsTakenOver plain) }
-    ensures than_read { IfOk result (λ made. IsNoDearerThanRead read.now made.gates) }
-    ensures than_teleported { IfOk result (λ made. IsNoDearerThanTeleported read.now made.gates) }
+    ensures best { IfOk result (λ made. IsBest read.now made.gates) }
 {
+    let plain = plain(alloc, read)?;
     let best = beside_shrunk(alloc, read, plain)?;
     let best = beside_read(read, best)?;
-    let best = beside_teleported(alloc, read, best)?;
-    Ok(best)
+    beside_teleported(alloc, read, best)
 }
 
 // The cheaper one of the plain circuit and the one with pieces of it replaced, which are looked for where it has less

@@ -8,7 +8,7 @@ use Rattle.std.proofs.lemmas.List.{length-append, take_at, drop_at}
 use Rattle.std.proofs.lemmas.List.Sums.{sum_by-append, sum_by-cons}
 use Rattle.zx_model.specs.Phase.{sum_of_phases, is_odd}
 use Rattle.zx_model.specs.Number.{Number, mul}
-use Rattle.zx_model.specs.Constants.{power_of_two}
+use Rattle.zx_model.specs.Internal.Powers.{power_of_two}
 use Rattle.zx_model.specs.Bits.{one_if}
 use Rattle.zx_model.specs.Scalar.{IsScaled}
 use Rattle.zx_model.proofs.Ring.{one-mul, mul_assoc}

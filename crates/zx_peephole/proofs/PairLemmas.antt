@@ -19,7 +19,7 @@ use Rattle.zx_peephole.specs.Tidy.{is_pair, is_turned}
 use Rattle.zx_peephole.specs.Internal.Merging.{merged, doublings, conjugated}
 use Rattle.zx_peephole.proofs.Acting.{negated, IsBlind, act-not, bit-blind, true-blind}
 use Rattle.zx_gates.proofs.LoweringLemmas.{acts-phase_gates}
-use Rattle.zx_model.specs.Constants.{power_of_two}
+use Rattle.zx_model.specs.Internal.Powers.{power_of_two}
 
 -- ---- on one bit
 around : (a b : Number) → add a (add b (add b (neg a))) ≡ add b b

@@ -1,11 +1,11 @@
 //! The whole cleanup.
 
 ghost use Rattle.std.specs.Prelude.{◌≡◌, ◌≤◌, ◌<◌, ◌*◌, ◌^◌, pos, ◌++◌, [], ◌∷◌, length, take, count_by, IfSome, IfNone};
-ghost use Rattle.zx_model.specs.Scalar.{IsScaled, IsWithin};
-ghost use Rattle.zx_gates.specs.Circuit.{gate_bound, gate_odd_phases};
+ghost use Rattle.zx_model.specs.Scalar.{IsWithin};
+ghost use Rattle.zx_gates.specs.Circuit.{gate_bound};
 ghost use Rattle.zx_gates.specs.Counting.{is_two_qubit};
 ghost use Rattle.zx_gates.specs.Internal.Scalars.{scalar};
-ghost use Rattle.zx_gates.specs.Maps.{amp};
+ghost use Rattle.zx_gates.specs.Passes.{Preserves};
 ghost use Rattle.zx_peephole.specs.Tidy.{IsTidy};
 ghost use Rattle.zx_peephole.specs.Doubling.{IsPowerOfTwo};
 ghost use Rattle.zx_gates.specs.Circuit.{Circuit, HasRoom, circuit_of};
@@ -27,16 +27,10 @@ use zx_model::{Scalar, Sixteenth};
 /// before it that it commutes with and shares a qubit with; most Cz that meet no other look at none.
 pub fn tidy(g: &mut GateList) -> Scalar
     ensures tidy { IsTidy g.new.gates }
-    ensures qubits { g.new.qubits ≡ g.old.qubits }
-
-    // Each two H that go, with or without a gate between them, make it half as large.
-    ensures scaled { IsScaled g.old.qubits g.old.qubits
-        (amp g.old.gates) result (amp g.new.gates) }
+    ensures kept { Preserves gate_bound g.old g.new result }
+    // Each two H that go, with or without a gate between them, make the map half as large.
     ensures power { IsPowerOfTwo result }
-    ensures small { IsWithin gate_bound result }
-
     ensures length { length g.new.gates ≤ length g.old.gates }
-    ensures odd { gate_odd_phases g.new.gates ≤ gate_odd_phases g.old.gates }
     ensures two_qubit { count_by is_two_qubit g.new.gates ≤ count_by is_two_qubit g.old.gates }
 {
     let mut work = begin(g.take());

@@ -1,4 +1,3 @@
-pub mod Growth
 pub mod Places
 pub mod Walks
 pub mod Works

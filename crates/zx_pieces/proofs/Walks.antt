@@ -11,7 +11,8 @@ use Rattle.zx_gates.specs.declared.gate.Gate.TheVariants.{H, Phase, Cz, Cx, Not}
 use Rattle.zx_peephole.specs.Commuting.{is_on, are_apart}
 use Rattle.piece_laws.specs.Reordering.{gates_on}
 use Rattle.piece_laws.proofs.Reorderings.{apart_all, taken, passed_over}
-use Rattle.zx_pieces.specs.Internal.Walking.{first_qubit, second_qubit, IsBlocking, AreWalked}
+use Rattle.zx_peephole.specs.Internal.Chains.{first_qubit, second_qubit}
+use Rattle.zx_pieces.specs.Internal.Walking.{IsBlocking, AreWalked}
 
 or_same : (b : Bool) → b ≡ (b || b)
 or_same true = refl

@@ -1,22 +1,24 @@
 -- A piece is replaced, and what is left gets shorter.
-use Rattle.std.proofs.Common.{◌≡◌, ◌≤◌, ◌<◌, ◌+◌, ◌-◌, inl, inr, ℕ, List, ◌++◌, append_assoc, length, take, drop, refl, sym, ap, ◌∙◌, subst, arith}
+use Rattle.std.proofs.Common.{◌≡◌, ◌≤◌, ◌<◌, ◌+◌, ◌-◌, inl, inr, ℕ, List, ◌++◌, append_assoc, append-nil, drop_of_length-le, length, take, drop, refl, sym, ap, ◌∙◌, subst, arith}
 use Rattle.std.specs.List.{All}
-use Rattle.std.proofs.lemmas.List.{length-append, length-drop, drop-drop, take-append-drop}
+use Rattle.std.proofs.lemmas.List.{length-append, length-drop, drop-drop, nil_from_length, take-append-drop}
 use Rattle.std.proofs.lemmas.List.Sorted.{length_permutation}
 use Rattle.std.proofs.Math.Nat.{eq-or-lt_of_le}
-use Rattle.zx_model.specs.Proportional.{Proportional}
 use Rattle.zx_model.specs.Scalar.{IsScaled, product_of_scalars}
 use Rattle.zx_model.specs.declared.scalar.Scalar.{Scalar}
 use Rattle.zx_model.proofs.Scalars.{scaled_trans}
-use Rattle.zx_gates.specs.Circuit.{IsGateOn, gate_odd_phases}
+use Rattle.zx_gates.specs.Circuit.{Circuit, IsGateOn}
 use Rattle.zx_gates.specs.Maps.{amp}
+use Rattle.zx_gates.specs.Passes.{Preserves}
 use Rattle.zx_gates.specs.declared.gate.Gate.{Gate}
 use Rattle.piece_laws.specs.Reordering.{gates_on, IsReordered}
-use Rattle.piece_laws.specs.Replacement.{two_qubit_gates, AreScaled, IsReplacement}
+use Rattle.piece_laws.specs.Replacement.{two_qubit_gates, AreScaled, IsNoLarger, IsReplacement}
 use Rattle.piece_laws.proofs.Reorderings.{reordered-append, reordered_gates}
 use Rattle.piece_laws.proofs.Replacements.{All-parts, replaced_in_front, replacement-refl, replacement-trans}
 use Rattle.piece_laws.proofs.Scaling.{scaled_part, front_map}
-use Rattle.zx_pieces.specs.Internal.Working.{IsRescaled, Adds}
+use Rattle.zx_pieces.specs.Scaling.{most_root2_of_pass}
+use Rattle.zx_pieces.specs.Internal.Working.{IsAt, IsRescaled, Adds}
+use Rattle.zx_pieces.specs.declared.replacing.Work.{Work}
 
 -- the gates of the window are on the qubits
 pub window_on : (n : ℕ) (gates done window rest : List Gate) → IsReplacement n gates (done ++ (window ++ rest)) → All (IsGateOn n) window
@@ -90,16 +92,27 @@ fewer_left old window piece passed gates next end same order some =
     at : (p q w k all : ℕ) → 0 < p → p + q ≡ w → w + k ≡ all → q + k < all
     at p q w k all more sum whole = omega arith
 
--- what is cleaned up replaces
-pub replaced-cleaned : (n : ℕ) (old new : List Gate) → All (IsGateOn n) new → Proportional n n (amp old) (amp new) → gate_odd_phases new ≤ gate_odd_phases old
-    → two_qubit_gates new ≤ two_qubit_gates old → length new ≤ length old → IsReplacement n old new
-replaced-cleaned n old new on map odd two shorter = record {
-  on_qubits = on;
-  map = map;
-  odd = odd;
-  size =
-      elim (eq-or-lt_of_le two) [
-        | inl same ↦ inr (same, shorter)
-        | inr less ↦ inl less
-      ];
-}
+-- no more gates on two qubits, and no more in all
+pub no_larger_by_counts : (old new : List Gate) → two_qubit_gates new ≤ two_qubit_gates old → length new ≤ length old → IsNoLarger new old
+no_larger_by_counts old new two shorter =
+    elim (eq-or-lt_of_le two) [
+      | inl same ↦ inr (same, shorter)
+      | inr less ↦ inl less
+    ]
+
+-- all pieces are replaced
+pub work_done : (circuit : Circuit) (work : Work) → IsAt circuit.qubits circuit.gates work → length work.passed.items ≡ 0 → length circuit.gates ≤ work.next
+    → Preserves most_root2_of_pass circuit work.done work.scalar × IsNoLarger work.done.gates circuit.gates
+work_done circuit work at none all =
+    let rest : work.done.gates ++ (work.passed.items ++ drop work.next circuit.gates) ≡ work.done.gates =
+    ap (λ (ps : List Gate). work.done.gates ++ (ps ++ drop work.next circuit.gates)) (nil_from_length work.passed.items none)
+    ∙ ap (λ (ps : List Gate). work.done.gates ++ ps) (drop_of_length-le circuit.gates all) ∙ append-nil work.done.gates in
+    let replaced = subst (IsReplacement circuit.qubits circuit.gates) rest at.all in (
+      record {
+        qubits = at.qubits;
+        scaled = subst (AreScaled circuit.qubits circuit.gates work.scalar) rest at.scaled;
+        small = at.small;
+        odd = replaced.odd;
+      },
+      replaced.size,
+    )

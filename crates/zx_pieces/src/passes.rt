@@ -1,10 +1,9 @@
 //! Passes over a circuit, each with pieces on more qubits.
 
-ghost use Rattle.std.specs.Prelude.{◌≡◌, IfOk};
-ghost use Rattle.zx_model.specs.Scalar.{IsScaled, IsWithin};
-ghost use Rattle.zx_gates.specs.Maps.{amp};
+ghost use Rattle.std.specs.Prelude.{IfOk};
+ghost use Rattle.zx_gates.specs.Passes.{Preserves};
 ghost use Rattle.zx_peephole.specs.Tidy.{IsTidy};
-ghost use Rattle.piece_laws.specs.Replacement.{IsReplacement};
+ghost use Rattle.piece_laws.specs.Replacement.{IsNoLarger};
 ghost use Rattle.zx_pieces.specs.Scaling.{most_root2_of_passes};
 
 use crate::manner::{Manner, is_long, passes};
@@ -20,12 +19,8 @@ use zx_peephole::tidy;
 ///
 /// Only where memory runs out.
 pub fn shrink(alloc: Global, circuit: &GateList) -> Result<ScaledCircuit, AllocError>
-    ensures qubits { IfOk result (λ made. made.gates.qubits ≡ circuit.now.qubits) }
-    ensures replacement { IfOk result (λ made.
-        IsReplacement circuit.now.qubits circuit.now.gates made.gates.gates) }
-    ensures scalar { IfOk result (λ made. IsScaled circuit.now.qubits circuit.now.qubits
-        (amp circuit.now.gates) made.scalar (amp made.gates.gates)) }
-    ensures small { IfOk result (λ made. IsWithin most_root2_of_passes made.scalar) }
+    ensures kept { IfOk result (λ made. Preserves most_root2_of_passes circuit.now made.gates made.scalar) }
+    ensures no_larger { IfOk result (λ made. IsNoLarger made.gates.gates circuit.now.gates) }
     ensures tidy { IfOk result (λ made. IsTidy made.gates.gates) }
 {
     let long = is_long(circuit);
@@ -39,8 +34,6 @@ pub fn shrink(alloc: Global, circuit: &GateList) -> Result<ScaledCircuit, AllocE
         scalar = scalar.times(next.scalar);
     }
     scalar = scalar.times(tidy(&mut made));
-    // Its gates are on its qubits, as those of any circuit.
-    prove!(made.qubits() <= 1_024);
     Ok(ScaledCircuit {
         gates: made,
         scalar,

@@ -2,9 +2,9 @@
 
 ghost use Rattle.std.specs.Prelude.{◌≡◌, ◌≤◌, ◌<◌, ◌-◌, ◌+◌, ◌++◌, length, drop, IfOk, IfSome, IsSome, OnOk, IsTrue};
 ghost use Rattle.std.specs.List.{All};
-ghost use Rattle.zx_model.specs.Scalar.{IsScaled, IsWithin};
+ghost use Rattle.zx_model.specs.Scalar.{IsWithin};
 ghost use Rattle.zx_gates.specs.Circuit.{gate_odd_phases, most_qubits, IsCircuit, IsGateOn};
-ghost use Rattle.zx_gates.specs.Maps.{amp};
+ghost use Rattle.zx_gates.specs.Passes.{Preserves};
 ghost use Rattle.piece_laws.specs.Places.{ArePlaces, placed};
 ghost use Rattle.piece_laws.specs.Replacement.{AreScaled, IsNoLarger, IsReplacement};
 ghost use Rattle.zx_pieces.specs.Internal.Working.{Adds, IsAt, IsRescaled, left_of};
@@ -40,12 +40,8 @@ pub fn replace_pieces(
     most: usize,
     reach: usize,
 ) -> Result<ScaledCircuit, AllocError>
-    ensures qubits { IfOk result (λ made. made.gates.qubits ≡ circuit.now.qubits) }
-    ensures replacement { IfOk result (λ made.
-        IsReplacement circuit.now.qubits circuit.now.gates made.gates.gates) }
-    ensures scalar { IfOk result (λ made. IsScaled circuit.now.qubits circuit.now.qubits
-        (amp circuit.now.gates) made.scalar (amp made.gates.gates)) }
-    ensures small { IfOk result (λ made. IsWithin most_root2_of_pass made.scalar) }
+    ensures kept { IfOk result (λ made. Preserves most_root2_of_pass circuit.now made.gates made.scalar) }
+    ensures no_larger { IfOk result (λ made. IsNoLarger made.gates.gates circuit.now.gates) }
 {
     replace_by(
         alloc,
@@ -65,12 +61,8 @@ pub(crate) fn replace_by(
     circuit: &GateList,
     manner: &Manner,
 ) -> Result<ScaledCircuit, AllocError>
-    ensures qubits { IfOk result (λ made. made.gates.qubits ≡ circuit.now.qubits) }
-    ensures replacement { IfOk result (λ made.
-        IsReplacement circuit.now.qubits circuit.now.gates made.gates.gates) }
-    ensures scalar { IfOk result (λ made. IsScaled circuit.now.qubits circuit.now.qubits
-        (amp circuit.now.gates) made.scalar (amp made.gates.gates)) }
-    ensures small { IfOk result (λ made. IsWithin most_root2_of_pass made.scalar) }
+    ensures kept { IfOk result (λ made. Preserves most_root2_of_pass circuit.now made.gates made.scalar) }
+    ensures no_larger { IfOk result (λ made. IsNoLarger made.gates.gates circuit.now.gates) }
 {
     let gates = circuit.gates();
     let mut work = Work {

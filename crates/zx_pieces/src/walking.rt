@@ -7,7 +7,8 @@ ghost use Rattle.zx_gates.specs.Circuit.{IsGateOn, IsOnQubits, most_qubits};
 ghost use Rattle.zx_peephole.specs.Commuting.{are_apart};
 ghost use Rattle.piece_laws.specs.Places.{ArePlaces};
 ghost use Rattle.piece_laws.specs.Reordering.{IsReordered};
-ghost use Rattle.zx_pieces.specs.Internal.Walking.{first_qubit, second_qubit, IsWide, IsBlocking, IsWalk};
+ghost use Rattle.zx_peephole.specs.Internal.Chains.{first_qubit, second_qubit};
+ghost use Rattle.zx_pieces.specs.Internal.Walking.{IsWide, IsBlocking, IsWalk};
 
 use crate::choosing::connected;
 use crate::manner::Manner;

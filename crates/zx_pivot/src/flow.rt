@@ -36,10 +36,9 @@ pub(crate) fn pivot_sets(
     requires u_there { member u (order_of f.old.flow) ≡ true }
     requires v_there { member v (order_of f.old.flow) ≡ true }
     ensures sets { OnOk result (SameSets f.new.flow (pivot_table (seen g.now.graph) u v f.old.flow)) }
-    ensures has_room { IsBelow f.old.reach (order_of f.old.flow) →
-        ((x : ℕ) → IsBelow f.old.reach (set_of f.old.flow x)) → IsOk result }
-    ensures spare { OnOk result (f.new.spare ≡ f.old.spare) }
-    ensures reach { f.new.reach ≡ f.old.reach }
+    ensures has_room { IsBelow f.old.room.reach (order_of f.old.flow) →
+        ((x : ℕ) → IsBelow f.old.room.reach (set_of f.old.flow x)) → IsOk result }
+    ensures room { f.new.room ≡ f.old.room }
 {
     complement_sets(f, g, Stage::First, u, v)?;
     complement_sets(f, g, Stage::Second, v, u)?;
@@ -61,10 +60,9 @@ fn complement_sets(
     ensures table { let s = view stage (seen g.now.graph) u w in
         OnOk result (SameSets f.new.flow (complement_table s u f.old.flow)) }
     ensures order { OnOk result (order_of f.new.flow ≡ order_of f.old.flow) }
-    ensures has_room { IsBelow f.old.reach (order_of f.old.flow) →
-        IsBelow f.old.reach (set_of f.old.flow u) → IsOk result }
-    ensures spare { f.new.spare ≡ f.old.spare }
-    ensures reach { f.new.reach ≡ f.old.reach }
+    ensures has_room { IsBelow f.old.room.reach (order_of f.old.flow) →
+        IsBelow f.old.room.reach (set_of f.old.flow u) → IsOk result }
+    ensures room { f.new.room ≡ f.old.room }
 {
     let changes = changes_plane(g, stage, u);
     for i in 0..f.order().len() {

@@ -22,9 +22,9 @@ pub fn pivot_in_graph(g: &mut OpenGraph, u: VertexId, v: VertexId) -> Result<Sca
     requires { allowed g.old.graph (Pivot u v) ≡ true }
     ensures step { OnOk result (IsStep g.old.graph (Pivot u v) g.new.graph) }
     ensures scalar { IfOk result (λ s. s ≡ step_scalar g.old.graph (Pivot u v)) }
-    ensures has_room { IsBelow g.old.reach (ids g.old.graph.vertices) → IsOk result }
-    ensures spare { OnOk result (g.new.spare ≡ g.old.spare) }
-    ensures reach { g.new.reach ≡ g.old.reach }
+    ensures has_room { IsBelow g.old.room.reach (ids g.old.graph.vertices) → IsOk result }
+    ensures room { OnOk result (g.new.room ≡ g.old.room) }
+    ensures reach { g.new.room.reach ≡ g.old.room.reach }
     ensures was_valid { WellFormed g.old.graph }
     ensures valid { WellFormed g.new.graph }
 {
@@ -42,8 +42,7 @@ fn turn_common(g: &mut OpenGraph, u: VertexId, v: VertexId)
     requires v_live { Live g.old.graph v }
     ensures turned { let near = neighbours g.old.graph u in
         g.new.graph ≡ with_changed (half_turned_in near (joined g.old.graph.edges v)) g.old.graph }
-    ensures spare { g.new.spare ≡ g.old.spare }
-    ensures reach { g.new.reach ≡ g.old.reach }
+    ensures room { g.new.room ≡ g.old.room }
     ensures valid { WellFormed g.new.graph }
     ensures was_valid { WellFormed g.old.graph }
 {
@@ -60,8 +59,7 @@ fn turn_common(g: &mut OpenGraph, u: VertexId, v: VertexId)
 fn turn_half(g: &mut OpenGraph, p: VertexId)
     requires { Live g.old.graph p }
     ensures turned { g.new.graph ≡ with_changed (at_vertex p half_turned) g.old.graph }
-    ensures spare { g.new.spare ≡ g.old.spare }
-    ensures reach { g.new.reach ≡ g.old.reach }
+    ensures room { g.new.room ≡ g.old.room }
     ensures valid { WellFormed g.new.graph }
 {
     g.add_quarter(p);
@@ -75,9 +73,9 @@ fn rewire(g: &mut OpenGraph, u: VertexId, v: VertexId) -> Result<(), AllocError>
     requires different { u ≢ v }
     requires adjacent { joined g.old.graph.edges u v ≡ true }
     ensures rewired { OnOk result (IsRewired g.old.graph u v g.new.graph) }
-    ensures has_room { IsBelow g.old.reach (ids g.old.graph.vertices) → IsOk result }
-    ensures spare { OnOk result (g.new.spare ≡ g.old.spare) }
-    ensures reach { g.new.reach ≡ g.old.reach }
+    ensures has_room { IsBelow g.old.room.reach (ids g.old.graph.vertices) → IsOk result }
+    ensures room { OnOk result (g.new.room ≡ g.old.room) }
+    ensures reach { g.new.room.reach ≡ g.old.room.reach }
     ensures valid { WellFormed g.new.graph }
 {
     g.toggle_around(u, v)
@@ -88,8 +86,7 @@ fn pivot_own(g: &mut OpenGraph, u: VertexId)
     requires live { Live g.old.graph u }
     requires interior { Interior g.old.graph u }
     ensures own { g.new.graph ≡ with_changed (at_vertex u pivoted) g.old.graph }
-    ensures spare { g.new.spare ≡ g.old.spare }
-    ensures reach { g.new.reach ≡ g.old.reach }
+    ensures room { g.new.room ≡ g.old.room }
     ensures valid { WellFormed g.new.graph }
 {
     let (plane, phase) = g.weight(u);

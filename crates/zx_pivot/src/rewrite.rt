@@ -1,12 +1,13 @@
 //! The pivot of a graph with its flow.
 
-ghost use Rattle.std.specs.Prelude.{◌≡◌, ◌≤◌, true, IsOk, IfOk, OnOk, OnErr};
+ghost use Rattle.std.specs.Prelude.{◌≡◌, true, IsOk, IfOk, OnOk, OnErr};
 ghost use Rattle.zx_calculus.specs.Graph.{WellFormed};
 ghost use Rattle.zx_calculus.specs.Steps.{allowed, Pivot};
 ghost use Rattle.zx_calculus.specs.StepScalars.{step_scalar};
 ghost use Rattle.gflow_laws.specs.Flow.{IsFlow};
 ghost use Rattle.gflow_laws.specs.Rewritten.{IsRewritten};
 ghost use Rattle.zx_flow.specs.Flows.{HaveReach};
+ghost use Rattle.open_graph.specs.Rooms.{IsLeft};
 
 use crate::flow::pivot_sets;
 use crate::graph::pivot_in_graph;
@@ -33,11 +34,10 @@ pub fn pivot(
     ensures scalar { IfOk result (λ s. s ≡ step_scalar g.old.graph (Pivot u v)) }
     ensures err { OnErr result ((g.new.graph ≡ g.old.graph) × (f.new.flow ≡ f.old.flow)) }
     ensures has_room { HaveReach g.old f.old → IsOk result }
-    ensures spare { OnOk result
-        ((g.new.spare ≡ g.old.spare) × (f.new.spare ≡ f.old.spare)) }
-    ensures keeps_spare { OnErr result
-        ((g.new.spare ≡ g.old.spare) × (f.old.spare ≤ f.new.spare)) }
-    ensures reach { (g.new.reach ≡ g.old.reach) × (f.new.reach ≡ f.old.reach) }
+    ensures room { OnOk result
+        ((g.new.room ≡ g.old.room) × (f.new.room ≡ f.old.room)) }
+    ensures keeps_room { OnErr result
+        ((g.new.room ≡ g.old.room) × IsLeft f.old.room f.new.room) }
     ensures valid { WellFormed g.new.graph }
 {
     perform(g, f, &EdgePivot { u, v })
@@ -63,7 +63,7 @@ impl Rewrite for EdgePivot {
 
     ghost needs = { λ by g f. HaveReach g f };
 
-    ghost leaves = { λ by g f h k. (h.spare ≡ g.spare) × (k.spare ≡ f.spare) };
+    ghost leaves = { λ by g f h k. (h.room ≡ g.room) × (k.room ≡ f.room) };
 
     fn has_room(&self, g: &OpenGraph, f: &Flow) -> bool {
         f.has_reach(g)

@@ -4,7 +4,9 @@ ghost use Rattle.std.specs.Prelude.{◌≡◌, true};
 ghost use Rattle.zx_model.specs.Scalar.{IsWithin};
 ghost use Rattle.zx_calculus.specs.Graph.{plane_of, phase_of, Live, WellFormed};
 ghost use Rattle.zx_calculus.specs.Steps.{allowed, Pivot};
-ghost use Rattle.zx_calculus.specs.StepScalars.{step_scalar, pivot_scalar_in, common_neighbours, half_powers};
+ghost use Rattle.zx_calculus.specs.StepScalars.{step_scalar};
+ghost use Rattle.zx_calculus.specs.Pivots.{pivot_scalar_in, common_neighbours};
+ghost use Rattle.zx_calculus.specs.Scalars.{half_powers};
 
 use open_graph::{OpenGraph, Plane, VertexId};
 use zx_model::{Scalar, Sixteenth};

@@ -1,14 +1,18 @@
 -- The order of a flow beside gates that are put behind the graph, and beside steps.
-use Rattle.std.proofs.Common.{◌≡◌, ◌≢◌, sym, ◌∙◌, ap, subst, ℕ, suc, ◌<◌, ◌≤◌, true, false, length, arith}
-use Rattle.zx_calculus.specs.Graph.{Graph, WellFormed}
+use Rattle.std.proofs.Common.{◌≡◌, refl, sym, ◌∙◌, ap, subst, ℕ, suc, ◌<◌, ◌≤◌, true, false, length, arith}
+use Rattle.zx_calculus.specs.Graph.{Graph, ids, Live, WellFormed}
+use Rattle.zx_calculus.specs.Splits.{least_free}
 use Rattle.zx_calculus.specs.Steps.{Step, IsStep}
+use Rattle.zx_calculus.proofs.LeastFree.{least_free-fresh}
 use Rattle.move_laws.specs.Orders.{is_split}
 use Rattle.move_laws.specs.Ranks.{HasFlowBy, rank_in, ranked}
 use Rattle.move_laws.proofs.Ranks.{kept_by}
 use Rattle.zx_gates.specs.Circuit.{IsOnQubits}
-use Rattle.zx_gates.specs.declared.gate.Gate.TheVariants.{H, Phase, Cz}
+use Rattle.zx_gates.specs.declared.gate.Gate.{Gate}
+use Rattle.zx_gates.specs.declared.gate.Gate.TheVariants.{H, Phase, Cz, Cx, Not}
 use Rattle.circuit_laws.specs.Peeling.{are_plain, HasPlainOutput}
 use Rattle.circuit_graph.specs.Translation.{wires, present}
+use Rattle.circuit_graph.proofs.Calls.{here_live}
 use Rattle.circuit_graph.proofs.Graphs.{present_is}
 use Rattle.growing_laws.specs.Growing.{IsFree, placed}
 use Rattle.growing_laws.proofs.FlowsGrown.{spider_ranked, phase_ranked, edge_ranked}
@@ -48,25 +52,53 @@ ordered_spider new q here before after plain within fresh at gate ranks low high
     same : (w : ℕ) → rank_in after.ranks w ≡ rank w
     same w = ranks w ∙ ap (λ v. ranked v before.high (rank_in before.ranks) w) (sym (present_is before.graph.outputs q here at))
 
--- a phase, and Cz: all ranks stay. Any free id serves, for no vertex comes.
-module _ (new : ℕ) (before : Ordered) (h : Graph) (plain : are_plain before.graph.outputs ≡ true) (fresh : IsFree new before.graph) where
-  pub ordered_phase : (q k : ℕ) → q < length before.graph.outputs → k ≢ 0 → h ≡ placed 0 before.graph (Phase q k) → IsOrdered before →
-      IsOrdered (record before { graph = h })
-  ordered_phase q k within turns gate o = record {
-    well_formed = subst WellFormed (sym gate) (placed_formed new before.graph o.well_formed fresh plain (Phase q k) (within, turns));
-    bounds = o.bounds;
-    flow = subst (λ g. HasFlowBy g (rank_in before.ranks) before.low before.high) (sym gate)
-        (phase_ranked new before.graph o.well_formed fresh plain (rank_in before.ranks) before.low before.high o.flow q k);
-  }
+-- a gate that adds no vertex
+abbrev pub AddsNone : Gate → Type 0
+AddsNone (Phase q k) = Unit {0}
+AddsNone (Cz p q) = Unit {0}
+AddsNone other = ⊥
 
-  pub ordered_edge : (p q : ℕ) → IsOnQubits (length before.graph.outputs) (Cz p q) → h ≡ placed 0 before.graph (Cz p q) → IsOrdered before →
-      IsOrdered (record before { graph = h })
-  ordered_edge p q on gate o = record {
-    well_formed = subst WellFormed (sym gate) (placed_formed new before.graph o.well_formed fresh plain (Cz p q) on);
-    bounds = o.bounds;
-    flow = subst (λ g. HasFlowBy g (rank_in before.ranks) before.low before.high) (sym gate)
-        (edge_ranked new before.graph o.well_formed fresh plain (rank_in before.ranks) before.low before.high o.flow p q on);
-  }
+-- so it is put behind a graph whatever id the next one gets
+pub placed_still : (new : ℕ) (g : Graph) (gate : Gate) → AddsNone gate → placed 0 g gate ≡ placed new g gate
+placed_still new g (Phase q k) none = refl
+placed_still new g (Cz p q) none = refl
+placed_still new g (H q) none = absurd none
+placed_still new g (Cx p q) none = absurd none
+placed_still new g (Not q) none = absurd none
+
+-- a phase, and Cz: all ranks stay
+pub ordered_gate : (gate : Gate) → AddsNone gate → (before : Ordered) (h : Graph) → are_plain before.graph.outputs ≡ true →
+    IsOnQubits (length before.graph.outputs) gate → h ≡ placed 0 before.graph gate → IsOrdered before → IsOrdered (record before { graph = h })
+ordered_gate gate none before h plain on is o = record {
+  well_formed = subst WellFormed (sym (is ∙ placed_still new before.graph gate none)) (placed_formed new before.graph o.well_formed fresh plain gate on);
+  bounds = o.bounds;
+  flow = subst (λ g. HasFlowBy g (rank_in before.ranks) before.low before.high) (sym is) (ranked_still gate none on);
+}
+  where
+    -- no vertex comes: any free id serves
+    new : ℕ
+    new = least_free (ids before.graph.vertices)
+
+    fresh : IsFree new before.graph
+    fresh = least_free-fresh (ids before.graph.vertices) o.well_formed.vertices_rising
+
+    ranked_still : (k : Gate) → AddsNone k → IsOnQubits (length before.graph.outputs) k →
+        HasFlowBy (placed 0 before.graph k) (rank_in before.ranks) before.low before.high
+    ranked_still (Phase q k) n at = phase_ranked new before.graph o.well_formed fresh plain (rank_in before.ranks) before.low before.high o.flow q k
+    ranked_still (Cz p q) n at = edge_ranked new before.graph o.well_formed fresh plain (rank_in before.ranks) before.low before.high o.flow p q at
+    ranked_still (H q) n at = absurd n
+    ranked_still (Cx p q) n at = absurd n
+    ranked_still (Not q) n at = absurd n
+
+-- what a struct holds is what is seen of it
+module _ (inside seen : Ordered) (is : inside ≡ seen) where
+  pub there_inside : (q u : ℕ) → WellFormed seen.graph → HasPlainOutput seen.graph q u → Live inside.graph u
+  there_inside q u w at = subst (λ (o : Ordered). Live o.graph u) (sym is) (here_live seen.graph q u w at)
+
+  pub gate_inside : (gate : Gate) → AddsNone gate → (h : Graph) → are_plain seen.graph.outputs ≡ true → IsOnQubits (length seen.graph.outputs) gate →
+      h ≡ placed 0 seen.graph gate → IsOrdered seen → IsOrdered (record inside { graph = h })
+  gate_inside gate none h plain on gate_is o =
+      subst (λ (p : Ordered). IsOrdered (record p { graph = h })) (sym is) (ordered_gate gate none seen h plain on gate_is o)
 
 -- a step that splits nothing
 pub ordered_step : (before : Ordered) (h : Graph) (s : Step) → WellFormed h → is_split s ≡ false → IsStep before.graph s h → IsOrdered before →

@@ -1,5 +1,5 @@
 mod AppliedSteps
-mod SearchTests
+pub mod SearchTests
 mod SearchPairs
 mod SearchKinds
 mod SearchLaws

@@ -1,5 +1,5 @@
 -- The steps of a move, done one after the other, and moves one after the other.
-use Rattle.std.proofs.Common.{Result, Ok, Err, OnOk, IfOk, ◌≡◌, refl, sym, ◌∙◌, ap, subst, ℕ, suc, ◌+◌, ◌*◌, ◌<◌, ◌≤◌, true, List, [], ◌∷◌, ◌++◌, length, map, take, drop, get_or, append_assoc, length-append, add-zero, drop-cons, arith}
+use Rattle.std.proofs.Common.{◌≡◌, refl, sym, ◌∙◌, ap, subst, ℕ, suc, ◌+◌, ◌*◌, ◌<◌, ◌≤◌, true, List, [], ◌∷◌, ◌++◌, length, map, take, drop, get_or, append_assoc, length-append, add-zero, drop-cons, arith}
 use Rattle.std.proofs.Math.Seq.{take-suc}
 use Rattle.std.proofs.lemmas.List.{append-nil, length-map, map-append, take_all}
 use Rattle.zx_calculus.specs.Graph.{Graph, WellFormed}
@@ -155,16 +155,6 @@ module _ {g h : Graph} {before after : List Step} {start now : ℕ} (gains : Gai
   gained_keeps table w flow =
       run_keeps g (map step_named gains.gained) h table w
       (AreMoves-run g gains.count (map step_named gains.gained) h gains.moves) flow
-
--- what follows of gained moves, where so many were made
-module _ {T E : Type 0} {P : T → Type 0} where
-  pub on_gains : {Q : Type 0} (r : Result T E) → IfOk r P → ((made : T) → P made → Q) → OnOk r Q
-  on_gains (Ok made) gains f = f made gains
-  on_gains (Err e) gains f = tt
-
-  pub if_gains : {Q : T → Type 0} (r : Result T E) → IfOk r P → ((made : T) → P made → Q made) → IfOk r Q
-  if_gains (Ok made) gains f = f made gains
-  if_gains (Err e) gains f = tt
 
 -- moves that are counted once all of them are made
 pub counted_later : {g h : Graph} {before after : List Step} {start now moves : ℕ} → now ≡ start + moves →

@@ -1,5 +1,5 @@
 -- No step loses room.
-use Rattle.std.proofs.Common.{Result, Ok, Err, OnErr, ◌≡◌, ◌∙◌, ap, ℕ, suc, ◌+◌, ◌≤◌, List, [], ◌∷◌, length, length-append, arith}
+use Rattle.std.proofs.Common.{◌≡◌, ◌∙◌, ap, ℕ, suc, ◌+◌, ◌≤◌, List, [], ◌∷◌, length, length-append, arith}
 use Rattle.zx_model.specs.Bits.{one_if, member}
 use Rattle.zx_calculus.specs.Graph.{Graph, Distinct, WellFormed}
 use Rattle.zx_calculus.specs.Splits.{new_vertex}
@@ -16,9 +16,10 @@ use Rattle.gflow_laws.proofs.Tables.{order_of-with_sets, order_of-without_set, o
 use Rattle.move_laws.specs.Demand.{taken_out}
 use Rattle.move_laws.specs.Orders.{is_split}
 use Rattle.open_graph.specs.OpenGraph.{OpenGraph}
+use Rattle.open_graph.specs.Rooms.{Room, IsLeft, IsAtLeast}
 use Rattle.zx_flow.specs.Flows.{Flow}
 use Rattle.zx_reduce.specs.Traces.{Trace}
-use Rattle.zx_reduce.specs.Rooms.{UsesPlaces, KeepPlaces, KeepRoom}
+use Rattle.zx_reduce.specs.Rooms.{UsesPlaces, in_all, KeepPlaces, KeepRoom}
 use Rattle.zx_reduce.proofs.RoomLemmas.{size_after}
 
 -- ---- the order of a flow after a step
@@ -66,34 +67,43 @@ order_size g (FuseInto u) table d = removal_size u table d
 order_size g (FuseTwin u v) table d = removal_size v table d
 
 -- ---- graph and flow
-pub places_same : (g : OpenGraph) (f : Flow) → KeepPlaces g f g f
-places_same g f = record { places = omega arith; flow_places = omega arith; reach = omega arith; flow_reach = omega arith }
+at_least : {a b c : Room} → IsAtLeast a b → IsAtLeast b c → IsAtLeast a c
+at_least p q = record { spare = omega (arith, p.spare, q.spare); reach = omega (arith, p.reach, q.reach) }
 
-pub places_then : {g h k : OpenGraph} {f e d : Flow} → KeepPlaces g f h e → KeepPlaces h e k d → KeepPlaces g f k d
-places_then first second = record {
-  places = omega (arith, first.places, second.places);
-  flow_places = omega (arith, first.flow_places, second.flow_places);
-  reach = omega (arith, first.reach, second.reach);
-  flow_reach = omega (arith, first.flow_reach, second.flow_reach);
+pub places_same : (g : OpenGraph) (f : Flow) → KeepPlaces g f g f
+places_same g f = record {
+  graph = record { spare = omega arith; reach = omega arith };
+  flow = record { spare = omega arith; reach = omega arith };
 }
 
+pub places_then : {g h k : OpenGraph} {f e d : Flow} → KeepPlaces g f h e → KeepPlaces h e k d → KeepPlaces g f k d
+places_then first second = record { graph = at_least first.graph second.graph; flow = at_least first.flow second.flow }
+
 -- so many are used as come, and as many given back as go
-uses_as_come : (a b n m used back : ℕ) → a + back ≤ b + used → n + used ≤ m + back → a + n ≤ b + m
-uses_as_come a b n m used back e f = omega (arith, e, f)
+as_come : (s : Step) {old new : Room} (n m : ℕ) → UsesPlaces s old new → n + one_if (is_split s) ≤ m + taken_out s → IsAtLeast (in_all n old) (in_all m new)
+as_come s n m uses sizes = record { spare = omega (arith, uses.spare, sizes); reach = omega (arith, uses.reach) }
 
 pub step_keeps_places : {g h : OpenGraph} {f k : Flow} (s : Step) → WellFormed g.graph → IsFlow g.graph f.flow →
-    IsRewritten g.graph f.flow s h.graph k.flow → UsesPlaces s g f h k → KeepPlaces g f h k
+    IsRewritten g.graph f.flow s h.graph k.flow → UsesPlaces s g.room h.room × UsesPlaces s f.room k.room → KeepPlaces g f h k
 step_keeps_places {g} {h} {f} {k} s valid flow done uses =
     let size = size_after g.graph s h.graph valid done.step in
     let order = order_size g.graph s f.flow (Distinct-different (order_of f.flow) flow.is_table.each_once) in
     let after = ap length done.table.order in
     record {
-      places = uses_as_come g.spare h.spare (length g.graph.vertices) (length h.graph.vertices) (one_if (is_split s)) (taken_out s)
-          uses.places (omega (arith, size));
-      flow_places = uses_as_come f.spare k.spare (length (order_of f.flow)) (length (order_of k.flow)) (one_if (is_split s)) (taken_out s)
-          uses.flow_places (omega (arith, order, after));
-      reach = omega (arith, uses.reach);
-      flow_reach = omega (arith, uses.flow_reach);
+      graph = as_come s (length g.graph.vertices) (length h.graph.vertices) uses.0 (omega (arith, size));
+      flow = as_come s (length (order_of f.flow)) (length (order_of k.flow)) uses.1 (omega (arith, order, after));
+    }
+
+-- where memory ran out
+pub err_keeps : {g h : OpenGraph} {f k : Flow} → (h.graph ≡ g.graph) × (k.flow ≡ f.flow) → (h.room ≡ g.room) × IsLeft f.room k.room → KeepPlaces g f h k
+err_keeps same rooms =
+    let vertices = ap (λ (x : Graph). length x.vertices) same.0 in
+    let order = ap (λ (t : List Correction). length (order_of t)) same.1 in
+    let spare = ap (λ (r : Room). r.spare) rooms.0 in
+    let reach = ap (λ (r : Room). r.reach) rooms.0 in
+    record {
+      graph = record { spare = omega (arith, vertices, spare); reach = omega (arith, reach) };
+      flow = record { spare = omega (arith, order, rooms.1.spare); reach = omega (arith, rooms.1.reach) };
     }
 
 -- ---- with the trace
@@ -105,17 +115,3 @@ room_then first second = record {
   places = places_then first.places second.places;
   steps = omega (arith, first.steps, second.steps);
 }
-
--- where memory ran out
-pub err_keeps : {T E : Type 0} (g h : OpenGraph) (f k : Flow) (r : Result T E) → OnErr r ((h.graph ≡ g.graph) × (k.flow ≡ f.flow)) →
-    OnErr r ((h.spare ≡ g.spare) × (f.spare ≤ k.spare)) → (h.reach ≡ g.reach) × (k.reach ≡ f.reach) → OnErr r (KeepPlaces g f h k)
-err_keeps g h f k (Ok v) same spare reach = tt
-err_keeps g h f k (Err e) same spare reach =
-    let vertices = ap (λ (x : Graph). length x.vertices) same.0 in
-    let order = ap (λ (t : List Correction). length (order_of t)) same.1 in
-    record {
-      places = omega (arith, vertices, spare.0);
-      flow_places = omega (arith, order, spare.1);
-      reach = omega (arith, reach.0);
-      flow_reach = omega (arith, reach.1);
-    }

@@ -1,5 +1,5 @@
 -- Room for steps, and what is left of it after them.
-use Rattle.std.proofs.Common.{◌≡◌, refl, sym, ◌∙◌, ap, subst, ℕ, suc, ◌+◌, ◌-◌, ◌*◌, ◌<◌, ◌≤◌, true, List, [], ◌∷◌, length, arith}
+use Rattle.std.proofs.Common.{◌≡◌, refl, sym, ◌∙◌, ap, subst, ℕ, suc, ◌+◌, ◌*◌, ◌<◌, ◌≤◌, true, List, [], ◌∷◌, length, arith}
 use Rattle.zx_model.specs.Bits.{one_if}
 use Rattle.zx_bits.specs.Sets.{IsBelow}
 use Rattle.zx_calculus.specs.Graph.{XY, Graph, Vertex, ids, with_kinds, without, insert_vertex, plane_of, Live, WellFormed}
@@ -13,10 +13,11 @@ use Rattle.move_laws.specs.Demand.{demand, taken_out}
 use Rattle.move_laws.specs.Orders.{is_split}
 use Rattle.move_laws.proofs.DemandLemmas.{new_within, kept_below}
 use Rattle.open_graph.specs.OpenGraph.{OpenGraph}
+use Rattle.open_graph.specs.Rooms.{Room, without_place, with_place, IsLeft, IsAtLeast}
 use Rattle.zx_flow.specs.Flows.{Flow, HavePlace}
 use Rattle.zx_reduce.specs.Moving.{most_moves}
 use Rattle.zx_reduce.specs.Traces.{Trace}
-use Rattle.zx_reduce.specs.Rooms.{HaveRoomFor, UsesPlaces, AreReserved, HasRoom}
+use Rattle.zx_reduce.specs.Rooms.{HaveRoomFor, UsesPlaces, in_all, room_for, AreReserved, room_needed, HasRoom}
 use Rattle.zx_reduce.specs.Internal.Rooms.{HavePlaces}
 use Rattle.zx_reduce.proofs.DemandMoves.{demand_at_most}
 use Rattle.zx_reduce.proofs.MoveCounts.{not_XY-none}
@@ -71,98 +72,84 @@ size_after g (FuseTwin u v) h w c = changed_gone g h v _ w c.there_too c.vertice
 some_left : (n spare size : ℕ) → n ≤ spare + size → size < n → 0 < spare
 some_left n spare size e f = omega arith
 
+as_many : (n a b l m t p : ℕ) → n ≤ a + l → a + t ≤ b + p → m + t ≡ l + p → n ≤ b + m
+as_many n a b l m t p e f g = omega arith
+
 module _ (n : ℕ) (g : OpenGraph) (f : Flow) (w : WellFormed g.graph) (places : HavePlaces n g f) (few : length g.graph.vertices < n) where
   have_place : HavePlace g f
   have_place =
       let new = new_within g.graph w in
       record {
-        place = some_left n g.spare (length g.graph.vertices) places.places few;
-        flow_place = some_left n f.spare (length g.graph.vertices) places.flow_places few;
-        below = omega (arith, new, few, places.ids);
-        flow_below = omega (arith, new, few, places.flow_ids);
+        place = some_left n g.room.spare (length g.graph.vertices) places.graph.spare few;
+        flow_place = some_left n f.room.spare (length g.graph.vertices) places.flow.spare few;
+        below = omega (arith, new, few, places.graph.reach);
+        flow_below = omega (arith, new, few, places.flow.reach);
         reach = places.reach;
       }
 
   -- a step finds what it needs
-  pub room_for : (s : Step) → HaveRoomFor s g f
-  room_for (LocalComplement u) = places.reach
-  room_for (Delete u) = places.reach
-  room_for (Pivot u v) = places.reach
-  room_for (SplitInput b) = have_place
-  room_for (SplitOutput b) = have_place
-  room_for (DropLone u) = places.reach
-  room_for (FuseInto u) = places.reach
-  room_for (FuseTwin u v) = places.reach
+  pub room_of_step : (s : Step) → HaveRoomFor s g f
+  room_of_step (LocalComplement u) = places.reach
+  room_of_step (Delete u) = places.reach
+  room_of_step (Pivot u v) = places.reach
+  room_of_step (SplitInput b) = have_place
+  room_of_step (SplitOutput b) = have_place
+  room_of_step (DropLone u) = places.reach
+  room_of_step (FuseInto u) = places.reach
+  room_of_step (FuseTwin u v) = places.reach
 
   -- and leaves as many places
-  pub places_after : (s : Step) (h : OpenGraph) (k : Flow) → IsStep g.graph s h.graph → UsesPlaces s g f h k → HavePlaces n h k
-  places_after s h k step uses =
-      let size = size_after g.graph s h.graph w step in
-      record {
-        places = as_many n g.spare h.spare (length g.graph.vertices) (length h.graph.vertices) (taken_out s) (one_if (is_split s))
-            places.places uses.places size;
-        flow_places = as_many n f.spare k.spare (length g.graph.vertices) (length h.graph.vertices) (taken_out s) (one_if (is_split s))
-            places.flow_places uses.flow_places size;
-        ids = subst (λ r. n ≤ r) (sym uses.reach) places.ids;
-        flow_ids = subst (λ r. n ≤ r) (sym uses.flow_reach) places.flow_ids;
-        reach = (
-          subst (λ r. IsBelow r (ids h.graph.vertices)) (sym uses.reach)
-              (kept_below g.graph s h.graph g.reach w step (omega (arith, few, places.ids)) places.reach.0),
-          subst (λ r. IsBelow r (ids h.graph.vertices)) (sym uses.flow_reach)
-              (kept_below g.graph s h.graph f.reach w step (omega (arith, few, places.flow_ids)) places.reach.1),
-        );
-      }
+  pub places_after : (s : Step) (h : OpenGraph) (k : Flow) → IsStep g.graph s h.graph →
+      UsesPlaces s g.room h.room × UsesPlaces s f.room k.room → HavePlaces n h k
+  places_after s h k step uses = record {
+    graph = left uses.0 places.graph;
+    flow = left uses.1 places.flow;
+    reach = (below uses.0 places.graph.reach places.reach.0, below uses.1 places.flow.reach places.reach.1);
+  }
     where
-      as_many : (n a b l m t p : ℕ) → n ≤ a + l → a + t ≤ b + p → m + t ≡ l + p → n ≤ b + m
-      as_many n a b l m t p e f g = omega arith
+      left : {old new : Room} → UsesPlaces s old new → IsAtLeast (room_for n) (in_all (length g.graph.vertices) old) →
+          IsAtLeast (room_for n) (in_all (length h.graph.vertices) new)
+      left {old} {new} used there = record {
+        spare = as_many n old.spare new.spare (length g.graph.vertices) (length h.graph.vertices) (taken_out s) (one_if (is_split s))
+            there.spare used.spare (size_after g.graph s h.graph w step);
+        reach = subst (λ r. n ≤ r) (sym used.reach) there.reach;
+      }
+
+      below : {old new : Room} → UsesPlaces s old new → n ≤ old.reach → IsBelow old.reach (ids g.graph.vertices) → IsBelow new.reach (ids h.graph.vertices)
+      below {old} used enough all =
+          subst (λ r. IsBelow r (ids h.graph.vertices)) (sym used.reach)
+          (kept_below g.graph s h.graph old.reach w step (omega (arith, few, enough)) all)
 
 -- ---- how many places a step uses
-module _ {g h : OpenGraph} {f k : Flow} (s : Step) (reach : (h.reach ≡ g.reach) × (k.reach ≡ f.reach)) where
-  pub none_used : taken_out s ≡ 0 → (h.spare ≡ g.spare) × (k.spare ≡ f.spare) → UsesPlaces s g f h k
-  none_used none spare = record {
-    places = kept _ _ _ _ spare.0 none;
-    flow_places = kept _ _ _ _ spare.1 none;
-    reach = reach.0;
-    flow_reach = reach.1;
-  }
+module _ (s : Step) {g h f k : Room} where
+  pub none_used : taken_out s ≡ 0 → (h ≡ g) × (k ≡ f) → UsesPlaces s g h × UsesPlaces s f k
+  none_used none same = (still same.0, still same.1)
     where
-      kept : (a b t p : ℕ) → b ≡ a → t ≡ 0 → a + t ≤ b + p
-      kept a b t p e z = omega arith
+      still : {a b : Room} → b ≡ a → UsesPlaces s a b
+      still e = let spare = ap (λ (r : Room). r.spare) e in record { spare = omega (arith, spare, none); reach = ap (λ (r : Room). r.reach) e }
 
-  pub one_back : taken_out s ≡ 1 → (h.spare ≡ g.spare + 1) × (k.spare ≡ f.spare + 1) → UsesPlaces s g f h k
-  one_back one spare = record {
-    places = more _ _ _ _ spare.0 one;
-    flow_places = more _ _ _ _ spare.1 one;
-    reach = reach.0;
-    flow_reach = reach.1;
-  }
+  pub one_back : taken_out s ≡ 1 → (h ≡ with_place g) × (k ≡ with_place f) → UsesPlaces s g h × UsesPlaces s f k
+  one_back one same = (more same.0, more same.1)
     where
-      more : (a b t p : ℕ) → b ≡ a + 1 → t ≡ 1 → a + t ≤ b + p
-      more a b t p e z = omega arith
+      more : {a b : Room} → b ≡ with_place a → UsesPlaces s a b
+      more e = let spare = ap (λ (r : Room). r.spare) e in record { spare = omega (arith, spare, one); reach = ap (λ (r : Room). r.reach) e }
 
-  pub one_used : taken_out s ≡ 0 → one_if (is_split s) ≡ 1 → (h.spare ≡ g.spare - 1) × (f.spare ≤ k.spare + 1) →
-      UsesPlaces s g f h k
-  one_used none split spare = record {
-    places = fewer _ _ _ _ spare.0 none split;
-    flow_places = at_most _ _ _ _ spare.1 none split;
-    reach = reach.0;
-    flow_reach = reach.1;
-  }
+  pub one_used : taken_out s ≡ 0 → one_if (is_split s) ≡ 1 → (h ≡ without_place g) × IsLeft (without_place f) k →
+      UsesPlaces s g h × UsesPlaces s f k
+  one_used none split left = (fewer (same_left left.0), fewer left.1)
     where
-      fewer : (a b t p : ℕ) → b ≡ a - 1 → t ≡ 0 → p ≡ 1 → a + t ≤ b + p
-      fewer a b t p e z o = omega arith
+      same_left : {a b : Room} → b ≡ a → IsLeft a b
+      same_left e = let spare = ap (λ (r : Room). r.spare) e in record { spare = omega (arith, spare); reach = ap (λ (r : Room). r.reach) e }
 
-      at_most : (a b t p : ℕ) → a ≤ b + 1 → t ≡ 0 → p ≡ 1 → a + t ≤ b + p
-      at_most a b t p e z o = omega arith
+      fewer : {a b : Room} → IsLeft (without_place a) b → UsesPlaces s a b
+      fewer l = let spare = l.spare in record { spare = omega (arith, spare, none, split); reach = l.reach }
 
 -- ---- the room that simplification begins with
 module _ (g : OpenGraph) (f : Flow) (trace : Trace) (w : WellFormed g.graph) (room : HasRoom g f trace) where
   pub begins_with_places : HavePlaces (length g.graph.vertices + length g.graph.inputs + 2) g f
   begins_with_places = record {
-    places = omega (arith, room.places);
-    flow_places = omega (arith, room.flow_places);
-    ids = room.ids;
-    flow_ids = room.flow_ids;
+    graph = record { spare = omega (arith, room.graph.spare); reach = room.graph.reach };
+    flow = record { spare = omega (arith, room.flow.spare); reach = room.flow.reach };
     reach = room.reach;
   }
 
@@ -182,13 +169,14 @@ pub room_reserved : (g : OpenGraph) (f : Flow) (trace : Trace) → WellFormed g.
 room_reserved g f trace w planes numbered taken steps =
     let none = not_XY-none g.graph w planes in
     record {
-      places = omega (arith, taken.places);
-      flow_places = omega (arith, taken.flow_places);
-      ids = omega (arith, taken.ids);
-      flow_ids = omega (arith, taken.flow_ids);
+      graph = enough taken.graph;
+      flow = enough taken.flow;
       reach = (
-        λ v there. let lower = numbered v there in omega (arith, lower, taken.ids),
-        λ v there. let lower = numbered v there in omega (arith, lower, taken.flow_ids),
+        λ v there. let lower = numbered v there in omega (arith, lower, taken.graph.reach),
+        λ v there. let lower = numbered v there in omega (arith, lower, taken.flow.reach),
       );
       steps = omega (arith, none, steps);
     }
+  where
+    enough : {room : Room} → IsAtLeast (room_for (length g.graph.vertices + 2 * length g.graph.inputs + 2)) room → IsAtLeast (room_needed g.graph) room
+    enough r = record { spare = omega (arith, r.spare); reach = omega (arith, r.reach) }

@@ -7,18 +7,19 @@ use Rattle.zx_model.proofs.Scalars.{scaled_refl, scaled_trans, within_product, w
 use Rattle.zx_calculus.specs.Graph.{Graph, WellFormed}
 use Rattle.zx_calculus.specs.Sum.{sum}
 use Rattle.zx_calculus.specs.Steps.{Step, IsStep, IsRun}
-use Rattle.zx_calculus.specs.StepScalars.{step_scalar, most_vertices}
+use Rattle.zx_calculus.specs.StepScalars.{step_scalar}
 use Rattle.zx_calculus.proofs.Steps.{step_sum, inputs_kept, outputs_kept}
 use Rattle.zx_calculus.proofs.StepScalars.{step_scaled, step_within}
 use Rattle.zx_calculus.specs.Graph.{Vertex, is_XY}
 use Rattle.zx_calculus.proofs.ReducedLemmas.{counts_within}
 use Rattle.zx_reduce.specs.declared.step.Step.{Step as TraceStep}
 use Rattle.gflow_laws.specs.Flow.{Correction, IsFlow}
-use Rattle.zx_calculus.specs.Reduced.{IsReduced}
+use Rattle.open_graph.specs.OpenGraph.{most_vertices_in_memory}
 use Rattle.zx_reduce.specs.Moving.{most_moves, steps_of, AreMoves, GainsMoves}
 use Rattle.zx_reduce.specs.Reducing.{Reduces}
 use Rattle.zx_reduce.specs.Scaling.{most_exponent}
-use Rattle.zx_reduce.specs.Internal.Scaling.{Scales}
+use Rattle.zx_reduce.specs.Internal.Scaling.{Scales, IsMade}
+use Rattle.zx_reduce.specs.declared.reduction.Made.{Made}
 use Rattle.zx_reduce.specs.declared.moves.Move.{Move}
 use Rattle.zx_reduce.specs.Steps.{step_named}
 use Rattle.zx_reduce.proofs.MovesMade.{gained_few_moves, gained_few_steps, gained_ends, gained_keeps}
@@ -78,13 +79,13 @@ few_made {g} {made = made} gains w = few made (most_moves g) (length g.vertices)
     few made moves n a b = omega (arith, a, b)
 
 -- so many moves are made, and one more is multiplied in
-pub one_more_fits : {g h : Graph} {before after : List TraceStep} {start now : ℕ} (s t : Scalar) → GainsMoves g h before after start now → WellFormed g → length g.vertices < most_vertices →
+pub one_more_fits : {g h : Graph} {before after : List TraceStep} {start now : ℕ} (s t : Scalar) → GainsMoves g h before after start now → WellFormed g → length g.vertices ≤ most_vertices_in_memory →
     IsWithin (12 * (now - start)) s → IsWithin 12 t → IsWithin most_root2 (product_of_scalars s t)
 one_more_fits {g} {start = start} {now = now} s t gains w few p q =
     within_more (12 * (now - start) + 12) most_root2 (product_of_scalars s t) (within_product (12 * (now - start)) 12 s t p q)
     (fits start now (most_moves g) (length g.vertices) (gained_few_moves gains w) (most_moves-few g w) few)
   where
-    fits : (start now moves n : ℕ) → now ≤ start + moves → moves ≤ 3 * n → n < most_vertices → 12 * (now - start) + 12 ≤ most_root2
+    fits : (start now moves n : ℕ) → now ≤ start + moves → moves ≤ 3 * n → n ≤ most_vertices_in_memory → 12 * (now - start) + 12 ≤ most_root2
     fits start now moves n a b c = omega (arith, a, b, c)
 
 pub one_more_scales : {g k h : Graph} {before after : List TraceStep} {start now ticked : ℕ} {s t r : Scalar} → GainsMoves g k before after start now →
@@ -105,25 +106,26 @@ all_scale {g} {start = start} {now = now} gains w p =
     few start now moves n a b = omega (arith, a, b)
 
 -- what all moves come to, from a graph on, with a trace that began empty
-pub all_reduced : (g h : Graph) (table found : List Correction) (steps : List TraceStep) (moves : ℕ) (s : Scalar) → WellFormed g → IsFlow g table
-    → GainsMoves g h [] steps 0 moves → IsReduced h → IsFlow h found → Scales g (most_exponent g) s h → Reduces g h found steps s
-all_reduced g h table found steps moves s w flow gains reduced found_flow scales =
+pub all_reduced : {g h : Graph} {found : List Correction} {steps : List TraceStep} {made : Made} (table : List Correction) → WellFormed g → IsFlow g table
+    → IsMade g [] made h found steps → Reduces g h found steps made.scalar
+all_reduced {g} {h} {steps = steps} {made = made} table w flow all =
+    let gains = all.moves in
     let kept = gained_keeps gains table w flow in
     record {
       count = gains.count;
       moves = subst (λ (xs : List TraceStep). AreMoves g gains.count (map step_named xs) h) (sym gains.trace) gains.moves;
       run = subst (λ (xs : List TraceStep). IsRun g (map step_named xs) h) (sym gains.trace)
           (AreMoves-run g gains.count (map step_named gains.gained) h gains.moves);
-      reduced = reduced;
+      reduced = all.reduced;
       well_formed = kept.well_formed;
       map = kept.proportional;
-      scalar = scales.sum;
-      small = scales.small;
-      flow = found_flow;
+      scalar = all.scalar.sum;
+      small = all.scalar.small;
+      flow = all.flow;
       odd = kept.no_more_odd;
       inputs = (gained_ends gains).0;
       outputs = (gained_ends gains).1;
-      few_steps = few (length steps) moves (most_moves g) (length g.vertices) (gained_few_steps gains) (gained_few_moves gains w) (most_moves-few g w);
+      few_steps = few (length steps) made.moves (most_moves g) (length g.vertices) (gained_few_steps gains) (gained_few_moves gains w) (most_moves-few g w);
     }
   where
     few : (steps moves most n : ℕ) → steps + 6 * 0 ≤ 0 + 6 * moves → moves ≤ 0 + most → most ≤ 3 * n → steps ≤ 18 * n

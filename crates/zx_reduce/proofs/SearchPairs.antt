@@ -1,5 +1,5 @@
 -- Moves of two vertices: what is found beside a vertex, and where nothing is.
-use Rattle.std.proofs.Common.{Some, None, Bool, ltb, ◌≡◌, refl, sym, ◌∙◌, ap, subst, ℕ, true, false, not, ◌&&◌, eqb, List, [], ◌∷◌, nat_eq, slice_get, true≢false, ne_eqb}
+use Rattle.std.proofs.Common.{Option, Some, None, IfSome, IfNone, Bool, ltb, ◌≡◌, refl, sym, ◌∙◌, ap, subst, ℕ, true, false, not, ◌&&◌, eqb, List, [], ◌∷◌, nat_eq, slice_get, true≢false, ne_eqb}
 use Rattle.std.specs.List.{find}
 use Rattle.std.specs.Cmp.Lexicographic.{pointwise}
 use Rattle.std.proofs.lemmas.Bool.{eqb-false}
@@ -16,7 +16,11 @@ use Rattle.zx_calculus.proofs.Kept.{both}
 use Rattle.zx_calculus.proofs.Splitting.{plane_YZ}
 use Rattle.zx_calculus.proofs.Results.{interior_from, interior_true}
 use Rattle.zx_calculus.proofs.TwinTests.{equal_lists, lists_equal}
-use Rattle.zx_reduce.specs.Internal.Searching.{is_twin}
+use Rattle.move_laws.specs.Candidates.{IsPlaceOf}
+use Rattle.zx_reduce.specs.declared.moves.Kind.{Kind}
+use Rattle.zx_reduce.specs.declared.moves.Kind.TheVariants as kinds
+use Rattle.zx_reduce.specs.Internal.Guiding.{place_kind}
+use Rattle.zx_reduce.specs.Internal.Searching.{is_twin, MayBegin, NoneAt}
 use Rattle.zx_reduce.proofs.SearchTests.{live_near, joined_near, near_joined, find-some, find-none}
 
 first-member : (xs : List ℕ) (v : ℕ) → slice_get xs 0 ≡ Some v → member v xs ≡ true
@@ -41,7 +45,7 @@ module _ (g : Graph) (w : WellFormed g) (u : ℕ) where
   gadget_to : (v : ℕ) → Live g v → plane_of g v ≡ YZ → is_gadget g v ≡ true
   gadget_to v there plane = both (member v (ids g.vertices)) (is_YZ (plane_of g v)) there (ap is_YZ plane)
 
-  gadget_live : (v : ℕ) → is_gadget g v ≡ true → Live g v
+  pub gadget_live : (v : ℕ) → is_gadget g v ≡ true → Live g v
   gadget_live v h = and-left (member v (ids g.vertices)) (is_YZ (plane_of g v)) h
 
   gadget_YZ : (v : ℕ) → is_gadget g v ≡ true → plane_of g v ≡ YZ
@@ -68,6 +72,16 @@ module _ (g : Graph) (w : WellFormed g) (u : ℕ) where
   pub boundary_alone : slice_get (neighbours g u) 0 ≡ None → (v : ℕ) → ¬ IsBoundaryPivot g u v
   boundary_alone none v a = true≢false (sym (near_joined g w u v a.adjacent) ∙ ap (member v) (first-none (neighbours g u) none))
 
+  -- the first neighbour, where all have ends
+  pub boundary_where : (r : Option ℕ) → ((v : ℕ) → member v (neighbours g u) ≡ true → may_complement g v ≡ false) → IsHalfSpider g u →
+      r ≡ slice_get (neighbours g u) 0 → IfSome r (IsBoundaryPivot g u)
+  boundary_where None none half e = tt
+  boundary_where (Some v) none half e = boundary_found v half none (sym e)
+
+  pub boundary_nowhere : (r : Option ℕ) → r ≡ slice_get (neighbours g u) 0 → IfNone r ((v : ℕ) → ¬ IsBoundaryPivot g u v)
+  boundary_nowhere None e = boundary_alone (sym e)
+  boundary_nowhere (Some v) e = tt
+
   -- ---- gadgets
   pub pair_found : (v : ℕ) → is_gadget g u ≡ true → find (is_gadget g) (neighbours g u) ≡ Some v → IsGadgetPair g u v
   pair_found v h e =
@@ -85,8 +99,7 @@ module _ (g : Graph) (w : WellFormed g) (u : ℕ) where
 
   pub twins_found : (near v : ℕ) → is_gadget g u ≡ true → find (is_twin g u) (neighbours g near) ≡ Some v → AreTwins g u v
   twins_found near v h e =
-      let at = (find-some (is_twin g u) (neighbours g near) v e).1 in
-      let rest = and-right (member v (ids g.vertices)) (not (eqb v u) && (is_gadget g v && pointwise nat_eq (neighbours g v) (neighbours g u))) at in
+      let rest = (find-some (is_twin g u) (neighbours g near) v e).1 in
       let alike = and-right (not (eqb v u)) (is_gadget g v && pointwise nat_eq (neighbours g v) (neighbours g u)) rest in
       let gadget = and-left (is_gadget g v) (pointwise nat_eq (neighbours g v) (neighbours g u)) alike in
       record {
@@ -100,9 +113,8 @@ module _ (g : Graph) (w : WellFormed g) (u : ℕ) where
 
   twin_to : (v : ℕ) → AreTwins g u v → is_twin g u v ≡ true
   twin_to v a =
-      both (member v (ids g.vertices)) (not (eqb v u) && (is_gadget g v && pointwise nat_eq (neighbours g v) (neighbours g u))) a.there_too
-      (both (not (eqb v u)) (is_gadget g v && pointwise nat_eq (neighbours g v) (neighbours g u)) (ap not (ne_eqb v u (λ e. a.different (sym e))))
-      (both (is_gadget g v) (pointwise nat_eq (neighbours g v) (neighbours g u)) (gadget_to v a.there_too a.plane_too) (lists_equal (neighbours g v) (neighbours g u) (sym a.equal_neighbours))))
+      both (not (eqb v u)) (is_gadget g v && pointwise nat_eq (neighbours g v) (neighbours g u)) (ap not (ne_eqb v u (λ e. a.different (sym e))))
+      (both (is_gadget g v) (pointwise nat_eq (neighbours g v) (neighbours g u)) (gadget_to v a.there_too a.plane_too) (lists_equal (neighbours g v) (neighbours g u) (sym a.equal_neighbours)))
 
   -- a twin of u is a neighbour of each neighbour of u
   pub twins_none : (near : ℕ) → slice_get (neighbours g u) 0 ≡ Some near → find (is_twin g u) (neighbours g near) ≡ None → (v : ℕ) → ¬ IsGadgetOf g u 0 → ¬ AreTwins g u v
@@ -110,6 +122,41 @@ module _ (g : Graph) (w : WellFormed g) (u : ℕ) where
       let beside : member near (neighbours g v) ≡ true = subst (λ (xs : List ℕ). member near xs ≡ true) a.equal_neighbours (first-member (neighbours g u) near first) in
       let back : joined g.edges near v ≡ true = joined_comm g.edges near v ∙ joined_near g w v near beside in
       true≢false (sym (twin_to v a) ∙ find-none (is_twin g u) (neighbours g near) e v (near_joined g w near v back))
+
+  -- what is found beside the first neighbour
+  pub twins_where : (near : ℕ) (r : Option ℕ) → is_gadget g u ≡ true → r ≡ find (is_twin g u) (neighbours g near) → IfSome r (AreTwins g u)
+  twins_where near None h e = tt
+  twins_where near (Some v) h e = twins_found near v h (sym e)
+
+  pub twins_nowhere : (near : ℕ) (r : Option ℕ) → slice_get (neighbours g u) 0 ≡ Some near → r ≡ find (is_twin g u) (neighbours g near) →
+      IfNone r ((v : ℕ) → ¬ IsGadgetOf g u 0 → ¬ AreTwins g u v)
+  twins_nowhere near None first e = twins_none near first (sym e)
+  twins_nowhere near (Some v) first e = tt
+
+  -- ---- where no move of a kind may begin
+  pub begins : (k : Kind) (v : ℕ) → IsPlaceOf g (place_kind k) u v → MayBegin g k u
+  begins kinds.Delete v a = a
+  begins kinds.QuarterGadget v a = a
+  begins kinds.FromXZ v a = a
+  begins kinds.QuarterSpider v a = a
+  begins kinds.InnerPivot v a = a.spider
+  begins kinds.BoundaryPivot v a = a.spider
+  begins kinds.GadgetPair v a = gadget_to u a.there a.plane
+  begins kinds.LoneGadget v a = a
+  begins kinds.SingleGadget v a = a
+  begins kinds.Twins v a = gadget_to u a.there a.plane
+
+  pub begins_none : (k : Kind) → ¬ MayBegin g k u → NoneAt g k u
+  begins_none kinds.Delete never = never
+  begins_none kinds.QuarterGadget never = never
+  begins_none kinds.FromXZ never = never
+  begins_none kinds.QuarterSpider never = never
+  begins_none kinds.InnerPivot never = λ v a. never a.spider
+  begins_none kinds.BoundaryPivot never = λ v a. never a.spider
+  begins_none kinds.GadgetPair never = λ v a. never (gadget_to u a.there a.plane)
+  begins_none kinds.LoneGadget never = never
+  begins_none kinds.SingleGadget never = never
+  begins_none kinds.Twins never = λ v lone a. never (gadget_to u a.there a.plane)
 
   -- what isn't beside each neighbour has others
   pub not_beside : (near v : ℕ) → member near (neighbours g u) ≡ true → joined g.edges near v ≡ false → pointwise nat_eq (neighbours g v) (neighbours g u) ≡ false

@@ -5,10 +5,9 @@ use Rattle.std.specs.Prelude.{◌≡◌, ◌≤◌, ◌*◌, ℕ, List, length, 
 use Rattle.zx_model.specs.Scalar.{IsWithin}
 use Rattle.zx_model.specs.declared.scalar.Scalar.{Scalar}
 use Rattle.zx_calculus.specs.Counts.{odd_phases}
-use Rattle.zx_calculus.specs.Exact.{KeepsMap}
+use Rattle.zx_calculus.specs.StepScalars.{KeepsMap, IsSumTimes}
 use Rattle.zx_calculus.specs.Graph.{Graph, WellFormed}
 use Rattle.zx_calculus.specs.Reduced.{IsReduced}
-use Rattle.zx_calculus.specs.StepScalars.{IsSumTimes}
 use Rattle.zx_calculus.specs.Steps.{IsRun}
 use Rattle.gflow_laws.specs.Flow.{Correction, IsFlow}
 use Rattle.zx_reduce.specs.Moving.{AreMoves}

@@ -9,6 +9,7 @@ use Rattle.gflow_laws.specs.Flow.{order_of}
 use Rattle.move_laws.specs.Demand.{taken_out}
 use Rattle.move_laws.specs.Orders.{is_split}
 use Rattle.open_graph.specs.OpenGraph.{OpenGraph}
+use Rattle.open_graph.specs.Rooms.{Room, IsAtLeast}
 use Rattle.zx_flow.specs.Flows.{Flow, HavePlace, HaveReach}
 use Rattle.zx_reduce.specs.Traces.{Trace}
 
@@ -23,20 +24,20 @@ HaveRoomFor (DropLone u) g f = HaveReach g f
 HaveRoomFor (FuseInto u) g f = HaveReach g f
 HaveRoomFor (FuseTwin u v) g f = HaveReach g f
 
--- of the places for vertices a step uses one where it is a split, and gives back one for each vertex that goes
-pub record UsesPlaces (s : Step) (g : OpenGraph) (f : Flow) (h : OpenGraph) (k : Flow) : Type 0 where
-  pub places : g.spare + taken_out s ≤ h.spare + one_if (is_split s)
-  pub flow_places : f.spare + taken_out s ≤ k.spare + one_if (is_split s)
-  pub reach : h.reach ≡ g.reach
-  pub flow_reach : k.reach ≡ f.reach
+-- of the places of a graph or a flow a step uses one where it is a split, and gives back one for each vertex that goes
+pub record UsesPlaces (s : Step) (old new : Room) : Type 0 where
+  pub spare : old.spare + taken_out s ≤ new.spare + one_if (is_split s)
+  pub reach : new.reach ≡ old.reach
+
+-- the room for vertices that are there and for more
+abbrev pub in_all : ℕ → Room → Room
+in_all there room = record room { spare = room.spare + there }
 
 -- no memory of graph and flow is lost: vertices that are there, or that can be added without memory, are no fewer, and
 -- no reach falls
 pub record KeepPlaces (g : OpenGraph) (f : Flow) (h : OpenGraph) (k : Flow) : Type 0 where
-  pub places : g.spare + length g.graph.vertices ≤ h.spare + length h.graph.vertices
-  pub flow_places : f.spare + length (order_of f.flow) ≤ k.spare + length (order_of k.flow)
-  pub reach : g.reach ≤ h.reach
-  pub flow_reach : f.reach ≤ k.reach
+  pub graph : IsAtLeast (in_all (length g.graph.vertices) g.room) (in_all (length h.graph.vertices) h.room)
+  pub flow : IsAtLeast (in_all (length (order_of f.flow)) f.room) (in_all (length (order_of k.flow)) k.room)
 
 -- steps of a trace that are there, or that can be added without memory, are no fewer
 abbrev pub KeepSteps : Trace → Trace → Type 0
@@ -48,20 +49,24 @@ pub record KeepRoom (g : OpenGraph) (f : Flow) (trace : Trace) (h : OpenGraph) (
   pub places : KeepPlaces g f h k
   pub steps : KeepSteps trace longer
 
--- graph and flow have memory for n more vertices, and for all ids below n
-pub record AreReserved (n : ℕ) (g : OpenGraph) (f : Flow) : Type 0 where
-  pub places : n ≤ g.spare
-  pub flow_places : n ≤ f.spare
-  pub ids : n ≤ g.reach
-  pub flow_ids : n ≤ f.reach
+-- room for n more vertices, and for all ids below n
+abbrev pub room_for : ℕ → Room
+room_for n = record { spare = n; reach = n }
 
--- the memory that simplification needs: places for as many vertices as there are inputs, and two more, all ids below
--- the reach, those of so many new ones too, and in the trace twelve steps for each XY vertex, eighteen for any other
+-- graph and flow have it
+pub record AreReserved (n : ℕ) (g : OpenGraph) (f : Flow) : Type 0 where
+  pub graph : IsAtLeast (room_for n) g.room
+  pub flow : IsAtLeast (room_for n) f.room
+
+-- the room that simplification needs: places for as many vertices as there are inputs, and two more, all ids below the
+-- reach, those of so many new ones too
+abbrev pub room_needed : Graph → Room
+room_needed g = record { spare = length g.inputs + 2; reach = length g.vertices + length g.inputs + 2 }
+
+-- graph and flow have it, and the trace that for twelve steps for each XY vertex, eighteen for any other
 pub record HasRoom (g : OpenGraph) (f : Flow) (trace : Trace) : Type 0 where
-  pub places : length g.graph.inputs + 2 ≤ g.spare
-  pub flow_places : length g.graph.inputs + 2 ≤ f.spare
-  pub ids : length g.graph.vertices + length g.graph.inputs + 2 ≤ g.reach
-  pub flow_ids : length g.graph.vertices + length g.graph.inputs + 2 ≤ f.reach
+  pub graph : IsAtLeast (room_needed g.graph) g.room
+  pub flow : IsAtLeast (room_needed g.graph) f.room
   pub reach : HaveReach g f
   pub steps : 12 * length g.graph.vertices + 6 * not_XY g.graph ≤ trace.spare
 

@@ -1,10 +1,6 @@
 -- How large the scalar of a simplification is.
-use Rattle.std.specs.Prelude.{ℕ, ◌*◌, ◌^◌, length}
+use Rattle.std.specs.Prelude.{ℕ, ◌*◌, length}
 use Rattle.zx_calculus.specs.Graph.{Graph}
-
--- no memory has room for so many vertices
-abbrev pub memory_bound : ℕ
-memory_bound = 2 ^ 48
 
 -- the greatest exponent of the root of two for a simplification from g on: two for each of six steps of a move
 abbrev pub most_exponent : Graph → ℕ

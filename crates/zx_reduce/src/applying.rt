@@ -6,6 +6,7 @@ ghost use Rattle.zx_calculus.specs.Steps.{allowed};
 ghost use Rattle.zx_calculus.specs.StepScalars.{step_scalar};
 ghost use Rattle.gflow_laws.specs.Flow.{IsFlow};
 ghost use Rattle.gflow_laws.specs.Rewritten.{IsRewritten};
+ghost use Rattle.open_graph.specs.Rooms.{IsLeft};
 ghost use Rattle.zx_reduce.specs.Rooms.{HaveRoomFor, KeepPlaces, UsesPlaces};
 ghost use Rattle.zx_reduce.specs.Steps.{step_named};
 
@@ -42,7 +43,8 @@ pub fn apply(g: &mut OpenGraph, f: &mut Flow, step: Step) -> Result<Scalar, Step
     ensures err { OnErr result ((g.new.graph ≡ g.old.graph) × (f.new.flow ≡ f.old.flow)) }
     ensures has_room { allowed g.old.graph (step_named step) ≡ true →
         HaveRoomFor (step_named step) g.old f.old → IsOk result }
-    ensures places { OnOk result (UsesPlaces (step_named step) g.old f.old g.new f.new) }
+    ensures places { OnOk result (UsesPlaces (step_named step) g.old.room g.new.room
+        × UsesPlaces (step_named step) f.old.room f.new.room) }
     ensures err_places { OnErr result (KeepPlaces g.old f.old g.new f.new) }
     ensures valid { WellFormed g.new.graph }
 {
@@ -61,9 +63,9 @@ pub(crate) fn rewrite(g: &mut OpenGraph, f: &mut Flow, step: &Step) -> Result<Sc
     ensures scalar { IfOk result (λ s. s ≡ step_scalar g.old.graph (step_named step.now)) }
     ensures err { OnErr result ((g.new.graph ≡ g.old.graph) × (f.new.flow ≡ f.old.flow)) }
     ensures has_room { HaveRoomFor (step_named step.now) g.old f.old → IsOk result }
-    ensures places { OnOk result
-        (UsesPlaces (step_named step.now) g.old f.old g.new f.new) }
-    ensures err_places { OnErr result (KeepPlaces g.old f.old g.new f.new) }
+    ensures places { OnOk result (UsesPlaces (step_named step.now) g.old.room g.new.room
+        × UsesPlaces (step_named step.now) f.old.room f.new.room) }
+    ensures keeps_room { OnErr result ((g.new.room ≡ g.old.room) × IsLeft f.old.room f.new.room) }
     ensures valid { WellFormed g.new.graph }
 {
     match step {

@@ -1,8 +1,8 @@
 //! Where the next move of simplification may be found.
 
-ghost use Rattle.std.specs.Prelude.{◌≡◌, ◌≢◌, ◌<◌, ◌≤◌, ◌+◌, ◌-◌, ◌∷◌, ◌++◌, ℕ, true, [], length, set, option_to_list, IfSome, IfNone, IfOk, OnOk};
+ghost use Rattle.std.specs.Prelude.{◌≡◌, ◌<◌, ◌≤◌, ◌+◌, ◌-◌, ◌∷◌, ◌++◌, ℕ, true, [], length, set, option_to_list, IfSome, IfNone, IfOk, OnOk};
 ghost use Rattle.zx_model.specs.Bits.{member};
-ghost use Rattle.zx_calculus.specs.Graph.{WellFormed};
+ghost use Rattle.zx_calculus.specs.Graph.{Live, WellFormed};
 ghost use Rattle.zx_calculus.specs.Moves.{IsStuck, IsGadgetOf};
 ghost use Rattle.zx_reduce.specs.declared.moves.Kind.{Kind};
 ghost use Rattle.zx_reduce.specs.declared.moves.Kind.TheVariants as kinds;
@@ -14,7 +14,7 @@ ghost use Rattle.zx_reduce.specs.Internal.Searching.{IsMoveAt};
 use crate::levels::{LEVELS, level_in, levels_of};
 use crate::moves::{KINDS, Move};
 use crate::pile::Pile;
-use crate::search::{degree, is_settled, may_begin, move_at};
+use crate::search::{is_settled, may_begin, move_at};
 use open_graph::{OpenGraph, VertexId};
 use std::alloc::{AllocError, Global};
 
@@ -184,7 +184,8 @@ impl Candidates {
     // The list in which a vertex stands next after a look at it: that of the move found, or of a
     // later kind.
     fn list_after(&self, g: &OpenGraph, u: VertexId, list: usize, found: &Option<Move>) -> usize
-        requires { list < 264 }
+        requires list { list < 264 }
+        requires live { IfSome found.now (λ m. Live g.now.graph u) }
         ensures within { result ≤ 264 }
         ensures found { IfSome found.now (λ m. list_place result ≡ list_place list) }
         ensures later { IfNone found.now (list < result) }
@@ -193,7 +194,7 @@ impl Candidates {
     {
         let place = place_of_list(list);
         match found {
-            Some(m) => list_for(place, self.level_of_move(u, m), degree(g, u)),
+            Some(m) => list_for(place, self.level_of_move(u, m), g.degree(u)),
             None => self.list_from(g, u, place + 1),
         }
     }
@@ -304,6 +305,7 @@ fn empty_lists(alloc: Global) -> Result<Vec<Pile>, AllocError>
 // The move of a list's kind that begins at a vertex, where one does.
 fn move_of(g: &OpenGraph, u: VertexId, list: usize, levels: &[u8]) -> Option<Move>
     requires { list < 264 }
+    ensures live { IfSome result (λ m. Live g.now.graph u) }
     ensures found { IfSome result (IsMoveAt g.now.graph (list_place list)) }
     ensures none { IfNone result ((k : Kind) (v : ℕ) → place_of k ≡ list_place list →
         (k ≡ kinds.Twins → ¬ IsGadgetOf g.now.graph u 0) →

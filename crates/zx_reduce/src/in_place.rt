@@ -3,19 +3,15 @@
 
 ghost use Rattle.std.specs.Prelude.{◌<◌, ◌≤◌, ◌+◌, ℕ, length, map, IsOk, IfOk, OnOk};
 ghost use Rattle.zx_calculus.specs.Graph.{WellFormed};
-ghost use Rattle.zx_calculus.specs.Reduced.{IsReduced};
 ghost use Rattle.zx_calculus.specs.Steps.{IsRun};
 ghost use Rattle.gflow_laws.specs.Flow.{IsFlow};
 ghost use Rattle.move_laws.specs.Demand.{demand};
-ghost use Rattle.zx_reduce.specs.Moving.{GainsMoves};
 ghost use Rattle.zx_reduce.specs.Rooms.{HasRoom, KeepPlaces, KeepRoom};
-ghost use Rattle.zx_calculus.specs.StepScalars.{most_vertices};
-ghost use Rattle.zx_reduce.specs.Scaling.{most_exponent};
 ghost use Rattle.zx_reduce.specs.Search.{AppliesAt, IsOfFirstKind};
 ghost use Rattle.zx_reduce.specs.Steps.{step_named};
 ghost use Rattle.zx_reduce.specs.Internal.Planning.{AreAllowed, GainsMove};
 ghost use Rattle.zx_reduce.specs.Internal.Rooms.{HavePlaces, StaysWithin};
-ghost use Rattle.zx_reduce.specs.Internal.Scaling.{Scales};
+ghost use Rattle.zx_reduce.specs.Internal.Scaling.{Scales, IsMade};
 
 use crate::applying::rewrite;
 use crate::moves::Move;
@@ -38,17 +34,14 @@ pub(crate) fn reduce_in_place(
 ) -> Result<Made, AllocError>
     requires valid { WellFormed g.old.graph }
     requires flow { IsFlow g.old.graph f.old.flow }
-    requires few { length g.old.graph.vertices < most_vertices }
-    ensures reduced { OnOk result (IsReduced g.new.graph) }
-    ensures flow { OnOk result (IsFlow g.new.graph f.new.flow) }
-    ensures moves { IfOk result (λ made.
-        GainsMoves g.old.graph g.new.graph trace.old.steps trace.new.steps 0 made.moves) }
-    ensures scalar { IfOk result (λ made.
-        Scales g.old.graph (most_exponent g.old.graph) made.scalar g.new.graph) }
+    ensures made { IfOk result (λ made. IsMade g.old.graph trace.old.steps made
+        g.new.graph f.new.flow trace.new.steps) }
     ensures has_room { HasRoom g.old f.old trace.old → IsOk result }
     ensures room { OnOk result (KeepRoom g.old f.old trace.old g.new f.new trace.new) }
     ensures valid { WellFormed g.new.graph }
 {
+    // So the exponent of the scalar fits.
+    prove!(g.vertex_count() as u64 <= 1 << 32);
     let mut scalar = Scalar::one();
     let mut moves = 0;
     while let Some(found) = next_move(g) {

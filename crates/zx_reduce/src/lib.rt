@@ -35,7 +35,6 @@
 //!   finds sets along that order, or a cheaper one.
 //! - `in_place`: the moves on graph, flow and trace as they are, where these have room (`room`
 //!   tests it). `room_laws` tells how much suffices.
-//! - `size`: that a graph is one for which there can be memory.
 //! - `laws`, `simplification_laws`: the laws of steps, and of moves.
 //!
 //! ```rust
@@ -57,7 +56,6 @@ mod reduction;
 mod room_laws;
 mod search;
 mod simplification_laws;
-mod size;
 mod steps;
 mod trace;
 
@@ -85,7 +83,6 @@ pub use simplification_laws::{
     graphs_of_circuits_allow_few_moves, moves_are_a_run, moves_are_short, moves_begin_allowed,
     moves_can_be_made, moves_end_in_reduced_graphs,
 };
-pub use size::check_size;
 pub use step::Step;
 pub use steps::Steps;
 pub use trace::Trace;

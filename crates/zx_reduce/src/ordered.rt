@@ -3,7 +3,7 @@
 ghost use Rattle.std.specs.Prelude.{◌≡◌, ◌≢◌, ◌<◌, true, false, length, IfSome, IfNone, IfOk, OnOk};
 ghost use Rattle.zx_calculus.specs.Graph.{WellFormed};
 ghost use Rattle.zx_calculus.specs.Steps.{IsStep};
-ghost use Rattle.zx_calculus.specs.StepScalars.{most_vertices, step_scalar};
+ghost use Rattle.zx_calculus.specs.StepScalars.{step_scalar};
 ghost use Rattle.move_laws.specs.Orders.{is_split};
 ghost use Rattle.circuit_laws.specs.Peeling.{are_plain, HasPlainOutput};
 ghost use Rattle.circuit_graph.specs.Translation.{wires};
@@ -153,7 +153,6 @@ impl Ordered {
     /// Only where memory runs out.
     pub fn reduce(self) -> Result<Reduction, AllocError>
         requires ordered { IsOrdered self }
-        requires few { length self.graph.vertices < most_vertices }
         ensures { IfOk result (λ made. Reduces self.graph
             made.graph.graph made.flow.flow made.trace.steps made.scalar) }
     {

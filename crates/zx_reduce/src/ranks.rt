@@ -1,12 +1,14 @@
 //! The order of a flow, told by ranks.
 
-ghost use Rattle.std.specs.Prelude.{◌≡◌, ◌<◌, ◌≤◌, ℕ, suc, length, IfOk, OnOk};
-ghost use Rattle.zx_calculus.specs.Graph.{Distinct};
+ghost use Rattle.std.specs.Prelude.{◌≡◌, ◌<◌, ℕ, suc, length, IfOk, OnOk};
+ghost use Rattle.zx_calculus.specs.Graph.{Graph, Distinct};
+ghost use Rattle.gflow_laws.specs.Flow.{IsFlow};
 ghost use Rattle.move_laws.specs.Ranks.{rank_in, ranked};
-ghost use Rattle.zx_reduce.specs.Internal.Guiding.{AreRanked};
+ghost use Rattle.zx_reduce.specs.Internal.Guiding.{AreRanked, HasFlowIn};
 
 use open_graph::VertexId;
 use std::alloc::{AllocError, Global};
+use zx_flow::Flow;
 
 // The rank at which a list begins: as far from the least rank as from the greatest.
 const MIDDLE: u64 = 9_223_372_036_854_775_808;
@@ -21,6 +23,13 @@ pub(crate) struct Ranks {
 }
 
 impl Ranks {
+    /// Ranks that rise along the order of a flow.
+    pub(crate) fn of_flow(alloc: Global, f: &Flow) -> Result<Ranks, AllocError>
+        ensures { IfOk result (λ order. (g : Graph) → IsFlow g f.now.flow → HasFlowIn g order) }
+    {
+        Ranks::of_order(alloc, f.order())
+    }
+
     /// Ranks that rise along this order.
     pub(crate) fn of_order(alloc: Global, order: &[VertexId]) -> Result<Ranks, AllocError>
         requires { Distinct order.now }

@@ -6,14 +6,13 @@ ghost use Rattle.zx_calculus.specs.Graph.{WellFormed};
 ghost use Rattle.zx_calculus.specs.Counts.{odd_phases};
 ghost use Rattle.zx_calculus.specs.Reduced.{IsReduced};
 ghost use Rattle.gflow_laws.specs.Flow.{IsFlow};
-ghost use Rattle.zx_calculus.specs.Exact.{KeepsMap};
+ghost use Rattle.zx_calculus.specs.StepScalars.{KeepsMap, IsSumTimes};
 ghost use Rattle.zx_reduce.specs.Moving.{GainsMoves, GainsRun, most_moves};
 ghost use Rattle.zx_reduce.specs.Reducing.{Reduces};
 ghost use Rattle.zx_reduce.specs.Rooms.{HasRoom, KeepRoom};
-ghost use Rattle.zx_calculus.specs.StepScalars.{most_vertices, IsSumTimes};
 ghost use Rattle.zx_reduce.specs.Scaling.{most_exponent};
 ghost use Rattle.zx_reduce.specs.Internal.Guiding.{IsGuided, HasFlowIn};
-ghost use Rattle.zx_reduce.specs.Internal.Scaling.{Scales};
+ghost use Rattle.zx_reduce.specs.Internal.Scaling.{Scales, IsMade};
 
 use crate::in_place::reduce_in_place;
 use crate::ranks::Ranks;
@@ -50,7 +49,7 @@ pub(crate) struct Made {
 
 /// Does moves on a graph with its flow until none applies, each time one of the first kind that
 /// applies anywhere, and answers by which scalar they change the sum: the sum before is so many times
-/// the sum after. The graph has fewer than 2^56 vertices. The trace gains the step of each rewrite, the counter one for each move.
+/// the sum after. The trace gains the step of each rewrite, the counter one for each move.
 ///
 /// # Errors
 ///
@@ -64,7 +63,6 @@ pub fn reduce<L: Ledger>(
     steps: &mut Steps<L>,
 ) -> Result<Scalar, AllocError>
     requires flow { IsFlow g.old.graph f.old.flow }
-    requires few { length g.old.graph.vertices < most_vertices }
 
     // The graph is reduced, with a proportional sum, a flow and no more odd phases.
     ensures reduced { OnOk result (IsReduced g.new.graph) }
@@ -99,21 +97,20 @@ pub fn reduce<L: Ledger>(
     Ok(made.scalar)
 }
 
-/// Does the moves of `reduce` on a graph that its caller gives away: on the graph itself, and without a counter. No more
-/// than the order of the flow is kept meanwhile.
+/// Does the moves of `reduce` on a graph that its caller gives away: on the graph itself, and without a counter. No
+/// more than the order of the flow is kept meanwhile.
 ///
 /// # Errors
 ///
 /// Only where memory runs out.
 pub fn reduce_owned(alloc: Global, graph: OpenGraph, flow: Flow) -> Result<Reduction, AllocError>
     requires flow { IsFlow graph.graph flow.flow }
-    requires few { length graph.graph.vertices < most_vertices }
     ensures { IfOk result (λ made. Reduces graph.graph
         made.graph.graph made.flow.flow made.trace.steps made.scalar) }
 {
-    let work = Working::begin(graph, &flow, Trace::new(alloc))?;
+    let order = Ranks::of_flow(alloc, &flow)?;
     drop(flow);
-    reduce_working(work)
+    reduce_ordered(alloc, graph, order)
 }
 
 // The same from an order along which the graph has a flow.
@@ -123,7 +120,6 @@ pub(crate) fn reduce_ordered(
     order: Ranks,
 ) -> Result<Reduction, AllocError>
     requires flow { HasFlowIn graph.graph order }
-    requires few { length graph.graph.vertices < most_vertices }
     ensures { IfOk result (λ made. Reduces graph.graph
         made.graph.graph made.flow.flow made.trace.steps made.scalar) }
 {
@@ -134,7 +130,6 @@ pub(crate) fn reduce_ordered(
 // Does all moves, and finds a flow then.
 fn reduce_working(work: Working) -> Result<Reduction, AllocError>
     requires guided { IsGuided work.graph.graph work.order work.candidates }
-    requires few { length work.graph.graph.vertices < most_vertices }
     requires new { work.trace.steps ≡ [] }
     ensures { IfOk result (λ made. Reduces work.graph.graph
         made.graph.graph made.flow.flow made.trace.steps made.scalar) }
@@ -151,54 +146,13 @@ fn reduce_working(work: Working) -> Result<Reduction, AllocError>
     })
 }
 
-// The moves of `reduce`, which aren't counted yet.
+// The moves of `reduce`, which aren't counted yet: in place where there is room.
 fn reduce_graph(g: &mut OpenGraph, f: &mut Flow, trace: &mut Trace) -> Result<Made, AllocError>
     requires flow { IsFlow g.old.graph f.old.flow }
-    requires few { length g.old.graph.vertices < most_vertices }
-
-    // The graph is reduced, with a proportional sum, a flow and no more odd phases.
-    ensures reduced { OnOk result (IsReduced g.new.graph) }
-    ensures map { OnOk result (KeepsMap g.old.graph g.new.graph) }
-    ensures scalar { IfOk result (λ made. IsSumTimes g.old.graph made.scalar g.new.graph) }
-    ensures small { IfOk result (λ made. IsWithin (most_exponent g.old.graph) made.scalar) }
-    ensures flow { OnOk result (IsFlow g.new.graph f.new.flow) }
-    ensures odd { OnOk result (odd_phases g.new.graph ≤ odd_phases g.old.graph) }
-    ensures inputs { OnOk result (length g.new.graph.inputs ≡ length g.old.graph.inputs) }
-    ensures outputs { OnOk result (length g.new.graph.outputs ≡ length g.old.graph.outputs) }
-
-    // The steps that the trace gained lead there, and are those of so many moves.
-    ensures run { OnOk result
-        (GainsRun g.old.graph g.new.graph trace.old.steps trace.new.steps) }
-    ensures moves { IfOk result (λ made.
-        GainsMoves g.old.graph g.new.graph trace.old.steps trace.new.steps 0 made.moves) }
-    ensures few_moves { IfOk result (λ made. made.moves ≤ most_moves g.old.graph) }
-    ensures few_steps { IfOk result (λ made.
-        length trace.new.steps ≤ length trace.old.steps + 6 * made.moves) }
-
-    ensures err_graph { OnErr result ((g.new.graph ≡ g.old.graph) × (f.new.flow ≡ f.old.flow)) }
-    ensures err_trace { OnErr result (trace.new.steps ≡ trace.old.steps) }
-
-    // With Ok or without, no room is lost.
-    ensures room { KeepRoom g.old f.old trace.old g.new f.new trace.new }
-    ensures has_room { HasRoom g.old f.old trace.old → IsOk result }
-    ensures was_valid { WellFormed g.old.graph }
-    ensures valid { WellFormed g.new.graph }
-{
-    do_moves(g, f, trace)
-}
-
-// The same, without what follows from the moves that the trace gained: in place where there is room.
-fn do_moves(g: &mut OpenGraph, f: &mut Flow, trace: &mut Trace) -> Result<Made, AllocError>
-    requires flow { IsFlow g.old.graph f.old.flow }
-    requires few { length g.old.graph.vertices < most_vertices }
-    ensures reduced { OnOk result (IsReduced g.new.graph) }
-    ensures flow { OnOk result (IsFlow g.new.graph f.new.flow) }
-    ensures moves { IfOk result (λ made.
-        GainsMoves g.old.graph g.new.graph trace.old.steps trace.new.steps 0 made.moves) }
-    ensures scalar { IfOk result (λ made.
-        Scales g.old.graph (most_exponent g.old.graph) made.scalar g.new.graph) }
-    ensures err_graph { OnErr result ((g.new.graph ≡ g.old.graph) × (f.new.flow ≡ f.old.flow)) }
-    ensures err_trace { OnErr result (trace.new.steps ≡ trace.old.steps) }
+    ensures made { IfOk result (λ made. IsMade g.old.graph trace.old.steps made
+        g.new.graph f.new.flow trace.new.steps) }
+    ensures err { OnErr result ((g.new.graph ≡ g.old.graph) × (f.new.flow ≡ f.old.flow)
+        × (trace.new.steps ≡ trace.old.steps)) }
     ensures room { KeepRoom g.old f.old trace.old g.new f.new trace.new }
     ensures has_room { HasRoom g.old f.old trace.old → IsOk result }
     ensures was_valid { WellFormed g.old.graph }
@@ -214,15 +168,10 @@ fn do_moves(g: &mut OpenGraph, f: &mut Flow, trace: &mut Trace) -> Result<Made, 
 // and moves are looked for where rewrites changed something.
 fn reduce_in_copies(g: &mut OpenGraph, f: &mut Flow, trace: &mut Trace) -> Result<Made, AllocError>
     requires flow { IsFlow g.old.graph f.old.flow }
-    requires few { length g.old.graph.vertices < most_vertices }
-    ensures reduced { OnOk result (IsReduced g.new.graph) }
-    ensures flow { OnOk result (IsFlow g.new.graph f.new.flow) }
-    ensures moves { IfOk result (λ made.
-        GainsMoves g.old.graph g.new.graph trace.old.steps trace.new.steps 0 made.moves) }
-    ensures scalar { IfOk result (λ made.
-        Scales g.old.graph (most_exponent g.old.graph) made.scalar g.new.graph) }
-    ensures err_graph { OnErr result ((g.new.graph ≡ g.old.graph) × (f.new.flow ≡ f.old.flow)) }
-    ensures err_trace { OnErr result (trace.new.steps ≡ trace.old.steps) }
+    ensures made { IfOk result (λ made. IsMade g.old.graph trace.old.steps made
+        g.new.graph f.new.flow trace.new.steps) }
+    ensures err { OnErr result ((g.new.graph ≡ g.old.graph) × (f.new.flow ≡ f.old.flow)
+        × (trace.new.steps ≡ trace.old.steps)) }
     ensures room { KeepRoom g.old f.old trace.old g.new f.new trace.new }
     ensures valid { WellFormed g.new.graph }
 {
@@ -235,7 +184,6 @@ fn reduce_in_copies(g: &mut OpenGraph, f: &mut Flow, trace: &mut Trace) -> Resul
 // Makes moves until none is left, and answers how many, and by which scalar they change the sum.
 fn make_moves(work: &mut Working) -> Result<Made, AllocError>
     requires guided { IsGuided work.old.graph.graph work.old.order work.old.candidates }
-    requires few { length work.old.graph.graph.vertices < most_vertices }
     ensures reduced { OnOk result (IsReduced work.new.graph.graph) }
     ensures guided { OnOk result
         (IsGuided work.new.graph.graph work.new.order work.new.candidates) }
@@ -244,6 +192,8 @@ fn make_moves(work: &mut Working) -> Result<Made, AllocError>
     ensures scalar { IfOk result (λ made. Scales work.old.graph.graph
         (most_exponent work.old.graph.graph) made.scalar work.new.graph.graph) }
 {
+    // So the exponent of the scalar fits.
+    prove!(work.graph.vertex_count() as u64 <= 1 << 32);
     let mut scalar = Scalar::one();
     let mut moves = 0;
     while let Some(found) = work.candidates.next_move(&work.graph)? {
@@ -265,8 +215,8 @@ fn put_back(
     ensures graph { OnOk result (g.new.graph ≡ work.graph.graph) }
     ensures flow { OnOk result (IsFlow g.new.graph f.new.flow) }
     ensures trace { OnOk result (trace.new.steps ≡ work.trace.steps) }
-    ensures err_graph { OnErr result ((g.new.graph ≡ g.old.graph) × (f.new.flow ≡ f.old.flow)) }
-    ensures err_trace { OnErr result (trace.new.steps ≡ trace.old.steps) }
+    ensures err { OnErr result ((g.new.graph ≡ g.old.graph) × (f.new.flow ≡ f.old.flow)
+        × (trace.new.steps ≡ trace.old.steps)) }
     ensures room { KeepRoom g.old f.old trace.old g.new f.new trace.new }
 {
     let mut work = work;

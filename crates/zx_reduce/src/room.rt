@@ -3,7 +3,8 @@
 ghost use Rattle.std.specs.Prelude.{◌≡◌, ◌↔◌, ◌≤◌, ◌+◌, ◌*◌, length, true};
 ghost use Rattle.zx_calculus.specs.Graph.{plane_of, Live, WellFormed};
 ghost use Rattle.zx_calculus.specs.Counts.{not_XY};
-ghost use Rattle.zx_reduce.specs.Rooms.{HasRoom};
+ghost use Rattle.open_graph.specs.Rooms.{IsAtLeast};
+ghost use Rattle.zx_reduce.specs.Rooms.{HasRoom, room_needed};
 ghost use Rattle.zx_reduce.specs.Internal.Rooms.{steps_needed};
 
 use crate::trace::Trace;
@@ -23,8 +24,8 @@ pub(crate) fn has_room(g: &OpenGraph, f: &Flow, trace: &Trace) -> bool
 
 // Whether so many places for vertices suffice, and so many ids.
 fn has_places(g: &OpenGraph, places: usize, ids: usize) -> bool
-    ensures value { (result ≡ true) ↔ ((length g.now.graph.inputs + 2 ≤ places)
-        × (length g.now.graph.vertices + length g.now.graph.inputs + 2 ≤ ids)) }
+    ensures value { (result ≡ true) ↔
+        IsAtLeast (room_needed g.now.graph) (record { spare = places; reach = ids }) }
     ensures valid { WellFormed g.now.graph }
 {
     let vertices = g.vertex_count();

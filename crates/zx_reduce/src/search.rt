@@ -7,12 +7,10 @@ ghost use Rattle.zx_model.specs.Bits.{member};
 ghost use Rattle.zx_calculus.specs.Graph.{WellFormed, Live, neighbours};
 ghost use Rattle.zx_calculus.specs.Complements.{may_complement};
 ghost use Rattle.zx_calculus.specs.Gadgets.{is_gadget};
-ghost use Rattle.zx_calculus.specs.Moves.{IsQuarterGadget, IsInXZ, IsQuarterSpider, IsHalfSpider, IsGadgetOf, IsStuck};
+ghost use Rattle.zx_calculus.specs.Moves.{IsQuarterGadget, IsInXZ, IsQuarterSpider, IsHalfSpider, IsBoundaryPivot, IsGadgetOf, AreTwins, IsStuck};
 ghost use Rattle.zx_reduce.specs.declared.moves.Kind.TheVariants as kinds;
 ghost use Rattle.zx_reduce.specs.Search.{AppliesAt, IsOfFirstKind};
-ghost use Rattle.zx_reduce.specs.Internal.Searching.{is_twin, IsMoveOf, IsMoveAt, IsSettled, NoneAt, NoneBefore};
-ghost use Rattle.zx_reduce.specs.Internal.Guiding.{place_kind};
-ghost use Rattle.move_laws.specs.Candidates.{IsPlaceOf};
+ghost use Rattle.zx_reduce.specs.Internal.Searching.{is_twin, IsMoveOf, IsMoveAt, IsSettled, MayBegin, NoneAt, NoneBefore};
 
 use crate::levels::level_in;
 use crate::moves::{KINDS, Kind, Move};
@@ -83,7 +81,7 @@ pub(crate) fn is_settled(g: &OpenGraph, u: VertexId) -> bool
 pub(crate) fn may_begin(g: &OpenGraph, u: VertexId, kind: Kind) -> bool
     requires valid { WellFormed g.now.graph }
     requires live { Live g.now.graph u }
-    ensures { IsFalse result → (v : ℕ) → ¬ IsPlaceOf g.now.graph (place_kind kind) u v }
+    ensures { IsTrue result ↔ MayBegin g.now.graph kind u }
 {
     match kind {
         Kind::Delete => may_delete(g, u),
@@ -104,75 +102,21 @@ pub(crate) fn move_at(g: &OpenGraph, u: VertexId, kind: Kind, levels: &[u8]) -> 
     ensures found { IfSome result (IsMoveOf g.now.graph kind) }
     ensures none { IfNone result (NoneAt g.now.graph kind u) }
 {
+    if !may_begin(g, u, kind) {
+        return None;
+    }
     match kind {
-        Kind::Delete => may_delete(g, u).then_some(Move::Delete(u)),
-        Kind::QuarterGadget => is_quarter_gadget(g, u).then_some(Move::QuarterGadget(u)),
-        Kind::FromXZ => is_in_xz(g, u).then_some(Move::FromXZ(u)),
-        Kind::QuarterSpider => is_quarter_spider(g, u).then_some(Move::QuarterSpider(u)),
-        Kind::InnerPivot => inner_pivot_at(g, u, levels),
-        Kind::BoundaryPivot => boundary_pivot_at(g, u),
-        Kind::GadgetPair => gadget_pair_at(g, u),
-        Kind::LoneGadget => is_gadget_of(g, u, 0).then_some(Move::LoneGadget(u)),
-        Kind::SingleGadget => is_gadget_of(g, u, 1).then_some(Move::SingleGadget(u)),
-        Kind::Twins => twins_at(g, u),
+        Kind::Delete => Some(Move::Delete(u)),
+        Kind::QuarterGadget => Some(Move::QuarterGadget(u)),
+        Kind::FromXZ => Some(Move::FromXZ(u)),
+        Kind::QuarterSpider => Some(Move::QuarterSpider(u)),
+        Kind::InnerPivot => Some(Move::InnerPivot(u, inner_neighbour(g, u, levels)?)),
+        Kind::BoundaryPivot => Some(Move::BoundaryPivot(u, boundary_neighbour(g, u)?)),
+        Kind::GadgetPair => Some(Move::GadgetPair(u, gadget_beside(g, u)?)),
+        Kind::LoneGadget => Some(Move::LoneGadget(u)),
+        Kind::SingleGadget => Some(Move::SingleGadget(u)),
+        Kind::Twins => Some(Move::Twins(u, twin_of(g, u)?)),
     }
-}
-
-fn inner_pivot_at(g: &OpenGraph, u: VertexId, levels: &[u8]) -> Option<Move>
-    requires valid { WellFormed g.now.graph }
-    requires live { Live g.now.graph u }
-    ensures found { IfSome result (IsMoveOf g.now.graph kinds.InnerPivot) }
-    ensures none { IfNone result (NoneAt g.now.graph kinds.InnerPivot u) }
-{
-    if !is_half_spider(g, u) {
-        return None;
-    }
-    let v = inner_neighbour(g, u, levels)?;
-    Some(Move::InnerPivot(u, v))
-}
-
-fn boundary_pivot_at(g: &OpenGraph, u: VertexId) -> Option<Move>
-    requires valid { WellFormed g.now.graph }
-    requires live { Live g.now.graph u }
-    ensures found { IfSome result (IsMoveOf g.now.graph kinds.BoundaryPivot) }
-    ensures none { IfNone result (NoneAt g.now.graph kinds.BoundaryPivot u) }
-{
-    if !is_half_spider(g, u) {
-        return None;
-    }
-    if inner_neighbour(g, u, &[]).is_some() {
-        return None;
-    }
-    let v = first_neighbour(g, u)?;
-    Some(Move::BoundaryPivot(u, v))
-}
-
-fn gadget_pair_at(g: &OpenGraph, u: VertexId) -> Option<Move>
-    requires valid { WellFormed g.now.graph }
-    requires live { Live g.now.graph u }
-    ensures found { IfSome result (IsMoveOf g.now.graph kinds.GadgetPair) }
-    ensures none { IfNone result (NoneAt g.now.graph kinds.GadgetPair u) }
-{
-    if !is_gadget(g, u) {
-        return None;
-    }
-    let v = gadget_beside(g, u)?;
-    Some(Move::GadgetPair(u, v))
-}
-
-// A twin of u is a neighbour of each neighbour of u.
-fn twins_at(g: &OpenGraph, u: VertexId) -> Option<Move>
-    requires valid { WellFormed g.now.graph }
-    requires live { Live g.now.graph u }
-    ensures found { IfSome result (IsMoveOf g.now.graph kinds.Twins) }
-    ensures none { IfNone result (NoneAt g.now.graph kinds.Twins u) }
-{
-    if !is_gadget(g, u) {
-        return None;
-    }
-    let near = first_neighbour(g, u)?;
-    let twin = twin_beside(g, u, near)?;
-    Some(Move::Twins(u, twin))
 }
 
 // Of the neighbours without ends the one whose pivot with u costs least.
@@ -189,6 +133,19 @@ fn inner_neighbour(g: &OpenGraph, u: VertexId, levels: &[u8]) -> Option<VertexId
         (best, least) = better_of(g, u, levels, best, least, v);
     }
     best
+}
+
+// A neighbour of a spider of half turns, where all have ends.
+fn boundary_neighbour(g: &OpenGraph, u: VertexId) -> Option<VertexId>
+    requires valid { WellFormed g.now.graph }
+    requires spider { IsHalfSpider g.now.graph u }
+    ensures found { IfSome result (IsBoundaryPivot g.now.graph u) }
+    ensures none { IfNone result ((v : ℕ) → ¬ IsBoundaryPivot g.now.graph u v) }
+{
+    if inner_neighbour(g, u, &[]).is_some() {
+        return None;
+    }
+    first_neighbour(g, u)
 }
 
 // The best so far with its cost, or v with its own, where that has no end and costs less.
@@ -224,12 +181,13 @@ fn better_of(
 /// edges there are more once it is made and u deleted. Where there are too many pairs to count edges,
 /// it is above all costs that are counted, and rises with the neighbours of v.
 pub fn pivot_cost(g: &OpenGraph, u: VertexId, v: VertexId) -> usize
-    requires { Live g.now.graph u }
+    requires u_live { Live g.now.graph u }
+    requires v_live { Live g.now.graph v }
 {
     // How many other neighbours each has. Once u is deleted, v has those of u, and as many edges are
     // gone as v had other neighbours.
-    let near = degree(g, u).saturating_sub(1);
-    let far = degree(g, v).saturating_sub(1);
+    let near = g.degree(u).saturating_sub(1);
+    let far = g.degree(v).saturating_sub(1);
     let pairs = near.saturating_mul(far);
     if pairs > MOST_PAIRS {
         return far.saturating_add(NO_CHANGE + MOST_PAIRS);
@@ -243,7 +201,10 @@ pub fn pivot_cost(g: &OpenGraph, u: VertexId, v: VertexId) -> usize
 
 // How many of the pairs are of two common neighbours, or of one with itself: a pivot joins none of
 // these.
-fn pairs_in_common(g: &OpenGraph, u: VertexId, v: VertexId) -> usize {
+fn pairs_in_common(g: &OpenGraph, u: VertexId, v: VertexId) -> usize
+    requires u_live { Live g.now.graph u }
+    requires v_live { Live g.now.graph v }
+{
     let common = common_neighbours(g, u, v);
     common.saturating_mul(common)
 }
@@ -252,7 +213,8 @@ fn pairs_in_common(g: &OpenGraph, u: VertexId, v: VertexId) -> usize {
 // joins the other such pairs. Edges to u are counted too, as many for each v, and those between two
 // common neighbours twice.
 fn edges_across(g: &OpenGraph, u: VertexId, v: VertexId) -> usize
-    requires { Live g.now.graph u }
+    requires u_live { Live g.now.graph u }
+    requires v_live { Live g.now.graph v }
 {
     let mut edges: usize = 0;
     for p in g.neighbours(u) {
@@ -264,16 +226,11 @@ fn edges_across(g: &OpenGraph, u: VertexId, v: VertexId) -> usize
 }
 
 // How many neighbours two vertices have in common.
-fn common_neighbours(g: &OpenGraph, p: VertexId, v: VertexId) -> usize {
-    if !g.is_live(p) || !g.is_live(v) {
-        return 0;
-    }
+fn common_neighbours(g: &OpenGraph, p: VertexId, v: VertexId) -> usize
+    requires p_live { Live g.now.graph p }
+    requires v_live { Live g.now.graph v }
+{
     g.neighbour_set(p).common_with(g.neighbour_set(v))
-}
-
-/// The number of a vertex's neighbours.
-pub(crate) fn degree(g: &OpenGraph, v: VertexId) -> usize {
-    if g.is_live(v) { g.degree(v) } else { 0 }
 }
 
 fn first_neighbour(g: &OpenGraph, u: VertexId) -> Option<VertexId>
@@ -288,6 +245,17 @@ fn gadget_beside(g: &OpenGraph, u: VertexId) -> Option<VertexId>
     ensures { result ≡ find (is_gadget g.now.graph) (neighbours g.now.graph u) }
 {
     g.neighbours(u).find(|v| is_gadget(g, *v))
+}
+
+// A twin of a gadget: it is a neighbour of each neighbour of that.
+fn twin_of(g: &OpenGraph, u: VertexId) -> Option<VertexId>
+    requires valid { WellFormed g.now.graph }
+    requires gadget { is_gadget g.now.graph u ≡ true }
+    ensures found { IfSome result (AreTwins g.now.graph u) }
+    ensures none { IfNone result (NoneAt g.now.graph kinds.Twins u) }
+{
+    let near = first_neighbour(g, u)?;
+    twin_beside(g, u, near)
 }
 
 fn twin_beside(g: &OpenGraph, u: VertexId, near: VertexId) -> Option<VertexId>
@@ -343,13 +311,7 @@ fn is_twin(g: &OpenGraph, u: VertexId, v: VertexId) -> bool
     requires { Live g.now.graph u }
     ensures { result ≡ is_twin g.now.graph u v }
 {
-    if !is_beside_all(g, u, v) {
-        return false;
-    }
-    if !g.is_live(v) {
-        return false;
-    }
-    v != u && is_gadget(g, v) && are_alike(g, u, v)
+    is_beside_all(g, u, v) && v != u && is_gadget(g, v) && are_alike(g, u, v)
 }
 
 // Whether a vertex is beside each neighbour of u. A gadget that is no twin of u mostly fails this at one of the first,

@@ -7,7 +7,7 @@ ghost use Rattle.zx_calculus.specs.Steps.{allowed, IsStep};
 ghost use Rattle.gflow_laws.specs.Flow.{IsFlow};
 ghost use Rattle.zx_reduce.specs.Steps.{step_named};
 ghost use Rattle.zx_reduce.specs.Search.{AppliesAt, IsOfFirstKind};
-ghost use Rattle.zx_reduce.specs.Internal.Guiding.{IsGuided, IsGuidedBut, HasFlowIn, HasCandidates};
+ghost use Rattle.zx_reduce.specs.Internal.Guiding.{IsGuided, IsGuidedBut, HasFlowIn};
 ghost use Rattle.zx_reduce.specs.Internal.Planning.{GainsMove};
 ghost use Rattle.zx_reduce.specs.Internal.Scaling.{Scales};
 
@@ -45,7 +45,7 @@ impl Working {
             IsGuided work.graph.graph work.order work.candidates) }
         ensures valid { WellFormed graph.graph }
     {
-        let order = Ranks::of_order(trace.alloc(), f.order())?;
+        let order = Ranks::of_flow(trace.alloc(), f)?;
         Working::ordered(graph, order, trace)
     }
 

@@ -1,12 +1,13 @@
 //! Rewrites of a graph with its flow: in place where there is the memory, and else with copies.
 
-ghost use Rattle.std.specs.Prelude.{◌≡◌, ◌≤◌, ◌↔◌, true, IsOk, IfOk, OnOk, OnErr};
+ghost use Rattle.std.specs.Prelude.{◌≡◌, ◌↔◌, true, IsOk, IfOk, OnOk, OnErr};
 ghost use Rattle.zx_calculus.specs.Graph.{WellFormed};
 ghost use Rattle.zx_calculus.specs.Steps.{allowed, Step};
 ghost use Rattle.zx_calculus.specs.StepScalars.{step_scalar};
 ghost use Rattle.gflow_laws.specs.Flow.{IsFlow};
 ghost use Rattle.gflow_laws.specs.Rewritten.{IsRewritten};
 ghost use Rattle.open_graph.specs.OpenGraph.{OpenGraph as SeenGraph};
+ghost use Rattle.open_graph.specs.Rooms.{IsLeft};
 ghost use Rattle.zx_flow.specs.Flows.{Flow as SeenFlow};
 
 use open_graph::OpenGraph;
@@ -40,7 +41,7 @@ pub trait Rewrite {
         ensures scalar { IfOk result (λ s. s ≡ step_scalar g.old.graph (step self.now)) }
         ensures has_room { needs self.now g.old f.old → IsOk result }
         ensures left { OnOk result (leaves self.now g.old f.old g.new f.new) }
-        ensures reach { (g.new.reach ≡ g.old.reach) × (f.new.reach ≡ f.old.reach) };
+        ensures reach { (g.new.room.reach ≡ g.old.room.reach) × (f.new.room.reach ≡ f.old.room.reach) };
 }
 
 /// Does a rewrite where it is allowed, and answers its scalar: the sum before is so many times the sum after. Where
@@ -54,9 +55,7 @@ pub fn perform<R: Rewrite>(g: &mut OpenGraph, f: &mut Flow, by: &R) -> Result<Sc
     ensures err { OnErr result ((g.new.graph ≡ g.old.graph) × (f.new.flow ≡ f.old.flow)) }
     ensures has_room { R.needs by.now g.old f.old → IsOk result }
     ensures left { OnOk result (R.leaves by.now g.old f.old g.new f.new) }
-    ensures keeps_spare { OnErr result
-        ((g.new.spare ≡ g.old.spare) × (f.old.spare ≤ f.new.spare)) }
-    ensures reach { (g.new.reach ≡ g.old.reach) × (f.new.reach ≡ f.old.reach) }
+    ensures keeps_room { OnErr result ((g.new.room ≡ g.old.room) × IsLeft f.old.room f.new.room) }
     ensures valid { WellFormed g.new.graph }
 {
     if by.has_room(g, f) {
@@ -74,9 +73,7 @@ fn with_copies<R: Rewrite>(g: &mut OpenGraph, f: &mut Flow, by: &R) -> Result<Sc
     ensures scalar { IfOk result (λ s. s ≡ step_scalar g.old.graph (R.step by.now)) }
     ensures err { OnErr result ((g.new.graph ≡ g.old.graph) × (f.new.flow ≡ f.old.flow)) }
     ensures left { OnOk result (R.leaves by.now g.old f.old g.new f.new) }
-    ensures keeps_spare { OnErr result
-        ((g.new.spare ≡ g.old.spare) × (f.old.spare ≤ f.new.spare)) }
-    ensures reach { (g.new.reach ≡ g.old.reach) × (f.new.reach ≡ f.old.reach) }
+    ensures keeps_room { OnErr result ((g.new.room ≡ g.old.room) × IsLeft f.old.room f.new.room) }
     ensures valid { WellFormed g.new.graph }
 {
     let mut graph = g.copy()?;

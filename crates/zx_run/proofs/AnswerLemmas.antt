@@ -1,5 +1,7 @@
 -- What an answer says of the streams, of the command that was given, and of the text.
-use Rattle.std.proofs.Common.{◌≡◌, ◌≢◌, ◌⊎◌, inl, inr, ℕ, List, [], refl, ap, subst, Bool, true, false, Option, None, Some}
+use Rattle.std.proofs.Common.{◌≡◌, ◌≢◌, ◌⊎◌, inl, inr, ℕ, List, [], refl, sym, ap, subst, Bool, true, false, Option, None, Some, Result, IfErr}
+use Rattle.std.specs.Prelude.{IsErrAnd}
+use Rattle.std.proofs.lemmas.Result.{err_from_is_err_and}
 use Rattle.zx_io.specs.Causes.{Rose}
 use Rattle.zx_words.specs.declared.words.Command.{Command}
 use Rattle.zx_words.specs.declared.words.Command.TheVariants.{Generate}
@@ -23,6 +25,20 @@ read_failure command reads before after Done why = absurd why
 read_failure command reads before after Usage why = absurd why
 read_failure command reads before after WriteFault why = absurd why
 read_failure command reads before after No why = absurd why
+
+-- so it is where the reader's answer is passed on
+pub reader_failed : {T : Type 0} (command : Command) → ReadsSource command → (before after : ToldSource) (result : Result T Status) (status : Status)
+    → IsErrAnd result (λ s. s ≡ status) → IsReadFailure (IsFirstFaultFor command) before after status → IfErr result (IsFailure (Some command) before after)
+reader_failed command reads before after result status passed why =
+    let p = err_from_is_err_and result passed in
+    let fails : Status → Type 0 = IsFailure (Some command) before after in
+    subst (λ r. IfErr r fails) (sym p.1) (subst fails (sym p.2) (read_failure command reads before after status why))
+
+-- what was made of a source that was read to its end
+pub made_of_all : {given : Option Command} {before after : ToldSource} {says_no : Bool} {bytes : List ℕ} → after.faults ≡ before.faults
+    → IsOutputOf given says_no before.left bytes → ((text : List ℕ) → before.left ≡ Some text → after.left ≡ Some [])
+    → IsMade given before after says_no bytes
+made_of_all well output end = record { reads_well = well; output = output; all_read = λ reads. end }
 
 -- the answer that the bytes are written with
 abbrev answer_of : Bool → Status

@@ -26,7 +26,7 @@ use Rattle.qasm_writer.proofs.WrittenLemmas.{IsWritten, is_written, odd_elements
 use Rattle.zx_run.specs.FirstFault.{IsAccepted}
 use Rattle.zx_run.specs.CircuitTexts.{circuit_on, report_if, scalar_if, generation_line, IsOptimisedText, IsTeleportedText, IsGenerationReport}
 use Rattle.zx_extract.specs.Simplified.{gate_bound}
-use Rattle.zx_optimise.specs.Optimising.{counts_of, IsMapTimes, Optimises, Teleports, IsBest, IsPlain}
+use Rattle.zx_optimise.specs.Optimising.{counts_of, most_optimised_root2, Optimises, Teleports, IsBest, IsPlain}
 
 pub same_circuit : (c : Circuit) (qubits : ℕ) (gates : List Gate) → c.qubits ≡ qubits → c.gates ≡ gates → c ≡ circuit_on qubits gates
 same_circuit c qubits gates same_qubits same_gates = ap₂ circuit_on same_qubits same_gates
@@ -70,33 +70,34 @@ exact_factor n m k read from made text s t u factor same alike below first secon
     (subst (λ i. IsScaled i i text u made) alike third))
 
 -- the text of a circuit that optimises the lowered one, its report, and the line of a scalar
-IsOptimisedText-lowered : (best reported scaled : Bool) (text bytes : List ℕ) (read : Elementary) (circuit : Circuit) (factor : Scalar)
+IsOptimisedText-lowered : (best reported scaled : Bool) (text bytes : List ℕ) (read : Elementary) (circuit : Circuit) (t factor : Scalar)
     → IsAccepted text read
     → Proportional read.qubits read.qubits (amp_elementary read.gates) (amp (lowered read.gates))
     → gate_odd_phases (lowered read.gates) ≡ elementary_odd_phases read.gates
-    → Optimises (circuit_on read.qubits (lowered read.gates)) circuit
+    → Optimises most_optimised_root2 (circuit_on read.qubits (lowered read.gates)) circuit t
     → (best ≡ false → IsPlain (circuit_on read.qubits (lowered read.gates)) circuit)
     → (best ≡ true → IsBest (circuit_on read.qubits (lowered read.gates)) circuit) → IsCircuit circuit → AreBehind circuit read.bits read.measured
     → IsScaled read.qubits read.qubits (amp_elementary read.gates) factor (amp_elementary (elements_of circuit.gates)) → factor.turn < turn
     → bytes ≡ written circuit read.bits read.measured ++ (report_if reported (lowered read.gates) circuit.gates ++ scalar_if scaled factor)
     → IsOptimisedText best reported scaled text bytes
-IsOptimisedText-lowered best reported scaled text bytes read circuit factor accepted map odd better is_plain is_best is behind exact below spelled =
-    let t = IsTextFor-written read circuit better.qubits map odd better.map better.odd is behind in
+IsOptimisedText-lowered best reported scaled text bytes read circuit t factor accepted map odd better is_plain is_best is behind exact below spelled =
+    let same = scaled_proportional read.qubits read.qubits (amp (lowered read.gates)) (amp circuit.gates) t better.kept.scaled in
+    let text_for = IsTextFor-written read circuit better.kept.qubits map odd same better.kept.odd is behind in
     record {
       read = read;
       circuit = circuit;
       factor = factor;
       accepted = accepted;
       spelled = spelled;
-      means = t.means;
-      same_map = t.same_map;
+      means = text_for.means;
+      same_map = text_for.same_map;
       exact = exact;
       within_a_turn = below;
-      no_more_odd = t.no_more_odd;
-      few_gates = subst (λ size. size ≤ gate_bound read.qubits (elementary_odd_phases read.gates)) (sym t.size)
-          (subst (λ t. length circuit.gates ≤ gate_bound read.qubits t) odd better.few_gates);
+      no_more_odd = text_for.no_more_odd;
+      few_gates = subst (λ size. size ≤ gate_bound read.qubits (elementary_odd_phases read.gates)) (sym text_for.size)
+          (subst (λ k. length circuit.gates ≤ gate_bound read.qubits k) odd better.few_gates);
       valid = is;
-      optimises = better;
+      optimises = (t, better);
       is_plain = is_plain;
       is_best = is_best;
     }
@@ -104,24 +105,24 @@ IsOptimisedText-lowered best reported scaled text bytes read circuit factor acce
 pub IsOptimisedText-written : (best reported scaled : Bool) (text bytes : List ℕ) (read : Elementary) (from circuit : Circuit) (s t u factor : Scalar)
     → IsAccepted text read
     → from.qubits ≡ read.qubits → from.gates ≡ lowered read.gates → gate_odd_phases from.gates ≡ elementary_odd_phases read.gates
-    → Optimises from circuit → (best ≡ false → IsPlain from circuit) → (best ≡ true → IsBest from circuit) → IsCircuit circuit → AreBehind circuit read.bits read.measured
-    → IsScaled read.qubits read.qubits (amp_elementary read.gates) s (amp from.gates) → IsMapTimes from t circuit
+    → Optimises most_optimised_root2 from circuit t → (best ≡ false → IsPlain from circuit) → (best ≡ true → IsBest from circuit) → IsCircuit circuit
+    → AreBehind circuit read.bits read.measured → IsScaled read.qubits read.qubits (amp_elementary read.gates) s (amp from.gates)
     → IsScaled circuit.qubits circuit.qubits (amp_elementary (elements_of circuit.gates)) u (amp circuit.gates) → u.turn < turn
     → factor ≡ quotient_of_scalars (product_of_scalars s t) u
     → bytes ≡ written circuit read.bits read.measured ++ (report_if reported from.gates circuit.gates ++ scalar_if scaled factor)
     → IsOptimisedText best reported scaled text bytes
 IsOptimisedText-written best reported scaled text bytes read from circuit s t u factor accepted same_qubits same_gates odd better is_plain is_best is behind
-    first second third below is_factor spelled =
+    first third below is_factor spelled =
     let same = same_circuit from read.qubits (lowered read.gates) same_qubits same_gates in
     let map = scaled_proportional read.qubits read.qubits (amp_elementary read.gates) (amp from.gates) s first in
-    IsOptimisedText-lowered best reported scaled text bytes read circuit factor accepted
+    IsOptimisedText-lowered best reported scaled text bytes read circuit t factor accepted
     (subst (λ gates. Proportional read.qubits read.qubits (amp_elementary read.gates) (amp gates)) same_gates map)
     (subst (λ gates. gate_odd_phases gates ≡ elementary_odd_phases read.gates) same_gates odd)
-    (subst (λ c. Optimises c circuit) same better)
+    (subst (λ c. Optimises most_optimised_root2 c circuit t) same better)
     (λ asked. subst (λ c. IsPlain c circuit) same (is_plain asked))
     (λ asked. subst (λ c. IsBest c circuit) same (is_best asked)) is behind
     (exact_factor read.qubits from.qubits circuit.qubits (amp_elementary read.gates) (amp from.gates) (amp circuit.gates)
-    (amp_elementary (elements_of circuit.gates)) s t u factor same_qubits (better.qubits ∙ same_qubits) below first second third is_factor)
+    (amp_elementary (elements_of circuit.gates)) s t u factor same_qubits (better.kept.qubits ∙ same_qubits) below first better.kept.scaled third is_factor)
     (subst (λ (f : Scalar). f.turn < turn) (sym is_factor) (omega arith))
     (subst (λ gates. bytes ≡ written circuit read.bits read.measured ++ (report_if reported gates circuit.gates ++ scalar_if scaled factor)) same_gates spelled)
 
@@ -159,15 +160,15 @@ measured_behind read circuit is as_many = record {
 }
 
 -- the report of a circuit that optimises the one of a seed
-pub IsGenerationReport-written : (seed qubits gates : ℕ) (bytes : List ℕ) (read made : Circuit)
-    → read.qubits ≡ qubits → read.gates ≡ generated seed qubits gates → IsCircuit made → Optimises read made → IsPlain read made
+pub IsGenerationReport-written : (seed qubits gates : ℕ) (bytes : List ℕ) (read made : Circuit) (s : Scalar)
+    → read.qubits ≡ qubits → read.gates ≡ generated seed qubits gates → IsCircuit made → Optimises most_optimised_root2 read made s → IsPlain read made
     → bytes ≡ generation_line seed qubits gates ++ report_lines (counts_of read.gates) (counts_of made.gates)
     → IsGenerationReport seed qubits gates bytes
-IsGenerationReport-written seed qubits gates bytes read made same_qubits same_gates is better is_plain spelled =
+IsGenerationReport-written seed qubits gates bytes read made s same_qubits same_gates is better is_plain spelled =
     record {
       made = made;
       valid = is;
-      optimises = subst (λ circuit. Optimises circuit made) (same_circuit read qubits (generated seed qubits gates) same_qubits same_gates) better;
+      optimises = (s, subst (λ circuit. Optimises most_optimised_root2 circuit made s) (same_circuit read qubits (generated seed qubits gates) same_qubits same_gates) better);
       is_plain = subst (λ circuit. IsPlain circuit made) (same_circuit read qubits (generated seed qubits gates) same_qubits same_gates) is_plain;
       spelled = subst (λ list. bytes ≡ generation_line seed qubits gates ++ report_lines (counts_of list) (counts_of made.gates)) same_gates spelled;
     }

@@ -17,7 +17,7 @@ use Rattle.qasm_writer.specs.Elements.{elements_of}
 use Rattle.qasm_writer.specs.Written.{written}
 use Rattle.zx_run.specs.FirstFault.{IsAccepted}
 use Rattle.zx_extract.specs.Simplified.{gate_bound}
-use Rattle.zx_optimise.specs.Optimising.{Optimises, Teleports, IsBest, IsPlain, counts_of}
+use Rattle.zx_optimise.specs.Optimising.{Optimises, Teleports, IsBest, IsPlain, counts_of, most_optimised_root2}
 
 -- a number of qubits, and gates on them
 abbrev pub circuit_on : ℕ → List Gate → Circuit
@@ -56,7 +56,7 @@ pub record IsOptimisedText (best report scalar : Bool) (text bytes : List ℕ) :
   pub few_gates : program_size means.program ≤ gate_bound read.qubits (elementary_odd_phases read.gates)
   -- what more is known of the circuit
   pub valid : IsCircuit circuit
-  pub optimises : Optimises (circuit_on read.qubits (lowered read.gates)) circuit
+  pub optimises : (s : Scalar) × Optimises most_optimised_root2 (circuit_on read.qubits (lowered read.gates)) circuit s
   pub is_plain : best ≡ false → IsPlain (circuit_on read.qubits (lowered read.gates)) circuit
   pub is_best : best ≡ true → IsBest (circuit_on read.qubits (lowered read.gates)) circuit
 
@@ -87,7 +87,7 @@ generation_line seed qubits gates =
 pub record IsGenerationReport (seed qubits gates : ℕ) (bytes : List ℕ) : Type 0 where
   pub made : Circuit
   pub valid : IsCircuit made
-  pub optimises : Optimises (circuit_on qubits (generated seed qubits gates)) made
+  pub optimises : (s : Scalar) × Optimises most_optimised_root2 (circuit_on qubits (generated seed qubits gates)) made s
   pub is_plain : IsPlain (circuit_on qubits (generated seed qubits gates)) made
   pub spelled : bytes ≡ generation_line seed qubits gates
       ++ report_lines (counts_of (generated seed qubits gates)) (counts_of made.gates)

@@ -1,5 +1,5 @@
 -- What `same` writes for two texts in one.
-use Rattle.std.specs.Prelude.{◌≡◌, ◌≢◌, ◌+◌, ◌↔◌, ◌⊎◌, ℕ, List, ◌++◌, length, codes, decimal}
+use Rattle.std.specs.Prelude.{◌≡◌, ◌≢◌, ◌↔◌, ◌⊎◌, ℕ, List, ◌++◌, length, codes, decimal}
 use Rattle.std.specs.Prelude.{Contains}
 use Rattle.zx_model.specs.Proportional.{Proportional}
 use Rattle.zx_calculus.specs.Graph.{Graph}

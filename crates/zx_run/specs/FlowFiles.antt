@@ -2,7 +2,7 @@
 use Rattle.std.specs.Prelude.{◌≡◌, ◌<◌, ◌≤◌, ◌⊎◌, ◌++◌, ℕ, List, length, Some, codes, decimal}
 use Rattle.zx_calculus.specs.Graph.{Graph}
 use Rattle.zx_calculus.specs.Counts.{odd_phases}
-use Rattle.zx_calculus.specs.Exact.{KeepsMap}
+use Rattle.zx_calculus.specs.StepScalars.{KeepsMap}
 use Rattle.zx_calculus.specs.Reduced.{IsReduced}
 use Rattle.zx_calculus.specs.Steps.{Step, IsRun}
 use Rattle.gflow_laws.specs.Flow.{Correction, IsFlow}

@@ -12,7 +12,7 @@ use flow_check::{Verdict, check};
 use open_graph::OpenGraph;
 use std::alloc::{AllocError, Global};
 use zx_flow::{Flow, FlowTable};
-use zx_reduce::{check_size, reduce_owned};
+use zx_reduce::reduce_owned;
 use zx_text::write_graph;
 
 /// The file of the reduced graph with its flow, or where the table isn't one, no and the line of its
@@ -47,7 +47,6 @@ fn reduced_file(alloc: Global, graph: OpenGraph, table: FlowTable) -> Result<Vec
     requires { IsFlow graph.graph table.table }
     ensures { IfOk result (λ bytes. IsReducedFile graph.graph bytes.items) }
 {
-    check_size(&graph)?;
     let flow = Flow::of_table(&graph, table)?;
     let made = reduce_owned(alloc, graph, flow)?;
     write_graph(alloc, &made.graph, Some(&made.flow))

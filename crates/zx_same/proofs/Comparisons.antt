@@ -1,29 +1,27 @@
 -- What follows from a circuit and the inverse of another for both.
-use Rattle.std.proofs.Common.{◌≡◌, ◌≤◌, ◌<◌, inl, inr, ℕ, ◌+◌, ◌*◌, Bool, true, cond, ◌||◌, List, [], length, refl, sym, ap, ◌∙◌, subst, arith, mul-le-mul_left}
+use Rattle.std.proofs.Common.{◌≡◌, ◌≤◌, inl, inr, ℕ, ◌+◌, ◌*◌, Bool, true, cond, ◌||◌, List, [], length, refl, sym, ap, ◌∙◌, subst, arith, mul-le-mul_left}
 use Rattle.std.specs.Prelude.{nat_eq}
 use Rattle.std.specs.List.{All}
 use Rattle.std.proofs.lemmas.Bool.{or_cases}
 use Rattle.std.proofs.lemmas.List.Sums.{sum_by-append}
 use Rattle.zx_model.specs.Number.{Number}
 use Rattle.zx_model.specs.Proportional.{Proportional}
-use Rattle.zx_model.specs.Scalar.{IsScaled, IsWithin, product_of_scalars}
 use Rattle.zx_model.specs.declared.scalar.Scalar.{Scalar}
 use Rattle.zx_model.proofs.Odd.{is_odd-opposite}
-use Rattle.zx_model.proofs.Scalars.{scaled_proportional, scaled_trans, within_product, within_more}
+use Rattle.zx_model.proofs.Scalars.{scaled_proportional}
 use Rattle.zx_model.proofs.ProportionalLemmas.{proportional_trans}
 use Rattle.zx_calculus.specs.Graph.{Graph, WellFormed}
 use Rattle.zx_calculus.specs.Sum.{sum}
 use Rattle.gflow_laws.specs.Flow.{Correction}
-use Rattle.zx_gates.specs.Circuit.{Circuit, IsCircuit, IsGateOn, is_odd_phase, gate_odd_phases, gate_bound as list_bound}
+use Rattle.zx_gates.specs.Circuit.{Circuit, IsCircuit, IsGateOn, is_odd_phase, gate_odd_phases}
 use Rattle.zx_gates.specs.Maps.{amp}
 use Rattle.zx_gates.specs.declared.gate.Gate.{Gate}
 use Rattle.zx_gates.specs.declared.gate.Gate.TheVariants.{H, Phase, Cz, Cx, Not}
 use Rattle.zx_extract.specs.Simplified.{gate_bound}
 use Rattle.zx_grow.specs.Grown.{GrowsTo}
-use Rattle.zx_simplify.specs.Scaling.{most_simplified_root2}
 use Rattle.zx_simplify.specs.declared.simplifying.Simplified.{Simplified}
 use Rattle.zx_same.specs.Bare.{is_bare}
-use Rattle.zx_same.specs.Internal.Simplifying.{Simplifies, most_left_root2}
+use Rattle.zx_same.specs.Internal.Simplifying.{Simplifies}
 use Rattle.zx_same.specs.Inverse.{inverse_gate, inverse_of, undone_by}
 use Rattle.zx_same.proofs.BareGraphs.{bare_identity}
 use Rattle.zx_same.proofs.OneMap.{one_map}
@@ -39,20 +37,6 @@ pub from_circuit : (n i o : ℕ) (start : Graph) (f g : List Bool → List Bool 
     Proportional n n f (sum start) → Proportional i o (sum start) g → Proportional n n f g
 from_circuit n i o start f g wide high first second =
     proportional_trans n n f (sum start) g first (at_n n i o (sum start) g wide high second)
-
--- the same by scalars
-pub scaled_whole : (n o : ℕ) (f g h : List Bool → List Bool → Number) (s t made : Scalar) → o ≡ n → IsScaled n n f s g → IsScaled o o g t h →
-    made ≡ product_of_scalars s t → IsScaled n n f made h
-scaled_whole n o f g h s t made same first second is =
-    subst (λ (u : Scalar). IsScaled n n f u h) (sym is) (scaled_trans n n f g h s t first (subst (λ m. IsScaled m m g t h) same second))
-
-pub small_whole : (gates : ℕ) (s t : Scalar) → gates < list_bound → IsWithin (4 * gates) s → IsWithin most_simplified_root2 t →
-    IsWithin most_left_root2 (product_of_scalars s t)
-small_whole gates s t few first second =
-    within_more (4 * gates + most_simplified_root2) most_left_root2 (product_of_scalars s t) (within_product (4 * gates) most_simplified_root2 s t first second) (fits gates few)
-  where
-    fits : (gates : ℕ) → gates < list_bound → 4 * gates + most_simplified_root2 ≤ most_left_root2
-    fits gates few = omega (arith, few)
 
 -- more odd phases allow more gates
 pub bound_rises : (n m t u gates : ℕ) → m ≡ n → t ≤ u → gates ≤ gate_bound m t → gates ≤ gate_bound n u
@@ -86,8 +70,9 @@ identity_seen : (circuit : Circuit) (made : Simplified) → Simplifies circuit m
     (nat_eq (length made.gates.gates) 0 || is_bare made.reduced.graph) ≡ true → Proportional circuit.qubits circuit.qubits (amp circuit.gates) (amp [])
 identity_seen circuit made s seen =
     elim (or_cases (nat_eq (length made.gates.gates) 0) (is_bare made.reduced.graph) seen) [
-      | inl none ↦ subst (λ gates. Proportional circuit.qubits circuit.qubits (amp circuit.gates) (amp gates)) (no_gates made.gates.gates none) s.map
-      | inr bare ↦ bare_seen circuit made.reduced.graph s.well_formed s.inputs s.kept bare
+      | inl none ↦ subst (λ gates. Proportional circuit.qubits circuit.qubits (amp circuit.gates) (amp gates)) (no_gates made.gates.gates none)
+          (scaled_proportional circuit.qubits circuit.qubits (amp circuit.gates) (amp made.gates.gates) made.scalar s.kept.scaled)
+      | inr bare ↦ bare_seen circuit made.reduced.graph s.well_formed s.inputs s.reduced_map bare
     ]
 
 pub same_seen : (a b both : Circuit) (made : Simplified) → a.qubits ≡ b.qubits → IsCircuit b → both ≡ undone_by a b → Simplifies both made →

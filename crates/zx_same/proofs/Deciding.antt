@@ -6,6 +6,7 @@ use Rattle.zx_model.specs.Number.{mul}
 use Rattle.zx_model.specs.Phase.{is_odd}
 use Rattle.zx_model.specs.Proportional.{Proportional}
 use Rattle.zx_model.proofs.ProportionalLemmas.{proportional_sym, proportional_trans}
+use Rattle.zx_model.proofs.Scalars.{scaled_proportional}
 use Rattle.zx_calculus.specs.Counts.{odd_phases}
 use Rattle.zx_calculus.specs.Graph.{Graph, Vertex, WellFormed, end_vertices, ids, is_interior, kind_of, phase_of}
 use Rattle.zx_calculus.specs.Reduced.{IsReduced}
@@ -69,7 +70,7 @@ decided a b both made same is undone s only one_map =
     identity_is_bare g here.well_formed only (here.inputs ∙ sym here.outputs)
     (at_n (length g.inputs) n n (sum g) (amp []) (sym here.inputs) (sym here.inputs)
     (proportional_trans n n (sum g) (amp (a.gates ++ inverse_of b.gates)) (amp [])
-    (proportional_sym n n (amp (a.gates ++ inverse_of b.gates)) (sum g) here.kept)
+    (proportional_sym n n (amp (a.gates ++ inverse_of b.gates)) (sum g) here.reduced_map)
     (proportional_trans n n (amp (a.gates ++ inverse_of b.gates)) (amp (b.gates ++ inverse_of b.gates)) (amp [])
     (appended n a.gates b.gates (inverse_of b.gates) one_map)
     (undone_map n b.gates (subst (λ m. All (IsGateOn m) b.gates) (sym same) is.on_qubits)))))
@@ -121,11 +122,11 @@ is_left a b both made same is undone s unseen =
       reduced = left.reduced;
       not_bare = not_bare;
       decides = λ only one. true≢false (sym (decided a b both made same is undone s only one) ∙ not_bare);
-      qubits = left.qubits;
-      map = left.map;
+      qubits = left.kept.qubits;
+      map = scaled_proportional a.qubits a.qubits (amp (undone_by a b).gates) (amp made.gates.gates) made.scalar left.kept.scaled;
       tidy = left.tidy;
       some = some (length made.gates.gates) (or-left (nat_eq (length made.gates.gates) 0) (is_bare made.reduced.graph) unseen);
-      odd = subst (λ k. gate_odd_phases made.gates.gates ≤ k) (odd-undone a b is) left.odd;
+      odd = subst (λ k. gate_odd_phases made.gates.gates ≤ k) (odd-undone a b is) left.kept.odd;
       few = subst (λ k. length made.gates.gates ≤ gate_bound a.qubits k) (odd-undone a b is) left.few;
     }
   where

@@ -3,7 +3,7 @@ use Rattle.std.proofs.Common.{◌≡◌, ℕ, ◌<◌, ◌+ℤ◌, ◌-ℤ◌, n
 use borrow.Author.Differences.{ints}
 use Rattle.std.specs.List.{All}
 use Rattle.zx_model.specs.Phase.{turn, sum_of_phases, opposite_phase}
-use Rattle.zx_model.specs.Constants.{power_of_two}
+use Rattle.zx_model.specs.Internal.Powers.{power_of_two}
 use Rattle.zx_model.specs.Number.{Number, mul, root_power}
 use Rattle.zx_model.specs.Proportional.{Proportional}
 use Rattle.zx_model.specs.Scalar.{IsScaled, numerator, denominator, product_of_scalars, quotient_of_scalars}

@@ -8,7 +8,8 @@ use Rattle.std.proofs.lemmas.List.Sums.{sum_by-append, sum_by-cons}
 use Rattle.std.proofs.lemmas.List.Elements.{All-head, All-tail, All-append, All-cons, All-nil}
 use Rattle.zx_model.specs.Phase.{turn, opposite_phase, sum_of_phases}
 use Rattle.zx_model.specs.Number.{zero, mul}
-use Rattle.zx_model.specs.Constants.{two, power_of_two}
+use Rattle.zx_model.specs.Constants.{two}
+use Rattle.zx_model.specs.Internal.Powers.{power_of_two}
 use Rattle.zx_model.specs.Proportional.{Proportional}
 use Rattle.zx_model.proofs.Powers.{power_of_two-add}
 use Rattle.zx_model.proofs.Ring.{mul_assoc, one-mul, one_nonzero, two_nonzero}

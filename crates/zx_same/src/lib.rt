@@ -30,8 +30,6 @@ mod comparing;
 mod division;
 mod inversion;
 mod laws;
-#[cfg(test)]
-mod tests;
 
 pub use comparing::{Sameness, compare};
 pub use division::quotient;

@@ -1,8 +1,7 @@
 -- What simplification of its graph makes of a circuit.
 -- Kissinger and van de Wetering (arXiv 1903.10477, 2020), on simplification as optimisation.
-use Rattle.std.specs.Prelude.{◌≡◌, ◌≤◌, List, length}
+use Rattle.std.specs.Prelude.{◌≤◌, List, length}
 use Rattle.zx_model.specs.Proportional.{Proportional}
-use Rattle.zx_model.specs.Scalar.{IsScaled, IsWithin}
 use Rattle.zx_model.specs.declared.scalar.Scalar.{Scalar}
 use Rattle.zx_calculus.specs.Counts.{odd_phases}
 use Rattle.zx_calculus.specs.Graph.{Graph}
@@ -11,6 +10,7 @@ use Rattle.zx_calculus.specs.Steps.{Step, IsRun}
 use Rattle.zx_calculus.specs.Sum.{sum}
 use Rattle.zx_gates.specs.Circuit.{Circuit, gate_odd_phases}
 use Rattle.zx_gates.specs.Maps.{amp}
+use Rattle.zx_gates.specs.Passes.{Preserves}
 use Rattle.zx_peephole.specs.Tidy.{IsTidy}
 use Rattle.circuit_graph.specs.Translation.{translated}
 use Rattle.zx_extract.specs.Simplified.{gate_bound}
@@ -24,10 +24,8 @@ pub record IsSimplified (read made : Circuit) (s : Scalar) : Type 0 where
   pub end : Graph
   pub run : IsRun (translated read) steps end
   pub reduced : IsReduced end
-  pub qubits : made.qubits ≡ read.qubits
+  pub kept : Preserves most_circuit_root2 read made s
   pub same_map : Proportional read.qubits read.qubits (sum end) (amp made.gates)
-  pub scaled : IsScaled read.qubits read.qubits (amp read.gates) s (amp made.gates)
-  pub small : IsWithin most_circuit_root2 s
   pub odd : gate_odd_phases made.gates ≤ odd_phases end
   pub fewer : odd_phases end ≤ odd_phases (translated read)
   pub read_odd : odd_phases (translated read) ≤ gate_odd_phases read.gates

@@ -13,7 +13,6 @@ use zx_extract::extract;
 use zx_flow::Flow;
 use zx_gates::ScaledCircuit;
 use zx_peephole::tidy;
-use zx_reduce::check_size;
 
 // The tidied circuit of a reduced graph, whose sum is so many times its map.
 pub(crate) fn extract_tidy(
@@ -28,7 +27,8 @@ pub(crate) fn extract_tidy(
     requires few { length reduced.graph.outputs ≤ most_qubits }
     ensures { IfOk result (λ made. Extracts reduced.graph made.gates made.scalar) }
 {
-    check_size(&reduced)?;
+    // So the exponent of the scalar fits.
+    prove!(reduced.vertex_count() as u64 <= 1 << 32);
     let made = extract(alloc, reduced, flow)?;
     let mut gates = made.gates;
     let after = tidy(&mut gates);

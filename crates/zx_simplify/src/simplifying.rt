@@ -1,16 +1,15 @@
 //! A graph to a circuit, with the steps and the graph on the way.
 
 ghost use Rattle.std.specs.Prelude.{◌≡◌, ◌≤◌, length, map, IfOk};
-ghost use Rattle.zx_model.specs.Scalar.{IsScaled, IsWithin};
 ghost use Rattle.zx_calculus.specs.Counts.{odd_phases};
-ghost use Rattle.zx_calculus.specs.Exact.{KeepsMap};
+ghost use Rattle.zx_calculus.specs.StepScalars.{KeepsMap};
 ghost use Rattle.zx_calculus.specs.Reduced.{IsReduced};
 ghost use Rattle.zx_calculus.specs.Steps.{IsRun};
 ghost use Rattle.zx_calculus.specs.Sum.{sum};
 ghost use Rattle.zx_calculus.specs.Graph.{WellFormed};
 ghost use Rattle.gflow_laws.specs.Flow.{IsFlow};
 ghost use Rattle.zx_gates.specs.Circuit.{gate_odd_phases, most_qubits};
-ghost use Rattle.zx_gates.specs.Maps.{amp};
+ghost use Rattle.zx_gates.specs.Passes.{Implements};
 ghost use Rattle.zx_peephole.specs.Tidy.{IsTidy};
 ghost use Rattle.zx_reduce.specs.Steps.{step_named};
 ghost use Rattle.zx_extract.specs.Simplified.{gate_bound};
@@ -23,7 +22,7 @@ use std::alloc::{AllocError, Global};
 use zx_flow::Flow;
 use zx_gates::{GateList, ScaledCircuit};
 use zx_model::Scalar;
-use zx_reduce::{Trace, check_size, reduce_owned};
+use zx_reduce::{Trace, reduce_owned};
 
 /// The circuit of a simplified graph, the steps by which the graph was simplified, and what they
 /// lead to.
@@ -62,10 +61,8 @@ pub fn simplify(alloc: Global, graph: OpenGraph, flow: Flow) -> Result<Simplifie
         length made.reduced.graph.outputs ≡ length graph.graph.outputs) }
 
     // The graph's sum is a number other than 0 times the circuit's map.
-    ensures qubits { IfOk result (λ made. made.gates.qubits ≡ length graph.graph.outputs) }
-    ensures scalar { IfOk result (λ made. IsScaled (length graph.graph.outputs)
-        (length graph.graph.outputs) (sum graph.graph) made.scalar (amp made.gates.gates)) }
-    ensures small { IfOk result (λ made. IsWithin most_simplified_root2 made.scalar) }
+    ensures kept { IfOk result (λ made. Implements (length graph.graph.outputs) (sum graph.graph)
+        (odd_phases graph.graph) most_simplified_root2 made.gates made.scalar) }
     ensures tidy { IfOk result (λ made. IsTidy made.gates.gates) }
 
     // At most as many phases are odd as in the reduced graph, and there are few gates.
@@ -76,7 +73,8 @@ pub fn simplify(alloc: Global, graph: OpenGraph, flow: Flow) -> Result<Simplifie
     ensures few_gates { IfOk result (λ made. length made.gates.gates ≤
         gate_bound (length graph.graph.outputs) (odd_phases graph.graph)) }
 {
-    check_size(&graph)?;
+    // So the exponent of the scalar fits.
+    prove!(graph.vertex_count() as u64 <= 1 << 32);
     let made = reduce_owned(alloc, graph, flow)?;
     let flow = made.flow;
     let circuit = extract_copy(alloc, &made.graph, flow)?;

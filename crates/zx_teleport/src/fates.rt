@@ -1,6 +1,6 @@
 //! Where the phase of each vertex ends up, told backwards from the notes of the rewrites.
 
-ghost use Rattle.std.specs.Prelude.{◌≡◌, ◌==◌, ◌<◌, ℕ, true, false, if◌then◌else◌, length, get_or, IfOk, OnOk};
+ghost use Rattle.std.specs.Prelude.{◌≡◌, ◌==◌, ℕ, true, false, if◌then◌else◌, get_or, IfOk, OnOk};
 ghost use Rattle.teleport_circuits.specs.Teleporting.{place_number};
 ghost use Rattle.zx_teleport.specs.Internal.Noting.{stands_odd};
 ghost use Rattle.zx_teleport.specs.Internal.Fates.{spot_named, unmoved, told, turned, before, fates_by};
@@ -8,6 +8,7 @@ ghost use Rattle.zx_teleport.specs.Internal.Fates.{spot_named, unmoved, told, tu
 use crate::notes::{Note, Parting};
 use open_graph::VertexId;
 use std::alloc::{AllocError, Global};
+use vertex_map::{Values, VertexMap};
 
 // Who holds a phase: the vertex of a number; one that was deleted where so many rewrites were left; one
 // that was dropped, whose phase doesn't matter.
@@ -25,19 +26,30 @@ pub(crate) struct Fate {
     pub(crate) negated: bool,
 }
 
-// Where the phases of the vertices end up, by their numbers. Vertices behind the end keep theirs.
+impl Values for Fate {
+    type Value = Fate;
+
+    ghost absent = { unmoved };
+
+    // Vertices keep their phases.
+    fn absent(v: usize) -> Fate {
+        unsigned(Keeper::At(v))
+    }
+}
+
+// Where the phases of the vertices end up, by their numbers.
 #[derive(Drop)]
 pub(crate) struct Fates {
-    pub(crate) fates: Vec<Fate>,
+    pub(crate) fates: VertexMap<Fate>,
 }
 
 impl Fates {
     // By the notes of rewrites that were done one after the other.
     pub(crate) fn of_notes(alloc: Global, notes: &[Note]) -> Result<Fates, AllocError>
-        ensures { IfOk result (λ made. (v : ℕ) → told made.fates.items v ≡ fates_by notes.now v) }
+        ensures { IfOk result (λ made. (v : ℕ) → told made.fates v ≡ fates_by notes.now v) }
     {
         let mut made = Fates {
-            fates: Vec::new(alloc),
+            fates: VertexMap::new(alloc),
         };
         let count = notes.len();
         for left in 0..count {
@@ -48,20 +60,16 @@ impl Fates {
 
     // Where the phase of the vertex of a number ends up.
     pub(crate) fn of_vertex(&self, v: usize) -> Fate
-        ensures { spot_named result ≡ told self.now.fates.items v }
+        ensures { spot_named result ≡ told self.now.fates v }
     {
-        if v < self.fates.len() {
-            self.fates[v]
-        } else {
-            staying(v)
-        }
+        self.fates.get(v)
     }
 
     // From where phases end up after a rewrite, behind which so many are left, to where they do before it.
     fn go_back(&mut self, note: &Note, left: usize) -> Result<(), AllocError>
-        ensures { OnOk result ((v : ℕ) → told self.new.fates.items v ≡
+        ensures { OnOk result ((v : ℕ) → told self.new.fates v ≡
             before left note.now.parting (stands_odd note.now.negated.items)
-            (told self.old.fates.items) v) }
+            (told self.old.fates) v) }
     {
         self.turn_all(&note.negated)?;
         match note.parting {
@@ -74,8 +82,8 @@ impl Fates {
 
     // Negates the phases of these vertices.
     fn turn_all(&mut self, vertices: &[VertexId]) -> Result<(), AllocError>
-        ensures { OnOk result ((v : ℕ) → told self.new.fates.items v ≡
-            turned (stands_odd vertices.now v) (told self.old.fates.items v)) }
+        ensures { OnOk result ((v : ℕ) → told self.new.fates v ≡
+            turned (stands_odd vertices.now v) (told self.old.fates v)) }
     {
         for v in vertices {
             self.turn(v.get())?;
@@ -85,8 +93,8 @@ impl Fates {
 
     // Negates the phase of the vertex of a number.
     fn turn(&mut self, v: usize) -> Result<(), AllocError>
-        ensures { OnOk result ((w : ℕ) → told self.new.fates.items w ≡
-            turned (w == v) (told self.old.fates.items w)) }
+        ensures { OnOk result ((w : ℕ) → told self.new.fates w ≡
+            turned (w == v) (told self.old.fates w)) }
     {
         let fate = self.of_vertex(v);
         self.set(v, opposite(fate))
@@ -94,31 +102,11 @@ impl Fates {
 
     // Says where the phase of the vertex of a number ends up.
     fn set(&mut self, v: usize, fate: Fate) -> Result<(), AllocError>
-        ensures { OnOk result ((w : ℕ) → told self.new.fates.items w ≡
-            (if w == v then spot_named fate else told self.old.fates.items w)) }
+        ensures { OnOk result ((w : ℕ) → told self.new.fates w ≡
+            (if w == v then spot_named fate else told self.old.fates w)) }
     {
-        self.make_room(v)?;
-        self.fates[v] = fate;
-        Ok(())
+        self.fates.set(v, fate)
     }
-
-    // Makes room for the vertex of a number.
-    fn make_room(&mut self, v: usize) -> Result<(), AllocError>
-        ensures ok { OnOk result (v < length self.new.fates.items) }
-        ensures same { (w : ℕ) → told self.new.fates.items w ≡ told self.old.fates.items w }
-    {
-        'grow: while self.fates.len() <= v {
-            let fate = staying(self.fates.len());
-            self.fates.push(fate)?;
-        }
-        Ok(())
-    }
-}
-
-fn staying(v: usize) -> Fate
-    ensures { result ≡ unmoved v }
-{
-    unsigned(Keeper::At(v))
 }
 
 fn unsigned(keeper: Keeper) -> Fate

@@ -14,6 +14,7 @@ ghost use Rattle.zx_teleport.specs.Internal.Grouping.{group_in, group_at, joined
 use crate::fates::{Fate, Fates, Keeper, place_at};
 use open_graph::VertexId;
 use std::alloc::{AllocError, Global};
+use vertex_map::{Values, VertexMap};
 use zx_gates::{Gate, GateList};
 use zx_model::Sixteenth;
 
@@ -24,11 +25,26 @@ pub(crate) struct Group {
     pub(crate) first: usize,
 }
 
+impl Values for Group {
+    type Value = Group;
+
+    ghost use Rattle.zx_teleport.specs.Internal.Grouping.{no_gates};
+
+    ghost absent = { λ _. no_gates };
+
+    fn absent(_: usize) -> Group {
+        Group {
+            sum: Sixteenth::new(0),
+            first: 0,
+        }
+    }
+}
+
 // The groups by who holds them: vertices, and vertices deleted where so many rewrites were left.
 #[derive(Drop)]
 pub(crate) struct Groups {
-    pub(crate) at: Vec<Group>,
-    pub(crate) deleted: Vec<Group>,
+    pub(crate) at: VertexMap<Group>,
+    pub(crate) deleted: VertexMap<Group>,
 }
 
 // The circuit with other phases: the first gate of odd phase of each group gets the sum of the
@@ -43,7 +59,7 @@ pub(crate) fn regrouped(
     ensures circuit { OnOk result (IsCircuit read.now) }
     ensures qubits { IfOk result (λ made. made.qubits ≡ read.now.qubits) }
     ensures gates { IfOk result (λ made. made.gates ≡ without_idle (with_phases
-        (new_phase read.now (λ i. told fates.now.fates.items (vertex_at read.now i))) 0 read.now.gates)) }
+        (new_phase read.now (λ i. told fates.now.fates (vertex_at read.now i))) 0 read.now.gates)) }
 {
     let groups = groups_of(alloc, read, at, fates)?;
     let mut made = GateList::new(alloc, read.qubits());
@@ -82,11 +98,11 @@ fn groups_of(
 ) -> Result<Groups, AllocError>
     requires { at.now ≡ places read.now }
     ensures { IfOk result
-        (HasGroups read.now (λ i. told fates.now.fates.items (vertex_at read.now i)) 0) }
+        (HasGroups read.now (λ i. told fates.now.fates (vertex_at read.now i)) 0) }
 {
     let mut groups = Groups {
-        at: Vec::new(alloc),
-        deleted: Vec::new(alloc),
+        at: VertexMap::new(alloc),
+        deleted: VertexMap::new(alloc),
     };
     let gates = read.gates();
     let count = gates.len();
@@ -157,40 +173,30 @@ impl Groups {
 }
 
 // What the gate of a number gets of the group at a place: all, where it is the first one.
-fn share_in(groups: &[Group], n: usize, i: usize, negated: bool) -> Sixteenth
+fn share_in(groups: &VertexMap<Group>, n: usize, i: usize, negated: bool) -> Sixteenth
     ensures { result ≡ (if i == (group_in groups.now n).first
         then signed negated (group_in groups.now n).sum else 0) }
 {
-    if n < groups.len() && i == groups[n].first {
-        with_sign(negated, groups[n].sum)
+    let group = groups.get(n);
+    if i == group.first {
+        with_sign(negated, group.sum)
     } else {
         Sixteenth::new(0)
     }
 }
 
 // Adds the gate of a number and its phase before all others of the group at a place.
-fn join(groups: &mut Vec<Group>, n: usize, i: usize, phase: Sixteenth) -> Result<(), AllocError>
-    ensures { OnOk result ((m : ℕ) → group_in groups.new.items m ≡ (if n == m
-        then joined_by i phase (group_in groups.old.items m) else group_in groups.old.items m)) }
+fn join(
+    groups: &mut VertexMap<Group>,
+    n: usize,
+    i: usize,
+    phase: Sixteenth,
+) -> Result<(), AllocError>
+    ensures { OnOk result ((m : ℕ) → group_in groups.new m ≡ (if n == m
+        then joined_by i phase (group_in groups.old m) else group_in groups.old m)) }
 {
-    make_room(groups, n)?;
-    let sum = phase.add(groups[n].sum);
-    groups[n] = Group { sum, first: i };
-    Ok(())
-}
-
-// Makes room for the group at a place.
-fn make_room(groups: &mut Vec<Group>, n: usize) -> Result<(), AllocError>
-    ensures ok { OnOk result (n < length groups.new.items) }
-    ensures same { (m : ℕ) → group_in groups.new.items m ≡ group_in groups.old.items m }
-{
-    'grow: while groups.len() <= n {
-        groups.push(Group {
-            sum: Sixteenth::new(0),
-            first: 0,
-        })?;
-    }
-    Ok(())
+    let sum = phase.add(groups.get(n).sum);
+    groups.set(n, Group { sum, first: i })
 }
 
 fn with_sign(negated: bool, phase: Sixteenth) -> Sixteenth

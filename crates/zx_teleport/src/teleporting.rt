@@ -1,22 +1,22 @@
 //! Phases of a circuit put together.
 
-ghost use Rattle.std.specs.Prelude.{◌≡◌, ◌<◌, ◌≤◌, ◌*◌, length, map, IfOk, OnOk};
-ghost use Rattle.zx_model.specs.Proportional.{Proportional};
-ghost use Rattle.zx_model.specs.Scalar.{IsScaled, IsWithin};
+ghost use Rattle.std.specs.Prelude.{◌≡◌, ◌≤◌, ◌*◌, length, map, IfOk, OnOk};
+ghost use Rattle.zx_model.specs.Scalar.{IsWithin};
 ghost use Rattle.zx_calculus.specs.Graph.{Graph};
 ghost use Rattle.zx_calculus.specs.Counts.{odd_phases};
 ghost use Rattle.zx_calculus.specs.Reduced.{IsReduced};
 ghost use Rattle.zx_calculus.specs.Steps.{IsRun};
-ghost use Rattle.zx_calculus.specs.StepScalars.{most_vertices, IsSumTimes};
+ghost use Rattle.zx_calculus.specs.StepScalars.{IsSumTimes};
 ghost use Rattle.zx_gates.specs.Circuit.{gate_odd_phases, IsCircuit};
-ghost use Rattle.zx_gates.specs.Maps.{amp};
+ghost use Rattle.zx_gates.specs.Passes.{Preserves};
 ghost use Rattle.gflow_laws.specs.Flow.{IsFlow};
 ghost use Rattle.circuit_graph.specs.Translation.{places, translated};
 ghost use Rattle.teleport_circuits.specs.Circuits.{IsSkeleton};
 ghost use Rattle.teleport_circuits.specs.Teleporting.{teleported_gates};
 ghost use Rattle.zx_teleport.specs.Together.{IsPutTogether, IsTeleported};
 ghost use Rattle.zx_reduce.specs.Reducing.{Reduces};
-ghost use Rattle.zx_reduce.specs.Scaling.{memory_bound, most_exponent};
+ghost use Rattle.open_graph.specs.OpenGraph.{most_vertices_in_memory};
+ghost use Rattle.zx_reduce.specs.Scaling.{most_exponent};
 ghost use Rattle.zx_reduce.specs.Steps.{step_named};
 ghost use Rattle.zx_teleport.specs.Scalars.{most_teleported_root2};
 ghost use Rattle.zx_teleport.specs.Internal.Noting.{MayRun};
@@ -31,7 +31,7 @@ use std::alloc::{AllocError, Global};
 use zx_flow::Flow;
 use zx_gates::GateList;
 use zx_model::Scalar;
-use zx_reduce::{Reduction, Step, Trace, check_size, reduce_owned};
+use zx_reduce::{Reduction, Step, Trace, reduce_owned};
 
 /// A circuit whose phases were put together, the steps by which its graph was simplified to see
 /// which, the simplified graph, and the scalar between the maps.
@@ -66,16 +66,12 @@ pub struct Unscaled {
 ///
 /// # Errors
 ///
-/// Only where memory runs out, or no memory has room for the graph: one of 2^48 vertices.
+/// Only where memory runs out.
 pub fn teleport(alloc: Global, read: &GateList) -> Result<Teleported, AllocError>
     // Nothing but values of phases changes, and the map stays up to the scalar, which isn't 0.
-    ensures qubits { IfOk result (λ found. found.gates.qubits ≡ read.now.qubits) }
+    ensures kept { IfOk result (λ found.
+        Preserves most_teleported_root2 read.now found.gates found.scalar) }
     ensures skeleton { IfOk result (λ found. IsSkeleton read.now.gates found.gates.gates) }
-    ensures map { IfOk result (λ found. Proportional read.now.qubits read.now.qubits
-        (amp found.gates.gates) (amp read.now.gates)) }
-    ensures scalar { IfOk result (λ found. IsScaled read.now.qubits read.now.qubits
-        (amp read.now.gates) found.scalar (amp found.gates.gates)) }
-    ensures small { IfOk result (λ found. IsWithin most_teleported_root2 found.scalar) }
 
     // The steps lead from the circuit's graph to the reduced one.
     ensures run { IfOk result (λ found.
@@ -86,11 +82,9 @@ pub fn teleport(alloc: Global, read: &GateList) -> Result<Teleported, AllocError
     ensures gates { IfOk result (λ found. IsPutTogether read.now
         (map step_named found.trace.steps) found.reduced.graph found.gates.gates) }
 
-    // At most as many phases are odd as in that graph, and as were read.
+    // At most as many phases are odd as in that graph.
     ensures odd { IfOk result (λ found.
         gate_odd_phases found.gates.gates ≤ odd_phases found.reduced.graph) }
-    ensures fewer { IfOk result (λ found.
-        gate_odd_phases found.gates.gates ≤ gate_odd_phases read.now.gates) }
 {
     let found = teleport_unscaled(alloc, read)?;
     let after = scalar_of(alloc, &found.gates, found.trace.as_slice())?;
@@ -116,14 +110,14 @@ pub fn teleport_unscaled(alloc: Global, read: &GateList) -> Result<Unscaled, All
         IsSumTimes (translated read.now) found.before found.reduced.graph) }
     ensures small { IfOk result (λ found.
         IsWithin (most_exponent (translated read.now)) found.before) }
-    ensures few { OnOk result (length (translated read.now).vertices < memory_bound) }
+    ensures few { OnOk result (length (translated read.now).vertices ≤ most_vertices_in_memory) }
     ensures few_steps { IfOk result (λ found.
         length found.trace.steps ≤ 18 * length (translated read.now).vertices) }
 {
     let placed = translate_placed(alloc, read)?;
     let graph = placed.graph;
     let places = placed.places;
-    check_size(&graph)?;
+    prove!(graph.vertex_count() as u64 <= 1 << 32);
     let simplified = simplified(alloc, &graph, placed.flow)?;
     let gates = put_together(alloc, read, graph, &places, simplified.trace.as_slice())?;
     Ok(Unscaled {
@@ -137,7 +131,6 @@ pub fn teleport_unscaled(alloc: Global, read: &GateList) -> Result<Unscaled, All
 // What simplification makes of a copy of a graph with its flow.
 fn simplified(alloc: Global, graph: &OpenGraph, flow: Flow) -> Result<Reduction, AllocError>
     requires flow { IsFlow graph.now.graph flow.flow }
-    requires few { length graph.now.graph.vertices < most_vertices }
     ensures { IfOk result (λ made. Reduces graph.now.graph
         made.graph.graph made.flow.flow made.trace.steps made.scalar) }
 {

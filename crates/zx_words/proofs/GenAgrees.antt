@@ -71,19 +71,12 @@ left true words = words
 left false words = without_separator words
 
 -- ---- one word more
-at_end : (g : Given) → by_gen (level gen_leaf (at g false) []) ≡ generation_of (words_of g)
+at_end : (is_trailing : Bool) (g : Given) → by_gen (level gen_leaf (at g is_trailing) []) ≡ generation_of (words_of g)
 unfolding clap_on_literals
-at_end none = refl
-at_end (one a) = refl
-at_end (two a b) = refl
-at_end (three a b c) = refl
-
-trailing_end : (g : Given) → by_gen (level gen_leaf (at g true) []) ≡ generation_of (words_of g)
-unfolding clap_on_literals
-trailing_end none = refl
-trailing_end (one a) = refl
-trailing_end (two a b) = refl
-trailing_end (three a b c) = refl
+at_end is_trailing none = refl
+at_end is_trailing (one a) = refl
+at_end is_trailing (two a b) = refl
+at_end is_trailing (three a b c) = refl
 
 -- a word goes to the next positional, if there is one
 abbrev placed : Given → Bool → Text → List Text → Option (List Row)
@@ -171,8 +164,8 @@ one_more rest more false g word = go (bytes_eq word (codes "--")) refl
     go false is = other g word rest is (more false)
 
 gen_reads : (words : List Text) (is_trailing : Bool) (g : Given) → IsRead is_trailing g words
-gen_reads [] true g = trailing_end g ∙ ap generation_of (sym (append-nil (words_of g)))
-gen_reads [] false g = at_end g ∙ ap generation_of (sym (append-nil (words_of g)))
+gen_reads [] true g = at_end true g ∙ ap generation_of (sym (append-nil (words_of g)))
+gen_reads [] false g = at_end false g ∙ ap generation_of (sym (append-nil (words_of g)))
 gen_reads (word ∷ rest) is_trailing g = one_more rest (gen_reads rest) is_trailing g word
 
 pub gen_agrees : (words : List Text)

@@ -11,8 +11,6 @@
 #![tactic(auto)]
 
 pub mod laws;
-#[cfg(test)]
-mod tests;
 mod words;
 
 pub use words::{Command, command_in};

@@ -1,13 +1,11 @@
 -- A translation under way: the graph so far, and the corrections of the spiders that the wires have left.
-use Rattle.std.specs.Prelude.{◌≡◌, ℕ, ◌+◌, ◌<◌, ◌≤◌, ltb, Bool, true, List, [], ◌∷◌, ◌++◌, length}
+use Rattle.std.specs.Prelude.{◌≡◌, ℕ, ◌+◌, ◌≤◌, ltb, true, List, [], ◌∷◌, ◌++◌, length}
 use Rattle.std.specs.List.{count_by, fold}
-use Rattle.zx_model.specs.Number.{one, mul}
-use Rattle.zx_calculus.specs.Sum.{sum}
-use Rattle.zx_calculus.specs.Graph.{XY, Vertex, Graph, ids, plane_of, Live, WellFormed}
+use Rattle.zx_model.specs.Number.{one}
+use Rattle.zx_calculus.specs.Graph.{XY, Vertex, Graph, ids, plane_of, WellFormed}
 use Rattle.zx_model.specs.Bits.{member}
 use Rattle.zx_calculus.specs.Counts.{odd_phases}
 use Rattle.zx_gates.specs.Circuit.{Circuit, gate_odd_phases}
-use Rattle.zx_gates.specs.Maps.{amp}
 use Rattle.zx_gates.specs.Counting.{is_h}
 use Rattle.zx_gates.specs.declared.gate.Gate.{Gate}
 use Rattle.zx_gates.specs.declared.gate.Gate.TheVariants.{H, Phase, Cz}
@@ -15,8 +13,7 @@ use Rattle.gflow_laws.specs.Flow.{Correction, IsFlow, SameSets}
 use Rattle.gflow_laws.specs.Splits.{split_output_table}
 use Rattle.circuit_laws.specs.Followed.{PeelsAt}
 use Rattle.circuit_laws.specs.Peeling.{IsSpiderPeel, IsPhasePeel, IsEdgePeel, are_plain}
-use Rattle.circuit_graph.specs.Translation.{wires, with_gate, spiders_of, scalar_of}
-use Rattle.circuit_graph.specs.Translation.{table_from, translated, translated_table}
+use Rattle.circuit_graph.specs.Translation.{wires, with_gate, table_from, IsTranslation}
 
 pub record State : Type 0 where
   pub graph : Graph
@@ -75,19 +72,6 @@ pub record Comes (s : State) (gates : List Gate) (t : State) : Type 0 where
   pub inputs : t.graph.inputs ≡ s.graph.inputs
   pub outputs : length t.graph.outputs ≡ length s.graph.outputs
 
--- all that is shown of a translation: what `IsTranslation` says, and the sum by a number
-pub record Translates (c : Circuit) (t : State) : Type 0 where
-  pub graph : t.graph ≡ translated c
-  pub well_formed : WellFormed t.graph
-  pub flow : IsFlow t.graph t.table
-  pub table : SameSets t.table (translated_table c)
-  pub spiders : length t.graph.vertices ≡ spiders_of c
-  pub ids : (u : ℕ) → Live t.graph u → u < length t.graph.vertices
-  pub planes : (u : ℕ) → plane_of t.graph u ≡ XY
-  pub odd : odd_phases t.graph ≤ gate_odd_phases c.gates
-  pub inputs : length t.graph.inputs ≡ c.qubits
-  pub outputs : length t.graph.outputs ≡ c.qubits
-  pub plain_inputs : are_plain t.graph.inputs ≡ true
-  pub plain_outputs : are_plain t.graph.outputs ≡ true
-  pub sum : (x y : List Bool) → length x ≡ c.qubits → length y ≡ c.qubits →
-      sum t.graph x y ≡ mul (scalar_of c.gates) (amp c.gates x y)
+-- after all gates: the translation of the circuit
+abbrev pub Translates : Circuit → State → Type 0
+Translates c t = IsTranslation c t.graph t.table

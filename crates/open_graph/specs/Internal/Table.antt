@@ -4,6 +4,7 @@ use Rattle.std.specs.Prelude.{is_some, IsSome, slice_index_or, slice_set}
 use Rattle.zx_model.specs.Bits.{bit}
 use Rattle.zx_bits.specs.Rows.{BitRow}
 use Rattle.open_graph.specs.declared.slot.Slot.{Slot}
+use Rattle.open_graph.specs.OpenGraph.{most_vertices_in_memory}
 
 -- what it keeps under each id from 0 on
 pub record SlotTable : Type 0 where
@@ -30,3 +31,8 @@ pub record IsFreeRow (slots : List (Option Slot)) (free : BitRow) : Type 0 where
   pub covers : length slots ≤ length free.bits
   pub vacant : (id : ℕ) → id < length slots → bit free.bits id ≡ not (is_some (slice_index_or slots id None))
   pub none_after : (id : ℕ) → length slots ≤ id → bit free.bits id ≡ false
+
+-- it has a row of its free entries, and no more entries than vertices may be in memory
+pub record IsTable (slots : List (Option Slot)) (free : BitRow) : Type 0 where
+  pub row : IsFreeRow slots free
+  pub few : length slots ≤ most_vertices_in_memory

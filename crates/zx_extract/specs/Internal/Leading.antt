@@ -8,7 +8,7 @@ use Rattle.zx_gates.specs.Circuit.{IsOnQubits, gate_odd_phases, most_qubits}
 use Rattle.zx_gates.specs.declared.gate.Gate.{Gate}
 use Rattle.circuit_laws.specs.Followed.{PeelsAt}
 use Rattle.circuit_laws.specs.Peeling.{HasPlainOutput, are_plain}
-use Rattle.zx_model.specs.Constants.{power_of_two}
+use Rattle.zx_model.specs.Internal.Powers.{power_of_two}
 
 -- what is left of the graph, its flow, and the gates that were taken off, the first to act first
 pub record State : Type 0 where

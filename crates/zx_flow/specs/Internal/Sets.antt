@@ -4,6 +4,7 @@ use Rattle.zx_model.specs.Bits.{xor, member}
 use Rattle.zx_calculus.specs.Graph.{Distinct}
 use Rattle.gflow_laws.specs.Flow.{Correction}
 use Rattle.open_graph.specs.VertexSets.{VertexSet}
+use Rattle.open_graph.specs.Rooms.{Room}
 
 -- the set without vertices
 abbrev pub no_set : VertexSet
@@ -50,8 +51,7 @@ pub record HasReach (reach : ℕ) (sets : List VertexSet) : Type 0 where
   pub there : reach ≤ length sets
   pub room : (v : ℕ) → v < reach → reach ≤ room_at sets v
 
--- what contracts see of an order with sets: the table, and what it has memory for
+-- what contracts see of an order with sets: the table, and the memory that it has
 pub record Corrections : Type 0 where
   pub table : List Correction
-  pub spare : ℕ
-  pub reach : ℕ
+  pub room : Room

@@ -1,11 +1,11 @@
 -- Which candidate for the best circuit is taken.
 use Rattle.std.specs.Prelude.{◌≡◌, ◌<◌, ◌≤◌, ◌==◌, ◌^◌, ◌⊎◌, ℕ, nat_lt, Bool, if◌then◌else◌}
-use Rattle.zx_model.specs.Scalar.{IsWithin}
 use Rattle.zx_gates.specs.declared.scaled_circuit.ScaledCircuit.{ScaledCircuit}
 use Rattle.zx_gates.specs.declared.tally.Counts.{Counts}
-use Rattle.zx_gates.specs.Circuit.{Circuit, gate_odd_phases}
+use Rattle.zx_gates.specs.Circuit.{Circuit}
+use Rattle.zx_gates.specs.Passes.{Preserves}
 use Rattle.zx_peephole.specs.Tidy.{IsTidy}
-use Rattle.zx_optimise.specs.Optimising.{counts_of, IsCleaned, IsMapTimes, IsNoDearer, Optimises, Teleports}
+use Rattle.zx_optimise.specs.Optimising.{counts_of, IsCleaned, IsNoDearer, Optimises, Teleports}
 
 -- whether these are more, by odd phases, then by gates on two qubits, then by all gates
 abbrev pub is_dearer : Counts → Counts → Bool
@@ -25,17 +25,12 @@ most_whole_root2 = 2 ^ 57
 -- what may be taken in the place of a circuit, where it is within the bound; the exponent of the root of two in its
 -- scalar is at most k
 pub record IsCandidate (k : ℕ) (read : Circuit) (made : ScaledCircuit) : Type 0 where
-  pub qubits : made.gates.qubits ≡ read.qubits
-  pub odd : gate_odd_phases made.gates.gates ≤ gate_odd_phases read.gates
+  pub kept : Preserves k read made.gates made.scalar
   pub tidy : IsTidy made.gates.gates
-  pub scalar : IsMapTimes read made.scalar made.gates
-  pub small : IsWithin k made.scalar
 
 -- what may be written for a circuit
-pub record Offers (k : ℕ) (read : Circuit) (made : ScaledCircuit) : Type 0 where
-  pub optimises : Optimises read made.gates
-  pub scalar : IsMapTimes read made.scalar made.gates
-  pub small : IsWithin k made.scalar
+abbrev pub Offers : ℕ → Circuit → ScaledCircuit → Type 0
+Offers k read made = Optimises k read made.gates made.scalar
 
 -- fewer odd phases; or as many of them and fewer gates on two qubits; or as many of both and fewer gates in all
 abbrev pub IsCheaper : Counts → Counts → Type 0

@@ -14,7 +14,7 @@ use Rattle.zx_peephole.specs.declared.finding.Change.{Change}
 use Rattle.zx_peephole.specs.declared.finding.Change.TheVariants.{Pair, Triple}
 use Rattle.zx_peephole.specs.declared.chains.Chains.{Chains}
 use Rattle.zx_peephole.specs.Internal.Chains.{kept, place_of, next_of, all_left, IsKept}
-use Rattle.zx_model.specs.Constants.{power_of_two}
+use Rattle.zx_model.specs.Internal.Powers.{power_of_two}
 
 -- ---- what a gate behind a list makes with gates of it
 -- a pair with the gate at place i

@@ -1,25 +1,9 @@
 -- What a walk along a list of gates keeps.
 use Rattle.std.specs.Prelude.{◌≡◌, ◌<◌, ℕ, Bool, true, false, List, [], ◌++◌, length, get_or}
 use Rattle.zx_gates.specs.declared.gate.Gate.{Gate}
-use Rattle.zx_gates.specs.declared.gate.Gate.TheVariants.{H, Phase, Cz, Cx, Not}
 use Rattle.piece_laws.specs.Places.{ArePlaces}
 use Rattle.piece_laws.specs.Reordering.{gates_on, IsReordered}
 use Rattle.zx_pieces.specs.declared.walking.Walk.{Walk}
-
--- a gate's first and second qubit; where it is on one, that one twice
-abbrev pub first_qubit : Gate → ℕ
-first_qubit (H q) = q
-first_qubit (Phase q k) = q
-first_qubit (Cz q r) = q
-first_qubit (Cx control target) = control
-first_qubit (Not q) = q
-
-abbrev pub second_qubit : Gate → ℕ
-second_qubit (H q) = q
-second_qubit (Phase q k) = q
-second_qubit (Cz q r) = r
-second_qubit (Cx control target) = target
-second_qubit (Not q) = q
 
 -- the piece is on different qubits of the circuit, for each of which there is a flag
 pub record IsWide (walk : Walk) : Type 0 where

@@ -5,16 +5,16 @@ use Rattle.zx_calculus.specs.Steps as calculus
 use Rattle.zx_calculus.specs.Steps.{IsStep}
 use Rattle.move_laws.specs.Demand.{demand}
 use Rattle.open_graph.specs.OpenGraph.{OpenGraph}
+use Rattle.open_graph.specs.Rooms.{IsAtLeast}
 use Rattle.zx_flow.specs.Flows.{Flow, HaveReach}
 use Rattle.zx_reduce.specs.declared.step.Step.{Step}
+use Rattle.zx_reduce.specs.Rooms.{in_all, room_for}
 use Rattle.zx_reduce.specs.Steps.{step_named}
 
 -- graph and flow have memory for n vertices with ids below n, those that are there among them
 pub record HavePlaces (n : ℕ) (g : OpenGraph) (f : Flow) : Type 0 where
-  pub places : n ≤ g.spare + length g.graph.vertices
-  pub flow_places : n ≤ f.spare + length g.graph.vertices
-  pub ids : n ≤ g.reach
-  pub flow_ids : n ≤ f.reach
+  pub graph : IsAtLeast (room_for n) (in_all (length g.graph.vertices) g.room)
+  pub flow : IsAtLeast (room_for n) (in_all (length g.graph.vertices) f.room)
   pub reach : HaveReach g f
 
 -- whatever graphs the steps lead to, their demand is at most d, but for one more before the last step is done

@@ -1,12 +1,12 @@
 -- What the search finds at a vertex, by kinds.
-use Rattle.std.specs.Prelude.{◌≡◌, ◌<◌, ℕ, Bool, Some, not, ◌&&◌, ◌==◌, nat_eq, slice_get}
+use Rattle.std.specs.Prelude.{◌≡◌, ◌<◌, ℕ, Bool, true, Some, not, ◌&&◌, ◌==◌, nat_eq, slice_get}
 use Rattle.std.specs.Cmp.Lexicographic.{pointwise}
 use Rattle.zx_model.specs.Phase.{IsOdd}
-use Rattle.zx_model.specs.Bits.{member}
-use Rattle.zx_calculus.specs.Graph.{XY, Graph, ids, plane_of, phase_of, neighbours}
+use Rattle.zx_calculus.specs.Graph.{XY, Graph, plane_of, phase_of, neighbours}
 use Rattle.zx_calculus.specs.Gadgets.{is_gadget}
 use Rattle.zx_calculus.specs.Deletions.{IsDeletable}
-use Rattle.zx_calculus.specs.Moves.{IsQuarterGadget, IsInXZ, IsQuarterSpider, IsInnerPivot, IsBoundaryPivot}
+use Rattle.zx_calculus.specs.Moves.{IsQuarterGadget, IsInXZ, IsQuarterSpider, IsHalfSpider, IsInnerPivot}
+use Rattle.zx_calculus.specs.Moves.{IsBoundaryPivot}
 use Rattle.zx_calculus.specs.Moves.{IsGadgetPair, IsGadgetOf, AreTwins}
 use Rattle.zx_reduce.specs.declared.moves.Move.{Move}
 use Rattle.zx_reduce.specs.declared.moves.Kind.{Kind}
@@ -16,14 +16,25 @@ use Rattle.zx_reduce.specs.Search.{AppliesAt, kind_of}
 
 -- v is a YZ vertex other than u, of the same neighbours
 abbrev pub is_twin : Graph → ℕ → ℕ → Bool
-is_twin g u v =
-    member v (ids g.vertices)
-    && (not (v == u) && (is_gadget g v && pointwise nat_eq (neighbours g v) (neighbours g u)))
+is_twin g u v = not (v == u) && (is_gadget g v && pointwise nat_eq (neighbours g v) (neighbours g u))
 
 -- a move of this kind that applies
 pub record IsMoveOf (g : Graph) (k : Kind) (m : Move) : Type 0 where
   pub applies : AppliesAt g m
   pub kind : kind_of m ≡ k
+
+-- u alone is such that a move of this kind may begin there
+abbrev pub MayBegin : Graph → Kind → ℕ → Type 0
+MayBegin g kinds.Delete u = IsDeletable g u
+MayBegin g kinds.QuarterGadget u = IsQuarterGadget g u
+MayBegin g kinds.FromXZ u = IsInXZ g u
+MayBegin g kinds.QuarterSpider u = IsQuarterSpider g u
+MayBegin g kinds.InnerPivot u = IsHalfSpider g u
+MayBegin g kinds.BoundaryPivot u = IsHalfSpider g u
+MayBegin g kinds.GadgetPair u = is_gadget g u ≡ true
+MayBegin g kinds.LoneGadget u = IsGadgetOf g u 0
+MayBegin g kinds.SingleGadget u = IsGadgetOf g u 1
+MayBegin g kinds.Twins u = is_gadget g u ≡ true
 
 -- no move of this kind applies at u; two gadgets without neighbours are an earlier kind than twins
 abbrev pub NoneAt : Graph → Kind → ℕ → Type 0

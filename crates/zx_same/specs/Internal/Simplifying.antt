@@ -1,7 +1,6 @@
 -- What the graph of a circuit is simplified to.
 use Rattle.std.specs.Prelude.{◌≡◌, ◌≤◌, ℕ, ◌^◌, length, map}
 use Rattle.zx_model.specs.Proportional.{Proportional}
-use Rattle.zx_model.specs.Scalar.{IsScaled, IsWithin}
 use Rattle.zx_calculus.specs.Counts.{odd_phases}
 use Rattle.zx_calculus.specs.Graph.{WellFormed}
 use Rattle.zx_calculus.specs.Reduced.{IsReduced}
@@ -9,6 +8,7 @@ use Rattle.zx_calculus.specs.Steps.{IsRun}
 use Rattle.zx_calculus.specs.Sum.{sum}
 use Rattle.zx_gates.specs.Circuit.{Circuit, gate_odd_phases}
 use Rattle.zx_gates.specs.Maps.{amp}
+use Rattle.zx_gates.specs.Passes.{Preserves}
 use Rattle.zx_peephole.specs.Tidy.{IsTidy}
 use Rattle.zx_reduce.specs.Steps.{step_named}
 use Rattle.zx_extract.specs.Simplified.{gate_bound}
@@ -19,8 +19,8 @@ use Rattle.zx_simplify.specs.declared.simplifying.Simplified.{Simplified}
 abbrev pub most_left_root2 : ℕ
 most_left_root2 = 2 ^ 55
 
--- Steps lead from the circuit's graph to the reduced one, whose sum is proportional to the circuit's map. So is the
--- map of what is left, by the scalar; this is tidy, with no more odd phases than the circuit and few gates.
+-- Steps lead from the circuit's graph to the reduced one, whose sum is proportional to the circuit's map. What is left
+-- is made by a pass over the circuit; it is tidy, and has few gates.
 pub record Simplifies (circuit : Circuit) (made : Simplified) : Type 0 where
   pub run : IsRun (translated circuit) (map step_named made.trace.steps) made.reduced.graph
   pub reduced : IsReduced made.reduced.graph
@@ -28,11 +28,7 @@ pub record Simplifies (circuit : Circuit) (made : Simplified) : Type 0 where
   pub inputs : length made.reduced.graph.inputs ≡ circuit.qubits
   pub outputs : length made.reduced.graph.outputs ≡ circuit.qubits
   pub fewer : odd_phases made.reduced.graph ≤ gate_odd_phases circuit.gates
-  pub kept : Proportional circuit.qubits circuit.qubits (amp circuit.gates) (sum made.reduced.graph)
-  pub qubits : made.gates.qubits ≡ circuit.qubits
-  pub map : Proportional circuit.qubits circuit.qubits (amp circuit.gates) (amp made.gates.gates)
-  pub scaled : IsScaled circuit.qubits circuit.qubits (amp circuit.gates) made.scalar (amp made.gates.gates)
-  pub small : IsWithin most_left_root2 made.scalar
+  pub reduced_map : Proportional circuit.qubits circuit.qubits (amp circuit.gates) (sum made.reduced.graph)
+  pub kept : Preserves most_left_root2 circuit made.gates made.scalar
   pub tidy : IsTidy made.gates.gates
-  pub odd : gate_odd_phases made.gates.gates ≤ gate_odd_phases circuit.gates
   pub few : length made.gates.gates ≤ gate_bound circuit.qubits (gate_odd_phases circuit.gates)

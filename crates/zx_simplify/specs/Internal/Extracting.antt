@@ -1,22 +1,18 @@
 -- What is made of a reduced graph.
-use Rattle.std.specs.Prelude.{◌≡◌, ◌≤◌, ◌+◌, ◌*◌, length}
-use Rattle.zx_model.specs.Scalar.{IsScaled, IsWithin}
+use Rattle.std.specs.Prelude.{◌≤◌, ◌+◌, ◌*◌, length}
 use Rattle.zx_model.specs.declared.scalar.Scalar.{Scalar}
 use Rattle.zx_calculus.specs.Counts.{odd_phases, not_XY, XY_without_output}
 use Rattle.zx_calculus.specs.Graph.{Graph}
 use Rattle.zx_calculus.specs.Sum.{sum}
 use Rattle.zx_extract.specs.Extraction.{most_extracted_gates}
-use Rattle.zx_gates.specs.Circuit.{Circuit, gate_bound, gate_odd_phases}
-use Rattle.zx_gates.specs.Maps.{amp}
+use Rattle.zx_gates.specs.Circuit.{Circuit, gate_bound}
+use Rattle.zx_gates.specs.Passes.{Implements}
 use Rattle.zx_peephole.specs.Tidy.{IsTidy}
-use Rattle.zx_reduce.specs.Scaling.{memory_bound}
+use Rattle.open_graph.specs.OpenGraph.{most_vertices_in_memory}
 
 -- The sum of the reduced graph is s times the map of the circuit, which is tidy, and has no more gates than extraction
 -- gives.
 pub record Extracts (h : Graph) (c : Circuit) (s : Scalar) : Type 0 where
-  pub qubits : c.qubits ≡ length h.outputs
-  pub scaled : IsScaled (length h.inputs) (length h.outputs) (sum h) s (amp c.gates)
-  pub small : IsWithin (2 * memory_bound + gate_bound) s
-  pub odd : gate_odd_phases c.gates ≤ odd_phases h
+  pub kept : Implements (length h.outputs) (sum h) (odd_phases h) (2 * most_vertices_in_memory + gate_bound) c s
   pub few_gates : length c.gates ≤ most_extracted_gates (length h.outputs) (XY_without_output h) (not_XY h)
   pub tidy : IsTidy c.gates

@@ -21,8 +21,8 @@ abbrev pub group_in : List Group → ℕ → Group
 group_in groups n = slice_index_or groups n no_gates
 
 abbrev pub group_at : Groups → Holder → Group
-group_at groups (At v) = group_in groups.at.items v
-group_at groups (Deleted n) = group_in groups.deleted.items n
+group_at groups (At v) = group_in groups.at v
+group_at groups (Deleted n) = group_in groups.deleted n
 group_at groups Dropped = no_gates
 
 -- with the gate i before all others

@@ -2,8 +2,6 @@
 use Rattle.std.proofs.Common.{List, sym, subst}
 use Rattle.gflow_laws.specs.Flow.{Correction}
 use Rattle.circuit_graph.specs.Translation.{IsTranslation}
-use Rattle.circuit_graph.specs.Internal.Wires.{state_of}
-use Rattle.circuit_graph.proofs.Whole.{is_translation}
 use Rattle.circuit_graph.proofs.translation.translate.Goals as goal
 
 pub returns-clause-translation : goal.returns-clause-translation
@@ -11,4 +9,4 @@ returns-clause-translation c =
     let circuit = c.args.circuit.now in
     let wires = c.in_ok-wires.wires in
     subst (λ (f : List Correction). IsTranslation circuit wires.graph.graph f) (sym c.in_ok-flow.ensures)
-    (is_translation circuit (state_of wires) c.in_ok-wires.ensures)
+    c.in_ok-wires.ensures

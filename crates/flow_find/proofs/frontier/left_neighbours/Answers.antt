@@ -1,7 +1,7 @@
 -- One neighbour more was looked at.
-use Rattle.std.proofs.Common.{◌≡◌, ◌∙◌, sym, ap, subst, ◌∷◌, ◌++◌, append-nil, ◌&&◌}
+use Rattle.std.proofs.Common.{◌≡◌, ◌∙◌, sym, ap, ◌++◌, append-nil, ◌&&◌}
 use Rattle.zx_model.specs.Bits.{member}
-use Rattle.zx_calculus.specs.Graph.{neighbours, Distinct}
+use Rattle.zx_calculus.specs.Graph.{neighbours}
 use Rattle.zx_calculus.proofs.Booleans.{and-false}
 use Rattle.zx_calculus.proofs.Toggling.{member-neighbours, Distinct-neighbours}
 use Rattle.gflow_laws.specs.Flow.{is_in}
@@ -18,27 +18,23 @@ loop-w-init c = record {
 pub loop-w-preserved-in-Continue-1 : goal.loop-w-preserved-in-Continue-1
 loop-w-preserved-in-Continue-1 c =
     let here = next_some c.next.result c.loop-w.w-iterator c.next.new.self c.in-Some.w c.next.ensures.steps c.in-Some.is in
-    let apart : Distinct (c.loop-w.yielded ++ c.in-Some.w ∷ c.next.new.self) =
-    subst Distinct (sym (ap (λ rest. c.loop-w.yielded ++ rest) (sym here) ∙ c.loop-w.invariant.all))
-    (Distinct-neighbours c.args.g.now.graph c.args.u c.neighbours-w-items.ensures.valid) in
     record {
       all = next_all c.loop-w.yielded c.loop-w.w-iterator c.next.new.self (neighbours c.args.g.now.graph c.args.u) c.in-Some.w
           c.loop-w.invariant.all here;
-      so_far = left_grown (is_in c.args.left.now.ids) c.loop-w.set.ids c.loop-w.yielded c.next.new.self c.in-Some.w apart
-          c.loop-w.invariant.so_far (sym c.contains.ensures ∙ c.if-contains.true) c.toggle.new.self.ids c.in_ok-toggle.ensures.ok;
+      so_far = left_grown (is_in c.args.left.now.ids) c.loop-w.set.ids c.loop-w.yielded c.loop-w.w-iterator c.next.new.self
+          (neighbours c.args.g.now.graph c.args.u) c.in-Some.w (Distinct-neighbours c.args.g.now.graph c.args.u c.neighbours-w-items.ensures.valid)
+          c.loop-w.invariant.all here c.loop-w.invariant.so_far (sym c.contains.ensures ∙ c.if-contains.true) c.toggle.new.self.ids c.in_ok-toggle.ensures.ok;
     }
 
 pub loop-w-preserved : goal.loop-w-preserved
 loop-w-preserved c =
     let here = next_some c.next.result c.loop-w.w-iterator c.next.new.self c.in-Some.w c.next.ensures.steps c.in-Some.is in
-    let apart : Distinct (c.loop-w.yielded ++ c.in-Some.w ∷ c.next.new.self) =
-    subst Distinct (sym (ap (λ rest. c.loop-w.yielded ++ rest) (sym here) ∙ c.loop-w.invariant.all))
-    (Distinct-neighbours c.args.g.now.graph c.args.u c.neighbours-w-items.ensures.valid) in
     record {
       all = next_all c.loop-w.yielded c.loop-w.w-iterator c.next.new.self (neighbours c.args.g.now.graph c.args.u) c.in-Some.w
           c.loop-w.invariant.all here;
-      so_far = left_same (is_in c.args.left.now.ids) c.loop-w.set.ids c.loop-w.yielded c.next.new.self c.in-Some.w apart
-          c.loop-w.invariant.so_far (sym c.contains.ensures ∙ c.if-contains.false);
+      so_far = left_same (is_in c.args.left.now.ids) c.loop-w.set.ids c.loop-w.yielded c.loop-w.w-iterator c.next.new.self
+          (neighbours c.args.g.now.graph c.args.u) c.in-Some.w (Distinct-neighbours c.args.g.now.graph c.args.u c.neighbours-w-items.ensures.valid)
+          c.loop-w.invariant.all here c.loop-w.invariant.so_far (sym c.contains.ensures ∙ c.if-contains.false);
     }
 
 pub returns-clause-members : goal.returns-clause-members

@@ -7,6 +7,7 @@ use Rattle.gflow_laws.specs.Seen.{seen}
 use Rattle.gflow_laws.specs.Flow.{order_of, set_of}
 use Rattle.gflow_laws.specs.Internal.Changes.{AreChanged}
 use Rattle.gflow_laws.proofs.SetChanges.{changed_grows}
+use Rattle.open_graph.specs.Rooms.{Room}
 use Rattle.zx_flow.specs.Internal.Beside.{beside_change}
 use Rattle.zx_flow.proofs.Beside.{own_kept_beside, beside_same, complement_last}
 use Rattle.local_comp.proofs.complement.complement_sets.Goals as goal
@@ -31,15 +32,14 @@ loop-i-preserved c =
           (beside_same s c.args.u own (set_of now c.args.u) (c.vertex_at-v.result ∷ []) now c.complement_set.new.self.flow
           (own_kept_beside s c.args.u own (take c.loop-i.i (order_of t)) t now c.loop-i.invariant.sets)
           (c.in_ok-complement_set.ensures.sets s c.changes_plane-changes.ensures c.odd_has-is_odd.ensures));
-      spare = c.complement_set.ensures.spare ∙ c.loop-i.invariant.spare;
-      reach = c.complement_set.ensures.reach ∙ c.loop-i.invariant.reach;
+      room = c.complement_set.ensures.room ∙ c.loop-i.invariant.room;
     }
 
 pub returns-in_err-complement_set-clause-has_room : goal.returns-in_err-complement_set-clause-has_room
 returns-in_err-complement_set-clause-has_room c order own =
     let t = c.args.f.now.flow in
     let now = c.loop-i.f.flow in
-    let same = sym c.loop-i.invariant.reach in
+    let same = sym (ap (λ (r : Room). r.reach) c.loop-i.invariant.room) in
     let listed : member c.vertex_at-v.result (order_of t) ≡ true =
     sym (ap (member c.vertex_at-v.result) c.loop-i.invariant.sets.order) ∙ c.vertex_at-v.ensures.there in
     let fits = c.complement_set.ensures.has_room (subst (λ r. c.vertex_at-v.result < r) same (order c.vertex_at-v.result listed))
@@ -66,10 +66,7 @@ returns-clause-sets c =
 
 pub returns-clause-has_room : goal.returns-clause-has_room
 returns-clause-has_room c order own =
-    c.complement_own.ensures.has_room (subst (λ r. c.args.u < r) (sym c.loop-i.invariant.reach) (order c.args.u c.requires.there))
+    c.complement_own.ensures.has_room (subst (λ r. c.args.u < r) (sym (ap (λ (r : Room). r.reach) c.loop-i.invariant.room)) (order c.args.u c.requires.there))
 
-pub returns-clause-spare : goal.returns-clause-spare
-returns-clause-spare c = c.complement_own.ensures.spare ∙ c.loop-i.invariant.spare
-
-pub returns-clause-reach : goal.returns-clause-reach
-returns-clause-reach c = c.complement_own.ensures.reach ∙ c.loop-i.invariant.reach
+pub returns-clause-room : goal.returns-clause-room
+returns-clause-room c = c.complement_own.ensures.room ∙ c.loop-i.invariant.room

@@ -15,8 +15,7 @@ pub turn-init : goal.turn-init
 turn-init c = record {
   turned = sym (walk_starts (λ p. member p (neighbours c.args.g.now.graph c.args.u)) quarter_turned c.args.g.now.graph);
   formed = inl refl;
-  spare = refl;
-  reach = refl;
+  room = refl;
 }
 
 pub neighbour_from-requires : goal.neighbour_from-requires
@@ -42,8 +41,7 @@ turn-preserved c =
           quarter_turned g c.turn.start c.in-Some.p first (member-neighbours g c.args.u c.in-Some.p formed ∙ first.1)
           ∙ ap (λ q. changed_below near quarter_turned (q + 1) g) (sym c.get-start.ensures);
       formed = inr formed;
-      spare = c.add_quarter.ensures.room ∙ c.turn.invariant.spare;
-      reach = c.add_quarter.ensures.reach ∙ c.turn.invariant.reach;
+      room = c.add_quarter.ensures.room ∙ c.turn.invariant.room;
     }
 
 pub returns-clause-turned : goal.returns-clause-turned

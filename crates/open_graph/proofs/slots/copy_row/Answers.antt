@@ -8,7 +8,7 @@ use Rattle.open_graph.proofs.slots.copy_row.Goals as goal
 
 pub copy_within-requires : goal.copy_within-requires
 copy_within-requires c q there =
-    live_within c.args.slots.now.slots q c.len-end.result c.len-end.ensures
+    live_within c.args.slots.now.slots q c.len.result c.len.ensures
     (c.requires.near_live q (ap (member q) (row_at c.args.slots.now.slots c.args.u c.get.result c.index.result.now c.get.ensures c.index.ensures) ∙ there))
 
 pub returns-clause-members : goal.returns-clause-members

@@ -1,7 +1,7 @@
-use Rattle.std.proofs.Common.{sym, ◌∙◌}
+use Rattle.std.proofs.Common.{◌∙◌}
 use Rattle.qasm_angle.specs.Literals.{is_point}
-use Rattle.qasm_angle.proofs.LiteralLemmas.{place-none}
+use Rattle.qasm_angle.proofs.LiteralLemmas.{place-or-end}
 use Rattle.qasm_angle.proofs.literal.point.Goals as goal
 
-pub returns-in-None-clause-place : goal.returns-in-None-clause-place
-returns-in-None-clause-place c = place-none is_point c.args.text.now (sym c.in-None.is ∙ c.first_point.ensures)
+pub returns-clause-place : goal.returns-clause-place
+returns-clause-place c = c.unwrap_or.ensures ∙ place-or-end is_point c.args.text.now c.first_point.result c.first_point.ensures

@@ -1,6 +1,7 @@
 -- The new vertex and its edge.
-use Rattle.std.proofs.Common.{◌<◌, ◌∙◌, sym, subst, IsOk}
+use Rattle.std.proofs.Common.{◌<◌, ◌∙◌, sym, ap, subst, IsOk}
 use Rattle.std.proofs.lemmas.Bool.{false≢true}
+use Rattle.open_graph.specs.Rooms.{Room}
 use Rattle.zx_boundary.proofs.Spiders.{b_still_live, new_there, b_apart, spider_added}
 use Rattle.zx_boundary.proofs.spider.add_spider.Goals as goal
 
@@ -23,10 +24,10 @@ returns-clause-added c =
 
 pub returns-in_err-toggle_edge-clause-has_room : goal.returns-in_err-toggle_edge-clause-has_room
 returns-in_err-toggle_edge-clause-has_room c spare b_below new_below =
-    let same = sym c.add_vertex.ensures.reach in
+    let same = sym (ap (λ (r : Room). r.reach) c.in_ok-new.ensures.room) in
     absurd (false≢true (subst IsOk c.in_err-toggle_edge.was
     (c.toggle_edge.ensures.has_room (subst (λ r. c.args.b < r) same b_below)
-    (subst (λ r. c.in_ok-new.new < r) same (subst (λ n. n < c.args.g.now.reach) (sym c.in_ok-new.ensures.least) new_below)))))
+    (subst (λ r. c.in_ok-new.new < r) same (subst (λ n. n < c.args.g.now.room.reach) (sym c.in_ok-new.ensures.least) new_below)))))
 
-pub returns-clause-spare : goal.returns-clause-spare
-returns-clause-spare c = c.toggle_edge.ensures.room ∙ c.in_ok-new.ensures.spare
+pub returns-clause-room : goal.returns-clause-room
+returns-clause-room c = c.toggle_edge.ensures.room ∙ c.in_ok-new.ensures.room

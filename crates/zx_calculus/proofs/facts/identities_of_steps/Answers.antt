@@ -5,32 +5,16 @@ use Rattle.zx_calculus.proofs.Pivots.{pivot_allowed_comm, pivot_comm, pivot_as_c
 use Rattle.zx_calculus.proofs.Complements.{complement_twice, complement_four}
 use Rattle.zx_calculus.proofs.facts.identities_of_steps.Goals as goal
 
-pub returns-clause-two_half_turns : goal.returns-clause-two_half_turns
-returns-clause-two_half_turns c = half_turned-half_turned
-
-pub returns-clause-two_quarter_turns : goal.returns-clause-two_quarter_turns
-returns-clause-two_quarter_turns c = quarter_turned-quarter_turned
-
-pub returns-clause-two_pivots_of_a_kind : goal.returns-clause-two_pivots_of_a_kind
-returns-clause-two_pivots_of_a_kind c = pivoted-pivoted
-
-pub returns-clause-twins_allowed_either_way : goal.returns-clause-twins_allowed_either_way
-returns-clause-twins_allowed_either_way c = fuse_twin_allowed_comm
-
-pub returns-clause-twins_fused_either_way : goal.returns-clause-twins_fused_either_way
-returns-clause-twins_fused_either_way c = fuse_twin_sum_comm
-
-pub returns-clause-pivot_allowed_either_way : goal.returns-clause-pivot_allowed_either_way
-returns-clause-pivot_allowed_either_way c = pivot_allowed_comm
-
-pub returns-clause-pivot_either_way : goal.returns-clause-pivot_either_way
-returns-clause-pivot_either_way c = pivot_comm
-
-pub returns-clause-two_complements : goal.returns-clause-two_complements
-returns-clause-two_complements c = complement_twice
-
-pub returns-clause-four_complements : goal.returns-clause-four_complements
-returns-clause-four_complements c = complement_four
-
-pub returns-clause-pivot_as_complements : goal.returns-clause-pivot_as_complements
-returns-clause-pivot_as_complements c = pivot_as_complements
+pub returns : goal.returns
+returns c = record {
+  two_half_turns = half_turned-half_turned;
+  two_quarter_turns = quarter_turned-quarter_turned;
+  two_pivots_of_a_kind = pivoted-pivoted;
+  twins_allowed_either_way = fuse_twin_allowed_comm;
+  twins_fused_either_way = fuse_twin_sum_comm;
+  pivot_allowed_either_way = pivot_allowed_comm;
+  pivot_either_way = pivot_comm;
+  two_complements = complement_twice;
+  four_complements = complement_four;
+  pivot_as_complements = pivot_as_complements;
+}

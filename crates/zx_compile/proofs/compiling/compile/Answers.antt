@@ -27,7 +27,7 @@ simplify-requires-clause-few c =
 
 pub returns-in_ok-simplified-in-Flow-clause-qubits : goal.returns-in_ok-simplified-in-Flow-clause-qubits
 returns-in_ok-simplified-in-Flow-clause-qubits c =
-    c.in_ok-simplified-in-Flow.ensures.qubits ∙ form_outputs c.args.d c.in_ok-graph.graph.graph c.in_ok-graph.ensures.form ∙ sym c.requires.square
+    c.in_ok-simplified-in-Flow.ensures.kept.qubits ∙ form_outputs c.args.d c.in_ok-graph.graph.graph c.in_ok-graph.ensures.form ∙ sym c.requires.square
 
 pub returns-in_ok-simplified-in-Flow-clause-map : goal.returns-in_ok-simplified-in-Flow-clause-map
 returns-in_ok-simplified-in-Flow-clause-map c =
@@ -41,7 +41,7 @@ returns-in_ok-simplified-in-Flow-clause-map c =
     proportional_trans n n (sum d) (graph.sum g) (amp gates)
     (subst (λ k. Proportional n k (sum d) (graph.sum g)) square c.in_ok-graph.ensures.map)
     (subst (λ k. Proportional k k (graph.sum g) (amp gates)) (form_outputs d g c.in_ok-graph.ensures.form ∙ square)
-    (scaled_proportional high high (graph.sum g) (amp gates) made.scalar c.in_ok-simplified-in-Flow.ensures.scalar))
+    (scaled_proportional high high (graph.sum g) (amp gates) made.scalar c.in_ok-simplified-in-Flow.ensures.kept.scaled))
 
 pub returns-in_ok-simplified-in-Flow-clause-few_gates : goal.returns-in_ok-simplified-in-Flow-clause-few_gates
 returns-in_ok-simplified-in-Flow-clause-few_gates c =

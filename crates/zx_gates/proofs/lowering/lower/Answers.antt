@@ -1,11 +1,11 @@
 -- All gates are lowered, and lowering keeps the map up to the scalar, and the odd phases.
-use Rattle.std.proofs.Common.{ℕ, ◌+◌, ◌*◌, ◌<◌, get_or, length, List, ◌≡◌, ◌∙◌, ap, sym, subst, arith}
+use Rattle.std.proofs.Common.{ℕ, ◌+◌, ◌<◌, get_or, length, List, ◌≡◌, ◌∙◌, ap, sym, subst, arith}
 use Rattle.zx_model.specs.Scalar.{IsWithin, most_root2, one_scalar, product_of_scalars}
 use Rattle.zx_model.specs.declared.scalar.Scalar.{Scalar}
 use Rattle.zx_gates.specs.Circuit.{Circuit, gate_odd_phases}
 use Rattle.zx_gates.specs.declared.elementary.ElementaryGate.{ElementaryGate}
 use Rattle.zx_gates.specs.Elementary.{elementary_bound}
-use Rattle.zx_gates.proofs.LoweringLemmas.{IsLoweredTo, odd_lowered, all_lowered, lowered_none, lowered_more, lowered_whole, lowered_within}
+use Rattle.zx_gates.proofs.LoweringLemmas.{IsLoweredTo, odd_lowered, all_lowered, lowered_none, lowered_more, lowered_implements, lowered_within}
 use Rattle.zx_gates.proofs.lowering.lower.Goals as goal
 
 pub loop-gate-init : goal.loop-gate-init
@@ -48,21 +48,13 @@ returns-clause-list c =
     all_lowered c.loop-gate.list.gates _ c.args.e.now.gates _ c.loop-gate.invariant.lowered.gates_are c.as_slice-gate-items.ensures
     c.loop-gate-test.false c.loop-gate.auto.gate-index-end
 
-pub returns-clause-scaled : goal.returns-clause-scaled
-returns-clause-scaled c =
+pub returns-clause-kept : goal.returns-clause-kept
+returns-clause-kept c =
     let e = c.args.e.now in
     let gates = c.as_slice-gate-items.ensures in
     let whole : c.loop-gate.gate-index ≡ length e.gates =
     omega (arith, ap length gates, c.loop-gate-test.false, c.loop-gate.auto.gate-index-end) in
-    lowered_whole e.qubits e.gates c.loop-gate.gate-index c.loop-gate.list.gates c.loop-gate.scalar whole c.loop-gate.invariant.lowered
-
-pub returns-clause-small : goal.returns-clause-small
-returns-clause-small c =
-    let e = c.args.e.now in
-    let gates = c.as_slice-gate-items.ensures in
-    let whole : c.loop-gate.gate-index ≡ length e.gates =
-    omega (arith, ap length gates, c.loop-gate-test.false, c.loop-gate.auto.gate-index-end) in
-    subst (λ (k : ℕ). IsWithin (2 * k) c.loop-gate.scalar) whole c.loop-gate.invariant.lowered.within
+    lowered_implements e.qubits e.gates c.loop-gate.gate-index c.loop-gate.list c.loop-gate.scalar whole c.loop-gate.invariant.qubits c.loop-gate.invariant.lowered
 
 pub returns-clause-odd : goal.returns-clause-odd
 returns-clause-odd c =

@@ -38,11 +38,12 @@ loop-gate-preserved c = record {
 pub returns : goal.returns
 returns c =
     let read = c.args.circuit.now in
+    let made = c.in_ok-reduced.reduced in
     let all : c.loop-gate.gate-index ≡ length read.gates = omega (arith, ap length c.gates-gate-items.ensures.value) in
-    grown_whole read c.loop-gate.growing.growth c.in_ok-made.made.graph.graph c.in_ok-made.made.flow.flow c.in_ok-made.made.trace.steps c.in_ok-made.made.scalar c.times-scalar.result
+    grown_whole read c.loop-gate.growing.growth made.reduction.graph.graph made.reduction.flow.flow made.reduction.trace.steps made.reduction.scalar c.times-scalar.result
     (λ k d within. (c.gates-gate-items.ensures.valid.on_qubits k d within).0)
     (subst (λ (gates : List Gate). IsGrown read.qubits (written_out gates) c.loop-gate.growing.growth)
     (ap (λ i. take i read.gates) all ∙ take-length read.gates) c.loop-gate.invariant.grown)
-    c.in_ok-made.ensures.reduces (c.times-scalar.ensures ∙ ap₂ product_of_scalars c.scalar_of.ensures.value c.in_ok-made.ensures.scalar)
+    c.in_ok-reduced.ensures.reduces (c.times-scalar.ensures ∙ ap₂ product_of_scalars c.scalar_of.ensures.value c.in_ok-reduced.ensures.scalar)
     (subst (IsWithin most_grown_root2) (sym c.times-scalar.ensures)
-    (all_within (length read.gates) c.scalar_of.result c.in_ok-made.scalar c.gates.ensures.few c.scalar_of.ensures.small c.in_ok-made.ensures.small))
+    (all_within (length read.gates) c.scalar_of.result made.scalar c.gates.ensures.few c.scalar_of.ensures.small c.in_ok-reduced.ensures.small))

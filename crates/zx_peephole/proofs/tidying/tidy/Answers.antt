@@ -1,10 +1,9 @@
 -- Each step shortens the list, and at the end all that is left is kept.
-use Rattle.std.proofs.Common.{ℕ, ◌*◌, ◌≤◌, pos, List, length, sym, ap, ◌∙◌, subst, arith}
+use Rattle.std.proofs.Common.{ℕ, ◌≤◌, List, length, sym, ap, ◌∙◌, subst, arith}
 use Rattle.zx_gates.specs.declared.gate.Gate.{Gate}
 use Rattle.zx_gates.specs.Circuit.{Circuit}
 use Rattle.zx_model.specs.Scalar.{IsScaled}
 use Rattle.zx_model.specs.declared.scalar.Scalar.{Scalar}
-use Rattle.zx_gates.specs.Internal.Scalars.{scalar}
 use Rattle.zx_gates.specs.Maps.{amp}
 use Rattle.zx_peephole.specs.Tidy.{IsTidy}
 use Rattle.zx_peephole.specs.Internal.Chains.{all_left}
@@ -39,13 +38,20 @@ loop-work-preserved c =
           (subst (λ (n : ℕ). Shortens n c.settle-power.result (all_left c.loop-work.work) (all_left c.settle-power.new.work)) l.qubits a.shortened);
     }
 
-pub returns-clause-scaled : goal.returns-clause-scaled
-returns-clause-scaled c =
+pub returns-clause-kept : goal.returns-clause-kept
+returns-clause-kept c =
+    let old = c.args.g.now in
+    let l = c.loop-work.invariant in
     let all : length c.loop-work.work.gates.items ≤ c.loop-work.work.next = omega (arith, c.loop-work-test.false, c.len.ensures) in
     let gates = ap (λ (d : Circuit). d.gates) c.from_parts.ensures ∙ c.end.ensures.gates ∙ sym (left_last c.loop-work.work all) in
-    subst (λ (s : Scalar). IsScaled c.args.g.now.qubits c.args.g.now.qubits (amp c.args.g.now.gates) s (amp c.from_parts.result.gates)) (sym c.power_of_two.ensures.value)
-    (subst (λ (xs : List Gate). IsScaled c.args.g.now.qubits c.args.g.now.qubits (amp c.args.g.now.gates) (scalar (pos (2 * c.loop-work.power)) 0) (amp xs)) (sym gates)
-    (shortens_scaled c.args.g.now.qubits c.loop-work.power c.args.g.now.gates (all_left c.loop-work.work) c.loop-work.invariant.shortened))
+    let whole = subst (Shortens old.qubits c.loop-work.power old.gates) (sym gates) l.shortened in
+    record {
+      qubits = ap (λ (d : Circuit). d.qubits) c.from_parts.ensures ∙ c.end.ensures.qubits ∙ l.qubits;
+      scaled = subst (λ (s : Scalar). IsScaled old.qubits old.qubits (amp old.gates) s (amp c.from_parts.result.gates)) (sym c.power_of_two.ensures.value)
+          (shortens_scaled old.qubits c.loop-work.power old.gates c.from_parts.result.gates whole);
+      small = c.power_of_two.ensures.small;
+      odd = whole.odd;
+    }
 
 pub returns-clause-power : goal.returns-clause-power
 returns-clause-power c = record { power = c.loop-work.power; is = c.power_of_two.ensures.value }

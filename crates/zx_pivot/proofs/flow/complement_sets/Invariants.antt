@@ -13,6 +13,5 @@ invariant-loop-i l =
     let t = l.initial.f.flow in
     record {
       sets : AreChanged (beside_change s l.u (set_of t l.u)) (take l.i (order_of t)) t l.f.flow;
-      spare : l.f.spare ≡ l.initial.f.spare;
-      reach : l.f.reach ≡ l.initial.f.reach;
+      room : l.f.room ≡ l.initial.f.room;
     }

@@ -1,8 +1,9 @@
 -- The three one after the other.
-use Rattle.std.proofs.Common.{◌∙◌, sym, subst, IsOk}
+use Rattle.std.proofs.Common.{◌∙◌, sym, ap, subst, IsOk}
 use Rattle.std.proofs.lemmas.Bool.{false≢true}
 use Rattle.zx_bits.specs.Sets.{IsBelow}
 use Rattle.gflow_laws.specs.Flow.{order_of, set_of}
+use Rattle.open_graph.specs.Rooms.{Room}
 use Rattle.zx_flow.proofs.Below.{complement_below}
 use Rattle.zx_calculus.proofs.Edges.{joined_comm}
 use Rattle.gflow_laws.specs.Seen.{seen, complemented}
@@ -28,9 +29,9 @@ returns-in_err-complement_sets-clause-has_room c order below =
 
 pub returns-in_err-complement_sets-2-clause-has_room : goal.returns-in_err-complement_sets-2-clause-has_room
 returns-in_err-complement_sets-2-clause-has_room c order below =
-    let reach = c.args.f.now.reach in
+    let reach = c.args.f.now.room.reach in
     let f1 = c.complement_sets.new.f in
-    let same = sym c.complement_sets.ensures.reach in
+    let same = sym (ap (λ (r : Room). r.reach) c.complement_sets.ensures.room) in
     let below1 = complement_below (seen c.args.g.now.graph) c.args.u c.args.f.now.flow reach (order c.args.u c.requires.u_there) below
     f1.flow c.in_ok-complement_sets.ensures.table in
     absurd (false≢true (subst IsOk c.in_err-complement_sets-2.was
@@ -41,10 +42,10 @@ returns-in_err-complement_sets-2-clause-has_room c order below =
 pub returns-clause-has_room : goal.returns-clause-has_room
 returns-clause-has_room c order below =
     let s = seen c.args.g.now.graph in
-    let reach = c.args.f.now.reach in
+    let reach = c.args.f.now.room.reach in
     let f1 = c.complement_sets.new.f in
     let f2 = c.complement_sets-2.new.f in
-    let same = sym (c.complement_sets-2.ensures.reach ∙ c.complement_sets.ensures.reach) in
+    let same = sym (ap (λ (r : Room). r.reach) (c.complement_sets-2.ensures.room ∙ c.complement_sets.ensures.room)) in
     let below1 = complement_below s c.args.u c.args.f.now.flow reach (order c.args.u c.requires.u_there) below
     f1.flow c.in_ok-complement_sets.ensures.table in
     let below2 = complement_below (complemented s c.args.u) c.args.v f1.flow reach (order c.args.v c.requires.v_there) below1

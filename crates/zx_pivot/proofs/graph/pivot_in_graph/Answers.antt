@@ -8,6 +8,7 @@ use Rattle.zx_calculus.specs.Turns.{pivoted}
 use Rattle.zx_calculus.specs.Internal.ChangedKinds.{with_changed}
 use Rattle.zx_calculus.proofs.Allowed.{pivot_live, pivot_live_too, pivot_joined}
 use Rattle.zx_calculus.proofs.ChangedKinds.{turned_live}
+use Rattle.open_graph.specs.Rooms.{Room}
 use Rattle.zx_pivot.specs.Internal.Changes.{IsRewired, half_turned_in}
 use Rattle.zx_pivot.proofs.Rewiring.{turned_below}
 use Rattle.zx_pivot.proofs.PivotSteps.{adjacent_apart, rewired_live, pivot_step}
@@ -62,5 +63,5 @@ returns-in_err-rewire-clause-has_room c below =
     let g = c.args.g.now.graph in
     let halves = half_turned_in (neighbours g c.args.u) (joined g.edges c.args.v) in
     absurd (false≢true (subst IsOk c.in_err-rewire.was
-    (subst (λ r. IsBelow r (ids c.turn_common.new.g.graph.vertices) → IsOk c.rewire.result) c.turn_common.ensures.reach c.rewire.ensures.has_room
-    (turned_below halves g c.turn_common.new.g.graph c.args.g.now.reach c.turn_common.ensures.turned below))))
+    (subst (λ r. IsBelow r (ids c.turn_common.new.g.graph.vertices) → IsOk c.rewire.result) (ap (λ (r : Room). r.reach) c.turn_common.ensures.room) c.rewire.ensures.has_room
+    (turned_below halves g c.turn_common.new.g.graph c.args.g.now.room.reach c.turn_common.ensures.turned below))))

@@ -17,5 +17,5 @@ returns-clause-rewired c =
 pub returns-clause-has_room : goal.returns-clause-has_room
 returns-clause-has_room c below =
     let g = c.args.g.now.graph in
-    c.toggle_around.ensures.has_room (closed_below g c.args.u c.args.g.now.reach c.requires.u_live below)
-    (closed_below g c.args.v c.args.g.now.reach c.requires.v_live below)
+    c.toggle_around.ensures.has_room (closed_below g c.args.u c.args.g.now.room.reach c.requires.u_live below)
+    (closed_below g c.args.v c.args.g.now.room.reach c.requires.v_live below)

@@ -30,8 +30,7 @@ pub turn-init : goal.turn-init
 turn-init c = record {
   turned = sym (walk_starts (common c.args.g.now.graph c.args.u c.args.v) half_turned c.args.g.now.graph);
   formed = inl refl;
-  spare = refl;
-  reach = refl;
+  room = refl;
 }
 
 pub neighbour_from-requires : goal.neighbour_from-requires
@@ -68,13 +67,9 @@ turn-preserved c =
             c.in-Some.p first (is false w.if-has_edge.false))
       ] ∙ ap (λ q. changed_below test half_turned (q + 1) g) (sym c.get-start.ensures);
       formed = inr formed;
-      spare = elim c.if-has_edge.branch [
-        | then-has_edge w ↦ rw w.g-is (w.turn_half.ensures.spare ∙ past.spare)
-        | else-has_edge w ↦ rw w.g-is past.spare
-      ];
-      reach = elim c.if-has_edge.branch [
-        | then-has_edge w ↦ rw w.g-is (w.turn_half.ensures.reach ∙ past.reach)
-        | else-has_edge w ↦ rw w.g-is past.reach
+      room = elim c.if-has_edge.branch [
+        | then-has_edge w ↦ rw w.g-is (w.turn_half.ensures.room ∙ past.room)
+        | else-has_edge w ↦ rw w.g-is past.room
       ];
     }
 

@@ -11,8 +11,7 @@ invariant-turn l = record {
   turned : let g = l.initial.g.graph in
       l.g.graph ≡ changed_below (λ p. member p (neighbours g l.u) && joined g.edges l.v p) half_turned l.start g;
   formed : (l.start ≡ 0) ⊎ WellFormed l.initial.g.graph;
-  spare : l.g.spare ≡ l.initial.g.spare;
-  reach : l.g.reach ≡ l.initial.g.reach;
+  room : l.g.room ≡ l.initial.g.room;
 }
 
 abbrev pub decreases-turn : goal.decreases-turn

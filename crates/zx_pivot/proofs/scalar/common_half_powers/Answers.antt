@@ -3,7 +3,7 @@ use Rattle.std.proofs.Common.{◌≡◌, sym, ◌∙◌, ◌++◌, ◌∷◌, []
 use Rattle.std.proofs.lemmas.List.Elements.{filter-append}
 use Rattle.zx_model.specs.Phase.{sum_of_phases}
 use Rattle.zx_calculus.specs.Graph.{joined, neighbours, kind_of}
-use Rattle.zx_calculus.specs.StepScalars.{half_power, half_powers}
+use Rattle.zx_calculus.specs.Scalars.{half_power, half_powers}
 use Rattle.zx_calculus.proofs.StepScalars.{powers-more}
 use Rattle.zx_calculus.proofs.Toggling.{neighbour_live}
 use Rattle.open_graph.proofs.Walks.{next_some, next_all, next_there}

@@ -1,7 +1,7 @@
 -- The common neighbours so far are counted.
 use Rattle.std.proofs.Common.{◌≡◌, ◌++◌, filter}
 use Rattle.zx_calculus.specs.Graph.{joined, neighbours}
-use Rattle.zx_calculus.specs.StepScalars.{half_powers}
+use Rattle.zx_calculus.specs.Scalars.{half_powers}
 use Rattle.zx_pivot.proofs.scalar.common_half_powers.Given as goal
 
 abbrev pub invariant-loop-p : goal.invariant-loop-p

@@ -5,7 +5,7 @@ use Rattle.std.proofs.lemmas.List.{take_all}
 use Rattle.zx_calculus.specs.Steps.{IsRun}
 use Rattle.zx_reduce.specs.Steps.{step_named}
 use Rattle.zx_reduce.proofs.MovesMade.{begun, next_allowed}
-use Rattle.zx_reduce.proofs.RoomLemmas.{room_for, places_after}
+use Rattle.zx_reduce.proofs.RoomLemmas.{room_of_step, places_after}
 use Rattle.zx_reduce.proofs.RoomKept.{places_same, places_then, step_keeps_places}
 use Rattle.zx_reduce.proofs.InPlace.{one_done, still_few}
 use Rattle.zx_model.specs.Scalar.{IsWithin}
@@ -61,7 +61,7 @@ returns-in_err-rewrite-clause-has_room c n d places fits stays =
     let now = c.loop-step.invariant.places n d places fits stays in
     let few = still_few n d c.loop-step.invariant.way fits stays in
     absurd (false≢true (subst IsOk c.in_err-rewrite.was
-    (c.rewrite.ensures.has_room (room_for n c.loop-step.g c.loop-step.f c.loop-step.invariant.valid now few (step_named c.step-item.result)))))
+    (c.rewrite.ensures.has_room (room_of_step n c.loop-step.g c.loop-step.f c.loop-step.invariant.valid now few (step_named c.step-item.result)))))
 
 pub returns-clause-run : goal.returns-clause-run
 returns-clause-run c =

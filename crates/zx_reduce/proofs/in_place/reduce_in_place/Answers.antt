@@ -22,7 +22,7 @@ loop-found-init c = record {
 
 pub times-scalar-requires : goal.times-scalar-requires
 times-scalar-requires c =
-    one_more_fits c.loop-found.scalar c.in_ok-make.field-0 c.loop-found.invariant.gains c.requires.valid c.requires.few c.loop-found.invariant.scales.small
+    one_more_fits c.loop-found.scalar c.in_ok-make.field-0 c.loop-found.invariant.gains c.requires.valid c.vertex_count.ensures.few c.loop-found.invariant.scales.small
     c.in_ok-make.ensures.scalar.small
 
 pub loop-found-smaller : goal.loop-found-smaller
@@ -57,10 +57,10 @@ returns-in_err-make-clause-has_room c room =
     (six_left c.args.g.now c.loop-found.g c.loop-found.f c.loop-found.trace c.in-Some.found c.loop-found.invariant.valid
     c.in-Some.ensures.found left c.in-Some.ensures.first))))
 
-pub returns-clause-scalar : goal.returns-clause-scalar
-returns-clause-scalar c = all_scale c.loop-found.invariant.gains c.requires.valid c.loop-found.invariant.scales
-
-pub returns-clause-reduced : goal.returns-clause-reduced
-returns-clause-reduced c =
-    stuck-reduced c.loop-found.g.graph c.loop-found.f.flow c.loop-found.invariant.valid c.loop-found.invariant.flow
-    c.in_default.ensures.none
+pub returns-clause-made : goal.returns-clause-made
+returns-clause-made c = record {
+  reduced = stuck-reduced c.loop-found.g.graph c.loop-found.f.flow c.loop-found.invariant.valid c.loop-found.invariant.flow c.in_default.ensures.none;
+  flow = c.loop-found.invariant.flow;
+  moves = c.loop-found.invariant.gains;
+  scalar = all_scale c.loop-found.invariant.gains c.requires.valid c.loop-found.invariant.scales;
+}

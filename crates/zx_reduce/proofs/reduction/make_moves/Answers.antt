@@ -16,7 +16,7 @@ loop-found-init c = record {
 
 pub times-scalar-requires : goal.times-scalar-requires
 times-scalar-requires c =
-    one_more_fits c.loop-found.scalar c.in_ok-make.field-0 c.loop-found.invariant.made.gains c.requires.guided.valid c.requires.few
+    one_more_fits c.loop-found.scalar c.in_ok-make.field-0 c.loop-found.invariant.made.gains c.requires.guided.valid c.vertex_count.ensures.few
     c.loop-found.invariant.scales.small c.in_ok-make.ensures.scalar.small
 
 pub loop-found-smaller : goal.loop-found-smaller

@@ -1,12 +1,8 @@
 -- The graph is the one that was given away.
-use Rattle.std.proofs.Common.{IfOk, sym, subst, ◌∙◌, length, ◌<◌}
+use Rattle.std.proofs.Common.{IfOk, subst, ◌∙◌}
 use Rattle.zx_calculus.specs.Graph.{Graph}
-use Rattle.zx_calculus.specs.StepScalars.{most_vertices}
 use Rattle.zx_reduce.specs.Reducing.{Reduces}
 use Rattle.zx_reduce.proofs.reduction.reduce_ordered.Goals as goal
-
-pub reduce_working-requires-clause-few : goal.reduce_working-requires-clause-few
-reduce_working-requires-clause-few c = subst (λ (h : Graph). length h.vertices < most_vertices) (sym c.in_ok-work.ensures.graph) c.requires.few
 
 pub reduce_working-requires-clause-new : goal.reduce_working-requires-clause-new
 reduce_working-requires-clause-new c = c.in_ok-work.ensures.trace ∙ c.new.ensures

@@ -11,8 +11,8 @@ pub returns-then-has_room-clause-valid : goal.returns-then-has_room-clause-valid
 returns-then-has_room-clause-valid g c =
     (from_ok c.in_place.result (c.in_place.ensures.has_room (c.has_room.ensures.0 c.if-has_room.true)) c.in_place.ensures.rewritten).valid
 
-pub returns-then-has_room-clause-keeps_spare : goal.returns-then-has_room-clause-keeps_spare
-returns-then-has_room-clause-keeps_spare g c =
+pub returns-then-has_room-clause-keeps_room : goal.returns-then-has_room-clause-keeps_room
+returns-then-has_room-clause-keeps_room g c =
     no_err _ c.in_place.result (c.in_place.ensures.has_room (c.has_room.ensures.0 c.if-has_room.true))
 
 pub returns-clause-has_room : goal.returns-clause-has_room

@@ -4,10 +4,9 @@ use borrow.Author.Differences.{ints}
 use Rattle.zx_model.specs.Phase.{turn}
 use Rattle.zx_model.specs.Scalar.{IsWithin, most_root2, product_of_scalars, quotient_of_scalars}
 use Rattle.zx_model.specs.declared.scalar.Scalar.{Scalar}
-use Rattle.zx_model.proofs.Scalars.{scaled_proportional, within_product}
+use Rattle.zx_model.proofs.Scalars.{within_product}
 use Rattle.zx_gates.specs.Circuit.{Circuit, IsCircuit, gate_bound}
 use Rattle.zx_gates.specs.Elementary.{elementary_bound}
-use Rattle.zx_gates.specs.Maps.{amp}
 use Rattle.zx_optimise.specs.Optimising.{most_optimised_root2}
 use Rattle.zx_run.proofs.OptimiseLemmas.{IsOptimisedText-written, measured_behind}
 use Rattle.zx_run.proofs.output.optimised_text.Goals as goal
@@ -19,18 +18,10 @@ returns c = λ text accepted.
     let from = c.in_ok-lowered.lowered.gates in
     let circuit = c.in_ok-optimised.optimised.gates in
     IsOptimisedText-written _ _ _ _ _ c.args.read.now from circuit c.in_ok-lowered.lowered.scalar c.in_ok-optimised.optimised.scalar c.text_scalar-own.result c.over-scalar.result
-    accepted lowered.qubits lowered.list lowered.odd
-    (record {
-      qubits = made.qubits;
-      map = scaled_proportional from.qubits from.qubits (amp from.gates) (amp circuit.gates) c.in_ok-optimised.optimised.scalar made.scalar;
-      odd = made.odd;
-      tidy = made.tidy;
-      few_gates = made.few_gates;
-      reduced = made.reduced;
-    })
-    made.plain made.best (subst IsCircuit c.circuit.view_is c.circuit.invariant.circuit)
-    (measured_behind c.args.read.now circuit c.requires (made.qubits ∙ lowered.qubits))
-    lowered.scaled made.scalar c.text_scalar-own.ensures.scaled (subst (λ k. k < turn) c.get.ensures.value c.get.ensures.below_a_turn)
+    accepted lowered.kept.qubits lowered.list lowered.odd made.optimises made.plain made.best
+    (subst IsCircuit c.circuit.view_is c.circuit.invariant.circuit)
+    (measured_behind c.args.read.now circuit c.requires (made.optimises.kept.qubits ∙ lowered.kept.qubits))
+    lowered.kept.scaled c.text_scalar-own.ensures.scaled (subst (λ k. k < turn) c.get.ensures.value c.get.ensures.below_a_turn)
     (c.over-scalar.ensures ∙ ap (λ (s : Scalar). quotient_of_scalars s c.text_scalar-own.result) c.times.ensures)
     (search (rules, c.in_ok-extend_from_slice.ensures.items, c.in_ok-output.ensures.text, c.in_ok-push_scalar_if.ensures, c.in_ok-lines.ensures))
 
@@ -48,4 +39,4 @@ over-scalar-requires c =
     subst (λ (s : Scalar). IsWithin most_root2 (quotient_of_scalars s c.text_scalar-own.result)) (sym c.times.ensures)
     (fits (length c.args.read.now.gates) (length c.in_ok-optimised.optimised.gates.gates) c.in_ok-lowered.lowered.scalar c.in_ok-optimised.optimised.scalar c.text_scalar-own.result
     c.requires.few_gates (subst (λ (d : Circuit). length d.gates < gate_bound) c.circuit.view_is c.circuit.invariant.few_gates)
-    c.in_ok-lowered.ensures.small c.in_ok-optimised.ensures.small c.text_scalar-own.ensures.small)
+    c.in_ok-lowered.ensures.kept.small c.in_ok-optimised.ensures.optimises.kept.small c.text_scalar-own.ensures.small)

@@ -1,26 +1,11 @@
 -- Where nothing was read, the reader's answer is passed on; else the verdict on the file is.
-use Rattle.std.proofs.Common.{IfErr, Some, subst, sym}
-use Rattle.std.proofs.lemmas.Result.{err_from_is_err_and}
 use Rattle.zx_words.specs.declared.words.Command.TheVariants.{Flow}
-use Rattle.zx_run.specs.declared.status.Status.{Status}
-use Rattle.zx_run.specs.Answers.{ToldSource, IsFailure, told_source}
-use Rattle.zx_run.proofs.AnswerLemmas.{read_failure}
+use Rattle.zx_run.proofs.AnswerLemmas.{made_of_all, reader_failed}
 use Rattle.zx_run.proofs.FileReadLemmas.{flow_output}
 use Rattle.zx_run.proofs.program.output_of_flow.Goals as goal
 
 pub returns-in_err-graph-clause-failure : goal.returns-in_err-graph-clause-failure
-returns-in_err-graph-clause-failure g c =
-    let p = err_from_is_err_and c.from_residual.result c.from_residual.ensures.1 in
-    let before : ToldSource = told_source g.S.Source.left g.S.Source.faults c.args.source.now in
-    let after : ToldSource = told_source g.S.Source.left g.S.Source.faults c.read_flow_file.new.source in
-    let why : Status → Type 0 = IsFailure (Some Flow) before after in
-    subst (λ r. IfErr r why) (sym p.1) (subst why (sym p.2) (read_failure Flow tt before after _ c.in_err-graph.ensures.failure))
+returns-in_err-graph-clause-failure g c = reader_failed Flow tt _ _ _ _ c.from_residual.ensures.1 c.in_err-graph.ensures.failure
 
 pub returns-clause-made : goal.returns-clause-made
-returns-clause-made g c =
-    let read = c.in_ok-graph.ensures in
-    record {
-      reads_well = read.reads_well;
-      output = flow_output _ _ _ read.spelled _ _ c.in_ok-output.ensures;
-      all_read = λ reads. read.end;
-    }
+returns-clause-made g c = made_of_all c.in_ok-graph.ensures.reads_well (flow_output _ _ _ c.in_ok-graph.ensures.spelled _ _ c.in_ok-output.ensures) c.in_ok-graph.ensures.end

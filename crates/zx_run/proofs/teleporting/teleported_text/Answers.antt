@@ -19,8 +19,8 @@ returns c = λ text accepted.
     let made = c.in_ok-teleported.ensures.teleported in
     let circuit = found.gates in
     IfOk-weaker c.write_text.result _ _
-    (λ output h. IsTeleportedText-written text output.items c.args.read.now from circuit accepted lowered.qubits lowered.list
-    (scaled_proportional c.args.read.now.qubits c.args.read.now.qubits (amp_elementary c.args.read.now.gates) (amp from.gates) c.in_ok-lowered.lowered.scalar lowered.scaled) lowered.odd
+    (λ output h. IsTeleportedText-written text output.items c.args.read.now from circuit accepted lowered.kept.qubits lowered.list
+    (scaled_proportional c.args.read.now.qubits c.args.read.now.qubits (amp_elementary c.args.read.now.gates) (amp from.gates) c.in_ok-lowered.lowered.scalar lowered.kept.scaled) lowered.odd
     (record {
       qubits = made.qubits;
       skeleton = made.skeleton;
@@ -36,6 +36,6 @@ returns c = λ text accepted.
       put_together = made.gates made.run;
     })
     (subst IsCircuit c.gates.view_is c.gates.invariant.circuit)
-    (measured_behind c.args.read.now circuit c.requires (made.qubits ∙ lowered.qubits))
+    (measured_behind c.args.read.now circuit c.requires (made.qubits ∙ lowered.kept.qubits))
     (h ∙ ap (written circuit c.args.read.now.bits) (search rules)))
     c.write_text.ensures.text

@@ -1,19 +1,25 @@
 -- From the circuit to its graph, and on.
-use Rattle.std.proofs.Common.{length, map, sym, ◌∙◌, subst, le_trans}
-use Rattle.zx_model.specs.Scalar.{IsScaled, IsWithin}
+use Rattle.std.proofs.Common.{ℕ, ◌<◌, ◌≤◌, ◌+◌, ◌*◌, length, map, sym, ◌∙◌, subst, le_refl, le_trans, arith}
+use Rattle.zx_model.specs.Scalar.{IsScaled}
 use Rattle.zx_model.specs.declared.scalar.Scalar.{Scalar}
 use Rattle.zx_model.proofs.Scalars.{scaled_proportional}
 use Rattle.zx_calculus.specs.Counts.{odd_phases}
 use Rattle.zx_calculus.specs.Graph.{Graph}
 use Rattle.zx_calculus.specs.Steps.{IsRun}
 use Rattle.zx_calculus.specs.Sum.{sum}
-use Rattle.zx_gates.specs.Circuit.{gate_odd_phases}
+use Rattle.zx_gates.specs.Circuit.{gate_bound, gate_odd_phases}
 use Rattle.zx_gates.specs.Maps.{amp}
-use Rattle.circuit_graph.specs.Translation.{map_scalar}
+use Rattle.zx_gates.specs.Passes.{Implements}
+use Rattle.zx_gates.proofs.Passing.{implements_more, implements_scaled}
 use Rattle.zx_reduce.specs.Steps.{step_named}
+use Rattle.zx_simplify.specs.Scaling.{most_simplified_root2}
 use Rattle.zx_same.specs.Internal.Simplifying.{most_left_root2}
-use Rattle.zx_same.proofs.Comparisons.{from_circuit, scaled_whole, small_whole, bound_rises}
+use Rattle.zx_same.proofs.Comparisons.{from_circuit, bound_rises}
 use Rattle.zx_same.proofs.comparing.simplified.Goals as goal
+
+-- how large the scalars of the translation and of its simplification are
+fits : (gates : ℕ) → gates < gate_bound → 4 * gates + most_simplified_root2 ≤ most_left_root2
+fits gates few = omega (arith, few)
 
 pub returns : goal.returns
 returns c =
@@ -25,8 +31,12 @@ returns c =
     let made = c.in_ok-made.made in
     let n = circuit.qubits in
     let o = length start.outputs in
-    let to_start = scaled_proportional n n (amp circuit.gates) (sum start) (map_scalar circuit.gates) f.scaled in
-    let on = scaled_proportional o o (sum start) (amp made.gates.gates) made.scalar r.scalar in
+    let scaled = subst (λ (s : Scalar). IsScaled n n (amp circuit.gates) s (sum start)) (sym read.scalar) f.scaled in
+    let to_start = scaled_proportional n n (amp circuit.gates) (sum start) c.in_ok-read.read.scalar scaled in
+    let rest = subst (λ m. Implements m (sum start) (odd_phases start) most_simplified_root2 made.gates made.scalar) f.outputs r.kept in
+    let whole : Implements n (amp circuit.gates) (odd_phases start) most_left_root2 made.gates c.times-made.result =
+    implements_scaled (4 * length circuit.gates) c.in_ok-read.read.scalar scaled read.small rest c.times-made.ensures
+    (fits (length circuit.gates) c.gates.ensures.few) in
     record {
       run = subst (λ (g : Graph). IsRun g (map step_named made.trace.steps) made.reduced.graph) f.graph r.run;
       reduced = r.reduced;
@@ -34,13 +44,8 @@ returns c =
       inputs = r.inputs ∙ f.inputs;
       outputs = r.outputs ∙ f.outputs;
       fewer = le_trans r.fewer f.odd;
-      kept = from_circuit n (length start.inputs) o start (amp circuit.gates) (sum made.reduced.graph) f.inputs f.outputs to_start r.reduced_map;
-      qubits = r.qubits ∙ f.outputs;
-      map = from_circuit n o o start (amp circuit.gates) (amp made.gates.gates) f.outputs f.outputs to_start on;
-      scaled = scaled_whole n o (amp circuit.gates) (sum start) (amp made.gates.gates) _ _ _ f.outputs
-          (subst (λ (s : Scalar). IsScaled n n (amp circuit.gates) s (sum start)) (sym read.scalar) f.scaled) r.scalar c.times-made.ensures;
-      small = subst (IsWithin most_left_root2) (sym c.times-made.ensures) (small_whole (length circuit.gates) c.in_ok-read.read.scalar made.scalar c.gates.ensures.few read.small r.small);
+      reduced_map = from_circuit n (length start.inputs) o start (amp circuit.gates) (sum made.reduced.graph) f.inputs f.outputs to_start r.reduced_map;
+      kept = implements_more whole f.odd (le_refl most_left_root2);
       tidy = r.tidy;
-      odd = le_trans r.odd (le_trans r.fewer f.odd);
       few = bound_rises n o (odd_phases start) (gate_odd_phases circuit.gates) (length made.gates.gates) f.outputs f.odd r.few_gates;
     }

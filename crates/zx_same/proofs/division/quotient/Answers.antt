@@ -15,4 +15,4 @@ returns-then-is_empty c =
     let is = c.over.ensures ∙ ap (quotient_of_scalars found.scalar) c.undone_scalar.ensures.value in
     subst (λ (s : Scalar). IsScaled a.qubits a.qubits (amp a.gates) s (amp b.gates)) (sym is)
     (quotient_seen a b c.in_ok-both.both found.scalar found.gates.gates c.requires.qubits c.qubits.ensures.valid c.in_ok-both.ensures
-    c.in_ok-found.ensures.scaled none)
+    c.in_ok-found.ensures.kept.scaled none)

@@ -1,43 +1,46 @@
 -- Scalars, odd phases and widths carry over from one to the next.
-use Rattle.std.proofs.Common.{◌<◌, ℕ, length, refl, sym, ◌∙◌, subst, arith, le_refl}
-use Rattle.zx_model.specs.Scalar.{IsScaled, IsWithin, most_root2}
+use Rattle.std.proofs.Common.{◌≤◌, ℕ, ◌+◌, ◌*◌, length, ◌∙◌, subst, arith, le_refl}
+use Rattle.zx_model.specs.Scalar.{IsScaled, IsWithin}
 use Rattle.zx_model.specs.declared.scalar.Scalar.{Scalar}
-use Rattle.zx_calculus.specs.StepScalars.{most_vertices}
+use Rattle.zx_model.proofs.Scalars.{within_more}
+use Rattle.zx_calculus.specs.Counts.{odd_phases}
+use Rattle.zx_calculus.specs.Graph.{Graph}
 use Rattle.zx_calculus.specs.Sum.{sum}
-use Rattle.zx_gates.specs.Maps.{amp}
+use Rattle.zx_gates.specs.Circuit.{gate_bound}
+use Rattle.zx_gates.specs.Passes.{Implements}
+use Rattle.zx_gates.proofs.Passing.{implements_more, implements_scaled, product_fits}
 use Rattle.zx_extract.proofs.SimplifiedLemmas.{within_bound}
-use Rattle.zx_reduce.specs.Scaling.{memory_bound}
+use Rattle.open_graph.specs.OpenGraph.{most_vertices_in_memory}
+use Rattle.zx_reduce.specs.Scaling.{most_exponent}
 use Rattle.zx_simplify.specs.Scaling.{most_simplified_root2}
-use Rattle.zx_simplify.proofs.Through.{scaled_then, moves_small, both_small}
 use Rattle.zx_simplify.proofs.simplifying.simplify.Goals as goal
 
-pub reduce_owned-requires-clause-few : goal.reduce_owned-requires-clause-few
-reduce_owned-requires-clause-few c = below (length c.args.graph.graph.vertices) c.in_ok-check_size.ensures.fits
+-- the scalar of the moves
+moves_small : (g : Graph) (s : Scalar) → length g.vertices ≤ most_vertices_in_memory → IsWithin (most_exponent g) s → IsWithin (36 * most_vertices_in_memory) s
+moves_small g s few small = within_more (most_exponent g) (36 * most_vertices_in_memory) s small (below (length g.vertices) few)
   where
-    below : (n : ℕ) → n < memory_bound → n < most_vertices
+    below : (n : ℕ) → n ≤ most_vertices_in_memory → 36 * n ≤ 36 * most_vertices_in_memory
     below n few = omega (arith, few)
-
-pub returns-clause-scalar : goal.returns-clause-scalar
-returns-clause-scalar c =
-    let r = c.in_ok-made.ensures in
-    let e = c.in_ok-circuit.ensures in
-    let start = c.args.graph.graph in
-    let end = c.in_ok-made.made.graph.graph in
-    let n = length start.outputs in
-    subst (λ (s : Scalar). IsScaled n n (sum start) s (amp c.in_ok-circuit.circuit.gates.gates)) (sym c.times.ensures)
-    (scaled_then n (length start.inputs) n (length end.inputs) (length end.outputs) (sum start) (sum end) (amp c.in_ok-circuit.circuit.gates.gates)
-    c.in_ok-made.made.scalar c.in_ok-circuit.circuit.scalar c.requires.ends refl (r.inputs ∙ c.requires.ends) r.outputs r.scalar e.scaled)
-
-pub returns-clause-small : goal.returns-clause-small
-returns-clause-small c =
-    subst (IsWithin most_simplified_root2) (sym c.times.ensures)
-    (both_small most_simplified_root2 (omega arith) c.in_ok-made.made.scalar c.in_ok-circuit.circuit.scalar
-    (moves_small c.args.graph.graph c.in_ok-made.made.scalar c.in_ok-check_size.ensures.fits c.in_ok-made.ensures.small) c.in_ok-circuit.ensures.small)
 
 pub times-requires : goal.times-requires
 times-requires c =
-    both_small most_root2 (omega arith) c.in_ok-made.made.scalar c.in_ok-circuit.circuit.scalar
-    (moves_small c.args.graph.graph c.in_ok-made.made.scalar c.in_ok-check_size.ensures.fits c.in_ok-made.ensures.small) c.in_ok-circuit.ensures.small
+    let s = c.in_ok-made.made.scalar in
+    product_fits (36 * most_vertices_in_memory) s (moves_small c.args.graph.graph s c.vertex_count.ensures.few c.in_ok-made.ensures.small)
+    c.in_ok-circuit.ensures.kept (omega arith)
+
+pub returns-clause-kept : goal.returns-clause-kept
+returns-clause-kept c =
+    let start = c.args.graph.graph in
+    let end = c.in_ok-made.made.graph.graph in
+    let r = c.in_ok-made.ensures in
+    let s = c.in_ok-made.made.scalar in
+    let made = c.in_ok-circuit.circuit in
+    let n = length start.outputs in
+    let scaled = subst (λ m. IsScaled m n (sum start) s (sum end)) c.requires.ends r.scalar in
+    let rest = subst (λ m. Implements m (sum end) (odd_phases end) (2 * most_vertices_in_memory + gate_bound) made.gates made.scalar) r.outputs c.in_ok-circuit.ensures.kept in
+    let whole : Implements n (sum start) (odd_phases end) most_simplified_root2 made.gates c.times.result =
+    implements_scaled (36 * most_vertices_in_memory) s scaled (moves_small start s c.vertex_count.ensures.few r.small) rest c.times.ensures (omega arith) in
+    implements_more whole r.odd (le_refl most_simplified_root2)
 
 pub returns-clause-few_gates : goal.returns-clause-few_gates
 returns-clause-few_gates c =

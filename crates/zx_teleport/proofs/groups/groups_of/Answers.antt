@@ -17,15 +17,15 @@ loop-done-preserved c =
     let j : ℕ = length c.args.read.now.gates - 1 - c.loop-done.done in
     let same : i ≡ j = ap (λ (gs : List Gate). length gs - 1 - c.loop-done.done) c.gates-gates.ensures.value in
     let there : c.loop-done.done < length c.args.read.now.gates = subst (λ (gs : List Gate). c.loop-done.done < length gs) c.gates-gates.ensures.value c.loop-done-test.true in
-    groups_back c.args.read.now (λ i. told c.args.fates.now.fates.items (vertex_at c.args.read.now i)) c.loop-done.done i
+    groups_back c.args.read.now (λ i. told c.args.fates.now.fates (vertex_at c.args.read.now i)) c.loop-done.done i
     c.index-gates-i.result (spot_named c.of_vertex-fate.result) c.loop-done.groups c.add.new.self there same
     (gate_there c.args.read.now gates i j c.index-gates-i.result c.gates-gates.ensures.value same (inside (length c.args.read.now.gates) c.loop-done.done there) c.index-gates-i.is)
-    (spot_there c.args.read.now c.args.at.now (told c.args.fates.now.fates.items) i j c.place_at.result (spot_named c.of_vertex-fate.result) c.requires same c.place_at.ensures c.of_vertex-fate.ensures)
+    (spot_there c.args.read.now c.args.at.now (told c.args.fates.now.fates) i j c.place_at.result (spot_named c.of_vertex-fate.result) c.requires same c.place_at.ensures c.of_vertex-fate.ensures)
     c.loop-done.invariant c.in_ok-add.ensures
 
 pub returns : goal.returns
 returns c =
-    subst (λ i. HasGroups c.args.read.now (λ i. told c.args.fates.now.fates.items (vertex_at c.args.read.now i)) i c.loop-done.groups)
+    subst (λ i. HasGroups c.args.read.now (λ i. told c.args.fates.now.fates (vertex_at c.args.read.now i)) i c.loop-done.groups)
     (none_left (length c.args.read.now.gates) c.loop-done.done (subst (λ (gs : List Gate). length gs ≤ c.loop-done.done) c.gates-gates.ensures.value c.loop-done-test.false))
     c.loop-done.invariant
   where

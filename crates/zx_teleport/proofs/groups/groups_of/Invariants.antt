@@ -6,4 +6,4 @@ use Rattle.zx_teleport.specs.Internal.Grouping.{HasGroups}
 use Rattle.zx_teleport.proofs.groups.groups_of.Given as goal
 
 abbrev pub invariant-loop-done : goal.invariant-loop-done
-invariant-loop-done l = HasGroups l.fn.read (λ i. told l.fn.fates.fates.items (vertex_at l.fn.read i)) (length l.fn.read.gates - l.done) l.groups
+invariant-loop-done l = HasGroups l.fn.read (λ i. told l.fn.fates.fates (vertex_at l.fn.read i)) (length l.fn.read.gates - l.done) l.groups

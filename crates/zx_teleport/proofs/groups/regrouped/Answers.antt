@@ -16,13 +16,13 @@ loop-i-preserved c =
     gate_there c.args.read.now c.gates-gates.result.now c.loop-i.i c.loop-i.i c.index-gates-i.result c.gates-gates.ensures.value refl there c.index-gates-i.is in
     let second : c.index-gates-i-in-loop-i.result ≡ gate_at c.args.read.now c.loop-i.i =
     gate_there c.args.read.now c.gates-gates.result.now c.loop-i.i c.loop-i.i c.index-gates-i-in-loop-i.result c.gates-gates.ensures.value refl there c.index-gates-i-in-loop-i.is in
-    let spot_is = spot_there c.args.read.now c.args.at.now (told c.args.fates.now.fates.items) c.loop-i.i c.loop-i.i c.place_at.result (spot_named c.of_vertex-fate.result) c.requires refl c.place_at.ensures c.of_vertex-fate.ensures in
+    let spot_is = spot_there c.args.read.now c.args.at.now (told c.args.fates.now.fates) c.loop-i.i c.loop-i.i c.place_at.result (spot_named c.of_vertex-fate.result) c.requires refl c.place_at.ensures c.of_vertex-fate.ensures in
     record {
       qubits = c.push_with.ensures.qubits ∙ c.loop-i.invariant.qubits;
-      gates = written_more c.args.read.now (new_phase c.args.read.now (λ i. told c.args.fates.now.fates.items (vertex_at c.args.read.now i))) c.loop-i.i
+      gates = written_more c.args.read.now (new_phase c.args.read.now (λ i. told c.args.fates.now.fates (vertex_at c.args.read.now i))) c.loop-i.i
           c.loop-i.made.gates c.push_with.new.made.gates _ c.phase_of-phase.result there c.loop-i.invariant.gates
           (c.phase_of-phase.ensures
           ∙ ap₂ (phase_by c.in_ok-groups.groups c.loop-i.i) first spot_is
-          ∙ new_by_groups c.args.read.now (λ i. told c.args.fates.now.fates.items (vertex_at c.args.read.now i)) c.loop-i.i c.in_ok-groups.groups c.in_ok-groups.ensures)
+          ∙ new_by_groups c.args.read.now (λ i. told c.args.fates.now.fates (vertex_at c.args.read.now i)) c.loop-i.i c.in_ok-groups.groups c.in_ok-groups.ensures)
           (subst (λ gate. c.push_with.new.made.gates ≡ c.loop-i.made.gates ++ without_idle (with_phase_in c.phase_of-phase.result gate ∷ [])) second c.in_ok-push_with.ensures.gates);
     }

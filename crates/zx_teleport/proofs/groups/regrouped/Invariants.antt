@@ -8,6 +8,6 @@ use Rattle.zx_teleport.proofs.groups.regrouped.Given as goal
 abbrev pub invariant-loop-i : goal.invariant-loop-i
 invariant-loop-i l = record {
   qubits : l.made.qubits ≡ l.fn.read.qubits;
-  gates : l.made.gates ++ without_idle (with_phases (new_phase l.fn.read (λ i. told l.fn.fates.fates.items (vertex_at l.fn.read i))) l.i (drop l.i l.fn.read.gates))
-      ≡ without_idle (with_phases (new_phase l.fn.read (λ i. told l.fn.fates.fates.items (vertex_at l.fn.read i))) 0 l.fn.read.gates);
+  gates : l.made.gates ++ without_idle (with_phases (new_phase l.fn.read (λ i. told l.fn.fates.fates (vertex_at l.fn.read i))) l.i (drop l.i l.fn.read.gates))
+      ≡ without_idle (with_phases (new_phase l.fn.read (λ i. told l.fn.fates.fates (vertex_at l.fn.read i))) 0 l.fn.read.gates);
 }

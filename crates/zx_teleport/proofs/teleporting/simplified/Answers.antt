@@ -1,16 +1,12 @@
 -- What is said of the copy is said of the graph.
-use Rattle.std.proofs.Common.{◌<◌, IfOk, sym, subst, length}
+use Rattle.std.proofs.Common.{IfOk, sym, subst}
 use Rattle.zx_calculus.specs.Graph.{Graph}
-use Rattle.zx_calculus.specs.StepScalars.{most_vertices}
 use Rattle.gflow_laws.specs.Flow.{IsFlow}
 use Rattle.zx_reduce.specs.Reducing.{Reduces}
 use Rattle.zx_teleport.proofs.teleporting.simplified.Goals as goal
 
-pub reduce_owned-requires-clause-flow : goal.reduce_owned-requires-clause-flow
-reduce_owned-requires-clause-flow c = subst (λ (g : Graph). IsFlow g c.args.flow.flow) (sym c.in_ok-copy.ensures.ok) c.requires.flow
-
-pub reduce_owned-requires-clause-few : goal.reduce_owned-requires-clause-few
-reduce_owned-requires-clause-few c = subst (λ (g : Graph). length g.vertices < most_vertices) (sym c.in_ok-copy.ensures.ok) c.requires.few
+pub reduce_owned-requires : goal.reduce_owned-requires
+reduce_owned-requires c = record { flow = subst (λ (g : Graph). IsFlow g c.args.flow.flow) (sym c.in_ok-copy.ensures.ok) c.requires.flow }
 
 pub returns : goal.returns
 returns c =

@@ -21,24 +21,26 @@ scalar_of-requires-clause-few c =
     few_done (length (translated c.args.read.now).vertices) c.in_ok-found.found.trace.steps c.as_slice.result.now c.in_ok-found.ensures.few c.as_slice.ensures
     c.in_ok-found.ensures.few_steps
 
-pub returns-clause-small : goal.returns-clause-small
-returns-clause-small c =
-    subst (IsWithin most_teleported_root2) (sym c.over.ensures)
-    (quotient_small (length (translated c.args.read.now).vertices) c.in_ok-found.found.trace.steps c.as_slice.result.now c.in_ok-found.found.before c.in_ok-after.after
-    c.in_ok-found.ensures.few c.as_slice.ensures c.in_ok-found.ensures.few_steps c.in_ok-found.ensures.small c.in_ok-after.ensures.small)
-
 pub over-requires : goal.over-requires
 over-requires c =
     quotient_fits (quotient_of_scalars c.in_ok-found.found.before c.in_ok-after.after)
     (quotient_small (length (translated c.args.read.now).vertices) c.in_ok-found.found.trace.steps c.as_slice.result.now c.in_ok-found.found.before c.in_ok-after.after
     c.in_ok-found.ensures.few c.as_slice.ensures c.in_ok-found.ensures.few_steps c.in_ok-found.ensures.small c.in_ok-after.ensures.small)
 
-pub returns-clause-scalar : goal.returns-clause-scalar
-returns-clause-scalar c =
+pub returns-clause-kept : goal.returns-clause-kept
+returns-clause-kept c =
+    let read = c.args.read.now in
     let found = c.in_ok-found.found in
     let is = c.in_ok-found.ensures.teleported in
-    let put = put_seen c.args.read.now found.trace.steps c.as_slice.result.now found.reduced.graph found.gates.gates c.as_slice.ensures is.gates in
-    subst (λ s. IsScaled c.args.read.now.qubits c.args.read.now.qubits (amp c.args.read.now.gates) s (amp found.gates.gates)) (sym c.over.ensures)
-    (scalar_kept c.args.read.now (translated c.args.read.now) found.trace.steps c.as_slice.result.now found.reduced.graph found.gates.gates
-    refl c.as_slice.ensures is.run put c.in_ok-found.ensures.circuit found.gates is.qubits refl
-    found.before c.in_ok-after.after c.in_ok-after.ensures.turn c.in_ok-found.ensures.before c.in_ok-after.ensures.scalar)
+    let put = put_seen read found.trace.steps c.as_slice.result.now found.reduced.graph found.gates.gates c.as_slice.ensures is.gates in
+    record {
+      qubits = is.qubits;
+      scaled = subst (λ s. IsScaled read.qubits read.qubits (amp read.gates) s (amp found.gates.gates)) (sym c.over.ensures)
+          (scalar_kept read (translated read) found.trace.steps c.as_slice.result.now found.reduced.graph found.gates.gates
+          refl c.as_slice.ensures is.run put c.in_ok-found.ensures.circuit found.gates is.qubits refl
+          found.before c.in_ok-after.after c.in_ok-after.ensures.turn c.in_ok-found.ensures.before c.in_ok-after.ensures.scalar);
+      small = subst (IsWithin most_teleported_root2) (sym c.over.ensures)
+          (quotient_small (length (translated read).vertices) found.trace.steps c.as_slice.result.now found.before c.in_ok-after.after
+          c.in_ok-found.ensures.few c.as_slice.ensures c.in_ok-found.ensures.few_steps c.in_ok-found.ensures.small c.in_ok-after.ensures.small);
+      odd = is.fewer;
+    }

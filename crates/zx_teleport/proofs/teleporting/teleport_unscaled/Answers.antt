@@ -1,10 +1,11 @@
 -- The laws of teleported phases.
-use Rattle.std.proofs.Common.{◌<◌, ◌≤◌, ◌*◌, subst, length, map, List}
+use Rattle.std.proofs.Common.{◌≤◌, ◌*◌, subst, length, map, List}
 use Rattle.zx_model.specs.Scalar.{IsWithin}
 use Rattle.zx_calculus.specs.Graph.{Graph}
 use Rattle.zx_calculus.specs.Steps.{IsRun}
 use Rattle.zx_calculus.specs.StepScalars.{IsSumTimes}
-use Rattle.zx_reduce.specs.Scaling.{memory_bound, most_exponent}
+use Rattle.open_graph.specs.OpenGraph.{most_vertices_in_memory}
+use Rattle.zx_reduce.specs.Scaling.{most_exponent}
 use Rattle.zx_reduce.specs.Steps.{step_named}
 use Rattle.zx_reduce.specs.declared.step.Step.{Step}
 use Rattle.zx_teleport.specs.Together.{IsPutTogether}
@@ -38,7 +39,7 @@ returns-clause-small c =
     subst (λ (g : Graph). IsWithin (most_exponent g) c.in_ok-simplified.simplified.scalar) c.in_ok-placed.ensures.translation.graph c.in_ok-simplified.ensures.small
 
 pub returns-clause-few : goal.returns-clause-few
-returns-clause-few c = subst (λ (g : Graph). length g.vertices < memory_bound) c.in_ok-placed.ensures.translation.graph c.in_ok-check_size.ensures.fits
+returns-clause-few c = subst (λ (g : Graph). length g.vertices ≤ most_vertices_in_memory) c.in_ok-placed.ensures.translation.graph c.vertex_count.ensures.few
 
 pub returns-clause-few_steps : goal.returns-clause-few_steps
 returns-clause-few_steps c =

@@ -24,7 +24,7 @@ returns-clause-rewritten c =
 
 pub returns-clause-left : goal.returns-clause-left
 returns-clause-left c =
-    on_ok_weaker c.local_complement_in_graph.result (λ spare. (spare, c.complement_sets.ensures.spare)) c.local_complement_in_graph.ensures.spare
+    on_ok_weaker c.local_complement_in_graph.result (λ room. (room, c.complement_sets.ensures.room)) c.local_complement_in_graph.ensures.room
 
 pub returns-clause-has_room : goal.returns-clause-has_room
 returns-clause-has_room c room = c.local_complement_in_graph.ensures.has_room room.0
@@ -36,5 +36,5 @@ returns-in_err-complement_sets-clause-has_room c room =
     let u = c.args.self.now.u in
     let listed = interior_listed g t u c.requires.flow (complement_live g u c.requires.allowed) (complement_interior g u c.requires.allowed) in
     absurd (false≢true (subst IsOk c.in_err-complement_sets.was
-    (c.complement_sets.ensures.has_room (order_below g t c.args.f.now.reach c.requires.flow room.1)
-    (set_below g t c.args.f.now.reach c.requires.flow room.1 u listed))))
+    (c.complement_sets.ensures.has_room (order_below g t c.args.f.now.room.reach c.requires.flow room.1)
+    (set_below g t c.args.f.now.room.reach c.requires.flow room.1 u listed))))

@@ -21,5 +21,5 @@ returns-in_err-eliminate-clause-has_room c room =
     let t = c.args.f.now.flow in
     let listed = deletable_listed g t c.args.self.now.u c.delete_in_graph-scalar.ensures.was_valid c.requires.flow c.requires.allowed in
     absurd (false≢true (subst IsOk c.in_err-eliminate.was
-    (c.eliminate.ensures.has_room (order_below g t c.args.f.now.reach c.requires.flow room.1)
-    (set_below g t c.args.f.now.reach c.requires.flow room.1 c.args.self.now.u listed))))
+    (c.eliminate.ensures.has_room (order_below g t c.args.f.now.room.reach c.requires.flow room.1)
+    (set_below g t c.args.f.now.room.reach c.requires.flow room.1 c.args.self.now.u listed))))

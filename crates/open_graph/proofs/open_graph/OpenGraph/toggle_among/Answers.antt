@@ -1,58 +1,23 @@
 -- Both rows of each pair are toggled, so the rows are symmetric again.
-use Rattle.std.proofs.Common.{◌∙◌, ap, subst, arith}
-use Rattle.zx_model.specs.Bits.{member}
-use Rattle.zx_calculus.specs.Graph.{ids}
-use Rattle.zx_calculus.specs.Toggles.{IsToggled, among}
-use Rattle.open_graph.specs.OpenGraph.{OpenGraph}
-use Rattle.open_graph.specs.Internal.Slots.{graph_of}
-use Rattle.open_graph.proofs.SlotLemmas.{contains_live}
-use Rattle.open_graph.proofs.RowToggles.{becomes_among}
-use Rattle.open_graph.proofs.ReachLemmas.{room_kept, becomes_empty}
+use Rattle.open_graph.proofs.Seeing.{live_there, kept_on, kept_after, among_seen}
 use Rattle.open_graph.proofs.open_graph.OpenGraph.toggle_among.Goals as goal
 
 pub toggle_among-requires : goal.toggle_among-requires
-toggle_among-requires c p there =
-    contains_live c.self.inside.slots.slots p (ap (λ g. member p (ids g.graph.vertices)) c.self.view_is ∙ c.requires p there)
+toggle_among-requires c p there = live_there c.self.invariant c.self.view_is p (c.requires p there)
 
 pub invariant_of-self-in_default : goal.invariant_of-self-in_default
 invariant_of-self-in_default c =
-    record {
-      sound = (becomes_among c.self.inside.slots.slots c.toggle_among.new.slots.slots c.self.inside.inputs.items c.self.inside.outputs.items c.self.invariant.sound c.args.vertices.now.ids c.in_default.ensures.toggled).sound;
-      room = room_kept c.self.inside.reach c.self.inside.slots.slots c.toggle_among.new.slots.slots c.self.inside.kept.items c.self.invariant.room (c.toggle_among.ensures.room);
-      scratch = c.self.invariant.scratch;
-    }
+    kept_on c.self.invariant ((among_seen c.self.invariant c.self.view_is c.toggle_among.new.slots.slots c.args.vertices.now.ids c.in_default.ensures.toggled).0) c.toggle_among.ensures.room c.self.invariant.scratch
 
 pub returns-clause-ok : goal.returns-clause-ok
-returns-clause-ok c =
-    let made = becomes_among c.self.inside.slots.slots c.toggle_among.new.slots.slots c.self.inside.inputs.items c.self.inside.outputs.items c.self.invariant.sound
-    c.args.vertices.now.ids c.in_default.ensures.toggled in
-    subst (λ (g : OpenGraph). IsToggled g.graph (among c.args.vertices.now.ids) (graph_of c.toggle_among.new.slots.slots c.self.inside.inputs.items c.self.inside.outputs.items)) c.self.view_is
-    made.toggled
+returns-clause-ok c = (among_seen c.self.invariant c.self.view_is c.toggle_among.new.slots.slots c.args.vertices.now.ids c.in_default.ensures.toggled).1
 
 pub returns-clause-valid : goal.returns-clause-valid
-returns-clause-valid c =
-    (becomes_among c.self.inside.slots.slots c.toggle_among.new.slots.slots c.self.inside.inputs.items c.self.inside.outputs.items c.self.invariant.sound c.args.vertices.now.ids c.in_default.ensures.toggled).sound.well_formed
+returns-clause-valid c = (invariant_of-self-in_default c).sound.well_formed
 
 pub invariant_of-self : goal.invariant_of-self
 invariant_of-self c =
-    record {
-      sound = (becomes_empty c.clear.new.slots.slots c.clear-in-Err.new.self.items c.clear-in-Err-2.new.self.items c.clear.ensures.gone c.clear-in-Err.ensures.items c.clear-in-Err-2.ensures.items).sound;
-      room = c.clear.ensures.room c.self.inside.reach
-          (room_kept c.self.inside.reach c.self.inside.slots.slots c.toggle_among.new.slots.slots c.self.inside.kept.items c.self.invariant.room c.toggle_among.ensures.room);
-      scratch = c.self.invariant.scratch;
-    }
-
-pub returns-in-Err-clause-err : goal.returns-in-Err-clause-err
-returns-in-Err-clause-err c =
-    (becomes_empty c.clear.new.slots.slots c.clear-in-Err.new.self.items c.clear-in-Err-2.new.self.items c.clear.ensures.gone c.clear-in-Err.ensures.items c.clear-in-Err-2.ensures.items).graph
+    kept_after c.self.invariant c.clear.ensures.sound c.toggle_among.new.slots.slots c.clear.new.kept.items c.toggle_among.ensures.room c.clear.ensures.room c.self.invariant.scratch
 
 pub returns-in-Err-clause-valid : goal.returns-in-Err-clause-valid
-returns-in-Err-clause-valid c =
-    (becomes_empty c.clear.new.slots.slots c.clear-in-Err.new.self.items c.clear-in-Err-2.new.self.items c.clear.ensures.gone c.clear-in-Err.ensures.items c.clear-in-Err-2.ensures.items).sound.well_formed
-
-pub returns-in-Err-clause-keeps_spare : goal.returns-in-Err-clause-keeps_spare
-returns-in-Err-clause-keeps_spare c =
-    let kept = c.toggle_among.ensures.room.spare in
-    let more = c.clear.ensures.spare in
-    let seen = ap (λ g. g.spare) c.self.view_is in
-    omega (arith, kept, more, seen)
+returns-in-Err-clause-valid c = (invariant_of-self c).sound.well_formed

@@ -1,23 +1,16 @@
 -- Both rows of each pair are toggled, so the rows are symmetric again.
-use Rattle.std.proofs.Common.{sym, ◌∙◌, ap, subst, ◌∷◌, IsOk, arith}
+use Rattle.std.proofs.Common.{subst, IsOk}
 use Rattle.std.proofs.lemmas.Bool.{false≢true}
-use Rattle.zx_model.specs.Bits.{member}
-use Rattle.zx_bits.specs.Sets.{IsBelow}
-use Rattle.zx_calculus.specs.Graph.{ids, neighbours}
-use Rattle.zx_calculus.specs.Toggles.{IsToggled, across}
-use Rattle.open_graph.specs.OpenGraph.{OpenGraph}
-use Rattle.open_graph.specs.Internal.Slots.{told, graph_of}
-use Rattle.open_graph.proofs.SlotLemmas.{contains_live}
-use Rattle.open_graph.proofs.RowToggles.{becomes_across}
-use Rattle.open_graph.proofs.ReachLemmas.{room_kept, rows_of, becomes_empty}
-use Rattle.open_graph.proofs.NearLemmas.{near_there, toggled_around, closed_below}
+use Rattle.open_graph.proofs.NearLemmas.{near_there}
+use Rattle.open_graph.proofs.ReachLemmas.{rows_of}
+use Rattle.open_graph.proofs.Seeing.{live_there, kept_on, kept_after, around_below, around_seen}
 use Rattle.open_graph.proofs.open_graph.OpenGraph.toggle_around.Goals as goal
 
 pub toggle_around-requires-clause-u_live : goal.toggle_around-requires-clause-u_live
-toggle_around-requires-clause-u_live c = contains_live c.self.inside.slots.slots c.args.u (ap (λ g. member c.args.u (ids g.graph.vertices)) c.self.view_is ∙ c.requires.u_live)
+toggle_around-requires-clause-u_live c = live_there c.self.invariant c.self.view_is c.args.u c.requires.u_live
 
 pub toggle_around-requires-clause-v_live : goal.toggle_around-requires-clause-v_live
-toggle_around-requires-clause-v_live c = contains_live c.self.inside.slots.slots c.args.v (ap (λ g. member c.args.v (ids g.graph.vertices)) c.self.view_is ∙ c.requires.v_live)
+toggle_around-requires-clause-v_live c = live_there c.self.invariant c.self.view_is c.args.v c.requires.v_live
 
 pub toggle_around-requires-clause-near_live : goal.toggle_around-requires-clause-near_live
 toggle_around-requires-clause-near_live c p q near = near_there c.self.inside.slots.slots c.self.invariant.sound.symmetric p q near
@@ -27,49 +20,23 @@ toggle_around-requires-clause-no_loop c p = c.self.invariant.sound.no_loop p
 
 pub invariant_of-self-in_default : goal.invariant_of-self-in_default
 invariant_of-self-in_default c =
-    record {
-      sound = (becomes_across c.self.inside.slots.slots c.toggle_around.new.slots.slots c.self.inside.inputs.items c.self.inside.outputs.items c.self.invariant.sound (c.args.u ∷ (told c.self.inside.slots.slots c.args.u).row) (c.args.v ∷ (told c.self.inside.slots.slots c.args.v).row) c.in_default.ensures.toggled).sound;
-      room = room_kept c.self.inside.reach c.self.inside.slots.slots c.toggle_around.new.slots.slots c.self.inside.kept.items c.self.invariant.room c.toggle_around.ensures.room;
-      scratch = c.toggle_around.ensures.holds c.self.invariant.scratch;
-    }
+    kept_on c.self.invariant (around_seen c.self.invariant c.self.view_is c.toggle_around.new.slots.slots c.args.u c.args.v c.in_default.ensures.toggled).0 c.toggle_around.ensures.room (c.toggle_around.ensures.holds c.self.invariant.scratch)
 
 pub returns-clause-ok : goal.returns-clause-ok
-returns-clause-ok c =
-    subst (λ (g : OpenGraph). IsToggled g.graph (across (c.args.u ∷ neighbours g.graph c.args.u) (c.args.v ∷ neighbours g.graph c.args.v)) (graph_of c.toggle_around.new.slots.slots c.self.inside.inputs.items c.self.inside.outputs.items)) c.self.view_is
-    (toggled_around c.self.inside.slots.slots c.self.inside.inputs.items c.self.inside.outputs.items c.self.invariant.sound c.toggle_around.new.slots.slots c.args.u c.args.v c.in_default.ensures.toggled)
+returns-clause-ok c = (around_seen c.self.invariant c.self.view_is c.toggle_around.new.slots.slots c.args.u c.args.v c.in_default.ensures.toggled).1
 
 pub returns-clause-valid : goal.returns-clause-valid
-returns-clause-valid c = (becomes_across c.self.inside.slots.slots c.toggle_around.new.slots.slots c.self.inside.inputs.items c.self.inside.outputs.items c.self.invariant.sound (c.args.u ∷ (told c.self.inside.slots.slots c.args.u).row) (c.args.v ∷ (told c.self.inside.slots.slots c.args.v).row) c.in_default.ensures.toggled).sound.well_formed
+returns-clause-valid c = (invariant_of-self-in_default c).sound.well_formed
 
 pub invariant_of-self : goal.invariant_of-self
 invariant_of-self c =
-    record {
-      sound = (becomes_empty c.clear.new.slots.slots c.clear-in-Err.new.self.items c.clear-in-Err-2.new.self.items c.clear.ensures.gone c.clear-in-Err.ensures.items c.clear-in-Err-2.ensures.items).sound;
-      room = c.clear.ensures.room c.self.inside.reach
-          (room_kept c.self.inside.reach c.self.inside.slots.slots c.toggle_around.new.slots.slots c.self.inside.kept.items c.self.invariant.room c.toggle_around.ensures.room);
-      scratch = c.toggle_around.ensures.holds c.self.invariant.scratch;
-    }
-
-pub returns-in-Err-clause-err : goal.returns-in-Err-clause-err
-returns-in-Err-clause-err c =
-    (becomes_empty c.clear.new.slots.slots c.clear-in-Err.new.self.items c.clear-in-Err-2.new.self.items c.clear.ensures.gone c.clear-in-Err.ensures.items c.clear-in-Err-2.ensures.items).graph
+    kept_after c.self.invariant c.clear.ensures.sound c.toggle_around.new.slots.slots c.clear.new.kept.items c.toggle_around.ensures.room c.clear.ensures.room (c.toggle_around.ensures.holds c.self.invariant.scratch)
 
 pub returns-in-Err-clause-valid : goal.returns-in-Err-clause-valid
-returns-in-Err-clause-valid c =
-    (becomes_empty c.clear.new.slots.slots c.clear-in-Err.new.self.items c.clear-in-Err-2.new.self.items c.clear.ensures.gone c.clear-in-Err.ensures.items c.clear-in-Err-2.ensures.items).sound.well_formed
-
-pub returns-in-Err-clause-keeps_spare : goal.returns-in-Err-clause-keeps_spare
-returns-in-Err-clause-keeps_spare c =
-    let kept = c.toggle_around.ensures.room.spare in
-    let more = c.clear.ensures.spare in
-    let seen = ap (λ g. g.spare) c.self.view_is in
-    omega (arith, kept, more, seen)
+returns-in-Err-clause-valid c = (invariant_of-self c).sound.well_formed
 
 pub returns-in-Err-clause-has_room : goal.returns-in-Err-clause-has_room
 returns-in-Err-clause-has_room c left right =
-    let fits = c.toggle_around.ensures.has_room c.self.invariant.scratch (rows_of c.self.inside.reach c.self.inside.slots.slots c.self.inside.kept.items c.self.invariant.room)
-    (closed_below c.self.inside.slots.slots c.self.inside.inputs.items c.self.inside.outputs.items c.self.invariant.sound c.args.u c.self.inside.reach
-    (subst (λ (g : OpenGraph). IsBelow g.reach (c.args.u ∷ neighbours g.graph c.args.u)) (sym c.self.view_is) left))
-    (closed_below c.self.inside.slots.slots c.self.inside.inputs.items c.self.inside.outputs.items c.self.invariant.sound c.args.v c.self.inside.reach
-    (subst (λ (g : OpenGraph). IsBelow g.reach (c.args.v ∷ neighbours g.graph c.args.v)) (sym c.self.view_is) right)) in
-    absurd (false≢true (subst IsOk c.in-Err.is fits))
+    absurd (false≢true (subst IsOk c.in-Err.is
+    (c.toggle_around.ensures.has_room c.self.invariant.scratch (rows_of _ _ _ c.self.invariant.room) (around_below c.self.invariant c.self.view_is c.args.u left)
+    (around_below c.self.invariant c.self.view_is c.args.v right))))

@@ -6,7 +6,10 @@ use Rattle.open_graph.proofs.slot_table.SlotTable.new.Goals as goal
 pub invariant_of-result : goal.invariant_of-result
 invariant_of-result c =
     record {
-      covers = omega (arith, ap length c.new.ensures.items);
-      vacant = λ id lt. absurd (omega (arith, lt, ap length c.new.ensures.items));
-      none_after = λ id le. ap (λ bits. bit bits id) c.empty.ensures;
+      row = record {
+        covers = omega (arith, ap length c.new.ensures.items);
+        vacant = λ id lt. absurd (omega (arith, lt, ap length c.new.ensures.items));
+        none_after = λ id le. ap (λ bits. bit bits id) c.empty.ensures;
+      };
+      few = omega (arith, ap length c.new.ensures.items);
     }

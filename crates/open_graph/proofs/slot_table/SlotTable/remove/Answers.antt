@@ -1,5 +1,5 @@
 -- The bit of the entry is set.
-use Rattle.std.proofs.Common.{◌∙◌, ◌+◌, ap}
+use Rattle.std.proofs.Common.{◌∙◌, ◌+◌, ap, length-set, None}
 use Rattle.open_graph.specs.Internal.Room.{vacant_in}
 use Rattle.open_graph.proofs.RoomLemmas.{vacant-emptied}
 use Rattle.open_graph.proofs.TableLemmas.{row_emptied}
@@ -7,9 +7,11 @@ use Rattle.open_graph.proofs.slot_table.SlotTable.remove.Goals as goal
 
 pub invariant_of-self : goal.invariant_of-self
 invariant_of-self c =
-    rw c.take.ensures.after
-    (row_emptied c.self.inside.entries.items c.self.inside.free c.self.invariant c.args.id (rw (← c.self.view_is) at c.requires) c.flip.new.self
-    c.flip.ensures)
+    rw c.take.ensures.after (record {
+      row = row_emptied c.self.inside.entries.items c.self.inside.free c.self.invariant.row c.args.id (rw (← c.self.view_is) at c.requires) c.flip.new.self
+          c.flip.ensures;
+      few = rw (length-set c.self.inside.entries.items c.args.id None) c.self.invariant.few;
+    })
 
 pub returns-clause-spare : goal.returns-clause-spare
 returns-clause-spare c =

@@ -9,10 +9,13 @@ use Rattle.open_graph.proofs.slot_table.SlotTableClone.clone.Goals as goal
 
 pub invariant_of-result : goal.invariant_of-result
 invariant_of-result c =
-    row_same c.self.inside.entries.items c.in_ok-copy_entries.field-0.items c.self.inside.free c.in_ok-free.free c.self.invariant
-    (c.in_ok-copy_entries.ensures.len ∙ ap length c.deref.ensures.value)
-    (λ p. c.in_ok-copy_entries.ensures.same p ∙ ap (λ (l : List (Option Slot)). told l p) c.deref.ensures.value)
-    c.in_ok-free.ensures.cases
+    let size = c.in_ok-copy_entries.ensures.len ∙ ap length c.deref.ensures.value in
+    record {
+      row = row_same c.self.inside.entries.items c.in_ok-copy_entries.field-0.items c.self.inside.free c.in_ok-free.free c.self.invariant.row
+          size (λ p. c.in_ok-copy_entries.ensures.same p ∙ ap (λ (l : List (Option Slot)). told l p) c.deref.ensures.value)
+          c.in_ok-free.ensures.cases;
+      few = rw size c.self.invariant.few;
+    }
 
 pub returns : goal.returns
 returns c =

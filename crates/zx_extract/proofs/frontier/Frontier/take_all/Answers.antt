@@ -1,18 +1,8 @@
 -- One after the other.
-use Rattle.std.proofs.Common.{◌≡◌, ◌≤◌, ℕ, ◌+◌, ◌<◌, ap, refl, reverse, arith}
-use Rattle.zx_calculus.specs.StepScalars.{most_vertices}
+use Rattle.std.proofs.Common.{ap, refl, reverse}
 use Rattle.zx_extract.specs.Internal.Frontiers.{state_of}
-use Rattle.zx_extract.proofs.Taking.{few_not_XY}
 use Rattle.zx_extract.proofs.Whole.{taken_apart}
 use Rattle.zx_extract.proofs.frontier.Frontier.take_all.Goals as goal
-
-pub take_vertices-requires-clause-few : goal.take_vertices-requires-clause-few
-take_vertices-requires-clause-few c =
-    few _ _ _ _ c.in_ok-settle_all.ensures.leads.others c.in_ok-take_marks.ensures.leads.others
-    (few_not_XY c.args.self.now.graph.graph) c.requires.few_vertices
-  where
-    few : (a b d n : ℕ) → a + 0 ≡ b → b + 0 ≡ d → d ≤ n → n < most_vertices → a < most_vertices
-    few a b d n e f g h = omega (arith, e, f, g, h)
 
 pub returns : goal.returns
 returns c =

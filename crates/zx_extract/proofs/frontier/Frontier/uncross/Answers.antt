@@ -7,7 +7,7 @@ use Rattle.zx_extract.proofs.Leads.{leads_table}
 use Rattle.std.specs.Prelude.{slice_get}
 use Rattle.zx_model.specs.Bits.{member}
 use Rattle.zx_calculus.specs.Graph.{end_vertices}
-use Rattle.gflow_laws.proofs.AllEnds.{length-places}
+use Rattle.zx_calculus.proofs.ReducedLemmas.{length-places}
 use Rattle.zx_extract.specs.Internal.Frontiers.{state_of}
 use Rattle.zx_extract.specs.Internal.Steps.{IsUncrossed}
 use Rattle.zx_extract.proofs.Places.{read_at}

@@ -1,53 +1,27 @@
 -- The vertex with its set.
-use Rattle.std.proofs.Common.{◌≡◌, ◌∙◌, sym, ap, subst, false, List, [], ◌∷◌, arith}
-use Rattle.zx_model.specs.Bits.{member}
-use Rattle.gflow_laws.specs.Flow.{Correction}
-use Rattle.zx_flow.specs.Internal.Sets.{Corrections, table_of, HoldsOnce}
-use Rattle.zx_flow.proofs.SetLemmas.{others, table_of-first, table_of-fresh, HoldsOnce-first}
-use Rattle.zx_flow.proofs.TableChanges.{listed, at_err}
+use Rattle.std.proofs.Common.{◌∙◌, ap, [], ◌∷◌}
+use Rattle.zx_flow.specs.Internal.Sets.{table_of}
+use Rattle.zx_flow.proofs.TableChanges.{fresh_table, first_table, holds_first, at_err}
 use Rattle.zx_flow.proofs.corrections.Corrections.add_first.Goals as goal
 
-pub returns-in_err-put_one-clause-err : goal.returns-in_err-put_one-clause-err
-returns-in_err-put_one-clause-err c =
-    let fresh : member c.args.v c.self.inside.order.items ≡ false =
-    listed c.self.inside.sets.lists c.self.inside.order.items c.args.self.now.table
-    (ap (λ (k : Corrections). k.table) c.self.view_is) c.args.v false c.requires in
-    let but = others c.self.inside.sets.lists c.make_place.new.self.lists c.put_one.new.self.lists c.args.v
-    c.make_place.ensures.same c.put_one.ensures.others in
-    at_err c.from_residual-in_err-put_one.result
-    (table_of-fresh c.self.inside.sets.lists c.put_one.new.self.lists c.self.inside.order.items c.args.v but fresh
-    ∙ ap (λ (k : Corrections). k.table) c.self.view_is)
+pub returns-in_err-add_one-clause-err : goal.returns-in_err-add_one-clause-err
+returns-in_err-add_one-clause-err c =
+    at_err c.from_residual.result
+    (fresh_table c.self.invariant c.self.view_is c.add_one.new.self.lists c.args.v c.requires c.add_one.ensures.others)
 
 pub returns-in_err-insert-clause-err : goal.returns-in_err-insert-clause-err
 returns-in_err-insert-clause-err c =
-    let fresh : member c.args.v c.self.inside.order.items ≡ false =
-    listed c.self.inside.sets.lists c.self.inside.order.items c.args.self.now.table
-    (ap (λ (k : Corrections). k.table) c.self.view_is) c.args.v false c.requires in
-    let but = others c.self.inside.sets.lists c.make_place.new.self.lists c.put_one.new.self.lists c.args.v
-    c.make_place.ensures.same c.put_one.ensures.others in
     at_err c.from_residual-in_err-insert.result
-    (ap (table_of c.put_one.new.self.lists) c.in_err-insert.ensures.items
-    ∙ table_of-fresh c.self.inside.sets.lists c.put_one.new.self.lists c.self.inside.order.items c.args.v but fresh
-    ∙ ap (λ (k : Corrections). k.table) c.self.view_is)
+    (ap (table_of c.add_one.new.self.lists) c.in_err-insert.ensures.items
+    ∙ fresh_table c.self.invariant c.self.view_is c.add_one.new.self.lists c.args.v c.requires c.add_one.ensures.others)
 
 pub invariant_of-self-2 : goal.invariant_of-self-2
 invariant_of-self-2 c =
-    let fresh : member c.args.v c.self.inside.order.items ≡ false =
-    listed c.self.inside.sets.lists c.self.inside.order.items c.args.self.now.table
-    (ap (λ (k : Corrections). k.table) c.self.view_is) c.args.v false c.requires in
-    subst (HoldsOnce c.put_one.new.self.lists) (sym c.in_ok-insert.ensures.items)
-    (HoldsOnce-first c.self.inside.sets.lists c.put_one.new.self.lists c.self.inside.order.items c.args.v c.self.invariant
-    (omega (arith, c.make_place.ensures.grown, c.put_one.ensures.length))
-    (omega (arith, c.in_ok-make_place.ensures.ok, c.put_one.ensures.length)) fresh)
+    rw c.in_ok-insert.ensures.items (holds_first c.self.invariant c.self.view_is c.add_one.new.self.lists c.args.v c.requires c.add_one.ensures.grown
+    c.in_ok-add_one.ensures.place)
 
 pub returns-clause-ok : goal.returns-clause-ok
 returns-clause-ok c =
-    let fresh : member c.args.v c.self.inside.order.items ≡ false =
-    listed c.self.inside.sets.lists c.self.inside.order.items c.args.self.now.table
-    (ap (λ (k : Corrections). k.table) c.self.view_is) c.args.v false c.requires in
-    let but = others c.self.inside.sets.lists c.make_place.new.self.lists c.put_one.new.self.lists c.args.v
-    c.make_place.ensures.same c.put_one.ensures.others in
-    ap (table_of c.put_one.new.self.lists) c.in_ok-insert.ensures.items
-    ∙ table_of-first c.self.inside.sets.lists c.put_one.new.self.lists c.self.inside.order.items c.args.v
-    (c.args.w ∷ []) but c.in_ok-put_one.ensures.ok fresh
-    ∙ ap (λ (t : List Correction). record { vertex = c.args.v; members = c.args.w ∷ [] } ∷ t) (ap (λ (k : Corrections). k.table) c.self.view_is)
+    ap (table_of c.add_one.new.self.lists) c.in_ok-insert.ensures.items
+    ∙ first_table c.self.invariant c.self.view_is c.add_one.new.self.lists c.args.v (c.args.w ∷ []) c.requires c.add_one.ensures.others
+    c.in_ok-add_one.ensures.own

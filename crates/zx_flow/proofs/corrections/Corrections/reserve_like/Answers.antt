@@ -10,7 +10,7 @@ returns-clause-places c =
     on_ok_weaker c.reserve-2.result
     (λ ok.
     let there = c.other.inside in
-    let spare = ap (λ k. k.spare) c.other.view_is in
+    let spare = ap (λ k. k.room.spare) c.other.view_is in
     let listed = ap length (order_of-table_of there.sets.lists there.order.items) in
     let order = ap (λ k. length (order_of k.table)) c.other.view_is in
     let stays = ap length (order_of-table_of c.reserve-2.new.self.lists c.reserve.new.self.items) in

@@ -27,8 +27,7 @@ loop-i-preserved c =
           c.loop-i.invariant.sets
           (changed_by_own c.args.u own (set_of now c.args.u) (c.vertex_at-v.result ∷ []) now c.clear.new.self.flow
           (own_kept c.args.u own (take c.loop-i.i (order_of t)) t now c.loop-i.invariant.sets) c.in_ok-clear.ensures.sets);
-      spare = c.clear.ensures.spare ∙ c.loop-i.invariant.spare;
-      reach = c.clear.ensures.reach ∙ c.loop-i.invariant.reach;
+      room = c.clear.ensures.room ∙ c.loop-i.invariant.room;
     }
 
 pub remove-requires : goal.remove-requires

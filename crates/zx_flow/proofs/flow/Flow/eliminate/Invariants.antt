@@ -9,6 +9,5 @@ abbrev pub invariant-loop-i : goal.invariant-loop-i
 invariant-loop-i l = record {
   sets : AreChanged (clearing_change l.u (set_of l.fn.self.flow l.u)) (take l.i (order_of l.fn.self.flow))
       l.fn.self.flow l.self.flow;
-  spare : l.self.spare ≡ l.fn.self.spare;
-  reach : l.self.reach ≡ l.fn.self.reach;
+  room : l.self.room ≡ l.fn.self.room;
 }

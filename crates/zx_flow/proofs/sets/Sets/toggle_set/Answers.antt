@@ -1,5 +1,5 @@
 -- The set of u comes back, with what it toggled.
-use Rattle.std.proofs.Common.{◌≡◌, sym, ◌∙◌, ap, ap₂, subst, ℕ, ◌<◌, List, length, get_or, set, arith}
+use Rattle.std.proofs.Common.{◌≡◌, sym, ◌∙◌, ap, ap₂, subst, ℕ, ◌<◌, List, length, get_or, set, arith, rules}
 use Rattle.std.proofs.lemmas.Result.{on_ok_weaker, on_err_weaker}
 use Rattle.std.proofs.lemmas.List.{get_or_default, length-set}
 use Rattle.zx_model.specs.Bits.{xor, member}
@@ -22,8 +22,8 @@ second lists a u b v none x is e f lt =
     is ∙ ap₂ (λ k m. get_or (set lists k none) m x) e f
     ∙ get_or_default (set lists u none) v x no_set (let same = length-set lists u none in omega (arith, same, lt))
 
-pub returns-clause-ok : goal.returns-clause-ok
-returns-clause-ok c =
+pub returns : goal.returns
+returns c =
     let lists = c.self.inside.lists.items in
     let same = sym (ap lists_of c.self.view_is) in
     let v_there = subst (λ l. c.args.v < length l) same c.requires.v_there in
@@ -31,35 +31,22 @@ returns-clause-ok c =
     let was = c.replace-other.ensures.value ∙ first lists c.get.result c.args.u c.index_mut.result.now c.index_mut.ensures.value c.get.ensures u_there in
     let changed = second lists c.get.result c.args.u c.get-2.result c.args.v c.replace-other.new.dest c.index_mut-2.result.now
     c.index_mut-2.ensures.value c.get.ensures c.get-2.ensures v_there in
-    rw (c.get.ensures, c.get-2.ensures, c.get-3.ensures, same)
-    (on_ok_weaker c.toggle_within-done.result
-    (λ toggled. back_toggled lists c.args.v c.args.u c.replace-other.new.dest c.toggle_within-done.new.set c.replace-other.result
-    v_there u_there c.requires.apart was
-    (λ w. toggled w ∙ ap (λ (x : VertexSet). xor (member w x.ids) (member w c.replace-other.result.ids)) changed))
-    c.toggle_within-done.ensures.ok)
-
-pub returns-clause-err : goal.returns-clause-err
-returns-clause-err c =
-    let lists = c.self.inside.lists.items in
-    let same = sym (ap lists_of c.self.view_is) in
-    let v_there = subst (λ l. c.args.v < length l) same c.requires.v_there in
-    let u_there = subst (λ l. c.args.u < length l) same c.requires.u_there in
-    let was = c.replace-other.ensures.value ∙ first lists c.get.result c.args.u c.index_mut.result.now c.index_mut.ensures.value c.get.ensures u_there in
-    let changed = second lists c.get.result c.args.u c.get-2.result c.args.v c.replace-other.new.dest c.index_mut-2.result.now
-    c.index_mut-2.ensures.value c.get.ensures c.get-2.ensures v_there in
-    rw (c.get.ensures, c.get-2.ensures, c.get-3.ensures, same)
-    (on_err_weaker c.toggle_within-done.result
-    (λ stays. back_same lists c.args.v c.args.u c.replace-other.new.dest c.toggle_within-done.new.set c.replace-other.result
-    v_there u_there c.requires.apart was (stays ∙ ap (λ (x : VertexSet). x.ids) changed))
-    c.toggle_within-done.ensures.err)
-
-pub returns-clause-has_room : goal.returns-clause-has_room
-returns-clause-has_room c = λ v_below below.
-    let lists = c.self.inside.lists.items in
-    let same = sym (ap lists_of c.self.view_is) in
-    let u_there = subst (λ l. c.args.u < length l) same c.requires.u_there in
-    let was = c.replace-other.ensures.value ∙ first lists c.get.result c.args.u c.index_mut.result.now c.index_mut.ensures.value c.get.ensures u_there in
     let members = ap (λ (x : VertexSet). x.ids) (was ∙ ap (λ l. get_or l c.args.u no_set) (sym same)) in
-    c.toggle_within-done.ensures.has_room
-    (subst (λ k. IsBelow k c.replace-other.result.ids) (sym (c.kept-kept.ensures.below v_below))
-    (subst (IsBelow c.args.self.now.reach) (sym members) below))
+    record {
+      ok = rw (c.get.ensures, c.get-2.ensures, c.get-3.ensures, same)
+          (on_ok_weaker c.toggle_within-done.result
+          (λ toggled. back_toggled lists c.args.v c.args.u c.replace-other.new.dest c.toggle_within-done.new.set c.replace-other.result
+          v_there u_there c.requires.apart was
+          (λ w. toggled w ∙ ap (λ (x : VertexSet). xor (member w x.ids) (member w c.replace-other.result.ids)) changed))
+          c.toggle_within-done.ensures.ok);
+      err = rw (c.get.ensures, c.get-2.ensures, c.get-3.ensures, same)
+          (on_err_weaker c.toggle_within-done.result
+          (λ stays. back_same lists c.args.v c.args.u c.replace-other.new.dest c.toggle_within-done.new.set c.replace-other.result
+          v_there u_there c.requires.apart was (stays ∙ ap (λ (x : VertexSet). x.ids) changed))
+          c.toggle_within-done.ensures.err);
+      length = search rules;
+      reach = search rules;
+      has_room = λ v_below below. c.toggle_within-done.ensures.has_room
+          (subst (λ k. IsBelow k c.replace-other.result.ids) (sym (c.kept-kept.ensures.below v_below))
+          (subst (IsBelow c.args.self.now.reach) (sym members) below));
+    }

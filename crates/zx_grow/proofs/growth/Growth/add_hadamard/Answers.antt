@@ -1,19 +1,13 @@
 -- The outputs are plain, and H is a gate more.
-use Rattle.std.proofs.Common.{◌<◌, [], ◌∷◌, length, refl, subst, sym}
 use Rattle.zx_gates.specs.declared.gate.Gate.TheVariants.{H}
-use Rattle.zx_grow.specs.Internal.Growing.{Growth, HasGrown, Gains}
-use Rattle.zx_grow.proofs.Growths.{plain_outputs, gains_gate}
+use Rattle.zx_grow.proofs.Growths.{ok_three, plain_inside, gate_inside}
 use Rattle.zx_grow.proofs.growth.Growth.add_hadamard.Goals as goal
 
 pub add_hadamard-requires-clause-plain : goal.add_hadamard-requires-clause-plain
-add_hadamard-requires-clause-plain c =
-    plain_outputs (record { ordered = c.self.inside.ordered; scalar = c.self.inside.scalar }) (subst HasGrown (sym c.self.view_is) c.requires.grown)
+add_hadamard-requires-clause-plain c = plain_inside c.self.inside.ordered c.self.inside.scalar c.args.self.now c.self.view_is c.requires.grown
 
 pub returns : goal.returns
 returns c =
-    let before : Growth = record { ordered = c.self.inside.ordered; scalar = c.self.inside.scalar } in
-    let after : Growth = record { ordered = c.add_hadamard.new.self; scalar = c.self.inside.scalar } in
-    subst (λ (g : Growth). Gains (H c.args.q ∷ []) g after) c.self.view_is
-    (gains_gate c.in_ok-next.next (H c.args.q) before after tt (λ formed. c.in_ok-next.ensures.fresh)
-    (subst (λ (g : Growth). c.args.q < length g.ordered.graph.outputs) (sym c.self.view_is) c.requires.on_qubits)
-    c.in_ok-next.ensures.gate refl c.in_ok-next.ensures.ordered)
+    ok_three c.add_hadamard.result c.add_hadamard.ensures.fresh c.add_hadamard.ensures.gate c.add_hadamard.ensures.ordered
+    (λ next fresh gate ordered. gate_inside c.self.inside.ordered c.self.inside.scalar c.args.self.now c.self.view_is next (H c.args.q)
+    c.add_hadamard.new.self tt (λ formed. fresh) c.requires.on_qubits gate ordered)

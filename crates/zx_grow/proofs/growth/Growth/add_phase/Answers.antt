@@ -1,25 +1,12 @@
--- The outputs are plain, and a phase is a gate more. No vertex comes: any free id serves.
-use Rattle.std.proofs.Common.{[], ◌∷◌, length, refl, subst, sym}
-use Rattle.zx_calculus.specs.Graph.{ids}
-use Rattle.zx_calculus.specs.Splits.{least_free}
-use Rattle.zx_calculus.proofs.LeastFree.{least_free-fresh}
-use Rattle.zx_gates.specs.Circuit.{IsOnQubits}
+-- The outputs are plain, and a phase is a gate more.
 use Rattle.zx_gates.specs.declared.gate.Gate.TheVariants.{Phase}
-use Rattle.zx_grow.specs.Internal.Growing.{Growth, HasGrown, Gains}
-use Rattle.zx_grow.proofs.Growths.{plain_outputs, gains_gate}
+use Rattle.zx_grow.proofs.Growths.{plain_inside, still_inside}
 use Rattle.zx_grow.proofs.growth.Growth.add_phase.Goals as goal
 
 pub add_phase-requires-clause-plain : goal.add_phase-requires-clause-plain
-add_phase-requires-clause-plain c =
-    plain_outputs (record { ordered = c.self.inside.ordered; scalar = c.self.inside.scalar }) (subst HasGrown (sym c.self.view_is) c.requires.grown)
+add_phase-requires-clause-plain c = plain_inside c.self.inside.ordered c.self.inside.scalar c.args.self.now c.self.view_is c.requires.grown
 
 pub returns : goal.returns
 returns c =
-    let before : Growth = record { ordered = c.self.inside.ordered; scalar = c.self.inside.scalar } in
-    let after : Growth = record { ordered = c.add_phase.new.self; scalar = c.self.inside.scalar } in
-    let vs = ids before.ordered.graph.vertices in
-    let gate = Phase c.args.q c.args.phase in
-    subst (λ (g : Growth). Gains (gate ∷ []) g after) c.self.view_is
-    (gains_gate (least_free vs) gate before after tt (λ formed. least_free-fresh vs formed.vertices_rising)
-    (subst (λ (g : Growth). IsOnQubits (length g.ordered.graph.outputs) gate) (sym c.self.view_is) c.requires.on_qubits)
-    c.add_phase.ensures.gate refl c.add_phase.ensures.ordered)
+    still_inside c.self.inside.ordered c.self.inside.scalar c.args.self.now c.self.view_is (Phase c.args.q c.args.phase) c.add_phase.new.self tt
+    c.requires.on_qubits c.add_phase.ensures.gate c.add_phase.ensures.ordered

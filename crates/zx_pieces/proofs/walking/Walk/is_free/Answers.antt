@@ -1,6 +1,6 @@
 -- Neither qubit is blocked.
 use Rattle.std.proofs.Common.{rules}
-use Rattle.zx_pieces.specs.Internal.Walking.{first_qubit, second_qubit}
+use Rattle.zx_peephole.specs.Internal.Chains.{first_qubit, second_qubit}
 use Rattle.zx_pieces.proofs.Walks.{free_all, read_off, unset_by}
 use Rattle.zx_pieces.proofs.walking.Walk.is_free.Goals as goal
 

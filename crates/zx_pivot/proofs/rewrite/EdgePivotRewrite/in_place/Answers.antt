@@ -33,7 +33,7 @@ returns-clause-rewritten c =
 
 pub returns-clause-left : goal.returns-clause-left
 returns-clause-left c =
-    on_ok_weaker c.pivot_in_graph.result (λ spare. (spare, c.in_ok-pivot_sets.ensures.spare)) c.pivot_in_graph.ensures.spare
+    on_ok_weaker c.pivot_in_graph.result (λ room. (room, c.pivot_sets.ensures.room)) c.pivot_in_graph.ensures.room
 
 pub returns-clause-has_room : goal.returns-clause-has_room
 returns-clause-has_room c room = c.pivot_in_graph.ensures.has_room room.0
@@ -43,5 +43,5 @@ returns-in_err-pivot_sets-clause-has_room c room =
     let g = c.args.g.now.graph in
     let t = c.args.f.now.flow in
     absurd (false≢true (subst IsOk c.in_err-pivot_sets.was
-    (c.pivot_sets.ensures.has_room (order_below g t c.args.f.now.reach c.requires.flow room.1)
-    (all_sets_below g t c.args.f.now.reach c.requires.flow room.1))))
+    (c.pivot_sets.ensures.has_room (order_below g t c.args.f.now.room.reach c.requires.flow room.1)
+    (all_sets_below g t c.args.f.now.room.reach c.requires.flow room.1))))

@@ -6,15 +6,15 @@ use Rattle.zx_reduce.proofs.candidates.Candidates.list_after.Goals as goal
 
 pub list_for-requires-clause-place : goal.list_for-requires-clause-place
 list_for-requires-clause-place c =
-    let near = of_some_kind c.args.list c.requires in omega (arith, near, c.place_of_list-place.ensures)
+    let near = of_some_kind c.args.list c.requires.list in omega (arith, near, c.place_of_list-place.ensures)
 
 pub overflow_add-place : goal.overflow_add-place
 overflow_add-place c =
-    let near = of_some_kind c.args.list c.requires in omega (arith, near, c.place_of_list-place.ensures)
+    let near = of_some_kind c.args.list c.requires.list in omega (arith, near, c.place_of_list-place.ensures)
 
 pub list_from-requires : goal.list_from-requires
 list_from-requires c =
-    let near = of_some_kind c.args.list c.requires in omega (arith, near, c.place_of_list-place.ensures)
+    let near = of_some_kind c.args.list c.requires.list in omega (arith, near, c.place_of_list-place.ensures)
 
 pub returns-in-Some-clause-found : goal.returns-in-Some-clause-found
 returns-in-Some-clause-found c = where_some c.args.found.now (c.list_for.ensures.kind ∙ c.place_of_list-place.ensures)

@@ -6,6 +6,7 @@ use Rattle.zx_reduce.specs.declared.moves.TheConstants.{KINDS}
 use Rattle.zx_reduce.specs.Internal.Guiding.{place_kind, place_of}
 use Rattle.zx_reduce.proofs.CandidateLists.{kind_at, no_list, place_within}
 use Rattle.zx_reduce.proofs.Guided.{none_more, settled_none}
+use Rattle.zx_reduce.proofs.SearchPairs.{begins}
 use Rattle.zx_reduce.proofs.candidates.Candidates.list_from.Goals as goal
 
 pub returns-then-not-is_live-clause-from : goal.returns-then-not-is_live-clause-from
@@ -25,7 +26,9 @@ returns-then-is_settled-clause-none c k v low high place =
 pub loop-place-preserved : goal.loop-place-preserved
 loop-place-preserved c =
     none_more c.args.g.now.graph c.args.u c.args.start c.loop-place.place (get_or KINDS c.loop-place.place kinds.Delete)
-    (λ k e. kind_at c.loop-place.place k kinds.Delete e) (c.if-may_begin.ensures refl) c.loop-place.invariant
+    (λ k e. kind_at c.loop-place.place k kinds.Delete e)
+    (λ v at. true≢false (sym (c.may_begin.ensures.1 (begins c.args.g.now.graph c.is_live.ensures.valid c.args.u (get_or KINDS c.loop-place.place kinds.Delete) v at))
+    ∙ c.if-may_begin.false)) c.loop-place.invariant
 
 pub returns-then-may_begin-clause-none : goal.returns-then-may_begin-clause-none
 returns-then-may_begin-clause-none c k v low high =

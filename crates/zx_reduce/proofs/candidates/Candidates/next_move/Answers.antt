@@ -8,8 +8,8 @@ use Rattle.zx_reduce.proofs.candidates.Candidates.next_move.Goals as goal
 pub move_of-found-requires : goal.move_of-found-requires
 move_of-found-requires c = c.in-Some.ensures.taken.within
 
-pub list_after-next-requires : goal.list_after-next-requires
-list_after-next-requires c = c.in-Some.ensures.taken.within
+pub list_after-next-requires-clause-list : goal.list_after-next-requires-clause-list
+list_after-next-requires-clause-list c = c.in-Some.ensures.taken.within
 
 pub loop-taken-preserved : goal.loop-taken-preserved
 loop-taken-preserved c =

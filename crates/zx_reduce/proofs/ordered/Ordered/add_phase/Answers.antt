@@ -1,30 +1,25 @@
 -- The gate that the new weight is.
 use Rattle.std.proofs.Common.{◌≡◌, ◌∙◌, ap, subst, sym}
-use Rattle.zx_calculus.specs.Graph.{Kind, ids, Live, WellFormed}
+use Rattle.zx_calculus.specs.Graph.{Kind, WellFormed}
 use Rattle.zx_calculus.specs.Worked.{plain}
 use Rattle.circuit_laws.proofs.Places.{output_plane}
-use Rattle.zx_calculus.specs.Splits.{least_free}
 use Rattle.zx_calculus.specs.Turns.{in_plane}
-use Rattle.zx_calculus.proofs.LeastFree.{least_free-fresh}
 use Rattle.open_graph.specs.Planes.{plane_named}
 use Rattle.zx_gates.specs.declared.gate.Gate.TheVariants.{Phase}
 use Rattle.circuit_laws.specs.Peeling.{HasPlainOutput}
-use Rattle.circuit_graph.proofs.Calls.{here_live, phase_peel}
+use Rattle.circuit_graph.proofs.Calls.{phase_peel}
 use Rattle.circuit_graph.proofs.Graphs.{phase_is}
 use Rattle.growing_laws.specs.Growing.{placed}
-use Rattle.zx_reduce.specs.Ordering.{Ordered, IsOrdered}
-use Rattle.zx_reduce.proofs.GatesOrdered.{ordered_phase}
+use Rattle.zx_reduce.specs.Ordering.{Ordered}
+use Rattle.zx_reduce.proofs.GatesOrdered.{there_inside, gate_inside}
 use Rattle.zx_reduce.proofs.ordered.Ordered.add_phase.Goals as goal
 
 pub weight-plane-requires : goal.weight-plane-requires
-weight-plane-requires c =
-    subst (λ (o : Ordered). Live o.graph c.present-here.result) (sym c.self.view_is)
-    (here_live c.args.self.now.graph c.args.q c.present-here.result c.present-here.ensures.valid c.present-here.ensures.value)
+weight-plane-requires c = there_inside _ c.args.self.now c.self.view_is c.args.q c.present-here.result c.present-here.ensures.valid c.present-here.ensures.value
 
 pub set_weight-requires-clause-live : goal.set_weight-requires-clause-live
 set_weight-requires-clause-live c =
-    subst (λ (o : Ordered). Live o.graph c.present-here.result) (sym c.self.view_is)
-    (here_live c.args.self.now.graph c.args.q c.present-here.result c.present-here.ensures.valid c.present-here.ensures.value)
+    there_inside _ c.args.self.now c.self.view_is c.args.q c.present-here.result c.present-here.ensures.valid c.present-here.ensures.value
 
 pub set_weight-requires-clause-plane : goal.set_weight-requires-clause-plane
 set_weight-requires-clause-plane c =
@@ -47,9 +42,5 @@ returns-clause-gate c =
 
 pub returns-clause-ordered : goal.returns-clause-ordered
 returns-clause-ordered c =
-    let order = c.self.inside.order in
-    let vs = ids c.args.self.now.graph.vertices in
-    subst (λ (o : Ordered). IsOrdered c.args.self.now → IsOrdered (record { graph = c.set_weight.new.self.graph; ranks = o.ranks; low = o.low; high = o.high }))
-    (sym c.self.view_is)
-    (ordered_phase (least_free vs) c.args.self.now c.set_weight.new.self.graph c.requires.plain
-    (least_free-fresh vs c.present-here.ensures.valid.vertices_rising) c.args.q c.args.phase c.requires.on_qubits c.requires.turns (returns-clause-gate c))
+    gate_inside _ c.args.self.now c.self.view_is (Phase c.args.q c.args.phase) tt c.set_weight.new.self.graph c.requires.plain
+    (c.requires.on_qubits, c.requires.turns) (returns-clause-gate c)

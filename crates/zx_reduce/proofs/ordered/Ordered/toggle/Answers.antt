@@ -1,27 +1,23 @@
 -- The gate that the toggled edge is.
 use Rattle.std.proofs.Common.{◌≡◌, subst, sym}
 use Rattle.std.proofs.lemmas.Result.{on_ok_weaker}
-use Rattle.zx_calculus.specs.Graph.{ids, Live, WellFormed}
-use Rattle.zx_calculus.specs.Splits.{least_free}
-use Rattle.zx_calculus.proofs.LeastFree.{least_free-fresh}
+use Rattle.zx_calculus.specs.Graph.{WellFormed}
 use Rattle.zx_gates.specs.declared.gate.Gate.TheVariants.{Cz}
 use Rattle.circuit_laws.specs.Peeling.{HasPlainOutput}
-use Rattle.circuit_graph.proofs.Calls.{here_live, wires_apart, toggle_peel}
+use Rattle.circuit_graph.proofs.Calls.{wires_apart, toggle_peel}
 use Rattle.circuit_graph.proofs.Graphs.{toggle_is}
 use Rattle.growing_laws.specs.Growing.{placed}
-use Rattle.zx_reduce.specs.Ordering.{Ordered, IsOrdered}
-use Rattle.zx_reduce.proofs.GatesOrdered.{ordered_edge}
+use Rattle.zx_reduce.specs.Ordering.{Ordered}
+use Rattle.zx_reduce.proofs.GatesOrdered.{there_inside, gate_inside}
 use Rattle.zx_reduce.proofs.ordered.Ordered.toggle.Goals as goal
 
 pub toggle_edge-requires-clause-u_live : goal.toggle_edge-requires-clause-u_live
 toggle_edge-requires-clause-u_live c =
-    subst (λ (o : Ordered). Live o.graph c.present-first.result) (sym c.self.view_is)
-    (here_live c.args.self.now.graph c.args.p c.present-first.result c.present-first.ensures.valid c.present-first.ensures.value)
+    there_inside _ c.args.self.now c.self.view_is c.args.p c.present-first.result c.present-first.ensures.valid c.present-first.ensures.value
 
 pub toggle_edge-requires-clause-v_live : goal.toggle_edge-requires-clause-v_live
 toggle_edge-requires-clause-v_live c =
-    subst (λ (o : Ordered). Live o.graph c.present-second.result) (sym c.self.view_is)
-    (here_live c.args.self.now.graph c.args.q c.present-second.result c.present-second.ensures.valid c.present-second.ensures.value)
+    there_inside _ c.args.self.now c.self.view_is c.args.q c.present-second.result c.present-second.ensures.valid c.present-second.ensures.value
 
 pub toggle_edge-requires-clause-different : goal.toggle_edge-requires-clause-different
 toggle_edge-requires-clause-different c =
@@ -42,10 +38,7 @@ returns-clause-gate c =
 
 pub returns-clause-ordered : goal.returns-clause-ordered
 returns-clause-ordered c =
-    let vs = ids c.args.self.now.graph.vertices in
-    on_ok_weaker c.toggle_edge.result (λ gate.
-    subst (λ (o : Ordered). IsOrdered c.args.self.now → IsOrdered (record { graph = c.toggle_edge.new.self.graph; ranks = o.ranks; low = o.low; high = o.high }))
-    (sym c.self.view_is)
-    (ordered_edge (least_free vs) c.args.self.now c.toggle_edge.new.self.graph c.requires.plain
-    (least_free-fresh vs c.present-first.ensures.valid.vertices_rising) c.args.p c.args.q (c.requires.p_on_qubits, c.requires.q_on_qubits, c.requires.apart) gate))
+    on_ok_weaker c.toggle_edge.result
+    (gate_inside _ c.args.self.now c.self.view_is (Cz c.args.p c.args.q) tt c.toggle_edge.new.self.graph c.requires.plain
+    (c.requires.p_on_qubits, c.requires.q_on_qubits, c.requires.apart))
     (returns-clause-gate c)

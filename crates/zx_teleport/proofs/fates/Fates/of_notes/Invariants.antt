@@ -4,4 +4,4 @@ use Rattle.zx_teleport.specs.Internal.Fates.{told, fates_by}
 use Rattle.zx_teleport.proofs.fates.Fates.of_notes.Given as goal
 
 abbrev pub invariant-loop-left : goal.invariant-loop-left
-invariant-loop-left l = (v : ℕ) → told l.made.fates.items v ≡ fates_by (drop (length l.notes - l.left) l.notes) v
+invariant-loop-left l = (v : ℕ) → told l.made.fates v ≡ fates_by (drop (length l.notes - l.left) l.notes) v

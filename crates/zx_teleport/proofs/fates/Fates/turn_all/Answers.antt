@@ -7,8 +7,8 @@ use Rattle.zx_teleport.proofs.fates.Fates.turn_all.Goals as goal
 
 pub loop-v-preserved : goal.loop-v-preserved
 loop-v-preserved c = λ w.
-    turned_more (take c.loop-v.v-index c.args.vertices.now) _ (told c.args.self.now.fates.items) (told c.loop-v.self.fates.items)
-    (told c.turn.new.self.fates.items) c.get.result w
+    turned_more (take c.loop-v.v-index c.args.vertices.now) _ (told c.args.self.now.fates) (told c.loop-v.self.fates)
+    (told c.turn.new.self.fates) c.get.result w
     (take_more c.args.vertices.now c.loop-v.v-index c.v-item.result c.loop-v-test.true
     ∙ ap (λ v. take c.loop-v.v-index c.args.vertices.now ++ v ∷ []) (sym (c.get.ensures ∙ c.v-item.is)))
     (c.loop-v.invariant w) (c.in_ok-turn.ensures w)

@@ -5,4 +5,4 @@ use Rattle.zx_teleport.specs.Internal.Fates.{told, turned}
 use Rattle.zx_teleport.proofs.fates.Fates.turn_all.Given as goal
 
 abbrev pub invariant-loop-v : goal.invariant-loop-v
-invariant-loop-v l = (w : ℕ) → told l.self.fates.items w ≡ turned (stands_odd (take l.v-index l.vertices) w) (told l.fn.self.fates.items w)
+invariant-loop-v l = (w : ℕ) → told l.self.fates w ≡ turned (stands_odd (take l.v-index l.vertices) w) (told l.fn.self.fates w)

@@ -1,0 +1,212 @@
+//! What no clause says: that calls succeed with ample memory, and what adapters over real readers and
+//! writers do.
+ghost use Rattle.std.specs.Prelude.{◌≡◌, ◌≤◌};
+
+use std::alloc::{AllocError, Global};
+use std::io;
+use std::io::{Cursor, Read, Write};
+use std::test::Fail;
+use zx_io::{
+    Failed, MemSink, MemSource, NeverFailSink, NeverFailSource, Pieces, ReadAdapter, ReadError,
+    Sink, Source, WriteAdapter, WriteFault, read_all, read_pieces, write_all,
+};
+
+const PROGRAM: &[u8] = b"OPENQASM 2.0;\ninclude \"qelib1.inc\";\nqreg q[1];\ns q[0];\n";
+
+// A source of the program, at most `piece` bytes a call, of which the given calls fail.
+fn program_source(alloc: Global, piece: usize, fails: &[u64]) -> Result<MemSource, AllocError>
+    requires { 1 ≤ piece }
+{
+    let bytes = PROGRAM.to_vec(alloc)?;
+    let fails = fails.to_vec(alloc)?;
+    Ok(MemSource::new(bytes, piece, fails))
+}
+
+#[test]
+fn all_bytes_are_read_whatever_the_pieces(rt: HostRuntime) -> Result<(), Fail> {
+    let alloc = rt.alloc();
+    for piece in [1, 7, 1000] {
+        let mut source = program_source(alloc, piece.max(1), &[])?;
+        let bytes = read_all(alloc, &mut source, PROGRAM.len())?;
+        assert_eq!(rt; bytes.as_slice(), PROGRAM, "in pieces of {piece}");
+        let rest = read_all(alloc, &mut source, 0)?;
+        assert!(rt; rest.is_empty());
+    }
+    let mut source = NeverFailSource::new(PROGRAM.to_vec(alloc)?);
+    let bytes = read_all(alloc, &mut source, 1000)?;
+    assert_eq!(rt; bytes.as_slice(), PROGRAM);
+    Ok(())
+}
+
+#[test]
+fn one_byte_past_the_limit_is_too_long(rt: HostRuntime) -> Result<(), Fail> {
+    let alloc = rt.alloc();
+    for piece in [1, 7, 1000] {
+        let mut source = program_source(alloc, piece.max(1), &[])?;
+        let answer = read_all(alloc, &mut source, 10);
+        assert_eq!(rt; answer.err(), Some(ReadError::TooLong));
+        let rest = read_all(alloc, &mut source, 1000)?;
+        assert_eq!(rt; rest.as_slice(), &PROGRAM[11..], "in pieces of {piece}");
+    }
+    Ok(())
+}
+
+#[test]
+fn a_failed_read_is_no_end(rt: HostRuntime) -> Result<(), Fail> {
+    let alloc = rt.alloc();
+    let mut source = program_source(alloc, 20, &[2])?;
+    let answer = read_all(alloc, &mut source, 1000);
+    assert_eq!(rt; answer.err(), Some(ReadError::ReadFault));
+    let rest = read_all(alloc, &mut source, 1000)?;
+    assert_eq!(rt; rest.as_slice(), &PROGRAM[20..]);
+    Ok(())
+}
+
+// All bytes that came.
+#[derive(Drop)]
+struct Collected {
+    bytes: Vec<u8>,
+}
+
+impl Pieces for Collected {
+    ghost stands_for = { λ c bytes. c.bytes.items ≡ bytes };
+
+    fn take(&mut self, piece: &[u8]) -> Result<(), AllocError> {
+        self.bytes.extend_from_slice(piece)
+    }
+}
+
+#[test]
+fn all_bytes_are_handed_on_whatever_the_pieces(rt: HostRuntime) -> Result<(), Fail> {
+    let alloc = rt.alloc();
+    for piece in [1, 7, 1000] {
+        let mut source = program_source(alloc, piece.max(1), &[])?;
+        let mut to = Collected {
+            bytes: Vec::new(alloc),
+        };
+        assert_eq!(rt; read_pieces(&mut source, PROGRAM.len(), &mut to), Ok(()));
+        assert_eq!(rt; to.bytes.as_slice(), PROGRAM, "in pieces of {piece}");
+    }
+    Ok(())
+}
+
+#[test]
+fn bytes_before_a_fault_are_handed_on(rt: HostRuntime) -> Result<(), Fail> {
+    let alloc = rt.alloc();
+    let mut to = Collected {
+        bytes: Vec::new(alloc),
+    };
+    let mut source = program_source(alloc, 20, &[3])?;
+    assert_eq!(rt;
+        read_pieces(&mut source, 1000, &mut to),
+        Err(ReadError::ReadFault)
+    );
+    assert_eq!(rt; to.bytes.as_slice(), &PROGRAM[..40]);
+    let mut source = program_source(alloc, 7, &[])?;
+    assert_eq!(rt;
+        read_pieces(&mut source, 10, &mut to),
+        Err(ReadError::TooLong)
+    );
+    assert_eq!(rt; to.bytes.len(), 47);
+    assert!(rt; to.bytes.ends_with(&PROGRAM[..7]));
+    Ok(())
+}
+
+#[test]
+fn a_failed_call_of_a_sink_leaves_a_prefix(rt: HostRuntime) -> Result<(), Fail> {
+    let alloc = rt.alloc();
+    // Three writes, and the flush is the fourth call.
+    for (call, kept) in [(1, 0), (2, 20), (3, 40), (4, 55), (5, 55)] {
+        let mut sink = MemSink::new(alloc, 100, 20, vec![in alloc; call]?)?;
+        let answer = write_all(&mut sink, PROGRAM);
+        assert_eq!(rt; answer.is_ok(), call == 5, "failing at call {call}");
+        assert_eq!(rt; sink.bytes().len(), kept, "failing at call {call}");
+        assert!(rt; PROGRAM.starts_with(sink.bytes()));
+    }
+    Ok(())
+}
+
+#[test]
+fn a_sink_without_place_fails(rt: HostRuntime) -> Result<(), Fail> {
+    let alloc = rt.alloc();
+    let mut sink = MemSink::new(alloc, 30, 20, Vec::new(alloc))?;
+    assert_eq!(rt; write_all(&mut sink, PROGRAM), Err(WriteFault));
+    assert_eq!(rt; sink.bytes(), &PROGRAM[..30]);
+    assert_eq!(rt; write_all(&mut sink, b""), Ok(()));
+    assert_eq!(rt; write_all(&mut NeverFailSink::new(), PROGRAM), Ok(()));
+    Ok(())
+}
+
+// Is interrupted at its first call, and then gives its byte once.
+#[derive(Drop)]
+struct Interrupted {
+    calls: u8,
+}
+
+impl Read for Interrupted {
+    fn read(&mut self, buf: &mut [u8]) -> io::Result<usize> {
+        self.calls = self.calls.saturating_add(1);
+        match (self.calls, buf.first_mut()) {
+            (1, _) => Err(io::ErrorKind::Interrupted.into()),
+            (2, Some(place)) => {
+                *place = b'x';
+                Ok(1)
+            }
+            _ => Ok(0),
+        }
+    }
+}
+
+// Takes every byte, and cannot flush.
+#[derive(Drop)]
+struct Stuck;
+
+impl Write for Stuck {
+    fn write(&mut self, buf: &[u8]) -> io::Result<usize> {
+        Ok(buf.len())
+    }
+
+    fn flush(&mut self) -> io::Result<()> {
+        Err(io::ErrorKind::BrokenPipe.into())
+    }
+}
+
+#[test]
+fn adapters_pass_bytes_on(rt: HostRuntime) -> Result<(), Fail> {
+    let alloc = rt.alloc();
+    let mut from_slice = ReadAdapter::new(PROGRAM);
+    let bytes = read_all(alloc, &mut from_slice, 1000)?;
+    assert_eq!(rt; bytes.as_slice(), PROGRAM);
+    let mut from_cursor = ReadAdapter::new(Cursor::new(PROGRAM));
+    let bytes = read_all(alloc, &mut from_cursor, 1000)?;
+    assert_eq!(rt; bytes.as_slice(), PROGRAM);
+    let mut written = Vec::new(alloc);
+    assert_eq!(rt;
+        write_all(&mut WriteAdapter::new(&mut written), PROGRAM),
+        Ok(())
+    );
+    assert_eq!(rt; written.as_slice(), PROGRAM);
+    Ok(())
+}
+
+#[test]
+fn adapters_answer_failed_at_each_error(rt: HostRuntime) -> Result<(), Fail> {
+    let alloc = rt.alloc();
+    let mut source = ReadAdapter::new(Interrupted { calls: 0 });
+    let answer = read_all(alloc, &mut source, 1000);
+    assert_eq!(rt; answer.err(), Some(ReadError::ReadFault));
+    assert_eq!(rt; source.read(&mut [0; 4]), Ok(1));
+    assert_eq!(rt; source.read(&mut [0; 4]), Ok(0));
+
+    // A full slice takes nothing of a piece.
+    let mut place = [0; 5];
+    let mut sink = WriteAdapter::new(&mut place[..]);
+    assert_eq!(rt; sink.write(PROGRAM), Ok(5));
+    assert_eq!(rt; sink.write(PROGRAM), Err(Failed));
+
+    let mut sink = WriteAdapter::new(Stuck);
+    assert_eq!(rt; sink.write(PROGRAM), Ok(PROGRAM.len()));
+    assert_eq!(rt; sink.flush(), Err(Failed));
+    assert_eq!(rt; write_all(&mut sink, PROGRAM), Err(WriteFault));
+    Ok(())
+}

@@ -1,1 +1,0 @@
--- The moves at the end change the scalar as they do.
