@@ -1,7 +1,7 @@
 """Builds the package for pip: the hooks of PEP 517 and PEP 660, by the standard library alone.
 
-A wheel is a zip file of the package's files, with a folder of what is said of them. What is said stands in pyproject.toml;
-its lines are simple enough to be read here without a parser, which Python has from 3.11 on.
+A wheel is a zip file of the package's files, with a folder of what is said of them. What is said stands in
+pyproject.toml; its lines are simple enough to be read here without a parser, which Python has from 3.11 on.
 """
 from __future__ import annotations
 

@@ -23,9 +23,9 @@ usage: python3 -m zxopt COMMAND ..      (COMMAND --help tells its words)
   parts [FILE]             optimises what can be of a text that the program refuses for a statement
   batch FILE.. --to FOLDER optimises many files on all processors
 
-This package stands outside of the proved program `zxopt`, and runs it: what is proved is about the text that the program
-reads and the text that it writes. The program is $ZXOPT, or the one that was built beside the package, or `zxopt` on
-the path.
+This package stands outside of the proved program `zxopt`, and runs it: what is proved is about the text that the
+program reads and the text that it writes. The program is $ZXOPT, or the one that was built beside the package, or
+`zxopt` on the path.
 """
 
 

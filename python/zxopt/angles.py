@@ -1,8 +1,9 @@
 """Exact values of OpenQASM 2 expressions, and their spellings that the program `zxopt` reads.
 
-A value is exact where it is `r + s*pi` with fractions r and s. `mend` respells an expression that the program wouldn't
-read (powers, functions, signs `+`, long numbers) where its value is exact, and never changes its value, but where a
-distance is given: then a value that lies so close to a multiple of pi/8 becomes that multiple. All angles are in radians.
+A value is exact where it is `r + s*pi` with fractions r and s. `mend` respells an expression that the program
+wouldn't read (powers, functions, signs `+`, long numbers) where its value is exact, and never changes its value, but
+where a distance is given: then a value that lies so close to a multiple of pi/8 becomes that multiple. All angles are
+in radians.
 """
 from __future__ import annotations
 
@@ -47,8 +48,8 @@ class Value(NamedTuple):
 
 
 class Node(NamedTuple):
-    """A piece of an expression: its text as the program reads it, how tightly that binds (1 a sum, 2 a product, 3 a sign,
-    4 whole), its value unless it has parameters, and whether the program reads it as it was written."""
+    """A piece of an expression: its text as the program reads it, how tightly that binds (1 a sum, 2 a product, 3 a
+    sign, 4 whole), its value unless it has parameters, and whether the program reads it as it was written."""
 
     text: str
     binds: int
@@ -177,7 +178,10 @@ def _binding(text: str) -> int:
 
 
 class _Reader:
-    """Reads an expression by the language's grammar: signs bind most, then `^` from the right, then `* /`, then `+ -`."""
+    """Reads an expression by the language's grammar.
+
+    Signs bind most, then `^` from the right, then `* /`, then `+ -`.
+    """
 
     def __init__(self, text: str, known: Mapping[str, Value]) -> None:
         self.tokens = [it for it in tokens(text) if it.kind != "space"]
@@ -305,7 +309,7 @@ def _raise(a: Node, b: Node, is_signed: bool) -> Node:
 
 
 class Mended(NamedTuple):
-    """An expression's text as it is to be written, and by how many radians its value was moved, or none if by nothing."""
+    """An expression's text as it is to be written, and by how many radians its value was moved, if it was."""
 
     text: str
     move: Optional[float]

@@ -1,9 +1,9 @@
 """Optimises many files on all processors: `python3 -m zxopt batch FILES.. --to FOLDER`.
 
-A line for each file tells its T gates (odd phases: T, its square roots and their like) and its gates on two qubits, before
-and after, and the seconds that it took; a text that is refused is told with its place on standard error, and the
-others go on. This module stands outside of what is proved of the program, which it runs once for each file, or more
-often where a check is asked for or a time limit was met.
+A line for each file tells its T gates (odd phases: T, its square roots and their like) and its gates on two qubits,
+before and after, and the seconds that it took; a text that is refused is told with its place on standard error, and
+the others go on. This module stands outside of what is proved of the program, which it runs once for each file, or
+more often where a check is asked for or a time limit was met.
 """
 from __future__ import annotations
 
@@ -172,10 +172,10 @@ def _parser() -> argparse.ArgumentParser:
         "--seconds",
         type=cli.positive_seconds,
         metavar="N",
-        help="a time limit for each: where the best circuit takes longer, one alone is made, with as many seconds again",
+        help="a time limit for each: where the best circuit takes longer, one alone is made, in as many seconds again",
     )
     add("--best", action=argparse.BooleanOptionalAction, default=True, help="take the best of several circuits")
-    add("--check", action="store_true", help="ask of each file whether what is written is the same; a yes is always right")
+    add("--check", action="store_true", help="ask of each file whether it is the same; a yes is always right")
     add("--csv", metavar="FILE", help="write a table of all files, too")
     add("--prepare", action="store_true", help="put each text into the program's form first, exactly")
     add("--parts", action="store_true", help="optimise in parts what the program refuses as a whole; names are kept")
@@ -279,8 +279,8 @@ def _tell(outcome: Outcome) -> None:
         print(outcome.told, file=sys.stderr, flush=True)
         return
     ends = ["" if outcome.best else "not the best of several", outcome.check, outcome.told]
-    line = f"{outcome.job.source}: T {_change(outcome.t)}, two-qubit {_change(outcome.two_qubit)}, {outcome.seconds:.2f} s"
-    print(", ".join([line, *filter(None, ends)]), flush=True)
+    counts = f"T {_change(outcome.t)}, two-qubit {_change(outcome.two_qubit)}, {outcome.seconds:.2f} s"
+    print(", ".join([f"{outcome.job.source}: {counts}", *filter(None, ends)]), flush=True)
 
 
 def _summary(outcomes: Sequence[Outcome], seconds: float, is_checked: bool) -> str:

@@ -1,4 +1,4 @@
-"""A text of OpenQASM 2 as `parts` sees it: head, declarations, registers, and operations with the qubits that they name."""
+"""A text of OpenQASM 2 as `parts` sees it: head, declarations, registers, and operations with their qubits."""
 from __future__ import annotations
 
 import re
@@ -16,7 +16,7 @@ _IF = re.compile(r"if\s*\(\s*(\w+)\s*==\s*\d+\s*\)\s*([^{}]*;)", re.S)
 
 
 class CannotCut(QasmError):
-    """A text can't be cut into parts: it isn't one of OpenQASM 2 that the program would take but for single statements."""
+    """A text can't be cut into parts: but for single statements too, the program wouldn't take it."""
 
 
 def check_order(statements: Sequence[Statement]) -> None:
@@ -26,7 +26,10 @@ def check_order(statements: Sequence[Statement]) -> None:
     for it in statements if own else ():
         head = it.head()
         one = declaration(it.text) if head == "gate" else None
-        seen.update([inner.name for inner in one.body] if one else names.conditioned(it.text) if head == "if" else [head])
+        if one:
+            seen.update(inner.name for inner in one.body)
+        else:
+            seen.update(names.conditioned(it.text) if head == "if" else [head])
         if one and one.name in own & seen:
             raise CannotCut(f"{one.name} is declared here, and was applied before as the header has it", it.line)
 
@@ -157,7 +160,10 @@ class Circuit:
         sizes = {len(those) for those, is_register in places if is_register}
         if len(sizes) != 1:
             raise CannotCut("registers of different sizes stand in one application", line)
-        out = [tuple(those[at] if is_register else those[0] for those, is_register in places) for at in range(sizes.pop())]
+        out = [
+            tuple(those[at] if is_register else those[0] for those, is_register in places)
+            for at in range(sizes.pop())
+        ]
         if any(len(set(it)) < len(it) for it in out):
             raise CannotCut(f"{name} names a qubit twice", line)
         return out

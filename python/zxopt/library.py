@@ -1,4 +1,4 @@
-"""The declarations of `library.qasm`: gates that headers of Qiskit and other tools have, and that of the program hasn't."""
+"""The declarations of `library.qasm`: gates of the headers of Qiskit and other tools that the program's lacks."""
 from __future__ import annotations
 
 from functools import lru_cache

@@ -26,7 +26,7 @@ def conditioned(text: str) -> list[str]:
 
 
 def mend_keywords(statements: list[Statement], tell: Tell) -> None:
-    """Spells the first words of statements with small letters, as the language does, and names of gates with its letters."""
+    """Spells the first words of statements with small letters, and names of gates as the language does."""
     odd: dict[str, str] = {}
     for it in statements:
         head = it.head()

@@ -1,20 +1,20 @@
 """Optimises what the program `zxopt` can of an OpenQASM 2 text, and leaves the rest as it is: `python3 -m zxopt parts`.
 
-A text may have what the program refuses: `if`, `reset`, gates behind measurements, gates with angles finer than pi/8 or with
-any others, opaque gates and gates that aren't declared. These statements stay. What lies between them is brought together
-into parts, each of which is a circuit of the program's language and goes through `zxopt opt`; a part ends too before a
-million calls, 16 MiB or 1,024 qubits are exceeded. Registers, names and the order of what stays on a qubit remain;
-comments and, unless they are asked for, barriers go.
+A text may have what the program refuses: `if`, `reset`, gates behind measurements, gates with angles finer than pi/8
+or with any others, opaque gates and gates that aren't declared. These statements stay. What lies between them is
+brought together into parts, each of which is a circuit of the program's language and goes through `zxopt opt`; a part
+ends too before a million calls, 16 MiB or 1,024 qubits are exceeded. Registers, names and the order of what stays on
+a qubit remain; comments and, unless they are asked for, barriers go.
 
-Why this is sound. Operations exchange their places only where they commute (see `schedule`): where they share no qubit and no
-bit, or are diagonal on each qubit that they share. So the text in its new order has the channel of the text that was read.
-In it each part stands by itself, as a circuit of gates alone, and is replaced by one with the same linear map up to a nonzero
-scalar, which the program promises by proof. No part stands under a condition, nor within a gate that is
-controlled by another, so its scalar is one of the whole state, whatever was measured before: no measurement shows it, and the
-probabilities and the states of all outcomes stay what they were.
+Why this is sound. Operations exchange their places only where they commute (see `schedule`): where they share no
+qubit and no bit, or are diagonal on each qubit that they share. So the text in its new order has the channel of the
+text that was read. In it each part stands by itself, as a circuit of gates alone, and is replaced by one with the
+same linear map up to a nonzero scalar, which the program promises by proof. No part stands under a condition, nor
+within a gate that is controlled by another, so its scalar is one of the whole state, whatever was measured before: no
+measurement shows it, and the probabilities and the states of all outcomes stay what they were.
 
-This stands outside of the proved program: what is proved is about each text that the program reads and writes, the parts; that
-they were cut and put together rightly is tested, not proved.
+This stands outside of the proved program: what is proved is about each text that the program reads and writes, the
+parts; that they were cut and put together rightly is tested, not proved.
 """
 from __future__ import annotations
 
@@ -43,7 +43,11 @@ GREATEST_QUBITS = 1_024
 # Faults of a statement that stays as it is.
 _STAYS = frozenset((6, 10, 15, 16, 17, 18, 19))
 # A single one of these gates is left alone: the numbers of T and of gates on two qubits that it counts.
-_SINGLE = {**{it: (0, 0) for it in ("id", "x", "y", "z", "h", "s", "sdg")}, "t": (1, 0), "tdg": (1, 0), "cx": (0, 1), "cz": (0, 1)}
+_SINGLE = {
+    **dict.fromkeys(("id", "x", "y", "z", "h", "s", "sdg"), (0, 0)),
+    **dict.fromkeys(("t", "tdg"), (1, 0)),
+    **dict.fromkeys(("cx", "cz"), (0, 1)),
+}
 _REPORT = re.compile(r"// (?:read|written) gates \d+ odd (\d+) two-qubit (\d+) ")
 _PLACE = re.compile(r"q\[(\d+)\]")
 _NAME = re.compile(r"[^\W\d]\w*")
@@ -99,12 +103,12 @@ def optimise_parts(
 ) -> Parts:
     """Optimises a text part by part.
 
-    `best` takes `opt --best`; `jobs` parts run side by side. With `keep_barriers` barriers stay, and gates don't cross them.
-    `timeout`, in seconds, is that of each run of the program; a part that takes longer is left as it was read. `progress` is
-    called with the number of parts that are done, and that of all, by one thread at a time.
+    `best` takes `opt --best`; `jobs` parts run side by side. With `keep_barriers` barriers stay, and gates don't
+    cross them. `timeout`, in seconds, is that of each run of the program; a part that takes longer is left as it was
+    read. `progress` is called with the number of parts that are done, and that of all, by one thread at a time.
 
-    Raises CannotCut where the text isn't one that the program would take but for single statements: `zxopt.prepare` helps with
-    many of these. MemoryError and OSError are those of `zxopt.program.run`.
+    Raises CannotCut where the text isn't one that the program would take but for single statements: `zxopt.prepare`
+    helps with many of these. MemoryError and OSError are those of `zxopt.program.run`.
     """
     cutting = _Cutting(decoded(text, []), best, jobs, keep_barriers)
     cutting.timeout, cutting.program, cutting.progress = timeout, program, progress
@@ -133,7 +137,10 @@ class _Cutting:
     # -- the head -----------------------------------------------------------------------------------------------------
 
     def check_head(self) -> None:
-        """Lets the program read the head, the declarations and the registers; it refuses gates that stay for that alone."""
+        """Lets the program read the head, the declarations and the registers.
+
+        It refuses gates that stay for that alone.
+        """
         shapes = self.circuit.shapes
         while True:
             known = [it for it in self.circuit.declared if declared(it.text) not in shapes.foreign]
@@ -180,7 +187,8 @@ class _Cutting:
         number = {qubit: f"q[{at}]" for at, qubit in enumerate(qubits)}
         head = [f"{it}\n" for it in self.needed({_NAME.findall(it.text)[0] for it in operations})]
         lines = [f"{it.text} {','.join([number[qubit] for qubit in it.qubits])};\n" for it in operations]
-        return _Piece(f"{_HEAD}{''.join(head)}qreg q[{len(qubits)}];\n{''.join(lines)}", 3 + len(head), qubits, operations)
+        text = f"{_HEAD}{''.join(head)}qreg q[{len(qubits)}];\n{''.join(lines)}"
+        return _Piece(text, 3 + len(head), qubits, operations)
 
     def needed(self, wanted: set[str]) -> list[str]:
         """The declarations that gates need, in the order of the text."""
@@ -280,15 +288,16 @@ class _Cutting:
 def main(argv: Sequence[str]) -> int:
     """The command `parts`: reads a file or standard input, writes standard output, tells counts on standard error.
 
-    Answers the exit status: 0, 1 where the text can't be cut, 5 where memory ran out, 70 where a file or the program can't be
-    read or run. Wrong words end the interpreter with status 2.
+    Answers the exit status: 0, 1 where the text can't be cut, 5 where memory ran out, 70 where a file or the program
+    can't be read or run. Wrong words end the interpreter with status 2.
     """
     parser = argparse.ArgumentParser(prog="zxopt parts", description=(__doc__ or "").split("\n\n")[0])
-    parser.add_argument("--best", action=argparse.BooleanOptionalAction, default=True, help="take opt --best for each part")
-    parser.add_argument("--jobs", type=int, default=1, metavar="N", help="optimise N parts side by side; 0: as many as there are processors")
-    parser.add_argument("--barriers", action="store_true", help="keep barriers, and let no gate cross one")
-    parser.add_argument("--seconds", type=float, metavar="N", help="leave a part as it was read if it takes longer")
-    parser.add_argument("file", nargs="?", metavar="FILE", help="the text; standard input if none is given")
+    add = parser.add_argument
+    add("--best", action=argparse.BooleanOptionalAction, default=True, help="take opt --best for each part")
+    add("--jobs", type=int, default=1, metavar="N", help="optimise N parts at a time; 0: one for each processor")
+    add("--barriers", action="store_true", help="keep barriers, and let no gate cross one")
+    add("--seconds", type=float, metavar="N", help="leave a part as it was read if it takes longer")
+    add("file", nargs="?", metavar="FILE", help="the text; standard input if none is given")
     words = parser.parse_args(list(argv))
     return cli.guarded(lambda: _cut_file(words), "zxopt parts")
 
@@ -310,8 +319,9 @@ def _cut_file(words: argparse.Namespace) -> int:
     sys.stdout.buffer.write(found.text.encode("utf-8", errors="replace"))
     sys.stdout.buffer.flush()
     print(
-        f"{chr(13) if is_terminal else ''}parts: {found.parts} parts, {found.kept} statements stay; T {found.before.t} before, "
-        f"{found.after.t} after; gates on two qubits {found.before.two_qubit} before, {found.after.two_qubit} after",
+        f"{chr(13) if is_terminal else ''}parts: {found.parts} parts, {found.kept} statements stay; "
+        f"T {found.before.t} before, {found.after.t} after; "
+        f"gates on two qubits {found.before.two_qubit} before, {found.after.two_qubit} after",
         file=sys.stderr,
     )
     return 0

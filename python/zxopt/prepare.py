@@ -1,8 +1,9 @@
 """Makes of an OpenQASM 2 text of the usual tools one that the program `zxopt` reads: `python3 -m zxopt prepare`.
 
-The map and the measurements of a text stay exactly the same, with one exception that has to be asked for: where a distance
-is given, angles that lie so close to a multiple of pi/8 become that multiple, and the greatest move is told. Lines keep their
-numbers, each change is told with its line, and a text that was prepared stays as it is when it is prepared again.
+The map and the measurements of a text stay exactly the same, with one exception that has to be asked for: where a
+distance is given, angles that lie so close to a multiple of pi/8 become that multiple, and the greatest move is told.
+Lines keep their numbers, each change is told with its line, and a text that was prepared stays as it is when it is
+prepared again.
 
 This stands outside of the proved program: what is proved is about the text that the program reads and writes, which is
 the one that is written here.
@@ -107,7 +108,8 @@ class _Work:
                 raise CannotPrepare(f"OpenQASM has no version {found[1]}.{found[2]}", it.line)
         for it in self.statements:
             if _FOREIGN.match(it.text) and not re.match(r"(?:box|let|cal|def)\s*[\w(]*[^=]*;", it.text):
-                raise CannotPrepare(f"{it.head()} is a statement of OpenQASM 3; export the text as OpenQASM 2.0", it.line)
+                told = f"{it.head()} is a statement of OpenQASM 3; export the text as OpenQASM 2.0"
+                raise CannotPrepare(told, it.line)
 
     def mend_statements(self) -> None:
         """Empty statements, registers without places, and barriers without arguments."""
@@ -141,15 +143,17 @@ class _Work:
         Answers whether the version has to be put first, and whether some header has to be put behind it.
         """
         code_statements = [it for it in self.statements if it.text.strip()]
+        if not code_statements:
+            raise CannotPrepare("no statement is left", self.statements[0].line)
+        first = code_statements[0]
         versions = [it for it in code_statements if it.text[0] in "oOiI" and _VERSION.match(it.text)]
-        is_first = bool(versions) and versions[0] is code_statements[0] and code(versions[0].text) == ["OPENQASM", "2.0", ";"]
+        is_first = bool(versions) and versions[0] is first and code(versions[0].text) == ["OPENQASM", "2.0", ";"]
         for it in versions[is_first:]:
-            self.tell(it.line, "the version is left out here" if it is not code_statements[0] else "the version is written OPENQASM 2.0;")
+            is_here = it is first
+            self.tell(it.line, "the version is written OPENQASM 2.0;" if is_here else "the version is left out here")
             it.blank()
-        if not versions:
-            self.tell(code_statements[0].line, "the version OPENQASM 2.0; is put first")
-        elif not is_first and versions[0] is not code_statements[0]:
-            self.tell(code_statements[0].line, "the version OPENQASM 2.0; is put first")
+        if not versions or versions[0] is not first:
+            self.tell(first.line, "the version OPENQASM 2.0; is put first")
         has_header = self.take_includes(code_statements)
         return not is_first, has_header
 
@@ -311,7 +315,8 @@ class _Work:
             if end is None:
                 break
             out.append(text[at : found.end()])
-            out.append(self.with_list(text[found.end() : end], found[1] not in _NOT_ANGLES, line + text.count("\n", 0, found.end())))
+            its_line = line + text.count("\n", 0, found.end())
+            out.append(self.with_list(text[found.end() : end], found[1] not in _NOT_ANGLES, its_line))
             at = end
         return "".join([*out, text[at:]])
 
@@ -419,8 +424,8 @@ def _is_touched(touched: dict[str, Optional[set[int]]], name: str, index: Option
 def main(argv: Sequence[str]) -> int:
     """The command `prepare`: reads a file or standard input, writes standard output, tells changes on standard error.
 
-    Answers the exit status: 0, 1 where the text isn't OpenQASM 2, 70 where a file can't be read or written. Wrong words end
-    the interpreter with status 2.
+    Answers the exit status: 0, 1 where the text isn't OpenQASM 2, 70 where a file can't be read or written. Wrong
+    words end the interpreter with status 2.
     """
     parser = argparse.ArgumentParser(prog="zxopt prepare", description=(__doc__ or "").split("\n\n")[0])
     parser.add_argument("--within", type=float, metavar="RADIANS",

@@ -179,7 +179,7 @@ def comma_parts(text: str) -> list[str]:
 
 
 class Declaration(NamedTuple):
-    """A declared gate: its name, the names of its angles and qubits, and the statements of its body (none if opaque)."""
+    """A declared gate: its name, the names of its angles and qubits, and its body's statements (none if opaque)."""
 
     name: str
     angles: tuple[str, ...]

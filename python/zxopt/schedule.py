@@ -1,11 +1,11 @@
 """In which order a text's operations may be done so that few parts are cut out of it.
 
-Each operation gets a time: an even one, 2*p, where it is a gate of part p, and an odd one, 2*p+1, where it stays as it is,
-behind part p. Two operations keep their order unless they commute: where they share no qubit, or both are diagonal on each
-qubit that they share (see `shapes.Shape`), and where no bit is read by one and written by the other, or written by both.
-A measurement is diagonal on its qubit: its projectors are. Each operation gets the least time that this allows, so the
-number of parts is the least one too: it is the length of the longest chain of operations that have to keep their order, counted by
-its changes between gates and what stays.
+Each operation gets a time: an even one, 2*p, where it is a gate of part p, and an odd one, 2*p+1, where it stays as
+it is, behind part p. Two operations keep their order unless they commute: where they share no qubit, or both are
+diagonal on each qubit that they share (see `shapes.Shape`), and where no bit is read by one and written by the other,
+or written by both. A measurement is diagonal on its qubit: its projectors are. Each operation gets the least time
+that this allows, so the number of parts is the least one too: it is the length of the longest chain of operations
+that have to keep their order, counted by its changes between gates and what stays.
 """
 from __future__ import annotations
 
@@ -15,10 +15,10 @@ from typing import NamedTuple, Sequence
 class Operation(NamedTuple):
     """One operation of a text.
 
-    `qubits` are numbers of qubits, `diagonal` tells of each whether the operation is diagonal on it; `reads` are numbers of
-    registers of bits, `writes` are pairs of a register and a bit of it. `text` is what stands where it is written as it was
-    read: for a gate of a part, the gate with its angles alone. `calls` is the number of calls of a gate that the program
-    reads, and 0 for what stays. `line` is that of the text that was read.
+    `qubits` are numbers of qubits, `diagonal` tells of each whether the operation is diagonal on it; `reads` are
+    numbers of registers of bits, `writes` are pairs of a register and a bit of it. `text` is what stands where it is
+    written as it was read: for a gate of a part, the gate with its angles alone. `calls` is the number of calls of a
+    gate that the program reads, and 0 for what stays. `line` is that of the text that was read.
     """
 
     text: str
@@ -75,7 +75,7 @@ class Times:
 
 
 def layers(operations: Sequence[Operation], qubits: int, registers: int) -> list[list[Operation]]:
-    """The operations by their times, in each time by their order in the text: gates of a part and what stays in turn."""
+    """The operations by their times, then by their order in the text: gates of a part and what stays in turn."""
     times = Times(qubits, registers)
     out: list[list[Operation]] = []
     for it in operations:

@@ -1,7 +1,7 @@
 """What is known of a text's gates: whether the program reads an application, how many calls it makes, what commutes.
 
-The *shape* of an application is its gate with its angles, without its qubits. Whether the program reads a shape is predicted
-here; the program itself decides, and what it refuses besides is told to `Shapes.refuse`.
+The *shape* of an application is its gate with its angles, without its qubits. Whether the program reads a shape is
+predicted here; the program itself decides, and what it refuses besides is told to `Shapes.refuse`.
 """
 from __future__ import annotations
 
@@ -30,8 +30,8 @@ _CONTROLS = {
 
 
 class Shape(NamedTuple):
-    """A gate with its angles: its text, the calls that it makes or none where the program doesn't read it, the number of
-    qubits that it takes or none where that isn't known, and on which of them it is diagonal.
+    """A gate with its angles: its text, the calls that it makes or none where the program doesn't read it, the number
+    of qubits that it takes or none where that isn't known, and on which of them it is diagonal.
 
     An operation is diagonal on a qubit where it is a sum of operations on the other qubits, one for each value of that
     qubit's bit, that leave this bit alone. Two operations that are both diagonal on each qubit that they share commute.
@@ -122,7 +122,8 @@ class Shapes:
             is_diagonal = (name == "U" and texts[:1] == ("0",), False)
             count = 1 if name == "U" else 2
             is_whole = name == "CX" or len(texts) == 3
-            return Shape(text, self.calls_of(name, texts) if is_whole else None, count, is_diagonal[:1] if count == 1 else (True, False))
+            calls = self.calls_of(name, texts) if is_whole else None
+            return Shape(text, calls, count, is_diagonal[:1] if count == 1 else (True, False))
         gate = self.gates.get(name)
         if gate is None:
             return Shape(text, None, None, ())
@@ -132,7 +133,7 @@ class Shapes:
         return Shape(text, self.calls_of(name, texts), count, self.diagonal(name))
 
     def diagonal(self, name: str) -> tuple[bool, ...]:
-        """On which of its qubits a gate is diagonal: known of standard gates, of others where all gates of the body are."""
+        """On which of its qubits a gate is diagonal: known of standard gates, else where all of the body are."""
         if name not in self.known_diagonal:
             gate = self.gates[name]
             found = diagonal_of(name, len(gate.qubits)) if name in self.standard else None

@@ -1,9 +1,9 @@
 """Other spellings of the gates that the program writes, for what reads them next.
 
 Both functions take texts as the program writes them, one statement in a line, on one register `q` of qubits and one
-register `c` of bits, and write such texts, with comments, measurements and registers as they were. They replace gates by
-gates with the same linear map (`u1(3*pi/4)` by `s` and `t` up to a scalar at most), so nothing has to be checked again,
-but this module stands outside of what is proved of the program; `zxopt.same` can compare both texts.
+register `c` of bits, and write such texts, with comments, measurements and registers as they were. They replace gates
+by gates with the same linear map (`u1(3*pi/4)` by `s` and `t` up to a scalar at most), so nothing has to be checked
+again, but this module stands outside of what is proved of the program; `zxopt.same` can compare both texts.
 """
 from __future__ import annotations
 

@@ -76,6 +76,12 @@ class Rules(unittest.TestCase):
             self.assertEqual(caught.exception.line, line)
             self.assertIsInstance(caught.exception, ValueError)
 
+    def test_all_left_out(self) -> None:
+        for text, line in (("barrier;", 1), ("\nqreg q[0];\n", 2), (";\n;\n", 1), ("// a\nbarrier;qreg q[0];", 2)):
+            with self.subTest(text=text), self.assertRaises(CannotPrepare) as caught:
+                prepare(text)
+            self.assertEqual(caught.exception.line, line)
+
     def test_include(self) -> None:
         rest = "qreg q[1];\nh q[0];\n"
         for spelled_so in ('"lib/qelib1.inc"', "'qelib1.inc'", '"C:\\x\\qelib1.inc"', "<qelib1.inc>", '"./qelib1.inc"'):
