@@ -1,14 +1,16 @@
 -- Sets by number: what becomes of them and of their room where one is put in.
 use Rattle.std.proofs.Common.{◌≡◌, ◌≢◌, refl, sym, ◌∙◌, ap, ap₂, subst, ℕ, zero, suc, ◌+◌, ◌<◌, ◌≤◌, true, false, eqb, ltb, List, [], ◌∷◌, ◌++◌, length, get_or, set, arith, true≢false}
 use Rattle.std.specs.List.{AllZip}
-use Rattle.std.proofs.lemmas.List.{get_or-set_other, length-set}
+use Rattle.std.proofs.lemmas.List.{get_or-set_other, get_or_past, length-set}
 use Rattle.std.proofs.lemmas.Grind.{get_or-set_at}
 use Rattle.zx_model.specs.Bits.{xor, member}
 use Rattle.zx_calculus.specs.Graph.{in_order}
+use Rattle.zx_calculus.proofs.Booleans.{xor-false, xor-same}
 use Rattle.zx_calculus.proofs.Ids.{by_equal, eqb-self}
 use Rattle.zx_calculus.proofs.Extensionality.{rising_ext}
 use Rattle.open_graph.specs.VertexSets.{VertexSet}
-use Rattle.zx_flow.specs.Internal.Sets.{no_set, set_at, room_at, SameSetsAt, SameSetsBut, AreToggledAt, HasReach}
+use Rattle.zx_flow.specs.VertexSets.{no_set, set_at, SameSetsAt, SameSetsBut, AreToggledAt}
+use Rattle.zx_flow.specs.Internal.Sets.{room_at, HasReach}
 
 abbrev ids_of : VertexSet → List ℕ
 ids_of s = s.ids
@@ -39,6 +41,28 @@ pub toggled_at : (lists : List VertexSet) (v : ℕ) (s : VertexSet) (members : L
 toggled_at lists v s members lt toggled = record {
   own = λ w. ap (member w) (set_at-own lists v s lt) ∙ toggled w;
   others = set_at-but lists v s;
+}
+
+-- where the sets were the same as before
+pub toggled_from : (old mid new : List VertexSet) (v : ℕ) (members : List ℕ) → SameSetsAt old mid → AreToggledAt v members mid new →
+    AreToggledAt v members old new
+toggled_from old mid new v members same toggled = record {
+  own = λ w. toggled.own w ∙ ap (λ l. xor (member w l) (member w members)) (same v);
+  others = λ p f. toggled.others p f ∙ same p;
+}
+
+-- the set of one past the end, which has no members, and that of the vertex itself
+pub past_toggled : (lists : List VertexSet) (v u : ℕ) → length lists ≤ u → AreToggledAt v (set_at lists u) lists lists
+past_toggled lists v u past = record {
+  own = λ w. sym (ap (λ (x : VertexSet). xor (member w (set_at lists v)) (member w x.ids)) (get_or_past lists u no_set past)
+      ∙ xor-false (member w (set_at lists v)));
+  others = λ p f. refl;
+}
+
+pub own_toggled : (old new : List VertexSet) (v u : ℕ) → v ≡ u → set_at new v ≡ [] → SameSetsBut v old new → AreToggledAt v (set_at old u) old new
+own_toggled old new v u same empty but = record {
+  own = λ w. ap (member w) empty ∙ sym (ap (λ x. xor (member w (set_at old v)) (member w (set_at old x))) (sym same) ∙ xor-same (member w (set_at old v)));
+  others = but;
 }
 
 pub HasReach-set : (reach : ℕ) (lists : List VertexSet) (v : ℕ) (s : VertexSet) → HasReach reach lists → v < length lists → (v < reach → reach ≤ s.room) →

@@ -6,7 +6,8 @@ use Rattle.zx_calculus.proofs.Ids.{by_test, by_equal, eqb_comm, apart_of_member,
 use Rattle.gflow_laws.specs.Flow.{Correction, order_of, set_of}
 use Rattle.gflow_laws.specs.Tables.{with_sets, without_set}
 use Rattle.open_graph.specs.VertexSets.{VertexSet}
-use Rattle.zx_flow.specs.Internal.Sets.{set_at, table_of, HoldsOnce, SameSetsAt, SameSetsBut}
+use Rattle.zx_flow.specs.VertexSets.{set_at, SameSetsAt, SameSetsBut}
+use Rattle.zx_flow.specs.Internal.Sets.{table_of, HoldsOnce}
 
 pub order_of-table_of : (sets : List VertexSet) (order : List ℕ) → order_of (table_of sets order) ≡ order
 order_of-table_of sets [] = refl

@@ -12,7 +12,8 @@ use Rattle.zx_bits.specs.Sets.{IsBelow}
 use Rattle.open_graph.specs.Rooms.{Room}
 use Rattle.zx_flow.specs.Flows.{IsNamed}
 use Rattle.zx_flow.specs.Changes.{set_toggled}
-use Rattle.zx_flow.specs.Internal.Sets.{Corrections, set_at, table_of, HoldsOnce, SameSetsAt, SameSetsBut, AreToggledAt}
+use Rattle.zx_flow.specs.VertexSets.{set_at, SameSetsAt, SameSetsBut, AreToggledAt}
+use Rattle.zx_flow.specs.Internal.Sets.{Corrections, table_of, HoldsOnce}
 use Rattle.zx_flow.proofs.MemberLemmas.{SameSets-toggled}
 use Rattle.zx_flow.proofs.SetLemmas.{order_of-table_of, set_of-table_of, table_of-same, table_of-changed, table_of-append, table_of-fresh}
 

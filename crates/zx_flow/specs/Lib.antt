@@ -1,3 +1,4 @@
 pub mod Flows
 pub mod Changes
+pub mod VertexSets
 pub mod Internal

@@ -10,7 +10,7 @@ ghost use Rattle.open_graph.specs.Rooms.{without_place, with_place, IsLeft, IsAt
 ghost use Rattle.zx_flow.specs.Flows.{IsNamed};
 ghost use Rattle.zx_flow.specs.Changes.{set_toggled};
 
-use crate::sets::Sets;
+use crate::sets::VertexSets;
 use open_graph::{VertexId, VertexSet};
 use std::alloc::{AllocError, Global};
 use std::marker::Model;
@@ -20,7 +20,7 @@ use std::marker::Model;
 pub(crate) struct Corrections {
     alloc: Global,
     order: Vec<VertexId>,
-    sets: Sets,
+    sets: VertexSets,
 }
 
 impl Model for Corrections {
@@ -44,7 +44,7 @@ impl Corrections {
         Corrections {
             alloc,
             order: Vec::new(alloc),
-            sets: Sets::new(alloc),
+            sets: VertexSets::new(alloc),
         }
     }
 

@@ -9,8 +9,8 @@
 //!
 //! Inside:
 //!
-//! - `sets`: sets by the number of their vertex, and below which number each has room for all
-//!   below it.
+//! - `sets`: for each vertex, by its number, a set of vertices, and below which number each has room
+//!   for all below it.
 //! - `corrections`: the order and the sets, with the proofs that a change of these is the change
 //!   of the table.
 //! - `changing`: what rewrites make of sets: of one by a local complement, of all where a vertex
@@ -31,4 +31,5 @@ mod sets;
 mod table;
 
 pub use flow::Flow;
+pub use sets::VertexSets;
 pub use table::FlowTable;

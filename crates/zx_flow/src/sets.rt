@@ -1,51 +1,60 @@
-//! Sets of vertices by number.
+//! A set of vertices for each vertex.
 
 ghost use Rattle.std.specs.Prelude.{◌≡◌, ◌≢◌, ◌<◌, ◌≤◌, ℕ, true, [], ◌∷◌, length, IsOk, IfOk, OnOk, OnErr, ltb};
 ghost use Rattle.zx_model.specs.Bits.{xor, member};
 ghost use Rattle.zx_calculus.specs.Graph.{in_order};
 ghost use Rattle.zx_bits.specs.Sets.{IsBelow};
-ghost use Rattle.zx_flow.specs.Internal.Sets.{set_at, room_at, SameSetsAt, SameSetsBut, AreToggledAt};
+ghost use Rattle.zx_flow.specs.VertexSets.{set_at, SameSetsAt, SameSetsBut, AreToggledAt};
+ghost use Rattle.zx_flow.specs.Internal.Sets.{room_at};
 
 use open_graph::{VertexId, VertexSet};
 use std::alloc::{AllocError, Global};
 use std::marker::Model;
 use std::mem;
 
-// Sets by the number of their vertex. Each of those below `reach` has room for all ids below it.
+/// For each vertex, by its number, a set of vertices: the empty one where none was given. Below a bound,
+/// `reach`, the sets change without memory.
 #[derive(Drop)]
-pub(crate) struct Sets {
+pub struct VertexSets {
     alloc: Global,
+    // The set of those past the end of the lists.
+    none: VertexSet,
     lists: Vec<VertexSet>,
     reach: usize,
 }
 
-impl Model for Sets {
-    ghost use Rattle.zx_flow.specs.Internal.Sets.{Sets as Seen, HasReach};
+impl Model for VertexSets {
+    ghost use Rattle.zx_flow.specs.VertexSets.{VertexSets as Seen};
+    ghost use Rattle.zx_flow.specs.Internal.Sets.{AreKept};
 
     ghost Value = { Seen };
 
     ghost view = { λ s. record { lists = s.lists.items; reach = s.reach } };
 
-    ghost invariant = { λ s. HasReach s.reach s.lists.items };
+    ghost invariant = { λ s. AreKept s.none.ids s.reach s.lists.items };
 }
 
-impl Sets {
-    pub(crate) fn new(alloc: Global) -> Sets
+impl VertexSets {
+    /// All sets are empty, and none changes without memory.
+    pub fn new(alloc: Global) -> VertexSets
         ensures { result.lists ≡ [] }
     {
-        Sets {
+        VertexSets {
             alloc,
+            none: VertexSet::new(alloc),
             lists: Vec::new(alloc),
             reach: 0,
         }
     }
 
-    // The set of a vertex.
-    pub(crate) fn get(&self, v: VertexId) -> &VertexSet
-        requires { v < length self.now.lists }
+    /// The set of a vertex.
+    pub fn get(&self, v: VertexId) -> &VertexSet
         ensures { result.now.ids ≡ set_at self.now.lists v }
     {
-        &self.lists[v.get()]
+        match self.lists.get(v.get()) {
+            Some(set) => set,
+            None => &self.none,
+        }
     }
 
     // Makes place for the set of a vertex.
@@ -87,35 +96,60 @@ impl Sets {
         put_within(&mut self.lists[v.get()], kept, w)
     }
 
-    // Toggles these in the set of a vertex. Where memory runs out, all sets stay as they were.
-    pub(crate) fn toggle(&mut self, v: VertexId, members: &VertexSet) -> Result<(), AllocError>
-        requires { v < length self.old.lists }
+    /// Toggles these in the set of a vertex v, without memory where v and these lie below `reach`. Where
+    /// memory runs out, all sets stay as they were.
+    pub fn toggle(&mut self, v: VertexId, members: &VertexSet) -> Result<(), AllocError>
         ensures ok { OnOk result (AreToggledAt v members.now.ids self.old.lists self.new.lists) }
         ensures err { OnErr result (SameSetsAt self.old.lists self.new.lists) }
-        ensures length { length self.new.lists ≡ length self.old.lists }
+        ensures grown { length self.old.lists ≤ length self.new.lists }
         ensures reach { self.new.reach ≡ self.old.reach }
         ensures has_room { v < self.old.reach → IsBelow self.old.reach members.now.ids →
             IsOk result }
     {
+        self.make_place(v)?;
         let kept = self.kept(v);
         toggle_within(&mut self.lists[v.get()], kept, members)
     }
 
-    // Toggles a vertex w in the set of v. Where memory runs out, all sets stay as they were.
-    pub(crate) fn toggle_one(&mut self, v: VertexId, w: VertexId) -> Result<(), AllocError>
-        requires { v < length self.old.lists }
+    /// Toggles a vertex w in the set of v, without memory where both lie below `reach`. Where memory runs
+    /// out, all sets stay as they were.
+    pub fn toggle_one(&mut self, v: VertexId, w: VertexId) -> Result<(), AllocError>
         ensures ok { OnOk result (AreToggledAt v (w ∷ []) self.old.lists self.new.lists) }
         ensures err { OnErr result (SameSetsAt self.old.lists self.new.lists) }
-        ensures length { length self.new.lists ≡ length self.old.lists }
+        ensures grown { length self.old.lists ≤ length self.new.lists }
         ensures reach { self.new.reach ≡ self.old.reach }
         ensures has_room { v < self.old.reach → w < self.old.reach → IsOk result }
     {
+        self.make_place(v)?;
         let kept = self.kept(v);
         toggle_one_within(&mut self.lists[v.get()], kept, w)
     }
 
+    /// Toggles the set of a vertex u in that of v, without memory where v and that set lie below `reach`.
+    /// Where v is u, each member is toggled away, and the set is empty then. Where memory runs out, all
+    /// sets stay as they were.
+    pub fn toggle_set(&mut self, v: VertexId, u: VertexId) -> Result<(), AllocError>
+        ensures ok { OnOk result (AreToggledAt v (set_at self.old.lists u)
+            self.old.lists self.new.lists) }
+        ensures err { OnErr result (SameSetsAt self.old.lists self.new.lists) }
+        ensures grown { length self.old.lists ≤ length self.new.lists }
+        ensures reach { self.new.reach ≡ self.old.reach }
+        ensures has_room { v < self.old.reach →
+            IsBelow self.old.reach (set_at self.old.lists u) → IsOk result }
+    {
+        if v == u {
+            self.clear(v);
+            return Ok(());
+        }
+        if u.get() >= self.lists.len() {
+            return Ok(());
+        }
+        self.make_place(v)?;
+        self.toggle_other(v, u)
+    }
+
     // Toggles the set of another vertex u in that of v.
-    pub(crate) fn toggle_set(&mut self, v: VertexId, u: VertexId) -> Result<(), AllocError>
+    fn toggle_other(&mut self, v: VertexId, u: VertexId) -> Result<(), AllocError>
         requires v_there { v < length self.old.lists }
         requires u_there { u < length self.old.lists }
         requires apart { v ≢ u }
@@ -135,9 +169,9 @@ impl Sets {
         done
     }
 
-    // Takes the set of a vertex away, and keeps its memory below `reach`.
-    pub(crate) fn clear(&mut self, v: VertexId)
-        requires { v < length self.old.lists }
+    /// Takes all members out of the set of a vertex. Below `reach` its memory is kept.
+    pub fn clear(&mut self, v: VertexId)
+        ensures own { set_at self.new.lists v ≡ [] }
         ensures others { SameSetsBut v self.old.lists self.new.lists }
         ensures length { length self.new.lists ≡ length self.old.lists }
         ensures reach { self.new.reach ≡ self.old.reach }
@@ -146,9 +180,12 @@ impl Sets {
             self.lists[v.get()].clear();
             return;
         }
-        self.lists[v.get()] = VertexSet::new(self.alloc);
+        if v.get() < self.lists.len() {
+            self.lists[v.get()] = VertexSet::new(self.alloc);
+        }
     }
 
+    // Below which bound sets change without memory.
     pub(crate) fn reach(&self) -> usize
         ensures { result ≡ self.now.reach }
     {
@@ -156,15 +193,16 @@ impl Sets {
     }
 
     // The same sets once more, with room below the same bound.
-    pub(crate) fn copy(&self) -> Result<Sets, AllocError>
+    pub(crate) fn copy(&self) -> Result<VertexSets, AllocError>
         ensures same { IfOk result (λ copy. SameSetsAt self.now.lists copy.lists) }
         ensures length { IfOk result (λ copy. length copy.lists ≡ length self.now.lists) }
         ensures reach { IfOk result (λ copy. copy.reach ≡ self.now.reach) }
     {
         let mut lists = self.lists.clone()?;
         reserve_each(&mut lists, self.reach)?;
-        Ok(Sets {
+        Ok(VertexSets {
             alloc: self.alloc,
+            none: VertexSet::new(self.alloc),
             lists,
             reach: self.reach,
         })

@@ -1,5 +1,6 @@
 use Rattle.std.proofs.Common.{ℕ, suc, ◌-◌, ◌≤◌, length, vec_len}
-use Rattle.zx_flow.specs.Internal.Sets.{room_at, SameSetsAt}
+use Rattle.zx_flow.specs.VertexSets.{SameSetsAt}
+use Rattle.zx_flow.specs.Internal.Sets.{room_at}
 use Rattle.zx_flow.proofs.sets.grow.Given as goal
 
 abbrev pub invariant-grow : goal.invariant-grow

@@ -2,7 +2,8 @@
 use Rattle.std.proofs.Common.{◌≡◌, ◌∙◌, ap, subst, ℕ, ◌<◌, ◌≤◌, length, set, arith}
 use Rattle.std.proofs.lemmas.List.{get_or_default, length-set}
 use Rattle.open_graph.specs.VertexSets.{VertexSet}
-use Rattle.zx_flow.specs.Internal.Sets.{no_set, set_at, room_at}
+use Rattle.zx_flow.specs.VertexSets.{no_set, set_at}
+use Rattle.zx_flow.specs.Internal.Sets.{room_at}
 use Rattle.zx_flow.proofs.RoomLemmas.{same_put, more_room, next_room}
 use Rattle.zx_flow.proofs.sets.reserve_each.Goals as goal
 use Rattle.zx_flow.proofs.sets.reserve_each.Goals.{After-reserve}

@@ -1,6 +1,7 @@
 -- The sets so far have room.
 use Rattle.std.proofs.Common.{◌≡◌, ℕ, ◌<◌, ◌≤◌, length}
-use Rattle.zx_flow.specs.Internal.Sets.{room_at, SameSetsAt}
+use Rattle.zx_flow.specs.VertexSets.{SameSetsAt}
+use Rattle.zx_flow.specs.Internal.Sets.{room_at}
 use Rattle.zx_flow.proofs.sets.reserve_each.Given as goal
 
 abbrev pub invariant-loop-set : goal.invariant-loop-set

@@ -5,12 +5,9 @@ use Rattle.gflow_laws.specs.Tables.{without_set}
 use Rattle.open_graph.specs.Rooms.{Room}
 use Rattle.zx_flow.specs.Internal.Sets.{Corrections, table_of}
 use Rattle.zx_flow.proofs.SetLemmas.{table_of-without, length-without, HoldsOnce-without, without}
-use Rattle.zx_flow.proofs.TableChanges.{listed, within}
+use Rattle.zx_flow.proofs.TableChanges.{listed}
 use Rattle.zx_flow.proofs.corrections.Corrections.remove.Goals as goal
 use Rattle.zx_flow.proofs.corrections.Corrections.remove.Goals.{After-retain}
-
-pub clear-requires : goal.clear-requires
-clear-requires c = within c.self.invariant c.self.view_is c.args.v c.requires
 
 kept : (c : After-retain) → c.retain.new.self.items ≡ without c.args.v c.self.inside.order.items
 kept c = filter_same _ (λ u. not (eqb u c.args.v)) _ (λ x b f r. search rules) _ _ c.retain.ensures.filtered

@@ -1,17 +1,14 @@
 -- The table's set is toggled.
-use Rattle.std.proofs.Common.{ap, subst, ◌<◌, [], ◌∷◌, arith}
+use Rattle.std.proofs.Common.{ap, subst, ◌<◌, [], ◌∷◌}
 use Rattle.std.specs.Prelude.{IsOk}
 use Rattle.std.proofs.lemmas.Result.{on_ok_weaker, on_err_weaker}
 use Rattle.zx_flow.specs.Internal.Sets.{Corrections}
 use Rattle.zx_flow.proofs.SetLemmas.{HoldsOnce-grown}
-use Rattle.zx_flow.proofs.TableChanges.{within, same_table, toggled_table}
+use Rattle.zx_flow.proofs.TableChanges.{same_table, toggled_table}
 use Rattle.zx_flow.proofs.corrections.Corrections.toggle_one.Goals as goal
 
-pub toggle_one-requires : goal.toggle_one-requires
-toggle_one-requires c = within c.self.invariant c.self.view_is c.args.v c.requires
-
 pub invariant_of-self : goal.invariant_of-self
-invariant_of-self c = HoldsOnce-grown c.self.invariant (omega (arith, c.toggle_one.ensures.length))
+invariant_of-self c = HoldsOnce-grown c.self.invariant c.toggle_one.ensures.grown
 
 pub returns : goal.returns
 returns c = record {

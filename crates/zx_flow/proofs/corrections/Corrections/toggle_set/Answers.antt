@@ -1,23 +1,17 @@
 -- The table's set is toggled.
-use Rattle.std.proofs.Common.{◌≡◌, ap, subst, ◌<◌, arith}
+use Rattle.std.proofs.Common.{◌≡◌, ap, subst, ◌<◌}
 use Rattle.std.specs.Prelude.{IsOk}
 use Rattle.std.proofs.lemmas.Result.{on_ok_weaker, on_err_weaker}
 use Rattle.gflow_laws.specs.Flow.{set_of}
 use Rattle.zx_bits.specs.Sets.{IsBelow}
-use Rattle.zx_flow.specs.Internal.Sets.{Corrections, set_at}
+use Rattle.zx_flow.specs.VertexSets.{set_at}
+use Rattle.zx_flow.specs.Internal.Sets.{Corrections}
 use Rattle.zx_flow.proofs.SetLemmas.{HoldsOnce-grown}
-use Rattle.zx_flow.proofs.TableChanges.{within, same_table, set_told, toggled_table}
+use Rattle.zx_flow.proofs.TableChanges.{same_table, set_told, toggled_table}
 use Rattle.zx_flow.proofs.corrections.Corrections.toggle_set.Goals as goal
 
-pub toggle_set-requires : goal.toggle_set-requires
-toggle_set-requires c = record {
-  v_there = within c.self.invariant c.self.view_is c.args.v c.requires.v_there;
-  u_there = within c.self.invariant c.self.view_is c.args.u c.requires.u_there;
-  apart = c.requires.apart;
-}
-
 pub invariant_of-self : goal.invariant_of-self
-invariant_of-self c = HoldsOnce-grown c.self.invariant (omega (arith, c.toggle_set.ensures.length))
+invariant_of-self c = HoldsOnce-grown c.self.invariant c.toggle_set.ensures.grown
 
 pub returns : goal.returns
 returns c =

@@ -1,8 +1,8 @@
 -- A bound of the sets so far.
 use Rattle.std.proofs.Common.{◌≡◌, ℕ, ◌<◌, ◌≤◌, length}
 use Rattle.zx_bits.specs.Sets.{IsBelow}
-use Rattle.zx_flow.specs.Internal.Sets.{set_at}
-use Rattle.zx_flow.proofs.sets.Sets.end.Given as goal
+use Rattle.zx_flow.specs.VertexSets.{set_at}
+use Rattle.zx_flow.proofs.sets.VertexSets.end.Given as goal
 
 abbrev pub invariant-loop-set : goal.invariant-loop-set
 invariant-loop-set l = record {

@@ -5,11 +5,11 @@ use Rattle.std.proofs.lemmas.List.{get_or_default, length-set}
 use Rattle.zx_model.specs.Bits.{xor, member}
 use Rattle.zx_bits.specs.Sets.{IsBelow}
 use Rattle.open_graph.specs.VertexSets.{VertexSet}
-use Rattle.zx_flow.specs.Internal.Sets.{Sets, no_set}
+use Rattle.zx_flow.specs.VertexSets.{VertexSets, no_set}
 use Rattle.zx_flow.proofs.RoomLemmas.{back_toggled, back_same}
-use Rattle.zx_flow.proofs.sets.Sets.toggle_set.Goals as goal
+use Rattle.zx_flow.proofs.sets.VertexSets.toggle_other.Goals as goal
 
-abbrev lists_of : Sets → List VertexSet
+abbrev lists_of : VertexSets → List VertexSet
 lists_of s = s.lists
 
 -- what was read at the number of u, and then at that of v
