@@ -1,28 +1,21 @@
 -- Sets by number: what becomes of them and of their room where one is put in.
-use Rattle.std.proofs.Common.{◌≡◌, ◌≢◌, refl, sym, ◌∙◌, ap, ap₂, subst, ℕ, zero, suc, ◌+◌, ◌<◌, ◌≤◌, true, false, eqb, ltb, List, [], ◌∷◌, ◌++◌, length, get_or, set, arith, true≢false}
+use Rattle.std.proofs.Common.{◌≡◌, ◌≢◌, refl, sym, ◌∙◌, ap, ap₂, subst, ℕ, zero, suc, ◌+◌, ◌<◌, ◌≤◌, true, false, eqb, ltb, List, [], ◌∷◌, length, get_or, set, arith, true≢false}
 use Rattle.std.specs.List.{AllZip}
-use Rattle.std.proofs.lemmas.List.{get_or-set_other, get_or_past, length-set}
+use Rattle.std.proofs.lemmas.List.{get_or-set_other, length-set}
 use Rattle.std.proofs.lemmas.Grind.{get_or-set_at}
 use Rattle.zx_model.specs.Bits.{xor, member}
 use Rattle.zx_calculus.specs.Graph.{in_order}
-use Rattle.zx_calculus.proofs.Booleans.{xor-false, xor-same}
 use Rattle.zx_calculus.proofs.Ids.{by_equal, eqb-self}
 use Rattle.zx_calculus.proofs.Extensionality.{rising_ext}
 use Rattle.open_graph.specs.VertexSets.{VertexSet}
 use Rattle.zx_flow.specs.VertexSets.{no_set, set_at, SameSetsAt, SameSetsBut, AreToggledAt}
-use Rattle.zx_flow.specs.Internal.Sets.{room_at, HasReach}
+use Rattle.zx_flow.specs.Internal.Sets.{room_at}
 
 abbrev ids_of : VertexSet → List ℕ
 ids_of s = s.ids
 
 apart : (p v : ℕ) → eqb p v ≡ false → p ≢ v
 apart p v f e = true≢false (sym (eqb-self v) ∙ ap (λ x. eqb x v) (sym e) ∙ f)
-
-pub set_at-own : (lists : List VertexSet) (v : ℕ) (s : VertexSet) → v < length lists → set_at (set lists v s) v ≡ s.ids
-set_at-own lists v s lt = ap ids_of (get_or-set_at lists v v s no_set refl lt)
-
-pub set_at-but : (lists : List VertexSet) (v : ℕ) (s : VertexSet) → SameSetsBut v lists (set lists v s)
-set_at-but lists v s p f = ap ids_of (get_or-set_other lists v p s no_set (apart p v f))
 
 -- what holds of the set that is put in, where it is that at p, and else of the one that was there
 at_put : (P : VertexSet → Type 0) (lists : List VertexSet) (v p : ℕ) (s : VertexSet) → v < length lists → (p ≡ v → P s) → (p ≢ v → P (get_or lists p no_set)) →
@@ -35,63 +28,11 @@ pub same_put : (lists : List VertexSet) (v : ℕ) (s : VertexSet) → v < length
 same_put lists v s lt same p =
     at_put (λ x. x.ids ≡ set_at lists p) lists v p s lt (λ e. same ∙ ap (set_at lists) (sym e)) (λ n. refl)
 
--- a set in which some are toggled
-pub toggled_at : (lists : List VertexSet) (v : ℕ) (s : VertexSet) (members : List ℕ) → v < length lists →
-    ((w : ℕ) → member w s.ids ≡ xor (member w (set_at lists v)) (member w members)) → AreToggledAt v members lists (set lists v s)
-toggled_at lists v s members lt toggled = record {
-  own = λ w. ap (member w) (set_at-own lists v s lt) ∙ toggled w;
-  others = set_at-but lists v s;
-}
-
--- where the sets were the same as before
-pub toggled_from : (old mid new : List VertexSet) (v : ℕ) (members : List ℕ) → SameSetsAt old mid → AreToggledAt v members mid new →
-    AreToggledAt v members old new
-toggled_from old mid new v members same toggled = record {
-  own = λ w. toggled.own w ∙ ap (λ l. xor (member w l) (member w members)) (same v);
-  others = λ p f. toggled.others p f ∙ same p;
-}
-
--- the set of one past the end, which has no members, and that of the vertex itself
-pub past_toggled : (lists : List VertexSet) (v u : ℕ) → length lists ≤ u → AreToggledAt v (set_at lists u) lists lists
-past_toggled lists v u past = record {
-  own = λ w. sym (ap (λ (x : VertexSet). xor (member w (set_at lists v)) (member w x.ids)) (get_or_past lists u no_set past)
-      ∙ xor-false (member w (set_at lists v)));
-  others = λ p f. refl;
-}
-
-pub own_toggled : (old new : List VertexSet) (v u : ℕ) → v ≡ u → set_at new v ≡ [] → SameSetsBut v old new → AreToggledAt v (set_at old u) old new
-own_toggled old new v u same empty but = record {
-  own = λ w. ap (member w) empty ∙ sym (ap (λ x. xor (member w (set_at old v)) (member w (set_at old x))) (sym same) ∙ xor-same (member w (set_at old v)));
-  others = but;
-}
-
-pub HasReach-set : (reach : ℕ) (lists : List VertexSet) (v : ℕ) (s : VertexSet) → HasReach reach lists → v < length lists → (v < reach → reach ≤ s.room) →
-    HasReach reach (set lists v s)
-HasReach-set reach lists v s has lt room = record {
-  there = rw (length-set lists v s) has.there;
-  room = λ p below. at_put (λ x. reach ≤ x.room) lists v p s lt (λ e. room (subst (λ x. x < reach) e below)) (λ n. has.room p below);
-}
-
-pub HasReach-grown : (reach : ℕ) (old new : List VertexSet) → HasReach reach old → length old ≤ length new →
-    ((p : ℕ) → room_at old p ≤ room_at new p) → HasReach reach new
-HasReach-grown reach old new has grown room = record {
-  there = (let there = has.there in omega (arith, there, grown));
-  room = λ p below. let old_room = has.room p below in let more = room p in omega (arith, old_room, more);
-}
-
--- all that are there have room
-pub HasReach-all : (bound : ℕ) (lists : List VertexSet) → bound ≤ length lists → ((p : ℕ) → p < length lists → bound ≤ room_at lists p) → HasReach bound lists
-HasReach-all bound lists there room = record { there = there; room = λ p below. room p (omega (arith, there, below)) }
-
 -- a set that is taken out while another one changes, and put back
 module _ (lists : List VertexSet) (v u : ℕ) (none s other : VertexSet) (v_there : v < length lists) (u_there : u < length lists) (differ : v ≢ u)
     (was : other ≡ get_or lists u no_set) where
   abbrev pub back : List VertexSet
   back = set (set (set lists u none) v s) u other
-
-  length_back : length back ≡ length lists
-  length_back =
-      length-set (set (set lists u none) v s) u other ∙ length-set (set lists u none) v s ∙ length-set lists u none
 
   at_u : get_or back u no_set ≡ get_or lists u no_set
   at_u =
@@ -137,19 +78,6 @@ zip_same [] (n ∷ ns) each p = absurd each
 zip_same (s ∷ ss) [] each p = absurd each
 zip_same (s ∷ ss) (n ∷ ns) each zero = each.0
 zip_same (s ∷ ss) (n ∷ ns) each (suc p) = zip_same ss ns each.1 p
-
--- an empty set more
-pub pushed_same : (lists : List VertexSet) (s : VertexSet) → s.ids ≡ [] → SameSetsAt lists (lists ++ s ∷ [])
-pushed_same [] s empty zero = empty
-pushed_same [] s empty (suc p) = refl
-pushed_same (x ∷ xs) s empty zero = refl
-pushed_same (x ∷ xs) s empty (suc p) = pushed_same xs s empty p
-
-pub pushed_room : (lists : List VertexSet) (s : VertexSet) (p : ℕ) → room_at lists p ≤ room_at (lists ++ s ∷ []) p
-pushed_room [] s zero = omega arith
-pushed_room [] s (suc p) = omega arith
-pushed_room (x ∷ xs) s zero = omega arith
-pushed_room (x ∷ xs) s (suc p) = pushed_room xs s p
 
 -- a set with more room
 pub more_room : (lists : List VertexSet) (v : ℕ) (s : VertexSet) → v < length lists → room_at lists v ≤ s.room → (p : ℕ) →

@@ -35,7 +35,7 @@ impl Model for VertexSets {
 }
 
 impl VertexSets {
-    /// All sets are empty, and none changes without memory.
+    /// All sets are empty.
     pub fn new(alloc: Global) -> VertexSets
         ensures { result.lists ≡ [] }
     {
@@ -185,8 +185,8 @@ impl VertexSets {
         }
     }
 
-    // Below which bound sets change without memory.
-    pub(crate) fn reach(&self) -> usize
+    /// The bound below which sets change without memory.
+    pub fn reach(&self) -> usize
         ensures { result ≡ self.now.reach }
     {
         self.reach
@@ -220,8 +220,8 @@ impl VertexSets {
         end
     }
 
-    // Takes the memory for sets and members below a bound.
-    pub(crate) fn reserve(&mut self, bound: usize) -> Result<(), AllocError>
+    /// Takes the memory for sets and members below a bound. Where it runs out, some may be taken.
+    pub fn reserve(&mut self, bound: usize) -> Result<(), AllocError>
         ensures ok { OnOk result (bound ≤ self.new.reach) }
         ensures grown { length self.old.lists ≤ length self.new.lists }
         ensures same { SameSetsAt self.old.lists self.new.lists }
