@@ -67,4 +67,21 @@ impl<V: Values> VertexMap<V> {
         self.values[number] = value;
         Ok(())
     }
+
+    /// Takes the value of the vertex of a number away.
+    pub fn remove(&mut self, number: usize)
+        ensures { (w : ℕ) → value_at V.absent self.new w
+            ≡ (if w == number then V.absent w else value_at V.absent self.old w) }
+    {
+        if number < self.values.len() {
+            self.values[number] = V::absent(number);
+        }
+    }
+
+    /// The values of the vertices by number, up to the greatest to which one was given.
+    pub fn as_slice(&self) -> &[V::Value]
+        ensures { result.now ≡ self.now }
+    {
+        &self.values
+    }
 }
