@@ -8,7 +8,8 @@ use Rattle.zx_calculus.proofs.Ids.{by_test, Distinct-rising, member-here, member
 use Rattle.open_graph.proofs.Toggling.{count-either}
 use Rattle.gflow_laws.specs.Flow.{Correction, is_in}
 use Rattle.open_graph.specs.VertexSets.{VertexSet}
-use Rattle.zx_extract.specs.Internal.Holders.{holds, holders_of, sets_with, table_from, IsOrdered}
+use Rattle.zx_flow.specs.VertexSets.{set_at}
+use Rattle.zx_extract.specs.Internal.Holders.{holds, holders_of, table_from, IsOrdered}
 use Rattle.zx_extract.proofs.HoldersTables.{member-holders_of}
 
 -- all are kept
@@ -23,7 +24,7 @@ abbrev stands_in : ℕ → Correction → Bool
 stands_in s e = is_in e.members s
 
 length-sets : (lists : List VertexSet) (s : ℕ) (order : List ℕ) →
-    length (filter (λ v. member v (sets_with lists s)) order) ≡ length (filter (stands_in s) (table_from lists order))
+    length (filter (λ v. member v (set_at lists s)) order) ≡ length (filter (stands_in s) (table_from lists order))
 length-sets lists s [] = refl
 length-sets lists s (v ∷ vs) =
     by_test (holds lists s v)
@@ -32,11 +33,11 @@ length-sets lists s (v ∷ vs) =
     (λ f. let absent : member s (holders_of lists v) ≡ false = member-holders_of lists v s ∙ f in
     rw (f, absent) (length-sets lists s vs))
 
-pub count_held : (lists : List VertexSet) (s : ℕ) (order : List ℕ) → in_order ltb (sets_with lists s) ≡ true →
-    IsOrdered order lists → length (sets_with lists s) ≡ count_by (stands_in s) (table_from lists order)
+pub count_held : (lists : List VertexSet) (s : ℕ) (order : List ℕ) → in_order ltb (set_at lists s) ≡ true →
+    IsOrdered order lists → length (set_at lists s) ≡ count_by (stands_in s) (table_from lists order)
 count_held lists s order rising ordered =
-    sym (length-all (sets_with lists s) order (ordered.within s))
-    ∙ length-filter (λ v. member v order) (sets_with lists s)
-    ∙ count-either (sets_with lists s) order (Distinct-rising (sets_with lists s) rising) ordered.each_once
-    ∙ sym (length-filter (λ v. member v (sets_with lists s)) order)
+    sym (length-all (set_at lists s) order (ordered.within s))
+    ∙ length-filter (λ v. member v order) (set_at lists s)
+    ∙ count-either (set_at lists s) order (Distinct-rising (set_at lists s) rising) ordered.each_once
+    ∙ sym (length-filter (λ v. member v (set_at lists s)) order)
     ∙ length-sets lists s order ∙ length-filter (stands_in s) (table_from lists order)

@@ -18,8 +18,30 @@ use Rattle.zx_calculus.proofs.Ids.{member-append}
 use Rattle.gflow_laws.proofs.LastLaws.{Distinct-front}
 use Rattle.gflow_laws.proofs.OutputLaws.{is_in-row_added}
 use Rattle.open_graph.specs.VertexSets.{VertexSet}
-use Rattle.zx_flow.specs.Internal.Sets.{no_set}
-use Rattle.zx_extract.specs.Internal.Holders.{holds, holders_of, table_from, IsOrdered, IsToggled, IsCleared}
+use Rattle.zx_flow.specs.VertexSets.{no_set, set_at, SameSetsBut, AreToggledAt}
+use Rattle.zx_extract.specs.Internal.Holders.{holds, holders_of, table_from, IsOrdered}
+
+-- where members are toggled in the set at a number, those stand in the sets of others
+pub toggled_at : {old new : List VertexSet} {c : ℕ} {members : List ℕ} → AreToggledAt c members old new → (s v : ℕ) →
+    holds new s v ≡ xor (holds old s v) (member v members && eqb s c)
+toggled_at {old} {new} {c} {members} toggled s v =
+    by_equal s c
+    (λ e same. ap (λ u. holds new u v) same ∙ toggled.own v ∙ ap (λ u. xor (holds old u v) (member v members)) (sym same)
+    ∙ ap (xor (holds old s v)) (sym (ap (λ b. member v members && b) e ∙ and-true (member v members))))
+    (λ f apart. ap (member v) (toggled.others s f)
+    ∙ sym (ap (λ b. xor (holds old s v) (member v members && b)) f ∙ ap (xor (holds old s v)) (and-false (member v members))
+    ∙ xor-false (holds old s v)))
+
+-- x stands in no set any more
+abbrev pub IsCleared : ℕ → List VertexSet → List VertexSet → Type 0
+IsCleared x old new = (set_at new x ≡ []) × SameSetsBut x old new
+
+cleared_at : (old new : List VertexSet) (x : ℕ) → IsCleared x old new → (s v : ℕ) → holds new s v ≡ (holds old s v && different x s)
+cleared_at old new x cleared s v =
+    by_equal s x
+    (λ e same. ap (λ u. holds new u v) same ∙ ap (member v) cleared.0
+    ∙ sym (ap (λ b. holds old s v && not b) (eqb_comm x s ∙ e) ∙ and-false (holds old s v)))
+    (λ f apart. ap (member v) (cleared.1 s f) ∙ sym (ap (λ b. holds old s v && not b) (eqb_comm x s ∙ f) ∙ and-true (holds old s v)))
 
 member-range : (n a s : ℕ) → a ≤ s → s < a + n → member s (range_with_len a n) ≡ true
 member-range zero a s low high = absurd (omega arith)
@@ -66,11 +88,11 @@ SameSets-changed old new change order same =
     at [] v w = refl
     at (x ∷ xs) v w = by_test (eqb v x) (λ t. rw t (same x w)) (λ f. rw f (at xs v w))
 
-pub SameSets-toggled : (old new : List VertexSet) (c t : ℕ) (order : List ℕ) → IsToggled c t old new →
+pub SameSets-toggled : (old new : List VertexSet) (c t : ℕ) (order : List ℕ) → AreToggledAt c (set_at old t) old new →
     SameSets (table_from new order) (row_added_table c t (table_from old order))
 SameSets-toggled old new c t order toggled =
     SameSets-changed old new (row_added_set c t) order
-    (λ p w. member-holders_of new p w ∙ toggled w p
+    (λ p w. member-holders_of new p w ∙ toggled_at toggled w p
     ∙ ap₂ (λ a b. xor a (b && eqb w c)) (sym (member-holders_of old p w)) (sym (member-holders_of old p t))
     ∙ sym (is_in-row_added c t (holders_of old p) w))
 
@@ -144,7 +166,7 @@ pub SameSets-advanced : (old new : List VertexSet) (order : List ℕ) (x : ℕ) 
 SameSets-advanced old new order x before e cleared at =
     subst (λ b. SameSets (table_from new (take (length order - 1) order)) (advanced_table x b)) (sym at.front)
     (SameSets-changed old new (filter (different x)) (take (length order - 1) order)
-    (λ p w. member-holders_of new p w ∙ cleared w p ∙ ap (λ b. b && different x w) (sym (member-holders_of old p w))
+    (λ p w. member-holders_of new p w ∙ cleared_at old new x cleared w p ∙ ap (λ b. b && different x w) (sym (member-holders_of old p w))
     ∙ sym (member-filter (different x) (holders_of old p) w)))
 
 -- the order cut at its last vertex, which has no set any more
@@ -180,8 +202,8 @@ pub ordered_advanced : (old new : List VertexSet) (order : List ℕ) (x : ℕ) (
     Cut old order before e → ((y : ℕ) → is_in e.members y ≡ eqb y x) → IsOrdered (take (length order - 1) order) new
 ordered_advanced old new order x before e cleared ordered at alone =
     ordered_front old new order before e ordered at
-    (λ s v h. ordered.within s v (and-left _ _ (sym (cleared s v) ∙ h)))
-    (λ s. cleared s e.vertex ∙ ap (λ b. b && different x s) (sym (at.members s) ∙ alone s ∙ eqb_comm s x) ∙ off (eqb x s))
+    (λ s v h. ordered.within s v (and-left _ _ (sym (cleared_at old new x cleared s v) ∙ h)))
+    (λ s. cleared_at old new x cleared s e.vertex ∙ ap (λ b. b && different x s) (sym (at.members s) ∙ alone s ∙ eqb_comm s x) ∙ off (eqb x s))
   where
     off : (b : Bool) → (b && not b) ≡ false
     off true = refl
@@ -237,17 +259,17 @@ gone true linked h hv same = and-false (xor h (hv && linked))
     ∙ sym (ap (λ b. xor h (b && true)) (sym (same refl)) ∙ ap (xor h) (and-true h) ∙ xor-same h)
 gone false linked h hv same = and-true (xor h (hv && linked))
 
-pub removed_linked : (old mid new : List VertexSet) (x v : ℕ) (members : List ℕ) → IsToggled x v old mid →
+pub removed_linked : (old mid new : List VertexSet) (x v : ℕ) (members : List ℕ) → AreToggledAt x (set_at old v) old mid →
     IsCleared v mid new → ((y : ℕ) → is_in members y ≡ (eqb y v || eqb y x)) → IsRemoved v members old new
 removed_linked old mid new x v members toggled cleared both s p =
-    cleared s p ∙ ap₂ (λ a b. a && not b) (toggled s p) (eqb_comm v s)
+    cleared_at mid new v cleared s p ∙ ap₂ (λ a b. a && not b) (toggled_at toggled s p) (eqb_comm v s)
     ∙ gone (eqb s v) (eqb s x) (holds old s p) (holds old v p) (λ t. ap (λ u. holds old u p) (eqb-true s v t))
     ∙ ap (λ b. xor (holds old s p) (holds old v p && b)) (sym (both s))
 
 pub removed_alone : (old new : List VertexSet) (v : ℕ) (members : List ℕ) → IsCleared v old new →
     ((y : ℕ) → is_in members y ≡ eqb y v) → IsRemoved v members old new
 removed_alone old new v members cleared alone s p =
-    cleared s p ∙ ap₂ (λ a b. a && not b) (sym (ap (xor (holds old s p)) (and-false (holds old v p))
+    cleared_at old new v cleared s p ∙ ap₂ (λ a b. a && not b) (sym (ap (xor (holds old s p)) (and-false (holds old v p))
     ∙ xor-false (holds old s p))) (eqb_comm v s)
     ∙ gone (eqb s v) false (holds old s p) (holds old v p) (λ t. ap (λ u. holds old u p) (eqb-true s v t))
     ∙ ap (λ b. xor (holds old s p) (holds old v p && b)) (or-false (eqb s v) ∙ sym (alone s))
@@ -291,12 +313,12 @@ taken_alone old new order rest v before e is ordered table cleared alone =
 pub taken_linked : (old mid new : List VertexSet) (order rest : List ℕ) (x v : ℕ) (before : List Correction)
     (e : Correction) → order ≡ rest ++ v ∷ [] → IsOrdered order old →
     table_from old order ≡ before ++ e ∷ [] →
-    IsToggled x v old mid → IsCleared v mid new → ((y : ℕ) → is_in e.members y ≡ (eqb y e.vertex || eqb y x)) →
+    AreToggledAt x (set_at old v) old mid → IsCleared v mid new → ((y : ℕ) → is_in e.members y ≡ (eqb y e.vertex || eqb y x)) →
     Taken new rest before e
 taken_linked old mid new order rest x v before e is ordered table toggled cleared linked =
     taken old new order rest v before e is ordered table (linked e.vertex
     ∙ ap (λ b. b || eqb e.vertex x) (eqb-self e.vertex))
-    (λ same. removed_linked old mid new x e.vertex e.members (subst (λ u. IsToggled x u old mid) (sym same) toggled)
+    (λ same. removed_linked old mid new x e.vertex e.members (subst (λ u. AreToggledAt x (set_at old u) old mid) (sym same) toggled)
     (subst (λ u. IsCleared u mid new) (sym same) cleared) linked)
 
 -- the order cut at its last vertex

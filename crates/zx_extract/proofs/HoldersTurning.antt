@@ -1,35 +1,56 @@
 -- A table turned over vertex by vertex, and what the last vertex tells.
-use Rattle.std.proofs.Common.{◌≡◌, refl, sym, ◌∙◌, ap, ap₂, ℕ, ◌+◌, ◌-◌, ◌<◌, Bool, true, ◌&&◌, eqb, List, [], ◌∷◌, ◌++◌, length, get_or, take, add-one, true≢false, arith}
+use Rattle.std.proofs.Common.{◌≡◌, refl, sym, ◌∙◌, ap, ap₂, ℕ, ◌+◌, ◌-◌, ◌<◌, Bool, true, ◌&&◌, eqb, List, [], ◌∷◌, ◌++◌, length, get_or, take, append-nil, add-one, true≢false, arith}
 use Rattle.std.specs.Prelude.{Some, None, slice_get}
 use Rattle.std.proofs.lemmas.List.{get_or_read}
 use Rattle.std.proofs.lemmas.Option.{slice_get-get_or, get_or_from_slice_get}
 use Rattle.zx_model.specs.Bits.{xor, member}
 use Rattle.zx_calculus.specs.Graph.{Distinct}
-use Rattle.zx_calculus.proofs.Booleans.{parities}
+use Rattle.zx_calculus.proofs.Booleans.{parities, or-false}
 use Rattle.zx_calculus.proofs.Ids.{by_test, by_equal}
 use Rattle.zx_calculus.proofs.Positions.{member-grown}
 use Rattle.gflow_laws.specs.Flow.{Correction, order_of, set_of, is_in, SameSets}
 use Rattle.gflow_laws.proofs.Tables.{set_of-outside}
 use Rattle.open_graph.specs.VertexSets.{VertexSet}
-use Rattle.zx_extract.specs.Internal.Holders.{holds, table_from, AreToggled}
-use Rattle.zx_extract.proofs.HoldersTables.{cut, member-holders_of, order_of-table_from}
+use Rattle.open_graph.proofs.Walks.{member-toggled}
+use Rattle.zx_flow.specs.VertexSets.{AreToggledAt}
+use Rattle.zx_extract.specs.Internal.Holders.{holds, table_from}
+use Rattle.zx_extract.proofs.HoldersTables.{toggled_at, cut, member-holders_of, order_of-table_from}
 
 -- the sets of these vertices are turned over
 abbrev pub IsTurned : List Correction → List ℕ → List VertexSet → Type 0
 IsTurned table vs lists = (s v : ℕ) → holds lists s v ≡ (member v vs && member s (set_of table v))
 
--- the set of the next vertex, which had none yet
-pub next_turned : (table : List Correction) (order : List ℕ) (i v : ℕ) (set : List ℕ) (now new : List VertexSet) →
-    Distinct order → i < length order → v ≡ get_or order i v → set ≡ set_of table v →
-    IsTurned table (take i order) now → AreToggled set v now new → IsTurned table (take (i + 1) order) new
-next_turned table order i v set now new once lt read is turned more s u =
-    more s u ∙ ap₂ xor (turned s u) own
+-- these vertices, and of the set of v these members so far
+abbrev pub IsTurning : List Correction → List ℕ → ℕ → List ℕ → List VertexSet → Type 0
+IsTurning table vs v members lists = (s u : ℕ) → holds lists s u ≡ xor (member u vs && member s (set_of table u)) (eqb u v && member s members)
+
+-- one member more
+pub next_member : (table : List Correction) (vs before rest after members : List ℕ) (w v : ℕ) (now new : List VertexSet) →
+    Distinct members → before ++ rest ≡ members → rest ≡ w ∷ after → IsTurning table vs v before now →
+    AreToggledAt w (v ∷ []) now new → IsTurning table vs v (before ++ w ∷ []) new
+next_member table vs before rest after members w v now new once all next turning more s u =
+    toggled_at more s u ∙ ap₂ (λ a b. xor a (b && eqb s w)) (turning s u) (or-false (eqb u v))
+    ∙ collected (member u vs && member s (set_of table u)) (eqb u v) (member s before) (eqb s w)
+    ∙ ap (λ b. xor (member u vs && member s (set_of table u)) (eqb u v && b)) (sym (member-toggled before rest after members w s once all next))
+  where
+    collected : (h e m x : Bool) → xor (xor h (e && m)) (e && x) ≡ xor h (e && xor m x)
+    collected h e m x = simp parities
+
+-- all members of the next vertex
+pub next_turned : (table : List Correction) (order : List ℕ) (i v : ℕ) (before rest set : List ℕ) (lists : List VertexSet) →
+    Distinct order → i < length order → v ≡ get_or order i v → set ≡ set_of table v → before ++ rest ≡ set → rest ≡ [] →
+    IsTurning table (take i order) v before lists → IsTurned table (take (i + 1) order) lists
+next_turned table order i v before rest set lists once lt read is all none turning s u =
+    turning s u ∙ ap (xor (member u (take i order) && member s (set_of table u))) own
     ∙ spread (member u (take i order)) (eqb u v) (member s (set_of table u))
     ∙ ap (λ b. b && member s (set_of table u)) (sym grown)
   where
-    own : (eqb u v && member s set) ≡ (eqb u v && member s (set_of table u))
+    whole : before ≡ set
+    whole = sym (append-nil before) ∙ sym (ap (λ xs. before ++ xs) none) ∙ all
+
+    own : (eqb u v && member s before) ≡ (eqb u v && member s (set_of table u))
     own =
-        by_equal u v (λ _ e. ap (λ l. eqb u v && member s l) (is ∙ ap (set_of table) (sym e)))
+        by_equal u v (λ _ e. ap (λ l. eqb u v && member s l) (whole ∙ is ∙ ap (set_of table) (sym e)))
         (λ f _. rw f refl)
 
     grown : member u (take (i + 1) order) ≡ xor (member u (take i order)) (eqb u v)

@@ -20,7 +20,6 @@ mod Whole
 pub mod HoldersTables
 pub mod HoldersTurning
 pub mod HoldersCounting
-pub mod HoldersAdding
 mod ChosenRows
 mod IndependentRows
 pub mod SimplifiedLemmas

@@ -1,22 +1,19 @@
 //! Flows turned over: of each vertex, in the correction sets of which vertices it stands.
 
-ghost use Rattle.std.specs.Prelude.{◌≡◌, ◌<◌, ◌++◌, ℕ, true, false, ◌||◌, ◌==◌, List, [], ◌∷◌, length, count_by, IfOk, IfNone, IfSome, OnOk, OnErr, ltb};
-ghost use Rattle.zx_calculus.specs.Graph.{in_order};
+ghost use Rattle.std.specs.Prelude.{◌≡◌, ◌++◌, ℕ, ◌||◌, ◌==◌, List, [], ◌∷◌, count_by, IfOk, IfNone, IfSome, OnOk};
 ghost use Rattle.gflow_laws.specs.Flow.{Correction, is_in, SameSets};
 ghost use Rattle.gflow_laws.specs.Outputs.{row_added_table, advanced_table, last_removed_table};
-ghost use Rattle.zx_extract.specs.Internal.Holders.{sets_with, holds, IsHeldAlike, IsMemberToggled, AreToggled, IsToggled, IsCleared};
 
-use open_graph::{VertexId, VertexSet};
+use open_graph::VertexId;
 use std::alloc::{AllocError, Global};
 use std::marker::Model;
-use zx_flow::Flow;
+use zx_flow::{Flow, VertexSets};
 
 // A flow turned over: for each vertex, in the correction sets of which vertices it stands.
 #[derive(Drop)]
 pub(crate) struct Holders {
-    alloc: Global,
     order: Vec<VertexId>,
-    held: Vec<VertexSet>,
+    held: VertexSets,
 }
 
 impl Model for Holders {
@@ -26,9 +23,9 @@ impl Model for Holders {
 
     ghost use Rattle.zx_extract.specs.Internal.Holders.{table_from, IsOrdered};
 
-    ghost view = { λ h. record { flow = table_from h.held.items h.order.items } };
+    ghost view = { λ h. record { flow = table_from h.held.lists h.order.items } };
 
-    ghost invariant = { λ h. IsOrdered h.order.items h.held.items };
+    ghost invariant = { λ h. IsOrdered h.order.items h.held.lists };
 }
 
 impl Holders {
@@ -38,11 +35,13 @@ impl Holders {
     {
         let vertices = f.order();
         let order = Vec::from_slice(alloc, vertices)?;
-        let mut held = Vec::new(alloc);
+        let mut held = VertexSets::new(alloc);
         for v in vertices {
-            toggle_members(&mut held, alloc, f.correction_set(*v), *v)?;
+            for s in f.correction_set(*v).iter() {
+                held.toggle_one(s, *v)?;
+            }
         }
-        Ok(Holders { alloc, order, held })
+        Ok(Holders { order, held })
     }
 
     // The last vertex of the order.
@@ -60,7 +59,7 @@ impl Holders {
             self.now.flow ≡ before ++ e ∷ [] → result ≡ is_in e.members s }
     {
         match self.order.last() {
-            Some(v) => stands_in(&self.held, s, *v),
+            Some(v) => self.held.get(s).contains(*v),
             None => false,
         }
     }
@@ -69,14 +68,14 @@ impl Holders {
     pub(crate) fn count(&self, s: VertexId) -> usize
         ensures { result ≡ count_by (λ e. is_in e.members s) self.now.flow }
     {
-        count_with(&self.held, s)
+        self.held.get(s).len()
     }
 
     // Toggles c in each set that has t.
     pub(crate) fn add_row(&mut self, c: VertexId, t: VertexId) -> Result<(), AllocError>
         ensures { OnOk result (SameSets self.new.flow (row_added_table c t self.old.flow)) }
     {
-        toggle_where(&mut self.held, self.alloc, c, t)
+        self.held.toggle_set(c, t)
     }
 
     // Takes the last vertex away, whose set has x alone, and x out of all sets.
@@ -86,7 +85,7 @@ impl Holders {
         ensures { (before : List Correction) (e : Correction) → self.old.flow ≡ before ++ e ∷ []
             → SameSets self.new.flow (advanced_table x before) }
     {
-        clear(&mut self.held, self.alloc, x);
+        self.held.clear(x);
         self.order.pop();
     }
 
@@ -98,7 +97,7 @@ impl Holders {
             → SameSets self.new.flow (last_removed_table e before) }
     {
         if let Some(v) = self.order.pop() {
-            clear(&mut self.held, self.alloc, v);
+            self.held.clear(v);
         }
     }
 
@@ -113,95 +112,10 @@ impl Holders {
             SameSets self.new.flow (last_removed_table e before)) }
     {
         if let Some(v) = self.order.last().copied() {
-            toggle_where(&mut self.held, self.alloc, x, v)?;
-            clear(&mut self.held, self.alloc, v);
+            self.held.toggle_set(x, v)?;
+            self.held.clear(v);
             self.order.pop();
         }
         Ok(())
-    }
-}
-
-// In the sets of how many vertices a vertex stands: of none past the end of the lists.
-fn count_with(held: &[VertexSet], s: VertexId) -> usize
-    ensures value { result ≡ length (sets_with held.now s) }
-    ensures rising { in_order ltb (sets_with held.now s) ≡ true }
-{
-    match held.get(s.get()) {
-        Some(vertices) => vertices.len(),
-        None => 0,
-    }
-}
-
-// Whether a vertex stands in the set of v.
-fn stands_in(held: &[VertexSet], s: VertexId, v: VertexId) -> bool
-    ensures { result ≡ holds held.now s v }
-{
-    match held.get(s.get()) {
-        Some(vertices) => vertices.contains(v),
-        None => false,
-    }
-}
-
-// Makes room for the sets in which a vertex stands.
-fn make_room(held: &mut Vec<VertexSet>, alloc: Global, s: VertexId) -> Result<(), AllocError>
-    ensures ok { OnOk result (s < length held.new.items) }
-    ensures same { IsHeldAlike held.old.items held.new.items }
-{
-    'grow: while held.len() <= s.get() {
-        held.push(VertexSet::new(alloc))?;
-    }
-    Ok(())
-}
-
-// Toggles a vertex in the set of v.
-fn toggle_member(
-    held: &mut Vec<VertexSet>,
-    alloc: Global,
-    s: VertexId,
-    v: VertexId,
-) -> Result<(), AllocError>
-    ensures { OnOk result (IsMemberToggled s v held.old.items held.new.items) }
-{
-    make_room(held, alloc, s)?;
-    held[s.get()].toggle(v)
-}
-
-// Toggles these in the set of v.
-fn toggle_members(
-    held: &mut Vec<VertexSet>,
-    alloc: Global,
-    members: &VertexSet,
-    v: VertexId,
-) -> Result<(), AllocError>
-    ensures { OnOk result (AreToggled members.now.ids v held.old.items held.new.items) }
-{
-    for s in members.iter() {
-        toggle_member(held, alloc, s, v)?;
-    }
-    Ok(())
-}
-
-// Toggles c in each set that has t.
-fn toggle_where(
-    held: &mut Vec<VertexSet>,
-    alloc: Global,
-    c: VertexId,
-    t: VertexId,
-) -> Result<(), AllocError>
-    ensures ok { OnOk result (IsToggled c t held.old.items held.new.items) }
-    ensures err { OnErr result (IsHeldAlike held.old.items held.new.items) }
-{
-    make_room(held, alloc, t)?;
-    let with_t = held[t.get()].clone()?;
-    make_room(held, alloc, c)?;
-    held[c.get()].toggle_all(&with_t)
-}
-
-// Takes a vertex out of all sets.
-fn clear(held: &mut Vec<VertexSet>, alloc: Global, x: VertexId)
-    ensures { IsCleared x held.old.items held.new.items }
-{
-    if x.get() < held.len() {
-        held[x.get()] = VertexSet::new(alloc);
     }
 }

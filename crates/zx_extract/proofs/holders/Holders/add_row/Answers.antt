@@ -8,10 +8,10 @@ use Rattle.zx_extract.proofs.holders.Holders.add_row.Goals as goal
 
 pub returns : goal.returns
 returns c =
-    on_ok_weaker c.toggle_where.result
+    on_ok_weaker c.toggle_set.result
     (λ toggled. subst (λ (h : Holders). SameSets
-    (table_from c.toggle_where.new.held.items c.self.inside.order.items)
+    (table_from c.toggle_set.new.self.lists c.self.inside.order.items)
     (row_added_table c.args.c c.args.t h.flow)) c.self.view_is
-    (SameSets-toggled c.self.inside.held.items c.toggle_where.new.held.items c.args.c c.args.t
+    (SameSets-toggled c.self.inside.held.lists c.toggle_set.new.self.lists c.args.c c.args.t
     c.self.inside.order.items toggled))
-    c.toggle_where.ensures.ok
+    c.toggle_set.ensures.ok

@@ -9,5 +9,5 @@ pub returns-clause-some : goal.returns-clause-some
 returns-clause-some c =
     subst (λ (h : Holders). IfSome c.copied.result (λ v. (before : List Correction) × (e : Correction) × (h.flow ≡
     before ++ e ∷ []) × (e.vertex ≡ v))) c.self.view_is
-    (last_known c.self.inside.held.items c.self.inside.order.items c.copied.result (c.copied.ensures
+    (last_known c.self.inside.held.lists c.self.inside.order.items c.copied.result (c.copied.ensures
     ∙ c.last.ensures.value ∙ ap (λ (l : List ℕ). slice_get l (length l - 1)) c.deref.ensures.value))

@@ -8,16 +8,16 @@ use Rattle.zx_extract.proofs.holders.Holders.take_alone.Goals as goal
 pub invariant_of-self : goal.invariant_of-self
 invariant_of-self c =
     let last = c.requires in
-    (taken_alone c.self.inside.held.items c.clear.new.held.items c.self.inside.order.items c.pop.new.self.items
+    (taken_alone c.self.inside.held.lists c.clear.new.self.lists c.self.inside.order.items c.pop.new.self.items
     c.in-Some.v last.0 last.1 c.in-Some.ensures.items c.self.invariant
-    (ap (λ (h : Holders). h.flow) c.self.view_is ∙ last.2) c.clear.ensures last.3).ordered
+    (ap (λ (h : Holders). h.flow) c.self.view_is ∙ last.2) (c.clear.ensures.own, c.clear.ensures.others) last.3).ordered
 
 pub returns-in-Some : goal.returns-in-Some
 returns-in-Some c before e is =
     let last = c.requires in
     let same : last.1 ≡ e = (same_from_push last.0 before last.1 e (sym last.2 ∙ is)).1 in
-    (taken_alone c.self.inside.held.items c.clear.new.held.items c.self.inside.order.items c.pop.new.self.items
+    (taken_alone c.self.inside.held.lists c.clear.new.self.lists c.self.inside.order.items c.pop.new.self.items
     c.in-Some.v before e c.in-Some.ensures.items c.self.invariant
     (ap (λ (h : Holders). h.flow) c.self.view_is
-    ∙ is) c.clear.ensures (subst (λ (d : Correction). (y : ℕ) →
+    ∙ is) (c.clear.ensures.own, c.clear.ensures.others) (subst (λ (d : Correction). (y : ℕ) →
     is_in d.members y ≡ eqb y d.vertex) same last.3)).sets

@@ -15,13 +15,13 @@ invariant_of-self-in-Some c =
     cut_last order c.pop.new.self.items c.in-Some.v (c.in-Some.ensures ∙ c.last.ensures.value
     ∙ ap (λ (l : List ℕ). slice_get l (length l - 1)) c.deref.ensures.value)
     (c.pop.ensures.rest ∙ ap (λ n. take (n - 1) order) long) in
-    (taken_linked c.self.inside.held.items c.toggle_where.new.held.items c.clear.new.held.items order
+    (taken_linked c.self.inside.held.lists c.toggle_set.new.self.lists c.clear.new.self.lists order
     c.pop.new.self.items c.args.x c.in-Some.v last.0 last.1 is c.self.invariant
     (ap (λ (h : Holders). h.flow) c.self.view_is
-    ∙ last.2) c.in_ok-toggle_where.ensures.ok c.clear.ensures last.3).ordered
+    ∙ last.2) c.in_ok-toggle_set.ensures.ok (c.clear.ensures.own, c.clear.ensures.others) last.3).ordered
 
-pub returns-in_ok-toggle_where : goal.returns-in_ok-toggle_where
-returns-in_ok-toggle_where c before e table =
+pub returns-in_ok-toggle_set : goal.returns-in_ok-toggle_set
+returns-in_ok-toggle_set c before e table =
     let order = c.self.inside.order.items in
     let last = c.requires in
     let long : vec_len c.self.inside.order ≡ length order = omega (arith, c.self.inside.order.ok.0) in
@@ -30,7 +30,7 @@ returns-in_ok-toggle_where c before e table =
     ∙ ap (λ (l : List ℕ). slice_get l (length l - 1)) c.deref.ensures.value)
     (c.pop.ensures.rest ∙ ap (λ n. take (n - 1) order) long) in
     let same : last.1 ≡ e = (same_from_push last.0 before last.1 e (sym last.2 ∙ table)).1 in
-    (taken_linked c.self.inside.held.items c.toggle_where.new.held.items c.clear.new.held.items order
+    (taken_linked c.self.inside.held.lists c.toggle_set.new.self.lists c.clear.new.self.lists order
     c.pop.new.self.items c.args.x c.in-Some.v before e is c.self.invariant
-    (ap (λ (h : Holders). h.flow) c.self.view_is ∙ table) c.in_ok-toggle_where.ensures.ok c.clear.ensures
+    (ap (λ (h : Holders). h.flow) c.self.view_is ∙ table) c.in_ok-toggle_set.ensures.ok (c.clear.ensures.own, c.clear.ensures.others)
     (subst (λ (d : Correction). (y : ℕ) → is_in d.members y ≡ (eqb y d.vertex || eqb y c.args.x)) same last.3)).sets
