@@ -13,15 +13,15 @@ use Rattle.qasm_scope.specs.declared.causes.Cause.{Cause}
 use Rattle.qasm_scope.specs.declared.causes.Cause.TheVariants as cause
 use Rattle.qasm_scope.specs.Angles.{angles_of}
 use Rattle.qasm_scope.specs.Applications.{instances, ranges_of}
-use Rattle.qasm_scope.specs.Calls.{Event, Called, Undefined, Expansion, applied, call, call_count, body_call, deepest, expand, expand_declared, expand_meaning, first_wrong, u_of}
+use Rattle.qasm_scope.specs.Calls.{Event, Called, Undefined, applied, call, call_count, body_call, deepest, expand, expand_declared, expand_meaning, first_wrong, u_of}
 use Rattle.qasm_scope.specs.Calls as event
 use Rattle.qasm_scope.specs.Meaning.{after_statement, events_of, fault_after, first_fault, gates_after, is_version, wrong_with}
 use Rattle.qasm_scope.specs.Measurements.{measured_by}
 use Rattle.qasm_scope.specs.Faults.{wrong_in}
 use Rattle.qasm_scope.specs.Scope.{Scope, Meaning, Qubits, Bits, Gate}
-use Rattle.qasm_inline.specs.Internal.KeptCalls.{u_events, cx_events}
-use Rattle.qasm_inline.proofs.EventLemmas.{applied-append, call_count-append}
-use Rattle.qasm_inline.proofs.MeantLemmas.{none-both, none-second, version-from, version-after}
+use Rattle.qasm_unroll.specs.Internal.KeptCalls.{u_events, cx_events}
+use Rattle.qasm_unroll.proofs.EventLemmas.{applied-append, call_count-append}
+use Rattle.qasm_unroll.proofs.MeantLemmas.{none-both, none-second, version-from, version-after}
 
 -- ---- calls
 -- no more gates act than calls are made, and this number besides

@@ -8,7 +8,7 @@ use Rattle.zx_gates.specs.Elementary.{AreOnce, IsElementaryGateOn, IsMeasureOn, 
 use Rattle.qasm_reader.specs.Syntax.{Placed}
 use Rattle.qasm_scope.specs.Meaning.{Means, scope_after}
 use Rattle.qasm_scope.specs.Scope.{bit_count, qubit_count}
-use Rattle.qasm_inline.proofs.MeantLemmas.{faultless-few, faultless-on, faultless-within}
+use Rattle.qasm_unroll.proofs.MeantLemmas.{faultless-few, faultless-on, faultless-within}
 use Rattle.qasm_inline.proofs.OnceLemmas.{faultless-once}
 
 pub meant-few : (program : List Placed) (qubits : ℕ) (gates : List ElementaryGate) (bits : ℕ) (measured : List Measure) → Means program qubits gates bits measured → qubits ≤ most_qubits

@@ -11,9 +11,9 @@ use Rattle.qasm_scope.specs.Faults.{tests_behind, wrong_behind, wrong_in}
 use Rattle.qasm_scope.specs.Measurements.{are_unlike, bit_range_of, bits_of, holds_any, measured_by, measures_of, qubits_of}
 use Rattle.qasm_scope.specs.Meaning.{after_statement, events_of, fault_after, first_fault, measures_after, wrong_with}
 use Rattle.qasm_scope.specs.Scope.{Scope}
-use Rattle.qasm_inline.proofs.MeantLemmas.{no_cause, none-both, none-first, none-second, passes, version-after, version-from, version-measures}
-use Rattle.qasm_inline.proofs.MemberLemmas.{Once, once-append, once-distinct}
-use Rattle.qasm_inline.proofs.RangeLemmas.{measured-bits, measured-qubits, places, places-apart, places-once}
+use Rattle.qasm_unroll.proofs.MeantLemmas.{no_cause, none-both, none-first, none-second, passes, version-after, version-from, version-measures}
+use Rattle.qasm_unroll.proofs.MemberLemmas.{Once, once-append, once-distinct}
+use Rattle.qasm_unroll.proofs.RangeLemmas.{measured-bits, measured-qubits, places, places-apart, places-once}
 
 abbrev Distinct : List Measure → Type 0
 Distinct measures = Once (qubits_of measures) × Once (bits_of measures)

@@ -1,4 +1,3 @@
-pub mod Circuits
 pub mod TextAnswers
 pub mod Internal
 pub mod PieceReadings

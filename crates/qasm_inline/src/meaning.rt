@@ -6,11 +6,10 @@ ghost use Rattle.qasm_reader.specs.Views.{gate_form, statement_of, statements_of
 ghost use Rattle.zx_gates.specs.Elementary.{IsElementary};
 ghost use Rattle.qasm_scope.specs.declared.causes.Cause.{Cause};
 ghost use Rattle.qasm_scope.specs.Meaning.{Means, first_fault, most_calls};
-ghost use Rattle.qasm_inline.specs.Circuits.{HasTaken, gate_at};
+ghost use Rattle.qasm_unroll.specs.Circuits.{HasTaken, gate_at};
 
-use crate::circuit::Circuit;
-use crate::error::InlineError;
 use qasm_reader::{GateDeclaration, Program, ProgramElement};
+use qasm_unroll::{Circuit, InlineError};
 use std::alloc::Global;
 use zx_gates::Elementary;
 

@@ -1,6 +1,6 @@
 //! Reading a text that comes piece by piece.
 
-ghost use Rattle.std.specs.Prelude.{◌≡◌, ◌+◌, ◌^◌, ◌<◌, ◌≤◌, ◌++◌, List, [], ℕ, length, true, None, Some, Ok, Err, OnOk, OnErr, alloc_error};
+ghost use Rattle.std.specs.Prelude.{◌≡◌, ◌+◌, ◌^◌, ◌<◌, ◌++◌, List, [], ℕ, length, true, None, Some, Ok, Err, OnOk, OnErr, alloc_error};
 ghost use Rattle.qasm_lexer.specs.declared.errors.LexError.TheVariants.{BadByte};
 ghost use Rattle.qasm_lexer.specs.Taken.{AreLines, HasBadLine};
 ghost use Rattle.qasm_lexer.specs.Tokens.{Lexeme, IsCut, IsBadByte};

@@ -8,10 +8,10 @@ use Rattle.qasm_reader.specs.Depth.{IsDepth}
 use Rattle.qasm_reader.specs.Grammar.{IsProgram, IsSyntaxFault}
 use Rattle.qasm_reader.specs.Parts.{BeginNone, IsInBody, IsNextInBody}
 use Rattle.qasm_reader.specs.Syntax.{GateForm, Placed}
-use Rattle.qasm_inline.specs.declared.circuit.Circuit.{Circuit}
-use Rattle.qasm_inline.specs.declared.circuit.OpenGate.{OpenGate}
+use Rattle.qasm_unroll.specs.declared.circuit.Circuit.{Circuit}
+use Rattle.qasm_unroll.specs.declared.circuit.OpenGate.{OpenGate}
 use Rattle.qasm_inline.specs.declared.reading.Reader.{Reader}
-use Rattle.qasm_inline.specs.Circuits.{HasBegun, HasTaken}
+use Rattle.qasm_unroll.specs.Circuits.{HasBegun, HasTaken}
 
 -- All tokens up to the rest were taken in: those of whole statements, and behind these, where a gate's declaration
 -- isn't over, those of its heading and of its body so far.

@@ -1,8 +1,9 @@
 -- One statement more, and what the answer says of all.
 use Rattle.std.proofs.Common.{◌+◌, map, take, sym, subst}
 use Rattle.qasm_reader.specs.Views.{statement_of, statements_of}
-use Rattle.qasm_inline.specs.Circuits.{HasTaken, IsCircuitAnswer}
-use Rattle.qasm_inline.proofs.CircuitLemmas.{all-taken, next-taken, faultless-from, means-from, valid-from, fault-from, refused-from}
+use Rattle.qasm_unroll.specs.Circuits.{HasTaken, IsCircuitAnswer}
+use Rattle.qasm_unroll.proofs.CircuitLemmas.{next-taken}
+use Rattle.qasm_inline.proofs.AnswerLemmas.{all-taken, faultless-from, means-from, valid-from, fault-from, refused-from}
 use Rattle.qasm_inline.proofs.meaning.inline.Goals as goal
 
 pub loop-element-preserved : goal.loop-element-preserved

@@ -2,7 +2,7 @@
 use Rattle.std.proofs.Common.{◌≡◌, List, map, take}
 use Rattle.qasm_reader.specs.Syntax.{Placed}
 use Rattle.qasm_reader.specs.Views.{body_sentence, form_of}
-use Rattle.qasm_inline.specs.Circuits.{HasBegun, HasTaken}
+use Rattle.qasm_unroll.specs.Circuits.{HasBegun, HasTaken}
 use Rattle.qasm_inline.proofs.meaning.take_gate.Given as goal
 
 abbrev pub invariant-loop-statement : goal.invariant-loop-statement

@@ -1,5 +1,5 @@
 -- The circuit of the program.
-use Rattle.qasm_inline.proofs.CircuitLemmas.{elementary, means}
+use Rattle.qasm_inline.proofs.AnswerLemmas.{elementary, means}
 use Rattle.qasm_inline.proofs.reading.finished.Goals as goal
 
 pub returns-in-Ok : goal.returns-in-Ok

@@ -1,0 +1,201 @@
+-- Measurements by what names are kept as, and what is kept of them.
+use Rattle.std.proofs.Common.{◌≡◌, ℕ, zero, suc, ◌+◌, ◌-◌, ◌^◌, ◌≤◌, ◌==◌, min, Bool, true, false, ◌||◌, if◌then◌else◌, List, [], ◌∷◌, ◌++◌, length, map, Option, None, Some, refl, sym, ap, ap₂, subst, ◌∙◌, append_assoc, append-nil, arith}
+use Rattle.std.specs.List.{list_any, range_with_len}
+use Rattle.std.specs.Option.{option_or}
+use Rattle.std.proofs.Math.Bool.{or-false}
+use Rattle.std.proofs.lemmas.Bool.Decides.{nat_tests}
+use Rattle.std.proofs.lemmas.List.{map-append}
+use Rattle.zx_model.specs.Bits.{member, xor}
+use Rattle.zx_gates.specs.Circuit.{most_qubits}
+use Rattle.zx_gates.specs.Elementary.{most_bits}
+use Rattle.zx_gates.specs.declared.elementary.Measure.{Measure}
+use Rattle.qasm_reader.specs.Syntax.{Operand, Act, Measured as MeasuredAs}
+use Rattle.qasm_scope.specs.Applications.{Range, Single, Register, place_at, range_of, register_of}
+use Rattle.qasm_scope.specs.declared.causes.Cause.{Cause}
+use Rattle.qasm_scope.specs.declared.causes.Cause.TheVariants as cause
+use Rattle.qasm_scope.specs.Faults.{is_no_register, is_past, wrong_behind, wrong_in}
+use Rattle.qasm_scope.specs.Measurements.{are_unlike, bit_range_of, bit_register_of, bits_of, count_in, holds, holds_any, measures_of, qubits_of}
+use Rattle.qasm_scope.specs.Scope.{Scope}
+use Rattle.qasm_names.specs.Checks.{Symbols}
+use Rattle.qasm_names.specs.Kept.{IsSound}
+use Rattle.qasm_unroll.specs.declared.measured.Measured.{Measured}
+use Rattle.qasm_unroll.specs.Internal.KeptMeasures.{Adds, AreFoundSpans, Inserts, cut_measure, cut_measures, found_cause, named_cause, wrong_measure}
+use Rattle.qasm_unroll.specs.Internal.Spans.{span_in}
+use Rattle.qasm_names.proofs.CheckLemmas.{AreNames, list_any-same}
+use Rattle.qasm_names.proofs.Tests.{or-first, or-second}
+use Rattle.qasm_unroll.proofs.ApplyLemmas.{IsSmall, cut-at, small-at}
+use Rattle.qasm_unroll.proofs.MemberLemmas.{any-members, member-append}
+use Rattle.qasm_unroll.proofs.SpanLemmas.{bits-names, few-bits, few-register, register-names, span-at}
+
+-- ---- causes
+abbrev named : Bool → Bool → Option Cause
+named unknown past =
+    if unknown then Some cause.Unknown else
+    if past then Some cause.Index else None
+
+abbrev sized : Bool → Option Cause
+sized unlike = if unlike then Some cause.Sizes else None
+
+named-then : (u p s : Bool) → (if u then Some cause.Unknown else if p then Some cause.Index else sized s) ≡ option_or (named u p) (sized s)
+named-then true p s = refl
+named-then false true s = refl
+named-then false false s = refl
+
+named-clear : (u p : Bool) → named u p ≡ None → (u ≡ false) × (p ≡ false)
+named-clear true p h = absurd (cc)
+named-clear false true h = absurd (cc)
+named-clear false false h = (refl, refl)
+
+found-then : (s a t : Bool) → option_or (sized s) (if a then Some cause.AfterMeasure else if t then Some cause.BitTwice else None)
+    ≡ (if s then Some cause.Sizes else if a then Some cause.AfterMeasure else if t then Some cause.BitTwice else None)
+found-then true a t = refl
+found-then false a t = refl
+
+named-kept : (symbols : Symbols) (scope : Scope) (from to : Operand) → AreNames symbols scope → named_cause symbols from to
+    ≡ named (is_no_register (register_of scope from) || is_no_register (bit_register_of scope to)) (is_past (register_of scope from) from.index || is_past (bit_register_of scope to) to.index)
+named-kept symbols scope from to h =
+    ap₂ (λ r b. named (is_no_register r || is_no_register b) (is_past r from.index || is_past b to.index)) (register-names symbols scope from h) (bits-names symbols scope to h)
+
+wrong-measure : (symbols : Symbols) (scope : Scope) (from to : Operand) → AreNames symbols scope
+    → wrong_in scope (Act (MeasuredAs from to)) ≡ option_or (named_cause symbols from to) (sized (are_unlike (range_of scope from) (bit_range_of scope to)))
+unfolding wrong_in
+wrong-measure symbols scope from to h =
+    named-then (is_no_register (register_of scope from) || is_no_register (bit_register_of scope to)) (is_past (register_of scope from) from.index || is_past (bit_register_of scope to) to.index) (are_unlike (range_of scope from) (bit_range_of scope to))
+    ∙ ap (λ o. option_or o (sized (are_unlike (range_of scope from) (bit_range_of scope to)))) (sym (named-kept symbols scope from to h))
+
+-- something is wrong with what the arguments name
+pub wrong-named : (symbols : Symbols) (scope : Scope) (measured : List Measure) (from to : Operand) (what : Cause) → AreNames symbols scope → named_cause symbols from to ≡ Some what
+    → wrong_measure scope measured from to ≡ Some what
+wrong-named symbols scope measured from to what h e =
+    ap (λ o. option_or o (wrong_behind scope measured (Act (MeasuredAs from to))))
+    (wrong-measure symbols scope from to h ∙ ap (λ o. option_or o (sized (are_unlike (range_of scope from) (bit_range_of scope to)))) e)
+
+-- no index is past its register
+indices-within : (symbols : Symbols) (scope : Scope) (from to : Operand) → AreNames symbols scope → named_cause symbols from to ≡ None
+    → (is_past (register_of scope from) from.index ≡ false) × (is_past (bit_register_of scope to) to.index ≡ false)
+indices-within symbols scope from to h fine =
+    let clear = named-clear (is_no_register (register_of scope from) || is_no_register (bit_register_of scope to)) _ (sym (named-kept symbols scope from to h) ∙ fine) in
+    (or-first _ _ clear.1, or-second (is_past (register_of scope from) from.index) _ clear.1)
+
+found-qubits : (symbols : Symbols) (scope : Scope) (from to : Operand) (qubits bits : Range) → AreNames symbols scope → IsSound scope → AreFoundSpans symbols from to qubits bits → qubits ≡ range_of scope from
+found-qubits symbols scope from to qubits bits h sound found =
+    found.same_qubits ∙ ap (λ r. span_in r from.index) (register-names symbols scope from h)
+    ∙ span-at most_qubits (register_of scope from) from.index (omega arith) (few-register from.register scope sound) (indices-within symbols scope from to h found.named).0
+
+found-bits : (symbols : Symbols) (scope : Scope) (from to : Operand) (qubits bits : Range) → AreNames symbols scope → IsSound scope → AreFoundSpans symbols from to qubits bits → bits ≡ bit_range_of scope to
+found-bits symbols scope from to qubits bits h sound found =
+    found.same_bits ∙ ap (λ r. span_in r to.index) (bits-names symbols scope to h)
+    ∙ span-at most_bits (bit_register_of scope to) to.index (omega arith) (few-bits to.register scope sound) (indices-within symbols scope from to h found.named).1
+
+-- what is wrong with a measurement whose arguments stand for these
+pub wrong-found : (symbols : Symbols) (scope : Scope) (measured : List Measure) (from to : Operand) (qubits bits : Range) → AreNames symbols scope → IsSound scope → AreFoundSpans symbols from to qubits bits
+    → wrong_measure scope measured from to ≡ found_cause measured qubits bits
+wrong-found symbols scope measured from to qubits bits h sound found =
+    ap (λ o. option_or o (wrong_behind scope measured (Act (MeasuredAs from to))))
+    (wrong-measure symbols scope from to h ∙ ap (λ o. option_or o (sized (are_unlike (range_of scope from) (bit_range_of scope to)))) found.named)
+    ∙ found-then (are_unlike (range_of scope from) (bit_range_of scope to)) (holds_any (qubits_of measured) (range_of scope from)) (holds_any (bits_of measured) (bit_range_of scope to))
+    ∙ ap₂ (found_cause measured)
+    (sym (found-qubits symbols scope from to qubits bits h sound found)) (sym (found-bits symbols scope from to qubits bits h sound found))
+
+-- ---- numbers that are cut off
+cut-bit : (t : Range) (index : ℕ) → IsSmall most_bits t → index ≤ most_qubits → min (place_at index t) (2 ^ 32 - 1) ≡ place_at index t
+cut-bit (Single bit) index small within = omega arith
+cut-bit (Register first size) index small within = let few = small.0 in omega arith
+
+cut-from : (from to : Range) (start n : ℕ) → IsSmall most_qubits from → IsSmall most_bits to → start + n ≤ most_qubits
+    → map (cut_measure from to) (range_with_len start n) ≡ map (λ index. record { qubit = place_at index from; bit = place_at index to }) (range_with_len start n)
+cut-from from to start zero small small_bits h = refl
+cut-from from to start (suc n) small small_bits h =
+    ap₂ (λ m ms. m ∷ ms) (ap₂ (λ (q : ℕ) (b : ℕ). record { qubit = q; bit = b }) (cut-at from start small (omega arith)) (cut-bit to start small_bits (omega arith)))
+    (cut-from from to (start + 1) n small small_bits (omega arith))
+
+few-in : (t : Range) → IsSmall most_qubits t → count_in t ≤ most_qubits
+few-in (Single place) small = omega arith
+few-in (Register first size) small = small.1
+
+measures-are : (symbols : Symbols) (scope : Scope) (from to : Operand) → AreNames symbols scope → IsSound scope → named_cause symbols from to ≡ None
+    → cut_measures (range_of scope from) (bit_range_of scope to) ≡ measures_of (range_of scope from) (bit_range_of scope to)
+measures-are symbols scope from to h sound fine =
+    let within = indices-within symbols scope from to h fine in
+    let small = small-at most_qubits (register_of scope from) from.index (few-register from.register scope sound) within.0 in
+    let few = few-in (range_of scope from) small in
+    cut-from (range_of scope from) (bit_range_of scope to) 0 (count_in (range_of scope from)) small
+    (small-at most_bits (bit_register_of scope to) to.index (few-bits to.register scope sound) within.1) (omega arith)
+
+-- what was measured is what the statement measures
+pub adds-found : (symbols : Symbols) (scope : Scope) (before after : Measured) (from to : Operand) (qubits bits : Range) → AreNames symbols scope → IsSound scope → AreFoundSpans symbols from to qubits bits
+    → Adds before after (cut_measures qubits bits) → Adds before after (measures_of (range_of scope from) (bit_range_of scope to))
+adds-found symbols scope before after from to qubits bits h sound found adds =
+    subst (Adds before after)
+    (ap₂ cut_measures (found-qubits symbols scope from to qubits bits h sound found) (found-bits symbols scope from to qubits bits h sound found) ∙ measures-are symbols scope from to h sound found.named) adds
+
+-- ---- what is kept
+there-at : (b : Bool) (other number : ℕ) (numbers : List ℕ) → (other == number) ≡ b → member number numbers ≡ true → member other numbers ≡ (member other numbers || b)
+there-at true other number numbers e h =
+    let same : other ≡ number = grind (arith, nat_tests) in
+    let k : member other numbers ≡ true = ap (λ n. member n numbers) same ∙ h in
+    k ∙ sym (ap (λ a. a || true) k)
+there-at false other number numbers e h = sym (or-false (member other numbers))
+
+pub inserts-there : (number : ℕ) (numbers : List ℕ) → member number numbers ≡ true → Inserts numbers number numbers
+inserts-there number numbers h = λ other. there-at (other == number) other number numbers refl h
+
+xor-or : (a : Bool) → xor a false ≡ (a || false)
+xor-or true = refl
+xor-or false = refl
+
+new-at : (b : Bool) (other number : ℕ) (numbers : List ℕ) → (other == number) ≡ b → member number numbers ≡ false → xor (member other numbers) b ≡ (member other numbers || b)
+new-at true other number numbers e h =
+    let same : other ≡ number = grind (arith, nat_tests) in
+    let k : member other numbers ≡ false = ap (λ n. member n numbers) same ∙ h in
+    ap (λ a. xor a true) k ∙ sym (ap (λ a. a || true) k)
+new-at false other number numbers e h = xor-or (member other numbers)
+
+pub inserts-new : (number : ℕ) (numbers later : List ℕ) → member number numbers ≡ false → ((other : ℕ) → member other later ≡ xor (member other numbers) (other == number))
+    → Inserts numbers number later
+inserts-new number numbers later h toggled = λ other. toggled other ∙ new-at (other == number) other number numbers refl h
+
+or-last : (a b : Bool) → (a || b) ≡ (a || (b || false))
+or-last true b = refl
+or-last false true = refl
+or-last false false = refl
+
+more-members : (number one : ℕ) (set later numbers : List ℕ) → Inserts set one later → member number set ≡ member number numbers → member number later ≡ member number (numbers ++ one ∷ [])
+more-members number one set later numbers inserts same =
+    inserts number ∙ ap (λ a. a || (number == one)) same ∙ or-last (member number numbers) (number == one) ∙ sym (member-append number numbers (one ∷ []))
+
+pub adds-one : (before after : Measured) (measure : Measure) → Inserts before.qubits.numbers measure.qubit after.qubits.numbers → Inserts before.bits.numbers measure.bit after.bits.numbers → after.list ≡ before.list ++ measure ∷ []
+    → Adds before after (measure ∷ [])
+adds-one before after measure qubits bits same = record {
+  same = same;
+  remembers = λ h. record {
+    qubits = λ number. more-members number measure.qubit before.qubits.numbers after.qubits.numbers (qubits_of before.list) qubits (h.qubits number)
+        ∙ ap (member number) (sym (map-append (λ m. m.qubit) before.list (measure ∷ [])) ∙ ap qubits_of (sym same));
+    bits = λ number. more-members number measure.bit before.bits.numbers after.bits.numbers (bits_of before.list) bits (h.bits number)
+        ∙ ap (member number) (sym (map-append (λ m. m.bit) before.list (measure ∷ [])) ∙ ap bits_of (sym same));
+  };
+}
+
+pub adds-join : (before between after : Measured) (first second : List Measure) → Adds before between first → Adds between after second → Adds before after (first ++ second)
+adds-join before between after first second h k = record {
+  same = k.same ∙ ap (λ ms. ms ++ second) h.same ∙ append_assoc before.list first second;
+  remembers = λ r. k.remembers (h.remembers r);
+}
+
+pub adds-none : (measured : Measured) → Adds measured measured []
+adds-none measured = record { same = sym (append-nil measured.list); remembers = λ h. h }
+
+-- ---- sets and lists
+pub holds-members : (t : Range) (set numbers : List ℕ) → ((number : ℕ) → member number set ≡ member number numbers) → holds_any set t ≡ holds_any numbers t
+holds-members t set numbers same = any-members (holds t) set numbers same
+
+pub any-holds-members : (ranges : List Range) (set numbers : List ℕ) → ((number : ℕ) → member number set ≡ member number numbers) → list_any (holds_any set) ranges ≡ list_any (holds_any numbers) ranges
+any-holds-members ranges set numbers same = list_any-same (holds_any set) (holds_any numbers) ranges (λ t. holds-members t set numbers same)
+
+pub none-held : (ranges : List Range) → list_any (holds_any []) ranges ≡ false
+none-held [] = refl
+none-held (t ∷ ranges) = none-held ranges
+
+pub no-elements : {A : Type 0} (xs : List A) → length xs ≡ 0 → xs ≡ []
+no-elements [] h = refl
+no-elements (x ∷ xs) h = absurd (omega arith)
