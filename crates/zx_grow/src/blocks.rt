@@ -2,6 +2,7 @@
 
 use open_graph::VertexId;
 use std::alloc::{AllocError, Global};
+use vertex_map::{Values, VertexMap};
 use zx_gates::Qubit;
 use zx_reduce::{LEVELS, level_between};
 
@@ -11,12 +12,24 @@ const OF_QUBIT: usize = 14;
 // A block has at least so many spiders.
 const LEAST_BLOCK: usize = 64;
 
+// The numbers of the blocks in which vertices came; those of the circuit's begin came in the first one.
+struct Birth;
+
+impl Values for Birth {
+    type Value = usize;
+
+    ghost absent = { λ _. 0 };
+
+    fn absent(_: usize) -> usize {
+        0
+    }
+}
+
 // How far the present block is, and in which block each vertex came. Blocks are parted in pairs, pairs of
 // pairs and so on: a vertex between two blocks has the level of the least such group that has both.
 #[derive(Drop)]
 pub(crate) struct Blocks {
-    // By number of the vertex.
-    born: Vec<usize>,
+    born: VertexMap<Birth>,
     size: usize,
     left: usize,
     number: usize,
@@ -29,7 +42,7 @@ impl Blocks {
             .saturating_mul(OF_QUBIT)
             .max(LEAST_BLOCK);
         Blocks {
-            born: Vec::new(alloc),
+            born: VertexMap::new(alloc),
             size,
             left: size,
             number: 0,
@@ -38,31 +51,18 @@ impl Blocks {
 
     // Writes down that a vertex comes in the present block.
     pub(crate) fn bear(&mut self, v: VertexId) -> Result<(), AllocError> {
-        for _ in self.born.len()..=v.get() {
-            self.born.push(0)?;
-        }
-        if let Some(born) = self.born.get_mut(v.get()) {
-            *born = self.number;
-        }
-        Ok(())
+        self.born.set(v.get(), self.number)
     }
 
     // A vertex is as old as another from now on.
-    pub(crate) fn inherit(&mut self, v: VertexId, other: VertexId) {
-        let Some(number) = self.born.get(other.get()).copied() else {
-            return;
-        };
-        if let Some(born) = self.born.get_mut(v.get()) {
-            *born = number;
-        }
+    pub(crate) fn inherit(&mut self, v: VertexId, other: VertexId) -> Result<(), AllocError> {
+        let number = self.born.get(other.get());
+        self.born.set(v.get(), number)
     }
 
     // The level of a vertex behind which the present block is.
     pub(crate) fn level_of(&self, v: VertexId) -> u8 {
-        match self.born.get(v.get()) {
-            Some(born) => level_between(*born, self.number),
-            None => 0,
-        }
+        level_between(self.born.get(v.get()), self.number)
     }
 
     // Counts a spider, and answers up to which level groups of blocks end with it, where a block does.

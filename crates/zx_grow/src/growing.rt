@@ -134,7 +134,7 @@ impl Growing {
             return Ok(());
         };
         self.make(&step, Some(Step::Delete(u)))?;
-        self.blocks.inherit(last, first);
+        self.blocks.inherit(last, first)?;
         self.look_at(first)
     }
 

@@ -48,13 +48,19 @@ pub(crate) fn plan_between(g: &OpenGraph, u: VertexId, last: VertexId) -> Option
     if phase.is_quarter_turn() {
         return Some((Step::LocalComplement(u), last));
     }
-    let first = g.neighbours(u).find(|v| may_move(g, *v))?;
-    Some((Step::Pivot(u, first), first))
+    for v in g.neighbours(u) {
+        if may_move(g, v) {
+            return Some((Step::Pivot(u, v), v));
+        }
+    }
+    None
 }
 
 // Whether a vertex may be moved along its wire at once.
-fn may_move(g: &OpenGraph, v: VertexId) -> bool {
-    g.is_live(v) && g.is_interior(v) && g.degree(v) <= MOST_MOVED
+fn may_move(g: &OpenGraph, v: VertexId) -> bool
+    requires { Live g.now.graph v }
+{
+    g.is_interior(v) && g.degree(v) <= MOST_MOVED
 }
 
 // A spider of a quarter turn goes by a local complement, one of half turns by a pivot.

@@ -4,6 +4,7 @@ ghost use Rattle.std.specs.Prelude.{◌<◌};
 
 use open_graph::{OpenGraph, Plane, VertexId};
 use std::alloc::{AllocError, Global};
+use vertex_map::{Values, VertexMap};
 use zx_reduce::{LEVELS, Step};
 
 // Classes of numbers of neighbours: 0, 1, 2 and 3, 4 to 7, and so on; the last has all from 64 on.
@@ -15,8 +16,34 @@ const OF_LEVEL: usize = 2 * CLASSES;
 // The list of gadgets of odd phases, behind those of vertices that go at once and of spiders.
 const GADGETS: usize = 1 + LEVELS * OF_LEVEL;
 
-// How many lists there are. A vertex that stands in none has this number as its place.
+// How many lists there are.
 const LISTS: usize = GADGETS + 1;
+
+// In which list a vertex stands; LISTS for none.
+struct Standing;
+
+impl Values for Standing {
+    type Value = usize;
+
+    ghost absent = { λ _. 258 };
+
+    fn absent(_: usize) -> usize {
+        LISTS
+    }
+}
+
+// Levels of vertices; the least one for those that wait for one.
+struct Level;
+
+impl Values for Level {
+    type Value = u8;
+
+    ghost absent = { λ _. 0 };
+
+    fn absent(_: usize) -> u8 {
+        0
+    }
+}
 
 // Vertices at which steps may be tried, in lists: those that go at once, spiders of even phases by their
 // level, phase and number of neighbours, and gadgets.
@@ -24,10 +51,8 @@ const LISTS: usize = GADGETS + 1;
 pub(crate) struct Queue {
     // What was put into each list. Some of these vertices stand elsewhere by now.
     lists: Vec<Vec<VertexId>>,
-    // By number of the vertex: the list in which it stands, or LISTS.
-    places: Vec<usize>,
-    // By number of the vertex.
-    levels: Vec<u8>,
+    places: VertexMap<Standing>,
+    levels: VertexMap<Level>,
     // All lists of vertices that go at once and of spiders are empty before this one.
     first: usize,
     // Vertices near those that a step is about.
@@ -43,8 +68,8 @@ impl Queue {
         }
         Ok(Queue {
             lists,
-            places: Vec::new(alloc),
-            levels: Vec::new(alloc),
+            places: VertexMap::new(alloc),
+            levels: VertexMap::new(alloc),
             first: 0,
             near: Vec::new(alloc),
         })
@@ -52,17 +77,12 @@ impl Queue {
 
     // The levels of vertices, by number.
     pub(crate) fn levels(&self) -> &[u8] {
-        &self.levels
+        self.levels.as_slice()
     }
 
     // Gives a vertex a level, and puts it where it belongs.
     pub(crate) fn add(&mut self, g: &OpenGraph, u: VertexId, level: u8) -> Result<(), AllocError> {
-        for _ in self.levels.len()..=u.get() {
-            self.levels.push(0)?;
-        }
-        if let Some(place) = self.levels.get_mut(u.get()) {
-            *place = level;
-        }
+        self.levels.set(u.get(), level)?;
         self.touch(g, u)
     }
 
@@ -94,11 +114,10 @@ impl Queue {
     // Takes out what was put into a list last, and answers it where it stands there.
     pub(crate) fn take(&mut self, list: usize) -> Option<VertexId> {
         let u = self.lists.get_mut(list)?.pop()?;
-        let place = self.places.get_mut(u.get())?;
-        if *place != list {
+        if self.places.get(u.get()) != list {
             return None;
         }
-        *place = LISTS;
+        self.places.remove(u.get());
         Some(u)
     }
 
@@ -176,7 +195,7 @@ impl Queue {
     fn level_of(&self, u: VertexId) -> usize
         ensures { result < 16 }
     {
-        match self.levels.get(u.get()) {
+        match self.levels().get(u.get()) {
             Some(level) => usize::from(*level).min(LEVELS - 1),
             None => LEVELS - 1,
         }
@@ -184,15 +203,10 @@ impl Queue {
 
     // A vertex stands in this list from now on, or in none.
     fn put(&mut self, u: VertexId, list: usize) -> Result<(), AllocError> {
-        for _ in self.places.len()..=u.get() {
-            self.places.push(LISTS)?;
+        if self.places.get(u.get()) == list {
+            return Ok(());
         }
-        if let Some(place) = self.places.get_mut(u.get()) {
-            if *place == list {
-                return Ok(());
-            }
-            *place = list;
-        }
+        self.places.set(u.get(), list)?;
         if let Some(vertices) = self.lists.get_mut(list) {
             vertices.push(u)?;
             self.first = self.first.min(list);
