@@ -86,18 +86,6 @@ weight_less (p ∷ ps) (suc l) pile there less =
     let same : length p * suc (length (set ps l pile)) ≡ length p * suc (length ps) = ap (λ n. length p * suc n) (length-set ps l pile) in
     omega (arith, rest, same)
 
--- ---- the table of places
-pub standing_grown : (places : List ℕ) (w : ℕ) → slice_index_or (places ++ 264 ∷ []) w 264 ≡ slice_index_or places w 264
-standing_grown [] nought = refl
-standing_grown [] (suc w) = refl
-standing_grown (x ∷ xs) nought = refl
-standing_grown (x ∷ xs) (suc w) = standing_grown xs w
-
-pub standing_within : (places : List ℕ) (u : ℕ) → slice_index_or places u 264 < 264 → u < length places
-standing_within [] u low = absurd (omega (arith, low))
-standing_within (x ∷ xs) nought low = omega arith
-standing_within (x ∷ xs) (suc u) low = let rest = standing_within xs u low in omega (arith, rest)
-
 -- ---- what stands in the lists
 -- no vertex stands before a bound to which lists are empty
 pub none_earlier : (c : Candidates) (bound : ℕ) → IsListing c → bound ≤ c.first → bound ≤ 264 → (w : ℕ) → bound ≤ standing c w
@@ -112,7 +100,7 @@ member_last w u us other =
     member-append w us (u ∷ []) ∙ by_equal w u (λ t e. absurd (other e)) (λ f n. ap (λ b. member w us || (b || false)) f ∙ or-false (member w us))
 
 -- empty lists
-pub listing_begun : (c : Candidates) → length c.lists.items ≡ 264 → c.places.items ≡ [] → c.first ≡ 0 → IsListing c
+pub listing_begun : (c : Candidates) → length c.lists.items ≡ 264 → c.places ≡ [] → c.first ≡ 0 → IsListing c
 listing_begun c count none start = record {
   count = count;
   held = λ u low. absurd (let at = nowhere u in omega (arith, low, at));
@@ -231,12 +219,6 @@ taken_later before middle after l u same light t = record {
 }
 
 -- ---- a vertex is put
--- all stand where they stood, in the same lists
-pub put_nothing : (before after : Candidates) → IsListing before → after.lists ≡ before.lists → after.first ≡ before.first
-    → ((w : ℕ) → standing after w ≡ standing before w) → IsListing after
-put_nothing before after is lists first same =
-    listing_left before after is (λ i. (lists i).items) first (λ w low. same w)
-
 -- u stands nowhere any more
 pub put_nowhere : (before after : Candidates) (u : ℕ) → IsListing before → after.lists ≡ before.lists → after.first ≡ before.first
     → standing after u ≡ 264 → StandElsewhere u before after → IsListing after
@@ -246,19 +228,16 @@ put_nowhere before after u is lists first stands others =
     (λ t e. absurd (let at : standing after w ≡ 264 = subst (λ x. standing after x ≡ 264) (sym e) stands in omega (arith, low, at)))
     (λ f n. others w n))
 
--- the table of places is made long enough, the list gains u, and u stands there
-pub put_in : (before long pushed after : Candidates) (u l : ℕ) → IsListing before → l < 264
-    → long.lists ≡ before.lists → long.first ≡ before.first → ((w : ℕ) → standing long w ≡ standing before w)
-    → pushed.lists.items ≡ set long.lists.items l (pile_at long.lists.items l ++ u ∷ []) → pushed.first ≤ long.first → pushed.first ≤ l
-    → pushed.places ≡ long.places → after.lists ≡ pushed.lists → after.first ≡ pushed.first → standing after u ≡ l → StandElsewhere u pushed after
+-- the list gains u, and u stands there
+pub put_in : (before pushed after : Candidates) (u l : ℕ) → IsListing before → l < 264
+    → pushed.lists.items ≡ set before.lists.items l (pile_at before.lists.items l ++ u ∷ []) → pushed.first ≤ before.first → pushed.first ≤ l
+    → pushed.places ≡ before.places → after.lists ≡ pushed.lists → after.first ≡ pushed.first → standing after u ≡ l → StandElsewhere u pushed after
     → IsListing after
-put_in before long pushed after u l is within lists first same gains low reached places kept first_kept stands others =
+put_in before pushed after u l is within gains low reached places kept first_kept stands others =
     let kept_lists : after.lists.items ≡ pushed.lists.items = λ i. (kept i).items in
-    let long_lists : set long.lists.items l (pile_at long.lists.items l ++ u ∷ []) ≡ set before.lists.items l (pile_at before.lists.items l ++ u ∷ []) =
-    λ i. set (lists i).items l (pile_at (lists i).items l ++ u ∷ []) in
-    let same_places : (w : ℕ) → standing pushed w ≡ standing long w = λ w i. slice_index_or (places i).items w 264 in
-    listing_pushed before after u l is within (kept_lists ∙ gains ∙ long_lists) (omega (arith, first, low, first_kept))
-    (omega (arith, reached, first_kept)) stands (λ w other. others w other ∙ same_places w ∙ same w)
+    let same_places : (w : ℕ) → standing pushed w ≡ standing before w = λ w i. slice_index_or (places i) w 264 in
+    listing_pushed before after u l is within (kept_lists ∙ gains) (omega (arith, low, first_kept))
+    (omega (arith, reached, first_kept)) stands (λ w other. others w other ∙ same_places w)
 
 -- ---- the vertex at the end of the first list is taken out
 pub none_also : {P Q : Type 0} (found : Option ℕ) → (P → Q) → IfNone found P → IfNone found Q
@@ -275,7 +254,7 @@ pub empty_listing : (before after : Candidates) → IsListing before → after.l
 empty_listing before after is lists places first empty = record {
   count = ap length lists ∙ is.count;
   held = λ w low.
-      let same : standing after w ≡ standing before w = λ i. slice_index_or (places i).items w 264 in
+      let same : standing after w ≡ standing before w = λ i. slice_index_or (places i) w 264 in
       ap₂ (λ (ps : List (List ℕ)) s. member w (pile_at ps s)) lists same ∙ is.held w (subst (λ s. s < 264) same low);
   nothing = λ k lt. ap (λ (ps : List (List ℕ)). pile_at ps k) lists
       ∙ by_equal k before.first (λ t e. ap (pile_at before.lists.items) e ∙ empty) (λ f n. is.nothing k (omega (arith, n, lt, first)));
@@ -286,7 +265,7 @@ pub empty_passed : (before after : Candidates) → before.first < 264 → after.
 empty_passed before after within lists places first =
     let same : weight after.lists.items ≡ weight before.lists.items = ap weight lists in
     record {
-      same = λ w i. slice_index_or (places i).items w 264;
+      same = λ w i. slice_index_or (places i) w 264;
       no_heavier = omega (arith, same);
       less = omega (arith, same, first, within);
     }
@@ -297,7 +276,7 @@ module _ (before popped : Candidates) (u : ℕ) (is : IsListing before) (within 
     (last : pile_at before.lists.items before.first ≡ pile_at popped.lists.items before.first ++ u ∷ [])
     (places : popped.places ≡ before.places) (first : popped.first ≡ before.first) where
   still : (w : ℕ) → standing popped w ≡ standing before w
-  still w = λ i. slice_index_or (places i).items w 264
+  still w = λ i. slice_index_or (places i) w 264
 
   lighter : weight popped.lists.items + (264 - before.first) ≡ weight before.lists.items
   lighter = popped_lighter before.lists.items popped.lists.items before.first u (pile_at popped.lists.items before.first) is.count within last lists

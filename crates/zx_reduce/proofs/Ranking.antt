@@ -16,15 +16,15 @@ use Rattle.zx_reduce.specs.Internal.Guiding.{AreRanked, HasFlowIn}
 use Rattle.zx_reduce.specs.Internal.Ranked.{AreRanksAfter}
 
 module _ (vs : List ℕ) (b : ℕ) (before after : Ranks) (out : member b vs ≡ false) (so_far : AreRanked vs before)
-    (same : (w : ℕ) → rank_in after.ranks.items w ≡ ranked b before.high (rank_in before.ranks.items) w)
+    (same : (w : ℕ) → rank_in after.ranks w ≡ ranked b before.high (rank_in before.ranks) w)
     (low : after.low ≡ before.low) (high : after.high ≡ suc before.high) where
   abbrev rank : ℕ → ℕ
-  rank = rank_in before.ranks.items
+  rank = rank_in before.ranks
 
-  of_b : rank_in after.ranks.items b ≡ before.high
+  of_b : rank_in after.ranks b ≡ before.high
   of_b = same b ∙ ranked-self b before.high rank
 
-  of_other : (w : ℕ) → member w vs ≡ true → rank_in after.ranks.items w ≡ rank w
+  of_other : (w : ℕ) → member w vs ≡ true → rank_in after.ranks w ≡ rank w
   of_other w there = same w ∙ ranked_other b before.high rank vs w out there
 
   either : (w : ℕ) → eqb w b ≡ false → member w (vs ++ b ∷ []) ≡ true → member w vs ≡ true
@@ -39,10 +39,10 @@ module _ (vs : List ℕ) (b : ℕ) (before after : Ranks) (out : member b vs ≡
         (λ w there. rw (ranked-self b before.high rank, ranked_other b before.high rank vs w out there) (so_far.below_high w there))
         (rises-ranked b before.high rank vs vs out (λ w there. there) so_far.rises));
     from_low = λ w there. by_equal w b
-        (λ t e. rw (low, ap (rank_in after.ranks.items) e, of_b) so_far.bounds)
+        (λ t e. rw (low, ap (rank_in after.ranks) e, of_b) so_far.bounds)
         (λ f n. rw (low, of_other w (either w f there)) (so_far.from_low w (either w f there)));
     below_high = λ w there. by_equal w b
-        (λ t e. rw (high, ap (rank_in after.ranks.items) e, of_b) (omega arith))
+        (λ t e. rw (high, ap (rank_in after.ranks) e, of_b) (omega arith))
         (λ f n. let bound = so_far.below_high w (either w f there) in rw (high, of_other w (either w f there)) (omega (arith, bound)));
   }
 
@@ -63,30 +63,30 @@ module _ (g h : Graph) (before after : Ranks) (formed : WellFormed g) (has : Has
   pub flow_kept : (s : Step) → is_split s ≡ false → IsStep g s h → HasFlowIn h before
   flow_kept s none step = record {
     bounds = has.bounds;
-    flow = kept_by g s h (rank_in before.ranks.items) before.low before.high formed none step has.flow;
+    flow = kept_by g s h (rank_in before.ranks) before.low before.high formed none step has.flow;
   }
 
-  pub flow_first : (b : ℕ) → IsStep g (SplitInput b) h → ((w : ℕ) → rank_in after.ranks.items w ≡ ranked (new_vertex g) after.low (rank_in before.ranks.items) w) →
+  pub flow_first : (b : ℕ) → IsStep g (SplitInput b) h → ((w : ℕ) → rank_in after.ranks w ≡ ranked (new_vertex g) after.low (rank_in before.ranks) w) →
       before.low ≡ suc after.low → after.high ≡ before.high → HasFlowIn h after
   flow_first b step same low high =
       let below : after.low < before.high = let bounds = has.bounds in omega (arith, bounds, low) in
       record {
         bounds = omega (arith, below, high);
         flow = subst (λ r. HasFlowBy h r after.low after.high) (λ i w. sym (same w) i)
-            (subst (HasFlowBy h (ranked (new_vertex g) after.low (rank_in before.ranks.items)) after.low) (sym high)
-            (first_by g b h (rank_in before.ranks.items) after.low before.high formed step
-            (subst (λ n. HasFlowBy g (rank_in before.ranks.items) n before.high) low has.flow) below));
+            (subst (HasFlowBy h (ranked (new_vertex g) after.low (rank_in before.ranks)) after.low) (sym high)
+            (first_by g b h (rank_in before.ranks) after.low before.high formed step
+            (subst (λ n. HasFlowBy g (rank_in before.ranks) n before.high) low has.flow) below));
       }
 
-  pub flow_last : (b : ℕ) → IsStep g (SplitOutput b) h → ((w : ℕ) → rank_in after.ranks.items w ≡ ranked b before.high (rank_in before.ranks.items) w) →
+  pub flow_last : (b : ℕ) → IsStep g (SplitOutput b) h → ((w : ℕ) → rank_in after.ranks w ≡ ranked b before.high (rank_in before.ranks) w) →
       after.low ≡ before.low → after.high ≡ suc before.high → HasFlowIn h after
   flow_last b step same low high =
       record {
         bounds = let bounds = has.bounds in omega (arith, bounds, low, high);
         flow = subst (λ r. HasFlowBy h r after.low after.high) (λ i w. sym (same w) i)
-            (subst (λ n. HasFlowBy h (ranked b before.high (rank_in before.ranks.items)) n after.high) (sym low)
-            (subst (HasFlowBy h (ranked b before.high (rank_in before.ranks.items)) before.low) (sym high)
-            (last_by g b h (rank_in before.ranks.items) before.low before.high formed step has.flow has.bounds)));
+            (subst (λ n. HasFlowBy h (ranked b before.high (rank_in before.ranks)) n after.high) (sym low)
+            (subst (HasFlowBy h (ranked b before.high (rank_in before.ranks)) before.low) (sym high)
+            (last_by g b h (rank_in before.ranks) before.low before.high formed step has.flow has.bounds)));
       }
 
   -- after any step
@@ -96,7 +96,7 @@ module _ (g h : Graph) (before after : Ranks) (formed : WellFormed g) (has : Has
   flow_after (Delete u) new is step same = subst (HasFlowIn h) (sym same) (flow_kept (Delete u) refl step)
   flow_after (Pivot u v) new is step same = subst (HasFlowIn h) (sym same) (flow_kept (Pivot u v) refl step)
   flow_after (SplitInput b) new is step ranks =
-      flow_first b step (λ w. ranks.0 w ∙ ap (λ n. ranked n after.low (rank_in before.ranks.items) w) is) ranks.1 ranks.2
+      flow_first b step (λ w. ranks.0 w ∙ ap (λ n. ranked n after.low (rank_in before.ranks) w) is) ranks.1 ranks.2
   flow_after (SplitOutput b) new is step ranks = flow_last b step ranks.0 ranks.1 ranks.2
   flow_after (DropLone u) new is step same = subst (HasFlowIn h) (sym same) (flow_kept (DropLone u) refl step)
   flow_after (FuseInto u) new is step same = subst (HasFlowIn h) (sym same) (flow_kept (FuseInto u) refl step)

@@ -17,6 +17,7 @@ use crate::pile::Pile;
 use crate::search::{is_settled, may_begin, move_at};
 use open_graph::{OpenGraph, VertexId};
 use std::alloc::{AllocError, Global};
+use vertex_map::{Values, VertexMap};
 
 // Classes of numbers of neighbours: 0, 1, 2 and 3, 4 to 7, and so on; the last has all from 64 on.
 const CLASSES: usize = 8;
@@ -27,6 +28,19 @@ const WIDE: usize = LEVELS * CLASSES;
 // The lists of all kinds. Those at places 3 and 4 have levels, each other kind has one list.
 const LISTS: usize = 2 * WIDE + 8;
 
+// In which list a vertex stands; LISTS for none.
+pub(crate) struct Standing;
+
+impl Values for Standing {
+    type Value = usize;
+
+    ghost absent = { λ _. 264 };
+
+    fn absent(_: usize) -> usize {
+        LISTS
+    }
+}
+
 /// Vertices at which moves may begin. Each stands in one list at most, that of the first kind of
 /// which a move may begin there; lists of earlier kinds come first. Of kinds that most moves are of
 /// there is a list for each level and class of numbers of neighbours, lower levels first. For each
@@ -36,8 +50,7 @@ const LISTS: usize = 2 * WIDE + 8;
 pub(crate) struct Candidates {
     // What was put into each list. Some of these vertices stand elsewhere by now.
     pub(crate) lists: Vec<Pile>,
-    // By number: the list in which a vertex stands, or LISTS where it stands in none.
-    pub(crate) places: Vec<usize>,
+    pub(crate) places: VertexMap<Standing>,
     pub(crate) levels: Vec<u8>,
     // All lists before this one are empty.
     pub(crate) first: usize,
@@ -52,7 +65,7 @@ impl Candidates {
         let levels = levels_of(alloc, g)?;
         let mut candidates = Candidates {
             lists: empty_lists(alloc)?,
-            places: Vec::new(alloc),
+            places: VertexMap::new(alloc),
             levels,
             first: 0,
         };
@@ -116,7 +129,7 @@ impl Candidates {
         if self.list_of(u) != list {
             return None;
         }
-        self.stand(u, LISTS);
+        self.leave(u);
         Some((list, u))
     }
 
@@ -138,10 +151,7 @@ impl Candidates {
     fn list_of(&self, u: VertexId) -> usize
         ensures { result ≡ standing self.now u }
     {
-        match self.places.get(u.get()) {
-            Some(list) => *list,
-            None => LISTS,
-        }
+        self.places.get(u.get())
     }
 
     /// Adds a vertex of which the plane, the phase, the neighbours or ends near it changed, where
@@ -220,42 +230,38 @@ impl Candidates {
         ensures heavier { OnOk result
             (weight self.new.lists.items ≤ weight self.old.lists.items + (264 - list)) }
     {
-        self.make_place(u)?;
         if self.list_of(u) == list {
             return Ok(());
         }
         if list == LISTS {
-            self.stand(u, list);
+            self.leave(u);
             return Ok(());
         }
         self.push(u, list)?;
-        self.stand(u, list);
+        self.stand(u, list)?;
         Ok(())
     }
 
     // Writes down where a vertex stands, and at which level.
-    fn stand(&mut self, u: VertexId, list: usize)
-        requires { u < length self.old.places.items }
-        ensures stands { standing self.new u ≡ list }
+    fn stand(&mut self, u: VertexId, list: usize) -> Result<(), AllocError>
+        ensures stands { OnOk result (standing self.new u ≡ list) }
+        ensures others { OnOk result (StandElsewhere u self.old self.new) }
+        ensures lists { self.new.lists ≡ self.old.lists }
+        ensures first { self.new.first ≡ self.old.first }
+    {
+        self.places.set(u.get(), list)?;
+        keep_level(&mut self.levels, u, list);
+        Ok(())
+    }
+
+    // A vertex stands in no list from now on.
+    fn leave(&mut self, u: VertexId)
+        ensures stands { standing self.new u ≡ 264 }
         ensures others { StandElsewhere u self.old self.new }
         ensures lists { self.new.lists ≡ self.old.lists }
         ensures first { self.new.first ≡ self.old.first }
     {
-        self.places[u.get()] = list;
-        keep_level(&mut self.levels, u, list);
-    }
-
-    // Makes the table of places long enough for a vertex.
-    fn make_place(&mut self, u: VertexId) -> Result<(), AllocError>
-        ensures long { OnOk result (u < length self.new.places.items) }
-        ensures same { OnOk result ((w : ℕ) → standing self.new w ≡ standing self.old w) }
-        ensures lists { self.new.lists ≡ self.old.lists }
-        ensures first { self.new.first ≡ self.old.first }
-    {
-        while self.places.len() <= u.get() {
-            self.places.push(LISTS)?;
-        }
-        Ok(())
+        self.places.remove(u.get());
     }
 
     // Puts a vertex into a list.

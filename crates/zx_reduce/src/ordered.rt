@@ -39,7 +39,7 @@ impl Model for Ordered {
 
     ghost view = { λ o. record {
       graph = o.graph.graph;
-      ranks = o.order.ranks.items;
+      ranks = o.order.ranks;
       low = o.order.low;
       high = o.order.high;
     } };

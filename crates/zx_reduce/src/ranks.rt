@@ -1,6 +1,6 @@
 //! The order of a flow, told by ranks.
 
-ghost use Rattle.std.specs.Prelude.{◌≡◌, ◌<◌, ℕ, suc, length, IfOk, OnOk};
+ghost use Rattle.std.specs.Prelude.{◌≡◌, ℕ, suc, IfOk, OnOk};
 ghost use Rattle.zx_calculus.specs.Graph.{Graph, Distinct};
 ghost use Rattle.gflow_laws.specs.Flow.{IsFlow};
 ghost use Rattle.move_laws.specs.Ranks.{rank_in, ranked};
@@ -8,16 +8,30 @@ ghost use Rattle.zx_reduce.specs.Internal.Guiding.{AreRanked, HasFlowIn};
 
 use open_graph::VertexId;
 use std::alloc::{AllocError, Global};
+use vertex_map::{Values, VertexMap};
 use zx_flow::Flow;
 
 // The rank at which a list begins: as far from the least rank as from the greatest.
 const MIDDLE: u64 = 9_223_372_036_854_775_808;
 
+// Ranks of vertices, 0 for those that have none.
+pub(crate) struct Rank;
+
+impl Values for Rank {
+    type Value = u64;
+
+    ghost absent = { λ _. 0 };
+
+    fn absent(_: usize) -> u64 {
+        0
+    }
+}
+
 /// A rank for each vertex, at its number. The ranks of the vertices of an order rise along it, from
 /// `low` on and below `high`; the others don't matter.
 #[derive(Drop)]
 pub(crate) struct Ranks {
-    pub(crate) ranks: Vec<u64>,
+    pub(crate) ranks: VertexMap<Rank>,
     pub(crate) low: u64,
     pub(crate) high: u64,
 }
@@ -36,7 +50,7 @@ impl Ranks {
         ensures { IfOk result (AreRanked order.now) }
     {
         let mut made = Ranks {
-            ranks: Vec::new(alloc),
+            ranks: VertexMap::new(alloc),
             low: MIDDLE,
             high: MIDDLE,
         };
@@ -49,13 +63,13 @@ impl Ranks {
     /// Gives a vertex a rank below all others.
     pub(crate) fn add_first(&mut self, v: VertexId) -> Result<(), AllocError>
         ensures ranks { OnOk result ((w : ℕ) →
-            rank_in self.new.ranks.items w ≡ ranked v self.new.low (rank_in self.old.ranks.items) w) }
+            rank_in self.new.ranks w ≡ ranked v self.new.low (rank_in self.old.ranks) w) }
         ensures low { OnOk result (self.old.low ≡ suc self.new.low) }
         ensures high { OnOk result (self.new.high ≡ self.old.high) }
     {
         // Memory for so many vertices runs out long before.
         let low = self.low.checked_sub(1).ok_or(AllocError)?;
-        set_rank(&mut self.ranks, v, low)?;
+        self.ranks.set(v.get(), low)?;
         self.low = low;
         Ok(())
     }
@@ -63,35 +77,14 @@ impl Ranks {
     /// Gives a vertex a rank above all others.
     pub(crate) fn add_last(&mut self, v: VertexId) -> Result<(), AllocError>
         ensures ranks { OnOk result ((w : ℕ) →
-            rank_in self.new.ranks.items w ≡ ranked v self.old.high (rank_in self.old.ranks.items) w) }
+            rank_in self.new.ranks w ≡ ranked v self.old.high (rank_in self.old.ranks) w) }
         ensures low { OnOk result (self.new.low ≡ self.old.low) }
         ensures high { OnOk result (self.new.high ≡ suc self.old.high) }
     {
         // Memory for so many vertices runs out long before.
         let high = self.high.checked_add(1).ok_or(AllocError)?;
-        set_rank(&mut self.ranks, v, self.high)?;
+        self.ranks.set(v.get(), self.high)?;
         self.high = high;
         Ok(())
     }
-}
-
-// Gives a vertex a rank.
-fn set_rank(ranks: &mut Vec<u64>, v: VertexId, rank: u64) -> Result<(), AllocError>
-    ensures { OnOk result ((w : ℕ) →
-        rank_in ranks.new.items w ≡ ranked v rank (rank_in ranks.old.items) w) }
-{
-    make_room(ranks, v)?;
-    ranks[v.get()] = rank;
-    Ok(())
-}
-
-// Makes room for the rank of a vertex.
-fn make_room(ranks: &mut Vec<u64>, v: VertexId) -> Result<(), AllocError>
-    ensures ok { OnOk result (v < length ranks.new.items) }
-    ensures same { (w : ℕ) → rank_in ranks.new.items w ≡ rank_in ranks.old.items w }
-{
-    'grow: while ranks.len() <= v.get() {
-        ranks.push(0)?;
-    }
-    Ok(())
 }

@@ -121,7 +121,7 @@ impl Working {
         requires guided { IsGuided self.now.graph.graph self.now.order self.now.candidates }
         ensures { IfOk result (λ found. IsFlow self.now.graph.graph found.flow) }
     {
-        let table = find_by_rank(self.trace.alloc(), &self.graph, &self.order.ranks)?;
+        let table = find_by_rank(self.trace.alloc(), &self.graph, self.order.ranks.as_slice())?;
         Flow::of_table(&self.graph, table)
     }
 }

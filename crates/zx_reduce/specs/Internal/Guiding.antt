@@ -17,14 +17,14 @@ use Rattle.zx_reduce.specs.declared.ranks.Ranks.{Ranks}
 -- the graph has a flow along the order of these ranks
 pub record HasFlowIn (g : Graph) (order : Ranks) : Type 0 where
   pub bounds : order.low ≤ order.high
-  pub flow : HasFlowBy g (rank_in order.ranks.items) order.low order.high
+  pub flow : HasFlowBy g (rank_in order.ranks) order.low order.high
 
 -- the ranks rise along these vertices
 pub record AreRanked (vs : List ℕ) (order : Ranks) : Type 0 where
   pub bounds : order.low ≤ order.high
-  pub rises : RisesBy (rank_in order.ranks.items) vs
-  pub from_low : (v : ℕ) → member v vs ≡ true → order.low ≤ rank_in order.ranks.items v
-  pub below_high : (v : ℕ) → member v vs ≡ true → rank_in order.ranks.items v < order.high
+  pub rises : RisesBy (rank_in order.ranks) vs
+  pub from_low : (v : ℕ) → member v vs ≡ true → order.low ≤ rank_in order.ranks v
+  pub below_high : (v : ℕ) → member v vs ≡ true → rank_in order.ranks v < order.high
 
 -- the places at which moves of a kind begin
 abbrev pub place_kind : Kind → MoveKind
@@ -62,7 +62,7 @@ pile_at piles l = slice_index_or piles l []
 
 -- the list in which u stands; 264 where it stands in none
 abbrev pub standing : Candidates → ℕ → ℕ
-standing c u = slice_index_or c.places.items u 264
+standing c u = slice_index_or c.places u 264
 
 -- how far what was put into lists is from having left all: in a list each vertex counts as many lists as follow, with
 -- its own

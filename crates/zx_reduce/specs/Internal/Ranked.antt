@@ -8,9 +8,9 @@ use Rattle.zx_reduce.specs.declared.ranks.Ranks.{Ranks}
 -- none
 abbrev pub AreRanksAfter : Step → ℕ → Ranks → Ranks → Type 0
 AreRanksAfter (SplitInput b) new before after =
-    ((w : ℕ) → rank_in after.ranks.items w ≡ ranked new after.low (rank_in before.ranks.items) w)
+    ((w : ℕ) → rank_in after.ranks w ≡ ranked new after.low (rank_in before.ranks) w)
     × (before.low ≡ suc after.low) × (after.high ≡ before.high)
 AreRanksAfter (SplitOutput b) new before after =
-    ((w : ℕ) → rank_in after.ranks.items w ≡ ranked b before.high (rank_in before.ranks.items) w)
+    ((w : ℕ) → rank_in after.ranks w ≡ ranked b before.high (rank_in before.ranks) w)
     × (after.low ≡ before.low) × (after.high ≡ suc before.high)
 AreRanksAfter other new before after = after ≡ before

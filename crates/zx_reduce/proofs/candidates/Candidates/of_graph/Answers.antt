@@ -10,7 +10,7 @@ use Rattle.zx_reduce.proofs.candidates.Candidates.of_graph.Goals as goal
 pub loop-u-init : goal.loop-u-init
 loop-u-init c = record {
   all = search rules;
-  listing = listing_begun _ c.in_ok-empty_lists.ensures.count c.new.ensures.items refl;
+  listing = listing_begun _ c.in_ok-empty_lists.ensures.count c.new.ensures refl;
   listed = λ w there. absurd (true≢false (sym there));
 }
 

@@ -1,6 +1,6 @@
 -- Where nothing is in the list, or what comes out stands elsewhere, all stand where they stood.
 use Rattle.std.proofs.Common.{◌∙◌, ◌+◌, sym, ap, arith}
-use Rattle.zx_reduce.proofs.CandidateLists.{none_popped, empty_listing, empty_passed, elsewhere_listing, elsewhere_passed, taken_listing, taken_out, standing_within}
+use Rattle.zx_reduce.proofs.CandidateLists.{none_popped, empty_listing, empty_passed, elsewhere_listing, elsewhere_passed, taken_listing, taken_out}
 use Rattle.zx_reduce.proofs.candidates.Candidates.take_last.Goals as goal
 
 pub pop-requires : goal.pop-requires
@@ -28,18 +28,14 @@ returns-then-list_of-list-clause-passed c =
     elsewhere_passed c.args.self.now c.pop.new.self c.in-Some.u c.requires.listing c.requires.within c.pop.ensures.lists c.in-Some.ensures.popped
     c.pop.ensures.places c.pop.ensures.first
 
-pub stand-requires : goal.stand-requires
-stand-requires c =
-    standing_within c.pop.new.self.places.items c.in-Some.u (omega (arith, c.list_of.ensures, c.if-list_of-list.false, c.requires.within))
-
 pub returns-clause-listing : goal.returns-clause-listing
 returns-clause-listing c =
     taken_listing c.args.self.now c.pop.new.self c.in-Some.u c.requires.listing c.requires.within c.pop.ensures.lists c.in-Some.ensures.popped
-    c.pop.ensures.places c.pop.ensures.first c.stand.new.self c.stand.ensures.lists c.stand.ensures.first c.stand.ensures.stands
-    c.stand.ensures.others
+    c.pop.ensures.places c.pop.ensures.first c.leave.new.self c.leave.ensures.lists c.leave.ensures.first c.leave.ensures.stands
+    c.leave.ensures.others
 
 pub returns-clause-taken : goal.returns-clause-taken
 returns-clause-taken c =
     taken_out c.args.self.now c.pop.new.self c.in-Some.u c.requires.listing c.requires.within c.pop.ensures.lists c.in-Some.ensures.popped
-    c.pop.ensures.places c.pop.ensures.first c.stand.new.self c.stand.ensures.lists (sym c.list_of.ensures ∙ c.if-list_of-list.false)
-    c.stand.ensures.others
+    c.pop.ensures.places c.pop.ensures.first c.leave.new.self c.leave.ensures.lists (sym c.list_of.ensures ∙ c.if-list_of-list.false)
+    c.leave.ensures.others

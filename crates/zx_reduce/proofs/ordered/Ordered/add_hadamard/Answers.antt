@@ -52,7 +52,7 @@ returns-clause-gate c =
 pub returns-clause-ordered : goal.returns-clause-ordered
 returns-clause-ordered c =
     let order = c.self.inside.order in
-    let before : Ordered = record { graph = c.self.inside.graph.graph; ranks = order.ranks.items; low = order.low; high = order.high } in
+    let before : Ordered = record { graph = c.self.inside.graph.graph; ranks = order.ranks; low = order.low; high = order.high } in
     let back = sym c.self.view_is in
     λ o. ordered_spider c.in_ok-next.next c.args.q c.present-here.result before _
     (subst (λ (o : Ordered). are_plain o.graph.outputs ≡ true) back c.requires.plain)
