@@ -1,5 +1,5 @@
 -- The last vertex takes the place of an output.
-use Rattle.std.proofs.Common.{◌≡◌, ◌≢◌, refl, sym, ◌∙◌, ap, ap₂, subst, ℕ, ◌+◌, ◌≤◌, Bool, true, false, not, ◌&&◌, ◌||◌, eqb, eqb-true, eq-eqb, ne_eqb, List, [], ◌∷◌, filter, length, length-append, set, true≢false, arith}
+use Rattle.std.proofs.Common.{◌≡◌, ◌≢◌, refl, sym, ◌∙◌, ap, ap₂, subst, ℕ, ◌+◌, ◌≤◌, Bool, true, false, not, ◌&&◌, ◌||◌, eqb, eqb-true, eq-eqb, ne_eqb, List, [], ◌∷◌, filter, length, set, true≢false, arith}
 use Rattle.std.specs.Prelude.{slice_get}
 use Rattle.std.proofs.Math.ListN.{length-set}
 use Rattle.std.proofs.lemmas.List.Elements.{All-cons, All-nil}
@@ -8,7 +8,7 @@ use Rattle.zx_calculus.specs.Graph.{XY, Kind, Vertex, ids, kind_of, plane_of, jo
 use Rattle.zx_calculus.specs.Worked.{plain}
 use Rattle.zx_calculus.specs.Counts.{not_XY, XY_without_output}
 use Rattle.zx_calculus.proofs.Booleans.{and-false, and-true}
-use Rattle.zx_calculus.proofs.Ids.{and-left, and-right, eqb-self, member-filter, member-removed_other}
+use Rattle.zx_calculus.proofs.Ids.{eqb-self, member-removed_other}
 use Rattle.zx_calculus.proofs.Forms.{ids-without}
 use Rattle.zx_calculus.proofs.Vertices.{kind_of-without}
 use Rattle.zx_calculus.proofs.Splitting.{distinct, distinct_without}
@@ -28,45 +28,43 @@ use Rattle.circuit_laws.proofs.Taken.{advanced_formed, advanced_gates, advanced_
 use Rattle.zx_extract.specs.Internal.Leading.{State, Leads, IsReady, IsFrontier, IsSettled}
 use Rattle.zx_extract.specs.Internal.Steps.{IsAdvanced, HasOneOutput}
 use Rattle.zx_extract.proofs.Places.{one_output, member-places_set}
-use Rattle.zx_extract.proofs.Lasts.{length-order}
+use Rattle.zx_extract.proofs.Lasts.{one_shorter}
 use Rattle.zx_extract.proofs.Rows.{same_sets_back}
+use Rattle.zx_extract.proofs.WithoutVertex.{stays, ids_left, phase_left, plane_left, planes_left}
 use Rattle.zx_extract.proofs.LastVertex.{last_live, last_no_output, only_neighbour, link_no_input}
 use Rattle.std.proofs.lemmas.Option.{slice_get_within}
 
-module _ (s : State) (v q : ℕ) (t : State) (r : IsReady s) (f : IsFrontier s.graph) (plane : plane_of s.graph v ≡ XY)
+module _ {s t : State} {v q : ℕ} (r : IsReady s) (f : IsFrontier s.graph) (plane : plane_of s.graph v ≡ XY)
     (one : HasOneOutput s q) (a : IsAdvanced s v q t) where
   abbrev u : ℕ
   u = a.advance.spider
 
   leaf : (w : ℕ) → joined s.graph.edges u w ≡ eqb w v
-  leaf = only_neighbour s v r f a.last q u one a.advance.output plane
+  leaf = only_neighbour r f a.last q one a.advance.output plane
 
   next_is : a.advance.next ≡ v
   next_is = eqb-true a.advance.next v (sym (leaf a.advance.next) ∙ a.advance.only_neighbour a.advance.next
       ∙ eqb-self a.advance.next)
 
   no_input : member u (end_vertices s.graph.inputs) ≡ false
-  no_input = link_no_input s v r f a.last q u one a.advance.output
+  no_input = link_no_input r f a.last q one a.advance.output
 
   formed : WellFormed t.graph
   formed = advanced_formed s.graph q t.graph r.given.well_formed a.advance no_input (ap (plane_of s.graph) next_is
       ∙ plane)
-      (ap (λ x. member x (end_vertices s.graph.outputs)) next_is ∙ last_no_output s v r f a.last)
+      (ap (λ x. member x (end_vertices s.graph.outputs)) next_is ∙ last_no_output r f a.last)
 
   outputs_are : t.graph.outputs ≡ set s.graph.outputs q (plain v)
   outputs_are = a.advance.outputs ∙ ap (λ x. set s.graph.outputs q (plain x)) next_is
 
-  stays : (x : ℕ) → member x (filter (different u) (ids s.graph.vertices)) ≡ true → x ≢ u
-  stays x within e = true≢false (sym (and-right (member x (ids s.graph.vertices)) (different u x)
-      (sym (member-filter (different u) (ids s.graph.vertices) x) ∙ within)) ∙ ap not (eq-eqb u x (sym e)))
+  beside_u : (x : ℕ) → member x (filter (different u) (ids s.graph.vertices)) ≡ true → x ≢ u
+  beside_u = stays s.graph t.graph u a.advance.vertices
 
   alike : Alike (advanced (seen s.graph) u a.last.entry.vertex) (seen t.graph)
   alike = record {
-    ids = λ x. ap (member x) (filter-removed u (ids s.graph.vertices) ∙ sym (ids-without u s.graph.vertices)
-        ∙ ap ids (sym a.advance.vertices));
-    adjacent = λ x y in_x in_y. sym (a.advance.edges x y (stays x in_x) (stays y in_y));
-    plane = λ x within. sym (ap (λ vs. (kind_of vs x).plane) a.advance.vertices
-        ∙ ap (λ (k : Kind). k.plane) (kind_of-without x u s.graph.vertices (stays x within)));
+    ids = ids_left s.graph t.graph u a.advance.vertices;
+    adjacent = λ x y in_x in_y. sym (a.advance.edges x y (beside_u x in_x) (beside_u y in_y));
+    plane = plane_left s.graph t.graph u a.advance.vertices;
     input = λ x _. ap (λ es. member x (end_vertices es)) (sym a.advance.inputs);
     output = λ x _. ap (λ y. eqb x y || (member x (end_vertices s.graph.outputs) && different u x)) a.last.vertex
         ∙ sym (ap (λ es. member x (end_vertices es)) outputs_are
@@ -87,10 +85,7 @@ module _ (s : State) (v q : ℕ) (t : State) (r : IsReady s) (f : IsFrontier s.g
       flow = flow-same_sets t.graph (advanced_table u a.last.before) t.table (same_sets_back a.table)
           (advanced_flow s.graph a.last.before a.last.entry u t.graph r.given.well_formed formed alike leaf_output
           (subst (IsFlow s.graph) a.last.split r.given.flow));
-      planes = λ x live e.
-          let within : member x (filter (different u) (ids s.graph.vertices)) ≡ true = alike.ids x ∙ live in
-          r.given.planes x (and-left _ _ (sym (member-filter (different u) (ids s.graph.vertices) x) ∙ within))
-          (alike.plane x within ∙ e);
+      planes = planes_left s.graph t.graph u a.advance.vertices r.given.planes;
       few = subst (λ n. n ≤ most_qubits) (sym (ap length outputs_are ∙ length-set s.graph.outputs q (plain v)))
           r.given.few;
     };
@@ -104,14 +99,11 @@ module _ (s : State) (v q : ℕ) (t : State) (r : IsReady s) (f : IsFrontier s.g
 
   v_stays : v ≢ u
   v_stays e = true≢false (sym (member-places s.graph.outputs q (plain u) a.advance.output)
-      ∙ ap (λ x. member x (end_vertices s.graph.outputs)) (sym e) ∙ last_no_output s v r f a.last)
-
-  kind_left : (x : ℕ) → x ≢ u → kind_of (without u s.graph.vertices) x ≡ kind_of s.graph.vertices x
-  kind_left x n = kind_of-without x u s.graph.vertices n
+      ∙ ap (λ x. member x (end_vertices s.graph.outputs)) (sym e) ∙ last_no_output r f a.last)
 
   v_left : member v (ids (without u s.graph.vertices)) ≡ true
   v_left = ap (member v) (ids-without u s.graph.vertices) ∙ member-removed_other v u (ids s.graph.vertices) v_stays
-      ∙ last_live s v r f a.last
+      ∙ last_live r f a.last
 
   others_left : not_XY t.graph ≡ not_XY s.graph
   others_left = ap (λ (vs : List Vertex). count (λ p k. not (is_XY k.plane)) vs) a.advance.vertices
@@ -143,8 +135,8 @@ module _ (s : State) (v q : ℕ) (t : State) (r : IsReady s) (f : IsFrontier s.g
       count_apart after before v (without u s.graph.vertices)
       (distinct_without s.graph u r.given.well_formed) v_left same in
       let at_v : one_if (before v (kind_of (without u s.graph.vertices) v)) ≡ 1 =
-      ap₂ (λ b c. one_if (b && not c)) (ap (λ (k : Kind). is_XY k.plane) (kind_left v v_stays) ∙ ap is_XY plane)
-      (last_no_output s v r f a.last) in
+      ap₂ (λ b c. one_if (b && not c)) (ap (λ (k : Kind). is_XY k.plane) (kind_of-without v u s.graph.vertices v_stays) ∙ ap is_XY plane)
+      (last_no_output r f a.last) in
       let off_v : one_if (after v (kind_of (without u s.graph.vertices) v)) ≡ 0 =
       ap (λ c. one_if (is_XY (kind_of (without u s.graph.vertices) v).plane && not c)) v_output
       ∙ ap one_if (and-false (is_XY (kind_of (without u s.graph.vertices) v).plane)) in
@@ -167,7 +159,7 @@ module _ (s : State) (v q : ℕ) (t : State) (r : IsReady s) (f : IsFrontier s.g
           (ap (λ es. member p (end_vertices es)) outputs_are
           ∙ member-places_set s.graph.outputs q u v p r.given.well_formed.outputs.one_each a.advance.output
           ∙ ap₂ (λ b c. b || (member p (end_vertices s.graph.outputs) && not c)) (ne_eqb p v n)
-          (ne_eqb u p (λ e. stays p (in_rest p within) (sym e)))
+          (ne_eqb u p (λ e. beside_u p (in_rest p within) (sym e)))
           ∙ and-true (member p (end_vertices s.graph.outputs)))
         where
           in_rest : (p : ℕ) → member p (ids (without u s.graph.vertices)) ≡ true →
@@ -206,8 +198,7 @@ module _ (s : State) (v q : ℕ) (t : State) (r : IsReady s) (f : IsFrontier s.g
     phase = λ p w picked o.
         let other : p ≢ q = picks p picked in
         let there : HasPlainOutput s.graph p w = at_other p w other o in
-        ap (λ vs. (kind_of vs w).phase) a.advance.vertices
-        ∙ ap (λ (k : Kind). k.phase) (kind_left w (off_u p w other there)) ∙ f.phase p w refl there;
+        phase_left s.graph t.graph u a.advance.vertices w (off_u p w other there) ∙ f.phase p w refl there;
     apart = λ p p' picked picked' w w' o o'.
         let there : HasPlainOutput s.graph p w = at_other p w (picks p picked) o in
         let there' : HasPlainOutput s.graph p' w' = at_other p' w' (picks p' picked') o' in
@@ -219,10 +210,5 @@ module _ (s : State) (v q : ℕ) (t : State) (r : IsReady s) (f : IsFrontier s.g
       picks p t e = true≢false (sym t ∙ ap not (eq-eqb p q e))
 
   pub advanced_shorter : length t.table + 1 ≡ length s.table
-  advanced_shorter = fewer _ _ _ _ (sym (length-order t.table))
-      (ap length (a.table.order ∙ order_of-with_sets (λ w members. filter (different u) members) a.last.before)
-      ∙ length-order a.last.before)
-      (ap length a.last.split ∙ length-append a.last.before (a.last.entry ∷ []))
-    where
-      fewer : (new order old all : ℕ) → new ≡ order → order ≡ old → all ≡ old + 1 → new + 1 ≡ all
-      fewer new order old all e f g = omega arith
+  advanced_shorter = one_shorter t.table a.last.before s.table a.last.entry
+      (a.table.order ∙ order_of-with_sets (λ w members. filter (different u) members) a.last.before) a.last.split

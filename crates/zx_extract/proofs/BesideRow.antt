@@ -98,7 +98,7 @@ module _ (s : State) (q i v : ℕ) (d : State) (b : IsGatheredBesideRow s q i d)
         output = at_added;
         output_too = at_to;
         phase = b.gathered.rows.frontier.phase i a.added refl at_added;
-        no_input = picked_no_input b.whole v b.gathered.rows.ready b.gathered.rows.frontier whole_last a.added
+        no_input = picked_no_input b.gathered.rows.ready b.gathered.rows.frontier whole_last a.added
             (member-places b.whole.graph.outputs i (plain a.added) at_added) in_set;
         not_adjacent = b.gathered.rows.frontier.apart i q refl refl a.added a.to at_added at_to;
         vertices = refl;
@@ -180,7 +180,7 @@ module _ (s : State) (v q : ℕ) (d : State) (b : IsGatheredBesideRow s q (lengt
     (last : HasLast s.table v) (plane : plane_of s.graph v ≡ YZ) where
   pub beside_live : Live d.graph v
   beside_live = ap (λ vs. member v (ids vs)) b.alike.vertices
-      ∙ last_live b.whole v b.gathered.rows.ready b.gathered.rows.frontier
+      ∙ last_live b.gathered.rows.ready b.gathered.rows.frontier
       (whole_last s q (length s.graph.outputs) v d b last)
 
   module _ (h : State) (a : IsRowReplaced d v q h) where
@@ -191,15 +191,15 @@ module _ (s : State) (v q : ℕ) (d : State) (b : IsGatheredBesideRow s q (lengt
     still_YZ = ap (λ vs. (kind_of vs v).plane) b.gathered.rows.same ∙ plane
 
     v_apart : v ≢ a.link
-    v_apart e = u_apart b.whole v b.gathered.rows.ready b.gathered.rows.frontier
-        (whole_last s q (length s.graph.outputs) v d b last) q a.link (gathered_all s q b.whole b.gathered) at_link (sym e)
+    v_apart e = u_apart b.gathered.rows.ready b.gathered.rows.frontier
+        (whole_last s q (length s.graph.outputs) v d b last) q (gathered_all s q b.whole b.gathered) at_link (sym e)
 
     row_is : (w : ℕ) → w ≢ a.link → joined h.graph.edges a.link w ≡ joined b.whole.graph.edges a.link w
     row_is w n = a.row w n
         ∙ ap₂ (λ x y. x && not y) (b.alike.edges a.link v w at_link v_apart n)
         (ap (λ es. member w (end_vertices es)) b.alike.outputs)
-        ∙ sym (linked b.whole v b.gathered.rows.ready b.gathered.rows.frontier
-        (whole_last s q (length s.graph.outputs) v d b last) q a.link (gathered_all s q b.whole b.gathered) at_link still_YZ w)
+        ∙ sym (linked b.gathered.rows.ready b.gathered.rows.frontier
+        (whole_last s q (length s.graph.outputs) v d b last) q (gathered_all s q b.whole b.gathered) at_link still_YZ w)
 
     edges_same : (p w : ℕ) → p ≢ w → joined h.graph.edges p w ≡ joined b.whole.graph.edges p w
     edges_same p w n = by_equal p a.link

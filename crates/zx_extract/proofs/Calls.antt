@@ -2,17 +2,18 @@
 use Rattle.std.proofs.Common.{◌≡◌, ◌≢◌, refl, sym, ◌∙◌, ap, ap₂, subst, ℕ, Bool, true, false, not, eqb, ne_eqb, List, ◌∷◌, ◌++◌, set, true≢false, le_of_eq, arith}
 use Rattle.std.specs.Prelude.{slice_get, Some, Result, Ok, Err, OnOk, IfOk}
 use Rattle.zx_model.specs.Bits.{xor, one_if}
-use Rattle.zx_calculus.specs.Graph.{XY, Plane, Kind, End, Graph, kind_of, joined, with_kinds}
+use Rattle.zx_calculus.specs.Graph.{XY, Plane, Kind, End, Graph, kind_of, joined, with_kinds, Live}
 use Rattle.zx_calculus.specs.Turns.{in_plane}
 use Rattle.zx_calculus.specs.Edits.{is_pair, IsToggle, at_vertex}
 use Rattle.zx_calculus.specs.Worked.{plain}
 use Rattle.zx_calculus.proofs.Ids.{by_equal}
 use Rattle.zx_calculus.proofs.Splitting.{no_loop}
 use Rattle.zx_calculus.proofs.Edits.{with_kinds-at}
+use Rattle.zx_calculus.proofs.StepIdentities.{toggled_back}
 use Rattle.zx_gates.specs.declared.gate.Gate.TheVariants.{H, Cz}
 use Rattle.zx_gates.specs.Lowering.{phase_gates}
 use Rattle.circuit_laws.specs.Peeling.{HasPlainOutput, IsEdgePeel, marked}
-use Rattle.circuit_laws.proofs.Places.{first_is, slice_get-set, slice_get-set_other, output_plane}
+use Rattle.circuit_laws.proofs.Places.{first_is, slice_get-set, slice_get-set_other, output_there, output_plane}
 use Rattle.zx_extract.specs.Internal.Lists.{IsPlainAt}
 use Rattle.zx_extract.specs.Internal.Leading.{IsGiven, Leads, State, IsReady}
 use Rattle.zx_extract.specs.Internal.Steps.{IsMarkTaken, IsPhaseTaken, IsEdgeTaken, IsUnjoined}
@@ -34,29 +35,6 @@ marked_end e h = at e.vertex e.hadamard h
     at : (v : ℕ) (b : Bool) → b ≡ true → record { vertex = v; hadamard = b } ≡ marked v
     at v b h = ap (λ c. record { vertex = v; hadamard = c }) h
 
-pub mark_taken : (s : State) (q : ℕ) (e : End) (g : Graph) (t : State) → slice_get s.graph.outputs q ≡ Some e →
-    e.hadamard ≡ true →
-    g ≡ record {
-      vertices = s.graph.vertices;
-      edges = s.graph.edges;
-      inputs = s.graph.inputs;
-      outputs =
-          set s.graph.outputs q (plain e.vertex);
-    } →
-    t ≡ record { graph = g; table = s.table; gates = H q ∷ s.gates } → IsMarkTaken s q t
-mark_taken s q e g t at_q had moved is = record {
-  peel = record {
-    vertex = e.vertex;
-    output = at_q ∙ ap Some (marked_end e had);
-    vertices = sym (ap (λ (r : State). r.graph.vertices) is ∙ ap (λ (h : Graph). h.vertices) moved);
-    edges = sym (ap (λ (r : State). r.graph.edges) is ∙ ap (λ (h : Graph). h.edges) moved);
-    inputs = sym (ap (λ (r : State). r.graph.inputs) is ∙ ap (λ (h : Graph). h.inputs) moved);
-    outputs = ap (λ (r : State). r.graph.outputs) is ∙ ap (λ (h : Graph). h.outputs) moved;
-  };
-  table = ap (λ (r : State). r.table) is;
-  gates = ap (λ (r : State). r.gates) is;
-}
-
 pub plain_here : (es : List End) (q : ℕ) (e : End) → slice_get es q ≡ Some e → e.hadamard ≡ false → IsPlainAt es q
 plain_here es q e at_q off d at_q' = ap (λ (c : End). c.hadamard) (first_is d e (sym at_q' ∙ at_q)) ∙ off
 
@@ -69,57 +47,54 @@ plain_others es q v e at_q p was d at_p = by_equal p q
     (λ _ same. plain_set es q v e at_q d (ap (slice_get (set es q (plain v))) (sym same) ∙ at_p))
     (λ _ n. was d (sym (slice_get-set_other es q p (plain v) n) ∙ at_p))
 
--- the output was moved to a plain end at its own vertex
-pub mark_step : (s : State) (q i : ℕ) (e moved_end : End) (g : Graph) (t : State) → IsGiven s →
-    slice_get s.graph.outputs q ≡ Some e → e.hadamard ≡ true → i ≡ q → moved_end ≡ plain e.vertex →
-    g ≡ record {
-      vertices = s.graph.vertices;
-      edges = s.graph.edges;
-      inputs = s.graph.inputs;
-      outputs =
-          set s.graph.outputs i moved_end;
-    } →
-    t ≡ record { graph = g; table = s.table; gates = H q ∷ s.gates } → Leads s 1 0 0 t × IsGiven t
-mark_step s q i e moved_end g t given at_q had place same moved is =
-    (mark_leads s q t given step, mark_given s q t given step)
+-- the output at q was moved to a plain end at its own vertex
+pub record IsUnmarked (s : State) (q : ℕ) (t : State) : Type 0 where
+  pub leads : Leads s 1 0 0 t
+  pub given : IsGiven t
+  pub plain : IsPlainAt t.graph.outputs q
+  pub others : (p : ℕ) → IsPlainAt s.graph.outputs p → IsPlainAt t.graph.outputs p
+
+pub unmarked : {s t : State} {q : ℕ} {e : End} {g : Graph} → IsGiven s → slice_get s.graph.outputs q ≡ Some e →
+    e.hadamard ≡ true → g ≡ record s.graph { outputs = set s.graph.outputs q (plain e.vertex) } →
+    t ≡ record { graph = g; table = s.table; gates = H q ∷ s.gates } → IsUnmarked s q t
+unmarked {s} {t} {q} {e} given at_q had moved is = record {
+  leads = mark_leads s q t given step;
+  given = mark_given s q t given step;
+  plain = subst (λ es. IsPlainAt es q) (sym outputs) (plain_set s.graph.outputs q e.vertex e at_q);
+  others = λ p was. subst (λ es. IsPlainAt es p) (sym outputs) (plain_others s.graph.outputs q e.vertex e at_q p was);
+}
   where
+    is_graph : t.graph ≡ record s.graph { outputs = set s.graph.outputs q (plain e.vertex) }
+    is_graph = ap (λ (r : State). r.graph) is ∙ moved
+
+    outputs : t.graph.outputs ≡ set s.graph.outputs q (plain e.vertex)
+    outputs = ap (λ (h : Graph). h.outputs) is_graph
+
     step : IsMarkTaken s q t
-    step = mark_taken s q e g t at_q had
-        (moved ∙ ap₂ (λ j d. record {
-          vertices = s.graph.vertices;
-          edges = s.graph.edges;
-          inputs =
-              s.graph.inputs;
-          outputs = set s.graph.outputs j d;
-        }) place same) is
-
-pub mark_plain : (s : State) (q : ℕ) (e : End) (g : Graph) (t : State) → slice_get s.graph.outputs q ≡ Some e →
-    g.outputs ≡ set s.graph.outputs q (plain e.vertex) →
-    t ≡ record { graph = g; table = s.table; gates = H q ∷ s.gates } → IsPlainAt t.graph.outputs q
-mark_plain s q e g t at_q moved is =
-    subst (λ es. IsPlainAt es q) (sym (ap (λ (r : State). r.graph.outputs) is ∙ moved))
-    (plain_set s.graph.outputs q e.vertex e at_q)
-
-pub mark_others : (s : State) (q : ℕ) (e : End) (g : Graph) (t : State) → slice_get s.graph.outputs q ≡ Some e →
-    g.outputs ≡ set s.graph.outputs q (plain e.vertex) →
-    t ≡ record { graph = g; table = s.table; gates = H q ∷ s.gates } → (p : ℕ) → IsPlainAt s.graph.outputs p →
-    IsPlainAt t.graph.outputs p
-mark_others s q e g t at_q moved is p was =
-    subst (λ es. IsPlainAt es p) (sym (ap (λ (r : State). r.graph.outputs) is ∙ moved))
-    (plain_others s.graph.outputs q e.vertex e at_q p was)
+    step = record {
+      peel = record {
+        vertex = e.vertex;
+        output = at_q ∙ ap Some (marked_end e had);
+        vertices = sym (ap (λ (h : Graph). h.vertices) is_graph);
+        edges = sym (ap (λ (h : Graph). h.edges) is_graph);
+        inputs = sym (ap (λ (h : Graph). h.inputs) is_graph);
+        outputs = outputs;
+      };
+      table = ap (λ (r : State). r.table) is;
+      gates = ap (λ (r : State). r.gates) is;
+    }
 
 -- ---- a phase
-pub phase_taken : (s : State) (q u k zero_phase : ℕ) (plane : Plane) (g : Graph) (t : State) → IsReady s →
+pub output_live : {s : State} {u : ℕ} (q : ℕ) → IsReady s → HasPlainOutput s.graph q u → Live s.graph u
+output_live {s} {u} q r at_q = output_there s.graph q (plain u) r.given.well_formed at_q
+
+pub phase_taken : {s t : State} {u k zero_phase : ℕ} {plane : Plane} {g : Graph} (q : ℕ) → IsReady s →
     HasPlainOutput s.graph q u → in_plane plane k ≡ kind_of s.graph.vertices u → zero_phase ≡ 0 →
-    g ≡ record {
+    g ≡ record s.graph {
       vertices = with_kinds (at_vertex u (λ _. in_plane plane zero_phase)) s.graph.vertices;
-      edges =
-          s.graph.edges;
-      inputs = s.graph.inputs;
-      outputs = s.graph.outputs;
     } →
     t ≡ record { graph = g; table = s.table; gates = phase_gates q k ++ s.gates } → IsPhaseTaken s q t
-phase_taken s q u k zero_phase plane g t r at_q weight none set is = record {
+phase_taken {s} {t} {u} q r at_q weight none set is = record {
   cleared = record {
     vertex = u;
     output = at_q;
@@ -137,13 +112,13 @@ phase_taken s q u k zero_phase plane g t r at_q weight none set is = record {
 }
 
 -- the plane that an output's weight has
-pub weight_plane : (s : State) (q u : ℕ) (plane : Plane) (k : ℕ) → IsReady s → HasPlainOutput s.graph q u →
+pub weight_plane : {s : State} {u k : ℕ} {plane : Plane} (q : ℕ) → IsReady s → HasPlainOutput s.graph q u →
     in_plane plane k ≡ kind_of s.graph.vertices u → plane ≡ XY
-weight_plane s q u plane k r at_q weight = ap (λ (kind : Kind). kind.plane) weight
+weight_plane {s} {u} q r at_q weight = ap (λ (kind : Kind). kind.plane) weight
     ∙ output_plane s.graph q (plain u) r.given.well_formed at_q
 
 -- ---- an edge
-module _ (s : State) (p q u v : ℕ) (r : IsReady s) (at_p : HasPlainOutput s.graph p u)
+module _ {s : State} {u v : ℕ} (p q : ℕ) (r : IsReady s) (at_p : HasPlainOutput s.graph p u)
     (at_q : HasPlainOutput s.graph q v) where
   pub unjoined_already : joined s.graph.edges u v ≡ false → IsUnjoined s p q s
   unjoined_already off = record {
@@ -159,9 +134,9 @@ module _ (s : State) (p q u v : ℕ) (r : IsReady s) (at_p : HasPlainOutput s.gr
     places_differ : p ≢ q
     places_differ e = ends_differ (one_vertex s.graph q u v (subst (λ k. HasPlainOutput s.graph k u) e at_p) at_q)
 
-    pub edge_taken : (g : Graph) (t : State) → IsToggle s.graph u v g →
+    pub edge_taken : {g : Graph} {t : State} → IsToggle s.graph u v g →
         t ≡ record { graph = g; table = s.table; gates = Cz p q ∷ s.gates } → IsUnjoined s p q t
-    edge_taken g t toggle is = record {
+    edge_taken {g} {t} toggle is = record {
       settles = settles_within s 1 (one_if (not (eqb p q))) t
           (le_of_eq (ap (λ b. one_if (not b)) (sym (ne_eqb p q places_differ)))) (edge_settles s p q t r step);
       apart = edge_gone s p q t r step;
@@ -177,19 +152,13 @@ module _ (s : State) (p q u v : ℕ) (r : IsReady s) (at_p : HasPlainOutput s.gr
           vertices = sym toggle.vertices;
           ordered_too = toggle.frame.ordered;
           edges = λ a b _. sym (ap (λ c. xor c (is_pair u v a b)) (toggle.edges a b)
-              ∙ twice (joined s.graph.edges a b) (is_pair u v a b));
+              ∙ toggled_back (joined s.graph.edges a b) (is_pair u v a b));
           frame = record {
             ordered = r.given.well_formed.edges;
             inputs = sym toggle.frame.inputs;
             outputs = sym toggle.frame.outputs;
           };
         }
-          where
-            twice : (a b : Bool) → xor (xor a b) b ≡ a
-            twice true true = refl
-            twice true false = refl
-            twice false true = refl
-            twice false false = refl
 
         taken : IsEdgeTaken s p q (record { graph = g; table = s.table; gates = Cz p q ∷ s.gates })
         taken = record { peel = peel; there = near; table = refl; gates = refl }

@@ -274,52 +274,46 @@ removed_alone old new v members cleared alone s p =
     ∙ gone (eqb s v) false (holds old s p) (holds old v p) (λ t. ap (λ u. holds old u p) (eqb-true s v t))
     ∙ ap (λ b. xor (holds old s p) (holds old v p && b)) (or-false (eqb s v) ∙ sym (alone s))
 
--- the sets and the order after the last vertex went
-pub record Taken (new : List VertexSet) (rest : List ℕ) (before : List Correction) (e : Correction) : Type 0 where
+-- the sets and the order after the last vertex of a table went
+pub record Taken (new : List VertexSet) (rest : List ℕ) (table : List Correction) : Type 0 where
   pub ordered : IsOrdered rest new
-  pub sets : SameSets (table_from new rest) (last_removed_table e before)
+  pub sets : (before : List Correction) (e : Correction) → table ≡ before ++ e ∷ [] →
+      SameSets (table_from new rest) (last_removed_table e before)
 
-taken : (old new : List VertexSet) (order rest : List ℕ) (v : ℕ) (before : List Correction) (e : Correction) →
-    order ≡ rest ++ v ∷ [] → IsOrdered order old → table_from old order ≡ before ++ e ∷ [] →
-    is_in e.members e.vertex ≡ true → (e.vertex ≡ v → IsRemoved e.vertex e.members old new) →
-    Taken new rest before e
-taken old new order rest v before e is ordered table own removed =
-    record {
-      ordered = subst (λ l. IsOrdered l new) (sym parts.0) (ordered_removed old new order before e gone_now ordered at own);
-      sets = subst (λ l. SameSets (table_from new l) (last_removed_table e before)) (sym parts.0)
-          (SameSets-removed old new order before e gone_now at);
-    }
-  where
-    long : length order ≡ length rest + 1
-    long = ap length is ∙ length_push rest v
+module _ {old new : List VertexSet} {order rest : List ℕ} {table : List Correction} (v : ℕ)
+    (is : order ≡ rest ++ v ∷ []) (ordered : IsOrdered order old) (seen : table_from old order ≡ table) where
+  taken : (before : List Correction) (e : Correction) → table ≡ before ++ e ∷ [] →
+      is_in e.members e.vertex ≡ true → (e.vertex ≡ v → IsRemoved e.vertex e.members old new) → Taken new rest table
+  taken before e split own removed = record {
+    ordered = subst (λ l. IsOrdered l new) (sym parts.0) (ordered_removed old new order before e gone_now ordered at own);
+    sets = λ front d split'.
+        let same = same_from_push before front e d (sym split ∙ split') in
+        subst (SameSets (table_from new rest)) (ap₂ last_removed_table same.1 same.0)
+        (subst (λ l. SameSets (table_from new l) (last_removed_table e before)) (sym parts.0)
+        (SameSets-removed old new order before e gone_now at));
+  }
+    where
+      parts : (rest ≡ take (length order - 1) order) × (v ≡ get_or order (length order - 1) 0)
+      parts = same_from_push _ _ _ _ (sym is ∙ split_last order (omega (arith, ap length is ∙ length_push rest v)))
 
-    parts : (rest ≡ take (length order - 1) order) × (v ≡ get_or order (length order - 1) 0)
-    parts = same_from_push _ _ _ _ (sym is ∙ split_last order (omega (arith, long)))
+      at : Cut old order before e
+      at = cut old order before e (seen ∙ split)
 
-    at : Cut old order before e
-    at = cut old order before e table
+      gone_now : IsRemoved e.vertex e.members old new
+      gone_now = removed (at.vertex ∙ sym parts.1)
 
-    gone_now : IsRemoved e.vertex e.members old new
-    gone_now = removed (at.vertex ∙ sym parts.1)
+  pub taken_alone : (before : List Correction) × (e : Correction) × (table ≡ before ++ e ∷ [])
+      × ((y : ℕ) → is_in e.members y ≡ eqb y e.vertex) → IsCleared v old new → Taken new rest table
+  taken_alone (before, e, split, alone) cleared = taken before e split (alone e.vertex ∙ eqb-self e.vertex)
+      (λ same. removed_alone old new e.vertex e.members (subst (λ u. IsCleared u old new) (sym same) cleared) alone)
 
-pub taken_alone : (old new : List VertexSet) (order rest : List ℕ) (v : ℕ) (before : List Correction)
-    (e : Correction) → order ≡ rest ++ v ∷ [] → IsOrdered order old →
-    table_from old order ≡ before ++ e ∷ [] →
-    IsCleared v old new → ((y : ℕ) → is_in e.members y ≡ eqb y e.vertex) → Taken new rest before e
-taken_alone old new order rest v before e is ordered table cleared alone =
-    taken old new order rest v before e is ordered table (alone e.vertex ∙ eqb-self e.vertex)
-    (λ same. removed_alone old new e.vertex e.members (subst (λ u. IsCleared u old new) (sym same) cleared) alone)
-
-pub taken_linked : (old mid new : List VertexSet) (order rest : List ℕ) (x v : ℕ) (before : List Correction)
-    (e : Correction) → order ≡ rest ++ v ∷ [] → IsOrdered order old →
-    table_from old order ≡ before ++ e ∷ [] →
-    AreToggledAt x (set_at old v) old mid → IsCleared v mid new → ((y : ℕ) → is_in e.members y ≡ (eqb y e.vertex || eqb y x)) →
-    Taken new rest before e
-taken_linked old mid new order rest x v before e is ordered table toggled cleared linked =
-    taken old new order rest v before e is ordered table (linked e.vertex
-    ∙ ap (λ b. b || eqb e.vertex x) (eqb-self e.vertex))
-    (λ same. removed_linked old mid new x e.vertex e.members (subst (λ u. AreToggledAt x (set_at old u) old mid) (sym same) toggled)
-    (subst (λ u. IsCleared u mid new) (sym same) cleared) linked)
+  pub taken_linked : {mid : List VertexSet} {x : ℕ} → (before : List Correction) × (e : Correction)
+      × (table ≡ before ++ e ∷ []) × ((y : ℕ) → is_in e.members y ≡ (eqb y e.vertex || eqb y x)) →
+      AreToggledAt x (set_at old v) old mid → IsCleared v mid new → Taken new rest table
+  taken_linked {mid} {x} (before, e, split, linked) toggled cleared = taken before e split
+      (linked e.vertex ∙ ap (λ b. b || eqb e.vertex x) (eqb-self e.vertex))
+      (λ same. removed_linked old mid new x e.vertex e.members (subst (λ u. AreToggledAt x (set_at old u) old mid) (sym same) toggled)
+      (subst (λ u. IsCleared u mid new) (sym same) cleared) linked)
 
 -- the order cut at its last vertex
 pub cut_last : (order rest : List ℕ) (v : ℕ) → Some v ≡ slice_get order (length order - 1) →

@@ -22,7 +22,7 @@ use Rattle.zx_extract.specs.Internal.Steps.{HasLast, HasNoOutput, HasOneOutput}
 use Rattle.zx_extract.proofs.Places.{place_of_output, one_vertex}
 use Rattle.zx_extract.proofs.Lasts.{last_set-entry}
 
-module _ (s : State) (v : ℕ) (r : IsReady s) (f : IsFrontier s.graph) (last : HasLast s.table v) where
+module _ {s : State} {v : ℕ} (r : IsReady s) (f : IsFrontier s.graph) (last : HasLast s.table v) where
   flow : IsFlow s.graph (last.before ++ last.entry ∷ [])
   flow = subst (IsFlow s.graph) last.split r.given.flow
 
@@ -84,7 +84,7 @@ module _ (s : State) (v : ℕ) (r : IsReady s) (f : IsFrontier s.graph) (last : 
       r.given.well_formed.edges.higher_there out
 
   -- ---- with one output in the set
-  module _ (q u : ℕ) (one : HasOneOutput s q) (o : HasPlainOutput s.graph q u) where
+  module _ (q : ℕ) {u : ℕ} (one : HasOneOutput s q) (o : HasPlainOutput s.graph q u) where
     at_u : member u (end_vertices s.graph.outputs) ≡ true
     at_u = member-places s.graph.outputs q (record { vertex = u; hadamard = false }) o
 

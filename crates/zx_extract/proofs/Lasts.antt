@@ -1,5 +1,5 @@
 -- The last correction of a table.
-use Rattle.std.proofs.Common.{◌≡◌, refl, sym, ◌∙◌, ap, ap₂, subst, ℕ, suc, false, ◌&&◌, eqb, List, [], ◌∷◌, ◌++◌, length}
+use Rattle.std.proofs.Common.{◌≡◌, refl, sym, ◌∙◌, ap, ap₂, subst, ℕ, suc, false, ◌&&◌, eqb, List, [], ◌∷◌, ◌++◌, ◌+◌, length, length-append}
 use Rattle.zx_model.specs.Bits.{xor, member}
 use Rattle.zx_calculus.specs.Graph.{Distinct}
 use Rattle.gflow_laws.specs.Flow.{Correction, order_of, set_of, is_in, SameSets}
@@ -63,6 +63,15 @@ last_set-same table other v same last once w =
     last_set-vertex other v (keeps_last table other v same.order last) (subst Distinct (sym same.order) once) w
     ∙ same.members v w ∙ sym (last_set-vertex table v last once w)
 
-pub length-order : (table : List Correction) → length (order_of table) ≡ length table
+length-order : (table : List Correction) → length (order_of table) ≡ length table
 length-order [] = refl
 length-order (e ∷ es) = ap suc (length-order es)
+
+pub as_long : (s t : List Correction) → order_of t ≡ order_of s → length t ≡ length s
+as_long s t e = sym (length-order t) ∙ ap length e ∙ length-order s
+
+-- a table with the order of all but the last
+pub one_shorter : (table before all : List Correction) (e : Correction) → order_of table ≡ order_of before →
+    all ≡ before ++ e ∷ [] → length table + 1 ≡ length all
+one_shorter table before all e order split =
+    ap (λ n. n + 1) (as_long before table order) ∙ sym (ap length split ∙ length-append before (e ∷ []))

@@ -59,7 +59,9 @@ leads_then s k p q t l p' q' u a b = record {
     both_gone : (x y z p q : ℕ) → y + p ≡ x → z + q ≡ y → z + (p + q) ≡ x
     both_gone x y z p q e f = omega arith
 
-unfoldable pub leads_within : (s : State) (k p q l : ℕ) (t : State) → k ≤ l → Leads s k p q t → Leads s l p q t
+-- within a larger bound; the flow plays no part
+unfoldable pub leads_within : (s : State) (k p q l : ℕ) (t : State) {table : List Correction} → k ≤ l → Leads s k p q t →
+    Leads s l p q (record t { table = table })
 leads_within s k p q l t within a = record {
   taken = a.taken;
   gates = a.gates;
@@ -102,21 +104,3 @@ leads_same s t k taken gates map odd on few XY others inputs = record {
   where
     none_gone : (x y : ℕ) → x ≡ y → x + 0 ≡ y
     none_gone x y e = omega arith
-
--- the flow plays no part
-pub leads_table : (s : State) (k p q : ℕ) (t : State) (table : List Correction) → Leads s k p q t →
-    Leads s k p q (record { graph = t.graph; table = table; gates = t.gates })
-leads_table s k p q t table a = record {
-  taken = a.taken;
-  gates = a.gates;
-  doublings = a.doublings;
-  map = a.map;
-  few_doublings = a.few_doublings;
-  odd = a.odd;
-  on_qubits = a.on_qubits;
-  few = a.few;
-  XY = a.XY;
-  others = a.others;
-  inputs = a.inputs;
-  outputs = a.outputs;
-}

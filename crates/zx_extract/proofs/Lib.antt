@@ -9,6 +9,7 @@ mod Legs
 mod Calls
 mod RowToggles
 mod LastVertex
+mod WithoutVertex
 mod SharedLegs
 mod BesideRow
 mod Advancing

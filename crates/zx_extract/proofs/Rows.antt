@@ -137,9 +137,9 @@ module _ (s : State) (c t : ℕ) (h : State) (r : IsReady s) (f : IsFrontier s.g
 pub others_below-more : (q i : ℕ) → i ≢ q → others_below q i + 1 ≤ others_below q (i + 1)
 others_below-more q i n = grind (arith, nat_tests)
 
-pub adds_nothing : (s : State) → IsReady s → IsFrontier s.graph → AddsRows s 0 s
-adds_nothing s r f = record {
-  leads = leads_nothing s;
+pub adds_nothing : (s : State) (k : ℕ) → IsReady s → IsFrontier s.graph → AddsRows s k s
+adds_nothing s k r f = record {
+  leads = leads_within s 0 0 0 k s (omega arith) (leads_nothing s);
   ready = r;
   frontier = f;
   order = refl;
@@ -147,10 +147,11 @@ adds_nothing s r f = record {
   ends = refl;
 }
 
-pub adds_row : (s : State) (k : ℕ) (t : State) (c q : ℕ) (h : State) → AddsRows s k t → IsRowAdded t c q h →
-    AddsRows s (k + 1) h
-adds_row s k t c q h b a = record {
-  leads = leads_then s k 0 0 t 1 0 0 h b.leads (row_leads t c q h b.ready b.frontier a);
+pub adds_row : (s : State) (k l : ℕ) (t : State) (c q : ℕ) (h : State) → k + 1 ≤ l → AddsRows s k t → IsRowAdded t c q h →
+    AddsRows s l h
+adds_row s k l t c q h within b a = record {
+  leads = leads_within s (k + 1) 0 0 l h within
+      (leads_then s k 0 0 t 1 0 0 h b.leads (row_leads t c q h b.ready b.frontier a));
   ready = row_ready t c q h b.ready b.frontier a;
   frontier = row_frontier t c q h b.ready b.frontier a;
   order = row_order t c q h b.ready b.frontier a ∙ b.order;
@@ -158,19 +159,9 @@ adds_row s k t c q h b a = record {
   ends = sym a.row.frame.outputs ∙ b.ends;
 }
 
-adds_within : (s : State) (k l : ℕ) (t : State) → k ≤ l → AddsRows s k t → AddsRows s l t
-adds_within s k l t within b = record {
-  leads = leads_within s k 0 0 l t within b.leads;
-  ready = b.ready;
-  frontier = b.frontier;
-  order = b.order;
-  same = b.same;
-  ends = b.ends;
-}
-
 pub gathered_nothing : (s : State) (q : ℕ) → IsReady s → IsFrontier s.graph → IsPicked s q → IsGathered s q 0 s
 gathered_nothing s q r f picked = record {
-  rows = adds_within s 0 (others_below q 0) s (omega arith) (adds_nothing s r f);
+  rows = adds_nothing s (others_below q 0) r f;
   itself = picked.there;
   gone = λ p u within. absurd (omega arith);
 }
@@ -180,8 +171,7 @@ pub gathered_row : (s : State) (q i v : ℕ) (t h : State) → IsGathered s q i 
     HasPlainOutput t.graph i u → last_set t.table u ≡ true →
     IsRowAdded t i q h → IsGathered s q (i + 1) h
 gathered_row s q i v t h g last n u o there a = record {
-  rows = adds_within s (others_below q i + 1) (others_below q (i + 1)) h (others_below-more q i n)
-      (adds_row s (others_below q i) t i q h g.rows a);
+  rows = adds_row s (others_below q i) (others_below q (i + 1)) t i q h (others_below-more q i n) g.rows a;
   itself = λ w at_q. let here : HasPlainOutput t.graph q w = ap (λ es. slice_get es q) a.row.frame.outputs ∙ at_q in
       sets w ∙ ap₂ (λ b c. xor b (c && eqb w a.row.added)) (g.itself w here) to_there
       ∙ ap not (ne_eqb w a.row.added (λ e. a.row.different (sym e

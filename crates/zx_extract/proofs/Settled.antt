@@ -13,6 +13,7 @@ use Rattle.zx_calculus.proofs.Edges.{joined_comm}
 use Rattle.zx_calculus.proofs.Vertices.{ids-with_kinds}
 use Rattle.zx_calculus.proofs.Splitting.{no_loop}
 use Rattle.zx_calculus.proofs.Splits.{is_pair-self}
+use Rattle.zx_calculus.proofs.StepIdentities.{toggled_back}
 use Rattle.gflow_laws.specs.Seen.{seen}
 use Rattle.gflow_laws.specs.Flow.{IsFlow}
 use Rattle.gflow_laws.specs.Outputs.{toggled}
@@ -183,13 +184,7 @@ module _ (s : State) (p q : ℕ) (t : State) (r : IsReady s) (c : IsEdgeTaken s 
   edges_toggled : (u v : ℕ) → u ≢ v → xor (joined s.graph.edges u v)
       (is_pair c.peel.first c.peel.second u v) ≡ joined t.graph.edges u v
   edges_toggled u v n = ap (λ b. xor b (is_pair c.peel.first c.peel.second u v)) (c.peel.edges u v n)
-      ∙ twice (joined t.graph.edges u v) (is_pair c.peel.first c.peel.second u v)
-    where
-      twice : (a b : Bool) → xor (xor a b) b ≡ a
-      twice true true = refl
-      twice true false = refl
-      twice false true = refl
-      twice false false = refl
+      ∙ toggled_back (joined t.graph.edges u v) (is_pair c.peel.first c.peel.second u v)
 
   is_toggled : Alike (toggled (seen s.graph) c.peel.first c.peel.second) (seen t.graph)
   is_toggled = record {

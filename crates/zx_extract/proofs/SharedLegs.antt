@@ -40,7 +40,7 @@ module _ (t : State) (v z l : ℕ) (h : State) (r : IsReady t) (f : IsFrontier t
       edges_are t z l h r f a v u
       ∙ ap₂ (λ x y. xor (joined t.graph.edges v u) (xor (x && joined t.graph.edges a.row.added u) (y && eqb a.row.to u)))
       (ne_eqb a.row.to v (λ e. true≢false (sym (member-places t.graph.outputs l (plain a.row.to) a.row.output_too)
-      ∙ ap (λ x. member x (end_vertices t.graph.outputs)) e ∙ last_no_output t v r f last)))
+      ∙ ap (λ x. member x (end_vertices t.graph.outputs)) e ∙ last_no_output r f last)))
       (joined_comm t.graph.edges a.row.added v ∙ ap (joined t.graph.edges v) added_is ∙ spare.near)
 
   pub lost : joined h.graph.edges v a.row.to ≡ false
@@ -88,7 +88,7 @@ module _ (t : State) (v z l : ℕ) (h : State) (r : IsReady t) (f : IsFrontier t
 pub takes_nothing : (s : State) (v : ℕ) → IsReady s → IsFrontier s.graph → AreLegsFree s v → TakesLegs s v s
 takes_nothing s v r f free = record {
   count = 0;
-  rows = adds_nothing s r f;
+  rows = adds_nothing s _ r f;
   fewer = omega arith;
   stays = λ u. refl;
   free = free;
@@ -111,7 +111,7 @@ module _ (s : State) (v z i : ℕ) (t : State) (c : IsLegShared s v z i t) (last
   shared_row w h o near a = record {
     taken = record {
       count = c.taken.count + 1;
-      rows = adds_row s c.taken.count t z i h c.taken.rows a;
+      rows = adds_row s c.taken.count (c.taken.count + 1) t z i h (omega arith) c.taken.rows a;
       fewer = omega (
         arith,
         c.taken.fewer,

@@ -13,20 +13,19 @@ use Rattle.zx_calculus.proofs.Ids.{and-left, and-right}
 use Rattle.open_graph.specs.Planes.{plane_named}
 use Rattle.open_graph.specs.declared.plane.Plane.{Plane}
 use Rattle.open_graph.specs.declared.plane.Plane.TheVariants.{XY, XZ, YZ}
-use Rattle.gflow_laws.specs.Flow.{Correction, order_of}
 use Rattle.circuit_laws.specs.Peeling.{HasPlainOutput}
 use Rattle.circuit_laws.proofs.Places.{member-places}
 use Rattle.zx_extract.specs.Internal.Lists.{others_below, legs_of}
 use Rattle.zx_extract.specs.Internal.Leading.{State, Leads, IsReady, IsFrontier, IsTaken, cost_of}
 use Rattle.zx_extract.specs.Internal.Steps.{IsGathered, HasLast, HasNoOutput, HasOneOutput, AreLegs, AreLegsFree, TakesLegs, IsGadgetTaken, IsLinkedGadgetTaken, IsAdvanced, IsSettling}
-use Rattle.zx_extract.proofs.Lasts.{keeps_last, length-order}
+use Rattle.zx_extract.proofs.Lasts.{keeps_last, as_long}
 use Rattle.zx_extract.proofs.SettledOutputs.{settled_whole}
 use Rattle.zx_extract.proofs.Places.{place_of_output}
 use Rattle.zx_extract.proofs.Legs.{member-legs, legs_few, legs_fewer}
 use Rattle.zx_extract.proofs.Rows.{gathered_all}
 use Rattle.zx_extract.proofs.LastVertex.{link_not_adjacent}
 use Rattle.zx_extract.proofs.Advancing.{advanced_ready, advanced_leads, advanced_settled, advanced_shorter}
-use Rattle.zx_extract.proofs.Removing.{gadget_leads, gadget_ready, gadget_frontier, gadget_shorter, linked_leads, linked_ready, linked_frontier, linked_shorter}
+use Rattle.zx_extract.proofs.Removing.{removed_ready, removed_frontier, removed_shorter, removed_leads, gadget_gone, gadget_leads, linked_gone, linked_leads}
 use Rattle.zx_extract.proofs.Leads.{leads_nothing, leads_then, leads_within}
 
 pub taken_nothing : (s : State) → IsReady s → IsFrontier s.graph → IsTaken 0 s s
@@ -120,12 +119,9 @@ taken_spider s q t u w within g advanced settled r f =
     cost : (n others : ℕ) → q < n → others ≡ n - 1 → others + (1 + (1 + others)) ≤ 2 * n * 1 + 3 * n * 0
     cost n others within e = omega arith
 
-as_long : (s t : List Correction) → order_of t ≡ order_of s → length t ≡ length s
-as_long s t e = sym (length-order t) ∙ ap length e ∙ length-order s
-
 -- ---- the steps
 -- the last vertex after rows of legs were added
-module _ (s : State) (v : ℕ) (t : State) (last : HasLast s.table v) (legs : TakesLegs s v t) where
+module _ {s t : State} {v : ℕ} (last : HasLast s.table v) (legs : TakesLegs s v t) where
   pub legs_last : HasLast t.table v
   legs_last = keeps_last s.table t.table v legs.rows.order last
 
@@ -138,31 +134,31 @@ module _ (s : State) (v : ℕ) (t : State) (last : HasLast s.table v) (legs : Ta
   pub legs_plane : (plane : graph.Plane) → plane_of s.graph v ≡ plane → plane_of t.graph v ≡ plane
   legs_plane plane e = ap (λ vs. (kind_of vs v).plane) legs.rows.same ∙ e
 
-pub none_free : (s : State) (v : ℕ) → IsReady s → HasNoOutput s → AreLegsFree s v
-none_free s v r none u there =
+pub none_free : {s : State} (v : ℕ) → IsReady s → HasNoOutput s → AreLegsFree s v
+none_free {s} v r none u there =
     let place : (p : ℕ) × HasPlainOutput s.graph p u =
     place_of_output s.graph.outputs u r.plain (and-left _ _ (sym (member-legs s.graph v u) ∙ there)) in
     none place.0 u place.1
 
-pub gadget_taken : (s : State) (v : ℕ) (t u : State) → TakesLegs s v t →
+pub gadget_taken : {s t u : State} {v : ℕ} → TakesLegs s v t →
     ((qubits : List ℕ) × AreLegs t.graph v qubits × IsGadgetTaken t v qubits u) →
     IsTaken 1 s u × (length u.table + 1 ≡ length s.table)
-unfolding gadget_leads
-gadget_taken s v t u legs a = (
-  taken_gadget s v t u legs (gadget_leads t v a.0 u legs.rows.ready legs.rows.frontier a.1 a.2) refl
-      (gadget_ready t v a.0 u legs.rows.ready legs.rows.frontier a.1 a.2)
-      (gadget_frontier t v a.0 u legs.rows.ready legs.rows.frontier a.1 a.2),
-  gadget_shorter t v a.0 u legs.rows.ready legs.rows.frontier a.1 a.2 ∙ as_long s.table t.table legs.rows.order,
-)
+unfolding gadget_leads removed_leads
+gadget_taken {s} {t} {u} {v} legs a =
+    let gone = gadget_gone legs.rows.ready legs.rows.frontier a.2 in (
+      taken_gadget s v t u legs (gadget_leads legs.rows.ready legs.rows.frontier a.2 a.1) refl
+          (removed_ready gone) (removed_frontier gone),
+      removed_shorter gone ∙ as_long s.table t.table legs.rows.order,
+    )
 
-pub named_YZ : (g : graph.Graph) (v : ℕ) (named : Plane) (k : ℕ) → in_plane (plane_named named) k ≡ kind_of g.vertices v →
+pub named_YZ : (g : graph.Graph) (v : ℕ) {k : ℕ} {named : Plane} → in_plane (plane_named named) k ≡ kind_of g.vertices v →
     named ≡ YZ → plane_of g v ≡ graph.YZ
-named_YZ g v named k weight e = sym (ap (λ (kind : graph.Kind). kind.plane) weight) ∙ ap plane_named e
+named_YZ g v weight e = sym (ap (λ (kind : graph.Kind). kind.plane) weight) ∙ ap plane_named e
 
 -- no vertex is in the XZ plane
-pub named_XY : (s : State) (v : ℕ) (named : Plane) (k : ℕ) → IsReady s → Live s.graph v →
+pub named_XY : {s : State} {k : ℕ} {named : Plane} (v : ℕ) → IsReady s → Live s.graph v →
     in_plane (plane_named named) k ≡ kind_of s.graph.vertices v → named ≢ YZ → plane_of s.graph v ≡ graph.XY
-named_XY s v named k r live weight not_YZ =
+named_XY {s} {named = named} v r live weight not_YZ =
     at named (plane_of s.graph v) (ap (λ (kind : graph.Kind). kind.plane) weight) not_YZ (r.given.planes v live)
   where
     at : (named : Plane) (plane : graph.Plane) → plane_named named ≡ plane → named ≢ YZ → plane ≢ graph.XZ →
@@ -171,8 +167,7 @@ named_XY s v named k r live weight not_YZ =
     at XZ plane e n m = absurd (m (sym e))
     at YZ plane e n m = absurd (n refl)
 
-module _ (s : State) (v q : ℕ) (t : State) (within : q < length s.graph.outputs) (last : HasLast s.table v)
-    (g : IsGathered s q (length s.graph.outputs) t) where
+module _ {s t : State} {v q : ℕ} (last : HasLast s.table v) (g : IsGathered s q (length s.graph.outputs) t) where
   pub still_last : HasLast t.table v
   still_last = keeps_last s.table t.table v g.rows.order last
 
@@ -191,45 +186,43 @@ module _ (s : State) (v q : ℕ) (t : State) (within : q < length s.graph.output
         let place : (p : ℕ) × HasPlainOutput t.graph p u =
         place_of_output t.graph.outputs u g.rows.ready.plain (and-left _ _ parts) in
         one_left place.0 u place.1 ∙ ne_eqb place.0 q (λ e. true≢false (sym (and-right _ _ parts)
-        ∙ link_not_adjacent t v g.rows.ready g.rows.frontier still_last q u one_left
+        ∙ link_not_adjacent g.rows.ready g.rows.frontier still_last q one_left
         (subst (λ k. HasPlainOutput t.graph k u) e place.1) still_YZ))
 
-    pub linked_taken : (u w : State) → TakesLegs t v u →
+    pub linked_taken : {u w : State} → q < length s.graph.outputs → TakesLegs t v u →
         ((qubits : List ℕ) × AreLegs u.graph v qubits × IsLinkedGadgetTaken u v q qubits w) →
         IsTaken 0 s w × (length w.table + 1 ≡ length s.table)
-    unfolding linked_leads
-    linked_taken u w legs a = (
-      taken_linked s q v t u w within g fewer legs
-          (linked_leads u v q a.0 w legs.rows.ready legs.rows.frontier a.1 a.2) refl
-          (linked_ready u v q a.0 w legs.rows.ready legs.rows.frontier a.1 a.2)
-          (linked_frontier u v q a.0 w legs.rows.ready legs.rows.frontier a.1 a.2),
-      linked_shorter u v q a.0 w legs.rows.ready legs.rows.frontier a.1 a.2
-          ∙ as_long t.table u.table legs.rows.order ∙ as_long s.table t.table g.rows.order,
-    )
+    unfolding linked_leads removed_leads
+    linked_taken {u} {w} within legs a =
+        let gone = linked_gone legs.rows.ready legs.rows.frontier a.2 in (
+          taken_linked s q v t u w within g fewer legs
+              (linked_leads legs.rows.ready legs.rows.frontier a.2 a.1) refl (removed_ready gone) (removed_frontier gone),
+          removed_shorter gone ∙ as_long t.table u.table legs.rows.order ∙ as_long s.table t.table g.rows.order,
+        )
       where
         at_link : HasPlainOutput t.graph q a.2.peel.link
         at_link = ap (λ es. slice_get es q) (sym legs.rows.ends) ∙ a.2.peel.output
 
         fewer : length (legs_of t.graph v) + 1 ≤ length t.graph.outputs
         fewer = legs_fewer t.graph v a.2.peel.link (member-places t.graph.outputs q (plain a.2.peel.link) at_link)
-            (link_not_adjacent t v g.rows.ready g.rows.frontier still_last q a.2.peel.link one_left at_link still_YZ)
+            (link_not_adjacent g.rows.ready g.rows.frontier still_last q one_left at_link still_YZ)
 
   module _ (plane : plane_of s.graph v ≡ graph.XY) where
     pub still_XY : plane_of t.graph v ≡ graph.XY
     still_XY = ap (λ vs. (kind_of vs v).plane) g.rows.same ∙ plane
 
-    module _ (u : State) (a : IsAdvanced t v q u) where
+    module _ {u : State} (a : IsAdvanced t v q u) where
       pub spider_ready : IsReady u
-      spider_ready = advanced_ready t v q u g.rows.ready g.rows.frontier still_XY one_left a
+      spider_ready = advanced_ready g.rows.ready g.rows.frontier still_XY one_left a
 
-      pub spider_taken : (w : State) → IsSettling u q (length u.graph.outputs) w →
+      pub spider_taken : {w : State} → q < length s.graph.outputs → IsSettling u q (length u.graph.outputs) w →
           IsTaken 0 s w × (length w.table + 1 ≡ length s.table)
-      spider_taken w c = (
-        taken_spider s q t u w within g (advanced_leads t v q u g.rows.ready g.rows.frontier still_XY one_left a)
+      spider_taken {w} within c = (
+        taken_spider s q t u w within g (advanced_leads g.rows.ready g.rows.frontier still_XY one_left a)
             c.settles.leads c.settles.ready
-            (settled_whole u q w (advanced_settled t v q u g.rows.ready g.rows.frontier still_XY one_left a) c),
+            (settled_whole u q w (advanced_settled g.rows.ready g.rows.frontier still_XY one_left a) c),
         ap (λ table. length table + 1) c.settles.table
-            ∙ advanced_shorter t v q u g.rows.ready g.rows.frontier still_XY one_left a ∙ as_long s.table t.table g.rows.order,
+            ∙ advanced_shorter g.rows.ready g.rows.frontier still_XY one_left a ∙ as_long s.table t.table g.rows.order,
       )
 
 -- the sum is doubled no more often than there are vertices that aren't XY

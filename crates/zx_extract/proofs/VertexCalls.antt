@@ -35,9 +35,9 @@ pub record IsNext (s d : State) (v q u : ℕ) : Type 0 where
   pub one : HasOneOutput s q
   pub output : HasPlainOutput s.graph q u
 
-pub next_of : (s d : State) (v q u : ℕ) (g : IsGatheredBesideRow s q (length s.graph.outputs) d) → HasLast s.table v →
+pub next_of : {s d : State} {v q u : ℕ} (g : IsGatheredBesideRow s q (length s.graph.outputs) d) → HasLast s.table v →
     plane_of s.graph v ≡ XY → HasPlainOutput d.graph q u → IsNext g.whole d v q u
-next_of s d v q u g last plane o = record {
+next_of {s} {d} {v} {q} g last plane o = record {
   alike = g.alike;
   ready = g.gathered.rows.ready;
   frontier = g.gathered.rows.frontier;
@@ -47,92 +47,77 @@ next_of s d v q u g last plane o = record {
   output = ap (λ es. slice_get es q) (sym g.alike.outputs) ∙ o;
 }
 
-module _ (s d : State) (v q u : ℕ) (n : IsNext s d v q u) where
+module _ {s d : State} {v q u : ℕ} (n : IsNext s d v q u) where
   pub next_live : Live d.graph v
-  next_live = ap (λ vs. member v (ids vs)) n.alike.vertices ∙ last_live s v n.ready n.frontier n.last
+  next_live = ap (λ vs. member v (ids vs)) n.alike.vertices ∙ last_live n.ready n.frontier n.last
 
   pub free : (i : ℕ) → member v (end_vertices (remove d.graph.outputs i)) ≡ false
-  free i = ap (λ es. member v (end_vertices (remove es i))) n.alike.outputs ∙ absent-remove v s.graph.outputs i (last_no_output s v n.ready n.frontier n.last)
-
-  pub spider_live : (g : Graph) → g ≡ record {
-    vertices = d.graph.vertices;
-    edges = d.graph.edges;
-    inputs =
-        d.graph.inputs;
-    outputs = set d.graph.outputs q (plain v);
-  } → Live g u
-  spider_live g moved = ap (λ (h : Graph). member u (ids h.vertices)) moved
-      ∙ ap (λ vs. member u (ids vs)) n.alike.vertices ∙ output_there s.graph q (plain u) n.ready.given.well_formed n.output
-
-  pub spider_interior : (g : Graph) → g ≡ record {
-    vertices = d.graph.vertices;
-    edges = d.graph.edges;
-    inputs =
-        d.graph.inputs;
-    outputs = set d.graph.outputs q (plain v);
-  } → Interior g u
-  spider_interior g moved = record {
-    no_input = ap (λ (h : Graph). member u (end_vertices h.inputs)) moved
-        ∙ ap (λ es. member u (end_vertices es)) n.alike.inputs ∙ link_no_input s v n.ready n.frontier n.last q u n.one n.output;
-    no_output = ap (λ (h : Graph). member u (end_vertices h.outputs)) moved
-        ∙ ap (λ es. member u (end_vertices (set es q (plain v)))) n.alike.outputs ∙ member-places_set s.graph.outputs q u v u n.ready.given.well_formed.outputs.one_each n.output
-        ∙ ap₂ (λ a b. a || (member u (end_vertices s.graph.outputs) && not b)) (ne_eqb u v (u_apart s v n.ready n.frontier n.last q u n.one n.output))
-        (eqb-self u) ∙ and-false (member u (end_vertices s.graph.outputs));
-  }
+  free i = ap (λ es. member v (end_vertices (remove es i))) n.alike.outputs
+      ∙ absent-remove v s.graph.outputs i (last_no_output n.ready n.frontier n.last)
 
   pub advance_set : (before : List Correction) × (e : Correction) × (d.table ≡ before ++ e ∷ []) × ((y : ℕ) →
       is_in e.members y ≡ eqb y u)
-  advance_set = (n.last.before, n.last.entry, n.alike.table ∙ n.last.split, set_is_XY s v n.ready n.frontier n.last q u n.one n.output n.plane)
+  advance_set = (n.last.before, n.last.entry, n.alike.table ∙ n.last.split, set_is_XY n.ready n.frontier n.last q n.one n.output n.plane)
 
-  pub advanced_step : (g h : Graph) (table : List Correction) (t : State) →
-      g ≡ record {
-        vertices = d.graph.vertices;
-        edges = d.graph.edges;
-        inputs = d.graph.inputs;
-        outputs =
-            set d.graph.outputs q (plain v);
-      } →
-      IsRemoval g u h → ((before : List Correction) (e : Correction) → d.table ≡ before ++ e ∷ [] →
-      SameSets table (advanced_table u before)) →
-      t ≡ record { graph = h; table = table; gates = H q ∷ d.gates } → IsAdvanced s v q t
-  advanced_step g h table t moved removal sets is = subst (IsAdvanced s v q) (sym is) (record {
-    last = n.last;
-    advance = record {
-      spider = u;
-      next = v;
-      output = n.output;
-      phase = n.frontier.phase q u refl n.output;
-      only_neighbour = only_neighbour s v n.ready n.frontier n.last q u n.one n.output n.plane;
-      vertices = removal.vertices ∙ ap (λ (k : Graph). without u k.vertices) moved ∙ ap (without u) n.alike.vertices;
-      ordered = removal.frame.ordered;
-      edges = λ p w x y. removal.edges p w x y ∙ ap (λ (k : Graph). joined k.edges p w) moved
-          ∙ n.alike.edges u p w n.output x y;
-      inputs = removal.frame.inputs ∙ ap (λ (k : Graph). k.inputs) moved ∙ n.alike.inputs;
-      outputs = removal.frame.outputs ∙ ap (λ (k : Graph). k.outputs) moved
-          ∙ ap (λ es. set es q (plain v)) n.alike.outputs;
-    };
-    table = sets n.last.before n.last.entry (n.alike.table ∙ n.last.split);
-    gates = ap (λ gs. H q ∷ gs) n.alike.gates;
-  })
+  -- the output moved to v
+  module _ {g : Graph} (moved : g ≡ record d.graph { outputs = set d.graph.outputs q (plain v) }) where
+    pub spider_live : Live g u
+    spider_live = ap (λ (h : Graph). member u (ids h.vertices)) moved
+        ∙ ap (λ vs. member u (ids vs)) n.alike.vertices ∙ output_there s.graph q (plain u) n.ready.given.well_formed n.output
+
+    pub spider_interior : Interior g u
+    spider_interior = record {
+      no_input = ap (λ (h : Graph). member u (end_vertices h.inputs)) moved
+          ∙ ap (λ es. member u (end_vertices es)) n.alike.inputs ∙ link_no_input n.ready n.frontier n.last q n.one n.output;
+      no_output = ap (λ (h : Graph). member u (end_vertices h.outputs)) moved
+          ∙ ap (λ es. member u (end_vertices (set es q (plain v)))) n.alike.outputs
+          ∙ member-places_set s.graph.outputs q u v u n.ready.given.well_formed.outputs.one_each n.output
+          ∙ ap₂ (λ a b. a || (member u (end_vertices s.graph.outputs) && not b))
+          (ne_eqb u v (u_apart n.ready n.frontier n.last q n.one n.output)) (eqb-self u)
+          ∙ and-false (member u (end_vertices s.graph.outputs));
+    }
+
+    pub advanced_step : {h : Graph} {table : List Correction} {t : State} →
+        IsRemoval g u h → ((before : List Correction) (e : Correction) → d.table ≡ before ++ e ∷ [] →
+        SameSets table (advanced_table u before)) →
+        t ≡ record { graph = h; table = table; gates = H q ∷ d.gates } → IsAdvanced s v q t
+    advanced_step removal sets is = subst (IsAdvanced s v q) (sym is) (record {
+      last = n.last;
+      advance = record {
+        spider = u;
+        next = v;
+        output = n.output;
+        phase = n.frontier.phase q u refl n.output;
+        only_neighbour = only_neighbour n.ready n.frontier n.last q n.one n.output n.plane;
+        vertices = removal.vertices ∙ ap (λ (k : Graph). without u k.vertices) moved ∙ ap (without u) n.alike.vertices;
+        ordered = removal.frame.ordered;
+        edges = λ p w x y. removal.edges p w x y ∙ ap (λ (k : Graph). joined k.edges p w) moved
+            ∙ n.alike.edges u p w n.output x y;
+        inputs = removal.frame.inputs ∙ ap (λ (k : Graph). k.inputs) moved ∙ n.alike.inputs;
+        outputs = removal.frame.outputs ∙ ap (λ (k : Graph). k.outputs) moved
+            ∙ ap (λ es. set es q (plain v)) n.alike.outputs;
+      };
+      table = sets n.last.before n.last.entry (n.alike.table ∙ n.last.split);
+      gates = ap (λ gs. H q ∷ gs) n.alike.gates;
+    })
 
 -- ---- a gadget
-module _ (s : State) (v : ℕ) (r : IsReady s) (plane : plane_of s.graph v ≡ YZ) where
-  pub gadget_interior : Interior s.graph v
-  gadget_interior = interior_of s.graph v r.given.well_formed (ap is_XY plane)
+pub gadget_interior : {s : State} {v : ℕ} → IsReady s → plane_of s.graph v ≡ YZ → Interior s.graph v
+gadget_interior {s} {v} r plane = interior_of s.graph v r.given.well_formed (ap is_XY plane)
 
-module _ (s : State) (v : ℕ) (r : IsReady s) (f : IsFrontier s.graph) (last : HasLast s.table v)
+module _ {s : State} {v : ℕ} (r : IsReady s) (f : IsFrontier s.graph) (last : HasLast s.table v)
     (none : HasNoOutput s) where
   pub gadget_set : (before : List Correction) × (e : Correction) × (s.table ≡ before ++ e ∷ []) × ((y : ℕ) →
       is_in e.members y ≡ eqb y e.vertex)
-  gadget_set = (last.before, last.entry, last.split, set_is_itself s v r f last none)
+  gadget_set = (last.before, last.entry, last.split, set_is_itself r f last none)
 
-  pub gadget_step : (plane : plane_of s.graph v ≡ YZ) (qubits : List ℕ) (k : ℕ) (named : Plane) (h : Graph)
-      (table : List Correction) (t : State) → AreLegs s.graph v qubits →
+  pub gadget_step : {qubits : List ℕ} {k : ℕ} {named : Plane} {h : Graph} {table : List Correction} {t : State} →
+      plane_of s.graph v ≡ YZ → AreLegs s.graph v qubits →
       in_plane named k ≡ kind_of s.graph.vertices v → IsRemoval s.graph v h →
       ((before : List Correction) (e : Correction) → s.table ≡ before ++ e ∷ [] →
       SameSets table (last_removed_table e before)) →
       t ≡ record { graph = h; table = table; gates = gadget_gates k qubits ++ s.gates } → IsGadgetTaken s v qubits t
-  gadget_step plane qubits k named h table t legs weight removal sets is =
+  gadget_step {qubits} plane legs weight removal sets is =
       subst (IsGadgetTaken s v qubits) (sym is) (record {
         last = last;
         peel = record {
@@ -141,7 +126,7 @@ module _ (s : State) (v : ℕ) (r : IsReady s) (f : IsFrontier s.graph) (last : 
           once = legs_differ s.graph v r.given.well_formed;
           at_outputs = legs;
           neighbours = λ p. sym (member-legs s.graph v p ∙ by_test (joined s.graph.edges v p)
-              (λ t. ap₂ (λ a b. a && b) (neighbours_are_outputs s v r f last none p t) t ∙ sym t)
+              (λ t. ap₂ (λ a b. a && b) (neighbours_are_outputs r f last none p t) t ∙ sym t)
               (λ f. ap (λ a. member p (end_vertices s.graph.outputs) && a) f
               ∙ and-false (member p (end_vertices s.graph.outputs)) ∙ sym f));
           removal = removal;
@@ -151,20 +136,20 @@ module _ (s : State) (v : ℕ) (r : IsReady s) (f : IsFrontier s.graph) (last : 
       })
 
 -- ---- a gadget through an output
-module _ (s : State) (v q u : ℕ) (r : IsReady s) (f : IsFrontier s.graph) (last : HasLast s.table v)
+module _ {s : State} {v u : ℕ} (q : ℕ) (r : IsReady s) (f : IsFrontier s.graph) (last : HasLast s.table v)
     (plane : plane_of s.graph v ≡ YZ) (one : HasOneOutput s q) (o : HasPlainOutput s.graph q u) where
   pub linked_set : (before : List Correction) × (e : Correction) × (s.table ≡ before ++ e ∷ []) × ((y : ℕ) →
       is_in e.members y ≡ (eqb y e.vertex || eqb y u))
-  linked_set = (last.before, last.entry, last.split, set_is_YZ s v r f last q u one o plane)
+  linked_set = (last.before, last.entry, last.split, set_is_YZ r f last q one o plane)
 
-  pub linked_step : (qubits : List ℕ) (k : ℕ) (named : Plane) (h : Graph) (table : List Correction) (t : State) →
+  pub linked_step : {qubits : List ℕ} {k : ℕ} {named : Plane} {h : Graph} {table : List Correction} {t : State} →
       AreLegs s.graph v qubits →
       in_plane named k ≡ kind_of s.graph.vertices v → IsRemoval s.graph v h →
       ((before : List Correction) (e : Correction) → s.table ≡ before ++ e ∷ [] →
       SameSets table (last_removed_table e before)) →
       t ≡ record { graph = h; table = table; gates = linked_gadget_gates k q qubits ++ s.gates } →
       IsLinkedGadgetTaken s v q qubits t
-  linked_step qubits k named h table t legs weight removal sets is =
+  linked_step {qubits} legs weight removal sets is =
       subst (IsLinkedGadgetTaken s v q qubits) (sym is) (record {
         last = last;
         peel = record {
@@ -173,14 +158,14 @@ module _ (s : State) (v q u : ℕ) (r : IsReady s) (f : IsFrontier s.graph) (las
           plane = plane;
           output = o;
           phase = f.phase q u refl o;
-          no_input = link_no_input s v r f last q u one o;
+          no_input = link_no_input r f last q one o;
           once = (
             member-legs s.graph v u ∙ ap (λ b. member u (end_vertices s.graph.outputs) && b)
-                (link_not_adjacent s v r f last q u one o plane) ∙ and-false (member u (end_vertices s.graph.outputs)),
+                (link_not_adjacent r f last q one o plane) ∙ and-false (member u (end_vertices s.graph.outputs)),
             legs_differ s.graph v r.given.well_formed,
           );
           at_outputs = legs;
-          neighbours = λ p. sym (ap₂ xor (linked s v r f last q u one o plane p) (member-legs s.graph v p)
+          neighbours = λ p. sym (ap₂ xor (linked r f last q one o plane p) (member-legs s.graph v p)
               ∙ either (joined s.graph.edges v p) (member p (end_vertices s.graph.outputs)));
           removal = removal;
         };

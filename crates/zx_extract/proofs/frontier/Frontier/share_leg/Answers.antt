@@ -12,7 +12,7 @@ loop-q-init c = shared_nothing (state_of c.args.self.now) c.args.v c.args.z
     c.requires.ready c.requires.frontier c.requires.free c.requires.spare
 
 pub has_edge-requires : goal.has_edge-requires
-has_edge-requires c = last_live (state_of c.loop-q.self) c.args.v c.loop-q.invariant.taken.rows.ready
+has_edge-requires c = last_live c.loop-q.invariant.taken.rows.ready
     c.loop-q.invariant.taken.rows.frontier (shared_last (state_of c.args.self.now) c.args.v c.args.z c.loop-q.q
     (state_of c.loop-q.self) c.loop-q.invariant c.requires.last)
 

@@ -6,8 +6,7 @@ use Rattle.zx_extract.proofs.SharedLegs.{takes_nothing, none_one, shared_all}
 use Rattle.zx_extract.proofs.frontier.Frontier.take_legs.Goals as goal
 
 pub spare_leg-requires-clause-live : goal.spare_leg-requires-clause-live
-spare_leg-requires-clause-live c = last_live (state_of c.args.self.now)
-    c.args.v c.requires.ready c.requires.frontier c.requires.last
+spare_leg-requires-clause-live c = last_live c.requires.ready c.requires.frontier c.requires.last
 
 pub returns-in-Some-clause-one : goal.returns-in-Some-clause-one
 returns-in-Some-clause-one c = on_ok_weaker c.share_leg.result

@@ -3,7 +3,7 @@ use Rattle.std.proofs.Common.{◌≡◌, ◌∙◌, ◌<◌, ◌+◌, refl, sym,
 use Rattle.std.specs.List.{swap}
 use Rattle.std.proofs.lemmas.Option.{slice_get-get_or}
 use Rattle.zx_extract.specs.Internal.Leading.{State}
-use Rattle.zx_extract.proofs.Leads.{leads_table}
+use Rattle.zx_extract.proofs.Leads.{leads_within}
 use Rattle.std.specs.Prelude.{slice_get}
 use Rattle.zx_model.specs.Bits.{member}
 use Rattle.zx_calculus.specs.Graph.{end_vertices}
@@ -99,7 +99,7 @@ loop-q-preserved c =
 pub returns-clause-leads : goal.returns-clause-leads
 returns-clause-leads c =
     let all : c.loop-q.q ≡ length c.args.self.now.graph.graph.outputs = omega arith in
-    leads_table (state_of c.args.self.now) _ 0 0 _ c.loop-q.self.flow.flow
+    leads_within (state_of c.args.self.now) _ 0 0 _ _ (omega arith)
     (uncrossed_leads (state_of c.args.self.now) c.requires.ready c.requires.frontier c.requires.all c.requires.ends
     c.loop-q.outputs.items (state_of c.loop-q.self).gates
     (subst (λ i. IsUncrossed (state_of c.args.self.now) i c.loop-q.outputs.items (state_of c.loop-q.self).gates)
