@@ -9,9 +9,9 @@ use Rattle.zx_calculus.proofs.Splitting.{absent_from}
 use Rattle.gflow_laws.specs.Flow.{IsFlow}
 use Rattle.gflow_laws.specs.Kept.{IsKept}
 use Rattle.gflow_laws.proofs.Steps.{run_keeps}
-use Rattle.zx_reduce.specs.declared.step.Step.{Step}
-use Rattle.zx_reduce.specs.declared.step.Step.TheVariants as named
-use Rattle.zx_reduce.specs.Steps.{step_named}
+use Rattle.zx_moves.specs.declared.step.Step.{Step}
+use Rattle.zx_moves.specs.declared.step.Step.TheVariants as named
+use Rattle.zx_moves.specs.Steps.{step_named}
 use Rattle.zx_reduce.specs.Applied.{State, AreApplied}
 
 pub applied_run : (s : State) (steps : List Step) (t : State) → AreApplied s steps t → IsRun s.graph (map step_named steps) t.graph

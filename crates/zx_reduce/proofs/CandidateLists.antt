@@ -8,9 +8,9 @@ use Rattle.zx_model.specs.Bits.{member}
 use Rattle.zx_calculus.proofs.Booleans.{or-true, or-false}
 use Rattle.zx_calculus.proofs.Ids.{by_test, by_equal, eqb-self, member-append}
 use Rattle.zx_reduce.specs.declared.candidates.Candidates.{Candidates}
-use Rattle.zx_reduce.specs.declared.moves.Kind.{Kind}
-use Rattle.zx_reduce.specs.declared.moves.Kind.TheVariants as kinds
-use Rattle.zx_reduce.specs.declared.moves.TheConstants.{KINDS}
+use Rattle.zx_moves.specs.declared.moves.Kind.{Kind}
+use Rattle.zx_moves.specs.declared.moves.Kind.TheVariants as kinds
+use Rattle.zx_moves.specs.declared.moves.TheConstants.{KINDS}
 use Rattle.zx_reduce.specs.Internal.Guiding.{place_of, list_place, pile_at, weight, standing, IsListing, StandElsewhere, IsTaken, IsPassed}
 
 -- the place of a kind is where it stands

@@ -7,7 +7,7 @@ use Rattle.zx_model.specs.Bits.{member, one_if}
 use Rattle.zx_calculus.specs.Graph.{Graph, Kind, Vertex, End, ids, end_vertices, phase_of, WellFormed}
 use Rattle.zx_calculus.specs.Counts.{has_input, has_output}
 use Rattle.zx_calculus.specs.Steps as calculus
-use Rattle.zx_calculus.specs.Steps.{IsStep, IsRun}
+use Rattle.zx_calculus.specs.Steps.{IsRun}
 use Rattle.zx_calculus.proofs.CountLemmas.{Test, count, count-cons, count_same, count_apart}
 use Rattle.zx_calculus.proofs.Ids.{by_test, not-true, and-left, and-right, Distinct, apart_of_member}
 use Rattle.zx_calculus.proofs.Splitting.{distinct}
@@ -15,9 +15,9 @@ use Rattle.zx_calculus.proofs.Steps.{step_kept, run_kept}
 use Rattle.move_laws.specs.Demand.{demand, has_both}
 use Rattle.move_laws.specs.Orders.{is_split}
 use Rattle.move_laws.proofs.DemandLemmas.{no_split, split_input, only_input, only_output, split_both}
-use Rattle.zx_reduce.specs.declared.moves.Move.{Move}
-use Rattle.zx_reduce.specs.declared.moves.Move.TheVariants as moves
-use Rattle.zx_reduce.specs.Moving.{removal_of, steps_of, AreMoves}
+use Rattle.zx_moves.specs.declared.moves.Move.{Move}
+use Rattle.zx_moves.specs.declared.moves.Move.TheVariants as moves
+use Rattle.zx_moves.specs.Moving.{removal_of, steps_of, AreMoves}
 use Rattle.zx_reduce.specs.Internal.Rooms.{StaysWithin}
 
 less : (a t b d : ℕ) → a + t ≡ b → b ≤ d → a ≤ d

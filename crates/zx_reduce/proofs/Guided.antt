@@ -16,16 +16,16 @@ use Rattle.zx_calculus.proofs.Steps.{step_kept}
 use Rattle.move_laws.specs.Candidates.{MoveKind, Deletion, QuarterGadget, InXZ, QuarterSpider, InnerPivot, BoundaryPivot, GadgetPair, LoneGadget, SingleGadget, Twins, IsPlaceOf, is_mutual, Covers, touched_by, with_touched}
 use Rattle.move_laws.proofs.Covering.{exchanged, kept_by_step, lives, none_left}
 use Rattle.zx_reduce.specs.declared.candidates.Candidates.{Candidates}
-use Rattle.zx_reduce.specs.declared.moves.Kind.{Kind}
-use Rattle.zx_reduce.specs.declared.moves.Kind.TheVariants as kinds
-use Rattle.zx_reduce.specs.declared.moves.Move.{Move}
-use Rattle.zx_reduce.specs.declared.moves.Move.TheVariants as moves
-use Rattle.zx_reduce.specs.declared.moves.TheConstants.{KINDS}
-use Rattle.zx_reduce.specs.Search.{AppliesAt, kind_of, IsOfFirstKind}
-use Rattle.zx_reduce.specs.Internal.Searching.{IsMoveAt, IsMoveOf, IsSettled, NoneAt}
-use Rattle.zx_reduce.specs.Internal.Guiding.{place_kind, place_of, list_place, standing, IsListing, StandElsewhere, is_candidate, HasCandidates, HasCandidatesBut, IsListed, KeepsCandidates, near, near_step}
+use Rattle.zx_moves.specs.declared.moves.Kind.{Kind}
+use Rattle.zx_moves.specs.declared.moves.Kind.TheVariants as kinds
+use Rattle.zx_moves.specs.declared.moves.Move.{Move}
+use Rattle.zx_moves.specs.declared.moves.Move.TheVariants as moves
+use Rattle.zx_moves.specs.declared.moves.TheConstants.{KINDS}
+use Rattle.zx_moves.specs.Search.{AppliesAt, kind_of, IsOfFirstKind, IsMoveOf, IsSettled, NoneAt}
+use Rattle.zx_moves.specs.Internal.Searching.{IsMoveAt, place_kind}
+use Rattle.zx_reduce.specs.Internal.Guiding.{place_of, list_place, standing, IsListing, StandElsewhere, is_candidate, HasCandidates, HasCandidatesBut, IsListed, KeepsCandidates, near, near_step}
 use Rattle.zx_reduce.proofs.CandidateLists.{at_place, place_within, place_rises, no_list}
-use Rattle.zx_reduce.proofs.SearchKinds.{stands_once, stands_at}
+use Rattle.zx_moves.proofs.SearchKinds.{stands_once, stands_at}
 
 -- no place is at a vertex with an end
 boundary_none : (g : Graph) (k : MoveKind) (u v : ℕ) → plane_of g u ≡ XY → is_interior g u ≡ false → ¬ IsPlaceOf g k u v

@@ -8,18 +8,18 @@ use Rattle.zx_calculus.specs.Steps.{IsStep, IsRun}
 use Rattle.move_laws.specs.Demand.{demand, with_both}
 use Rattle.open_graph.specs.OpenGraph.{OpenGraph}
 use Rattle.zx_flow.specs.Flows.{Flow}
-use Rattle.zx_reduce.specs.declared.moves.Move.{Move}
-use Rattle.zx_reduce.specs.declared.step.Step.{Step}
-use Rattle.zx_reduce.specs.Steps.{step_named}
-use Rattle.zx_reduce.specs.Search.{AppliesAt, IsOfFirstKind}
-use Rattle.zx_reduce.specs.Moving.{steps_of, most_moves}
-use Rattle.zx_reduce.specs.Traces.{Trace}
+use Rattle.zx_moves.specs.declared.moves.Move.{Move}
+use Rattle.zx_moves.specs.declared.step.Step.{Step}
+use Rattle.zx_moves.specs.Steps.{step_named}
+use Rattle.zx_moves.specs.Search.{AppliesAt, IsOfFirstKind}
+use Rattle.zx_moves.specs.Moving.{steps_of, most_moves, AddsSteps}
+use Rattle.zx_moves.specs.Traces.{Trace}
 use Rattle.zx_reduce.specs.Rooms.{HasRoom}
-use Rattle.zx_reduce.specs.Internal.Rooms.{HavePlaces, StaysWithin, AddsSteps}
+use Rattle.zx_reduce.specs.Internal.Rooms.{HavePlaces, StaysWithin}
 use Rattle.zx_reduce.proofs.DemandMoves.{within_now, within_after, after_move}
 use Rattle.zx_reduce.proofs.RoomLemmas.{begins_with_places, demand_within, steps_within}
-use Rattle.zx_reduce.proofs.MoveCounts.{most_moves-move}
-use Rattle.zx_reduce.proofs.MoveSteps.{move_made}
+use Rattle.zx_moves.proofs.MoveCounts.{most_moves-move}
+use Rattle.zx_moves.proofs.MoveSteps.{move_made}
 use Rattle.zx_reduce.proofs.MovesMade.{IsUnderWay, next_done}
 
 -- ---- steps

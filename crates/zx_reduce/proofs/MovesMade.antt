@@ -7,17 +7,18 @@ use Rattle.zx_calculus.specs.Steps.{allowed, IsStep, IsRun}
 use Rattle.gflow_laws.specs.Flow.{Correction, IsFlow}
 use Rattle.gflow_laws.specs.Kept.{IsKept}
 use Rattle.gflow_laws.proofs.Steps.{run_keeps}
-use Rattle.zx_reduce.specs.declared.moves.Move.{Move}
-use Rattle.zx_reduce.specs.declared.step.Step.{Step}
-use Rattle.zx_reduce.specs.Steps.{step_named}
-use Rattle.zx_reduce.specs.Search.{AppliesAt, IsOfFirstKind}
-use Rattle.zx_reduce.specs.Moving.{steps_of, AreMoves, most_moves, GainsMoves, GainsRun}
+use Rattle.zx_moves.specs.declared.moves.Move.{Move}
+use Rattle.zx_moves.specs.declared.step.Step.{Step}
+use Rattle.zx_moves.specs.Steps.{step_named}
+use Rattle.zx_moves.specs.Search.{AppliesAt, IsOfFirstKind}
+use Rattle.zx_moves.specs.Moving.{steps_of, AreMoves, most_moves, GainsMoves, GainsRun}
 use Rattle.zx_reduce.specs.declared.candidates.Candidates.{Candidates}
 use Rattle.zx_reduce.specs.declared.ranks.Ranks.{Ranks}
 use Rattle.zx_reduce.specs.Internal.Guiding.{HasCandidates, IsGuided}
-use Rattle.zx_reduce.specs.Internal.Planning.{AreAllowed, GainsMove}
-use Rattle.zx_reduce.proofs.MoveRuns.{IsRun-append, AreMoves-snoc, AreMoves-run, length-AreMoves, ends-run}
-use Rattle.zx_reduce.proofs.MoveCounts.{AreMoves-few}
+use Rattle.zx_reduce.specs.Internal.Planning.{GainsMove}
+use Rattle.zx_moves.specs.Internal.Planning.{AreAllowed}
+use Rattle.zx_moves.proofs.MoveRuns.{IsRun-append, AreMoves-snoc, AreMoves-run, length-AreMoves, ends-run}
+use Rattle.zx_moves.proofs.MoveCounts.{AreMoves-few}
 
 -- of these steps so many are done, from g to k, and the others can be done
 pub record IsUnderWay (g : Graph) (steps : List Step) (done : ℕ) (k : Graph) (before after : List Step) : Type 0 where

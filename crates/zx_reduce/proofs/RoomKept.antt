@@ -18,7 +18,7 @@ use Rattle.move_laws.specs.Orders.{is_split}
 use Rattle.open_graph.specs.OpenGraph.{OpenGraph}
 use Rattle.open_graph.specs.Rooms.{Room, IsLeft, IsAtLeast}
 use Rattle.zx_flow.specs.Flows.{Flow}
-use Rattle.zx_reduce.specs.Traces.{Trace}
+use Rattle.zx_moves.specs.Traces.{Trace}
 use Rattle.zx_reduce.specs.Rooms.{UsesPlaces, in_all, KeepPlaces, KeepRoom}
 use Rattle.zx_reduce.proofs.RoomLemmas.{size_after}
 

@@ -15,12 +15,12 @@ use Rattle.move_laws.proofs.DemandLemmas.{new_within, kept_below}
 use Rattle.open_graph.specs.OpenGraph.{OpenGraph}
 use Rattle.open_graph.specs.Rooms.{Room, without_place, with_place, IsLeft, IsAtLeast}
 use Rattle.zx_flow.specs.Flows.{Flow, HavePlace}
-use Rattle.zx_reduce.specs.Moving.{most_moves}
-use Rattle.zx_reduce.specs.Traces.{Trace}
+use Rattle.zx_moves.specs.Moving.{most_moves}
+use Rattle.zx_moves.specs.Traces.{Trace}
 use Rattle.zx_reduce.specs.Rooms.{HaveRoomFor, UsesPlaces, in_all, room_for, AreReserved, room_needed, HasRoom}
 use Rattle.zx_reduce.specs.Internal.Rooms.{HavePlaces}
 use Rattle.zx_reduce.proofs.DemandMoves.{demand_at_most}
-use Rattle.zx_reduce.proofs.MoveCounts.{not_XY-none}
+use Rattle.zx_moves.proofs.MoveCounts.{not_XY-none}
 
 -- ---- how many vertices a step leaves
 abbrev every : Test

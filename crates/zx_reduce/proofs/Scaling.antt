@@ -12,18 +12,18 @@ use Rattle.zx_calculus.proofs.Steps.{step_sum, inputs_kept, outputs_kept}
 use Rattle.zx_calculus.proofs.StepScalars.{step_scaled, step_within}
 use Rattle.zx_calculus.specs.Graph.{Vertex, is_XY}
 use Rattle.zx_calculus.proofs.ReducedLemmas.{counts_within}
-use Rattle.zx_reduce.specs.declared.step.Step.{Step as TraceStep}
+use Rattle.zx_moves.specs.declared.step.Step.{Step as TraceStep}
 use Rattle.gflow_laws.specs.Flow.{Correction, IsFlow}
 use Rattle.open_graph.specs.OpenGraph.{most_vertices_in_memory}
-use Rattle.zx_reduce.specs.Moving.{most_moves, steps_of, AreMoves, GainsMoves}
+use Rattle.zx_moves.specs.Moving.{most_moves, steps_of, AreMoves, GainsMoves}
 use Rattle.zx_reduce.specs.Reducing.{Reduces}
 use Rattle.zx_reduce.specs.Scaling.{most_exponent}
 use Rattle.zx_reduce.specs.Internal.Scaling.{Scales, IsMade}
 use Rattle.zx_reduce.specs.declared.reduction.Made.{Made}
-use Rattle.zx_reduce.specs.declared.moves.Move.{Move}
-use Rattle.zx_reduce.specs.Steps.{step_named}
+use Rattle.zx_moves.specs.declared.moves.Move.{Move}
+use Rattle.zx_moves.specs.Steps.{step_named}
 use Rattle.zx_reduce.proofs.MovesMade.{gained_few_moves, gained_few_steps, gained_ends, gained_keeps}
-use Rattle.zx_reduce.proofs.MoveRuns.{length-steps_of, AreMoves-run}
+use Rattle.zx_moves.proofs.MoveRuns.{length-steps_of, AreMoves-run}
 use Rattle.std.proofs.lemmas.List.{length-map}
 
 pub scales_none : (g : Graph) → Scales g 0 one_scalar g

@@ -3,8 +3,8 @@ use Rattle.std.specs.Prelude.{◌≡◌, List, [], ◌∷◌}
 use Rattle.zx_calculus.specs.Graph.{Graph}
 use Rattle.gflow_laws.specs.Flow.{Correction}
 use Rattle.gflow_laws.specs.Rewritten.{IsRewritten}
-use Rattle.zx_reduce.specs.declared.step.Step.{Step}
-use Rattle.zx_reduce.specs.Steps.{step_named}
+use Rattle.zx_moves.specs.declared.step.Step.{Step}
+use Rattle.zx_moves.specs.Steps.{step_named}
 
 -- a graph, and the flow that is kept beside it
 pub record State : Type 0 where

@@ -1,8 +1,4 @@
-pub mod Steps
-pub mod Traces
 pub mod Applied
-pub mod Search
-pub mod Moving
 pub mod Reducing
 pub mod Rooms
 pub mod Ordering

@@ -11,7 +11,7 @@ use Rattle.move_laws.specs.Orders.{is_split}
 use Rattle.open_graph.specs.OpenGraph.{OpenGraph}
 use Rattle.open_graph.specs.Rooms.{Room, IsAtLeast}
 use Rattle.zx_flow.specs.Flows.{Flow, HavePlace, HaveReach}
-use Rattle.zx_reduce.specs.Traces.{Trace}
+use Rattle.zx_moves.specs.Traces.{Trace, KeepSteps}
 
 -- graph and flow have the memory that a step needs: all ids are below the reach of both, and a split finds a place
 abbrev pub HaveRoomFor : Step → OpenGraph → Flow → Type 0
@@ -38,10 +38,6 @@ in_all there room = record room { spare = room.spare + there }
 pub record KeepPlaces (g : OpenGraph) (f : Flow) (h : OpenGraph) (k : Flow) : Type 0 where
   pub graph : IsAtLeast (in_all (length g.graph.vertices) g.room) (in_all (length h.graph.vertices) h.room)
   pub flow : IsAtLeast (in_all (length (order_of f.flow)) f.room) (in_all (length (order_of k.flow)) k.room)
-
--- steps of a trace that are there, or that can be added without memory, are no fewer
-abbrev pub KeepSteps : Trace → Trace → Type 0
-KeepSteps before after = before.spare + length before.steps ≤ after.spare + length after.steps
 
 -- no memory of graph, flow and trace is lost
 pub record KeepRoom (g : OpenGraph) (f : Flow) (trace : Trace) (h : OpenGraph) (k : Flow) (longer : Trace)

@@ -8,10 +8,9 @@ ghost use Rattle.gflow_laws.specs.Flow.{IsFlow};
 ghost use Rattle.gflow_laws.specs.Rewritten.{IsRewritten};
 ghost use Rattle.open_graph.specs.Rooms.{IsLeft};
 ghost use Rattle.zx_reduce.specs.Rooms.{HaveRoomFor, KeepPlaces, UsesPlaces};
-ghost use Rattle.zx_reduce.specs.Steps.{step_named};
+ghost use Rattle.zx_moves.specs.Steps.{step_named};
 
 use crate::refusal::StepRefused;
-use crate::step::Step;
 use local_comp::{delete, local_complement};
 use open_graph::OpenGraph;
 use std::alloc::AllocError;
@@ -19,6 +18,7 @@ use zx_boundary::{split_input, split_output};
 use zx_flow::Flow;
 use zx_gadgets::{drop_lone, fuse_into, fuse_twin};
 use zx_model::Scalar;
+use zx_moves::Step;
 use zx_pivot::pivot;
 
 /// Does a step on a graph with its flow, where it is allowed: where its ids are those of vertices,

@@ -4,20 +4,18 @@ ghost use Rattle.std.specs.Prelude.{◌≡◌, ◌<◌, ◌≤◌, ◌+◌, ◌-
 ghost use Rattle.zx_model.specs.Bits.{member};
 ghost use Rattle.zx_calculus.specs.Graph.{Live, WellFormed};
 ghost use Rattle.zx_calculus.specs.Moves.{IsStuck, IsGadgetOf};
-ghost use Rattle.zx_reduce.specs.declared.moves.Kind.{Kind};
-ghost use Rattle.zx_reduce.specs.declared.moves.Kind.TheVariants as kinds;
-ghost use Rattle.zx_reduce.specs.Search.{AppliesAt, IsOfFirstKind};
+ghost use Rattle.zx_moves.specs.declared.moves.Kind.{Kind};
+ghost use Rattle.zx_moves.specs.declared.moves.Kind.TheVariants as kinds;
+ghost use Rattle.zx_moves.specs.Search.{AppliesAt, IsOfFirstKind};
 ghost use Rattle.move_laws.specs.Candidates.{IsPlaceOf};
-ghost use Rattle.zx_reduce.specs.Internal.Guiding.{place_kind, place_of, list_place, pile_at, weight, standing, IsListing, StandElsewhere, IsTaken, IsPassed, HasCandidates, IsListed, KeepsCandidates};
-ghost use Rattle.zx_reduce.specs.Internal.Searching.{IsMoveAt};
+ghost use Rattle.zx_reduce.specs.Internal.Guiding.{place_of, list_place, pile_at, weight, standing, IsListing, StandElsewhere, IsTaken, IsPassed, HasCandidates, IsListed, KeepsCandidates};
+ghost use Rattle.zx_moves.specs.Internal.Searching.{place_kind, IsMoveAt};
 
-use crate::levels::{LEVELS, level_in, levels_of};
-use crate::moves::{KINDS, Move};
 use crate::pile::Pile;
-use crate::search::{is_settled, may_begin, move_at};
 use open_graph::{OpenGraph, VertexId};
 use std::alloc::{AllocError, Global};
 use vertex_map::{Values, VertexMap};
+use zx_moves::{KINDS, LEVELS, Move, is_settled, level_in, levels_of, may_begin, move_at};
 
 // Classes of numbers of neighbours: 0, 1, 2 and 3, 4 to 7, and so on; the last has all from 64 on.
 const CLASSES: usize = 8;

@@ -5,8 +5,8 @@ ghost use Rattle.zx_calculus.specs.Graph.{Graph, WellFormed};
 ghost use Rattle.zx_calculus.specs.Steps.{IsRun};
 ghost use Rattle.gflow_laws.specs.Flow.{Correction, IsFlow};
 ghost use Rattle.gflow_laws.specs.Kept.{IsKept};
-ghost use Rattle.zx_reduce.specs.declared.step.Step.{Step};
-ghost use Rattle.zx_reduce.specs.Steps.{step_named};
+ghost use Rattle.zx_moves.specs.declared.step.Step.{Step};
+ghost use Rattle.zx_moves.specs.Steps.{step_named};
 ghost use Rattle.zx_reduce.specs.Applied.{State, AreApplied};
 
 /// Whatever a list of steps leads to from a graph with a flow has a flow, a sum that is the old one

@@ -7,7 +7,7 @@ ghost use Rattle.zx_calculus.specs.Counts.{odd_phases};
 ghost use Rattle.zx_calculus.specs.Reduced.{IsReduced};
 ghost use Rattle.gflow_laws.specs.Flow.{IsFlow};
 ghost use Rattle.zx_calculus.specs.StepScalars.{KeepsMap, IsSumTimes};
-ghost use Rattle.zx_reduce.specs.Moving.{GainsMoves, GainsRun, most_moves};
+ghost use Rattle.zx_moves.specs.Moving.{GainsMoves, GainsRun, most_moves};
 ghost use Rattle.zx_reduce.specs.Reducing.{Reduces};
 ghost use Rattle.zx_reduce.specs.Rooms.{HasRoom, KeepRoom};
 ghost use Rattle.zx_reduce.specs.Scaling.{most_exponent};
@@ -18,7 +18,6 @@ use crate::in_place::reduce_in_place;
 use crate::ranks::Ranks;
 use crate::room::has_room;
 use crate::steps::Steps;
-use crate::trace::Trace;
 use crate::working::Working;
 use open_graph::OpenGraph;
 use std::alloc::{AllocError, Global};
@@ -26,6 +25,7 @@ use std::mem;
 use std::sync::ledger::Ledger;
 use zx_flow::Flow;
 use zx_model::Scalar;
+use zx_moves::Trace;
 
 /// A graph that was simplified, with its flow and the steps that led to it.
 #[derive(Drop)]

@@ -7,9 +7,9 @@ ghost use Rattle.open_graph.specs.Rooms.{IsAtLeast};
 ghost use Rattle.zx_reduce.specs.Rooms.{HasRoom, room_needed};
 ghost use Rattle.zx_reduce.specs.Internal.Rooms.{steps_needed};
 
-use crate::trace::Trace;
 use open_graph::{OpenGraph, Plane, VertexId};
 use zx_flow::Flow;
+use zx_moves::Trace;
 
 // Whether graph, flow and trace have the memory that simplification needs.
 pub(crate) fn has_room(g: &OpenGraph, f: &Flow, trace: &Trace) -> bool

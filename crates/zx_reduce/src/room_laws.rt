@@ -7,10 +7,10 @@ ghost use Rattle.zx_calculus.specs.Steps.{IsRun};
 ghost use Rattle.move_laws.specs.Demand.{demand};
 ghost use Rattle.open_graph.specs.OpenGraph.{OpenGraph};
 ghost use Rattle.zx_flow.specs.Flows.{Flow};
-ghost use Rattle.zx_reduce.specs.declared.moves.Move.{Move};
-ghost use Rattle.zx_reduce.specs.Moving.{steps_of, AreMoves};
+ghost use Rattle.zx_moves.specs.declared.moves.Move.{Move};
+ghost use Rattle.zx_moves.specs.Moving.{steps_of, AreMoves};
 ghost use Rattle.zx_reduce.specs.Rooms.{HasRoom, IsNumberedXY, IsReservedFor};
-ghost use Rattle.zx_reduce.specs.Traces.{Trace};
+ghost use Rattle.zx_moves.specs.Traces.{Trace};
 
 /// A graph's demand for ids, one for each vertex and one more for each with both ends, isn't higher
 /// after a move, and inside it at most one higher. It is at most one for each vertex and each input.

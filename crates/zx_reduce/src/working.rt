@@ -5,24 +5,21 @@ ghost use Rattle.zx_model.specs.Bits.{member};
 ghost use Rattle.zx_calculus.specs.Graph.{WellFormed};
 ghost use Rattle.zx_calculus.specs.Steps.{allowed, IsStep};
 ghost use Rattle.gflow_laws.specs.Flow.{IsFlow};
-ghost use Rattle.zx_reduce.specs.Steps.{step_named};
-ghost use Rattle.zx_reduce.specs.Search.{AppliesAt, IsOfFirstKind};
+ghost use Rattle.zx_moves.specs.Steps.{step_named};
+ghost use Rattle.zx_moves.specs.Search.{AppliesAt, IsOfFirstKind};
 ghost use Rattle.zx_reduce.specs.Internal.Guiding.{IsGuided, IsGuidedBut, HasFlowIn};
 ghost use Rattle.zx_reduce.specs.Internal.Planning.{GainsMove};
 ghost use Rattle.zx_reduce.specs.Internal.Scaling.{Scales};
 
 use crate::candidates::Candidates;
 use crate::in_graph::{add_vertices_near, rewrite};
-use crate::moves::Move;
-use crate::planning::add_steps;
 use crate::ranks::Ranks;
-use crate::step::Step;
-use crate::trace::Trace;
 use flow_find::find_by_rank;
 use open_graph::{OpenGraph, VertexId};
 use std::alloc::AllocError;
 use zx_flow::Flow;
 use zx_model::Scalar;
+use zx_moves::{Move, Step, Trace, add_steps};
 
 /// A graph, the order along which it has a flow, where moves may begin, and the steps that led to
 /// it. No correction set is kept. After a call that ran out of memory a part of a step may be done,

@@ -4,7 +4,7 @@ ghost use Rattle.std.specs.Prelude.{◌<◌, ◌≤◌, ◌*◌, length, map, If
 ghost use Rattle.zx_model.specs.Phase.{turn};
 ghost use Rattle.zx_model.specs.Scalar.{IsWithin};
 ghost use Rattle.circuit_graph.specs.Translation.{translated};
-ghost use Rattle.zx_reduce.specs.Steps.{step_named};
+ghost use Rattle.zx_moves.specs.Steps.{step_named};
 ghost use Rattle.zx_teleport.specs.Internal.Noting.{MayRun};
 ghost use Rattle.zx_teleport.specs.Internal.Scaling.{most_steps, HaveScalar};
 

@@ -5,13 +5,12 @@ use Rattle.zx_model.specs.Bits.{member}
 use Rattle.zx_calculus.specs.Graph.{Graph, neighbours, WellFormed}
 use Rattle.zx_calculus.specs.Steps.{Step, LocalComplement, Delete, Pivot, SplitInput, SplitOutput}
 use Rattle.zx_calculus.specs.Steps.{DropLone, FuseInto, FuseTwin}
-use Rattle.move_laws.specs.Candidates.{MoveKind, Deletion, QuarterGadget, InXZ, QuarterSpider, InnerPivot}
-use Rattle.move_laws.specs.Candidates.{BoundaryPivot, GadgetPair, LoneGadget, SingleGadget, Twins}
 use Rattle.move_laws.specs.Candidates.{IsPlaceOf, Covers, with_touched}
 use Rattle.move_laws.specs.Ranks.{RisesBy, HasFlowBy, rank_in}
+use Rattle.zx_moves.specs.Internal.Searching.{place_kind}
 use Rattle.zx_reduce.specs.declared.candidates.Candidates.{Candidates}
-use Rattle.zx_reduce.specs.declared.moves.Kind.{Kind}
-use Rattle.zx_reduce.specs.declared.moves.Kind.TheVariants as kinds
+use Rattle.zx_moves.specs.declared.moves.Kind.{Kind}
+use Rattle.zx_moves.specs.declared.moves.Kind.TheVariants as kinds
 use Rattle.zx_reduce.specs.declared.ranks.Ranks.{Ranks}
 
 -- the graph has a flow along the order of these ranks
@@ -25,19 +24,6 @@ pub record AreRanked (vs : List ℕ) (order : Ranks) : Type 0 where
   pub rises : RisesBy (rank_in order.ranks) vs
   pub from_low : (v : ℕ) → member v vs ≡ true → order.low ≤ rank_in order.ranks v
   pub below_high : (v : ℕ) → member v vs ≡ true → rank_in order.ranks v < order.high
-
--- the places at which moves of a kind begin
-abbrev pub place_kind : Kind → MoveKind
-place_kind kinds.Delete = Deletion
-place_kind kinds.QuarterGadget = QuarterGadget
-place_kind kinds.FromXZ = InXZ
-place_kind kinds.QuarterSpider = QuarterSpider
-place_kind kinds.InnerPivot = InnerPivot
-place_kind kinds.BoundaryPivot = BoundaryPivot
-place_kind kinds.GadgetPair = GadgetPair
-place_kind kinds.LoneGadget = LoneGadget
-place_kind kinds.SingleGadget = SingleGadget
-place_kind kinds.Twins = Twins
 
 -- the place of a kind in the order in which kinds are tried
 abbrev pub place_of : Kind → ℕ

@@ -1,5 +1,5 @@
 -- Room while moves are made.
-use Rattle.std.specs.Prelude.{◌≡◌, ◌≤◌, ◌+◌, ◌++◌, ℕ, List, [], ◌∷◌, length, map}
+use Rattle.std.specs.Prelude.{◌≤◌, ◌+◌, ℕ, List, [], ◌∷◌, length}
 use Rattle.zx_calculus.specs.Graph.{Graph, Plane, XY, XZ, YZ}
 use Rattle.zx_calculus.specs.Steps as calculus
 use Rattle.zx_calculus.specs.Steps.{IsStep}
@@ -7,9 +7,7 @@ use Rattle.move_laws.specs.Demand.{demand}
 use Rattle.open_graph.specs.OpenGraph.{OpenGraph}
 use Rattle.open_graph.specs.Rooms.{IsAtLeast}
 use Rattle.zx_flow.specs.Flows.{Flow, HaveReach}
-use Rattle.zx_reduce.specs.declared.step.Step.{Step}
 use Rattle.zx_reduce.specs.Rooms.{in_all, room_for}
-use Rattle.zx_reduce.specs.Steps.{step_named}
 
 -- graph and flow have memory for n vertices with ids below n, those that are there among them
 pub record HavePlaces (n : ℕ) (g : OpenGraph) (f : Flow) : Type 0 where
@@ -27,9 +25,3 @@ abbrev pub steps_needed : Plane → ℕ
 steps_needed XY = 12
 steps_needed XZ = 18
 steps_needed YZ = 18
-
--- these steps come behind those of a trace
-pub record AddsSteps (before after : List Step) (steps : List calculus.Step) : Type 0 where
-  pub added : List Step
-  pub trace : after ≡ before ++ added
-  pub named : map step_named added ≡ steps

@@ -1,7 +1,7 @@
 -- A neighbour is a vertex.
 use Rattle.zx_calculus.specs.Graph.{neighbours}
 use Rattle.open_graph.proofs.Walks.{next_some, next_there}
-use Rattle.zx_reduce.proofs.SearchTests.{live_near}
+use Rattle.zx_moves.proofs.SearchTests.{live_near}
 use Rattle.zx_grow.proofs.plan.plan_between.Goals as goal
 
 pub may_move-requires : goal.may_move-requires

@@ -1,9 +1,10 @@
 -- Where nothing of this kind is found, nothing is of the kind at that place.
 use Rattle.std.proofs.Common.{◌∙◌, sym, get_or, true≢false, arith}
 use Rattle.move_laws.proofs.Covering.{lives}
-use Rattle.zx_reduce.specs.declared.moves.Kind.TheVariants as kinds
-use Rattle.zx_reduce.specs.declared.moves.TheConstants.{KINDS}
-use Rattle.zx_reduce.specs.Internal.Guiding.{place_kind, list_place}
+use Rattle.zx_moves.specs.declared.moves.Kind.TheVariants as kinds
+use Rattle.zx_moves.specs.declared.moves.TheConstants.{KINDS}
+use Rattle.zx_reduce.specs.Internal.Guiding.{list_place}
+use Rattle.zx_moves.specs.Internal.Searching.{place_kind}
 use Rattle.zx_reduce.proofs.CandidateLists.{of_some_kind, kind_stands}
 use Rattle.zx_reduce.proofs.Guided.{none_of_place, found_at}
 use Rattle.zx_reduce.proofs.candidates.move_of.Goals as goal

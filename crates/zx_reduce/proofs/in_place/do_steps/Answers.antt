@@ -3,7 +3,7 @@ use Rattle.std.proofs.Common.{sym, subst, map, length, [], add-one, IsOk, arith}
 use Rattle.std.proofs.lemmas.Bool.{false≢true}
 use Rattle.std.proofs.lemmas.List.{take_all}
 use Rattle.zx_calculus.specs.Steps.{IsRun}
-use Rattle.zx_reduce.specs.Steps.{step_named}
+use Rattle.zx_moves.specs.Steps.{step_named}
 use Rattle.zx_reduce.proofs.MovesMade.{begun, next_allowed}
 use Rattle.zx_reduce.proofs.RoomLemmas.{room_of_step, places_after}
 use Rattle.zx_reduce.proofs.RoomKept.{places_same, places_then, step_keeps_places}

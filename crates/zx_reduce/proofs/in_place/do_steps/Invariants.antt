@@ -3,7 +3,7 @@
 use Rattle.std.proofs.Common.{ℕ, ◌+◌, ◌*◌, ◌≤◌, map}
 use Rattle.zx_calculus.specs.Graph.{WellFormed}
 use Rattle.gflow_laws.specs.Flow.{IsFlow}
-use Rattle.zx_reduce.specs.Steps.{step_named}
+use Rattle.zx_moves.specs.Steps.{step_named}
 use Rattle.zx_reduce.specs.Rooms.{KeepPlaces}
 use Rattle.zx_reduce.specs.Internal.Rooms.{HavePlaces, StaysWithin}
 use Rattle.zx_reduce.specs.Internal.Scaling.{Scales}

@@ -4,10 +4,10 @@ use Rattle.std.proofs.lemmas.Bool.{false≢true}
 use Rattle.zx_calculus.specs.Steps.{IsRun}
 use Rattle.zx_calculus.proofs.Positions.{on_ok}
 use Rattle.move_laws.specs.Demand.{demand}
-use Rattle.zx_reduce.specs.Internal.Planning.{AreAllowed}
+use Rattle.zx_moves.specs.Internal.Planning.{AreAllowed}
 use Rattle.zx_reduce.specs.Internal.Rooms.{StaysWithin}
 use Rattle.zx_reduce.proofs.DemandMoves.{move_within}
-use Rattle.zx_reduce.proofs.MoveSteps.{steps_allowed}
+use Rattle.zx_moves.proofs.MoveSteps.{steps_allowed}
 use Rattle.zx_reduce.proofs.Ranking.{on_any}
 use Rattle.zx_reduce.proofs.InPlace.{planned_steps, trace_with}
 use Rattle.zx_reduce.proofs.Scaling.{steps_six}

@@ -1,8 +1,8 @@
 -- One move more, for which there is room.
 use Rattle.std.proofs.Common.{refl, subst, IsOk, arith}
 use Rattle.std.proofs.lemmas.Bool.{false≢true}
-use Rattle.zx_reduce.proofs.MoveCounts.{most_moves-move}
-use Rattle.zx_reduce.proofs.MoveEnds.{stuck-reduced}
+use Rattle.zx_moves.proofs.MoveCounts.{most_moves-move}
+use Rattle.zx_moves.proofs.MoveEnds.{stuck-reduced}
 use Rattle.zx_reduce.proofs.MovesMade.{gains_none, gains_more}
 use Rattle.zx_reduce.proofs.RoomKept.{room_same, room_then}
 use Rattle.zx_reduce.proofs.InPlace.{room_begins, six_left, room_stays}

@@ -2,7 +2,7 @@
 use Rattle.std.proofs.Common.{◌*◌, ◌-◌, ◌≤◌, length}
 use Rattle.zx_calculus.specs.Graph.{WellFormed}
 use Rattle.gflow_laws.specs.Flow.{IsFlow}
-use Rattle.zx_reduce.specs.Moving.{most_moves, GainsMoves}
+use Rattle.zx_moves.specs.Moving.{most_moves, GainsMoves}
 use Rattle.zx_reduce.specs.Rooms.{HasRoom, KeepRoom}
 use Rattle.zx_reduce.specs.Internal.Scaling.{Scales}
 use Rattle.zx_reduce.proofs.InPlace.{IsRoomLeft}

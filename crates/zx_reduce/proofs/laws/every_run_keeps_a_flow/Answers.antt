@@ -1,7 +1,7 @@
 -- The law, by its lemma.
 use Rattle.std.proofs.Common.{map}
 use Rattle.gflow_laws.proofs.Steps.{run_keeps}
-use Rattle.zx_reduce.specs.Steps.{step_named}
+use Rattle.zx_moves.specs.Steps.{step_named}
 use Rattle.zx_reduce.proofs.laws.every_run_keeps_a_flow.Goals as goal
 
 pub returns : goal.returns

@@ -1,8 +1,8 @@
 -- The moves one after the other, and what they come to at the end.
 use Rattle.std.proofs.Common.{refl, arith}
 use Rattle.zx_reduce.proofs.Guided.{is_none}
-use Rattle.zx_reduce.proofs.MoveCounts.{most_moves-move}
-use Rattle.zx_reduce.proofs.MoveEnds.{stuck-reduced}
+use Rattle.zx_moves.proofs.MoveCounts.{most_moves-move}
+use Rattle.zx_moves.proofs.MoveEnds.{stuck-reduced}
 use Rattle.zx_reduce.proofs.MovesMade.{none_made, gains_more, still_guided}
 use Rattle.zx_reduce.proofs.Scaling.{few_made, scales_begin, one_more_fits, one_more_scales, all_scale}
 use Rattle.zx_reduce.proofs.reduction.make_moves.Goals as goal

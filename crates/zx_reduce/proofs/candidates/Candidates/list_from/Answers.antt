@@ -1,12 +1,13 @@
 -- Nothing begins where no vertex is or at a settled one, nor of the kinds that the loop passed.
 use Rattle.std.proofs.Common.{◌<◌, ◌∙◌, refl, sym, subst, get_or, true≢false, arith}
 use Rattle.move_laws.proofs.Covering.{lives}
-use Rattle.zx_reduce.specs.declared.moves.Kind.TheVariants as kinds
-use Rattle.zx_reduce.specs.declared.moves.TheConstants.{KINDS}
-use Rattle.zx_reduce.specs.Internal.Guiding.{place_kind, place_of}
+use Rattle.zx_moves.specs.declared.moves.Kind.TheVariants as kinds
+use Rattle.zx_moves.specs.declared.moves.TheConstants.{KINDS}
+use Rattle.zx_reduce.specs.Internal.Guiding.{place_of}
+use Rattle.zx_moves.specs.Internal.Searching.{place_kind}
 use Rattle.zx_reduce.proofs.CandidateLists.{kind_at, no_list, place_within}
 use Rattle.zx_reduce.proofs.Guided.{none_more, settled_none}
-use Rattle.zx_reduce.proofs.SearchPairs.{begins}
+use Rattle.zx_moves.proofs.SearchPairs.{begins}
 use Rattle.zx_reduce.proofs.candidates.Candidates.list_from.Goals as goal
 
 pub returns-then-not-is_live-clause-from : goal.returns-then-not-is_live-clause-from

@@ -1,12 +1,12 @@
 -- The steps one after the other.
 use Rattle.std.proofs.Common.{◌≡◌, ◌∙◌, sym, ap, subst, List, length, ◌++◌, map, add-one, arith}
 use Rattle.zx_model.specs.Bits.{member}
-use Rattle.zx_reduce.specs.declared.step.Step.{Step}
-use Rattle.zx_reduce.specs.Steps.{step_named}
-use Rattle.zx_reduce.specs.Moving.{steps_of}
-use Rattle.zx_reduce.specs.Internal.Planning.{AreAllowed}
+use Rattle.zx_moves.specs.declared.step.Step.{Step}
+use Rattle.zx_moves.specs.Steps.{step_named}
+use Rattle.zx_moves.specs.Moving.{steps_of}
+use Rattle.zx_moves.specs.Internal.Planning.{AreAllowed}
 use Rattle.zx_reduce.proofs.Guided.{candidates_all, candidates_but}
-use Rattle.zx_reduce.proofs.MoveSteps.{steps_allowed}
+use Rattle.zx_moves.proofs.MoveSteps.{steps_allowed}
 use Rattle.zx_reduce.proofs.MovesMade.{begun, next_allowed, next_done, all_done}
 use Rattle.zx_reduce.specs.Internal.Scaling.{Scales}
 use Rattle.zx_reduce.proofs.Scaling.{scales_none, scales_more, scales_next, few_fit, steps_six, twelve}

@@ -1,7 +1,7 @@
 -- The steps so far are done, the sum changed by so much, and the steps that are left can be done.
 use Rattle.std.proofs.Common.{◌≡◌, ◌*◌, map}
-use Rattle.zx_reduce.specs.Steps.{step_named}
-use Rattle.zx_reduce.specs.Moving.{steps_of}
+use Rattle.zx_moves.specs.Steps.{step_named}
+use Rattle.zx_moves.specs.Moving.{steps_of}
 use Rattle.zx_reduce.specs.Internal.Guiding.{IsGuidedBut}
 use Rattle.zx_reduce.specs.Internal.Scaling.{Scales}
 use Rattle.zx_reduce.proofs.MovesMade.{IsUnderWay}

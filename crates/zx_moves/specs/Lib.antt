@@ -1,0 +1,5 @@
+pub mod Steps
+pub mod Search
+pub mod Moving
+pub mod Traces
+pub mod Internal

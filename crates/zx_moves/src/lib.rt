@@ -1,0 +1,41 @@
+//! Rewrites of open graphs by their names, the moves of simplification, which consist of them, and the search
+//! for the next move.
+//!
+//! Proved: `next_move` answers a move that applies, of the first kind that applies anywhere, or that none is
+//! left; `move_at` the move of a kind at a vertex, or that there is none. Each move lowers a number of the
+//! graph, and its rewrites can be done one after the other. `Step::do_in` does a step on a graph alone.
+//!
+//! Inside:
+//!
+//! - `step`, `trace`: steps, which are rewrites by their names, a list of cases over the rewrites' own tests and
+//!   calls; and those that were done.
+//! - `moves`: the moves, their kinds and the order of kinds. `search` finds the next one in a graph, and that of
+//!   a kind at a vertex. Of pivots it takes the one that costs least, and at first those within a part of the
+//!   circuit, by `levels`. `planning` lists the steps of a move.
+//! - `simplification_laws`: the laws of moves.
+//!
+//! ```rust
+//! if let Some(found) = next_move(&graph) {
+//!     let kind = found.kind();
+//! }
+//! ```
+#![tactic(auto)]
+
+mod levels;
+mod moves;
+mod planning;
+mod search;
+mod simplification_laws;
+mod step;
+mod trace;
+
+pub use levels::{LEVELS, level_between, level_in, levels_of};
+pub use moves::{KINDS, Kind, Move};
+pub use planning::add_steps;
+pub use search::{is_settled, may_begin, move_at, next_move, pivot_cost};
+pub use simplification_laws::{
+    graphs_of_circuits_allow_few_moves, moves_are_a_run, moves_are_short, moves_begin_allowed,
+    moves_can_be_made, moves_end_in_reduced_graphs,
+};
+pub use step::Step;
+pub use trace::Trace;

@@ -1,6 +1,0 @@
--- The law, by its lemma.
-use Rattle.zx_reduce.proofs.MoveSteps.{move_made}
-use Rattle.zx_reduce.proofs.simplification_laws.moves_can_be_made.Goals as goal
-
-pub returns : goal.returns
-returns c = move_made
