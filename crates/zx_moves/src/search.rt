@@ -71,7 +71,7 @@ fn first_at(g: &OpenGraph, u: VertexId, limit: usize) -> Option<(usize, Move)>
 /// Whether a vertex is XY and of an odd phase. No move begins there, and most vertices are such.
 pub fn is_settled(g: &OpenGraph, u: VertexId) -> bool
     requires { Live g.now.graph u }
-    ensures { IsTrue result → IsSettled g.now.graph u }
+    ensures { IsTrue result ↔ IsSettled g.now.graph u }
 {
     let (plane, phase) = g.weight(u);
     matches!(plane, Plane::XY) && phase.is_odd()

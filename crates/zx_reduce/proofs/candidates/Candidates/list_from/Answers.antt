@@ -22,7 +22,7 @@ returns-then-is_settled-clause-from c = let far = no_list 264 (omega arith) in o
 
 pub returns-then-is_settled-clause-none : goal.returns-then-is_settled-clause-none
 returns-then-is_settled-clause-none c k v low high place =
-    settled_none c.args.g.now.graph (place_kind k) c.args.u v (c.if-is_settled.ensures refl) place
+    settled_none c.args.g.now.graph (place_kind k) c.args.u v (c.if-is_settled.ensures.0 refl) place
 
 pub loop-place-preserved : goal.loop-place-preserved
 loop-place-preserved c =
