@@ -18,7 +18,5 @@ pub fn graph_text(alloc: Global, diagram: Diagram) -> Result<Vec<u8>, AllocError
         → IfOk result (λ output. IsGraphText text output.items) }
 {
     let form = graph_like(alloc, diagram)?;
-    // The form is well-formed, so the numbers in its file are its ids.
-    let _well_formed = form.inputs();
     write_graph(alloc, &form, None)
 }

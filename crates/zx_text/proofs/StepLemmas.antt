@@ -1,18 +1,21 @@
 -- What a line of a graph file does: one vertex more at most, and its numbers are small.
-use Rattle.std.proofs.Common.{◌≡◌, ℕ, ◌+◌, ◌*◌, ◌^◌, ◌<◌, ◌≤◌, true, eqb, ltb, ◌&&◌, List, [], ◌∷◌, ◌++◌, length, refl, sym, ap, ◌∙◌, ltb-true, lt-ltb, eqb-true, arith, Some}
+use Rattle.std.proofs.Common.{◌≡◌, ℕ, ◌+◌, ◌*◌, ◌^◌, ◌<◌, ◌≤◌, Bool, true, false, eqb, ltb, ◌&&◌, List, [], ◌∷◌, ◌++◌, length, drop, refl, sym, ap, ap₂, ◌∙◌, subst, ltb-true, lt-ltb, eqb-true, arith, Option, Some, Result, Ok, Err, IfOk}
 use Rattle.std.specs.List.{list_all}
+use Rattle.std.specs.Option.{option_map}
 use Rattle.zx_model.specs.Phase.{turn}
 use Rattle.zx_model.specs.Bits.{member}
 use Rattle.zx_calculus.specs.Graph.{in_order, different}
-use Rattle.zx_calculus.proofs.Ids.{and-left, and-right, member-here, member-append}
+use Rattle.zx_calculus.proofs.Ids.{eqb-self, and-left, and-right, member-here, member-append}
 use Rattle.zx_calculus.proofs.Kept.{both}
 use Rattle.zx_text.specs.Files.{Version, One, Two, unit, non_outputs}
 use Rattle.zx_text.specs.Lines.{Line, VertexLine, EdgeLine, InputLine, OutputLine, FlowLine, OrderLine, CorrectLine, EndLine}
 use Rattle.zx_text.specs.Reading.{Wanted}
 use Rattle.zx_text.specs.Internal.SmallNumbers.{is_small}
 use Rattle.zx_text.specs.Internal.Taking.{has_small}
-use Rattle.zx_text.specs.Internal.Stepping.{State, InGraph, AtFlow, InSets, Over, step, flow_step, set_step, vertices_of, order_fits, set_fits}
+use Rattle.zx_text.specs.Internal.Stepping.{Sets, State, InGraph, AtFlow, InSets, Over, only_if, step, flow_step, set_step, vertices_of, order_fits, set_fits, set_added}
+use Rattle.zx_text.specs.Internal.Readers.{state_of, IsKept}
 use Rattle.zx_text.specs.Internal.Said.{AreSetsOf, IsSoFar}
+use Rattle.zx_text.specs.declared.reader.Reader.{Reader}
 use Rattle.zx_text.proofs.PartLemmas.{length-last}
 use Rattle.zx_text.proofs.SetLemmas.{none_out}
 use Rattle.zx_text.proofs.RunLemmas.{only, passed}
@@ -105,3 +108,26 @@ small_next version wanted (InSets p) so_far l next so few e = small_set p.left l
         (small_below (length p.graph.vertices) members few (and-right (in_order ltb members) _ (and-right (eqb u v) _ fits)))
     small_set left l at e = absurd (cc)
 small_next version wanted (Over g table) so_far l next so few e = absurd (cc)
+
+-- ---- what is read so far is kept where a line fits
+kept_step : {A E : Type 0} (wrap : A → State) (fits : Result Bool E) (answer : Result (Option Reader) E) (new added : A) (test : Bool) → IfOk fits (λ b. b ≡ test)
+    → IfOk fits (λ b. b ≡ true → new ≡ added) → IsKept fits (wrap new) answer → IfOk answer (λ next. option_map state_of next ≡ only_if test (wrap added))
+kept_step wrap (Ok true) (Ok next) new added test is gives kept = kept ∙ ap (λ x. Some (wrap x)) (gives refl) ∙ ap (λ t. only_if t (wrap added)) is
+kept_step wrap (Ok false) (Ok next) new added test is gives kept = kept ∙ ap (λ t. only_if t (wrap added)) is
+kept_step wrap (Err e) (Ok next) new added test is gives kept = absurd kept
+kept_step wrap fits (Err e) new added test is gives kept = tt
+
+pub kept_by : {A E : Type 0} (wrap : A → State) {fits made : Result Bool E} (answer : Result (Option Reader) E) {after new : A} (added : A) (test : Bool) → fits ≡ made → after ≡ new
+    → IfOk made (λ b. b ≡ test) → IfOk made (λ b. b ≡ true → new ≡ added) → IsKept fits (wrap after) answer
+    → IfOk answer (λ next. option_map state_of next ≡ only_if test (wrap added))
+kept_by wrap {fits} {made} answer {after} {new} added test same_fits same_new is gives kept =
+    kept_step wrap made answer new added test is gives
+    (subst (λ f. IsKept f (wrap new) answer) same_fits (subst (λ a. IsKept fits (wrap a) answer) same_new kept))
+
+-- what the line of the next set does
+pub set_next : (p : Sets) (next v : ℕ) (members given : List ℕ) → p.left ≡ next ∷ drop 1 p.left → v ≡ next → given ≡ members
+    → set_step p p.left (CorrectLine v members) ≡ only_if (set_fits p.graph given) (InSets (set_added p (drop 1 p.left) next given))
+set_next p next v members given at same equal =
+    ap (λ l. set_step p l (CorrectLine v members)) at
+    ∙ ap₂ (λ w ms. only_if (eqb w next && set_fits p.graph ms) (InSets (set_added p (drop 1 p.left) w ms))) same (sym equal)
+    ∙ ap (λ b. only_if (b && set_fits p.graph given) (InSets (set_added p (drop 1 p.left) next given))) (eqb-self next)

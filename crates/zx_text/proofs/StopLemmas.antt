@@ -17,9 +17,13 @@ use Rattle.zx_text.proofs.LeadsLemmas.{finish, complete}
 use Rattle.zx_text.proofs.BadLineLemmas as bad
 use Rattle.zx_text.proofs.BadLineLemmas.{one_end}
 
+-- what holds of both versions holds of any
+pub each_version : (P : Version → Type 0) → P One → P Two → (version : Version) → P version
+each_version P one two One = one
+each_version P one two Two = two
+
 header_is : (version : Version) (x : List ℕ) → header version ++ x ≡ word version ++ 10 ∷ x
-header_is One x = refl
-header_is Two x = refl
+header_is version x = each_version (λ v. header v ++ x ≡ word v ++ 10 ∷ x) refl refl version
 
 spelled_is : (version : Version) (g : Graph) (table : Option (List Correction)) → spelled version g table ≡ word version ++ 10 ∷ flat_map spelled_line (lines version g table)
 unfolding spelled
@@ -56,22 +60,14 @@ is_file wanted text (Over g table) is =
     let spells = headed_spells wanted text g table is in
     record { graph = g; table = table; spells = spells.0; is_wanted = spells.1 }
 
-word_plain : (version : Version) → list_all (ltb 10) (word version) ≡ true
-word_plain One = refl
-word_plain Two = refl
-
-told_apart : (version : Version) → version_in (word version) ≡ version
-told_apart One = refl
-told_apart Two = refl
-
 pub by_lines : (wanted : Wanted) → IsFormat (graph_files wanted)
 by_lines wanted = record {
   read = read;
   read_parts = read-parts;
   some_part = some_part;
   plain_parts = plain_parts;
-  plain_word = word_plain;
-  told_apart = told_apart;
+  plain_word = each_version (λ version. list_all (ltb 10) (word version) ≡ true) refl refl;
+  told_apart = each_version (λ version. version_in (word version) ≡ version) refl refl;
   none_yet = refl;
   grows = λ version st l next leads. vertices_after version wanted st l next leads;
   small = λ version so_far st l next to_st few leads. small_next version wanted st so_far l next (reached version so_far st to_st) few leads;

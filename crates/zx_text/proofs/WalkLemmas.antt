@@ -1,6 +1,7 @@
 -- A text is cut in one way into lines that lead anywhere.
-use Rattle.std.proofs.Common.{◌≡◌, ℕ, ◌+◌, ◌^◌, ◌≤◌, true, false, List, [], ◌∷◌, ◌++◌, length, refl, sym, ap, ap₂, ◌∙◌, true≢false, append_assoc, append-nil, length-append, arith, codes, None, Some}
+use Rattle.std.proofs.Common.{◌≡◌, ℕ, ◌+◌, ◌^◌, ◌≤◌, true, false, List, [], ◌∷◌, ◌++◌, length, refl, sym, ap, ap₂, ◌∙◌, true≢false, append_assoc, append-nil, length-append, arith, codes, Option, None, Some, Result, Ok, Err, IfOk, IfSome, IfNone}
 use Rattle.std.specs.List.{list_all, flat_map, join_with_byte}
+use Rattle.std.specs.Option.{option_map}
 use Rattle.std.proofs.lemmas.Grind.{flat_map-append}
 use Rattle.zx_model.specs.Bits.{member}
 use Rattle.zx_calculus.proofs.Kept.{both}
@@ -57,6 +58,21 @@ module _ (F : Format) (laws : IsFormat F) where
   pub refused : (version : Version) (st : F.State) (said : F.Line) (line : List ℕ) → F.is_small said ≡ true → F.parts said ≡ pieces 32 line
       → F.step version st said ≡ None → IsRefused F version st line
   refused version st said line small same nowhere = λ l fits at. ap (F.step version st) (same_parts l said fits small (at ∙ sym same)) ∙ nowhere
+
+  -- what an answer says of a line that was read, it says of the bytes
+  pub leads_on : {R E : Type 0} (state : R → F.State) (answer : Result (Option R) E) (version : Version) (st : F.State) (said : F.Line) (line : List ℕ)
+      → F.is_small said ≡ true → F.parts said ≡ pieces 32 line → IfOk answer (λ found. option_map state found ≡ F.step version st said)
+      → IfOk answer (λ found. IfSome found (λ next. IsTaken F version st line (state next)))
+  leads_on state (Ok (Some next)) version st said line small same leads = record { said = said; small = small; parts = same; leads = sym leads }
+  leads_on state (Ok None) version st said line small same leads = tt
+  leads_on state (Err e) version st said line small same leads = tt
+
+  pub leads_nowhere : {R E : Type 0} (state : R → F.State) (answer : Result (Option R) E) (version : Version) (st : F.State) (said : F.Line) (line : List ℕ)
+      → F.is_small said ≡ true → F.parts said ≡ pieces 32 line → IfOk answer (λ found. option_map state found ≡ F.step version st said)
+      → IfOk answer (λ found. IfNone found (IsRefused F version st line))
+  leads_nowhere state (Ok (Some next)) version st said line small same leads = tt
+  leads_nowhere state (Ok None) version st said line small same leads = refused version st said line small same (sym leads)
+  leads_nowhere state (Err e) version st said line small same leads = tt
 
   pub line_text : (l : F.Line) → F.is_small l ≡ true → (pieces 32 (text_of F l) ≡ F.parts l) × (member 10 (text_of F l) ≡ false)
   line_text l fits = plain_text (F.parts l) (laws.some_part l) (laws.plain_parts l fits)

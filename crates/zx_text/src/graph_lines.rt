@@ -1,8 +1,11 @@
 //! The lines of a graph file, behind the first one.
 
-ghost use Rattle.std.specs.Prelude.{◌≡◌};
+ghost use Rattle.std.specs.Prelude.{◌≡◌, ◌<◌, ◌^◌, length, IfOk, IfNone, IfSome};
+ghost use Rattle.zx_text.specs.Formats.{IsTaken, IsRefused};
+ghost use Rattle.zx_text.specs.Versions.{version_named};
 ghost use Rattle.zx_text.specs.Internal.GraphFormat.{graph_files};
 ghost use Rattle.zx_text.specs.Internal.Readers.{is_over, state_of, wanted_by};
+ghost use Rattle.zx_text.specs.Internal.Stepping.{vertices_of};
 
 use crate::graph_part::GraphPart;
 use crate::line::parse;
@@ -38,12 +41,36 @@ impl<const WITH_FLOW: bool> LineReader for GraphLines<WITH_FLOW> {
         version: Version,
         line: &[u8],
     ) -> Result<Option<GraphLines<WITH_FLOW>>, AllocError> {
-        match parse(alloc, line)? {
-            Some(line) => match taken(alloc, version, WITH_FLOW, self.0, &line)? {
-                Some(next) => Ok(Some(GraphLines(next))),
-                None => Ok(None),
-            },
+        match line_taken(alloc, version, WITH_FLOW, self.0, line)? {
+            Some(next) => Ok(Some(GraphLines(next))),
             None => Ok(None),
+        }
+    }
+}
+
+// What one more line leads to, here without its line feed, if it fits.
+fn line_taken(
+    alloc: Global,
+    version: Version,
+    with_flow: bool,
+    reader: Reader,
+    line: &[u8],
+) -> Result<Option<Reader>, AllocError>
+    requires room { length (vertices_of (state_of reader)) < 2 ^ 32 }
+    ensures taken { IfOk result (λ found. IfSome found (λ next. IsTaken (graph_files (wanted_by with_flow))
+        (version_named version) (state_of reader) line.now (state_of next))) }
+    ensures none { IfOk result (λ found. IfNone found (IsRefused (graph_files (wanted_by with_flow))
+        (version_named version) (state_of reader) line.now)) }
+{
+    match parse(alloc, line) {
+        Ok(Some(line)) => taken(alloc, version, with_flow, reader, &line),
+        Ok(None) => {
+            drop(reader);
+            Ok(None)
+        }
+        Err(error) => {
+            drop(reader);
+            Err(error)
         }
     }
 }

@@ -3,7 +3,7 @@
 ghost use Rattle.std.specs.Prelude.{◌≡◌, ◌≤◌, ◌++◌, true, codes, decimal, length, IfOk, IfSome, OnOk, ltb};
 ghost use Rattle.std.specs.List.{flat_map, list_all};
 ghost use Rattle.std.specs.Option.{ForSome, option_map};
-ghost use Rattle.zx_calculus.specs.Graph.{in_order, Live};
+ghost use Rattle.zx_calculus.specs.Graph.{in_order, Live, WellFormed};
 ghost use Rattle.zx_calculus.specs.Graph as zx;
 ghost use Rattle.open_graph.specs.Planes.{plane_named};
 ghost use Rattle.gflow_laws.specs.Flow.{IsTableOf};
@@ -34,6 +34,7 @@ pub fn write_graph(alloc: Global, g: &OpenGraph, f: Option<&Flow>) -> Result<Vec
     ensures file { IfOk result (λ text. length g.now.graph.inputs ≤ most_ends →
         length g.now.graph.outputs ≤ most_ends → Spells text.items (numbered g.now.graph)
         (numbered_flow g.now.graph (option_map (λ flow. flow.now.flow) f.entry))) }
+    ensures valid { WellFormed g.now.graph }
 {
     let used = ids_of(alloc, g)?;
     let mut text = Vec::new(alloc);
@@ -51,6 +52,7 @@ pub fn write_graph(alloc: Global, g: &OpenGraph, f: Option<&Flow>) -> Result<Vec
 fn ids_of(alloc: Global, g: &OpenGraph) -> Result<Vec<usize>, AllocError>
     ensures all { IfOk result (λ used. used.items ≡ zx.ids g.now.graph.vertices) }
     ensures rising { in_order ltb (zx.ids g.now.graph.vertices) ≡ true }
+    ensures valid { WellFormed g.now.graph }
 {
     let mut used = Vec::new(alloc);
     for v in g.vertices() {

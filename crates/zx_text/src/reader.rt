@@ -5,7 +5,7 @@ ghost use Rattle.std.specs.Option.{option_map};
 ghost use Rattle.zx_text.specs.Versions.{version_named};
 ghost use Rattle.zx_text.specs.Internal.Taking.{line_said};
 ghost use Rattle.zx_text.specs.Internal.Stepping.{step, graph_step, flow_step, set_step, vertices_of};
-ghost use Rattle.zx_text.specs.Internal.Readers.{state_of, wanted_by};
+ghost use Rattle.zx_text.specs.Internal.Readers.{state_of, wanted_by, IsKept};
 
 use crate::graph_part::GraphPart;
 use crate::line::Line;
@@ -44,7 +44,11 @@ pub(crate) fn taken(
         Reader::Graph(part) => graph_taken(version, with_flow, part, line),
         Reader::Flow(part) => order_taken(alloc, part, line),
         Reader::Sets(part) => set_taken(part, line),
-        Reader::Over(_graph, _table) => Ok(None),
+        Reader::Over(graph, table) => {
+            drop(graph);
+            drop(table);
+            Ok(None)
+        }
     }
 }
 
@@ -65,12 +69,13 @@ fn graph_taken(
             number,
             plane,
             phase,
-        } => part.take_vertex(version, *number, *plane, *phase)?,
-        Line::Edge(a, b) => part.take_edge(*a, *b)?,
-        Line::Input(v, hadamard) => part.take_input(*v, *hadamard)?,
-        Line::Output(v, hadamard) => part.take_output(*v, *hadamard)?,
+        } => part.take_vertex(version, *number, *plane, *phase),
+        Line::Edge(a, b) => part.take_edge(*a, *b),
+        Line::Input(v, hadamard) => part.take_input(*v, *hadamard),
+        Line::Output(v, hadamard) => part.take_output(*v, *hadamard),
         Line::Flow => return Ok(Some(Reader::Flow(part))),
-        Line::Order(_) | Line::Correct(_, _) => false,
+        Line::Order(_) => Ok(false),
+        Line::Correct(_, _) => Ok(false),
         Line::End => {
             if with_flow {
                 drop(part);
@@ -79,11 +84,23 @@ fn graph_taken(
             return Ok(Some(Reader::Over(part.graph, None)));
         }
     };
-    if fits {
-        Ok(Some(Reader::Graph(part)))
-    } else {
-        drop(part);
-        Ok(None)
+    kept(Reader::Graph(part), fits)
+}
+
+// What is read so far, if the last line fits.
+fn kept(reader: Reader, fits: Result<bool, AllocError>) -> Result<Option<Reader>, AllocError>
+    ensures { IsKept fits (state_of reader) result }
+{
+    match fits {
+        Ok(true) => Ok(Some(reader)),
+        Ok(false) => {
+            drop(reader);
+            Ok(None)
+        }
+        Err(error) => {
+            drop(reader);
+            Err(error)
+        }
     }
 }
 
@@ -96,7 +113,10 @@ fn order_taken(alloc: Global, part: GraphPart, line: &Line) -> Result<Option<Rea
             Some(sets) => Ok(Some(Reader::Sets(sets))),
             None => Ok(None),
         },
-        _ => Ok(None),
+        _ => {
+            drop(part);
+            Ok(None)
+        }
     }
 }
 
@@ -126,14 +146,13 @@ fn member_line_taken(
                 return Ok(None);
             }
             let mut part = part;
-            if part.take_set(next, members)? {
-                Ok(Some(Reader::Sets(part)))
-            } else {
-                drop(part);
-                Ok(None)
-            }
+            let fits = part.take_set(next, members);
+            kept(Reader::Sets(part), fits)
         }
-        _ => Ok(None),
+        _ => {
+            drop(part);
+            Ok(None)
+        }
     }
 }
 
@@ -144,6 +163,9 @@ fn end_taken(part: SetPart, line: &Line) -> Result<Option<Reader>, AllocError>
 {
     match line {
         Line::End => Ok(Some(Reader::Over(part.graph, Some(part.table)))),
-        _ => Ok(None),
+        _ => {
+            drop(part);
+            Ok(None)
+        }
     }
 }

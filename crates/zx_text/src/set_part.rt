@@ -54,40 +54,24 @@ impl SetPart {
         ensures fits { IfOk result (λ found. IfSome found (λ p. order_fits part.graph order.now ≡ true)) }
         ensures none { IfOk result (λ found. IfNone found (order_fits part.graph order.now ≡ false)) }
     {
-        match table_of(alloc, &part, order)? {
-            Some((table, placed)) => SetPart::of_table(alloc, part, order, table, placed),
-            None => Ok(None),
+        match table_of(alloc, &part, order) {
+            Ok(Some((table, all))) => Ok(Some(SetPart {
+                graph: part.graph,
+                table,
+                alloc,
+                vertices: part.vertices,
+                all,
+                place: 0,
+            })),
+            Ok(None) => {
+                drop(part);
+                Ok(None)
+            }
+            Err(error) => {
+                drop(part);
+                Err(error)
+            }
         }
-    }
-
-    // The same, with the table of that order and the vertices in it.
-    fn of_table(
-        alloc: Global,
-        part: GraphPart,
-        order: &[usize],
-        table: FlowTable,
-        placed: VertexSet,
-    ) -> Result<Option<SetPart>, AllocError>
-        requires table { table.table ≡ no_sets order.now }
-        requires placed { (w : ℕ) → member w placed.ids ≡ member w order.now }
-        requires fits { (in_order different order.now
-            && list_all (λ v. member v (non_outputs part.graph)) order.now) ≡ true }
-        ensures some { IfOk result (λ found. IfSome found (λ p. p ≡ ordered part.graph order.now)) }
-        ensures fits { IfOk result (λ found. IfSome found (λ p. order_fits part.graph order.now ≡ true)) }
-        ensures none { IfOk result (λ found. IfNone found (order_fits part.graph order.now ≡ false)) }
-    {
-        let all = without_output(alloc, &part)?;
-        if !has_all(&placed, &all) {
-            return Ok(None);
-        }
-        Ok(Some(SetPart {
-            graph: part.graph,
-            table,
-            alloc,
-            vertices: part.vertices,
-            all,
-            place: 0,
-        }))
     }
 
     // The vertex whose set comes next, if there is one.
@@ -116,34 +100,76 @@ impl SetPart {
     }
 }
 
-// The table of an order without sets, and the vertices in it, if each stands in it once and has no
-// output.
+// The table of an order without sets, and the vertices without an output, if each of these stands in the order once, and
+// no other does.
 fn table_of(
     alloc: Global,
     part: &GraphPart,
     order: &[usize],
-) -> Result<Option<(FlowTable, VertexSet)>, AllocError>
+) -> Result<Option<(FlowTable, Vec<VertexId>)>, AllocError>
     ensures table { IfOk result (λ found. IfSome found (λ p. p.0.table ≡ no_sets order.now)) }
-    ensures placed { IfOk result (λ found. IfSome found (λ p.
-        (w : ℕ) → member w p.1.ids ≡ member w order.now)) }
-    ensures fits { IfOk result (λ found. IfSome found (λ p. (in_order different order.now
-        && list_all (λ v. member v (non_outputs part.now.graph)) order.now) ≡ true)) }
+    ensures all { IfOk result (λ found. IfSome found (λ p. p.1.items ≡ non_outputs part.now.graph)) }
+    ensures fits { IfOk result (λ found. IfSome found (λ p. order_fits part.now.graph order.now ≡ true)) }
     ensures none { IfOk result (λ found. IfNone found (order_fits part.now.graph order.now ≡ false)) }
 {
+    let all = without_output(alloc, part)?;
     let mut table = FlowTable::new(alloc);
+    if is_order(alloc, part, order, &all, &mut table)? {
+        Ok(Some((table, all)))
+    } else {
+        Ok(None)
+    }
+}
+
+// Puts an order into a table, and tells whether each of the vertices without an output, which are lent, stands in it
+// once, and no other does.
+fn is_order(
+    alloc: Global,
+    part: &GraphPart,
+    order: &[usize],
+    all: &[VertexId],
+    table: &mut FlowTable,
+) -> Result<bool, AllocError>
+    requires all { all.now ≡ non_outputs part.now.graph }
+    requires empty { table.old.table ≡ [] }
+    ensures fits { IfOk result (λ fits. fits ≡ order_fits part.now.graph order.now) }
+    ensures table { IfOk result (λ fits. fits ≡ true → table.new.table ≡ no_sets order.now) }
+{
     let mut placed = VertexSet::new(alloc);
+    if place_all(part, order, table, &mut placed)? {
+        Ok(has_all(&placed, all))
+    } else {
+        Ok(false)
+    }
+}
+
+// Puts an order into a table and its vertices into a set, and tells whether each stands in it once and has no output.
+fn place_all(
+    part: &GraphPart,
+    order: &[usize],
+    table: &mut FlowTable,
+    placed: &mut VertexSet,
+) -> Result<bool, AllocError>
+    requires table { table.old.table ≡ [] }
+    requires placed { placed.old.ids ≡ [] }
+    ensures table { IfOk result (λ fits. fits ≡ true → table.new.table ≡ no_sets order.now) }
+    ensures placed { IfOk result (λ fits. fits ≡ true →
+        (w : ℕ) → member w placed.new.ids ≡ member w order.now) }
+    ensures fits { IfOk result (λ fits. fits ≡ (in_order different order.now
+        && list_all (λ v. member v (non_outputs part.now.graph)) order.now)) }
+{
     for number in order {
         let v = VertexId::new(*number);
         if !has_no_output(part, v) {
-            return Ok(None);
+            return Ok(false);
         }
         if placed.contains(v) {
-            return Ok(None);
+            return Ok(false);
         }
         table.add(v, &[])?;
         placed.toggle(v)?;
     }
-    Ok(Some((table, placed)))
+    Ok(true)
 }
 
 // Whether an id is that of a vertex without an output.

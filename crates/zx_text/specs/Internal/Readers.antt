@@ -1,8 +1,8 @@
 -- What the reader's values stand for.
-use Rattle.std.specs.Prelude.{Bool, true, false}
+use Rattle.std.specs.Prelude.{◌≡◌, Bool, true, false, Option, Result, Ok, Err, IfOk}
 use Rattle.std.specs.Option.{option_map}
 use Rattle.zx_text.specs.Reading.{Wanted, AnyFile, OnlyWithFlow}
-use Rattle.zx_text.specs.Internal.Stepping.{State, InGraph, AtFlow, InSets, Over}
+use Rattle.zx_text.specs.Internal.Stepping.{State, InGraph, AtFlow, InSets, Over, only_if}
 use Rattle.zx_text.specs.declared.reader.Reader.{Reader}
 use Rattle.zx_text.specs.declared.reader.Reader.TheVariants as reader
 
@@ -24,3 +24,8 @@ is_over (InGraph part) = false
 is_over (AtFlow g) = false
 is_over (InSets part) = false
 is_over (Over g table) = true
+
+-- what is read so far is kept where the last line fits
+abbrev pub IsKept : {E : Type 0} → Result Bool E → State → Result (Option Reader) E → Type 0
+IsKept (Ok fits) st answer = IfOk answer (λ next. option_map state_of next ≡ only_if fits st)
+IsKept (Err error) st answer = IfOk answer (λ next. ⊥)

@@ -16,6 +16,6 @@ returns c = λ text file.
       form = form;
       is_form = c.in_ok-form.ensures.form;
       same_map = c.in_ok-form.ensures.map;
-      spelled = made ∙ ap (λ g. spelled Two g None) (numbered_form diagram form c.in_ok-form.ensures.form c.inputs-well_formed.ensures.valid);
+      spelled = made ∙ ap (λ g. spelled Two g None) (numbered_form diagram form c.in_ok-form.ensures.form c.write_graph.ensures.valid);
     })
     c.write_graph.ensures.text

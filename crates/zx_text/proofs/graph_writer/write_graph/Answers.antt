@@ -30,3 +30,6 @@ returns-clause-file c =
     written_spells g (option_map (λ flow. flow.now.flow) c.args.f) _ c.inputs.ensures.valid
     (lent_table (λ flow. flow.now.flow) (IsTableOf (seen g)) c.args.f c.requires.flow)
     c.in_ok-push_lent.ensures.rising (returns-clause-text c)
+
+pub returns-clause-valid : goal.returns-clause-valid
+returns-clause-valid c = c.inputs.ensures.valid

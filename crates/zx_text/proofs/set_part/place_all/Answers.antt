@@ -1,22 +1,23 @@
 -- An order, one vertex after the other.
-use Rattle.std.proofs.Common.{◌≡◌, ◌∙◌, ◌+◌, ℕ, List, ◌++◌, ◌∷◌, [], true, false, sym, ap, take, get_or}
+use Rattle.std.proofs.Common.{◌≡◌, ◌∙◌, ◌+◌, ℕ, List, ◌++◌, ◌∷◌, [], ◌&&◌, true, false, sym, ap, subst, take, take_all, get_or, arith}
 use Rattle.std.specs.List.{list_all}
 use Rattle.zx_model.specs.Bits.{member}
 use Rattle.zx_calculus.specs.Graph.{in_order, different}
+use Rattle.zx_calculus.proofs.Kept.{both}
 use Rattle.gflow_laws.specs.Flow.{order_of}
 use Rattle.zx_text.specs.Files.{non_outputs}
 use Rattle.zx_text.specs.Internal.Stepping.{no_sets}
 use Rattle.zx_text.proofs.PartLemmas.{all-last, order-last}
 use Rattle.zx_text.proofs.SetLemmas.{first_false, not_in_order_at, taken_more, member-different, different_from, member_more, next_order, order_of-no_sets}
-use Rattle.zx_text.proofs.set_part.table_of.Goals as goal
+use Rattle.zx_text.proofs.set_part.place_all.Goals as goal
 
-pub returns-then-contains-clause-none : goal.returns-then-contains-clause-none
-returns-then-contains-clause-none c =
+pub returns-then-contains-clause-fits : goal.returns-then-contains-clause-fits
+returns-then-contains-clause-fits c =
     let xs : List ℕ = c.args.order.now in
     let i : ℕ = c.loop-number.number-index in
     let inside : member (get_or xs i 0) (take i xs) ≡ true =
     sym (c.loop-number.invariant.placed (get_or xs i 0)) ∙ ap (λ v. member v c.loop-number.placed.ids) (sym c.new-v.ensures) ∙ sym c.contains.ensures ∙ c.if-contains.true in
-    first_false _ _ (not_in_order_at different xs i 0 c.loop-number-test.true (member-different (get_or xs i 0) (take i xs) inside))
+    sym (first_false _ _ (not_in_order_at different xs i 0 c.loop-number-test.true (member-different (get_or xs i 0) (take i xs) inside)))
 
 pub add-requires-clause-fresh : goal.add-requires-clause-fresh
 add-requires-clause-fresh c =
@@ -39,3 +40,8 @@ loop-number-preserved c =
       no_others = ap (list_all (λ u. member u (non_outputs c.args.part.now.graph))) more
           ∙ all-last (λ u. member u (non_outputs c.args.part.now.graph)) (take i xs) v c.loop-number.invariant.no_others (sym c.has_no_output.ensures ∙ c.if-not-has_no_output.false);
     }
+
+pub returns-clause-fits : goal.returns-clause-fits
+returns-clause-fits c =
+    sym (subst (λ (xs : List ℕ). (in_order different xs && list_all (λ v. member v (non_outputs c.args.part.now.graph)) xs) ≡ true)
+    (take_all c.loop-number.number-index c.args.order.now (omega arith)) (both _ _ c.loop-number.invariant.once c.loop-number.invariant.no_others))

@@ -5,7 +5,7 @@ use Rattle.zx_model.specs.Bits.{member}
 use Rattle.zx_calculus.specs.Graph.{in_order, different}
 use Rattle.zx_text.specs.Files.{non_outputs}
 use Rattle.zx_text.specs.Internal.Stepping.{no_sets}
-use Rattle.zx_text.proofs.set_part.table_of.Given as goal
+use Rattle.zx_text.proofs.set_part.place_all.Given as goal
 
 abbrev pub invariant-loop-number : goal.invariant-loop-number
 invariant-loop-number l = record {
