@@ -2,9 +2,10 @@
 use Rattle.std.proofs.Common.{◌≡◌, ℕ, ◌≤◌, true, ltb, List, [], ◌∷◌, ◌++◌, length, refl, sym, ap, ◌∙◌, true≢false, Some}
 use Rattle.std.specs.List.{list_all, flat_map}
 use Rattle.zx_diagram.specs.Diagram.{Diagram}
-use Rattle.zx_text.specs.Files.{Version, One, Two}
+use Rattle.zx_text.specs.Files.{Version}
 use Rattle.zx_text.specs.Reading.{most_bytes}
 use Rattle.zx_text.specs.Formats.{IsFormat, IsHeaded, GoesOn, run_of, version_in}
+use Rattle.zx_text.proofs.StopLemmas.{each_version}
 use Rattle.zx_text.proofs.BadLineLemmas as bad
 use Rattle.zx_text.proofs.BadLineLemmas.{one_end}
 use Rattle.diagram_text.specs.declared.line.Line.{Line}
@@ -22,8 +23,7 @@ use Rattle.diagram_text.proofs.SaidLemmas.{sound}
 use Rattle.diagram_text.proofs.LeadsLemmas.{complete}
 
 header_is : (version : Version) (x : List ℕ) → header version ++ x ≡ word version ++ 10 ∷ x
-header_is One x = refl
-header_is Two x = refl
+header_is version x = each_version (λ v. header v ++ x ≡ word v ++ 10 ∷ x) refl refl version
 
 spelled_is : (version : Version) (d : Diagram) → spelled version d ≡ word version ++ 10 ∷ flat_map spelled_line (lines version d)
 unfolding spelled
@@ -56,22 +56,14 @@ goes_on : (version : Version) (so_far : List Line) (st : Reader) → run_of diag
 goes_on version so_far (Open d) to_st = record { more = End ∷ []; end = Over d; leads = refl; over = refl }
 goes_on version so_far (Over d) to_st = record { more = []; end = Over d; leads = refl; over = refl }
 
-word_plain : (version : Version) → list_all (ltb 10) (word version) ≡ true
-word_plain One = refl
-word_plain Two = refl
-
-told_apart : (version : Version) → version_in (word version) ≡ version
-told_apart One = refl
-told_apart Two = refl
-
 pub by_lines : IsFormat diagram_files
 by_lines = record {
   read = read;
   read_parts = read-parts;
   some_part = some_part;
   plain_parts = plain_parts;
-  plain_word = word_plain;
-  told_apart = told_apart;
+  plain_word = each_version (λ version. list_all (ltb 10) (word version) ≡ true) refl refl;
+  told_apart = each_version (λ version. version_in (word version) ≡ version) refl refl;
   none_yet = refl;
   grows = spiders_after;
   small = λ version so_far st l next to_st few leads. small_next version st l next few leads;
