@@ -1,0 +1,159 @@
+//! That calls succeed with ample memory, along a path of three.
+
+use crate::drawing::{Drawing, draw, id, stands_in};
+use open_graph::{OpenGraph, Plane, VertexId, VertexSet};
+use std::alloc::Global;
+use std::process::Abort;
+use std::test::Fail;
+use zx_flow::{Flow, FlowTable};
+
+// The ids, as the digits of a number.
+fn digits(ids: &[VertexId]) -> usize {
+    let mut digits = 0usize;
+    for id in ids {
+        digits = digits.wrapping_mul(10).wrapping_add(id.get());
+    }
+    digits
+}
+
+fn add(rt: &impl Abort, table: &mut FlowTable, v: usize, w: usize) -> Result<(), Fail> {
+    assert!(rt; !stands_in(table.order(), id(v)));
+    table.add(id(v), &[id(w)])?;
+    Ok(())
+}
+
+// Adds 1, corrected by 2, and 0, corrected by 1.
+fn add_two(rt: &impl Abort, alloc: Global, table: &mut FlowTable) -> Result<(), Fail> {
+    add(rt, table, 1, 2)?;
+    add(rt, table, 0, 1)?;
+    assert_eq!(rt; digits(table.order()), 10);
+    assert!(rt; stands_in(table.order(), id(1)));
+    let ids: Vec<VertexId> = table.correction(id(1)).collect(alloc)?;
+    assert_eq!(rt; digits(&ids), 2);
+    Ok(())
+}
+
+#[test]
+fn a_table_holds_what_was_added(rt: HostRuntime) -> Result<(), Fail> {
+    add_two(&rt, rt.alloc(), &mut FlowTable::new(rt.alloc()))
+}
+
+// The flow of the graph without vertices.
+fn empty_flow(alloc: Global) -> Result<Flow, Fail> {
+    let graph = OpenGraph::new(alloc);
+    let flow = Flow::of_table(&graph, FlowTable::new(alloc))?;
+    Ok(flow)
+}
+
+// Along a path of three, 0 is corrected by 1, and 1 by 2.
+fn add_path(rt: &impl Abort, flow: &mut Flow) -> Result<(), Fail> {
+    flow.reserve(3)?;
+    assert!(rt; !stands_in(flow.order(), id(1)));
+    flow.add_last(id(1), id(2))?;
+    assert!(rt; !stands_in(flow.order(), id(0)));
+    flow.add_first(id(0), id(1))?;
+    Ok(())
+}
+
+// Draws a path of three.
+fn draw_path(rt: &impl Abort, graph: &mut OpenGraph) -> Result<(), Fail> {
+    let drawing = Drawing {
+        planes: &[Plane::XY, Plane::XY, Plane::XY],
+        edges: &[(0, 1), (1, 2)],
+        inputs: &[],
+        outputs: &[],
+    };
+    draw(rt, graph, &drawing)
+}
+
+fn odd_has(rt: &impl Abort, flow: &Flow, graph: &OpenGraph, v: usize, w: usize) -> bool {
+    assert!(rt; stands_in(flow.order(), id(v)));
+    flow.odd_has(graph, id(v), id(w))
+}
+
+// Along the path 0 and 2 have an odd number of neighbours in the set of 0, and 1 has in that of 1; 3 is no vertex.
+fn tell_parities(rt: &impl Abort, flow: &mut Flow, graph: &mut OpenGraph) -> Result<(), Fail> {
+    add_path(rt, flow)?;
+    draw_path(rt, graph)?;
+    assert_eq!(rt; digits(flow.order()), 1);
+    let rows = [
+        (0, 0, true),
+        (0, 1, false),
+        (0, 2, true),
+        (1, 0, false),
+        (1, 3, false),
+    ];
+    for (v, w, is_odd) in rows {
+        assert_eq!(rt;
+            odd_has(rt, flow, graph, v, w),
+            is_odd,
+            "{w} at the set of {v}"
+        );
+    }
+    Ok(())
+}
+
+#[test]
+fn a_flow_tells_its_parities(rt: HostRuntime) -> Result<(), Fail> {
+    let mut flow = empty_flow(rt.alloc())?;
+    tell_parities(&rt, &mut flow, &mut OpenGraph::new(rt.alloc()))
+}
+
+fn toggle(rt: &impl Abort, alloc: Global, flow: &mut Flow, v: usize, w: usize) -> Result<(), Fail> {
+    assert!(rt; stands_in(flow.order(), id(v)));
+    let members = VertexSet::one(alloc, id(w))?;
+    flow.toggle(id(v), &members)?;
+    Ok(())
+}
+
+fn toggle_set(rt: &impl Abort, flow: &mut Flow, v: usize, u: usize) -> Result<(), Fail> {
+    assert!(rt; stands_in(flow.order(), id(v)));
+    assert!(rt; stands_in(flow.order(), id(u)));
+    assert!(rt; v != u);
+    flow.toggle_set(id(v), id(u))?;
+    Ok(())
+}
+
+fn correction(rt: &impl Abort, alloc: Global, flow: &Flow, v: usize) -> Result<usize, Fail> {
+    assert!(rt; stands_in(flow.order(), id(v)));
+    let ids: Vec<VertexId> = flow.correction(id(v)).collect(alloc)?;
+    Ok(digits(&ids))
+}
+
+// The middle is last, and in its own set.
+fn is_complemented(rt: &impl Abort, alloc: Global, flow: &Flow) -> Result<(), Fail> {
+    assert_eq!(rt; correction(rt, alloc, flow, 1)?, 12);
+    assert_eq!(rt; flow.last(), Some(id(1)));
+    Ok(())
+}
+
+// After a local complement about the middle it is in its own set.
+fn complement_middle(rt: &impl Abort, alloc: Global, flow: &mut Flow) -> Result<(), Fail> {
+    toggle(rt, alloc, flow, 1, 1)?;
+    let copy = flow.copy()?;
+    is_complemented(rt, alloc, &copy)
+}
+
+// After the middle was deleted, its set is toggled in that of the first.
+fn delete_middle(rt: &impl Abort, alloc: Global, flow: &mut Flow) -> Result<(), Fail> {
+    toggle_set(rt, flow, 0, 1)?;
+    assert!(rt; stands_in(flow.order(), id(1)));
+    flow.remove(id(1));
+    assert_eq!(rt; digits(flow.order()), 0);
+    assert_eq!(rt; flow.order().len(), 1);
+    assert_eq!(rt; correction(rt, alloc, flow, 0)?, 2);
+    Ok(())
+}
+
+// Changes the flow of a path of three.
+fn change(rt: &impl Abort, alloc: Global, flow: &mut Flow) -> Result<(), Fail> {
+    add_path(rt, flow)?;
+    complement_middle(rt, alloc, flow)?;
+    delete_middle(rt, alloc, flow)
+}
+
+#[test]
+fn a_flow_is_changed(rt: HostRuntime) -> Result<(), Fail> {
+    let mut flow = empty_flow(rt.alloc())?;
+    change(&rt, rt.alloc(), &mut flow)
+}

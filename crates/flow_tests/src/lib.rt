@@ -1,0 +1,14 @@
+//! Tests of flows in memory, of the search for flows and of the check of flows. There is no running code: what is
+//! tested here stands in crates below, which aren't proved once more for it.
+#![tactic(auto)]
+
+#[cfg(test)]
+mod drawing;
+#[cfg(test)]
+mod finding;
+#[cfg(test)]
+mod flows;
+#[cfg(test)]
+mod small_graphs;
+#[cfg(test)]
+mod verdicts;
