@@ -13,7 +13,7 @@ use Rattle.zx_text.specs.Reading.{Wanted}
 use Rattle.zx_text.specs.Internal.SmallNumbers.{is_small}
 use Rattle.zx_text.specs.Internal.Taking.{has_small}
 use Rattle.zx_text.specs.Internal.Stepping.{Sets, State, InGraph, AtFlow, InSets, Over, only_if, step, flow_step, set_step, vertices_of, order_fits, set_fits, set_added}
-use Rattle.zx_text.specs.Internal.Readers.{state_of, IsKept}
+use Rattle.zx_text.specs.Internal.Readers.{state_of, IsReadIfFits}
 use Rattle.zx_text.specs.Internal.Said.{AreSetsOf, IsSoFar}
 use Rattle.zx_text.specs.declared.reader.Reader.{Reader}
 use Rattle.zx_text.proofs.PartLemmas.{length-last}
@@ -111,18 +111,18 @@ small_next version wanted (Over g table) so_far l next so few e = absurd (cc)
 
 -- ---- what is read so far is kept where a line fits
 kept_step : {A E : Type 0} (wrap : A → State) (fits : Result Bool E) (answer : Result (Option Reader) E) (new added : A) (test : Bool) → IfOk fits (λ b. b ≡ test)
-    → IfOk fits (λ b. b ≡ true → new ≡ added) → IsKept fits (wrap new) answer → IfOk answer (λ next. option_map state_of next ≡ only_if test (wrap added))
+    → IfOk fits (λ b. b ≡ true → new ≡ added) → IsReadIfFits fits (wrap new) answer → IfOk answer (λ next. option_map state_of next ≡ only_if test (wrap added))
 kept_step wrap (Ok true) (Ok next) new added test is gives kept = kept ∙ ap (λ x. Some (wrap x)) (gives refl) ∙ ap (λ t. only_if t (wrap added)) is
 kept_step wrap (Ok false) (Ok next) new added test is gives kept = kept ∙ ap (λ t. only_if t (wrap added)) is
 kept_step wrap (Err e) (Ok next) new added test is gives kept = absurd kept
 kept_step wrap fits (Err e) new added test is gives kept = tt
 
 pub kept_by : {A E : Type 0} (wrap : A → State) {fits made : Result Bool E} (answer : Result (Option Reader) E) {after new : A} (added : A) (test : Bool) → fits ≡ made → after ≡ new
-    → IfOk made (λ b. b ≡ test) → IfOk made (λ b. b ≡ true → new ≡ added) → IsKept fits (wrap after) answer
+    → IfOk made (λ b. b ≡ test) → IfOk made (λ b. b ≡ true → new ≡ added) → IsReadIfFits fits (wrap after) answer
     → IfOk answer (λ next. option_map state_of next ≡ only_if test (wrap added))
 kept_by wrap {fits} {made} answer {after} {new} added test same_fits same_new is gives kept =
     kept_step wrap made answer new added test is gives
-    (subst (λ f. IsKept f (wrap new) answer) same_fits (subst (λ a. IsKept fits (wrap a) answer) same_new kept))
+    (subst (λ f. IsReadIfFits f (wrap new) answer) same_fits (subst (λ a. IsReadIfFits fits (wrap a) answer) same_new kept))
 
 -- what the line of the next set does
 pub set_next : (p : Sets) (next v : ℕ) (members given : List ℕ) → p.left ≡ next ∷ drop 1 p.left → v ≡ next → given ≡ members

@@ -5,7 +5,7 @@ ghost use Rattle.std.specs.Option.{option_map};
 ghost use Rattle.zx_text.specs.Versions.{version_named};
 ghost use Rattle.zx_text.specs.Internal.Taking.{line_said};
 ghost use Rattle.zx_text.specs.Internal.Stepping.{step, graph_step, flow_step, set_step, vertices_of};
-ghost use Rattle.zx_text.specs.Internal.Readers.{state_of, wanted_by, IsKept};
+ghost use Rattle.zx_text.specs.Internal.Readers.{state_of, wanted_by, IsReadIfFits};
 
 use crate::graph_part::GraphPart;
 use crate::line::Line;
@@ -89,7 +89,7 @@ fn graph_taken(
 
 // What is read so far, if the last line fits.
 fn kept(reader: Reader, fits: Result<bool, AllocError>) -> Result<Option<Reader>, AllocError>
-    ensures { IsKept fits (state_of reader) result }
+    ensures { IsReadIfFits fits (state_of reader) result }
 {
     match fits {
         Ok(true) => Ok(Some(reader)),

@@ -26,6 +26,6 @@ is_over (InSets part) = false
 is_over (Over g table) = true
 
 -- what is read so far is kept where the last line fits
-abbrev pub IsKept : {E : Type 0} → Result Bool E → State → Result (Option Reader) E → Type 0
-IsKept (Ok fits) st answer = IfOk answer (λ next. option_map state_of next ≡ only_if fits st)
-IsKept (Err error) st answer = IfOk answer (λ next. ⊥)
+abbrev pub IsReadIfFits : {E : Type 0} → Result Bool E → State → Result (Option Reader) E → Type 0
+IsReadIfFits (Ok fits) st answer = IfOk answer (λ next. option_map state_of next ≡ only_if fits st)
+IsReadIfFits (Err error) st answer = IfOk answer (λ next. ⊥)
