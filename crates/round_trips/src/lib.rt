@@ -1,11 +1,7 @@
 //! Circuits into graphs, through rewrites, and back into gates. There is no running code: tests alone, of what several
-//! crates make of one circuit, of extraction and of teleported phases by themselves.
+//! crates make of one circuit, and of teleported phases by themselves.
 #![tactic(auto)]
 
-#[cfg(test)]
-mod extraction;
-#[cfg(test)]
-mod few_rows;
 #[cfg(test)]
 mod found_flows;
 #[cfg(test)]
@@ -20,7 +16,5 @@ mod sums;
 mod teleported;
 #[cfg(test)]
 mod tests;
-#[cfg(test)]
-mod translations;
 #[cfg(test)]
 mod trips;

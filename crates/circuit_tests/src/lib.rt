@@ -1,0 +1,9 @@
+//! Tests of circuits made into graphs, and of what extraction makes of graphs by itself. There is no running code.
+#![tactic(auto)]
+
+#[cfg(test)]
+mod extraction;
+#[cfg(test)]
+mod few_rows;
+#[cfg(test)]
+mod translations;
