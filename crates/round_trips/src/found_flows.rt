@@ -2,14 +2,15 @@
 
 ghost use Rattle.gflow_laws.specs.Flow.{IsFlow};
 
-use crate::teleported::{draw, drawn_gate};
-use crate::trips::{add, rewrite};
+use crate::teleported::{draw, drawn};
+use crate::trips::rewrite;
 use circuit_graph::translate;
 use flow_find::{Found, find};
 use open_graph::{OpenGraph, VertexId};
 use std::alloc::Global;
 use std::process::Abort;
 use std::test::Fail;
+use zx_flow::Flow;
 use zx_gates::GateList;
 use zx_reduce::Step;
 
@@ -39,11 +40,24 @@ fn steps_done(
     let made = translate(alloc, circuit)?;
     let mut graph = made.graph;
     let mut flow = made.flow;
+    steps_done_on(rt, alloc, &mut graph, &mut flow, steps)
+}
+
+// The same of a graph with its flow, on which they are done.
+fn steps_done_on(
+    rt: &impl Abort,
+    alloc: Global,
+    graph: &mut OpenGraph,
+    flow: &mut Flow,
+    steps: &[Step],
+) -> Result<u64, Fail>
+    requires { IsFlow graph.old.graph flow.old.flow }
+{
     let mut done = 0u64;
     for step in steps {
-        if step.is_allowed(&graph) {
-            rewrite(&mut graph, &mut flow, *step)?;
-            assert!(rt; has_flow(alloc, &graph)?);
+        if step.is_allowed(graph) {
+            rewrite(graph, flow, *step)?;
+            assert!(rt; has_flow(alloc, graph)?);
             done = done.saturating_add(1);
         }
     }
@@ -57,19 +71,21 @@ fn has_flow(alloc: Global, graph: &OpenGraph) -> Result<bool, Fail> {
     }
 }
 
+fn drawn_steps(alloc: Global, seed: &mut u64) -> Result<Vec<Step>, Fail> {
+    let mut steps = Vec::new(alloc);
+    for _ in 0..200 {
+        steps.push(drawn_step(seed))?;
+    }
+    Ok(steps)
+}
+
 #[test]
 fn a_flow_is_found_after_each_rewrite(rt: HostRuntime) -> Result<(), Fail> {
     let mut seed = 1;
     let mut done = 0u64;
     for length in 5..30 {
-        let mut given = GateList::new(rt.alloc(), 2);
-        for _ in 0..length {
-            add(&rt, &mut given, drawn_gate(&mut seed))?;
-        }
-        let mut steps = Vec::new(rt.alloc());
-        for _ in 0..200 {
-            steps.push(drawn_step(&mut seed))?;
-        }
+        let given = drawn(&rt, rt.alloc(), &mut seed, length)?;
+        let steps = drawn_steps(rt.alloc(), &mut seed)?;
         done = done.saturating_add(steps_done(&rt, rt.alloc(), &given, &steps)?);
     }
     assert!(rt; done > 100);

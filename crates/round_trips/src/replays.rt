@@ -41,10 +41,22 @@ fn all_steps_lead_there_again(rt: HostRuntime) -> Result<(), Fail> {
     let made = translate(rt.alloc(), &given)?;
     let mut graph = made.graph;
     let mut flow = made.flow;
-    let mut trace = Trace::new(rt.alloc());
-    reduce_traced(&mut graph, &mut flow, &mut trace)?;
+    lead_there_again(&rt, rt.alloc(), &given, &mut graph, &mut flow)
+}
+
+fn lead_there_again(
+    rt: &impl Abort,
+    alloc: Global,
+    given: &GateList,
+    graph: &mut OpenGraph,
+    flow: &mut Flow,
+) -> Result<(), Fail>
+    requires { IsFlow graph.old.graph flow.old.flow }
+{
+    let mut trace = Trace::new(alloc);
+    reduce_traced(graph, flow, &mut trace)?;
     assert!(rt; trace.as_slice().len() > 100);
-    leads_there(&rt, rt.alloc(), &given, &trace, &graph)
+    leads_there(rt, alloc, given, &trace, graph)
 }
 
 // Makes the room that simplification needs where the graph is that of a circuit on so many qubits, and simplifies.
@@ -138,11 +150,14 @@ fn leads_there(
     trace: &Trace,
     graph: &OpenGraph,
 ) -> Result<(), Fail> {
-    let (again, _) = rewritten(alloc, given, trace.as_slice())?;
-    assert!(rt; is_within(graph, &again));
-    assert!(rt; is_within(&again, graph));
-    assert!(rt; graph.inputs() == again.inputs());
-    assert!(rt; graph.outputs() == again.outputs());
+    let (again, flow) = rewritten(alloc, given, trace.as_slice())?;
+    drop(flow);
+    let is_same = is_within(graph, &again)
+        && is_within(&again, graph)
+        && graph.inputs() == again.inputs()
+        && graph.outputs() == again.outputs();
+    drop(again);
+    assert!(rt; is_same);
     Ok(())
 }
 

@@ -118,21 +118,41 @@ fn drawn_circuits(rt: HostRuntime) -> Result<(), Fail> {
     let mut seed = 1;
     let mut fewer = 0u64;
     for length in 1..41 {
-        let mut read = GateList::new(rt.alloc(), 2);
-        for _ in 0..length {
-            add(&rt, &mut read, drawn_gate(&mut seed))?;
-        }
-        let found = teleport(rt.alloc(), &read)?;
-        assert!(rt; are_proportional(&map(&found.gates), &map(&read)));
-        let left = counts(&found.gates).odd;
-        assert!(rt; left <= counts(&read).odd);
-        assert!(rt; left <= odd_phases(&found.reduced));
-        if left < counts(&read).odd {
+        let read = drawn(&rt, rt.alloc(), &mut seed, length)?;
+        if has_fewer_odd(&rt, rt.alloc(), &read)? {
             fewer = fewer.saturating_add(1);
         }
     }
     assert!(rt; fewer > 20);
     Ok(())
+}
+
+// So many drawn gates on two qubits.
+pub fn drawn(
+    rt: &impl Abort,
+    alloc: Global,
+    seed: &mut u64,
+    gates: usize,
+) -> Result<GateList, Fail> {
+    let mut list = GateList::new(alloc, 2);
+    for _ in 0..gates {
+        add(rt, &mut list, drawn_gate(seed))?;
+    }
+    Ok(list)
+}
+
+// Whether a circuit has fewer odd phases afterwards. It keeps its map, and has at most as many as its reduced graph
+// and as it was read with.
+fn has_fewer_odd(rt: &impl Abort, alloc: Global, read: &GateList) -> Result<bool, Fail> {
+    let found = teleport(alloc, read)?;
+    let left = counts(&found.gates).odd;
+    let is_kept = are_proportional(&map(&found.gates), &map(read));
+    let is_reduced = left <= odd_phases(&found.reduced);
+    drop(found);
+    assert!(rt; is_kept);
+    assert!(rt; is_reduced);
+    assert!(rt; left <= counts(read).odd);
+    Ok(left < counts(read).odd)
 }
 
 fn odd_phases(graph: &OpenGraph) -> u64 {

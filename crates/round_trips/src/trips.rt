@@ -4,6 +4,7 @@ ghost use Rattle.std.specs.Prelude.{◌≡◌, ◌≢◌, ◌<◌, ℕ, true, fa
 ghost use Rattle.zx_calculus.specs.Graph.{plane_of, Live};
 ghost use Rattle.zx_calculus.specs.Graph as zx;
 ghost use Rattle.gflow_laws.specs.Flow.{IsFlow};
+ghost use Rattle.zx_gates.specs.Circuit.{IsOnQubits};
 
 use crate::sums::{are_proportional, map, sum};
 use circuit_graph::translate;
@@ -27,11 +28,20 @@ pub fn round_trip(
     steps: &[Step],
 ) -> Result<(), Fail> {
     let given = circuit(rt, alloc, gates)?;
-    let (graph, flow) = rewritten(alloc, &given, steps)?;
+    leads_back(rt, alloc, &given, steps)
+}
+
+fn leads_back(
+    rt: &impl Abort,
+    alloc: Global,
+    given: &GateList,
+    steps: &[Step],
+) -> Result<(), Fail> {
+    let (graph, flow) = rewritten(alloc, given, steps)?;
     let wanted = sum(rt, alloc, &graph)?;
-    let found = extracted(rt, alloc, graph, flow)?;
-    assert!(rt; are_proportional(&wanted, &map(&found)));
-    assert!(rt; are_proportional(&map(&given), &map(&found)));
+    let found = map(&extracted(rt, alloc, graph, flow)?);
+    assert!(rt; are_proportional(&wanted, &found));
+    assert!(rt; are_proportional(&map(given), &found));
     Ok(())
 }
 
@@ -102,30 +112,22 @@ pub fn circuit(rt: &impl Abort, alloc: Global, gates: &[Gate]) -> Result<GateLis
 }
 
 pub fn add(rt: &impl Abort, list: &mut GateList, gate: Gate) -> Result<(), Fail> {
-    let qubits = list.qubits();
-    match gate {
-        Gate::H(q) => {
-            assert!(rt; q < qubits);
-            list.push(Gate::H(q))?;
-        }
-        Gate::Phase(q, phase) => {
-            assert!(rt; q < qubits && phase.get() != 0);
-            list.push(Gate::Phase(q, phase))?;
-        }
-        Gate::Cz(p, q) => {
-            assert!(rt; p < qubits && q < qubits && p != q);
-            list.push(Gate::Cz(p, q))?;
-        }
-        Gate::Cx { control, target } => {
-            assert!(rt; control < qubits && target < qubits && control != target);
-            list.push(Gate::Cx { control, target })?;
-        }
-        Gate::Not(q) => {
-            assert!(rt; q < qubits);
-            list.push(Gate::Not(q))?;
-        }
-    }
+    assert!(rt; is_on(list.qubits(), &gate));
+    list.push(gate)?;
     Ok(())
+}
+
+// Whether a gate acts on so many qubits, on two that differ, and a phase isn't 0.
+fn is_on(qubits: u16, gate: &Gate) -> bool
+    ensures { result ≡ true → IsOnQubits qubits gate.now }
+{
+    match *gate {
+        Gate::H(q) => q < qubits,
+        Gate::Phase(q, phase) => q < qubits && phase.get() != 0,
+        Gate::Cz(p, q) => p < qubits && q < qubits && p != q,
+        Gate::Cx { control, target } => control < qubits && target < qubits && control != target,
+        Gate::Not(q) => q < qubits,
+    }
 }
 
 // What steps make of a circuit's graph with its flow.
