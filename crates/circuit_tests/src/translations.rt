@@ -1,16 +1,17 @@
 //! Translations, whose graphs are written down by hand: new vertices have the ids 0, 1, 2 and so on.
 
-ghost use Rattle.std.specs.Prelude.{◌≡◌, ◌≤◌, ◌==◌};
+ghost use Rattle.std.specs.Prelude.{◌≡◌, ◌≤◌, ◌==◌, true};
 ghost use Rattle.std.specs.List.{list_any};
 ghost use Rattle.zx_model.specs.Bits.{member};
+ghost use Rattle.zx_gates.specs.Circuit.{IsOnQubits};
 
-use circuit_graph::translate;
+use circuit_graph::{Translation, translate};
 use open_graph::{End, OpenGraph, VertexId};
 use std::alloc::Global;
 use std::test::Fail;
 use zx_flow::Flow;
 use zx_gates::{Gate, GateList};
-use zx_model::Sixteenth;
+use zx_model::{Scalar, Sixteenth};
 
 // The circuit of those of the gates that are on the qubits.
 fn circuit(alloc: Global, qubits: u16, gates: &[Gate]) -> Result<GateList, Fail>
@@ -24,35 +25,23 @@ fn circuit(alloc: Global, qubits: u16, gates: &[Gate]) -> Result<GateList, Fail>
 }
 
 fn add(list: &mut GateList, gate: Gate) -> Result<(), Fail> {
-    let qubits = list.qubits();
-    match gate {
-        Gate::H(q) => {
-            if q < qubits {
-                list.push(Gate::H(q))?;
-            }
-        }
-        Gate::Phase(q, phase) => {
-            if q < qubits && phase.get() != 0 {
-                list.push(Gate::Phase(q, phase))?;
-            }
-        }
-        Gate::Cz(p, q) => {
-            if p < qubits && q < qubits && p != q {
-                list.push(Gate::Cz(p, q))?;
-            }
-        }
-        Gate::Cx { control, target } => {
-            if control < qubits && target < qubits && control != target {
-                list.push(Gate::Cx { control, target })?;
-            }
-        }
-        Gate::Not(q) => {
-            if q < qubits {
-                list.push(Gate::Not(q))?;
-            }
-        }
+    if is_on(list.qubits(), &gate) {
+        list.push(gate)?;
     }
     Ok(())
+}
+
+// Whether a gate acts on so many qubits, on two that differ, and a phase isn't 0.
+fn is_on(qubits: u16, gate: &Gate) -> bool
+    ensures { result ≡ true → IsOnQubits qubits gate.now }
+{
+    match *gate {
+        Gate::H(q) => q < qubits,
+        Gate::Phase(q, phase) => q < qubits && phase.get() != 0,
+        Gate::Cz(p, q) => p < qubits && q < qubits && p != q,
+        Gate::Cx { control, target } => control < qubits && target < qubits && control != target,
+        Gate::Not(q) => q < qubits,
+    }
 }
 
 fn cx(control: u16, target: u16) -> Gate {
@@ -148,19 +137,31 @@ fn add_corrections(text: &mut Vec<u8>, flow: &Flow) -> Result<(), Fail> {
     Ok(())
 }
 
+// What is made of the circuit of those of the gates that are on the qubits.
+fn translated(alloc: Global, qubits: u16, gates: &[Gate]) -> Result<Translation, Fail>
+    requires { qubits ≤ 1024 }
+{
+    let list = circuit(alloc, qubits, gates)?;
+    Ok(translate(alloc, &list)?)
+}
+
 // Phases, edges, inputs, outputs and the corrections of the flow.
 fn drawn(alloc: Global, qubits: u16, gates: &[Gate]) -> Result<Vec<u8>, Fail>
     requires { qubits ≤ 1024 }
 {
-    let list = circuit(alloc, qubits, gates)?;
-    let made = translate(alloc, &list)?;
+    let made = translated(alloc, qubits, gates)?;
     let mut text = Vec::new(alloc);
-    add_phases(&mut text, &made.graph)?;
-    add_edges(&mut text, &made.graph)?;
-    add_ends(&mut text, b':', made.graph.inputs())?;
-    add_ends(&mut text, b'>', made.graph.outputs())?;
+    add_graph(&mut text, &made.graph)?;
     add_corrections(&mut text, &made.flow)?;
     Ok(text)
+}
+
+// Adds phases, edges, inputs and outputs.
+fn add_graph(text: &mut Vec<u8>, graph: &OpenGraph) -> Result<(), Fail> {
+    add_phases(text, graph)?;
+    add_edges(text, graph)?;
+    add_ends(text, b':', graph.inputs())?;
+    add_ends(text, b'>', graph.outputs())
 }
 
 #[test]
@@ -194,6 +195,12 @@ fn hadamards_on_one_wire(rt: HostRuntime) -> Result<(), Fail> {
     Ok(())
 }
 
+// How often the map of a circuit on two qubits is the sum.
+fn scalar(alloc: Global, gates: &[Gate]) -> Result<Scalar, Fail> {
+    let made = translated(alloc, 2, gates)?;
+    Ok(made.scalar)
+}
+
 // A circuit's map is half the sum for each Cx and Not, and for no other gate.
 #[test]
 fn scalars_of_translations(rt: HostRuntime) -> Result<(), Fail> {
@@ -206,18 +213,16 @@ fn scalars_of_translations(rt: HostRuntime) -> Result<(), Fail> {
         cx(1, 0),
     ];
     for (count, root2) in [(1, 0), (2, -2), (3, -4), (5, -4), (6, -6)] {
-        let list = circuit(rt.alloc(), 2, &gates[..count])?;
-        let made = translate(rt.alloc(), &list)?;
-        assert_eq!(rt; made.scalar.root2, root2);
-        assert_eq!(rt; made.scalar.turn, Sixteenth::new(0));
+        let scalar = scalar(rt.alloc(), &gates[..count])?;
+        assert_eq!(rt; scalar.root2, root2);
+        assert_eq!(rt; scalar.turn, Sixteenth::new(0));
     }
     Ok(())
 }
 
 // The phases of the graph of a circuit on three qubits.
 fn phases(alloc: Global, gates: &[Gate]) -> Result<Vec<u8>, Fail> {
-    let list = circuit(alloc, 3, gates)?;
-    let made = translate(alloc, &list)?;
+    let made = translated(alloc, 3, gates)?;
     let mut text = Vec::new(alloc);
     add_phases(&mut text, &made.graph)?;
     Ok(text)
