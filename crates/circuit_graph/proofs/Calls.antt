@@ -24,7 +24,7 @@ use Rattle.circuit_graph.specs.Translation.{wires, with_spider}
 use Rattle.circuit_graph.proofs.Graphs.{spider_is}
 use Rattle.circuit_graph.proofs.Gates.{least_is}
 use Rattle.circuit_graph.proofs.Beginning.{at_both, next_is, one_more_wire}
-use Rattle.circuit_graph.specs.Internal.Runs.{State, IsReady, IsSpiderStep, IsPhaseStep, IsToggleStep}
+use Rattle.circuit_graph.specs.Internal.Runs.{GraphSoFar, IsReady, IsSpiderStep, IsPhaseStep, IsToggleStep}
 
 pub here_live : (g : Graph) (q u : ℕ) → WellFormed g → HasPlainOutput g q u → Live g u
 here_live g q u w h = output_there g q (plain u) w h
@@ -124,7 +124,7 @@ module _ (s : Graph) (q here next phase : ℕ) (g : Graph) (w : WellFormed s) (o
     spider_comes t formed moved = spider_is s q t formed (spider_peel t moved)
 
 -- the same of a translation under way
-module _ (s : State) (q here next phase : ℕ) (g : Graph) (r : IsReady s) (output : HasPlainOutput s.graph q here) (fresh : member next (ids s.graph.vertices) ≡ false)
+module _ (s : GraphSoFar) (q here next phase : ℕ) (g : Graph) (r : IsReady s) (output : HasPlainOutput s.graph q here) (fresh : member next (ids s.graph.vertices) ≡ false)
     (zero_phase : phase ≡ 0) (added : g ≡ record { vertices = insert_vertex (record { id = next; kind = in_plane XY phase }) s.graph.vertices; edges = s.graph.edges; inputs = s.graph.inputs; outputs = s.graph.outputs }) where
   pub here_still_live : Live g here
   here_still_live = here_there s.graph q here next phase g r.well_formed output fresh zero_phase added
@@ -145,7 +145,7 @@ module _ (s : State) (q here next phase : ℕ) (g : Graph) (r : IsReady s) (outp
     pub here_uncorrected : member here (order_of s.table) ≡ false
     here_uncorrected = unlisted (seen s.graph) s.table (Flows-from (seen s.graph) s.table r.flow) here (member-places s.graph.outputs q (plain here) output)
 
-    pub spider_step : (t : State) → next ≡ least_free (ids s.graph.vertices) → t.graph ≡ record { vertices = h.vertices; edges = h.edges; inputs = h.inputs; outputs = set h.outputs q (plain next) } →
+    pub spider_step : (t : GraphSoFar) → next ≡ least_free (ids s.graph.vertices) → t.graph ≡ record { vertices = h.vertices; edges = h.edges; inputs = h.inputs; outputs = set h.outputs q (plain next) } →
         SameSets t.table (split_output_table here next s.table) → IsSpiderStep s q t
     unfolding spider_peel
     spider_step t least moved same = record {
@@ -169,7 +169,7 @@ phase_peel s q here k before after plane t w output was becomes set = record {
   outputs = ap (λ (h : Graph). h.outputs) set;
 }
 
-pub phase_step : (s : State) (q here k before after : ℕ) (plane : Plane) (t : State) → IsReady s → HasPlainOutput s.graph q here →
+pub phase_step : (s : GraphSoFar) (q here k before after : ℕ) (plane : Plane) (t : GraphSoFar) → IsReady s → HasPlainOutput s.graph q here →
     in_plane plane before ≡ kind_of s.graph.vertices here → in_plane plane after ≡ with_phase_added k (in_plane plane before) →
     t.graph ≡ record { vertices = with_kinds (at_vertex here (λ _. in_plane plane after)) s.graph.vertices; edges = s.graph.edges; inputs = s.graph.inputs; outputs = s.graph.outputs } →
     t.table ≡ s.table → IsPhaseStep s q k t
@@ -196,7 +196,7 @@ toggle_peel s p q u v t w h i n toggle = record {
   frame = toggle.frame;
 }
 
-pub toggle_step : (s : State) (p q u v : ℕ) (t : State) → IsReady s → HasPlainOutput s.graph p u → HasPlainOutput s.graph q v → p ≢ q →
+pub toggle_step : (s : GraphSoFar) (p q u v : ℕ) (t : GraphSoFar) → IsReady s → HasPlainOutput s.graph p u → HasPlainOutput s.graph q v → p ≢ q →
     IsToggle s.graph u v t.graph → t.table ≡ s.table → IsToggleStep s p q t
 toggle_step s p q u v t r h i n toggle same = record {
   peel = toggle_peel s.graph p q u v t.graph r.well_formed h i n toggle;

@@ -23,7 +23,7 @@ use Rattle.zx_gates.specs.declared.gate.Gate.TheVariants.{H, Phase, Cz, Cx, Not}
 use Rattle.circuit_laws.specs.Peeling.{HasPlainOutput}
 use Rattle.circuit_laws.proofs.Places.{plain_at}
 use Rattle.circuit_graph.specs.Translation.{by_hadamards, written_out, present, translated, translated_table, IsTranslation}
-use Rattle.circuit_graph.specs.Internal.Runs.{State, begun, IsReady, IsGateStep, IsRun, Translates}
+use Rattle.circuit_graph.specs.Internal.Runs.{GraphSoFar, begun, IsReady, IsGateStep, IsRun, Translates}
 use Rattle.circuit_graph.proofs.RunLemmas.{run_comes, run-append}
 use Rattle.circuit_graph.proofs.Calls.{here_live, here_still_live, here_apart, new_live, spider_step, toggle_step, wires_apart}
 use Rattle.circuit_graph.proofs.Beginning.{begun_ready}
@@ -35,8 +35,8 @@ ready n = begun_ready n (wires_formed n)
 
 -- ---- a gate
 -- what there is after gates
-pub record HasRun (s : State) (gates : List Gate) : Type 0 where
-  pub last : State
+pub record HasRun (s : GraphSoFar) (gates : List Gate) : Type 0 where
+  pub last : GraphSoFar
   pub run : IsRun s gates last
 
 output_at : (es : List End) (q : ℕ) → q < length es → slice_get (end_vertices es) q ≡ Some (get_or (end_vertices es) q 0)
@@ -44,11 +44,11 @@ output_at [] q lt = absurd (omega (arith, lt))
 output_at (e ∷ es) zero lt = refl
 output_at (e ∷ es) (suc q) lt = output_at es q (omega (arith, lt))
 
-module _ (s : State) (r : IsReady s) where
+module _ (s : GraphSoFar) (r : IsReady s) where
   has_output : (q : ℕ) → q < length s.graph.outputs → HasPlainOutput s.graph q (present s.graph q)
   has_output q lt = plain_at s.graph.outputs q (present s.graph q) r.plain (output_at s.graph.outputs q lt)
 
-  one_step : (gate : Gate) (t : State) → IsGateStep s gate t → HasRun s (gate ∷ [])
+  one_step : (gate : Gate) (t : GraphSoFar) → IsGateStep s gate t → HasRun s (gate ∷ [])
   one_step gate t step = record { last = t; run = (t, step, refl) }
 
   hadamard : (q : ℕ) → q < length s.graph.outputs → HasRun s (H q ∷ [])
@@ -76,7 +76,7 @@ module _ (s : State) (r : IsReady s) where
           toggled_is_toggle g here next (insert_kept s.graph (spider_of_phase_zero next) r.well_formed fresh (omega arith))
           (here_still_live s q here next 0 g r (has_output q lt) fresh refl refl) (new_live s.graph next 0 g fresh refl refl) (here_apart s q here next 0 g r (has_output q lt) fresh refl refl)
 
-      t : State
+      t : GraphSoFar
       t = record {
         graph = record { vertices = h.vertices; edges = h.edges; inputs = h.inputs; outputs = set h.outputs q (plain next) };
         table = split_output_table here next s.table;
@@ -101,17 +101,17 @@ module _ (s : State) (r : IsReady s) where
       v = present s.graph q
 
 -- gates after gates
-then_run : (s : State) (first second : List Gate) (n : ℕ) → IsReady s → length s.graph.outputs ≡ n → HasRun s first →
-    ((t : State) → IsReady t → length t.graph.outputs ≡ n → HasRun t second) → HasRun s (first ++ second)
+then_run : (s : GraphSoFar) (first second : List Gate) (n : ℕ) → IsReady s → length s.graph.outputs ≡ n → HasRun s first →
+    ((t : GraphSoFar) → IsReady t → length t.graph.outputs ≡ n → HasRun t second) → HasRun s (first ++ second)
 then_run s first second n r e before after =
     let comes = run_comes s first before.last r before.run in
     let rest = after before.last comes.ready (comes.outputs ∙ e) in
     record { last = rest.last; run = run-append s first before.last second rest.last before.run rest.run }
 
-within : (s : State) (q n : ℕ) → length s.graph.outputs ≡ n → q < n → q < length s.graph.outputs
+within : (s : GraphSoFar) (q n : ℕ) → length s.graph.outputs ≡ n → q < n → q < length s.graph.outputs
 within s q n e lt = omega (arith, e, lt)
 
-gate_run : (n : ℕ) (gate : Gate) → IsOnQubits n gate → (s : State) → IsReady s → length s.graph.outputs ≡ n → HasRun s (by_hadamards gate)
+gate_run : (n : ℕ) (gate : Gate) → IsOnQubits n gate → (s : GraphSoFar) → IsReady s → length s.graph.outputs ≡ n → HasRun s (by_hadamards gate)
 gate_run n (H q) on s r e = hadamard s r q (within s q n e on)
 gate_run n (Phase q k) on s r e = phase s r q k (within s q n e on.0)
 gate_run n (Cz p q) on s r e = cz s r p q (within s p n e on.0) (within s q n e on.1) on.2
@@ -124,7 +124,7 @@ gate_run n (Not q) on s r e =
     (λ t rt et. then_run t (Phase q half_turn ∷ []) (H q ∷ []) n rt et (phase t rt q half_turn (within t q n et on))
     (λ u ru eu. hadamard u ru q (within u q n eu on)))
 
-pub gates_run : (n : ℕ) (gates : List Gate) → All (IsOnQubits n) gates → (s : State) → IsReady s → length s.graph.outputs ≡ n → HasRun s (written_out gates)
+pub gates_run : (n : ℕ) (gates : List Gate) → All (IsOnQubits n) gates → (s : GraphSoFar) → IsReady s → length s.graph.outputs ≡ n → HasRun s (written_out gates)
 gates_run n [] on s r e = record { last = s; run = refl }
 gates_run n (gate ∷ gates) on s r e =
     then_run s (by_hadamards gate) (written_out gates) n r e (gate_run n gate (All-head (IsOnQubits n) gate gates on) s r e)

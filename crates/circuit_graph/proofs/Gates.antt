@@ -36,7 +36,7 @@ use Rattle.circuit_laws.proofs.Settling.{phase_peels, edge_peels}
 use Rattle.circuit_laws.proofs.Advancing.{spider_peels}
 use Rattle.circuit_graph.specs.Translation.{present, with_spider}
 use Rattle.circuit_graph.proofs.Graphs.{present_is, spider_is, phase_is, toggle_is}
-use Rattle.circuit_graph.specs.Internal.Runs.{State, AreNumbered, IsReady, IsSpiderStep, IsPhaseStep, IsToggleStep, IsGateStep, Comes}
+use Rattle.circuit_graph.specs.Internal.Runs.{GraphSoFar, AreNumbered, IsReady, IsSpiderStep, IsPhaseStep, IsToggleStep, IsGateStep, Comes}
 
 -- an added phase changes no plane
 plane-fused : (u k p : ℕ) (kind : Kind) → (fuse_kind u k p kind).plane ≡ kind.plane
@@ -97,7 +97,7 @@ is_new_output s q t w c = record {
   outputs = ap end_vertices c.outputs ∙ places-set s.outputs q c.next c.spider w.outputs.one_each c.output;
 }
 
-spider_ready : (s : State) (q : ℕ) (t : State) → IsReady s → IsSpiderStep s q t → IsReady t
+spider_ready : (s : GraphSoFar) (q : ℕ) (t : GraphSoFar) → IsReady s → IsSpiderStep s q t → IsReady t
 spider_ready s q t r c = record {
   well_formed = spider_formed t.graph q s.graph r.well_formed c.peel;
   numbered = subst AreNumbered (sym c.peel.vertices) (numbered_more c.peel.spider s.graph.vertices c.id r.numbered);
@@ -108,16 +108,16 @@ spider_ready s q t r c = record {
 }
 
 -- the old spider is the present one, and the new one has the next id
-spider_table : (s : State) (q : ℕ) (t : State) → IsSpiderStep s q t → SameSets t.table (split_output_table (present s.graph q) (length s.graph.vertices) s.table)
+spider_table : (s : GraphSoFar) (q : ℕ) (t : GraphSoFar) → IsSpiderStep s q t → SameSets t.table (split_output_table (present s.graph q) (length s.graph.vertices) s.table)
 spider_table s q t c =
     subst (λ u. SameSets t.table (split_output_table u (length s.graph.vertices) s.table)) (sym (present_is s.graph.outputs q c.peel.next c.peel.output))
     (subst (λ new. SameSets t.table (split_output_table c.peel.next new s.table)) c.id c.table)
 
 -- no spider is left
-same_table : (s t : State) → t.table ≡ s.table → SameSets t.table (s.table ++ [])
+same_table : (s t : GraphSoFar) → t.table ≡ s.table → SameSets t.table (s.table ++ [])
 same_table s t e = same_of_equal (e ∙ sym (append-nil s.table))
 
-spider_comes : (s : State) (q : ℕ) (t : State) → IsReady s → IsSpiderStep s q t → Comes s (H q ∷ []) t
+spider_comes : (s : GraphSoFar) (q : ℕ) (t : GraphSoFar) → IsReady s → IsSpiderStep s q t → Comes s (H q ∷ []) t
 spider_comes s q t r c =
     let ready : IsReady t = spider_ready s q t r c in
     record {
@@ -132,7 +132,7 @@ spider_comes s q t r c =
     }
 
 -- ---- Phase
-phase_comes : (s : State) (q k : ℕ) (t : State) → IsReady s → IsPhaseStep s q k t → Comes s (Phase q k ∷ []) t
+phase_comes : (s : GraphSoFar) (q k : ℕ) (t : GraphSoFar) → IsReady s → IsPhaseStep s q k t → Comes s (Phase q k ∷ []) t
 phase_comes s q k t r c = record {
   ready = record {
     well_formed = formed;
@@ -175,7 +175,7 @@ is_toggled s p q t ws wt c = record {
   output = λ v _. ap (λ es. member v (end_vertices es)) (sym c.frame.outputs);
 }
 
-toggle_comes : (s : State) (p q : ℕ) (t : State) → IsReady s → IsToggleStep s p q t → Comes s (Cz p q ∷ []) t
+toggle_comes : (s : GraphSoFar) (p q : ℕ) (t : GraphSoFar) → IsReady s → IsToggleStep s p q t → Comes s (Cz p q ∷ []) t
 toggle_comes s p q t r c = record {
   ready = record {
     well_formed = formed;
@@ -201,7 +201,7 @@ toggle_comes s p q t r c = record {
     at_output : (i u : ℕ) → slice_get t.graph.outputs i ≡ Some (plain u) → member u (end_vertices s.graph.outputs) ≡ true
     at_output i u h = ap (λ es. member u (end_vertices es)) (sym c.peel.frame.outputs) ∙ member-places t.graph.outputs i (plain u) h
 
-pub gate_comes : (s : State) (gate : Gate) (t : State) → IsReady s → IsGateStep s gate t → Comes s (gate ∷ []) t
+pub gate_comes : (s : GraphSoFar) (gate : Gate) (t : GraphSoFar) → IsReady s → IsGateStep s gate t → Comes s (gate ∷ []) t
 gate_comes s (H q) t = spider_comes s q t
 gate_comes s (Phase q k) t = phase_comes s q k t
 gate_comes s (Cz p q) t = toggle_comes s p q t

@@ -4,19 +4,19 @@ use Rattle.std.specs.Prelude.{Option}
 use Rattle.zx_gates.specs.Circuit.{Circuit}
 use Rattle.zx_gates.specs.declared.gate.Gate.{Gate}
 use Rattle.zx_calculus.specs.Graph.{Graph}
-use Rattle.circuit_graph.specs.Translation.{by_hadamards, place_of, places_from, places}
-use Rattle.circuit_graph.specs.Internal.Runs.{State, begun, IsReady, IsRun}
+use Rattle.circuit_graph.specs.Translation.{by_hadamards, phase_vertex, places_from, places}
+use Rattle.circuit_graph.specs.Internal.Runs.{GraphSoFar, begun, IsReady, IsRun}
 use Rattle.circuit_graph.proofs.RunLemmas.{run_comes}
 
-pub places_begun : (c : Circuit) (s : State) → s ≡ begun c.qubits → places_from s.graph c.gates ≡ places c
-places_begun c s e = ap (λ (t : State). places_from t.graph c.gates) e
+pub places_begun : (c : Circuit) (s : GraphSoFar) → s ≡ begun c.qubits → places_from s.graph c.gates ≡ places c
+places_begun c s e = ap (λ (t : GraphSoFar). places_from t.graph c.gates) e
 
 -- a gate more
-pub place_more : (c : Circuit) (i : ℕ) (gate : Gate) (before : List (Option ℕ)) (s t : State) → i < length c.gates → gate ≡ get_or c.gates i gate → IsReady s →
-    IsRun s (by_hadamards gate) t → before ++ places_from s.graph (drop i c.gates) ≡ places c → (before ++ place_of s.graph gate ∷ []) ++ places_from t.graph (drop (i + 1) c.gates) ≡ places c
+pub place_more : (c : Circuit) (i : ℕ) (gate : Gate) (before : List (Option ℕ)) (s t : GraphSoFar) → i < length c.gates → gate ≡ get_or c.gates i gate → IsReady s →
+    IsRun s (by_hadamards gate) t → before ++ places_from s.graph (drop i c.gates) ≡ places c → (before ++ phase_vertex s.graph gate ∷ []) ++ places_from t.graph (drop (i + 1) c.gates) ≡ places c
 place_more c i gate before s t within is ready run all =
-    append_assoc before (place_of s.graph gate ∷ []) _
-    ∙ ap (λ rest. before ++ place_of s.graph gate ∷ rest) (ap₂ places_from (run_comes s (by_hadamards gate) t ready run).graph (ap (λ j. drop j c.gates) (add-one i)))
+    append_assoc before (phase_vertex s.graph gate ∷ []) _
+    ∙ ap (λ rest. before ++ phase_vertex s.graph gate ∷ rest) (ap₂ places_from (run_comes s (by_hadamards gate) t ready run).graph (ap (λ j. drop j c.gates) (add-one i)))
     ∙ ap (λ gates. before ++ places_from s.graph gates) (sym split) ∙ all
   where
     split : drop i c.gates ≡ gate ∷ drop (suc i) c.gates

@@ -12,13 +12,13 @@ use Rattle.zx_gates.specs.declared.gate.Gate.{Gate}
 use Rattle.circuit_laws.specs.Followed.{PeelsAt}
 use Rattle.circuit_laws.proofs.Composing.{peels_nothing, peels_at_then}
 use Rattle.circuit_graph.specs.Translation.{by_hadamards, written_out, with_gate}
-use Rattle.circuit_graph.specs.Internal.Runs.{State, IsReady, IsRun, Comes}
+use Rattle.circuit_graph.specs.Internal.Runs.{GraphSoFar, IsReady, IsRun, Comes}
 use Rattle.circuit_graph.proofs.WrittenOut.{count-cons}
 use Rattle.circuit_graph.proofs.Gates.{gate_comes, as_many}
 use Rattle.circuit_graph.proofs.Tables.{corrected_then}
 
 -- one gate after the other
-join : (s : State) (gate : Gate) (u : State) (gates : List Gate) (t : State) → Comes s (gate ∷ []) u → Comes u gates t → Comes s (gate ∷ gates) t
+join : (s : GraphSoFar) (gate : Gate) (u : GraphSoFar) (gates : List Gate) (t : GraphSoFar) → Comes s (gate ∷ []) u → Comes u gates t → Comes s (gate ∷ gates) t
 join s gate u gates t c d = record {
   ready = d.ready;
   graph = d.graph ∙ ap (λ g. fold with_gate g gates) c.graph;
@@ -36,20 +36,20 @@ join s gate u gates t c d = record {
     no_more : (a b c first rest all : ℕ) → a ≤ b + rest → b ≤ c + first → all ≡ first + rest → a ≤ c + all
     no_more a b c first rest all e f g = omega arith
 
-nothing_comes : (s : State) → IsReady s → Comes s [] s
+nothing_comes : (s : GraphSoFar) → IsReady s → Comes s [] s
 nothing_comes s r = record { ready = r; graph = refl; table = same_of_equal (sym (append-nil s.table)); map = peels_nothing s.graph; spiders = as_many refl; odd = omega arith; inputs = refl; outputs = refl }
 
-pub run_comes : (s : State) (gates : List Gate) (t : State) → IsReady s → IsRun s gates t → Comes s gates t
+pub run_comes : (s : GraphSoFar) (gates : List Gate) (t : GraphSoFar) → IsReady s → IsRun s gates t → Comes s gates t
 run_comes s [] t r e = subst (Comes s []) e (nothing_comes s r)
 run_comes s (gate ∷ gates) t r run =
     let first = gate_comes s gate run.0 r run.1 in
     join s gate run.0 gates t first (run_comes run.0 gates t first.ready run.2)
 
-pub run-append : (s : State) (first : List Gate) (t : State) (second : List Gate) (u : State) → IsRun s first t → IsRun t second u → IsRun s (first ++ second) u
+pub run-append : (s : GraphSoFar) (first : List Gate) (t : GraphSoFar) (second : List Gate) (u : GraphSoFar) → IsRun s first t → IsRun t second u → IsRun s (first ++ second) u
 run-append s [] t second u e run = subst (λ r. IsRun r second u) (sym e) run
 run-append s (gate ∷ gates) t second u before run = (before.0, before.1, run-append before.0 gates t second u before.2 run)
 
-pub run_more : (s : State) (gates : List Gate) (i : ℕ) (gate : Gate) (t u : State) → i < length gates → gate ≡ get_or gates i gate →
+pub run_more : (s : GraphSoFar) (gates : List Gate) (i : ℕ) (gate : Gate) (t u : GraphSoFar) → i < length gates → gate ≡ get_or gates i gate →
     IsRun s (written_out (take i gates)) t → IsRun t (by_hadamards gate) u → IsRun s (written_out (take (i + 1) gates)) u
 run_more s gates i gate t u within is before run =
     subst (λ l. IsRun s l u) (sym more) (run-append s (written_out (take i gates)) t (by_hadamards gate) u before run)

@@ -21,7 +21,7 @@ use Rattle.zx_gates.proofs.Scaling.{root_of_two_power-twice}
 use Rattle.circuit_laws.specs.Followed.{EndsAt}
 use Rattle.circuit_laws.proofs.Composing.{peels_at_end, ends_at_sum}
 use Rattle.circuit_graph.specs.Translation.{wires, written_out, written_count, map_scalar}
-use Rattle.circuit_graph.specs.Internal.Runs.{State, begun, IsReady, IsRun, Comes, Translates}
+use Rattle.circuit_graph.specs.Internal.Runs.{GraphSoFar, begun, IsReady, IsRun, Comes, Translates}
 use Rattle.circuit_graph.proofs.RunLemmas.{run_comes}
 use Rattle.circuit_graph.proofs.WrittenOut.{scalar_of, spiders-written, odd-written, map-written, scalar_of-power}
 use Rattle.circuit_graph.proofs.Beginning.{odd-wires, begun_ends}
@@ -43,7 +43,7 @@ scaled_map c g e =
     exponents : up (neg_ℤ (pos (2 * count))) + 2 * count ≡ 0 + down (neg_ℤ (pos (2 * count)))
     exponents = omega (arith, ints)
 
-pub run_translates : (c : Circuit) (t : State) → IsReady (begun c.qubits) → All (IsOnQubits c.qubits) c.gates →
+pub run_translates : (c : Circuit) (t : GraphSoFar) → IsReady (begun c.qubits) → All (IsOnQubits c.qubits) c.gates →
     IsRun (begun c.qubits) (written_out c.gates) t → Translates c t
 run_translates c t r on run = record {
   graph = comes.graph;
@@ -77,6 +77,6 @@ run_translates c t r on run = record {
     outputs = comes.outputs ∙ length-map-range_with_len plain 0 c.qubits
 
 -- the sum is the circuit's map, but for a number other than 0
-pub translated_map : (c : Circuit) (t : State) → Translates c t → Proportional c.qubits c.qubits (sum t.graph) (amp c.gates)
+pub translated_map : (c : Circuit) (t : GraphSoFar) → Translates c t → Proportional c.qubits c.qubits (sum t.graph) (amp c.gates)
 translated_map c t e =
     proportional_sym c.qubits c.qubits (amp c.gates) (sum t.graph) (scaled_proportional c.qubits c.qubits (amp c.gates) (sum t.graph) (map_scalar c.gates) e.scaled)

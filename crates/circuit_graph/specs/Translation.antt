@@ -106,14 +106,14 @@ abbrev pub translated_table : Circuit → List Correction
 translated_table c = table_from (wires c.qubits) (written_out c.gates)
 
 -- the vertex to which a gate adds a phase: the present spider of its qubit, where it is a phase gate
-abbrev pub place_of : Graph → Gate → Option ℕ
-place_of g (Phase q k) = Some (present g q)
-place_of g other = None
+abbrev pub phase_vertex : Graph → Gate → Option ℕ
+phase_vertex g (Phase q k) = Some (present g q)
+phase_vertex g other = None
 
 -- the same of each gate, where the gates come after the graph
 abbrev pub places_from : Graph → List Gate → List (Option ℕ)
 places_from g [] = []
-places_from g (gate ∷ gates) = place_of g gate ∷ places_from (fold with_gate g (by_hadamards gate)) gates
+places_from g (gate ∷ gates) = phase_vertex g gate ∷ places_from (fold with_gate g (by_hadamards gate)) gates
 
 abbrev pub places : Circuit → List (Option ℕ)
 places c = places_from (wires c.qubits) c.gates

@@ -3,7 +3,7 @@
 ghost use Rattle.std.specs.Prelude.{◌≡◌, ◌*◌, length, IfOk};
 ghost use Rattle.zx_model.specs.Scalar.{IsWithin};
 ghost use Rattle.circuit_graph.specs.Translation.{IsTranslation, map_scalar, places};
-ghost use Rattle.circuit_graph.specs.Internal.Wires.{state_of};
+ghost use Rattle.circuit_graph.specs.Internal.Wires.{graph_so_far};
 ghost use Rattle.circuit_graph.specs.Internal.Runs.{Translates};
 
 use crate::wires::Wires;
@@ -87,7 +87,7 @@ fn wires_placed(
     alloc: Global,
     circuit: &GateList,
 ) -> Result<(Wires, Vec<Option<VertexId>>), AllocError>
-    ensures translates { IfOk result (λ made. Translates circuit.now (state_of made.0)) }
+    ensures translates { IfOk result (λ made. Translates circuit.now (graph_so_far made.0)) }
     ensures places { IfOk result (λ made. made.1.items ≡ places circuit.now) }
 {
     let mut made = Wires::begin(alloc, circuit.qubits())?;
@@ -101,7 +101,7 @@ fn wires_placed(
 
 // The wires with all gates.
 fn wires_of(alloc: Global, circuit: &GateList) -> Result<Wires, AllocError>
-    ensures { IfOk result (λ w. Translates circuit.now (state_of w)) }
+    ensures { IfOk result (λ w. Translates circuit.now (graph_so_far w)) }
 {
     let mut wires = Wires::begin(alloc, circuit.qubits())?;
     for gate in circuit.gates() {

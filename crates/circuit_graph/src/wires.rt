@@ -4,8 +4,8 @@ ghost use Rattle.std.specs.Prelude.{◌≡◌, ◌≢◌, ◌<◌, length, IfOk,
 ghost use Rattle.zx_calculus.specs.Graph.{WellFormed};
 ghost use Rattle.circuit_laws.specs.Peeling.{HasPlainOutput};
 ghost use Rattle.zx_gates.specs.Circuit.{IsOnQubits};
-ghost use Rattle.circuit_graph.specs.Translation.{by_hadamards, place_of, wires};
-ghost use Rattle.circuit_graph.specs.Internal.Wires.{state_of};
+ghost use Rattle.circuit_graph.specs.Translation.{by_hadamards, phase_vertex, wires};
+ghost use Rattle.circuit_graph.specs.Internal.Wires.{graph_so_far};
 ghost use Rattle.circuit_graph.specs.Internal.Runs.{begun, IsReady, IsSpiderStep, IsPhaseStep, IsToggleStep, IsRun};
 
 use open_graph::{End, OpenGraph, Plane, VertexId};
@@ -25,8 +25,8 @@ pub(crate) struct Wires {
 impl Wires {
     // So many wires without gates.
     pub(crate) fn begin(alloc: Global, qubits: Qubit) -> Result<Wires, AllocError>
-        ensures begun { IfOk result (λ w. state_of w ≡ begun qubits) }
-        ensures ready { IfOk result (λ w. IsReady (state_of w)) }
+        ensures begun { IfOk result (λ w. graph_so_far w ≡ begun qubits) }
+        ensures ready { IfOk result (λ w. IsReady (graph_so_far w)) }
     {
         let graph = wires_alone(alloc, qubits)?;
         Ok(Wires {
@@ -37,11 +37,11 @@ impl Wires {
 
     // Adds a gate; Cx and Not are written out.
     pub(crate) fn add_gate(&mut self, gate: Gate) -> Result<(), AllocError>
-        requires ready { IsReady (state_of self.old) }
+        requires ready { IsReady (graph_so_far self.old) }
         requires on_wires { IsOnQubits (length self.old.graph.graph.outputs) gate }
-        ensures run { OnOk result (IsRun (state_of self.old) (by_hadamards gate)
-            (state_of self.new)) }
-        ensures ready { OnOk result (IsReady (state_of self.new)) }
+        ensures run { OnOk result (IsRun (graph_so_far self.old) (by_hadamards gate)
+            (graph_so_far self.new)) }
+        ensures ready { OnOk result (IsReady (graph_so_far self.new)) }
         ensures outputs { OnOk result (length self.new.graph.graph.outputs ≡
             length self.old.graph.graph.outputs) }
     {
@@ -67,9 +67,9 @@ impl Wires {
 
     // The vertex to which a gate would add a phase.
     pub(crate) fn place(&self, gate: Gate) -> Option<VertexId>
-        requires ready { IsReady (state_of self.now) }
+        requires ready { IsReady (graph_so_far self.now) }
         requires on_wires { IsOnQubits (length self.now.graph.graph.outputs) gate }
-        ensures { result ≡ place_of self.now.graph.graph gate }
+        ensures { result ≡ phase_vertex self.now.graph.graph gate }
     {
         match gate {
             Gate::Phase(q, _) => Some(self.present(q)),
@@ -79,7 +79,7 @@ impl Wires {
 
     // The present spider of a wire.
     fn present(&self, q: Qubit) -> VertexId
-        requires ready { IsReady (state_of self.now) }
+        requires ready { IsReady (graph_so_far self.now) }
         requires on_wires { q < length self.now.graph.graph.outputs }
         ensures { HasPlainOutput self.now.graph.graph q result }
     {
@@ -88,10 +88,10 @@ impl Wires {
 
     // An edge joins the present spider to a new one of phase 0, which is the present one from here on, and corrects it.
     fn add_hadamard(&mut self, q: Qubit) -> Result<(), AllocError>
-        requires ready { IsReady (state_of self.old) }
+        requires ready { IsReady (graph_so_far self.old) }
         requires on_wires { q < length self.old.graph.graph.outputs }
-        ensures step { OnOk result (IsSpiderStep (state_of self.old) q (state_of self.new)) }
-        ensures ready { OnOk result (IsReady (state_of self.new)) }
+        ensures step { OnOk result (IsSpiderStep (graph_so_far self.old) q (graph_so_far self.new)) }
+        ensures ready { OnOk result (IsReady (graph_so_far self.new)) }
         ensures outputs { OnOk result (length self.new.graph.graph.outputs ≡
             length self.old.graph.graph.outputs) }
     {
@@ -104,10 +104,10 @@ impl Wires {
 
     // A phase is added to the present spider.
     fn add_phase(&mut self, q: Qubit, phase: Sixteenth)
-        requires ready { IsReady (state_of self.old) }
+        requires ready { IsReady (graph_so_far self.old) }
         requires on_wires { q < length self.old.graph.graph.outputs }
-        ensures step { IsPhaseStep (state_of self.old) q phase (state_of self.new) }
-        ensures ready { IsReady (state_of self.new) }
+        ensures step { IsPhaseStep (graph_so_far self.old) q phase (graph_so_far self.new) }
+        ensures ready { IsReady (graph_so_far self.new) }
         ensures outputs { length self.new.graph.graph.outputs ≡
             length self.old.graph.graph.outputs }
     {
@@ -118,12 +118,12 @@ impl Wires {
 
     // The edge between the present spiders comes where there is none, and goes where there is one.
     fn toggle(&mut self, p: Qubit, q: Qubit) -> Result<(), AllocError>
-        requires ready { IsReady (state_of self.old) }
+        requires ready { IsReady (graph_so_far self.old) }
         requires p_on_wires { p < length self.old.graph.graph.outputs }
         requires q_on_wires { q < length self.old.graph.graph.outputs }
         requires apart { p ≢ q }
-        ensures step { OnOk result (IsToggleStep (state_of self.old) p q (state_of self.new)) }
-        ensures ready { OnOk result (IsReady (state_of self.new)) }
+        ensures step { OnOk result (IsToggleStep (graph_so_far self.old) p q (graph_so_far self.new)) }
+        ensures ready { OnOk result (IsReady (graph_so_far self.new)) }
         ensures outputs { OnOk result (length self.new.graph.graph.outputs ≡
             length self.old.graph.graph.outputs) }
     {

@@ -1,9 +1,8 @@
 //! Translations, whose graphs are written down by hand: new vertices have the ids 0, 1, 2 and so on.
 
-ghost use Rattle.std.specs.Prelude.{◌≡◌, ◌≤◌, ◌==◌, true};
+ghost use Rattle.std.specs.Prelude.{◌≡◌, ◌≤◌, ◌==◌};
 ghost use Rattle.std.specs.List.{list_any};
 ghost use Rattle.zx_model.specs.Bits.{member};
-ghost use Rattle.zx_gates.specs.Circuit.{IsOnQubits};
 
 use circuit_graph::{Translation, translate};
 use open_graph::{End, OpenGraph, VertexId};
@@ -25,23 +24,10 @@ fn circuit(alloc: Global, qubits: u16, gates: &[Gate]) -> Result<GateList, Fail>
 }
 
 fn add(list: &mut GateList, gate: Gate) -> Result<(), Fail> {
-    if is_on(list.qubits(), &gate) {
+    if gate.is_on_qubits(list.qubits()) {
         list.push(gate)?;
     }
     Ok(())
-}
-
-// Whether a gate acts on so many qubits, on two that differ, and a phase isn't 0.
-fn is_on(qubits: u16, gate: &Gate) -> bool
-    ensures { result ≡ true → IsOnQubits qubits gate.now }
-{
-    match *gate {
-        Gate::H(q) => q < qubits,
-        Gate::Phase(q, phase) => q < qubits && phase.get() != 0,
-        Gate::Cz(p, q) => p < qubits && q < qubits && p != q,
-        Gate::Cx { control, target } => control < qubits && target < qubits && control != target,
-        Gate::Not(q) => q < qubits,
-    }
 }
 
 fn cx(control: u16, target: u16) -> Gate {

@@ -18,7 +18,7 @@ use Rattle.diagram_text.specs.declared.line.Line.TheVariants.{Spider, Edge, Inpu
 use Rattle.diagram_text.specs.declared.reader.Reader.TheVariants.{Open, Over}
 use Rattle.diagram_text.specs.Files.{spider_lines, lines}
 use Rattle.diagram_text.specs.Reading.{IsFile, are_sorted, has_phase_of, is_edge_among}
-use Rattle.diagram_text.specs.Internal.Stepping.{step, begun, follows, spider_fits, edge_fits, input_fits, output_fits}
+use Rattle.diagram_text.specs.Internal.Stepping.{diagram_step, begun, follows, spider_fits, edge_fits, input_fits, output_fits}
 
 abbrev with_parts : List diagram.Spider → List Wire → List Leg → List Leg → Diagram
 with_parts spiders edges inputs outputs = record { spiders = spiders; edges = edges; inputs = inputs; outputs = outputs }
@@ -29,7 +29,7 @@ moved done x rest = append_assoc done (x ∷ []) rest
 
 -- ---- spiders
 spiders_run : (version : Version) (done rest : List diagram.Spider) → list_all (has_phase_of version) rest ≡ true
-    → run (step version) (Some (Open (with_parts done [] [] []))) (spider_lines version (length done) rest) ≡ Some (Open (with_parts (done ++ rest) [] [] []))
+    → run (diagram_step version) (Some (Open (with_parts done [] [] []))) (spider_lines version (length done) rest) ≡ Some (Open (with_parts (done ++ rest) [] [] []))
 spiders_run version done [] fits = ap (λ ss. Some (Open (with_parts ss [] [] []))) (sym (append-nil done))
 spiders_run version done (s ∷ ss) fits =
     let k : ℕ = s.phase / unit version in
@@ -39,10 +39,10 @@ spiders_run version done (s ∷ ss) fits =
     let fit : spider_fits version (with_parts done [] [] []) (length done) k ≡ true = both _ _ below (both _ _ (eqb-self (length done)) refl) in
     let added : record { colour = s.colour; phase = k * unit version } ≡ s = ap (λ n. record { colour = s.colour; phase = n }) exact in
     let next : length (done ++ s ∷ []) ≡ suc (length done) = length-last done s ∙ (omega arith) in
-    run_step (step version) (Open (with_parts done [] [] [])) (Open (with_parts (done ++ record { colour = s.colour; phase = k * unit version } ∷ []) [] [] []))
+    run_step (diagram_step version) (Open (with_parts done [] [] [])) (Open (with_parts (done ++ record { colour = s.colour; phase = k * unit version } ∷ []) [] [] []))
     (Spider (length done) s.colour k) (spider_lines version (suc (length done)) ss) (fitting _ _ fit)
-    ∙ ap (λ x. run (step version) (Some (Open (with_parts (done ++ x ∷ []) [] [] []))) (spider_lines version (suc (length done)) ss)) added
-    ∙ ap (λ n. run (step version) (Some (Open (with_parts (done ++ s ∷ []) [] [] []))) (spider_lines version n ss)) (sym next)
+    ∙ ap (λ x. run (diagram_step version) (Some (Open (with_parts (done ++ x ∷ []) [] [] []))) (spider_lines version (suc (length done)) ss)) added
+    ∙ ap (λ n. run (diagram_step version) (Some (Open (with_parts (done ++ s ∷ []) [] [] []))) (spider_lines version n ss)) (sym next)
     ∙ spiders_run version (done ++ s ∷ []) ss (and-right _ _ fits)
     ∙ ap (λ xs. Some (Open (with_parts xs [] [] []))) (moved done s ss)
 
@@ -54,11 +54,11 @@ follows_at (d ∷ f ∷ done) e rest sorted = follows_at (f ∷ done) e rest (an
 
 edges_run : (version : Version) (ss : List diagram.Spider) (done rest : List Wire) → list_all (is_edge_among (length ss)) rest ≡ true
     → are_sorted (done ++ rest) ≡ true
-    → run (step version) (Some (Open (with_parts ss done [] []))) (map Edge rest) ≡ Some (Open (with_parts ss (done ++ rest) [] []))
+    → run (diagram_step version) (Some (Open (with_parts ss done [] []))) (map Edge rest) ≡ Some (Open (with_parts ss (done ++ rest) [] []))
 edges_run version ss done [] among sorted = ap (λ es. Some (Open (with_parts ss es [] []))) (sym (append-nil done))
 edges_run version ss done (e ∷ es) among sorted =
     let fit : edge_fits (with_parts ss done [] []) e ≡ true = both _ _ (and-left _ _ among) (both _ _ (follows_at done e es sorted) refl) in
-    run_step (step version) (Open (with_parts ss done [] [])) (Open (with_parts ss (done ++ e ∷ []) [] [])) (Edge e) (map Edge es) (fitting _ _ fit)
+    run_step (diagram_step version) (Open (with_parts ss done [] [])) (Open (with_parts ss (done ++ e ∷ []) [] [])) (Edge e) (map Edge es) (fitting _ _ fit)
     ∙ edges_run version ss (done ++ e ∷ []) es (and-right _ _ among) (ap are_sorted (moved done e es) ∙ sorted)
     ∙ ap (λ xs. Some (Open (with_parts ss xs [] []))) (moved done e es)
 
@@ -70,28 +70,28 @@ few_so_far done x rest few =
 
 inputs_run : (version : Version) (ss : List diagram.Spider) (es : List Wire) (done rest : List Leg) → list_all (λ leg. ltb leg.spider (length ss)) rest ≡ true
     → length (done ++ rest) ≤ most_ends
-    → run (step version) (Some (Open (with_parts ss es done []))) (map Input rest) ≡ Some (Open (with_parts ss es (done ++ rest) []))
+    → run (diagram_step version) (Some (Open (with_parts ss es done []))) (map Input rest) ≡ Some (Open (with_parts ss es (done ++ rest) []))
 inputs_run version ss es done [] there few = ap (λ ls. Some (Open (with_parts ss es ls []))) (sym (append-nil done))
 inputs_run version ss es done (leg ∷ legs) there few =
     let fit : input_fits (with_parts ss es done []) leg ≡ true = both _ _ (and-left _ _ there) (both _ _ (few_so_far done leg legs few) refl) in
-    run_step (step version) (Open (with_parts ss es done [])) (Open (with_parts ss es (done ++ leg ∷ []) [])) (Input leg) (map Input legs) (fitting _ _ fit)
+    run_step (diagram_step version) (Open (with_parts ss es done [])) (Open (with_parts ss es (done ++ leg ∷ []) [])) (Input leg) (map Input legs) (fitting _ _ fit)
     ∙ inputs_run version ss es (done ++ leg ∷ []) legs (and-right _ _ there) (subst (λ ls. length ls ≤ most_ends) (sym (moved done leg legs)) few)
     ∙ ap (λ xs. Some (Open (with_parts ss es xs []))) (moved done leg legs)
 
 outputs_run : (version : Version) (ss : List diagram.Spider) (es : List Wire) (is done rest : List Leg) → list_all (λ leg. ltb leg.spider (length ss)) rest ≡ true
     → length (done ++ rest) ≤ most_ends
-    → run (step version) (Some (Open (with_parts ss es is done))) (map Output rest) ≡ Some (Open (with_parts ss es is (done ++ rest)))
+    → run (diagram_step version) (Some (Open (with_parts ss es is done))) (map Output rest) ≡ Some (Open (with_parts ss es is (done ++ rest)))
 outputs_run version ss es is done [] there few = ap (λ ls. Some (Open (with_parts ss es is ls))) (sym (append-nil done))
 outputs_run version ss es is done (leg ∷ legs) there few =
     let fit : output_fits (with_parts ss es is done) leg ≡ true = both _ _ (and-left _ _ there) (few_so_far done leg legs few) in
-    run_step (step version) (Open (with_parts ss es is done)) (Open (with_parts ss es is (done ++ leg ∷ []))) (Output leg) (map Output legs) (fitting _ _ fit)
+    run_step (diagram_step version) (Open (with_parts ss es is done)) (Open (with_parts ss es is (done ++ leg ∷ []))) (Output leg) (map Output legs) (fitting _ _ fit)
     ∙ outputs_run version ss es is (done ++ leg ∷ []) legs (and-right _ _ there) (subst (λ ls. length ls ≤ most_ends) (sym (moved done leg legs)) few)
     ∙ ap (λ xs. Some (Open (with_parts ss es is xs))) (moved done leg legs)
 
 -- ---- all lines
-pub complete : (version : Version) (d : Diagram) → IsFile version d → run (step version) (Some begun) (lines version d) ≡ Some (Over d)
+pub complete : (version : Version) (d : Diagram) → IsFile version d → run (diagram_step version) (Some begun) (lines version d) ≡ Some (Over d)
 complete version d file =
-    then_run (step version) (Some begun) _ (spider_lines version 0 d.spiders) _ (spiders_run version [] d.spiders file.phases)
-    ∙ then_run (step version) (Some _) _ (map Edge d.edges) _ (edges_run version d.spiders [] d.edges file.edges file.sorted)
-    ∙ then_run (step version) (Some _) _ (map Input d.inputs) _ (inputs_run version d.spiders d.edges [] d.inputs file.inputs file.few_inputs)
-    ∙ then_run (step version) (Some _) _ (map Output d.outputs) _ (outputs_run version d.spiders d.edges d.inputs [] d.outputs file.outputs file.few_outputs)
+    then_run (diagram_step version) (Some begun) _ (spider_lines version 0 d.spiders) _ (spiders_run version [] d.spiders file.phases)
+    ∙ then_run (diagram_step version) (Some _) _ (map Edge d.edges) _ (edges_run version d.spiders [] d.edges file.edges file.sorted)
+    ∙ then_run (diagram_step version) (Some _) _ (map Input d.inputs) _ (inputs_run version d.spiders d.edges [] d.inputs file.inputs file.few_inputs)
+    ∙ then_run (diagram_step version) (Some _) _ (map Output d.outputs) _ (outputs_run version d.spiders d.edges d.inputs [] d.outputs file.outputs file.few_outputs)

@@ -21,7 +21,7 @@ use Rattle.diagram_text.specs.declared.reader.Reader.{Reader}
 use Rattle.diagram_text.specs.declared.reader.Reader.TheVariants.{Open, Over}
 use Rattle.diagram_text.specs.Files.{spider_lines, lines}
 use Rattle.diagram_text.specs.Reading.{IsFile, are_sorted, has_phase_of, is_edge_among}
-use Rattle.diagram_text.specs.Internal.Stepping.{step, begun, is_none, follows, spider_fits, edge_fits, input_fits, output_fits, spider_added, edge_added, input_added, output_added}
+use Rattle.diagram_text.specs.Internal.Stepping.{diagram_step, begun, is_none, follows, spider_fits, edge_fits, input_fits, output_fits, spider_added, edge_added, input_added, output_added}
 
 -- the lines of a diagram, before the last one
 abbrev pub diagram_lines : Version → Diagram → List Line
@@ -231,7 +231,7 @@ lines-diagram version d =
     ∙ ap (λ t. a ++ t) (append_assoc b (c ++ o) (End ∷ []) ∙ ap (λ t. b ++ t) (append_assoc c o (End ∷ []))))
 
 -- ---- one more line of any kind
-more : (version : Version) (d : Diagram) (l : Line) (next : Reader) → IsSoFar version (Open d) (diagram_lines version d) → step version (Open d) l ≡ Some next
+more : (version : Version) (d : Diagram) (l : Line) (next : Reader) → IsSoFar version (Open d) (diagram_lines version d) → diagram_step version (Open d) l ≡ Some next
     → IsSoFar version next (diagram_lines version d ++ l ∷ [])
 more version d (Spider i colour phase) next so e =
     subst (λ st. IsSoFar version st (diagram_lines version d ++ Spider i colour phase ∷ [])) (only _ _ next e) (spider_more version d i colour phase so (passed _ _ next e))
@@ -244,7 +244,7 @@ more version d (Output leg) next so e =
 more version d End next so e =
     subst (λ st. IsSoFar version st (diagram_lines version d ++ End ∷ [])) (same_state e) (record { lines_said = sym (lines-diagram version d); file = so.file })
 
-so_far_more : (version : Version) (st : Reader) (l : Line) (next : Reader) (so_far : List Line) → IsSoFar version st so_far → step version st l ≡ Some next
+so_far_more : (version : Version) (st : Reader) (l : Line) (next : Reader) (so_far : List Line) → IsSoFar version st so_far → diagram_step version st l ≡ Some next
     → IsSoFar version next (so_far ++ l ∷ [])
 so_far_more version (Open d) l next so_far so e =
     let here = more version d l next (record { lines_said = refl; file = so.file }) e in
@@ -252,8 +252,8 @@ so_far_more version (Open d) l next so_far so e =
 so_far_more version (Over d) l next so_far so e = absurd (cc)
 
 so_far_run : (version : Version) (st : Reader) (ls : List Line) (last : Reader) (so_far : List Line) → IsSoFar version st so_far
-    → run (step version) (Some st) ls ≡ Some last → IsSoFar version last (so_far ++ ls)
-so_far_run version = kept_by_run (step version) (IsSoFar version) (so_far_more version)
+    → run (diagram_step version) (Some st) ls ≡ Some last → IsSoFar version last (so_far ++ ls)
+so_far_run version = kept_by_run (diagram_step version) (IsSoFar version) (so_far_more version)
 
 so_far_begun : (version : Version) → IsSoFar version begun []
 so_far_begun version = record {
@@ -262,7 +262,7 @@ so_far_begun version = record {
 }
 
 -- lines that lead to the end are all lines of a file
-pub sound : (version : Version) (ls : List Line) (d : Diagram) → run (step version) (Some begun) ls ≡ Some (Over d) → (ls ≡ lines version d) × IsFile version d
+pub sound : (version : Version) (ls : List Line) (d : Diagram) → run (diagram_step version) (Some begun) ls ≡ Some (Over d) → (ls ≡ lines version d) × IsFile version d
 sound version ls d e =
     let so = so_far_run version begun ls (Over d) [] (so_far_begun version) e in
     (so.lines_said, so.file)

@@ -12,9 +12,9 @@ use Rattle.diagram_text.specs.declared.line.Line.{Line}
 use Rattle.diagram_text.specs.declared.line.Line.TheVariants.{Spider, Edge, Input, Output, End}
 use Rattle.diagram_text.specs.declared.reader.Reader.{Reader}
 use Rattle.diagram_text.specs.declared.reader.Reader.TheVariants.{Open, Over}
-use Rattle.diagram_text.specs.Internal.Stepping.{has_small, step, spiders_of}
+use Rattle.diagram_text.specs.Internal.Stepping.{has_small, diagram_step, spiders_of}
 
-pub spiders_after : (version : Version) (st : Reader) (l : Line) (next : Reader) → step version st l ≡ Some next → spiders_of next ≤ spiders_of st + 1
+pub spiders_after : (version : Version) (st : Reader) (l : Line) (next : Reader) → diagram_step version st l ≡ Some next → spiders_of next ≤ spiders_of st + 1
 spiders_after version (Open d) (Spider i colour phase) next e =
     let same = only _ _ next e in
     let more = length-last d.spiders (record { colour = colour; phase = phase * unit version }) in
@@ -23,7 +23,7 @@ spiders_after version (Open d) End next e = let same = same_state e in omega (ar
 spiders_after version (Open d) l next e = let same = only _ _ next e in omega (arith, ap spiders_of same)
 spiders_after version (Over d) l next e = absurd (cc)
 
-pub small_next : (version : Version) (st : Reader) (l : Line) (next : Reader) → spiders_of st ≤ 2 ^ 32 → step version st l ≡ Some next → has_small l ≡ true
+pub small_next : (version : Version) (st : Reader) (l : Line) (next : Reader) → spiders_of st ≤ 2 ^ 32 → diagram_step version st l ≡ Some next → has_small l ≡ true
 small_next version (Open d) (Spider i colour phase) next few e =
     let fits = passed _ _ next e in
     let at = eqb-true i (length d.spiders) (and-left _ _ (and-right (ltb (phase * unit version) turn) _ fits)) in

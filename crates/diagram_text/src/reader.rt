@@ -3,7 +3,7 @@
 ghost use Rattle.std.specs.Prelude.{◌≡◌, true, IfOk};
 ghost use Rattle.zx_text.specs.Versions.{version_named};
 ghost use Rattle.diagram_text.specs.Reading.{may_precede};
-ghost use Rattle.diagram_text.specs.Internal.Stepping.{step, line_step, follows};
+ghost use Rattle.diagram_text.specs.Internal.Stepping.{diagram_step, line_step, follows};
 ghost use Rattle.diagram_text.specs.Internal.Stepping.{spider_fits, edge_fits, input_fits, output_fits};
 ghost use Rattle.diagram_text.specs.Internal.Stepping.{spider_added, edge_added, input_added, output_added};
 
@@ -30,7 +30,7 @@ pub(crate) fn taken(
     reader: Reader,
     line: &Line,
 ) -> Result<Option<Reader>, AllocError>
-    ensures { IfOk result (λ next. next ≡ step (version_named version) reader line.now) }
+    ensures { IfOk result (λ next. next ≡ diagram_step (version_named version) reader line.now) }
 {
     match reader {
         Reader::Open(diagram) => line_taken(version, diagram, line),

@@ -11,7 +11,7 @@ use Rattle.gflow_laws.proofs.Corrects.{xor_true}
 use Rattle.flow_find.specs.declared.row.Row.{Row}
 use Rattle.flow_find.specs.Frontiers.{AreAll, combined, IsRow, IsFrontier, with_one}
 use Rattle.flow_find.specs.Internal.Lacking.{IsShort}
-use Rattle.flow_find.specs.Internal.Rows.{AreEach, IsAdded, IsCleared, IsDropped, IsPivoted, IsSpent, IsPut, IsTaken}
+use Rattle.flow_find.specs.Internal.Rows.{AreEach, IsAdded, IsCleared, IsDropped, IsPivoted, IsSpent, IsPut, IsRowTaken}
 use Rattle.flow_find.proofs.Sums.{AreAll-weaker, AreAll-append, AreAll-front, AreAll-back, combined-append, combined-front}
 
 -- a property that each change keeps
@@ -118,7 +118,7 @@ put_keeps s left held may row old new holds is_row each pivots short put = ⊎_e
         xor_none true false h = absurd (true≢false h)
 
 -- a row is taken out: the others lack a multiple of it
-pub taken_short : (s : Seen) (left held may : ℕ → Bool) (v : ℕ) (row : Row) (old new : List Row) → IsTaken v row old new → IsFrontier s left held may old →
+pub taken_short : (s : Seen) (left held may : ℕ → Bool) (v : ℕ) (row : Row) (old new : List Row) → IsRowTaken v row old new → IsFrontier s left held may old →
     IsShort s left may new row.columns.ids
 taken_short s left held may v row old new taken frontier = record {
   times = λ u. s.adjacent u row.pivot;
@@ -130,7 +130,7 @@ taken_short s left held may v row old new taken frontier = record {
     last_cancels : (a b : Bool) → xor (xor a b) b ≡ a
     last_cancels a b = simp parities
 
-pub AreAll-taken : (P : Row → Type 0) (v : ℕ) (row : Row) (old new : List Row) → IsTaken v row old new → AreAll P old → P row × AreAll P new
+pub AreAll-taken : (P : Row → Type 0) (v : ℕ) (row : Row) (old new : List Row) → IsRowTaken v row old new → AreAll P old → P row × AreAll P new
 AreAll-taken P v row old new taken all =
     let parts : AreAll P (taken.before ++ row ∷ taken.after) = subst (AreAll P) taken.was all in
     let back : AreAll P (row ∷ taken.after) = AreAll-back P taken.before (row ∷ taken.after) parts in
@@ -138,7 +138,7 @@ AreAll-taken P v row old new taken all =
 
 -- taken out and put again
 pub turned_once : (s : Seen) (left held may : ℕ → Bool) (v : ℕ) (row : Row) (old mid new : List Row) → ((w : ℕ) → left w ≡ true → held w ≡ true) →
-    IsTaken v row old mid → IsPut row mid new → IsFrontier s left held may old → IsFrontier s left held may new
+    IsRowTaken v row old mid → IsPut row mid new → IsFrontier s left held may old → IsFrontier s left held may new
 turned_once s left held may v row old mid new holds taken put frontier =
     let rows = AreAll-taken (IsRow s left may) v row old mid taken frontier.each in
     let pivots = AreAll-taken (λ r. held r.pivot ≡ true) v row old mid taken frontier.pivots in

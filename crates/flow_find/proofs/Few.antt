@@ -10,7 +10,7 @@ use Rattle.gflow_laws.specs.Seen.{Seen}
 use Rattle.gflow_laws.specs.Correcting.{Simple, inside_in, odd_in}
 use Rattle.flow_find.specs.declared.row.Row.{Row}
 use Rattle.flow_find.specs.Frontiers.{AreAll, combined, target_of, usable, IsCorrectable, IsFrontierOf, with_one}
-use Rattle.flow_find.specs.Internal.Rows.{AreEach, IsAdded, IsCleared, IsDropped, IsPivoted, IsSpent, IsPut, IsTaken, stale, IsCancelled, IsPassable}
+use Rattle.flow_find.specs.Internal.Rows.{AreEach, IsAdded, IsCleared, IsDropped, IsPivoted, IsSpent, IsPut, IsRowTaken, stale, IsCancelled, IsPassable}
 use Rattle.flow_find.proofs.Sums.{combined_alike, combined-append, combined-front, odd-gathered}
 use Rattle.flow_find.proofs.Changing.{AreAll-taken, IsWithout, combined-cleared, combined-dropped, dropped_without}
 use Rattle.flow_find.proofs.Passing.{combined_outside}
@@ -33,14 +33,14 @@ length-put row old new put = ⊎_elim
     (λ e. let b : length new ≡ length old = length-each (λ o n. IsAdded (e.test o) row o n) old new e.added in omega arith)
     put
 
-pub length-taken : (v : ℕ) (row : Row) (old new : List Row) → IsTaken v row old new → length old ≡ length new + 1
+pub length-taken : (v : ℕ) (row : Row) (old new : List Row) → IsRowTaken v row old new → length old ≡ length new + 1
 length-taken v row old new taken =
     let a : length old ≡ length taken.before + length (row ∷ taken.after) = ap (λ (l : List Row). length l) taken.was ∙ length-append taken.before (row ∷ taken.after) in
     let b : length new ≡ length taken.before + length taken.after = ap (λ (l : List Row). length l) taken.is ∙ length-append taken.before taken.after in
     omega arith
 
 -- one that was taken out and put again: a row less, or some are left that add up to nothing
-module _ (v : ℕ) (row : Row) (old mid new : List Row) (taken : IsTaken v row old mid) (without : AreAll (IsWithout v) old) (put : IsPut row mid new) where
+module _ (v : ℕ) (row : Row) (old mid new : List Row) (taken : IsRowTaken v row old mid) (without : AreAll (IsWithout v) old) (put : IsPut row mid new) where
   out : member v row.columns.ids ≡ false
   out = (AreAll-taken (IsWithout v) v row old mid taken without).0
 
@@ -115,13 +115,13 @@ cancelled_XY s left v old new simple there plane frontier c each = record { sum 
 
 -- ---- the loop over the rows whose pivot went
 
-pub few_more : (v : ℕ) (row : Row) (first old mid new : List Row) → IsTaken v row old mid → IsPut row mid new → length old ≤ length first → length new ≤ length first
+pub few_more : (v : ℕ) (row : Row) (first old mid new : List Row) → IsRowTaken v row old mid → IsPut row mid new → length old ≤ length first → length new ≤ length first
 few_more v row first old mid new taken put few =
     let a : length old ≡ length mid + 1 = length-taken v row old mid taken in
     let b : length new ≤ length mid + 1 = length-put row mid new put in
     omega arith
 
-pub fewer_more : (v : ℕ) (row : Row) (first old mid new : List Row) → IsTaken v row old mid → AreAll (IsWithout v) old → IsPut row mid new → length old ≤ length first →
+pub fewer_more : (v : ℕ) (row : Row) (first old mid new : List Row) → IsRowTaken v row old mid → AreAll (IsWithout v) old → IsPut row mid new → length old ≤ length first →
     (length old < length first) ⊎ IsCancelled v old → (length new < length first) ⊎ IsCancelled v new
 fewer_more v row first old mid new taken without put few so_far =
     let a : length old ≡ length mid + 1 = length-taken v row old mid taken in

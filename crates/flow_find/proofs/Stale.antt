@@ -6,7 +6,7 @@ use Rattle.zx_calculus.proofs.Booleans.{and-false}
 use Rattle.zx_calculus.proofs.Ids.{by_equal, eqb-self}
 use Rattle.flow_find.specs.declared.row.Row.{Row}
 use Rattle.flow_find.specs.Frontiers.{AreAll}
-use Rattle.flow_find.specs.Internal.Rows.{AreEach, IsAdded, IsCleared, IsPivoted, IsSpent, IsPut, IsTaken, stale}
+use Rattle.flow_find.specs.Internal.Rows.{AreEach, IsAdded, IsCleared, IsPivoted, IsSpent, IsPut, IsRowTaken, stale}
 use Rattle.flow_find.proofs.Sums.{AreAll-append}
 use Rattle.flow_find.proofs.Changing.{AreAll-changed, AreAll-taken, IsWithout}
 
@@ -36,7 +36,7 @@ stale-put v row old new none put = ⊎_elim pivoted spent put
     spent : IsSpent row old new → stale v new ≡ stale v old
     spent e = stale-same (λ o n. IsAdded (e.test o) row o n) v old new (λ o n c. c.pivot) e.added
 
-pub stale-taken : (v : ℕ) (row : Row) (old new : List Row) → IsTaken v row old new → stale v old ≡ suc (stale v new)
+pub stale-taken : (v : ℕ) (row : Row) (old new : List Row) → IsRowTaken v row old new → stale v old ≡ suc (stale v new)
 stale-taken v row old new taken =
     let a : stale v old ≡ stale v taken.before + stale v (row ∷ taken.after) = ap (stale v) taken.was ∙ stale-append v taken.before (row ∷ taken.after) in
     let b : stale v new ≡ stale v taken.before + stale v taken.after = ap (stale v) taken.is ∙ stale-append v taken.before taken.after in
@@ -44,7 +44,7 @@ stale-taken v row old new taken =
     omega (arith, a, b, c)
 
 -- a row that was put for one that was taken out lowers the number
-pub stale_less : (v : ℕ) (row : Row) (old mid new : List Row) → IsTaken v row old mid → AreAll (IsWithout v) old → IsPut row mid new → stale v new < stale v old
+pub stale_less : (v : ℕ) (row : Row) (old mid new : List Row) → IsRowTaken v row old mid → AreAll (IsWithout v) old → IsPut row mid new → stale v new < stale v old
 stale_less v row old mid new taken without put =
     let now : stale v new ≡ stale v mid = stale-put v row mid new (AreAll-taken (IsWithout v) v row old mid taken without).0 put in
     let was : stale v old ≡ suc (stale v mid) = stale-taken v row old mid taken in

@@ -9,7 +9,7 @@ use Rattle.zx_model.specs.Bits.{xor, member}
 use Rattle.zx_calculus.proofs.Booleans.{parities, xor-false}
 use Rattle.flow_find.specs.declared.row.Row.{Row}
 use Rattle.flow_find.specs.Frontiers.{AreAll, combined, gathered}
-use Rattle.flow_find.specs.Internal.Rows.{AreEach, IsAdded, IsSum, IsTaken, IsSpent, IsPut}
+use Rattle.flow_find.specs.Internal.Rows.{AreEach, IsAdded, IsSum, IsRowTaken, IsSpent, IsPut}
 use Rattle.zx_calculus.proofs.Ids.{by_test, member-here}
 
 -- the rows that are left add up, with what is there, to all of them
@@ -100,7 +100,7 @@ remove-parts [] i within = absurd (omega arith)
 remove-parts (r ∷ rs) zero within = refl
 remove-parts (r ∷ rs) (suc i) within = ap (λ l. r ∷ l) (remove-parts rs i (omega arith))
 
-pub taken : (rows : List Row) (v i : ℕ) (row : Row) (new : List Row) → position (λ (r : Row). eqb r.pivot v) rows ≡ Some i → row ≡ get_or rows i row → new ≡ remove rows i → IsTaken v row rows new
+pub taken : (rows : List Row) (v i : ℕ) (row : Row) (new : List Row) → position (λ (r : Row). eqb r.pivot v) rows ≡ Some i → row ≡ get_or rows i row → new ≡ remove rows i → IsRowTaken v row rows new
 taken rows v i row new found is without =
     let facts = position-Some (λ (r : Row). eqb r.pivot v) rows i row found in
     record {

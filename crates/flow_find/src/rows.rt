@@ -4,7 +4,7 @@ ghost use Rattle.std.specs.Prelude.{◌≡◌, ◌==◌, false, [], position, On
 ghost use Rattle.zx_calculus.specs.Graph.{Live};
 ghost use Rattle.gflow_laws.specs.Seen.{seen};
 ghost use Rattle.flow_find.specs.Frontiers.{AreAll, around};
-ghost use Rattle.flow_find.specs.Internal.Rows.{AreEach, IsSum, IsCleared, IsRelieved, IsDropped, IsPut, IsTaken, IsSpent};
+ghost use Rattle.flow_find.specs.Internal.Rows.{AreEach, IsSum, IsCleared, IsRelieved, IsDropped, IsPut, IsRowTaken, IsSpent};
 
 use crate::picked::Around;
 use crate::row::Row;
@@ -89,7 +89,7 @@ fn clear_member(rows: &mut [Row], member: VertexId, row: &Row) -> Result<(), All
 
 // Takes out a row with this pivot.
 pub(crate) fn take_pivot(rows: &mut Vec<Row>, v: VertexId) -> Option<Row>
-    ensures some { IfSome result (λ row. IsTaken v row rows.old.items rows.new.items) }
+    ensures some { IfSome result (λ row. IsRowTaken v row rows.old.items rows.new.items) }
     ensures none { IfNone result (AreAll (λ row. (row.pivot == v) ≡ false) rows.new.items) }
     ensures same { IfNone result (rows.new.items ≡ rows.old.items) }
 {

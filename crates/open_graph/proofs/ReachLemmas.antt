@@ -7,9 +7,9 @@ use Rattle.open_graph.specs.declared.scratch.Scratch.{Scratch}
 use Rattle.open_graph.specs.VertexSets.{VertexSet}
 use Rattle.zx_model.specs.Bits.{member}
 use Rattle.zx_calculus.specs.Graph.{End, Graph}
-use Rattle.open_graph.specs.Internal.Slots.{Told, nothing, told, told_by}
+use Rattle.open_graph.specs.Internal.Slots.{Told, nothing, told_at, told_by}
 use Rattle.open_graph.specs.Internal.Changes.{SameTold, without_neighbour, RemovedFrom}
-use Rattle.open_graph.specs.Internal.Room.{room_by, HasRows, KeepsRoom, row_kept, room_with, room_at, AreEmpty, HasRoom, IsKept}
+use Rattle.open_graph.specs.Internal.Room.{room_by, HasRows, KeepsRoom, row_kept, room_with, room_at, AreEmpty, HasRoom, IsStored}
 use Rattle.open_graph.proofs.RoomLemmas.{vacant-put}
 use Rattle.open_graph.proofs.Keeping.{becomes_same, becomes, Becomes}
 
@@ -91,10 +91,10 @@ pub same_put : (xs : List (Option Slot)) (u : ℕ) (row : VertexSet) (t : Slot) 
 same_put xs u row t here same p =
     elim (cases_eq p u) [
       | inl e ↦
-          ap (λ q. told (set xs u (Some (record t { row = row }))) q) e
+          ap (λ q. told_at (set xs u (Some (record t { row = row }))) q) e
           ∙ ap told_by (get_or-set_same xs u (Some (record t { row = row })) None (place_within xs u t here))
           ∙ ap {B = Told} (λ ids. record (told_by (Some t)) { row = ids }) same
-          ∙ sym (ap told_by here) ∙ sym (ap (told xs) e)
+          ∙ sym (ap told_by here) ∙ sym (ap (told_at xs) e)
       | inr apart ↦ ap told_by (get_or-set_other xs u p (Some (record t { row = row })) None apart)
     ]
 
@@ -230,10 +230,10 @@ none_of_dead (Some s) dead = absurd (false≢true (sym dead))
 pub gone : (old new : List (Option Slot)) (v : ℕ) (rows : List ℕ) → RemovedFrom old new v rows → slice_index_or new v None ≡ None
 gone old new v rows removed =
     none_of_dead (slice_index_or new v None)
-    (ap (λ t. t.live) (removed v) ∙ ap (λ b. (cond b nothing (cond (member v rows) (without_neighbour v (told old v)) (told old v))).live) (eq-eqb v v refl))
+    (ap (λ t. t.live) (removed v) ∙ ap (λ b. (cond b nothing (cond (member v rows) (without_neighbour v (told_at old v)) (told_at old v))).live) (eq-eqb v v refl))
 
 -- the row of what stands in a place
-pub row_at : (xs : List (Option Slot)) (u at : ℕ) (t : Slot) → at ≡ u → slice_index_or xs at None ≡ Some t → (told xs u).row ≡ t.row.ids
+pub row_at : (xs : List (Option Slot)) (u at : ℕ) (t : Slot) → at ≡ u → slice_index_or xs at None ≡ Some t → (told_at xs u).row ≡ t.row.ids
 row_at xs u at t same here = ap (λ o. (told_by o).row) (ap (λ q. slice_index_or xs q None) (sym same) ∙ here)
 
 -- where no row is kept
@@ -246,8 +246,8 @@ no_room xs kept none =
     }
 
 -- the same vertices in as many places or more
-pub kept_same : (xs ys : List (Option Slot)) (inputs outputs : List End) (kept : List VertexSet) (scratch : Scratch) (reach : ℕ) → IsKept xs inputs outputs kept scratch reach →
-    ((p : ℕ) → slice_index_or ys p None ≡ slice_index_or xs p None) → IsKept ys inputs outputs kept scratch reach
+pub kept_same : (xs ys : List (Option Slot)) (inputs outputs : List End) (kept : List VertexSet) (scratch : Scratch) (reach : ℕ) → IsStored xs inputs outputs kept scratch reach →
+    ((p : ℕ) → slice_index_or ys p None ≡ slice_index_or xs p None) → IsStored ys inputs outputs kept scratch reach
 kept_same xs ys inputs outputs kept scratch reach is same =
     record {
       sound = (becomes_same xs ys inputs outputs is.sound (λ p. ap told_by (same p))).sound;

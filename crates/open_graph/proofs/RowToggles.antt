@@ -10,7 +10,7 @@ use Rattle.zx_calculus.proofs.Ids.{by_equal, eqb-self, Symmetric}
 use Rattle.zx_calculus.proofs.EdgeLists.{OrderedEdges-edges_of}
 use Rattle.zx_calculus.proofs.Extensionality.{vertices_ext}
 use Rattle.open_graph.specs.declared.slot.Slot.{Slot}
-use Rattle.open_graph.specs.Internal.Slots.{Told, told_by, told, vertices_of, adjacent, graph_of, IsSound}
+use Rattle.open_graph.specs.Internal.Slots.{Told, told_by, told_at, vertices_of, adjacent, graph_of, IsSound}
 use Rattle.open_graph.specs.Internal.Changes.{RowsToggled, two_among}
 use Rattle.open_graph.proofs.SlotLemmas.{member-vertices, kind_of-vertices, rising_vertices, joined-edges, some_of_live}
 
@@ -21,7 +21,7 @@ regrouped a b c d e = let assoc : xor (xor a b) c ≡ xor a (xor b c) = simp par
 pub rows_then : (a b c : List (Option Slot)) (picked more all : ℕ → ℕ → Bool) → RowsToggled a b picked → RowsToggled b c more →
     ((p q : ℕ) → xor (picked p q) (more p q) ≡ all p q) → RowsToggled a c all
 rows_then a b c picked more all first second sum = record {
-  others = λ p. second.others p ∙ ap {A = Told} {B = Told} (λ t. record t { row = (told c p).row }) (first.others p);
+  others = λ p. second.others p ∙ ap {A = Told} {B = Told} (λ t. record t { row = (told_at c p).row }) (first.others p);
   rows = λ p q. second.rows p q ∙ ap (λ x. xor x (more p q)) (first.rows p q)
       ∙ regrouped (adjacent a p q) (picked p q) (more p q) (all p q) (sum p q);
 }
@@ -37,10 +37,10 @@ rows_alike old new picked same toggled alike = record {
 -- a vertex and its neighbours have slots
 pub closed_live : (slots : List (Option Slot)) (u q : ℕ) → IsSome (slice_index_or slots u None) →
     ((p q : ℕ) → adjacent slots p q ≡ true → IsSome (slice_index_or slots q None)) →
-    member q (u ∷ (told slots u).row) ≡ true → IsSome (slice_index_or slots q None)
+    member q (u ∷ (told_at slots u).row) ≡ true → IsSome (slice_index_or slots q None)
 closed_live slots u q live near there =
     by_equal q u (λ t e. subst (λ p. IsSome (slice_index_or slots p None)) (sym e) live)
-    (λ f n. near u q (ap (λ b. b || member q (told slots u).row) (sym f) ∙ there))
+    (λ f n. near u q (ap (λ b. b || member q (told_at slots u).row) (sym f) ∙ there))
 
 live_of_some : (slot : Option Slot) → IsSome slot → (told_by slot).live ≡ true
 live_of_some None there = absurd (true≢false (sym there))

@@ -15,10 +15,10 @@ use Rattle.open_graph.specs.declared.side.Side.{Side}
 use Rattle.open_graph.specs.declared.side.Side.TheVariants.{Input, Output}
 use Rattle.open_graph.specs.OpenGraph.{OpenGraph}
 use Rattle.open_graph.specs.VertexSets.{VertexSet}
-use Rattle.open_graph.specs.Internal.Slots.{nothing, told_by, told, vertices_of, graph_of, IsSound}
-use Rattle.open_graph.specs.Internal.Sides.{ends_of, with_ends, with_place, Moves}
-use Rattle.open_graph.specs.Internal.Changes.{Puts, SameTold, Keeps, RemovedFrom, RowsToggled, two_among}
-use Rattle.open_graph.specs.Internal.Room.{vacant_in, KeepsRoom, HasRoom, CanHold, IsKept}
+use Rattle.open_graph.specs.Internal.Slots.{nothing, told_by, told_at, vertices_of, graph_of, IsSound}
+use Rattle.open_graph.specs.Internal.Sides.{ends_of, with_ends, with_side_place, Moves}
+use Rattle.open_graph.specs.Internal.Changes.{Puts, SameTold, Stores, RemovedFrom, RowsToggled, two_among}
+use Rattle.open_graph.specs.Internal.Room.{vacant_in, KeepsRoom, HasRoom, CanHold, IsStored}
 use Rattle.open_graph.proofs.SlotLemmas.{contains_live, rising_vertices, member-vertices, member_of_some}
 use Rattle.open_graph.proofs.Keeping.{MayHold, Becomes, becomes_same, becomes_toggled, becomes_added, becomes_weight, becomes_end_added, becomes_end_moved}
 use Rattle.open_graph.proofs.Removing.{becomes_removed}
@@ -48,32 +48,32 @@ pub record SettledVertex {E : Type 0} (r : Result ℕ E) (slots : List (Option S
   pub err : OnErr r (graph_of slots inputs outputs ≡ before)
 
 module _ {slots new : List (Option Slot)} {inputs outputs ins outs : List End} {kept : List VertexSet} {scratch sets : Scratch} {reach : ℕ}
-    (is : IsKept slots inputs outputs kept scratch reach) (sound : IsSound new ins outs) where
+    (is : IsStored slots inputs outputs kept scratch reach) (sound : IsSound new ins outs) where
   -- other sound slots and ends, where rows keep their room
-  pub kept_on : KeepsRoom reach slots new → CanHold reach sets → IsKept new ins outs kept sets reach
+  pub kept_on : KeepsRoom reach slots new → CanHold reach sets → IsStored new ins outs kept sets reach
   kept_on room holds = record { sound = sound; room = room_kept reach slots new kept is.room room; scratch = holds }
 
   -- the same where slots between them do, whose room is kept in other rows
   pub kept_after : (mid : List (Option Slot)) (rows : List VertexSet) → KeepsRoom reach slots mid →
-      ((reach : ℕ) → HasRoom reach mid kept → HasRoom reach new rows) → CanHold reach sets → IsKept new ins outs rows sets reach
+      ((reach : ℕ) → HasRoom reach mid kept → HasRoom reach new rows) → CanHold reach sets → IsStored new ins outs rows sets reach
   kept_after mid rows room more holds = record { sound = sound; room = more reach (room_kept reach slots mid kept is.room room); scratch = holds }
 
 module _ {slots : List (Option Slot)} {inputs outputs : List End} {kept : List VertexSet} {scratch : Scratch} {reach : ℕ} {g : OpenGraph}
-    (is : IsKept slots inputs outputs kept scratch reach) (view : seen slots inputs outputs reach ≡ g) where
+    (is : IsStored slots inputs outputs kept scratch reach) (view : seen slots inputs outputs reach ≡ g) where
   pub live_there : (v : ℕ) → Live g.graph v → IsSome (slice_index_or slots v None)
   live_there v live = contains_live slots v (ap (λ g. member v (ids g.graph.vertices)) view ∙ live)
 
   -- neighbours below the reach stand in the row, which is below it so
-  pub near_below : (u : ℕ) → IsBelow g.room.reach (neighbours g.graph u) → IsBelow reach (told slots u).row
+  pub near_below : (u : ℕ) → IsBelow g.room.reach (neighbours g.graph u) → IsBelow reach (told_at slots u).row
   near_below u below =
       row_below slots inputs outputs is.sound u reach (subst (λ (g : OpenGraph). IsBelow g.room.reach (neighbours g.graph u)) (sym view) below)
 
-  pub around_below : (u : ℕ) → IsBelow g.room.reach (u ∷ neighbours g.graph u) → IsBelow reach (u ∷ (told slots u).row)
+  pub around_below : (u : ℕ) → IsBelow g.room.reach (u ∷ neighbours g.graph u) → IsBelow reach (u ∷ (told_at slots u).row)
   around_below u below =
       closed_below slots inputs outputs is.sound u reach (subst (λ (g : OpenGraph). IsBelow g.room.reach (u ∷ neighbours g.graph u)) (sym view) below)
 
 module _ {slots : List (Option Slot)} {inputs outputs : List End} {kept : List VertexSet} {scratch : Scratch} {reach : ℕ} {g : OpenGraph}
-    (is : IsKept slots inputs outputs kept scratch reach) (view : seen slots inputs outputs reach ≡ g) (new : List (Option Slot)) where
+    (is : IsStored slots inputs outputs kept scratch reach) (view : seen slots inputs outputs reach ≡ g) (new : List (Option Slot)) where
   abbrev before : Graph
   before = graph_of slots inputs outputs
 
@@ -81,7 +81,7 @@ module _ {slots : List (Option Slot)} {inputs outputs : List End} {kept : List V
   same_seen same = subst (λ (g : OpenGraph). Becomes new inputs outputs g.graph) view (becomes_same slots new inputs outputs is.sound same)
 
   pub weight_seen : (v : ℕ) (kind : Kind) → kind.phase < turn → (is_interior g.graph v ≡ false → kind.plane ≡ XY) →
-      Puts slots new v (record (told slots v) { kind = kind }) →
+      Puts slots new v (record (told_at slots v) { kind = kind }) →
       Becomes new inputs outputs (record g.graph { vertices = with_kinds (at_vertex v (λ _. kind)) g.graph.vertices })
   weight_seen v kind below at_boundary puts =
       subst
@@ -89,7 +89,7 @@ module _ {slots : List (Option Slot)} {inputs outputs : List End} {kept : List V
       Becomes new inputs outputs (record g.graph { vertices = with_kinds (at_vertex v (λ _. kind)) g.graph.vertices })) view
       (λ boundary. becomes_weight slots inputs outputs is.sound new v kind below boundary puts) at_boundary
 
-  pub removed_seen : (v : ℕ) → Interior g.graph v → RemovedFrom slots new v (told slots v).row →
+  pub removed_seen : (v : ℕ) → Interior g.graph v → RemovedFrom slots new v (told_at slots v).row →
       IsSound new inputs outputs × IsRemoval g.graph v (graph_of new inputs outputs)
   removed_seen v interior removed =
       subst (λ (g : OpenGraph). Interior g.graph v → IsSound new inputs outputs × IsRemoval g.graph v (graph_of new inputs outputs)) view
@@ -110,31 +110,31 @@ module _ {slots : List (Option Slot)} {inputs outputs : List End} {kept : List V
       let made = becomes_among slots new inputs outputs is.sound near rows in
       (made.sound, subst (λ (g : OpenGraph). IsToggled g.graph (among near) (graph_of new inputs outputs)) view made.toggled)
 
-  pub near_seen : (u : ℕ) → RowsToggled slots new (two_among (told slots u).row) →
+  pub near_seen : (u : ℕ) → RowsToggled slots new (two_among (told_at slots u).row) →
       IsSound new inputs outputs × IsToggled g.graph (among (neighbours g.graph u)) (graph_of new inputs outputs)
   near_seen u rows = (
-    (among_seen (told slots u).row rows).0,
+    (among_seen (told_at slots u).row rows).0,
     subst (λ (g : OpenGraph). IsToggled g.graph (among (neighbours g.graph u)) (graph_of new inputs outputs)) view
         (toggled_near slots inputs outputs is.sound new u rows),
   )
 
-  pub around_seen : (u v : ℕ) → RowsToggled slots new (across (u ∷ (told slots u).row) (v ∷ (told slots v).row)) →
+  pub around_seen : (u v : ℕ) → RowsToggled slots new (across (u ∷ (told_at slots u).row) (v ∷ (told_at slots v).row)) →
       IsSound new inputs outputs × IsToggled g.graph (across (u ∷ neighbours g.graph u) (v ∷ neighbours g.graph v)) (graph_of new inputs outputs)
   around_seen u v rows = (
-    (across_seen (u ∷ (told slots u).row) (v ∷ (told slots v).row) rows).0,
+    (across_seen (u ∷ (told_at slots u).row) (v ∷ (told_at slots v).row) rows).0,
     subst (λ (g : OpenGraph). IsToggled g.graph (across (u ∷ neighbours g.graph u) (v ∷ neighbours g.graph v)) (graph_of new inputs outputs)) view
         (toggled_around slots inputs outputs is.sound new u v rows),
   )
 
   pub toggle_seen : {T E : Type 0} (r : Result T E) (u v : ℕ) → Live g.graph u → Live g.graph v → u ≢ v →
-      OnOk r ((h : Graph) → WellFormed h → Live h u → Live h v → Keeps slots h → Keeps new (toggled h u v)) → OnErr r (SameTold slots new) →
+      OnOk r ((h : Graph) → WellFormed h → Live h u → Live h v → Stores slots h → Stores new (toggled h u v)) → OnErr r (SameTold slots new) →
       Settled r new inputs outputs g.graph (IsToggle g.graph u v)
   toggle_seen {T} {E} r u v u_live v_live apart ok err =
       subst (λ (g : OpenGraph). Live g.graph u → Live g.graph v → Settled r new inputs outputs g.graph (IsToggle g.graph u v)) view
       (λ u_there v_there. at r u_there v_there ok err) u_live v_live
     where
       at : (r : Result T E) → Live before u → Live before v →
-          OnOk r ((h : Graph) → WellFormed h → Live h u → Live h v → Keeps slots h → Keeps new (toggled h u v)) → OnErr r (SameTold slots new) →
+          OnOk r ((h : Graph) → WellFormed h → Live h u → Live h v → Stores slots h → Stores new (toggled h u v)) → OnErr r (SameTold slots new) →
           Settled r new inputs outputs before (IsToggle before u v)
       at (Ok x) u_there v_there keeps err =
           let made = becomes_toggled slots new inputs outputs is.sound u v u_there v_there apart keeps in
@@ -190,7 +190,7 @@ module _ {slots : List (Option Slot)} {inputs outputs : List End} {kept : List V
         at Output = record { sound = is.sound; graph = refl }
 
     pub end_seen : {T E : Type 0} (r : Result T E) → MayHold g.graph (ends_of side g.graph) e → OnOk r (items ≡ ends ++ e ∷ []) →
-        OnOk r (Puts slots new e.vertex (with_place side (Some (length ends)) (told slots e.vertex))) → OnErr r ((items ≡ ends) × (new ≡ slots)) →
+        OnOk r (Puts slots new e.vertex (with_side_place side (Some (length ends)) (told_at slots e.vertex))) → OnErr r ((items ≡ ends) × (new ≡ slots)) →
         Settled r new ins outs g.graph (λ h. h ≡ with_ends side (ends_of side g.graph ++ e ∷ []) g.graph)
     end_seen {T} {E} r may added puts err =
         subst
@@ -198,7 +198,7 @@ module _ {slots : List (Option Slot)} {inputs outputs : List End} {kept : List V
         Settled r new ins outs g.graph (λ h. h ≡ with_ends side (ends_of side g.graph ++ e ∷ []) g.graph)) view (λ may. at r may added puts err) may
       where
         at : (r : Result T E) → MayHold before ends e → OnOk r (items ≡ ends ++ e ∷ []) →
-            OnOk r (Puts slots new e.vertex (with_place side (Some (length ends)) (told slots e.vertex))) → OnErr r ((items ≡ ends) × (new ≡ slots)) →
+            OnOk r (Puts slots new e.vertex (with_side_place side (Some (length ends)) (told_at slots e.vertex))) → OnErr r ((items ≡ ends) × (new ≡ slots)) →
             Settled r new ins outs before (λ h. h ≡ with_ends side (ends ++ e ∷ []) before)
         at (Ok x) may added puts err =
             let made = becomes_end_added slots inputs outputs is.sound side new items e added may puts in

@@ -14,7 +14,7 @@ use Rattle.zx_calculus.proofs.EdgeLists.{OrderedEdges-edges_of}
 use Rattle.zx_calculus.proofs.Programs.{edges_full}
 use Rattle.zx_bits.specs.Rows.{IsFirstFrom}
 use Rattle.open_graph.specs.declared.slot.Slot.{Slot}
-use Rattle.open_graph.specs.Internal.Slots.{told_by, told, vertices_from, vertices_of, adjacent, graph_of, IsSound, Tells}
+use Rattle.open_graph.specs.Internal.Slots.{told_by, told_at, vertices_from, vertices_of, adjacent, graph_of, IsSound, Tells}
 use Rattle.open_graph.proofs.RowLemmas.{first_alike}
 
 -- ids below that of the first slot
@@ -41,7 +41,7 @@ rising_vertices first (Some s ∷ rest) = both _ _ (all_above first (suc first) 
 shifted : (first j : ℕ) → first + suc j ≡ suc first + j
 shifted first j = omega arith
 
-member-vertices_from : (first : ℕ) (slots : List (Option Slot)) (j : ℕ) → member (first + j) (ids (vertices_from first slots)) ≡ (told slots j).live
+member-vertices_from : (first : ℕ) (slots : List (Option Slot)) (j : ℕ) → member (first + j) (ids (vertices_from first slots)) ≡ (told_at slots j).live
 member-vertices_from first [] j = refl
 member-vertices_from first (None ∷ rest) zero = member-below_first (suc first) rest (first + 0) (omega arith)
 member-vertices_from first (None ∷ rest) (suc j) = ap (λ p. member p (ids (vertices_from (suc first) rest))) (shifted first j) ∙ member-vertices_from (suc first) rest j
@@ -49,7 +49,7 @@ member-vertices_from first (Some s ∷ rest) zero = rw (eq-eqb (first + 0) first
 member-vertices_from first (Some s ∷ rest) (suc j) =
     rw (ne_eqb (first + suc j) first (omega arith)) (ap (λ p. member p (ids (vertices_from (suc first) rest))) (shifted first j) ∙ member-vertices_from (suc first) rest j)
 
-kind_of-vertices_from : (first : ℕ) (slots : List (Option Slot)) (j : ℕ) → kind_of (vertices_from first slots) (first + j) ≡ (told slots j).kind
+kind_of-vertices_from : (first : ℕ) (slots : List (Option Slot)) (j : ℕ) → kind_of (vertices_from first slots) (first + j) ≡ (told_at slots j).kind
 kind_of-vertices_from first [] j = refl
 kind_of-vertices_from first (None ∷ rest) zero = kind_of-below_first (suc first) rest (first + 0) (omega arith)
 kind_of-vertices_from first (None ∷ rest) (suc j) = ap (kind_of (vertices_from (suc first) rest)) (shifted first j) ∙ kind_of-vertices_from (suc first) rest j
@@ -58,10 +58,10 @@ kind_of-vertices_from first (Some s ∷ rest) (suc j) =
     rw (ne_eqb (first + suc j) first (omega arith)) (ap (kind_of (vertices_from (suc first) rest)) (shifted first j) ∙ kind_of-vertices_from (suc first) rest j)
 
 module _ (slots : List (Option Slot)) where
-  pub member-vertices : (p : ℕ) → member p (ids (vertices_of slots)) ≡ (told slots p).live
+  pub member-vertices : (p : ℕ) → member p (ids (vertices_of slots)) ≡ (told_at slots p).live
   member-vertices p = ap (λ n. member n (ids (vertices_of slots))) (sym (zero-add p)) ∙ member-vertices_from 0 slots p
 
-  pub kind_of-vertices : (p : ℕ) → kind_of (vertices_of slots) p ≡ (told slots p).kind
+  pub kind_of-vertices : (p : ℕ) → kind_of (vertices_of slots) p ≡ (told_at slots p).kind
   kind_of-vertices p = ap (kind_of (vertices_of slots)) (sym (zero-add p)) ∙ kind_of-vertices_from 0 slots p
 
 -- where there is no vertex, there is no neighbour
@@ -120,17 +120,17 @@ contains_live slots v there = some_of_live (slice_index_or slots v None) (sym (m
 
 -- one copy more tells the same
 pub told_pushed : (xs copies : List (Option Slot)) (n : ℕ) (x y : Option Slot) → length copies ≡ n → slice_index_or xs n None ≡ x → told_by y ≡ told_by x →
-    ((p : ℕ) → p < n → told copies p ≡ told xs p) → (p : ℕ) → p < n + 1 → told (copies ++ y ∷ []) p ≡ told xs p
+    ((p : ℕ) → p < n → told_at copies p ≡ told_at xs p) → (p : ℕ) → p < n + 1 → told_at (copies ++ y ∷ []) p ≡ told_at xs p
 told_pushed xs copies n x y size here same before p lt =
     elim (cases_lt p n) [
       | inl l ↦ ap told_by (get_or_append_left copies (y ∷ []) None p (omega arith)) ∙ before p l
       | inr g ↦
           let last : p ≡ n = omega arith in
-          ap told_by (get_or_push copies y None p (omega arith)) ∙ same ∙ ap told_by (sym here) ∙ ap (told xs) (sym last)
+          ap told_by (get_or_push copies y None p (omega arith)) ∙ same ∙ ap told_by (sym here) ∙ ap (told_at xs) (sym last)
     ]
 
 -- all that are told are those of the list
-pub told_all : (xs copies : List (Option Slot)) (n : ℕ) → length copies ≡ n → length xs ≤ n → ((p : ℕ) → p < n → told copies p ≡ told xs p) → (p : ℕ) → told copies p ≡ told xs p
+pub told_all : (xs copies : List (Option Slot)) (n : ℕ) → length copies ≡ n → length xs ≤ n → ((p : ℕ) → p < n → told_at copies p ≡ told_at xs p) → (p : ℕ) → told_at copies p ≡ told_at xs p
 told_all xs copies n size all before p =
     elim (cases_lt p n) [
       | inl l ↦ before p l

@@ -8,7 +8,7 @@ use Rattle.zx_bits.specs.Rows.{BitRow, flipped}
 use Rattle.zx_bits.proofs.Vectors.{length-flipped, bit-flipped, place_within}
 use Rattle.open_graph.specs.declared.slot.Slot.{Slot}
 use Rattle.open_graph.specs.Internal.Table.{IsFreeRow}
-use Rattle.open_graph.specs.Internal.Slots.{told}
+use Rattle.open_graph.specs.Internal.Slots.{told_at}
 use Rattle.open_graph.specs.Internal.Room.{vacant_in}
 use Rattle.open_graph.proofs.RoomLemmas.{vacant-none}
 use Rattle.open_graph.proofs.SlotLemmas.{live_if_some}
@@ -122,7 +122,7 @@ module _ (slots : List (Option Slot)) (free : BitRow) (row : IsFreeRow slots fre
       }
 
 -- other slots under the same ids
-pub row_same : (slots new : List (Option Slot)) (free copy : BitRow) → IsFreeRow slots free → length new ≡ length slots → ((p : ℕ) → told new p ≡ told slots p) →
+pub row_same : (slots new : List (Option Slot)) (free copy : BitRow) → IsFreeRow slots free → length new ≡ length slots → ((p : ℕ) → told_at new p ≡ told_at slots p) →
     copy.bits ≡ free.bits → IsFreeRow new copy
 row_same slots new free copy row size same bits =
     record {

@@ -55,7 +55,7 @@ impl Model for OpenGraph {
     ghost Value = { Seen };
 
     ghost use Rattle.open_graph.specs.Internal.Slots.{graph_of};
-    ghost use Rattle.open_graph.specs.Internal.Room.{vacant_in, IsKept};
+    ghost use Rattle.open_graph.specs.Internal.Room.{vacant_in, IsStored};
 
     ghost view = { λ g. record {
       graph = graph_of g.slots.slots g.inputs.items g.outputs.items;
@@ -63,7 +63,7 @@ impl Model for OpenGraph {
     } };
 
     ghost invariant = { λ g.
-        IsKept g.slots.slots g.inputs.items g.outputs.items g.kept.items g.scratch g.reach };
+        IsStored g.slots.slots g.inputs.items g.outputs.items g.kept.items g.scratch g.reach };
 }
 
 impl OpenGraph {

@@ -2,9 +2,9 @@
 
 ghost use Rattle.std.specs.Prelude.{◌≡◌, ◌<◌, ◌≤◌, ◌++◌, ℕ, [], ◌∷◌, Some, length, slice_set, slice_index_or, OnOk, OnErr};
 ghost use Rattle.open_graph.specs.Internal.Table.{HasSlot};
-ghost use Rattle.open_graph.specs.Internal.Slots.{told, graph_of, IsSound};
+ghost use Rattle.open_graph.specs.Internal.Slots.{told_at, graph_of, IsSound};
 ghost use Rattle.open_graph.specs.Internal.Room.{vacant_in, KeepsRoom, HasRoom};
-ghost use Rattle.open_graph.specs.Internal.Sides.{with_place, Moves};
+ghost use Rattle.open_graph.specs.Internal.Sides.{with_side_place, Moves};
 ghost use Rattle.open_graph.specs.Internal.Changes.{Puts};
 
 use crate::end::End;
@@ -30,7 +30,7 @@ pub(crate) fn add_end(
     requires { HasSlot slots.old end.vertex }
     ensures ends { OnOk result (ends.new.items ≡ ends.old.items ++ end ∷ []) }
     ensures slots { OnOk result (Puts slots.old.slots slots.new.slots end.vertex
-        (with_place side (Some (length ends.old.items)) (told slots.old.slots end.vertex))) }
+        (with_side_place side (Some (length ends.old.items)) (told_at slots.old.slots end.vertex))) }
     ensures room { (reach : ℕ) → KeepsRoom reach slots.old.slots slots.new.slots }
     ensures err { OnErr result ((ends.new.items ≡ ends.old.items) × (slots.new.slots ≡ slots.old.slots)) }
 {

@@ -10,9 +10,9 @@ ghost use Rattle.zx_calculus.proofs.EditPrograms.{toggled};
 ghost use Rattle.open_graph.specs.Planes.{plane_named};
 ghost use Rattle.open_graph.specs.Internal.Rows.{inserted};
 ghost use Rattle.open_graph.specs.Internal.Room.{vacant_in, room_by, HasRows, KeepsRoom, room_at, row_kept, AreEmpty, HasRoom, CanHold};
-ghost use Rattle.open_graph.specs.Internal.Slots.{nothing, told, adjacent};
-ghost use Rattle.open_graph.specs.Internal.Sides.{with_place};
-ghost use Rattle.open_graph.specs.Internal.Changes.{Puts, SameTold, Keeps, RemovedFrom, RowsToggled, two_among};
+ghost use Rattle.open_graph.specs.Internal.Slots.{nothing, told_at, adjacent};
+ghost use Rattle.open_graph.specs.Internal.Sides.{with_side_place};
+ghost use Rattle.open_graph.specs.Internal.Changes.{Puts, SameTold, Stores, RemovedFrom, RowsToggled, two_among};
 ghost use Rattle.zx_calculus.specs.Toggles.{across};
 ghost use Rattle.zx_bits.specs.Sets.{IsBelow};
 
@@ -62,7 +62,7 @@ fn add_alone(
     ensures vacant { IfOk result (λ v. slot_at slots.old v ≡ None) }
     ensures least { IfOk result (λ v. (lower : ℕ) → lower < v → HasSlot slots.old lower) }
     ensures there { IfOk result (λ v. HasSlot slots.new v) }
-    ensures alone { IfOk result (λ v. (told slots.new.slots v).row ≡ []) }
+    ensures alone { IfOk result (λ v. (told_at slots.new.slots v).row ≡ []) }
     ensures others { IfOk result (λ v. (p : ℕ) → p ≢ v →
         slot_at slots.new p ≡ slot_at slots.old p) }
     ensures ok { IfOk result (λ v. Puts slots.old.slots slots.new.slots v
@@ -85,7 +85,7 @@ fn add_alone(
 // Gives a vertex without neighbours the row that is kept for its id, if there is one.
 fn give_row(slots: &mut SlotTable, kept: &mut Vec<VertexSet>, alloc: Global, v: VertexId)
     requires live { HasSlot slots.old v }
-    requires alone { (told slots.old.slots v).row ≡ [] }
+    requires alone { (told_at slots.old.slots v).row ≡ [] }
     requires empty { AreEmpty kept.old.items }
     ensures same { SameTold slots.old.slots slots.new.slots }
     ensures spare { vacant_in slots.new.slots ≡ vacant_in slots.old.slots }
@@ -121,7 +121,7 @@ pub(crate) fn add_neighbour(
 ) -> Result<(), AllocError>
     requires live { HasSlot slots.old u }
     requires apart { adjacent slots.old.slots u v ≡ false }
-    ensures ok { OnOk result (let t = told slots.old.slots u in
+    ensures ok { OnOk result (let t = told_at slots.old.slots u in
         Puts slots.old.slots slots.new.slots u (record t { row = inserted v t.row })) }
     ensures err { OnErr result (SameTold slots.old.slots slots.new.slots) }
     ensures room { KeepsRoom reach slots.old.slots slots.new.slots }
@@ -134,7 +134,7 @@ pub(crate) fn add_neighbour(
 // Takes a vertex out of the neighbours of another.
 pub(crate) fn remove_neighbour(slots: &mut SlotTable, u: VertexId, v: VertexId)
     requires { HasSlot slots.old u }
-    ensures puts { let t = told slots.old.slots u in
+    ensures puts { let t = told_at slots.old.slots u in
         Puts slots.old.slots slots.new.slots u (record t { row = removed v t.row }) }
     ensures room { (reach : ℕ) → KeepsRoom reach slots.old.slots slots.new.slots }
 {
@@ -153,7 +153,7 @@ pub(crate) fn toggle(
     requires different { u ≢ v }
     requires symmetric { adjacent slots.old.slots u v ≡ adjacent slots.old.slots v u }
     ensures ok { OnOk result ((h : Graph) → WellFormed h → Live h u → Live h v
-        → Keeps slots.old.slots h → Keeps slots.new.slots (toggled h u v)) }
+        → Stores slots.old.slots h → Stores slots.new.slots (toggled h u v)) }
     ensures err { OnErr result (SameTold slots.old.slots slots.new.slots) }
     ensures room { KeepsRoom reach slots.old.slots slots.new.slots }
     ensures has_room { HasRows reach slots.old.slots → u < reach → v < reach → IsOk result }
@@ -274,7 +274,7 @@ fn copy_row(
     requires near_live { (q : ℕ) → adjacent slots.now.slots u q ≡ true → HasSlot slots.now q }
     ensures members { OnOk result ((q : ℕ) →
         member q set.new.ids ≡ adjacent slots.now.slots u q) }
-    ensures has_room { reach ≤ set.old.room → IsBelow reach (told slots.now.slots u).row →
+    ensures has_room { reach ≤ set.old.room → IsBelow reach (told_at slots.now.slots u).row →
         IsOk result }
     ensures keeps_room { reach ≤ set.old.room → reach ≤ set.new.room }
 {
@@ -292,9 +292,9 @@ fn copy_row_and_itself(
     requires near_live { (q : ℕ) → adjacent slots.now.slots u q ≡ true → HasSlot slots.now q }
     requires no_loop { adjacent slots.now.slots u u ≡ false }
     ensures members { OnOk result ((q : ℕ) →
-        member q set.new.ids ≡ member q (u ∷ (told slots.now.slots u).row)) }
+        member q set.new.ids ≡ member q (u ∷ (told_at slots.now.slots u).row)) }
     ensures has_room { reach ≤ set.old.room → u < reach →
-        IsBelow reach (told slots.now.slots u).row → IsOk result }
+        IsBelow reach (told_at slots.now.slots u).row → IsOk result }
     ensures keeps_room { reach ≤ set.old.room → reach ≤ set.new.room }
 {
     copy_row(slots, reach, u, set)?;
@@ -312,11 +312,11 @@ pub(crate) fn toggle_near(
     requires live { HasSlot slots.old u }
     requires near_live { (q : ℕ) → adjacent slots.old.slots u q ≡ true → HasSlot slots.old q }
     ensures toggled { OnOk result (RowsToggled slots.old.slots slots.new.slots
-        (two_among (told slots.old.slots u).row)) }
+        (two_among (told_at slots.old.slots u).row)) }
     ensures room { KeepsRoom reach slots.old.slots slots.new.slots }
     ensures holds { CanHold reach scratch.old → CanHold reach scratch.new }
     ensures has_room { CanHold reach scratch.old → HasRows reach slots.old.slots →
-        IsBelow reach (told slots.old.slots u).row → IsOk result }
+        IsBelow reach (told_at slots.old.slots u).row → IsOk result }
 {
     copy_row(slots, reach, u, &mut scratch.near)?;
     toggle_among(slots, reach, &scratch.near)
@@ -336,12 +336,12 @@ pub(crate) fn toggle_around(
     requires near_live { (p q : ℕ) → adjacent slots.old.slots p q ≡ true → HasSlot slots.old q }
     requires no_loop { (p : ℕ) → adjacent slots.old.slots p p ≡ false }
     ensures toggled { OnOk result (RowsToggled slots.old.slots slots.new.slots
-        (across (u ∷ (told slots.old.slots u).row) (v ∷ (told slots.old.slots v).row))) }
+        (across (u ∷ (told_at slots.old.slots u).row) (v ∷ (told_at slots.old.slots v).row))) }
     ensures room { KeepsRoom reach slots.old.slots slots.new.slots }
     ensures holds { CanHold reach scratch.old → CanHold reach scratch.new }
     ensures has_room { CanHold reach scratch.old → HasRows reach slots.old.slots →
-        IsBelow reach (u ∷ (told slots.old.slots u).row) →
-        IsBelow reach (v ∷ (told slots.old.slots v).row) → IsOk result }
+        IsBelow reach (u ∷ (told_at slots.old.slots u).row) →
+        IsBelow reach (v ∷ (told_at slots.old.slots v).row) → IsOk result }
 {
     copy_row_and_itself(slots, reach, u, &mut scratch.near)?;
     copy_row_and_itself(slots, reach, v, &mut scratch.far)?;
@@ -359,7 +359,7 @@ fn joins(slots: &SlotTable, u: VertexId, v: VertexId) -> bool
 // Gives a vertex another plane and phase.
 pub(crate) fn set_kind(slots: &mut SlotTable, v: VertexId, plane: Plane, phase: Sixteenth)
     requires { HasSlot slots.old v }
-    ensures puts { let t = told slots.old.slots v in
+    ensures puts { let t = told_at slots.old.slots v in
         Puts slots.old.slots slots.new.slots v (record t { kind = in_plane (plane_named plane) phase }) }
     ensures room { (reach : ℕ) → KeepsRoom reach slots.old.slots slots.new.slots }
 {
@@ -371,7 +371,7 @@ pub(crate) fn set_kind(slots: &mut SlotTable, v: VertexId, plane: Plane, phase: 
 // Gives the end of a side of a vertex another place, or none.
 pub(crate) fn set_place(slots: &mut SlotTable, v: VertexId, side: Side, place: Option<usize>)
     requires { HasSlot slots.old v }
-    ensures puts { Puts slots.old.slots slots.new.slots v (with_place side place (told slots.old.slots v)) }
+    ensures puts { Puts slots.old.slots slots.new.slots v (with_side_place side place (told_at slots.old.slots v)) }
     ensures room { (reach : ℕ) → KeepsRoom reach slots.old.slots slots.new.slots }
 {
     let slot = &mut slots[v.get()];
@@ -386,7 +386,7 @@ pub(crate) fn remove(slots: &mut SlotTable, kept: &mut Vec<VertexSet>, v: Vertex
     requires live { HasSlot slots.old v }
     requires symmetric { (p q : ℕ) → adjacent slots.old.slots p q ≡ adjacent slots.old.slots q p }
     requires no_loop { (p : ℕ) → adjacent slots.old.slots p p ≡ false }
-    ensures removed { RemovedFrom slots.old.slots slots.new.slots v (told slots.old.slots v).row }
+    ensures removed { RemovedFrom slots.old.slots slots.new.slots v (told_at slots.old.slots v).row }
     ensures spare { vacant_in slots.new.slots ≡ vacant_in slots.old.slots + 1 }
     ensures room { (reach : ℕ) → HasRoom reach slots.old.slots kept.old.items →
         HasRoom reach slots.new.slots kept.new.items }

@@ -1,7 +1,7 @@
 //! Circuits that may stand for others.
 
-ghost use Rattle.std.specs.Prelude.{◌≡◌, ◌≤◌, IfOk, IfSome, IsTrue};
-ghost use Rattle.zx_gates.specs.Circuit.{IsOnQubits, most_qubits};
+ghost use Rattle.std.specs.Prelude.{◌≡◌, ◌≤◌, IfOk, IfSome};
+ghost use Rattle.zx_gates.specs.Circuit.{most_qubits};
 
 use crate::network::{Limits, rewritten};
 use crate::noise::Noise;
@@ -157,23 +157,10 @@ pub fn circuit_of(
 {
     let mut made = GateList::new(alloc, qubits);
     for gate in gates {
-        if !is_on_qubits(qubits, gate) {
+        if !gate.is_on_qubits(qubits) {
             return Ok(None);
         }
         made.push(*gate)?;
     }
     Ok(Some(made))
-}
-
-// Whether a gate is one of a circuit of so many qubits.
-fn is_on_qubits(qubits: Qubit, gate: &Gate) -> bool
-    ensures { IsTrue result → IsOnQubits qubits gate.now }
-{
-    match *gate {
-        Gate::H(q) => q < qubits,
-        Gate::Phase(q, phase) => q < qubits && phase.get() != 0,
-        Gate::Cz(p, q) => p < qubits && q < qubits && p != q,
-        Gate::Cx { control, target } => control < qubits && target < qubits && control != target,
-        Gate::Not(q) => q < qubits,
-    }
 }

@@ -7,7 +7,7 @@ use Rattle.std.proofs.Math.Nat.{pow-succ'}
 use Rattle.std.proofs.Math.Numerals.{add-one}
 use Rattle.qasm_angle.proofs.DecimalLemmas.{ten_pow_mono}
 use Rattle.qasm_angle.specs.Literals.{digits_of, number_from, significant, most_significant, count_to_last}
-use Rattle.qasm_angle.specs.Internal.Significands.{next_count, overlong, IsSignificand, Keeps}
+use Rattle.qasm_angle.specs.Internal.Significands.{next_count, overlong, IsSignificand, DecidesAlike}
 use Rattle.qasm_angle.specs.declared.significand.Significand.{Significand}
 
 -- how many digits there are up to the last one other than 0, where so many stand before
@@ -47,9 +47,9 @@ ten_more : (k : ℕ) → 10 ^ (k + 1) ≡ 10 * 10 ^ k
 ten_more k = ap (λ n. 10 ^ n) (add-one k) ∙ pow-succ' 10 k
 
 -- a zero after the prefix
-pub Keeps-zero : (s : Significand) (d : ℕ) (rest digits : List ℕ) → most_significant ≤ s.count → d ≡ 0 →
-    Keeps s (d ∷ rest) digits → Keeps (record { leading = s.leading; count = s.count; zeros = s.zeros + 1 }) rest digits
-Keeps-zero s d rest digits full e h =
+pub DecidesAlike-zero : (s : Significand) (d : ℕ) (rest digits : List ℕ) → most_significant ≤ s.count → d ≡ 0 →
+    DecidesAlike s (d ∷ rest) digits → DecidesAlike (record { leading = s.leading; count = s.count; zeros = s.zeros + 1 }) rest digits
+DecidesAlike-zero s d rest digits full e h =
     let longer : s.leading * 10 ^ (s.zeros + 1) ≡ 10 * (s.leading * 10 ^ s.zeros) + d = omega (arith, ap (λ x. s.leading * x) (ten_more s.zeros)) in
     let one_more : s.count + (s.zeros + 1) ≡ next_count (s.count + s.zeros) d = omega (arith, next_count-some (s.count + s.zeros) d (omega arith)) in
     let none : eqb d 0 ≡ true = grind arith in
@@ -67,20 +67,20 @@ more_digits leading count digit h p q = omega (arith, ten_pow_mono count 37 (ome
 pub IsSignificand-start : IsSignificand (record { leading = 0; count = 0; zeros = 0 })
 IsSignificand-start = record { small = omega arith; few = omega arith; nonzero = λ h. absurd (omega arith); full = λ h. absurd (omega arith) }
 
-pub Keeps-start : (digits : List ℕ) → Keeps (record { leading = 0; count = 0; zeros = 0 }) digits digits
-Keeps-start digits = record { number = refl; length = overlong-significant digits }
+pub DecidesAlike-start : (digits : List ℕ) → DecidesAlike (record { leading = 0; count = 0; zeros = 0 }) digits digits
+DecidesAlike-start digits = record { number = refl; length = overlong-significant digits }
 
 digits_of-digit : (b : ℕ) (rest : List ℕ) → is_ascii_digit b ≡ true → digits_of (b ∷ rest) ≡ (b - 48) ∷ digits_of rest
 digits_of-digit b rest e = ap (λ d. cond d ((b - 48) ∷ digits_of rest) (digits_of rest)) e
 
 -- a byte that is a digit is that digit
-pub Keeps-digit : (s : Significand) (b : ℕ) (r : Option Significand) → is_ascii_digit b ≡ true →
-    IfSome r (λ t. (rest digits : List ℕ) → Keeps s ((b - 48) ∷ rest) digits → Keeps t rest digits) →
-    IfSome r (λ t. (rest digits : List ℕ) → Keeps s (digits_of (b ∷ rest)) digits → Keeps t (digits_of rest) digits)
-Keeps-digit s b None e h = tt
-Keeps-digit s b (Some t) e h = λ rest digits k. h (digits_of rest) digits (subst (λ ds. Keeps s ds digits) (digits_of-digit b rest e) k)
+pub DecidesAlike-digit : (s : Significand) (b : ℕ) (r : Option Significand) → is_ascii_digit b ≡ true →
+    IfSome r (λ t. (rest digits : List ℕ) → DecidesAlike s ((b - 48) ∷ rest) digits → DecidesAlike t rest digits) →
+    IfSome r (λ t. (rest digits : List ℕ) → DecidesAlike s (digits_of (b ∷ rest)) digits → DecidesAlike t (digits_of rest) digits)
+DecidesAlike-digit s b None e h = tt
+DecidesAlike-digit s b (Some t) e h = λ rest digits k. h (digits_of rest) digits (subst (λ ds. DecidesAlike s ds digits) (digits_of-digit b rest e) k)
 
 -- the first of the bytes that are left
-pub Keeps-next : (s : Significand) (bytes digits : List ℕ) (i : ℕ) → i < length bytes → Keeps s (digits_of (drop i bytes)) digits → Keeps s (digits_of (get_or bytes i 0 ∷ drop (i + 1) bytes)) digits
-Keeps-next s bytes digits i h k =
-    subst (λ rest. Keeps s (digits_of rest) digits) (drop-cons bytes i 0 h ∙ ap (λ n. get_or bytes i 0 ∷ drop n bytes) (sym (add-one i))) k
+pub DecidesAlike-next : (s : Significand) (bytes digits : List ℕ) (i : ℕ) → i < length bytes → DecidesAlike s (digits_of (drop i bytes)) digits → DecidesAlike s (digits_of (get_or bytes i 0 ∷ drop (i + 1) bytes)) digits
+DecidesAlike-next s bytes digits i h k =
+    subst (λ rest. DecidesAlike s (digits_of rest) digits) (drop-cons bytes i 0 h ∙ ap (λ n. get_or bytes i 0 ∷ drop n bytes) (sym (add-one i))) k

@@ -2,7 +2,7 @@
 
 ghost use Rattle.std.specs.Prelude.{◌≡◌, ◌+◌, ◌*◌, ◌^◌, ◌<◌, ◌≤◌, List, ℕ, [], ◌∷◌, true, false, nat_lt, length, IfSome, IfNone};
 ghost use Rattle.qasm_angle.specs.Literals.{digits_of, number_of, significant, most_significant};
-ghost use Rattle.qasm_angle.specs.Internal.Significands.{IsSignificand, Keeps};
+ghost use Rattle.qasm_angle.specs.Internal.Significands.{IsSignificand, DecidesAlike};
 
 // The most digits from the first one other than 0 to the last one other than 0.
 const MOST_SIGNIFICANT: u32 = 38;
@@ -26,9 +26,9 @@ impl Significand {
         requires room { self.zeros < 2 ^ 63 }
         ensures valid { IfSome result (λ s. IsSignificand s) }
         ensures zeros { IfSome result (λ s. s.zeros ≤ self.zeros + 1) }
-        ensures some { IfSome result (λ s. (rest digits : List ℕ) → Keeps self (digit ∷ rest) digits
-            → Keeps s rest digits) }
-        ensures none { IfNone result ((rest digits : List ℕ) → Keeps self (digit ∷ rest) digits
+        ensures some { IfSome result (λ s. (rest digits : List ℕ) → DecidesAlike self (digit ∷ rest) digits
+            → DecidesAlike s rest digits) }
+        ensures none { IfNone result ((rest digits : List ℕ) → DecidesAlike self (digit ∷ rest) digits
             → nat_lt most_significant (significant digits) ≡ true) }
     {
         if self.count < MOST_SIGNIFICANT {
@@ -56,9 +56,9 @@ impl Significand {
         ensures valid { IfSome result (λ s. IsSignificand s) }
         ensures zeros { IfSome result (λ s. s.zeros ≤ self.zeros + 1) }
         ensures some { IfSome result (λ s. (rest digits : List ℕ)
-            → Keeps self (digits_of (byte ∷ rest)) digits → Keeps s (digits_of rest) digits) }
+            → DecidesAlike self (digits_of (byte ∷ rest)) digits → DecidesAlike s (digits_of rest) digits) }
         ensures none { IfNone result ((rest digits : List ℕ)
-            → Keeps self (digits_of (byte ∷ rest)) digits
+            → DecidesAlike self (digits_of (byte ∷ rest)) digits
             → nat_lt most_significant (significant digits) ≡ true) }
     {
         if byte.is_ascii_digit() {

@@ -13,18 +13,18 @@ use Rattle.qasm_lexer.proofs.LineCuts.{bad_byte_stays, line_cut, line_bad}
 use Rattle.qasm_lexer.proofs.Taking.{line_longer}
 use Rattle.qasm_inline.specs.declared.piece_reader.PieceReader.{PieceReader}
 use Rattle.qasm_inline.specs.declared.reading.Reader.{Reader}
-use Rattle.qasm_inline.specs.Internal.Readings.{Keeps, ReadsOn}
+use Rattle.qasm_inline.specs.Internal.Readings.{KeepsTokens, ReadsOn}
 use Rattle.qasm_inline.specs.PieceReadings.{IsReadOff}
 
 -- nothing more is read
 pub reads_none : (reader : Reader) → ReadsOn reader [] reader
-reads_none reader = λ before is. subst (λ l. Keeps l reader) (sym (append-nil before)) is
+reads_none reader = λ before is. subst (λ l. KeepsTokens l reader) (sym (append-nil before)) is
 
 -- tokens after tokens
 pub reads_then : (reader middle later : Reader) (these those : List Lexeme) (from : ℕ) → ReadsOn reader (map (moved from) these) middle
     → ReadsOn middle (map (moved from) those) later → ReadsOn reader (map (moved from) (these ++ those)) later
 reads_then reader middle later these those from first next = λ before is.
-    subst (λ l. Keeps l later) (append_assoc before (map (moved from) these) (map (moved from) those) ∙ ap (λ l. before ++ l) (sym (map-append (moved from) these those)))
+    subst (λ l. KeepsTokens l later) (append_assoc before (map (moved from) these) (map (moved from) those) ∙ ap (λ l. before ++ l) (sym (map-append (moved from) these those)))
     (next (before ++ map (moved from) these) (first before is))
 
 -- bytes that aren't read yet
@@ -33,7 +33,7 @@ pub unread_longer : (old new : PieceReader) (bytes more : List ℕ) → new.unre
 unread_longer old new bytes more unread place reader off = record {
   all = off.all;
   begun = rw (unread, place) (line_longer off.all old.unread.items more old.place bytes off.begun);
-  keeps = subst (Keeps off.all) (sym reader) off.keeps;
+  keeps = subst (KeepsTokens off.all) (sym reader) off.keeps;
 }
 
 -- a text that nothing stands before
@@ -45,8 +45,8 @@ pub bad_line_told : (at : ℕ) (bytes : List ℕ) → HasBadLine at bytes → Is
 bad_line_told at bytes bad = rw bad.whole (bad_byte_stays bad.lines bad.rest at bad.are bad.bad)
 
 -- the text is read from its start
-pub read_whole : (text : List ℕ) (old new : Reader) (told : Result (Unit {0}) LexError) → Keeps [] old
-    → OnOk told ((tokens : List Lexeme) × IsCut 0 text tokens × ReadsOn old (map (moved 0) tokens) new) → OnOk told ((all : List Lexeme) × IsCut 0 text all × Keeps all new)
+pub read_whole : (text : List ℕ) (old new : Reader) (told : Result (Unit {0}) LexError) → KeepsTokens [] old
+    → OnOk told ((tokens : List Lexeme) × IsCut 0 text tokens × ReadsOn old (map (moved 0) tokens) new) → OnOk told ((all : List Lexeme) × IsCut 0 text all × KeepsTokens all new)
 read_whole text old new told start read = on_ok_weaker told (λ r. (_, line_cut [] r.0 text 0 text (first_line text) r.1, r.2 [] start)) read
 
 pub bad_whole : (text : List ℕ) (told : Result (Unit {0}) LexError) → ((at : ℕ) → told ≡ Err (BadByte at) → (there : ℕ) × IsBadByte text there × (at ≡ 0 + there))

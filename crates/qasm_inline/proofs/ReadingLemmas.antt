@@ -14,7 +14,7 @@ use Rattle.qasm_names.proofs.Including.{behind_front, drop_behind, map_drop}
 use Rattle.qasm_unroll.specs.declared.circuit.Circuit.{Circuit}
 use Rattle.qasm_unroll.specs.declared.circuit.OpenGate.{OpenGate}
 use Rattle.qasm_unroll.specs.Circuits.{HasBegun, HasTaken, gate_at}
-use Rattle.qasm_inline.specs.Internal.Readings.{AreTaken, IsKept, open_place}
+use Rattle.qasm_inline.specs.Internal.Readings.{AreTaken, IsReadSoFar, open_place}
 
 -- ---- tokens behind tokens
 -- the tokens behind those that were known
@@ -39,7 +39,7 @@ begins-more ts more at b = (b.0, b.1 ++ more, ap (λ x. x ++ more) b.2, b.3)
 
 -- ---- what was taken in
 
-pub nothing-taken : (circuit : Circuit) → HasTaken circuit [] → IsKept None [] None circuit []
+pub nothing-taken : (circuit : Circuit) → HasTaken circuit [] → IsReadSoFar None [] None circuit []
 nothing-taken circuit taken = (record { before = []; behind = []; statements = []; same = refl; program = refl; taken = (refl, taken) }, nothing_begins)
 
 pub statement-taken : (all ts rest : List Lexeme) (gate : Option OpenGate) (circuit later : Circuit) (s : Placed) → gate ≡ None → AreTaken all gate circuit ts
@@ -59,11 +59,11 @@ end-taken all ts rest circuit later gate over e r first step =
     record { before = p.0; behind = rest; statements = r.statements ++ s ∷ []; same = p.1; program = p.2; taken = rw e (refl, step r.statements r.taken.0 r.taken.2) }
 
 -- no part begins what is left
-pub none-between : (all ts : List Lexeme) (gate : Option OpenGate) (circuit : Circuit) → gate ≡ None → AreTaken all gate circuit ts → BeginNone ts ts → IsKept None all gate circuit ts
+pub none-between : (all ts : List Lexeme) (gate : Option OpenGate) (circuit : Circuit) → gate ≡ None → AreTaken all gate circuit ts → BeginNone ts ts → IsReadSoFar None all gate circuit ts
 none-between all ts gate circuit e r none = (r, (let taken = rw e at r.taken in subst (λ x. BeginNone x ts) (sym taken.0) none))
 
 pub none-next : (all : List Lexeme) (gate : Option OpenGate) (circuit : Circuit) (count : Option ℕ) (tokens : List Token) → ((n : ℕ) → count ≡ Some n → ⊥)
-    → MatchOption count (IsKept None all gate circuit (lexemes tokens)) (λ n. AreTaken all gate circuit (lexemes (drop n tokens))) → IsKept None all gate circuit (lexemes tokens)
+    → MatchOption count (IsReadSoFar None all gate circuit (lexemes tokens)) (λ n. AreTaken all gate circuit (lexemes (drop n tokens))) → IsReadSoFar None all gate circuit (lexemes tokens)
 none-next all gate circuit None tokens none h = h
 none-next all gate circuit (Some n) tokens none h = absurd (none n refl)
 
@@ -85,7 +85,7 @@ more-taken : (gate : Option OpenGate) (circuit : Circuit) (statements : List Pla
 more-taken None circuit statements behind rest more (same, taken) = (ap (λ x. x ++ more) same, taken)
 more-taken (Some gate) circuit statements behind rest more (form, is, begun) = (form, inside-more gate.place form behind rest more is, begun)
 
-pub taken-more : (all rest more : List Lexeme) (gate : Option OpenGate) (circuit : Circuit) → IsKept None all gate circuit rest → AreTaken (all ++ more) gate circuit (rest ++ more)
+pub taken-more : (all rest more : List Lexeme) (gate : Option OpenGate) (circuit : Circuit) → IsReadSoFar None all gate circuit rest → AreTaken (all ++ more) gate circuit (rest ++ more)
 taken-more all rest more gate circuit (r, none) = record {
   before = r.before;
   behind = r.behind ++ more;
@@ -118,16 +118,16 @@ open-there None (t ∷ ts) end none = let h : ◌≡◌ {A = Option ℕ} (Some t
 open-there (Some gate) rest end none = let h : ◌≡◌ {A = Option ℕ} (Some gate.place) None = none in cc
 
 -- and the fault is certain
-pub certain-kept : (all rest : List Lexeme) (gate : Option OpenGate) (circuit : Circuit) (fault : Option ℕ) → IsKept None all gate circuit rest → has_end rest ≡ true
-    → fault ≡ open_place gate rest → IsKept fault all gate circuit []
+pub certain-kept : (all rest : List Lexeme) (gate : Option OpenGate) (circuit : Circuit) (fault : Option ℕ) → IsReadSoFar None all gate circuit rest → has_end rest ≡ true
+    → fault ≡ open_place gate rest → IsReadSoFar fault all gate circuit []
 certain-kept all rest gate circuit None (r, none) end e = absurd (open-there gate rest end (sym e))
 certain-kept all rest gate circuit (Some at) (r, none) end e = (refl, λ more. fault-at all rest more gate circuit at r (sym e) (none.none_later end more))
 
-pub still-certain : (all known more : List Lexeme) (gate : Option OpenGate) (circuit : Circuit) (at : ℕ) → IsKept (Some at) all gate circuit known → IsKept (Some at) (all ++ more) gate circuit []
+pub still-certain : (all known more : List Lexeme) (gate : Option OpenGate) (circuit : Circuit) (at : ℕ) → IsReadSoFar (Some at) all gate circuit known → IsReadSoFar (Some at) (all ++ more) gate circuit []
 still-certain all known more gate circuit at kept = (refl, λ later. subst (λ x. IsSyntaxFault x at) (sym (append_assoc all more later)) (kept.1 (more ++ later)))
 
 -- where the text is over
-pub kept-fault : (all kept : List Lexeme) (gate : Option OpenGate) (circuit : Circuit) (fault : Option ℕ) (at : ℕ) → IsKept fault all gate circuit kept → option_or fault (open_place gate kept) ≡ Some at
+pub kept-fault : (all kept : List Lexeme) (gate : Option OpenGate) (circuit : Circuit) (fault : Option ℕ) (at : ℕ) → IsReadSoFar fault all gate circuit kept → option_or fault (open_place gate kept) ≡ Some at
     → IsSyntaxFault all at
 kept-fault all kept gate circuit None at (r, none) e =
     subst (λ x. IsSyntaxFault x at) (append-nil all) (fault-at all kept [] gate circuit at r e (λ begins. none.none (subst BeginsWithStatement (append-nil r.behind) begins)))
@@ -135,7 +135,7 @@ kept-fault all kept gate circuit (Some place) at (none, certain) e =
     let same : place ≡ at = (let h : ◌≡◌ {A = Option ℕ} (Some place) (Some at) = e in cc) in
     subst (IsSyntaxFault all) same (subst (λ x. IsSyntaxFault x place) (append-nil all) (certain []))
 
-pub kept-whole : (all kept : List Lexeme) (gate : Option OpenGate) (circuit : Circuit) (fault : Option ℕ) → IsKept fault all gate circuit kept → option_or fault (open_place gate kept) ≡ None
+pub kept-whole : (all kept : List Lexeme) (gate : Option OpenGate) (circuit : Circuit) (fault : Option ℕ) → IsReadSoFar fault all gate circuit kept → option_or fault (open_place gate kept) ≡ None
     → (statements : List Placed) × IsProgram all statements × HasTaken circuit statements
 kept-whole all [] None circuit None (r, none) e =
     (r.statements, subst (λ x. IsProgram x r.statements) (sym (r.same ∙ ap (λ x. r.before ++ x) r.taken.0 ∙ append-nil r.before)) r.program, r.taken.1)

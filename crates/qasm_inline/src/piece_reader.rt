@@ -6,7 +6,7 @@ ghost use Rattle.qasm_lexer.specs.Taken.{AreLines, HasBadLine};
 ghost use Rattle.qasm_lexer.specs.Tokens.{Lexeme, IsCut, IsBadByte};
 ghost use Rattle.qasm_inline.specs.PieceReadings.{CameWith, HasRead, IsReadOff};
 ghost use Rattle.qasm_inline.specs.TextAnswers.{IsTextAnswer};
-ghost use Rattle.qasm_inline.specs.Internal.Readings.{Keeps};
+ghost use Rattle.qasm_inline.specs.Internal.Readings.{KeepsTokens};
 
 use crate::error::TextError;
 use crate::reading::Reader;
@@ -150,7 +150,7 @@ impl<'a> PieceReader<'a> {
     fn read_on(&mut self) -> Result<(), LexError>
         ensures read { (bytes : List ℕ) → IsReadOff self.old bytes
             → OnOk result ((tokens : List Lexeme) × IsCut 0 bytes tokens
-            × Keeps tokens self.new.reader × (self.new.place ≡ length bytes)) }
+            × KeepsTokens tokens self.new.reader × (self.new.place ≡ length bytes)) }
         ensures unread { OnOk result (self.new.unread.items ≡ []) }
         ensures bad_byte { (bytes : List ℕ) (at : ℕ) → IsReadOff self.old bytes
             → result ≡ Err (BadByte at) → IsBadByte bytes at }

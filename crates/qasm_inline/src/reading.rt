@@ -11,7 +11,7 @@ ghost use Rattle.qasm_reader.specs.Syntax.{Placed};
 ghost use Rattle.qasm_scope.specs.Texts.{IsProgramText};
 ghost use Rattle.qasm_unroll.specs.Circuits.{HasTaken};
 ghost use Rattle.qasm_inline.specs.TextAnswers.{IsTextAnswer};
-ghost use Rattle.qasm_inline.specs.Internal.Readings.{AreTaken, IsKept, IsNextOf, IsTakenNext, Keeps, ReadsOn, open_place};
+ghost use Rattle.qasm_inline.specs.Internal.Readings.{AreTaken, IsReadSoFar, IsNextOf, IsTakenNext, KeepsTokens, ReadsOn, open_place};
 
 use crate::error::TextError;
 use crate::words::Words;
@@ -62,7 +62,7 @@ pub(crate) struct Reader<'a> {
 impl<'a> Reader<'a> {
     // The reader before the text.
     pub(crate) fn new(alloc: Global) -> Reader<'a>
-        ensures { Keeps [] result }
+        ensures { KeepsTokens [] result }
     {
         Reader {
             circuit: Circuit::new(alloc),
@@ -138,8 +138,8 @@ impl<'a> Reader<'a> {
         kept: &mut Vec<Token<'a>>,
     ) -> Result<Option<usize>, AllocError>
         ensures { (all known more : List Lexeme) → lexemes kept.old.items ≡ known ++ more
-            → IsKept self.old.fault all self.old.gate self.old.circuit known → IfOk result (λ fault.
-            IsKept fault (all ++ more) self.new.gate self.new.circuit (lexemes kept.new.items)) }
+            → IsReadSoFar self.old.fault all self.old.gate self.old.circuit known → IfOk result (λ fault.
+            IsReadSoFar fault (all ++ more) self.new.gate self.new.circuit (lexemes kept.new.items)) }
     {
         match self.fault {
             Some(at) => {
@@ -157,7 +157,7 @@ impl<'a> Reader<'a> {
     fn take_parts(&mut self, alloc: Global, tokens: &mut Vec<Token<'a>>) -> Result<(), AllocError>
         ensures { (all : List Lexeme)
             → AreTaken all self.old.gate self.old.circuit (lexemes tokens.old.items)
-            → OnOk result (IsKept None all self.new.gate self.new.circuit (lexemes tokens.new.items)) }
+            → OnOk result (IsReadSoFar None all self.new.gate self.new.circuit (lexemes tokens.new.items)) }
     {
         let mut taken = 0;
         while let Some(count) = self.take_next(alloc, &tokens[taken..])? {
@@ -267,8 +267,8 @@ impl<'a> Reader<'a> {
 
     // The place of the syntax fault, where these tokens are left and one of them ends a part. Then they are dropped.
     fn certain_fault(&self, tokens: &mut Vec<Token<'_>>) -> Option<usize>
-        ensures { (all : List Lexeme) → IsKept None all self.now.gate self.now.circuit (lexemes tokens.old.items)
-            → IsKept result all self.now.gate self.now.circuit (lexemes tokens.new.items) }
+        ensures { (all : List Lexeme) → IsReadSoFar None all self.now.gate self.now.circuit (lexemes tokens.old.items)
+            → IsReadSoFar result all self.now.gate self.now.circuit (lexemes tokens.new.items) }
     {
         if has_end(tokens) {
             let fault = self.open_place(tokens);
@@ -294,7 +294,7 @@ impl<'a> Reader<'a> {
 
     // What is answered where the text is over, by what its last lines were told to be.
     pub(crate) fn answer(self, told: Result<(), LexError>) -> Result<Elementary, TextError>
-        ensures { (text : List ℕ) → OnOk told ((all : List Lexeme) × IsCut 0 text all × Keeps all self.entry)
+        ensures { (text : List ℕ) → OnOk told ((all : List Lexeme) × IsCut 0 text all × KeepsTokens all self.entry)
             → ((at : ℕ) → told ≡ Err (LexError.BadByte at) → IsBadByte text at)
             → IsTextAnswer text result }
     {
@@ -307,7 +307,7 @@ impl<'a> Reader<'a> {
 
     // What is answered where the whole text is read.
     fn finish(self) -> Result<Elementary, TextError>
-        ensures { (text : List ℕ) (all : List Lexeme) → IsCut 0 text all → Keeps all self.entry
+        ensures { (text : List ℕ) (all : List Lexeme) → IsCut 0 text all → KeepsTokens all self.entry
             → IsTextAnswer text result }
     {
         match self.grammar_fault() {
@@ -322,7 +322,7 @@ impl<'a> Reader<'a> {
 
     // Why the text is no program, where it is over.
     fn grammar_fault(&self) -> Option<TextError>
-        ensures { (text : List ℕ) (all : List Lexeme) → IsCut 0 text all → Keeps all self.now
+        ensures { (text : List ℕ) (all : List Lexeme) → IsCut 0 text all → KeepsTokens all self.now
             → MatchOption result ((program : List Placed) × IsProgramText text program
             × HasTaken self.now.circuit program) (λ error. IsTextAnswer text (Err error)) }
     {

@@ -1,7 +1,7 @@
 -- How an OpenQASM text is cut into tokens: at each place the longest form that begins there is the next piece.
 -- The words and signs are those of Cross, Bishop, Smolin, Gambetta, "Open quantum assembly language"
 -- (arXiv 1707.03429).
-use Rattle.std.specs.Prelude.{◌≡◌, ◌<◌, ◌≤◌, ℕ, ◌+◌, Bool, false, ◌||◌, IsTrue, List, [], ◌∷◌, ◌++◌, length, drop, map}
+use Rattle.std.specs.Prelude.{◌≡◌, ◌<◌, ◌≤◌, ℕ, ◌+◌, Bool, ◌||◌, IsTrue, List, [], ◌∷◌, ◌++◌, length, drop, map}
 use Rattle.std.specs.Prelude.{codes, Option, None, Some, is_some, if◌then◌else◌, slice_range}
 use Rattle.std.specs.List.{concat}
 use Rattle.std.specs.Option.{option_map, option_or, option_to_list}

@@ -13,13 +13,13 @@ use Rattle.qasm_reader.specs.declared.machine.Pending.{Pending}
 use Rattle.qasm_reader.specs.declared.machine.Pending.TheVariants as pending
 use Rattle.qasm_reader.specs.Syntax.{Formula, Number, Pi, Name, Binary}
 use Rattle.qasm_reader.specs.Postfix.{Entry, NumberEntry, PiEntry, NameEntry, NegateEntry, BinaryEntry, CallEntry, postfix}
-use Rattle.qasm_reader.specs.Internal.Machine.{State, operand_of, operator_of, is_left, strength, bound, released, release, closed, with_operator, step, run, go_on, on_operand, on_operator, on_left}
+use Rattle.qasm_reader.specs.Internal.Machine.{MachineState, operand_of, operator_of, is_left, strength, bound, released, release, closed, with_operator, step, run, go_on, on_operand, on_operator, on_left}
 use Rattle.qasm_reader.specs.Grammar.{function_kind, IsExpression, OneTerm, Sum, Difference, IsTerm, OnePower, Product, Quotient, IsPower, OneFactor, ToThePower, IsFactor, Negative, RealNumber, WholeNumber, PiWord, Parameter, InParentheses, ValueOf}
 
-abbrev pub operand : List Entry → List Pending → State
+abbrev pub operand : List Entry → List Pending → MachineState
 operand output ps = record { awaited = awaited.Operand; output = output; pending = ps }
 
-abbrev pub operator : List Entry → List Pending → State
+abbrev pub operator : List Entry → List Pending → MachineState
 operator output ps = record { awaited = awaited.Operator; output = output; pending = ps }
 
 -- nothing of what waits is so strong
@@ -50,7 +50,7 @@ left_step : (t : Lexeme) (ts : List Lexeme) (output : List Entry) (ps : List Pen
 unfolding run step
 left_step t ts output ps is = ap (λ (k : TokenKind). go_on (on_operand (operand_of k t.text) k (operand output ps)) (t ∷ ts) (run ts)) is
 
-name_step : (f : Function) (text : List ℕ) (s : State) → on_operand (operand_of (function_kind f) text) (function_kind f) s ≡ (true, record s { awaited = awaited.Parenthesis f })
+name_step : (f : Function) (text : List ℕ) (s : MachineState) → on_operand (operand_of (function_kind f) text) (function_kind f) s ≡ (true, record s { awaited = awaited.Parenthesis f })
 name_step f text s =
     each_function (λ g. on_operand (operand_of (function_kind g) text) (function_kind g) s ≡ (true, record s { awaited = awaited.Parenthesis g })) refl refl refl refl refl refl f
 

@@ -7,7 +7,7 @@ use Rattle.qasm_reader.specs.declared.expression.Function.{Function}
 use Rattle.qasm_reader.specs.declared.machine.Pending.{Pending}
 use Rattle.qasm_reader.specs.Syntax.{Formula, Number, Pi, Name, Negate, Binary, Call}
 use Rattle.qasm_reader.specs.Postfix.{Entry, NegateEntry, BinaryEntry, CallEntry, postfix, push_entries, formula_of, first_or_pi, IsPostfix}
-use Rattle.qasm_reader.specs.Internal.Machine.{State, start, operator_of, is_right, release, closed, step, run, go_on, on_operator, on_right, finished, all_out, followed_by, entries_at, as_formula, take_entries, take_expression}
+use Rattle.qasm_reader.specs.Internal.Machine.{MachineState, start, operator_of, is_right, release, closed, step, run, go_on, on_operator, on_right, finished, all_out, followed_by, entries_at, as_formula, take_entries, take_expression}
 use Rattle.qasm_reader.specs.Grammar.{function_kind, IsExpression, OneTerm, Sum, Difference, IsTerm, OnePower, Product, Quotient, IsPower, OneFactor, ToThePower, IsFactor, Negative, RealNumber, WholeNumber, PiWord, Parameter, InParentheses, ValueOf}
 use Rattle.qasm_reader.specs.Internal.Taking.{same_kind, after}
 use Rattle.qasm_reader.proofs.Completing.{operator, expression_runs}
@@ -52,10 +52,10 @@ pub entries_postfix : (ts : List Lexeme) (es : List Entry) (rest : List Lexeme) 
 entries_postfix ts es rest e = let r = entries_read ts es rest e in (r.2.0, r.2.2)
 
 -- what the machine put out
-pub run_postfix : (ts : List Lexeme) (s r : State) (es : List Entry) (rest : List Lexeme) → s ≡ start → run ts s ≡ (r, rest) → finished r ≡ Some es → IsPostfix es
+pub run_postfix : (ts : List Lexeme) (s r : MachineState) (es : List Entry) (rest : List Lexeme) → s ≡ start → run ts s ≡ (r, rest) → finished r ≡ Some es → IsPostfix es
 unfolding take_entries
 run_postfix ts s r es rest is ran out =
-    entries_postfix ts es rest (ap (λ (q : State). entries_at (run ts q)) (sym is) ∙ ap entries_at ran ∙ ap (λ (o : Option (List Entry)). followed_by o rest) out)
+    entries_postfix ts es rest (ap (λ (q : MachineState). entries_at (run ts q)) (sym is) ∙ ap entries_at ran ∙ ap (λ (o : Option (List Entry)). followed_by o rest) out)
 
 -- ---- what an expression begins with
 
@@ -126,7 +126,7 @@ abbrev pub EndsExpression : List Lexeme → Type 0
 EndsExpression [] = Unit {0}
 EndsExpression (t ∷ ts) = operator_of t.kind ≡ None
 
-ends_at : (b : Bool) (o es : List Entry) (p : List Pending) (rest : List Lexeme) (go : State → State × List Lexeme) → release 1 o p ≡ (es, []) → entries_at (go_on (on_right b (operator o p)) rest go) ≡ Some (es, rest)
+ends_at : (b : Bool) (o es : List Entry) (p : List Pending) (rest : List Lexeme) (go : MachineState → MachineState × List Lexeme) → release 1 o p ≡ (es, []) → entries_at (go_on (on_right b (operator o p)) rest go) ≡ Some (es, rest)
 unfolding finished
 ends_at false o es p rest go is = ap (λ x. followed_by (all_out x) rest) is
 ends_at true o es p rest go is = ap (λ x. entries_at (go_on (closed x) rest go)) is

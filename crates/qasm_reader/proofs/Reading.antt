@@ -14,7 +14,7 @@ use Rattle.qasm_reader.specs.declared.machine.Pending.{Pending}
 use Rattle.qasm_reader.specs.declared.machine.Pending.TheVariants as pending
 use Rattle.qasm_reader.specs.Syntax.{Formula, Number, Pi, Name, Negate, Binary, Call}
 use Rattle.qasm_reader.specs.Postfix.{Entry, NegateEntry, BinaryEntry, CallEntry, postfix}
-use Rattle.qasm_reader.specs.Internal.Machine.{State, Move, start, operand_of, prefix_of, function_of, operator_of, is_left, is_right, strength, bound, released, release, closed, step, step_by, run, go_on, on_operand, on_prefix, on_function, on_operator, on_left, on_right, finished, finished_by, all_out, followed_by, take_entries}
+use Rattle.qasm_reader.specs.Internal.Machine.{MachineState, Move, start, operand_of, prefix_of, function_of, operator_of, is_left, is_right, strength, bound, released, release, closed, step, step_by, run, go_on, on_operand, on_prefix, on_function, on_operator, on_left, on_right, finished, finished_by, all_out, followed_by, take_entries}
 use Rattle.qasm_reader.specs.Grammar.{function_kind, IsExpression, OneTerm, Sum, Difference, IsTerm, OnePower, Product, Quotient, IsPower, OneFactor, ToThePower, IsFactor, Negative, RealNumber, WholeNumber, PiWord, Parameter, InParentheses, ValueOf}
 use Rattle.qasm_reader.proofs.Completing.{operand, operator}
 
@@ -458,17 +458,17 @@ step_reads (awaited.Parenthesis f) t us output ps g = left_reads (is_left t.kind
 step_reads awaited.Operator t us output ps g = operator_reads (operator_of t.kind) t us output ps refl g
 
 -- the tokens before the rest, with what the last state says of them
-abbrev Reads : State × List Lexeme → List Lexeme → Type 0
+abbrev Reads : MachineState × List Lexeme → List Lexeme → Type 0
 Reads r all = (ws : List Lexeme) × (all ≡ ws ++ r.1) × Ended r.0.awaited ws r.0.output r.0.pending
 
-goes_on : (m : Move) (t : Lexeme) (ts us : List Lexeme) (go : State → State × List Lexeme) → After m us t
-    → ((s : State) → Good s.awaited (us ++ t ∷ []) s.output s.pending → Reads (go s) ((us ++ t ∷ []) ++ ts)) → Reads (go_on m (t ∷ ts) go) (us ++ t ∷ ts)
+goes_on : (m : Move) (t : Lexeme) (ts us : List Lexeme) (go : MachineState → MachineState × List Lexeme) → After m us t
+    → ((s : MachineState) → Good s.awaited (us ++ t ∷ []) s.output s.pending → Reads (go s) ((us ++ t ∷ []) ++ ts)) → Reads (go_on m (t ∷ ts) go) (us ++ t ∷ ts)
 goes_on (false, s) t ts us go after next = (us, refl, after)
 goes_on (true, s) t ts us go after next =
     let r = next s after in
     (r.0, sym (append_assoc us (t ∷ []) ts) ∙ r.1, r.2)
 
-run_reads : (ts us : List Lexeme) (s : State) → Good s.awaited us s.output s.pending → Reads (run ts s) (us ++ ts)
+run_reads : (ts us : List Lexeme) (s : MachineState) → Good s.awaited us s.output s.pending → Reads (run ts s) (us ++ ts)
 unfolding run step
 run_reads [] us s g = (us, refl, good_ended s.awaited us s.output s.pending g)
 run_reads (t ∷ ts) us s g =

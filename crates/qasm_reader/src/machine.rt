@@ -7,7 +7,7 @@ ghost use Rattle.qasm_lexer.specs.Tokens.{lexemes};
 ghost use Rattle.qasm_reader.specs.Items.{entry};
 ghost use Rattle.qasm_reader.specs.Postfix.{formula_of};
 ghost use Rattle.qasm_reader.specs.Internal.Taking.{Gives};
-ghost use Rattle.qasm_reader.specs.Internal.Machine.{state_of, start};
+ghost use Rattle.qasm_reader.specs.Internal.Machine.{machine_state, start};
 ghost use Rattle.qasm_reader.specs.Internal.Machine as spec;
 
 use crate::expression::{Expression, Function, Item, Operator};
@@ -53,7 +53,7 @@ pub(crate) struct Machine<'a> {
 impl<'a> Machine<'a> {
     // A machine that has read nothing.
     fn new(alloc: Global) -> Machine<'a>
-        ensures { state_of result ≡ start }
+        ensures { machine_state result ≡ start }
     {
         Machine {
             awaited: Awaited::Operand,
@@ -65,8 +65,8 @@ impl<'a> Machine<'a> {
     // Takes the tokens of an expression, and answers those that follow.
     #[tactic(auto, unfolding(crate::specs::Internal::Machine::run))]
     fn run<'t>(&mut self, tokens: &'t [Token<'a>]) -> Result<&'t [Token<'a>], AllocError>
-        ensures { IfOk result (λ rest. spec.run (lexemes tokens.now) (state_of self.old)
-            ≡ (state_of self.new, lexemes rest.now)) }
+        ensures { IfOk result (λ rest. spec.run (lexemes tokens.now) (machine_state self.old)
+            ≡ (machine_state self.new, lexemes rest.now)) }
     {
         let mut rest = tokens;
         while let [token, others @ ..] = rest {
@@ -81,8 +81,8 @@ impl<'a> Machine<'a> {
     // Takes a token, and answers whether it belongs to the expression.
     #[tactic(auto, unfolding(crate::specs::Internal::Machine::step))]
     fn step(&mut self, token: &Token<'a>) -> Result<bool, AllocError>
-        ensures { IfOk result (λ belongs. spec.step (state_of self.old) token.now.kind
-            token.now.slice.now ≡ (belongs, state_of self.new)) }
+        ensures { IfOk result (λ belongs. spec.step (machine_state self.old) token.now.kind
+            token.now.slice.now ≡ (belongs, machine_state self.new)) }
     {
         match self.awaited {
             Awaited::Operand => self.operand(token),
@@ -94,8 +94,8 @@ impl<'a> Machine<'a> {
     // Takes a token where an operand may come.
     fn operand(&mut self, token: &Token<'a>) -> Result<bool, AllocError>
         ensures { IfOk result (λ belongs. spec.on_operand
-            (spec.operand_of token.now.kind token.now.slice.now) token.now.kind (state_of self.old)
-            ≡ (belongs, state_of self.new)) }
+            (spec.operand_of token.now.kind token.now.slice.now) token.now.kind (machine_state self.old)
+            ≡ (belongs, machine_state self.new)) }
     {
         if let Some(item) = operand_of(token) {
             put_item(&mut self.output, item)?;
@@ -113,7 +113,7 @@ impl<'a> Machine<'a> {
     // Takes a token after the name of a function.
     fn parenthesis(&mut self, function: Function, kind: TokenKind) -> Result<bool, AllocError>
         ensures { IfOk result (λ belongs. spec.on_left (spec.is_left kind) function
-            (state_of self.old) ≡ (belongs, state_of self.new)) }
+            (machine_state self.old) ≡ (belongs, machine_state self.new)) }
     {
         if !is_left(kind) {
             return Ok(false);
@@ -126,7 +126,7 @@ impl<'a> Machine<'a> {
     // Takes a token where an operator may come.
     fn operator(&mut self, kind: TokenKind) -> Result<bool, AllocError>
         ensures { IfOk result (λ belongs. spec.on_operator (spec.operator_of kind) kind
-            (state_of self.old) ≡ (belongs, state_of self.new)) }
+            (machine_state self.old) ≡ (belongs, machine_state self.new)) }
     {
         if let Some(operator) = operator_of(kind) {
             release(bound(operator), &mut self.output, &mut self.pending)?;
@@ -142,8 +142,8 @@ impl<'a> Machine<'a> {
 
     // Closes a parenthesis, and answers whether one was open.
     fn close(&mut self) -> Result<bool, AllocError>
-        ensures { IfOk result (λ belongs. spec.on_right true (state_of self.old)
-            ≡ (belongs, state_of self.new)) }
+        ensures { IfOk result (λ belongs. spec.on_right true (machine_state self.old)
+            ≡ (belongs, machine_state self.new)) }
     {
         release(1, &mut self.output, &mut self.pending)?;
         self.awaited = Awaited::Operator;
@@ -165,7 +165,7 @@ impl<'a> Machine<'a> {
     #[tactic(auto, unfolding(crate::specs::Internal::Machine::finished))]
     fn finish(self) -> Result<Vec<Item<'a>>, StepError>
         ensures { Gives (λ items. map entry items.items) result
-            (spec.finished (state_of self.entry)) }
+            (spec.finished (machine_state self.entry)) }
     {
         let Machine {
             awaited,

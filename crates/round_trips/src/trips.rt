@@ -4,7 +4,6 @@ ghost use Rattle.std.specs.Prelude.{◌≡◌, ◌≢◌, ◌<◌, ℕ, true, fa
 ghost use Rattle.zx_calculus.specs.Graph.{plane_of, Live};
 ghost use Rattle.zx_calculus.specs.Graph as zx;
 ghost use Rattle.gflow_laws.specs.Flow.{IsFlow};
-ghost use Rattle.zx_gates.specs.Circuit.{IsOnQubits};
 
 use crate::sums::{are_proportional, map, sum};
 use circuit_graph::translate;
@@ -112,22 +111,9 @@ pub fn circuit(rt: &impl Abort, alloc: Global, gates: &[Gate]) -> Result<GateLis
 }
 
 pub fn add(rt: &impl Abort, list: &mut GateList, gate: Gate) -> Result<(), Fail> {
-    assert!(rt; is_on(list.qubits(), &gate));
+    assert!(rt; gate.is_on_qubits(list.qubits()));
     list.push(gate)?;
     Ok(())
-}
-
-// Whether a gate acts on so many qubits, on two that differ, and a phase isn't 0.
-fn is_on(qubits: u16, gate: &Gate) -> bool
-    ensures { result ≡ true → IsOnQubits qubits gate.now }
-{
-    match *gate {
-        Gate::H(q) => q < qubits,
-        Gate::Phase(q, phase) => q < qubits && phase.get() != 0,
-        Gate::Cz(p, q) => p < qubits && q < qubits && p != q,
-        Gate::Cx { control, target } => control < qubits && target < qubits && control != target,
-        Gate::Not(q) => q < qubits,
-    }
 }
 
 // What steps make of a circuit's graph with its flow.

@@ -13,8 +13,8 @@ use Rattle.zx_calculus.proofs.Vertices.{ids-with_kinds, member-insert}
 use Rattle.zx_gates.specs.Circuit.{is_odd_phase}
 use Rattle.zx_gates.specs.declared.gate.Gate.{Gate}
 use Rattle.zx_gates.specs.declared.gate.Gate.TheVariants.{H, Phase, Cz, Cx, Not}
-use Rattle.circuit_graph.specs.Translation.{by_hadamards, written_out, with_gate, place_of, places_from, present}
-use Rattle.circuit_graph.specs.Internal.Runs.{State, IsReady, IsGateStep, IsRun}
+use Rattle.circuit_graph.specs.Translation.{by_hadamards, written_out, with_gate, phase_vertex, places_from, present}
+use Rattle.circuit_graph.specs.Internal.Runs.{GraphSoFar, IsReady, IsGateStep, IsRun}
 use Rattle.circuit_graph.proofs.RunLemmas.{run_comes}
 use Rattle.circuit_graph.proofs.Calls.{here_live}
 use Rattle.teleport_laws.specs.Spots.{At, spot_at}
@@ -67,7 +67,7 @@ module _ (old phase vertex_of : ℕ → ℕ) (pick : ℕ → Bool) (low_old : (i
       ap (λ m. sum_of_phases m (sum_over (filter pick rest) v)) (nothing_added place (change old phase i) more v low (ap (λ k. sum_of_phases k (opposite_phase (old i))) (same refl) ∙ none_of_it (old i) (low_old i)))
       ∙ ap (λ b. sum_of_phases (more v) (sum_over (cond b (i ∷ filter pick rest) (filter pick rest)) v)) (sym picked)
 
-  some_place : (g : Graph) (gate : Gate) → is_odd_phase gate ≡ true → place_of g gate ≡ Some (place_number (place_of g gate))
+  some_place : (g : Graph) (gate : Gate) → is_odd_phase gate ≡ true → phase_vertex g gate ≡ Some (place_number (phase_vertex g gate))
   some_place g (Phase q k) odd = refl
   some_place g (H q) odd = absurd (true≢false (sym odd))
   some_place g (Cz p q) odd = absurd (true≢false (sym odd))
@@ -80,17 +80,17 @@ module _ (old phase vertex_of : ℕ → ℕ) (pick : ℕ → Bool) (low_old : (i
       added_from phase i g gates more v ≡ sum_of_phases (more v) (sum_over (filter pick (range_with_len i (length gates))) v)
   added_agrees i g [] more v low is_old is_vertex is_picked even = sym (plus_none (more v) (low v))
   added_agrees i g (gate ∷ gates) more v low is_old is_vertex is_picked even =
-      ap (λ k. added_from phase (suc i) (fold with_gate g (by_hadamards gate)) gates (added_at (place_of g gate) (sum_of_phases (phase i) (opposite_phase k)) more) v) (sym (is_old 0) ∙ ap old (start i))
-      ∙ added_agrees (suc i) (fold with_gate g (by_hadamards gate)) gates (added_at (place_of g gate) (change old phase i) more) v (added_low (place_of g gate) (change old phase i) more low)
+      ap (λ k. added_from phase (suc i) (fold with_gate g (by_hadamards gate)) gates (added_at (phase_vertex g gate) (sum_of_phases (phase i) (opposite_phase k)) more) v) (sym (is_old 0) ∙ ap old (start i))
+      ∙ added_agrees (suc i) (fold with_gate g (by_hadamards gate)) gates (added_at (phase_vertex g gate) (change old phase i) more) v (added_low (phase_vertex g gate) (change old phase i) more low)
       (λ j. ap old (sym (index i j)) ∙ is_old (suc j)) (λ j. ap vertex_of (sym (index i j)) ∙ is_vertex (suc j)) (λ j. ap pick (sym (index i j)) ∙ is_picked (suc j))
       (λ j e. ap phase (sym (index i j)) ∙ even (suc j) e ∙ ap old (index i j))
-      ∙ one_added i (place_of g gate) (is_odd_phase gate) (range_with_len (suc i) (length gates)) more v low (ap pick (sym (start i)) ∙ is_picked 0)
+      ∙ one_added i (phase_vertex g gate) (is_odd_phase gate) (range_with_len (suc i) (length gates)) more v low (ap pick (sym (start i)) ∙ is_picked 0)
       (λ odd. some_place g gate odd ∙ ap Some (sym (is_vertex 0) ∙ ap vertex_of (start i)))
       (λ e. ap phase (sym (start i)) ∙ even 0 e ∙ ap old (start i))
       ∙ ap (λ k. sum_of_phases (more v) (sum_over (filter pick (i ∷ range_with_len k (length gates))) v)) (sym (add-one i))
 
 -- ---- vertices that are there stay
-live_step : (s : State) (gate : Gate) (t : State) (u : ℕ) → IsGateStep s gate t → Live s.graph u → Live t.graph u
+live_step : (s : GraphSoFar) (gate : Gate) (t : GraphSoFar) (u : ℕ) → IsGateStep s gate t → Live s.graph u → Live t.graph u
 live_step s (H q) t u c there =
     ap (λ vs. member u (ids vs)) c.peel.vertices ∙ member-insert u (spider_of_phase_zero c.peel.spider) s.graph.vertices ∙ ap (λ b. eqb u c.peel.spider || b) there ∙ or-true (eqb u c.peel.spider)
 live_step s (Phase q k) t u c there = ap (λ vs. member u (ids vs)) c.peel.vertices ∙ ap (member u) (ids-with_kinds (fuse_kind c.peel.vertex k) s.graph.vertices) ∙ there
@@ -98,14 +98,14 @@ live_step s (Cz p q) t u c there = ap (λ vs. member u (ids vs)) c.peel.vertices
 live_step s (Cx a b) t u c there = absurd c
 live_step s (Not q) t u c there = absurd c
 
-live_run : (s : State) (gates : List Gate) (t : State) (u : ℕ) → IsRun s gates t → Live s.graph u → Live t.graph u
-live_run s [] t u run there = subst (λ (k : State). Live k.graph u) run there
+live_run : (s : GraphSoFar) (gates : List Gate) (t : GraphSoFar) (u : ℕ) → IsRun s gates t → Live s.graph u → Live t.graph u
+live_run s [] t u run there = subst (λ (k : GraphSoFar). Live k.graph u) run there
 live_run s (gate ∷ gates) t u run there = live_run run.0 gates t u run.2 (live_step s gate run.0 u run.1 there)
 
 some_is : (a b : ℕ) → Some a ≡ Some b → a ≡ b
 some_is a b e = cc
 
-place_live : (s : State) (gate : Gate) (t : State) (u : ℕ) → IsReady s → IsRun s (by_hadamards gate) t → place_of s.graph gate ≡ Some u → Live s.graph u
+place_live : (s : GraphSoFar) (gate : Gate) (t : GraphSoFar) (u : ℕ) → IsReady s → IsRun s (by_hadamards gate) t → phase_vertex s.graph gate ≡ Some u → Live s.graph u
 place_live s (Phase q k) t u r run e =
     subst (Live s.graph) (phase_here s q k run.0 run.1 ∙ some_is (present s.graph q) u e) (here_live s.graph q run.1.peel.vertex r.well_formed (output_before s q k run.0 run.1))
 place_live s (H q) t u r run e = absurd cc
@@ -113,7 +113,7 @@ place_live s (Cz p q) t u r run e = absurd cc
 place_live s (Cx a b) t u r run e = absurd cc
 place_live s (Not q) t u r run e = absurd cc
 
-pub places_live : (gates : List Gate) (s t : State) (j u : ℕ) → IsReady s → IsRun s (written_out gates) t → get_or (places_from s.graph gates) j None ≡ Some u → Live t.graph u
+pub places_live : (gates : List Gate) (s t : GraphSoFar) (j u : ℕ) → IsReady s → IsRun s (written_out gates) t → get_or (places_from s.graph gates) j None ≡ Some u → Live t.graph u
 places_live [] s t j u r run e = absurd cc
 places_live (gate ∷ gates) s t zero u r run e =
     let parts = cut s (by_hadamards gate) (written_out gates) t run in

@@ -19,8 +19,8 @@ use Rattle.zx_gates.specs.Circuit.{Circuit, IsCircuit, IsOnQubits, IsBelowATurn}
 use Rattle.zx_gates.specs.declared.gate.Gate.{Gate}
 use Rattle.zx_gates.specs.declared.gate.Gate.TheVariants.{H, Phase, Cz, Cx, Not}
 use Rattle.circuit_laws.specs.Peeling.{HasPlainOutput}
-use Rattle.circuit_graph.specs.Translation.{by_hadamards, written_out, place_of, present, wires}
-use Rattle.circuit_graph.specs.Internal.Runs.{State, begun, IsReady, IsGateStep, IsRun, IsSpiderStep, IsPhaseStep, IsToggleStep, Comes, Translates}
+use Rattle.circuit_graph.specs.Translation.{by_hadamards, written_out, phase_vertex, present, wires}
+use Rattle.circuit_graph.specs.Internal.Runs.{GraphSoFar, begun, IsReady, IsGateStep, IsRun, IsSpiderStep, IsPhaseStep, IsToggleStep, Comes, Translates}
 use Rattle.circuit_graph.proofs.RunLemmas.{run_comes, run-append}
 use Rattle.circuit_graph.proofs.Gates.{gate_comes}
 use Rattle.circuit_graph.proofs.Graphs.{present_is}
@@ -33,19 +33,19 @@ use Rattle.teleport_circuits.specs.Circuits.{IsSkeleton, phase_in, with_phase_in
 use Rattle.circuit_graph.proofs.Wiring.{wires_formed}
 use Rattle.circuit_graph.proofs.Existing.{HasRun, ready, gates_run}
 
-abbrev pub shifted_state : (ℕ → ℕ) → State → State
+abbrev pub shifted_state : (ℕ → ℕ) → GraphSoFar → GraphSoFar
 shifted_state more s = record { graph = shifted more s.graph; table = s.table }
 
 ordered-shifted : (more : ℕ → ℕ) (g : Graph) → OrderedEdges (ids g.vertices) g.edges → OrderedEdges (ids (shifted more g).vertices) g.edges
 ordered-shifted more g o = subst (λ vs. OrderedEdges vs g.edges) (sym (ids-shifted more g)) o
 
 -- what a gate leads to
-record Shifts (s : State) (gates : List Gate) (more after : ℕ → ℕ) (t : State) : Type 0 where
+record Shifts (s : GraphSoFar) (gates : List Gate) (more after : ℕ → ℕ) (t : GraphSoFar) : Type 0 where
   pub run : IsRun (shifted_state more s) gates (shifted_state after t)
   pub shift : IsShift t.graph after
 
 -- ---- gates that stay
-spider_shifts : (s : State) (q : ℕ) (t : State) (more : ℕ → ℕ) → IsShift s.graph more → IsSpiderStep s q t → IsSpiderStep (shifted_state more s) q (shifted_state more t)
+spider_shifts : (s : GraphSoFar) (q : ℕ) (t : GraphSoFar) (more : ℕ → ℕ) → IsShift s.graph more → IsSpiderStep s q t → IsSpiderStep (shifted_state more s) q (shifted_state more t)
 spider_shifts s q t more shift c = record {
   peel = record {
     spider = c.peel.spider;
@@ -64,7 +64,7 @@ spider_shifts s q t more shift c = record {
   table = c.table;
 }
 
-toggle_shifts : (s : State) (p q : ℕ) (t : State) (more : ℕ → ℕ) → IsToggleStep s p q t → IsToggleStep (shifted_state more s) p q (shifted_state more t)
+toggle_shifts : (s : GraphSoFar) (p q : ℕ) (t : GraphSoFar) (more : ℕ → ℕ) → IsToggleStep s p q t → IsToggleStep (shifted_state more s) p q (shifted_state more t)
 toggle_shifts s p q t more c = record {
   peel = record {
     first = c.peel.first;
@@ -87,13 +87,13 @@ same_ids_shift s t more shift e = record { below = shift.below; absent = λ v ab
 other_phase : (a k m l : ℕ) → k < turn → sum_of_phases (sum_of_phases a k) (sum_of_phases m (sum_of_phases l (opposite_phase k))) ≡ sum_of_phases (sum_of_phases a m) l
 other_phase a k m l low = omega arith
 
-pub output_before : (s : State) (q k : ℕ) (t : State) (c : IsPhaseStep s q k t) → HasPlainOutput s.graph q c.peel.vertex
+pub output_before : (s : GraphSoFar) (q k : ℕ) (t : GraphSoFar) (c : IsPhaseStep s q k t) → HasPlainOutput s.graph q c.peel.vertex
 output_before s q k t c = ap (λ es. slice_get es q) (sym c.peel.outputs) ∙ c.peel.output
 
-pub phase_here : (s : State) (q k : ℕ) (t : State) (c : IsPhaseStep s q k t) → c.peel.vertex ≡ present s.graph q
+pub phase_here : (s : GraphSoFar) (q k : ℕ) (t : GraphSoFar) (c : IsPhaseStep s q k t) → c.peel.vertex ≡ present s.graph q
 phase_here s q k t c = sym (present_is s.graph.outputs q c.peel.vertex (output_before s q k t c))
 
-module _ (s : State) (q k l : ℕ) (t : State) (more : ℕ → ℕ) (r : IsReady s) (low : k < turn) (shift : IsShift s.graph more) (c : IsPhaseStep s q k t) where
+module _ (s : GraphSoFar) (q k l : ℕ) (t : GraphSoFar) (more : ℕ → ℕ) (r : IsReady s) (low : k < turn) (shift : IsShift s.graph more) (c : IsPhaseStep s q k t) where
   abbrev difference : ℕ
   difference = sum_of_phases l (opposite_phase k)
 
@@ -139,7 +139,7 @@ module _ (s : State) (q k l : ℕ) (t : State) (more : ℕ → ℕ) (r : IsReady
   }
 
 -- ---- gates in a row
-step_shifts : (s : State) (gate : Gate) (t : State) (more : ℕ → ℕ) → IsReady s → IsShift s.graph more → IsBelowATurn gate → IsGateStep s gate t → Shifts s (gate ∷ []) more more t
+step_shifts : (s : GraphSoFar) (gate : Gate) (t : GraphSoFar) (more : ℕ → ℕ) → IsReady s → IsShift s.graph more → IsBelowATurn gate → IsGateStep s gate t → Shifts s (gate ∷ []) more more t
 step_shifts s (H q) t more r shift low c = record {
   run = (shifted_state more t, spider_shifts s q t more shift c, refl);
   shift = record {
@@ -162,22 +162,22 @@ step_shifts s (Phase q k) t more r shift low c = subst (λ m. Shifts s (Phase q 
 step_shifts s (Cx control target) t more r shift low c = absurd c
 step_shifts s (Not q) t more r shift low c = absurd c
 
-then_shifts : (s : State) (first second : List Gate) (k t : State) (more between after : ℕ → ℕ) → Shifts s first more between k → Shifts k second between after t → Shifts s (first ++ second) more after t
+then_shifts : (s : GraphSoFar) (first second : List Gate) (k t : GraphSoFar) (more between after : ℕ → ℕ) → Shifts s first more between k → Shifts k second between after t → Shifts s (first ++ second) more after t
 then_shifts s first second k t more between after a b = record {
   run = run-append (shifted_state more s) first (shifted_state between k) second (shifted_state after t) a.run b.run;
   shift = b.shift;
 }
 
-follows : (s : State) (gates : List Gate) (t : State) (more : ℕ → ℕ) → IsReady s → IsShift s.graph more → All IsBelowATurn gates → IsRun s gates t → Shifts s gates more more t
-follows s [] t more r shift low run = record { run = ap (shifted_state more) run; shift = subst (λ (u : State). IsShift u.graph more) run shift }
+follows : (s : GraphSoFar) (gates : List Gate) (t : GraphSoFar) (more : ℕ → ℕ) → IsReady s → IsShift s.graph more → All IsBelowATurn gates → IsRun s gates t → Shifts s gates more more t
+follows s [] t more r shift low run = record { run = ap (shifted_state more) run; shift = subst (λ (u : GraphSoFar). IsShift u.graph more) run shift }
 follows s (gate ∷ gates) t more r shift low run =
     let first = step_shifts s gate run.0 more r shift (All-head IsBelowATurn gate gates low) run.1 in
     then_shifts s (gate ∷ []) gates run.0 t more more more first
     (follows run.0 gates t more (gate_comes s gate run.0 r run.1).ready first.shift (All-tail IsBelowATurn gate gates low) run.2)
 
 -- a gate of the circuit, written out
-gate_shifts : (s : State) (gate : Gate) (l : ℕ) (t : State) (more : ℕ → ℕ) → IsReady s → IsShift s.graph more → IsBelowATurn gate → IsRun s (by_hadamards gate) t →
-    Shifts s (by_hadamards (with_phase_in l gate)) more (added_at (place_of s.graph gate) (sum_of_phases l (opposite_phase (phase_in gate))) more) t
+gate_shifts : (s : GraphSoFar) (gate : Gate) (l : ℕ) (t : GraphSoFar) (more : ℕ → ℕ) → IsReady s → IsShift s.graph more → IsBelowATurn gate → IsRun s (by_hadamards gate) t →
+    Shifts s (by_hadamards (with_phase_in l gate)) more (added_at (phase_vertex s.graph gate) (sum_of_phases l (opposite_phase (phase_in gate))) more) t
 gate_shifts s (H q) l t more r shift low run = follows s (H q ∷ []) t more r shift (All-cons IsBelowATurn (H q) [] tt (All-nil IsBelowATurn)) run
 gate_shifts s (Cz p q) l t more r shift low run = follows s (Cz p q ∷ []) t more r shift (All-cons IsBelowATurn (Cz p q) [] tt (All-nil IsBelowATurn)) run
 gate_shifts s (Cx control target) l t more r shift low run =
@@ -191,17 +191,17 @@ gate_shifts s (Phase q k) l t more r shift low run =
     (record { run = (shifted_state (added_at (Some (present s.graph q)) (sum_of_phases l (opposite_phase k)) more) run.0, phase_shifts s q k l run.0 more r low shift run.1, refl); shift = phase_shift s q k l run.0 more r low shift run.1 })
 
 -- a run cut in two
-pub record IsCut (s : State) (first second : List Gate) (t : State) : Type 0 where
-  pub middle : State
+pub record IsCut (s : GraphSoFar) (first second : List Gate) (t : GraphSoFar) : Type 0 where
+  pub middle : GraphSoFar
   pub before : IsRun s first middle
   pub behind : IsRun middle second t
 
-pub cut : (s : State) (first second : List Gate) (t : State) → IsRun s (first ++ second) t → IsCut s first second t
+pub cut : (s : GraphSoFar) (first second : List Gate) (t : GraphSoFar) → IsRun s (first ++ second) t → IsCut s first second t
 cut s [] second t run = record { middle = s; before = refl; behind = run }
 cut s (gate ∷ first) second t run =
     let rest = cut run.0 first second t run.2 in record { middle = rest.middle; before = (run.0, run.1, rest.before); behind = rest.behind }
 
-gates_shift : (phase : ℕ → ℕ) (i : ℕ) (gates : List Gate) (s t : State) (more : ℕ → ℕ) → IsReady s → IsShift s.graph more → All IsBelowATurn gates → IsRun s (written_out gates) t →
+gates_shift : (phase : ℕ → ℕ) (i : ℕ) (gates : List Gate) (s t : GraphSoFar) (more : ℕ → ℕ) → IsReady s → IsShift s.graph more → All IsBelowATurn gates → IsRun s (written_out gates) t →
     Shifts s (written_out (with_phases phase i gates)) more (added_from phase i s.graph gates more) t
 gates_shift phase i [] s t more r shift low run = follows s [] t more r shift low run
 gates_shift phase i (gate ∷ gates) s t more r shift low run =
@@ -209,10 +209,10 @@ gates_shift phase i (gate ∷ gates) s t more r shift low run =
     let comes : Comes s (by_hadamards gate) parts.middle = run_comes s (by_hadamards gate) parts.middle r parts.before in
     let first = gate_shifts s gate (phase i) parts.middle more r shift (All-head IsBelowATurn gate gates low) parts.before in
     then_shifts s (by_hadamards (with_phase_in (phase i) gate)) (written_out (with_phases phase (suc i) gates)) parts.middle t more
-    (added_at (place_of s.graph gate) (sum_of_phases (phase i) (opposite_phase (phase_in gate))) more) _ first
-    (subst (λ g. Shifts parts.middle (written_out (with_phases phase (suc i) gates)) (added_at (place_of s.graph gate) (sum_of_phases (phase i) (opposite_phase (phase_in gate))) more)
-    (added_from phase (suc i) g gates (added_at (place_of s.graph gate) (sum_of_phases (phase i) (opposite_phase (phase_in gate))) more)) t) comes.graph
-    (gates_shift phase (suc i) gates parts.middle t (added_at (place_of s.graph gate) (sum_of_phases (phase i) (opposite_phase (phase_in gate))) more) comes.ready first.shift
+    (added_at (phase_vertex s.graph gate) (sum_of_phases (phase i) (opposite_phase (phase_in gate))) more) _ first
+    (subst (λ g. Shifts parts.middle (written_out (with_phases phase (suc i) gates)) (added_at (phase_vertex s.graph gate) (sum_of_phases (phase i) (opposite_phase (phase_in gate))) more)
+    (added_from phase (suc i) g gates (added_at (phase_vertex s.graph gate) (sum_of_phases (phase i) (opposite_phase (phase_in gate))) more)) t) comes.graph
+    (gates_shift phase (suc i) gates parts.middle t (added_at (phase_vertex s.graph gate) (sum_of_phases (phase i) (opposite_phase (phase_in gate))) more) comes.ready first.shift
     (All-tail IsBelowATurn gate gates low) parts.behind))
 
 -- ---- phase gates of phase 0
@@ -258,7 +258,7 @@ module _ (c : Circuit) (phase : ℕ → ℕ) (formed : IsCircuit c) where
   new_gates = with_phases phase 0 c.gates
 
   -- the graph with the differences, as its gates make it
-  last : State
+  last : GraphSoFar
   last = shifted_state (added_by c phase) translation.last
 
   pub run_there : IsRun (begun c.qubits) (written_out (with_phases phase 0 c.gates)) (shifted_state (added_by c phase) translation.last)

@@ -19,7 +19,7 @@ use Rattle.zx_gates.specs.Circuit.{Circuit, IsCircuit, is_odd_phase, gate_odd_ph
 use Rattle.zx_gates.specs.declared.gate.Gate.{Gate}
 use Rattle.zx_gates.specs.declared.gate.Gate.TheVariants.{H, Phase, Cz, Cx, Not}
 use Rattle.circuit_graph.specs.Translation.{written_out, translated, wires}
-use Rattle.circuit_graph.specs.Internal.Runs.{State, begun, IsGateStep, IsRun as IsGatesRun}
+use Rattle.circuit_graph.specs.Internal.Runs.{GraphSoFar, begun, IsGateStep, IsRun as IsGatesRun}
 use Rattle.circuit_graph.proofs.WrittenOut.{count-cons}
 use Rattle.teleport_laws.specs.Shifts.{shifted}
 use Rattle.teleport_laws.specs.Spots.{At, spot_at}
@@ -44,7 +44,7 @@ AreEven g = (v : ℕ) → IsEven (phase_of g v)
 even_sum : (j k : ℕ) → IsEven j → IsEven k → IsEven (sum_of_phases j k)
 even_sum j k e f = omega arith
 
-even_step : (s : State) (gate : Gate) (t : State) → IsEven (phase_in gate) → IsGateStep s gate t → AreEven s.graph → AreEven t.graph
+even_step : (s : GraphSoFar) (gate : Gate) (t : GraphSoFar) → IsEven (phase_in gate) → IsGateStep s gate t → AreEven s.graph → AreEven t.graph
 even_step s (H q) t even c all v =
     by_equal v c.peel.spider
     (λ f e. ap (λ (k : Kind). k.phase % quarter_turn) (ap₂ kind_of c.peel.vertices e ∙ kind_of-insert (spider_of_phase_zero c.peel.spider) s.graph.vertices c.peel.fresh))
@@ -64,8 +64,8 @@ even_step s (Not q) t even c all v = absurd c
 abbrev IsEvenGate : Gate → Type 0
 IsEvenGate gate = phase_in gate % quarter_turn ≡ 0
 
-even_run : (s : State) (gates : List Gate) (t : State) → All IsEvenGate gates → IsGatesRun s gates t → AreEven s.graph → AreEven t.graph
-even_run s [] t even run all = subst (λ (u : State). AreEven u.graph) run all
+even_run : (s : GraphSoFar) (gates : List Gate) (t : GraphSoFar) → All IsEvenGate gates → IsGatesRun s gates t → AreEven s.graph → AreEven t.graph
+even_run s [] t even run all = subst (λ (u : GraphSoFar). AreEven u.graph) run all
 even_run s (gate ∷ gates) t even run all =
     even_run run.0 gates t (All-tail IsEvenGate gate gates even) run.2 (even_step s gate run.0 (All-head IsEvenGate gate gates even) run.1 all)
 

@@ -15,7 +15,7 @@ use Rattle.zx_gates.specs.Circuit.{Circuit, IsCircuit}
 use Rattle.zx_gates.specs.Maps.{amp}
 use Rattle.zx_gates.specs.declared.gate.Gate.{Gate}
 use Rattle.circuit_graph.specs.Translation.{map_scalar, translated}
-use Rattle.circuit_graph.specs.Internal.Runs.{State, Translates}
+use Rattle.circuit_graph.specs.Internal.Runs.{GraphSoFar, Translates}
 use Rattle.teleport_circuits.specs.Circuits.{with_gates}
 use Rattle.teleport_circuits.specs.Teleporting.{new_phase, spots_of, teleported_circuit, HaveQuotient}
 use Rattle.teleport_circuits.proofs.Moving.{translates}
@@ -23,7 +23,7 @@ use Rattle.teleport_circuits.proofs.WithPhases.{translates_there, scalar-left}
 use Rattle.zx_calculus.proofs.Kept.{sum_below}
 
 -- the map of a circuit by a graph to which its own leads
-by_end : (c : Circuit) (t : State) (h : Graph) (s : Scalar) → Translates c t → IsSumTimes (translated c) s h →
+by_end : (c : Circuit) (t : GraphSoFar) (h : Graph) (s : Scalar) → Translates c t → IsSumTimes (translated c) s h →
     IsScaled c.qubits c.qubits (amp c.gates) (product_of_scalars (map_scalar c.gates) s) (sum h)
 by_end c t h s e p =
     scaled_trans c.qubits c.qubits (amp c.gates) (sum (translated c)) (sum h) (map_scalar c.gates) s
@@ -40,7 +40,7 @@ by_end c t h s e p =
 common_turn : (j k : ℕ) → k < turn → sum_of_phases (sum_of_phases 0 j) (opposite_phase (sum_of_phases 0 k)) ≡ sum_of_phases j (opposite_phase k)
 common_turn j k low = omega (arith, low)
 
-have_quotient : (c : Circuit) (gates : List Gate) (h : Graph) (u v : State) → Translates c u → Translates (with_gates c gates) v → map_scalar gates ≡ map_scalar c.gates → HaveQuotient c (with_gates c gates) h
+have_quotient : (c : Circuit) (gates : List Gate) (h : Graph) (u v : GraphSoFar) → Translates c u → Translates (with_gates c gates) v → map_scalar gates ≡ map_scalar c.gates → HaveQuotient c (with_gates c gates) h
 have_quotient c gates h u v a b same s t low p q =
     scaled_renamed c.qubits c.qubits (amp c.gates) (amp gates) (quotient_of_scalars (product_of_scalars (map_scalar c.gates) s) (product_of_scalars (map_scalar gates) t)) (quotient_of_scalars s t)
     exponents (ap root_power (common_turn s.turn t.turn low))

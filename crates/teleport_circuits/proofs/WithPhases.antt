@@ -15,7 +15,7 @@ use Rattle.zx_gates.specs.Internal.Scalars.{scalar}
 use Rattle.zx_gates.specs.declared.gate.Gate.{Gate}
 use Rattle.zx_gates.specs.declared.gate.Gate.TheVariants.{H, Phase, Cz, Cx, Not}
 use Rattle.circuit_graph.specs.Translation.{by_hadamards, written_out, written_count, map_scalar, translated}
-use Rattle.circuit_graph.specs.Internal.Runs.{State, begun, IsReady, IsRun, IsPhaseStep, Translates}
+use Rattle.circuit_graph.specs.Internal.Runs.{GraphSoFar, begun, IsReady, IsRun, IsPhaseStep, Translates}
 use Rattle.circuit_graph.proofs.RunLemmas.{run_comes, run-append}
 use Rattle.circuit_graph.proofs.Whole.{run_translates, translated_map}
 use Rattle.circuit_graph.proofs.WrittenOut.{count-cons}
@@ -26,7 +26,7 @@ use Rattle.teleport_circuits.proofs.Moving.{cut, on, left_on, translation, trans
 use Rattle.teleport_laws.proofs.Shifting.{plus_none}
 
 -- ---- phase gates of phase 0 leave the graph as it is
-idle_step : (s : State) (q : ℕ) (t : State) → IsReady s → IsPhaseStep s q 0 t → t ≡ s
+idle_step : (s : GraphSoFar) (q : ℕ) (t : GraphSoFar) → IsReady s → IsPhaseStep s q 0 t → t ≡ s
 idle_step s q t r c = λ i. record {
   graph = record { vertices = (c.peel.vertices ∙ kept) i; edges = c.peel.edges i; inputs = c.peel.inputs i; outputs = c.peel.outputs i };
   table = c.table i;
@@ -39,14 +39,14 @@ idle_step s q t r c = λ i. record {
     kept : with_kinds (fuse_kind c.peel.vertex 0) s.graph.vertices ≡ s.graph.vertices
     kept = with_kinds-kept (fuse_kind c.peel.vertex 0) s.graph.vertices r.well_formed.phases_below_a_turn same
 
-gate_left : (s t : State) (gate : Gate) (gates left : List Gate) → IsReady s → IsRun s (by_hadamards gate ++ written_out gates) t →
-    ((u : State) → IsReady u → IsRun u (written_out gates) t → IsRun u (written_out left) t) → IsRun s (by_hadamards gate ++ written_out left) t
+gate_left : (s t : GraphSoFar) (gate : Gate) (gates left : List Gate) → IsReady s → IsRun s (by_hadamards gate ++ written_out gates) t →
+    ((u : GraphSoFar) → IsReady u → IsRun u (written_out gates) t → IsRun u (written_out left) t) → IsRun s (by_hadamards gate ++ written_out left) t
 gate_left s t gate gates left r run rest =
     let parts = cut s (by_hadamards gate) (written_out gates) t run in
     run-append s (by_hadamards gate) parts.middle (written_out left) t parts.before
     (rest parts.middle (run_comes s (by_hadamards gate) parts.middle r parts.before).ready parts.behind)
 
-run_left : (gates : List Gate) (t s : State) → IsReady s → IsRun s (written_out gates) t → IsRun s (written_out (without_idle gates)) t
+run_left : (gates : List Gate) (t s : GraphSoFar) → IsReady s → IsRun s (written_out gates) t → IsRun s (written_out (without_idle gates)) t
 run_left [] t s r run = run
 run_left (H q ∷ gates) t s r run = gate_left s t (H q) gates (without_idle gates) r run (run_left gates t)
 run_left (Cz p q ∷ gates) t s r run = gate_left s t (Cz p q) gates (without_idle gates) r run (run_left gates t)

@@ -9,7 +9,7 @@ use Rattle.zx_calculus.specs.Graph.{Graph}
 use Rattle.zx_gates.specs.Circuit.{Circuit}
 use Rattle.zx_gates.specs.declared.gate.Gate.{Gate}
 use Rattle.zx_gates.specs.declared.gate.Gate.TheVariants.{Phase}
-use Rattle.circuit_graph.specs.Translation.{by_hadamards, with_gate, place_of, wires}
+use Rattle.circuit_graph.specs.Translation.{by_hadamards, with_gate, phase_vertex, wires}
 
 -- B is A with each phase gate of another phase, or taken out, and all else in place
 abbrev pub IsSkeleton : List Gate → List Gate → Type 0
@@ -52,7 +52,7 @@ abbrev pub added_from : (ℕ → ℕ) → ℕ → Graph → List Gate → (ℕ �
 added_from phase i g [] more = more
 added_from phase i g (gate ∷ gates) more =
     added_from phase (suc i) (fold with_gate g (by_hadamards gate)) gates
-    (added_at (place_of g gate) (sum_of_phases (phase i) (opposite_phase (phase_in gate))) more)
+    (added_at (phase_vertex g gate) (sum_of_phases (phase i) (opposite_phase (phase_in gate))) more)
 
 abbrev pub added_by : Circuit → (ℕ → ℕ) → ℕ → ℕ
 added_by c phase = added_from phase 0 (wires c.qubits) c.gates (λ v. 0)

@@ -6,7 +6,7 @@ use Rattle.std.proofs.lemmas.List.{drop_more}
 use Rattle.zx_model.specs.Bits.{xor, bit}
 use Rattle.zx_bits.specs.Rows.{xor_lists, parity_of}
 use Rattle.zx_bits.specs.Solving.{sum_of_rows}
-use Rattle.zx_bits.specs.Internal.Elimination.{Summed, step, reduced, evened, dual_of, HasSize, HasSizes, IsEchelon, IsEvenWith}
+use Rattle.zx_bits.specs.Internal.Elimination.{Summed, added_at_pivot, reduced, evened, dual_of, HasSize, HasSizes, IsEchelon, IsEvenWith}
 use Rattle.zx_bits.specs.declared.solving.Reduced.{Reduced}
 use Rattle.zx_model.proofs.BitLemmas.{xor-false}
 use Rattle.zx_bits.proofs.Vectors.{length-xor, length-flipped, bit-xor, interchange, xor_lists-same, xor_lists-zeros, parity_of-xor, parity_of-flipped}
@@ -16,32 +16,32 @@ abbrev pub HasLengths : ℕ → ℕ → Summed → Type 0
 HasLengths columns height v = (length v.row ≡ columns) × (length v.from ≡ height)
 
 -- what holds of v, and of v with one of the basis added, holds after a step
-stepping : (P : Summed → Type 0) (b : Reduced) (v : Summed) → P v → (bit v.row b.pivot ≡ true → P (record { row = xor_lists v.row b.row.bits; from = xor_lists v.from b.from.bits })) → P (step b v)
+stepping : (P : Summed → Type 0) (b : Reduced) (v : Summed) → P v → (bit v.row b.pivot ≡ true → P (record { row = xor_lists v.row b.row.bits; from = xor_lists v.from b.from.bits })) → P (added_at_pivot b v)
 stepping P b v same added = cond_both (bit v.row b.pivot) _ v P added (λ e. same)
 
-pub lengths_step : (columns height : ℕ) (b : Reduced) (v : Summed) → HasSize columns height b → HasLengths columns height v → HasLengths columns height (step b v)
+pub lengths_step : (columns height : ℕ) (b : Reduced) (v : Summed) → HasSize columns height b → HasLengths columns height v → HasLengths columns height (added_at_pivot b v)
 lengths_step columns height b v size lengths =
     stepping (HasLengths columns height) b v lengths
     (λ e. (length-xor v.row b.row.bits (size.0 ∙ sym lengths.0) ∙ lengths.0, length-xor v.from b.from.bits (size.1 ∙ sym lengths.1) ∙ lengths.1))
 
 pub lengths_reduced : (columns height : ℕ) (basis : List Reduced) (v : Summed) → HasSizes columns height basis → HasLengths columns height v → HasLengths columns height (reduced basis v)
 lengths_reduced columns height [] v sizes lengths = lengths
-lengths_reduced columns height (b ∷ basis) v sizes lengths = lengths_reduced columns height basis (step b v) sizes.1 (lengths_step columns height b v sizes.0 lengths)
+lengths_reduced columns height (b ∷ basis) v sizes lengths = lengths_reduced columns height basis (added_at_pivot b v) sizes.1 (lengths_step columns height b v sizes.0 lengths)
 
 -- ---- no pivot is set
 
 unset_reduced : (basis : List Reduced) (v : Summed) (place : ℕ) → AllByRecursion (λ c. bit c.row.bits place ≡ false) basis → bit v.row place ≡ false → bit (reduced basis v).row place ≡ false
 unset_reduced [] v place none unset = unset
 unset_reduced (b ∷ basis) v place none unset =
-    unset_reduced basis (step b v) place none.1
+    unset_reduced basis (added_at_pivot b v) place none.1
     (stepping (λ w. bit w.row place ≡ false) b v unset (λ e. bit-xor v.row b.row.bits place ∙ ap₂ xor unset none.0))
 
 pub pivots_unset : (basis : List Reduced) (v : Summed) → IsEchelon basis → AllByRecursion (λ c. bit (reduced basis v).row c.pivot ≡ false) basis
 pivots_unset [] v echelon = tt
 pivots_unset (b ∷ basis) v echelon = (
-  unset_reduced basis (step b v) b.pivot echelon.1
+  unset_reduced basis (added_at_pivot b v) b.pivot echelon.1
       (cond_both (bit v.row b.pivot) _ v (λ w. bit w.row b.pivot ≡ false) (λ e. bit-xor v.row b.row.bits b.pivot ∙ ap₂ xor e echelon.0) (λ e. e)),
-  pivots_unset basis (step b v) echelon.2,
+  pivots_unset basis (added_at_pivot b v) echelon.2,
 )
 
 -- ---- what is the same
@@ -49,7 +49,7 @@ pivots_unset (b ∷ basis) v echelon = (
 pub even_reduced : (basis : List Reduced) (v : Summed) (y : List Bool) → IsEvenWith y basis → parity_of (reduced basis v).row y ≡ parity_of v.row y
 even_reduced [] v y even = refl
 even_reduced (b ∷ basis) v y even =
-    even_reduced basis (step b v) y even.1
+    even_reduced basis (added_at_pivot b v) y even.1
     ∙ stepping (λ w. parity_of w.row y ≡ parity_of v.row y) b v refl (λ e. parity_of-xor v.row b.row.bits y ∙ ap (xor (parity_of v.row y)) even.0 ∙ xor-false _)
 
 pub sum_reduced : (columns : ℕ) (rows : List (List Bool)) (basis : List Reduced) (v : Summed) → AreRows columns rows → HasSizes columns (length rows) basis →
@@ -57,7 +57,7 @@ pub sum_reduced : (columns : ℕ) (rows : List (List Bool)) (basis : List Reduce
     xor_lists (reduced basis v).row (sum_of_rows columns rows (reduced basis v).from) ≡ xor_lists v.row (sum_of_rows columns rows v.from)
 sum_reduced columns rows [] v each sizes lengths sums = refl
 sum_reduced columns rows (b ∷ basis) v each sizes lengths sums =
-    sum_reduced columns rows basis (step b v) each sizes.1 (lengths_step columns (length rows) b v sizes.0 lengths) sums.1
+    sum_reduced columns rows basis (added_at_pivot b v) each sizes.1 (lengths_step columns (length rows) b v sizes.0 lengths) sums.1
     ∙ stepping (λ w. xor_lists w.row (sum_of_rows columns rows w.from) ≡ xor_lists v.row (sum_of_rows columns rows v.from)) b v refl
     (λ e. ap (xor_lists (xor_lists v.row b.row.bits)) (sum_of-xor columns rows v.from b.from.bits each lengths.1 sizes.0.1 ∙ ap (xor_lists (sum_of_rows columns rows v.from)) sums.0)
     ∙ twice v.row (sum_of_rows columns rows v.from) b.row.bits lengths.0 (length-sum_of_rows columns rows v.from each) sizes.0.0)
@@ -75,7 +75,7 @@ pub from_reduced : (P : ℕ → Type 0) (basis : List Reduced) (v : Summed) → 
     ((r : ℕ) → bit v.from r ≡ true → P r) → (r : ℕ) → bit (reduced basis v).from r ≡ true → P r
 from_reduced P [] v all first = first
 from_reduced P (b ∷ basis) v all first =
-    from_reduced P basis (step b v) all.1
+    from_reduced P basis (added_at_pivot b v) all.1
     (stepping (λ w. (r : ℕ) → bit w.from r ≡ true → P r) b v first
     (λ e r set. elim (either_set (bit v.from r) (bit b.from.bits r) (sym (bit-xor v.from b.from.bits r) ∙ set)) [
       | inl l ↦ first r l
@@ -132,7 +132,7 @@ dual_odd columns height (b ∷ basis) start row size fits sizes none =
 -- ---- one of the basis after the other
 
 pub reduce_more : (columns height : ℕ) (basis : List Reduced) (i : ℕ) (b : Reduced) (old new : Summed) → i < length basis → b ≡ get_or basis i b →
-    HasSizes columns height (drop i basis) → HasLengths columns height old → new ≡ step b old →
+    HasSizes columns height (drop i basis) → HasLengths columns height old → new ≡ added_at_pivot b old →
     HasSizes columns height (drop (i + 1) basis) × HasLengths columns height new × (reduced (drop (i + 1) basis) new ≡ reduced (drop i basis) old)
 reduce_more columns height basis i b old new lt read sizes lengths stepped =
     let is : drop i basis ≡ b ∷ drop (i + 1) basis = drop_more basis i b lt ∙ ap (λ c. c ∷ drop (i + 1) basis) (sym read) in

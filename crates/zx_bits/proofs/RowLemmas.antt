@@ -3,16 +3,16 @@ use Rattle.std.proofs.Common.{◌≡◌, sym, ◌∙◌, ap, ap₂, inl, inr, �
 use Rattle.std.proofs.lemmas.Bool.{cases_lt, false≢true, ne_eqb}
 use Rattle.zx_model.specs.Bits.{xor, bit}
 use Rattle.zx_bits.specs.Rows.{BitRow, flipped, xor_lists, parity_of}
-use Rattle.zx_bits.specs.Internal.Words.{digit, told, is_odd}
+use Rattle.zx_bits.specs.Internal.Words.{digit, tabulated, is_odd}
 use Rattle.zx_bits.specs.Internal.Windows.{word_from, is_set, end_of, IsWithin, row_of}
 use Rattle.zx_bits.specs.declared.window.Window.{Window}
-use Rattle.zx_bits.proofs.Lists.{length-told, told-same, bit-told, bit-past, flipped-told, xor_lists-told, parity_of-told}
+use Rattle.zx_bits.proofs.Lists.{length-tabulated, tabulated-same, bit-tabulated, bit-past, flipped-tabulated, xor_lists-tabulated, parity_of-tabulated}
 
 -- ---- a row that is seen as these bits
 
 module _ (len : ℕ) (w : Window) (row : BitRow) (view_is : row_of len w ≡ row) where
   pub len_is : len ≡ length row.bits
-  len_is = sym (length-told len (is_set w)) ∙ ap (λ r. length r.bits) view_is
+  len_is = sym (length-tabulated len (is_set w)) ∙ ap (λ r. length r.bits) view_is
 
   pub bits_are : IsWithin len w → bit row.bits ≡ is_set w
   bits_are within = λ i k. at k i
@@ -21,29 +21,29 @@ module _ (len : ℕ) (w : Window) (row : BitRow) (view_is : row_of len w ≡ row
       at k =
           ap (λ r. bit r.bits k) (sym view_is)
           ∙ elim (cases_lt k len) [
-            | inl l ↦ bit-told len (is_set w) k l
-            | inr g ↦ bit-past (told len (is_set w)) k (omega (arith, length-told len (is_set w))) ∙ sym (within.unset k g)
+            | inl l ↦ bit-tabulated len (is_set w) k l
+            | inr g ↦ bit-past (tabulated len (is_set w)) k (omega (arith, length-tabulated len (is_set w))) ∙ sym (within.unset k g)
           ]
 
-  pub told-flipped : (new : Window) (place : ℕ) → ((k : ℕ) → is_set new k ≡ xor (is_set w k) (eqb k place)) → told len (is_set new) ≡ flipped row.bits place
-  told-flipped new place is =
-      told-same len _ _ (λ k lt. is k) ∙ sym (flipped-told len (is_set w) place) ∙ ap (λ r. flipped r.bits place) view_is
+  pub tabulated-flipped : (new : Window) (place : ℕ) → ((k : ℕ) → is_set new k ≡ xor (is_set w k) (eqb k place)) → tabulated len (is_set new) ≡ flipped row.bits place
+  tabulated-flipped new place is =
+      tabulated-same len _ _ (λ k lt. is k) ∙ sym (flipped-tabulated len (is_set w) place) ∙ ap (λ r. flipped r.bits place) view_is
 
   -- ---- with another of the same length
   module _ (other_len : ℕ) (v : Window) (other : BitRow) (other_is : row_of other_len v ≡ other) (same : length other.bits ≡ length row.bits) where
     pub same_length : other_len ≡ len
-    same_length = sym (length-told other_len (is_set v)) ∙ ap (λ r. length r.bits) other_is ∙ same ∙ sym len_is
+    same_length = sym (length-tabulated other_len (is_set v)) ∙ ap (λ r. length r.bits) other_is ∙ same ∙ sym len_is
 
-    other_bits : told len (is_set v) ≡ other.bits
-    other_bits = ap (λ n. told n (is_set v)) (sym same_length) ∙ ap (λ r. r.bits) other_is
+    other_bits : tabulated len (is_set v) ≡ other.bits
+    other_bits = ap (λ n. tabulated n (is_set v)) (sym same_length) ∙ ap (λ r. r.bits) other_is
 
-    pub told-added : (new : Window) → ((k : ℕ) → is_set new k ≡ xor (is_set w k) (is_set v k)) → told len (is_set new) ≡ xor_lists row.bits other.bits
-    told-added new is =
-        told-same len _ _ (λ k lt. is k) ∙ sym (xor_lists-told len (is_set w) (is_set v))
+    pub tabulated-added : (new : Window) → ((k : ℕ) → is_set new k ≡ xor (is_set w k) (is_set v k)) → tabulated len (is_set new) ≡ xor_lists row.bits other.bits
+    tabulated-added new is =
+        tabulated-same len _ _ (λ k lt. is k) ∙ sym (xor_lists-tabulated len (is_set w) (is_set v))
         ∙ ap₂ xor_lists (ap (λ r. r.bits) view_is) other_bits
 
     pub parity_is : is_odd len (λ k. is_set w k && is_set v k) ≡ parity_of row.bits other.bits
-    parity_is = sym (parity_of-told len (is_set w) (is_set v)) ∙ ap₂ parity_of (ap (λ r. r.bits) view_is) other_bits
+    parity_is = sym (parity_of-tabulated len (is_set w) (is_set v)) ∙ ap₂ parity_of (ap (λ r. r.bits) view_is) other_bits
 
 -- ---- what stays so
 

@@ -5,7 +5,7 @@ use Rattle.std.proofs.lemmas.Bool.{cases_lt, cases_eq, eqb-true, false_from_ne_t
 use Rattle.zx_model.specs.Bits.{xor, bit}
 use Rattle.zx_bits.specs.Rows.{BitMatrix, row_at, flipped, xor_lists, parity_of}
 use Rattle.zx_bits.specs.Solving.{zeros, sum_of_rows, IsSolution, IsDual}
-use Rattle.zx_bits.specs.Internal.Elimination.{Summed, reduced, dual_of, IsEchelon, IsEvenWith, IsNew, IsBasis, IsKept}
+use Rattle.zx_bits.specs.Internal.Elimination.{Summed, reduced, dual_of, IsEchelon, IsEvenWith, IsNew, IsBasis, IsPutIntoBasis}
 use Rattle.zx_bits.specs.declared.solving.Reduced.{Reduced}
 use Rattle.zx_bits.proofs.Lists.{bit-past}
 use Rattle.zx_bits.proofs.Vectors.{length-zeros, length-flipped, length-xor, bit-zeros, bit-flipped, bit-xor, unset_is_zeros, xor_lists_comm, xor_lists-same, xor_lists-zeros, same_from_sum, parity_of-zeros, parity_of-one, place_within}
@@ -125,7 +125,7 @@ module _ (m : BitMatrix) (each : (r : ℕ) → r < length m.rows → length (row
               (λ k. ap (λ l. bit l k) sum ∙ bit-zeros m.columns k)
 
     pub basis_next : (row from : List Bool) (new : List Reduced) → row ≡ (reduced basis (next_row m i)).row → from ≡ (reduced basis (next_row m i)).from →
-        IsKept row from basis new → IsBasis m (i + 1) new
+        IsPutIntoBasis row from basis new → IsBasis m (i + 1) new
     basis_next row from new same also (inl (none, stays)) = subst (IsBasis m (i + 1)) (sym stays) (basis_stays (λ k. ap (λ l. bit l k) (sym same) ∙ none k))
     basis_next row from new same also (inr (b, r, f, set, grown)) =
         subst (IsBasis m (i + 1)) (sym grown) (basis_grows b.pivot (ap (λ l. bit l b.pivot) (sym same) ∙ set) b (r ∙ same) (f ∙ also) refl)

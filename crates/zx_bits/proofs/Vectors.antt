@@ -6,7 +6,7 @@ use Rattle.zx_bits.specs.Rows.{flipped, xor_lists, parity_of}
 use Rattle.zx_bits.specs.Solving.{zeros}
 use Rattle.zx_model.proofs.BitLemmas.{xor-false, xor_comm, xor_assoc, xor-same, xor-and, and-false}
 use Rattle.zx_bits.proofs.Sums.{sums}
-use Rattle.zx_bits.proofs.Lists.{told-same, told-bits}
+use Rattle.zx_bits.proofs.Lists.{tabulated-same, tabulated-bits}
 
 -- ---- places
 
@@ -44,7 +44,7 @@ bit-xor (x ∷ xs) (y ∷ ys) (suc k) = bit-xor xs ys k
 
 -- lists of one length with the same bits are equal
 pub same_bits : (xs ys : List Bool) → length xs ≡ length ys → ((k : ℕ) → bit xs k ≡ bit ys k) → xs ≡ ys
-same_bits xs ys size same = sym (told-bits xs (length ys) size) ∙ told-same (length ys) (bit xs) (bit ys) (λ k lt. same k) ∙ told-bits ys (length ys) refl
+same_bits xs ys size same = sym (tabulated-bits xs (length ys) size) ∙ tabulated-same (length ys) (bit xs) (bit ys) (λ k lt. same k) ∙ tabulated-bits ys (length ys) refl
 
 pub unset_is_zeros : (xs : List Bool) (n : ℕ) → length xs ≡ n → ((k : ℕ) → bit xs k ≡ false) → xs ≡ zeros n
 unset_is_zeros xs n size none = same_bits xs (zeros n) (size ∙ sym (length-zeros n)) (λ k. none k ∙ sym (bit-zeros n k))

@@ -3,8 +3,8 @@
 ghost use Rattle.std.specs.Prelude.{◌≡◌, ◌≢◌, ◌<◌, Bool, List, length, IfOk, OnOk};
 ghost use Rattle.zx_bits.specs.Rows.{BitMatrix, flipped};
 ghost use Rattle.zx_bits.specs.Solving.{zeros, sum_of_rows, IsSolved, IsDual};
-ghost use Rattle.zx_bits.specs.Internal.Elimination.{IsBasis, IsKept, HasSize, HasSizes};
-ghost use Rattle.zx_bits.specs.Internal.Elimination.{step, reduced, evened, dual_of};
+ghost use Rattle.zx_bits.specs.Internal.Elimination.{IsBasis, IsPutIntoBasis, HasSize, HasSizes};
+ghost use Rattle.zx_bits.specs.Internal.Elimination.{added_at_pivot, reduced, evened, dual_of};
 
 use crate::bit_matrix::BitMatrix;
 use crate::bit_row::BitRow;
@@ -65,7 +65,7 @@ fn basis_of(alloc: Global, m: &BitMatrix) -> Result<Vec<Reduced>, AllocError>
 
 // Adds a row to the basis, unless no bit of it is set.
 fn keep(basis: &mut Vec<Reduced>, row: BitRow, from: BitRow) -> Result<(), AllocError>
-    ensures { OnOk result (IsKept row.bits from.bits basis.old.items basis.new.items) }
+    ensures { OnOk result (IsPutIntoBasis row.bits from.bits basis.old.items basis.new.items) }
 {
     match row.bit_from(0) {
         Some(pivot) => {
@@ -91,7 +91,7 @@ fn reduce(basis: &[Reduced], row: &mut BitRow, from: &mut BitRow)
 fn add_if_set(entry: &Reduced, row: &mut BitRow, from: &mut BitRow)
     requires { HasSize (length row.old.bits) (length from.old.bits) entry.now }
     ensures { record { row = row.new.bits; from = from.new.bits }
-        ≡ step entry.now (record { row = row.old.bits; from = from.old.bits }) }
+        ≡ added_at_pivot entry.now (record { row = row.old.bits; from = from.old.bits }) }
 {
     if row.get(entry.pivot) {
         row.xor(&entry.row);

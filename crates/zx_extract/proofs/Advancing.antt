@@ -25,7 +25,7 @@ use Rattle.zx_gates.specs.declared.gate.Gate.TheVariants.{H}
 use Rattle.circuit_laws.specs.Peeling.{HasPlainOutput, are_plain}
 use Rattle.circuit_laws.proofs.Places.{member-places, output_there, output_plane, slice_get-set_other, plain-set}
 use Rattle.circuit_laws.proofs.Taken.{advanced_formed, advanced_gates, advanced_odd}
-use Rattle.zx_extract.specs.Internal.Leading.{State, Leads, IsReady, IsFrontier, IsSettled}
+use Rattle.zx_extract.specs.Internal.Leading.{Remainder, Leads, IsReady, IsFrontier, IsSettled}
 use Rattle.zx_extract.specs.Internal.Steps.{IsAdvanced, HasOneOutput}
 use Rattle.zx_extract.proofs.Places.{one_output, member-places_set}
 use Rattle.zx_extract.proofs.Lasts.{one_shorter}
@@ -34,7 +34,7 @@ use Rattle.zx_extract.proofs.WithoutVertex.{stays, ids_left, phase_left, plane_l
 use Rattle.zx_extract.proofs.LastVertex.{last_live, last_no_output, only_neighbour, link_no_input}
 use Rattle.std.proofs.lemmas.Option.{slice_get_within}
 
-module _ {s t : State} {v q : ℕ} (r : IsReady s) (f : IsFrontier s.graph) (plane : plane_of s.graph v ≡ XY)
+module _ {s t : Remainder} {v q : ℕ} (r : IsReady s) (f : IsFrontier s.graph) (plane : plane_of s.graph v ≡ XY)
     (one : HasOneOutput s q) (a : IsAdvanced s v q t) where
   abbrev u : ℕ
   u = a.advance.spider

@@ -21,7 +21,7 @@ use Rattle.zx_gates.specs.declared.gate.Gate.TheVariants.{Cx}
 use Rattle.circuit_laws.specs.Peeling.{HasPlainOutput}
 use Rattle.circuit_laws.proofs.Places.{member-places, output_there}
 use Rattle.zx_extract.specs.Internal.Lists.{last_set}
-use Rattle.zx_extract.specs.Internal.Leading.{State, IsReady, IsFrontier}
+use Rattle.zx_extract.specs.Internal.Leading.{Remainder, IsReady, IsFrontier}
 use Rattle.zx_extract.specs.Internal.Steps.{IsRowAdded, IsSetAdded, HasLast, IsPicked, IsGathered, IsGatheredBesideRow, IsRowReplaced}
 use Rattle.zx_extract.proofs.Places.{one_vertex, one_output}
 use Rattle.zx_extract.proofs.Lasts.{keeps_last}
@@ -51,7 +51,7 @@ module _ (g : Graph) (c t : ℕ) (wf : WellFormed g) (there : Live g t) where
       (λ out. symmetric p q ∙ absent q p out)
 
 -- ---- gathering
-pub beside_nothing : (s : State) (q : ℕ) → IsReady s → IsFrontier s.graph → IsPicked s q → IsGatheredBesideRow s q 0 s
+pub beside_nothing : (s : Remainder) (q : ℕ) → IsReady s → IsFrontier s.graph → IsPicked s q → IsGatheredBesideRow s q 0 s
 beside_nothing s q r f picked = record {
   whole = s;
   gathered = gathered_nothing s q r f picked;
@@ -66,14 +66,14 @@ beside_nothing s q r f picked = record {
   formed = r.given.well_formed;
 }
 
-module _ (s : State) (q i v : ℕ) (d : State) (b : IsGatheredBesideRow s q i d) (last : HasLast s.table v) where
+module _ (s : Remainder) (q i v : ℕ) (d : Remainder) (b : IsGatheredBesideRow s q i d) (last : HasLast s.table v) where
   whole_last : HasLast b.whole.table v
   whole_last = keeps_last s.table b.whole.table v b.gathered.rows.order last
 
   pub beside_last : HasLast d.table v
   beside_last = subst (λ table. HasLast table v) (sym b.alike.table) whole_last
 
-  module _ (h : State) (n : i ≢ q) (w : ℕ) (o : HasPlainOutput d.graph i w) (there : last_set d.table w ≡ true)
+  module _ (h : Remainder) (n : i ≢ q) (w : ℕ) (o : HasPlainOutput d.graph i w) (there : last_set d.table w ≡ true)
       (a : IsSetAdded d i q h) where
     at_added : HasPlainOutput b.whole.graph i a.added
     at_added = ap (λ es. slice_get es i) (sym b.alike.outputs) ∙ a.output
@@ -81,7 +81,7 @@ module _ (s : State) (q i v : ℕ) (d : State) (b : IsGatheredBesideRow s q i d)
     at_to : HasPlainOutput b.whole.graph q a.to
     at_to = ap (λ es. slice_get es q) (sym b.alike.outputs) ∙ a.output_too
 
-    abbrev next : State
+    abbrev next : Remainder
     next = record { graph = with_row b.whole.graph a.added a.to; table = h.table; gates = h.gates }
 
     in_set : last_set b.whole.table a.added ≡ true
@@ -134,7 +134,7 @@ module _ (s : State) (q i v : ℕ) (d : State) (b : IsGatheredBesideRow s q i d)
       formed = subst WellFormed (sym a.graph) b.formed;
     }
 
-pub set_added : (s : State) (c t u v : ℕ) (table : List Correction) (h : State) → HasPlainOutput s.graph c u →
+pub set_added : (s : Remainder) (c t u v : ℕ) (table : List Correction) (h : Remainder) → HasPlainOutput s.graph c u →
     HasPlainOutput s.graph t v → SameSets table (row_added_table u v s.table) →
     h ≡ record { graph = s.graph; table = table; gates = Cx t c ∷ s.gates } → IsSetAdded s c t h
 set_added s c t u v table h o i sets is = subst (IsSetAdded s c t) (sym is) (record {
@@ -148,7 +148,7 @@ set_added s c t u v table h o i sets is = subst (IsSetAdded s c t) (sym is) (rec
 })
 
 -- ---- the row of the output that stays
-pub row_replaced : (s : State) (v q u : ℕ) (one row : List ℕ) (g : Graph) → WellFormed s.graph → HasPlainOutput s.graph q u → one ≡ u ∷ [] →
+pub row_replaced : (s : Remainder) (v q u : ℕ) (one row : List ℕ) (g : Graph) → WellFormed s.graph → HasPlainOutput s.graph q u → one ≡ u ∷ [] →
     ((w : ℕ) → member w row ≡
     xor (joined s.graph.edges v w && not (member w (end_vertices s.graph.outputs))) (joined s.graph.edges u w)) →
     IsToggled s.graph (across one row) g → IsRowReplaced s v q (record { graph = g; table = s.table; gates = s.gates })
@@ -176,14 +176,14 @@ row_replaced s v q u one row g wf o is members toggled = record {
     in_one : (w : ℕ) → member w one ≡ eqb w u
     in_one w = ap (member w) is ∙ is_in-one u w
 
-module _ (s : State) (v q : ℕ) (d : State) (b : IsGatheredBesideRow s q (length s.graph.outputs) d)
+module _ (s : Remainder) (v q : ℕ) (d : Remainder) (b : IsGatheredBesideRow s q (length s.graph.outputs) d)
     (last : HasLast s.table v) (plane : plane_of s.graph v ≡ YZ) where
   pub beside_live : Live d.graph v
   beside_live = ap (λ vs. member v (ids vs)) b.alike.vertices
       ∙ last_live b.gathered.rows.ready b.gathered.rows.frontier
       (whole_last s q (length s.graph.outputs) v d b last)
 
-  module _ (h : State) (a : IsRowReplaced d v q h) where
+  module _ (h : Remainder) (a : IsRowReplaced d v q h) where
     at_link : HasPlainOutput b.whole.graph q a.link
     at_link = ap (λ es. slice_get es q) (sym b.alike.outputs) ∙ a.output
 

@@ -15,7 +15,7 @@ use Rattle.zx_gates.specs.Lowering.{phase_gates}
 use Rattle.circuit_laws.specs.Peeling.{HasPlainOutput, IsEdgePeel, marked}
 use Rattle.circuit_laws.proofs.Places.{first_is, slice_get-set, slice_get-set_other, output_there, output_plane}
 use Rattle.zx_extract.specs.Internal.Lists.{IsPlainAt}
-use Rattle.zx_extract.specs.Internal.Leading.{IsGiven, Leads, State, IsReady}
+use Rattle.zx_extract.specs.Internal.Leading.{IsGiven, Leads, Remainder, IsReady}
 use Rattle.zx_extract.specs.Internal.Steps.{IsMarkTaken, IsPhaseTaken, IsEdgeTaken, IsUnjoined}
 use Rattle.zx_extract.proofs.Places.{one_vertex}
 use Rattle.zx_extract.proofs.Settled.{mark_given, mark_leads, settles_nothing, settles_within, edge_settles, edge_gone}
@@ -48,13 +48,13 @@ plain_others es q v e at_q p was d at_p = by_equal p q
     (λ _ n. was d (sym (slice_get-set_other es q p (plain v) n) ∙ at_p))
 
 -- the output at q was moved to a plain end at its own vertex
-pub record IsUnmarked (s : State) (q : ℕ) (t : State) : Type 0 where
+pub record IsUnmarked (s : Remainder) (q : ℕ) (t : Remainder) : Type 0 where
   pub leads : Leads s 1 0 0 t
   pub given : IsGiven t
   pub plain : IsPlainAt t.graph.outputs q
   pub others : (p : ℕ) → IsPlainAt s.graph.outputs p → IsPlainAt t.graph.outputs p
 
-pub unmarked : {s t : State} {q : ℕ} {e : End} {g : Graph} → IsGiven s → slice_get s.graph.outputs q ≡ Some e →
+pub unmarked : {s t : Remainder} {q : ℕ} {e : End} {g : Graph} → IsGiven s → slice_get s.graph.outputs q ≡ Some e →
     e.hadamard ≡ true → g ≡ record s.graph { outputs = set s.graph.outputs q (plain e.vertex) } →
     t ≡ record { graph = g; table = s.table; gates = H q ∷ s.gates } → IsUnmarked s q t
 unmarked {s} {t} {q} {e} given at_q had moved is = record {
@@ -65,7 +65,7 @@ unmarked {s} {t} {q} {e} given at_q had moved is = record {
 }
   where
     is_graph : t.graph ≡ record s.graph { outputs = set s.graph.outputs q (plain e.vertex) }
-    is_graph = ap (λ (r : State). r.graph) is ∙ moved
+    is_graph = ap (λ (r : Remainder). r.graph) is ∙ moved
 
     outputs : t.graph.outputs ≡ set s.graph.outputs q (plain e.vertex)
     outputs = ap (λ (h : Graph). h.outputs) is_graph
@@ -80,15 +80,15 @@ unmarked {s} {t} {q} {e} given at_q had moved is = record {
         inputs = sym (ap (λ (h : Graph). h.inputs) is_graph);
         outputs = outputs;
       };
-      table = ap (λ (r : State). r.table) is;
-      gates = ap (λ (r : State). r.gates) is;
+      table = ap (λ (r : Remainder). r.table) is;
+      gates = ap (λ (r : Remainder). r.gates) is;
     }
 
 -- ---- a phase
-pub output_live : {s : State} {u : ℕ} (q : ℕ) → IsReady s → HasPlainOutput s.graph q u → Live s.graph u
+pub output_live : {s : Remainder} {u : ℕ} (q : ℕ) → IsReady s → HasPlainOutput s.graph q u → Live s.graph u
 output_live {s} {u} q r at_q = output_there s.graph q (plain u) r.given.well_formed at_q
 
-pub phase_taken : {s t : State} {u k zero_phase : ℕ} {plane : Plane} {g : Graph} (q : ℕ) → IsReady s →
+pub phase_taken : {s t : Remainder} {u k zero_phase : ℕ} {plane : Plane} {g : Graph} (q : ℕ) → IsReady s →
     HasPlainOutput s.graph q u → in_plane plane k ≡ kind_of s.graph.vertices u → zero_phase ≡ 0 →
     g ≡ record s.graph {
       vertices = with_kinds (at_vertex u (λ _. in_plane plane zero_phase)) s.graph.vertices;
@@ -98,27 +98,27 @@ phase_taken {s} {t} {u} q r at_q weight none set is = record {
   cleared = record {
     vertex = u;
     output = at_q;
-    vertices = ap (λ (h : State). h.graph.vertices) is ∙ ap (λ (h : Graph). h.vertices) set
+    vertices = ap (λ (h : Remainder). h.graph.vertices) is ∙ ap (λ (h : Graph). h.vertices) set
         ∙ ap₂ (λ p j. with_kinds (at_vertex u (λ _. in_plane p j)) s.graph.vertices)
         (ap (λ (kind : Kind). kind.plane) weight) none
         ∙ with_kinds-at u (λ kind. in_plane kind.plane 0) s.graph.vertices r.given.well_formed.vertices_rising;
-    edges = ap (λ (h : State). h.graph.edges) is ∙ ap (λ (h : Graph). h.edges) set;
-    inputs = ap (λ (h : State). h.graph.inputs) is ∙ ap (λ (h : Graph). h.inputs) set;
-    outputs = ap (λ (h : State). h.graph.outputs) is ∙ ap (λ (h : Graph). h.outputs) set;
+    edges = ap (λ (h : Remainder). h.graph.edges) is ∙ ap (λ (h : Graph). h.edges) set;
+    inputs = ap (λ (h : Remainder). h.graph.inputs) is ∙ ap (λ (h : Graph). h.inputs) set;
+    outputs = ap (λ (h : Remainder). h.graph.outputs) is ∙ ap (λ (h : Graph). h.outputs) set;
   };
-  table = ap (λ (h : State). h.table) is;
-  gates = ap (λ (h : State). h.gates) is ∙ ap (λ j. phase_gates q j ++ s.gates)
+  table = ap (λ (h : Remainder). h.table) is;
+  gates = ap (λ (h : Remainder). h.gates) is ∙ ap (λ j. phase_gates q j ++ s.gates)
       (ap (λ (kind : Kind). kind.phase) weight);
 }
 
 -- the plane that an output's weight has
-pub weight_plane : {s : State} {u k : ℕ} {plane : Plane} (q : ℕ) → IsReady s → HasPlainOutput s.graph q u →
+pub weight_plane : {s : Remainder} {u k : ℕ} {plane : Plane} (q : ℕ) → IsReady s → HasPlainOutput s.graph q u →
     in_plane plane k ≡ kind_of s.graph.vertices u → plane ≡ XY
 weight_plane {s} {u} q r at_q weight = ap (λ (kind : Kind). kind.plane) weight
     ∙ output_plane s.graph q (plain u) r.given.well_formed at_q
 
 -- ---- an edge
-module _ {s : State} {u v : ℕ} (p q : ℕ) (r : IsReady s) (at_p : HasPlainOutput s.graph p u)
+module _ {s : Remainder} {u v : ℕ} (p q : ℕ) (r : IsReady s) (at_p : HasPlainOutput s.graph p u)
     (at_q : HasPlainOutput s.graph q v) where
   pub unjoined_already : joined s.graph.edges u v ≡ false → IsUnjoined s p q s
   unjoined_already off = record {
@@ -134,7 +134,7 @@ module _ {s : State} {u v : ℕ} (p q : ℕ) (r : IsReady s) (at_p : HasPlainOut
     places_differ : p ≢ q
     places_differ e = ends_differ (one_vertex s.graph q u v (subst (λ k. HasPlainOutput s.graph k u) e at_p) at_q)
 
-    pub edge_taken : {g : Graph} {t : State} → IsToggle s.graph u v g →
+    pub edge_taken : {g : Graph} {t : Remainder} → IsToggle s.graph u v g →
         t ≡ record { graph = g; table = s.table; gates = Cz p q ∷ s.gates } → IsUnjoined s p q t
     edge_taken {g} {t} toggle is = record {
       settles = settles_within s 1 (one_if (not (eqb p q))) t

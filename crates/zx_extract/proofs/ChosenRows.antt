@@ -8,8 +8,8 @@ use Rattle.zx_model.specs.Bits.{xor, bit}
 use Rattle.zx_model.proofs.BitLemmas.{xor-false}
 use Rattle.zx_bits.specs.Rows.{BitMatrix, row_at, with_row, flipped, xor_lists, parity_of}
 use Rattle.zx_bits.specs.Solving.{zeros, sum_of_rows, IsContained, IsSolution, IsDual}
-use Rattle.zx_bits.specs.Internal.Words.{told}
-use Rattle.zx_bits.proofs.Lists.{length-told, told-same, bit-told, told-bits, told-unset, flipped-told}
+use Rattle.zx_bits.specs.Internal.Words.{tabulated}
+use Rattle.zx_bits.proofs.Lists.{length-tabulated, tabulated-same, bit-tabulated, tabulated-bits, tabulated-unset, flipped-tabulated}
 use Rattle.zx_bits.proofs.Vectors.{place_within}
 use Rattle.zx_bits.proofs.SumsOfRows.{sum_of-even}
 use Rattle.zx_extract.specs.Choosing.{member_count}
@@ -71,13 +71,13 @@ module _ (m only : BitMatrix) (kept : List Bool) (size : length kept ≡ length 
     part_of_kept : IsContained set kept
     part_of_kept place e =
         second (bit set place) (bit kept place)
-        (sym (bit-told (length m.rows) _ place (omega (arith, place_within set place e, fits))) ∙ ap (λ l. bit l place) same ∙ e)
+        (sym (bit-tabulated (length m.rows) _ place (omega (arith, place_within set place e, fits))) ∙ ap (λ l. bit l place) same ∙ e)
       where
         both : List Bool
-        both = told (length m.rows) (λ r. bit set r && bit kept r)
+        both = tabulated (length m.rows) (λ r. bit set r && bit kept r)
 
         size_both : length both ≡ length m.rows
-        size_both = length-told (length m.rows) _
+        size_both = length-tabulated (length m.rows) _
 
         first : (a b : Bool) → a && b ≡ true → a ≡ true
         first true b e = refl
@@ -95,10 +95,10 @@ module _ (m only : BitMatrix) (kept : List Bool) (size : length kept ≡ length 
         same : both ≡ set
         same =
             solves.minimal both (size_both ∙ sym is.height)
-            (λ r b. first (bit set r) (bit kept r) (sym (bit-told (length m.rows) _ r (omega (arith, place_within both r b, size_both))) ∙ b))
+            (λ r b. first (bit set r) (bit kept r) (sym (bit-tabulated (length m.rows) _ r (omega (arith, place_within both r b, size_both))) ∙ b))
             (ap (λ n. sum_of_rows n only.rows both) is.columns
             ∙ sums_same m.columns only.rows only.rows both set refl (size_both ∙ sym is.height) solves.one_for_each_row
-            (λ r lt. ap (λ b. if b then row_at only r else zeros m.columns) (bit-told (length m.rows) _ r (omega (arith, lt, is.height)))
+            (λ r lt. ap (λ b. if b then row_at only r else zeros m.columns) (bit-tabulated (length m.rows) _ r (omega (arith, lt, is.height)))
             ∙ adds (bit set r) (bit kept r) (row_at m r) (row_at only r) (is.rows r (omega (arith, lt, is.height))))
             ∙ ap (λ n. sum_of_rows n only.rows set) (sym is.columns)
             ∙ solves.sum)
@@ -135,7 +135,7 @@ one_more_row m only set row n is e = record {
 
 -- the first c bits of a row
 abbrev pub first_bits : ℕ → List Bool → ℕ → List Bool
-first_bits columns row c = told columns (λ place. ltb place c && bit row place)
+first_bits columns row c = tabulated columns (λ place. ltb place c && bit row place)
 
 -- the matrix with one more row
 abbrev pub with_last : BitMatrix → List Bool → BitMatrix
@@ -146,15 +146,15 @@ abbrev pub with_copied : BitMatrix → List Bool → ℕ → BitMatrix
 with_copied m row c = with_last m (first_bits m.columns row c)
 
 pub no_bits : (columns : ℕ) (row : List Bool) → first_bits columns row 0 ≡ zeros columns
-no_bits columns row = told-unset columns (λ k. ltb k 0 && bit row k) (λ k. ap (λ p. p && bit row k) (le-ltb k 0 (omega arith)))
+no_bits columns row = tabulated-unset columns (λ k. ltb k 0 && bit row k) (λ k. ap (λ p. p && bit row k) (le-ltb k 0 (omega arith)))
 
 pub all_bits : (columns : ℕ) (row : List Bool) → length row ≡ columns → first_bits columns row columns ≡ row
 all_bits columns row size =
-    told-same columns _ (bit row) (λ k lt. ap (λ b. b && bit row k) (lt-ltb k columns lt)) ∙ told-bits row columns size
+    tabulated-same columns _ (bit row) (λ k lt. ap (λ b. b && bit row k) (lt-ltb k columns lt)) ∙ tabulated-bits row columns size
 
 -- a place further is read as well
 pub more_bits : (columns : ℕ) (row : List Bool) (c : ℕ) → bit row c ≡ true → flipped (first_bits columns row c) c ≡ first_bits columns row (c + 1)
-more_bits columns row c set = flipped-told columns _ c ∙ told-same columns _ _ (λ k lt. at k)
+more_bits columns row c set = flipped-tabulated columns _ c ∙ tabulated-same columns _ _ (λ k lt. at k)
   where
     at : (k : ℕ) → xor (ltb k c && bit row k) (eqb k c) ≡ ltb k (c + 1) && bit row k
     at k = elim (cases_lt k c) [
@@ -180,7 +180,7 @@ copied_more m old new row c last at was is set =
     ∙ ap (with_last m) (more_bits m.columns row c set)
 
 pub unset_more : (columns : ℕ) (row : List Bool) (c : ℕ) → bit row c ≡ false → first_bits columns row c ≡ first_bits columns row (c + 1)
-unset_more columns row c unset = told-same columns _ _ (λ k lt. at k)
+unset_more columns row c unset = tabulated-same columns _ _ (λ k lt. at k)
   where
     at : (k : ℕ) → ltb k c && bit row k ≡ ltb k (c + 1) && bit row k
     at k = elim (cases_eq k c) [

@@ -20,7 +20,7 @@ use Rattle.circuit_laws.proofs.Keeping.{exchange_formed_back}
 use Rattle.circuit_laws.proofs.Wires.{exchange_peels}
 use Rattle.circuit_laws.proofs.GateLists.{exchange_on}
 use Rattle.zx_extract.specs.Internal.Lists.{with_outputs, in_line}
-use Rattle.zx_extract.specs.Internal.Leading.{State, Leads, IsReady, IsFrontier}
+use Rattle.zx_extract.specs.Internal.Leading.{Remainder, Leads, IsReady, IsFrontier}
 use Rattle.zx_extract.specs.Internal.Steps.{IsUncrossed}
 use Rattle.zx_extract.proofs.Leads.{leads_same, leads_nothing, leads_then, leads_within}
 use Rattle.circuit_laws.proofs.Places.{plain_end}
@@ -91,7 +91,7 @@ slice_get-plain [] i w h = cc
 slice_get-plain (u ∷ us) nought w h = let same : u ≡ w = cc in ap (λ x. Some (plain x)) same
 slice_get-plain (u ∷ us) (suc i) w h = slice_get-plain us i w h
 
-module _ (s : State) (r : IsReady s) (f : IsFrontier s.graph) (none : s.table ≡ [])
+module _ (s : Remainder) (r : IsReady s) (f : IsFrontier s.graph) (none : s.table ≡ [])
     (ends : length s.graph.inputs ≡ length s.graph.outputs) where
   all : (v : ℕ) → Live s.graph v → (member v (end_vertices s.graph.inputs) ≡ true) ×
       (member v (end_vertices s.graph.outputs) ≡ true)

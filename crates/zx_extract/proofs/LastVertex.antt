@@ -17,12 +17,12 @@ use Rattle.gflow_laws.proofs.LastLaws.{last_listed, last_corrects, last_of_graph
 use Rattle.circuit_laws.specs.Peeling.{HasPlainOutput}
 use Rattle.circuit_laws.proofs.Places.{member-places}
 use Rattle.zx_extract.specs.Internal.Lists.{last_set}
-use Rattle.zx_extract.specs.Internal.Leading.{State, IsReady, IsFrontier}
+use Rattle.zx_extract.specs.Internal.Leading.{Remainder, IsReady, IsFrontier}
 use Rattle.zx_extract.specs.Internal.Steps.{HasLast, HasNoOutput, HasOneOutput}
 use Rattle.zx_extract.proofs.Places.{place_of_output, one_vertex}
 use Rattle.zx_extract.proofs.Lasts.{last_set-entry}
 
-module _ {s : State} {v : ℕ} (r : IsReady s) (f : IsFrontier s.graph) (last : HasLast s.table v) where
+module _ {s : Remainder} {v : ℕ} (r : IsReady s) (f : IsFrontier s.graph) (last : HasLast s.table v) where
   flow : IsFlow s.graph (last.before ++ last.entry ∷ [])
   flow = subst (IsFlow s.graph) last.split r.given.flow
 

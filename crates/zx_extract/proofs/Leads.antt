@@ -10,11 +10,11 @@ use Rattle.zx_gates.specs.declared.gate.Gate.{Gate}
 use Rattle.gflow_laws.specs.Flow.{Correction}
 use Rattle.circuit_laws.specs.Followed.{PeelsAt}
 use Rattle.circuit_laws.proofs.Composing.{peels_nothing, peels_at_then}
-use Rattle.zx_extract.specs.Internal.Leading.{State, Leads}
+use Rattle.zx_extract.specs.Internal.Leading.{Remainder, Leads}
 use Rattle.zx_model.proofs.Powers.{power_of_two-add}
 use Rattle.zx_gates.proofs.LoweringLemmas.{gate_odd_phases-append}
 
-unfoldable pub leads_nothing : (s : State) → Leads s 0 0 0 s
+unfoldable pub leads_nothing : (s : Remainder) → Leads s 0 0 0 s
 leads_nothing s = record {
   taken = [];
   gates = refl;
@@ -30,7 +30,7 @@ leads_nothing s = record {
   outputs = refl;
 }
 
-unfoldable pub leads_then : (s : State) (k p q : ℕ) (t : State) (l p' q' : ℕ) (u : State) → Leads s k p q t → Leads t l p' q' u →
+unfoldable pub leads_then : (s : Remainder) (k p q : ℕ) (t : Remainder) (l p' q' : ℕ) (u : Remainder) → Leads s k p q t → Leads t l p' q' u →
     Leads s (k + l) (p + p') (q + q') u
 leads_then s k p q t l p' q' u a b = record {
   taken = b.taken ++ a.taken;
@@ -60,7 +60,7 @@ leads_then s k p q t l p' q' u a b = record {
     both_gone x y z p q e f = omega arith
 
 -- within a larger bound; the flow plays no part
-unfoldable pub leads_within : (s : State) (k p q l : ℕ) (t : State) {table : List Correction} → k ≤ l → Leads s k p q t →
+unfoldable pub leads_within : (s : Remainder) (k p q l : ℕ) (t : Remainder) {table : List Correction} → k ≤ l → Leads s k p q t →
     Leads s l p q (record t { table = table })
 leads_within s k p q l t within a = record {
   taken = a.taken;
@@ -81,7 +81,7 @@ leads_within s k p q l t within a = record {
     at_most a k l e f = omega arith
 
 -- gates that cost no number, where as many vertices of each kind are left
-pub leads_same : (s t : State) (k : ℕ) (taken : List Gate) → t.gates ≡ taken ++ s.gates →
+pub leads_same : (s t : Remainder) (k : ℕ) (taken : List Gate) → t.gates ≡ taken ++ s.gates →
     PeelsAt one s.graph taken t.graph →
     odd_phases t.graph + gate_odd_phases taken ≤ odd_phases s.graph → All (IsOnQubits (length s.graph.outputs)) taken →
     length taken ≤ k →

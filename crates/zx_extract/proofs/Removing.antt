@@ -34,7 +34,7 @@ use Rattle.circuit_laws.proofs.Counts.{gadget_odd, linked_gadget_odd}
 use Rattle.circuit_laws.proofs.Gadgets.{gadget_peels, linked_gadget_peels}
 use Rattle.circuit_laws.proofs.GateLists.{gadget_on_outputs, linked_gadget_on_outputs, gadget_few, linked_gadget_few}
 use Rattle.zx_extract.specs.Internal.Lists.{legs_of}
-use Rattle.zx_extract.specs.Internal.Leading.{State, Leads, IsReady, IsFrontier}
+use Rattle.zx_extract.specs.Internal.Leading.{Remainder, Leads, IsReady, IsFrontier}
 use Rattle.zx_extract.specs.Internal.Steps.{IsGadgetTaken, IsLinkedGadgetTaken, HasLast, AreLegs}
 use Rattle.zx_extract.proofs.Lasts.{one_shorter}
 use Rattle.zx_extract.proofs.Legs.{legs_as_many}
@@ -43,7 +43,7 @@ use Rattle.zx_extract.proofs.LastVertex.{last_no_output}
 use Rattle.zx_extract.proofs.WithoutVertex.{stays, ids_left, phase_left, plane_left, planes_left}
 
 -- t is s without its last vertex v, which is in the YZ plane
-pub record IsWithoutLast (s : State) (v : ℕ) (t : State) : Type 0 where
+pub record IsWithoutLast (s : Remainder) (v : ℕ) (t : Remainder) : Type 0 where
   pub ready : IsReady s
   pub frontier : IsFrontier s.graph
   pub last : HasLast s.table v
@@ -52,7 +52,7 @@ pub record IsWithoutLast (s : State) (v : ℕ) (t : State) : Type 0 where
   pub formed : WellFormed t.graph
   pub table : SameSets t.table (last_removed_table last.entry last.before)
 
-module _ {s t : State} {v : ℕ} (a : IsWithoutLast s v t) where
+module _ {s t : Remainder} {v : ℕ} (a : IsWithoutLast s v t) where
   there : Live s.graph v
   there = YZ_live s.graph.vertices v a.plane
 
@@ -152,7 +152,7 @@ module _ {s t : State} {v : ℕ} (a : IsWithoutLast s v t) where
       none_gone x y e = omega arith
 
 -- ---- a gadget on outputs
-module _ {s t : State} {v : ℕ} {qubits : List ℕ} (r : IsReady s) (f : IsFrontier s.graph)
+module _ {s t : Remainder} {v : ℕ} {qubits : List ℕ} (r : IsReady s) (f : IsFrontier s.graph)
     (a : IsGadgetTaken s v qubits t) where
   pub gadget_gone : IsWithoutLast s v t
   gadget_gone = record {
@@ -174,7 +174,7 @@ module _ {s t : State} {v : ℕ} {qubits : List ℕ} (r : IsReady s) (f : IsFron
       (omega (arith, gadget_few (phase_of s.graph v) qubits, legs_as_many s.graph v qubits legs))
 
 -- ---- a gadget through an output
-module _ {s t : State} {v q : ℕ} {qubits : List ℕ} (r : IsReady s) (f : IsFrontier s.graph)
+module _ {s t : Remainder} {v q : ℕ} {qubits : List ℕ} (r : IsReady s) (f : IsFrontier s.graph)
     (a : IsLinkedGadgetTaken s v q qubits t) where
   pub linked_gone : IsWithoutLast s v t
   linked_gone = record {

@@ -12,7 +12,7 @@ use Rattle.gflow_laws.proofs.Lists.{is_in-one}
 use Rattle.zx_gates.specs.declared.gate.Gate.TheVariants.{Cx}
 use Rattle.circuit_laws.specs.Peeling.{HasPlainOutput}
 use Rattle.circuit_laws.proofs.Places.{output_there}
-use Rattle.zx_extract.specs.Internal.Leading.{State, IsReady, IsFrontier}
+use Rattle.zx_extract.specs.Internal.Leading.{Remainder, IsReady, IsFrontier}
 use Rattle.zx_extract.specs.Internal.Steps.{IsRowAdded}
 use Rattle.zx_extract.proofs.Places.{one_output}
 
@@ -23,9 +23,9 @@ one_live g t v one wf at_t is p there =
     subst (Live g) (sym (eqb-true p v (sym (ap (member p) is ∙ is_in-one v p) ∙ there)))
     (output_there g t (plain v) wf at_t)
 
-module _ (s : State) (c t u v : ℕ) (r : IsReady s) (f : IsFrontier s.graph) (at_c : HasPlainOutput s.graph c u)
+module _ (s : Remainder) (c t u v : ℕ) (r : IsReady s) (f : IsFrontier s.graph) (at_c : HasPlainOutput s.graph c u)
     (at_t : HasPlainOutput s.graph t v) (n : c ≢ t) where
-  pub row_added_step : (g : Graph) (one row : List ℕ) (table : List Correction) (h : State) → one ≡ v ∷ [] →
+  pub row_added_step : (g : Graph) (one row : List ℕ) (table : List Correction) (h : Remainder) → one ≡ v ∷ [] →
       ((p : ℕ) → member p row ≡ joined s.graph.edges u p) → member u (end_vertices s.graph.inputs) ≡ false →
       IsToggled s.graph (across one row) g → SameSets table (row_added_table u v s.table) → h ≡ record {
         graph = g;

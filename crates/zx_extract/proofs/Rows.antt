@@ -26,7 +26,7 @@ use Rattle.circuit_laws.proofs.Counts.{same_vertices}
 use Rattle.circuit_laws.proofs.Rows.{row_peels}
 use Rattle.circuit_laws.proofs.GateLists.{row_on}
 use Rattle.zx_extract.specs.Internal.Lists.{last_set, others_below}
-use Rattle.zx_extract.specs.Internal.Leading.{State, Leads, IsReady, IsFrontier}
+use Rattle.zx_extract.specs.Internal.Leading.{Remainder, Leads, IsReady, IsFrontier}
 use Rattle.zx_extract.specs.Internal.Steps.{IsRowAdded, HasLast, IsPicked, AddsRows, IsGathered}
 use Rattle.zx_extract.proofs.Leads.{leads_same, leads_nothing, leads_then, leads_within}
 use Rattle.zx_extract.proofs.Counting.{as_many_XY, as_many_others}
@@ -38,7 +38,7 @@ use Rattle.std.proofs.lemmas.Option.{slice_get_within}
 pub same_sets_back : {table other : List Correction} → SameSets table other → SameSets other table
 same_sets_back same = record { order = sym same.order; members = λ v w. sym (same.members v w) }
 
-module _ (s : State) (c t : ℕ) (h : State) (r : IsReady s) (f : IsFrontier s.graph) (a : IsRowAdded s c t h) where
+module _ (s : Remainder) (c t : ℕ) (h : Remainder) (r : IsReady s) (f : IsFrontier s.graph) (a : IsRowAdded s c t h) where
   at_output : (q u : ℕ) → HasPlainOutput s.graph q u → member u (end_vertices s.graph.outputs) ≡ true
   at_output q u o = member-places s.graph.outputs q (plain u) o
 
@@ -137,7 +137,7 @@ module _ (s : State) (c t : ℕ) (h : State) (r : IsReady s) (f : IsFrontier s.g
 pub others_below-more : (q i : ℕ) → i ≢ q → others_below q i + 1 ≤ others_below q (i + 1)
 others_below-more q i n = grind (arith, nat_tests)
 
-pub adds_nothing : (s : State) (k : ℕ) → IsReady s → IsFrontier s.graph → AddsRows s k s
+pub adds_nothing : (s : Remainder) (k : ℕ) → IsReady s → IsFrontier s.graph → AddsRows s k s
 adds_nothing s k r f = record {
   leads = leads_within s 0 0 0 k s (omega arith) (leads_nothing s);
   ready = r;
@@ -147,7 +147,7 @@ adds_nothing s k r f = record {
   ends = refl;
 }
 
-pub adds_row : (s : State) (k l : ℕ) (t : State) (c q : ℕ) (h : State) → k + 1 ≤ l → AddsRows s k t → IsRowAdded t c q h →
+pub adds_row : (s : Remainder) (k l : ℕ) (t : Remainder) (c q : ℕ) (h : Remainder) → k + 1 ≤ l → AddsRows s k t → IsRowAdded t c q h →
     AddsRows s l h
 adds_row s k l t c q h within b a = record {
   leads = leads_within s (k + 1) 0 0 l h within
@@ -159,7 +159,7 @@ adds_row s k l t c q h within b a = record {
   ends = sym a.row.frame.outputs ∙ b.ends;
 }
 
-pub gathered_nothing : (s : State) (q : ℕ) → IsReady s → IsFrontier s.graph → IsPicked s q → IsGathered s q 0 s
+pub gathered_nothing : (s : Remainder) (q : ℕ) → IsReady s → IsFrontier s.graph → IsPicked s q → IsGathered s q 0 s
 gathered_nothing s q r f picked = record {
   rows = adds_nothing s (others_below q 0) r f;
   itself = picked.there;
@@ -167,7 +167,7 @@ gathered_nothing s q r f picked = record {
 }
 
 -- one more output, whose row was added
-pub gathered_row : (s : State) (q i v : ℕ) (t h : State) → IsGathered s q i t → HasLast s.table v → i ≢ q → (u : ℕ) →
+pub gathered_row : (s : Remainder) (q i v : ℕ) (t h : Remainder) → IsGathered s q i t → HasLast s.table v → i ≢ q → (u : ℕ) →
     HasPlainOutput t.graph i u → last_set t.table u ≡ true →
     IsRowAdded t i q h → IsGathered s q (i + 1) h
 gathered_row s q i v t h g last n u o there a = record {
@@ -194,7 +194,7 @@ gathered_row s q i v t h g last n u o there a = record {
     to_there = g.itself a.row.to a.row.output_too
 
 -- what is left when all outputs were seen
-pub gathered_all : (s : State) (q : ℕ) (t : State) → IsGathered s q (length s.graph.outputs) t → (p u : ℕ) →
+pub gathered_all : (s : Remainder) (q : ℕ) (t : Remainder) → IsGathered s q (length s.graph.outputs) t → (p u : ℕ) →
     HasPlainOutput t.graph p u → last_set t.table u ≡ eqb p q
 gathered_all s q t g p u o = by_equal p q
     (λ e same. g.itself u (subst (λ k. HasPlainOutput t.graph k u) same o) ∙ sym e)

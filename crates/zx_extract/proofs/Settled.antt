@@ -31,14 +31,14 @@ use Rattle.circuit_laws.proofs.Counts.{same_vertices}
 use Rattle.circuit_laws.proofs.Settling.{mark_peels, edge_peels}
 use Rattle.circuit_laws.proofs.GateLists.{mark_on, edge_on, cleared_on, gadget_on-few}
 use Rattle.circuit_laws.proofs.Taken.{phase_cleared_formed, phase_cleared_zero, cleared_gates, cleared_odd}
-use Rattle.zx_extract.specs.Internal.Leading.{State, Leads, IsGiven, IsReady, Settles}
+use Rattle.zx_extract.specs.Internal.Leading.{Remainder, Leads, IsGiven, IsReady, Settles}
 use Rattle.zx_extract.specs.Internal.Steps.{IsMarkTaken, IsPhaseTaken, IsEdgeTaken}
 use Rattle.zx_extract.proofs.Places.{one_vertex}
 use Rattle.zx_extract.proofs.Leads.{leads_same, leads_nothing, leads_then, leads_within}
 use Rattle.zx_extract.proofs.Counting.{as_many_XY, as_many_others, as_many_XY_cleared, as_many_others_cleared, plane-cleared}
 
 -- a graph that a flow sees alike
-given_seen : (s t : State) → IsGiven s → WellFormed t.graph → ids t.graph.vertices ≡ ids s.graph.vertices →
+given_seen : (s t : Remainder) → IsGiven s → WellFormed t.graph → ids t.graph.vertices ≡ ids s.graph.vertices →
     ((v : ℕ) → plane_of t.graph v ≡ plane_of s.graph v) →
     t.graph.edges ≡ s.graph.edges → end_vertices t.graph.inputs ≡ end_vertices s.graph.inputs →
     end_vertices t.graph.outputs ≡ end_vertices s.graph.outputs → t.table ≡ s.table → IsGiven t
@@ -52,7 +52,7 @@ given_seen s t r w same_ids planes edges inputs outputs table = record {
 }
 
 -- ---- a mark
-module _ (s : State) (q : ℕ) (t : State) (r : IsGiven s) (c : IsMarkTaken s q t) where
+module _ (s : Remainder) (q : ℕ) (t : Remainder) (r : IsGiven s) (c : IsMarkTaken s q t) where
   same_places : end_vertices t.graph.outputs ≡ end_vertices s.graph.outputs
   same_places = ap end_vertices c.peel.outputs ∙ places-same s.graph.outputs q (marked c.peel.vertex)
       (plain c.peel.vertex) c.peel.output refl
@@ -74,7 +74,7 @@ module _ (s : State) (q : ℕ) (t : State) (r : IsGiven s) (c : IsMarkTaken s q 
       (as_many_others s.graph t.graph (sym c.peel.vertices)) (sym c.peel.inputs)
 
 -- ---- settling
-pub settles_nothing : (s : State) → IsReady s → Settles s 0 s
+pub settles_nothing : (s : Remainder) → IsReady s → Settles s 0 s
 settles_nothing s r = record {
   leads = leads_nothing s;
   ready = r;
@@ -85,7 +85,7 @@ settles_nothing s r = record {
   edges = λ u v e. e;
 }
 
-pub settles_then : (s : State) (k : ℕ) (t : State) (l : ℕ) (u : State) → Settles s k t → Settles t l u →
+pub settles_then : (s : Remainder) (k : ℕ) (t : Remainder) (l : ℕ) (u : Remainder) → Settles s k t → Settles t l u →
     Settles s (k + l) u
 settles_then s k t l u a b = record {
   leads = leads_then s k 0 0 t l 0 0 u a.leads b.leads;
@@ -96,7 +96,7 @@ settles_then s k t l u a b = record {
   edges = λ v w e. b.edges v w (a.edges v w e);
 }
 
-pub settles_within : (s : State) (k l : ℕ) (t : State) → k ≤ l → Settles s k t → Settles s l t
+pub settles_within : (s : Remainder) (k l : ℕ) (t : Remainder) → k ≤ l → Settles s k t → Settles s l t
 settles_within s k l t within a = record {
   leads = leads_within s k 0 0 l t within a.leads;
   ready = a.ready;
@@ -133,7 +133,7 @@ phases-cleared u (v ∷ vs) p h = at (eqb p v.id) (phases-cleared u vs p) h
     at true again e = here (eqb v.id u) e
     at false again e = again e
 
-module _ (s : State) (q : ℕ) (t : State) (r : IsReady s) (c : IsPhaseTaken s q t) where
+module _ (s : Remainder) (q : ℕ) (t : Remainder) (r : IsReady s) (c : IsPhaseTaken s q t) where
   phase_ready : IsReady t
   phase_ready = record {
     given = given_seen s t r.given (phase_cleared_formed s.graph q t.graph r.given.well_formed c.cleared)
@@ -177,7 +177,7 @@ left_over old true true e f h = absurd (true≢false (sym (h refl) ∙ f))
 left_over old true false e f h = sym (sym f ∙ e)
 left_over old false b e f h = refl
 
-module _ (s : State) (p q : ℕ) (t : State) (r : IsReady s) (c : IsEdgeTaken s p q t) where
+module _ (s : Remainder) (p q : ℕ) (t : Remainder) (r : IsReady s) (c : IsEdgeTaken s p q t) where
   edge_formed : WellFormed t.graph
   edge_formed = edge_formed_back s.graph p q t.graph r.given.well_formed c.peel
 

@@ -8,7 +8,7 @@ use Rattle.zx_calculus.proofs.Ids.{by_test, by_equal}
 use Rattle.zx_calculus.proofs.Edges.{joined_comm}
 use Rattle.zx_calculus.proofs.Splitting.{no_loop}
 use Rattle.circuit_laws.specs.Peeling.{HasPlainOutput}
-use Rattle.zx_extract.specs.Internal.Leading.{State, AreApart, Leads, IsReady, IsFrontier, IsSettled, Settles}
+use Rattle.zx_extract.specs.Internal.Leading.{Remainder, AreApart, Leads, IsReady, IsFrontier, IsSettled, Settles}
 use Rattle.zx_extract.specs.Internal.Steps.{IsSettling, IsPhaseTaken, IsUnjoined}
 use Rattle.zx_extract.specs.Internal.Lists.{others_below}
 use Rattle.zx_extract.proofs.Settled.{phase_settles, phase_gone, settles_nothing, settles_then, settles_within}
@@ -25,7 +25,7 @@ settled_fewer g picked fewer among s = record {
   apart = λ p q t t' u v o i. s.apart p q (among p u t o) (among q v t' i) u v o i;
 }
 
-pub settled_more : (s : State) (q end : ℕ) (t : State) (picked : ℕ → Bool) →
+pub settled_more : (s : Remainder) (q end : ℕ) (t : Remainder) (picked : ℕ → Bool) →
     ((p u : ℕ) → picked p ≡ true → HasPlainOutput s.graph p u → p < end) →
     IsSettled s.graph picked → IsSettling s q end t → IsSettled t.graph (λ p. picked p || eqb p q)
 settled_more s q end t picked below before c = record { phase = phase; apart = apart }
@@ -63,7 +63,7 @@ settled_none g = record { phase = λ p u h. absurd (none p h); apart = λ p q h.
     none : (p : ℕ) → ltb p 0 ≡ true → ⊥
     none p h = let below : p < 0 = ltb-true p 0 h in omega arith
 
-pub settled_next : (s : State) (q : ℕ) (t : State) → IsSettled s.graph (λ p. ltb p q) → IsSettling s q q t →
+pub settled_next : (s : Remainder) (q : ℕ) (t : Remainder) → IsSettled s.graph (λ p. ltb p q) → IsSettling s q q t →
     IsSettled t.graph (λ p. ltb p (q + 1))
 settled_next s q t before c =
     settled_fewer t.graph (λ p. ltb p q || eqb p q) (λ p. ltb p (q + 1)) (λ p u h o. among p h)
@@ -79,7 +79,7 @@ settled_all g n e s = settled_fewer g (λ p. ltb p n) (λ p. true)
     (λ p u _ o. lt-ltb p n (subst (λ k. p < k) (sym e) (slice_get_within g.outputs p (plain u) o))) s
 
 -- the last output after the others
-pub settled_whole : (s : State) (q : ℕ) (t : State) → IsSettled s.graph (λ p. not (eqb p q)) →
+pub settled_whole : (s : Remainder) (q : ℕ) (t : Remainder) → IsSettled s.graph (λ p. not (eqb p q)) →
     IsSettling s q (length s.graph.outputs) t → IsFrontier t.graph
 settled_whole s q t before c =
     settled_fewer t.graph (λ p. not (eqb p q) || eqb p q) (λ p. true) (λ p u _ o. either (eqb p q))
@@ -105,7 +105,7 @@ pairs_all k (suc m) few =
     halved k x e = omega arith
 
 -- ---- the phase of an output, and then its edges
-pub settling_is : (s : State) (q end : ℕ) (t u : State) → IsReady s → IsPhaseTaken s q t →
+pub settling_is : (s : Remainder) (q end : ℕ) (t u : Remainder) → IsReady s → IsPhaseTaken s q t →
     Settles t (others_below q end) u →
     ((r : ℕ) → r < end → AreApart u.graph q r) → IsSettling s q end u
 settling_is s q end t u r phase settles apart = record {
@@ -118,33 +118,33 @@ pub others_below-step : (q r : ℕ) → others_below q r + one_if (not (eqb q r)
 others_below-step q r = grind (arith, nat_tests)
 
 -- one more edge
-pub edges_next : (s : State) (q r : ℕ) (t u : State) → Settles s (others_below q r) t → IsUnjoined t q r u →
+pub edges_next : (s : Remainder) (q r : ℕ) (t u : Remainder) → Settles s (others_below q r) t → IsUnjoined t q r u →
     Settles s (others_below q (r + 1)) u
 edges_next s q r t u a b =
     settles_within s (others_below q r + one_if (not (eqb q r))) (others_below q (r + 1)) u (others_below-step q r)
     (settles_then s (others_below q r) t (one_if (not (eqb q r))) u a b.settles)
 
-pub apart_next : (q r : ℕ) (t u : State) → IsUnjoined t q r u →
+pub apart_next : (q r : ℕ) (t u : Remainder) → IsUnjoined t q r u →
     ((p : ℕ) → p < r → AreApart t.graph q p) → (p : ℕ) → p < r + 1 → AreApart u.graph q p
 apart_next q r t u b before p within v w o i = by_equal p r
     (λ _ e. b.apart v w o (subst (λ k. HasPlainOutput u.graph k w) e i))
     (λ _ n. b.settles.edges v w (before p (omega arith) v w (ap (λ es. slice_get es q) (sym b.settles.outputs) ∙ o)
     (ap (λ es. slice_get es p) (sym b.settles.outputs) ∙ i)))
 
-pub edges_nothing : (s : State) (q : ℕ) → IsReady s → Settles s (others_below q 0) s
+pub edges_nothing : (s : Remainder) (q : ℕ) → IsReady s → Settles s (others_below q 0) s
 edges_nothing s q r = settles_within s 0 (others_below q 0) s (omega arith) (settles_nothing s r)
 
 -- ---- all outputs, with a gate for each and one for each pair
-abbrev pub SettlesSome : State → ℕ → State → Type 0
+abbrev pub SettlesSome : Remainder → ℕ → Remainder → Type 0
 SettlesSome s q t = (k : ℕ) × (2 * k + q ≤ q * q) × Leads s (k + q) 0 0 t
 
-pub all_nothing : (s : State) → SettlesSome s 0 s
+pub all_nothing : (s : Remainder) → SettlesSome s 0 s
 all_nothing s = (0, omega arith, leads_nothing s)
 
 others_below-same : (q : ℕ) → others_below q q ≡ q
 others_below-same q = grind (arith, nat_tests)
 
-pub all_next : (s : State) (q : ℕ) (t u : State) → SettlesSome s q t → IsSettling t q q u → SettlesSome s (q + 1) u
+pub all_next : (s : Remainder) (q : ℕ) (t u : Remainder) → SettlesSome s q t → IsSettling t q q u → SettlesSome s (q + 1) u
 all_next s q t u a c = (
   a.0 + q,
   pairs_next a.0 q a.1,
@@ -152,7 +152,7 @@ all_next s q t u a c = (
       (leads_then s (a.0 + q) 0 0 t (1 + others_below q q) 0 0 u a.2 c.settles.leads),
 )
 
-pub all_leads : (s : State) (q n : ℕ) (t : State) → q ≡ n → SettlesSome s q t → Leads s (n * (n - 1) / 2 + n) 0 0 t
+pub all_leads : (s : Remainder) (q n : ℕ) (t : Remainder) → q ≡ n → SettlesSome s q t → Leads s (n * (n - 1) / 2 + n) 0 0 t
 all_leads s q n t e a =
     let pairs : a.0 ≤ n * (n - 1) / 2 = pairs_all a.0 n (subst (λ m. 2 * a.0 + m ≤ m * m) e a.1) in
     leads_within s (a.0 + q) 0 0 (n * (n - 1) / 2 + n) t (sum_of a.0 (n * (n - 1) / 2) q n pairs e) a.2

@@ -11,7 +11,7 @@ use Rattle.zx_calculus.proofs.Edges.{joined_comm}
 use Rattle.circuit_laws.specs.Peeling.{HasPlainOutput}
 use Rattle.circuit_laws.proofs.Places.{member-places}
 use Rattle.zx_extract.specs.Internal.Lists.{last_set, legs_of}
-use Rattle.zx_extract.specs.Internal.Leading.{State, IsReady, IsFrontier}
+use Rattle.zx_extract.specs.Internal.Leading.{Remainder, IsReady, IsFrontier}
 use Rattle.zx_extract.specs.Internal.Steps.{IsRowAdded, HasLast, IsSpareLeg, HasNoSpareLeg, AreLegsFree, TakesLegs, IsLegShared, HasOneLegOrInputs}
 use Rattle.zx_extract.proofs.Places.{one_vertex}
 use Rattle.zx_extract.proofs.Lasts.{keeps_last}
@@ -19,13 +19,13 @@ use Rattle.zx_extract.proofs.LastVertex.{last_no_output}
 use Rattle.zx_extract.proofs.Legs.{member-legs, filter-less}
 use Rattle.zx_extract.proofs.Rows.{edges_are, row_last, adds_nothing, adds_row}
 
-at_leg : (s : State) (v q u : ℕ) → HasPlainOutput s.graph q u → joined s.graph.edges v u ≡ true →
+at_leg : (s : Remainder) (v q u : ℕ) → HasPlainOutput s.graph q u → joined s.graph.edges v u ≡ true →
     member u (legs_of s.graph v) ≡ true
 at_leg s v q u o near = member-legs s.graph v u
     ∙ ap₂ (λ a b. a && b) (member-places s.graph.outputs q (plain u) o) near
 
 -- ---- one row
-module _ (t : State) (v z l : ℕ) (h : State) (r : IsReady t) (f : IsFrontier t.graph) (last : HasLast t.table v)
+module _ (t : Remainder) (v z l : ℕ) (h : Remainder) (r : IsReady t) (f : IsFrontier t.graph) (last : HasLast t.table v)
     (free : AreLegsFree t v) (spare : IsSpareLeg t.graph v z) (a : IsRowAdded t z l h)
     (near : joined t.graph.edges v a.row.to ≡ true) where
   to_leg : member a.row.to (legs_of t.graph v) ≡ true
@@ -85,7 +85,7 @@ module _ (t : State) (v z l : ℕ) (h : State) (r : IsReady t) (f : IsFrontier t
   }
 
 -- ---- all rows
-pub takes_nothing : (s : State) (v : ℕ) → IsReady s → IsFrontier s.graph → AreLegsFree s v → TakesLegs s v s
+pub takes_nothing : (s : Remainder) (v : ℕ) → IsReady s → IsFrontier s.graph → AreLegsFree s v → TakesLegs s v s
 takes_nothing s v r f free = record {
   count = 0;
   rows = adds_nothing s _ r f;
@@ -94,7 +94,7 @@ takes_nothing s v r f free = record {
   free = free;
 }
 
-pub shared_nothing : (s : State) (v z : ℕ) → IsReady s → IsFrontier s.graph → AreLegsFree s v →
+pub shared_nothing : (s : Remainder) (v z : ℕ) → IsReady s → IsFrontier s.graph → AreLegsFree s v →
     IsSpareLeg s.graph v z → IsLegShared s v z 0 s
 shared_nothing s v z r f free spare = record {
   taken = takes_nothing s v r f free;
@@ -102,11 +102,11 @@ shared_nothing s v z r f free spare = record {
   gone = λ p u within. absurd (omega arith);
 }
 
-module _ (s : State) (v z i : ℕ) (t : State) (c : IsLegShared s v z i t) (last : HasLast s.table v) where
+module _ (s : Remainder) (v z i : ℕ) (t : Remainder) (c : IsLegShared s v z i t) (last : HasLast s.table v) where
   pub shared_last : HasLast t.table v
   shared_last = keeps_last s.table t.table v c.taken.rows.order last
 
-  pub shared_row : (w : ℕ) (h : State) → HasPlainOutput t.graph i w → joined t.graph.edges v w ≡ true →
+  pub shared_row : (w : ℕ) (h : Remainder) → HasPlainOutput t.graph i w → joined t.graph.edges v w ≡ true →
       IsRowAdded t z i h → IsLegShared s v z (i + 1) h
   shared_row w h o near a = record {
     taken = record {
@@ -139,12 +139,12 @@ module _ (s : State) (v z i : ℕ) (t : State) (c : IsLegShared s v z i t) (last
       at_to = ap (joined t.graph.edges v) (one_vertex t.graph i a.row.to w a.row.output_too o) ∙ near
 
 -- each leg has an input
-pub none_one : (s : State) (v : ℕ) → HasNoSpareLeg s.graph v → HasOneLegOrInputs s.graph v
+pub none_one : (s : Remainder) (v : ℕ) → HasNoSpareLeg s.graph v → HasOneLegOrInputs s.graph v
 none_one s v none z p u spare o near =
     absurd (true≢false (sym (none z spare.leg spare.output spare.near) ∙ spare.no_input))
 
 -- one leg is left
-pub shared_all : (s : State) (v z : ℕ) (t : State) → IsLegShared s v z (length s.graph.outputs) t →
+pub shared_all : (s : Remainder) (v z : ℕ) (t : Remainder) → IsLegShared s v z (length s.graph.outputs) t →
     HasOneLegOrInputs t.graph v
 shared_all s v z t c x p u spare o near = only p u o near ∙ sym (only x spare.leg spare.output spare.near)
   where

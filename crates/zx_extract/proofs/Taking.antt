@@ -16,7 +16,7 @@ use Rattle.open_graph.specs.declared.plane.Plane.TheVariants.{XY, XZ, YZ}
 use Rattle.circuit_laws.specs.Peeling.{HasPlainOutput}
 use Rattle.circuit_laws.proofs.Places.{member-places}
 use Rattle.zx_extract.specs.Internal.Lists.{others_below, legs_of}
-use Rattle.zx_extract.specs.Internal.Leading.{State, Leads, IsReady, IsFrontier, IsTaken, cost_of}
+use Rattle.zx_extract.specs.Internal.Leading.{Remainder, Leads, IsReady, IsFrontier, AreTakenOff, cost_of}
 use Rattle.zx_extract.specs.Internal.Steps.{IsGathered, HasLast, HasNoOutput, HasOneOutput, AreLegs, AreLegsFree, TakesLegs, IsGadgetTaken, IsLinkedGadgetTaken, IsAdvanced, IsSettling}
 use Rattle.zx_extract.proofs.Lasts.{keeps_last, as_long}
 use Rattle.zx_extract.proofs.SettledOutputs.{settled_whole}
@@ -28,7 +28,7 @@ use Rattle.zx_extract.proofs.Advancing.{advanced_ready, advanced_leads, advanced
 use Rattle.zx_extract.proofs.Removing.{removed_ready, removed_frontier, removed_shorter, removed_leads, gadget_gone, gadget_leads, linked_gone, linked_leads}
 use Rattle.zx_extract.proofs.Leads.{leads_nothing, leads_then, leads_within}
 
-pub taken_nothing : (s : State) → IsReady s → IsFrontier s.graph → IsTaken 0 s s
+pub taken_nothing : (s : Remainder) → IsReady s → IsFrontier s.graph → AreTakenOff 0 s s
 unfolding leads_within leads_nothing
 taken_nothing s r f = record {
   spiders = 0;
@@ -42,7 +42,7 @@ taken_nothing s r f = record {
 cost-add : (n p q p' q' : ℕ) → (2 * n * p + 3 * n * q) + (2 * n * p' + 3 * n * q') ≤ 2 * n * (p + p') + 3 * n * (q + q')
 cost-add n p q p' q' = omega (arith, mul-add (2 * n) p p', mul-add (3 * n) q q')
 
-pub taken_then : {d e : ℕ} (s t u : State) → IsTaken d s t → IsTaken e t u → IsTaken (d + e) s u
+pub taken_then : {d e : ℕ} (s t u : Remainder) → AreTakenOff d s t → AreTakenOff e t u → AreTakenOff (d + e) s u
 unfolding leads_within leads_then
 taken_then s t u a b = record {
   spiders = a.spiders + b.spiders;
@@ -59,8 +59,8 @@ others_of : (q n : ℕ) → q < n → others_below q n ≡ n - 1
 others_of q n within = ap (λ b. cond b (n - 1) n) (lt-ltb q n within)
 
 -- rows of legs are added, and a gadget on outputs goes
-pub taken_gadget : (s : State) (v : ℕ) (t u : State) → TakesLegs s v t → (leads : Leads t (2 * length (legs_of t.graph v)) 0 1 u) → leads.doublings ≡ 1 →
-    IsReady u → IsFrontier u.graph → IsTaken 1 s u
+pub taken_gadget : (s : Remainder) (v : ℕ) (t u : Remainder) → TakesLegs s v t → (leads : Leads t (2 * length (legs_of t.graph v)) 0 1 u) → leads.doublings ≡ 1 →
+    IsReady u → IsFrontier u.graph → AreTakenOff 1 s u
 unfolding leads_within leads_then
 taken_gadget s v t u legs leads one r f = record {
   spiders = 0;
@@ -76,10 +76,10 @@ taken_gadget s v t u legs leads one r f = record {
     cost n rows left legs e f = omega arith
 
 -- rows are gathered at an output, rows of legs are added, and a gadget goes through the output
-pub taken_linked : (s : State) (q v : ℕ) (t u w : State) → q < length s.graph.outputs →
+pub taken_linked : (s : Remainder) (q v : ℕ) (t u w : Remainder) → q < length s.graph.outputs →
     IsGathered s q (length s.graph.outputs) t → length (legs_of t.graph v) + 1 ≤ length t.graph.outputs →
     TakesLegs t v u → (leads : Leads u (2 * length (legs_of u.graph v) + 3) 0 1 w) → leads.doublings ≡ 0 → IsReady w →
-    IsFrontier w.graph → IsTaken 0 s w
+    IsFrontier w.graph → AreTakenOff 0 s w
 unfolding leads_within leads_then
 taken_linked s q v t u w within g fewer legs leads none r f = record {
   spiders = 0;
@@ -98,10 +98,10 @@ taken_linked s q v t u w within g fewer legs leads none r f = record {
     cost n others rows left legs within e f g = omega arith
 
 -- rows are gathered at an output, an XY vertex takes its place, and is settled there
-pub taken_spider : (s : State) (q : ℕ) (t u w : State) → q < length s.graph.outputs →
+pub taken_spider : (s : Remainder) (q : ℕ) (t u w : Remainder) → q < length s.graph.outputs →
     IsGathered s q (length s.graph.outputs) t →
     Leads t 1 1 0 u → Leads u (1 + others_below q (length u.graph.outputs)) 0 0 w → IsReady w → IsFrontier w.graph →
-    IsTaken 0 s w
+    AreTakenOff 0 s w
 taken_spider s q t u w within g advanced settled r f =
     let whole : Leads s (cost_of (length s.graph.outputs) 1 0) 1 0 w =
     leads_within s _ 1 0 _ w (cost (length s.graph.outputs) _ within (others_of q _ within))
@@ -121,7 +121,7 @@ taken_spider s q t u w within g advanced settled r f =
 
 -- ---- the steps
 -- the last vertex after rows of legs were added
-module _ {s t : State} {v : ℕ} (last : HasLast s.table v) (legs : TakesLegs s v t) where
+module _ {s t : Remainder} {v : ℕ} (last : HasLast s.table v) (legs : TakesLegs s v t) where
   pub legs_last : HasLast t.table v
   legs_last = keeps_last s.table t.table v legs.rows.order last
 
@@ -134,15 +134,15 @@ module _ {s t : State} {v : ℕ} (last : HasLast s.table v) (legs : TakesLegs s 
   pub legs_plane : (plane : graph.Plane) → plane_of s.graph v ≡ plane → plane_of t.graph v ≡ plane
   legs_plane plane e = ap (λ vs. (kind_of vs v).plane) legs.rows.same ∙ e
 
-pub none_free : {s : State} (v : ℕ) → IsReady s → HasNoOutput s → AreLegsFree s v
+pub none_free : {s : Remainder} (v : ℕ) → IsReady s → HasNoOutput s → AreLegsFree s v
 none_free {s} v r none u there =
     let place : (p : ℕ) × HasPlainOutput s.graph p u =
     place_of_output s.graph.outputs u r.plain (and-left _ _ (sym (member-legs s.graph v u) ∙ there)) in
     none place.0 u place.1
 
-pub gadget_taken : {s t u : State} {v : ℕ} → TakesLegs s v t →
+pub gadget_taken : {s t u : Remainder} {v : ℕ} → TakesLegs s v t →
     ((qubits : List ℕ) × AreLegs t.graph v qubits × IsGadgetTaken t v qubits u) →
-    IsTaken 1 s u × (length u.table + 1 ≡ length s.table)
+    AreTakenOff 1 s u × (length u.table + 1 ≡ length s.table)
 unfolding gadget_leads removed_leads
 gadget_taken {s} {t} {u} {v} legs a =
     let gone = gadget_gone legs.rows.ready legs.rows.frontier a.2 in (
@@ -156,7 +156,7 @@ pub named_YZ : (g : graph.Graph) (v : ℕ) {k : ℕ} {named : Plane} → in_plan
 named_YZ g v weight e = sym (ap (λ (kind : graph.Kind). kind.plane) weight) ∙ ap plane_named e
 
 -- no vertex is in the XZ plane
-pub named_XY : {s : State} {k : ℕ} {named : Plane} (v : ℕ) → IsReady s → Live s.graph v →
+pub named_XY : {s : Remainder} {k : ℕ} {named : Plane} (v : ℕ) → IsReady s → Live s.graph v →
     in_plane (plane_named named) k ≡ kind_of s.graph.vertices v → named ≢ YZ → plane_of s.graph v ≡ graph.XY
 named_XY {s} {named = named} v r live weight not_YZ =
     at named (plane_of s.graph v) (ap (λ (kind : graph.Kind). kind.plane) weight) not_YZ (r.given.planes v live)
@@ -167,7 +167,7 @@ named_XY {s} {named = named} v r live weight not_YZ =
     at XZ plane e n m = absurd (m (sym e))
     at YZ plane e n m = absurd (n refl)
 
-module _ {s t : State} {v q : ℕ} (last : HasLast s.table v) (g : IsGathered s q (length s.graph.outputs) t) where
+module _ {s t : Remainder} {v q : ℕ} (last : HasLast s.table v) (g : IsGathered s q (length s.graph.outputs) t) where
   pub still_last : HasLast t.table v
   still_last = keeps_last s.table t.table v g.rows.order last
 
@@ -189,9 +189,9 @@ module _ {s t : State} {v q : ℕ} (last : HasLast s.table v) (g : IsGathered s 
         ∙ link_not_adjacent g.rows.ready g.rows.frontier still_last q one_left
         (subst (λ k. HasPlainOutput t.graph k u) e place.1) still_YZ))
 
-    pub linked_taken : {u w : State} → q < length s.graph.outputs → TakesLegs t v u →
+    pub linked_taken : {u w : Remainder} → q < length s.graph.outputs → TakesLegs t v u →
         ((qubits : List ℕ) × AreLegs u.graph v qubits × IsLinkedGadgetTaken u v q qubits w) →
-        IsTaken 0 s w × (length w.table + 1 ≡ length s.table)
+        AreTakenOff 0 s w × (length w.table + 1 ≡ length s.table)
     unfolding linked_leads removed_leads
     linked_taken {u} {w} within legs a =
         let gone = linked_gone legs.rows.ready legs.rows.frontier a.2 in (
@@ -211,12 +211,12 @@ module _ {s t : State} {v q : ℕ} (last : HasLast s.table v) (g : IsGathered s 
     pub still_XY : plane_of t.graph v ≡ graph.XY
     still_XY = ap (λ vs. (kind_of vs v).plane) g.rows.same ∙ plane
 
-    module _ {u : State} (a : IsAdvanced t v q u) where
+    module _ {u : Remainder} (a : IsAdvanced t v q u) where
       pub spider_ready : IsReady u
       spider_ready = advanced_ready g.rows.ready g.rows.frontier still_XY one_left a
 
-      pub spider_taken : {w : State} → q < length s.graph.outputs → IsSettling u q (length u.graph.outputs) w →
-          IsTaken 0 s w × (length w.table + 1 ≡ length s.table)
+      pub spider_taken : {w : Remainder} → q < length s.graph.outputs → IsSettling u q (length u.graph.outputs) w →
+          AreTakenOff 0 s w × (length w.table + 1 ≡ length s.table)
       spider_taken {w} within c = (
         taken_spider s q t u w within g (advanced_leads g.rows.ready g.rows.frontier still_XY one_left a)
             c.settles.leads c.settles.ready
@@ -226,7 +226,7 @@ module _ {s t : State} {v q : ℕ} (last : HasLast s.table v) (g : IsGathered s 
       )
 
 -- the sum is doubled no more often than there are vertices that aren't XY
-pub doubled_few : {d : ℕ} {s t : State} → IsTaken d s t → d ≤ not_XY s.graph
+pub doubled_few : {d : ℕ} {s t : Remainder} → AreTakenOff d s t → d ≤ not_XY s.graph
 doubled_few {d} {s} {t} a = few d _ _ _ _ a.doubled a.leads.few_doublings a.leads.others
   where
     few : (d doublings gadgets left all : ℕ) → doublings ≡ d → doublings ≤ gadgets → left + gadgets ≡ all → d ≤ all

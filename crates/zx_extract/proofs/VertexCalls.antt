@@ -16,7 +16,7 @@ use Rattle.circuit_laws.specs.Gates.{gadget_gates, linked_gadget_gates}
 use Rattle.circuit_laws.specs.Peeling.{HasPlainOutput}
 use Rattle.circuit_laws.proofs.Places.{output_there, absent-remove}
 use Rattle.zx_extract.specs.Internal.Lists.{legs_of}
-use Rattle.zx_extract.specs.Internal.Leading.{State, IsReady, IsFrontier}
+use Rattle.zx_extract.specs.Internal.Leading.{Remainder, IsReady, IsFrontier}
 use Rattle.zx_extract.specs.Internal.Steps.{HasLast, HasNoOutput, HasOneOutput, IsButRow, IsGatheredBesideRow, IsAdvanced, IsGadgetTaken, IsLinkedGadgetTaken, AreLegs}
 use Rattle.zx_extract.proofs.Places.{member-places_set}
 use Rattle.zx_extract.proofs.Lasts.{keeps_last}
@@ -26,7 +26,7 @@ use Rattle.zx_extract.proofs.Legs.{member-legs, legs_differ}
 
 -- ---- the last vertex takes the place of an output
 -- v is the last vertex of s, where the rows of its set are gathered at the output q; d is s but for that output's row
-pub record IsNext (s d : State) (v q u : ℕ) : Type 0 where
+pub record IsNext (s d : Remainder) (v q u : ℕ) : Type 0 where
   pub alike : IsButRow s q d
   pub ready : IsReady s
   pub frontier : IsFrontier s.graph
@@ -35,7 +35,7 @@ pub record IsNext (s d : State) (v q u : ℕ) : Type 0 where
   pub one : HasOneOutput s q
   pub output : HasPlainOutput s.graph q u
 
-pub next_of : {s d : State} {v q u : ℕ} (g : IsGatheredBesideRow s q (length s.graph.outputs) d) → HasLast s.table v →
+pub next_of : {s d : Remainder} {v q u : ℕ} (g : IsGatheredBesideRow s q (length s.graph.outputs) d) → HasLast s.table v →
     plane_of s.graph v ≡ XY → HasPlainOutput d.graph q u → IsNext g.whole d v q u
 next_of {s} {d} {v} {q} g last plane o = record {
   alike = g.alike;
@@ -47,7 +47,7 @@ next_of {s} {d} {v} {q} g last plane o = record {
   output = ap (λ es. slice_get es q) (sym g.alike.outputs) ∙ o;
 }
 
-module _ {s d : State} {v q u : ℕ} (n : IsNext s d v q u) where
+module _ {s d : Remainder} {v q u : ℕ} (n : IsNext s d v q u) where
   pub next_live : Live d.graph v
   next_live = ap (λ vs. member v (ids vs)) n.alike.vertices ∙ last_live n.ready n.frontier n.last
 
@@ -77,7 +77,7 @@ module _ {s d : State} {v q u : ℕ} (n : IsNext s d v q u) where
           ∙ and-false (member u (end_vertices s.graph.outputs));
     }
 
-    pub advanced_step : {h : Graph} {table : List Correction} {t : State} →
+    pub advanced_step : {h : Graph} {table : List Correction} {t : Remainder} →
         IsRemoval g u h → ((before : List Correction) (e : Correction) → d.table ≡ before ++ e ∷ [] →
         SameSets table (advanced_table u before)) →
         t ≡ record { graph = h; table = table; gates = H q ∷ d.gates } → IsAdvanced s v q t
@@ -102,16 +102,16 @@ module _ {s d : State} {v q u : ℕ} (n : IsNext s d v q u) where
     })
 
 -- ---- a gadget
-pub gadget_interior : {s : State} {v : ℕ} → IsReady s → plane_of s.graph v ≡ YZ → Interior s.graph v
+pub gadget_interior : {s : Remainder} {v : ℕ} → IsReady s → plane_of s.graph v ≡ YZ → Interior s.graph v
 gadget_interior {s} {v} r plane = interior_of s.graph v r.given.well_formed (ap is_XY plane)
 
-module _ {s : State} {v : ℕ} (r : IsReady s) (f : IsFrontier s.graph) (last : HasLast s.table v)
+module _ {s : Remainder} {v : ℕ} (r : IsReady s) (f : IsFrontier s.graph) (last : HasLast s.table v)
     (none : HasNoOutput s) where
   pub gadget_set : (before : List Correction) × (e : Correction) × (s.table ≡ before ++ e ∷ []) × ((y : ℕ) →
       is_in e.members y ≡ eqb y e.vertex)
   gadget_set = (last.before, last.entry, last.split, set_is_itself r f last none)
 
-  pub gadget_step : {qubits : List ℕ} {k : ℕ} {named : Plane} {h : Graph} {table : List Correction} {t : State} →
+  pub gadget_step : {qubits : List ℕ} {k : ℕ} {named : Plane} {h : Graph} {table : List Correction} {t : Remainder} →
       plane_of s.graph v ≡ YZ → AreLegs s.graph v qubits →
       in_plane named k ≡ kind_of s.graph.vertices v → IsRemoval s.graph v h →
       ((before : List Correction) (e : Correction) → s.table ≡ before ++ e ∷ [] →
@@ -136,13 +136,13 @@ module _ {s : State} {v : ℕ} (r : IsReady s) (f : IsFrontier s.graph) (last : 
       })
 
 -- ---- a gadget through an output
-module _ {s : State} {v u : ℕ} (q : ℕ) (r : IsReady s) (f : IsFrontier s.graph) (last : HasLast s.table v)
+module _ {s : Remainder} {v u : ℕ} (q : ℕ) (r : IsReady s) (f : IsFrontier s.graph) (last : HasLast s.table v)
     (plane : plane_of s.graph v ≡ YZ) (one : HasOneOutput s q) (o : HasPlainOutput s.graph q u) where
   pub linked_set : (before : List Correction) × (e : Correction) × (s.table ≡ before ++ e ∷ []) × ((y : ℕ) →
       is_in e.members y ≡ (eqb y e.vertex || eqb y u))
   linked_set = (last.before, last.entry, last.split, set_is_YZ r f last q one o plane)
 
-  pub linked_step : {qubits : List ℕ} {k : ℕ} {named : Plane} {h : Graph} {table : List Correction} {t : State} →
+  pub linked_step : {qubits : List ℕ} {k : ℕ} {named : Plane} {h : Graph} {table : List Correction} {t : Remainder} →
       AreLegs s.graph v qubits →
       in_plane named k ≡ kind_of s.graph.vertices v → IsRemoval s.graph v h →
       ((before : List Correction) (e : Correction) → s.table ≡ before ++ e ∷ [] →

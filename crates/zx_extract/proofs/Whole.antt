@@ -31,7 +31,7 @@ use Rattle.zx_extract.specs.Extraction.{most_extracted_gates}
 use Rattle.zx_extract.specs.Internal.Extracted.{HasExactMap}
 use Rattle.zx_extract.specs.Internal.Extracted.{IsExtracted, IsTakenApart}
 use Rattle.zx_extract.specs.Internal.Lists.{in_line}
-use Rattle.zx_extract.specs.Internal.Leading.{State, Leads, IsReady, IsFrontier, IsTaken}
+use Rattle.zx_extract.specs.Internal.Leading.{Remainder, Leads, IsReady, IsFrontier, AreTakenOff}
 use Rattle.zx_extract.proofs.Leads.{leads_then, leads_within}
 use Rattle.zx_extract.proofs.Places.{place_of_output}
 use Rattle.zx_extract.proofs.Exchanges.{places-plain, plain-map}
@@ -40,7 +40,7 @@ use Rattle.zx_model.specs.Internal.Powers.{power_of_two}
 use Rattle.zx_gates.proofs.LoweringLemmas.{gate_odd_phases-append}
 
 -- with the outputs in line, wires are left
-pub line_wires : (s : State) → IsReady s → IsFrontier s.graph → s.table ≡ [] →
+pub line_wires : (s : Remainder) → IsReady s → IsFrontier s.graph → s.table ≡ [] →
     length s.graph.inputs ≡ length s.graph.outputs → IsWires (in_line s.graph)
 line_wires s r f none ends = record {
   phase = λ u live. let place : (p : ℕ) × HasPlainOutput s.graph p u = at_place u live in
@@ -69,7 +69,7 @@ line_wires s r f none ends = record {
         s.graph.edges p q r.given.well_formed.edges.lower_there r.given.well_formed.edges.higher_there out
 
 -- ---- all gates
-module _ (s : State) (k p q : ℕ) (t : State) (a : Leads s k p q t) (none : s.gates ≡ []) (w : WellFormed t.graph)
+module _ (s : Remainder) (k p q : ℕ) (t : Remainder) (a : Leads s k p q t) (none : s.gates ≡ []) (w : WellFormed t.graph)
     (wires : IsWires t.graph) where
   all_taken : t.gates ≡ a.taken
   all_taken = a.gates ∙ ap (λ l. a.taken ++ l) none ∙ append-nil a.taken
@@ -118,14 +118,14 @@ few_in_all n k marks settled p q p0 q0 taken crossed inputs a b c d e more_p mor
     sum_up n k half a b c d e f g = omega arith
 
 -- ---- the steps in a row
-module _ {doublings : ℕ} (s0 s1 s2 s3 s4 : State) (none : s0.gates ≡ []) (ends : length s0.graph.inputs ≡ length s0.graph.outputs)
+module _ {doublings : ℕ} (s0 s1 s2 s3 s4 : Remainder) (none : s0.gates ≡ []) (ends : length s0.graph.inputs ≡ length s0.graph.outputs)
     (marks : Leads s0 (length s0.graph.outputs) 0 0 s1)
     (settled : Leads s1 (length s1.graph.outputs * (length s1.graph.outputs - 1) / 2 + length s1.graph.outputs) 0 0 s2)
-    (taken : IsTaken doublings s2 s3) (all : s3.table ≡ [])
+    (taken : AreTakenOff doublings s2 s3) (all : s3.table ≡ [])
     (crossed : Leads s3 (3 * length s3.graph.outputs) 0 0
     (record { graph = in_line s3.graph; table = s4.table; gates = s4.gates }))
     (formed : WellFormed (in_line s3.graph)) where
-  abbrev last : State
+  abbrev last : Remainder
   last = record { graph = in_line s3.graph; table = s4.table; gates = s4.gates }
 
   abbrev n : ℕ

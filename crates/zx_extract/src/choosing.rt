@@ -4,7 +4,7 @@ ghost use Rattle.std.specs.Prelude.{◌≡◌, ◌<◌, ◌⊎◌, ℕ, length, 
 ghost use Rattle.zx_calculus.specs.Graph.{neighbours};
 ghost use Rattle.gflow_laws.specs.Flow.{is_in};
 ghost use Rattle.circuit_laws.specs.Peeling.{HasPlainOutput};
-ghost use Rattle.zx_extract.specs.Internal.Frontiers.{state_of};
+ghost use Rattle.zx_extract.specs.Internal.Frontiers.{remainder_of};
 ghost use Rattle.zx_extract.specs.Internal.Leading.{IsReady};
 
 use crate::frontier::Frontier;
@@ -21,7 +21,7 @@ pub(crate) struct Candidate {
 impl Frontier {
     // How many neighbours the vertex of an output has.
     pub(crate) fn degree(&self, q: Qubit) -> usize
-        requires ready { IsReady (state_of self.now) }
+        requires ready { IsReady (remainder_of self.now) }
         requires on_wires { q < length self.now.graph.graph.outputs }
         ensures { (u : ℕ) → HasPlainOutput self.now.graph.graph q u →
             result ≡ length (neighbours self.now.graph.graph u) }
@@ -31,7 +31,7 @@ impl Frontier {
 
     // In how many correction sets the vertex of an output stands.
     pub(crate) fn sets(&self, q: Qubit) -> usize
-        requires ready { IsReady (state_of self.now) }
+        requires ready { IsReady (remainder_of self.now) }
         requires on_wires { q < length self.now.graph.graph.outputs }
         ensures { (u : ℕ) → HasPlainOutput self.now.graph.graph q u →
             result ≡ count_by (λ e. is_in e.members u) self.now.flow.flow }

@@ -6,7 +6,7 @@ ghost use Rattle.zx_model.specs.Bits.{member};
 ghost use Rattle.zx_calculus.specs.Graph.{end_vertices, WellFormed};
 ghost use Rattle.zx_gates.specs.Circuit.{IsOnQubits, most_qubits};
 ghost use Rattle.circuit_laws.specs.Gates.{hadamards_from, exchange_gates};
-ghost use Rattle.zx_extract.specs.Internal.Frontiers.{state_of};
+ghost use Rattle.zx_extract.specs.Internal.Frontiers.{remainder_of};
 ghost use Rattle.zx_extract.specs.Internal.Leading.{IsReady, IsFrontier, Leads};
 ghost use Rattle.zx_extract.specs.Internal.Lists.{in_line};
 
@@ -18,8 +18,8 @@ use zx_gates::{Gate, GateList, Qubit};
 impl Frontier {
     // Writes the exchange of two outputs.
     fn write_exchange(&mut self, p: Qubit, q: Qubit) -> Result<(), AllocError>
-        ensures { OnOk result (state_of self.new ≡ record (state_of self.old) {
-          gates = exchange_gates p q ++ (state_of self.old).gates;
+        ensures { OnOk result (remainder_of self.new ≡ record (remainder_of self.old) {
+          gates = exchange_gates p q ++ (remainder_of self.old).gates;
         }) }
     {
         self.write_cx(p, q)?;
@@ -29,13 +29,13 @@ impl Frontier {
 
     // Writes exchanges after which each output is at the vertex of the input of its number.
     pub(crate) fn uncross(&mut self) -> Result<(), AllocError>
-        requires ready { IsReady (state_of self.old) }
+        requires ready { IsReady (remainder_of self.old) }
         requires frontier { IsFrontier self.old.graph.graph }
         requires all { self.old.flow.flow ≡ [] }
         requires ends { length self.old.graph.graph.inputs ≡ length self.old.graph.graph.outputs }
-        ensures leads { OnOk result (Leads (state_of self.old)
+        ensures leads { OnOk result (Leads (remainder_of self.old)
             (3 * length self.old.graph.graph.outputs) 0 0
-            (record (state_of self.new) { graph = in_line self.old.graph.graph })) }
+            (record (remainder_of self.new) { graph = in_line self.old.graph.graph })) }
         ensures formed { OnOk result (WellFormed (in_line self.old.graph.graph)) }
         ensures graph { OnOk result (self.new.graph.graph ≡ self.old.graph.graph) }
     {
@@ -58,7 +58,7 @@ impl Frontier {
         requires on_qubits { All (IsOnQubits (length self.graph.graph.inputs)) self.gates.items }
         ensures qubits { IfOk result (λ c. c.qubits ≡ length self.graph.graph.inputs) }
         ensures gates { IfOk result (λ c. c.gates ≡
-            hadamards_from 0 self.graph.graph.inputs ++ (state_of self).gates) }
+            hadamards_from 0 self.graph.graph.inputs ++ (remainder_of self).gates) }
     {
         let first = hadamards_from(self.alloc, self.graph.inputs())?;
         followed_by(first, self.gates)

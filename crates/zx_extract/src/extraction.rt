@@ -11,7 +11,7 @@ ghost use Rattle.zx_gates.specs.Passes.{Implements};
 ghost use Rattle.open_graph.specs.OpenGraph.{most_vertices_in_memory};
 ghost use Rattle.zx_extract.specs.Extraction.{most_extracted_gates};
 ghost use Rattle.zx_extract.specs.Internal.Extracted.{IsTakenApart};
-ghost use Rattle.zx_extract.specs.Internal.Frontiers.{state_of};
+ghost use Rattle.zx_extract.specs.Internal.Frontiers.{remainder_of};
 
 use crate::frontier::Frontier;
 use open_graph::OpenGraph;
@@ -56,7 +56,7 @@ impl Frontier {
         requires few { length self.old.graph.graph.outputs ≤ most_qubits }
         requires none { self.old.gates.items ≡ [] }
         ensures { IfOk result (λ doublings.
-            IsTakenApart doublings self.old.graph.graph (state_of self.new)) }
+            IsTakenApart doublings self.old.graph.graph (remainder_of self.new)) }
     {
         self.take_marks()?;
         self.settle_all()?;

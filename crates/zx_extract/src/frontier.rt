@@ -11,7 +11,7 @@ ghost use Rattle.circuit_laws.specs.Peeling.{HasPlainOutput, are_plain};
 ghost use Rattle.zx_extract.specs.Internal.Leading.{IsGiven, IsReady, IsFrontier, Leads};
 ghost use Rattle.zx_extract.specs.Internal.Lists.{IsPlainAt};
 ghost use Rattle.zx_extract.specs.Internal.Steps.{IsPhaseTaken, IsUnjoined, IsRowAdded, IsSetAdded};
-ghost use Rattle.zx_extract.specs.Internal.Frontiers.{state_of};
+ghost use Rattle.zx_extract.specs.Internal.Frontiers.{remainder_of};
 
 use crate::holders::Holders;
 use open_graph::{End, OpenGraph, Plane, VertexId, VertexSet};
@@ -79,8 +79,8 @@ impl Frontier {
 
     // Writes a gate before all that were taken off so far.
     pub(crate) fn write(&mut self, gate: Gate) -> Result<(), AllocError>
-        ensures { OnOk result (state_of self.new ≡ record (state_of self.old) {
-          gates = gate ∷ (state_of self.old).gates;
+        ensures { OnOk result (remainder_of self.new ≡ record (remainder_of self.old) {
+          gates = gate ∷ (remainder_of self.old).gates;
         }) }
     {
         self.gates.push(gate)?;
@@ -89,8 +89,8 @@ impl Frontier {
 
     // Writes a controlled NOT gate.
     pub(crate) fn write_cx(&mut self, control: Qubit, target: Qubit) -> Result<(), AllocError>
-        ensures { OnOk result (state_of self.new ≡ record (state_of self.old) {
-          gates = Gate.Cx control target ∷ (state_of self.old).gates;
+        ensures { OnOk result (remainder_of self.new ≡ record (remainder_of self.old) {
+          gates = Gate.Cx control target ∷ (remainder_of self.old).gates;
         }) }
     {
         self.write(Gate::Cx { control, target })
@@ -98,8 +98,8 @@ impl Frontier {
 
     // Writes a phase gate, unless its phase is 0.
     pub(crate) fn write_phase(&mut self, q: Qubit, phase: Sixteenth) -> Result<(), AllocError>
-        ensures { OnOk result (state_of self.new ≡ record (state_of self.old) {
-          gates = phase_gates q phase ++ (state_of self.old).gates;
+        ensures { OnOk result (remainder_of self.new ≡ record (remainder_of self.old) {
+          gates = phase_gates q phase ++ (remainder_of self.old).gates;
         }) }
     {
         if phase.get() == 0 {
@@ -110,10 +110,10 @@ impl Frontier {
 
     // Takes off the Hadamard of an output, where it carries one.
     pub(crate) fn take_mark(&mut self, q: Qubit) -> Result<(), AllocError>
-        requires given { IsGiven (state_of self.old) }
+        requires given { IsGiven (remainder_of self.old) }
         requires on_wires { q < length self.old.graph.graph.outputs }
-        ensures leads { OnOk result (Leads (state_of self.old) 1 0 0 (state_of self.new)) }
-        ensures given { OnOk result (IsGiven (state_of self.new)) }
+        ensures leads { OnOk result (Leads (remainder_of self.old) 1 0 0 (remainder_of self.new)) }
+        ensures given { OnOk result (IsGiven (remainder_of self.new)) }
         ensures plain { OnOk result (IsPlainAt self.new.graph.graph.outputs q) }
         ensures others { OnOk result ((p : ℕ) → IsPlainAt self.old.graph.graph.outputs p →
             IsPlainAt self.new.graph.graph.outputs p) }
@@ -129,9 +129,9 @@ impl Frontier {
 
     // Takes off the phase of an output.
     pub(crate) fn take_phase(&mut self, q: Qubit) -> Result<(), AllocError>
-        requires ready { IsReady (state_of self.old) }
+        requires ready { IsReady (remainder_of self.old) }
         requires on_wires { q < length self.old.graph.graph.outputs }
-        ensures { OnOk result (IsPhaseTaken (state_of self.old) q (state_of self.new)) }
+        ensures { OnOk result (IsPhaseTaken (remainder_of self.old) q (remainder_of self.new)) }
     {
         let here = self.present(q);
         let (plane, phase) = self.graph.weight(here);
@@ -141,10 +141,10 @@ impl Frontier {
 
     // Takes off the edge between two outputs, where there is one.
     pub(crate) fn take_edge(&mut self, p: Qubit, q: Qubit) -> Result<(), AllocError>
-        requires ready { IsReady (state_of self.old) }
+        requires ready { IsReady (remainder_of self.old) }
         requires p_on_wires { p < length self.old.graph.graph.outputs }
         requires q_on_wires { q < length self.old.graph.graph.outputs }
-        ensures { OnOk result (IsUnjoined (state_of self.old) p q (state_of self.new)) }
+        ensures { OnOk result (IsUnjoined (remainder_of self.old) p q (remainder_of self.new)) }
     {
         let first = self.present(p);
         let second = self.present(q);
@@ -157,14 +157,14 @@ impl Frontier {
 
     // Adds the row of output c, which has no input, to that of output t.
     pub(crate) fn add_row(&mut self, c: Qubit, t: Qubit) -> Result<(), AllocError>
-        requires ready { IsReady (state_of self.old) }
+        requires ready { IsReady (remainder_of self.old) }
         requires frontier { IsFrontier self.old.graph.graph }
         requires c_on_wires { c < length self.old.graph.graph.outputs }
         requires t_on_wires { t < length self.old.graph.graph.outputs }
         requires apart { c ≢ t }
         requires no_input { (u : ℕ) → HasPlainOutput self.old.graph.graph c u →
             member u (end_vertices self.old.graph.graph.inputs) ≡ false }
-        ensures { OnOk result (IsRowAdded (state_of self.old) c t (state_of self.new)) }
+        ensures { OnOk result (IsRowAdded (remainder_of self.old) c t (remainder_of self.new)) }
     {
         let added = self.present(c);
         let to = self.present(t);
@@ -179,7 +179,7 @@ impl Frontier {
         requires plain { are_plain self.old.graph.graph.outputs ≡ true }
         requires c_on_wires { c < length self.old.graph.graph.outputs }
         requires t_on_wires { t < length self.old.graph.graph.outputs }
-        ensures { OnOk result (IsSetAdded (state_of self.old) c t (state_of self.new)) }
+        ensures { OnOk result (IsSetAdded (remainder_of self.old) c t (remainder_of self.new)) }
     {
         let added = self.present(c);
         let to = self.present(t);

@@ -2,7 +2,7 @@
 
 ghost use Rattle.std.specs.Prelude.{◌≡◌, ◌≢◌, ◌<◌, ℕ, ◌++◌, length, IfOk, OnOk};
 ghost use Rattle.circuit_laws.specs.Gates.{gadget_on, gadget_gates, linked_gadget_gates};
-ghost use Rattle.zx_extract.specs.Internal.Frontiers.{state_of};
+ghost use Rattle.zx_extract.specs.Internal.Frontiers.{remainder_of};
 
 use crate::frontier::Frontier;
 use std::alloc::AllocError;
@@ -18,8 +18,8 @@ impl Frontier {
         target: Qubit,
         others: &[Qubit],
     ) -> Result<(), AllocError>
-        ensures { OnOk result (state_of self.new ≡ record (state_of self.old) {
-          gates = gadget_on phase target others.now ++ (state_of self.old).gates;
+        ensures { OnOk result (remainder_of self.new ≡ record (remainder_of self.old) {
+          gates = gadget_on phase target others.now ++ (remainder_of self.old).gates;
         }) }
     {
         match others {
@@ -38,8 +38,8 @@ impl Frontier {
         phase: Sixteenth,
         qubits: &[Qubit],
     ) -> Result<(), AllocError>
-        ensures { OnOk result (state_of self.new ≡ record (state_of self.old) {
-          gates = gadget_gates phase qubits.now ++ (state_of self.old).gates;
+        ensures { OnOk result (remainder_of self.new ≡ record (remainder_of self.old) {
+          gates = gadget_gates phase qubits.now ++ (remainder_of self.old).gates;
         }) }
     {
         match qubits {
@@ -55,8 +55,8 @@ impl Frontier {
         link: Qubit,
         others: &[Qubit],
     ) -> Result<(), AllocError>
-        ensures { OnOk result (state_of self.new ≡ record (state_of self.old) {
-          gates = linked_gadget_gates phase link others.now ++ (state_of self.old).gates;
+        ensures { OnOk result (remainder_of self.new ≡ record (remainder_of self.old) {
+          gates = linked_gadget_gates phase link others.now ++ (remainder_of self.old).gates;
         }) }
     {
         self.write(Gate::H(link))?;

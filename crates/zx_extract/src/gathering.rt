@@ -5,7 +5,7 @@ ghost use Rattle.zx_model.specs.Bits.{member, xor};
 ghost use Rattle.zx_calculus.specs.Graph.{end_vertices, joined, plane_of, Live, WellFormed};
 ghost use Rattle.zx_calculus.specs.Graph as zx;
 ghost use Rattle.circuit_laws.specs.Peeling.{HasPlainOutput, are_plain};
-ghost use Rattle.zx_extract.specs.Internal.Frontiers.{state_of};
+ghost use Rattle.zx_extract.specs.Internal.Frontiers.{remainder_of};
 ghost use Rattle.zx_extract.specs.Internal.Leading.{IsReady, IsFrontier};
 ghost use Rattle.zx_extract.specs.Internal.Lists.{last_set};
 ghost use Rattle.zx_extract.specs.Internal.Steps.{HasLast, IsPicked, HasNoOutput, IsGathered, IsGatheredBesideRow, IsRowReplaced};
@@ -31,10 +31,10 @@ impl Frontier {
     // Of the outputs in the last set, one that stands in the fewest sets, and of these one with the
     // fewest neighbours.
     pub(crate) fn pick(&self) -> Option<Qubit>
-        requires ready { IsReady (state_of self.now) }
+        requires ready { IsReady (remainder_of self.now) }
         requires last { (v : ℕ) × HasLast self.now.flow.flow v }
-        ensures some { IfSome result (λ q. IsPicked (state_of self.now) q) }
-        ensures none { IfNone result (HasNoOutput (state_of self.now)) }
+        ensures some { IfSome result (λ q. IsPicked (remainder_of self.now) q) }
+        ensures none { IfNone result (HasNoOutput (remainder_of self.now)) }
     {
         let mut best: Option<Candidate> = None;
         for q in 0..self.qubits() {
@@ -54,12 +54,12 @@ impl Frontier {
     // Adds the rows of the last set to that of an output in it, so that of all outputs only that
     // one is left in the set: in the flow and by gates, while the graph stays.
     pub(crate) fn gather_sets(&mut self, t: Qubit) -> Result<(), AllocError>
-        requires ready { IsReady (state_of self.old) }
+        requires ready { IsReady (remainder_of self.old) }
         requires frontier { IsFrontier self.old.graph.graph }
         requires last { (v : ℕ) × HasLast self.old.flow.flow v }
-        requires picked { IsPicked (state_of self.old) t }
-        ensures { OnOk result (IsGatheredBesideRow (state_of self.old) t
-            (length self.old.graph.graph.outputs) (state_of self.new)) }
+        requires picked { IsPicked (remainder_of self.old) t }
+        ensures { OnOk result (IsGatheredBesideRow (remainder_of self.old) t
+            (length self.old.graph.graph.outputs) (remainder_of self.new)) }
     {
         for c in 0..self.qubits() {
             if c == t || !self.corrects_last(c) {
@@ -76,7 +76,7 @@ impl Frontier {
         requires plain { are_plain self.old.graph.graph.outputs ≡ true }
         requires live { Live self.old.graph.graph v }
         requires on_wires { t < length self.old.graph.graph.outputs }
-        ensures { OnOk result (IsRowReplaced (state_of self.old) v t (state_of self.new)) }
+        ensures { OnOk result (IsRowReplaced (remainder_of self.old) v t (remainder_of self.new)) }
     {
         let link = self.present(t);
         let change = row_change(&self.graph, v, link)?;
@@ -86,13 +86,13 @@ impl Frontier {
     // Gathers the set of a gadget at an output, whose row is then that of the gadget without its
     // legs.
     pub(crate) fn gather(&mut self, v: VertexId, t: Qubit) -> Result<(), AllocError>
-        requires ready { IsReady (state_of self.old) }
+        requires ready { IsReady (remainder_of self.old) }
         requires frontier { IsFrontier self.old.graph.graph }
         requires last { HasLast self.old.flow.flow v }
         requires plane { plane_of self.old.graph.graph v ≡ zx.YZ }
-        requires picked { IsPicked (state_of self.old) t }
-        ensures { OnOk result (IsGathered (state_of self.old) t
-            (length self.old.graph.graph.outputs) (state_of self.new)) }
+        requires picked { IsPicked (remainder_of self.old) t }
+        ensures { OnOk result (IsGathered (remainder_of self.old) t
+            (length self.old.graph.graph.outputs) (remainder_of self.new)) }
     {
         self.gather_sets(t)?;
         self.replace_row(v, t)

@@ -4,7 +4,7 @@ ghost use Rattle.std.specs.Prelude.{◌≡◌, ◌<◌, ℕ, true, false, length
 ghost use Rattle.zx_model.specs.Bits.{member};
 ghost use Rattle.zx_calculus.specs.Graph.{joined, end_vertices, Live};
 ghost use Rattle.circuit_laws.specs.Peeling.{HasPlainOutput};
-ghost use Rattle.zx_extract.specs.Internal.Frontiers.{state_of};
+ghost use Rattle.zx_extract.specs.Internal.Frontiers.{remainder_of};
 ghost use Rattle.zx_extract.specs.Internal.Leading.{IsReady, IsFrontier};
 ghost use Rattle.zx_extract.specs.Internal.Steps.{HasLast, AreLegs, IsSpareLeg, HasNoSpareLeg, AreLegsFree, TakesLegs, IsLegShared, HasOneLegOrInputs};
 
@@ -17,7 +17,7 @@ use zx_gates::Qubit;
 impl Frontier {
     // The outputs whose vertices are adjacent to a vertex.
     pub(crate) fn legs(&self, v: VertexId) -> Result<Vec<Qubit>, AllocError>
-        requires ready { IsReady (state_of self.now) }
+        requires ready { IsReady (remainder_of self.now) }
         requires live { Live self.now.graph.graph v }
         ensures { IfOk result (λ qubits. AreLegs self.now.graph.graph v qubits.items) }
     {
@@ -33,7 +33,7 @@ impl Frontier {
 
     // Whether an output is a leg without an input.
     fn is_spare_leg(&self, v: VertexId, q: Qubit) -> bool
-        requires ready { IsReady (state_of self.now) }
+        requires ready { IsReady (remainder_of self.now) }
         requires live { Live self.now.graph.graph v }
         requires on_wires { q < length self.now.graph.graph.outputs }
         ensures yes { result ≡ true → IsSpareLeg self.now.graph.graph v q }
@@ -47,7 +47,7 @@ impl Frontier {
 
     // Of the legs without an input, one with the fewest neighbours.
     fn spare_leg(&self, v: VertexId) -> Option<Qubit>
-        requires ready { IsReady (state_of self.now) }
+        requires ready { IsReady (remainder_of self.now) }
         requires live { Live self.now.graph.graph v }
         ensures some { IfSome result (λ z. IsSpareLeg self.now.graph.graph v z) }
         ensures none { IfNone result (HasNoSpareLeg self.now.graph.graph v) }
@@ -69,13 +69,13 @@ impl Frontier {
 
     // Adds the row of a leg without an input to those of the other legs, so that it alone is left.
     fn share_leg(&mut self, v: VertexId, z: Qubit) -> Result<(), AllocError>
-        requires ready { IsReady (state_of self.old) }
+        requires ready { IsReady (remainder_of self.old) }
         requires frontier { IsFrontier self.old.graph.graph }
         requires last { HasLast self.old.flow.flow v }
-        requires free { AreLegsFree (state_of self.old) v }
+        requires free { AreLegsFree (remainder_of self.old) v }
         requires spare { IsSpareLeg self.old.graph.graph v z }
-        ensures { OnOk result (IsLegShared (state_of self.old) v z
-            (length self.old.graph.graph.outputs) (state_of self.new)) }
+        ensures { OnOk result (IsLegShared (remainder_of self.old) v z
+            (length self.old.graph.graph.outputs) (remainder_of self.new)) }
     {
         for q in 0..self.qubits() {
             if q == z || !self.graph.has_edge(v, self.present(q)) {
@@ -88,11 +88,11 @@ impl Frontier {
 
     // Adds rows of legs of the last vertex, so that one leg is left, unless each has an input.
     pub(crate) fn take_legs(&mut self, v: VertexId) -> Result<(), AllocError>
-        requires ready { IsReady (state_of self.old) }
+        requires ready { IsReady (remainder_of self.old) }
         requires frontier { IsFrontier self.old.graph.graph }
         requires last { HasLast self.old.flow.flow v }
-        requires free { AreLegsFree (state_of self.old) v }
-        ensures taken { OnOk result (TakesLegs (state_of self.old) v (state_of self.new)) }
+        requires free { AreLegsFree (remainder_of self.old) v }
+        ensures taken { OnOk result (TakesLegs (remainder_of self.old) v (remainder_of self.new)) }
         ensures one { OnOk result (HasOneLegOrInputs self.new.graph.graph v) }
     {
         match self.spare_leg(v) {

@@ -3,8 +3,8 @@
 ghost use Rattle.std.specs.Prelude.{◌≡◌, ◌<◌, ◌+◌, ℕ, List, [], length, IfOk, OnOk};
 ghost use Rattle.zx_calculus.specs.Graph.{plane_of};
 ghost use Rattle.zx_calculus.specs.Graph as zx;
-ghost use Rattle.zx_extract.specs.Internal.Frontiers.{state_of};
-ghost use Rattle.zx_extract.specs.Internal.Leading.{State, IsReady, IsFrontier, IsTaken};
+ghost use Rattle.zx_extract.specs.Internal.Frontiers.{remainder_of};
+ghost use Rattle.zx_extract.specs.Internal.Leading.{Remainder, IsReady, IsFrontier, AreTakenOff};
 ghost use Rattle.zx_extract.specs.Internal.Steps.{HasLast, IsPicked, IsGathered, HasNoOutput, HasOneOutput, IsAdvanced, IsGadgetTaken, IsLinkedGadgetTaken, AreLegs};
 
 use crate::frontier::Frontier;
@@ -16,14 +16,14 @@ impl Frontier {
     // The last vertex, which is in the XY plane, takes the place of an output in its set, where the
     // rows of the set are gathered.
     fn advance(&mut self, v: VertexId, q: Qubit) -> Result<(), AllocError>
-        requires ready { IsReady (state_of self.old) }
+        requires ready { IsReady (remainder_of self.old) }
         requires frontier { IsFrontier self.old.graph.graph }
         requires last { HasLast self.old.flow.flow v }
         requires plane { plane_of self.old.graph.graph v ≡ zx.XY }
-        requires picked { IsPicked (state_of self.old) q }
-        ensures { OnOk result ((s : State)
-            × IsGathered (state_of self.old) q (length self.old.graph.graph.outputs) s
-            × IsAdvanced s v q (state_of self.new)) }
+        requires picked { IsPicked (remainder_of self.old) q }
+        ensures { OnOk result ((s : Remainder)
+            × IsGathered (remainder_of self.old) q (length self.old.graph.graph.outputs) s
+            × IsAdvanced s v q (remainder_of self.new)) }
     {
         self.gather_sets(q)?;
         let here = self.present(q);
@@ -35,14 +35,14 @@ impl Frontier {
 
     // Takes off the last vertex, which is in the YZ plane, where no output is in its set.
     fn take_gadget(&mut self, v: VertexId) -> Result<(), AllocError>
-        requires ready { IsReady (state_of self.old) }
+        requires ready { IsReady (remainder_of self.old) }
         requires frontier { IsFrontier self.old.graph.graph }
         requires last { HasLast self.old.flow.flow v }
         requires plane { plane_of self.old.graph.graph v ≡ zx.YZ }
-        requires alone { HasNoOutput (state_of self.old) }
+        requires alone { HasNoOutput (remainder_of self.old) }
         ensures { OnOk result ((qubits : List ℕ)
             × AreLegs self.old.graph.graph v qubits
-            × IsGadgetTaken (state_of self.old) v qubits (state_of self.new)) }
+            × IsGadgetTaken (remainder_of self.old) v qubits (remainder_of self.new)) }
     {
         let (_plane, phase) = self.graph.weight(v);
         let legs = self.legs(v)?;
@@ -53,15 +53,15 @@ impl Frontier {
 
     // Takes off the last vertex, which is in the YZ plane, where of the outputs one is in its set.
     fn take_linked_gadget(&mut self, v: VertexId, q: Qubit) -> Result<(), AllocError>
-        requires ready { IsReady (state_of self.old) }
+        requires ready { IsReady (remainder_of self.old) }
         requires frontier { IsFrontier self.old.graph.graph }
         requires last { HasLast self.old.flow.flow v }
         requires plane { plane_of self.old.graph.graph v ≡ zx.YZ }
         requires on_wires { q < length self.old.graph.graph.outputs }
-        requires gathered { HasOneOutput (state_of self.old) q }
+        requires gathered { HasOneOutput (remainder_of self.old) q }
         ensures { OnOk result ((qubits : List ℕ)
             × AreLegs self.old.graph.graph v qubits
-            × IsLinkedGadgetTaken (state_of self.old) v q qubits (state_of self.new)) }
+            × IsLinkedGadgetTaken (remainder_of self.old) v q qubits (remainder_of self.new)) }
     {
         let (_plane, phase) = self.graph.weight(v);
         let legs = self.legs(v)?;
@@ -73,11 +73,11 @@ impl Frontier {
 
     // Takes off the last vertex, with the rows of its set gathered at an output in it.
     fn take_through(&mut self, v: VertexId, q: Qubit) -> Result<(), AllocError>
-        requires ready { IsReady (state_of self.old) }
+        requires ready { IsReady (remainder_of self.old) }
         requires frontier { IsFrontier self.old.graph.graph }
         requires last { HasLast self.old.flow.flow v }
-        requires picked { IsPicked (state_of self.old) q }
-        ensures taken { OnOk result (IsTaken 0 (state_of self.old) (state_of self.new)) }
+        requires picked { IsPicked (remainder_of self.old) q }
+        ensures taken { OnOk result (AreTakenOff 0 (remainder_of self.old) (remainder_of self.new)) }
         ensures shorter { OnOk result (length self.new.flow.flow + 1 ≡ length self.old.flow.flow) }
     {
         let (plane, _phase) = self.graph.weight(v);
@@ -97,11 +97,11 @@ impl Frontier {
     // Takes off the last vertex, and answers how often the sum is doubled: once, where that was a gadget on
     // outputs alone.
     fn take_vertex(&mut self, v: VertexId) -> Result<u64, AllocError>
-        requires ready { IsReady (state_of self.old) }
+        requires ready { IsReady (remainder_of self.old) }
         requires frontier { IsFrontier self.old.graph.graph }
         requires last { HasLast self.old.flow.flow v }
         ensures taken { IfOk result (λ doublings.
-            IsTaken doublings (state_of self.old) (state_of self.new)) }
+            AreTakenOff doublings (remainder_of self.old) (remainder_of self.new)) }
         ensures shorter { OnOk result (length self.new.flow.flow + 1 ≡ length self.old.flow.flow) }
     {
         match self.pick() {
@@ -119,10 +119,10 @@ impl Frontier {
 
     // Takes off all vertices of the order, and answers how often the sum is doubled.
     pub(crate) fn take_vertices(&mut self) -> Result<u64, AllocError>
-        requires ready { IsReady (state_of self.old) }
+        requires ready { IsReady (remainder_of self.old) }
         requires frontier { IsFrontier self.old.graph.graph }
         ensures taken { IfOk result (λ doublings.
-            IsTaken doublings (state_of self.old) (state_of self.new)) }
+            AreTakenOff doublings (remainder_of self.old) (remainder_of self.new)) }
         ensures all { OnOk result (self.new.flow.flow ≡ []) }
     {
         prove!(self.graph.vertex_count() as u64 <= 1 << 32);

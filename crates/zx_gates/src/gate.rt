@@ -1,5 +1,8 @@
 //! Gates of the circuits that the optimiser works on.
 
+ghost use Rattle.std.specs.Prelude.{◌≡◌, ◌↔◌, true};
+ghost use Rattle.zx_gates.specs.Circuit.{IsOnQubits};
+
 use zx_model::Sixteenth;
 
 /// A qubit of a circuit, by its number from 0.
@@ -24,4 +27,21 @@ pub enum Gate {
     },
     /// The NOT gate, X.
     Not(Qubit),
+}
+
+impl Gate {
+    /// Tells whether the gate may stand in a circuit of so many qubits: it acts on qubits below that
+    /// number, on two that differ where it acts on two, and its phase isn't 0.
+    pub fn is_on_qubits(&self, qubits: Qubit) -> bool
+        ensures { (result ≡ true) ↔ IsOnQubits qubits self.now }
+    {
+        match *self {
+            Gate::H(q) | Gate::Not(q) => q < qubits,
+            Gate::Phase(q, phase) => q < qubits && phase.get() != 0,
+            Gate::Cz(p, q) => p < qubits && q < qubits && p != q,
+            Gate::Cx { control, target } => control < qubits
+                && target < qubits
+                && control != target,
+        }
+    }
 }

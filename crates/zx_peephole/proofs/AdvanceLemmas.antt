@@ -13,7 +13,7 @@ use Rattle.zx_gates.specs.Circuit.{IsGateOn, IsOnQubits}
 use Rattle.zx_peephole.specs.Tidy.{is_turned}
 use Rattle.zx_peephole.specs.declared.chains.Chains.{Chains}
 use Rattle.zx_peephole.specs.Internal.Merging.{merged, doublings, conjugated}
-use Rattle.zx_peephole.specs.Internal.Chains.{nothing, is_left, gate_at, kept, place_of, next_of, all_left, IsReading, IsKept}
+use Rattle.zx_peephole.specs.Internal.Chains.{nothing, is_left, gate_at, kept, left_before, next_of, all_left, IsReading, IsLeftAt}
 use Rattle.zx_peephole.specs.Internal.Changes.{IsPairAt, IsTripleAt, Shortens, IsAdvance}
 use Rattle.zx_peephole.proofs.FindingLemmas.{Extends}
 use Rattle.zx_peephole.proofs.LeftLemmas.{left-set_nothing, left_at, one_left, read_at}
@@ -68,14 +68,14 @@ module _ (old : Chains) (reading : IsReading old) (w : Chains) (qubits : w.qubit
           (reading.sound.unread old.next (omega arith) reading.more))
 
   -- a gate at place i is gone, and x is written for the next gate
-  module _ (i : ℕ) (is_kept : IsKept old i) (x : Gate) (gates : w.gates.items ≡ set (set old.gates.items i nothing) old.next x) where
+  module _ (i : ℕ) (is_kept : IsLeftAt old i) (x : Gate) (gates : w.gates.items ≡ set (set old.gates.items i nothing) old.next x) where
     as_long : length w.gates.items ≡ length old.gates.items
     as_long = ap length gates ∙ length-set (set old.gates.items i nothing) old.next x ∙ length-set old.gates.items i nothing
 
     within : old.next < length (set old.gates.items i nothing)
     within = omega (arith, length-set old.gates.items i nothing, reading.more)
 
-    front_gone : filter is_left (take old.next (set old.gates.items i nothing)) ≡ remove (kept old) (place_of old i)
+    front_gone : filter is_left (take old.next (set old.gates.items i nothing)) ≡ remove (kept old) (left_before old i)
     front_gone = left-set_nothing old.gates.items i old.next is_kept.before reading.sound.places.within is_kept.left
 
     rest_stays : drop (old.next + 1) (set old.gates.items i nothing) ≡ drop (old.next + 1) old.gates.items
@@ -89,8 +89,8 @@ module _ (old : Chains) (reading : IsReading old) (w : Chains) (qubits : w.qubit
     first_is : gate_at old.gates.items i ≡ p.pair.first
     first_is =
         sym (left_at old.gates.items i old.next nothing p.first.before reading.sound.places.within p.first.left)
-        ∙ ap (λ xs. get_or xs (place_of old i) nothing) p.pair.cut
-        ∙ get_or_at p.pair.before p.pair.first p.pair.between nothing (place_of old i) p.pair.at
+        ∙ ap (λ xs. get_or xs (left_before old i) nothing) p.pair.cut
+        ∙ get_or_at p.pair.before p.pair.first p.pair.between nothing (left_before old i) p.pair.at
 
     same_first : a ≡ p.pair.first
     same_first = read_at old.gates.items i a inside a_read ∙ first_is
@@ -107,14 +107,14 @@ module _ (old : Chains) (reading : IsReading old) (w : Chains) (qubits : w.qubit
         subst (λ (k : ℕ). IsAdvance old k w) (sym (is ∙ ap doublings same_first))
         (by_brings (doublings p.pair.first) (as_long i p.first x gates)
         (pair_brings old.qubits (kept old) (next_of old) (drop (old.next + 1) old.gates.items) (kept w) (drop w.next w.gates.items)
-        (place_of old i) p.pair on less
+        (left_before old i) p.pair on less
         (ap₂ drop next gates
         ∙ drop-set (set old.gates.items i nothing) old.next x (within i p.first x gates)
         ∙ ap (λ xs. x ∷ xs) (rest_stays i p.first x gates)
         ∙ ap (λ xs. xs ++ drop (old.next + 1) old.gates.items) (one ∙ becomes)))
-        (omega (arith, next, ap length less, one_less (kept old) (next_of old) (place_of old i) p.pair)))
+        (omega (arith, next, ap length less, one_less (kept old) (next_of old) (left_before old i) p.pair)))
       where
-        less : kept w ≡ remove (kept old) (place_of old i)
+        less : kept w ≡ remove (kept old) (left_before old i)
         less =
             ap₂ (λ n xs. filter is_left (take n xs)) next gates
             ∙ ap (filter is_left) (take-set (set old.gates.items i nothing) old.next x)
@@ -126,14 +126,14 @@ module _ (old : Chains) (reading : IsReading old) (w : Chains) (qubits : w.qubit
         subst (λ (k : ℕ). IsAdvance old k w) (sym (is ∙ ap doublings same_first))
         (by_brings (doublings p.pair.first) (as_long i p.first nothing gates)
         (pair_brings old.qubits (kept old) (next_of old) (drop (old.next + 1) old.gates.items) (kept w) (drop w.next w.gates.items)
-        (place_of old i) p.pair on less
+        (left_before old i) p.pair on less
         (ap₂ drop next gates
         ∙ drop-set-lt (old.next + 1) (set old.gates.items i nothing) old.next nothing (omega arith)
         ∙ rest_stays i p.first nothing gates
         ∙ ap (λ xs. xs ++ drop (old.next + 1) old.gates.items) (none ∙ becomes)))
-        (omega (arith, next, ap length less, one_less (kept old) (next_of old) (place_of old i) p.pair)))
+        (omega (arith, next, ap length less, one_less (kept old) (next_of old) (left_before old i) p.pair)))
       where
-        less : kept w ≡ remove (kept old) (place_of old i)
+        less : kept w ≡ remove (kept old) (left_before old i)
         less =
             ap₂ (λ n xs. filter is_left (take n xs)) next gates
             ∙ ap (filter is_left) (take_more_set (set old.gates.items i nothing) old.next nothing (within i p.first nothing gates))
@@ -153,8 +153,8 @@ module _ (old : Chains) (reading : IsReading old) (w : Chains) (qubits : w.qubit
     middle_is =
         read_at old.gates.items j g inside_middle g_read
         ∙ sym (left_at old.gates.items j old.next nothing t.middle.before reading.sound.places.within t.middle.left)
-        ∙ ap (λ xs. get_or xs (place_of old j) nothing) (t.triple.cut ∙ simp append_assoc)
-        ∙ get_or_at (t.triple.before ++ H t.triple.qubit ∷ t.triple.left) t.triple.middle t.triple.right nothing (place_of old j)
+        ∙ ap (λ xs. get_or xs (left_before old j) nothing) (t.triple.cut ∙ simp append_assoc)
+        ∙ get_or_at (t.triple.before ++ H t.triple.qubit ∷ t.triple.left) t.triple.middle t.triple.right nothing (left_before old j)
         (omega (arith, length-append t.triple.before (H t.triple.qubit ∷ t.triple.left), t.triple.at_first, t.triple.at_middle))
 
     pub middle_on : IsGateOn old.qubits g
@@ -164,8 +164,8 @@ module _ (old : Chains) (reading : IsReading old) (w : Chains) (qubits : w.qubit
     first_hadamard : gate_at old.gates.items i ≡ H t.triple.qubit
     first_hadamard =
         sym (left_at old.gates.items i old.next nothing t.first.before reading.sound.places.within t.first.left)
-        ∙ ap (λ xs. get_or xs (place_of old i) nothing) t.triple.cut
-        ∙ get_or_at t.triple.before (H t.triple.qubit) (t.triple.left ++ t.triple.middle ∷ t.triple.right) nothing (place_of old i)
+        ∙ ap (λ xs. get_or xs (left_before old i) nothing) t.triple.cut
+        ∙ get_or_at t.triple.before (H t.triple.qubit) (t.triple.left ++ t.triple.middle ∷ t.triple.right) nothing (left_before old i)
         t.triple.at_first
 
     pub qubit_on : t.triple.qubit < old.qubits
@@ -176,13 +176,13 @@ module _ (old : Chains) (reading : IsReading old) (w : Chains) (qubits : w.qubit
     turned_one x x_is gates next =
         by_brings 1 (ap length gates ∙ length-set two old.next x ∙ length-set one i nothing ∙ length-set old.gates.items j nothing)
         (triple_brings old.qubits (kept old) (next_of old) (drop (old.next + 1) old.gates.items) (kept w) (drop w.next w.gates.items)
-        (place_of old i) (place_of old j) t.triple qubit_on less
+        (left_before old i) (left_before old j) t.triple qubit_on less
         (ap₂ drop next gates
         ∙ drop-set two old.next x (omega (arith, length-set one i nothing, length-set old.gates.items j nothing, reading.more))
         ∙ ap (λ xs. x ∷ xs) (drop-set-lt (old.next + 1) one i nothing (omega (arith, t.first.before))
         ∙ drop-set-lt (old.next + 1) old.gates.items j nothing (omega (arith, t.middle.before)))
         ∙ ap (λ y. y ∷ drop (old.next + 1) old.gates.items) (x_is ∙ ap conjugated middle_is)))
-        (omega (arith, next, ap length less, two_less (kept old) (next_of old) (place_of old i) (place_of old j) t.triple))
+        (omega (arith, next, ap length less, two_less (kept old) (next_of old) (left_before old i) (left_before old j) t.triple))
       where
         one : List Gate
         one = set old.gates.items j nothing
@@ -190,7 +190,7 @@ module _ (old : Chains) (reading : IsReading old) (w : Chains) (qubits : w.qubit
         two : List Gate
         two = set (set old.gates.items j nothing) i nothing
 
-        less : kept w ≡ remove (remove (kept old) (place_of old j)) (place_of old i)
+        less : kept w ≡ remove (remove (kept old) (left_before old j)) (left_before old i)
         less =
             ap₂ (λ n xs. filter is_left (take n xs)) next gates
             ∙ ap (filter is_left) (take-set two old.next x)

@@ -5,7 +5,7 @@ use Rattle.zx_gates.specs.declared.gate.Gate.{Gate}
 use Rattle.zx_gates.specs.Circuit.{IsGateOn}
 use Rattle.zx_peephole.specs.Tidy.{is_pair}
 use Rattle.zx_peephole.specs.declared.chains.Chains.{Chains}
-use Rattle.zx_peephole.specs.Internal.Chains.{is_left, gate_at, kept, place_of, next_of, IsReading}
+use Rattle.zx_peephole.specs.Internal.Chains.{is_left, gate_at, kept, left_before, next_of, IsReading}
 use Rattle.zx_peephole.specs.Internal.Marks.{meets_none}
 use Rattle.zx_peephole.specs.Internal.Changes.{EndsPair, EndsTriple, IsPairAt, IsTripleAt}
 use Rattle.zx_peephole.specs.Internal.Stops.{IsFreeBetween, IsStop, IsLastStop, HasFewQubits, turns}
@@ -51,7 +51,7 @@ module _ (w : Chains) (reading : IsReading w) (g : Gate) (read : g ≡ get_or w.
     here : x ≡ gate_at w.gates.items i
     here = read_at w.gates.items i x within x_read
 
-    abbrev last : IsLastStop g (kept w) (place_of w i)
+    abbrev last : IsLastStop g (kept w) (left_before w i)
     last = stop_of w.gates.items g w.next reading.sound.places.within i s
 
     apart : is_pair x g ≡ false → is_pair (gate_at w.gates.items i) g ≡ false
@@ -60,24 +60,24 @@ module _ (w : Chains) (reading : IsReading w) (g : Gate) (read : g ≡ get_or w.
     pub stops_as_pair : is_pair x g ≡ true → IsPairAt w i
     stops_as_pair pair = record {
       first = record { before = s.before; left = s.left };
-      pair = subst (λ (h : Gate). EndsPair (kept w) h (place_of w i)) same
-          (stop_is_pair (kept w) g (place_of w i) last (ap (λ y. is_pair y g) (sym here) ∙ pair));
+      pair = subst (λ (h : Gate). EndsPair (kept w) h (left_before w i)) same
+          (stop_is_pair (kept w) g (left_before w i) last (ap (λ y. is_pair y g) (sym here) ∙ pair));
     }
 
     pub stops_straight : is_pair x g ≡ false → turns g x ≡ false → Tidies
     stops_straight unpaired straight =
-        tidies (stop_extends (kept w) g (place_of w i) last (apart unpaired) (ap (turns g) (sym here) ∙ straight))
+        tidies (stop_extends (kept w) g (left_before w i) last (apart unpaired) (ap (turns g) (sym here) ∙ straight))
 
     pub nothing_before : is_pair x g ≡ false → IsFreeBetween w.gates.items g 0 i → Tidies
     nothing_before unpaired free =
-        tidies (free_stop_extends (kept w) g (place_of w i) last (apart unpaired)
+        tidies (free_stop_extends (kept w) g (left_before w i) last (apart unpaired)
         (free_of w.gates.items g i (omega arith) free))
 
     module _ (k : ℕ) (r : IsStop w.gates.items g i k) (y : Gate) (y_read : y ≡ get_or w.gates.items k y) where
       first : y ≡ gate_at w.gates.items k
       first = read_at w.gates.items k y (omega (arith, r.before, within)) y_read
 
-      abbrev last_before : IsLastStop g (filter is_left (take i w.gates.items)) (place_of w k)
+      abbrev last_before : IsLastStop g (filter is_left (take i w.gates.items)) (left_before w k)
       last_before = stop_of w.gates.items g i (omega (arith, within)) k r
 
       pub stops_as_triple : turns g x ≡ true → is_pair y g ≡ true → IsTripleAt w k i
@@ -85,12 +85,12 @@ module _ (w : Chains) (reading : IsReading w) (g : Gate) (read : g ≡ get_or w.
         order = r.before;
         first = record { before = omega (arith, r.before, s.before); left = r.left };
         middle = record { before = s.before; left = s.left };
-        triple = subst (λ (h : Gate). EndsTriple (kept w) h (place_of w k) (place_of w i)) same
-            (stop_is_triple (kept w) g (place_of w i) last (place_of w k) last_before
+        triple = subst (λ (h : Gate). EndsTriple (kept w) h (left_before w k) (left_before w i)) same
+            (stop_is_triple (kept w) g (left_before w i) last (left_before w k) last_before
             (ap (turns g) (sym here) ∙ turned) (ap (λ z. is_pair z g) (sym first) ∙ pair));
       }
 
       pub other_before : is_pair x g ≡ false → is_pair y g ≡ false → Tidies
       other_before unpaired other =
-          tidies (stops_extend (kept w) g (place_of w i) (place_of w k) last (apart unpaired) last_before
+          tidies (stops_extend (kept w) g (left_before w i) (left_before w k) last (apart unpaired) last_before
           (ap (λ z. is_pair z g) (sym first) ∙ other))

@@ -13,7 +13,7 @@ use Rattle.zx_gates.specs.Circuit.{most_qubits, IsGateOn, HasRoom, circuit_of}
 use Rattle.zx_peephole.specs.Commuting.{is_on}
 use Rattle.zx_peephole.specs.declared.chains.Chains.{Chains}
 use Rattle.zx_peephole.specs.Internal.Chains.{nothing, is_left, gate_at, IsOn, no_links, link_of, link_at, IsChain, Without}
-use Rattle.zx_peephole.specs.Internal.Chains.{first_qubit, second_qubit, IsSound, IsKept, kept, IsUnlinked}
+use Rattle.zx_peephole.specs.Internal.Chains.{first_qubit, second_qubit, IsSound, IsLeftAt, kept, IsUnlinked}
 use Rattle.zx_peephole.specs.Internal.Chains.{IsUnlinkedFromAll}
 use Rattle.zx_peephole.specs.Internal.Marks.{IsMarked, IsMarkedBehind, IsMarkedWithout}
 use Rattle.zx_peephole.proofs.MarkLemmas.{marked_begun, marked_kept, marked_removed, marked_written, marked_passed}
@@ -193,7 +193,7 @@ sound_set old w i g sound qubits more within inside gates room table on unread c
     elsewhere j differ = ap (λ xs. gate_at xs j) gates ∙ get_or-set_other old.gates.items i j g nothing differ
 
 -- a gate is gone
-pub sound_removed : (old new : Chains) (i : ℕ) (g : Gate) (w : Chains) → g ≡ nothing → IsSound old → IsKept old i
+pub sound_removed : (old new : Chains) (i : ℕ) (g : Gate) (w : Chains) → g ≡ nothing → IsSound old → IsLeftAt old i
     → IsUnlinkedFromAll old new i → w.gates.items ≡ set new.gates.items i g → w.qubits ≡ new.qubits → w.links ≡ new.links
     → w.last ≡ new.last → w.next ≡ new.next → IsMarkedWithout new.marks w.marks (gate_at old.gates.items i) → IsSound w
 sound_removed old new i g w gone sound kept u gates qubits links last next marks =

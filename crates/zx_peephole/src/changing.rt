@@ -3,7 +3,7 @@
 ghost use Rattle.std.specs.Prelude.{◌≡◌, ◌++◌, ◌+◌, ◌<◌, [], ◌∷◌, slice_index_or, IfSome, IfNone};
 ghost use Rattle.zx_gates.specs.Circuit.{most_qubits};
 ghost use Rattle.zx_peephole.specs.Tidy.{IsTidy};
-ghost use Rattle.zx_peephole.specs.Internal.Chains.{IsOn, IsSound, IsKept, IsReading, IsChainOf, HasPlaces, kept, next_of, IsRemoved, IsUnlinked, IsUnlinkedFromAll, IsLater, IsRelinked};
+ghost use Rattle.zx_peephole.specs.Internal.Chains.{IsOn, IsSound, IsLeftAt, IsReading, IsChainOf, HasPlaces, kept, next_of, IsRemoved, IsUnlinked, IsUnlinkedFromAll, IsLater, IsRelinked};
 ghost use Rattle.zx_peephole.specs.Internal.Changes.{IsPairAt, IsTripleAt, IsAdvance};
 
 use crate::chains::{Chains, first_qubit, nothing, second_qubit};
@@ -72,7 +72,7 @@ pub(crate) fn turn_over(work: &mut Chains, first: usize, middle: usize)
 // The gate at a place is taken out of its chains, and leaves nothing there.
 fn remove(work: &mut Chains, place: usize)
     requires sound { IsSound work.old }
-    requires kept { IsKept work.old place }
+    requires kept { IsLeftAt work.old place }
     ensures sound { IsSound work.new }
     ensures removed { IsRemoved work.old work.new place }
 {
@@ -84,7 +84,7 @@ fn remove(work: &mut Chains, place: usize)
 // The chains of its qubits leave the gate at a place out.
 fn unlink_all(work: &mut Chains, place: usize)
     requires sound { IsSound work.old }
-    requires kept { IsKept work.old place }
+    requires kept { IsLeftAt work.old place }
     ensures { IsUnlinkedFromAll work.old work.new place }
 {
     let first = first_qubit(&work.gates[place]);

@@ -2,7 +2,7 @@
 
 ghost use Rattle.std.specs.Prelude.{◌≡◌, ◌==◌, ◌++◌, ◌+◌, ◌<◌, ◌≤◌, [], ◌∷◌, length, if◌then◌else◌, IfSome, IfNone};
 ghost use Rattle.zx_peephole.specs.Tidy.{IsTidy};
-ghost use Rattle.zx_peephole.specs.Internal.Chains.{IsOn, IsSound, IsKept, IsReading, HasPlaces, kept, next_of, gate_at, first_qubit, second_qubit, link_at};
+ghost use Rattle.zx_peephole.specs.Internal.Chains.{IsOn, IsSound, IsLeftAt, IsReading, HasPlaces, kept, next_of, gate_at, first_qubit, second_qubit, link_at};
 ghost use Rattle.zx_peephole.specs.Internal.Stops.{IsStop, IsFreeBetween, IsWalk, IsNearest, HasFewQubits};
 ghost use Rattle.zx_peephole.specs.Internal.Changes.{IsChange};
 

@@ -11,10 +11,10 @@ use Rattle.zx_reduce.specs.declared.candidates.Candidates.{Candidates}
 use Rattle.zx_moves.specs.declared.moves.Kind.{Kind}
 use Rattle.zx_moves.specs.declared.moves.Kind.TheVariants as kinds
 use Rattle.zx_moves.specs.declared.moves.TheConstants.{KINDS}
-use Rattle.zx_reduce.specs.Internal.Guiding.{place_of, list_place, pile_at, weight, standing, IsListing, StandElsewhere, IsTaken, IsPassed}
+use Rattle.zx_reduce.specs.Internal.Guiding.{kind_place, list_place, pile_at, weight, standing, IsListing, StandElsewhere, IsTakenFromList, IsPassed}
 
 -- the place of a kind is where it stands
-pub at_place : (k : Kind) → slice_get KINDS (place_of k) ≡ Some k
+pub at_place : (k : Kind) → slice_get KINDS (kind_place k) ≡ Some k
 at_place kinds.Delete = refl
 at_place kinds.QuarterGadget = refl
 at_place kinds.FromXZ = refl
@@ -26,7 +26,7 @@ at_place kinds.LoneGadget = refl
 at_place kinds.SingleGadget = refl
 at_place kinds.Twins = refl
 
-pub place_within : (k : Kind) → place_of k < 10
+pub place_within : (k : Kind) → kind_place k < 10
 place_within kinds.Delete = lit< tt
 place_within kinds.QuarterGadget = lit< tt
 place_within kinds.FromXZ = lit< tt
@@ -39,7 +39,7 @@ place_within kinds.SingleGadget = lit< tt
 place_within kinds.Twins = lit< tt
 
 -- which kind stands at a place
-pub kind_at : (place : ℕ) (k d : Kind) → place_of k ≡ place → get_or KINDS place d ≡ k
+pub kind_at : (place : ℕ) (k d : Kind) → kind_place k ≡ place → get_or KINDS place d ≡ k
 kind_at place k d is = get_or_from_slice_get KINDS place k d (ap (λ n. slice_get KINDS n) (sym is) ∙ at_place k)
 
 pub kind_stands : (place other : ℕ) → place ≡ other → other < 10 → slice_get KINDS other ≡ Some (get_or KINDS place kinds.Delete)
@@ -209,7 +209,7 @@ pushed_heavier piles after l u count within is =
 
 -- what was taken from lists in which all stood where they stood before
 pub taken_later : (before middle after : Candidates) (l u : ℕ) → ((w : ℕ) → standing middle w ≡ standing before w)
-    → weight middle.lists.items ≤ weight before.lists.items → IsTaken l u middle after → IsTaken l u before after
+    → weight middle.lists.items ≤ weight before.lists.items → IsTakenFromList l u middle after → IsTakenFromList l u before after
 taken_later before middle after l u same light t = record {
   stood = sym (same u) ∙ t.stood;
   within = t.within;
@@ -303,7 +303,7 @@ module _ (before popped : Candidates) (u : ℕ) (is : IsListing before) (within 
       (λ w other. others w other ∙ still w) (λ low. absurd (omega (arith, low, stands)))
 
   pub taken_out : (after : Candidates) → after.lists ≡ popped.lists → standing popped u ≡ before.first → StandElsewhere u popped after
-      → IsTaken before.first u before after
+      → IsTakenFromList before.first u before after
   taken_out after kept stood others =
       let kept_weight : weight after.lists.items ≡ weight popped.lists.items = λ i. weight (kept i).items in
       let light = lighter in

@@ -23,7 +23,7 @@ use Rattle.zx_moves.specs.declared.moves.Move.TheVariants as moves
 use Rattle.zx_moves.specs.declared.moves.TheConstants.{KINDS}
 use Rattle.zx_moves.specs.Search.{AppliesAt, kind_of, IsOfFirstKind, IsMoveOf, IsSettled, NoneAt}
 use Rattle.zx_moves.specs.Internal.Searching.{IsMoveAt, place_kind}
-use Rattle.zx_reduce.specs.Internal.Guiding.{place_of, list_place, standing, IsListing, StandElsewhere, is_candidate, HasCandidates, HasCandidatesBut, IsListed, KeepsCandidates, near, near_step}
+use Rattle.zx_reduce.specs.Internal.Guiding.{kind_place, list_place, standing, IsListing, StandElsewhere, is_candidate, HasCandidates, HasCandidatesBut, IsListed, KeepsCandidates, near, near_step}
 use Rattle.zx_reduce.proofs.CandidateLists.{at_place, place_within, place_rises, no_list}
 use Rattle.zx_moves.proofs.SearchKinds.{stands_once, stands_at}
 
@@ -204,26 +204,26 @@ candidates_listed g c listing listed = record {
 }
 
 -- ---- where a vertex stands
-pub listed_at : (c : Candidates) (k : Kind) (u l : ℕ) → standing c u ≡ l → list_place l ≤ place_of k → is_candidate c k u ≡ true
-listed_at c k u l at le = ap (λ n. ltb (list_place n) (place_of k + 1)) at ∙ grind (arith, nat_tests)
+pub listed_at : (c : Candidates) (k : Kind) (u l : ℕ) → standing c u ≡ l → list_place l ≤ kind_place k → is_candidate c k u ≡ true
+listed_at c k u l at le = ap (λ n. ltb (list_place n) (kind_place k + 1)) at ∙ grind (arith, nat_tests)
 
-pub not_after : (c : Candidates) (k : Kind) (u : ℕ) → is_candidate c k u ≡ true → list_place (standing c u) ≤ place_of k
-not_after c k u there = let lt = ltb-true (list_place (standing c u)) (place_of k + 1) there in omega (arith, lt)
+pub not_after : (c : Candidates) (k : Kind) (u : ℕ) → is_candidate c k u ≡ true → list_place (standing c u) ≤ kind_place k
+not_after c k u there = let lt = ltb-true (list_place (standing c u)) (kind_place k + 1) there in omega (arith, lt)
 
 -- u goes to a list before whose kind nothing begins there
 pub put_keeps : (g : Graph) (before after : Candidates) (u l : ℕ) → StandElsewhere u before after → standing after u ≡ l
-    → ((k : Kind) (v : ℕ) → list_place (standing before u) ≤ place_of k → IsPlaceOf g (place_kind k) u v → list_place l ≤ place_of k)
+    → ((k : Kind) (v : ℕ) → list_place (standing before u) ≤ kind_place k → IsPlaceOf g (place_kind k) u v → list_place l ≤ kind_place k)
     → KeepsCandidates g before after
 put_keeps g before after u l others stands early k w v place there =
     by_equal w u
     (λ t e. subst (λ x. is_candidate after k x ≡ true) (sym e)
     (listed_at after k u l stands (early k v (not_after before k u (subst (λ x. is_candidate before k x ≡ true) e there)) (subst (λ x. IsPlaceOf g (place_kind k) x v) e place))))
-    (λ f n. ap (λ s. ltb (list_place s) (place_of k + 1)) (others w n) ∙ there)
+    (λ f n. ap (λ s. ltb (list_place s) (kind_place k + 1)) (others w n) ∙ there)
 
 pub put_listed : (g : Graph) (after : Candidates) (u l : ℕ) → standing after u ≡ l
-    → ((k : Kind) (v : ℕ) → 0 ≤ place_of k → place_of k < list_place l → ¬ IsPlaceOf g (place_kind k) u v) → IsListed g u after
+    → ((k : Kind) (v : ℕ) → 0 ≤ kind_place k → kind_place k < list_place l → ¬ IsPlaceOf g (place_kind k) u v) → IsListed g u after
 put_listed g after u l stands none k v place =
-    by_test (ltb (place_of k) (list_place l))
+    by_test (ltb (kind_place k) (list_place l))
     (λ t. absurd (none k v (omega arith) (ltb-true _ _ t) place))
     (λ f. listed_at after k u l stands (ltb-false _ _ f))
 
@@ -231,13 +231,13 @@ pub put_all : (g : Graph) (before after : Candidates) (u l : ℕ) → StandElsew
 put_all g before after u l others listed k w v place there =
     by_equal w u
     (λ t e. subst (λ x. is_candidate after k x ≡ true) (sym e) (listed k v (subst (λ x. IsPlaceOf g (place_kind k) x v) e place)))
-    (λ f n. ap (λ s. ltb (list_place s) (place_of k + 1)) (others w n) ∙ there)
+    (λ f n. ap (λ s. ltb (list_place s) (kind_place k + 1)) (others w n) ∙ there)
 
 pub stand_over : (u : ℕ) (a b c : Candidates) → StandElsewhere u a b → StandElsewhere u b c → StandElsewhere u a c
 stand_over u a b c first second w other = second w other ∙ first w other
 
 pub same_keep : (g : Graph) (before after : Candidates) → ((w : ℕ) → standing after w ≡ standing before w) → KeepsCandidates g before after
-same_keep g before after same k w v place there = ap (λ s. ltb (list_place s) (place_of k + 1)) (same w) ∙ there
+same_keep g before after same k w v place there = ap (λ s. ltb (list_place s) (kind_place k + 1)) (same w) ∙ there
 
 -- ---- the first candidate
 -- no place is where nothing of its kind applies; two gadgets without neighbours are an earlier kind than twins
@@ -274,7 +274,7 @@ one_of_two false c false h = absurd (true≢false (sym h))
 
 module _ (g : Graph) (c : Candidates) (l : ℕ) (has : HasCandidates g c) (least : (w : ℕ) → l ≤ standing c w) where
   -- no kind before that of the first list has a place
-  none_before : (k : Kind) (u v : ℕ) → place_of k < list_place l → ¬ IsPlaceOf g (place_kind k) u v
+  none_before : (k : Kind) (u v : ℕ) → kind_place k < list_place l → ¬ IsPlaceOf g (place_kind k) u v
   none_before k u v lt place =
       elim (one_of_two (is_candidate c k u) (is_candidate c k v) (is_mutual (place_kind k)) (has.covers k u v place)) [
         | inl there ↦ earlier u there
@@ -291,40 +291,40 @@ module _ (g : Graph) (c : Candidates) (l : ℕ) (has : HasCandidates g c) (least
   first_kind m is other before applies =
       let at = place_at g other applies in
       let here : before.later_place ≡ list_place l = stands_once before.later_place (list_place l) (kind_of m) (stands_at before.later_place (kind_of m) before.later_kind) is.kind in
-      let there : before.place ≡ place_of (kind_of other) = stands_once before.place (place_of (kind_of other)) (kind_of other) (stands_at before.place (kind_of other) before.kind) (at_place (kind_of other)) in
+      let there : before.place ≡ kind_place (kind_of other) = stands_once before.place (kind_place (kind_of other)) (kind_of other) (stands_at before.place (kind_of other) before.kind) (at_place (kind_of other)) in
       none_before (kind_of other) at.0 at.1 (subst (λ n. n < list_place l) there (subst (λ n. before.place < n) here before.earlier)) at.2
 
   -- where u has no move of that kind, and none of the kinds up to that of another list
   goes_on : (u next : ℕ)
-      → ((k : Kind) (v : ℕ) → place_of k ≡ list_place l → (k ≡ kinds.Twins → ¬ IsGadgetOf g u 0) → ¬ IsPlaceOf g (place_kind k) u v)
-      → ((k : Kind) (v : ℕ) → list_place l + 1 ≤ place_of k → place_of k < list_place next → ¬ IsPlaceOf g (place_kind k) u v)
-      → (k : Kind) (v : ℕ) → list_place l ≤ place_of k → IsPlaceOf g (place_kind k) u v → list_place next ≤ place_of k
+      → ((k : Kind) (v : ℕ) → kind_place k ≡ list_place l → (k ≡ kinds.Twins → ¬ IsGadgetOf g u 0) → ¬ IsPlaceOf g (place_kind k) u v)
+      → ((k : Kind) (v : ℕ) → list_place l + 1 ≤ kind_place k → kind_place k < list_place next → ¬ IsPlaceOf g (place_kind k) u v)
+      → (k : Kind) (v : ℕ) → list_place l ≤ kind_place k → IsPlaceOf g (place_kind k) u v → list_place next ≤ kind_place k
   goes_on u next none later k v low place =
-      by_test (ltb (place_of k) (list_place next))
-      (λ t. absurd (by_equal (place_of k) (list_place l)
-      (λ s e. none k v e (λ twins. none_before kinds.LoneGadget u u (subst (λ n. 7 < n) (sym (ap place_of twins) ∙ e) (lit< tt))) place)
+      by_test (ltb (kind_place k) (list_place next))
+      (λ t. absurd (by_equal (kind_place k) (list_place l)
+      (λ s e. none k v e (λ twins. none_before kinds.LoneGadget u u (subst (λ n. 7 < n) (sym (ap kind_place twins) ∙ e) (lit< tt))) place)
       (λ f n. later k v (omega (arith, n, low)) (ltb-true _ _ t) place)))
       (λ f. ltb-false _ _ f)
 
   -- u stands next in the list of the move found, or of a later kind
   stands_next : (u next : ℕ) (found : Option Move)
-      → IfNone found ((k : Kind) (v : ℕ) → place_of k ≡ list_place l → (k ≡ kinds.Twins → ¬ IsGadgetOf g u 0) → ¬ IsPlaceOf g (place_kind k) u v)
+      → IfNone found ((k : Kind) (v : ℕ) → kind_place k ≡ list_place l → (k ≡ kinds.Twins → ¬ IsGadgetOf g u 0) → ¬ IsPlaceOf g (place_kind k) u v)
       → IfSome found (λ m. list_place next ≡ list_place l)
-      → IfNone found ((k : Kind) (v : ℕ) → list_place l + 1 ≤ place_of k → place_of k < list_place next → ¬ IsPlaceOf g (place_kind k) u v)
-      → (k : Kind) (v : ℕ) → list_place l ≤ place_of k → IsPlaceOf g (place_kind k) u v → list_place next ≤ place_of k
+      → IfNone found ((k : Kind) (v : ℕ) → list_place l + 1 ≤ kind_place k → kind_place k < list_place next → ¬ IsPlaceOf g (place_kind k) u v)
+      → (k : Kind) (v : ℕ) → list_place l ≤ kind_place k → IsPlaceOf g (place_kind k) u v → list_place next ≤ kind_place k
   stands_next u next None none same later k v low place = goes_on u next none later k v low place
-  stands_next u next (Some m) none same later k v low place = subst (λ n. n ≤ place_of k) (sym same) low
+  stands_next u next (Some m) none same later k v low place = subst (λ n. n ≤ kind_place k) (sym same) low
 
   pub turned : (u next : ℕ) (found : Option Move) (taken after : Candidates) → standing c u ≡ l → StandElsewhere u c taken → StandElsewhere u taken after
       → standing after u ≡ next → IsListing after
-      → IfNone found ((k : Kind) (v : ℕ) → place_of k ≡ list_place l → (k ≡ kinds.Twins → ¬ IsGadgetOf g u 0) → ¬ IsPlaceOf g (place_kind k) u v)
+      → IfNone found ((k : Kind) (v : ℕ) → kind_place k ≡ list_place l → (k ≡ kinds.Twins → ¬ IsGadgetOf g u 0) → ¬ IsPlaceOf g (place_kind k) u v)
       → IfSome found (λ m. list_place next ≡ list_place l)
-      → IfNone found ((k : Kind) (v : ℕ) → list_place l + 1 ≤ place_of k → place_of k < list_place next → ¬ IsPlaceOf g (place_kind k) u v)
+      → IfNone found ((k : Kind) (v : ℕ) → list_place l + 1 ≤ kind_place k → kind_place k < list_place next → ¬ IsPlaceOf g (place_kind k) u v)
       → HasCandidates g after
   turned u next found taken after stood first second stands listing none same later =
       candidates_kept g c after has listing
       (put_keeps g c after u next (stand_over u c taken after first second) stands
-      (λ k v low place. stands_next u next found none same later k v (subst (λ s. list_place s ≤ place_of k) stood low) place))
+      (λ k v low place. stands_next u next found none same later k v (subst (λ s. list_place s ≤ kind_place k) stood low) place))
 
   pub all_first : (found : Option Move) → IfSome found (IsMoveAt g (list_place l)) → IfSome found (IsOfFirstKind g)
   all_first None is = tt
@@ -379,12 +379,12 @@ is_none None none is = is
 is_none (Some m) none is = absurd (none m refl)
 
 -- one kind more of which nothing begins at u
-pub none_more : (g : Graph) (u start place : ℕ) (kind : Kind) → ((k : Kind) → place_of k ≡ place → kind ≡ k)
+pub none_more : (g : Graph) (u start place : ℕ) (kind : Kind) → ((k : Kind) → kind_place k ≡ place → kind ≡ k)
     → ((v : ℕ) → ¬ IsPlaceOf g (place_kind kind) u v)
-    → ((k : Kind) (v : ℕ) → start ≤ place_of k → place_of k < place → ¬ IsPlaceOf g (place_kind k) u v)
-    → (k : Kind) (v : ℕ) → start ≤ place_of k → place_of k < place + 1 → ¬ IsPlaceOf g (place_kind k) u v
+    → ((k : Kind) (v : ℕ) → start ≤ kind_place k → kind_place k < place → ¬ IsPlaceOf g (place_kind k) u v)
+    → (k : Kind) (v : ℕ) → start ≤ kind_place k → kind_place k < place + 1 → ¬ IsPlaceOf g (place_kind k) u v
 none_more g u start place kind is none past k v low high at =
-    by_equal (place_of k) place
+    by_equal (kind_place k) place
     (λ t e. none v (subst (λ l. IsPlaceOf g (place_kind l) u v) (sym (is k e)) at))
     (λ f n. past k v low (omega (arith, n, high)) at)
 
@@ -396,7 +396,7 @@ found_at g place kind (Some m) at is = record { applies = is.applies; kind = at 
 
 -- where nothing of a kind is at u, no place of the kind that stands there is
 pub none_of_place : (g : Graph) (place u : ℕ) (kind : Kind) (r : Option Move) → slice_get KINDS place ≡ Some kind → IfNone r (NoneAt g kind u)
-    → IfNone r ((k : Kind) (v : ℕ) → place_of k ≡ place → (k ≡ kinds.Twins → ¬ IsGadgetOf g u 0) → ¬ IsPlaceOf g (place_kind k) u v)
+    → IfNone r ((k : Kind) (v : ℕ) → kind_place k ≡ place → (k ≡ kinds.Twins → ¬ IsGadgetOf g u 0) → ¬ IsPlaceOf g (place_kind k) u v)
 none_of_place g place u kind (Some m) at none = tt
 none_of_place g place u kind None at none = λ k v here lone.
     let same : Some kind ≡ Some k = sym at ∙ ap (λ n. slice_get KINDS n) (sym here) ∙ at_place k in

@@ -8,7 +8,7 @@ ghost use Rattle.zx_moves.specs.declared.moves.Kind.{Kind};
 ghost use Rattle.zx_moves.specs.declared.moves.Kind.TheVariants as kinds;
 ghost use Rattle.zx_moves.specs.Search.{AppliesAt, IsOfFirstKind};
 ghost use Rattle.move_laws.specs.Candidates.{IsPlaceOf};
-ghost use Rattle.zx_reduce.specs.Internal.Guiding.{place_of, list_place, pile_at, weight, standing, IsListing, StandElsewhere, IsTaken, IsPassed, HasCandidates, IsListed, KeepsCandidates};
+ghost use Rattle.zx_reduce.specs.Internal.Guiding.{kind_place, list_place, pile_at, weight, standing, IsListing, StandElsewhere, IsTakenFromList, IsPassed, HasCandidates, IsListed, KeepsCandidates};
 ghost use Rattle.zx_moves.specs.Internal.Searching.{place_kind, IsMoveAt};
 
 use crate::pile::Pile;
@@ -98,7 +98,7 @@ impl Candidates {
     fn take_first(&mut self) -> Option<(usize, VertexId)>
         requires { IsListing self.old }
         ensures listing { IsListing self.new }
-        ensures taken { IfSome result (λ r. IsTaken r.0 r.1 self.old self.new) }
+        ensures taken { IfSome result (λ r. IsTakenFromList r.0 r.1 self.old self.new) }
         ensures none { IfNone result ((w : ℕ) → 264 ≤ standing self.old w) }
         ensures same { IfNone result ((w : ℕ) → standing self.new w ≡ standing self.old w) }
     {
@@ -116,7 +116,7 @@ impl Candidates {
         requires listing { IsListing self.old }
         requires within { self.old.first < 264 }
         ensures listing { IsListing self.new }
-        ensures taken { IfSome result (λ r. IsTaken r.0 r.1 self.old self.new) }
+        ensures taken { IfSome result (λ r. IsTakenFromList r.0 r.1 self.old self.new) }
         ensures passed { IfNone result (IsPassed self.old self.new) }
     {
         let list = self.first;
@@ -171,7 +171,7 @@ impl Candidates {
         requires { start ≤ 10 }
         ensures within { result ≤ 264 }
         ensures from { start ≤ list_place result }
-        ensures none { (k : Kind) (v : ℕ) → start ≤ place_of k → place_of k < list_place result →
+        ensures none { (k : Kind) (v : ℕ) → start ≤ kind_place k → kind_place k < list_place result →
             ¬ IsPlaceOf g.now.graph (place_kind k) u v }
         ensures valid { WellFormed g.now.graph }
     {
@@ -197,8 +197,8 @@ impl Candidates {
         ensures within { result ≤ 264 }
         ensures found { IfSome found.now (λ m. list_place result ≡ list_place list) }
         ensures later { IfNone found.now (list < result) }
-        ensures none { IfNone found.now ((k : Kind) (v : ℕ) → list_place list + 1 ≤ place_of k →
-            place_of k < list_place result → ¬ IsPlaceOf g.now.graph (place_kind k) u v) }
+        ensures none { IfNone found.now ((k : Kind) (v : ℕ) → list_place list + 1 ≤ kind_place k →
+            kind_place k < list_place result → ¬ IsPlaceOf g.now.graph (place_kind k) u v) }
     {
         let place = place_of_list(list);
         match found {
@@ -311,7 +311,7 @@ fn move_of(g: &OpenGraph, u: VertexId, list: usize, levels: &[u8]) -> Option<Mov
     requires { list < 264 }
     ensures live { IfSome result (λ m. Live g.now.graph u) }
     ensures found { IfSome result (IsMoveAt g.now.graph (list_place list)) }
-    ensures none { IfNone result ((k : Kind) (v : ℕ) → place_of k ≡ list_place list →
+    ensures none { IfNone result ((k : Kind) (v : ℕ) → kind_place k ≡ list_place list →
         (k ≡ kinds.Twins → ¬ IsGadgetOf g.now.graph u 0) →
         ¬ IsPlaceOf g.now.graph (place_kind k) u v) }
     ensures valid { WellFormed g.now.graph }

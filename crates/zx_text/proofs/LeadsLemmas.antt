@@ -13,7 +13,7 @@ use Rattle.zx_text.specs.Files.{Version, One, Two, unit, non_outputs, lines, flo
 use Rattle.zx_text.specs.Lines.{Line, FlowLine, OrderLine, CorrectLine, EndLine}
 use Rattle.zx_text.specs.Reading.{Wanted, is_wanted, most_ends, IsFile, IsFlowOfFile}
 use Rattle.zx_text.specs.Formats.{run, GoesOn}
-use Rattle.zx_text.specs.Internal.Stepping.{Part, State, InGraph, AtFlow, InSets, Over, step, begun, vertex_fits, edge_fits, end_fits, order_fits, set_fits, vertex_added, with_set}
+use Rattle.zx_text.specs.Internal.Stepping.{Part, LinesSoFar, InGraph, AtFlow, InSets, Over, file_step, begun, vertex_fits, edge_fits, end_fits, order_fits, set_fits, vertex_added, with_set}
 use Rattle.zx_text.specs.Internal.GraphFormat.{graph_files}
 use Rattle.zx_text.specs.Internal.Said.{graph_lines, set_lines, IsSoFar}
 use Rattle.zx_text.proofs.PartLemmas.{length-last}
@@ -51,7 +51,7 @@ at_vertices vs = record { section = 0; graph = record { vertices = vs; edges = [
 
 vertices_run : (version : Version) (wanted : Wanted) (done rest : List Vertex) → ids rest ≡ range_with_len (length done) (length rest)
     → list_all (λ v. ltb v.kind.phase turn) rest ≡ true → list_all (λ v. eqb (v.kind.phase % unit version) 0) rest ≡ true
-    → run (step version wanted) (Some (InGraph (at_vertices done))) (map (vertex_line version) rest) ≡ Some (InGraph (at_vertices (done ++ rest)))
+    → run (file_step version wanted) (Some (InGraph (at_vertices done))) (map (vertex_line version) rest) ≡ Some (InGraph (at_vertices (done ++ rest)))
 vertices_run version wanted done [] numbered turns units = ap (λ vs. Some (InGraph (at_vertices vs))) (sym (append-nil done))
 vertices_run version wanted done (v ∷ rest) numbered turns units =
     let k : ℕ = v.kind.phase / unit version in
@@ -60,7 +60,7 @@ vertices_run version wanted done (v ∷ rest) numbered turns units =
     both _ _ (le-leb 0 0 (omega arith)) (both _ _ (eq-eqb v.id (length done) (first_of numbered)) (ap (λ n. ltb n turn) exact ∙ and-left _ _ turns)) in
     let next : Part = vertex_added version (at_vertices done) v.id v.kind.plane k in
     let same : next ≡ at_vertices (done ++ v ∷ []) = ap (λ n. at_vertices (done ++ record { id = v.id; kind = record { plane = v.kind.plane; phase = n } } ∷ [])) exact in
-    run_step (step version wanted) (InGraph (at_vertices done)) (InGraph (at_vertices (done ++ v ∷ []))) (vertex_line version v) (map (vertex_line version) rest)
+    run_step (file_step version wanted) (InGraph (at_vertices done)) (InGraph (at_vertices (done ++ v ∷ []))) (vertex_line version v) (map (vertex_line version) rest)
     (fitting _ (InGraph next) fits ∙ ap (λ p. Some (InGraph p)) same)
     ∙ vertices_run version wanted (done ++ v ∷ []) rest (rest_of numbered ∙ ap (λ n. range_with_len n (length rest)) (sym (length-last done v)))
     (and-right _ _ turns) (and-right _ _ units)
@@ -68,12 +68,12 @@ vertices_run version wanted done (v ∷ rest) numbered turns units =
 
 -- ---- edges and ends
 -- lines lead to this graph, and the last of them is of such a section
-record LeadsTo (version : Version) (wanted : Wanted) (st : State) (ls : List Line) (g : Graph) (most : ℕ) : Type 0 where
+record LeadsTo (version : Version) (wanted : Wanted) (st : LinesSoFar) (ls : List Line) (g : Graph) (most : ℕ) : Type 0 where
   section : ℕ
   low : section ≤ most
-  leads : run (step version wanted) (Some st) ls ≡ Some (InGraph (record { section = section; graph = g }))
+  leads : run (file_step version wanted) (Some st) ls ≡ Some (InGraph (record { section = section; graph = g }))
 
-abbrev at_section : ℕ → Graph → State
+abbrev at_section : ℕ → Graph → LinesSoFar
 at_section s g = InGraph (record { section = s; graph = g })
 
 abbrev graph_with : List Vertex → List Edge → List End → List End → Graph
@@ -98,7 +98,7 @@ edges_run version wanted vs done (e ∷ rest) s low numbered first there order =
     record {
       section = next.section;
       low = next.low;
-      leads = run_step (step version wanted) (InGraph p) (at_section 1 (graph_with vs (done ++ e ∷ []) [] [])) (edge_line e) (map edge_line rest) (fitting _ _ fits)
+      leads = run_step (file_step version wanted) (InGraph p) (at_section 1 (graph_with vs (done ++ e ∷ []) [] [])) (edge_line e) (map edge_line rest) (fitting _ _ fits)
           ∙ next.leads ∙ ap (λ es. Some (at_section next.section (graph_with vs es [] []))) (append_assoc done (e ∷ []) rest);
     }
 
@@ -128,7 +128,7 @@ inputs_run version wanted vs es done (e ∷ rest) s low numbered are few =
     record {
       section = next.section;
       low = next.low;
-      leads = run_step (step version wanted) (at_section s g) (at_section 2 (graph_with vs es (done ++ e ∷ []) [])) (input_line e) (map input_line rest) (fitting _ _ fits)
+      leads = run_step (file_step version wanted) (at_section s g) (at_section 2 (graph_with vs es (done ++ e ∷ []) [])) (input_line e) (map input_line rest) (fitting _ _ fits)
           ∙ next.leads ∙ ap (λ is. Some (at_section next.section (graph_with vs es is []))) whole;
     }
 
@@ -145,14 +145,14 @@ outputs_run version wanted vs es is done (e ∷ rest) s low numbered are few =
     record {
       section = next.section;
       low = next.low;
-      leads = run_step (step version wanted) (at_section s g) (at_section 3 (graph_with vs es is (done ++ e ∷ []))) (output_line e) (map output_line rest) (fitting _ _ fits)
+      leads = run_step (file_step version wanted) (at_section s g) (at_section 3 (graph_with vs es is (done ++ e ∷ []))) (output_line e) (map output_line rest) (fitting _ _ fits)
           ∙ next.leads ∙ ap (λ os. Some (at_section next.section (graph_with vs es is os))) whole;
     }
 
 graph_run : (version : Version) (wanted : Wanted) (g : Graph) (table : Option (List Correction)) → IsFile version g table
     → LeadsTo version wanted (InGraph begun) (graph_lines version g) g 3
 graph_run version wanted g table file =
-    let v : run (step version wanted) (Some (InGraph begun)) (map (vertex_line version) g.vertices) ≡ Some (InGraph (at_vertices g.vertices)) =
+    let v : run (file_step version wanted) (Some (InGraph begun)) (map (vertex_line version) g.vertices) ≡ Some (InGraph (at_vertices g.vertices)) =
     vertices_run version wanted [] g.vertices file.numbered file.graph.phases_below_a_turn file.phases in
     let e = edges_run version wanted g.vertices [] g.edges 0 (omega arith) file.numbered file.graph.edges.lower_first file.graph.edges.higher_there file.graph.edges.rising in
     let low_e = e.low in
@@ -162,12 +162,12 @@ graph_run version wanted g table file =
     record {
       section = o.section;
       low = o.low;
-      leads = run-append (step version wanted) (Some (InGraph begun)) (map (vertex_line version) g.vertices) (map edge_line g.edges ++ (map input_line g.inputs ++ map output_line g.outputs))
-          ∙ ap (λ s. run (step version wanted) s (map edge_line g.edges ++ (map input_line g.inputs ++ map output_line g.outputs))) v
-          ∙ run-append (step version wanted) (Some (InGraph (at_vertices g.vertices))) (map edge_line g.edges) (map input_line g.inputs ++ map output_line g.outputs)
-          ∙ ap (λ s. run (step version wanted) s (map input_line g.inputs ++ map output_line g.outputs)) e.leads
-          ∙ run-append (step version wanted) (Some (at_section e.section (graph_with g.vertices g.edges [] []))) (map input_line g.inputs) (map output_line g.outputs)
-          ∙ ap (λ s. run (step version wanted) s (map output_line g.outputs)) i.leads
+      leads = run-append (file_step version wanted) (Some (InGraph begun)) (map (vertex_line version) g.vertices) (map edge_line g.edges ++ (map input_line g.inputs ++ map output_line g.outputs))
+          ∙ ap (λ s. run (file_step version wanted) s (map edge_line g.edges ++ (map input_line g.inputs ++ map output_line g.outputs))) v
+          ∙ run-append (file_step version wanted) (Some (InGraph (at_vertices g.vertices))) (map edge_line g.edges) (map input_line g.inputs ++ map output_line g.outputs)
+          ∙ ap (λ s. run (file_step version wanted) s (map input_line g.inputs ++ map output_line g.outputs)) e.leads
+          ∙ run-append (file_step version wanted) (Some (at_section e.section (graph_with g.vertices g.edges [] []))) (map input_line g.inputs) (map output_line g.outputs)
+          ∙ ap (λ s. run (file_step version wanted) s (map output_line g.outputs)) i.leads
           ∙ o.leads;
     }
 
@@ -210,11 +210,11 @@ as_listed (e ∷ es) differ f same =
     (λ t s. absurd (true≢false (sym inside ∙ ap (λ w. member w (order_of es)) s ∙ differ.0)))
     (λ other n. ap (λ b. if b then e.members else set_of es u) other)))
 
-abbrev sets_at : Graph → List Correction → List ℕ → List ℕ → State
+abbrev sets_at : Graph → List Correction → List ℕ → List ℕ → LinesSoFar
 sets_at g t done left = InSets (record { graph = g; table = t; done = done; left = left })
 
 sets_run : (version : Version) (wanted : Wanted) (g : Graph) (t : List Correction) (done left : List ℕ) → list_all (λ v. set_fits g (set_of t v)) left ≡ true
-    → run (step version wanted) (Some (sets_at g (listed (partly t done) (order_of t)) done left)) (set_lines t left ++ EndLine ∷ [])
+    → run (file_step version wanted) (Some (sets_at g (listed (partly t done) (order_of t)) done left)) (set_lines t left ++ EndLine ∷ [])
     ≡ Some (Over g (Some (listed (partly t (done ++ left)) (order_of t))))
 sets_run version wanted g t done [] fits = ap (λ d. Some (Over g (Some (listed (partly t d) (order_of t))))) (sym (append-nil done))
 sets_run version wanted g t done (v ∷ left) fits =
@@ -222,7 +222,7 @@ sets_run version wanted g t done (v ∷ left) fits =
     let table : with_set v (set_of t v) (listed (partly t done) (order_of t)) ≡ listed (partly t (done ++ v ∷ [])) (order_of t) =
     with_sets-listed (λ u set. if eqb u v then set_of t v else set) (partly t done) (order_of t)
     ∙ ap (λ f. listed f (order_of t)) (λ i u. one_more t done v u i) in
-    run_step (step version wanted) (sets_at g (listed (partly t done) (order_of t)) done (v ∷ left)) (sets_at g (listed (partly t (done ++ v ∷ [])) (order_of t)) (done ++ v ∷ []) left)
+    run_step (file_step version wanted) (sets_at g (listed (partly t done) (order_of t)) done (v ∷ left)) (sets_at g (listed (partly t (done ++ v ∷ [])) (order_of t)) (done ++ v ∷ []) left)
     (CorrectLine v (set_of t v)) (set_lines t left ++ EndLine ∷ [])
     (fitting _ (sets_at g (with_set v (set_of t v) (listed (partly t done) (order_of t))) (done ++ v ∷ []) left) here ∙ ap (λ x. Some (sets_at g x (done ++ v ∷ []) left)) table)
     ∙ sets_run version wanted g t (done ++ v ∷ []) left (and-right _ _ fits)
@@ -242,9 +242,9 @@ order_ready {g} {t} flow =
     (or_all (λ v. member v (order_of t)) (λ v. member v (end_vertices g.outputs)) (ids g.vertices) flow.order.all_there))
 
 flow_run : (version : Version) (wanted : Wanted) (g : Graph) (t : List Correction) (s : ℕ) → IsFile version g (Some t)
-    → run (step version wanted) (Some (at_section s g)) (flow_lines g (Some t) ++ EndLine ∷ []) ≡ Some (Over g (Some t))
+    → run (file_step version wanted) (Some (at_section s g)) (flow_lines g (Some t) ++ EndLine ∷ []) ≡ Some (Over g (Some t))
 flow_run version wanted g t s file =
-    run_step (step version wanted) (AtFlow g) (sets_at g (listed (partly t []) (order_of t)) [] (non_outputs g)) (OrderLine (order_of t)) (set_lines t (non_outputs g) ++ EndLine ∷ [])
+    run_step (file_step version wanted) (AtFlow g) (sets_at g (listed (partly t []) (order_of t)) [] (non_outputs g)) (OrderLine (order_of t)) (set_lines t (non_outputs g) ++ EndLine ∷ [])
     (fitting _ _ (order_ready flow))
     ∙ sets_run version wanted g t [] (non_outputs g) (all_by (λ v. set_fits g (set_of t v)) (non_outputs g) (λ v inside. fits v (placed v inside)))
     ∙ ap (λ x. Some (Over g (Some x))) (as_listed t (Distinct-different (order_of t) flow.order.each_once) (partly t (non_outputs g))
@@ -273,16 +273,16 @@ flow_run version wanted g t s file =
 
 -- ---- the lines of a file
 pub complete : (version : Version) (wanted : Wanted) (g : Graph) (table : Option (List Correction)) → IsFile version g table → is_wanted wanted table ≡ true
-    → run (step version wanted) (Some (InGraph begun)) (lines version g table) ≡ Some (Over g table)
+    → run (file_step version wanted) (Some (InGraph begun)) (lines version g table) ≡ Some (Over g table)
 complete version wanted g table file fits =
     let graph = graph_run version wanted g table file in
-    ap (run (step version wanted) (Some (InGraph begun))) (lines-graph version g table)
-    ∙ run-append (step version wanted) (Some (InGraph begun)) (graph_lines version g) (flow_lines g table ++ EndLine ∷ [])
-    ∙ ap (λ s. run (step version wanted) s (flow_lines g table ++ EndLine ∷ [])) graph.leads
+    ap (run (file_step version wanted) (Some (InGraph begun))) (lines-graph version g table)
+    ∙ run-append (file_step version wanted) (Some (InGraph begun)) (graph_lines version g) (flow_lines g table ++ EndLine ∷ [])
+    ∙ ap (λ s. run (file_step version wanted) s (flow_lines g table ++ EndLine ∷ [])) graph.leads
     ∙ behind table file fits graph.section
   where
     behind : (table : Option (List Correction)) → IsFile version g table → is_wanted wanted table ≡ true → (s : ℕ)
-        → run (step version wanted) (Some (at_section s g)) (flow_lines g table ++ EndLine ∷ []) ≡ Some (Over g table)
+        → run (file_step version wanted) (Some (at_section s g)) (flow_lines g table ++ EndLine ∷ []) ≡ Some (Over g table)
     behind None file fits s = fitting _ (Over g None) fits
     behind (Some t) file fits s = flow_run version wanted g t s file
 
@@ -294,7 +294,7 @@ finish_sets version wanted g t done (v ∷ left) =
     record {
       more = CorrectLine v [] ∷ next.more;
       end = next.end;
-      leads = run_step (step version wanted) (sets_at g t done (v ∷ left)) (sets_at g (with_set v [] t) (done ++ v ∷ []) left) (CorrectLine v []) next.more
+      leads = run_step (file_step version wanted) (sets_at g t done (v ∷ left)) (sets_at g (with_set v [] t) (done ++ v ∷ []) left) (CorrectLine v []) next.more
           (fitting (eqb v v && set_fits g []) _ (both _ _ (eqb-self v) refl)) ∙ next.leads;
       over = next.over;
     }
@@ -316,11 +316,11 @@ finish_flow version wanted g file =
     record {
       more = OrderLine vs ∷ next.more;
       end = next.end;
-      leads = run_step (step version wanted) (AtFlow g) (sets_at g (map (λ v. record { vertex = v; members = [] }) vs) [] vs) (OrderLine vs) next.more (fitting _ _ fits) ∙ next.leads;
+      leads = run_step (file_step version wanted) (AtFlow g) (sets_at g (map (λ v. record { vertex = v; members = [] }) vs) [] vs) (OrderLine vs) next.more (fitting _ _ fits) ∙ next.leads;
       over = next.over;
     }
 
-pub finish : (version : Version) (wanted : Wanted) (st : State) (so_far : List Line) → IsSoFar version wanted st so_far → GoesOn (graph_files wanted) version st
+pub finish : (version : Version) (wanted : Wanted) (st : LinesSoFar) (so_far : List Line) → IsSoFar version wanted st so_far → GoesOn (graph_files wanted) version st
 finish version wanted (InGraph p) so_far so =
     let next = finish_flow version wanted p.graph so.graph in
     record { more = FlowLine ∷ next.more; end = next.end; leads = next.leads; over = next.over }

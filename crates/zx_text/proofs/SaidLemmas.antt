@@ -13,7 +13,7 @@ use Rattle.zx_text.specs.Files.{Version, One, Two, unit, non_outputs, lines, flo
 use Rattle.zx_text.specs.Lines.{Line, VertexLine, EdgeLine, InputLine, OutputLine, FlowLine, OrderLine, CorrectLine, EndLine}
 use Rattle.zx_text.specs.Reading.{Wanted, AnyFile, OnlyWithFlow, is_wanted, most_ends, IsFile, IsFlowOfFile}
 use Rattle.zx_text.specs.Formats.{run}
-use Rattle.zx_text.specs.Internal.Stepping.{Part, Sets, State, InGraph, AtFlow, InSets, Over, step, flow_step, set_step, begun, vertex_fits, edge_fits, end_fits, order_fits, set_fits, vertex_added, edge_added, input_added, output_added, ordered, no_sets, set_added, with_set}
+use Rattle.zx_text.specs.Internal.Stepping.{Part, Sets, LinesSoFar, InGraph, AtFlow, InSets, Over, file_step, flow_step, set_step, begun, vertex_fits, edge_fits, end_fits, order_fits, set_fits, vertex_added, edge_added, input_added, output_added, ordered, no_sets, set_added, with_set}
 use Rattle.zx_text.specs.Internal.Said.{graph_lines, set_lines, IsInSection, AreSetsOf, IsSoFar}
 use Rattle.zx_text.proofs.PartLemmas.{all-last, order-last, in_range, ids-last, length-last}
 use Rattle.zx_text.proofs.SetLemmas.{different_from, order_of-no_sets, in_all, list_all-same, none_out}
@@ -257,7 +257,7 @@ file_output {version} {g} file e place =
     }
 
 -- ---- one line more of a graph
-abbrev More : Version → Wanted → State → List Line → Line → Type 0
+abbrev More : Version → Wanted → LinesSoFar → List Line → Line → Type 0
 More version wanted st so_far l = IsSoFar version wanted st (so_far ++ l ∷ [])
 
 more_vertex : {version : Version} {wanted : Wanted} {p : Part} {so_far : List Line} → IsSoFar version wanted (InGraph p) so_far
@@ -475,8 +475,8 @@ more_end_of_sets {version} {wanted} {p} {so_far} so none =
     }
 
 -- ---- each line that leads anywhere
-pub so_far_more : (version : Version) (wanted : Wanted) (st : State) (l : Line) (next : State) (so_far : List Line) → IsSoFar version wanted st so_far
-    → step version wanted st l ≡ Some next → IsSoFar version wanted next (so_far ++ l ∷ [])
+pub so_far_more : (version : Version) (wanted : Wanted) (st : LinesSoFar) (l : Line) (next : LinesSoFar) (so_far : List Line) → IsSoFar version wanted st so_far
+    → file_step version wanted st l ≡ Some next → IsSoFar version wanted next (so_far ++ l ∷ [])
 so_far_more version wanted (InGraph p) (VertexLine i plane phase) next so_far so e = subst (λ s. More version wanted s so_far (VertexLine i plane phase)) (only _ _ next e) (more_vertex so i plane phase (passed _ _ _ e))
 so_far_more version wanted (InGraph p) (EdgeLine a b) next so_far so e = subst (λ s. More version wanted s so_far (EdgeLine a b)) (only _ _ next e) (more_edge so a b (passed _ _ _ e))
 so_far_more version wanted (InGraph p) (InputLine v hadamard) next so_far so e = subst (λ s. More version wanted s so_far (InputLine v hadamard)) (only _ _ next e) (more_input so v hadamard (passed _ _ _ e))
@@ -504,9 +504,9 @@ so_far_more version wanted (InSets p) l next so_far so e = set_more p.left l ref
     set_more left l at e = absurd (cc)
 so_far_more version wanted (Over g table) l next so_far so e = absurd (cc)
 
-pub so_far_run : (version : Version) (wanted : Wanted) (st : State) (ls : List Line) (end : State) (so_far : List Line) → IsSoFar version wanted st so_far
-    → run (step version wanted) (Some st) ls ≡ Some end → IsSoFar version wanted end (so_far ++ ls)
-so_far_run version wanted = kept_by_run (step version wanted) (IsSoFar version wanted) (so_far_more version wanted)
+pub so_far_run : (version : Version) (wanted : Wanted) (st : LinesSoFar) (ls : List Line) (end : LinesSoFar) (so_far : List Line) → IsSoFar version wanted st so_far
+    → run (file_step version wanted) (Some st) ls ≡ Some end → IsSoFar version wanted end (so_far ++ ls)
+so_far_run version wanted = kept_by_run (file_step version wanted) (IsSoFar version wanted) (so_far_more version wanted)
 
 pub so_far_begun : (version : Version) (wanted : Wanted) → IsSoFar version wanted (InGraph begun) []
 so_far_begun version wanted = record {
@@ -529,7 +529,7 @@ so_far_begun version wanted = record {
 }
 
 -- lines that lead to the end are all lines of a file
-pub sound : (version : Version) (wanted : Wanted) (ls : List Line) (g : Graph) (table : Option (List Correction)) → run (step version wanted) (Some (InGraph begun)) ls ≡ Some (Over g table)
+pub sound : (version : Version) (wanted : Wanted) (ls : List Line) (g : Graph) (table : Option (List Correction)) → run (file_step version wanted) (Some (InGraph begun)) ls ≡ Some (Over g table)
     → (ls ≡ lines version g table) × (IsFile version g table × (is_wanted wanted table ≡ true))
 sound version wanted ls g table e =
     let so : IsSoFar version wanted (Over g table) ls = so_far_run version wanted (InGraph begun) ls (Over g table) [] (so_far_begun version wanted) e in (

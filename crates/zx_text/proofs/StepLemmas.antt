@@ -12,8 +12,8 @@ use Rattle.zx_text.specs.Lines.{Line, VertexLine, EdgeLine, InputLine, OutputLin
 use Rattle.zx_text.specs.Reading.{Wanted}
 use Rattle.zx_text.specs.Internal.SmallNumbers.{is_small}
 use Rattle.zx_text.specs.Internal.Taking.{has_small}
-use Rattle.zx_text.specs.Internal.Stepping.{Sets, State, InGraph, AtFlow, InSets, Over, only_if, step, flow_step, set_step, vertices_of, order_fits, set_fits, set_added}
-use Rattle.zx_text.specs.Internal.Readers.{state_of, IsReadIfFits}
+use Rattle.zx_text.specs.Internal.Stepping.{Sets, LinesSoFar, InGraph, AtFlow, InSets, Over, only_if, file_step, flow_step, set_step, vertices_of, order_fits, set_fits, set_added}
+use Rattle.zx_text.specs.Internal.Readers.{lines_so_far, IsReadIfFits}
 use Rattle.zx_text.specs.Internal.Said.{AreSetsOf, IsSoFar}
 use Rattle.zx_text.specs.declared.reader.Reader.{Reader}
 use Rattle.zx_text.proofs.PartLemmas.{length-last}
@@ -21,7 +21,7 @@ use Rattle.zx_text.proofs.SetLemmas.{none_out}
 use Rattle.zx_text.proofs.RunLemmas.{only, passed}
 use Rattle.zx_text.proofs.SaidLemmas.{end_place, below_of_id, last_true}
 
-pub vertices_after : (version : Version) (wanted : Wanted) (st : State) (l : Line) (next : State) → step version wanted st l ≡ Some next
+pub vertices_after : (version : Version) (wanted : Wanted) (st : LinesSoFar) (l : Line) (next : LinesSoFar) → file_step version wanted st l ≡ Some next
     → length (vertices_of next) ≤ length (vertices_of st) + 1
 vertices_after version wanted (InGraph p) (VertexLine i plane phase) next e =
     let same = only _ _ next e in
@@ -58,8 +58,8 @@ small_below n (v ∷ vs) le all =
     let lt = ltb-true v n (and-left _ _ all) in
     both _ _ (small v (omega (arith, lt, le))) (small_below n vs le (and-right _ _ all))
 
-pub small_next : (version : Version) (wanted : Wanted) (st : State) (so_far : List Line) (l : Line) (next : State) → IsSoFar version wanted st so_far
-    → length (vertices_of st) ≤ 2 ^ 32 → step version wanted st l ≡ Some next → has_small l ≡ true
+pub small_next : (version : Version) (wanted : Wanted) (st : LinesSoFar) (so_far : List Line) (l : Line) (next : LinesSoFar) → IsSoFar version wanted st so_far
+    → length (vertices_of st) ≤ 2 ^ 32 → file_step version wanted st l ≡ Some next → has_small l ≡ true
 small_next version wanted (InGraph p) so_far (VertexLine i plane phase) next so few e =
     let others = and-right _ _ (passed _ _ _ e) in
     let at = eqb-true i (length p.graph.vertices) (and-left _ _ others) in
@@ -110,16 +110,16 @@ small_next version wanted (InSets p) so_far l next so few e = small_set p.left l
 small_next version wanted (Over g table) so_far l next so few e = absurd (cc)
 
 -- ---- what is read so far is kept where a line fits
-kept_step : {A E : Type 0} (wrap : A → State) (fits : Result Bool E) (answer : Result (Option Reader) E) (new added : A) (test : Bool) → IfOk fits (λ b. b ≡ test)
-    → IfOk fits (λ b. b ≡ true → new ≡ added) → IsReadIfFits fits (wrap new) answer → IfOk answer (λ next. option_map state_of next ≡ only_if test (wrap added))
+kept_step : {A E : Type 0} (wrap : A → LinesSoFar) (fits : Result Bool E) (answer : Result (Option Reader) E) (new added : A) (test : Bool) → IfOk fits (λ b. b ≡ test)
+    → IfOk fits (λ b. b ≡ true → new ≡ added) → IsReadIfFits fits (wrap new) answer → IfOk answer (λ next. option_map lines_so_far next ≡ only_if test (wrap added))
 kept_step wrap (Ok true) (Ok next) new added test is gives kept = kept ∙ ap (λ x. Some (wrap x)) (gives refl) ∙ ap (λ t. only_if t (wrap added)) is
 kept_step wrap (Ok false) (Ok next) new added test is gives kept = kept ∙ ap (λ t. only_if t (wrap added)) is
 kept_step wrap (Err e) (Ok next) new added test is gives kept = absurd kept
 kept_step wrap fits (Err e) new added test is gives kept = tt
 
-pub kept_by : {A E : Type 0} (wrap : A → State) {fits made : Result Bool E} (answer : Result (Option Reader) E) {after new : A} (added : A) (test : Bool) → fits ≡ made → after ≡ new
+pub kept_by : {A E : Type 0} (wrap : A → LinesSoFar) {fits made : Result Bool E} (answer : Result (Option Reader) E) {after new : A} (added : A) (test : Bool) → fits ≡ made → after ≡ new
     → IfOk made (λ b. b ≡ test) → IfOk made (λ b. b ≡ true → new ≡ added) → IsReadIfFits fits (wrap after) answer
-    → IfOk answer (λ next. option_map state_of next ≡ only_if test (wrap added))
+    → IfOk answer (λ next. option_map lines_so_far next ≡ only_if test (wrap added))
 kept_by wrap {fits} {made} answer {after} {new} added test same_fits same_new is gives kept =
     kept_step wrap made answer new added test is gives
     (subst (λ f. IsReadIfFits f (wrap new) answer) same_fits (subst (λ a. IsReadIfFits fits (wrap a) answer) same_new kept))

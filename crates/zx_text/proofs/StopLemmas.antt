@@ -7,7 +7,7 @@ use Rattle.zx_text.specs.Files.{Version, One, Two, header, spelled, lines}
 use Rattle.zx_text.specs.Lines.{Line, spelled_line}
 use Rattle.zx_text.specs.Reading.{Wanted, AnyFile, is_wanted, most_bytes, Spells, IsFileText, IsBadLine}
 use Rattle.zx_text.specs.Formats.{IsFormat, IsHeaded, run, version_in}
-use Rattle.zx_text.specs.Internal.Stepping.{State, InGraph, AtFlow, InSets, Over, begun, step}
+use Rattle.zx_text.specs.Internal.Stepping.{LinesSoFar, InGraph, AtFlow, InSets, Over, begun, file_step}
 use Rattle.zx_text.specs.Internal.Said.{IsSoFar, word}
 use Rattle.zx_text.specs.Internal.GraphFormat.{graph_files}
 use Rattle.zx_text.proofs.LineLemmas.{read, read-parts, some_part, plain_parts}
@@ -52,7 +52,7 @@ headed_spells wanted text g table is =
       facts.1.1,
     )
 
-is_file : (wanted : Wanted) (text : List ℕ) (end : State) → IsHeaded (graph_files wanted) text end → IsFileText wanted text
+is_file : (wanted : Wanted) (text : List ℕ) (end : LinesSoFar) → IsHeaded (graph_files wanted) text end → IsFileText wanted text
 is_file wanted text (InGraph p) is = absurd (true≢false (sym is.whole.over))
 is_file wanted text (AtFlow g) is = absurd (true≢false (sym is.whole.over))
 is_file wanted text (InSets p) is = absurd (true≢false (sym is.whole.over))
@@ -76,7 +76,7 @@ by_lines wanted = record {
   has_end = λ text file. (Over file.graph file.table, headed wanted text file.graph file.table file.spells file.is_wanted);
 }
   where
-    reached : (version : Version) (so_far : List Line) (st : State) → run (step version wanted) (Some (InGraph begun)) so_far ≡ Some st → IsSoFar version wanted st so_far
+    reached : (version : Version) (so_far : List Line) (st : LinesSoFar) → run (file_step version wanted) (Some (InGraph begun)) so_far ≡ Some st → IsSoFar version wanted st so_far
     reached version so_far st to_st = so_far_run version wanted (InGraph begun) so_far st [] (so_far_begun version wanted) to_st
 
 -- a text with a bad line is no file

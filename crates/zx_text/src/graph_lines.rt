@@ -4,7 +4,7 @@ ghost use Rattle.std.specs.Prelude.{◌≡◌, ◌<◌, ◌^◌, length, IfOk, I
 ghost use Rattle.zx_text.specs.Formats.{IsTaken, IsRefused};
 ghost use Rattle.zx_text.specs.Versions.{version_named};
 ghost use Rattle.zx_text.specs.Internal.GraphFormat.{graph_files};
-ghost use Rattle.zx_text.specs.Internal.Readers.{is_over, state_of, wanted_by};
+ghost use Rattle.zx_text.specs.Internal.Readers.{is_over, lines_so_far, wanted_by};
 ghost use Rattle.zx_text.specs.Internal.Stepping.{vertices_of};
 
 use crate::graph_part::GraphPart;
@@ -21,7 +21,7 @@ pub(crate) struct GraphLines<const WITH_FLOW: bool>(pub(crate) Reader);
 impl<const WITH_FLOW: bool> LineReader for GraphLines<WITH_FLOW> {
     ghost format = { graph_files (wanted_by WITH_FLOW) };
 
-    ghost state = { λ lines. state_of lines.0 };
+    ghost state = { λ lines. lines_so_far lines.0 };
 
     fn new(alloc: Global) -> GraphLines<WITH_FLOW> {
         GraphLines(Reader::Graph(GraphPart::new(alloc)))
@@ -56,11 +56,11 @@ fn line_taken(
     reader: Reader,
     line: &[u8],
 ) -> Result<Option<Reader>, AllocError>
-    requires room { length (vertices_of (state_of reader)) < 2 ^ 32 }
+    requires room { length (vertices_of (lines_so_far reader)) < 2 ^ 32 }
     ensures taken { IfOk result (λ found. IfSome found (λ next. IsTaken (graph_files (wanted_by with_flow))
-        (version_named version) (state_of reader) line.now (state_of next))) }
+        (version_named version) (lines_so_far reader) line.now (lines_so_far next))) }
     ensures none { IfOk result (λ found. IfNone found (IsRefused (graph_files (wanted_by with_flow))
-        (version_named version) (state_of reader) line.now)) }
+        (version_named version) (lines_so_far reader) line.now)) }
 {
     match parse(alloc, line) {
         Ok(Some(line)) => taken(alloc, version, with_flow, reader, &line),
@@ -77,7 +77,7 @@ fn line_taken(
 
 // Whether the last line of a file is read.
 fn is_over(reader: &Reader) -> bool
-    ensures { result ≡ is_over (state_of reader.now) }
+    ensures { result ≡ is_over (lines_so_far reader.now) }
 {
     match reader {
         Reader::Over(_, _) => true,

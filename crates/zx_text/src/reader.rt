@@ -4,8 +4,8 @@ ghost use Rattle.std.specs.Prelude.{◌≡◌, ◌<◌, ◌^◌, ◌∷◌, [], 
 ghost use Rattle.std.specs.Option.{option_map};
 ghost use Rattle.zx_text.specs.Versions.{version_named};
 ghost use Rattle.zx_text.specs.Internal.Taking.{line_said};
-ghost use Rattle.zx_text.specs.Internal.Stepping.{step, graph_step, flow_step, set_step, vertices_of};
-ghost use Rattle.zx_text.specs.Internal.Readers.{state_of, wanted_by, IsReadIfFits};
+ghost use Rattle.zx_text.specs.Internal.Stepping.{file_step, graph_step, flow_step, set_step, vertices_of};
+ghost use Rattle.zx_text.specs.Internal.Readers.{lines_so_far, wanted_by, IsReadIfFits};
 
 use crate::graph_part::GraphPart;
 use crate::line::Line;
@@ -36,9 +36,9 @@ pub(crate) fn taken(
     reader: Reader,
     line: &Line,
 ) -> Result<Option<Reader>, AllocError>
-    requires room { length (vertices_of (state_of reader)) < 2 ^ 32 }
-    ensures { IfOk result (λ next. option_map state_of next
-        ≡ step (version_named version) (wanted_by with_flow) (state_of reader) (line_said line.now)) }
+    requires room { length (vertices_of (lines_so_far reader)) < 2 ^ 32 }
+    ensures { IfOk result (λ next. option_map lines_so_far next
+        ≡ file_step (version_named version) (wanted_by with_flow) (lines_so_far reader) (line_said line.now)) }
 {
     match reader {
         Reader::Graph(part) => graph_taken(version, with_flow, part, line),
@@ -60,7 +60,7 @@ fn graph_taken(
     line: &Line,
 ) -> Result<Option<Reader>, AllocError>
     requires room { length part.graph.vertices < 2 ^ 32 }
-    ensures { IfOk result (λ next. option_map state_of next
+    ensures { IfOk result (λ next. option_map lines_so_far next
         ≡ graph_step (version_named version) (wanted_by with_flow) part (line_said line.now)) }
 {
     let mut part = part;
@@ -89,7 +89,7 @@ fn graph_taken(
 
 // What is read so far, if the last line fits.
 fn kept(reader: Reader, fits: Result<bool, AllocError>) -> Result<Option<Reader>, AllocError>
-    ensures { IsReadIfFits fits (state_of reader) result }
+    ensures { IsReadIfFits fits (lines_so_far reader) result }
 {
     match fits {
         Ok(true) => Ok(Some(reader)),
@@ -106,7 +106,7 @@ fn kept(reader: Reader, fits: Result<bool, AllocError>) -> Result<Option<Reader>
 
 // The same behind the line of a flow.
 fn order_taken(alloc: Global, part: GraphPart, line: &Line) -> Result<Option<Reader>, AllocError>
-    ensures { IfOk result (λ next. option_map state_of next ≡ flow_step part.graph (line_said line.now)) }
+    ensures { IfOk result (λ next. option_map lines_so_far next ≡ flow_step part.graph (line_said line.now)) }
 {
     match line {
         Line::Order(order) => match SetPart::of_order(alloc, part, order)? {
@@ -122,7 +122,7 @@ fn order_taken(alloc: Global, part: GraphPart, line: &Line) -> Result<Option<Rea
 
 // The same behind that of its order.
 fn set_taken(part: SetPart, line: &Line) -> Result<Option<Reader>, AllocError>
-    ensures { IfOk result (λ next. option_map state_of next ≡ set_step part part.left (line_said line.now)) }
+    ensures { IfOk result (λ next. option_map lines_so_far next ≡ set_step part part.left (line_said line.now)) }
 {
     match part.next() {
         Some(next) => member_line_taken(part, next, line),
@@ -137,7 +137,7 @@ fn member_line_taken(
     line: &Line,
 ) -> Result<Option<Reader>, AllocError>
     requires next { part.left ≡ next ∷ drop 1 part.left }
-    ensures { IfOk result (λ next. option_map state_of next ≡ set_step part part.left (line_said line.now)) }
+    ensures { IfOk result (λ next. option_map lines_so_far next ≡ set_step part part.left (line_said line.now)) }
 {
     match line {
         Line::Correct(v, members) => {
@@ -159,7 +159,7 @@ fn member_line_taken(
 // The same where no set is to come.
 fn end_taken(part: SetPart, line: &Line) -> Result<Option<Reader>, AllocError>
     requires none { part.left ≡ [] }
-    ensures { IfOk result (λ next. option_map state_of next ≡ set_step part part.left (line_said line.now)) }
+    ensures { IfOk result (λ next. option_map lines_so_far next ≡ set_step part part.left (line_said line.now)) }
 {
     match line {
         Line::End => Ok(Some(Reader::Over(part.graph, Some(part.table)))),

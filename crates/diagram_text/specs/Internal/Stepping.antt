@@ -73,9 +73,9 @@ line_step version d (Input leg) = only_if (input_fits d leg) (Open (input_added 
 line_step version d (Output leg) = only_if (output_fits d leg) (Open (output_added d leg))
 line_step version d End = Some (Over d)
 
-abbrev pub step : Version → Reader → Line → Option Reader
-step version (Open d) line = line_step version d line
-step version (Over d) line = None
+abbrev pub diagram_step : Version → Reader → Line → Option Reader
+diagram_step version (Open d) line = line_step version d line
+diagram_step version (Over d) line = None
 
 -- before the first line behind the header
 abbrev pub begun : Reader

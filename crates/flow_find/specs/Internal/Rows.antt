@@ -56,7 +56,7 @@ abbrev pub IsPut : Row → List Row → List Row → Type 0
 IsPut row old new = IsPivoted row old new ⊎ IsSpent row old new
 
 -- a row with this pivot is taken out
-pub record IsTaken (v : ℕ) (row : Row) (old new : List Row) : Type 0 where
+pub record IsRowTaken (v : ℕ) (row : Row) (old new : List Row) : Type 0 where
   pub before : List Row
   pub after : List Row
   pub pivot : row.pivot ≡ v

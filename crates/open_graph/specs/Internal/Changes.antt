@@ -4,22 +4,22 @@ use Rattle.zx_model.specs.Bits.{xor, member}
 use Rattle.zx_calculus.specs.Graph.{Graph, ids, kind_of, joined}
 use Rattle.zx_calculus.proofs.Ids.{removed}
 use Rattle.open_graph.specs.declared.slot.Slot.{Slot}
-use Rattle.open_graph.specs.Internal.Slots.{Told, nothing, told, adjacent, place_of}
+use Rattle.open_graph.specs.Internal.Slots.{Told, nothing, told_at, adjacent, place_among}
 
 -- of u the new slots tell this, and of any other id what the old ones did
 abbrev pub Puts : List (Option Slot) → List (Option Slot) → ℕ → Told → Type 0
-Puts old new u t = (p : ℕ) → told new p ≡ (if p == u then t else told old p)
+Puts old new u t = (p : ℕ) → told_at new p ≡ (if p == u then t else told_at old p)
 
 abbrev pub SameTold : List (Option Slot) → List (Option Slot) → Type 0
-SameTold old new = (p : ℕ) → told new p ≡ told old p
+SameTold old new = (p : ℕ) → told_at new p ≡ told_at old p
 
 -- slots tell the lists of h
-pub record Keeps (slots : List (Option Slot)) (h : Graph) : Type 0 where
-  pub live : (p : ℕ) → (told slots p).live ≡ member p (ids h.vertices)
-  pub kind : (p : ℕ) → (told slots p).live ≡ true → (told slots p).kind ≡ kind_of h.vertices p
+pub record Stores (slots : List (Option Slot)) (h : Graph) : Type 0 where
+  pub live : (p : ℕ) → (told_at slots p).live ≡ member p (ids h.vertices)
+  pub kind : (p : ℕ) → (told_at slots p).live ≡ true → (told_at slots p).kind ≡ kind_of h.vertices p
   pub adjacent : (p q : ℕ) → adjacent slots p q ≡ joined h.edges p q
-  pub input : (p : ℕ) → (told slots p).input ≡ place_of p h.inputs
-  pub output : (p : ℕ) → (told slots p).output ≡ place_of p h.outputs
+  pub input : (p : ℕ) → (told_at slots p).input ≡ place_among p h.inputs
+  pub output : (p : ℕ) → (told_at slots p).output ≡ place_among p h.outputs
 
 -- the same without v among the neighbours
 abbrev pub without_neighbour : ℕ → Told → Told
@@ -27,7 +27,7 @@ without_neighbour v t = record t { row = removed v t.row }
 
 -- in the row of p each q is toggled where the pair is picked, and all else stays
 pub record RowsToggled (old new : List (Option Slot)) (picked : ℕ → ℕ → Bool) : Type 0 where
-  pub others : (p : ℕ) → told new p ≡ record (told old p) { row = (told new p).row }
+  pub others : (p : ℕ) → told_at new p ≡ record (told_at old p) { row = (told_at new p).row }
   pub rows : (p q : ℕ) → adjacent new p q ≡ xor (adjacent old p q) (picked p q)
 
 -- two different listed ones
@@ -37,5 +37,5 @@ two_among near p q = member p near && xor (member q near) (q == p)
 -- v is gone, and so is its mention in the rows of these vertices
 abbrev pub RemovedFrom : List (Option Slot) → List (Option Slot) → ℕ → List ℕ → Type 0
 RemovedFrom old new v rows =
-    (p : ℕ) → told new p ≡ (if p == v then nothing else if member p rows then without_neighbour v (told old p)
-    else told old p)
+    (p : ℕ) → told_at new p ≡ (if p == v then nothing else if member p rows then without_neighbour v (told_at old p)
+    else told_at old p)

@@ -59,7 +59,7 @@ pub record CanHold (reach : ℕ) (scratch : Scratch) : Type 0 where
   pub far : reach ≤ scratch.far.room
 
 -- what is kept of a graph is sound, and its rows have their room, and so have the sets that calls fill
-pub record IsKept (slots : List (Option Slot)) (inputs outputs : List End) (kept : List VertexSet) (sets : Scratch)
+pub record IsStored (slots : List (Option Slot)) (inputs outputs : List End) (kept : List VertexSet) (sets : Scratch)
     (reach : ℕ) : Type 0 where
   pub sound : IsSound slots inputs outputs
   pub room : HasRoom reach slots kept

@@ -20,6 +20,6 @@ pub record IsSignificand (s : Significand) : Type 0 where
   pub full : 0 < s.zeros → s.count ≡ most_significant
 
 -- the digits so far and the rest decide as all digits do
-pub record Keeps (s : Significand) (rest digits : List ℕ) : Type 0 where
+pub record DecidesAlike (s : Significand) (rest digits : List ℕ) : Type 0 where
   pub number : number_from (s.leading * 10 ^ s.zeros) rest ≡ number_of digits
   pub length : overlong (s.count + s.zeros) rest ≡ nat_lt most_significant (significant digits)

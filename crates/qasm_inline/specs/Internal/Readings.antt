@@ -26,13 +26,13 @@ pub record AreTaken (all : List Lexeme) (gate : Option OpenGate) (circuit : Circ
 
 -- So they were, and those are kept, which no part begins. Or there is a syntax fault at this place whatever follows,
 -- and none are kept.
-abbrev pub IsKept : Option ℕ → List Lexeme → Option OpenGate → Circuit → List Lexeme → Type 0
-IsKept None all gate circuit kept = (read : AreTaken all gate circuit kept) × BeginNone read.behind kept
-IsKept (Some at) all gate circuit kept = (kept ≡ []) × ((more : List Lexeme) → IsSyntaxFault (all ++ more) at)
+abbrev pub IsReadSoFar : Option ℕ → List Lexeme → Option OpenGate → Circuit → List Lexeme → Type 0
+IsReadSoFar None all gate circuit kept = (read : AreTaken all gate circuit kept) × BeginNone read.behind kept
+IsReadSoFar (Some at) all gate circuit kept = (kept ≡ []) × ((more : List Lexeme) → IsSyntaxFault (all ++ more) at)
 
 -- of the tokens behind what was taken in so many are taken in too, or no part begins them
 abbrev pub IsTakenNext : List Lexeme → Option ℕ → Reader → List Token → Type 0
-IsTakenNext all count later tokens = MatchOption count (IsKept None all later.gate later.circuit (lexemes tokens))
+IsTakenNext all count later tokens = MatchOption count (IsReadSoFar None all later.gate later.circuit (lexemes tokens))
     (λ n. AreTaken all later.gate later.circuit (lexemes (drop n tokens)))
 
 -- the part comes next in the body of the gate that is declared at this place, whatever of it was taken in
@@ -41,13 +41,13 @@ IsNextOf place tokens part = (form : GateForm) (behind : List Lexeme) → IsInBo
     IsNextInBody place form behind tokens part
 
 -- the reader keeps what all tokens come to, and how deep parentheses are nested behind them
-pub record Keeps (all : List Lexeme) (reader : Reader) : Type 0 where
+pub record KeepsTokens (all : List Lexeme) (reader : Reader) : Type 0 where
   pub deep : IsDepth reader.depth all
-  pub kept : IsKept reader.fault all reader.gate reader.circuit (lexemes reader.tokens.items)
+  pub kept : IsReadSoFar reader.fault all reader.gate reader.circuit (lexemes reader.tokens.items)
 
 -- the later reader has read these tokens too, whichever came before
 abbrev pub ReadsOn : Reader → List Lexeme → Reader → Type 0
-ReadsOn reader tokens later = (before : List Lexeme) → Keeps before reader → Keeps (before ++ tokens) later
+ReadsOn reader tokens later = (before : List Lexeme) → KeepsTokens before reader → KeepsTokens (before ++ tokens) later
 
 -- the place of what isn't over: the gate's declaration, or else what the rest begins with
 abbrev pub open_place : Option OpenGate → List Lexeme → Option ℕ

@@ -18,16 +18,16 @@ use Rattle.qasm_reader.specs.Items.{entry}
 use Rattle.qasm_reader.specs.Postfix.{Entry, NumberEntry, PiEntry, NameEntry, NegateEntry, BinaryEntry, CallEntry}
 use Rattle.qasm_reader.specs.Postfix.{formula_of}
 
-pub record State : Type 0 where
+pub record MachineState : Type 0 where
   pub awaited : Awaited
   pub output : List Entry
   -- the last that came stands first
   pub pending : List Pending
 
-abbrev pub state_of : Machine → State
-state_of m = record { awaited = m.awaited; output = map entry m.output.items; pending = reverse m.pending.items }
+abbrev pub machine_state : Machine → MachineState
+machine_state m = record { awaited = m.awaited; output = map entry m.output.items; pending = reverse m.pending.items }
 
-abbrev pub start : State
+abbrev pub start : MachineState
 start = record { awaited = awaited.Operand; output = []; pending = [] }
 
 -- ---- kinds of tokens
@@ -105,23 +105,23 @@ release b output (p ∷ ps) = with_entry (released b p) (output, p ∷ ps) (λ e
 -- ---- steps: the state after a token, and whether the token belongs to the expression
 
 abbrev pub Move : Type 0
-Move = Bool × State
+Move = Bool × MachineState
 
-abbrev pub on_function : Option Function → State → Move
+abbrev pub on_function : Option Function → MachineState → Move
 on_function None s = (false, s)
 on_function (Some f) s = (true, record s { awaited = awaited.Parenthesis f })
 
-abbrev pub on_prefix : Option Pending → TokenKind → State → Move
+abbrev pub on_prefix : Option Pending → TokenKind → MachineState → Move
 on_prefix None k s = on_function (function_of k) s
 on_prefix (Some p) k s = (true, record s { pending = p ∷ s.pending })
 
-abbrev pub on_operand : Option Entry → TokenKind → State → Move
+abbrev pub on_operand : Option Entry → TokenKind → MachineState → Move
 on_operand None k s = on_prefix (prefix_of k) k s
 on_operand (Some e) k s =
     (true, record { awaited = awaited.Operator; output = s.output ++ e ∷ []; pending = s.pending })
 
 -- after the name of a function
-abbrev pub on_left : Bool → Function → State → Move
+abbrev pub on_left : Bool → Function → MachineState → Move
 on_left false f s = (false, s)
 on_left true f s = (true, record { awaited = awaited.Operand; output = s.output; pending = pending.Call f ∷ s.pending })
 
@@ -133,7 +133,7 @@ closed (output, pending.Call f ∷ ps) =
     (true, record { awaited = awaited.Operator; output = output ++ CallEntry f ∷ []; pending = ps })
 closed (output, p ∷ ps) = (false, record { awaited = awaited.Operator; output = output; pending = p ∷ ps })
 
-abbrev pub on_right : Bool → State → Move
+abbrev pub on_right : Bool → MachineState → Move
 on_right false s = (false, s)
 on_right true s = closed (release 1 s.output s.pending)
 
@@ -141,16 +141,16 @@ abbrev pub with_operator : Operator → List Entry × List Pending → Move
 with_operator operator (output, ps) =
     (true, record { awaited = awaited.Operand; output = output; pending = pending.Binary operator ∷ ps })
 
-abbrev pub on_operator : Option Operator → TokenKind → State → Move
+abbrev pub on_operator : Option Operator → TokenKind → MachineState → Move
 on_operator None k s = on_right (is_right k) s
 on_operator (Some operator) k s = with_operator operator (release (bound operator) s.output s.pending)
 
-abbrev pub step_by : Awaited → TokenKind → List ℕ → State → Move
+abbrev pub step_by : Awaited → TokenKind → List ℕ → MachineState → Move
 step_by awaited.Operand k text s = on_operand (operand_of k text) k s
 step_by (awaited.Parenthesis f) k text s = on_left (is_left k) f s
 step_by awaited.Operator k text s = on_operator (operator_of k) k s
 
-unfoldable pub step : State → TokenKind → List ℕ → Move
+unfoldable pub step : MachineState → TokenKind → List ℕ → Move
 step s k text = step_by s.awaited k text s
 
 -- ---- whole expressions
@@ -165,7 +165,7 @@ finished_by awaited.Operator output ps = all_out (release 1 output ps)
 finished_by awaited.Operand output ps = None
 finished_by (awaited.Parenthesis f) output ps = None
 
-unfoldable pub finished : State → Option (List Entry)
+unfoldable pub finished : MachineState → Option (List Entry)
 finished s = finished_by s.awaited s.output s.pending
 
 abbrev pub followed_by : Option (List Entry) → List Lexeme → Option (List Entry × List Lexeme)
@@ -173,15 +173,15 @@ followed_by None rest = None
 followed_by (Some output) rest = Some (output, rest)
 
 -- the state where the expression ends, and what follows
-abbrev pub go_on : Move → List Lexeme → (State → State × List Lexeme) → State × List Lexeme
+abbrev pub go_on : Move → List Lexeme → (MachineState → MachineState × List Lexeme) → MachineState × List Lexeme
 go_on (true, s) rest go = go s
 go_on (false, s) rest go = (s, rest)
 
-unfoldable pub run : List Lexeme → State → State × List Lexeme
+unfoldable pub run : List Lexeme → MachineState → MachineState × List Lexeme
 run [] s = (s, [])
 run (t ∷ ts) s = go_on (step s t.kind t.text) (t ∷ ts) (run ts)
 
-abbrev pub entries_at : State × List Lexeme → Option (List Entry × List Lexeme)
+abbrev pub entries_at : MachineState × List Lexeme → Option (List Entry × List Lexeme)
 entries_at (s, rest) = followed_by (finished s) rest
 
 abbrev pub as_formula : Option (List Entry × List Lexeme) → Option (Formula × List Lexeme)

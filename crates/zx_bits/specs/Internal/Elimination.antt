@@ -12,13 +12,13 @@ pub record Summed : Type 0 where
   pub from : List Bool
 
 -- one of the basis is added where its pivot is set
-abbrev pub step : Reduced → Summed → Summed
-step b v =
+abbrev pub added_at_pivot : Reduced → Summed → Summed
+added_at_pivot b v =
     if bit v.row b.pivot then record { row = xor_lists v.row b.row.bits; from = xor_lists v.from b.from.bits } else v
 
 abbrev pub reduced : List Reduced → Summed → Summed
 reduced [] v = v
-reduced (b ∷ basis) v = reduced basis (step b v)
+reduced (b ∷ basis) v = reduced basis (added_at_pivot b v)
 
 -- a start, with the pivots that make it meet each of the basis evenly
 abbrev pub evened : Reduced → List Bool → List Bool
@@ -65,7 +65,7 @@ pub record IsBasis (m : BitMatrix) (rows : ℕ) (basis : List Reduced) : Type 0 
       (r : ℕ) → r < rows → parity_of (row_at m r) y ≡ false
 
 -- no bit of the row is set, or it stands at the end of the basis now
-abbrev pub IsKept : List Bool → List Bool → List Reduced → List Reduced → Type 0
-IsKept row from old new =
+abbrev pub IsPutIntoBasis : List Bool → List Bool → List Reduced → List Reduced → Type 0
+IsPutIntoBasis row from old new =
     (((place : ℕ) → bit row place ≡ false) × (new ≡ old))
     ⊎ ((b : Reduced) × (b.row.bits ≡ row) × (b.from.bits ≡ from) × (bit row b.pivot ≡ true) × (new ≡ old ++ b ∷ []))

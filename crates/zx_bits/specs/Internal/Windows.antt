@@ -5,7 +5,7 @@ use Rattle.std.specs.List.{range_with_len}
 use Rattle.std.specs.Int.RustNames.{bit_xor}
 use Rattle.zx_bits.specs.Rows.{BitRow}
 use Rattle.zx_bits.specs.Sets.{BitSet}
-use Rattle.zx_bits.specs.Internal.Words.{digit, told}
+use Rattle.zx_bits.specs.Internal.Words.{digit, tabulated}
 use Rattle.zx_bits.specs.declared.window.Window.{Window}
 
 -- the word with a number, where so many words come before these
@@ -49,7 +49,7 @@ pub record IsWithin (len : ℕ) (w : Window) : Type 0 where
 
 -- the row of so many bits
 abbrev pub row_of : ℕ → Window → BitRow
-row_of len w = record { bits = told len (is_set w) }
+row_of len w = record { bits = tabulated len (is_set w) }
 
 -- the places that are set, by rising number
 abbrev pub places_of : Window → List ℕ

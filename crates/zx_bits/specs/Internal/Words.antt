@@ -8,9 +8,9 @@ abbrev pub digit : ℕ → ℕ → Bool
 digit number place = bit_at number place == 1
 
 -- the list of so many bits that a function tells
-abbrev pub told : ℕ → (ℕ → Bool) → List Bool
-told zero is_set = []
-told (suc n) is_set = is_set 0 ∷ told n (λ place. is_set (suc place))
+abbrev pub tabulated : ℕ → (ℕ → Bool) → List Bool
+tabulated zero is_set = []
+tabulated (suc n) is_set = is_set 0 ∷ tabulated n (λ place. is_set (suc place))
 
 -- how many of the first n places are set
 unfoldable pub how_many : ℕ → (ℕ → Bool) → ℕ

@@ -11,7 +11,7 @@ use Rattle.zx_gates.specs.Maps.{amp}
 use Rattle.zx_gates.specs.declared.gate.Gate.{Gate}
 use Rattle.circuit_laws.specs.Gates.{hadamards_from}
 use Rattle.zx_extract.specs.Extraction.{most_extracted_gates}
-use Rattle.zx_extract.specs.Internal.Leading.{State}
+use Rattle.zx_extract.specs.Internal.Leading.{Remainder}
 
 -- The graph's sum is the map of the gates times a power of two, with at most one factor for each vertex
 -- that isn't XY: each phase gadget that stood on outputs alone doubles the sum.
@@ -27,7 +27,7 @@ pub record IsExtracted (doublings : ℕ) (g : Graph) (gates : List Gate) : Type 
   pub few : length gates ≤ most_extracted_gates (length g.outputs) (XY_without_output g) (not_XY g)
 
 -- all gates of g were taken off, but for the Hadamards of its inputs
-pub record IsTakenApart (doublings : ℕ) (g : Graph) (s : State) : Type 0 where
+pub record IsTakenApart (doublings : ℕ) (g : Graph) (s : Remainder) : Type 0 where
   pub extracted : IsExtracted doublings g (hadamards_from 0 s.graph.inputs ++ s.gates)
   pub on_qubits : All (IsOnQubits (length s.graph.inputs)) s.gates
   pub qubits : length s.graph.inputs ≡ length g.outputs

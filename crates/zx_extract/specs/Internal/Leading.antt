@@ -11,14 +11,14 @@ use Rattle.circuit_laws.specs.Peeling.{HasPlainOutput, are_plain}
 use Rattle.zx_model.specs.Internal.Powers.{power_of_two}
 
 -- what is left of the graph, its flow, and the gates that were taken off, the first to act first
-pub record State : Type 0 where
+pub record Remainder : Type 0 where
   pub graph : Graph
   pub table : List Correction
   pub gates : List Gate
 
 -- t is s after at most k gates were taken off, while so many XY vertices and so many others went or
 -- became outputs
-pub record Leads (s : State) (k spiders gadgets : ℕ) (t : State) : Type 0 where
+pub record Leads (s : Remainder) (k spiders gadgets : ℕ) (t : Remainder) : Type 0 where
   pub taken : List Gate
   pub gates : t.gates ≡ taken ++ s.gates
   pub doublings : ℕ
@@ -33,14 +33,14 @@ pub record Leads (s : State) (k spiders gadgets : ℕ) (t : State) : Type 0 wher
   pub outputs : length t.graph.outputs ≡ length s.graph.outputs
 
 -- what holds from the beginning on
-pub record IsGiven (s : State) : Type 0 where
+pub record IsGiven (s : Remainder) : Type 0 where
   pub well_formed : WellFormed s.graph
   pub flow : IsFlow s.graph s.table
   pub planes : (v : ℕ) → Live s.graph v → plane_of s.graph v ≢ XZ
   pub few : length s.graph.outputs ≤ most_qubits
 
 -- what holds once the outputs are plain
-pub record IsReady (s : State) : Type 0 where
+pub record IsReady (s : Remainder) : Type 0 where
   pub given : IsGiven s
   pub plain : are_plain s.graph.outputs ≡ true
 
@@ -59,7 +59,7 @@ IsFrontier g = IsSettled g (λ p. true)
 
 -- t is s after at most k gates were taken off the outputs: nothing of them is less settled than
 -- before, and the flow stays
-pub record Settles (s : State) (k : ℕ) (t : State) : Type 0 where
+pub record Settles (s : Remainder) (k : ℕ) (t : Remainder) : Type 0 where
   pub leads : Leads s k 0 0 t
   pub ready : IsReady t
   pub table : t.table ≡ s.table
@@ -73,7 +73,7 @@ cost_of n p q = 2 * n * p + 3 * n * q
 
 -- t is s after some vertices were taken off, each for as many gates as it may cost, by which the sum was doubled so
 -- often
-pub record IsTaken (doublings : ℕ) (s t : State) : Type 0 where
+pub record AreTakenOff (doublings : ℕ) (s t : Remainder) : Type 0 where
   pub spiders : ℕ
   pub gadgets : ℕ
   pub leads : Leads s (cost_of (length s.graph.outputs) spiders gadgets) spiders gadgets t

@@ -97,8 +97,8 @@ pub record IsSound (w : Chains) : Type 0 where
 
 -- ---- the list as it is now
 -- how many of them stand before place i
-abbrev pub place_of : Chains → ℕ → ℕ
-place_of w i = length (filter is_left (take i w.gates.items))
+abbrev pub left_before : Chains → ℕ → ℕ
+left_before w i = length (filter is_left (take i w.gates.items))
 
 -- the gate that is read next
 abbrev pub next_of : Chains → Gate
@@ -114,7 +114,7 @@ pub record IsReading (w : Chains) : Type 0 where
   pub more : w.next < length w.gates.items
 
 -- a gate is kept at place i
-pub record IsKept (w : Chains) (i : ℕ) : Type 0 where
+pub record IsLeftAt (w : Chains) (i : ℕ) : Type 0 where
   pub before : i < w.next
   pub left : IsTrue (is_left (gate_at w.gates.items i))
 

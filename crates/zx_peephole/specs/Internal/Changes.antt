@@ -13,7 +13,7 @@ use Rattle.zx_peephole.specs.Tidy.{is_pair, is_turned, is_off, IsTidy}
 use Rattle.zx_peephole.specs.declared.finding.Change.{Change}
 use Rattle.zx_peephole.specs.declared.finding.Change.TheVariants.{Pair, Triple}
 use Rattle.zx_peephole.specs.declared.chains.Chains.{Chains}
-use Rattle.zx_peephole.specs.Internal.Chains.{kept, place_of, next_of, all_left, IsKept}
+use Rattle.zx_peephole.specs.Internal.Chains.{kept, left_before, next_of, all_left, IsLeftAt}
 use Rattle.zx_model.specs.Internal.Powers.{power_of_two}
 
 -- ---- what a gate behind a list makes with gates of it
@@ -44,14 +44,14 @@ pub record EndsTriple (front : List Gate) (gate : Gate) (i j : ℕ) : Type 0 whe
 
 -- such a pair or triple with the next gate, by the places of the others
 pub record IsPairAt (w : Chains) (i : ℕ) : Type 0 where
-  pub first : IsKept w i
-  pub pair : EndsPair (kept w) (next_of w) (place_of w i)
+  pub first : IsLeftAt w i
+  pub pair : EndsPair (kept w) (next_of w) (left_before w i)
 
 pub record IsTripleAt (w : Chains) (i j : ℕ) : Type 0 where
   pub order : i < j
-  pub first : IsKept w i
-  pub middle : IsKept w j
-  pub triple : EndsTriple (kept w) (next_of w) (place_of w i) (place_of w j)
+  pub first : IsLeftAt w i
+  pub middle : IsLeftAt w j
+  pub triple : EndsTriple (kept w) (next_of w) (left_before w i) (left_before w j)
 
 abbrev pub IsChange : Chains → Change → Type 0
 IsChange w (Pair first) = IsPairAt w first

@@ -26,17 +26,17 @@ pub record AreRanked (vs : List ℕ) (order : Ranks) : Type 0 where
   pub below_high : (v : ℕ) → member v vs ≡ true → rank_in order.ranks v < order.high
 
 -- the place of a kind in the order in which kinds are tried
-abbrev pub place_of : Kind → ℕ
-place_of kinds.Delete = 0
-place_of kinds.QuarterGadget = 1
-place_of kinds.FromXZ = 2
-place_of kinds.QuarterSpider = 3
-place_of kinds.InnerPivot = 4
-place_of kinds.BoundaryPivot = 5
-place_of kinds.GadgetPair = 6
-place_of kinds.LoneGadget = 7
-place_of kinds.SingleGadget = 8
-place_of kinds.Twins = 9
+abbrev pub kind_place : Kind → ℕ
+kind_place kinds.Delete = 0
+kind_place kinds.QuarterGadget = 1
+kind_place kinds.FromXZ = 2
+kind_place kinds.QuarterSpider = 3
+kind_place kinds.InnerPivot = 4
+kind_place kinds.BoundaryPivot = 5
+kind_place kinds.GadgetPair = 6
+kind_place kinds.LoneGadget = 7
+kind_place kinds.SingleGadget = 8
+kind_place kinds.Twins = 9
 
 -- the place of the kind that a list is of; 10 for no list
 unfoldable pub list_place : ℕ → ℕ
@@ -67,7 +67,7 @@ abbrev pub StandElsewhere : ℕ → Candidates → Candidates → Type 0
 StandElsewhere u before after = (w : ℕ) → w ≢ u → standing after w ≡ standing before w
 
 -- u stood in a list, before which nothing stood, and is taken out
-pub record IsTaken (l u : ℕ) (before after : Candidates) : Type 0 where
+pub record IsTakenFromList (l u : ℕ) (before after : Candidates) : Type 0 where
   pub stood : standing before u ≡ l
   pub within : l < 264
   pub least : (w : ℕ) → l ≤ standing before w
@@ -82,7 +82,7 @@ pub record IsPassed (before after : Candidates) : Type 0 where
 
 -- u stands in a list of this kind or of an earlier one
 abbrev pub is_candidate : Candidates → Kind → ℕ → Bool
-is_candidate c k u = ltb (list_place (standing c u)) (place_of k + 1)
+is_candidate c k u = ltb (list_place (standing c u)) (kind_place k + 1)
 
 -- each place of each kind has a candidate
 pub record HasCandidates (g : Graph) (c : Candidates) : Type 0 where

@@ -6,14 +6,14 @@ use Rattle.gflow_laws.specs.Flow.{Correction, order_of, set_of}
 use Rattle.zx_text.specs.Files.{Version, One, Two, vertex_line, edge_line, input_line, output_line, non_outputs, lines}
 use Rattle.zx_text.specs.Lines.{Line, FlowLine, OrderLine, CorrectLine}
 use Rattle.zx_text.specs.Reading.{Wanted, is_wanted, IsFile, IsFlowOfFile}
-use Rattle.zx_text.specs.Internal.Stepping.{Part, Sets, State, InGraph, AtFlow, InSets, Over, order_fits, set_fits}
+use Rattle.zx_text.specs.Internal.Stepping.{Part, Sets, LinesSoFar, InGraph, AtFlow, InSets, Over, order_fits, set_fits}
 
 -- the first line of a version, without its line feed
 abbrev pub word : Version → List ℕ
 word One = codes "zxg 1"
 word Two = codes "zxg 2"
 
-abbrev pub graph_of : State → Graph
+abbrev pub graph_of : LinesSoFar → Graph
 graph_of (InGraph p) = p.graph
 graph_of (AtFlow g) = g
 graph_of (InSets p) = p.graph
@@ -30,7 +30,7 @@ abbrev pub set_lines : List Correction → List ℕ → List Line
 set_lines table vs = map (λ v. CorrectLine v (set_of table v)) vs
 
 -- the lines that lead to a state
-abbrev pub said : Version → State → List Line
+abbrev pub said : Version → LinesSoFar → List Line
 said version (InGraph p) = graph_lines version p.graph
 said version (AtFlow g) = graph_lines version g ++ FlowLine ∷ []
 said version (InSets p) =
@@ -49,14 +49,14 @@ pub record AreSetsOf (p : Sets) : Type 0 where
   pub order : order_fits p.graph (order_of p.table) ≡ true
   pub sets : list_all (λ v. set_fits p.graph (set_of p.table v)) p.done ≡ true
 
-abbrev pub IsAtStage : Wanted → State → Type 0
+abbrev pub IsAtStage : Wanted → LinesSoFar → Type 0
 IsAtStage wanted (InGraph p) = IsInSection p
 IsAtStage wanted (AtFlow g) = Unit {0}
 IsAtStage wanted (InSets p) = AreSetsOf p
 IsAtStage wanted (Over g table) = IfSome table (IsFlowOfFile g) × (is_wanted wanted table ≡ true)
 
 -- these lines are those that lead to the state, and they are lines of a file
-pub record IsSoFar (version : Version) (wanted : Wanted) (st : State) (so_far : List Line) : Type 0 where
+pub record IsSoFar (version : Version) (wanted : Wanted) (st : LinesSoFar) (so_far : List Line) : Type 0 where
   pub lines_said : so_far ≡ said version st
   pub graph : IsFile version (graph_of st) None
   pub stage : IsAtStage wanted st

@@ -26,11 +26,11 @@ pub record Sets : Type 0 where
   pub left : List ℕ
 
 -- what the lines so far say: before the line of a flow, behind it, behind that of its order, and behind the last line
-pub data State : Type 0 where
-  InGraph : Part → State
-  AtFlow : Graph → State
-  InSets : Sets → State
-  Over : Graph → Option (List Correction) → State
+pub data LinesSoFar : Type 0 where
+  InGraph : Part → LinesSoFar
+  AtFlow : Graph → LinesSoFar
+  InSets : Sets → LinesSoFar
+  Over : Graph → Option (List Correction) → LinesSoFar
 
 abbrev pub begun : Part
 begun = record { section = 0; graph = record { vertices = []; edges = []; inputs = []; outputs = [] } }
@@ -96,7 +96,7 @@ output_added p v hadamard = record {
 }
 
 -- what one more line leads to, if it fits
-abbrev pub graph_step : Version → Wanted → Part → Line → Option State
+abbrev pub graph_step : Version → Wanted → Part → Line → Option LinesSoFar
 graph_step version wanted p (VertexLine i plane phase) =
     only_if (vertex_fits version p i phase) (InGraph (vertex_added version p i plane phase))
 graph_step version wanted p (EdgeLine a b) = only_if (edge_fits p a b) (InGraph (edge_added p a b))
@@ -117,25 +117,25 @@ abbrev pub set_added : Sets → List ℕ → ℕ → List ℕ → Sets
 set_added p left v members =
     record { graph = p.graph; table = with_set v members p.table; done = p.done ++ v ∷ []; left = left }
 
-abbrev pub flow_step : Graph → Line → Option State
+abbrev pub flow_step : Graph → Line → Option LinesSoFar
 flow_step g (OrderLine order) = only_if (order_fits g order) (InSets (ordered g order))
 flow_step g line = None
 
 -- behind the order: the set of the next vertex, and the end behind the last one
-abbrev pub set_step : Sets → List ℕ → Line → Option State
+abbrev pub set_step : Sets → List ℕ → Line → Option LinesSoFar
 set_step p [] EndLine = Some (Over p.graph (Some p.table))
 set_step p (next ∷ left) (CorrectLine v members) =
     only_if ((v == next) && set_fits p.graph members) (InSets (set_added p left v members))
 set_step p left line = None
 
-abbrev pub step : Version → Wanted → State → Line → Option State
-step version wanted (InGraph p) line = graph_step version wanted p line
-step version wanted (AtFlow g) line = flow_step g line
-step version wanted (InSets p) line = set_step p p.left line
-step version wanted (Over g table) line = None
+abbrev pub file_step : Version → Wanted → LinesSoFar → Line → Option LinesSoFar
+file_step version wanted (InGraph p) line = graph_step version wanted p line
+file_step version wanted (AtFlow g) line = flow_step g line
+file_step version wanted (InSets p) line = set_step p p.left line
+file_step version wanted (Over g table) line = None
 
 -- the vertices so far
-abbrev pub vertices_of : State → List Vertex
+abbrev pub vertices_of : LinesSoFar → List Vertex
 vertices_of (InGraph p) = p.graph.vertices
 vertices_of (AtFlow g) = g.vertices
 vertices_of (InSets p) = p.graph.vertices

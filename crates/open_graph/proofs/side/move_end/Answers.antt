@@ -1,8 +1,8 @@
 use Rattle.std.proofs.Common.{◌≡◌, ◌∙◌, sym, ap, subst, ℕ, get_or, Some, None}
 use Rattle.std.proofs.lemmas.List.{get_or_read}
 use Rattle.open_graph.specs.Internal.Table.{HasSlot}
-use Rattle.open_graph.specs.Internal.Slots.{told}
-use Rattle.open_graph.specs.Internal.Sides.{with_place}
+use Rattle.open_graph.specs.Internal.Slots.{told_at}
+use Rattle.open_graph.specs.Internal.Sides.{with_side_place}
 use Rattle.open_graph.specs.Internal.Changes.{Puts}
 use Rattle.open_graph.proofs.Keeping.{contained_put}
 use Rattle.open_graph.proofs.ReachLemmas.{keeps_then}
@@ -27,8 +27,8 @@ returns-clause-slots c =
     let read : c.before-2.inside.vertex ≡ (get_or c.args.ends.now.items c.args.i c.args.end).vertex =
     ap (λ e. e.vertex) (c.before-2.view_is ∙ get_or_read c.args.ends.now.items c.args.i c.index-before.result.now c.requires.in_range c.index-before.ensures c.args.end) in (
       mid,
-      subst (λ (v : ℕ). Puts old mid v (with_place c.args.side None (told old v))) read c.set_place.ensures.puts,
-      subst (λ (v : ℕ). Puts mid new v (with_place c.args.side (Some c.args.i) (told mid v))) (ap (λ e. e.vertex) c.end.view_is) c.set_place-2.ensures.puts,
+      subst (λ (v : ℕ). Puts old mid v (with_side_place c.args.side None (told_at old v))) read c.set_place.ensures.puts,
+      subst (λ (v : ℕ). Puts mid new v (with_side_place c.args.side (Some c.args.i) (told_at mid v))) (ap (λ e. e.vertex) c.end.view_is) c.set_place-2.ensures.puts,
     )
 
 pub returns-clause-room : goal.returns-clause-room

@@ -1,6 +1,6 @@
 use Rattle.std.proofs.Common.{◌≡◌, ◌∙◌, ap, subst, ℕ, None, slice_index_or, true, ◌++◌, ◌∷◌, [], arith}
 use Rattle.open_graph.specs.Internal.Room.{room_by}
-use Rattle.open_graph.specs.Internal.Slots.{told, adjacent}
+use Rattle.open_graph.specs.Internal.Slots.{told_at, adjacent}
 use Rattle.open_graph.proofs.Walks.{next_some, next_there, next_all, member-more}
 use Rattle.open_graph.proofs.Removing.{removed_next, neighbour_apart, neighbour_contained}
 use Rattle.open_graph.proofs.ReachLemmas.{gone, room_removed}
@@ -8,7 +8,7 @@ use Rattle.open_graph.proofs.slots.remove.Goals as goal
 
 pub remove_neighbour-requires : goal.remove_neighbour-requires
 remove_neighbour-requires c =
-    let row = (told c.args.slots.now.slots c.args.v).row in
+    let row = (told_at c.args.slots.now.slots c.args.v).row in
     let near : adjacent c.args.slots.now.slots c.args.v c.in-Some.w ≡ true =
     next_there c.loop-w.yielded c.loop-w.w-iterator c.next.new.self row c.in-Some.w c.loop-w.invariant.all
     (next_some c.next.result c.loop-w.w-iterator c.next.new.self c.in-Some.w c.next.ensures.steps c.in-Some.is) in
@@ -16,7 +16,7 @@ remove_neighbour-requires c =
 
 pub loop-w-preserved : goal.loop-w-preserved
 loop-w-preserved c =
-    let row = (told c.args.slots.now.slots c.args.v).row in
+    let row = (told_at c.args.slots.now.slots c.args.v).row in
     let more = next_some c.next.result c.loop-w.w-iterator c.next.new.self c.in-Some.w c.next.ensures.steps c.in-Some.is in
     let near : adjacent c.args.slots.now.slots c.args.v c.in-Some.w ≡ true =
     next_there c.loop-w.yielded c.loop-w.w-iterator c.next.new.self row c.in-Some.w c.loop-w.invariant.all more in

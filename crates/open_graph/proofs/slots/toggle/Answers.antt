@@ -1,7 +1,7 @@
 use Rattle.std.proofs.Common.{◌≡◌, ◌∙◌, sym, ap, subst, IsOk, true, false}
 use Rattle.std.proofs.lemmas.Bool.{false≢true}
 use Rattle.zx_model.specs.Bits.{member}
-use Rattle.open_graph.specs.Internal.Slots.{told, adjacent}
+use Rattle.open_graph.specs.Internal.Slots.{told_at, adjacent}
 use Rattle.open_graph.proofs.RowLemmas.{removed_toggles, inserted_toggles}
 use Rattle.open_graph.proofs.ReachLemmas.{keeps_then}
 use Rattle.open_graph.proofs.Keeping.{keeps_toggled, same_back, puts_other}
@@ -15,8 +15,8 @@ returns-then-joins-clause-ok c =
     ∙ sym c.requires.symmetric ∙ there in
     keeps_toggled c.args.slots.now.slots c.remove_neighbour.new.slots.slots c.remove_neighbour-then-joins.new.slots.slots c.args.u c.args.v _ _ c.requires.different
     c.remove_neighbour.ensures.puts c.remove_neighbour-then-joins.ensures.puts
-    (removed_toggles c.args.v (told c.args.slots.now.slots c.args.u).row there)
-    (removed_toggles c.args.u (told c.remove_neighbour.new.slots.slots c.args.v).row back)
+    (removed_toggles c.args.v (told_at c.args.slots.now.slots c.args.u).row there)
+    (removed_toggles c.args.u (told_at c.remove_neighbour.new.slots.slots c.args.v).row back)
 
 pub returns-in-Err-clause-err : goal.returns-in-Err-clause-err
 returns-in-Err-clause-err c =
@@ -31,8 +31,8 @@ returns-clause-ok c =
     ∙ sym c.requires.symmetric ∙ absent in
     keeps_toggled c.args.slots.now.slots c.add_neighbour.new.slots.slots c.add_neighbour-2.new.slots.slots c.args.u c.args.v _ _ c.requires.different
     c.in_ok-add_neighbour.ensures.ok c.in_default.ensures.ok
-    (inserted_toggles c.args.v (told c.args.slots.now.slots c.args.u).row absent)
-    (inserted_toggles c.args.u (told c.add_neighbour.new.slots.slots c.args.v).row back)
+    (inserted_toggles c.args.v (told_at c.args.slots.now.slots c.args.u).row absent)
+    (inserted_toggles c.args.u (told_at c.add_neighbour.new.slots.slots c.args.v).row back)
 
 pub returns-then-joins-clause-room : goal.returns-then-joins-clause-room
 returns-then-joins-clause-room c =

@@ -3,7 +3,7 @@ use Rattle.std.proofs.Common.{◌∙◌, sym, ap₂, ◌∷◌, ◌&&◌}
 use Rattle.zx_model.specs.Bits.{xor}
 use Rattle.zx_calculus.specs.Toggles.{across}
 use Rattle.zx_calculus.proofs.Positions.{on_ok}
-use Rattle.open_graph.specs.Internal.Slots.{told}
+use Rattle.open_graph.specs.Internal.Slots.{told_at}
 use Rattle.open_graph.proofs.RowToggles.{rows_alike, closed_live}
 use Rattle.open_graph.proofs.slots.toggle_around.Goals as goal
 
@@ -33,7 +33,7 @@ returns-clause-toggled c =
     let far = c.in_ok-copy_row_and_itself-2.ensures.members in
     on_ok c.toggle_across.result
     (λ toggled. rows_alike c.args.slots.now.slots c.toggle_across.new.slots.slots _
-    (across (c.args.u ∷ (told c.args.slots.now.slots c.args.u).row) (c.args.v ∷ (told c.args.slots.now.slots c.args.v).row)) toggled
+    (across (c.args.u ∷ (told_at c.args.slots.now.slots c.args.u).row) (c.args.v ∷ (told_at c.args.slots.now.slots c.args.v).row)) toggled
     (λ p q. ap₂ xor (ap₂ (λ a b. a && b) (near p) (far q)) (ap₂ (λ a b. a && b) (near q) (far p))))
     c.toggle_across.ensures.toggled
 

@@ -3,7 +3,7 @@ use Rattle.std.proofs.Common.{◌∙◌, sym, ap₂, subst, IsOk, ◌&&◌, eqb}
 use Rattle.std.proofs.lemmas.Bool.{false≢true}
 use Rattle.zx_model.specs.Bits.{xor}
 use Rattle.zx_calculus.proofs.Positions.{on_ok}
-use Rattle.open_graph.specs.Internal.Slots.{told}
+use Rattle.open_graph.specs.Internal.Slots.{told_at}
 use Rattle.open_graph.specs.Internal.Changes.{two_among}
 use Rattle.open_graph.proofs.RowToggles.{rows_alike}
 use Rattle.open_graph.proofs.ReachLemmas.{keeps_same}
@@ -15,7 +15,7 @@ toggle_among-requires c q there = c.requires.near_live q (sym (c.in_ok-copy_row.
 pub returns-clause-toggled : goal.returns-clause-toggled
 returns-clause-toggled c =
     on_ok c.toggle_among.result
-    (λ toggled. rows_alike c.args.slots.now.slots c.toggle_among.new.slots.slots _ (two_among (told c.args.slots.now.slots c.args.u).row) toggled
+    (λ toggled. rows_alike c.args.slots.now.slots c.toggle_among.new.slots.slots _ (two_among (told_at c.args.slots.now.slots c.args.u).row) toggled
     (λ p q. ap₂ (λ a b. a && xor b (eqb q p)) (c.in_ok-copy_row.ensures.members p) (c.in_ok-copy_row.ensures.members q)))
     c.toggle_among.ensures.toggled
 

@@ -2,10 +2,10 @@
 use Rattle.std.proofs.Common.{map}
 use Rattle.qasm_lexer.specs.Tokens.{lexemes}
 use Rattle.qasm_reader.specs.Items.{entry}
-use Rattle.qasm_reader.specs.Internal.Machine.{state_of}
+use Rattle.qasm_reader.specs.Internal.Machine.{machine_state}
 use Rattle.qasm_reader.proofs.Expressions.{run_postfix}
 use Rattle.qasm_reader.proofs.machine.expression.Goals as goal
 
 pub new-requires : goal.new-requires
 new-requires c =
-    run_postfix (lexemes c.args.tokens.now) (state_of c.new-machine.result) (state_of c.run.new.self) (map entry c.in_ok-items.items.items) (lexemes c.in_ok-rest.rest.now) c.new-machine.ensures c.in_ok-rest.ensures c.in_ok-items.ensures
+    run_postfix (lexemes c.args.tokens.now) (machine_state c.new-machine.result) (machine_state c.run.new.self) (map entry c.in_ok-items.items.items) (lexemes c.in_ok-rest.rest.now) c.new-machine.ensures c.in_ok-rest.ensures c.in_ok-items.ensures

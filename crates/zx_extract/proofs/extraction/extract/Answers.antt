@@ -8,7 +8,7 @@ use Rattle.zx_calculus.specs.Sum.{sum}
 use Rattle.zx_gates.specs.Circuit.{IsOnQubits, most_qubits}
 use Rattle.zx_gates.specs.Maps.{amp}
 use Rattle.zx_extract.specs.Internal.Extracted.{IsExtracted, IsTakenApart}
-use Rattle.zx_extract.specs.Internal.Frontiers.{state_of}
+use Rattle.zx_extract.specs.Internal.Frontiers.{remainder_of}
 use Rattle.zx_extract.proofs.Taking.{few_not_XY}
 use Rattle.zx_extract.proofs.Whole.{exact_scaled, All-backwards}
 use Rattle.zx_extract.proofs.extraction.extract.Goals as goal
@@ -43,7 +43,7 @@ doubled-requires c =
 
 pub returns : goal.returns
 returns c =
-    let t = subst (λ g. IsTakenApart c.in_ok-doublings.doublings g (state_of c.take_all.new.self)) c.in_ok-frontier.ensures.graph c.in_ok-doublings.ensures in
+    let t = subst (λ g. IsTakenApart c.in_ok-doublings.doublings g (remainder_of c.take_all.new.self)) c.in_ok-frontier.ensures.graph c.in_ok-doublings.ensures in
     let made : IsExtracted c.in_ok-doublings.doublings c.args.g.graph c.in_ok-gates.gates.gates =
     subst (IsExtracted c.in_ok-doublings.doublings c.args.g.graph) (sym c.in_ok-gates.ensures.gates) t.extracted in
     let g = c.args.g.graph in

@@ -2,7 +2,7 @@
 use Rattle.std.proofs.Common.{subst}
 use Rattle.zx_text.specs.Reading.{AnyFile}
 use Rattle.zx_text.specs.Formats.{IsHeaded}
-use Rattle.zx_text.specs.Internal.Readers.{state_of}
+use Rattle.zx_text.specs.Internal.Readers.{lines_so_far}
 use Rattle.zx_text.specs.Internal.GraphFormat.{graph_files}
 use Rattle.zx_text.proofs.AnswerLemmas.{no_refusal, passed_on}
 use Rattle.zx_text.proofs.StopLemmas.{by_lines, headed_spells}
@@ -17,7 +17,7 @@ returns-in_err-reader-clause-refused c = λ line bad short. passed_on c.from_res
 pub returns-clause-ok : goal.returns-clause-ok
 returns-clause-ok c =
     (headed_spells AnyFile c.args.bytes.now c.in-Over.graph.graph _
-    (subst (λ r. IsHeaded (graph_files AnyFile) c.args.bytes.now (state_of r)) c.in-Over.is c.in_ok-reader.ensures.ok)).0
+    (subst (λ r. IsHeaded (graph_files AnyFile) c.args.bytes.now (lines_so_far r)) c.in-Over.is c.in_ok-reader.ensures.ok)).0
 
 pub returns-clause-refused : goal.returns-clause-refused
 returns-clause-refused c = λ line bad short. no_refusal (c.in_ok-reader.ensures.refused line bad short)

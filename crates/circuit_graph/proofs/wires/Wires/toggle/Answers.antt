@@ -1,6 +1,6 @@
 -- The step that the toggled edge is.
 use Rattle.std.proofs.Common.{refl}
-use Rattle.circuit_graph.specs.Internal.Wires.{state_of}
+use Rattle.circuit_graph.specs.Internal.Wires.{graph_so_far}
 use Rattle.circuit_graph.proofs.Gates.{gate_comes}
 use Rattle.circuit_graph.proofs.Calls.{here_live, wires_apart, toggle_step}
 use Rattle.zx_gates.specs.declared.gate.Gate.TheVariants.{Cz}
@@ -20,9 +20,9 @@ toggle_edge-requires-clause-different c =
 pub returns-clause-step : goal.returns-clause-step
 returns-clause-step c =
     on_ok_weaker c.toggle_edge.result (λ toggled.
-    toggle_step (state_of c.args.self.now) c.args.p c.args.q c.present-first.result c.present-second.result _ c.requires.ready c.present-first.ensures c.present-second.ensures c.requires.apart toggled refl)
+    toggle_step (graph_so_far c.args.self.now) c.args.p c.args.q c.present-first.result c.present-second.result _ c.requires.ready c.present-first.ensures c.present-second.ensures c.requires.apart toggled refl)
     c.toggle_edge.ensures.ok
 
 pub returns-clause-ready : goal.returns-clause-ready
 returns-clause-ready c =
-    on_ok_weaker c.toggle_edge.result (λ step. (gate_comes (state_of c.args.self.now) (Cz c.args.p c.args.q) _ c.requires.ready step).ready) (returns-clause-step c)
+    on_ok_weaker c.toggle_edge.result (λ step. (gate_comes (graph_so_far c.args.self.now) (Cz c.args.p c.args.q) _ c.requires.ready step).ready) (returns-clause-step c)

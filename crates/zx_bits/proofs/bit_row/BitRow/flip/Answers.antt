@@ -1,5 +1,5 @@
 use Rattle.std.proofs.Common.{arith}
-use Rattle.zx_bits.proofs.RowLemmas.{len_is, has_capacity, told-flipped, within_flipped, from_ok}
+use Rattle.zx_bits.proofs.RowLemmas.{len_is, has_capacity, tabulated-flipped, within_flipped, from_ok}
 use Rattle.zx_bits.proofs.bit_row.BitRow.flip.Goals as goal
 
 pub unwrap-requires : goal.unwrap-requires
@@ -18,4 +18,4 @@ pub returns : goal.returns
 returns c =
     let size = len_is c.self.inside.len c.self.inside.window c.args.self.now c.self.view_is in
     let fits = c.flip.ensures.room (has_capacity c.self.inside.len c.self.inside.window c.self.invariant _ (omega (arith, size, c.requires, c.self.invariant.end))) in
-    told-flipped c.self.inside.len c.self.inside.window c.args.self.now c.self.view_is c.flip.new.self c.args.i (from_ok c.flip.result fits c.flip.ensures.ok)
+    tabulated-flipped c.self.inside.len c.self.inside.window c.args.self.now c.self.view_is c.flip.new.self c.args.i (from_ok c.flip.result fits c.flip.ensures.ok)

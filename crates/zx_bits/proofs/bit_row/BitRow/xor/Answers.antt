@@ -1,7 +1,7 @@
 use Rattle.std.proofs.Common.{subst, arith}
 use Rattle.zx_bits.specs.Internal.Windows.{IsWithin, end_of}
 use Rattle.zx_bits.proofs.WindowLemmas.{unset_past}
-use Rattle.zx_bits.proofs.RowLemmas.{has_capacity, same_length, told-added, within_added, from_ok}
+use Rattle.zx_bits.proofs.RowLemmas.{has_capacity, same_length, tabulated-added, within_added, from_ok}
 use Rattle.zx_bits.proofs.bit_row.BitRow.xor.Goals as goal
 
 pub unwrap-requires : goal.unwrap-requires
@@ -21,5 +21,5 @@ pub returns : goal.returns
 returns c =
     let same = same_length c.self.inside.len c.self.inside.window c.args.self.now c.self.view_is c.other.inside.len c.other.inside.window c.args.other.now c.other.view_is c.requires in
     let fits = c.xor.ensures.room (end_of c.other.inside.window) (unset_past c.other.inside.window) (has_capacity c.self.inside.len c.self.inside.window c.self.invariant _ (omega (arith, same, c.self.invariant.end, c.other.invariant.end))) in
-    told-added c.self.inside.len c.self.inside.window c.args.self.now c.self.view_is c.other.inside.len c.other.inside.window c.args.other.now c.other.view_is c.requires c.xor.new.self
+    tabulated-added c.self.inside.len c.self.inside.window c.args.self.now c.self.view_is c.other.inside.len c.other.inside.window c.args.other.now c.other.view_is c.requires c.xor.new.self
     (from_ok c.xor.result fits c.xor.ensures.ok)

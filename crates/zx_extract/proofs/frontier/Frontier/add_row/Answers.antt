@@ -3,7 +3,7 @@ use Rattle.std.proofs.Common.{◌∙◌, sym, ap, refl, [], ◌∷◌}
 use Rattle.zx_model.specs.Bits.{member}
 use Rattle.zx_calculus.specs.Worked.{plain}
 use Rattle.circuit_laws.proofs.Places.{output_there}
-use Rattle.zx_extract.specs.Internal.Frontiers.{state_of}
+use Rattle.zx_extract.specs.Internal.Frontiers.{remainder_of}
 use Rattle.zx_extract.proofs.RowToggles.{row_added_step}
 use Rattle.zx_extract.proofs.frontier.Frontier.add_row.Goals as goal
 use Rattle.std.proofs.lemmas.Result.{on_ok_weaker}
@@ -22,10 +22,10 @@ toggle_edges-requires-clause-others_live c = λ w there.
 
 pub returns : goal.returns
 returns c = on_ok_weaker c.write_cx.result (λ written.
-    row_added_step (state_of c.args.self.now) c.args.c c.args.t c.present-added.result c.present-to.result
+    row_added_step (remainder_of c.args.self.now) c.args.c c.args.t c.present-added.result c.present-to.result
     c.requires.ready c.requires.frontier c.present-added.ensures c.present-to.ensures c.requires.apart
     c.toggle_edges.new.graph.graph (c.present-to.result ∷ []) c.in_ok-row.row.ids c.add_row.new.self.flow
-    (state_of c.write_cx.new.self) refl
+    (remainder_of c.write_cx.new.self) refl
     (λ p. ap (member p) c.in_ok-row.ensures.cases ∙ c.neighbour_set.ensures.members p)
     (c.requires.no_input c.present-added.result c.present-added.ensures)
     c.in_ok-toggle_edges.ensures c.in_ok-add_row.ensures written) c.write_cx.ensures

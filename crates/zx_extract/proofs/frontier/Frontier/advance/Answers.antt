@@ -2,13 +2,13 @@
 use Rattle.std.proofs.Common.{◌≡◌, ◌∙◌, ap₂, set}
 use Rattle.std.proofs.lemmas.Result.{on_ok_weaker}
 use Rattle.zx_calculus.specs.Worked.{plain}
-use Rattle.zx_extract.specs.Internal.Frontiers.{state_of}
+use Rattle.zx_extract.specs.Internal.Frontiers.{remainder_of}
 use Rattle.zx_extract.proofs.VertexCalls.{IsNext, next_of, next_live, free, spider_live, spider_interior, advance_set, advanced_step}
 use Rattle.zx_extract.proofs.frontier.Frontier.advance.Goals as goal
 use Rattle.zx_extract.proofs.frontier.Frontier.advance.Goals.{After-present-here, After-move_output}
 
 next : (c : After-present-here) →
-    IsNext c.in_ok-gather_sets.ensures.whole (state_of c.gather_sets.new.self) c.args.v c.args.q c.present-here.result
+    IsNext c.in_ok-gather_sets.ensures.whole (remainder_of c.gather_sets.new.self) c.args.v c.args.q c.present-here.result
 next c = next_of c.in_ok-gather_sets.ensures c.requires.last c.requires.plane c.present-here.ensures
 
 moved : (c : After-move_output) → c.move_output.new.self.graph ≡ record c.gather_sets.new.self.graph.graph {

@@ -2,7 +2,7 @@
 use Rattle.std.proofs.Common.{◌≡◌, ℕ, ◌<◌, false}
 use Rattle.std.specs.Prelude.{MatchOption}
 use Rattle.circuit_laws.specs.Peeling.{HasPlainOutput}
-use Rattle.zx_extract.specs.Internal.Frontiers.{state_of}
+use Rattle.zx_extract.specs.Internal.Frontiers.{remainder_of}
 use Rattle.zx_extract.specs.Internal.Lists.{last_set}
 use Rattle.zx_extract.specs.Internal.Steps.{IsPicked}
 use Rattle.zx_extract.proofs.frontier.Frontier.pick.Given as goal
@@ -11,4 +11,4 @@ abbrev pub invariant-loop-q : goal.invariant-loop-q
 invariant-loop-q l =
     MatchOption l.best
     ((p u : ℕ) → p < l.q → HasPlainOutput l.self.graph.graph p u → last_set l.self.flow.flow u ≡ false)
-    (λ b. IsPicked (state_of l.self) b.qubit)
+    (λ b. IsPicked (remainder_of l.self) b.qubit)

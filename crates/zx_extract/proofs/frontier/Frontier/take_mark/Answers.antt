@@ -5,7 +5,7 @@ use Rattle.zx_calculus.specs.Graph.{End, ids, plane_of, end_vertices}
 use Rattle.zx_calculus.specs.Worked.{plain}
 use Rattle.zx_calculus.proofs.Ids.{not-true}
 use Rattle.circuit_laws.proofs.Places.{output_there, output_plane}
-use Rattle.zx_extract.specs.Internal.Frontiers.{state_of}
+use Rattle.zx_extract.specs.Internal.Frontiers.{remainder_of}
 use Rattle.zx_extract.proofs.Leads.{leads_nothing, leads_within}
 use Rattle.zx_extract.proofs.Places.{once_removed}
 use Rattle.zx_extract.proofs.Calls.{IsUnmarked, unmarked, plain_here}
@@ -16,7 +16,7 @@ use Rattle.std.proofs.lemmas.Bool.{not-false}
 
 pub returns-then-not-output-clause-leads : goal.returns-then-not-output-clause-leads
 returns-then-not-output-clause-leads c =
-    let s = state_of c.args.self.now in leads_within s 0 0 0 1 s (omega arith) (leads_nothing s)
+    let s = remainder_of c.args.self.now in leads_within s 0 0 0 1 s (omega arith) (leads_nothing s)
 
 pub returns-then-not-output-clause-plain : goal.returns-then-not-output-clause-plain
 returns-then-not-output-clause-plain c =

@@ -1,7 +1,7 @@
 -- One more mark.
 use Rattle.std.proofs.Common.{◌≡◌, ◌<◌, sym, subst, length, arith}
 use Rattle.zx_calculus.proofs.Ids.{by_equal}
-use Rattle.zx_extract.specs.Internal.Frontiers.{state_of}
+use Rattle.zx_extract.specs.Internal.Frontiers.{remainder_of}
 use Rattle.zx_extract.specs.Internal.Lists.{IsPlainAt}
 use Rattle.zx_extract.proofs.Leads.{leads_nothing, leads_then}
 use Rattle.zx_extract.proofs.Places.{all_plain}
@@ -9,7 +9,7 @@ use Rattle.zx_extract.proofs.frontier.Frontier.take_marks.Goals as goal
 
 pub loop-q-init : goal.loop-q-init
 loop-q-init c = record {
-  leads = leads_nothing (state_of c.args.self.now);
+  leads = leads_nothing (remainder_of c.args.self.now);
   given = record {
     well_formed = c.qubits-qubits.ensures.valid;
     flow = c.requires.flow;
@@ -21,8 +21,8 @@ loop-q-init c = record {
 
 pub loop-q-preserved : goal.loop-q-preserved
 loop-q-preserved c = record {
-  leads = leads_then (state_of c.args.self.now) c.loop-q.q 0 0 (state_of c.loop-q.self) 1 0 0
-      (state_of c.take_mark.new.self) c.loop-q.invariant.leads c.in_ok-take_mark.ensures.leads;
+  leads = leads_then (remainder_of c.args.self.now) c.loop-q.q 0 0 (remainder_of c.loop-q.self) 1 0 0
+      (remainder_of c.take_mark.new.self) c.loop-q.invariant.leads c.in_ok-take_mark.ensures.leads;
   given = c.in_ok-take_mark.ensures.given;
   plain = λ p within. by_equal p c.loop-q.q
       (λ _ e. subst (IsPlainAt c.take_mark.new.self.graph.graph.outputs) (sym e) c.in_ok-take_mark.ensures.plain)

@@ -3,7 +3,7 @@ use Rattle.std.proofs.Common.{◌≡◌, subst}
 use Rattle.std.proofs.lemmas.Result.{on_ok_weaker}
 use Rattle.zx_calculus.specs.Graph.{plane_of}
 use Rattle.zx_calculus.specs.Graph as zx
-use Rattle.zx_extract.specs.Internal.Frontiers.{state_of}
+use Rattle.zx_extract.specs.Internal.Frontiers.{remainder_of}
 use Rattle.zx_extract.specs.Internal.Steps.{IsSettling}
 use Rattle.zx_extract.proofs.LastVertex.{last_live}
 use Rattle.zx_extract.proofs.Taking.{named_XY, named_YZ, still_last, one_left, one_free, still_YZ, legs_last, legs_one, legs_plane}
@@ -70,8 +70,8 @@ pub returns-in_ok-advance-in_default : goal.returns-in_ok-advance-in_default
 returns-in_ok-advance-in_default c =
     let both = on_ok_weaker c.settle.result (λ settled. spider_taken c.requires.last c.in_ok-advance-in_default.ensures.1
     (is_XY (goal.at.returns-in_ok-advance-in_default c).In_default) c.in_ok-advance-in_default.ensures.2
-    c.requires.picked.within (subst (λ n. IsSettling (state_of c.advance.new.self) c.args.q n
-    (state_of c.settle.new.self)) c.qubits.ensures.value settled)) c.settle.ensures in
+    c.requires.picked.within (subst (λ n. IsSettling (remainder_of c.advance.new.self) c.args.q n
+    (remainder_of c.settle.new.self)) c.qubits.ensures.value settled)) c.settle.ensures in
     record {
       taken = on_ok_weaker c.settle.result (λ b. b.0) both;
       shorter = on_ok_weaker c.settle.result (λ b. b.1) both;

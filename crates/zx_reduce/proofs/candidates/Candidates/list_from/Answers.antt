@@ -3,7 +3,7 @@ use Rattle.std.proofs.Common.{◌<◌, ◌∙◌, refl, sym, subst, get_or, true
 use Rattle.move_laws.proofs.Covering.{lives}
 use Rattle.zx_moves.specs.declared.moves.Kind.TheVariants as kinds
 use Rattle.zx_moves.specs.declared.moves.TheConstants.{KINDS}
-use Rattle.zx_reduce.specs.Internal.Guiding.{place_of}
+use Rattle.zx_reduce.specs.Internal.Guiding.{kind_place}
 use Rattle.zx_moves.specs.Internal.Searching.{place_kind}
 use Rattle.zx_reduce.proofs.CandidateLists.{kind_at, no_list, place_within}
 use Rattle.zx_reduce.proofs.Guided.{none_more, settled_none}
@@ -33,7 +33,7 @@ loop-place-preserved c =
 
 pub returns-then-may_begin-clause-none : goal.returns-then-may_begin-clause-none
 returns-then-may_begin-clause-none c k v low high =
-    c.loop-place.invariant k v low (subst (λ n. place_of k < n) c.list_for.ensures.kind high)
+    c.loop-place.invariant k v low (subst (λ n. kind_place k < n) c.list_for.ensures.kind high)
 
 pub returns-clause-from : goal.returns-clause-from
 returns-clause-from c = let far = no_list 264 (omega arith) in omega (arith, far, c.requires)
