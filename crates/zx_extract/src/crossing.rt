@@ -52,16 +52,18 @@ impl Frontier {
         Ok(())
     }
 
-    // The gates behind the Hadamards of the inputs, the first one first.
-    pub(crate) fn into_circuit(self) -> Result<GateList, AllocError>
-        requires few { length self.graph.graph.inputs ≤ most_qubits }
-        requires on_qubits { All (IsOnQubits (length self.graph.graph.inputs)) self.gates.items }
-        ensures qubits { IfOk result (λ c. c.qubits ≡ length self.graph.graph.inputs) }
+    // The gates behind the Hadamards of the inputs, the first one first. They leave the frontier.
+    pub(crate) fn circuit(&mut self) -> Result<GateList, AllocError>
+        requires few { length self.old.graph.graph.inputs ≤ most_qubits }
+        requires on_qubits { All (IsOnQubits (length self.old.graph.graph.inputs))
+            self.old.gates.items }
+        ensures qubits { IfOk result (λ c. c.qubits ≡ length self.old.graph.graph.inputs) }
         ensures gates { IfOk result (λ c. c.gates ≡
-            hadamards_from 0 self.graph.graph.inputs ++ (remainder_of self).gates) }
+            hadamards_from 0 self.old.graph.graph.inputs ++ (remainder_of self.old).gates) }
     {
-        let first = hadamards_from(self.alloc, self.graph.inputs())?;
-        followed_by(first, self.gates)
+        let mut circuit = hadamards_from(self.alloc, self.graph.inputs())?;
+        add_backwards(&mut circuit, &mut self.gates)?;
+        Ok(circuit)
     }
 }
 
@@ -106,16 +108,15 @@ fn hadamards_from(alloc: Global, inputs: &[End]) -> Result<GateList, AllocError>
     Ok(circuit)
 }
 
-// The circuit of gates that are given backwards, behind others.
-fn followed_by(first: GateList, backwards: Vec<Gate>) -> Result<GateList, AllocError>
-    requires { All (IsOnQubits first.qubits) backwards.items }
-    ensures qubits { IfOk result (λ c. c.qubits ≡ first.qubits) }
-    ensures gates { IfOk result (λ c. c.gates ≡ first.gates ++ reverse backwards.items) }
+// Adds gates that are given backwards.
+fn add_backwards(circuit: &mut GateList, backwards: &mut Vec<Gate>) -> Result<(), AllocError>
+    requires { All (IsOnQubits circuit.old.qubits) backwards.old.items }
+    ensures qubits { OnOk result (circuit.new.qubits ≡ circuit.old.qubits) }
+    ensures gates { OnOk result (circuit.new.gates ≡
+        circuit.old.gates ++ reverse backwards.old.items) }
 {
-    let mut circuit = first;
-    let mut left = backwards;
-    while let Some(gate) = left.pop() {
+    while let Some(gate) = backwards.pop() {
         circuit.push(gate)?;
     }
-    Ok(circuit)
+    Ok(())
 }

@@ -10,7 +10,7 @@ ghost use Rattle.zx_gates.specs.Circuit.{most_qubits};
 ghost use Rattle.zx_gates.specs.Passes.{Implements};
 ghost use Rattle.open_graph.specs.OpenGraph.{most_vertices_in_memory};
 ghost use Rattle.zx_extract.specs.Extraction.{most_extracted_gates};
-ghost use Rattle.zx_extract.specs.Internal.Extracted.{IsTakenApart};
+ghost use Rattle.zx_extract.specs.Internal.Extracted.{IsCircuitOf, IsTakenApart};
 ghost use Rattle.zx_extract.specs.Internal.Frontiers.{remainder_of};
 
 use crate::frontier::Frontier;
@@ -35,18 +35,31 @@ pub fn extract(alloc: Global, g: OpenGraph, f: Flow) -> Result<ScaledCircuit, Al
     ensures few_gates { IfOk result (λ made. length made.gates.gates ≤
         most_extracted_gates (length g.graph.outputs) (XY_without_output g.graph) (not_XY g.graph)) }
 {
-    // So the exponent of the scalar fits.
-    prove!(g.vertex_count() as u64 <= 1 << 32);
     let mut frontier = Frontier::begin(alloc, g, &f)?;
-    let doublings = frontier.take_all()?;
-    let gates = frontier.into_circuit()?;
-    Ok(ScaledCircuit {
-        gates,
-        scalar: doubled(doublings),
-    })
+    frontier.take_apart()
 }
 
 impl Frontier {
+    // Takes the graph apart, gate by gate, and answers the circuit of all gates.
+    fn take_apart(&mut self) -> Result<ScaledCircuit, AllocError>
+        requires flow { IsFlow self.old.graph.graph self.old.flow.flow }
+        requires planes { (v : ℕ) → Live self.old.graph.graph v →
+            plane_of self.old.graph.graph v ≢ zx.XZ }
+        requires ends { length self.old.graph.graph.inputs ≡ length self.old.graph.graph.outputs }
+        requires few { length self.old.graph.graph.outputs ≤ most_qubits }
+        requires none { self.old.gates.items ≡ [] }
+        ensures { IfOk result (λ made. IsCircuitOf self.old.graph.graph made.gates made.scalar) }
+    {
+        // So the exponent of the scalar fits.
+        prove!(self.graph.vertex_count() as u64 <= 1 << 32);
+        let doublings = self.take_all()?;
+        let gates = self.circuit()?;
+        Ok(ScaledCircuit {
+            gates,
+            scalar: doubled(doublings),
+        })
+    }
+
     // Takes off all gates but the Hadamards of the inputs, and answers how often the sum is doubled.
     fn take_all(&mut self) -> Result<u64, AllocError>
         requires flow { IsFlow self.old.graph.graph self.old.flow.flow }

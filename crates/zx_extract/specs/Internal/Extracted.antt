@@ -1,13 +1,15 @@
 -- What gates are to the graph off which they were taken.
-use Rattle.std.specs.Prelude.{◌≡◌, ◌≤◌, ℕ, Bool, List, ◌++◌, length}
+use Rattle.std.specs.Prelude.{◌≡◌, ◌≤◌, ℕ, ◌*◌, Bool, List, ◌++◌, length}
 use Rattle.std.specs.List.{All}
 use Rattle.zx_model.specs.Internal.Powers.{power_of_two}
 use Rattle.zx_model.specs.Number.{mul}
+use Rattle.zx_model.specs.declared.scalar.Scalar.{Scalar}
 use Rattle.zx_calculus.specs.Graph.{Graph}
 use Rattle.zx_calculus.specs.Sum.{sum}
 use Rattle.zx_calculus.specs.Counts.{odd_phases, not_XY, XY_without_output}
-use Rattle.zx_gates.specs.Circuit.{IsOnQubits, gate_odd_phases}
+use Rattle.zx_gates.specs.Circuit.{Circuit, IsOnQubits, gate_odd_phases}
 use Rattle.zx_gates.specs.Maps.{amp}
+use Rattle.zx_gates.specs.Passes.{Implements}
 use Rattle.zx_gates.specs.declared.gate.Gate.{Gate}
 use Rattle.circuit_laws.specs.Gates.{hadamards_from}
 use Rattle.zx_extract.specs.Extraction.{most_extracted_gates}
@@ -31,3 +33,8 @@ pub record IsTakenApart (doublings : ℕ) (g : Graph) (s : Remainder) : Type 0 w
   pub extracted : IsExtracted doublings g (hadamards_from 0 s.graph.inputs ++ s.gates)
   pub on_qubits : All (IsOnQubits (length s.graph.inputs)) s.gates
   pub qubits : length s.graph.inputs ≡ length g.outputs
+
+-- what is made of g is its circuit, with the scalar between the two
+pub record IsCircuitOf (g : Graph) (made : Circuit) (s : Scalar) : Type 0 where
+  pub kept : Implements (length g.outputs) (sum g) (odd_phases g) (2 * not_XY g) made s
+  pub few_gates : length made.gates ≤ most_extracted_gates (length g.outputs) (XY_without_output g) (not_XY g)
