@@ -1,6 +1,6 @@
 //! Reading a text that comes piece by piece.
 
-ghost use Rattle.std.specs.Prelude.{◌≡◌, ◌+◌, ◌^◌, ◌<◌, ◌++◌, List, [], ℕ, length, true, None, Some, Ok, Err, OnOk, OnErr, alloc_error};
+ghost use Rattle.std.specs.Prelude.{◌≡◌, ◌+◌, ◌^◌, ◌<◌, ◌++◌, List, [], ℕ, length, true, None, Some, Ok, Err, IfSome, IfNone, OnOk, OnErr, alloc_error};
 ghost use Rattle.qasm_lexer.specs.declared.errors.LexError.TheVariants.{BadByte};
 ghost use Rattle.qasm_lexer.specs.Taken.{AreLines, HasBadLine};
 ghost use Rattle.qasm_lexer.specs.Tokens.{Lexeme, IsCut, IsBadByte};
@@ -60,24 +60,30 @@ impl<'a> PieceReader<'a> {
         ensures answers { (text : List ℕ) → HasRead self.entry text → IsTextAnswer text result }
         ensures failed { self.entry.failed ≡ true → result ≡ Err TextError.NoMemory }
     {
-        if self.failed {
-            return Err(TextError::NoMemory);
-        }
-        self.answer()
-    }
-
-    // What is answered where the text is over.
-    fn answer(self) -> Result<Elementary, TextError>
-        ensures { (text : List ℕ) → CameWith self.entry.bad self.entry text
-            → IsTextAnswer text result }
-    {
-        match self.bad {
-            Some(at) => Err(TextError::BadByte { at }),
+        match self.known_fault() {
+            Some(error) => Err(error),
             None => self.last_answer(),
         }
     }
 
-    // What is answered where no bad byte was found before.
+    // What is answered whatever the last lines are: that memory ran out, or there was a bad byte before.
+    fn known_fault(&self) -> Option<TextError>
+        ensures some { IfSome result (λ error. (text : List ℕ) → HasRead self.now text
+            → IsTextAnswer text (Err error)) }
+        ensures none { IfNone result ((text : List ℕ) → HasRead self.now text
+            → IsReadOff self.now text) }
+        ensures failed { self.now.failed ≡ true → result ≡ Some TextError.NoMemory }
+    {
+        if self.failed {
+            return Some(TextError::NoMemory);
+        }
+        match self.bad {
+            Some(at) => Some(TextError::BadByte { at }),
+            None => None,
+        }
+    }
+
+    // What is answered where memory hasn't run out, and no bad byte was found before.
     fn last_answer(mut self) -> Result<Elementary, TextError>
         ensures { (text : List ℕ) → IsReadOff self.entry text → IsTextAnswer text result }
     {

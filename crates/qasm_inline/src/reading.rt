@@ -1,6 +1,6 @@
 //! Reading: from a text to the circuit that it means, in one pass over the text.
 
-ghost use Rattle.std.specs.Prelude.{◌≡◌, ◌+◌, ◌^◌, ◌<◌, ◌≤◌, ◌++◌, List, [], ℕ, length, map, None, Some, Err, IfOk, IfSome, MatchOption, OnOk};
+ghost use Rattle.std.specs.Prelude.{◌≡◌, ◌+◌, ◌^◌, ◌<◌, ◌≤◌, ◌++◌, List, [], ℕ, length, map, None, Some, Err, IfOk, IfSome, OnOk};
 ghost use Rattle.std.specs.List.{All};
 ghost use Rattle.std.specs.Borrow.{Bor};
 ghost use Rattle.qasm_lexer.specs.declared.token.Token.{Token};
@@ -11,7 +11,7 @@ ghost use Rattle.qasm_reader.specs.Syntax.{Placed};
 ghost use Rattle.qasm_scope.specs.Texts.{IsProgramText};
 ghost use Rattle.qasm_unroll.specs.Circuits.{HasTaken};
 ghost use Rattle.qasm_inline.specs.TextAnswers.{IsTextAnswer};
-ghost use Rattle.qasm_inline.specs.Internal.Readings.{AreTaken, IsReadSoFar, IsNextOf, IsTakenNext, KeepsTokens, ReadsOn, open_place};
+ghost use Rattle.qasm_inline.specs.Internal.Readings.{AreTaken, IsReadSoFar, IsNextOf, IsTakenNext, IsTextFault, KeepsTokens, ReadsOn, open_place};
 
 use crate::error::TextError;
 use crate::words::Words;
@@ -298,19 +298,7 @@ impl<'a> Reader<'a> {
             → ((at : ℕ) → told ≡ Err (LexError.BadByte at) → IsBadByte text at)
             → IsTextAnswer text result }
     {
-        match told {
-            Ok(()) => self.finish(),
-            Err(LexError::BadByte { at }) => Err(TextError::BadByte { at }),
-            Err(LexError::NoMemory) => Err(TextError::NoMemory),
-        }
-    }
-
-    // What is answered where the whole text is read.
-    fn finish(self) -> Result<Elementary, TextError>
-        ensures { (text : List ℕ) (all : List Lexeme) → IsCut 0 text all → KeepsTokens all self.entry
-            → IsTextAnswer text result }
-    {
-        match self.grammar_fault() {
+        match self.text_fault(told) {
             Some(error) => Err(error),
             None => {
                 // The circuit takes their place.
@@ -320,11 +308,23 @@ impl<'a> Reader<'a> {
         }
     }
 
-    // Why the text is no program, where it is over.
+    // Why the text is no program, where it is over, by what its last lines were told to be.
+    fn text_fault(&self, told: Result<(), LexError>) -> Option<TextError>
+        ensures { (text : List ℕ) → OnOk told ((all : List Lexeme) × IsCut 0 text all × KeepsTokens all self.now)
+            → ((at : ℕ) → told ≡ Err (LexError.BadByte at) → IsBadByte text at)
+            → IsTextFault text self.now.circuit result }
+    {
+        match told {
+            Ok(()) => self.grammar_fault(),
+            Err(LexError::BadByte { at }) => Some(TextError::BadByte { at }),
+            Err(LexError::NoMemory) => Some(TextError::NoMemory),
+        }
+    }
+
+    // Why the text is no program, where all of its tokens were read.
     fn grammar_fault(&self) -> Option<TextError>
         ensures { (text : List ℕ) (all : List Lexeme) → IsCut 0 text all → KeepsTokens all self.now
-            → MatchOption result ((program : List Placed) × IsProgramText text program
-            × HasTaken self.now.circuit program) (λ error. IsTextAnswer text (Err error)) }
+            → IsTextFault text self.now.circuit result }
     {
         match self.depth {
             Depth::TooDeep(at) => Some(TextError::TooDeep { at }),

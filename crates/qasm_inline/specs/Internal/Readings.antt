@@ -1,5 +1,5 @@
 -- What the reader of a text keeps: a private matter of the program.
-use Rattle.std.specs.Prelude.{◌≡◌, ℕ, List, [], ◌∷◌, ◌++◌, drop, Option, None, Some, MatchOption}
+use Rattle.std.specs.Prelude.{◌≡◌, ℕ, List, [], ◌∷◌, ◌++◌, drop, Option, None, Some, Err, MatchOption}
 use Rattle.std.specs.Borrow.{Bor}
 use Rattle.qasm_lexer.specs.declared.token.Token.{Token}
 use Rattle.qasm_lexer.specs.Tokens.{Lexeme, lexemes}
@@ -10,7 +10,10 @@ use Rattle.qasm_reader.specs.Parts.{BeginNone, IsInBody, IsNextInBody}
 use Rattle.qasm_reader.specs.Syntax.{GateForm, Placed}
 use Rattle.qasm_unroll.specs.declared.circuit.Circuit.{Circuit}
 use Rattle.qasm_unroll.specs.declared.circuit.OpenGate.{OpenGate}
+use Rattle.qasm_scope.specs.Texts.{IsProgramText}
+use Rattle.qasm_inline.specs.declared.error.TextError.{TextError}
 use Rattle.qasm_inline.specs.declared.reading.Reader.{Reader}
+use Rattle.qasm_inline.specs.TextAnswers.{IsTextAnswer}
 use Rattle.qasm_unroll.specs.Circuits.{HasBegun, HasTaken}
 
 -- All tokens up to the rest were taken in: those of whole statements, and behind these, where a gate's declaration
@@ -48,6 +51,11 @@ pub record KeepsTokens (all : List Lexeme) (reader : Reader) : Type 0 where
 -- the later reader has read these tokens too, whichever came before
 abbrev pub ReadsOn : Reader → List Lexeme → Reader → Type 0
 ReadsOn reader tokens later = (before : List Lexeme) → KeepsTokens before reader → KeepsTokens (before ++ tokens) later
+
+-- this is why the text is no program; or it is one, and the circuit has taken it in
+abbrev pub IsTextFault : List ℕ → Circuit → Option TextError → Type 0
+IsTextFault text circuit None = (program : List Placed) × IsProgramText text program × HasTaken circuit program
+IsTextFault text circuit (Some error) = IsTextAnswer text (Err error)
 
 -- the place of what isn't over: the gate's declaration, or else what the rest begins with
 abbrev pub open_place : Option OpenGate → List Lexeme → Option ℕ
