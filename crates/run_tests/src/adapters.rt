@@ -22,19 +22,32 @@ fn program_source(alloc: Global, piece: usize, fails: &[u64]) -> Result<MemSourc
     Ok(MemSource::new(bytes, piece, fails))
 }
 
+// Whether all that a source gives is this.
+fn gives(alloc: Global, source: &mut impl Source, most: usize, bytes: &[u8]) -> bool {
+    match read_all(alloc, source, most) {
+        Ok(read) => read.as_slice() == bytes,
+        Err(_) => false,
+    }
+}
+
+// Why not all can be read of a source.
+fn fault_of(alloc: Global, source: &mut impl Source, most: usize) -> Option<ReadError> {
+    read_all(alloc, source, most).err()
+}
+
 #[test]
 fn all_bytes_are_read_whatever_the_pieces(rt: HostRuntime) -> Result<(), Fail> {
     let alloc = rt.alloc();
     for piece in [1, 7, 1000] {
         let mut source = program_source(alloc, piece.max(1), &[])?;
-        let bytes = read_all(alloc, &mut source, PROGRAM.len())?;
-        assert_eq!(rt; bytes.as_slice(), PROGRAM, "in pieces of {piece}");
-        let rest = read_all(alloc, &mut source, 0)?;
-        assert!(rt; rest.is_empty());
+        assert!(rt;
+            gives(alloc, &mut source, PROGRAM.len(), PROGRAM),
+            "in pieces of {piece}"
+        );
+        assert!(rt; gives(alloc, &mut source, 0, b""));
     }
     let mut source = NeverFailSource::new(PROGRAM.to_vec(alloc)?);
-    let bytes = read_all(alloc, &mut source, 1000)?;
-    assert_eq!(rt; bytes.as_slice(), PROGRAM);
+    assert!(rt; gives(alloc, &mut source, 1000, PROGRAM));
     Ok(())
 }
 
@@ -43,10 +56,11 @@ fn one_byte_past_the_limit_is_too_long(rt: HostRuntime) -> Result<(), Fail> {
     let alloc = rt.alloc();
     for piece in [1, 7, 1000] {
         let mut source = program_source(alloc, piece.max(1), &[])?;
-        let answer = read_all(alloc, &mut source, 10);
-        assert_eq!(rt; answer.err(), Some(ReadError::TooLong));
-        let rest = read_all(alloc, &mut source, 1000)?;
-        assert_eq!(rt; rest.as_slice(), &PROGRAM[11..], "in pieces of {piece}");
+        assert_eq!(rt; fault_of(alloc, &mut source, 10), Some(ReadError::TooLong));
+        assert!(rt;
+            gives(alloc, &mut source, 1000, &PROGRAM[11..]),
+            "in pieces of {piece}"
+        );
     }
     Ok(())
 }
@@ -55,10 +69,11 @@ fn one_byte_past_the_limit_is_too_long(rt: HostRuntime) -> Result<(), Fail> {
 fn a_failed_read_is_no_end(rt: HostRuntime) -> Result<(), Fail> {
     let alloc = rt.alloc();
     let mut source = program_source(alloc, 20, &[2])?;
-    let answer = read_all(alloc, &mut source, 1000);
-    assert_eq!(rt; answer.err(), Some(ReadError::ReadFault));
-    let rest = read_all(alloc, &mut source, 1000)?;
-    assert_eq!(rt; rest.as_slice(), &PROGRAM[20..]);
+    assert_eq!(rt;
+        fault_of(alloc, &mut source, 1000),
+        Some(ReadError::ReadFault)
+    );
+    assert!(rt; gives(alloc, &mut source, 1000, &PROGRAM[20..]));
     Ok(())
 }
 
@@ -93,22 +108,30 @@ fn all_bytes_are_handed_on_whatever_the_pieces(rt: HostRuntime) -> Result<(), Fa
 #[test]
 fn bytes_before_a_fault_are_handed_on(rt: HostRuntime) -> Result<(), Fail> {
     let alloc = rt.alloc();
+    let mut source = program_source(alloc, 20, &[3])?;
     let mut to = Collected {
         bytes: Vec::new(alloc),
     };
-    let mut source = program_source(alloc, 20, &[3])?;
     assert_eq!(rt;
         read_pieces(&mut source, 1000, &mut to),
         Err(ReadError::ReadFault)
     );
     assert_eq!(rt; to.bytes.as_slice(), &PROGRAM[..40]);
+    Ok(())
+}
+
+#[test]
+fn bytes_below_the_limit_are_handed_on(rt: HostRuntime) -> Result<(), Fail> {
+    let alloc = rt.alloc();
     let mut source = program_source(alloc, 7, &[])?;
+    let mut to = Collected {
+        bytes: Vec::new(alloc),
+    };
     assert_eq!(rt;
         read_pieces(&mut source, 10, &mut to),
         Err(ReadError::TooLong)
     );
-    assert_eq!(rt; to.bytes.len(), 47);
-    assert!(rt; to.bytes.ends_with(&PROGRAM[..7]));
+    assert_eq!(rt; to.bytes.as_slice(), &PROGRAM[..7]);
     Ok(())
 }
 
@@ -174,12 +197,15 @@ impl Write for Stuck {
 #[test]
 fn adapters_pass_bytes_on(rt: HostRuntime) -> Result<(), Fail> {
     let alloc = rt.alloc();
-    let mut from_slice = ReadAdapter::new(PROGRAM);
-    let bytes = read_all(alloc, &mut from_slice, 1000)?;
-    assert_eq!(rt; bytes.as_slice(), PROGRAM);
-    let mut from_cursor = ReadAdapter::new(Cursor::new(PROGRAM));
-    let bytes = read_all(alloc, &mut from_cursor, 1000)?;
-    assert_eq!(rt; bytes.as_slice(), PROGRAM);
+    assert!(rt; gives(alloc, &mut ReadAdapter::new(PROGRAM), 1000, PROGRAM));
+    assert!(rt;
+        gives(
+            alloc,
+            &mut ReadAdapter::new(Cursor::new(PROGRAM)),
+            1000,
+            PROGRAM
+        )
+    );
     let mut written = Vec::new(alloc);
     assert_eq!(rt;
         write_all(&mut WriteAdapter::new(&mut written), PROGRAM),
@@ -190,20 +216,28 @@ fn adapters_pass_bytes_on(rt: HostRuntime) -> Result<(), Fail> {
 }
 
 #[test]
-fn adapters_answer_failed_at_each_error(rt: HostRuntime) -> Result<(), Fail> {
-    let alloc = rt.alloc();
+fn an_adapter_that_is_interrupted_fails_once(rt: HostRuntime) -> Result<(), Fail> {
     let mut source = ReadAdapter::new(Interrupted { calls: 0 });
-    let answer = read_all(alloc, &mut source, 1000);
-    assert_eq!(rt; answer.err(), Some(ReadError::ReadFault));
+    assert_eq!(rt;
+        fault_of(rt.alloc(), &mut source, 1000),
+        Some(ReadError::ReadFault)
+    );
     assert_eq!(rt; source.read(&mut [0; 4]), Ok(1));
     assert_eq!(rt; source.read(&mut [0; 4]), Ok(0));
+    Ok(())
+}
 
-    // A full slice takes nothing of a piece.
+#[test]
+fn a_full_slice_takes_nothing_of_a_piece(rt: HostRuntime) -> Result<(), Fail> {
     let mut place = [0; 5];
     let mut sink = WriteAdapter::new(&mut place[..]);
     assert_eq!(rt; sink.write(PROGRAM), Ok(5));
     assert_eq!(rt; sink.write(PROGRAM), Err(Failed));
+    Ok(())
+}
 
+#[test]
+fn a_flush_that_fails_is_a_write_fault(rt: HostRuntime) -> Result<(), Fail> {
     let mut sink = WriteAdapter::new(Stuck);
     assert_eq!(rt; sink.write(PROGRAM), Ok(PROGRAM.len()));
     assert_eq!(rt; sink.flush(), Err(Failed));

@@ -1,6 +1,6 @@
 //! Sources, outputs and error outputs that fail at one call, at each in turn. One call moves 20 bytes.
 
-use crate::streams::run_with;
+use crate::streams::{Outcome, has_error_output, has_outcome};
 use std::process::Abort;
 use std::test::Fail;
 use zx_run::{Fault, Status};
@@ -17,43 +17,59 @@ const WRITTEN: &[u8] = b"OPENQASM 2.0;\ninclude \"qelib1.inc\";\nqreg q[1];\ns q
 const NO_FLOW: &[u8] =
     b"zxg 1\nvertex 0 XY 0\nvertex 1 XY 0\ninput 0 plain\noutput 1 plain\nflow\norder 0\ncorrect 0 1\nend\n";
 
+// Where no call fails before the output is written.
+const DONE: Outcome = Outcome {
+    status: Status::Done,
+    out: WRITTEN,
+    err: b"",
+};
+
 #[test]
 fn each_read_that_fails_is_told(rt: HostRuntime) -> Result<(), Fail> {
+    let told = Outcome {
+        status: Status::ReadFault,
+        out: b"",
+        err: b"zxopt: read fault\n",
+    };
     for command in COMMANDS {
-        for call in 1..6 {
-            let (status, out, err) = run_with(rt.alloc(), &[command], TEXT, [&[call], &[], &[]])?;
-            assert_eq!(rt; status, Status::ReadFault, "call {call}");
-            assert_eq!(rt; out.bytes(), b"".as_slice());
-            assert_eq!(rt; err.bytes(), b"zxopt: read fault\n".as_slice());
+        for call in 1..7 {
+            let outcome = if call < 6 { told } else { DONE };
+            let fails: [&[u64]; 3] = [&[call], &[], &[]];
+            let is_so = has_outcome(rt.alloc(), &[command], TEXT, fails, outcome)?;
+            assert!(rt; is_so, "{command}, call {call}");
         }
-        let (status, out, err) = run_with(rt.alloc(), &[command], TEXT, [&[6], &[], &[]])?;
-        assert_eq!(rt; status, Status::Done);
-        assert_eq!(rt; out.bytes(), WRITTEN);
-        assert_eq!(rt; err.bytes(), b"".as_slice());
     }
     Ok(())
 }
 
+// What is answered where the output takes no more than this.
+fn write_fault(out: &[u8]) -> Outcome<'_> {
+    Outcome {
+        status: Status::WriteFault,
+        out,
+        err: b"zxopt: write fault\n",
+    }
+}
+
 #[test]
 fn each_write_that_fails_is_told(rt: HostRuntime) -> Result<(), Fail> {
-    // The call that fails, and what was taken before: 0, 20, 40 and 55 bytes.
-    let rows: [(u64, &[u8]); 4] = [
-        (1, b""),
-        (2, b"OPENQASM 2.0;\ninclud"),
-        (3, b"OPENQASM 2.0;\ninclude \"qelib1.inc\";\nqreg"),
-        (4, WRITTEN),
+    // The call that fails: 0, 20, 40 and 55 bytes were taken before; the flush is the fourth.
+    let rows = [
+        (1, write_fault(b"")),
+        (2, write_fault(b"OPENQASM 2.0;\ninclud")),
+        (
+            3,
+            write_fault(b"OPENQASM 2.0;\ninclude \"qelib1.inc\";\nqreg"),
+        ),
+        (4, write_fault(WRITTEN)),
+        (5, DONE),
     ];
     for command in COMMANDS {
-        for (call, taken) in rows {
-            let (status, out, err) = run_with(rt.alloc(), &[command], TEXT, [&[], &[call], &[]])?;
-            assert_eq!(rt; status, Status::WriteFault, "call {call}");
-            assert_eq!(rt; out.bytes(), taken, "call {call}");
-            assert_eq!(rt; err.bytes(), b"zxopt: write fault\n".as_slice());
+        for (call, outcome) in rows {
+            let fails: [&[u64]; 3] = [&[], &[call], &[]];
+            let is_so = has_outcome(rt.alloc(), &[command], TEXT, fails, outcome)?;
+            assert!(rt; is_so, "{command}, call {call}");
         }
-        let (status, out, err) = run_with(rt.alloc(), &[command], TEXT, [&[], &[5], &[]])?;
-        assert_eq!(rt; status, Status::Done);
-        assert_eq!(rt; out.bytes(), WRITTEN);
-        assert_eq!(rt; err.bytes(), b"".as_slice());
     }
     Ok(())
 }
@@ -111,10 +127,9 @@ fn error_outputs_that_fail_change_no_answer(rt: HostRuntime) -> Result<(), Fail>
             (8, 140),
         ] {
             let fails: [&[u64]; 3] = [&[read], &[write], &[call]];
-            let (status, _, err) = run_with(rt.alloc(), words, text, fails)?;
             let taken = line.get(..most).unwrap_or(line);
-            assert_eq!(rt; status, expected, "row {i}, call {call}");
-            assert_eq!(rt; err.bytes(), taken, "row {i}, call {call}");
+            let is_so = has_error_output(rt.alloc(), words, text, fails, expected, taken)?;
+            assert!(rt; is_so, "row {i}, call {call}");
         }
     }
     Ok(())

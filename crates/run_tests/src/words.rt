@@ -13,65 +13,33 @@ fn optimise(best: bool, report: bool, scalar: bool) -> Option<Command> {
 }
 
 #[test]
-fn words_of_opt(rt: HostRuntime) -> Result<(), Fail> {
-    let plain = optimise(false, false, false);
-    let both = optimise(true, true, false);
-    let best = optimise(true, false, false);
-    assert_eq!(rt; command_in(rt.alloc(), ["opt"].as_slice())?, plain);
-    assert_eq!(rt; command_in(rt.alloc(), ["opt", "--best"].as_slice())?, best);
-    assert_eq!(rt;
-        command_in(rt.alloc(), ["opt", "--best", "--report"].as_slice())?,
-        both
-    );
-    assert_eq!(rt;
-        command_in(rt.alloc(), ["opt", "--report", "--best"].as_slice())?,
-        both
-    );
-    Ok(())
-}
-
-#[test]
-fn words_of_opt_with_scalar(rt: HostRuntime) -> Result<(), Fail> {
-    let scalar = optimise(false, false, true);
-    let all = optimise(true, true, true);
-    assert_eq!(rt;
-        command_in(rt.alloc(), ["opt", "--scalar"].as_slice())?,
-        scalar
-    );
-    assert_eq!(rt;
-        command_in(rt.alloc(), ["opt", "--scalar", "--"].as_slice())?,
-        scalar
-    );
-    assert_eq!(rt;
-        command_in(
-            rt.alloc(),
-            ["opt", "--report", "--scalar", "--best"].as_slice()
-        )?,
-        all
-    );
-    Ok(())
-}
-
-#[test]
-fn words_of_gen(rt: HostRuntime) -> Result<(), Fail> {
-    let command = Some(Command::Generate {
+fn words_of_commands(rt: HostRuntime) -> Result<(), Fail> {
+    let generate = Some(Command::Generate {
         seed: 18446744073709551615,
         qubits: 1024,
         gates: 1000000,
     });
-    let words = ["gen", "18446744073709551615", "1024", "1000000"];
-    assert_eq!(rt; command_in(rt.alloc(), words.as_slice())?, command);
-    Ok(())
-}
-
-#[test]
-fn words_of_teleport(rt: HostRuntime) -> Result<(), Fail> {
-    let command = Some(Command::Teleport);
-    assert_eq!(rt; command_in(rt.alloc(), ["teleport"].as_slice())?, command);
-    assert_eq!(rt;
-        command_in(rt.alloc(), ["teleport", "--"].as_slice())?,
-        command
-    );
+    let rows: [(&[&str], Option<Command>); 10] = [
+        (&["opt"], optimise(false, false, false)),
+        (&["opt", "--best"], optimise(true, false, false)),
+        (&["opt", "--best", "--report"], optimise(true, true, false)),
+        (&["opt", "--report", "--best"], optimise(true, true, false)),
+        (&["opt", "--scalar"], optimise(false, false, true)),
+        (&["opt", "--scalar", "--"], optimise(false, false, true)),
+        (
+            &["opt", "--report", "--scalar", "--best"],
+            optimise(true, true, true),
+        ),
+        (
+            &["gen", "18446744073709551615", "1024", "1000000"],
+            generate,
+        ),
+        (&["teleport"], Some(Command::Teleport)),
+        (&["teleport", "--"], Some(Command::Teleport)),
+    ];
+    for (words, command) in rows {
+        assert_eq!(rt; command_in(rt.alloc(), words)?, command);
+    }
     Ok(())
 }
 
