@@ -19,9 +19,17 @@ use zx_flow::FlowTable;
 /// Only where memory runs out.
 pub fn flow_verdict(
     alloc: Global,
-    graph: &OpenGraph,
-    table: &FlowTable,
+    graph: OpenGraph,
+    table: FlowTable,
 ) -> Result<Written, AllocError>
+    requires { IsTableOf (seen graph.graph) table.table }
+    ensures { IfOk result (λ written. IsVerdict graph.graph table.table
+        (written.bytes.items ≡ codes "flow\n") written.bytes.items written.is_no) }
+{
+    verdict_on(alloc, &graph, &table)
+}
+
+fn verdict_on(alloc: Global, graph: &OpenGraph, table: &FlowTable) -> Result<Written, AllocError>
     requires { IsTableOf (seen graph.now.graph) table.now.table }
     ensures { IfOk result (λ written. IsVerdict graph.now.graph table.now.table
         (written.bytes.items ≡ codes "flow\n") written.bytes.items written.is_no) }

@@ -250,7 +250,7 @@ fn output_of_flow<S: Source>(alloc: Global, source: &mut S) -> Result<Written, S
         (told_source S.left S.faults source.old) (told_source S.left S.faults source.new)) }
 {
     let (graph, table) = read_flow_file(alloc, source)?;
-    let output = flow_verdict(alloc, &graph, &table)?;
+    let output = flow_verdict(alloc, graph, table)?;
     Ok(output)
 }
 

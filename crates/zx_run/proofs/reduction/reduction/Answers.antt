@@ -6,6 +6,6 @@ use Rattle.zx_run.proofs.reduction.reduction.Goals as goal
 
 pub returns-in-Fails : goal.returns-in-Fails
 returns-in-Fails c =
-    let found = c.in_ok-check.ensures in
-    failing c.args.graph.graph c.args.table.table (IsReducedFile c.args.graph.graph) c.in_ok-check.field-0
+    let found = rw c.in-Ok.is at c.check.ensures in
+    failing c.args.graph.graph c.args.table.table (IsReducedFile c.args.graph.graph) c.in-Ok.verdict
     c.in-Fails.vertex c.in-Fails.condition (search rules) found.flow found.fails c.failure.result c.failure.ensures.line c.failure.ensures.no

@@ -1,7 +1,7 @@
 -- Where a condition fails, the line of the first failure is written.
 use Rattle.std.proofs.Common.{◌≡◌, codes, rules}
 use Rattle.zx_run.proofs.FileReadLemmas.{failing}
-use Rattle.zx_run.proofs.flow_verdict.flow_verdict.Goals as goal
+use Rattle.zx_run.proofs.flow_verdict.verdict_on.Goals as goal
 
 pub returns-in-Fails : goal.returns-in-Fails
 returns-in-Fails c =
