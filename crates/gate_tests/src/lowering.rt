@@ -1,49 +1,93 @@
 //! That calls succeed with ample memory, and worked lowerings and counts.
+
+ghost use Rattle.std.specs.Prelude.{◌≤◌, ◌<◌, length};
+ghost use Rattle.std.specs.List.{All};
+ghost use Rattle.zx_gates.specs.Elementary.{IsElementaryGateOn, elementary_bound};
+
+use crate::circuits::{circuit, cx, phase};
 use std::alloc::Global;
 use std::test::Fail;
 use zx_gates::{
-    Counts, Elementary, ElementaryGate, Elements, Gate, GateList, Measure, Measures, counts, lower,
+    Counts, Elementary, ElementaryGate, Elements, Gate, GateList, Measure, Measures, Qubit,
+    ScaledCircuit, counts, lower,
 };
 use zx_model::Sixteenth;
 
 #[test]
 fn gates_are_added_in_order(rt: HostRuntime) -> Result<(), Fail> {
-    let mut list = GateList::new(rt.alloc(), 2);
-    list.push(Gate::H(0))?;
-    list.push(Gate::Phase(1, Sixteenth::new(6)))?;
-    list.push(Gate::Cx {
-        control: 1,
-        target: 0,
-    })?;
-    assert_eq!(rt; list.gates().len(), 3);
-    assert_eq!(rt; list.gates()[1], Gate::Phase(1, Sixteenth::new(6)));
+    let gates = [Gate::H(0), phase(1, 6), cx(1, 0)];
+    let list = circuit(&rt, rt.alloc(), 2, &gates)?;
+    assert!(rt; list.gates() == gates.as_slice());
     Ok(())
 }
 
 #[test]
 fn a_circuit_is_taken_apart_and_put_together(rt: HostRuntime) -> Result<(), Fail> {
-    let mut list = GateList::new(rt.alloc(), 2);
-    list.push(Gate::H(0))?;
-    list.push(Gate::Cz(0, 1))?;
+    let gates = [Gate::H(0), Gate::Cz(0, 1)];
+    let mut list = circuit(&rt, rt.alloc(), 2, &gates)?;
     let parts = list.take();
-    assert_eq!(rt; parts.links.len(), 2);
+    assert!(rt; parts.links.len() == 2);
     let whole = GateList::from_parts(parts);
-    assert_eq!(rt; whole.qubits(), 2);
-    assert_eq!(rt; whole.gates(), [Gate::H(0), Gate::Cz(0, 1)].as_slice());
+    assert!(rt; whole.qubits() == 2);
+    assert!(rt; whole.gates() == gates.as_slice());
+    Ok(())
+}
+
+// Adds the measurements, one after the other.
+fn add_measures(measures: &mut Measures, added: &[Measure]) -> Result<(), Fail> {
+    for measure in added {
+        measures.push(*measure)?;
+    }
     Ok(())
 }
 
 #[test]
 fn measurements_are_added_in_order(rt: HostRuntime) -> Result<(), Fail> {
+    let added = [Measure { qubit: 1, bit: 0 }, Measure { qubit: 0, bit: 7 }];
     let mut measures = Measures::new(rt.alloc());
-    measures.push(Measure { qubit: 1, bit: 0 })?;
-    measures.push(Measure { qubit: 0, bit: 7 })?;
-    assert_eq!(rt; measures.as_slice().len(), 2);
-    assert_eq!(rt; measures.as_slice()[1], Measure { qubit: 0, bit: 7 });
+    add_measures(&mut measures, &added)?;
+    assert!(rt; measures.as_slice() == added.as_slice());
     Ok(())
 }
 
-// A phase as a digit, from 0 to f.
+// What lowering makes of these gates on so many qubits, without measurements.
+pub fn lowered(alloc: Global, qubits: Qubit, gates: Elements) -> Result<ScaledCircuit, Fail>
+    requires few_qubits { qubits ≤ 1024 }
+    requires few_gates { length gates < elementary_bound }
+    requires on_qubits { All (IsElementaryGateOn qubits) gates }
+{
+    let circuit = Elementary {
+        qubits,
+        gates,
+        bits: 0,
+        measured: Measures::new(alloc),
+    };
+    Ok(lower(alloc, &circuit)?)
+}
+
+// What lowering makes of U on one qubit, of so many sixteenth turns.
+fn lowered_unitary(alloc: Global, angles: [u8; 3]) -> Result<ScaledCircuit, Fail> {
+    let [theta, phi, lambda] = angles;
+    let mut gates = Elements::new(alloc);
+    gates.push(ElementaryGate::U {
+        qubit: 0,
+        theta: Sixteenth::new(theta % 16),
+        phi: Sixteenth::new(phi % 16),
+        lambda: Sixteenth::new(lambda % 16),
+    })?;
+    lowered(alloc, 1, gates)
+}
+
+// A gate on the first qubit as a byte: the digit of its phase, from 0 to f, `h` or `x`.
+fn letter(gate: &Gate) -> u8 {
+    match *gate {
+        Gate::H(0) => b'h',
+        Gate::Phase(0, phase) => digit(phase),
+        Gate::Not(0) => b'x',
+        _ => b'?',
+    }
+}
+
 fn digit(phase: Sixteenth) -> u8 {
     let turns = phase.get();
     if turns < 10 {
@@ -53,61 +97,47 @@ fn digit(phase: Sixteenth) -> u8 {
     }
 }
 
-// The gates that stand for U on one qubit, a byte for each: the digit of a phase, `h` or `x`.
-fn lowered_unitary(alloc: Global, angles: [u8; 3]) -> Result<Vec<u8>, Fail> {
-    let [theta, phi, lambda] = angles;
-    let turn = 2 * Sixteenth::half_turn().get();
-    let mut gates = Elements::new(alloc);
-    gates.push(ElementaryGate::U {
-        qubit: 0,
-        theta: Sixteenth::new(theta % turn),
-        phi: Sixteenth::new(phi % turn),
-        lambda: Sixteenth::new(lambda % turn),
-    })?;
-    let circuit = Elementary {
-        qubits: 1,
-        gates,
-        bits: 0,
-        measured: Measures::new(alloc),
-    };
-    let made = lower(alloc, &circuit)?;
-    let mut bytes = Vec::new(alloc);
-    for gate in made.gates.gates() {
-        bytes.push(match *gate {
-            Gate::H(0) => b'h',
-            Gate::Phase(0, phase) => digit(phase),
-            Gate::Not(0) => b'x',
-            _ => b'?',
-        })?;
-    }
-    Ok(bytes)
+// Whether U becomes these gates, a byte for each.
+fn becomes(alloc: Global, angles: [u8; 3], letters: &[u8]) -> Result<bool, Fail> {
+    let made = lowered_unitary(alloc, angles)?;
+    Ok(are_spelled(made.gates.gates(), letters))
 }
+
+fn are_spelled(gates: &[Gate], letters: &[u8]) -> bool {
+    gates.len() == letters.len()
+        && gates
+            .iter()
+            .zip(letters)
+            .all(|(gate, byte)| letter(gate) == *byte)
+}
+
+// The angles of U, and the gates that it becomes.
+const UNITARIES: [([u8; 3], &[u8]); 19] = [
+    ([0, 0, 0], b""),
+    ([0, 2, 4], b"6"),
+    ([0, 6, 10], b""),
+    ([0, 1, 0], b"1"),
+    ([4, 0, 8], b"h"),
+    ([4, 6, 2], b"ah6"),
+    ([4, 1, 3], b"bh1"),
+    ([8, 0, 8], b"x"),
+    ([8, 2, 4], b"ax"),
+    ([8, 10, 4], b"2x"),
+    ([8, 1, 2], b"9x"),
+    ([12, 2, 4], b"4ha"),
+    ([12, 3, 5], b"5hb"),
+    ([2, 0, 0], b"ch2h4"),
+    ([6, 12, 4], b"h6h"),
+    ([14, 14, 2], b"eheh2"),
+    ([1, 0, 0], b"ch1h4"),
+    ([3, 5, 7], b"3h3h9"),
+    ([15, 15, 15], b"bhfh3"),
+];
 
 #[test]
 fn unitaries_become_phases_and_hadamards(rt: HostRuntime) -> Result<(), Fail> {
-    let rows: [([u8; 3], &[u8]); 19] = [
-        ([0, 0, 0], b""),
-        ([0, 2, 4], b"6"),
-        ([0, 6, 10], b""),
-        ([0, 1, 0], b"1"),
-        ([4, 0, 8], b"h"),
-        ([4, 6, 2], b"ah6"),
-        ([4, 1, 3], b"bh1"),
-        ([8, 0, 8], b"x"),
-        ([8, 2, 4], b"ax"),
-        ([8, 10, 4], b"2x"),
-        ([8, 1, 2], b"9x"),
-        ([12, 2, 4], b"4ha"),
-        ([12, 3, 5], b"5hb"),
-        ([2, 0, 0], b"ch2h4"),
-        ([6, 12, 4], b"h6h"),
-        ([14, 14, 2], b"eheh2"),
-        ([1, 0, 0], b"ch1h4"),
-        ([3, 5, 7], b"3h3h9"),
-        ([15, 15, 15], b"bhfh3"),
-    ];
-    for (angles, bytes) in rows {
-        assert_eq!(rt; lowered_unitary(rt.alloc(), angles)?.as_slice(), bytes);
+    for (i, (angles, letters)) in UNITARIES.iter().enumerate() {
+        assert!(rt; becomes(rt.alloc(), *angles, letters)?, "row {i}");
     }
     Ok(())
 }
@@ -119,55 +149,35 @@ fn cx_stays(rt: HostRuntime) -> Result<(), Fail> {
         control: 1,
         target: 0,
     })?;
-    assert_eq!(rt; gates.as_slice().len(), 1);
-    let circuit = Elementary {
-        qubits: 2,
-        gates,
-        bits: 0,
-        measured: Measures::new(rt.alloc()),
-    };
-    let made = lower(rt.alloc(), &circuit)?;
-    assert_eq!(rt;
-        made.gates.gates(),
-        [Gate::Cx {
-            control: 1,
-            target: 0
-        }]
-        .as_slice()
-    );
+    let made = lowered(rt.alloc(), 2, gates)?;
+    assert!(rt; made.gates.gates() == [cx(1, 0)].as_slice());
     Ok(())
 }
 
 #[test]
 fn gates_are_counted_by_kind(rt: HostRuntime) -> Result<(), Fail> {
-    let mut list = GateList::new(rt.alloc(), 2);
-    list.push(Gate::H(0))?;
-    list.push(Gate::Phase(1, Sixteenth::new(2)))?;
-    list.push(Gate::Phase(1, Sixteenth::new(4)))?;
-    list.push(Gate::Phase(0, Sixteenth::new(14)))?;
-    list.push(Gate::Phase(0, Sixteenth::new(1)))?;
-    list.push(Gate::Cz(0, 1))?;
-    list.push(Gate::Cx {
-        control: 0,
-        target: 1,
-    })?;
-    list.push(Gate::Cx {
-        control: 1,
-        target: 0,
-    })?;
-    list.push(Gate::Not(0))?;
-    assert_eq!(rt;
-        counts(&list),
-        Counts {
-            total: 9,
-            odd: 3,
-            two_qubit: 3,
-            h: 1,
-            phase: 4,
-            cz: 1,
-            cx: 2,
-            nots: 1,
-        }
-    );
+    let gates = [
+        Gate::H(0),
+        phase(1, 2),
+        phase(1, 4),
+        phase(0, 14),
+        phase(0, 1),
+        Gate::Cz(0, 1),
+        cx(0, 1),
+        cx(1, 0),
+        Gate::Not(0),
+    ];
+    let list = circuit(&rt, rt.alloc(), 2, &gates)?;
+    let wanted = Counts {
+        total: 9,
+        odd: 3,
+        two_qubit: 3,
+        h: 1,
+        phase: 4,
+        cz: 1,
+        cx: 2,
+        nots: 1,
+    };
+    assert!(rt; counts(&list) == wanted);
     Ok(())
 }
