@@ -4,7 +4,8 @@ ghost use Rattle.std.specs.Prelude.{◌<◌};
 use bumpalo::Bump;
 use qasm_inline::{PieceReader, TextError, read};
 use qasm_scope::Cause;
-use std::alloc::Global;
+use std::alloc::{AllocError, Global};
+use std::process::Abort;
 use std::test::Fail;
 use zx_gates::{Elementary, Measure};
 use zx_io::Pieces;
@@ -19,52 +20,83 @@ fn measurements_are_numbered_through_all_registers(rt: HostRuntime) -> Result<()
     Ok(())
 }
 
+// Texts, what is wrong with them, and at which byte.
+const WRONG: [(&[u8], Cause, usize); 8] = [
+    (
+        b"OPENQASM 2.0;qreg q[1];creg c[1];measure q[0]->c[0];U(0,0,0) q[0];",
+        Cause::AfterMeasure,
+        52,
+    ),
+    (
+        b"OPENQASM 2.0;qreg q[1];creg c[2];measure q[0]->c[0];measure q[0]->c[1];",
+        Cause::AfterMeasure,
+        52,
+    ),
+    (
+        b"OPENQASM 2.0;qreg q[2];creg c[1];measure q[0]->c[0];measure q[1]->c[0];",
+        Cause::BitTwice,
+        52,
+    ),
+    (b"OPENQASM 2.0;creg c[65537];", Cause::TooManyBits, 13),
+    (
+        b"OPENQASM 2.0;qreg q[2];creg c[1];measure q->c[0];",
+        Cause::Sizes,
+        33,
+    ),
+    (
+        b"OPENQASM 2.0;qreg q[1];creg c[1];measure q->c[0];",
+        Cause::Sizes,
+        33,
+    ),
+    (
+        b"OPENQASM 2.0;qreg q[1];creg c[1];measure q[0]->c[1];",
+        Cause::Index,
+        33,
+    ),
+    (
+        b"OPENQASM 2.0;qreg q[1];creg c[1];measure c[0]->c[0];",
+        Cause::Unknown,
+        33,
+    ),
+];
+
+fn fault_of(alloc: Global, text: &[u8]) -> Option<TextError> {
+    read(alloc, text).err()
+}
+
 #[test]
-fn wrong_measurements_are_told(rt: HostRuntime) -> Result<(), Fail> {
-    // What follows `OPENQASM 2.0;`, what is wrong, and at which byte of the text.
-    let rows: [(&[u8], Cause, usize); 8] = [
-        (
-            b"OPENQASM 2.0;qreg q[1];creg c[1];measure q[0]->c[0];U(0,0,0) q[0];",
-            Cause::AfterMeasure,
-            52,
-        ),
-        (
-            b"OPENQASM 2.0;qreg q[1];creg c[2];measure q[0]->c[0];measure q[0]->c[1];",
-            Cause::AfterMeasure,
-            52,
-        ),
-        (
-            b"OPENQASM 2.0;qreg q[2];creg c[1];measure q[0]->c[0];measure q[1]->c[0];",
-            Cause::BitTwice,
-            52,
-        ),
-        (b"OPENQASM 2.0;creg c[65537];", Cause::TooManyBits, 13),
-        (
-            b"OPENQASM 2.0;qreg q[2];creg c[1];measure q->c[0];",
-            Cause::Sizes,
-            33,
-        ),
-        (
-            b"OPENQASM 2.0;qreg q[1];creg c[1];measure q->c[0];",
-            Cause::Sizes,
-            33,
-        ),
-        (
-            b"OPENQASM 2.0;qreg q[1];creg c[1];measure q[0]->c[1];",
-            Cause::Index,
-            33,
-        ),
-        (
-            b"OPENQASM 2.0;qreg q[1];creg c[1];measure c[0]->c[0];",
-            Cause::Unknown,
-            33,
-        ),
-    ];
-    for (i, (text, cause, at)) in rows.into_iter().enumerate() {
-        let told = read(rt.alloc(), text).err();
-        assert_eq!(rt; told, Some(TextError::Wrong { cause, at }), "row {i}");
+fn wrong_measurements_are_told(rt: HostRuntime) {
+    for (i, (text, cause, at)) in WRONG.iter().enumerate() {
+        let wrong = TextError::Wrong {
+            cause: *cause,
+            at: *at,
+        };
+        assert_eq!(rt; fault_of(rt.alloc(), text), Some(wrong), "row {i}");
+    }
+}
+
+// Takes a text in pieces of so many bytes.
+fn take_text(reader: &mut PieceReader<'_>, text: &[u8], count: usize) -> Result<(), AllocError>
+    requires { 0 < count }
+{
+    for piece in text.chunks(count) {
+        reader.take(piece)?;
     }
     Ok(())
+}
+
+// What is read of it, with the words in this arena.
+fn read_with(
+    alloc: Global,
+    arena: &Bump,
+    text: &[u8],
+    count: usize,
+) -> Result<Elementary, TextError>
+    requires { 0 < count }
+{
+    let mut reader = PieceReader::new(alloc, arena);
+    take_text(&mut reader, text, count).or(Err(TextError::NoMemory))?;
+    reader.finish()
 }
 
 // What is read of a text that comes in pieces of so many bytes.
@@ -72,11 +104,7 @@ fn read_in_pieces(alloc: Global, text: &[u8], count: usize) -> Result<Elementary
     requires { 0 < count }
 {
     let arena = Bump::new(alloc);
-    let mut reader = PieceReader::new(alloc, &arena);
-    for piece in text.chunks(count) {
-        reader.take(piece).or(Err(TextError::NoMemory))?;
-    }
-    reader.finish()
+    read_with(alloc, &arena, text, count)
 }
 
 // How many qubits, gates and measurements a text in pieces has.
@@ -91,47 +119,66 @@ fn counts(alloc: Global, text: &[u8], count: usize) -> Result<[usize; 3], TextEr
     ])
 }
 
-#[test]
-fn texts_are_read_whatever_the_pieces(rt: HostRuntime) -> Result<(), Fail> {
-    let alloc = rt.alloc();
-    let text =
-        b"OPENQASM 2.0;\nqreg pp[1]; qreg qq[2]; creg b[3];\ngate g(x) a {\nU(x,0,0) a; } // g\ng(pi/4)\nqq; measure qq[1] -> b[2];";
-    let bad_byte = b"OPENQASM 2.0;\nqreg q[1];\nU(0,0,0) p[0];\n?";
-    let unknown = b"OPENQASM 2.0;\nqreg q[1];\nU(0,0,0) p[0];";
-    let wrong = TextError::Wrong {
-        cause: Cause::Unknown,
-        at: 25,
-    };
-    for count in [1, 7, 1000] {
-        let count = count.max(1);
-        assert_eq!(rt; counts(alloc, text, count), Ok([3, 2, 1]));
-        assert_eq!(rt;
-            counts(alloc, bad_byte, count),
-            Err(TextError::BadByte { at: 40 })
-        );
-        assert_eq!(rt; counts(alloc, unknown, count), Err(wrong));
+// A text of two registers of qubits, with a gate, and one of each fault.
+const GOOD: &[u8] =
+    b"OPENQASM 2.0;\nqreg pp[1]; qreg qq[2]; creg b[3];\ngate g(x) a {\nU(x,0,0) a; } // g\n\
+g(pi/4)\nqq; measure qq[1] -> b[2];";
+
+const BAD_BYTE: &[u8] = b"OPENQASM 2.0;\nqreg q[1];\nU(0,0,0) p[0];\n?";
+
+const UNKNOWN: &[u8] = b"OPENQASM 2.0;\nqreg q[1];\nU(0,0,0) p[0];";
+
+// Texts, and what is read of them: their numbers of qubits, gates and measurements.
+const TEXTS: [(&[u8], Result<[usize; 3], TextError>); 3] = [
+    (GOOD, Ok([3, 2, 1])),
+    (BAD_BYTE, Err(TextError::BadByte { at: 40 })),
+    (
+        UNKNOWN,
+        Err(TextError::Wrong {
+            cause: Cause::Unknown,
+            at: 25,
+        }),
+    ),
+];
+
+// All of them are so where they come in pieces of so many bytes.
+fn are_read(rt: &impl Abort, alloc: Global, count: usize)
+    requires { 0 < count }
+{
+    for (text, wanted) in &TEXTS {
+        assert_eq!(rt; counts(alloc, text, count), *wanted);
     }
-    Ok(())
 }
 
-// 23 bytes, and 500 statements of 12 tokens in 14 bytes each.
-fn add_line(text: &mut Vec<u8>) -> Result<(), Fail> {
+#[test]
+fn texts_are_read_whatever_the_pieces(rt: HostRuntime) {
+    are_read(&rt, rt.alloc(), 1);
+    are_read(&rt, rt.alloc(), 7);
+    are_read(&rt, rt.alloc(), 1000);
+}
+
+// 23 bytes, and 500 statements of 12 tokens in 14 bytes each; then the end.
+fn add_line(text: &mut Vec<u8>, end: &[u8]) -> Result<(), Fail> {
     text.extend_from_slice(b"OPENQASM 2.0;qreg q[1];")?;
     for _ in 0..500 {
         text.extend_from_slice(b"U(0,0,0) q[0];")?;
     }
+    text.extend_from_slice(end)?;
     Ok(())
+}
+
+// The numbers of such a text, in pieces of 1,000 bytes.
+fn counts_of_line(alloc: Global, end: &[u8]) -> Result<Result<[usize; 3], TextError>, Fail> {
+    let mut text = Vec::new(alloc);
+    add_line(&mut text, end)?;
+    Ok(counts(alloc, &text, 1000))
 }
 
 #[test]
 fn a_long_line_is_read_in_batches(rt: HostRuntime) -> Result<(), Fail> {
-    let mut text = Vec::new(rt.alloc());
-    add_line(&mut text)?;
-    assert_eq!(rt; counts(rt.alloc(), &text, 1000), Ok([1, 500, 0]));
-    text.push(b'?')?;
-    assert_eq!(rt;
-        counts(rt.alloc(), &text, 1000),
-        Err(TextError::BadByte { at: 7023 })
-    );
+    let read = counts_of_line(rt.alloc(), b"")?;
+    assert_eq!(rt; read, Ok([1, 500, 0]));
+    let told = counts_of_line(rt.alloc(), b"?")?;
+    assert_eq!(rt; told, Err(TextError::BadByte { at: 7023 }));
     Ok(())
 }

@@ -3,16 +3,25 @@
 
 use qasm_lexer::{LexError, Token, lex};
 use qasm_reader::{
-    BodyPart, BodyStatement, Item, Operation, Operator, ParseError, Part, Program, ProgramElement,
-    StatementKind, next_in_body, next_part, parse,
+    BodyPart, BodyStatement, Expression, Item, Operation, Operator, ParseError, Part, Program,
+    ProgramElement, StatementKind, next_in_body, next_part, parse,
 };
 use std::alloc::Global;
-use std::process::Abort;
 use std::test::Fail;
 
 // The tokens of a text.
 fn tokens_of<'a>(alloc: Global, text: &'a [u8]) -> Result<Vec<Token<'a>>, Fail> {
-    Ok(lex(alloc, text).ok().ok_or("a bad byte")?)
+    Ok(lex(alloc, text)?)
+}
+
+// The program that tokens are.
+fn program_of<'a>(alloc: Global, tokens: &[Token<'a>]) -> Result<Program<'a>, ParseError> {
+    parse(alloc, tokens)
+}
+
+// What is wrong with tokens.
+fn fault_in(alloc: Global, tokens: &[Token<'_>]) -> Option<ParseError> {
+    program_of(alloc, tokens).err()
 }
 
 // The word for an item in postfix order.
@@ -31,58 +40,85 @@ fn word_of<'a>(item: &Item<'a>) -> &'a [u8] {
     }
 }
 
-// Adds the angles of the applications in a program, in postfix order, with a space after each word.
-fn add_angles(text: &mut Vec<u8>, program: &Program<'_>) -> Result<(), Fail> {
-    for element in &program.elements {
-        if let ProgramElement::Statement(statement) = element {
-            if let StatementKind::Operation(Operation::Apply(application)) = &statement.kind {
-                for angle in &application.angles {
-                    for item in angle.items() {
-                        text.extend_from_slice(word_of(item))?;
-                        text.push(b' ')?;
-                    }
-                }
-            }
-        }
+// Adds an angle in postfix order, with a space after each word.
+fn add_angle(text: &mut Vec<u8>, angle: &Expression<'_>) -> Result<(), Fail> {
+    for item in angle.items() {
+        text.extend_from_slice(word_of(item))?;
+        text.push(b' ')?;
     }
     Ok(())
 }
 
-// The angles of the program that tokens are.
-fn angles_of(alloc: Global, tokens: &[Token<'_>]) -> Result<Vec<u8>, Fail> {
-    let mut text = Vec::new(alloc);
-    let program = parse(alloc, tokens).ok().ok_or("no program")?;
-    add_angles(&mut text, &program)?;
-    Ok(text)
-}
-
-// The program that a text is has these angles.
-fn has_angles(rt: &impl Abort, alloc: Global, text: &[u8], angles: &[u8]) -> Result<(), Fail> {
-    let tokens = tokens_of(alloc, text)?;
-    let found = angles_of(alloc, &tokens)?;
-    assert_eq!(rt; found.as_slice(), angles);
+fn add_angles(text: &mut Vec<u8>, angles: &[Expression<'_>]) -> Result<(), Fail> {
+    for angle in angles {
+        add_angle(text, angle)?;
+    }
     Ok(())
 }
 
+// The angles of an application; none, where it is another element.
+fn angles_in<'e, 'a>(element: &'e ProgramElement<'a>) -> &'e [Expression<'a>] {
+    match element {
+        ProgramElement::Statement(statement) => match &statement.kind {
+            StatementKind::Operation(Operation::Apply(application)) => &application.angles,
+            _ => &[],
+        },
+        ProgramElement::Gate { .. } => &[],
+    }
+}
+
+// Adds the angles of the applications in a program.
+fn add_all_angles(text: &mut Vec<u8>, program: &Program<'_>) -> Result<(), Fail> {
+    for element in &program.elements {
+        add_angles(text, angles_in(element))?;
+    }
+    Ok(())
+}
+
+// The angles of the applications in a program.
+fn all_angles(alloc: Global, program: &Program<'_>) -> Result<Vec<u8>, Fail> {
+    let mut text = Vec::new(alloc);
+    add_all_angles(&mut text, program)?;
+    Ok(text)
+}
+
+// The angles of the program that tokens are.
+fn angles_of(alloc: Global, tokens: &[Token<'_>]) -> Result<Vec<u8>, Fail> {
+    let program = program_of(alloc, tokens)?;
+    all_angles(alloc, &program)
+}
+
+// Whether the program that a text is has these angles.
+fn has_angles(alloc: Global, text: &[u8], angles: &[u8]) -> Result<bool, Fail> {
+    let tokens = tokens_of(alloc, text)?;
+    have_angles(alloc, &tokens, angles)
+}
+
+fn have_angles(alloc: Global, tokens: &[Token<'_>], angles: &[u8]) -> Result<bool, Fail> {
+    Ok(angles_of(alloc, tokens)?.as_slice() == angles)
+}
+
+// Applications, and their angles in postfix order.
+const ANGLES: [(&[u8], &[u8]); 10] = [
+    (b"g ( a - b - c ) q ;", b"a b - c - "),
+    (b"g ( a / b / c ) q ;", b"a b / c / "),
+    (b"g ( a ^ b ^ c ) q ;", b"a b c ^ ^ "),
+    (b"g ( - a ^ b ) q ;", b"a ~ b ^ "),
+    (b"g ( - a * b + c ) q ;", b"a ~ b * c + "),
+    (b"g ( a + b * c - d / 2 ) q ;", b"a b c * + d 2 / - "),
+    (b"g ( ( a + b ) * - - c ) q ;", b"a b + c ~ ~ * "),
+    (b"g ( sin ( pi / 2 ) ^ 2 ) q ;", b"pi 2 / f 2 ^ "),
+    (
+        b"g ( - ( a ) ^ - 2.0 , sqrt ( b ) ) q ;",
+        b"a ~ 2.0 ~ ^ b f ",
+    ),
+    (b"g ( ) q ; g q ; U ( a , b , c ) q ;", b"a b c "),
+];
+
 #[test]
 fn operators_bind_as_the_grammar_says(rt: HostRuntime) -> Result<(), Fail> {
-    let rows: [(&[u8], &[u8]); 10] = [
-        (b"g ( a - b - c ) q ;", b"a b - c - "),
-        (b"g ( a / b / c ) q ;", b"a b / c / "),
-        (b"g ( a ^ b ^ c ) q ;", b"a b c ^ ^ "),
-        (b"g ( - a ^ b ) q ;", b"a ~ b ^ "),
-        (b"g ( - a * b + c ) q ;", b"a ~ b * c + "),
-        (b"g ( a + b * c - d / 2 ) q ;", b"a b c * + d 2 / - "),
-        (b"g ( ( a + b ) * - - c ) q ;", b"a b + c ~ ~ * "),
-        (b"g ( sin ( pi / 2 ) ^ 2 ) q ;", b"pi 2 / f 2 ^ "),
-        (
-            b"g ( - ( a ) ^ - 2.0 , sqrt ( b ) ) q ;",
-            b"a ~ 2.0 ~ ^ b f ",
-        ),
-        (b"g ( ) q ; g q ; U ( a , b , c ) q ;", b"a b c "),
-    ];
-    for (text, angles) in rows {
-        has_angles(&rt, rt.alloc(), text, angles)?;
+    for (i, (text, angles)) in ANGLES.iter().enumerate() {
+        assert!(rt; has_angles(rt.alloc(), text, angles)?, "row {i}");
     }
     Ok(())
 }
@@ -111,61 +147,67 @@ fn form_of_statement(kind: &StatementKind<'_>) -> usize {
     }
 }
 
-// Tokens are one statement of this form.
-fn is_one_of(
-    rt: &impl Abort,
-    alloc: Global,
-    tokens: &[Token<'_>],
-    form: usize,
-) -> Result<(), Fail> {
-    let program = parse(alloc, tokens).ok().ok_or("no program")?;
-    assert_eq!(rt; program.elements.len(), 1);
-    for element in &program.elements {
-        assert_eq!(rt; form_of(element), form);
+// The form of a program's one statement.
+fn form_of_one(program: &Program<'_>) -> Option<usize> {
+    match program.elements.as_slice() {
+        [element] => Some(form_of(element)),
+        _ => None,
     }
-    Ok(())
 }
+
+fn form_of_tokens(alloc: Global, tokens: &[Token<'_>]) -> Result<Option<usize>, Fail> {
+    let program = program_of(alloc, tokens)?;
+    Ok(form_of_one(&program))
+}
+
+// The form of the one statement that a text is.
+fn form_of_text(alloc: Global, text: &[u8]) -> Result<Option<usize>, Fail> {
+    let tokens = tokens_of(alloc, text)?;
+    form_of_tokens(alloc, &tokens)
+}
+
+// Statements, and their forms.
+const STATEMENTS: [(&[u8], usize); 16] = [
+    (b"OPENQASM 2.0 ;", 0),
+    (b"include \"qelib1.inc\" ;", 1),
+    (b"qreg q [ 2 ] ;", 2),
+    (b"creg c [ 2 ] ;", 3),
+    (b"gate g a { }", 4),
+    (
+        b"gate g ( ) a , b { barrier a , b ; U ( 2 , pi , x ) a ; }",
+        4,
+    ),
+    (b"gate g ( x , y ) a { CX a , a ; h a ; r ( ) a ; }", 4),
+    (b"opaque g a ;", 5),
+    (b"opaque g ( x ) a , b ;", 5),
+    (b"if ( c == 2 ) x q ;", 6),
+    (b"if ( c == 2 ) measure q -> c ;", 6),
+    (b"barrier q , r [ 2 ] ;", 7),
+    (b"CX q [ 2 ] , r ;", 8),
+    (b"measure q [ 2 ] -> c [ 2 ] ;", 9),
+    (b"measure q -> c ;", 9),
+    (b"reset q ;", 10),
+];
 
 #[test]
 fn each_form_of_statement_is_read(rt: HostRuntime) -> Result<(), Fail> {
-    let alloc = rt.alloc();
-    let rows: [(&[u8], usize); 16] = [
-        (b"OPENQASM 2.0 ;", 0),
-        (b"include \"qelib1.inc\" ;", 1),
-        (b"qreg q [ 2 ] ;", 2),
-        (b"creg c [ 2 ] ;", 3),
-        (b"gate g a { }", 4),
-        (
-            b"gate g ( ) a , b { barrier a , b ; U ( 2 , pi , x ) a ; }",
-            4,
-        ),
-        (b"gate g ( x , y ) a { CX a , a ; h a ; r ( ) a ; }", 4),
-        (b"opaque g a ;", 5),
-        (b"opaque g ( x ) a , b ;", 5),
-        (b"if ( c == 2 ) x q ;", 6),
-        (b"if ( c == 2 ) measure q -> c ;", 6),
-        (b"barrier q , r [ 2 ] ;", 7),
-        (b"CX q [ 2 ] , r ;", 8),
-        (b"measure q [ 2 ] -> c [ 2 ] ;", 9),
-        (b"measure q -> c ;", 9),
-        (b"reset q ;", 10),
-    ];
-    for (text, form) in rows {
-        let tokens = tokens_of(alloc, text)?;
-        is_one_of(&rt, alloc, &tokens, form)?;
+    for (text, form) in &STATEMENTS {
+        let found = form_of_text(rt.alloc(), text)?;
+        assert_eq!(rt; found, Some(*form));
     }
     Ok(())
 }
 
-// The tokens behind a heading.
+// The tokens behind a gate's heading at the first byte, where that comes next.
 fn behind_heading<'t, 'a>(
-    rt: &impl Abort,
     alloc: Global,
     tokens: &'t [Token<'a>],
-) -> Result<&'t [Token<'a>], Fail> {
-    let (part, rest) = next_part(alloc, tokens)?.ok_or("no part")?;
-    assert!(rt; matches!(part, Part::Heading { place: 0, .. }));
-    Ok(rest)
+) -> Result<Option<&'t [Token<'a>]>, Fail> {
+    let next = next_part(alloc, tokens)?;
+    Ok(match &next {
+        Some((Part::Heading { place: 0, .. }, rest)) => Some(*rest),
+        _ => None,
+    })
 }
 
 // A part of a gate's body.
@@ -184,64 +226,73 @@ fn part_of(part: &BodyPart<'_>) -> InBody {
     }
 }
 
-// The tokens behind such a part.
+// The tokens behind such a part, where that comes next.
 fn behind_part<'t, 'a>(
-    rt: &impl Abort,
     alloc: Global,
     tokens: &'t [Token<'a>],
     wanted: InBody,
-) -> Result<&'t [Token<'a>], Fail> {
-    let (part, rest) = next_in_body(alloc, tokens)?.ok_or("no part")?;
-    assert!(rt; part_of(&part) == wanted);
-    Ok(rest)
+) -> Result<Option<&'t [Token<'a>]>, Fail> {
+    let next = next_in_body(alloc, tokens)?;
+    Ok(match &next {
+        Some((part, rest)) if part_of(part) == wanted => Some(*rest),
+        _ => None,
+    })
 }
 
-// A gate of three statements, which five tokens follow.
-fn read_parts(rt: &impl Abort, alloc: Global, tokens: &[Token<'_>]) -> Result<(), Fail> {
-    let mut rest = behind_heading(rt, alloc, tokens)?;
-    for part in [InBody::Apply, InBody::Barrier, InBody::Apply, InBody::End] {
-        rest = behind_part(rt, alloc, rest, part)?;
+// The parts of the body in `a_gate_is_read_part_by_part`.
+const PARTS: [InBody; 4] = [InBody::Apply, InBody::Barrier, InBody::Apply, InBody::End];
+
+// How many tokens follow a gate of these parts.
+fn tokens_behind_gate(alloc: Global, tokens: &[Token<'_>]) -> Result<usize, Fail> {
+    let mut rest = behind_heading(alloc, tokens)?.ok_or("no heading")?;
+    for part in &PARTS {
+        rest = behind_part(alloc, rest, *part)?.ok_or("another part")?;
     }
-    assert_eq!(rt; rest.len(), 5);
-    Ok(())
+    Ok(rest.len())
 }
 
 #[test]
 fn a_gate_is_read_part_by_part(rt: HostRuntime) -> Result<(), Fail> {
     let text = b"gate g a , b { h a ; barrier a , b ; CX a , b ; } g q , r ;";
     let tokens = tokens_of(rt.alloc(), text)?;
-    read_parts(&rt, rt.alloc(), &tokens)
+    let count = tokens_behind_gate(rt.alloc(), &tokens)?;
+    assert_eq!(rt; count, 5);
+    Ok(())
 }
+
+// What is wrong with the tokens of a text.
+fn fault_of_text(alloc: Global, text: &[u8]) -> Result<Option<ParseError>, Fail> {
+    let tokens = tokens_of(alloc, text)?;
+    Ok(fault_in(alloc, &tokens))
+}
+
+// Tokens that are no program, and where the first faulty statement begins.
+const REFUSED: [(&[u8], usize); 18] = [
+    (b"gate g a { } ;", 13),
+    (b"qreg q [ 2 ] ; x q", 15),
+    (b"qreg q [ 2 ] ; x q , ;", 15),
+    (b"qreg q [ 2.0 ] ;", 0),
+    (b"creg c [ 2 ]", 0),
+    (b"OPENQASM 2 ;", 0),
+    (b"gate g { }", 0),
+    (b"gate g a { measure a -> a ; }", 0),
+    (b"gate g a { h a [ 2 ] ; }", 0),
+    (b"gate U a { }", 0),
+    (b"opaque g ( x a ;", 0),
+    (b"if ( c == 2 ) if ( c == 2 ) x q ;", 0),
+    (b"if ( c == 2 ) barrier q ;", 0),
+    (b"measure q ;", 0),
+    (b"g ( a b ) q ;", 0),
+    (b"g ( a , ) q ;", 0),
+    (b"g ( ( a ) q ;", 0),
+    (b"g ( sin a ) q ;", 0),
+];
 
 #[test]
 fn other_tokens_are_refused_where_the_statement_begins(rt: HostRuntime) -> Result<(), Fail> {
-    let alloc = rt.alloc();
-    let rows: [(&[u8], usize); 18] = [
-        (b"gate g a { } ;", 13),
-        (b"qreg q [ 2 ] ; x q", 15),
-        (b"qreg q [ 2 ] ; x q , ;", 15),
-        (b"qreg q [ 2.0 ] ;", 0),
-        (b"creg c [ 2 ]", 0),
-        (b"OPENQASM 2 ;", 0),
-        (b"gate g { }", 0),
-        (b"gate g a { measure a -> a ; }", 0),
-        (b"gate g a { h a [ 2 ] ; }", 0),
-        (b"gate U a { }", 0),
-        (b"opaque g ( x a ;", 0),
-        (b"if ( c == 2 ) if ( c == 2 ) x q ;", 0),
-        (b"if ( c == 2 ) barrier q ;", 0),
-        (b"measure q ;", 0),
-        (b"g ( a b ) q ;", 0),
-        (b"g ( a , ) q ;", 0),
-        (b"g ( ( a ) q ;", 0),
-        (b"g ( sin a ) q ;", 0),
-    ];
-    for (text, at) in rows {
-        let tokens = tokens_of(alloc, text)?;
-        assert_eq!(rt;
-            parse(alloc, &tokens).err(),
-            Some(ParseError::Syntax { at })
-        );
+    for (text, at) in &REFUSED {
+        let fault = fault_of_text(rt.alloc(), text)?;
+        assert_eq!(rt; fault, Some(ParseError::Syntax { at: *at }));
     }
     Ok(())
 }
@@ -281,47 +332,53 @@ fn fault_of(alloc: Global, all: &[Repeated]) -> Result<Option<ParseError>, Fail>
     for repeated in all {
         add_repeated(&mut tokens, alloc, *repeated)?;
     }
-    Ok(parse(alloc, &tokens).err())
+    Ok(fault_in(alloc, &tokens))
 }
+
+// Applications of long expressions.
+const LONG: [Repeated; 4] = [
+    (100_000, b"-", b""),
+    (100_000, b"a ^", b""),
+    (100_000, b"", b"+ a"),
+    (100_000, b"a ^ a *", b"- a"),
+];
 
 #[test]
 fn long_expressions_are_read(rt: HostRuntime) -> Result<(), Fail> {
-    let all: [Repeated; 4] = [
-        (100_000, b"-", b""),
-        (100_000, b"a ^", b""),
-        (100_000, b"", b"+ a"),
-        (100_000, b"a ^ a *", b"- a"),
-    ];
-    for repeated in all {
-        assert_eq!(rt; fault_of(rt.alloc(), &[repeated])?, None);
+    for repeated in &LONG {
+        let fault = fault_of(rt.alloc(), &[*repeated])?;
+        assert_eq!(rt; fault, None);
     }
     Ok(())
 }
 
+const MOST: Repeated = (255, b"(", b")");
+
+const OVER: Repeated = (256, b"(", b")");
+
+const OPEN: Repeated = (255, b"(", b"");
+
+const LAST: Repeated = (255, b"(", b"      (");
+
+// Applications with many parentheses, and what is wrong with them.
+const DEEP: [(&[Repeated], Option<ParseError>); 4] = [
+    (&[MOST], None),
+    (&[OVER], Some(ParseError::TooDeep { at: 0 })),
+    (&[OPEN, OPEN], Some(ParseError::Syntax { at: 0 })),
+    (&[MOST, LAST], Some(ParseError::TooDeep { at: 6 })),
+];
+
 #[test]
 fn more_than_256_open_parentheses_are_too_deep(rt: HostRuntime) -> Result<(), Fail> {
-    let most: Repeated = (255, b"(", b")");
-    let over: Repeated = (256, b"(", b")");
-    let open: Repeated = (255, b"(", b"");
-    let last: Repeated = (255, b"(", b"      (");
-    assert_eq!(rt; fault_of(rt.alloc(), &[most])?, None);
-    assert_eq!(rt;
-        fault_of(rt.alloc(), &[over])?,
-        Some(ParseError::TooDeep { at: 0 })
-    );
-    assert_eq!(rt;
-        fault_of(rt.alloc(), &[open, open])?,
-        Some(ParseError::Syntax { at: 0 })
-    );
-    assert_eq!(rt;
-        fault_of(rt.alloc(), &[most, last])?,
-        Some(ParseError::TooDeep { at: 6 })
-    );
+    for (all, wanted) in &DEEP {
+        let fault = fault_of(rt.alloc(), all)?;
+        assert_eq!(rt; fault, *wanted);
+    }
     Ok(())
 }
 
 // What a text is: so many statements, or no tokens, or no statements.
-#[derive(Clone, Copy, Debug, PartialEq, Eq)]
+#[derive(Clone, Copy, PartialEq, Eq)]
 enum Told {
     Statements(usize),
     BadByte(usize),
@@ -329,46 +386,60 @@ enum Told {
     Other,
 }
 
+// What tokens are.
+fn reading_of_tokens(alloc: Global, tokens: &[Token<'_>]) -> Told {
+    match program_of(alloc, tokens) {
+        Ok(program) => Told::Statements(program.elements.len()),
+        Err(ParseError::Syntax { at }) => Told::Syntax(at),
+        Err(_) => Told::Other,
+    }
+}
+
 // What a text is.
 fn reading_of(alloc: Global, text: &[u8]) -> Told {
     match lex(alloc, text) {
-        Ok(tokens) => match parse(alloc, &tokens) {
-            Ok(program) => Told::Statements(program.elements.len()),
-            Err(ParseError::Syntax { at }) => Told::Syntax(at),
-            Err(_) => Told::Other,
-        },
+        Ok(tokens) => reading_of_tokens(alloc, &tokens),
         Err(LexError::BadByte { at }) => Told::BadByte(at),
         Err(LexError::NoMemory) => Told::Other,
     }
 }
 
-#[test]
-fn each_prefix_of_a_text_is_told(rt: HostRuntime) -> Result<(), Fail> {
-    let text: &[u8] = b"OPENQASM 2.0;\ninclude \"qelib1.inc\";\nqreg q[1];\nt q[0];\nt q[0];\n";
-    // The first and the last length of the prefixes of one kind.
-    let rows: [(usize, usize, Told); 14] = [
-        (0, 0, Told::Statements(0)),
-        (1, 7, Told::BadByte(0)),
-        (8, 12, Told::Syntax(0)),
-        (13, 14, Told::Statements(1)),
-        (15, 22, Told::Syntax(14)),
-        (23, 33, Told::BadByte(22)),
-        (34, 34, Told::Syntax(14)),
-        (35, 36, Told::Statements(2)),
-        (37, 45, Told::Syntax(36)),
-        (46, 47, Told::Statements(3)),
-        (48, 53, Told::Syntax(47)),
-        (54, 55, Told::Statements(4)),
-        (56, 61, Told::Syntax(55)),
-        (62, 63, Told::Statements(5)),
-    ];
-    for (first, last, expected) in rows {
-        for length in first..=last {
-            if let Some(prefix) = text.get(..length) {
-                assert_eq!(rt; reading_of(rt.alloc(), prefix), expected, "{length} bytes");
-            }
+const PROGRAM: &[u8] = b"OPENQASM 2.0;\ninclude \"qelib1.inc\";\nqreg q[1];\nt q[0];\nt q[0];\n";
+
+// The first and the last length of the prefixes of one kind.
+const PREFIXES: [(usize, usize, Told); 14] = [
+    (0, 0, Told::Statements(0)),
+    (1, 7, Told::BadByte(0)),
+    (8, 12, Told::Syntax(0)),
+    (13, 14, Told::Statements(1)),
+    (15, 22, Told::Syntax(14)),
+    (23, 33, Told::BadByte(22)),
+    (34, 34, Told::Syntax(14)),
+    (35, 36, Told::Statements(2)),
+    (37, 45, Told::Syntax(36)),
+    (46, 47, Told::Statements(3)),
+    (48, 53, Told::Syntax(47)),
+    (54, 55, Told::Statements(4)),
+    (56, 61, Told::Syntax(55)),
+    (62, 63, Told::Statements(5)),
+];
+
+// Whether all prefixes of these lengths are told so.
+fn are_told(alloc: Global, first: usize, last: usize, expected: Told) -> bool {
+    for length in first..=last {
+        match PROGRAM.get(..length) {
+            Some(prefix) if reading_of(alloc, prefix) == expected => {}
+            _ => return false,
         }
     }
-    assert_eq!(rt; text.len(), 63);
-    Ok(())
+    true
+}
+
+#[test]
+fn each_prefix_of_a_text_is_told(rt: HostRuntime) {
+    for (first, last, expected) in &PREFIXES {
+        let is_so = are_told(rt.alloc(), *first, *last, *expected);
+        assert!(rt; is_so, "from {first} to {last} bytes");
+    }
+    assert!(rt; PROGRAM.len() == 63);
 }

@@ -120,32 +120,36 @@ fn a_page_has_its_tokens(rt: HostRuntime) -> Result<(), Fail> {
     Ok(())
 }
 
+// Texts, and the place of the first bad byte of each.
+const BAD_BYTES: [(&[u8], usize); 14] = [
+    (b"Ux", 0),
+    (b"q CXx", 2),
+    (b"OpenQASM", 0),
+    (b"OPENQASM2;", 0),
+    (b"a = b", 2),
+    (b"1 .", 2),
+    (b"include \"abc", 8),
+    (b"\"a\nb\"", 0),
+    (b"// \xff\n\xff", 5),
+    (b"q\x80", 1),
+    (b"_q", 0),
+    (b"1.5.E", 3),
+    (b"--=", 2),
+    (b"===", 2),
+];
+
+fn fault_of(alloc: Global, text: &[u8]) -> Option<LexError> {
+    lex(alloc, text).err()
+}
+
 #[test]
-fn bad_bytes_are_told(rt: HostRuntime) -> Result<(), Fail> {
-    let alloc = rt.alloc();
-    let rows: [(&[u8], usize); 14] = [
-        (b"Ux", 0),
-        (b"q CXx", 2),
-        (b"OpenQASM", 0),
-        (b"OPENQASM2;", 0),
-        (b"a = b", 2),
-        (b"1 .", 2),
-        (b"include \"abc", 8),
-        (b"\"a\nb\"", 0),
-        (b"// \xff\n\xff", 5),
-        (b"q\x80", 1),
-        (b"_q", 0),
-        (b"1.5.E", 3),
-        (b"--=", 2),
-        (b"===", 2),
-    ];
-    for (text, at) in rows {
-        match lex(alloc, text) {
-            Ok(_) => assert!(rt; false, "no bad byte is told"),
-            Err(error) => assert_eq!(rt; error, LexError::BadByte { at }),
-        }
+fn bad_bytes_are_told(rt: HostRuntime) {
+    for (text, at) in &BAD_BYTES {
+        assert_eq!(rt;
+            fault_of(rt.alloc(), text),
+            Some(LexError::BadByte { at: *at })
+        );
     }
-    Ok(())
 }
 
 // What a lexer answers of a text that comes in pieces of so many bytes.
@@ -169,28 +173,28 @@ fn is_page(rt: &impl Abort, list: &TokenList) -> Result<(), Fail> {
     Ok(())
 }
 
-#[test]
-fn a_page_in_pieces_has_its_tokens(rt: HostRuntime) -> Result<(), Fail> {
-    let alloc = rt.alloc();
-    for count in [1, 7, 1000] {
-        let list = lex_in_pieces(alloc, PAGE, count.max(1))?;
-        is_page(&rt, &list)?;
-    }
-    Ok(())
+// The page has its tokens where it comes in pieces of so many bytes.
+fn is_page_in_pieces(rt: &impl Abort, alloc: Global, count: usize) -> Result<(), Fail>
+    requires { 0 < count }
+{
+    let list = lex_in_pieces(alloc, PAGE, count)?;
+    is_page(rt, &list)
 }
 
-// Takes pieces in: a number that goes on, a comment that ends with its piece, and a last token with nothing behind it.
+#[test]
+fn a_page_in_pieces_has_its_tokens(rt: HostRuntime) -> Result<(), Fail> {
+    is_page_in_pieces(&rt, rt.alloc(), 1)?;
+    is_page_in_pieces(&rt, rt.alloc(), 7)?;
+    is_page_in_pieces(&rt, rt.alloc(), 1000)
+}
+
+// A number that goes on, a comment that ends with its piece, and a last token with nothing behind it.
+const PIECES: [&[u8]; 8] = [
+    b"q 1", b"2.5e+", b"7 // c", b"\n", b"//\n", b"c\nme", b"", b"asure",
+];
+
 fn take_pieces(lexer: &mut PieceLexer) -> Result<(), Fail> {
-    for piece in [
-        b"q 1".as_slice(),
-        b"2.5e+",
-        b"7 // c",
-        b"\n",
-        b"//\n",
-        b"c\nme",
-        b"",
-        b"asure",
-    ] {
+    for piece in &PIECES {
         lexer.take(piece)?;
     }
     Ok(())
@@ -215,20 +219,23 @@ fn pieces_end_anywhere(rt: HostRuntime) -> Result<(), Fail> {
     has_tokens(&rt, &list)
 }
 
+// The first bad byte is told where the text comes in pieces of so many bytes.
+fn is_told(rt: &impl Abort, alloc: Global, text: &[u8], count: usize, at: usize)
+    requires { 0 < count }
+{
+    assert_eq!(rt;
+        lex_in_pieces(alloc, text, count).err(),
+        Some(LexError::BadByte { at })
+    );
+}
+
+const BAD_LINES: [(&[u8], usize); 3] = [(b"q;\n\"a", 3), (b"q;\nq ?\n? q\n", 5), (b"? \n", 0)];
+
 #[test]
-fn the_first_bad_byte_is_told_at_the_end(rt: HostRuntime) -> Result<(), Fail> {
-    let alloc = rt.alloc();
-    for (text, at) in [
-        (b"q;\n\"a".as_slice(), 3),
-        (b"q;\nq ?\n? q\n", 5),
-        (b"? \n", 0),
-    ] {
-        for count in [1, 4, 100] {
-            match lex_in_pieces(alloc, text, count.max(1)) {
-                Ok(_) => assert!(rt; false, "no bad byte is told"),
-                Err(error) => assert_eq!(rt; error, LexError::BadByte { at }),
-            }
-        }
+fn the_first_bad_byte_is_told_at_the_end(rt: HostRuntime) {
+    for (text, at) in &BAD_LINES {
+        is_told(&rt, rt.alloc(), text, 1, *at);
+        is_told(&rt, rt.alloc(), text, 4, *at);
+        is_told(&rt, rt.alloc(), text, 100, *at);
     }
-    Ok(())
 }
