@@ -1,7 +1,6 @@
 //! Rows and sets by hand, and matrices that are drawn against an elimination on words.
-use std::alloc::Global;
+use std::alloc::{AllocError, Global};
 use std::process::Abort;
-use std::test::Fail;
 use zx_bits::{BitMatrix, BitRow, BitSet, Solved, solve};
 
 fn flip(rt: &impl Abort, row: &mut BitRow, place: usize) {
@@ -21,37 +20,40 @@ fn flip_each(rt: &impl Abort, row: &mut BitRow, places: &[usize]) {
     }
 }
 
-// Beside each place stands the first set bit from there on.
-fn has_next(rt: &impl Abort, row: &BitRow, rows: &[(usize, Option<usize>)]) {
-    for (start, next) in rows {
-        assert_eq!(rt; row.bit_from(*start), *next, "from {start}");
+// Whether just these bits are set, which rise: each is the first from the one before and from itself.
+fn has_set(row: &BitRow, places: &[usize]) -> bool {
+    let mut start = 0;
+    for place in places {
+        if row.bit_from(start) != Some(*place) || row.bit_from(*place) != Some(*place) {
+            return false;
+        }
+        start = place.saturating_add(1);
     }
+    row.bit_from(start).is_none()
 }
 
-// Grows a row of one bit.
-fn grow(rt: &impl Abort, row: &mut BitRow) -> Result<(), Fail> {
+// Negates bits of a row of 301, of which the first is set.
+fn negate(rt: &impl Abort, row: &mut BitRow) {
+    flip_each(rt, row, &[0, 200, 300, 63, 191]);
+    assert!(rt; has_set(row, &[63, 191, 200, 300]));
+    flip(rt, row, 300);
+    assert!(rt; has_set(row, &[63, 191, 200]));
+    assert!(rt; row.bit_from(127) == Some(191));
+}
+
+// Grows a row of one bit, and negates bits of it.
+fn grow(rt: &impl Abort, row: &mut BitRow) -> Result<(), AllocError> {
     flip(rt, row, 0);
     assert!(rt; row.len() < 2);
     row.grow(300)?;
-    assert_eq!(rt; row.len(), 301);
+    assert!(rt; row.len() == 301);
     assert!(rt; get(rt, row, 0) && !get(rt, row, 300));
-    flip_each(rt, row, &[0, 200, 300, 63, 191]);
-    let rows = [
-        (0, Some(63)),
-        (63, Some(63)),
-        (64, Some(191)),
-        (192, Some(200)),
-        (201, Some(300)),
-        (301, None),
-    ];
-    has_next(rt, row, &rows);
-    flip(rt, row, 300);
-    has_next(rt, row, &[(127, Some(191)), (201, None)]);
+    negate(rt, row);
     Ok(())
 }
 
 #[test]
-fn a_row_grows_both_ways(rt: HostRuntime) -> Result<(), Fail> {
+fn a_row_grows_both_ways(rt: HostRuntime) -> Result<(), AllocError> {
     grow(&rt, &mut BitRow::new(rt.alloc(), 1)?)
 }
 
@@ -69,27 +71,32 @@ fn has_parity(rt: &impl Abort, row: &BitRow, other: &BitRow) -> bool {
 
 // Adds the second of two rows to the first, and then the first to the second.
 fn add_both(rt: &impl Abort, left: &mut BitRow, right: &mut BitRow) {
-    flip_each(rt, left, &[500, 639]);
-    flip_each(rt, right, &[3, 500]);
     assert!(rt; has_parity(rt, left, right));
     add(rt, left, right);
-    has_next(rt, left, &[(0, Some(3)), (4, Some(639))]);
+    assert!(rt; has_set(left, &[3, 639]));
     add(rt, right, left);
-    has_next(rt, right, &[(0, Some(500)), (501, Some(639))]);
+    assert!(rt; has_set(right, &[500, 639]));
     assert!(rt; has_parity(rt, left, right));
     assert!(rt; !has_parity(rt, right, right));
 }
 
+// Sets bits of two rows without any, and adds them.
+fn set_and_add(rt: &impl Abort, left: &mut BitRow, right: &mut BitRow) {
+    flip_each(rt, left, &[500, 639]);
+    flip_each(rt, right, &[3, 500]);
+    add_both(rt, left, right);
+}
+
 #[test]
-fn rows_add_at_two_offsets(rt: HostRuntime) -> Result<(), Fail> {
+fn rows_add_at_two_offsets(rt: HostRuntime) -> Result<(), AllocError> {
     let mut left = BitRow::new(rt.alloc(), 640)?;
     let mut right = BitRow::new(rt.alloc(), 640)?;
-    add_both(&rt, &mut left, &mut right);
+    set_and_add(&rt, &mut left, &mut right);
     Ok(())
 }
 
 // Toggles these numbers.
-fn toggle_each(set: &mut BitSet, numbers: &[usize]) -> Result<(), Fail> {
+fn toggle_each(set: &mut BitSet, numbers: &[usize]) -> Result<(), AllocError> {
     for number in numbers {
         set.toggle(*number)?;
     }
@@ -108,48 +115,73 @@ fn has_just(set: &BitSet, numbers: &[usize]) -> bool {
     set.first_from(start).is_none() && set.len() == numbers.len()
 }
 
-// Takes numbers into a set without any, and out again.
-fn take(rt: &impl Abort, numbers: &mut BitSet) -> Result<(), Fail> {
-    assert!(rt; has_just(numbers, &[]));
-    toggle_each(numbers, &[127, 0, 300, 64, 63])?;
-    assert!(rt; has_just(numbers, &[0, 63, 64, 127, 300]));
-    assert!(rt; !numbers.contains(1) && !numbers.contains(128) && !numbers.contains(100_000));
-    assert_eq!(rt; numbers.first_from(65), Some(127));
-    assert_eq!(rt; numbers.first_from(128), Some(300));
-    toggle_each(numbers, &[127])?;
-    assert!(rt; has_just(numbers, &[0, 63, 64, 300]));
-    for number in [0, 300, 5] {
-        numbers.remove(number);
+// Toggles numbers; whether just these are in the set then.
+fn toggles_to(set: &mut BitSet, numbers: &[usize], left: &[usize]) -> Result<bool, AllocError> {
+    toggle_each(set, numbers)?;
+    Ok(has_just(set, left))
+}
+
+// Whether none of these numbers is in a set.
+fn has_none(set: &BitSet, numbers: &[usize]) -> bool {
+    for number in numbers {
+        if set.contains(*number) {
+            return false;
+        }
     }
-    assert!(rt; has_just(numbers, &[63, 64]));
-    toggle_each(numbers, &[63, 64])?;
-    assert!(rt; has_just(numbers, &[]));
-    toggle_each(numbers, &[100_000])?;
-    assert!(rt; has_just(numbers, &[100_000]));
+    true
+}
+
+fn remove_each(set: &mut BitSet, numbers: &[usize]) {
+    for number in numbers {
+        set.remove(*number);
+    }
+}
+
+// Takes these numbers out of a set, and a great one in.
+fn take_out(rt: &impl Abort, set: &mut BitSet) -> Result<(), AllocError> {
+    assert!(rt; has_just(set, &[0, 63, 64, 300]));
+    remove_each(set, &[0, 300, 5]);
+    assert!(rt; has_just(set, &[63, 64]));
+    assert!(rt; toggles_to(set, &[63, 64], &[])?);
+    assert!(rt; toggles_to(set, &[100_000], &[100_000])?);
     Ok(())
 }
 
+// Takes numbers into a set without any, and out again.
+fn take(rt: &impl Abort, set: &mut BitSet) -> Result<(), AllocError> {
+    assert!(rt; has_just(set, &[]));
+    assert!(rt; toggles_to(set, &[127, 0, 300, 64, 63], &[0, 63, 64, 127, 300])?);
+    assert!(rt; has_none(set, &[1, 128, 100_000]));
+    assert!(rt; set.first_from(65) == Some(127));
+    assert!(rt; set.first_from(128) == Some(300));
+    toggle_each(set, &[127])?;
+    take_out(rt, set)
+}
+
 #[test]
-fn a_set_takes_numbers_in_and_out(rt: HostRuntime) -> Result<(), Fail> {
+fn a_set_takes_numbers_in_and_out(rt: HostRuntime) -> Result<(), AllocError> {
     take(&rt, &mut BitSet::new(rt.alloc()))
 }
 
+const GREATEST: usize = usize::MAX - 64;
+
 // Takes the greatest number, and then the least and the greatest of those that are too great.
-fn take_greatest(rt: &impl Abort, numbers: &mut BitSet) -> Result<(), Fail> {
-    numbers.toggle(usize::MAX - 64)?;
-    assert!(rt; numbers.toggle(usize::MAX - 63).is_err());
-    assert!(rt; numbers.toggle(usize::MAX).is_err());
-    assert!(rt; has_just(numbers, &[usize::MAX - 64]));
+fn take_greatest(rt: &impl Abort, numbers: &mut BitSet) -> Result<(), AllocError> {
+    numbers.toggle(GREATEST)?;
+    for number in &[GREATEST + 1, usize::MAX] {
+        assert!(rt; numbers.toggle(*number).is_err());
+    }
+    assert!(rt; has_just(numbers, &[GREATEST]));
     Ok(())
 }
 
 #[test]
-fn the_greatest_numbers_are_refused(rt: HostRuntime) -> Result<(), Fail> {
+fn the_greatest_numbers_are_refused(rt: HostRuntime) -> Result<(), AllocError> {
     take_greatest(&rt, &mut BitSet::new(rt.alloc()))
 }
 
 // Takes room, and a number for which there is room.
-fn take_room(rt: &impl Abort, numbers: &mut BitSet) -> Result<(), Fail> {
+fn take_room(rt: &impl Abort, numbers: &mut BitSet) -> Result<(), AllocError> {
     numbers.reserve(1000)?;
     numbers.toggle(999)?;
     assert!(rt; has_just(numbers, &[999]));
@@ -157,7 +189,7 @@ fn take_room(rt: &impl Abort, numbers: &mut BitSet) -> Result<(), Fail> {
 }
 
 #[test]
-fn a_set_takes_room(rt: HostRuntime) -> Result<(), Fail> {
+fn a_set_takes_room(rt: HostRuntime) -> Result<(), AllocError> {
     take_room(&rt, &mut BitSet::new(rt.alloc()))
 }
 
@@ -167,11 +199,10 @@ fn take_both(
     right: &mut BitSet,
     numbers: &[usize],
     others: &[usize],
-) -> Result<(), Fail> {
+) -> Result<(), AllocError> {
     toggle_each(left, numbers)?;
     toggle_each(right, others)?;
-    left.xor(right)?;
-    Ok(())
+    left.xor(right)
 }
 
 // The sum of sets of these numbers has those.
@@ -181,7 +212,7 @@ fn add_to(
     numbers: &[usize],
     others: &[usize],
     sum: &[usize],
-) -> Result<(), Fail> {
+) -> Result<(), AllocError> {
     let mut set = BitSet::new(alloc);
     take_both(&mut set, &mut BitSet::new(alloc), numbers, others)?;
     assert!(rt; has_just(&set, sum));
@@ -189,7 +220,7 @@ fn add_to(
 }
 
 #[test]
-fn sets_add(rt: HostRuntime) -> Result<(), Fail> {
+fn sets_add(rt: HostRuntime) -> Result<(), AllocError> {
     let left = [3, 64, 300];
     let right = [64, 127, 300, 700];
     add_to(&rt, rt.alloc(), &left, &right, &[3, 127, 700])?;
@@ -197,7 +228,7 @@ fn sets_add(rt: HostRuntime) -> Result<(), Fail> {
 }
 
 // Compares sets of these numbers.
-fn compare(rt: &impl Abort, left: &mut BitSet, right: &mut BitSet) -> Result<(), Fail> {
+fn compare(rt: &impl Abort, left: &mut BitSet, right: &mut BitSet) -> Result<(), AllocError> {
     toggle_each(left, &[3, 64, 300])?;
     toggle_each(right, &[64, 127, 300, 700])?;
     assert!(rt; left.common_with(right) == 2 && !left.is_same(right));
@@ -207,7 +238,7 @@ fn compare(rt: &impl Abort, left: &mut BitSet, right: &mut BitSet) -> Result<(),
 }
 
 #[test]
-fn sets_are_compared(rt: HostRuntime) -> Result<(), Fail> {
+fn sets_are_compared(rt: HostRuntime) -> Result<(), AllocError> {
     let mut left = BitSet::new(rt.alloc());
     let mut right = BitSet::new(rt.alloc());
     compare(&rt, &mut left, &mut right)
@@ -220,7 +251,7 @@ fn is_set(rt: &impl Abort, word: u64, place: usize) -> bool {
 }
 
 // Adds rows to a matrix: the low bits of words.
-fn add_rows(rt: &impl Abort, m: &mut BitMatrix, words: &[u64]) -> Result<(), Fail> {
+fn add_rows(rt: &impl Abort, m: &mut BitMatrix, words: &[u64]) -> Result<(), AllocError> {
     m.reserve(words.len())?;
     for (r, word) in words.iter().enumerate() {
         m.push_row()?;
@@ -267,7 +298,7 @@ fn sum(rt: &impl Abort, words: &[u64], set: u64) -> u64 {
 }
 
 // Whether some of the words sum to the target: each is kept if it isn't a sum of those kept.
-fn has_sum(alloc: Global, words: &[u64], target: u64) -> Result<bool, Fail> {
+fn has_sum(alloc: Global, words: &[u64], target: u64) -> Result<bool, AllocError> {
     let mut kept: Vec<u64> = Vec::new(alloc);
     for word in words {
         let left = least(&kept, *word);
@@ -294,6 +325,13 @@ enum Answer {
     None(u64),
 }
 
+fn answer_of(rt: &impl Abort, solved: &Solved) -> Answer {
+    match solved {
+        Solved::Rows(set) => Answer::Rows(word_of(rt, set)),
+        Solved::None(dual) => Answer::None(word_of(rt, dual)),
+    }
+}
+
 // What is answered where a matrix gets these rows, and a row these bits.
 fn answered(
     rt: &impl Abort,
@@ -302,14 +340,12 @@ fn answered(
     goal: &mut BitRow,
     words: &[u64],
     target: u64,
-) -> Result<Answer, Fail> {
+) -> Result<Answer, AllocError> {
     add_rows(rt, m, words)?;
     add_bits(rt, goal, target);
     assert!(rt; goal.len() == m.columns());
-    match solve(alloc, m, goal)? {
-        Solved::Rows(set) => Ok(Answer::Rows(word_of(rt, &set))),
-        Solved::None(dual) => Ok(Answer::None(word_of(rt, &dual))),
-    }
+    let found = solve(alloc, m, goal)?;
+    Ok(answer_of(rt, &found))
 }
 
 // What is answered of a matrix with so many columns.
@@ -319,78 +355,107 @@ fn solved(
     columns: usize,
     words: &[u64],
     target: u64,
-) -> Result<Answer, Fail> {
-    let mut m = BitMatrix::new(alloc, columns);
+) -> Result<Answer, AllocError> {
     let mut goal = BitRow::new(alloc, columns)?;
+    let mut m = BitMatrix::new(alloc, columns);
     answered(rt, alloc, &mut m, &mut goal, words, target)
 }
 
+fn has_odd_parity(word: u64) -> bool {
+    word.count_ones() % 2 == 1
+}
+
+// Whether these words sum to the target, and no part of them does.
+fn is_least_sum(rt: &impl Abort, words: &[u64], set: u64, target: u64) -> bool {
+    for part in 0..set {
+        if part & set == part && sum(rt, words, part) == target {
+            return false;
+        }
+    }
+    sum(rt, words, set) == target
+}
+
+// Whether each word has an even number of these places, and the target an odd one.
+fn is_dual(words: &[u64], dual: u64, target: u64) -> bool {
+    for word in words {
+        if has_odd_parity(*word & dual) {
+            return false;
+        }
+    }
+    has_odd_parity(target & dual)
+}
+
 // Both answers, checked on words.
+fn is_right(rt: &impl Abort, words: &[u64], target: u64, answer: Answer, is_sum: bool) -> bool {
+    match answer {
+        Answer::Rows(set) => is_sum && is_least_sum(rt, words, set, target),
+        Answer::None(dual) => !is_sum && is_dual(words, dual, target),
+    }
+}
+
+// What is answered of a matrix with so many columns is right.
 fn check(
     rt: &impl Abort,
     alloc: Global,
     columns: usize,
     words: &[u64],
     target: u64,
-) -> Result<(), Fail> {
+) -> Result<(), AllocError> {
     let is_sum = has_sum(alloc, words, target)?;
-    match solved(rt, alloc, columns, words, target)? {
-        Answer::Rows(set) => {
-            assert!(rt; is_sum);
-            assert_eq!(rt; sum(rt, words, set), target);
-            for part in 0..set {
-                assert!(rt; part & set != part || sum(rt, words, part) != target);
-            }
-        }
-        Answer::None(dual) => {
-            assert!(rt; !is_sum);
-            assert!(rt;
-                words
-                    .iter()
-                    .all(|word| (*word & dual).count_ones() % 2 == 0)
-            );
-            assert!(rt; (target & dual).count_ones() % 2 == 1);
-        }
-    }
+    let answer = solved(rt, alloc, columns, words, target)?;
+    assert!(rt; is_right(rt, words, target, answer, is_sum));
     Ok(())
 }
 
+// Numbers of columns, rows, and what they are to sum to.
+const SUMS: [(usize, &[u64], u64); 4] = [
+    (2, &[1, 2, 2, 3], 1),
+    (2, &[2, 2], 1),
+    (3, &[], 0),
+    (3, &[], 5),
+];
+
 #[test]
-fn a_least_set_sums_to_the_target(rt: HostRuntime) -> Result<(), Fail> {
-    check(&rt, rt.alloc(), 2, &[1, 2, 2, 3], 1)?;
-    check(&rt, rt.alloc(), 2, &[2, 2], 1)?;
-    check(&rt, rt.alloc(), 3, &[], 0)?;
-    check(&rt, rt.alloc(), 3, &[], 5)
+fn a_least_set_sums_to_the_target(rt: HostRuntime) -> Result<(), AllocError> {
+    for (columns, words, target) in &SUMS {
+        check(&rt, rt.alloc(), *columns, words, *target)?;
+    }
+    Ok(())
 }
 
 // Of the rows {0, 1}, {1, 2} and {0, 2} none sum to {0}: each has two places of {0, 1, 2}, and {0}
 // has one. The third is {0, 2}, and so is the sum of the others.
 #[test]
-fn rows_of_two_places_have_even_sums(rt: HostRuntime) -> Result<(), Fail> {
-    check(&rt, rt.alloc(), 3, &[3, 6, 5], 1)?;
-    check(&rt, rt.alloc(), 3, &[3, 6, 5], 5)
+fn rows_of_two_places_have_even_sums(rt: HostRuntime) -> Result<(), AllocError> {
+    for target in &[1, 5] {
+        check(&rt, rt.alloc(), 3, &[3, 6, 5], *target)?;
+    }
+    Ok(())
+}
+
+// Adds the third of three rows on two columns to a row, which has these bits then.
+fn add_third(rt: &impl Abort, m: &mut BitMatrix, to: usize, first: bool, second: bool) {
+    assert!(rt; m.height() == 3 && m.columns() == 2 && to < 3);
+    m.add_row(2, to);
+    assert!(rt; m.height() == 3 && m.columns() == 2);
+    assert!(rt; m.get(to, 0) == first && m.get(to, 1) == second);
 }
 
 // Adds the third of three rows to the first, and to itself.
-fn add_third(rt: &impl Abort, m: &mut BitMatrix) -> Result<(), Fail> {
+fn add_rows_of(rt: &impl Abort, m: &mut BitMatrix) -> Result<(), AllocError> {
     add_rows(rt, m, &[1, 2, 3])?;
-    assert!(rt; m.height() == 3 && m.columns() == 2);
-    m.add_row(2, 0);
-    assert!(rt; m.height() == 3 && m.columns() == 2);
-    assert!(rt; !m.get(0, 0) && m.get(0, 1));
-    m.add_row(2, 2);
-    assert!(rt; m.height() == 3 && m.columns() == 2);
-    assert!(rt; !m.get(2, 0) && !m.get(2, 1));
+    add_third(rt, m, 0, false, true);
+    add_third(rt, m, 2, false, false);
     Ok(())
 }
 
 #[test]
-fn rows_of_a_matrix_add(rt: HostRuntime) -> Result<(), Fail> {
-    add_third(&rt, &mut BitMatrix::new(rt.alloc(), 2))
+fn rows_of_a_matrix_add(rt: HostRuntime) -> Result<(), AllocError> {
+    add_rows_of(&rt, &mut BitMatrix::new(rt.alloc(), 2))
 }
 
 #[test]
-fn drawn_matrices(rt: HostRuntime) -> Result<(), Fail> {
+fn drawn_matrices(rt: HostRuntime) -> Result<(), AllocError> {
     let mut state: u64 = 20;
     for _ in 0..1000 {
         let mut words = [0; 6];
