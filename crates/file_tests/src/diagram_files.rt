@@ -1,10 +1,8 @@
 //! A page of texts that aren't files, each rule of the format broken once, and files that are read.
 
 use diagram_text::{TextError, read_diagram};
-use std::alloc::Global;
-use std::process::Abort;
-use std::test::Fail;
-use zx_diagram::{Colour, Leg, Spider, Wire};
+use std::alloc::{AllocError, Global};
+use zx_diagram::{Colour, Diagram, Leg, Spider, Wire};
 use zx_model::Sixteenth;
 
 // Texts that aren't files, each with the first line that doesn't fit.
@@ -69,86 +67,90 @@ fn fault_of(alloc: Global, text: &[u8]) -> Option<TextError> {
     read_diagram(alloc, text).err()
 }
 
+// Whether the first line of a text that doesn't fit is this one.
+fn is_wrong_at(alloc: Global, text: &[u8], line: usize) -> bool {
+    fault_of(alloc, text) == Some(TextError::BadLine { line })
+}
+
 #[test]
-fn each_rule_has_its_line(rt: HostRuntime) -> Result<(), Fail> {
-    for (text, line) in WRONG {
-        assert_eq!(rt;
-            fault_of(rt.alloc(), text),
-            Some(TextError::BadLine { line })
-        );
+fn each_rule_has_its_line(rt: HostRuntime) {
+    for (row, (text, line)) in WRONG.iter().enumerate() {
+        assert!(rt; is_wrong_at(rt.alloc(), text, *line), "row {row}");
     }
-    Ok(())
+}
+
+fn leg(spider: usize) -> Leg {
+    Leg {
+        spider,
+        hadamard: false,
+    }
+}
+
+fn spider(colour: Colour, phase: Sixteenth) -> Spider {
+    Spider { colour, phase }
 }
 
 // A Z spider with a phase of one eighth turn, joined to an X spider.
-fn is_worked_diagram(rt: &(impl Abort + Copy), alloc: Global, text: &[u8]) -> Result<(), Fail> {
+fn is_worked_diagram(diagram: &Diagram) -> bool {
+    let first = spider(Colour::Z, Sixteenth::new(2));
+    let second = spider(Colour::X, Sixteenth::new(0));
+    let edge = Wire {
+        a: 0,
+        b: 1,
+        hadamard: false,
+    };
+    diagram.spiders() == [first, second].as_slice()
+        && diagram.edges() == [edge].as_slice()
+        && diagram.inputs() == [leg(0)].as_slice()
+        && diagram.outputs() == [leg(1)].as_slice()
+}
+
+// Whether it is read from a text.
+fn has_worked_diagram(alloc: Global, text: &[u8]) -> bool {
     match read_diagram(alloc, text) {
-        Ok(diagram) => {
-            let first = Spider {
-                colour: Colour::Z,
-                phase: Sixteenth::new(2),
-            };
-            let second = Spider {
-                colour: Colour::X,
-                phase: Sixteenth::new(0),
-            };
-            let edge = Wire {
-                a: 0,
-                b: 1,
-                hadamard: false,
-            };
-            let input = Leg {
-                spider: 0,
-                hadamard: false,
-            };
-            let output = Leg {
-                spider: 1,
-                hadamard: false,
-            };
-            assert!(rt; diagram.spiders() == [first, second].as_slice());
-            assert!(rt; diagram.edges() == [edge].as_slice());
-            assert!(rt; diagram.inputs() == [input].as_slice());
-            assert!(rt; diagram.outputs() == [output].as_slice());
-        }
-        Err(_fault) => panic!(rt; "not a file"),
+        Ok(diagram) => is_worked_diagram(&diagram),
+        Err(_fault) => false,
     }
-    Ok(())
 }
 
 #[test]
-fn a_diagram_is_read_in_both_versions(rt: HostRuntime) -> Result<(), Fail> {
+fn a_diagram_is_read_in_both_versions(rt: HostRuntime) {
     let eighths =
         b"zxd 1\nspider 0 Z 1\nspider 1 X 0\nedge 0 1 plain\ninput 0 plain\noutput 1 plain\nend\n".as_slice();
     let sixteenths =
         b"zxd 2\nspider 0 Z 2\nspider 1 X 0\nedge 0 1 plain\ninput 0 plain\noutput 1 plain\nend\n".as_slice();
-    is_worked_diagram(&rt, rt.alloc(), eighths)?;
-    is_worked_diagram(&rt, rt.alloc(), sixteenths)
+    assert!(rt; has_worked_diagram(rt.alloc(), eighths));
+    assert!(rt; has_worked_diagram(rt.alloc(), sixteenths));
 }
 
 #[test]
-fn edges_may_be_parallel_and_ends_anywhere(rt: HostRuntime) -> Result<(), Fail> {
+fn edges_may_be_parallel_and_ends_anywhere(rt: HostRuntime) {
     let text =
         b"zxd 2\nspider 0 Z 15\nedge 0 0 plain\nedge 0 0 plain\nedge 0 0 had\nedge 0 0 had\ninput 0 had\ninput 0 plain\noutput 0 plain\noutput 0 had\nend\n".as_slice();
-    assert_eq!(rt; fault_of(rt.alloc(), text), None);
-    assert_eq!(rt; fault_of(rt.alloc(), b"zxd 1\nend\n".as_slice()), None);
-    Ok(())
+    assert!(rt; fault_of(rt.alloc(), text).is_none());
+    assert!(rt; fault_of(rt.alloc(), b"zxd 1\nend\n").is_none());
+}
+
+// Writes a file of a spider with so many inputs.
+fn write_inputs(text: &mut Vec<u8>, inputs: usize) -> Result<(), AllocError> {
+    text.extend_from_slice(b"zxd 2\nspider 0 Z 0\n")?;
+    for _ in 0..inputs {
+        text.extend_from_slice(b"input 0 plain\n")?;
+    }
+    text.extend_from_slice(b"end\n")
+}
+
+// Why it isn't read, if it isn't.
+fn fault_of_inputs(alloc: Global, inputs: usize) -> Result<Option<TextError>, AllocError> {
+    let mut text = Vec::new(alloc);
+    write_inputs(&mut text, inputs)?;
+    Ok(fault_of(alloc, &text))
 }
 
 #[test]
-fn a_file_has_at_most_1024_inputs(rt: HostRuntime) -> Result<(), Fail> {
-    let mut text = Vec::new(rt.alloc());
-    text.extend_from_slice(b"zxd 2\nspider 0 Z 0\n")?;
-    for _ in 0..1024 {
-        text.extend_from_slice(b"input 0 plain\n")?;
-    }
-    let fits = text.len();
-    text.extend_from_slice(b"end\n")?;
-    assert_eq!(rt; fault_of(rt.alloc(), &text), None);
-    text.truncate(fits);
-    text.extend_from_slice(b"input 0 plain\nend\n")?;
-    assert_eq!(rt;
-        fault_of(rt.alloc(), &text),
-        Some(TextError::BadLine { line: 1027 })
-    );
+fn a_file_has_at_most_1024_inputs(rt: HostRuntime) -> Result<(), AllocError> {
+    let first_above = Some(TextError::BadLine { line: 1027 });
+    assert!(rt; fault_of_inputs(rt.alloc(), 1024)?.is_none());
+    assert!(rt; fault_of_inputs(rt.alloc(), 1025)? == first_above);
     Ok(())
 }

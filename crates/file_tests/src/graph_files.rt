@@ -1,9 +1,8 @@
 //! Graph files that are read, and a page of lines that don't fit.
 
+use crate::written_graphs::is_written;
 use std::alloc::{AllocError, Global};
-use std::process::Abort;
-use std::test::Fail;
-use zx_text::{TextError, read_graph, read_graph_with_flow, write_graph};
+use zx_text::{TextError, read_graph, read_graph_with_flow};
 
 // Texts that aren't files of version 2, without their first line, each with the first line that
 // doesn't fit.
@@ -84,114 +83,122 @@ fn fault_with_flow(alloc: Global, text: &[u8]) -> Option<TextError> {
     read_graph_with_flow(alloc, text).err()
 }
 
-// A text of a first line and others.
-fn lines(alloc: Global, first: &[u8], others: &[u8]) -> Result<Vec<u8>, AllocError> {
+// Whether the first line of a text that doesn't fit is this one.
+fn is_wrong_at(alloc: Global, text: &[u8], line: usize) -> bool {
+    fault_of(alloc, text) == Some(TextError::BadLine { line })
+}
+
+// The same of the lines below the first one of a text of version 2.
+fn are_wrong_at(alloc: Global, others: &[u8], line: usize) -> Result<bool, AllocError> {
     let mut text = Vec::new(alloc);
-    text.extend_from_slice(first)?;
-    text.extend_from_slice(others)?;
-    Ok(text)
+    write_lines(&mut text, others)?;
+    Ok(is_wrong_at(alloc, &text, line))
+}
+
+fn write_lines(text: &mut Vec<u8>, others: &[u8]) -> Result<(), AllocError> {
+    text.extend_from_slice(b"zxg 2\n")?;
+    text.extend_from_slice(others)
 }
 
 #[test]
-fn each_rule_has_its_line(rt: HostRuntime) -> Result<(), Fail> {
-    for (others, line) in WRONG {
-        let text = lines(rt.alloc(), b"zxg 2\n", others)?;
-        assert_eq!(rt;
-            fault_of(rt.alloc(), &text),
-            Some(TextError::BadLine { line })
-        );
+fn each_rule_has_its_line(rt: HostRuntime) -> Result<(), AllocError> {
+    for (row, (others, line)) in WRONG.iter().enumerate() {
+        assert!(rt; are_wrong_at(rt.alloc(), others, *line)?, "row {row}");
     }
     Ok(())
 }
 
-// A file's first lines: 1,025 vertices, each with such an end.
-fn many_ends(alloc: Global, word: &str) -> Result<Vec<u8>, AllocError> {
-    let mut text = Vec::new(alloc);
+// Writes a line on a vertex.
+fn write_line(
+    alloc: Global,
+    text: &mut Vec<u8>,
+    word: &str,
+    v: usize,
+    rest: &str,
+) -> Result<(), AllocError> {
+    let line = format!(in alloc; "{word} {v} {rest}\n")?;
+    text.extend_from_slice(line.as_bytes())
+}
+
+// Writes a file's first lines: 1,025 vertices, each with such an end.
+fn write_ends(alloc: Global, text: &mut Vec<u8>, word: &str) -> Result<(), AllocError> {
     text.extend_from_slice(b"zxg 2\n")?;
     for v in 0..1025 {
-        text.extend_from_slice(format!(in alloc; "vertex {v} XY 0\n")?.as_bytes())?;
+        write_line(alloc, text, "vertex", v, "XY 0")?;
     }
     for v in 0..1025 {
-        text.extend_from_slice(format!(in alloc; "{word} {v} had\n")?.as_bytes())?;
-    }
-    Ok(text)
-}
-
-#[test]
-fn a_file_has_1024_inputs_and_outputs_at_most(rt: HostRuntime) -> Result<(), Fail> {
-    for word in ["input", "output"] {
-        let text = many_ends(rt.alloc(), word)?;
-        assert_eq!(rt;
-            fault_of(rt.alloc(), &text),
-            Some(TextError::BadLine {
-                line: 1 + 1025 + 1025
-            })
-        );
+        write_line(alloc, text, word, v, "had")?;
     }
     Ok(())
 }
 
+// Whether the last end of such a file is the first that doesn't fit.
+fn is_wrong_at_last(alloc: Global, word: &str) -> Result<bool, AllocError> {
+    let mut text = Vec::new(alloc);
+    write_ends(alloc, &mut text, word)?;
+    Ok(is_wrong_at(alloc, &text, 1 + 1025 + 1025))
+}
+
 #[test]
-fn version_1_has_eight_phases(rt: HostRuntime) -> Result<(), Fail> {
-    let seven = b"zxg 1\nvertex 0 XY 7\nend\n".as_slice();
-    let eight = b"zxg 1\nvertex 0 XY 8\nend\n".as_slice();
-    assert_eq!(rt; fault_of(rt.alloc(), seven), None);
-    assert_eq!(rt;
-        fault_of(rt.alloc(), eight),
-        Some(TextError::BadLine { line: 2 })
-    );
+fn a_file_has_1024_inputs_and_outputs_at_most(rt: HostRuntime) -> Result<(), AllocError> {
+    assert!(rt; is_wrong_at_last(rt.alloc(), "input")?);
+    assert!(rt; is_wrong_at_last(rt.alloc(), "output")?);
     Ok(())
 }
 
 #[test]
-fn a_file_without_a_flow_may_be_refused(rt: HostRuntime) -> Result<(), Fail> {
+fn version_1_has_eight_phases(rt: HostRuntime) {
+    assert!(rt; fault_of(rt.alloc(), b"zxg 1\nvertex 0 XY 7\nend\n").is_none());
+    assert!(rt; is_wrong_at(rt.alloc(), b"zxg 1\nvertex 0 XY 8\nend\n", 2));
+}
+
+#[test]
+fn a_file_without_a_flow_may_be_refused(rt: HostRuntime) {
     let text = b"zxg 2\nvertex 0 XY 0\noutput 0 had\nend\n".as_slice();
-    assert_eq!(rt; fault_of(rt.alloc(), text), None);
-    assert_eq!(rt;
-        fault_with_flow(rt.alloc(), text),
-        Some(TextError::BadLine { line: 4 })
-    );
-    Ok(())
+    assert!(rt; fault_of(rt.alloc(), text).is_none());
+    assert!(rt; fault_with_flow(rt.alloc(), text) == Some(TextError::BadLine { line: 4 }));
 }
 
-// The graph of a file with a flow, written anew.
-fn rewritten(alloc: Global, text: &[u8]) -> Result<Vec<u8>, Fail> {
-    let read = read_graph_with_flow(alloc, text)?;
-    Ok(write_graph(alloc, &read.0, None)?)
+// Whether the graph of a file with a flow is written anew so.
+fn is_rewritten(alloc: Global, text: &[u8], wanted: &[u8]) -> Result<bool, AllocError> {
+    match read_graph_with_flow(alloc, text) {
+        Ok((graph, _table)) => is_written(alloc, &graph, wanted),
+        Err(_fault) => Ok(false),
+    }
 }
 
 #[test]
-fn phases_of_version_1_are_doubled(rt: HostRuntime) -> Result<(), Fail> {
+fn phases_of_version_1_are_doubled(rt: HostRuntime) -> Result<(), AllocError> {
     let text =
         b"zxg 1\nvertex 0 XY 6\nvertex 1 YZ 7\nedge 0 1\ninput 0 plain\noutput 0 had\nflow\norder 1\ncorrect 1 1\nend\n".as_slice();
-    assert_eq!(rt;
-        rewritten(rt.alloc(), text)?.as_slice(),
-        b"zxg 2\nvertex 0 XY 12\nvertex 1 YZ 14\nedge 0 1\ninput 0 plain\noutput 0 had\nend\n".as_slice()
-    );
+    let wanted =
+        b"zxg 2\nvertex 0 XY 12\nvertex 1 YZ 14\nedge 0 1\ninput 0 plain\noutput 0 had\nend\n".as_slice();
+    assert!(rt; is_rewritten(rt.alloc(), text, wanted)?);
     Ok(())
 }
 
+// Texts with first lines, each with the first line that doesn't fit.
+const FIRST: [(&[u8], usize); 4] = [
+    (b"", 1),
+    (b"zxg 2", 1),
+    (b"zxg 3\nend\n", 1),
+    (b"zxg 2\nend\nend\n", 3),
+];
+
 #[test]
-fn the_first_line_is_that_of_a_version(rt: HostRuntime) -> Result<(), Fail> {
-    let first = Some(TextError::BadLine { line: 1 });
-    assert_eq!(rt; fault_of(rt.alloc(), b"".as_slice()), first);
-    assert_eq!(rt; fault_of(rt.alloc(), b"zxg 2".as_slice()), first);
-    assert_eq!(rt; fault_of(rt.alloc(), b"zxg 3\nend\n".as_slice()), first);
-    assert_eq!(rt; fault_of(rt.alloc(), b"zxg 1\nend\n".as_slice()), None);
-    assert_eq!(rt;
-        fault_of(rt.alloc(), b"zxg 2\nend\nend\n".as_slice()),
-        Some(TextError::BadLine { line: 3 })
-    );
-    Ok(())
+fn the_first_line_is_that_of_a_version(rt: HostRuntime) {
+    for (row, (text, line)) in FIRST.iter().enumerate() {
+        assert!(rt; is_wrong_at(rt.alloc(), text, *line), "row {row}");
+    }
+    assert!(rt; fault_of(rt.alloc(), b"zxg 1\nend\n").is_none());
 }
 
 #[test]
-fn a_file_is_read_with_its_flow(rt: HostRuntime) -> Result<(), Fail> {
+fn a_file_is_read_with_its_flow(rt: HostRuntime) -> Result<(), AllocError> {
     let text =
         b"zxg 2\nvertex 0 XY 0\nvertex 1 XY 4\nedge 0 1\ninput 0 plain\noutput 1 had\nflow\norder 0\ncorrect 0 1\nend\n".as_slice();
-    assert_eq!(rt;
-        rewritten(rt.alloc(), text)?.as_slice(),
-        b"zxg 2\nvertex 0 XY 0\nvertex 1 XY 4\nedge 0 1\ninput 0 plain\noutput 1 had\nend\n".as_slice()
-    );
+    let wanted =
+        b"zxg 2\nvertex 0 XY 0\nvertex 1 XY 4\nedge 0 1\ninput 0 plain\noutput 1 had\nend\n".as_slice();
+    assert!(rt; is_rewritten(rt.alloc(), text, wanted)?);
     Ok(())
 }

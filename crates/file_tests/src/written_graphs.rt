@@ -1,66 +1,89 @@
 //! Graphs that are written, with ample memory.
 
 use open_graph::{End, OpenGraph, Plane, VertexId};
-use std::alloc::Global;
+use std::alloc::{AllocError, Global};
 use std::process::Abort;
-use std::test::Fail;
 use zx_flow::{Flow, FlowTable};
 use zx_model::Sixteenth;
 use zx_text::write_graph;
 
 // Joins two vertices that there are.
-fn join(rt: &impl Abort, g: &mut OpenGraph, u: VertexId, v: VertexId) -> Result<(), Fail> {
+fn join(rt: &impl Abort, g: &mut OpenGraph, u: VertexId, v: VertexId) -> Result<(), AllocError> {
     assert!(rt; g.is_live(u) && g.is_live(v) && u != v);
-    g.toggle_edge(u, v)?;
-    Ok(())
+    g.toggle_edge(u, v)
 }
 
 // Gives a vertex an input, and another one an output.
-fn give_ends(rt: &impl Abort, g: &mut OpenGraph, u: VertexId, v: VertexId) -> Result<(), Fail> {
-    assert!(rt; g.is_live(u) && g.weight(u).0 == Plane::XY && g.input_at(u).is_none());
-    g.add_input(End::plain(u))?;
-    assert!(rt; g.is_live(v) && g.weight(v).0 == Plane::XY && g.output_at(v).is_none());
-    g.add_output(End {
+fn give_ends(
+    rt: &impl Abort,
+    g: &mut OpenGraph,
+    u: VertexId,
+    v: VertexId,
+) -> Result<(), AllocError> {
+    give_input(rt, g, End::plain(u))?;
+    let end = End {
         vertex: v,
         hadamard: true,
-    })?;
-    Ok(())
+    };
+    give_output(rt, g, end)
 }
 
-// The file of a graph without a flow is this text.
-fn is_written(rt: &impl Abort, alloc: Global, g: &OpenGraph, text: &[u8]) -> Result<(), Fail> {
+fn give_input(rt: &impl Abort, g: &mut OpenGraph, end: End) -> Result<(), AllocError> {
+    let v = end.vertex;
+    assert!(rt; g.is_live(v) && g.weight(v).0 == Plane::XY && g.input_at(v).is_none());
+    g.add_input(end)
+}
+
+fn give_output(rt: &impl Abort, g: &mut OpenGraph, end: End) -> Result<(), AllocError> {
+    let v = end.vertex;
+    assert!(rt; g.is_live(v) && g.weight(v).0 == Plane::XY && g.output_at(v).is_none());
+    g.add_output(end)
+}
+
+// Whether the file of a graph without a flow is this text.
+pub fn is_written(alloc: Global, g: &OpenGraph, text: &[u8]) -> Result<bool, AllocError> {
     let written = write_graph(alloc, g, None)?;
-    assert_eq!(rt; written.as_slice(), text);
-    Ok(())
+    Ok(written.as_slice() == text)
 }
 
 #[test]
-fn the_graph_without_vertices_has_two_lines(rt: HostRuntime) -> Result<(), Fail> {
-    let g = OpenGraph::new(rt.alloc());
-    is_written(&rt, rt.alloc(), &g, b"zxg 2\nend\n")
-}
-
-#[test]
-fn the_flow_without_vertices_has_two_lines_more(rt: HostRuntime) -> Result<(), Fail> {
-    let g = OpenGraph::new(rt.alloc());
-    let flow = Flow::of_table(&g, FlowTable::new(rt.alloc()))?;
-    let written = write_graph(rt.alloc(), &g, Some(&flow))?;
-    assert_eq!(rt; written.as_slice(), b"zxg 2\nflow\norder\nend\n".as_slice());
+fn the_graph_without_vertices_has_two_lines(rt: HostRuntime) -> Result<(), AllocError> {
+    assert!(rt; is_written(rt.alloc(), &OpenGraph::new(rt.alloc()), b"zxg 2\nend\n")?);
     Ok(())
 }
 
-// Three vertices in a path with a gadget. It answers the one in the middle.
-fn draw_path(rt: &impl Abort, g: &mut OpenGraph) -> Result<VertexId, Fail> {
-    let first = g.add_vertex(Plane::XY, Sixteenth::new(0))?;
-    let middle = g.add_vertex(Plane::XZ, Sixteenth::new(15))?;
-    let last = g.add_vertex(Plane::XY, Sixteenth::new(4))?;
-    let gadget = g.add_vertex(Plane::YZ, Sixteenth::new(2))?;
-    join(rt, g, first, middle)?;
-    join(rt, g, last, middle)?;
-    join(rt, g, gadget, last)?;
-    join(rt, g, gadget, first)?;
-    give_ends(rt, g, first, last)?;
-    Ok(middle)
+// The file of the graph without vertices, with its flow.
+fn empty_with_flow(alloc: Global) -> Result<Vec<u8>, AllocError> {
+    let g = OpenGraph::new(alloc);
+    let flow = Flow::of_table(&g, FlowTable::new(alloc))?;
+    write_graph(alloc, &g, Some(&flow))
+}
+
+#[test]
+fn the_flow_without_vertices_has_two_lines_more(rt: HostRuntime) -> Result<(), AllocError> {
+    let written = empty_with_flow(rt.alloc())?;
+    assert!(rt; written.as_slice() == b"zxg 2\nflow\norder\nend\n".as_slice());
+    Ok(())
+}
+
+// The vertex in the middle of the path.
+const MIDDLE: usize = 1;
+
+// Three vertices in a path with a gadget, numbered in this order.
+fn draw_path(rt: &impl Abort, g: &mut OpenGraph) -> Result<(), AllocError> {
+    let weights = [
+        (Plane::XY, Sixteenth::new(0)),
+        (Plane::XZ, Sixteenth::new(15)),
+        (Plane::XY, Sixteenth::new(4)),
+        (Plane::YZ, Sixteenth::new(2)),
+    ];
+    for (plane, phase) in &weights {
+        g.add_vertex(*plane, *phase)?;
+    }
+    for (u, v) in &[(0, MIDDLE), (2, MIDDLE), (3, 2), (3, 0)] {
+        join(rt, g, VertexId::new(*u), VertexId::new(*v))?;
+    }
+    give_ends(rt, g, VertexId::new(0), VertexId::new(2))
 }
 
 fn remove(rt: &impl Abort, g: &mut OpenGraph, v: VertexId) {
@@ -69,15 +92,19 @@ fn remove(rt: &impl Abort, g: &mut OpenGraph, v: VertexId) {
 }
 
 // The path before and after the vertex in the middle goes.
-#[test]
-fn vertices_are_numbered_by_rising_id(rt: HostRuntime) -> Result<(), Fail> {
-    let mut g = OpenGraph::new(rt.alloc());
-    let middle = draw_path(&rt, &mut g)?;
+fn write_path(rt: &impl Abort, alloc: Global, g: &mut OpenGraph) -> Result<(), AllocError> {
+    draw_path(rt, g)?;
     let text =
         b"zxg 2\nvertex 0 XY 0\nvertex 1 XZ 15\nvertex 2 XY 4\nvertex 3 YZ 2\nedge 0 1\nedge 0 3\nedge 1 2\nedge 2 3\ninput 0 plain\noutput 2 had\nend\n";
-    is_written(&rt, rt.alloc(), &g, text)?;
-    remove(&rt, &mut g, middle);
+    assert!(rt; is_written(alloc, g, text)?);
+    remove(rt, g, VertexId::new(MIDDLE));
     let text =
         b"zxg 2\nvertex 0 XY 0\nvertex 1 XY 4\nvertex 2 YZ 2\nedge 0 2\nedge 1 2\ninput 0 plain\noutput 1 had\nend\n";
-    is_written(&rt, rt.alloc(), &g, text)
+    assert!(rt; is_written(alloc, g, text)?);
+    Ok(())
+}
+
+#[test]
+fn vertices_are_numbered_by_rising_id(rt: HostRuntime) -> Result<(), AllocError> {
+    write_path(&rt, rt.alloc(), &mut OpenGraph::new(rt.alloc()))
 }
