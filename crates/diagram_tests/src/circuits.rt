@@ -1,20 +1,13 @@
 //! Circuits of diagrams on one qubit, worked out by hand.
 
+use crate::drawings::{Drawing, drawn};
 use open_graph::VertexId;
 use std::alloc::{AllocError, Global};
 use std::process::Abort;
-use std::test::Fail;
 use zx_compile::{Compiled, compile};
-use zx_diagram::{Colour, Diagram};
+use zx_diagram::Colour;
 use zx_gates::Gate;
 use zx_model::Sixteenth;
-
-// What a diagram on one qubit comes to.
-fn compiled(rt: &impl Abort, alloc: Global, d: Diagram) -> Result<Compiled, Fail> {
-    assert!(rt; d.inputs().len() == 1 && d.outputs().len() == 1);
-    let found = compile(alloc, d)?;
-    Ok(found)
-}
 
 // Whether it is a circuit of these gates.
 fn has_gates(found: &Compiled, gates: &[Gate]) -> bool {
@@ -32,54 +25,67 @@ fn leaves(found: &Compiled, v: usize) -> bool {
     }
 }
 
-// Two spiders, the first with the input and the second with the output, and plain edges between them.
-fn two_spiders(alloc: Global, second: Colour, edges: usize) -> Result<Diagram, AllocError> {
-    let mut d = Diagram::new(alloc);
-    d.add_spider(Colour::Z, Sixteenth::eighth_turn())?;
-    d.add_spider(second, Sixteenth::new(0))?;
-    if edges > 0 {
-        d.add_edge(0, 1, false)?;
-    }
-    if edges > 1 {
-        d.add_edge(0, 1, false)?;
-    }
-    d.add_input(0, false)?;
-    d.add_output(1, false)?;
-    Ok(d)
+// What spiders and edges come to, where the first spider has the input and the second the output.
+fn compiled(
+    rt: &impl Abort,
+    alloc: Global,
+    spiders: &[(Colour, Sixteenth)],
+    edges: &[(usize, usize, bool)],
+) -> Result<Compiled, AllocError> {
+    let drawing = Drawing {
+        spiders,
+        edges,
+        inputs: &[(0, false)],
+        outputs: &[(1, false)],
+    };
+    let d = drawn(rt, alloc, drawing)?;
+    assert!(rt; d.inputs().len() == 1 && d.outputs().len() == 1);
+    compile(alloc, d)
 }
 
 #[test]
-fn a_spider_of_an_eighth_turn_is_a_t_gate(rt: HostRuntime) -> Result<(), Fail> {
-    let d = two_spiders(rt.alloc(), Colour::X, 1)?;
-    let found = compiled(&rt, rt.alloc(), d)?;
+fn a_spider_of_an_eighth_turn_is_a_t_gate(rt: HostRuntime) -> Result<(), AllocError> {
+    let spiders = [
+        (Colour::Z, Sixteenth::eighth_turn()),
+        (Colour::X, Sixteenth::new(0)),
+    ];
+    let found = compiled(&rt, rt.alloc(), &spiders, &[(0, 1, false)])?;
     assert!(rt; has_gates(&found, &[Gate::Phase(0, Sixteenth::new(2))]));
     Ok(())
 }
 
 // The Hadamard edge is half a turn more.
 #[test]
-fn two_spiders_fuse_and_a_loop_is_half_a_turn(rt: HostRuntime) -> Result<(), Fail> {
-    let alloc = rt.alloc();
-    let mut d = Diagram::new(alloc);
-    d.add_spider(Colour::Z, Sixteenth::new(2))?;
-    d.add_spider(Colour::Z, Sixteenth::new(4))?;
-    d.add_edge(0, 1, false)?;
-    d.add_edge(0, 1, true)?;
-    d.add_input(0, false)?;
-    d.add_output(1, false)?;
-    let found = compiled(&rt, alloc, d)?;
+fn two_spiders_fuse_and_a_loop_is_half_a_turn(rt: HostRuntime) -> Result<(), AllocError> {
+    let spiders = [
+        (Colour::Z, Sixteenth::new(2)),
+        (Colour::Z, Sixteenth::new(4)),
+    ];
+    let edges = [(0, 1, false), (0, 1, true)];
+    let found = compiled(&rt, rt.alloc(), &spiders, &edges)?;
     assert!(rt; has_gates(&found, &[Gate::Phase(0, Sixteenth::new(14))]));
     Ok(())
 }
 
+// Whether a wire is cut between a Z spider and another one, and the first is left.
+fn is_cut(
+    rt: &impl Abort,
+    alloc: Global,
+    second: Colour,
+    edges: &[(usize, usize, bool)],
+) -> Result<bool, AllocError> {
+    let spiders = [
+        (Colour::Z, Sixteenth::eighth_turn()),
+        (second, Sixteenth::new(0)),
+    ];
+    let found = compiled(rt, alloc, &spiders, edges)?;
+    Ok(leaves(&found, 0))
+}
+
 // Spiders that no edge joins, and an X spider that two edges join to a Z spider: a wire that is cut.
 #[test]
-fn a_cut_wire_has_no_flow(rt: HostRuntime) -> Result<(), Fail> {
-    let apart = two_spiders(rt.alloc(), Colour::Z, 0)?;
-    let found = compiled(&rt, rt.alloc(), apart)?;
-    assert!(rt; leaves(&found, 0));
-    let doubly = two_spiders(rt.alloc(), Colour::X, 2)?;
-    let found = compiled(&rt, rt.alloc(), doubly)?;
-    assert!(rt; leaves(&found, 0));
+fn a_cut_wire_has_no_flow(rt: HostRuntime) -> Result<(), AllocError> {
+    assert!(rt; is_cut(&rt, rt.alloc(), Colour::Z, &[])?);
+    assert!(rt; is_cut(&rt, rt.alloc(), Colour::X, &[(0, 1, false), (0, 1, false)])?);
     Ok(())
 }

@@ -1,58 +1,57 @@
+use crate::drawings::{Drawing, draw};
 use std::alloc::AllocError;
+use std::process::Abort;
 use zx_diagram::{Colour, Diagram, Leg, Spider, Wire};
 use zx_model::Sixteenth;
 
-// A Z spider that has an edge to itself, two inputs and an output, and an X spider with two edges to it.
-#[test]
-fn edges_and_ends_come_in_their_order(rt: HostRuntime) -> Result<(), AllocError> {
-    let alloc = rt.alloc();
-    let mut d = Diagram::new(alloc);
+fn spider(colour: Colour, phase: Sixteenth) -> Spider {
+    Spider { colour, phase }
+}
+
+fn wire(a: usize, b: usize, hadamard: bool) -> Wire {
+    Wire { a, b, hadamard }
+}
+
+fn leg(spider: usize, hadamard: bool) -> Leg {
+    Leg { spider, hadamard }
+}
+
+fn add_spiders(rt: &impl Abort, d: &mut Diagram) -> Result<(), AllocError> {
     assert!(rt; d.spiders().is_empty());
     let u = d.add_spider(Colour::Z, Sixteenth::eighth_turn())?;
     let v = d.add_spider(Colour::X, Sixteenth::new(15))?;
     assert!(rt; u == 0 && v == 1);
-    d.add_edge(u, v, false)?;
-    d.add_edge(v, u, true)?;
-    d.add_edge(u, u, true)?;
-    d.add_input(u, false)?;
-    d.add_input(u, true)?;
-    d.add_output(u, true)?;
-    let spiders = d.spiders();
-    assert!(rt; spiders.len() == 2);
-    assert!(rt;
-        spiders[1]
-            == Spider {
-                colour: Colour::X,
-                phase: Sixteenth::new(15)
-            }
-    );
-    let edges = d.edges();
-    assert!(rt; edges.len() == 3);
-    assert!(rt;
-        edges[1]
-            == Wire {
-                a: 1,
-                b: 0,
-                hadamard: true
-            }
-    );
-    let inputs = d.inputs();
-    assert!(rt; inputs.len() == 2);
-    assert!(rt;
-        inputs[1]
-            == Leg {
-                spider: 0,
-                hadamard: true
-            }
-    );
-    let outputs = d.outputs();
-    assert!(rt; outputs.len() == 1);
-    assert!(rt;
-        outputs[0]
-            == Leg {
-                spider: 0,
-                hadamard: true
-            }
-    );
     Ok(())
+}
+
+// Whether the spiders, the edges and the ends are those below, in their order.
+fn has_all(d: &Diagram) -> bool {
+    let spiders = [
+        spider(Colour::Z, Sixteenth::eighth_turn()),
+        spider(Colour::X, Sixteenth::new(15)),
+    ];
+    let edges = [wire(0, 1, false), wire(1, 0, true), wire(0, 0, true)];
+    d.spiders() == spiders.as_slice()
+        && d.edges() == edges.as_slice()
+        && d.inputs() == [leg(0, false), leg(0, true)].as_slice()
+        && d.outputs() == [leg(0, true)].as_slice()
+}
+
+// Draws a Z spider that has an edge to itself, two inputs and an output, and an X spider with two edges to it.
+fn draw_two(rt: &impl Abort, d: &mut Diagram) -> Result<(), AllocError> {
+    add_spiders(rt, d)?;
+    let edges_and_ends = Drawing {
+        spiders: &[],
+        edges: &[(0, 1, false), (1, 0, true), (0, 0, true)],
+        inputs: &[(0, false), (0, true)],
+        outputs: &[(0, true)],
+    };
+    draw(rt, d, edges_and_ends)?;
+    assert!(rt; has_all(d));
+    Ok(())
+}
+
+#[test]
+fn edges_and_ends_come_in_their_order(rt: HostRuntime) -> Result<(), AllocError> {
+    draw_two(&rt, &mut Diagram::new(rt.alloc()))
 }

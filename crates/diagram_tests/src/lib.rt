@@ -8,4 +8,6 @@ mod classes;
 #[cfg(test)]
 mod diagrams;
 #[cfg(test)]
+mod drawings;
+#[cfg(test)]
 mod like_forms;

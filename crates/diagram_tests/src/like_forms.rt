@@ -1,7 +1,9 @@
+use crate::drawings::{Drawing, drawn};
 use graph_like::graph_like;
 use open_graph::{End, OpenGraph, Plane, VertexId};
 use std::alloc::{AllocError, Global};
-use zx_diagram::{Colour, Diagram};
+use std::process::Abort;
+use zx_diagram::Colour;
 use zx_model::Sixteenth;
 
 // Whether the vertices are 0, 1, 2 and so on, all of them XY, of these phases.
@@ -35,23 +37,32 @@ fn has_ends(graph: &OpenGraph, inputs: &[End], outputs: &[End]) -> bool {
     graph.inputs() == inputs && graph.outputs() == outputs
 }
 
-// A Z spider with an input, and an X spider with an output, with so many plain edges between them.
-fn two_colours(alloc: Global, edges: usize) -> Result<OpenGraph, AllocError> {
-    let mut d = Diagram::new(alloc);
-    d.add_spider(Colour::Z, Sixteenth::eighth_turn())?;
-    d.add_spider(Colour::X, Sixteenth::new(0))?;
-    d.add_edge(0, 1, false)?;
-    if edges == 2 {
-        d.add_edge(0, 1, false)?;
-    }
-    d.add_input(0, false)?;
-    d.add_output(1, false)?;
-    graph_like(alloc, d)
+// The graph-like form of a drawing.
+fn form_of(rt: &impl Abort, alloc: Global, drawing: Drawing<'_>) -> Result<OpenGraph, AllocError> {
+    graph_like(alloc, drawn(rt, alloc, drawing)?)
+}
+
+// That of a Z spider with an input, and an X spider with an output, with these edges between them.
+fn two_colours(
+    rt: &impl Abort,
+    alloc: Global,
+    edges: &[(usize, usize, bool)],
+) -> Result<OpenGraph, AllocError> {
+    let drawing = Drawing {
+        spiders: &[
+            (Colour::Z, Sixteenth::eighth_turn()),
+            (Colour::X, Sixteenth::new(0)),
+        ],
+        edges,
+        inputs: &[(0, false)],
+        outputs: &[(1, false)],
+    };
+    form_of(rt, alloc, drawing)
 }
 
 #[test]
 fn colours_change(rt: HostRuntime) -> Result<(), AllocError> {
-    let graph = two_colours(rt.alloc(), 1)?;
+    let graph = two_colours(&rt, rt.alloc(), &[(0, 1, false)])?;
     assert!(rt; has_vertices(&graph, &[2, 0]));
     assert!(rt; joins(&graph, 0, 1));
     assert!(rt; has_ends(&graph, &[end(0, false)], &[end(1, true)]));
@@ -60,7 +71,7 @@ fn colours_change(rt: HostRuntime) -> Result<(), AllocError> {
 
 #[test]
 fn two_parallel_hadamard_edges_go(rt: HostRuntime) -> Result<(), AllocError> {
-    let graph = two_colours(rt.alloc(), 2)?;
+    let graph = two_colours(&rt, rt.alloc(), &[(0, 1, false), (0, 1, false)])?;
     assert!(rt; has_vertices(&graph, &[2, 0]));
     assert!(rt; !joins(&graph, 0, 1));
     assert!(rt; has_ends(&graph, &[end(0, false)], &[end(1, true)]));
@@ -70,43 +81,50 @@ fn two_parallel_hadamard_edges_go(rt: HostRuntime) -> Result<(), AllocError> {
 // Two Z spiders that a plain and a Hadamard edge join: one vertex, whose phase has half a turn for the loop.
 #[test]
 fn a_hadamard_loop_is_half_a_turn(rt: HostRuntime) -> Result<(), AllocError> {
-    let alloc = rt.alloc();
-    let mut d = Diagram::new(alloc);
-    d.add_spider(Colour::Z, Sixteenth::new(2))?;
-    d.add_spider(Colour::Z, Sixteenth::new(4))?;
-    d.add_edge(0, 1, false)?;
-    d.add_edge(0, 1, true)?;
-    d.add_input(0, false)?;
-    d.add_output(1, false)?;
-    let graph = graph_like(alloc, d)?;
+    let drawing = Drawing {
+        spiders: &[
+            (Colour::Z, Sixteenth::new(2)),
+            (Colour::Z, Sixteenth::new(4)),
+        ],
+        edges: &[(0, 1, false), (0, 1, true)],
+        inputs: &[(0, false)],
+        outputs: &[(1, false)],
+    };
+    let graph = form_of(&rt, rt.alloc(), drawing)?;
     assert!(rt; has_vertices(&graph, &[14]));
     assert!(rt; has_ends(&graph, &[end(0, false)], &[end(0, false)]));
     Ok(())
 }
 
-// Of three inputs and two outputs at one class all but the first move to new vertices, inputs first.
+// The form of two spiders with three inputs and two outputs at one class.
+fn with_surplus_ends(rt: &impl Abort, alloc: Global) -> Result<OpenGraph, AllocError> {
+    let drawing = Drawing {
+        spiders: &[
+            (Colour::Z, Sixteenth::new(5)),
+            (Colour::Z, Sixteenth::new(0)),
+        ],
+        edges: &[(1, 0, false)],
+        inputs: &[(0, false), (1, true), (0, false)],
+        outputs: &[(1, true), (0, false)],
+    };
+    form_of(rt, alloc, drawing)
+}
+
+// Of the inputs and the outputs all but the first move to new vertices, inputs first.
+fn splits_ends(graph: &OpenGraph) -> bool {
+    let inputs = [end(0, false), end(1, false), end(2, true)];
+    let outputs = [end(0, true), end(3, true)];
+    has_vertices(graph, &[5, 0, 0, 0])
+        && has_ends(graph, &inputs, &outputs)
+        && joins(graph, 0, 1)
+        && joins(graph, 0, 2)
+        && joins(graph, 0, 3)
+        && !joins(graph, 1, 2)
+}
+
 #[test]
 fn surplus_ends_are_split_off(rt: HostRuntime) -> Result<(), AllocError> {
-    let alloc = rt.alloc();
-    let mut d = Diagram::new(alloc);
-    d.add_spider(Colour::Z, Sixteenth::new(5))?;
-    d.add_spider(Colour::Z, Sixteenth::new(0))?;
-    d.add_edge(1, 0, false)?;
-    d.add_input(0, false)?;
-    d.add_input(1, true)?;
-    d.add_input(0, false)?;
-    d.add_output(1, true)?;
-    d.add_output(0, false)?;
-    let graph = graph_like(alloc, d)?;
-    assert!(rt; has_vertices(&graph, &[5, 0, 0, 0]));
-    assert!(rt;
-        has_ends(
-            &graph,
-            &[end(0, false), end(1, false), end(2, true)],
-            &[end(0, true), end(3, true)]
-        )
-    );
-    assert!(rt; joins(&graph, 0, 1) && joins(&graph, 0, 2) && joins(&graph, 0, 3));
-    assert!(rt; !joins(&graph, 1, 2));
+    let graph = with_surplus_ends(&rt, rt.alloc())?;
+    assert!(rt; splits_ends(&graph));
     Ok(())
 }
