@@ -80,19 +80,18 @@ fn add_both(rt: &impl Abort, left: &mut BitRow, right: &mut BitRow) {
     assert!(rt; !has_parity(rt, right, right));
 }
 
-// Sets bits of two rows without any, and adds them.
-fn set_and_add(rt: &impl Abort, left: &mut BitRow, right: &mut BitRow) {
+// Sets bits of a row without any and of another one, and adds them.
+fn set_and_add(rt: &impl Abort, alloc: Global, left: &mut BitRow) -> Result<(), AllocError> {
+    let mut right = BitRow::new(alloc, left.len())?;
     flip_each(rt, left, &[500, 639]);
-    flip_each(rt, right, &[3, 500]);
-    add_both(rt, left, right);
+    flip_each(rt, &mut right, &[3, 500]);
+    add_both(rt, left, &mut right);
+    Ok(())
 }
 
 #[test]
 fn rows_add_at_two_offsets(rt: HostRuntime) -> Result<(), AllocError> {
-    let mut left = BitRow::new(rt.alloc(), 640)?;
-    let mut right = BitRow::new(rt.alloc(), 640)?;
-    set_and_add(&rt, &mut left, &mut right);
-    Ok(())
+    set_and_add(&rt, rt.alloc(), &mut BitRow::new(rt.alloc(), 640)?)
 }
 
 // Toggles these numbers.
@@ -193,55 +192,56 @@ fn a_set_takes_room(rt: HostRuntime) -> Result<(), AllocError> {
     take_room(&rt, &mut BitSet::new(rt.alloc()))
 }
 
-// Takes these numbers into two sets without any, and the second set into the first.
-fn take_both(
-    left: &mut BitSet,
-    right: &mut BitSet,
-    numbers: &[usize],
-    others: &[usize],
-) -> Result<(), AllocError> {
-    toggle_each(left, numbers)?;
-    toggle_each(right, others)?;
-    left.xor(right)
+// A set of these numbers.
+fn set_of(alloc: Global, numbers: &[usize]) -> Result<BitSet, AllocError> {
+    let mut set = BitSet::new(alloc);
+    toggle_each(&mut set, numbers)?;
+    Ok(set)
 }
 
-// The sum of sets of these numbers has those.
-fn add_to(
-    rt: &impl Abort,
+// Adds a set of these numbers to a set.
+fn add_numbers(alloc: Global, set: &mut BitSet, numbers: &[usize]) -> Result<(), AllocError> {
+    let other = set_of(alloc, numbers)?;
+    set.xor(&other)
+}
+
+// Whether the sum of sets of these numbers has those.
+fn adds_to(
     alloc: Global,
     numbers: &[usize],
     others: &[usize],
     sum: &[usize],
-) -> Result<(), AllocError> {
-    let mut set = BitSet::new(alloc);
-    take_both(&mut set, &mut BitSet::new(alloc), numbers, others)?;
-    assert!(rt; has_just(&set, sum));
-    Ok(())
+) -> Result<bool, AllocError> {
+    let mut set = set_of(alloc, numbers)?;
+    add_numbers(alloc, &mut set, others)?;
+    Ok(has_just(&set, sum))
 }
 
 #[test]
 fn sets_add(rt: HostRuntime) -> Result<(), AllocError> {
     let left = [3, 64, 300];
     let right = [64, 127, 300, 700];
-    add_to(&rt, rt.alloc(), &left, &right, &[3, 127, 700])?;
-    add_to(&rt, rt.alloc(), &[3, 700], &[700, 3], &[])
+    assert!(rt; adds_to(rt.alloc(), &left, &right, &[3, 127, 700])?);
+    assert!(rt; adds_to(rt.alloc(), &[3, 700], &[700, 3], &[])?);
+    Ok(())
 }
 
-// Compares sets of these numbers.
-fn compare(rt: &impl Abort, left: &mut BitSet, right: &mut BitSet) -> Result<(), AllocError> {
-    toggle_each(left, &[3, 64, 300])?;
-    toggle_each(right, &[64, 127, 300, 700])?;
-    assert!(rt; left.common_with(right) == 2 && !left.is_same(right));
-    let copy = left.clone()?;
-    assert!(rt; left.is_same(&copy));
+fn is_same_as_copy(set: &BitSet) -> Result<bool, AllocError> {
+    let copy = set.clone()?;
+    Ok(set.is_same(&copy))
+}
+
+// Compares a set of 3, 64 and 300 with one that has two of them, and with its copy.
+fn compare(rt: &impl Abort, alloc: Global, set: &BitSet) -> Result<(), AllocError> {
+    assert!(rt; is_same_as_copy(set)?);
+    let other = set_of(alloc, &[64, 127, 300, 700])?;
+    assert!(rt; set.common_with(&other) == 2 && !set.is_same(&other));
     Ok(())
 }
 
 #[test]
 fn sets_are_compared(rt: HostRuntime) -> Result<(), AllocError> {
-    let mut left = BitSet::new(rt.alloc());
-    let mut right = BitSet::new(rt.alloc());
-    compare(&rt, &mut left, &mut right)
+    compare(&rt, rt.alloc(), &set_of(rt.alloc(), &[3, 64, 300])?)
 }
 
 // The bit of a word at a place.

@@ -66,7 +66,9 @@ fn join_again(rt: &impl Abort, graph: &mut OpenGraph) -> Result<(), AllocError> 
     toggle(rt, graph, 0, 2)?;
     assert!(rt; has_rows(rt, graph, &[(0, 1)]));
     let copy = graph.copy()?;
-    assert!(rt; has_rows(rt, &copy, &[(1, 2)]));
+    let is_same = has_rows(rt, &copy, &[(1, 2)]);
+    drop(copy);
+    assert!(rt; is_same);
     Ok(())
 }
 
@@ -81,7 +83,10 @@ fn join_three(rt: &impl Abort, graph: &mut OpenGraph) -> Result<(), AllocError> 
 
 #[test]
 fn edges_join_neighbours(rt: HostRuntime) -> Result<(), AllocError> {
-    join_three(&rt, &mut OpenGraph::new(rt.alloc()))
+    let mut graph = OpenGraph::new(rt.alloc());
+    let done = join_three(&rt, &mut graph);
+    drop(graph);
+    done
 }
 
 // Toggles the edges among the neighbours of a vertex.
@@ -97,7 +102,10 @@ fn cross(rt: &impl Abort, graph: &mut OpenGraph, u: usize, v: usize) -> Result<(
     assert!(rt; graph.is_live(u) && graph.is_live(v));
     let near = graph.neighbour_set(u).clone()?;
     let far = graph.neighbour_set(v).clone()?;
-    graph.toggle_across(&near, &far)
+    let toggled = graph.toggle_across(&near, &far);
+    drop(near);
+    drop(far);
+    toggled
 }
 
 // Complements the neighbours of 1 twice; then 1 alone is across from 0 and 2.
@@ -115,7 +123,10 @@ fn toggle_rows(rt: &impl Abort, graph: &mut OpenGraph) -> Result<(), AllocError>
 
 #[test]
 fn edges_are_toggled_by_rows(rt: HostRuntime) -> Result<(), AllocError> {
-    toggle_rows(&rt, &mut OpenGraph::new(rt.alloc()))
+    let mut graph = OpenGraph::new(rt.alloc());
+    let done = toggle_rows(&rt, &mut graph);
+    drop(graph);
+    done
 }
 
 fn add_input(rt: &impl Abort, graph: &mut OpenGraph, end: End) -> Result<(), AllocError> {
@@ -169,14 +180,19 @@ fn add_and_move(rt: &impl Abort, graph: &mut OpenGraph) -> Result<(), AllocError
     add_input(rt, graph, end(1, true))?;
     add_output(rt, graph, end(1, true))?;
     let copy = graph.copy()?;
-    assert!(rt; has_ends(&copy, end(1, true)));
+    let is_same = has_ends(&copy, end(1, true));
+    drop(copy);
+    assert!(rt; is_same);
     move_ends(rt, graph);
     Ok(())
 }
 
 #[test]
 fn ends_are_added_and_moved(rt: HostRuntime) -> Result<(), AllocError> {
-    add_and_move(&rt, &mut OpenGraph::new(rt.alloc()))
+    let mut graph = OpenGraph::new(rt.alloc());
+    let done = add_and_move(&rt, &mut graph);
+    drop(graph);
+    done
 }
 
 fn turn(rt: &impl Abort, graph: &mut OpenGraph, v: VertexId) -> Plane {
@@ -213,7 +229,10 @@ fn turn_and_remove(rt: &impl Abort, graph: &mut OpenGraph) -> Result<(), AllocEr
 
 #[test]
 fn vertices_are_turned_and_removed(rt: HostRuntime) -> Result<(), AllocError> {
-    turn_and_remove(&rt, &mut OpenGraph::new(rt.alloc()))
+    let mut graph = OpenGraph::new(rt.alloc());
+    let done = turn_and_remove(&rt, &mut graph);
+    drop(graph);
+    done
 }
 
 // The id of a new vertex.
@@ -246,7 +265,10 @@ fn add_again(rt: &impl Abort, graph: &mut OpenGraph) -> Result<(), AllocError> {
 
 #[test]
 fn a_removed_id_comes_again_the_least_first(rt: HostRuntime) -> Result<(), AllocError> {
-    add_again(&rt, &mut OpenGraph::new(rt.alloc()))
+    let mut graph = OpenGraph::new(rt.alloc());
+    let done = add_again(&rt, &mut graph);
+    drop(graph);
+    done
 }
 
 // Joins 1 to 3, and with more room to 2.
@@ -271,5 +293,8 @@ fn add_row_again(rt: &impl Abort, graph: &mut OpenGraph) -> Result<(), AllocErro
 
 #[test]
 fn rows_are_kept_for_ids_below_the_reach(rt: HostRuntime) -> Result<(), AllocError> {
-    add_row_again(&rt, &mut OpenGraph::new(rt.alloc()))
+    let mut graph = OpenGraph::new(rt.alloc());
+    let done = add_row_again(&rt, &mut graph);
+    drop(graph);
+    done
 }
