@@ -48,15 +48,26 @@ pub fn is_written(alloc: Global, g: &OpenGraph, text: &[u8]) -> Result<bool, All
 
 #[test]
 fn the_graph_without_vertices_has_two_lines(rt: HostRuntime) -> Result<(), AllocError> {
-    assert!(rt; is_written(rt.alloc(), &OpenGraph::new(rt.alloc()), b"zxg 2\nend\n")?);
+    let g = OpenGraph::new(rt.alloc());
+    let is_file = is_written(rt.alloc(), &g, b"zxg 2\nend\n");
+    drop(g);
+    assert!(rt; is_file?);
     Ok(())
 }
 
 // The file of the graph without vertices, with its flow.
 fn empty_with_flow(alloc: Global) -> Result<Vec<u8>, AllocError> {
     let g = OpenGraph::new(alloc);
-    let flow = Flow::of_table(&g, FlowTable::new(alloc))?;
-    write_graph(alloc, &g, Some(&flow))
+    let text = match Flow::of_table(&g, FlowTable::new(alloc)) {
+        Ok(flow) => {
+            let text = write_graph(alloc, &g, Some(&flow));
+            drop(flow);
+            text
+        }
+        Err(fault) => Err(fault),
+    };
+    drop(g);
+    text
 }
 
 #[test]
@@ -106,5 +117,8 @@ fn write_path(rt: &impl Abort, alloc: Global, g: &mut OpenGraph) -> Result<(), A
 
 #[test]
 fn vertices_are_numbered_by_rising_id(rt: HostRuntime) -> Result<(), AllocError> {
-    write_path(&rt, rt.alloc(), &mut OpenGraph::new(rt.alloc()))
+    let mut g = OpenGraph::new(rt.alloc());
+    let done = write_path(&rt, rt.alloc(), &mut g);
+    drop(g);
+    done
 }
