@@ -60,27 +60,33 @@ fn two_colours(
     form_of(rt, alloc, drawing)
 }
 
+// Whether a graph is such a form, whose vertices an edge joins or doesn't.
+fn is_two_colours(graph: &OpenGraph, is_joined: bool) -> bool {
+    has_vertices(graph, &[2, 0])
+        && joins(graph, 0, 1) == is_joined
+        && has_ends(graph, &[end(0, false)], &[end(1, true)])
+}
+
 #[test]
 fn colours_change(rt: HostRuntime) -> Result<(), AllocError> {
     let graph = two_colours(&rt, rt.alloc(), &[(0, 1, false)])?;
-    assert!(rt; has_vertices(&graph, &[2, 0]));
-    assert!(rt; joins(&graph, 0, 1));
-    assert!(rt; has_ends(&graph, &[end(0, false)], &[end(1, true)]));
+    let is_form = is_two_colours(&graph, true);
+    drop(graph);
+    assert!(rt; is_form);
     Ok(())
 }
 
 #[test]
 fn two_parallel_hadamard_edges_go(rt: HostRuntime) -> Result<(), AllocError> {
     let graph = two_colours(&rt, rt.alloc(), &[(0, 1, false), (0, 1, false)])?;
-    assert!(rt; has_vertices(&graph, &[2, 0]));
-    assert!(rt; !joins(&graph, 0, 1));
-    assert!(rt; has_ends(&graph, &[end(0, false)], &[end(1, true)]));
+    let is_form = is_two_colours(&graph, false);
+    drop(graph);
+    assert!(rt; is_form);
     Ok(())
 }
 
-// Two Z spiders that a plain and a Hadamard edge join: one vertex, whose phase has half a turn for the loop.
-#[test]
-fn a_hadamard_loop_is_half_a_turn(rt: HostRuntime) -> Result<(), AllocError> {
+// The form of two Z spiders that a plain and a Hadamard edge join.
+fn with_loop(rt: &impl Abort, alloc: Global) -> Result<OpenGraph, AllocError> {
     let drawing = Drawing {
         spiders: &[
             (Colour::Z, Sixteenth::new(2)),
@@ -90,9 +96,17 @@ fn a_hadamard_loop_is_half_a_turn(rt: HostRuntime) -> Result<(), AllocError> {
         inputs: &[(0, false)],
         outputs: &[(1, false)],
     };
-    let graph = form_of(&rt, rt.alloc(), drawing)?;
-    assert!(rt; has_vertices(&graph, &[14]));
-    assert!(rt; has_ends(&graph, &[end(0, false)], &[end(0, false)]));
+    form_of(rt, alloc, drawing)
+}
+
+// It is one vertex, whose phase has half a turn for the loop.
+#[test]
+fn a_hadamard_loop_is_half_a_turn(rt: HostRuntime) -> Result<(), AllocError> {
+    let graph = with_loop(&rt, rt.alloc())?;
+    let is_vertex = has_vertices(&graph, &[14])
+        && has_ends(&graph, &[end(0, false)], &[end(0, false)]);
+    drop(graph);
+    assert!(rt; is_vertex);
     Ok(())
 }
 
@@ -125,6 +139,8 @@ fn splits_ends(graph: &OpenGraph) -> bool {
 #[test]
 fn surplus_ends_are_split_off(rt: HostRuntime) -> Result<(), AllocError> {
     let graph = with_surplus_ends(&rt, rt.alloc())?;
-    assert!(rt; splits_ends(&graph));
+    let is_split = splits_ends(&graph);
+    drop(graph);
+    assert!(rt; is_split);
     Ok(())
 }
