@@ -11,4 +11,6 @@ mod flows;
 #[cfg(test)]
 mod small_graphs;
 #[cfg(test)]
+mod tables;
+#[cfg(test)]
 mod verdicts;
