@@ -1,15 +1,13 @@
 //! Graphs with their flows for tests, and their texts.
 
-ghost use Rattle.std.specs.Prelude.{◌≡◌, ◌≢◌, ◌++◌, [], ◌∷◌, OnOk, IfOk};
+ghost use Rattle.std.specs.Prelude.{◌≡◌, IfOk, OnOk};
 ghost use Rattle.zx_model.specs.Bits.{member};
-ghost use Rattle.zx_calculus.specs.Graph.{Live, WellFormed};
-ghost use Rattle.zx_calculus.proofs.EditPrograms.{toggled};
 ghost use Rattle.gflow_laws.specs.Flow.{IsFlow};
-ghost use Rattle.gflow_laws.specs.Examples.{by_itself};
-ghost use Rattle.rewrite_tests.specs.Drawn.{no_graph, with_wire, with_gadget};
 
+use flow_find::{Found, find};
 use open_graph::{End, OpenGraph, Plane, VertexId};
-use std::alloc::Global;
+use std::alloc::{AllocError, Global};
+use std::mem;
 use std::process::Abort;
 use std::test::Fail;
 use zx_flow::{Flow, FlowTable};
@@ -38,80 +36,149 @@ pub enum Start {
 }
 
 // The flow of the graph without vertices.
-pub fn no_flow(alloc: Global) -> Result<Flow, Fail>
-    ensures { IfOk result (λ flow. flow.flow ≡ []) }
-{
-    let graph = OpenGraph::new(alloc);
-    Ok(Flow::of_table(&graph, FlowTable::new(alloc))?)
+pub fn no_flow(alloc: Global) -> Result<Flow, Fail> {
+    let table = FlowTable::new(alloc);
+    Ok(Flow::of_table(&OpenGraph::new(alloc), table)?)
 }
 
 // Draws a start into a graph without vertices, and its flow.
 pub fn draw(
     rt: &impl Abort,
+    alloc: Global,
     graph: &mut OpenGraph,
     flow: &mut Flow,
     start: Start,
 ) -> Result<(), Fail>
-    requires graph { graph.old.graph ≡ no_graph }
-    requires flow { flow.old.flow ≡ [] }
     ensures { OnOk result (IsFlow graph.new.graph flow.new.flow) }
 {
+    draw_graph(rt, graph, &start)?;
+    find_flow(alloc, graph, flow)?;
+    let both = [Step::SplitInput(id(0)), Step::SplitOutput(id(0))];
+    let outputs = [
+        Step::SplitOutput(id(0)),
+        Step::SplitOutput(id(1)),
+        Step::SplitOutput(id(2)),
+    ];
+    let steps = match &start {
+        Start::PathOfThree => both.as_slice(),
+        Start::PathOfFour => outputs.as_slice(),
+        Start::PathAfterAnEighth => &outputs[..2],
+        Start::Wire(..) | Start::Twins(..) | Start::SmallGadgets => &[],
+    };
+    split(graph, flow, steps)
+}
+
+// Draws what a start has before ends are split.
+fn draw_graph(rt: &impl Abort, graph: &mut OpenGraph, start: &Start) -> Result<(), AllocError> {
     match start {
-        Start::Wire(phase, input, output) => split(graph, flow, phase, input, output, &[]),
-        Start::PathOfThree => {
-            let steps = [Step::SplitInput(id(0)), Step::SplitOutput(id(0))];
-            split(graph, flow, Sixteenth::new(4), true, true, &steps)
+        Start::Wire(phase, input, output) => add_wire(rt, graph, *phase, *input, *output),
+        Start::PathOfThree => add_wire(rt, graph, Sixteenth::new(4), true, true),
+        Start::PathOfFour => add_wire(rt, graph, Sixteenth::new(0), false, true),
+        Start::PathAfterAnEighth => add_wire(rt, graph, Sixteenth::new(2), false, false),
+        Start::Twins(first, second) => {
+            let edges = [(0, 2), (0, 3), (1, 2), (1, 3)];
+            draw_parts(rt, graph, 2, &[*first, *second], &edges)
         }
-        Start::PathOfFour => {
-            let steps = [
-                Step::SplitOutput(id(0)),
-                Step::SplitOutput(id(1)),
-                Step::SplitOutput(id(2)),
-            ];
-            split(graph, flow, Sixteenth::new(0), false, true, &steps)
+        Start::SmallGadgets => {
+            let phases = [Sixteenth::new(6), Sixteenth::new(10)];
+            draw_parts(rt, graph, 1, &phases, &[(0, 1)])
         }
-        Start::PathAfterAnEighth => {
-            let steps = [Step::SplitOutput(id(0)), Step::SplitOutput(id(1))];
-            split(graph, flow, Sixteenth::new(2), false, false, &steps)
-        }
-        Start::Twins(first, second) => draw_twins(rt, graph, flow, first, second),
-        Start::SmallGadgets => draw_small_gadgets(rt, graph, flow),
     }
 }
 
-// Draws the vertex 0 between an input and an output, which carry a Hadamard or not, and does steps.
-fn split(
+// Adds wires of phase 0, gadgets of these phases, and edges.
+fn draw_parts(
+    rt: &impl Abort,
     graph: &mut OpenGraph,
-    flow: &mut Flow,
-    phase: Sixteenth,
-    input: bool,
-    output: bool,
-    steps: &[Step],
-) -> Result<(), Fail>
-    requires graph { graph.old.graph ≡ no_graph }
-    requires flow { flow.old.flow ≡ [] }
-    ensures { OnOk result (IsFlow graph.new.graph flow.new.flow) }
-{
-    draw_wire(graph, phase, input, output)?;
-    for step in steps {
-        apply(graph, flow, *step)?;
+    wires: usize,
+    gadgets: &[Sixteenth],
+    edges: &[(usize, usize)],
+) -> Result<(), AllocError> {
+    for _ in 0..wires {
+        add_wire(rt, graph, Sixteenth::new(0), false, false)?;
+    }
+    for phase in gadgets {
+        graph.add_vertex(Plane::YZ, *phase)?;
+    }
+    for (u, v) in edges {
+        join(rt, graph, id(*u), id(*v))?;
     }
     Ok(())
 }
 
-fn draw_wire(graph: &mut OpenGraph, phase: Sixteenth, input: bool, output: bool) -> Result<(), Fail>
-    requires { graph.old.graph ≡ no_graph }
-    ensures { OnOk result (IsFlow graph.new.graph []) }
-{
+// Adds a vertex between an input and an output, which carry a Hadamard or not.
+fn add_wire(
+    rt: &impl Abort,
+    graph: &mut OpenGraph,
+    phase: Sixteenth,
+    input: bool,
+    output: bool,
+) -> Result<(), AllocError> {
     let vertex = graph.add_vertex(Plane::XY, phase)?;
-    graph.add_input(End {
-        vertex,
-        hadamard: input,
-    })?;
-    graph.add_output(End {
-        vertex,
-        hadamard: output,
-    })?;
+    add_input(rt, graph, vertex, input)?;
+    add_output(rt, graph, vertex, output)
+}
+
+pub fn add_input(
+    rt: &impl Abort,
+    graph: &mut OpenGraph,
+    vertex: VertexId,
+    hadamard: bool,
+) -> Result<(), AllocError> {
+    assert!(rt; graph.is_live(vertex));
+    assert!(rt; matches!(graph.weight(vertex).0, Plane::XY) && graph.input_at(vertex).is_none());
+    graph.add_input(End { vertex, hadamard })
+}
+
+fn add_output(
+    rt: &impl Abort,
+    graph: &mut OpenGraph,
+    vertex: VertexId,
+    hadamard: bool,
+) -> Result<(), AllocError> {
+    assert!(rt; graph.is_live(vertex));
+    assert!(rt; matches!(graph.weight(vertex).0, Plane::XY) && graph.output_at(vertex).is_none());
+    graph.add_output(End { vertex, hadamard })
+}
+
+// Joins two vertices.
+pub fn join(
+    rt: &impl Abort,
+    graph: &mut OpenGraph,
+    u: VertexId,
+    v: VertexId,
+) -> Result<(), AllocError> {
+    assert!(rt; graph.is_live(u) && graph.is_live(v) && u != v);
+    graph.toggle_edge(u, v)
+}
+
+// Puts the flow that is found in the place of another one.
+fn find_flow(alloc: Global, graph: &OpenGraph, flow: &mut Flow) -> Result<(), Fail>
+    ensures { OnOk result (IsFlow graph.now.graph flow.new.flow) }
+{
+    let mut found = flow_of(alloc, graph)?;
+    mem::swap(flow, &mut found);
+    Ok(())
+}
+
+// The flow that is found of a graph, which has one.
+fn flow_of(alloc: Global, graph: &OpenGraph) -> Result<Flow, Fail>
+    ensures { IfOk result (λ flow. IsFlow graph.now.graph flow.flow) }
+{
+    match find(alloc, graph)? {
+        Found::Flow(table) => Ok(Flow::of_table(graph, table)?),
+        Found::NoFlow { .. } => Err(Fail::new("no flow")),
+    }
+}
+
+// Splits ends.
+fn split(graph: &mut OpenGraph, flow: &mut Flow, steps: &[Step]) -> Result<(), Fail>
+    requires { IsFlow graph.old.graph flow.old.flow }
+    ensures { OnOk result (IsFlow graph.new.graph flow.new.flow) }
+{
+    for step in steps {
+        apply(graph, flow, *step)?;
+    }
     Ok(())
 }
 
@@ -119,96 +186,6 @@ fn stands_in(order: &[VertexId], v: VertexId) -> bool
     ensures { result ≡ member v order.now }
 {
     order.contains(&v)
-}
-
-// Adds a vertex of phase 0 between an input and an output, which gets this id.
-fn add_wire(rt: &impl Abort, graph: &mut OpenGraph, number: usize) -> Result<(), Fail>
-    ensures graph { OnOk result (graph.new.graph ≡ with_wire number graph.old.graph) }
-    ensures valid { WellFormed graph.new.graph }
-{
-    let v = graph.add_vertex(Plane::XY, Sixteenth::new(0))?;
-    assert!(rt; v.get() == number);
-    let end = End {
-        vertex: v,
-        hadamard: false,
-    };
-    assert!(rt; graph.is_live(v));
-    assert!(rt; matches!(graph.weight(v).0, Plane::XY));
-    assert!(rt; graph.input_at(v).is_none());
-    graph.add_input(end)?;
-    assert!(rt; graph.is_live(v));
-    assert!(rt; matches!(graph.weight(v).0, Plane::XY));
-    assert!(rt; graph.output_at(v).is_none());
-    graph.add_output(end)?;
-    Ok(())
-}
-
-// Adds a gadget after all others, corrected by itself, which gets this id.
-fn add_gadget(
-    rt: &impl Abort,
-    graph: &mut OpenGraph,
-    flow: &mut Flow,
-    number: usize,
-    phase: Sixteenth,
-) -> Result<(), Fail>
-    ensures graph { OnOk result (graph.new.graph ≡ with_gadget number phase graph.old.graph) }
-    ensures valid { WellFormed graph.new.graph }
-    ensures flow { OnOk result (flow.new.flow ≡ flow.old.flow ++ by_itself number ∷ []) }
-{
-    let v = graph.add_vertex(Plane::YZ, phase)?;
-    assert!(rt; v.get() == number);
-    assert!(rt; !stands_in(flow.order(), v));
-    flow.add_last(v, v)?;
-    Ok(())
-}
-
-// Joins two vertices.
-fn join(graph: &mut OpenGraph, u: usize, v: usize) -> Result<(), Fail>
-    requires u_live { Live graph.old.graph u }
-    requires v_live { Live graph.old.graph v }
-    requires different { u ≢ v }
-    requires valid { WellFormed graph.old.graph }
-    ensures graph { OnOk result (graph.new.graph ≡ toggled graph.old.graph u v) }
-    ensures valid { WellFormed graph.new.graph }
-{
-    graph.toggle_edge(VertexId::new(u), VertexId::new(v))?;
-    Ok(())
-}
-
-// Draws two gadgets of these phases, with equal neighbours.
-fn draw_twins(
-    rt: &impl Abort,
-    graph: &mut OpenGraph,
-    flow: &mut Flow,
-    first: Sixteenth,
-    second: Sixteenth,
-) -> Result<(), Fail>
-    requires graph { graph.old.graph ≡ no_graph }
-    requires flow { flow.old.flow ≡ [] }
-    ensures { OnOk result (IsFlow graph.new.graph flow.new.flow) }
-{
-    add_wire(rt, graph, 0)?;
-    add_wire(rt, graph, 1)?;
-    add_gadget(rt, graph, flow, 2, first)?;
-    add_gadget(rt, graph, flow, 3, second)?;
-    join(graph, 0, 2)?;
-    join(graph, 0, 3)?;
-    join(graph, 1, 2)?;
-    join(graph, 1, 3)?;
-    Ok(())
-}
-
-// Draws a gadget of one leg, and one without legs.
-fn draw_small_gadgets(rt: &impl Abort, graph: &mut OpenGraph, flow: &mut Flow) -> Result<(), Fail>
-    requires graph { graph.old.graph ≡ no_graph }
-    requires flow { flow.old.flow ≡ [] }
-    ensures { OnOk result (IsFlow graph.new.graph flow.new.flow) }
-{
-    add_wire(rt, graph, 0)?;
-    add_gadget(rt, graph, flow, 1, Sixteenth::new(6))?;
-    add_gadget(rt, graph, flow, 2, Sixteenth::new(10))?;
-    join(graph, 0, 1)?;
-    Ok(())
 }
 
 // The letter of a vertex, where the names of 0, 1, 2 and so on are these.
@@ -223,7 +200,7 @@ fn digit(phase: Sixteenth) -> u8 {
 }
 
 // Adds the phases of the vertices, each after a letter for XZ and YZ.
-fn add_weights(text: &mut Vec<u8>, graph: &OpenGraph) -> Result<(), Fail> {
+fn add_weights(text: &mut Vec<u8>, graph: &OpenGraph) -> Result<(), AllocError> {
     for v in graph.vertices() {
         if graph.is_live(v) {
             let (plane, phase) = graph.weight(v);
@@ -239,7 +216,7 @@ fn add_weights(text: &mut Vec<u8>, graph: &OpenGraph) -> Result<(), Fail> {
 }
 
 // Adds the edges, each with the end of lower id first.
-fn add_edges(text: &mut Vec<u8>, names: &[u8], graph: &OpenGraph) -> Result<(), Fail> {
+fn add_edges(text: &mut Vec<u8>, names: &[u8], graph: &OpenGraph) -> Result<(), AllocError> {
     for v in graph.vertices() {
         if graph.is_live(v) {
             for w in graph.neighbours(v) {
@@ -255,7 +232,7 @@ fn add_edges(text: &mut Vec<u8>, names: &[u8], graph: &OpenGraph) -> Result<(), 
 }
 
 // Adds the ends after a sign, one that carries a Hadamard with a dash.
-fn add_ends(text: &mut Vec<u8>, names: &[u8], sign: u8, ends: &[End]) -> Result<(), Fail> {
+fn add_ends(text: &mut Vec<u8>, names: &[u8], sign: u8, ends: &[End]) -> Result<(), AllocError> {
     text.push(sign)?;
     for end in ends {
         text.push(name(names, end.vertex))?;
@@ -267,7 +244,7 @@ fn add_ends(text: &mut Vec<u8>, names: &[u8], sign: u8, ends: &[End]) -> Result<
 }
 
 // Adds the corrections by their order: each vertex, and the members of its set.
-fn add_corrections(text: &mut Vec<u8>, names: &[u8], flow: &Flow) -> Result<(), Fail> {
+fn add_corrections(text: &mut Vec<u8>, names: &[u8], flow: &Flow) -> Result<(), AllocError> {
     text.push(b'<')?;
     for v in flow.order() {
         if stands_in(flow.order(), *v) {
@@ -293,12 +270,22 @@ pub fn odd_phases(graph: &OpenGraph) -> usize {
 }
 
 // Adds weights by rising id, edges, inputs, outputs and the corrections of the flow.
-fn add_all(text: &mut Vec<u8>, names: &[u8], graph: &OpenGraph, flow: &Flow) -> Result<(), Fail> {
+fn add_all(
+    text: &mut Vec<u8>,
+    names: &[u8],
+    graph: &OpenGraph,
+    flow: &Flow,
+) -> Result<(), AllocError> {
     add_weights(text, graph)?;
     add_edges(text, names, graph)?;
     add_ends(text, names, b':', graph.inputs())?;
     add_ends(text, names, b'>', graph.outputs())?;
     add_corrections(text, names, flow)
+}
+
+// A text is this one.
+pub fn is_text(rt: &impl Abort, text: &[u8], wanted: &str) {
+    assert_eq!(rt; text, wanted.as_bytes());
 }
 
 // Graph and flow are drawn so.
@@ -312,6 +299,6 @@ pub fn is_drawn(
 ) -> Result<(), Fail> {
     let mut text = Vec::new(alloc);
     add_all(&mut text, names, graph, flow)?;
-    assert_eq!(rt; text.as_slice(), wanted.as_bytes());
+    is_text(rt, &text, wanted);
     Ok(())
 }

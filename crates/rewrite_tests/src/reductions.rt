@@ -1,18 +1,17 @@
 //! Graphs that are reduced, worked by hand.
 
-ghost use Rattle.std.specs.Prelude.{◌≡◌, ◌<◌, []};
+ghost use Rattle.std.specs.Prelude.{◌≡◌, ◌<◌};
 ghost use Rattle.gflow_laws.specs.Flow.{IsFlow};
-ghost use Rattle.rewrite_tests.specs.Drawn.{no_graph};
 
 use crate::drawings::{Start, draw, id, is_drawn, no_flow};
 use open_graph::OpenGraph;
-use std::alloc::Global;
+use std::alloc::{AllocError, Global};
 use std::marker::Brand;
 use std::process::Abort;
 use std::sync::ledger::{Blank, Ledger};
 use std::test::Fail;
 use zx_flow::Flow;
-use zx_model::Sixteenth;
+use zx_model::{Scalar, Sixteenth};
 use zx_reduce::{Step, Steps, Trace, reduce};
 
 fn reduce_counted<L: Ledger>(
@@ -20,30 +19,47 @@ fn reduce_counted<L: Ledger>(
     graph: &mut OpenGraph,
     flow: &mut Flow,
     trace: &mut Trace,
-) -> Result<(), Fail>
+) -> Result<Scalar, AllocError>
     requires name { blank.name ≡ L.name }
     requires parts { blank.parts ≡ L.parts }
     requires some { 0 < L.parts }
     requires flow { IsFlow graph.old.graph flow.old.flow }
 {
     let mut steps = Steps::<L>::new(blank);
-    reduce(graph, flow, trace, &mut steps)?;
-    Ok(())
+    reduce(graph, flow, trace, &mut steps)
 }
 
 // Draws a start and reduces it; the trace gains the steps.
 fn draw_and_reduce(
     rt: &impl Abort,
+    alloc: Global,
     graph: &mut OpenGraph,
     flow: &mut Flow,
     start: Start,
     trace: &mut Trace,
-) -> Result<(), Fail>
-    requires graph { graph.old.graph ≡ no_graph }
-    requires flow { flow.old.flow ≡ [] }
-{
-    draw(rt, graph, flow, start)?;
-    reduce_counted::<Brand>(Blank::new(1), graph, flow, trace)
+) -> Result<(), Fail> {
+    draw(rt, alloc, graph, flow, start)?;
+    reduce_counted::<Brand>(Blank::new(1), graph, flow, trace)?;
+    Ok(())
+}
+
+fn are_steps(rt: &impl Abort, trace: &Trace, steps: &[Step]) {
+    assert!(rt; trace.as_slice() == steps);
+}
+
+// These are the steps that reduce a start.
+fn traces(
+    rt: &impl Abort,
+    alloc: Global,
+    graph: &mut OpenGraph,
+    flow: &mut Flow,
+    start: Start,
+    steps: &[Step],
+) -> Result<(), Fail> {
+    let mut trace = Trace::new(alloc);
+    draw_and_reduce(rt, alloc, graph, flow, start, &mut trace)?;
+    are_steps(rt, &trace, steps);
+    Ok(())
 }
 
 // By these steps the start is reduced to what is drawn so, where a, b and so on are 0, 1 and so on.
@@ -67,13 +83,8 @@ fn has_steps(
     start: Start,
     steps: &[Step],
     text: &str,
-) -> Result<(), Fail>
-    requires graph { graph.old.graph ≡ no_graph }
-    requires flow { flow.old.flow ≡ [] }
-{
-    let mut trace = Trace::new(alloc);
-    draw_and_reduce(rt, graph, flow, start, &mut trace)?;
-    assert!(rt; trace.as_slice() == steps);
+) -> Result<(), Fail> {
+    traces(rt, alloc, graph, flow, start, steps)?;
     is_drawn(rt, alloc, b"abcd", graph, flow, text)
 }
 
@@ -120,7 +131,14 @@ fn small_gadgets_go(rt: HostRuntime) -> Result<(), Fail> {
 // The trace gains the steps that reduce a start.
 fn traced(rt: &impl Abort, alloc: Global, start: Start, trace: &mut Trace) -> Result<(), Fail> {
     let mut flow = no_flow(alloc)?;
-    draw_and_reduce(rt, &mut OpenGraph::new(alloc), &mut flow, start, trace)
+    draw_and_reduce(
+        rt,
+        alloc,
+        &mut OpenGraph::new(alloc),
+        &mut flow,
+        start,
+        trace,
+    )
 }
 
 // Reduces two graphs with one trace.
@@ -136,7 +154,7 @@ fn trace_two(rt: &impl Abort, alloc: Global, trace: &mut Trace) -> Result<(), Fa
         Step::DropLone(id(2)),
         Step::FuseInto(id(1)),
     ];
-    assert!(rt; trace.as_slice() == steps.as_slice());
+    are_steps(rt, trace, &steps);
     Ok(())
 }
 

@@ -1,8 +1,5 @@
 //! Rewrites of small graphs with their flows, drawn by hand.
 
-ghost use Rattle.std.specs.Prelude.{◌≡◌, []};
-ghost use Rattle.rewrite_tests.specs.Drawn.{no_graph};
-
 use crate::drawings::{Start, draw, id, is_drawn, no_flow, odd_phases};
 use open_graph::OpenGraph;
 use std::alloc::Global;
@@ -33,11 +30,8 @@ fn draw_and_follow(
     start: Start,
     names: &[u8],
     rows: &[(Step, &str)],
-) -> Result<(), Fail>
-    requires graph { graph.old.graph ≡ no_graph }
-    requires flow { flow.old.flow ≡ [] }
-{
-    draw(rt, graph, flow, start)?;
+) -> Result<(), Fail> {
+    draw(rt, alloc, graph, flow, start)?;
     for (step, text) in rows {
         apply(graph, flow, *step)?;
         is_drawn(rt, alloc, names, graph, flow, text)?;
@@ -168,14 +162,11 @@ fn fuse_odd_twins(
     start: Start,
     text: &str,
     odd: usize,
-) -> Result<(), Fail>
-    requires graph { graph.old.graph ≡ no_graph }
-    requires flow { flow.old.flow ≡ [] }
-{
-    draw(rt, graph, flow, start)?;
-    assert_eq!(rt; odd_phases(graph), 2);
+) -> Result<(), Fail> {
+    draw(rt, alloc, graph, flow, start)?;
+    assert!(rt; odd_phases(graph) == 2);
     apply(graph, flow, Step::FuseTwin(id(2), id(3)))?;
-    assert_eq!(rt; odd_phases(graph), odd);
+    assert!(rt; odd_phases(graph) == odd);
     is_drawn(rt, alloc, b"abcd", graph, flow, text)
 }
 
