@@ -4,7 +4,6 @@ ghost use Rattle.std.specs.Prelude.{◌≡◌, [], ◌∷◌, true, false, IfOk}
 
 use std::alloc::{AllocError, Global};
 use std::process::Abort;
-use std::test::Fail;
 use zx_bits::{BitMatrix, BitRow};
 use zx_extract::choose_rows;
 
@@ -72,7 +71,7 @@ fn members(rt: &impl Abort, set: &BitRow) -> [bool; 4] {
 }
 
 #[test]
-fn rows_that_cancel_are_left_out(rt: HostRuntime) -> Result<(), Fail> {
+fn rows_that_cancel_are_left_out(rt: HostRuntime) -> Result<(), AllocError> {
     let alloc = rt.alloc();
     let set = choose_rows(alloc, &four_rows(alloc)?, &zero(alloc)?, &but_last(alloc)?)?;
     let [first, second, third, fourth] = members(&rt, &set);
@@ -81,7 +80,7 @@ fn rows_that_cancel_are_left_out(rt: HostRuntime) -> Result<(), Fail> {
 }
 
 #[test]
-fn one_row_stays_one_row(rt: HostRuntime) -> Result<(), Fail> {
+fn one_row_stays_one_row(rt: HostRuntime) -> Result<(), AllocError> {
     let alloc = rt.alloc();
     let set = choose_rows(
         alloc,

@@ -6,14 +6,13 @@ ghost use Rattle.zx_model.specs.Bits.{member};
 
 use circuit_graph::{Translation, translate};
 use open_graph::{End, OpenGraph, VertexId};
-use std::alloc::Global;
-use std::test::Fail;
+use std::alloc::{AllocError, Global};
 use zx_flow::Flow;
 use zx_gates::{Gate, GateList};
 use zx_model::{Scalar, Sixteenth};
 
 // The circuit of those of the gates that are on the qubits.
-fn circuit(alloc: Global, qubits: u16, gates: &[Gate]) -> Result<GateList, Fail>
+fn circuit(alloc: Global, qubits: u16, gates: &[Gate]) -> Result<GateList, AllocError>
     requires { qubits ≤ 1024 }
 {
     let mut list = GateList::new(alloc, qubits);
@@ -23,7 +22,7 @@ fn circuit(alloc: Global, qubits: u16, gates: &[Gate]) -> Result<GateList, Fail>
     Ok(list)
 }
 
-fn add(list: &mut GateList, gate: Gate) -> Result<(), Fail> {
+fn add(list: &mut GateList, gate: Gate) -> Result<(), AllocError> {
     if gate.is_on_qubits(list.qubits()) {
         list.push(gate)?;
     }
@@ -61,7 +60,7 @@ fn digit(phase: Sixteenth) -> u8 {
 }
 
 // Adds the phases of the vertices, by rising id.
-fn add_phases(text: &mut Vec<u8>, graph: &OpenGraph) -> Result<(), Fail> {
+fn add_phases(text: &mut Vec<u8>, graph: &OpenGraph) -> Result<(), AllocError> {
     for v in graph.vertices() {
         if graph.is_live(v) {
             let (_plane, phase) = graph.weight(v);
@@ -72,7 +71,7 @@ fn add_phases(text: &mut Vec<u8>, graph: &OpenGraph) -> Result<(), Fail> {
 }
 
 // Adds the edges, each with its lower end first.
-fn add_edges(text: &mut Vec<u8>, graph: &OpenGraph) -> Result<(), Fail> {
+fn add_edges(text: &mut Vec<u8>, graph: &OpenGraph) -> Result<(), AllocError> {
     for v in graph.vertices() {
         if graph.is_live(v) {
             for w in graph.neighbours(v) {
@@ -88,7 +87,7 @@ fn add_edges(text: &mut Vec<u8>, graph: &OpenGraph) -> Result<(), Fail> {
 }
 
 // Adds the ends after a sign.
-fn add_ends(text: &mut Vec<u8>, sign: u8, ends: &[End]) -> Result<(), Fail> {
+fn add_ends(text: &mut Vec<u8>, sign: u8, ends: &[End]) -> Result<(), AllocError> {
     text.push(sign)?;
     for end in ends {
         text.push(name(end.vertex))?;
@@ -109,7 +108,7 @@ fn stands_in(order: &[VertexId], v: VertexId) -> bool
 }
 
 // Adds the corrections by their order: each vertex, and the members of its set.
-fn add_corrections(text: &mut Vec<u8>, flow: &Flow) -> Result<(), Fail> {
+fn add_corrections(text: &mut Vec<u8>, flow: &Flow) -> Result<(), AllocError> {
     text.push(b'<')?;
     for v in flow.order() {
         if stands_in(flow.order(), *v) {
@@ -124,7 +123,7 @@ fn add_corrections(text: &mut Vec<u8>, flow: &Flow) -> Result<(), Fail> {
 }
 
 // What is made of the circuit of those of the gates that are on the qubits.
-fn translated(alloc: Global, qubits: u16, gates: &[Gate]) -> Result<Translation, Fail>
+fn translated(alloc: Global, qubits: u16, gates: &[Gate]) -> Result<Translation, AllocError>
     requires { qubits ≤ 1024 }
 {
     let list = circuit(alloc, qubits, gates)?;
@@ -132,7 +131,7 @@ fn translated(alloc: Global, qubits: u16, gates: &[Gate]) -> Result<Translation,
 }
 
 // Phases, edges, inputs, outputs and the corrections of the flow.
-fn drawn(alloc: Global, qubits: u16, gates: &[Gate]) -> Result<Vec<u8>, Fail>
+fn drawn(alloc: Global, qubits: u16, gates: &[Gate]) -> Result<Vec<u8>, AllocError>
     requires { qubits ≤ 1024 }
 {
     let made = translated(alloc, qubits, gates)?;
@@ -143,7 +142,7 @@ fn drawn(alloc: Global, qubits: u16, gates: &[Gate]) -> Result<Vec<u8>, Fail>
 }
 
 // Adds phases, edges, inputs and outputs.
-fn add_graph(text: &mut Vec<u8>, graph: &OpenGraph) -> Result<(), Fail> {
+fn add_graph(text: &mut Vec<u8>, graph: &OpenGraph) -> Result<(), AllocError> {
     add_phases(text, graph)?;
     add_edges(text, graph)?;
     add_ends(text, b':', graph.inputs())?;
@@ -151,7 +150,7 @@ fn add_graph(text: &mut Vec<u8>, graph: &OpenGraph) -> Result<(), Fail> {
 }
 
 #[test]
-fn a_bell_pair(rt: HostRuntime) -> Result<(), Fail> {
+fn a_bell_pair(rt: HostRuntime) -> Result<(), AllocError> {
     let text = drawn(rt.alloc(), 2, &[Gate::H(0), cx(0, 1)])?;
     assert_eq!(rt;
         text.as_slice(),
@@ -162,7 +161,7 @@ fn a_bell_pair(rt: HostRuntime) -> Result<(), Fail> {
 
 // The edge of Cz vanishes, and phases add up.
 #[test]
-fn cz_twice(rt: HostRuntime) -> Result<(), Fail> {
+fn cz_twice(rt: HostRuntime) -> Result<(), AllocError> {
     let gates = [
         Gate::Cz(0, 1),
         tdg(0),
@@ -175,21 +174,21 @@ fn cz_twice(rt: HostRuntime) -> Result<(), Fail> {
 }
 
 #[test]
-fn hadamards_on_one_wire(rt: HostRuntime) -> Result<(), Fail> {
+fn hadamards_on_one_wire(rt: HostRuntime) -> Result<(), AllocError> {
     let text = drawn(rt.alloc(), 1, &[t(0), Gate::H(0), Gate::H(0), t(0)])?;
     assert_eq!(rt; text.as_slice(), b"202 ab bc:a>c< ab bc".as_slice());
     Ok(())
 }
 
 // How often the map of a circuit on two qubits is the sum.
-fn scalar(alloc: Global, gates: &[Gate]) -> Result<Scalar, Fail> {
+fn scalar(alloc: Global, gates: &[Gate]) -> Result<Scalar, AllocError> {
     let made = translated(alloc, 2, gates)?;
     Ok(made.scalar)
 }
 
 // A circuit's map is half the sum for each Cx and Not, and for no other gate.
 #[test]
-fn scalars_of_translations(rt: HostRuntime) -> Result<(), Fail> {
+fn scalars_of_translations(rt: HostRuntime) -> Result<(), AllocError> {
     let gates = [
         Gate::H(0),
         cx(0, 1),
@@ -207,7 +206,7 @@ fn scalars_of_translations(rt: HostRuntime) -> Result<(), Fail> {
 }
 
 // The phases of the graph of a circuit on three qubits.
-fn phases(alloc: Global, gates: &[Gate]) -> Result<Vec<u8>, Fail> {
+fn phases(alloc: Global, gates: &[Gate]) -> Result<Vec<u8>, AllocError> {
     let made = translated(alloc, 3, gates)?;
     let mut text = Vec::new(alloc);
     add_phases(&mut text, &made.graph)?;
@@ -216,7 +215,7 @@ fn phases(alloc: Global, gates: &[Gate]) -> Result<Vec<u8>, Fail> {
 
 // 3 spiders for the qubits, 2 for H and 12 for Cx, and seven odd phases.
 #[test]
-fn a_toffoli_gate(rt: HostRuntime) -> Result<(), Fail> {
+fn a_toffoli_gate(rt: HostRuntime) -> Result<(), AllocError> {
     let (a, b, c) = (0, 1, 2);
     let gates = [
         Gate::H(c),
