@@ -1,11 +1,10 @@
 //! What no clause says: that calls succeed with ample memory, and what adapters over real readers and
 //! writers do.
-ghost use Rattle.std.specs.Prelude.{◌≡◌, ◌≤◌};
+ghost use Rattle.std.specs.Prelude.{◌≡◌, ◌<◌, ◌≤◌, ◌-◌, ◌^◌};
 
 use std::alloc::{AllocError, Global};
 use std::io;
 use std::io::{Cursor, Read, Write};
-use std::test::Fail;
 use zx_io::{
     Failed, MemSink, MemSource, NeverFailSink, NeverFailSource, Pieces, ReadAdapter, ReadError,
     Sink, Source, WriteAdapter, WriteFault, read_all, read_pieces, write_all,
@@ -23,7 +22,9 @@ fn program_source(alloc: Global, piece: usize, fails: &[u64]) -> Result<MemSourc
 }
 
 // Whether all that a source gives is this.
-fn gives(alloc: Global, source: &mut impl Source, most: usize, bytes: &[u8]) -> bool {
+fn gives(alloc: Global, source: &mut impl Source, most: usize, bytes: &[u8]) -> bool
+    requires { most < 2 ^ 64 - 1 }
+{
     match read_all(alloc, source, most) {
         Ok(read) => read.as_slice() == bytes,
         Err(_) => false,
@@ -31,12 +32,14 @@ fn gives(alloc: Global, source: &mut impl Source, most: usize, bytes: &[u8]) -> 
 }
 
 // Why not all can be read of a source.
-fn fault_of(alloc: Global, source: &mut impl Source, most: usize) -> Option<ReadError> {
+fn fault_of(alloc: Global, source: &mut impl Source, most: usize) -> Option<ReadError>
+    requires { most < 2 ^ 64 - 1 }
+{
     read_all(alloc, source, most).err()
 }
 
 #[test]
-fn all_bytes_are_read_whatever_the_pieces(rt: HostRuntime) -> Result<(), Fail> {
+fn all_bytes_are_read_whatever_the_pieces(rt: HostRuntime) -> Result<(), AllocError> {
     let alloc = rt.alloc();
     for piece in [1, 7, 1000] {
         let mut source = program_source(alloc, piece.max(1), &[])?;
@@ -52,7 +55,7 @@ fn all_bytes_are_read_whatever_the_pieces(rt: HostRuntime) -> Result<(), Fail> {
 }
 
 #[test]
-fn one_byte_past_the_limit_is_too_long(rt: HostRuntime) -> Result<(), Fail> {
+fn one_byte_past_the_limit_is_too_long(rt: HostRuntime) -> Result<(), AllocError> {
     let alloc = rt.alloc();
     for piece in [1, 7, 1000] {
         let mut source = program_source(alloc, piece.max(1), &[])?;
@@ -66,7 +69,7 @@ fn one_byte_past_the_limit_is_too_long(rt: HostRuntime) -> Result<(), Fail> {
 }
 
 #[test]
-fn a_failed_read_is_no_end(rt: HostRuntime) -> Result<(), Fail> {
+fn a_failed_read_is_no_end(rt: HostRuntime) -> Result<(), AllocError> {
     let alloc = rt.alloc();
     let mut source = program_source(alloc, 20, &[2])?;
     assert_eq!(rt;
@@ -92,7 +95,7 @@ impl Pieces for Collected {
 }
 
 #[test]
-fn all_bytes_are_handed_on_whatever_the_pieces(rt: HostRuntime) -> Result<(), Fail> {
+fn all_bytes_are_handed_on_whatever_the_pieces(rt: HostRuntime) -> Result<(), AllocError> {
     let alloc = rt.alloc();
     for piece in [1, 7, 1000] {
         let mut source = program_source(alloc, piece.max(1), &[])?;
@@ -106,7 +109,7 @@ fn all_bytes_are_handed_on_whatever_the_pieces(rt: HostRuntime) -> Result<(), Fa
 }
 
 #[test]
-fn bytes_before_a_fault_are_handed_on(rt: HostRuntime) -> Result<(), Fail> {
+fn bytes_before_a_fault_are_handed_on(rt: HostRuntime) -> Result<(), AllocError> {
     let alloc = rt.alloc();
     let mut source = program_source(alloc, 20, &[3])?;
     let mut to = Collected {
@@ -121,7 +124,7 @@ fn bytes_before_a_fault_are_handed_on(rt: HostRuntime) -> Result<(), Fail> {
 }
 
 #[test]
-fn bytes_below_the_limit_are_handed_on(rt: HostRuntime) -> Result<(), Fail> {
+fn bytes_below_the_limit_are_handed_on(rt: HostRuntime) -> Result<(), AllocError> {
     let alloc = rt.alloc();
     let mut source = program_source(alloc, 7, &[])?;
     let mut to = Collected {
@@ -136,7 +139,7 @@ fn bytes_below_the_limit_are_handed_on(rt: HostRuntime) -> Result<(), Fail> {
 }
 
 #[test]
-fn a_failed_call_of_a_sink_leaves_a_prefix(rt: HostRuntime) -> Result<(), Fail> {
+fn a_failed_call_of_a_sink_leaves_a_prefix(rt: HostRuntime) -> Result<(), AllocError> {
     let alloc = rt.alloc();
     // Three writes, and the flush is the fourth call.
     for (call, kept) in [(1, 0), (2, 20), (3, 40), (4, 55), (5, 55)] {
@@ -150,7 +153,7 @@ fn a_failed_call_of_a_sink_leaves_a_prefix(rt: HostRuntime) -> Result<(), Fail> 
 }
 
 #[test]
-fn a_sink_without_place_fails(rt: HostRuntime) -> Result<(), Fail> {
+fn a_sink_without_place_fails(rt: HostRuntime) -> Result<(), AllocError> {
     let alloc = rt.alloc();
     let mut sink = MemSink::new(alloc, 30, 20, Vec::new(alloc))?;
     assert_eq!(rt; write_all(&mut sink, PROGRAM), Err(WriteFault));
@@ -195,7 +198,7 @@ impl Write for Stuck {
 }
 
 #[test]
-fn adapters_pass_bytes_on(rt: HostRuntime) -> Result<(), Fail> {
+fn adapters_pass_bytes_on(rt: HostRuntime) -> Result<(), AllocError> {
     let alloc = rt.alloc();
     assert!(rt; gives(alloc, &mut ReadAdapter::new(PROGRAM), 1000, PROGRAM));
     assert!(rt;
@@ -216,7 +219,7 @@ fn adapters_pass_bytes_on(rt: HostRuntime) -> Result<(), Fail> {
 }
 
 #[test]
-fn an_adapter_that_is_interrupted_fails_once(rt: HostRuntime) -> Result<(), Fail> {
+fn an_adapter_that_is_interrupted_fails_once(rt: HostRuntime) -> Result<(), AllocError> {
     let mut source = ReadAdapter::new(Interrupted { calls: 0 });
     assert_eq!(rt;
         fault_of(rt.alloc(), &mut source, 1000),
@@ -228,7 +231,7 @@ fn an_adapter_that_is_interrupted_fails_once(rt: HostRuntime) -> Result<(), Fail
 }
 
 #[test]
-fn a_full_slice_takes_nothing_of_a_piece(rt: HostRuntime) -> Result<(), Fail> {
+fn a_full_slice_takes_nothing_of_a_piece(rt: HostRuntime) -> Result<(), AllocError> {
     let mut place = [0; 5];
     let mut sink = WriteAdapter::new(&mut place[..]);
     assert_eq!(rt; sink.write(PROGRAM), Ok(5));
@@ -237,7 +240,7 @@ fn a_full_slice_takes_nothing_of_a_piece(rt: HostRuntime) -> Result<(), Fail> {
 }
 
 #[test]
-fn a_flush_that_fails_is_a_write_fault(rt: HostRuntime) -> Result<(), Fail> {
+fn a_flush_that_fails_is_a_write_fault(rt: HostRuntime) -> Result<(), AllocError> {
     let mut sink = WriteAdapter::new(Stuck);
     assert_eq!(rt; sink.write(PROGRAM), Ok(PROGRAM.len()));
     assert_eq!(rt; sink.flush(), Err(Failed));

@@ -1,8 +1,8 @@
 //! Sources, outputs and error outputs that fail at one call, at each in turn. One call moves 20 bytes.
 
 use crate::streams::{Outcome, has_error_output, has_outcome};
+use std::alloc::AllocError;
 use std::process::Abort;
-use std::test::Fail;
 use zx_run::{Fault, Status};
 
 // Two T gates, in 63 bytes: four reads, and one that tells the end.
@@ -25,7 +25,7 @@ const DONE: Outcome = Outcome {
 };
 
 #[test]
-fn each_read_that_fails_is_told(rt: HostRuntime) -> Result<(), Fail> {
+fn each_read_that_fails_is_told(rt: HostRuntime) -> Result<(), AllocError> {
     let told = Outcome {
         status: Status::ReadFault,
         out: b"",
@@ -52,7 +52,7 @@ fn write_fault(out: &[u8]) -> Outcome<'_> {
 }
 
 #[test]
-fn each_write_that_fails_is_told(rt: HostRuntime) -> Result<(), Fail> {
+fn each_write_that_fails_is_told(rt: HostRuntime) -> Result<(), AllocError> {
     // The call that fails: 0, 20, 40 and 55 bytes were taken before; the flush is the fourth.
     let rows = [
         (1, write_fault(b"")),
@@ -75,7 +75,7 @@ fn each_write_that_fails_is_told(rt: HostRuntime) -> Result<(), Fail> {
 }
 
 #[test]
-fn error_outputs_that_fail_change_no_answer(rt: HostRuntime) -> Result<(), Fail> {
+fn error_outputs_that_fail_change_no_answer(rt: HostRuntime) -> Result<(), AllocError> {
     // The words, the text, the call of the source that fails and that of the output, or 0 where none does, the answer,
     // and its line: of at most 124 bytes, so at most seven writes and a flush.
     let rows: [(&[&str], &[u8], u64, u64, Status, &[u8]); 6] = [

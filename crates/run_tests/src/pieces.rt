@@ -1,14 +1,14 @@
 //! Texts that come in pieces.
 
 use crate::streams::{Outcome, has_outcome_in_pieces, is_same_in_pieces};
-use std::test::Fail;
+use std::alloc::AllocError;
 use zx_run::{Fault, Status};
 
 // A text whose last byte is a fault.
 const REFUSED: &[u8] = b"OPENQASM 2.0;\ninclude \"qelib1.inc\";\nqreg q[1];\n@";
 
 #[test]
-fn pieces_change_no_output(rt: HostRuntime) -> Result<(), Fail> {
+fn pieces_change_no_output(rt: HostRuntime) -> Result<(), AllocError> {
     let words = ["opt", "--report"];
     let text = b"OPENQASM 2.0;\ninclude \"qelib1.inc\";\nqreg q[3];\nccx q[0],q[1],q[2];\n";
     for piece in [1usize, 7] {
@@ -18,7 +18,7 @@ fn pieces_change_no_output(rt: HostRuntime) -> Result<(), Fail> {
 }
 
 #[test]
-fn pieces_change_no_refusal(rt: HostRuntime) -> Result<(), Fail> {
+fn pieces_change_no_refusal(rt: HostRuntime) -> Result<(), AllocError> {
     let outcome = Outcome {
         status: Status::Refused(Fault::BadByte { at: 47 }),
         out: b"",
@@ -40,7 +40,7 @@ fn pieces_change_no_refusal(rt: HostRuntime) -> Result<(), Fail> {
 }
 
 #[test]
-fn a_read_fault_comes_before_a_refusal(rt: HostRuntime) -> Result<(), Fail> {
+fn a_read_fault_comes_before_a_refusal(rt: HostRuntime) -> Result<(), AllocError> {
     // The first read gives the whole text; the second one fails.
     let outcome = Outcome {
         status: Status::ReadFault,

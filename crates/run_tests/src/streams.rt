@@ -1,8 +1,7 @@
 //! Runs over streams in memory of which the given calls fail.
 ghost use Rattle.std.specs.Prelude.{◌≤◌};
 
-use std::alloc::Global;
-use std::test::Fail;
+use std::alloc::{AllocError, Global};
 use zx_io::{MemSink, MemSource};
 use zx_run::{Status, run};
 
@@ -22,7 +21,7 @@ pub fn has_outcome(
     text: &[u8],
     fails: [&[u64]; 3],
     outcome: Outcome<'_>,
-) -> Result<bool, Fail> {
+) -> Result<bool, AllocError> {
     has_outcome_in_pieces(alloc, words, text, 20, fails, outcome)
 }
 
@@ -34,13 +33,13 @@ pub fn has_outcome_in_pieces(
     piece: usize,
     fails: [&[u64]; 3],
     outcome: Outcome<'_>,
-) -> Result<bool, Fail>
+) -> Result<bool, AllocError>
     requires { 1 ≤ piece }
 {
     let [read_fails, write_fails, err_fails] = fails;
     let mut out = sink(alloc, write_fails)?;
     let mut err = sink(alloc, err_fails)?;
-    let status = run_into(alloc, words, text, piece, read_fails, [&mut out, &mut err])?;
+    let status = run_into(alloc, words, text, piece, read_fails, &mut out, &mut err)?;
     Ok(status == outcome.status && out.bytes() == outcome.out && err.bytes() == outcome.err)
 }
 
@@ -52,11 +51,11 @@ pub fn has_error_output(
     fails: [&[u64]; 3],
     status: Status,
     told: &[u8],
-) -> Result<bool, Fail> {
+) -> Result<bool, AllocError> {
     let [read_fails, write_fails, err_fails] = fails;
     let mut out = sink(alloc, write_fails)?;
     let mut err = sink(alloc, err_fails)?;
-    let answer = run_into(alloc, words, text, 20, read_fails, [&mut out, &mut err])?;
+    let answer = run_into(alloc, words, text, 20, read_fails, &mut out, &mut err)?;
     Ok(answer == status && err.bytes() == told)
 }
 
@@ -66,7 +65,7 @@ pub fn is_same_in_pieces(
     words: &[&str],
     text: &[u8],
     piece: usize,
-) -> Result<bool, Fail>
+) -> Result<bool, AllocError>
     requires { 1 ≤ piece }
 {
     let mut whole = sink(alloc, &[])?;
@@ -83,11 +82,11 @@ fn run_for_output(
     text: &[u8],
     piece: usize,
     out: &mut MemSink,
-) -> Result<Status, Fail>
+) -> Result<Status, AllocError>
     requires { 1 ≤ piece }
 {
     let mut err = sink(alloc, &[])?;
-    run_into(alloc, words, text, piece, &[], [out, &mut err])
+    run_into(alloc, words, text, piece, &[], out, &mut err)
 }
 
 // Runs with a source of which the given calls fail.
@@ -97,17 +96,17 @@ fn run_into(
     text: &[u8],
     piece: usize,
     fails: &[u64],
-    outputs: [&mut MemSink; 2],
-) -> Result<Status, Fail>
+    out: &mut MemSink,
+    err: &mut MemSink,
+) -> Result<Status, AllocError>
     requires { 1 ≤ piece }
 {
-    let [out, err] = outputs;
     let mut source = source(alloc, text, piece, fails)?;
     Ok(run(alloc, words, &mut source, out, err))
 }
 
 // A source of a text, at most `piece` bytes a call, of which the given calls fail.
-fn source(alloc: Global, text: &[u8], piece: usize, fails: &[u64]) -> Result<MemSource, Fail>
+fn source(alloc: Global, text: &[u8], piece: usize, fails: &[u64]) -> Result<MemSource, AllocError>
     requires { 1 ≤ piece }
 {
     let bytes = text.to_vec(alloc)?;
@@ -116,7 +115,7 @@ fn source(alloc: Global, text: &[u8], piece: usize, fails: &[u64]) -> Result<Mem
 }
 
 // An output of which the given calls fail, 20 bytes a call.
-fn sink(alloc: Global, fails: &[u64]) -> Result<MemSink, Fail> {
+fn sink(alloc: Global, fails: &[u64]) -> Result<MemSink, AllocError> {
     let fails = fails.to_vec(alloc)?;
     Ok(MemSink::new(alloc, 1000, 20, fails)?)
 }

@@ -1,6 +1,6 @@
 //! Worked words of the command line.
 
-use std::test::Fail;
+use std::alloc::AllocError;
 use zx_words::{Command, command_in};
 
 // The command `opt` with these flags.
@@ -13,7 +13,7 @@ fn optimise(best: bool, report: bool, scalar: bool) -> Option<Command> {
 }
 
 #[test]
-fn words_of_commands(rt: HostRuntime) -> Result<(), Fail> {
+fn words_of_commands(rt: HostRuntime) -> Result<(), AllocError> {
     let generate = Some(Command::Generate {
         seed: 18446744073709551615,
         qubits: 1024,
@@ -44,7 +44,7 @@ fn words_of_commands(rt: HostRuntime) -> Result<(), Fail> {
 }
 
 #[test]
-fn other_words(rt: HostRuntime) -> Result<(), Fail> {
+fn other_words(rt: HostRuntime) -> Result<(), AllocError> {
     let none: [&[&str]; 22] = [
         &[],
         &["help"],

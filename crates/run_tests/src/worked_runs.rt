@@ -1,11 +1,11 @@
 //! The bytes of worked examples.
 
 use crate::streams::{Outcome, has_outcome};
-use std::test::Fail;
+use std::alloc::AllocError;
 use zx_run::{Fault, Status};
 
 #[test]
-fn worked_runs_write_these_bytes(rt: HostRuntime) -> Result<(), Fail> {
+fn worked_runs_write_these_bytes(rt: HostRuntime) -> Result<(), AllocError> {
     // The words, the text, the answer, and what the output and the error output get. Two T are one S; the numbers of
     // gates are counted by hand.
     let rows: [(&[&str], &[u8], Status, &[u8], &[u8]); 14] = [
