@@ -21,4 +21,4 @@ mod proposing;
 mod scores;
 mod strings;
 
-pub use proposing::{circuit_of, inverse, propose, rewrite};
+pub use proposing::{Rewriter, circuit_of, invert, propose};
