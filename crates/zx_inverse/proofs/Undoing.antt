@@ -26,7 +26,7 @@ use Rattle.zx_gates.proofs.Scaling.{IsTimes}
 use Rattle.zx_peephole.specs.Tidy.{is_pair}
 use Rattle.zx_peephole.specs.Internal.Merging.{merged, doublings}
 use Rattle.zx_peephole.proofs.PairLemmas.{pair_law}
-use Rattle.zx_same.specs.Inverse.{inverse_gate, inverse_of}
+use Rattle.zx_inverse.specs.Inverse.{inverse_gate, inverse_of}
 
 -- ---- lists
 pub inverse-more : (gate : Gate) (gates : List Gate) → inverse_of (gate ∷ gates) ≡ inverse_of gates ++ inverse_gate gate ∷ []

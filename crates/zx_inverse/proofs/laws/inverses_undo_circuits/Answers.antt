@@ -1,10 +1,13 @@
 -- The laws of lists and their inverses.
-use Rattle.zx_same.proofs.OneMap.{one_map}
-use Rattle.zx_same.proofs.Undoing.{undone_map, inverse-inverse}
-use Rattle.zx_same.proofs.laws.inverses_undo_circuits.Goals as goal
+use Rattle.zx_inverse.proofs.OneMap.{one_map, undone_scaled}
+use Rattle.zx_inverse.proofs.Undoing.{undone_map, inverse-inverse}
+use Rattle.zx_inverse.proofs.laws.inverses_undo_circuits.Goals as goal
 
 pub returns-clause-undone : goal.returns-clause-undone
 returns-clause-undone c = undone_map
+
+pub returns-clause-scaled : goal.returns-clause-scaled
+returns-clause-scaled c = undone_scaled
 
 pub returns-clause-twice : goal.returns-clause-twice
 returns-clause-twice c = inverse-inverse

@@ -1,7 +1,7 @@
 -- The gates from the last one on are undone.
 use Rattle.std.proofs.Common.{◌≡◌, ◌++◌, drop}
-use Rattle.zx_same.specs.Inverse.{inverse_of}
-use Rattle.zx_same.proofs.inversion.push_inverse.Given as goal
+use Rattle.zx_inverse.specs.Inverse.{inverse_of}
+use Rattle.zx_inverse.proofs.inversion.push_inverse.Given as goal
 
 abbrev pub invariant-loop-i : goal.invariant-loop-i
 invariant-loop-i l = record {

@@ -1,12 +1,12 @@
 -- From the map of one circuit followed by the inverse of another to the maps of both.
-use Rattle.std.proofs.Common.{◌≡◌, ℕ, ◌<◌, ◌+ℤ◌, ◌-ℤ◌, neg_ℤ, Bool, List, [], ◌++◌, length, sym, ap, ap₂, ◌∙◌, arith}
+use Rattle.std.proofs.Common.{◌≡◌, ℕ, ◌<◌, ◌*◌, ◌+ℤ◌, ◌-ℤ◌, neg_ℤ, Bool, List, [], ◌++◌, length, sym, ap, ap₂, ◌∙◌, arith}
 use borrow.Author.Differences.{ints}
-use Rattle.std.specs.List.{All}
+use Rattle.std.specs.List.{All, count_by}
 use Rattle.zx_model.specs.Phase.{turn, sum_of_phases, opposite_phase}
 use Rattle.zx_model.specs.Internal.Powers.{power_of_two}
 use Rattle.zx_model.specs.Number.{Number, mul, root_power}
 use Rattle.zx_model.specs.Proportional.{Proportional}
-use Rattle.zx_model.specs.Scalar.{IsScaled, numerator, denominator, product_of_scalars, quotient_of_scalars}
+use Rattle.zx_model.specs.Scalar.{IsScaled, numerator, denominator, root_of_two_power, product_of_scalars, quotient_of_scalars}
 use Rattle.zx_model.specs.declared.scalar.Scalar.{Scalar}
 use Rattle.zx_model.proofs.Factors.{IsScalar, scaled_by, scaled_renamed}
 use Rattle.zx_model.proofs.Powers.{root_power-zero, root_power-nonzero}
@@ -14,14 +14,15 @@ use Rattle.zx_model.proofs.Ring.{mul_assoc, one-mul, mul-one}
 use Rattle.zx_model.proofs.Scalars.{inverse, numerator-nonzero, denominator-nonzero, scaled_sym, scaled_trans}
 use Rattle.zx_model.proofs.Domain.{mul-nonzero}
 use Rattle.zx_gates.specs.Circuit.{IsGateOn}
+use Rattle.zx_gates.specs.Counting.{is_h}
 use Rattle.zx_gates.specs.Maps.{amp, acts}
 use Rattle.zx_gates.specs.declared.gate.Gate.{Gate}
 use Rattle.zx_gates.proofs.MapLemmas.{amp-acts, acts-append}
 use Rattle.zx_gates.proofs.Scaling.{IsTimes, root_of_two_power-twice}
+use Rattle.piece_laws.specs.Replacement.{AreScaled}
 use Rattle.piece_laws.proofs.Matrices.{acts-factor, proportional-acts}
-use Rattle.zx_same.specs.Internal.UndoneScalar.{undone_scalar}
-use Rattle.zx_same.specs.Inverse.{inverse_of}
-use Rattle.zx_same.proofs.Undoing.{inverse-inverse, All-inverse, power-nonzero, times_doubled, times_doubled-inverse, undone_times}
+use Rattle.zx_inverse.specs.Inverse.{inverse_of, undone_scalar}
+use Rattle.zx_inverse.proofs.Undoing.{inverse-inverse, All-inverse, power-nonzero, times_doubled, times_doubled-inverse, undone_times}
 
 -- the maps of circuits, from that of the one followed by the inverse of the other, which doubles for each H of the other
 undone_both : (n : ℕ) (first second : List Gate) → All (IsGateOn n) second → (p : Proportional n n (amp (first ++ inverse_of second)) (amp []))
@@ -100,3 +101,12 @@ one_map_scaled n first second s on e =
 
     turns : sum_of_phases (opposite_phase d.turn) s.turn ≡ sum_of_phases s.turn (opposite_phase d.turn)
     turns = omega arith
+
+-- a list followed by its inverse, with the number
+pub undone_scaled : (n : ℕ) (gates : List Gate) → All (IsGateOn n) gates → AreScaled n (gates ++ inverse_of gates) (undone_scalar gates) []
+undone_scaled n gates on = λ x y lx ly.
+    one-mul (amp (gates ++ inverse_of gates) x y)
+    ∙ amp-acts (gates ++ inverse_of gates) x y
+    ∙ undone_times n gates on (λ z. amp [] z y) x lx
+    ∙ ap (λ t. mul t (amp [] x y))
+    (sym (ap (mul (root_of_two_power (2 * count_by is_h gates))) root_power-zero ∙ mul-one _ ∙ root_of_two_power-twice (count_by is_h gates)))
