@@ -1,6 +1,7 @@
--- What gates other than H make of a basis state, the bits of the qubits: another basis state, and a phase beside it. See
--- Amy and Mosca, "T-count optimization and Reed-Muller codes" (arXiv 1601.07363).
-use Rattle.std.specs.Prelude.{◌≡◌, ◌≤◌, ◌%◌, ℕ, Bool, true, false, not, ◌&&◌, ◌==◌, if◌then◌else◌, List, [], ◌∷◌, length, slice_set}
+-- What gates other than H make of a basis state, the bits of the qubits: another one, and a phase beside it. See Amy
+-- and Mosca, "T-count optimization and Reed-Muller codes" (arXiv 1601.07363).
+use Rattle.std.specs.Prelude.{◌≡◌, ◌≤◌, ◌%◌, ℕ, Bool, true, false, not, ◌&&◌, ◌==◌, if◌then◌else◌}
+use Rattle.std.specs.Prelude.{List, [], ◌∷◌, length, slice_set}
 use Rattle.zx_model.specs.Phase.{half_turn, eighth_turn, sum_of_phases}
 use Rattle.zx_model.specs.Bits.{xor, bit}
 use Rattle.zx_gates.specs.declared.gate.Gate.{Gate}

@@ -15,9 +15,11 @@ twice_controlled =
 -- a half turn where all four bits are 1, in the same way by sixteenth turns
 abbrev pub thrice_controlled : List Term
 thrice_controlled =
-    term (true ∷ []) 1 ∷ term (false ∷ true ∷ []) 1 ∷ term (false ∷ false ∷ true ∷ []) 1 ∷ term (false ∷ false ∷ false ∷ true ∷ []) 1
-    ∷ term (true ∷ true ∷ []) 15 ∷ term (true ∷ false ∷ true ∷ []) 15 ∷ term (true ∷ false ∷ false ∷ true ∷ []) 15
-    ∷ term (false ∷ true ∷ true ∷ []) 15 ∷ term (false ∷ true ∷ false ∷ true ∷ []) 15 ∷ term (false ∷ false ∷ true ∷ true ∷ []) 15
+    term (true ∷ []) 1 ∷ term (false ∷ true ∷ []) 1
+    ∷ term (false ∷ false ∷ true ∷ []) 1 ∷ term (false ∷ false ∷ false ∷ true ∷ []) 1
+    ∷ term (true ∷ true ∷ []) 15 ∷ term (true ∷ false ∷ true ∷ []) 15
+    ∷ term (true ∷ false ∷ false ∷ true ∷ []) 15 ∷ term (false ∷ true ∷ true ∷ []) 15
+    ∷ term (false ∷ true ∷ false ∷ true ∷ []) 15 ∷ term (false ∷ false ∷ true ∷ true ∷ []) 15
     ∷ term (true ∷ true ∷ true ∷ []) 1 ∷ term (true ∷ true ∷ false ∷ true ∷ []) 1
     ∷ term (true ∷ false ∷ true ∷ true ∷ []) 1 ∷ term (false ∷ true ∷ true ∷ true ∷ []) 1
     ∷ term (true ∷ true ∷ true ∷ true ∷ []) 15 ∷ []

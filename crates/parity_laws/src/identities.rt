@@ -18,7 +18,6 @@ pub fn identities_are_put_in()
         AreScaled n inner one_scalar [] →
         AreScaled n (before ++ (frame ++ inner ++ inverse_of frame) ++ after) (undone_scalar frame) (before ++ after) }
     ensures scaled { (n : ℕ) (before frame inner after : List Gate) (s : Scalar) → All (IsGateOn n) frame →
-        AreScaled n inner s [] →
-        AreScaled n (before ++ (frame ++ inner ++ inverse_of frame) ++ after)
+        AreScaled n inner s [] → AreScaled n (before ++ (frame ++ inner ++ inverse_of frame) ++ after)
         (product_of_scalars s (undone_scalar frame)) (before ++ after) }
 {}

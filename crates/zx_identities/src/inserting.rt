@@ -3,7 +3,9 @@
 ghost use Rattle.std.specs.Prelude.{◌≡◌, ◌++◌, ◌*◌, true, IfOk, IfSome, OnOk};
 ghost use Rattle.std.specs.List.{All};
 ghost use Rattle.zx_model.specs.Scalar.{IsWithin, one_scalar, product_of_scalars, quotient_of_scalars};
-ghost use Rattle.zx_gates.specs.Circuit.{IsGateOn, gate_bound};
+ghost use Rattle.zx_gates.specs.Circuit.{IsGateOn, gate_bound, gate_odd_phases};
+ghost use Rattle.zx_gates.specs.Maps.{amp};
+ghost use Rattle.zx_gates.specs.Passes.{Implements};
 ghost use Rattle.piece_laws.specs.Replacement.{AreScaled};
 ghost use Rattle.zx_inverse.specs.Inverse.{undone_scalar};
 ghost use Rattle.zx_identities.specs.Insertions.{most_root2_of_insertions};
@@ -70,10 +72,8 @@ pub fn put_all_in(
     circuit: &GateList,
     insertions: &[Insertion],
 ) -> Result<ScaledCircuit, AllocError>
-    ensures qubits { IfOk result (λ made. made.gates.qubits ≡ circuit.now.qubits) }
-    ensures scaled { IfOk result (λ made.
-        AreScaled circuit.now.qubits circuit.now.gates made.scalar made.gates.gates) }
-    ensures small { IfOk result (λ made. IsWithin most_root2_of_insertions made.scalar) }
+    ensures { IfOk result (λ made. Implements circuit.now.qubits (amp circuit.now.gates)
+        (gate_odd_phases made.gates.gates) most_root2_of_insertions made.gates made.scalar) }
 {
     let mut made = ScaledCircuit {
         gates: circuit.copy()?,

@@ -1,5 +1,6 @@
 -- Parities of qubits as numbers: the lowest bit says whether 1 is added, and the next ones which qubits are.
-use Rattle.std.specs.Prelude.{◌≡◌, ◌<◌, ◌+◌, ◌*◌, ◌/◌, ◌%◌, ◌^◌, ℕ, zero, suc, Bool, true, false, ◌&&◌, ◌==◌, if◌then◌else◌, List, [], ◌∷◌, map, get_or, length}
+use Rattle.std.specs.Prelude.{◌≡◌, ◌<◌, ◌+◌, ◌*◌, ◌/◌, ◌%◌, ◌^◌, ℕ, zero, suc, Bool, true, false, ◌&&◌}
+use Rattle.std.specs.Prelude.{◌==◌, if◌then◌else◌, List, [], ◌∷◌, map, get_or, length}
 use Rattle.zx_model.specs.Phase.{turn, half_turn}
 use Rattle.zx_model.specs.Bits.{xor}
 use Rattle.zx_gates.specs.declared.gate.Gate.{Gate}
@@ -50,8 +51,8 @@ IsReading n gates terms = (x : List Bool) → length x ≡ n →
 abbrev pub AreBelow : ℕ → List ℕ → Type 0
 AreBelow bits parities = (q : ℕ) → get_or parities q 0 < 2 ^ bits
 
--- What is left of the gates makes the same of the basis states, of these parities on the qubits, as all do, and puts the
--- same phases there, with those of these terms.
+-- What is left of the gates makes the same of the basis states, of these parities on the qubits, as all do, and puts
+-- the same phases there, with those of these terms.
 pub record IsRead (n : ℕ) (all left : List Gate) (parities : List ℕ) (terms : List Term) : Type 0 where
   pub len : length parities ≡ n
   pub moves : (x : List Bool) → length x ≡ n → moved_by left (state parities x) ≡ moved_by all x
