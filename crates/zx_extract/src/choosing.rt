@@ -1,6 +1,6 @@
 //! Outputs from which one is chosen by what it would cost.
 
-ghost use Rattle.std.specs.Prelude.{◌≡◌, ◌<◌, ◌⊎◌, ℕ, length, count_by, Some};
+ghost use Rattle.std.specs.Prelude.{◌≡◌, ◌<◌, ◌⊎◌, ℕ, length, count_by};
 ghost use Rattle.zx_calculus.specs.Graph.{neighbours};
 ghost use Rattle.gflow_laws.specs.Flow.{is_in};
 ghost use Rattle.circuit_laws.specs.Peeling.{HasPlainOutput};
@@ -40,13 +40,26 @@ impl Frontier {
     }
 }
 
+impl Candidate {
+    // An output that any other is chosen before.
+    pub(crate) fn last_resort(qubit: Qubit) -> Candidate
+        ensures { result.qubit ≡ qubit }
+    {
+        Candidate {
+            qubit,
+            cost: usize::MAX,
+            beside: usize::MAX,
+        }
+    }
+}
+
 // Of a candidate and the best so far, the one that costs less.
-pub(crate) fn cheaper(best: Option<Candidate>, other: Candidate) -> Candidate
-    ensures { (result ≡ other) ⊎ (best ≡ Some result) }
+pub(crate) fn cheaper(best: Candidate, other: Candidate) -> Candidate
+    ensures { (result ≡ other) ⊎ (result ≡ best) }
 {
-    match best {
-        Some(kept) if kept.cost < other.cost => kept,
-        Some(kept) if kept.cost == other.cost && kept.beside <= other.beside => kept,
-        _ => other,
+    if (best.cost, best.beside) <= (other.cost, other.beside) {
+        best
+    } else {
+        other
     }
 }

@@ -10,6 +10,7 @@ ghost use Rattle.zx_extract.specs.Internal.Leading.{IsReady, IsFrontier};
 ghost use Rattle.zx_extract.specs.Internal.Lists.{last_set};
 ghost use Rattle.zx_extract.specs.Internal.Steps.{HasLast, IsPicked, HasNoOutput, IsGathered, IsGatheredBesideRow, IsRowReplaced};
 
+use crate::ahead::{Ahead, Choices, EVEN, MOST_AHEAD};
 use crate::choosing::{Candidate, cheaper};
 use crate::frontier::{Frontier, toggle_edges};
 use open_graph::{End, OpenGraph, VertexId, VertexSet};
@@ -28,27 +29,105 @@ impl Frontier {
         self.flow.last_has(self.present(q))
     }
 
-    // Of the outputs in the last set, one that stands in the fewest sets, and of these one with the
-    // fewest neighbours.
+    // Counts an output, which is in the last set, at each of the next sets that has it.
+    fn add_member(&self, q: Qubit, ahead: &mut Ahead)
+        requires plain { are_plain self.now.graph.graph.outputs ≡ true }
+        requires on_wires { q < length self.now.graph.graph.outputs }
+    {
+        let member = self.present(q);
+        for place in 0..MOST_AHEAD {
+            match ahead.vertex(place) {
+                Some(y) if self.flow.has(member, y) => ahead.add(place),
+                Some(_) => {}
+                None => break,
+            }
+        }
+    }
+
+    // How many outputs the next sets have in sum once the rows of these outputs are gathered at one, but for a number
+    // that is the same for each.
+    fn member_cost(&self, q: Qubit, ahead: &Ahead, members: &Choices) -> usize
+        requires plain { are_plain self.now.graph.graph.outputs ≡ true }
+        requires on_wires { q < length self.now.graph.graph.outputs }
+    {
+        let member = self.present(q);
+        let mut cost = EVEN;
+        for place in 0..MOST_AHEAD {
+            match ahead.vertex(place) {
+                Some(y) if self.flow.has(member, y) => cost = ahead.cost(cost, place, members),
+                Some(_) => {}
+                None => break,
+            }
+        }
+        cost
+    }
+
+    // The next sets, and how many of these outputs each has.
+    fn sets_ahead(&self, members: &Choices) -> Ahead
+        requires { IsReady (remainder_of self.now) }
+    {
+        let mut ahead = self.flow.sets_ahead();
+        for q in 0..self.qubits() {
+            if members.has(q) {
+                self.add_member(q, &mut ahead);
+            }
+        }
+        ahead
+    }
+
+    // An output in the last set, and all outputs in it as choices.
+    fn some_member(&self, members: &mut Choices) -> Option<Qubit>
+        requires ready { IsReady (remainder_of self.now) }
+        requires last { (v : ℕ) × HasLast self.now.flow.flow v }
+        ensures some { IfSome result (λ q. IsPicked (remainder_of self.now) q) }
+        ensures none { IfNone result (HasNoOutput (remainder_of self.now)) }
+    {
+        let mut some = None;
+        for q in 0..self.qubits() {
+            if self.corrects_last(q) {
+                members.add(q);
+                some = Some(q);
+            }
+        }
+        some
+    }
+
+    // Of these outputs those in the last set are the choices, of which one is known: one after whose choice the next sets
+    // have the fewest outputs, and of these one that stands in the fewest sets.
+    fn cheapest_member(&self, some: Qubit, members: &Choices) -> Qubit
+        requires ready { IsReady (remainder_of self.now) }
+        requires last { (v : ℕ) × HasLast self.now.flow.flow v }
+        requires some { IsPicked (remainder_of self.now) some }
+        ensures { IsPicked (remainder_of self.now) result }
+    {
+        let ahead = self.sets_ahead(members);
+        let mut best = Candidate::last_resort(some);
+        for q in 0..self.qubits() {
+            if !members.has(q) || !self.corrects_last(q) {
+                continue;
+            }
+            let member = Candidate {
+                qubit: q,
+                cost: self.member_cost(q, &ahead, members),
+                beside: self.sets(q),
+            };
+            best = cheaper(best, member);
+        }
+        best.qubit
+    }
+
+    // Of the outputs in the last set, the one at which its rows are to be gathered.
     pub(crate) fn pick(&self) -> Option<Qubit>
         requires ready { IsReady (remainder_of self.now) }
         requires last { (v : ℕ) × HasLast self.now.flow.flow v }
         ensures some { IfSome result (λ q. IsPicked (remainder_of self.now) q) }
         ensures none { IfNone result (HasNoOutput (remainder_of self.now)) }
     {
-        let mut best: Option<Candidate> = None;
-        for q in 0..self.qubits() {
-            if !self.corrects_last(q) {
-                continue;
-            }
-            let member = Candidate {
-                qubit: q,
-                cost: self.sets(q),
-                beside: self.degree(q),
-            };
-            best = Some(cheaper(best, member));
+        let mut members = Choices::none();
+        match self.some_member(&mut members) {
+            Some(q) if members.count() > 1 => Some(self.cheapest_member(q, &members)),
+            some => some,
         }
-        best.map(|member| member.qubit)
     }
 
     // Adds the rows of the last set to that of an output in it, so that of all outputs only that

@@ -4,10 +4,16 @@ ghost use Rattle.std.specs.Prelude.{◌≡◌, ◌++◌, ℕ, ◌||◌, ◌==◌
 ghost use Rattle.gflow_laws.specs.Flow.{Correction, is_in, SameSets};
 ghost use Rattle.gflow_laws.specs.Outputs.{row_added_table, advanced_table, last_removed_table};
 
+use crate::ahead::Ahead;
 use open_graph::VertexId;
 use std::alloc::{AllocError, Global};
 use std::marker::Model;
 use zx_flow::{Flow, VertexSets};
+
+// Among how many of the next vertices gadgets are looked for, and how many of the next sets are looked at.
+const GADGETS_AHEAD: usize = 64;
+
+const SETS_AHEAD: usize = 16;
 
 // A flow turned over: for each vertex, in the correction sets of which vertices it stands.
 #[derive(Drop)]
@@ -51,6 +57,45 @@ impl Holders {
         ensures none { IfNone result (self.now.flow ≡ []) }
     {
         self.order.last().copied()
+    }
+
+    // The vertex of the order so many places before the last one.
+    pub(crate) fn before_last(&self, places: usize) -> Option<VertexId> {
+        let end = self.order.len().saturating_sub(1);
+        if places < end {
+            Some(self.order[end - places - 1])
+        } else {
+            None
+        }
+    }
+
+    // The next sets, those of the vertices before the last one.
+    pub(crate) fn sets_ahead(&self) -> Ahead {
+        let mut ahead = Ahead::none();
+        for places in 0..SETS_AHEAD {
+            if let Some(v) = self.before_last(places) {
+                ahead.look_at(v);
+            }
+        }
+        ahead
+    }
+
+    // The gadgets among the vertices before the last one: each stands in its own correction set.
+    pub(crate) fn gadgets_ahead(&self) -> Ahead {
+        let mut ahead = Ahead::none();
+        for places in 0..GADGETS_AHEAD {
+            match self.before_last(places) {
+                Some(v) if self.has(v, v) => ahead.look_at(v),
+                Some(_) => {}
+                None => break,
+            }
+        }
+        ahead
+    }
+
+    // Whether a vertex stands in the correction set of another.
+    pub(crate) fn has(&self, s: VertexId, v: VertexId) -> bool {
+        self.held.get(s).contains(v)
     }
 
     // Whether a vertex stands in the correction set of the last one.

@@ -17,6 +17,7 @@
 //! - `gathering`: rows added until one output has the neighbours that the last vertex needs.
 //! - `sharing`: rows of a gadget's legs added until one leg is left.
 //! - `gadgets`: phase gadgets.
+//! - `ahead`: what a choice does to the vertices that come next.
 //! - `choosing`: which of some outputs costs least.
 //! - `vertices`: the vertices one after the other, the last of the order first.
 //! - `crossing`: the wires that are left.
@@ -30,6 +31,7 @@
 //! ```
 #![tactic(auto)]
 
+mod ahead;
 mod choosing;
 mod crossing;
 mod extraction;

@@ -8,6 +8,7 @@ ghost use Rattle.zx_extract.specs.Internal.Frontiers.{remainder_of};
 ghost use Rattle.zx_extract.specs.Internal.Leading.{IsReady, IsFrontier};
 ghost use Rattle.zx_extract.specs.Internal.Steps.{HasLast, AreLegs, IsSpareLeg, HasNoSpareLeg, AreLegsFree, TakesLegs, IsLegShared, HasOneLegOrInputs};
 
+use crate::ahead::{Ahead, Choices, EVEN, MOST_AHEAD};
 use crate::choosing::{Candidate, cheaper};
 use crate::frontier::Frontier;
 use open_graph::VertexId;
@@ -45,26 +46,107 @@ impl Frontier {
         self.graph.has_edge(v, leg) && self.graph.input_at(leg).is_none()
     }
 
-    // Of the legs without an input, one with the fewest neighbours.
+    // Counts an output, which is a leg, at each of the next gadgets that has it.
+    fn add_leg(&self, q: Qubit, ahead: &mut Ahead)
+        requires ready { IsReady (remainder_of self.now) }
+        requires on_wires { q < length self.now.graph.graph.outputs }
+    {
+        let leg = self.present(q);
+        for place in 0..MOST_AHEAD {
+            match ahead.vertex(place) {
+                Some(y) if self.graph.has_edge(leg, y) => ahead.add(place),
+                Some(_) => {}
+                None => break,
+            }
+        }
+    }
+
+    // How many legs the next gadgets have in sum once an output is left of these legs, but for a number that is the same
+    // for each.
+    fn leg_cost(&self, q: Qubit, ahead: &Ahead, legs: &Choices) -> usize
+        requires ready { IsReady (remainder_of self.now) }
+        requires on_wires { q < length self.now.graph.graph.outputs }
+    {
+        let leg = self.present(q);
+        let mut cost = EVEN;
+        for place in 0..MOST_AHEAD {
+            match ahead.vertex(place) {
+                Some(y) if self.graph.has_edge(leg, y) => cost = ahead.cost(cost, place, legs),
+                Some(_) => {}
+                None => break,
+            }
+        }
+        cost
+    }
+
+    // The next gadgets, and how many of these legs each has.
+    fn gadgets_ahead(&self, legs: &Choices) -> Ahead
+        requires { IsReady (remainder_of self.now) }
+    {
+        let mut ahead = self.flow.gadgets_ahead();
+        for q in 0..self.qubits() {
+            if legs.has(q) {
+                self.add_leg(q, &mut ahead);
+            }
+        }
+        ahead
+    }
+
+    // A leg without an input, and all legs as choices.
+    fn some_leg(&self, v: VertexId, legs: &mut Choices) -> Option<Qubit>
+        requires ready { IsReady (remainder_of self.now) }
+        requires live { Live self.now.graph.graph v }
+        ensures some { IfSome result (λ z. IsSpareLeg self.now.graph.graph v z) }
+        ensures none { IfNone result (HasNoSpareLeg self.now.graph.graph v) }
+    {
+        let mut some = None;
+        for q in 0..self.qubits() {
+            if self.graph.has_edge(v, self.present(q)) {
+                legs.add(q);
+            }
+            if self.is_spare_leg(v, q) {
+                some = Some(q);
+            }
+        }
+        some
+    }
+
+    // Of these legs those without an input are the choices, of which one is known: one after whose choice the next gadgets
+    // have the fewest legs, and of these one with the fewest neighbours.
+    fn cheapest_leg(&self, v: VertexId, some: Qubit, legs: &Choices) -> Qubit
+        requires ready { IsReady (remainder_of self.now) }
+        requires live { Live self.now.graph.graph v }
+        requires some { IsSpareLeg self.now.graph.graph v some }
+        ensures { IsSpareLeg self.now.graph.graph v result }
+    {
+        let ahead = self.gadgets_ahead(legs);
+        let mut best = Candidate::last_resort(some);
+        for q in 0..self.qubits() {
+            if !legs.has(q) || !self.is_spare_leg(v, q) {
+                continue;
+            }
+            let leg = Candidate {
+                qubit: q,
+                cost: self.leg_cost(q, &ahead, legs),
+                beside: self.degree(q),
+            };
+            best = cheaper(best, leg);
+        }
+        best.qubit
+    }
+
+    // Of the legs without an input, the one that is to be left.
     fn spare_leg(&self, v: VertexId) -> Option<Qubit>
         requires ready { IsReady (remainder_of self.now) }
         requires live { Live self.now.graph.graph v }
         ensures some { IfSome result (λ z. IsSpareLeg self.now.graph.graph v z) }
         ensures none { IfNone result (HasNoSpareLeg self.now.graph.graph v) }
     {
-        let mut best: Option<Candidate> = None;
-        for q in 0..self.qubits() {
-            if !self.is_spare_leg(v, q) {
-                continue;
-            }
-            let leg = Candidate {
-                qubit: q,
-                cost: self.degree(q),
-                beside: self.sets(q),
-            };
-            best = Some(cheaper(best, leg));
+        let mut legs = Choices::none();
+        match self.some_leg(v, &mut legs) {
+            Some(leg) if legs.count() > 1 => Some(self.cheapest_leg(v, leg, &legs)),
+            some => some,
         }
-        best.map(|leg| leg.qubit)
     }
 
     // Adds the row of a leg without an input to those of the other legs, so that it alone is left.
