@@ -1,25 +1,24 @@
 -- Rows that are gathered at an output in the flow and by gates alone: the graph is as it would be, but for that
 -- output's own row.
-use Rattle.std.proofs.Common.{◌≡◌, ◌≢◌, refl, sym, ◌∙◌, ap, ap₂, subst, ℕ, ◌+◌, true, false, not, ◌&&◌, eqb, ne_eqb, List, [], ◌∷◌, length}
+use Rattle.std.proofs.Common.{◌≡◌, ◌≢◌, refl, sym, ◌∙◌, ap, ap₂, subst, ℕ, ◌+◌, true, false, not, ◌&&◌, eqb, ne_eqb, List, ◌∷◌, length}
 use Rattle.std.specs.Prelude.{slice_get}
 use Rattle.zx_model.specs.Bits.{xor, member}
-use Rattle.zx_model.proofs.BitLemmas.{xor_comm, xor-false, xor-xor}
+use Rattle.zx_model.proofs.BitLemmas.{xor_comm, xor-false}
 use Rattle.zx_calculus.specs.Graph.{YZ, Graph, ids, kind_of, plane_of, joined, end_vertices, Live, WellFormed}
-use Rattle.zx_calculus.specs.Toggles.{across, IsToggled}
 use Rattle.zx_calculus.specs.Adjacency.{adjacent_graph}
 use Rattle.zx_calculus.specs.Worked.{plain}
 use Rattle.zx_calculus.proofs.Booleans.{and_comm, and-false}
-use Rattle.zx_calculus.proofs.Ids.{by_equal, eqb-self, Symmetric, apart_of_member}
+use Rattle.zx_calculus.proofs.Ids.{by_equal, Symmetric, apart_of_member}
 use Rattle.zx_calculus.proofs.Edges.{joined_comm}
-use Rattle.zx_calculus.proofs.Splitting.{joined-self, joined-absent, no_loop}
+use Rattle.zx_calculus.proofs.Splitting.{joined-absent}
 use Rattle.zx_calculus.proofs.EdgeLists.{OrderedEdges-edges_of, edges_ext}
 use Rattle.zx_calculus.proofs.Programs.{edges_full}
 use Rattle.gflow_laws.specs.Flow.{Correction, SameSets}
 use Rattle.gflow_laws.specs.Outputs.{row_added, row_added_table}
-use Rattle.gflow_laws.proofs.Lists.{is_in-one}
 use Rattle.zx_gates.specs.declared.gate.Gate.TheVariants.{Cx}
 use Rattle.circuit_laws.specs.Peeling.{HasPlainOutput}
 use Rattle.circuit_laws.proofs.Places.{member-places, output_there}
+use Rattle.zx_extract.specs.Internal.FrontGraphs.{IsRowTaken}
 use Rattle.zx_extract.specs.Internal.Lists.{last_set}
 use Rattle.zx_extract.specs.Internal.Leading.{Remainder, IsReady, IsFrontier}
 use Rattle.zx_extract.specs.Internal.Steps.{IsRowAdded, IsSetAdded, HasLast, IsPicked, IsGathered, IsGatheredBesideRow, IsRowReplaced}
@@ -64,6 +63,7 @@ beside_nothing s q r f picked = record {
     gates = refl;
   };
   formed = r.given.well_formed;
+  stays = refl;
 }
 
 module _ (s : Remainder) (q i v : ℕ) (d : Remainder) (b : IsGatheredBesideRow s q i d) (last : HasLast s.table v) where
@@ -132,6 +132,7 @@ module _ (s : Remainder) (q i v : ℕ) (d : Remainder) (b : IsGatheredBesideRow 
         gates = refl;
       };
       formed = subst WellFormed (sym a.graph) b.formed;
+      stays = a.graph ∙ b.stays;
     }
 
 pub set_added : (s : Remainder) (c t u v : ℕ) (table : List Correction) (h : Remainder) → HasPlainOutput s.graph c u →
@@ -148,33 +149,18 @@ set_added s c t u v table h o i sets is = subst (IsSetAdded s c t) (sym is) (rec
 })
 
 -- ---- the row of the output that stays
-pub row_replaced : (s : Remainder) (v q u : ℕ) (one row : List ℕ) (g : Graph) → WellFormed s.graph → HasPlainOutput s.graph q u → one ≡ u ∷ [] →
-    ((w : ℕ) → member w row ≡
-    xor (joined s.graph.edges v w && not (member w (end_vertices s.graph.outputs))) (joined s.graph.edges u w)) →
-    IsToggled s.graph (across one row) g → IsRowReplaced s v q (record { graph = g; table = s.table; gates = s.gates })
-row_replaced s v q u one row g wf o is members toggled = record {
+pub row_replaced : (s : Remainder) (v q u : ℕ) (g : Graph) → HasPlainOutput s.graph q u → IsRowTaken s.graph v u g →
+    IsRowReplaced s v q (record { graph = g; table = s.table; gates = s.gates })
+row_replaced s v q u g o taken = record {
   link = u;
   output = o;
-  row = λ w n. toggled.edges u w (λ e. n (sym e))
-      ∙ ap₂ (λ a b. xor (joined s.graph.edges u w) (xor (a && member w row) (b && member u row)))
-      (in_one u ∙ eqb-self u) (in_one w ∙ ne_eqb w u n)
-      ∙ ap (xor (joined s.graph.edges u w)) (xor-false (member w row) ∙ members w
-      ∙ xor_comm (joined s.graph.edges v w && not (member w (end_vertices s.graph.outputs))) (joined s.graph.edges u w))
-      ∙ xor-xor (joined s.graph.edges u w) (joined s.graph.edges v w && not (member w (end_vertices s.graph.outputs)));
-  others = λ p w m k. by_equal p w
-      (λ _ e. ap (joined g.edges p) (sym e) ∙ joined-self g.edges p toggled.frame.ordered.lower_first
-      ∙ sym (ap (joined s.graph.edges p) (sym e) ∙ no_loop s.graph p wf))
-      (λ _ n. toggled.edges p w n
-      ∙ ap₂ (λ a b. xor (joined s.graph.edges p w) (xor (a && member w row) (b && member p row)))
-      (in_one p ∙ ne_eqb p u m) (in_one w ∙ ne_eqb w u k) ∙ xor-false (joined s.graph.edges p w));
-  vertices = toggled.vertices;
-  frame = toggled.frame;
+  row = taken.row;
+  others = taken.others;
+  vertices = taken.vertices;
+  frame = taken.frame;
   table = refl;
   gates = refl;
 }
-  where
-    in_one : (w : ℕ) → member w one ≡ eqb w u
-    in_one w = ap (member w) is ∙ is_in-one u w
 
 module _ (s : Remainder) (v q : ℕ) (d : Remainder) (b : IsGatheredBesideRow s q (length s.graph.outputs) d)
     (last : HasLast s.table v) (plane : plane_of s.graph v ≡ YZ) where

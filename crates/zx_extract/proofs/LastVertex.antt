@@ -17,10 +17,17 @@ use Rattle.gflow_laws.proofs.LastLaws.{last_listed, last_corrects, last_of_graph
 use Rattle.circuit_laws.specs.Peeling.{HasPlainOutput}
 use Rattle.circuit_laws.proofs.Places.{member-places}
 use Rattle.zx_extract.specs.Internal.Lists.{last_set}
+use Rattle.zx_extract.specs.Internal.FrontGraphs.{AreOutputsApart}
 use Rattle.zx_extract.specs.Internal.Leading.{Remainder, IsReady, IsFrontier}
 use Rattle.zx_extract.specs.Internal.Steps.{HasLast, HasNoOutput, HasOneOutput}
 use Rattle.zx_extract.proofs.Places.{place_of_output, one_vertex}
 use Rattle.zx_extract.proofs.Lasts.{last_set-entry}
+
+pub frontier_apart : {s : Remainder} → IsReady s → IsFrontier s.graph → AreOutputsApart s.graph
+frontier_apart {s} r f u w at_u at_w =
+    let p = place_of_output s.graph.outputs u r.plain at_u in
+    let q = place_of_output s.graph.outputs w r.plain at_w in
+    f.apart p.0 q.0 refl refl u w p.1 q.1
 
 module _ {s : Remainder} {v : ℕ} (r : IsReady s) (f : IsFrontier s.graph) (last : HasLast s.table v) where
   flow : IsFlow s.graph (last.before ++ last.entry ∷ [])

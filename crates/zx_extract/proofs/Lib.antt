@@ -16,6 +16,7 @@ mod Advancing
 mod VertexCalls
 mod Removing
 mod Taking
+mod Fronts
 mod Exchanges
 mod Whole
 pub mod HoldersTables

@@ -139,6 +139,23 @@ module _ (s : Remainder) (v z i : ℕ) (t : Remainder) (c : IsLegShared s v z i 
       at_to = ap (joined t.graph.edges v) (one_vertex t.graph i a.row.to w a.row.output_too o) ∙ near
 
 -- each leg has an input
+pub shared_skip : {s t : Remainder} {v z i : ℕ} → IsLegShared s v z i t → (w : ℕ) → HasPlainOutput t.graph i w →
+    joined t.graph.edges v w ≡ false → IsLegShared s v z (i + 1) t
+shared_skip {s} {t} {v} {z} {i} shared w o off = record {
+  taken = shared.taken;
+  spare = shared.spare;
+  gone = λ p u below n at_u. by_equal p i
+      (λ _ e. ap (joined t.graph.edges v) (one_vertex t.graph i u w (subst (λ k. HasPlainOutput t.graph k u) e at_u) o) ∙ off)
+      (λ _ m. shared.gone p u (omega arith) n at_u);
+}
+
+pub shared_itself : {s t : Remainder} {v z i : ℕ} → IsLegShared s v z i t → i ≡ z → IsLegShared s v z (i + 1) t
+shared_itself {s} {t} {v} {z} {i} shared is = record {
+  taken = shared.taken;
+  spare = shared.spare;
+  gone = λ p u below n at_u. by_equal p i (λ _ e. absurd (n (e ∙ is))) (λ _ m. shared.gone p u (omega arith) n at_u);
+}
+
 pub none_one : (s : Remainder) (v : ℕ) → HasNoSpareLeg s.graph v → HasOneLegOrInputs s.graph v
 none_one s v none z p u spare o near =
     absurd (true≢false (sym (none z spare.leg spare.output spare.near) ∙ spare.no_input))

@@ -1,5 +1,5 @@
 -- What the calls that take the last vertex off ask, and what they make.
-use Rattle.std.proofs.Common.{◌≡◌, refl, sym, ◌∙◌, ap, ap₂, subst, ℕ, Bool, true, false, not, ◌&&◌, ◌||◌, eqb, ne_eqb, List, [], ◌∷◌, ◌++◌, length, remove, set}
+use Rattle.std.proofs.Common.{◌≡◌, refl, sym, ◌∙◌, ap, ap₂, subst, ℕ, Bool, true, false, not, ◌&&◌, ◌||◌, eqb, List, [], ◌∷◌, ◌++◌, length, set}
 use Rattle.std.specs.Prelude.{slice_get}
 use Rattle.zx_model.specs.Bits.{xor, member}
 use Rattle.zx_calculus.specs.Graph.{XY, YZ, Plane, Kind, Graph, is_XY, ids, kind_of, plane_of, joined, end_vertices, without, Live, Interior}
@@ -7,21 +7,19 @@ use Rattle.zx_calculus.specs.Edits.{IsRemoval}
 use Rattle.zx_calculus.specs.Turns.{in_plane}
 use Rattle.zx_calculus.specs.Worked.{plain}
 use Rattle.zx_calculus.proofs.Booleans.{and-false}
-use Rattle.zx_calculus.proofs.Ids.{by_test, eqb-self}
+use Rattle.zx_calculus.proofs.Ids.{by_test}
 use Rattle.zx_calculus.proofs.Splitting.{interior_of}
 use Rattle.gflow_laws.specs.Flow.{Correction, is_in, SameSets}
 use Rattle.gflow_laws.specs.Outputs.{advanced_table, last_removed_table}
 use Rattle.zx_gates.specs.declared.gate.Gate.TheVariants.{H}
 use Rattle.circuit_laws.specs.Gates.{gadget_gates, linked_gadget_gates}
 use Rattle.circuit_laws.specs.Peeling.{HasPlainOutput}
-use Rattle.circuit_laws.proofs.Places.{output_there, absent-remove}
 use Rattle.zx_extract.specs.Internal.Lists.{legs_of}
 use Rattle.zx_extract.specs.Internal.Leading.{Remainder, IsReady, IsFrontier}
 use Rattle.zx_extract.specs.Internal.Steps.{HasLast, HasNoOutput, HasOneOutput, IsButRow, IsGatheredBesideRow, IsAdvanced, IsGadgetTaken, IsLinkedGadgetTaken, AreLegs}
-use Rattle.zx_extract.proofs.Places.{member-places_set}
 use Rattle.zx_extract.proofs.Lasts.{keeps_last}
 use Rattle.zx_extract.proofs.Rows.{gathered_all}
-use Rattle.zx_extract.proofs.LastVertex.{last_live, last_no_output, u_apart, only_neighbour, link_no_input, set_is_XY, set_is_YZ, linked, link_not_adjacent, set_is_itself, neighbours_are_outputs}
+use Rattle.zx_extract.proofs.LastVertex.{last_live, last_no_output, only_neighbour, link_no_input, set_is_XY, set_is_YZ, linked, link_not_adjacent, set_is_itself, neighbours_are_outputs}
 use Rattle.zx_extract.proofs.Legs.{member-legs, legs_differ}
 
 -- ---- the last vertex takes the place of an output
@@ -51,9 +49,14 @@ module _ {s d : Remainder} {v q u : ℕ} (n : IsNext s d v q u) where
   pub next_live : Live d.graph v
   next_live = ap (λ vs. member v (ids vs)) n.alike.vertices ∙ last_live n.ready n.frontier n.last
 
-  pub free : (i : ℕ) → member v (end_vertices (remove d.graph.outputs i)) ≡ false
-  free i = ap (λ es. member v (end_vertices (remove es i))) n.alike.outputs
-      ∙ absent-remove v s.graph.outputs i (last_no_output n.ready n.frontier n.last)
+  pub next_XY : plane_of d.graph v ≡ XY
+  next_XY = ap (λ vs. (kind_of vs v).plane) n.alike.vertices ∙ n.plane
+
+  pub next_no_output : member v (end_vertices d.graph.outputs) ≡ false
+  next_no_output = ap (λ es. member v (end_vertices es)) n.alike.outputs ∙ last_no_output n.ready n.frontier n.last
+
+  pub here_no_input : member u (end_vertices d.graph.inputs) ≡ false
+  here_no_input = ap (λ es. member u (end_vertices es)) n.alike.inputs ∙ link_no_input n.ready n.frontier n.last q n.one n.output
 
   pub advance_set : (before : List Correction) × (e : Correction) × (d.table ≡ before ++ e ∷ []) × ((y : ℕ) →
       is_in e.members y ≡ eqb y u)
@@ -61,22 +64,6 @@ module _ {s d : Remainder} {v q u : ℕ} (n : IsNext s d v q u) where
 
   -- the output moved to v
   module _ {g : Graph} (moved : g ≡ record d.graph { outputs = set d.graph.outputs q (plain v) }) where
-    pub spider_live : Live g u
-    spider_live = ap (λ (h : Graph). member u (ids h.vertices)) moved
-        ∙ ap (λ vs. member u (ids vs)) n.alike.vertices ∙ output_there s.graph q (plain u) n.ready.given.well_formed n.output
-
-    pub spider_interior : Interior g u
-    spider_interior = record {
-      no_input = ap (λ (h : Graph). member u (end_vertices h.inputs)) moved
-          ∙ ap (λ es. member u (end_vertices es)) n.alike.inputs ∙ link_no_input n.ready n.frontier n.last q n.one n.output;
-      no_output = ap (λ (h : Graph). member u (end_vertices h.outputs)) moved
-          ∙ ap (λ es. member u (end_vertices (set es q (plain v)))) n.alike.outputs
-          ∙ member-places_set s.graph.outputs q u v u n.ready.given.well_formed.outputs.one_each n.output
-          ∙ ap₂ (λ a b. a || (member u (end_vertices s.graph.outputs) && not b))
-          (ne_eqb u v (u_apart n.ready n.frontier n.last q n.one n.output)) (eqb-self u)
-          ∙ and-false (member u (end_vertices s.graph.outputs));
-    }
-
     pub advanced_step : {h : Graph} {table : List Correction} {t : Remainder} →
         IsRemoval g u h → ((before : List Correction) (e : Correction) → d.table ≡ before ++ e ∷ [] →
         SameSets table (advanced_table u before)) →

@@ -2,6 +2,7 @@
 -- crate.
 pub mod Choosing
 pub mod Extracted
+pub mod FrontGraphs
 pub mod Frontiers
 pub mod Holders
 pub mod Leading

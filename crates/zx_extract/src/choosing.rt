@@ -19,16 +19,6 @@ pub(crate) struct Candidate {
 }
 
 impl Frontier {
-    // How many neighbours the vertex of an output has.
-    pub(crate) fn degree(&self, q: Qubit) -> usize
-        requires ready { IsReady (remainder_of self.now) }
-        requires on_wires { q < length self.now.graph.graph.outputs }
-        ensures { (u : ℕ) → HasPlainOutput self.now.graph.graph q u →
-            result ≡ length (neighbours self.now.graph.graph u) }
-    {
-        self.graph.degree(self.present(q))
-    }
-
     // In how many correction sets the vertex of an output stands.
     pub(crate) fn sets(&self, q: Qubit) -> usize
         requires ready { IsReady (remainder_of self.now) }

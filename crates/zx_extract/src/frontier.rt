@@ -13,8 +13,9 @@ ghost use Rattle.zx_extract.specs.Internal.Lists.{IsPlainAt};
 ghost use Rattle.zx_extract.specs.Internal.Steps.{IsPhaseTaken, IsUnjoined, IsRowAdded, IsSetAdded};
 ghost use Rattle.zx_extract.specs.Internal.Frontiers.{remainder_of};
 
+use crate::front_graph::FrontGraph;
 use crate::holders::Holders;
-use open_graph::{End, OpenGraph, Plane, VertexId, VertexSet};
+use open_graph::{End, OpenGraph, VertexId};
 use std::alloc::{AllocError, Global};
 use zx_flow::Flow;
 use zx_gates::{Gate, Qubit};
@@ -24,7 +25,7 @@ use zx_model::Sixteenth;
 #[derive(Drop)]
 pub(crate) struct Frontier {
     pub(crate) alloc: Global,
-    pub(crate) graph: OpenGraph,
+    pub(crate) graph: FrontGraph,
     pub(crate) flow: Holders,
     pub(crate) gates: Vec<Gate>,
 }
@@ -41,6 +42,7 @@ impl Frontier {
         ensures graph { IfOk result (λ f. f.graph.graph ≡ graph.graph) }
         ensures gates { IfOk result (λ f. f.gates.items ≡ []) }
     {
+        let graph = FrontGraph::of_graph(alloc, graph)?;
         let flow = Holders::of_flow(alloc, flow)?;
         Ok(Frontier {
             alloc,
@@ -123,7 +125,7 @@ impl Frontier {
             return Ok(());
         }
         self.graph
-            .move_output(usize::from(q), End::plain(output.vertex));
+            .set_output(usize::from(q), End::plain(output.vertex));
         self.write(Gate::H(q))
     }
 
@@ -168,8 +170,7 @@ impl Frontier {
     {
         let added = self.present(c);
         let to = self.present(t);
-        let row = self.graph.neighbour_set(added).clone()?;
-        toggle_edges(self.alloc, &mut self.graph, to, &row)?;
+        self.graph.add_row(added, to)?;
         self.flow.add_row(added, to)?;
         self.write_cx(t, c)
     }
@@ -189,20 +190,4 @@ impl Frontier {
             target: c,
         })
     }
-}
-
-// Toggles the edges between a vertex and those of a set. Where memory runs out, the graph may be any.
-pub(crate) fn toggle_edges(
-    alloc: Global,
-    graph: &mut OpenGraph,
-    v: VertexId,
-    others: &VertexSet,
-) -> Result<(), AllocError>
-    requires live { Live graph.old.graph v }
-    requires others_live { (w : ℕ) → member w others.now.ids ≡ true → Live graph.old.graph w }
-    ensures { OnOk result
-        (IsToggled graph.old.graph (across (v ∷ []) others.now.ids) graph.new.graph) }
-{
-    let one = VertexSet::one(alloc, v)?;
-    graph.toggle_across(&one, others)
 }

@@ -5,6 +5,7 @@ ghost use Rattle.zx_model.specs.Bits.{member, xor};
 ghost use Rattle.zx_calculus.specs.Graph.{end_vertices, joined, plane_of, Live, WellFormed};
 ghost use Rattle.zx_calculus.specs.Graph as zx;
 ghost use Rattle.circuit_laws.specs.Peeling.{HasPlainOutput, are_plain};
+ghost use Rattle.zx_extract.specs.Internal.FrontGraphs.{AreOutputsApart};
 ghost use Rattle.zx_extract.specs.Internal.Frontiers.{remainder_of};
 ghost use Rattle.zx_extract.specs.Internal.Leading.{IsReady, IsFrontier};
 ghost use Rattle.zx_extract.specs.Internal.Lists.{last_set};
@@ -12,8 +13,8 @@ ghost use Rattle.zx_extract.specs.Internal.Steps.{HasLast, IsPicked, HasNoOutput
 
 use crate::ahead::{Ahead, Choices, EVEN, MOST_AHEAD};
 use crate::choosing::{Candidate, cheaper};
-use crate::frontier::{Frontier, toggle_edges};
-use open_graph::{End, OpenGraph, VertexId, VertexSet};
+use crate::frontier::Frontier;
+use open_graph::VertexId;
 use std::alloc::AllocError;
 use zx_gates::Qubit;
 
@@ -92,8 +93,8 @@ impl Frontier {
         some
     }
 
-    // Of these outputs those in the last set are the choices, of which one is known: one after whose choice the next sets
-    // have the fewest outputs, and of these one that stands in the fewest sets.
+    // Of these outputs those in the last set are the choices, of which one is known: one after whose choice the next
+    // sets have the fewest outputs, and of these one that stands in the fewest sets.
     fn cheapest_member(&self, some: Qubit, members: &Choices) -> Qubit
         requires ready { IsReady (remainder_of self.now) }
         requires last { (v : ℕ) × HasLast self.now.flow.flow v }
@@ -151,15 +152,15 @@ impl Frontier {
 
     // Gives the vertex of an output the neighbours of v that aren't outputs, in place of its own.
     fn replace_row(&mut self, v: VertexId, t: Qubit) -> Result<(), AllocError>
-        requires formed { WellFormed self.old.graph.graph }
         requires plain { are_plain self.old.graph.graph.outputs ≡ true }
         requires live { Live self.old.graph.graph v }
+        requires no_output { member v (end_vertices self.old.graph.graph.outputs) ≡ false }
+        requires apart { AreOutputsApart self.old.graph.graph }
         requires on_wires { t < length self.old.graph.graph.outputs }
         ensures { OnOk result (IsRowReplaced (remainder_of self.old) v t (remainder_of self.new)) }
     {
         let link = self.present(t);
-        let change = row_change(&self.graph, v, link)?;
-        toggle_edges(self.alloc, &mut self.graph, link, &change)
+        self.graph.replace_row(v, link)
     }
 
     // Gathers the set of a gadget at an output, whose row is then that of the gadget without its
@@ -176,34 +177,4 @@ impl Frontier {
         self.gather_sets(t)?;
         self.replace_row(v, t)
     }
-}
-
-// What the neighbours of v that aren't outputs differ in from those of another vertex.
-fn row_change(g: &OpenGraph, v: VertexId, link: VertexId) -> Result<VertexSet, AllocError>
-    requires live { Live g.now.graph v }
-    requires link_live { Live g.now.graph link }
-    ensures members { IfOk result (λ change. (w : ℕ) → member w change.ids ≡
-        xor (joined g.now.graph.edges v w && not (member w (end_vertices g.now.graph.outputs)))
-        (joined g.now.graph.edges link w)) }
-    ensures live { IfOk result (λ change. (w : ℕ) → member w change.ids ≡ true → Live g.now.graph w) }
-{
-    let row = g.neighbour_set(v).clone()?;
-    let mut change = without_ends(row, g.outputs())?;
-    change.toggle_all(g.neighbour_set(link))?;
-    Ok(change)
-}
-
-// A set without the vertices of ends.
-fn without_ends(set: VertexSet, ends: &[End]) -> Result<VertexSet, AllocError>
-    ensures { IfOk result (λ left. (w : ℕ) → member w left.ids ≡
-        (member w set.ids && not (member w (end_vertices ends.now)))) }
-{
-    let mut left = set;
-    for end in ends {
-        if !left.contains(end.vertex) {
-            continue;
-        }
-        left.toggle(end.vertex)?;
-    }
-    Ok(left)
 }

@@ -14,6 +14,7 @@
 //!   method ensures that it takes the one step of its gates.
 //! - `holders`: the flow turned over: of each vertex, in which correction sets it stands.
 //! - `settling`: outputs made plain, of phase 0 and without edges among themselves.
+//! - `front_graph`: the graph, with rows of its outputs.
 //! - `gathering`: rows added until one output has the neighbours that the last vertex needs.
 //! - `sharing`: rows of a gadget's legs added until one leg is left.
 //! - `gadgets`: phase gadgets.
@@ -36,6 +37,7 @@ mod choosing;
 mod crossing;
 mod extraction;
 mod few_rows;
+mod front_graph;
 mod frontier;
 mod gadgets;
 mod gathering;

@@ -20,11 +20,12 @@ impl Frontier {
     pub(crate) fn legs(&self, v: VertexId) -> Result<Vec<Qubit>, AllocError>
         requires ready { IsReady (remainder_of self.now) }
         requires live { Live self.now.graph.graph v }
+        requires inner { member v (end_vertices self.now.graph.graph.outputs) ≡ false }
         ensures { IfOk result (λ qubits. AreLegs self.now.graph.graph v qubits.items) }
     {
         let mut legs = Vec::new(self.alloc);
         for q in 0..self.qubits() {
-            if !self.graph.has_edge(v, self.present(q)) {
+            if !self.graph.has(self.present(q), v) {
                 continue;
             }
             legs.push(q)?;
@@ -36,6 +37,7 @@ impl Frontier {
     fn is_spare_leg(&self, v: VertexId, q: Qubit) -> bool
         requires ready { IsReady (remainder_of self.now) }
         requires live { Live self.now.graph.graph v }
+        requires inner { member v (end_vertices self.now.graph.graph.outputs) ≡ false }
         requires on_wires { q < length self.now.graph.graph.outputs }
         ensures yes { result ≡ true → IsSpareLeg self.now.graph.graph v q }
         ensures no { (u : ℕ) → result ≡ false → HasPlainOutput self.now.graph.graph q u →
@@ -43,7 +45,7 @@ impl Frontier {
             member u (end_vertices self.now.graph.graph.inputs) ≡ true }
     {
         let leg = self.present(q);
-        self.graph.has_edge(v, leg) && self.graph.input_at(leg).is_none()
+        self.graph.has(leg, v) && !self.graph.has_input(leg)
     }
 
     // Counts an output, which is a leg, at each of the next gadgets that has it.
@@ -54,15 +56,15 @@ impl Frontier {
         let leg = self.present(q);
         for place in 0..MOST_AHEAD {
             match ahead.vertex(place) {
-                Some(y) if self.graph.has_edge(leg, y) => ahead.add(place),
+                Some(y) if self.graph.has(leg, y) => ahead.add(place),
                 Some(_) => {}
                 None => break,
             }
         }
     }
 
-    // How many legs the next gadgets have in sum once an output is left of these legs, but for a number that is the same
-    // for each.
+    // How many legs the next gadgets have in sum once an output is left of these legs, but for a number that is the
+    // same for each.
     fn leg_cost(&self, q: Qubit, ahead: &Ahead, legs: &Choices) -> usize
         requires ready { IsReady (remainder_of self.now) }
         requires on_wires { q < length self.now.graph.graph.outputs }
@@ -71,7 +73,7 @@ impl Frontier {
         let mut cost = EVEN;
         for place in 0..MOST_AHEAD {
             match ahead.vertex(place) {
-                Some(y) if self.graph.has_edge(leg, y) => cost = ahead.cost(cost, place, legs),
+                Some(y) if self.graph.has(leg, y) => cost = ahead.cost(cost, place, legs),
                 Some(_) => {}
                 None => break,
             }
@@ -96,12 +98,13 @@ impl Frontier {
     fn some_leg(&self, v: VertexId, legs: &mut Choices) -> Option<Qubit>
         requires ready { IsReady (remainder_of self.now) }
         requires live { Live self.now.graph.graph v }
+        requires inner { member v (end_vertices self.now.graph.graph.outputs) ≡ false }
         ensures some { IfSome result (λ z. IsSpareLeg self.now.graph.graph v z) }
         ensures none { IfNone result (HasNoSpareLeg self.now.graph.graph v) }
     {
         let mut some = None;
         for q in 0..self.qubits() {
-            if self.graph.has_edge(v, self.present(q)) {
+            if self.graph.has(self.present(q), v) {
                 legs.add(q);
             }
             if self.is_spare_leg(v, q) {
@@ -111,11 +114,12 @@ impl Frontier {
         some
     }
 
-    // Of these legs those without an input are the choices, of which one is known: one after whose choice the next gadgets
-    // have the fewest legs, and of these one with the fewest neighbours.
+    // Of these legs those without an input are the choices, of which one is known: one after whose choice the next
+    // gadgets have the fewest legs, and of these one with the fewest neighbours.
     fn cheapest_leg(&self, v: VertexId, some: Qubit, legs: &Choices) -> Qubit
         requires ready { IsReady (remainder_of self.now) }
         requires live { Live self.now.graph.graph v }
+        requires inner { member v (end_vertices self.now.graph.graph.outputs) ≡ false }
         requires some { IsSpareLeg self.now.graph.graph v some }
         ensures { IsSpareLeg self.now.graph.graph v result }
     {
@@ -128,7 +132,7 @@ impl Frontier {
             let leg = Candidate {
                 qubit: q,
                 cost: self.leg_cost(q, &ahead, legs),
-                beside: self.degree(q),
+                beside: self.graph.degree(self.present(q)),
             };
             best = cheaper(best, leg);
         }
@@ -139,6 +143,7 @@ impl Frontier {
     fn spare_leg(&self, v: VertexId) -> Option<Qubit>
         requires ready { IsReady (remainder_of self.now) }
         requires live { Live self.now.graph.graph v }
+        requires inner { member v (end_vertices self.now.graph.graph.outputs) ≡ false }
         ensures some { IfSome result (λ z. IsSpareLeg self.now.graph.graph v z) }
         ensures none { IfNone result (HasNoSpareLeg self.now.graph.graph v) }
     {
@@ -160,7 +165,10 @@ impl Frontier {
             (length self.old.graph.graph.outputs) (remainder_of self.new)) }
     {
         for q in 0..self.qubits() {
-            if q == z || !self.graph.has_edge(v, self.present(q)) {
+            if q == z {
+                continue;
+            }
+            if !self.graph.has(self.present(q), v) {
                 continue;
             }
             self.add_row(z, q)?;

@@ -8,7 +8,7 @@ ghost use Rattle.zx_extract.specs.Internal.Leading.{Remainder, IsReady, IsFronti
 ghost use Rattle.zx_extract.specs.Internal.Steps.{HasLast, IsPicked, IsGathered, HasNoOutput, HasOneOutput, IsAdvanced, IsGadgetTaken, IsLinkedGadgetTaken, AreLegs};
 
 use crate::frontier::Frontier;
-use open_graph::{End, Plane, VertexId};
+use open_graph::{Plane, VertexId};
 use std::alloc::AllocError;
 use zx_gates::{Gate, Qubit};
 
@@ -27,8 +27,7 @@ impl Frontier {
     {
         self.gather_sets(q)?;
         let here = self.present(q);
-        self.graph.move_output(usize::from(q), End::plain(v));
-        self.graph.remove_vertex(here);
+        self.graph.move_output(usize::from(q), here, v)?;
         self.flow.advance(here);
         self.write(Gate::H(q))
     }
@@ -46,7 +45,7 @@ impl Frontier {
     {
         let (_plane, phase) = self.graph.weight(v);
         let legs = self.legs(v)?;
-        self.graph.remove_vertex(v);
+        self.graph.remove_vertex(v)?;
         self.flow.take_alone();
         self.write_gadget(phase, &legs)
     }
@@ -66,7 +65,7 @@ impl Frontier {
         let (_plane, phase) = self.graph.weight(v);
         let legs = self.legs(v)?;
         let link = self.present(q);
-        self.graph.remove_vertex(v);
+        self.graph.remove_vertex(v)?;
         self.flow.take_linked(link)?;
         self.write_linked_gadget(phase, q, &legs)
     }

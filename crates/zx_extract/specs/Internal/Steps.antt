@@ -104,6 +104,7 @@ pub record IsGatheredBesideRow (s : Remainder) (q i : ℕ) (t : Remainder) : Typ
   pub gathered : IsGathered s q i whole
   pub alike : IsButRow whole q t
   pub formed : WellFormed t.graph
+  pub stays : t.graph ≡ s.graph
 
 -- the vertex at the output q has those neighbours of v that aren't outputs, in place of its own
 pub record IsRowReplaced (s : Remainder) (v q : ℕ) (t : Remainder) : Type 0 where

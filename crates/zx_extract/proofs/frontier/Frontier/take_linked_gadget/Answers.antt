@@ -2,7 +2,7 @@
 use Rattle.std.proofs.Common.{sym, subst}
 use Rattle.std.proofs.lemmas.Result.{on_ok_weaker}
 use Rattle.zx_extract.specs.Internal.Steps.{AreLegs}
-use Rattle.zx_extract.proofs.LastVertex.{last_live}
+use Rattle.zx_extract.proofs.LastVertex.{last_live, last_no_output}
 use Rattle.zx_extract.proofs.VertexCalls.{gadget_interior, linked_set, linked_step}
 use Rattle.zx_extract.proofs.frontier.Frontier.take_linked_gadget.Goals as goal
 
@@ -11,6 +11,9 @@ weight-plane-requires c = last_live c.requires.ready c.requires.frontier c.requi
 
 pub legs-requires-clause-live : goal.legs-requires-clause-live
 legs-requires-clause-live c = last_live c.requires.ready c.requires.frontier c.requires.last
+
+pub legs-requires-clause-inner : goal.legs-requires-clause-inner
+legs-requires-clause-inner c = last_no_output c.requires.ready c.requires.frontier c.requires.last
 
 pub remove_vertex-requires : goal.remove_vertex-requires
 remove_vertex-requires c = record {
@@ -29,6 +32,6 @@ returns c =
       c.deref.result.now,
       legs,
       linked_step c.args.q c.requires.ready c.requires.frontier c.requires.last c.requires.plane c.requires.gathered
-          c.present-link.ensures legs c.weight-plane.ensures.value c.remove_vertex.ensures.ok
+          c.present-link.ensures legs c.weight-plane.ensures.value c.in_ok-remove_vertex.ensures
           c.in_ok-take_linked.ensures written,
     )) c.write_linked_gadget.ensures

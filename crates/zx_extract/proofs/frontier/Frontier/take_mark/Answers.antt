@@ -1,5 +1,6 @@
 -- The step that the moved output is.
 use Rattle.std.proofs.Common.{◌≡◌, ◌∙◌, sym, ap, ap₂, set, remove, arith}
+use Rattle.std.specs.Prelude.{slice_get}
 use Rattle.zx_model.specs.Bits.{member}
 use Rattle.zx_calculus.specs.Graph.{End, ids, plane_of, end_vertices}
 use Rattle.zx_calculus.specs.Worked.{plain}
@@ -27,23 +28,30 @@ returns-then-not-output-clause-plain c =
 end_is : (c : After-plain) → c.plain.result ≡ plain c.output-output.result.vertex
 end_is c = c.plain.ensures ∙ ap (λ (e : End). plain e.vertex) c.output.view_is
 
-pub move_output-requires-clause-live : goal.move_output-requires-clause-live
-move_output-requires-clause-live c =
+pub set_output-requires-clause-same : goal.set_output-requires-clause-same
+set_output-requires-clause-same c = (
+  c.output-output.result,
+  ap (slice_get c.args.self.now.graph.graph.outputs) c.from.ensures ∙ c.output-output.ensures,
+  sym (ap (λ (e : End). e.vertex) (end_is (goal.at.set_output-requires-clause-same c).After-plain)),
+)
+
+pub set_output-requires-clause-live : goal.set_output-requires-clause-live
+set_output-requires-clause-live c =
     let g = c.args.self.now.graph.graph in
-    ap (λ (e : End). member e.vertex (ids g.vertices)) (end_is (goal.at.move_output-requires-clause-live c).After-plain)
+    ap (λ (e : End). member e.vertex (ids g.vertices)) (end_is (goal.at.set_output-requires-clause-live c).After-plain)
     ∙ output_there g c.args.q c.output-output.result c.requires.given.well_formed c.output-output.ensures
 
-pub move_output-requires-clause-plane : goal.move_output-requires-clause-plane
-move_output-requires-clause-plane c =
+pub set_output-requires-clause-plane : goal.set_output-requires-clause-plane
+set_output-requires-clause-plane c =
     let g = c.args.self.now.graph.graph in
-    ap (λ (e : End). plane_of g e.vertex) (end_is (goal.at.move_output-requires-clause-plane c).After-plain)
+    ap (λ (e : End). plane_of g e.vertex) (end_is (goal.at.set_output-requires-clause-plane c).After-plain)
     ∙ output_plane g c.args.q c.output-output.result c.requires.given.well_formed c.output-output.ensures
 
-pub move_output-requires-clause-free : goal.move_output-requires-clause-free
-move_output-requires-clause-free c =
+pub set_output-requires-clause-free : goal.set_output-requires-clause-free
+set_output-requires-clause-free c =
     let es = c.args.self.now.graph.graph.outputs in
     ap₂ (λ (e : End) i. member e.vertex (end_vertices (remove es i)))
-    (end_is (goal.at.move_output-requires-clause-free c).After-plain) c.from.ensures
+    (end_is (goal.at.set_output-requires-clause-free c).After-plain) c.from.ensures
     ∙ once_removed es c.args.q c.output-output.result c.requires.given.well_formed.outputs.one_each
     c.output-output.ensures
 
@@ -51,7 +59,7 @@ pub returns : goal.returns
 returns c =
     let g = c.args.self.now.graph.graph in
     let had = ap (λ (e : End). e.hadamard) (sym c.output.view_is) ∙ not-false c.output.inside.hadamard c.if-not-output.false in
-    let moved = c.move_output.ensures.ok ∙ ap₂ (λ i e. record g { outputs = set g.outputs i e }) c.from.ensures
+    let moved = c.set_output.ensures.ok ∙ ap₂ (λ i e. record g { outputs = set g.outputs i e }) c.from.ensures
     (end_is (goal.at.returns c).After-plain) in
     let step = on_ok_weaker c.write.result (unmarked c.requires.given c.output-output.ensures had moved) c.write.ensures in
     record {

@@ -4,7 +4,7 @@ use Rattle.std.proofs.lemmas.List.{take_all}
 use Rattle.zx_model.specs.Bits.{member}
 use Rattle.zx_calculus.specs.Graph.{End, end_vertices}
 use Rattle.zx_extract.proofs.Places.{ends_out_more, out_toggled, out_already}
-use Rattle.zx_extract.proofs.gathering.without_ends.Goals as goal
+use Rattle.zx_extract.proofs.front_graph.without_ends.Goals as goal
 
 pub loop-end-preserved-then-not-contains : goal.loop-end-preserved-then-not-contains
 loop-end-preserved-then-not-contains c = ends_out_more c.args.ends.now c.loop-end.end-index c.end-item.result
