@@ -4,4 +4,5 @@ pub mod Maps
 pub mod GateLines
 pub mod Continuing
 pub mod WrittenLemmas
+pub mod Naming
 pub mod LineScalars

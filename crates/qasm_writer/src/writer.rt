@@ -6,6 +6,7 @@ ghost use Rattle.qasm_writer.specs.Elements.{elements_of};
 ghost use Rattle.qasm_scope.specs.Texts.{TextMeans};
 ghost use Rattle.qasm_writer.specs.Measuring.{AreBehind};
 ghost use Rattle.qasm_writer.specs.Written.{written, bit, bits_line, gate_line, measure_line, on_one, on_two, qubit, phase_name, u1_name, register_line};
+ghost use Rattle.qasm_writer.specs.Internal.Names.{AreNames};
 
 use itoa::Buffer;
 use std::alloc::{AllocError, Global};
@@ -35,8 +36,9 @@ pub fn write_text(
     text.extend_from_slice(b"OPENQASM 2.0;\ninclude \"qelib1.inc\";\n")?;
     push_register(&mut text, g.qubits())?;
     push_bits(&mut text, bits)?;
+    let names = qubit_names(alloc, g.qubits())?;
     for gate in g.gates() {
-        push_gate(&mut text, *gate)?;
+        push_gate(&mut text, &names, *gate)?;
     }
     push_measures(&mut text, measured)?;
     Ok(text)
@@ -67,19 +69,33 @@ fn push_bits(text: &mut Vec<u8>, bits: u32) -> Result<(), AllocError>
 }
 
 // Adds the line of a gate.
-fn push_gate(text: &mut Vec<u8>, gate: Gate) -> Result<(), AllocError>
+fn push_gate(text: &mut Vec<u8>, names: &[Vec<u8>], gate: Gate) -> Result<(), AllocError>
+    requires { AreNames names.now }
     ensures { OnOk result (text.new.items ≡ text.old.items ++ gate_line gate) }
 {
     match gate {
-        Gate::H(q) => push_on_one(text, b"h", q),
+        Gate::H(q) => push_on_one(text, names, b"h", q),
         Gate::Phase(q, phase) => {
             push_phase_name(text, phase)?;
-            push_operand(text, q)
+            push_operand(text, names, q)
         }
-        Gate::Cz(q, r) => push_on_two(text, b"cz", q, r),
-        Gate::Cx { control, target } => push_on_two(text, b"cx", control, target),
-        Gate::Not(q) => push_on_one(text, b"x", q),
+        Gate::Cz(q, r) => push_on_two(text, names, b"cz", q, r),
+        Gate::Cx { control, target } => push_on_two(text, names, b"cx", control, target),
+        Gate::Not(q) => push_on_one(text, names, b"x", q),
     }
+}
+
+// The qubits of the register as they are written, by number.
+fn qubit_names(alloc: Global, qubits: Qubit) -> Result<Vec<Vec<u8>>, AllocError>
+    ensures { IfOk result (λ names. AreNames names.items) }
+{
+    let mut names = Vec::new(alloc);
+    for q in 0..qubits {
+        let mut name = Vec::new(alloc);
+        push_qubit(&mut name, q)?;
+        names.push(name)?;
+    }
+    Ok(names)
 }
 
 // Adds the name of a phase gate.
@@ -121,33 +137,58 @@ fn push_u1(text: &mut Vec<u8>, turns: u8) -> Result<(), AllocError>
 }
 
 // Adds the line of a gate on one qubit.
-fn push_on_one(text: &mut Vec<u8>, name: &[u8], q: Qubit) -> Result<(), AllocError>
+fn push_on_one(
+    text: &mut Vec<u8>,
+    names: &[Vec<u8>],
+    name: &[u8],
+    q: Qubit,
+) -> Result<(), AllocError>
+    requires { AreNames names.now }
     ensures { OnOk result (text.new.items ≡ text.old.items ++ on_one name.now q) }
 {
     text.extend_from_slice(name)?;
-    push_operand(text, q)
+    push_operand(text, names, q)
 }
 
 // Adds what stands behind the name of a gate on one qubit.
-fn push_operand(text: &mut Vec<u8>, q: Qubit) -> Result<(), AllocError>
+fn push_operand(text: &mut Vec<u8>, names: &[Vec<u8>], q: Qubit) -> Result<(), AllocError>
+    requires { AreNames names.now }
     ensures { OnOk result
         (text.new.items ≡ text.old.items ++ codes " " ++ qubit q ++ codes ";\n") }
 {
     text.extend_from_slice(b" ")?;
-    push_qubit(text, q)?;
+    push_name(text, names, q)?;
     text.extend_from_slice(b";\n")
 }
 
 // Adds the line of a gate on two qubits.
-fn push_on_two(text: &mut Vec<u8>, name: &[u8], q: Qubit, r: Qubit) -> Result<(), AllocError>
+fn push_on_two(
+    text: &mut Vec<u8>,
+    names: &[Vec<u8>],
+    name: &[u8],
+    q: Qubit,
+    r: Qubit,
+) -> Result<(), AllocError>
+    requires { AreNames names.now }
     ensures { OnOk result (text.new.items ≡ text.old.items ++ on_two name.now q r) }
 {
     text.extend_from_slice(name)?;
     text.extend_from_slice(b" ")?;
-    push_qubit(text, q)?;
+    push_name(text, names, q)?;
     text.extend_from_slice(b",")?;
-    push_qubit(text, r)?;
+    push_name(text, names, r)?;
     text.extend_from_slice(b";\n")
+}
+
+// Adds a qubit, as it was written before.
+fn push_name(text: &mut Vec<u8>, names: &[Vec<u8>], q: Qubit) -> Result<(), AllocError>
+    requires { AreNames names.now }
+    ensures { OnOk result (text.new.items ≡ text.old.items ++ qubit q) }
+{
+    match names.get(usize::from(q)) {
+        Some(name) => text.extend_from_slice(name),
+        None => push_qubit(text, q),
+    }
 }
 
 // Adds a qubit of the register.
