@@ -6,7 +6,6 @@
 use std::alloc::{AllocError, Global};
 use std::process::Abort;
 use std::rt::HostRuntime;
-use std::test::Fail;
 use zx_gates::{Gate, GateList, Qubit};
 use zx_identities::is_identity;
 use zx_model::Sixteenth;
@@ -92,7 +91,7 @@ fn is_nothing(
 }
 
 #[test]
-fn fifteen_eighths_of_four_qubits(rt: HostRuntime) -> Result<(), Fail> {
+fn fifteen_eighths_of_four_qubits(rt: HostRuntime) -> Result<(), AllocError> {
     let alloc = rt.alloc();
     assert!(rt; is_nothing(alloc, 4, (1, 16), 2)?);
     assert!(rt; is_nothing(alloc, 4, (1, 16), 14)?);
@@ -103,7 +102,7 @@ fn fifteen_eighths_of_four_qubits(rt: HostRuntime) -> Result<(), Fail> {
 }
 
 #[test]
-fn sixteen_eighths_of_an_affine_flat(rt: HostRuntime) -> Result<(), Fail> {
+fn sixteen_eighths_of_an_affine_flat(rt: HostRuntime) -> Result<(), AllocError> {
     let alloc = rt.alloc();
     assert!(rt; is_nothing(alloc, 5, (16, 32), 2)?);
     assert!(rt; !is_nothing(alloc, 5, (16, 32), 1)?);
@@ -113,7 +112,7 @@ fn sixteen_eighths_of_an_affine_flat(rt: HostRuntime) -> Result<(), Fail> {
 }
 
 #[test]
-fn thirty_one_sixteenths_of_five_qubits(rt: HostRuntime) -> Result<(), Fail> {
+fn thirty_one_sixteenths_of_five_qubits(rt: HostRuntime) -> Result<(), AllocError> {
     let alloc = rt.alloc();
     assert!(rt; is_nothing(alloc, 5, (1, 32), 1)?);
     assert!(rt; !is_nothing(alloc, 4, (1, 16), 1)?);
@@ -131,7 +130,7 @@ fn is_nothing_with(alloc: Global, gates: &[Gate]) -> Result<bool, AllocError> {
 }
 
 #[test]
-fn one_gate_more_is_seen(rt: HostRuntime) -> Result<(), Fail> {
+fn one_gate_more_is_seen(rt: HostRuntime) -> Result<(), AllocError> {
     let alloc = rt.alloc();
     assert!(rt; is_nothing_with(alloc, &[])?);
     assert!(rt; !is_nothing_with(alloc, &[Gate::Cz(0, 1)])?);
@@ -149,7 +148,7 @@ fn one_gate_more_is_seen(rt: HostRuntime) -> Result<(), Fail> {
 }
 
 #[test]
-fn a_phase_behind_a_not(rt: HostRuntime) -> Result<(), Fail> {
+fn a_phase_behind_a_not(rt: HostRuntime) -> Result<(), AllocError> {
     let alloc = rt.alloc();
     let t = Gate::Phase(0, Sixteenth::new(2));
     let back = Gate::Phase(0, Sixteenth::new(14));
@@ -171,7 +170,7 @@ fn many_phases(alloc: Global, last: u8) -> Result<bool, AllocError> {
 }
 
 #[test]
-fn many_qubits(rt: HostRuntime) -> Result<(), Fail> {
+fn many_qubits(rt: HostRuntime) -> Result<(), AllocError> {
     let alloc = rt.alloc();
     assert!(rt; many_phases(alloc, 2)?);
     assert!(rt; !many_phases(alloc, 4)?);
