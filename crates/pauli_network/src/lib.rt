@@ -21,4 +21,6 @@ mod proposing;
 mod scores;
 mod strings;
 
+pub use frame::Frame;
 pub use proposing::{circuit_of, inverse, propose, rewrite};
+pub use strings::{Letter, PauliString};

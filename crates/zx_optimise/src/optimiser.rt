@@ -9,10 +9,14 @@ ghost use Rattle.zx_optimise.specs.Internal.Candidates.{is_dearer, most_whole_ro
 
 use std::alloc::{AllocError, Global};
 use zx_gates::{Counts, GateList, Qubit, ScaledCircuit, counts};
+use zx_identities::with_fewer_odd_phases;
 use zx_peephole::tidy;
 use zx_pieces::shrink;
 use zx_simplify::simplify_circuit;
 use zx_teleport::teleport;
+
+// How many gates on two qubits an odd phase less may cost.
+const MOST_EACH: u64 = 20;
 
 /// The optimised circuit, and the scalar that the read one's linear map is times its own: it has no more odd
 /// phases, and few gates for these and its qubits.
@@ -118,7 +122,30 @@ fn beside_teleported(
 {
     let teleported = teleported(alloc, read)?;
     let shrunk = shrunk(alloc, &teleported)?;
-    Ok(cheaper(read, cheaper(read, best, teleported), shrunk))
+    let fewer = fewer(alloc, &teleported)?;
+    let best = cheaper(read, cheaper(read, best, teleported), shrunk);
+    match fewer {
+        Some(fewer) if is_worth_it(&best.gates, &fewer.gates) => Ok(cheaper(read, best, fewer)),
+        _ => Ok(best),
+    }
+}
+
+// Whether each odd phase that another circuit has less costs at most `MOST_EACH` gates on two qubits.
+fn is_worth_it(this: &GateList, that: &GateList) -> bool {
+    let (this, that) = (counts(this), counts(that));
+    let saved = this.odd.saturating_sub(that.odd);
+    that.two_qubit <= this.two_qubit.saturating_add(saved.saturating_mul(MOST_EACH))
+}
+
+// The candidate with fewer odd phases by phases put in that do nothing together, if one is found.
+fn fewer(alloc: Global, candidate: &ScaledCircuit) -> Result<Option<ScaledCircuit>, AllocError> {
+    let Some(made) = with_fewer_odd_phases(alloc, &candidate.gates)? else {
+        return Ok(None);
+    };
+    Ok(Some(ScaledCircuit {
+        gates: made.gates,
+        scalar: candidate.scalar.times(made.scalar),
+    }))
 }
 
 // The circuit whose phases alone are changed, after cleanup.

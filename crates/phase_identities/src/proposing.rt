@@ -1,0 +1,181 @@
+//! Which phases may be put in.
+
+use crate::drawing::Drawing;
+use crate::groups::{Group, rank};
+use crate::idle::idle_gates;
+use crate::populations::{Effort, search, search_shortly};
+use crate::walk::Walk;
+use std::alloc::{AllocError, Global};
+use zx_gates::{Gate, Qubit};
+
+// The most qubits of a list.
+const MOST_QUBITS: Qubit = 64;
+
+// How many columns there have to be more than are independent, and how many in all, so that a flat may gain.
+const LEAST_EXCESS: usize = 4;
+
+const FEWEST_COLUMNS: usize = 8;
+
+// How many steps and walks there are for a group of `MIDDLE` columns. With more there are fewer in proportion; with fewer
+// too, and steps by the square.
+const STEPS: usize = 2_200_000;
+
+const WALKS: usize = 96;
+
+const MIDDLE: usize = 150;
+
+// How many steps a short walk has besides those that gain.
+const SHORT_STEPS: usize = 100;
+
+// How many groups are drawn to find one with most of the phases.
+const DRAWN: usize = 3;
+
+/// Phases that may do nothing together, and where they may be put in: behind the gates up to a place, the frame, the
+/// idle gates, and the frame undone. Where they do, and phases that meet are put together, fewer are odd.
+#[derive(Drop)]
+pub struct Proposal {
+    /// How many gates stand before them.
+    pub place: usize,
+    /// Clifford gates.
+    pub frame: Vec<Gate>,
+    /// Controlled NOTs and phases.
+    pub idle: Vec<Gate>,
+}
+
+/// Proposals for gates that have most of their odd phases in one group of phases that can be brought together, by one
+/// long search; each of them is for the gates as they are. Equal arguments give equal ones.
+///
+/// # Errors
+///
+/// Only where memory runs out.
+pub fn propose_at_length(
+    alloc: Global,
+    qubits: Qubit,
+    gates: &[Gate],
+    seed: u64,
+) -> Result<Vec<Proposal>, AllocError> {
+    let mut proposals = Vec::new(alloc);
+    let mut drawing = Drawing::new(seed);
+    let Some(group) = large_group(alloc, qubits, gates, &mut drawing)? else {
+        return Ok(proposals);
+    };
+    let columns = group.columns(alloc)?;
+    let effort = effort_for(columns.len());
+    for new in search(alloc, &columns, effort, u64::from(drawing.word()))? {
+        if new.len() < columns.len() {
+            proposals.push(proposal(alloc, &group, &new)?)?;
+        }
+    }
+    Ok(proposals)
+}
+
+/// A proposal for gates by short searches of groups at drawn places, until so many in turn gain nothing. Equal arguments
+/// give equal ones.
+///
+/// # Errors
+///
+/// Only where memory runs out.
+pub fn propose_shortly(
+    alloc: Global,
+    qubits: Qubit,
+    gates: &[Gate],
+    tries: usize,
+    seed: u64,
+) -> Result<Option<Proposal>, AllocError> {
+    let places = odd_places(alloc, gates)?;
+    if qubits > MOST_QUBITS || places.len() < FEWEST_COLUMNS {
+        return Ok(None);
+    }
+    let mut drawing = Drawing::new(seed);
+    let mut walk = Walk::new(alloc, &[], u64::from(drawing.word()))?;
+    for _ in 0..tries {
+        let place = drawn_place(&places, gates.len(), &mut drawing);
+        let group = Group::draw(alloc, qubits, gates, place, &mut drawing)?;
+        let columns = group.columns(alloc)?;
+        if may_gain(alloc, &columns)? {
+            let new = search_shortly(alloc, &mut walk, &columns, SHORT_STEPS)?;
+            if new.len() < columns.len() {
+                return Ok(Some(proposal(alloc, &group, &new)?));
+            }
+        }
+    }
+    Ok(None)
+}
+
+// The places of all odd phases.
+fn odd_places(alloc: Global, gates: &[Gate]) -> Result<Vec<usize>, AllocError> {
+    let mut places = Vec::new(alloc);
+    for (place, gate) in gates.iter().enumerate() {
+        if let Gate::Phase(_, phase) = *gate {
+            if phase.is_odd() {
+                places.push(place)?;
+            }
+        }
+    }
+    Ok(places)
+}
+
+// That of an odd phase, or the end.
+fn drawn_place(places: &[usize], end: usize, drawing: &mut Drawing) -> usize {
+    let number = drawing.below(places.len().saturating_add(1));
+    places.get(number).copied().unwrap_or(end)
+}
+
+// A drawn group that has more than three fifths of all odd phases, if one is met.
+fn large_group(
+    alloc: Global,
+    qubits: Qubit,
+    gates: &[Gate],
+    drawing: &mut Drawing,
+) -> Result<Option<Group>, AllocError> {
+    let places = odd_places(alloc, gates)?;
+    if qubits > MOST_QUBITS || places.len() < FEWEST_COLUMNS {
+        return Ok(None);
+    }
+    for _ in 0..DRAWN {
+        let place = drawn_place(&places, gates.len(), drawing);
+        let group = Group::draw(alloc, qubits, gates, place, drawing)?;
+        let columns = group.columns(alloc)?;
+        let is_large = columns.len() / 3 > places.len() / 5;
+        if is_large && may_gain(alloc, &columns)? {
+            return Ok(Some(group));
+        }
+    }
+    Ok(None)
+}
+
+// Whether there are more columns than independent ones, by so many that a flat may hold half of its points.
+fn may_gain(alloc: Global, columns: &[u64]) -> Result<bool, AllocError> {
+    if columns.len() < FEWEST_COLUMNS {
+        return Ok(false);
+    }
+    let rank = rank(alloc, columns)?;
+    Ok(columns.len().saturating_sub(rank) >= LEAST_EXCESS)
+}
+
+fn effort_for(columns: usize) -> Effort {
+    if columns > MIDDLE {
+        return Effort {
+            walks: part(WALKS, MIDDLE, columns),
+            steps: part(STEPS, MIDDLE, columns),
+        };
+    }
+    Effort {
+        walks: part(WALKS, columns, MIDDLE).max(1),
+        steps: part(part(STEPS, columns, MIDDLE), columns, MIDDLE),
+    }
+}
+
+fn part(all: usize, of: usize, whole: usize) -> usize {
+    all.saturating_mul(of).checked_div(whole).unwrap_or(0)
+}
+
+fn proposal(alloc: Global, group: &Group, new: &[u64]) -> Result<Proposal, AllocError> {
+    let mut frame = Vec::new(alloc);
+    frame.extend_from_slice(&group.frame)?;
+    Ok(Proposal {
+        place: group.place,
+        frame,
+        idle: idle_gates(alloc, &group.terms, new)?,
+    })
+}
