@@ -9,7 +9,7 @@ ghost use Rattle.zx_optimise.specs.Internal.Candidates.{is_dearer, most_whole_ro
 
 use std::alloc::{AllocError, Global};
 use zx_gates::{Counts, GateList, Qubit, ScaledCircuit, counts};
-use zx_identities::with_fewer_odd_phases;
+use fewer_phases::with_fewer_odd_phases;
 use zx_peephole::tidy;
 use zx_pieces::shrink;
 use zx_simplify::simplify_circuit;

@@ -71,7 +71,8 @@ fn with(
     }))
 }
 
-fn push_all(made: &mut GateList, gates: &[Gate]) -> Result<(), AllocError> {
+/// Adds gates after all others.
+pub(crate) fn push_all(made: &mut GateList, gates: &[Gate]) -> Result<(), AllocError> {
     for gate in gates {
         made.push(*gate)?;
     }

@@ -15,6 +15,9 @@ const MOST_BITS: u32 = 22;
 // After how many steps in turn that do nothing a phase of gains ends.
 const IDLE: usize = 400;
 
+// The most steps of such a phase.
+const MOST_STEPS: usize = 1_000_000;
+
 // How often a pair is drawn until it has the sum of another one.
 const DRAWS: usize = 200;
 
@@ -164,13 +167,18 @@ impl Walk {
             if self.is_affine && least % 2 == 1 {
                 continue;
             }
-            let odds = Odds::gains(least);
-            let mut idle = 0_usize;
-            while idle < IDLE {
-                idle = idle.saturating_add(1);
-                if self.step(&odds)? {
-                    idle = 0;
-                }
+            self.gain(&Odds::gains(least))?;
+        }
+        Ok(())
+    }
+
+    // Steps with these odds until so many in turn do nothing.
+    fn gain(&mut self, odds: &Odds) -> Result<(), AllocError> {
+        let mut idle = 0_usize;
+        for _ in 0..MOST_STEPS {
+            idle = if self.step(odds)? { 0 } else { idle.saturating_add(1) };
+            if idle >= IDLE {
+                break;
             }
         }
         Ok(())

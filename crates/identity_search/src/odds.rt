@@ -32,9 +32,9 @@ impl Odds {
     /// Flats of this weight or more alone, heavy ones above all: one is always turned.
     pub(crate) fn gains(least: u32) -> Odds {
         let mut of = [0; WEIGHTS];
-        for weight in 0..WEIGHTS {
-            if weight >= least as usize {
-                of[weight] = 1_u64.wrapping_shl(weight as u32);
+        for weight in least..WEIGHTS as u32 {
+            if let Some(odds) = of.get_mut(weight as usize) {
+                *odds = 1_u64.wrapping_shl(weight);
             }
         }
         Odds {
@@ -65,13 +65,12 @@ impl Odds {
     /// The weight of a flat that is turned, where so many of each weight may be; or none.
     pub(crate) fn draw(&self, counts: &[u32; WEIGHTS], drawing: &mut Drawing) -> Option<usize> {
         let mut total = self.staying;
-        for (count, odds) in counts.iter().zip(&self.of) {
-            total = total.saturating_add(u64::from(*count).saturating_mul(*odds));
+        for weight in 0..WEIGHTS {
+            total = total.saturating_add(self.share(counts, weight));
         }
         let mut left = drawing.below_wide(total);
-        for (weight, count) in counts.iter().enumerate().rev() {
-            let odds = self.of.get(weight).copied().unwrap_or(0);
-            let share = u64::from(*count).saturating_mul(odds);
+        for weight in (0..WEIGHTS).rev() {
+            let share = self.share(counts, weight);
             if left < share {
                 return Some(weight);
             }
@@ -79,13 +78,21 @@ impl Odds {
         }
         None
     }
+
+    // The odds of all flats of a weight, where there are so many of each.
+    fn share(&self, counts: &[u32; WEIGHTS], weight: usize) -> u64 {
+        let count = counts.get(weight).copied().unwrap_or(0);
+        let odds = self.of.get(weight).copied().unwrap_or(0);
+        u64::from(count).saturating_mul(odds)
+    }
 }
 
 // The odds by `STEEP`, but for those of the weights 14 and 15.
 fn steep(of_fourteen: u64, of_fifteen: u64) -> [u64; WEIGHTS] {
     let mut of = [0; WEIGHTS];
     for weight in 14..WEIGHTS {
-        let number = weight.saturating_sub(14).min(6);
+        let last = STEEP.len().saturating_sub(1);
+        let number = weight.saturating_sub(14).min(last);
         of[weight] = STEEP.get(number).copied().unwrap_or(0);
     }
     of[14] = of_fourteen;

@@ -1,8 +1,7 @@
 //! Phases put in as long as fewer odd ones are left.
 
-use crate::putting_in::{teleported, teleported_with};
+use crate::putting_in::{push_all, teleported, teleported_with};
 use phase_identities::{propose_at_length, propose_shortly};
-use pauli_network::circuit_of;
 use std::alloc::{AllocError, Global};
 use zx_gates::{Gate, GateList, ScaledCircuit, counts};
 use zx_model::Scalar;
@@ -22,6 +21,11 @@ const PIECE: u64 = 300;
 
 const LONG: u64 = 600;
 
+// How many seeds are tried at most, and for how many odd phases one seed.
+const MOST_SEEDS: u64 = 8;
+
+const SEEDS: u64 = 600;
+
 // The most gates of a list that is written again as a whole.
 const MOST_WHOLE: usize = 6_000;
 
@@ -35,42 +39,74 @@ pub fn with_fewer_odd_phases(
     alloc: Global,
     list: &GateList,
 ) -> Result<Option<ScaledCircuit>, AllocError> {
-    match by_long_search(alloc, list)? {
-        Some(made) => Ok(Some(made)),
-        None => by_short_searches(alloc, list),
+    let odd = counts(list).odd;
+    if odd > LONG {
+        let made = by_pieces(alloc, list)?;
+        if counts(&made.gates).odd >= odd {
+            return Ok(None);
+        }
+        return Ok(Some(finished(alloc, &made)?));
     }
+    let mut best: Option<ScaledCircuit> = None;
+    for end in &ends(alloc, list)? {
+        best = cheaper(best, finished(alloc, end)?);
+    }
+    Ok(best)
 }
 
-// The same where one group has most of the odd phases. Of the ends with the fewest odd phases the one is taken that has
-// the fewest gates on two qubits once pieces of it are replaced.
-fn by_long_search(alloc: Global, list: &GateList) -> Result<Option<ScaledCircuit>, AllocError> {
-    let mut best: Option<ScaledCircuit> = None;
+// Circuits with fewer odd phases, and all as many, by phases put in.
+fn ends(alloc: Global, list: &GateList) -> Result<Vec<ScaledCircuit>, AllocError> {
+    let ends = long_ends(alloc, list)?;
+    if !ends.is_empty() {
+        return Ok(ends);
+    }
+    let mut ends = Vec::new(alloc);
+    let made = by_some_seeds(alloc, list)?;
+    if counts(&made.gates).odd < counts(list).odd {
+        ends.push(made)?;
+    }
+    Ok(ends)
+}
+
+// The same by a long search, where one group has most of the odd phases.
+fn long_ends(alloc: Global, list: &GateList) -> Result<Vec<ScaledCircuit>, AllocError> {
+    let mut ends = Vec::new(alloc);
     let mut least = counts(list).odd;
     for proposal in propose_at_length(alloc, list.qubits(), list.gates(), 1)? {
         if let Some(made) = teleported_with(alloc, list, &proposal)? {
             let more = in_rounds(alloc, &made.gates, FEW_TRIES, 0)?;
             let odd = counts(&more.gates).odd;
-            if odd < least || (odd == least && best.is_some()) {
+            if odd < least {
+                ends.clear();
                 least = odd;
-                best = cheaper(best, finished(alloc, made.scalar, more)?);
+            }
+            if odd == least && odd < counts(list).odd {
+                ends.push(ScaledCircuit {
+                    gates: more.gates,
+                    scalar: made.scalar.times(more.scalar),
+                })?;
             }
         }
     }
-    Ok(best)
+    Ok(ends)
 }
 
-// The same by short searches.
-fn by_short_searches(alloc: Global, list: &GateList) -> Result<Option<ScaledCircuit>, AllocError> {
+// The circuit with phases put in, by some seeds where it has few odd ones, as long as they gain: that with the fewest.
+fn by_some_seeds(alloc: Global, list: &GateList) -> Result<ScaledCircuit, AllocError> {
     let odd = counts(list).odd;
-    let made = if odd > LONG {
-        by_pieces(alloc, list)?
-    } else {
-        in_rounds(alloc, list, (odd / 2).saturating_add(TRIES), 0)?
-    };
-    if counts(&made.gates).odd >= odd {
-        return Ok(None);
+    let tries = (odd / 2).saturating_add(TRIES);
+    let mut best = in_rounds(alloc, list, tries, 0)?;
+    if counts(&best.gates).odd >= odd {
+        return Ok(best);
     }
-    Ok(Some(finished(alloc, Scalar::one(), made)?))
+    let seeds = SEEDS.checked_div(odd).unwrap_or(0).min(MOST_SEEDS);
+    for seed in 1..seeds {
+        let other = in_rounds(alloc, list, tries, seed)?;
+        if counts(&other.gates).odd < counts(&best.gates).odd {
+            best = other;
+        }
+    }
+    Ok(best)
 }
 
 // The circuit with phases put in, piece by piece.
@@ -78,17 +114,21 @@ fn by_pieces(alloc: Global, list: &GateList) -> Result<ScaledCircuit, AllocError
     let gates = list.gates();
     let mut made = GateList::new(alloc, list.qubits());
     let mut scalar = Scalar::one();
-    let mut start = 0;
-    while start < gates.len() {
-        let end = end_of_piece(gates, start).min(gates.len());
-        let Some(piece) = circuit_of(alloc, list.qubits(), &gates[start..end])? else {
+    let mut start = 0_usize;
+    for _ in 0..gates.len() {
+        if start >= gates.len() {
             break;
-        };
-        let less = in_rounds(alloc, &piece, TRIES, start as u64)?;
-        for gate in less.gates.gates() {
-            made.push(*gate)?;
         }
-        scalar = scalar.times(less.scalar);
+        let end = end_of_piece(gates, start).clamp(start, gates.len());
+        let mut piece = GateList::new(alloc, list.qubits());
+        push_all(&mut piece, &gates[start..end])?;
+        match ends(alloc, &piece)?.first() {
+            Some(end) => {
+                push_all(&mut made, end.gates.gates())?;
+                scalar = scalar.times(end.scalar);
+            }
+            None => push_all(&mut made, piece.gates())?,
+        }
         start = end;
     }
     let whole = teleported(alloc, &made)?;
@@ -145,24 +185,25 @@ fn in_rounds(
     Ok(current)
 }
 
-// The circuit with pieces of it replaced by smaller ones, and this scalar times its own.
-fn finished(
-    alloc: Global,
-    scalar: Scalar,
-    circuit: ScaledCircuit,
-) -> Result<ScaledCircuit, AllocError> {
-    let mut scalar = scalar.times(circuit.scalar);
-    let mut gates = circuit.gates;
-    if gates.gates().len() <= MOST_WHOLE {
-        let whole = replace_pieces(alloc, &gates, usize::MAX, MOST_WHOLE)?;
-        gates = whole.gates;
-        scalar = scalar.times(whole.scalar);
-    }
-    let made = shrink(alloc, &gates)?;
+// The circuit with pieces of it replaced by smaller ones.
+fn finished(alloc: Global, circuit: &ScaledCircuit) -> Result<ScaledCircuit, AllocError> {
+    let whole = written_again(alloc, &circuit.gates)?;
+    let made = shrink(alloc, &whole.gates)?;
     Ok(ScaledCircuit {
         gates: made.gates,
-        scalar: scalar.times(made.scalar),
+        scalar: circuit.scalar.times(whole.scalar).times(made.scalar),
     })
+}
+
+// The circuit written again as a whole, where it isn't too long and becomes smaller.
+fn written_again(alloc: Global, list: &GateList) -> Result<ScaledCircuit, AllocError> {
+    if list.gates().len() > MOST_WHOLE {
+        return Ok(ScaledCircuit {
+            gates: list.copy()?,
+            scalar: Scalar::one(),
+        });
+    }
+    replace_pieces(alloc, list, usize::MAX, MOST_WHOLE)
 }
 
 // The one with fewer odd phases, or as many and fewer gates on two qubits.

@@ -7,8 +7,10 @@ use std::alloc::{AllocError, Global};
 // A move that leaves one plane fewer is taken with this chance in 2^32 less than surely, on the first level.
 const FIRST_LOSS: u64 = SURE / 10;
 
-// How many ends are told at most.
+// How many ends are told at most, and of few walks.
 const MOST_ENDS: usize = 3;
+
+const FEW_WALKS: usize = 24;
 
 /// How much is done in a search.
 #[derive(Clone, Copy)]
@@ -42,6 +44,7 @@ pub(crate) fn search(
     let mut population = Population {
         parked: Vec::new(alloc),
         ends: Vec::new(alloc),
+        most_ends: if effort.walks < FEW_WALKS { 1 } else { MOST_ENDS },
     };
     for _ in 0..effort.walks {
         population.begin(alloc, &mut walk, columns)?;
@@ -106,6 +109,7 @@ struct Population {
     parked: Vec<Parked>,
     // The smallest sets so far, the smallest first.
     ends: Vec<Vec<u64>>,
+    most_ends: usize,
 }
 
 impl Population {
@@ -144,12 +148,11 @@ impl Population {
         self.keep_ends(alloc)?;
         let next = fewer(self.parked.len());
         let kept = (next / 3).max(1);
-        while self.parked.len() > kept {
+        for _ in kept..self.parked.len() {
             let worst = self.worst();
-            if worst >= self.parked.len() {
-                break;
+            if worst < self.parked.len() {
+                self.parked.swap_remove(worst);
             }
-            self.parked.swap_remove(worst);
         }
         for number in kept..next {
             let copy = match self.parked.get(number.checked_rem(kept).unwrap_or(0)) {
@@ -180,11 +183,11 @@ impl Population {
             let is_new = !self.ends.iter().any(|end| end[..] == place.best[..]);
             let size = place.best.len();
             let number = self.ends.iter().filter(|end| end.len() <= size).count();
-            if is_new && number < MOST_ENDS {
+            if is_new && number < self.most_ends {
                 let mut end = Vec::new(alloc);
                 end.extend_from_slice(&place.best)?;
                 self.ends.insert(number.min(self.ends.len()), end)?;
-                self.ends.truncate(MOST_ENDS);
+                self.ends.truncate(self.most_ends);
             }
         }
         Ok(())
