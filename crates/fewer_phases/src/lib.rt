@@ -1,6 +1,6 @@
 //! Circuits with fewer odd phases, by phases put in that do nothing together.
 //!
-//! Whatever proposes such phases, they are put in only where `zx_light` tells that they do nothing.
+//! Whatever proposes such phases, `zx_identities` puts them in only where it shows that they do nothing.
 //!
 //! ```rust
 //! let found = with_fewer_odd_phases(alloc, &circuit)?;

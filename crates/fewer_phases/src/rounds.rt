@@ -1,7 +1,7 @@
 //! Phases put in as long as fewer odd ones are left.
 
 use crate::putting_in::{push_all, teleported, teleported_with};
-use phase_identities::{propose_at_length, propose_shortly};
+use identity_search::{propose_at_length, propose_shortly};
 use std::alloc::{AllocError, Global};
 use zx_gates::{Gate, GateList, ScaledCircuit, counts};
 use zx_model::Scalar;
@@ -72,8 +72,8 @@ fn ends(alloc: Global, list: &GateList) -> Result<Vec<ScaledCircuit>, AllocError
 fn long_ends(alloc: Global, list: &GateList) -> Result<Vec<ScaledCircuit>, AllocError> {
     let mut ends = Vec::new(alloc);
     let mut least = counts(list).odd;
-    for proposal in propose_at_length(alloc, list.qubits(), list.gates(), 1)? {
-        if let Some(made) = teleported_with(alloc, list, &proposal)? {
+    for insertion in &propose_at_length(alloc, list, 1)? {
+        if let Some(made) = teleported_with(alloc, list, insertion)? {
             let more = in_rounds(alloc, &made.gates, FEW_TRIES, 0)?;
             let odd = counts(&more.gates).odd;
             if odd < least {
@@ -168,12 +168,11 @@ fn in_rounds(
     for round in 0..ROUNDS {
         let odd = counts(&current.gates).odd;
         let seed = seed.wrapping_mul(ROUNDS).wrapping_add(round);
-        let gates = current.gates.gates();
-        let found = propose_shortly(alloc, list.qubits(), gates, tries as usize, seed)?;
-        let Some(proposal) = found else {
+        let found = propose_shortly(alloc, &current.gates, tries as usize, seed)?;
+        let Some(insertion) = found else {
             break;
         };
-        if let Some(made) = teleported_with(alloc, &current.gates, &proposal)? {
+        if let Some(made) = teleported_with(alloc, &current.gates, &insertion)? {
             if counts(&made.gates).odd < odd {
                 current = ScaledCircuit {
                     gates: made.gates,

@@ -30,8 +30,10 @@ pub(crate) fn arrivals(
     place: usize,
     is_behind: bool,
 ) -> Result<Vec<Arrival>, AllocError> {
+    let mut frame = Frame::new(alloc);
+    frame.begin(qubits)?;
     let mut side = Side {
-        frame: Frame::new(alloc, qubits)?,
+        frame,
         seen: Vec::new(alloc),
         arrived: Vec::new(alloc),
     };

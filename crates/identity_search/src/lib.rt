@@ -1,6 +1,6 @@
 //! Phases about strings of Pauli letters that do nothing together, where putting them in leaves fewer odd ones.
 //!
-//! Nothing is proved of what is proposed: who puts it in has to show that it does nothing.
+//! Nothing is proved of what is proposed: `zx_identities` puts it in only where it is shown to do nothing.
 //!
 //! Phases of an odd number of eighth turns that can be brought together at a place in a circuit are phases about
 //! parities, behind Clifford gates. They are a sum of cubes up to Clifford gates, so that other parities, perhaps
@@ -9,10 +9,10 @@
 //! go, the others come. Walks over such sets begin with the flats that hold most, and go on by those that hold half,
 //! towards sets with many planes, four parities with sum 0. Of many walks the better ones are copied.
 //!
-//! Seeds and numbers of steps decide what is found: equal arguments give equal proposals.
+//! Seeds and numbers of steps decide what is found: equal arguments give equal ones.
 //!
 //! ```rust
-//! let found = propose_shortly(alloc, qubits, gates, 200, 1)?;      // tries, seed
+//! let found = propose_shortly(alloc, &circuit, 200, 1)?;      // tries, seed
 //! ```
 #![tactic(auto)]
 
@@ -28,4 +28,4 @@ mod populations;
 mod proposing;
 mod walk;
 
-pub use proposing::{Proposal, propose_at_length, propose_shortly};
+pub use proposing::{propose_at_length, propose_shortly};

@@ -5,8 +5,10 @@ use crate::groups::{Group, rank};
 use crate::idle::idle_gates;
 use crate::populations::{Effort, search, search_shortly};
 use crate::walk::Walk;
+use pauli_network::circuit_of;
 use std::alloc::{AllocError, Global};
-use zx_gates::{Gate, Qubit};
+use zx_gates::{Gate, GateList, Qubit};
+use zx_identities::Insertion;
 
 // The most qubits of a list.
 const MOST_QUBITS: Qubit = 64;
@@ -30,58 +32,47 @@ const SHORT_STEPS: usize = 100;
 // How many groups are drawn to find one with most of the phases.
 const DRAWN: usize = 3;
 
-/// Phases that may do nothing together, and where they may be put in: behind the gates up to a place, the frame, the
-/// idle gates, and the frame undone. Where they do, and phases that meet are put together, fewer are odd.
-#[derive(Drop)]
-pub struct Proposal {
-    /// How many gates stand before them.
-    pub place: usize,
-    /// Clifford gates.
-    pub frame: Vec<Gate>,
-    /// Controlled NOTs and phases.
-    pub idle: Vec<Gate>,
-}
-
-/// Proposals for gates that have most of their odd phases in one group of phases that can be brought together, by one
-/// long search; each of them is for the gates as they are. Equal arguments give equal ones.
+/// What may be put into a circuit so that it has fewer odd phases once those that meet are put together, where most of
+/// them are in one group that can be brought together: by one long search, some ends of it, each for the circuit as it
+/// is. Nothing is promised of them. Equal arguments give equal ones.
 ///
 /// # Errors
 ///
 /// Only where memory runs out.
 pub fn propose_at_length(
     alloc: Global,
-    qubits: Qubit,
-    gates: &[Gate],
+    circuit: &GateList,
     seed: u64,
-) -> Result<Vec<Proposal>, AllocError> {
-    let mut proposals = Vec::new(alloc);
+) -> Result<Vec<Insertion>, AllocError> {
+    let mut found = Vec::new(alloc);
     let mut drawing = Drawing::new(seed);
-    let Some(group) = large_group(alloc, qubits, gates, &mut drawing)? else {
-        return Ok(proposals);
+    let Some(group) = large_group(alloc, circuit, &mut drawing)? else {
+        return Ok(found);
     };
     let columns = group.columns(alloc)?;
     let effort = effort_for(columns.len());
     for new in search(alloc, &columns, effort, u64::from(drawing.word()))? {
         if new.len() < columns.len() {
-            proposals.push(proposal(alloc, &group, &new)?)?;
+            if let Some(insertion) = insertion(alloc, circuit.qubits(), &group, &new)? {
+                found.push(insertion)?;
+            }
         }
     }
-    Ok(proposals)
+    Ok(found)
 }
 
-/// A proposal for gates by short searches of groups at drawn places, until so many in turn gain nothing. Equal arguments
-/// give equal ones.
+/// The same by short searches of groups at drawn places, until one gains, or so many have gained nothing.
 ///
 /// # Errors
 ///
 /// Only where memory runs out.
 pub fn propose_shortly(
     alloc: Global,
-    qubits: Qubit,
-    gates: &[Gate],
+    circuit: &GateList,
     tries: usize,
     seed: u64,
-) -> Result<Option<Proposal>, AllocError> {
+) -> Result<Option<Insertion>, AllocError> {
+    let (qubits, gates) = (circuit.qubits(), circuit.gates());
     let places = odd_places(alloc, gates)?;
     if qubits > MOST_QUBITS || places.len() < FEWEST_COLUMNS {
         return Ok(None);
@@ -95,7 +86,7 @@ pub fn propose_shortly(
         if may_gain(alloc, &columns)? {
             let new = search_shortly(alloc, &mut walk, &columns, SHORT_STEPS)?;
             if new.len() < columns.len() {
-                return Ok(Some(proposal(alloc, &group, &new)?));
+                return insertion(alloc, qubits, &group, &new);
             }
         }
     }
@@ -124,10 +115,10 @@ fn drawn_place(places: &[usize], end: usize, drawing: &mut Drawing) -> usize {
 // A drawn group that has more than three fifths of all odd phases, if one is met.
 fn large_group(
     alloc: Global,
-    qubits: Qubit,
-    gates: &[Gate],
+    circuit: &GateList,
     drawing: &mut Drawing,
 ) -> Result<Option<Group>, AllocError> {
+    let (qubits, gates) = (circuit.qubits(), circuit.gates());
     let places = odd_places(alloc, gates)?;
     if qubits > MOST_QUBITS || places.len() < FEWEST_COLUMNS {
         return Ok(None);
@@ -170,12 +161,25 @@ fn part(all: usize, of: usize, whole: usize) -> usize {
     all.saturating_mul(of).checked_div(whole).unwrap_or(0)
 }
 
-fn proposal(alloc: Global, group: &Group, new: &[u64]) -> Result<Proposal, AllocError> {
-    let mut frame = Vec::new(alloc);
-    frame.extend_from_slice(&group.frame)?;
-    Ok(Proposal {
+// What puts phases about these columns in the place of a group's.
+fn insertion(
+    alloc: Global,
+    qubits: Qubit,
+    group: &Group,
+    new: &[u64],
+) -> Result<Option<Insertion>, AllocError> {
+    if qubits > MOST_QUBITS {
+        return Ok(None);
+    }
+    let Some(frame) = circuit_of(alloc, qubits, &group.frame)? else {
+        return Ok(None);
+    };
+    let Some(inner) = circuit_of(alloc, qubits, &idle_gates(alloc, &group.terms, new)?)? else {
+        return Ok(None);
+    };
+    Ok(Some(Insertion {
         place: group.place,
         frame,
-        idle: idle_gates(alloc, &group.terms, new)?,
-    })
+        inner,
+    }))
 }

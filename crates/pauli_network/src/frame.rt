@@ -12,15 +12,23 @@ pub struct Frame {
 }
 
 impl Frame {
-    /// The frame of no gates.
-    pub fn new(alloc: Global, qubits: Qubit) -> Result<Frame, AllocError> {
-        let mut xs = Vec::new(alloc);
-        let mut zs = Vec::new(alloc);
-        for q in 0..qubits {
-            xs.push(PauliString::x_on(q))?;
-            zs.push(PauliString::z_on(q))?;
+    /// The frame of no qubits.
+    pub fn new(alloc: Global) -> Frame {
+        Frame {
+            xs: Vec::new(alloc),
+            zs: Vec::new(alloc),
         }
-        Ok(Frame { xs, zs })
+    }
+
+    /// The frame of no gates from now on.
+    pub fn begin(&mut self, qubits: Qubit) -> Result<(), AllocError> {
+        self.xs.clear();
+        self.zs.clear();
+        for q in 0..qubits {
+            self.xs.push(PauliString::x_on(q))?;
+            self.zs.push(PauliString::z_on(q))?;
+        }
+        Ok(())
     }
 
     /// The strings of all X.

@@ -22,5 +22,5 @@ mod scores;
 mod strings;
 
 pub use frame::Frame;
-pub use proposing::{circuit_of, inverse, propose, rewrite};
+pub use proposing::{Rewriter, circuit_of, invert, propose};
 pub use strings::{Letter, PauliString};

@@ -23,40 +23,6 @@ pub(crate) struct Limits {
     pub(crate) looks: u64,
 }
 
-/// Writes gates again, as phases about Pauli strings and a Clifford map behind them, with noise on the
-/// scores; or none, where a limit is met.
-///
-/// # Errors
-///
-/// Only where memory runs out.
-pub(crate) fn rewritten(
-    alloc: Global,
-    qubits: Qubit,
-    gates: &[Gate],
-    limits: Limits,
-    noise: Noise,
-) -> Result<Option<Vec<Gate>>, AllocError> {
-    let mut network = Network::new(alloc, qubits, limits, noise)?;
-    let mut next = 0;
-    // Each time a gate is written, or more are read.
-    for _ in 0..gates.len().saturating_add(limits.two_qubit) {
-        next = network.read(gates, next)?;
-        network.write_single()?;
-        match network.shortest() {
-            Some(string) => network.shorten(&string)?,
-            None if next < gates.len() => {}
-            None => {
-                network.write_frame()?;
-                return Ok(network.finished());
-            }
-        }
-        if network.is_at_limit() {
-            return Ok(None);
-        }
-    }
-    Ok(None)
-}
-
 // A phase about a Pauli string.
 #[derive(Drop)]
 struct Rotation {
@@ -66,9 +32,10 @@ struct Rotation {
     blockers: usize,
 }
 
-// What is to be written yet: phases one after the other, then a Clifford map.
+/// What is to be written yet: phases about Pauli strings, one after the other, then a Clifford map. The memory is used
+/// again for each list of gates.
 #[derive(Drop)]
-struct Network {
+pub(crate) struct Network {
     qubits: Qubit,
     pending: Vec<Rotation>,
     frame: Frame,
@@ -80,21 +47,63 @@ struct Network {
 }
 
 impl Network {
-    fn new(
-        alloc: Global,
-        qubits: Qubit,
-        limits: Limits,
-        noise: Noise,
-    ) -> Result<Network, AllocError> {
-        Ok(Network {
-            qubits,
+    /// Nothing is to be written.
+    pub(crate) fn new(alloc: Global) -> Network {
+        Network {
+            qubits: 0,
             pending: Vec::new(alloc),
-            frame: Frame::new(alloc, qubits)?,
+            frame: Frame::new(alloc),
             made: Vec::new(alloc),
             rows: Vec::new(alloc),
-            limits,
-            noise,
-        })
+            limits: Limits {
+                two_qubit: 0,
+                looks: 0,
+            },
+            noise: Noise::none(),
+        }
+    }
+
+    /// What was written last.
+    pub(crate) fn made(&self) -> &[Gate] {
+        &self.made
+    }
+
+    /// Writes gates again with noise on the scores, and answers whether no limit was met.
+    ///
+    /// # Errors
+    ///
+    /// Only where memory runs out.
+    pub(crate) fn rewrite(
+        &mut self,
+        qubits: Qubit,
+        gates: &[Gate],
+        limits: Limits,
+        noise: Noise,
+    ) -> Result<bool, AllocError> {
+        self.qubits = qubits;
+        self.pending.clear();
+        self.frame.begin(qubits)?;
+        self.made.clear();
+        self.limits = limits;
+        self.noise = noise;
+        let mut next = 0;
+        // Each time a gate is written, or more are read.
+        for _ in 0..gates.len().saturating_add(limits.two_qubit) {
+            next = self.read(gates, next)?;
+            self.write_single()?;
+            match self.shortest() {
+                Some(string) => self.shorten(&string)?,
+                None if next < gates.len() => {}
+                None => {
+                    self.write_frame()?;
+                    return Ok(!self.is_at_limit());
+                }
+            }
+            if self.is_at_limit() {
+                return Ok(false);
+            }
+        }
+        Ok(false)
     }
 
     fn is_at_limit(&self) -> bool {
@@ -187,7 +196,7 @@ impl Network {
     // The place of the first phase that can be written.
     fn first_single(&self) -> Option<usize> {
         self.pending.iter().position(|rotation| rotation.blockers == 0
-            && rotation.string.weight() < 2)
+            && rotation.string.is_single())
     }
 
     // Writes the phase at a place, whose string is one letter.
@@ -249,8 +258,11 @@ impl Network {
         let mut found: Option<PauliString> = None;
         let mut least = u32::MAX;
         for rotation in &self.pending {
+            if rotation.blockers > 0 {
+                continue;
+            }
             let weight = rotation.string.weight();
-            if rotation.blockers == 0 && weight < least {
+            if weight < least {
                 found = Some(rotation.string);
                 least = weight;
             }
@@ -408,13 +420,5 @@ impl Network {
             self.write(Gate::Phase(q, Sixteenth::half_turn()))?;
         }
         Ok(())
-    }
-
-    // All that was written, where no limit was met.
-    fn finished(self) -> Option<Vec<Gate>> {
-        if self.is_at_limit() {
-            return None;
-        }
-        Some(self.made)
     }
 }

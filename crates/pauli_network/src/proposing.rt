@@ -3,7 +3,7 @@
 ghost use Rattle.std.specs.Prelude.{◌≡◌, ◌≤◌, IfOk, IfSome};
 ghost use Rattle.zx_gates.specs.Circuit.{most_qubits};
 
-use crate::network::{Limits, rewritten};
+use crate::network::{Limits, Network};
 use crate::noise::Noise;
 use crate::strings::MOST_QUBITS;
 use std::alloc::{AllocError, Global};
@@ -25,68 +25,82 @@ pub fn propose(alloc: Global, circuit: &GateList) -> Result<Option<GateList>, Al
     if qubits > MOST_QUBITS {
         return Ok(None);
     }
-    let forwards = rewritten(
-        alloc,
-        qubits,
-        circuit.gates(),
-        limits_for(circuit.gates()),
-        Noise::none(),
-    )?;
-    let backwards = rewritten_backwards(alloc, qubits, circuit.gates(), Noise::none())?;
-    match shorter(forwards, backwards) {
-        Some(gates) => circuit_of(alloc, qubits, &gates),
+    let mut forwards = Rewriter::new(alloc);
+    let mut backwards = Rewriter::new(alloc);
+    forwards.rewrite_with(qubits, circuit.gates(), false, Noise::none())?;
+    backwards.rewrite_with(qubits, circuit.gates(), true, Noise::none())?;
+    match shorter(forwards.written(), backwards.written()) {
+        Some(gates) => circuit_of(alloc, qubits, gates),
         None => Ok(None),
     }
 }
 
-/// A circuit that may have the map of another one, and no more gates on two qubits, where such is found: by the
-/// same means as `propose`, from one end alone, and with a little noise from a seed in what is chosen. Nothing is
-/// promised of either.
-///
-/// # Errors
-///
-/// Only where memory runs out.
-pub fn rewrite(
-    alloc: Global,
-    circuit: &GateList,
-    is_backwards: bool,
-    seed: u64,
-) -> Result<Option<GateList>, AllocError>
-    ensures { IfOk result (λ found. IfSome found (λ made. made.qubits ≡ circuit.now.qubits)) }
-{
-    let qubits = circuit.qubits();
-    if qubits > MOST_QUBITS {
-        return Ok(None);
-    }
-    let noise = Noise::of_seed(seed);
-    let found = if is_backwards {
-        rewritten_backwards(alloc, qubits, circuit.gates(), noise)?
-    } else {
-        rewritten(
-            alloc,
-            qubits,
-            circuit.gates(),
-            limits_for(circuit.gates()),
-            noise,
-        )?
-    };
-    match found {
-        Some(gates) => circuit_of(alloc, qubits, &gates),
-        None => Ok(None),
-    }
+/// Writes gates again by the same means as `propose`, from one end alone, and with a little noise from a seed in what
+/// is chosen. Nothing is promised of what is written. The memory is used again for the next list.
+#[derive(Drop)]
+pub struct Rewriter {
+    network: Network,
+    // What was written last, if no limit was met.
+    written: Vec<Gate>,
+    is_written: bool,
 }
 
-// Writes gates again from the last one on.
-fn rewritten_backwards(
-    alloc: Global,
-    qubits: Qubit,
-    gates: &[Gate],
-    noise: Noise,
-) -> Result<Option<Vec<Gate>>, AllocError> {
-    let undone = inverse(alloc, gates)?;
-    match rewritten(alloc, qubits, &undone, limits_for(&undone), noise)? {
-        Some(gates) => Ok(Some(inverse(alloc, &gates)?)),
-        None => Ok(None),
+impl Rewriter {
+    /// Nothing is written yet.
+    pub fn new(alloc: Global) -> Rewriter {
+        Rewriter {
+            network: Network::new(alloc),
+            written: Vec::new(alloc),
+            is_written: false,
+        }
+    }
+
+    /// Writes gates on so many qubits again.
+    ///
+    /// # Errors
+    ///
+    /// Only where memory runs out.
+    pub fn rewrite(
+        &mut self,
+        qubits: Qubit,
+        gates: &[Gate],
+        is_backwards: bool,
+        seed: u64,
+    ) -> Result<(), AllocError> {
+        self.rewrite_with(qubits, gates, is_backwards, Noise::of_seed(seed))
+    }
+
+    /// The gates that were written last, with no more gates on two qubits before cleanup, where such were found.
+    pub fn written(&self) -> Option<&[Gate]> {
+        if self.is_written {
+            Some(&self.written)
+        } else {
+            None
+        }
+    }
+
+    // The same with this noise.
+    fn rewrite_with(
+        &mut self,
+        qubits: Qubit,
+        gates: &[Gate],
+        is_backwards: bool,
+        noise: Noise,
+    ) -> Result<(), AllocError> {
+        self.is_written = false;
+        if qubits > MOST_QUBITS {
+            return Ok(());
+        }
+        let limits = limits_for(gates);
+        if is_backwards {
+            invert(&mut self.written, gates)?;
+            self.is_written = self.network.rewrite(qubits, &self.written, limits, noise)?;
+            invert(&mut self.written, self.network.made())
+        } else {
+            self.is_written = self.network.rewrite(qubits, gates, limits, noise)?;
+            self.written.clear();
+            self.written.extend_from_slice(self.network.made())
+        }
     }
 }
 
@@ -108,7 +122,7 @@ fn two_qubit_gates(gates: &[Gate]) -> usize {
 }
 
 // The list with fewer gates on two qubits, or as many and no more gates in all.
-fn shorter(a: Option<Vec<Gate>>, b: Option<Vec<Gate>>) -> Option<Vec<Gate>> {
+fn shorter<'a>(a: Option<&'a [Gate]>, b: Option<&'a [Gate]>) -> Option<&'a [Gate]> {
     match (a, b) {
         (Some(a), Some(b)) => Some(shorter_of(a, b)),
         (Some(a), None) => Some(a),
@@ -116,8 +130,8 @@ fn shorter(a: Option<Vec<Gate>>, b: Option<Vec<Gate>>) -> Option<Vec<Gate>> {
     }
 }
 
-fn shorter_of(a: Vec<Gate>, b: Vec<Gate>) -> Vec<Gate> {
-    let (first, second) = (two_qubit_gates(&a), two_qubit_gates(&b));
+fn shorter_of<'a>(a: &'a [Gate], b: &'a [Gate]) -> &'a [Gate] {
+    let (first, second) = (two_qubit_gates(a), two_qubit_gates(b));
     if first < second || (first == second && a.len() <= b.len()) {
         a
     } else {
@@ -125,21 +139,21 @@ fn shorter_of(a: Vec<Gate>, b: Vec<Gate>) -> Vec<Gate> {
     }
 }
 
-/// The gates backwards, each with the opposite phase.
+/// Makes a list that of the gates backwards, each with the opposite phase.
 ///
 /// # Errors
 ///
 /// Only where memory runs out.
-pub fn inverse(alloc: Global, gates: &[Gate]) -> Result<Vec<Gate>, AllocError> {
-    let mut made = Vec::with_capacity(alloc, gates.len())?;
+pub fn invert(made: &mut Vec<Gate>, gates: &[Gate]) -> Result<(), AllocError> {
+    made.clear();
     for gate in gates.iter().rev() {
-        let undone = match *gate {
+        let inverse = match *gate {
             Gate::Phase(q, phase) => Gate::Phase(q, phase.neg()),
             other => other,
         };
-        made.push(undone)?;
+        made.push(inverse)?;
     }
-    Ok(made)
+    Ok(())
 }
 
 /// The circuit of gates, where each is on its qubits.

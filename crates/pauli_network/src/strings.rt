@@ -139,6 +139,12 @@ impl PauliString {
         }
     }
 
+    /// Whether it has one letter at most.
+    pub fn is_single(&self) -> bool {
+        let on = self.x | self.z;
+        on & on.wrapping_sub(1) == 0
+    }
+
     /// Whether two strings anticommute.
     pub fn anticommutes(&self, other: &PauliString) -> bool {
         ((self.x & other.z) ^ (self.z & other.x)).count_ones() % 2 == 1

@@ -3,9 +3,8 @@
 ghost use Rattle.std.specs.Prelude.{◌≡◌, ◌≤◌, IfOk, IfSome};
 ghost use Rattle.zx_gates.specs.Circuit.{most_qubits};
 
-use pauli_network::circuit_of;
 use std::alloc::{AllocError, Global};
-use zx_gates::{Gate, GateList, Qubit};
+use zx_gates::{Gate, Qubit};
 
 /// The most qubits of a list.
 pub(crate) const MOST_QUBITS: Qubit = 64;
@@ -39,30 +38,39 @@ pub(crate) struct Size {
 }
 
 impl Part {
-    /// A part of gates: the first one, and those that can be brought to it.
-    pub(crate) fn of(alloc: Global, gates: &[Gate], size: Size) -> Result<Part, AllocError> {
-        let mut part = Part {
-            taken: Vec::with_capacity(alloc, 64)?,
-            passed: Vec::with_capacity(alloc, 64)?,
+    /// No gates.
+    pub(crate) fn new(alloc: Global) -> Part {
+        Part {
+            taken: Vec::new(alloc),
+            passed: Vec::new(alloc),
             read: 0,
             on: 0,
             shut_to_z: 0,
             shut_to_x: 0,
-        };
+        }
+    }
+
+    /// Takes a part of gates: the first one, and those that can be brought to it.
+    pub(crate) fn take(&mut self, gates: &[Gate], size: Size) -> Result<(), AllocError> {
+        self.taken.clear();
+        self.passed.clear();
+        self.read = 0;
+        self.on = 0;
+        self.shut_to_z = 0;
+        self.shut_to_x = 0;
         for gate in &gates[..size.reach.min(gates.len())] {
-            if part.is_shut(size) {
+            if self.is_shut(size) {
                 break;
             }
-            part.read_gate(gate, size)?;
+            self.read_gate(gate, size)?;
         }
-        Ok(part)
+        Ok(())
     }
 
     // Whether no gate can be taken any more.
     fn is_shut(&self, size: Size) -> bool {
         self.taken.len() >= size.gates
-            || (self.on.count_ones() >= size.qubits
-                && self.on & !(self.shut_to_z & self.shut_to_x) == 0)
+            || (self.on & !(self.shut_to_z & self.shut_to_x) == 0 && !self.taken.is_empty())
     }
 
     fn read_gate(&mut self, gate: &Gate, size: Size) -> Result<(), AllocError> {
@@ -109,42 +117,28 @@ impl Part {
         }
     }
 
-    /// The part on its own qubits alone.
-    pub(crate) fn narrowed(&self, alloc: Global) -> Result<Option<GateList>, AllocError> {
-        let width = self.on.count_ones();
-        if width > u32::from(MOST_QUBITS) {
-            return Ok(None);
+    /// Writes the part on its own qubits alone, and the places that these have, and answers how many they are.
+    pub(crate) fn narrow(
+        &self,
+        small: &mut Vec<Gate>,
+        places: &mut Vec<Qubit>,
+    ) -> Result<Qubit, AllocError> {
+        let mut numbers = [0; MOST_QUBITS as usize];
+        places.clear();
+        let mut left = self.on;
+        for number in 0..self.on.count_ones() {
+            let place = left.trailing_zeros();
+            if let Some(there) = numbers.get_mut(place as usize) {
+                *there = number as Qubit;
+            }
+            places.push(place as Qubit)?;
+            left &= left.wrapping_sub(1);
         }
-        let numbers = self.numbers(alloc)?;
-        let mut gates = Vec::with_capacity(alloc, self.taken.len())?;
+        small.clear();
         for gate in &self.taken {
-            gates.push(moved(gate, &numbers))?;
+            small.push(moved(gate, &numbers))?;
         }
-        circuit_of(alloc, width as Qubit, &gates)
-    }
-
-    // Of each qubit, how many of the part are below it.
-    fn numbers(&self, alloc: Global) -> Result<Vec<Qubit>, AllocError> {
-        let mut numbers = Vec::with_capacity(alloc, usize::from(MOST_QUBITS))?;
-        let mut number: Qubit = 0;
-        for q in 0..MOST_QUBITS {
-            numbers.push(number)?;
-            if self.on & bit(q) != 0 {
-                number = number.wrapping_add(1);
-            }
-        }
-        Ok(numbers)
-    }
-
-    /// The qubits of the part, in order.
-    pub(crate) fn places(&self, alloc: Global) -> Result<Vec<Qubit>, AllocError> {
-        let mut places = Vec::new(alloc);
-        for q in 0..MOST_QUBITS {
-            if self.on & bit(q) != 0 {
-                places.push(q)?;
-            }
-        }
-        Ok(places)
+        Ok(self.on.count_ones() as Qubit)
     }
 }
 

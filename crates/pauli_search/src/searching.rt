@@ -4,10 +4,10 @@ ghost use Rattle.std.specs.Prelude.{◌≡◌, IfOk, IfSome};
 
 use crate::drawing::Drawing;
 use crate::parts::{MOST_QUBITS, Part, Size, moved};
-use pauli_network::{circuit_of, inverse, rewrite};
+use pauli_network::{Rewriter, circuit_of, invert};
 use std::alloc::{AllocError, Global};
 use std::mem;
-use zx_gates::{Counts, Gate, GateList, Qubit, counts};
+use zx_gates::{Gate, GateList, Qubit, counts};
 use zx_peephole::tidy;
 
 // Along how many gates a part is taken.
@@ -20,7 +20,8 @@ const TURN: usize = 64;
 const CLEANUP: usize = 16;
 
 /// A circuit that may have the map of another one, and fewer gates on two qubits, where such is found in so many
-/// tries. Nothing is promised of either. Equal arguments give equal circuits.
+/// tries, at most `idle` of them in a row without a gain. Nothing is promised of either. Equal arguments give equal
+/// circuits.
 ///
 /// # Errors
 ///
@@ -29,6 +30,7 @@ pub fn search(
     alloc: Global,
     circuit: &GateList,
     tries: usize,
+    idle: usize,
     seed: u64,
 ) -> Result<Option<GateList>, AllocError>
     ensures { IfOk result (λ found. IfSome found (λ made. made.qubits ≡ circuit.now.qubits)) }
@@ -40,12 +42,15 @@ pub fn search(
     let mut lists = Lists::new(alloc, circuit, seed)?;
     for number in 0..tries {
         if number % TURN == TURN - 1 {
-            lists.turn_around(alloc)?;
+            lists.turn_around()?;
         }
         lists.try_once(alloc)?;
+        if lists.idle > idle {
+            break;
+        }
     }
     if lists.is_backwards {
-        lists.turn_around(alloc)?;
+        lists.turn_around()?;
     }
     circuit_of(alloc, qubits, &lists.best)
 }
@@ -62,6 +67,15 @@ struct Lists {
     // How often the list has changed.
     changes: usize,
     drawing: Drawing,
+    // How many tries have gained nothing since the best list was found.
+    idle: usize,
+    // Memory that each try uses again: the next list, and the part that is written again, on its own qubits alone, which
+    // have these places.
+    next: Vec<Gate>,
+    part: Part,
+    small: Vec<Gate>,
+    places: Vec<Qubit>,
+    rewriter: Rewriter,
 }
 
 // How long a list is.
@@ -103,19 +117,28 @@ impl Lists {
             is_backwards: false,
             changes: 0,
             drawing: Drawing::new(seed),
+            idle: 0,
+            next: Vec::new(alloc),
+            part: Part::new(alloc),
+            small: Vec::new(alloc),
+            places: Vec::new(alloc),
+            rewriter: Rewriter::new(alloc),
         })
     }
 
     // Both lists backwards.
-    fn turn_around(&mut self, alloc: Global) -> Result<(), AllocError> {
-        self.current = inverse(alloc, &self.current)?;
-        self.best = inverse(alloc, &self.best)?;
+    fn turn_around(&mut self) -> Result<(), AllocError> {
+        invert(&mut self.next, &self.current)?;
+        mem::swap(&mut self.current, &mut self.next);
+        invert(&mut self.next, &self.best)?;
+        mem::swap(&mut self.best, &mut self.next);
         self.is_backwards = !self.is_backwards;
         Ok(())
     }
 
     // Writes a part of the list again.
     fn try_once(&mut self, alloc: Global) -> Result<(), AllocError> {
+        self.idle = self.idle.saturating_add(1);
         let start = self
             .drawing
             .place(self.current.len())
@@ -125,37 +148,65 @@ impl Lists {
             gates: self.drawing.size(),
             reach: REACH,
         };
-        let part = Part::of(alloc, &self.current[start..], size)?;
-        if Length::of(&part.taken).two_qubit < 2 {
+        self.part.take(&self.current[start..], size)?;
+        if Length::of(&self.part.taken).two_qubit < 2 {
             return Ok(());
         }
         let seed = self.drawing.seed();
-        match written_again(alloc, &part, seed)? {
-            Some(gates) => self.change(alloc, start, &gates, &part),
+        let qubits = self.part.narrow(&mut self.small, &mut self.places)?;
+        self.rewriter
+            .rewrite(qubits, &self.small, seed % 2 == 1, seed / 2)?;
+        match self.written(alloc, qubits)? {
+            Some(made) => self.change(alloc, start, made.gates()),
             None => Ok(()),
         }
     }
 
-    // Puts gates in a part's place.
-    fn change(
-        &mut self,
-        alloc: Global,
-        start: usize,
-        gates: &[Gate],
-        part: &Part,
-    ) -> Result<(), AllocError> {
-        let mut next = Vec::with_capacity(alloc, self.current.len())?;
-        next.extend_from_slice(&self.current[..start.min(self.current.len())])?;
-        next.extend_from_slice(gates)?;
-        next.extend_from_slice(&part.passed)?;
-        let end = start.saturating_add(part.read).min(self.current.len());
-        next.extend_from_slice(&self.current[end..])?;
+    // What the part was written as, after cleanup, where it is on no more pairs of qubits.
+    fn written(&self, alloc: Global, qubits: Qubit) -> Result<Option<GateList>, AllocError> {
+        let Some(gates) = self.rewriter.written() else {
+            return Ok(None);
+        };
+        if qubits > MOST_QUBITS {
+            return Ok(None);
+        }
+        let Some(mut made) = circuit_of(alloc, qubits, gates)? else {
+            return Ok(None);
+        };
+        tidy(&mut made);
+        Ok(Some(made))
+    }
+
+    // Puts gates in the part's place.
+    fn change(&mut self, alloc: Global, start: usize, gates: &[Gate]) -> Result<(), AllocError> {
+        self.next.clear();
+        self.next
+            .extend_from_slice(&self.current[..start.min(self.current.len())])?;
+        for gate in gates {
+            self.next.push(moved(gate, &self.places))?;
+        }
+        self.next.extend_from_slice(&self.part.passed)?;
+        let end = start.saturating_add(self.part.read).min(self.current.len());
+        self.next.extend_from_slice(&self.current[end..])?;
+        mem::swap(&mut self.current, &mut self.next);
         self.changes = self.changes.wrapping_add(1);
         if self.changes % CLEANUP == 0 {
-            next = tidied(alloc, self.qubits, next)?;
+            self.tidy_current(alloc)?;
         }
-        self.current = next;
         self.keep_best()
+    }
+
+    // Tidies the list.
+    fn tidy_current(&mut self, alloc: Global) -> Result<(), AllocError> {
+        if self.qubits > MOST_QUBITS {
+            return Ok(());
+        }
+        if let Some(mut list) = circuit_of(alloc, self.qubits, &self.current)? {
+            tidy(&mut list);
+            self.current.clear();
+            self.current.extend_from_slice(list.gates())?;
+        }
+        Ok(())
     }
 
     // Keeps the list if it is the best so far.
@@ -163,43 +214,10 @@ impl Lists {
         let size = Length::of(&self.current);
         if size.is_below(self.best_size) {
             self.best_size = size;
+            self.idle = 0;
             self.best.clear();
             self.best.extend_from_slice(&self.current)?;
         }
         Ok(())
     }
-}
-
-// A part with no more gates on two qubits, on its places, where such is found.
-fn written_again(alloc: Global, part: &Part, seed: u64) -> Result<Option<Vec<Gate>>, AllocError> {
-    let Some(small) = part.narrowed(alloc)? else {
-        return Ok(None);
-    };
-    let Some(mut made) = rewrite(alloc, &small, seed % 2 == 1, seed / 2)? else {
-        return Ok(None);
-    };
-    tidy(&mut made);
-    if counts(&made).two_qubit > counts(&small).two_qubit {
-        return Ok(None);
-    }
-    let places = part.places(alloc)?;
-    let mut gates = Vec::with_capacity(alloc, made.gates().len())?;
-    for gate in made.gates() {
-        gates.push(moved(gate, &places))?;
-    }
-    Ok(Some(gates))
-}
-
-// Gates after cleanup.
-fn tidied(alloc: Global, qubits: Qubit, gates: Vec<Gate>) -> Result<Vec<Gate>, AllocError> {
-    if qubits > MOST_QUBITS {
-        return Ok(gates);
-    }
-    let Some(mut list) = circuit_of(alloc, qubits, &gates)? else {
-        return Ok(gates);
-    };
-    tidy(&mut list);
-    let mut made = Vec::new(alloc);
-    made.extend_from_slice(list.gates())?;
-    Ok(made)
 }

@@ -5,8 +5,9 @@ use std::alloc::Global;
 use std::process::Abort;
 use std::test::Fail;
 use zx_gates::Gate;
+use zx_inverse::inverse;
 use zx_model::{Scalar, Sixteenth};
-use zx_same::{Sameness, compare, inverse, quotient};
+use zx_same::{Sameness, compare, quotient};
 
 fn t(q: u16) -> Gate {
     Gate::Phase(q, Sixteenth::eighth_turn())

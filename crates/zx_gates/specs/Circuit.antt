@@ -42,11 +42,14 @@ gate_bound = 2 ^ 32
 abbrev pub circuit_of : ℕ → List Gate → Circuit
 circuit_of qubits gates = record { qubits = qubits; gates = gates }
 
--- a circuit with few enough gates, for each of which there is one of so many places beside it
-pub record HasRoom (c : Circuit) (places : ℕ) : Type 0 where
+-- a circuit with few enough gates, for each of which there is one of so many places beside it; and where there is a gate,
+-- for each qubit there is one of so many links and one of so many rows of marks
+pub record HasRoom (c : Circuit) (places links rows : ℕ) : Type 0 where
   pub circuit : IsCircuit c
   pub few_gates : length c.gates < gate_bound
   pub enough : length c.gates ≤ places
+  pub linked : 0 < length c.gates → c.qubits ≤ links
+  pub marked : 0 < length c.gates → c.qubits ≤ rows
 
 -- whether a gate is a phase gate of an odd phase, as T is: these are the dear gates
 abbrev pub is_odd_phase : Gate → Bool

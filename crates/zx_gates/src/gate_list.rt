@@ -12,6 +12,9 @@ use std::mem;
 // The most gates that a list may have, so that a link can name each of them.
 const MOST_GATES: usize = u32::MAX as usize;
 
+/// The most qubits that a circuit may have.
+pub const MOST_QUBITS: usize = 1024;
+
 /// Room beside a gate for a link to another gate of its list, one for each of its qubits.
 #[derive(Clone, Copy, Debug, PartialEq, Eq)]
 pub struct Links {
@@ -20,6 +23,9 @@ pub struct Links {
     /// The link for the second qubit.
     pub second: u32,
 }
+
+/// Room beside a qubit for a mark for each other qubit, 128 to a word.
+pub type Marks = [u128; MOST_QUBITS / 128];
 
 /// What a circuit is made of, for a pass that works on all of it.
 #[derive(Drop)]
@@ -30,16 +36,23 @@ pub struct Parts {
     pub gates: Vec<Gate>,
     /// Room for the links of each gate; what they hold is for the pass to say.
     pub links: Vec<Links>,
+    /// Room for a link of each qubit, where there are gates.
+    pub last: Vec<u32>,
+    /// Room for the marks of each qubit, where there are gates.
+    pub marks: Vec<Marks>,
 }
 
 /// A circuit: a number of qubits, at most 1,024, and the gates on them, the first to act first. The qubits
 /// of a gate are below that number and differ, no phase gate has the phase 0, and phases are below a whole turn.
-/// There is room for links beside the gates, so that a pass that wants them needs no memory.
+/// There is room for links beside the gates, and for a link and marks beside each qubit from the first gate on, so
+/// that a pass that wants them needs no memory.
 #[derive(Drop)]
 pub struct GateList {
     qubits: Qubit,
     gates: Vec<Gate>,
     links: Vec<Links>,
+    last: Vec<u32>,
+    marks: Vec<Marks>,
 }
 
 impl Model for GateList {
@@ -50,7 +63,8 @@ impl Model for GateList {
 
     ghost view = { λ list. circuit_of list.qubits list.gates.items };
 
-    ghost invariant = { λ list. HasRoom (circuit_of list.qubits list.gates.items) (length list.links.items) };
+    ghost invariant = { λ list. HasRoom (circuit_of list.qubits list.gates.items) (length list.links.items)
+        (length list.last.items) (length list.marks.items) };
 }
 
 impl GateList {
@@ -63,6 +77,8 @@ impl GateList {
             qubits,
             gates: Vec::new(alloc),
             links: Vec::new(alloc),
+            last: Vec::new(alloc),
+            marks: Vec::new(alloc),
         }
     }
 
@@ -74,6 +90,8 @@ impl GateList {
             qubits: self.qubits,
             gates: self.gates.clone()?,
             links: self.links.clone()?,
+            last: self.last.clone()?,
+            marks: self.marks.clone()?,
         })
     }
 
@@ -104,6 +122,11 @@ impl GateList {
     {
         if self.gates.len() >= MOST_GATES {
             return Err(AllocError);
+        }
+        if self.gates.is_empty() {
+            let qubits = usize::from(self.qubits);
+            self.last.resize(qubits, 0)?;
+            self.marks.resize(qubits, [0; MOST_QUBITS / 128])?;
         }
         if self.links.len() <= self.gates.len() {
             self.links.push(Links {
@@ -136,7 +159,8 @@ impl GateList {
     /// Takes the circuit apart, and leaves one without qubits behind.
     pub fn take(&mut self) -> Parts
         ensures circuit { circuit_of result.qubits result.gates.items ≡ self.old }
-        ensures room { HasRoom self.old (length result.links.items) }
+        ensures room { HasRoom self.old (length result.links.items) (length result.last.items)
+            (length result.marks.items) }
     {
         let alloc = *self.gates.allocator();
         let list = mem::replace(self, GateList::new(alloc, 0));
@@ -144,18 +168,23 @@ impl GateList {
             qubits: list.qubits,
             gates: list.gates,
             links: list.links,
+            last: list.last,
+            marks: list.marks,
         }
     }
 
     /// Puts a circuit together.
     pub fn from_parts(parts: Parts) -> GateList
-        requires { HasRoom (circuit_of parts.qubits parts.gates.items) (length parts.links.items) }
+        requires { HasRoom (circuit_of parts.qubits parts.gates.items) (length parts.links.items)
+            (length parts.last.items) (length parts.marks.items) }
         ensures { result ≡ circuit_of parts.qubits parts.gates.items }
     {
         GateList {
             qubits: parts.qubits,
             gates: parts.gates,
             links: parts.links,
+            last: parts.last,
+            marks: parts.marks,
         }
     }
 }

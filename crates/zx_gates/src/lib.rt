@@ -25,7 +25,7 @@ mod tally;
 pub use counting::counts;
 pub use elementary::{Elementary, ElementaryGate, Elements, Measure, Measures};
 pub use gate::{Gate, Qubit};
-pub use gate_list::{GateList, Links, Parts};
+pub use gate_list::{GateList, Links, MOST_QUBITS, Marks, Parts};
 pub use laws::{lowering_keeps_map_and_odd_phases, no_map_is_zero, worked_maps};
 pub use lowering::lower;
 pub use scaled_circuit::ScaledCircuit;

@@ -21,7 +21,7 @@ pub trait Pieces {
 }
 
 // The most bytes that one read asks for.
-const LONGEST_PIECE: usize = 65_536;
+const LONGEST_PIECE: usize = 4_096;
 
 /// Reads all bytes of the source, up to its end, where they are at most `limit`, and hands them on as they come.
 /// It takes at most `limit + 1` bytes, and knows by the last one that they are too many.

@@ -18,7 +18,7 @@ use Rattle.zx_peephole.specs.Tidy.{is_pair}
 use Rattle.zx_peephole.specs.declared.chains.Chains.{Chains}
 use Rattle.zx_peephole.specs.Internal.Marks.{bars, is_open, has_bit, has_mark, IsMarked, meets_none, IsMarkedBehind, IsMarkedWithout}
 use Rattle.zx_peephole.specs.Internal.Chains.{nothing, is_left, gate_at, second_qubit, kept, next_of}
-use Rattle.zx_peephole.specs.Internal.Stops.{HasFewQubits}
+use Rattle.zx_peephole.specs.Internal.Stops.{HasQubitsBelow}
 use Rattle.zx_peephole.specs.Internal.Changes.{EndsPair}
 use Rattle.zx_peephole.proofs.Cuts.{cut_cases, cut_one, cut_none, all_parts, all_at, all_with, all_weaker}
 use Rattle.zx_peephole.proofs.CommutingLemmas.{apart_off, alike}
@@ -192,14 +192,14 @@ module _ (marks : List (List ℕ)) (gates : List Gate) (m : IsMarked marks gates
       m.marked q r e.before e.between e.first few e.cut pair
       (all_weaker (commutes e.first) (is_open q) (λ x passed. passes_open q r e.first x pair passed) e.between e.commute)
 
-  no_pair : (q r : ℕ) → HasFewQubits (Cz q r) → meets_none marks (Cz q r) ≡ true → (i : ℕ)
+  no_pair : (q r : ℕ) → HasQubitsBelow most_qubits (Cz q r) → meets_none marks (Cz q r) ≡ true → (i : ℕ)
       → EndsPair gates (Cz q r) i → ⊥
   no_pair q r few none i e =
       both_ways (has_mark marks q r && has_mark marks r q) (not-true (has_mark marks q r && has_mark marks r q) none)
       (and_from (has_mark marks q r) (has_mark marks r q) (pair_marked q r (Cz q r) i e few.second e.merge)
       (pair_marked r q (Cz q r) i e few.first (either_order q r e.first e.merge)))
 
-  pub unmet_extends : (g : Gate) → HasFewQubits g → meets_none marks g ≡ true → Extends gates g
+  pub unmet_extends : (g : Gate) → HasQubitsBelow most_qubits g → meets_none marks g ≡ true → Extends gates g
   unmet_extends (Cz q r) few none = tidy-more gates (Cz q r) (no_pair q r few none)
       (λ i j e. let h : Cz q r ≡ H e.qubit = e.is in cc)
   unmet_extends g few none = absurd (let h : false ≡ true = none in cc)
@@ -236,30 +236,30 @@ marked_same : (a b : List (List ℕ)) (xs ys : List Gate) → a ≡ b → xs ≡
 marked_same a b xs ys e f m = subst (λ (l : List (List ℕ)). IsMarked l xs) (sym e) (subst (IsMarked b) (sym f) m)
 
 -- ---- the list that is being tidied
-pub marked_begun : (w : Chains) → w.next ≡ 0 → IsMarked w.marks (kept w)
+pub marked_begun : (w : Chains) → w.next ≡ 0 → IsMarked w.marks.items (kept w)
 marked_begun w next = record {
   marked = λ q r before between first few cut.
       absurd (cut_none first before between (sym (ap (λ n. filter is_left (take n w.gates.items)) next) ∙ cut));
 }
 
-pub marked_kept : (old w : Chains) → IsMarked old.marks (kept old) → old.next < length old.gates.items
-    → is_left (next_of old) ≡ true → IsMarkedBehind old.marks w.marks (next_of old) → w.gates ≡ old.gates
-    → w.next ≡ old.next + 1 → IsMarked w.marks (kept w)
+pub marked_kept : (old w : Chains) → IsMarked old.marks.items (kept old) → old.next < length old.gates.items
+    → is_left (next_of old) ≡ true → IsMarkedBehind old.marks.items w.marks.items (next_of old) → w.gates ≡ old.gates
+    → w.next ≡ old.next + 1 → IsMarked w.marks.items (kept w)
 marked_kept old w m more left b gates next =
-    subst (IsMarked w.marks)
+    subst (IsMarked w.marks.items)
     (sym (ap₂ (λ n v. filter is_left (take n v.items)) next gates
     ∙ filter_more is_left old.gates.items old.next nothing more
     ∙ ap (λ xs. kept old ++ xs) (one_left (is_left (next_of old)) (next_of old) [] left)))
-    (marked_more old.marks w.marks (kept old) (next_of old) m b)
+    (marked_more old.marks.items w.marks.items (kept old) (next_of old) m b)
 
-pub marked_removed : (old w : Chains) (i : ℕ) → IsMarked old.marks (kept old) → i < old.next
+pub marked_removed : (old w : Chains) (i : ℕ) → IsMarked old.marks.items (kept old) → i < old.next
     → old.next ≤ length old.gates.items → is_left (gate_at old.gates.items i) ≡ true
-    → IsMarkedWithout old.marks w.marks (gate_at old.gates.items i)
-    → w.gates.items ≡ set old.gates.items i nothing → w.next ≡ old.next → IsMarked w.marks (kept w)
+    → IsMarkedWithout old.marks.items w.marks.items (gate_at old.gates.items i)
+    → w.gates.items ≡ set old.gates.items i nothing → w.next ≡ old.next → IsMarked w.marks.items (kept w)
 marked_removed old w i m before within left b gates next =
-    subst (IsMarked w.marks) (sym gone)
-    (marked_less old.marks w.marks front (left_behind old.gates.items i old.next) (gate_at old.gates.items i)
-    (subst (IsMarked old.marks) cut m) b)
+    subst (IsMarked w.marks.items) (sym gone)
+    (marked_less old.marks.items w.marks.items front (left_behind old.gates.items i old.next) (gate_at old.gates.items i)
+    (subst (IsMarked old.marks.items) cut m) b)
   where
     front : List Gate
     front = filter is_left (take i old.gates.items)
@@ -275,18 +275,18 @@ marked_removed old w i m before within left b gates next =
         ∙ remove_at front (left_behind old.gates.items i old.next) (gate_at old.gates.items i) (length front) refl
 
 -- the next gate is another one
-pub marked_written : (old w : Chains) (g : Gate) → IsMarked old.marks (kept old)
-    → w.gates.items ≡ set old.gates.items old.next g → w.marks ≡ old.marks → w.next ≡ old.next → IsMarked w.marks (kept w)
+pub marked_written : (old w : Chains) (g : Gate) → IsMarked old.marks.items (kept old)
+    → w.gates.items ≡ set old.gates.items old.next g → w.marks.items ≡ old.marks.items → w.next ≡ old.next → IsMarked w.marks.items (kept w)
 marked_written old w g m gates marks next =
-    marked_same w.marks old.marks (kept w) (kept old) marks
+    marked_same w.marks.items old.marks.items (kept w) (kept old) marks
     (ap₂ (λ n xs. filter is_left (take n xs)) next gates ∙ ap (filter is_left) (take-set old.gates.items old.next g)) m
 
 -- or nothing is left of it
-pub marked_passed : (old w : Chains) → IsMarked old.marks (kept old) → old.next < length old.gates.items
-    → w.gates.items ≡ set old.gates.items old.next nothing → w.marks ≡ old.marks → w.next ≡ old.next + 1
-    → IsMarked w.marks (kept w)
+pub marked_passed : (old w : Chains) → IsMarked old.marks.items (kept old) → old.next < length old.gates.items
+    → w.gates.items ≡ set old.gates.items old.next nothing → w.marks.items ≡ old.marks.items → w.next ≡ old.next + 1
+    → IsMarked w.marks.items (kept w)
 marked_passed old w m more gates marks next =
-    marked_same w.marks old.marks (kept w) (kept old) marks
+    marked_same w.marks.items old.marks.items (kept w) (kept old) marks
     (ap₂ (λ n xs. filter is_left (take n xs)) next gates
     ∙ ap (filter is_left) (take_more_set old.gates.items old.next nothing more)
     ∙ filter-append is_left (take old.next old.gates.items) (nothing ∷ [])

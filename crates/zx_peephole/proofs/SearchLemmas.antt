@@ -2,13 +2,13 @@
 use Rattle.std.proofs.Common.{◌≡◌, ℕ, ◌<◌, true, false, length, get_or, take, sym, ap, ◌∙◌, subst, arith}
 use Rattle.std.specs.List.{filter}
 use Rattle.zx_gates.specs.declared.gate.Gate.{Gate}
-use Rattle.zx_gates.specs.Circuit.{IsGateOn}
+use Rattle.zx_gates.specs.Circuit.{most_qubits, IsGateOn}
 use Rattle.zx_peephole.specs.Tidy.{is_pair}
 use Rattle.zx_peephole.specs.declared.chains.Chains.{Chains}
 use Rattle.zx_peephole.specs.Internal.Chains.{is_left, gate_at, kept, left_before, next_of, IsReading}
 use Rattle.zx_peephole.specs.Internal.Marks.{meets_none}
 use Rattle.zx_peephole.specs.Internal.Changes.{EndsPair, EndsTriple, IsPairAt, IsTripleAt}
-use Rattle.zx_peephole.specs.Internal.Stops.{IsFreeBetween, IsStop, IsLastStop, HasFewQubits, turns}
+use Rattle.zx_peephole.specs.Internal.Stops.{IsFreeBetween, IsStop, IsLastStop, HasQubitsBelow, turns}
 use Rattle.zx_peephole.proofs.FindingLemmas.{Extends, free_extends, stop_extends, free_stop_extends, stops_extend}
 use Rattle.zx_peephole.proofs.FindingLemmas.{stop_is_pair, stop_is_triple}
 use Rattle.zx_peephole.proofs.LeftLemmas.{read_at}
@@ -31,14 +31,14 @@ module _ (w : Chains) (reading : IsReading w) (g : Gate) (read : g ≡ get_or w.
   nothing_stops free =
       tidies (free_extends (kept w) g (free_of w.gates.items g w.next reading.sound.places.within free))
 
-  pub unmet : meets_none w.marks g ≡ true → Tidies
-  unmet none = tidies (unmet_extends w.marks (kept w) reading.sound.marks g few none)
+  pub unmet : meets_none w.marks.items g ≡ true → Tidies
+  unmet none = tidies (unmet_extends w.marks.items (kept w) reading.sound.marks g few none)
     where
       on : IsGateOn w.qubits g
       on = subst (IsGateOn w.qubits) (sym same)
           (reading.sound.on_qubits w.next reading.more (reading.sound.unread w.next (omega arith) reading.more))
 
-      few : HasFewQubits g
+      few : HasQubitsBelow most_qubits g
       few = record {
         first = omega (arith, first_below w.qubits g on, reading.sound.few_qubits);
         second = omega (arith, second_below w.qubits g on, reading.sound.few_qubits);

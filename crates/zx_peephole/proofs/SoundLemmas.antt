@@ -1,11 +1,11 @@
 -- What keeps a list sound while it is tidied.
 use Rattle.std.proofs.Common.{◌≡◌, ◌≢◌, ◌⊎◌, inl, inr, ℕ, ◌+◌, ◌<◌, ◌≤◌, true, false, cond, ◌&&◌, eqb, List, length}
 use Rattle.std.proofs.Common.{get_or, set, replicate, refl, sym, ap, ap₂, ◌∙◌, subst, arith}
-use Rattle.std.proofs.lemmas.Bool.{cases_eq, cases_Bool, eq-eqb, ne_eqb, and_parts, and_from, or_left, or_right, both_ways, not_from_false}
+use Rattle.std.proofs.lemmas.Bool.{cases_eq, cases_lt, cases_Bool, eq-eqb, ne_eqb, and_parts, and_from, or_left, or_right, both_ways, not_from_false}
 use Rattle.std.proofs.lemmas.List.Elements.{All-filter, All-from_get_or, filter_passes}
 use Rattle.std.proofs.lemmas.List.Sums.{length-filter, count_by-le-length}
 use Rattle.std.specs.List.{filter}
-use Rattle.std.proofs.lemmas.List.{take_all, get_or-set_same, get_or-set_other, get_or-replicate, length-set, length-replicate}
+use Rattle.std.proofs.lemmas.List.{take_all, get_or-set_same, get_or-set_other, get_or-replicate, get_or_past, length-set, length-replicate}
 use Rattle.zx_gates.specs.declared.gate.Gate.{Gate}
 use Rattle.zx_gates.specs.declared.gate.Gate.TheVariants.{H, Phase, Cz, Cx, Not}
 use Rattle.zx_gates.specs.declared.gate_list.Links.{Links}
@@ -55,12 +55,12 @@ on_of gates q i on = (and_parts (is_left (gate_at gates i)) (is_on q (gate_at ga
 -- ---- a gate leaves its chains
 module _ (old new : Chains) (i f : ℕ) (sound : IsSound old) (u : IsUnlinked old new i f) where
   other_chain : (q : ℕ) → q < most_qubits → q ≢ f → (IsOn old.gates.items q i → ⊥)
-      → IsChain (Without i (IsOn old.gates.items q)) (link_at old.gates.items new.links.items q) (get_or new.last q 0) old.next
+      → IsChain (Without i (IsOn old.gates.items q)) (link_at old.gates.items new.links.items q) (get_or new.last.items q 0) old.next
   other_chain q few differ off =
       subst (λ (n : ℕ). IsChain (Without i (IsOn old.gates.items q)) (link_at old.gates.items new.links.items q) n old.next)
       (sym (u.last q differ))
       (chain-same (IsOn old.gates.items q) (Without i (IsOn old.gates.items q)) (link_at old.gates.items old.links.items q)
-      (link_at old.gates.items new.links.items q) (get_or old.last q 0) old.next
+      (link_at old.gates.items new.links.items q) (get_or old.last.items q 0) old.next
       (λ j below on. (on, λ e. off (subst (IsOn old.gates.items q) e on))) (λ j below on. on.0)
       (λ j below on. u.links q j differ on) (sound.chains q few))
 
@@ -73,7 +73,7 @@ module _ (old new : Chains) (i f : ℕ) (sound : IsSound old) (u : IsUnlinked ol
     table = u.table;
     chains = λ q few. elim (cases_eq f q) [
       | inl same ↦ subst (λ (p : ℕ). IsChain (Without i (IsOn old.gates.items p)) (link_at old.gates.items new.links.items p)
-          (get_or new.last p 0) old.next) same u.chain
+          (get_or new.last.items p 0) old.next) same u.chain
       | inr differ ↦ other_chain q few (λ e. differ (sym e))
           (λ on. elim (on_cases q (gate_at old.gates.items i) (on_of old.gates.items q i on)) [
             | inl e ↦ differ (first ∙ sym e)
@@ -91,10 +91,10 @@ module _ (old new : Chains) (i f : ℕ) (sound : IsSound old) (u : IsUnlinked ol
     table = then.table ∙ u.table;
     chains = λ q few. elim (cases_eq s q) [
       | inl same ↦ subst (λ (p : ℕ). IsChain (Without i (IsOn old.gates.items p)) (link_at old.gates.items last.links.items p)
-          (get_or last.last p 0) old.next) same then.chain
+          (get_or last.last.items p 0) old.next) same then.chain
       | inr other ↦ later q (λ e. other (sym e)) (elim (cases_eq f q) [
         | inl same ↦ subst (λ (p : ℕ). IsChain (Without i (IsOn old.gates.items p)) (link_at old.gates.items new.links.items p)
-            (get_or new.last p 0) old.next) same u.chain
+            (get_or new.last.items p 0) old.next) same u.chain
         | inr differ ↦ other_chain q few (λ e. differ (sym e))
             (λ on. elim (on_cases q (gate_at old.gates.items i) (on_of old.gates.items q i on)) [
               | inl e ↦ differ (first ∙ sym e)
@@ -108,13 +108,13 @@ module _ (old new : Chains) (i f : ℕ) (sound : IsSound old) (u : IsUnlinked ol
       then = subst (λ (w : Chains). IsUnlinked w last i s) u.same v
 
       later : (q : ℕ) → q ≢ s
-          → IsChain (Without i (IsOn old.gates.items q)) (link_at old.gates.items new.links.items q) (get_or new.last q 0) old.next
-          → IsChain (Without i (IsOn old.gates.items q)) (link_at old.gates.items last.links.items q) (get_or last.last q 0) old.next
+          → IsChain (Without i (IsOn old.gates.items q)) (link_at old.gates.items new.links.items q) (get_or new.last.items q 0) old.next
+          → IsChain (Without i (IsOn old.gates.items q)) (link_at old.gates.items last.links.items q) (get_or last.last.items q 0) old.next
       later q differ chain =
           subst (λ (n : ℕ). IsChain (Without i (IsOn old.gates.items q)) (link_at old.gates.items last.links.items q) n old.next)
           (sym (then.last q differ))
           (chain-same (Without i (IsOn old.gates.items q)) (Without i (IsOn old.gates.items q))
-          (link_at old.gates.items new.links.items q) (link_at old.gates.items last.links.items q) (get_or new.last q 0) old.next
+          (link_at old.gates.items new.links.items q) (link_at old.gates.items last.links.items q) (get_or new.last.items q 0) old.next
           (λ j below on. on) (λ j below on. on) (λ j below on. then.links q j differ on.0) chain)
 
 -- ---- a place is written
@@ -154,19 +154,21 @@ module _ (gates : List Gate) (links : List Links) (i : ℕ) (g : Gate) (q last n
 pub sound_set : (old w : Chains) (i : ℕ) (g : Gate) → IsSound old → w.qubits ≡ old.qubits → old.next ≤ w.next
     → w.next ≤ length old.gates.items → i < length old.gates.items
     → w.gates.items ≡ set old.gates.items i g → length w.links.items ≡ length old.links.items
-    → length w.last ≡ length old.last → (is_left g ≡ true → IsGateOn old.qubits g) → (w.next ≤ i → is_left g ≡ true)
+    → length w.last.items ≡ length old.last.items → length w.marks.items ≡ length old.marks.items
+    → (is_left g ≡ true → IsGateOn old.qubits g) → (w.next ≤ i → is_left g ≡ true)
     → ((q : ℕ) → q < most_qubits → IsChain (IsOn (set old.gates.items i g) q) (link_at (set old.gates.items i g) w.links.items q)
-    (get_or w.last q 0) w.next)
-    → IsMarked w.marks (kept w) → IsSound w
-sound_set old w i g sound qubits more within inside gates room table on unread chains marks = record {
+    (get_or w.last.items q 0) w.next)
+    → IsMarked w.marks.items (kept w) → IsSound w
+sound_set old w i g sound qubits more within inside gates room table rows on unread chains marks = record {
   places = record {
-    qubits = table ∙ sound.places.qubits;
+    linked = omega (arith, qubits, table, sound.places.linked);
+    marked = omega (arith, qubits, rows, sound.places.marked);
     within = omega (arith, size, within);
     few_gates = omega (arith, size, sound.places.few_gates);
     enough = omega (arith, size, room, sound.places.enough);
   };
   chains = λ q few.
-      subst (λ (xs : List Gate). IsChain (IsOn xs q) (link_at xs w.links.items q) (get_or w.last q 0) w.next) (sym gates)
+      subst (λ (xs : List Gate). IsChain (IsOn xs q) (link_at xs w.links.items q) (get_or w.last.items q 0) w.next) (sym gates)
       (chains q few);
   marks = marks;
   few_qubits = omega (arith, qubits, sound.few_qubits);
@@ -195,22 +197,24 @@ sound_set old w i g sound qubits more within inside gates room table on unread c
 -- a gate is gone
 pub sound_removed : (old new : Chains) (i : ℕ) (g : Gate) (w : Chains) → g ≡ nothing → IsSound old → IsLeftAt old i
     → IsUnlinkedFromAll old new i → w.gates.items ≡ set new.gates.items i g → w.qubits ≡ new.qubits → w.links ≡ new.links
-    → w.last ≡ new.last → w.next ≡ new.next → IsMarkedWithout new.marks w.marks (gate_at old.gates.items i) → IsSound w
-sound_removed old new i g w gone sound kept u gates qubits links last next marks =
+    → w.last ≡ new.last → w.next ≡ new.next → length w.marks.items ≡ length new.marks.items
+    → IsMarkedWithout new.marks.items w.marks.items (gate_at old.gates.items i) → IsSound w
+sound_removed old new i g w gone sound kept u gates qubits links last next rows marks =
     sound_set old w i g sound (qubits ∙ ap (λ (v : Chains). v.qubits) u.same) (omega (arith, same_next))
     (omega (arith, same_next, sound.places.within)) inside
     same_gates (ap (λ l. length l.items) links ∙ u.room)
-    (ap length last ∙ u.table)
+    (ap (λ l. length l.items) last ∙ u.table) (rows ∙ ap (λ (v : Chains). length v.marks.items) u.same)
     (λ left. absurd (both_ways (is_left nothing) refl (ap is_left (sym gone) ∙ left)))
     (λ past. absurd (omega (arith, same_next, kept.before)))
     (λ q few. subst (λ (n : ℕ). IsChain (IsOn (set old.gates.items i g) q) (link_at (set old.gates.items i g) w.links.items q)
-    (get_or w.last q 0) n) (sym same_next)
-    (chain_gone old.gates.items w.links.items i g q (get_or w.last q 0) old.next inside gone
+    (get_or w.last.items q 0) n) (sym same_next)
+    (chain_gone old.gates.items w.links.items i g q (get_or w.last.items q 0) old.next inside gone
     (subst (λ (l : List ℕ). IsChain (Without i (IsOn old.gates.items q)) (link_at old.gates.items w.links.items q) (get_or l q 0) old.next)
-    (sym last) (subst (λ (l : List Links). IsChain (Without i (IsOn old.gates.items q)) (link_at old.gates.items l q) (get_or new.last q 0) old.next)
+    (sym (ap (λ l. l.items) last)) (subst (λ (l : List Links). IsChain (Without i (IsOn old.gates.items q)) (link_at old.gates.items l q) (get_or new.last.items q 0) old.next)
     (sym (ap (λ l. l.items) links)) (u.chains q few)))))
     (marked_removed old w i sound.marks kept.before sound.places.within kept.left
-    (subst (λ (l : List (List ℕ)). IsMarkedWithout l w.marks (gate_at old.gates.items i)) (ap (λ (v : Chains). v.marks) u.same) marks)
+    (subst (λ (l : List (List ℕ)). IsMarkedWithout l w.marks.items (gate_at old.gates.items i))
+    (ap (λ (v : Chains). v.marks.items) u.same) marks)
     (same_gates ∙ ap (set old.gates.items i) gone) same_next)
   where
     same_gates : w.gates.items ≡ set old.gates.items i g
@@ -228,14 +232,14 @@ pub sound_written : (old w : Chains) (g : Gate) → IsSound old → old.next < l
     → w.last ≡ old.last → w.next ≡ old.next → w.marks ≡ old.marks → IsSound w
 sound_written old w g sound more on left gates qubits links last next marks =
     sound_set old w old.next g sound qubits (omega (arith, next)) (omega (arith, next, more)) more gates
-    (ap (λ l. length l.items) links) (ap length last) (λ is. on) (λ past. left)
+    (ap (λ l. length l.items) links) (ap (λ l. length l.items) last) (ap (λ l. length l.items) marks) (λ is. on) (λ past. left)
     (λ q few. subst (λ (n : ℕ). IsChain (IsOn (set old.gates.items old.next g) q) (link_at (set old.gates.items old.next g) w.links.items q)
-    (get_or w.last q 0) n) (sym next)
-    (chain_unread old.gates.items w.links.items old.next g q (get_or w.last q 0) old.next (omega arith)
+    (get_or w.last.items q 0) n) (sym next)
+    (chain_unread old.gates.items w.links.items old.next g q (get_or w.last.items q 0) old.next (omega arith)
     (subst (λ (l : List ℕ). IsChain (IsOn old.gates.items q) (link_at old.gates.items w.links.items q) (get_or l q 0) old.next)
-    (sym last) (subst (λ (l : List Links). IsChain (IsOn old.gates.items q) (link_at old.gates.items l q) (get_or old.last q 0) old.next)
+    (sym (ap (λ l. l.items) last)) (subst (λ (l : List Links). IsChain (IsOn old.gates.items q) (link_at old.gates.items l q) (get_or old.last.items q 0) old.next)
     (sym (ap (λ l. l.items) links)) (sound.chains q few)))))
-    (marked_written old w g sound.marks gates marks next)
+    (marked_written old w g sound.marks gates (ap (λ l. l.items) marks) next)
 
 -- nothing is left of the next gate
 pub sound_passed : (old w : Chains) (g : Gate) → g ≡ nothing → IsSound old → old.next < length old.gates.items
@@ -243,18 +247,18 @@ pub sound_passed : (old w : Chains) (g : Gate) → g ≡ nothing → IsSound old
     → w.last ≡ old.last → w.next ≡ old.next + 1 → w.marks ≡ old.marks → IsSound w
 sound_passed old w g gone sound more gates qubits links last next marks =
     sound_set old w old.next g sound qubits (omega (arith, next)) (omega (arith, next, more)) more gates
-    (ap (λ l. length l.items) links) (ap length last)
+    (ap (λ l. length l.items) links) (ap (λ l. length l.items) last) (ap (λ l. length l.items) marks)
     (λ left. absurd (both_ways (is_left nothing) refl (ap is_left (sym gone) ∙ left)))
     (λ past. absurd (omega (arith, next)))
     (λ q few. subst (λ (n : ℕ). IsChain (IsOn (set old.gates.items old.next g) q) (link_at (set old.gates.items old.next g) w.links.items q)
-    (get_or w.last q 0) n) (sym next)
+    (get_or w.last.items q 0) n) (sym next)
     (chain-past (IsOn (set old.gates.items old.next g) q) (link_at (set old.gates.items old.next g) w.links.items q)
-    (link_at (set old.gates.items old.next g) w.links.items q) (get_or w.last q 0) old.next (off q) (λ j below on. refl)
-    (chain_unread old.gates.items w.links.items old.next g q (get_or w.last q 0) old.next (omega arith)
+    (link_at (set old.gates.items old.next g) w.links.items q) (get_or w.last.items q 0) old.next (off q) (λ j below on. refl)
+    (chain_unread old.gates.items w.links.items old.next g q (get_or w.last.items q 0) old.next (omega arith)
     (subst (λ (l : List ℕ). IsChain (IsOn old.gates.items q) (link_at old.gates.items w.links.items q) (get_or l q 0) old.next)
-    (sym last) (subst (λ (l : List Links). IsChain (IsOn old.gates.items q) (link_at old.gates.items l q) (get_or old.last q 0) old.next)
+    (sym (ap (λ l. l.items) last)) (subst (λ (l : List Links). IsChain (IsOn old.gates.items q) (link_at old.gates.items l q) (get_or old.last.items q 0) old.next)
     (sym (ap (λ l. l.items) links)) (sound.chains q few))))))
-    (marked_passed old w sound.marks more (gates ∙ ap (set old.gates.items old.next) gone) marks next)
+    (marked_passed old w sound.marks more (gates ∙ ap (set old.gates.items old.next) gone) (ap (λ l. l.items) marks) next)
   where
     off : (q : ℕ) → IsOn (set old.gates.items old.next g) q old.next → ⊥
     off q on =
@@ -277,24 +281,43 @@ second_below n (Not q) on = on.0
 second_below n (Cz q r) on = on.0.1
 second_below n (Cx q r) on = on.0.1
 
+-- so there is a link for each of the qubits of the next gate
+module _ (w : Chains) (sound : IsSound w) (more : w.next < length w.gates.items) where
+  on_next : IsGateOn w.qubits (gate_at w.gates.items w.next)
+  on_next = sound.on_qubits w.next more (sound.unread w.next (omega arith) more)
+
+  pub first_linked : (f : ℕ) → f ≡ first_qubit (gate_at w.gates.items w.next) → f < length w.last.items
+  first_linked f is = omega (arith, is, first_below w.qubits (gate_at w.gates.items w.next) on_next, sound.places.linked)
+
+  pub second_linked : (s : ℕ) → s ≡ second_qubit (gate_at w.gates.items w.next) → s < length w.last.items
+  second_linked s is = omega (arith, is, second_below w.qubits (gate_at w.gates.items w.next) on_next, sound.places.linked)
+
 -- the next gate is kept
 pub sound_kept : (old : Chains) (f s : ℕ) (l : Links) (w : Chains) → IsSound old → old.next < length old.gates.items
     → f ≡ first_qubit (gate_at old.gates.items old.next) → s ≡ second_qubit (gate_at old.gates.items old.next)
-    → l.first ≡ get_or old.last f 0 → l.second ≡ get_or old.last s 0
+    → l.first ≡ get_or old.last.items f 0 → l.second ≡ get_or old.last.items s 0
     → w.gates ≡ old.gates → w.qubits ≡ old.qubits → w.links.items ≡ set old.links.items old.next l
-    → w.last ≡ set (set old.last f (old.next + 1)) s (old.next + 1) → w.next ≡ old.next + 1
-    → IsMarkedBehind old.marks w.marks (gate_at old.gates.items old.next) → IsSound w
-sound_kept old f s l w sound more f_is s_is first second gates qubits links last next marks = record {
+    → w.last.items ≡ set (set old.last.items f (old.next + 1)) s (old.next + 1) → w.next ≡ old.next + 1
+    → length w.marks.items ≡ length old.marks.items
+    → IsMarkedBehind old.marks.items w.marks.items (gate_at old.gates.items old.next) → IsSound w
+sound_kept old f s l w sound more f_is s_is first second gates qubits links last next rows marks = record {
   places = record {
-    qubits = ap length last ∙ length-set (set old.last f (old.next + 1)) s (old.next + 1) ∙ length-set old.last f (old.next + 1)
-        ∙ sound.places.qubits;
+    linked = omega (
+      arith,
+      qubits,
+      ap length last,
+      length-set (set old.last.items f (old.next + 1)) s (old.next + 1),
+      length-set old.last.items f (old.next + 1),
+      sound.places.linked,
+    );
+    marked = omega (arith, qubits, rows, sound.places.marked);
     within = omega (arith, size, next, more);
     few_gates = omega (arith, size, sound.places.few_gates);
     enough = omega (arith, size, ap length links, length-set old.links.items old.next l, sound.places.enough);
   };
   chains = λ q few.
-      subst (λ (xs : List Gate). IsChain (IsOn xs q) (link_at xs w.links.items q) (get_or w.last q 0) w.next) (sym (ap (λ v. v.items) gates))
-      (subst (λ (n : ℕ). IsChain (IsOn old.gates.items q) (link_at old.gates.items w.links.items q) (get_or w.last q 0) n) (sym next)
+      subst (λ (xs : List Gate). IsChain (IsOn xs q) (link_at xs w.links.items q) (get_or w.last.items q 0) w.next) (sym (ap (λ v. v.items) gates))
+      (subst (λ (n : ℕ). IsChain (IsOn old.gates.items q) (link_at old.gates.items w.links.items q) (get_or w.last.items q 0) n) (sym next)
       (elim (cases_Bool (is_on q g)) [ inl on ↦ linked q few on | inr off ↦ passed q few off ]));
   marks = marked_kept old w sound.marks more (sound.unread old.next (omega arith) more) marks gates next;
   few_qubits = omega (arith, qubits, sound.few_qubits);
@@ -309,14 +332,11 @@ sound_kept old f s l w sound more f_is s_is first second gates qubits links last
     g : Gate
     g = gate_at old.gates.items old.next
 
-    on_next : IsGateOn old.qubits (gate_at old.gates.items old.next)
-    on_next = sound.on_qubits old.next more (sound.unread old.next (omega arith) more)
+    f_below : f < length old.last.items
+    f_below = first_linked old sound more f f_is
 
-    f_few : f < most_qubits
-    f_few = omega (arith, f_is, first_below old.qubits (gate_at old.gates.items old.next) on_next, sound.few_qubits)
-
-    s_few : s < most_qubits
-    s_few = omega (arith, s_is, second_below old.qubits (gate_at old.gates.items old.next) on_next, sound.few_qubits)
+    s_below : s < length old.last.items
+    s_below = second_linked old sound more s s_is
 
     size : length w.gates.items ≡ length old.gates.items
     size = ap (λ v. length v.items) gates
@@ -334,57 +354,59 @@ sound_kept old f s l w sound more f_is s_is first second gates qubits links last
     here q = ap (λ (k : Links). link_of q g k)
         (ap (λ k. get_or k old.next no_links) links ∙ get_or-set_same old.links.items old.next l no_links room)
 
-    link_is : (q : ℕ) → is_on q g ≡ true → link_of q g l ≡ get_or old.last q 0
+    link_is : (q : ℕ) → is_on q g ≡ true → link_of q g l ≡ get_or old.last.items q 0
     link_is q on =
         elim (cases_eq (first_qubit g) q) [
           | inl e ↦ ap (λ b. cond b l.first l.second) (eq-eqb (first_qubit g) q e) ∙ first
-              ∙ ap (λ p. get_or old.last p 0) (f_is ∙ e)
+              ∙ ap (λ p. get_or old.last.items p 0) (f_is ∙ e)
           | inr differ ↦ ap (λ b. cond b l.first l.second) (ne_eqb (first_qubit g) q differ) ∙ second
-              ∙ ap (λ p. get_or old.last p 0) (s_is ∙ on_second q g on (ne_eqb (first_qubit g) q differ))
+              ∙ ap (λ p. get_or old.last.items p 0) (s_is ∙ on_second q g on (ne_eqb (first_qubit g) q differ))
         ]
 
-    last_on : (q : ℕ) → q < most_qubits → is_on q g ≡ true → get_or w.last q 0 ≡ old.next + 1
+    last_on : (q : ℕ) → q < most_qubits → is_on q g ≡ true → get_or w.last.items q 0 ≡ old.next + 1
     last_on q few on =
         ap (λ k. get_or k q 0) last
         ∙ elim (cases_eq q s) [
-          | inl e ↦ ap (λ p. get_or (set (set old.last f (old.next + 1)) s (old.next + 1)) p 0) e
-              ∙ get_or-set_same (set old.last f (old.next + 1)) s (old.next + 1) 0
-              (omega (arith, length-set old.last f (old.next + 1), sound.places.qubits))
-          | inr other ↦ get_or-set_other (set old.last f (old.next + 1)) s q (old.next + 1) 0 other
-              ∙ ap (λ p. get_or (set old.last f (old.next + 1)) p 0) (elim (on_cases q g on) [
+          | inl e ↦ ap (λ p. get_or (set (set old.last.items f (old.next + 1)) s (old.next + 1)) p 0) e
+              ∙ get_or-set_same (set old.last.items f (old.next + 1)) s (old.next + 1) 0
+              (omega (arith, length-set old.last.items f (old.next + 1), s_below))
+          | inr other ↦ get_or-set_other (set old.last.items f (old.next + 1)) s q (old.next + 1) 0 other
+              ∙ ap (λ p. get_or (set old.last.items f (old.next + 1)) p 0) (elim (on_cases q g on) [
                 | inl e ↦ e ∙ sym f_is
                 | inr e ↦ absurd (other (e ∙ sym s_is))
               ])
-              ∙ get_or-set_same old.last f (old.next + 1) 0 (omega (arith, f_few, sound.places.qubits))
+              ∙ get_or-set_same old.last.items f (old.next + 1) 0 f_below
         ]
 
     linked : (q : ℕ) → q < most_qubits → is_on q g ≡ true
-        → IsChain (IsOn old.gates.items q) (link_at old.gates.items w.links.items q) (get_or w.last q 0) (old.next + 1)
+        → IsChain (IsOn old.gates.items q) (link_at old.gates.items w.links.items q) (get_or w.last.items q 0) (old.next + 1)
     linked q few on =
         subst (λ (n : ℕ). IsChain (IsOn old.gates.items q) (link_at old.gates.items w.links.items q) n (old.next + 1))
         (sym (last_on q few on))
         (chain-more (IsOn old.gates.items q) (link_at old.gates.items old.links.items q) (link_at old.gates.items w.links.items q)
-        (get_or old.last q 0) old.next (and_from (is_left g) (is_on q g) (sound.unread old.next (omega arith) more) on)
+        (get_or old.last.items q 0) old.next (and_from (is_left g) (is_on q g) (sound.unread old.next (omega arith) more) on)
         (λ j before at. same q j before) (here q ∙ link_is q on) (sound.chains q few))
 
     passed : (q : ℕ) → q < most_qubits → is_on q g ≡ false
-        → IsChain (IsOn old.gates.items q) (link_at old.gates.items w.links.items q) (get_or w.last q 0) (old.next + 1)
+        → IsChain (IsOn old.gates.items q) (link_at old.gates.items w.links.items q) (get_or w.last.items q 0) (old.next + 1)
     passed q few off =
         subst (λ (n : ℕ). IsChain (IsOn old.gates.items q) (link_at old.gates.items w.links.items q) n (old.next + 1))
         (sym (ap (λ k. get_or k q 0) last
-        ∙ get_or-set_other (set old.last f (old.next + 1)) s q (old.next + 1) 0 (λ e. both_ways (is_on q g) off (ap (λ p. is_on p g) (e ∙ s_is) ∙ second_on g))
-        ∙ get_or-set_other old.last f q (old.next + 1) 0 (λ e. both_ways (is_on q g) off (ap (λ p. is_on p g) (e ∙ f_is) ∙ first_on g))))
+        ∙ get_or-set_other (set old.last.items f (old.next + 1)) s q (old.next + 1) 0 (λ e. both_ways (is_on q g) off (ap (λ p. is_on p g) (e ∙ s_is) ∙ second_on g))
+        ∙ get_or-set_other old.last.items f q (old.next + 1) 0 (λ e. both_ways (is_on q g) off (ap (λ p. is_on p g) (e ∙ f_is) ∙ first_on g))))
         (chain-past (IsOn old.gates.items q) (link_at old.gates.items old.links.items q) (link_at old.gates.items w.links.items q)
-        (get_or old.last q 0) old.next (λ on. both_ways (is_on q g) off (on_of old.gates.items q old.next on))
+        (get_or old.last.items q 0) old.next (λ on. both_ways (is_on q g) off (on_of old.gates.items q old.next on))
         (λ j before at. same q j before) (sound.chains q few))
 
 -- ---- at the start
 -- no gate is read
-pub sound_begun : (w : Chains) → HasRoom (circuit_of w.qubits w.gates.items) (length w.links.items)
-    → w.last ≡ replicate 1024 0 → w.next ≡ 0 → IsSound w
-sound_begun w room last next = record {
+pub sound_begun : (w : Chains) (n : ℕ) → HasRoom (circuit_of w.qubits w.gates.items) (length w.links.items)
+    (length w.last.items) (length w.marks.items) → 0 < length w.gates.items → w.last.items ≡ replicate n 0 → w.next ≡ 0
+    → IsSound w
+sound_begun w n room some last next = record {
   places = record {
-    qubits = ap length last ∙ length-replicate {A = ℕ} 1024 0;
+    linked = room.linked some;
+    marked = room.marked some;
     within = omega (arith, next);
     few_gates = room.few_gates;
     enough = room.enough;
@@ -403,13 +425,16 @@ sound_begun w room last next = record {
   unread = λ i past below. left_on w.qubits (gate_at w.gates.items i) (room.circuit.on_qubits i nothing below);
 }
   where
-    first : (q : ℕ) → q < most_qubits → get_or w.last q 0 ≡ 0
-    first q few = ap (λ l. get_or l q 0) last ∙ get_or-replicate 1024 q 0 0 few
+    first : (q : ℕ) → q < most_qubits → get_or w.last.items q 0 ≡ 0
+    first q few = ap (λ l. get_or l q 0) last ∙ elim (cases_lt q n) [
+      | inl below ↦ get_or-replicate n q 0 0 below
+      | inr past ↦ get_or_past (replicate n 0) q 0 (omega (arith, past, length-replicate {A = ℕ} n 0))
+    ]
 
 -- ---- at the end
 -- all are read, and those that are left are a circuit
 pub sound_ended : (w : Chains) (gates : List Gate) → IsSound w → gates ≡ filter is_left w.gates.items
-    → HasRoom (circuit_of w.qubits gates) (length w.links.items)
+    → HasRoom (circuit_of w.qubits gates) (length w.links.items) (length w.last.items) (length w.marks.items)
 sound_ended w gates sound is = record {
   circuit = record {
     few_qubits = sound.few_qubits;
@@ -425,6 +450,8 @@ sound_ended w gates sound is = record {
   };
   few_gates = omega (arith, shorter, sound.places.few_gates);
   enough = omega (arith, shorter, sound.places.enough);
+  linked = λ some. sound.places.linked;
+  marked = λ some. sound.places.marked;
 }
   where
     shorter : length gates ≤ length w.gates.items

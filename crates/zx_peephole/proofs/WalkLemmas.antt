@@ -10,7 +10,6 @@ use Rattle.zx_gates.specs.declared.gate.Gate.TheVariants.{H, Phase, Cz, Cx, Not}
 use Rattle.zx_peephole.specs.Commuting.{is_on, are_apart, commutes}
 use Rattle.zx_peephole.specs.Tidy.{is_pair}
 use Rattle.zx_peephole.specs.declared.finding.Walk.{Walk}
-use Rattle.zx_gates.specs.Circuit.{most_qubits}
 use Rattle.zx_peephole.specs.declared.chains.Chains.{Chains}
 use Rattle.zx_peephole.specs.Internal.Chains.{nothing, is_left, gate_at, IsOn, IsLast, IsSound, link_at}
 use Rattle.zx_peephole.specs.Internal.Chains.{first_qubit, second_qubit}
@@ -89,15 +88,15 @@ nearest_left gates g walk i w near =
     ]
 
 -- from a gate on the qubit its link leads on
-pub linked_last : (w : Chains) (q qubit place n : ℕ) → IsSound w → qubit < most_qubits → place < w.next
+pub linked_last : (w : Chains) (q qubit place n : ℕ) → IsSound w → qubit < w.qubits → place < w.next
     → IsOn w.gates.items qubit place → q ≡ qubit → n ≡ link_at w.gates.items w.links.items q place
     → IsLast (IsOn w.gates.items qubit) place n
 linked_last w q qubit place n sound few before on same is =
     subst (IsLast (IsOn w.gates.items qubit) place)
     (sym (is ∙ ap (λ p. link_at w.gates.items w.links.items p place) same))
-    ((sound.chains qubit few).links place before on)
+    ((sound.chains qubit (omega (arith, few, sound.few_qubits))).links place before on)
 
-pub followed_last : (w : Chains) (q qubit end link place n : ℕ) → IsSound w → qubit < most_qubits → end ≤ w.next
+pub followed_last : (w : Chains) (q qubit end link place n : ℕ) → IsSound w → qubit < w.qubits → end ≤ w.next
     → place < end → IsLast (IsOn w.gates.items qubit) end link → link ≤ place + 1 → q ≡ qubit
     → n ≡ cond (eqb link (place + 1)) (link_at w.gates.items w.links.items q place) link
     → IsLast (IsOn w.gates.items qubit) place n

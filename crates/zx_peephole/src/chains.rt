@@ -3,12 +3,8 @@
 ghost use Rattle.std.specs.Prelude.{◌≡◌, ◌<◌, length};
 ghost use Rattle.zx_peephole.specs.Internal.Chains.{nothing, is_left, first_qubit, second_qubit, link_at};
 
-use crate::marks::Marks;
-use zx_gates::{Gate, Links, Qubit};
+use zx_gates::{Gate, Links, Marks, Qubit};
 use zx_model::Sixteenth;
-
-// The most qubits that a circuit may have.
-pub(crate) const MOST_QUBITS: usize = 1024;
 
 // A list that is being tidied. Of the gates before the next one to be read each is kept, or has left nothing at its
 // place. The kept ones on a qubit form a chain, from the last one, each linked to the one before it on that qubit. A
@@ -19,8 +15,8 @@ pub(crate) struct Chains {
     pub(crate) qubits: Qubit,
     pub(crate) gates: Vec<Gate>,
     pub(crate) links: Vec<Links>,
-    pub(crate) last: [u32; MOST_QUBITS],
-    pub(crate) marks: Marks,
+    pub(crate) last: Vec<u32>,
+    pub(crate) marks: Vec<Marks>,
     pub(crate) next: usize,
 }
 

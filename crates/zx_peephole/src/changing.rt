@@ -1,7 +1,6 @@
 //! One gate more is read: it is kept, or changed with gates that are kept.
 
 ghost use Rattle.std.specs.Prelude.{◌≡◌, ◌++◌, ◌+◌, ◌<◌, [], ◌∷◌, slice_index_or, IfSome, IfNone};
-ghost use Rattle.zx_gates.specs.Circuit.{most_qubits};
 ghost use Rattle.zx_peephole.specs.Tidy.{IsTidy};
 ghost use Rattle.zx_peephole.specs.Internal.Chains.{IsOn, IsSound, IsLeftAt, IsReading, IsChainOf, HasPlaces, kept, next_of, IsRemoved, IsUnlinked, IsUnlinkedFromAll, IsLater, IsRelinked};
 ghost use Rattle.zx_peephole.specs.Internal.Changes.{IsPairAt, IsTripleAt, IsAdvance};
@@ -98,7 +97,7 @@ fn unlink_all(work: &mut Chains, place: usize)
 // The chain of a qubit leaves the gate at a place out.
 fn unlink(work: &mut Chains, place: usize, qubit: Qubit)
     requires places { HasPlaces work.old }
-    requires qubit { qubit < most_qubits }
+    requires qubit { qubit < work.old.qubits }
     requires chain { IsChainOf work.old qubit }
     requires before { place < work.old.next }
     requires on { IsOn work.old.gates.items qubit place }
@@ -114,12 +113,12 @@ fn unlink(work: &mut Chains, place: usize, qubit: Qubit)
 // The place of the gate whose link leads to the gate at a place, if there is one.
 fn later(work: &Chains, place: usize, qubit: Qubit) -> Option<usize>
     requires places { HasPlaces work.now }
-    requires qubit { qubit < most_qubits }
+    requires qubit { qubit < work.now.qubits }
     requires chain { IsChainOf work.now qubit }
     requires before { place < work.now.next }
     requires on { IsOn work.now.gates.items qubit place }
     ensures found { IfSome result (IsLater work.now place qubit) }
-    ensures none { IfNone result (slice_index_or work.now.last qubit 0 ≡ place + 1) }
+    ensures none { IfNone result (slice_index_or work.now.last.items qubit 0 ≡ place + 1) }
 {
     let mut link = work.last[usize::from(qubit)] as usize;
     let mut found = None;

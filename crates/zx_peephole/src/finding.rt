@@ -3,7 +3,7 @@
 ghost use Rattle.std.specs.Prelude.{◌≡◌, ◌==◌, ◌++◌, ◌+◌, ◌<◌, ◌≤◌, [], ◌∷◌, length, if◌then◌else◌, IfSome, IfNone};
 ghost use Rattle.zx_peephole.specs.Tidy.{IsTidy};
 ghost use Rattle.zx_peephole.specs.Internal.Chains.{IsOn, IsSound, IsLeftAt, IsReading, HasPlaces, kept, next_of, gate_at, first_qubit, second_qubit, link_at};
-ghost use Rattle.zx_peephole.specs.Internal.Stops.{IsStop, IsFreeBetween, IsWalk, IsNearest, HasFewQubits};
+ghost use Rattle.zx_peephole.specs.Internal.Stops.{IsStop, IsFreeBetween, IsWalk, IsNearest, HasQubitsBelow};
 ghost use Rattle.zx_peephole.specs.Internal.Changes.{IsChange};
 
 use crate::chains::{Chains, first_qubit, second_qubit};
@@ -57,7 +57,7 @@ pub(crate) fn find(work: &Chains) -> Option<Change>
 // The place of the last gate that stops the gate on its way to the front, if one does.
 fn last_stop(work: &Chains, gate: &Gate, start: Walk) -> Option<usize>
     requires sound { IsSound work.now }
-    requires qubits { HasFewQubits gate.now }
+    requires qubits { HasQubitsBelow work.now.qubits gate.now }
     requires within { start.place ≤ work.now.next }
     requires walk { IsWalk work.now.gates.items gate.now start }
     ensures found { IfSome result (IsStop work.now.gates.items gate.now start.place) }
@@ -76,7 +76,7 @@ fn last_stop(work: &Chains, gate: &Gate, start: Walk) -> Option<usize>
 // The gate begins behind all gates that are kept.
 fn start(work: &Chains, gate: &Gate) -> Walk
     requires sound { IsSound work.now }
-    requires qubits { HasFewQubits gate.now }
+    requires qubits { HasQubitsBelow work.now.qubits gate.now }
     ensures place { result.place ≡ work.now.next }
     ensures walk { IsWalk work.now.gates.items gate.now result }
 {
@@ -90,7 +90,7 @@ fn start(work: &Chains, gate: &Gate) -> Walk
 // The gate has passed a gate that is on all of its qubits.
 fn before(work: &Chains, gate: &Gate, place: usize) -> Walk
     requires sound { IsSound work.now }
-    requires qubits { HasFewQubits gate.now }
+    requires qubits { HasQubitsBelow work.now.qubits gate.now }
     requires before { place < work.now.next }
     requires first { IsOn work.now.gates.items (first_qubit gate.now) place }
     requires second { IsOn work.now.gates.items (second_qubit gate.now) place }
@@ -120,7 +120,7 @@ fn nearest(walk: Walk) -> Option<usize>
 // The gate has passed the last gate that shares a qubit with it.
 fn pass(work: &Chains, gate: &Gate, walk: Walk, place: usize) -> Walk
     requires sound { IsSound work.now }
-    requires qubits { HasFewQubits gate.now }
+    requires qubits { HasQubitsBelow work.now.qubits gate.now }
     requires within { walk.place ≤ work.now.next }
     requires walk { IsWalk work.now.gates.items gate.now walk }
     requires nearest { IsNearest walk place }

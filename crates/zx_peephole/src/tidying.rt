@@ -12,7 +12,7 @@ ghost use Rattle.zx_gates.specs.Circuit.{Circuit, HasRoom, circuit_of};
 ghost use Rattle.zx_peephole.specs.Internal.Chains.{IsSound, IsReading, is_left, kept, all_left};
 ghost use Rattle.zx_peephole.specs.Internal.Changes.{IsAdvance};
 
-use crate::chains::{Chains, MOST_QUBITS, is_left};
+use crate::chains::{Chains, is_left};
 use crate::changing::{keep, merge_pair, turn_over};
 use crate::finding::{Change, find};
 use crate::marks::WORDS;
@@ -33,6 +33,9 @@ pub fn tidy(g: &mut GateList) -> Scalar
     ensures length { length g.new.gates ≤ length g.old.gates }
     ensures two_qubit { count_by is_two_qubit g.new.gates ≤ count_by is_two_qubit g.old.gates }
 {
+    if g.gates().is_empty() {
+        return Scalar::one();
+    }
     let mut work = begin(g.take());
     let mut power = 0;
     while work.next < work.gates.len() {
@@ -56,18 +59,24 @@ fn power_of_two(power: u32) -> Scalar
 
 // No gate is read yet.
 fn begin(parts: Parts) -> Chains
-    requires { HasRoom (circuit_of parts.qubits parts.gates.items) (length parts.links.items) }
+    requires room { HasRoom (circuit_of parts.qubits parts.gates.items) (length parts.links.items)
+        (length parts.last.items) (length parts.marks.items) }
+    requires some { 0 < length parts.gates.items }
     ensures sound { IsSound result }
     ensures next { result.next ≡ 0 }
     ensures qubits { result.qubits ≡ parts.qubits }
     ensures gates { result.gates.items ≡ parts.gates.items }
 {
+    let mut last = parts.last;
+    last.fill(0);
+    let mut marks = parts.marks;
+    marks.fill([0; WORDS]);
     Chains {
         qubits: parts.qubits,
         gates: parts.gates,
         links: parts.links,
-        last: [0; MOST_QUBITS],
-        marks: [[0; WORDS]; MOST_QUBITS],
+        last,
+        marks,
         next: 0,
     }
 }
@@ -76,7 +85,8 @@ fn begin(parts: Parts) -> Chains
 fn end(work: Chains) -> Parts
     requires sound { IsSound work }
     requires all { length work.gates.items ≤ work.next }
-    ensures room { HasRoom (circuit_of result.qubits result.gates.items) (length result.links.items) }
+    ensures room { HasRoom (circuit_of result.qubits result.gates.items) (length result.links.items)
+        (length result.last.items) (length result.marks.items) }
     ensures qubits { result.qubits ≡ work.qubits }
     ensures gates { result.gates.items ≡ kept work }
 {
@@ -86,6 +96,8 @@ fn end(work: Chains) -> Parts
         qubits: work.qubits,
         gates,
         links: work.links,
+        last: work.last,
+        marks: work.marks,
     }
 }
 

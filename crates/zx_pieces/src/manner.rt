@@ -27,12 +27,17 @@ const LARGE: usize = 200;
 
 const SEARCHED_LARGE: usize = 400;
 
-// How often it is tried for each gate of a piece of a long list; for each gate of a short list, and besides.
-const TRIES: usize = 3;
+// How often a piece of a long list is tried for each gate, and how often without a gain before it is left alone.
+const TRIES: usize = 6;
 
-const SHORT_TRIES: usize = 12;
+const IDLE: usize = 1;
 
-const SHORT_MORE: usize = 12_000;
+// The same for a short list, and besides.
+const SHORT_TRIES: usize = 50;
+
+const SHORT_IDLE: usize = 40;
+
+const SHORT_MORE: usize = 1_000;
 
 // Among how many gates in a row a piece is looked for.
 const REACH: usize = 3_000;
@@ -58,22 +63,32 @@ pub(crate) struct Manner {
 pub(crate) struct Effort {
     /// How often it is tried for each gate. Where it is never, the piece is written again as a whole.
     pub(crate) tries_each: usize,
+    /// How often it is tried for each gate without a gain before it is left alone.
+    pub(crate) idle_each: usize,
     /// How often it is tried besides.
-    pub(crate) tries: usize,
+    pub(crate) more: usize,
 }
 
 impl Effort {
     /// A piece is written again as a whole.
     pub(crate) const ONCE: Effort = Effort {
         tries_each: 0,
-        tries: 0,
+        idle_each: 0,
+        more: 0,
     };
 
     /// How often a piece of so many gates is tried.
     pub(crate) fn tries_of(self, gates: usize) -> usize {
         self.tries_each
             .saturating_mul(gates)
-            .saturating_add(self.tries)
+            .saturating_add(self.more)
+    }
+
+    /// How often it is tried without a gain.
+    pub(crate) fn idle_of(self, gates: usize) -> usize {
+        self.idle_each
+            .saturating_mul(gates)
+            .saturating_add(self.more)
     }
 }
 
@@ -114,7 +129,8 @@ impl Manner {
             Some(width) => Manner::narrow(*width, usize::MAX),
             None => Manner::whole(Effort {
                 tries_each: SHORT_TRIES,
-                tries: SHORT_MORE,
+                idle_each: SHORT_IDLE,
+                more: SHORT_MORE,
             }),
         }
     }
@@ -156,7 +172,8 @@ impl Manner {
             reach: REACH,
             effort: Effort {
                 tries_each: TRIES,
-                tries: 0,
+                idle_each: IDLE,
+                more: 0,
             },
         }
     }

@@ -291,9 +291,10 @@ fn proposal(alloc: Global, piece: &GateList, effort: Effort) -> Result<Option<Ga
 fn proposed(alloc: Global, piece: &GateList, effort: Effort) -> Result<Option<GateList>, AllocError>
     ensures { IfOk result (λ found. IfSome found (λ made. made.qubits ≡ piece.now.qubits)) }
 {
-    match effort.tries_of(piece.gates().len()) {
+    let gates = piece.gates().len();
+    match effort.tries_of(gates) {
         0 => propose(alloc, piece),
-        tries => search(alloc, piece, tries, SEED),
+        tries => search(alloc, piece, tries, effort.idle_of(gates), SEED),
     }
 }
 

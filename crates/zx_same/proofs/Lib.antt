@@ -1,5 +1,3 @@
-mod Undoing
-mod OneMap
 mod Quotients
 mod WireSums
 mod BareGraphs

@@ -1,4 +1,3 @@
-pub mod Inverse
 pub mod Bare
 pub mod Comparing
 pub mod Internal

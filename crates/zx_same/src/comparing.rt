@@ -8,15 +8,15 @@ ghost use Rattle.zx_moves.specs.Steps.{step_named};
 ghost use Rattle.zx_same.specs.Bare.{is_bare};
 ghost use Rattle.zx_same.specs.Comparing.{IfSame, IfNotShown, IsLeftOfBoth, IsSame};
 ghost use Rattle.zx_same.specs.Internal.Simplifying.{Simplifies};
-ghost use Rattle.zx_same.specs.Inverse.{undone_by};
+ghost use Rattle.zx_inverse.specs.Inverse.{undone_by};
 
 use crate::bare::is_bare;
-use crate::inversion::push_inverse;
 use circuit_graph::translate;
 use open_graph::OpenGraph;
 use std::alloc::{AllocError, Global};
 use zx_gates::{Gate, GateList};
 use zx_grow::grow;
+use zx_inverse::push_inverse;
 use zx_reduce::Trace;
 use zx_simplify::{Simplified, simplify};
 

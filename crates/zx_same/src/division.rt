@@ -1,15 +1,14 @@
 //! By which number the map of a circuit is that of another.
 
-ghost use Rattle.std.specs.Prelude.{◌≡◌, ◌*◌, IfOk, IfSome};
-ghost use Rattle.zx_model.specs.Scalar.{IsScaled, IsWithin};
-ghost use Rattle.zx_gates.specs.Circuit.{gate_bound};
+ghost use Rattle.std.specs.Prelude.{◌≡◌, IfOk, IfSome};
+ghost use Rattle.zx_model.specs.Scalar.{IsScaled};
 ghost use Rattle.zx_gates.specs.Maps.{amp};
-ghost use Rattle.zx_same.specs.Internal.UndoneScalar.{undone_scalar};
 
 use crate::comparing::undone_by;
 use std::alloc::{AllocError, Global};
-use zx_gates::{GateList, counts};
-use zx_model::{Scalar, Sixteenth};
+use zx_gates::GateList;
+use zx_inverse::undone_scalar;
+use zx_model::Scalar;
 use zx_simplify::simplify_circuit;
 
 /// By which number the map of a circuit is that of another, where simplification shows it: where the first
@@ -31,16 +30,5 @@ pub fn quotient(alloc: Global, a: &GateList, b: &GateList) -> Result<Option<Scal
         Ok(Some(found.scalar.over(undone_scalar(b))))
     } else {
         Ok(None)
-    }
-}
-
-// By which number a circuit followed by its inverse is the identity.
-fn undone_scalar(circuit: &GateList) -> Scalar
-    ensures value { result ≡ undone_scalar circuit.now.gates }
-    ensures small { IsWithin (2 * gate_bound) result }
-{
-    Scalar {
-        root2: 2 * counts(circuit).h as i64,
-        turn: Sixteenth::new(0),
     }
 }

@@ -6,16 +6,15 @@
 //! gates to the reduced graph that it tells, which isn't just wires; the circuit that it tells has their
 //! map, isn't empty, and nothing in it cancels or merges. Where no vertex of that graph is interior, as where
 //! neither circuit has an odd phase, the maps differ then; else that they do isn't proved.
-//! `inverse` gives the gates backwards, each undone. `quotient` tells the number too, where no gate is left:
+//! `quotient` tells the number too, where no gate is left:
 //! the map of the first circuit is proved to be so many times that of the second.
 //!
 //! Inside:
 //!
-//! - `inversion`: the gates that undo a circuit.
 //! - `bare`: whether nothing is left of a graph but wires.
 //! - `comparing`: `compare`.
 //! - `division`: `quotient`.
-//! - `laws`: of inverses, and of graphs that are just wires.
+//! - `laws`: of graphs that are just wires.
 //!
 //! ```rust
 //! match compare(alloc, &circuit, &other)? {
@@ -28,10 +27,8 @@
 mod bare;
 mod comparing;
 mod division;
-mod inversion;
 mod laws;
 
 pub use comparing::{Sameness, compare};
 pub use division::quotient;
-pub use inversion::inverse;
-pub use laws::{bare_graphs_are_the_identity, identity_graphs_are_bare, inverses_undo_circuits};
+pub use laws::{bare_graphs_are_the_identity, identity_graphs_are_bare};

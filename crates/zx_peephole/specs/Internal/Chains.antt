@@ -67,15 +67,17 @@ pub record IsChain (On : ℕ → Type 0) (link : ℕ → ℕ) (last next : ℕ) 
 
 abbrev pub IsChainOf : Chains → ℕ → Type 0
 IsChainOf w q = IsChain (IsOn w.gates.items q) (link_at w.gates.items w.links.items q)
-    (slice_index_or w.last q 0) w.next
+    (slice_index_or w.last.items q 0) w.next
 
 -- it holds at other places than p
 abbrev pub Without : ℕ → (ℕ → Type 0) → ℕ → Type 0
 Without p On i = On i × (i ≢ p)
 
--- there is room to link each gate and the last gate on each qubit, and places have numbers of 32 bits
+-- there is room to link each gate and the last gate on each qubit, and a row of marks for each qubit; and places have
+-- numbers of 32 bits
 pub record HasPlaces (w : Chains) : Type 0 where
-  pub qubits : length w.last ≡ most_qubits
+  pub linked : w.qubits ≤ length w.last.items
+  pub marked : w.qubits ≤ length w.marks.items
   pub within : w.next ≤ length w.gates.items
   pub few_gates : length w.gates.items < gate_bound
   pub enough : length w.gates.items ≤ length w.links.items
@@ -89,7 +91,7 @@ kept w = filter is_left (take w.next w.gates.items)
 pub record IsSound (w : Chains) : Type 0 where
   pub places : HasPlaces w
   pub chains : (q : ℕ) → q < most_qubits → IsChainOf w q
-  pub marks : IsMarked w.marks (kept w)
+  pub marks : IsMarked w.marks.items (kept w)
   pub few_qubits : w.qubits ≤ most_qubits
   pub on_qubits : (i : ℕ) → i < length w.gates.items → IsTrue (is_left (gate_at w.gates.items i))
       → IsGateOn w.qubits (gate_at w.gates.items i)
@@ -137,10 +139,10 @@ pub record IsLater (w : Chains) (i qubit k : ℕ) : Type 0 where
 pub record IsUnlinked (old new : Chains) (i qubit : ℕ) : Type 0 where
   pub same : new ≡ record old { links = new.links; last = new.last }
   pub room : length new.links.items ≡ length old.links.items
-  pub table : length new.last ≡ length old.last
+  pub table : length new.last.items ≡ length old.last.items
   pub chain : IsChain (Without i (IsOn old.gates.items qubit)) (link_at old.gates.items new.links.items qubit)
-      (slice_index_or new.last qubit 0) old.next
-  pub last : (q : ℕ) → q ≢ qubit → slice_index_or new.last q 0 ≡ slice_index_or old.last q 0
+      (slice_index_or new.last.items qubit 0) old.next
+  pub last : (q : ℕ) → q ≢ qubit → slice_index_or new.last.items q 0 ≡ slice_index_or old.last.items q 0
   pub links : (q j : ℕ) → q ≢ qubit → IsOn old.gates.items q j
       → link_at old.gates.items new.links.items q j ≡ link_at old.gates.items old.links.items q j
 
@@ -148,9 +150,9 @@ pub record IsUnlinked (old new : Chains) (i qubit : ℕ) : Type 0 where
 pub record IsUnlinkedFromAll (old new : Chains) (i : ℕ) : Type 0 where
   pub same : new ≡ record old { links = new.links; last = new.last }
   pub room : length new.links.items ≡ length old.links.items
-  pub table : length new.last ≡ length old.last
+  pub table : length new.last.items ≡ length old.last.items
   pub chains : (q : ℕ) → q < most_qubits → IsChain (Without i (IsOn old.gates.items q))
-      (link_at old.gates.items new.links.items q) (slice_index_or new.last q 0) old.next
+      (link_at old.gates.items new.links.items q) (slice_index_or new.last.items q 0) old.next
 
 -- nothing stands at place i now
 pub record IsRemoved (old new : Chains) (i : ℕ) : Type 0 where
@@ -161,6 +163,6 @@ pub record IsRemoved (old new : Chains) (i : ℕ) : Type 0 where
 -- ---- the walk along a chain
 -- the link is that of the gate found so far, or the first of the chain
 abbrev pub IsLinkOf : Chains → ℕ → ℕ → Option ℕ → Type 0
-IsLinkOf w qubit link None = slice_index_or w.last qubit 0 ≡ link
+IsLinkOf w qubit link None = slice_index_or w.last.items qubit 0 ≡ link
 IsLinkOf w qubit link (Some k) = (k < w.next) × IsOn w.gates.items qubit k
     × (link_at w.gates.items w.links.items qubit k ≡ link)

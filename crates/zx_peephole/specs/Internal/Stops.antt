@@ -4,7 +4,6 @@ use Rattle.std.specs.List.{list_all}
 use Rattle.zx_gates.specs.declared.gate.Gate.{Gate}
 use Rattle.zx_gates.specs.declared.gate.Gate.TheVariants.{H}
 use Rattle.zx_peephole.specs.Commuting.{commutes}
-use Rattle.zx_gates.specs.Circuit.{most_qubits}
 use Rattle.zx_peephole.specs.Tidy.{is_pair, is_turned}
 use Rattle.zx_peephole.specs.declared.finding.Walk.{Walk}
 use Rattle.zx_peephole.specs.Internal.Chains.{is_left, gate_at, IsOn, IsLast, first_qubit, second_qubit}
@@ -51,10 +50,10 @@ pub record IsNearest (walk : Walk) (i : ℕ) : Type 0 where
   pub second : walk.second ≤ i + 1
   pub one : (walk.first ≡ i + 1) ⊎ (walk.second ≡ i + 1)
 
--- its qubits are below the most that a circuit may have
-pub record HasFewQubits (gate : Gate) : Type 0 where
-  pub first : first_qubit gate < most_qubits
-  pub second : second_qubit gate < most_qubits
+-- the gate's qubits are below the number n
+pub record HasQubitsBelow (n : ℕ) (gate : Gate) : Type 0 where
+  pub first : first_qubit gate < n
+  pub second : second_qubit gate < n
 
 -- whether the first is H, and the second a half turn or NOT of its qubit
 abbrev pub turns : Gate → Gate → Bool

@@ -1,5 +1,6 @@
 -- What stops the gate on its way to the front decides what it ends.
-use Rattle.std.proofs.Common.{sym, ◌∙◌, subst, ℕ}
+use Rattle.std.proofs.Common.{sym, ap, ◌∙◌, subst, ℕ, List}
+use Rattle.zx_peephole.specs.Internal.Marks.{meets_none}
 use Rattle.zx_peephole.specs.Internal.Stops.{IsStop, IsFreeBetween}
 use Rattle.zx_peephole.proofs.FindingLemmas.{if_none}
 use Rattle.zx_peephole.proofs.SearchLemmas.{unmet, nothing_stops, stops_as_pair, stops_straight, nothing_before}
@@ -9,7 +10,8 @@ use Rattle.zx_peephole.proofs.finding.find.Goals as goal
 pub returns-then-meets_none-clause-none : goal.returns-then-meets_none-clause-none
 returns-then-meets_none-clause-none c =
     unmet c.args.work.now c.requires c.index-gate.result.now c.index-gate.ensures
-    (sym c.meets_none.ensures ∙ c.if-meets_none.true)
+    (ap (λ (l : List (List ℕ)). meets_none l c.index-gate.result.now) (sym c.deref.ensures.value)
+    ∙ sym c.meets_none.ensures ∙ c.if-meets_none.true)
 
 pub returns-in_err-stop-clause-none : goal.returns-in_err-stop-clause-none
 returns-in_err-stop-clause-none c =

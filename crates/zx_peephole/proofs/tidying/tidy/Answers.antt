@@ -1,8 +1,9 @@
 -- Each step shortens the list, and at the end all that is left is kept.
-use Rattle.std.proofs.Common.{ℕ, ◌≤◌, List, length, sym, ap, ◌∙◌, subst, arith}
+use Rattle.std.proofs.Common.{ℕ, ◌≤◌, List, length, refl, sym, ap, ◌∙◌, subst, arith}
 use Rattle.zx_gates.specs.declared.gate.Gate.{Gate}
-use Rattle.zx_gates.specs.Circuit.{Circuit}
-use Rattle.zx_model.specs.Scalar.{IsScaled}
+use Rattle.zx_gates.specs.Circuit.{Circuit, gate_bound}
+use Rattle.zx_model.specs.Scalar.{IsScaled, IsWithin}
+use Rattle.zx_model.proofs.Scalars.{scaled_refl}
 use Rattle.zx_model.specs.declared.scalar.Scalar.{Scalar}
 use Rattle.zx_gates.specs.Maps.{amp}
 use Rattle.zx_peephole.specs.Tidy.{IsTidy}
@@ -37,6 +38,15 @@ loop-work-preserved c =
           l.shortened
           (subst (λ (n : ℕ). Shortens n c.settle-power.result (all_left c.loop-work.work) (all_left c.settle-power.new.work)) l.qubits a.shortened);
     }
+
+pub returns-then-is_empty-clause-kept : goal.returns-then-is_empty-clause-kept
+returns-then-is_empty-clause-kept c = record {
+  qubits = refl;
+  scaled = subst (λ (s : Scalar). IsScaled c.args.g.now.qubits c.args.g.now.qubits (amp c.args.g.now.gates) s (amp c.args.g.now.gates))
+      (sym c.one.ensures) (scaled_refl c.args.g.now.qubits c.args.g.now.qubits (amp c.args.g.now.gates));
+  small = subst (IsWithin gate_bound) (sym c.one.ensures) (omega arith);
+  odd = omega arith;
+}
 
 pub returns-clause-kept : goal.returns-clause-kept
 returns-clause-kept c =

@@ -1,0 +1,3 @@
+pub mod Polynomials
+pub mod BasisStates
+pub mod Worked

@@ -1,0 +1,4 @@
+-- What only private contracts and proofs cite: nobody has to read it to trust a promise of this crate.
+pub mod Parities
+pub mod Packing
+pub mod Inserting
