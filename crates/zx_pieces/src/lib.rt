@@ -22,3 +22,4 @@ mod walking;
 
 pub use passes::shrink;
 pub use replacing::replace_pieces;
+pub use scaling::product;

@@ -10,7 +10,7 @@ use zx_model::Scalar;
 const MOST_ROOT2: u64 = 1 << 50;
 
 /// The product of two scalars, where its exponent of the root of two is at most 2^50 in size.
-pub(crate) fn product(s: &Scalar, t: &Scalar) -> Option<Scalar>
+pub fn product(s: &Scalar, t: &Scalar) -> Option<Scalar>
     ensures value { IfSome result (λ made. made ≡ product_of_scalars s.now t.now) }
     ensures within { IfSome result (IsWithin most_root2_of_pass) }
 {
