@@ -11,12 +11,18 @@ use crate::long_lists::by_pieces;
 use crate::putting_in::joined;
 use crate::rounds::ends;
 use std::alloc::{AllocError, Global};
-use zx_gates::{GateList, ScaledCircuit, counts};
+use zx_gates::{GateList, Qubit, ScaledCircuit, counts};
 use zx_model::Scalar;
 use zx_pieces::{replace_pieces, shrink};
 
 // From how many odd phases on a list is looked at piece by piece.
 const LONG: u64 = 600;
+
+// The whole effort, in hundredths.
+const WHOLE: u64 = 100;
+
+// The most qubits of a circuit.
+const MOST_QUBITS: Qubit = 64;
 
 // The most gates of a list that is written again as a whole.
 const MOST_WHOLE: usize = 6_000;
@@ -37,6 +43,9 @@ pub fn with_fewer_odd_phases(
         gate_odd_phases made.gates.gates < gate_odd_phases list.now.gates)) }
     ensures tidy { IfOk result (λ found. IfSome found (λ made. IsTidy made.gates.gates)) }
 {
+    if list.qubits() > MOST_QUBITS {
+        return Ok(None);
+    }
     match shortest(alloc, list)? {
         Some(made) if counts(&made.gates).odd < counts(list).odd => Ok(Some(made)),
         _ => Ok(None),
@@ -54,7 +63,7 @@ fn shortest(alloc: Global, list: &GateList) -> Result<Option<ScaledCircuit>, All
             None => Ok(None),
         };
     }
-    let ends = ends(alloc, list)?;
+    let ends = ends(alloc, list, WHOLE)?;
     let mut best = None;
     for end in &ends {
         best = cheaper(best, finished(alloc, end)?);

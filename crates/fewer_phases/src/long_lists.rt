@@ -9,12 +9,18 @@ ghost use Rattle.fewer_phases.specs.Internal.Making.{IsMadeOf, IsMadeUpTo};
 use crate::putting_in::{joined, teleported};
 use crate::rounds::ends;
 use std::alloc::{AllocError, Global};
-use zx_gates::{Gate, GateList, Qubit, ScaledCircuit};
+use zx_gates::{Gate, GateList, Qubit, ScaledCircuit, counts};
 use zx_model::Scalar;
 use zx_pieces::product;
 
 // How many odd phases a piece has.
 const PIECE: u64 = 300;
+
+// Up to how many odd phases in all each piece gets the whole effort; with more it gets less in proportion, but so many
+// hundredths at least.
+const WHOLE: u64 = 2_000;
+
+const LEAST_PERCENT: u64 = 20;
 
 /// The circuit with phases put in, piece by piece, and put together then. The circuit's map is the scalar times that of
 /// the new one.
@@ -26,6 +32,7 @@ pub(crate) fn by_pieces(alloc: Global, list: &GateList) -> Result<Option<ScaledC
     ensures { IfOk result (λ found. IfSome found (IsMadeOf most_root2_of_fewer list.now)) }
 {
     let gates = list.gates();
+    let percent = percent_for(counts(list).odd);
     let mut made = ScaledCircuit {
         gates: GateList::new(alloc, list.qubits()),
         scalar: Scalar::one(),
@@ -33,11 +40,17 @@ pub(crate) fn by_pieces(alloc: Global, list: &GateList) -> Result<Option<ScaledC
     let mut start = 0;
     while start < gates.len() {
         let end = end_of_piece(gates, start);
-        add_piece(alloc, &mut made, list, start, end)?;
+        add_piece(alloc, &mut made, list, start, end, percent)?;
         start = end;
     }
     let whole = teleported(alloc, &made.gates)?;
     Ok(joined(&made, whole))
+}
+
+// The effort for each piece of a circuit with so many odd phases, in hundredths.
+fn percent_for(odd: u64) -> u64 {
+    let percent = (WHOLE * 100).checked_div(odd).unwrap_or(100);
+    percent.clamp(LEAST_PERCENT, 100)
 }
 
 // Adds what is made of the gates from one place to another.
@@ -47,6 +60,7 @@ fn add_piece(
     list: &GateList,
     start: usize,
     end: usize,
+    percent: u64,
 ) -> Result<(), AllocError>
     requires made { IsMadeUpTo list.now.qubits list.now.gates start made.old }
     requires some { start < end }
@@ -54,7 +68,7 @@ fn add_piece(
     ensures { OnOk result (IsMadeUpTo list.now.qubits list.now.gates end made.new) }
 {
     let piece = piece_of(alloc, list.qubits(), &list.gates()[start..end])?;
-    let ends = ends(alloc, &piece)?;
+    let ends = ends(alloc, &piece, percent)?;
     if let Some(end) = ends.first() {
         if let Some(scalar) = product(&made.scalar, &end.scalar) {
             push_all(&mut made.gates, end.gates.gates())?;

@@ -28,17 +28,21 @@ const MOST_SEEDS: u64 = 8;
 const SEEDS: u64 = 600;
 
 /// Circuits with fewer odd phases, all with as many, by phases put in that do nothing together; none where such aren't
-/// found. The circuit's map is each one's scalar times its own.
+/// found. The circuit's map is each one's scalar times its own. Of the whole effort so many hundredths are made.
 ///
 /// # Errors
 ///
 /// Only where memory runs out.
-pub(crate) fn ends(alloc: Global, list: &GateList) -> Result<Vec<ScaledCircuit>, AllocError>
+pub(crate) fn ends(
+    alloc: Global,
+    list: &GateList,
+    percent: u64,
+) -> Result<Vec<ScaledCircuit>, AllocError>
     ensures { IfOk result (λ ends. All (IsMadeOf most_root2_of_fewer list.now) ends.items) }
 {
-    let mut ends = long_ends(alloc, list)?;
+    let mut ends = long_ends(alloc, list, percent)?;
     if ends.is_empty() {
-        let made = by_some_seeds(alloc, list)?;
+        let made = by_some_seeds(alloc, list, percent)?;
         if counts(&made.gates).odd < counts(list).odd {
             keep(&mut ends, made)?;
         }
@@ -47,12 +51,12 @@ pub(crate) fn ends(alloc: Global, list: &GateList) -> Result<Vec<ScaledCircuit>,
 }
 
 // The same by a long search, where one group has most of the odd phases.
-fn long_ends(alloc: Global, list: &GateList) -> Result<Vec<ScaledCircuit>, AllocError>
+fn long_ends(alloc: Global, list: &GateList, percent: u64) -> Result<Vec<ScaledCircuit>, AllocError>
     ensures { IfOk result (λ ends. All (IsMadeOf most_root2_of_fewer list.now) ends.items) }
 {
     let odd = counts(list).odd;
     let mut ends = Vec::new(alloc);
-    for insertion in &propose_at_length(alloc, list, 1)? {
+    for insertion in &propose_at_length(alloc, list, percent, 1)? {
         if let Some(end) = long_end(alloc, list, insertion)? {
             if counts(&end.gates).odd < odd {
                 keep(&mut ends, end)?;
@@ -96,11 +100,11 @@ fn long_end(
 }
 
 // The circuit with phases put in, by some seeds where it has few odd ones, as long as they gain: that with the fewest.
-fn by_some_seeds(alloc: Global, list: &GateList) -> Result<ScaledCircuit, AllocError>
+fn by_some_seeds(alloc: Global, list: &GateList, percent: u64) -> Result<ScaledCircuit, AllocError>
     ensures { IfOk result (IsMadeOf most_root2_of_fewer list.now) }
 {
     let odd = counts(list).odd;
-    let tries = (odd / 2).saturating_add(TRIES);
+    let tries = (odd / 2).saturating_add(TRIES).saturating_mul(percent) / 100;
     let mut best = in_rounds(alloc, list, tries, 0)?;
     if counts(&best.gates).odd < odd {
         for seed in 1..SEEDS.checked_div(odd).unwrap_or(0).min(MOST_SEEDS) {

@@ -40,10 +40,11 @@ impl Column {
     /// The column itself where the other one has a bit, else 0.
     #[inline(always)]
     pub(crate) fn where_bit(self, other: u64, bit: u32) -> Column {
-        let mask = 0_u64.wrapping_sub(other.wrapping_shr(bit) & 1);
+        let is_set = other.wrapping_shr(bit) & 1;
+        let mask = if is_set == 1 { u32::MAX } else { 0 };
         Column {
-            bits: self.bits & mask,
-            key: self.key & mask as u32,
+            bits: self.bits & 0_u64.wrapping_sub(is_set),
+            key: self.key & mask,
         }
     }
 
@@ -63,7 +64,11 @@ pub(crate) struct Keys {
 
 impl Keys {
     /// Keys of so many bits, at most 32.
-    pub(crate) fn new(alloc: Global, width: u32, drawing: &mut Drawing) -> Result<Keys, AllocError> {
+    pub(crate) fn new(
+        alloc: Global,
+        width: u32,
+        drawing: &mut Drawing,
+    ) -> Result<Keys, AllocError> {
         let mask = u32::MAX.wrapping_shr(32_u32.wrapping_sub(width));
         let mut bytes: Vec<u32> = Vec::with_capacity(alloc, 2_048)?;
         for _ in 0..8 {
@@ -173,10 +178,11 @@ impl ColumnSet {
     /// Takes out the column of a number; the last one gets that number.
     pub(crate) fn take_out(&mut self, number: usize) {
         let last = self.columns.len().saturating_sub(1);
-        self.relink(number, self.behind(number as u16));
+        let behind = self.behind(name_of(number));
+        self.relink(number, behind);
         if number != last {
-            self.relink(last, number as u16);
-            let behind = self.behind(last as u16);
+            self.relink(last, name_of(number));
+            let behind = self.behind(name_of(last));
             if let Some(entry) = self.next.get_mut(number) {
                 *entry = behind;
             }
@@ -214,4 +220,9 @@ impl ColumnSet {
             *entry = number;
         }
     }
+}
+
+// A number as it is kept.
+fn name_of(number: usize) -> u16 {
+    u16::try_from(number).unwrap_or(NONE)
 }

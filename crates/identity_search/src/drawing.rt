@@ -34,7 +34,9 @@ impl Drawing {
     pub(crate) fn below_wide(&mut self, limit: u64) -> u64 {
         let high = u64::from(self.generator.next_word());
         let low = u64::from(self.generator.next_word());
-        (high.wrapping_shl(32) | low).checked_rem(limit).unwrap_or(0)
+        (high.wrapping_shl(32) | low)
+            .checked_rem(limit)
+            .unwrap_or(0)
     }
 
     /// Yes with so many chances in 2^32.

@@ -91,6 +91,25 @@ pub(crate) fn rank(alloc: Global, columns: &[u64]) -> Result<usize, AllocError> 
     Ok(reduced.len())
 }
 
+/// Whether phases of an eighth turn about these columns are a Clifford map: any three bits are set in an even number.
+pub(crate) fn is_clifford(columns: &[u64]) -> bool {
+    for i in 0..64_u32 {
+        for j in 0..i {
+            let mut sum = 0;
+            for column in columns {
+                if column.wrapping_shr(i) & column.wrapping_shr(j) & 1 == 1 {
+                    sum ^= *column;
+                }
+            }
+            let below = 1_u64.wrapping_shl(j).wrapping_sub(1);
+            if sum & below != 0 {
+                return false;
+            }
+        }
+    }
+    true
+}
+
 // Puts in what commutes with all that is there.
 fn join(members: &mut Vec<Arrival>, others: &[Arrival]) -> Result<(), AllocError> {
     for arrival in others {
@@ -163,9 +182,15 @@ fn turn_to_z(
             pass(frame, members, gate)?;
         }
     }
-    let is_y = members.get(number).is_some_and(|member| member.string.at(pivot).z);
+    let is_y = members
+        .get(number)
+        .is_some_and(|member| member.string.at(pivot).z);
     if is_y {
-        pass(frame, members, Gate::Phase(pivot, Sixteenth::quarter_turn().neg()))?;
+        pass(
+            frame,
+            members,
+            Gate::Phase(pivot, Sixteenth::quarter_turn().neg()),
+        )?;
     }
     pass(frame, members, Gate::H(pivot))
 }

@@ -103,11 +103,10 @@ impl PhaseList {
         for i in 0..WIDTH as Qubit {
             let mut turns = 16_u8.wrapping_sub(self.sum(i, i));
             for j in 0..WIDTH as Qubit {
-                // twice the sum is half a turn where both bits are set: a controlled Z
-                if i != j && self.sum(i, j) % 8 == 4 {
+                if i != j && self.is_controlled_z(i, j) {
                     turns = turns.wrapping_add(4);
                     if i < j {
-                        self.write(1_u64.wrapping_shl(u32::from(i)) | 1_u64.wrapping_shl(u32::from(j)), Sixteenth::quarter_turn().neg())?;
+                        self.write(bit(i) | bit(j), Sixteenth::quarter_turn().neg())?;
                     }
                 }
             }
@@ -117,6 +116,15 @@ impl PhaseList {
         }
         Ok(())
     }
+
+    // Whether twice the phases about columns with both of two bits, which come off where both are set, are half a turn.
+    fn is_controlled_z(&self, i: Qubit, j: Qubit) -> bool {
+        self.sum(i, j) % 8 == 4
+    }
+}
+
+fn bit(q: Qubit) -> u64 {
+    1_u64.wrapping_shl(u32::from(q))
 }
 
 fn has(column: u64, q: Qubit) -> bool {
@@ -124,5 +132,7 @@ fn has(column: u64, q: Qubit) -> bool {
 }
 
 fn place_of(i: Qubit, j: Qubit) -> usize {
-    usize::from(i).wrapping_mul(WIDTH).wrapping_add(usize::from(j))
+    usize::from(i)
+        .wrapping_mul(WIDTH)
+        .wrapping_add(usize::from(j))
 }

@@ -28,4 +28,4 @@ mod populations;
 mod proposing;
 mod walk;
 
-pub use proposing::{propose_at_length, propose_shortly};
+pub use proposing::{propose_at_length, propose_shortly, propose_vanishing};

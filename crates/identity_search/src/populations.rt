@@ -21,7 +21,18 @@ pub(crate) struct Effort {
     pub(crate) steps: usize,
 }
 
-/// Where a walk stands.
+impl Effort {
+    /// So many hundredths of it.
+    pub(crate) fn part(self, percent: u64) -> Effort {
+        let percent = percent as usize;
+        Effort {
+            walks: (self.walks.saturating_mul(percent) / 100).max(1),
+            steps: self.steps.saturating_mul(percent) / 100,
+        }
+    }
+}
+
+// Where a walk stands.
 #[derive(Drop)]
 struct Parked {
     columns: Vec<u64>,
@@ -44,14 +55,23 @@ pub(crate) fn search(
     let mut population = Population {
         parked: Vec::new(alloc),
         ends: Vec::new(alloc),
-        most_ends: if effort.walks < FEW_WALKS { 1 } else { MOST_ENDS },
+        most_ends: if effort.walks < FEW_WALKS {
+            1
+        } else {
+            MOST_ENDS
+        },
     };
     for _ in 0..effort.walks {
         population.begin(alloc, &mut walk, columns)?;
     }
     let levels = levels_of(effort.walks);
     for level in 0..levels {
-        population.run(alloc, &mut walk, effort.steps / levels.max(1), loss_of(level, levels))?;
+        population.run(
+            alloc,
+            &mut walk,
+            effort.steps / levels.max(1),
+            loss_of(level, levels),
+        )?;
         population.select(alloc)?;
     }
     Ok(population.ends)
@@ -114,15 +134,10 @@ struct Population {
 
 impl Population {
     // One walk more, as far as gains alone lead.
-    fn begin(
-        &mut self,
-        alloc: Global,
-        walk: &mut Walk,
-        columns: &[u64],
-    ) -> Result<(), AllocError> {
+    fn begin(&mut self, alloc: Global, walk: &mut Walk, columns: &[u64]) -> Result<(), AllocError> {
         walk.load(columns, columns)?;
         walk.descend()?;
-        self.parked.push(parked(alloc, walk)?)?;
+        self.parked.push(place_of(alloc, walk)?)?;
         Ok(())
     }
 
@@ -138,7 +153,7 @@ impl Population {
         for place in &mut self.parked {
             walk.load(&place.columns, &place.best)?;
             walk.run(each, SURE.saturating_sub(loss))?;
-            *place = parked(alloc, walk)?;
+            *place = place_of(alloc, walk)?;
         }
         Ok(())
     }
@@ -186,7 +201,8 @@ impl Population {
             if is_new && number < self.most_ends {
                 let mut end = Vec::new(alloc);
                 end.extend_from_slice(&place.best)?;
-                self.ends.insert(number.min(self.ends.len()), end)?;
+                let last = self.ends.len();
+                self.ends.insert(number.min(last), end)?;
                 self.ends.truncate(self.most_ends);
             }
         }
@@ -195,7 +211,7 @@ impl Population {
 }
 
 // Where a walk stands now.
-fn parked(alloc: Global, walk: &Walk) -> Result<Parked, AllocError> {
+fn place_of(alloc: Global, walk: &Walk) -> Result<Parked, AllocError> {
     let mut best = Vec::new(alloc);
     best.extend_from_slice(walk.best())?;
     Ok(Parked {

@@ -1,7 +1,7 @@
 //! Which phases may be put in.
 
 use crate::drawing::Drawing;
-use crate::groups::{Group, rank};
+use crate::groups::{Group, is_clifford, rank};
 use crate::idle::idle_gates;
 use crate::populations::{Effort, search, search_shortly};
 use crate::walk::Walk;
@@ -18,8 +18,8 @@ const LEAST_EXCESS: usize = 4;
 
 const FEWEST_COLUMNS: usize = 8;
 
-// How many steps and walks there are for a group of `MIDDLE` columns. With more there are fewer in proportion; with fewer
-// too, and steps by the square.
+// How many steps and walks there are for a group of `MIDDLE` columns. With more there are fewer in proportion; with
+// fewer there are fewer too, steps by the square.
 const STEPS: usize = 2_200_000;
 
 const WALKS: usize = 96;
@@ -33,8 +33,8 @@ const SHORT_STEPS: usize = 100;
 const DRAWN: usize = 3;
 
 /// What may be put into a circuit so that it has fewer odd phases once those that meet are put together, where most of
-/// them are in one group that can be brought together: by one long search, some ends of it, each for the circuit as it
-/// is. Nothing is promised of them. Equal arguments give equal ones.
+/// them are in one group that can be brought together: by one long search with so many hundredths of the usual effort,
+/// some ends of it, each for the circuit as it is. Nothing is promised of them. Equal arguments give equal ones.
 ///
 /// # Errors
 ///
@@ -42,6 +42,7 @@ const DRAWN: usize = 3;
 pub fn propose_at_length(
     alloc: Global,
     circuit: &GateList,
+    percent: u64,
     seed: u64,
 ) -> Result<Vec<Insertion>, AllocError> {
     let mut found = Vec::new(alloc);
@@ -50,10 +51,10 @@ pub fn propose_at_length(
         return Ok(found);
     };
     let columns = group.columns(alloc)?;
-    let effort = effort_for(columns.len());
+    let effort = effort_for(columns.len()).part(percent);
     for new in search(alloc, &columns, effort, u64::from(drawing.word()))? {
         if new.len() < columns.len() {
-            if let Some(insertion) = insertion(alloc, circuit.qubits(), &group, &new)? {
+            if let Some(insertion) = exchange(alloc, circuit.qubits(), &group, &new)? {
                 found.push(insertion)?;
             }
         }
@@ -86,8 +87,37 @@ pub fn propose_shortly(
         if may_gain(alloc, &columns)? {
             let new = search_shortly(alloc, &mut walk, &columns, SHORT_STEPS)?;
             if new.len() < columns.len() {
-                return insertion(alloc, qubits, &group, &new);
+                return exchange(alloc, qubits, &group, &new);
             }
+        }
+    }
+    Ok(None)
+}
+
+/// What may be put into a circuit so that all phases of a group vanish but for Clifford gates, where one of the groups
+/// at so many drawn places allows that. Nothing is promised of it. Equal arguments give equal ones.
+///
+/// # Errors
+///
+/// Only where memory runs out.
+pub fn propose_vanishing(
+    alloc: Global,
+    circuit: &GateList,
+    tries: usize,
+    seed: u64,
+) -> Result<Option<Insertion>, AllocError> {
+    let (qubits, gates) = (circuit.qubits(), circuit.gates());
+    let places = odd_places(alloc, gates)?;
+    if qubits > MOST_QUBITS || places.len() < FEWEST_COLUMNS {
+        return Ok(None);
+    }
+    let mut drawing = Drawing::new(seed);
+    for _ in 0..tries {
+        let place = drawn_place(&places, gates.len(), &mut drawing);
+        let group = Group::draw(alloc, qubits, gates, place, &mut drawing)?;
+        let columns = group.columns(alloc)?;
+        if columns.len() >= FEWEST_COLUMNS && is_clifford(&columns) {
+            return exchange(alloc, qubits, &group, &[]);
         }
     }
     Ok(None)
@@ -162,7 +192,7 @@ fn part(all: usize, of: usize, whole: usize) -> usize {
 }
 
 // What puts phases about these columns in the place of a group's.
-fn insertion(
+fn exchange(
     alloc: Global,
     qubits: Qubit,
     group: &Group,

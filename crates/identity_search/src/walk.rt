@@ -48,7 +48,10 @@ impl Walk {
     pub(crate) fn new(alloc: Global, columns: &[u64], seed: u64) -> Result<Walk, AllocError> {
         let mut drawing = Drawing::new(seed);
         let length = 64_u32.saturating_sub((columns.len().max(128) as u64).leading_zeros());
-        let width = length.saturating_mul(2).saturating_add(3).clamp(FEWEST_BITS, MOST_BITS);
+        let width = length
+            .saturating_mul(2)
+            .saturating_add(3)
+            .clamp(FEWEST_BITS, MOST_BITS);
         let mut weights = Vec::new(alloc);
         weights.resize(SLOTS, 0)?;
         let mut walk = Walk {
@@ -76,7 +79,8 @@ impl Walk {
             self.put_in(Column::ZERO)?;
         }
         for bits in columns {
-            self.turn(self.keys.column(*bits))?;
+            let column = self.keys.column(*bits);
+            self.turn(column)?;
         }
         if self.is_affine && self.set.count() % 2 == 1 {
             self.turn(Column::ZERO)?;
@@ -176,7 +180,11 @@ impl Walk {
     fn gain(&mut self, odds: &Odds) -> Result<(), AllocError> {
         let mut idle = 0_usize;
         for _ in 0..MOST_STEPS {
-            idle = if self.step(odds)? { 0 } else { idle.saturating_add(1) };
+            idle = if self.step(odds)? {
+                0
+            } else {
+                idle.saturating_add(1)
+            };
             if idle >= IDLE {
                 break;
             }
@@ -228,7 +236,11 @@ impl Walk {
         let from = self.drawing.below(count);
         for step in 0..count {
             let number = from.wrapping_add(step);
-            let column = self.set.at(if number >= count { number.wrapping_sub(count) } else { number });
+            let column = self.set.at(if number >= count {
+                number.wrapping_sub(count)
+            } else {
+                number
+            });
             if column != p && column != q && self.set.contains(column.plus(side)) {
                 return Plane::new(p, side, column.plus(p));
             }
@@ -388,5 +400,11 @@ fn power(chance: u64, times: u64) -> u64 {
 
 // The product of two chances in 2^32.
 fn product(a: u64, b: u64) -> u64 {
-    (u128::from(a).wrapping_mul(u128::from(b)).wrapping_shr(32)) as u64
+    if a >= SURE {
+        b
+    } else if b >= SURE {
+        a
+    } else {
+        a.wrapping_mul(b).wrapping_shr(32)
+    }
 }
