@@ -6,14 +6,14 @@ use zx_gates::{Gate, Qubit};
 
 /// What X and Z of each qubit behind Clifford gates are before them.
 #[derive(Drop)]
-pub(crate) struct Frame {
+pub struct Frame {
     xs: Vec<PauliString>,
     zs: Vec<PauliString>,
 }
 
 impl Frame {
     /// The frame of no qubits.
-    pub(crate) fn new(alloc: Global) -> Frame {
+    pub fn new(alloc: Global) -> Frame {
         Frame {
             xs: Vec::new(alloc),
             zs: Vec::new(alloc),
@@ -21,7 +21,7 @@ impl Frame {
     }
 
     /// The frame of no gates from now on.
-    pub(crate) fn begin(&mut self, qubits: Qubit) -> Result<(), AllocError> {
+    pub fn begin(&mut self, qubits: Qubit) -> Result<(), AllocError> {
         self.xs.clear();
         self.zs.clear();
         for q in 0..qubits {
@@ -32,27 +32,27 @@ impl Frame {
     }
 
     /// The strings of all X.
-    pub(crate) fn xs(&self) -> &[PauliString] {
+    pub fn xs(&self) -> &[PauliString] {
         &self.xs
     }
 
     /// The strings of all Z.
-    pub(crate) fn zs(&self) -> &[PauliString] {
+    pub fn zs(&self) -> &[PauliString] {
         &self.zs
     }
 
     /// The string of the X of a qubit.
-    pub(crate) fn x(&self, q: Qubit) -> PauliString {
+    pub fn x(&self, q: Qubit) -> PauliString {
         row(&self.xs, q)
     }
 
     /// The string of the Z of a qubit.
-    pub(crate) fn z(&self, q: Qubit) -> PauliString {
+    pub fn z(&self, q: Qubit) -> PauliString {
         row(&self.zs, q)
     }
 
     /// A Clifford gate more, behind the others.
-    pub(crate) fn read(&mut self, gate: &Gate) {
+    pub fn read(&mut self, gate: &Gate) {
         match *gate {
             Gate::H(q) => {
                 let (x, z) = (self.x(q), self.z(q));
@@ -91,7 +91,7 @@ impl Frame {
     }
 
     /// A Cz is taken off the front.
-    pub(crate) fn pass_cz(&mut self, p: Qubit, q: Qubit) {
+    pub fn pass_cz(&mut self, p: Qubit, q: Qubit) {
         for string in &mut self.xs {
             string.pass_cz(p, q);
         }
@@ -101,7 +101,7 @@ impl Frame {
     }
 
     /// An H is taken off the front.
-    pub(crate) fn pass_h(&mut self, q: Qubit) {
+    pub fn pass_h(&mut self, q: Qubit) {
         for string in &mut self.xs {
             string.pass_h(q);
         }
@@ -111,7 +111,7 @@ impl Frame {
     }
 
     /// Any Clifford gate is taken off the front.
-    pub(crate) fn pass(&mut self, gate: &Gate) {
+    pub fn pass(&mut self, gate: &Gate) {
         for string in &mut self.xs {
             string.pass(gate);
         }

@@ -21,4 +21,6 @@ mod proposing;
 mod scores;
 mod strings;
 
+pub use frame::Frame;
 pub use proposing::{Rewriter, circuit_of, invert, propose};
+pub use strings::{Letter, PauliString};

@@ -5,31 +5,31 @@ ghost use Rattle.std.specs.Prelude.{◌<◌};
 use zx_gates::{Gate, Qubit};
 
 /// The most qubits that a string may be on.
-pub(crate) const MOST_QUBITS: Qubit = 64;
+pub const MOST_QUBITS: Qubit = 64;
 
 /// The bit of a qubit in a string.
-pub(crate) fn bit(q: Qubit) -> u64 {
+pub fn bit(q: Qubit) -> u64 {
     1_u64.wrapping_shl(u32::from(q))
 }
 
 /// What a string has on a qubit: X, Z, both of them for Y, or none.
 #[derive(Clone, Copy)]
-pub(crate) struct Letter {
+pub struct Letter {
     /// Whether it is X or Y.
-    pub(crate) x: bool,
+    pub x: bool,
     /// Whether it is Z or Y.
-    pub(crate) z: bool,
+    pub z: bool,
 }
 
 impl Letter {
     /// The letter Z.
-    pub(crate) const Z: Letter = Letter { x: false, z: true };
+    pub const Z: Letter = Letter { x: false, z: true };
 
     /// No letter.
-    pub(crate) const NONE: Letter = Letter { x: false, z: false };
+    pub const NONE: Letter = Letter { x: false, z: false };
 
     /// Its number, from 0 for none.
-    pub(crate) fn number(self) -> usize
+    pub fn number(self) -> usize
         ensures { result < 4 }
     {
         match (self.x, self.z) {
@@ -41,17 +41,17 @@ impl Letter {
     }
 
     /// Whether there is a letter.
-    pub(crate) fn is_some(self) -> bool {
+    pub fn is_some(self) -> bool {
         self.x || self.z
     }
 
     /// Whether it is the letter Z.
-    pub(crate) fn is_z(self) -> bool {
+    pub fn is_z(self) -> bool {
         self.z && !self.x
     }
 
     /// The product of two letters, without its factor.
-    pub(crate) fn times(self, other: Letter) -> Letter {
+    pub fn times(self, other: Letter) -> Letter {
         Letter {
             x: self.x != other.x,
             z: self.z != other.z,
@@ -59,7 +59,7 @@ impl Letter {
     }
 
     /// A letter that anticommutes with this one. The other such one is the product of both.
-    pub(crate) fn another(self) -> Letter {
+    pub fn another(self) -> Letter {
         if self.x && self.z {
             return Letter { x: true, z: false };
         }
@@ -72,7 +72,7 @@ impl Letter {
 
 /// A product of Pauli letters on different qubits, or the opposite of one.
 #[derive(Clone, Copy)]
-pub(crate) struct PauliString {
+pub struct PauliString {
     // The qubits with X or Y.
     x: u64,
     // The qubits with Z or Y.
@@ -82,14 +82,14 @@ pub(crate) struct PauliString {
 
 impl PauliString {
     /// The string without letters.
-    pub(crate) const NONE: PauliString = PauliString {
+    pub const NONE: PauliString = PauliString {
         x: 0,
         z: 0,
         negative: false,
     };
 
     /// The string that has X on a qubit.
-    pub(crate) fn x_on(q: Qubit) -> PauliString {
+    pub fn x_on(q: Qubit) -> PauliString {
         PauliString {
             x: bit(q),
             z: 0,
@@ -98,7 +98,7 @@ impl PauliString {
     }
 
     /// The string that has Z on a qubit.
-    pub(crate) fn z_on(q: Qubit) -> PauliString {
+    pub fn z_on(q: Qubit) -> PauliString {
         PauliString {
             x: 0,
             z: bit(q),
@@ -107,32 +107,32 @@ impl PauliString {
     }
 
     /// The qubits with X or Y, as bits.
-    pub(crate) fn x_bits(&self) -> u64 {
+    pub fn x_bits(&self) -> u64 {
         self.x
     }
 
     /// The qubits with Z or Y, as bits.
-    pub(crate) fn z_bits(&self) -> u64 {
+    pub fn z_bits(&self) -> u64 {
         self.z
     }
 
     /// Whether it is the opposite of a product of letters.
-    pub(crate) fn is_negative(&self) -> bool {
+    pub fn is_negative(&self) -> bool {
         self.negative
     }
 
     /// How many letters there are.
-    pub(crate) fn weight(&self) -> u32 {
+    pub fn weight(&self) -> u32 {
         (self.x | self.z).count_ones()
     }
 
     /// The first qubit with a letter, as a number; 64 where there is none.
-    pub(crate) fn first(&self) -> u32 {
+    pub fn first(&self) -> u32 {
         (self.x | self.z).trailing_zeros()
     }
 
     /// The letter on a qubit.
-    pub(crate) fn at(&self, q: Qubit) -> Letter {
+    pub fn at(&self, q: Qubit) -> Letter {
         Letter {
             x: self.x & bit(q) != 0,
             z: self.z & bit(q) != 0,
@@ -140,18 +140,18 @@ impl PauliString {
     }
 
     /// Whether it has one letter at most.
-    pub(crate) fn is_single(&self) -> bool {
+    pub fn is_single(&self) -> bool {
         let on = self.x | self.z;
         on & on.wrapping_sub(1) == 0
     }
 
     /// Whether two strings anticommute.
-    pub(crate) fn anticommutes(&self, other: &PauliString) -> bool {
+    pub fn anticommutes(&self, other: &PauliString) -> bool {
         ((self.x & other.z) ^ (self.z & other.x)).count_ones() % 2 == 1
     }
 
     /// The opposite string.
-    pub(crate) fn opposite(self) -> PauliString {
+    pub fn opposite(self) -> PauliString {
         PauliString {
             x: self.x,
             z: self.z,
@@ -160,7 +160,7 @@ impl PauliString {
     }
 
     /// The product with another string and with so many factors i, where that is a string.
-    pub(crate) fn times(self, other: PauliString, factors: u32) -> PauliString {
+    pub fn times(self, other: PauliString, factors: u32) -> PauliString {
         // X, Y, Z in a row give a factor i, and backwards its opposite.
         let forwards = (self.x & !self.z & other.x & other.z)
             | (self.x & self.z & !other.x & other.z)
@@ -177,7 +177,7 @@ impl PauliString {
     }
 
     /// What the string is behind a Clifford gate, where it is this one before it.
-    pub(crate) fn pass(&mut self, gate: &Gate) {
+    pub fn pass(&mut self, gate: &Gate) {
         match *gate {
             Gate::H(q) => self.pass_h(q),
             Gate::Phase(q, phase) => self.pass_quarters(q, phase.get() / 4),
@@ -196,7 +196,7 @@ impl PauliString {
 
     /// The same for an H: X and Z change places.
     #[inline(always)]
-    pub(crate) fn pass_h(&mut self, q: Qubit) {
+    pub fn pass_h(&mut self, q: Qubit) {
         let here = bit(q);
         let differs = (self.x ^ self.z) & here;
         self.negative = self.negative != (self.x & self.z & here != 0);
@@ -220,7 +220,7 @@ impl PauliString {
 
     /// The same for a Cz: an X on either qubit brings a Z on the other one.
     #[inline(always)]
-    pub(crate) fn pass_cz(&mut self, p: Qubit, q: Qubit) {
+    pub fn pass_cz(&mut self, p: Qubit, q: Qubit) {
         let (to_p, to_q) = (u32::from(p), u32::from(q));
         let x_at_p = self.x.wrapping_shr(to_p) & 1;
         let x_at_q = self.x.wrapping_shr(to_q) & 1;

@@ -1,18 +1,22 @@
 //! Circuits through the graph and back.
 
-ghost use Rattle.std.specs.Prelude.{◌≡◌, ◌≤◌, true, false, length, nat_le, IfOk};
+ghost use Rattle.std.specs.Prelude.{◌≡◌, ◌≤◌, true, false, length, nat_le, IfOk, IfSome};
 ghost use Rattle.zx_model.specs.Scalar.{IsWithin};
 ghost use Rattle.zx_gates.specs.Circuit.{Circuit};
 ghost use Rattle.zx_extract.specs.Simplified.{gate_bound};
 ghost use Rattle.zx_optimise.specs.Optimising.{bound_of, most_optimised_root2, IsBest, IsCleaned, IsNoDearerThanRead, IsNoDearerThanTeleported, IsPlain, Optimises};
 ghost use Rattle.zx_optimise.specs.Internal.Candidates.{is_dearer, most_whole_root2, IsCandidate, IsNoDearerThan, IsTakenOver, IsTeleportedCleanup, Offers};
 
+use fewer_phases::with_fewer_odd_phases;
 use std::alloc::{AllocError, Global};
 use zx_gates::{Counts, GateList, Qubit, ScaledCircuit, counts};
 use zx_peephole::tidy;
 use zx_pieces::shrink;
 use zx_simplify::simplify_circuit;
 use zx_teleport::teleport;
+
+// How many gates on two qubits an odd phase less may cost.
+const MOST_EACH: u64 = 20;
 
 /// The optimised circuit, and the scalar that the read one's linear map is times its own: it has no more odd
 /// phases, and few gates for these and its qubits.
@@ -105,7 +109,8 @@ fn beside_read(read: &GateList, best: ScaledCircuit) -> Result<ScaledCircuit, Al
     Ok(cheaper(read, best, cleaned))
 }
 
-// The cheapest one of a circuit, the one whose phases alone are changed, and what pieces of that are replaced by.
+// The cheapest one of a circuit, the one whose phases alone are changed, what pieces of that are replaced by, and what
+// has fewer odd phases than that.
 fn beside_teleported(
     alloc: Global,
     read: &GateList,
@@ -118,7 +123,48 @@ fn beside_teleported(
 {
     let teleported = teleported(alloc, read)?;
     let shrunk = shrunk(alloc, &teleported)?;
-    Ok(cheaper(read, cheaper(read, best, teleported), shrunk))
+    let fewer = fewer(alloc, &teleported)?;
+    let best = cheaper(read, cheaper(read, best, teleported), shrunk);
+    Ok(beside_fewer(read, best, fewer))
+}
+
+// The candidate with fewer odd phases, by phases put in that do nothing together, if one is found.
+fn fewer(alloc: Global, candidate: &ScaledCircuit) -> Result<Option<ScaledCircuit>, AllocError>
+    requires { IsWithin most_whole_root2 candidate.now.scalar }
+    ensures { (read : Circuit) → IsCandidate most_whole_root2 read candidate.now →
+        IfOk result (λ found. IfSome found (IsCandidate most_optimised_root2 read)) }
+{
+    match with_fewer_odd_phases(alloc, &candidate.gates)? {
+        Some(made) => Ok(Some(ScaledCircuit {
+            gates: made.gates,
+            scalar: candidate.scalar.times(made.scalar),
+        })),
+        None => Ok(None),
+    }
+}
+
+// The cheaper one of a circuit and one with fewer odd phases, if there is one, and each odd phase that it has less costs
+// at most `MOST_EACH` gates on two qubits.
+fn beside_fewer(read: &GateList, best: ScaledCircuit, fewer: Option<ScaledCircuit>) -> ScaledCircuit
+    requires best { Offers most_optimised_root2 read.now best }
+    requires candidate { IfSome fewer (IsCandidate most_optimised_root2 read.now) }
+    ensures offers { Offers most_optimised_root2 read.now result }
+    ensures than_best { IsTakenOver best result }
+{
+    match fewer {
+        Some(fewer) if is_worth_it(&best.gates, &fewer.gates) => cheaper(read, best, fewer),
+        _ => best,
+    }
+}
+
+// Whether each odd phase that another circuit has less costs at most `MOST_EACH` gates on two qubits.
+fn is_worth_it(this: &GateList, that: &GateList) -> bool {
+    let (this, that) = (counts(this), counts(that));
+    let saved = this.odd.saturating_sub(that.odd);
+    that.two_qubit
+        <= this
+            .two_qubit
+            .saturating_add(saved.saturating_mul(MOST_EACH))
 }
 
 // The circuit whose phases alone are changed, after cleanup.

@@ -1,0 +1,215 @@
+//! Which phases may be put in.
+
+use crate::drawing::Drawing;
+use crate::groups::{Group, is_clifford, rank};
+use crate::idle::idle_gates;
+use crate::populations::{Effort, search, search_shortly};
+use crate::walk::Walk;
+use pauli_network::circuit_of;
+use std::alloc::{AllocError, Global};
+use zx_gates::{Gate, GateList, Qubit};
+use zx_identities::Insertion;
+
+// The most qubits of a list.
+const MOST_QUBITS: Qubit = 64;
+
+// How many columns there have to be more than are independent, and how many in all, so that a flat may gain.
+const LEAST_EXCESS: usize = 4;
+
+const FEWEST_COLUMNS: usize = 8;
+
+// How many steps and walks there are for a group of `MIDDLE` columns. With more there are fewer in proportion; with
+// fewer there are fewer too, steps by the square.
+const STEPS: usize = 2_200_000;
+
+const WALKS: usize = 96;
+
+const MIDDLE: usize = 150;
+
+// How many steps a short walk has besides those that gain.
+const SHORT_STEPS: usize = 100;
+
+// How many groups are drawn to find one with most of the phases.
+const DRAWN: usize = 3;
+
+/// What may be put into a circuit so that it has fewer odd phases once those that meet are put together, where most of
+/// them are in one group that can be brought together: by one long search with so many hundredths of the usual effort,
+/// some ends of it, each for the circuit as it is. Nothing is promised of them. Equal arguments give equal ones.
+///
+/// # Errors
+///
+/// Only where memory runs out.
+pub fn propose_at_length(
+    alloc: Global,
+    circuit: &GateList,
+    percent: u64,
+    seed: u64,
+) -> Result<Vec<Insertion>, AllocError> {
+    let mut found = Vec::new(alloc);
+    let mut drawing = Drawing::new(seed);
+    let Some(group) = large_group(alloc, circuit, &mut drawing)? else {
+        return Ok(found);
+    };
+    let columns = group.columns(alloc)?;
+    let effort = effort_for(columns.len()).part(percent);
+    for new in search(alloc, &columns, effort, u64::from(drawing.word()))? {
+        if new.len() < columns.len() {
+            if let Some(insertion) = exchange(alloc, circuit.qubits(), &group, &new)? {
+                found.push(insertion)?;
+            }
+        }
+    }
+    Ok(found)
+}
+
+/// The same by short searches of groups at drawn places, until one gains, or so many have gained nothing.
+///
+/// # Errors
+///
+/// Only where memory runs out.
+pub fn propose_shortly(
+    alloc: Global,
+    circuit: &GateList,
+    tries: usize,
+    seed: u64,
+) -> Result<Option<Insertion>, AllocError> {
+    let (qubits, gates) = (circuit.qubits(), circuit.gates());
+    let places = odd_places(alloc, gates)?;
+    if qubits > MOST_QUBITS || places.len() < FEWEST_COLUMNS {
+        return Ok(None);
+    }
+    let mut drawing = Drawing::new(seed);
+    let mut walk = Walk::new(alloc, &[], u64::from(drawing.word()))?;
+    for _ in 0..tries {
+        let place = drawn_place(&places, gates.len(), &mut drawing);
+        let group = Group::draw(alloc, qubits, gates, place, &mut drawing)?;
+        let columns = group.columns(alloc)?;
+        if may_gain(alloc, &columns)? {
+            let new = search_shortly(alloc, &mut walk, &columns, SHORT_STEPS)?;
+            if new.len() < columns.len() {
+                return exchange(alloc, qubits, &group, &new);
+            }
+        }
+    }
+    Ok(None)
+}
+
+/// What may be put into a circuit so that all phases of a group vanish but for Clifford gates, where one of the groups
+/// at so many drawn places allows that. Nothing is promised of it. Equal arguments give equal ones.
+///
+/// # Errors
+///
+/// Only where memory runs out.
+pub fn propose_vanishing(
+    alloc: Global,
+    circuit: &GateList,
+    tries: usize,
+    seed: u64,
+) -> Result<Option<Insertion>, AllocError> {
+    let (qubits, gates) = (circuit.qubits(), circuit.gates());
+    let places = odd_places(alloc, gates)?;
+    if qubits > MOST_QUBITS || places.len() < FEWEST_COLUMNS {
+        return Ok(None);
+    }
+    let mut drawing = Drawing::new(seed);
+    for _ in 0..tries {
+        let place = drawn_place(&places, gates.len(), &mut drawing);
+        let group = Group::draw(alloc, qubits, gates, place, &mut drawing)?;
+        let columns = group.columns(alloc)?;
+        if columns.len() >= FEWEST_COLUMNS && is_clifford(&columns) {
+            return exchange(alloc, qubits, &group, &[]);
+        }
+    }
+    Ok(None)
+}
+
+// The places of all odd phases.
+fn odd_places(alloc: Global, gates: &[Gate]) -> Result<Vec<usize>, AllocError> {
+    let mut places = Vec::new(alloc);
+    for (place, gate) in gates.iter().enumerate() {
+        if let Gate::Phase(_, phase) = *gate {
+            if phase.is_odd() {
+                places.push(place)?;
+            }
+        }
+    }
+    Ok(places)
+}
+
+// That of an odd phase, or the end.
+fn drawn_place(places: &[usize], end: usize, drawing: &mut Drawing) -> usize {
+    let number = drawing.below(places.len().saturating_add(1));
+    places.get(number).copied().unwrap_or(end)
+}
+
+// A drawn group that has more than three fifths of all odd phases, if one is met.
+fn large_group(
+    alloc: Global,
+    circuit: &GateList,
+    drawing: &mut Drawing,
+) -> Result<Option<Group>, AllocError> {
+    let (qubits, gates) = (circuit.qubits(), circuit.gates());
+    let places = odd_places(alloc, gates)?;
+    if qubits > MOST_QUBITS || places.len() < FEWEST_COLUMNS {
+        return Ok(None);
+    }
+    for _ in 0..DRAWN {
+        let place = drawn_place(&places, gates.len(), drawing);
+        let group = Group::draw(alloc, qubits, gates, place, drawing)?;
+        let columns = group.columns(alloc)?;
+        let is_large = columns.len() / 3 > places.len() / 5;
+        if is_large && may_gain(alloc, &columns)? {
+            return Ok(Some(group));
+        }
+    }
+    Ok(None)
+}
+
+// Whether there are more columns than independent ones, by so many that a flat may hold half of its points.
+fn may_gain(alloc: Global, columns: &[u64]) -> Result<bool, AllocError> {
+    if columns.len() < FEWEST_COLUMNS {
+        return Ok(false);
+    }
+    let rank = rank(alloc, columns)?;
+    Ok(columns.len().saturating_sub(rank) >= LEAST_EXCESS)
+}
+
+fn effort_for(columns: usize) -> Effort {
+    if columns > MIDDLE {
+        return Effort {
+            walks: part(WALKS, MIDDLE, columns),
+            steps: part(STEPS, MIDDLE, columns),
+        };
+    }
+    Effort {
+        walks: part(WALKS, columns, MIDDLE).max(1),
+        steps: part(part(STEPS, columns, MIDDLE), columns, MIDDLE),
+    }
+}
+
+fn part(all: usize, of: usize, whole: usize) -> usize {
+    all.saturating_mul(of).checked_div(whole).unwrap_or(0)
+}
+
+// What puts phases about these columns in the place of a group's.
+fn exchange(
+    alloc: Global,
+    qubits: Qubit,
+    group: &Group,
+    new: &[u64],
+) -> Result<Option<Insertion>, AllocError> {
+    if qubits > MOST_QUBITS {
+        return Ok(None);
+    }
+    let Some(frame) = circuit_of(alloc, qubits, &group.frame)? else {
+        return Ok(None);
+    };
+    let Some(inner) = circuit_of(alloc, qubits, &idle_gates(alloc, &group.terms, new)?)? else {
+        return Ok(None);
+    };
+    Ok(Some(Insertion {
+        place: group.place,
+        frame,
+        inner,
+    }))
+}
