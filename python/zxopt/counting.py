@@ -1,8 +1,8 @@
 """Counts of a circuit as it is written: `python3 -m zxopt measures FILE..`.
 
-A text is counted *lowered*: each gate stands for those of its declaration, down to `U` and `CX`, and `U` for H, NOT and
-phases as the program has it, so that a Toffoli of the header is seven phases, six CX and two H. `cz` counts as itself, as
-the program counts those that it writes. A phase is one of these:
+A text is counted *lowered*: each gate stands for those of its declaration, down to `U` and `CX`, and `U` for H, NOT
+and phases as the program has it, so that a Toffoli of the header is seven phases, six CX and two H. `cz` counts as
+itself, as the program counts those that it writes. A phase is one of these:
 
 - a T gate: an odd multiple of pi/4, or of pi/8, since a square root of T counts as one T gate. This is what the
   program's report calls an odd phase;
@@ -10,26 +10,32 @@ the program counts those that it writes. A phase is one of these:
 - another angle, no multiple of pi/8: such phases are gates, but no T gates, and are counted apart.
 
 A *path* is a list of gates in their order in the text, each of which has a qubit in common with the next one. It also
-goes from a measurement through the register that it writes to the gates under a condition on that. T-depth is the most T
-gates on a path, depth the most gates. No gate is moved, merged or cancelled for that: another order of gates that commute
-may have less. Measurements, resets and barriers aren't gates.
+goes from a measurement through the register that it writes to the gates under a condition on that. T-depth is the most
+T gates on a path, depth the most gates. No gate is moved, merged or cancelled for that: another order of gates that
+commute may have less. Measurements, resets and barriers aren't gates.
 
 Nothing here asks the program, and nothing of it is proved.
 """
 from __future__ import annotations
 
+import argparse
+import csv
 import re
-from dataclasses import dataclass
+import sys
+from dataclasses import asdict, dataclass
 from fractions import Fraction
-from typing import Dict, Iterable, List, NamedTuple, Optional, Sequence, Tuple, Union
+from typing import Dict, Iterable, List, NamedTuple, Optional, Sequence, Tuple
 
-from zxopt import angles
 from zxopt.angles import Value
 from zxopt.circuit import CannotCut, Circuit
+from zxopt import angles, arguments, cli
 from zxopt.prepare import prepare
 from zxopt.qasm import Call, QasmError, Statement, call, squeezed
+from zxopt.rounded import told
+from zxopt.texts import Circuit as AnyKind
+from zxopt.texts import Text, as_bytes
 
-__all__ = ["Measures", "TooManyGates", "measures"]
+__all__ = ["Measures", "TooManyGates", "command", "command_parser", "measures"]
 
 GREATEST_GATES = 16_000_000
 GREATEST_BODY = 1_000_000
@@ -62,13 +68,19 @@ class Measures:
     opaque: int
 
 
-def measures(text: Union[str, bytes], *, within: Optional[float] = None) -> Measures:
-    """The counts of a text that `zxopt.prepare` takes.
+def measures(circuit: AnyKind, *, within: Optional[float] = None) -> Measures:
+    """The counts of a text that `zxopt.prepare` takes, a file, or a circuit of Qiskit, PyZX or pytket.
 
     within: a distance in radians; angles that lie so close to a multiple of pi/8 are taken for it. Raises ValueErrors
-    with a `line`: CannotPrepare or CannotCut where the text isn't OpenQASM 2, TooManyGates where it is too large.
+    with a `line`: CannotPrepare or CannotCut where the text isn't OpenQASM 2, TooManyGates where it is too large;
+    TypeError where it is no circuit, and OSError where the file can't be read.
     """
-    return _Counting(Circuit(prepare(text, within=within).text, False)).done()
+    text: Text = circuit if isinstance(circuit, str) else as_bytes(circuit)
+    return _counted(prepare(text, within=within).text)
+
+
+def _counted(text: str) -> Measures:
+    return _Counting(Circuit(text, False)).done()
 
 
 # -- what an application stands for -----------------------------------------------------------------------------------
@@ -299,3 +311,52 @@ class _Counting:
             depth, t_depth = max([depths[it] for it in those]) + 1, max([t_depths[it] for it in those])
             for it in those:
                 depths[it], t_depths[it] = depth, t_depth
+
+
+# -- the command ------------------------------------------------------------------------------------------------------
+
+
+def command_parser(command: str) -> argparse.ArgumentParser:
+    """The words of the command `measures`."""
+    about = (
+        "Tells T-count, T-depth, depth and gates of texts of OpenQASM 2.0 as they are written, lowered to CX, CZ, H, "
+        "NOT and phases. Square roots of T count as T; phases that are no multiple of pi/8 are told apart. The exit "
+        "status is 1 where a text can't be counted."
+    )
+    parser = arguments.takes_within(arguments.parser(command, about))
+    parser.add_argument("files", nargs="+", metavar="FILE", help="a file; - for standard input")
+    parser.add_argument("--csv", action="store_true", help="write a table, in place of a line for each file")
+    return parser
+
+
+def command(asked: argparse.Namespace) -> int:
+    """The command `measures`: a line for each file, or a row. Answers 0, or 1 where a text can't be counted."""
+    rows = csv.writer(sys.stdout, lineterminator="\n") if asked.csv else None
+    if rows:
+        rows.writerow(["file", *Measures.__dataclass_fields__])
+    status = 0
+    for file in asked.files:
+        try:
+            prepared = prepare(cli.read_text(file), within=asked.within)
+            found = _counted(prepared.text)
+        except ValueError as refused:
+            print(cli.placed(file, refused), file=sys.stderr)
+            status = cli.REFUSED
+            continue
+        if rows:
+            rows.writerow([file, *asdict(found).values()])
+        else:
+            print(f"{file}: {_line(found)}")
+        if prepared.rounded:
+            print(f"{file}: {told(prepared.rounded)}", file=sys.stderr)
+    return status
+
+
+def _line(found: Measures) -> str:
+    """What is told of a text."""
+    said = (
+        f"qubits {found.qubits}, T {found.t_count}, T-depth {found.t_depth}, two-qubit {found.two_qubit}, "
+        f"gates {found.gates}, depth {found.depth}"
+    )
+    others = [(found.other_angles, "other angles"), (found.opaque, "opaque gates")]
+    return said + "".join(f", {name} {count}" for count, name in others if count)
