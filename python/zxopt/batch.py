@@ -23,7 +23,7 @@ from . import arguments, cli, spelling
 from .commands import Comparison, optimise_counted, same
 from .counting import Measures, measures
 from .faults import Refused
-from .prepare import prepare
+from .prepare import GREATEST_WITHIN, prepare
 from .program import Program, find_program
 from .rounded import told as told_of_rounded
 
@@ -64,6 +64,13 @@ class Settings:
     program: Optional[Program] = None
     within: Optional[float] = None
     measured: bool = False
+
+    def __post_init__(self) -> None:
+        """Raises ValueError where a number is out of its range, since no text is to blame for that."""
+        if self.seconds is not None and not self.seconds > 0:
+            raise ValueError(f"a time limit of {self.seconds} seconds isn't above 0")
+        if self.within is not None and not 0 <= self.within <= GREATEST_WITHIN:
+            raise ValueError(f"a distance of angles is from 0 to {GREATEST_WITHIN} radians")
 
 
 @dataclass(frozen=True)
@@ -145,15 +152,15 @@ def optimise_file(job: Job, settings: Settings = Settings()) -> Outcome:
     try:
         text, changed, rounded = _prepared(job.source.read_bytes(), settings)
         written, best = _optimised(text, settings)
-        measured = _measured(text, written.text) if settings.measured else None
         job.target.parent.mkdir(parents=True, exist_ok=True)
         cli.write_file(job.target, written.text)
         check, unchecked = _checked(text, written.text, settings) if settings.check else ("", "")
+        seconds = time.monotonic() - began
+        measured = _measured(text, written.text) if settings.measured else None
     except ValueError as refused:
         return Outcome(job, "refused", time.monotonic() - began, told=_refusal(job, refused))
     except (MemoryError, OSError) as failed:
         return Outcome(job, "failed", time.monotonic() - began, told=f"{job.source}: {failed}")
-    seconds = time.monotonic() - began
     told = "; ".join(filter(None, (changed, written.told, rounded, unchecked)))
     return Outcome(job, "written", seconds, written.t, written.two_qubit, written.gates, best, check, told, measured)
 
@@ -295,8 +302,7 @@ def _as_a_whole(text: bytes, best: bool, settings: Settings) -> _Written:
 def _in_parts(text: bytes, best: bool, settings: Settings) -> _Written:
     from .parts import optimise_parts
 
-    program = None if settings.program is None else os.fspath(settings.program)
-    made = optimise_parts(text, best=best, timeout=settings.seconds, program=program)
+    made = optimise_parts(text, best=best, timeout=settings.seconds, program=settings.program)
     told = f"{_many(made.parts, 'part', 'parts')}, {_many(made.kept, 'statement stays', 'statements stay')}"
     if made.rounded:
         told += f"; {told_of_rounded(made.rounded)}"

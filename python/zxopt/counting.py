@@ -253,8 +253,12 @@ class _Counting:
             self.add(Statement("", found[2], it.line), self.circuit.bits[found[1]][0])
             return
         operation = self.circuit.other(it.text, it.line)
-        for number in {number for number, _ in operation.writes} if operation else ():
-            self.write(number, operation.qubits if operation else ())
+        if operation is None:
+            return
+        if condition is not None:
+            self.wait(operation.qubits, condition)
+        for number in {number for number, _ in operation.writes}:
+            self.write(number, operation.qubits)
 
     def write(self, register: int, qubits: Iterable[int]) -> None:
         """A measurement of these qubits into a register."""

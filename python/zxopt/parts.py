@@ -30,7 +30,7 @@ from zxopt import arguments, cli
 from zxopt.circuit import CannotCut, Circuit
 from zxopt.faults import Refused
 from zxopt.names import declared
-from zxopt.program import run
+from zxopt.program import Program, run
 from zxopt.prepare import prepare
 from zxopt.qasm import Statement, squeezed
 from zxopt.rounded import rounded_angles, told
@@ -103,7 +103,7 @@ def optimise_parts(
     jobs: int = 1,
     keep_barriers: bool = False,
     timeout: Optional[float] = None,
-    program: Optional[str] = None,
+    program: Optional[Program] = None,
     progress: Optional[Callable[[int, int], None]] = None,
 ) -> Parts:
     """Optimises a text part by part.
@@ -113,8 +113,11 @@ def optimise_parts(
     read. `progress` is called with the number of parts that are done, and that of all, by one thread at a time.
 
     Raises CannotCut where the text isn't one that the program would take but for single statements: `zxopt.prepare`
-    helps with many of these. MemoryError and OSError are those of `zxopt.program.run`.
+    helps with many of these. MemoryError and OSError are those of `zxopt.program.run`; ValueError where `jobs` or
+    `timeout` isn't above 0.
     """
+    if jobs < 1:
+        raise ValueError(f"{jobs} parts at a time: the number isn't above 0")
     cutting = _Cutting(decoded(text, []), best, jobs, keep_barriers)
     cutting.timeout, cutting.program, cutting.progress = timeout, program, progress
     return cutting.done()
@@ -126,7 +129,7 @@ class _Cutting:
         self.words = ["opt", "--report", *(["--best"] if best else [])]
         self.jobs = jobs
         self.timeout: Optional[float] = None
-        self.program: Optional[str] = None
+        self.program: Optional[Program] = None
         self.progress: Optional[Callable[[int, int], None]] = None
         self.results: dict[str, _Done] = {}
 

@@ -18,12 +18,12 @@ __all__ = ["from_text", "to_text"]
 
 def to_text(circuit: Any) -> str:
     """The circuit as OpenQASM 2, as pytket writes it."""
-    return str(importlib.import_module("pytket.qasm").circuit_to_qasm_str(circuit))
+    return str(importlib.import_module("pytket.qasm").circuit_to_qasm_str(circuit, **_width(circuit)))
 
 
 def from_text(text: str, like: Any) -> Any:
     """The circuit of a text that the program wrote for another one, with the name, qubits and bits of that one."""
-    made = importlib.import_module("pytket.qasm").circuit_from_qasm_str(text)
+    made = importlib.import_module("pytket.qasm").circuit_from_qasm_str(text, **_width(like))
     said = to_text(like)
     made.rename_units(
         {
@@ -33,6 +33,11 @@ def from_text(text: str, like: Any) -> Any:
     )
     made.name = like.name
     return made
+
+
+def _width(circuit: Any) -> Dict[str, int]:
+    """The greatest width of a register of bits, where it is above pytket's own limit: the program writes one for all."""
+    return {"maxwidth": len(circuit.bits)} if len(circuit.bits) > 32 else {}
 
 
 def _renamed(new: Iterable[Any], new_places: List[str], old: Iterable[Any], old_places: List[str]) -> Dict[Any, Any]:

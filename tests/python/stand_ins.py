@@ -226,7 +226,7 @@ class PytketCircuit:
         ]
 
 
-def circuit_to_qasm_str(circuit: PytketCircuit) -> str:
+def circuit_to_qasm_str(circuit: PytketCircuit, maxwidth: int = 32) -> str:
     sizes: Dict[Tuple[str, str], int] = {}
     for kind, units in (("qreg", circuit.qubits), ("creg", circuit.bits)):
         for unit in units:
@@ -235,8 +235,9 @@ def circuit_to_qasm_str(circuit: PytketCircuit) -> str:
     return written(registers, circuit.operations, {it: str(it) for it in [*circuit.qubits, *circuit.bits]})
 
 
-def circuit_from_qasm_str(text: str) -> PytketCircuit:
+def circuit_from_qasm_str(text: str, maxwidth: int = 32) -> PytketCircuit:
     found = read(text)
+    assert all(size <= maxwidth for kind, _, size in found.registers if kind == "creg")
     units = {kind: [(name, at) for its, name, size in found.registers if its == kind for at in range(size)] for kind in ("qreg", "creg")}
     made = PytketCircuit([Qubit(*it) for it in units["qreg"]], [ClassicalBit(*it) for it in units["creg"]])
     by_name: Dict[str, Unit] = {str(it): it for it in [*made.qubits, *made.bits]}

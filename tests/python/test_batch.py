@@ -169,6 +169,14 @@ class Optimised(InRoom):
         self.assertIn("angles moved by at most", outcome.told)
         self.assertNotIn("lie within", outcome.told)
 
+    def test_numbers_out_of_range(self) -> None:
+        for wrong in ({"seconds": 0}, {"seconds": float("nan")}, {"within": -1e-9}, {"within": 1}, {"within": float("nan")}):
+            with self.subTest(wrong=wrong), self.assertRaises(ValueError):
+                Settings(**wrong)
+        for processes in (0, -1):
+            with self.assertRaises(ValueError):
+                list(optimise_files([self.job(HEAD)], processes=processes))
+
     def test_measured(self) -> None:
         """Counts by hand: two T on one qubit are S, so no T is left on any path."""
         job = self.job(HEAD + "qreg q[2]; t q[0]; cx q[0],q[1]; t q[0]; h q[1];")
@@ -246,6 +254,13 @@ class Command(InRoom):
         self.assertEqual((ran.returncode, ran.stderr), (0, ""))
         self.assertIn("T 21 -> 15, two-qubit 18 -> 18", ran.stdout)
         self.assertIn("1 file: 1 written, 0 refused, 0 failed;", ran.stdout)
+
+    def test_within(self) -> None:
+        self.write("rounded.qasm", HEAD + "qreg q[1]; rz(0.7853981633974483) q[0]; rz(0.7853981633974483) q[0];")
+        ran = self.command("batch", "rounded.qasm", "--to", "out")
+        self.assertEqual((ran.returncode, "--within 1e-9 takes them for that" in ran.stderr), (1, True))
+        ran = self.command("batch", "rounded.qasm", "--to", "out", "--within", "1e-9")
+        self.assertEqual((ran.returncode, (self.room / "out/rounded.qasm").read_text()), (0, HEAD + "qreg q[1];\ns q[0];\n"))
 
     def test_wrong_words(self) -> None:
         for words in (["two_t.qasm"], ["--to", "out"], ["two_t.qasm", "--to", "out", "--jobs", "0"]):

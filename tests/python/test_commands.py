@@ -4,6 +4,7 @@ from __future__ import annotations
 import io
 import json
 import os
+import re
 import subprocess
 import sys
 import unittest
@@ -70,6 +71,13 @@ class Commands(InRoom):
             for flag in ("--best", "--no-best"):
                 ran = self.command(*words, flag, text=example("two_t.qasm"))
                 self.assertEqual(ran.returncode, 0, ran.stderr)
+
+    def test_parts_take_the_best(self) -> None:
+        file = str(EXAMPLES / "tof_3.qasm")
+        for words, holds in (([], lambda after: after <= 13), (["--no-best"], lambda after: after == 18)):
+            told = self.command("parts", file, *words).stderr
+            found = re.search(r"gates on two qubits 18 before, (\d+) after", told)
+            self.assertTrue(found and holds(int(found[1])), told)
 
     def test_measures(self) -> None:
         odd = self.write("odd.qasm", HEAD + "qreg q[2]; t q[0]; cx q[0],q[1]; rz(0.785398163397) q[1]; h q[1],q[2];")

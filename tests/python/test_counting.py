@@ -93,6 +93,7 @@ class ByHand(unittest.TestCase):
         self.rows(
             ("t q[0]; measure q[0] -> c[0]; if(c==1) t q[1];", (2, 2, 2, 2, 0, 0)),
             ("t q[0]; measure q[0] -> c[0]; if(d==1) t q[1];", (2, 2, 1, 1, 0, 0)),
+            ("t q[0]; measure q[0] -> c[0]; if(c==1) measure q[1] -> d[0]; if(d==1) t q[2];", (2, 2, 2, 2, 0, 0)),
             ("t q[0]; if(c==1) measure q[0] -> d[0]; if(d==1) x q[3]; t q[3];", (3, 2, 2, 3, 0, 0)),
         )
 

@@ -222,6 +222,15 @@ class Pytket(WithStandIns):
             self.assertEqual(zxopt.measures(better).t_count, 0)
 
 
+    def test_many_bits(self) -> None:
+        """The program writes one register for all bits, and pytket reads one of 32 unless it is told."""
+        bits = [stand_ins.ClassicalBit(name, at) for name in "kl" for at in range(30)]
+        circuit = stand_ins.PytketCircuit([stand_ins.Qubit("q", 0)], bits)
+        circuit.operations.append(Operation("measure", (circuit.qubits[0],), (bits[59],)))
+        better = zxopt.optimise(circuit)
+        self.assertEqual((better.bits, better.operations), (bits, circuit.operations))
+
+
 class RealLibraries(unittest.TestCase):
     """The same with the libraries themselves, where they are installed."""
 

@@ -228,6 +228,11 @@ class Cuts(unittest.TestCase):
         self.assertEqual(one, two)
         self.assertEqual(seen[-1], (one.parts, one.parts))
 
+    def test_numbers_out_of_range(self) -> None:
+        for wrong in ({"jobs": 0}, {"jobs": -3}, {"timeout": 0}):
+            with self.subTest(wrong=wrong), self.assertRaises(ValueError):
+                self.parts("qreg q[1]; h q[0]; t q[0];", **wrong)
+
     def test_a_program_that_is_missing(self) -> None:
         with self.assertRaises(OSError):
             self.parts("qreg q[1]; h q[0]; t q[0];", program="/no/such/program")

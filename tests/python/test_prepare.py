@@ -328,8 +328,10 @@ class Command(unittest.TestCase):
         with tempfile.TemporaryDirectory() as folder:
             file = os.path.join(folder, "a.qasm")
             Path(file).write_text(f"{HEAD}qreg q[1]; rz(0.785398163397) q[0]; rx(1.570796326795) q[0];", encoding="utf-8")
-            with redirect_stdout(io.StringIO()), redirect_stderr(io.StringIO()) as said:
-                self.assertEqual(prepare_module.main([file]), 0)
+            target = Path(folder, "b.qasm")
+            with redirect_stdout(io.StringIO()) as out, redirect_stderr(io.StringIO()) as said:
+                self.assertEqual(prepare_module.main([file, "--to", str(target)]), 0)
+            self.assertEqual((out.getvalue(), target.read_text(encoding="utf-8")), ("", Path(file).read_text(encoding="utf-8")))
             self.assertEqual(
                 said.getvalue(), "prepare: 2 angles lie within 1e-9 of a multiple of pi/8: --within 1e-9 takes them for that\n"
             )
