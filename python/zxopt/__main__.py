@@ -49,15 +49,21 @@ def main(argv: Optional[Sequence[str]] = None) -> int:
     if command not in (*_COMMANDS, *_MODULES):
         print(f"zxopt: {command} is no command; python3 -m zxopt --help tells them", file=sys.stderr)
         return 2
-    describe, work = _COMMANDS[command] if command in _COMMANDS else _of_module(_MODULES[command])
-    asked = describe(command).parse_args(rest)
+    asked = parser_of(command).parse_args(rest)
     file = getattr(asked, "file", None)
-    return cli.guarded(lambda: work(asked), f"zxopt {command}", file if file != "-" else None)
+    return cli.guarded(lambda: _described(command)[1](asked), f"zxopt {command}", file if file != "-" else None)
 
 
-def _of_module(name: str) -> _Command:
-    """The parser and the work of a command with a module of its own."""
-    module = importlib.import_module(f"zxopt.{name}")
+def parser_of(command: str) -> argparse.ArgumentParser:
+    """The parser of a command's words. Raises KeyError where there is no such command."""
+    return _described(command)[0](command)
+
+
+def _described(command: str) -> _Command:
+    """What makes the parser of a command, and does its work."""
+    if command in _COMMANDS:
+        return _COMMANDS[command]
+    module = importlib.import_module(f"zxopt.{_MODULES[command]}")
     return module.command_parser, module.command
 
 

@@ -57,6 +57,8 @@ def read_text(file: Optional[str]) -> bytes:
     if file is None or file == "-":
         if sys.stdin is None:
             raise OSError("standard input is closed")
+        if sys.stdin.isatty():
+            print("zxopt: reading from the terminal, until Ctrl-D", file=sys.stderr)
         return sys.stdin.buffer.read()
     return Path(file).read_bytes()
 

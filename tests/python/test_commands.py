@@ -1,6 +1,7 @@
 """Tests of `python3 -m zxopt`: each command on its happy path, and its exit statuses."""
 from __future__ import annotations
 
+import inspect
 import io
 import json
 import os
@@ -9,10 +10,13 @@ import subprocess
 import sys
 import unittest
 from contextlib import redirect_stderr
+from unittest import mock
 
-from support import EXAMPLES, HEAD, PYTHON, InRoom, absolute_program, example
+from support import EXAMPLES, HEAD, PYTHON, TOP, InRoom, absolute_program, example
 
 import zxopt
+from zxopt import __main__ as commands
+from zxopt import cli
 from zxopt.__main__ import main
 
 BAD = HEAD + "qreg q[1];\nreset q[0];\n"
@@ -71,6 +75,25 @@ class Commands(InRoom):
             for flag in ("--best", "--no-best"):
                 ran = self.command(*words, flag, text=example("two_t.qasm"))
                 self.assertEqual(ran.returncode, 0, ran.stderr)
+
+    def test_the_table_of_readme(self) -> None:
+        """Where the best of several is taken, as README has it."""
+        text = (TOP / "README.md").read_text(encoding="utf-8")
+        rows = re.findall(r"^\| (.*`opt`.*|.*`batch`.*) \| (where|unless) .* \|$", text, re.MULTILINE)
+        told = {(name, kind == "unless") for said, kind in rows for name in re.findall(r"`([a-z.]+)`", said)}
+        best = {(name, commands.parser_of(name).get_default("best")) for name in ("opt", "counts", "parts", "batch")}
+        functions = {"zxopt.optimise": zxopt.optimise, "counts": zxopt.counts}
+        best |= {(name, inspect.signature(it).parameters["best"].default) for name, it in functions.items()}
+        self.assertEqual(told, best)
+        self.assertTrue(inspect.signature(zxopt.optimise_counted).parameters["best"].default)
+
+    def test_reading_from_a_terminal(self) -> None:
+        data = example("two_t.qasm").encode()
+        for is_terminal in (True, False):
+            stdin = mock.Mock(isatty=lambda: is_terminal, buffer=io.BytesIO(data))
+            with mock.patch.object(sys, "stdin", stdin), redirect_stderr(io.StringIO()) as said:
+                self.assertEqual(cli.read_text(None), data)
+            self.assertEqual("reading from the terminal" in said.getvalue(), is_terminal)
 
     def test_parts_take_the_best(self) -> None:
         file = str(EXAMPLES / "tof_3.qasm")
