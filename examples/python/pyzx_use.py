@@ -12,12 +12,6 @@ import sys
 import pyzx
 
 import zxopt
-from zxopt.spelling import only_t
-
-
-def optimised(circuit: "pyzx.Circuit") -> "pyzx.Circuit":
-    """The circuit with fewer T gates, and the same map up to a scalar."""
-    return pyzx.Circuit.from_qasm(only_t(zxopt.optimise(circuit.to_qasm())))
 
 
 def main() -> None:
@@ -25,13 +19,13 @@ def main() -> None:
     qubits, gates, seed = map(int, sys.argv[1:] or (5, 200, 1))
     random.seed(seed)
     circuit = pyzx.generate.CNOT_HAD_PHASE_circuit(qubits, gates)
-    better = optimised(circuit)
+    better = zxopt.optimise(circuit)
     theirs = pyzx.optimize.full_optimize(circuit.to_basic_gates())
     for name, each in (("drawn", circuit), ("zxopt", better), ("full_optimize", theirs)):
         print(f"{name}: T {each.tcount()}, two-qubit {each.twoqubitcount()}")
-    print("zxopt says:", "same" if zxopt.same(circuit.to_qasm(), better.to_qasm()) else "not shown")
+    print("zxopt says:", zxopt.same(circuit, better))
     print("PyZX says:", "same" if circuit.verify_equality(better) else "not shown")
-    print("PyZX's own:", "same" if zxopt.same(circuit.to_qasm(), theirs.to_qasm()) else "not shown")
+    print("PyZX's own:", zxopt.same(circuit, theirs))
 
 
 if __name__ == "__main__":

@@ -1,49 +1,40 @@
-"""zxopt as a pass of Qiskit's transpiler.
+"""zxopt on a circuit of Qiskit, as a pass of its transpiler, and what it makes of it compared by both.
 
-    from qiskit.transpiler import PassManager
-    better = PassManager([ZxOpt()]).run(circuit)
+    python3 qiskit_pass.py [FILE]
 
 Written for Qiskit 1.0 or later. This file isn't run by the tests of this repository, where Qiskit isn't installed.
 """
 from __future__ import annotations
 
-from typing import Optional
+import sys
 
-from qiskit import qasm2
-from qiskit.converters import circuit_to_dag, dag_to_circuit
-from qiskit.dagcircuit import DAGCircuit
-from qiskit.transpiler.basepasses import TransformationPass
+from qiskit import QuantumCircuit, qasm2
+from qiskit.quantum_info import Operator
+from qiskit.transpiler import PassManager
 
 import zxopt
-from zxopt.prepare import prepare
-from zxopt.spelling import only_t
 
 
-class ZxOpt(TransformationPass):
-    """Lowers the number of T gates of a circuit of Clifford gates and phases of whole multiples of pi/8, with measurements
-    at its ends.
+def drawn() -> QuantumCircuit:
+    """Two Toffoli gates that share a control."""
+    circuit = QuantumCircuit(3)
+    circuit.ccx(0, 1, 2)
+    circuit.t(0)
+    circuit.h(2)
+    circuit.ccx(1, 0, 2)
+    return circuit
 
-    The map stays the same up to a scalar, so up to the global phase: don't put the result under a control. Angles within
-    1e-9 radians of a multiple of pi/8 are taken for it. A circuit that isn't of that kind stays as it is. Barriers are left
-    out.
-    """
 
-    def __init__(self, best: bool = True, timeout: Optional[float] = None) -> None:
-        """best: takes the best of several circuits, which takes longer. timeout: in seconds for each circuit."""
-        super().__init__()
-        self.best = best
-        self.timeout = timeout
+def main() -> None:
+    """Optimises a file's circuit, or a small one."""
+    circuit = qasm2.load(sys.argv[1]) if sys.argv[1:] else drawn()
+    better = PassManager([zxopt.qiskit.ZxOpt()]).run(circuit)
+    for name, each in (("read", circuit), ("zxopt", better)):
+        print(f"{name}: {zxopt.measures(each)}")
+    print("zxopt says:", zxopt.same(circuit, better))
+    if circuit.num_qubits <= 10:
+        print("Qiskit says:", "same" if Operator(circuit).equiv(Operator(better)) else "not the same")
 
-    def run(self, dag: DAGCircuit) -> DAGCircuit:
-        """The optimised circuit, or the same where the program refuses it or takes too long."""
-        circuit = dag_to_circuit(dag)
-        try:
-            # Qiskit writes angles as rounded numbers where they are no simple fractions of pi
-            text = prepare(qasm2.dumps(circuit), within=1e-9).text
-            written = only_t(zxopt.optimise(text, self.best, timeout=self.timeout))
-        except (qasm2.QASM2ExportError, ValueError, TimeoutError):
-            return dag
-        better = circuit.copy_empty_like()
-        # the written text has one register of qubits and one of bits, in the order of the circuit's
-        better.compose(qasm2.loads(written), circuit.qubits, circuit.clbits, inplace=True)
-        return circuit_to_dag(better)
+
+if __name__ == "__main__":
+    main()

@@ -2,52 +2,99 @@
 OpenQASM 2.0.
 
     import zxopt
-    better = zxopt.optimise(text)               # text in, text out
-    assert zxopt.same(text, better)             # a yes is always right
+    better = zxopt.optimise(circuit)            # a text, a path, or a circuit of Qiskit, PyZX or pytket
+    assert zxopt.same(circuit, better)          # a yes is always right
+    zxopt.measures(better).t_depth              # counts of a circuit as it is written
 
 This package stands outside of the proved program `zxopt`, and runs it. What is proved is about the text that the
 program reads and the text that it writes; what this package does before and behind that is tested, and not proved. The
 program is $ZXOPT, or the one that was built beside this package, or `zxopt` on the path.
 
-The functions are safe from several threads. `python3 -m zxopt` has the same and more as commands, and these modules
-stand beside: `zxopt.prepare` makes texts of the usual tools such that the program reads them; `zxopt.parts` optimises
-what can be of texts that the program refuses for a statement; `zxopt.batch` optimises many files on all processors;
-`zxopt.spelling` writes gates in other words.
+The functions are safe from several threads. `python3 -m zxopt` has the same and more as commands. These modules stand
+beside, and are imported when they are asked for: `zxopt.prepare` makes texts of the usual tools such that the program
+reads them; `zxopt.parts` optimises what can be of texts that the program refuses for a statement; `zxopt.batch`
+optimises many files on all processors; `zxopt.spelling` writes gates in other words; `zxopt.qiskit` has a pass and a
+stage for Qiskit's transpiler.
 """
 from __future__ import annotations
 
+import importlib
+from typing import TYPE_CHECKING, Any
+
 from .commands import (
+    Comparison,
     Counts,
+    FlowCheck,
+    FlowFails,
     GateCounts,
     Optimised,
     Scalar,
+    compile,
     compile_diagram,
     counts,
+    flow,
+    graph,
     optimise,
     optimise_counted,
+    optimize,
+    reduce,
     same,
     teleport,
 )
 from .faults import FAULTS, Fault, NoFlow, Refused
 from .program import find_program, run
 
+if TYPE_CHECKING:
+    from . import batch, counting, parts, prepare, pytket, pyzx, qiskit, spelling
+    from .counting import Measures, measures
+
 __version__ = "1.0.0"
 
 __all__ = [
+    "Comparison",
     "Counts",
     "FAULTS",
     "Fault",
+    "FlowCheck",
+    "FlowFails",
     "GateCounts",
+    "Measures",
     "NoFlow",
     "Optimised",
     "Refused",
     "Scalar",
+    "batch",
+    "compile",
     "compile_diagram",
+    "counting",
     "counts",
     "find_program",
+    "flow",
+    "graph",
+    "measures",
     "optimise",
     "optimise_counted",
+    "optimize",
+    "parts",
+    "prepare",
+    "pytket",
+    "pyzx",
+    "qiskit",
+    "reduce",
     "run",
     "same",
+    "spelling",
     "teleport",
 ]
+
+_MODULES = frozenset(("batch", "counting", "parts", "prepare", "pytket", "pyzx", "qiskit", "spelling"))
+_COUNTING = frozenset(("Measures", "measures"))
+
+
+def __getattr__(name: str) -> Any:
+    """The modules that stand beside, and what `counting` has, imported when they are asked for."""
+    if name in _MODULES:
+        return importlib.import_module(f"{__name__}.{name}")
+    if name in _COUNTING:
+        return getattr(importlib.import_module(f"{__name__}.counting"), name)
+    raise AttributeError(f"module {__name__!r} has no attribute {name!r}")

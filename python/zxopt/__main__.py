@@ -8,7 +8,7 @@ import sys
 from dataclasses import asdict
 from typing import Callable, Dict, Optional, Sequence, Tuple
 
-from . import __version__, cli
+from . import __version__, arguments, cli
 
 _ABOUT = """\
 usage: python3 -m zxopt COMMAND ..      (COMMAND --help tells its words)
@@ -17,11 +17,18 @@ usage: python3 -m zxopt COMMAND ..      (COMMAND --help tells its words)
   teleport [FILE]          changes phases alone
   same FILE FILE           says whether it can show that two texts have one map; exit status 6 where it can't
   counts [FILE]            tells the counts of gates before and after as JSON
-  compile [FILE]           writes a circuit for a diagram file
+  measures FILE..          tells T-count, T-depth, depth and gates of texts as they are written
   spell [FILE]             writes what the program wrote by other gates: --only-t or --by-cx
   prepare [FILE]           puts a text of the usual tools into the form that the program reads
   parts [FILE]             optimises what can be of a text that the program refuses for a statement
   batch FILE.. --to FOLDER optimises many files on all processors
+  compile [FILE]           writes a circuit for a diagram file
+  graph [FILE]             writes a diagram file's graph-like form
+  flow [FILE]              says whether the table of a graph file is a flow; exit status 6 where it isn't
+  reduce [FILE]            writes a graph file, simplified along its flow
+
+`opt` makes one circuit unless --best is given, as the program does. `counts`, `parts` and `batch` take the best of
+several circuits unless --no-best is given.
 
 This package stands outside of the proved program `zxopt`, and runs it: what is proved is about the text that the
 program reads and the text that it writes. The program is $ZXOPT, or the one that was built beside the package, or
@@ -30,7 +37,7 @@ program reads and the text that it writes. The program is $ZXOPT, or the one tha
 
 
 def main(argv: Optional[Sequence[str]] = None) -> int:
-    """Runs a command with its words, and answers its exit status."""
+    """Runs a command with its words, and answers its exit status. Wrong words end the interpreter with status 2."""
     words = list(sys.argv[1:] if argv is None else argv)
     if words == ["--version"]:
         print(f"zxopt {__version__}, the package")
@@ -39,54 +46,31 @@ def main(argv: Optional[Sequence[str]] = None) -> int:
         print(_ABOUT, end="")
         return 0 if words else 2
     command, rest = words[0], words[1:]
-    if command in ("prepare", "parts", "batch"):
-        return importlib.import_module(f"zxopt.{command}").main(rest)
-    if command not in _COMMANDS:
+    if command not in (*_COMMANDS, *_MODULES):
         print(f"zxopt: {command} is no command; python3 -m zxopt --help tells them", file=sys.stderr)
         return 2
-    describe, work = _COMMANDS[command]
-    asked = describe(command).parse_args(rest)
+    asked = parser_of(command).parse_args(rest)
     file = getattr(asked, "file", None)
-    return cli.guarded(lambda: work(asked), f"zxopt {command}", file if file != "-" else None)
+    return cli.guarded(lambda: _described(command)[1](asked), f"zxopt {command}", file if file != "-" else None)
 
 
-def _parser(command: str, about: str) -> argparse.ArgumentParser:
-    return argparse.ArgumentParser(prog=f"python3 -m zxopt {command}", description=about)
+def parser_of(command: str) -> argparse.ArgumentParser:
+    """The parser of a command's words. Raises KeyError where there is no such command."""
+    return _described(command)[0](command)
 
 
-def _reads_one(parser: argparse.ArgumentParser) -> argparse.ArgumentParser:
-    """A command that reads one text."""
-    parser.add_argument("file", nargs="?", metavar="FILE", help="what is read; else standard input")
-    return parser
-
-
-def _writes_one(parser: argparse.ArgumentParser) -> argparse.ArgumentParser:
-    """A command that reads one text and writes one."""
-    _reads_one(parser).add_argument("--to", metavar="FILE", help="what is written; else standard output")
-    return parser
-
-
-def _takes_seconds(parser: argparse.ArgumentParser) -> argparse.ArgumentParser:
-    parser.add_argument("--seconds", type=cli.positive_seconds, metavar="N", help="a time limit")
-    return parser
-
-
-def _takes_best(parser: argparse.ArgumentParser) -> argparse.ArgumentParser:
-    best = argparse.BooleanOptionalAction
-    parser.add_argument("--best", action=best, default=True, help="take the best of several circuits")
-    return parser
-
-
-def _spellings(parser: argparse.ArgumentParser, required: bool) -> argparse.ArgumentParser:
-    either = parser.add_mutually_exclusive_group(required=required)
-    for name, told in (("only-t", "write u1(3*pi/4) as s and t, and the like"), ("by-cx", "write by U and CX alone")):
-        either.add_argument(f"--{name}", dest="spelled", action="store_const", const=name, help=told)
-    return parser
+def _described(command: str) -> _Command:
+    """What makes the parser of a command, and does its work."""
+    if command in _COMMANDS:
+        return _COMMANDS[command]
+    module = importlib.import_module(f"zxopt.{_MODULES[command]}")
+    return module.command_parser, module.command
 
 
 def _opt_parser(command: str) -> argparse.ArgumentParser:
-    about = "Optimises a text of OpenQASM 2.0. Where a time limit is met, one circuit is made in place of several."
-    parser = _spellings(_takes_seconds(_takes_best(_writes_one(_parser(command, about)))), False)
+    about = "Optimises a text of OpenQASM 2.0. Where a time limit is met with --best, one circuit is made."
+    parser = arguments.writes_one(arguments.parser(command, about))
+    arguments.spellings(arguments.takes_seconds(arguments.takes_best(parser, False)))
     parser.add_argument("--report", action="store_true", help="add the counts of gates as two comment lines")
     parser.add_argument("--scalar", action="store_true", help="add the scalar between both maps as a comment line")
     return parser
@@ -96,21 +80,26 @@ def _opt(asked: argparse.Namespace) -> int:
     from .commands import optimise
 
     text = cli.read_text(asked.file)
-    flags = {"report": asked.report, "scalar": asked.scalar, "timeout": asked.seconds}
+
+    def made(best: bool) -> str:
+        return optimise(text, best, report=asked.report, scalar=asked.scalar, timeout=asked.seconds)
+
     try:
-        written = optimise(text, asked.best, **flags)
+        written = made(asked.best)
     except TimeoutError as late:
         if not asked.best:
             raise
         print(f"zxopt opt: {late}; without --best:", file=sys.stderr)
-        written = optimise(text, False, **flags)
+        written = made(False)
     cli.write_text(_respelled(written, asked.spelled), asked.to)
     return 0
 
 
 def _teleport_parser(command: str) -> argparse.ArgumentParser:
     about = "Writes the circuit of a text of OpenQASM 2.0 with other phases alone."
-    return _spellings(_takes_seconds(_writes_one(_parser(command, about))), False)
+    parser = _takes_a_text(command, about)
+    arguments.spellings(parser)
+    return parser
 
 
 def _teleport(asked: argparse.Namespace) -> int:
@@ -122,23 +111,28 @@ def _teleport(asked: argparse.Namespace) -> int:
 
 
 def _same_parser(command: str) -> argparse.ArgumentParser:
-    parser = _parser(command, "Says `same` where the program shows that two texts have one map; a yes is always right.")
+    about = (
+        "Says `same` where the program shows that two texts have one map, which is always right; `widths` or "
+        "`measures` where they differ for sure; and else `not shown`."
+    )
+    parser = arguments.parser(command, about)
     parser.add_argument("one", metavar="FILE", help="a file; - for standard input")
     parser.add_argument("other", metavar="FILE", help="another")
-    return _takes_seconds(parser)
+    return arguments.takes_seconds(parser)
 
 
 def _same(asked: argparse.Namespace) -> int:
     from .commands import same
 
-    is_same = same(cli.read_text(asked.one), cli.read_text(asked.other), timeout=asked.seconds)
-    print("same" if is_same else "not shown")
-    return 0 if is_same else cli.NO
+    found = same(cli.read_text(asked.one), cli.read_text(asked.other), timeout=asked.seconds)
+    print(found)
+    return 0 if found else cli.NO
 
 
 def _counts_parser(command: str) -> argparse.ArgumentParser:
-    about = "Tells the counts of gates of a text, and of what `opt` makes of it, as JSON."
-    return _takes_seconds(_takes_best(_reads_one(_parser(command, about))))
+    about = "Tells the counts of gates of a text, and of what is made of it, as JSON."
+    parser = arguments.reads_one(arguments.parser(command, about))
+    return arguments.takes_seconds(arguments.takes_best(parser, True))
 
 
 def _counts(asked: argparse.Namespace) -> int:
@@ -148,19 +142,10 @@ def _counts(asked: argparse.Namespace) -> int:
     return 0
 
 
-def _compile_parser(command: str) -> argparse.ArgumentParser:
-    return _takes_seconds(_writes_one(_parser(command, "Writes a circuit for a diagram file, where it has a flow.")))
-
-
-def _compile(asked: argparse.Namespace) -> int:
-    from .commands import compile_diagram
-
-    cli.write_text(compile_diagram(cli.read_text(asked.file), timeout=asked.seconds), asked.to)
-    return 0
-
-
 def _spell_parser(command: str) -> argparse.ArgumentParser:
-    return _spellings(_writes_one(_parser(command, "Writes by other gates what the program wrote.")), True)
+    parser = arguments.writes_one(arguments.parser(command, "Writes by other gates what the program wrote."))
+    arguments.spellings(parser, True)
+    return parser
 
 
 def _spell(asked: argparse.Namespace) -> int:
@@ -174,6 +159,47 @@ def _respelled(text: str, spelled: Optional[str]) -> str:
     return {"only-t": only_t, "by-cx": by_cx}[spelled](text) if spelled else text
 
 
+def _takes_a_text(command: str, about: str) -> argparse.ArgumentParser:
+    """The parser of a command that reads one text, writes one, and may have a time limit."""
+    return arguments.takes_seconds(arguments.writes_one(arguments.parser(command, about)))
+
+
+def _compile_parser(command: str) -> argparse.ArgumentParser:
+    return _takes_a_text(command, "Writes a circuit for a diagram file, where it has a flow.")
+
+
+def _graph_parser(command: str) -> argparse.ArgumentParser:
+    return _takes_a_text(command, "Writes the graph-like form of a diagram file.")
+
+
+def _reduce_parser(command: str) -> argparse.ArgumentParser:
+    return _takes_a_text(command, "Writes a graph file, simplified along its flow until it is reduced.")
+
+
+def _of_diagram(name: str) -> Callable[[argparse.Namespace], int]:
+    """The work of a command that makes one text of another by the function of this name."""
+
+    def work(asked: argparse.Namespace) -> int:
+        make: Callable[..., str] = getattr(importlib.import_module("zxopt.commands"), name)
+        cli.write_text(make(cli.read_text(asked.file), timeout=asked.seconds), asked.to)
+        return 0
+
+    return work
+
+
+def _flow_parser(command: str) -> argparse.ArgumentParser:
+    about = "Says `flow` where the table of a graph file is a flow, and else the first condition that fails."
+    return arguments.takes_seconds(arguments.reads_one(arguments.parser(command, about)))
+
+
+def _flow(asked: argparse.Namespace) -> int:
+    from .commands import flow
+
+    found = flow(cli.read_text(asked.file), timeout=asked.seconds)
+    print(found)
+    return 0 if found else cli.NO
+
+
 _Command = Tuple[Callable[[str], argparse.ArgumentParser], Callable[[argparse.Namespace], int]]
 
 _COMMANDS: Dict[str, _Command] = {
@@ -181,9 +207,15 @@ _COMMANDS: Dict[str, _Command] = {
     "teleport": (_teleport_parser, _teleport),
     "same": (_same_parser, _same),
     "counts": (_counts_parser, _counts),
-    "compile": (_compile_parser, _compile),
     "spell": (_spell_parser, _spell),
+    "compile": (_compile_parser, _of_diagram("compile")),
+    "graph": (_graph_parser, _of_diagram("graph")),
+    "reduce": (_reduce_parser, _of_diagram("reduce")),
+    "flow": (_flow_parser, _flow),
 }
+
+# Commands with a module of their own, which has `command_parser` and `command`.
+_MODULES = {"measures": "counting", "prepare": "prepare", "parts": "parts", "batch": "batch"}
 
 if __name__ == "__main__":
     sys.exit(main())

@@ -21,6 +21,7 @@ GREATEST_DIGITS = 38
 GREATEST_LENGTH = 4000
 GREATEST_EXPONENT = 400
 STEP = math.pi / 8
+NOTHING = Fraction(0)
 PI = Fraction("3.14159265358979323846264338327950288419716939937510")
 _NATURAL = re.compile(r"0|[1-9]\d*")
 _MORE_FUNCTIONS = ("asin", "acos", "atan")
@@ -126,7 +127,7 @@ def _apply_exactly(name: str, r: Fraction, s: Fraction) -> Optional[Value]:
     if name == "sqrt" and s == 0 and r >= 0:
         top, bottom = math.isqrt(r.numerator), math.isqrt(r.denominator)
         return _exact(Fraction(top, bottom)) if top * top == r.numerator and bottom * bottom == r.denominator else None
-    if (name, r, s) in (("exp", 0, 0), ("ln", 1, 0)):
+    if s == 0 and ((name == "exp" and r == 0) or (name == "ln" and r == 1)):
         return _exact(Fraction(name == "exp"))
     if name in ("sin", "cos", "tan") and r == 0:
         return _circular(name, s)
@@ -339,17 +340,17 @@ def mend(text: str, within: Optional[float] = None) -> Optional[Mended]:
     if node is None:
         return None
     if node.value is not None and not node.value.is_sixteenths() and within is not None:
-        eighths = round(node.value.near / STEP)
-        move = _distance(node.value, eighths)
+        move = distance(node.value)
         if move <= within:
-            return Mended(spelled(Fraction(0), Fraction(eighths, 8)), move)
+            return Mended(spelled(Fraction(0), Fraction(round(node.value.near / STEP), 8)), move)
     if node.is_plain or (node.value is not None and not node.value.is_exact()) or _is_refused(node.text):
         return None
     return Mended(node.text, None)
 
 
-def _distance(value: Value, eighths: int) -> float:
-    """How far a value is from a multiple of pi/8, in radians."""
+def distance(value: Value) -> float:
+    """How far a value is from the closest multiple of pi/8, in radians."""
+    eighths = round(value.near / STEP)
     if value.r is None:
         return abs(value.near - eighths * STEP)
     return abs(float(value.r + (value.s - Fraction(eighths, 8)) * PI))

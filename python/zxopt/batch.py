@@ -2,8 +2,9 @@
 
 A line for each file tells its T gates (odd phases: T, its square roots and their like) and its gates on two qubits,
 before and after, and the seconds that it took; a text that is refused is told with its place on standard error, and
-the others go on. This module stands outside of what is proved of the program, which it runs once for each file, or
-more often where a check is asked for or a time limit was met.
+the others go on. The table of `--csv` also has what `zxopt.measures` counts of both texts. This module stands outside
+of what is proved of the program, which it runs once for each file, or more often where a check is asked for or a time
+limit was met.
 """
 from __future__ import annotations
 
@@ -18,14 +19,18 @@ from dataclasses import dataclass
 from pathlib import Path
 from typing import IO, Any, Iterable, Iterator, List, Optional, Sequence, Tuple
 
-from . import cli, spelling
-from .commands import optimise_counted, same
+from . import arguments, cli, spelling
+from .commands import Comparison, optimise_counted, same
+from .counting import Measures, measures
 from .faults import Refused
+from .prepare import GREATEST_WITHIN, prepare
 from .program import Program, find_program
+from .rounded import told as told_of_rounded
 
 __all__ = ["Job", "Outcome", "Settings", "main", "optimise_file", "optimise_files", "plan"]
 
 _TOO_MANY_GATES = 19
+_NO_SIXTEENTHS = 17
 _SPELLERS = {"only-t": spelling.only_t, "by-cx": spelling.by_cx}
 
 
@@ -46,7 +51,8 @@ class Settings:
     prepare: each text goes through `zxopt.prepare` first, and what is checked is the text that this writes. parts: it
     is optimised by `zxopt.parts`, where a part that takes longer than `seconds` is left as it was read; `same` can't be
     asked of a text that the program refuses as a whole. spelled: `only-t` or `by-cx`, a spelling of what is written.
-    program: the program.
+    program: the program. within: a distance in radians; angles that lie so close to a multiple of pi/8 are taken for it
+    by `zxopt.prepare`, through which each text goes then. measured: counts both texts by `zxopt.measures`.
     """
 
     best: bool = True
@@ -56,6 +62,15 @@ class Settings:
     parts: bool = False
     spelled: Optional[str] = None
     program: Optional[Program] = None
+    within: Optional[float] = None
+    measured: bool = False
+
+    def __post_init__(self) -> None:
+        """Raises ValueError where a number is out of its range, since no text is to blame for that."""
+        if self.seconds is not None and not self.seconds > 0:
+            raise ValueError(f"a time limit of {self.seconds} seconds isn't above 0")
+        if self.within is not None and not 0 <= self.within <= GREATEST_WITHIN:
+            raise ValueError(f"a distance of angles is from 0 to {GREATEST_WITHIN} radians")
 
 
 @dataclass(frozen=True)
@@ -67,7 +82,8 @@ class Outcome:
     t, two_qubit, gates: counts before and after, or None where nothing is written.
     seconds: how long it took, with the check.
     best: whether the best of several circuits was taken, and not given up for its time.
-    check: `same`, `not shown`, `not checked`, or nothing where it wasn't asked for.
+    check: `same`, `not shown`, `differs`, `not checked`, or nothing where it wasn't asked for.
+    measured: the counts of both texts, or None where they weren't asked for, or can't be counted.
     told: why nothing is written or a result wasn't checked, and how many changes and parts were made.
     """
 
@@ -80,6 +96,7 @@ class Outcome:
     best: bool = True
     check: str = ""
     told: str = ""
+    measured: Optional[Tuple[Measures, Measures]] = None
 
     @property
     def is_good(self) -> bool:
@@ -133,63 +150,58 @@ def optimise_file(job: Job, settings: Settings = Settings()) -> Outcome:
     """Optimises a file, and answers what became of it, also where that is nothing."""
     began = time.monotonic()
     try:
-        text, changed = _prepared(job.source.read_bytes(), settings)
+        text, changed, rounded = _prepared(job.source.read_bytes(), settings)
         written, best = _optimised(text, settings)
         job.target.parent.mkdir(parents=True, exist_ok=True)
         cli.write_file(job.target, written.text)
         check, unchecked = _checked(text, written.text, settings) if settings.check else ("", "")
+        seconds = time.monotonic() - began
+        measured = _measured(text, written.text) if settings.measured else None
     except ValueError as refused:
-        return Outcome(job, "refused", time.monotonic() - began, told=cli.placed(job.source, refused))
+        return Outcome(job, "refused", time.monotonic() - began, told=_refusal(job, refused))
     except (MemoryError, OSError) as failed:
         return Outcome(job, "failed", time.monotonic() - began, told=f"{job.source}: {failed}")
-    seconds = time.monotonic() - began
-    told = "; ".join(filter(None, (changed, written.told, unchecked)))
-    return Outcome(job, "written", seconds, written.t, written.two_qubit, written.gates, best, check, told)
+    told = "; ".join(filter(None, (changed, written.told, rounded, unchecked)))
+    return Outcome(job, "written", seconds, written.t, written.two_qubit, written.gates, best, check, told, measured)
 
 
-def main(argv: Optional[Sequence[str]] = None) -> int:
-    """The command `python3 -m zxopt batch` with these words, and its exit status."""
-    parser = _parser()
-    asked = parser.parse_args(argv)
-    if asked.parts and asked.spelled:
-        parser.error("other spellings are of circuits alone, and not of --parts")
-    return cli.guarded(lambda: _run(asked), "zxopt batch")
+def main(argv: Sequence[str]) -> int:
+    """The command `batch` with these words, and its exit status: 1 where a file was refused or failed, or a check
+    didn't say `same`."""
+    from .__main__ import main as run_command
+
+    return run_command(["batch", *argv])
 
 
-def _parser() -> argparse.ArgumentParser:
-    parser = argparse.ArgumentParser(
-        prog="python3 -m zxopt batch",
-        description="Optimises many files of OpenQASM 2.0 on all processors, with a line for each: T gates (odd "
-        "phases) and gates on two qubits before and after, and seconds.",
-        epilog="Each file is written below FOLDER as it stands below the deepest folder that all files share. The exit "
-        "status is 1 where a file was refused or failed, or a check didn't say that it is the same.",
+def command_parser(command: str) -> argparse.ArgumentParser:
+    """The words of the command `batch`."""
+    parser = arguments.parser(
+        command,
+        "Optimises many files of OpenQASM 2.0 on all processors, with a line for each: T gates (odd phases) and gates "
+        "on two qubits before and after, and seconds.",
+        "Each file is written below FOLDER as it stands below the deepest folder that all files share. The exit status "
+        "is 1 where a file was refused or failed, or a check didn't say that it is the same.",
     )
     add = parser.add_argument
     add("files", nargs="+", metavar="FILE", help="a file, or a folder of files *.qasm, also in folders below it")
     add("--to", required=True, metavar="FOLDER", help="where the files are written")
-    add("--jobs", type=cli.positive_int, metavar="N", help="how many files at a time; else one for each processor")
-    add(
-        "--seconds",
-        type=cli.positive_seconds,
-        metavar="N",
-        help="a time limit for each: where the best circuit takes longer, one alone is made, in as many seconds again",
+    arguments.takes_jobs(arguments.takes_best(parser, True), "files")
+    arguments.takes_seconds(
+        parser,
+        "a time limit for each: where the best circuit takes longer, one alone is made, in as many seconds again",
     )
-    add("--best", action=argparse.BooleanOptionalAction, default=True, help="take the best of several circuits")
+    arguments.takes_within(parser)
     add("--check", action="store_true", help="ask of each file whether it is the same; a yes is always right")
     add("--csv", metavar="FILE", help="write a table of all files, too")
     add("--prepare", action="store_true", help="put each text into the program's form first, exactly")
-    add("--parts", action="store_true", help="optimise in parts what the program refuses as a whole; names are kept")
-    spelled = parser.add_mutually_exclusive_group()
-    for name, told in (("only-t", "write u1(3*pi/4) as s and t, and the like"), ("by-cx", "write by U and CX alone")):
-        spelled.add_argument(f"--{name}", dest="spelled", action="store_const", const=name, help=told)
+    told = "optimise in parts what the program refuses as a whole; names are kept"
+    arguments.spellings(parser).add_argument("--parts", action="store_true", help=told)
     return parser
 
 
-def _run(asked: argparse.Namespace) -> int:
-    program = find_program()
-    if shutil.which(program) is None:
-        raise FileNotFoundError(f"{program} is no program")
-    settings = Settings(asked.best, asked.seconds, asked.check, asked.prepare, asked.parts, asked.spelled, program)
+def command(asked: argparse.Namespace) -> int:
+    """The command `batch`; answers 0, or 1 where a file isn't good."""
+    settings = _settings(asked)
     jobs = plan(asked.files, asked.to)
     began = time.monotonic()
     outcomes = []
@@ -202,6 +214,23 @@ def _run(asked: argparse.Namespace) -> int:
             table.flush()
     print(_summary(outcomes, time.monotonic() - began, settings.check))
     return 0 if all(outcome.is_good for outcome in outcomes) else 1
+
+
+def _settings(asked: argparse.Namespace) -> Settings:
+    program = find_program()
+    if shutil.which(program) is None:
+        raise FileNotFoundError(f"{program} is no program")
+    return Settings(
+        best=asked.best,
+        seconds=asked.seconds,
+        check=asked.check,
+        prepare=asked.prepare,
+        parts=asked.parts,
+        spelled=asked.spelled,
+        program=program,
+        within=asked.within,
+        measured=asked.csv is not None,
+    )
 
 
 def _all_files(files: Iterable[str], to: str) -> Iterator[str]:
@@ -217,14 +246,37 @@ def _all_files(files: Iterable[str], to: str) -> Iterator[str]:
             raise FileNotFoundError(f"there is no file {file}")
 
 
-def _prepared(data: bytes, settings: Settings) -> Tuple[bytes, str]:
-    """A text as the program is to read it, and what is told of that."""
-    if not settings.prepare:
-        return data, ""
-    from .prepare import prepare
+def _prepared(data: bytes, settings: Settings) -> Tuple[bytes, str, str]:
+    """A text as the program is to read it, and what is told of its changes, and of rounded angles that stay."""
+    if not settings.prepare and settings.within is None:
+        return data, "", ""
+    done = prepare(data, within=settings.within)
+    changed = _many(len(done.changes), "change", "changes") + " by prepare"
+    if done.greatest_move:
+        changed += f", angles moved by at most {done.greatest_move:.3g} radians"
+    # what is optimised in parts tells of its angles itself
+    rounded = told_of_rounded(done.rounded) if done.rounded and not settings.parts else ""
+    return done.text.encode("utf-8", "replace"), changed, rounded
 
-    done = prepare(data)
-    return done.text.encode("utf-8", "replace"), _many(len(done.changes), "change", "changes") + " by prepare"
+
+def _refusal(job: Job, refused: ValueError) -> str:
+    """What is told of a text that is refused: its place, and of rounded angles, for which it may be."""
+    told = cli.placed(job.source, refused)
+    if not isinstance(refused, Refused) or refused.number != _NO_SIXTEENTHS:
+        return told
+    try:
+        rounded = prepare(job.source).rounded
+    except (ValueError, OSError):
+        return told
+    return f"{told}; {told_of_rounded(rounded)}" if rounded else told
+
+
+def _measured(read: bytes, written: str) -> Optional[Tuple[Measures, Measures]]:
+    """What is counted of both texts, where that can be done."""
+    try:
+        return measures(read), measures(written)
+    except ValueError:
+        return None
 
 
 def _optimised(text: bytes, settings: Settings) -> Tuple[_Written, bool]:
@@ -250,26 +302,33 @@ def _as_a_whole(text: bytes, best: bool, settings: Settings) -> _Written:
 def _in_parts(text: bytes, best: bool, settings: Settings) -> _Written:
     from .parts import optimise_parts
 
-    program = None if settings.program is None else os.fspath(settings.program)
-    made = optimise_parts(text, best=best, timeout=settings.seconds, program=program)
+    made = optimise_parts(text, best=best, timeout=settings.seconds, program=settings.program)
     told = f"{_many(made.parts, 'part', 'parts')}, {_many(made.kept, 'statement stays', 'statements stay')}"
+    if made.rounded:
+        told += f"; {told_of_rounded(made.rounded)}"
     t, two_qubit = (made.before.t, made.after.t), (made.before.two_qubit, made.after.two_qubit)
     return _Written(made.text, t, two_qubit, told=told)
 
 
 def _checked(read: bytes, written: str, settings: Settings) -> Tuple[str, str]:
-    """What `same` says of both texts, and why it wasn't asked where that couldn't be done."""
+    """What `same` says of both texts, and in which way they differ, or why it couldn't be asked."""
     try:
-        try:
-            is_same = same(read, written, timeout=settings.seconds, program=settings.program)
-        except Refused as refused:
-            # what is written isn't bound to the limit of calls, but is within it by other names
-            if refused.number != _TOO_MANY_GATES or refused.which != 2:
-                raise
-            is_same = same(read, spelling.by_cx(written), timeout=settings.seconds, program=settings.program)
+        found = _compared(read, written, settings)
     except (ValueError, MemoryError, OSError) as why:
         return "not checked", str(why)
-    return ("same" if is_same else "not shown"), ""
+    if found.kind in ("widths", "measures"):
+        return "differs", str(found)
+    return found.kind, ""
+
+
+def _compared(read: bytes, written: str, settings: Settings) -> Comparison:
+    try:
+        return same(read, written, timeout=settings.seconds, program=settings.program)
+    except Refused as refused:
+        # what is written isn't bound to the limit of calls, but is within it by other names
+        if refused.number != _TOO_MANY_GATES or refused.which != 2:
+            raise
+        return same(read, spelling.by_cx(written), timeout=settings.seconds, program=settings.program)
 
 
 def _tell(outcome: Outcome) -> None:
@@ -293,7 +352,8 @@ def _summary(outcomes: Sequence[Outcome], seconds: float, is_checked: bool) -> s
     said += f"; T {_change(_sums(t))}, two-qubit {_change(_sums(two_qubit))}"
     if is_checked:
         checks = [outcome.check for outcome in outcomes]
-        said += "; " + ", ".join(f"{checks.count(check)} {check}" for check in ("same", "not shown", "not checked"))
+        kinds = ["same", "not shown", *(["differs"] if "differs" in checks else []), "not checked"]
+        said += "; " + ", ".join(f"{checks.count(kind)} {kind}" for kind in kinds)
     return f"{said}; {seconds:.2f} s"
 
 
@@ -312,7 +372,9 @@ def _sums(pairs: Iterable[Tuple[int, int]]) -> Tuple[int, int]:
 
 _COLUMNS = ["file", "written", "state"]
 _COLUMNS += [f"{what}_{when}" for what in ("t", "two_qubit", "gates") for when in ("before", "after")]
-_COLUMNS += ["seconds", "best", "check", "told"]
+_COLUMNS += ["seconds", "best", "check", "told", "qubits"]
+_MEASURED = ("t_depth", "depth", "other_angles")
+_COLUMNS += [f"{what}_{when}" for what in _MEASURED for when in ("before", "after")]
 
 
 def _begin_table(table: IO[str]) -> Any:
@@ -326,10 +388,16 @@ def _row(outcome: Outcome) -> List[str]:
     nothing = ("", "")
     target = str(outcome.job.target) if outcome.state == "written" else ""
     row = [str(outcome.job.source), target, outcome.state]
-    for both in (outcome.t, outcome.two_qubit, outcome.gates):
+    measured = outcome.measured
+    gates = outcome.gates or (measured and (measured[0].gates, measured[1].gates))
+    for both in (outcome.t, outcome.two_qubit, gates):
         row += map(str, both or nothing)
     best = ("yes" if outcome.best else "no") if outcome.state == "written" else ""
-    return row + [f"{outcome.seconds:.3f}", best, outcome.check, outcome.told]
+    row += [f"{outcome.seconds:.3f}", best, outcome.check, outcome.told]
+    row.append(str(measured[0].qubits) if measured else "")
+    for what in _MEASURED:
+        row += [str(getattr(one, what)) for one in measured] if measured else nothing
+    return row
 
 
 def _processors() -> int:

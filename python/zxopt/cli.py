@@ -2,22 +2,25 @@
 
 The statuses are those of the program: 1 where a text is refused, 2 where the words are no command, 4 where standard
 output is closed, 5 where memory ran out, 6 where the answer is no, and 70 where the program couldn't be run, took
-too long, or a file couldn't be read or written.
+too long, or a file couldn't be read or written. Where a signal ends a command, no program runs on and no file is left
+that has a part of its text; the status is 128 and the signal's number.
 """
 from __future__ import annotations
 
-import argparse
 import os
+import signal
 import sys
 from pathlib import Path
 from typing import Callable, Optional, Union
 
+from .commands import FlowFails
 from .faults import NoFlow, Refused
+from .processes import Stopped, ending_children
 from .qasm import QasmError
 
-__all__ = ["guarded", "placed", "positive_int", "positive_seconds", "read_text", "write_file", "write_text"]
+__all__ = ["guarded", "placed", "read_text", "write_file", "write_text"]
 
-REFUSED, NO_OUTPUT, NO_MEMORY, NO, UNABLE, INTERRUPTED = 1, 4, 5, 6, 70, 130
+REFUSED, NO_OUTPUT, NO_MEMORY, NO, UNABLE, BY_SIGNAL = 1, 4, 5, 6, 70, 128
 
 
 def guarded(work: Callable[[], int], name: str = "zxopt", file: Optional[str] = None) -> int:
@@ -28,14 +31,15 @@ def guarded(work: Callable[[], int], name: str = "zxopt", file: Optional[str] = 
     if sys.stdout is None:
         return _told(f"{name}: standard output is closed", NO_OUTPUT)
     try:
-        status = work()
-        sys.stdout.flush()
+        with ending_children():
+            status = work()
+            sys.stdout.flush()
         return status
     except BrokenPipeError:
         # nothing more can be written, not even at the interpreter's end
         os.dup2(os.open(os.devnull, os.O_WRONLY), sys.stdout.fileno())
         return NO_OUTPUT
-    except NoFlow as no:
+    except (NoFlow, FlowFails) as no:
         return _told(f"{name}: {no}", NO)
     except ValueError as refused:
         return _told(placed(file, refused) if file else f"{name}: {refused}", REFUSED)
@@ -43,8 +47,9 @@ def guarded(work: Callable[[], int], name: str = "zxopt", file: Optional[str] = 
         return _told(str(none) or f"{name}: no memory", NO_MEMORY)
     except OSError as failed:
         return _told(f"{name}: {failed}", UNABLE)
-    except KeyboardInterrupt:
-        return _told(f"{name}: interrupted", INTERRUPTED)
+    except KeyboardInterrupt as stopped:
+        number = stopped.number if isinstance(stopped, Stopped) else signal.SIGINT
+        return _told(f"{name}: ended by {signal.Signals(number).name}", BY_SIGNAL + number)
 
 
 def read_text(file: Optional[str]) -> bytes:
@@ -52,43 +57,31 @@ def read_text(file: Optional[str]) -> bytes:
     if file is None or file == "-":
         if sys.stdin is None:
             raise OSError("standard input is closed")
+        if sys.stdin.isatty():
+            print("zxopt: reading from the terminal, until Ctrl-D", file=sys.stderr)
         return sys.stdin.buffer.read()
     return Path(file).read_bytes()
 
 
 def write_text(text: str, file: Optional[str]) -> None:
-    """Writes a text to a file, or to standard output for None and `-`."""
-    if file is None or file == "-":
-        sys.stdout.write(text)
-    else:
+    """Writes a text as UTF-8 to a file, or to standard output for None and `-`."""
+    if file is not None and file != "-":
         write_file(Path(file), text)
+    elif hasattr(sys.stdout, "buffer"):
+        sys.stdout.buffer.write(text.encode("utf-8", "replace"))
+    else:
+        sys.stdout.write(text)
 
 
 def write_file(file: Path, text: str) -> None:
     """Writes a file such that it has all of the text, or stays as it was."""
     beside = file.with_name(f".{file.name}.{os.getpid()}.new")
     try:
-        beside.write_bytes(text.encode("utf-8"))
+        beside.write_bytes(text.encode("utf-8", "replace"))
         os.replace(beside, file)
     except BaseException:
         beside.unlink(missing_ok=True)
         raise
-
-
-def positive_int(word: str) -> int:
-    """A whole number above 0, for argparse."""
-    number = int(word)
-    if number < 1:
-        raise argparse.ArgumentTypeError(f"{word} isn't above 0")
-    return number
-
-
-def positive_seconds(word: str) -> float:
-    """A number of seconds above 0, for argparse."""
-    number = float(word)
-    if not 0 < number < float("inf"):
-        raise argparse.ArgumentTypeError(f"{word} isn't above 0")
-    return number
 
 
 def placed(file: Union[str, Path], refused: ValueError) -> str:

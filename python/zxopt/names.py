@@ -43,7 +43,7 @@ def mend_keywords(statements: list[Statement], tell: Tell) -> None:
     for name in odd:
         renamed[name] = unused(_spelled(re.sub(r"\W", "_", name, flags=re.A)), taken)
         taken.add(renamed[name])
-    names = sorted(map(re.escape, renamed), key=len, reverse=True)
+    names = sorted([re.escape(name) for name in renamed], key=len, reverse=True)
     one = re.compile(rf"//[^\n]*|(?<![\w.\-])({'|'.join(names)})(?=[\s(])")
     told: set[str] = set()
     for it in statements:

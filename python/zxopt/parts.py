@@ -26,14 +26,17 @@ from concurrent.futures import ThreadPoolExecutor
 from dataclasses import dataclass
 from typing import Callable, NamedTuple, Optional, Sequence, Union
 
-from zxopt import cli
+from zxopt import arguments, cli
 from zxopt.circuit import CannotCut, Circuit
 from zxopt.faults import Refused
 from zxopt.names import declared
-from zxopt.program import run
+from zxopt.program import Program, run
+from zxopt.prepare import prepare
 from zxopt.qasm import Statement, squeezed
+from zxopt.rounded import rounded_angles, told
 from zxopt.schedule import Operation, layers
 from zxopt.sources import decoded
+from zxopt.texts import Text
 
 __all__ = ["CannotCut", "Counts", "Parts", "main", "optimise_parts"]
 
@@ -64,7 +67,8 @@ class Counts(NamedTuple):
 @dataclass(frozen=True)
 class Parts:
     """The text that is written, the number of its parts, of statements that stay, and of parts that were left as they
-    were read since the program's circuit wasn't better or took too long; and what the parts count before and after."""
+    were read since the program's circuit wasn't better or took too long; what the parts count before and after; and how
+    many angles lie within 1e-9 of a multiple of pi/8 and stay, since they aren't one."""
 
     text: str
     parts: int
@@ -72,6 +76,7 @@ class Parts:
     left: int
     before: Counts
     after: Counts
+    rounded: int = 0
 
 
 class _Piece(NamedTuple):
@@ -92,13 +97,13 @@ class _Done(NamedTuple):
 
 
 def optimise_parts(
-    text: Union[str, bytes],
+    text: Text,
     *,
     best: bool = True,
     jobs: int = 1,
     keep_barriers: bool = False,
     timeout: Optional[float] = None,
-    program: Optional[str] = None,
+    program: Optional[Program] = None,
     progress: Optional[Callable[[int, int], None]] = None,
 ) -> Parts:
     """Optimises a text part by part.
@@ -108,8 +113,11 @@ def optimise_parts(
     read. `progress` is called with the number of parts that are done, and that of all, by one thread at a time.
 
     Raises CannotCut where the text isn't one that the program would take but for single statements: `zxopt.prepare`
-    helps with many of these. MemoryError and OSError are those of `zxopt.program.run`.
+    helps with many of these. MemoryError and OSError are those of `zxopt.program.run`; ValueError where `jobs` or
+    `timeout` isn't above 0.
     """
+    if jobs < 1:
+        raise ValueError(f"{jobs} parts at a time: the number isn't above 0")
     cutting = _Cutting(decoded(text, []), best, jobs, keep_barriers)
     cutting.timeout, cutting.program, cutting.progress = timeout, program, progress
     return cutting.done()
@@ -121,7 +129,7 @@ class _Cutting:
         self.words = ["opt", "--report", *(["--best"] if best else [])]
         self.jobs = jobs
         self.timeout: Optional[float] = None
-        self.program: Optional[str] = None
+        self.program: Optional[Program] = None
         self.progress: Optional[Callable[[int, int], None]] = None
         self.results: dict[str, _Done] = {}
 
@@ -275,7 +283,8 @@ class _Cutting:
         head = [*self.needed(used), *(squeezed(it.text) for it in self.circuit.registers)]
         kept = sum(len(layer) for layer in found[1::2])
         text = _HEAD + "".join(f"{it}\n" for it in [*head, *lines])
-        return Parts(text, sum(map(len, pieces)), kept, left, before, after)
+        rounded = rounded_angles([*self.circuit.declared, *self.circuit.statements])
+        return Parts(text, sum(map(len, pieces)), kept, left, before, after, rounded)
 
     def lines_of(self, piece: _Piece, done: _Done) -> list[str]:
         qubits = self.circuit.qubits
@@ -285,43 +294,51 @@ class _Cutting:
         return [_PLACE.sub(lambda it: named[int(it[1])], line) for line in done.lines]
 
 
-def main(argv: Sequence[str]) -> int:
-    """The command `parts`: reads a file or standard input, writes standard output, tells counts on standard error.
-
-    Answers the exit status: 0, 1 where the text can't be cut, 5 where memory ran out, 70 where a file or the program
-    can't be read or run. Wrong words end the interpreter with status 2.
-    """
-    parser = argparse.ArgumentParser(prog="zxopt parts", description=(__doc__ or "").split("\n\n")[0])
-    add = parser.add_argument
-    add("--best", action=argparse.BooleanOptionalAction, default=True, help="take opt --best for each part")
-    add("--jobs", type=int, default=1, metavar="N", help="optimise N parts at a time; 0: one for each processor")
-    add("--barriers", action="store_true", help="keep barriers, and let no gate cross one")
-    add("--seconds", type=float, metavar="N", help="leave a part as it was read if it takes longer")
-    add("file", nargs="?", metavar="FILE", help="the text; standard input if none is given")
-    words = parser.parse_args(list(argv))
-    return cli.guarded(lambda: _cut_file(words), "zxopt parts")
+def command_parser(command: str) -> argparse.ArgumentParser:
+    """The words of the command `parts`."""
+    about = (__doc__ or "").split("\n\n")[0].partition(": `")[0] + "."
+    parser = arguments.writes_one(arguments.parser(command, about))
+    arguments.takes_jobs(arguments.takes_best(parser, True), "parts")
+    arguments.takes_seconds(parser, "leave a part as it was read if it takes longer")
+    arguments.takes_within(parser)
+    parser.add_argument("--barriers", action="store_true", help="keep barriers, and let no gate cross one")
+    return parser
 
 
-def _cut_file(words: argparse.Namespace) -> int:
+def command(asked: argparse.Namespace) -> int:
+    """The command `parts`: reads a file or standard input, writes standard output or a file, tells counts on standard
+    error. Answers the exit status 0."""
     is_terminal = sys.stderr.isatty()
 
     def progress(done: int, count: int) -> None:
         print(f"\rparts: {done} of {count}", end="", file=sys.stderr, flush=True)
 
+    text: Text = cli.read_text(asked.file)
+    if asked.within is not None:
+        text = prepare(text, within=asked.within).text
     found = optimise_parts(
-        cli.read_text(words.file),
-        best=words.best,
-        jobs=words.jobs or os.cpu_count() or 1,
-        keep_barriers=words.barriers,
-        timeout=words.seconds,
+        text,
+        best=asked.best,
+        jobs=asked.jobs or os.cpu_count() or 1,
+        keep_barriers=asked.barriers,
+        timeout=asked.seconds,
         progress=progress if is_terminal else None,
     )
-    sys.stdout.buffer.write(found.text.encode("utf-8", errors="replace"))
-    sys.stdout.buffer.flush()
+    cli.write_text(found.text, asked.to)
     print(
         f"{chr(13) if is_terminal else ''}parts: {found.parts} parts, {found.kept} statements stay; "
         f"T {found.before.t} before, {found.after.t} after; "
         f"gates on two qubits {found.before.two_qubit} before, {found.after.two_qubit} after",
         file=sys.stderr,
     )
+    if found.rounded:
+        print(f"parts: {told(found.rounded)}", file=sys.stderr)
     return 0
+
+
+def main(argv: Sequence[str]) -> int:
+    """The command `parts` with these words, and its exit status: 1 where the text can't be cut, 5 where memory ran out,
+    70 where a file or the program can't be read or run."""
+    from zxopt.__main__ import main as run_command
+
+    return run_command(["parts", *argv])

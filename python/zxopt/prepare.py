@@ -14,22 +14,21 @@ import argparse
 import re
 import sys
 from dataclasses import dataclass
-from typing import Optional, Sequence, Union
+from typing import Optional, Sequence
 
-from zxopt import angles, cli, names
+from zxopt import angles, arguments, cli, names
 from zxopt.library import library, with_needs
 from zxopt.qasm import HEADER, Declaration, QasmError, Statement, call, code, declaration, register, split, squeezed
+from zxopt.rounded import NOT_ANGLES, angle_lists, angles_begin, rounded_angles, told
 from zxopt.sources import Change, decoded, plain
+from zxopt.texts import Text
 
 GREATEST_WITHIN = 0.1
-# Numbers that stand as angles of these gates aren't angles: rounding leaves them alone.
-_NOT_ANGLES = frozenset(("u0", "rzq", "delay"))
 _INCLUDE = re.compile(r"include\s*([\"'<])\s*([^\"'<>\n]*?)\s*[\"'>]\s*;")
 # Files whose gates the header and the library have.
 _HEADERS = re.compile(r"(?:.*[/\\])?(qelib1|hqslib1|hqslib1_dev|stdgates)\.inc", re.I)
 _VERSION = re.compile(r"(?:OPEN|IBM)QASM\s+(\d+)(?:\.(\d+))?\s*;", re.I)
 _FOREIGN = re.compile(r"(?:qubit|bit|const|input|output|def|defcal|cal|let|extern|pragma|box)\b\s*[\[\w(]")
-_ANGLED = re.compile(r"\(([^;{}]*)\)")
 
 
 class CannotPrepare(QasmError):
@@ -38,15 +37,19 @@ class CannotPrepare(QasmError):
 
 @dataclass(frozen=True)
 class Prepared:
-    """A text for the program, what was changed in which line, and by how many radians an angle was moved at most."""
+    """A text for the program, what was changed in which line, and by how many radians an angle was moved at most.
+
+    rounded: how many angles of the text lie within 1e-9 of a multiple of pi/8 and aren't one; a distance takes them.
+    """
 
     text: str
     changes: tuple[Change, ...]
     greatest_move: float
+    rounded: int = 0
 
 
-def prepare(text: Union[str, bytes], *, within: Optional[float] = None) -> Prepared:
-    """The text as the program reads it, with exactly the same map.
+def prepare(text: Text, *, within: Optional[float] = None) -> Prepared:
+    """The text, or that of a file, as the program reads it, with exactly the same map.
 
     `within`, in radians, at most 0.1: angles that are no multiple of pi/8 and lie so close to one become it. Raises
     CannotPrepare where the text isn't OpenQASM 2 at all, and ValueError where `within` is out of its range.
@@ -64,7 +67,7 @@ def prepare(text: Union[str, bytes], *, within: Optional[float] = None) -> Prepa
 class _Work:
     """A text in the making: its statements, and what was changed."""
 
-    def __init__(self, text: Union[str, bytes], within: Optional[float]) -> None:
+    def __init__(self, text: Text, within: Optional[float]) -> None:
         self.changes: list[Change] = []
         self.statements, self.rest = split(plain(decoded(text, self.changes), self.changes))
         self.within = within
@@ -92,7 +95,8 @@ class _Work:
         self.bring_forward()
         self.put_head(*head)
         out = "".join(f"{it.space}{it.lead}{it.text}" for it in [*self.statements, self.rest])
-        return Prepared(out, tuple(sorted(self.changes, key=lambda it: it.line)), self.greatest_move)
+        changes = tuple(sorted(self.changes, key=lambda it: it.line))
+        return Prepared(out, changes, self.greatest_move, rounded_angles(self.statements))
 
     # -- the head of the text -----------------------------------------------------------------------------------------
 
@@ -294,11 +298,8 @@ class _Work:
         for it in self.statements:
             if "(" not in it.text or it.text[: it.text.rfind(")")] in unchanged:
                 continue
-            head = it.head()
-            if head in names.STATEMENTS and head not in ("gate", "if"):
-                continue
-            begin = it.text.find("{") if head == "gate" else it.text.find(")") if head == "if" else 0
-            if begin < 0 or it.text.find("(", begin) < 0:
+            begin = angles_begin(it)
+            if begin is None:
                 continue
             text = it.text[:begin] + self.with_angles(it.text[begin:], it.line)
             if text == it.text and begin == 0:
@@ -308,15 +309,10 @@ class _Work:
     def with_angles(self, text: str, line: int) -> str:
         """A piece of applications with its angles mended: each outer pair of parentheses behind a name holds a list."""
         out, at = [], 0
-        for found in re.finditer(r"//[^\n]*|([^\W\d]\w*)\s*\(", text):
-            if found.start() < at or found[1] is None:
-                continue
-            end = _closing(text, found.end())
-            if end is None:
-                break
-            out.append(text[at : found.end()])
-            its_line = line + text.count("\n", 0, found.end())
-            out.append(self.with_list(text[found.end() : end], found[1] not in _NOT_ANGLES, its_line))
+        for name, begin, end in angle_lists(text):
+            out.append(text[at:begin])
+            its_line = line + text.count("\n", 0, begin)
+            out.append(self.with_list(text[begin:end], name not in NOT_ANGLES, its_line))
             at = end
         return "".join([*out, text[at:]])
 
@@ -380,18 +376,6 @@ def _mend(text: str, within: Optional[float]) -> Optional[angles.Mended]:
     return None if text.isdigit() and text[0] != "0" else angles.mend(text, within)
 
 
-def _closing(text: str, at: int) -> Optional[int]:
-    """The place of the parenthesis that closes one that is open at a place, within the statement."""
-    depth = 1
-    for found in re.compile(r"[();{}]").finditer(text, at):
-        depth += {"(": 1, ")": -1}.get(found[0], 0)
-        if found[0] in ";{}":
-            return None
-        if depth == 0:
-            return found.start()
-    return None
-
-
 def _cut(text: str) -> list[str]:
     """The pieces of a list at its commas outside of parentheses, with their white space."""
     out, start, depth = [], 0, 0
@@ -421,30 +405,33 @@ def _is_touched(touched: dict[str, Optional[set[int]]], name: str, index: Option
     return those is None or index is None or index in those
 
 
-def main(argv: Sequence[str]) -> int:
-    """The command `prepare`: reads a file or standard input, writes standard output, tells changes on standard error.
-
-    Answers the exit status: 0, 1 where the text isn't OpenQASM 2, 70 where a file can't be read or written. Wrong
-    words end the interpreter with status 2.
-    """
-    parser = argparse.ArgumentParser(prog="zxopt prepare", description=(__doc__ or "").split("\n\n")[0])
-    parser.add_argument("--within", type=float, metavar="RADIANS",
-                        help="take angles that lie so close to a multiple of pi/8 for it (1e-9, say); the program's "
-                        "promise is about the text that is written, and the greatest move is told")
+def command_parser(command: str) -> argparse.ArgumentParser:
+    """The words of the command `prepare`."""
+    about = (__doc__ or "").split("\n\n")[0].partition(": `")[0] + "."
+    parser = arguments.takes_within(arguments.writes_one(arguments.parser(command, about)))
     parser.add_argument("--quiet", action="store_true", help="don't tell the changes")
-    parser.add_argument("file", nargs="?", metavar="FILE", help="the text; standard input if none is given")
-    words = parser.parse_args(list(argv))
-    return cli.guarded(lambda: _prepare_file(words.file, words.within, words.quiet), "zxopt prepare")
+    return parser
 
 
-def _prepare_file(file: Optional[str], within: Optional[float], is_quiet: bool) -> int:
-    done = prepare(cli.read_text(file), within=within)
-    sys.stdout.buffer.write(done.text.encode("utf-8", errors="replace"))
-    sys.stdout.buffer.flush()
-    if is_quiet:
+def command(asked: argparse.Namespace) -> int:
+    """The command `prepare`: reads a file or standard input, writes standard output or a file, tells changes on
+    standard error. Answers the exit status 0."""
+    done = prepare(cli.read_text(asked.file), within=asked.within)
+    cli.write_text(done.text, asked.to)
+    if asked.quiet:
         return 0
     for change in done.changes:
         print(f"prepare: {change.line}: {change.what}", file=sys.stderr)
     if done.greatest_move:
         print(f"prepare: angles were moved by at most {done.greatest_move:.3g} radians", file=sys.stderr)
+    if done.rounded:
+        print(f"prepare: {told(done.rounded)}", file=sys.stderr)
     return 0
+
+
+def main(argv: Sequence[str]) -> int:
+    """The command `prepare` with these words, and its exit status: 1 where the text isn't OpenQASM 2, 70 where a file
+    can't be read or written."""
+    from zxopt.__main__ import main as run_command
+
+    return run_command(["prepare", *argv])

@@ -13,11 +13,11 @@ from pathlib import Path
 from typing import Optional, Sequence, Union
 
 from .faults import Refused
+from .processes import communicate
+from .texts import Circuit, Text, as_bytes
 
 __all__ = ["Program", "Text", "as_bytes", "find_program", "run"]
 
-# A text: characters, which are handed on as UTF-8, or bytes, which are handed on as they are.
-Text = Union[str, bytes]
 # A file that can be run, or a name to be looked for on the path.
 Program = Union[str, "os.PathLike[str]"]
 
@@ -29,7 +29,7 @@ _NO_MEMORY = 5
 
 def run(
     words: Sequence[str],
-    text: Text,
+    text: Circuit,
     *,
     timeout: Optional[float] = None,
     program: Optional[Program] = None,
@@ -37,8 +37,8 @@ def run(
     """Runs the program with these words on a text.
 
     words: a command and its flags, such as ["opt", "--best"].
-    text: what the program reads; characters are handed on as UTF-8.
-    timeout: how many seconds the program may take; None for any number.
+    text: what the program reads, in a form that `zxopt.texts.as_bytes` takes.
+    timeout: how many seconds the program may take, above 0; None for any number.
     program: the program; None for that of `find_program`.
 
     Answers what the program wrote, and its exit status: 0, or 6 where its answer is no (of `same`, `flow`, `reduce`
@@ -46,17 +46,18 @@ def run(
 
     Raises Refused where the text is refused, MemoryError where the program's memory ran out, TimeoutError where it
     took too long (it is ended then), and OSError for all else: there is no program, or it can't be run, it was ended by
-    a signal, or has another exit status. UnicodeEncodeError, a ValueError, where characters have no UTF-8.
+    a signal, or has another exit status. UnicodeEncodeError, a ValueError, where characters have no UTF-8, TypeError
+    where the text is of no such form, and ValueError where the timeout isn't above 0.
     """
     data = as_bytes(text)
     command = [os.fspath(program) if program is not None else find_program(), *words]
     try:
-        ran = subprocess.run(command, input=data, stdout=subprocess.PIPE, stderr=subprocess.PIPE, timeout=timeout)
+        out, err, status = communicate(command, data, timeout)
     except subprocess.TimeoutExpired:
         raise TimeoutError(f"{' '.join(command)} took longer than {timeout:g} seconds") from None
-    if ran.returncode in _ANSWERS:
-        return ran.stdout.decode("utf-8", "replace"), ran.returncode
-    raise _failure(command, ran.returncode, ran.stderr.decode("utf-8", "replace").strip(), data)
+    if status in _ANSWERS:
+        return out.decode("utf-8", "replace"), status
+    raise _failure(command, status, err.decode("utf-8", "replace").strip(), data)
 
 
 def find_program() -> str:
@@ -81,11 +82,6 @@ def find_program() -> str:
     if is_clone and _can_be_run(top / "zxopt"):
         return str(top / "zxopt")
     raise FileNotFoundError("no program zxopt: set ZXOPT to it, or put its folder on the path")
-
-
-def as_bytes(text: Text) -> bytes:
-    """The bytes of a text, characters as UTF-8."""
-    return text.encode("utf-8") if isinstance(text, str) else bytes(text)
 
 
 def _can_be_run(file: Path) -> bool:

@@ -87,7 +87,7 @@ class Shapes:
                 self.standard.add(name)
         unknown = one and any(it.name not in self.gates and it.name not in ("U", "CX") for it in one.body)
         is_foreign = not one or one.is_opaque or "^" in said or not FUNCTIONS.isdisjoint(words) or unknown
-        if is_foreign or any(it.name in self.foreign for it in one.body if one):
+        if is_foreign or (one and any(it.name in self.foreign for it in one.body)):
             self.foreign.add(name)
         if one:
             self.gates[name] = one

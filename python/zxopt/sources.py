@@ -3,9 +3,10 @@ from __future__ import annotations
 
 import re
 import unicodedata
-from typing import NamedTuple, Union
+from typing import NamedTuple
 
 from zxopt.qasm import QasmError
+from zxopt.texts import Text, as_bytes
 
 _MARKS = (
     (b"\xef\xbb\xbf", "utf-8"),
@@ -26,12 +27,13 @@ class Change(NamedTuple):
     what: str
 
 
-def decoded(data: Union[str, bytes], changes: list[Change]) -> str:
+def decoded(text: Text, changes: list[Change]) -> str:
     """The letters of a text: by its byte order mark, else UTF-8, UTF-16 without a mark, or Latin-1."""
-    if isinstance(data, str):
-        if data.startswith("\ufeff"):
+    if isinstance(text, str):
+        if text.startswith("\ufeff"):
             changes.append(Change(1, "a byte order mark is left out"))
-        return data.lstrip("\ufeff")
+        return text.lstrip("\ufeff")
+    data = as_bytes(text)
     for mark, name in _MARKS:
         if data.startswith(mark):
             changes.append(Change(1, f"a byte order mark ({name}) is left out"))

@@ -10,7 +10,7 @@ from __future__ import annotations
 import re
 from typing import Callable, List, Optional
 
-from .program import Text
+from .texts import Text, as_bytes
 
 __all__ = ["by_cx", "only_t"]
 
@@ -77,7 +77,7 @@ def _by_u(name: str, angle: Optional[str], qubits: str) -> List[str]:
 
 def _respelled(text: Text, spell: _Speller) -> str:
     """The text with each line of a gate spelled anew."""
-    whole = text if isinstance(text, str) else bytes(text).decode("utf-8")
+    whole = text if isinstance(text, str) else as_bytes(text).decode("utf-8")
     lines = whole.split("\n")
     if lines[: len(_HEAD)] != _HEAD:
         raise ValueError("the text isn't one that zxopt writes: it has another head")

@@ -152,6 +152,45 @@ class Optimised(InRoom):
         )
         self.assertEqual(optimise_file(job, Settings(parts=True, check=True)).check, "not checked")
 
+    def test_rounded_angles(self) -> None:
+        """They are told wherever they stay, and taken where a distance is given."""
+        job = self.job(HEAD + "qreg q[1]; rz(0.7853981633974483) q[0]; rz(0.7853981633974483) q[0];")
+        told = "2 angles lie within 1e-9 of a multiple of pi/8: --within 1e-9 takes them for that"
+        for settings, state, t in (
+            (Settings(), "refused", None),
+            (Settings(prepare=True), "refused", None),
+            (Settings(parts=True), "written", (0, 0)),
+            (Settings(parts=True, prepare=True), "written", (0, 0)),
+        ):
+            outcome = optimise_file(job, settings)
+            self.assertEqual((outcome.state, outcome.t, outcome.told.count(told)), (state, t, 1), outcome.told)
+        outcome = optimise_file(job, Settings(within=1e-9, check=True))
+        self.assertEqual((outcome.state, outcome.t, outcome.check), ("written", (2, 0), "same"))
+        self.assertIn("angles moved by at most", outcome.told)
+        self.assertNotIn("lie within", outcome.told)
+
+    def test_numbers_out_of_range(self) -> None:
+        for wrong in ({"seconds": 0}, {"seconds": float("nan")}, {"within": -1e-9}, {"within": 1}, {"within": float("nan")}):
+            with self.subTest(wrong=wrong), self.assertRaises(ValueError):
+                Settings(**wrong)
+        for processes in (0, -1):
+            with self.assertRaises(ValueError):
+                list(optimise_files([self.job(HEAD)], processes=processes))
+
+    def test_measured(self) -> None:
+        """Counts by hand: two T on one qubit are S, so no T is left on any path."""
+        job = self.job(HEAD + "qreg q[2]; t q[0]; cx q[0],q[1]; t q[0]; h q[1];")
+        self.assertIsNone(optimise_file(job).measured)
+        read, written = optimise_file(job, Settings(measured=True)).measured
+        self.assertEqual((read.t_depth, read.depth, read.t_count, read.gates), (2, 3, 2, 4))
+        self.assertEqual((written.t_depth, written.t_count, written.qubits), (0, 0, 2))
+
+    def test_check_that_differs(self) -> None:
+        real = absolute_program()["ZXOPT"]
+        odd = self.stand_in(f'[ "$1" != same ] || {{ cat >/dev/null; echo widths 1 2; exit 6; }}; exec "{real}" "$@"')
+        outcome = optimise_file(self.job(HEAD), Settings(program=odd, check=True))
+        self.assertEqual((outcome.check, outcome.told, outcome.is_good), ("differs", "widths 1 2", False))
+
     def test_side_by_side_and_in_order(self) -> None:
         jobs = [self.job(f"{HEAD}qreg q[{i + 1}]; t q; t q;", f"{i}.qasm") for i in range(12)]
         outcomes = list(optimise_files(jobs, Settings(best=False), processes=4))
@@ -204,8 +243,10 @@ class Command(InRoom):
         tof = rows[Path("tof_3.qasm")]
         self.assertEqual((tof["t_before"], tof["t_after"], tof["check"]), ("21", "15", "same"))
         self.assertLess(int(tof["two_qubit_after"]), 18)
+        self.assertEqual((tof["qubits"], tof["t_depth_before"], tof["other_angles_after"]), ("5", "11", "0"))
+        self.assertLess(0, int(tof["t_depth_after"]))
         bad = rows[Path("refused.qasm")]
-        self.assertEqual((bad["state"], bad["t_before"], bad["written"]), ("refused", "", ""))
+        self.assertEqual([bad[it] for it in ("state", "t_before", "written", "qubits")], ["refused", "", "", ""])
         self.assertIn("refused.qasm:5:1: ", bad["told"])
 
     def test_all_good(self) -> None:
@@ -213,6 +254,13 @@ class Command(InRoom):
         self.assertEqual((ran.returncode, ran.stderr), (0, ""))
         self.assertIn("T 21 -> 15, two-qubit 18 -> 18", ran.stdout)
         self.assertIn("1 file: 1 written, 0 refused, 0 failed;", ran.stdout)
+
+    def test_within(self) -> None:
+        self.write("rounded.qasm", HEAD + "qreg q[1]; rz(0.7853981633974483) q[0]; rz(0.7853981633974483) q[0];")
+        ran = self.command("batch", "rounded.qasm", "--to", "out")
+        self.assertEqual((ran.returncode, "--within 1e-9 takes them for that" in ran.stderr), (1, True))
+        ran = self.command("batch", "rounded.qasm", "--to", "out", "--within", "1e-9")
+        self.assertEqual((ran.returncode, (self.room / "out/rounded.qasm").read_text()), (0, HEAD + "qreg q[1];\ns q[0];\n"))
 
     def test_wrong_words(self) -> None:
         for words in (["two_t.qasm"], ["--to", "out"], ["two_t.qasm", "--to", "out", "--jobs", "0"]):

@@ -228,6 +228,11 @@ class Cuts(unittest.TestCase):
         self.assertEqual(one, two)
         self.assertEqual(seen[-1], (one.parts, one.parts))
 
+    def test_numbers_out_of_range(self) -> None:
+        for wrong in ({"jobs": 0}, {"jobs": -3}, {"timeout": 0}):
+            with self.subTest(wrong=wrong), self.assertRaises(ValueError):
+                self.parts("qreg q[1]; h q[0]; t q[0];", **wrong)
+
     def test_a_program_that_is_missing(self) -> None:
         with self.assertRaises(OSError):
             self.parts("qreg q[1]; h q[0]; t q[0];", program="/no/such/program")
@@ -318,13 +323,28 @@ class Command(unittest.TestCase):
             self.assertEqual(out.buffer.getvalue().decode(), HEAD + "qreg q[1];\ns q[0];\nrx(0.1) q[0];\n")  # type: ignore[attr-defined]
             self.assertIn("1 parts, 1 statements stay; T 2 before, 0 after", said.getvalue())
 
+    def test_rounded_angles(self) -> None:
+        """They stay, and that is told, unless a distance is given."""
+        with tempfile.TemporaryDirectory() as folder:
+            file, target = os.path.join(folder, "a.qasm"), Path(folder, "b.qasm")
+            Path(file).write_text(HEAD + "qreg q[1]; rz(0.7853981633974483) q[0]; rz(0.7853981633974483) q[0];")
+            for words, body, told in (
+                ([], "rz(0.7853981633974483) q[0];\n" * 2, "parts: 2 angles lie within 1e-9 of a multiple of pi/8: --within 1e-9 takes"),
+                (["--within", "1e-9"], "s q[0];\n", "T 2 before, 0 after"),
+            ):
+                with redirect_stderr(io.StringIO()) as said:
+                    self.assertEqual(parts.main([file, "--to", str(target), *words]), 0)
+                self.assertEqual(target.read_text(), HEAD + "qreg q[1];\n" + body)
+                self.assertIn(told, said.getvalue())
+                self.assertEqual("angles lie" in said.getvalue(), not words)
+
     def test_what_can_not_be_cut(self) -> None:
         with tempfile.TemporaryDirectory() as folder:
             file = os.path.join(folder, "a.qasm")
             Path(file).write_text(HEAD + "qreg q[1];\nh q[3];")
             with redirect_stderr(io.StringIO()) as said:
                 self.assertEqual(parts.main([file]), 1)
-            self.assertIn("line 4: q has no place 3", said.getvalue())
+            self.assertEqual(said.getvalue(), f"{file}:4: q has no place 3\n")
 
 
 if __name__ == "__main__":

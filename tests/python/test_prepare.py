@@ -8,6 +8,7 @@ import sys
 import tempfile
 import time
 import unittest
+from dataclasses import replace
 from contextlib import redirect_stderr, redirect_stdout
 from pathlib import Path
 from typing import Optional, Union
@@ -160,7 +161,7 @@ class Rules(unittest.TestCase):
         for read in ("0.125*pi", "3*pi/8", "-(pi/4)", "0.7853981633974483", "pi/16", "-pi^2", "-2^2*pi", "sqrt(2)*pi", "1/0", "pi*pi", "1.25e-1*pi"):
             with self.subTest(read=read):
                 text = f"{HEAD}qreg q[1];\nrz({read}) q[0];\n"
-                self.assertEqual(prepare(text), Prepared(text, (), 0.0))
+                self.assertEqual(replace(prepare(text), rounded=0), Prepared(text, (), 0.0))
 
     def test_within(self) -> None:
         text = HEAD + "qreg q[1];\ncreg c[1];\nrz({}) q[0];\nu2(0.3,{}) q[0];\nif(c==1) rx({}) q[0];\n"
@@ -296,8 +297,44 @@ class Time(unittest.TestCase):
         self.assertLess(time.process_time() - begin, 12)
 
 
+class Rounded(unittest.TestCase):
+    """Angles that were meant to be multiples of pi/8, and aren't."""
+
+    def test_counts(self) -> None:
+        for body, count in (
+            ("rz(0.7853981633974483) q[0];", 1),
+            ("rz(0.7853981633974483) q[0];\n" * 3, 3),
+            ("u3(1.5707963267948966,0.39269908169872414,3.141592653589793) q[0];", 3),
+            ("rz(pi/4) q[0]; rz(0.25*pi) q[0]; rz(0) q[0]; rz(0.0) q[0]; rz(-0.0) q[0];", 0),
+            ("rz(0.785398163) q[0];", 1),       # 4e-10 away
+            ("rz(0.78539816) q[0];", 0),        # 3.4e-9 away
+            ("rz(0.3) q[0]; rz(pi/16) q[0];", 0),
+            ("rz(2*0.39269908169872414) q[0]; rz(1e-12) q[0]; rz(-6.283185307179586) q[0];", 3),
+            ("gate turn(x) a { rz(x) a; rz(0.7853981633974483) a; } turn(0.39269908169872414) q[0];", 2),
+            ("if(c==1) rz(0.7853981633974483) q[0]; measure q[0] -> c[0];", 1),
+            ("u0(3.141592653589793) q[0]; // rz(0.7853981633974483)", 0),
+        ):
+            with self.subTest(body=body):
+                text = f"{HEAD}qreg q[1]; creg c[1]; {body}\n"
+                self.assertEqual(prepare(text).rounded, count)
+                self.assertEqual(prepare(text, within=1e-9).rounded, 0)
+                self.assertEqual(prepare(prepare(text, within=1e-9).text).rounded, 0)
+
+
 class Command(unittest.TestCase):
     """The command `prepare`."""
+
+    def test_tells_of_rounded_angles(self) -> None:
+        with tempfile.TemporaryDirectory() as folder:
+            file = os.path.join(folder, "a.qasm")
+            Path(file).write_text(f"{HEAD}qreg q[1]; rz(0.785398163397) q[0]; rx(1.570796326795) q[0];", encoding="utf-8")
+            target = Path(folder, "b.qasm")
+            with redirect_stdout(io.StringIO()) as out, redirect_stderr(io.StringIO()) as said:
+                self.assertEqual(prepare_module.main([file, "--to", str(target)]), 0)
+            self.assertEqual((out.getvalue(), target.read_text(encoding="utf-8")), ("", Path(file).read_text(encoding="utf-8")))
+            self.assertEqual(
+                said.getvalue(), "prepare: 2 angles lie within 1e-9 of a multiple of pi/8: --within 1e-9 takes them for that\n"
+            )
 
     def test_a_file(self) -> None:
         with tempfile.TemporaryDirectory() as folder:
@@ -316,7 +353,7 @@ class Command(unittest.TestCase):
             Path(file).write_text("OPENQASM 3.0;\n")
             with redirect_stderr(io.StringIO()) as said:
                 self.assertEqual(prepare_module.main([file]), 1)
-            self.assertIn("line 1: the text is OpenQASM 3", said.getvalue())
+            self.assertIn(f"{file}:1: the text is OpenQASM 3", said.getvalue())
 
 
 if __name__ == "__main__":

@@ -79,6 +79,17 @@ class Commands(unittest.TestCase):
             zxopt.compile_diagram("zxd 1\nspider 0 Z 0\ninput 0 plain\nend\n")
         self.assertEqual((caught.exception.name, caught.exception.place), ("NotSquare", None))
 
+    def test_graphs(self) -> None:
+        self.assertTrue(zxopt.flow(example("path.zxg")))
+        check = zxopt.flow(example("no_flow.zxg"))
+        self.assertEqual((bool(check), check.vertex, check.condition, str(check)), (False, 0, "XY", "fails 0 XY"))
+        self.assertTrue(zxopt.flow(zxopt.reduce(example("path.zxg"))))
+        with self.assertRaises(zxopt.FlowFails) as caught:
+            zxopt.reduce(example("no_flow.zxg"))
+        self.assertEqual(caught.exception.check, check)
+        self.assertEqual(zxopt.graph(example("diagram.zxd")), zxopt.run(["graph"], example("diagram.zxd"))[0])
+        self.assertEqual(zxopt.compile(example("diagram.zxd")), zxopt.compile_diagram(example("diagram.zxd")))
+
     def test_run_answers_no(self) -> None:
         self.assertEqual(zxopt.run(["flow"], example("no_flow.zxg")), ("fails 0 XY\n", 6))
         self.assertEqual(zxopt.run(["flow"], example("path.zxg")), ("flow\n", 0))
@@ -93,8 +104,20 @@ class Same(unittest.TestCase):
     def test_yes_and_no(self) -> None:
         text = example("tof_3.qasm")
         self.assertTrue(zxopt.same(text, zxopt.optimise(text)))
-        self.assertFalse(zxopt.same(text, example("tof_4.qasm")))
-        self.assertFalse(zxopt.same(example("two_t.qasm"), example("three_t.qasm")))
+
+    def test_kinds_of_no(self) -> None:
+        measured = HEAD + "qreg q[1]; creg c[1]; measure q[0] -> c[0];"
+        for one, other, kind, said in (
+            (example("two_t.qasm"), HEAD + "qreg q[1]; s q[0];", "same", "same"),
+            (example("two_t.qasm"), example("three_t.qasm"), "not shown", "not shown 1"),
+            (example("tof_3.qasm"), example("tof_4.qasm"), "widths", "widths 5 7"),
+            (measured, HEAD + "qreg q[1];", "measures", "measures differ"),
+        ):
+            with self.subTest(kind=kind):
+                found = zxopt.same(one, other)
+                self.assertEqual((found.kind, bool(found), str(found)), (kind, kind == "same", said))
+        self.assertEqual((zxopt.same(example("tof_3.qasm"), example("tof_4.qasm")).widths, found.left), ((5, 7), None))
+        self.assertEqual(zxopt.same(example("two_t.qasm"), example("three_t.qasm")).left, 1)
 
     def test_without_a_last_line_end(self) -> None:
         one, other = HEAD + "qreg q[1]; s q[0];", HEAD + "qreg q[1]; t q[0]; t q[0]; // here"
@@ -171,15 +194,20 @@ class Failures(InRoom):
         began = time.monotonic()
         with self.assertRaises(TimeoutError) as caught:
             zxopt.optimise(TWO_T, timeout=0.5, program=slow)
+        for none in (0, -1, float("nan")):
+            with self.assertRaises(ValueError):
+                zxopt.optimise(TWO_T, timeout=none)
+        self.assertEqual(zxopt.optimise(TWO_T, timeout=1e300), TWO_T)
         self.assertLess(time.monotonic() - began, 45)
         self.assertIn("longer than 0.5 seconds", str(caught.exception))
         self.assertFalse(Path("/proc", Path(slow + ".pid").read_text().strip()).exists())
 
     def test_reports_that_are_none(self) -> None:
         odd = self.stand_in("cat >/dev/null; printf 'a\\nb\\nc\\nd\\n'")
-        for function in (zxopt.counts, zxopt.optimise_counted):
-            with self.assertRaises(OSError):
-                function(TWO_T, program=odd)
+        for program in (odd, "/bin/true"):
+            for function in (zxopt.counts, zxopt.optimise_counted, lambda it, program: zxopt.same(it, it, program=program), zxopt.flow):
+                with self.assertRaises(OSError):
+                    function(TWO_T, program=program)
 
     def test_reads_nothing(self) -> None:
         """A program that doesn't read its input, of more than a pipe holds, is heard all the same."""
