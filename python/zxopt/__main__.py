@@ -22,6 +22,7 @@ usage: python3 -m zxopt COMMAND ..      (COMMAND --help tells its words)
   prepare [FILE]           puts a text of the usual tools into the form that the program reads
   parts [FILE]             optimises what can be of a text that the program refuses for a statement
   batch FILE.. --to FOLDER optimises many files on all processors
+  stream FILE --to FILE    optimises a text of any size in constant memory, and goes on where it was interrupted
   compile [FILE]           writes a circuit for a diagram file
   graph [FILE]             writes a diagram file's graph-like form
   flow [FILE]              says whether the table of a graph file is a flow; exit status 6 where it isn't
@@ -215,7 +216,7 @@ _COMMANDS: Dict[str, _Command] = {
 }
 
 # Commands with a module of their own, which has `command_parser` and `command`.
-_MODULES = {"measures": "counting", "prepare": "prepare", "parts": "parts", "batch": "batch"}
+_MODULES = {"measures": "counting", "prepare": "prepare", "parts": "parts", "batch": "batch", "stream": "stream"}
 
 if __name__ == "__main__":
     sys.exit(main())

@@ -18,7 +18,7 @@ bit with it. Which windows are made depends on the operations and the limits alo
 """
 from __future__ import annotations
 
-from typing import Callable, Generic, Iterable, Iterator, NamedTuple, Optional, Sequence, TypeVar, Union
+from typing import Any, Callable, Generic, Iterable, Iterator, NamedTuple, Optional, Sequence, TypeVar, Union
 
 __all__ = ["Cutter", "Limits", "Operation", "Stay", "Window", "bundles"]
 
@@ -144,7 +144,8 @@ class Cutter(Generic[T]):
         """Takes a gate of a window."""
         owner = self.owner
         window = owner[qubits[0]]
-        if window is None or any(owner[it] is not window for it in qubits):
+        is_light = weight <= self.limits.weight - self.full_weight
+        if window is None or not is_light or any(owner[it] is not window for it in qubits):
             window = self.join(qubits, diagonal, weight)
         window.gates.append(gate)
         window.weight += weight
@@ -267,6 +268,43 @@ class Cutter(Generic[T]):
             self.written[register] = max(self.written.get(register, 0), time)
         return time
 
+    # -- states -------------------------------------------------------------------------------------------------------
+
+    def state(self) -> dict[str, Any]:
+        """All that is open, of what JSON has; gates and what stays are texts."""
+        return {
+            "times": [[at, *both] for at, both in enumerate(zip(self.general, self.any)) if any(both)],
+            "bits": [[*pair, time] for pair, time in self.bits.items()],
+            "registers": [list(self.written.items()), list(self.read.items())],
+            "windows": [[it.time, it.index, it.weight, it.qubits, "".join(map(str, it.gates))] for it in self.windows.values()],
+            "stays": [[it.time, it.index, it.places, it.what] for it in self.stays.values()],
+            "count": self.count,
+        }
+
+    def restore(self, state: dict[str, Any], gates_of: Callable[[str], list[T]]) -> None:
+        """Goes on from a state; the cutter is a new one with as many qubits. `gates_of` cuts the gates of a window."""
+        for qubit, general, both in state["times"]:
+            self.general[qubit], self.any[qubit] = general, both
+        self.bits = {(register, bit): time for register, bit, time in state["bits"]}
+        self.written, self.read = (dict(map(tuple, it)) for it in state["registers"])
+        self.count = state["count"]
+        nodes: list[Node[T]] = []
+        for time, index, weight, qubits, text in state["windows"]:
+            window: Window[T] = Window(time, index)
+            window.weight, window.qubits, window.gates = weight, qubits, gates_of(text)
+            self.windows[index] = window
+            self.held += len(window.gates)
+            nodes.append(window)
+        for time, index, places, what in state["stays"]:
+            self.stays[index] = Stay(what, places, time, index)
+            nodes.append(self.stays[index])
+        for node in sorted(nodes, key=_order):
+            for wire in node.wires():
+                self.chains.setdefault(wire, []).append(node)
+        for wire, chain in self.chains.items():
+            if wire >= 0:
+                self.set_owner(wire, chain)
+
     # -- closing ------------------------------------------------------------------------------------------------------
 
     def end(self) -> None:
@@ -313,9 +351,13 @@ class Cutter(Generic[T]):
         elif isinstance(first, Window):
             # nothing is left for which a gate would have to go below the first window
             self.general[qubit] = max(self.general[qubit], first.time)
+        self.set_owner(qubit, chain)
+
+    def set_owner(self, qubit: int, chain: Sequence[Node[T]]) -> None:
+        """Sets the owner of a qubit by what is open on it."""
         last = chain[-1] if chain else None
-        is_sure = isinstance(last, Window) and self.general[qubit] == self.any[qubit] == last.time
-        self.owner[qubit] = last if is_sure and isinstance(last, Window) else None
+        is_window = isinstance(last, Window) and self.general[qubit] == self.any[qubit] == last.time
+        self.owner[qubit] = last if is_window else None  # type: ignore[assignment]
 
     def with_all_before(self, some: Iterable[Node[T]]) -> list[Node[T]]:
         """What is given and all that has to stand before it, by time, then by order in the text."""
