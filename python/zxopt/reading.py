@@ -100,15 +100,24 @@ class Reader:
 
     def end(self) -> None:
         """Ends the text, and closes all windows."""
-        rest = "".join(self.begun) + self.pending
-        statements, behind = split(rest)
+        self.end_statements()
+        self.cutter.end()
+
+    def end_head(self) -> None:
+        """Ends the declarations."""
+        self.end_statements()
+        self.is_open = False
+
+    def end_statements(self) -> None:
+        """Takes what was read and has no semicolon behind it: declarations that end with a brace."""
+        statements, behind = split("".join(self.begun) + self.pending)
         if behind.text.strip():
-            raise CannotCut("a statement begins here and has no end", self.lines + behind.line)
+            raise CannotCut("a statement begins here and has no end", self.line() + behind.line)
         for it in statements:
             self.statement(it, None)
-        self.begun, self.pending = [], ""
+        self.begun.clear()
+        self.pending, self.depth = "", 0
         self.checked()
-        self.cutter.end()
 
     def take_pieces(self) -> None:
         """Takes the pieces of the text between semicolons."""
@@ -182,13 +191,17 @@ class Reader:
             return None
         if len(qubits) != shape.qubits or (len(qubits) > 1 and len(set(qubits)) < len(qubits)):
             return None
-        return self.gate(shape.text, qubits, shape.calls, shape.diagonal or (False,) * len(qubits))
+        return self.gate(shape.text, qubits, shape.calls, shape.diagonal)
 
     def gate(self, text: str, qubits: tuple[int, ...], calls: int, diagonal: tuple[bool, ...]) -> _Gate:
         names = self.circuit.qubits
+        if len(qubits) == 2:
+            first, second = qubits
+            line = f"{text} {names[first]},{names[second]};\n"
+            return first, second, None, line, windows.weight(calls, len(line)), diagonal
         line = f"{text} {','.join([names[it] for it in qubits])};\n"
         all_qubits = qubits if len(qubits) > 2 else None
-        return qubits[0], qubits[min(1, len(qubits) - 1)], all_qubits, line, windows.weight(calls, len(line)), diagonal
+        return qubits[0], qubits[-1], all_qubits, line, windows.weight(calls, len(line)), diagonal
 
     def take_gate(self, gate: _Gate, piece: Optional[str]) -> None:
         """Takes a gate, whose whole piece is known from now on if it is given."""
@@ -260,6 +273,8 @@ class Reader:
         self.note_applied()
         if name in FIRST:
             raise CannotCut(f"{name} is declared here, and the header has it: `prepare` renames it", it.line)
+        if name in circuit.shapes.own:
+            raise CannotCut(f"{name} is declared a second time", it.line)
         if name in self.applied:
             raise CannotCut(f"{name} is declared here, and was applied before", it.line)
         one = declaration(it.text)

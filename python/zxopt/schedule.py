@@ -119,6 +119,7 @@ class Cutter(Generic[T]):
         self.owner: list[Optional[Window[T]]] = []
         self.held = 0
         self.full_weight = limits.weight * 9 // 10
+        self.light = limits.weight - self.full_weight
         # the times up to which each qubit is taken, by what isn't diagonal on it and by anything; of bits, and of
         # registers of bits that are written and read
         self.general: list[int] = []
@@ -144,8 +145,9 @@ class Cutter(Generic[T]):
         """Takes a gate of a window."""
         owner = self.owner
         window = owner[qubits[0]]
-        is_light = weight <= self.limits.weight - self.full_weight
-        if window is None or not is_light or any(owner[it] is not window for it in qubits):
+        if window is None or weight > self.light or owner[qubits[-1]] is not window:
+            window = self.join(qubits, diagonal, weight)
+        elif len(qubits) > 2 and any(owner[it] is not window for it in qubits):
             window = self.join(qubits, diagonal, weight)
         window.gates.append(gate)
         window.weight += weight
@@ -164,10 +166,16 @@ class Cutter(Generic[T]):
         while True:
             time = self.least_time(qubits, diagonal)
             time += time & 1
-            found = {it: self.window_at(it, time) for it in qubits}
-            those = list({it.index: it for it in found.values() if it is not None}.values())
-            those.sort(key=lambda it: (-len(it.gates), it.index))
-            new = [it for it, window in found.items() if window is None]
+            those: list[Window[T]] = []
+            new: list[int] = []
+            for qubit in qubits:
+                window = self.window_at(qubit, time)
+                if window is None:
+                    new.append(qubit)
+                elif window not in those:
+                    those.append(window)
+            if len(those) > 1:
+                those.sort(key=lambda it: (-len(it.gates), it.index))
             if not those or self.fits(those, len(new), weight):
                 break
             self.close(those[:1])
@@ -177,21 +185,33 @@ class Cutter(Generic[T]):
         for qubit in new:
             self.enter(qubit, window)
         window.qubits.extend(new)
-        for qubit, is_diagonal in zip(qubits, diagonal):
-            self.any[qubit] = max(self.any[qubit], time)
-            if not is_diagonal:
-                self.general[qubit] = time
-            self.owner[qubit] = window if self.general[qubit] == self.any[qubit] == time else None
+        self.take_time(qubits, diagonal, window)
         return window
 
     def least_time(self, qubits: Sequence[int], diagonal: Sequence[bool]) -> int:
         """The least time that an operation on these qubits may have, bits aside."""
-        return max(
-            (self.general[it] if is_diagonal else self.any[it] for it, is_diagonal in zip(qubits, diagonal)), default=0
-        )
+        time = 0
+        for qubit, is_diagonal in zip(qubits, diagonal):
+            least = self.general[qubit] if is_diagonal else self.any[qubit]
+            if least > time:
+                time = least
+        return time
+
+    def take_time(self, qubits: Sequence[int], diagonal: Sequence[bool], window: Window[T]) -> None:
+        """Notes that a gate on these qubits goes to a window."""
+        time, general, both, owner = window.time, self.general, self.any, self.owner
+        for qubit, is_diagonal in zip(qubits, diagonal):
+            if both[qubit] < time:
+                both[qubit] = time
+            if not is_diagonal:
+                general[qubit] = time
+            owner[qubit] = window if general[qubit] == both[qubit] == time else None
 
     def window_at(self, qubit: int, time: int) -> Optional[Window[T]]:
         """The open window of a qubit at an even time, or none."""
+        window = self.owner[qubit]
+        if window is not None and window.time == time:
+            return window
         for node in reversed(self.chains.get(qubit, ())):
             if node.time <= time:
                 return node if node.time == time and isinstance(node, Window) else None
@@ -199,12 +219,13 @@ class Cutter(Generic[T]):
 
     def fits(self, those: Sequence[Window[T]], new: int, weight: int) -> bool:
         """Whether windows, so many qubits more and a gate of this weight may become one."""
+        gates, qubits = 0, new
+        for it in those:
+            gates += len(it.gates)
+            qubits += len(it.qubits)
+            weight += it.weight
         limits = self.limits
-        return (
-            sum(len(it.gates) for it in those) < limits.gates
-            and sum(len(it.qubits) for it in those) + new <= limits.qubits
-            and sum(it.weight for it in those) + weight <= limits.weight
-        )
+        return gates < limits.gates and qubits <= limits.qubits and weight <= limits.weight
 
     def new_window(self, time: int) -> Window[T]:
         self.count += 1

@@ -205,8 +205,7 @@ class _Run:
         self.say(windows.HEAD)
         if self.text.head is not None:
             self.reader.feed(self.text.head.decode("latin-1"))
-            self.reader.checked()
-            self.reader.is_open = False
+            self.reader.end_head()
         self.is_silent = False
         self.save()
 

@@ -47,7 +47,8 @@ class Written(NamedTuple):
 def weight(calls: int, size: int) -> int:
     """The weight of a gate by its calls and by the bytes of its text, such that a window of GREATEST_CALLS in sum is
     within both limits of the program."""
-    return max(calls, size * GREATEST_CALLS // GREATEST_BYTES + 1)
+    by_size = size // (GREATEST_BYTES // GREATEST_CALLS) + 1
+    return calls if calls > by_size else by_size
 
 
 def added(one: GateCounts, other: GateCounts) -> GateCounts:
