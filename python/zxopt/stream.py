@@ -22,7 +22,7 @@ from contextlib import ExitStack
 from dataclasses import asdict, dataclass, field
 from typing import Any, Callable, NamedTuple, Optional, Sequence, Union
 
-from . import cli, slices, windows, workers
+from . import arguments, slices, windows, workers
 from .commands import GateCounts
 from .program import find_program
 from .reading import Reader
@@ -128,6 +128,8 @@ def optimise_stream(
         raise ValueError(f"{mode} is none of {', '.join(windows.MODES)}")
     program = program or find_program()
     settings = {"mode": mode, "gates": gates, "from": begin, "until": end, "barriers": keep_barriers}
+    if source != "-" and os.path.exists(target) and os.path.samefile(source, target):
+        raise ValueError(f"{target} is the file that is read")
     with ExitStack() as stack:
         text = stack.enter_context(slices.opened(source, begin, end))
         what = {"settings": settings, "source": text.identity, "program": identity(program)}
@@ -290,36 +292,36 @@ class _Run:
 # -- the command ------------------------------------------------------------------------------------------------------
 
 
-def main(argv: Optional[Sequence[str]] = None) -> int:
-    """The command `python3 -m zxopt stream` with these words, and its exit status."""
-    parser = _parser()
-    asked = parser.parse_args(argv)
-    if os.path.realpath(asked.source) == os.path.realpath(asked.to):
-        parser.error(f"{asked.to} is the file that is read")
-    return cli.guarded(lambda: _run(asked), "zxopt stream", asked.source)
+def main(argv: Sequence[str]) -> int:
+    """The command `stream` with these words, and its exit status: 1 where a text, a state or words are refused, 5 where
+    memory ran out, 70 where a file or the program can't be read, written or run."""
+    from .__main__ import main as run_command
+
+    return run_command(["stream", *argv])
 
 
-def _parser() -> argparse.ArgumentParser:
-    parser = argparse.ArgumentParser(
-        prog="python3 -m zxopt stream",
-        description="Optimises a text of OpenQASM 2.0 of any size in constant memory, window by window. A run that was "
-        "interrupted goes on when it is called again.",
-        epilog="Slices whose bytes meet write texts that are one when they are joined in their order.",
+def command_parser(command: str) -> argparse.ArgumentParser:
+    """The words of the command `stream`."""
+    parser = arguments.parser(
+        command,
+        "Optimises a text of OpenQASM 2.0 of any size in constant memory, window by window. A run that was interrupted "
+        "goes on when it is called again.",
+        "Slices whose bytes meet write texts that are one when they are joined in their order.",
     )
     add = parser.add_argument
-    add("source", metavar="READ", help="the text, a gz file by its name's end; - for standard input, which can't go on")
+    add("file", metavar="READ", help="the text, a gz file by its name's end; - for standard input, which can't go on")
     add("--to", required=True, metavar="WRITTEN", help="the file that is written, packed where its name ends with .gz")
     mode = parser.add_mutually_exclusive_group()
     for name, told in (
-        ("teleport", "change phases alone, so that all other gates stay: so it is if none of these is given"),
+        ("teleport", "change phases alone, so that all other gates stay, as is done unless one of these is given"),
         ("best", "take the best of several circuits: ten to twenty-five times the time, for fewer gates on two qubits"),
         ("plain", "make one circuit: least time, and many more gates on two qubits"),
     ):
         mode.add_argument(f"--{name}", dest="mode", action="store_const", const=name, help=told)
     parser.set_defaults(mode="teleport")
-    add("--gates", type=cli.positive_int, default=10_000, metavar="N", help="gates of a window at most; else 10000")
-    add("--jobs", type=cli.positive_int, metavar="N", help="how many windows at a time; else one for each processor")
-    add("--seconds", type=cli.positive_seconds, metavar="N", help="a time limit for a window; then teleport, with it too")
+    arguments.takes_jobs(parser, "windows")
+    arguments.takes_seconds(parser, "a time limit for a window; then teleport takes it, with the same limit")
+    add("--gates", type=arguments.positive_int, default=10_000, metavar="N", help="gates of a window at most; else 10000")
     add("--barriers", action="store_true", help="keep barriers, and let no gate cross one")
     add("--from", dest="begin", type=_byte, metavar="BYTE", help="begin a slice behind the line of this byte")
     add("--until", dest="end", type=_byte, metavar="BYTE", help="end it behind the line of this one")
@@ -337,19 +339,20 @@ def _byte(word: str) -> int:
     return number
 
 
-def _run(asked: argparse.Namespace) -> int:
+def command(asked: argparse.Namespace) -> int:
+    """The command `stream`; answers the exit status 0."""
     began = time.monotonic()
-    size = None if asked.source == "-" else os.path.getsize(asked.source)
+    size = None if asked.file == "-" else os.path.getsize(asked.file)
     first: list[int] = []
 
     def progress(totals: Totals) -> None:
         first.append(totals.read.gates)
         rate = (totals.read.gates - first[0]) / max(1e-3, time.monotonic() - began)
-        of = "" if size is None or asked.source.endswith(".gz") else f" of {size / 1e6:.1f}"
+        of = "" if size is None or asked.file.endswith(".gz") else f" of {size / 1e6:.1f}"
         print(f"{totals.bytes / 1e6:.1f}{of} MB, {_told(totals)}, {rate:.0f} gates a second", file=sys.stderr, flush=True)
 
     totals = optimise_stream(
-        asked.source,
+        asked.file,
         asked.to,
         mode=asked.mode,
         gates=asked.gates,
