@@ -69,7 +69,7 @@ def _described(command: str) -> _Command:
 
 
 def _opt_parser(command: str) -> argparse.ArgumentParser:
-    about = "Optimises a text of OpenQASM 2.0. Where a time limit is met with --best, one circuit is made."
+    about = "Optimises a text of OpenQASM 2.0. Where a time limit is met with --best, `teleport` takes it in windows."
     parser = arguments.writes_one(arguments.parser(command, about))
     arguments.spellings(arguments.takes_seconds(arguments.takes_best(parser, False)))
     parser.add_argument("--report", action="store_true", help="add the counts of gates as two comment lines")
@@ -88,12 +88,23 @@ def _opt(asked: argparse.Namespace) -> int:
     try:
         written = made(asked.best)
     except TimeoutError as late:
-        if not asked.best:
+        if not asked.best or asked.scalar:
             raise
-        print(f"zxopt opt: {late}; without --best:", file=sys.stderr)
-        written = made(False)
+        print(f"zxopt opt: {late}; teleport in windows:", file=sys.stderr)
+        written = _in_windows(text, asked)
     cli.write_text(_respelled(written, asked.spelled), asked.to)
     return 0
+
+
+def _in_windows(text: bytes, asked: argparse.Namespace) -> str:
+    """What `opt` writes where the best circuit takes too long: two-qubit gates don't become more by that."""
+    from .parts import teleport_in_windows
+    from .windows import report
+
+    made = teleport_in_windows(text, timeout=asked.seconds)
+    for it in made.late:
+        print(f"zxopt opt: {it}", file=sys.stderr)
+    return made.text + (report(made.counts) if asked.report else "")
 
 
 def _teleport_parser(command: str) -> argparse.ArgumentParser:

@@ -32,6 +32,7 @@ from zxopt.circuit import CannotCut, Circuit
 from zxopt.commands import GateCounts
 from zxopt.faults import Refused
 from zxopt.prepare import prepare
+from zxopt.program import Program
 from zxopt.qasm import squeezed
 from zxopt.rounded import rounded_angles, told
 from zxopt.schedule import Cutter, Limits, Node, Operation, Window, bundles
@@ -71,8 +72,9 @@ class Left(NamedTuple):
 class Parts:
     """The text that is written, the number of its parts, of statements that stay, and of parts that were left as they
     were read since the program's circuit wasn't better or took too long; what the parts count before and after, and the
-    same in full; what took too long: a part's windows may, while others of it are optimised; and how many angles lie
-    within 1e-9 of a multiple of pi/8 and stay, since they aren't one."""
+    same in full; how many parts took too long and went through `teleport` in windows, and which gates were left as they
+    were read since even that took too long; and how many angles lie within 1e-9 of a multiple of pi/8 and stay, since
+    they aren't one."""
 
     text: str
     parts: int
@@ -81,6 +83,7 @@ class Parts:
     before: Counts
     after: Counts
     counts: commands.Counts
+    rescued: int = 0
     late: tuple[Left, ...] = ()
     rounded: int = 0
 
@@ -96,12 +99,13 @@ class _Piece(NamedTuple):
 
 class _Done(NamedTuple):
     """A part as it is written: lines that name qubits by `q[..]`, or none where it stays as it was read; its counts;
-    and what of it took too long."""
+    what of it took too long, and whether it went through `teleport` in windows."""
 
     lines: Optional[list[str]]
     before: GateCounts
     after: GateCounts
     late: tuple[Left, ...] = ()
+    is_rescued: bool = False
 
 
 def optimise_parts(
@@ -113,7 +117,7 @@ def optimise_parts(
     jobs: int = 1,
     keep_barriers: bool = False,
     timeout: Optional[float] = None,
-    program: Optional[str] = None,
+    program: Optional[Program] = None,
     progress: Optional[Callable[[int, int], None]] = None,
 ) -> Parts:
     """Optimises a text part by part.
@@ -126,15 +130,18 @@ def optimise_parts(
     time.
 
     Raises CannotCut where the text isn't one that the program would take but for single statements: `zxopt.prepare`
-    helps with many of these. MemoryError and OSError are those of `zxopt.program.run`.
+    helps with many of these. MemoryError and OSError are those of `zxopt.program.run`; ValueError where `jobs` or
+    `timeout` isn't above 0.
     """
+    if jobs < 1:
+        raise ValueError(f"{jobs} parts at a time: the number isn't above 0")
     mode = "teleport" if teleport else "best" if best else "plain"
     cutting = _Cutting(decoded(text, []), mode, jobs, keep_barriers, gates)
     cutting.timeout, cutting.program, cutting.progress = timeout, program, progress
     return cutting.done()
 
 
-def teleport_in_windows(text: Text, *, timeout: Optional[float] = None, program: Optional[str] = None) -> Parts:
+def teleport_in_windows(text: Text, *, timeout: Optional[float] = None, program: Optional[Program] = None) -> Parts:
     """What is written in place of a circuit that takes too long as a whole: phases change, within windows of 10,000
     gates, and no gate on two qubits is added. Registers are `q` and `c`, as the program writes them.
 
@@ -155,7 +162,7 @@ class _Cutting:
         self.jobs = jobs
         self.is_flat = False
         self.timeout: Optional[float] = None
-        self.program: Optional[str] = None
+        self.program: Optional[Program] = None
         self.progress: Optional[Callable[[int, int], None]] = None
         self.results: dict[str, _Done] = {}
 
@@ -250,7 +257,8 @@ class _Cutting:
         except Refused as refused:
             return refused
         except TimeoutError as late:
-            return self.left(piece, late) if self.mode == "teleport" else self.rescued(piece)
+            is_small = self.mode == "teleport" and len(piece.operations) <= RESCUE_GATES
+            return self.left(piece, late) if is_small else self.rescued(piece)
 
     def asked(self, piece: _Piece, mode: str) -> _Done:
         """What the program makes of a part in a mode."""
@@ -281,7 +289,7 @@ class _Cutting:
             before, after = windows.added(before, done.before), windows.added(after, done.after)
             late += done.late
             lines += _placed(it, done, place)
-        return _Done(lines, before, after, tuple(late))
+        return _Done(lines, before, after, tuple(late), True)
 
     def refuse(self, piece: _Piece, refused: Refused) -> None:
         """Notes that a statement of a part stays, since the program refuses it."""
@@ -300,7 +308,7 @@ class _Cutting:
         lines: list[str] = []
         before = after = windows.NO_GATES
         late: list[Left] = []
-        left = parts = 0
+        left = parts = rescued = 0
         place = {at: f"q[{at}]" if self.is_flat else name for at, name in enumerate(self.circuit.qubits)}
         for it in found:
             if isinstance(it, Operation):
@@ -311,13 +319,14 @@ class _Cutting:
             parts += 1
             left += done.lines is None
             late += done.late
+            rescued += done.is_rescued
             before, after = windows.added(before, done.before), windows.added(after, done.after)
         used = {name for text in set(lines) for name in _NAME.findall(text)}
         text = windows.HEAD + "".join(f"{it}\n" for it in [*self.needed(used), *self.registers(), *lines])
         small = [Counts(it.odd, it.two_qubit) for it in (before, after)]
         rounded = rounded_angles([*self.circuit.declared, *self.circuit.statements])
         counts = commands.Counts(before, after)
-        return Parts(text, parts, len(found) - parts, left, *small, counts, tuple(late), rounded)
+        return Parts(text, parts, len(found) - parts, left, *small, counts, rescued, tuple(late), rounded)
 
     def registers(self) -> Iterable[str]:
         """The declarations of registers, or those of `q` and `c`."""
@@ -386,6 +395,8 @@ def command(asked: argparse.Namespace) -> int:
         f"gates on two qubits {found.before.two_qubit} before, {found.after.two_qubit} after",
         file=sys.stderr,
     )
+    if found.rescued:
+        print(f"parts: {found.rescued} took too long, and went through teleport in windows", file=sys.stderr)
     for it in found.late:
         print(f"parts: {it}", file=sys.stderr)
     if found.rounded:

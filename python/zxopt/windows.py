@@ -12,16 +12,17 @@ from functools import lru_cache
 from typing import Iterable, NamedTuple, Optional
 
 from .circuit import CannotCut, Circuit
-from .commands import GateCounts, optimise_counted, teleport
+from .commands import Counts, GateCounts, optimise_counted, teleport
 from .faults import Refused
 from .names import declared
-from .program import run
+from .program import Program, run
 from .qasm import Statement, squeezed
 from .shapes import GREATEST_CALLS, GREATEST_QUBITS
+from .texts import Text
 
 __all__ = [
     "GREATEST_BYTES", "GREATEST_CALLS", "GREATEST_QUBITS", "HEAD", "MODES", "NO_GATES", "Written", "added",
-    "check_head", "counted", "is_better", "made", "weight",
+    "check_head", "counted", "is_better", "made", "report", "weight",
 ]
 
 # `best`: opt --best. `plain`: opt. `teleport`: phases change, and all other gates stay.
@@ -37,11 +38,13 @@ _ODD = frozenset(("t", "tdg", "u1(3*pi/4)", "u1(5*pi/4)"))
 
 
 class Written(NamedTuple):
-    """What the program writes for a window: lines of gates on `q[..]`, and how many gates were read and written."""
+    """What the program writes for a window: lines of gates on `q[..]`, and how many gates were read and written; and
+    the whole text."""
 
     lines: list[str]
     read: Optional[GateCounts]
     written: GateCounts
+    text: str = ""
 
 
 def weight(calls: int, size: int) -> int:
@@ -62,14 +65,15 @@ def is_better(read: GateCounts, written: GateCounts) -> bool:
     return (written.odd, written.two_qubit) <= (read.odd, read.two_qubit)
 
 
-def made(text: str, mode: str, timeout: Optional[float], program: Optional[str]) -> Written:
-    """What the program writes for the text of a window in one of the MODES; of `teleport` no counts of what was read
-    are known. Exceptions are those of `zxopt.program.run`."""
+def made(text: Text, mode: str, timeout: Optional[float], program: Optional[Program]) -> Written:
+    """What the program writes for the text of a window, or of a circuit, in one of the MODES; of `teleport` no counts of
+    what was read are known. Exceptions are those of `zxopt.program.run`."""
     if mode == "teleport":
-        lines = _gates(teleport(text, timeout=timeout, program=program))
-        return Written(lines, None, _counted_written(lines))
+        written = teleport(text, timeout=timeout, program=program)
+        lines = _gates(written)
+        return Written(lines, None, _counted_written(lines), written)
     done = optimise_counted(text, mode == "best", timeout=timeout, program=program)
-    return Written(_gates(done.text), done.counts.read, done.counts.written)
+    return Written(_gates(done.text), done.counts.read, done.counts.written, done.text)
 
 
 def _gates(text: str) -> list[str]:
@@ -78,7 +82,7 @@ def _gates(text: str) -> list[str]:
 
 def _counted_written(lines: Iterable[str]) -> GateCounts:
     """The counts of lines that the program wrote."""
-    names = Counter(it.partition(" ")[0] for it in lines)
+    names = Counter(it.partition(" ")[0] for it in lines if not it.startswith("measure"))
     kinds = dict.fromkeys(("h", "cx", "cz", "x", "phase"), 0)
     odd = 0
     for name, count in names.items():
@@ -87,7 +91,7 @@ def _counted_written(lines: Iterable[str]) -> GateCounts:
     return GateCounts(gates=sum(names.values()), odd=odd, two_qubit=kinds["cx"] + kinds["cz"], **kinds)
 
 
-def counted(lines: Iterable[str], declarations: str, own: Iterable[str], program: Optional[str]) -> GateCounts:
+def counted(lines: Iterable[str], declarations: str, own: Iterable[str], program: Optional[Program]) -> GateCounts:
     """The counts of gates that are read, a line each: a gate with its angles, a space, places without spaces.
 
     The program is asked once for each gate with its angles. `declarations` are those of gates, whose names are `own`.
@@ -107,7 +111,7 @@ def counted(lines: Iterable[str], declarations: str, own: Iterable[str], program
 
 
 @lru_cache(maxsize=1 << 14)
-def _shape_counts(shape: str, qubits: int, declarations: str, program: Optional[str]) -> GateCounts:
+def _shape_counts(shape: str, qubits: int, declarations: str, program: Optional[Program]) -> GateCounts:
     places = ",".join(f"q[{at}]" for at in range(qubits))
     text = f"{HEAD}{declarations}qreg q[{qubits}];\n{shape} {places};\n"
     try:
@@ -116,7 +120,18 @@ def _shape_counts(shape: str, qubits: int, declarations: str, program: Optional[
         return NO_GATES
 
 
-def check_head(circuit: Circuit, timeout: Optional[float], program: Optional[str]) -> None:
+def report(counts: Counts) -> str:
+    """The lines of `opt --report`."""
+    said = (f"// {name} {_told(it)}\n" for name, it in (("read", counts.read), ("written", counts.written)))
+    return "".join(said)
+
+
+def _told(it: GateCounts) -> str:
+    kinds = f"h {it.h} phase {it.phase} cz {it.cz} cx {it.cx} not {it.x}"
+    return f"gates {it.gates} odd {it.odd} two-qubit {it.two_qubit} {kinds}"
+
+
+def check_head(circuit: Circuit, timeout: Optional[float], program: Optional[Program]) -> None:
     """Lets the program read a text's head, declarations and registers. Gates that it refuses for what may stand in a
     statement that stays are set aside; CannotCut is raised for all else."""
     shapes = circuit.shapes
