@@ -196,6 +196,8 @@ class _Run:
             if self.saved is None and time.monotonic() - last >= self.every:
                 last = time.monotonic()
                 self.save()
+                if self.progress:
+                    self.progress(self.totals)
         self.reader.end()
         self.settle(0)
         self.to.end()
@@ -272,8 +274,6 @@ class _Run:
 
     def save(self) -> None:
         """Takes a state, as it is now, and keeps it when all that was closed before it is written."""
-        if self.progress:
-            self.progress(self.totals)
         if self.text.is_read_once:
             return
         self.saved = _Saved(self.made, self.totals.bytes, json.dumps(self.reader.state()))
