@@ -181,8 +181,10 @@ class _Cutting:
 
         def emit(nodes: list[Node[int]]) -> None:
             for it in bundles(nodes, limits):
-                is_part = isinstance(it, Window)
-                out.append(self.piece([operations[at] for at in sorted(it.gates)]) if is_part else operations[it.what])
+                if isinstance(it, Window):
+                    out.append(self.piece([operations[at] for at in sorted(it.gates)]))
+                else:
+                    out.append(operations[it.what])
 
         cutter: Cutter[int] = Cutter(limits, emit)
         cutter.add_qubits(len(self.circuit.qubits))
@@ -323,10 +325,10 @@ class _Cutting:
             before, after = windows.added(before, done.before), windows.added(after, done.after)
         used = {name for text in set(lines) for name in _NAME.findall(text)}
         text = windows.HEAD + "".join(f"{it}\n" for it in [*self.needed(used), *self.registers(), *lines])
-        small = [Counts(it.odd, it.two_qubit) for it in (before, after)]
+        small, smaller = (Counts(it.odd, it.two_qubit) for it in (before, after))
         rounded = rounded_angles([*self.circuit.declared, *self.circuit.statements])
         counts = commands.Counts(before, after)
-        return Parts(text, parts, len(found) - parts, left, *small, counts, rescued, tuple(late), rounded)
+        return Parts(text, parts, len(found) - parts, left, small, smaller, counts, rescued, tuple(late), rounded)
 
     def registers(self) -> Iterable[str]:
         """The declarations of registers, or those of `q` and `c`."""

@@ -257,7 +257,7 @@ class Reader:
         circuit = self.circuit
         found = register(it.text)
         if found and (found[1] in HEADER or found[1] in circuit.shapes.own):
-            taken = HEADER | KEYWORDS | set(library()) | set(circuit.shapes.own) | set(circuit.sizes) | set(circuit.bits)
+            taken = {*HEADER, *KEYWORDS, *library(), *circuit.shapes.own, *circuit.sizes, *circuit.bits}
             self.renamed[found[1]] = unused(f"{found[1]}_reg", taken)
         written = self.renamed.get(found[1]) if found else None
         before = len(circuit.qubits)

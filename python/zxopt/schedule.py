@@ -307,7 +307,7 @@ class Cutter(Generic[T]):
         for qubit, general, both in state["times"]:
             self.general[qubit], self.any[qubit] = general, both
         self.bits = {(register, bit): time for register, bit, time in state["bits"]}
-        self.written, self.read = (dict(map(tuple, it)) for it in state["registers"])
+        self.written, self.read = ({register: time for register, time in it} for it in state["registers"])
         self.count = state["count"]
         nodes: list[Node[T]] = []
         for time, index, weight, qubits, text in state["windows"]:

@@ -11,7 +11,7 @@ import hashlib
 import os
 import sys
 from contextlib import contextmanager
-from typing import IO, Any, Iterator, Optional
+from typing import IO, Any, Iterator, Optional, Union
 
 from .qasm import split
 from .windows import GREATEST_BYTES
@@ -22,6 +22,7 @@ __all__ = ["Source", "opened"]
 _TELLING = 1 << 20
 _BLOCK = 1 << 20
 _DECLARING = frozenset(("OPENQASM", "include", "gate", "opaque", "qreg", "creg"))
+_File = Union[IO[bytes], gzip.GzipFile]
 _MARK = b"\xef\xbb\xbf"
 
 
@@ -29,7 +30,7 @@ class Source:
     """A text that is read once, from some place on. `identity` tells it from others; `head` is what a slice reads
     before its own text, or none where all is read; `is_first` tells whether the head is to be written."""
 
-    def __init__(self, file: IO[bytes], identity: Any, is_read_once: bool = False) -> None:
+    def __init__(self, file: _File, identity: Any, is_read_once: bool = False) -> None:
         self.file = file
         self.identity = identity
         self.is_read_once = is_read_once
@@ -95,7 +96,7 @@ def opened(name: str, begin: Optional[int] = None, end: Optional[int] = None) ->
         yield source
 
 
-def _head_end(file: IO[bytes]) -> int:
+def _head_end(file: _File) -> int:
     """The byte at which the last declaration before the first gate ends."""
     size = 1 << 16
     while True:
@@ -114,7 +115,7 @@ def _head_end(file: IO[bytes]) -> int:
         size *= 2
 
 
-def _border(file: IO[bytes], byte: int) -> int:
+def _border(file: _File, byte: int) -> int:
     """Where slices meet: behind the first semicolon outside of a comment, behind the end of the line of a byte."""
     file.seek(byte)
     _skip_line(file)
@@ -134,7 +135,7 @@ def _border(file: IO[bytes], byte: int) -> int:
                 file.seek(at + comment + 1)
 
 
-def _skip_line(file: IO[bytes]) -> None:
+def _skip_line(file: _File) -> None:
     while True:
         part = file.readline(_BLOCK)
         if not part or part.endswith(b"\n"):

@@ -13,18 +13,18 @@ from __future__ import annotations
 import argparse
 import json
 import os
+import shutil
 import sys
 import time
 from collections import deque
 from concurrent.futures import Executor, Future
 from concurrent.futures.process import BrokenProcessPool
-from contextlib import ExitStack
 from dataclasses import asdict, dataclass, field
 from typing import Any, Callable, NamedTuple, Optional, Sequence, Union
 
 from . import arguments, slices, windows, workers
 from .commands import GateCounts
-from .program import find_program
+from .program import Program, find_program
 from .reading import Reader
 from .schedule import Limits, Node, Window, bundles
 from .states import State, Target, identity
@@ -68,14 +68,10 @@ class Totals:
     @classmethod
     def of(cls, told: dict[str, Any]) -> "Totals":
         """The totals of a state."""
-        return cls(
-            **{
-                **told,
-                "read": GateCounts(**told["read"]),
-                "written": GateCounts(**told["written"]),
-                "left_windows": [LeftWindow(*it) for it in told["left_windows"]],
-            }
-        )
+        out = cls(**told)
+        out.read, out.written = GateCounts(**told["read"]), GateCounts(**told["written"])
+        out.left_windows = [LeftWindow(*it) for it in told["left_windows"]]
+        return out
 
     def add(self, result: workers.Result) -> None:
         """Counts a window that was written."""
@@ -103,7 +99,7 @@ def optimise_stream(
     timeout: Optional[float] = None,
     anew: bool = False,
     every: float = 10.0,
-    program: Optional[str] = None,
+    program: Optional[Program] = None,
     executor: Optional[Executor] = None,
     progress: Optional[Callable[[Totals], None]] = None,
 ) -> Totals:
@@ -126,22 +122,25 @@ def optimise_stream(
     """
     if mode not in windows.MODES:
         raise ValueError(f"{mode} is none of {', '.join(windows.MODES)}")
-    program = program or find_program()
+    if jobs < 1 or gates < 1:
+        raise ValueError("the numbers of jobs and of gates are above 0")
+    named = os.fspath(program or find_program())
+    found = shutil.which(named)
+    if found is None:
+        raise FileNotFoundError(f"{named} is no program")
     settings = {"mode": mode, "gates": gates, "from": begin, "until": end, "barriers": keep_barriers}
     if source != "-" and os.path.exists(target) and os.path.samefile(source, target):
         raise ValueError(f"{target} is the file that is read")
-    with ExitStack() as stack:
-        text = stack.enter_context(slices.opened(source, begin, end))
-        what = {"settings": settings, "source": text.identity, "program": identity(program)}
-        to = stack.enter_context(Target(target, what, anew=anew, is_read_once=text.is_read_once))
-        pool = executor or stack.enter_context(workers.pool(jobs))
-        make = workers.Task("", "", (), mode, timeout, os.path.abspath(program), to.is_packed)
-        run = _Run(text, to, pool, make, gates, keep_barriers, 2 * jobs + 2)
-        run.every, run.progress = every, progress
-        try:
-            return run.done()
-        except BrokenProcessPool as broken:
-            raise OSError(f"a worker ended: {broken}") from None
+    with slices.opened(source, begin, end) as text:
+        what = {"settings": settings, "source": text.identity, "program": identity(found)}
+        with Target(target, what, anew, text.is_read_once) as to, workers.pool(jobs, executor) as pool:
+            make = workers.Task("", "", (), mode, timeout, os.path.abspath(found), to.is_packed)
+            run = _Run(text, to, pool, make, gates, keep_barriers, 2 * jobs + 2)
+            run.every, run.progress = every, progress
+            try:
+                return run.done()
+            except BrokenProcessPool as broken:
+                raise OSError(f"a worker ended: {broken}") from None
 
 
 def limits(gates: int) -> Limits:

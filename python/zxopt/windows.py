@@ -6,6 +6,7 @@ about the text of each window that the program reads, and the text that it write
 """
 from __future__ import annotations
 
+import os
 from collections import Counter
 from dataclasses import astuple
 from functools import lru_cache
@@ -101,17 +102,17 @@ def counted(lines: Iterable[str], declarations: str, own: Iterable[str], program
     for line, count in Counter(lines).items():
         shape, _, places = line.rpartition(" ")
         shapes[shape, places.count(",") + 1] += count
-    names = set(own)
+    names, named = set(own), None if program is None else os.fspath(program)
     sums = [0] * len(astuple(NO_GATES))
     for (shape, qubits), count in shapes.items():
         is_own = shape.partition("(")[0] in names
-        one = astuple(_shape_counts(shape, qubits, declarations if is_own else "", program))
+        one = astuple(_shape_counts(shape, qubits, declarations if is_own else "", named))
         sums = [it + count * more for it, more in zip(sums, one)]
     return GateCounts(*sums)
 
 
 @lru_cache(maxsize=1 << 14)
-def _shape_counts(shape: str, qubits: int, declarations: str, program: Optional[Program]) -> GateCounts:
+def _shape_counts(shape: str, qubits: int, declarations: str, program: Optional[str]) -> GateCounts:
     places = ",".join(f"q[{at}]" for at in range(qubits))
     text = f"{HEAD}{declarations}qreg q[{qubits}];\n{shape} {places};\n"
     try:

@@ -130,21 +130,22 @@ class _Window:
 
 
 @contextmanager
-def pool(jobs: int) -> Iterator[Executor]:
-    """So many processes for `work`. They end behind the block, and at once where it is left by an exception."""
+def pool(jobs: int, given: Optional[Executor] = None) -> Iterator[Executor]:
+    """So many processes for `work`, unless an executor is given. They end behind the block, and at once where it is left
+    by an exception."""
+    if given is not None:
+        yield given
+        return
     context = multiprocessing.get_context()
     reader, writer = context.Pipe(duplex=False)
     processes = ProcessPoolExecutor(jobs, context, _begin, (reader, writer))
     try:
         yield processes
-    except BaseException:
+        processes.shutdown()
+    finally:
+        # workers that still run end with this
         writer.close()
         processes.shutdown(wait=False, cancel_futures=True)
-        raise
-    finally:
-        if not writer.closed:
-            processes.shutdown()
-            writer.close()
         reader.close()
 
 
