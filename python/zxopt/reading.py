@@ -20,8 +20,9 @@ from .shapes import Shapes
 
 __all__ = ["Reader"]
 
-# How many statements are known at a time, and how many of other things that repeat.
+# How many statements are known at a time, and how many gates with their angles.
 KNOWN = 100_000
+SHAPES = 20_000
 # A gate that weighs more than this is looked at each time.
 KNOWN_WEIGHT = windows.GREATEST_CALLS // 10
 _SKIPPED = re.compile(r"\"[^\"\n]*\"|//[^\n]*")
@@ -300,7 +301,7 @@ class Reader:
     def forget(self) -> None:
         """Keeps what is known small."""
         circuit = self.circuit
-        if len(circuit.shapes.shapes) > KNOWN or len(circuit.shapes.known_calls) > KNOWN:
+        if len(circuit.shapes.shapes) > SHAPES or len(circuit.shapes.known_calls) > SHAPES:
             self.note_applied()
             circuit.shapes.shapes.clear()
             circuit.shapes.known_calls.clear()

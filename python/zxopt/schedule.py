@@ -48,14 +48,14 @@ class Limits(NamedTuple):
 
     gates: the gates of a window. qubits: its qubits. weight: the sum of its gates' weights; a gate may weigh a tenth of
     it at most where windows are filled past the cutter, and a window that has nine tenths is closed. open_gates: the
-    gates of all open windows together. stays: the operations that stay and wait behind open windows.
+    gates of all open windows together. places: the qubits and registers of bits of all operations that stay and wait.
     """
 
     gates: int = 1 << 62
     qubits: int = 1_024
     weight: int = 1_000_000
     open_gates: int = 1 << 62
-    stays: int = 1 << 62
+    places: int = 1 << 62
 
 
 class Window(Generic[T]):
@@ -131,6 +131,7 @@ class Cutter(Generic[T]):
         self.chains: dict[int, list[Node[T]]] = {}
         self.windows: dict[int, Window[T]] = {}
         self.stays: dict[int, Stay[T]] = {}
+        self.places = 0
         self.count = 0
 
     def add_qubits(self, count: int) -> None:
@@ -273,8 +274,9 @@ class Cutter(Generic[T]):
         for wire in stay.places:
             self.enter(wire, stay)
         self.stays[stay.index] = stay
-        if len(self.stays) > self.limits.stays:
-            self.close(list(self.stays.values())[: len(self.stays) // 2])
+        self.places += len(stay.places)
+        if self.places > self.limits.places:
+            self.let_out()
 
     def behind_bits(self, reads: Sequence[int], writes: Sequence[tuple[int, int]], time: int) -> int:
         """The least odd time from a given one on that leaves bits in order, which is noted as theirs."""
@@ -318,6 +320,7 @@ class Cutter(Generic[T]):
             nodes.append(window)
         for time, index, places, what in state["stays"]:
             self.stays[index] = Stay(what, places, time, index)
+            self.places += len(places)
             nodes.append(self.stays[index])
         for node in sorted(nodes, key=_order):
             for wire in node.wires():
@@ -343,6 +346,17 @@ class Cutter(Generic[T]):
             left -= len(window.gates)
         self.close(some)
 
+    def let_out(self) -> None:
+        """Lets the oldest of what stays out, until half of the places that may wait are free."""
+        some: list[Node[T]] = []
+        left = self.places
+        for stay in self.stays.values():
+            if left <= self.limits.places // 2:
+                break
+            some.append(stay)
+            left -= len(stay.places)
+        self.close(some)
+
     def close(self, some: Sequence[Node[T]]) -> None:
         """Lets out what is given, and before it all that has to stand before it."""
         nodes = self.with_all_before(some)
@@ -361,6 +375,7 @@ class Cutter(Generic[T]):
                 self.held -= len(node.gates)
             else:
                 del self.stays[node.index]
+                self.places -= len(node.places)
         if nodes:
             self.emit(nodes)
 

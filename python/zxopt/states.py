@@ -161,6 +161,11 @@ class Target:
         os.unlink(self.state_name)
         self.folder_on_disk()
 
+    def drop(self) -> None:
+        """Removes the file and its state, as that of a text that no run can read to its end."""
+        os.unlink(self.state_name)
+        os.unlink(self.name)
+
     def replace_state(self, text: str) -> None:
         new = f"{self.state_name}.new"
         try:

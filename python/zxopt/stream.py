@@ -23,6 +23,7 @@ from dataclasses import asdict, dataclass, field
 from typing import Any, Callable, NamedTuple, Optional, Sequence, Union
 
 from . import arguments, slices, windows, workers
+from .circuit import CannotCut
 from .commands import GateCounts
 from .program import Program, find_program
 from .reading import Reader
@@ -36,8 +37,8 @@ __all__ = ["LeftWindow", "Totals", "main", "optimise_stream"]
 CHUNK = 1 << 18
 # Bytes that wait behind windows that are under way.
 WAITING = 16 << 20
-# Operations that stay and wait behind open windows.
-STAYS = 20_000
+# Qubits and registers of bits of operations that stay and wait behind open windows.
+PLACES = 50_000
 # Windows that are told one by one where something went wrong.
 TOLD = 1_000
 
@@ -115,7 +116,7 @@ def optimise_stream(
     The two files are gz files where their names end with `.gz`; equality is then of the unpacked text.
 
     Raises CannotCut, a ValueError, where the text isn't one that the program would take but for single statements, or a
-    name clashes: `zxopt.prepare` helps with many of these. ValueError where a state beside `target` is of another
+    name clashes: `zxopt.prepare` helps with many of these; then `target` is removed. ValueError where a state beside `target` is of another
     source, program or setting, a slice is asked of standard input or a gz file, or `target` is no file; BlockingIOError
     where another run writes `target`. MemoryError and OSError are those of `zxopt.program.run` and of files; the state
     stays then, as it does where the process ends in any other way.
@@ -139,13 +140,16 @@ def optimise_stream(
             run.every, run.progress = every, progress
             try:
                 return run.done()
+            except CannotCut:
+                to.drop()
+                raise
             except BrokenProcessPool as broken:
                 raise OSError(f"a worker ended: {broken}") from None
 
 
 def limits(gates: int) -> Limits:
     """The limits of windows of so many gates."""
-    return Limits(gates, windows.GREATEST_QUBITS, windows.GREATEST_CALLS, max(400_000, 20 * gates), STAYS)
+    return Limits(gates, windows.GREATEST_QUBITS, windows.GREATEST_CALLS, max(400_000, 20 * gates), PLACES)
 
 
 class _Lines:

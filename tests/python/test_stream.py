@@ -187,11 +187,12 @@ class Texts(InFiles):
             for chunk in (3, 1 << 18):
                 with self.subTest(rest=rest, chunk=chunk), mock.patch("zxopt.stream.CHUNK", chunk):
                     with self.assertRaises(CannotCut) as caught:
-                        self.streamed(HEAD + rest, anew=True)
+                        self.streamed(HEAD + rest)
+                    self.assertEqual(os.listdir(self.room), ["read.qasm"])
                     self.assertEqual(caught.exception.line, line)
                     self.assertIn(said, str(caught.exception))
         with self.assertRaises(CannotCut):
-            self.streamed("qreg q[1]; h q[0];", anew=True)
+            self.streamed("qreg q[1]; h q[0];")
 
     def test_names_of_gates_and_registers(self) -> None:
         """Registers that are named as gates are renamed where they stand, also where statements stay."""
@@ -318,7 +319,7 @@ class Slices(InFiles):
     def test_late_declarations_are_refused(self) -> None:
         for late in ("qreg r[1];", "gate foo a { h a; }"):
             text = HEAD + f"qreg q[1];\nh q[0];\nh q[0];\n{late}\nh q[0];\n"
-            self.streamed(text, anew=True)
+            self.streamed(text)
             with self.subTest(late=late), self.assertRaisesRegex(CannotCut, "before the first gate|has no end"):
                 self.slices(text, [len(HEAD) + 20])
 
