@@ -12,9 +12,9 @@ program is $ZXOPT, or the one that was built beside this package, or `zxopt` on 
 
 The functions are safe from several threads. `python3 -m zxopt` has the same and more as commands. These modules stand
 beside, and are imported when they are asked for: `zxopt.prepare` makes texts of the usual tools such that the program
-reads them; `zxopt.parts` optimises what can be of texts that the program refuses for a statement; `zxopt.batch`
-optimises many files on all processors; `zxopt.spelling` writes gates in other words; `zxopt.qiskit` has a pass and a
-stage for Qiskit's transpiler.
+reads them; `zxopt.parts` optimises what can be of texts that the program refuses for a statement; `zxopt.stream`
+does so for texts of any size; `zxopt.batch` optimises many files on all processors; `zxopt.spelling` writes gates in
+other words; `zxopt.qiskit` has a pass and a stage for Qiskit's transpiler.
 """
 from __future__ import annotations
 
@@ -45,7 +45,7 @@ from .faults import FAULTS, Fault, NoFlow, Refused
 from .program import find_program, run
 
 if TYPE_CHECKING:
-    from . import batch, counting, parts, prepare, pytket, pyzx, qiskit, spelling
+    from . import batch, counting, parts, prepare, pytket, pyzx, qiskit, spelling, stream
     from .counting import Measures, measures
 
 __version__ = "1.0.0"
@@ -84,10 +84,11 @@ __all__ = [
     "run",
     "same",
     "spelling",
+    "stream",
     "teleport",
 ]
 
-_MODULES = frozenset(("batch", "counting", "parts", "prepare", "pytket", "pyzx", "qiskit", "spelling"))
+_MODULES = frozenset(("batch", "counting", "parts", "prepare", "pytket", "pyzx", "qiskit", "spelling", "stream"))
 _COUNTING = frozenset(("Measures", "measures"))
 
 

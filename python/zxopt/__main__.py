@@ -22,6 +22,7 @@ usage: python3 -m zxopt COMMAND ..      (COMMAND --help tells its words)
   prepare [FILE]           puts a text of the usual tools into the form that the program reads
   parts [FILE]             optimises what can be of a text that the program refuses for a statement
   batch FILE.. --to FOLDER optimises many files on all processors
+  stream FILE --to FILE    optimises a text of any size in constant memory, and goes on where it was interrupted
   compile [FILE]           writes a circuit for a diagram file
   graph [FILE]             writes a diagram file's graph-like form
   flow [FILE]              says whether the table of a graph file is a flow; exit status 6 where it isn't
@@ -68,7 +69,7 @@ def _described(command: str) -> _Command:
 
 
 def _opt_parser(command: str) -> argparse.ArgumentParser:
-    about = "Optimises a text of OpenQASM 2.0. Where a time limit is met with --best, one circuit is made."
+    about = "Optimises a text of OpenQASM 2.0. Where a time limit is met with --best, `teleport` takes it in windows."
     parser = arguments.writes_one(arguments.parser(command, about))
     arguments.spellings(arguments.takes_seconds(arguments.takes_best(parser, False)))
     parser.add_argument("--report", action="store_true", help="add the counts of gates as two comment lines")
@@ -87,12 +88,23 @@ def _opt(asked: argparse.Namespace) -> int:
     try:
         written = made(asked.best)
     except TimeoutError as late:
-        if not asked.best:
+        if not asked.best or asked.scalar:
             raise
-        print(f"zxopt opt: {late}; without --best:", file=sys.stderr)
-        written = made(False)
+        print(f"zxopt opt: {late}; teleport in windows:", file=sys.stderr)
+        written = _in_windows(text, asked)
     cli.write_text(_respelled(written, asked.spelled), asked.to)
     return 0
+
+
+def _in_windows(text: bytes, asked: argparse.Namespace) -> str:
+    """What `opt` writes where the best circuit takes too long: two-qubit gates don't become more by that."""
+    from .parts import teleport_in_windows
+    from .windows import report
+
+    made = teleport_in_windows(text, timeout=asked.seconds)
+    for it in made.late:
+        print(f"zxopt opt: {it}", file=sys.stderr)
+    return made.text + (report(made.counts) if asked.report else "")
 
 
 def _teleport_parser(command: str) -> argparse.ArgumentParser:
@@ -215,7 +227,7 @@ _COMMANDS: Dict[str, _Command] = {
 }
 
 # Commands with a module of their own, which has `command_parser` and `command`.
-_MODULES = {"measures": "counting", "prepare": "prepare", "parts": "parts", "batch": "batch"}
+_MODULES = {"measures": "counting", "prepare": "prepare", "parts": "parts", "batch": "batch", "stream": "stream"}
 
 if __name__ == "__main__":
     sys.exit(main())

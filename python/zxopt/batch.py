@@ -15,14 +15,15 @@ import shutil
 import sys
 import time
 from concurrent.futures import ThreadPoolExecutor
-from dataclasses import dataclass
+from dataclasses import dataclass, replace
 from pathlib import Path
 from typing import IO, Any, Iterable, Iterator, List, Optional, Sequence, Tuple
 
-from . import arguments, cli, spelling
-from .commands import Comparison, optimise_counted, same
+from . import arguments, cli, spelling, windows
+from .commands import Comparison, Counts, counts, optimise_counted, same
 from .counting import Measures, measures
 from .faults import Refused
+from .parts import Parts, optimise_parts, teleport_in_windows
 from .prepare import GREATEST_WITHIN, prepare
 from .program import Program, find_program
 from .rounded import told as told_of_rounded
@@ -46,10 +47,11 @@ class Job:
 class Settings:
     """How files are optimised.
 
-    best: takes the best of several circuits. seconds: how long one call of the program may take; where `best` takes
-    longer, the file is optimised without it, with as many seconds again. check: asks `same` of each result.
+    best: takes the best of several circuits. teleport: changes phases alone, and goes before `best`. seconds: how long
+    one call of the program may take; where one of these takes longer, `teleport` takes the file in windows of 10,000
+    gates, each with as many seconds again; what takes longer then stays as it was read. check: asks `same` of each result.
     prepare: each text goes through `zxopt.prepare` first, and what is checked is the text that this writes. parts: it
-    is optimised by `zxopt.parts`, where a part that takes longer than `seconds` is left as it was read; `same` can't be
+    is optimised by `zxopt.parts`, where a part that takes longer than `seconds` goes the same way; `same` can't be
     asked of a text that the program refuses as a whole. spelled: `only-t` or `by-cx`, a spelling of what is written.
     program: the program. within: a distance in radians; angles that lie so close to a multiple of pi/8 are taken for it
     by `zxopt.prepare`, through which each text goes then. measured: counts both texts by `zxopt.measures`.
@@ -64,6 +66,7 @@ class Settings:
     program: Optional[Program] = None
     within: Optional[float] = None
     measured: bool = False
+    teleport: bool = False
 
     def __post_init__(self) -> None:
         """Raises ValueError where a number is out of its range, since no text is to blame for that."""
@@ -188,9 +191,10 @@ def command_parser(command: str) -> argparse.ArgumentParser:
     arguments.takes_jobs(arguments.takes_best(parser, True), "files")
     arguments.takes_seconds(
         parser,
-        "a time limit for each: where the best circuit takes longer, one alone is made, in as many seconds again",
+        "a time limit for each: where the best circuit takes longer, teleport takes it in windows, each with this limit",
     )
     arguments.takes_within(parser)
+    add("--teleport", action="store_true", help="change phases alone, so that all other gates stay")
     add("--check", action="store_true", help="ask of each file whether it is the same; a yes is always right")
     add("--csv", metavar="FILE", help="write a table of all files, too")
     add("--prepare", action="store_true", help="put each text into the program's form first, exactly")
@@ -230,6 +234,7 @@ def _settings(asked: argparse.Namespace) -> Settings:
         program=program,
         within=asked.within,
         measured=asked.csv is not None,
+        teleport=asked.teleport,
     )
 
 
@@ -281,33 +286,63 @@ def _measured(read: bytes, written: str) -> Optional[Tuple[Measures, Measures]]:
 
 def _optimised(text: bytes, settings: Settings) -> Tuple[_Written, bool]:
     """What is made of a text, and whether the best of several circuits was taken."""
-    make = _in_parts if settings.parts else _as_a_whole
-    if settings.best:
-        try:
-            return make(text, True, settings), True
-        except TimeoutError:
-            pass
-    return make(text, False, settings), False
+    if settings.parts:
+        return _in_parts(text, settings)
+    try:
+        return (_teleported if settings.teleport else _as_a_whole)(text, settings), settings.best
+    except TimeoutError:
+        if not (settings.best or settings.teleport):
+            raise
+    return _in_windows(text, settings), False
 
 
-def _as_a_whole(text: bytes, best: bool, settings: Settings) -> _Written:
-    made = optimise_counted(text, best, timeout=settings.seconds, program=settings.program)
-    read, written = made.counts.read, made.counts.written
-    spelled = _SPELLERS[settings.spelled](made.text) if settings.spelled else made.text
+def _as_a_whole(text: bytes, settings: Settings) -> _Written:
+    made = optimise_counted(text, settings.best, timeout=settings.seconds, program=settings.program)
+    return _counted(made.text, made.counts, settings)
+
+
+def _teleported(text: bytes, settings: Settings) -> _Written:
+    read = counts(text, False, timeout=settings.seconds, program=settings.program).read
+    made = windows.made(text, "teleport", settings.seconds, settings.program)
+    return _counted(made.text, Counts(read, made.written), settings)
+
+
+def _counted(text: str, made: Counts, settings: Settings) -> _Written:
+    read, written = made.read, made.written
+    spelled = _SPELLERS[settings.spelled](text) if settings.spelled else text
     return _Written(
         spelled, (read.odd, written.odd), (read.two_qubit, written.two_qubit), (read.gates, written.gates)
     )
 
 
-def _in_parts(text: bytes, best: bool, settings: Settings) -> _Written:
-    from .parts import optimise_parts
+def _in_windows(text: bytes, settings: Settings) -> _Written:
+    """What is written where a circuit takes too long as a whole."""
+    made = teleport_in_windows(text, timeout=settings.seconds, program=settings.program)
+    if made.late and settings.spelled:
+        raise TimeoutError(f"gates that took too long have no other spelling: {made.late[0]}")
+    written = _counted(made.text, made.counts, settings)
+    return replace(written, told="; ".join([f"teleport in {_many(made.parts, 'window', 'windows')}", *_left(made)]))
 
-    made = optimise_parts(text, best=best, timeout=settings.seconds, program=settings.program)
-    told = f"{_many(made.parts, 'part', 'parts')}, {_many(made.kept, 'statement stays', 'statements stay')}"
+
+def _in_parts(text: bytes, settings: Settings) -> Tuple[_Written, bool]:
+    made = optimise_parts(
+        text, best=settings.best, teleport=settings.teleport, timeout=settings.seconds, program=settings.program
+    )
+    told = [f"{_many(made.parts, 'part', 'parts')}, {_many(made.kept, 'statement stays', 'statements stay')}"]
+    if made.rescued:
+        told.append(f"{_many(made.rescued, 'part', 'parts')} by teleport in windows, for its time")
     if made.rounded:
-        told += f"; {told_of_rounded(made.rounded)}"
+        told.append(told_of_rounded(made.rounded))
     t, two_qubit = (made.before.t, made.after.t), (made.before.two_qubit, made.after.two_qubit)
-    return _Written(made.text, t, two_qubit, told=told)
+    is_best = settings.best and not settings.teleport and not made.rescued
+    return _Written(made.text, t, two_qubit, told="; ".join([*told, *_left(made)])), is_best
+
+
+def _left(made: Parts) -> List[str]:
+    """What is told of gates that were left as they were read: how many windows, and the first of them."""
+    if not made.late:
+        return []
+    return [f"{_many(len(made.late), 'window', 'windows')} left as read, the first at {made.late[0]}"]
 
 
 def _checked(read: bytes, written: str, settings: Settings) -> Tuple[str, str]:

@@ -75,16 +75,19 @@ class Circuit:
         else:
             self.statements.append(it)
 
-    def add_register(self, it: Statement) -> None:
+    def add_register(self, it: Statement, written: Optional[str] = None) -> None:
+        """Takes a register's declaration; `written` is its name where it is written, if that is another."""
         found = register(it.text)
         if not found or found[2] > 1 << 20:
             raise CannotCut(f"{it.head()} declares no register here", it.line)
         kind, name, size = found
+        if name in self.bits or name in self.sizes:
+            raise CannotCut(f"{name} is declared a second time", it.line)
         if kind == "creg":
             self.bits[name] = (len(self.bits), size)
         else:
             self.sizes[name] = (len(self.qubits), size)
-            self.qubits.extend(f"{name}[{at}]" for at in range(size))
+            self.qubits.extend(f"{written or name}[{at}]" for at in range(size))
 
     # -- operations ---------------------------------------------------------------------------------------------------
 
@@ -103,7 +106,7 @@ class Circuit:
         if usual is not None:
             out.append(usual)
             return
-        one = call(it.text)
+        one = call(it.text if it.text.isprintable() else squeezed(it.text))
         if one is None:
             stays = self.other(it.text, it.line)
             if stays is not None:

@@ -2,9 +2,10 @@
 
 A text may have what the program refuses: `if`, `reset`, gates behind measurements, gates with angles finer than pi/8
 or with any others, opaque gates and gates that aren't declared. These statements stay. What lies between them is
-brought together into parts, each of which is a circuit of the program's language and goes through `zxopt opt`; a part
-ends too before a million calls, 16 MiB or 1,024 qubits are exceeded. Registers, names and the order of what stays on
-a qubit remain; comments and, unless they are asked for, barriers go.
+brought together into parts, each of which is a circuit of the program's language and goes through `zxopt opt`. A part
+takes as much as one run of the program does: a million calls, 16 MiB, 1,024 qubits; where a text has more, parts follow
+its qubits, and not its order. Registers, names and the order of what stays on a qubit remain; comments and, unless they
+are asked for, barriers go.
 
 Why this is sound. Operations exchange their places only where they commute (see `schedule`): where they share no
 qubit and no bit, or are diagonal on each qubit that they share. So the text in its new order has the channel of the
@@ -24,37 +25,28 @@ import re
 import sys
 from concurrent.futures import ThreadPoolExecutor
 from dataclasses import dataclass
-from typing import Callable, NamedTuple, Optional, Sequence, Union
+from typing import Callable, Iterable, NamedTuple, Optional, Sequence, Union
 
-from zxopt import arguments, cli
+from zxopt import arguments, cli, commands, windows
 from zxopt.circuit import CannotCut, Circuit
+from zxopt.commands import GateCounts
 from zxopt.faults import Refused
-from zxopt.names import declared
-from zxopt.program import Program, run
 from zxopt.prepare import prepare
-from zxopt.qasm import Statement, squeezed
+from zxopt.program import Program
+from zxopt.qasm import squeezed
 from zxopt.rounded import rounded_angles, told
-from zxopt.schedule import Operation, layers
+from zxopt.schedule import Cutter, Limits, Node, Operation, Window, bundles
 from zxopt.sources import decoded
 from zxopt.texts import Text
 
-__all__ = ["CannotCut", "Counts", "Parts", "main", "optimise_parts"]
+__all__ = ["CannotCut", "Counts", "Left", "Parts", "main", "optimise_parts", "teleport_in_windows"]
 
-GREATEST_CALLS = 1_000_000
-GREATEST_BYTES = 16_000_000
-GREATEST_QUBITS = 1_024
-# Faults of a statement that stays as it is.
-_STAYS = frozenset((6, 10, 15, 16, 17, 18, 19))
-# A single one of these gates is left alone: the numbers of T and of gates on two qubits that it counts.
-_SINGLE = {
-    **dict.fromkeys(("id", "x", "y", "z", "h", "s", "sdg"), (0, 0)),
-    **dict.fromkeys(("t", "tdg"), (1, 0)),
-    **dict.fromkeys(("cx", "cz"), (0, 1)),
-}
-_REPORT = re.compile(r"// (?:read|written) gates \d+ odd (\d+) two-qubit (\d+) ")
+# The gates of a window where a part took too long: some tenths of a second of `teleport`.
+RESCUE_GATES = 10_000
+# A single one of these gates is left alone.
+_SINGLE = frozenset(("id", "x", "y", "z", "h", "s", "sdg", "t", "tdg", "cx", "cz"))
 _PLACE = re.compile(r"q\[(\d+)\]")
 _NAME = re.compile(r"[^\W\d]\w*")
-_HEAD = 'OPENQASM 2.0;\ninclude "qelib1.inc";\n'
 
 
 class Counts(NamedTuple):
@@ -64,11 +56,25 @@ class Counts(NamedTuple):
     two_qubit: int
 
 
+class Left(NamedTuple):
+    """Gates that were left as they were read, since the program took too long: how many, from which line of the text
+    that was read on, and why."""
+
+    line: int
+    gates: int
+    why: str
+
+    def __str__(self) -> str:
+        return f"line {self.line}: {self.gates} gates from here on are left as they were read: {self.why}"
+
+
 @dataclass(frozen=True)
 class Parts:
     """The text that is written, the number of its parts, of statements that stay, and of parts that were left as they
-    were read since the program's circuit wasn't better or took too long; what the parts count before and after; and how
-    many angles lie within 1e-9 of a multiple of pi/8 and stay, since they aren't one."""
+    were read since the program's circuit wasn't better or took too long; what the parts count before and after, and the
+    same in full; how many parts took too long and went through `teleport` in windows, and which gates were left as they
+    were read since even that took too long; and how many angles lie within 1e-9 of a multiple of pi/8 and stay, since
+    they aren't one."""
 
     text: str
     parts: int
@@ -76,6 +82,9 @@ class Parts:
     left: int
     before: Counts
     after: Counts
+    counts: commands.Counts
+    rescued: int = 0
+    late: tuple[Left, ...] = ()
     rounded: int = 0
 
 
@@ -89,17 +98,22 @@ class _Piece(NamedTuple):
 
 
 class _Done(NamedTuple):
-    """A part as it is written: lines that name qubits by `q[..]`, or none where it stays as it was read; its counts."""
+    """A part as it is written: lines that name qubits by `q[..]`, or none where it stays as it was read; its counts;
+    what of it took too long, and whether it went through `teleport` in windows."""
 
     lines: Optional[list[str]]
-    before: Counts
-    after: Counts
+    before: GateCounts
+    after: GateCounts
+    late: tuple[Left, ...] = ()
+    is_rescued: bool = False
 
 
 def optimise_parts(
     text: Text,
     *,
     best: bool = True,
+    teleport: bool = False,
+    gates: Optional[int] = None,
     jobs: int = 1,
     keep_barriers: bool = False,
     timeout: Optional[float] = None,
@@ -108,9 +122,12 @@ def optimise_parts(
 ) -> Parts:
     """Optimises a text part by part.
 
-    `best` takes `opt --best`; `jobs` parts run side by side. With `keep_barriers` barriers stay, and gates don't
-    cross them. `timeout`, in seconds, is that of each run of the program; a part that takes longer is left as it was
-    read. `progress` is called with the number of parts that are done, and that of all, by one thread at a time.
+    `best` takes `opt --best`; `teleport`, which goes before it, changes phases alone. `gates` is how many gates a part
+    may have; else as many as one run of the program takes. `jobs` parts run side by side. With `keep_barriers` barriers
+    stay, and gates don't cross them. `timeout`, in seconds, is that of each run of the program: of a part that takes
+    longer, windows of 10,000 gates go through `teleport`, each with as many seconds, and what takes longer then is left
+    as it was read. `progress` is called with the number of parts that are done, and that of all, by one thread at a
+    time.
 
     Raises CannotCut where the text isn't one that the program would take but for single statements: `zxopt.prepare`
     helps with many of these. MemoryError and OSError are those of `zxopt.program.run`; ValueError where `jobs` or
@@ -118,84 +135,74 @@ def optimise_parts(
     """
     if jobs < 1:
         raise ValueError(f"{jobs} parts at a time: the number isn't above 0")
-    cutting = _Cutting(decoded(text, []), best, jobs, keep_barriers)
+    mode = "teleport" if teleport else "best" if best else "plain"
+    cutting = _Cutting(decoded(text, []), mode, jobs, keep_barriers, gates)
     cutting.timeout, cutting.program, cutting.progress = timeout, program, progress
     return cutting.done()
 
 
+def teleport_in_windows(text: Text, *, timeout: Optional[float] = None, program: Optional[Program] = None) -> Parts:
+    """What is written in place of a circuit that takes too long as a whole: phases change, within windows of 10,000
+    gates, and no gate on two qubits is added. Registers are `q` and `c`, as the program writes them.
+
+    `timeout` and exceptions are as in `optimise_parts`.
+    """
+    cutting = _Cutting(decoded(text, []), "teleport", 1, False, RESCUE_GATES)
+    cutting.timeout, cutting.program, cutting.is_flat = timeout, program, True
+    return cutting.done()
+
+
 class _Cutting:
-    def __init__(self, text: str, best: bool, jobs: int, keep_barriers: bool) -> None:
+    def __init__(self, text: str, mode: str, jobs: int, keep_barriers: bool, gates: Optional[int]) -> None:
         self.circuit = Circuit(text, keep_barriers)
-        self.words = ["opt", "--report", *(["--best"] if best else [])]
+        self.mode = mode
+        self.limits = Limits(weight=windows.GREATEST_CALLS, qubits=windows.GREATEST_QUBITS)
+        if gates is not None:
+            self.limits = self.limits._replace(gates=gates)
         self.jobs = jobs
+        self.is_flat = False
         self.timeout: Optional[float] = None
         self.program: Optional[Program] = None
         self.progress: Optional[Callable[[int, int], None]] = None
         self.results: dict[str, _Done] = {}
 
     def done(self) -> Parts:
-        self.check_head()
+        windows.check_head(self.circuit, self.timeout, self.program)
         while True:
-            circuit = self.circuit
-            found = layers(circuit.operations(), len(circuit.qubits), len(circuit.bits))
-            pieces = [self.pieces(layer) if not at % 2 else [] for at, layer in enumerate(found)]
-            if self.work([it for those in pieces for it in those]):
-                return self.written(found, pieces)
-
-    # -- the head -----------------------------------------------------------------------------------------------------
-
-    def check_head(self) -> None:
-        """Lets the program read the head, the declarations and the registers.
-
-        It refuses gates that stay for that alone.
-        """
-        shapes = self.circuit.shapes
-        while True:
-            known = [it for it in self.circuit.declared if declared(it.text) not in shapes.foreign]
-            statements = [*self.circuit.head, *known, *self.fitting_registers()]
-            text = "".join(f"{squeezed(it.text)}\n" for it in statements)
-            try:
-                run(["opt"], text, timeout=self.timeout, program=self.program)
-                return
-            except Refused as refused:
-                at = (refused.line or 1) - 1
-                it = statements[at] if at < len(statements) else None
-                if it is None or it not in known or refused.number not in _STAYS:
-                    raise CannotCut(f"{refused.sentence} (fault {refused.number})", it.line if it else 1) from None
-                shapes.set_aside(declared(it.text))
-
-    def fitting_registers(self) -> list[Statement]:
-        """The registers, as long as all together aren't more than the program takes."""
-        circuit = self.circuit
-        many = len(circuit.qubits) > GREATEST_QUBITS or sum(size for _, size in circuit.bits.values()) > 1 << 16
-        return [] if many else circuit.registers
+            found = self.cut(self.circuit.operations(), self.limits)
+            if self.work([it for it in found if isinstance(it, _Piece)]):
+                return self.written(found)
 
     # -- parts --------------------------------------------------------------------------------------------------------
 
-    def pieces(self, operations: Sequence[Operation]) -> list[_Piece]:
-        """The gates of one layer as texts that the program takes: one, unless its limits ask for more."""
-        out: list[_Piece] = []
-        one: list[Operation] = []
-        calls = size = 0
-        used: set[int] = set()
-        is_wide = len(self.circuit.qubits) > GREATEST_QUBITS
-        for it in operations:
-            calls, size = calls + it.calls, size + len(it.text) + 9 * len(it.qubits) + 2
-            is_wider = is_wide and len(used) + sum(qubit not in used for qubit in it.qubits) > GREATEST_QUBITS
-            if one and (calls > GREATEST_CALLS or size > GREATEST_BYTES or is_wider):
-                out.append(self.piece(one))
-                one, calls, size, used = [], it.calls, len(it.text), set()
-            one.append(it)
-            if is_wide:
-                used.update(it.qubits)
-        return [*out, self.piece(one)] if one else out
+    def cut(self, operations: Sequence[Operation], limits: Limits) -> list[Union[_Piece, Operation]]:
+        """The parts, and what stays, in an order in which they may be done."""
+        out: list[Union[_Piece, Operation]] = []
+
+        def emit(nodes: list[Node[int]]) -> None:
+            for it in bundles(nodes, limits):
+                if isinstance(it, Window):
+                    out.append(self.piece([operations[at] for at in sorted(it.gates)]))
+                else:
+                    out.append(operations[it.what])
+
+        cutter: Cutter[int] = Cutter(limits, emit)
+        cutter.add_qubits(len(self.circuit.qubits))
+        for at, it in enumerate(operations):
+            if it.calls:
+                size = len(it.text) + 9 * len(it.qubits) + 2
+                cutter.add_gate(at, it.qubits, it.diagonal, windows.weight(it.calls, size))
+            else:
+                cutter.add_stay(at, it.qubits, it.diagonal, it.reads, it.writes)
+        cutter.end()
+        return out
 
     def piece(self, operations: list[Operation]) -> _Piece:
         qubits = sorted({qubit for it in operations for qubit in it.qubits})
         number = {qubit: f"q[{at}]" for at, qubit in enumerate(qubits)}
         head = [f"{it}\n" for it in self.needed({_NAME.findall(it.text)[0] for it in operations})]
         lines = [f"{it.text} {','.join([number[qubit] for qubit in it.qubits])};\n" for it in operations]
-        text = f"{_HEAD}{''.join(head)}qreg q[{len(qubits)}];\n{''.join(lines)}"
+        text = f"{windows.HEAD}{''.join(head)}qreg q[{len(qubits)}];\n{''.join(lines)}"
         return _Piece(text, 3 + len(head), qubits, operations)
 
     def needed(self, wanted: set[str]) -> list[str]:
@@ -232,26 +239,59 @@ class _Cutting:
 
     def is_single(self, piece: _Piece) -> bool:
         """Whether a part is one gate that nothing betters; it is settled then."""
-        if len(piece.operations) > 1 or piece.operations[0].text not in _SINGLE:
+        name = piece.operations[0].text
+        if len(piece.operations) > 1 or name not in _SINGLE or name not in self.circuit.shapes.standard:
             return False
-        if piece.operations[0].text not in self.circuit.shapes.standard:
-            return False
-        counts = Counts(*_SINGLE[piece.operations[0].text])
+        counts = self.counted(piece)
         self.results[piece.text] = _Done(None, counts, counts)
         return True
 
+    def counted(self, piece: _Piece) -> GateCounts:
+        """The counts of a part as it was read."""
+        lines = piece.text.splitlines()
+        return windows.counted(
+            lines[piece.lines :], "".join(f"{it}\n" for it in lines[2 : piece.lines - 1]), self.circuit.shapes.own, self.program
+        )
+
     def optimise(self, piece: _Piece) -> Union[_Done, Refused]:
         try:
-            written = run(self.words, piece.text, timeout=self.timeout, program=self.program)[0]
+            return self.asked(piece, self.mode)
         except Refused as refused:
             return refused
-        except TimeoutError:
-            return _Done(None, Counts(0, 0), Counts(0, 0))
-        lines = written.splitlines()
-        before, after = (Counts(int(it[1]), int(it[2])) for it in map(_REPORT.match, lines[-2:]) if it)
-        if after > before:
-            return _Done(None, before, before)
-        return _Done([it for it in lines[2:-2] if not it.startswith(("qreg", "creg"))], before, after)
+        except TimeoutError as late:
+            is_small = self.mode == "teleport" and len(piece.operations) <= RESCUE_GATES
+            return self.left(piece, late) if is_small else self.rescued(piece)
+
+    def asked(self, piece: _Piece, mode: str) -> _Done:
+        """What the program makes of a part in a mode."""
+        done = windows.made(piece.text, mode, self.timeout, self.program)
+        before = self.counted(piece) if done.read is None else done.read
+        if windows.is_better(before, done.written):
+            return _Done(done.lines, before, done.written)
+        return _Done(None, before, before)
+
+    def left(self, piece: _Piece, late: TimeoutError) -> _Done:
+        """A part that took too long, as it was read."""
+        counts = self.counted(piece)
+        why = Left(piece.operations[0].line, len(piece.operations), str(late) or "it took too long")
+        return _Done(None, counts, counts, (why,))
+
+    def rescued(self, piece: _Piece) -> _Done:
+        """A part that took too long, by `teleport` in windows."""
+        place = {qubit: f"q[{at}]" for at, qubit in enumerate(piece.qubits)}
+        lines: list[str] = []
+        late: list[Left] = []
+        before = after = windows.NO_GATES
+        for it in self.cut(piece.operations, self.limits._replace(gates=min(RESCUE_GATES, self.limits.gates))):
+            assert isinstance(it, _Piece), "a part has gates alone"
+            try:
+                done = self.asked(it, "teleport")
+            except TimeoutError as again:
+                done = self.left(it, again)
+            before, after = windows.added(before, done.before), windows.added(after, done.after)
+            late += done.late
+            lines += _placed(it, done, place)
+        return _Done(lines, before, after, tuple(late), True)
 
     def refuse(self, piece: _Piece, refused: Refused) -> None:
         """Notes that a statement of a part stays, since the program refuses it."""
@@ -259,39 +299,60 @@ class _Cutting:
         if not 0 <= at < len(piece.operations):
             raise CannotCut(f"{refused.sentence} (fault {refused.number})", piece.operations[0].line)
         it = piece.operations[at]
-        if refused.number not in _STAYS:
+        if refused.number not in windows.STAYS:
             raise CannotCut(f"{refused.sentence} (fault {refused.number})", it.line)
         self.circuit.shapes.refuse(it.text)
 
     # -- writing ------------------------------------------------------------------------------------------------------
 
-    def written(self, found: list[list[Operation]], pieces: list[list[_Piece]]) -> Parts:
+    def written(self, found: Sequence[Union[_Piece, Operation]]) -> Parts:
         """The whole text, and its counts."""
         lines: list[str] = []
-        before, after = Counts(0, 0), Counts(0, 0)
-        left = 0
-        for layer, those in zip(found, pieces):
-            for piece in those:
-                done = self.results[piece.text]
-                lines += self.lines_of(piece, done)
-                left += done.lines is None
-                before = Counts(before.t + done.before.t, before.two_qubit + done.before.two_qubit)
-                after = Counts(after.t + done.after.t, after.two_qubit + done.after.two_qubit)
-            if not those:
-                lines += [it.text for it in layer]
+        before = after = windows.NO_GATES
+        late: list[Left] = []
+        left = parts = rescued = 0
+        place = {at: f"q[{at}]" if self.is_flat else name for at, name in enumerate(self.circuit.qubits)}
+        for it in found:
+            if isinstance(it, Operation):
+                lines += self.flat_measures(it) if self.is_flat else [it.text]
+                continue
+            done = self.results[it.text]
+            lines += _placed(it, done, place)
+            parts += 1
+            left += done.lines is None
+            late += done.late
+            rescued += done.is_rescued
+            before, after = windows.added(before, done.before), windows.added(after, done.after)
         used = {name for text in set(lines) for name in _NAME.findall(text)}
-        head = [*self.needed(used), *(squeezed(it.text) for it in self.circuit.registers)]
-        kept = sum(len(layer) for layer in found[1::2])
-        text = _HEAD + "".join(f"{it}\n" for it in [*head, *lines])
+        text = windows.HEAD + "".join(f"{it}\n" for it in [*self.needed(used), *self.registers(), *lines])
+        small, smaller = (Counts(it.odd, it.two_qubit) for it in (before, after))
         rounded = rounded_angles([*self.circuit.declared, *self.circuit.statements])
-        return Parts(text, sum(map(len, pieces)), kept, left, before, after, rounded)
+        counts = commands.Counts(before, after)
+        return Parts(text, parts, len(found) - parts, left, small, smaller, counts, rescued, tuple(late), rounded)
 
-    def lines_of(self, piece: _Piece, done: _Done) -> list[str]:
-        qubits = self.circuit.qubits
-        if done.lines is None:
-            return [f"{it.text} {','.join([qubits[at] for at in it.qubits])};" for it in piece.operations]
-        named = [qubits[at] for at in piece.qubits]
-        return [_PLACE.sub(lambda it: named[int(it[1])], line) for line in done.lines]
+    def registers(self) -> Iterable[str]:
+        """The declarations of registers, or those of `q` and `c`."""
+        if not self.is_flat:
+            return [squeezed(it.text) for it in self.circuit.registers]
+        bits = sum(size for _, size in self.circuit.bits.values())
+        return [f"qreg q[{len(self.circuit.qubits)}];", *([f"creg c[{bits}];"] if bits else [])]
+
+    def flat_measures(self, it: Operation) -> list[str]:
+        """A measurement as measurements of single qubits of `q` into bits of `c`."""
+        if not it.text.startswith("measure"):
+            raise CannotCut("a statement stays that the program doesn't take", it.line)
+        begins, count = {}, 0
+        for number, size in self.circuit.bits.values():
+            begins[number], count = count, count + size
+        return [f"measure q[{qubit}] -> c[{begins[number] + bit}];" for qubit, (number, bit) in zip(it.qubits, it.writes)]
+
+
+def _placed(piece: _Piece, done: _Done, place: dict[int, str]) -> list[str]:
+    """The lines of a part, or of a window of it, with the names of its qubits."""
+    named = [place[at] for at in piece.qubits]
+    if done.lines is None:
+        return [f"{it.text} {','.join([place[at] for at in it.qubits])};" for it in piece.operations]
+    return [_PLACE.sub(lambda it: named[int(it[1])], line) for line in done.lines]
 
 
 def command_parser(command: str) -> argparse.ArgumentParser:
@@ -299,9 +360,12 @@ def command_parser(command: str) -> argparse.ArgumentParser:
     about = (__doc__ or "").split("\n\n")[0].partition(": `")[0] + "."
     parser = arguments.writes_one(arguments.parser(command, about))
     arguments.takes_jobs(arguments.takes_best(parser, True), "parts")
-    arguments.takes_seconds(parser, "leave a part as it was read if it takes longer")
+    arguments.takes_seconds(parser, "a time limit for each part; then teleport takes it in windows, each with this limit")
     arguments.takes_within(parser)
-    parser.add_argument("--barriers", action="store_true", help="keep barriers, and let no gate cross one")
+    add = parser.add_argument
+    add("--teleport", action="store_true", help="change phases alone, so that all other gates stay")
+    add("--gates", type=arguments.positive_int, metavar="N", help="gates of a part at most; else what one run takes")
+    add("--barriers", action="store_true", help="keep barriers, and let no gate cross one")
     return parser
 
 
@@ -319,6 +383,8 @@ def command(asked: argparse.Namespace) -> int:
     found = optimise_parts(
         text,
         best=asked.best,
+        teleport=asked.teleport,
+        gates=asked.gates,
         jobs=asked.jobs or os.cpu_count() or 1,
         keep_barriers=asked.barriers,
         timeout=asked.seconds,
@@ -331,6 +397,10 @@ def command(asked: argparse.Namespace) -> int:
         f"gates on two qubits {found.before.two_qubit} before, {found.after.two_qubit} after",
         file=sys.stderr,
     )
+    if found.rescued:
+        print(f"parts: {found.rescued} took too long, and went through teleport in windows", file=sys.stderr)
+    for it in found.late:
+        print(f"parts: {it}", file=sys.stderr)
     if found.rounded:
         print(f"parts: {told(found.rounded)}", file=sys.stderr)
     return 0

@@ -15,6 +15,9 @@ from zxopt.library import library
 from zxopt.qasm import FUNCTIONS, HEADER, Declaration, declaration, split, squeezed
 
 GREATEST_DEPTH = 200
+# What the program takes in one text: calls of gates, and qubits.
+GREATEST_CALLS = 1_000_000
+GREATEST_QUBITS = 1_024
 _DECIMAL = re.compile(r"[-+]?(?:\d+\.\d*|\.\d+)(?:[eE][-+]?\d+)?")
 _WORD = re.compile(r"[^\W\d]\w*")
 
@@ -130,7 +133,8 @@ class Shapes:
         count = len(gate.qubits)
         if name in self.foreign or len(texts) != len(gate.angles):
             return Shape(text, None, count, (False,) * count)
-        return Shape(text, self.calls_of(name, texts), count, self.diagonal(name))
+        calls = self.calls_of(name, texts) if count <= GREATEST_QUBITS else None
+        return Shape(text, calls, count, self.diagonal(name))
 
     def diagonal(self, name: str) -> tuple[bool, ...]:
         """On which of its qubits a gate is diagonal: known of standard gates, else where all of the body are."""
@@ -158,11 +162,13 @@ class Shapes:
     # -- calls --------------------------------------------------------------------------------------------------------
 
     def calls_of(self, name: str, texts: tuple[str, ...]) -> Optional[int]:
-        """How many calls an application makes, or none where some angle isn't a whole number of sixteenth turns."""
+        """How many calls an application makes, or none where some angle isn't a whole number of sixteenth turns, or where
+        they are more than the program takes."""
         if name in self.standard and name in HEADER and any(_is_rounded(it) for it in texts):
             return None
         values = _values(texts, {})
-        return None if values is None else self.calls(name, values, 1)
+        calls = None if values is None else self.calls(name, values, 1)
+        return None if calls is None or calls > GREATEST_CALLS else calls
 
     def calls(self, name: str, values: tuple[angles.Value, ...], depth: int) -> Optional[int]:
         if name == "CX":

@@ -98,11 +98,38 @@ class Optimised(InRoom):
         outcome = optimise_file(self.job(example("tof_3.qasm")), Settings(seconds=4, program=slow, check=True))
         self.assertEqual((outcome.state, outcome.best, outcome.check), ("written", False, "same"))
         self.assertEqual(outcome.two_qubit, (18, 18))
+        # NOT with four controls: `opt` would write 52 gates on two qubits, and as many T
+        for parts, told in ((False, "teleport in 1 window"), (True, "1 part by teleport in windows, for its time")):
+            outcome = optimise_file(self.job(example("barenco_tof_4.qasm")), Settings(seconds=9, program=slow, parts=parts))
+            self.assertEqual((outcome.t, outcome.two_qubit, outcome.best), ((56, 28), (48, 48), False))
+            self.assertIn(told, outcome.told)
         began = time.monotonic()
         outcome = optimise_file(self.job(HEAD), Settings(seconds=0.3, program=self.stand_in("exec sleep 60")))
         self.assertEqual(outcome.state, "failed")
         self.assertIn("took longer", outcome.told)
         self.assertLess(time.monotonic() - began, 45)
+
+    def test_what_is_left_is_counted(self) -> None:
+        """Where even `teleport` takes too long, gates stay, and their number and place are told."""
+        real = absolute_program()["ZXOPT"]
+        slow = self.stand_in(f'case " $* " in *" --best "*|*teleport*) exec sleep 60 ;; esac; exec "{real}" "$@"')
+        job = self.job(example("barenco_tof_4.qasm"))
+        for parts in (False, True):
+            outcome = optimise_file(job, Settings(seconds=4, program=slow, parts=parts))
+            self.assertEqual((outcome.t, outcome.two_qubit, outcome.best), ((56, 56), (48, 48), False))
+            self.assertRegex(outcome.told, "1 window left as read, the first at line [0-9]+: [0-9]+ gates from here on")
+            self.assertTrue(zxopt.same(job.source, job.target))
+
+    def test_teleport(self) -> None:
+        """The published T, and all gates on two qubits."""
+        for parts in (False, True):
+            outcome = optimise_file(self.job(example("barenco_tof_4.qasm")), Settings(teleport=True, parts=parts))
+            self.assertEqual((outcome.t, outcome.two_qubit), ((56, 28), (48, 48)))
+        measured = HEAD + "qreg q[1]; creg c[2]; t q[0]; t q[0]; measure q[0] -> c[1];"
+        outcome = optimise_file(self.job(measured), Settings(teleport=True, check=True))
+        self.assertEqual((outcome.t, outcome.gates, outcome.check), ((2, 0), (2, 1), "same"))
+        done = self.command("batch", "read.qasm", "--to", "out", "--teleport", "--jobs", "1")
+        self.assertIn("T 2 -> 0", done.stdout)
 
     def test_check_that_fails(self) -> None:
         real = absolute_program()["ZXOPT"]

@@ -47,9 +47,14 @@ class Commands(InRoom):
         real = absolute_program()["ZXOPT"]
         slow = self.stand_in(f'case " $* " in *" --best "*) exec sleep 60 ;; esac; exec "{real}" "$@"')
         text = example("tof_3.qasm")
-        ran = self.command("opt", "--best", "--seconds", "4", text=text, env={"ZXOPT": slow})
-        self.assertEqual((ran.returncode, ran.stdout), (0, zxopt.optimise(text, False)))
-        self.assertIn("took longer than 4 seconds; without --best", ran.stderr)
+        ran = self.command("opt", "--best", "--seconds", "4", "--report", text=text, env={"ZXOPT": slow})
+        read = zxopt.optimise(text, False, report=True).splitlines()[-2]
+        self.assertEqual((ran.returncode, "".join(ran.stdout.splitlines(True)[:-2])), (0, zxopt.teleport(text)))
+        self.assertEqual(ran.stdout.splitlines()[-2], read)
+        self.assertRegex(ran.stdout.splitlines()[-1], "^// written gates [0-9]+ odd 15 two-qubit 18 h [0-9]+ phase")
+        self.assertIn("took longer than 4 seconds; teleport in windows", ran.stderr)
+        ran = self.command("opt", "--best", "--seconds", "1", "--scalar", text=text, env={"ZXOPT": slow})
+        self.assertEqual((ran.returncode, ran.stdout), (70, ""))
 
     def test_teleport(self) -> None:
         self.writes(HEAD + "qreg q[2];\ns q[0];\ncx q[0],q[1];\n", "teleport", str(EXAMPLES / "across_cx.qasm"))
@@ -159,11 +164,11 @@ class Statuses(InRoom):
 
     def test_bad_numbers(self) -> None:
         """Each command refuses them alike, before it reads anything."""
-        takes = {"--seconds": ["opt", "teleport", "same", "counts", "compile", "graph", "flow", "reduce", "parts", "batch"],
-                 "--jobs": ["parts", "batch"], "--within": ["prepare", "parts", "batch", "measures"]}
-        bad = {"--seconds": ["0", "-1", "nan", "inf", "soon"], "--jobs": ["0", "-2", "1.5", "all"],
+        takes = {"--seconds": ["opt", "teleport", "same", "counts", "compile", "graph", "flow", "reduce", "parts", "batch", "stream"],
+                 "--jobs": ["parts", "batch", "stream"], "--gates": ["parts", "stream"], "--within": ["prepare", "parts", "batch", "measures"]}
+        bad = {"--seconds": ["0", "-1", "nan", "inf", "soon"], "--jobs": ["0", "-2", "1.5", "all"], "--gates": ["0", "few"],
                "--within": ["-1e-9", "0.2", "nan", "inf", "pi"]}
-        more = {"same": ["one", "other"], "batch": ["file", "--to", "out"], "measures": ["file"]}
+        more = {"same": ["one", "other"], "batch": ["file", "--to", "out"], "measures": ["file"], "stream": ["file", "--to", "out"]}
         for flag, commands in takes.items():
             for command in commands:
                 for number in bad[flag]:

@@ -15,7 +15,7 @@ from unittest import mock
 sys.path.insert(0, str(Path(__file__).parent))
 import simulator
 
-from zxopt import parts
+from zxopt import parts, windows
 from zxopt.parts import CannotCut, Counts, optimise_parts
 from zxopt.prepare import prepare
 
@@ -239,17 +239,40 @@ class Cuts(unittest.TestCase):
 
     def test_a_part_that_takes_too_long_stays(self) -> None:
         text = HEAD + "qreg q[2];\n" + "h q[0]; cx q[0],q[1]; t q[1];\n" * 3
-        calls: list[object] = []
+        for more in ({}, {"best": False}, {"teleport": True}):
+            with self.subTest(more=more), mock.patch("zxopt.windows.made", side_effect=TimeoutError("so long")):
+                done = optimise_parts(text, timeout=1, **more)
+                self.assertEqual(done.parts, 1)
+                self.assertEqual([str(it) for it in done.late], ["line 4: 9 gates from here on are left as they were read: so long"])
+                self.assertEqual((done.before, done.after), (Counts(3, 3), Counts(3, 3)))
+                self.assertTrue(simulator.is_same(text, done.text))
 
-        def slow(words: object, text: object, **more: object) -> tuple[str, int]:
-            calls.append(words)
-            if len(calls) > 1:
-                raise TimeoutError
-            return "", 0
+    def test_a_part_that_takes_too_long_goes_through_teleport(self) -> None:
+        """Two-qubit gates are those that were read; a window that takes too long even then is left, and told."""
+        text = HEAD + "qreg q[2];\n" + "t q[0]; cx q[0],q[1]; t q[1]; cx q[0],q[1]; tdg q[0]; h q[1];\n" * 4
+        made, modes = windows.made, []
 
-        with mock.patch("zxopt.parts.run", slow):
+        def slow(said: str, mode: str, *more: object) -> windows.Written:
+            modes.append(mode)
+            if mode != "teleport" or len(modes) == 2:
+                raise TimeoutError("so long")
+            return made(said, mode, *more)
+
+        with mock.patch("zxopt.windows.made", slow), mock.patch("zxopt.parts.RESCUE_GATES", 6):
             done = optimise_parts(text, timeout=1)
-        self.assertEqual((done.left, done.parts), (1, 1))
+        self.assertEqual(modes, ["best"] + ["teleport"] * 4)
+        self.assertEqual((done.parts, done.left, [(it.line, it.gates) for it in done.late]), (1, 0, [(4, 6)]))
+        self.assertEqual((done.before, done.after), (Counts(12, 8), Counts(3 + 3 * 1, 8)))
+        self.assertTrue(simulator.is_same(text, done.text))
+
+    def test_teleport(self) -> None:
+        """Phases change alone: T is that of the other modes, and each gate on two qubits stays."""
+        text = HEAD + "qreg q[3];\nt q[0]; cx q[0],q[1]; ccx q[0],q[1],q[2]; rx(0.1) q[2]; t q[0]; swap q[0],q[1]; h q[2];"
+        done, plain = self.parts(text[len(HEAD) :], teleport=True), self.parts(text[len(HEAD) :], best=False)
+        self.assertEqual((done.before, done.after.two_qubit), (Counts(9, 10), 10))
+        self.assertEqual((plain.before, plain.after.t), (done.before, done.after.t))
+        self.assertLess(done.after.t, 9)
+        self.assertEqual(done.text.count("cx ") + done.text.count("cz "), 10)
         self.assertTrue(simulator.is_same(text, done.text))
 
 
@@ -272,6 +295,28 @@ class Limits(unittest.TestCase):
         text = HEAD + "qreg q[3000];\n" + "".join(f"h q[{at}]; t q[{at}]; t q[{at}];\n" for at in range(3000))
         done = optimise_parts(text, best=False)
         self.assertEqual((done.parts, done.kept, done.after.t), (3, 0, 0))
+
+    def test_parts_follow_qubits(self) -> None:
+        """Each qubit has a T and its inverse, 1,100 gates apart, which meet on the qubit."""
+        text = HEAD + "qreg q[1100];\n" + "".join(f"{gate} q[{at}];\n" for gate in ("t", "s", "tdg") for at in range(1100))
+        done = optimise_parts(text, best=False)
+        self.assertEqual((done.parts, done.before.t, done.after.t), (2, 2200, 0))
+
+    def test_gates(self) -> None:
+        """Windows of so many gates, by what was in one part else."""
+        text = HEAD + "qreg q[2];\n" + "t q[0]; cx q[0],q[1]; h q[1];\n" * 8
+        found = [optimise_parts(text, teleport=True, gates=gates) for gates in (24, 12, 6, 3)]
+        self.assertEqual([it.parts for it in found], [1, 2, 4, 8])
+        # of the eight T on the control, which commute with all else, pairs become an S
+        self.assertEqual([it.after.t for it in found], [0, 0, 0, 8])
+
+    def test_windows_of_drawn_texts(self) -> None:
+        for seed in range(2000, 2060):
+            text, gates = Drawn(seed).text(), 3 + seed % 7
+            done = optimise_parts(text, best=seed % 3 == 0, teleport=seed % 3 == 1, gates=gates)
+            with self.subTest(seed=seed):
+                self.assertTrue(simulator.is_same(text, done.text, seed=seed), f"{text}\n{done.text}")
+                self.assertLessEqual(done.after, done.before)
 
     def test_bytes(self) -> None:
         name = "g" * 60_000
@@ -304,7 +349,8 @@ class Time(unittest.TestCase):
         lines = [f"cx q[{a}],q[{b}];" for a, b in (draw.sample(range(1000), 2) for _ in range(99_000))]
         lines += [f"rz({draw.random():.9f}) q[{draw.randrange(1000)}];" for _ in range(1000)]
         begin = time.process_time()
-        with mock.patch("zxopt.parts.run", return_value=(HEAD + "// read gates 1 odd 0 two-qubit 1 h\n" * 2, 0)):
+        nothing = windows.Written([], windows.NO_GATES, windows.NO_GATES)
+        with mock.patch("zxopt.windows.made", return_value=nothing):
             optimise_parts(HEAD + "qreg q[1000];\n" + "\n".join(lines))
         self.assertLess(time.process_time() - begin, 6)
 

@@ -1,0 +1,397 @@
+"""Optimises a text of any size in constant memory, window by window: `python3 -m zxopt stream READ --to WRITTEN`.
+
+Windows are made by `schedule` and optimised side by side; what is written stands in the order in which they were
+closed. A state beside WRITTEN is replaced from time to time, so that a run that was killed, or whose disk was full, goes
+on and ends in the bytes of an undisturbed one, time limits aside. Slices of a text, by bytes, can be optimised in
+runs of their own; what they write, in their order, is one text.
+
+This stands outside of the proved program. What is proved is about each window's text that the program reads and writes;
+that the text was cut and put together rightly is tested, not proved.
+"""
+from __future__ import annotations
+
+import argparse
+import json
+import os
+import shutil
+import sys
+import time
+from collections import deque
+from concurrent.futures import Executor, Future
+from concurrent.futures.process import BrokenProcessPool
+from dataclasses import asdict, dataclass, field
+from typing import Any, Callable, NamedTuple, Optional, Sequence, Union
+
+from . import __version__, arguments, slices, windows, workers
+from .circuit import CannotCut
+from .commands import GateCounts
+from .program import Program, find_program
+from .reading import Reader
+from .schedule import Limits, Node, Window, bundles
+from .states import State, Target, identity
+from .windows import NO_GATES, added
+
+__all__ = ["LeftWindow", "Totals", "main", "optimise_stream"]
+
+# Bytes that are read at a time.
+CHUNK = 1 << 18
+# Bytes that wait behind windows that are under way.
+WAITING = 16 << 20
+# Qubits and registers of bits of operations that stay and wait behind open windows.
+PLACES = 50_000
+# Windows that are told one by one where something went wrong.
+TOLD = 1_000
+
+
+class LeftWindow(NamedTuple):
+    """A window that was left as it was read, since something went wrong: its number, from 1; the lines of the whole
+    text that is written on which it stands, from 1; why."""
+
+    window: int
+    first: int
+    last: int
+    why: str
+
+
+@dataclass
+class Totals:
+    """What was done so far: bytes that were read, windows, lines that were written; counts of gates read and written;
+    how many windows were left as they were since something went wrong, and the first of these."""
+
+    bytes: int = 0
+    windows: int = 0
+    lines: int = 0
+    read: GateCounts = NO_GATES
+    written: GateCounts = NO_GATES
+    left: int = 0
+    left_windows: list[LeftWindow] = field(default_factory=list)
+
+    @classmethod
+    def of(cls, told: dict[str, Any]) -> "Totals":
+        """The totals of a state."""
+        out = cls(**told)
+        out.read, out.written = GateCounts(**told["read"]), GateCounts(**told["written"])
+        out.left_windows = [LeftWindow(*it) for it in told["left_windows"]]
+        return out
+
+    def add(self, result: workers.Result) -> None:
+        """Counts a window that was written."""
+        self.windows += 1
+        if result.why:
+            self.left += 1
+            if len(self.left_windows) < TOLD:
+                lines = self.lines + 1, self.lines + result.lines
+                self.left_windows.append(LeftWindow(self.windows, *lines, result.why))
+        self.lines += result.lines
+        self.read = added(self.read, result.read)
+        self.written = added(self.written, result.after)
+
+
+def optimise_stream(
+    source: str,
+    target: str,
+    *,
+    mode: str = "teleport",
+    gates: int = 10_000,
+    jobs: int = 1,
+    begin: Optional[int] = None,
+    end: Optional[int] = None,
+    keep_barriers: bool = False,
+    timeout: Optional[float] = None,
+    anew: bool = False,
+    every: float = 10.0,
+    program: Optional[Program] = None,
+    executor: Optional[Executor] = None,
+    progress: Optional[Callable[[Totals], None]] = None,
+) -> Totals:
+    """Optimises the text of the file `source`, or of standard input for `-`, into the file `target`.
+
+    mode: one of `zxopt.windows.MODES`. gates: how many a window has at most. jobs: how many windows are optimised at a
+    time, by processes of this machine, or else by `executor`, which is called with functions of `zxopt.workers` on
+    bytes and words. begin, end: the slice of bytes that is optimised: from the first end of a statement behind the end
+    of the line of `begin` on, up to that of `end`; the first slice writes the head, the others don't. timeout: a time
+    limit for a window, in seconds; if it takes longer, `teleport` has as many again, and else it stays as it was read.
+    anew: begins where it would go on. every: seconds between states. progress: is called when a state is taken.
+
+    The two files are gz files where their names end with `.gz`; equality is then of the unpacked text.
+
+    Raises CannotCut, a ValueError, where the text isn't one that the program would take but for single statements, or a
+    name clashes: `zxopt.prepare` helps with many of these; then `target` is removed. ValueError where a state beside `target` is of another
+    source, program or setting, a slice is asked of standard input or a gz file, or `target` is no file; BlockingIOError
+    where another run writes `target`. MemoryError and OSError are those of `zxopt.program.run` and of files; the state
+    stays then, as it does where the process ends in any other way.
+    """
+    if mode not in windows.MODES:
+        raise ValueError(f"{mode} is none of {', '.join(windows.MODES)}")
+    if jobs < 1 or gates < 1:
+        raise ValueError("the numbers of jobs and of gates are above 0")
+    named = os.fspath(program or find_program())
+    found = shutil.which(named)
+    if found is None:
+        raise FileNotFoundError(f"{named} is no program")
+    settings = {"mode": mode, "gates": gates, "from": begin, "until": end, "barriers": keep_barriers}
+    if source != "-" and os.path.exists(target) and os.path.samefile(source, target):
+        raise ValueError(f"{target} is the file that is read")
+    with slices.opened(source, begin, end) as text:
+        what = {"settings": settings, "source": text.identity, "program": [identity(found), __version__]}
+        with Target(target, what, anew, text.is_read_once) as to, workers.pool(jobs, executor) as pool:
+            make = workers.Task("", "", (), mode, timeout, os.path.abspath(found), to.is_packed)
+            run = _Run(text, to, pool, make, gates, keep_barriers, 2 * jobs + 2)
+            run.every, run.progress = every, progress
+            try:
+                return run.done()
+            except CannotCut:
+                to.drop()
+                raise
+            except BrokenProcessPool as broken:
+                raise OSError(f"a worker ended: {broken}") from None
+
+
+def limits(gates: int) -> Limits:
+    """The limits of windows of so many gates."""
+    return Limits(gates, windows.GREATEST_QUBITS, windows.GREATEST_CALLS, max(400_000, 20 * gates), PLACES)
+
+
+class _Lines:
+    """Lines that are written in turn, between windows."""
+
+    def __init__(self) -> None:
+        self.lines: list[str] = []
+
+
+class _Saved(NamedTuple):
+    """A state that was taken, and how many entries have to be written before it is kept."""
+
+    entries: int
+    bytes: int
+    reader: str
+
+
+class _Run:
+    def __init__(
+        self, text: slices.Source, to: Target, pool: Executor, make: workers.Task, gates: int, barriers: bool, ahead: int
+    ) -> None:
+        self.text, self.to, self.pool, self.make, self.ahead = text, to, pool, make, ahead
+        self.limits = limits(gates)
+        self.reader = Reader(self.limits, self.emit, self.say, self.check, barriers)
+        self.totals = Totals()
+        self.every = 10.0
+        self.progress: Optional[Callable[[Totals], None]] = None
+        # what isn't written yet, in order; how many entries were made and written; bytes of lines that wait
+        self.under: deque[Union[_Lines, Future[workers.Result]]] = deque()
+        self.made = self.written = self.waiting = 0
+        self.saved: Optional[_Saved] = None
+        self.is_silent = False
+
+    def done(self) -> Totals:
+        """The whole run."""
+        state = self.to.state
+        if state is None:
+            self.begin()
+        else:
+            self.totals = Totals.of(state.totals)
+            self.reader.restore(json.loads(state.reader))
+            self.text.go_to(self.totals.bytes)
+        last = time.monotonic()
+        for chunk in self.text.chunks(CHUNK):
+            self.reader.feed(chunk.decode("latin-1"))
+            self.totals.bytes += len(chunk)
+            if self.saved is None and time.monotonic() - last >= self.every:
+                last = time.monotonic()
+                self.save()
+                if self.progress:
+                    self.progress(self.totals)
+        self.reader.end()
+        self.settle(0)
+        self.to.end()
+        return self.totals
+
+    def begin(self) -> None:
+        """Writes the head, or reads it without writing it where this isn't the first slice."""
+        self.is_silent = not self.text.is_first
+        self.say(windows.HEAD)
+        if self.text.head is not None:
+            self.reader.feed(self.text.head.decode("latin-1"))
+            self.reader.end_head()
+        self.is_silent = False
+        self.save()
+
+    # -- what the reader gives ----------------------------------------------------------------------------------------
+
+    def check(self, circuit: Any) -> None:
+        windows.check_head(circuit, None, self.make.program)
+
+    def emit(self, nodes: list[Node[str]]) -> None:
+        """Takes what was closed."""
+        for it in bundles(nodes, self.limits):
+            if isinstance(it, Window):
+                own = tuple(self.reader.circuit.shapes.own)
+                task = self.make._replace(lines="".join(it.gates), declarations=self.reader.declarations, own=own)
+                self.under.append(self.pool.submit(workers.work, task))
+                self.made += 1
+            else:
+                self.say(it.what)
+            self.settle(self.ahead)
+
+    def say(self, lines: str) -> None:
+        """Takes lines that are written in turn."""
+        if self.is_silent:
+            return
+        if not self.under:
+            self.write_lines(lines)
+            return
+        last = self.under[-1]
+        # what a state doesn't count is written behind it
+        if not isinstance(last, _Lines) or (self.saved is not None and self.saved.entries == self.made):
+            last = _Lines()
+            self.under.append(last)
+            self.made += 1
+        last.lines.append(lines)
+        self.waiting += len(lines)
+
+    # -- what is written ----------------------------------------------------------------------------------------------
+
+    def settle(self, most: int) -> None:
+        """Writes what is done, in order, and waits while more than so much is under way."""
+        under = self.under
+        while under:
+            first = under[0]
+            if isinstance(first, _Lines):
+                lines = "".join(first.lines)
+                self.write_lines(lines)
+                self.waiting -= len(lines)
+            elif len(under) > most or self.waiting > WAITING or first.done():
+                result = first.result()
+                self.to.write(result.written)
+                self.totals.add(result)
+            else:
+                return
+            under.popleft()
+            self.written += 1
+            self.keep()
+
+    def write_lines(self, lines: str) -> None:
+        data = lines.encode("latin-1")
+        self.to.write_plain(data)
+        self.totals.lines += data.count(b"\n")
+
+    def save(self) -> None:
+        """Takes a state, as it is now, and keeps it when all that was closed before it is written."""
+        if self.text.is_read_once:
+            return
+        self.saved = _Saved(self.made, self.totals.bytes, json.dumps(self.reader.state()))
+        self.keep()
+
+    def keep(self) -> None:
+        """Replaces the state by the one that was taken, if its time has come."""
+        saved = self.saved
+        if saved is None or self.written < saved.entries:
+            return
+        told = {**asdict(self.totals), "bytes": saved.bytes}
+        self.to.keep(State(told, saved.reader))
+        self.saved = None
+
+
+# -- the command ------------------------------------------------------------------------------------------------------
+
+
+def main(argv: Sequence[str]) -> int:
+    """The command `stream` with these words, and its exit status: 1 where a text, a state or words are refused, 5 where
+    memory ran out, 70 where a file or the program can't be read, written or run."""
+    from .__main__ import main as run_command
+
+    return run_command(["stream", *argv])
+
+
+def command_parser(command: str) -> argparse.ArgumentParser:
+    """The words of the command `stream`."""
+    parser = arguments.parser(
+        command,
+        "Optimises a text of OpenQASM 2.0 of any size in constant memory, window by window. A run that was interrupted "
+        "goes on when it is called again.",
+        "Slices whose bytes meet write texts that are one when they are joined in their order.",
+    )
+    add = parser.add_argument
+    add("file", metavar="READ", help="the text, a gz file by its name's end; - for standard input, which can't go on")
+    add("--to", required=True, metavar="WRITTEN", help="the file that is written, packed where its name ends with .gz")
+    mode = parser.add_mutually_exclusive_group()
+    for name, told in (
+        ("teleport", "change phases alone, so that all other gates stay, as is done unless one of these is given"),
+        ("best", "take the best of several circuits: ten to twenty-five times the time, for fewer gates on two qubits"),
+        ("plain", "make one circuit: least time, and many more gates on two qubits"),
+    ):
+        mode.add_argument(f"--{name}", dest="mode", action="store_const", const=name, help=told)
+    parser.set_defaults(mode="teleport")
+    arguments.takes_jobs(parser, "windows")
+    arguments.takes_seconds(parser, "a time limit for a window; then teleport takes it, with the same limit")
+    add("--gates", type=arguments.positive_int, default=10_000, metavar="N", help="gates of a window at most; else 10000")
+    add("--barriers", action="store_true", help="keep barriers, and let no gate cross one")
+    add("--from", dest="begin", type=_byte, metavar="BYTE", help="begin a slice behind the line of this byte")
+    add("--until", dest="end", type=_byte, metavar="BYTE", help="end it behind the line of this one")
+    add("--anew", action="store_true", help="begin, where a run would go on")
+    add("--counts", action="store_true", help="tell the counts at the end as JSON")
+    add("--every", type=float, default=10.0, metavar="N", help="seconds between states, which are told; else 10")
+    return parser
+
+
+def _byte(word: str) -> int:
+    """A number of bytes, for argparse."""
+    number = int(word)
+    if number < 0:
+        raise argparse.ArgumentTypeError(f"{word} is below 0")
+    return number
+
+
+def command(asked: argparse.Namespace) -> int:
+    """The command `stream`; answers the exit status 0."""
+    began = time.monotonic()
+    size = None if asked.file == "-" else os.path.getsize(asked.file)
+    first: list[int] = []
+
+    def progress(totals: Totals) -> None:
+        first.append(totals.read.gates)
+        rate = (totals.read.gates - first[0]) / max(1e-3, time.monotonic() - began)
+        of = "" if size is None or asked.file.endswith(".gz") else f" of {size / 1e6:.1f}"
+        print(f"{totals.bytes / 1e6:.1f}{of} MB, {_told(totals)}, {rate:.0f} gates a second", file=sys.stderr, flush=True)
+
+    totals = optimise_stream(
+        asked.file,
+        asked.to,
+        mode=asked.mode,
+        gates=asked.gates,
+        jobs=asked.jobs or _processors(),
+        begin=asked.begin,
+        end=asked.end,
+        keep_barriers=asked.barriers,
+        timeout=asked.seconds,
+        anew=asked.anew,
+        every=asked.every,
+        progress=progress,
+    )
+    for it in totals.left_windows:
+        where = f"window {it.window}, lines {it.first} to {it.last} of {asked.to}"
+        print(f"zxopt stream: {where}: left as it was read: {it.why}", file=sys.stderr)
+    seconds = time.monotonic() - began
+    if asked.counts:
+        told = {**asdict(totals), "left_windows": [it._asdict() for it in totals.left_windows]}
+        print(json.dumps({**told, "seconds": round(seconds, 2)}, indent=4))
+    else:
+        print(f"{_told(totals)}; {seconds:.2f} s")
+    return 0
+
+
+def _told(totals: Totals) -> str:
+    read, written = totals.read, totals.written
+    left = f", {totals.left} windows left as they were read" if totals.left else ""
+    return (
+        f"{totals.windows} windows{left}, T {read.odd} -> {written.odd}, two-qubit {read.two_qubit} -> "
+        f"{written.two_qubit}, gates {read.gates} -> {written.gates}"
+    )
+
+
+def _processors() -> int:
+    """How many processors this process may use."""
+    try:
+        return len(os.sched_getaffinity(0))
+    except AttributeError:
+        return os.cpu_count() or 1
