@@ -7,7 +7,8 @@ OpenQASM 2.0.
 
 This package stands outside of the proved program `zxopt`, and runs it. What is proved is about the text that the
 program reads and the text that it writes; what this package does before and behind that is tested, and not proved. The
-program is $ZXOPT, or the one that was built beside this package, or `zxopt` on the path.
+program is $ZXOPT, or that of the clone in which this package lies, or the one that came with its wheel, or `zxopt` on
+the path; `version()` tells which.
 
 The functions are safe from several threads. `python3 -m zxopt` has the same and more as commands, and these modules
 stand beside: `zxopt.prepare` makes texts of the usual tools such that the program reads them; `zxopt.parts` optimises
@@ -29,9 +30,8 @@ from .commands import (
     teleport,
 )
 from .faults import FAULTS, Fault, NoFlow, Refused
+from .identity import VERSION as __version__, Version, version
 from .program import find_program, run
-
-__version__ = "1.0.0"
 
 __all__ = [
     "Counts",
@@ -42,6 +42,7 @@ __all__ = [
     "Optimised",
     "Refused",
     "Scalar",
+    "Version",
     "compile_diagram",
     "counts",
     "find_program",
@@ -50,4 +51,5 @@ __all__ = [
     "run",
     "same",
     "teleport",
+    "version",
 ]
