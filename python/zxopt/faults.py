@@ -159,8 +159,9 @@ def _identifier_at_fault(number: int, text: bytes, place: int) -> str:
 
 def _unknown(statement: str, gates: AbstractSet[str], places: AbstractSet[str]) -> str:
     """The first name of an application that is none of these gates or, behind the gate, none of these places."""
-    first, *others = _IDENTIFIER.findall(statement) or ["pi"]
-    return first if first not in gates else next((name for name in others if name not in places), "")
+    names: list[str] = _IDENTIFIER.findall(statement)
+    known = [gates, *[places] * len(names)]
+    return next((name for name, declared in zip(names, known) if name not in declared), "")
 
 
 def _twice(names: Sequence[str], declared: AbstractSet[str]) -> str:

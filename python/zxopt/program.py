@@ -142,7 +142,7 @@ def _remove_of(process: int, folder: str) -> None:
 
 
 def _on_path() -> Optional[str]:
-    files = (Path(folder, "zxopt") for folder in os.get_exec_path())
+    files = (Path(os.path.abspath(folder), "zxopt") for folder in os.get_exec_path())
     return next((str(file) for file in files if _can_be_run(file) and _is_binary(file)), None)
 
 

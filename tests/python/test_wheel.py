@@ -9,7 +9,7 @@ import tempfile
 import unittest
 import zipfile
 from pathlib import Path
-from typing import Dict
+from typing import Dict, List
 
 from support import EXAMPLES, HEAD, PYTHON, TOP, absolute_program, example
 
@@ -35,7 +35,8 @@ class Wheel(unittest.TestCase):
         cls.room = Path(folder.name).resolve()
         command = "import backend, sys; print(backend.build_wheel(sys.argv[1]))"
         around = {**os.environ, "PYTHONPATH": str(PYTHON), "PYTHONDONTWRITEBYTECODE": "1"}
-        made = subprocess.run([sys.executable, "-c", command, cls.room], env=around, stdout=subprocess.PIPE, text=True, check=True)
+        words: List[object] = [sys.executable, "-c", command, cls.room]
+        made = subprocess.run(list(map(str, words)), env=around, stdout=subprocess.PIPE, text=True, check=True)
         cls.wheel = cls.room / made.stdout.strip()
         subprocess.run([sys.executable, "-m", "venv", cls.room / "venv"], check=True)
         words = "install --quiet --no-index --disable-pip-version-check".split()
@@ -135,7 +136,8 @@ class Wheel(unittest.TestCase):
         try:
             command.write_text(f"#!/bin/sh\necho started >>'{log}'\nexec '{real}' \"$@\"\n", encoding="utf-8")
             command.chmod(0o755)
-            for words in ([real, "opt"], [real, "opt", "--seconds", "9"], [self.room / "venv/bin/python", "-m", "zxopt", "opt"]):
+            python = self.room / "venv/bin/python"
+            for words in ([real, "opt"], [real, "opt", "--seconds", "9"], [python, "-m", "zxopt", "opt"]):
                 ran = self.run_here(*words, text=example("two_t.qasm").encode())
                 self.assertEqual((ran.returncode, ran.stdout), (70, b""))
                 self.assertIn(b"no program zxopt", ran.stderr)
