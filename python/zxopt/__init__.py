@@ -11,9 +11,9 @@ program is $ZXOPT, or that of the clone in which this package lies, or the one t
 the path; `version()` tells which.
 
 The functions are safe from several threads. `python3 -m zxopt` has the same and more as commands, and these modules
-stand beside, each imported by its name, as in `from zxopt.prepare import prepare`: `zxopt.prepare` makes texts of the usual tools such that the program reads them; `zxopt.parts` optimises
-what can be of texts that the program refuses for a statement; `zxopt.batch` optimises many files on all processors;
-`zxopt.spelling` writes gates in other words.
+stand beside, each imported by its name, as in `from zxopt.prepare import prepare`: `zxopt.prepare` makes texts of the
+usual tools such that the program reads them; `zxopt.parts` optimises what can be of texts that the program refuses for a
+statement; `zxopt.batch` optimises many files on all processors; `zxopt.spelling` writes gates in other words.
 """
 from __future__ import annotations
 
