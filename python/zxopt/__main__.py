@@ -1,21 +1,16 @@
-"""The commands of `python3 -m zxopt`. Each one imports what it needs alone.
-
-The command `zxopt` that pip installs has them too. Where its words are some that the program takes, it becomes the
-program, so what comes out and its exit status are the program's.
-"""
+"""The commands of `python3 -m zxopt`. Each one imports what it needs alone."""
 from __future__ import annotations
 
 import argparse
 import importlib
 import json
 import os
-import signal
 import sys
 from dataclasses import asdict
 from typing import Callable, Dict, Optional, Sequence, Tuple
 
 from . import cli
-from .program import CALLED, find_program
+from .program import CALLED
 
 _ABOUT = """\
 usage: python3 -m zxopt COMMAND .. [FILE | < FILE]      (COMMAND --help tells its words)
@@ -37,10 +32,6 @@ usage: python3 -m zxopt COMMAND .. [FILE | < FILE]      (COMMAND --help tells it
 This package stands outside of the proved program `zxopt`, and runs it: what is proved is about the text that the
 program reads and the text that it writes. The manual page zxopt(1) is the program's: man -l docs/zxopt.1 in a clone.
 """
-
-# The program's commands, and its flags; `--` may end them.
-_PROGRAM_COMMANDS = frozenset("opt teleport same compile graph reduce flow gen".split())
-_PROGRAM_FLAGS = frozenset(("--best", "--report", "--scalar", "--"))
 
 
 def main(argv: Optional[Sequence[str]] = None) -> int:
@@ -64,35 +55,6 @@ def main(argv: Optional[Sequence[str]] = None) -> int:
     asked = describe(command).parse_args(rest)
     file = getattr(asked, "file", None)
     return cli.guarded(lambda: work(asked), f"zxopt {command}", file if file != "-" else None)
-
-
-def console() -> int:
-    """The command that pip installs: a call of the program with the program's words, and else one of `main`."""
-    command, *rest = sys.argv[1:] or [""]
-    if os.environ.get(CALLED) or command not in _PROGRAM_COMMANDS:
-        return main()
-    if command == "gen" or _PROGRAM_FLAGS.issuperset(rest):
-        return cli.guarded(lambda: _become_program(None))
-    if command not in _COMMANDS and _PROGRAM_FLAGS.issuperset(rest[:-1]):
-        return cli.guarded(lambda: _become_program(rest.pop()))
-    # a file is optimised as the same text from standard input is
-    is_plain = command == "opt" and not {"--best", "--no-best"}.intersection(rest)
-    return main([command, *(["--no-best"] if is_plain else []), *rest])
-
-
-def _become_program(file: Optional[str]) -> int:
-    """Runs the program in the place of this process, with its words; a file comes last among them, for its input."""
-    words = sys.argv[1:]
-    if file is not None:
-        words.pop()
-        os.dup2(os.open(file, os.O_RDONLY), 0)
-    elif words[0] != "gen":
-        cli.tell_terminal()
-    program = find_program()
-    for name in ("SIGPIPE", "SIGXFSZ"):  # which the interpreter ignores
-        signal.signal(getattr(signal, name), signal.SIG_DFL)
-    os.environ[CALLED] = "1"
-    os.execvp(program, [program, *words])
 
 
 def _version() -> int:
