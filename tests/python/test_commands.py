@@ -89,7 +89,10 @@ class Commands(InRoom):
 
     def test_terminal(self) -> None:
         """Who sits before a terminal is told that it is read."""
-        main, other = os.openpty()
+        try:
+            main, other = os.openpty()
+        except OSError as none:
+            self.skipTest(f"no terminal can be made: {none}")
         os.write(main, example("two_t.qasm").encode() + b"\x04")
         env = {**os.environ, "PYTHONPATH": str(PYTHON), **absolute_program()}
         command = [sys.executable, "-m", "zxopt", "opt"]
