@@ -1,15 +1,16 @@
 # Installs, tries and packs the program. `make PROGRAM=FILE ..` takes another program than the one that ./zxopt runs.
 #
-#   make install [PREFIX=/usr/local] [DESTDIR=]     the program, its manual page, `where` as zxopt-where, the examples
+#   make install [PREFIX=/usr/local] [DESTDIR=]     the program, manual pages, `where` as zxopt-where, documents, examples;
+#                                                   without root's rights PREFIX=$HOME/.local
 #   make uninstall [PREFIX=..] [DESTDIR=..]
 #   make check                                      all scripts of tests/ but the proofs, on the program at hand
 #   make prove                                      the gate: proves everything, and then `make check`'s scripts
-#   make package [TO=out/package]                   a .deb and a .tar.gz, the same bytes for the same commit
+#   make release [TO=out/release]                   all that is given to users: archives, .deb, wheel and their sums
 
 PREFIX = /usr/local
 DESTDIR =
-PROGRAM = out/zxopt
-TO = out/package
+PROGRAM =
+TO = out/release
 VERSION = 1.0.0
 
 bin = $(DESTDIR)$(PREFIX)/bin
@@ -17,37 +18,36 @@ lib = $(DESTDIR)$(PREFIX)/lib/zxopt
 man = $(DESTDIR)$(PREFIX)/share/man/man1
 doc = $(DESTDIR)$(PREFIX)/share/doc/zxopt
 
-# A program that stands beside its object file is taken as it is: no rule of make's own links it.
-MAKEFLAGS += --no-builtin-rules
-.SUFFIXES:
+# ./zxopt takes a program of dist/, or proves and builds it, and tells its file. A file that is given is taken as it is, and
+# is no prerequisite, since the name of one may have spaces.
+find_program = program="$(PROGRAM)"; [ -n "$$program" ] || program=$$(ZXOPT_PROGRAM=1 ./zxopt) || exit
 
-.PHONY: all install uninstall check prove package
+.PHONY: all install uninstall check prove release
 
-all: $(PROGRAM)
+all:
+	$(find_program); echo "$$program"
 
-# ./zxopt takes the program in dist/, or proves and builds it.
-out/zxopt:
-	./zxopt opt <examples/nothing_left.qasm >/dev/null
-
-install: $(PROGRAM)
-	install -d "$(bin)" "$(lib)" "$(man)" "$(doc)/examples"
-	install -m 755 "$(PROGRAM)" "$(lib)/zxopt"
+install:
+	install -d "$(bin)" "$(lib)" "$(man)" "$(doc)/docs" "$(doc)/examples"
+	$(find_program); install -m 755 "$$program" "$(lib)/zxopt"
 	install -m 755 where "$(lib)/where"
+	install -m 644 python/zxopt/faults.tsv "$(lib)"
 	ln -sf ../lib/zxopt/zxopt "$(bin)/zxopt"
 	ln -sf ../lib/zxopt/where "$(bin)/zxopt-where"
-	install -m 644 docs/zxopt.1 "$(man)/zxopt.1"
-	install -m 644 LICENSE README.md "$(doc)"
+	install -m 644 docs/zxopt.1 docs/zxopt-where.1 "$(man)"
+	install -m 644 README.md CHANGELOG.md CONTRIBUTING.md LICENSE "$(doc)"
+	install -m 644 docs/*.md "$(doc)/docs"
 	install -m 644 examples/*.qasm examples/*.zx? "$(doc)/examples"
 
 uninstall:
-	rm -f "$(bin)/zxopt" "$(bin)/zxopt-where" "$(man)/zxopt.1"
+	rm -f "$(bin)/zxopt" "$(bin)/zxopt-where" "$(man)/zxopt.1" "$(man)/zxopt-where.1"
 	rm -rf "$(lib)" "$(doc)"
 
-check: $(PROGRAM)
-	tests/all "$(PROGRAM)"
+check:
+	@$(find_program); tests/all "$$program"
 
 prove:
 	.ci/run
 
-package: $(PROGRAM)
-	tests/pack "$(PROGRAM)" "$(VERSION)" "$(TO)"
+release:
+	@$(find_program); tests/pack "$$program" "$(VERSION)" "$(TO)"

@@ -8,7 +8,8 @@ OpenQASM 2.0.
 
 This package stands outside of the proved program `zxopt`, and runs it. What is proved is about the text that the
 program reads and the text that it writes; what this package does before and behind that is tested, and not proved. The
-program is $ZXOPT, or the one that was built beside this package, or `zxopt` on the path.
+program is $ZXOPT, or that of the clone in which this package lies, or the one that came with its wheel, or `zxopt` on
+the path; `version()` tells which.
 
 The functions are safe from several threads. `python3 -m zxopt` has the same and more as commands. These modules stand
 beside, and are imported when they are asked for: `zxopt.prepare` makes texts of the usual tools such that the program
@@ -42,13 +43,12 @@ from .commands import (
     teleport,
 )
 from .faults import FAULTS, Fault, NoFlow, Refused
+from .identity import VERSION as __version__, Version, version
 from .program import find_program, run
 
 if TYPE_CHECKING:
     from . import batch, counting, parts, prepare, pytket, pyzx, qiskit, spelling, stream
     from .counting import Measures, measures
-
-__version__ = "1.0.0"
 
 __all__ = [
     "Comparison",
@@ -63,6 +63,7 @@ __all__ = [
     "Optimised",
     "Refused",
     "Scalar",
+    "Version",
     "batch",
     "compile",
     "compile_diagram",
@@ -86,6 +87,7 @@ __all__ = [
     "spelling",
     "stream",
     "teleport",
+    "version",
 ]
 
 _MODULES = frozenset(("batch", "counting", "parts", "prepare", "pytket", "pyzx", "qiskit", "spelling", "stream"))

@@ -4,14 +4,16 @@ from __future__ import annotations
 import argparse
 import importlib
 import json
+import os
 import sys
 from dataclasses import asdict
 from typing import Callable, Dict, Optional, Sequence, Tuple
 
-from . import __version__, arguments, cli
+from . import arguments, cli
+from .program import CALLED
 
 _ABOUT = """\
-usage: python3 -m zxopt COMMAND ..      (COMMAND --help tells its words)
+usage: python3 -m zxopt COMMAND .. [FILE | < FILE]      (COMMAND --help tells its words)
 
   opt [FILE]               optimises a text: fewer T gates, the same linear map up to a nonzero scalar
   teleport [FILE]          changes phases alone
@@ -31,28 +33,41 @@ usage: python3 -m zxopt COMMAND ..      (COMMAND --help tells its words)
 `opt` makes one circuit unless --best is given, as the program does. `counts`, `parts` and `batch` take the best of
 several circuits unless --no-best is given.
 
+  python3 -m zxopt opt --best read.qasm --to written.qasm
+  python3 -m zxopt prepare read.qasm | python3 -m zxopt parts > written.qasm
+  python3 -m zxopt --version           which program this runs
+
 This package stands outside of the proved program `zxopt`, and runs it: what is proved is about the text that the
-program reads and the text that it writes. The program is $ZXOPT, or the one that was built beside the package, or
-`zxopt` on the path.
+program reads and the text that it writes. The manual page zxopt(1) is the program's: man -l docs/zxopt.1 in a clone.
 """
 
 
 def main(argv: Optional[Sequence[str]] = None) -> int:
     """Runs a command with its words, and answers its exit status. Wrong words end the interpreter with status 2."""
     words = list(sys.argv[1:] if argv is None else argv)
+    if os.environ.get(CALLED):
+        print("zxopt: the program would be this command itself; set ZXOPT to the program's file", file=sys.stderr)
+        return cli.UNABLE
     if words == ["--version"]:
-        print(f"zxopt {__version__}, the package")
-        return 0
-    if not words or words[0] in ("-h", "--help"):
-        print(_ABOUT, end="")
+        return cli.guarded(_version)
+    if not words or words[0] in ("-h", "--help", "help"):
+        about = _ABOUT.replace("python3 -m zxopt", arguments.called())
+        print(about, end="", file=sys.stdout if words else sys.stderr)
         return 0 if words else 2
     command, rest = words[0], words[1:]
     if command not in (*_COMMANDS, *_MODULES):
-        print(f"zxopt: {command} is no command; python3 -m zxopt --help tells them", file=sys.stderr)
+        print(f"zxopt: {command} is no command; {arguments.called()} --help tells them", file=sys.stderr)
         return 2
     asked = parser_of(command).parse_args(rest)
     file = getattr(asked, "file", None)
     return cli.guarded(lambda: _described(command)[1](asked), f"zxopt {command}", file if file != "-" else None)
+
+
+def _version() -> int:
+    from .identity import version
+
+    print(version())
+    return 0
 
 
 def parser_of(command: str) -> argparse.ArgumentParser:

@@ -10,6 +10,7 @@ import sys
 from math import inf
 
 __all__ = [
+    "called",
     "distance",
     "parser",
     "positive_int",
@@ -24,11 +25,14 @@ __all__ = [
 ]
 
 
+def called() -> str:
+    """How this command is called: by the name that pip installs, or as a module of the interpreter."""
+    return "zxopt" if os.path.basename(sys.argv[0] or "") == "zxopt" else "python3 -m zxopt"
+
+
 def parser(command: str, about: str, epilog: str = "") -> argparse.ArgumentParser:
     """The parser of a command's words."""
-    name = os.path.basename(sys.argv[0] or "")
-    called = "zxopt" if name == "zxopt" else "python3 -m zxopt"
-    return argparse.ArgumentParser(prog=f"{called} {command}", description=about, epilog=epilog)
+    return argparse.ArgumentParser(prog=f"{called()} {command}", description=about, epilog=epilog)
 
 
 def reads_one(parser: argparse.ArgumentParser) -> argparse.ArgumentParser:

@@ -18,7 +18,7 @@ from .faults import NoFlow, Refused
 from .processes import Stopped, ending_children
 from .qasm import QasmError
 
-__all__ = ["guarded", "placed", "read_text", "write_file", "write_text"]
+__all__ = ["guarded", "placed", "read_text", "tell_terminal", "write_file", "write_text"]
 
 REFUSED, NO_OUTPUT, NO_MEMORY, NO, UNABLE, BY_SIGNAL = 1, 4, 5, 6, 70, 128
 
@@ -42,7 +42,8 @@ def guarded(work: Callable[[], int], name: str = "zxopt", file: Optional[str] = 
     except (NoFlow, FlowFails) as no:
         return _told(f"{name}: {no}", NO)
     except ValueError as refused:
-        return _told(placed(file, refused) if file else f"{name}: {refused}", REFUSED)
+        hint = f"\nhint: {refused.hint}" if isinstance(refused, Refused) else ""
+        return _told((placed(file, refused) if file else f"{name}: {refused}") + hint, REFUSED)
     except MemoryError as none:
         return _told(str(none) or f"{name}: no memory", NO_MEMORY)
     except OSError as failed:
@@ -57,10 +58,15 @@ def read_text(file: Optional[str]) -> bytes:
     if file is None or file == "-":
         if sys.stdin is None:
             raise OSError("standard input is closed")
-        if sys.stdin.isatty():
-            print("zxopt: reading from the terminal, until Ctrl-D", file=sys.stderr)
+        tell_terminal()
         return sys.stdin.buffer.read()
     return Path(file).read_bytes()
+
+
+def tell_terminal() -> None:
+    """Tells who sits before a terminal that a text is read from there."""
+    if sys.stdin is not None and sys.stdin.isatty():
+        print("zxopt: the text is read from this terminal; Ctrl-D in a new line ends it", file=sys.stderr)
 
 
 def write_text(text: str, file: Optional[str]) -> None:

@@ -1,11 +1,14 @@
 """The faults for which the program refuses a text, and the exception that tells one.
 
-The table says the same as the script `where` and the table of refusals in docs/LANGUAGE.md; a test compares them.
+The file `faults.tsv` has them all, with what each means and what to do; the script `where` reads it too.
 """
 from __future__ import annotations
 
 import re
-from typing import Mapping, NamedTuple, Optional
+from typing import AbstractSet, Iterator, Mapping, NamedTuple, Optional, Sequence
+
+from .data import read_data
+from .qasm import BUILT_IN, HEADER, KEYWORDS
 
 __all__ = ["Fault", "FAULTS", "NoFlow", "Refused"]
 
@@ -14,56 +17,30 @@ SHOWN = 60
 
 
 class Fault(NamedTuple):
-    """A reason for which the program refuses a text."""
+    """A reason for which the program refuses a text: what it means, and what to do then."""
 
     number: int
     name: str
     sentence: str
+    remedy: str
 
 
-FAULTS: Mapping[int, Fault] = {
-    number: Fault(number, name, sentence)
-    for number, name, sentence in [
-        (1, "TooLong", "there are more than 16,777,216 bytes"),
-        (2, "BadByte", "no token, space or comment begins"),
-        (3, "Syntax", "no statement begins, after whole statements"),
-        (4, "Version", "the first statement isn't OPENQASM 2.0;"),
-        (5, "Include", "a file other than qelib1.inc is included"),
-        (6, "Unsupported", "reset, if, opaque, ^ or a function such as sin stands"),
-        (7, "Redeclared", "a name is declared twice, or two formal names of a gate are equal"),
-        (8, "EmptyRegister", "a register has size 0"),
-        (9, "TooManyQubits", "there are more than 1,024 qubits"),
-        (10, "Unknown", "a name isn't declared as what is needed there"),
-        (11, "WrongCount", "angles or qubits differ in number from the gate's declaration"),
-        (12, "Index", "an index isn't below its register's size"),
-        (
-            13,
-            "Sizes",
-            "registers of different sizes stand in one application or measurement, "
-            "or a register and a single place in one measurement",
-        ),
-        (14, "SameQubit", "a qubit stands twice in one application"),
-        (15, "Divide", "a divisor is 0"),
-        (16, "AngleTooLarge", "a number has more than 38 digits, or a part of a fraction is above 2^60"),
-        (
-            17,
-            "NotSixteenthTurn",
-            "an angle isn't a whole number of sixteenth turns, or pi is multiplied by pi or divided by",
-        ),
-        (18, "TooDeep", "more than 256 parentheses or calls are nested"),
-        (19, "TooManyGates", "the call would be the 1,000,001st"),
-        (20, "SecondVersion", "OPENQASM stands a second time"),
-        (21, "BadLine", "a line of a graph's or a diagram's file doesn't fit, or is missing at its end"),
-        (22, "AfterMeasure", "an application or a measurement names a qubit that was measured before"),
-        (23, "BitTwice", "a measurement names a bit that an earlier one names"),
-        (24, "TooManyBits", "there are more than 65,536 bits"),
-        (25, "NotSquare", "a diagram that is to be a circuit has another number of outputs than of inputs"),
-        (26, "NoSecond", "no line //// second parts two texts"),
-    ]
-}
+def _faults() -> Iterator[Fault]:
+    for line in read_data("faults.tsv").splitlines()[1:]:
+        number, name, sentence, remedy = line.split("\t")
+        yield Fault(int(number), name, sentence, remedy)
+
+
+FAULTS: Mapping[int, Fault] = {fault.number: fault for fault in _faults()}
 
 # The fault whose place is the number of a line, and not a byte.
 _BAD_LINE = 21
+# Those that are of one name: it is declared twice, or isn't declared.
+_REDECLARED = 7
+_UNKNOWN = 10
+
+_DECLARED = re.compile(r"\b(gate|qreg|creg|opaque)\s+(\w+)")
+_IDENTIFIER = re.compile(r"(?<![\w.])[A-Za-z]\w*")
 
 
 class Refused(ValueError):
@@ -76,7 +53,9 @@ class Refused(ValueError):
     line, column: the same as numbers from 1, the column counted in bytes; None where there is none.
     which: 1 or 2 where two texts were compared, for the one that is refused, to which the place belongs; else None.
     excerpt: what stands in the line from that place on, 60 characters of it at most.
+    identifier: the name at fault, where one is declared twice or isn't declared and the statement shows which; else "".
     sentence: what the fault means, in words.
+    hint: what to do.
     """
 
     def __init__(
@@ -88,8 +67,9 @@ class Refused(ValueError):
         column: Optional[int] = None,
         which: Optional[int] = None,
         excerpt: str = "",
+        identifier: str = "",
     ) -> None:
-        super().__init__(number, name, place, line, column, which, excerpt)
+        super().__init__(number, name, place, line, column, which, excerpt, identifier)
         self.number = number
         self.name = name
         self.place = place
@@ -97,8 +77,10 @@ class Refused(ValueError):
         self.column = column
         self.which = which
         self.excerpt = excerpt
+        self.identifier = identifier
         known = FAULTS.get(number)
         self.sentence = known.sentence if known else "a fault that this package doesn't know"
+        self.hint = known.remedy if known else "this program is newer than the package: install that of its version"
 
     @classmethod
     def at(cls, number: int, name: str, place: Optional[int], text: bytes, which: Optional[int] = None) -> "Refused":
@@ -112,7 +94,8 @@ class Refused(ValueError):
         begin = text.rfind(b"\n", 0, place) + 1
         line = text.count(b"\n", 0, place) + 1
         rest = text[place : place + 4 * SHOWN].split(b"\n", 1)[0]
-        return cls(number, name, place, line, place - begin + 1, which, _shown(rest))
+        identifier = _identifier_at_fault(number, text, place)
+        return cls(number, name, place, line, place - begin + 1, which, _shown(rest), identifier)
 
     @classmethod
     def told(cls, said: str, text: bytes) -> Optional["Refused"]:
@@ -132,8 +115,9 @@ class Refused(ValueError):
 
     def __str__(self) -> str:
         place = self.where
+        identifier = f": {self.identifier}" if self.identifier else ""
         shown = f": {self.excerpt}" if self.excerpt else ""
-        return f"{place}{': ' if place else ''}{self.sentence} (fault {self.number} {self.name}){shown}"
+        return f"{place}{': ' if place else ''}{self.sentence}{identifier} (fault {self.number} {self.name}){shown}"
 
 
 class NoFlow(ValueError):
@@ -148,6 +132,48 @@ class NoFlow(ValueError):
 
     def __str__(self) -> str:
         return "no flow; left are the vertices " + " ".join(map(str, self.vertices))
+
+
+def _identifier_at_fault(number: int, text: bytes, place: int) -> str:
+    """The name at fault in the statement at a place: the first one that isn't declared before as a gate or a register, or
+    that is declared again. Nothing for faults of other kinds, and where the statement doesn't show it."""
+    if number not in (_REDECLARED, _UNKNOWN):
+        return ""
+    before, statement = _code(text[:place]), _code(text[place:])
+    gates = BUILT_IN | KEYWORDS | (HEADER if re.search(r"\binclude\b", before) else frozenset())
+    registers = KEYWORDS
+    for kind, name in _DECLARED.findall(before):
+        if kind in ("gate", "opaque"):
+            gates |= {name}
+        else:
+            registers |= {name}
+    head = re.split(r"[;{]", statement, maxsplit=1)[0]
+    first, *others = _IDENTIFIER.findall(head) or [""]
+    if number == _REDECLARED:
+        return _twice(others, gates | registers)
+    if first == "gate":
+        body = statement[len(head) + 1 :].split("}", 1)[0]
+        return next(filter(None, (_unknown(it, gates, KEYWORDS | set(others[1:])) for it in body.split(";"))), "")
+    return _unknown(head, gates, registers)
+
+
+def _unknown(statement: str, gates: AbstractSet[str], places: AbstractSet[str]) -> str:
+    """The first name of an application that is none of these gates or, behind the gate, none of these places."""
+    names: list[str] = _IDENTIFIER.findall(statement)
+    known = [gates, *[places] * len(names)]
+    return next((name for name, declared in zip(names, known) if name not in declared), "")
+
+
+def _twice(names: Sequence[str], declared: AbstractSet[str]) -> str:
+    """The first name of a declaration if that is declared already, or else the first one that stands twice."""
+    if names and names[0] in declared:
+        return names[0]
+    return next((name for at, name in enumerate(names) if name in names[:at]), "")
+
+
+def _code(text: bytes) -> str:
+    """A text without its comments."""
+    return re.sub(r"//[^\n]*", "", text.decode("utf-8", "replace"))
 
 
 def _shown(line: bytes) -> str:

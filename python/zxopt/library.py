@@ -2,9 +2,9 @@
 from __future__ import annotations
 
 from functools import lru_cache
-from pathlib import Path
 from typing import NamedTuple
 
+from zxopt.data import read_data
 from zxopt.qasm import HEADER, declaration, split, squeezed
 
 
@@ -18,7 +18,7 @@ class LibraryGate(NamedTuple):
 @lru_cache(maxsize=1)
 def library() -> dict[str, LibraryGate]:
     """The library's gates by their names, in an order in which each stands behind those that it is made of."""
-    text = Path(__file__).with_name("library.qasm").read_text(encoding="utf-8")
+    text = read_data("library.qasm")
     out: dict[str, LibraryGate] = {}
     for statement in split(text)[0]:
         one = declaration(statement.text)

@@ -6,6 +6,7 @@ has its own handlers of signals, and these don't change them.
 """
 from __future__ import annotations
 
+import os
 import signal
 import subprocess
 import threading
@@ -13,7 +14,10 @@ from contextlib import contextmanager
 from types import FrameType
 from typing import Iterator, Optional, Sequence, Set, Tuple
 
-__all__ = ["Stopped", "communicate", "ending_children"]
+__all__ = ["CALLED", "Stopped", "communicate", "ending_children"]
+
+# This variable tells a process that it was started as the program, for which none of this package has to be taken.
+CALLED = "ZXOPT_CALLED"
 
 # Seconds from which on a time limit is none: the system can't wait so long at once.
 _FOR_EVER = 1e6
@@ -49,7 +53,8 @@ class _Children:
         self.is_starting = self.is_starting or is_main
         pipe = subprocess.PIPE
         try:
-            process = subprocess.Popen(command, stdin=pipe, stdout=pipe, stderr=pipe)
+            around = {**os.environ, CALLED: "1"}
+            process = subprocess.Popen(command, stdin=pipe, stdout=pipe, stderr=pipe, env=around)
             self.running.add(process)
         finally:
             self.is_starting = self.is_starting and not is_main

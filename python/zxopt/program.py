@@ -5,18 +5,23 @@ made from several threads at once: each has a process of its own, and threads wa
 """
 from __future__ import annotations
 
+import atexit
 import os
 import shutil
 import signal
 import subprocess
+import tempfile
+from functools import lru_cache
+from importlib import resources
 from pathlib import Path
+from threading import Lock
 from typing import Optional, Sequence, Union
 
 from .faults import Refused
-from .processes import communicate
+from .processes import CALLED, communicate
 from .texts import Circuit, Text, as_bytes
 
-__all__ = ["Program", "Text", "as_bytes", "find_program", "run"]
+__all__ = ["CALLED", "Program", "Text", "as_bytes", "find_program", "run"]
 
 # A file that can be run, or a name to be looked for on the path.
 Program = Union[str, "os.PathLike[str]"]
@@ -25,6 +30,12 @@ Program = Union[str, "os.PathLike[str]"]
 _ANSWERS = (0, 6)
 _IS_REFUSED = 1
 _NO_MEMORY = 5
+# Those of the program without words: they are no command, or there is no memory for them. A loader has 1 or 127.
+_WITHOUT_WORDS = (2, 5, 7)
+
+# The program that was copied out of a zip file, and who copies it.
+_copied = ""
+_copying = Lock()
 
 
 def run(
@@ -61,31 +72,89 @@ def run(
 
 
 def find_program() -> str:
-    """The program: $ZXOPT where that is set; else the one that was built beside this package, in a clone of the
-    repository, `out/zxopt` or `dist/zxopt`; else `zxopt` on the path; else the script `zxopt` of such a clone, which
-    proves and builds the program when it is called first.
+    """The program: $ZXOPT where that is set; else, where this package lies in a clone of the repository, the first of
+    `out/zxopt`, `dist/zxopt` and `dist/zxopt-static` that this system loads; else the one that the package's wheel
+    holds; else `zxopt` on the path, unless that is a script, as the command is that pip installs for this package; else
+    the script `zxopt` of a clone, which proves and builds the program when it is called first.
 
     Raises FileNotFoundError, an OSError, where there is none.
     """
-    named = os.environ.get("ZXOPT")
-    if named:
-        return named
+    found = os.environ.get("ZXOPT") or _in_clone() or _in_package() or _on_path() or _script_of_clone()
+    if not found:
+        raise FileNotFoundError(
+            "no program zxopt: set ZXOPT to it, put its folder on the path, or install a wheel that was built in a clone"
+        )
+    return found
+
+
+def _clone() -> Optional[Path]:
+    """The clone of the repository in which this package lies, if it does."""
     top = Path(__file__).resolve().parents[2]
-    is_clone = (top / "crates.txt").is_file()
-    if is_clone:
-        for built in (top / "out" / "zxopt", top / "dist" / "zxopt"):
-            if _can_be_run(built):
-                return str(built)
-    on_path = shutil.which("zxopt")
-    if on_path:
-        return on_path
-    if is_clone and _can_be_run(top / "zxopt"):
-        return str(top / "zxopt")
-    raise FileNotFoundError("no program zxopt: set ZXOPT to it, or put its folder on the path")
+    return top if (top / "crates.txt").is_file() else None
+
+
+def _in_clone() -> Optional[str]:
+    top = _clone()
+    if top is None:
+        return None
+    built = (top / name for name in ("out/zxopt", "dist/zxopt", "dist/zxopt-static"))
+    return next((str(file) for file in built if _can_be_run(file) and _is_loaded(file, file.stat().st_mtime_ns)), None)
+
+
+def _in_package() -> Optional[str]:
+    """The program that the wheel holds. Out of a zip file, or where it can't be run in its place, it is copied once into a
+    folder of this process, which goes with the process."""
+    own = resources.files("zxopt").joinpath("bin").joinpath("zxopt")
+    if isinstance(own, Path) and _can_be_run(own):
+        return str(own)
+    if not own.is_file():
+        return None
+    global _copied
+    with _copying:
+        if not _can_be_run(Path(_copied)):
+            folder = tempfile.mkdtemp(prefix="zxopt-")
+            atexit.register(_remove_of, os.getpid(), folder)
+            copy = Path(folder, "zxopt")
+            copy.write_bytes(own.read_bytes())
+            copy.chmod(0o700)
+            _copied = str(copy)
+        return _copied
+
+
+def _remove_of(process: int, folder: str) -> None:
+    """Removes a folder at the end of the process that made it, and not of others that were forked off."""
+    if os.getpid() == process:
+        shutil.rmtree(folder, ignore_errors=True)
+
+
+def _on_path() -> Optional[str]:
+    files = (Path(os.path.abspath(folder), "zxopt") for folder in os.get_exec_path())
+    return next((str(file) for file in files if _can_be_run(file) and _is_binary(file)), None)
+
+
+def _script_of_clone() -> Optional[str]:
+    top = _clone()
+    return str(top / "zxopt") if top and _can_be_run(top / "zxopt") else None
 
 
 def _can_be_run(file: Path) -> bool:
     return file.is_file() and os.access(file, os.X_OK)
+
+
+def _is_binary(file: Path) -> bool:
+    """Whether a file is a program of the machine, and no script."""
+    with file.open("rb") as stream:
+        return stream.read(4) == b"\x7fELF"
+
+
+@lru_cache(maxsize=16)
+def _is_loaded(file: Path, changed: int) -> bool:
+    """Whether this system loads a program, which was changed at this time: it answers a call without words then."""
+    try:
+        _, _, status = communicate([str(file)], b"")
+        return status in _WITHOUT_WORDS
+    except OSError:
+        return False
 
 
 def _failure(command: Sequence[str], status: int, said: str, data: bytes) -> Exception:

@@ -7,10 +7,10 @@ from __future__ import annotations
 
 import re
 from functools import lru_cache
-from pathlib import Path
 from typing import NamedTuple, Optional, Sequence
 
 from zxopt import angles
+from zxopt.data import read_data
 from zxopt.library import library
 from zxopt.qasm import FUNCTIONS, HEADER, Declaration, declaration, split, squeezed
 
@@ -49,7 +49,7 @@ class Shape(NamedTuple):
 @lru_cache(maxsize=1)
 def header() -> dict[str, Declaration]:
     """The declarations of the program's header."""
-    text = Path(__file__).with_name("header.qasm").read_text(encoding="utf-8")
+    text = read_data("header.qasm")
     found = [declaration(it.text) for it in split(text)[0]]
     return {it.name: it for it in found if it}
 

@@ -18,6 +18,7 @@ import zxopt
 from zxopt import __main__ as commands
 from zxopt import cli
 from zxopt.__main__ import main
+from zxopt.program import CALLED
 
 BAD = HEAD + "qreg q[1];\nreset q[0];\n"
 
@@ -98,7 +99,7 @@ class Commands(InRoom):
             stdin = mock.Mock(isatty=lambda: is_terminal, buffer=io.BytesIO(data))
             with mock.patch.object(sys, "stdin", stdin), redirect_stderr(io.StringIO()) as said:
                 self.assertEqual(cli.read_text(None), data)
-            self.assertEqual("reading from the terminal" in said.getvalue(), is_terminal)
+            self.assertEqual("read from this terminal" in said.getvalue(), is_terminal)
 
     def test_parts_take_the_best(self) -> None:
         file = str(EXAMPLES / "tof_3.qasm")
@@ -143,11 +144,41 @@ class Commands(InRoom):
         ran = self.command("--help")
         self.assertEqual((ran.returncode, ran.stderr), (0, ""))
         self.assertIn("stands outside of the proved program", ran.stdout)
-        self.assertIn(zxopt.__version__, self.command("--version").stdout)
-        commands = "opt teleport same counts measures spell prepare parts batch compile graph flow reduce".split()
+        self.assertIn("< FILE", ran.stdout)
+        for word in ("-h", "help"):
+            self.assertEqual(self.command(word).stdout, ran.stdout)
+        without = self.command()
+        self.assertEqual((without.returncode, without.stdout, without.stderr), (2, "", ran.stdout))
+        commands = "opt teleport same counts measures spell prepare parts batch stream compile graph flow reduce".split()
         for command in commands:
             self.assertIn(f"\n  {command} ", ran.stdout)
             self.assertIn("usage: python3 -m zxopt " + command, self.command(command, "--help").stdout)
+
+
+    def test_version(self) -> None:
+        told = zxopt.version()
+        self.writes(f"zxopt {zxopt.__version__}\nprogram {told.program}\nsha256 {told.sha256}\n", "--version")
+        ran = self.command("--version", env={"ZXOPT": "/nowhere/zxopt"})
+        self.assertEqual((ran.returncode, ran.stdout), (70, ""))
+
+    def test_not_as_the_program(self) -> None:
+        """A process that is started as the program refuses to look for it."""
+        ran = self.command("opt", text=example("two_t.qasm"), env={CALLED: "1"})
+        self.assertEqual((ran.returncode, ran.stdout), (70, ""))
+
+    def test_terminal(self) -> None:
+        """Who sits before a terminal is told that it is read."""
+        try:
+            main, other = os.openpty()
+        except OSError as none:
+            self.skipTest(f"no terminal can be made: {none}")
+        os.write(main, example("two_t.qasm").encode() + b"\x04")
+        env = {**os.environ, "PYTHONPATH": str(PYTHON), **absolute_program()}
+        command = [sys.executable, "-m", "zxopt", "opt"]
+        ran = subprocess.run(command, stdin=other, stdout=subprocess.PIPE, stderr=subprocess.PIPE, env=env, timeout=60)
+        os.close(main), os.close(other)
+        self.assertIn(b"read from this terminal", ran.stderr)
+        self.assertEqual(ran.stdout.decode(), HEAD + "qreg q[1];\ns q[0];\n")
 
 
 class Statuses(InRoom):
@@ -155,6 +186,7 @@ class Statuses(InRoom):
         ran = self.command("opt", str(self.write("bad.qasm", BAD)))
         self.assertEqual((ran.returncode, ran.stdout), (1, ""))
         self.assertTrue(ran.stderr.startswith(f"{self.room}/bad.qasm:4:1: reset, if, opaque"))
+        self.assertEqual(ran.stderr.splitlines()[-1], f"hint: {zxopt.FAULTS[6].remedy}")
         ran = self.command("teleport", text=BAD)
         self.assertEqual((ran.returncode, ran.stderr[:20]), (1, "zxopt teleport: 4:1:"))
 

@@ -98,6 +98,9 @@ class Installed(InRoom):
         archive, wheel = made.stdout.split()
         with tarfile.open(source / archive) as packed:
             names = {name.partition("/")[2] for name in packed.getnames()}
+            said = packed.extractfile(next(name for name in packed.getnames() if name.endswith("/PKG-INFO")))
+            assert said is not None
+            self.assertIn("This archive holds no program", said.read().decode("utf-8"))
         here = {f"zxopt/{file.name}" for file in (PYTHON / "zxopt").iterdir() if file.is_file()}
         self.assertEqual(names, here | {"PKG-INFO", "README.md", "backend.py", "pyproject.toml"})
         with zipfile.ZipFile(source / wheel) as packed:

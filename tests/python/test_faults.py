@@ -14,14 +14,10 @@ from zxopt.faults import FAULTS, NoFlow, Refused
 
 
 class Tables(unittest.TestCase):
-    def test_same_sentences_as_where(self) -> None:
-        told = {}
-        for line in (TOP / "where").read_text(encoding="utf-8").splitlines():
-            found = re.fullmatch(r"""    \[(\d+)\]=(['"])(.*)\2""", line)
-            if found:
-                told[int(found[1])] = found[3]
-        self.assertEqual(told, {number: fault.sentence for number, fault in FAULTS.items()})
-        self.assertEqual(sorted(told), list(range(1, 27)))
+    def test_all(self) -> None:
+        self.assertEqual(sorted(FAULTS), list(range(1, 27)))
+        for fault in FAULTS.values():
+            self.assertTrue(fault.sentence and fault.remedy)
 
     def test_same_names_as_the_documents(self) -> None:
         text = (TOP / "docs" / "LANGUAGE.md").read_text(encoding="utf-8")
@@ -66,8 +62,9 @@ class Refusals(InRoom):
         self.assertEqual((caught.exception.line, caught.exception.excerpt), (2, ""))
 
     def test_as_where_tells(self) -> None:
-        """Line, column and sentence are those of the script `where`."""
+        """Line, column, sentence, the name at fault and the hint are those of the script `where`."""
         shutil.copy(TOP / "where", self.room / "where")
+        shutil.copy(TOP / "python/zxopt/faults.tsv", self.room / "faults.tsv")
         (self.room / "zxopt").symlink_to(absolute_program()["ZXOPT"])
         for text in (
             HEAD + "qreg q[1];\nh r[0];\n",
@@ -76,6 +73,11 @@ class Refusals(InRoom):
             "qreg q[1];\n",
             HEAD + "qreg q[2];\r\ncx q[0],q[0];\r\n",
             HEAD + "Qreg q[1];",
+            HEAD + "qreg q[1];\ngate g(x) a { rz(y) a; }",
+            HEAD + "qreg q[1];\ngate g a,b,a { }",
+            HEAD + "qreg q[1];\nqreg q[2];",
+            HEAD + "qreg q[1]; // cu3\ncu3(pi,0,1e3) q[0],q[0];",
+            "OPENQASM 2.0;\nqreg q[1];\nh q[0];\n",
         ):
             with self.subTest(text=text):
                 file = self.room / "text"
@@ -83,8 +85,21 @@ class Refusals(InRoom):
                 told = subprocess.run(["./where", "text"], cwd=self.room, stderr=subprocess.PIPE, check=False)
                 refused = self.refused(text)
                 where = f":{refused.where}" if refused.where else ""
-                first = told.stderr.decode("utf-8").splitlines()[0]
-                self.assertEqual(first, f"text{where}: {refused.sentence}")
+                lines = told.stderr.decode("utf-8").splitlines()
+                identifier = f": {refused.identifier}" if refused.identifier else ""
+                self.assertEqual(lines[0], f"text{where}: {refused.sentence}{identifier}")
+                self.assertEqual(lines[-1], f"hint: {refused.hint}")
+
+    def test_identifier(self) -> None:
+        """The name that is declared twice, or isn't declared as what is needed."""
+        rows = [
+            ("r", "cx q[0],r[0];"), ("cu3", "cu3(pi,0,0) q[0],q[0];"), ("x1", "rz(x1) q[0];"), ("h", "h h;"),
+            ("foo", "gate g a { h a; foo a; }"), ("y", "gate g(x) a { rz(y) a; }"), ("q", "qreg q[2];"),
+            ("cx", "gate cx c,t { CX c,t; }"), ("b", "gate g(a) b,b { }"), ("", "rz(pi/16) q[0];"),
+        ]
+        for identifier, statement in rows:
+            with self.subTest(statement=statement):
+                self.assertEqual(self.refused(f"{HEAD}qreg q[1];\n{statement}\n").identifier, identifier)
 
     def test_pickled(self) -> None:
         for error in (self.refused(HEAD + "h q[0];\n"), NoFlow((1, 2))):
@@ -94,6 +109,7 @@ class Refusals(InRoom):
     def test_unknown_fault(self) -> None:
         refused = Refused(99, "Newer", 3, 1, 4)
         self.assertIn("fault 99 Newer", str(refused))
+        self.assertIn("newer", refused.hint)
 
     def test_long_and_odd_lines_are_shown_short(self) -> None:
         refused = Refused.at(2, "BadByte", 1, b"a\x1b" + b"x" * 100)

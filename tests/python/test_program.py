@@ -3,6 +3,7 @@ from __future__ import annotations
 
 import os
 import re
+import shutil
 import time
 import unittest
 from concurrent.futures import ThreadPoolExecutor
@@ -264,6 +265,7 @@ class Finding(InRoom):
 
     def setUp(self) -> None:
         super().setUp()
+        self.real = absolute_program()["ZXOPT"]
         self.package = self.room / "clone" / "python" / "zxopt" / "program.py"
         self.package.parent.mkdir(parents=True)
         (self.room / "path").mkdir()
@@ -275,35 +277,87 @@ class Finding(InRoom):
             self.addCleanup(patch.stop)
         os.environ.pop("ZXOPT", None)
 
-    def put(self, name: str) -> str:
+    def put(self, name: str, status: int = 2) -> None:
+        self.write(name, f"#!/bin/sh\nexit {status}\n").chmod(0o755)
+
+    def put_binary(self, name: str) -> None:
         (self.room / name).parent.mkdir(parents=True, exist_ok=True)
-        return self.stand_in("exit 0", name)
+        shutil.copy(self.real, self.room / name)
+
+    def found(self) -> str:
+        return os.path.relpath(Path(zxopt.find_program()).resolve(), self.room.resolve())
 
     def test_none(self) -> None:
         with self.assertRaises(FileNotFoundError):
             zxopt.find_program()
 
     def test_order(self) -> None:
-        room = self.room.resolve()
         self.put("clone/out/zxopt")
         with self.assertRaises(FileNotFoundError):
             zxopt.find_program()  # no clone of the repository
         self.write("clone/crates.txt", "")
         self.put("clone/zxopt")
         (self.room / "clone/out/zxopt").unlink()
-        for name in ("clone/zxopt", "path/zxopt", "clone/dist/zxopt", "clone/out/zxopt"):
-            self.put(name)
-            self.assertEqual(Path(zxopt.find_program()).resolve(), room / name)
-        os.environ["ZXOPT"] = "named"
-        self.assertEqual(zxopt.find_program(), "named")
-        os.environ["ZXOPT"] = ""
-        self.assertEqual(Path(zxopt.find_program()).resolve(), room / "clone/out/zxopt")
+        self.assertEqual(self.found(), "clone/zxopt")
+        self.put_binary("path/zxopt")
+        self.assertEqual(self.found(), "path/zxopt")
+        with mock.patch.object(program.resources, "files", lambda _: self.room / "installed"):
+            self.put("installed/bin/zxopt")
+            self.assertEqual(self.found(), "installed/bin/zxopt")
+            for name in ("clone/dist/zxopt-static", "clone/dist/zxopt", "clone/out/zxopt"):
+                self.put(name)
+                self.assertEqual(self.found(), name)
+            os.environ["ZXOPT"] = "named"
+            self.assertEqual(zxopt.find_program(), "named")
+            os.environ["ZXOPT"] = ""
+            self.assertEqual(self.found(), "clone/out/zxopt")
+
+    def test_programs_that_are_not_loaded(self) -> None:
+        """A loader that fails has the status 1 or 127."""
+        self.write("clone/crates.txt", "")
+        self.put("clone/out/zxopt", 127)
+        self.put("clone/dist/zxopt", 1)
+        self.put("clone/dist/zxopt-static")
+        self.assertEqual(self.found(), "clone/dist/zxopt-static")
+
+    def test_scripts_on_the_path(self) -> None:
+        """No script is taken for the program, as the command is one that pip installs, and none is started."""
+        self.write("path/zxopt", f"#!/bin/sh\necho started >>'{self.room}/log'\nexit 2\n").chmod(0o755)
+        with self.assertRaises(FileNotFoundError):
+            zxopt.optimise("x")
+        (self.room / "later").mkdir()
+        self.put_binary("later/zxopt")
+        os.environ["PATH"] += os.pathsep + str(self.room / "later")
+        self.assertEqual(self.found(), "later/zxopt")
+        self.assertFalse((self.room / "log").exists())
+
+    def test_that_cannot_be_run_where_it_lies(self) -> None:
+        """Such a program is copied once."""
+        with mock.patch.object(program.resources, "files", lambda _: self.room / "installed"):
+            self.put_binary("installed/bin/zxopt")
+            (self.room / "installed/bin/zxopt").chmod(0o644)
+            first = zxopt.find_program()
+            self.assertEqual(zxopt.find_program(), first)
+            self.assertEqual(zxopt.optimise(example("two_t.qasm")), TWO_T)
 
     def test_named_on_the_path(self) -> None:
         self.stand_in("/bin/cat >/dev/null; echo made", "path/my-zxopt")
         (self.room / "path/my-zxopt").write_text("#!/bin/bash\n/bin/cat >/dev/null\necho made\n", encoding="utf-8")
         os.environ["ZXOPT"] = "my-zxopt"
         self.assertEqual(zxopt.optimise("x"), "made\n")
+
+
+class Identity(InRoom):
+    def test_version(self) -> None:
+        """The sum is that of the file, as `sha256sum` tells it of these bytes (FIPS 180-2, the message `abc`)."""
+        (self.room / "abc").write_bytes(b"abc")
+        (self.room / "abc").chmod(0o755)
+        told = zxopt.version(self.room / "abc")
+        self.assertEqual((told.package, told.program), (zxopt.__version__, str(self.room / "abc")))
+        self.assertEqual(told.sha256, "ba7816bf8f01cfea414140de5dae2223b00361a396177a9cb410ff61f20015ad")
+        self.assertEqual(zxopt.version().program, os.path.abspath(absolute_program()["ZXOPT"]))
+        with self.assertRaises(FileNotFoundError):
+            zxopt.version("/nowhere/zxopt")
 
 
 if __name__ == "__main__":
