@@ -5,6 +5,7 @@
 #   make check                                      all scripts of tests/ but the proofs, on the program at hand
 #   make prove                                      the gate: proves everything, and then `make check`'s scripts
 #   make package [TO=out/package]                   a .deb and a .tar.gz, the same bytes for the same commit
+#   make plain                                      the same program in plain Rust, for cargo: out/plain and an archive
 
 PREFIX = /usr/local
 DESTDIR =
@@ -21,7 +22,7 @@ doc = $(DESTDIR)$(PREFIX)/share/doc/zxopt
 MAKEFLAGS += --no-builtin-rules
 .SUFFIXES:
 
-.PHONY: all install uninstall check prove package
+.PHONY: all install uninstall check prove package plain
 
 all: $(PROGRAM)
 
@@ -51,3 +52,7 @@ prove:
 
 package: $(PROGRAM)
 	tests/pack "$(PROGRAM)" "$(VERSION)" "$(TO)"
+
+plain:
+	rm -rf out/plain
+	python3 tools/plain out/plain --archive out/zxopt-$(VERSION)-plain-rust.tar.gz

@@ -10,7 +10,7 @@ _SINGLE = "id x y z h s sdg t tdg".split()
 _TURNS = "u1 p rz rx ry".split()
 _DOUBLE = "cx cz cy swap ch".split()
 _TRIPLE = "ccx cswap".split()
-_ANGLES = "pi/2 -pi/4 3*pi/4 pi 0 (1+2)*pi/8 pi/8+3*pi/8 -(pi/2) 2*pi 0.5*pi pi*0.25 -5*pi/8 pi/16 1.5".split()
+_ANGLES = "pi/2 -pi/4 3*pi/4 pi 0 (1+2)*pi/8 pi/8+3*pi/8 -(pi/2) 2*pi 0.5*pi pi*0.25 -5*pi/8".split()
 _LETTERS = b"; ,()[]{}->+-*/^\"'\\0123456789.eqcxhtpigates_\n\t\r\x00\x80\xff~!"
 
 
@@ -109,7 +109,7 @@ class Draw(random.Random):
         drawn = self.sample(qubits, min(3, len(qubits)))
         gate = self.choice(gates) if gates and self.random() < 0.1 else None
         if gate and gate.qubits <= len(drawn):
-            angles = f"({','.join(self.choices(_ANGLES[:10], k=gate.angles))})" if gate.angles else ""
+            angles = f"({','.join(self.choices(_ANGLES, k=gate.angles))})" if gate.angles else ""
             return f"{gate.name}{angles} {','.join(drawn[: gate.qubits])};"
         kind = self.choices(["single", "turn", "u3", "controlled", "barrier", "register", "double", "triple"],
                             [45, 15, 2, 2, 2, 2, 25, 7])[0]
@@ -118,11 +118,11 @@ class Draw(random.Random):
         if kind == "single" or len(drawn) < 2:
             return f"{self.choice(_SINGLE)} {drawn[0]};"
         if kind == "turn":
-            return f"{self.choice(_TURNS)}({self.choice(_ANGLES[:10])}) {drawn[0]};"
+            return f"{self.choice(_TURNS)}({self.choice(_ANGLES)}) {drawn[0]};"
         if kind == "u3":
             return f"u3({','.join(self.choices(_ANGLES, k=3))}) {drawn[0]};"
         if kind == "controlled":
-            return f"{self.choice(['rzz', 'cu1'])}({self.choice(_ANGLES[:10])}) {drawn[0]},{drawn[1]};"
+            return f"{self.choice(['rzz', 'cu1'])}({self.choice(_ANGLES)}) {drawn[0]},{drawn[1]};"
         if kind == "barrier":
             return f"barrier {drawn[0]},{drawn[1]};"
         if kind == "triple" and len(drawn) == 3:

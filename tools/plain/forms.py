@@ -45,6 +45,7 @@ _REPLACEMENTS = (
     (rf"\bmatch {_CALL} \{{\s*Some\((\w+)\) => \2,\s*None => (\d+),\s*\}}", r"\1.unwrap_or(\3)"),
     (rf"\bmatch {_CALL} \{{\s*Some\((\w+)\) => Some\(([^?;\n]*)\),\s*None => None,\s*\}}", r"\1.map(|\2| \3)"),
     (r"\|(\w+)\| (\w+)\(\1\)(?=\))", r"\2"),
+    (r"\bif (\w+) < (\w+) \|\| \1 >= ([^{}&|]+) \{", r"if !(\2..\3).contains(&\1) {"),
 )
 
 _UNKNOWN = (
@@ -156,16 +157,23 @@ def _mark_unused_parameters(source: Source) -> None:
     while found := functions.search(source.code, at):
         at = found.end()
         end = source.after_brackets(at - 1)
-        body = re.compile(r"[^{};]*\{").match(source.code, end)
-        if not body:
+        body = _body_of(source, end)
+        if body is None:
             continue
-        text = source.shown(source.code[body.end() - 1 : source.after_brackets(body.end() - 1)])
+        text = source.shown(source.code[body : source.after_brackets(body)])
 
         def marked(name: re.Match[str]) -> str:
             return name[0] if re.search(rf"\b{name[2]}\b", text) else f"{name[1]}_{name[2]}"
 
         parameters = re.sub(r"(^\s*|[(,]\s*)((?!_)[a-z]\w*)(?=: )", marked, source.code[at : end - 1])
         source.code = source.code[:at] + parameters + source.code[end - 1 :]
+
+
+def _body_of(source: Source, at: int) -> int | None:
+    """Where the body of a function begins whose parameters end at this place, if it has a body."""
+    while source.code[at] not in "{;":
+        at = source.after_brackets(at) if source.code[at] in "([" else at + 1
+    return at if source.code[at] == "{" else None
 
 
 def _elide_lifetimes(source: Source) -> None:
@@ -175,8 +183,9 @@ def _elide_lifetimes(source: Source) -> None:
     while found := functions.search(source.code, at):
         at = found.end()
         end = source.after_brackets(at - 1)
-        body = source.code.index("{", end)
-        used = len(re.findall(rf"'{found[1]}\b", source.code[at : source.after_brackets(body)]))
+        body = _body_of(source, end)
+        whole = source.code[at : source.after_brackets(body) if body else end]
+        used = len(re.findall(rf"'{found[1]}\b", whole))
         if used == 1 and re.search(rf"'{found[1]}\b", source.code[at:end]):
             signature = source.code[at:end].replace(f"'{found[1]} ", "")
             source.code = source.code[: found.start()] + found[0].split("<")[0] + "(" + signature + source.code[end:]

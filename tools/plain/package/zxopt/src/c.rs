@@ -51,10 +51,6 @@ pub extern "C" fn zxopt_version() -> u32 {
 /// # Safety
 ///
 /// `text` and `out` have so many bytes, `told` is valid, and they don't overlap.
-#[expect(
-    clippy::too_many_arguments,
-    reason = "each flag is one, and each range two"
-)]
 #[unsafe(no_mangle)]
 pub unsafe extern "C" fn zxopt_optimise(
     best: bool,

@@ -162,8 +162,8 @@ pub fn same(one: &str, other: &str) -> Result<bool, Refused> {
 /// ```
 /// use zxopt::{Compiled, compile};
 ///
-/// let wire = "zxd 2\nspider 0 Z 2\nedge 0 1 plain\nspider 1 Z 0\ninput 0 plain\noutput 1 plain\nend\n";
-/// assert!(compile(wire).is_err()); // the edge stands before a spider that it names
+/// let phase = "zxd 2\nspider 0 Z 2\nspider 1 X 0\nedge 0 1 plain\ninput 0 plain\noutput 1 plain\nend\n";
+/// assert!(matches!(compile(phase)?, Compiled::Circuit(text) if text.contains("t q[0];")));
 ///
 /// let cut = "zxd 2\nspider 0 Z 0\nspider 1 Z 0\ninput 0 plain\noutput 1 plain\nend\n";
 /// assert!(matches!(compile(cut)?, Compiled::NoFlow(_)));
