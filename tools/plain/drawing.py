@@ -25,8 +25,8 @@ class Gate(NamedTuple):
 class Draw(random.Random):
     """A source of texts: those of a seed are always the same."""
 
-    def circuit(self) -> str:
-        """A text of OpenQASM of up to 120 statements, with gates of its own and measurements in some."""
+    def circuit(self, most: int = 120) -> str:
+        """A text of OpenQASM of at most so many statements, with gates of its own and measurements in some."""
         registers = {f"q{i}": self.randrange(1, 5) for i in range(self.randrange(1, 4))}
         qubits = [f"{name}[{i}]" for name, size in registers.items() for i in range(size)]
         lines = ["OPENQASM 2.0;", 'include "qelib1.inc";']
@@ -34,7 +34,7 @@ class Draw(random.Random):
         gates: list[Gate] = []
         for number in range(self.randrange(4)):
             lines.append(self._declaration(number, gates))
-        lines += [self._statement(list(registers), qubits, gates) for _ in range(self.choice([0, 5, 20, 60, 120]))]
+        lines += [self._statement(list(registers), qubits, gates) for _ in range(most // self.choice([1, 2, 6, 24, 121]))]
         if self.random() < 0.4:
             lines.append(f"creg c[{len(qubits)}];")
             measured = self.sample(qubits, self.randrange(1, len(qubits) + 1))

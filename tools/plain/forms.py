@@ -45,6 +45,8 @@ _REPLACEMENTS = (
     (rf"\bmatch {_CALL} \{{\s*Some\((\w+)\) => \2,\s*None => (\d+),\s*\}}", r"\1.unwrap_or(\3)"),
     (rf"\bmatch {_CALL} \{{\s*Some\((\w+)\) => Some\(([^?;\n]*)\),\s*None => None,\s*\}}", r"\1.map(|\2| \3)"),
     (r"\|(\w+)\| (\w+)\(\1\)(?=\))", r"\2"),
+    (r"\b(\d+) <= (\w+) && \2 <= (\d+)\b", r"(\1..=\3).contains(&\2)"),
+    (r"\b(\w+)\.iter\(\)\.any\(\|(\w+)\| (\w+) == \*\2\)", r"\1.contains(&\3)"),
     (r"\bif (\w+) < (\w+) \|\| \1 >= ([^{}&|]+) \{", r"if !(\2..\3).contains(&\1) {"),
 )
 

@@ -28,7 +28,7 @@ rust-version.workspace = true
 
 [lib]
 doctest = false
-
+{no_tests}
 [lints]
 workspace = true
 
@@ -128,7 +128,8 @@ def _write_package(folder: Path, crate: Crate, files: dict[str, Source], written
         (folder / f"src/{name}.rs").write_text(source.text(), encoding="utf-8")
     code = "\n".join(source.code for source in files.values())
     used = sorted(name for name in crate.below if name in written and re.search(rf"\b{name}::", code))
-    manifest = _MANIFEST.format(name=crate.name)
+    no_tests = "" if "#[test]" in code else "test = false\n"
+    manifest = _MANIFEST.format(name=crate.name, no_tests=no_tests)
     if "rattle::" in code:
         manifest += 'rattle = { path = "../../rattle" }\n'
     manifest += "".join(f'{name} = {{ path = "../{name}" }}\n' for name in used)
