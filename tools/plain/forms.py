@@ -9,7 +9,7 @@ from source import COMMENT, END, LITERAL, Source
 _PORTED = "clap|bumpalo|arrayvec|smallvec|itoa|rand_pcg"
 # Of the paths of std: what `rattle` has instead, and what Rust's std has in the same form.
 _OF_RATTLE = r"std::(?:alloc|collections|env|marker::Brand|process::Abort|sync::ledger|test)\b"
-_OF_RUST = r"std::(?:error::Error|fmt|io|mem|ops|process::ExitCode|str::from_utf8)\b"
+_OF_RUST = r"std::(?:array|cmp|convert|error::Error|fmt|io|iter|mem|num|ops|process::ExitCode|slice|str)\b"
 _ATTRIBUTES = r"(?:derive\((?:Clone|Copy|Debug|Default|PartialEq|Eq|, )+\)|inline|inline\(always\)|cfg\(test\)|test)"
 _MACROS = "matches|unreachable|write|debug_assert|assert|assert_eq|rattle::format|rattle::vec"
 # What Rattle's prelude has: the names of `rattle`, and the sign that a file needs them.

@@ -9,6 +9,11 @@ use std::ops::Deref;
 pub struct String(pub(crate) std::string::String);
 
 impl String {
+    /// The text as a slice.
+    pub fn as_str(&self) -> &str {
+        self
+    }
+
     /// Its bytes.
     pub fn into_bytes(self) -> Vec<u8> {
         Vec(self.0.into_bytes())
@@ -23,9 +28,9 @@ impl String {
 }
 
 impl Deref for String {
-    type Target = std::string::String;
+    type Target = str;
 
-    fn deref(&self) -> &std::string::String {
+    fn deref(&self) -> &str {
         &self.0
     }
 }

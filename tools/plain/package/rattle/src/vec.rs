@@ -1,4 +1,5 @@
-//! A list whose memory may run out. What takes no memory comes from Rust's `Vec`.
+//! A list whose memory may run out. It lends its elements as a slice, so no call of Rust's own list that would abort
+//! where memory runs out is at hand.
 
 use crate::Clone;
 use crate::alloc::{AllocError, AllocFailed, Global};
@@ -38,6 +39,41 @@ impl<T> Vec<T> {
     pub fn allocator(&self) -> &Global {
         &Global
     }
+    /// All elements.
+    pub fn as_slice(&self) -> &[T] {
+        self
+    }
+
+    /// All elements, to be changed.
+    pub fn as_mut_slice(&mut self) -> &mut [T] {
+        self
+    }
+
+    /// For how many elements there is memory.
+    pub fn capacity(&self) -> usize {
+        self.0.capacity()
+    }
+
+    /// Lets all elements go, and keeps the memory.
+    pub fn clear(&mut self) {
+        self.0.clear()
+    }
+
+    /// Takes the last element out.
+    pub fn pop(&mut self) -> Option<T> {
+        self.0.pop()
+    }
+
+    /// Takes the element at a place out.
+    pub fn remove(&mut self, place: usize) -> T {
+        self.0.remove(place)
+    }
+
+    /// Keeps the elements of which this holds.
+    pub fn retain(&mut self, is_kept: impl FnMut(&T) -> bool) {
+        self.0.retain(is_kept)
+    }
+
     /// Keeps the first elements, so many at most.
     pub fn truncate(&mut self, count: usize) {
         self.0.truncate(count)
@@ -63,6 +99,13 @@ impl<T> Vec<T> {
         }
         self.0.insert(place, value);
         Ok(())
+    }
+}
+
+impl<T: PartialEq> Vec<T> {
+    /// Keeps the first of equal elements that stand side by side.
+    pub fn dedup(&mut self) {
+        self.0.dedup()
     }
 }
 
@@ -107,15 +150,15 @@ impl<T: Clone> Clone for Vec<T> {
 }
 
 impl<T> Deref for Vec<T> {
-    type Target = std::vec::Vec<T>;
+    type Target = [T];
 
-    fn deref(&self) -> &std::vec::Vec<T> {
+    fn deref(&self) -> &[T] {
         &self.0
     }
 }
 
 impl<T> DerefMut for Vec<T> {
-    fn deref_mut(&mut self) -> &mut std::vec::Vec<T> {
+    fn deref_mut(&mut self) -> &mut [T] {
         &mut self.0
     }
 }
