@@ -34,7 +34,7 @@ class Draw(random.Random):
         gates: list[Gate] = []
         for number in range(self.randrange(4)):
             lines.append(self._declaration(number, gates))
-        lines += [self._statement(list(registers), qubits, gates) for _ in range(most // self.choice([1, 2, 6, 24, 121]))]
+        lines += [self._statement(list(registers), qubits, gates) for _ in range(self.randrange(most + 1))]
         if self.random() < 0.4:
             lines.append(f"creg c[{len(qubits)}];")
             measured = self.sample(qubits, self.randrange(1, len(qubits) + 1))
