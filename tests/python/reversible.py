@@ -4,7 +4,7 @@ from __future__ import annotations
 
 import random
 import re
-from typing import Dict, List, Sequence
+from typing import Dict, List, Mapping, Sequence
 
 _GATE = re.compile(r"(ccx|cx|x) ((?:q\[\d+\],?)+);")
 _GROUP = re.compile(r"(\w+) = q\[(\d+)(?:\.\.(\d+))?\]")
@@ -26,7 +26,7 @@ class Reversible:
             assert len(set(self.gates[-1])) == len(found[1]), line
         assert lines[4] == f"qreg q[{sum(map(len, self.groups.values()))}];"
 
-    def run(self, inputs: Dict[str, Sequence[int]]) -> Dict[str, List[int]]:
+    def run(self, inputs: Mapping[str, Sequence[int]]) -> Dict[str, List[int]]:
         """What each group holds behind the circuit, for each input: numbers whose lowest bits are the first places."""
         count = len(next(iter(inputs.values())))
         all_of_them = (1 << count) - 1
