@@ -5,6 +5,8 @@ from typing import Dict, List, NamedTuple, Sequence, Tuple
 
 __all__ = ["Circuit", "Gate"]
 
+_REGISTER = "q"
+
 
 class Gate(NamedTuple):
     """One gate of the header `qelib1.inc`."""
@@ -16,7 +18,7 @@ class Gate(NamedTuple):
     def text(self) -> str:
         """The statement that applies the gate to places of the register `q`."""
         angle = f"({self.angle})" if self.angle else ""
-        return f"{self.name}{angle} {','.join(f'q[{it}]' for it in self.qubits)};"
+        return f"{self.name}{angle} {','.join(f'{_REGISTER}[{it}]' for it in self.qubits)};"
 
 
 class Circuit:
@@ -38,7 +40,8 @@ class Circuit:
         return sum(map(len, self.groups.values()))
 
     def qubits(self, group: str, count: int) -> List[int]:
-        """Takes the next `count` qubits as the group of this name, and answers them."""
+        """Takes the next `count` qubits as the group of this name, and answers them. The text's comment tells all
+        groups but one that has the register's name."""
         self.groups[group] = list(range(self.width, self.width + count))
         return self.groups[group]
 
@@ -58,19 +61,14 @@ class Circuit:
         """A NOT gate."""
         self.add("x", target)
 
-    def undo(self, begin: int) -> None:
-        """Puts the gates from number `begin` on behind the others once more, the last first. Each has to be its own
-        inverse, as `ccx`, `cx`, `x`, `cz` and `h` are."""
-        self.gates += reversed(self.gates[begin:])
-
     def text(self) -> str:
         """The circuit as OpenQASM 2.0, the same bytes whenever it is generated."""
-        groups = ", ".join(f"{name} = {_places(them)}" for name, them in self.groups.items() if name != "q")
+        groups = ", ".join(f"{name} = {_places(them)}" for name, them in self.groups.items() if name != _REGISTER)
         head = [f"// {self.about}", *([f"// {groups}"] if groups else [])]
-        head += ["OPENQASM 2.0;", 'include "qelib1.inc";', f"qreg q[{self.width}];"]
+        head += ["OPENQASM 2.0;", 'include "qelib1.inc";', f"qreg {_REGISTER}[{self.width}];"]
         return "\n".join(head + [gate.text() for gate in self.gates]) + "\n"
 
 
 def _places(qubits: Sequence[int]) -> str:
     """The places of neighbouring qubits in the register."""
-    return f"q[{qubits[0]}]" if len(qubits) == 1 else f"q[{qubits[0]}..{qubits[-1]}]"
+    return f"{_REGISTER}[{qubits[0]}]" if len(qubits) == 1 else f"{_REGISTER}[{qubits[0]}..{qubits[-1]}]"
