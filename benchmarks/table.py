@@ -47,7 +47,6 @@ COUNTS = {"T": "t_count", "T-depth": "t_depth", "CX, CZ": "two_qubit", "gates": 
 SHORT = {
     "tof_10": "a NOT with 10 controls",
     "barenco_tof_10": "on any ancillas",
-    "mod5_4": "multiples of 5",
     "vbe_adder_3": "an adder of 3 bits",
     "rc_adder_6": "an adder of 6 bits",
     "gf2_8_mult": "a multiplier in GF(2^8)",
