@@ -6,6 +6,7 @@
 #   make check                                      all scripts of tests/ but the proofs, on the program at hand
 #   make prove                                      the gate: proves everything, and then `make check`'s scripts
 #   make release [TO=out/release]                   all that is given to users: archives, .deb, wheel and their sums
+#   make plain                                      the same program in plain Rust, for cargo: out/plain and an archive
 
 PREFIX = /usr/local
 DESTDIR =
@@ -22,7 +23,7 @@ doc = $(DESTDIR)$(PREFIX)/share/doc/zxopt
 # is no prerequisite, since the name of one may have spaces.
 find_program = program="$(PROGRAM)"; [ -n "$$program" ] || program=$$(ZXOPT_PROGRAM=1 ./zxopt) || exit
 
-.PHONY: all install uninstall check prove release
+.PHONY: all install uninstall check prove release plain
 
 all:
 	$(find_program); echo "$$program"
@@ -51,3 +52,7 @@ prove:
 
 release:
 	@$(find_program); tests/pack "$$program" "$(VERSION)" "$(TO)"
+
+plain:
+	rm -rf out/plain
+	python3 tools/plain out/plain --archive out/zxopt-$(VERSION)-plain-rust.tar.gz
