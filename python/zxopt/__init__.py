@@ -43,12 +43,14 @@ from .commands import (
     teleport,
 )
 from .faults import FAULTS, Fault, NoFlow, Refused
-from .identity import VERSION as __version__, Version, version
+from .identity import VERSION, Version, version
 from .program import find_program, run
 
 if TYPE_CHECKING:
     from . import batch, counting, parts, prepare, pytket, pyzx, qiskit, spelling, stream
     from .counting import Measures, measures
+
+__version__ = VERSION
 
 __all__ = [
     "Comparison",

@@ -22,9 +22,10 @@ from concurrent.futures.process import BrokenProcessPool
 from dataclasses import asdict, dataclass, field
 from typing import Any, Callable, NamedTuple, Optional, Sequence, Union
 
-from . import __version__, arguments, slices, windows, workers
+from . import arguments, slices, windows, workers
 from .circuit import CannotCut
 from .commands import GateCounts
+from .identity import VERSION
 from .program import Program, find_program
 from .reading import Reader
 from .schedule import Limits, Node, Window, bundles
@@ -133,7 +134,7 @@ def optimise_stream(
     if source != "-" and os.path.exists(target) and os.path.samefile(source, target):
         raise ValueError(f"{target} is the file that is read")
     with slices.opened(source, begin, end) as text:
-        what = {"settings": settings, "source": text.identity, "program": [identity(found), __version__]}
+        what = {"settings": settings, "source": text.identity, "program": [identity(found), VERSION]}
         with Target(target, what, anew, text.is_read_once) as to, workers.pool(jobs, executor) as pool:
             make = workers.Task("", "", (), mode, timeout, os.path.abspath(found), to.is_packed)
             run = _Run(text, to, pool, make, gates, keep_barriers, 2 * jobs + 2)
