@@ -44,7 +44,7 @@ class Source:
         """Makes it a slice of bytes."""
         at = _head_end(self.file)
         self.file.seek(0)
-        self.head = self.file.read(at)
+        self.head = _without_mark(self.file.read(at))
         self.is_first = begin == 0
         self.begin = max(at, _border(self.file, begin)) if begin else at
         if end is not None:
@@ -102,8 +102,9 @@ def _head_end(file: _File) -> int:
     while True:
         file.seek(0)
         data = file.read(size)
-        at = 0
-        statements, rest = split(data.decode("latin-1"))
+        code = _without_mark(data)
+        at = len(data) - len(code)
+        statements = split(code.decode("latin-1"))[0]
         for it in statements:
             if it.head() not in _DECLARING:
                 return at
@@ -113,6 +114,11 @@ def _head_end(file: _File) -> int:
         if size > GREATEST_BYTES:
             raise ValueError("the declarations before the first gate take more than 16 MB")
         size *= 2
+
+
+def _without_mark(data: bytes) -> bytes:
+    """A text without its byte order mark."""
+    return data[len(_MARK) :] if data.startswith(_MARK) else data
 
 
 def _border(file: _File, byte: int) -> int:

@@ -316,6 +316,11 @@ class Slices(InFiles):
             with self.subTest(seed=seed):
                 self.assertTrue(zxopt.same(text, written), f"{text}\n{written}")
 
+    def test_a_byte_order_mark(self) -> None:
+        rest = "t q[0];\nrx(0.1) q[0];\nt q[0];\n"
+        written = self.slices("\ufeff" + HEAD + "qreg q[1];\n" + rest, [len(HEAD) + 16])
+        self.assertEqual(written, HEAD + "qreg q[1];\n" + rest)
+
     def test_late_declarations_are_refused(self) -> None:
         for late in ("qreg r[1];", "gate foo a { h a; }"):
             text = HEAD + f"qreg q[1];\nh q[0];\nh q[0];\n{late}\nh q[0];\n"
