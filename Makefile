@@ -29,7 +29,7 @@ all:
 	$(find_program); echo "$$program"
 
 install:
-	install -d "$(bin)" "$(lib)" "$(man)" "$(doc)/docs" "$(doc)/examples"
+	install -d "$(bin)" "$(lib)" "$(man)" "$(doc)/docs" "$(doc)/examples" "$(doc)/python" "$(doc)/benchmarks"
 	$(find_program); install -m 755 "$$program" "$(lib)/zxopt"
 	install -m 755 where "$(lib)/where"
 	install -m 644 python/zxopt/faults.tsv "$(lib)"
@@ -38,6 +38,8 @@ install:
 	install -m 644 docs/zxopt.1 docs/zxopt-where.1 "$(man)"
 	install -m 644 README.md CHANGELOG.md CONTRIBUTING.md LICENSE "$(doc)"
 	install -m 644 docs/*.md "$(doc)/docs"
+	install -m 644 python/README.md "$(doc)/python"
+	install -m 644 benchmarks/README.md "$(doc)/benchmarks"
 	install -m 644 examples/*.qasm examples/*.zx? "$(doc)/examples"
 
 uninstall:
