@@ -13,6 +13,7 @@ import sys
 from contextlib import contextmanager
 from typing import IO, Any, Iterator, Optional, Union
 
+from .cli import tell_terminal
 from .qasm import split
 from .windows import GREATEST_BYTES
 
@@ -79,6 +80,7 @@ def opened(name: str, begin: Optional[int] = None, end: Optional[int] = None) ->
             raise ValueError("standard input has no slices")
         if sys.stdin is None:
             raise OSError("standard input is closed")
+        tell_terminal()
         yield Source(sys.stdin.buffer, "-", is_read_once=True)
         return
     with open(name, "rb") as file:
