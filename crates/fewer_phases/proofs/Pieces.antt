@@ -2,7 +2,7 @@
 use Rattle.std.proofs.Common.{◌≡◌, ◌≤◌, ℕ, ◌+◌, ◌-◌, ◌++◌, List, [], take, drop, length, append-nil, append_assoc, sym, ap, ◌∙◌, subst, arith, OnOk}
 use Rattle.std.specs.Prelude.{Result, Ok, Err}
 use Rattle.std.proofs.lemmas.List.{drop-drop, take-append-drop, drop_all}
-use Rattle.zx_model.specs.Scalar.{IsScaled, IsWithin, one_scalar, product_of_scalars}
+use Rattle.zx_model.specs.Scalar.{IsWithin, one_scalar, product_of_scalars}
 use Rattle.zx_model.specs.declared.scalar.Scalar.{Scalar}
 use Rattle.zx_model.proofs.Scalars.{scaled_refl, scaled_trans}
 use Rattle.zx_gates.specs.Circuit.{Circuit}

@@ -3,7 +3,6 @@
 use crate::parities::add;
 use std::alloc::{AllocError, Global};
 use std::process::Abort;
-use std::rt::HostRuntime;
 use zx_gates::{Gate, GateList, Qubit, ScaledCircuit};
 use zx_identities::{Insertion, put_all_in, put_in};
 use zx_model::{Scalar, Sixteenth};

@@ -5,7 +5,6 @@
 
 use std::alloc::{AllocError, Global};
 use std::process::Abort;
-use std::rt::HostRuntime;
 use zx_gates::{Gate, GateList, Qubit};
 use zx_identities::is_identity;
 use zx_model::Sixteenth;

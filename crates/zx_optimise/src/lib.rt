@@ -5,7 +5,8 @@
 //! a reduced one with at least as many odd phases. With `best` it is no dearer than the plain one, than the read one
 //! after cleanup, and than the one whose phases alone are changed, where these are within the bound.
 //!
-//! It is proved from what `simplify_circuit`, `teleport`, `tidy` and `shrink` promise, with no word of vertices and edges.
+//! It is proved from what `simplify_circuit`, `teleport`, `tidy`, `shrink` and `with_fewer_odd_phases` promise, with no
+//! word of vertices and edges.
 //!
 //! ```rust
 //! let made = optimise(alloc, &read, true)?;

@@ -23,9 +23,10 @@ const MOST_EACH: u64 = 20;
 ///
 /// Without `best` it is the plain one, which simplification of the graph, extraction and cleanup make. With `best` there
 /// are further candidates, of which those are taken into account that have few enough gates: the read circuit after
-/// cleanup; the one whose phases alone are changed, after cleanup; and two that have pieces of this one and of the plain
-/// one replaced by smaller circuits. The candidate with the fewest odd phases is taken, then that with the fewest gates
-/// on two qubits, then the shortest, and the plain one where it is as cheap.
+/// cleanup; the one whose phases alone are changed, after cleanup; two that have pieces of this one and of the plain
+/// one replaced by smaller circuits; and what phases that do nothing together, put into the one whose phases alone are
+/// changed, make of it. The candidate with the fewest odd phases is taken, then that with the fewest gates on two
+/// qubits, then the shortest, and the plain one where it is as cheap.
 ///
 /// # Errors
 ///

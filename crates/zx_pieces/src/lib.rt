@@ -5,7 +5,7 @@
 //! circuit's map is a scalar other than 0 times the new one's, which they answer. That it has fewer
 //! gates isn't proved. Whatever proposes another list for a piece, it is taken only where `zx_same`
 //! shows by which scalar the maps differ. Of `shrink` besides, that no gates in what it makes cancel or
-//! merge.
+//! merge. `product` multiplies scalars as long as they stay small.
 //!
 //! ```rust
 //! let smaller = shrink(alloc, &circuit)?;

@@ -5,8 +5,8 @@ use Rattle.zx_optimise.proofs.optimiser.beside_teleported.Goals as goal
 pub cheaper-requires-clause-candidate : goal.cheaper-requires-clause-candidate
 cheaper-requires-clause-candidate c = candidate-whole c.args.read.now c.in_ok-teleported.teleported c.in_ok-teleported.ensures.candidate
 
-pub cheaper-requires-2-clause-candidate : goal.cheaper-requires-2-clause-candidate
-cheaper-requires-2-clause-candidate c = c.in_ok-shrunk.ensures c.args.read.now c.in_ok-teleported.ensures.candidate
+pub cheaper-best-requires-clause-candidate : goal.cheaper-best-requires-clause-candidate
+cheaper-best-requires-clause-candidate c = c.in_ok-shrunk.ensures c.args.read.now c.in_ok-teleported.ensures.candidate
 
 pub returns-clause-than_teleported : goal.returns-clause-than_teleported
 returns-clause-than_teleported c =
@@ -15,7 +15,7 @@ returns-clause-than_teleported c =
     let teleported = c.in_ok-teleported.teleported in
     than_teleported c.args.read.now made.gates teleported.gates c.in_ok-teleported.ensures.cleanup
     (λ within. no_dearer-trans made.gates between.gates teleported.gates
-    (taken_cheap between made (taken-trans between c.cheaper-2.result made c.cheaper-2.ensures.than_best c.beside_fewer.ensures.than_best))
+    (taken_cheap between made (taken-trans between c.cheaper-best.result made c.cheaper-best.ensures.than_best c.beside_fewer.ensures.than_best))
     (c.cheaper.ensures.than_candidate within))
 
 pub beside_fewer-requires-clause-candidate : goal.beside_fewer-requires-clause-candidate
@@ -23,6 +23,6 @@ beside_fewer-requires-clause-candidate c = c.in_ok-fewer.ensures c.args.read.now
 
 pub returns-clause-than_best : goal.returns-clause-than_best
 returns-clause-than_best c =
-    taken-trans c.args.best c.cheaper-2.result c.beside_fewer.result
-    (taken-trans c.args.best c.cheaper.result c.cheaper-2.result c.cheaper.ensures.than_best c.cheaper-2.ensures.than_best)
+    taken-trans c.args.best c.cheaper-best.result c.beside_fewer.result
+    (taken-trans c.args.best c.cheaper.result c.cheaper-best.result c.cheaper.ensures.than_best c.cheaper-best.ensures.than_best)
     c.beside_fewer.ensures.than_best

@@ -7,11 +7,11 @@ use Rattle.zx_optimise.proofs.optimiser.fewer.Goals as goal
 pub returns-in-Some : goal.returns-in-Some
 returns-in-Some c = λ read is.
     record {
-      kept = implements_preserved is.kept (rw c.in-Some.is at c.in_ok-with_fewer_odd_phases.ensures.kept) c.times.ensures (omega arith);
-      tidy = rw c.in-Some.is at c.in_ok-with_fewer_odd_phases.ensures.tidy;
+      kept = implements_preserved is.kept (rw c.in-Some.is at c.in_ok-made.ensures.kept) c.times.ensures (omega arith);
+      tidy = rw c.in-Some.is at c.in_ok-made.ensures.tidy;
     }
 
-pub times-in-Some-requires : goal.times-in-Some-requires
-times-in-Some-requires c =
+pub times-requires : goal.times-requires
+times-requires c =
     product_fits most_whole_root2 c.args.candidate.now.scalar c.requires
-    (rw c.in-Some.is at c.in_ok-with_fewer_odd_phases.ensures.kept) (omega arith)
+    (rw c.in-Some.is at c.in_ok-made.ensures.kept) (omega arith)
