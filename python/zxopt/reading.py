@@ -356,4 +356,3 @@ class Reader:
         self.pending, self.begun[:] = state["pending"], state["begun"]
         self.cutter.add_qubits(len(circuit.qubits))
         self.cutter.restore(state["cutter"], lambda text: text.splitlines(True))
-

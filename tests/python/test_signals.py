@@ -19,7 +19,7 @@ import zxopt
 from zxopt import processes
 
 # A time that is never met, but that a fault must not make us wait for.
-LONG = 60
+LONG = 300
 
 
 def waited(holds: Callable[[], bool]) -> bool:
@@ -108,6 +108,7 @@ class Ended(InRoom):
             f'exec "{real}" "$@"', "some",
         )
         process = self.begun(["batch", "in", "--to", "out", "--csv", "out.csv", "--jobs", "1"], 3, some)
+        self.assertTrue(waited(lambda: (self.room / "out.csv").read_text().count("\n") == 3))
         process.send_signal(signal.SIGTERM)
         out, told = process.communicate(timeout=LONG)
         self.assertEqual(process.returncode, 128 + signal.SIGTERM, told)
