@@ -6,7 +6,7 @@ import unittest
 
 import simulator
 import zxopt
-from support import TOP
+from support import TOP, example
 
 if str(TOP) not in sys.path:
     sys.path.insert(0, str(TOP))
@@ -40,9 +40,9 @@ class FewerT(unittest.TestCase):
 
     def test_the_map_stays(self) -> None:
         circuits: list[Circuit] = [families.mod5_4(), mixed(5, 20), mixed(6, 32), mixed(6, 48)]
-        for circuit in circuits:
-            with self.subTest(circuit.name):
-                text = circuit.text()
+        texts = {circuit.name: circuit.text() for circuit in circuits}
+        for name, text in {**texts, "adder": example("adder.qasm")}.items():
+            with self.subTest(name):
                 self.assertTrue(simulator.is_same(text, zxopt.optimise(text, best=True)))
 
 
