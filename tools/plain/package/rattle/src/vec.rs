@@ -69,6 +69,11 @@ impl<T> Vec<T> {
         self.0.remove(place)
     }
 
+    /// Takes the element at a place out, and puts the last one there.
+    pub fn swap_remove(&mut self, place: usize) -> T {
+        self.0.swap_remove(place)
+    }
+
     /// Keeps the elements of which this holds.
     pub fn retain(&mut self, is_kept: impl FnMut(&T) -> bool) {
         self.0.retain(is_kept)
