@@ -43,11 +43,13 @@ class Commands(unittest.TestCase):
         self.assertEqual(counts.written, zxopt.GateCounts(len(names), 16, cz + cx, h, phase, cz, cx, x))
 
     def test_counts_of_the_best(self) -> None:
+        # no more than the field publishes
         rows = [("tof_3", 21, 15, 13), ("tof_4", 35, 23, 18), ("barenco_tof_3", 28, 16, 13), ("adder", 28, 16, 24)]
         for name, read, written, most_two_qubit in rows:
             with self.subTest(name=name):
                 counts = zxopt.counts(example(f"{name}.qasm"))
-                self.assertEqual((counts.read.odd, counts.written.odd), (read, written))
+                self.assertEqual(counts.read.odd, read)
+                self.assertLessEqual(counts.written.odd, written)
                 self.assertLessEqual(counts.written.two_qubit, most_two_qubit)
 
     def test_optimise_counted(self) -> None:
