@@ -2,6 +2,7 @@
 from __future__ import annotations
 
 import os
+import signal
 import stat
 import subprocess
 import sys
@@ -56,6 +57,12 @@ class InRoom(unittest.TestCase):
         return subprocess.run(
             command, input=text, stdout=subprocess.PIPE, stderr=subprocess.PIPE, text=True, cwd=self.room, env=around
         )
+
+
+def with_default_signals() -> None:
+    """Run in a child before its program: signals that a shell or `nohup` lets its jobs ignore end this one."""
+    for number in (signal.SIGINT, signal.SIGHUP, signal.SIGTERM):
+        signal.signal(number, signal.SIG_DFL)
 
 
 def absolute_program() -> Dict[str, str]:

@@ -13,7 +13,7 @@ import unittest
 from pathlib import Path
 from typing import Callable, List, Set
 
-from support import HEAD, PYTHON, InRoom, absolute_program
+from support import HEAD, PYTHON, InRoom, absolute_program, with_default_signals
 
 import zxopt
 from zxopt import processes
@@ -55,11 +55,15 @@ class Ended(InRoom):
     def started(self) -> Set[int]:
         return {int(name) for name in os.listdir(self.numbers)}
 
-    def begun(self, words: List[str], count: int, program: str = "") -> "subprocess.Popen[bytes]":
+    def begun(
+        self, words: List[str], count: int, program: str = "", signals: Callable[[], object] = with_default_signals
+    ) -> "subprocess.Popen[bytes]":
         """A command, when so many programs of it run."""
         env = {**os.environ, "PYTHONPATH": str(PYTHON), "ZXOPT": program or self.slow}
         pipe = subprocess.PIPE
-        process = subprocess.Popen([sys.executable, "-m", "zxopt", *words], cwd=self.room, env=env, stdout=pipe, stderr=pipe)
+        process = subprocess.Popen(
+            [sys.executable, "-m", "zxopt", *words], cwd=self.room, env=env, stdout=pipe, stderr=pipe, preexec_fn=signals
+        )
         self.addCleanup(self.cleared, process)
         self.assertTrue(waited(lambda: len(self.started()) >= count))
         return process
@@ -131,11 +135,8 @@ class Ended(InRoom):
     def test_ignored_signals_stay_ignored(self) -> None:
         """As behind `nohup`: the command goes on, and so does its program."""
         short = self.stand_in(f'echo >"{self.numbers}/$$"; exec "{absolute_program()["ZXOPT"]}" "$@"', "short")
-        before = signal.signal(signal.SIGHUP, signal.SIG_IGN)
-        try:
-            process = self.begun(["batch", "in", "--to", "out", "--no-best", "--jobs", "1"], 1, short)
-        finally:
-            signal.signal(signal.SIGHUP, before)
+        words = ["batch", "in", "--to", "out", "--no-best", "--jobs", "1"]
+        process = self.begun(words, 1, short, lambda: signal.signal(signal.SIGHUP, signal.SIG_IGN))
         process.send_signal(signal.SIGHUP)
         out, told = process.communicate(timeout=LONG)
         self.assertEqual((process.returncode, told), (0, b""))

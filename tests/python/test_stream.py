@@ -18,7 +18,7 @@ from unittest import mock
 
 sys.path.insert(0, str(Path(__file__).parent))
 import simulator
-from support import HEAD, PYTHON, InRoom, absolute_program
+from support import HEAD, PYTHON, InRoom, absolute_program, with_default_signals
 from test_parts import Drawn
 
 import zxopt
@@ -425,6 +425,7 @@ class Processes(InRoom):
 
     def begin(self, *words: str, **more: Any) -> "subprocess.Popen[str]":
         command = [sys.executable, "-c", self.script, *words]
+        more.setdefault("preexec_fn", with_default_signals)
         return subprocess.Popen(
             command, cwd=self.room, env=self.env, text=True, stdout=subprocess.PIPE, stderr=subprocess.PIPE, **more
         )
