@@ -14,7 +14,7 @@ use std::marker::Model;
 
 /// A set of numbers, seen as these by rising size, and a bound below which any number can be added
 /// without memory. It takes memory for the words from that of the least number to that of the
-/// greatest alone, so it needs no length.
+/// greatest, not for those before them, so it needs no length.
 #[derive(Drop)]
 pub struct BitSet {
     window: Window,

@@ -1,4 +1,4 @@
-use Rattle.std.proofs.Common.{◌≡◌, refl, ◌∙◌, ap, subst, ℕ, ◌+◌, ◌-◌, ◌<◌, ◌≤◌, List, [], take, drop, get_or, length, arith}
+use Rattle.std.proofs.Common.{◌≡◌, refl, ◌∙◌, ap, subst, ℕ, ◌+◌, ◌-◌, ◌<◌, List, take, drop, get_or, length, arith}
 use Rattle.std.proofs.lemmas.List.{length-take-le}
 use Rattle.zx_bits.proofs.WindowLemmas.{trimmed, front_lost}
 use Rattle.zx_bits.proofs.window.Window.cut.Goals as goal

@@ -1,4 +1,4 @@
-use Rattle.std.proofs.Common.{refl, ◌∙◌, ap, ap₂, ◌+◌, List, ℕ, get_or, length}
+use Rattle.std.proofs.Common.{refl, ◌∙◌, ap, ◌+◌, List, ℕ, get_or, length}
 use Rattle.std.specs.Int.RustNames.{bit_and}
 use Rattle.zx_bits.specs.Internal.Windows.{word_at}
 use Rattle.std.specs.List.{refill}
