@@ -481,14 +481,35 @@ fn keep_words(words: &mut [u64], offset: usize, row: &Window)
     }
 }
 
-// Adds words to those from a place on.
+// Adds words to those from a place on, four at a time.
 fn add_words(words: &mut [u64], start: usize, added: &[u64])
     requires { start + length added.now ≤ length words.old }
     ensures size { length words.new ≡ length words.old }
     ensures words { (i : ℕ) →
         get_or words.new i 0 ≡ bit_xor (get_or words.old i 0) (word_from start added.now i) }
 {
-    for i in 0..added.len() {
-        words[start + i] ^= added[i];
+    let mut i = 0;
+    'fours: while i + 4 <= added.len() {
+        add_word(words, start, added, i);
+        add_word(words, start, added, i + 1);
+        add_word(words, start, added, i + 2);
+        add_word(words, start, added, i + 3);
+        i += 4;
     }
+    'rest: while i < added.len() {
+        add_word(words, start, added, i);
+        i += 1;
+    }
+}
+
+// Adds one of these words.
+#[inline(always)]
+fn add_word(words: &mut [u64], start: usize, added: &[u64], i: usize)
+    requires one { i < length added.now }
+    requires within { start + length added.now ≤ length words.old }
+    ensures size { length words.new ≡ length words.old }
+    ensures words { (v : ℕ) → get_or words.new v 0 ≡
+        bit_xor (get_or words.old v 0) (if v == start + i then word_from start added.now (start + i) else 0) }
+{
+    words[start + i] ^= added[i];
 }

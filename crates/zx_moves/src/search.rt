@@ -260,11 +260,13 @@ fn twin_of(g: &OpenGraph, u: VertexId) -> Option<VertexId>
     twin_beside(g, u, near)
 }
 
+// The first of a vertex's neighbours that is a twin of u.
 fn twin_beside(g: &OpenGraph, u: VertexId, near: VertexId) -> Option<VertexId>
     requires live { Live g.now.graph u }
     requires near { Live g.now.graph near }
     ensures { result ≡ find (is_twin g.now.graph u) (neighbours g.now.graph near) }
 {
+    // The index of the word that is told. Before the first, no vertex is left out.
     let mut index = usize::MAX;
     let mut beside = u64::MAX;
     for v in g.neighbours(near) {

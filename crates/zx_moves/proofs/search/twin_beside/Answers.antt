@@ -34,7 +34,7 @@ returns-then-is_twin c =
     let g = c.args.g.now.graph in
     let rest = next_some c.next.result c.loop-v.v-iterator c.next.new.self c.in-Some.v c.next.ensures.steps c.in-Some.is in
     let whole : c.loop-v.yielded ++ c.in-Some.v ∷ c.next.new.self ≡ neighbours g c.args.near =
-        sym (ap (λ xs. c.loop-v.yielded ++ xs) rest) ∙ c.loop-v.invariant.all in
+    sym (ap (λ xs. c.loop-v.yielded ++ xs) rest) ∙ c.loop-v.invariant.all in
     sym (ap (find (is_twin g c.args.u)) (sym whole)
     ∙ find_at (is_twin g c.args.u) c.loop-v.yielded c.next.new.self c.in-Some.v c.loop-v.invariant.passed (sym c.is_twin.ensures ∙ c.if-is_twin.true))
 

@@ -14,11 +14,11 @@ filled old kept new n same le more =
 pub returns-clause-ok : goal.returns-clause-ok
 returns-clause-ok c =
     let total : c.span-total.result ≡ max (c.start-start.result + length c.args.self.now.words.items) c.args.end - min c.start-start.result c.args.first =
-        c.span-total.ensures ∙ ap (λ n. span c.args.self.now.offset n c.args.first c.args.end) c.len.ensures.value
-        ∙ span_from c.args.self.now.offset (length c.args.self.now.words.items) c.start-start.result c.args.first c.args.end
-        c.start-start.ensures.kept c.start-start.ensures.none c.requires.some in
+    c.span-total.ensures ∙ ap (λ n. span c.args.self.now.offset n c.args.first c.args.end) c.len.ensures.value
+    ∙ span_from c.args.self.now.offset (length c.args.self.now.words.items) c.start-start.result c.args.first c.args.end
+    c.start-start.ensures.kept c.start-start.ensures.none c.requires.some in
     let count : length c.resize.new.self.items ≡ max (c.start-start.result + length c.args.self.now.words.items) c.args.end - c.min-offset.result =
-        omega (arith, c.in_ok-resize.ensures.len, total, c.min-offset.ensures) in
+    omega (arith, c.in_ok-resize.ensures.len, total, c.min-offset.ensures) in
     let shift = c.start-start.result - c.min-offset.result in
     let long = ap length c.as_mut_slice.ensures.value in
     let kept = refilled (length c.resize.new.self.items) c.resize.new.self.items c.move_back.new.words (c.move_back.ensures.len ∙ long) in

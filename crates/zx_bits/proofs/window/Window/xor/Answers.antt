@@ -36,7 +36,7 @@ pub cover-requires-clause-some : goal.cover-requires-clause-some
 cover-requires-clause-some c =
     let size = length-take-le c.used-end.result c.as_slice-words.result.now c.used-end.ensures.within in
     let lt = begins c.as_slice-words.result.now c.unused_before-start.result c.used-end.result c.if-end-eq0.false
-        (omega (arith, c.unused_before-start.ensures.within, size)) c.used-end.ensures.last c.unused_before-start.ensures.zeros in
+    (omega (arith, c.unused_before-start.ensures.within, size)) c.used-end.ensures.last c.unused_before-start.ensures.zeros in
     omega (arith, lt)
 
 pub add_words-requires : goal.add_words-requires
@@ -45,8 +45,15 @@ add_words-requires c =
     let words = c.as_slice-words.result.now in
     let ours = ap length c.as_mut_slice.ensures.value in
     let order = length-take-le c.used-end.result words c.used-end.ensures.within in
-    omega (arith, ours, order, length-take (c.used-end.result - start) (drop start words), c.unused_before-start.ensures.within,
-    c.in_ok-cover.ensures.ok.first, c.in_ok-cover.ensures.ok.end)
+    omega (
+      arith,
+      ours,
+      order,
+      length-take (c.used-end.result - start) (drop start words),
+      c.unused_before-start.ensures.within,
+      c.in_ok-cover.ensures.ok.first,
+      c.in_ok-cover.ensures.ok.end,
+    )
 
 pub returns-clause-ok : goal.returns-clause-ok
 returns-clause-ok c place =
