@@ -3,7 +3,6 @@ pub mod Changing
 pub mod Passing
 pub mod Finding
 pub mod Orders
-pub mod LeftNeighbours
 pub mod Steps
 pub mod Stale
 pub mod Starting

@@ -80,7 +80,7 @@ pub(crate) fn insert(
 {
     let mut row = Row {
         pivot: u,
-        columns: left_neighbours(alloc, g, u, left)?,
+        columns: left_neighbours(g, u, left)?,
         members: VertexSet::one(alloc, u)?,
         size: 1,
     };
@@ -97,7 +97,6 @@ pub(crate) fn insert(
 
 // The neighbours of a vertex that are left.
 pub(crate) fn left_neighbours(
-    alloc: Global,
     g: &OpenGraph,
     u: VertexId,
     left: &VertexSet,
@@ -107,11 +106,7 @@ pub(crate) fn left_neighbours(
         member w set.ids ≡ (is_in left.now.ids w && joined g.now.graph.edges u w)) }
     ensures valid { WellFormed g.now.graph }
 {
-    let mut set = VertexSet::new(alloc);
-    for w in g.neighbours(u) {
-        if left.contains(w) {
-            set.toggle(w)?;
-        }
-    }
+    let mut set = g.neighbour_set(u).clone()?;
+    set.keep(left);
     Ok(set)
 }

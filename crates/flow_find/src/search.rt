@@ -390,7 +390,7 @@ fn left_around(
         target.now.vertex target.now.neighbours target.now.itself w)) }
 {
     let mut set = if target.neighbours {
-        left_neighbours(alloc, g, target.vertex, left)?
+        left_neighbours(g, target.vertex, left)?
     } else {
         VertexSet::new(alloc)
     };

@@ -1,7 +1,8 @@
 //! Sets of vertices.
 
-ghost use Rattle.std.specs.Prelude.{◌≡◌, ◌↔◌, ◌<◌, ◌≤◌, ◌==◌, ℕ, [], ◌∷◌, true, false, length};
+ghost use Rattle.std.specs.Prelude.{◌≡◌, ◌↔◌, ◌<◌, ◌≤◌, ◌+◌, ◌*◌, ◌==◌, ◌&&◌, ℕ, [], ◌∷◌, true, false, length};
 ghost use Rattle.std.specs.Prelude.{IsOk, IfOk, IfSome, OnOk, OnErr, ltb, count_by};
+ghost use Rattle.std.specs.Int.{bit_at};
 ghost use Rattle.zx_model.specs.Bits.{xor, member};
 ghost use Rattle.zx_calculus.specs.Graph.{in_order, Distinct};
 ghost use Rattle.zx_calculus.proofs.Ids.{removed};
@@ -93,6 +94,13 @@ impl VertexSet {
         Ids {
             numbers: self.numbers.iter(),
         }
+    }
+
+    /// Which of the 64 ids from `64 * index` on are in the set, as the bits of a word.
+    pub fn word(&self, index: usize) -> u64
+        ensures { (k : ℕ) → k < 64 → (bit_at result k == 1) ≡ member (64 * index + k) self.now.ids }
+    {
+        self.numbers.word(index)
     }
 
     /// The vertex of the least id that isn't below a number.
@@ -227,6 +235,15 @@ impl VertexSet {
         ensures keeps_room { IsBelow self.old.room other.now.ids → self.old.room ≤ self.new.room }
     {
         self.numbers.xor(&other.numbers)
+    }
+
+    /// Takes the vertices out that aren't in another set. It takes no memory.
+    pub fn keep(&mut self, other: &VertexSet)
+        ensures members { (w : ℕ) → member w self.new.ids ≡ (member w self.old.ids && member w other.now.ids) }
+        ensures keeps_room { self.old.room ≤ self.new.room }
+        ensures rising { in_order ltb self.new.ids ≡ true }
+    {
+        self.numbers.keep(&other.numbers);
     }
 
     /// Takes all vertices out. It takes no memory, and gives none back.

@@ -1,18 +1,18 @@
 -- What the words that are kept say of the bits of the row.
-use Rattle.std.proofs.Common.{◌⊎◌, ◌≡◌, refl, sym, ◌∙◌, ap, ap₂, inl, inr, ℕ, zero, suc, ◌+◌, ◌-◌, ◌*◌, ◌/◌, ◌%◌, ◌^◌, ◌<◌, ◌≤◌, min, max, Bool, true, false, ◌&&◌, eqb, ltb, leb, List, [], ◌++◌, take, drop, replicate, length, get_or, Some, lt-ltb, eq-eqb, ne_eqb, if◌then◌else◌, length-drop, ◌==◌, arith}
+use Rattle.std.proofs.Common.{◌⊎◌, ◌≡◌, refl, sym, ◌∙◌, ap, ap₂, inl, inr, ℕ, zero, suc, ◌+◌, ◌-◌, ◌*◌, ◌/◌, ◌%◌, ◌^◌, ◌<◌, ◌≤◌, min, max, Bool, true, false, ◌&&◌, eqb, ltb, leb, List, [], ◌++◌, take, drop, replicate, length, get_or, slice_set, Some, lt-ltb, eq-eqb, ne_eqb, if◌then◌else◌, length-drop, ◌==◌, arith}
 use Rattle.std.specs.Int.{w64, trailing_zeros}
 use Rattle.std.specs.Int.RustNames.{bit_xor, bit_and}
 use Rattle.std.specs.Int.Bits.{xor_zero_r}
 use Rattle.std.specs.List.{refill}
 use Rattle.std.proofs.lemmas.Bool.{cases_lt, cases_eq, cond-true, cond-false, le-ltb, le-leb, lt-leb, leb-true, and_parts}
-use Rattle.std.proofs.lemmas.Grind.{same_number_lists}
-use Rattle.std.proofs.lemmas.List.{get_or_past, get_or_append_left, get_or-append_right, get_or-take, get_or-drop, length-take}
+use Rattle.std.proofs.lemmas.Grind.{same_number_lists, get_or-set_at}
+use Rattle.std.proofs.lemmas.List.{get_or-set_other, get_or_past, get_or_append_left, get_or-append_right, get_or-take, get_or-drop, length-take}
 use Rattle.std.proofs.lemmas.Nat.Bits.{bit_at-trailing_zeros, ones_shl, bit_at_mask_inside, bit_at_mask_below, bit_at-pow_same, bit_at-pow_other}
 use Rattle.std.proofs.Math.Seq.{take-append_seam}
 use Rattle.zx_model.specs.Bits.{xor}
 use Rattle.zx_bits.specs.Rows.{IsFirstFrom}
 use Rattle.zx_bits.specs.Internal.Words.{digit, is_odd}
-use Rattle.zx_bits.specs.Internal.Windows.{word_at, word_from, is_set, end_of, Covers, EndsBy}
+use Rattle.zx_bits.specs.Internal.Windows.{word_at, word_from, is_set, end_of, span, Covers, EndsBy}
 use Rattle.zx_bits.specs.declared.window.Window.{Window}
 use Rattle.zx_model.proofs.BitLemmas.{and-true, and-false}
 use Rattle.zx_bits.proofs.Sums.{is_odd-same, is_odd-none, is_odd-xor, is_odd-add, is_odd-either}
@@ -213,6 +213,15 @@ started w start number kept =
     nothing none true i = refl
     nothing none false i = get_or_past w.words.items i 0 (omega arith)
 
+-- how many there are then, whichever way it is told where they begin
+pub span_from : (offset count start first stop : ℕ) → (0 < count → start ≡ offset) → (count ≡ 0 → start ≡ first) → first < stop →
+    span offset count first stop ≡ max (start + count) stop - min start first
+span_from offset count start first stop kept none lt =
+    elim (cases_eq count 0) [
+      | inl e ↦ let at : start ≡ first = none e in cond-true (eqb count 0) _ _ (eq-eqb count 0 e) ∙ omega arith
+      | inr some ↦ let at : start ≡ offset = kept (omega arith) in cond-false (eqb count 0) _ _ (ne_eqb count 0 some) ∙ omega arith
+    ]
+
 -- words with zeros put behind and then in front of them
 pub covered : (old new : Window) (xs : List ℕ) (start stop from offset more : ℕ) → (0 < length old.words.items → from ≡ old.offset) →
     (length old.words.items ≡ 0 → from ≡ start) → offset ≡ min from start → start < stop → xs ≡ old.words.items ++ replicate more 0 →
@@ -357,6 +366,55 @@ none_without_words w none place =
       | inl l ↦ word_before w (place / 64) l
       | inr g ↦ word_past w (place / 64) (let size = ap length none in omega (arith, size))
     ])
+
+-- ---- words of which only some bits are kept
+
+-- the words so far are cut, and one more is
+pub kept_next : (start self : List ℕ) (kept : ℕ → ℕ) (number word : ℕ) → number < length self → word ≡ kept number →
+    ((v : ℕ) → get_or self v 0 ≡ (if ltb v number then bit_and (get_or start v 0) (kept v) else get_or start v 0)) →
+    (v : ℕ) → get_or (slice_set self number (bit_and (get_or self number 0) word)) v 0
+    ≡ (if ltb v (number + 1) then bit_and (get_or start v 0) (kept v) else get_or start v 0)
+kept_next start self kept number word within is before v =
+    elim (cases_eq v number) [
+      | inl e ↦
+          get_or-set_at self number v _ 0 e within
+          ∙ ap₂ bit_and (before number ∙ cond-false (ltb number number) _ _ (le-ltb _ _ (omega arith)) ∙ ap (λ i. get_or start i 0) (sym e)) (is ∙ ap kept (sym e))
+          ∙ sym (cond-true (ltb v (number + 1)) _ _ (lt-ltb _ _ (omega arith)))
+      | inr apart ↦
+          get_or-set_other self number v _ 0 apart ∙ before v
+          ∙ ap (λ b. if b then bit_and (get_or start v 0) (kept v) else get_or start v 0) (same_side apart (cases_lt v number))
+    ]
+  where
+    same_side : ¬ (v ≡ number) → (v < number) ⊎ (number ≤ v) → ltb v number ≡ ltb v (number + 1)
+    same_side apart (inl l) = lt-ltb v number l ∙ sym (lt-ltb v (number + 1) (omega arith))
+    same_side apart (inr g) = le-ltb v number g ∙ sym (le-ltb v (number + 1) (omega arith))
+
+-- nothing is left to cut from the end on
+pub kept_whole : (start : List ℕ) (kept : ℕ → ℕ) (number v : ℕ) → length start ≤ number →
+    (if ltb v number then bit_and (get_or start v 0) (kept v) else get_or start v 0) ≡ bit_and (get_or start v 0) (kept v)
+kept_whole start kept number v past =
+    elim (cases_lt v number) [
+      | inl l ↦ cond-true (ltb v number) _ _ (lt-ltb _ _ l)
+      | inr g ↦
+          let none : get_or start v 0 ≡ 0 = get_or_past start v 0 (omega arith) in
+          cond-false (ltb v number) _ _ (le-ltb _ _ g) ∙ none ∙ sym (ap (λ w. bit_and w (kept v)) none)
+    ]
+
+pub kept_places : (old new other : Window) → new.offset ≡ old.offset →
+    ((i : ℕ) → get_or new.words.items i 0 ≡ bit_and (get_or old.words.items i 0) (word_at other (old.offset + i))) →
+    (place : ℕ) → is_set new place ≡ (is_set old place && is_set other place)
+kept_places old new other at words place =
+    ap (λ n. digit n (place % 64)) (word (place / 64)) ∙ digit-and (word_at old (place / 64)) (word_at other (place / 64)) (place % 64)
+  where
+    word : (v : ℕ) → word_at new v ≡ bit_and (word_at old v) (word_at other v)
+    word v =
+        elim (cases_lt v old.offset) [
+          | inl l ↦ word_before new v (omega arith) ∙ sym (ap (λ w. bit_and w (word_at other v)) (word_before old v l))
+          | inr g ↦
+              let back : old.offset + (v - old.offset) ≡ v = omega arith in
+              word_behind new v (omega arith) ∙ ap (λ o. get_or new.words.items (v - o) 0) at ∙ words (v - old.offset)
+              ∙ ap₂ (λ n i. bit_and n (word_at other i)) (sym (word_behind old v g)) back
+        ]
 
 -- what a slice of the same length leaves of a list
 pub refilled : (n : ℕ) (xs ws : List ℕ) → length ws ≡ n → refill n xs ws ≡ ws

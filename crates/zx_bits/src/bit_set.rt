@@ -1,7 +1,8 @@
 //! Sets of numbers.
 
-ghost use Rattle.std.specs.Prelude.{◌≡◌, ◌↔◌, ◌<◌, ◌≤◌, ◌==◌, ◌&&◌, ℕ, [], true, not, length};
+ghost use Rattle.std.specs.Prelude.{◌≡◌, ◌↔◌, ◌<◌, ◌≤◌, ◌+◌, ◌*◌, ◌==◌, ◌&&◌, ℕ, [], true, not, length};
 ghost use Rattle.std.specs.Prelude.{count_by, IfSome, IsOk, OnOk, OnErr};
+ghost use Rattle.std.specs.Int.{bit_at};
 ghost use Rattle.zx_model.specs.Bits.{xor, member};
 ghost use Rattle.zx_bits.specs.Rows.{IsFirstFrom};
 ghost use Rattle.zx_bits.specs.Sets.{IsRising, IsBelow};
@@ -13,7 +14,7 @@ use std::marker::Model;
 
 /// A set of numbers, seen as these by rising size, and a bound below which any number can be added
 /// without memory. It takes memory for the words from that of the least number to that of the
-/// greatest alone, so it needs no length.
+/// greatest, not for those before them, so it needs no length.
 #[derive(Drop)]
 pub struct BitSet {
     window: Window,
@@ -75,6 +76,13 @@ impl BitSet {
         self.window.first_from(start)
     }
 
+    /// Which of the 64 numbers from `64 * index` on are in the set, as the bits of a word.
+    pub fn word(&self, index: usize) -> u64
+        ensures { (k : ℕ) → k < 64 → (bit_at result k == 1) ≡ member (64 * index + k) self.now.numbers }
+    {
+        self.window.word(index)
+    }
+
     /// The numbers, by rising size.
     pub fn iter(&self) -> Numbers<'_>
         ensures value { result ≡ self.now.numbers }
@@ -122,6 +130,16 @@ impl BitSet {
             self.old.room ≤ self.new.room }
     {
         self.window.xor(&other.window)
+    }
+
+    /// Takes the numbers out that aren't in another set. It takes no memory.
+    pub fn keep(&mut self, other: &BitSet)
+        ensures members { (number : ℕ) →
+            member number self.new.numbers ≡ (member number self.old.numbers && member number other.now.numbers) }
+        ensures rising { IsRising self.new.numbers }
+        ensures keeps_room { self.old.room ≤ self.new.room }
+    {
+        self.window.keep(&other.window);
     }
 
     /// Takes all numbers out. It takes no memory, and gives none back.

@@ -1,8 +1,8 @@
 //! Rows of bits, sets of numbers, matrices, and which rows sum to a target.
 //!
-//! A row and a set keep only the words between that of their first set bit and that of their last.
-//! A set has memory for no more than these, four of them without an allocation. So it takes any
-//! numbers but the greatest 64, and needs no length.
+//! A row and a set keep the words from that of their first set bit to that of their last, and at
+//! either end some that have none, which go before memory is taken. Four words take no allocation.
+//! So a set takes any numbers but the greatest 64, and needs no length.
 //!
 //! Proved: each call reads its list of bits or makes its one named change of it. A row takes the
 //! memory for all its bits when it is made, grown or added to a matrix; what changes them then takes

@@ -2,12 +2,12 @@
 
 ghost use Rattle.std.specs.Prelude.{◌≡◌, ◌≢◌, ◌↔◌, ◌<◌, ◌≤◌, ◌+◌, ◌-◌, ◌/◌, ◌^◌, ◌==◌, ◌&&◌, ℕ, []};
 ghost use Rattle.std.specs.Prelude.{true, false, not, ltb, if◌then◌else◌};
-ghost use Rattle.std.specs.Prelude.{max, length, get_or, count_by, IsOk, IfOk, OnOk, OnErr};
-ghost use Rattle.std.specs.Int.RustNames.{bit_xor};
+ghost use Rattle.std.specs.Prelude.{max, length, take, get_or, count_by, IsOk, IfOk, OnOk, OnErr};
+ghost use Rattle.std.specs.Int.RustNames.{bit_and, bit_xor};
 ghost use Rattle.zx_model.specs.Bits.{xor};
 ghost use Rattle.zx_bits.specs.Rows.{IsFirstFrom};
 ghost use Rattle.zx_bits.specs.Internal.Words.{is_odd};
-ghost use Rattle.zx_bits.specs.Internal.Windows.{word_at, word_from, is_set, end_of, places_of};
+ghost use Rattle.zx_bits.specs.Internal.Windows.{word_at, word_from, is_set, end_of, places_of, span};
 ghost use Rattle.zx_bits.specs.Internal.Windows.{Covers, AddsTo, EndsBy};
 
 use smallvec::SmallVec;
@@ -16,7 +16,11 @@ use std::alloc::{AllocError, Global};
 // How many bits a word has.
 pub(crate) const WORD: usize = 64;
 
-// The words of a row from the first that has a bit set to the last, and how many come before them.
+// Of so many words, those at the ends that have no bit set go after each change. Of fewer they go before memory is
+// taken: they are cheaper to keep than to look at.
+const WIDE: usize = 32;
+
+// Words of a row, among them all that have a bit set, and how many come before them.
 #[derive(Drop)]
 pub(crate) struct Window {
     pub(crate) offset: usize,
@@ -107,10 +111,48 @@ impl Window {
         ensures err { OnErr result (self.new ≡ self.old) }
         ensures room { max (end_of self.old) end ≤ self.old.words.capacity → IsOk result }
     {
+        if span(self.offset, self.words.len(), first, end) > self.words.capacity() {
+            self.make_room(first, end)?;
+        }
+        self.extend(first, end)
+    }
+
+    // Takes the memory for these words and for those that have a bit set and all between, and lets those at the ends
+    // go that have none. Where memory runs out, the words are as they were.
+    fn make_room(&mut self, first: usize, end: usize) -> Result<(), AllocError>
+        requires some { first < end }
+        requires within { end ≤ 2 ^ 58 }
+        requires bounded { end_of self.old ≤ 2 ^ 58 }
+        ensures words { (number : ℕ) → word_at self.new number ≡ word_at self.old number }
+        ensures end { end_of self.new ≤ end_of self.old }
+        ensures capacity { self.old.words.capacity ≤ self.new.words.capacity }
+        ensures ok { OnOk result
+            (span self.new.offset (length self.new.words.items) first end ≤ self.new.words.capacity) }
+        ensures err { OnErr result (self.new ≡ self.old) }
+    {
+        let words = self.words.as_slice();
+        let count = words.len();
+        let last = used(words);
+        let start = unused_before(&words[..last]);
+        let least = span(self.offset + start, last - start, first, end);
+        self.words.reserve(least.saturating_sub(count))?;
+        self.cut(start, last);
+        Ok(())
+    }
+
+    // The same where there is memory for all words from the first of these or those kept to the last.
+    fn extend(&mut self, first: usize, end: usize) -> Result<(), AllocError>
+        requires some { first < end }
+        requires within { end ≤ 2 ^ 58 }
+        requires bounded { end_of self.old ≤ 2 ^ 58 }
+        ensures ok { OnOk result (Covers first end self.old self.new) }
+        ensures err { OnErr result (self.new ≡ self.old) }
+        ensures fits { span self.old.offset (length self.old.words.items) first end ≤ self.old.words.capacity →
+            IsOk result }
+    {
         let start = self.start(first);
-        let last = start + self.words.len();
         let offset = start.min(first);
-        let total = last.max(end) - offset;
+        let total = span(self.offset, self.words.len(), first, end);
         self.words.reserve(total - self.words.len())?;
         self.words.resize(total, 0)?;
         move_back(self.words.as_mut_slice(), start - offset);
@@ -118,7 +160,7 @@ impl Window {
         Ok(())
     }
 
-    // Lets the words at both ends go that have no bit set.
+    // Of many words, lets those at both ends go that have no bit set.
     #[inline(always)]
     fn trim(&mut self)
         requires { end_of self.old ≤ 2 ^ 58 }
@@ -126,7 +168,7 @@ impl Window {
         ensures end { end_of self.new ≤ end_of self.old }
         ensures capacity { self.new.words.capacity ≡ self.old.words.capacity }
     {
-        if !is_tight(self.words.as_slice()) {
+        if self.words.len() >= WIDE && !is_tight(self.words.as_slice()) {
             self.trim_ends();
         }
     }
@@ -138,13 +180,29 @@ impl Window {
         ensures end { end_of self.new ≤ end_of self.old }
         ensures capacity { self.new.words.capacity ≡ self.old.words.capacity }
     {
-        let end = used(self.words.as_slice());
+        let words = self.words.as_slice();
+        let end = used(words);
+        let start = unused_before(&words[..end]);
+        self.cut(start, end);
+    }
+
+    // Keeps the words from one on up to another alone, since no other has a bit set.
+    fn cut(&mut self, start: usize, end: usize)
+        requires order { start ≤ end }
+        requires within { end ≤ length self.old.words.items }
+        requires before { (i : ℕ) → i < start → get_or (take end self.old.words.items) i 0 ≡ 0 }
+        requires after { (i : ℕ) → end ≤ i → get_or self.old.words.items i 0 ≡ 0 }
+        requires bounded { end_of self.old ≤ 2 ^ 58 }
+        ensures words { (number : ℕ) → word_at self.new number ≡ word_at self.old number }
+        ensures offset { self.new.offset ≡ self.old.offset + start }
+        ensures len { length self.new.words.items ≡ end - start }
+        ensures capacity { self.new.words.capacity ≡ self.old.words.capacity }
+    {
         self.words.truncate(end);
-        let unused = unused_before(self.words.as_slice());
-        if unused > 0 {
-            move_front(self.words.as_mut_slice(), unused);
-            self.words.truncate(end - unused);
-            self.offset += unused;
+        if start > 0 {
+            move_front(self.words.as_mut_slice(), start);
+            self.words.truncate(end - start);
+            self.offset += start;
         }
     }
 
@@ -202,15 +260,27 @@ impl Window {
         ensures nothing { EndsBy 0 other.now → IsOk result }
     {
         let words = other.words.as_slice();
-        let count = used(words);
-        if count == 0 {
+        let end = used(words);
+        if end == 0 {
             return Ok(());
         }
-        self.cover(other.offset, other.offset + count)?;
-        let first = other.offset - self.offset;
-        add_words(self.words.as_mut_slice(), first, &words[..count]);
+        let start = unused_before(&words[..end]);
+        self.cover(other.offset + start, other.offset + end)?;
+        let first = other.offset + start - self.offset;
+        add_words(self.words.as_mut_slice(), first, &words[start..end]);
         self.trim();
         Ok(())
+    }
+
+    // Unsets each place that isn't set in another.
+    pub(crate) fn keep(&mut self, other: &Window)
+        requires { end_of self.old ≤ 2 ^ 58 }
+        ensures places { (place : ℕ) →
+            is_set self.new place ≡ (is_set self.old place && is_set other.now place) }
+        ensures end { end_of self.new ≡ end_of self.old }
+        ensures capacity { self.new.words.capacity ≡ self.old.words.capacity }
+    {
+        keep_words(self.words.as_mut_slice(), self.offset, other);
     }
 
     // Whether an odd number of places are set in both.
@@ -318,6 +388,20 @@ impl Window {
     }
 }
 
+// How many words there are from the first to the last of so many from a start on and of those from one on up to another.
+fn span(start: usize, count: usize, first: usize, end: usize) -> usize
+    requires some { first < end }
+    requires within { end ≤ 2 ^ 58 }
+    requires bounded { start + count ≤ 2 ^ 58 }
+    ensures { result ≡ span start count first end }
+{
+    if count == 0 {
+        end - first
+    } else {
+        (start + count).max(end) - start.min(first)
+    }
+}
+
 // Moves the words back by so many, and puts zeros in front of them.
 fn move_back(words: &mut [u64], count: usize)
     requires { count ≤ length words.old }
@@ -385,14 +469,47 @@ fn unused_before(words: &[u64]) -> usize
     first
 }
 
-// Adds words to those from a place on.
+// Of words, the first of which has a number, unsets each bit that isn't set in a row.
+fn keep_words(words: &mut [u64], offset: usize, row: &Window)
+    requires { offset + length words.old ≤ 2 ^ 58 }
+    ensures size { length words.new ≡ length words.old }
+    ensures words { (i : ℕ) →
+        get_or words.new i 0 ≡ bit_and (get_or words.old i 0) (word_at row.now (offset + i)) }
+{
+    for i in 0..words.len() {
+        words[i] &= row.word(offset + i);
+    }
+}
+
+// Adds words to those from a place on, four at a time.
 fn add_words(words: &mut [u64], start: usize, added: &[u64])
     requires { start + length added.now ≤ length words.old }
     ensures size { length words.new ≡ length words.old }
     ensures words { (i : ℕ) →
         get_or words.new i 0 ≡ bit_xor (get_or words.old i 0) (word_from start added.now i) }
 {
-    for i in 0..added.len() {
-        words[start + i] ^= added[i];
+    let mut i = 0;
+    'fours: while i + 4 <= added.len() {
+        add_word(words, start, added, i);
+        add_word(words, start, added, i + 1);
+        add_word(words, start, added, i + 2);
+        add_word(words, start, added, i + 3);
+        i += 4;
     }
+    'rest: while i < added.len() {
+        add_word(words, start, added, i);
+        i += 1;
+    }
+}
+
+// Adds one of these words.
+#[inline(always)]
+fn add_word(words: &mut [u64], start: usize, added: &[u64], i: usize)
+    requires one { i < length added.now }
+    requires within { start + length added.now ≤ length words.old }
+    ensures size { length words.new ≡ length words.old }
+    ensures words { (v : ℕ) → get_or words.new v 0 ≡
+        bit_xor (get_or words.old v 0) (if v == start + i then word_from start added.now (start + i) else 0) }
+{
+    words[start + i] ^= added[i];
 }

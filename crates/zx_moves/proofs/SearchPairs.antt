@@ -1,6 +1,9 @@
 -- Moves of two vertices: what is found beside a vertex, and where nothing is.
-use Rattle.std.proofs.Common.{Option, Some, None, IfSome, IfNone, Bool, ltb, ◌≡◌, refl, sym, ◌∙◌, ap, subst, ℕ, true, false, not, ◌&&◌, eqb, List, [], ◌∷◌, nat_eq, slice_get, true≢false, ne_eqb}
+use Rattle.std.proofs.Common.{Option, Some, None, IfSome, IfNone, Bool, ltb, ◌≡◌, refl, sym, ◌∙◌, ap, ap₂, subst, ℕ, ◌+◌, ◌-◌, ◌*◌, ◌/◌, ◌%◌, ◌^◌, ◌<◌, min, arith, eqb-true, true, false, not, ◌&&◌, eqb, List, [], ◌∷◌, nat_eq, slice_get, true≢false, ne_eqb}
 use Rattle.std.specs.List.{find}
+use Rattle.std.specs.Int.{bit_at}
+use Rattle.std.specs.Int.RustNames.{bit_and}
+use Rattle.std.proofs.lemmas.Nat.Bits.{bit_at_and, bit_at_ones}
 use Rattle.std.specs.Cmp.Lexicographic.{pointwise}
 use Rattle.std.proofs.lemmas.Bool.{eqb-false}
 use Rattle.zx_model.specs.Bits.{member}
@@ -19,7 +22,7 @@ use Rattle.zx_calculus.proofs.TwinTests.{equal_lists, lists_equal}
 use Rattle.move_laws.specs.Candidates.{IsPlaceOf}
 use Rattle.zx_moves.specs.declared.moves.Kind.{Kind}
 use Rattle.zx_moves.specs.declared.moves.Kind.TheVariants as kinds
-use Rattle.zx_moves.specs.Internal.Searching.{is_twin, place_kind}
+use Rattle.zx_moves.specs.Internal.Searching.{is_twin, TellsTwins, place_kind}
 use Rattle.zx_moves.specs.Search.{MayBegin, NoneAt}
 use Rattle.zx_moves.proofs.SearchTests.{live_near, joined_near, near_joined, find-some, find-none}
 
@@ -166,6 +169,37 @@ module _ (g : Graph) (w : WellFormed g) (u : ℕ) where
       let beside : member near (neighbours g v) ≡ true = subst (λ (xs : List ℕ). member near xs ≡ true) (sym (equal_lists (neighbours g v) (neighbours g u) alike)) there in
       absurd (true≢false (sym (joined_comm g.edges near v ∙ joined_near g w v near beside) ∙ apart)))
       (λ other. other)
+
+  -- but a twin is beside each neighbour
+  pub beside_twin : (near v : ℕ) → member near (neighbours g u) ≡ true → is_twin g u v ≡ true → joined g.edges near v ≡ true
+  beside_twin near v there twin =
+      by_test (joined g.edges near v) (λ t. t)
+      (λ apart.
+      let rest = and-right (not (eqb v u)) (is_gadget g v && pointwise nat_eq (neighbours g v) (neighbours g u)) twin in
+      let alike = and-right (is_gadget g v) (pointwise nat_eq (neighbours g v) (neighbours g u)) rest in
+      absurd (true≢false (sym alike ∙ not_beside near v there apart)))
+
+  -- the vertices beside one neighbour more
+  pub twins_beside : (near index word row : ℕ) → member near (neighbours g u) ≡ true → TellsTwins g u index word →
+      ((k : ℕ) → k < 64 → eqb (bit_at row k) 1 ≡ joined g.edges near (64 * index + k)) → TellsTwins g u index (bit_and word row)
+  twins_beside near index word row there tells is k lt twin =
+      let old : bit_at word k ≡ 1 = tells k lt twin in
+      let new : bit_at row k ≡ 1 = eqb-true (bit_at row k) 1 (is k lt ∙ beside_twin near (64 * index + k) there twin) in
+      bit_at_and word row k ∙ ap₂ min old new
+
+-- before any neighbour was looked at
+pub twins_anywhere : (g : Graph) (u index : ℕ) → TellsTwins g u index (2 ^ 64 - 1)
+twins_anywhere g u index k lt twin = bit_at_ones 64 k lt
+
+-- what has its bit unset is no twin
+pub untold : (g : Graph) (u v word : ℕ) → TellsTwins g u (v / 64) word → eqb (bit_at word (v % 64)) 1 ≡ false → is_twin g u v ≡ false
+untold g u v word tells unset =
+    by_test (is_twin g u v)
+    (λ twin.
+    let split : 64 * (v / 64) + v % 64 ≡ v = omega arith in
+    let bit : bit_at word (v % 64) ≡ 1 = tells (v % 64) (omega arith) (ap (is_twin g u) split ∙ twin) in
+    absurd (true≢false (sym (ap (λ d. eqb d 1) bit) ∙ unset)))
+    (λ f. f)
 
 -- ---- rows as sets
 -- the test of equal sets is that of equal lists

@@ -1,5 +1,5 @@
 -- Answers that may be None, neighbours, and the first of a list that passes a test.
-use Rattle.std.proofs.Common.{Option, Some, None, ◌≡◌, ◌⊎◌, inl, inr, refl, sym, ◌∙◌, ap, subst, ℕ, Bool, true, false, ◌||◌, eqb, List, [], ◌∷◌, IfSome, IfNone, is_some, true≢false, eqb-true}
+use Rattle.std.proofs.Common.{Option, Some, None, ◌≡◌, ◌⊎◌, inl, inr, refl, sym, ◌∙◌, ap, subst, ℕ, Bool, true, false, ◌||◌, eqb, List, [], ◌∷◌, ◌++◌, IfSome, IfNone, is_some, true≢false, eqb-true}
 use Rattle.std.specs.List.{find}
 use Rattle.zx_model.specs.Bits.{member}
 use Rattle.zx_calculus.specs.Graph.{Graph, ids, joined, neighbours, Live, WellFormed}
@@ -32,6 +32,18 @@ pub near_joined : (g : Graph) → WellFormed g → (u v : ℕ) → joined g.edge
 near_joined g w u v h = sym (neighbour g w u v) ∙ h
 
 -- ---- the first that passes a test
+pub find_at : (p : ℕ → Bool) (before after : List ℕ) (v : ℕ) → ((w : ℕ) → member w before ≡ true → p w ≡ false) → p v ≡ true → find p (before ++ v ∷ after) ≡ Some v
+find_at p [] after v none here = rw here refl
+find_at p (x ∷ xs) after v none here =
+    let fails : p x ≡ false = none x (ap (λ b. b || member x xs) (eqb-self x)) in
+    rw fails (find_at p xs after v (λ w m. none w (ap (λ b. eqb w x || b) m ∙ or-true (eqb w x))) here)
+
+pub find_nowhere : (p : ℕ → Bool) (xs : List ℕ) → ((w : ℕ) → member w xs ≡ true → p w ≡ false) → find p xs ≡ None
+find_nowhere p [] none = refl
+find_nowhere p (x ∷ xs) none =
+    let fails : p x ≡ false = none x (ap (λ b. b || member x xs) (eqb-self x)) in
+    rw fails (find_nowhere p xs (λ w m. none w (ap (λ b. eqb w x || b) m ∙ or-true (eqb w x))))
+
 either : (a b : Bool) → (a || b) ≡ true → (a ≡ true) ⊎ (b ≡ true)
 either true b e = inl refl
 either false b e = inr e

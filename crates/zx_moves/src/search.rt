@@ -1,6 +1,7 @@
 //! The search for the next move of simplification.
 
-ghost use Rattle.std.specs.Prelude.{◌≡◌, ◌⊎◌, ◌<◌, ◌≤◌, ◌↔◌, ℕ, true, false, IsTrue, IsFalse, IfSome, IfNone, slice_get, nat_eq};
+ghost use Rattle.std.specs.Prelude.{◌≡◌, ◌⊎◌, ◌<◌, ◌≤◌, ◌/◌, ◌==◌, ◌↔◌, ℕ, true, false, IsTrue, IfSome, IfNone, slice_get, nat_eq};
+ghost use Rattle.std.specs.Int.{bit_at};
 ghost use Rattle.std.specs.List.{find};
 ghost use Rattle.std.specs.Cmp.Lexicographic.{pointwise};
 ghost use Rattle.zx_model.specs.Bits.{member};
@@ -10,7 +11,7 @@ ghost use Rattle.zx_calculus.specs.Gadgets.{is_gadget};
 ghost use Rattle.zx_calculus.specs.Moves.{IsQuarterGadget, IsInXZ, IsQuarterSpider, IsHalfSpider, IsBoundaryPivot, IsGadgetOf, AreTwins, IsStuck};
 ghost use Rattle.zx_moves.specs.declared.moves.Kind.TheVariants as kinds;
 ghost use Rattle.zx_moves.specs.Search.{AppliesAt, IsOfFirstKind, IsMoveOf, IsSettled, MayBegin, NoneAt};
-ghost use Rattle.zx_moves.specs.Internal.Searching.{is_twin, IsMoveAt, NoneBefore};
+ghost use Rattle.zx_moves.specs.Internal.Searching.{is_twin, TellsTwins, IsMoveAt, NoneBefore};
 
 use crate::levels::level_in;
 use crate::moves::{KINDS, Kind, Move};
@@ -259,12 +260,53 @@ fn twin_of(g: &OpenGraph, u: VertexId) -> Option<VertexId>
     twin_beside(g, u, near)
 }
 
+// The first of a vertex's neighbours that is a twin of u.
 fn twin_beside(g: &OpenGraph, u: VertexId, near: VertexId) -> Option<VertexId>
     requires live { Live g.now.graph u }
     requires near { Live g.now.graph near }
     ensures { result ≡ find (is_twin g.now.graph u) (neighbours g.now.graph near) }
 {
-    g.neighbours(near).find(|v| is_twin(g, u, *v))
+    // The index of the word that is told. Before the first, no vertex is left out.
+    let mut index = usize::MAX;
+    let mut beside = u64::MAX;
+    for v in g.neighbours(near) {
+        let next = v.get() / 64;
+        beside = beside_all_at(g, u, next, index, beside);
+        index = next;
+        if is_twin(g, u, v, beside) {
+            return Some(v);
+        }
+    }
+    None
+}
+
+// Of the 64 vertices from `64 * next` on, those beside each neighbour of u, which are told already where `next` is the
+// index of the word that is told.
+fn beside_all_at(g: &OpenGraph, u: VertexId, next: usize, index: usize, told: u64) -> u64
+    requires live { Live g.now.graph u }
+    requires told { TellsTwins g.now.graph u index told }
+    ensures { TellsTwins g.now.graph u next result }
+{
+    if next == index {
+        told
+    } else {
+        beside_all(g, u, next)
+    }
+}
+
+// Of the 64 vertices from `64 * index` on, those beside each neighbour of u, as the bits of a word.
+fn beside_all(g: &OpenGraph, u: VertexId, index: usize) -> u64
+    requires { Live g.now.graph u }
+    ensures { TellsTwins g.now.graph u index result }
+{
+    let mut beside = u64::MAX;
+    for near in g.neighbours(u) {
+        beside &= g.neighbour_set(near).word(index);
+        if beside == 0 {
+            return 0;
+        }
+    }
+    beside
 }
 
 fn is_quarter_gadget(g: &OpenGraph, u: VertexId) -> bool
@@ -307,26 +349,25 @@ fn is_gadget_of(g: &OpenGraph, u: VertexId, legs: usize) -> bool
     matches!(plane, Plane::YZ) && g.degree(u) == legs
 }
 
-// Whether v is a gadget other than u with the neighbours of u.
-fn is_twin(g: &OpenGraph, u: VertexId, v: VertexId) -> bool
-    requires { Live g.now.graph u }
+// Whether v is a gadget other than u with the neighbours of u. The word tells which vertices are beside each of these:
+// most gadgets aren't.
+fn is_twin(g: &OpenGraph, u: VertexId, v: VertexId, beside: u64) -> bool
+    requires live { Live g.now.graph u }
+    requires told { TellsTwins g.now.graph u (v / 64) beside }
     ensures { result ≡ is_twin g.now.graph u v }
 {
-    is_beside_all(g, u, v) && v != u && is_gadget(g, v) && are_alike(g, u, v)
+    if !has_bit(beside, v.get() % 64) {
+        return false;
+    }
+    v != u && is_gadget(g, v) && are_alike(g, u, v)
 }
 
-// Whether a vertex is beside each neighbour of u. A gadget that is no twin of u mostly fails this at one of the first,
-// whose row is at hand.
-fn is_beside_all(g: &OpenGraph, u: VertexId, v: VertexId) -> bool
-    requires { Live g.now.graph u }
-    ensures { IsFalse result → pointwise nat_eq (neighbours g.now.graph v) (neighbours g.now.graph u) ≡ false }
+// Whether a bit of a word is set.
+fn has_bit(word: u64, place: usize) -> bool
+    requires { place < 64 }
+    ensures { result ≡ (bit_at word place == 1) }
 {
-    for near in g.neighbours(u) {
-        if !g.has_edge(near, v) {
-            return false;
-        }
-    }
-    true
+    word >> place & 1 == 1
 }
 
 // Whether two vertices have the same neighbours.

@@ -24,6 +24,10 @@ is_set w place = digit (word_at w (place / 64)) (place % 64)
 abbrev pub end_of : Window → ℕ
 end_of w = w.offset + length w.words.items
 
+-- how many words there are from the first to the last of so many from a start on and of those from first up to stop
+abbrev pub span : ℕ → ℕ → ℕ → ℕ → ℕ
+span start count first stop = if count == 0 then stop - first else max (start + count) stop - min start first
+
 -- new keeps the words from start up to stop too, which were 0 where they weren't kept
 pub record Covers (start stop : ℕ) (old new : Window) : Type 0 where
   pub words : (number : ℕ) → word_at new number ≡ word_at old number

@@ -1,11 +1,9 @@
-use Rattle.std.proofs.Common.{◌≡◌, refl, sym, ◌∙◌, ap, ap₂, inl, inr, ℕ, ◌+◌, ◌<◌, List, get_or, slice_set, length, ltb, if◌then◌else◌, ◌==◌, eqb, eq-eqb, ne_eqb, lt-ltb, length-set, arith}
+use Rattle.std.proofs.Common.{◌≡◌, refl, sym, ◌∙◌, ap, inl, inr, ℕ, ◌+◌, List, get_or, ltb, if◌then◌else◌, ◌==◌, lt-ltb, arith}
 use Rattle.std.specs.Int.RustNames.{bit_xor}
 use Rattle.std.specs.Int.Bits.{xor_zero_r}
-use Rattle.std.proofs.lemmas.Bool.{cases_lt, cases_eq, cond-true, cond-false, le-ltb}
-use Rattle.std.proofs.lemmas.Grind.{get_or-set_at}
-use Rattle.std.proofs.lemmas.List.{get_or-set_other}
+use Rattle.std.proofs.lemmas.Bool.{cases_lt, cond-true, cond-false, le-ltb}
 use Rattle.zx_bits.specs.Internal.Windows.{word_from}
-use Rattle.zx_bits.proofs.WindowLemmas.{word_kept, words_next, words_whole}
+use Rattle.zx_bits.proofs.WindowLemmas.{words_next, words_whole}
 use Rattle.zx_bits.proofs.window.add_words.Goals as goal
 
 none_yet : (start v : ℕ) (added : List ℕ) → (if ltb v (start + 0) then word_from start added v else 0) ≡ 0
@@ -15,38 +13,50 @@ none_yet start v added =
       | inr g ↦ cond-false (ltb v (start + 0)) _ 0 (le-ltb _ _ g)
     ]
 
-one_more : (xs : List ℕ) (j m n v : ℕ) → j < length xs → m ≡ n →
-    get_or (slice_set xs j (bit_xor (get_or xs j 0) m)) v 0 ≡ bit_xor (get_or xs v 0) (if v == j then n else 0)
-one_more xs j m n v lt same =
-    elim (cases_eq v j) [
-      | inl e ↦
-          get_or-set_at xs j v _ 0 e lt ∙ ap₂ bit_xor (ap (λ i. get_or xs i 0) (sym e)) same
-          ∙ ap (bit_xor (get_or xs v 0)) (sym (cond-true (eqb v j) n 0 (eq-eqb v j e)))
-      | inr apart ↦
-          get_or-set_other xs j v _ 0 apart ∙ sym (xor_zero_r _)
-          ∙ ap (bit_xor (get_or xs v 0)) (sym (cond-false (eqb v j) n 0 (ne_eqb v j apart)))
-    ]
+-- so many words are added, and one more is
+step : (first self next added : List ℕ) (start i j : ℕ) → j ≡ i + 1 →
+    ((v : ℕ) → get_or self v 0 ≡ bit_xor (get_or first v 0) (if ltb v (start + i) then word_from start added v else 0)) →
+    ((v : ℕ) → get_or next v 0 ≡ bit_xor (get_or self v 0) (if v == start + i then word_from start added (start + i) else 0)) →
+    (v : ℕ) → get_or next v 0 ≡ bit_xor (get_or first v 0) (if ltb v (start + j) then word_from start added v else 0)
+step first self next added start i j e before last v =
+    let more : start + i + 1 ≡ start + j = omega (arith, e) in
+    words_next (λ w. get_or first w 0) (λ w. get_or self w 0) (λ w. get_or next w 0) (word_from start added) (start + i) before last v
+    ∙ ap (λ n. bit_xor (get_or first v 0) (if ltb v n then word_from start added v else 0)) more
 
-pub loop-i-init : goal.loop-i-init
-loop-i-init c = record {
+pub fours-init : goal.fours-init
+fours-init c = record {
+  within = omega arith;
   size = refl;
   words = λ v. sym (xor_zero_r _) ∙ ap (bit_xor (get_or c.args.words.now v 0)) (sym (none_yet c.args.start v c.args.added.now));
 }
 
-pub loop-i-preserved : goal.loop-i-preserved
-loop-i-preserved c = record {
-  size = length-set c.loop-i.words (c.args.start + c.loop-i.i) _ ∙ c.loop-i.invariant.size;
-  words = λ v.
-      let next : c.args.start + c.loop-i.i + 1 ≡ c.args.start + (c.loop-i.i + 1) = omega arith in
-      words_next (λ w. get_or c.args.words.now w 0) (λ w. get_or c.loop-i.words w 0) _ (word_from c.args.start c.args.added.now) (c.args.start + c.loop-i.i)
-      c.loop-i.invariant.words
-      (λ w. one_more c.loop-i.words (c.args.start + c.loop-i.i) (get_or c.args.added.now c.loop-i.i 0) _ w (omega (arith, c.requires, c.loop-i.invariant.size))
-      (sym (word_kept c.args.start c.args.added.now c.loop-i.i))) v
-      ∙ ap (λ n. bit_xor (get_or c.args.words.now v 0) (if ltb v n then word_from c.args.start c.args.added.now v else 0)) next;
+pub fours-preserved : goal.fours-preserved
+fours-preserved c =
+    let i = c.fours.i in
+    let first = c.args.words.now in
+    let added = c.args.added.now in
+    let start = c.args.start in
+    record {
+      within = omega arith;
+      size = c.add_word-in-fours-3.ensures.size ∙ c.add_word-in-fours-2.ensures.size ∙ c.add_word-in-fours.ensures.size ∙ c.add_word.ensures.size ∙ c.fours.invariant.size;
+      words = step first c.add_word-in-fours-2.new.words c.add_word-in-fours-3.new.words added start (i + 3) (i + 4) (omega arith)
+          (step first c.add_word-in-fours.new.words c.add_word-in-fours-2.new.words added start (i + 2) (i + 3) (omega arith)
+          (step first c.add_word.new.words c.add_word-in-fours.new.words added start (i + 1) (i + 2) (omega arith)
+          (step first c.fours.words c.add_word.new.words added start i (i + 1) refl c.fours.invariant.words c.add_word.ensures.words)
+          c.add_word-in-fours.ensures.words) c.add_word-in-fours-2.ensures.words) c.add_word-in-fours-3.ensures.words;
+    }
+
+pub rest-init : goal.rest-init
+rest-init c = record { within = c.fours.invariant.within; size = c.fours.invariant.size; words = c.fours.invariant.words }
+
+pub rest-preserved : goal.rest-preserved
+rest-preserved c = record {
+  within = omega arith;
+  size = c.add_word-in-rest.ensures.size ∙ c.rest.invariant.size;
+  words = step c.args.words.now c.rest.words c.add_word-in-rest.new.words c.args.added.now c.args.start c.rest.i (c.rest.i + 1) refl
+      c.rest.invariant.words c.add_word-in-rest.ensures.words;
 }
 
-pub returns : goal.returns
-returns c = record {
-  size = c.loop-i.invariant.size;
-  words = λ v. c.loop-i.invariant.words v ∙ ap (bit_xor (get_or c.args.words.now v 0)) (words_whole c.args.start c.args.added.now v (c.args.start + c.loop-i.i) (omega arith));
-}
+pub returns-clause-words : goal.returns-clause-words
+returns-clause-words c v =
+    c.rest.invariant.words v ∙ ap (bit_xor (get_or c.args.words.now v 0)) (words_whole c.args.start c.args.added.now v (c.args.start + c.rest.i) (omega arith))

@@ -42,6 +42,13 @@ impl<T: Copy + Default, const N: usize> SmallVec<T, N> {
     pub fn allocator(&self) -> &Global {
         &Global
     }
+    /// How many elements there is memory for.
+    pub fn capacity(&self) -> usize {
+        match self {
+            Inline { .. } => N,
+            Heap(heap) => heap.capacity(),
+        }
+    }
     /// All elements.
     pub fn as_slice(&self) -> &[T] {
         self
