@@ -67,7 +67,7 @@ class Written(unittest.TestCase):
                 made = zxopt.optimise_counted(text, best=seed % 2 == 0)
                 for spell in (only_t, by_cx):
                     spelled = spell(made.text)
-                    self.assertTrue(zxopt.same(made.text, spelled))
+                    self.assertTrue(zxopt.same(text, spelled))
                     counts = zxopt.counts(spelled, best=False)
                     self.assertEqual(counts.read.odd, made.counts.written.odd)
                     self.assertEqual(counts.read.two_qubit, made.counts.written.two_qubit)
@@ -77,8 +77,8 @@ class Written(unittest.TestCase):
         for name in ("tof_10", "measured", "adder"):
             text = example(f"{name}.qasm")
             for written in (zxopt.optimise(text, report=True, scalar=True), zxopt.teleport(text)):
-                self.assertTrue(zxopt.same(written, only_t(written)))
-                self.assertTrue(zxopt.same(written, by_cx(written)))
+                self.assertTrue(zxopt.same(text, only_t(written)))
+                self.assertTrue(zxopt.same(text, by_cx(written)))
 
 
 class Refused(unittest.TestCase):

@@ -100,15 +100,12 @@ class Maps(InFiles):
         for seed in range(290):
             draw = random.Random(-seed)
             text = drawn_text(seed)
-            # `same` doesn't show each text that the best is of, so those are narrow enough for the simulator
-            is_narrow = int(text.split("qreg a[")[1].split("]")[0]) <= 5
-            mode = "best" if seed % 10 == 7 and is_narrow else draw.choice(["plain", "teleport"])
+            mode = "best" if seed % 30 == 7 else draw.choice(["plain", "teleport"])
             gates = 40 if mode == "best" else draw.choice([3, 10, 40])
             limits = Limits(gates, draw.choice([3, 5, 24]), 1_000_000, draw.choice([20, 100]), draw.choice([2, 50]))
             with self.subTest(seed=seed), mock.patch("zxopt.stream.CHUNK", draw.choice([7, 100, 1 << 18])):
                 written, totals = self.streamed(text, limits, mode=mode)
-                is_same = simulator.is_same(text, written) if mode == "best" else zxopt.same(text, written)
-                self.assertTrue(is_same, f"{text}\n{written}")
+                self.assertTrue(zxopt.same(text, written), f"{text}\n{written}")
                 self.assertLessEqual(totals.written.odd, totals.read.odd)
                 self.assertEqual(totals.left, 0)
                 if mode == "teleport":

@@ -87,9 +87,7 @@ class Texts(unittest.TestCase):
                 self.assertTrue(simulator.is_same(data, way.rounded))
 
     def test_a_wide_text(self) -> None:
-        # `same` doesn't show each text that the best is of
-        parts = optimise_parts(self.ways[WIDE].prepared, best=False)  # type: ignore[arg-type]
-        both = f"{self.data[WIDE].decode()}\n//// second\n{parts.text}"
+        both = f"{self.data[WIDE].decode()}\n//// second\n{self.ways[WIDE].parts.text}"  # type: ignore[union-attr]
         self.assertEqual(run(["same"], both), ("same\n", 0))
 
     def test_parts_read_what_they_write(self) -> None:

@@ -91,18 +91,19 @@ pub(crate) fn rank(alloc: Global, columns: &[u64]) -> Result<usize, AllocError> 
     Ok(reduced.len())
 }
 
-/// Whether phases of an eighth turn about these columns are a Clifford map: any three bits are set in an even number.
+/// Whether phases of an eighth turn about these columns are a Clifford map: any three bits, equal ones too, are set
+/// in an even number.
 pub(crate) fn is_clifford(columns: &[u64]) -> bool {
     for i in 0..64_u32 {
-        for j in 0..i {
+        for j in 0..=i {
             let mut sum = 0;
             for column in columns {
                 if column.wrapping_shr(i) & column.wrapping_shr(j) & 1 == 1 {
                     sum ^= *column;
                 }
             }
-            let below = 1_u64.wrapping_shl(j).wrapping_sub(1);
-            if sum & below != 0 {
+            let to_j = 2_u64.wrapping_shl(j).wrapping_sub(1);
+            if sum & to_j != 0 {
                 return false;
             }
         }

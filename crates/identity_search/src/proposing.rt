@@ -32,6 +32,9 @@ const SHORT_STEPS: usize = 100;
 // How many groups are drawn to find one with most of the phases.
 const DRAWN: usize = 3;
 
+// How many odd phases are near the middle.
+const NEAR_MIDDLE: usize = 32;
+
 /// What may be put into a circuit so that it has fewer odd phases once those that meet are put together, where most of
 /// them are in one group that can be brought together: by one long search with so many hundredths of the usual effort,
 /// some ends of it, each for the circuit as it is. Nothing is promised of them. Equal arguments give equal ones.
@@ -74,10 +77,9 @@ pub fn propose_shortly(
     seed: u64,
 ) -> Result<Option<Insertion>, AllocError> {
     let (qubits, gates) = (circuit.qubits(), circuit.gates());
-    let places = odd_places(alloc, gates)?;
-    if qubits > MOST_QUBITS || places.len() < FEWEST_COLUMNS {
+    let Some(places) = places_in(alloc, circuit)? else {
         return Ok(None);
-    }
+    };
     let mut drawing = Drawing::new(seed);
     let mut walk = Walk::new(alloc, &[], u64::from(drawing.word()))?;
     for _ in 0..tries {
@@ -95,7 +97,9 @@ pub fn propose_shortly(
 }
 
 /// What may be put into a circuit so that all phases of a group vanish but for Clifford gates, where one of the groups
-/// at so many drawn places allows that. Nothing is promised of it. Equal arguments give equal ones.
+/// at so many places allows that: every other place is near the middle, where gates stand that were put into one of two
+/// circuits, if this is the one followed by the inverse of the other. Nothing is promised of it. Equal arguments give
+/// equal ones.
 ///
 /// # Errors
 ///
@@ -107,13 +111,16 @@ pub fn propose_vanishing(
     seed: u64,
 ) -> Result<Option<Insertion>, AllocError> {
     let (qubits, gates) = (circuit.qubits(), circuit.gates());
-    let places = odd_places(alloc, gates)?;
-    if qubits > MOST_QUBITS || places.len() < FEWEST_COLUMNS {
+    let Some(places) = places_in(alloc, circuit)? else {
         return Ok(None);
-    }
+    };
     let mut drawing = Drawing::new(seed);
-    for _ in 0..tries {
-        let place = drawn_place(&places, gates.len(), &mut drawing);
+    for number in 0..tries {
+        let place = if number % 2 == 0 {
+            middle_place(&places, gates.len(), &mut drawing)
+        } else {
+            drawn_place(&places, gates.len(), &mut drawing)
+        };
         let group = Group::draw(alloc, qubits, gates, place, &mut drawing)?;
         let columns = group.columns(alloc)?;
         if columns.len() >= FEWEST_COLUMNS && is_clifford(&columns) {
@@ -123,22 +130,32 @@ pub fn propose_vanishing(
     Ok(None)
 }
 
-// The places of all odd phases.
-fn odd_places(alloc: Global, gates: &[Gate]) -> Result<Vec<usize>, AllocError> {
+// The places of all odd phases; none where these are too few, or the qubits too many.
+fn places_in(alloc: Global, circuit: &GateList) -> Result<Option<Vec<usize>>, AllocError> {
     let mut places = Vec::new(alloc);
-    for (place, gate) in gates.iter().enumerate() {
+    for (place, gate) in circuit.gates().iter().enumerate() {
         if let Gate::Phase(_, phase) = *gate {
             if phase.is_odd() {
                 places.push(place)?;
             }
         }
     }
-    Ok(places)
+    if circuit.qubits() > MOST_QUBITS || places.len() < FEWEST_COLUMNS {
+        return Ok(None);
+    }
+    Ok(Some(places))
 }
 
 // That of an odd phase, or the end.
 fn drawn_place(places: &[usize], end: usize, drawing: &mut Drawing) -> usize {
     let number = drawing.below(places.len().saturating_add(1));
+    places.get(number).copied().unwrap_or(end)
+}
+
+// That of one of the odd phases in the middle.
+fn middle_place(places: &[usize], end: usize, drawing: &mut Drawing) -> usize {
+    let first = (places.len() / 2).saturating_sub(NEAR_MIDDLE / 2);
+    let number = first.saturating_add(drawing.below(NEAR_MIDDLE));
     places.get(number).copied().unwrap_or(end)
 }
 
@@ -149,10 +166,9 @@ fn large_group(
     drawing: &mut Drawing,
 ) -> Result<Option<Group>, AllocError> {
     let (qubits, gates) = (circuit.qubits(), circuit.gates());
-    let places = odd_places(alloc, gates)?;
-    if qubits > MOST_QUBITS || places.len() < FEWEST_COLUMNS {
+    let Some(places) = places_in(alloc, circuit)? else {
         return Ok(None);
-    }
+    };
     for _ in 0..DRAWN {
         let place = drawn_place(&places, gates.len(), drawing);
         let group = Group::draw(alloc, qubits, gates, place, drawing)?;

@@ -79,6 +79,16 @@ pub same_seen : (a b both : Circuit) (made : Simplified) → a.qubits ≡ b.qubi
     (nat_eq (length made.gates.gates) 0 || is_bare made.reduced.graph) ≡ true → Proportional a.qubits a.qubits (amp a.gates) (amp b.gates)
 same_seen a b both made same is undone s seen = same_undone a b both same is undone (identity_seen both made s seen)
 
+-- where what is left is the identity
+pub same_vanished : (a b both : Circuit) (made : Simplified) → a.qubits ≡ b.qubits → IsCircuit b → both ≡ undone_by a b → Simplifies both made →
+    Proportional made.gates.qubits made.gates.qubits (amp made.gates.gates) (amp []) → Proportional a.qubits a.qubits (amp a.gates) (amp b.gates)
+same_vanished a b both made same is undone s vanished =
+    let n = both.qubits in
+    same_undone a b both same is undone
+    (proportional_trans n n (amp both.gates) (amp made.gates.gates) (amp [])
+    (scaled_proportional n n (amp both.gates) (amp made.gates.gates) made.scalar s.kept.scaled)
+    (subst (λ m. Proportional m m (amp made.gates.gates) (amp [])) s.kept.qubits vanished))
+
 -- ---- odd phases
 is_odd_phase-inverse : (n : ℕ) (gate : Gate) → IsGateOn n gate → is_odd_phase (inverse_gate gate) ≡ is_odd_phase gate
 is_odd_phase-inverse n (H q) on = refl

@@ -8,3 +8,4 @@ mod EndTransforms
 mod Meetings
 mod IdentityGraphs
 mod Deciding
+mod OneMaps

@@ -11,6 +11,7 @@ ghost use Rattle.zx_same.specs.Internal.Simplifying.{Simplifies};
 ghost use Rattle.zx_inverse.specs.Inverse.{undone_by};
 
 use crate::bare::is_bare;
+use crate::vanishing::vanishes;
 use circuit_graph::translate;
 use open_graph::OpenGraph;
 use std::alloc::{AllocError, Global};
@@ -70,6 +71,9 @@ pub fn compare(alloc: Global, a: &GateList, b: &GateList) -> Result<Sameness, Al
     if is_identity(&found) {
         return Ok(Sameness::Same);
     }
+    if vanishes(alloc, &found.gates)? {
+        return Ok(Sameness::Same);
+    }
     Ok(Sameness::NotShown {
         left: found.gates,
         trace: found.trace,
@@ -104,8 +108,8 @@ fn grows_bare(alloc: Global, circuit: &GateList) -> Result<bool, AllocError>
     Ok(is_bare(&grown.graph))
 }
 
-// What a circuit's graph is simplified to, with the scalar by which the circuit's map is that of what is left.
-fn simplified(alloc: Global, circuit: &GateList) -> Result<Simplified, AllocError>
+/// What a circuit's graph is simplified to, with the scalar by which the circuit's map is that of what is left.
+pub(crate) fn simplified(alloc: Global, circuit: &GateList) -> Result<Simplified, AllocError>
     ensures { IfOk result (Simplifies circuit.now) }
 {
     // A circuit has no more qubits than a graph may have outputs, and not too many gates.

@@ -28,6 +28,7 @@ mod bare;
 mod comparing;
 mod division;
 mod laws;
+mod vanishing;
 
 pub use comparing::{Sameness, compare};
 pub use division::quotient;

@@ -4,7 +4,7 @@ use Rattle.zx_model.specs.Proportional.{Proportional}
 use Rattle.zx_model.proofs.ProportionalLemmas.{proportional_refl}
 use Rattle.zx_calculus.proofs.Ids.{or-right}
 use Rattle.zx_gates.specs.Maps.{amp}
-use Rattle.zx_same.proofs.Comparisons.{same_seen, same_undone}
+use Rattle.zx_same.proofs.Comparisons.{same_seen, same_undone, same_vanished}
 use Rattle.zx_same.proofs.Deciding.{decided, none_odd, is_left}
 use Rattle.zx_same.proofs.comparing.compare.Goals as goal
 
@@ -23,6 +23,11 @@ pub returns-then-is_identity-clause-same_map : goal.returns-then-is_identity-cla
 returns-then-is_identity-clause-same_map c =
     same_seen c.args.a.now c.args.b.now c.in_ok-both.both c.in_ok-found.found c.requires.qubits c.gates-2.ensures.valid
     c.in_ok-both.ensures c.in_ok-found.ensures (sym c.is_identity.ensures ∙ c.if-is_identity.true)
+
+pub returns-then-branch-clause-same_map : goal.returns-then-branch-clause-same_map
+returns-then-branch-clause-same_map c =
+    same_vanished c.args.a.now c.args.b.now c.in_ok-both.both c.in_ok-found.found c.requires.qubits c.gates-2.ensures.valid
+    c.in_ok-both.ensures c.in_ok-found.ensures (c.in_ok-vanishes.ensures c.if-branch.true)
 
 pub returns-clause-left : goal.returns-clause-left
 returns-clause-left c =
