@@ -1,6 +1,5 @@
 -- What private contracts alone cite.
 pub mod Parts
-pub mod Places
 pub mod Refusals
 pub mod Verdicts
 pub mod ErrorAnswers

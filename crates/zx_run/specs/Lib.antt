@@ -7,5 +7,6 @@ pub mod CircuitTexts
 pub mod FlowFiles
 pub mod Outcome
 pub mod Answers
+pub mod Numbers
 pub mod ErrorLine
 pub mod Internal

@@ -2,8 +2,7 @@
 
 ghost use Rattle.std.specs.Prelude.{◌≡◌, ◌≤◌, ◌++◌, length};
 ghost use Rattle.zx_io.specs.Causes.{Rose};
-ghost use Rattle.zx_run.specs.ErrorLine.{error_line, fault_text};
-ghost use Rattle.zx_run.specs.Internal.Places.{place_text};
+ghost use Rattle.zx_run.specs.ErrorLine.{error_line, fault_name, place_text};
 ghost use Rattle.zx_run.specs.Outcome.{Gains, GainsPrefix};
 
 use crate::status::{Fault, Status};
@@ -58,10 +57,12 @@ fn line_with(text: &str) -> Line
 fn refusal_line(fault: Fault) -> Line
     ensures { result.bytes ≡ error_line (Status.Refused fault) }
 {
-    let (name, place) = name_and_place(fault);
+    let mut buffer = Buffer::new();
     let mut line = line_with("zxopt: fault ");
-    line.push_str(name);
-    push_place(&mut line, place);
+    line.push_str(buffer.format(fault.number()));
+    line.push_str(" ");
+    line.push_str(name_of(fault));
+    push_place(&mut line, fault.place());
     line.push_str("\n");
     line
 }
@@ -79,37 +80,37 @@ fn push_place(line: &mut Line, place: Option<usize>)
     }
 }
 
-// A fault's number and name, and its place where it has one.
-fn name_and_place(fault: Fault) -> (&'static str, Option<usize>)
-    ensures text { fault_text fault ≡ result.0.now ++ place_text result.1 }
-    ensures short { length result.0.now ≤ 20 }
+// A fault's name.
+fn name_of(fault: Fault) -> &'static str
+    ensures name { result.now ≡ fault_name fault }
+    ensures short { length result.now ≤ 16 }
 {
     match fault {
-        Fault::TooLong => ("1 TooLong", None),
-        Fault::BadByte { at } => ("2 BadByte", Some(at)),
-        Fault::Syntax { at } => ("3 Syntax", Some(at)),
-        Fault::Version => ("4 Version", None),
-        Fault::Include { at } => ("5 Include", Some(at)),
-        Fault::Unsupported { at } => ("6 Unsupported", Some(at)),
-        Fault::Redeclared { at } => ("7 Redeclared", Some(at)),
-        Fault::EmptyRegister { at } => ("8 EmptyRegister", Some(at)),
-        Fault::TooManyQubits { at } => ("9 TooManyQubits", Some(at)),
-        Fault::Unknown { at } => ("10 Unknown", Some(at)),
-        Fault::WrongCount { at } => ("11 WrongCount", Some(at)),
-        Fault::Index { at } => ("12 Index", Some(at)),
-        Fault::Sizes { at } => ("13 Sizes", Some(at)),
-        Fault::SameQubit { at } => ("14 SameQubit", Some(at)),
-        Fault::Divide { at } => ("15 Divide", Some(at)),
-        Fault::AngleTooLarge { at } => ("16 AngleTooLarge", Some(at)),
-        Fault::NotSixteenthTurn { at } => ("17 NotSixteenthTurn", Some(at)),
-        Fault::TooDeep { at } => ("18 TooDeep", Some(at)),
-        Fault::TooManyGates { at } => ("19 TooManyGates", Some(at)),
-        Fault::SecondVersion { at } => ("20 SecondVersion", Some(at)),
-        Fault::BadLine { line: number } => ("21 BadLine", Some(number)),
-        Fault::AfterMeasure { at } => ("22 AfterMeasure", Some(at)),
-        Fault::BitTwice { at } => ("23 BitTwice", Some(at)),
-        Fault::TooManyBits { at } => ("24 TooManyBits", Some(at)),
-        Fault::NotSquare => ("25 NotSquare", None),
-        Fault::NoSecond => ("26 NoSecond", None),
+        Fault::TooLong => "TooLong",
+        Fault::BadByte { .. } => "BadByte",
+        Fault::Syntax { .. } => "Syntax",
+        Fault::Version => "Version",
+        Fault::Include { .. } => "Include",
+        Fault::Unsupported { .. } => "Unsupported",
+        Fault::Redeclared { .. } => "Redeclared",
+        Fault::EmptyRegister { .. } => "EmptyRegister",
+        Fault::TooManyQubits { .. } => "TooManyQubits",
+        Fault::Unknown { .. } => "Unknown",
+        Fault::WrongCount { .. } => "WrongCount",
+        Fault::Index { .. } => "Index",
+        Fault::Sizes { .. } => "Sizes",
+        Fault::SameQubit { .. } => "SameQubit",
+        Fault::Divide { .. } => "Divide",
+        Fault::AngleTooLarge { .. } => "AngleTooLarge",
+        Fault::NotSixteenthTurn { .. } => "NotSixteenthTurn",
+        Fault::TooDeep { .. } => "TooDeep",
+        Fault::TooManyGates { .. } => "TooManyGates",
+        Fault::SecondVersion { .. } => "SecondVersion",
+        Fault::BadLine { .. } => "BadLine",
+        Fault::AfterMeasure { .. } => "AfterMeasure",
+        Fault::BitTwice { .. } => "BitTwice",
+        Fault::TooManyBits { .. } => "TooManyBits",
+        Fault::NotSquare => "NotSquare",
+        Fault::NoSecond => "NoSecond",
     }
 }

@@ -31,7 +31,7 @@
 //! - `reduction`: `check`, `reduce` and `write_graph` in a row.
 //! - `written`: what a command writes, for the answer Done or No.
 //! - `error_line`: the line of an answer, on the error output.
-//! - `program`: `run`, over a source and two sinks.
+//! - `program`: `run`, over a source and two sinks; `made`, what a command writes, over a source alone.
 //! - `status`: its answers.
 //! - `laws`: each text is accepted or has a first fault, and means one circuit at most.
 //!
@@ -66,6 +66,7 @@ pub use laws::{
     diagram_files_have_one_reading, each_text_is_accepted_or_has_a_first_fault,
     each_text_means_one_circuit_at_most, two_texts_are_accepted_or_have_a_first_fault,
 };
-pub use program::{answer, run};
+pub use program::{answer, made, run};
 pub use status::{Fault, Status};
+pub use written::Written;
 pub use zx_optimise::optimise;

@@ -4,7 +4,7 @@ ghost use Rattle.std.specs.Prelude.{◌≡◌, ◌≢◌, ◌⊎◌, ◌+◌, Li
 ghost use Rattle.zx_io.specs.Causes.{Rose};
 ghost use Rattle.zx_words.specs.declared.words.Command.{Command};
 ghost use Rattle.zx_words.specs.declared.words.Command.TheVariants.{Optimise, Reduce, Flow, Graph, Compile, Teleport, Same};
-ghost use Rattle.zx_words.specs.Command.{command_in};
+ghost use Rattle.zx_words.specs.Command.{IsWithinLimits, command_in};
 ghost use Rattle.zx_run.specs.declared.status.Fault.{Fault};
 ghost use Rattle.zx_run.specs.FirstFault.{most_bytes};
 ghost use Rattle.zx_run.specs.Outcome.{Gains, GainsNoFor, GainsOutputFor, GainsPrefix, GainsPrefixFor, IsAnswerOfGen, IsGen, IsOrNoMemory};
@@ -161,26 +161,42 @@ fn output_of<'a, S: Source>(
 {
     match command_in(alloc, words)? {
         None => Err(Status::Usage),
-        Some(
-            Command::Optimise {
-                best,
-                report,
-                scalar,
-            },
-        ) => output_of_opt(alloc, best, report, scalar, source),
-        Some(Command::Reduce) => output_of_reduce(alloc, source),
-        Some(Command::Flow) => output_of_flow(alloc, source),
-        Some(Command::Graph) => output_of_graph(alloc, source),
-        Some(Command::Compile) => output_of_compile(alloc, source),
-        Some(Command::Teleport) => output_of_teleport(alloc, source),
-        Some(Command::Same) => output_of_same(alloc, source),
-        Some(
-            Command::Generate {
-                seed,
-                qubits,
-                gates,
-            },
-        ) => {
+        Some(command) => made(alloc, command, source),
+    }
+}
+
+/// What a command writes for what the source gives, or the answer where there is nothing to write.
+///
+/// # Errors
+///
+/// `Refused` where what was read has a fault, with the first one; `ReadFault` where a read fails; `NoMemory` where memory
+/// runs out. No other answer.
+pub fn made<S: Source>(alloc: Global, command: Command, source: &mut S) -> Result<Written, Status>
+    requires { IsWithinLimits (Some command) }
+    ensures unread { ¬ ReadsSource command → source.new ≡ source.old }
+    ensures made { IfOk result (λ output. IsMade (Some command)
+        (told_source S.left S.faults source.old) (told_source S.left S.faults source.new)
+        output.is_no output.bytes.items) }
+    ensures failure { IfErr result (IsFailure (Some command)
+        (told_source S.left S.faults source.old) (told_source S.left S.faults source.new)) }
+{
+    match command {
+        Command::Optimise {
+            best,
+            report,
+            scalar,
+        } => output_of_opt(alloc, best, report, scalar, source),
+        Command::Reduce => output_of_reduce(alloc, source),
+        Command::Flow => output_of_flow(alloc, source),
+        Command::Graph => output_of_graph(alloc, source),
+        Command::Compile => output_of_compile(alloc, source),
+        Command::Teleport => output_of_teleport(alloc, source),
+        Command::Same => output_of_same(alloc, source),
+        Command::Generate {
+            seed,
+            qubits,
+            gates,
+        } => {
             let bytes = generation_report(alloc, seed, qubits, gates)?;
             Ok(Written {
                 bytes,

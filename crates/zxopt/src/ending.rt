@@ -35,18 +35,13 @@ impl From<AllocError> for NoRun {
     }
 }
 
-/// The exit status: that of the answer, or of the reason why nothing was run.
+/// The exit status: the number of the answer, or that of the reason why nothing was run.
 pub fn exit_status(ended: Result<Status, NoRun>) -> u8
     ensures { result ≡ exit_status ended }
 {
     match ended {
-        Ok(Status::Done) => 0,
-        Ok(Status::Refused(_)) => 1,
-        Ok(Status::Usage) => 2,
-        Ok(Status::ReadFault) => 3,
-        Ok(Status::WriteFault) => 4,
-        Ok(Status::NoMemory) | Err(NoRun::NoMemory) => 5,
-        Ok(Status::No) => 6,
+        Ok(status) => status.number(),
+        Err(NoRun::NoMemory) => Status::NoMemory.number(),
         Err(NoRun::NoWords) => 7,
     }
 }
