@@ -12,6 +12,7 @@
 //! Inside:
 //!
 //! - `bare`: whether nothing is left of a graph but wires.
+//! - `vanishing`: whether nothing is left where gates that are the identity are put in.
 //! - `comparing`: `compare`.
 //! - `division`: `quotient`.
 //! - `laws`: of graphs that are just wires.
