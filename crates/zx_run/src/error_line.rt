@@ -1,6 +1,6 @@
 //! The line about an answer that goes to the error output.
 
-ghost use Rattle.std.specs.Prelude.{◌≡◌, ◌≤◌, ◌++◌, length};
+ghost use Rattle.std.specs.Prelude.{◌≡◌, ◌≢◌, ◌≤◌, ◌++◌, [], length};
 ghost use Rattle.zx_io.specs.Causes.{Rose};
 ghost use Rattle.zx_run.specs.ErrorLine.{error_line, fault_name, place_text};
 ghost use Rattle.zx_run.specs.Outcome.{Gains, GainsPrefix};
@@ -19,6 +19,8 @@ pub fn report<E: Sink>(status: Status, err: &mut E) -> Status
     ensures prefix { GainsPrefix (E.taken err.old) (E.taken err.new) (error_line result) }
     ensures whole { ¬ Rose (E.faults err.old) (E.faults err.new)
         → Gains (E.taken err.old) (E.taken err.new) (error_line result) }
+    ensures flushed { ¬ Rose (E.faults err.old) (E.faults err.new)
+        → error_line result ≢ [] → E.pending err.new ≡ 0 }
 {
     let line = error_line(status);
     if !line.as_str().is_empty() {

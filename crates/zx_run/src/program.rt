@@ -116,6 +116,8 @@ pub fn run<'a, S: Source, O: Sink, E: Sink>(
     ensures err_prefix { GainsPrefix (E.taken err.old) (E.taken err.new) (error_line result) }
     ensures err_whole { ¬ Rose (E.faults err.old) (E.faults err.new) →
         Gains (E.taken err.old) (E.taken err.new) (error_line result) }
+    ensures err_flushed { ¬ Rose (E.faults err.old) (E.faults err.new) →
+        error_line result ≢ [] → E.pending err.new ≡ 0 }
 {
     let status = answer(alloc, words, source, out);
     report(status, err)
