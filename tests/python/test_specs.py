@@ -72,7 +72,8 @@ class Book(unittest.TestCase):
 
     def page(self, change: str = "") -> str:
         lines = self.PATH.read_text(encoding="utf-8").splitlines()[4:6]
-        return "### zx_model/specs/Phase.antt\n\n" + "\n".join(f"    {at:4}  {line}{change}" for at, line in enumerate(lines, 5))
+        printed = [f"    {number:4}  {line}{change}" for number, line in enumerate(lines, 5)]
+        return "\n".join(["### zx_model/specs/Phase.antt", "", *printed])
 
     def test_what_stands_in_the_sources(self) -> None:
         self.assertEqual(book.misprints(self.page(), []), [])
@@ -81,8 +82,8 @@ class Book(unittest.TestCase):
         self.assertEqual(len(book.misprints(self.page("0"), [])), 2)
 
     def test_a_definition_that_is_left_out(self) -> None:
-        files = library.Library()
-        found = [library.Found(files.file_at(self.PATH), files.file_at(self.PATH).by_name[name]) for name in ("turn", "is_odd")]
+        file = library.Library().file_at(self.PATH)
+        found = [library.Found(file, file.by_name[name]) for name in ("turn", "is_odd")]
         self.assertEqual(book.misprints(self.page(), found), ["zx_model/specs/Phase.antt:27 isn't printed"])
 
 

@@ -1,8 +1,8 @@
 """Makes docs/BOOK.md: all definitions behind a call, in an order in which each stands on what came before it.
 
-The hand-written text is `book.md`, beside this file. There `[definitions: NAME ..]` stands for what is behind the call in
-the files of these names, `crate` or `crate/File`; `[code: FILE NAME ..]` for items of a file of code; `[places: NAME ..]`
-for a table of definitions `crate/File.name`; and `[counts]` for a sentence.
+The hand-written text is `book.md`, beside this file. There `[definitions: NAME ..]` stands for what is behind the
+call in the files of these names, `crate` or `crate/File`; `[code: FILE NAME ..]` for items of a file of code;
+`[places: NAME ..]` for a table of definitions `crate/File.name`; and `[counts]` for a sentence.
 """
 from __future__ import annotations
 
@@ -99,7 +99,7 @@ class Book:
             if needed in within:
                 self._place(needed, within)
             elif needed not in self._order and is_own(path) and is_own(needed):
-                raise LookupError(f"book.md: {shown(path)} stands on {shown(needed)}, which comes later or in no chapter")
+                raise LookupError(f"book.md: {shown(path)} stands on {shown(needed)}, which comes later")
         self._order.append(path)
 
     def add_worked_examples(self) -> None:
@@ -210,8 +210,8 @@ def text_of_counts(found: list[Found], values: dict[str, str]) -> list[str]:
     own = [one.definition for one in found if is_own(one.file.path) and one.definition.name not in values]
     lines = sum(len(definition.code) for definition in own)
     files = {one.file.path for one in found if is_own(one.file.path) and one.definition.name not in values}
-    return wrapped(f"There are {len(own)} definitions of this repository, in {lines:,} lines of {len(files)} files, comments"
-                   " aside. Chapter 8 has those of the toolchain's libraries.")
+    return wrapped(f"There are {len(own)} definitions of this repository, in {lines:,} lines of {len(files)} files, "
+                   "comments aside. Chapter 8 has those of the toolchain's libraries.")
 
 
 class Page:

@@ -1,4 +1,4 @@
-"""Where definitions stand, in this repository and in the toolchain where it is at hand, and what stands behind a text."""
+"""Where definitions stand, in this repository and in the toolchain if it is at hand, and what stands behind a text."""
 from __future__ import annotations
 
 import re

@@ -1,4 +1,4 @@
-"""Reads a file of definitions, `specs/*.antt`: its first comment, what it imports, and each definition with its place."""
+"""Reads a file of definitions, `specs/*.antt`: its first comment, its imports, and each definition with its place."""
 from __future__ import annotations
 
 import re
@@ -80,8 +80,10 @@ def first_comment(path: Path) -> list[Line]:
 
 
 class Specs:
-    """A file of definitions. `definitions` has them in their order, and `by_name` by the names that they declare. Fields of
-    records are none of these: who uses one has a value of the record, whose type is written where the value comes from.
+    """A file of definitions. `definitions` has them in their order, and `by_name` by the names that they declare.
+
+    Fields of records are none of these: who uses one has a value of the record, whose type is written where the value
+    comes from.
     """
 
     def __init__(self, path: Path) -> None:
