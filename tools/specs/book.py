@@ -73,9 +73,13 @@ class Book:
         return Section(path, blocks + [block_of(one, values) for one in definitions], definitions)
 
     def needs(self, path: Path) -> list[Path]:
-        """The other files of the book that a file's definitions name."""
-        cited = {one.file.path for definition in self.sections[path].definitions
-                 for one in self.library.cited_by(Found(self.files[path], definition))}
+        """The other files of the book that a file's definitions name. Of its own they only name those before them."""
+        cited = set()
+        for definition in self.sections[path].definitions:
+            for one in self.library.cited_by(Found(self.files[path], definition)):
+                cited.add(one.file.path)
+                if one.file.path == path and one.definition.lines[0].number > definition.lines[0].number and is_own(path):
+                    raise LookupError(f"{shown(path)}: {definition.name} stands on {one.definition.name}, below it")
         return sorted((cited & self.sections.keys()) - {path})
 
     def chapter(self, named: list[str]) -> list[Path]:
