@@ -37,7 +37,7 @@ install:
 	ln -sf ../lib/zxopt/where "$(bin)/zxopt-where"
 	install -m 644 docs/zxopt.1 docs/zxopt-where.1 "$(man)"
 	install -m 644 README.md CHANGELOG.md CONTRIBUTING.md LICENSE "$(doc)"
-	install -m 644 docs/*.md "$(doc)/docs"
+	install -m 644 docs/*.md docs/*.svg "$(doc)/docs"
 	install -m 644 python/README.md "$(doc)/python"
 	install -m 644 benchmarks/README.md "$(doc)/benchmarks"
 	install -m 644 examples/*.qasm examples/*.zx? "$(doc)/examples"

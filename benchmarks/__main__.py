@@ -1,4 +1,4 @@
-"""The commands of the benchmarks: `python3 -m benchmarks generate` and `python3 -m benchmarks table`."""
+"""The commands of the benchmarks: `python3 -m benchmarks generate`, `table` and `picture`."""
 from __future__ import annotations
 
 import argparse
@@ -12,7 +12,7 @@ sys.path.insert(0, str(TOP / "python"))  # the package zxopt need not be install
 
 from zxopt import find_program  # noqa: E402
 
-from . import table  # noqa: E402
+from . import picture, table  # noqa: E402
 from .circuit import Circuit  # noqa: E402
 from .sets import IN_TABLES, SETS, multipliers, named  # noqa: E402
 from .tools import Tool, installed  # noqa: E402
@@ -38,6 +38,9 @@ def main(arguments: Optional[Sequence[str]] = None) -> int:
                           help="one more tool: `{read}` and `{written}` stand for its files")  # fmt: skip
     tabulate.add_argument("--write", action="store_true", help="put the tables into README.md and docs/PERFORMANCE.md")
     tabulate.set_defaults(run=_tabulate)
+
+    draw = commands.add_parser("picture", help=f"draw {picture.EXAMPLE}, before and after, into {picture.DOCUMENT}")
+    draw.set_defaults(run=_draw)
 
     options = parser.parse_args(arguments)
     try:
@@ -89,6 +92,12 @@ def _tabulate(options: argparse.Namespace) -> int:
             document.write_text(table.replaced(document.read_text(encoding="utf-8"), name, text), encoding="utf-8")
         else:
             print(f"{name}\n\n{text}")
+    return 0
+
+
+def _draw(options: argparse.Namespace) -> int:
+    read = (TOP / picture.EXAMPLE).read_text(encoding="utf-8")
+    (TOP / picture.DOCUMENT).write_text(picture.picture(read), encoding="utf-8")
     return 0
 
 

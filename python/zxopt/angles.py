@@ -14,7 +14,7 @@ from functools import lru_cache
 from types import MappingProxyType
 from typing import Callable, Mapping, NamedTuple, Optional
 
-from zxopt.qasm import Token, tokens
+from .qasm import Token, tokens
 
 GREATEST_PART = 1 << 60
 GREATEST_DIGITS = 38

@@ -4,10 +4,10 @@ from __future__ import annotations
 import re
 from typing import Optional, Sequence
 
-from zxopt import names
-from zxopt.qasm import FURTHER, QasmError, Statement, call, declaration, register, split, squeezed
-from zxopt.schedule import Operation
-from zxopt.shapes import Shape, Shapes
+from . import names
+from .qasm import FURTHER, QasmError, Statement, call, declaration, register, split, squeezed
+from .schedule import Operation
+from .shapes import Shape, Shapes
 
 # How many applications registers in place of qubits may be written out to.
 GREATEST_BROADCAST = 1_000_000

@@ -26,14 +26,14 @@ from dataclasses import asdict, dataclass
 from fractions import Fraction
 from typing import Dict, Iterable, List, NamedTuple, Optional, Sequence, Tuple
 
-from zxopt.angles import Value
-from zxopt.circuit import CannotCut, Circuit
-from zxopt import angles, arguments, cli
-from zxopt.prepare import prepare
-from zxopt.qasm import Call, QasmError, Statement, call, squeezed
-from zxopt.rounded import told
-from zxopt.texts import Circuit as AnyKind
-from zxopt.texts import Text, as_bytes
+from .angles import Value
+from .circuit import CannotCut, Circuit
+from . import angles, arguments, cli
+from .prepare import prepare
+from .qasm import Call, QasmError, Statement, call, squeezed
+from .rounded import told
+from .texts import Circuit as AnyKind
+from .texts import Text, as_bytes
 
 __all__ = ["Measures", "TooManyGates", "command", "command_parser", "measures"]
 

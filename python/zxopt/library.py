@@ -4,8 +4,8 @@ from __future__ import annotations
 from functools import lru_cache
 from typing import NamedTuple
 
-from zxopt.data import read_data
-from zxopt.qasm import HEADER, declaration, split, squeezed
+from .data import read_data
+from .qasm import HEADER, declaration, split, squeezed
 
 
 class LibraryGate(NamedTuple):

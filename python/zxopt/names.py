@@ -4,8 +4,8 @@ from __future__ import annotations
 import re
 from typing import Callable, Mapping, Optional
 
-from zxopt.library import library
-from zxopt.qasm import BUILT_IN, FIRST, HEADER, KEYWORDS, Statement, register
+from .library import library
+from .qasm import BUILT_IN, FIRST, HEADER, KEYWORDS, Statement, register
 
 Tell = Callable[[int, str], None]
 # First words of statements that apply no gate.

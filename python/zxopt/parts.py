@@ -27,17 +27,17 @@ from concurrent.futures import ThreadPoolExecutor
 from dataclasses import dataclass
 from typing import Callable, Iterable, NamedTuple, Optional, Sequence, Union
 
-from zxopt import arguments, cli, commands, windows
-from zxopt.circuit import CannotCut, Circuit
-from zxopt.commands import GateCounts
-from zxopt.faults import Refused
-from zxopt.prepare import prepare
-from zxopt.program import Program
-from zxopt.qasm import squeezed
-from zxopt.rounded import rounded_angles, told
-from zxopt.schedule import Cutter, Limits, Node, Operation, Window, bundles
-from zxopt.sources import decoded
-from zxopt.texts import Text
+from . import arguments, cli, commands, windows
+from .circuit import CannotCut, Circuit
+from .commands import GateCounts
+from .faults import Refused
+from .prepare import prepare
+from .program import Program
+from .qasm import squeezed
+from .rounded import rounded_angles, told
+from .schedule import Cutter, Limits, Node, Operation, Window, bundles
+from .sources import decoded
+from .texts import Text
 
 __all__ = ["CannotCut", "Counts", "Left", "Parts", "main", "optimise_parts", "teleport_in_windows"]
 

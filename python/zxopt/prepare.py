@@ -16,12 +16,12 @@ import sys
 from dataclasses import dataclass
 from typing import Optional, Sequence
 
-from zxopt import angles, arguments, cli, names
-from zxopt.library import library, with_needs
-from zxopt.qasm import HEADER, Declaration, QasmError, Statement, call, code, declaration, register, split, squeezed
-from zxopt.rounded import NOT_ANGLES, angle_lists, angles_begin, rounded_angles, told
-from zxopt.sources import Change, decoded, plain
-from zxopt.texts import Text
+from . import angles, arguments, cli, names
+from .library import library, with_needs
+from .qasm import HEADER, Declaration, QasmError, Statement, call, code, declaration, register, split, squeezed
+from .rounded import NOT_ANGLES, angle_lists, angles_begin, rounded_angles, told
+from .sources import Change, decoded, plain
+from .texts import Text
 
 GREATEST_WITHIN = 0.1
 _INCLUDE = re.compile(r"include\s*([\"'<])\s*([^\"'<>\n]*?)\s*[\"'>]\s*;")

@@ -9,8 +9,8 @@ import re
 from functools import lru_cache
 from typing import Iterable, Iterator, Optional
 
-from zxopt import angles, names
-from zxopt.qasm import Statement, comma_parts
+from . import angles, names
+from .qasm import Statement, comma_parts
 
 __all__ = ["NEAR", "angle_lists", "angles_begin", "rounded_angles", "told"]
 

@@ -9,10 +9,10 @@ import re
 from functools import lru_cache
 from typing import NamedTuple, Optional, Sequence
 
-from zxopt import angles
-from zxopt.data import read_data
-from zxopt.library import library
-from zxopt.qasm import FUNCTIONS, HEADER, Declaration, declaration, split, squeezed
+from . import angles
+from .data import read_data
+from .library import library
+from .qasm import FUNCTIONS, HEADER, Declaration, declaration, split, squeezed
 
 GREATEST_DEPTH = 200
 # What the program takes in one text: calls of gates, and qubits.

@@ -5,8 +5,8 @@ import re
 import unicodedata
 from typing import NamedTuple
 
-from zxopt.qasm import QasmError
-from zxopt.texts import Text, as_bytes
+from .qasm import QasmError
+from .texts import Text, as_bytes
 
 _MARKS = (
     (b"\xef\xbb\xbf", "utf-8"),

@@ -83,8 +83,8 @@ class Commands(InRoom):
                 self.assertEqual(ran.returncode, 0, ran.stderr)
 
     def test_the_table_of_readme(self) -> None:
-        """Where the best of several is taken, as README has it."""
-        text = (TOP / "README.md").read_text(encoding="utf-8")
+        """Where the best of several is taken, as the package's README has it."""
+        text = (TOP / "python/README.md").read_text(encoding="utf-8")
         rows = re.findall(r"^\| (.*`opt`.*|.*`batch`.*) \| (where|unless) .* \|$", text, re.MULTILINE)
         told = {(name, kind == "unless") for said, kind in rows for name in re.findall(r"`([a-z.]+)`", said)}
         best = {(name, commands.parser_of(name).get_default("best")) for name in ("opt", "counts", "parts", "batch")}

@@ -8,6 +8,7 @@ import unittest
 from typing import Dict, List, Tuple
 from unittest import mock
 
+import zxopt
 from support import TOP, InRoom
 from zxopt import find_program
 from zxopt.counting import Measures
@@ -16,7 +17,7 @@ if str(TOP) not in sys.path:
     sys.path.insert(0, str(TOP))
 
 from benchmarks import __main__ as commands  # noqa: E402
-from benchmarks import families, sets, table, tools  # noqa: E402
+from benchmarks import families, picture, sets, table, tools  # noqa: E402
 from benchmarks.tools import Ran, Tool  # noqa: E402
 
 # A cell's place: the circuit, what is told of it, and by what.
@@ -77,6 +78,19 @@ class Documents(unittest.TestCase):
         for name in ("T", "gates"):
             told, wanted = cells(placed(name)), cells(made[name])
             self.assertEqual({place: told.get(place, "") for place in wanted}, wanted)
+
+
+class Picture(unittest.TestCase):
+    """README's picture of a circuit before and after."""
+
+    def test_it_shows_what_the_program_writes(self) -> None:
+        """`python3 -m benchmarks picture` draws it again where the program has changed."""
+        text = (TOP / picture.EXAMPLE).read_text(encoding="utf-8")
+        drawn = (TOP / picture.DOCUMENT).read_text(encoding="utf-8")
+        self.assertEqual(drawn, picture.picture(text))
+        for title, circuit in ("read", text), ("written by opt --best", zxopt.optimise(text)):
+            counts = zxopt.measures(circuit)
+            self.assertIn(f"{title}: {counts.t_count} T, {counts.two_qubit} CX and CZ", drawn)
 
 
 class Tables(unittest.TestCase):
