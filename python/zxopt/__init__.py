@@ -43,8 +43,9 @@ from .commands import (
     teleport,
 )
 from .faults import FAULTS, Fault, NoFlow, Refused
-from .identity import VERSION, Version, version
+from .identity import Version, version
 from .program import find_program, run
+from .release import VERSION
 
 if TYPE_CHECKING:
     from . import batch, counting, parts, prepare, pytket, pyzx, qiskit, spelling, stream
