@@ -15,9 +15,10 @@
    What the caller owes:
 
    - `text`, `out` and `told` aren't NULL, also where a length is 0. They point to so many bytes, `told` to one
-     zxopt_told, and no two of these overlap.
+     zxopt_told, and no two of these overlap. A flag is 0 or 1.
    - While a call runs, nobody else writes to `text`, or reads or writes `out` and `*told`.
    - The thread has 64 KiB of stack left.
+   - `malloc`, `realloc` and `free` belong together, and align blocks as C asks.
    - No call is made where `malloc` may not be called, as in a handler of signals.
 
    A call keeps nothing, opens no file, and ends by itself, but may take long, and can't be cut off. Several threads may
