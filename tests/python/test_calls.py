@@ -279,19 +279,27 @@ class SideBySide(Calls):
             self.assertEqual([it.result() for it in meanwhile], alone * 4)
 
 
+def least_time(work: Callable[[], str]) -> Tuple[float, str]:
+    """The least of three times that some work takes, since others use the processor too, and what it answers."""
+    least = float("inf")
+    for _ in range(3):
+        began = time.perf_counter()
+        answer = work()
+        least = min(least, time.perf_counter() - began)
+    return least, answer
+
+
 class Times(Calls):
     def test_against_processes(self) -> None:
-        """A thousand circuits of 20 gates, in turn by calls and by processes."""
-        texts = [random_circuit(Kind.RANDOM, 2 + seed % 5, 20, seed).text() for seed in range(1000)]
+        """A thousand circuits of 20 gates, each in turn by calls and by processes."""
         by_calls = by_processes = 0.0
-        for some in (texts[at : at + 50] for at in range(0, 1000, 50)):
-            began = time.perf_counter()
-            one = [zxopt.optimise(text, False) for text in some]
-            between = time.perf_counter()
-            other = [zxopt.optimise(text, False, program=self.real) for text in some]
-            by_calls += between - began
-            by_processes += time.perf_counter() - between
-            self.assertEqual(one, other)
+        for seed in range(1000):
+            text = random_circuit(Kind.RANDOM, 2 + seed % 5, 20, seed).text()
+            one, written = least_time(lambda: zxopt.optimise(text, False))
+            other, wanted = least_time(lambda: zxopt.optimise(text, False, program=self.real))
+            self.assertEqual(written, wanted)
+            by_calls += one
+            by_processes += other
         print(f"1,000 circuits of 20 gates: {by_calls * 1e3:.0f} ms by calls, {by_processes * 1e3:.0f} ms by processes")
         self.assertLessEqual(by_calls, FRACTION * by_processes)
 
