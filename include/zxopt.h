@@ -4,13 +4,7 @@
    `text`, and writes what the program writes to its standard output into the room of `out_room` bytes at `out`, where
    that suffices. `*told` tells how many bytes these are, and the first fault of a text that is refused. What is written
    is ASCII, without a zero behind it. A call that answers ZXOPT_NO_ROOM is made again, with as much room as it told:
-
-       size_t room = 2 * length + 4096;
-       uint8_t *out = malloc(room);
-       zxopt_told told;
-       uint8_t status;
-       while ((status = zxopt_optimise(true, false, false, text, length, out, room, &told)) == ZXOPT_NO_ROOM)
-           out = realloc(out, room = told.length);
+   examples/c/optimise.c shows how.
 
    What the caller owes:
 

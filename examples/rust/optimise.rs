@@ -17,7 +17,7 @@ struct Told {
 }
 
 #[link(name = "zxopt")]
-unsafe extern "C" {
+extern "C" {
     fn zxopt_optimise(
         best: bool,
         report: bool,

@@ -16,12 +16,14 @@ from functools import lru_cache
 from importlib import resources
 from pathlib import Path
 from threading import Lock
-from typing import Optional, Sequence, Union
+from typing import TYPE_CHECKING, Optional, Sequence, Union
 
-from .calls import Answer, Library
 from .faults import FAULTS, WITHOUT_PLACE, Refused
 from .processes import CALLED, communicate, ends_children
 from .texts import Circuit, Text, as_bytes
+
+if TYPE_CHECKING:
+    from .calls import Answer, Library
 
 __all__ = ["CALLED", "Program", "Text", "as_bytes", "find_library", "find_program", "run"]
 
@@ -116,6 +118,11 @@ def find_library() -> Optional[Library]:
 
 @lru_cache(maxsize=16)
 def _library(file: str) -> Library:
+    """The library of a file. Raises OSError where it is none, and where this Python can't call libraries."""
+    try:
+        from .calls import Library
+    except ImportError as missing:
+        raise OSError(f"this Python has no ctypes: {missing}") from None
     return Library(file)
 
 

@@ -231,6 +231,15 @@ class Finding(InRoom):
                 zxopt.optimise(TWO_T)
         self.assertIn("newer.so is of version 10000, and this package is of 10001", str(caught.exception))
 
+    def test_without_ctypes(self) -> None:
+        """A Python that can't call libraries runs the program."""
+        self.write("clone/crates.txt", "")
+        self.put("clone/dist/libzxopt.so.1")
+        program._library.cache_clear()
+        with mock.patch.dict(sys.modules, {"zxopt.calls": None}):
+            self.assertEqual(self.found(), "")
+        self.assertEqual(self.found(), "clone/dist/libzxopt.so.1")
+
     def test_of_the_system(self) -> None:
         """The loader finds it, here by a folder that is named to it."""
         self.put("system/libzxopt.so.1")
