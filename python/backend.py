@@ -1,8 +1,9 @@
 """Builds the package for pip: the hooks of PEP 517 and PEP 660, by the standard library alone.
 
-A wheel is a zip file of the package's files, with a folder of what is said of them. In a clone of the repository it holds
-the program too: `dist/zxopt-static`, which needs no C library, so its tags are those of glibc and of musl. What is said
-stands in pyproject.toml; its lines are simple enough to be read here without a parser, which Python has from 3.11 on.
+A wheel is a zip file of the package's files, with a folder of what is said of them. In a clone of the repository it
+holds the program too, `dist/zxopt-static`, and the library, `dist/libzxopt.so.1`. Neither needs a C library of its own,
+so the wheel's tags are those of glibc and of musl. What is said stands in pyproject.toml, in lines that are simple
+enough to be read here without a parser, which Python has from 3.11 on.
 """
 from __future__ import annotations
 
@@ -38,11 +39,12 @@ class _File(NamedTuple):
 def build_wheel(folder: str, settings: Optional[Dict[str, Any]] = None, metadata: Optional[str] = None) -> str:
     """Writes the wheel into a folder, and answers its name."""
     files = {f"zxopt/{file.name}": _File(file.read_bytes()) for file in _package_files()}
-    program = _program()
-    if program is None:
-        print(f"zxopt: no program at {_DIST}/zxopt-static, so the wheel holds none", file=sys.stderr)
+    program, library = _shipped("zxopt-static", "static"), _shipped("libzxopt.so.1", "library")
+    if program is None or library is None:
+        print(f"zxopt: no program or no library in {_DIST}, so the wheel holds neither", file=sys.stderr)
         return _written_wheel(folder, files, _ANY, _WITHOUT)
-    return _written_wheel(folder, {**files, "zxopt/bin/zxopt": _File(program, 0o755)}, _LINUX)
+    shipped = {"zxopt/bin/zxopt": _File(program, 0o755), "zxopt/lib/libzxopt.so.1": _File(library)}
+    return _written_wheel(folder, {**files, **shipped}, _LINUX)
 
 
 def build_editable(folder: str, settings: Optional[Dict[str, Any]] = None, metadata: Optional[str] = None) -> str:
@@ -64,15 +66,16 @@ def build_sdist(folder: str, settings: Optional[Dict[str, Any]] = None) -> str:
     return f"{base}.tar.gz"
 
 
-def _program() -> Optional[bytes]:
-    """The static program of the clone, or none where this is no clone. ValueError where it isn't the recorded one."""
-    file, record = _DIST / "zxopt-static", _DIST / "RECORD"
+def _shipped(name: str, word: str) -> Optional[bytes]:
+    """A file of the clone's dist/, or none where this is no clone. ValueError where the record tells another sum of it by
+    this word."""
+    file, record = _DIST / name, _DIST / "RECORD"
     if not file.is_file() or not record.is_file():
         return None
-    program = file.read_bytes()
-    if f"static {hashlib.sha256(program).hexdigest()}" not in record.read_text(encoding="utf-8").splitlines():
-        raise ValueError(f"{file} isn't the program that {record} tells")
-    return program
+    data = file.read_bytes()
+    if f"{word} {hashlib.sha256(data).hexdigest()}" not in record.read_text(encoding="utf-8").splitlines():
+        raise ValueError(f"{file} isn't the one that {record} tells")
+    return data
 
 
 def _written_wheel(folder: str, files: Dict[str, _File], platforms: Sequence[str], note: str = "") -> str:

@@ -6,10 +6,10 @@ OpenQASM 2.0.
     assert zxopt.same(circuit, better)          # a yes is always right
     zxopt.measures(better).t_depth              # counts of a circuit as it is written
 
-This package stands outside of the proved program `zxopt`, and runs it. What is proved is about the text that the
-program reads and the text that it writes; what this package does before and behind that is tested, and not proved. The
-program is $ZXOPT, or that of the clone in which this package lies, or the one that came with its wheel, or `zxopt` on
-the path; `version()` tells which.
+This package stands outside of the proved program `zxopt`, and runs it, or calls its library where it can. What is
+proved is about the text that either reads and the text that it writes; what this package does before and behind that
+is tested, and not proved. The program is $ZXOPT, or that of the clone in which this package lies, or the one that came
+with its wheel, or `zxopt` on the path; `version()` tells which, and which library is called.
 
 The functions are safe from several threads. `python3 -m zxopt` has the same and more as commands. These modules stand
 beside, and are imported when they are asked for: `zxopt.prepare` makes texts of the usual tools such that the program
@@ -43,8 +43,9 @@ from .commands import (
     teleport,
 )
 from .faults import FAULTS, Fault, NoFlow, Refused
-from .identity import VERSION, Version, version
+from .identity import Version, version
 from .program import find_program, run
+from .release import VERSION
 
 if TYPE_CHECKING:
     from . import batch, counting, parts, prepare, pytket, pyzx, qiskit, spelling, stream

@@ -49,12 +49,13 @@ class Settings:
 
     best: takes the best of several circuits. teleport: changes phases alone, and goes before `best`. seconds: how long
     one call of the program may take; where one of these takes longer, `teleport` takes the file in windows of 10,000
-    gates, each with as many seconds again; what takes longer then stays as it was read. check: asks `same` of each result.
-    prepare: each text goes through `zxopt.prepare` first, and what is checked is the text that this writes. parts: it
-    is optimised by `zxopt.parts`, where a part that takes longer than `seconds` goes the same way; `same` can't be
-    asked of a text that the program refuses as a whole. spelled: `only-t` or `by-cx`, a spelling of what is written.
-    program: the program. within: a distance in radians; angles that lie so close to a multiple of pi/8 are taken for it
-    by `zxopt.prepare`, through which each text goes then. measured: counts both texts by `zxopt.measures`.
+    gates, each with as many seconds again; what takes longer then stays as it was read. check: asks `same` of each
+    result. prepare: each text goes through `zxopt.prepare` first, and what is checked is the text that this writes.
+    parts: it is optimised by `zxopt.parts`, where a part that takes longer than `seconds` goes the same way; `same`
+    can't be asked of a text that the program refuses as a whole. spelled: `only-t` or `by-cx`, a spelling of what is
+    written. program: the program; None for that of `find_program`. It is always run, and the library never called.
+    within: a distance in radians; angles that lie so close to a multiple of pi/8 are taken for it by `zxopt.prepare`,
+    through which each text goes then. measured: counts both texts by `zxopt.measures`.
     """
 
     best: bool = True
@@ -153,6 +154,7 @@ def optimise_file(job: Job, settings: Settings = Settings()) -> Outcome:
     """Optimises a file, and answers what became of it, also where that is nothing."""
     began = time.monotonic()
     try:
+        settings = replace(settings, program=settings.program or find_program())
         text, changed, rounded = _prepared(job.source.read_bytes(), settings)
         written, best = _optimised(text, settings)
         job.target.parent.mkdir(parents=True, exist_ok=True)

@@ -1,11 +1,12 @@
 """The program's commands as functions on circuits.
 
 A circuit is a text (str or bytes), the path of a file, or a circuit of Qiskit, PyZX or pytket, which goes through
-`zxopt.prepare` (see `zxopt.texts`). Each function runs the program once, or says how often. Where it says nothing else,
-it raises Refused where a text is refused, MemoryError where the program's memory ran out, TimeoutError where it took
-longer than `timeout` seconds, TypeError where a circuit is none of these, and OSError where a file couldn't be read, or
-the program couldn't be run or ended in any other way (TimeoutError is an OSError, so catch it first). `program` is the
-program to run; None stands for that of `find_program`.
+`zxopt.prepare` (see `zxopt.texts`). Each function runs the program once, or calls its library in this process where
+`zxopt.program.run` says so. Where it says nothing else, it raises Refused where a text is refused, MemoryError where
+the program's memory ran out, TimeoutError where it took longer than `timeout` seconds, TypeError where a circuit is
+none of these, and OSError where a file couldn't be read, or the program couldn't be run or ended in any other way
+(TimeoutError is an OSError, so catch it first). `program` is the program to run; None stands for that of
+`find_program`.
 """
 from __future__ import annotations
 

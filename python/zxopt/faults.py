@@ -33,6 +33,8 @@ def _faults() -> Iterator[Fault]:
 
 FAULTS: Mapping[int, Fault] = {fault.number: fault for fault in _faults()}
 
+# Those that have no place.
+WITHOUT_PLACE = frozenset((1, 4, 25, 26))
 # The fault whose place is the number of a line, and not a byte.
 _BAD_LINE = 21
 # Those that are of one name: it is declared twice, or isn't declared.

@@ -1,4 +1,4 @@
-"""Which zxopt this is: the package's version, and which program it runs."""
+"""Which zxopt this is: the package's version, which program it runs, and which library it calls."""
 from __future__ import annotations
 
 import hashlib
@@ -7,31 +7,35 @@ import shutil
 from pathlib import Path
 from typing import NamedTuple, Optional
 
-from .program import Program, find_program
+from .program import Program, find_library, find_program
+from .release import VERSION
 
-__all__ = ["VERSION", "Version", "version"]
-
-VERSION = "1.0.0"
+__all__ = ["Version", "version"]
 
 
 class Version(NamedTuple):
-    """The package's version, the file of the program that it runs, and that file's SHA-256, as dist/RECORD tells it."""
+    """The package's version, the file of the program that it runs, and that file's SHA-256, as dist/RECORD tells it;
+    and the shared library that its functions call where they can, or None where there is none."""
 
     package: str
     program: str
     sha256: str
+    library: Optional[str] = None
 
     def __str__(self) -> str:
-        return f"zxopt {self.package}\nprogram {self.program}\nsha256 {self.sha256}"
+        return f"zxopt {self.package}\nprogram {self.program}\nsha256 {self.sha256}\nlibrary {self.library or 'none'}"
 
 
 def version(program: Optional[Program] = None) -> Version:
-    """The package's version with the path and the sum of a program; None stands for that of `find_program`.
+    """The package's version with the path and the sum of a program. None stands for that of `find_program`; the library
+    is told besides then.
 
-    Raises OSError where there is no such program, or it can't be read.
+    Raises OSError where there is no such program, or it can't be read, and where the library that is named isn't one.
     """
     named = os.fspath(program) if program is not None else find_program()
     file = shutil.which(named)
     if file is None:
         raise FileNotFoundError(f"no program {named}")
-    return Version(VERSION, os.path.abspath(file), hashlib.sha256(Path(file).read_bytes()).hexdigest())
+    library = find_library() if program is None else None
+    sha256 = hashlib.sha256(Path(file).read_bytes()).hexdigest()
+    return Version(VERSION, os.path.abspath(file), sha256, library.file if library else None)

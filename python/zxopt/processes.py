@@ -14,7 +14,7 @@ from contextlib import contextmanager
 from types import FrameType
 from typing import Iterator, Optional, Sequence, Set, Tuple
 
-__all__ = ["CALLED", "Stopped", "communicate", "ending_children"]
+__all__ = ["CALLED", "Stopped", "communicate", "ending_children", "ends_children"]
 
 # This variable tells a process that it was started as the program, for which none of this package has to be taken.
 CALLED = "ZXOPT_CALLED"
@@ -35,9 +35,11 @@ class Stopped(KeyboardInterrupt):
 
 
 class _Children:
-    """The programs that run now, which signal has come, and whether the main thread is just starting one."""
+    """The programs that run now, which signal has come, whether signals end programs, and whether the main thread is
+    just starting one."""
 
     def __init__(self) -> None:
+        self.are_ended = False
         self.running: Set["subprocess.Popen[bytes]"] = set()
         self.stopped = 0
         self.is_starting = False
@@ -102,7 +104,7 @@ def ending_children() -> Iterator[None]:
 
     Signals that are ignored stay so, as those of a command that `nohup` called.
     """
-    before = {}
+    before, _CHILDREN.are_ended = {}, True
     if threading.current_thread() is threading.main_thread():
         for number in (signal.SIGINT, signal.SIGTERM, signal.SIGHUP):
             if signal.getsignal(number) is not signal.SIG_IGN:
@@ -112,4 +114,9 @@ def ending_children() -> Iterator[None]:
     finally:
         for number, handler in before.items():
             signal.signal(number, handler)
-        _CHILDREN.stopped = 0
+        _CHILDREN.stopped, _CHILDREN.are_ended = 0, False
+
+
+def ends_children() -> bool:
+    """Whether signals end all that runs, as those of a command do: within `ending_children`."""
+    return _CHILDREN.are_ended

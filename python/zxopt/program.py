@@ -1,7 +1,8 @@
 """Runs the program `zxopt`: words and a text in, a text out, and an exception for each way in which that can fail.
 
-No shell stands between; the text goes to the program's standard input. Calls keep nothing between them, so they may be
-made from several threads at once: each has a process of its own, and threads wait for theirs side by side.
+Where that can be, a call of the shared library answers the same, in this process. Else no shell stands between; the
+text goes to the program's standard input. Calls keep nothing between them, so they may be made from several threads at
+once: each that runs the program has a process of its own, and threads wait for theirs side by side.
 """
 from __future__ import annotations
 
@@ -15,13 +16,16 @@ from functools import lru_cache
 from importlib import resources
 from pathlib import Path
 from threading import Lock
-from typing import Optional, Sequence, Union
+from typing import TYPE_CHECKING, Optional, Sequence, Union
 
-from .faults import Refused
-from .processes import CALLED, communicate
+from .faults import FAULTS, WITHOUT_PLACE, Refused
+from .processes import CALLED, communicate, ends_children
 from .texts import Circuit, Text, as_bytes
 
-__all__ = ["CALLED", "Program", "Text", "as_bytes", "find_program", "run"]
+if TYPE_CHECKING:
+    from .calls import Answer, Library
+
+__all__ = ["CALLED", "Program", "Text", "as_bytes", "find_library", "find_program", "run"]
 
 # A file that can be run, or a name to be looked for on the path.
 Program = Union[str, "os.PathLike[str]"]
@@ -32,6 +36,10 @@ _IS_REFUSED = 1
 _NO_MEMORY = 5
 # Those of the program without words: they are no command, or there is no memory for them. A loader has 1 or 127.
 _WITHOUT_WORDS = (2, 5, 7)
+
+# Texts of more bytes may take long, and go to the program, which Ctrl-C ends.
+_GREATEST_CALL = 1 << 16
+_LIBRARY = "libzxopt.so.1"
 
 # The program that was copied out of a zip file, and who copies it.
 _copied = ""
@@ -45,7 +53,10 @@ def run(
     timeout: Optional[float] = None,
     program: Optional[Program] = None,
 ) -> tuple[str, int]:
-    """Runs the program with these words on a text.
+    """What the program answers for these words and a text.
+
+    It is run, unless `find_library` has a library: this is called with a text of 64 KiB at most where neither `timeout`
+    nor `program` is given, but not by a command of `python3 -m zxopt`, which signals have to end.
 
     words: a command and its flags, such as ["opt", "--best"].
     text: what the program reads, in a form that `zxopt.texts.as_bytes` takes.
@@ -61,6 +72,10 @@ def run(
     where the text is of no such form, and ValueError where the timeout isn't above 0.
     """
     data = as_bytes(text)
+    if timeout is None and program is None:
+        called = _called(words, data)
+        if called is not None:
+            return called
     command = [os.fspath(program) if program is not None else find_program(), *words]
     try:
         out, err, status = communicate(command, data, timeout)
@@ -85,6 +100,64 @@ def find_program() -> str:
             "no program zxopt: set ZXOPT to it, put its folder on the path, or install a wheel that was built in a clone"
         )
     return found
+
+
+def find_library() -> Optional[Library]:
+    """The shared library: none where $ZXOPT names a program; that of $ZXOPT_LIBRARY where this is set, and none where
+    it is empty; else, where this package lies in a clone of the repository, that in `dist`, but none where the clone's
+    program was built there; else the one that the package's wheel holds; else the system's.
+
+    Raises OSError where $ZXOPT_LIBRARY names no library of this package's version. Others that are none are passed
+    over.
+    """
+    if os.environ.get("ZXOPT"):
+        return None
+    named = os.environ.get("ZXOPT_LIBRARY")
+    return _own_library() if named is None else _library(named) if named else None
+
+
+@lru_cache(maxsize=16)
+def _library(file: str) -> Library:
+    """The library of a file. Raises OSError where it is none, and where this Python can't call libraries."""
+    try:
+        from .calls import Library
+    except ImportError as missing:
+        raise OSError(f"this Python has no ctypes: {missing}") from None
+    return Library(file)
+
+
+@lru_cache(maxsize=1)
+def _own_library() -> Optional[Library]:
+    top, packed = _clone(), resources.files("zxopt").joinpath("lib").joinpath(_LIBRARY)
+    if top and (top / "out/zxopt").exists() and not (top / "out/zxopt.taken").exists():
+        return None  # the sources may be others than those of the library
+    files = [top / "dist" / _LIBRARY] if top else []
+    files += [packed] if isinstance(packed, Path) else []
+    for file in (*map(str, filter(Path.is_file, files)), _LIBRARY):
+        try:
+            return _library(file)
+        except OSError:
+            continue
+    return None
+
+
+def _called(words: Sequence[str], data: bytes) -> Optional[tuple[str, int]]:
+    """What `run` answers by a call of the library, or None where the program has to be run."""
+    library = None if len(data) > _GREATEST_CALL or ends_children() else find_library()
+    answer = library and library.answer(words, data)
+    if not answer:
+        return None
+    if answer.status in _ANSWERS:
+        return answer.written.decode("utf-8", "replace"), answer.status
+    raise _refusal(answer, data)
+
+
+def _refusal(answer: Answer, data: bytes) -> Exception:
+    """The exception for a call that wrote nothing."""
+    if answer.status == _IS_REFUSED:
+        place = None if answer.fault in WITHOUT_PLACE else answer.place
+        return Refused.at(answer.fault, FAULTS[answer.fault].name, place, data)
+    return MemoryError("zxopt: no memory")
 
 
 def _clone() -> Optional[Path]:

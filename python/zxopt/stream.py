@@ -25,8 +25,8 @@ from typing import Any, Callable, NamedTuple, Optional, Sequence, Union
 from . import arguments, slices, windows, workers
 from .circuit import CannotCut
 from .commands import GateCounts
-from .identity import VERSION
 from .program import Program, find_program
+from .release import VERSION
 from .reading import Reader
 from .schedule import Limits, Node, Window, bundles
 from .states import State, Target, identity

@@ -157,7 +157,7 @@ class Commands(InRoom):
 
     def test_version(self) -> None:
         told = zxopt.version()
-        self.writes(f"zxopt {zxopt.__version__}\nprogram {told.program}\nsha256 {told.sha256}\n", "--version")
+        self.writes(f"zxopt {zxopt.__version__}\nprogram {told.program}\nsha256 {told.sha256}\nlibrary none\n", "--version")
         ran = self.command("--version", env={"ZXOPT": "/nowhere/zxopt"})
         self.assertEqual((ran.returncode, ran.stdout), (70, ""))
 

@@ -273,7 +273,7 @@ class Finding(InRoom):
         (self.room / "path").mkdir()
         for patch in (
             mock.patch.object(program, "__file__", str(self.package)),
-            mock.patch.dict(os.environ, {"PATH": str(self.room / "path")}),
+            mock.patch.dict(os.environ, {"PATH": str(self.room / "path"), "ZXOPT_LIBRARY": ""}),
         ):
             patch.start()
             self.addCleanup(patch.stop)

@@ -3,6 +3,7 @@ from __future__ import annotations
 
 import importlib.util
 import os
+import shutil
 import subprocess
 import sys
 import tempfile
@@ -60,6 +61,8 @@ class Wheel(unittest.TestCase):
             self.assertEqual(entry.external_attr >> 16, 0o100755)
             self.assertEqual(entry.compress_type, zipfile.ZIP_DEFLATED)
             self.assertEqual(packed.read(entry), (TOP / "dist/zxopt-static").read_bytes())
+            library = packed.read("zxopt/lib/libzxopt.so.1")
+            self.assertEqual(library, (TOP / "dist/libzxopt.so.1").read_bytes())
             said = packed.read(f"zxopt-{__version__}.dist-info/WHEEL").decode()
             points = ConfigParser()
             points.read_string(packed.read(f"zxopt-{__version__}.dist-info/entry_points.txt").decode())
@@ -122,7 +125,8 @@ class Wheel(unittest.TestCase):
 
     def test_version(self) -> None:
         own = next((self.room / "venv").glob("lib/python*/site-packages/zxopt/bin/zxopt"))
-        told = f"zxopt {__version__}\nprogram {own}\nsha256 {RECORD['static']}\n"
+        library = own.parents[1] / "lib/libzxopt.so.1"
+        told = f"zxopt {__version__}\nprogram {own}\nsha256 {RECORD['static']}\nlibrary {library}\n"
         self.assertEqual(self.zxopt("--version").stdout.decode(), told)
 
     def test_help(self) -> None:
@@ -156,8 +160,23 @@ class Wheel(unittest.TestCase):
             hidden.rename(own)
             real.replace(command)
 
+    def test_calls_of_the_library(self) -> None:
+        """Functions call the library, which runs where there is no program, in a folder that nobody can write to."""
+        package = next((self.room / "venv").glob("lib/python*/site-packages/zxopt"))
+        copied = self.room / "read-only"
+        shutil.copytree(package, copied / "zxopt", ignore=shutil.ignore_patterns("bin", "__pycache__"))
+        for path in (*copied.rglob("*"), copied):
+            path.chmod(0o555 if path.is_dir() else 0o444)
+        self.room.chmod(0o755)
+        source = "import sys, zxopt; print(zxopt.__file__); print(zxopt.optimise(sys.stdin.read(), False), end='')"
+        command = [sys.executable, "-c", source]
+        if os.geteuid() == 0 and shutil.which("setpriv"):
+            command = ["setpriv", "--reuid=65534", "--regid=65534", "--clear-groups", *command]
+        ran = self.run_here(*command, text=example("two_t.qasm").encode(), env={"PYTHONPATH": str(copied)})
+        self.assertEqual(ran.stdout.decode(), f"{copied}/zxopt/__init__.py\n{TWO_T}", ran.stderr)
+
     def test_in_a_zip(self) -> None:
-        """The program is copied once, and goes with the process."""
+        """No library can be loaded from there; the program is copied once, and goes with the process."""
         source = (
             "import sys, zxopt\n"
             "text = sys.stdin.read()\n"
