@@ -31,6 +31,8 @@ _COMMENT = re.compile(r"^ *(?:/\*\*(?:[^*]|\*(?!/))*\*/(?: *\n)?|//.*\n)|/\*\* @
 _TOP_LEVEL = re.compile(r"^(?:export )?(?:async )?(?:function|class|const|let) (\w+)", re.M)
 _MODULE = re.compile(r'(?<=<script type="text/plain" id="module">)[^<]*')
 
+# What stands for the letter of base85 that could begin a tag.
+_NO_TAG = ","
 # The second text of the example of a comparison.
 _ONE_S = 'OPENQASM 2.0;\ninclude "qelib1.inc";\nqreg q[1];\ns q[0];\n'
 
@@ -43,7 +45,7 @@ def page_with(module: bytes, sources: str) -> str:
         "STYLE": style,
         "VERSION": VERSION,
         "SOURCES": sources,
-        "MODULE": base64.b64encode(gzip.compress(module, 9, mtime=0)).decode("ascii"),
+        "MODULE": _packed(module),
         "WORKER": _bundle(PAGE / "worker.mjs"),
         "DATA": _data(),
         "SCRIPT": script,
@@ -56,7 +58,12 @@ def module_in(page: str) -> bytes:
     found = _MODULE.search(page)
     if found is None:
         raise ValueError("the page holds no module")
-    return gzip.decompress(base64.b64decode(found[0]))
+    return gzip.decompress(base64.b85decode(found[0].replace(_NO_TAG, "<")))
+
+
+def _packed(module: bytes) -> str:
+    """A module as letters, compressed, five for each four bytes."""
+    return base64.b85encode(gzip.compress(module, 9, mtime=0)).decode("ascii").replace("<", _NO_TAG)
 
 
 def _read(name: str) -> str:

@@ -7,11 +7,15 @@
 """
 from __future__ import annotations
 
+import functools
+import http.server
 import json
 import os
+import shutil
 import subprocess
 import sys
 import tempfile
+import threading
 import time
 import unittest
 from pathlib import Path
@@ -26,15 +30,16 @@ from selenium.webdriver.remote.webelement import WebElement
 from selenium.webdriver.support.ui import Select, WebDriverWait
 
 TOP = Path(__file__).resolve().parents[2]
-sys.path[:0] = [str(TOP), str(TOP / "python")]
+sys.path[:0] = [str(TOP), str(TOP / "python"), str(TOP / "web")]
 
 from benchmarks.drawn import Kind, random_circuit  # noqa: E402
+from page import module_in  # noqa: E402
 from zxopt.faults import FAULTS  # noqa: E402
 
 HEAD = 'OPENQASM 2.0;\ninclude "qelib1.inc";\n'
 TWO_T = HEAD + "qreg q[1];\nt q[0];\nt q[0];\n"
 ONE_S = HEAD + "qreg q[1];\ns q[0];\n"
-CONTROLS = ("button", "checkbox", "combobox", "textbox", "link", "listbox", "img", "group", "region", "table")
+CONTROLS = ("button", "checkbox", "combobox", "textbox", "link", "image", "group", "region", "table")
 # How long a run may take on a busy machine, and how much processor time the page may take to open.
 SECONDS = 120
 SECONDS_TO_OPEN = 0.5
@@ -130,6 +135,13 @@ class Page:
         """What the browser logged since the last call."""
         return list(self.driver.get_log(kind))
 
+    def requests(self) -> Iterator[str]:
+        """The addresses that were asked for since the last call."""
+        for entry in self.log("performance"):
+            message = json.loads(entry["message"])["message"]
+            if message["method"] == "Network.requestWillBeSent":
+                yield message["params"]["request"]["url"]
+
     def close(self) -> None:
         """Ends the browser."""
         self.driver.quit()
@@ -148,6 +160,9 @@ class PageTest(unittest.TestCase):
         cls.folder = Path(folder.name)
         cls.page = Page(cls.file, folder.name)
         cls.addClassCleanup(cls.page.close)
+        # what the browser does before the page is opened is its own
+        cls.page.open()
+        list(cls.page.requests())
 
     def setUp(self) -> None:
         self.page.show("light", 1280, 900)
@@ -156,11 +171,8 @@ class PageTest(unittest.TestCase):
     def tearDown(self) -> None:
         messages = [entry["message"] for entry in self.page.log("browser")]
         self.assertEqual(messages, [], "the console says something")
-        for entry in self.page.log("performance"):
-            message = json.loads(entry["message"])["message"]
-            if message["method"] == "Network.requestWillBeSent":
-                address = message["params"]["request"]["url"]
-                self.assertRegex(address, r"^(file://|data:|blob:|about:)", "a request to the network")
+        for address in self.page.requests():
+            self.assertRegex(address, r"^(file://|data:|blob:|about:)", "a request to the network")
 
     def answer(self, text: str, *words: str) -> str:
         """What the program writes for a text."""
@@ -196,7 +208,8 @@ class PageTest(unittest.TestCase):
         self.assertEqual(self.page.counts(), {"read": ["2", "2", "0", "2", "1"], "written": ["0", "0", "0", "1", "1"]})
         pictures = self.page.driver.find_elements(By.CSS_SELECTOR, "#pictures svg")
         self.assertEqual([it.accessible_name for it in pictures], [
-            "The circuit read: 1 qubits, 2 T gates, 2 columns", "The circuit written: 1 qubits, 0 T gates, 1 columns",
+            "The circuit that was read: 1 qubit, 2 T gates, 2 columns",
+            "The circuit that was written: 1 qubit, 0 T gates, 1 column",
         ])  # fmt: skip
         labels = [it.get_attribute("textContent") for it in pictures[0].find_elements(By.CSS_SELECTOR, ".t .label")]
         self.assertEqual(labels, ["T", "T"])
@@ -338,7 +351,7 @@ class PageTest(unittest.TestCase):
 
     def check_names(self) -> None:
         named = list(self.page.named())
-        self.assertGreater(len(named), 12)
+        self.assertGreater(len(named), 10)
         self.assertEqual([role for role, name in named if not name.strip()], [])
 
     def test_a_narrow_window(self) -> None:
@@ -348,8 +361,32 @@ class PageTest(unittest.TestCase):
             self.page.run()
             self.assertLessEqual(self.page.driver.execute_script("return document.documentElement.scrollWidth"), 360)
 
+    def test_a_page_that_embeds_the_module(self) -> None:
+        served = self.folder / "served"
+        served.mkdir()
+        for name in ("embed.html", "embed-worker.mjs", "zxopt.mjs"):
+            shutil.copy(TOP / "web" / name, served)
+        (served / "zxopt.wasm").write_bytes(module_in(self.file.read_text(encoding="utf-8")))
+        handler = functools.partial(QuietHandler, directory=str(served))
+        with http.server.ThreadingHTTPServer(("127.0.0.1", 0), handler) as server:
+            threading.Thread(target=server.serve_forever, daemon=True).start()
+            self.page.driver.get(f"http://127.0.0.1:{server.server_port}/embed.html")
+            self.page.driver.find_element(By.TAG_NAME, "button").click()
+            output = self.page.driver.find_element(By.TAG_NAME, "output")
+            WebDriverWait(self.page.driver, SECONDS).until(lambda _: output.text)
+            self.assertEqual(output.text, ONE_S.strip())
+            server.shutdown()
+        list(self.page.requests())
+
     def until_said(self, text: str) -> None:
         WebDriverWait(self.page.driver, SECONDS).until(lambda _: self.page.at("said").text == text)
+
+
+class QuietHandler(http.server.SimpleHTTPRequestHandler):
+    """Serves a folder, and tells nothing."""
+
+    def log_message(self, *_: Any) -> None:
+        """Tells nothing."""
 
 
 def take_pictures(file: Path, folder: Path) -> None:

@@ -63,25 +63,6 @@ async function pack(text) {
  */
 async function unpack(letters) {
     if (!letters) return "";
-    const bytes = bytesOf(letters.replace(/-/g, "+").replace(/_/g, "/"));
-    return new Response(decompressed(bytes, "deflate-raw")).text();
-}
-
-/**
- * The bytes for which letters of base64 stand.
- *
- * @param {string} letters
- * @returns {Uint8Array}
- */
-export function bytesOf(letters) {
-    return Uint8Array.from(atob(letters), (letter) => letter.charCodeAt(0));
-}
-
-/**
- * @param {Uint8Array} bytes
- * @param {CompressionFormat} format
- * @returns {ReadableStream}
- */
-export function decompressed(bytes, format) {
-    return new Blob([bytes]).stream().pipeThrough(new DecompressionStream(format));
+    const bytes = Uint8Array.from(atob(letters.replace(/-/g, "+").replace(/_/g, "/")), (it) => it.charCodeAt(0));
+    return new Response(new Blob([bytes]).stream().pipeThrough(new DecompressionStream("deflate-raw"))).text();
 }

@@ -3,7 +3,8 @@
  */
 
 import { placeOf } from "./fault.mjs";
-import { bytesOf, decompressed, readFragment, writeFragment } from "./link.mjs";
+import { readFragment, writeFragment } from "./link.mjs";
+import { unpackModule } from "./packed.mjs";
 import { draw } from "./picture.mjs";
 
 /**
@@ -68,12 +69,6 @@ let compiling = null;
 /** The name of what is saved, without its ending. */
 let fileName = "circuit";
 
-/** @returns {Promise<WebAssembly.Module>} */
-async function compileModule() {
-    const stream = decompressed(bytesOf(at("module").textContent ?? ""), "gzip");
-    return WebAssembly.compile(await new Response(stream).arrayBuffer());
-}
-
 /** @returns {Command} */
 function command() {
     return /** @type {Command} */ (commandList.value);
@@ -106,7 +101,7 @@ async function run() {
     running = mine;
     stopButton.disabled = false;
     say("Running.");
-    compiling ??= compileModule();
+    compiling ??= unpackModule(at("module").textContent ?? "");
     const module = await compiling;
     if (running !== mine) return;
     mine.worker = new Worker(workerAddress);
@@ -211,16 +206,26 @@ function row(name, cells) {
 }
 
 /**
+ * @param {number} count
+ * @param {string} noun
+ * @returns {string}
+ */
+function counted(count, noun) {
+    return `${count} ${noun}${count === 1 ? "" : "s"}`;
+}
+
+/**
  * @param {Seen} seen
  * @returns {HTMLElement}
  */
 function figure({ name, counts, picture }) {
     const made = document.createElement("figure");
     const caption = document.createElement("figcaption");
-    caption.textContent = `The circuit ${name === "first" || name === "second" ? `that is the ${name}` : name}`;
+    caption.textContent = name === "first" || name === "second" ? `The ${name} circuit` : `The circuit that was ${name}`;
     const shown = document.createElement("div");
     if (picture) {
-        const title = `${caption.textContent}: ${counts.qubits} qubits, ${counts.t} T gates, ${picture.columns} columns`;
+        const sizes = [counted(counts.qubits, "qubit"), counted(counts.t, "T gate"), counted(picture.columns, "column")];
+        const title = `${caption.textContent}: ${sizes.join(", ")}`;
         shown.className = "wide";
         shown.tabIndex = 0;
         shown.setAttribute("role", "group");
