@@ -21,9 +21,8 @@ sys.path[:0] = [str(TOP), str(TOP / "python")]
 from benchmarks.families import gf2_mult  # noqa: E402
 from zxopt.data import read_data  # noqa: E402
 from zxopt.faults import FAULTS  # noqa: E402
-from zxopt.identity import VERSION  # noqa: E402
 
-__all__ = ["module_in", "page_with"]
+__all__ = ["module_in", "page_with", "version"]
 
 PAGE = TOP / "web/page"
 _IMPORT = re.compile(r'^import \{[^}]*\} from "([^"]*)";\n', re.M)
@@ -43,7 +42,7 @@ def page_with(module: bytes, sources: str) -> str:
     parts = {
         "POLICY": _policy(f"\n{style}\n", f"\n{script}\n"),
         "STYLE": style,
-        "VERSION": VERSION,
+        "VERSION": version(),
         "SOURCES": sources,
         "MODULE": _packed(module),
         "WORKER": _bundle(PAGE / "worker.mjs"),
@@ -59,6 +58,11 @@ def module_in(page: str) -> bytes:
     if found is None:
         raise ValueError("the page holds no module")
     return gzip.decompress(base64.b85decode(found[0].replace(_NO_TAG, "<")))
+
+
+def version() -> str:
+    """The version, which the Makefile tells."""
+    return re.findall(r"^VERSION = (.*)$", (TOP / "Makefile").read_text(encoding="utf-8"), re.M)[0]
 
 
 def _packed(module: bytes) -> str:

@@ -1,9 +1,9 @@
 /**
  * Compares the module's answers with those that are wanted, and tries it where memory is little and where it's used often.
- * Usage: node --expose-gc calls.mjs MODULE CASES HEADER [LITTLE]
+ * Usage: node --expose-gc calls.mjs VERSION MODULE CASES HEADER [LITTLE]
  *
- * MODULE is the module, CASES the cases with the wanted answers as JSON, HEADER the file of the header's gates, and LITTLE
- * the same module with 4 MiB of memory at most. Each fault is told by a line that begins with FAILED; the last line is
+ * MODULE is the module of this version, CASES the cases with the wanted answers as JSON, HEADER the file of the header's
+ * gates, and LITTLE the same module with 4 MiB of memory at most. Each fault is told by a line that begins with FAILED; the last line is
  * `N passed, M failed`.
  */
 
@@ -15,7 +15,7 @@ import { Lowering, countCircuit } from "../../web/page/counts.mjs";
 import { placeOf } from "../../web/page/fault.mjs";
 import { readFragment, writeFragment } from "../../web/page/link.mjs";
 
-const [moduleFile, casesFile, headerFile, littleFile] = process.argv.slice(2);
+const [version, moduleFile, casesFile, headerFile, littleFile] = process.argv.slice(2);
 const zxopt = await load(await readFile(moduleFile));
 const header = await readFile(headerFile, "utf-8");
 const cases = JSON.parse(await readFile(casesFile, "utf-8"));
@@ -64,6 +64,8 @@ for (const { call, flags, text, counts, ...wanted } of cases) {
         }
     });
 }
+
+await holds("the version", () => assert.equal(zxopt.version(), version));
 
 await holds("a text may be a string", () => {
     assert.equal(zxopt.optimise(`${HEAD}qreg q[1];\nt q[0];\nt q[0];`).text, `${HEAD}qreg q[1];\ns q[0];\n`);
@@ -129,6 +131,5 @@ await holds("a link by hand", async () => {
     assert.equal(await readFragment("#about"), null);
 });
 
-console.log(`version ${zxopt.version()}`);
 console.log(`${passed} passed, ${failed} failed`);
 process.exitCode = failed ? 1 : 0;
