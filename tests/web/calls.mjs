@@ -127,7 +127,7 @@ await holds("what a link has is read again", async () => {
 
 await holds("a link by hand", async () => {
     const read = await readFragment("#text=OPENQASM%202.0;");
-    assert.deepEqual(read, { command: "optimise", flags: [""], text: "OPENQASM 2.0;", second: "" });
+    assert.deepEqual(read, { command: "optimise", flags: null, text: "OPENQASM 2.0;", second: "" });
     assert.equal(await readFragment("#about"), null);
 });
 

@@ -8,7 +8,7 @@
 /**
  * @typedef {object} Linked
  * @property {string} command
- * @property {string[]} flags
+ * @property {string[] | null} flags those of `opt` that are set, or null where none are told
  * @property {string} text
  * @property {string} second the second text, of a comparison
  */
@@ -19,7 +19,7 @@
  */
 export async function writeFragment({ command, flags, text, second }) {
     const parts = new URLSearchParams({ command });
-    if (flags.length > 0) parts.set("flags", flags.join(","));
+    if (flags) parts.set("flags", flags.join(","));
     parts.set("packed", await pack(text));
     if (second) parts.set("packedSecond", await pack(second));
     return `#${parts}`;
@@ -38,7 +38,7 @@ export async function readFragment(fragment) {
     if (!parts.has("command") && !parts.has("text") && !parts.has("packed")) return null;
     return {
         command: parts.get("command") ?? "optimise",
-        flags: (parts.get("flags") ?? "").split(","),
+        flags: parts.get("flags")?.split(",") ?? null,
         text: await read("text", "packed"),
         second: await read("second", "packedSecond"),
     };

@@ -27,15 +27,27 @@ const SEPARATOR = "\n//// second\n";
 /** A link that is longer is cut off by programs that pass it on. */
 const LONGEST_LINK = 30_000;
 
-/** What each command reads, and the ending of a file that it writes. @type {Record<Command, [string, string]>} */
+/** What the first box is to hold. */
+const LABELS = {
+    circuit: "Circuit in OpenQASM 2.0",
+    circuits: "First circuit in OpenQASM 2.0",
+    diagram: "ZX diagram file (zxd)",
+    graph: "Graph file (zxg)",
+};
+
+/**
+ * What each command reads, and the ending of a file of what it writes.
+ *
+ * @type {Record<Command, { reads: keyof typeof LABELS, ending: string }>}
+ */
 const COMMANDS = {
-    optimise: ["Circuit in OpenQASM 2.0", "qasm"],
-    teleport: ["Circuit in OpenQASM 2.0", "qasm"],
-    same: ["First circuit", "txt"],
-    compile: ["ZX diagram file (zxd)", "qasm"],
-    graph: ["ZX diagram file (zxd)", "zxg"],
-    reduce: ["Graph file (zxg)", "zxg"],
-    flow: ["Graph file (zxg)", "txt"],
+    optimise: { reads: "circuit", ending: "qasm" },
+    teleport: { reads: "circuit", ending: "qasm" },
+    same: { reads: "circuits", ending: "txt" },
+    compile: { reads: "diagram", ending: "qasm" },
+    graph: { reads: "diagram", ending: "zxg" },
+    reduce: { reads: "graph", ending: "zxg" },
+    flow: { reads: "graph", ending: "txt" },
 };
 
 /**
@@ -76,7 +88,7 @@ function command() {
 
 /** @returns {string[]} */
 function flags() {
-    return command() === "optimise" ? Array.from(flagBoxes).filter((box) => box.checked).map((box) => box.name) : [];
+    return Array.from(flagBoxes, (box) => (box.checked ? box.name : "")).filter(Boolean);
 }
 
 /** @param {string} text */
@@ -118,16 +130,15 @@ async function run() {
  * @returns {import("./worker.mjs").Request}
  */
 function request(module) {
-    const isComparison = command() === "same";
-    const reads = COMMANDS[command()][0].includes("ircuit");
+    const { reads } = COMMANDS[command()];
     /** @type {[string, string][]} */
-    const circuits = isComparison ? [["first", first.value], ["second", second.value]] : [["read", first.value]];
+    const circuits = reads === "circuits" ? [["first", first.value], ["second", second.value]] : [["read", first.value]];
     return {
         module,
         command: command(),
         flags: Object.fromEntries(flags().map((flag) => [flag, true])),
-        text: isComparison ? first.value + SEPARATOR + second.value : first.value,
-        read: reads ? circuits : [],
+        text: reads === "circuits" ? first.value + SEPARATOR + second.value : first.value,
+        read: reads.startsWith("circuit") ? circuits : [],
         header: data.header,
     };
 }
@@ -306,7 +317,7 @@ function unmark() {
 // -- texts in and out --------------------------------------------------------------------------------------------------
 
 function showCommand() {
-    at("first-label").textContent = COMMANDS[command()][0];
+    at("first-label").textContent = LABELS[COMMANDS[command()].reads];
     at("second-part").hidden = command() !== "same";
     at("flags").hidden = command() !== "optimise";
 }
@@ -320,8 +331,9 @@ async function takeFile(file, box) {
     exampleList.value = "";
     fileName = file.name.replace(/\.[^.]*$/, "");
     // (the first word of a diagram or a graph file tells which it is)
-    if (box.value.startsWith("zxd ") && !COMMANDS[command()][0].includes("zxd")) commandList.value = "compile";
-    if (box.value.startsWith("zxg ") && !COMMANDS[command()][0].includes("zxg")) commandList.value = "reduce";
+    const { reads } = COMMANDS[command()];
+    if (box.value.startsWith("zxd ") && reads !== "diagram") commandList.value = "compile";
+    if (box.value.startsWith("zxg ") && reads !== "graph") commandList.value = "reduce";
     changed();
     say(`${file.name} is in the box.`);
 }
@@ -344,15 +356,19 @@ async function takeFragment() {
     const linked = await readFragment(location.hash).catch(() => null);
     if (!linked) return;
     if (linked.command in COMMANDS) commandList.value = linked.command;
-    if (linked.command === "optimise") for (const box of flagBoxes) box.checked = linked.flags.includes(box.name);
+    if (linked.flags) for (const box of flagBoxes) box.checked = linked.flags.includes(box.name);
     first.value = linked.text;
     second.value = linked.second;
     changed();
 }
 
 async function copyLink() {
-    const linked = { command: command(), flags: flags(), text: first.value, second: command() === "same" ? second.value : "" };
-    const fragment = await writeFragment(linked);
+    const fragment = await writeFragment({
+        command: command(),
+        flags: command() === "optimise" ? flags() : null,
+        text: first.value,
+        second: command() === "same" ? second.value : "",
+    });
     if (fragment.length > LONGEST_LINK) return say("The text is too long for a link: save it as a file.");
     history.replaceState(null, "", fragment);
     await copy(location.href, "The link is copied, and is this page's address.");
@@ -374,7 +390,7 @@ async function copy(text, told) {
 function save() {
     const link = document.createElement("a");
     link.href = URL.createObjectURL(new Blob([written.value], { type: "text/plain" }));
-    link.download = `${fileName}.${commandList.selectedOptions[0].text.split(":")[0]}.${COMMANDS[command()][1]}`;
+    link.download = `${fileName}.${commandList.selectedOptions[0].text.split(":")[0]}.${COMMANDS[command()].ending}`;
     link.click();
     URL.revokeObjectURL(link.href);
 }
