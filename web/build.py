@@ -5,10 +5,10 @@
     web/build.py --unpack PAGE --module FILE
 
 The module is made of the very bitcode that Rattle makes of the proved static library `zxopt_c`, by the toolchain's own
-clang and linker: `retarget.py` changes its target, and `shim.c` gives it a heap. For that the libraries below have to be
-proved, as `rt ci` leaves them in `crates/*/out`. Or take the bitcode from a file: `--bitcode` is for trying builds that
-aren't proved. Nothing that happens here after the check is proved. With `--unpack` nothing is built, and no toolchain is
-needed: the module comes out of a page.
+clang and linker: `retarget.py` changes its target, and `shim.c` gives it a heap. For that the libraries below have to
+be proved, as `rt ci` leaves them in `crates/*/out`. Or take the bitcode from a file: `--bitcode` is for trying builds
+that aren't proved. Nothing that happens here after the check is proved. With `--unpack` nothing is built, and no
+toolchain is needed: the module comes out of a page.
 """
 from __future__ import annotations
 
@@ -33,7 +33,7 @@ CALLS = ("optimise", "teleport", "same", "compile", "reduce", "flow", "graph", "
 STACK_BYTES = 1 << 20
 _ANY_BYTES = ("utf-8", "surrogateescape")
 
-# Stands in for clang: keeps the module that Rattle hands over, and ends the build there, since no native code is wanted.
+# Stands in for clang: keeps the module that Rattle hands over. It ends the build there, since no native code is wanted.
 _KEEPER = """#!/bin/sh
 for word in "$@"; do
     case $word in *module.bc) cp -- "$word" "$KEPT_BITCODE" ;; esac
@@ -120,7 +120,8 @@ def compiled(kit: Path, source: Path, room: Path) -> List[Path]:
 
 def linked(kit: Path, objects: Sequence[Path], to: Path, most_memory: Optional[int] = None) -> bytes:
     """The module of these objects, which takes so many bytes of memory at most: whole pages of 65,536."""
-    words = ["wasm-ld", "--no-entry", "--gc-sections", "--strip-all", "--stack-first", "-z", f"stack-size={STACK_BYTES}"]
+    words = ["wasm-ld", "--no-entry", "--gc-sections", "--strip-all"]
+    words += ["--stack-first", "-z", f"stack-size={STACK_BYTES}"]
     words += [f"--export=zxopt_{call}" for call in CALLS]
     words += [] if most_memory is None else [f"--max-memory={most_memory}"]
     _run([*words, "-o", str(to), *map(str, objects)], executable=str(kit / "toolchain/bin/clang"))

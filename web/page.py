@@ -62,7 +62,10 @@ def module_in(page: str) -> bytes:
 
 def version() -> str:
     """The version, which the Makefile tells."""
-    return re.findall(r"^VERSION = (.*)$", (TOP / "Makefile").read_text(encoding="utf-8"), re.M)[0]
+    found = re.search(r"^VERSION = (.*)$", (TOP / "Makefile").read_text(encoding="utf-8"), re.M)
+    if found is None:
+        raise ValueError("the Makefile tells no version")
+    return found[1]
 
 
 def _packed(module: bytes) -> str:

@@ -51,7 +51,8 @@ _LOAD_PAIR = re.compile(rf"  ({_LOCAL}) = load \{{ (ptr|i\d+), (ptr|i\d+) \}}, (
 _ALLOCA = re.compile(rf"  ({_LOCAL}) = alloca ptr, align 8")
 _ADDRESS = re.compile(rf"  ({_LOCAL}) = ptrtoaddr ptr (.*) to i64")
 _STATIC = re.compile(rf"({_GLOBAL} = [\w ]*constant )<\{{ (.*?) \}}> <\{{ (.*) \}}>(, align \d+)")
-_STATIC_POINTER = re.compile(rf"\bptr (getelementptr \(i8, ptr {_GLOBAL}, i64 \d+\)|{_GLOBAL}|null|inttoptr \(i64 \d+ to ptr\))")
+_ADDRESSES = (rf"getelementptr \(i8, ptr {_GLOBAL}, i64 \d+\)", _GLOBAL, "null", r"inttoptr \(i64 \d+ to ptr\)")
+_STATIC_POINTER = re.compile(rf"\bptr ({'|'.join(_ADDRESSES)})")
 
 
 class UnknownForm(ValueError):

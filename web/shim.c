@@ -1,10 +1,10 @@
-/* What the module needs besides the code that was proved: a heap in its own memory, and the functions that clang calls for
-   numbers of 128 bits. There is no C library, and the module imports nothing. This is trusted, as malloc is of the native
-   program.
+/* What the module needs besides the code that was proved: a heap in its own memory, and the functions that clang calls
+   for numbers of 128 bits. There is no C library, and the module imports nothing. This is trusted, as malloc is of the
+   native program.
 
-   The heap: blocks have sizes of classes, four to each doubling. A block begins at a multiple of 16, behind 16 bytes that
-   hold its class. One that is given back goes to the list of its class. Where that is empty, a new block is cut off
-   behind the last one, and the memory grows. */
+   The heap: blocks have sizes of classes, four to each doubling. A block begins at a multiple of 16, behind 16 bytes
+   that hold its class. One that is given back goes to the list of its class. Where that is empty, a new block is cut
+   off behind the last one, and the memory grows. */
 
 typedef __UINT64_TYPE__ uint64_t;
 typedef __UINTPTR_TYPE__ uintptr_t;
@@ -14,8 +14,10 @@ enum { PAGE = 65536, HEAD = 16, CLASSES = 128 };
 #define MOST_MEMORY 0xFFFF0000ull
 
 extern unsigned char __heap_base;
-static uint64_t top;                  /* where the next block is cut off, or 0 before the first one */
-static uintptr_t free_blocks[CLASSES]; /* for each class the first free block, which begins with the next one's address */
+/* Where the next block is cut off, or 0 before the first one. */
+static uint64_t top;
+/* For each class the first free block, which begins with the address of the next one. */
+static uintptr_t free_blocks[CLASSES];
 
 /* The number of a block's class, from its address. */
 static uint64_t *class_at(uintptr_t block) {

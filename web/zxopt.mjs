@@ -23,7 +23,7 @@ const TOLD_BYTES = 24;
  * What a call answers.
  *
  * @typedef {object} Answer
- * @property {number} status one of `STATUS`: a text is refused for a fault, and where the answer is no, the text says why
+ * @property {number} status one of `STATUS`; where the answer is no, the text says why
  * @property {string} text what was written; nothing where the text was refused or memory ran out
  * @property {number} fault the number of the first fault, or 0 where there is none
  * @property {number} place where that is: a byte of the text from 0, or of fault 21 a line from 1

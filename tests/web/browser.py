@@ -108,7 +108,8 @@ class Page:
     def counts(self) -> Dict[str, List[str]]:
         """The rows of the table."""
         rows = self.driver.find_elements(By.CSS_SELECTOR, "#counts tbody tr")
-        return {row.find_element(By.TAG_NAME, "th").text: [it.text for it in row.find_elements(By.TAG_NAME, "td")] for row in rows}
+        cells = [[it.text for it in row.find_elements(By.CSS_SELECTOR, "th, td")] for row in rows]
+        return {name: counts for name, *counts in cells}
 
     def named(self) -> Iterator[Tuple[str, str]]:
         """The role and the accessible name of each control that is shown, as a screen reader has them."""
@@ -235,7 +236,7 @@ class PageTest(unittest.TestCase):
         self.assertFalse(self.page.at("result").is_displayed())
         self.page.at("show-fault").click()
         self.assertEqual(self.page.driver.switch_to.active_element, self.page.at("first"))
-        selected = self.page.driver.execute_script("const box = document.activeElement; return box.value.slice(box.selectionStart, box.selectionEnd)")
+        selected = self.page.driver.execute_script("return getSelection().toString()")
         self.assertEqual(selected, "reset q[0];")
         strip = self.page.driver.find_element(By.CLASS_NAME, "mark").rect
         box = self.page.at("first").rect
@@ -391,24 +392,25 @@ class QuietHandler(http.server.SimpleHTTPRequestHandler):
 
 def take_pictures(file: Path, folder: Path) -> None:
     """Pictures of the page in both themes at two widths: as it opens, with a result, and with a refusal."""
+    circuit = (TOP / "examples/tof_3.qasm").read_text()
+    texts = {"empty": "", "result": circuit, "refusal": HEAD + "qreg q[2];\nreset q[0];\n"}
     with tempfile.TemporaryDirectory() as room:
         page = Page(file, room)
         for theme in ("light", "dark"):
             for width in (1280, 360):
-                for name, text in (("empty", ""), ("result", (TOP / "examples/tof_3.qasm").read_text()), ("refusal", HEAD + "qreg q[2];\nreset q[0];\n")):
+                for name, text in texts.items():
                     page.open()
                     page.show(theme, width, 900)
                     page.put("first", text)
                     if text:
                         page.run()
-                    save_picture(page, folder / f"{name}_{theme}_{width}.png", width)
+                    save_picture(page, folder / f"{name}_{theme}_{width}.png", theme, width)
         page.close()
 
 
-def save_picture(page: Page, file: Path, width: int, height: int = 0) -> None:
+def save_picture(page: Page, file: Path, theme: str, width: int, height: int = 0) -> None:
     """Saves a picture of the page, the whole of it where no height is given."""
     whole = int(page.driver.execute_script("return document.documentElement.scrollHeight"))
-    theme = "dark" if page.driver.execute_script("return matchMedia('(prefers-color-scheme: dark)').matches") else "light"
     page.show(theme, width, height or whole)
     page.driver.save_screenshot(str(file))
 
@@ -420,7 +422,7 @@ def take_picture(file: Path, to: Path) -> None:
         page.open()
         page.put("first", (TOP / "examples/barenco_tof_3.qasm").read_text())
         page.run()
-        save_picture(page, to, 1000, 1100)
+        save_picture(page, to, "light", 1000, 1100)
         page.close()
 
 

@@ -1,10 +1,10 @@
 /**
- * Compares the module's answers with those that are wanted, and tries it where memory is little and where it's used often.
- * Usage: node --expose-gc calls.mjs VERSION MODULE CASES HEADER [LITTLE]
+ * Compares the module's answers with those that are wanted, and tries it where memory is little and where it's used
+ * often. Usage: node --expose-gc calls.mjs VERSION MODULE CASES HEADER [LITTLE]
  *
- * MODULE is the module of this version, CASES the cases with the wanted answers as JSON, HEADER the file of the header's
- * gates, and LITTLE the same module with 4 MiB of memory at most. Each fault is told by a line that begins with FAILED; the last line is
- * `N passed, M failed`.
+ * MODULE is the module of this version, CASES the cases with the wanted answers as JSON, HEADER the file of the
+ * header's gates, and LITTLE the same module with 4 MiB of memory at most. Each fault is told by a line that begins with
+ * FAILED; the last line is `N passed, M failed`.
  */
 
 import assert from "node:assert/strict";
@@ -59,9 +59,8 @@ for (const { call, flags, text, counts, ...wanted } of cases) {
     await holds(name, () => assert.deepEqual({ ...told, output }, wanted));
     if (!counts) continue;
     await holds(`the counts of ${name}`, () => {
-        for (const [at, circuit] of [Buffer.from(bytes).toString(), output].map((it) => readCircuit(it, header)).entries()) {
-            assert.deepEqual(countCircuit(circuit, new Lowering(circuit)), counts[at]);
-        }
+        const circuits = [Buffer.from(bytes).toString(), output].map((it) => readCircuit(it, header));
+        assert.deepEqual(circuits.map((circuit) => countCircuit(circuit, new Lowering(circuit))), counts);
     });
 }
 
@@ -80,7 +79,8 @@ await holds("what is written has room, however long it is", () => {
 });
 
 await holds("a text that is too long is refused", () => {
-    assert.deepEqual(zxopt.optimise(new Uint8Array(16_777_217)), { status: STATUS.REFUSED, text: "", fault: 1, place: 0 });
+    const refused = { status: STATUS.REFUSED, text: "", fault: 1, place: 0 };
+    assert.deepEqual(zxopt.optimise(new Uint8Array(16_777_217)), refused);
 });
 
 await holds("memory is given back after each run", () => {
@@ -111,7 +111,8 @@ if (littleFile) {
 await holds("a fault's place in letters, behind others of more bytes", () => {
     const text = "// ä𝄞\nOPENQASM 2.0;\nreset q;\n";
     const { fault, place } = zxopt.optimise(text);
-    assert.deepEqual(placeOf(text, fault, place), { from: text.indexOf("reset"), to: text.indexOf("reset") + 8, line: 3, column: 1 });
+    const from = text.indexOf("reset");
+    assert.deepEqual(placeOf(text, fault, place), { from, to: from + 8, line: 3, column: 1 });
 });
 
 await holds("a fault's place that is a line", () => {

@@ -1,6 +1,6 @@
 """Texts for each call of the module, drawn and from `examples`, with what the program answers for them.
 
-The program is asked for its output, its status and its fault; what a circuit's counts are is asked of the Python package.
+The program is asked for its output, its status and its fault; the Python package for the counts of circuits.
 """
 from __future__ import annotations
 

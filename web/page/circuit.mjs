@@ -1,6 +1,6 @@
 /**
- * Reads the circuit of a text of OpenQASM 2.0 that zxopt has accepted or written, so that the page can count and draw it.
- * Nothing is checked, since such a text has no fault.
+ * Reads the circuit of a text of OpenQASM 2.0 that zxopt has accepted or written, so that the page can count and draw
+ * it. Nothing is checked, since such a text has no fault.
  */
 
 import { evaluate } from "./angle.mjs";

@@ -86,7 +86,8 @@ export class Lowering {
     placed(inner, values, numbers) {
         const angles = inner.angles.map((angle) => evaluate(angle, values));
         const places = inner.places.map((place) => /** @type {number} */ (numbers.get(place)));
-        return this.steps(inner.name, angles).map(({ isT, qubits }) => ({ isT, qubits: qubits.map((at) => places[at]) }));
+        const steps = this.steps(inner.name, angles);
+        return steps.map(({ isT, qubits }) => ({ isT, qubits: qubits.map((at) => places[at]) }));
     }
 }
 

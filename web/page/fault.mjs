@@ -58,5 +58,6 @@ function lengthOfLine(text, from) {
  * @returns {number}
  */
 function beginAtByte(text, place) {
-    return new TextDecoder("utf-8", { ignoreBOM: true }).decode(new TextEncoder().encode(text).subarray(0, place)).length;
+    const before = new TextEncoder().encode(text).subarray(0, place);
+    return new TextDecoder("utf-8", { ignoreBOM: true }).decode(before).length;
 }

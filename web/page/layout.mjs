@@ -1,6 +1,6 @@
 /**
- * Where the gates of a short circuit stand in a picture: from left to right in columns, each as far left as those before
- * it on its qubits allow.
+ * Where the gates of a short circuit stand in a picture: from left to right in columns, each as far left as those
+ * before it on its qubits allow.
  */
 
 /**

@@ -1,5 +1,6 @@
 /**
- * The fragment of the page's address: a command, its flags and texts. So a circuit can be linked, and no server sees it.
+ * The fragment of the page's address: a command, its flags and texts. So a circuit can be linked, and no server sees
+ * it.
  *
  *     #command=optimise&flags=best,scalar&text=OPENQASM 2.0; ..      texts as they are, percent-encoded
  *     #command=same&packed=..&packedSecond=..                        texts packed, as the page writes them

@@ -74,7 +74,7 @@ function at(id) {
 const data = JSON.parse(at("data").textContent ?? "");
 const workerAddress = URL.createObjectURL(new Blob([at("worker").textContent ?? ""], { type: "text/javascript" }));
 
-/** The run that goes on, if there is one. @type {{ worker: Worker | null, timer: number } | null} */
+/** The run that goes on, if there is one. @type {{ worker: Worker, timer: number } | null} */
 let running = null;
 /** The module, once it's compiled. @type {Promise<WebAssembly.Module> | null} */
 let compiling = null;
@@ -98,7 +98,7 @@ function say(text) {
 
 // -- running -----------------------------------------------------------------------------------------------------------
 
-async function run() {
+function run() {
     stop();
     hideResult();
     if (first.value.trim() === "") {
@@ -108,21 +108,21 @@ async function run() {
     }
     const began = performance.now();
     const seconds = () => ((performance.now() - began) / 1000).toFixed(1);
-    const mine = { worker: /** @type {Worker | null} */ (null), timer: 0 };
-    mine.timer = window.setInterval(() => (at("seconds").textContent = `${seconds()} s`), 100);
-    running = mine;
-    stopButton.disabled = false;
-    say("Running.");
-    compiling ??= unpackModule(at("module").textContent ?? "");
-    const module = await compiling;
-    if (running !== mine) return;
-    mine.worker = new Worker(workerAddress);
-    mine.worker.onmessage = ({ data: { told, circuits } }) => {
+    const timer = window.setInterval(() => (at("seconds").textContent = `${seconds()} s`), 100);
+    const worker = new Worker(workerAddress);
+    worker.onmessage = ({ data: { told, circuits } }) => {
         if (told) showAnswer(told, seconds());
         else end(() => showCircuits(circuits));
     };
-    mine.worker.onerror = (error) => end(() => say(`The page failed: ${error.message}`));
-    mine.worker.postMessage(request(module));
+    worker.onerror = (error) => end(() => say(`The page failed: ${error.message}`));
+    running = { worker, timer };
+    stopButton.disabled = false;
+    say("Running.");
+    compiling ??= unpackModule(at("module").textContent ?? "");
+    compiling.then(
+        (module) => running?.worker === worker && worker.postMessage(request(module)),
+        (error) => end(() => say(`This browser can't run the page's module: ${error.message}`)),
+    );
 }
 
 /**
@@ -130,17 +130,25 @@ async function run() {
  * @returns {import("./worker.mjs").Request}
  */
 function request(module) {
-    const { reads } = COMMANDS[command()];
-    /** @type {[string, string][]} */
-    const circuits = reads === "circuits" ? [["first", first.value], ["second", second.value]] : [["read", first.value]];
     return {
         module,
         command: command(),
         flags: Object.fromEntries(flags().map((flag) => [flag, true])),
-        text: reads === "circuits" ? first.value + SEPARATOR + second.value : first.value,
-        read: reads.startsWith("circuit") ? circuits : [],
+        text: command() === "same" ? first.value + SEPARATOR + second.value : first.value,
+        read: circuitsRead(),
         header: data.header,
     };
+}
+
+/**
+ * The circuits that are read, each with its name.
+ *
+ * @returns {[string, string][]}
+ */
+function circuitsRead() {
+    const { reads } = COMMANDS[command()];
+    if (reads === "circuit") return [["read", first.value]];
+    return reads === "circuits" ? [["first", first.value], ["second", second.value]] : [];
 }
 
 /** Ends a run: a call can't be interrupted, but its worker ends, and its memory is given back. */
@@ -151,7 +159,7 @@ function stop() {
 /** @param {() => void} show */
 function end(show) {
     if (!running) return;
-    running.worker?.terminate();
+    running.worker.terminate();
     window.clearInterval(running.timer);
     running = null;
     at("seconds").textContent = "";
@@ -232,11 +240,11 @@ function counted(count, noun) {
 function figure({ name, counts, picture }) {
     const made = document.createElement("figure");
     const caption = document.createElement("figcaption");
-    caption.textContent = name === "first" || name === "second" ? `The ${name} circuit` : `The circuit that was ${name}`;
+    caption.textContent = ["first", "second"].includes(name) ? `The ${name} circuit` : `The circuit that was ${name}`;
     const shown = document.createElement("div");
     if (picture) {
-        const sizes = [counted(counts.qubits, "qubit"), counted(counts.t, "T gate"), counted(picture.columns, "column")];
-        const title = `${caption.textContent}: ${sizes.join(", ")}`;
+        const [qubits, gates] = [counted(counts.qubits, "qubit"), counted(counts.t, "T gate")];
+        const title = `${caption.textContent}: ${qubits}, ${gates}, ${counted(picture.columns, "column")}`;
         shown.className = "wide";
         shown.tabIndex = 0;
         shown.setAttribute("role", "group");
