@@ -35,7 +35,7 @@ _KEPT = re.compile(
             rf"  (?:{_LOCAL} = )?call .*",
             r"  ret (?:ptr|\{ \w+, \w+ \}) .*",
             rf"  {_LOCAL} = getelementptr (?:inbounds nuw )?i8, ptr .*",
-            rf"  {_LOCAL} = extractvalue .*",
+            rf"  {_LOCAL} = (?:extractvalue|icmp eq ptr) .*",
             rf"  {_LOCAL} = load {_NUMBERS}, {_PLACE}",
             rf"  store {_NUMBERS} [^,]+, {_PLACE}",
             rf'{_GLOBAL} = [\w ]*constant \[\d+ x i8\] c".*", align \d+',

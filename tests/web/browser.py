@@ -43,6 +43,7 @@ CONTROLS = ("button", "checkbox", "combobox", "textbox", "link", "image", "group
 # How long a run may take on a busy machine, and how much processor time the page may take to open.
 SECONDS = 120
 SECONDS_TO_OPEN = 0.5
+PICTURE_WIDTH = 1000
 
 
 class Page:
@@ -51,6 +52,7 @@ class Page:
     def __init__(self, file: Path, folder: str, width: int = 1280, height: int = 900) -> None:
         options = webdriver.ChromeOptions()
         options.add_argument("--headless=new")
+        options.add_argument("--hide-scrollbars")
         options.add_argument(f"--user-data-dir={folder}/profile")
         if os.geteuid() == 0:
             options.add_argument("--no-sandbox")
@@ -61,11 +63,11 @@ class Page:
         self.address = file.resolve().as_uri()
         self.show("light", width, height)
 
-    def show(self, theme: str, width: int, height: int) -> None:
-        """Takes a theme and a size of the window."""
+    def show(self, theme: str, width: int, height: int, scale: float = 1) -> None:
+        """Takes a theme, and a size of the window with its scale."""
         feature = {"name": "prefers-color-scheme", "value": theme}
         self.driver.execute_cdp_cmd("Emulation.setEmulatedMedia", {"features": [feature]})
-        size = {"width": width, "height": height, "deviceScaleFactor": 1, "mobile": False}
+        size = {"width": width, "height": height, "deviceScaleFactor": scale, "mobile": False}
         self.driver.execute_cdp_cmd("Emulation.setDeviceMetricsOverride", size)
 
     def open(self, fragment: str = "") -> None:
@@ -249,7 +251,7 @@ class PageTest(unittest.TestCase):
         self.assertIn("Both circuits have the same map", self.page.run())
         self.assertEqual(self.page.value("written"), "same\n")
         self.page.put("second", ONE_S.replace("s q", "t q"))
-        self.assertRegex(self.page.run(), r"The answer is no: not shown \d+")
+        self.assertRegex(self.page.run(), r"The answer is no, not shown \d+: nothing shows ")
         self.assertEqual(list(self.page.counts()), ["first", "second"])
         self.page.put("second", ONE_S.replace("s q", "s r"))
         self.page.run()
@@ -408,21 +410,21 @@ def take_pictures(file: Path, folder: Path) -> None:
         page.close()
 
 
-def save_picture(page: Page, file: Path, theme: str, width: int, height: int = 0) -> None:
-    """Saves a picture of the page, the whole of it where no height is given."""
-    whole = int(page.driver.execute_script("return document.documentElement.scrollHeight"))
-    page.show(theme, width, height or whole)
+def save_picture(page: Page, file: Path, theme: str, width: int, last: str = "html", scale: float = 1) -> None:
+    """Saves a picture of the page, down to the end of an element."""
+    bottom = "return document.querySelector(arguments[0]).getBoundingClientRect().bottom + scrollY"
+    page.show(theme, width, int(page.driver.execute_script(bottom, last)) + 1, scale)
     page.driver.save_screenshot(str(file))
 
 
 def take_picture(file: Path, to: Path) -> None:
     """The picture of README: an example and what came of it."""
     with tempfile.TemporaryDirectory() as room:
-        page = Page(file, room, 1000, 800)
+        page = Page(file, room, PICTURE_WIDTH)
         page.open()
-        page.put("first", (TOP / "examples/barenco_tof_3.qasm").read_text())
+        page.put("first", (TOP / "examples/tof_3.qasm").read_text())
         page.run()
-        save_picture(page, to, "light", 1000, 1100)
+        save_picture(page, to, "light", PICTURE_WIDTH, "#pictures", 0.75)
         page.close()
 
 

@@ -51,6 +51,19 @@ const COMMANDS = {
 };
 
 /**
+ * What it means that the answer is no, by the first word of what was written.
+ *
+ * @type {Record<string, string>}
+ */
+const REASONS = {
+    widths: "the circuits have different numbers of qubits",
+    measures: "the circuits have different measurements",
+    not: "nothing shows that the circuits have the same map, though they may have it",
+    no: "the diagram's graph-like form has no flow, so no circuit is found for it",
+    fails: "the table is no flow, since this condition fails at this vertex",
+};
+
+/**
  * The element of the page with this id.
  *
  * @template {Element} [Kind=HTMLElement]
@@ -187,7 +200,7 @@ function showAnswer({ ended, answer }, seconds) {
     if (ended === "no memory") return say("Memory ran out. The program itself may have more than a page.");
     if (ended === "refused") return showFault(answer);
     const line = answer.text.split("\n", 1)[0];
-    if (ended === "no") say(`Done in ${seconds} s. The answer is no: ${line}`);
+    if (ended === "no") say(`Done in ${seconds} s. The answer is no, ${line}: ${REASONS[line.split(" ", 1)[0]]}.`);
     else if (command() === "same") say(`Done in ${seconds} s. Both circuits have the same map, up to a scalar.`);
     else say(`Done in ${seconds} s.`);
     written.value = answer.text;
