@@ -15,6 +15,7 @@ from __future__ import annotations
 import argparse
 import hashlib
 import os
+import shlex
 import shutil
 import subprocess
 import tempfile
@@ -36,7 +37,7 @@ _ANY_BYTES = ("utf-8", "surrogateescape")
 # Stands in for clang: keeps the module that Rattle hands over. It ends the build there, since no native code is wanted.
 _KEEPER = """#!/bin/sh
 for word in "$@"; do
-    case $word in *module.bc) cp -- "$word" "$KEPT_BITCODE" ;; esac
+    case $word in *module.bc) cp -- "$word" {} ;; esac
 done
 exit 1
 """
@@ -60,13 +61,11 @@ def bitcode(kit: Path, room: Path) -> Path:
     checked, kept = room / "checked", room / "kept.bc"
     checking = [str(kit / "bin/rattle"), "check", *words, "--logic-built", str(kit / "logic_built"), "-o", str(checked)]
     _run(checking, folder=TOP / "crates" / CRATE)
-    tools = _tools(kit, room)
-    building = [str(kit / "bin/rattle"), "build", *words, "--crate-checked", str(checked), "--toolchain", str(tools)]
-    environment = {**os.environ, "KEPT_BITCODE": str(kept)}
+    building = [str(kit / "bin/rattle"), "build", *words, "--crate-checked", str(checked), "--backend", "llvm"]
+    building += ["--toolchain", str(_tools(kit, room, kept)), "-o", str(room / "none.a")]
     ran = subprocess.run(
-        [*building, "--backend", "llvm", "-o", str(room / "none.a")],
-        cwd=TOP / "crates" / CRATE, env=environment, stdout=subprocess.PIPE, stderr=subprocess.STDOUT, text=True,
-    )  # fmt: skip
+        building, cwd=TOP / "crates" / CRATE, stdout=subprocess.PIPE, stderr=subprocess.STDOUT, text=True
+    )
     if not kept.exists():
         raise SystemExit(f"web/build.py: no bitcode of {CRATE}:\n{ran.stdout}")
     return kept
@@ -91,11 +90,11 @@ def _dependencies() -> Dict[str, List[str]]:
     return {name.split()[0]: words.split() for name, _, words in rows}
 
 
-def _tools(kit: Path, room: Path) -> Path:
-    """A toolchain whose clang is the one that keeps the bitcode."""
+def _tools(kit: Path, room: Path, kept: Path) -> Path:
+    """A toolchain whose clang is the one that keeps the bitcode, as this file."""
     tools = room / "tools"
     shutil.copytree(kit / "toolchain", tools, symlinks=True, ignore=shutil.ignore_patterns("clang"))
-    (tools / "bin/clang").write_text(_KEEPER)
+    (tools / "bin/clang").write_text(_KEEPER.format(shlex.quote(str(kept))))
     (tools / "bin/clang").chmod(0o755)
     return tools
 
@@ -111,7 +110,7 @@ def compiled(kit: Path, source: Path, room: Path) -> List[Path]:
     _run([clang, *reading, "-o", str(text)])
     # (the names of functions may have any bytes)
     changed.write_text(retarget(text.read_text(*_ANY_BYTES)), *_ANY_BYTES)
-    target = ["--target=wasm32-unknown-unknown", "-mcpu=lime1", "-O2", "-ffunction-sections", "-fdata-sections", "-c"]
+    target = ["--target=wasm32-unknown-unknown", "-mcpu=lime1", "-Os", "-ffunction-sections", "-fdata-sections", "-c"]
     _run([clang, *target, "-mllvm", "-expand-div-rem-bits=64", "-x", "ir", str(changed), "-o", str(code)])
     warnings = ["-Wall", "-Wextra", "-Werror"]
     _run([clang, *target, "-ffreestanding", "-mbulk-memory", *warnings, str(TOP / "web/shim.c"), "-o", str(shim)])

@@ -1,8 +1,9 @@
 """Makes the page, one file that holds everything: the module, the scripts, and the data that they share with the
 program's other parts.
 
-The scripts are the modules in `web`, put together into one for the page and one for its worker, without their comments,
-imports and exports. The page's content security policy takes these alone, by their sums, and no network.
+The scripts are the modules in `web`, put together into one for the page and one for its worker, without comments,
+imports and exports, and indented by tabs, so that the page is small. The page's content security policy takes these
+alone, by their sums, and no network.
 """
 from __future__ import annotations
 
@@ -38,7 +39,7 @@ _ONE_S = 'OPENQASM 2.0;\ninclude "qelib1.inc";\nqreg q[1];\ns q[0];\n'
 
 def page_with(module: bytes, sources: str) -> str:
     """The page with this module, which tells the sum of the sources that it's made of."""
-    style, script = _read("style.css"), _bundle(PAGE / "main.mjs")
+    style, script = _by_tabs(_read("style.css")), _bundle(PAGE / "main.mjs")
     parts = {
         "POLICY": _policy(f"\n{style}\n", f"\n{script}\n"),
         "STYLE": style,
@@ -77,6 +78,11 @@ def _read(name: str) -> str:
     return (PAGE / name).read_text(encoding="utf-8").rstrip("\n")
 
 
+def _by_tabs(text: str) -> str:
+    """A text that is indented by tabs, for fewer bytes."""
+    return re.sub(r"^(?: {4})+", lambda found: "\t" * (len(found[0]) // 4), text, flags=re.M)
+
+
 def _policy(style: str, script: str) -> str:
     """What the page may do: run this style and this script, compile its module, and start its worker."""
     sums = [base64.b64encode(hashlib.sha256(text.encode()).digest()).decode("ascii") for text in (style, script)]
@@ -100,7 +106,7 @@ def _bundle(root: Path) -> str:
 def _plain(module: str) -> str:
     """A module's text without its comments, its imports, the word `export` and empty lines."""
     text = _COMMENT.sub("", _IMPORT.sub("", module))
-    return re.sub(r"^\s*\n", "", re.sub(r"^export ", "", text, flags=re.M), flags=re.M).strip()
+    return _by_tabs(re.sub(r"^\s*\n", "", re.sub(r"^export ", "", text, flags=re.M), flags=re.M).strip())
 
 
 def _gather(file: Path, files: Dict[Path, str]) -> None:
