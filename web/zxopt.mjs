@@ -45,7 +45,8 @@ export class Zxopt {
      * @param {{ best?: boolean, report?: boolean, scalar?: boolean }} [flags]
      * @returns {Answer}
      */
-    optimise(text, { best = false, report = false, scalar = false } = {}) {
+    optimise(text, flags = {}) {
+        const { best = false, report = false, scalar = false } = flags;
         return call(this.module, "zxopt_optimise", text, [best, report, scalar]);
     }
 

@@ -92,7 +92,11 @@ class Reading {
         /** @type {Map<string, Declaration>} */
         this.gates = new Map();
         this.includesHeader = false;
-        /** For each register the numbers of its qubits. @type {Map<string, number[]>} */
+        /**
+         * For each register the numbers of its qubits.
+         *
+         * @type {Map<string, number[]>}
+         */
         this.registers = new Map();
     }
 

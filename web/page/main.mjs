@@ -87,10 +87,20 @@ function at(id) {
 const data = JSON.parse(at("data").textContent ?? "");
 const workerAddress = URL.createObjectURL(new Blob([at("worker").textContent ?? ""], { type: "text/javascript" }));
 
-/** The run that goes on, if there is one. @type {{ worker: Worker, timer: number } | null} */
+/**
+ * The run that goes on, if there is one.
+ *
+ * @type {{ worker: Worker, timer: number } | null}
+ */
 let running = null;
-/** The module, once it's compiled. @type {Promise<WebAssembly.Module> | null} */
+
+/**
+ * The module, once it's needed.
+ *
+ * @type {Promise<WebAssembly.Module> | null}
+ */
 let compiling = null;
+
 /** The name of what is saved, without its ending. */
 let fileName = "circuit";
 
