@@ -505,6 +505,7 @@ class Processes(InRoom):
             with self.subTest(number=number):
                 run = self.begin("a.qasm", "--to", "to", "--jobs", "2")
                 while not list(self.room.glob("begun.*")):
+                    self.assertIsNone(run.poll())
                     time.sleep(0.02)
                 refused = self.begin("a.qasm", "--to", "to", "--jobs", "1")
                 self.assertIn("another run writes to", refused.communicate()[1])
