@@ -9,7 +9,6 @@ import sys
 import time
 import unittest
 from concurrent.futures import ThreadPoolExecutor
-from pathlib import Path
 from typing import Callable, List, Optional, Tuple
 from unittest import mock
 
