@@ -27,7 +27,8 @@ from selenium.webdriver.common.action_chains import ActionChains
 from selenium.webdriver.common.by import By
 from selenium.webdriver.common.keys import Keys
 from selenium.webdriver.remote.webelement import WebElement
-from selenium.webdriver.support.ui import Select, WebDriverWait
+from selenium.webdriver.support.select import Select
+from selenium.webdriver.support.wait import WebDriverWait
 
 TOP = Path(__file__).resolve().parents[2]
 sys.path[:0] = [str(TOP), str(TOP / "python"), str(TOP / "web")]
@@ -155,6 +156,8 @@ class PageTest(unittest.TestCase):
 
     file: Path
     program: str
+    folder: Path
+    page: Page
 
     @classmethod
     def setUpClass(cls) -> None:
