@@ -59,7 +59,7 @@ class Page:
             options.add_argument("--no-sandbox")
         options.add_experimental_option("prefs", {"download.default_directory": folder})
         options.set_capability("goog:loggingPrefs", {"browser": "ALL", "performance": "ALL"})
-        self.service = Service("/usr/bin/chromedriver")
+        self.service = Service(shutil.which("chromedriver"))
         self.driver = webdriver.Chrome(service=self.service, options=options)
         self.address = file.resolve().as_uri()
         self.show("light", width, height)
