@@ -27,7 +27,8 @@ from selenium.webdriver.common.action_chains import ActionChains
 from selenium.webdriver.common.by import By
 from selenium.webdriver.common.keys import Keys
 from selenium.webdriver.remote.webelement import WebElement
-from selenium.webdriver.support.ui import Select, WebDriverWait
+from selenium.webdriver.support.select import Select
+from selenium.webdriver.support.wait import WebDriverWait
 
 TOP = Path(__file__).resolve().parents[2]
 sys.path[:0] = [str(TOP), str(TOP / "python"), str(TOP / "web")]
@@ -58,7 +59,7 @@ class Page:
             options.add_argument("--no-sandbox")
         options.add_experimental_option("prefs", {"download.default_directory": folder})
         options.set_capability("goog:loggingPrefs", {"browser": "ALL", "performance": "ALL"})
-        self.service = Service("/usr/bin/chromedriver")
+        self.service = Service(shutil.which("chromedriver"))
         self.driver = webdriver.Chrome(service=self.service, options=options)
         self.address = file.resolve().as_uri()
         self.show("light", width, height)
@@ -155,6 +156,8 @@ class PageTest(unittest.TestCase):
 
     file: Path
     program: str
+    folder: Path
+    page: Page
 
     @classmethod
     def setUpClass(cls) -> None:

@@ -142,10 +142,9 @@ function run() {
     stopButton.disabled = false;
     say("Running.");
     compiling ??= unpackModule(at("module").textContent ?? "");
-    compiling.then(
-        (module) => running?.worker === worker && worker.postMessage(request(module)),
-        (error) => end(() => say(`This browser can't run the page's module: ${error.message}`)),
-    );
+    compiling
+        .then((module) => running?.worker === worker && worker.postMessage(request(module)))
+        .catch((error) => end(() => say(`This browser can't run the page's module: ${error.message}`)));
 }
 
 /**
