@@ -4,12 +4,11 @@ from __future__ import annotations
 import hashlib
 import os
 import shutil
-from pathlib import Path
 from typing import NamedTuple, Optional
 
 from .program import Program, find_program
 
-__all__ = ["VERSION", "Version", "version"]
+__all__ = ["VERSION", "Version", "sum_of", "version"]
 
 VERSION = "1.0.0"
 
@@ -34,4 +33,13 @@ def version(program: Optional[Program] = None) -> Version:
     file = shutil.which(named)
     if file is None:
         raise FileNotFoundError(f"no program {named}")
-    return Version(VERSION, os.path.abspath(file), hashlib.sha256(Path(file).read_bytes()).hexdigest())
+    return Version(VERSION, os.path.abspath(file), sum_of(file))
+
+
+def sum_of(file: Program) -> str:
+    """The SHA-256 of a file's bytes."""
+    found = hashlib.sha256()
+    with open(file, "rb") as data:
+        for block in iter(lambda: data.read(1 << 20), b""):
+            found.update(block)
+    return found.hexdigest()
