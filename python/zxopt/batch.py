@@ -13,6 +13,7 @@ import sys
 import time
 from concurrent.futures import Executor, ThreadPoolExecutor
 from contextlib import ExitStack, contextmanager
+from dataclasses import replace
 from typing import Dict, Iterable, Iterator, Optional, Sequence, Tuple
 
 from . import arguments, executors, manifest, reports
@@ -151,11 +152,12 @@ def command(asked: argparse.Namespace) -> int:
     with ExitStack() as within:
         executor = within.enter_context(executors.asked_for(asked))
         stamp = Stamp.of(None, executor is None)
+        settings = replace(settings, program=stamp.program)
         table = within.enter_context(reports.Table(asked.csv, asked.anew)) if asked.csv else None
         done = within.enter_context(manifest.opened(to, settings, stamp, asked.anew))
         most = asked.jobs or processors()
-        tasks = within.enter_context(executors.dispatcher(executor, most, asked.ahead if executor else most))
-        run = _Run(_Calls(tasks, settings, stamp), done, table)
+        calls = within.enter_context(_calling(executor, settings, most, asked.ahead if executor else most))
+        run = _Run(calls, done, table)
         run.all(jobs)
     if run.sums.before and table is not None and table.is_new:
         print(f"{asked.csv} is new: it lacks the {run.sums.before} files that were done before", file=sys.stderr)

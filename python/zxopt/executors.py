@@ -63,7 +63,7 @@ class Stamp(NamedTuple):
 def work(stamp: Stamp, function: Callable[..., Any], *arguments: Any) -> Any:
     """In a worker: calls a function with these arguments and with the program, `program=`. Raises OtherVersion where it
     isn't the one that is asked for."""
-    own = _own(stamp.program)
+    own = _own(stamp.program, os.getpid())
     if (own.package, own.sha256) != (stamp.package, stamp.sha256):
         raise OtherVersion(
             f"the worker {os.getpid()} on {platform.node()} has version {own.package} with the program {own.program} "
@@ -74,8 +74,8 @@ def work(stamp: Stamp, function: Callable[..., Any], *arguments: Any) -> Any:
 
 
 @lru_cache(maxsize=16)
-def _own(program: Optional[str]) -> Version:
-    """The version that this process has."""
+def _own(program: Optional[str], process: int) -> Version:
+    """The version that this process has; one that is forked off looks for itself."""
     return version(program)
 
 

@@ -1,7 +1,7 @@
 """What becomes of a window of `stream`, in whatever process: bytes and words in, bytes and counts out.
 
-`processes` makes processes of this machine for it, and for the files of `batch`. None of them, and no program that they
-run, outlives the process that made them, however it ends: each waits for a pipe that this process alone holds open.
+`processes` makes processes of this machine for it. None of them, and no program that they run, outlives the process that
+made them, however it ends: each waits for a pipe that this process alone holds open.
 """
 from __future__ import annotations
 
