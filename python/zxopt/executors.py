@@ -302,6 +302,26 @@ def _dask(address: str) -> Iterator[Executor]:
         raise OSError(f"--dask needs the package distributed: {none}") from None
     client = client_class(address, timeout=PATIENCE)
     try:
-        yield client.get_executor(pure=False)
+        yield _DaskExecutor(client)
     finally:
         client.close(timeout=PATIENCE)
+
+
+class _DaskExecutor(Executor):
+    """Tasks of a client of Dask. The executor that a client makes itself takes a result for an exception where the worker
+    ends just behind it."""
+
+    def __init__(self, client: Any) -> None:
+        self.client = client
+
+    def submit(self, fn: Callable[..., Any], /, *args: Any, **kwargs: Any) -> "Future[Any]":
+        future: Future[Any] = Future()
+
+        def settle(task: Any) -> None:
+            try:
+                future.set_result(self.client.gather(task))
+            except BaseException as why:
+                future.set_exception(why)
+
+        self.client.submit(fn, *args, pure=False, **kwargs).add_done_callback(settle)
+        return future
