@@ -287,6 +287,8 @@ def asked_for(asked: argparse.Namespace) -> Iterator[Optional[Executor]]:
             made = getattr(import_module(module), function)()
         except (ImportError, AttributeError) as none:
             raise OSError(f"--executor {asked.executor}: {none}") from None
+        if not isinstance(made, Executor):
+            raise OSError(f"--executor {asked.executor}: what it answers is no concurrent.futures.Executor")
         with made as executor:
             yield executor
     else:
@@ -316,12 +318,13 @@ class _DaskExecutor(Executor):
 
     def submit(self, fn: Callable[..., Any], /, *args: Any, **kwargs: Any) -> "Future[Any]":
         future: Future[Any] = Future()
-
-        def settle(task: Any) -> None:
-            try:
-                future.set_result(self.client.gather(task))
-            except BaseException as why:
-                future.set_exception(why)
-
-        self.client.submit(fn, *args, pure=False, **kwargs).add_done_callback(settle)
+        task = self.client.submit(fn, *args, pure=False, **kwargs)
+        self.client.loop.add_callback(self._answer, task, future)
         return future
+
+    async def _answer(self, task: Any, future: "Future[Any]") -> None:
+        """Waits for a task in the client's own thread, which ends with the client."""
+        try:
+            future.set_result(await self.client.gather(task, asynchronous=True))
+        except BaseException as why:
+            future.set_exception(why)

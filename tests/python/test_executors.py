@@ -12,6 +12,7 @@ from pathlib import Path
 from typing import Any, Callable, Sequence
 
 from support import HEAD, InRoom, absolute_program, example
+from test_signals import is_running, waited
 
 import zxopt
 from zxopt import executors
@@ -105,7 +106,7 @@ class InTexts(InRoom):
     def ending(self, condition: str) -> str:
         """A program that ends the worker that calls it where a text meets a condition, and notes it."""
         real = absolute_program()["ZXOPT"]
-        end = f'echo >>"{self.room}/ends"; kill -KILL $PPID; sleep 60'
+        end = f'echo $$ >>"{self.room}/ends"; kill -KILL $PPID; sleep 600'
         return self.stand_in(f'text=$(cat); if {condition}; then {end}; fi; exec "{real}" "$@" <<<"$text"', "ending")
 
     def once(self, wanted: str) -> str:
@@ -115,7 +116,10 @@ class InTexts(InRoom):
         return self.ending(f"[[ $text = *'{wanted}'* ]]")
 
     def ends(self) -> int:
-        return (self.room / "ends").read_text().count("\n")
+        """How many workers were ended. None of the programs that they ran lives on."""
+        programs = (self.room / "ends").read_text().split()
+        self.assertTrue(waited(lambda: not any(is_running(int(it)) for it in programs)))
+        return len(programs)
 
 
 class Given(InTexts):
@@ -195,6 +199,17 @@ class Ended(InTexts):
         self.assertEqual(self.streamed(jobs=2, program=self.once("qreg q[7];")), alone)
         self.assertEqual(self.ends(), 1)
 
+    def test_large_windows(self) -> None:
+        """Windows that are larger than a pipe wait for workers when one of them is ended."""
+        lines = "".join(f"t q[{at % 9}];\ncx q[{at % 9}],q[{(at + 1) % 9}];\n" for at in range(30_000))
+        self.write("large.qasm", f"{HEAD}qreg q[9];\n{lines}")
+        words = ["stream", "large.qasm", "--gates", "6000", "--plain", "--to"]
+        self.assertEqual(self.command(*words, "alone").returncode, 0)
+        ran = self.command(*words, "to", "--jobs", "2", env={"ZXOPT": self.once("cx q[7],q[8];")})
+        self.assertEqual((ran.returncode, ran.stderr), (0, ""))
+        self.assertEqual((self.room / "to").read_bytes(), (self.room / "alone").read_bytes())
+        self.assertEqual(self.ends(), 1)
+
     def test_a_window_that_ends_its_worker(self) -> None:
         """The third time it stays as it was read, and is told; what was under way beside it is done."""
         totals = optimise_stream(str(self.source), str(self.room / "to"), gates=8, jobs=2, program=self.always("qreg q[7];"))
@@ -239,6 +254,7 @@ class Words(InTexts):
             (["--executor", "mine"], 2, "isn't MODULE:FUNCTION"),
             (["--executor", "no.such_module:it"], 70, "no.such_module:it: No module named 'no'"),
             (["--executor", "os:no_such"], 70, "no_such"),
+            (["--executor", "os:getpid"], 70, "is no concurrent.futures.Executor"),
             (["--executor", "os:getpid", "--dask", "tcp://127.0.0.1:1"], 2, "not allowed with"),
             (["--ahead", "0"], 2, "isn't above 0"),
         ):

@@ -37,8 +37,9 @@ class InFolder(InRoom):
             self.write(f"in/{at % 3}/{at}.qasm", f"{HEAD}qreg q[{at + 1}]; t q; t q;")
         self.calls = self.room / "calls"
         real = absolute_program()["ZXOPT"]
-        note = f'text=$(cat); width=${{text#*[}}; echo "${{width%%]*}}" >>"{self.calls}"'
-        self.program = self.stand_in(f'{note}; exec "{real}" "$@" <<<"$text"')
+        width = 'text=$(cat); width=${text#*[}; width=${width%%]*}'
+        self.script = f'{width}; echo "$width" >>"{self.calls}"; exec "{real}" "$@" <<<"$text"'
+        self.program = self.stand_in(self.script)
 
     def batch(self, *words: str) -> "subprocess.CompletedProcess[str]":
         return self.command("batch", "in", "--to", "out", "--no-best", *words, env={"ZXOPT": self.program})
@@ -133,7 +134,7 @@ class GoesOn(InFolder):
             (second.unlink, (), [2]),
             (lambda: second.write_text(""), (), [2]),
             (lambda: None, ("--check",), [1, 1, 2, 2, 3, 3, 4, 4]),
-            (lambda: self.program.encode() and Path(self.program).write_text(Path(self.program).read_text() + "# new"), (), [1, 2, 3, 4]),
+            (lambda: self.stand_in(f"# another\n{self.script}"), (), [1, 2, 3, 4]),
             (lambda: None, ("--anew",), [1, 2, 3, 4]),
             (lambda: None, (), []),
         ):
@@ -163,28 +164,28 @@ class GoesOn(InFolder):
         self.assertIn("4 written, 0 refused, 0 failed; ", self.batch().stdout)
 
     def test_table(self) -> None:
-        """Rows are added; other columns are refused, and nothing is done then."""
-        self.batch("--csv", "out.csv")
-        self.batch("--csv", "out.csv")
-        self.assertEqual(len(self.rows()), 4)
+        """Rows are added, for what is done; `--anew` begins it anew."""
+        for _ in range(2):
+            self.batch("--csv", "out.csv")
+            self.assertEqual(sorted(Path(row["file"]).stem for row in self.rows()), ["0", "1", "2", "3"])
         self.write("in/0/9.qasm", f"{HEAD}qreg q[9]; t q;")
-        self.batch("--csv", "out.csv")
+        ran = self.batch("--csv", "out.csv")
         self.assertEqual(sorted(Path(row["file"]).stem for row in self.rows()), ["0", "1", "2", "3", "9"])
-        with open(self.room / "out.csv", "ab") as file:
-            file.write(b"half a ro")
-        self.write("in/0/8.qasm", f"{HEAD}qreg q[8]; t q;")
-        ran = self.batch("--csv", "new.csv")
-        self.assertIn("new.csv is new: it lacks the 5 files that were done before", ran.stderr)
+        self.assertEqual(ran.stderr, "")
         self.batch("--csv", "out.csv", "--anew")
-        self.assertEqual(len(self.rows()), 6)
-        self.write("other.csv", "file,t\n")
-        ran = self.batch("--csv", "other.csv", "--anew", "--teleport")
-        self.assertEqual(len(self.rows("other.csv")), 6)
+        self.assertEqual(len(self.rows()), 5)
+        ran = self.batch("--csv", "new.csv")
+        self.assertEqual(ran.stderr, "new.csv is new: it lacks the 5 files that were done before\n")
+
+    def test_other_columns(self) -> None:
+        """They are refused, and nothing is done then."""
         old = self.write("older.csv", "file,t\na,1\n")
-        self.calls.write_text("")
-        ran = self.batch("--csv", "older.csv", "--check")
+        ran = self.batch("--csv", "older.csv")
         self.assertEqual((ran.returncode, old.read_text(), self.called()), (1, "file,t\na,1\n", Counter()))
-        self.assertIn("older.csv has other columns", ran.stderr)
+        self.assertEqual(
+            ran.stderr, "zxopt batch: older.csv has other columns than those that are written: name another table\n"
+        )
+        self.assertFalse((self.room / "out").exists())
 
     def test_a_row_without_its_end(self) -> None:
         """What a machine that went down may leave is taken off, and no more."""
@@ -203,8 +204,7 @@ class GoesOn(InFolder):
         """What a killed run left of a file that was under way goes, on whatever host; nothing else does."""
         to = str(self.room / "out")
         job = Job(self.room / "in/0/0.qasm", self.room / "out/0/0.qasm")
-        with closing(sqlite3.connect(":memory:")), manifest.opened(to, Settings(), STAMP) as kept:
-            kept.begin(job)
+        with manifest.opened(to, Settings(), STAMP) as kept:
             row = kept.name(job)
         # as a run leaves it that is killed here
         with closing(sqlite3.connect(Path(to, manifest.NAME), isolation_level=None)) as data:
