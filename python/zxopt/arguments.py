@@ -76,7 +76,8 @@ def takes_jobs(parser: argparse.ArgumentParser, what: str) -> argparse.ArgumentP
 def takes_executor(parser: argparse.ArgumentParser, what: str) -> argparse.ArgumentParser:
     """A command whose work other machines may do, by `zxopt.executors`."""
     either = parser.add_mutually_exclusive_group()
-    either.add_argument("--dask", metavar="ADDRESS", help="let the workers of this scheduler of Dask do it: tcp://HOST:PORT")
+    told = "let the workers of this scheduler of Dask do it: tcp://HOST:PORT"
+    either.add_argument("--dask", metavar="ADDRESS", help=told)
     told = "let the concurrent.futures.Executor do it that this function answers"
     either.add_argument("--executor", type=function_of_module, metavar="MODULE:FUNCTION", help=told)
     told = f"how many {what} these have at most; else {AHEAD}"

@@ -37,9 +37,9 @@ def optimise_files(
     """Optimises files, so many of them at a time, and answers what became of each as soon as that is known: in their
     order, or in that in which they end unless `ordered`. A text that is refused doesn't keep the others from going on.
 
-    executor: an executor of `concurrent.futures` that does it, where files have the same names; it gets `ahead` files at
-    most, else as many as `processes`. Its workers need the package and the program of this process. Each looks for the
-    program itself unless `settings` name it, and OSError is raised where a worker has another one.
+    executor: an executor of `concurrent.futures` that does it, where files have the same names; it gets `ahead` files
+    at most, else as many as `processes`. Its workers need the package and the program of this process. Each looks for
+    the program itself unless `settings` name it, and OSError is raised where a worker has another one.
     """
     most = processes if executor is None or ahead is None else ahead
     if processes < 1 or most < 1:
@@ -120,8 +120,8 @@ def command_parser(command: str) -> argparse.ArgumentParser:
         command,
         "Optimises many files of OpenQASM 2.0 on all processors, with a line for each: T gates (odd phases) and gates "
         "on two qubits before and after, and seconds. A run that was interrupted goes on when it is called again.",
-        "Each file is written below FOLDER as it stands below the deepest folder that all named files and folders share. "
-        "The exit status is 1 where a file was refused or failed, or a check didn't say that it is the same.",
+        "Each file is written below FOLDER as it stands below the deepest folder that all named files and folders "
+        "share. The exit status is 1 where a file was refused or failed, or a check didn't say that it is the same.",
     )
     add = parser.add_argument
     add("files", nargs="+", metavar="FILE", help="a file, or a folder of files *.qasm, also in folders below it")

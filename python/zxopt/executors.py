@@ -67,8 +67,8 @@ def work(stamp: Stamp, function: Callable[..., Any], *arguments: Any) -> Any:
     if (own.package, own.sha256) != (stamp.package, stamp.sha256):
         raise OtherVersion(
             f"the worker {os.getpid()} on {platform.node()} has version {own.package} with the program {own.program} "
-            f"of the sum {own.sha256[:16]}.., where {stamp.package} and {stamp.sha256[:16]}.. are asked for: install the "
-            "same wheel there"
+            f"of the sum {own.sha256[:16]}.., where {stamp.package} and {stamp.sha256[:16]}.. are asked for: "
+            "install the same wheel there"
         )
     return function(*arguments, program=own.program)
 
@@ -310,8 +310,8 @@ def _dask(address: str) -> Iterator[Executor]:
 
 
 class _DaskExecutor(Executor):
-    """Tasks of a client of Dask. The executor that a client makes itself takes a result for an exception where the worker
-    ends just behind it."""
+    """Tasks of a client of Dask. The executor that a client makes itself takes a result for an exception where the
+    worker ends just behind it."""
 
     def __init__(self, client: Any) -> None:
         self.client = client

@@ -26,6 +26,7 @@ __all__ = ["NAME", "Done", "Manifest", "opened"]
 NAME = ".zxopt-batch.sqlite3"
 _FORMAT = 1
 _STATES = ("written", "refused")
+_PRAGMAS = ("locking_mode = EXCLUSIVE", "journal_mode = WAL", "synchronous = NORMAL", "wal_autocheckpoint = 4000")
 _TABLES = """
     CREATE TABLE settings (number INTEGER PRIMARY KEY, told TEXT UNIQUE NOT NULL);
     CREATE TABLE done (
@@ -38,8 +39,8 @@ _TABLES = """
 
 
 class Done(NamedTuple):
-    """What the manifest tells of a file that was done: its state, its counts before and after, what `same` said, and why
-    it was refused."""
+    """What the manifest tells of a file that was done: its state, its counts before and after, what `same` said, and
+    why it was refused."""
 
     state: str
     t: Optional[Tuple[int, int]]
@@ -75,7 +76,7 @@ class Manifest:
     ) -> None:
         self.data, self.to = data, to
         # one process alone has it open; a row is written at once, and brought to the disk with many others
-        for pragma in ("locking_mode = EXCLUSIVE", "journal_mode = WAL", "synchronous = NORMAL", "wal_autocheckpoint = 4000"):
+        for pragma in _PRAGMAS:
             data.execute(f"PRAGMA {pragma}")
         data.execute("BEGIN EXCLUSIVE")
         (found,) = data.execute("PRAGMA user_version").fetchone()
@@ -93,7 +94,8 @@ class Manifest:
         data.execute("COMMIT")
 
     def done(self, job: Job) -> Optional[Done]:
-        """What became of a file, if it was done with these settings, has the same bytes, and what was written is there."""
+        """What became of a file, if it was done with these settings and has the same bytes, and what was written is
+        there."""
         found = self.data.execute("SELECT * FROM done WHERE file = ?", (self.name(job),)).fetchone()
         if found is None or found[2] != self.number or found[1] != _bytes_of(job):
             return None

@@ -57,8 +57,8 @@ class Counts(NamedTuple):
 
 
 class Left(NamedTuple):
-    """Gates that were left as they were read, since the program took too long or ended its workers: how many, from which
-    line of the text that was read on, and why."""
+    """Gates that were left as they were read, since the program took too long or ended its workers: how many, from
+    which line of the text that was read on, and why."""
 
     line: int
     gates: int
@@ -129,8 +129,8 @@ def optimise_parts(
     stay, and gates don't cross them. `timeout`, in seconds, is that of each run of the program: of a part that takes
     longer, windows of 10,000 gates go through `teleport`, each with as many seconds, and what takes longer then is left
     as it was read. With `executor`, as in `zxopt.batch.optimise_files`, its workers run the program on parts; it gets
-    `ahead` of them at most, else as many as `jobs`. `progress` is called with the number of parts that are done, and that of all, by one thread at a
-    time.
+    `ahead` of them at most, else as many as `jobs`. `progress` is called with the number of parts that are done, and
+    that of all, by one thread at a time.
 
     Raises CannotCut where the text isn't one that the program would take but for single statements: `zxopt.prepare`
     helps with many of these. MemoryError and OSError are those of `zxopt.program.run`; ValueError where `jobs`, `ahead`

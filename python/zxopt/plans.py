@@ -19,9 +19,9 @@ _BLOCK = 1_000
 
 
 def plan(files: Iterable[str], to: str) -> List[Job]:
-    """Which file is written for each, in the order in which they are named: it stands below the folder `to` as it stands
-    below the deepest folder that all named files and folders share. Of a folder all files `*.qasm` below it are taken,
-    but for those below `to`.
+    """Which file is written for each, in the order in which they are named: it stands below the folder `to` as it
+    stands below the deepest folder that all named files and folders share. Of a folder all files `*.qasm` below it are
+    taken, but for those below `to`.
 
     Raises ValueError where there is no file, or one of them would be written over; FileNotFoundError where one
     is missing.
@@ -78,8 +78,8 @@ class _Named:
                 yield from self.below(path)
 
     def below(self, folder: str) -> Iterator[str]:
-        """The files below a folder, but for those below the target folder and those that are named themselves. Names are
-        sorted, many at a time."""
+        """The files below a folder, but for those below the target folder and those that are named themselves. Names
+        are sorted, many at a time."""
         if _is_at(os.path.realpath(folder), self.real_to):
             return
         self.check_target(folder)

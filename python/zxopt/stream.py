@@ -174,7 +174,14 @@ class _Saved(NamedTuple):
 
 class _Run:
     def __init__(
-        self, text: slices.Source, to: Target, tasks: Dispatcher, stamp: Stamp, make: workers.Task, gates: int, barriers: bool
+        self,
+        text: slices.Source,
+        to: Target,
+        tasks: Dispatcher,
+        stamp: Stamp,
+        make: workers.Task,
+        gates: int,
+        barriers: bool,
     ) -> None:
         self.text, self.to, self.tasks, self.stamp, self.make = text, to, tasks, stamp, make
         self.limits = limits(gates)

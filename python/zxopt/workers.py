@@ -1,7 +1,7 @@
 """What becomes of a window of `stream`, in whatever process: bytes and words in, bytes and counts out.
 
-`processes` makes processes of this machine for it. None of them, and no program that they run, outlives the process that
-made them, however it ends: each waits for a pipe that this process alone holds open.
+`processes` makes processes of this machine for it. None of them, and no program that they run, outlives the process
+that made them, however it ends: each waits for a pipe that this process alone holds open.
 """
 from __future__ import annotations
 
@@ -165,10 +165,11 @@ class Processes:
         while self.numbers.poll():
             with suppress(ProcessLookupError):
                 os.killpg(int(self.numbers.recv_bytes()), signal.SIGKILL)
-        # before Python 3.11.5 an executor whose workers ended waits for ever until they read what it writes to them
+        # many versions of Python have an executor wait for ever until workers that ended read what it writes to them
         queue = getattr(self.executor, "_call_queue", None)
         if queue is not None:
-            queue._reader.close()
+            with suppress(OSError), open(os.devnull, "rb") as nothing:
+                os.dup2(nothing.fileno(), queue._reader.fileno(), inheritable=False)
         self.close()
 
     def close(self) -> None:

@@ -239,8 +239,8 @@ class Optimised(InRoom):
     def test_as_they_end(self) -> None:
         """The first file ends last, when the others have ended."""
         real, ended = absolute_program()["ZXOPT"], self.room / "ended"
-        wait = f'[ "$width" = 1 ] && until [ -e "{ended}" ]; do sleep 0.02; done'
-        slow = self.stand_in(f"""text=$(cat); width=${{text#*[}}; width=${{width%%]*}}; {wait}; exec "{real}" "$@" <<<"$text" """)
+        wait = f'[[ $text != *"q[1];"* ]] || until [ -e "{ended}" ]; do sleep 0.02; done'
+        slow = self.stand_in(f'text=$(cat); {wait}; exec "{real}" "$@" <<<"$text"')
         jobs = [self.job(f"{HEAD}qreg q[{i + 1}]; t q; t q;", f"{i}.qasm") for i in range(4)]
         found = []
         for outcome in optimise_files(jobs, Settings(best=False, program=slow), processes=2, ordered=False):

@@ -4,12 +4,14 @@ from __future__ import annotations
 import os
 import random
 import re
+import signal
 import threading
 import unittest
 from collections import Counter
 from concurrent.futures import Executor, Future, ProcessPoolExecutor, ThreadPoolExecutor
+from contextlib import suppress
 from pathlib import Path
-from typing import Any, Callable, Sequence
+from typing import Any, Callable, List, Sequence
 
 from support import HEAD, InRoom, absolute_program, example
 from test_signals import is_running, waited
@@ -19,6 +21,10 @@ from zxopt import executors
 from zxopt.batch import Job, Settings, optimise_files
 from zxopt.parts import optimise_parts
 from zxopt.stream import optimise_stream
+
+
+# What a program does that is killed with its worker, or a while later.
+ENDS_WORKER = "kill -KILL $PPID; exec sleep 600"
 
 
 class Counting(Executor):
@@ -97,29 +103,37 @@ class InTexts(InRoom):
             lines += [f"t q[{draw.randint(first, last)}];" for _ in range(8 - last + first)]
         self.text = f"{HEAD}qreg q[17];\n" + "\n".join(lines) + "\n"
         self.source = self.write("read.qasm", self.text)
-        self.jobs = [Job(self.write(f"in/{at}.qasm", f"{HEAD}qreg q[{at + 1}]; t q; t q;"), self.room / f"out/{at}.qasm") for at in range(9)]
+        names = [f"{at}.qasm" for at in range(9)]
+        for at, name in enumerate(names):
+            self.write(f"in/{name}", f"{HEAD}qreg q[{at + 1}]; t q; t q;")
+        self.jobs = [Job(self.room / "in" / name, self.room / "out" / name) for name in names]
 
     def streamed(self, **more: Any) -> str:
         optimise_stream(str(self.source), str(self.room / "to"), gates=8, **more)
         return (self.room / "to").read_text()
 
-    def ending(self, condition: str) -> str:
-        """A program that ends the worker that calls it where a text meets a condition, and notes it."""
+    def doing(self, wanted: str, action: str = ENDS_WORKER, is_once: bool = False) -> str:
+        """A program that does something where a text has these words, always or the first time alone."""
         real = absolute_program()["ZXOPT"]
-        end = f'echo $$ >>"{self.room}/ends"; kill -KILL $PPID; sleep 600'
-        return self.stand_in(f'text=$(cat); if {condition}; then {end}; fi; exec "{real}" "$@" <<<"$text"', "ending")
+        first = f' && mkdir "{self.room}/once" 2>/dev/null' if is_once else ""
+        act = f'if [[ $text = *"{wanted}"* ]]{first}; then echo $$ >>"{self.room}/ends"; {action}; fi'
+        self.addCleanup(self.end_programs)
+        return self.stand_in(f'text=$(cat); {act}; exec "{real}" "$@" <<<"$text"', "doing")
 
-    def once(self, wanted: str) -> str:
-        return self.ending(f"""[[ $text = *'{wanted}'* ]] && mkdir "{self.room}/once" 2>/dev/null""")
+    def programs(self) -> List[int]:
+        """The numbers of the programs that did so."""
+        file = self.room / "ends"
+        return [int(it) for it in file.read_text().split()] if file.exists() else []
 
-    def always(self, wanted: str) -> str:
-        return self.ending(f"[[ $text = *'{wanted}'* ]]")
+    def end_programs(self) -> None:
+        for number in self.programs():
+            with suppress(ProcessLookupError):
+                os.kill(number, signal.SIGKILL)
 
     def ends(self) -> int:
         """How many workers were ended. None of the programs that they ran lives on."""
-        programs = (self.room / "ends").read_text().split()
-        self.assertTrue(waited(lambda: not any(is_running(int(it)) for it in programs)))
-        return len(programs)
+        self.assertTrue(waited(lambda: not any(is_running(it) for it in self.programs())))
+        return len(self.programs())
 
 
 class Given(InTexts):
@@ -152,7 +166,7 @@ class Given(InTexts):
 
     def test_another_program_is_refused(self) -> None:
         other = self.stand_in(f'exec "{absolute_program()["ZXOPT"]}" "$@"')
-        said = "the worker [0-9]+ on .* has version .* with the program .*stand_in of the sum .* install the same wheel there"
+        said = "the worker [0-9]+ on .* has version .* with the program .*stand_in of the sum .* install the same wheel"
         with ProcessPoolExecutor(1, initializer=with_other_program, initargs=(other,)) as pool:
             for call in (
                 lambda: self.streamed(executor=pool),
@@ -185,7 +199,7 @@ class Given(InTexts):
 
     def test_workers_of_a_given_pool(self) -> None:
         """It can't be replaced, so the run ends, and another one does the rest."""
-        program = self.once("qreg q[7];")
+        program = self.doing("qreg q[7];", is_once=True)
         with ProcessPoolExecutor(2) as pool, self.assertRaisesRegex(OSError, "the executor's workers ended"):
             self.streamed(executor=pool, program=program)
         self.assertEqual(self.streamed(program=program), self.streamed())
@@ -196,7 +210,7 @@ class Ended(InTexts):
 
     def test_nothing_is_lost(self) -> None:
         alone = self.streamed()
-        self.assertEqual(self.streamed(jobs=2, program=self.once("qreg q[7];")), alone)
+        self.assertEqual(self.streamed(jobs=2, program=self.doing("qreg q[7];", is_once=True)), alone)
         self.assertEqual(self.ends(), 1)
 
     def test_large_windows(self) -> None:
@@ -205,14 +219,15 @@ class Ended(InTexts):
         self.write("large.qasm", f"{HEAD}qreg q[9];\n{lines}")
         words = ["stream", "large.qasm", "--gates", "6000", "--plain", "--to"]
         self.assertEqual(self.command(*words, "alone").returncode, 0)
-        ran = self.command(*words, "to", "--jobs", "2", env={"ZXOPT": self.once("cx q[7],q[8];")})
+        ran = self.command(*words, "to", "--jobs", "2", env={"ZXOPT": self.doing("cx q[7],q[8];", is_once=True)})
         self.assertEqual((ran.returncode, ran.stderr), (0, ""))
         self.assertEqual((self.room / "to").read_bytes(), (self.room / "alone").read_bytes())
         self.assertEqual(self.ends(), 1)
 
     def test_a_window_that_ends_its_worker(self) -> None:
         """The third time it stays as it was read, and is told; what was under way beside it is done."""
-        totals = optimise_stream(str(self.source), str(self.room / "to"), gates=8, jobs=2, program=self.always("qreg q[7];"))
+        program, to = self.doing("qreg q[7];"), str(self.room / "to")
+        totals = optimise_stream(str(self.source), to, gates=8, jobs=2, program=program)
         self.assertEqual(self.ends(), 3)
         (left,) = totals.left_windows
         self.assertEqual((left.window, left.why), (2, "its worker ended 3 times"))
@@ -241,7 +256,8 @@ class Words(InTexts):
     """Executors on the command line."""
 
     def test_a_function(self) -> None:
-        self.write("mine.py", "from concurrent.futures import ThreadPoolExecutor\ndef two():\n    return ThreadPoolExecutor(2)\n")
+        module = "from concurrent.futures import ThreadPoolExecutor\ndef two():\n    return ThreadPoolExecutor(2)\n"
+        self.write("mine.py", module)
         ran = self.command("batch", "in", "--to", "out", "--no-best", "--executor", "mine:two", "--ahead", "3")
         self.assertEqual((ran.returncode, ran.stderr), (0, ""))
         self.assertIn("9 written", ran.stdout)

@@ -81,7 +81,7 @@ class Killed(InFolder):
         self.assertGreaterEqual(kills, 4)
         ran = self.batch("--csv", "out.csv", "--jobs", "2")
         self.assertEqual(ran.returncode, 0, ran.stderr)
-        self.assertRegex(ran.stdout, f"{self.count} files: {self.count} written, 0 refused, 0 failed, [0-9]+ of them before")
+        self.assertRegex(ran.stdout, f"{self.count} files: {self.count} written, 0 refused, 0 failed, [0-9]+ of them")
         self.assert_all_written()
         called = self.called()
         self.assertEqual(len(called), self.count)
