@@ -17,19 +17,18 @@ import sys
 import time
 from collections import deque
 from concurrent.futures import Executor
-from dataclasses import asdict, dataclass, field
+from dataclasses import asdict
 from typing import Any, Callable, NamedTuple, Optional, Sequence, Union
 
 from . import arguments, executors, slices, windows, workers
 from .circuit import CannotCut
-from .commands import GateCounts
 from .executors import Dispatcher, Stamp
 from .processes import processors
 from .program import Program
 from .reading import Reader
 from .schedule import Limits, Node, Window, bundles
 from .states import State, Target
-from .windows import NO_GATES, added
+from .totals import LeftWindow, Totals
 
 __all__ = ["LeftWindow", "Totals", "main", "optimise_stream"]
 
@@ -39,52 +38,6 @@ CHUNK = 1 << 18
 WAITING = 16 << 20
 # Qubits and registers of bits of operations that stay and wait behind open windows.
 PLACES = 50_000
-# Windows that are told one by one where something went wrong.
-TOLD = 1_000
-
-
-class LeftWindow(NamedTuple):
-    """A window that was left as it was read, since something went wrong: its number, from 1; the lines of the whole
-    text that is written on which it stands, from 1; why."""
-
-    window: int
-    first: int
-    last: int
-    why: str
-
-
-@dataclass
-class Totals:
-    """What was done so far: bytes that were read, windows, lines that were written; counts of gates read and written;
-    how many windows were left as they were since something went wrong, and the first of these."""
-
-    bytes: int = 0
-    windows: int = 0
-    lines: int = 0
-    read: GateCounts = NO_GATES
-    written: GateCounts = NO_GATES
-    left: int = 0
-    left_windows: list[LeftWindow] = field(default_factory=list)
-
-    @classmethod
-    def of(cls, told: dict[str, Any]) -> "Totals":
-        """The totals of a state."""
-        out = cls(**told)
-        out.read, out.written = GateCounts(**told["read"]), GateCounts(**told["written"])
-        out.left_windows = [LeftWindow(*it) for it in told["left_windows"]]
-        return out
-
-    def add(self, result: workers.Result) -> None:
-        """Counts a window that was written."""
-        self.windows += 1
-        if result.why:
-            self.left += 1
-            if len(self.left_windows) < TOLD:
-                lines = self.lines + 1, self.lines + result.lines
-                self.left_windows.append(LeftWindow(self.windows, *lines, result.why))
-        self.lines += result.lines
-        self.read = added(self.read, result.read)
-        self.written = added(self.written, result.after)
 
 
 def optimise_stream(
