@@ -12,17 +12,22 @@ from math import inf
 __all__ = [
     "called",
     "distance",
+    "function_of_module",
     "parser",
     "positive_int",
     "positive_seconds",
     "reads_one",
     "spellings",
     "takes_best",
+    "takes_executor",
     "takes_jobs",
     "takes_seconds",
     "takes_within",
     "writes_one",
 ]
+
+# How many tasks an executor has at most, unless it is told.
+AHEAD = 64
 
 
 def called() -> str:
@@ -68,6 +73,18 @@ def takes_jobs(parser: argparse.ArgumentParser, what: str) -> argparse.ArgumentP
     return parser
 
 
+def takes_executor(parser: argparse.ArgumentParser, what: str) -> argparse.ArgumentParser:
+    """A command whose work other machines may do, by `zxopt.executors`."""
+    either = parser.add_mutually_exclusive_group()
+    told = "let the workers of this scheduler of Dask do it: tcp://HOST:PORT"
+    either.add_argument("--dask", metavar="ADDRESS", help=told)
+    told = "let the concurrent.futures.Executor do it that this function answers"
+    either.add_argument("--executor", type=function_of_module, metavar="MODULE:FUNCTION", help=told)
+    told = f"how many {what} these have at most; else {AHEAD}"
+    parser.add_argument("--ahead", type=positive_int, default=AHEAD, metavar="N", help=told)
+    return parser
+
+
 def takes_within(parser: argparse.ArgumentParser) -> argparse.ArgumentParser:
     """A command that may round angles."""
     told = "take angles that lie so close to a multiple of pi/8 for it (1e-9, say); the greatest move is told"
@@ -81,6 +98,14 @@ def spellings(parser: argparse.ArgumentParser, required: bool = False) -> argpar
     for name, told in (("only-t", "write u1(3*pi/4) as s and t, and the like"), ("by-cx", "write by U and CX alone")):
         either.add_argument(f"--{name}", dest="spelled", action="store_const", const=name, help=told)
     return either
+
+
+def function_of_module(word: str) -> str:
+    """A function by its module and its name."""
+    module, _, function = word.partition(":")
+    if not (all(it.isidentifier() for it in module.split(".")) and function.isidentifier()):
+        raise argparse.ArgumentTypeError(f"{word} isn't MODULE:FUNCTION")
+    return word
 
 
 def positive_int(word: str) -> int:

@@ -8,17 +8,22 @@ that has a part of its text; the status is 128 and the signal's number.
 from __future__ import annotations
 
 import os
+import platform
+import re
 import signal
 import sys
 from pathlib import Path
-from typing import Callable, Optional, Union
+from typing import Callable, Dict, Iterable, Optional, Set, Union
 
 from .commands import FlowFails
 from .faults import NoFlow, Refused
 from .processes import Stopped, ending_children
 from .qasm import QasmError
 
-__all__ = ["guarded", "placed", "read_text", "tell_terminal", "write_file", "write_text"]
+__all__ = ["guarded", "placed", "read_text", "remove_leftovers", "tell_terminal", "write_file", "write_text"]
+
+# The name of a temporary file: that of the file, a host, a process.
+_TEMPORARY = re.compile(r"\.(.+)\.\d+\.new", re.S)
 
 REFUSED, NO_OUTPUT, NO_MEMORY, NO, UNABLE, BY_SIGNAL = 1, 4, 5, 6, 70, 128
 
@@ -79,15 +84,29 @@ def write_text(text: str, file: Optional[str]) -> None:
         sys.stdout.write(text)
 
 
-def write_file(file: Path, text: str) -> None:
-    """Writes a file such that it has all of the text, or stays as it was."""
-    beside = file.with_name(f".{file.name}.{os.getpid()}.new")
+def write_file(file: Path, text: str) -> int:
+    """Writes a file such that it has all of the text, or stays as it was; answers the number of its bytes."""
+    data = text.encode("utf-8", "replace")
+    beside = file.with_name(f".{file.name}.{platform.node()[:30]}.{os.getpid()}.new")
     try:
-        beside.write_bytes(text.encode("utf-8", "replace"))
+        beside.write_bytes(data)
         os.replace(beside, file)
     except BaseException:
         beside.unlink(missing_ok=True)
         raise
+    return len(data)
+
+
+def remove_leftovers(files: Iterable[Path]) -> None:
+    """Removes what `write_file` leaves beside these files where its process is killed."""
+    names: Dict[Path, Set[str]] = {}
+    for file in files:
+        names.setdefault(file.parent, set()).add(file.name)
+    for folder, wanted in names.items():
+        for found in folder.glob(".*.new"):
+            parts = _TEMPORARY.fullmatch(found.name)
+            if parts and any(parts[1].startswith(f"{name}.") for name in wanted):
+                found.unlink(missing_ok=True)
 
 
 def placed(file: Union[str, Path], refused: ValueError) -> str:

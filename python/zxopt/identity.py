@@ -4,13 +4,12 @@ from __future__ import annotations
 import hashlib
 import os
 import shutil
-from pathlib import Path
 from typing import NamedTuple, Optional
 
 from .program import Program, find_library, find_program
 from .release import VERSION
 
-__all__ = ["Version", "version"]
+__all__ = ["Version", "sum_of", "version"]
 
 
 class Version(NamedTuple):
@@ -37,5 +36,13 @@ def version(program: Optional[Program] = None) -> Version:
     if file is None:
         raise FileNotFoundError(f"no program {named}")
     library = find_library() if program is None else None
-    sha256 = hashlib.sha256(Path(file).read_bytes()).hexdigest()
-    return Version(VERSION, os.path.abspath(file), sha256, library.file if library else None)
+    return Version(VERSION, os.path.abspath(file), sum_of(file), library.file if library else None)
+
+
+def sum_of(file: Program) -> str:
+    """The SHA-256 of a file's bytes."""
+    found = hashlib.sha256()
+    with open(file, "rb") as data:
+        for block in iter(lambda: data.read(1 << 20), b""):
+            found.update(block)
+    return found.hexdigest()

@@ -20,18 +20,18 @@ parts; that they were cut and put together rightly is tested, not proved.
 from __future__ import annotations
 
 import argparse
-import os
 import re
 import sys
-from concurrent.futures import ThreadPoolExecutor
+from concurrent.futures import Executor, ThreadPoolExecutor
 from dataclasses import dataclass
 from typing import Callable, Iterable, NamedTuple, Optional, Sequence, Union
 
-from . import arguments, cli, commands, windows
+from . import arguments, cli, commands, executors, windows
 from .circuit import CannotCut, Circuit
 from .commands import GateCounts
 from .faults import Refused
 from .prepare import prepare
+from .processes import processors
 from .program import Program
 from .qasm import squeezed
 from .rounded import rounded_angles, told
@@ -57,8 +57,8 @@ class Counts(NamedTuple):
 
 
 class Left(NamedTuple):
-    """Gates that were left as they were read, since the program took too long: how many, from which line of the text
-    that was read on, and why."""
+    """Gates that were left as they were read, since the program took too long or ended its workers: how many, from
+    which line of the text that was read on, and why."""
 
     line: int
     gates: int
@@ -118,6 +118,8 @@ def optimise_parts(
     keep_barriers: bool = False,
     timeout: Optional[float] = None,
     program: Optional[Program] = None,
+    executor: Optional[Executor] = None,
+    ahead: Optional[int] = None,
     progress: Optional[Callable[[int, int], None]] = None,
 ) -> Parts:
     """Optimises a text part by part.
@@ -126,18 +128,22 @@ def optimise_parts(
     may have; else as many as one run of the program takes. `jobs` parts run side by side. With `keep_barriers` barriers
     stay, and gates don't cross them. `timeout`, in seconds, is that of each run of the program: of a part that takes
     longer, windows of 10,000 gates go through `teleport`, each with as many seconds, and what takes longer then is left
-    as it was read. `progress` is called with the number of parts that are done, and that of all, by one thread at a
-    time.
+    as it was read. With `executor`, as in `zxopt.batch.optimise_files`, its workers run the program on parts; it gets
+    `ahead` of them at most, else as many as `jobs`. `progress` is called with the number of parts that are done, and
+    that of all, by one thread at a time.
 
     Raises CannotCut where the text isn't one that the program would take but for single statements: `zxopt.prepare`
-    helps with many of these. MemoryError and OSError are those of `zxopt.program.run`; ValueError where `jobs` or
-    `timeout` isn't above 0.
+    helps with many of these. MemoryError and OSError are those of `zxopt.program.run`; ValueError where `jobs`, `ahead`
+    or `timeout` isn't above 0.
     """
-    if jobs < 1:
-        raise ValueError(f"{jobs} parts at a time: the number isn't above 0")
+    at_a_time = jobs if executor is None or ahead is None else ahead
+    if jobs < 1 or at_a_time < 1:
+        raise ValueError(f"{min(jobs, at_a_time)} parts at a time: the number isn't above 0")
     mode = "teleport" if teleport else "best" if best else "plain"
-    cutting = _Cutting(decoded(text, []), mode, jobs, keep_barriers, gates)
+    cutting = _Cutting(decoded(text, []), mode, at_a_time, keep_barriers, gates)
     cutting.timeout, cutting.program, cutting.progress = timeout, program, progress
+    if executor is not None:
+        cutting.remote = executors.Remote(executor, program)
     return cutting.done()
 
 
@@ -164,6 +170,7 @@ class _Cutting:
         self.timeout: Optional[float] = None
         self.program: Optional[Program] = None
         self.progress: Optional[Callable[[int, int], None]] = None
+        self.remote: Optional[executors.Remote] = None
         self.results: dict[str, _Done] = {}
 
     def done(self) -> Parts:
@@ -261,19 +268,27 @@ class _Cutting:
         except TimeoutError as late:
             is_small = self.mode == "teleport" and len(piece.operations) <= RESCUE_GATES
             return self.left(piece, late) if is_small else self.rescued(piece)
+        except executors.WorkerEnded as ended:
+            return self.left(piece, ended)
 
     def asked(self, piece: _Piece, mode: str) -> _Done:
         """What the program makes of a part in a mode."""
-        done = windows.made(piece.text, mode, self.timeout, self.program)
+        done = self.made(piece.text, mode)
         before = self.counted(piece) if done.read is None else done.read
         if windows.is_better(before, done.written):
             return _Done(done.lines, before, done.written)
         return _Done(None, before, before)
 
-    def left(self, piece: _Piece, late: TimeoutError) -> _Done:
-        """A part that took too long, as it was read."""
+    def made(self, text: str, mode: str) -> windows.Written:
+        if self.remote is None:
+            return windows.made(text, mode, self.timeout, self.program)
+        done: windows.Written = self.remote.call(windows.made, text, mode, self.timeout)
+        return done
+
+    def left(self, piece: _Piece, reason: OSError) -> _Done:
+        """A part that took too long, or ended its workers, as it was read."""
         counts = self.counted(piece)
-        why = Left(piece.operations[0].line, len(piece.operations), str(late) or "it took too long")
+        why = Left(piece.operations[0].line, len(piece.operations), str(reason) or "it took too long")
         return _Done(None, counts, counts, (why,))
 
     def rescued(self, piece: _Piece) -> _Done:
@@ -286,7 +301,7 @@ class _Cutting:
             assert isinstance(it, _Piece), "a part has gates alone"
             try:
                 done = self.asked(it, "teleport")
-            except TimeoutError as again:
+            except (TimeoutError, executors.WorkerEnded) as again:
                 done = self.left(it, again)
             before, after = windows.added(before, done.before), windows.added(after, done.after)
             late += done.late
@@ -385,7 +400,7 @@ def command(asked: argparse.Namespace) -> int:
         best=asked.best,
         teleport=asked.teleport,
         gates=asked.gates,
-        jobs=asked.jobs or os.cpu_count() or 1,
+        jobs=asked.jobs or processors(),
         keep_barriers=asked.barriers,
         timeout=asked.seconds,
         progress=progress if is_terminal else None,

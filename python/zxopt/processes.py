@@ -14,7 +14,7 @@ from contextlib import contextmanager
 from types import FrameType
 from typing import Iterator, Optional, Sequence, Set, Tuple
 
-__all__ = ["CALLED", "Stopped", "communicate", "ending_children", "ends_children"]
+__all__ = ["CALLED", "Stopped", "communicate", "ending_children", "ends_children", "processors"]
 
 # This variable tells a process that it was started as the program, for which none of this package has to be taken.
 CALLED = "ZXOPT_CALLED"
@@ -120,3 +120,11 @@ def ending_children() -> Iterator[None]:
 def ends_children() -> bool:
     """Whether signals end all that runs, as those of a command do: within `ending_children`."""
     return _CHILDREN.are_ended
+
+
+def processors() -> int:
+    """How many processors this process may use."""
+    try:
+        return len(os.sched_getaffinity(0))
+    except AttributeError:
+        return os.cpu_count() or 1

@@ -6,7 +6,6 @@ atomically, when all that it counts is on the disk: a run goes on with WRITTEN c
 from __future__ import annotations
 
 import gzip
-import hashlib
 import json
 import os
 import stat
@@ -19,7 +18,7 @@ try:
 except ImportError:  # there are other systems
     fcntl = None  # type: ignore[assignment]
 
-__all__ = ["State", "Target", "identity"]
+__all__ = ["State", "Target"]
 
 _FORMAT = 1
 
@@ -29,15 +28,6 @@ class State(NamedTuple):
 
     totals: dict[str, Any]
     reader: str
-
-
-def identity(file: str) -> str:
-    """What tells a file from others: the SHA-256 of its bytes."""
-    found = hashlib.sha256()
-    with open(file, "rb") as data:
-        for block in iter(lambda: data.read(1 << 20), b""):
-            found.update(block)
-    return found.hexdigest()
 
 
 class Target:

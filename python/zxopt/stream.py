@@ -13,24 +13,22 @@ from __future__ import annotations
 import argparse
 import json
 import os
-import shutil
 import sys
 import time
 from collections import deque
-from concurrent.futures import Executor, Future
-from concurrent.futures.process import BrokenProcessPool
-from dataclasses import asdict, dataclass, field
+from concurrent.futures import Executor
+from dataclasses import asdict
 from typing import Any, Callable, NamedTuple, Optional, Sequence, Union
 
-from . import arguments, slices, windows, workers
+from . import arguments, executors, slices, windows, workers
 from .circuit import CannotCut
-from .commands import GateCounts
-from .program import Program, find_program
-from .release import VERSION
+from .executors import Dispatcher, Stamp
+from .processes import processors
+from .program import Program
 from .reading import Reader
 from .schedule import Limits, Node, Window, bundles
-from .states import State, Target, identity
-from .windows import NO_GATES, added
+from .states import State, Target
+from .totals import LeftWindow, Totals
 
 __all__ = ["LeftWindow", "Totals", "main", "optimise_stream"]
 
@@ -40,52 +38,6 @@ CHUNK = 1 << 18
 WAITING = 16 << 20
 # Qubits and registers of bits of operations that stay and wait behind open windows.
 PLACES = 50_000
-# Windows that are told one by one where something went wrong.
-TOLD = 1_000
-
-
-class LeftWindow(NamedTuple):
-    """A window that was left as it was read, since something went wrong: its number, from 1; the lines of the whole
-    text that is written on which it stands, from 1; why."""
-
-    window: int
-    first: int
-    last: int
-    why: str
-
-
-@dataclass
-class Totals:
-    """What was done so far: bytes that were read, windows, lines that were written; counts of gates read and written;
-    how many windows were left as they were since something went wrong, and the first of these."""
-
-    bytes: int = 0
-    windows: int = 0
-    lines: int = 0
-    read: GateCounts = NO_GATES
-    written: GateCounts = NO_GATES
-    left: int = 0
-    left_windows: list[LeftWindow] = field(default_factory=list)
-
-    @classmethod
-    def of(cls, told: dict[str, Any]) -> "Totals":
-        """The totals of a state."""
-        out = cls(**told)
-        out.read, out.written = GateCounts(**told["read"]), GateCounts(**told["written"])
-        out.left_windows = [LeftWindow(*it) for it in told["left_windows"]]
-        return out
-
-    def add(self, result: workers.Result) -> None:
-        """Counts a window that was written."""
-        self.windows += 1
-        if result.why:
-            self.left += 1
-            if len(self.left_windows) < TOLD:
-                lines = self.lines + 1, self.lines + result.lines
-                self.left_windows.append(LeftWindow(self.windows, *lines, result.why))
-        self.lines += result.lines
-        self.read = added(self.read, result.read)
-        self.written = added(self.written, result.after)
 
 
 def optimise_stream(
@@ -103,13 +55,15 @@ def optimise_stream(
     every: float = 10.0,
     program: Optional[Program] = None,
     executor: Optional[Executor] = None,
+    ahead: Optional[int] = None,
     progress: Optional[Callable[[Totals], None]] = None,
 ) -> Totals:
     """Optimises the text of the file `source`, or of standard input for `-`, into the file `target`.
 
     mode: one of `zxopt.windows.MODES`. gates: how many a window has at most. jobs: how many windows are optimised at a
-    time, by processes of this machine, or else by `executor`, which is called with functions of `zxopt.workers` on
-    bytes and words. begin, end: the slice of bytes that is optimised: from the first end of a statement behind the end
+    time, by processes of this machine. executor: another one, as in `zxopt.batch.optimise_files`, which gets bytes and
+    words. ahead: how many windows are handed out at most, and how many wait for those before them; else two more than
+    twice the jobs. begin, end: the slice of bytes that is optimised: from the first end of a statement behind the end
     of the line of `begin` on, up to that of `end`; the first slice writes the head, the others don't. timeout: a time
     limit for a window, in seconds; if it takes longer, `teleport` has as many again, and else it stays as it was read.
     anew: begins where it would go on. every: seconds between states. progress: is called when a state is taken.
@@ -124,28 +78,24 @@ def optimise_stream(
     """
     if mode not in windows.MODES:
         raise ValueError(f"{mode} is none of {', '.join(windows.MODES)}")
-    if jobs < 1 or gates < 1:
-        raise ValueError("the numbers of jobs and of gates are above 0")
-    named = os.fspath(program or find_program())
-    found = shutil.which(named)
-    if found is None:
-        raise FileNotFoundError(f"{named} is no program")
-    settings = {"mode": mode, "gates": gates, "from": begin, "until": end, "barriers": keep_barriers}
+    if jobs < 1 or gates < 1 or (ahead is not None and ahead < 1):
+        raise ValueError("the numbers of jobs, of gates and of windows ahead are above 0")
+    stamp = Stamp.of(program, executor is None)
     if source != "-" and os.path.exists(target) and os.path.samefile(source, target):
         raise ValueError(f"{target} is the file that is read")
+    settings = {"mode": mode, "gates": gates, "from": begin, "until": end, "barriers": keep_barriers}
     with slices.opened(source, begin, end) as text:
-        what = {"settings": settings, "source": text.identity, "program": [identity(found), VERSION]}
-        with Target(target, what, anew, text.is_read_once) as to, workers.pool(jobs, executor) as pool:
-            make = workers.Task("", "", (), mode, timeout, os.path.abspath(found), to.is_packed)
-            run = _Run(text, to, pool, make, gates, keep_barriers, 2 * jobs + 2)
-            run.every, run.progress = every, progress
-            try:
-                return run.done()
-            except CannotCut:
-                to.drop()
-                raise
-            except BrokenProcessPool as broken:
-                raise OSError(f"a worker ended: {broken}") from None
+        what = {"settings": settings, "source": text.identity, "program": [stamp.sha256, stamp.package]}
+        with Target(target, what, anew, text.is_read_once) as to:
+            with executors.dispatcher(executor, jobs, ahead or 2 * jobs + 2) as tasks:
+                make = workers.Task("", "", (), mode, timeout, to.is_packed)
+                run = _Run(text, to, tasks, stamp, make, gates, keep_barriers)
+                run.every, run.progress = every, progress
+                try:
+                    return run.done()
+                except CannotCut:
+                    to.drop()
+                    raise
 
 
 def limits(gates: int) -> Limits:
@@ -160,6 +110,13 @@ class _Lines:
         self.lines: list[str] = []
 
 
+class _Window(NamedTuple):
+    """A window that was closed, and who optimises it."""
+
+    window: workers.Task
+    task: executors.Task
+
+
 class _Saved(NamedTuple):
     """A state that was taken, and how many entries have to be written before it is kept."""
 
@@ -170,16 +127,23 @@ class _Saved(NamedTuple):
 
 class _Run:
     def __init__(
-        self, text: slices.Source, to: Target, pool: Executor, make: workers.Task, gates: int, barriers: bool, ahead: int
+        self,
+        text: slices.Source,
+        to: Target,
+        tasks: Dispatcher,
+        stamp: Stamp,
+        make: workers.Task,
+        gates: int,
+        barriers: bool,
     ) -> None:
-        self.text, self.to, self.pool, self.make, self.ahead = text, to, pool, make, ahead
+        self.text, self.to, self.tasks, self.stamp, self.make = text, to, tasks, stamp, make
         self.limits = limits(gates)
         self.reader = Reader(self.limits, self.emit, self.say, self.check, barriers)
         self.totals = Totals()
         self.every = 10.0
         self.progress: Optional[Callable[[Totals], None]] = None
         # what isn't written yet, in order; how many entries were made and written; bytes of lines that wait
-        self.under: deque[Union[_Lines, Future[workers.Result]]] = deque()
+        self.under: deque[Union[_Lines, _Window]] = deque()
         self.made = self.written = self.waiting = 0
         self.saved: Optional[_Saved] = None
         self.is_silent = False
@@ -220,19 +184,21 @@ class _Run:
     # -- what the reader gives ----------------------------------------------------------------------------------------
 
     def check(self, circuit: Any) -> None:
-        windows.check_head(circuit, None, self.make.program)
+        windows.check_head(circuit, None, self.stamp.program)
 
     def emit(self, nodes: list[Node[str]]) -> None:
         """Takes what was closed."""
         for it in bundles(nodes, self.limits):
             if isinstance(it, Window):
                 own = tuple(self.reader.circuit.shapes.own)
-                task = self.make._replace(lines="".join(it.gates), declarations=self.reader.declarations, own=own)
-                self.under.append(self.pool.submit(workers.work, task))
+                window = self.make._replace(lines="".join(it.gates), declarations=self.reader.declarations, own=own)
+                self.settle(self.tasks.ahead - 1)
+                task = self.tasks.submit(executors.work, self.stamp, workers.work, window)
+                self.under.append(_Window(window, task))
                 self.made += 1
             else:
                 self.say(it.what)
-            self.settle(self.ahead)
+                self.settle(self.tasks.ahead)
 
     def say(self, lines: str) -> None:
         """Takes lines that are written in turn."""
@@ -255,14 +221,15 @@ class _Run:
     def settle(self, most: int) -> None:
         """Writes what is done, in order, and waits while more than so much is under way."""
         under = self.under
+        self.tasks.poll()
         while under:
             first = under[0]
             if isinstance(first, _Lines):
                 lines = "".join(first.lines)
                 self.write_lines(lines)
                 self.waiting -= len(lines)
-            elif len(under) > most or self.waiting > WAITING or first.done():
-                result = first.result()
+            elif len(under) > most or self.waiting > WAITING or first.task.is_done:
+                result = self.result(first)
                 self.to.write(result.written)
                 self.totals.add(result)
             else:
@@ -270,6 +237,14 @@ class _Run:
             under.popleft()
             self.written += 1
             self.keep()
+
+    def result(self, window: _Window) -> workers.Result:
+        """Waits for what becomes of a window."""
+        try:
+            result: workers.Result = self.tasks.finish(window.task)
+        except executors.WorkerEnded as ended:
+            return workers.left(window.window, str(ended), self.stamp.program)
+        return result
 
     def write_lines(self, lines: str) -> None:
         data = lines.encode("latin-1")
@@ -323,7 +298,7 @@ def command_parser(command: str) -> argparse.ArgumentParser:
     ):
         mode.add_argument(f"--{name}", dest="mode", action="store_const", const=name, help=told)
     parser.set_defaults(mode="teleport")
-    arguments.takes_jobs(parser, "windows")
+    arguments.takes_executor(arguments.takes_jobs(parser, "windows"), "windows")
     arguments.takes_seconds(parser, "a time limit for a window; then teleport takes it, with the same limit")
     add("--gates", type=arguments.positive_int, default=10_000, metavar="N", help="gates of a window at most; else 10000")
     add("--barriers", action="store_true", help="keep barriers, and let no gate cross one")
@@ -355,30 +330,37 @@ def command(asked: argparse.Namespace) -> int:
         of = "" if size is None or asked.file.endswith(".gz") else f" of {size / 1e6:.1f}"
         print(f"{totals.bytes / 1e6:.1f}{of} MB, {_told(totals)}, {rate:.0f} gates a second", file=sys.stderr, flush=True)
 
-    totals = optimise_stream(
-        asked.file,
-        asked.to,
-        mode=asked.mode,
-        gates=asked.gates,
-        jobs=asked.jobs or _processors(),
-        begin=asked.begin,
-        end=asked.end,
-        keep_barriers=asked.barriers,
-        timeout=asked.seconds,
-        anew=asked.anew,
-        every=asked.every,
-        progress=progress,
-    )
+    with executors.asked_for(asked) as executor:
+        totals = optimise_stream(
+            asked.file,
+            asked.to,
+            mode=asked.mode,
+            gates=asked.gates,
+            jobs=asked.jobs or processors(),
+            begin=asked.begin,
+            end=asked.end,
+            keep_barriers=asked.barriers,
+            timeout=asked.seconds,
+            anew=asked.anew,
+            every=asked.every,
+            executor=executor,
+            ahead=asked.ahead if executor else None,
+            progress=progress,
+        )
+    _tell(totals, asked, time.monotonic() - began)
+    return 0
+
+
+def _tell(totals: Totals, asked: argparse.Namespace, seconds: float) -> None:
+    """Tells what was done, and what was left."""
     for it in totals.left_windows:
         where = f"window {it.window}, lines {it.first} to {it.last} of {asked.to}"
         print(f"zxopt stream: {where}: left as it was read: {it.why}", file=sys.stderr)
-    seconds = time.monotonic() - began
     if asked.counts:
         told = {**asdict(totals), "left_windows": [it._asdict() for it in totals.left_windows]}
         print(json.dumps({**told, "seconds": round(seconds, 2)}, indent=4))
     else:
         print(f"{_told(totals)}; {seconds:.2f} s")
-    return 0
 
 
 def _told(totals: Totals) -> str:
@@ -388,11 +370,3 @@ def _told(totals: Totals) -> str:
         f"{totals.windows} windows{left}, T {read.odd} -> {written.odd}, two-qubit {read.two_qubit} -> "
         f"{written.two_qubit}, gates {read.gates} -> {written.gates}"
     )
-
-
-def _processors() -> int:
-    """How many processors this process may use."""
-    try:
-        return len(os.sched_getaffinity(0))
-    except AttributeError:
-        return os.cpu_count() or 1

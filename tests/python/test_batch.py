@@ -38,6 +38,14 @@ class Planned(InRoom):
     def test_one_file_twice(self) -> None:
         self.assertEqual(self.targets("a/x.qasm", "b/../a/x.qasm"), ["x.qasm"])
 
+    def test_a_named_folder(self) -> None:
+        """Targets stand below it, whichever files it has; also where one of them is named besides."""
+        self.write("d/e/z.qasm", "")
+        self.assertEqual(self.targets("d"), ["e/z.qasm"])
+        self.assertEqual(self.targets("d", "d/e/z.qasm"), ["e/z.qasm"])
+        self.assertEqual(self.targets("d", "d/e"), ["e/z.qasm"])
+        self.assertEqual(self.targets("d", "b/notes.txt"), ["d/e/z.qasm", "b/notes.txt"])
+
     def test_folders(self) -> None:
         self.assertEqual(self.targets("b"), ["c/y.qasm", "x.qasm"])
         self.assertEqual(self.targets("."), ["a/x.qasm", "b/c/y.qasm", "b/x.qasm"])
@@ -58,6 +66,10 @@ class Planned(InRoom):
         os.symlink(self.room / "a", self.room / "link")
         with self.assertRaises(ValueError):
             plan([str(self.room / "a/x.qasm")], str(self.room / "link"))
+        (self.room / "out").mkdir()
+        os.symlink(self.room / "b", self.room / "out" / "b")
+        with self.assertRaises(ValueError):
+            plan([str(self.room / "a"), str(self.room / "b")], str(self.room / "out"))
 
 
 class Optimised(InRoom):
@@ -224,6 +236,20 @@ class Optimised(InRoom):
         self.assertEqual([outcome.job for outcome in outcomes], jobs)
         self.assertEqual([outcome.t for outcome in outcomes], [(2 * i + 2, 0) for i in range(12)])
 
+    def test_as_they_end(self) -> None:
+        """The first file ends last, when the others have ended."""
+        real, ended = absolute_program()["ZXOPT"], self.room / "ended"
+        wait = f'[[ $text != *"q[1];"* ]] || until [ -e "{ended}" ]; do sleep 0.02; done'
+        slow = self.stand_in(f'text=$(cat); {wait}; exec "{real}" "$@" <<<"$text"')
+        jobs = [self.job(f"{HEAD}qreg q[{i + 1}]; t q; t q;", f"{i}.qasm") for i in range(4)]
+        found = []
+        for outcome in optimise_files(jobs, Settings(best=False, program=slow), processes=2, ordered=False):
+            found.append(outcome.job)
+            if len(found) == 3:
+                ended.touch()
+        self.assertEqual(sorted(found[:3], key=jobs.index), jobs[1:])
+        self.assertEqual(found[3:], jobs[:1])
+
     def test_broken_off(self) -> None:
         jobs = [self.job(HEAD, f"{i}.qasm") for i in range(200)]
         slow = self.stand_in("sleep 0.2; exit 5")
@@ -248,15 +274,20 @@ class Command(InRoom):
         made = {name: zxopt.counts(example(f"{name}.qasm")).written.two_qubit for name in ("tof_3", "tof_4")}
         self.assertLess(made["tof_3"], 18)
         self.assertLess(made["tof_4"], 30)
+        *lines, last = [re.sub(r"\d+\.\d\d s", "0 s", line) for line in ran.stdout.splitlines()]
+        # in the order in which files end
         self.assertEqual(
-            [re.sub(r"\d+\.\d\d s", "0 s", line) for line in ran.stdout.splitlines()],
+            sorted(lines),
             [
                 f"{room}/more/two_t.qasm: T 35 -> 23, two-qubit 30 -> {made['tof_4']}, 0 s, same",
                 f"{room}/tof_3.qasm: T 21 -> 15, two-qubit 18 -> {made['tof_3']}, 0 s, same",
                 f"{room}/two_t.qasm: T 2 -> 0, two-qubit 0 -> 0, 0 s, same",
-                f"4 files: 3 written, 1 refused, 0 failed; T 58 -> 38, two-qubit 48 -> {sum(made.values())}; "
-                "3 same, 0 not shown, 0 not checked; 0 s",
             ],
+        )
+        self.assertEqual(
+            last,
+            f"4 files: 3 written, 1 refused, 0 failed; T 58 -> 38, two-qubit 48 -> {sum(made.values())}; "
+            "3 same, 0 not shown, 0 not checked; 0 s",
         )
         self.assertTrue(ran.stderr.startswith(f"{room}/refused.qasm:5:1: reset, if, opaque, "))
         self.assertEqual(len(ran.stderr.splitlines()), 1)

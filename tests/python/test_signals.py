@@ -16,7 +16,7 @@ from typing import Callable, List, Set
 from support import HEAD, PYTHON, InRoom, absolute_program, with_default_signals
 
 import zxopt
-from zxopt import processes
+from zxopt import manifest, processes
 
 # A time that is never met, but that a fault must not make us wait for.
 LONG = 300
@@ -101,7 +101,7 @@ class Ended(InRoom):
             self.ends(self.begun(words, before + 3), number)
             self.assertEqual(len(self.started()), before + 3)
             self.assertEqual(list(self.room.rglob("*.new")), [])
-            self.assertFalse((self.room / "out").exists())
+            self.assertEqual(os.listdir(self.room / "out"), [manifest.NAME])
             self.assertEqual((self.room / "out.csv").read_text().count("\n"), 1)
 
     def test_files_that_were_done(self) -> None:
@@ -121,7 +121,7 @@ class Ended(InRoom):
         self.assertEqual((len(rows), {row.count(",") for row in rows}), (3, {rows[0].count(",")}))
         for name in ("0.qasm", "1.qasm"):
             self.assertEqual((self.room / "out" / name).read_text(), zxopt.optimise(self.room / "in" / name))
-        self.assertEqual(sorted(os.listdir(self.room / "out")), ["0.qasm", "1.qasm"])
+        self.assertEqual(sorted(os.listdir(self.room / "out")), [manifest.NAME, "0.qasm", "1.qasm"])
 
     def test_parts(self) -> None:
         body = "".join(f"t q[0]; h q[0]; t q[0]; rx(0.{at}1) q[0];\n" for at in range(9))

@@ -158,7 +158,7 @@ class Texts(InFiles):
     def test_a_line_of_20_megabytes(self) -> None:
         gates = "x q[0];x q[1];" * 10
         text = HEAD + "qreg q[2];" + gates * (20_000_000 // len(gates))
-        with mock.patch("zxopt.workers.work", lambda task: workers.Result(b"", 0, windows.NO_GATES, windows.NO_GATES, "")):
+        with mock.patch("zxopt.workers.work", lambda task, program: workers.Result(b"", 0, windows.NO_GATES, windows.NO_GATES, "")):
             _, totals = self.streamed(text, gates=100_000)
         self.assertEqual(totals.windows, -(-20_000_000 // len(gates) * 20 // 100_000))
         comment = HEAD + "qreg q[2]; t q[0]; // " + "x q[0]; {" * 2_000_000 + "\nt q[0];"
@@ -217,7 +217,7 @@ class Texts(InFiles):
             delay = random.Random(seed)
             work = workers.work
             with ThreadPoolExecutor(4) as pool, mock.patch(
-                "zxopt.workers.work", lambda task: (time.sleep(delay.random() / 100), work(task))[1]
+                "zxopt.workers.work", lambda task, program: (time.sleep(delay.random() / 100), work(task, program))[1]
             ):
                 self.assertEqual(self.streamed(text, limits, executor=pool, jobs=4), (written, totals))
 
