@@ -1,7 +1,7 @@
 # Installs, tries and packs the program. `make PROGRAM=FILE ..` takes another program than the one that ./zxopt runs.
 #
 #   make install [PREFIX=/usr/local] [DESTDIR=]     the program, manual pages, `where` as zxopt-where, documents, examples,
-#                                                   and the library for C, which ldconfig finds then; without root's
+#                                                   the page, and the library for C, which ldconfig finds then; without root's
 #                                                   rights PREFIX=$HOME/.local
 #   make install-program, install-library           the program with all of the above but the library; the library alone
 #   make install-development                        what is needed to compile with it: zxopt.h, zxopt.pc, libzxopt.so, and
@@ -41,7 +41,7 @@ all:
 install: install-program install-library install-development
 
 install-program:
-	install -d "$(bin)" "$(lib)" "$(man)" "$(doc)/docs" "$(doc)/examples" "$(doc)/python" "$(doc)/benchmarks"
+	install -d "$(bin)" "$(lib)" "$(man)" "$(doc)/dist" "$(doc)/docs" "$(doc)/examples" "$(doc)/python" "$(doc)/benchmarks"
 	$(find_program); install -m 755 "$$program" "$(lib)/zxopt"
 	install -m 755 where "$(lib)/where"
 	install -m 644 python/zxopt/faults.tsv "$(lib)"
@@ -49,7 +49,8 @@ install-program:
 	ln -sf ../lib/zxopt/where "$(bin)/zxopt-where"
 	install -m 644 docs/zxopt.1 docs/zxopt-where.1 "$(man)"
 	install -m 644 README.md CHANGELOG.md CONTRIBUTING.md LICENSE "$(doc)"
-	install -m 644 docs/*.md docs/*.svg "$(doc)/docs"
+	install -m 644 dist/zxopt.html "$(doc)/dist"
+	install -m 644 docs/*.md docs/*.svg docs/*.png "$(doc)/docs"
 	install -m 644 python/README.md "$(doc)/python"
 	install -m 644 benchmarks/README.md "$(doc)/benchmarks"
 	install -m 644 examples/*.qasm examples/*.zx? "$(doc)/examples"
