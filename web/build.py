@@ -13,6 +13,7 @@ toolchain is needed: the module comes out of a page.
 from __future__ import annotations
 
 import argparse
+import fcntl
 import hashlib
 import os
 import shlex
@@ -55,20 +56,31 @@ def toolchain() -> Optional[Path]:
 
 
 def bitcode(kit: Path, room: Path) -> Path:
-    """The bitcode of the static library: checked anew over the proved libraries below it, and taken from its build."""
+    """The bitcode of the static library, taken from its build: of what tools/library checked, while that fits, and else
+    of a check over the proved libraries below it."""
     words = ["--crate-name", CRATE, "src/lib.rt", *_libraries(kit), "--crate-type", "staticlib", "--cpu", "x86-64"]
     words += ["--antt-project", str(kit / "rattle/logic/antt-project.json"), "--links", f"{CRATE}="]
-    checked, kept = room / "checked", room / "kept.bc"
+    crate, kept = TOP / "crates" / CRATE, room / "kept.bc"
+    checked = crate / "out/checked"
     checking = [str(kit / "bin/rattle"), "check", *words, "--logic-built", str(kit / "logic_built"), "-o", str(checked)]
-    _run(checking, folder=TOP / "crates" / CRATE)
     building = [str(kit / "bin/rattle"), "build", *words, "--crate-checked", str(checked), "--backend", "llvm"]
     building += ["--toolchain", str(_tools(kit, room, kept)), "-o", str(room / "none.a")]
-    ran = subprocess.run(
-        building, cwd=TOP / "crates" / CRATE, stdout=subprocess.PIPE, stderr=subprocess.STDOUT, text=True
-    )
+    checked.parent.mkdir(exist_ok=True)
+    with open(f"{checked}.lock", "w") as lock:
+        fcntl.flock(lock, fcntl.LOCK_EX)
+        said = _output(building, crate) if checked.is_dir() else ""
+        if not kept.exists():
+            shutil.rmtree(checked, ignore_errors=True)
+            _run(checking, folder=crate)
+            said = _output(building, crate)
     if not kept.exists():
-        raise SystemExit(f"web/build.py: no bitcode of {CRATE}:\n{ran.stdout}")
+        raise SystemExit(f"web/build.py: no bitcode of {CRATE}:\n{said}")
     return kept
+
+
+def _output(words: Sequence[str], folder: Path) -> str:
+    """What a command says, whatever its status."""
+    return subprocess.run(words, cwd=folder, stdout=subprocess.PIPE, stderr=subprocess.STDOUT, text=True).stdout
 
 
 def _libraries(kit: Path) -> List[str]:
