@@ -500,7 +500,7 @@ class Processes(InRoom):
     def test_signals(self) -> None:
         self.write("a.qasm", self.text())
         program = self.env["ZXOPT"]
-        self.env["ZXOPT"] = self.stand_in(f'[ "$1" = teleport ] && {{ touch "{self.room}/begun.$$"; sleep 60; }}; exec {program} "$@"')
+        self.env["ZXOPT"] = self.stand_in(f'[ "$1" = teleport ] && {{ touch "{self.room}/begun.$$"; sleep 60; }}; exec "{program}" "$@"')
         for number, status in ((signal.SIGTERM, 143), (signal.SIGINT, 130), (signal.SIGKILL, -signal.SIGKILL)):
             with self.subTest(number=number):
                 run = self.begin("a.qasm", "--to", "to", "--jobs", "2")
