@@ -385,7 +385,7 @@ class States(InFiles):
             (source, {"gates": 10, "mode": "plain"}, "other settings"),
             (source, {"gates": 10, "begin": 0}, "other settings"),
             (other, {"gates": 10}, "another text"),
-            (source, {"gates": 10, "program": self.stand_in(f"exec {absolute_program()['ZXOPT']} \"$@\"")}, "another program"),
+            (source, {"gates": 10, "program": self.stand_in(f"exec '{absolute_program()['ZXOPT']}' \"$@\"")}, "another program"),
         ):
             with self.subTest(said=said, more=more), self.assertRaisesRegex(ValueError, said):
                 optimise_stream(str(name), target, executor=Here(), **more)  # type: ignore[arg-type]
