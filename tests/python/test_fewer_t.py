@@ -1,4 +1,4 @@
-"""`opt --best` writes fewer T gates than gadget fusion leaves, and the same map, which a simulator of the tests' own shows."""
+"""`opt --best` writes fewer T gates than gadget fusion leaves, and the same map, as a simulator of the tests' own shows."""
 from __future__ import annotations
 
 import sys
