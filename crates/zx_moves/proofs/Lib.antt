@@ -7,3 +7,5 @@ pub mod MoveRuns
 pub mod MoveCounts
 pub mod MoveEnds
 pub mod MoveSteps
+pub mod MovesMade
+pub mod Scaling

@@ -2,4 +2,5 @@ pub mod Steps
 pub mod Search
 pub mod Moving
 pub mod Traces
+pub mod Scaling
 pub mod Internal

@@ -11,7 +11,7 @@
 //!   calls; and those that were done.
 //! - `moves`: the moves, their kinds and the order of kinds. `search` finds the next one in a graph, and that of
 //!   a kind at a vertex. Of pivots it takes the one that costs least, and at first those within a part of the
-//!   circuit, by `levels`. `planning` lists the steps of a move.
+//!   circuit, by `levels`. `planning` lists the steps of a move; `made` tells what moves came to.
 //! - `simplification_laws`: the laws of moves.
 //!
 //! ```rust
@@ -22,6 +22,7 @@
 #![tactic(auto)]
 
 mod levels;
+mod made;
 mod moves;
 mod planning;
 mod search;
@@ -30,6 +31,7 @@ mod step;
 mod trace;
 
 pub use levels::{LEVELS, level_between, level_in, levels_of};
+pub use made::Made;
 pub use moves::{KINDS, Kind, Move};
 pub use planning::add_steps;
 pub use search::{is_settled, may_begin, move_at, next_move, pivot_cost};

@@ -20,7 +20,7 @@ use Rattle.zx_reduce.proofs.DemandMoves.{within_now, within_after, after_move}
 use Rattle.zx_reduce.proofs.RoomLemmas.{begins_with_places, demand_within, steps_within}
 use Rattle.zx_moves.proofs.MoveCounts.{most_moves-move}
 use Rattle.zx_moves.proofs.MoveSteps.{move_made}
-use Rattle.zx_reduce.proofs.MovesMade.{IsUnderWay, next_done}
+use Rattle.zx_moves.proofs.MovesMade.{IsUnderWay, next_done}
 
 -- ---- steps
 -- of these steps so many are done, from g to k, and the others can be done

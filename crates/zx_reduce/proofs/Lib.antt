@@ -8,5 +8,5 @@ mod RoomLemmas
 mod RoomKept
 mod InPlace
 mod StepsNeeded
-pub mod Scaling
+mod Scaling
 pub mod GatesOrdered

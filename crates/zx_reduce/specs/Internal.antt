@@ -1,6 +1,4 @@
 -- What only private contracts and proofs cite: nobody has to read it to trust a promise of this crate.
-pub mod Planning
 pub mod Guiding
 pub mod Rooms
-pub mod Scaling
 pub mod Ranked

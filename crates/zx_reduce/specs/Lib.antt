@@ -3,4 +3,3 @@ pub mod Reducing
 pub mod Rooms
 pub mod Ordering
 pub mod Internal
-pub mod Scaling

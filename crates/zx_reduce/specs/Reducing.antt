@@ -11,7 +11,7 @@ use Rattle.zx_calculus.specs.Reduced.{IsReduced}
 use Rattle.zx_calculus.specs.Steps.{IsRun}
 use Rattle.gflow_laws.specs.Flow.{Correction, IsFlow}
 use Rattle.zx_moves.specs.Moving.{AreMoves}
-use Rattle.zx_reduce.specs.Scaling.{most_exponent}
+use Rattle.zx_moves.specs.Scaling.{most_exponent}
 use Rattle.zx_moves.specs.Steps.{step_named}
 use Rattle.zx_moves.specs.declared.step.Step.{Step}
 

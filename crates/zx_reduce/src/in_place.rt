@@ -9,18 +9,16 @@ ghost use Rattle.move_laws.specs.Demand.{demand};
 ghost use Rattle.zx_reduce.specs.Rooms.{HasRoom, KeepPlaces, KeepRoom};
 ghost use Rattle.zx_moves.specs.Search.{AppliesAt, IsOfFirstKind};
 ghost use Rattle.zx_moves.specs.Steps.{step_named};
-ghost use Rattle.zx_reduce.specs.Internal.Planning.{GainsMove};
-ghost use Rattle.zx_moves.specs.Internal.Planning.{AreAllowed};
+ghost use Rattle.zx_moves.specs.Internal.Planning.{AreAllowed, GainsMove};
 ghost use Rattle.zx_reduce.specs.Internal.Rooms.{HavePlaces, StaysWithin};
-ghost use Rattle.zx_reduce.specs.Internal.Scaling.{Scales, IsMade};
+ghost use Rattle.zx_moves.specs.Internal.Scaling.{Scales, IsMade};
 
 use crate::applying::rewrite;
-use crate::reduction::Made;
 use open_graph::OpenGraph;
 use std::alloc::AllocError;
 use zx_flow::Flow;
 use zx_model::Scalar;
-use zx_moves::{Move, Step, Trace, add_steps, next_move};
+use zx_moves::{Made, Move, Step, Trace, add_steps, next_move};
 
 // Does moves until none applies. Where memory runs out, a part of a move is done; where there is the memory that
 // simplification needs, none is taken.

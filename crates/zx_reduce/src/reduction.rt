@@ -10,9 +10,9 @@ ghost use Rattle.zx_calculus.specs.StepScalars.{KeepsMap, IsSumTimes};
 ghost use Rattle.zx_moves.specs.Moving.{GainsMoves, GainsRun, most_moves};
 ghost use Rattle.zx_reduce.specs.Reducing.{Reduces};
 ghost use Rattle.zx_reduce.specs.Rooms.{HasRoom, KeepRoom};
-ghost use Rattle.zx_reduce.specs.Scaling.{most_exponent};
+ghost use Rattle.zx_moves.specs.Scaling.{most_exponent};
 ghost use Rattle.zx_reduce.specs.Internal.Guiding.{IsGuided, HasFlowIn};
-ghost use Rattle.zx_reduce.specs.Internal.Scaling.{Scales, IsMade};
+ghost use Rattle.zx_moves.specs.Internal.Scaling.{Scales, IsMade};
 
 use crate::in_place::reduce_in_place;
 use crate::ranks::Ranks;
@@ -25,7 +25,7 @@ use std::mem;
 use std::sync::ledger::Ledger;
 use zx_flow::Flow;
 use zx_model::Scalar;
-use zx_moves::Trace;
+use zx_moves::{Made, Trace};
 
 /// A graph that was simplified, with its flow and the steps that led to it.
 #[derive(Drop)]
@@ -38,13 +38,6 @@ pub struct Reduction {
     pub trace: Trace,
     /// The sum before is so many times the sum after.
     pub scalar: Scalar,
-}
-
-// What moves came to: the sum before is so many times the sum after, and so many moves were made.
-#[derive(Drop)]
-pub(crate) struct Made {
-    pub(crate) scalar: Scalar,
-    pub(crate) moves: u64,
 }
 
 /// Does moves on a graph with its flow until none applies, each time one of the first kind that

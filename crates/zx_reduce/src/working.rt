@@ -8,8 +8,8 @@ ghost use Rattle.gflow_laws.specs.Flow.{IsFlow};
 ghost use Rattle.zx_moves.specs.Steps.{step_named};
 ghost use Rattle.zx_moves.specs.Search.{AppliesAt, IsOfFirstKind};
 ghost use Rattle.zx_reduce.specs.Internal.Guiding.{IsGuided, IsGuidedBut, HasFlowIn};
-ghost use Rattle.zx_reduce.specs.Internal.Planning.{GainsMove};
-ghost use Rattle.zx_reduce.specs.Internal.Scaling.{Scales};
+ghost use Rattle.zx_moves.specs.Internal.Planning.{GainsMove};
+ghost use Rattle.zx_moves.specs.Internal.Scaling.{Scales};
 
 use crate::candidates::Candidates;
 use crate::in_graph::{add_vertices_near, rewrite};

@@ -10,7 +10,7 @@ use Rattle.zx_calculus.specs.StepScalars.{IsSumTimes}
 use Rattle.zx_moves.specs.declared.step.Step as named
 use Rattle.zx_moves.specs.Steps.{step_named}
 use Rattle.open_graph.specs.OpenGraph.{most_vertices_in_memory}
-use Rattle.zx_reduce.specs.Internal.Scaling.{Scales}
+use Rattle.zx_moves.specs.Internal.Scaling.{Scales}
 use Rattle.zx_teleport.specs.Scalars.{most_teleported_root2}
 use Rattle.zx_teleport.specs.Internal.Scaling.{most_steps, HaveScalar}
 

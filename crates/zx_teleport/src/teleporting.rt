@@ -16,7 +16,7 @@ ghost use Rattle.teleport_circuits.specs.Teleporting.{teleported_gates};
 ghost use Rattle.zx_teleport.specs.Together.{IsPutTogether, IsTeleported};
 ghost use Rattle.zx_reduce.specs.Reducing.{Reduces};
 ghost use Rattle.open_graph.specs.OpenGraph.{most_vertices_in_memory};
-ghost use Rattle.zx_reduce.specs.Scaling.{most_exponent};
+ghost use Rattle.zx_moves.specs.Scaling.{most_exponent};
 ghost use Rattle.zx_moves.specs.Steps.{step_named};
 ghost use Rattle.zx_teleport.specs.Scalars.{most_teleported_root2};
 ghost use Rattle.zx_teleport.specs.Internal.Noting.{MayRun};

@@ -4,14 +4,14 @@ use Rattle.std.proofs.lemmas.Bool.{false≢true}
 use Rattle.std.proofs.lemmas.List.{take_all}
 use Rattle.zx_calculus.specs.Steps.{IsRun}
 use Rattle.zx_moves.specs.Steps.{step_named}
-use Rattle.zx_reduce.proofs.MovesMade.{begun, next_allowed}
+use Rattle.zx_moves.proofs.MovesMade.{begun, next_allowed}
 use Rattle.zx_reduce.proofs.RoomLemmas.{room_of_step, places_after}
 use Rattle.zx_reduce.proofs.RoomKept.{places_same, places_then, step_keeps_places}
 use Rattle.zx_reduce.proofs.InPlace.{one_done, still_few}
 use Rattle.zx_model.specs.Scalar.{IsWithin}
 use Rattle.zx_calculus.proofs.StepScalars.{step_within}
-use Rattle.zx_reduce.specs.Internal.Scaling.{Scales}
-use Rattle.zx_reduce.proofs.Scaling.{scales_none, scales_more, scales_next, scales_step, few_fit, twelve}
+use Rattle.zx_moves.specs.Internal.Scaling.{Scales}
+use Rattle.zx_moves.proofs.Scaling.{scales_none, scales_more, scales_next, scales_step, few_fit, twelve}
 use Rattle.zx_reduce.proofs.in_place.do_steps.Goals as goal
 
 pub loop-step-init : goal.loop-step-init

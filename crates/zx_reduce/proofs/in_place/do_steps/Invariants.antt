@@ -6,7 +6,7 @@ use Rattle.gflow_laws.specs.Flow.{IsFlow}
 use Rattle.zx_moves.specs.Steps.{step_named}
 use Rattle.zx_reduce.specs.Rooms.{KeepPlaces}
 use Rattle.zx_reduce.specs.Internal.Rooms.{HavePlaces, StaysWithin}
-use Rattle.zx_reduce.specs.Internal.Scaling.{Scales}
+use Rattle.zx_moves.specs.Internal.Scaling.{Scales}
 use Rattle.zx_reduce.proofs.InPlace.{AreUnderWay}
 use Rattle.zx_reduce.proofs.in_place.do_steps.Given as goal
 

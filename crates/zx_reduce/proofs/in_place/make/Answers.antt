@@ -10,7 +10,7 @@ use Rattle.zx_reduce.proofs.DemandMoves.{move_within}
 use Rattle.zx_moves.proofs.MoveSteps.{steps_allowed}
 use Rattle.zx_reduce.proofs.Ranking.{on_any}
 use Rattle.zx_reduce.proofs.InPlace.{planned_steps, trace_with}
-use Rattle.zx_reduce.proofs.Scaling.{steps_six}
+use Rattle.zx_moves.proofs.Scaling.{steps_six}
 use Rattle.zx_reduce.proofs.in_place.make.Goals as goal
 
 pub steps_from-requires : goal.steps_from-requires

@@ -3,10 +3,10 @@ use Rattle.std.proofs.Common.{refl, subst, IsOk, arith}
 use Rattle.std.proofs.lemmas.Bool.{false≢true}
 use Rattle.zx_moves.proofs.MoveCounts.{most_moves-move}
 use Rattle.zx_moves.proofs.MoveEnds.{stuck-reduced}
-use Rattle.zx_reduce.proofs.MovesMade.{gains_none, gains_more}
+use Rattle.zx_moves.proofs.MovesMade.{gains_none, gains_more}
 use Rattle.zx_reduce.proofs.RoomKept.{room_same, room_then}
 use Rattle.zx_reduce.proofs.InPlace.{room_begins, six_left, room_stays}
-use Rattle.zx_reduce.proofs.Scaling.{few_made, scales_begin, one_more_fits, one_more_scales, all_scale}
+use Rattle.zx_moves.proofs.Scaling.{few_made, scales_begin, one_more_fits, one_more_scales, all_scale}
 use Rattle.zx_reduce.proofs.in_place.reduce_in_place.Goals as goal
 
 pub loop-found-init : goal.loop-found-init

@@ -4,7 +4,7 @@ use Rattle.zx_calculus.specs.Graph.{WellFormed}
 use Rattle.gflow_laws.specs.Flow.{IsFlow}
 use Rattle.zx_moves.specs.Moving.{most_moves, GainsMoves}
 use Rattle.zx_reduce.specs.Rooms.{HasRoom, KeepRoom}
-use Rattle.zx_reduce.specs.Internal.Scaling.{Scales}
+use Rattle.zx_moves.specs.Internal.Scaling.{Scales}
 use Rattle.zx_reduce.proofs.InPlace.{IsRoomLeft}
 use Rattle.zx_reduce.proofs.in_place.reduce_in_place.Given as goal
 

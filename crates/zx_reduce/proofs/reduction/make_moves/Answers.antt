@@ -3,8 +3,9 @@ use Rattle.std.proofs.Common.{refl, arith}
 use Rattle.zx_reduce.proofs.Guided.{is_none}
 use Rattle.zx_moves.proofs.MoveCounts.{most_moves-move}
 use Rattle.zx_moves.proofs.MoveEnds.{stuck-reduced}
-use Rattle.zx_reduce.proofs.MovesMade.{none_made, gains_more, still_guided}
-use Rattle.zx_reduce.proofs.Scaling.{few_made, scales_begin, one_more_fits, one_more_scales, all_scale}
+use Rattle.zx_moves.proofs.MovesMade.{gains_more}
+use Rattle.zx_reduce.proofs.MovesMade.{none_made, still_guided}
+use Rattle.zx_moves.proofs.Scaling.{few_made, scales_begin, one_more_fits, one_more_scales, all_scale}
 use Rattle.zx_reduce.proofs.reduction.make_moves.Goals as goal
 
 pub loop-found-init : goal.loop-found-init

@@ -1,7 +1,7 @@
 -- So many moves are made, by which the sum changed by so much, and each leaves fewer.
 use Rattle.std.proofs.Common.{◌*◌, ◌-◌, ◌≤◌, length}
 use Rattle.zx_moves.specs.Moving.{most_moves}
-use Rattle.zx_reduce.specs.Internal.Scaling.{Scales}
+use Rattle.zx_moves.specs.Internal.Scaling.{Scales}
 use Rattle.zx_reduce.proofs.MovesMade.{AreMade}
 use Rattle.zx_reduce.proofs.reduction.make_moves.Given as goal
 

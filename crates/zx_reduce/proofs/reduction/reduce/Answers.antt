@@ -1,7 +1,7 @@
 -- What the moves come to, which are counted once all of them are made.
 use Rattle.std.proofs.Common.{subst, IsOk, arith}
 use Rattle.std.proofs.lemmas.Bool.{false≢true}
-use Rattle.zx_reduce.proofs.MovesMade.{counted_later, gained_run, gained_few_moves, gained_few_steps, gained_ends, gained_keeps}
+use Rattle.zx_moves.proofs.MovesMade.{counted_later, gained_run, gained_few_moves, gained_few_steps, gained_ends, gained_keeps}
 use Rattle.zx_reduce.proofs.reduction.reduce.Goals as goal
 
 pub returns-clause-map : goal.returns-clause-map

@@ -3,9 +3,9 @@ use Rattle.std.proofs.Common.{sym, subst, ◌∙◌}
 use Rattle.zx_calculus.specs.Graph.{Graph}
 use Rattle.zx_calculus.specs.Reduced.{IsReduced}
 use Rattle.gflow_laws.specs.Flow.{IsFlow}
-use Rattle.zx_reduce.specs.Scaling.{most_exponent}
-use Rattle.zx_reduce.specs.Internal.Scaling.{Scales}
-use Rattle.zx_reduce.proofs.MovesMade.{from_copies}
+use Rattle.zx_moves.specs.Scaling.{most_exponent}
+use Rattle.zx_moves.specs.Internal.Scaling.{Scales}
+use Rattle.zx_moves.proofs.MovesMade.{from_copies}
 use Rattle.zx_reduce.proofs.RoomKept.{room_same}
 use Rattle.zx_reduce.proofs.reduction.reduce_in_copies.Goals as goal
 

@@ -1,6 +1,6 @@
 -- The moves that the empty trace gained are those from the graph at the beginning.
 use Rattle.std.proofs.Common.{refl}
-use Rattle.zx_reduce.proofs.MovesMade.{from_copies}
+use Rattle.zx_moves.proofs.MovesMade.{from_copies}
 use Rattle.zx_reduce.proofs.Scaling.{all_reduced}
 use Rattle.zx_reduce.proofs.reduction.reduce_working.Goals as goal
 

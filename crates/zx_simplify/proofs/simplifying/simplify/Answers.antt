@@ -11,7 +11,7 @@ use Rattle.zx_gates.specs.Passes.{Implements}
 use Rattle.zx_gates.proofs.Passing.{implements_more, implements_scaled, product_fits}
 use Rattle.zx_extract.proofs.SimplifiedLemmas.{within_bound}
 use Rattle.open_graph.specs.OpenGraph.{most_vertices_in_memory}
-use Rattle.zx_reduce.specs.Scaling.{most_exponent}
+use Rattle.zx_moves.specs.Scaling.{most_exponent}
 use Rattle.zx_simplify.specs.Scaling.{most_simplified_root2}
 use Rattle.zx_simplify.proofs.simplifying.simplify.Goals as goal
 

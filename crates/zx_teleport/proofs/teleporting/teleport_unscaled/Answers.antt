@@ -5,7 +5,7 @@ use Rattle.zx_calculus.specs.Graph.{Graph}
 use Rattle.zx_calculus.specs.Steps.{IsRun}
 use Rattle.zx_calculus.specs.StepScalars.{IsSumTimes}
 use Rattle.open_graph.specs.OpenGraph.{most_vertices_in_memory}
-use Rattle.zx_reduce.specs.Scaling.{most_exponent}
+use Rattle.zx_moves.specs.Scaling.{most_exponent}
 use Rattle.zx_moves.specs.Steps.{step_named}
 use Rattle.zx_moves.specs.declared.step.Step.{Step}
 use Rattle.zx_teleport.specs.Together.{IsPutTogether}

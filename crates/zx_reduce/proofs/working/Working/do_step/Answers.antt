@@ -3,7 +3,7 @@ use Rattle.std.proofs.Common.{sym, subst, List, ℕ}
 use Rattle.zx_moves.specs.Steps.{step_named}
 use Rattle.zx_reduce.specs.Internal.Guiding.{HasCandidatesBut}
 use Rattle.zx_reduce.proofs.Guided.{candidates_after}
-use Rattle.zx_reduce.proofs.Scaling.{scales_step}
+use Rattle.zx_moves.proofs.Scaling.{scales_step}
 use Rattle.zx_reduce.proofs.working.Working.do_step.Goals as goal
 
 pub returns-clause-guided : goal.returns-clause-guided

@@ -7,9 +7,9 @@ use Rattle.zx_moves.specs.Moving.{steps_of}
 use Rattle.zx_moves.specs.Internal.Planning.{AreAllowed}
 use Rattle.zx_reduce.proofs.Guided.{candidates_all, candidates_but}
 use Rattle.zx_moves.proofs.MoveSteps.{steps_allowed}
-use Rattle.zx_reduce.proofs.MovesMade.{begun, next_allowed, next_done, all_done}
-use Rattle.zx_reduce.specs.Internal.Scaling.{Scales}
-use Rattle.zx_reduce.proofs.Scaling.{scales_none, scales_more, scales_next, few_fit, steps_six, twelve}
+use Rattle.zx_moves.proofs.MovesMade.{begun, next_allowed, next_done, all_done}
+use Rattle.zx_moves.specs.Internal.Scaling.{Scales}
+use Rattle.zx_moves.proofs.Scaling.{scales_none, scales_more, scales_next, few_fit, steps_six, twelve}
 use Rattle.zx_reduce.proofs.working.Working.make.Goals as goal
 
 pub loop-step-init : goal.loop-step-init

@@ -3,8 +3,8 @@ use Rattle.std.proofs.Common.{◌≡◌, ◌*◌, map}
 use Rattle.zx_moves.specs.Steps.{step_named}
 use Rattle.zx_moves.specs.Moving.{steps_of}
 use Rattle.zx_reduce.specs.Internal.Guiding.{IsGuidedBut}
-use Rattle.zx_reduce.specs.Internal.Scaling.{Scales}
-use Rattle.zx_reduce.proofs.MovesMade.{IsUnderWay}
+use Rattle.zx_moves.specs.Internal.Scaling.{Scales}
+use Rattle.zx_moves.proofs.MovesMade.{IsUnderWay}
 use Rattle.zx_reduce.proofs.working.Working.make.Given as goal
 
 abbrev pub invariant-loop-step : goal.invariant-loop-step

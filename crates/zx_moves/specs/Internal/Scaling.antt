@@ -7,8 +7,8 @@ use Rattle.zx_calculus.specs.Reduced.{IsReduced}
 use Rattle.zx_calculus.specs.StepScalars.{IsSumTimes}
 use Rattle.gflow_laws.specs.Flow.{Correction, IsFlow}
 use Rattle.zx_moves.specs.Moving.{GainsMoves}
-use Rattle.zx_reduce.specs.Scaling.{most_exponent}
-use Rattle.zx_reduce.specs.declared.reduction.Made.{Made}
+use Rattle.zx_moves.specs.Scaling.{most_exponent}
+use Rattle.zx_moves.specs.declared.made.Made.{Made}
 use Rattle.zx_moves.specs.declared.step.Step.{Step}
 
 -- the sum of g is s times that of h, with as many ends, and the exponent of the root of two in s is at most n
