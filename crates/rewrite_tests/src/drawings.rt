@@ -5,6 +5,8 @@ ghost use Rattle.zx_model.specs.Bits.{member};
 ghost use Rattle.gflow_laws.specs.Flow.{IsFlow};
 
 use flow_find::{Found, find};
+use flow_rewrites::apply;
+use graph_rewrites::Step;
 use open_graph::{End, OpenGraph, Plane, VertexId};
 use std::alloc::{AllocError, Global};
 use std::mem;
@@ -12,7 +14,6 @@ use std::process::Abort;
 use std::test::Fail;
 use zx_flow::{Flow, FlowTable};
 use zx_model::Sixteenth;
-use zx_reduce::{Step, apply};
 
 pub fn id(number: usize) -> VertexId {
     VertexId::new(number)

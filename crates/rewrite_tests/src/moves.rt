@@ -6,7 +6,7 @@ use std::alloc::Global;
 use std::process::Abort;
 use std::test::Fail;
 use zx_model::Sixteenth;
-use zx_reduce::{KINDS, Move, next_move};
+use zx_moves::{KINDS, Move, next_move};
 
 // What is done with a graph: vertices are added, joined and given inputs, and the next move is told.
 #[derive(Clone, Copy)]

@@ -4,6 +4,8 @@ ghost use Rattle.std.specs.Prelude.{◌≡◌, ◌<◌};
 ghost use Rattle.gflow_laws.specs.Flow.{IsFlow};
 
 use crate::drawings::{Start, draw, id, is_drawn, no_flow};
+use flow_rewrites::{Steps, reduce};
+use graph_rewrites::Step;
 use open_graph::OpenGraph;
 use std::alloc::{AllocError, Global};
 use std::marker::Brand;
@@ -12,7 +14,7 @@ use std::sync::ledger::{Blank, Ledger};
 use std::test::Fail;
 use zx_flow::Flow;
 use zx_model::{Scalar, Sixteenth};
-use zx_reduce::{Step, Steps, Trace, reduce};
+use zx_moves::Trace;
 
 fn reduce_counted<L: Ledger>(
     blank: Blank,

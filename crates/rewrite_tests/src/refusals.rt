@@ -1,12 +1,13 @@
 //! Steps that are refused on a path of three, drawn by hand.
 
 use crate::drawings::{Start, draw, id, is_drawn, is_text, no_flow};
+use flow_rewrites::{StepRefused, apply};
+use graph_rewrites::Step;
 use open_graph::OpenGraph;
 use std::alloc::Global;
 use std::process::Abort;
 use std::test::Fail;
 use zx_flow::Flow;
-use zx_reduce::{Step, StepRefused, apply};
 
 // A step on the path is refused, and the path stays as it was.
 fn refused(rt: &impl Abort, alloc: Global, step: Step) -> Result<(), Fail> {

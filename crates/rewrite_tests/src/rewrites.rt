@@ -1,13 +1,14 @@
 //! Rewrites of small graphs with their flows, drawn by hand.
 
 use crate::drawings::{Start, draw, id, is_drawn, no_flow, odd_phases};
+use flow_rewrites::apply;
+use graph_rewrites::Step;
 use open_graph::OpenGraph;
 use std::alloc::Global;
 use std::process::Abort;
 use std::test::Fail;
 use zx_flow::Flow;
 use zx_model::Sixteenth;
-use zx_reduce::{Step, apply};
 
 // Each step makes of the graph before it the graph that is drawn so.
 fn follows(

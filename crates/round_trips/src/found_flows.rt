@@ -6,13 +6,13 @@ use crate::teleported::{draw, drawn};
 use crate::trips::rewrite;
 use circuit_graph::translate;
 use flow_find::{Found, find};
+use graph_rewrites::Step;
 use open_graph::{OpenGraph, VertexId};
 use std::alloc::Global;
 use std::process::Abort;
 use std::test::Fail;
 use zx_flow::Flow;
 use zx_gates::GateList;
-use zx_reduce::Step;
 
 // A step at vertices of low ids, which may be allowed or not.
 fn drawn_step(seed: &mut u64) -> Step {

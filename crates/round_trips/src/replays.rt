@@ -6,6 +6,7 @@ ghost use Rattle.gflow_laws.specs.Flow.{IsFlow};
 use crate::teleported::draw;
 use crate::trips::{add, reduce_traced, rewritten};
 use circuit_graph::translate;
+use graph_rewrites::Step;
 use open_graph::OpenGraph;
 use std::alloc::Global;
 use std::process::Abort;
@@ -13,7 +14,7 @@ use std::test::Fail;
 use zx_flow::Flow;
 use zx_gates::{Gate, GateList};
 use zx_model::Sixteenth;
-use zx_reduce::{Step, Trace};
+use zx_moves::Trace;
 
 const QUBITS: u16 = 70;
 

@@ -2,11 +2,11 @@
 //! adds one.
 
 use crate::trips::{reduced_trip, round_trip};
+use graph_rewrites::Step;
 use open_graph::VertexId;
 use std::test::Fail;
 use zx_gates::Gate;
 use zx_model::Sixteenth;
-use zx_reduce::Step;
 
 fn id(number: usize) -> VertexId {
     VertexId::new(number)

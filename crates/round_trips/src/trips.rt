@@ -7,6 +7,8 @@ ghost use Rattle.gflow_laws.specs.Flow.{IsFlow};
 
 use crate::sums::{are_proportional, map, sum};
 use circuit_graph::translate;
+use flow_rewrites::{Steps, apply, reduce};
+use graph_rewrites::Step;
 use open_graph::{OpenGraph, Plane, VertexId};
 use std::alloc::Global;
 use std::marker::Brand;
@@ -16,7 +18,7 @@ use std::test::Fail;
 use zx_extract::extract;
 use zx_flow::Flow;
 use zx_gates::{Gate, GateList, counts};
-use zx_reduce::{Step, Steps, Trace, apply, reduce};
+use zx_moves::Trace;
 
 // The gates that are found in the graph that steps make of the gates' graph have that graph's sum
 // as their map, and that of the gates, up to a number other than 0.

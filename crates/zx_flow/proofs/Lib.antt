@@ -3,7 +3,6 @@ pub mod MemberLemmas
 pub mod RoomLemmas
 pub mod TableChanges
 pub mod Toggles
-pub mod Walks
 pub mod Clearing
 pub mod Beside
 pub mod Below

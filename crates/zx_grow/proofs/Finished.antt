@@ -18,8 +18,8 @@ use Rattle.growing_laws.specs.Growth.{Reaches}
 use Rattle.growing_laws.proofs.GrownGraphs.{grown_reached, reached_odd}
 use Rattle.circuit_graph.proofs.Existing.{translates}
 use Rattle.zx_reduce.specs.Reducing.{Reduces}
-use Rattle.zx_moves.specs.Steps.{step_named}
-use Rattle.zx_moves.specs.declared.step.Step.{Step}
+use Rattle.graph_rewrites.specs.Steps.{step_named}
+use Rattle.graph_rewrites.specs.declared.step.Step.{Step}
 use Rattle.zx_grow.specs.Grown.{GrowsTo, most_grown_root2}
 use Rattle.zx_grow.specs.Internal.Growing.{Growth, IsGrown}
 

@@ -13,12 +13,12 @@ use crate::plan::{Plan, plan_at, plan_between};
 use crate::queue::Queue;
 use crate::twins::Twins;
 use circuit_graph::scalar_of;
+use graph_rewrites::Step;
 use open_graph::{OpenGraph, VertexId};
 use std::alloc::{AllocError, Global};
 use zx_flow::Flow;
 use zx_gates::{Gate, GateList, Qubit};
 use zx_model::{Scalar, Sixteenth};
-use zx_reduce::Step;
 
 // After so many looks at vertices a block's moves end, whatever is left.
 const MOST_LOOKS: u64 = 1 << 48;

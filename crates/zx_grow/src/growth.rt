@@ -9,12 +9,13 @@ ghost use Rattle.zx_reduce.specs.Ordering.{IsOrdered};
 ghost use Rattle.zx_reduce.specs.Reducing.{Reduces};
 ghost use Rattle.zx_grow.specs.Internal.Growing.{IsGrown, HasGrown, Keeps, Gains, most_steps};
 
+use graph_rewrites::Step;
 use open_graph::{OpenGraph, VertexId};
 use std::alloc::{AllocError, Global};
 use std::marker::Model;
 use zx_gates::Qubit;
 use zx_model::{Scalar, Sixteenth};
-use zx_reduce::{Ordered, Reduction, Step};
+use zx_reduce::{Ordered, Reduction};
 
 // No more steps are done: as many take longer than anyone waits.
 const MOST_STEPS: u64 = 1 << 51;

@@ -3,10 +3,10 @@
 ghost use Rattle.zx_calculus.specs.Graph.{Live};
 
 use crate::twins::Twins;
+use graph_rewrites::{Step, is_gadget};
 use open_graph::{OpenGraph, Plane, VertexId};
-use zx_gadgets::is_gadget;
 use zx_model::Sixteenth;
-use zx_reduce::{LEVELS, Step, pivot_cost};
+use zx_reduce::{LEVELS, pivot_cost};
 
 // A spider with more neighbours isn't moved along its wire at once.
 const MOST_MOVED: usize = 32;

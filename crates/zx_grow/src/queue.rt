@@ -2,10 +2,11 @@
 
 ghost use Rattle.std.specs.Prelude.{◌<◌};
 
+use graph_rewrites::Step;
 use open_graph::{OpenGraph, Plane, VertexId};
 use std::alloc::{AllocError, Global};
 use vertex_map::{Values, VertexMap};
-use zx_reduce::{LEVELS, Step};
+use zx_reduce::LEVELS;
 
 // Classes of numbers of neighbours: 0, 1, 2 and 3, 4 to 7, and so on; the last has all from 64 on.
 const CLASSES: usize = 8;

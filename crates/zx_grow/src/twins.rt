@@ -2,9 +2,9 @@
 
 ghost use Rattle.zx_calculus.specs.Graph.{Live};
 
+use graph_rewrites::is_gadget;
 use open_graph::{OpenGraph, VertexId};
 use std::alloc::{AllocError, Global};
-use zx_gadgets::is_gadget;
 
 // As many gadgets are remembered as there are gates, but no more and no fewer than so many.
 const MOST_PLACES: usize = 1 << 16;

@@ -8,8 +8,8 @@ use Rattle.gflow_laws.specs.Flow.{Correction, IsFlow}
 use Rattle.gflow_laws.specs.Kept.{IsKept}
 use Rattle.gflow_laws.proofs.Steps.{run_keeps}
 use Rattle.zx_moves.specs.declared.moves.Move.{Move}
-use Rattle.zx_moves.specs.declared.step.Step.{Step}
-use Rattle.zx_moves.specs.Steps.{step_named}
+use Rattle.graph_rewrites.specs.declared.step.Step.{Step}
+use Rattle.graph_rewrites.specs.Steps.{step_named}
 use Rattle.zx_moves.specs.Search.{AppliesAt, IsOfFirstKind}
 use Rattle.zx_moves.specs.Moving.{steps_of, AreMoves, most_moves, GainsMoves, GainsRun}
 use Rattle.zx_moves.specs.Internal.Planning.{AreAllowed, GainsMove}

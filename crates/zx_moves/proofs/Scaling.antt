@@ -1,5 +1,5 @@
 -- Scalars of steps one after the other.
-use Rattle.std.proofs.Common.{◌≡◌, refl, sym, ◌∙◌, ap, subst, ℕ, ◌+◌, ◌*◌, ◌-◌, ◌<◌, ◌≤◌, length, arith, List, [], Bool, not, filter, map}
+use Rattle.std.proofs.Common.{◌≡◌, refl, sym, ◌∙◌, ap, subst, ℕ, ◌+◌, ◌*◌, ◌-◌, ◌<◌, ◌≤◌, length, arith, List, Bool, not, filter, map}
 use Rattle.std.proofs.lemmas.List.Filters.{length-filter_both}
 use Rattle.zx_model.specs.Scalar.{IsScaled, IsWithin, one_scalar, product_of_scalars, most_root2}
 use Rattle.zx_model.specs.declared.scalar.Scalar.{Scalar}
@@ -12,13 +12,13 @@ use Rattle.zx_calculus.proofs.Steps.{step_sum, inputs_kept, outputs_kept}
 use Rattle.zx_calculus.proofs.StepScalars.{step_scaled, step_within}
 use Rattle.zx_calculus.specs.Graph.{Vertex, is_XY}
 use Rattle.zx_calculus.proofs.ReducedLemmas.{counts_within}
-use Rattle.zx_moves.specs.declared.step.Step.{Step as TraceStep}
+use Rattle.graph_rewrites.specs.declared.step.Step.{Step as TraceStep}
 use Rattle.open_graph.specs.OpenGraph.{most_vertices_in_memory}
 use Rattle.zx_moves.specs.Moving.{most_moves, steps_of, GainsMoves}
 use Rattle.zx_moves.specs.Scaling.{most_exponent}
 use Rattle.zx_moves.specs.Internal.Scaling.{Scales}
 use Rattle.zx_moves.specs.declared.moves.Move.{Move}
-use Rattle.zx_moves.specs.Steps.{step_named}
+use Rattle.graph_rewrites.specs.Steps.{step_named}
 use Rattle.zx_moves.proofs.MovesMade.{gained_few_moves}
 use Rattle.zx_moves.proofs.MoveRuns.{length-steps_of}
 use Rattle.std.proofs.lemmas.List.{length-map}

@@ -1,4 +1,3 @@
-pub mod Steps
 pub mod Search
 pub mod Moving
 pub mod Traces

@@ -8,9 +8,9 @@ use Rattle.zx_calculus.specs.Steps.{IsRun}
 use Rattle.zx_moves.specs.declared.moves.Move.{Move}
 use Rattle.zx_moves.specs.declared.moves.Move.TheVariants.{Delete, QuarterGadget, FromXZ, QuarterSpider, InnerPivot}
 use Rattle.zx_moves.specs.declared.moves.Move.TheVariants.{BoundaryPivot, GadgetPair, LoneGadget, SingleGadget, Twins}
-use Rattle.zx_moves.specs.declared.step.Step.{Step}
+use Rattle.graph_rewrites.specs.declared.step.Step.{Step}
 use Rattle.zx_moves.specs.Search.{AppliesAt, IsOfFirstKind}
-use Rattle.zx_moves.specs.Steps.{step_named}
+use Rattle.graph_rewrites.specs.Steps.{step_named}
 
 -- the splits of the ends of b, of its input before its output
 abbrev pub splits_of : Graph → ℕ → List calculus.Step

@@ -1,6 +1,6 @@
 -- What contracts see of a trace in memory.
 use Rattle.std.specs.Prelude.{◌≤◌, ◌+◌, ℕ, List, length}
-use Rattle.zx_moves.specs.declared.step.Step.{Step}
+use Rattle.graph_rewrites.specs.declared.step.Step.{Step}
 
 -- its steps, and how many more can be added without memory
 pub record Trace : Type 0 where

@@ -1,14 +1,13 @@
-//! Rewrites of open graphs by their names, the moves of simplification, which consist of them, and the search
-//! for the next move.
+//! The moves of simplification, which consist of rewrites of open graphs, and the search for the next move. The
+//! rewrites are those of `graph_rewrites`.
 //!
 //! Proved: `next_move` answers a move that applies, of the first kind that applies anywhere, or that none is
 //! left; `move_at` the move of a kind at a vertex, or that there is none. Each move lowers a number of the
-//! graph, and its rewrites can be done one after the other. `Step::do_in` does a step on a graph alone.
+//! graph, and its rewrites can be done one after the other.
 //!
 //! Inside:
 //!
-//! - `step`, `trace`: steps, which are rewrites by their names, a list of cases over the rewrites' own tests and
-//!   calls; and those that were done.
+//! - `trace`: the steps that were done.
 //! - `moves`: the moves, their kinds and the order of kinds. `search` finds the next one in a graph, and that of
 //!   a kind at a vertex. Of pivots it takes the one that costs least, and at first those within a part of the
 //!   circuit, by `levels`. `planning` lists the steps of a move; `made` tells what moves came to.
@@ -27,7 +26,6 @@ mod moves;
 mod planning;
 mod search;
 mod simplification_laws;
-mod step;
 mod trace;
 
 pub use levels::{LEVELS, level_between, level_in, levels_of};
@@ -39,5 +37,4 @@ pub use simplification_laws::{
     graphs_of_circuits_allow_few_moves, moves_are_a_run, moves_are_short, moves_begin_allowed,
     moves_can_be_made, moves_end_in_reduced_graphs,
 };
-pub use step::Step;
 pub use trace::Trace;

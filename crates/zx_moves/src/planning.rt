@@ -2,15 +2,15 @@
 
 ghost use Rattle.std.specs.Prelude.{◌≤◌, ◌+◌, [], ◌∷◌, IsOk, OnOk};
 ghost use Rattle.zx_calculus.specs.Graph.{Live, WellFormed};
-ghost use Rattle.zx_moves.specs.Steps.{step_named};
+ghost use Rattle.graph_rewrites.specs.Steps.{step_named};
 ghost use Rattle.zx_moves.specs.Search.{AppliesAt};
 ghost use Rattle.zx_moves.specs.Moving.{steps_of, splits_of, removal_of, AddsSteps};
 ghost use Rattle.zx_moves.specs.declared.moves.Move.TheVariants as moves;
 ghost use Rattle.zx_moves.specs.Traces.{KeepSteps};
 
 use crate::moves::Move;
-use crate::step::Step;
 use crate::trace::Trace;
+use graph_rewrites::Step;
 use open_graph::{OpenGraph, VertexId};
 use std::alloc::AllocError;
 use zx_model::Sixteenth;

@@ -15,9 +15,8 @@ ghost use Rattle.zx_moves.specs.Internal.Searching.{is_twin, TellsTwins, IsMoveA
 
 use crate::levels::level_in;
 use crate::moves::{KINDS, Kind, Move};
-use local_comp::{may_complement, may_delete};
+use graph_rewrites::{is_gadget, may_complement, may_delete};
 use open_graph::{OpenGraph, Plane, VertexId};
-use zx_gadgets::is_gadget;
 
 // Edges are counted where there are at most so many pairs of another neighbour of the one vertex and
 // another of the other.

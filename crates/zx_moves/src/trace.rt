@@ -3,7 +3,7 @@
 ghost use Rattle.std.specs.Prelude.{◌≡◌, ◌<◌, ◌≤◌, ◌+◌, ◌++◌, [], ◌∷◌, length, drop, IsOk, IfOk, OnOk, OnErr};
 ghost use Rattle.zx_moves.specs.Traces.{KeepSteps};
 
-use crate::step::Step;
+use graph_rewrites::Step;
 use std::alloc::{AllocError, Global};
 use std::marker::Model;
 
@@ -90,14 +90,17 @@ impl Trace {
         &self.steps[start..]
     }
 
-    /// The same trace once more.
+    /// The same trace once more, with memory for as many more steps.
     pub fn copy(&self) -> Result<Trace, AllocError>
-        ensures { IfOk result (λ copy. copy.steps ≡ self.now.steps) }
+        ensures steps { IfOk result (λ copy. copy.steps ≡ self.now.steps) }
+        ensures room { IfOk result (KeepSteps self.now) }
     {
-        Ok(Trace {
+        let mut copy = Trace {
             alloc: self.alloc,
             steps: Vec::from_slice(self.alloc, &self.steps)?,
-        })
+        };
+        copy.reserve_like(self)?;
+        Ok(copy)
     }
 
     /// The memory in which its steps are kept.

@@ -2,7 +2,7 @@
 use Rattle.std.proofs.Common.{◌≡◌, refl, sym, ◌∙◌, ℕ, List, [], add-zero}
 use Rattle.std.proofs.lemmas.List.{append-nil}
 use Rattle.zx_calculus.specs.Graph.{Graph}
-use Rattle.zx_moves.specs.declared.step.Step.{Step}
+use Rattle.graph_rewrites.specs.declared.step.Step.{Step}
 use Rattle.zx_moves.specs.Moving.{GainsMoves}
 use Rattle.zx_reduce.specs.declared.candidates.Candidates.{Candidates}
 use Rattle.zx_reduce.specs.declared.ranks.Ranks.{Ranks}

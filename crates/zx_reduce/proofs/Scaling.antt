@@ -4,9 +4,9 @@ use Rattle.zx_calculus.specs.Graph.{Graph, WellFormed}
 use Rattle.zx_calculus.specs.Steps.{IsRun}
 use Rattle.gflow_laws.specs.Flow.{Correction, IsFlow}
 use Rattle.zx_moves.specs.declared.made.Made.{Made}
-use Rattle.zx_moves.specs.declared.step.Step.{Step as TraceStep}
+use Rattle.graph_rewrites.specs.declared.step.Step.{Step as TraceStep}
 use Rattle.zx_moves.specs.Moving.{most_moves, AreMoves}
-use Rattle.zx_moves.specs.Steps.{step_named}
+use Rattle.graph_rewrites.specs.Steps.{step_named}
 use Rattle.zx_moves.specs.Internal.Scaling.{IsMade}
 use Rattle.zx_moves.proofs.MoveRuns.{AreMoves-run}
 use Rattle.zx_moves.proofs.MovesMade.{gained_few_moves, gained_few_steps, gained_ends, gained_keeps}

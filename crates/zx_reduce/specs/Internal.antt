@@ -1,4 +1,3 @@
 -- What only private contracts and proofs cite: nobody has to read it to trust a promise of this crate.
 pub mod Guiding
-pub mod Rooms
 pub mod Ranked

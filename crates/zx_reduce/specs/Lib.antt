@@ -1,5 +1,3 @@
-pub mod Applied
 pub mod Reducing
-pub mod Rooms
 pub mod Ordering
 pub mod Internal

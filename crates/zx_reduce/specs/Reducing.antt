@@ -12,8 +12,8 @@ use Rattle.zx_calculus.specs.Steps.{IsRun}
 use Rattle.gflow_laws.specs.Flow.{Correction, IsFlow}
 use Rattle.zx_moves.specs.Moving.{AreMoves}
 use Rattle.zx_moves.specs.Scaling.{most_exponent}
-use Rattle.zx_moves.specs.Steps.{step_named}
-use Rattle.zx_moves.specs.declared.step.Step.{Step}
+use Rattle.graph_rewrites.specs.Steps.{step_named}
+use Rattle.graph_rewrites.specs.declared.step.Step.{Step}
 
 -- The steps are those of moves, each of the first kind that applies anywhere, and lead from g to the reduced graph h,
 -- of which the table is a flow, with a proportional sum, as many ends and no more odd phases. The sum of g is s times

@@ -5,15 +5,15 @@ ghost use Rattle.std.specs.Prelude.{◌≡◌, ◌++◌, true, IfOk, OnOk};
 ghost use Rattle.zx_calculus.specs.Graph.{neighbours, Live, WellFormed};
 ghost use Rattle.zx_calculus.specs.Steps.{allowed, IsStep};
 ghost use Rattle.zx_calculus.specs.StepScalars.{step_scalar};
-ghost use Rattle.zx_moves.specs.Steps.{step_named};
+ghost use Rattle.graph_rewrites.specs.Steps.{step_named};
 ghost use Rattle.zx_reduce.specs.Internal.Ranked.{AreRanksAfter};
 ghost use Rattle.zx_reduce.specs.Internal.Guiding.{HasFlowIn, near, near_step};
 
 use crate::ranks::Ranks;
+use graph_rewrites::Step;
 use open_graph::{OpenGraph, VertexId};
 use std::alloc::AllocError;
 use zx_model::Scalar;
-use zx_moves::Step;
 
 // Does a step that is allowed, and answers its scalar. A vertex that goes keeps its rank, which doesn't
 // matter any more.

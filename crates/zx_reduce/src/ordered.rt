@@ -11,17 +11,17 @@ ghost use Rattle.zx_gates.specs.declared.gate.Gate.TheVariants.{H, Phase, Cz};
 ghost use Rattle.growing_laws.specs.Growing.{IsFree, placed};
 ghost use Rattle.zx_reduce.specs.Ordering.{IsOrdered};
 ghost use Rattle.zx_reduce.specs.Reducing.{Reduces};
-ghost use Rattle.zx_moves.specs.Steps.{step_named};
+ghost use Rattle.graph_rewrites.specs.Steps.{step_named};
 
 use crate::ranks::Ranks;
 use crate::reduction::{Reduction, reduce_ordered};
 use circuit_graph::wires_alone;
+use graph_rewrites::Step;
 use open_graph::{End, OpenGraph, Plane, VertexId};
 use std::alloc::{AllocError, Global};
 use std::marker::Model;
 use zx_gates::Qubit;
 use zx_model::{Scalar, Sixteenth};
-use zx_moves::Step;
 
 /// A graph with the order along which it has a flow, without correction sets. After a call that ran out
 /// of memory a part of it may be done, so all of it is thrown away then.

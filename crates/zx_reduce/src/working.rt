@@ -5,7 +5,7 @@ ghost use Rattle.zx_model.specs.Bits.{member};
 ghost use Rattle.zx_calculus.specs.Graph.{WellFormed};
 ghost use Rattle.zx_calculus.specs.Steps.{allowed, IsStep};
 ghost use Rattle.gflow_laws.specs.Flow.{IsFlow};
-ghost use Rattle.zx_moves.specs.Steps.{step_named};
+ghost use Rattle.graph_rewrites.specs.Steps.{step_named};
 ghost use Rattle.zx_moves.specs.Search.{AppliesAt, IsOfFirstKind};
 ghost use Rattle.zx_reduce.specs.Internal.Guiding.{IsGuided, IsGuidedBut, HasFlowIn};
 ghost use Rattle.zx_moves.specs.Internal.Planning.{GainsMove};
@@ -15,11 +15,12 @@ use crate::candidates::Candidates;
 use crate::in_graph::{add_vertices_near, rewrite};
 use crate::ranks::Ranks;
 use flow_find::find_by_rank;
+use graph_rewrites::Step;
 use open_graph::{OpenGraph, VertexId};
 use std::alloc::AllocError;
 use zx_flow::Flow;
 use zx_model::Scalar;
-use zx_moves::{Move, Step, Trace, add_steps};
+use zx_moves::{Move, Trace, add_steps};
 
 /// A graph, the order along which it has a flow, where moves may begin, and the steps that led to
 /// it. No correction set is kept. After a call that ran out of memory a part of a step may be done,
@@ -33,19 +34,6 @@ pub(crate) struct Working {
 }
 
 impl Working {
-    /// A graph with the order of its flow, before its first move.
-    pub(crate) fn begin(graph: OpenGraph, f: &Flow, trace: Trace) -> Result<Working, AllocError>
-        requires flow { IsFlow graph.graph f.now.flow }
-        ensures graph { IfOk result (λ work. work.graph.graph ≡ graph.graph) }
-        ensures trace { IfOk result (λ work. work.trace.steps ≡ trace.steps) }
-        ensures guided { IfOk result (λ work.
-            IsGuided work.graph.graph work.order work.candidates) }
-        ensures valid { WellFormed graph.graph }
-    {
-        let order = Ranks::of_flow(trace.alloc(), f)?;
-        Working::ordered(graph, order, trace)
-    }
-
     /// A graph with the order along which it has a flow, before its first move.
     pub(crate) fn ordered(
         graph: OpenGraph,

@@ -9,7 +9,7 @@ use Rattle.zx_gates.specs.Circuit.{Circuit, IsCircuit, circuit_of, gate_odd_phas
 use Rattle.zx_gates.specs.Elementary.{elementary_odd_phases}
 use Rattle.zx_gates.specs.Lowering.{lowered}
 use Rattle.zx_gates.specs.Maps.{amp}
-use Rattle.zx_moves.specs.Steps.{step_named}
+use Rattle.graph_rewrites.specs.Steps.{step_named}
 use Rattle.zx_same.specs.declared.comparing.Sameness.{Sameness}
 use Rattle.zx_same.specs.declared.comparing.Sameness.TheVariants.{Same, NotShown}
 use Rattle.zx_same.specs.Comparing.{IfNotShown, IsLeftOfBoth, IsSame}

@@ -15,7 +15,7 @@ use Rattle.zx_calculus.proofs.Ids.{by_equal, by_test, or-left, or-right}
 use Rattle.zx_calculus.proofs.Results.{interior_from}
 use Rattle.zx_calculus.proofs.Splitting.{all_at}
 use Rattle.zx_gates.specs.Circuit.{Circuit, IsCircuit, IsGateOn, gate_odd_phases}
-use Rattle.zx_moves.specs.Steps.{step_named}
+use Rattle.graph_rewrites.specs.Steps.{step_named}
 use Rattle.zx_extract.specs.Simplified.{gate_bound}
 use Rattle.zx_gates.specs.Maps.{amp, acts}
 use Rattle.zx_gates.specs.declared.gate.Gate.{Gate}

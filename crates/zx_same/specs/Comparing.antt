@@ -9,7 +9,7 @@ use Rattle.zx_gates.specs.Circuit.{Circuit, gate_odd_phases}
 use Rattle.zx_gates.specs.Maps.{amp}
 use Rattle.zx_peephole.specs.Tidy.{IsTidy}
 use Rattle.circuit_graph.specs.Translation.{translated}
-use Rattle.zx_moves.specs.declared.step.Step.{Step}
+use Rattle.graph_rewrites.specs.declared.step.Step.{Step}
 use Rattle.zx_extract.specs.Simplified.{gate_bound}
 use Rattle.zx_same.specs.Bare.{has_only_ends, is_bare}
 use Rattle.zx_inverse.specs.Inverse.{undone_by}

@@ -4,7 +4,7 @@ ghost use Rattle.std.specs.Prelude.{◌≡◌, ◌↔◌, ◌==◌, ◌||◌, []
 ghost use Rattle.zx_model.specs.Proportional.{Proportional};
 ghost use Rattle.zx_gates.specs.Circuit.{gate_odd_phases};
 ghost use Rattle.zx_gates.specs.Maps.{amp};
-ghost use Rattle.zx_moves.specs.Steps.{step_named};
+ghost use Rattle.graph_rewrites.specs.Steps.{step_named};
 ghost use Rattle.zx_same.specs.Bare.{is_bare};
 ghost use Rattle.zx_same.specs.Comparing.{IfSame, IfNotShown, IsLeftOfBoth, IsSame};
 ghost use Rattle.zx_same.specs.Internal.Simplifying.{Simplifies};

@@ -11,7 +11,7 @@ ghost use Rattle.gflow_laws.specs.Flow.{IsFlow};
 ghost use Rattle.zx_gates.specs.Circuit.{gate_odd_phases, most_qubits};
 ghost use Rattle.zx_gates.specs.Passes.{Implements};
 ghost use Rattle.zx_peephole.specs.Tidy.{IsTidy};
-ghost use Rattle.zx_moves.specs.Steps.{step_named};
+ghost use Rattle.graph_rewrites.specs.Steps.{step_named};
 ghost use Rattle.zx_extract.specs.Simplified.{gate_bound};
 ghost use Rattle.zx_simplify.specs.Scaling.{most_simplified_root2};
 ghost use Rattle.zx_simplify.specs.Internal.Extracting.{Extracts};

@@ -15,8 +15,8 @@ use Rattle.zx_gates.specs.declared.gate.Gate.{Gate}
 use Rattle.circuit_graph.specs.Translation.{translated}
 use Rattle.teleport_circuits.specs.Circuits.{with_phases, without_idle}
 use Rattle.teleport_circuits.specs.Teleporting.{vertex_at, new_phase, teleported_gates}
-use Rattle.zx_moves.specs.declared.step.Step as named
-use Rattle.zx_moves.specs.Steps.{step_named}
+use Rattle.graph_rewrites.specs.declared.step.Step as named
+use Rattle.graph_rewrites.specs.Steps.{step_named}
 use Rattle.zx_teleport.specs.declared.notes.Note.{Note}
 use Rattle.zx_teleport.specs.Internal.Noting.{stands_odd, parting_by, IsNoted, AreNoted, MayRun}
 use Rattle.zx_teleport.specs.Internal.Fates.{turned, unsigned, before, fates_by}

@@ -18,8 +18,8 @@ use Rattle.teleport_circuits.proofs.Moving.{skeleton_left}
 use Rattle.teleport_circuits.proofs.Teleporting.{teleported_map, same_run, formed_there}
 use Rattle.teleport_circuits.proofs.Quotients.{teleported_quotient}
 use Rattle.teleport_circuits.proofs.OddPhases.{teleported_odd, teleported_fewer}
-use Rattle.zx_moves.specs.declared.step.Step as named
-use Rattle.zx_moves.specs.Steps.{step_named}
+use Rattle.graph_rewrites.specs.declared.step.Step as named
+use Rattle.graph_rewrites.specs.Steps.{step_named}
 use Rattle.zx_teleport.specs.Together.{IsPutTogether}
 use Rattle.zx_teleport.specs.Internal.Noting.{MayRun}
 use Rattle.zx_teleport.specs.Internal.Scaling.{HaveScalar}

@@ -7,8 +7,8 @@ use Rattle.zx_model.proofs.Scalars.{within_product, within_more}
 use Rattle.zx_calculus.specs.Graph.{Graph}
 use Rattle.zx_calculus.specs.Steps.{IsRun}
 use Rattle.zx_calculus.specs.StepScalars.{IsSumTimes}
-use Rattle.zx_moves.specs.declared.step.Step as named
-use Rattle.zx_moves.specs.Steps.{step_named}
+use Rattle.graph_rewrites.specs.declared.step.Step as named
+use Rattle.graph_rewrites.specs.Steps.{step_named}
 use Rattle.open_graph.specs.OpenGraph.{most_vertices_in_memory}
 use Rattle.zx_moves.specs.Internal.Scaling.{Scales}
 use Rattle.zx_teleport.specs.Scalars.{most_teleported_root2}

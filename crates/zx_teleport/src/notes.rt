@@ -5,14 +5,14 @@ ghost use Rattle.zx_model.specs.Bits.{xor};
 ghost use Rattle.zx_model.specs.Phase.{half_turn};
 ghost use Rattle.zx_calculus.specs.Graph.{joined, is_XY, is_XZ, plane_of, phase_of, Live};
 ghost use Rattle.zx_calculus.specs.Steps.{FuseInto, allowed};
-ghost use Rattle.zx_moves.specs.Steps.{step_named};
+ghost use Rattle.graph_rewrites.specs.Steps.{step_named};
 ghost use Rattle.teleport_laws.specs.Shifts.{negates, into_of};
 ghost use Rattle.zx_teleport.specs.Internal.Noting.{stands_odd, parting_by, IsNoted, AreNoted, MayRun};
 
+use graph_rewrites::Step;
 use open_graph::{OpenGraph, Plane, VertexId};
 use std::alloc::{AllocError, Global};
 use zx_model::Sixteenth;
-use zx_reduce::Step;
 
 // Where the phase of a vertex goes that goes itself.
 #[derive(Clone, Copy, Debug)]

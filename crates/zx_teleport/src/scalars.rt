@@ -4,16 +4,16 @@ ghost use Rattle.std.specs.Prelude.{◌<◌, ◌≤◌, ◌*◌, length, map, If
 ghost use Rattle.zx_model.specs.Phase.{turn};
 ghost use Rattle.zx_model.specs.Scalar.{IsWithin};
 ghost use Rattle.circuit_graph.specs.Translation.{translated};
-ghost use Rattle.zx_moves.specs.Steps.{step_named};
+ghost use Rattle.graph_rewrites.specs.Steps.{step_named};
 ghost use Rattle.zx_teleport.specs.Internal.Noting.{MayRun};
 ghost use Rattle.zx_teleport.specs.Internal.Scaling.{most_steps, HaveScalar};
 
 use circuit_graph::translate;
+use graph_rewrites::Step;
 use open_graph::OpenGraph;
 use std::alloc::{AllocError, Global};
 use zx_gates::GateList;
 use zx_model::Scalar;
-use zx_reduce::Step;
 
 // The scalar of steps that can be done one after the other on the graph of a circuit: the sum before
 // is so many times the sum after.

@@ -17,7 +17,7 @@ ghost use Rattle.zx_teleport.specs.Together.{IsPutTogether, IsTeleported};
 ghost use Rattle.zx_reduce.specs.Reducing.{Reduces};
 ghost use Rattle.open_graph.specs.OpenGraph.{most_vertices_in_memory};
 ghost use Rattle.zx_moves.specs.Scaling.{most_exponent};
-ghost use Rattle.zx_moves.specs.Steps.{step_named};
+ghost use Rattle.graph_rewrites.specs.Steps.{step_named};
 ghost use Rattle.zx_teleport.specs.Scalars.{most_teleported_root2};
 ghost use Rattle.zx_teleport.specs.Internal.Noting.{MayRun};
 
@@ -26,12 +26,13 @@ use crate::groups::regrouped;
 use crate::notes::notes_of;
 use crate::scalars::scalar_of;
 use circuit_graph::translate_placed;
+use graph_rewrites::Step;
 use open_graph::{OpenGraph, VertexId};
 use std::alloc::{AllocError, Global};
 use zx_flow::Flow;
 use zx_gates::GateList;
 use zx_model::Scalar;
-use zx_reduce::{Reduction, Step, Trace, reduce_owned};
+use zx_reduce::{Reduction, Trace, reduce_owned};
 
 /// A circuit whose phases were put together, the steps by which its graph was simplified to see
 /// which, the simplified graph, and the scalar between the maps.

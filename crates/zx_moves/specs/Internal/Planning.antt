@@ -4,8 +4,8 @@ use Rattle.zx_calculus.specs.Graph.{Graph}
 use Rattle.zx_calculus.specs.Steps as calculus
 use Rattle.zx_calculus.specs.Steps.{IsStep, IsRun, allowed}
 use Rattle.zx_moves.specs.declared.moves.Move.{Move}
-use Rattle.zx_moves.specs.declared.step.Step.{Step}
-use Rattle.zx_moves.specs.Steps.{step_named}
+use Rattle.graph_rewrites.specs.declared.step.Step.{Step}
+use Rattle.graph_rewrites.specs.Steps.{step_named}
 use Rattle.zx_moves.specs.Moving.{steps_of}
 
 -- the first is allowed in g, and the others in whatever it leads to

@@ -9,7 +9,7 @@ use Rattle.gflow_laws.specs.Flow.{Correction, IsFlow}
 use Rattle.zx_moves.specs.Moving.{GainsMoves}
 use Rattle.zx_moves.specs.Scaling.{most_exponent}
 use Rattle.zx_moves.specs.declared.made.Made.{Made}
-use Rattle.zx_moves.specs.declared.step.Step.{Step}
+use Rattle.graph_rewrites.specs.declared.step.Step.{Step}
 
 -- the sum of g is s times that of h, with as many ends, and the exponent of the root of two in s is at most n
 pub record Scales (g : Graph) (n : ℕ) (s : Scalar) (h : Graph) : Type 0 where

@@ -10,7 +10,7 @@ use Rattle.zx_gates.specs.Circuit.{Circuit, gate_odd_phases}
 use Rattle.zx_gates.specs.Maps.{amp}
 use Rattle.zx_gates.specs.Passes.{Preserves}
 use Rattle.zx_peephole.specs.Tidy.{IsTidy}
-use Rattle.zx_moves.specs.Steps.{step_named}
+use Rattle.graph_rewrites.specs.Steps.{step_named}
 use Rattle.zx_extract.specs.Simplified.{gate_bound}
 use Rattle.circuit_graph.specs.Translation.{translated}
 use Rattle.zx_simplify.specs.declared.simplifying.Simplified.{Simplified}

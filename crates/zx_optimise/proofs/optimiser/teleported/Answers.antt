@@ -2,7 +2,7 @@
 use Rattle.std.proofs.Common.{map, arith}
 use Rattle.zx_model.proofs.Scalars.{scaled_proportional}
 use Rattle.zx_gates.specs.Maps.{amp}
-use Rattle.zx_moves.specs.Steps.{step_named}
+use Rattle.graph_rewrites.specs.Steps.{step_named}
 use Rattle.zx_teleport.specs.Scalars.{most_teleported_root2}
 use Rattle.zx_gates.proofs.Passing.{implements_preserved, product_fits}
 use Rattle.zx_optimise.proofs.optimiser.teleported.Goals as goal

@@ -1,7 +1,7 @@
 -- Of the three facts that are known of a rank, one after the other.
 use Rattle.std.proofs.Common.{OnOk, sym, subst}
-use Rattle.zx_moves.specs.declared.step.Step.{Step}
-use Rattle.zx_moves.specs.Steps.{step_named}
+use Rattle.graph_rewrites.specs.declared.step.Step.{Step}
+use Rattle.graph_rewrites.specs.Steps.{step_named}
 use Rattle.zx_reduce.specs.Internal.Ranked.{AreRanksAfter}
 use Rattle.zx_reduce.proofs.Ranking.{on_all}
 use Rattle.zx_reduce.proofs.in_graph.rank.Goals as goal

@@ -1,6 +1,6 @@
 -- The order is one of a flow after the step.
 use Rattle.std.proofs.Common.{◌∙◌}
-use Rattle.zx_moves.specs.Steps.{step_named}
+use Rattle.graph_rewrites.specs.Steps.{step_named}
 use Rattle.zx_reduce.proofs.Ranking.{flow_after}
 use Rattle.zx_reduce.proofs.in_graph.rewrite.Goals as goal
 

@@ -6,7 +6,7 @@ use Rattle.zx_gates.specs.ElementaryMaps.{amp_elementary}
 use Rattle.zx_gates.specs.Maps.{amp}
 use Rattle.zx_model.proofs.ProportionalLemmas.{proportional_sym}
 use Rattle.zx_model.proofs.Scalars.{scaled_proportional}
-use Rattle.zx_moves.specs.Steps.{step_named}
+use Rattle.graph_rewrites.specs.Steps.{step_named}
 use Rattle.qasm_writer.specs.Written.{written}
 use Rattle.zx_run.proofs.OptimiseLemmas.{IsTeleportedText-written, measured_behind}
 use Rattle.zx_run.proofs.teleporting.teleported_text.Goals as goal

@@ -11,7 +11,7 @@ use Rattle.zx_gates.specs.Circuit.{gate_bound, gate_odd_phases}
 use Rattle.zx_gates.specs.Maps.{amp}
 use Rattle.zx_gates.specs.Passes.{Implements}
 use Rattle.zx_gates.proofs.Passing.{implements_more, implements_scaled}
-use Rattle.zx_moves.specs.Steps.{step_named}
+use Rattle.graph_rewrites.specs.Steps.{step_named}
 use Rattle.zx_simplify.specs.Scaling.{most_simplified_root2}
 use Rattle.zx_same.specs.Internal.Simplifying.{most_left_root2}
 use Rattle.zx_same.proofs.Comparisons.{from_circuit, bound_rises}

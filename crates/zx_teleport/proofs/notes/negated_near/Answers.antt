@@ -4,7 +4,7 @@ use Rattle.zx_model.specs.Bits.{member}
 use Rattle.zx_calculus.specs.Graph.{neighbours}
 use Rattle.zx_calculus.proofs.Toggling.{Distinct-neighbours, neighbour_live}
 use Rattle.open_graph.proofs.Walks.{next_some, next_none, next_there, next_all, member-toggled}
-use Rattle.zx_moves.specs.Steps.{step_named}
+use Rattle.graph_rewrites.specs.Steps.{step_named}
 use Rattle.teleport_laws.specs.Shifts.{negates}
 use Rattle.zx_teleport.specs.Internal.Noting.{stands_odd}
 use Rattle.zx_teleport.proofs.Negating.{negated_more, negated_all}

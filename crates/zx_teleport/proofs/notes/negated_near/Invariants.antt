@@ -2,7 +2,7 @@
 use Rattle.std.proofs.Common.{◌≡◌, ℕ, ◌&&◌, ◌++◌, eqb}
 use Rattle.zx_model.specs.Bits.{xor, member}
 use Rattle.zx_calculus.specs.Graph.{neighbours}
-use Rattle.zx_moves.specs.Steps.{step_named}
+use Rattle.graph_rewrites.specs.Steps.{step_named}
 use Rattle.teleport_laws.specs.Shifts.{negates}
 use Rattle.zx_teleport.specs.Internal.Noting.{stands_odd}
 use Rattle.zx_teleport.proofs.notes.negated_near.Given as goal

@@ -1,6 +1,6 @@
 -- One step more.
 use Rattle.std.proofs.Common.{sym, subst, refl, [], map, drop_of_length-le, append-nil}
-use Rattle.zx_moves.specs.Steps.{step_named}
+use Rattle.graph_rewrites.specs.Steps.{step_named}
 use Rattle.zx_teleport.specs.Internal.Noting.{AreNoted}
 use Rattle.zx_teleport.proofs.Carrying.{next_allowed, next_may_run, next_noted}
 use Rattle.zx_teleport.proofs.notes.notes_of.Goals as goal

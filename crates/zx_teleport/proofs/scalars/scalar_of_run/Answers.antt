@@ -4,7 +4,7 @@ use Rattle.zx_model.specs.Phase.{turn, sum_of_phases}
 use Rattle.zx_model.specs.Scalar.{IsWithin}
 use Rattle.zx_model.specs.declared.scalar.Scalar.{Scalar}
 use Rattle.zx_calculus.proofs.StepScalars.{step_within}
-use Rattle.zx_moves.specs.Steps.{step_named}
+use Rattle.graph_rewrites.specs.Steps.{step_named}
 use Rattle.zx_moves.specs.Internal.Scaling.{Scales}
 use Rattle.zx_moves.proofs.Scaling.{scales_none, scales_next, scales_step}
 use Rattle.zx_teleport.proofs.Carrying.{next_allowed, next_may_run, next_left}

@@ -3,7 +3,7 @@ use Rattle.std.proofs.Common.{◌*◌, ◌<◌, drop, map}
 use Rattle.zx_model.specs.Phase.{turn}
 use Rattle.zx_calculus.specs.Graph.{Graph}
 use Rattle.zx_calculus.specs.Steps.{IsRun}
-use Rattle.zx_moves.specs.Steps.{step_named}
+use Rattle.graph_rewrites.specs.Steps.{step_named}
 use Rattle.zx_moves.specs.Internal.Scaling.{Scales}
 use Rattle.zx_teleport.specs.Internal.Noting.{MayRun}
 use Rattle.zx_teleport.proofs.scalars.scalar_of_run.Given as goal

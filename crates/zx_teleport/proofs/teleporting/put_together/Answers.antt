@@ -1,7 +1,7 @@
 -- What is told of the vertices is where the run carries their phases.
 use Rattle.std.proofs.Common.{map}
 use Rattle.std.proofs.lemmas.Result.{IfOk-weaker}
-use Rattle.zx_moves.specs.Steps.{step_named}
+use Rattle.graph_rewrites.specs.Steps.{step_named}
 use Rattle.zx_teleport.specs.Internal.Fates.{told}
 use Rattle.zx_teleport.proofs.Carrying.{told_gates}
 use Rattle.zx_teleport.proofs.teleporting.put_together.Goals as goal

@@ -6,8 +6,8 @@ use Rattle.zx_calculus.specs.Steps.{IsRun}
 use Rattle.zx_calculus.specs.StepScalars.{IsSumTimes}
 use Rattle.open_graph.specs.OpenGraph.{most_vertices_in_memory}
 use Rattle.zx_moves.specs.Scaling.{most_exponent}
-use Rattle.zx_moves.specs.Steps.{step_named}
-use Rattle.zx_moves.specs.declared.step.Step.{Step}
+use Rattle.graph_rewrites.specs.Steps.{step_named}
+use Rattle.graph_rewrites.specs.declared.step.Step.{Step}
 use Rattle.zx_teleport.specs.Together.{IsPutTogether}
 use Rattle.zx_teleport.proofs.Results.{skeleton, map_kept, few_odd, fewer_odd}
 use Rattle.zx_teleport.proofs.teleporting.teleport_unscaled.Goals as goal

@@ -1,6 +1,6 @@
 -- A step that splits nothing, or nothing.
 use Rattle.std.proofs.Common.{subst}
-use Rattle.zx_moves.specs.Steps.{step_named}
+use Rattle.graph_rewrites.specs.Steps.{step_named}
 use Rattle.zx_grow.specs.Internal.Growing.{Growth, Keeps}
 use Rattle.zx_grow.proofs.Growths.{keeps_same, keeps_step}
 use Rattle.zx_grow.proofs.growth.Growth.try_step.Goals as goal

@@ -1,7 +1,7 @@
 -- A step that splits nothing keeps the order.
 use Rattle.std.proofs.Common.{◌∙◌, sym, subst}
 use Rattle.zx_reduce.specs.Ordering.{Ordered, IsOrdered}
-use Rattle.zx_moves.specs.Steps.{step_named}
+use Rattle.graph_rewrites.specs.Steps.{step_named}
 use Rattle.zx_reduce.proofs.GatesOrdered.{ordered_step}
 use Rattle.zx_reduce.proofs.ordered.Ordered.try_step.Goals as goal
 

@@ -1,6 +1,6 @@
 -- What guides stays right over a step.
 use Rattle.std.proofs.Common.{sym, subst, List, ℕ}
-use Rattle.zx_moves.specs.Steps.{step_named}
+use Rattle.graph_rewrites.specs.Steps.{step_named}
 use Rattle.zx_reduce.specs.Internal.Guiding.{HasCandidatesBut}
 use Rattle.zx_reduce.proofs.Guided.{candidates_after}
 use Rattle.zx_moves.proofs.Scaling.{scales_step}

@@ -1,8 +1,8 @@
 -- The steps one after the other.
 use Rattle.std.proofs.Common.{◌≡◌, ◌∙◌, sym, ap, subst, List, length, ◌++◌, map, add-one, arith}
 use Rattle.zx_model.specs.Bits.{member}
-use Rattle.zx_moves.specs.declared.step.Step.{Step}
-use Rattle.zx_moves.specs.Steps.{step_named}
+use Rattle.graph_rewrites.specs.declared.step.Step.{Step}
+use Rattle.graph_rewrites.specs.Steps.{step_named}
 use Rattle.zx_moves.specs.Moving.{steps_of}
 use Rattle.zx_moves.specs.Internal.Planning.{AreAllowed}
 use Rattle.zx_reduce.proofs.Guided.{candidates_all, candidates_but}

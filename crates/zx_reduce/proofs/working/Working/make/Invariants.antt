@@ -1,6 +1,6 @@
 -- The steps so far are done, the sum changed by so much, and the steps that are left can be done.
 use Rattle.std.proofs.Common.{◌≡◌, ◌*◌, map}
-use Rattle.zx_moves.specs.Steps.{step_named}
+use Rattle.graph_rewrites.specs.Steps.{step_named}
 use Rattle.zx_moves.specs.Moving.{steps_of}
 use Rattle.zx_reduce.specs.Internal.Guiding.{IsGuidedBut}
 use Rattle.zx_moves.specs.Internal.Scaling.{Scales}

@@ -1,0 +1,4 @@
+pub mod Rooms
+pub mod Safely
+pub mod Applied
+pub mod Internal

@@ -1,0 +1,113 @@
+-- What the changes of a graph, one after the other, make of it.
+use Rattle.std.proofs.Common.{◌≡◌, refl, sym, ◌∙◌, ap, ap₂, subst, ℕ, true, false, cond, ◌&&◌, eqb}
+use Rattle.zx_model.specs.Phase.{half_turn}
+use Rattle.zx_model.specs.Bits.{xor, member}
+use Rattle.zx_calculus.specs.Graph.{Kind, Graph, joined, neighbours, end_vertices, plane_of, phase_of, with_kinds, Live, Interior, WellFormed}
+use Rattle.zx_calculus.specs.Complements.{IsLocalComplement, complement_kind}
+use Rattle.zx_calculus.specs.Deletions.{IsDelete, delete_kind}
+use Rattle.zx_calculus.specs.Steps.{allowed, after, Delete}
+use Rattle.zx_calculus.specs.Edits.{IsRemoval, at_vertex}
+use Rattle.zx_calculus.specs.Turns.{quarter_turned, half_turned, complemented}
+use Rattle.zx_calculus.proofs.Ids.{by_equal}
+use Rattle.zx_calculus.proofs.Vertices.{with_kinds_same, with_kinds-unchanged, without-with_kinds}
+use Rattle.zx_calculus.proofs.Splitting.{no_loop, interior_of, off_XY}
+use Rattle.zx_calculus.specs.Toggles.{IsToggled, among}
+use Rattle.zx_calculus.specs.Internal.ChangedKinds.{changed_in, with_changed}
+use Rattle.zx_calculus.proofs.Toggling.{member-neighbours, row_stays}
+use Rattle.zx_calculus.proofs.ChangedKinds.{KeepsEnds-changed, with_kinds-with_kinds, turned_neighbours, turned_live, turned_twice}
+use Rattle.zx_calculus.proofs.Allowed.{delete_live}
+use Rattle.zx_calculus.proofs.Steps.{after_step}
+
+-- edges, then the neighbours, then the vertex itself
+pub complement_step : (g h : Graph) (u : ℕ) → WellFormed g → Live g u → Interior g u →
+    IsToggled g (among (neighbours g u)) h →
+    IsLocalComplement g u (with_changed (at_vertex u complemented)
+    (with_changed (changed_in (neighbours g u) quarter_turned) h))
+complement_step g h u w there interior c = record {
+  there = there;
+  interior = interior;
+  vertices = with_kinds-with_kinds own near h.vertices ∙ ap (with_kinds (λ p k. own p (near p k))) c.vertices
+      ∙ with_kinds_same (λ p k. own p (near p k)) (complement_kind u (joined g.edges u)) g.vertices (λ p k t. at p k);
+  edges = λ p q n. c.edges p q n
+      ∙ ap₂ (λ a b. xor (joined g.edges p q) (a && b)) (member-neighbours g u p w) (member-neighbours g u q w);
+  frame = KeepsEnds-changed own g (with_changed near h) (KeepsEnds-changed near g h c.frame);
+}
+  where
+    own : ℕ → Kind → Kind
+    own = at_vertex u complemented
+
+    near : ℕ → Kind → Kind
+    near = changed_in (neighbours g u) quarter_turned
+
+    at : (p : ℕ) (k : Kind) → own p (near p k) ≡ complement_kind u (joined g.edges u) p k
+    at p k =
+        ap (λ b. cond (eqb p u) (complemented (cond b (quarter_turned k) k)) (cond b (quarter_turned k) k))
+        (member-neighbours g u p w)
+        ∙ by_equal p u (λ t e. let apart : joined g.edges u p ≡ false = ap (joined g.edges u) e ∙ no_loop g u w in rw
+        (t, apart) refl)
+        (λ f n. rw f refl)
+
+pub complement_all : (g h k l : Graph) (u : ℕ) → WellFormed g → WellFormed h → Live g u → Interior g u →
+    IsToggled g (among (neighbours g u)) h → k ≡ with_changed (changed_in (neighbours h u) quarter_turned) h →
+    l ≡ with_changed (at_vertex u complemented) k → IsLocalComplement g u l
+complement_all g h k l u wg wh there interior c turned own =
+    subst (IsLocalComplement g u)
+    (sym (own ∙ ap (with_changed (at_vertex u complemented)) turned
+    ∙ ap (λ row. with_changed (at_vertex u complemented) (with_changed (changed_in row quarter_turned) h))
+    (row_stays g h u wg wh c)))
+    (complement_step g h u wg there interior c)
+
+-- two quarter turns of the neighbours of a vertex of a half turn
+pub half_turn_passed : (g h k : Graph) (u : ℕ) → WellFormed g → phase_of g u ≡ half_turn →
+    h ≡ with_changed (changed_in (neighbours g u) quarter_turned) g →
+    k ≡ with_changed (changed_in (neighbours h u) quarter_turned) h →
+    k ≡ with_changed (delete_kind (phase_of g u) (joined g.edges u)) g
+half_turn_passed g h k u w half first second =
+    second
+    ∙ ap₂ (λ row l. with_changed (changed_in row quarter_turned) l)
+    (turned_neighbours (changed_in (neighbours g u) quarter_turned) g h u first) first
+    ∙ turned_twice (neighbours g u) g
+    ∙ ap (λ vs. record g { vertices = vs })
+    (with_kinds_same (changed_in (neighbours g u) half_turned) (delete_kind (phase_of g u) (joined g.edges u))
+    g.vertices
+    (λ p k t. ap (λ b. cond b (half_turned k) k) (member-neighbours g u p w)
+    ∙ sym (ap (λ x. cond (eqb x half_turn && joined g.edges u p) (half_turned k) k) half)))
+
+pub no_half_turn_passed : (g : Graph) (u : ℕ) → eqb (phase_of g u) half_turn ≡ false →
+    g ≡ with_changed (delete_kind (phase_of g u) (joined g.edges u)) g
+no_half_turn_passed g u other =
+    ap (λ vs. record g { vertices = vs })
+    (sym (with_kinds-unchanged (delete_kind (phase_of g u) (joined g.edges u)) g.vertices
+    (λ p k t. ap (λ b. cond (b && joined g.edges u p) (half_turned k) k) other)))
+
+-- a vertex that is to be deleted stays one without ends while its half turn is passed on
+module _ (g h : Graph) (u : ℕ) where
+  pub deletable_live : h ≡ with_changed (delete_kind (phase_of g u) (joined g.edges u)) g →
+      allowed g (Delete u) ≡ true → Live h u
+  deletable_live e may = turned_live (delete_kind (phase_of g u) (joined g.edges u)) g h u e (delete_live g u may)
+
+  pub deletable_interior : WellFormed g → h ≡ with_changed (delete_kind (phase_of g u) (joined g.edges u)) g →
+      allowed g (Delete u) ≡ true → Interior h u
+  deletable_interior w e may =
+      let s : IsDelete g u (after (Delete u) g) = after_step g (Delete u) w may in
+      let inside : Interior g u = interior_of g u w (off_XY (plane_of g u) s.deletable.plane) in
+      record {
+        no_input = ap (λ l. member u (end_vertices l.inputs)) e ∙ inside.no_input;
+        no_output = ap (λ l. member u (end_vertices l.outputs)) e ∙ inside.no_output;
+      }
+
+-- the neighbours, then the removal
+pub delete_step : (g h k : Graph) (u : ℕ) → WellFormed g →
+    h ≡ with_changed (delete_kind (phase_of g u) (joined g.edges u)) g → allowed g (Delete u) ≡ true →
+    IsRemoval h u k → IsDelete g u k
+delete_step g h k u w e may c = removed (subst (λ (l : Graph). IsRemoval l u k) e c)
+  where
+    removed : IsRemoval (with_changed (delete_kind (phase_of g u) (joined g.edges u)) g) u k → IsDelete g u k
+    removed r =
+        let s : IsDelete g u (after (Delete u) g) = after_step g (Delete u) w may in
+        record {
+          deletable = s.deletable;
+          vertices = r.vertices ∙ without-with_kinds (delete_kind (phase_of g u) (joined g.edges u)) u g.vertices;
+          edges = r.edges;
+          frame = record { ordered = r.frame.ordered; inputs = r.frame.inputs; outputs = r.frame.outputs };
+        }

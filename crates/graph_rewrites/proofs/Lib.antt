@@ -1,0 +1,9 @@
+mod ComplementSteps
+mod Walks
+mod Halves
+mod PivotSteps
+mod Rewiring
+mod Spiders
+mod Splits
+mod GadgetSteps
+mod GadgetTests

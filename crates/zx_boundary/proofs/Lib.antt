@@ -1,2 +1,0 @@
-mod Spiders
-mod Splits

@@ -1,3 +1,0 @@
-mod GadgetSteps
-mod GadgetTests
-mod Removals

@@ -1,4 +1,0 @@
-mod Rewiring
-mod Halves
-mod PivotSteps
-mod StageLemmas

@@ -1,6 +1,0 @@
--- The laws, by their lemmas.
-use Rattle.zx_reduce.proofs.DemandMoves.{inside_move, after_move, after_moves, demand_at_most}
-use Rattle.zx_reduce.proofs.room_laws.moves_raise_no_demand.Goals as goal
-
-pub returns : goal.returns
-returns c = record { inside = inside_move; after = after_move; along = after_moves; most = demand_at_most }
