@@ -21,7 +21,7 @@ use zx_model::Scalar;
 pub fn perform(g: &mut OpenGraph, f: &mut Flow, step: &Step) -> Result<Scalar, AllocError>
     requires flow { IsFlow g.old.graph f.old.flow }
     requires allowed { allowed g.old.graph (step_named step.now) ≡ true }
-    ensures { IsDoneSafely (step_named step.now) g.old f.old result g.new f.new }
+    ensures safely { IsDoneSafely (step_named step.now) g.old f.old result g.new f.new }
 {
     if has_room_for(step, g, f) {
         return in_place(g, f, step);

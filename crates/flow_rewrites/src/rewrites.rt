@@ -21,7 +21,7 @@ use zx_model::Scalar;
 pub fn local_complement(g: &mut OpenGraph, f: &mut Flow, u: VertexId) -> Result<Scalar, AllocError>
     requires flow { IsFlow g.old.graph f.old.flow }
     requires allowed { allowed g.old.graph (LocalComplement u) ≡ true }
-    ensures { IsDoneSafely (LocalComplement u) g.old f.old result g.new f.new }
+    ensures safely { IsDoneSafely (LocalComplement u) g.old f.old result g.new f.new }
 {
     perform(g, f, &Step::LocalComplement(u))
 }
@@ -31,7 +31,7 @@ pub fn local_complement(g: &mut OpenGraph, f: &mut Flow, u: VertexId) -> Result<
 pub fn delete(g: &mut OpenGraph, f: &mut Flow, u: VertexId) -> Result<Scalar, AllocError>
     requires flow { IsFlow g.old.graph f.old.flow }
     requires allowed { allowed g.old.graph (Delete u) ≡ true }
-    ensures { IsDoneSafely (Delete u) g.old f.old result g.new f.new }
+    ensures safely { IsDoneSafely (Delete u) g.old f.old result g.new f.new }
 {
     perform(g, f, &Step::Delete(u))
 }
@@ -48,7 +48,7 @@ pub fn pivot(
 ) -> Result<Scalar, AllocError>
     requires flow { IsFlow g.old.graph f.old.flow }
     requires allowed { allowed g.old.graph (Pivot u v) ≡ true }
-    ensures { IsDoneSafely (Pivot u v) g.old f.old result g.new f.new }
+    ensures safely { IsDoneSafely (Pivot u v) g.old f.old result g.new f.new }
 {
     perform(g, f, &Step::Pivot(u, v))
 }
@@ -59,7 +59,7 @@ pub fn pivot(
 pub fn split_input(g: &mut OpenGraph, f: &mut Flow, b: VertexId) -> Result<Scalar, AllocError>
     requires flow { IsFlow g.old.graph f.old.flow }
     requires allowed { allowed g.old.graph (SplitInput b) ≡ true }
-    ensures { IsDoneSafely (SplitInput b) g.old f.old result g.new f.new }
+    ensures safely { IsDoneSafely (SplitInput b) g.old f.old result g.new f.new }
 {
     perform(g, f, &Step::SplitInput(b))
 }
@@ -70,7 +70,7 @@ pub fn split_input(g: &mut OpenGraph, f: &mut Flow, b: VertexId) -> Result<Scala
 pub fn split_output(g: &mut OpenGraph, f: &mut Flow, b: VertexId) -> Result<Scalar, AllocError>
     requires flow { IsFlow g.old.graph f.old.flow }
     requires allowed { allowed g.old.graph (SplitOutput b) ≡ true }
-    ensures { IsDoneSafely (SplitOutput b) g.old f.old result g.new f.new }
+    ensures safely { IsDoneSafely (SplitOutput b) g.old f.old result g.new f.new }
 {
     perform(g, f, &Step::SplitOutput(b))
 }
@@ -80,7 +80,7 @@ pub fn split_output(g: &mut OpenGraph, f: &mut Flow, b: VertexId) -> Result<Scal
 pub fn drop_lone(g: &mut OpenGraph, f: &mut Flow, u: VertexId) -> Result<Scalar, AllocError>
     requires flow { IsFlow g.old.graph f.old.flow }
     requires allowed { allowed g.old.graph (DropLone u) ≡ true }
-    ensures { IsDoneSafely (DropLone u) g.old f.old result g.new f.new }
+    ensures safely { IsDoneSafely (DropLone u) g.old f.old result g.new f.new }
 {
     perform(g, f, &Step::DropLone(u))
 }
@@ -90,7 +90,7 @@ pub fn drop_lone(g: &mut OpenGraph, f: &mut Flow, u: VertexId) -> Result<Scalar,
 pub fn fuse_into(g: &mut OpenGraph, f: &mut Flow, u: VertexId) -> Result<Scalar, AllocError>
     requires flow { IsFlow g.old.graph f.old.flow }
     requires allowed { allowed g.old.graph (FuseInto u) ≡ true }
-    ensures { IsDoneSafely (FuseInto u) g.old f.old result g.new f.new }
+    ensures safely { IsDoneSafely (FuseInto u) g.old f.old result g.new f.new }
 {
     perform(g, f, &Step::FuseInto(u))
 }
@@ -105,7 +105,7 @@ pub fn fuse_twin(
 ) -> Result<Scalar, AllocError>
     requires flow { IsFlow g.old.graph f.old.flow }
     requires allowed { allowed g.old.graph (FuseTwin u v) ≡ true }
-    ensures { IsDoneSafely (FuseTwin u v) g.old f.old result g.new f.new }
+    ensures safely { IsDoneSafely (FuseTwin u v) g.old f.old result g.new f.new }
 {
     perform(g, f, &Step::FuseTwin(u, v))
 }
