@@ -18,7 +18,7 @@ use std::alloc::{AllocError, Global};
 use zx_diagram::Diagram;
 use zx_flow::Flow;
 use zx_gates::GateList;
-use zx_simplify::simplify;
+use zx_simplify::simplify_graph;
 
 /// What a diagram comes to.
 #[derive(Drop)]
@@ -74,7 +74,7 @@ pub fn compile(alloc: Global, d: Diagram) -> Result<Compiled, AllocError>
     match find(alloc, &graph)? {
         Found::Flow(table) => {
             let flow = Flow::of_table(&graph, table)?;
-            let simplified = simplify(alloc, graph, flow)?;
+            let simplified = simplify_graph(alloc, graph, flow)?;
             Ok(Compiled::Circuit(simplified.gates))
         }
         Found::NoFlow { left } => Ok(Compiled::NoFlow { left }),

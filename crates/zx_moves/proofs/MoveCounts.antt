@@ -1,5 +1,7 @@
 -- Each move lowers the number that bounds the moves.
-use Rattle.std.proofs.Common.{◌≡◌, refl, sym, ◌∙◌, ap, subst, ℕ, zero, suc, ◌+◌, ◌*◌, ◌<◌, ◌≤◌, Bool, true, false, if◌then◌else◌, not, ◌&&◌, List, [], ◌∷◌, ◌++◌, length, true≢false, arith}
+use Rattle.std.proofs.Common.{◌≡◌, refl, sym, ◌∙◌, ap, subst, ℕ, zero, suc, ◌+◌, ◌*◌, ◌<◌, ◌≤◌, Bool, true, false, if◌then◌else◌, not, ◌&&◌, List, [], ◌∷◌, ◌++◌, length, true≢false, arith, filter}
+use Rattle.std.proofs.lemmas.List.Filters.{length-filter_both}
+use Rattle.zx_calculus.proofs.ReducedLemmas.{counts_within}
 use Rattle.zx_model.specs.Phase.{turn, is_odd, is_half_turns, is_quarter_turn}
 use Rattle.zx_model.specs.Bits.{member, one_if}
 use Rattle.zx_model.proofs.Phases.{odd_otherwise}
@@ -324,3 +326,13 @@ AreMoves-translated g n steps h w planes a =
   where
     within : (n k m l : ℕ) → n + k ≤ m → m ≤ l → n ≤ l
     within n k m l e f = omega arith
+
+-- a graph with few vertices allows few moves
+filter_few : {X : Type 0} (p : X → Bool) (xs : List X) → length (filter p xs) ≤ length xs
+filter_few p xs = let both = length-filter_both p (λ x. not (p x)) (λ x. refl) xs in omega (arith, both)
+
+pub most_moves-few : (g : Graph) → WellFormed g → most_moves g ≤ 3 * length g.vertices
+most_moves-few g w = few _ _ _ _ (counts_within g w) (filter_few (λ (v : Vertex). not (is_XY v.kind.plane)) g.vertices)
+  where
+    few : (e o q n : ℕ) → e + o ≤ n → q ≤ n → 2 * e + q + 2 * o ≤ 3 * n
+    few e o q n a b = omega (arith, a, b)

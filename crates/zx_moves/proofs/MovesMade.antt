@@ -26,7 +26,7 @@ pub begun : (g : Graph) (steps before : List Step) → AreAllowed g (map step_na
     IsUnderWay g steps 0 g before before
 begun g steps before left = record { run = refl; left = left; trace = sym (append-nil before) }
 
-next_left : (steps : List Step) (i : ℕ) (k : Graph) (step : Step) →
+pub next_left : (steps : List Step) (i : ℕ) (k : Graph) (step : Step) →
     AreAllowed k (map step_named (drop i steps)) → i < length steps → step ≡ get_or steps i step →
     AreAllowed k (step_named step ∷ map step_named (drop (suc i) steps))
 next_left steps i k step left within is =

@@ -1,6 +1,5 @@
 -- Scalars of steps one after the other.
-use Rattle.std.proofs.Common.{◌≡◌, refl, sym, ◌∙◌, ap, subst, ℕ, ◌+◌, ◌*◌, ◌-◌, ◌<◌, ◌≤◌, length, arith, List, Bool, not, filter, map}
-use Rattle.std.proofs.lemmas.List.Filters.{length-filter_both}
+use Rattle.std.proofs.Common.{◌≡◌, refl, sym, ◌∙◌, ap, subst, ℕ, ◌+◌, ◌*◌, ◌-◌, ◌<◌, ◌≤◌, length, arith, List, [], map}
 use Rattle.zx_model.specs.Scalar.{IsScaled, IsWithin, one_scalar, product_of_scalars, most_root2}
 use Rattle.zx_model.specs.declared.scalar.Scalar.{Scalar}
 use Rattle.zx_model.proofs.Scalars.{scaled_refl, scaled_trans, within_product, within_more}
@@ -10,8 +9,6 @@ use Rattle.zx_calculus.specs.Steps.{Step, IsStep}
 use Rattle.zx_calculus.specs.StepScalars.{step_scalar}
 use Rattle.zx_calculus.proofs.Steps.{step_sum, inputs_kept, outputs_kept}
 use Rattle.zx_calculus.proofs.StepScalars.{step_scaled, step_within}
-use Rattle.zx_calculus.specs.Graph.{Vertex, is_XY}
-use Rattle.zx_calculus.proofs.ReducedLemmas.{counts_within}
 use Rattle.graph_rewrites.specs.declared.step.Step.{Step as TraceStep}
 use Rattle.open_graph.specs.OpenGraph.{most_vertices_in_memory}
 use Rattle.zx_moves.specs.Moving.{most_moves, steps_of, GainsMoves}
@@ -21,6 +18,7 @@ use Rattle.zx_moves.specs.declared.moves.Move.{Move}
 use Rattle.graph_rewrites.specs.Steps.{step_named}
 use Rattle.zx_moves.proofs.MovesMade.{gained_few_moves}
 use Rattle.zx_moves.proofs.MoveRuns.{length-steps_of}
+use Rattle.zx_moves.proofs.MoveCounts.{most_moves-few}
 use Rattle.std.proofs.lemmas.List.{length-map}
 
 pub scales_none : (g : Graph) → Scales g 0 one_scalar g
@@ -58,15 +56,6 @@ scales_step g step h s w done is = record {
 }
 
 -- ---- moves
-filter_few : {X : Type 0} (p : X → Bool) (xs : List X) → length (filter p xs) ≤ length xs
-filter_few p xs = let both = length-filter_both p (λ x. not (p x)) (λ x. refl) xs in omega (arith, both)
-
-pub most_moves-few : (g : Graph) → WellFormed g → most_moves g ≤ 3 * length g.vertices
-most_moves-few g w = few _ _ _ _ (counts_within g w) (filter_few (λ (v : Vertex). not (is_XY v.kind.plane)) g.vertices)
-  where
-    few : (e o q n : ℕ) → e + o ≤ n → q ≤ n → 2 * e + q + 2 * o ≤ 3 * n
-    few e o q n a b = omega (arith, a, b)
-
 -- a graph with few vertices allows few moves
 pub few_made : {g h : Graph} {before after : List TraceStep} {made : ℕ} → GainsMoves g h before after 0 made → WellFormed g →
     made ≤ 3 * length g.vertices

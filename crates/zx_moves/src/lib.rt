@@ -2,15 +2,13 @@
 //! rewrites are those of `graph_rewrites`.
 //!
 //! Proved: `next_move` answers a move that applies, of the first kind that applies anywhere, or that none is
-//! left; `move_at` the move of a kind at a vertex, or that there is none. Each move lowers a number of the
-//! graph, and its rewrites can be done one after the other.
+//! left. Each move lowers a number of the graph, and its rewrites can be done one after the other.
 //!
 //! Inside:
 //!
 //! - `trace`: the steps that were done.
-//! - `moves`: the moves, their kinds and the order of kinds. `search` finds the next one in a graph, and that of
-//!   a kind at a vertex. Of pivots it takes the one that costs least, and at first those within a part of the
-//!   circuit, by `levels`. `planning` lists the steps of a move; `made` tells what moves came to.
+//! - `moves`: the moves, their kinds and the order of kinds. `search` finds the next one in a graph: of the pivots of a
+//!   vertex the one that costs least. `planning` lists the steps of a move; `made` tells what moves came to.
 //! - `simplification_laws`: the laws of moves.
 //!
 //! ```rust
@@ -20,7 +18,6 @@
 //! ```
 #![tactic(auto)]
 
-mod levels;
 mod made;
 mod moves;
 mod planning;
@@ -28,11 +25,10 @@ mod search;
 mod simplification_laws;
 mod trace;
 
-pub use levels::{LEVELS, level_between, level_in, levels_of};
 pub use made::Made;
 pub use moves::{KINDS, Kind, Move};
 pub use planning::add_steps;
-pub use search::{is_settled, may_begin, move_at, next_move, pivot_cost};
+pub use search::{next_move, pivot_cost};
 pub use simplification_laws::{
     graphs_of_circuits_allow_few_moves, moves_are_a_run, moves_are_short, moves_begin_allowed,
     moves_can_be_made, moves_end_in_reduced_graphs,

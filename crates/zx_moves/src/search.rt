@@ -13,7 +13,6 @@ ghost use Rattle.zx_moves.specs.declared.moves.Kind.TheVariants as kinds;
 ghost use Rattle.zx_moves.specs.Search.{AppliesAt, IsOfFirstKind, IsMoveOf, IsSettled, MayBegin, NoneAt};
 ghost use Rattle.zx_moves.specs.Internal.Searching.{is_twin, TellsTwins, IsMoveAt, NoneBefore};
 
-use crate::levels::level_in;
 use crate::moves::{KINDS, Kind, Move};
 use graph_rewrites::{is_gadget, may_complement, may_delete};
 use open_graph::{OpenGraph, Plane, VertexId};
@@ -61,15 +60,15 @@ fn first_at(g: &OpenGraph, u: VertexId, limit: usize) -> Option<(usize, Move)>
         return None;
     }
     for i in 0..limit {
-        if let Some(found) = move_at(g, u, KINDS[i], &[]) {
+        if let Some(found) = move_at(g, u, KINDS[i]) {
             return Some((i, found));
         }
     }
     None
 }
 
-/// Whether a vertex is XY and of an odd phase. No move begins there, and most vertices are such.
-pub fn is_settled(g: &OpenGraph, u: VertexId) -> bool
+// Whether a vertex is XY and of an odd phase. No move begins there, and most vertices are such.
+fn is_settled(g: &OpenGraph, u: VertexId) -> bool
     requires { Live g.now.graph u }
     ensures { IsTrue result ↔ IsSettled g.now.graph u }
 {
@@ -77,8 +76,8 @@ pub fn is_settled(g: &OpenGraph, u: VertexId) -> bool
     matches!(plane, Plane::XY) && phase.is_odd()
 }
 
-/// Whether a move of this kind may begin at a vertex, by the vertex alone.
-pub fn may_begin(g: &OpenGraph, u: VertexId, kind: Kind) -> bool
+// Whether a move of this kind may begin at a vertex, by the vertex alone.
+fn may_begin(g: &OpenGraph, u: VertexId, kind: Kind) -> bool
     requires valid { WellFormed g.now.graph }
     requires live { Live g.now.graph u }
     ensures { IsTrue result ↔ MayBegin g.now.graph kind u }
@@ -95,9 +94,9 @@ pub fn may_begin(g: &OpenGraph, u: VertexId, kind: Kind) -> bool
     }
 }
 
-/// The move of this kind that applies at a vertex, None where there is none. Of the pivots with neighbours without
-/// ends that of the lowest level by these levels of vertices, by number; of several such the one that costs least.
-pub fn move_at(g: &OpenGraph, u: VertexId, kind: Kind, levels: &[u8]) -> Option<Move>
+// The move of this kind that applies at a vertex, None where there is none. Of the pivots with neighbours without
+// ends the one that costs least.
+fn move_at(g: &OpenGraph, u: VertexId, kind: Kind) -> Option<Move>
     requires valid { WellFormed g.now.graph }
     requires live { Live g.now.graph u }
     ensures found { IfSome result (IsMoveOf g.now.graph kind) }
@@ -111,7 +110,7 @@ pub fn move_at(g: &OpenGraph, u: VertexId, kind: Kind, levels: &[u8]) -> Option<
         Kind::QuarterGadget => Some(Move::QuarterGadget(u)),
         Kind::FromXZ => Some(Move::FromXZ(u)),
         Kind::QuarterSpider => Some(Move::QuarterSpider(u)),
-        Kind::InnerPivot => Some(Move::InnerPivot(u, inner_neighbour(g, u, levels)?)),
+        Kind::InnerPivot => Some(Move::InnerPivot(u, inner_neighbour(g, u)?)),
         Kind::BoundaryPivot => Some(Move::BoundaryPivot(u, boundary_neighbour(g, u)?)),
         Kind::GadgetPair => Some(Move::GadgetPair(u, gadget_beside(g, u)?)),
         Kind::LoneGadget => Some(Move::LoneGadget(u)),
@@ -121,7 +120,7 @@ pub fn move_at(g: &OpenGraph, u: VertexId, kind: Kind, levels: &[u8]) -> Option<
 }
 
 // Of the neighbours without ends the one whose pivot with u costs least.
-fn inner_neighbour(g: &OpenGraph, u: VertexId, levels: &[u8]) -> Option<VertexId>
+fn inner_neighbour(g: &OpenGraph, u: VertexId) -> Option<VertexId>
     requires { Live g.now.graph u }
     ensures found { IfSome result (λ v.
         (member v (neighbours g.now.graph u) ≡ true) × (may_complement g.now.graph v ≡ true)) }
@@ -129,9 +128,9 @@ fn inner_neighbour(g: &OpenGraph, u: VertexId, levels: &[u8]) -> Option<VertexId
         may_complement g.now.graph v ≡ false) }
 {
     let mut best = None;
-    let mut least = (0, 0);
+    let mut least = 0;
     for v in g.neighbours(u) {
-        (best, least) = better_of(g, u, levels, best, least, v);
+        (best, least) = better_of(g, u, best, least, v);
     }
     best
 }
@@ -143,7 +142,7 @@ fn boundary_neighbour(g: &OpenGraph, u: VertexId) -> Option<VertexId>
     ensures found { IfSome result (IsBoundaryPivot g.now.graph u) }
     ensures none { IfNone result ((v : ℕ) → ¬ IsBoundaryPivot g.now.graph u v) }
 {
-    if inner_neighbour(g, u, &[]).is_some() {
+    if inner_neighbour(g, u).is_some() {
         return None;
     }
     first_neighbour(g, u)
@@ -153,11 +152,10 @@ fn boundary_neighbour(g: &OpenGraph, u: VertexId) -> Option<VertexId>
 fn better_of(
     g: &OpenGraph,
     u: VertexId,
-    levels: &[u8],
     best: Option<VertexId>,
-    least: (usize, usize),
+    least: usize,
     v: VertexId,
-) -> (Option<VertexId>, (usize, usize))
+) -> (Option<VertexId>, usize)
     requires { Live g.now.graph u }
     ensures found { IfSome result.0 (λ w.
         ((w ≡ v) × (may_complement g.now.graph v ≡ true)) ⊎ (best ≡ Some w)) }
@@ -166,13 +164,9 @@ fn better_of(
     if !may_complement(g, v) {
         return (best, least);
     }
-    let level = level_in(levels, u).max(level_in(levels, v));
-    if best.is_some() && level > least.0 {
-        return (best, least);
-    }
     let cost = pivot_cost(g, u, v);
-    if best.is_none() || level < least.0 || cost < least.1 {
-        (Some(v), (level, cost))
+    if best.is_none() || cost < least {
+        (Some(v), cost)
     } else {
         (best, least)
     }

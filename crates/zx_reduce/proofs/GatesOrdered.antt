@@ -18,7 +18,7 @@ use Rattle.growing_laws.specs.Growing.{IsFree, placed}
 use Rattle.growing_laws.proofs.FlowsGrown.{spider_ranked, phase_ranked, edge_ranked}
 use Rattle.growing_laws.proofs.Peeled.{placed_formed}
 use Rattle.growing_laws.proofs.TranslatedGraphs.{wires_ranked}
-use Rattle.zx_reduce.specs.Ordering.{Ordered, IsOrdered}
+use Rattle.zx_reduce.specs.Internal.Ordering.{Ordered, IsOrdered}
 
 -- wires have a flow of nothing
 pub ordered_wires : (n : ℕ) (o : Ordered) → o.graph ≡ wires n → WellFormed o.graph → o.low ≤ o.high → IsOrdered o

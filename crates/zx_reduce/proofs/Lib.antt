@@ -1,7 +1,5 @@
-mod AppliedSteps
-mod MovesMade
-mod CandidateLists
-mod Guided
-mod Ranking
-mod Scaling
+pub mod Ranking
 pub mod GatesOrdered
+pub mod Doing
+pub mod Growths
+pub mod Completing

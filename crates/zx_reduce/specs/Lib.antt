@@ -1,3 +1,4 @@
 pub mod Reducing
-pub mod Ordering
+pub mod Grown
+pub mod Scaling
 pub mod Internal

@@ -1,41 +1,44 @@
-//! Simplification of open graphs that their callers give away: `reduce_owned`, moves until none is left. Rewrites are
-//! those of `graph_rewrites`, moves and the search for the next move those of `zx_moves`. One rewrite of a graph with
-//! its flow, `apply`, and simplification of both where they are, `reduce`, stand in `flow_rewrites`.
+//! Simplification of open graphs: steps, which are rewrites by their names, until none is left to do. The same of the
+//! graph of a circuit while its gates are still put behind it.
 //!
-//! Proved of `reduce_owned` with Ok: the graph is reduced, with a flow, a proportional sum, as many ends and no more
-//! odd phases; the trace has the steps of moves from the old graph to the new one, each of the first kind that
-//! applied.
+//! Proved of `reduce_owned`: the graph is reduced, with a flow, a proportional sum, as many ends and no more odd phases;
+//! the steps of the trace lead there from the graph that was given. Proved of `grow`: some such steps lead from the
+//! circuit's graph to the reduced one, but for the names of the vertices, and the circuit's map is so many times its sum.
 //!
-//! While moves are made no correction set is kept, only the order along which the graph has a flow;
-//! sets are found along it at the end. The next move is looked for where rewrites changed something.
+//! Steps are proposed where something changed, by a queue of which nothing is promised, and each is tested before it is
+//! done. Once the queue is empty, `next_move` of `zx_moves` tells whether a move is left: what it finds is done, and the
+//! queue goes on from there. After too many looks the moves that it finds are made one after the other, which always
+//! comes to an end. While steps are done no correction set is kept, only the order along which the graph has a flow;
+//! sets are found along it at the end.
+//!
+//! Where gates are put behind a graph, a spider of an even phase between two others goes at once. After each block of new
+//! spiders moves are made at vertices that no gate reaches any more, so that the graph stays small, and parts of the
+//! circuit that are far from each other are joined as late as possible. Ends are split at the end alone.
 //!
 //! Inside:
 //!
-//! - `reduction`: moves until none is left.
-//! - `working`: the graph, without correction sets, on which moves are made; beside it
-//!   stand the order of its flow (`ranks`) and the vertices at which moves may begin
-//!   (`candidates`), in lists (`pile`) by kind, by how far they reach in the circuit and by the
-//!   number of neighbours. `in_graph` does a step on graph and order. At the end `flow_find`
-//!   finds sets along that order, or a cheaper one.
-//! - `ordered`: a graph that is simplified while gates are still put behind its outputs.
+//! - `reduction`: `reduce_owned`. `growing`: `grow`, the gates and the moves between them.
+//! - `engine`: which moves are made, until none is left. `progress`: the graph with the scalar so far, and what may be
+//!   done to it. `ordered`, `ranks`: the graph with the order of its flow.
+//! - `queue`, `plan`, `twins`, `levels`, `blocks`: which steps are tried, and when. Nothing is promised of them.
 //!
 //! ```rust
-//! let reduction = reduce_owned(alloc, graph, flow)?;
+//! let made = reduce_owned(alloc, graph, flow)?;
+//! let grown = grow(alloc, &circuit)?;
 //! ```
 #![tactic(auto)]
 
-mod candidates;
-mod in_graph;
+mod blocks;
+mod engine;
+mod growing;
+mod levels;
 mod ordered;
-mod pile;
+mod plan;
+mod progress;
+mod queue;
 mod ranks;
 mod reduction;
-mod working;
+mod twins;
 
-pub use ordered::Ordered;
+pub use growing::{Grown, grow};
 pub use reduction::{Reduction, reduce_owned};
-pub use zx_moves::{
-    KINDS, Kind, LEVELS, Move, Trace, graphs_of_circuits_allow_few_moves, level_between,
-    moves_are_a_run, moves_are_short, moves_begin_allowed, moves_can_be_made,
-    moves_end_in_reduced_graphs, next_move, pivot_cost,
-};

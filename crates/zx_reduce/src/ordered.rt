@@ -1,39 +1,39 @@
 //! A graph that is simplified while gates are still put behind its outputs.
 
-ghost use Rattle.std.specs.Prelude.{◌≡◌, ◌≢◌, ◌<◌, true, false, length, IfSome, IfNone, IfOk, OnOk};
+ghost use Rattle.std.specs.Prelude.{◌≡◌, ◌≢◌, ◌<◌, true, length, IfOk, OnOk};
 ghost use Rattle.zx_calculus.specs.Graph.{WellFormed};
-ghost use Rattle.zx_calculus.specs.Steps.{IsStep};
+ghost use Rattle.zx_calculus.specs.Steps.{allowed, IsStep};
 ghost use Rattle.zx_calculus.specs.StepScalars.{step_scalar};
-ghost use Rattle.move_laws.specs.Orders.{is_split};
 ghost use Rattle.circuit_laws.specs.Peeling.{are_plain, HasPlainOutput};
 ghost use Rattle.circuit_graph.specs.Translation.{wires};
 ghost use Rattle.zx_gates.specs.declared.gate.Gate.TheVariants.{H, Phase, Cz};
 ghost use Rattle.growing_laws.specs.Growing.{IsFree, placed};
-ghost use Rattle.zx_reduce.specs.Ordering.{IsOrdered};
-ghost use Rattle.zx_reduce.specs.Reducing.{Reduces};
+ghost use Rattle.gflow_laws.specs.Flow.{IsFlow};
 ghost use Rattle.graph_rewrites.specs.Steps.{step_named};
+ghost use Rattle.zx_reduce.specs.Internal.Guiding.{HasFlowIn};
+ghost use Rattle.zx_reduce.specs.Internal.Ordering.{IsOrdered};
 
 use crate::ranks::Ranks;
-use crate::reduction::{Reduction, reduce_ordered};
 use circuit_graph::wires_alone;
-use graph_rewrites::Step;
+use flow_find::find_by_rank;
 use open_graph::{End, OpenGraph, Plane, VertexId};
 use std::alloc::{AllocError, Global};
 use std::marker::Model;
+use zx_flow::Flow;
 use zx_gates::Qubit;
 use zx_model::{Scalar, Sixteenth};
+use graph_rewrites::Step;
 
 /// A graph with the order along which it has a flow, without correction sets. After a call that ran out
 /// of memory a part of it may be done, so all of it is thrown away then.
 #[derive(Drop)]
-pub struct Ordered {
-    alloc: Global,
+pub(crate) struct Ordered {
     graph: OpenGraph,
     order: Ranks,
 }
 
 impl Model for Ordered {
-    ghost use Rattle.zx_reduce.specs.Ordering.{Ordered as Seen};
+    ghost use Rattle.zx_reduce.specs.Internal.Ordering.{Ordered as Seen};
 
     ghost Value = { Seen };
 
@@ -47,28 +47,33 @@ impl Model for Ordered {
 
 impl Ordered {
     /// So many wires without gates.
-    pub fn wires(alloc: Global, qubits: Qubit) -> Result<Ordered, AllocError>
+    pub(crate) fn wires(alloc: Global, qubits: Qubit) -> Result<Ordered, AllocError>
         ensures graph { IfOk result (λ made. made.graph ≡ wires qubits) }
         ensures ordered { IfOk result IsOrdered }
     {
         let graph = wires_alone(alloc, qubits)?;
         let order = Ranks::of_order(alloc, &[])?;
-        Ok(Ordered {
-            alloc,
-            graph,
-            order,
-        })
+        Ok(Ordered { graph, order })
+    }
+
+    /// A graph, with the order along which it has a flow.
+    pub(crate) fn of_graph(graph: OpenGraph, order: Ranks) -> Ordered
+        requires flow { HasFlowIn graph.graph order }
+        ensures graph { result.graph ≡ graph.graph }
+        ensures ordered { IsOrdered result }
+    {
+        Ordered { graph, order }
     }
 
     /// The graph.
-    pub fn graph(&self) -> &OpenGraph
+    pub(crate) fn graph(&self) -> &OpenGraph
         ensures { result.now.graph ≡ self.now.graph }
     {
         &self.graph
     }
 
     /// The vertex at the output of a qubit.
-    pub fn present(&self, q: Qubit) -> VertexId
+    pub(crate) fn present(&self, q: Qubit) -> VertexId
         requires plain { are_plain self.now.graph.outputs ≡ true }
         requires on_qubits { q < length self.now.graph.outputs }
         ensures value { HasPlainOutput self.now.graph q result }
@@ -79,7 +84,7 @@ impl Ordered {
 
     /// Puts H behind the output of a qubit: an edge joins the vertex there to a new spider of phase 0,
     /// which takes its place. Answers that.
-    pub fn add_hadamard(&mut self, q: Qubit) -> Result<VertexId, AllocError>
+    pub(crate) fn add_hadamard(&mut self, q: Qubit) -> Result<VertexId, AllocError>
         requires plain { are_plain self.old.graph.outputs ≡ true }
         requires on_qubits { q < length self.old.graph.outputs }
         ensures fresh { IfOk result (λ new. IsFree new self.old.graph) }
@@ -95,7 +100,7 @@ impl Ordered {
     }
 
     /// Puts a phase gate behind the output of a qubit.
-    pub fn add_phase(&mut self, q: Qubit, phase: Sixteenth)
+    pub(crate) fn add_phase(&mut self, q: Qubit, phase: Sixteenth)
         requires plain { are_plain self.old.graph.outputs ≡ true }
         requires on_qubits { q < length self.old.graph.outputs }
         requires turns { phase ≢ 0 }
@@ -108,7 +113,7 @@ impl Ordered {
     }
 
     /// Puts Cz behind the outputs of two qubits.
-    pub fn toggle(&mut self, p: Qubit, q: Qubit) -> Result<(), AllocError>
+    pub(crate) fn toggle(&mut self, p: Qubit, q: Qubit) -> Result<(), AllocError>
         requires plain { are_plain self.old.graph.outputs ≡ true }
         requires p_on_qubits { p < length self.old.graph.outputs }
         requires q_on_qubits { q < length self.old.graph.outputs }
@@ -121,46 +126,56 @@ impl Ordered {
         self.graph.toggle_edge(first, second)
     }
 
-    /// Does a step where it is allowed and splits no end, and answers its scalar: the sum before is so
-    /// many times the sum after. Where it isn't allowed nothing is done, and None is answered.
+    /// Does a step that is allowed, and answers its scalar: the sum before is so many times the sum after. A vertex that
+    /// goes keeps its rank, which doesn't matter any more.
     ///
     /// # Errors
     ///
     /// Only where memory runs out.
-    pub fn try_step(&mut self, step: &Step) -> Result<Option<Scalar>, AllocError>
-        ensures step { IfOk result (λ done. IfSome done (λ s.
-            IsStep self.old.graph (step_named step.now) self.new.graph)) }
-        ensures scalar { IfOk result (λ done. IfSome done (λ s.
-            s ≡ step_scalar self.old.graph (step_named step.now))) }
-        ensures whole { IfOk result (λ done. IfSome done (λ s. is_split (step_named step.now) ≡ false)) }
-        ensures none { IfOk result (λ done. IfNone done (self.new ≡ self.old)) }
+    pub(crate) fn do_step(&mut self, step: &Step) -> Result<Scalar, AllocError>
+        requires { allowed self.old.graph (step_named step.now) ≡ true }
+        ensures step { OnOk result (IsStep self.old.graph (step_named step.now) self.new.graph) }
+        ensures scalar { IfOk result (λ s. s ≡ step_scalar self.old.graph (step_named step.now)) }
         ensures ordered { OnOk result (IsOrdered self.old → IsOrdered self.new) }
     {
-        if step.is_split() {
-            return Ok(None);
-        }
-        if !step.is_allowed(&self.graph) {
-            return Ok(None);
-        }
-        let scalar = step.do_in(&mut self.graph)?;
-        Ok(Some(scalar))
+        rewrite(&mut self.graph, &mut self.order, step)
     }
 
-    /// Does moves until none is left, as `reduce_owned`.
+    /// The graph with a flow, of which sets are found along the order.
     ///
     /// # Errors
     ///
     /// Only where memory runs out.
-    pub fn reduce(self) -> Result<Reduction, AllocError>
+    pub(crate) fn with_flow(self, alloc: Global) -> Result<(OpenGraph, Flow), AllocError>
         requires ordered { IsOrdered self }
-        ensures { IfOk result (λ made. Reduces self.graph
-            made.graph.graph made.flow.flow made.trace.steps made.scalar) }
+        ensures graph { IfOk result (λ made. made.0.graph ≡ self.graph) }
+        ensures flow { IfOk result (λ made. IsFlow made.0.graph made.1.flow) }
     {
-        let Ordered {
-            alloc,
-            graph,
-            order,
-        } = self;
-        reduce_ordered(alloc, graph, order)
+        let Ordered { graph, order } = self;
+        let flow = found_flow(alloc, &graph, &order)?;
+        Ok((graph, flow))
     }
+}
+
+// Does a step that is allowed, and answers its scalar. A vertex that goes keeps its rank, which doesn't matter any more.
+fn rewrite(g: &mut OpenGraph, order: &mut Ranks, step: &Step) -> Result<Scalar, AllocError>
+    requires allowed { allowed g.old.graph (step_named step.now) ≡ true }
+    ensures step { OnOk result (IsStep g.old.graph (step_named step.now) g.new.graph) }
+    ensures scalar { IfOk result (λ s. s ≡ step_scalar g.old.graph (step_named step.now)) }
+    ensures flow { OnOk result (HasFlowIn g.old.graph order.old → HasFlowIn g.new.graph order.new) }
+    ensures valid { WellFormed g.new.graph }
+{
+    let added = VertexId::new(g.next_id());
+    let scalar = step.do_in(g)?;
+    order.follow(step, added)?;
+    Ok(scalar)
+}
+
+// A flow along the order of these ranks.
+fn found_flow(alloc: Global, g: &OpenGraph, order: &Ranks) -> Result<Flow, AllocError>
+    requires flow { HasFlowIn g.now.graph order.now }
+    ensures { IfOk result (λ found. IsFlow g.now.graph found.flow) }
+{
+    let table = find_by_rank(alloc, g, order.ranks.as_slice())?;
+    Flow::of_table(g, table)
 }

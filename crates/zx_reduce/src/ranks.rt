@@ -4,12 +4,15 @@ ghost use Rattle.std.specs.Prelude.{◌≡◌, ℕ, suc, IfOk, OnOk};
 ghost use Rattle.zx_calculus.specs.Graph.{Graph, Distinct};
 ghost use Rattle.gflow_laws.specs.Flow.{IsFlow};
 ghost use Rattle.move_laws.specs.Ranks.{rank_in, ranked};
+ghost use Rattle.graph_rewrites.specs.Steps.{step_named};
 ghost use Rattle.zx_reduce.specs.Internal.Guiding.{AreRanked, HasFlowIn};
+ghost use Rattle.zx_reduce.specs.Internal.Ranked.{AreRanksAfter};
 
 use open_graph::VertexId;
 use std::alloc::{AllocError, Global};
 use vertex_map::{Values, VertexMap};
 use zx_flow::Flow;
+use graph_rewrites::Step;
 
 // The rank at which a list begins: as far from the least rank as from the greatest.
 const MIDDLE: u64 = 9_223_372_036_854_775_808;
@@ -86,5 +89,16 @@ impl Ranks {
         self.ranks.set(v.get(), self.high)?;
         self.high = high;
         Ok(())
+    }
+
+    /// Gives a rank to the vertex that comes into the order where a step splits an end: of an input, the new one.
+    pub(crate) fn follow(&mut self, step: &Step, added: VertexId) -> Result<(), AllocError>
+        ensures { OnOk result (AreRanksAfter (step_named step.now) added self.old self.new) }
+    {
+        match step {
+            Step::SplitInput(_) => self.add_first(added),
+            Step::SplitOutput(b) => self.add_last(*b),
+            _ => Ok(()),
+        }
     }
 }

@@ -1,18 +1,14 @@
 -- What is said of two circuits.
-use Rattle.std.proofs.Common.{◌≡◌, ◌≢◌, ◌∙◌, ℕ, List, Bool, true, false, length, map, sym, ap₂, subst, Contains}
+use Rattle.std.specs.Prelude.{IsNone, IfSome}
+use Rattle.std.proofs.Common.{Option, Some, None, ◌≡◌, ◌≢◌, ◌∙◌, ℕ, List, Bool, true, false, length, sym, ap₂, subst, Contains}
 use Rattle.zx_model.specs.Proportional.{Proportional}
-use Rattle.zx_calculus.specs.Graph.{Graph}
-use Rattle.zx_calculus.specs.Steps.{Step}
 use Rattle.zx_gates.specs.declared.elementary.Elementary.{Elementary}
 use Rattle.zx_gates.specs.declared.elementary.Measure.{Measure}
 use Rattle.zx_gates.specs.Circuit.{Circuit, IsCircuit, circuit_of, gate_odd_phases}
 use Rattle.zx_gates.specs.Elementary.{elementary_odd_phases}
 use Rattle.zx_gates.specs.Lowering.{lowered}
 use Rattle.zx_gates.specs.Maps.{amp}
-use Rattle.graph_rewrites.specs.Steps.{step_named}
-use Rattle.zx_same.specs.declared.comparing.Sameness.{Sameness}
-use Rattle.zx_same.specs.declared.comparing.Sameness.TheVariants.{Same, NotShown}
-use Rattle.zx_same.specs.Comparing.{IfNotShown, IsLeftOfBoth, IsSame}
+use Rattle.zx_same.specs.Comparing.{IsLeft}
 use Rattle.zx_run.specs.Comparing.{AreProportional, HaveSameMeasures, circuit_for}
 use Rattle.zx_run.specs.TwoTexts.{AreAccepted}
 use Rattle.zx_run.specs.Internal.Verdicts.{HasLeft, IsComparison, IsComparisonOf}
@@ -49,25 +45,24 @@ comparison_for text bytes one other false accepted said = record { one = one; ot
 comparison_for text bytes one other true accepted said = record { one = one; other = other; accepted = accepted; difference = said }
 
 -- where a circuit is left, it isn't shown that both are the same
-not_same : (found : Sameness) (count : ℕ) → HasLeft found count → IsSame found → ⊥
-not_same Same count told is = told
-not_same (NotShown left trace end) count told is = subst (IfNotShown (λ left steps end. ⊥)) (sym is) tt
+not_none : (found : Option Circuit) (count : ℕ) → HasLeft found count → IsNone found → ⊥
+not_none None count told is = told
+not_none (Some left) count told is = absurd is
 
 -- the circuit of which so many gates are left, with what it is left of
-pub left_told : (a b : Circuit) (found : Sameness) (count : ℕ) → HasLeft found count → (a.gates ≡ b.gates → IsSame found) →
-    IfNotShown (λ left steps end. IsLeftOfBoth a b left (map step_named steps) end) found →
-    (left : Circuit) × (steps : List Step) × (end : Graph) × (count ≡ length left.gates) × (a.gates ≢ b.gates) × IsLeftOfBoth a b left steps end × IsCircuit left
-left_told a b Same count told equal is_left = absurd told
-left_told a b (NotShown left trace end) count told equal is_left =
-    (left, map step_named trace.steps, end.graph, told.0, λ same. not_same (NotShown left trace end) count told (equal same), is_left, told.1)
+pub left_told : (a b : Circuit) (found : Option Circuit) (count : ℕ) → HasLeft found count → (a.gates ≡ b.gates → IsNone found) → IfSome found (IsLeft a b) →
+    (left : Circuit) × (count ≡ length left.gates) × (a.gates ≢ b.gates) × IsLeft a b left × IsCircuit left
+left_told a b None count told equal is_left = absurd told
+left_told a b (Some left) count told equal is_left =
+    (left, told.0, λ same. not_none (Some left) count told (equal same), is_left, told.1)
 
 -- two circuits without odd phases have different maps where they aren't shown to be the same
-pub maps_differ : (one other : Elementary) (a b : Circuit) (found : Sameness) (count : ℕ) → HasLeft found count → a ≡ circuit_for one → b ≡ circuit_for other
+pub maps_differ : (one other : Elementary) (a b : Circuit) (found : Option Circuit) (count : ℕ) → HasLeft found count → a ≡ circuit_for one → b ≡ circuit_for other
     → gate_odd_phases a.gates ≡ elementary_odd_phases one.gates → gate_odd_phases b.gates ≡ elementary_odd_phases other.gates
-    → (gate_odd_phases a.gates ≡ 0 → gate_odd_phases b.gates ≡ 0 → Proportional a.qubits a.qubits (amp a.gates) (amp b.gates) → IsSame found)
+    → (gate_odd_phases a.gates ≡ 0 → gate_odd_phases b.gates ≡ 0 → Proportional a.qubits a.qubits (amp a.gates) (amp b.gates) → IsNone found)
     → elementary_odd_phases one.gates ≡ 0 → elementary_odd_phases other.gates ≡ 0 → AreProportional one other → ⊥
 maps_differ one other a b found count told first second as_one as_other clifford none nothing same =
-    not_same found count told
+    not_none found count told
     (clifford (as_one ∙ none) (as_other ∙ nothing)
     (subst (λ (y : Circuit). Proportional a.qubits a.qubits (amp a.gates) (amp y.gates)) (sym second)
     (subst (λ (x : Circuit). Proportional x.qubits x.qubits (amp x.gates) (amp (circuit_for other).gates)) (sym first) same)))

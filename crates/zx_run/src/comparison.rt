@@ -1,17 +1,16 @@
 //! From the two circuits that are read to the line about whether they are the same.
 
-ghost use Rattle.std.specs.Prelude.{◌≡◌, true, false, List, ℕ, Contains, IfNone, IfOk, IfSome};
+ghost use Rattle.std.specs.Prelude.{◌≡◌, true, false, List, ℕ, Contains, None, IfNone, IfOk, IfSome};
 ghost use Rattle.zx_gates.specs.declared.elementary.Measure.{Measure as Measured};
 ghost use Rattle.zx_gates.specs.Elementary.{IsElementary};
 ghost use Rattle.zx_run.specs.Comparing.{HaveSameMeasures, HaveSameWidths};
 ghost use Rattle.zx_run.specs.TwoTexts.{AreAccepted};
 ghost use Rattle.zx_run.specs.Internal.Verdicts.{HasLeft, IsComparison, IsComparisonOf};
-ghost use Rattle.zx_same.specs.declared.comparing.Sameness.TheVariants.{Same};
 
 use crate::written::Written;
 use std::alloc::{AllocError, Global};
-use zx_gates::{Elementary, Measure, lower};
-use zx_same::{Sameness, compare};
+use zx_gates::{Elementary, GateList, Measure, lower};
+use zx_same::left_of;
 
 /// The line about two circuits: `same`, or no with `widths N M`, `measures differ` or `not shown K`.
 ///
@@ -67,7 +66,7 @@ fn line_about_gates(
 {
     let first = lower(alloc, one)?;
     let second = lower(alloc, other)?;
-    let found = compare(alloc, &first.gates, &second.gates)?;
+    let found = left_of(alloc, &first.gates, &second.gates)?;
     drop(first);
     drop(second);
     let left = gates_left(&found);
@@ -85,13 +84,13 @@ fn line_about_gates(
 }
 
 // How many gates are left where it isn't shown that the circuits are the same.
-fn gates_left(found: &Sameness) -> Option<usize>
-    ensures none { IfNone result (found.now ≡ Same) }
+fn gates_left(found: &Option<GateList>) -> Option<usize>
+    ensures none { IfNone result (found.now ≡ None) }
     ensures some { IfSome result (HasLeft found.now) }
 {
     match found {
-        Sameness::Same => None,
-        Sameness::NotShown { left, .. } => Some(left.gates().len()),
+        None => None,
+        Some(left) => Some(left.gates().len()),
     }
 }
 

@@ -12,13 +12,11 @@ use Rattle.zx_model.proofs.Scalars.{scaled_proportional}
 use Rattle.zx_model.proofs.ProportionalLemmas.{proportional_trans}
 use Rattle.zx_calculus.specs.Graph.{Graph, WellFormed}
 use Rattle.zx_calculus.specs.Sum.{sum}
-use Rattle.gflow_laws.specs.Flow.{Correction}
 use Rattle.zx_gates.specs.Circuit.{Circuit, IsCircuit, IsGateOn, is_odd_phase, gate_odd_phases}
 use Rattle.zx_gates.specs.Maps.{amp}
 use Rattle.zx_gates.specs.declared.gate.Gate.{Gate}
 use Rattle.zx_gates.specs.declared.gate.Gate.TheVariants.{H, Phase, Cz, Cx, Not}
 use Rattle.zx_extract.specs.Simplified.{gate_bound}
-use Rattle.zx_grow.specs.Grown.{GrowsTo}
 use Rattle.zx_simplify.specs.declared.simplifying.Simplified.{Simplified}
 use Rattle.zx_same.specs.Bare.{is_bare}
 use Rattle.zx_same.specs.Internal.Simplifying.{Simplifies}
@@ -46,17 +44,12 @@ bound_rises n m t u gates same more few = at (subst (λ k. gates ≤ gate_bound 
     at within = let rises : 3 * n * t ≤ 3 * n * u = mul-le-mul_left (3 * n) more in omega arith
 
 -- a circuit of which a bare graph is left is the identity
-bare_seen : (circuit : Circuit) (g : Graph) → WellFormed g → length g.inputs ≡ circuit.qubits →
+pub bare_seen : (circuit : Circuit) (g : Graph) → WellFormed g → length g.inputs ≡ circuit.qubits →
     Proportional circuit.qubits circuit.qubits (amp circuit.gates) (sum g) → is_bare g ≡ true → Proportional circuit.qubits circuit.qubits (amp circuit.gates) (amp [])
 bare_seen circuit g valid inputs kept bare =
     let n = circuit.qubits in
     proportional_trans n n (amp circuit.gates) (sum g) (amp []) kept
     (at_n n (length g.inputs) (length g.inputs) (sum g) (amp []) inputs inputs (bare_identity g valid bare))
-
-pub grown_seen : (circuit : Circuit) (g : Graph) (table : List Correction) (s : Scalar) → GrowsTo circuit g table s → is_bare g ≡ true →
-    Proportional circuit.qubits circuit.qubits (amp circuit.gates) (amp [])
-grown_seen circuit g table s grown =
-    bare_seen circuit g grown.well_formed grown.inputs (scaled_proportional circuit.qubits circuit.qubits (amp circuit.gates) (sum g) s grown.scaled)
 
 -- where the one circuit followed by the inverse of the other is the identity, they have one map
 pub same_undone : (a b both : Circuit) → a.qubits ≡ b.qubits → IsCircuit b → both ≡ undone_by a b →
@@ -78,16 +71,6 @@ identity_seen circuit made s seen =
 pub same_seen : (a b both : Circuit) (made : Simplified) → a.qubits ≡ b.qubits → IsCircuit b → both ≡ undone_by a b → Simplifies both made →
     (nat_eq (length made.gates.gates) 0 || is_bare made.reduced.graph) ≡ true → Proportional a.qubits a.qubits (amp a.gates) (amp b.gates)
 same_seen a b both made same is undone s seen = same_undone a b both same is undone (identity_seen both made s seen)
-
--- where what is left is the identity
-pub same_vanished : (a b both : Circuit) (made : Simplified) → a.qubits ≡ b.qubits → IsCircuit b → both ≡ undone_by a b → Simplifies both made →
-    Proportional made.gates.qubits made.gates.qubits (amp made.gates.gates) (amp []) → Proportional a.qubits a.qubits (amp a.gates) (amp b.gates)
-same_vanished a b both made same is undone s vanished =
-    let n = both.qubits in
-    same_undone a b both same is undone
-    (proportional_trans n n (amp both.gates) (amp made.gates.gates) (amp [])
-    (scaled_proportional n n (amp both.gates) (amp made.gates.gates) made.scalar s.kept.scaled)
-    (subst (λ m. Proportional m m (amp made.gates.gates) (amp [])) s.kept.qubits vanished))
 
 -- ---- odd phases
 is_odd_phase-inverse : (n : ℕ) (gate : Gate) → IsGateOn n gate → is_odd_phase (inverse_gate gate) ≡ is_odd_phase gate

@@ -61,16 +61,15 @@ appended n first second behind p = record {
         ∙ (λ i. acts gates (λ z. sym (amp-acts behind z y) i) x)
 
 -- circuits of one map are shown to be the same where only ends are left
-pub decided : (a b both : Circuit) (made : Simplified) → a.qubits ≡ b.qubits → IsCircuit b → both ≡ undone_by a b → Simplifies both made →
-    has_only_ends made.reduced.graph ≡ true → Proportional a.qubits a.qubits (amp a.gates) (amp b.gates) → is_bare made.reduced.graph ≡ true
-decided a b both made same is undone s only one_map =
+pub decided : (a b : Circuit) (g : Graph) → a.qubits ≡ b.qubits → IsCircuit b → WellFormed g → length g.inputs ≡ a.qubits → length g.outputs ≡ a.qubits →
+    Proportional a.qubits a.qubits (amp (undone_by a b).gates) (sum g) →
+    has_only_ends g ≡ true → Proportional a.qubits a.qubits (amp a.gates) (amp b.gates) → is_bare g ≡ true
+decided a b g same is formed inputs outputs map only one_map =
     let n = a.qubits in
-    let g = made.reduced.graph in
-    let here : Simplifies (undone_by a b) made = subst (λ c. Simplifies c made) undone s in
-    identity_is_bare g here.well_formed only (here.inputs ∙ sym here.outputs)
-    (at_n (length g.inputs) n n (sum g) (amp []) (sym here.inputs) (sym here.inputs)
+    identity_is_bare g formed only (inputs ∙ sym outputs)
+    (at_n (length g.inputs) n n (sum g) (amp []) (sym inputs) (sym inputs)
     (proportional_trans n n (sum g) (amp (a.gates ++ inverse_of b.gates)) (amp [])
-    (proportional_sym n n (amp (a.gates ++ inverse_of b.gates)) (sum g) here.reduced_map)
+    (proportional_sym n n (amp (a.gates ++ inverse_of b.gates)) (sum g) map)
     (proportional_trans n n (amp (a.gates ++ inverse_of b.gates)) (amp (b.gates ++ inverse_of b.gates)) (amp [])
     (appended n a.gates b.gates (inverse_of b.gates) one_map)
     (undone_map n b.gates (subst (λ m. All (IsGateOn m) b.gates) (sym same) is.on_qubits)))))
@@ -101,27 +100,25 @@ no_odd_only_ends g reduced none = all_of (λ v. not (is_interior g v)) (ids g.ve
         odd_there t = reduced.odd u there (interior_from g u t)
 
 -- circuits without odd phases leave only ends
-pub none_odd : (a b both : Circuit) (made : Simplified) → IsCircuit b → both ≡ undone_by a b → Simplifies both made →
-    gate_odd_phases a.gates ≡ 0 → gate_odd_phases b.gates ≡ 0 → has_only_ends made.reduced.graph ≡ true
-none_odd a b both made is undone s first second =
-    let here : Simplifies (undone_by a b) made = subst (λ c. Simplifies c made) undone s in
-    no_odd_only_ends made.reduced.graph here.reduced (least (odd-undone a b is) here.fewer)
+pub none_odd : (a b : Circuit) (g : Graph) → IsCircuit b → IsReduced g → odd_phases g ≤ gate_odd_phases (undone_by a b).gates →
+    gate_odd_phases a.gates ≡ 0 → gate_odd_phases b.gates ≡ 0 → has_only_ends g ≡ true
+none_odd a b g is reduced fewer first second = no_odd_only_ends g reduced (least (odd-undone a b is) fewer)
   where
     least : {m n : ℕ} → n ≡ gate_odd_phases a.gates + gate_odd_phases b.gates → m ≤ n → m ≡ 0
     least e f = omega (arith, first, second)
 
 -- what is left where neither of the two signs is seen
-pub is_left : (a b both : Circuit) (made : Simplified) → a.qubits ≡ b.qubits → IsCircuit b → both ≡ undone_by a b → Simplifies both made →
+pub is_left_of_both : (a b both : Circuit) (made : Simplified) → a.qubits ≡ b.qubits → IsCircuit b → both ≡ undone_by a b → Simplifies both made →
     (nat_eq (length made.gates.gates) 0 || is_bare made.reduced.graph) ≡ false →
     IsLeftOfBoth a b made.gates (map step_named made.trace.steps) made.reduced.graph
-is_left a b both made same is undone s unseen =
+is_left_of_both a b both made same is undone s unseen =
     let left : Simplifies (undone_by a b) made = subst (λ c. Simplifies c made) undone s in
     let not_bare : is_bare made.reduced.graph ≡ false = or-right (nat_eq (length made.gates.gates) 0) (is_bare made.reduced.graph) unseen in
     record {
       run = left.run;
       reduced = left.reduced;
       not_bare = not_bare;
-      decides = λ only one. true≢false (sym (decided a b both made same is undone s only one) ∙ not_bare);
+      decides = λ only one. true≢false (sym (decided a b made.reduced.graph same is left.well_formed left.inputs left.outputs left.reduced_map only one) ∙ not_bare);
       qubits = left.kept.qubits;
       map = scaled_proportional a.qubits a.qubits (amp (undone_by a b).gates) (amp made.gates.gates) made.scalar left.kept.scaled;
       tidy = left.tidy;

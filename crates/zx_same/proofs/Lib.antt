@@ -9,3 +9,4 @@ mod Meetings
 mod IdentityGraphs
 mod Deciding
 mod OneMaps
+pub mod Leaving

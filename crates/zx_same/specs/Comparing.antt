@@ -44,3 +44,9 @@ pub record IsLeftOfBoth (one other left : Circuit) (steps : List calculus.Step) 
   pub some : 0 < length left.gates
   pub odd : gate_odd_phases left.gates ≤ gate_odd_phases one.gates + gate_odd_phases other.gates
   pub few : length left.gates ≤ gate_bound one.qubits (gate_odd_phases one.gates + gate_odd_phases other.gates)
+
+-- some steps lead there
+pub record IsLeft (one other left : Circuit) : Type 0 where
+  pub steps : List calculus.Step
+  pub end : Graph
+  pub is_left : IsLeftOfBoth one other left steps end

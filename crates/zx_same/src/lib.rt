@@ -13,7 +13,7 @@
 //!
 //! - `bare`: whether nothing is left of a graph but wires.
 //! - `vanishing`: whether nothing is left where gates that are the identity are put in.
-//! - `comparing`: `compare`.
+//! - `comparing`: `compare`, and `left_of`, which simplifies once.
 //! - `division`: `quotient`.
 //! - `laws`: of graphs that are just wires.
 //!
@@ -31,6 +31,6 @@ mod division;
 mod laws;
 mod vanishing;
 
-pub use comparing::{Sameness, compare};
+pub use comparing::{Sameness, compare, left_of};
 pub use division::quotient;
 pub use laws::{bare_graphs_are_the_identity, identity_graphs_are_bare};

@@ -1,3 +1,3 @@
 pub mod Scaling
+pub mod Extracting
 pub mod Circuits
-pub mod Internal

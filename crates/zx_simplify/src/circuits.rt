@@ -6,7 +6,7 @@ ghost use Rattle.zx_simplify.specs.Circuits.{IsSimplified};
 use crate::extracting::extract_tidy;
 use std::alloc::{AllocError, Global};
 use zx_gates::{GateList, ScaledCircuit};
-use zx_grow::grow;
+use zx_reduce::grow;
 
 /// The circuit of a circuit's simplified graph, and the scalar that the read one's linear map is times its own. The
 /// graph isn't copied on the way.

@@ -5,7 +5,7 @@ ghost use Rattle.zx_calculus.specs.Graph.{WellFormed};
 ghost use Rattle.zx_calculus.specs.Reduced.{IsReduced};
 ghost use Rattle.gflow_laws.specs.Flow.{IsFlow};
 ghost use Rattle.zx_gates.specs.Circuit.{most_qubits};
-ghost use Rattle.zx_simplify.specs.Internal.Extracting.{Extracts};
+ghost use Rattle.zx_simplify.specs.Extracting.{Extracts};
 
 use open_graph::OpenGraph;
 use std::alloc::{AllocError, Global};
@@ -14,8 +14,13 @@ use zx_flow::Flow;
 use zx_gates::ScaledCircuit;
 use zx_peephole::tidy;
 
-// The tidied circuit of a reduced graph, whose sum is so many times its map.
-pub(crate) fn extract_tidy(
+/// The tidied circuit of a reduced graph with as many inputs as outputs, at most 1,024. The graph's sum is so many times
+/// the circuit's map.
+///
+/// # Errors
+///
+/// Only where memory runs out.
+pub fn extract_tidy(
     alloc: Global,
     reduced: OpenGraph,
     flow: Flow,

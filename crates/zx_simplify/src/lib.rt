@@ -6,12 +6,13 @@
 //! that, no gates in it cancel or merge, and there are few of them for its qubits and the graph's odd
 //! phases.
 //!
-//! Proved of `simplify_circuit`: the same of a circuit's graph, of which neither steps nor reduced graph are kept.
+//! Proved of `simplify_graph`: the same, where neither steps nor reduced graph are told. Proved of `simplify_circuit`: the
+//! same of a circuit's graph.
 //!
 //! Inside:
 //!
 //! - `extracting`: the tidied circuit of a reduced graph.
-//! - `simplifying`: `simplify`.
+//! - `simplifying`: `simplify` and `simplify_graph`.
 //! - `circuits`: `simplify_circuit`.
 //!
 //! ```rust
@@ -24,4 +25,5 @@ mod extracting;
 mod simplifying;
 
 pub use circuits::simplify_circuit;
-pub use simplifying::{Simplified, simplify};
+pub use extracting::extract_tidy;
+pub use simplifying::{Simplified, simplify, simplify_graph};

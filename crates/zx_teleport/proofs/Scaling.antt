@@ -9,10 +9,10 @@ use Rattle.zx_calculus.specs.Steps.{IsRun}
 use Rattle.zx_calculus.specs.StepScalars.{IsSumTimes}
 use Rattle.graph_rewrites.specs.declared.step.Step as named
 use Rattle.graph_rewrites.specs.Steps.{step_named}
-use Rattle.open_graph.specs.OpenGraph.{most_vertices_in_memory}
 use Rattle.zx_moves.specs.Internal.Scaling.{Scales}
 use Rattle.zx_teleport.specs.Scalars.{most_teleported_root2}
-use Rattle.zx_teleport.specs.Internal.Scaling.{most_steps, HaveScalar}
+use Rattle.zx_reduce.specs.Scaling.{most_steps, most_reduced_root2}
+use Rattle.zx_teleport.specs.Internal.Scaling.{HaveScalar}
 
 -- one step more
 pub next_fits : (i n : ℕ) (s t : Scalar) → n ≤ most_steps → i < n → IsWithin (2 * i) s → IsWithin 2 t → IsWithin most_root2 (product_of_scalars s t)
@@ -34,26 +34,21 @@ twice i n s few p = within_more (2 * i) (2 * n) s p (more i n few)
     more i n a = omega (arith, a)
 
 -- the steps of a simplification
-few_seen : (n : ℕ) (steps seen : List named.Step) → seen ≡ steps → length steps ≤ 18 * n → length seen ≤ 18 * n
-few_seen n steps seen same few = subst (λ xs. length xs ≤ 18 * n) (sym same) few
-
-pub few_done : (n : ℕ) (steps seen : List named.Step) → n ≤ most_vertices_in_memory → seen ≡ steps → length steps ≤ 18 * n → length seen ≤ most_steps
-few_done n steps seen fits same few = below n (length seen) fits (few_seen n steps seen same few)
-  where
-    below : (n count : ℕ) → n ≤ most_vertices_in_memory → count ≤ 18 * n → count ≤ most_steps
-    below n count a b = omega (arith, a, b)
+pub few_seen : (steps seen : List named.Step) → seen ≡ steps → length steps ≤ most_steps → length seen ≤ most_steps
+few_seen steps seen same few = subst (λ xs. length xs ≤ most_steps) (sym same) few
 
 -- the quotient of two
 within_quotient : (a b : ℕ) (s t : Scalar) → IsWithin a s → IsWithin b t → IsWithin (a + b) (quotient_of_scalars s t)
 within_quotient a b s t p q = omega (arith, ints, p, q)
 
-pub quotient_small : (n : ℕ) (steps seen : List named.Step) (s t : Scalar) → n ≤ most_vertices_in_memory → seen ≡ steps → length steps ≤ 18 * n → IsWithin (36 * n) s → IsWithin (2 * length seen) t →
+pub quotient_small : (steps seen : List named.Step) (s t : Scalar) → seen ≡ steps → length steps ≤ most_steps → IsWithin most_reduced_root2 s → IsWithin (2 * length seen) t →
     IsWithin most_teleported_root2 (quotient_of_scalars s t)
-quotient_small n steps seen s t fits same few p q =
-    within_more (36 * n + 2 * length seen) most_teleported_root2 (quotient_of_scalars s t) (within_quotient (36 * n) (2 * length seen) s t p q) (below n (length seen) fits (few_seen n steps seen same few))
+quotient_small steps seen s t same few p q =
+    within_more (most_reduced_root2 + 2 * length seen) most_teleported_root2 (quotient_of_scalars s t) (within_quotient most_reduced_root2 (2 * length seen) s t p q)
+    (below (length seen) (few_seen steps seen same few))
   where
-    below : (n count : ℕ) → n ≤ most_vertices_in_memory → count ≤ 18 * n → 36 * n + 2 * count ≤ most_teleported_root2
-    below n count a b = omega (arith, a, b)
+    below : (count : ℕ) → count ≤ most_steps → most_reduced_root2 + 2 * count ≤ most_teleported_root2
+    below count b = omega (arith, b)
 
 pub quotient_fits : (s : Scalar) → IsWithin most_teleported_root2 s → IsWithin most_root2 s
 quotient_fits s p = within_more most_teleported_root2 most_root2 s p (omega arith)

@@ -6,14 +6,15 @@ ghost use Rattle.zx_model.specs.Scalar.{IsWithin};
 ghost use Rattle.circuit_graph.specs.Translation.{translated};
 ghost use Rattle.graph_rewrites.specs.Steps.{step_named};
 ghost use Rattle.zx_teleport.specs.Internal.Noting.{MayRun};
-ghost use Rattle.zx_teleport.specs.Internal.Scaling.{most_steps, HaveScalar};
+ghost use Rattle.zx_reduce.specs.Scaling.{most_steps};
+ghost use Rattle.zx_teleport.specs.Internal.Scaling.{HaveScalar};
 
 use circuit_graph::translate;
-use graph_rewrites::Step;
 use open_graph::OpenGraph;
 use std::alloc::{AllocError, Global};
 use zx_gates::GateList;
 use zx_model::Scalar;
+use graph_rewrites::Step;
 
 // The scalar of steps that can be done one after the other on the graph of a circuit: the sum before
 // is so many times the sum after.

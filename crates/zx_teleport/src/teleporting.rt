@@ -15,8 +15,7 @@ ghost use Rattle.teleport_circuits.specs.Circuits.{IsSkeleton};
 ghost use Rattle.teleport_circuits.specs.Teleporting.{teleported_gates};
 ghost use Rattle.zx_teleport.specs.Together.{IsPutTogether, IsTeleported};
 ghost use Rattle.zx_reduce.specs.Reducing.{Reduces};
-ghost use Rattle.open_graph.specs.OpenGraph.{most_vertices_in_memory};
-ghost use Rattle.zx_moves.specs.Scaling.{most_exponent};
+ghost use Rattle.zx_reduce.specs.Scaling.{most_steps, most_reduced_root2};
 ghost use Rattle.graph_rewrites.specs.Steps.{step_named};
 ghost use Rattle.zx_teleport.specs.Scalars.{most_teleported_root2};
 ghost use Rattle.zx_teleport.specs.Internal.Noting.{MayRun};
@@ -26,13 +25,14 @@ use crate::groups::regrouped;
 use crate::notes::notes_of;
 use crate::scalars::scalar_of;
 use circuit_graph::translate_placed;
-use graph_rewrites::Step;
 use open_graph::{OpenGraph, VertexId};
 use std::alloc::{AllocError, Global};
 use zx_flow::Flow;
 use zx_gates::GateList;
 use zx_model::Scalar;
-use zx_reduce::{Reduction, Trace, reduce_owned};
+use graph_rewrites::Step;
+use zx_moves::Trace;
+use zx_reduce::{Reduction, reduce_owned};
 
 /// A circuit whose phases were put together, the steps by which its graph was simplified to see
 /// which, the simplified graph, and the scalar between the maps.
@@ -109,16 +109,12 @@ pub fn teleport_unscaled(alloc: Global, read: &GateList) -> Result<Unscaled, All
         (map step_named found.trace.steps) found.reduced.graph) }
     ensures before { IfOk result (λ found.
         IsSumTimes (translated read.now) found.before found.reduced.graph) }
-    ensures small { IfOk result (λ found.
-        IsWithin (most_exponent (translated read.now)) found.before) }
-    ensures few { OnOk result (length (translated read.now).vertices ≤ most_vertices_in_memory) }
-    ensures few_steps { IfOk result (λ found.
-        length found.trace.steps ≤ 18 * length (translated read.now).vertices) }
+    ensures small { IfOk result (λ found. IsWithin most_reduced_root2 found.before) }
+    ensures few_steps { IfOk result (λ found. length found.trace.steps ≤ most_steps) }
 {
     let placed = translate_placed(alloc, read)?;
     let graph = placed.graph;
     let places = placed.places;
-    prove!(graph.vertex_count() as u64 <= 1 << 32);
     let simplified = simplified(alloc, &graph, placed.flow)?;
     let gates = put_together(alloc, read, graph, &places, simplified.trace.as_slice())?;
     Ok(Unscaled {

@@ -1,9 +1,7 @@
 -- What is written with the answer Done, and what with No.
-use Rattle.std.specs.Prelude.{◌≡◌, ℕ, List, Bool, true, false, length}
+use Rattle.std.specs.Prelude.{◌≡◌, ℕ, List, Bool, true, false, Option, Some, None, length}
 use Rattle.zx_gates.specs.declared.elementary.Elementary.{Elementary}
-use Rattle.zx_gates.specs.Circuit.{IsCircuit}
-use Rattle.zx_same.specs.declared.comparing.Sameness.{Sameness}
-use Rattle.zx_same.specs.declared.comparing.Sameness.TheVariants.{Same, NotShown}
+use Rattle.zx_gates.specs.Circuit.{Circuit, IsCircuit}
 use Rattle.zx_run.specs.Comparing.{IsDifference, IsDifferentText, IsSame, IsSameText}
 use Rattle.zx_run.specs.Compiling.{IsCompiledText, IsNoFlowText}
 
@@ -21,6 +19,6 @@ IsComparisonOf one other bytes false = IsSame one other bytes
 IsComparisonOf one other bytes true = IsDifference one other bytes
 
 -- it isn't shown that two circuits are the same, and a circuit of so many gates is left
-abbrev pub HasLeft : Sameness → ℕ → Type 0
-HasLeft Same count = ⊥
-HasLeft (NotShown left trace reduced) count = (count ≡ length left.gates) × IsCircuit left
+abbrev pub HasLeft : Option Circuit → ℕ → Type 0
+HasLeft None count = ⊥
+HasLeft (Some left) count = (count ≡ length left.gates) × IsCircuit left

@@ -1,8 +1,13 @@
 -- What the graph of a circuit is simplified to.
-use Rattle.std.specs.Prelude.{◌≡◌, ◌≤◌, ℕ, ◌^◌, length, map}
+use Rattle.std.specs.Prelude.{◌≡◌, ◌≤◌, ◌<◌, ℕ, ◌^◌, false, List, length, map}
 use Rattle.zx_model.specs.Proportional.{Proportional}
+use Rattle.zx_model.specs.declared.scalar.Scalar.{Scalar}
+use Rattle.gflow_laws.specs.Flow.{Correction}
+use Rattle.zx_reduce.specs.Grown.{GrowsTo}
+use Rattle.zx_same.specs.Bare.{is_bare}
+use Rattle.zx_simplify.specs.Extracting.{Extracts}
 use Rattle.zx_calculus.specs.Counts.{odd_phases}
-use Rattle.zx_calculus.specs.Graph.{WellFormed}
+use Rattle.zx_calculus.specs.Graph.{Graph, WellFormed}
 use Rattle.zx_calculus.specs.Reduced.{IsReduced}
 use Rattle.zx_calculus.specs.Steps.{IsRun}
 use Rattle.zx_calculus.specs.Sum.{sum}
@@ -32,3 +37,14 @@ pub record Simplifies (circuit : Circuit) (made : Simplified) : Type 0 where
   pub kept : Preserves most_left_root2 circuit made.gates made.scalar
   pub tidy : IsTidy made.gates.gates
   pub few : length made.gates.gates ≤ gate_bound circuit.qubits (gate_odd_phases circuit.gates)
+
+-- the reduced graph that grows of the circuit isn't just wires, and what is left is extracted from it and has gates
+pub record Leaves (circuit left : Circuit) : Type 0 where
+  pub graph : Graph
+  pub table : List Correction
+  pub times : Scalar
+  pub grown : GrowsTo circuit graph table times
+  pub not_bare : is_bare graph ≡ false
+  pub scalar : Scalar
+  pub extracted : Extracts graph left scalar
+  pub some : 0 < length left.gates

@@ -14,20 +14,20 @@ use Rattle.zx_extract.specs.Simplified.{gate_bound}
 use Rattle.zx_compile.proofs.Forms.{form_inputs, form_outputs, stuck_without_flow}
 use Rattle.zx_compile.proofs.compiling.compile.Goals as goal
 
-pub simplify-requires-clause-ends : goal.simplify-requires-clause-ends
-simplify-requires-clause-ends c =
+pub simplify_graph-requires-clause-ends : goal.simplify_graph-requires-clause-ends
+simplify_graph-requires-clause-ends c =
     let form = c.in_ok-graph.ensures.form in
     let g = c.in_ok-graph.graph.graph in
     form_inputs c.args.d g form ∙ c.requires.square ∙ sym (form_outputs c.args.d g form)
 
-pub simplify-requires-clause-few : goal.simplify-requires-clause-few
-simplify-requires-clause-few c =
+pub simplify_graph-requires-clause-few : goal.simplify_graph-requires-clause-few
+simplify_graph-requires-clause-few c =
     let high = form_outputs c.args.d c.in_ok-graph.graph.graph c.in_ok-graph.ensures.form in
     subst (λ n. n ≤ most_qubits) (c.requires.square ∙ sym high) c.requires.few
 
 pub returns-in_ok-simplified-in-Flow-clause-qubits : goal.returns-in_ok-simplified-in-Flow-clause-qubits
 returns-in_ok-simplified-in-Flow-clause-qubits c =
-    c.in_ok-simplified-in-Flow.ensures.kept.qubits ∙ form_outputs c.args.d c.in_ok-graph.graph.graph c.in_ok-graph.ensures.form ∙ sym c.requires.square
+    c.in_ok-simplified-in-Flow.ensures.simplifies.kept.qubits ∙ form_outputs c.args.d c.in_ok-graph.graph.graph c.in_ok-graph.ensures.form ∙ sym c.requires.square
 
 pub returns-in_ok-simplified-in-Flow-clause-map : goal.returns-in_ok-simplified-in-Flow-clause-map
 returns-in_ok-simplified-in-Flow-clause-map c =
@@ -41,7 +41,7 @@ returns-in_ok-simplified-in-Flow-clause-map c =
     proportional_trans n n (sum d) (graph.sum g) (amp gates)
     (subst (λ k. Proportional n k (sum d) (graph.sum g)) square c.in_ok-graph.ensures.map)
     (subst (λ k. Proportional k k (graph.sum g) (amp gates)) (form_outputs d g c.in_ok-graph.ensures.form ∙ square)
-    (scaled_proportional high high (graph.sum g) (amp gates) made.scalar c.in_ok-simplified-in-Flow.ensures.kept.scaled))
+    (scaled_proportional high high (graph.sum g) (amp gates) made.scalar c.in_ok-simplified-in-Flow.ensures.simplifies.kept.scaled))
 
 pub returns-in_ok-simplified-in-Flow-clause-few_gates : goal.returns-in_ok-simplified-in-Flow-clause-few_gates
 returns-in_ok-simplified-in-Flow-clause-few_gates c =
@@ -52,7 +52,7 @@ returns-in_ok-simplified-in-Flow-clause-few_gates c =
       g,
       form,
       subst (λ n. length gates ≤ gate_bound n (odd_phases g)) (form_outputs d g form ∙ sym c.requires.square)
-          c.in_ok-simplified-in-Flow.ensures.few_gates,
+          c.in_ok-simplified-in-Flow.ensures.simplifies.few_gates,
     )
 
 pub returns-in-NoFlow-clause-no_flow : goal.returns-in-NoFlow-clause-no_flow

@@ -1,7 +1,7 @@
 -- What is left tells how many gates aren't shown to be nothing.
 use Rattle.std.proofs.Common.{◌≡◌, ◌++◌, ◌∙◌, ap, codes, decimal, inr, rules, subst, sym, ◌≢◌}
 use Rattle.zx_gates.specs.Circuit.{Circuit}
-use Rattle.zx_same.specs.Comparing.{IsLeftOfBoth}
+use Rattle.zx_same.specs.Comparing.{IsLeft}
 use Rattle.zx_run.specs.Comparing.{circuit_for}
 use Rattle.zx_run.specs.Internal.Verdicts.{HasLeft, IsComparisonOf}
 use Rattle.zx_run.proofs.ComparedLemmas.{left_told, lowered_is, maps_differ}
@@ -20,9 +20,9 @@ returns-in_ok-line-in-Some c =
     let told : HasLeft c.in_ok-found.found c.in-Some.count = rw c.in-Some.is at c.gates_left-left.ensures.some in
     let kept = left_told a b c.in_ok-found.found c.in-Some.count told said.equal_lists said.left in
     let left : Circuit = kept.0 in
-    let here : ((circuit_for one).gates ≢ (circuit_for other).gates) × IsLeftOfBoth (circuit_for one) (circuit_for other) left kept.1 kept.2 =
-    subst (λ (y : Circuit). ((circuit_for one).gates ≢ y.gates) × IsLeftOfBoth (circuit_for one) y left kept.1 kept.2) second
-    (subst (λ (x : Circuit). (x.gates ≢ b.gates) × IsLeftOfBoth x b left kept.1 kept.2) first (kept.4, kept.5)) in
+    let here : ((circuit_for one).gates ≢ (circuit_for other).gates) × IsLeft (circuit_for one) (circuit_for other) left =
+    subst (λ (y : Circuit). ((circuit_for one).gates ≢ y.gates) × IsLeft (circuit_for one) y left) second
+    (subst (λ (x : Circuit). (x.gates ≢ b.gates) × IsLeft x b left) first (kept.2, kept.3)) in
     let spelled : bytes ≡ codes "not shown " ++ (decimal c.in-Some.count ++ codes "\n") = search rules in
     subst (IsComparisonOf one other bytes) (sym c.no.ensures.no)
     (inr (inr (record {
@@ -33,9 +33,9 @@ returns-in_ok-line-in-Some c =
         maps = maps_differ one other a b c.in_ok-found.found c.in-Some.count told first second c.in_ok-first.ensures.odd c.in_ok-second.ensures.odd said.clifford;
       };
       left = left;
-      valid = kept.6;
-      steps = kept.1;
-      end = kept.2;
-      is_left = here.1;
-      spelled = spelled ∙ ap (λ n. codes "not shown " ++ (decimal n ++ codes "\n")) kept.3;
+      valid = kept.4;
+      steps = here.1.steps;
+      end = here.1.end;
+      is_left = here.1.is_left;
+      spelled = spelled ∙ ap (λ n. codes "not shown " ++ (decimal n ++ codes "\n")) kept.1;
     })))

@@ -1,11 +1,8 @@
 -- The laws of teleported phases.
-use Rattle.std.proofs.Common.{◌≤◌, ◌*◌, subst, length, map, List}
-use Rattle.zx_model.specs.Scalar.{IsWithin}
+use Rattle.std.proofs.Common.{subst, map, List}
 use Rattle.zx_calculus.specs.Graph.{Graph}
 use Rattle.zx_calculus.specs.Steps.{IsRun}
 use Rattle.zx_calculus.specs.StepScalars.{IsSumTimes}
-use Rattle.open_graph.specs.OpenGraph.{most_vertices_in_memory}
-use Rattle.zx_moves.specs.Scaling.{most_exponent}
 use Rattle.graph_rewrites.specs.Steps.{step_named}
 use Rattle.graph_rewrites.specs.declared.step.Step.{Step}
 use Rattle.zx_teleport.specs.Together.{IsPutTogether}
@@ -33,14 +30,3 @@ returns-clause-teleported c = record {
 pub returns-clause-before : goal.returns-clause-before
 returns-clause-before c =
     subst (λ (g : Graph). IsSumTimes g c.in_ok-simplified.simplified.scalar c.in_ok-simplified.simplified.graph.graph) c.in_ok-placed.ensures.translation.graph c.in_ok-simplified.ensures.scalar
-
-pub returns-clause-small : goal.returns-clause-small
-returns-clause-small c =
-    subst (λ (g : Graph). IsWithin (most_exponent g) c.in_ok-simplified.simplified.scalar) c.in_ok-placed.ensures.translation.graph c.in_ok-simplified.ensures.small
-
-pub returns-clause-few : goal.returns-clause-few
-returns-clause-few c = subst (λ (g : Graph). length g.vertices ≤ most_vertices_in_memory) c.in_ok-placed.ensures.translation.graph c.vertex_count.ensures.few
-
-pub returns-clause-few_steps : goal.returns-clause-few_steps
-returns-clause-few_steps c =
-    subst (λ (g : Graph). length c.in_ok-simplified.simplified.trace.steps ≤ 18 * length g.vertices) c.in_ok-placed.ensures.translation.graph c.in_ok-simplified.ensures.few_steps

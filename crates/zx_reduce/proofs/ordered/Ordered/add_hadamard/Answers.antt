@@ -4,7 +4,7 @@ use Rattle.zx_calculus.specs.Graph.{WellFormed}
 use Rattle.zx_gates.specs.declared.gate.Gate.TheVariants.{H}
 use Rattle.circuit_laws.specs.Peeling.{are_plain, HasPlainOutput}
 use Rattle.growing_laws.specs.Growing.{placed}
-use Rattle.zx_reduce.specs.Ordering.{Ordered, IsOrdered}
+use Rattle.zx_reduce.specs.Internal.Ordering.{Ordered, IsOrdered}
 use Rattle.circuit_graph.proofs.Calls.{here_there, new_live, here_other, next_there, next_plane_there, next_free_there, spider_comes}
 use Rattle.zx_reduce.proofs.GatesOrdered.{ordered_spider}
 use Rattle.zx_reduce.proofs.ordered.Ordered.add_hadamard.Goals as goal

@@ -10,7 +10,7 @@ use Rattle.circuit_laws.specs.Peeling.{HasPlainOutput}
 use Rattle.circuit_graph.proofs.Calls.{phase_peel}
 use Rattle.circuit_graph.proofs.Graphs.{phase_is}
 use Rattle.growing_laws.specs.Growing.{placed}
-use Rattle.zx_reduce.specs.Ordering.{Ordered}
+use Rattle.zx_reduce.specs.Internal.Ordering.{Ordered}
 use Rattle.zx_reduce.proofs.GatesOrdered.{there_inside, gate_inside}
 use Rattle.zx_reduce.proofs.ordered.Ordered.add_phase.Goals as goal
 

@@ -1,3 +1,0 @@
-pub mod Growths
-pub mod Scalars
-pub mod Finished

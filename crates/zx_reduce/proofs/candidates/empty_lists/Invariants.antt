@@ -1,6 +1,0 @@
--- So many lists so far.
-use Rattle.std.proofs.Common.{◌≡◌, length}
-use Rattle.zx_reduce.proofs.candidates.empty_lists.Given as goal
-
-abbrev pub invariant-loop : goal.invariant-loop
-invariant-loop l = length l.lists.items ≡ l.counter
