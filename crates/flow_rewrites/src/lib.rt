@@ -5,6 +5,10 @@
 //! `graph_rewrites`, moves and the search for the next one in `zx_moves`. Simplification of a graph that its caller
 //! gives away, `reduce_owned`, stands in `zx_reduce`.
 //!
+//! Who knows these calls by smaller crates finds here `local_complement` and `delete` of `local_comp`, `pivot` of
+//! `zx_pivot`, `split_input` and `split_output` of `zx_boundary`, `drop_lone`, `fuse_into` and `fuse_twin` of
+//! `zx_gadgets`, and `apply`, `reduce`, `Steps` and `StepRefused` of `zx_reduce`.
+//!
 //! Proved of each safe call of a rewrite that is allowed, by one record, `IsDoneSafely`: with Ok, graph and flow are
 //! the rewritten ones, the flow the table that `gflow_laws` gives for that, a flow of the new graph; the sum before
 //! is the answered scalar times the sum after, and odd phases don't rise. Want of memory leaves both as they were.
