@@ -1,4 +1,3 @@
 pub mod Orders
 pub mod Ranks
-pub mod Candidates
 pub mod Demand

@@ -144,12 +144,3 @@ counted_later {start = start} {now = now} {moves = moves} tick gains = record {
   where
     in_all : (start now moves n : ℕ) → now ≡ start + moves → moves ≡ 0 + n → now ≡ start + n
     in_all start now moves n e f = omega (arith, e, f)
-
--- what moves on copies come to is what they come to where graph and trace take the place of those copied
-pub from_copies : {g h k m : Graph} {before after old new : List Step} {start now : ℕ} →
-    h ≡ g → before ≡ old → m ≡ k → new ≡ after → GainsMoves h k before after start now → GainsMoves g m old new start now
-from_copies {g} {h} {k} {m} {before} {after} {old} {new} {start} {now} same_start same_before same_end same_after gains =
-    subst (λ (x : Graph). GainsMoves x m old new start now) same_start
-    (subst (λ (y : Graph). GainsMoves h y old new start now) (sym same_end)
-    (subst (λ (t : List Step). GainsMoves h k t new start now) same_before
-    (subst (λ (t : List Step). GainsMoves h k before t start now) (sym same_after) gains)))

@@ -19,10 +19,9 @@ use Rattle.zx_calculus.proofs.Kept.{both}
 use Rattle.zx_calculus.proofs.Splitting.{plane_YZ}
 use Rattle.zx_calculus.proofs.Results.{interior_from, interior_true}
 use Rattle.zx_calculus.proofs.TwinTests.{equal_lists, lists_equal}
-use Rattle.move_laws.specs.Candidates.{IsPlaceOf}
 use Rattle.zx_moves.specs.declared.moves.Kind.{Kind}
 use Rattle.zx_moves.specs.declared.moves.Kind.TheVariants as kinds
-use Rattle.zx_moves.specs.Internal.Searching.{is_twin, TellsTwins, place_kind}
+use Rattle.zx_moves.specs.Internal.Searching.{is_twin, TellsTwins}
 use Rattle.zx_moves.specs.Search.{MayBegin, NoneAt}
 use Rattle.zx_moves.proofs.SearchTests.{live_near, joined_near, near_joined, find-some, find-none}
 
@@ -137,18 +136,6 @@ module _ (g : Graph) (w : WellFormed g) (u : ℕ) where
   twins_nowhere near (Some v) first e = tt
 
   -- ---- where no move of a kind may begin
-  pub begins : (k : Kind) (v : ℕ) → IsPlaceOf g (place_kind k) u v → MayBegin g k u
-  begins kinds.Delete v a = a
-  begins kinds.QuarterGadget v a = a
-  begins kinds.FromXZ v a = a
-  begins kinds.QuarterSpider v a = a
-  begins kinds.InnerPivot v a = a.spider
-  begins kinds.BoundaryPivot v a = a.spider
-  begins kinds.GadgetPair v a = gadget_to u a.there a.plane
-  begins kinds.LoneGadget v a = a
-  begins kinds.SingleGadget v a = a
-  begins kinds.Twins v a = gadget_to u a.there a.plane
-
   pub begins_none : (k : Kind) → ¬ MayBegin g k u → NoneAt g k u
   begins_none kinds.Delete never = never
   begins_none kinds.QuarterGadget never = never

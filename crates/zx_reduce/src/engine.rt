@@ -12,9 +12,9 @@ use crate::progress::Progress;
 use crate::queue::Queue;
 use crate::reduction::Reduction;
 use crate::twins::{Twins, keyed_gadgets};
+use graph_rewrites::Step;
 use open_graph::{OpenGraph, VertexId};
 use std::alloc::{AllocError, Global};
-use graph_rewrites::Step;
 use zx_moves::{Move, Trace, add_steps, next_move};
 
 // After so many looks at vertices moves are made in their order alone, which takes longer, but comes to an end.
@@ -33,7 +33,11 @@ pub(crate) struct Engine {
 
 impl Engine {
     // Where there may be so many gadgets.
-    pub(crate) fn new(alloc: Global, progress: Progress, gadgets: usize) -> Result<Engine, AllocError>
+    pub(crate) fn new(
+        alloc: Global,
+        progress: Progress,
+        gadgets: usize,
+    ) -> Result<Engine, AllocError>
         ensures { IfOk result (λ made. made.progress ≡ progress) }
     {
         let queue = Queue::new(alloc)?;

@@ -13,12 +13,12 @@ use crate::engine::Engine;
 use crate::plan::plan_between;
 use crate::progress::Progress;
 use circuit_graph::scalar_of;
+use graph_rewrites::Step;
 use open_graph::{OpenGraph, VertexId};
 use std::alloc::{AllocError, Global};
 use zx_flow::Flow;
 use zx_gates::{Gate, GateList, Qubit};
 use zx_model::{Scalar, Sixteenth};
-use graph_rewrites::Step;
 
 /// The reduced graph of a circuit.
 #[derive(Drop)]

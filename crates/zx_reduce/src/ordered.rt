@@ -16,13 +16,13 @@ ghost use Rattle.zx_reduce.specs.Internal.Ordering.{IsOrdered};
 use crate::ranks::Ranks;
 use circuit_graph::wires_alone;
 use flow_find::find_by_rank;
+use graph_rewrites::Step;
 use open_graph::{End, OpenGraph, Plane, VertexId};
 use std::alloc::{AllocError, Global};
 use std::marker::Model;
 use zx_flow::Flow;
 use zx_gates::Qubit;
 use zx_model::{Scalar, Sixteenth};
-use graph_rewrites::Step;
 
 /// A graph with the order along which it has a flow, without correction sets. After a call that ran out
 /// of memory a part of it may be done, so all of it is thrown away then.

@@ -4,10 +4,9 @@ ghost use Rattle.zx_calculus.specs.Graph.{Live};
 
 use crate::levels::{LEVELS, level_in};
 use crate::twins::Twins;
+use graph_rewrites::{Step, is_gadget};
 use open_graph::{OpenGraph, Plane, VertexId};
-use graph_rewrites::is_gadget;
 use zx_model::Sixteenth;
-use graph_rewrites::Step;
 use zx_moves::pivot_cost;
 
 // A spider with more neighbours isn't moved along its wire at once.

@@ -20,12 +20,12 @@ ghost use Rattle.zx_reduce.specs.Scaling.{most_steps};
 use crate::ordered::Ordered;
 use crate::ranks::Ranks;
 use crate::reduction::Reduction;
+use graph_rewrites::Step;
 use open_graph::{OpenGraph, VertexId};
 use std::alloc::{AllocError, Global};
 use std::marker::Model;
 use zx_gates::Qubit;
 use zx_model::{Scalar, Sixteenth};
-use graph_rewrites::Step;
 use zx_moves::{Move, Trace, add_steps, next_move};
 
 // No more steps are tried: as many take longer than anyone waits.

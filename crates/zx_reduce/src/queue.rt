@@ -3,10 +3,10 @@
 ghost use Rattle.std.specs.Prelude.{◌<◌};
 
 use crate::levels::{LEVELS, block_size, level_in, level_of};
+use graph_rewrites::Step;
 use open_graph::{OpenGraph, Plane, VertexId};
 use std::alloc::{AllocError, Global};
 use vertex_map::{Values, VertexMap};
-use graph_rewrites::Step;
 
 // Classes of numbers of neighbours: 0, 1, 2 and 3, 4 to 7, and so on; the last has all from 64 on.
 const CLASSES: usize = 8;

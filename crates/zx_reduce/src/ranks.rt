@@ -8,11 +8,11 @@ ghost use Rattle.graph_rewrites.specs.Steps.{step_named};
 ghost use Rattle.zx_reduce.specs.Internal.Guiding.{AreRanked, HasFlowIn};
 ghost use Rattle.zx_reduce.specs.Internal.Ranked.{AreRanksAfter};
 
+use graph_rewrites::Step;
 use open_graph::VertexId;
 use std::alloc::{AllocError, Global};
 use vertex_map::{Values, VertexMap};
 use zx_flow::Flow;
-use graph_rewrites::Step;
 
 // The rank at which a list begins: as far from the least rank as from the greatest.
 const MIDDLE: u64 = 9_223_372_036_854_775_808;

@@ -2,9 +2,9 @@
 
 ghost use Rattle.zx_calculus.specs.Graph.{Live};
 
+use graph_rewrites::is_gadget;
 use open_graph::{OpenGraph, VertexId};
 use std::alloc::{AllocError, Global};
-use graph_rewrites::is_gadget;
 
 // As many gadgets are remembered as there may be, but no more and no fewer than so many.
 const MOST_PLACES: usize = 1 << 16;
@@ -46,7 +46,10 @@ impl Twins {
 
 // The gadgets of a graph, each with the number that its neighbours tell, by rising numbers: so most of those with the
 // same neighbours stand beside each other.
-pub(crate) fn keyed_gadgets(alloc: Global, g: &OpenGraph) -> Result<Vec<(u64, VertexId)>, AllocError> {
+pub(crate) fn keyed_gadgets(
+    alloc: Global,
+    g: &OpenGraph,
+) -> Result<Vec<(u64, VertexId)>, AllocError> {
     let mut keyed = Vec::new(alloc);
     for u in g.vertices() {
         if is_gadget(g, u) {

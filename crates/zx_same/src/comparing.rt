@@ -109,11 +109,7 @@ fn compare_whole(alloc: Global, a: &GateList, b: &GateList) -> Result<Sameness, 
 /// # Errors
 ///
 /// Only where memory runs out.
-pub fn left_of(
-    alloc: Global,
-    a: &GateList,
-    b: &GateList,
-) -> Result<Option<GateList>, AllocError>
+pub fn left_of(alloc: Global, a: &GateList, b: &GateList) -> Result<Option<GateList>, AllocError>
     requires qubits { a.now.qubits ≡ b.now.qubits }
 
     // None is right, and is said of equal lists.

@@ -9,10 +9,10 @@ ghost use Rattle.graph_rewrites.specs.Steps.{step_named};
 ghost use Rattle.teleport_laws.specs.Shifts.{negates, into_of};
 ghost use Rattle.zx_teleport.specs.Internal.Noting.{stands_odd, parting_by, IsNoted, AreNoted, MayRun};
 
+use graph_rewrites::Step;
 use open_graph::{OpenGraph, Plane, VertexId};
 use std::alloc::{AllocError, Global};
 use zx_model::Sixteenth;
-use graph_rewrites::Step;
 
 // Where the phase of a vertex goes that goes itself.
 #[derive(Clone, Copy, Debug)]

@@ -10,11 +10,11 @@ ghost use Rattle.zx_reduce.specs.Scaling.{most_steps};
 ghost use Rattle.zx_teleport.specs.Internal.Scaling.{HaveScalar};
 
 use circuit_graph::translate;
+use graph_rewrites::Step;
 use open_graph::OpenGraph;
 use std::alloc::{AllocError, Global};
 use zx_gates::GateList;
 use zx_model::Scalar;
-use graph_rewrites::Step;
 
 // The scalar of steps that can be done one after the other on the graph of a circuit: the sum before
 // is so many times the sum after.

@@ -25,12 +25,12 @@ use crate::groups::regrouped;
 use crate::notes::notes_of;
 use crate::scalars::scalar_of;
 use circuit_graph::translate_placed;
+use graph_rewrites::Step;
 use open_graph::{OpenGraph, VertexId};
 use std::alloc::{AllocError, Global};
 use zx_flow::Flow;
 use zx_gates::GateList;
 use zx_model::Scalar;
-use graph_rewrites::Step;
 use zx_moves::Trace;
 use zx_reduce::{Reduction, reduce_owned};
 

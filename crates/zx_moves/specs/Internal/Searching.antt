@@ -6,11 +6,8 @@ use Rattle.zx_calculus.specs.Graph.{Graph, neighbours}
 use Rattle.zx_calculus.specs.Gadgets.{is_gadget}
 use Rattle.zx_moves.specs.declared.moves.Move.{Move}
 use Rattle.zx_moves.specs.declared.moves.Kind.{Kind}
-use Rattle.zx_moves.specs.declared.moves.Kind.TheVariants as kinds
 use Rattle.zx_moves.specs.declared.moves.TheConstants.{KINDS}
 use Rattle.zx_moves.specs.Search.{AppliesAt, kind_of, NoneAt}
-use Rattle.move_laws.specs.Candidates.{MoveKind, Deletion, QuarterGadget, InXZ, QuarterSpider, InnerPivot}
-use Rattle.move_laws.specs.Candidates.{BoundaryPivot, GadgetPair, LoneGadget, SingleGadget, Twins}
 
 -- v is a YZ vertex other than u, of the same neighbours
 abbrev pub is_twin : Graph → ℕ → ℕ → Bool
@@ -28,16 +25,3 @@ NoneBefore g n u = (i : ℕ) (k : Kind) → i < n → slice_get KINDS i ≡ Some
 pub record IsMoveAt (g : Graph) (place : ℕ) (m : Move) : Type 0 where
   pub applies : AppliesAt g m
   pub kind : slice_get KINDS place ≡ Some (kind_of m)
-
--- the places at which moves of a kind begin
-abbrev pub place_kind : Kind → MoveKind
-place_kind kinds.Delete = Deletion
-place_kind kinds.QuarterGadget = QuarterGadget
-place_kind kinds.FromXZ = InXZ
-place_kind kinds.QuarterSpider = QuarterSpider
-place_kind kinds.InnerPivot = InnerPivot
-place_kind kinds.BoundaryPivot = BoundaryPivot
-place_kind kinds.GadgetPair = GadgetPair
-place_kind kinds.LoneGadget = LoneGadget
-place_kind kinds.SingleGadget = SingleGadget
-place_kind kinds.Twins = Twins

@@ -10,8 +10,8 @@ loop-preserved c =
     let before = c.loop.invariant.looks in
     elim c.match-take.branch [
       | in-Some-take+in_ok-look_at w ↦ rw w.self-is (record {
-          tries = tries_then c.args.self.now.progress c.loop.self.progress _ c.loop.invariant.tries w.in_ok-look_at.ensures.tries;
-          looks = let same = w.in_ok-look_at.ensures.looks in omega (arith, fewer, before, same);
-        })
+        tries = tries_then c.args.self.now.progress c.loop.self.progress _ c.loop.invariant.tries w.in_ok-look_at.ensures.tries;
+        looks = let same = w.in_ok-look_at.ensures.looks in omega (arith, fewer, before, same);
+      })
       | in_default-take w ↦ rw w.self-is (record { tries = c.loop.invariant.tries; looks = omega (arith, fewer, before) })
     ]

@@ -8,8 +8,8 @@ pub loop-next-preserved : goal.loop-next-preserved
 loop-next-preserved c =
     elim c.if-next-key.branch [
       | then-next-key+in_ok-try_two w ↦ rw w.self-is (record {
-          tries = tries_then c.args.self.now.progress c.loop-next.self.progress _ c.loop-next.invariant.tries w.in_ok-try_two.ensures.tries;
-          looks = w.in_ok-try_two.ensures.looks ∙ c.loop-next.invariant.looks;
-        })
+        tries = tries_then c.args.self.now.progress c.loop-next.self.progress _ c.loop-next.invariant.tries w.in_ok-try_two.ensures.tries;
+        looks = w.in_ok-try_two.ensures.looks ∙ c.loop-next.invariant.looks;
+      })
       | else-next-key w ↦ rw w.self-is (record { tries = c.loop-next.invariant.tries; looks = c.loop-next.invariant.looks })
     ]
