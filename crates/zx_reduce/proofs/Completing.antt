@@ -24,10 +24,10 @@ use Rattle.graph_rewrites.specs.Steps.{step_named}
 use Rattle.graph_rewrites.specs.declared.step.Step.{Step}
 use Rattle.zx_reduce.specs.Grown.{GrowsTo, most_grown_root2}
 use Rattle.zx_reduce.specs.Reducing.{Reduces}
-use Rattle.zx_reduce.specs.Scaling.{most_steps, most_reduced_root2}
+use Rattle.zx_reduce.specs.Scaling.{most_reduced_root2}
 use Rattle.zx_reduce.specs.Internal.Growing.{IsGrown}
 use Rattle.zx_reduce.specs.Internal.Ordering.{IsOrdered}
-use Rattle.zx_reduce.specs.Internal.Progress.{Progress, AreDone, Begins, Completes}
+use Rattle.zx_reduce.specs.Internal.Progress.{Progress, Begins, Completes}
 use Rattle.zx_reduce.proofs.Doing.{done_run, done_trace, done_count, done_times}
 
 -- what steps of p lead to

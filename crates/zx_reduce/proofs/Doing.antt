@@ -1,11 +1,11 @@
 -- Steps that are done one after the other.
-use Rattle.std.proofs.Common.{◌≡◌, refl, sym, ◌∙◌, ap, subst, ℕ, ◌+◌, ◌≤◌, Bool, true, false, List, [], ◌∷◌, ◌++◌, append_assoc, length, map, arith}
+use Rattle.std.proofs.Common.{◌≡◌, refl, sym, ◌∙◌, ap, subst, ◌+◌, ◌≤◌, false, List, [], ◌∷◌, ◌++◌, append_assoc, length, map, arith}
 use Rattle.std.proofs.lemmas.List.{append-nil}
-use Rattle.zx_model.specs.Scalar.{IsScaled, product_of_scalars}
+use Rattle.zx_model.specs.Scalar.{IsScaled}
 use Rattle.zx_model.proofs.Scalars.{scaled_trans}
 use Rattle.zx_calculus.specs.Graph.{Graph}
 use Rattle.zx_calculus.specs.Sum.{sum}
-use Rattle.zx_calculus.specs.Steps.{IsStep, IsRun}
+use Rattle.zx_calculus.specs.Steps.{IsRun}
 use Rattle.zx_calculus.specs.StepScalars.{step_scalar, IsSumTimes}
 use Rattle.zx_calculus.proofs.Steps.{step_sum, inputs_kept, outputs_kept}
 use Rattle.zx_calculus.proofs.StepScalars.{step_scaled}
@@ -74,9 +74,6 @@ done_times g p (s ∷ steps) q inputs outputs done ordered times =
 -- ---- steps that are tried
 pub tries_none : (p : Progress) → Tries p p
 tries_none p = record { steps = []; done = refl; few = λ few. few }
-
-pub tries_same : (p q : Progress) → q ≡ p → Tries p q
-tries_same p q same = subst (Tries p) (sym same) (tries_none p)
 
 pub tries_then : (p k q : Progress) → Tries p k → Tries k q → Tries p q
 tries_then p k q first second = record {

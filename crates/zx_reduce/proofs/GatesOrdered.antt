@@ -1,12 +1,9 @@
 -- The order of a flow beside gates that are put behind the graph, and beside steps.
-use Rattle.std.proofs.Common.{◌≡◌, refl, sym, ◌∙◌, ap, subst, ℕ, suc, ◌<◌, ◌≤◌, true, false, length, arith}
+use Rattle.std.proofs.Common.{◌≡◌, refl, sym, ◌∙◌, ap, subst, ℕ, suc, ◌<◌, ◌≤◌, true, length, arith}
 use Rattle.zx_calculus.specs.Graph.{Graph, ids, Live, WellFormed}
 use Rattle.zx_calculus.specs.Splits.{least_free}
-use Rattle.zx_calculus.specs.Steps.{Step, IsStep}
 use Rattle.zx_calculus.proofs.LeastFree.{least_free-fresh}
-use Rattle.move_laws.specs.Orders.{is_split}
 use Rattle.move_laws.specs.Ranks.{HasFlowBy, rank_in, ranked}
-use Rattle.move_laws.proofs.Ranks.{kept_by}
 use Rattle.zx_gates.specs.Circuit.{IsOnQubits}
 use Rattle.zx_gates.specs.declared.gate.Gate.{Gate}
 use Rattle.zx_gates.specs.declared.gate.Gate.TheVariants.{H, Phase, Cz, Cx, Not}
@@ -99,12 +96,3 @@ module _ (inside seen : Ordered) (is : inside ≡ seen) where
       h ≡ placed 0 seen.graph gate → IsOrdered seen → IsOrdered (record inside { graph = h })
   gate_inside gate none h plain on gate_is o =
       subst (λ (p : Ordered). IsOrdered (record p { graph = h })) (sym is) (ordered_gate gate none seen h plain on gate_is o)
-
--- a step that splits nothing
-pub ordered_step : (before : Ordered) (h : Graph) (s : Step) → WellFormed h → is_split s ≡ false → IsStep before.graph s h → IsOrdered before →
-    IsOrdered (record before { graph = h })
-ordered_step before h s formed none step o = record {
-  well_formed = formed;
-  bounds = o.bounds;
-  flow = kept_by before.graph s h (rank_in before.ranks) before.low before.high o.well_formed none step o.flow;
-}

@@ -6,7 +6,6 @@ use Rattle.std.proofs.lemmas.Bool.{or_cases}
 use Rattle.std.proofs.lemmas.List.Sums.{sum_by-append}
 use Rattle.zx_model.specs.Number.{Number}
 use Rattle.zx_model.specs.Proportional.{Proportional}
-use Rattle.zx_model.specs.declared.scalar.Scalar.{Scalar}
 use Rattle.zx_model.proofs.Odd.{is_odd-opposite}
 use Rattle.zx_model.proofs.Scalars.{scaled_proportional}
 use Rattle.zx_model.proofs.ProportionalLemmas.{proportional_trans}

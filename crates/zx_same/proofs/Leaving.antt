@@ -1,5 +1,5 @@
 -- What is left of a circuit that isn't seen to be the identity, and of two.
-use Rattle.std.proofs.Common.{◌≡◌, refl, sym, ◌∙◌, ap, subst, ℕ, Bool, true, false, not, ◌&&◌, List, [], length, true≢false, ◌==◌, ◌≤◌, le_trans}
+use Rattle.std.proofs.Common.{◌≡◌, refl, sym, ◌∙◌, ap, subst, ℕ, Bool, true, false, not, ◌&&◌, [], length, true≢false, ◌==◌, ◌≤◌, le_trans}
 use Rattle.std.specs.List.{All, list_all, zip}
 use Rattle.zx_model.specs.Bits.{member}
 use Rattle.zx_model.specs.Proportional.{Proportional}

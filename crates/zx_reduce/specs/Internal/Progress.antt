@@ -1,18 +1,18 @@
 -- A graph while it is simplified.
-use Rattle.std.specs.Prelude.{◌≡◌, ◌≤◌, ◌+◌, ◌*◌, ◌^◌, ◌++◌, ℕ, Bool, true, false, List, [], ◌∷◌, length, map}
+use Rattle.std.specs.Prelude.{◌≡◌, ◌≤◌, ◌+◌, ◌*◌, ◌^◌, ◌++◌, ℕ, Bool, true, false, List, [], ◌∷◌, map}
 use Rattle.zx_model.specs.Scalar.{IsWithin, one_scalar, product_of_scalars}
 use Rattle.zx_model.specs.declared.scalar.Scalar.{Scalar}
 use Rattle.zx_calculus.specs.Graph.{Graph, WellFormed}
 use Rattle.zx_calculus.specs.Moves.{IsStuck}
 use Rattle.zx_calculus.specs.Reduced.{IsReduced}
 use Rattle.zx_calculus.specs.Steps as calculus
-use Rattle.zx_calculus.specs.Steps.{IsStep, IsRun}
-use Rattle.zx_calculus.specs.StepScalars.{step_scalar, IsSumTimes}
+use Rattle.zx_calculus.specs.Steps.{IsStep}
+use Rattle.zx_calculus.specs.StepScalars.{step_scalar}
 use Rattle.gflow_laws.specs.Flow.{Correction, IsFlow}
 use Rattle.move_laws.specs.Orders.{is_split}
 use Rattle.graph_rewrites.specs.Steps.{step_named}
 use Rattle.graph_rewrites.specs.declared.step.Step.{Step}
-use Rattle.zx_reduce.specs.Scaling.{most_steps, most_reduced_root2}
+use Rattle.zx_reduce.specs.Scaling.{most_steps}
 use Rattle.zx_reduce.specs.Internal.Ordering.{Ordered, IsOrdered}
 
 -- the graph with its order, what a sum is times its own, how many steps were done, those that were done once no gate

@@ -1,5 +1,5 @@
 -- A bare graph is the identity, and so is a circuit without gates.
-use Rattle.std.proofs.Common.{◌≡◌, inl, inr, ◌∙◌, ap, sym, subst, zero, suc, true, false, true≢false, ℕ, ◌<◌, nat_eq, length, refl, arith}
+use Rattle.std.proofs.Common.{◌≡◌, inl, inr, ◌∙◌, sym, subst, zero, suc, true, false, true≢false, ℕ, ◌<◌, nat_eq, length, refl, arith}
 use Rattle.std.specs.List.{All}
 use Rattle.std.proofs.lemmas.Bool.{or_cases}
 use Rattle.zx_model.specs.Proportional.{Proportional}

@@ -1,5 +1,5 @@
 -- Scalars, odd phases and widths carry over from one to the next.
-use Rattle.std.proofs.Common.{◌∙◌, arith}
+use Rattle.std.proofs.Common.{arith}
 use Rattle.zx_gates.proofs.Passing.{product_fits}
 use Rattle.zx_reduce.specs.Scaling.{most_reduced_root2}
 use Rattle.zx_simplify.proofs.Whole.{graph_whole}

@@ -1,6 +1,6 @@
 -- What is tried at a vertex follows what was tried before it.
 use Rattle.std.proofs.Common.{arith}
-use Rattle.zx_reduce.proofs.Doing.{tries_none, tries_then}
+use Rattle.zx_reduce.proofs.Doing.{tries_then}
 use Rattle.zx_reduce.proofs.engine.Engine.drain.Goals as goal
 use Rattle.zx_reduce.proofs.engine.Engine.drain.Goals.{in-Some-take+in_ok-look_at, in_default-take}
 

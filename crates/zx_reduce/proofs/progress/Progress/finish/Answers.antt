@@ -1,5 +1,5 @@
 -- No move is left, so the graph is reduced.
-use Rattle.std.proofs.Common.{◌≡◌, sym, ◌∙◌, ap, subst}
+use Rattle.std.proofs.Common.{sym, ◌∙◌, ap, subst}
 use Rattle.zx_calculus.specs.Graph.{WellFormed}
 use Rattle.zx_calculus.specs.Moves.{IsStuck}
 use Rattle.zx_moves.proofs.MoveEnds.{stuck-reduced}

@@ -1,5 +1,5 @@
 -- The steps of the move one after the other, each of which is allowed.
-use Rattle.std.proofs.Common.{◌≡◌, refl, sym, ◌∙◌, ap, subst, List, [], ◌∷◌, ◌++◌, ◌+◌, length, take, drop, map, add-one, true≢false, arith}
+use Rattle.std.proofs.Common.{◌≡◌, refl, sym, ◌∙◌, ap, subst, List, [], ◌∷◌, ◌++◌, ◌+◌, take, map, add-one, true≢false, arith}
 use Rattle.std.proofs.Math.Seq.{take-suc}
 use Rattle.std.proofs.lemmas.List.{take_all}
 use Rattle.graph_rewrites.specs.declared.step.Step.{Step}

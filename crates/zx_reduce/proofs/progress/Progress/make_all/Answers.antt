@@ -1,5 +1,5 @@
 -- One move after the other: each leaves fewer, so there is room for their steps.
-use Rattle.std.proofs.Common.{◌≡◌, refl, sym, ◌∙◌, ap, subst, [], ◌++◌, ◌≤◌, length, arith}
+use Rattle.std.proofs.Common.{refl, ◌∙◌, subst, [], ◌++◌, ◌≤◌, length, arith}
 use Rattle.zx_calculus.specs.Graph.{Graph}
 use Rattle.open_graph.specs.OpenGraph.{most_vertices_in_memory}
 use Rattle.zx_calculus.specs.Steps.{IsRun}
