@@ -134,6 +134,41 @@ impl Unrolled {
         self.unroll_instance(gates, called, angles, spans, index)
     }
 
+    /// A call of a gate without angles on single qubits by a copy, where what it comes to is known and makes not too many
+    /// calls; tells whether it is.
+    pub fn copy(&mut self, called: CalledGate, spans: &[Span]) -> Result<bool, AllocError>
+        ensures copied { IfOk result (λ copied. copied ≡ true → (numbered : Numbered) (gates : List GateBody)
+            (count : ℕ) → Unrolls gates numbered → AreKnown numbered count self.old.known.items →
+            ComesTo self.old (instance_events called [] spans.now 0 numbered) self.new []) }
+        ensures left { IfOk result (λ copied. copied ≡ false → self.new ≡ self.old) }
+        ensures known { self.new.known ≡ self.old.known }
+    {
+        match called {
+            CalledGate::Cx => self.copy_cx(spans),
+            _ => self.copy_instance(called, &[], spans, 0),
+        }
+    }
+
+    // A call of `CX`, where there are not too many calls; tells whether it is made.
+    fn copy_cx(&mut self, spans: &[Span]) -> Result<bool, AllocError>
+        ensures copied { IfOk result (λ copied. copied ≡ true → (numbered : Numbered) (gates : List GateBody)
+            (count : ℕ) → Unrolls gates numbered → AreKnown numbered count self.old.known.items →
+            ComesTo self.old (instance_events CalledGate.Cx [] spans.now 0 numbered) self.new []) }
+        ensures left { IfOk result (λ copied. copied ≡ false → self.new ≡ self.old) }
+        ensures known { self.new.known ≡ self.old.known }
+    {
+        if MOST_CALLS <= self.calls {
+            return Ok(false);
+        }
+        self.qubits.clear();
+        push_instance(spans, 0, &mut self.qubits)?;
+        if let Some(gate) = cx_gate(&self.qubits) {
+            self.gates.push(gate)?;
+        }
+        self.calls += 1;
+        Ok(true)
+    }
+
     // The same by a copy of what is known, where that is kept and makes not too many calls; tells whether it is.
     fn copy_instance(
         &mut self,
