@@ -107,8 +107,7 @@ read-rest reader later text place rest from within r =
     let front = take place text ++ concat r.cut.pieces in
     let whole : text ≡ front ++ rest =
     sym (take-append-drop place text) ∙ ap (λ l. take place text ++ l) r.cut.whole ∙ sym (append_assoc (take place text) (concat r.cut.pieces) rest) in
-    let count : length text - length rest ≡ length front = omega (arith, ap length whole, length-append front rest) in
-    (
+    let count : length text - length rest ≡ length front = omega (arith, ap length whole, length-append front rest) in (
       ap (λ n. drop n text) count ∙ ap (drop (length front)) whole ∙ drop_behind front rest,
       omega (arith, within, ap length r.cut.whole, length-append (concat r.cut.pieces) rest, length-drop place text),
       omega (arith, ap length whole, length-append front rest),

@@ -122,7 +122,8 @@ impl<'a> Reader<'a> {
         }
     }
 
-    // Reads the plain statements that a text has from a place on, where no part is open, and gives the place behind them.
+    // Reads the plain statements that a text has from a place on, where no part is open, and gives the place behind
+    // them.
     fn read_plain(&mut self, text: &[u8], place: usize) -> Result<usize, AllocError>
         requires { place ≤ length text.now }
         ensures read { IfOk result (λ end. (from : ℕ)
@@ -139,8 +140,8 @@ impl<'a> Reader<'a> {
         Ok(text.len() - rest.len())
     }
 
-    // Reads the plain statement that a text begins with, where its names were applied before and nothing is wrong with it,
-    // and gives the text behind it.
+    // Reads the plain statement that a text begins with, where its names were applied before and nothing is wrong with
+    // it, and gives the text behind it.
     fn read_next_plain<'t>(&mut self, text: &'t [u8]) -> Result<Option<&'t [u8]>, AllocError>
         requires { IsBetween self.old }
         ensures some { IfOk result (λ read. IfSome read (λ rest. IsReadPlain self.old text.now rest.now self.new)) }
@@ -156,7 +157,8 @@ impl<'a> Reader<'a> {
         }
     }
 
-    // Takes in a plain statement, where its names were applied before and nothing is wrong with it; tells whether it did.
+    // Takes in a plain statement, where its names were applied before and nothing is wrong with it; tells whether it
+    // did.
     fn take_plain(&mut self, plain: &Plain<'_>) -> Result<bool, AllocError>
         requires { IsBetween self.old }
         ensures taken { IfOk result (λ taken. taken ≡ true
@@ -416,8 +418,8 @@ impl<'a> Reader<'a> {
     }
 }
 
-// Cuts a text further from a place on, until the list has so many tokens and the last one ends a statement, or has a good
-// many more, or the text is over.
+// Cuts a text further from a place on, until the list has so many tokens and the last one ends a statement, or has a
+// good many more, or the text is over.
 fn lex_statements<'t>(
     text: &'t [u8],
     place: usize,

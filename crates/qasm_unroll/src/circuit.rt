@@ -80,8 +80,8 @@ impl<'a> Circuit<'a> {
         }
     }
 
-    /// Takes in an application without angles, at whichever place, where all of its names were applied before and nothing
-    /// is wrong with it; tells whether it did.
+    /// Takes in an application without angles, at whichever place, where its gate and the register of its qubits were
+    /// applied before, and nothing is wrong with it; tells whether it did.
     ///
     /// # Errors
     ///
@@ -197,7 +197,8 @@ impl<'a> Circuit<'a> {
     fn begun(&mut self, heading: &GateHeading<'a>) -> Option<GateInProgress<'a>>
         ensures { (program : List Placed) (place : ℕ)
             → IsOpen program self.old.names self.old.measured self.old.unrolled
-            → IsRecent self.old.names.symbols self.old.recent → HasBegunAs result self.new program place (form_of heading.now []) }
+            → IsRecent self.old.names.symbols self.old.recent
+            → HasBegunAs result self.new program place (form_of heading.now []) }
     {
         match GateInProgress::new(self.alloc, &self.names, heading) {
             Ok(gate) => Some(gate),

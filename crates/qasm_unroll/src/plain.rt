@@ -30,8 +30,8 @@ struct NamedGate<'a> {
     gate: KnownGate,
 }
 
-/// What names stood for that were applied, as long as nothing is declared: gates, each at a row that its name tells, and
-/// the register that was last.
+/// What names stood for that were applied, as long as nothing is declared: gates, each at a row that its name tells,
+/// and the register that was last.
 #[derive(Drop)]
 pub struct Recent<'a> {
     gates: [Option<NamedGate<'a>>; ROWS],
@@ -212,7 +212,8 @@ fn row_of(name: &[u8]) -> usize
     ensures { result < 64 }
 {
     match name {
-        [first, .., last] => (usize::from(*first) * 7 + usize::from(*last) * 3 + name.len() % ROWS) % ROWS,
+        [first, .., last] => (usize::from(*first) * 7 + usize::from(*last) * 3 + name.len() % ROWS)
+            % ROWS,
         [only] => usize::from(*only) % ROWS,
         [] => 0,
     }

@@ -134,8 +134,8 @@ impl Unrolled {
         self.unroll_instance(gates, called, angles, spans, index)
     }
 
-    /// A call of a gate without angles on single qubits by a copy, where what it comes to is known and makes not too many
-    /// calls; tells whether it is.
+    /// A call of a gate without angles on single qubits by a copy, where what it comes to is known and makes not too
+    /// many calls; tells whether it is.
     pub fn copy(&mut self, called: CalledGate, spans: &[Span]) -> Result<bool, AllocError>
         ensures copied { IfOk result (λ copied. copied ≡ true → (numbered : Numbered) (gates : List GateBody)
             (count : ℕ) → Unrolls gates numbered → AreKnown numbered count self.old.known.items →

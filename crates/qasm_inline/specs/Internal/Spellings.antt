@@ -1,5 +1,6 @@
 -- What bytes at the start of a text spell, and statements that are spelled plainly: a private matter of the program.
-use Rattle.std.specs.Prelude.{◌≡◌, ◌<◌, ℕ, Bool, true, false, not, ◌&&◌, ◌||◌, ◌==◌, if◌then◌else◌, List, [], ◌∷◌, length, map, drop, None}
+use Rattle.std.specs.Prelude.{◌≡◌, ◌<◌, ℕ, Bool, true, false, not, ◌&&◌, ◌||◌, ◌==◌, if◌then◌else◌}
+use Rattle.std.specs.Prelude.{List, [], ◌∷◌, length, map, drop, None}
 use Rattle.std.specs.Char.{is_ascii_lowercase}
 use Rattle.std.specs.Option.{option_to_list}
 use Rattle.qasm_lexer.specs.Forms.{is_space}
@@ -104,7 +105,8 @@ pub record IsReadPlain (reader : Reader) (text rest : List ℕ) (later : Reader)
   pub between : IsBetween later
 
 -- the later reader has read what the text has between these places, where so many bytes stand before it
-pub record IsReadTo (reader : Reader) (text : List ℕ) (place : ℕ) (rest : List ℕ) (from : ℕ) (later : Reader) : Type 0 where
+pub record IsReadTo (reader : Reader) (text : List ℕ) (place : ℕ) (rest : List ℕ) (from : ℕ)
+    (later : Reader) : Type 0 where
   pub tokens : List Lexeme
   pub cut : IsCutUpTo place (drop place text) rest tokens
   pub reads : ReadsOn reader (map (moved from) tokens) later

@@ -39,7 +39,8 @@ abbrev pub plainly_applied : Callee → List Operand → Apply
 plainly_applied gate qubits = record { gate = gate; angles = []; qubits = qubits }
 
 -- The calls of a gate without angles on these qubits, one for each, are made, with no qubit twice and none measured.
-pub record IsPlainlyCalled (measured : Measured) (before : Unrolled) (called : CalledGate) (ranges : List Range) (after : Unrolled) : Type 0 where
+pub record IsPlainlyCalled (measured : Measured) (before : Unrolled) (called : CalledGate) (ranges : List Range)
+    (after : Unrolled) : Type 0 where
   pub differ : list_any (has_twice ◌==◌) (instances ranges) ≡ false
   pub unmeasured : list_any (holds_any (qubits_of measured.list)) ranges ≡ false
   pub comes : (numbered : Numbered) (gates : List GateBody) (count : ℕ) → Unrolls gates numbered
@@ -47,7 +48,8 @@ pub record IsPlainlyCalled (measured : Measured) (before : Unrolled) (called : C
       → ComesTo before (called_events numbered called 1 (Ok []) (cut_instance ranges 0)) after []
 
 -- The application is resolved, its qubits are single ones, and it is called.
-pub record IsPlainlyApplied (symbols : Symbols) (measured : Measured) (before : Unrolled) (a : Apply) (after : Unrolled) : Type 0 where
+pub record IsPlainlyApplied (symbols : Symbols) (measured : Measured) (before : Unrolled) (a : Apply)
+    (after : Unrolled) : Type 0 where
   pub called : CalledGate
   pub ranges : List Range
   pub resolved : IsResolved symbols a called [] ranges

@@ -7,8 +7,8 @@ use Rattle.qasm_unroll.proofs.circuit.Circuit.begin_gate.Goals as goal
 pub returns-in-Empty-clause-begun : goal.returns-in-Empty-clause-begun
 returns-in-Empty-clause-begun c = λ program taken any. (
   subst (λ stage. HasTakenAt stage (program ++ gate_at c.args.place any ∷ []) c.args.self.now.names c.args.self.now.measured c.args.self.now.unrolled) (sym c.without_version-self.ensures)
-  (gate-first program c.args.self.now.names c.args.self.now.measured c.args.self.now.unrolled c.args.place any
-  (subst (λ stage. HasTakenAt stage program c.args.self.now.names c.args.self.now.measured c.args.self.now.unrolled) c.in-Empty.is taken.0)),
+      (gate-first program c.args.self.now.names c.args.self.now.measured c.args.self.now.unrolled c.args.place any
+      (subst (λ stage. HasTakenAt stage program c.args.self.now.names c.args.self.now.measured c.args.self.now.unrolled) c.in-Empty.is taken.0)),
   taken.1,
 )
 
@@ -19,7 +19,7 @@ returns-in-Open-clause-begun c = λ program taken.
 pub returns-in-Stopped-clause-begun : goal.returns-in-Stopped-clause-begun
 returns-in-Stopped-clause-begun c = λ program taken any. (
   subst (λ stage. HasTakenAt stage (program ++ gate_at c.args.place any ∷ []) c.args.self.now.names c.args.self.now.measured c.args.self.now.unrolled) (sym c.in-Stopped.is)
-  (stays-stopped _ program (gate_at c.args.place any) _ _ _
-  (subst (λ stage. HasTakenAt stage program c.args.self.now.names c.args.self.now.measured c.args.self.now.unrolled) c.in-Stopped.is taken.0)),
+      (stays-stopped _ program (gate_at c.args.place any) _ _ _
+      (subst (λ stage. HasTakenAt stage program c.args.self.now.names c.args.self.now.measured c.args.self.now.unrolled) c.in-Stopped.is taken.0)),
   taken.1,
 )

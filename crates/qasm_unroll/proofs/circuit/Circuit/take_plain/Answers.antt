@@ -13,6 +13,6 @@ returns-in-Open-clause-taken c = IfOk-weaker c.apply_plain.result _ _ (λ taken 
     let qubits = map operand c.args.qubits.now in
     let opened : IsOpen program self.names self.measured self.unrolled = subst (λ stage. HasTakenAt stage program self.names self.measured self.unrolled) c.in-Open.is is.0 in (
       subst (λ stage. HasTakenAt stage (program ++ applied_at place gate qubits ∷ []) self.names self.measured c.apply_plain.new.unrolled) (sym c.in-Open.is)
-      (plain-taken program place gate qubits self.names self.measured self.unrolled c.apply_plain.new.unrolled opened c.apply_plain.ensures.known (h done self.names.symbols is.1 opened.remembers)),
+          (plain-taken program place gate qubits self.names self.measured self.unrolled c.apply_plain.new.unrolled opened c.apply_plain.ensures.known (h done self.names.symbols is.1 opened.remembers)),
       is.1,
     )) c.apply_plain.ensures.applied
