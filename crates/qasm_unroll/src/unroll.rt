@@ -98,14 +98,14 @@ impl Unrolled {
         self.gates
     }
 
-    /// Learns what calls without angles come to, of the first gates of which it isn't known yet.
-    pub fn learn(&mut self, gates: &[GateBody]) -> Result<(), AllocError>
+    /// Learns what calls without angles come to, of the gates up to this one of which it isn't known yet.
+    pub fn learn(&mut self, gates: &[GateBody], called: CalledGate) -> Result<(), AllocError>
         ensures known { OnOk result ((numbered : Numbered) → Unrolls gates.now numbered
             → AreKnown numbered (length gates.now) self.old.known.items
             → AreKnown numbered (length gates.now) self.new.known.items) }
         ensures others { OnOk result (self.new ≡ record self.old { known = self.new.known }) }
     {
-        for number in self.known.len()..gates.len().min(MOST_KNOWN) {
+        for number in self.known.len()..needed(gates, called) {
             let kept = expansion(self.alloc, gates, number)?;
             self.known.push(kept)?;
         }
@@ -407,6 +407,16 @@ impl Unrolled {
     {
         self.angles.truncate(base.angles);
         self.qubits.truncate(base.qubits);
+    }
+}
+
+// Of how many of the first gates it is to be known what calls come to, where this one is called.
+fn needed(gates: &[GateBody], called: CalledGate) -> usize
+    ensures { result ≤ length gates.now }
+{
+    match called {
+        CalledGate::Gate(number) => number.saturating_add(1).min(gates.len()).min(MOST_KNOWN),
+        _ => 0,
     }
 }
 
