@@ -195,9 +195,8 @@ impl<'a> Circuit<'a> {
 
     // What is kept of a gate behind the version, before the first statement of its body.
     fn begun(&mut self, heading: &GateHeading<'a>) -> Option<GateInProgress<'a>>
-        ensures { (program : List Placed) (place : ℕ)
-            → IsOpen program self.old.names self.old.measured self.old.unrolled
-            → IsRecent self.old.names.symbols self.old.recent
+        ensures { (program : List Placed) (place : ℕ) → IsOpen program self.old.names self.old.measured
+            self.old.unrolled → IsRecent self.old.names.symbols self.old.recent
             → HasBegunAs result self.new program place (form_of heading.now []) }
     {
         match GateInProgress::new(self.alloc, &self.names, heading) {
