@@ -1,16 +1,13 @@
 //! Applications without angles, whose names were looked up before.
 
-ghost use Rattle.std.specs.Prelude.{◌≡◌, ◌<◌, ◌∷◌, [], List, ℕ, length, map, IfOk, IfSome, true, false, None, Some};
-ghost use Rattle.qasm_reader.specs.Views.{callee, operand};
-ghost use Rattle.qasm_scope.specs.Applications.{Range, Single};
+ghost use Rattle.std.specs.Prelude.{◌≡◌, ◌<◌, map, IfOk, IfSome, true, false, None, Some};
 ghost use Rattle.qasm_names.specs.Checks.{Symbols, gate_shape, shape_by, called_by};
-ghost use Rattle.qasm_names.specs.declared.gates.GateBody.{GateBody};
 ghost use Rattle.qasm_reader.specs.Syntax.{Declared};
-ghost use Rattle.qasm_unroll.specs.Internal.KeptCalls.{ComesTo, Numbered, Unrolls};
+ghost use Rattle.qasm_reader.specs.Views.{callee, operand};
+ghost use Rattle.qasm_scope.specs.Applications.{Single};
 ghost use Rattle.qasm_unroll.specs.Internal.KeptMeasures.{Remembers};
-ghost use Rattle.qasm_unroll.specs.Internal.KnownCalls.{AreKnown};
-ghost use Rattle.qasm_unroll.specs.Internal.Recents.{IsNamed, IsPlainCall, IsPlainlyApplied, IsPlainlyCalled, IsRecent, plainly_applied};
-ghost use Rattle.qasm_unroll.specs.Internal.Spans.{IsSpan, IsLastRegister, instance_events, span_range};
+ghost use Rattle.qasm_unroll.specs.Internal.Recents.{IsPlainCall, IsPlainlyApplied, IsPlainlyCalled, IsRecent, plainly_applied};
+ghost use Rattle.qasm_unroll.specs.Internal.Spans.{IsSpan, span_range};
 
 use crate::applications::{LastRegister, Span, span_of};
 use crate::measured::Measured;
