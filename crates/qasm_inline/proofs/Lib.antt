@@ -5,3 +5,5 @@ pub mod AnswerLemmas
 pub mod ReadingLemmas
 pub mod PieceLemmas
 pub mod Characters
+pub mod SpellLemmas
+pub mod PlainLemmas

@@ -12,6 +12,7 @@
 //!   in, and what is left waits for more, or is dropped where a syntax fault is certain.
 //! - `piece_reader`: a text that comes in pieces: the bytes of the last lines wait until the lines
 //!   are over and worth while, and are then read by `reading`.
+//! - `plain`: statements that are spelled plainly, which are read straight from the bytes.
 //! - `words`: the texts of tokens that outlive these bytes, in an arena; those of one character
 //!   stand in the program.
 //! - `meaning`: the statements of a program, taken in one after the other.
@@ -27,6 +28,7 @@ mod error;
 mod laws;
 mod meaning;
 mod piece_reader;
+mod plain;
 mod reading;
 mod words;
 

@@ -1,22 +1,25 @@
 //! Reading: from a text to the circuit that it means, in one pass over the text.
 
-ghost use Rattle.std.specs.Prelude.{◌≡◌, ◌+◌, ◌^◌, ◌<◌, ◌≤◌, ◌++◌, List, [], ℕ, length, map, None, Some, Err, IfOk, IfSome, OnOk};
+ghost use Rattle.std.specs.Prelude.{◌≡◌, ◌+◌, ◌^◌, ◌<◌, ◌≤◌, ◌++◌, List, [], ℕ, length, map, drop, true, false, None, Some, Err, IfOk, IfSome, IfNone, OnOk};
 ghost use Rattle.std.specs.List.{All};
 ghost use Rattle.std.specs.Borrow.{Bor};
+ghost use Rattle.qasm_lexer.specs.declared.errors.LexError.TheVariants.{BadByte};
 ghost use Rattle.qasm_lexer.specs.declared.token.Token.{Token};
 ghost use Rattle.qasm_lexer.specs.Internal.Moved.{moved};
-ghost use Rattle.qasm_lexer.specs.Tokens.{Lexeme, lexemes, IsCut, IsBadByte};
+ghost use Rattle.qasm_lexer.specs.Tokens.{Lexeme, lexemes, IsCut, IsCutAt, IsBadByte};
 ghost use Rattle.qasm_reader.specs.Parts.{IsFirstPart};
 ghost use Rattle.qasm_reader.specs.Syntax.{Placed};
 ghost use Rattle.qasm_scope.specs.Texts.{IsProgramText};
 ghost use Rattle.qasm_unroll.specs.Circuits.{HasTaken};
 ghost use Rattle.qasm_inline.specs.TextAnswers.{IsTextAnswer};
 ghost use Rattle.qasm_inline.specs.Internal.Readings.{AreTaken, IsReadSoFar, IsNextOf, IsTakenNext, IsTextFault, KeepsTokens, ReadsOn, open_place};
+ghost use Rattle.qasm_inline.specs.Internal.Spellings.{IsBetween, IsReadPlain, IsReadTo, ReadsApplication, application_of};
 
 use crate::error::TextError;
+use crate::plain::{Plain, first_plain};
 use crate::words::Words;
 use bumpalo::Bump;
-use qasm_lexer::{LexError, Token, lex_further};
+use qasm_lexer::{LexError, Token, TokenKind, lex_further};
 use qasm_reader::{BodyPart, Depth, Part, has_end, next_in_body, next_part};
 use qasm_unroll::{Circuit, InlineError, OpenGate};
 use std::alloc::{AllocError, Global};
@@ -25,6 +28,9 @@ use zx_gates::Elementary;
 
 // How many tokens are cut off a text at once.
 const BATCH: usize = 4096;
+
+// How many more than were asked for are cut off at most, so that they end where a statement does.
+const MOST_MORE: usize = 256;
 
 /// The circuit that a text means, or the text's first fault. Tokens are cut a few thousand at a time, or as many as there
 /// are of the part that isn't over, where a gate's declaration is its heading and the statements of its body, and a part
@@ -87,18 +93,94 @@ impl<'a> Reader<'a> {
         ensures bad_byte { (at : ℕ) → result ≡ Err (LexError.BadByte at)
             → (there : ℕ) × IsBadByte text.now there × (at ≡ from + there) }
     {
-        let mut done = 0;
+        let mut done = self.read_plain(text, 0)?;
+        let mut batch = 1;
         let mut tokens = Vec::new(alloc);
         while done < text.len() {
             tokens.clear();
-            match lex_further(text, done, &mut tokens, self.enough()) {
-                Ok(end) => done = end,
+            let end = match lex_statements(text, done, &mut tokens, batch) {
+                Ok(end) => end,
                 Err(LexError::BadByte { at }) => return Err(LexError::BadByte { at: from + at }),
                 Err(LexError::NoMemory) => return Err(LexError::NoMemory),
-            }
+            };
             self.read_tokens(alloc, words, &tokens, from)?;
+            done = self.read_plain(text, end)?;
+            batch = self.next_batch(batch, end < done);
         }
         Ok(())
+    }
+
+    // How many tokens to cut next, by how many were cut before, and whether plain statements stood behind these.
+    fn next_batch(&self, batch: usize, plain: bool) -> usize
+        requires { 0 < batch }
+        ensures { 0 < result }
+    {
+        if plain {
+            1
+        } else {
+            batch.saturating_mul(2).min(self.enough())
+        }
+    }
+
+    // Reads the plain statements that a text has from a place on, where no part is open, and gives the place behind
+    // them.
+    fn read_plain(&mut self, text: &[u8], place: usize) -> Result<usize, AllocError>
+        requires { place ≤ length text.now }
+        ensures read { IfOk result (λ end. (from : ℕ)
+            → IsReadTo self.old text.now place (drop end text.now) from self.new) }
+        ensures within { IfOk result (λ end. (place ≤ end) × (end ≤ length text.now)) }
+    {
+        if !self.is_between() {
+            return Ok(place);
+        }
+        let mut rest = &text[place..];
+        while let Some(behind) = self.read_next_plain(rest)? {
+            rest = behind;
+        }
+        Ok(text.len() - rest.len())
+    }
+
+    // Reads the plain statement that a text begins with, where its names were applied before and nothing is wrong with
+    // it, and gives the text behind it.
+    fn read_next_plain<'t>(&mut self, text: &'t [u8]) -> Result<Option<&'t [u8]>, AllocError>
+        requires { IsBetween self.old }
+        ensures some { IfOk result (λ read. IfSome read (λ rest. IsReadPlain self.old text.now rest.now self.new)) }
+        ensures none { IfOk result (λ read. IfNone read (self.new ≡ self.old)) }
+    {
+        let Some(next) = first_plain(text) else {
+            return Ok(None);
+        };
+        if self.take_plain(&next)? {
+            Ok(Some(next.rest))
+        } else {
+            Ok(None)
+        }
+    }
+
+    // Takes in a plain statement, where its names were applied before and nothing is wrong with it; tells whether it
+    // did.
+    fn take_plain(&mut self, plain: &Plain<'_>) -> Result<bool, AllocError>
+        requires { IsBetween self.old }
+        ensures taken { IfOk result (λ taken. taken ≡ true
+            → ReadsApplication self.old (application_of plain.now) self.new) }
+        ensures left { IfOk result (λ taken. taken ≡ false → self.new ≡ self.old) }
+        ensures between { OnOk result (IsBetween self.new) }
+    {
+        match plain.second {
+            None => self.circuit.take_plain(&plain.gate, &[plain.first]),
+            Some(second) => self.circuit.take_plain(&plain.gate, &[plain.first, second]),
+        }
+    }
+
+    // Whether no part is open, and there was no fault of the grammar.
+    fn is_between(&self) -> bool
+        ensures { result ≡ true → IsBetween self.now }
+    {
+        let shallow = match self.depth {
+            Depth::Open(0) => true,
+            _ => false,
+        };
+        shallow && self.tokens.is_empty() && self.gate.is_none() && self.fault.is_none()
     }
 
     // Reads tokens that come next, of a text that stands so many bytes further on, and keeps what is needed of them.
@@ -333,6 +415,41 @@ impl<'a> Reader<'a> {
                 None => None,
             },
         }
+    }
+}
+
+// Cuts a text further from a place on, until the list has so many tokens and the last one ends a statement, or has a
+// good many more, or the text is over.
+fn lex_statements<'t>(
+    text: &'t [u8],
+    place: usize,
+    tokens: &mut Vec<Token<'t>>,
+    count: usize,
+) -> Result<usize, LexError>
+    requires { place ≤ length text.now }
+    ensures cut { (before : List Lexeme) → IsCutAt text.now place
+        (before ++ lexemes tokens.old.items)
+        → IfOk result (λ end. IsCutAt text.now end (before ++ lexemes tokens.new.items)) }
+    ensures within { IfOk result (λ end. end ≤ length text.now) }
+    ensures further { IfOk result (λ end. place < length text.now → length tokens.old.items < count
+        → place < end) }
+    ensures bad_byte { (before : List Lexeme) (at : ℕ)
+        → IsCutAt text.now place (before ++ lexemes tokens.old.items)
+        → result ≡ Err (BadByte at) → IsBadByte text.now at }
+{
+    let mut end = lex_further(text, place, tokens, count)?;
+    let most = tokens.len().saturating_add(MOST_MORE);
+    while end < text.len() && tokens.len() < most && !ends_statement(tokens) {
+        end = lex_further(text, end, tokens, tokens.len() + 1)?;
+    }
+    Ok(end)
+}
+
+// Whether a statement ends with the last token.
+fn ends_statement(tokens: &[Token<'_>]) -> bool {
+    match tokens.last() {
+        Some(token) => token.kind == TokenKind::Semicolon || token.kind == TokenKind::RightBrace,
+        None => false,
     }
 }
 

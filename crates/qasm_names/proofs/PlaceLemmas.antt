@@ -162,9 +162,3 @@ any-either p q f xs i d h e = ap₂ ◌||◌ (any-drop p f xs i d h) (any-drop q
 pub map-map-more : {A B C : Type 0} (g : B → C) (f : A → B) (xs : List A) (i : ℕ) (d : A) → i < length xs
     → map g (map f (take (i + 1) xs)) ≡ map g (map f (take i xs)) ++ g (f (get_or xs i d)) ∷ []
 map-map-more g f xs i d h = ap (map g) (map-more f xs i d h) ∙ map-append g (map f (take i xs)) (f (get_or xs i d) ∷ [])
-
--- a name alone stands once
-pub few_names : (names : List (Bor (List ℕ))) → length names < 2 → false ≡ has_twice bytes_eq (map (λ name. name.now) names)
-few_names [] few = refl
-few_names (name ∷ []) few = refl
-few_names (name ∷ other ∷ names) few = absurd (omega (arith, few))

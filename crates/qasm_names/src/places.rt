@@ -1,12 +1,16 @@
 //! Formal names by their places.
 
 ghost use Rattle.std.specs.Prelude.{◌≡◌, map, IfOk, OnOk, [], ◌++◌, ◌∷◌, List, ℕ, length};
+ghost use Rattle.std.specs.List.{list_any};
 ghost use Rattle.std.specs.Str.{bytes_eq};
 ghost use Rattle.qasm_names.specs.Places.{ArePlaces, place_in};
 ghost use Rattle.qasm_scope.specs.Applications.{has_twice};
 
 use std::alloc::{AllocError, Global};
 use std::collections::BTreeMap;
+
+// Of so many names, each is compared with each.
+const FEW: usize = 8;
 
 /// Names by their places in a list.
 #[derive(Drop)]
@@ -59,12 +63,11 @@ impl<'a> Places<'a> {
 }
 
 /// Whether a name stands twice in a list.
-#[tactic(auto, using(crate::proofs::PlaceLemmas::few_names))]
 pub fn has_name_twice<'a>(alloc: Global, names: &[&'a [u8]]) -> Result<bool, AllocError>
     ensures { IfOk result (λ twice. twice ≡ has_twice bytes_eq (map (λ name. name.now) names.now)) }
 {
-    if names.len() < 2 {
-        return Ok(false);
+    if names.len() <= FEW {
+        return Ok(any_twice(names));
     }
     let mut places = Places::none(alloc);
     for (place, name) in names.iter().enumerate() {
@@ -74,4 +77,37 @@ pub fn has_name_twice<'a>(alloc: Global, names: &[&'a [u8]]) -> Result<bool, All
         places.put(*name, place)?;
     }
     Ok(false)
+}
+
+// Whether a name stands twice in a list, by comparing each with those behind it.
+fn any_twice(names: &[&[u8]]) -> bool
+    ensures { result ≡ has_twice bytes_eq (map (λ name. name.now) names.now) }
+{
+    let mut rest = names;
+    while let [first, others @ ..] = rest {
+        if stands_among(*first, others) {
+            return true;
+        }
+        rest = others;
+    }
+    false
+}
+
+// Whether a name stands in a list.
+fn stands_among(name: &[u8], names: &[&[u8]]) -> bool
+    ensures { result
+        ≡ list_any (λ other. bytes_eq other name.now) (map (λ name. name.now) names.now) }
+{
+    for other in names {
+        if is_same(*other, name) {
+            return true;
+        }
+    }
+    false
+}
+
+fn is_same(name: &[u8], other: &[u8]) -> bool
+    ensures { result ≡ bytes_eq name.now other.now }
+{
+    name == other
 }

@@ -17,3 +17,4 @@ pub mod RangeLemmas
 pub mod StatementLemmas
 pub mod MeasuringLemmas
 pub mod CircuitLemmas
+pub mod RecentLemmas

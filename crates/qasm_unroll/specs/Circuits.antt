@@ -3,7 +3,7 @@ use Rattle.std.specs.Prelude.{◌≡◌, ℕ, List, [], ◌∷◌, ◌++◌, Opt
 use Rattle.zx_gates.specs.declared.elementary.Elementary.{Elementary}
 use Rattle.zx_gates.specs.declared.elementary.ElementaryGate.{ElementaryGate}
 use Rattle.zx_gates.specs.declared.elementary.Measure.{Measure}
-use Rattle.qasm_reader.specs.Syntax.{DeclareGate, GateForm, Placed}
+use Rattle.qasm_reader.specs.Syntax.{Act, Applied, Callee, DeclareGate, GateForm, Operand, Placed}
 use Rattle.qasm_unroll.specs.declared.circuit.Circuit.{Circuit}
 use Rattle.qasm_unroll.specs.declared.circuit.OpenGate.{OpenGate}
 use Rattle.qasm_unroll.specs.declared.circuit.Stage.{Stage}
@@ -14,6 +14,7 @@ use Rattle.qasm_unroll.specs.declared.measured.Measured.{Measured}
 use Rattle.qasm_unroll.specs.declared.unroll.Unrolled.{Unrolled}
 use Rattle.qasm_unroll.specs.Internal.KeptMeasures.{Remembers}
 use Rattle.qasm_unroll.specs.Internal.KnownCalls.{Knows}
+use Rattle.qasm_unroll.specs.Internal.Recents.{IsRecent}
 use Rattle.qasm_names.specs.declared.gate_in_progress.GateInProgress.{GateInProgress}
 use Rattle.qasm_names.specs.declared.names.Names.{Names}
 use Rattle.qasm_names.specs.Begun.{IsBegun}
@@ -67,19 +68,27 @@ HasTakenAt (Stopped (Fault cause at)) program names measured unrolled =
     (more : List Placed) → first_fault most_calls (program ++ more) ≡ Some (cause, at)
 HasTakenAt (Stopped NoMemory) program names measured unrolled = Unit {0}
 
--- the circuit has taken in these statements
+-- the circuit has taken in these statements, and remembers what names of theirs stand for
 abbrev pub HasTaken : Circuit → List Placed → Type 0
-HasTaken circuit program = HasTakenAt circuit.stage program circuit.names circuit.measured circuit.unrolled
+HasTaken circuit program =
+    HasTakenAt circuit.stage program circuit.names circuit.measured circuit.unrolled
+    × IsRecent circuit.names.symbols circuit.recent
 
 -- the declaration of this gate, at this place
 abbrev pub gate_at : ℕ → GateForm → Placed
 gate_at place form = record { place = place; sentence = DeclareGate form }
+
+-- the application of a gate without angles, at this place
+abbrev pub applied_at : ℕ → Callee → List Operand → Placed
+applied_at place gate qubits =
+    record { place = place; sentence = Act (Applied (record { gate = gate; angles = []; qubits = qubits })) }
 
 -- Behind these statements a gate of this form so far is begun at this place. Where nothing is kept of it, the circuit
 -- is that of whatever its form may be.
 abbrev pub HasBegunAs : Option GateInProgress → Circuit → List Placed → ℕ → GateForm → Type 0
 HasBegunAs (Some gate) circuit program place form =
     IsOpen program circuit.names circuit.measured circuit.unrolled × IsBegun circuit.names gate form
+    × IsRecent circuit.names.symbols circuit.recent
 HasBegunAs None circuit program place form = (any : GateForm) → HasTaken circuit (program ++ gate_at place any ∷ [])
 
 -- the circuit has taken in these statements, and of a gate behind them the heading and what its body has so far

@@ -2,4 +2,5 @@
 pub mod KeptCalls
 pub mod KeptMeasures
 pub mod KnownCalls
+pub mod Recents
 pub mod Spans

@@ -31,17 +31,19 @@ pub enum Span {
     },
 }
 
-// The name that was looked up last, and the first qubit and the size of the register of qubits that it stands for;
-// none where it stands for none.
+/// The name that was looked up last, and the first qubit and the size of the register of qubits that it stands for;
+/// none where it stands for none.
 #[derive(Clone, Copy)]
-struct LastRegister<'a> {
-    name: &'a [u8],
-    register: Option<(usize, usize)>,
+pub struct LastRegister<'a> {
+    /// The name.
+    pub name: &'a [u8],
+    /// The first qubit and the size.
+    pub register: Option<(usize, usize)>,
 }
 
 impl<'a> LastRegister<'a> {
-    // This name is looked up.
-    fn look_up(names: &Names<'a>, name: &'a [u8]) -> LastRegister<'a>
+    /// This name is looked up.
+    pub fn look_up(names: &Names<'a>, name: &'a [u8]) -> LastRegister<'a>
         ensures is { IsLastRegister names.now.symbols result }
         ensures name { result.name.now ≡ name.now }
     {

@@ -1,21 +1,23 @@
 //! A circuit that takes in the statements of a program one at a time, and a gate's declaration in parts.
 
-ghost use Rattle.std.specs.Prelude.{◌≡◌, ◌-◌, ◌^◌, ◌∷◌, ◌++◌, [], List, ℕ, Some, codes, min, if◌then◌else◌};
+ghost use Rattle.std.specs.Prelude.{◌≡◌, ◌-◌, ◌^◌, ◌∷◌, ◌++◌, [], List, ℕ, Some, IfOk, codes, map, min, true, false, if◌then◌else◌};
 ghost use Rattle.std.specs.Str.{bytes_eq};
 ghost use Rattle.qasm_reader.specs.Parts.{with_statement};
 ghost use Rattle.qasm_reader.specs.Syntax.{GateForm, Placed};
-ghost use Rattle.qasm_reader.specs.Views.{body_sentence, form_of, placed, sentence};
+ghost use Rattle.qasm_reader.specs.Views.{body_sentence, callee, form_of, operand, placed, sentence};
 ghost use Rattle.qasm_scope.specs.declared.causes.Cause.{Cause};
-ghost use Rattle.qasm_unroll.specs.Circuits.{HasBegun, HasBegunAs, HasTaken, HasTakenAt, IsCircuitAnswer, IsOpen, gate_at};
+ghost use Rattle.qasm_unroll.specs.Circuits.{HasBegun, HasBegunAs, HasTaken, HasTakenAt, IsCircuitAnswer, IsOpen, applied_at, gate_at};
+ghost use Rattle.qasm_unroll.specs.Internal.Recents.{IsRecent};
 ghost use Rattle.qasm_scope.specs.Meaning.{is_version};
 
 use crate::error::InlineError;
 use crate::measured::Measured;
+use crate::plain::{Recent, apply_plain};
 use crate::statements::read_statement;
 use crate::unroll::Unrolled;
 use crate::values::clamped_bit;
 use qasm_names::{GateInProgress, Names, StatementError, clamped};
-use qasm_reader::{BodyStatement, GateHeading, Statement, StatementKind};
+use qasm_reader::{Argument, BodyStatement, GateHeading, GateName, Statement, StatementKind};
 use qasm_scope::Cause;
 use std::alloc::{AllocError, Global};
 use zx_gates::Elementary;
@@ -39,6 +41,7 @@ pub struct Circuit<'a> {
     names: Names<'a>,
     measured: Measured,
     unrolled: Unrolled,
+    recent: Recent<'a>,
 }
 
 /// A gate's declaration that is taken in up to a statement of its body.
@@ -61,6 +64,7 @@ impl<'a> Circuit<'a> {
             names: Names::new(alloc),
             measured: Measured::new(alloc),
             unrolled: Unrolled::new(alloc),
+            recent: Recent::new(),
         }
     }
 
@@ -73,6 +77,34 @@ impl<'a> Circuit<'a> {
             Stage::Empty => self.stage = after_first(statement),
             Stage::Open => self.stage = self.after_next(statement),
             Stage::Stopped(_) => {}
+        }
+    }
+
+    /// Takes in an application without angles, at whichever place, where its gate and the register of its qubits were
+    /// applied before, and nothing is wrong with it; tells whether it did.
+    ///
+    /// # Errors
+    ///
+    /// Where memory runs out.
+    pub fn take_plain(
+        &mut self,
+        gate: &GateName<'_>,
+        qubits: &[Argument<'_>],
+    ) -> Result<bool, AllocError>
+        ensures taken { IfOk result (λ taken. taken ≡ true → (program : List Placed) (place : ℕ)
+            → HasTaken self.old program
+            → HasTaken self.new (program ++ applied_at place (callee gate.now) (map operand qubits.now) ∷ [])) }
+        ensures left { IfOk result (λ taken. taken ≡ false → self.new ≡ self.old) }
+    {
+        match self.stage {
+            Stage::Open => apply_plain(
+                &self.recent,
+                &self.measured,
+                &mut self.unrolled,
+                gate,
+                qubits,
+            ),
+            _ => Ok(false),
         }
     }
 
@@ -163,8 +195,8 @@ impl<'a> Circuit<'a> {
 
     // What is kept of a gate behind the version, before the first statement of its body.
     fn begun(&mut self, heading: &GateHeading<'a>) -> Option<GateInProgress<'a>>
-        ensures { (program : List Placed) (place : ℕ)
-            → IsOpen program self.old.names self.old.measured self.old.unrolled
+        ensures { (program : List Placed) (place : ℕ) → IsOpen program self.old.names self.old.measured
+            self.old.unrolled → IsRecent self.old.names.symbols self.old.recent
             → HasBegunAs result self.new program place (form_of heading.now []) }
     {
         match GateInProgress::new(self.alloc, &self.names, heading) {
@@ -178,10 +210,12 @@ impl<'a> Circuit<'a> {
 
     // The stage after a gate behind the version.
     fn after_gate(&mut self, place: usize, gate: GateInProgress<'a>) -> Stage
-        ensures { (program : List Placed) (form : GateForm)
+        ensures stage { (program : List Placed) (form : GateForm)
             → HasBegunAs (Some gate.entry) self.old program place form → HasTakenAt result
             (program ++ gate_at place form ∷ []) self.new.names self.new.measured self.new.unrolled }
+        ensures recent { IsRecent self.new.names.symbols self.new.recent }
     {
+        self.recent.forget();
         match gate.declare(&mut self.names) {
             Ok(()) => Stage::Open,
             Err(StatementError::Wrong(cause)) => {
@@ -193,15 +227,18 @@ impl<'a> Circuit<'a> {
 
     // The stage after a statement behind the version.
     fn after_next(&mut self, statement: &Statement<'a>) -> Stage
-        ensures { (program : List Placed) → IsOpen program self.old.names self.old.measured
+        ensures stage { (program : List Placed) → IsOpen program self.old.names self.old.measured
             self.old.unrolled → HasTakenAt result (program ++ placed statement.now ∷ [])
             self.new.names self.new.measured self.new.unrolled }
+        ensures recent { IsRecent self.old.names.symbols self.old.recent
+            → IsRecent self.new.names.symbols self.new.recent }
     {
         match read_statement(
             self.alloc,
             &mut self.names,
             &mut self.measured,
             &mut self.unrolled,
+            &mut self.recent,
             &statement.kind,
         ) {
             Ok(()) => Stage::Open,

@@ -29,7 +29,7 @@ pub fn call_instances(
         gates.now numbered → AreKnown numbered (length gates.now) unrolled.old.known.items → wrong_from unrolled.old
         (instances_events numbered called (values_of angles.now []) (map span_range spans.now)) ≡ Some cause }
 {
-    unrolled.learn(gates)?;
+    unrolled.learn(gates, called)?;
     for index in 0..instance_count(spans) {
         unrolled.instance(gates, called, angles, spans, index)?;
     }

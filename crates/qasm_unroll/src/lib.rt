@@ -10,6 +10,7 @@
 //!   declaration also in parts.
 //! - `applications`, `overlaps`, `applying`: the arguments of an application, and what is wrong
 //!   with it.
+//! - `plain`: applications whose names were looked up before, for which calls are copied straight.
 //! - `instances`: its instances, one call after the other.
 //! - `unroll`, `values`: calls unrolled depth first, on stacks of frames, angles and qubits that
 //!   are kept between applications.
@@ -35,6 +36,7 @@ mod instances;
 mod measured;
 mod measuring;
 mod overlaps;
+mod plain;
 mod statements;
 mod unroll;
 mod values;

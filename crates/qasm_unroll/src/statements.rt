@@ -7,6 +7,7 @@ ghost use Rattle.qasm_names.specs.Kept.{Represents};
 ghost use Rattle.qasm_unroll.specs.Internal.KeptCalls.{ComesTo};
 ghost use Rattle.qasm_unroll.specs.Internal.KeptMeasures.{Adds, Remembers, wrong_next};
 ghost use Rattle.qasm_unroll.specs.Internal.KnownCalls.{Knows};
+ghost use Rattle.qasm_unroll.specs.Internal.Recents.{IsRecent};
 ghost use Rattle.qasm_scope.specs.Measurements.{measured_by};
 ghost use Rattle.qasm_scope.specs.Meaning.{after_statement, events_of};
 ghost use Rattle.qasm_scope.specs.Scope.{Scope};
@@ -16,6 +17,7 @@ use crate::applications::barrier;
 use crate::applying::apply;
 use crate::measured::Measured;
 use crate::measuring::measure;
+use crate::plain::Recent;
 use crate::unroll::Unrolled;
 use qasm_names::{Names, StatementError, declare_bits, declare_qubits, include};
 use qasm_reader::{Operation, StatementKind};
@@ -28,6 +30,7 @@ pub fn read_statement<'a>(
     names: &mut Names<'a>,
     measured: &mut Measured,
     unrolled: &mut Unrolled,
+    recent: &mut Recent<'a>,
     kind: &StatementKind<'a>,
 ) -> Result<(), StatementError>
     ensures ok { OnOk result ((scope : Scope) → Represents names.old scope → Remembers measured.old
@@ -45,17 +48,27 @@ pub fn read_statement<'a>(
     ensures err { (cause : Cause) (scope : Scope) → result ≡ Err (StatementError.Wrong cause)
         → Represents names.old scope → Remembers measured.old → Knows scope unrolled.old
         → wrong_next scope measured.old unrolled.old (sentence kind.now) ≡ Some cause }
+    ensures recent { IsRecent names.old.symbols recent.old → IsRecent names.new.symbols recent.new }
 {
     match kind {
         StatementKind::Version(_) => Err(StatementError::Wrong(Cause::SecondVersion)),
-        StatementKind::Include(text) => include(alloc, names, *text),
-        StatementKind::QubitRegister { name, size } => declare_qubits(names, *name, *size),
-        StatementKind::BitRegister { name, size } => declare_bits(names, *name, *size),
+        StatementKind::Include(text) => {
+            recent.forget();
+            include(alloc, names, *text)
+        }
+        StatementKind::QubitRegister { name, size } => {
+            recent.forget();
+            declare_qubits(names, *name, *size)
+        }
+        StatementKind::BitRegister { name, size } => {
+            recent.forget();
+            declare_bits(names, *name, *size)
+        }
         StatementKind::Opaque(_) => Err(StatementError::Wrong(Cause::Unsupported)),
         StatementKind::If { .. } => Err(StatementError::Wrong(Cause::Unsupported)),
         StatementKind::Barrier(arguments) => barrier(names, arguments),
         StatementKind::Operation(operation) => {
-            operate(alloc, names, measured, unrolled, operation)
+            operate(alloc, names, measured, unrolled, recent, operation)
         }
     }
 }
@@ -66,6 +79,7 @@ fn operate<'a>(
     names: &Names<'a>,
     measured: &mut Measured,
     unrolled: &mut Unrolled,
+    recent: &mut Recent<'a>,
     operation: &Operation<'a>,
 ) -> Result<(), StatementError>
     ensures ok { OnOk result ((scope : Scope) → Represents names.now scope → Remembers measured.old
@@ -80,9 +94,13 @@ fn operate<'a>(
     ensures err { (cause : Cause) (scope : Scope) → result ≡ Err (StatementError.Wrong cause)
         → Represents names.now scope → Remembers measured.old → Knows scope unrolled.old
         → wrong_next scope measured.old unrolled.old (Act (action operation.now)) ≡ Some cause }
+    ensures recent { IsRecent names.now.symbols recent.old → IsRecent names.now.symbols recent.new }
 {
     match operation {
-        Operation::Apply(application) => apply(alloc, names, measured, unrolled, application),
+        Operation::Apply(application) => {
+            recent.remember(names, application);
+            apply(alloc, names, measured, unrolled, application)
+        }
         Operation::Measure { from, to } => measure(names, measured, from, to),
         Operation::Reset(_) => Err(StatementError::Wrong(Cause::Unsupported)),
     }

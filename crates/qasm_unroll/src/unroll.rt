@@ -98,14 +98,14 @@ impl Unrolled {
         self.gates
     }
 
-    /// Learns what calls without angles come to, of the first gates of which it isn't known yet.
-    pub fn learn(&mut self, gates: &[GateBody]) -> Result<(), AllocError>
+    /// Learns what calls without angles come to, of the gates up to this one of which it isn't known yet.
+    pub fn learn(&mut self, gates: &[GateBody], called: CalledGate) -> Result<(), AllocError>
         ensures known { OnOk result ((numbered : Numbered) → Unrolls gates.now numbered
             → AreKnown numbered (length gates.now) self.old.known.items
             → AreKnown numbered (length gates.now) self.new.known.items) }
         ensures others { OnOk result (self.new ≡ record self.old { known = self.new.known }) }
     {
-        for number in self.known.len()..gates.len().min(MOST_KNOWN) {
+        for number in self.known.len()..needed(gates, called) {
             let kept = expansion(self.alloc, gates, number)?;
             self.known.push(kept)?;
         }
@@ -132,6 +132,41 @@ impl Unrolled {
             return Ok(());
         }
         self.unroll_instance(gates, called, angles, spans, index)
+    }
+
+    /// A call of a gate without angles on single qubits by a copy, where what it comes to is known and makes not too
+    /// many calls; tells whether it is.
+    pub fn copy(&mut self, called: CalledGate, spans: &[Span]) -> Result<bool, AllocError>
+        ensures copied { IfOk result (λ copied. copied ≡ true → (numbered : Numbered) (gates : List GateBody)
+            (count : ℕ) → Unrolls gates numbered → AreKnown numbered count self.old.known.items →
+            ComesTo self.old (instance_events called [] spans.now 0 numbered) self.new []) }
+        ensures left { IfOk result (λ copied. copied ≡ false → self.new ≡ self.old) }
+        ensures known { self.new.known ≡ self.old.known }
+    {
+        match called {
+            CalledGate::Cx => self.copy_cx(spans),
+            _ => self.copy_instance(called, &[], spans, 0),
+        }
+    }
+
+    // A call of `CX`, where there are not too many calls; tells whether it is made.
+    fn copy_cx(&mut self, spans: &[Span]) -> Result<bool, AllocError>
+        ensures copied { IfOk result (λ copied. copied ≡ true → (numbered : Numbered) (gates : List GateBody)
+            (count : ℕ) → Unrolls gates numbered → AreKnown numbered count self.old.known.items →
+            ComesTo self.old (instance_events CalledGate.Cx [] spans.now 0 numbered) self.new []) }
+        ensures left { IfOk result (λ copied. copied ≡ false → self.new ≡ self.old) }
+        ensures known { self.new.known ≡ self.old.known }
+    {
+        if MOST_CALLS <= self.calls {
+            return Ok(false);
+        }
+        self.qubits.clear();
+        push_instance(spans, 0, &mut self.qubits)?;
+        if let Some(gate) = cx_gate(&self.qubits) {
+            self.gates.push(gate)?;
+        }
+        self.calls += 1;
+        Ok(true)
     }
 
     // The same by a copy of what is known, where that is kept and makes not too many calls; tells whether it is.
@@ -372,6 +407,16 @@ impl Unrolled {
     {
         self.angles.truncate(base.angles);
         self.qubits.truncate(base.qubits);
+    }
+}
+
+// Of how many of the first gates it is to be known what calls come to, where this one is called.
+fn needed(gates: &[GateBody], called: CalledGate) -> usize
+    ensures { result ≤ length gates.now }
+{
+    match called {
+        CalledGate::Gate(number) => number.saturating_add(1).min(gates.len()).min(MOST_KNOWN),
+        _ => 0,
     }
 }
 

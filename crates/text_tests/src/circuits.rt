@@ -182,3 +182,112 @@ fn a_long_line_is_read_in_batches(rt: HostRuntime) -> Result<(), Fail> {
     assert_eq!(rt; told, Err(TextError::BadByte { at: 7023 }));
     Ok(())
 }
+
+// Statements that are spelled plainly behind others, and what is read of the text: the faults are those of other
+// statements, at the same places.
+const PLAIN: [(&[u8], Result<[usize; 3], TextError>); 12] = [
+    (
+        b"OPENQASM 2.0;\r\nqreg q[11];\r\nCX q[0],q[1];\r\nCX q[1],q[10]; // c\r\n\tCX q[2] , q[0];",
+        Ok([11, 3, 0]),
+    ),
+    (
+        b"OPENQASM 2.0;qreg q[3];CX q[0],q[1];barrier q[0],q[1];",
+        Ok([3, 1, 0]),
+    ),
+    // A name of the header, declared anew behind a line that used it.
+    (
+        b"OPENQASM 2.0;include\"qelib1.inc\";qreg q[2];swap q[0],q[1];gate swap a,b{CX a,b;}swap q[0],q[1];",
+        Ok([2, 4, 0]),
+    ),
+    (
+        b"OPENQASM 2.0;qreg q[3];CX q[0],q[1];CX q[0],q[3];",
+        Err(TextError::Wrong {
+            cause: Cause::Index,
+            at: 36,
+        }),
+    ),
+    // 2 to the 64th, which is 0 in 64 bits.
+    (
+        b"OPENQASM 2.0;qreg q[3];CX q[0],q[1];CX q[1],q[18446744073709551616];",
+        Err(TextError::Wrong {
+            cause: Cause::Index,
+            at: 36,
+        }),
+    ),
+    (
+        b"OPENQASM 2.0;qreg q[3];CX q[0],q[1];CX q[1],q[1];",
+        Err(TextError::Wrong {
+            cause: Cause::SameQubit,
+            at: 36,
+        }),
+    ),
+    (
+        b"OPENQASM 2.0;qreg q[3];CX q[0],q[1];barrier q[0],q[3];",
+        Err(TextError::Wrong {
+            cause: Cause::Index,
+            at: 36,
+        }),
+    ),
+    (
+        b"OPENQASM 2.0;qreg q[3];CX q[0],q[1];CX q[0],r[1];",
+        Err(TextError::Wrong {
+            cause: Cause::Unknown,
+            at: 36,
+        }),
+    ),
+    (
+        b"OPENQASM 2.0;qreg q[3];CX q[0],q[1];CX q[0],q[02];",
+        Err(TextError::Syntax { at: 36 }),
+    ),
+    (
+        b"OPENQASM 2.0;qreg q[3];CX q[0],q[1];CX q[0],q[2]",
+        Err(TextError::Syntax { at: 36 }),
+    ),
+    (
+        b"OPENQASM 2.0;qreg q[3];CX q[0],q[1];CX q[0],q[2];;",
+        Err(TextError::Syntax { at: 49 }),
+    ),
+    (
+        b"OPENQASM 2.0;qreg q[2];creg c[1];CX q[0],q[1];measure q[0]->c[0];CX q[0],q[1];",
+        Err(TextError::Wrong {
+            cause: Cause::AfterMeasure,
+            at: 65,
+        }),
+    ),
+];
+
+#[test]
+fn plain_statements_are_read_as_others_are(rt: HostRuntime) {
+    for (i, (text, wanted)) in PLAIN.iter().enumerate() {
+        assert_eq!(rt; counts(rt.alloc(), text, 1), *wanted, "row {i}");
+        assert_eq!(rt; counts(rt.alloc(), text, 1000), *wanted, "row {i}");
+    }
+}
+
+// 23 bytes, and statements of 13 bytes each.
+fn add_calls(text: &mut Vec<u8>, count: usize) -> Result<(), Fail> {
+    text.extend_from_slice(b"OPENQASM 2.0;qreg q[2];")?;
+    for _ in 0..count {
+        text.extend_from_slice(b"CX q[0],q[1];")?;
+    }
+    Ok(())
+}
+
+fn counts_of_calls(alloc: Global, calls: usize) -> Result<Result<[usize; 3], TextError>, Fail> {
+    let mut text = Vec::new(alloc);
+    add_calls(&mut text, calls)?;
+    Ok(counts(alloc, &text, 100_000))
+}
+
+#[test]
+fn a_million_calls_are_read_and_not_one_more(rt: HostRuntime) -> Result<(), Fail> {
+    let read = counts_of_calls(rt.alloc(), 1_000_000)?;
+    assert_eq!(rt; read, Ok([2, 1_000_000, 0]));
+    let told = counts_of_calls(rt.alloc(), 1_000_001)?;
+    let wrong = TextError::Wrong {
+        cause: Cause::TooManyGates,
+        at: 13_000_023,
+    };
+    assert_eq!(rt; told, Err(wrong));
+    Ok(())
+}

@@ -72,3 +72,12 @@ returns-in-Barrier-clause-knows c = on_ok_weaker c.barrier.result
 pub returns-in-Operation-clause-knows : goal.returns-in-Operation-clause-knows
 returns-in-Operation-clause-knows c = on_ok_weaker c.operate.result
     (λ h scope r k. known-after scope (sentence c.args.kind.now) c.operate.new.unrolled.known.items (h scope r k)) c.operate.ensures.knows
+
+pub returns-in-Include-clause-recent : goal.returns-in-Include-clause-recent
+returns-in-Include-clause-recent c = λ r. c.forget.ensures c.include.new.names.symbols
+
+pub returns-in-QubitRegister-clause-recent : goal.returns-in-QubitRegister-clause-recent
+returns-in-QubitRegister-clause-recent c = λ r. c.forget-in-QubitRegister.ensures c.declare_qubits.new.names.symbols
+
+pub returns-in-BitRegister-clause-recent : goal.returns-in-BitRegister-clause-recent
+returns-in-BitRegister-clause-recent c = λ r. c.forget-in-BitRegister.ensures c.declare_bits.new.names.symbols

@@ -1,10 +1,10 @@
-use Rattle.std.proofs.Common.{◌<◌, length, rules}
+use Rattle.std.proofs.Common.{◌<◌, arith, length, rules}
 use Rattle.qasm_unroll.proofs.KnownLemmas.{known-push}
 use Rattle.qasm_unroll.proofs.unroll.Unrolled.learn.Goals as goal
 
 pub loop-number-preserved : goal.loop-number-preserved
 loop-number-preserved c =
-    let within : c.loop-number.number < length c.args.gates.now = search rules in
+    let within : c.loop-number.number < length c.args.gates.now = omega (arith, c.loop-number-test.true, c.needed-number-end.ensures) in
     record {
       so_many = search rules;
       known = λ numbered unrolls known.

@@ -1,0 +1,8 @@
+use Rattle.std.proofs.Common.{◌≡◌, map, drop}
+use Rattle.std.specs.List.{list_any}
+use Rattle.std.specs.Str.{bytes_eq}
+use Rattle.qasm_names.proofs.places.stands_among.Given as goal
+
+abbrev pub invariant-loop-other : goal.invariant-loop-other
+invariant-loop-other l = list_any (λ other. bytes_eq other l.name) (map (λ name. name.now) l.names)
+    ≡ list_any (λ other. bytes_eq other l.name) (map (λ name. name.now) (drop l.other-index l.names))
