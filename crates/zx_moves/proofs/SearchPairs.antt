@@ -21,8 +21,7 @@ use Rattle.zx_calculus.proofs.Results.{interior_from, interior_true}
 use Rattle.zx_calculus.proofs.TwinTests.{equal_lists, lists_equal}
 use Rattle.zx_moves.specs.declared.moves.Kind.{Kind}
 use Rattle.zx_moves.specs.declared.moves.Kind.TheVariants as kinds
-use Rattle.zx_moves.specs.Internal.Searching.{is_twin, TellsTwins}
-use Rattle.zx_moves.specs.Search.{MayBegin, NoneAt}
+use Rattle.zx_moves.specs.Internal.Searching.{is_twin, MayBegin, NoneAt, TellsTwins}
 use Rattle.zx_moves.proofs.SearchTests.{live_near, joined_near, near_joined, find-some, find-none}
 
 first-member : (xs : List ℕ) (v : ℕ) → slice_get xs 0 ≡ Some v → member v xs ≡ true

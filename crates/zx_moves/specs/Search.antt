@@ -1,10 +1,8 @@
 -- Moves that values of the code name, and which of them comes first.
-use Rattle.std.specs.Prelude.{◌≡◌, ◌<◌, ℕ, true, List, [], ◌∷◌, Some, slice_get}
-use Rattle.zx_model.specs.Phase.{IsOdd}
-use Rattle.zx_calculus.specs.Graph.{XY, Graph, plane_of, phase_of}
+use Rattle.std.specs.Prelude.{◌≡◌, ◌<◌, ℕ, List, [], ◌∷◌, Some, slice_get}
+use Rattle.zx_calculus.specs.Graph.{Graph}
 use Rattle.zx_calculus.specs.Deletions.{IsDeletable}
-use Rattle.zx_calculus.specs.Gadgets.{is_gadget}
-use Rattle.zx_calculus.specs.Moves.{IsQuarterGadget, IsInXZ, IsQuarterSpider, IsHalfSpider, IsInnerPivot}
+use Rattle.zx_calculus.specs.Moves.{IsQuarterGadget, IsInXZ, IsQuarterSpider, IsInnerPivot}
 use Rattle.zx_calculus.specs.Moves.{IsBoundaryPivot, IsGadgetPair, IsGadgetOf, AreTwins}
 use Rattle.zx_moves.specs.declared.moves.Move.{Move}
 use Rattle.zx_moves.specs.declared.moves.Move.TheVariants.{Delete, QuarterGadget, FromXZ, QuarterSpider, InnerPivot}
@@ -38,8 +36,8 @@ kind_of (LoneGadget u) = kinds.LoneGadget
 kind_of (SingleGadget u) = kinds.SingleGadget
 kind_of (Twins u v) = kinds.Twins
 
--- the kinds in the order in which simplification tries them: a move of one is made only where none of those before it
--- applies anywhere
+-- the kinds in the order in which `reduce` tries them: a move of one is made only where none of those before it applies
+-- anywhere
 abbrev pub kinds_in_order : List Kind
 kinds_in_order =
     kinds.Delete ∷ kinds.QuarterGadget ∷ kinds.FromXZ ∷ kinds.QuarterSpider ∷ kinds.InnerPivot
@@ -56,39 +54,3 @@ pub record ComesBefore (k l : Kind) : Type 0 where
 -- no move of a kind before that of m applies anywhere
 abbrev pub IsOfFirstKind : Graph → Move → Type 0
 IsOfFirstKind g m = (other : Move) → ComesBefore (kind_of other) (kind_of m) → ¬ AppliesAt g other
-
--- a move of this kind that applies
-pub record IsMoveOf (g : Graph) (k : Kind) (m : Move) : Type 0 where
-  pub applies : AppliesAt g m
-  pub kind : kind_of m ≡ k
-
--- u alone is such that a move of this kind may begin there
-abbrev pub MayBegin : Graph → Kind → ℕ → Type 0
-MayBegin g kinds.Delete u = IsDeletable g u
-MayBegin g kinds.QuarterGadget u = IsQuarterGadget g u
-MayBegin g kinds.FromXZ u = IsInXZ g u
-MayBegin g kinds.QuarterSpider u = IsQuarterSpider g u
-MayBegin g kinds.InnerPivot u = IsHalfSpider g u
-MayBegin g kinds.BoundaryPivot u = IsHalfSpider g u
-MayBegin g kinds.GadgetPair u = is_gadget g u ≡ true
-MayBegin g kinds.LoneGadget u = IsGadgetOf g u 0
-MayBegin g kinds.SingleGadget u = IsGadgetOf g u 1
-MayBegin g kinds.Twins u = is_gadget g u ≡ true
-
--- no move of this kind applies at u, of twins none where u has neighbours: without any it is of an earlier kind
-abbrev pub NoneAt : Graph → Kind → ℕ → Type 0
-NoneAt g kinds.Delete u = ¬ IsDeletable g u
-NoneAt g kinds.QuarterGadget u = ¬ IsQuarterGadget g u
-NoneAt g kinds.FromXZ u = ¬ IsInXZ g u
-NoneAt g kinds.QuarterSpider u = ¬ IsQuarterSpider g u
-NoneAt g kinds.InnerPivot u = (v : ℕ) → ¬ IsInnerPivot g u v
-NoneAt g kinds.BoundaryPivot u = (v : ℕ) → ¬ IsBoundaryPivot g u v
-NoneAt g kinds.GadgetPair u = (v : ℕ) → ¬ IsGadgetPair g u v
-NoneAt g kinds.LoneGadget u = ¬ IsGadgetOf g u 0
-NoneAt g kinds.SingleGadget u = ¬ IsGadgetOf g u 1
-NoneAt g kinds.Twins u = (v : ℕ) → ¬ IsGadgetOf g u 0 → ¬ AreTwins g u v
-
--- u is XY and of an odd phase
-pub record IsSettled (g : Graph) (u : ℕ) : Type 0 where
-  pub plane : plane_of g u ≡ XY
-  pub phase : IsOdd (phase_of g u)

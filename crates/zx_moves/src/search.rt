@@ -10,8 +10,8 @@ ghost use Rattle.zx_calculus.specs.Complements.{may_complement};
 ghost use Rattle.zx_calculus.specs.Gadgets.{is_gadget};
 ghost use Rattle.zx_calculus.specs.Moves.{IsQuarterGadget, IsInXZ, IsQuarterSpider, IsHalfSpider, IsBoundaryPivot, IsGadgetOf, AreTwins, IsStuck};
 ghost use Rattle.zx_moves.specs.declared.moves.Kind.TheVariants as kinds;
-ghost use Rattle.zx_moves.specs.Search.{AppliesAt, IsOfFirstKind, IsMoveOf, IsSettled, MayBegin, NoneAt};
-ghost use Rattle.zx_moves.specs.Internal.Searching.{is_twin, TellsTwins, IsMoveAt, NoneBefore};
+ghost use Rattle.zx_moves.specs.Search.{AppliesAt, IsOfFirstKind};
+ghost use Rattle.zx_moves.specs.Internal.Searching.{is_twin, IsMoveAt, IsMoveOf, IsSettled, MayBegin, NoneAt, NoneBefore, TellsTwins};
 
 use crate::moves::{KINDS, Kind, Move};
 use graph_rewrites::{is_gadget, may_complement, may_delete};
@@ -183,6 +183,9 @@ pub fn pivot_cost(g: &OpenGraph, u: VertexId, v: VertexId) -> usize
     // gone as v had other neighbours.
     let near = g.degree(u).saturating_sub(1);
     let far = g.degree(v).saturating_sub(1);
+    if far == 0 {
+        return NO_CHANGE.saturating_sub(near.saturating_mul(2));
+    }
     let pairs = near.saturating_mul(far);
     if pairs > MOST_PAIRS {
         return far.saturating_add(NO_CHANGE + MOST_PAIRS);

@@ -1,6 +1,6 @@
 -- A move of one vertex, or with the second one that is found.
 use Rattle.std.proofs.Common.{◌∙◌, sym, refl, subst, true≢false}
-use Rattle.zx_moves.specs.Search.{MayBegin}
+use Rattle.zx_moves.specs.Internal.Searching.{MayBegin}
 use Rattle.zx_moves.proofs.SearchTests.{if_none}
 use Rattle.zx_moves.proofs.SearchPairs.{begins_none, inner_found, inner_none, pair_found, pair_none}
 use Rattle.zx_moves.proofs.search.move_at.Goals as goal
