@@ -1,5 +1,5 @@
 -- What is left once no move is.
-use Rattle.std.proofs.Common.{◌≡◌, refl, sym, ◌∙◌, ap, subst, ℕ, Bool, ◌+◌, ◌*◌, ◌≤◌, ◌<◌, false, List, [], ◌++◌, length, map, arith}
+use Rattle.std.proofs.Common.{◌≡◌, refl, sym, ◌∙◌, ap, subst, ℕ, Bool, ◌+◌, ◌*◌, ◌≤◌, ◌<◌, false, List, ◌++◌, length, map, arith}
 use Rattle.std.specs.List.{All}
 use Rattle.zx_model.specs.Number.{Number}
 use Rattle.zx_model.specs.Scalar.{IsScaled, IsWithin, product_of_scalars}
