@@ -7,7 +7,7 @@ use Rattle.zx_run.specs.declared.status.Fault.{Fault}
 use Rattle.zx_run.specs.declared.status.Status.TheVariants.{Done, No}
 use Rattle.zx_run.specs.Outcome.{IsFirstFaultFor, IsFaultlessFor, IsOutputFor, IsNoFor, MayAnswer}
 use Rattle.zx_run.proofs.FaultLemmas.{one_first_fault, not_faultless}
-use Rattle.zx_run.specs.Comparing.{AreDifferent, HaveOneMap, IsDifference, IsSame}
+use Rattle.zx_run.specs.Comparing.{AreDifferent, IsDifference}
 use Rattle.zx_run.proofs.DiagramLemmas.{one_diagram_fault, no_diagram_fault, one_square_fault, no_square_fault}
 use Rattle.zx_run.proofs.TwoTextsLemmas.{one_fault_of_two, not_accepted_two}
 use Rattle.zx_run.proofs.FileLemmas.{one_file_fault, file_or_fault, has_no_flow}
@@ -35,9 +35,6 @@ fault_or_none Same text f first (one, other, accepted) = not_accepted_two text f
 fault_or_none (Generate seed qubits gates) text f first none = absurd first
 
 -- what a line says of two circuits
-one_map : (one other : Elementary) (bytes : List ℕ) → IsSame one other bytes → HaveOneMap one other
-one_map one other bytes is = record { widths = is.widths; measures = is.measures; same_map = is.same_map }
-
 different : (one other : Elementary) (bytes : List ℕ) → IsDifference one other bytes → AreDifferent one other
 different one other bytes (inl is) = inl is.differ
 different one other bytes (inr (inl is)) = inr (inl is.differ)
@@ -58,7 +55,7 @@ output_answers Compile left bytes text output told =
     let is = output text told in ((is.diagram, is.file, is.square), (is.diagram, is.file, is.square, inl (refl, is.has_flow)))
 output_answers Same left bytes text output told =
     let is = output text told in
-    ((is.one, is.other, is.accepted), (is.one, is.other, is.accepted, inl (refl, one_map is.one is.other bytes is.same)))
+    ((is.one, is.other, is.accepted), (is.one, is.other, is.accepted, inl (refl, is.same.one_map)))
 output_answers (Generate seed qubits gates) left bytes text output told = (tt, refl)
 
 pub no_answers : (command : Command) (left : Option (List ℕ)) (bytes text : List ℕ) → IsNoFor command left bytes → left ≡ Some text

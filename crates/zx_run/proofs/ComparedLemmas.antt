@@ -1,6 +1,6 @@
 -- What is said of two circuits.
 use Rattle.std.specs.Prelude.{IsNone, IfSome}
-use Rattle.std.proofs.Common.{Option, Some, None, ◌≡◌, ◌≢◌, ◌∙◌, ℕ, List, Bool, true, false, length, sym, ap₂, subst, Contains}
+use Rattle.std.proofs.Common.{Option, Some, None, ◌≡◌, ◌≢◌, ◌∙◌, ℕ, List, Bool, true, false, true≢false, length, sym, ap₂, subst, Contains}
 use Rattle.zx_model.specs.Proportional.{Proportional}
 use Rattle.zx_gates.specs.declared.elementary.Elementary.{Elementary}
 use Rattle.zx_gates.specs.declared.elementary.Measure.{Measure}
@@ -9,7 +9,8 @@ use Rattle.zx_gates.specs.Elementary.{elementary_odd_phases}
 use Rattle.zx_gates.specs.Lowering.{lowered}
 use Rattle.zx_gates.specs.Maps.{amp}
 use Rattle.zx_same.specs.Comparing.{IsLeft}
-use Rattle.zx_run.specs.Comparing.{AreProportional, HaveSameMeasures, circuit_for}
+use Rattle.zx_run.specs.Comparing.{AreProportional, HaveSameMeasures}
+use Rattle.zx_run.specs.CircuitTexts.{circuit_for}
 use Rattle.zx_run.specs.TwoTexts.{AreAccepted}
 use Rattle.zx_run.specs.Internal.Verdicts.{HasLeft, IsComparison, IsComparisonOf}
 
@@ -47,7 +48,7 @@ comparison_for text bytes one other true accepted said = record { one = one; oth
 -- where a circuit is left, it isn't shown that both are the same
 not_none : (found : Option Circuit) (count : ℕ) → HasLeft found count → IsNone found → ⊥
 not_none None count told is = told
-not_none (Some left) count told is = absurd is
+not_none (Some left) count told is = true≢false is
 
 -- the circuit of which so many gates are left, with what it is left of
 pub left_told : (a b : Circuit) (found : Option Circuit) (count : ℕ) → HasLeft found count → (a.gates ≡ b.gates → IsNone found) → IfSome found (IsLeft a b) →

@@ -10,7 +10,7 @@ use Rattle.zx_model.proofs.Scalars.{scaled_over, scaled_proportional, scaled_tra
 use Rattle.zx_model.proofs.ProportionalLemmas.{proportional_sym, proportional_trans}
 use Rattle.zx_gates.specs.declared.elementary.Elementary.{Elementary}
 use Rattle.zx_gates.specs.declared.gate.Gate.{Gate}
-use Rattle.zx_gates.specs.Circuit.{Circuit, IsCircuit, gate_odd_phases}
+use Rattle.zx_gates.specs.Circuit.{Circuit, IsCircuit, circuit_of, gate_odd_phases}
 use Rattle.zx_gates.specs.Elementary.{IsElementary, IsMeasureOn, elementary_odd_phases}
 use Rattle.zx_gates.specs.ElementaryMaps.{amp_elementary}
 use Rattle.zx_gates.specs.Lowering.{lowered}
@@ -24,12 +24,12 @@ use Rattle.qasm_writer.specs.Measuring.{AreBehind}
 use Rattle.qasm_writer.specs.Written.{written}
 use Rattle.qasm_writer.proofs.WrittenLemmas.{IsWritten, is_written, odd_elements, same_map}
 use Rattle.zx_run.specs.FirstFault.{IsAccepted}
-use Rattle.zx_run.specs.CircuitTexts.{circuit_on, report_if, scalar_if, generation_line, IsOptimisedText, IsTeleportedText, IsGenerationReport}
+use Rattle.zx_run.specs.CircuitTexts.{circuit_for, report_if, scalar_if, generation_line, IsOptimisedText, IsTeleportedText, IsGenerationReport}
 use Rattle.zx_extract.specs.Simplified.{gate_bound}
 use Rattle.zx_optimise.specs.Optimising.{counts_of, most_optimised_root2, Optimises, Teleports, IsBest, IsPlain}
 
-pub same_circuit : (c : Circuit) (qubits : ℕ) (gates : List Gate) → c.qubits ≡ qubits → c.gates ≡ gates → c ≡ circuit_on qubits gates
-same_circuit c qubits gates same_qubits same_gates = ap₂ circuit_on same_qubits same_gates
+pub same_circuit : (c : Circuit) (qubits : ℕ) (gates : List Gate) → c.qubits ≡ qubits → c.gates ≡ gates → c ≡ circuit_of qubits gates
+same_circuit c qubits gates same_qubits same_gates = ap₂ circuit_of same_qubits same_gates
 
 -- what the text of a circuit means with the measurements of the read one, whose map it has and no more odd phases
 record IsTextFor (read : Elementary) (circuit : Circuit) : Type 0 where
@@ -74,9 +74,9 @@ IsOptimisedText-lowered : (best reported scaled : Bool) (text bytes : List ℕ) 
     → IsAccepted text read
     → Proportional read.qubits read.qubits (amp_elementary read.gates) (amp (lowered read.gates))
     → gate_odd_phases (lowered read.gates) ≡ elementary_odd_phases read.gates
-    → Optimises most_optimised_root2 (circuit_on read.qubits (lowered read.gates)) circuit t
-    → (best ≡ false → IsPlain (circuit_on read.qubits (lowered read.gates)) circuit)
-    → (best ≡ true → IsBest (circuit_on read.qubits (lowered read.gates)) circuit) → IsCircuit circuit → AreBehind circuit read.bits read.measured
+    → Optimises most_optimised_root2 (circuit_for read) circuit t
+    → (best ≡ false → IsPlain (circuit_for read) circuit)
+    → (best ≡ true → IsBest (circuit_for read) circuit) → IsCircuit circuit → AreBehind circuit read.bits read.measured
     → IsScaled read.qubits read.qubits (amp_elementary read.gates) factor (amp_elementary (elements_of circuit.gates)) → factor.turn < turn
     → bytes ≡ written circuit read.bits read.measured ++ (report_if reported (lowered read.gates) circuit.gates ++ scalar_if scaled factor)
     → IsOptimisedText best reported scaled text bytes
@@ -134,7 +134,7 @@ pub IsTeleportedText-written : (text bytes : List ℕ) (read : Elementary) (from
     → Teleports from circuit → IsCircuit circuit → AreBehind circuit read.bits read.measured
     → bytes ≡ written circuit read.bits read.measured → IsTeleportedText text bytes
 IsTeleportedText-written text bytes read from circuit accepted same_qubits same_gates map odd teleports is behind spelled =
-    let to : Teleports (circuit_on read.qubits (lowered read.gates)) circuit =
+    let to : Teleports (circuit_for read) circuit =
     subst (λ c. Teleports c circuit) (same_circuit from read.qubits (lowered read.gates) same_qubits same_gates) teleports in
     let t = IsTextFor-written read circuit to.qubits
     (subst (λ gates. Proportional read.qubits read.qubits (amp_elementary read.gates) (amp gates)) same_gates map)

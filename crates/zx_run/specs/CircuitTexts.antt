@@ -2,7 +2,7 @@
 use Rattle.std.specs.Prelude.{◌≡◌, ◌≤◌, ◌<◌, ◌++◌, ℕ, Bool, true, false, if◌then◌else◌, List, [], codes, decimal}
 use Rattle.zx_gates.specs.declared.elementary.Elementary.{Elementary}
 use Rattle.zx_gates.specs.declared.gate.Gate.{Gate}
-use Rattle.zx_gates.specs.Circuit.{Circuit, IsCircuit}
+use Rattle.zx_gates.specs.Circuit.{Circuit, IsCircuit, circuit_of}
 use Rattle.zx_gates.specs.Elementary.{elementary_odd_phases}
 use Rattle.zx_gates.specs.ElementaryMaps.{amp_elementary}
 use Rattle.zx_gates.specs.Lowering.{lowered}
@@ -19,9 +19,9 @@ use Rattle.zx_run.specs.FirstFault.{IsAccepted}
 use Rattle.zx_extract.specs.Simplified.{gate_bound}
 use Rattle.zx_optimise.specs.Optimising.{Optimises, Teleports, IsBest, IsPlain, counts_of, most_optimised_root2}
 
--- a number of qubits, and gates on them
-abbrev pub circuit_on : ℕ → List Gate → Circuit
-circuit_on qubits gates = record { qubits = qubits; gates = gates }
+-- the lowered circuit
+abbrev pub circuit_for : Elementary → Circuit
+circuit_for read = circuit_of read.qubits (lowered read.gates)
 
 -- the report of two lists of gates, where it is asked for
 abbrev pub report_if : Bool → List Gate → List Gate → List ℕ
@@ -56,9 +56,9 @@ pub record IsOptimisedText (best report scalar : Bool) (text bytes : List ℕ) :
   pub few_gates : program_size means.program ≤ gate_bound read.qubits (elementary_odd_phases read.gates)
   -- what more is known of the circuit
   pub valid : IsCircuit circuit
-  pub optimises : (s : Scalar) × Optimises most_optimised_root2 (circuit_on read.qubits (lowered read.gates)) circuit s
-  pub is_plain : best ≡ false → IsPlain (circuit_on read.qubits (lowered read.gates)) circuit
-  pub is_best : best ≡ true → IsBest (circuit_on read.qubits (lowered read.gates)) circuit
+  pub optimises : (s : Scalar) × Optimises most_optimised_root2 (circuit_for read) circuit s
+  pub is_plain : best ≡ false → IsPlain (circuit_for read) circuit
+  pub is_best : best ≡ true → IsBest (circuit_for read) circuit
 
 -- The bytes are what `teleport` may write for a text: the text has no fault, and they are the text of a circuit in
 -- which phases alone differ from the one that is meant, lowered. That text means the same linear map up to a nonzero
@@ -75,7 +75,7 @@ pub record IsTeleportedText (text bytes : List ℕ) : Type 0 where
   pub no_more_odd : elementary_odd_phases (elements_of circuit.gates) ≤ elementary_odd_phases read.gates
   -- what more is known of the circuit
   pub valid : IsCircuit circuit
-  pub teleports : Teleports (circuit_on read.qubits (lowered read.gates)) circuit
+  pub teleports : Teleports (circuit_for read) circuit
 
 -- the line of the words of `gen`
 abbrev pub generation_line : ℕ → ℕ → ℕ → List ℕ
@@ -87,7 +87,7 @@ generation_line seed qubits gates =
 pub record IsGenerationReport (seed qubits gates : ℕ) (bytes : List ℕ) : Type 0 where
   pub made : Circuit
   pub valid : IsCircuit made
-  pub optimises : (s : Scalar) × Optimises most_optimised_root2 (circuit_on qubits (generated seed qubits gates)) made s
-  pub is_plain : IsPlain (circuit_on qubits (generated seed qubits gates)) made
+  pub optimises : (s : Scalar) × Optimises most_optimised_root2 (circuit_of qubits (generated seed qubits gates)) made s
+  pub is_plain : IsPlain (circuit_of qubits (generated seed qubits gates)) made
   pub spelled : bytes ≡ generation_line seed qubits gates
       ++ report_lines (counts_of (generated seed qubits gates)) (counts_of made.gates)

@@ -6,13 +6,14 @@ use Rattle.zx_calculus.specs.Graph.{Graph}
 use Rattle.zx_calculus.specs.Steps.{Step}
 use Rattle.zx_gates.specs.declared.elementary.Elementary.{Elementary}
 use Rattle.zx_gates.specs.declared.elementary.Measure.{Measure}
-use Rattle.zx_gates.specs.Circuit.{Circuit, IsCircuit, circuit_of}
+use Rattle.zx_gates.specs.Circuit.{Circuit, IsCircuit}
 use Rattle.zx_gates.specs.Elementary.{elementary_odd_phases}
 use Rattle.zx_gates.specs.Lowering.{lowered}
 use Rattle.zx_gates.specs.Maps.{amp}
 use Rattle.zx_same.specs.Comparing.{IsLeftOfBoth}
 use Rattle.zx_run.specs.declared.status.Status.{Status}
 use Rattle.zx_run.specs.declared.status.Status.TheVariants.{Done, No}
+use Rattle.zx_run.specs.CircuitTexts.{circuit_for}
 use Rattle.zx_run.specs.TwoTexts.{AreAccepted}
 
 -- as many qubits
@@ -23,10 +24,6 @@ HaveSameWidths one other = one.qubits ≡ other.qubits
 abbrev pub HaveSameMeasures : Elementary → Elementary → Type 0
 HaveSameMeasures one other =
     (one.bits ≡ other.bits) × ((measure : Measure) → Contains one.measured measure ↔ Contains other.measured measure)
-
--- the lowered circuit
-abbrev pub circuit_for : Elementary → Circuit
-circuit_for read = circuit_of read.qubits (lowered read.gates)
 
 -- ---- what is said of the circuits that two texts mean
 
@@ -64,11 +61,15 @@ pub record IsNotShown (one other : Elementary) (bytes : List ℕ) : Type 0 where
   pub is_left : IsLeftOfBoth (circuit_for one) (circuit_for other) left steps end
   pub spelled : bytes ≡ codes "not shown " ++ (decimal (length left.gates) ++ codes "\n")
 
--- these agree, and the maps are equal up to a nonzero scalar
-pub record IsSame (one other : Elementary) (bytes : List ℕ) : Type 0 where
+-- they agree in qubits, bits and measurements, and their maps are equal up to a nonzero scalar
+pub record HaveOneMap (one other : Elementary) : Type 0 where
   pub widths : HaveSameWidths one other
   pub measures : HaveSameMeasures one other
   pub same_map : AreProportional one other
+
+-- they have one map, and the line says so
+pub record IsSame (one other : Elementary) (bytes : List ℕ) : Type 0 where
+  pub one_map : HaveOneMap one other
   pub spelled : bytes ≡ codes "same\n"
 
 -- The bytes are what `same` writes with the answer Done for two texts in one.
@@ -89,12 +90,6 @@ pub record IsDifferentText (text bytes : List ℕ) : Type 0 where
   pub other : Elementary
   pub accepted : AreAccepted text one other
   pub difference : IsDifference one other bytes
-
--- they agree in qubits, bits and measurements, and their maps are equal up to a nonzero scalar
-pub record HaveOneMap (one other : Elementary) : Type 0 where
-  pub widths : HaveSameWidths one other
-  pub measures : HaveSameMeasures one other
-  pub same_map : AreProportional one other
 
 -- they differ in qubits, in bits or measurements, or in their lowered gates, and then in their maps too where neither
 -- has an odd phase

@@ -2,7 +2,7 @@
 use Rattle.std.proofs.Common.{◌≡◌, ◌++◌, ◌∙◌, ap, codes, decimal, inr, rules, subst, sym, ◌≢◌}
 use Rattle.zx_gates.specs.Circuit.{Circuit}
 use Rattle.zx_same.specs.Comparing.{IsLeft}
-use Rattle.zx_run.specs.Comparing.{circuit_for}
+use Rattle.zx_run.specs.CircuitTexts.{circuit_for}
 use Rattle.zx_run.specs.Internal.Verdicts.{HasLeft, IsComparisonOf}
 use Rattle.zx_run.proofs.ComparedLemmas.{left_told, lowered_is, maps_differ}
 use Rattle.zx_run.proofs.comparison.line_about_gates.Goals as goal
