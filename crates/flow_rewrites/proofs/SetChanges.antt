@@ -26,9 +26,8 @@ use Rattle.move_laws.specs.Orders.{is_split}
 use Rattle.open_graph.specs.OpenGraph.{OpenGraph}
 use Rattle.open_graph.specs.Rooms.{Room, IsLeft}
 use Rattle.zx_flow.specs.Flows.{Flow, HaveReach}
-use Rattle.graph_rewrites.specs.declared.step.Step.{Step as Named}
 use Rattle.graph_rewrites.specs.declared.step.Step.TheVariants as named
-use Rattle.graph_rewrites.specs.Rooms.{HasRoomFor, room_after}
+use Rattle.graph_rewrites.specs.Rooms.{room_after}
 use Rattle.graph_rewrites.specs.Steps.{step_named}
 use Rattle.flow_rewrites.specs.Rooms.{HaveRoomFor, UsesPlaces}
 use Rattle.flow_rewrites.specs.Safely.{IsDone}
@@ -90,17 +89,6 @@ have_reach (SplitOutput b) g f room = room.reach
 have_reach (DropLone u) g f room = room
 have_reach (FuseInto u) g f room = room
 have_reach (FuseTwin u v) g f room = room
-
--- where graph and flow have the memory for a step, the graph has it
-pub graph_has_room : (s : Step) (g : OpenGraph) (f : Flow) → HaveRoomFor s g f → HasRoomFor s g
-graph_has_room (LocalComplement u) g f room = room.0
-graph_has_room (Delete u) g f room = room.0
-graph_has_room (Pivot u v) g f room = room.0
-graph_has_room (SplitInput b) g f room = (room.place, below_with_new _ _ _ room.below room.reach.0)
-graph_has_room (SplitOutput b) g f room = (room.place, below_with_new _ _ _ room.below room.reach.0)
-graph_has_room (DropLone u) g f room = room.0
-graph_has_room (FuseInto u) g f room = room.0
-graph_has_room (FuseTwin u v) g f room = room.0
 
 pub left_same : {old new : Room} → new ≡ old → IsLeft old new
 left_same e = let spare = ap (λ (r : Room). r.spare) e in record { spare = omega (arith, spare); reach = ap (λ (r : Room). r.reach) e }

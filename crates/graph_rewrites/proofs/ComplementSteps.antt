@@ -1,10 +1,13 @@
 -- What the changes of a graph, one after the other, make of it.
-use Rattle.std.proofs.Common.{◌≡◌, refl, sym, ◌∙◌, ap, ap₂, subst, ℕ, true, false, cond, ◌&&◌, eqb}
+use Rattle.std.proofs.Common.{◌≡◌, refl, sym, ◌∙◌, ap, ap₂, subst, ℕ, true, false, cond, ◌&&◌, eqb, List}
+use Rattle.std.specs.Prelude.{pos}
 use Rattle.zx_model.specs.Phase.{half_turn}
+use Rattle.zx_model.specs.Scalar.{product_of_scalars}
 use Rattle.zx_model.specs.Bits.{xor, member}
-use Rattle.zx_calculus.specs.Graph.{Kind, Graph, joined, neighbours, end_vertices, plane_of, phase_of, with_kinds, Live, Interior, WellFormed}
-use Rattle.zx_calculus.specs.Complements.{IsLocalComplement, complement_kind}
-use Rattle.zx_calculus.specs.Deletions.{IsDelete, delete_kind}
+use Rattle.zx_calculus.specs.Graph.{Plane, Kind, Vertex, Graph, kind_of, joined, neighbours, end_vertices, plane_of, phase_of, with_kinds, Live, Interior, WellFormed}
+use Rattle.zx_calculus.specs.Complements.{IsLocalComplement, complement_kind, complement_scalar_in, complement_scalar}
+use Rattle.zx_calculus.specs.Deletions.{IsDelete, delete_kind, delete_scalar_in, delete_scalar}
+use Rattle.zx_calculus.specs.Scalars.{root_of_two_to, turn_by, quarter_power, quarter_powers, half_powers, sum_of_powers}
 use Rattle.zx_calculus.specs.Steps.{allowed, after, Delete}
 use Rattle.zx_calculus.specs.Edits.{IsRemoval, at_vertex}
 use Rattle.zx_calculus.specs.Turns.{quarter_turned, half_turned, complemented}
@@ -14,7 +17,7 @@ use Rattle.zx_calculus.proofs.Splitting.{no_loop, interior_of, off_XY}
 use Rattle.zx_calculus.specs.Toggles.{IsToggled, among}
 use Rattle.zx_calculus.specs.Internal.ChangedKinds.{changed_in, with_changed}
 use Rattle.zx_calculus.proofs.Toggling.{member-neighbours, row_stays}
-use Rattle.zx_calculus.proofs.ChangedKinds.{KeepsEnds-changed, with_kinds-with_kinds, turned_neighbours, turned_live, turned_twice}
+use Rattle.zx_calculus.proofs.ChangedKinds.{KeepsEnds-changed, with_kinds-with_kinds, turned_live}
 use Rattle.zx_calculus.proofs.Allowed.{delete_live}
 use Rattle.zx_calculus.proofs.Steps.{after_step}
 
@@ -57,16 +60,21 @@ complement_all g h k l u wg wh there interior c turned own =
     (row_stays g h u wg wh c)))
     (complement_step g h u wg there interior c)
 
--- two quarter turns of the neighbours of a vertex of a half turn
-pub half_turn_passed : (g h k : Graph) (u : ℕ) → WellFormed g → phase_of g u ≡ half_turn →
-    h ≡ with_changed (changed_in (neighbours g u) quarter_turned) g →
-    k ≡ with_changed (changed_in (neighbours h u) quarter_turned) h →
-    k ≡ with_changed (delete_kind (phase_of g u) (joined g.edges u)) g
-half_turn_passed g h k u w half first second =
-    second
-    ∙ ap₂ (λ row l. with_changed (changed_in row quarter_turned) l)
-    (turned_neighbours (changed_in (neighbours g u) quarter_turned) g h u first) first
-    ∙ turned_twice (neighbours g u) g
+-- the scalar, by the powers of the turns after the toggles
+pub complement_scalar_is : (g h : Graph) (u : ℕ) → WellFormed g → WellFormed h → IsToggled g (among (neighbours g u)) h →
+    (kind : Kind) → kind ≡ kind_of g.vertices u → (powers : ℕ) → powers ≡ quarter_powers h (neighbours h u) →
+    product_of_scalars (complement_scalar_in kind.plane kind.phase) (turn_by powers) ≡ complement_scalar g u
+complement_scalar_is g h u wg wh c kind is powers e =
+    ap₂ (λ (k : Kind) (n : ℕ). product_of_scalars (complement_scalar_in k.plane k.phase) (turn_by n)) is
+    (e ∙ ap₂ (λ (vs : List Vertex) (ps : List ℕ). sum_of_powers (λ p. quarter_power (kind_of vs p)) ps) c.vertices
+    (row_stays g h u wg wh c))
+
+-- a half turn of the neighbours of a vertex of a half turn
+pub half_turn_passed : (g h : Graph) (u : ℕ) → WellFormed g → phase_of g u ≡ half_turn →
+    h ≡ with_changed (changed_in (neighbours g u) half_turned) g →
+    h ≡ with_changed (delete_kind (phase_of g u) (joined g.edges u)) g
+half_turn_passed g h u w half turned =
+    turned
     ∙ ap (λ vs. record g { vertices = vs })
     (with_kinds_same (changed_in (neighbours g u) half_turned) (delete_kind (phase_of g u) (joined g.edges u))
     g.vertices
@@ -79,6 +87,22 @@ no_half_turn_passed g u other =
     ap (λ vs. record g { vertices = vs })
     (sym (with_kinds-unchanged (delete_kind (phase_of g u) (joined g.edges u)) g.vertices
     (λ p k t. ap (λ b. cond (b && joined g.edges u p) (half_turned k) k) other)))
+
+-- the scalar of a deletion, with a half turn and without
+pub scalar_of_half_turn : (g : Graph) (u : ℕ) → phase_of g u ≡ half_turn → (plane : Plane) → plane ≡ plane_of g u →
+    (powers : ℕ) → powers ≡ half_powers g (neighbours g u) →
+    product_of_scalars (delete_scalar_in plane) (turn_by powers) ≡ delete_scalar g u
+scalar_of_half_turn g u half plane is powers e =
+    ap₂ (λ p n. product_of_scalars (delete_scalar_in p) (turn_by n)) is e
+    ∙ sym (ap (λ x. cond (eqb x half_turn)
+    (product_of_scalars (delete_scalar_in (plane_of g u)) (turn_by (half_powers g (neighbours g u))))
+    (root_of_two_to (pos 2))) half)
+
+pub scalar_of_no_turn : (g : Graph) (u : ℕ) → eqb (phase_of g u) half_turn ≡ false → root_of_two_to (pos 2) ≡ delete_scalar g u
+scalar_of_no_turn g u other =
+    sym (ap (λ b. cond b
+    (product_of_scalars (delete_scalar_in (plane_of g u)) (turn_by (half_powers g (neighbours g u))))
+    (root_of_two_to (pos 2))) other)
 
 -- a vertex that is to be deleted stays one without ends while its half turn is passed on
 module _ (g h : Graph) (u : ℕ) where

@@ -1,5 +1,4 @@
 -- What only private contracts and proofs cite: nobody has to read it to trust a promise of this crate.
-pub mod Powers
 pub mod Changes
 pub mod Spiders
 pub mod Sides

@@ -10,9 +10,8 @@ ghost use Rattle.zx_bits.specs.Sets.{IsBelow};
 ghost use Rattle.zx_calculus.specs.StepScalars.{step_scalar};
 ghost use Rattle.open_graph.specs.Planes.{plane_named};
 
-use crate::neighbours::turn_neighbours;
 use crate::scalars::complement_scalar;
-use open_graph::{OpenGraph, Plane, VertexId};
+use open_graph::{OpenGraph, Plane, Turn, VertexId};
 use std::alloc::AllocError;
 use zx_model::{Scalar, Sixteenth};
 
@@ -38,11 +37,11 @@ pub fn local_complement_in_graph(g: &mut OpenGraph, u: VertexId) -> Result<Scala
     ensures was_valid { WellFormed g.old.graph }
     ensures valid { WellFormed g.new.graph }
 {
-    let scalar = complement_scalar(g, u);
+    let (plane, phase) = g.weight(u);
     g.toggle_neighbours(u)?;
-    turn_neighbours(g, u);
+    let powers = g.turn_neighbours(u, Turn::Quarter);
     complement_own(g, u);
-    Ok(scalar)
+    Ok(complement_scalar(plane, phase, powers))
 }
 
 // What a local complement about a vertex makes of its own plane and phase.

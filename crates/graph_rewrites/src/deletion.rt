@@ -8,9 +8,8 @@ ghost use Rattle.zx_calculus.specs.Internal.ChangedKinds.{with_changed};
 ghost use Rattle.zx_calculus.specs.StepScalars.{step_scalar};
 ghost use Rattle.open_graph.specs.Rooms.{with_place};
 
-use crate::neighbours::turn_neighbours;
 use crate::scalars::delete_scalar;
-use open_graph::{OpenGraph, Plane, VertexId};
+use open_graph::{OpenGraph, Plane, Turn, VertexId};
 use zx_model::{Scalar, Sixteenth};
 
 /// Whether the id is that of an XZ or YZ vertex of phase 0 or of a half turn.
@@ -35,23 +34,28 @@ pub fn delete_in_graph(g: &mut OpenGraph, u: VertexId) -> Scalar
     ensures was_valid { WellFormed g.old.graph }
     ensures valid { WellFormed g.new.graph }
 {
-    let scalar = delete_scalar(g, u);
-    pass_half_turn(g, u);
+    let scalar = pass_half_turn(g, u);
     g.remove_vertex(u);
     scalar
 }
 
-// Gives each neighbour of a vertex of a half turn a half turn.
-fn pass_half_turn(g: &mut OpenGraph, u: VertexId)
+// Gives each neighbour of a vertex of a half turn a half turn, and answers the scalar of the vertex's deletion.
+fn pass_half_turn(g: &mut OpenGraph, u: VertexId) -> Scalar
     requires { Live g.old.graph u }
     ensures turned { let near = joined g.old.graph.edges u in
         g.new.graph ≡ with_changed (delete_kind (phase_of g.old.graph u) near) g.old.graph }
+    ensures scalar { result ≡ step_scalar g.old.graph (Delete u) }
     ensures room { g.new.room ≡ g.old.room }
     ensures was_valid { WellFormed g.old.graph }
 {
-    let (_, phase) = g.weight(u);
+    let (plane, phase) = g.weight(u);
     if phase == Sixteenth::half_turn() {
-        turn_neighbours(g, u);
-        turn_neighbours(g, u);
+        let powers = g.turn_neighbours(u, Turn::Half);
+        delete_scalar(plane, powers)
+    } else {
+        Scalar {
+            root2: 2,
+            turn: Sixteenth::new(0),
+        }
     }
 }

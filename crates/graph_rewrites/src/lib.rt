@@ -31,7 +31,6 @@ mod complement;
 mod deletion;
 mod gadget;
 mod gadgets;
-mod neighbours;
 mod pivot;
 mod pivot_scalar;
 mod scalars;

@@ -11,4 +11,5 @@ pub mod RowToggles
 pub mod NearLemmas
 pub mod RoomLemmas
 pub mod ReachLemmas
+pub mod Turning
 pub mod Seeing

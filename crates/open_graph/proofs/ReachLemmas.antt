@@ -223,7 +223,7 @@ room_grown reach xs ys kept new grown longer empty room =
       empty = empty;
     }
 
-none_of_dead : (o : Option Slot) → (told_by o).live ≡ false → o ≡ None
+pub none_of_dead : (o : Option Slot) → (told_by o).live ≡ false → o ≡ None
 none_of_dead None dead = refl
 none_of_dead (Some s) dead = absurd (false≢true (sym dead))
 

@@ -1,9 +1,9 @@
 -- What is seen of a graph in memory after a change of its slots and ends.
-use Rattle.std.proofs.Common.{◌≡◌, ◌≢◌, refl, sym, ◌∙◌, ap, subst, ℕ, ◌<◌, true, false, List, [], ◌∷◌, ◌++◌, length, get_or, set, remove, Option, Some, None, IsSome, slice_index_or, OnOk, OnErr, IfOk, Result, Ok, Err}
+use Rattle.std.proofs.Common.{ltb, ◌≡◌, ◌≢◌, refl, sym, ◌∙◌, ap, subst, ℕ, ◌<◌, true, false, List, [], ◌∷◌, ◌++◌, length, get_or, set, remove, Option, Some, None, IsSome, slice_index_or, OnOk, OnErr, IfOk, Result, Ok, Err}
 use Rattle.zx_model.specs.Phase.{turn}
 use Rattle.zx_model.specs.Bits.{member}
 use Rattle.zx_bits.specs.Sets.{IsBelow}
-use Rattle.zx_calculus.specs.Graph.{XY, Kind, End, Graph, ids, neighbours, insert_vertex, with_kinds, Live, WellFormed, Interior, is_interior}
+use Rattle.zx_calculus.specs.Graph.{XY, Kind, End, Graph, ids, neighbours, in_order, insert_vertex, with_kinds, Live, WellFormed, Interior, is_interior}
 use Rattle.zx_calculus.specs.Splits.{least_free}
 use Rattle.zx_calculus.specs.Edits.{IsToggle, IsRemoval, at_vertex}
 use Rattle.zx_calculus.specs.Toggles.{IsToggled, across, among}
@@ -17,11 +17,14 @@ use Rattle.open_graph.specs.OpenGraph.{OpenGraph}
 use Rattle.open_graph.specs.VertexSets.{VertexSet}
 use Rattle.open_graph.specs.Internal.Slots.{nothing, told_by, told_at, vertices_of, graph_of, IsSound}
 use Rattle.open_graph.specs.Internal.Sides.{ends_of, with_ends, with_side_place, Moves}
-use Rattle.open_graph.specs.Internal.Changes.{Puts, SameTold, Stores, RemovedFrom, RowsToggled, two_among}
+use Rattle.open_graph.specs.Internal.Changes.{Puts, SameTold, Stores, RemovedFrom, RowsToggled, two_among, KindsChanged, powers_in}
 use Rattle.open_graph.specs.Internal.Room.{vacant_in, KeepsRoom, HasRoom, CanHold, IsStored}
 use Rattle.open_graph.proofs.SlotLemmas.{contains_live, rising_vertices, member-vertices, member_of_some}
 use Rattle.open_graph.proofs.Keeping.{MayHold, Becomes, becomes_same, becomes_toggled, becomes_added, becomes_weight, becomes_end_added, becomes_end_moved}
+use Rattle.open_graph.specs.declared.turn.Turn.{Turn}
+use Rattle.open_graph.specs.Turns.{turned_in, powers_of}
 use Rattle.open_graph.proofs.Removing.{becomes_removed}
+use Rattle.open_graph.proofs.Turning.{becomes_turned, powers_turned}
 use Rattle.open_graph.proofs.RowToggles.{becomes_across, becomes_among}
 use Rattle.open_graph.proofs.NearLemmas.{toggled_near, toggled_around, row_below, closed_below}
 use Rattle.open_graph.proofs.ReachLemmas.{room_kept}
@@ -63,6 +66,12 @@ module _ {slots : List (Option Slot)} {inputs outputs : List End} {kept : List V
   pub live_there : (v : ℕ) → Live g.graph v → IsSome (slice_index_or slots v None)
   live_there v live = contains_live slots v (ap (λ g. member v (ids g.graph.vertices)) view ∙ live)
 
+  pub powers_seen : (t : Turn) (u : ℕ) → in_order ltb (told_at slots u).row ≡ true →
+      powers_in t slots (told_at slots u).row ≡ powers_of t g.graph (neighbours g.graph u)
+  powers_seen t u rising =
+      subst (λ (g : OpenGraph). powers_in t slots (told_at slots u).row ≡ powers_of t g.graph (neighbours g.graph u)) view
+      (powers_turned slots inputs outputs is.sound t u rising)
+
   -- neighbours below the reach stand in the row, which is below it so
   pub near_below : (u : ℕ) → IsBelow g.room.reach (neighbours g.graph u) → IsBelow reach (told_at slots u).row
   near_below u below =
@@ -96,6 +105,15 @@ module _ {slots : List (Option Slot)} {inputs outputs : List End} {kept : List V
       (λ inside.
       let made = becomes_removed slots new inputs outputs is.sound v inside removed in
       (made.sound, subst (IsRemoval before v) (sym made.graph) (removal_is_removal before v is.sound.well_formed))) interior
+
+  pub turned_seen : (t : Turn) (u : ℕ) → in_order ltb (told_at slots u).row ≡ true →
+      KindsChanged (turned_in t (told_at slots u).row) slots new →
+      Becomes new inputs outputs (record g.graph { vertices = with_kinds (turned_in t (neighbours g.graph u)) g.graph.vertices })
+  turned_seen t u rising changed =
+      subst
+      (λ (g : OpenGraph).
+      Becomes new inputs outputs (record g.graph { vertices = with_kinds (turned_in t (neighbours g.graph u)) g.graph.vertices })) view
+      (becomes_turned slots inputs outputs is.sound t u rising new changed)
 
   -- edges toggled in both rows of each pair
   pub across_seen : (xs ys : List ℕ) → RowsToggled slots new (across xs ys) →

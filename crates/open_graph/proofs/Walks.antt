@@ -56,7 +56,7 @@ member-more (x ∷ xs) u p = ap (λ b. eqb p x || b) (member-more xs u p) ∙ or
     or_swap true false c = refl
     or_swap false b c = refl
 
-absent_before : (before after : List ℕ) (u : ℕ) → Distinct (before ++ u ∷ after) → member u before ≡ false
+pub absent_before : (before after : List ℕ) (u : ℕ) → Distinct (before ++ u ∷ after) → member u before ≡ false
 absent_before [] after u d = refl
 absent_before (x ∷ xs) after u d =
     by_equal u x

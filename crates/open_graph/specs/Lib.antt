@@ -1,4 +1,5 @@
 pub mod Planes
+pub mod Turns
 pub mod Rooms
 pub mod OpenGraph
 pub mod VertexSets

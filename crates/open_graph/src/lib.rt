@@ -42,6 +42,7 @@ mod side;
 mod slot;
 mod slot_table;
 mod slots;
+mod turn;
 mod vertex_set;
 mod vertices;
 
@@ -50,5 +51,6 @@ pub use id::VertexId;
 pub use ids::Ids;
 pub use open_graph::OpenGraph;
 pub use plane::Plane;
+pub use turn::Turn;
 pub use vertex_set::VertexSet;
 pub use vertices::Vertices;

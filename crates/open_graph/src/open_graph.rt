@@ -13,6 +13,7 @@ ghost use Rattle.zx_calculus.specs.Toggles.{IsToggled, across, among};
 ghost use Rattle.zx_bits.specs.Rows.{IsFirstFrom};
 ghost use Rattle.zx_bits.specs.Sets.{IsBelow};
 ghost use Rattle.open_graph.specs.Planes.{plane_named};
+ghost use Rattle.open_graph.specs.Turns.{turned_in, powers_of};
 ghost use Rattle.open_graph.specs.OpenGraph.{most_vertices_in_memory};
 ghost use Rattle.open_graph.specs.Rooms.{without_place, with_place, IsLeft, IsAtLeast};
 ghost use Rattle.open_graph.specs.Internal.Slots.{Tells};
@@ -26,6 +27,7 @@ use crate::side::{self, Side};
 use crate::slot::Slot;
 use crate::slot_table::SlotTable;
 use crate::slots;
+use crate::turn::Turn;
 use crate::vertex_set::VertexSet;
 use crate::vertices::Vertices;
 use std::alloc::{AllocError, Global};
@@ -324,6 +326,21 @@ impl OpenGraph {
         let (plane, phase) = self.weight(v);
         let (plane, phase) = plane.with_quarter(phase);
         self.set_weight(v, plane, phase);
+    }
+
+    /// Turns each neighbour of a vertex about the Z axis, and answers the power of z that the sum gets by
+    /// that, in sixteenth turns.
+    pub fn turn_neighbours(&mut self, u: VertexId, turn: Turn) -> Sixteenth
+        requires { Live self.old.graph u }
+        ensures ok { self.new.graph ≡ record self.old.graph {
+          vertices = with_kinds (turned_in turn (zx.neighbours self.old.graph u)) self.old.graph.vertices;
+        } }
+        ensures power { result ≡ powers_of turn self.old.graph (zx.neighbours self.old.graph u) }
+        ensures room { self.new.room ≡ self.old.room }
+        ensures was_valid { WellFormed self.old.graph }
+        ensures valid { WellFormed self.new.graph }
+    {
+        slots::turn_near(&mut self.slots, self.alloc, u, turn)
     }
 
     /// Takes the memory for so many more vertices, and moves the reach as far past all ids, with the

@@ -1,7 +1,7 @@
 //! Planes of measurement.
 
 ghost use Rattle.std.specs.Prelude.{◌≡◌};
-ghost use Rattle.zx_calculus.specs.Turns.{in_plane, quarter_turned};
+ghost use Rattle.zx_calculus.specs.Turns.{in_plane, quarter_turned, half_turned};
 ghost use Rattle.zx_calculus.specs.Scalars.{quarter_power_in, half_power_in};
 
 use zx_model::Sixteenth;
@@ -28,6 +28,17 @@ impl Plane {
             Plane::XY => (Plane::XY, phase.add(Sixteenth::quarter_turn())),
             Plane::XZ => (Plane::YZ, phase.neg()),
             Plane::YZ => (Plane::XZ, phase),
+        }
+    }
+
+    // Plane and phase after a half turn about the Z axis.
+    pub(crate) fn with_half(self, phase: Sixteenth) -> (Plane, Sixteenth)
+        ensures { in_plane (plane_named result.0) result.1 ≡ half_turned (in_plane (plane_named self) phase) }
+    {
+        match self {
+            Plane::XY => (Plane::XY, phase.add(Sixteenth::half_turn())),
+            Plane::XZ => (Plane::XZ, phase.neg()),
+            Plane::YZ => (Plane::YZ, phase.neg()),
         }
     }
 

@@ -1,18 +1,19 @@
 //! Changes of one slot.
 
-ghost use Rattle.std.specs.Prelude.{◌≡◌, ◌≢◌, ◌<◌, ◌+◌, ◌-◌, ◌≤◌, ◌==◌, ◌&&◌, ℕ, [], ◌∷◌, Some, None, true, false, length, IsOk, IfOk, OnOk, OnErr};
+ghost use Rattle.std.specs.Prelude.{ltb, ◌≡◌, ◌≢◌, ◌<◌, ◌+◌, ◌-◌, ◌≤◌, ◌==◌, ◌&&◌, ℕ, [], ◌∷◌, Some, None, true, false, length, IsOk, IfOk, OnOk, OnErr};
 ghost use Rattle.zx_model.specs.Bits.{member};
 ghost use Rattle.open_graph.specs.Internal.Table.{slot_at, HasSlot};
 ghost use Rattle.zx_calculus.specs.Turns.{in_plane};
-ghost use Rattle.zx_calculus.specs.Graph.{Graph, Live, WellFormed, Distinct};
+ghost use Rattle.zx_calculus.specs.Graph.{in_order, Graph, Live, WellFormed, Distinct};
 ghost use Rattle.zx_calculus.proofs.Ids.{removed};
 ghost use Rattle.zx_calculus.proofs.EditPrograms.{toggled};
 ghost use Rattle.open_graph.specs.Planes.{plane_named};
+ghost use Rattle.open_graph.specs.Turns.{turned_by, turned_in, power_of};
 ghost use Rattle.open_graph.specs.Internal.Rows.{inserted};
-ghost use Rattle.open_graph.specs.Internal.Room.{vacant_in, room_by, HasRows, KeepsRoom, room_at, row_kept, AreEmpty, HasRoom, CanHold};
+ghost use Rattle.open_graph.specs.Internal.Room.{vacant_in, room_by, HasRows, KeepsRoom, room_at, row_kept, AreEmpty, HasRoom, CanHold, SameRoom};
 ghost use Rattle.open_graph.specs.Internal.Slots.{nothing, told_at, adjacent};
 ghost use Rattle.open_graph.specs.Internal.Sides.{with_side_place};
-ghost use Rattle.open_graph.specs.Internal.Changes.{Puts, SameTold, Stores, RemovedFrom, RowsToggled, two_among};
+ghost use Rattle.open_graph.specs.Internal.Changes.{Puts, SameTold, Stores, RemovedFrom, RowsToggled, two_among, KindsChanged, powers_in};
 ghost use Rattle.zx_calculus.specs.Toggles.{across};
 ghost use Rattle.zx_bits.specs.Sets.{IsBelow};
 
@@ -22,6 +23,7 @@ use crate::scratch::Scratch;
 use crate::side::Side;
 use crate::slot::Slot;
 use crate::slot_table::SlotTable;
+use crate::turn::Turn;
 use crate::vertex_set::VertexSet;
 use std::alloc::{AllocError, Global};
 use std::mem;
@@ -366,6 +368,76 @@ pub(crate) fn set_kind(slots: &mut SlotTable, v: VertexId, plane: Plane, phase: 
     let slot = &mut slots[v.get()];
     slot.plane = plane;
     slot.phase = phase;
+}
+
+// Turns each neighbour of a vertex, and answers the power of z that the sum gets by that.
+pub(crate) fn turn_near(slots: &mut SlotTable, alloc: Global, u: VertexId, turn: Turn) -> Sixteenth
+    requires live { HasSlot slots.old u }
+    requires near_live { (q : ℕ) → adjacent slots.old.slots u q ≡ true → HasSlot slots.old q }
+    ensures turned { let near = (told_at slots.old.slots u).row in
+        KindsChanged (turned_in turn near) slots.old.slots slots.new.slots }
+    ensures power { result ≡ powers_in turn slots.old.slots (told_at slots.old.slots u).row }
+    ensures rising { in_order ltb (told_at slots.old.slots u).row ≡ true }
+    ensures room { (reach : ℕ) → KeepsRoom reach slots.old.slots slots.new.slots }
+{
+    let row = take_row(slots, alloc, u);
+    let power = turn_each(slots, &row, turn);
+    put_row(slots, u, row);
+    power
+}
+
+// Takes the row of a vertex out, which has an empty one until it is put back.
+fn take_row(slots: &mut SlotTable, alloc: Global, u: VertexId) -> VertexSet
+    requires { HasSlot slots.old u }
+    ensures row { result.ids ≡ (told_at slots.old.slots u).row }
+    ensures room { result.room ≡ room_by (slot_at slots.old u) }
+    ensures taken { Puts slots.old.slots slots.new.slots u (record (told_at slots.old.slots u) { row = [] }) }
+    ensures spare { vacant_in slots.new.slots ≡ vacant_in slots.old.slots }
+    ensures others { (p : ℕ) → p ≢ u → room_by (slot_at slots.new p) ≡ room_by (slot_at slots.old p) }
+{
+    mem::replace(&mut slots[u.get()].row, VertexSet::new(alloc))
+}
+
+// Gives a vertex this row.
+fn put_row(slots: &mut SlotTable, u: VertexId, row: VertexSet)
+    requires { HasSlot slots.old u }
+    ensures put { Puts slots.old.slots slots.new.slots u (record (told_at slots.old.slots u) { row = row.ids }) }
+    ensures spare { vacant_in slots.new.slots ≡ vacant_in slots.old.slots }
+    ensures room { room_by (slot_at slots.new u) ≡ row.room }
+    ensures others { (p : ℕ) → p ≢ u → room_by (slot_at slots.new p) ≡ room_by (slot_at slots.old p) }
+{
+    slots[u.get()].row = row;
+}
+
+// Turns each of these vertices, and answers the power of z that the sum gets by that.
+fn turn_each(slots: &mut SlotTable, vertices: &VertexSet, turn: Turn) -> Sixteenth
+    requires { (p : ℕ) → member p vertices.now.ids ≡ true → HasSlot slots.old p }
+    ensures turned { KindsChanged (turned_in turn vertices.now.ids) slots.old.slots slots.new.slots }
+    ensures power { result ≡ powers_in turn slots.old.slots vertices.now.ids }
+    ensures rising { in_order ltb vertices.now.ids ≡ true }
+    ensures room { SameRoom slots.old.slots slots.new.slots }
+{
+    let mut sum = Sixteenth::new(0);
+    for p in vertices.iter() {
+        sum = sum.add(turn_one(slots, p, turn));
+    }
+    sum
+}
+
+// Turns a vertex, and answers the power of z that the sum gets by that.
+fn turn_one(slots: &mut SlotTable, v: VertexId, turn: Turn) -> Sixteenth
+    requires { HasSlot slots.old v }
+    ensures turned { let t = told_at slots.old.slots v in
+        Puts slots.old.slots slots.new.slots v (record t { kind = turned_by turn t.kind }) }
+    ensures power { result ≡ power_of turn (told_at slots.old.slots v).kind }
+    ensures room { SameRoom slots.old.slots slots.new.slots }
+{
+    let slot = &mut slots[v.get()];
+    let power = turn.power(slot.plane, slot.phase);
+    let (plane, phase) = turn.turned(slot.plane, slot.phase);
+    slot.plane = plane;
+    slot.phase = phase;
+    power
 }
 
 // Gives the end of a side of a vertex another place, or none.

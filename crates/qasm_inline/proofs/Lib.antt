@@ -7,3 +7,4 @@ pub mod PieceLemmas
 pub mod Characters
 pub mod SpellLemmas
 pub mod PlainLemmas
+pub mod TokensBehind

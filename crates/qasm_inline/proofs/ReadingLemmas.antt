@@ -10,7 +10,7 @@ use Rattle.qasm_reader.specs.Parts.{BeginNone, IsBehind, IsInBody, has_end}
 use Rattle.qasm_reader.specs.Syntax.{GateForm, Placed}
 use Rattle.qasm_reader.proofs.PartWise.{nothing_begins}
 use Rattle.qasm_reader.proofs.Programs.{prefix_first}
-use Rattle.qasm_names.proofs.Including.{behind_front, drop_behind, map_drop}
+use Rattle.qasm_inline.proofs.TokensBehind.{behind_front, drop_behind, map_drop}
 use Rattle.qasm_unroll.specs.declared.circuit.Circuit.{Circuit}
 use Rattle.qasm_unroll.specs.declared.circuit.OpenGate.{OpenGate}
 use Rattle.qasm_unroll.specs.Circuits.{HasBegun, HasTaken, gate_at}

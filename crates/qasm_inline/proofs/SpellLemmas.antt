@@ -152,9 +152,6 @@ free_word [] e all = absurd (false≢true e)
 free_word (a ∷ rest) e all =
     and_from (is_ascii_alphabetic a) (list_all is_word_byte rest) (letter a (lowercase (a ∷ rest) e)) (and_parts (is_word_byte a) (list_all is_word_byte rest) all).1
 
-pub spelled-identifier : (word after : List ℕ) → is_free word ≡ true → list_all is_word_byte word ≡ true → begins is_word_byte after ≡ false → IsSpelled (IsIdentifier word) (word ++ after) after
-spelled-identifier word after free all stop = spelled-word word after kind.Identifier (free_word word free all) stop (free_kind word free) refl
-
 -- the word at the start of a text
 spelled-prefix : (text : List ℕ) (count : ℕ) (k : TokenKind) → count ≡ prefix_len is_word_byte text → is_word (take count text) ≡ true → word_kind (take count text) ≡ Some k → open_after 0 k ≡ 0
     → IsSpelled (Word k (take count text)) text (take (length text - count) (drop count text))

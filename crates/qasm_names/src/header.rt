@@ -1,73 +1,57 @@
 //! The header that `include "qelib1.inc";` stands for.
 
-ghost use Rattle.std.specs.Prelude.{◌≡◌, ◌<◌, ◌≤◌, ◌∷◌, [], IfOk, IfSome, OnOk, List, length, None, Some, Err, true, false};
+ghost use Rattle.std.specs.Prelude.{◌≡◌, ◌<◌, ◌^◌, ◌∷◌, [], IfOk, OnOk, map, None, Some, Err, true, false};
 ghost use Rattle.std.specs.List.{list_any};
+ghost use Rattle.std.specs.Option.{is_some};
 ghost use Rattle.std.specs.Str.{bytes_eq};
-ghost use Rattle.qasm_lexer.specs.Tokens.{lexemes};
-ghost use Rattle.qasm_reader.specs.Syntax.{GateForm, Include};
+ghost use Rattle.qasm_angle.specs.Trees.{Tree, postfix};
+ghost use Rattle.qasm_reader.specs.Syntax.{Include};
 ghost use Rattle.qasm_scope.specs.declared.causes.Cause.{Cause};
 ghost use Rattle.qasm_scope.specs.Faults.{wrong_in};
-ghost use Rattle.qasm_scope.specs.Header.{first_text, further_text};
-ghost use Rattle.qasm_scope.specs.HeaderGates.{first_gates, further_gates};
-ghost use Rattle.qasm_scope.specs.Meaning.{with_first, with_further, with_header};
-ghost use Rattle.qasm_scope.specs.ProgramTexts.{GatesOf};
+ghost use Rattle.qasm_scope.specs.HeaderGates.{first_gates};
+ghost use Rattle.qasm_scope.specs.Meaning.{with_first, with_header};
 ghost use Rattle.qasm_scope.specs.Scope.{Scope, is_declared};
-ghost use Rattle.qasm_scope.proofs.HeaderScope.{AreFurtherFaultless};
-ghost use Rattle.qasm_names.specs.Begun.{IsBegun};
-ghost use Rattle.qasm_names.specs.Internal.Included.{AreDeclarations, IsNextGate, header_name};
-ghost use Rattle.qasm_names.specs.Kept.{Represents};
+ghost use Rattle.qasm_names.specs.Internal.HeaderTable.{IsShared, angle_tree, body_after, call_after, called_after, divided_by, divided_tree, header_name, turn_tree};
+ghost use Rattle.qasm_names.specs.Kept.{DeclaresGate, Represents, found, gate_count, kept_body, kept_call};
 
-use crate::gate_in_progress::GateInProgress;
+use crate::gates::{CalledGate, GateBody, GateCall};
+use crate::header_table::{
+    Divisor, HeaderAngle, HeaderCall, HeaderCalled, HeaderGate, Turn, first_table, further_table,
+};
 use crate::names::Names;
 use crate::statement_error::StatementError;
-use qasm_lexer::{Token, lex};
-use qasm_reader::{BodyPart, Part, next_in_body, next_part};
+use qasm_angle::{Expr, ExprItem, Literal, Operation, folded};
 use qasm_scope::Cause;
+use smallvec::SmallVec;
 use std::alloc::{AllocError, Global};
 
 // The file that the header stands for, as it is spelled.
 const HEADER_NAME: &[u8] = b"\"qelib1.inc\"";
 
-// The first gates: no program that includes the header declares their names.
-const FIRST: &[u8] = b"\
-gate u3(theta,phi,lambda) q { U(theta,phi,lambda) q; }
-gate u2(phi,lambda) q { U(pi/2,phi,lambda) q; }
-gate u1(lambda) q { U(0,0,lambda) q; }
-gate cx c,t { CX c,t; }
-gate id a { U(0,0,0) a; }
-gate x a { u3(pi,0,pi) a; }
-gate y a { u3(pi,pi/2,pi/2) a; }
-gate z a { u1(pi) a; }
-gate h a { u2(0,pi) a; }
-gate s a { u1(pi/2) a; }
-gate sdg a { u1(-pi/2) a; }
-gate t a { u1(pi/4) a; }
-gate tdg a { u1(-pi/4) a; }
-gate rx(theta) a { u3(theta,-pi/2,pi/2) a; }
-gate ry(theta) a { u3(theta,0,0) a; }
-gate rz(phi) a { u1(phi) a; }
-gate cz a,b { h b; cx a,b; h b; }
-gate cy a,b { sdg b; cx a,b; s b; }
-gate ch a,b { h b; sdg b; cx a,b; h b; t b; cx a,b; t b; h b; s b; x b; s a; }
-gate ccx a,b,c { h c; cx b,c; tdg c; cx a,c; t c; cx b,c; tdg c; cx a,c; t b; t c; h c; cx a,b; t a; tdg b; cx a,b; }
-gate crz(lambda) a,b { u1(lambda/2) b; cx a,b; u1(-lambda/2) b; cx a,b; }
-gate cu1(lambda) a,b { u1(lambda/2) a; cx a,b; u1(-lambda/2) b; cx a,b; u1(lambda/2) b; }
-";
+// What the bodies of the header's gates share: the number of its first gate, and the numbers in its angles.
+#[derive(Clone, Copy)]
+struct Shared {
+    base: usize,
+    zero: Literal,
+    two: Literal,
+    four: Literal,
+}
 
-// Further gates, whose names a program may declare itself.
-const FURTHER: &[u8] = b"\
-gate p(lambda) q { U(0,0,lambda) q; }
-gate u(theta,phi,lambda) q { U(theta,phi,lambda) q; }
-gate swap a,b { cx a,b; cx b,a; cx a,b; }
-gate sx a { sdg a; h a; sdg a; }
-gate sxdg a { s a; h a; s a; }
-gate cp(lambda) a,b { u1(lambda/2) a; cx a,b; u1(-lambda/2) b; cx a,b; u1(lambda/2) b; }
-gate cswap a,b,c { cx c,b; ccx a,b,c; cx c,b; }
-gate ccz a,b,c { h c; ccx a,b,c; h c; }
-gate crx(theta) a,b { h b; crz(theta) a,b; h b; }
-gate cry(theta) a,b { ry(theta/2) b; cx a,b; ry(-theta/2) b; cx a,b; }
-gate rzz(theta) a,b { cx a,b; u1(theta) b; cx a,b; }
-";
+impl Shared {
+    // The header's first gate has this number.
+    fn new(base: usize) -> Shared
+        requires { base < 2 ^ 63 }
+        ensures shared { IsShared result }
+        ensures base { result.base ≡ base }
+    {
+        Shared {
+            base,
+            zero: Literal::read(b"0"),
+            two: Literal::read(b"2"),
+            four: Literal::read(b"4"),
+        }
+    }
+}
 
 /// Declares the gates of the header, where nothing is wrong with an include.
 ///
@@ -91,8 +75,13 @@ pub fn include<'a>(
     if !is_header(text) {
         return Err(StatementError::Wrong(Cause::Include));
     }
-    declare_first(alloc, names)?;
-    declare_further(alloc, names)?;
+    if any_declared(names, first_table()) {
+        return Err(StatementError::Wrong(Cause::Redeclared));
+    }
+    names.reserve_gates(first_table().len() + further_table().len())?;
+    let shared = Shared::new(names.gates.len());
+    declare_first(alloc, names, &shared)?;
+    declare_further(alloc, names, &shared)?;
     Ok(())
 }
 
@@ -103,107 +92,191 @@ fn is_header(text: &[u8]) -> bool
     text == HEADER_NAME
 }
 
-// Declares the first gates, whose names may not be declared again, if none of them is.
-fn declare_first<'a>(alloc: Global, names: &mut Names<'a>) -> Result<(), StatementError>
-    ensures ok { OnOk result ((scope : Scope) → Represents names.old scope
-        → list_any (λ form. is_declared form.name scope) first_gates ≡ false) }
-    ensures after { OnOk result ((scope : Scope) → Represents names.old scope
-        → Represents names.new (with_first first_gates scope)) }
-    ensures redeclared { (cause : Cause) (scope : Scope) → result ≡ Err (StatementError.Wrong cause)
-        → Represents names.old scope
-        → list_any (λ form. is_declared form.name scope) first_gates ≡ true }
-    ensures err { (cause : Cause) → result ≡ Err (StatementError.Wrong cause)
-        → cause ≡ Cause.Redeclared }
+// Whether one of these gates is declared.
+fn any_declared(names: &Names<'_>, gates: &[HeaderGate]) -> bool
+    ensures { result ≡ list_any (λ name. is_some (found name names.now.symbols))
+        (map (λ gate. gate.name.now) gates.now) }
 {
-    let tokens: Vec<Token<'a>> = tokens(alloc, first())?;
-    let mut taken = 0;
-    while let Some((gate, count)) = next_gate(alloc, names, &tokens[taken..])? {
-        if names.is_declared(gate.name()) {
-            return Err(StatementError::Wrong(Cause::Redeclared));
+    for gate in gates {
+        if names.is_declared(gate.name) {
+            return true;
         }
-        gate.declare_faultless(names, false)?;
-        taken += count;
+    }
+    false
+}
+
+// Declares the first gates, none of whose names is declared. The program may not declare these names again.
+fn declare_first(alloc: Global, names: &mut Names<'_>, shared: &Shared) -> Result<(), AllocError>
+    requires { IsShared shared.now }
+    ensures { OnOk result ((scope : Scope) → Represents names.old scope → shared.now.base ≡ gate_count scope
+        → list_any (λ form. is_declared form.name scope) first_gates ≡ false
+        → Represents names.new (with_first first_gates scope)) }
+{
+    let mut rest = first_table();
+    while let [gate, others @ ..] = rest {
+        declare(alloc, names, gate, shared, false)?;
+        rest = others;
     }
     Ok(())
 }
 
 // Declares those of the further gates whose names are free. The program may declare these names again.
-fn declare_further<'a>(alloc: Global, names: &mut Names<'a>) -> Result<(), AllocError>
+fn declare_further(alloc: Global, names: &mut Names<'_>, shared: &Shared) -> Result<(), AllocError>
+    requires { IsShared shared.now }
     ensures { OnOk result ((scope : Scope) → Represents names.old (with_first first_gates scope)
-        → Represents names.new (with_header scope)) }
+        → shared.now.base ≡ gate_count scope → Represents names.new (with_header scope)) }
 {
-    let tokens: Vec<Token<'a>> = tokens(alloc, further())?;
-    let mut taken = 0;
-    while let Some((gate, count)) = next_gate(alloc, names, &tokens[taken..])? {
-        declare_if_free(names, gate)?;
-        taken += count;
+    let mut rest = further_table();
+    while let [gate, others @ ..] = rest {
+        if !names.is_declared(gate.name) {
+            declare(alloc, names, gate, shared, true)?;
+        }
+        rest = others;
     }
     Ok(())
 }
 
-// Declares a further gate, unless its name is declared.
-fn declare_if_free<'a>(names: &mut Names<'a>, gate: GateInProgress<'a>) -> Result<(), AllocError>
-    ensures { OnOk result ((form : GateForm) (scope : Scope) → IsBegun names.old gate.entry form
-        → Represents names.old scope → AreFurtherFaultless (form ∷ []) scope
-        → Represents names.new (with_further (form ∷ []) scope)) }
-{
-    if names.is_declared(gate.name()) {
-        return Ok(());
-    }
-    gate.declare_faultless(names, true)
-}
-
-// The gate whose declaration the tokens begin with, and how many tokens that has; none where they begin with none.
-fn next_gate<'a>(
+// Declares a gate of the header. If it is replaceable, the program may declare its name again.
+fn declare(
     alloc: Global,
-    names: &Names<'a>,
-    tokens: &[Token<'a>],
-) -> Result<Option<(GateInProgress<'a>, usize)>, AllocError>
-    ensures gate { (forms : List GateForm) → AreDeclarations forms (lexemes tokens.now)
-        → IfOk result (λ read. IsNextGate names.now forms tokens.now read) }
-    ensures some { IfOk result (λ read. IfSome read (λ x.
-        (0 < x.1) × (x.1 ≤ length tokens.now))) }
+    names: &mut Names<'_>,
+    gate: &HeaderGate,
+    shared: &Shared,
+    replaceable: bool,
+) -> Result<(), AllocError>
+    requires { IsShared shared.now }
+    ensures { OnOk result (DeclaresGate names.old names.new gate.now.name.now gate.now.angles
+        gate.now.qubits (body_after shared.now.base gate.now) replaceable) }
 {
-    let Some((part, inside)) = next_part(alloc, tokens)? else {
-        return Ok(None);
-    };
-    let Part::Heading { heading, .. } = part else {
-        return Ok(None);
-    };
-    let mut gate = GateInProgress::new(alloc, names, &heading)?;
-    let mut rest = inside;
-    while let Some((part, end)) = next_in_body(alloc, rest)? {
-        match part {
-            BodyPart::Statement(statement) => gate.take(alloc, names, &statement)?,
-            BodyPart::End => return Ok(Some((gate, tokens.len() - end.len()))),
-        }
-        rest = end;
+    let body = body(alloc, gate, shared)?;
+    names.declare_gate(gate.name, gate.angles, gate.qubits, body, replaceable)
+}
+
+// The body of a gate of the header.
+fn body(alloc: Global, gate: &HeaderGate, shared: &Shared) -> Result<GateBody, AllocError>
+    requires { IsShared shared.now }
+    ensures { IfOk result (λ body. kept_body body ≡ body_after shared.now.base gate.now) }
+{
+    let mut calls = Vec::with_capacity(alloc, gate.calls.len())?;
+    for call in gate.calls {
+        calls.push(gate_call(alloc, call, shared, gate.angles > 0)?)?;
     }
-    Ok(None)
+    Ok(GateBody { calls })
 }
 
-// The tokens of a text that declares gates.
-fn tokens<'a>(alloc: Global, text: &'a [u8]) -> Result<Vec<Token<'a>>, AllocError>
-    ensures { (header : GatesOf text.now)
-        → IfOk result (λ tokens. AreDeclarations header.gates (lexemes tokens.items)) }
+// A call in such a body. It is told whether its angles are to be evaluated where they hold no parameter: what calls of
+// gates without angles come to is kept, so that angles in these are evaluated once.
+fn gate_call(
+    alloc: Global,
+    call: &HeaderCall,
+    shared: &Shared,
+    evaluates: bool,
+) -> Result<GateCall, AllocError>
+    requires { IsShared shared.now }
+    ensures { IfOk result (λ made. kept_call made ≡ call_after shared.now.base call.now) }
 {
-    match lex(alloc, text) {
-        Ok(tokens) => Ok(tokens),
-        // Such a text has no bad byte, so memory ran out.
-        Err(_) => Err(AllocError),
+    Ok(GateCall {
+        called: called(call.0, shared.base),
+        angles: exprs(alloc, call.1, shared, evaluates)?,
+        qubits: qubits(alloc, call.2)?,
+    })
+}
+
+// The places of a call's qubits.
+fn qubits(alloc: Global, places: &[usize]) -> Result<SmallVec<usize, 2>, AllocError>
+    ensures { IfOk result (λ qubits. qubits.items ≡ places.now) }
+{
+    let mut qubits = SmallVec::new(alloc);
+    for place in places {
+        qubits.push(*place)?;
+    }
+    Ok(qubits)
+}
+
+// The gate that is called, where the first gate of the header has this number.
+fn called(called: HeaderCalled, base: usize) -> CalledGate
+    requires { base < 2 ^ 63 }
+    ensures { result ≡ called_after base called }
+{
+    match called {
+        HeaderCalled::U => CalledGate::U,
+        HeaderCalled::Cx => CalledGate::Cx,
+        HeaderCalled::Gate(number) => CalledGate::Gate(usize::from(number) + base),
     }
 }
 
-// The text of the first gates.
-fn first<'a>() -> &'a [u8]
-    ensures { result.now ≡ first_text }
+// The angles of a call.
+fn exprs(
+    alloc: Global,
+    angles: &[HeaderAngle],
+    shared: &Shared,
+    evaluates: bool,
+) -> Result<Vec<Expr>, AllocError>
+    requires { IsShared shared.now }
+    ensures { IfOk result (λ exprs. exprs.items ≡ map angle_tree angles.now) }
 {
-    FIRST
+    let mut exprs = Vec::with_capacity(alloc, angles.len())?;
+    for angle in angles {
+        exprs.push(expr(alloc, *angle, shared, evaluates)?)?;
+    }
+    Ok(exprs)
 }
 
-// The text of the further gates.
-fn further<'a>() -> &'a [u8]
-    ensures { result.now ≡ further_text }
+// An angle of a call.
+fn expr(
+    alloc: Global,
+    angle: HeaderAngle,
+    shared: &Shared,
+    evaluates: bool,
+) -> Result<Expr, AllocError>
+    requires { IsShared shared.now }
+    ensures { IfOk result (λ expr. expr ≡ angle_tree angle) }
 {
-    FURTHER
+    let expr = Expr::new(steps(alloc, angle, shared)?);
+    if evaluates {
+        folded(alloc, expr)
+    } else {
+        Ok(expr)
+    }
+}
+
+// The steps of an angle.
+fn steps(alloc: Global, angle: HeaderAngle, shared: &Shared) -> Result<Vec<ExprItem>, AllocError>
+    requires { IsShared shared.now }
+    ensures { IfOk result (λ steps. steps.items ≡ postfix (angle_tree angle)) }
+{
+    let mut steps = Vec::with_capacity(alloc, 4)?;
+    steps.push(turn_step(angle.turn, shared))?;
+    if angle.negated {
+        steps.push(ExprItem::Negate)?;
+    }
+    if let Some(divisor) = divisor(angle.divisor, shared) {
+        steps.push(ExprItem::Number(divisor))?;
+        steps.push(ExprItem::Binary(Operation::Divide))?;
+    }
+    Ok(steps)
+}
+
+// The step that an angle is but for its sign and its divisor.
+fn turn_step(turn: Turn, shared: &Shared) -> ExprItem
+    requires { IsShared shared.now }
+    ensures { result ∷ [] ≡ postfix (turn_tree turn) }
+{
+    match turn {
+        Turn::Zero => ExprItem::Number(shared.zero),
+        Turn::Pi => ExprItem::Pi,
+        Turn::Parameter(index) => ExprItem::Parameter(index),
+    }
+}
+
+// The number by which an angle is divided, if there is one.
+fn divisor(divisor: Divisor, shared: &Shared) -> Option<Literal>
+    requires { IsShared shared.now }
+    ensures { (turn : Tree) → divided_tree divisor turn ≡ divided_by result turn }
+{
+    match divisor {
+        Divisor::One => None,
+        Divisor::Two => Some(shared.two),
+        Divisor::Four => Some(shared.four),
+    }
 }

@@ -18,8 +18,8 @@
 //! - `formals`: its formal names.
 //! - `bodies`: an application in its body as the call that it is kept as.
 //! - `body_faults`: what is wrong with a body so far.
-//! - `registers`, `header`: registers, and the gates of the header, which are read from its texts
-//!   like any other and declared one by one.
+//! - `registers`, `header`: registers, and the gates of the header, which are declared one by one from
+//!   `header_table`, a table that is proved to be what the header's texts declare.
 //! - `statement_error`: why a statement isn't taken in.
 //!
 //! ```rust
@@ -35,6 +35,7 @@ mod formals;
 mod gate_in_progress;
 mod gates;
 mod header;
+mod header_table;
 mod names;
 mod numerals;
 mod places;

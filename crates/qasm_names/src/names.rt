@@ -150,6 +150,14 @@ impl<'a> Names<'a> {
         Ok(())
     }
 
+    /// Takes memory for so many further gates.
+    pub fn reserve_gates(&mut self, more: usize) -> Result<(), AllocError>
+        ensures { OnOk result ((scope : Scope) → Represents self.old scope → Represents self.new scope) }
+    {
+        self.gates.reserve(more)?;
+        Ok(())
+    }
+
     /// Declares a gate.
     pub fn declare_gate(
         &mut self,

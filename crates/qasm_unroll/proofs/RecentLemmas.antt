@@ -1,6 +1,6 @@
 -- Names that are remembered, and applications without angles by them.
-use Rattle.std.proofs.Common.{◌≡◌, ℕ, zero, suc, get_or, ◌+◌, ◌<◌, Bool, true, false, ◌||◌, if◌then◌else◌, List, [], ◌∷◌, ◌++◌, length, map, Option, None, Some, Ok, refl, sym, ap, ap₂, ◌∙◌, append-nil, arith}
-use Rattle.std.specs.Prelude.{nat_le, nat_lt}
+use Rattle.std.proofs.Common.{◌≡◌, ℕ, zero, suc, get_or, ◌+◌, Bool, true, false, if◌then◌else◌, List, [], ◌∷◌, ◌++◌, map, Option, None, Some, Ok, refl, sym, ap, ap₂, ◌∙◌, append-nil, arith}
+use Rattle.std.specs.Prelude.{nat_lt}
 use Rattle.std.specs.List.{All, flat_map, range_with_len}
 use Rattle.std.specs.Option.{option_or}
 use Rattle.std.proofs.lemmas.Bool.Decides.{nat_tests}
@@ -10,8 +10,8 @@ use Rattle.qasm_reader.specs.Syntax.{Act, Applied, Callee, Operand, Placed}
 use Rattle.qasm_scope.specs.declared.causes.Cause.{Cause}
 use Rattle.qasm_scope.specs.declared.causes.Cause.TheVariants.{AfterMeasure, TooManyGates, TooDeep}
 use Rattle.qasm_scope.specs.Applications.{Range, application_events, register_sizes}
-use Rattle.qasm_scope.specs.Calls.{applied, call_count, deepest, first_wrong}
-use Rattle.qasm_scope.specs.Faults.{has_other_shape, has_other_size, is_no_gate, wrong_behind, wrong_in}
+use Rattle.qasm_scope.specs.Calls.{call_count, deepest, first_wrong}
+use Rattle.qasm_scope.specs.Faults.{has_other_shape, has_other_size, wrong_behind, wrong_in}
 use Rattle.qasm_scope.specs.Meaning.{most_calls}
 use Rattle.qasm_names.specs.declared.gates.CalledGate.{CalledGate}
 use Rattle.qasm_names.specs.declared.gates.CalledGate.TheVariants as called_gate
@@ -22,9 +22,9 @@ use Rattle.qasm_unroll.specs.declared.measured.Measured.{Measured}
 use Rattle.qasm_unroll.specs.declared.plain.NamedGate.{NamedGate}
 use Rattle.qasm_unroll.specs.declared.unroll.Unrolled.{Unrolled}
 use Rattle.qasm_unroll.specs.Circuits.{IsOpen, applied_at}
-use Rattle.qasm_unroll.specs.Internal.KeptCalls.{Continues, Numbered, called_events, cx_events, expand_number, gate_events}
-use Rattle.qasm_unroll.specs.Internal.Recents.{IsPlainCall, IsPlainlyApplied, IsRow, plainly_applied}
-use Rattle.qasm_unroll.specs.Internal.Spans.{AreSpans, IsResolved, IsSpan, cut_instance, instance_count, instances_events, resolved_cause}
+use Rattle.qasm_unroll.specs.Internal.KeptCalls.{Numbered, called_events, expand_number, gate_events}
+use Rattle.qasm_unroll.specs.Internal.Recents.{IsPlainlyApplied, IsRow, plainly_applied}
+use Rattle.qasm_unroll.specs.Internal.Spans.{cut_instance, instance_count, instances_events, resolved_cause}
 use Rattle.qasm_unroll.proofs.ApplyLemmas.{behind-resolved, wrong-resolved, resolved-events}
 use Rattle.qasm_unroll.proofs.CircuitLemmas.{leads-next}
 use Rattle.qasm_unroll.proofs.Numbers.{kept-unrolls}
@@ -37,36 +37,9 @@ row-at symbols (row ∷ rows) zero all = All-head (IsRow symbols) row rows all
 row-at symbols (row ∷ rows) (suc k) all = row-at symbols rows k (All-tail (IsRow symbols) row rows all)
 
 -- ---- arguments
-pub one-span : (symbols : Symbols) (o : Operand) (r : Range) → IsSpan symbols o r → AreSpans symbols (o ∷ []) (r ∷ [])
-one-span symbols o r s = record {
-  all_registers = ap (λ b. b || false) s.a_register;
-  all_within = ap (λ b. b || false) s.within;
-  same = ap (λ t. t ∷ []) s.same;
-}
-
-pub two-spans : (symbols : Symbols) (o p : Operand) (r s : Range) → IsSpan symbols o r → IsSpan symbols p s → AreSpans symbols (o ∷ p ∷ []) (r ∷ s ∷ [])
-two-spans symbols o p r s first second = record {
-  all_registers = ap₂ (λ b c. b || (c || false)) first.a_register second.a_register;
-  all_within = ap₂ (λ b c. b || (c || false)) first.within second.within;
-  same = ap₂ (λ t u. t ∷ u ∷ []) first.same second.same;
-}
 
 same-shape : (n : ℕ) → has_other_shape (Some (0, n)) 0 n ≡ false
 same-shape n = grind (arith, nat_tests)
-
--- its names resolved
-pub resolved-plain : (symbols : Symbols) (gate : Callee) (operands : List Operand) (called : CalledGate) (ranges : List Range)
-    → IsPlainCall symbols gate (length operands) called → AreSpans symbols operands ranges
-    → IsResolved symbols (plainly_applied gate operands) called [] ranges
-resolved-plain symbols gate operands called ranges call spans = record {
-  supported = refl;
-  all_known = ap₂ (λ s r. is_no_gate s || false || r) call.shape spans.all_registers;
-  same_counts = ap (λ s. has_other_shape s 0 (length operands)) call.shape ∙ same-shape (length operands);
-  within = spans.all_within;
-  same_gate = call.called_is;
-  same_angles = refl;
-  same_spans = spans.same;
-}
 
 -- ---- calls
 first-called : (many : Bool) (rest : Option Cause) → many ≡ false → rest ≡ None → (if many then Some TooManyGates else (if nat_lt deepest 1 then Some TooDeep else rest)) ≡ None
@@ -80,19 +53,6 @@ gate-right calls (Some gate) = refl
 gate-count : (gate : Option ElementaryGate) → call_count (gate_events gate) ≡ 0
 gate-count None = refl
 gate-count (Some gate) = refl
-
--- a call of `CX`
-pub cx-called : (numbered : Numbered) (before later : ℕ) (gates more : List ElementaryGate) (qubits : List ℕ) (gate : Option ElementaryGate)
-    → cx_events qubits ≡ gate_events gate → before < most_calls → later ≡ before + 1 → more ≡ gates ++ applied (gate_events gate)
-    → Continues most_calls before gates (called_events numbered called_gate.Cx 1 (Ok []) qubits) later more []
-cx-called numbered before later gates more qubits gate e few count em =
-    let within : nat_le most_calls before ≡ false = grind (arith, nat_tests) in
-    record {
-      same_wrong = first-called (nat_le most_calls before) (first_wrong most_calls (before + 1) (cx_events qubits)) within
-          (ap (first_wrong most_calls (before + 1)) e ∙ gate-right (before + 1) gate);
-      same_gates = ap (λ es. gates ++ applied es) e ∙ sym em ∙ sym (append-nil more);
-      same_calls = ap (λ es. before + (call_count es + 1)) e ∙ (omega (arith, gate-count gate, count));
-    }
 
 -- one instance alone
 one-instance : (numbered : Numbered) (called : CalledGate) (ranges : List Range) → register_sizes ranges ≡ []

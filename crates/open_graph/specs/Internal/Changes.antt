@@ -1,8 +1,11 @@
 -- Changes of what slots tell.
 use Rattle.std.specs.Prelude.{◌≡◌, ℕ, Bool, true, if◌then◌else◌, ◌&&◌, ◌==◌, List, Option}
 use Rattle.zx_model.specs.Bits.{xor, member}
-use Rattle.zx_calculus.specs.Graph.{Graph, ids, kind_of, joined}
+use Rattle.zx_calculus.specs.Graph.{Kind, Graph, ids, kind_of, joined}
+use Rattle.zx_calculus.specs.Scalars.{sum_of_powers}
 use Rattle.zx_calculus.proofs.Ids.{removed}
+use Rattle.open_graph.specs.declared.turn.Turn.{Turn}
+use Rattle.open_graph.specs.Turns.{power_of}
 use Rattle.open_graph.specs.declared.slot.Slot.{Slot}
 use Rattle.open_graph.specs.Internal.Slots.{Told, nothing, told_at, adjacent, place_among}
 
@@ -33,6 +36,15 @@ pub record RowsToggled (old new : List (Option Slot)) (picked : ℕ → ℕ → 
 -- two different listed ones
 abbrev pub two_among : List ℕ → ℕ → ℕ → Bool
 two_among near p q = member p near && xor (member q near) (q == p)
+
+-- planes and phases change, and all else stays
+abbrev pub KindsChanged : (ℕ → Kind → Kind) → List (Option Slot) → List (Option Slot) → Type 0
+KindsChanged change old new =
+    (p : ℕ) → told_at new p ≡ record (told_at old p) { kind = change p (told_at old p).kind }
+
+-- the powers that turns of the listed ones give
+abbrev pub powers_in : Turn → List (Option Slot) → List ℕ → ℕ
+powers_in turn slots ps = sum_of_powers (λ p. power_of turn (told_at slots p).kind) ps
 
 -- v is gone, and so is its mention in the rows of these vertices
 abbrev pub RemovedFrom : List (Option Slot) → List (Option Slot) → ℕ → List ℕ → Type 0

@@ -28,6 +28,11 @@ pub record KeepsRoom (reach : ℕ) (old new : List (Option Slot)) : Type 0 where
   pub vacant : (p : ℕ) → slice_index_or new p None ≡ None → slice_index_or old p None ≡ None
   pub rows : HasRows reach old → HasRows reach new
 
+-- as many places have no vertex, and each row has the room that it had
+pub record SameRoom (old new : List (Option Slot)) : Type 0 where
+  pub spare : vacant_in new ≡ vacant_in old
+  pub rows : (p : ℕ) → room_by (slice_index_or new p None) ≡ room_by (slice_index_or old p None)
+
 -- the row without vertices and room
 abbrev pub no_row : VertexSet
 no_row = record { ids = []; room = 0 }
