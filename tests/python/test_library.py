@@ -1,6 +1,7 @@
 """Tests of `library.qasm` and `header.qasm`: each gate against its matrix, and which gates commute with what."""
 from __future__ import annotations
 
+import re
 import sys
 import unittest
 from pathlib import Path
@@ -64,7 +65,8 @@ class Gates(unittest.TestCase):
         if not example.exists():
             self.skipTest("no clone of the repository")
         self.assertEqual(example.read_text(encoding="utf-8"), (FOLDER / "library.qasm").read_text(encoding="utf-8"))
-        source = (TOP / "crates" / "qasm_names" / "src" / "header.rt").read_text(encoding="utf-8")
+        definition = (TOP / "crates" / "qasm_scope" / "specs" / "Header.antt").read_text(encoding="utf-8")
+        source = "".join(re.findall(r'codes "([^"]*)"', definition))
         for statement in split((FOLDER / "header.qasm").read_text(encoding="utf-8"))[0]:
             self.assertIn(statement.text, source)
 
