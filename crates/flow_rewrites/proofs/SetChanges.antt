@@ -26,6 +26,7 @@ use Rattle.move_laws.specs.Orders.{is_split}
 use Rattle.open_graph.specs.OpenGraph.{OpenGraph}
 use Rattle.open_graph.specs.Rooms.{Room, IsLeft}
 use Rattle.zx_flow.specs.Flows.{Flow, HaveReach}
+use Rattle.graph_rewrites.specs.declared.step.Step.{Step as Named}
 use Rattle.graph_rewrites.specs.declared.step.Step.TheVariants as named
 use Rattle.graph_rewrites.specs.Rooms.{room_after}
 use Rattle.graph_rewrites.specs.Steps.{step_named}

@@ -1,24 +1,27 @@
 -- Plain statements that are read straight from the bytes.
-use Rattle.std.proofs.Common.{◌≡◌, ℕ, ◌+◌, ◌-◌, ◌<◌, ◌≤◌, List, [], ◌∷◌, ◌++◌, length, take, drop, map, None, Some, inl, refl, sym, ap, ◌∙◌, subst, append_assoc, arith, length-append, length-drop}
+use Rattle.std.proofs.Common.{◌≡◌, ℕ, ◌+◌, ◌-◌, ◌<◌, ◌≤◌, List, [], ◌∷◌, ◌++◌, length, take, drop, map, None, Some, inl, refl, sym, ap, ◌∙◌, subst, append_assoc, append-nil, arith, length-append, length-drop}
 use Rattle.std.specs.List.{concat}
 use Rattle.std.proofs.lemmas.List.{take-append-drop}
-use Rattle.qasm_lexer.specs.Tokens.{IsCutUpTo, Lexeme}
+use Rattle.qasm_lexer.specs.Tokens.{IsCutUpTo, Lexeme, lexemes}
 use Rattle.qasm_lexer.specs.Internal.Moved.{moved}
 use Rattle.qasm_lexer.proofs.Cuts.{IsCutUpTo-then}
 use Rattle.qasm_inline.proofs.TokensBehind.{drop_behind}
+use Rattle.qasm_reader.specs.Depth.{IsDepth}
 use Rattle.qasm_reader.specs.Grammar.{◌⋅◌, BeginsAt, IsAngles, IsArgument, IsName, IsQuantumOperation, Sign}
 use Rattle.qasm_lexer.specs.declared.token.TokenKind.TheVariants as kind
-use Rattle.qasm_reader.specs.Syntax.{Applied, Apply, Callee, Declared, U, Cx, Operand, Placed}
+use Rattle.qasm_reader.specs.Syntax.{Act, Applied, Apply, Callee, Declared, U, Cx, Operand, Placed}
+use Rattle.qasm_reader.proofs.PartWise.{nothing_begins}
 use Rattle.qasm_reader.specs.declared.program.Argument.{Argument}
 use Rattle.qasm_reader.specs.Views.{callee, operand}
 use Rattle.std.specs.Option.{option_to_list}
 use Rattle.qasm_unroll.specs.Circuits.{HasTaken, applied_at}
 use Rattle.qasm_inline.specs.declared.plain.Plain.{Plain}
 use Rattle.qasm_inline.specs.declared.reading.Reader.{Reader}
-use Rattle.qasm_inline.specs.Internal.Readings.{ReadsOn}
+use Rattle.qasm_inline.specs.Internal.Readings.{AreTaken, IsReadSoFar, ReadsOn}
 use Rattle.qasm_inline.specs.Internal.Spellings.{AreMore, AreNone, IsBetween, IsReadPlain, IsReadTo, IsSpelled, ReadsApplication, application_of}
 use Rattle.qasm_inline.proofs.PieceLemmas.{reads_then}
-use Rattle.qasm_inline.proofs.SpellLemmas.{spelled-as, spelled-behind, spelled-nothing, spelled-sign, spelled-then}
+use Rattle.qasm_inline.proofs.ReadingLemmas.{none-between, statement-taken, taken-more}
+use Rattle.qasm_inline.proofs.SpellLemmas.{flat-depth, spelled-as, spelled-behind, spelled-nothing, spelled-sign, spelled-then}
 
 begins-name : (gate : Callee) (A : List Lexeme → Type 0) (ts : List Lexeme) → (IsName gate ⋅ A) ts → (place : ℕ) × BeginsAt ts place
 begins-name (Declared name) A ts (us, vs, e, (t, k, s, f), a) = (t.place, (t, vs, e ∙ ap (λ u. u ++ vs) f, refl))
@@ -43,6 +46,28 @@ pub spelled-plain : {text start second third last rest : List ℕ} (gate : Calle
 spelled-plain {rest = rest} gate first more spaces name argument others ends =
     spelled-behind spaces (spelled-then name (spelled-then (no-angles _) (spelled-then (spelled-then argument others)
     (subst (λ t. IsSpelled (Sign kind.Semicolon) t rest) (sym ends) (spelled-sign 59 rest kind.Semicolon refl refl refl)))))
+
+-- an application that was taken in is read
+pub reads-application : (reader later : Reader) (a : Apply) → IsBetween reader → IsBetween later
+    → ((program : List Placed) (place : ℕ) → HasTaken reader.circuit program → HasTaken later.circuit (program ++ record { place = place; sentence = Act (Applied a) } ∷ []))
+    → ReadsApplication reader a later
+reads-application reader later a is then step ts op flat before keeps =
+    let b = operation-begins a ts op in
+    let s : Placed = record { place = b.0; sentence = Act (Applied a) } in
+    let start : IsReadSoFar None before None reader.circuit [] =
+    subst (λ f. IsReadSoFar f before None reader.circuit []) is.no_fault
+    (subst (λ g. IsReadSoFar reader.fault before g reader.circuit []) is.no_gate
+    (subst (λ us. IsReadSoFar reader.fault before reader.gate reader.circuit (lexemes us)) is.no_tokens keeps.kept)) in
+    let taken : AreTaken (before ++ ts) None reader.circuit ts = taken-more before [] ts None reader.circuit start in
+    let next : AreTaken (before ++ ts) None later.circuit [] =
+    statement-taken (before ++ ts) ts [] None reader.circuit later.circuit s refl taken (ts, sym (append-nil ts), b.1, op) (λ program. step program b.0) in
+    let end : IsReadSoFar None (before ++ ts) None later.circuit [] = none-between (before ++ ts) [] None later.circuit refl next nothing_begins in
+    record {
+      deep = subst (λ d. IsDepth d (before ++ ts)) (sym then.shallow) (flat-depth before ts (subst (λ d. IsDepth d before) is.shallow keeps.deep) flat);
+      kept = subst (λ us. IsReadSoFar later.fault (before ++ ts) later.gate later.circuit (lexemes us)) (sym then.no_tokens)
+          (subst (λ g. IsReadSoFar later.fault (before ++ ts) g later.circuit []) (sym then.no_gate)
+          (subst (λ f. IsReadSoFar f (before ++ ts) None later.circuit []) (sym then.no_fault) end));
+    }
 
 pub reads-one : (reader later : Reader) (plain : Plain) → IsBetween reader → IsBetween later → plain.second ≡ None
     → ((program : List Placed) (place : ℕ) → HasTaken reader.circuit program → HasTaken later.circuit (program ++ applied_at place (callee plain.gate) (operand plain.first ∷ []) ∷ []))
