@@ -72,7 +72,7 @@ module _ (s : Graph) (v phase : ℕ) (g : Graph) (fresh : member v (ids s.vertic
       ∙ ap₂ (λ k f. record { vertices = insert_vertex (record { id = v; kind = in_plane XY k }) s.vertices; edges = s.edges; inputs = s.inputs ++ f ∷ []; outputs = s.outputs ++ f ∷ [] }) zero_phase same
       ∙ one_more_wire n s v e (next_is n s v e w least)
 
--- ---- H: a vertex is added, joined to the present spider, and takes the output over
+-- ---- H: a vertex is added, joined to the last spider, and takes the output over
 module _ (s : Graph) (q here next phase : ℕ) (g : Graph) (w : WellFormed s) (output : HasPlainOutput s q here) (fresh : member next (ids s.vertices) ≡ false)
     (zero_phase : phase ≡ 0) (added : g ≡ record { vertices = insert_vertex (record { id = next; kind = in_plane XY phase }) s.vertices; edges = s.edges; inputs = s.inputs; outputs = s.outputs }) where
   pub here_there : Live g here

@@ -107,7 +107,7 @@ spider_ready s q t r c = record {
   plain = ap are_plain c.peel.outputs ∙ plain-set s.graph.outputs q c.peel.spider r.plain;
 }
 
--- the old spider is the present one, and the new one has the next id
+-- the old spider was the last one, and the new one has the next id
 spider_table : (s : GraphSoFar) (q : ℕ) (t : GraphSoFar) → IsSpiderStep s q t → SameSets t.table (split_output_table (present s.graph q) (length s.graph.vertices) s.table)
 spider_table s q t c =
     subst (λ u. SameSets t.table (split_output_table u (length s.graph.vertices) s.table)) (sym (present_is s.graph.outputs q c.peel.next c.peel.output))

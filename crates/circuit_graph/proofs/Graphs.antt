@@ -13,7 +13,7 @@ use Rattle.circuit_laws.specs.Peeling.{IsSpiderPeel, IsPhasePeel, IsEdgePeel}
 use Rattle.circuit_laws.proofs.Places.{first_is}
 use Rattle.circuit_graph.specs.Translation.{present, with_spider, with_phase, with_toggle}
 
--- the present spider is the vertex at the output
+-- the last spider is the vertex at the output
 pub present_is : (es : List End) (q u : ℕ) → slice_get es q ≡ Some (plain u) → get_or (end_vertices es) q 0 ≡ u
 present_is [] q u h = cc
 present_is (e ∷ es) zero u h = ap (λ (d : End). d.vertex) (first_is e (plain u) h)

@@ -47,7 +47,7 @@ written_count gates = count_by is_cx gates + count_by is_not gates
 abbrev pub map_scalar : List Gate → Scalar
 map_scalar gates = record { root2 = neg_ℤ (pos (2 * written_count gates)); turn = 0 }
 
--- the present spider of a wire, which holds its output
+-- the last spider of a wire, which holds its output
 abbrev pub present : Graph → ℕ → ℕ
 present g q = get_or (end_vertices g.outputs) q 0
 
@@ -60,7 +60,7 @@ wires n = record {
   outputs = map plain (range_with_len 0 n);
 }
 
--- H: an edge joins the present spider to a new one of phase 0, which is the present one from there on
+-- H: an edge joins the last spider to a new one of phase 0, which is the last one from there on
 abbrev pub with_spider : ℕ → ℕ → Graph → Graph
 with_spider new q g = record g {
   vertices = split_vertices g new;
@@ -68,11 +68,11 @@ with_spider new q g = record g {
   outputs = slice_set g.outputs q (plain new);
 }
 
--- a phase is added to the present spider
+-- a phase is added to the last spider
 abbrev pub with_phase : ℕ → ℕ → Graph → Graph
 with_phase q k g = record g { vertices = with_kinds (fuse_kind (present g q) k) g.vertices }
 
--- Cz: an edge between the present spiders comes where there is none, and goes where there is one
+-- Cz: an edge between the last spiders comes where there is none, and goes where there is one
 abbrev pub with_toggle : ℕ → ℕ → Graph → Graph
 with_toggle p q g =
     adjacent_graph g g.vertices (λ v w. xor (joined g.edges v w) (is_pair (present g p) (present g q) v w))
@@ -89,7 +89,7 @@ with_gate g other = g
 abbrev pub translated : Circuit → Graph
 translated c = fold with_gate (wires c.qubits) (written_out c.gates)
 
--- With H the wire leaves its present spider, which is corrected by the next one on the wire, the new one, alone.
+-- With H the wire leaves its last spider, which is corrected by the next one on the wire, the new one, alone.
 abbrev pub corrected_by : Graph → Gate → List Correction
 corrected_by g (H q) = record { vertex = present g q; members = length g.vertices ∷ [] } ∷ []
 corrected_by g other = []
@@ -105,7 +105,7 @@ table_from g (gate ∷ gates) = corrected_by g gate ++ table_from (with_gate g g
 abbrev pub translated_table : Circuit → List Correction
 translated_table c = table_from (wires c.qubits) (written_out c.gates)
 
--- the vertex to which a gate adds a phase: the present spider of its qubit, where it is a phase gate
+-- the vertex to which a gate adds a phase: the last spider of its qubit, where it is a phase gate
 abbrev pub phase_vertex : Graph → Gate → Option ℕ
 phase_vertex g (Phase q k) = Some (present g q)
 phase_vertex g other = None

@@ -14,7 +14,7 @@ use zx_flow::FlowTable;
 use zx_gates::{Gate, Qubit};
 use zx_model::Sixteenth;
 
-// The graph so far, whose outputs stand at the present spiders of the wires, and the corrections of the spiders that
+// The graph so far, whose outputs stand at the last spiders of the wires, and the corrections of the spiders that
 // the wires have left.
 #[derive(Drop)]
 pub(crate) struct Wires {
@@ -77,7 +77,7 @@ impl Wires {
         }
     }
 
-    // The present spider of a wire.
+    // The last spider of a wire.
     fn present(&self, q: Qubit) -> VertexId
         requires ready { IsReady (graph_so_far self.now) }
         requires on_wires { q < length self.now.graph.graph.outputs }
@@ -86,7 +86,7 @@ impl Wires {
         self.graph.output_vertex(usize::from(q))
     }
 
-    // An edge joins the present spider to a new one of phase 0, which is the present one from here on, and corrects it.
+    // An edge joins the last spider to a new one of phase 0, which is the last one from here on, and corrects it.
     fn add_hadamard(&mut self, q: Qubit) -> Result<(), AllocError>
         requires ready { IsReady (graph_so_far self.old) }
         requires on_wires { q < length self.old.graph.graph.outputs }
@@ -102,7 +102,7 @@ impl Wires {
         self.table.add(here, &[next])
     }
 
-    // A phase is added to the present spider.
+    // A phase is added to the last spider.
     fn add_phase(&mut self, q: Qubit, phase: Sixteenth)
         requires ready { IsReady (graph_so_far self.old) }
         requires on_wires { q < length self.old.graph.graph.outputs }
@@ -116,7 +116,7 @@ impl Wires {
         self.graph.set_weight(here, plane, before.add(phase));
     }
 
-    // The edge between the present spiders comes where there is none, and goes where there is one.
+    // The edge between the last spiders comes where there is none, and goes where there is one.
     fn toggle(&mut self, p: Qubit, q: Qubit) -> Result<(), AllocError>
         requires ready { IsReady (graph_so_far self.old) }
         requires p_on_wires { p < length self.old.graph.graph.outputs }

@@ -1,5 +1,5 @@
--- What a generalised flow sees of an open graph: its vertices, what is adjacent, the planes, and the end_vertices of
--- the ends. It sees no phase. Backens, Miller-Bakewell, de Felice, Lobski and van de Wetering, "There and back
+-- What a generalised flow sees of an open graph: its vertices, what is adjacent, the planes, and which vertices have
+-- an input or an output. It sees no phase. Backens, Miller-Bakewell, de Felice, Lobski and van de Wetering, "There and back
 -- again: a circuit extraction tale" (Quantum 5, 421, 2021).
 use Rattle.std.specs.Prelude.{ℕ, Bool, if◌then◌else◌, not, ◌&&◌, ◌==◌, List}
 use Rattle.zx_model.specs.Bits.{xor, member}

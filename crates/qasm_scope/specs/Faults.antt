@@ -33,6 +33,7 @@ shape_of scope (Declared name) = shape_in (meaning_of name scope)
 shape_of scope U = Some (3, 1)
 shape_of scope Cx = Some (0, 2)
 
+-- there is no such gate
 abbrev pub is_no_gate : Option (ℕ × ℕ) → Bool
 is_no_gate shape = not (is_some shape)
 
@@ -48,6 +49,7 @@ has_other_name names (Binary operator f g) = has_other_name names f || has_other
 has_other_name names (Call function f) = has_other_name names f
 has_other_name names f = false
 
+-- there is no such register
 abbrev pub is_no_register : Option (ℕ × ℕ) → Bool
 is_no_register register = not (is_some register)
 
@@ -56,6 +58,7 @@ abbrev pub is_hidden : GateForm → Callee → Bool
 is_hidden form (Declared name) = is_in (form.parameters ++ form.qubits) name
 is_hidden form gate = false
 
+-- a statement of a body names a gate, an angle or a qubit that isn't known there
 abbrev pub body_has_unknown : Scope → GateForm → BodySentence → Bool
 body_has_unknown scope form (BodyApplied a) =
     is_hidden form a.gate || is_no_gate (shape_of scope a.gate)
@@ -76,6 +79,7 @@ abbrev pub has_other_shape : Option (ℕ × ℕ) → ℕ → ℕ → Bool
 has_other_shape None angles qubits = false
 has_other_shape (Some shape) angles qubits = not (angles == shape.0) || not (qubits == shape.1)
 
+-- it gives a gate another number of angles or qubits than the gate's declaration has
 abbrev pub body_has_wrong_count : Scope → BodySentence → Bool
 body_has_wrong_count scope (BodyApplied a) = has_other_shape (shape_of scope a.gate) (length a.angles) (length a.qubits)
 body_has_wrong_count scope (BodyBarrier names) = false
@@ -86,6 +90,7 @@ is_past (Some register) (Some index) = nat_le register.1 (numeral index)
 is_past (Some register) None = false
 is_past None index = false
 
+-- one of the indices isn't below its register's size
 abbrev pub has_past_index : Scope → List Operand → Bool
 has_past_index scope operands = list_any (λ operand. is_past (register_of scope operand) operand.index) operands
 
@@ -94,6 +99,7 @@ abbrev pub has_other_size : List ℕ → Bool
 has_other_size [] = false
 has_other_size (size ∷ sizes) = list_any (λ other. not (other == size)) sizes
 
+-- a statement of a body gives a gate one qubit twice
 abbrev pub body_has_same_qubit : BodySentence → Bool
 body_has_same_qubit (BodyApplied a) = has_twice bytes_eq a.qubits
 body_has_same_qubit (BodyBarrier names) = false

@@ -11,7 +11,7 @@ use Rattle.zx_gates.specs.declared.gate.Gate.{Gate}
 use Rattle.zx_gates.specs.declared.gate.Gate.TheVariants.{Phase}
 use Rattle.circuit_graph.specs.Translation.{by_hadamards, with_gate, phase_vertex, wires}
 
--- B is A with each phase gate of another phase, or taken out, and all else in place
+-- b is a, but that each phase gate may have another phase or be left out
 abbrev pub IsSkeleton : List Gate → List Gate → Type 0
 IsSkeleton [] b = b ≡ []
 IsSkeleton (Phase q k ∷ a) b =
@@ -38,6 +38,7 @@ abbrev pub is_idle : Gate → Bool
 is_idle (Phase q k) = k == 0
 is_idle other = false
 
+-- the gates without phase gates of phase 0
 abbrev pub without_idle : List Gate → List Gate
 without_idle gates = filter (λ gate. not (is_idle gate)) gates
 

@@ -7,7 +7,8 @@ use Rattle.zx_calculus.specs.Graph.{Graph}
 use Rattle.zx_calculus.specs.Steps.{Step, Delete, DropLone, FuseInto, FuseTwin, IsRun}
 use Rattle.teleport_laws.specs.Shifts.{negates, into_of}
 
--- a vertex; the vertex that went where so many steps were left; one that was dropped, whose phase doesn't matter
+-- `At v`: the vertex v; `Deleted n`: the vertex that a deletion took, n steps before the end; `Dropped`: one that was
+-- dropped, whose phase doesn't matter
 pub data Holder : Type 0 where
   At Deleted : ℕ → Holder
   Dropped : Holder

@@ -17,7 +17,7 @@ use Rattle.zx_calculus.specs.Counts.{odd_phases, even_interior, not_XY}
 abbrev pub delete_kind : ℕ → (ℕ → Bool) → ℕ → Kind → Kind
 delete_kind phase near p kind = if (phase == half_turn) && near p then half_turned kind else kind
 
--- u is an XZ or YZ vertex of half turns: it can be deleted
+-- u is an XZ or YZ vertex whose phase is 0 or a half turn: it can be deleted
 pub record IsDeletable (g : Graph) (u : ℕ) : Type 0 where
   pub there : Live g u
   pub plane : plane_of g u ≢ XY

@@ -27,7 +27,8 @@ pub record Edge : Type 0 where
   pub lower : ℕ
   pub higher : ℕ
 
--- an input or output wire at a vertex, and whether it carries a Hadamard
+-- an input or output wire at a vertex, and whether it carries a Hadamard; several inputs are told apart by their place
+-- in the list, and so are outputs
 pub record End : Type 0 where
   pub vertex : ℕ
   pub hadamard : Bool

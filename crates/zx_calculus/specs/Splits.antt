@@ -63,7 +63,7 @@ least_free_from n (i ∷ is) = if n == i then least_free_from (suc n) is else n
 abbrev pub least_free : List ℕ → ℕ
 least_free ids = least_free_from 0 ids
 
--- the vertex that a split makes: it takes the least free id
+-- the id of the vertex that a split makes, the least free one
 abbrev pub new_vertex : Graph → ℕ
 new_vertex g = least_free (ids g.vertices)
 

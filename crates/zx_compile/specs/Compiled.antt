@@ -1,4 +1,4 @@
--- What is said of either answer, and of the graph-like form of a diagram.
+-- What is said of the answers of `compile`, a circuit or that there is none, and of a diagram's graph-like form.
 use Rattle.std.specs.Prelude.{Vec, ℕ}
 use Rattle.std.specs.Global.{Global}
 use Rattle.zx_calculus.specs.Graph.{Graph}

@@ -57,5 +57,6 @@ odd_elementary (U q theta phi lambda) =
     odd_of theta + odd_of phi + odd_of lambda
 odd_elementary (Cx control target) = 0
 
+-- how many the gates cost together: the t of the bounds on what is written
 abbrev pub elementary_odd_phases : List ElementaryGate → ℕ
 elementary_odd_phases gates = sum_by odd_elementary gates

@@ -12,6 +12,7 @@ use Rattle.zx_gates.specs.declared.elementary.ElementaryGate.TheVariants.{U, Cx}
 -- U(a, b, c), its angles in sixteenth turns:
 -- 1 + z^a               z^(c+4)*(z^a - 1)
 -- z^(b+12)*(z^a - 1)    z^(b+c)*(1 + z^a)
+-- This is the published matrix, times 2*exp(i*(a+b+c)/2) as above; z^4 is i, and z^12 is -i.
 abbrev pub unitary : ℕ → ℕ → ℕ → Matrix
 unitary a b c false false = add one (root_power a)
 unitary a b c false true = mul (root_power (c + quarter_turn)) (add (root_power a) (neg one))

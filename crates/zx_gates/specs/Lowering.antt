@@ -13,9 +13,8 @@ use Rattle.zx_gates.specs.Elementary.{difference_of_phases}
 abbrev pub phase_gates : ℕ → ℕ → List Gate
 phase_gates q k = if k == 0 then [] else Phase q k ∷ []
 
--- The gates that stand for one, in the order in which they act. U(a, b, c) is the phase gate of c without a quarter
--- turn, H, that of a, H, and that of b and a quarter turn; where a is a whole number of quarter turns, there is a
--- shorter list.
+-- The gates that stand for one, the first to act first. U(a, b, c) is P(c - pi/2), H, P(a), H, P(b + pi/2), where P is
+-- the phase gate; where a is a whole number of quarter turns, there is a shorter list.
 abbrev pub lowered_gate : ElementaryGate → List Gate
 lowered_gate (U q a b c) =
     if a == 0 then phase_gates q (sum_of_phases b c) else

@@ -36,6 +36,7 @@ abbrev pub act_on : Matrix → ℕ → (List Bool → Number) → List Bool → 
 act_on matrix q f x =
     add (mul (matrix false (bit x q)) (f (slice_set x q false))) (mul (matrix true (bit x q)) (f (slice_set x q true)))
 
+-- the same for each gate: H, phase, NOT, CZ and CX
 abbrev pub act : Gate → (List Bool → Number) → List Bool → Number
 act (H q) f x = act_on hadamard q f x
 act (Phase q k) f x = act_on (phase k) q f x

@@ -6,6 +6,16 @@
 //! changes, and keeps the number of odd phases; `counts` counts gates by kind; no circuit's map is
 //! zero; a dozen facts on the maps of small circuits.
 //!
+//! Inside:
+//!
+//! - `gate`: the five gates, and the numbers of qubits.
+//! - `gate_list`: gates on some qubits, with memory for what is kept beside them.
+//! - `scaled_circuit`: a list of gates, and the scalar between its map and another one.
+//! - `elementary`: the two gates that are built into OpenQASM, and measurements.
+//! - `lowering`: what stands for each of these two.
+//! - `tally`: the numbers of gates of each kind; `counting` fills it.
+//! - `laws`: what holds of these definitions.
+//!
 //! ```rust
 //! let mut circuit = GateList::new(alloc, 2);
 //! circuit.push(Gate::H(0))?;

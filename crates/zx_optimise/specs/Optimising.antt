@@ -63,8 +63,8 @@ IsNoDearer a b =
     (a.odd < b.odd) ⊎ ((a.odd ≡ b.odd)
     × ((a.two_qubit < b.two_qubit) ⊎ ((a.two_qubit ≡ b.two_qubit) × (a.total ≤ b.total))))
 
--- What `opt` makes of a circuit without `--best`, by simplification, extraction and cleanup. The read circuit's map is
--- exactly the factor times its own.
+-- What `opt` promises without `--best`: rewrites lead to a reduced graph whose map the circuit has, with no more odd
+-- phases and few gates. The read circuit's map is exactly the factor times its own. That extraction made it isn't said.
 abbrev pub IsPlain : Circuit → Circuit → Type 0
 IsPlain read made = (factor : Scalar) × IsSimplified read made factor
 

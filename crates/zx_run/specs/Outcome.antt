@@ -127,7 +127,7 @@ IsOrFailedRead expected status = IsOrNoMemory expected status ⊎ (status ≡ Re
 abbrev pub IsFailed : Status → Type 0
 IsFailed status = (status ≡ ReadFault) ⊎ ((status ≡ WriteFault) ⊎ (status ≡ NoMemory))
 
--- the answers of a command that reads the source after which that was read to its end
+-- the answers after which the source was read to its end
 abbrev pub SaysEnd : Status → Type 0
 SaysEnd status =
     (status ≡ Done) ⊎ ((status ≡ No) ⊎ ((status ≡ WriteFault)

@@ -5,6 +5,6 @@ use Rattle.std.specs.Prelude.{ℕ, ◌^◌}
 abbrev pub most_simplified_root2 : ℕ
 most_simplified_root2 = 2 ^ 54
 
--- the same between two circuits
+-- the greatest exponent of the root of two, in size, in the scalar between a circuit and the simplified one
 abbrev pub most_circuit_root2 : ℕ
 most_circuit_root2 = 2 ^ 55

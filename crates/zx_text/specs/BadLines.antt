@@ -17,8 +17,8 @@ pub record CanBegin (IsFile : List ℕ → Type 0) (bytes : List ℕ) : Type 0 w
   pub rest : List ℕ
   pub file : IsFile (bytes ++ rest)
 
--- the lines before the one of this number, counted from 1, can begin a file, and with it they can't; where the text
--- ends before that line does, the text is no file
+-- The lines before the one of this number, counted from 1, can begin a file; with it they can't. Where the text ends
+-- before it, the text is no file.
 pub record IsFirstBad (IsFile : List ℕ → Type 0) (text : List ℕ) (line : ℕ) : Type 0 where
   pub before : ℕ
   pub number : line ≡ before + 1

@@ -19,7 +19,7 @@ has text words = list_any (λ word. bytes_eq word text) words
 abbrev pub is_separator : Text → Bool
 is_separator word = bytes_eq word (codes "--")
 
--- ---- `opt`, and flags
+-- `opt`, and flags
 
 -- the words without a `--` that stands last
 abbrev pub without_end : List Text → List Text
@@ -41,7 +41,7 @@ optimisation_of words =
     then Some (Optimise (has (codes "--best") words) (has (codes "--report") words) (has (codes "--scalar") words))
     else None
 
--- ---- `gen`, and three numbers
+-- `gen`, and three numbers
 
 -- the words without the first `--`
 abbrev pub without_separator : List Text → List Text
@@ -67,12 +67,12 @@ generation_of (seed_word ∷ qubits_word ∷ gates_word ∷ []) = do
   if nat_le 1 qubits then Some (Generate seed qubits gates) else None
 generation_of _ = None
 
--- ---- a command that has no words of its own
+-- a command that has no words of its own
 abbrev pub alone : Command → List Text → Option Command
 alone command [] = Some command
 alone command (word ∷ rest) = None
 
--- ---- the command of words, none where they give no command
+-- the command of words, none where they give no command
 abbrev pub command_of : List Text → Option Command
 command_of [] = None
 command_of (word ∷ rest) =

@@ -4,6 +4,11 @@
 //! they are none; only want of memory is an error. In that definition `clap` doesn't occur: the law
 //! `clap_agrees` says that it is what `clap` states of this command line.
 //!
+//! Inside:
+//!
+//! - `words`: the commands, and `command_in`, by `clap`.
+//! - `laws`: `clap_agrees`, and worked numbers.
+//!
 //! ```rust
 //! let command = command_in(alloc, &["opt", "--best"])?;
 //! // Some(Command::Optimise { best: true, report: false, scalar: false })

@@ -1,4 +1,4 @@
--- The present spider is the vertex at the output.
+-- The last spider is the vertex at the output.
 use Rattle.std.proofs.Common.{◌∙◌, sym, ap, Some}
 use Rattle.circuit_graph.specs.Translation.{phase_vertex}
 use Rattle.circuit_graph.proofs.Graphs.{present_is}
