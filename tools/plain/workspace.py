@@ -102,9 +102,10 @@ def _sources_of(repository: Path, crates: list[Crate]) -> dict[str, dict[str, So
     laws: dict[str, set[str]] = {}
     for crate in crates:
         files = {}
-        for path in sorted((repository / "crates" / crate.name / "src").glob("*.rt")):
-            shown = path.relative_to(repository)
-            source = files[path.stem] = Source(shown, path.read_text(encoding="utf-8"))
+        folder = repository / "crates" / crate.name / "src"
+        for path in sorted(folder.rglob("*.rt")):
+            name = path.relative_to(folder).with_suffix("").as_posix()
+            source = files[name] = Source(path.relative_to(repository), path.read_text(encoding="utf-8"))
             leave_out_proofs(source)
         if ("main" in files) != (crate.name == PROGRAM):
             raise UnknownForm(f"crates/{crate.name}: a program beside {PROGRAM}, or {PROGRAM} without a main.rt")
@@ -125,7 +126,9 @@ def _write_program(folder: Path, files: dict[str, Source]) -> None:
 def _write_package(folder: Path, crate: Crate, files: dict[str, Source], written: set[str]) -> None:
     (folder / "src").mkdir(parents=True)
     for name, source in files.items():
-        (folder / f"src/{name}.rs").write_text(source.text(), encoding="utf-8")
+        file = folder / f"src/{name}.rs"
+        file.parent.mkdir(exist_ok=True)
+        file.write_text(source.text(), encoding="utf-8")
     code = "\n".join(source.code for source in files.values())
     used = sorted(name for name in crate.below if name in written and re.search(rf"\b{name}::", code))
     no_tests = "" if "#[test]" in code else "test = false\n"

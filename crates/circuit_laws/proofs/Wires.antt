@@ -30,7 +30,7 @@ use Rattle.circuit_laws.proofs.Leaving.{leave, around, followed_is_form, picked,
 use Rattle.circuit_laws.proofs.Places.{first_is, slice_get-set, slice_get-set_other, one_place}
 
 -- ---- what stands at vertices of phase 0 without edges is 1
-vertex_product-one : (vs : List Vertex) (label : ℕ → Bool) → Distinct (ids vs) →
+pub vertex_product-one : (vs : List Vertex) (label : ℕ → Bool) → Distinct (ids vs) →
     ((u : ℕ) (b : Bool) → member u (ids vs) ≡ true → factor (kind_of vs u) b ≡ one) → vertex_product vs label ≡ one
 vertex_product-one [] label d h = refl
 vertex_product-one (v ∷ vs) label d h =

@@ -2,8 +2,4 @@
 #![tactic(auto)]
 
 #[cfg(test)]
-mod extraction;
-#[cfg(test)]
-mod few_rows;
-#[cfg(test)]
-mod translations;
+mod tests;

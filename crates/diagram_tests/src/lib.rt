@@ -2,12 +2,4 @@
 #![tactic(auto)]
 
 #[cfg(test)]
-mod circuits;
-#[cfg(test)]
-mod classes;
-#[cfg(test)]
-mod diagrams;
-#[cfg(test)]
-mod drawings;
-#[cfg(test)]
-mod like_forms;
+mod tests;

@@ -1,5 +1,5 @@
 -- Lines that lead anywhere are the lines of what they say.
-use Rattle.std.proofs.Common.{◌≡◌, ℕ, ◌+◌, ◌*◌, ◌/◌, ◌<◌, suc, Bool, true, eqb, ltb, ◌&&◌, List, [], ◌∷◌, ◌++◌, map, length, refl, sym, ap, ap₂, ◌∙◌, subst, ltb-true, eqb-true, append_assoc, arith, Some}
+use Rattle.std.proofs.Common.{◌≡◌, ℕ, ◌+◌, ◌*◌, ◌/◌, ◌<◌, ◌≤◌, suc, Bool, true, eqb, ltb, ◌&&◌, List, [], ◌∷◌, ◌++◌, map, length, refl, sym, ap, ap₂, ◌∙◌, subst, ltb-true, eqb-true, append_assoc, arith, Some}
 use Rattle.std.specs.List.{list_all}
 use Rattle.zx_model.specs.Phase.{turn}
 use Rattle.zx_calculus.proofs.Ids.{and-left, and-right}
@@ -152,23 +152,36 @@ edge_more version d e so fits =
     none_behind =
         ap₂ (λ is os. map Input is ++ map Output os) (none_there d.inputs (and-left _ _ after)) (none_there d.outputs (and-right (is_none d.inputs) _ after))
 
+-- a line behind four lists of lines is one behind the last of them
+behind_four : (a b c o : List Line) (l : Line) → (a ++ (b ++ (c ++ o))) ++ l ∷ [] ≡ a ++ (b ++ (c ++ (o ++ l ∷ [])))
+behind_four a b c o l =
+    append_assoc a (b ++ (c ++ o)) (l ∷ [])
+    ∙ ap (λ t. a ++ t) (append_assoc b (c ++ o) (l ∷ []) ∙ ap (λ t. b ++ t) (append_assoc c o (l ∷ [])))
+
+-- a file with other ends
+file_ends : {version : Version} {d : Diagram} → IsFile version d → (ins outs : List Leg) → list_all (λ l. ltb l.spider (length d.spiders)) ins ≡ true
+    → list_all (λ l. ltb l.spider (length d.spiders)) outs ≡ true → (length ins ≤ most_ends) × (length outs ≤ most_ends)
+    → IsFile version (record d { inputs = ins; outputs = outs })
+file_ends file ins outs inputs outputs few = record {
+  phases = file.phases;
+  edges = file.edges;
+  sorted = file.sorted;
+  inputs = inputs;
+  outputs = outputs;
+  few_inputs = few.0;
+  few_outputs = few.1;
+}
+
 -- ---- one more input, one more output
 input_more : (version : Version) (d : Diagram) (leg : Leg) → IsSoFar version (Open d) (diagram_lines version d) → input_fits d leg ≡ true
     → IsSoFar version (Open (input_added d leg)) (diagram_lines version d ++ Input leg ∷ [])
 input_more version d leg so fits =
     record {
-      lines_said = append_assoc front (middle ++ (map Input d.inputs ++ behind)) (Input leg ∷ [])
-          ∙ ap (λ t. front ++ t) (append_assoc middle (map Input d.inputs ++ behind) (Input leg ∷ [])
-          ∙ ap (λ t. middle ++ t) (shift (map Input d.inputs) behind (Input leg) none_behind ∙ ap (λ t. t ++ behind) (sym (map-last Input d.inputs leg))));
-      file = record {
-        phases = so.file.phases;
-        edges = so.file.edges;
-        sorted = so.file.sorted;
-        inputs = all-last (λ l. ltb l.spider (length d.spiders)) d.inputs leg so.file.inputs (and-left _ _ fits);
-        outputs = so.file.outputs;
-        few_inputs = omega (arith, few, length-last d.inputs leg);
-        few_outputs = so.file.few_outputs;
-      };
+      lines_said = behind_four (spider_lines version 0 d.spiders) (map Edge d.edges) (map Input d.inputs) behind (Input leg)
+          ∙ ap (λ t. spider_lines version 0 d.spiders ++ (map Edge d.edges ++ t)) last;
+      file = file_ends so.file (d.inputs ++ leg ∷ []) d.outputs
+          (all-last (λ l. ltb l.spider (length d.spiders)) d.inputs leg so.file.inputs (and-left _ _ fits)) so.file.outputs
+          (omega (arith, few, length-last d.inputs leg), so.file.few_outputs);
     }
   where
     others : (ltb (length d.inputs) most_ends && is_none d.outputs) ≡ true
@@ -177,58 +190,34 @@ input_more version d leg so fits =
     few : length d.inputs < most_ends
     few = ltb-true (length d.inputs) most_ends (and-left _ _ others)
 
-    front : List Line
-    front = spider_lines version 0 d.spiders
-
-    middle : List Line
-    middle = map Edge d.edges
-
     behind : List Line
     behind = map Output d.outputs
 
     none_behind : behind ≡ []
     none_behind = ap (map Output) (none_there d.outputs (and-right (ltb (length d.inputs) most_ends) _ others))
 
+    last : map Input d.inputs ++ (behind ++ Input leg ∷ []) ≡ map Input (d.inputs ++ leg ∷ []) ++ behind
+    last = sym (append_assoc (map Input d.inputs) behind (Input leg ∷ []))
+        ∙ shift (map Input d.inputs) behind (Input leg) none_behind ∙ ap (λ t. t ++ behind) (sym (map-last Input d.inputs leg))
+
 output_more : (version : Version) (d : Diagram) (leg : Leg) → IsSoFar version (Open d) (diagram_lines version d) → output_fits d leg ≡ true
     → IsSoFar version (Open (output_added d leg)) (diagram_lines version d ++ Output leg ∷ [])
 output_more version d leg so fits =
     record {
-      lines_said = append_assoc front (middle ++ (before ++ map Output d.outputs)) (Output leg ∷ [])
-          ∙ ap (λ t. front ++ t) (append_assoc middle (before ++ map Output d.outputs) (Output leg ∷ [])
-          ∙ ap (λ t. middle ++ t) (append_assoc before (map Output d.outputs) (Output leg ∷ [])
-          ∙ ap (λ t. before ++ t) (sym (map-last Output d.outputs leg))));
-      file = record {
-        phases = so.file.phases;
-        edges = so.file.edges;
-        sorted = so.file.sorted;
-        inputs = so.file.inputs;
-        outputs = all-last (λ l. ltb l.spider (length d.spiders)) d.outputs leg so.file.outputs (and-left _ _ fits);
-        few_inputs = so.file.few_inputs;
-        few_outputs = omega (arith, few, length-last d.outputs leg);
-      };
+      lines_said = behind_four (spider_lines version 0 d.spiders) (map Edge d.edges) (map Input d.inputs) (map Output d.outputs) (Output leg)
+          ∙ ap (λ t. spider_lines version 0 d.spiders ++ (map Edge d.edges ++ (map Input d.inputs ++ t))) (sym (map-last Output d.outputs leg));
+      file = file_ends so.file d.inputs (d.outputs ++ leg ∷ []) so.file.inputs
+          (all-last (λ l. ltb l.spider (length d.spiders)) d.outputs leg so.file.outputs (and-left _ _ fits))
+          (so.file.few_inputs, omega (arith, few, length-last d.outputs leg));
     }
   where
     few : length d.outputs < most_ends
     few = ltb-true (length d.outputs) most_ends (and-right (ltb leg.spider (length d.spiders)) _ fits)
 
-    front : List Line
-    front = spider_lines version 0 d.spiders
-
-    middle : List Line
-    middle = map Edge d.edges
-
-    before : List Line
-    before = map Input d.inputs
-
 -- the lines of a file are those of its diagram, then the last one
 pub lines-diagram : (version : Version) (d : Diagram) → lines version d ≡ diagram_lines version d ++ End ∷ []
 lines-diagram version d =
-    let a : List Line = spider_lines version 0 d.spiders in
-    let b : List Line = map Edge d.edges in
-    let c : List Line = map Input d.inputs in
-    let o : List Line = map Output d.outputs in
-    sym (append_assoc a (b ++ (c ++ o)) (End ∷ [])
-    ∙ ap (λ t. a ++ t) (append_assoc b (c ++ o) (End ∷ []) ∙ ap (λ t. b ++ t) (append_assoc c o (End ∷ []))))
+    sym (behind_four (spider_lines version 0 d.spiders) (map Edge d.edges) (map Input d.inputs) (map Output d.outputs) End)
 
 -- ---- one more line of any kind
 more : (version : Version) (d : Diagram) (l : Line) (next : Reader) → IsSoFar version (Open d) (diagram_lines version d) → diagram_step version (Open d) l ≡ Some next

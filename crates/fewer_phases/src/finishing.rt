@@ -7,25 +7,14 @@ ghost use Rattle.zx_peephole.specs.Tidy.{IsTidy};
 ghost use Rattle.fewer_phases.specs.Bounds.{most_root2_of_fewer};
 ghost use Rattle.fewer_phases.specs.Internal.Making.{IsMadeOf};
 
+use crate::limits::{LONG, MOST_QUBITS, MOST_WHOLE, WHOLE_EFFORT};
 use crate::long_lists::by_pieces;
 use crate::putting_in::joined;
 use crate::rounds::ends;
 use std::alloc::{AllocError, Global};
-use zx_gates::{GateList, Qubit, ScaledCircuit, counts};
+use zx_gates::{GateList, ScaledCircuit, counts};
 use zx_model::Scalar;
 use zx_pieces::{replace_pieces, shrink};
-
-// From how many odd phases on a list is looked at piece by piece.
-const LONG: u64 = 600;
-
-// The whole effort, in hundredths.
-const WHOLE: u64 = 100;
-
-// The most qubits of a circuit.
-const MOST_QUBITS: Qubit = 64;
-
-// The most gates of a list that is written again as a whole.
-const MOST_WHOLE: usize = 6_000;
 
 /// A circuit with fewer odd phases, by phases put in that do nothing together, and with pieces of it replaced by
 /// smaller ones, where such is found. The circuit's map is the scalar times its own.
@@ -63,7 +52,7 @@ fn shortest(alloc: Global, list: &GateList) -> Result<Option<ScaledCircuit>, All
             None => Ok(None),
         };
     }
-    let ends = ends(alloc, list, WHOLE)?;
+    let ends = ends(alloc, list, WHOLE_EFFORT)?;
     let mut best = None;
     for end in &ends {
         best = cheaper(best, finished(alloc, end)?);

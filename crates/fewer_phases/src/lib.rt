@@ -10,6 +10,7 @@
 #![tactic(auto)]
 
 mod finishing;
+mod limits;
 mod long_lists;
 mod putting_in;
 mod rounds;

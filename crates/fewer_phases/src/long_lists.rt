@@ -1,6 +1,6 @@
 //! Long lists, piece by piece.
 
-ghost use Rattle.std.specs.Prelude.{◌≡◌, ◌≤◌, ◌<◌, ◌++◌, length, IfOk, IfSome, OnOk, take, drop};
+ghost use Rattle.std.specs.Prelude.{◌≡◌, ◌≤◌, ◌<◌, ◌++◌, length, IfOk, IfSome, OnOk};
 ghost use Rattle.std.specs.List.{All};
 ghost use Rattle.zx_gates.specs.Circuit.{IsGateOn, most_qubits};
 ghost use Rattle.fewer_phases.specs.Bounds.{most_root2_of_fewer};

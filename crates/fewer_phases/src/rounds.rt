@@ -6,26 +6,13 @@ ghost use Rattle.zx_gates.specs.Circuit.{Circuit};
 ghost use Rattle.fewer_phases.specs.Bounds.{most_root2_of_fewer};
 ghost use Rattle.fewer_phases.specs.Internal.Making.{IsMadeOf};
 
+use crate::limits::{FEW_TRIES, MOST_SEEDS, ROUNDS, SEEDS, TRIES};
 use crate::putting_in::{joined, teleported_with, with_fewer};
 use identity_search::{propose_at_length, propose_shortly};
 use std::alloc::{AllocError, Global};
 use zx_gates::{GateList, ScaledCircuit, counts};
 use zx_identities::Insertion;
 use zx_model::Scalar;
-
-// How often phases are put in at most.
-const ROUNDS: u64 = 400;
-
-// How many groups are drawn besides one for each two odd phases.
-const TRIES: u64 = 40;
-
-// How many groups are drawn where a long search came before.
-const FEW_TRIES: u64 = 20;
-
-// How many seeds are tried at most, and for how many odd phases one seed.
-const MOST_SEEDS: u64 = 8;
-
-const SEEDS: u64 = 600;
 
 /// Circuits with fewer odd phases, all with as many, by phases put in that do nothing together; none where such aren't
 /// found. The circuit's map is each one's scalar times its own. Of the whole effort so many hundredths are made.

@@ -2,8 +2,4 @@
 #![tactic(auto)]
 
 #[cfg(test)]
-mod diagram_files;
-#[cfg(test)]
-mod graph_files;
-#[cfg(test)]
-mod written_graphs;
+mod tests;

@@ -3,14 +3,4 @@
 #![tactic(auto)]
 
 #[cfg(test)]
-mod drawing;
-#[cfg(test)]
-mod finding;
-#[cfg(test)]
-mod flows;
-#[cfg(test)]
-mod small_graphs;
-#[cfg(test)]
-mod tables;
-#[cfg(test)]
-mod verdicts;
+mod tests;

@@ -3,16 +3,4 @@
 #![tactic(auto)]
 
 #[cfg(test)]
-mod circuits;
-#[cfg(test)]
-mod cleanup;
-#[cfg(test)]
-mod generation;
-#[cfg(test)]
-mod lowering;
-#[cfg(test)]
-mod reports;
-#[cfg(test)]
-mod scalars;
-#[cfg(test)]
-mod texts;
+mod tests;

@@ -6,10 +6,10 @@ use Rattle.zx_calculus.specs.Steps.{FuseTwin}
 use Rattle.zx_calculus.specs.Splits.{new_vertex}
 use Rattle.gflow_laws.specs.Seen.{seen}
 use Rattle.gflow_laws.specs.Flow.{Correction}
-use Rattle.gflow_laws.specs.Complements.{complement_table}
-use Rattle.gflow_laws.specs.Pivots.{pivot_table}
-use Rattle.gflow_laws.specs.Removals.{removal_table}
-use Rattle.gflow_laws.specs.Splits.{split_input_table, split_output_table}
+pub use Rattle.gflow_laws.specs.Complements.{complement_table}
+pub use Rattle.gflow_laws.specs.Pivots.{pivot_table}
+pub use Rattle.gflow_laws.specs.Removals.{removal_table}
+pub use Rattle.gflow_laws.specs.Splits.{split_input_table, split_output_table}
 
 -- the flow after a step of g
 abbrev pub table_after : Graph → Step → List Correction → List Correction

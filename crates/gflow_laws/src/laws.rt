@@ -13,11 +13,7 @@ ghost use Rattle.gflow_laws.specs.Seen.{Seen, seen, odd, complemented};
 ghost use Rattle.gflow_laws.specs.Flow.{Correction, is_in, IsFlowOf, IsFlow, SameSets};
 ghost use Rattle.gflow_laws.specs.Kept.{IsKept};
 ghost use Rattle.gflow_laws.specs.Tables.{symmetric_difference};
-ghost use Rattle.gflow_laws.specs.Complements.{complement_table};
-ghost use Rattle.gflow_laws.specs.Pivots.{pivot_table};
-ghost use Rattle.gflow_laws.specs.Removals.{removal_table};
-ghost use Rattle.gflow_laws.specs.Splits.{split_input_table, split_output_table};
-ghost use Rattle.gflow_laws.specs.Steps.{table_after};
+ghost use Rattle.gflow_laws.specs.Steps.{table_after, complement_table, pivot_table, removal_table, split_input_table, split_output_table};
 ghost use Rattle.gflow_laws.specs.Correcting.{Distinct, Simple, Strict, Corrects, Alike, FlowAsFunctions};
 
 /// Each rewrite turns a flow of the old graph into a flow of the new one.

@@ -16,6 +16,7 @@ use Rattle.zx_calculus.proofs.Ids.{by_test, by_equal, member-here, member-there}
 use Rattle.zx_calculus.proofs.Parity.{quad-xor}
 use Rattle.zx_calculus.proofs.Pairs.{quad-pair}
 use Rattle.zx_calculus.proofs.Forms.{Ignores, end_product-labelled}
+use Rattle.zx_calculus.proofs.Splits.{mark_toggled}
 use Rattle.zx_diagram.specs.Diagram.{numbers_from}
 use Rattle.graph_like.specs.LikeForm.{surplus_in, placed_in, hangs}
 use Rattle.graph_like.proofs.ClassLemmas.{member-numbers_from, Distinct-numbers_from}
@@ -110,14 +111,8 @@ surplus_scale-nonzero seen (e ∷ es) =
 split_end : (m a b : Bool) (p : Number) →
     add (mul (sign (a && false)) (mul (end_factor (not m) false b) p)) (mul (sign (a && true)) (mul (end_factor (not m) true b) p))
     ≡ mul (split_left m) (mul (end_factor m a b) p)
-split_end true true true p = simp expand
-split_end true true false p = simp expand
-split_end true false true p = simp expand
-split_end true false false p = simp expand
-split_end false true true p = simp expand
-split_end false true false p = simp expand
-split_end false false true p = simp expand
-split_end false false false p = simp expand
+split_end m true b p = rw one-mul (mark_toggled m true b p)
+split_end m false b p = rw one-mul (mark_toggled m false b p)
 
 take_out : (s h f e g : Number) → mul (mul s h) (mul (mul f e) g) ≡ mul s (mul f (mul h (mul e g)))
 take_out s h f e g = simp sorted

@@ -7,6 +7,9 @@ use std::alloc::{AllocError, Global};
 use zx_gates::{Gate, Qubit};
 use zx_model::Sixteenth;
 
+// How many columns there have to be more than are independent, so that a flat may gain.
+const LEAST_EXCESS: usize = 4;
+
 /// Phases that can be brought together at a place, as phases about parities behind Clifford gates.
 #[derive(Drop)]
 pub(crate) struct Group {
@@ -76,8 +79,14 @@ impl Group {
     }
 }
 
-/// How many of these columns are independent.
-pub(crate) fn rank(alloc: Global, columns: &[u64]) -> Result<usize, AllocError> {
+/// Whether there are so many more columns than independent ones that a flat may hold half of its points.
+pub(crate) fn are_dependent(alloc: Global, columns: &[u64]) -> Result<bool, AllocError> {
+    let rank = rank(alloc, columns)?;
+    Ok(columns.len().saturating_sub(rank) >= LEAST_EXCESS)
+}
+
+// How many of these columns are independent.
+fn rank(alloc: Global, columns: &[u64]) -> Result<usize, AllocError> {
     let mut reduced: Vec<u64> = Vec::new(alloc);
     for column in columns {
         let mut left = *column;

@@ -12,16 +12,41 @@ const MOST_ENDS: usize = 3;
 
 const FEW_WALKS: usize = 24;
 
+// For sets of how many columns most is done.
+const MIDDLE: usize = 150;
+
 /// How much is done in a search.
 #[derive(Clone, Copy)]
 pub(crate) struct Effort {
-    /// How many walks begin.
-    pub(crate) walks: usize,
-    /// How many steps there are in all.
-    pub(crate) steps: usize,
+    // How many walks begin.
+    walks: usize,
+    // How many steps there are in all.
+    steps: usize,
 }
 
 impl Effort {
+    // That for a set of `MIDDLE` columns.
+    const MOST: Effort = Effort {
+        walks: 96,
+        steps: 2_200_000,
+    };
+
+    /// That for a set of so many columns: with more than `MIDDLE` less in proportion; with fewer less too, steps by the
+    /// square.
+    pub(crate) fn for_columns(columns: usize) -> Effort {
+        let Effort { walks, steps } = Effort::MOST;
+        if columns > MIDDLE {
+            return Effort {
+                walks: part(walks, MIDDLE, columns),
+                steps: part(steps, MIDDLE, columns),
+            };
+        }
+        Effort {
+            walks: part(walks, columns, MIDDLE).max(1),
+            steps: part(part(steps, columns, MIDDLE), columns, MIDDLE),
+        }
+    }
+
     /// So many hundredths of it.
     pub(crate) fn part(self, percent: u64) -> Effort {
         let percent = percent as usize;
@@ -30,6 +55,10 @@ impl Effort {
             steps: self.steps.saturating_mul(percent) / 100,
         }
     }
+}
+
+fn part(all: usize, of: usize, whole: usize) -> usize {
+    all.saturating_mul(of).checked_div(whole).unwrap_or(0)
 }
 
 // Where a walk stands.

@@ -1,7 +1,7 @@
 //! Which phases may be put in.
 
 use crate::drawing::Drawing;
-use crate::groups::{Group, is_clifford, rank};
+use crate::groups::{Group, are_dependent, is_clifford};
 use crate::idle::idle_gates;
 use crate::populations::{Effort, search, search_shortly};
 use crate::walk::Walk;
@@ -13,18 +13,8 @@ use zx_identities::Insertion;
 // The most qubits of a list.
 const MOST_QUBITS: Qubit = 64;
 
-// How many columns there have to be more than are independent, and how many in all, so that a flat may gain.
-const LEAST_EXCESS: usize = 4;
-
+// How many columns there have to be, so that a flat may gain.
 const FEWEST_COLUMNS: usize = 8;
-
-// How many steps and walks there are for a group of `MIDDLE` columns. With more there are fewer in proportion; with
-// fewer there are fewer too, steps by the square.
-const STEPS: usize = 2_200_000;
-
-const WALKS: usize = 96;
-
-const MIDDLE: usize = 150;
 
 // How many steps a short walk has besides those that gain.
 const SHORT_STEPS: usize = 100;
@@ -54,7 +44,7 @@ pub fn propose_at_length(
         return Ok(found);
     };
     let columns = group.columns(alloc)?;
-    let effort = effort_for(columns.len()).part(percent);
+    let effort = Effort::for_columns(columns.len()).part(percent);
     for new in search(alloc, &columns, effort, u64::from(drawing.word()))? {
         if new.len() < columns.len() {
             if let Some(insertion) = exchange(alloc, circuit.qubits(), &group, &new)? {
@@ -181,30 +171,9 @@ fn large_group(
     Ok(None)
 }
 
-// Whether there are more columns than independent ones, by so many that a flat may hold half of its points.
+// Whether a flat may hold half of its points.
 fn may_gain(alloc: Global, columns: &[u64]) -> Result<bool, AllocError> {
-    if columns.len() < FEWEST_COLUMNS {
-        return Ok(false);
-    }
-    let rank = rank(alloc, columns)?;
-    Ok(columns.len().saturating_sub(rank) >= LEAST_EXCESS)
-}
-
-fn effort_for(columns: usize) -> Effort {
-    if columns > MIDDLE {
-        return Effort {
-            walks: part(WALKS, MIDDLE, columns),
-            steps: part(STEPS, MIDDLE, columns),
-        };
-    }
-    Effort {
-        walks: part(WALKS, columns, MIDDLE).max(1),
-        steps: part(part(STEPS, columns, MIDDLE), columns, MIDDLE),
-    }
-}
-
-fn part(all: usize, of: usize, whole: usize) -> usize {
-    all.saturating_mul(of).checked_div(whole).unwrap_or(0)
+    Ok(columns.len() >= FEWEST_COLUMNS && are_dependent(alloc, columns)?)
 }
 
 // What puts phases about these columns in the place of a group's.

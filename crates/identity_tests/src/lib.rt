@@ -3,6 +3,4 @@
 #![tactic(auto)]
 
 #[cfg(test)]
-mod inserting;
-#[cfg(test)]
-mod parities;
+mod tests;

@@ -3,12 +3,4 @@
 #![tactic(auto)]
 
 #[cfg(test)]
-mod drawings;
-#[cfg(test)]
-mod moves;
-#[cfg(test)]
-mod reductions;
-#[cfg(test)]
-mod refusals;
-#[cfg(test)]
-mod rewrites;
+mod tests;

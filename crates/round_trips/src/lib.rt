@@ -3,18 +3,4 @@
 #![tactic(auto)]
 
 #[cfg(test)]
-mod found_flows;
-#[cfg(test)]
-mod modular;
-#[cfg(test)]
-mod replays;
-#[cfg(test)]
-mod sameness;
-#[cfg(test)]
-mod sums;
-#[cfg(test)]
-mod teleported;
-#[cfg(test)]
 mod tests;
-#[cfg(test)]
-mod trips;

@@ -2,14 +2,4 @@
 #![tactic(auto)]
 
 #[cfg(test)]
-mod adapters;
-#[cfg(test)]
-mod failing_streams;
-#[cfg(test)]
-mod pieces;
-#[cfg(test)]
-mod streams;
-#[cfg(test)]
-mod words;
-#[cfg(test)]
-mod worked_runs;
+mod tests;

@@ -3,10 +3,4 @@
 #![tactic(auto)]
 
 #[cfg(test)]
-mod angles;
-#[cfg(test)]
-mod circuits;
-#[cfg(test)]
-mod statements;
-#[cfg(test)]
-mod tokens;
+mod tests;

@@ -7,17 +7,12 @@ use Rattle.std.proofs.lemmas.Nat.{ones-le}
 use Rattle.std.proofs.lemmas.Nat.Bits.{bit_at-lt, bit_at_xor, bit_at_and, bit_at_lowest, bit_at-suc, bit_at-zero, same_from_bits_below}
 use lib.Count.{ones_step}
 use Rattle.zx_model.specs.Bits.{xor, one_if}
+use Rattle.zx_model.proofs.BitLemmas.{each_below_two, sum_of_bits}
 use Rattle.zx_bits.specs.Internal.Words.{digit, is_odd, how_many}
-use Rattle.zx_bits.proofs.Sums.{sum_of_bits}
 use Rattle.zx_bits.proofs.Counts.{many-same}
 
 least_of_bits : (x y : ℕ) → x < 2 → y < 2 → eqb (min x y) 1 ≡ (eqb x 1 && eqb y 1)
-least_of_bits zero zero p q = refl
-least_of_bits zero (suc zero) p q = refl
-least_of_bits (suc zero) zero p q = refl
-least_of_bits (suc zero) (suc zero) p q = refl
-least_of_bits x (suc (suc y)) p q = absurd (omega arith)
-least_of_bits (suc (suc x)) y p q = absurd (omega arith)
+least_of_bits = each_below_two (λ x y. eqb (min x y) 1 ≡ (eqb x 1 && eqb y 1)) refl refl refl refl
 
 pub digit-xor : (a b i : ℕ) → digit (bit_xor a b) i ≡ xor (digit a i) (digit b i)
 digit-xor a b i = ap (λ d. eqb d 1) (bit_at_xor a b i) ∙ sum_of_bits (bit_at a i) (bit_at b i) (bit_at-lt a i) (bit_at-lt b i)

@@ -1,20 +1,12 @@
 -- Sums of bits, and whether an odd number of bits is set.
 use Rattle.std.proofs.Common.{◌≡◌, refl, sym, ◌∙◌, ap, ap₂, ℕ, zero, suc, ◌+◌, ◌%◌, ◌<◌, ◌≤◌, Bool, true, false, eqb, arith}
 use Rattle.zx_model.specs.Bits.{xor, one_if}
-use Rattle.zx_model.proofs.BitLemmas.{xor-false, false-xor, xor-same, xor_comm, xor_assoc, xor_left_comm, xor-xor}
+use Rattle.zx_model.proofs.BitLemmas.{xor-false, false-xor, xor-same, xor_comm, xor_assoc, xor_left_comm, xor-xor, sum_of_bits}
 use Rattle.zx_bits.specs.Internal.Words.{how_many, is_odd}
 use Rattle.zx_bits.proofs.Counts.{many-same, many-none, many-add, many-either}
 
 -- sums of bits, sorted; equal summands in pairs vanish
 pub ruleset sums = (xor-false, false-xor, xor-same, xor_comm, xor_assoc, xor_left_comm, xor-xor)
-
-pub sum_of_bits : (x y : ℕ) → x < 2 → y < 2 → eqb ((x + y) % 2) 1 ≡ xor (eqb x 1) (eqb y 1)
-sum_of_bits zero zero p q = refl
-sum_of_bits zero (suc zero) p q = refl
-sum_of_bits (suc zero) zero p q = refl
-sum_of_bits (suc zero) (suc zero) p q = refl
-sum_of_bits x (suc (suc y)) p q = absurd (omega arith)
-sum_of_bits (suc (suc x)) y p q = absurd (omega arith)
 
 sum_odd : (x y : ℕ) → eqb ((x + y) % 2) 1 ≡ xor (eqb (x % 2) 1) (eqb (y % 2) 1)
 sum_odd x y =

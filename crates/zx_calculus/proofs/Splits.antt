@@ -185,7 +185,7 @@ member-move_end b new ends v ne there = ⊎_elim
     (cases_eq v b)
 
 -- a Hadamard at a bit, then at a label: twice nothing, or the other mark
-mark_toggled : (hadamard l b : Bool) (p : Number) →
+pub mark_toggled : (hadamard l b : Bool) (p : Number) →
     add (mul (end_factor (not hadamard) false b) p) (mul (sign l) (mul (end_factor (not hadamard) true b) p)) ≡ mul (split_left hadamard) (mul (end_factor hadamard l b) p)
 mark_toggled true true true p = simp expand
 mark_toggled true true false p = simp expand

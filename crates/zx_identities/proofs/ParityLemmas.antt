@@ -8,7 +8,7 @@ use Rattle.std.proofs.lemmas.Nat.{xor_shr, pow_below}
 use lib.Bits.{xor_add_and, bit_and}
 use Rattle.zx_model.specs.Bits.{xor, bit}
 use Rattle.zx_model.specs.Phase.{turn, half_turn}
-use Rattle.zx_model.proofs.BitLemmas.{expand}
+use Rattle.zx_model.proofs.BitLemmas.{expand, sum_of_bits}
 use Rattle.zx_gates.specs.Circuit.{IsGateOn}
 use Rattle.zx_gates.specs.declared.gate.Gate.{Gate}
 use Rattle.zx_gates.specs.declared.gate.Gate.TheVariants.{Cx, Not}
@@ -18,14 +18,6 @@ use Rattle.zx_identities.specs.declared.parities.Term.{Term}
 use Rattle.zx_identities.specs.Internal.Parities.{lowest, picked, value, state, term_phase, phase_of, controlled_phase, units_from, IsReading, IsRead}
 
 -- ---- sums of parities
-sum_of_bits : (m n : ℕ) → m < 2 → n < 2 → eqb ((m + n) % 2) 1 ≡ xor (eqb m 1) (eqb n 1)
-sum_of_bits zero zero p q = refl
-sum_of_bits zero (suc zero) p q = refl
-sum_of_bits (suc zero) zero p q = refl
-sum_of_bits (suc zero) (suc zero) p q = refl
-sum_of_bits m (suc (suc n)) p q = absurd (omega arith)
-sum_of_bits (suc (suc m)) n p q = absurd (omega arith)
-
 lowest-xor : (a b : ℕ) → lowest (bit_xor a b) ≡ xor (lowest a) (lowest b)
 lowest-xor a b =
     ap (λ d. eqb d 1) (same (bit_xor a b) (bit_and a b) (xor_add_and a b))

@@ -64,21 +64,11 @@ fn is_without_h(gate: &Gate) -> bool
 fn are_by_eighths(gates: &[Gate]) -> bool
     ensures { result ≡ list_all is_by_eighths gates.now }
 {
-    for gate in gates {
-        if !is_by_eighths(gate) {
-            return false;
-        }
-    }
-    true
+    gates.iter().all(|gate| is_by_eighths(gate))
 }
 
 fn are_without_h(gates: &[Gate]) -> bool
     ensures { result ≡ list_all is_without_h gates.now }
 {
-    for gate in gates {
-        if !is_without_h(gate) {
-            return false;
-        }
-    }
-    true
+    gates.iter().all(|gate| is_without_h(gate))
 }

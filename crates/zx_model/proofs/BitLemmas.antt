@@ -1,5 +1,5 @@
 -- Bits form a field: the sum is `xor`, the product `&&`.
-use Rattle.std.proofs.Common.{◌≡◌, Bool, true, false, not, ◌&&◌, refl}
+use Rattle.std.proofs.Common.{◌≡◌, Bool, true, false, not, ◌&&◌, ℕ, zero, suc, ◌+◌, ◌%◌, ◌<◌, eqb, refl, arith}
 use Rattle.zx_model.specs.Bits.{xor}
 
 pub xor-false : (a : Bool) → xor a false ≡ a
@@ -100,3 +100,16 @@ and-right false b h = cc
 -- By this set `simp` proves each identity of bits in `xor` and `&&`: both sides become sums of products, sorted,
 -- and equal terms cancel.
 pub ruleset expand = (false-and, and-false, true-and, and-true, false-xor, xor-false, and-xor, xor-and, and_assoc, and-same, and-and, and_comm, and_left_comm, xor_assoc, xor-same, xor-xor, xor_comm, xor_left_comm)
+
+-- ---- bits as numbers
+-- what holds of the numbers 0 and 1 holds of any two below 2
+pub each_below_two : (P : ℕ → ℕ → Type 0) → P 0 0 → P 0 1 → P 1 0 → P 1 1 → (x y : ℕ) → x < 2 → y < 2 → P x y
+each_below_two P a b c d zero zero p q = a
+each_below_two P a b c d zero (suc zero) p q = b
+each_below_two P a b c d (suc zero) zero p q = c
+each_below_two P a b c d (suc zero) (suc zero) p q = d
+each_below_two P a b c d x (suc (suc y)) p q = absurd (omega arith)
+each_below_two P a b c d (suc (suc x)) y p q = absurd (omega arith)
+
+pub sum_of_bits : (x y : ℕ) → x < 2 → y < 2 → eqb ((x + y) % 2) 1 ≡ xor (eqb x 1) (eqb y 1)
+sum_of_bits = each_below_two (λ x y. eqb ((x + y) % 2) 1 ≡ xor (eqb x 1) (eqb y 1)) refl refl refl refl

@@ -27,18 +27,6 @@ const LARGE: usize = 200;
 
 const SEARCHED_LARGE: usize = 400;
 
-// How often a piece of a long list is tried for each gate, and how often without a gain before it is left alone.
-const TRIES: usize = 6;
-
-const IDLE: usize = 1;
-
-// The same for a short list, and besides.
-const SHORT_TRIES: usize = 50;
-
-const SHORT_IDLE: usize = 40;
-
-const SHORT_MORE: usize = 1_000;
-
 // Among how many gates in a row a piece is looked for.
 const REACH: usize = 3_000;
 
@@ -61,12 +49,12 @@ pub(crate) struct Manner {
 /// How a piece is written again.
 #[derive(Clone, Copy)]
 pub(crate) struct Effort {
-    /// How often it is tried for each gate. Where it is never, the piece is written again as a whole.
-    pub(crate) tries_each: usize,
-    /// How often it is tried for each gate without a gain before it is left alone.
-    pub(crate) idle_each: usize,
-    /// How often it is tried besides.
-    pub(crate) more: usize,
+    // How often it is tried for each gate. Where it is never, the piece is written again as a whole.
+    tries_each: usize,
+    // How often it is tried for each gate without a gain before it is left alone.
+    idle_each: usize,
+    // How often it is tried besides.
+    more: usize,
 }
 
 impl Effort {
@@ -75,6 +63,20 @@ impl Effort {
         tries_each: 0,
         idle_each: 0,
         more: 0,
+    };
+
+    // That for a piece of a long list.
+    const FEW_TRIES: Effort = Effort {
+        tries_each: 6,
+        idle_each: 1,
+        more: 0,
+    };
+
+    // That for a short list as a whole.
+    const MANY_TRIES: Effort = Effort {
+        tries_each: 50,
+        idle_each: 40,
+        more: 1_000,
     };
 
     /// How often a piece of so many gates is tried.
@@ -127,11 +129,7 @@ impl Manner {
     fn short(number: usize) -> Manner {
         match SHORT_WIDTHS.get(number) {
             Some(width) => Manner::narrow(*width, usize::MAX),
-            None => Manner::whole(Effort {
-                tries_each: SHORT_TRIES,
-                idle_each: SHORT_IDLE,
-                more: SHORT_MORE,
-            }),
+            None => Manner::whole(Effort::MANY_TRIES),
         }
     }
 
@@ -170,11 +168,7 @@ impl Manner {
             qubits,
             gates: SEARCHED_LARGE,
             reach: REACH,
-            effort: Effort {
-                tries_each: TRIES,
-                idle_each: IDLE,
-                more: 0,
-            },
+            effort: Effort::FEW_TRIES,
         }
     }
 }

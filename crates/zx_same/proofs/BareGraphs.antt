@@ -1,5 +1,5 @@
 -- The sum of a bare graph is the identity's map, up to a scalar.
-use Rattle.std.proofs.Common.{◌≡◌, inl, inr, refl, sym, ◌∙◌, ap, ap₂, ℕ, Bool, true, false, not, cond, ◌&&◌, ◌||◌, eqb, List, [], ◌∷◌, length, true≢false, ne_eqb, arith}
+use Rattle.std.proofs.Common.{◌≡◌, inl, inr, refl, sym, ◌∙◌, ap, ap₂, ℕ, Bool, true, false, not, ◌&&◌, ◌||◌, eqb, List, [], ◌∷◌, length, true≢false, arith}
 use Rattle.std.specs.List.{list_all, zip}
 use Rattle.std.proofs.lemmas.Bool.{eqb-true, or_cases}
 use Rattle.zx_model.specs.Bits.{xor, member}
@@ -10,15 +10,15 @@ use Rattle.zx_model.proofs.Powers.{root_power-zero}
 use Rattle.zx_model.proofs.ProportionalLemmas.{proportional_of_scaled}
 use Rattle.zx_model.proofs.Ring.{one-mul, one_nonzero}
 use Rattle.zx_model.proofs.SumLemmas.{sum_over_same}
-use Rattle.zx_calculus.specs.Graph.{XY, XZ, YZ, Plane, Kind, Vertex, End, Graph, ids, kind_of, joined, neighbours, is_XY, is_interior, phase_of, end_vertices, in_order, different, Distinct, WellFormed}
+use Rattle.zx_calculus.specs.Graph.{XY, XZ, YZ, Plane, Kind, Vertex, End, Graph, ids, kind_of, joined, neighbours, is_XY, is_interior, phase_of, end_vertices, in_order, different, WellFormed}
 use Rattle.zx_calculus.specs.Sum.{factor, factor_in, vertex_product, sum}
 use Rattle.zx_calculus.proofs.Edges.{joined_comm}
 use Rattle.zx_calculus.proofs.Forms.{sum_is_form}
-use Rattle.zx_calculus.proofs.Ids.{and-left, and-right, not-true, by_test, eqb-self, member-different, member-there, apart_of_member}
-use Rattle.zx_calculus.proofs.Booleans.{or-true}
+use Rattle.zx_calculus.proofs.Ids.{and-left, and-right, not-true, by_test, eqb-self, member-different, member-there}
 use Rattle.zx_calculus.proofs.Splitting.{distinct, all_at, absent_from, no_loop}
 use Rattle.zx_calculus.proofs.Toggling.{member-neighbours}
 use Rattle.zx_gates.specs.Maps.{amp}
+use Rattle.circuit_laws.proofs.Wires.{vertex_product-one}
 use Rattle.zx_same.specs.Bare.{is_bare_vertex, is_only_neighbour, is_wire_at_vertex, is_wire_along_edge, is_bare_wire, is_bare}
 use Rattle.zx_same.proofs.WireSums.{IsAtVertex, IsAlongEdge, IsFirst, AreWires, HoldEnds, IsIdentity, summand, wires_sum}
 
@@ -164,17 +164,6 @@ factor-zero kind b plane phase = at kind.plane b plane
     at XY true h = ap root_power phase ∙ root_power-zero
     at XZ b h = absurd (true≢false (sym h))
     at YZ b h = absurd (true≢false (sym h))
-
-vertex_product-one : (vs : List Vertex) (label : ℕ → Bool) → Distinct (ids vs) →
-    ((u : ℕ) (b : Bool) → member u (ids vs) ≡ true → factor (kind_of vs u) b ≡ one) → vertex_product vs label ≡ one
-vertex_product-one [] label d h = refl
-vertex_product-one (v ∷ vs) label d h =
-    ap₂ mul
-    (ap (λ b. factor (cond b v.kind (kind_of vs v.id)) (label v.id)) (sym (eqb-self v.id)) ∙ h v.id (label v.id) (ap (λ b. b || member v.id (ids vs)) (eqb-self v.id)))
-    (vertex_product-one vs label d.1
-    (λ u b t. ap (λ e. factor (cond e v.kind (kind_of vs u)) b) (sym (ne_eqb u v.id (apart_of_member u v.id (ids vs) t d.0)))
-    ∙ h u b (ap (λ e. eqb u v.id || e) t ∙ or-true (eqb u v.id))))
-    ∙ one-mul one
 
 -- ---- the graph
 module _ (g : Graph) (w : WellFormed g) (bare : is_bare g ≡ true) where

@@ -8,20 +8,17 @@ use Rattle.zx_model.proofs.Domain.{mul-nonzero}
 use Rattle.zx_model.proofs.Ring.{expand, one_nonzero, two_nonzero, mul-zero, zero-mul, mul-neg, neg-mul, neg-neg, neg-zero}
 use Rattle.zx_calculus.specs.Graph.{End, end_vertices, Distinct}
 use Rattle.zx_calculus.proofs.Ids.{by_equal, member-here, member-there}
+use Rattle.zx_calculus.proofs.WorkedSums.{each_two}
 use Rattle.zx_same.proofs.EndTransforms.{meeting, meetings}
 
 -- ---- two ends that meet, at each labels
 pub meeting-marks : (g h k l : Bool) → xor g h ≡ true → meeting g h k l ≡ sign (k && l)
 meeting-marks false false k l e = absurd (true≢false (sym e))
 meeting-marks true true k l e = absurd (true≢false (sym e))
-meeting-marks false true false false e = simp expand
-meeting-marks false true false true e = simp expand
-meeting-marks false true true false e = simp expand
-meeting-marks false true true true e = simp expand
-meeting-marks true false false false e = simp expand
-meeting-marks true false false true e = simp expand
-meeting-marks true false true false e = simp expand
-meeting-marks true false true true e = simp expand
+meeting-marks false true k l e =
+    each_two (λ k l. meeting false true k l ≡ sign (k && l)) (simp expand) (simp expand) (simp expand) (simp expand) k l
+meeting-marks true false k l e =
+    each_two (λ k l. meeting true false k l ≡ sign (k && l)) (simp expand) (simp expand) (simp expand) (simp expand) k l
 
 pub meeting-alike : (g h k : Bool) → xor g h ≡ false → meeting g h k k ≡ (if g then two else one)
 meeting-alike false true k e = absurd (true≢false e)
@@ -95,11 +92,14 @@ meets_input i o (a ∷ ins) [] m = absurd m
 meets_input i o (a ∷ ins) (b ∷ outs) (inl here) = ap (λ e. member e.vertex (end_vertices (a ∷ ins))) here.0 ∙ member-here a.vertex (end_vertices ins)
 meets_input i o (a ∷ ins) (b ∷ outs) (inr there) = member-there i.vertex a.vertex (end_vertices ins) (meets_input i o ins outs there)
 
+flipped : (i o : End) (ins outs : List End) → Meet i o ins outs → Meet o i outs ins
+flipped i o [] outs m = absurd m
+flipped i o (a ∷ ins) [] m = absurd m
+flipped i o (a ∷ ins) (b ∷ outs) (inl here) = inl (here.1, here.0)
+flipped i o (a ∷ ins) (b ∷ outs) (inr there) = inr (flipped i o ins outs there)
+
 pub meets_output : (i o : End) (ins outs : List End) → Meet i o ins outs → member o.vertex (end_vertices outs) ≡ true
-meets_output i o [] outs m = absurd m
-meets_output i o (a ∷ ins) [] m = absurd m
-meets_output i o (a ∷ ins) (b ∷ outs) (inl here) = ap (λ e. member e.vertex (end_vertices (b ∷ outs))) here.1 ∙ member-here b.vertex (end_vertices outs)
-meets_output i o (a ∷ ins) (b ∷ outs) (inr there) = member-there o.vertex b.vertex (end_vertices outs) (meets_output i o ins outs there)
+meets_output i o ins outs m = meets_input o i outs ins (flipped i o ins outs m)
 
 -- an end of one list meets one of the other
 pub input_meets : (v : ℕ) (ins outs : List End) → length ins ≡ length outs → member v (end_vertices ins) ≡ true →
@@ -113,12 +113,9 @@ input_meets v (a ∷ ins) (b ∷ outs) e there =
 
 pub output_meets : (v : ℕ) (ins outs : List End) → length ins ≡ length outs → member v (end_vertices outs) ≡ true →
     (i : End) × (o : End) × (o.vertex ≡ v) × Meet i o ins outs
-output_meets v ins [] e there = absurd (true≢false (sym there))
-output_meets v [] (b ∷ outs) e there = absurd (omega arith)
-output_meets v (a ∷ ins) (b ∷ outs) e there =
-    by_equal v b.vertex
-    (λ t s. (a, b, sym s, inl (refl, refl)))
-    (λ f n. let later = output_meets v ins outs (omega arith) (rw f at there) in (later.0, later.1, later.2, inr later.3))
+output_meets v ins outs e there =
+    let it = input_meets v outs ins (sym e) there in
+    (it.1, it.0, it.2, flipped it.0 it.1 outs ins it.3)
 
 -- who meets at one vertex is one
 pub one_input : (i o j p : End) (ins outs : List End) → Distinct (end_vertices ins) → Meet i o ins outs → Meet j p ins outs → i.vertex ≡ j.vertex → (i ≡ j) × (o ≡ p)
@@ -132,14 +129,9 @@ one_input i o j p (a ∷ ins) (b ∷ outs) d (inr m) (inl n) e =
 one_input i o j p (a ∷ ins) (b ∷ outs) d (inr m) (inr n) e = one_input i o j p ins outs d.1 m n e
 
 pub one_output : (i o j p : End) (ins outs : List End) → Distinct (end_vertices outs) → Meet i o ins outs → Meet j p ins outs → o.vertex ≡ p.vertex → (i ≡ j) × (o ≡ p)
-one_output i o j p [] outs d m n e = absurd m
-one_output i o j p (a ∷ ins) [] d m n e = absurd m
-one_output i o j p (a ∷ ins) (b ∷ outs) d (inl m) (inl n) e = (m.0 ∙ sym n.0, m.1 ∙ sym n.1)
-one_output i o j p (a ∷ ins) (b ∷ outs) d (inl m) (inr n) e =
-    absurd (true≢false (sym (meets_output j p ins outs n) ∙ ap (λ v. member v (end_vertices outs)) (sym e ∙ ap (λ (x : End). x.vertex) m.1) ∙ d.0))
-one_output i o j p (a ∷ ins) (b ∷ outs) d (inr m) (inl n) e =
-    absurd (true≢false (sym (meets_output i o ins outs m) ∙ ap (λ v. member v (end_vertices outs)) (e ∙ ap (λ (x : End). x.vertex) n.1) ∙ d.0))
-one_output i o j p (a ∷ ins) (b ∷ outs) d (inr m) (inr n) e = one_output i o j p ins outs d.1 m n e
+one_output i o j p ins outs d m n e =
+    let each = one_input o i p j outs ins d (flipped i o ins outs m) (flipped j p ins outs n) e in
+    (each.1, each.0)
 
 abbrev pub at_labels : (ℕ → Bool) → (ℕ → Bool) → End → End → Number
 at_labels k l i o = meeting i.hadamard o.hadamard (k i.vertex) (l o.vertex)

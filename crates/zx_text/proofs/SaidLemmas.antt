@@ -220,41 +220,37 @@ end_place g ends v fits =
       absent = not-true _ (and-right (is_XY (plane_of g v)) _ others);
     }
 
-file_input : {version : Version} {g : Graph} → IsFile version g None → (e : End) → IsEndPlace g g.inputs e.vertex
-    → IsFile version (record g { inputs = g.inputs ++ e ∷ [] }) None
-file_input {version} {g} file e place =
+-- a file with other ends
+file_ends : {version : Version} {g : Graph} → IsFile version g None → (ins outs : List End) → OrderedEnds g.vertices ins → OrderedEnds g.vertices outs
+    → (length ins ≤ most_ends) × (length outs ≤ most_ends) → IsFile version (record g { inputs = ins; outputs = outs }) None
+file_ends file ins outs inputs outputs few =
     record {
       graph = record {
         vertices_rising = file.graph.vertices_rising;
         phases_below_a_turn = file.graph.phases_below_a_turn;
         edges = file.graph.edges;
-        inputs = ends_more file.graph.inputs e (id_of_below file e.vertex place.live) place.flat place.absent;
-        outputs = file.graph.outputs;
+        inputs = inputs;
+        outputs = outputs;
       };
       numbered = file.numbered;
       phases = file.phases;
-      few_inputs = let more = length-last g.inputs e in let few = place.few in omega (arith, more, few);
-      few_outputs = file.few_outputs;
+      few_inputs = few.0;
+      few_outputs = few.1;
       flow = tt;
     }
+
+file_input : {version : Version} {g : Graph} → IsFile version g None → (e : End) → IsEndPlace g g.inputs e.vertex
+    → IsFile version (record g { inputs = g.inputs ++ e ∷ [] }) None
+file_input {version} {g} file e place =
+    file_ends file (g.inputs ++ e ∷ []) g.outputs (ends_more file.graph.inputs e (id_of_below file e.vertex place.live) place.flat place.absent)
+    file.graph.outputs ((let few = place.few in omega (arith, length-last g.inputs e, few)), file.few_outputs)
 
 file_output : {version : Version} {g : Graph} → IsFile version g None → (e : End) → IsEndPlace g g.outputs e.vertex
     → IsFile version (record g { outputs = g.outputs ++ e ∷ [] }) None
 file_output {version} {g} file e place =
-    record {
-      graph = record {
-        vertices_rising = file.graph.vertices_rising;
-        phases_below_a_turn = file.graph.phases_below_a_turn;
-        edges = file.graph.edges;
-        inputs = file.graph.inputs;
-        outputs = ends_more file.graph.outputs e (id_of_below file e.vertex place.live) place.flat place.absent;
-      };
-      numbered = file.numbered;
-      phases = file.phases;
-      few_inputs = file.few_inputs;
-      few_outputs = let more = length-last g.outputs e in let few = place.few in omega (arith, more, few);
-      flow = tt;
-    }
+    file_ends file g.inputs (g.outputs ++ e ∷ []) file.graph.inputs
+    (ends_more file.graph.outputs e (id_of_below file e.vertex place.live) place.flat place.absent)
+    (file.few_inputs, (let few = place.few in omega (arith, length-last g.outputs e, few)))
 
 -- ---- one line more of a graph
 abbrev More : Version → Wanted → LinesSoFar → List Line → Line → Type 0

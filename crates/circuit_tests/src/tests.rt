@@ -1,0 +1,3 @@
+mod extraction;
+mod few_rows;
+mod translations;

@@ -1,0 +1,5 @@
+mod circuits;
+mod classes;
+mod diagrams;
+mod drawings;
+mod like_forms;

@@ -1,0 +1,3 @@
+mod diagram_files;
+mod graph_files;
+mod written_graphs;

@@ -1,0 +1,7 @@
+mod circuits;
+mod cleanup;
+mod generation;
+mod lowering;
+mod reports;
+mod scalars;
+mod texts;

@@ -1,0 +1,2 @@
+mod inserting;
+mod parities;

@@ -1,7 +1,0 @@
--- A list that is searched.
-use Rattle.std.proofs.Common.{◌∙◌}
-use Rattle.zx_calculus.proofs.Positions.{any-member}
-use Rattle.rewrite_tests.proofs.drawings.stands_in.Goals as goal
-
-pub returns : goal.returns
-returns c = c.contains.ensures.value ∙ any-member c.args.v c.args.order.now

@@ -1,0 +1,5 @@
+mod drawings;
+mod moves;
+mod reductions;
+mod refusals;
+mod rewrites;

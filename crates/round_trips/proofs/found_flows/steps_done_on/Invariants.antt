@@ -1,6 +1,0 @@
--- The flow so far is one of the graph so far.
-use Rattle.gflow_laws.specs.Flow.{IsFlow}
-use Rattle.round_trips.proofs.found_flows.steps_done_on.Given as goal
-
-abbrev pub invariant-loop-step : goal.invariant-loop-step
-invariant-loop-step g l = IsFlow l.graph.graph l.flow.flow

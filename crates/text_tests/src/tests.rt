@@ -1,0 +1,4 @@
+mod angles;
+mod circuits;
+mod statements;
+mod tokens;
