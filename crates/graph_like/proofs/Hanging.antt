@@ -4,7 +4,7 @@ use Rattle.std.specs.Prelude.{if◌then◌else◌}
 use Rattle.zx_model.specs.Bits.{member}
 use Rattle.zx_model.specs.Number.{Number, zero, one, add, mul, sign}
 use Rattle.zx_model.specs.Sums.{labelled, over, sum_over}
-use Rattle.zx_model.proofs.Ring.{one-mul, mul-sign, mul_assoc, expand, sorted, one_nonzero, two_nonzero}
+use Rattle.zx_model.proofs.Ring.{one-mul, mul-sign, mul_assoc, sorted, one_nonzero, two_nonzero}
 use Rattle.zx_model.proofs.Domain.{mul-nonzero}
 use Rattle.zx_model.proofs.SumLemmas.{sum_over_same, sum_over_mul, labelled-same, labelled-other}
 use Rattle.zx_calculus.specs.Graph.{End, end_vertices}

@@ -1,11 +1,11 @@
 -- A graph that is simplified while gates still come, and the graph of the gates.
-use Rattle.std.proofs.Common.{◌≡◌, refl, sym, ◌∙◌, ap, subst, arith, ℕ, false, true, not, ◌&&◌, List, [], ◌∷◌, ◌++◌, length}
+use Rattle.std.proofs.Common.{◌≡◌, refl, sym, ◌∙◌, ap, subst, arith, ℕ, false, true, not, cond, ◌&&◌, ne_eqb, List, [], ◌∷◌, ◌++◌, length}
 use Rattle.std.specs.List.{All, fold}
 use Rattle.std.proofs.lemmas.List.Folds.{list_all-append}
 use Rattle.std.proofs.lemmas.List.FromFn.{length-map-range_with_len}
 use Rattle.std.proofs.lemmas.List.Sums.{fold-append}
 use Rattle.zx_model.specs.Bits.{member}
-use Rattle.zx_calculus.specs.Graph.{End, Graph, ids, WellFormed}
+use Rattle.zx_calculus.specs.Graph.{End, Graph, ids, Live, WellFormed}
 use Rattle.zx_calculus.specs.Counts.{odd_phases}
 use Rattle.zx_calculus.specs.Reduced.{IsReduced}
 use Rattle.zx_calculus.specs.Splits.{spider_of_phase_zero, new_vertex}
@@ -84,7 +84,7 @@ length-fold g [] = refl
 length-fold g (gate ∷ gates) = length-fold (with_gate g gate) gates ∙ ap (λ n. ids_after n gates) (length-next g gate)
 
 module _ (n : ℕ) (gates : List Gate) (on : All (IsOnQubits n) gates) where
-  base_growing : IsGrowing (ids_after n gates) n (fold with_gate (wires n) gates)
+  pub base_growing : IsGrowing (ids_after n gates) n (fold with_gate (wires n) gates)
   base_growing =
       subst (IsGrowing (ids_after n gates) n)
       (sym (fold_grown (wires n) gates ∙ ap (λ k. grown k (wires n) gates) (length-map-range_with_len spider_of_phase_zero 0 n)))
@@ -93,7 +93,7 @@ module _ (n : ℕ) (gates : List Gate) (on : All (IsOnQubits n) gates) where
   base_length : length (fold with_gate (wires n) gates).vertices ≡ ids_after n gates
   base_length = length-fold (wires n) gates ∙ ap (λ k. ids_after k gates) (length-map-range_with_len spider_of_phase_zero 0 n)
 
-  reached : (h : Graph) → (c : ComesFrom n gates h) → IsGrowing (ids_after n gates) n c.reaches.graph
+  pub reached : (h : Graph) → (c : ComesFrom n gates h) → IsGrowing (ids_after n gates) n c.reaches.graph
   reached h c = run_growing (ids_after n gates) n (fold with_gate (wires n) gates) c.reaches.steps c.reaches.graph base_growing c.no_split c.reaches.run
 
   pub grown_outputs : (h : Graph) → ComesFrom n gates h → length h.outputs ≡ n
@@ -131,22 +131,24 @@ module _ (n : ℕ) (gates : List Gate) (on : All (IsOnQubits n) gates) where
       still_none (FuseInto u) = refl
       still_none (FuseTwin u v) = refl
 
-  gate_renamed : (to back : ℕ → ℕ) (g h : Graph) (new other : ℕ) (gate : Gate) → IsGrowing new n g → WellFormed h → member other (ids h.vertices) ≡ false →
+  pub gate_renamed : (to back : ℕ → ℕ) (g h : Graph) (new other : ℕ) (gate : Gate) → IsGrowing new n g → WellFormed h → member other (ids h.vertices) ≡ false →
       IsRenamed to back g h → IsBasic gate → IsOnQubits n gate →
-      (to' : ℕ → ℕ) × (back' : ℕ → ℕ) × IsRenamed to' back' (placed new g gate) (placed other h gate)
+      (to' : ℕ → ℕ) × (back' : ℕ → ℕ) × IsRenamed to' back' (placed new g gate) (placed other h gate) × ((v : ℕ) → Live g v → to' v ≡ to v)
   gate_renamed to back g h new other (H q) r w fresh named basic here = (
     with_name new other to,
     with_name other new back,
     spider_renamed to back g h r.well_formed w named new other q (fresh_above new g r.below) fresh (subst (λ m. IsOnQubits m (H q)) (sym r.outputs) here),
+    λ v there. ap (λ b. cond b other (to v)) (ne_eqb v new (λ e. let low = r.below v there in absurd (omega (arith, low, e)))),
   )
   gate_renamed to back g h new other (Phase q k) r w fresh named basic here =
-      (to, back, phase_renamed to back g h r.well_formed w named new other q k (subst (λ m. IsOnQubits m (Phase q k)) (sym r.outputs) here).0)
+      (to, back, phase_renamed to back g h r.well_formed w named new other q k (subst (λ m. IsOnQubits m (Phase q k)) (sym r.outputs) here).0, λ v there. refl)
   gate_renamed to back g h new other (Cz p q) r w fresh named basic here =
-      (to, back, edge_renamed to back g h r.well_formed w named new other p q (fresh_above new g r.below) fresh (subst (λ m. IsOnQubits m (Cz p q)) (sym r.outputs) here))
+      (to, back, edge_renamed to back g h r.well_formed w named new other p q (fresh_above new g r.below) fresh (subst (λ m. IsOnQubits m (Cz p q)) (sym r.outputs) here),
+      λ v there. refl)
   gate_renamed to back g h new other (Cx p q) r w fresh named basic here = absurd basic
   gate_renamed to back g h new other (Not q) r w fresh named basic here = absurd basic
 
-  longer : (gate : Gate) → placed (ids_after n gates) (fold with_gate (wires n) gates) gate ≡ fold with_gate (wires n) (gates ++ gate ∷ [])
+  pub longer : (gate : Gate) → placed (ids_after n gates) (fold with_gate (wires n) gates) gate ≡ fold with_gate (wires n) (gates ++ gate ∷ [])
   longer gate =
       ap (λ k. placed k (fold with_gate (wires n) gates) gate) (sym base_length) ∙ sym (same_gate (fold with_gate (wires n) gates) gate)
       ∙ sym (fold-append with_gate (wires n) gates (gate ∷ []))
@@ -179,6 +181,7 @@ module _ (n : ℕ) (gates : List Gate) (on : All (IsOnQubits n) gates) where
   }
     where
       names : (to' : ℕ → ℕ) × (back' : ℕ → ℕ) × IsRenamed to' back' (placed (ids_after n gates) c.reaches.graph gate) (placed new h gate)
+          × ((v : ℕ) → Live c.reaches.graph v → to' v ≡ c.reaches.to v)
       names = gate_renamed c.reaches.to c.reaches.back c.reaches.graph h (ids_after n gates) new gate (reached h c) w fresh c.reaches.renamed basic here
 
 -- ---- ids as in the graph of the gates

@@ -9,5 +9,7 @@ pub mod FlowsGrown
 pub mod Renamed
 pub mod Renamings
 pub mod SameButNames
+pub mod SpotsGrown
 pub mod GrownGraphs
+pub mod SpotsReached
 pub mod DemandGrown

@@ -2,7 +2,7 @@
 use Rattle.std.proofs.Common.{◌≡◌, ◌≢◌, refl, sym, ◌∙◌, ap, ap₂, subst, true≢false, ℕ, Bool, true, false, cond, ◌&&◌, ◌||◌, not, eqb, ne_eqb, eq-eqb, List, [], ◌∷◌, map}
 use Rattle.std.specs.List.{list_all}
 use Rattle.zx_model.specs.Bits.{xor, member}
-use Rattle.zx_calculus.specs.Graph.{XY, Kind, Vertex, End, Graph, ids, joined, kind_of, plane_of, phase_of, is_XY, end_vertices, with_kinds, without, Live, Interior, WellFormed}
+use Rattle.zx_calculus.specs.Graph.{XY, Kind, Vertex, End, Graph, ids, joined, neighbours, kind_of, plane_of, phase_of, is_XY, end_vertices, with_kinds, without, Live, Interior, WellFormed}
 use Rattle.zx_calculus.specs.Adjacency.{adjacent_graph}
 use Rattle.zx_calculus.specs.Edits.{KeepsEnds}
 use Rattle.zx_calculus.specs.Complements.{IsLocalComplement, complement_kind, complemented_graph}
@@ -18,6 +18,7 @@ use Rattle.zx_calculus.proofs.Vertices.{ids-with_kinds, kind_of-with_kinds, kind
 use Rattle.zx_calculus.proofs.Splitting.{no_loop, interior_of, off_XY, member-without}
 use Rattle.zx_calculus.proofs.Programs.{absent_right, removal_edges, rising_plain, rising_without}
 use Rattle.zx_calculus.proofs.Results.{interior_true}
+use Rattle.zx_calculus.proofs.Gadgets.{neighbours_into}
 use Rattle.zx_calculus.proofs.Kept.{both}
 use Rattle.zx_calculus.proofs.Steps.{step_kept, step_allowed, after_step}
 use Rattle.zx_calculus.proofs.Booleans.{and_comm}
@@ -311,6 +312,10 @@ module _ (to back : ℕ → ℕ) (g h : Graph) (wg : WellFormed g) (wh : WellFor
 
       kinds : (p : ℕ) (k : Kind) → Live g p → change (to p) k ≡ fuse_kind c.into (phase_of g u) p k
       kinds p k t = ap₂ (λ b j. cond b (with_phase_added j k) k) (eqb-named p c.into t c.into_there) (phase u c.there)
+
+  pub into-named : (u : ℕ) (g' : Graph) → (c : IsFuseInto g u g') → neighbours h (to u) ≡ to c.into ∷ []
+  unfolding fuse_into
+  into-named u g' c = neighbours_into h (to u) (fuse_into u g' c).0 wh (fuse_into u g' c).1
 
   fuse_twin : (u v : ℕ) (g' : Graph) → IsFuseTwin g u v g' → (h' : Graph) × IsFuseTwin h (to u) (to v) h' × IsRenamed to back g' h'
   unfolding left_graph

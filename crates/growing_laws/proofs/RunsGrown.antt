@@ -29,7 +29,7 @@ use Rattle.growing_laws.specs.Growing.{placed, next_id, ids_after, grown, SplitN
 use Rattle.growing_laws.proofs.StepsPlaced.{step_placed, step_fresh, step_frame, step_on}
 use Rattle.growing_laws.proofs.Peeled.{placed_formed, placed_plain, placed_odd, placed_peels, placed_outputs, placed_below, fresh_above}
 
-pub run_placed : (new : ℕ) (g : Graph) (steps : List Step) (h : Graph) (gate : Gate) → WellFormed g → SplitNothing steps → member new (ids g.vertices) ≡ false →
+unfoldable pub run_placed : (new : ℕ) (g : Graph) (steps : List Step) (h : Graph) (gate : Gate) → WellFormed g → SplitNothing steps → member new (ids g.vertices) ≡ false →
     IsOnQubits (length g.outputs) gate → IsRun g steps h → IsRun (placed new g gate) steps (placed new h gate)
 run_placed new g [] h gate w none fresh on same = ap (λ (k : Graph). placed new k gate) same
 run_placed new g (s ∷ steps) h gate w none fresh on run =
@@ -61,7 +61,7 @@ run_growing new n g steps h r none run = record {
   below = λ v there. r.below v (run_live g steps h none run v there);
 }
 
-pub run_append : (g : Graph) (first : List Step) (h : Graph) (second : List Step) (k : Graph) → IsRun g first h → IsRun h second k → IsRun g (first ++ second) k
+unfoldable pub run_append : (g : Graph) (first : List Step) (h : Graph) (second : List Step) (k : Graph) → IsRun g first h → IsRun h second k → IsRun g (first ++ second) k
 run_append g [] h second k same run = subst (λ r. IsRun r second k) (sym same) run
 run_append g (s ∷ first) h second k before run = (before.0, before.1, run_append before.0 first h second k before.2 run)
 

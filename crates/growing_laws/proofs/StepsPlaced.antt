@@ -101,7 +101,7 @@ module _ (new : ℕ) (gate : Gate) (g k : Graph) (w : WellFormed g) (fresh : mem
   not_new : (u : ℕ) → Live g u → u ≢ new
   not_new u there = apart_of_member u new (ids g.vertices) there fresh
 
-  live : (u : ℕ) → Live g u → Live k u
+  pub live : (u : ℕ) → Live g u → Live k u
   live u there = ap (λ vs. member u (ids vs)) P.vertices ∙ extended_live new g.outputs gate g.vertices u there
 
   inside : (u : ℕ) → Live g u → Interior g u → Interior k u
@@ -110,17 +110,17 @@ module _ (new : ℕ) (gate : Gate) (g k : Graph) (w : WellFormed g) (fresh : mem
     no_output = ap (λ es. member u (end_vertices es)) P.outputs ∙ moved_none new g.outputs gate u inner.no_output (not_new u there);
   }
 
-  plane : (u : ℕ) → Live g u → plane_of k u ≡ plane_of g u
+  pub plane : (u : ℕ) → Live g u → plane_of k u ≡ plane_of g u
   plane u there = ap (λ vs. (kind_of vs u).plane) P.vertices ∙ extended_plane new g.outputs gate g.vertices u (not_new u there) there
 
   kind : (u : ℕ) → Live g u → member u (end_vertices g.outputs) ≡ false → kind_of k.vertices u ≡ kind_of g.vertices u
   kind u there no_output =
       ap (λ vs. kind_of vs u) P.vertices ∙ extended_kind new g.outputs gate g.vertices u on no_output (not_new u there) there
 
-  phase : (u : ℕ) → Live g u → Interior g u → phase_of k u ≡ phase_of g u
+  pub phase : (u : ℕ) → Live g u → Interior g u → phase_of k u ≡ phase_of g u
   phase u there inner = ap (λ (x : Kind). x.phase) (kind u there inner.no_output)
 
-  row : (u : ℕ) → Live g u → Interior g u → (p : ℕ) → joined k.edges u p ≡ joined g.edges u p
+  pub row : (u : ℕ) → Live g u → Interior g u → (p : ℕ) → joined k.edges u p ≡ joined g.edges u p
   row u there inner p =
       P.edges u p ∙ ap (xor (joined g.edges u p)) (added_none new g.outputs gate u p on inner.no_output (not_new u there)) ∙ xor-false (joined g.edges u p)
 
@@ -128,14 +128,14 @@ module _ (new : ℕ) (gate : Gate) (g k : Graph) (w : WellFormed g) (fresh : mem
   not_near : (u : ℕ) → joined g.edges u new ≡ false
   not_near u = absent_right g w u new fresh
 
-  off_plane : (u : ℕ) → plane_of g u ≢ XY → Interior g u
+  pub off_plane : (u : ℕ) → plane_of g u ≢ XY → Interior g u
   off_plane u n = interior_of g u w (off_XY (plane_of g u) n)
 
-  off_YZ : (u : ℕ) → plane_of g u ≡ YZ → Interior g u
+  pub off_YZ : (u : ℕ) → plane_of g u ≡ YZ → Interior g u
   off_YZ u e = off_plane u (YZ_apart _ e)
 
   -- ---- the exact scalars
-  near : (u : ℕ) → Live g u → Interior g u → neighbours k u ≡ neighbours g u
+  pub near : (u : ℕ) → Live g u → Interior g u → neighbours k u ≡ neighbours g u
   near u there inner =
       ap (λ (test : ℕ → Bool). filter test (ids k.vertices)) (λ i p. row u there inner p i)
       ∙ ap (λ vs. filter (joined g.edges u) (ids vs)) P.vertices

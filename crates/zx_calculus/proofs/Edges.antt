@@ -36,7 +36,7 @@ edge_before-true d e h = from (or_cases (ltb d.lower e.lower) (eqb d.lower e.low
     from (inr t) = inr (eqb-true d.lower e.lower (and-left _ _ t), ltb-true d.higher e.higher (and-right _ _ t))
 
 -- an edge isn't a later one
-not_later : (e d : Edge) (p q : ℕ) → e.lower < e.higher → d.lower < d.higher → edge_before e d ≡ true → joins e p q ≡ true → joins d p q ≡ false
+pub not_later : (e d : Edge) (p q : ℕ) → e.lower < e.higher → d.lower < d.higher → edge_before e d ≡ true → joins e p q ≡ true → joins d p q ≡ false
 not_later e d p q e_first d_first before at_e =
     by_test (joins d p q)
     (λ t. let x : ((p ≡ d.lower) × (q ≡ d.higher)) ⊎ ((q ≡ d.lower) × (p ≡ d.higher)) = joins-true d p q t in

@@ -25,7 +25,7 @@ use Rattle.graph_rewrites.specs.declared.step.Step.{Step}
 use Rattle.zx_reduce.specs.Grown.{GrowsTo, most_grown_root2}
 use Rattle.zx_reduce.specs.Reducing.{Reduces}
 use Rattle.zx_reduce.specs.Scaling.{most_reduced_root2}
-use Rattle.zx_reduce.specs.Internal.Growing.{IsGrown}
+use Rattle.zx_reduce.specs.Internal.Growing.{IsGrown, none_held}
 use Rattle.zx_reduce.specs.Internal.Ordering.{IsOrdered}
 use Rattle.zx_reduce.specs.Internal.Progress.{Progress, Begins, Completes}
 use Rattle.zx_reduce.proofs.Doing.{done_run, done_trace, done_count, done_times}
@@ -90,8 +90,8 @@ at_n : (n i o : ℕ) (f : List Bool → List Bool → Number) (s : Scalar) (g : 
 at_n n i o f s g wide high p = subst (λ m. IsScaled n m f s g) high (subst (λ m. IsScaled m o f s g) wide p)
 
 pub grown_whole : (c : Circuit) (p : Progress) (h : Graph) (table : List Correction) (trace : List Step) (t s : Scalar) → All (IsOnQubits c.qubits) c.gates →
-    length c.gates < gate_bound → IsWithin (4 * length c.gates) (map_scalar c.gates) → IsGrown c.qubits (written_out c.gates) p → Completes p h table trace t →
-    s ≡ product_of_scalars (map_scalar c.gates) t → GrowsTo c h table s
+    length c.gates < gate_bound → IsWithin (4 * length c.gates) (map_scalar c.gates) → IsGrown c.qubits (written_out c.gates) none_held p →
+    Completes p h table trace t → s ≡ product_of_scalars (map_scalar c.gates) t → GrowsTo c h table s
 grown_whole c p h table trace t s on few small grown done is = record {
   reaches = reaches;
   reduced = done.finishes.reduced;

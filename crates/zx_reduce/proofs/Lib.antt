@@ -1,5 +1,7 @@
 pub mod Ranking
 pub mod GatesOrdered
 pub mod Doing
+pub mod Holdings
 pub mod Growths
+pub mod Grouping
 pub mod Completing

@@ -5,7 +5,8 @@ ghost use Rattle.zx_gates.specs.Circuit.{IsOnQubits};
 ghost use Rattle.zx_gates.specs.declared.gate.Gate.TheVariants.{H};
 ghost use Rattle.circuit_graph.specs.Translation.{by_hadamards};
 ghost use Rattle.zx_reduce.specs.Grown.{GrowsTo};
-ghost use Rattle.zx_reduce.specs.Internal.Growing.{IsGrown, HasGrown, Gains};
+ghost use Rattle.zx_reduce.specs.Grouped.{GroupsTo};
+ghost use Rattle.zx_reduce.specs.Internal.Growing.{IsGrown, HasGrown, Gains, GainsNumbered, none_held};
 ghost use Rattle.zx_reduce.specs.Internal.Progress.{Tries};
 
 use crate::blocks::Blocks;
@@ -15,6 +16,7 @@ use crate::progress::Progress;
 use circuit_graph::scalar_of;
 use graph_rewrites::Step;
 use open_graph::{OpenGraph, VertexId};
+use phase_groups::PhaseGroups;
 use std::alloc::{AllocError, Global};
 use zx_flow::Flow;
 use zx_gates::{Gate, GateList, Qubit};
@@ -51,6 +53,28 @@ pub fn grow(alloc: Global, circuit: &GateList) -> Result<Grown, AllocError>
     })
 }
 
+/// The phases that the gates of a circuit get where those are put together that are held together once its graph is
+/// simplified.
+///
+/// # Errors
+///
+/// Only where memory runs out.
+pub fn group_phases(alloc: Global, circuit: &GateList) -> Result<PhaseGroups, AllocError>
+    ensures { IfOk result (GroupsTo circuit.now) }
+{
+    let gates = circuit.gates();
+    let mut growing = Growing::begin(alloc, circuit.qubits(), gates.len())?;
+    growing
+        .engine
+        .progress
+        .hold(PhaseGroups::new(alloc, gates.len())?);
+    for i in 0..gates.len() {
+        growing.add_numbered(i, &gates[i])?;
+    }
+    let phases = growing.engine.finish_phases()?;
+    Ok(phases.unwrap())
+}
+
 // A graph that grows, and what is tried on it.
 #[derive(Drop)]
 struct Growing {
@@ -61,13 +85,32 @@ struct Growing {
 impl Growing {
     // So many wires, behind which so many gates come.
     fn begin(alloc: Global, qubits: Qubit, gates: usize) -> Result<Growing, AllocError>
-        ensures { IfOk result (λ made. IsGrown qubits [] made.engine.progress) }
+        ensures { IfOk result (λ made. IsGrown qubits [] none_held made.engine.progress) }
     {
         let progress = Progress::wires(alloc, qubits)?;
         Ok(Growing {
             engine: Engine::new(alloc, progress, gates)?,
             blocks: Blocks::begin(alloc, qubits),
         })
+    }
+
+    // Adds a gate of a circuit, by its number. Where its phase is odd it is held from now on.
+    fn add_numbered(&mut self, number: usize, gate: &Gate) -> Result<(), AllocError>
+        requires grown { HasGrown self.old.engine.progress }
+        requires on_qubits { IsOnQubits (length self.old.engine.progress.ordered.graph.outputs) gate.now }
+        ensures { OnOk result (GainsNumbered number gate.now self.old.engine.progress self.new.engine.progress) }
+    {
+        self.add_gate(*gate)?;
+        match gate {
+            Gate::Phase(q, phase) => {
+                if phase.is_odd() {
+                    self.engine.progress.note(number, *q, *phase)
+                } else {
+                    Ok(())
+                }
+            }
+            Gate::H(_) | Gate::Cz(..) | Gate::Cx { .. } | Gate::Not(_) => Ok(()),
+        }
     }
 
     // Adds a gate; Cx and Not are written out.

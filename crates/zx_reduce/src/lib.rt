@@ -40,5 +40,5 @@ mod ranks;
 mod reduction;
 mod twins;
 
-pub use growing::{Grown, grow};
+pub use growing::{Grown, group_phases, grow};
 pub use reduction::{Reduction, reduce_owned};

@@ -1,6 +1,6 @@
 //! A graph that is simplified, and what its sum is.
 
-ghost use Rattle.std.specs.Prelude.{◌≡◌, ◌<◌, ◌≤◌, ◌+◌, ◌*◌, true, false, [], ◌∷◌, length, IfOk, OnOk};
+ghost use Rattle.std.specs.Prelude.{◌≡◌, ◌<◌, ◌≤◌, ◌+◌, ◌*◌, true, false, Some, [], ◌∷◌, length, IfOk, OnOk};
 ghost use Rattle.zx_calculus.specs.Graph.{WellFormed};
 ghost use Rattle.zx_calculus.specs.Moves.{IsStuck};
 ghost use Rattle.zx_calculus.specs.Steps.{allowed, IsRun};
@@ -11,10 +11,11 @@ ghost use Rattle.zx_model.specs.Scalar.{one_scalar};
 ghost use Rattle.zx_moves.specs.Moving.{steps_of};
 ghost use Rattle.zx_moves.specs.Search.{AppliesAt, IsOfFirstKind};
 ghost use Rattle.graph_rewrites.specs.Steps.{step_named};
-ghost use Rattle.zx_reduce.specs.Internal.Growing.{IsGrown, HasGrown, Gains};
+ghost use Rattle.zx_reduce.specs.Internal.Growing.{IsGrown, HasGrown, Gains, none_held};
 ghost use Rattle.zx_reduce.specs.Internal.Guiding.{HasFlowIn};
 ghost use Rattle.zx_reduce.specs.Internal.Ordering.{IsOrdered};
 ghost use Rattle.zx_reduce.specs.Internal.Progress.{Progress as Seen, IsDone, Tries, Makes, Begins, Exhausts, Finishes, most_tried};
+ghost use Rattle.zx_reduce.specs.Internal.Progress.{AreAdded, AreFollowed, Notes};
 ghost use Rattle.zx_reduce.specs.Scaling.{most_steps};
 
 use crate::ordered::Ordered;
@@ -22,6 +23,7 @@ use crate::ranks::Ranks;
 use crate::reduction::Reduction;
 use graph_rewrites::Step;
 use open_graph::{OpenGraph, VertexId};
+use phase_groups::PhaseGroups;
 use std::alloc::{AllocError, Global};
 use std::marker::Model;
 use zx_gates::Qubit;
@@ -43,6 +45,8 @@ pub(crate) struct Progress {
     trace: Trace,
     // Whether gates still come. Then no end is split.
     takes_gates: bool,
+    // Which gates hold their phases together, where it is asked.
+    phases: Option<PhaseGroups>,
 }
 
 impl Model for Progress {
@@ -56,6 +60,7 @@ impl Model for Progress {
       steps = p.steps;
       trace = p.trace.steps;
       takes_gates = p.takes_gates;
+      phases = p.phases;
     } };
 
     ghost invariant = { λ p. IsSmall p.steps p.scalar };
@@ -64,7 +69,7 @@ impl Model for Progress {
 impl Progress {
     // So many wires without gates.
     pub(crate) fn wires(alloc: Global, qubits: Qubit) -> Result<Progress, AllocError>
-        ensures { IfOk result (IsGrown qubits []) }
+        ensures { IfOk result (IsGrown qubits [] none_held) }
     {
         let ordered = Ordered::wires(alloc, qubits)?;
         Ok(Progress {
@@ -73,6 +78,7 @@ impl Progress {
             steps: 0,
             trace: Trace::new(alloc),
             takes_gates: true,
+            phases: None,
         })
     }
 
@@ -87,7 +93,32 @@ impl Progress {
             steps: 0,
             trace: Trace::new(alloc),
             takes_gates: false,
+            phases: None,
         }
+    }
+
+    // Which gates hold their phases together is told from now on.
+    pub(crate) fn hold(&mut self, phases: PhaseGroups)
+        ensures { self.new ≡ record self.old { phases = Some phases } }
+    {
+        self.phases = Some(phases);
+    }
+
+    // The phase of the last gate, at the output of a qubit, is held there.
+    pub(crate) fn note(&mut self, gate: usize, q: Qubit, phase: Sixteenth) -> Result<(), AllocError>
+        requires grown { HasGrown self.old }
+        requires on_qubits { q < length self.old.ordered.graph.outputs }
+        ensures { OnOk result (Notes gate q phase self.old self.new) }
+    {
+        let v = self.ordered.present(q);
+        add_to(&mut self.phases, gate, v, phase)
+    }
+
+    // Which gates hold their phases together.
+    pub(crate) fn phases(self) -> Option<PhaseGroups>
+        ensures { result ≡ self.phases }
+    {
+        self.phases
     }
 
     // The graph.
@@ -157,6 +188,7 @@ impl Progress {
         requires few { self.old.steps < most_steps }
         ensures { OnOk result (IsDone self.old step.now self.new) }
     {
+        follow(&mut self.phases, self.ordered.graph(), step)?;
         let scalar = self.ordered.do_step(step)?;
         self.scalar = self.scalar.times(scalar);
         self.steps += 1;
@@ -218,5 +250,35 @@ impl Progress {
             trace,
             scalar,
         })
+    }
+}
+
+// What a step that is allowed does to the groups of gates.
+fn follow(
+    phases: &mut Option<PhaseGroups>,
+    graph: &OpenGraph,
+    step: &Step,
+) -> Result<(), AllocError>
+    requires allowed { allowed graph.now.graph (step_named step.now) ≡ true }
+    ensures { OnOk result (AreFollowed graph.now.graph (step_named step.now) phases.old phases.new) }
+{
+    match phases {
+        Some(phases) => phases.follow(graph, step),
+        None => Ok(()),
+    }
+}
+
+// What the phase of a gate does to them that a vertex holds from now on.
+fn add_to(
+    phases: &mut Option<PhaseGroups>,
+    gate: usize,
+    v: VertexId,
+    phase: Sixteenth,
+) -> Result<(), AllocError>
+    ensures { OnOk result (AreAdded gate v phase phases.old phases.new) }
+{
+    match phases {
+        Some(phases) => phases.add(gate, v, phase),
+        None => Ok(()),
     }
 }

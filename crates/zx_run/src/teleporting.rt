@@ -8,7 +8,7 @@ ghost use Rattle.zx_run.specs.CircuitTexts.{IsTeleportedText};
 use qasm_writer::write_text;
 use std::alloc::{AllocError, Global};
 use zx_gates::{Elementary, lower};
-use zx_teleport::teleport_unscaled;
+use zx_teleport::teleport_gates;
 
 /// The text of the circuit with teleported phases, with the measurements behind the one that is read.
 ///
@@ -21,7 +21,6 @@ pub fn teleported_text(alloc: Global, read: &Elementary) -> Result<Vec<u8>, Allo
         → IfOk result (λ output. IsTeleportedText text output.items) }
 {
     let lowered = lower(alloc, read)?;
-    let teleported = teleport_unscaled(alloc, &lowered.gates)?;
-    let gates = teleported.gates;
+    let gates = teleport_gates(alloc, &lowered.gates)?;
     write_text(alloc, &gates, read.bits, read.measured.as_slice())
 }

@@ -10,8 +10,8 @@ use Rattle.zx_model.proofs.Powers.{root_power-zero}
 use Rattle.zx_model.proofs.ProportionalLemmas.{proportional_of_scaled}
 use Rattle.zx_model.proofs.Ring.{one-mul, one_nonzero}
 use Rattle.zx_model.proofs.SumLemmas.{sum_over_same}
-use Rattle.zx_calculus.specs.Graph.{XY, XZ, YZ, Plane, Kind, Vertex, End, Graph, ids, kind_of, joined, neighbours, is_XY, is_interior, phase_of, end_vertices, in_order, different, WellFormed}
-use Rattle.zx_calculus.specs.Sum.{factor, factor_in, vertex_product, sum}
+use Rattle.zx_calculus.specs.Graph.{XY, XZ, YZ, Plane, Kind, End, Graph, ids, kind_of, joined, neighbours, is_XY, is_interior, phase_of, end_vertices, in_order, different, WellFormed}
+use Rattle.zx_calculus.specs.Sum.{factor, factor_in, sum}
 use Rattle.zx_calculus.proofs.Edges.{joined_comm}
 use Rattle.zx_calculus.proofs.Forms.{sum_is_form}
 use Rattle.zx_calculus.proofs.Ids.{and-left, and-right, not-true, by_test, eqb-self, member-different, member-there}

@@ -17,8 +17,9 @@ use Rattle.teleport_circuits.specs.Circuits.{with_phases, without_idle}
 use Rattle.teleport_circuits.specs.Teleporting.{vertex_at, new_phase, teleported_gates}
 use Rattle.graph_rewrites.specs.declared.step.Step as named
 use Rattle.graph_rewrites.specs.Steps.{step_named}
-use Rattle.zx_teleport.specs.declared.notes.Note.{Note}
-use Rattle.zx_teleport.specs.Internal.Noting.{stands_odd, parting_by, IsNoted, AreNoted, MayRun}
+use Rattle.phase_groups.specs.declared.notes.Note.{Note}
+use Rattle.phase_groups.specs.Noting.{stands_odd, parting_by, IsNoted}
+use Rattle.zx_teleport.specs.Internal.Noting.{AreNoted, MayRun}
 use Rattle.zx_teleport.specs.Internal.Fates.{turned, unsigned, before, fates_by}
 use Rattle.zx_teleport.proofs.Turning.{spot, xor_swap}
 

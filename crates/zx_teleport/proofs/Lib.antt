@@ -1,7 +1,7 @@
 mod Turning
 mod Carrying
-mod Negating
 mod Grouped
 mod Written
 mod Scaling
 mod Results
+mod Held

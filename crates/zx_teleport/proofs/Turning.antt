@@ -1,25 +1,18 @@
 -- Spots that are negated, and vertices that stand an odd number of times in a list.
-use Rattle.std.proofs.Common.{◌≡◌, refl, sym, ◌∙◌, ap, ap₂, ℕ, suc, ◌+◌, ◌-◌, ◌<◌, Bool, true, false, ◌&&◌, cond, eqb, List, [], ◌∷◌, ◌++◌, length, drop, get_or, drop-cons, arith}
+use Rattle.std.proofs.Common.{◌≡◌, refl, sym, ◌∙◌, ap, ap₂, ℕ, suc, ◌+◌, ◌-◌, ◌<◌, Bool, true, false, cond, eqb, List, [], ◌∷◌, ◌++◌, length, drop, get_or, drop-cons, arith}
 use Rattle.std.proofs.lemmas.List.{length-drop}
 use Rattle.zx_model.specs.Bits.{xor}
+use Rattle.zx_model.proofs.BitLemmas.{xor_assoc}
 use Rattle.zx_calculus.proofs.Booleans.{xor-false}
 use Rattle.zx_calculus.proofs.Ids.{by_equal}
 use Rattle.teleport_laws.specs.Spots.{Holder, Spot}
-use Rattle.zx_teleport.specs.Internal.Noting.{stands_odd}
-use Rattle.zx_teleport.specs.declared.notes.Note.{Note}
+use Rattle.phase_groups.specs.Noting.{stands_odd}
+use Rattle.phase_groups.proofs.Negating.{stands_odd-more}
+use Rattle.phase_groups.specs.declared.notes.Note.{Note}
 use Rattle.zx_teleport.specs.Internal.Fates.{turned, before, fates_by}
 
 abbrev pub spot : Holder → Bool → Spot
 spot holder negated = record { holder = holder; negated = negated }
-
-not_not : (c : Bool) → xor true (xor true c) ≡ c
-not_not true = refl
-not_not false = refl
-
-pub xor_group : (a b c : Bool) → xor a (xor b c) ≡ xor (xor a b) c
-xor_group false b c = refl
-xor_group true false c = refl
-xor_group true true c = not_not c
 
 pub xor_swap : (a b c : Bool) → xor (xor a b) c ≡ xor (xor a c) b
 xor_swap true true true = refl
@@ -31,15 +24,11 @@ xor_swap false true false = refl
 xor_swap false false true = refl
 xor_swap false false false = refl
 
-pub stands_odd-more : (xs : List ℕ) (v w : ℕ) → stands_odd (xs ++ v ∷ []) w ≡ xor (stands_odd xs w) (eqb w v)
-stands_odd-more [] v w = xor-false (eqb w v)
-stands_odd-more (x ∷ xs) v w = ap (xor (eqb w x)) (stands_odd-more xs v w) ∙ xor_group (eqb w x) (stands_odd xs w) (eqb w v)
-
 pub turned-false : (s : Spot) → turned false s ≡ s
 turned-false s = ap (spot s.holder) (xor-false s.negated)
 
 pub turned-turned : (a b : Bool) (s : Spot) → turned b (turned a s) ≡ turned (xor a b) s
-turned-turned a b s = ap (spot s.holder) (sym (xor_group s.negated a b))
+turned-turned a b s = ap (spot s.holder) (xor_assoc s.negated a b)
 
 -- one spot is negated, the others stay
 pub turned_at : (old new : ℕ → Spot) (x : Spot) (v w : ℕ) → new w ≡ cond (eqb w v) x (old w) → x ≡ turned true (old v) → new w ≡ turned (eqb w v) (old w)
@@ -54,14 +43,6 @@ pub turned_more : (xs ys : List ℕ) (old mid new : ℕ → Spot) (v w : ℕ) �
 turned_more xs ys old mid new v w more so_far here =
     here ∙ ap (turned (eqb w v)) so_far ∙ turned-turned (stands_odd xs w) (eqb w v) (old w)
     ∙ ap (λ b. turned b (old w)) (sym (stands_odd-more xs v w) ∙ ap (λ zs. stands_odd zs w) (sym more))
-
-picked : (e n : Bool) → n ≡ true → e ≡ (e && n)
-picked true n is = sym is
-picked false n is = refl
-
--- a vertex more, which a test picks
-pub picked_more : (xs ys : List ℕ) (v w : ℕ) (n : Bool) → ys ≡ xs ++ v ∷ [] → n ≡ true → stands_odd ys w ≡ xor (stands_odd xs w) (eqb w v && n)
-picked_more xs ys v w n more is = ap (λ zs. stands_odd zs w) more ∙ stands_odd-more xs v w ∙ ap (xor (stands_odd xs w)) (picked (eqb w v) n is)
 
 -- one note more, from the last one on
 pub fates_back : (notes : List Note) (left : ℕ) (note : Note) (old new : ℕ → Spot) → left < length notes → note ≡ get_or notes (length notes - 1 - left) note →

@@ -2,4 +2,5 @@
 pub mod Noting
 pub mod Fates
 pub mod Grouping
+pub mod Held
 pub mod Scaling

@@ -33,3 +33,10 @@ pub record IsTeleported (read made : Circuit) (steps : List Step) (h : Graph) : 
   pub gates : IsPutTogether read steps h made.gates
   pub odd : gate_odd_phases made.gates ≤ odd_phases h
   pub fewer : gate_odd_phases made.gates ≤ gate_odd_phases read.gates
+
+-- The circuit `made` has the gates of `read` but for phases that some steps bring together, which are named here with the
+-- reduced graph to which they lead.
+pub record HasTeleported (read made : Circuit) : Type 0 where
+  pub steps : List Step
+  pub end : Graph
+  pub teleported : IsTeleported read made steps end

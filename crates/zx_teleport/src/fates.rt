@@ -2,11 +2,11 @@
 
 ghost use Rattle.std.specs.Prelude.{◌≡◌, ◌==◌, ℕ, true, false, if◌then◌else◌, get_or, IfOk, OnOk};
 ghost use Rattle.teleport_circuits.specs.Teleporting.{place_number};
-ghost use Rattle.zx_teleport.specs.Internal.Noting.{stands_odd};
+ghost use Rattle.phase_groups.specs.Noting.{stands_odd};
 ghost use Rattle.zx_teleport.specs.Internal.Fates.{spot_named, unmoved, told, turned, before, fates_by};
 
-use crate::notes::{Note, Parting};
 use open_graph::VertexId;
+use phase_groups::{Note, Parting};
 use std::alloc::{AllocError, Global};
 use vertex_map::{Values, VertexMap};
 

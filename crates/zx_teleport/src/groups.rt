@@ -73,7 +73,11 @@ pub(crate) fn regrouped(
 }
 
 // Adds a gate with this phase, where it is a phase gate, and none where it is 0 then.
-fn push_with(made: &mut GateList, gate: &Gate, phase: Sixteenth) -> Result<(), AllocError>
+pub(crate) fn push_with(
+    made: &mut GateList,
+    gate: &Gate,
+    phase: Sixteenth,
+) -> Result<(), AllocError>
     requires { IsOnQubits made.old.qubits gate.now }
     ensures qubits { made.new.qubits ≡ made.old.qubits }
     ensures gates { OnOk result (made.new.gates ≡

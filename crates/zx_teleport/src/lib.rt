@@ -11,22 +11,24 @@
 //! each negates, and where that of a vertex goes that goes itself. Backwards through the notes it is
 //! told for each vertex who holds its phase at the end, and with which sign. The same steps lead from
 //! the graph of the new circuit to the same end, so they are done on that, too: the scalar of the steps
-//! from the first graph over that of the steps from the new one is the scalar between the maps. `teleport_unscaled`
-//! leaves that out.
+//! from the first graph over that of the steps from the new one is the scalar between the maps.
+//!
+//! `teleport_gates` tells neither steps nor scalar: it takes the phases that `zx_reduce::group_phases` puts together
+//! while the graph grows and is simplified. Of what it answers the same is proved, for some such steps.
 //!
 //! Inside:
 //!
-//! - `notes`: the steps of simplification done once more on the first graph, and of each which
-//!   phases it negates and where that of a vertex goes which goes itself.
+//! - `notes`: the steps of simplification done once more on the first graph, and of each a note.
 //! - `fates`: backwards through the notes, who holds the phase of each vertex at the end, and
 //!   whether negated.
 //! - `groups`: the sum and the first gate of each group, from the last gate to the first, and the
 //!   circuit with the new phases.
-//! - `teleporting`: `teleport`, with the scalar and without.
+//! - `teleporting`: `teleport`, with steps and scalar, and without.
 //! - `scalars`: by which scalar steps change the sum of a graph.
 //!
 //! ```rust
 //! let found = teleport(alloc, &circuit)?;
+//! let gates = teleport_gates(alloc, &circuit)?;
 //! ```
 #![tactic(auto)]
 
@@ -36,4 +38,4 @@ mod notes;
 mod scalars;
 mod teleporting;
 
-pub use teleporting::{Teleported, Unscaled, teleport, teleport_unscaled};
+pub use teleporting::{Teleported, teleport, teleport_gates};

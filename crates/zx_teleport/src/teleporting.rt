@@ -11,28 +11,30 @@ ghost use Rattle.zx_gates.specs.Circuit.{gate_odd_phases, IsCircuit};
 ghost use Rattle.zx_gates.specs.Passes.{Preserves};
 ghost use Rattle.gflow_laws.specs.Flow.{IsFlow};
 ghost use Rattle.circuit_graph.specs.Translation.{places, translated};
-ghost use Rattle.teleport_circuits.specs.Circuits.{IsSkeleton};
+ghost use Rattle.teleport_circuits.specs.Circuits.{IsSkeleton, with_phases, without_idle};
 ghost use Rattle.teleport_circuits.specs.Teleporting.{teleported_gates};
-ghost use Rattle.zx_teleport.specs.Together.{IsPutTogether, IsTeleported};
+ghost use Rattle.zx_teleport.specs.Together.{HasTeleported, IsPutTogether, IsTeleported};
 ghost use Rattle.zx_reduce.specs.Reducing.{Reduces};
 ghost use Rattle.zx_reduce.specs.Scaling.{most_steps, most_reduced_root2};
 ghost use Rattle.graph_rewrites.specs.Steps.{step_named};
 ghost use Rattle.zx_teleport.specs.Scalars.{most_teleported_root2};
+ghost use Rattle.zx_teleport.specs.Internal.Held.{phase_held, phases_held};
 ghost use Rattle.zx_teleport.specs.Internal.Noting.{MayRun};
 
 use crate::fates::Fates;
-use crate::groups::regrouped;
+use crate::groups::{push_with, regrouped};
 use crate::notes::notes_of;
 use crate::scalars::scalar_of;
 use circuit_graph::translate_placed;
 use graph_rewrites::Step;
 use open_graph::{OpenGraph, VertexId};
+use phase_groups::PhaseGroups;
 use std::alloc::{AllocError, Global};
 use zx_flow::Flow;
-use zx_gates::GateList;
-use zx_model::Scalar;
+use zx_gates::{Gate, GateList};
+use zx_model::{Scalar, Sixteenth};
 use zx_moves::Trace;
-use zx_reduce::{Reduction, reduce_owned};
+use zx_reduce::{Reduction, group_phases, reduce_owned};
 
 /// A circuit whose phases were put together, the steps by which its graph was simplified to see
 /// which, the simplified graph, and the scalar between the maps.
@@ -48,18 +50,17 @@ pub struct Teleported {
     pub scalar: Scalar,
 }
 
-/// A circuit whose phases were put together, the steps by which its graph was simplified to see
-/// which, and the simplified graph.
+// A circuit whose phases were put together, the steps by which its graph was simplified to see
+// which, and the simplified graph.
 #[derive(Drop)]
-pub struct Unscaled {
-    /// The circuit.
-    pub gates: GateList,
-    /// The steps from the graph of the circuit that was read.
-    pub trace: Trace,
-    /// The graph to which they lead.
-    pub reduced: OpenGraph,
-    /// The sum of the graph of the circuit that was read is so many times that of `reduced`.
-    pub before: Scalar,
+struct Unscaled {
+    gates: GateList,
+    // The steps from the graph of the circuit that was read.
+    trace: Trace,
+    // The graph to which they lead.
+    reduced: OpenGraph,
+    // The sum of the graph of the circuit that was read is so many times that of `reduced`.
+    before: Scalar,
 }
 
 /// Puts phases of a circuit together where its simplified graph shows that they may be; all other
@@ -97,13 +98,9 @@ pub fn teleport(alloc: Global, read: &GateList) -> Result<Teleported, AllocError
     })
 }
 
-/// As `teleport`, where the scalar between the maps isn't asked for: it takes the steps once more on the graph of
-/// the new circuit.
-///
-/// # Errors
-///
-/// Those of `teleport`.
-pub fn teleport_unscaled(alloc: Global, read: &GateList) -> Result<Unscaled, AllocError>
+// As `teleport`, without the scalar between the maps, for which the steps are done once more on the graph of the new
+// circuit.
+fn teleport_unscaled(alloc: Global, read: &GateList) -> Result<Unscaled, AllocError>
     ensures circuit { OnOk result (IsCircuit read.now) }
     ensures teleported { IfOk result (λ found. IsTeleported read.now found.gates
         (map step_named found.trace.steps) found.reduced.graph) }
@@ -123,6 +120,46 @@ pub fn teleport_unscaled(alloc: Global, read: &GateList) -> Result<Unscaled, All
         reduced: simplified.graph,
         before: simplified.scalar,
     })
+}
+
+/// As `teleport`, where neither the steps nor the scalar are asked for: phases are put together while the graph of
+/// the circuit grows and is simplified.
+///
+/// # Errors
+///
+/// Those of `teleport`.
+pub fn teleport_gates(alloc: Global, read: &GateList) -> Result<GateList, AllocError>
+    ensures { IfOk result (λ made. HasTeleported read.now made) }
+{
+    let phases = group_phases(alloc, read)?;
+    with_held(alloc, read, &phases)
+}
+
+// The circuit with the phases that its gates of odd phases have by their groups.
+fn with_held(alloc: Global, read: &GateList, phases: &PhaseGroups) -> Result<GateList, AllocError>
+    ensures circuit { OnOk result (IsCircuit read.now) }
+    ensures qubits { IfOk result (λ made. made.qubits ≡ read.now.qubits) }
+    ensures gates { IfOk result (λ made. made.gates ≡
+        without_idle (with_phases (phases_held read.now phases.now) 0 read.now.gates)) }
+{
+    let mut made = GateList::new(alloc, read.qubits());
+    let gates = read.gates();
+    for i in 0..gates.len() {
+        let phase = held_phase(phases, i, &gates[i]);
+        push_with(&mut made, &gates[i], phase)?;
+    }
+    Ok(made)
+}
+
+// The phase of the gate of a number: by its group, where it is odd.
+fn held_phase(phases: &PhaseGroups, i: usize, gate: &Gate) -> Sixteenth
+    ensures { result ≡ phase_held phases.now i gate.now }
+{
+    match *gate {
+        Gate::Phase(_, phase) if phase.is_odd() => phases.phase(i),
+        Gate::Phase(_, phase) => phase,
+        _ => Sixteenth::new(0),
+    }
 }
 
 // What simplification makes of a copy of a graph with its flow.

@@ -1,5 +1,5 @@
 -- A graph whose ids are 0, 1, 2 and so on, and one more vertex, edge or end of it.
-use Rattle.std.proofs.Common.{◌≡◌, ℕ, ◌+◌, ◌*◌, ◌<◌, ◌≤◌, suc, zero, Bool, true, false, eqb, ltb, nat_le, ◌||◌, ◌&&◌, ◌⊎◌, List, [], ◌∷◌, ◌++◌, length, refl, sym, ap, ap₂, ◌∙◌, subst, ltb-true, ltb-false, le-ltb, lt-ltb, arith}
+use Rattle.std.proofs.Common.{◌≡◌, ℕ, ◌+◌, ◌*◌, ◌<◌, ◌≤◌, suc, zero, Bool, true, false, eqb, ltb, nat_le, ◌||◌, ◌&&◌, ◌⊎◌, List, [], ◌∷◌, ◌++◌, length, refl, sym, ap, ap₂, ◌∙◌, subst, ltb-true, ltb-false, le-ltb, lt-ltb, true≢false, arith}
 use Rattle.std.specs.List.{list_all, range_with_len}
 use Rattle.zx_model.specs.Bits.{member, xor}
 use Rattle.zx_model.proofs.BitLemmas.{and_comm, and-false}
@@ -8,7 +8,7 @@ use Rattle.zx_calculus.specs.Worked.{vertex}
 use Rattle.zx_calculus.specs.Splits.{least_free, least_free_from}
 use Rattle.zx_calculus.specs.Edits.{IsToggle, is_pair}
 use Rattle.zx_calculus.proofs.Ids.{by_test, by_equal, eqb-self, and-left, and-right, or-left, or-right}
-use Rattle.zx_calculus.proofs.Edges.{joins-true, edge_before-true}
+use Rattle.zx_calculus.proofs.Edges.{not_later, edge_before-true}
 use Rattle.zx_calculus.proofs.EdgeLists.{edges_ext}
 use Rattle.zx_calculus.proofs.Kept.{both}
 use Rattle.zx_text.specs.Files.{Version, unit}
@@ -95,12 +95,7 @@ vertex_taken phase plane version {p} {s} {k} {i} {number} {turns} {g} {h} view n
 -- ---- edges
 not_both_at : (d e : Edge) (p q : ℕ) → d.lower < d.higher → e.lower < e.higher → edge_before d e ≡ true → joins e p q ≡ true → joins d p q ≡ false
 not_both_at d e p q first later before at_e =
-    by_test (joins d p q)
-    (λ t. let x : ((p ≡ d.lower) × (q ≡ d.higher)) ⊎ ((q ≡ d.lower) × (p ≡ d.higher)) = joins-true d p q t in
-    let y : ((p ≡ e.lower) × (q ≡ e.higher)) ⊎ ((q ≡ e.lower) × (p ≡ e.higher)) = joins-true e p q at_e in
-    let z : (d.lower < e.lower) ⊎ ((d.lower ≡ e.lower) × (d.higher < e.higher)) = edge_before-true d e before in
-    absurd (omega arith))
-    (λ f. f)
+    by_test (joins d p q) (λ t. absurd (true≢false (sym at_e ∙ not_later d e p q first later before t))) (λ f. f)
 
 apart : (es : List Edge) (e : Edge) (p q : ℕ) → list_all (λ d. ltb d.lower d.higher) es ≡ true → list_all (λ d. edge_before d e) es ≡ true → e.lower < e.higher
     → joins e p q ≡ true → joined es p q ≡ false

@@ -4,34 +4,24 @@ use Rattle.zx_words.specs.declared.words.Command.{Command}
 use Rattle.zx_run.specs.declared.status.Fault.{Fault}
 use Rattle.zx_run.specs.declared.status.Status.{Status}
 use Rattle.zx_run.specs.declared.status.Status.TheVariants.{Done, Refused, Usage, ReadFault, WriteFault, NoMemory, No}
-use Rattle.zx_run.specs.Outcome.{IsFirstFaultFor, IsNoFor, IsOutputFor}
+use Rattle.zx_run.specs.Outcome.{IsFaultlessFor, IsFirstFaultFor, MayAnswer}
 use Rattle.zx_run.specs.Answers.{ToldSource, IsFailure, IsMade, IsOutputOf}
 use Rattle.zx_run.proofs.CommandLemmas.{one_fault, fault_or_none, output_answers, no_answers}
-use Rattle.zxopt_c.specs.Calls.{IsAnswerTo}
+use Rattle.zxopt_c.specs.Calls.{IsAnswerTo, MayWrite}
 use Rattle.zxopt_c.specs.Internal.Answers.{answer_with}
 
-of_output : (command : Command) (text bytes : List ℕ) → IsOutputFor command (Some text) bytes → IsAnswerTo command text Done bytes
-of_output command text bytes output =
-    let answers = output_answers command (Some text) bytes text output refl in
-    record {
-      writes = output;
-      complete = λ none. inl answers.1;
-      refused_where = λ fault first. absurd (fault_or_none command text fault first answers.0);
-    }
-
-of_no : (command : Command) (text bytes : List ℕ) → IsNoFor command (Some text) bytes → IsAnswerTo command text No bytes
-of_no command text bytes output =
-    let answers = no_answers command (Some text) bytes text output refl in
-    record {
-      writes = output;
-      complete = λ none. inl answers.1;
-      refused_where = λ fault first. absurd (fault_or_none command text fault first answers.0);
-    }
+answered : (command : Command) (text bytes : List ℕ) (answer : Status) → MayWrite command text answer bytes
+    → IsFaultlessFor command text × MayAnswer command text answer → IsAnswerTo command text answer bytes
+answered command text bytes answer writes answers = record {
+  writes = writes;
+  complete = λ none. inl answers.1;
+  refused_where = λ fault first. absurd (fault_or_none command text fault first answers.0);
+}
 
 of_made : (command : Command) (text bytes : List ℕ) (says_no : Bool) → IsOutputOf (Some command) says_no (Some text) bytes
     → IsAnswerTo command text (answer_with says_no) bytes
-of_made command text bytes false output = of_output command text bytes output
-of_made command text bytes true output = of_no command text bytes output
+of_made command text bytes false output = answered command text bytes Done output (output_answers command (Some text) bytes text output refl)
+of_made command text bytes true output = answered command text bytes No output (no_answers command (Some text) bytes text output refl)
 
 of_refusal : (command : Command) (text : List ℕ) (fault : Fault) → IsFirstFaultFor command text fault → IsAnswerTo command text (Refused fault) []
 of_refusal command text fault first = record {

@@ -1,7 +1,8 @@
 //! Sets found on small graphs, which were worked out by hand.
 
-ghost use Rattle.std.specs.Prelude.{◌≡◌, [], ◌∷◌, true, IfOk, OnOk};
-ghost use Rattle.gflow_laws.specs.Flow.{order_of, IsFlow};
+ghost use Rattle.std.specs.Prelude.{◌≡◌, [], ◌∷◌, true, OnOk};
+ghost use Rattle.gflow_laws.specs.Flow.{order_of};
+ghost use Rattle.flow_check.specs.declared.verdict.Verdict.TheVariants.{Flow};
 ghost use Rattle.move_laws.specs.Orders.{HasFlowAlong};
 
 use super::drawing::{APART, BESIDE_AN_OUTPUT, Drawing, SHARED_OUTPUT, draw, id, stands_in};
@@ -47,18 +48,13 @@ fn has_order(table: &FlowTable, order: &[VertexId]) -> bool
     table.order() == order
 }
 
-// Whether a table is a flow of a graph.
-fn is_flow(
-    rt: &impl Abort,
-    alloc: Global,
-    graph: &OpenGraph,
-    table: &FlowTable,
-) -> Result<bool, AllocError>
-    ensures { IfOk result (λ is_flow. is_flow ≡ true → IsFlow graph.now.graph table.now.table) }
+// Whether this is said of a flow.
+fn is_flow(verdict: &Verdict) -> bool
+    ensures { result ≡ true → verdict.now ≡ Flow }
 {
-    match said_of(rt, alloc, graph, table)? {
-        Verdict::Flow => Ok(true),
-        Verdict::Fails { .. } => Ok(false),
+    match verdict {
+        Verdict::Flow => true,
+        Verdict::Fails { .. } => false,
     }
 }
 
@@ -75,8 +71,8 @@ fn fill_along(
 {
     fill(rt, table, flow)?;
     assert!(rt; has_order(table, order));
-    let is_flow = is_flow(rt, alloc, graph, table)?;
-    assert!(rt; is_flow);
+    let verdict = said_of(rt, alloc, graph, table)?;
+    assert!(rt; is_flow(&verdict));
     Ok(())
 }
 

@@ -4,6 +4,8 @@
 use super::trips::{reduced_trip, round_trip};
 use graph_rewrites::Step;
 use open_graph::VertexId;
+use std::alloc::Global;
+use std::process::Abort;
 use std::test::Fail;
 use zx_gates::Gate;
 use zx_model::Sixteenth;
@@ -38,29 +40,42 @@ fn a_gadget_on_outputs(rt: HostRuntime) -> Result<(), Fail> {
 }
 
 // Wire a c d e f g, with phases at c and e and an edge bd. Gadgets c and e are left, both on the output g.
-#[test]
-fn gadgets_that_share_an_output(rt: HostRuntime) -> Result<(), Fail> {
+fn two_gadgets(
+    rt: &impl Abort,
+    alloc: Global,
+    at_c: Sixteenth,
+    at_e: Sixteenth,
+) -> Result<(), Fail> {
     let gates = [
         Gate::H(0),
-        t(),
+        phase(at_c),
         Gate::H(0),
         Gate::Cz(0, 1),
         Gate::H(0),
-        t(),
+        phase(at_e),
         Gate::H(0),
         Gate::H(0),
     ];
     let steps = [pivot(2, 3), delete(3), pivot(4, 5), delete(5)];
-    round_trip(&rt, rt.alloc(), &gates, &steps)
+    round_trip(rt, alloc, &gates, &steps)
+}
+
+#[test]
+fn gadgets_that_share_an_output(rt: HostRuntime) -> Result<(), Fail> {
+    two_gadgets(&rt, rt.alloc(), Sixteenth::new(2), Sixteenth::new(2))
 }
 
 // Wire a c d, with a phase at c and an edge bd. The output's end is split from d before the pivot, so it carries a
 // Hadamard.
+fn boundary_pivot(rt: &impl Abort, alloc: Global, at_c: Sixteenth) -> Result<(), Fail> {
+    let gates = [Gate::H(0), phase(at_c), Gate::H(0), Gate::Cz(0, 1)];
+    let steps = [Step::SplitOutput(id(3)), pivot(2, 3), delete(3)];
+    round_trip(rt, alloc, &gates, &steps)
+}
+
 #[test]
 fn a_pivot_at_the_boundary(rt: HostRuntime) -> Result<(), Fail> {
-    let gates = [Gate::H(0), t(), Gate::H(0), Gate::Cz(0, 1)];
-    let steps = [Step::SplitOutput(id(3)), pivot(2, 3), delete(3)];
-    round_trip(&rt, rt.alloc(), &gates, &steps)
+    boundary_pivot(&rt, rt.alloc(), Sixteenth::new(2))
 }
 
 // Wires a c e g and b d f h, with edges cd, ef and gh. A vertex at each end is left, and the wires cross.
@@ -100,29 +115,14 @@ fn five() -> Sixteenth {
     Sixteenth::new(5)
 }
 
-// The gadgets c and e of before, of one and three sixteenth turns.
 #[test]
 fn gadgets_of_sixteenth_turns(rt: HostRuntime) -> Result<(), Fail> {
-    let gates = [
-        Gate::H(0),
-        phase(one()),
-        Gate::H(0),
-        Gate::Cz(0, 1),
-        Gate::H(0),
-        phase(three()),
-        Gate::H(0),
-        Gate::H(0),
-    ];
-    let steps = [pivot(2, 3), delete(3), pivot(4, 5), delete(5)];
-    round_trip(&rt, rt.alloc(), &gates, &steps)
+    two_gadgets(&rt, rt.alloc(), one(), three())
 }
 
-// A phase of five sixteenth turns before a pivot at the boundary.
 #[test]
 fn a_sixteenth_turn_at_the_boundary(rt: HostRuntime) -> Result<(), Fail> {
-    let gates = [Gate::H(0), phase(five()), Gate::H(0), Gate::Cz(0, 1)];
-    let steps = [Step::SplitOutput(id(3)), pivot(2, 3), delete(3)];
-    round_trip(&rt, rt.alloc(), &gates, &steps)
+    boundary_pivot(&rt, rt.alloc(), five())
 }
 
 // Two phases, each on the sum of both bits.

@@ -1,5 +1,6 @@
 -- A graph while it is simplified.
-use Rattle.std.specs.Prelude.{◌≡◌, ◌≤◌, ◌+◌, ◌*◌, ◌^◌, ◌++◌, ℕ, Bool, true, false, List, [], ◌∷◌, map}
+use Rattle.std.specs.Prelude.{◌≡◌, ◌≤◌, ◌+◌, ◌*◌, ◌^◌, ◌++◌, ℕ, Bool, true, false, Option, Some, None}
+use Rattle.std.specs.Prelude.{List, [], ◌∷◌, map}
 use Rattle.zx_model.specs.Scalar.{IsWithin, one_scalar, product_of_scalars}
 use Rattle.zx_model.specs.declared.scalar.Scalar.{Scalar}
 use Rattle.zx_calculus.specs.Graph.{Graph, WellFormed}
@@ -10,19 +11,39 @@ use Rattle.zx_calculus.specs.Steps.{IsStep}
 use Rattle.zx_calculus.specs.StepScalars.{step_scalar}
 use Rattle.gflow_laws.specs.Flow.{Correction, IsFlow}
 use Rattle.move_laws.specs.Orders.{is_split}
+use Rattle.circuit_graph.specs.Translation.{present}
+use Rattle.phase_groups.specs.Groups.{Phases, IsAdded, IsFollowed}
 use Rattle.graph_rewrites.specs.Steps.{step_named}
 use Rattle.graph_rewrites.specs.declared.step.Step.{Step}
 use Rattle.zx_reduce.specs.Scaling.{most_steps}
 use Rattle.zx_reduce.specs.Internal.Ordering.{Ordered, IsOrdered}
 
 -- the graph with its order, what a sum is times its own, how many steps were done, those that were done once no gate
--- comes any more, and whether gates still come
+-- comes any more, whether gates still come, and the groups of gates, where it is asked for them
 pub record Progress : Type 0 where
   pub ordered : Ordered
   pub scalar : Scalar
   pub steps : ℕ
   pub trace : List Step
   pub takes_gates : Bool
+  pub phases : Option Phases
+
+-- what a step of g does to groups of gates, where it is asked for them
+abbrev pub AreFollowed : Graph → calculus.Step → Option Phases → Option Phases → Type 0
+AreFollowed g s None after = after ≡ None
+AreFollowed g s (Some p) None = ⊥
+AreFollowed g s (Some p) (Some q) = IsFollowed g s p q
+
+-- what the phase k of the gate i does to them, which the vertex v holds from now on
+abbrev pub AreAdded : ℕ → ℕ → ℕ → Option Phases → Option Phases → Type 0
+AreAdded i v k None after = after ≡ None
+AreAdded i v k (Some p) None = ⊥
+AreAdded i v k (Some p) (Some q) = IsAdded i v k p q
+
+-- the vertex at the output n holds the phase k of the gate i as well
+pub record Notes (i n k : ℕ) (p q : Progress) : Type 0 where
+  pub same : q ≡ record p { phases = q.phases }
+  pub phases : AreAdded i (present p.ordered.graph n) k p.phases q.phases
 
 -- q is p after a step: it splits no end while gates come, and stands in the trace afterwards
 pub record IsDone (p : Progress) (s : Step) (q : Progress) : Type 0 where
@@ -33,6 +54,7 @@ pub record IsDone (p : Progress) (s : Step) (q : Progress) : Type 0 where
   pub trace : p.takes_gates ≡ false → q.trace ≡ p.trace ++ s ∷ []
   pub whole : p.takes_gates ≡ true → is_split (step_named s) ≡ false
   pub takes_gates : q.takes_gates ≡ p.takes_gates
+  pub phases : AreFollowed p.ordered.graph (step_named s) p.phases q.phases
 
 -- q is p after these steps, one after the other
 abbrev pub AreDone : Progress → List Step → Progress → Type 0
@@ -93,3 +115,11 @@ pub record Completes (p : Progress) (h : Graph) (table : List Correction) (trace
   pub end : Progress
   pub done : AreDone (record p { takes_gates = false }) steps end
   pub finishes : Finishes end h table trace s
+
+-- the groups of gates after some steps of p, once no gate comes any more and no move is left
+pub record EndsWith (p : Progress) (found : Option Phases) : Type 0 where
+  pub steps : List Step
+  pub end : Progress
+  pub done : AreDone (record p { takes_gates = false }) steps end
+  pub stuck : IsStuck end.ordered.graph
+  pub phases : found ≡ end.phases

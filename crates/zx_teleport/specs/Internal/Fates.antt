@@ -2,13 +2,13 @@
 use Rattle.std.specs.Prelude.{◌==◌, if◌then◌else◌, ℕ, Bool, false, List, [], ◌∷◌, length, slice_index_or}
 use Rattle.zx_model.specs.Bits.{xor}
 use Rattle.teleport_laws.specs.Spots.{Holder, At, Deleted, Dropped, Spot, spot_at}
-use Rattle.zx_teleport.specs.declared.notes.Note.{Note}
-use Rattle.zx_teleport.specs.declared.notes.Parting.{Parting}
-use Rattle.zx_teleport.specs.declared.notes.Parting.TheVariants as partings
+use Rattle.phase_groups.specs.declared.notes.Note.{Note}
+use Rattle.phase_groups.specs.declared.notes.Parting.{Parting}
+use Rattle.phase_groups.specs.declared.notes.Parting.TheVariants as partings
 use Rattle.zx_teleport.specs.declared.fates.Fate.{Fate}
 use Rattle.zx_teleport.specs.declared.fates.Keeper.{Keeper}
 use Rattle.zx_teleport.specs.declared.fates.Keeper.TheVariants as keepers
-use Rattle.zx_teleport.specs.Internal.Noting.{stands_odd}
+use Rattle.phase_groups.specs.Noting.{stands_odd}
 
 abbrev pub holder_named : Keeper → Holder
 holder_named (keepers.At v) = At v

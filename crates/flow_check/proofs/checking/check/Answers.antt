@@ -5,10 +5,11 @@ use Rattle.gflow_laws.specs.Seen.{Seen, seen}
 use Rattle.gflow_laws.specs.Flow.{Correction}
 use Rattle.flow_check.specs.declared.verdict.Condition.{Condition}
 use Rattle.flow_check.specs.declared.verdict.Verdict.TheVariants.{Flow}
-use Rattle.flow_check.specs.Failures.{conditions, holds, all_hold}
+use Rattle.flow_check.specs.Failures.{conditions, holds, all_hold, IsFirstFailure}
 use Rattle.flow_check.specs.Internal.Conditions.{IsFirstOrNone}
 use Rattle.flow_check.proofs.FirstFailures.{flow_from, is_flow, flow_fails_nowhere, fails_no_flow, fails_there}
 use Rattle.flow_check.proofs.Walking.{listed, stands, marked, one_more_taken, first_there}
+use Rattle.flow_check.proofs.checking.check.Goals.{In-Some}
 use Rattle.flow_check.proofs.checking.check.Goals as goal
 
 pub first_failing-requires-clause-listed : goal.first_failing-requires-clause-listed
@@ -34,23 +35,24 @@ loop-v-preserved c =
           (subst (λ (r : Option Condition). IsFirstOrNone (holds s table c.v-item.result) conditions r) none c.in_ok-condition.ensures);
     })
 
-pub returns-in-Some-clause-flow : goal.returns-in-Some-clause-flow
-returns-in-Some-clause-flow c =
+-- the vertex is the first that fails, by this condition
+first_failure : (c : In-Some) → IsFirstFailure (seen c.args.g.now.graph) c.args.t.now.table c.v-item.result c.in-Some.condition
+first_failure c =
     let s : Seen = seen c.args.g.now.graph in
     let table : List Correction = c.args.t.now.table in
-    fails_no_flow s table c.v-item.result c.in-Some.condition
-    (first_there s table c.order-v-items.result.now c.loop-v.v-index c.v-item.result c.order-v-items.ensures.value c.order-v-items.ensures.valid
+    first_there s table c.order-v-items.result.now c.loop-v.v-index c.v-item.result c.order-v-items.ensures.value c.order-v-items.ensures.valid
     c.loop-v-test.true c.v-item.is c.loop-v.invariant.held c.in-Some.condition
-    (subst (λ (r : Option Condition). IsFirstOrNone (holds s table c.v-item.result) conditions r) c.in-Some.is c.in_ok-condition.ensures))
+    (subst (λ (r : Option Condition). IsFirstOrNone (holds s table c.v-item.result) conditions r) c.in-Some.is c.in_ok-condition.ensures)
+
+pub returns-in-Some-clause-flow : goal.returns-in-Some-clause-flow
+returns-in-Some-clause-flow c =
+    fails_no_flow (seen c.args.g.now.graph) c.args.t.now.table c.v-item.result c.in-Some.condition
+    (first_failure (goal.at.returns-in-Some-clause-flow c).In-Some)
 
 pub returns-in-Some-clause-fails : goal.returns-in-Some-clause-fails
 returns-in-Some-clause-fails c =
-    let s : Seen = seen c.args.g.now.graph in
-    let table : List Correction = c.args.t.now.table in
-    fails_there s table c.v-item.result c.in-Some.condition
-    (first_there s table c.order-v-items.result.now c.loop-v.v-index c.v-item.result c.order-v-items.ensures.value c.order-v-items.ensures.valid
-    c.loop-v-test.true c.v-item.is c.loop-v.invariant.held c.in-Some.condition
-    (subst (λ (r : Option Condition). IsFirstOrNone (holds s table c.v-item.result) conditions r) c.in-Some.is c.in_ok-condition.ensures))
+    fails_there (seen c.args.g.now.graph) c.args.t.now.table c.v-item.result c.in-Some.condition
+    (first_failure (goal.at.returns-in-Some-clause-fails c).In-Some)
 
 pub returns-clause-flow : goal.returns-clause-flow
 returns-clause-flow c =

@@ -2,9 +2,9 @@
 use Rattle.std.proofs.Common.{arith}
 use Rattle.zx_calculus.specs.Graph.{ids}
 use Rattle.zx_moves.specs.Internal.Searching.{NoneBefore}
-use Rattle.zx_moves.proofs.SearchKinds.{best_is_first, no_best}
+use Rattle.zx_moves.proofs.SearchKinds.{NoneAnywhere, best_is_first, no_best}
 use Rattle.open_graph.proofs.Walks.{next_some, next_none, next_all, next_there, next_passed, all_passed}
-use Rattle.zx_moves.proofs.search.next_move.Goals.{in-Some-first_at, in_default}
+use Rattle.zx_moves.proofs.search.next_move.Goals.{In-None, in-Some-first_at, in_default}
 use Rattle.zx_moves.proofs.search.next_move.Goals as goal
 
 pub first_at-requires-clause-live : goal.first_at-requires-clause-live
@@ -38,23 +38,23 @@ loop-u-preserved c =
       }
     ]
 
-pub returns-in-None-clause-first : goal.returns-in-None-clause-first
-returns-in-None-clause-first c =
+-- all vertices were passed
+none_anywhere : (c : In-None) → NoneAnywhere c.args.g.now.graph c.loop-u.limit
+none_anywhere c =
     let g = c.args.g.now.graph in
     let past = c.loop-u.invariant in
-    best_is_first g c.loop-u.limit c.loop-u.best
-    (all_passed (NoneBefore g c.loop-u.limit) c.loop-u.yielded c.loop-u.u-iterator (ids g.vertices) past.all
-    (next_none c.next.result c.loop-u.u-iterator c.next.new.self c.next.ensures.steps c.in-None.is) past.none)
-    past.best
+    all_passed (NoneBefore g c.loop-u.limit) c.loop-u.yielded c.loop-u.u-iterator (ids g.vertices) past.all
+    (next_none c.next.result c.loop-u.u-iterator c.next.new.self c.next.ensures.steps c.in-None.is) past.none
+
+pub returns-in-None-clause-first : goal.returns-in-None-clause-first
+returns-in-None-clause-first c =
+    best_is_first c.args.g.now.graph c.loop-u.limit c.loop-u.best (none_anywhere (goal.at.returns-in-None-clause-first c).In-None)
+    c.loop-u.invariant.best
 
 pub returns-in-None-clause-none : goal.returns-in-None-clause-none
 returns-in-None-clause-none c =
-    let g = c.args.g.now.graph in
-    let past = c.loop-u.invariant in
-    no_best g c.loop-u.limit c.loop-u.best
-    (all_passed (NoneBefore g c.loop-u.limit) c.loop-u.yielded c.loop-u.u-iterator (ids g.vertices) past.all
-    (next_none c.next.result c.loop-u.u-iterator c.next.new.self c.next.ensures.steps c.in-None.is) past.none)
-    past.nothing
+    no_best c.args.g.now.graph c.loop-u.limit c.loop-u.best (none_anywhere (goal.at.returns-in-None-clause-none c).In-None)
+    c.loop-u.invariant.nothing
 
 -- no kind comes before the first
 pub returns-then-limit-eq0-clause-first : goal.returns-then-limit-eq0-clause-first

@@ -6,13 +6,13 @@ use Rattle.zx_gates.specs.Circuit.{IsOnQubits}
 use Rattle.zx_gates.specs.declared.gate.Gate.{Gate}
 use Rattle.circuit_graph.specs.Translation.{written_out}
 use Rattle.growing_laws.proofs.GrownGraphs.{grown_outputs}
-use Rattle.zx_reduce.specs.Internal.Growing.{IsGrown}
+use Rattle.zx_reduce.specs.Internal.Growing.{IsGrown, none_held}
 use Rattle.zx_reduce.proofs.Growths.{one_more}
 use Rattle.zx_reduce.proofs.Completing.{grown_whole}
 use Rattle.zx_reduce.proofs.growing.grow.Goals as goal
 
 pub loop-gate-init : goal.loop-gate-init
-loop-gate-init c = record { grown = subst (λ n. IsGrown n _ c.in_ok-growing.growing.engine.progress) c.qubits.ensures.value c.in_ok-growing.ensures }
+loop-gate-init c = record { grown = subst (λ n. IsGrown n _ none_held c.in_ok-growing.growing.engine.progress) c.qubits.ensures.value c.in_ok-growing.ensures }
 
 pub add_gate-requires-clause-on_qubits : goal.add_gate-requires-clause-on_qubits
 add_gate-requires-clause-on_qubits c =
@@ -28,7 +28,7 @@ add_gate-requires-clause-on_qubits c =
 
 pub loop-gate-preserved : goal.loop-gate-preserved
 loop-gate-preserved c = record {
-  grown = one_more c.args.circuit.now.qubits c.args.circuit.now.gates c.loop-gate.gate-index c.gate-item.result c.loop-gate.growing.engine.progress _
+  grown = one_more c.args.circuit.now.qubits c.args.circuit.now.gates none_held c.loop-gate.gate-index c.gate-item.result c.loop-gate.growing.engine.progress _
       (omega (arith, ap length c.gates-gate-items.ensures.value)) (c.gate-item.is ∙ ap (λ gates. get_or gates c.loop-gate.gate-index c.gate-item.result) c.gates-gate-items.ensures.value)
       c.loop-gate.invariant.grown c.in_ok-add_gate.ensures;
 }
@@ -41,6 +41,6 @@ returns c =
     grown_whole read c.loop-gate.growing.engine.progress made.graph.graph made.flow.flow made.trace.steps made.scalar c.times.result
     (λ k d within. (c.gates-gate-items.ensures.valid.on_qubits k d within).0)
     c.gates.ensures.few (subst (IsWithin (4 * length read.gates)) c.scalar_of.ensures.value c.scalar_of.ensures.small)
-    (subst (λ (gates : List Gate). IsGrown read.qubits (written_out gates) c.loop-gate.growing.engine.progress)
+    (subst (λ (gates : List Gate). IsGrown read.qubits (written_out gates) none_held c.loop-gate.growing.engine.progress)
     (ap (λ i. take i read.gates) all ∙ take-length read.gates) c.loop-gate.invariant.grown)
     c.in_ok-made.ensures (c.times.ensures ∙ ap (λ s. product_of_scalars s made.scalar) c.scalar_of.ensures.value)

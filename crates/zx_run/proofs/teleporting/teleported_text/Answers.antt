@@ -1,12 +1,11 @@
 -- The circuit with teleported phases is what is written.
-use Rattle.std.proofs.Common.{◌∙◌, ap, map, rules, subst}
+use Rattle.std.proofs.Common.{◌∙◌, ap, rules, subst}
 use Rattle.std.proofs.lemmas.Result.{IfOk-weaker}
 use Rattle.zx_gates.specs.Circuit.{IsCircuit}
 use Rattle.zx_gates.specs.ElementaryMaps.{amp_elementary}
 use Rattle.zx_gates.specs.Maps.{amp}
 use Rattle.zx_model.proofs.ProportionalLemmas.{proportional_sym}
 use Rattle.zx_model.proofs.Scalars.{scaled_proportional}
-use Rattle.graph_rewrites.specs.Steps.{step_named}
 use Rattle.qasm_writer.specs.Written.{written}
 use Rattle.zx_run.proofs.OptimiseLemmas.{IsTeleportedText-written, measured_behind}
 use Rattle.zx_run.proofs.teleporting.teleported_text.Goals as goal
@@ -15,9 +14,9 @@ pub returns : goal.returns
 returns c = λ text accepted.
     let from = c.in_ok-lowered.lowered.gates in
     let lowered = c.in_ok-lowered.ensures in
-    let found = c.in_ok-teleported.teleported in
-    let made = c.in_ok-teleported.ensures.teleported in
-    let circuit = found.gates in
+    let circuit = c.in_ok-gates.gates in
+    let found = c.in_ok-gates.ensures in
+    let made = found.teleported in
     IfOk-weaker c.write_text.result _ _
     (λ output h. IsTeleportedText-written text output.items c.args.read.now from circuit accepted lowered.kept.qubits lowered.list
     (scaled_proportional c.args.read.now.qubits c.args.read.now.qubits (amp_elementary c.args.read.now.gates) (amp from.gates) c.in_ok-lowered.lowered.scalar lowered.kept.scaled) lowered.odd
@@ -27,8 +26,8 @@ returns c = λ text accepted.
       map = proportional_sym from.qubits from.qubits (amp circuit.gates) (amp from.gates) made.map;
       odd = made.fewer;
       reduced = record {
-        steps = map step_named found.trace.steps;
-        end = found.reduced.graph;
+        steps = found.steps;
+        end = found.end;
         run = made.run;
         reduced = made.reduced;
         odd = made.odd;

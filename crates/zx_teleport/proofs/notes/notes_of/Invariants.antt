@@ -1,7 +1,7 @@
 -- The steps that are left can be done, and their notes behind those so far are those of all.
 use Rattle.std.proofs.Common.{List, ◌++◌, drop, map}
 use Rattle.graph_rewrites.specs.Steps.{step_named}
-use Rattle.zx_teleport.specs.declared.notes.Note.{Note}
+use Rattle.phase_groups.specs.declared.notes.Note.{Note}
 use Rattle.zx_teleport.specs.Internal.Noting.{AreNoted, MayRun}
 use Rattle.zx_teleport.proofs.notes.notes_of.Given as goal
 

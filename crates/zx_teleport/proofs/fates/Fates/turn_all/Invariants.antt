@@ -1,6 +1,6 @@
 -- Those so far are negated.
 use Rattle.std.proofs.Common.{◌≡◌, ℕ, take}
-use Rattle.zx_teleport.specs.Internal.Noting.{stands_odd}
+use Rattle.phase_groups.specs.Noting.{stands_odd}
 use Rattle.zx_teleport.specs.Internal.Fates.{told, turned}
 use Rattle.zx_teleport.proofs.fates.Fates.turn_all.Given as goal
 

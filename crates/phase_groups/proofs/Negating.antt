@@ -1,7 +1,8 @@
 -- Which phases a step negates: those near its first vertex alone.
-use Rattle.std.proofs.Common.{◌≡◌, refl, sym, ◌∙◌, ap, ap₂, ℕ, Bool, true, false, not, ◌&&◌, ◌||◌, cond, eqb, List, Option, Some, None, is_some, eqb-true, true≢false, arith}
+use Rattle.std.proofs.Common.{◌≡◌, refl, sym, ◌∙◌, ap, ap₂, ℕ, Bool, true, false, not, ◌&&◌, ◌||◌, cond, eqb, List, [], ◌∷◌, ◌++◌, Option, Some, None, is_some, eqb-true, true≢false, arith}
 use Rattle.zx_model.specs.Bits.{xor, member}
 use Rattle.zx_model.specs.Phase.{half_turn}
+use Rattle.zx_model.proofs.BitLemmas.{xor_assoc}
 use Rattle.zx_calculus.specs.Graph.{Graph, joined, neighbours, plane_of, phase_of, is_XY, is_XZ, WellFormed}
 use Rattle.zx_calculus.specs.Gadgets.{first_of_list}
 use Rattle.zx_calculus.specs.Steps.{LocalComplement, Delete, Pivot, FuseInto, allowed, after}
@@ -12,8 +13,10 @@ use Rattle.zx_bits.specs.Rows.{IsFirstFrom}
 use Rattle.zx_calculus.proofs.Ids.{by_equal, eqb-self}
 use Rattle.zx_calculus.proofs.Splitting.{no_loop}
 use Rattle.zx_calculus.proofs.Allowed.{pivot_joined}
+use Rattle.zx_calculus.proofs.Booleans.{xor-false}
 use Rattle.zx_calculus.proofs.Toggling.{member-neighbours}
 use Rattle.teleport_laws.specs.Shifts.{negates, into_of}
+use Rattle.phase_groups.specs.Noting.{stands_odd}
 
 and_again : (a b : Bool) → (a && (a && b)) ≡ (a && b)
 and_again true b = refl
@@ -48,6 +51,19 @@ module _ (g : Graph) where
       ∙ near_pivot (eqb v u) (eqb v w) (joined g.edges u v) (is_XZ (plane_of g v)) (joined g.edges w v && not (is_XY (plane_of g v)))
       (λ t. by_equal v w (λ r e. ap (joined g.edges u) e ∙ pivot_joined g u w may) (λ f n. absurd (true≢false (sym t ∙ f))))
       ∙ ap (cond (eqb v u || eqb v w) (is_XZ (plane_of g v))) (sym (and_group (joined g.edges u v) (joined g.edges w v) (not (is_XY (plane_of g v)))))
+
+-- ---- vertices that stand an odd number of times in a list
+pub stands_odd-more : (xs : List ℕ) (v w : ℕ) → stands_odd (xs ++ v ∷ []) w ≡ xor (stands_odd xs w) (eqb w v)
+stands_odd-more [] v w = xor-false (eqb w v)
+stands_odd-more (x ∷ xs) v w = ap (xor (eqb w x)) (stands_odd-more xs v w) ∙ sym (xor_assoc (eqb w x) (stands_odd xs w) (eqb w v))
+
+picked : (e n : Bool) → n ≡ true → e ≡ (e && n)
+picked true n is = sym is
+picked false n is = refl
+
+-- a vertex more, which a test picks
+pub picked_more : (xs ys : List ℕ) (v w : ℕ) (n : Bool) → ys ≡ xs ++ v ∷ [] → n ≡ true → stands_odd ys w ≡ xor (stands_odd xs w) (eqb w v && n)
+picked_more xs ys v w n more is = ap (λ zs. stands_odd zs w) more ∙ stands_odd-more xs v w ∙ ap (xor (stands_odd xs w)) (picked (eqb w v) n is)
 
 -- ---- the vertex and its neighbours, as far as they have come
 -- one more

@@ -1,7 +1,7 @@
 -- A vertex more.
 use Rattle.std.proofs.Common.{sym, ◌∙◌}
-use Rattle.zx_teleport.proofs.Turning.{picked_more}
-use Rattle.zx_teleport.proofs.notes.add_if_negated.Goals as goal
+use Rattle.phase_groups.proofs.Negating.{picked_more}
+use Rattle.phase_groups.proofs.notes.add_if_negated.Goals as goal
 
 pub returns-in_ok-push : goal.returns-in_ok-push
 returns-in_ok-push c = λ w.

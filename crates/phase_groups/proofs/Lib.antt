@@ -1,0 +1,3 @@
+pub mod Negating
+pub mod Agreeing
+pub mod Following

@@ -1,0 +1,4 @@
+pub mod Noting
+pub mod Groups
+pub mod Taking
+pub mod Agreement

@@ -1,0 +1,15 @@
+-- Phases of gates by the groups in which they are held.
+use Rattle.std.specs.Prelude.{ℕ, if◌then◌else◌}
+use Rattle.zx_gates.specs.Circuit.{Circuit, is_odd_phase}
+use Rattle.zx_gates.specs.declared.gate.Gate.{Gate}
+use Rattle.phase_groups.specs.Groups.{Phases, phase_of_gate}
+use Rattle.teleport_circuits.specs.Circuits.{phase_in}
+use Rattle.teleport_circuits.specs.Teleporting.{gate_at}
+
+-- the phase of the gate i: that of its group, where it is odd, else its own
+abbrev pub phase_held : Phases → ℕ → Gate → ℕ
+phase_held p i gate = if is_odd_phase gate then phase_of_gate p i else phase_in gate
+
+-- the same of each gate of a circuit
+abbrev pub phases_held : Circuit → Phases → ℕ → ℕ
+phases_held c p i = phase_held p i (gate_at c i)
