@@ -18,7 +18,7 @@ use Rattle.qasm_scope.specs.Calls as event
 use Rattle.qasm_scope.specs.Meaning.{after_statement, events_of, fault_after, first_fault, gates_after, is_version, wrong_with}
 use Rattle.qasm_scope.specs.Measurements.{measured_by}
 use Rattle.qasm_scope.specs.Faults.{wrong_in}
-use Rattle.qasm_scope.specs.Scope.{Scope, Meaning, Qubits, Bits, Gate}
+use Rattle.qasm_scope.specs.Scope.{Scope, Meaning, Qubits, Bits, Gate, lookup_in}
 use Rattle.qasm_unroll.specs.Internal.KeptCalls.{u_events, cx_events}
 use Rattle.qasm_unroll.proofs.EventLemmas.{applied-append, call_count-append}
 use Rattle.qasm_unroll.proofs.MeantLemmas.{none-both, none-second, version-from, version-after}
@@ -101,7 +101,7 @@ statement-few scope (Opaque name parameters qubits) = omega arith
 statement-few scope (If register value action) = omega arith
 statement-few scope (Barrier operands) = omega arith
 statement-few scope (Act (Applied a)) =
-    few-flat_map (λ qubits. call (expand_declared scope) a.gate 1 (angles_of [] [] a.angles) qubits) (instances (ranges_of scope a.qubits))
+    few-flat_map (λ qubits. call (expand_declared scope) a.gate 1 (angles_of [] [] a.angles) qubits) (instances (ranges_of (lookup_in scope) a.qubits))
     (λ qubits. call-few scope a.gate 1 (angles_of [] [] a.angles) qubits (gates-few scope))
 statement-few scope (Act (Measured from to)) = omega arith
 statement-few scope (Act (Reset operand)) = omega arith

@@ -10,7 +10,7 @@ use Rattle.qasm_scope.specs.Calls.{call_count}
 use Rattle.qasm_scope.specs.Faults.{tests_behind, wrong_behind, wrong_in}
 use Rattle.qasm_scope.specs.Measurements.{are_unlike, bit_range_of, bits_of, holds_any, measured_by, measures_of, qubits_of}
 use Rattle.qasm_scope.specs.Meaning.{after_statement, events_of, fault_after, first_fault, measures_after, wrong_with}
-use Rattle.qasm_scope.specs.Scope.{Scope}
+use Rattle.qasm_scope.specs.Scope.{Scope, lookup_in}
 use Rattle.qasm_unroll.proofs.MeantLemmas.{no_cause, none-both, none-first, none-second, passes, version-after, version-from, version-measures}
 use Rattle.qasm_unroll.proofs.MemberLemmas.{Once, once-append, once-distinct}
 use Rattle.qasm_unroll.proofs.RangeLemmas.{measured-bits, measured-qubits, places, places-apart, places-once}
@@ -46,7 +46,7 @@ statement-once scope measured (Act (Applied a)) right behind h = subst Distinct 
 statement-once scope measured (Act (Reset operand)) right behind h = subst Distinct (sym (append-nil measured)) h
 statement-once scope measured (Act (Measured from to)) right behind h =
     let tests = no_cause (tests_behind scope measured (Act (Measured from to))) behind in
-    measured-once (range_of scope from) (bit_range_of scope to) measured (passes scope (Act (Measured from to)) right).1.1.0 tests.0 tests.1.0 h
+    measured-once (range_of (lookup_in scope) from) (bit_range_of (lookup_in scope) to) measured (passes scope (Act (Measured from to)) right).1.1.0 tests.0 tests.1.0 h
 
 once-after : (most : ℕ) (scope : Scope) (measured : List Measure) (calls : ℕ) (statements : List Placed) → fault_after most scope measured calls statements ≡ None
     → Distinct measured → Distinct (measured ++ measures_after scope statements)

@@ -53,9 +53,6 @@ spelled-as B weaker h from place =
 none-first : (B : List Lexeme → Type 0) (ts : List Lexeme) → (AreNone ⋅ B) ts → B ts
 none-first B ts (us, vs, e, none, b) = subst B (sym (e ∙ ap (λ u. u ++ vs) none)) b
 
-none-last : (B : List Lexeme → Type 0) (ts : List Lexeme) → (B ⋅ AreNone) ts → B ts
-none-last B ts (us, vs, e, b, none) = subst B (sym (e ∙ ap (λ v. us ++ v) none ∙ append-nil us)) b
-
 -- white space before it
 pub spelled-behind : {B : List Lexeme → Type 0} {text middle rest : List ℕ} → IsSpelled AreNone text middle → IsSpelled B middle rest → IsSpelled B text rest
 spelled-behind {B} first next = spelled-as B (none-first B) (spelled-then first next)

@@ -1,7 +1,7 @@
 -- Tokens whose texts are kept one behind the other.
-use Rattle.std.proofs.Common.{◌≡◌, ℕ, zero, suc, ◌+◌, ◌≤◌, List, [], ◌∷◌, ◌++◌, length, take, drop, refl, sym, ap, ap₂, ◌∙◌, arith, length-drop}
+use Rattle.std.proofs.Common.{◌≡◌, ℕ, ◌+◌, ◌≤◌, List, [], ◌∷◌, ◌++◌, length, take, drop, refl, sym, ap, ap₂, ◌∙◌, arith, length-drop}
 use Rattle.std.specs.List.{concat}
-use Rattle.std.proofs.lemmas.List.{nil_from_length, take-append-drop, take_all, take-append-le, drop-append-le, drop-drop}
+use Rattle.std.proofs.lemmas.List.{nil_from_length, take-append-drop, take_all, take-append-le, drop-append-le}
 use Rattle.qasm_lexer.specs.declared.token_list.Entry.{Entry}
 use Rattle.qasm_lexer.specs.Tokens.{Lexeme}
 use Rattle.qasm_lexer.specs.TokenLists.{texts}
@@ -33,19 +33,6 @@ concat-listed pool [] all = sym (nil_from_length pool (sym all))
 concat-listed pool (first ∷ entries) all =
     ap (λ rest. take first.count pool ++ rest) (concat-listed (drop first.count pool) entries (omega (arith, all, length-drop first.count pool)))
     ∙ take-append-drop first.count pool
-
-pub count_of-split : (n : ℕ) (entries : List Entry) → count_of (take n entries) + count_of (drop n entries) ≡ count_of entries
-count_of-split n entries = sym (sum_of (take n entries) (drop n entries)) ∙ ap count_of (take-append-drop n entries) where
-  sum_of : (these those : List Entry) → count_of (these ++ those) ≡ count_of these + count_of those
-  sum_of [] those = omega arith
-  sum_of (first ∷ these) those = omega (arith, sum_of these those)
-
--- the first tokens are dropped with their texts
-pub listed-drop : (n : ℕ) (pool : List ℕ) (entries : List Entry) → listed (drop (count_of (take n entries)) pool) (drop n entries) ≡ drop n (listed pool entries)
-listed-drop zero pool entries = refl
-listed-drop (suc n) pool [] = refl
-listed-drop (suc n) pool (first ∷ entries) =
-    ap (λ p. listed p (drop n entries)) (sym (drop-drop (count_of (take n entries)) first.count pool)) ∙ listed-drop n (drop first.count pool) entries
 
 pub length-listed : (pool : List ℕ) (entries : List Entry) → length (listed pool entries) ≡ length entries
 length-listed pool [] = refl

@@ -1,7 +1,7 @@
 -- The steps of the lexer that takes pieces.
-use Rattle.std.proofs.Common.{◌≡◌, ℕ, ◌<◌, List, [], ◌∷◌, ◌++◌, length, take, drop, map, sym, ap, ◌∙◌, subst, arith, inl, inr, ◌⊎◌, Option, None, Some, Result, Ok, Err, append_assoc, length-drop}
+use Rattle.std.proofs.Common.{◌≡◌, ℕ, ◌<◌, List, [], ◌∷◌, ◌++◌, length, map, sym, ap, ◌∙◌, subst, arith, inl, inr, ◌⊎◌, Some, Result, Ok, Err, append_assoc, length-drop}
 use Rattle.std.specs.Prelude.{IfOk, IfErr, IsErrAnd, MatchResult}
-use Rattle.std.proofs.lemmas.List.{append-nil, map-append, take-append-drop}
+use Rattle.std.proofs.lemmas.List.{append-nil, map-append}
 use Rattle.qasm_lexer.specs.declared.token.Token.{Token}
 use Rattle.qasm_lexer.specs.declared.errors.LexError.{LexError}
 use Rattle.qasm_lexer.specs.declared.errors.LexError.TheVariants.{BadByte, NoMemory}
@@ -65,43 +65,26 @@ bad_line_stays at bytes more b = record {
 }
 
 -- ---- answers at the end
-pub bad_told : (fault : LexError) (lexer : PieceLexer) (passed : List Lexeme) (bytes : List ℕ) (at : ℕ) → CameWith (Some fault) lexer passed bytes
+pub bad_told : (fault : LexError) (lexer : PieceLexer) (bytes : List ℕ) (at : ℕ) → CameWith (Some fault) lexer bytes
     → fault ≡ BadByte at → IsBadByte bytes at
-bad_told (BadByte this) lexer passed bytes at b e =
+bad_told (BadByte this) lexer bytes at b e =
     let same : this ≡ at = cc in
     rw b.whole (subst (IsBadByte (b.lines ++ b.rest)) same (bad_byte_stays b.lines b.rest this b.are b.bad))
-bad_told NoMemory lexer passed bytes at b e = absurd b
+bad_told NoMemory lexer bytes at b e = absurd b
 
-pub cut_or_memory : (result : Result (List Lexeme) LexError) (passed : List Lexeme) (bytes : List ℕ) (tokens : List Lexeme)
-    → IfOk result (λ given. IsCut 0 bytes (passed ++ given)) → ((at : ℕ) → result ≡ Err (BadByte at) → IsBadByte bytes at) → IsCut 0 bytes tokens
-    → MatchResult result (λ given. passed ++ given ≡ tokens) (λ error. error ≡ NoMemory)
-cut_or_memory (Ok given) passed bytes tokens c bad cut = same_tokens bytes 0 (passed ++ given) tokens c cut
-cut_or_memory (Err error) passed bytes tokens c bad cut = only_memory bytes tokens error (λ at e. bad at (ap Err e)) cut
+pub cut_or_memory : (result : Result (List Lexeme) LexError) (bytes : List ℕ) (tokens : List Lexeme)
+    → IfOk result (λ given. IsCut 0 bytes given) → ((at : ℕ) → result ≡ Err (BadByte at) → IsBadByte bytes at) → IsCut 0 bytes tokens
+    → MatchResult result (λ given. given ≡ tokens) (λ error. error ≡ NoMemory)
+cut_or_memory (Ok given) bytes tokens c bad cut = same_tokens bytes 0 given tokens c cut
+cut_or_memory (Err error) bytes tokens c bad cut = only_memory bytes tokens error (λ at e. bad at (ap Err e)) cut
 
 pub byte_told : (result : Result (List Lexeme) LexError) (bytes : List ℕ) (at : ℕ) → (result ≡ Err (BadByte at) → IsBadByte bytes at)
     → IfErr result (λ error. error ≡ BadByte at → IsBadByte bytes at)
 byte_told (Ok given) bytes at bad = tt
 byte_told (Err error) bytes at bad = λ e. bad (ap Err e)
 
-pub byte_or_memory : (result : Result (List Lexeme) LexError) (passed : List Lexeme) (bytes : List ℕ) (at : ℕ)
-    → IfOk result (λ given. IsCut 0 bytes (passed ++ given)) → ((at : ℕ) → result ≡ Err (BadByte at) → IsBadByte bytes at) → IsBadByte bytes at
+pub byte_or_memory : (result : Result (List Lexeme) LexError) (bytes : List ℕ) (at : ℕ)
+    → IfOk result (λ given. IsCut 0 bytes given) → ((at : ℕ) → result ≡ Err (BadByte at) → IsBadByte bytes at) → IsBadByte bytes at
     → IsErrAnd result (λ error. (error ≡ BadByte at) ⊎ (error ≡ NoMemory))
-byte_or_memory (Ok given) passed bytes at c bad b = absurd (not_both bytes (passed ++ given) at c b)
-byte_or_memory (Err error) passed bytes at c bad b = bad_or_memory bytes error (λ at e. bad at (ap Err e)) at b
-
--- tokens of the list that are passed on
-pub passed_on : (fault : Option LexError) (old new : PieceLexer) (passed : List Lexeme) (count : ℕ) (bytes : List ℕ) → new.list ≡ drop count old.list
-    → new.line.items ≡ old.line.items → new.place ≡ old.place → CameWith fault old passed bytes → CameWith fault new (passed ++ take count old.list) bytes
-passed_on None old new passed count bytes list line place b =
-    let all : passed ++ old.list ≡ (passed ++ take count old.list) ++ new.list =
-    ap (λ l. passed ++ l) (sym (take-append-drop count old.list) ∙ ap (λ l. take count old.list ++ l) (sym list))
-    ∙ sym (append_assoc passed (take count old.list) new.list) in
-    record {
-      lines = b.lines;
-      whole = b.whole ∙ ap (λ l. b.lines ++ l) (sym line);
-      are = b.are;
-      cut = subst (IsCut 0 b.lines) all b.cut;
-      there = place ∙ b.there;
-    }
-passed_on (Some (BadByte at)) old new passed count bytes list line place b = b
-passed_on (Some NoMemory) old new passed count bytes list line place b = absurd b
+byte_or_memory (Ok given) bytes at c bad b = absurd (not_both bytes given at c b)
+byte_or_memory (Err error) bytes at c bad b = bad_or_memory bytes error (λ at e. bad at (ap Err e)) at b

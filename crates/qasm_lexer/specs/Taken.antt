@@ -25,19 +25,15 @@ pub record HasBadLine (at : ℕ) (bytes : List ℕ) : Type 0 where
   pub are : AreLines lines
   pub bad : IsBadByte lines at
 
--- the bytes that came and the tokens that were passed on, by what has failed
-abbrev pub CameWith : Option LexError → PieceLexer → List Lexeme → List ℕ → Type 0
-CameWith None lexer passed bytes = IsLineBegun (passed ++ lexer.list) lexer.line.items lexer.place bytes
-CameWith (Some (BadByte at)) lexer passed bytes = HasBadLine at bytes
-CameWith (Some NoMemory) lexer passed bytes = ⊥
+-- the bytes that came, by what has failed
+abbrev pub CameWith : Option LexError → PieceLexer → List ℕ → Type 0
+CameWith None lexer bytes = IsLineBegun lexer.list lexer.line.items lexer.place bytes
+CameWith (Some (BadByte at)) lexer bytes = HasBadLine at bytes
+CameWith (Some NoMemory) lexer bytes = ⊥
 
--- a lexer has taken these bytes, and passed on their first tokens
-abbrev pub HasPassed : PieceLexer → List Lexeme → List ℕ → Type 0
-HasPassed lexer passed bytes = CameWith lexer.fault lexer passed bytes
-
--- these are the bytes that a lexer has taken, where no token was passed on
+-- these are the bytes that a lexer has taken
 abbrev pub HasTaken : PieceLexer → List ℕ → Type 0
-HasTaken lexer bytes = HasPassed lexer [] bytes
+HasTaken lexer bytes = CameWith lexer.fault lexer bytes
 
 -- there was no memory
 abbrev pub HasFailed : PieceLexer → Type 0

@@ -1,10 +1,10 @@
 //! The cutting of a text that comes piece by piece.
 
-ghost use Rattle.std.specs.Prelude.{◌≡◌, ◌⊎◌, ◌+◌, ◌^◌, ◌<◌, ◌≤◌, ◌++◌, [], ℕ, List, length, take, drop, map, None, Some, Err, OnOk, OnErr, IfOk, IfErr, IsErrAnd, MatchResult, alloc_error};
+ghost use Rattle.std.specs.Prelude.{◌≡◌, ◌⊎◌, ◌+◌, ◌^◌, ◌<◌, ◌≤◌, ◌++◌, [], ℕ, List, length, map, None, Some, Err, OnOk, OnErr, IfOk, IfErr, IsErrAnd, MatchResult, alloc_error};
 ghost use Rattle.qasm_lexer.specs.declared.errors.LexError.TheVariants.{BadByte, NoMemory};
 ghost use Rattle.qasm_lexer.specs.Tokens.{Lexeme, lexemes, IsCut, IsBadByte, IsBegun};
 ghost use Rattle.qasm_lexer.specs.Internal.Moved.{moved};
-ghost use Rattle.qasm_lexer.specs.Taken.{AreLines, HasBadLine, HasTaken, HasPassed, HasFailed};
+ghost use Rattle.qasm_lexer.specs.Taken.{AreLines, HasBadLine, HasTaken, HasFailed};
 ghost use Rattle.qasm_lexer.specs.Internal.UnderWay.{IsUnderWay};
 
 use crate::errors::LexError;
@@ -53,20 +53,20 @@ impl PieceLexer {
     /// `BadByte` with the lowest place at which no token, white space or comment begins, where there is one; and
     /// `NoMemory` where memory runs out, or has before.
     pub fn finish(self) -> Result<TokenList, LexError>
-        // Behind the tokens that were passed on, the bytes are cut into these tokens.
-        ensures found { (passed : List Lexeme) (bytes : List ℕ) → HasPassed self passed bytes
-            → IfOk result (λ tokens. IsCut 0 bytes (passed ++ tokens)) }
+        // The bytes are cut into these tokens.
+        ensures found { (bytes : List ℕ) → HasTaken self bytes
+            → IfOk result (λ tokens. IsCut 0 bytes tokens) }
         // Tokens that they can be cut into are given, unless memory runs out.
-        ensures only { (passed : List Lexeme) (bytes : List ℕ) (tokens : List Lexeme)
-            → HasPassed self passed bytes → IsCut 0 bytes tokens
-            → MatchResult result (λ given. passed ++ given ≡ tokens) (λ error. error ≡ NoMemory) }
+        ensures only { (bytes : List ℕ) (tokens : List Lexeme)
+            → HasTaken self bytes → IsCut 0 bytes tokens
+            → MatchResult result (λ given. given ≡ tokens) (λ error. error ≡ NoMemory) }
         // A bad byte stands where it is told,
-        ensures bad_byte { (passed : List Lexeme) (bytes : List ℕ) (at : ℕ)
-            → HasPassed self passed bytes
+        ensures bad_byte { (bytes : List ℕ) (at : ℕ)
+            → HasTaken self bytes
             → IfErr result (λ error. error ≡ BadByte at → IsBadByte bytes at) }
         // and where there is one, it is told, unless memory runs out.
-        ensures bad_byte_only { (passed : List Lexeme) (bytes : List ℕ) (at : ℕ)
-            → HasPassed self passed bytes → IsBadByte bytes at
+        ensures bad_byte_only { (bytes : List ℕ) (at : ℕ)
+            → HasTaken self bytes → IsBadByte bytes at
             → IsErrAnd result (λ error. (error ≡ BadByte at) ⊎ (error ≡ NoMemory)) }
         ensures failed { HasFailed self → result ≡ Err NoMemory }
     {
@@ -76,7 +76,7 @@ impl PieceLexer {
         }
     }
 
-    /// The tokens of the lines that are over, but for those that were passed on.
+    /// The tokens of the lines that are over.
     pub fn tokens(&self) -> Result<Vec<Token<'_>>, AllocError>
         ensures { IfOk result (λ tokens. lexemes tokens.items ≡ self.now.list) }
     {
@@ -90,23 +90,12 @@ impl PieceLexer {
         self.list.count()
     }
 
-    /// Passes on the first of these tokens: they aren't kept any more.
-    pub fn pass_on(&mut self, count: usize)
-        requires { count ≤ length self.old.list }
-        ensures passed { (passed : List Lexeme) (bytes : List ℕ) → HasPassed self.old passed bytes
-            → HasPassed self.new (passed ++ take count self.old.list) bytes }
-        ensures list { self.new.list ≡ drop count self.old.list }
-        ensures fault { self.new.fault ≡ self.old.fault }
-    {
-        self.list.drop_first(count);
-    }
-
     // The tokens, where nothing has failed.
     fn finish_line(mut self) -> Result<TokenList, LexError>
-        ensures cut { (passed : List Lexeme) (bytes : List ℕ) → IsUnderWay self passed bytes
-            → IfOk result (λ tokens. IsCut 0 bytes (passed ++ tokens)) }
-        ensures bad_byte { (passed : List Lexeme) (bytes : List ℕ) (at : ℕ)
-            → IsUnderWay self passed bytes
+        ensures cut { (bytes : List ℕ) → IsUnderWay self bytes
+            → IfOk result (λ tokens. IsCut 0 bytes tokens) }
+        ensures bad_byte { (bytes : List ℕ) (at : ℕ)
+            → IsUnderWay self bytes
             → result ≡ Err (BadByte at) → IsBadByte bytes at }
     {
         self.end_line()?;
@@ -115,11 +104,11 @@ impl PieceLexer {
 
     // Takes the next bytes, where nothing has failed.
     fn take_further(&mut self, piece: &[u8]) -> Result<(), LexError>
-        ensures taken { (passed : List Lexeme) (bytes : List ℕ)
-            → IsUnderWay self.old passed bytes
-            → OnOk result (IsUnderWay self.new passed (bytes ++ piece.now)) }
-        ensures bad_byte { (passed : List Lexeme) (bytes : List ℕ) (at : ℕ)
-            → IsUnderWay self.old passed bytes
+        ensures taken { (bytes : List ℕ)
+            → IsUnderWay self.old bytes
+            → OnOk result (IsUnderWay self.new (bytes ++ piece.now)) }
+        ensures bad_byte { (bytes : List ℕ) (at : ℕ)
+            → IsUnderWay self.old bytes
             → result ≡ Err (BadByte at) → HasBadLine at (bytes ++ piece.now) }
         ensures added { OnOk result (IsBegun self.old.list self.new.list) }
         ensures fault { self.new.fault ≡ self.old.fault }
@@ -133,9 +122,9 @@ impl PieceLexer {
     // Takes bytes with which the last line is over, or none.
     fn take_lines(&mut self, lines: &[u8]) -> Result<(), LexError>
         requires { AreLines lines.now }
-        ensures taken { (passed : List Lexeme) (bytes : List ℕ) → IsUnderWay self.old passed bytes
-            → OnOk result (IsUnderWay self.new passed (bytes ++ lines.now)) }
-        ensures bad_byte { (passed : List Lexeme) (bytes : List ℕ) (at : ℕ) → IsUnderWay self.old passed bytes
+        ensures taken { (bytes : List ℕ) → IsUnderWay self.old bytes
+            → OnOk result (IsUnderWay self.new (bytes ++ lines.now)) }
+        ensures bad_byte { (bytes : List ℕ) (at : ℕ) → IsUnderWay self.old bytes
             → result ≡ Err (BadByte at) → HasBadLine at (bytes ++ lines.now) }
         ensures added { OnOk result (IsBegun self.old.list self.new.list) }
         ensures fault { self.new.fault ≡ self.old.fault }
@@ -150,12 +139,12 @@ impl PieceLexer {
 
     // Cuts the last line, which is over.
     fn end_line(&mut self) -> Result<(), LexError>
-        ensures cut { (passed : List Lexeme) (bytes : List ℕ)
-            → IsUnderWay self.old passed bytes
-            → OnOk result (IsCut 0 bytes (passed ++ self.new.list) × (self.new.place ≡ length bytes)) }
+        ensures cut { (bytes : List ℕ)
+            → IsUnderWay self.old bytes
+            → OnOk result (IsCut 0 bytes self.new.list × (self.new.place ≡ length bytes)) }
         ensures line { OnOk result (self.new.line.items ≡ []) }
-        ensures bad_byte { (passed : List Lexeme) (bytes : List ℕ) (at : ℕ)
-            → IsUnderWay self.old passed bytes
+        ensures bad_byte { (bytes : List ℕ) (at : ℕ)
+            → IsUnderWay self.old bytes
             → result ≡ Err (BadByte at) → IsBadByte bytes at }
         ensures added { OnOk result (IsBegun self.old.list self.new.list) }
         ensures fault { self.new.fault ≡ self.old.fault }
@@ -177,9 +166,6 @@ impl Pieces for PieceLexer {
         ensures taken { (bytes : List ℕ) → HasTaken self.old bytes
             → length bytes + length piece.now < 2 ^ 64
             → OnOk result (HasTaken self.new (bytes ++ piece.now)) }
-        // The same where tokens were passed on; the tokens that weren't stay, and new ones come behind them.
-        ensures further { (passed : List Lexeme) (bytes : List ℕ) → HasPassed self.old passed bytes
-            → OnOk result (HasPassed self.new passed (bytes ++ piece.now)) }
         ensures added { self.new.fault ≡ None → IsBegun self.old.list self.new.list }
         // Once there was no memory, that is answered from then on.
         ensures failed { OnErr result (HasFailed self.new) }

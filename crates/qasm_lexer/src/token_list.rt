@@ -1,6 +1,6 @@
 //! Tokens that are kept without the text that they come from.
 
-ghost use Rattle.std.specs.Prelude.{◌≡◌, ◌+◌, ◌^◌, ◌<◌, ◌≤◌, ◌∷◌, [], ◌++◌, ℕ, List, length, drop, vec_len, map, IfOk, OnOk};
+ghost use Rattle.std.specs.Prelude.{◌≡◌, ◌+◌, ◌^◌, ◌<◌, ◌∷◌, [], ◌++◌, ℕ, List, length, map, IfOk, OnOk};
 ghost use Rattle.std.specs.List.{concat, All};
 ghost use Rattle.qasm_lexer.specs.Tokens.{Lexeme, lexemes};
 ghost use Rattle.qasm_lexer.specs.TokenLists.{texts};
@@ -108,34 +108,4 @@ impl TokenList {
         })?;
         Ok(())
     }
-    // Drops the first tokens, with their texts.
-    pub(crate) fn drop_first(&mut self, count: usize)
-        requires { count ≤ length self.old }
-        ensures { self.new ≡ drop count self.old }
-    {
-        let bytes = bytes_of(&self.entries[..count]);
-        drop_front(&mut self.pool, bytes);
-        drop_front(&mut self.entries, count);
-    }
-}
-
-// Drops the first elements of a list.
-fn drop_front<T: Drop>(list: &mut Vec<T>, count: usize)
-    requires { count ≤ vec_len list.old }
-    ensures { list.new.items ≡ drop count list.old.items }
-{
-    list.rotate_left(count);
-    list.truncate(list.len() - count);
-}
-
-// How many bytes the texts of entries have.
-fn bytes_of(entries: &[Entry]) -> usize
-    requires { count_of entries.now < 2 ^ 64 }
-    ensures { result ≡ count_of entries.now }
-{
-    let mut bytes = 0;
-    for entry in entries {
-        bytes += entry.count;
-    }
-    bytes
 }

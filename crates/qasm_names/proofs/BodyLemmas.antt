@@ -6,21 +6,21 @@ use Rattle.std.proofs.lemmas.List.{map-append}
 use Rattle.std.proofs.lemmas.List.Folds.{list_any-append}
 use Rattle.qasm_reader.specs.Parts.{with_statement}
 use Rattle.qasm_reader.specs.Syntax.{BodyApply, BodySentence, BodyApplied, BodyBarrier, DeclareGate, GateForm}
-use Rattle.qasm_scope.specs.Faults.{wrong_in, body_is_unsupported, body_has_same_qubit}
+use Rattle.qasm_scope.specs.Faults.{wrong_in, body_is_unsupported, body_has_same_qubit, is_other, body_has_unknown, body_has_wrong_count}
 use Rattle.qasm_names.specs.Begun.{IsBegun}
 use Rattle.qasm_names.specs.Bodies.{no_faults, is_faulty, joined, cause_of, faults_of}
 use Rattle.qasm_names.specs.Internal.Applications.{statement_faults, IsCall}
-use Rattle.qasm_names.specs.Checks.{Symbols, is_unknown, is_wrong_count, calls_by}
-use Rattle.qasm_names.specs.Places.{unplaced}
-use Rattle.qasm_names.specs.Kept.{Represents, kept_call, kept_calls}
+use Rattle.qasm_names.specs.Checks.{Symbols, lookup_by, kept_by}
+use Rattle.qasm_names.specs.Kept.{Represents, kept_call, kept_calls, form_calls, KeptNames}
 use Rattle.qasm_scope.specs.Scope.{Scope}
+use Rattle.qasm_scope.specs.Angles.{FormalPlaces}
 use Rattle.qasm_names.specs.declared.body_faults.BodyFaults.{BodyFaults}
 use Rattle.qasm_names.specs.declared.formals.Formals.{Formals}
 use Rattle.qasm_names.specs.declared.gate_in_progress.GateInProgress.{GateInProgress}
 use Rattle.qasm_names.specs.declared.gates.GateCall.{GateCall}
 use Rattle.qasm_names.specs.declared.names.Names.{Names}
-use Rattle.qasm_names.specs.declared.places.Places.{Places}
-use Rattle.qasm_names.proofs.CheckLemmas.{calls-names, gate_cause-none, wrong_gate-names}
+use Rattle.qasm_names.specs.Places.{place_in}
+use Rattle.qasm_names.proofs.CheckLemmas.{gate_cause-none, same-kept, same-places, wrong_gate-names}
 use Rattle.qasm_names.proofs.Tests.{or-first, or-pairs}
 
 -- ---- faults together
@@ -61,20 +61,20 @@ any-push p xs x = list_any-append p xs (x ∷ []) ∙ ap (λ b. list_any p xs ||
 faults-push : (symbols : Symbols) (formals : Formals) (body : List BodySentence) (s : BodySentence)
     → faults_of symbols formals (body ++ s ∷ []) ≡ joined (faults_of symbols formals body) (statement_faults symbols formals s)
 faults-push symbols formals body s =
-    same_faults (any-push body_is_unsupported body s) (any-push (is_unknown symbols formals.parameters formals.qubits) body s)
-    (any-push (is_wrong_count symbols) body s) (any-push body_has_same_qubit body s)
+    same_faults (any-push body_is_unsupported body s) (any-push (body_has_unknown (lookup_by symbols) (place_in formals.parameters) (place_in formals.qubits)) body s)
+    (any-push (body_has_wrong_count (lookup_by symbols)) body s) (any-push body_has_same_qubit body s)
 
-pub calls-append : (symbols : Symbols) (parameters qubits : Places) (body more : List BodySentence)
-    → calls_by symbols parameters qubits (body ++ more) ≡ calls_by symbols parameters qubits body ++ calls_by symbols parameters qubits more
-calls-append symbols parameters qubits [] more = refl
-calls-append symbols parameters qubits (BodyApplied a ∷ body) more = ap (λ calls. calls_by symbols parameters qubits (BodyApplied a ∷ []) ++ calls) (calls-append symbols parameters qubits body more)
-calls-append symbols parameters qubits (BodyBarrier names ∷ body) more = calls-append symbols parameters qubits body more
+pub calls-append : (names : KeptNames) (parameters qubits : FormalPlaces) (body more : List BodySentence)
+    → kept_calls names parameters qubits (body ++ more) ≡ kept_calls names parameters qubits body ++ kept_calls names parameters qubits more
+calls-append names parameters qubits [] more = refl
+calls-append names parameters qubits (BodyApplied a ∷ body) more = ap (λ calls. kept_calls names parameters qubits (BodyApplied a ∷ []) ++ calls) (calls-append names parameters qubits body more)
+calls-append names parameters qubits (BodyBarrier others ∷ body) more = calls-append names parameters qubits body more
 
 -- ---- a gate with one statement more, if the statement's faults and calls are added
 begun-next : (names : Names) (gate : GateInProgress) (faults : BodyFaults) (calls : Vec GateCall) (form : GateForm) (s : BodySentence)
     → faults ≡ joined gate.faults (statement_faults names.symbols gate.formals s)
     → (is_faulty faults ≡ false → map kept_call calls.items
-    ≡ map kept_call gate.calls.items ++ calls_by names.symbols gate.formals.parameters gate.formals.qubits (s ∷ []))
+    ≡ map kept_call gate.calls.items ++ kept_calls (kept_by names.symbols) (place_in gate.formals.parameters) (place_in gate.formals.qubits) (s ∷ []))
     → IsBegun names gate form → IsBegun names (record gate { faults = faults; calls = calls }) (with_statement form s)
 begun-next names gate faults calls form s same more b = record {
   same_name = b.same_name;
@@ -86,8 +86,8 @@ begun-next names gate faults calls form s same more b = record {
   faults = same ∙ ap (λ f. joined f (statement_faults names.symbols gate.formals s)) b.faults ∙ sym (faults-push names.symbols gate.formals form.body s);
   calls = λ none.
       let before : is_faulty gate.faults ≡ false = faultless_before gate.faults (statement_faults names.symbols gate.formals s) (sym (ap is_faulty same) ∙ none) in
-      more none ∙ ap (λ front. front ++ calls_by names.symbols gate.formals.parameters gate.formals.qubits (s ∷ [])) (b.calls before)
-      ∙ sym (calls-append names.symbols gate.formals.parameters gate.formals.qubits form.body (s ∷ []));
+      more none ∙ ap (λ front. front ++ kept_calls (kept_by names.symbols) (place_in gate.formals.parameters) (place_in gate.formals.qubits) (s ∷ [])) (b.calls before)
+      ∙ sym (calls-append (kept_by names.symbols) (place_in gate.formals.parameters) (place_in gate.formals.qubits) form.body (s ∷ []));
 }
 
 joined-none : (f : BodyFaults) → joined f no_faults ≡ f
@@ -108,7 +108,7 @@ begun-faults names gate form s faults same some b =
     begun-next names gate faults gate.calls form s same (λ none. absurd (cc (some, none))) b
 
 pub begun-barrier : (names : Names) (gate : GateInProgress) (form : GateForm) (qubits : List (List ℕ)) (none : BodyFaults) (unknown : Bool) (faults : BodyFaults)
-    → none ≡ no_faults → unknown ≡ list_any (unplaced gate.formals.qubits) qubits → faults ≡ joined gate.faults (record none { unknown = unknown })
+    → none ≡ no_faults → unknown ≡ list_any (is_other (place_in gate.formals.qubits)) qubits → faults ≡ joined gate.faults (record none { unknown = unknown })
     → IsBegun names gate form → IsBegun names (record gate { faults = faults }) (with_statement form (BodyBarrier qubits))
 begun-barrier names gate form qubits none unknown faults eq found same b =
     let with_unknown : BodyFaults → Bool → BodyFaults = λ f u. record f { unknown = u } in
@@ -128,7 +128,8 @@ none-faulty f redeclared h =
     ap₂ ◌||◌ (ap₂ ◌||◌ (ap₂ ◌||◌ parts.0 parts.2) parts.3) parts.4
 
 pub begun-calls : (names : Names) (gate : GateInProgress) (form : GateForm) (scope : Scope) → IsBegun names gate form → Represents names scope
-    → wrong_in scope (DeclareGate form) ≡ None → map kept_call gate.calls.items ≡ kept_calls scope form form.body
+    → wrong_in scope (DeclareGate form) ≡ None → map kept_call gate.calls.items ≡ form_calls scope form
 begun-calls names gate form scope b r right =
     b.calls (none-faulty gate.faults gate.redeclared (begun-cause names gate form scope b r ∙ right))
-    ∙ calls-names names.symbols scope gate.formals.parameters gate.formals.qubits form form.body r.same_symbols b.parameter_places b.qubit_places
+    ∙ (λ i. kept_calls (same-kept names.symbols scope r.same_symbols i) (same-places gate.formals.parameters form.parameters b.parameter_places i)
+    (same-places gate.formals.qubits form.qubits b.qubit_places i) form.body)

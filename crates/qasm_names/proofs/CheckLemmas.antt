@@ -1,26 +1,23 @@
 -- What is wrong by what names are kept as is what is wrong by the scope.
-use Rattle.std.proofs.Common.{◌≡◌, ℕ, zero, suc, ◌+◌, ◌<◌, ◌==◌, min, nat_lt, inl, inr, arith, Bool, true, false, ◌||◌, not, List, [], ◌∷◌, ◌++◌, length, map, if◌then◌else◌, Option, None, Some, refl, sym, ap, ◌∙◌}
+use Rattle.std.proofs.Common.{◌≡◌, ℕ, zero, suc, ◌+◌, ◌<◌, ◌==◌, min, nat_lt, inl, inr, arith, Bool, true, false, ◌||◌, List, ◌++◌, if◌then◌else◌, None, Some, refl, sym, ap, ◌∙◌}
 use Rattle.std.specs.List.{list_any}
-use Rattle.std.specs.Option.{is_some}
 use Rattle.std.specs.Str.{bytes_eq}
 use Rattle.std.proofs.lemmas.Iterator.Adapters.{position_from-zero}
-use Rattle.std.proofs.lemmas.List.Folds.{list_any-append}
-use Rattle.qasm_reader.specs.Syntax.{Formula, Number, Pi, Name, Negate, Binary, Call, Callee, Declared, U, Cx, GateForm, BodySentence, BodyApplied, BodyBarrier, DeclareGate, QubitRegister, BitRegister}
+use Rattle.qasm_reader.specs.Syntax.{GateForm, DeclareGate, QubitRegister, BitRegister}
 use Rattle.qasm_angle.specs.Trees as tree
-use Rattle.qasm_scope.specs.Angles.{numbered, binary, place_of, place_or_zero}
-use Rattle.qasm_names.specs.Checks.{Symbols, shape_by, called_by, hidden_by, is_unknown, is_wrong_count, calls_by, gate_cause, is_redeclared_by}
-use Rattle.qasm_names.specs.Places.{unplaced, place_in, has_unplaced, placed, ArePlaces}
+use Rattle.qasm_scope.specs.Angles.{places_among}
+use Rattle.qasm_names.specs.Checks.{Symbols, gate_cause, is_redeclared_by, lookup_by, kept_by}
+use Rattle.qasm_names.specs.Places.{place_in, ArePlaces}
 use Rattle.qasm_scope.specs.declared.causes.Cause.{Cause}
 use Rattle.qasm_scope.specs.declared.causes.Cause.TheVariants as cause
 use Rattle.qasm_names.specs.Internal.Registers.{register_cause, too_many_cause}
-use Rattle.qasm_names.specs.Kept.{found, symbol_of, symbol_shape, number_in, called_for, kept_calls, symbol_taken, IsSound, IsSoundGate}
-use Rattle.qasm_scope.specs.Faults.{shape_of, is_no_gate, is_in, is_hidden, has_other_name, body_has_unknown, body_has_wrong_count, has_other_shape, wrong_in, body_is_unsupported, body_has_same_qubit}
-use Rattle.qasm_scope.specs.Scope.{Scope, bit_count, is_taken, numeral, qubit_count}
+use Rattle.qasm_names.specs.Kept.{found, symbol_bits, symbol_of, symbol_register, symbol_shape, symbol_taken, IsSound, IsSoundGate, kept_names}
+use Rattle.qasm_scope.specs.Faults.{body_has_unknown, body_has_wrong_count, wrong_in, body_is_unsupported, body_has_same_qubit, form_has_unknown}
+use Rattle.qasm_scope.specs.Scope.{Scope, bit_count, is_taken, numeral, qubit_count, lookup_in}
 use Rattle.qasm_scope.specs.Applications.{has_twice}
 use Rattle.qasm_names.specs.declared.gates.CalledGate.TheVariants as called_gate
 use Rattle.qasm_names.specs.declared.places.Places.{Places}
-use Rattle.qasm_names.proofs.Formulas.{is_some-place, unplaced-names}
-use Rattle.qasm_names.proofs.Symbols.{symbol-shape, symbol-taken}
+use Rattle.qasm_names.proofs.Symbols.{symbol-says, symbol-taken}
 use Rattle.qasm_names.proofs.Tests.{or-second, other_number}
 use Rattle.std.proofs.lemmas.Bool.{cases_lt}
 use Rattle.std.proofs.lemmas.Bool.Decides.{nat_tests}
@@ -31,82 +28,19 @@ use Rattle.zx_gates.specs.Elementary.{most_bits}
 abbrev pub AreNames : Symbols → Scope → Type 0
 AreNames symbols scope = (name : List ℕ) → found name symbols ≡ symbol_of name scope
 
-pub shape-names : (symbols : Symbols) (scope : Scope) (gate : Callee) → AreNames symbols scope → shape_by symbols gate ≡ shape_of scope gate
-shape-names symbols scope U h = refl
-shape-names symbols scope Cx h = refl
-shape-names symbols scope (Declared name) h = ap symbol_shape (h name) ∙ symbol-shape name scope
+-- what names stand for and are kept as, and the places of formal names, are the same functions
+pub same-lookup : (symbols : Symbols) (scope : Scope) → AreNames symbols scope → lookup_by symbols ≡ lookup_in scope
+same-lookup symbols scope h = λ i. record {
+  gates = λ name. (ap symbol_shape (h name) ∙ (symbol-says name scope).0) i;
+  qubits = λ name. (ap symbol_register (h name) ∙ (symbol-says name scope).1) i;
+  bits = λ name. (ap symbol_bits (h name) ∙ (symbol-says name scope).2) i;
+}
 
-pub called-names : (symbols : Symbols) (scope : Scope) (gate : Callee) → AreNames symbols scope → called_by symbols gate ≡ called_for scope gate
-called-names symbols scope U h = refl
-called-names symbols scope Cx h = refl
-called-names symbols scope (Declared name) h = ap (λ symbol. called_gate.Gate (number_in symbol)) (h name)
+pub same-kept : (symbols : Symbols) (scope : Scope) → AreNames symbols scope → kept_by symbols ≡ kept_names scope
+same-kept symbols scope h = λ i name. h name i
 
-pub place-is_in : (places : Places) (names : List (List ℕ)) (name : List ℕ) → ArePlaces places names → is_some (place_in places name) ≡ is_in names name
-place-is_in places names name h = ap is_some (h name) ∙ is_some-place (λ other. bytes_eq other name) 0 names
-
-hidden-names : (parameters qubits : Places) (form : GateForm) (gate : Callee) → ArePlaces parameters form.parameters → ArePlaces qubits form.qubits
-    → hidden_by parameters qubits gate ≡ is_hidden form gate
-hidden-names parameters qubits form U h k = refl
-hidden-names parameters qubits form Cx h k = refl
-hidden-names parameters qubits form (Declared name) h k =
-    ap (λ b. b || is_some (place_in qubits name)) (place-is_in parameters form.parameters name h)
-    ∙ ap (λ b. is_in form.parameters name || b) (place-is_in qubits form.qubits name k)
-    ∙ sym (list_any-append (λ other. bytes_eq other name) form.parameters form.qubits)
-
-pub list_any-same : {A : Type 0} (p q : A → Bool) (xs : List A) → ((x : A) → p x ≡ q x) → list_any p xs ≡ list_any q xs
-list_any-same p q [] h = refl
-list_any-same p q (x ∷ xs) h = ap (λ b. b || list_any p xs) (h x) ∙ ap (λ b. q x || b) (list_any-same p q xs h)
-
-pub map-same : {A B : Type 0} (f g : A → B) (xs : List A) → ((x : A) → f x ≡ g x) → map f xs ≡ map g xs
-map-same f g [] h = refl
-map-same f g (x ∷ xs) h = ap (λ y. y ∷ map f xs) (h x) ∙ ap (λ ys. g x ∷ ys) (map-same f g xs h)
-
-unplaced-is_in : (qubits : Places) (names : List (List ℕ)) (name : List ℕ) → ArePlaces qubits names → unplaced qubits name ≡ not (is_in names name)
-unplaced-is_in qubits names name h = ap not (place-is_in qubits names name h)
-
-pub unknown-names : (symbols : Symbols) (scope : Scope) (parameters qubits : Places) (form : GateForm) (s : BodySentence)
-    → AreNames symbols scope → ArePlaces parameters form.parameters → ArePlaces qubits form.qubits
-    → is_unknown symbols parameters qubits s ≡ body_has_unknown scope form s
-unknown-names symbols scope parameters qubits form (BodyBarrier names) h k l =
-    list_any-same (unplaced qubits) (λ name. not (is_in form.qubits name)) names (λ name. unplaced-is_in qubits form.qubits name l)
-unknown-names symbols scope parameters qubits form (BodyApplied a) h k l =
-    ap (λ b. b || is_no_gate (shape_by symbols a.gate) || list_any (has_unplaced parameters) a.angles || list_any (unplaced qubits) a.qubits) (hidden-names parameters qubits form a.gate k l)
-    ∙ ap (λ s. is_hidden form a.gate || is_no_gate s || list_any (has_unplaced parameters) a.angles || list_any (unplaced qubits) a.qubits) (shape-names symbols scope a.gate h)
-    ∙ ap (λ b. is_hidden form a.gate || is_no_gate (shape_of scope a.gate) || b || list_any (unplaced qubits) a.qubits)
-    (list_any-same (has_unplaced parameters) (has_other_name form.parameters) a.angles (λ f. unplaced-names parameters form.parameters f k))
-    ∙ ap (λ b. is_hidden form a.gate || is_no_gate (shape_of scope a.gate) || list_any (has_other_name form.parameters) a.angles || b)
-    (list_any-same (unplaced qubits) (λ name. not (is_in form.qubits name)) a.qubits (λ name. unplaced-is_in qubits form.qubits name l))
-
-pub wrong_count-names : (symbols : Symbols) (scope : Scope) (s : BodySentence) → AreNames symbols scope → is_wrong_count symbols s ≡ body_has_wrong_count scope s
-wrong_count-names symbols scope (BodyBarrier names) h = refl
-wrong_count-names symbols scope (BodyApplied a) h = ap (λ s. has_other_shape s (length a.angles) (length a.qubits)) (shape-names symbols scope a.gate h)
-
-pub place-place_of : (places : Places) (names : List (List ℕ)) (name : List ℕ) → ArePlaces places names → place_or_zero (place_in places name) ≡ place_of name names
-place-place_of places names name h = ap place_or_zero (h name ∙ sym (position_from-zero (λ other. bytes_eq other name) names))
-
-pub placed-numbered : (places : Places) (names : List (List ℕ)) (f : Formula) → ArePlaces places names → placed places f ≡ numbered names f
-placed-numbered places names (Number text) h = refl
-placed-numbered places names Pi h = refl
-placed-numbered places names (Name name) h = ap tree.Parameter (place-place_of places names name h)
-placed-numbered places names (Negate f) h = ap tree.Negate (placed-numbered places names f h)
-placed-numbered places names (Binary operator f g) h =
-    ap (λ t. binary operator t (placed places g)) (placed-numbered places names f h) ∙ ap (binary operator (numbered names f)) (placed-numbered places names g h)
-placed-numbered places names (Call function f) h = placed-numbered places names f h
-
-pub calls-names : (symbols : Symbols) (scope : Scope) (parameters qubits : Places) (form : GateForm) (body : List BodySentence)
-    → AreNames symbols scope → ArePlaces parameters form.parameters → ArePlaces qubits form.qubits
-    → calls_by symbols parameters qubits body ≡ kept_calls scope form body
-calls-names symbols scope parameters qubits form [] h k l = refl
-calls-names symbols scope parameters qubits form (BodyBarrier names ∷ body) h k l = calls-names symbols scope parameters qubits form body h k l
-calls-names symbols scope parameters qubits form (BodyApplied a ∷ body) h k l =
-    ap (λ t. record { called = t; angles = map (placed parameters) a.angles; qubits = map (λ name. place_or_zero (place_in qubits name)) a.qubits } ∷ calls_by symbols parameters qubits body)
-    (called-names symbols scope a.gate h)
-    ∙ ap (λ ts. record { called = called_for scope a.gate; angles = ts; qubits = map (λ name. place_or_zero (place_in qubits name)) a.qubits } ∷ calls_by symbols parameters qubits body)
-    (map-same (placed parameters) (numbered form.parameters) a.angles (λ f. placed-numbered parameters form.parameters f k))
-    ∙ ap (λ ps. record { called = called_for scope a.gate; angles = map (numbered form.parameters) a.angles; qubits = ps } ∷ calls_by symbols parameters qubits body)
-    (map-same (λ name. place_or_zero (place_in qubits name)) (λ name. place_of name form.qubits) a.qubits (λ name. place-place_of qubits form.qubits name l))
-    ∙ ap (λ cs. record { called = called_for scope a.gate; angles = map (numbered form.parameters) a.angles; qubits = map (λ name. place_of name form.qubits) a.qubits } ∷ cs)
-    (calls-names symbols scope parameters qubits form body h k l)
+pub same-places : (places : Places) (names : List (List ℕ)) → ArePlaces places names → place_in places ≡ places_among names
+same-places places names h = λ i name. (h name ∙ sym (position_from-zero (λ other. bytes_eq other name) names)) i
 
 pub gate_cause-none : (a b c d e : Bool) → gate_cause a b c d e ≡ None → (a ≡ false) × (b ≡ false) × (c ≡ false) × (d ≡ false) × (e ≡ false)
 gate_cause-none true b c d e h = absurd (cc)
@@ -119,34 +53,22 @@ gate_cause-none false false false false false h = (refl, refl, refl, refl, refl)
 -- the causes of a declaration
 pub wrong_in-gate : (scope : Scope) (form : GateForm) → wrong_in scope (DeclareGate form)
     ≡ gate_cause (list_any body_is_unsupported form.body) (is_taken form.name scope || has_twice bytes_eq (form.parameters ++ form.qubits))
-    (list_any (body_has_unknown scope form) form.body) (list_any (body_has_wrong_count scope) form.body) (list_any body_has_same_qubit form.body)
+    (form_has_unknown (lookup_in scope) form) (list_any (body_has_wrong_count (lookup_in scope)) form.body) (list_any body_has_same_qubit form.body)
 unfolding wrong_in
 wrong_in-gate scope form = refl
 
--- the first cause of the declaration of a gate, by what names are kept as
-abbrev pub wrong_gate_by : Symbols → Places → Places → GateForm → Option Cause
-wrong_gate_by symbols parameters qubits form = gate_cause
-    (list_any body_is_unsupported form.body)
-    (is_redeclared_by symbols form)
-    (list_any (is_unknown symbols parameters qubits) form.body)
-    (list_any (is_wrong_count symbols) form.body)
-    (list_any body_has_same_qubit form.body)
-
 pub wrong_gate-names : (symbols : Symbols) (scope : Scope) (parameters qubits : Places) (form : GateForm)
     → AreNames symbols scope → IsSound scope → ArePlaces parameters form.parameters → ArePlaces qubits form.qubits
-    → wrong_gate_by symbols parameters qubits form ≡ wrong_in scope (DeclareGate form)
+    → gate_cause (list_any body_is_unsupported form.body) (is_redeclared_by symbols form)
+    (list_any (body_has_unknown (lookup_by symbols) (place_in parameters) (place_in qubits)) form.body)
+    (list_any (body_has_wrong_count (lookup_by symbols)) form.body) (list_any body_has_same_qubit form.body) ≡ wrong_in scope (DeclareGate form)
 wrong_gate-names symbols scope parameters qubits form h sound k l =
     let taken : symbol_taken (found form.name symbols) ≡ is_taken form.name scope = ap symbol_taken (h form.name) ∙ symbol-taken form.name scope sound in
-    let unknown : list_any (is_unknown symbols parameters qubits) form.body ≡ list_any (body_has_unknown scope form) form.body =
-    list_any-same (is_unknown symbols parameters qubits) (body_has_unknown scope form) form.body (λ s. unknown-names symbols scope parameters qubits form s h k l) in
-    let counts : list_any (is_wrong_count symbols) form.body ≡ list_any (body_has_wrong_count scope) form.body =
-    list_any-same (is_wrong_count symbols) (body_has_wrong_count scope) form.body (λ s. wrong_count-names symbols scope s h) in
-    ap (λ b. gate_cause (list_any body_is_unsupported form.body) (b || has_twice bytes_eq (form.parameters ++ form.qubits)) (list_any (is_unknown symbols parameters qubits) form.body)
-    (list_any (is_wrong_count symbols) form.body) (list_any body_has_same_qubit form.body)) taken
-    ∙ ap (λ b. gate_cause (list_any body_is_unsupported form.body) (is_taken form.name scope || has_twice bytes_eq (form.parameters ++ form.qubits)) b
-    (list_any (is_wrong_count symbols) form.body) (list_any body_has_same_qubit form.body)) unknown
-    ∙ ap (λ b. gate_cause (list_any body_is_unsupported form.body) (is_taken form.name scope || has_twice bytes_eq (form.parameters ++ form.qubits)) (list_any (body_has_unknown scope form) form.body)
-    b (list_any body_has_same_qubit form.body)) counts
+    let names = same-lookup symbols scope h in
+    let first = same-places parameters form.parameters k in
+    let second = same-places qubits form.qubits l in
+    (λ i. gate_cause (list_any body_is_unsupported form.body) (taken i || has_twice bytes_eq (form.parameters ++ form.qubits))
+    (list_any (body_has_unknown (names i) (first i) (second i)) form.body) (list_any (body_has_wrong_count (names i)) form.body) (list_any body_has_same_qubit form.body))
     ∙ sym (wrong_in-gate scope form)
 
 pub sound-from : (scope : Scope) (form : GateForm) → wrong_in scope (DeclareGate form) ≡ None → IsSoundGate scope form

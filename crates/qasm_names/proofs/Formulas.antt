@@ -2,7 +2,6 @@
 use Rattle.std.proofs.Common.{◌≡◌, ℕ, ◌+◌, Bool, true, false, ◌||◌, not, if◌then◌else◌, List, [], ◌∷◌, ◌++◌, map, Option, Some, refl, sym, ap, ap₂, subst, ◌∙◌, append_assoc, append-nil}
 use Rattle.std.specs.List.{list_any, position_from}
 use Rattle.std.specs.Option.{is_some}
-use Rattle.std.specs.Str.{bytes_eq}
 use Rattle.std.proofs.Math.Bool.{or-false}
 use Rattle.std.proofs.lemmas.List.{map-append}
 use Rattle.std.proofs.lemmas.List.Folds.{list_any-append}
@@ -13,10 +12,10 @@ use Rattle.qasm_reader.specs.declared.expression.Operator.{Operator}
 use Rattle.qasm_reader.specs.declared.expression.Operator.TheVariants.{Add, Subtract, Multiply, Divide, Power}
 use Rattle.qasm_reader.specs.Postfix.{Entry, NegateEntry, BinaryEntry, CallEntry, postfix, push_entries, formula_of, first_or_pi, IsPostfix}
 use Rattle.qasm_reader.specs.Syntax.{Formula, Number, Pi, Name, Negate, Binary, Call}
-use Rattle.qasm_scope.specs.Angles.{is_power, is_unsupported, binary}
+use Rattle.qasm_scope.specs.Angles.{is_power, is_unsupported, binary, numbered}
 use Rattle.qasm_names.specs.declared.places.Places.{Places}
 use Rattle.qasm_names.specs.Internal.Entries.{is_unsupported_entry, has_no_place, is_other_entry, operator_of, step_of, AreSteps, IsPlaced}
-use Rattle.qasm_names.specs.Places.{place_in, has_unplaced, placed, ArePlaces}
+use Rattle.qasm_names.specs.Places.{place_in}
 use Rattle.qasm_scope.specs.Faults.{has_other_name}
 use Rattle.qasm_names.proofs.Tests.{or-first, or-second, any_or}
 
@@ -66,7 +65,7 @@ unsupported-items (Binary operator f g) =
 unsupported-items (Call function f) =
     list_any-append is_unsupported_entry (postfix f) (CallEntry function ∷ []) ∙ or-end (list_any is_unsupported_entry (postfix f)) true
 
-pub unplaced-items : (places : Places) (f : Formula) → list_any (has_no_place places) (postfix f) ≡ has_unplaced places f
+pub unplaced-items : (places : Places) (f : Formula) → list_any (has_no_place places) (postfix f) ≡ has_other_name (place_in places) f
 unplaced-items places (Number text) = refl
 unplaced-items places Pi = refl
 unplaced-items places (Name name) = or-false (not (is_some (place_in places name)))
@@ -74,8 +73,8 @@ unplaced-items places (Negate f) =
     list_any-append (has_no_place places) (postfix f) (NegateEntry ∷ []) ∙ or-end (list_any (has_no_place places) (postfix f)) false ∙ unplaced-items places f
 unplaced-items places (Binary operator f g) =
     list_any-append (has_no_place places) (postfix f ++ postfix g) (BinaryEntry operator ∷ [])
-    ∙ ap (λ b. b || (false || false)) (list_any-append (has_no_place places) (postfix f) (postfix g) ∙ ap (λ b. b || list_any (has_no_place places) (postfix g)) (unplaced-items places f) ∙ ap (λ b. has_unplaced places f || b) (unplaced-items places g))
-    ∙ or-three (has_unplaced places f) (has_unplaced places g) false
+    ∙ ap (λ b. b || (false || false)) (list_any-append (has_no_place places) (postfix f) (postfix g) ∙ ap (λ b. b || list_any (has_no_place places) (postfix g)) (unplaced-items places f) ∙ ap (λ b. has_other_name (place_in places) f || b) (unplaced-items places g))
+    ∙ or-three (has_other_name (place_in places) f) (has_other_name (place_in places) g) false
 unplaced-items places (Call function f) =
     list_any-append (has_no_place places) (postfix f) (CallEntry function ∷ []) ∙ or-end (list_any (has_no_place places) (postfix f)) false ∙ unplaced-items places f
 
@@ -84,12 +83,12 @@ pub unsupported-entries : (entries : List Entry) → IsPostfix entries → list_
 unsupported-entries entries p =
     ap (list_any is_unsupported_entry) p.1 ∙ unsupported-items p.0 ∙ ap is_unsupported (sym (ap formula_of p.1 ∙ formula-postfix p.0))
 
-pub unplaced-entries : (places : Places) (entries : List Entry) → IsPostfix entries → list_any (has_no_place places) entries ≡ has_unplaced places (formula_of entries)
+pub unplaced-entries : (places : Places) (entries : List Entry) → IsPostfix entries → list_any (has_no_place places) entries ≡ has_other_name (place_in places) (formula_of entries)
 unplaced-entries places entries p =
-    ap (list_any (has_no_place places)) p.1 ∙ unplaced-items places p.0 ∙ ap (has_unplaced places) (sym (ap formula_of p.1 ∙ formula-postfix p.0))
+    ap (list_any (has_no_place places)) p.1 ∙ unplaced-items places p.0 ∙ ap (has_other_name (place_in places)) (sym (ap formula_of p.1 ∙ formula-postfix p.0))
 
 pub other-entries : (places : Places) (entries : List Entry) → IsPostfix entries
-    → list_any (is_other_entry places) entries ≡ (is_unsupported (formula_of entries) || has_unplaced places (formula_of entries))
+    → list_any (is_other_entry places) entries ≡ (is_unsupported (formula_of entries) || has_other_name (place_in places) (formula_of entries))
 other-entries places entries p =
     any_or is_unsupported_entry (has_no_place places) entries ∙ ap₂ ◌||◌ (unsupported-entries entries p) (unplaced-entries places entries p)
 
@@ -101,7 +100,7 @@ binary-steps Multiply a b h = refl
 binary-steps Divide a b h = refl
 binary-steps Power a b h = absurd (cc)
 
-pub placed-steps : (places : Places) (f : Formula) → is_unsupported f ≡ false → map (step_of places) (postfix f) ≡ tree.postfix (placed places f)
+pub placed-steps : (places : Places) (f : Formula) → is_unsupported f ≡ false → map (step_of places) (postfix f) ≡ tree.postfix (numbered (place_in places) f)
 placed-steps places (Number text) h = refl
 placed-steps places Pi h = refl
 placed-steps places (Name name) h = refl
@@ -112,19 +111,19 @@ placed-steps places (Binary operator f g) h =
     ∙ ap (λ steps. steps ++ step.Binary (operator_of operator) ∷ [])
     (map-append (step_of places) (postfix f) (postfix g)
     ∙ ap (λ steps. steps ++ map (step_of places) (postfix g)) (placed-steps places f (or-second _ _ (or-first _ _ h)))
-    ∙ ap (λ steps. tree.postfix (placed places f) ++ steps) (placed-steps places g (or-second _ _ h)))
-    ∙ binary-steps operator (placed places f) (placed places g) (or-first _ _ (or-first _ _ h))
+    ∙ ap (λ steps. tree.postfix (numbered (place_in places) f) ++ steps) (placed-steps places g (or-second _ _ h)))
+    ∙ binary-steps operator (numbered (place_in places) f) (numbered (place_in places) g) (or-first _ _ (or-first _ _ h))
 placed-steps places (Call function f) h = absurd (cc)
 
 pub steps-placed : (places : Places) (entries : List Entry) (steps : List ExprItem) → IsPostfix entries → AreSteps places entries steps
-    → steps ≡ tree.postfix (placed places (formula_of entries))
+    → steps ≡ tree.postfix (numbered (place_in places) (formula_of entries))
 steps-placed places entries steps p r =
     let e = ap formula_of p.1 ∙ formula-postfix p.0 in
     let supported = or-first _ _ (sym (other-entries places entries p) ∙ r.none_other) in
-    r.same ∙ ap (map (step_of places)) p.1 ∙ placed-steps places p.0 (subst (λ f. is_unsupported f ≡ false) e supported) ∙ ap (λ f. tree.postfix (placed places f)) (sym e)
+    r.same ∙ ap (map (step_of places)) p.1 ∙ placed-steps places p.0 (subst (λ f. is_unsupported f ≡ false) e supported) ∙ ap (λ f. tree.postfix (numbered (place_in places) f)) (sym e)
 
 pub IsPlaced-steps : (places : Places) (entries : List Entry) (steps : List ExprItem) (t : tree.Tree) → IsPostfix entries → AreSteps places entries steps
-    → t ≡ placed places (formula_of entries) → IsPlaced places (formula_of entries) t
+    → t ≡ numbered (place_in places) (formula_of entries) → IsPlaced places (formula_of entries) t
 IsPlaced-steps places entries steps t p r e =
     let clear = sym (other-entries places entries p) ∙ r.none_other in
     record { supported = or-first _ _ clear; all_placed = or-second _ _ clear; same = e }
@@ -137,13 +136,3 @@ is_some-place-at false i o rest h = h
 pub is_some-place : {A : Type 0} (p : A → Bool) (i : ℕ) (xs : List A) → is_some (position_from p i xs) ≡ list_any p xs
 is_some-place p i [] = refl
 is_some-place p i (x ∷ xs) = is_some-place-at (p x) i (position_from p (i + 1) xs) (list_any p xs) (is_some-place p (i + 1) xs)
-
--- an expression's names by their places
-pub unplaced-names : (places : Places) (names : List (List ℕ)) (f : Formula) → ArePlaces places names → has_unplaced places f ≡ has_other_name names f
-unplaced-names places names (Number text) h = refl
-unplaced-names places names Pi h = refl
-unplaced-names places names (Name name) h = ap not (ap is_some (h name) ∙ is_some-place (λ other. bytes_eq other name) 0 names)
-unplaced-names places names (Negate f) h = unplaced-names places names f h
-unplaced-names places names (Binary operator f g) h =
-    ap (λ b. b || has_unplaced places g) (unplaced-names places names f h) ∙ ap (λ b. has_other_name names f || b) (unplaced-names places names g h)
-unplaced-names places names (Call function f) h = unplaced-names places names f h

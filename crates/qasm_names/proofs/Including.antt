@@ -7,7 +7,7 @@ use Rattle.std.proofs.lemmas.Bool.{false≢true, and_parts, cases_Bool}
 use Rattle.std.proofs.lemmas.List.{length-map, take_rest}
 use Rattle.std.proofs.lemmas.Slice.Eq.{bytes_eq-Decides}
 use Rattle.qasm_reader.specs.Syntax.{Callee, Declared, U, Cx, BodySentence, BodyApplied, BodyBarrier, GateForm, DeclareGate, Include}
-use Rattle.qasm_scope.specs.Angles.{numbered, place_of}
+use Rattle.qasm_scope.specs.Angles.{FormalPlaces, numbered, place_or_zero, places_among}
 use Rattle.qasm_scope.specs.declared.causes.Cause.TheVariants as cause
 use Rattle.qasm_scope.specs.Faults.{wrong_in}
 use Rattle.qasm_scope.specs.HeaderGates.{first_gates, further_gates}
@@ -18,7 +18,7 @@ use Rattle.qasm_names.specs.declared.gates.CalledGate.TheVariants as called_gate
 use Rattle.qasm_names.specs.declared.header_table.HeaderGate.{HeaderGate}
 use Rattle.qasm_names.specs.declared.names.Names.{Names}
 use Rattle.qasm_names.specs.Internal.HeaderTable.{AreFirstRows, AreFurtherRows, IsRow, after, body_after, header_name}
-use Rattle.qasm_names.specs.Kept.{DeclaresGate, Represents, IsSound, called_for, found, gate_count, kept_body, kept_calls, number_in, symbol_in, symbol_of}
+use Rattle.qasm_names.specs.Kept.{DeclaresGate, Represents, IsSound, called_for, found, gate_count, kept_body, kept_calls, number_in, symbol_in, symbol_of, kept_names}
 use Rattle.qasm_names.proofs.CheckLemmas.{sound-from}
 use Rattle.qasm_names.proofs.Symbols.{kept-length, symbol-declared}
 
@@ -165,18 +165,19 @@ keeps-step before after form k = go (is_declared form.name after) refl where
   go false e = keeps-more before after (replaceable form) e k
 
 module _ (before after : Scope) (k : KeepsSymbols before after) where
-  same-called : (gate : Callee) → knows_gate before gate ≡ true → called_for after gate ≡ called_for before gate
+  same-called : (gate : Callee) → knows_gate before gate ≡ true → called_for (kept_names after) gate ≡ called_for (kept_names before) gate
   same-called (Declared name) e = ap (λ s. called_gate.Gate (number_in s)) (k.same name e)
   same-called U e = refl
   same-called Cx e = refl
 
-  same-calls : (form : GateForm) (body : List BodySentence) → list_all (knows before) body ≡ true → kept_calls after form body ≡ kept_calls before form body
-  same-calls form [] e = refl
-  same-calls form (BodyApplied a ∷ body) e =
+  same-calls : (parameters qubits : FormalPlaces) (body : List BodySentence) → list_all (knows before) body ≡ true
+      → kept_calls (kept_names after) parameters qubits body ≡ kept_calls (kept_names before) parameters qubits body
+  same-calls parameters qubits [] e = refl
+  same-calls parameters qubits (BodyApplied a ∷ body) e =
       let p : (knows_gate before a.gate ≡ true) × (list_all (knows before) body ≡ true) = and_parts (knows_gate before a.gate) (list_all (knows before) body) e in
-      ap₂ (λ called calls. record { called = called; angles = map (numbered form.parameters) a.angles; qubits = map (λ name. place_of name form.qubits) a.qubits } ∷ calls)
-      (same-called a.gate p.0) (same-calls form body p.1)
-  same-calls form (BodyBarrier names ∷ body) e = same-calls form body e
+      ap₂ (λ called calls. record { called = called; angles = map (numbered parameters) a.angles; qubits = map (λ name. place_or_zero (qubits name)) a.qubits } ∷ calls)
+      (same-called a.gate p.0) (same-calls parameters qubits body p.1)
+  same-calls parameters qubits (BodyBarrier names ∷ body) e = same-calls parameters qubits body e
 
 -- ---- the further gates
 -- a further gate is declared, or its name is
@@ -225,7 +226,7 @@ further-less before later all base gate gates l represents = go l.forms l.rows l
       record {
         forms = forms;
         scope = with_further (form ∷ []) l.scope;
-        represents = represents form (row.0, row.1, row.2, row.3 ∙ sym (same-calls (with_first first_gates all) l.scope l.keeps form form.body rows.1)) f.0;
+        represents = represents form (row.0, row.1, row.2, row.3 ∙ sym (same-calls (with_first first_gates all) l.scope l.keeps (places_among form.parameters) (places_among form.qubits) form.body rows.1)) f.0;
         rows = rows.2;
         keeps = keeps-step (with_first first_gates all) l.scope form l.keeps;
         faultless = f.1;

@@ -9,44 +9,25 @@ use Rattle.std.specs.Str.{bytes_eq}
 use Rattle.std.proofs.lemmas.Map.Text.{btree_map_updates_str}
 use Rattle.std.proofs.lemmas.Slice.Eq.{bytes_eq-Decides}
 use Rattle.qasm_names.specs.declared.names.Symbol.{Symbol}
-use Rattle.qasm_scope.specs.Faults.{shape_in}
 use Rattle.qasm_names.specs.Kept.{gate_count, gates_in, kept_gates, kept_in, symbol_of, symbol_in, symbol_bits, symbol_shape, symbol_register, symbol_taken, found, IsSound, IsSoundMeaning, IsFresh}
 use Rattle.qasm_scope.proofs.HeaderScope.{free-taken}
-use Rattle.qasm_scope.specs.Scope.{Scope, Declaration, Meaning, Qubits, Bits, Gate, bit_register, meaning_of, is_declared, is_taken, qubit_register}
+use Rattle.qasm_scope.specs.Scope.{Scope, Declaration, Meaning, Qubits, Bits, Gate, bit_register, meaning_of, is_declared, is_taken, qubit_register, shape_in}
 
-shape-at : (b replaceable : Bool) (n : ℕ) (m : Meaning) (symbol : Option Symbol) (meaning : Option Meaning) → symbol_shape symbol ≡ shape_in meaning
-    → symbol_shape (if b then Some (symbol_in n replaceable m) else symbol) ≡ shape_in (if b then Some m else meaning)
-shape-at true replaceable n (Gate form) symbol meaning h = refl
-shape-at true replaceable n (Qubits first size) symbol meaning h = refl
-shape-at true replaceable n (Bits first size) symbol meaning h = refl
-shape-at false replaceable n m symbol meaning h = h
+-- what a symbol says of a gate and of registers is what its meaning says
+abbrev pub Says : Option Symbol → Option Meaning → Type 0
+Says symbol meaning =
+    (symbol_shape symbol ≡ shape_in meaning) × (symbol_register symbol ≡ qubit_register meaning) × (symbol_bits symbol ≡ bit_register meaning)
 
-pub symbol-shape : (name : List ℕ) (scope : Scope) → symbol_shape (symbol_of name scope) ≡ shape_in (meaning_of name scope)
-symbol-shape name [] = refl
-symbol-shape name (d ∷ scope) = shape-at (bytes_eq d.name name) d.replaceable (gate_count scope) d.meaning (symbol_of name scope) (meaning_of name scope) (symbol-shape name scope)
+says-at : (b replaceable : Bool) (n : ℕ) (m : Meaning) (symbol : Option Symbol) (meaning : Option Meaning) → Says symbol meaning
+    → Says (if b then Some (symbol_in n replaceable m) else symbol) (if b then Some m else meaning)
+says-at true replaceable n (Gate form) symbol meaning h = (refl, refl, refl)
+says-at true replaceable n (Qubits first size) symbol meaning h = (refl, refl, refl)
+says-at true replaceable n (Bits first size) symbol meaning h = (refl, refl, refl)
+says-at false replaceable n m symbol meaning h = h
 
--- what a symbol says of a register is what its meaning says
-register-at : (b replaceable : Bool) (n : ℕ) (m : Meaning) (symbol : Option Symbol) (meaning : Option Meaning) → symbol_register symbol ≡ qubit_register meaning
-    → symbol_register (if b then Some (symbol_in n replaceable m) else symbol) ≡ qubit_register (if b then Some m else meaning)
-register-at true replaceable n (Gate form) symbol meaning h = refl
-register-at true replaceable n (Qubits first size) symbol meaning h = refl
-register-at true replaceable n (Bits first size) symbol meaning h = refl
-register-at false replaceable n m symbol meaning h = h
-
-pub symbol-register : (name : List ℕ) (scope : Scope) → symbol_register (symbol_of name scope) ≡ qubit_register (meaning_of name scope)
-symbol-register name [] = refl
-symbol-register name (d ∷ scope) = register-at (bytes_eq d.name name) d.replaceable (gate_count scope) d.meaning (symbol_of name scope) (meaning_of name scope) (symbol-register name scope)
-
-bits-at : (b replaceable : Bool) (n : ℕ) (m : Meaning) (symbol : Option Symbol) (meaning : Option Meaning) → symbol_bits symbol ≡ bit_register meaning
-    → symbol_bits (if b then Some (symbol_in n replaceable m) else symbol) ≡ bit_register (if b then Some m else meaning)
-bits-at true replaceable n (Gate form) symbol meaning h = refl
-bits-at true replaceable n (Qubits first size) symbol meaning h = refl
-bits-at true replaceable n (Bits first size) symbol meaning h = refl
-bits-at false replaceable n m symbol meaning h = h
-
-pub symbol-bits : (name : List ℕ) (scope : Scope) → symbol_bits (symbol_of name scope) ≡ bit_register (meaning_of name scope)
-symbol-bits name [] = refl
-symbol-bits name (d ∷ scope) = bits-at (bytes_eq d.name name) d.replaceable (gate_count scope) d.meaning (symbol_of name scope) (meaning_of name scope) (symbol-bits name scope)
+pub symbol-says : (name : List ℕ) (scope : Scope) → Says (symbol_of name scope) (meaning_of name scope)
+symbol-says name [] = (refl, refl, refl)
+symbol-says name (d ∷ scope) = says-at (bytes_eq d.name name) d.replaceable (gate_count scope) d.meaning (symbol_of name scope) (meaning_of name scope) (symbol-says name scope)
 
 declared-at : (b : Bool) (s : Symbol) (symbol : Option Symbol) (rest : Bool) → is_some symbol ≡ rest → is_some (if b then Some s else symbol) ≡ (b || rest)
 declared-at true s symbol rest h = refl

@@ -25,6 +25,9 @@ same_number n = grind (arith, nat_tests)
 pub other_number : (m n : ℕ) → n < m → (m == n) ≡ false
 other_number m n h = grind (arith, nat_tests)
 
+pub list_any-same : {A : Type 0} (p q : A → Bool) (xs : List A) → ((x : A) → p x ≡ q x) → list_any p xs ≡ list_any q xs
+list_any-same p q xs h = λ i. list_any (λ x. h x i) xs
+
 -- a test of what elements are seen as
 pub any_map : {A B : Type 0} (p : B → Bool) (f : A → B) (xs : List A) → list_any p (map f xs) ≡ list_any (λ x. p (f x)) xs
 any_map p f [] = refl

@@ -5,9 +5,9 @@ use Rattle.qasm_scope.specs.Faults.{wrong_in}
 use Rattle.qasm_names.specs.declared.gate_in_progress.GateInProgress.{GateInProgress}
 use Rattle.qasm_names.specs.declared.names.Names.{Names}
 use Rattle.qasm_scope.specs.Scope.{Scope}
-use Rattle.qasm_names.specs.Places.{ArePlaces}
-use Rattle.qasm_names.specs.Kept.{IsFresh, kept_call}
-use Rattle.qasm_names.specs.Checks.{calls_by, is_redeclared_by}
+use Rattle.qasm_names.specs.Places.{ArePlaces, place_in}
+use Rattle.qasm_names.specs.Kept.{IsFresh, kept_call, kept_calls}
+use Rattle.qasm_names.specs.Checks.{is_redeclared_by, kept_by}
 use Rattle.qasm_names.specs.Bodies.{faults_of, is_faulty}
 
 -- this is kept of the gate, whose body so far the form has: its heading, what is wrong with it, and where nothing is
@@ -21,7 +21,8 @@ pub record IsBegun (names : Names) (gate : GateInProgress) (form : GateForm) : T
   pub redeclared : gate.redeclared ≡ is_redeclared_by names.symbols form
   pub faults : gate.faults ≡ faults_of names.symbols gate.formals form.body
   pub calls : is_faulty gate.faults ≡ false
-      → map kept_call gate.calls.items ≡ calls_by names.symbols gate.formals.parameters gate.formals.qubits form.body
+      → map kept_call gate.calls.items ≡ kept_calls (kept_by names.symbols) (place_in gate.formals.parameters)
+      (place_in gate.formals.qubits) form.body
 
 -- nothing is wrong with the declaration of a gate, and where it is replaceable, its name was free
 pub record IsFaultlessGate (scope : Scope) (form : GateForm) (replaceable : Bool) : Type 0 where

@@ -2,11 +2,12 @@
 use Rattle.std.specs.Prelude.{Bool, false, ◌||◌, List, Option}
 use Rattle.std.specs.List.{list_any}
 use Rattle.qasm_reader.specs.Syntax.{BodySentence}
-use Rattle.qasm_scope.specs.Faults.{body_is_unsupported, body_has_same_qubit}
+use Rattle.qasm_scope.specs.Faults.{body_is_unsupported, body_has_same_qubit, body_has_unknown, body_has_wrong_count}
 use Rattle.qasm_names.specs.declared.body_faults.BodyFaults.{BodyFaults}
 use Rattle.qasm_scope.specs.declared.causes.Cause.{Cause}
 use Rattle.qasm_names.specs.declared.formals.Formals.{Formals}
-use Rattle.qasm_names.specs.Checks.{Symbols, gate_cause, is_unknown, is_wrong_count}
+use Rattle.qasm_names.specs.Checks.{Symbols, gate_cause, lookup_by}
+use Rattle.qasm_names.specs.Places.{place_in}
 
 -- no fault
 abbrev pub no_faults : BodyFaults
@@ -33,7 +34,8 @@ cause_of f redeclared = gate_cause f.unsupported redeclared f.unknown f.wrong_co
 abbrev pub faults_of : Symbols → Formals → List BodySentence → BodyFaults
 faults_of symbols formals statements = record {
   unsupported = list_any body_is_unsupported statements;
-  unknown = list_any (is_unknown symbols formals.parameters formals.qubits) statements;
-  wrong_count = list_any (is_wrong_count symbols) statements;
+  unknown = list_any (body_has_unknown (lookup_by symbols) (place_in formals.parameters) (place_in formals.qubits))
+      statements;
+  wrong_count = list_any (body_has_wrong_count (lookup_by symbols)) statements;
   same_qubit = list_any body_has_same_qubit statements;
 }

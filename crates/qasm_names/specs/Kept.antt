@@ -13,9 +13,10 @@ use Rattle.zx_gates.specs.Circuit.{most_qubits}
 use Rattle.zx_gates.specs.Elementary.{most_bits}
 use Rattle.qasm_angle.specs.Trees.{Tree}
 use Rattle.qasm_reader.specs.Syntax.{Callee, Declared, U, Cx, GateForm, BodySentence, BodyApplied, BodyBarrier}
-use Rattle.qasm_scope.specs.Angles.{numbered, place_of}
-use Rattle.qasm_scope.specs.Faults.{body_has_unknown, body_has_wrong_count, body_has_same_qubit}
-use Rattle.qasm_scope.specs.Scope.{Scope, Declaration, Meaning, Qubits, Bits, Gate, bit_count, is_declared, qubit_count}
+use Rattle.qasm_scope.specs.Angles.{FormalPlaces, numbered, place_or_zero, places_among}
+use Rattle.qasm_scope.specs.Faults.{body_has_wrong_count, body_has_same_qubit, form_has_unknown}
+use Rattle.qasm_scope.specs.Scope.{Scope, Declaration, Meaning, Qubits, Bits, Gate, bit_count, is_declared, lookup_in}
+use Rattle.qasm_scope.specs.Scope.{qubit_count}
 use Rattle.qasm_scope.specs.Applications.{has_twice}
 use Rattle.qasm_names.specs.declared.gates.GateBody.{GateBody}
 use Rattle.qasm_names.specs.declared.gates.GateCall.{GateCall}
@@ -99,24 +100,37 @@ number_in (Some (symbol.Qubits first size)) = 0
 number_in (Some (symbol.Bits first size)) = 0
 number_in None = 0
 
-abbrev pub called_for : Scope → Callee → CalledGate
-called_for scope (Declared name) = called_gate.Gate (number_in (symbol_of name scope))
-called_for scope U = called_gate.U
-called_for scope Cx = called_gate.Cx
+-- what names are kept as, by a scope or by a map
+abbrev pub KeptNames : Type 0
+KeptNames = List ℕ → Option Symbol
 
--- the statements of a body are kept as calls, but for barriers
-abbrev pub kept_calls : Scope → GateForm → List BodySentence → List KeptCall
-kept_calls scope form [] = []
-kept_calls scope form (BodyApplied a ∷ body) = record {
-  called = called_for scope a.gate;
-  angles = map (numbered form.parameters) a.angles;
-  qubits = map (λ name. place_of name form.qubits) a.qubits;
-} ∷ kept_calls scope form body
-kept_calls scope form (BodyBarrier names ∷ body) = kept_calls scope form body
+abbrev pub kept_names : Scope → KeptNames
+kept_names scope name = symbol_of name scope
+
+-- the gate of a name: one that is built in, or by its number
+abbrev pub called_for : KeptNames → Callee → CalledGate
+called_for names (Declared name) = called_gate.Gate (number_in (names name))
+called_for names U = called_gate.U
+called_for names Cx = called_gate.Cx
+
+-- the statements of a body are kept as calls, their names by places, but for barriers
+abbrev pub kept_calls : KeptNames → FormalPlaces → FormalPlaces → List BodySentence → List KeptCall
+kept_calls names parameters qubits [] = []
+kept_calls names parameters qubits (BodyApplied a ∷ body) = record {
+  called = called_for names a.gate;
+  angles = map (numbered parameters) a.angles;
+  qubits = map (λ name. place_or_zero (qubits name)) a.qubits;
+} ∷ kept_calls names parameters qubits body
+kept_calls names parameters qubits (BodyBarrier others ∷ body) = kept_calls names parameters qubits body
+
+-- so are those of a form in a scope
+abbrev pub form_calls : Scope → GateForm → List KeptCall
+form_calls scope form =
+    kept_calls (kept_names scope) (places_among form.parameters) (places_among form.qubits) form.body
 
 -- the gates of a scope, in the order of their declarations
 abbrev pub kept_in : Scope → Meaning → List (List KeptCall)
-kept_in scope (Gate form) = kept_calls scope form form.body ∷ []
+kept_in scope (Gate form) = form_calls scope form ∷ []
 kept_in scope (Qubits first size) = []
 kept_in scope (Bits first size) = []
 
@@ -126,8 +140,8 @@ kept_gates (declaration ∷ scope) = kept_gates scope ++ kept_in scope declarati
 
 -- a declared gate, in the scope before it
 pub record IsSoundGate (scope : Scope) (form : GateForm) : Type 0 where
-  pub all_known : list_any (body_has_unknown scope form) form.body ≡ false
-  pub same_counts : list_any (body_has_wrong_count scope) form.body ≡ false
+  pub all_known : form_has_unknown (lookup_in scope) form ≡ false
+  pub same_counts : list_any (body_has_wrong_count (lookup_in scope)) form.body ≡ false
   pub other_qubits : list_any body_has_same_qubit form.body ≡ false
   pub other_names : has_twice bytes_eq (form.parameters ++ form.qubits) ≡ false
 
@@ -172,6 +186,6 @@ abbrev pub DeclaresGate : Names → Names → List ℕ → ℕ → ℕ → List 
 DeclaresGate before after name angles qubits body replaceable =
     (scope : Scope) (form : GateForm) → Represents before scope
     → name ≡ form.name → angles ≡ length form.parameters → qubits ≡ length form.qubits →
-    body ≡ kept_calls scope form form.body
+    body ≡ form_calls scope form
     → IsSoundGate scope form → IsFresh form.name replaceable scope →
     Represents after (gate_declaration form replaceable ∷ scope)

@@ -2,10 +2,11 @@
 
 ghost use Rattle.std.specs.Prelude.{◌≡◌, map, IfOk, IfSome, IfNone, true};
 ghost use Rattle.std.specs.List.{list_any};
+ghost use Rattle.qasm_scope.specs.Faults.{is_other};
 ghost use Rattle.qasm_names.specs.Bodies.{is_faulty};
 ghost use Rattle.qasm_names.specs.Internal.Applications.{apply_of, application_faults, IsCall};
 ghost use Rattle.qasm_names.specs.Internal.Called.{AreFound};
-ghost use Rattle.qasm_names.specs.Places.{unplaced};
+ghost use Rattle.qasm_names.specs.Places.{place_in};
 
 use crate::applied_gates::{applied_gate, gate_faults};
 use crate::body_faults::BodyFaults;
@@ -76,7 +77,7 @@ pub fn application_faults<'a>(
 
 /// Whether one of the names has no place.
 pub fn any_unplaced<'a>(places: &Places<'a>, names: &[&'a [u8]]) -> bool
-    ensures { result ≡ list_any (unplaced places.now) (map (λ name. name.now) names.now) }
+    ensures { result ≡ list_any (is_other (place_in places.now)) (map (λ name. name.now) names.now) }
 {
     for name in names {
         if places.find(*name).is_none() {
@@ -95,7 +96,7 @@ fn places_of<'a>(
     ensures some { IfOk result (λ found. IfSome found (λ qubits.
         AreFound places.now (map (λ name. name.now) names.now) qubits.items)) }
     ensures none { IfOk result (λ found. IfNone found (
-        list_any (unplaced places.now) (map (λ name. name.now) names.now) ≡ true)) }
+        list_any (is_other (place_in places.now)) (map (λ name. name.now) names.now) ≡ true)) }
 {
     let mut found = SmallVec::with_capacity(alloc, names.len())?;
     for name in names {

@@ -5,9 +5,10 @@ ghost use Rattle.std.specs.List.{list_any};
 ghost use Rattle.qasm_reader.specs.Items.{entry};
 ghost use Rattle.qasm_reader.specs.Postfix.{formula_of};
 ghost use Rattle.qasm_scope.specs.Angles.{is_power, is_unsupported};
+ghost use Rattle.qasm_scope.specs.Faults.{has_other_name};
 ghost use Rattle.qasm_names.specs.Internal.Entries.{has_no_place, has_other, is_other_entry, operator_of, IsStep, AreSteps, IsPlaced};
-ghost use Rattle.qasm_names.specs.Places.{has_unplaced};
 ghost use Rattle.qasm_names.specs.Internal.PlacedAngles.{any_other, ArePlaced};
+ghost use Rattle.qasm_names.specs.Places.{place_in};
 
 use crate::places::Places;
 use qasm_angle::{Expr, ExprItem, Literal, folded};
@@ -35,7 +36,7 @@ pub fn any_unsupported(expressions: &[Expression<'_>]) -> bool
 
 /// Whether one of the expressions holds a name that isn't among these.
 pub fn any_other_name<'a>(places: &Places<'a>, expressions: &[Expression<'a>]) -> bool
-    ensures { result ≡ list_any (has_unplaced places.now) (map formula_of expressions.now) }
+    ensures { result ≡ list_any (has_other_name (place_in places.now)) (map formula_of expressions.now) }
 {
     for expression in expressions {
         if has_other_name(places, expression) {
@@ -68,7 +69,7 @@ pub fn all_numbered<'a>(
 
 // Whether an expression holds another name than these.
 fn has_other_name<'a>(places: &Places<'a>, expression: &Expression<'a>) -> bool
-    ensures { result ≡ has_unplaced places.now (formula_of expression.now) }
+    ensures { result ≡ has_other_name (place_in places.now) (formula_of expression.now) }
 {
     for item in expression.items() {
         if is_other_name(places, item) {

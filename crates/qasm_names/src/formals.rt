@@ -2,8 +2,8 @@
 
 ghost use Rattle.std.specs.Prelude.{◌≡◌, IfOk, []};
 ghost use Rattle.qasm_reader.specs.Views.{callee, form_of};
-ghost use Rattle.qasm_names.specs.Checks.{hidden_by};
-ghost use Rattle.qasm_names.specs.Places.{ArePlaces};
+ghost use Rattle.qasm_scope.specs.Faults.{is_hidden};
+ghost use Rattle.qasm_names.specs.Places.{ArePlaces, place_in};
 
 use crate::places::Places;
 use qasm_reader::{GateHeading, GateName};
@@ -46,7 +46,7 @@ impl<'a> Formals<'a> {
     /// Whether one of these names hides that of the gate.
     #[inline]
     pub fn hide(&self, gate: &GateName<'a>) -> bool
-        ensures { result ≡ hidden_by self.now.parameters self.now.qubits (callee gate.now) }
+        ensures { result ≡ is_hidden (place_in self.now.parameters) (place_in self.now.qubits) (callee gate.now) }
     {
         match gate {
             GateName::Declared(name) => {

@@ -5,8 +5,9 @@ ghost use Rattle.zx_gates.specs.Circuit.{most_qubits};
 ghost use Rattle.zx_gates.specs.Elementary.{most_bits};
 ghost use Rattle.qasm_reader.specs.Views.{callee};
 ghost use Rattle.std.specs.Option.{is_some, option_map};
-ghost use Rattle.qasm_names.specs.Checks.{gate_shape, shape_by, called_by};
-ghost use Rattle.qasm_names.specs.Kept.{Represents, DeclaresGate, found, number_in, kept_body, symbol_bits, symbol_taken, symbol_shape, symbol_register};
+ghost use Rattle.qasm_names.specs.Checks.{gate_shape, kept_by, lookup_by};
+ghost use Rattle.qasm_names.specs.Kept.{Represents, DeclaresGate, called_for, found, number_in, kept_body, symbol_bits, symbol_taken, symbol_shape, symbol_register};
+ghost use Rattle.qasm_scope.specs.Faults.{shape_of};
 ghost use Rattle.qasm_scope.specs.Scope.{Scope, Qubits, Bits, bit_count, declared, qubit_count};
 
 use crate::gates::{CalledGate, GateBody, KnownGate};
@@ -93,9 +94,9 @@ impl<'a> Names<'a> {
 
     /// The gate of a name, if there is one.
     pub fn gate(&self, gate: &GateName<'a>) -> Option<KnownGate>
-        ensures shape { option_map gate_shape result ≡ shape_by self.now.symbols (callee gate.now) }
+        ensures shape { option_map gate_shape result ≡ shape_of (lookup_by self.now.symbols) (callee gate.now) }
         ensures called { IfSome result (λ known. known.called
-            ≡ called_by self.now.symbols (callee gate.now)) }
+            ≡ called_for (kept_by self.now.symbols) (callee gate.now)) }
     {
         match gate {
             GateName::U => Some(KnownGate {

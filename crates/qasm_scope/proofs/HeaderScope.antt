@@ -8,10 +8,11 @@ use Rattle.std.proofs.lemmas.Slice.Eq.{bytes_eq-Decides}
 use Rattle.qasm_reader.specs.Syntax.{Callee, Declared, U, Cx, BodySentence, BodyApplied, BodyBarrier, GateForm, DeclareGate}
 use Rattle.qasm_scope.specs.declared.causes.Cause.{Cause}
 use Rattle.qasm_scope.specs.declared.causes.Cause.TheVariants as cause
-use Rattle.qasm_scope.specs.Faults.{body_is_unsupported, body_has_unknown, body_has_wrong_count, body_has_same_qubit, is_hidden, is_no_gate, is_in, has_other_name, has_other_shape, shape_in, shape_of, first_cause, wrong_in}
+use Rattle.qasm_scope.specs.Faults.{body_is_unsupported, body_has_unknown, body_has_wrong_count, body_has_same_qubit, form_has_unknown, is_hidden, is_no_gate, is_other, has_other_name, has_other_shape, shape_of, first_cause, wrong_in}
+use Rattle.qasm_scope.specs.Angles.{FormalPlaces, places_among}
 use Rattle.qasm_scope.specs.HeaderGates.{first_gates, further_gates}
 use Rattle.qasm_scope.specs.Meaning.{with_first, with_further}
-use Rattle.qasm_scope.specs.Scope.{Scope, Declaration, Gate, meaning_of, is_declared, is_taken, declared}
+use Rattle.qasm_scope.specs.Scope.{Scope, Declaration, Gate, Lookup, lookup_in, meaning_of, is_declared, is_taken, declared, shape_in}
 use Rattle.qasm_scope.specs.Applications.{has_twice}
 
 -- ---- names
@@ -52,16 +53,16 @@ tests taken unknown count form = first_cause (
     ∷ [])
 
 abbrev pub wrong_but_name : Scope → GateForm → Option Cause
-wrong_but_name scope form = tests false (list_any (body_has_unknown scope form) form.body) (list_any (body_has_wrong_count scope) form.body) form
+wrong_but_name scope form = tests false (form_has_unknown (lookup_in scope) form) (list_any (body_has_wrong_count (lookup_in scope)) form.body) form
 
 wrong_in_is : (scope : Scope) (form : GateForm)
-    → wrong_in scope (DeclareGate form) ≡ tests (is_taken form.name scope) (list_any (body_has_unknown scope form) form.body) (list_any (body_has_wrong_count scope) form.body) form
+    → wrong_in scope (DeclareGate form) ≡ tests (is_taken form.name scope) (form_has_unknown (lookup_in scope) form) (list_any (body_has_wrong_count (lookup_in scope)) form.body) form
 unfolding wrong_in
 wrong_in_is scope form = refl
 
 pub faultless : (scope : Scope) (form : GateForm) → is_taken form.name scope ≡ false → wrong_but_name scope form ≡ None → wrong_in scope (DeclareGate form) ≡ None
 faultless scope form free e =
-    wrong_in_is scope form ∙ ap (λ taken. tests taken (list_any (body_has_unknown scope form) form.body) (list_any (body_has_wrong_count scope) form.body) form) free ∙ e
+    wrong_in_is scope form ∙ ap (λ taken. tests taken (form_has_unknown (lookup_in scope) form) (list_any (body_has_wrong_count (lookup_in scope)) form.body) form) free ∙ e
 
 -- ---- the first gates
 -- declared among those before it, a form's name is as free as in the scope before all, and nothing else is wrong with it
@@ -139,18 +140,19 @@ knows scope (BodyApplied a) = knows_gate scope a.gate
 knows scope (BodyBarrier names) = true
 
 module _ (before after : Scope) (k : Keeps before after) where
-  same_shape : (gate : Callee) → knows_gate before gate ≡ true → shape_of after gate ≡ shape_of before gate
+  same_shape : (gate : Callee) → knows_gate before gate ≡ true → shape_of (lookup_in after) gate ≡ shape_of (lookup_in before) gate
   same_shape (Declared name) e = ap shape_in (k.same name e)
   same_shape U e = refl
   same_shape Cx e = refl
 
-  same_unknown : (form : GateForm) (b : BodySentence) → knows before b ≡ true → body_has_unknown after form b ≡ body_has_unknown before form b
-  same_unknown form (BodyApplied a) e =
-      ap (λ shape. is_hidden form a.gate || is_no_gate shape || list_any (has_other_name form.parameters) a.angles || list_any (λ name. not (is_in form.qubits name)) a.qubits)
+  same_unknown : (parameters qubits : FormalPlaces) (b : BodySentence) → knows before b ≡ true
+      → body_has_unknown (lookup_in after) parameters qubits b ≡ body_has_unknown (lookup_in before) parameters qubits b
+  same_unknown parameters qubits (BodyApplied a) e =
+      ap (λ shape. is_hidden parameters qubits a.gate || is_no_gate shape || list_any (has_other_name parameters) a.angles || list_any (is_other qubits) a.qubits)
       (same_shape a.gate e)
-  same_unknown form (BodyBarrier names) e = refl
+  same_unknown parameters qubits (BodyBarrier names) e = refl
 
-  same_count : (b : BodySentence) → knows before b ≡ true → body_has_wrong_count after b ≡ body_has_wrong_count before b
+  same_count : (b : BodySentence) → knows before b ≡ true → body_has_wrong_count (lookup_in after) b ≡ body_has_wrong_count (lookup_in before) b
   same_count (BodyApplied a) e = ap (λ shape. has_other_shape shape (length a.angles) (length a.qubits)) (same_shape a.gate e)
   same_count (BodyBarrier names) e = refl
 
@@ -164,8 +166,8 @@ module _ (before after : Scope) (k : Keeps before after) where
   same_wrong : (form : GateForm) → list_all (knows before) form.body ≡ true → wrong_but_name after form ≡ wrong_but_name before form
   same_wrong form e =
       ap₂ (λ unknown count. tests false unknown count form)
-      (same_any (body_has_unknown after form) (body_has_unknown before form) (same_unknown form) form.body e)
-      (same_any (body_has_wrong_count after) (body_has_wrong_count before) same_count form.body e)
+      (same_any _ _ (same_unknown (places_among form.parameters) (places_among form.qubits)) form.body e)
+      (same_any (body_has_wrong_count (lookup_in after)) (body_has_wrong_count (lookup_in before)) same_count form.body e)
 
 -- ---- the further gates
 abbrev AreSound : Scope → List GateForm → Type 0

@@ -25,13 +25,21 @@ is_unsupported (Binary operator f g) = is_power operator || is_unsupported f || 
 is_unsupported (Call function f) = true
 is_unsupported f = false
 
--- the place of a name among the formal names, or 0
+-- the formal names of a gate: of each name the place that it has among them
+abbrev pub FormalPlaces : Type 0
+FormalPlaces = List ℕ → Option ℕ
+
+-- the places of these names; of equal ones the first counts
+abbrev pub places_among : List (List ℕ) → FormalPlaces
+places_among names name = position (λ other. bytes_eq other name) names
+
+-- a place, or 0
 abbrev pub place_or_zero : Option ℕ → ℕ
 place_or_zero None = 0
 place_or_zero (Some i) = i
 
 abbrev pub place_of : List ℕ → List (List ℕ) → ℕ
-place_of name names = place_or_zero (position (λ other. bytes_eq other name) names)
+place_of name names = place_or_zero (places_among names name)
 
 -- the operation on two values, for the operators other than `^`
 abbrev pub binary : Operator → tree.Tree → tree.Tree → tree.Tree
@@ -41,14 +49,14 @@ binary Multiply a b = tree.Binary operators.Multiply a b
 binary Divide a b = tree.Binary operators.Divide a b
 binary Power a b = a
 
--- an expression without `^` and functions, its parameters by their place among the names
-abbrev pub numbered : List (List ℕ) → Formula → tree.Tree
-numbered names (Number text) = tree.Number (literal_value text)
-numbered names Pi = tree.Pi
-numbered names (Name name) = tree.Parameter (place_of name names)
-numbered names (Negate f) = tree.Negate (numbered names f)
-numbered names (Binary operator f g) = binary operator (numbered names f) (numbered names g)
-numbered names (Call function f) = numbered names f
+-- an expression without `^` and functions, its parameters by their places
+abbrev pub numbered : FormalPlaces → Formula → tree.Tree
+numbered places (Number text) = tree.Number (literal_value text)
+numbered places Pi = tree.Pi
+numbered places (Name name) = tree.Parameter (place_or_zero (places name))
+numbered places (Negate f) = tree.Negate (numbered places f)
+numbered places (Binary operator f g) = binary operator (numbered places f) (numbered places g)
+numbered places (Call function f) = numbered places f
 
 abbrev pub cause_of : angle_cause.AngleFault → Cause
 cause_of angle_causes.Divide = causes.Divide
@@ -61,7 +69,7 @@ with_cause (Err cause) = Err (cause_of cause)
 
 -- the value of an expression where the parameters of these names have these values
 unfoldable pub angle_of : List (List ℕ) → List Angle → Formula → Result Angle Cause
-angle_of names angles f = with_cause (value (numbered names f) angles)
+angle_of names angles f = with_cause (value (numbered (places_among names) f) angles)
 
 -- a value before others; of two causes the first counts
 abbrev pub in_prefix : Result Angle Cause → Result (List Angle) Cause → Result (List Angle) Cause

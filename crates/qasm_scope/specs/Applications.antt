@@ -6,7 +6,7 @@ use Rattle.std.specs.List.{list_any, flat_map, filter_map, range_with_len}
 use Rattle.qasm_reader.specs.Syntax.{Operand, Apply}
 use Rattle.qasm_scope.specs.Angles.{angles_of}
 use Rattle.qasm_scope.specs.Calls.{Event, call, expand_declared}
-use Rattle.qasm_scope.specs.Scope.{Scope, meaning_of, numeral, qubit_register}
+use Rattle.qasm_scope.specs.Scope.{Lookup, Scope, lookup_in, numeral}
 
 -- what an argument stands for: one qubit or bit, or a register by its first one and its size
 pub data Range : Type 0 where
@@ -20,11 +20,11 @@ range_in (Some register) None = Register register.0 register.1
 range_in None index = Single 0
 
 -- the register of qubits that an argument names
-abbrev pub register_of : Scope → Operand → Option (ℕ × ℕ)
-register_of scope operand = qubit_register (meaning_of operand.register scope)
+abbrev pub register_of : Lookup → Operand → Option (ℕ × ℕ)
+register_of names operand = names.qubits operand.register
 
-abbrev pub range_of : Scope → Operand → Range
-range_of scope operand = range_in (register_of scope operand) operand.index
+abbrev pub range_of : Lookup → Operand → Range
+range_of names operand = range_in (register_of names operand) operand.index
 
 -- the sizes of the registers among them
 abbrev pub register_size : Range → Option ℕ
@@ -49,11 +49,11 @@ abbrev pub has_twice : {A : Type 0} → (A → A → Bool) → List A → Bool
 has_twice same [] = false
 has_twice same (x ∷ xs) = list_any (λ other. same other x) xs || has_twice same xs
 
-abbrev pub ranges_of : Scope → List Operand → List Range
-ranges_of scope operands = map (range_of scope) operands
+abbrev pub ranges_of : Lookup → List Operand → List Range
+ranges_of names operands = map (range_of names) operands
 
 -- what an application comes to: its instances, one after the other
 abbrev pub application_events : Scope → Apply → List Event
 application_events scope a =
     flat_map (λ qubits. call (expand_declared scope) a.gate 1 (angles_of [] [] a.angles) qubits)
-    (instances (ranges_of scope a.qubits))
+    (instances (ranges_of (lookup_in scope) a.qubits))

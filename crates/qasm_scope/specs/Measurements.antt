@@ -5,14 +5,14 @@ use Rattle.std.specs.List.{list_any, range_with_len}
 use Rattle.zx_gates.specs.declared.elementary.Measure.{Measure}
 use Rattle.qasm_reader.specs.Syntax.{Operand, Sentence, Act, Measured}
 use Rattle.qasm_scope.specs.Applications.{Range, Single, Register, place_at, range_in, range_of}
-use Rattle.qasm_scope.specs.Scope.{Scope, bit_register, meaning_of}
+use Rattle.qasm_scope.specs.Scope.{Lookup, Scope, lookup_in}
 
 -- the register of bits that an argument names, and what the argument stands for
-abbrev pub bit_register_of : Scope → Operand → Option (ℕ × ℕ)
-bit_register_of scope operand = bit_register (meaning_of operand.register scope)
+abbrev pub bit_register_of : Lookup → Operand → Option (ℕ × ℕ)
+bit_register_of names operand = names.bits operand.register
 
-abbrev pub bit_range_of : Scope → Operand → Range
-bit_range_of scope operand = range_in (bit_register_of scope operand) operand.index
+abbrev pub bit_range_of : Lookup → Operand → Range
+bit_range_of names operand = range_in (bit_register_of names operand) operand.index
 
 -- they are neither two registers of one size, nor a qubit and a bit alone
 abbrev pub are_unlike : Range → Range → Bool
@@ -32,7 +32,8 @@ measures_of from to =
 
 -- what a statement measures
 abbrev pub measured_by : Scope → Sentence → List Measure
-measured_by scope (Act (Measured from to)) = measures_of (range_of scope from) (bit_range_of scope to)
+measured_by scope (Act (Measured from to)) =
+    measures_of (range_of (lookup_in scope) from) (bit_range_of (lookup_in scope) to)
 measured_by scope sentence = []
 
 -- one of these numbers is in the range

@@ -2,7 +2,7 @@
 -- Cross, Bishop, Smolin and Gambetta, "Open quantum assembly language" (arXiv 1707.03429), on registers, gates and
 -- includes.
 use Rattle.std.specs.Prelude.{ℕ, ◌+◌, ◌-◌, Bool, false, ◌&&◌, not, if◌then◌else◌, List, [], ◌∷◌, map, Option, None}
-use Rattle.std.specs.Prelude.{Some}
+use Rattle.std.specs.Prelude.{Some, length}
 use Rattle.std.specs.Str.{bytes_eq}
 use Rattle.std.specs.List.{list_any}
 use Rattle.qasm_angle.specs.Literals.{number_of}
@@ -72,6 +72,26 @@ qubit_register meaning = None
 abbrev pub bit_register : Option Meaning → Option (ℕ × ℕ)
 bit_register (Some (Bits first size)) = Some (first, size)
 bit_register meaning = None
+
+-- a gate of that name: how many angles and qubits it has
+abbrev pub shape_in : Option Meaning → Option (ℕ × ℕ)
+shape_in (Some (Gate form)) = Some (length form.parameters, length form.qubits)
+shape_in meaning = None
+
+-- What names stand for, however they are kept: how many angles and qubits a gate has, and a register's first number and
+-- its size.
+pub record Lookup : Type 0 where
+  pub gates : List ℕ → Option (ℕ × ℕ)
+  pub qubits : List ℕ → Option (ℕ × ℕ)
+  pub bits : List ℕ → Option (ℕ × ℕ)
+
+-- what they stand for in a scope
+abbrev pub lookup_in : Scope → Lookup
+lookup_in scope = record {
+  gates = λ name. shape_in (meaning_of name scope);
+  qubits = λ name. qubit_register (meaning_of name scope);
+  bits = λ name. bit_register (meaning_of name scope);
+}
 
 -- a declaration that can't be repeated
 abbrev pub declared : List ℕ → Meaning → Declaration

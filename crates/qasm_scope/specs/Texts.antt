@@ -6,7 +6,7 @@ use Rattle.qasm_reader.specs.Syntax.{Applied, Sentence, Act, Placed}
 use Rattle.qasm_scope.specs.Applications.{instances, ranges_of}
 use Rattle.qasm_scope.specs.Meaning.{Means, after_statement}
 pub use Rattle.qasm_scope.specs.ProgramTexts.{IsProgramText}
-use Rattle.qasm_scope.specs.Scope.{Scope}
+use Rattle.qasm_scope.specs.Scope.{Scope, lookup_in}
 
 -- The text means the circuit of so many qubits and these gates, with these measurements into so many bits. It may make
 -- any number of calls.
@@ -18,7 +18,7 @@ pub record TextMeans (text : List ℕ) (qubits : ℕ) (gates : List ElementaryGa
 
 -- how many gates a program applies in its statements: the instances of its applications
 abbrev pub instances_in : Scope → Sentence → ℕ
-instances_in scope (Act (Applied a)) = length (instances (ranges_of scope a.qubits))
+instances_in scope (Act (Applied a)) = length (instances (ranges_of (lookup_in scope) a.qubits))
 instances_in scope sentence = 0
 
 abbrev pub size_after : Scope → List Placed → ℕ

@@ -1,6 +1,7 @@
 -- The gates of a call act on the qubits of the call, which are below a number and differ.
 use Rattle.std.proofs.Common.{◌≡◌, ℕ, suc, ◌+◌, ◌<◌, ◌==◌, Bool, true, false, ◌||◌, not, if◌then◌else◌, List, [], ◌∷◌, ◌++◌, length, map, slice_index_or, Option, None, Some, Result, Ok, Err, refl, sym, ap, subst, ◌∙◌, arith}
 use Rattle.std.specs.List.{flat_map, list_any, position_from}
+use Rattle.std.specs.Option.{is_some}
 use Rattle.std.specs.Str.{bytes_eq}
 use Rattle.std.proofs.Math.Nat.{zero-add}
 use Rattle.std.proofs.lemmas.Bool.Decides.{nat_tests}
@@ -12,14 +13,15 @@ use Rattle.qasm_angle.specs.declared.angle.Angle.{Angle}
 use Rattle.qasm_angle.specs.Sixteenths.{phase_of}
 use Rattle.qasm_reader.specs.Syntax.{Callee, Declared, U, Cx, GateForm, BodySentence, BodyApplied, BodyBarrier}
 use Rattle.qasm_scope.specs.declared.causes.Cause.{Cause}
-use Rattle.qasm_scope.specs.Angles.{angles_of, place_of, place_or_zero}
+use Rattle.qasm_scope.specs.Angles.{angles_of, place_of, place_or_zero, places_among}
 use Rattle.qasm_scope.specs.Applications.{has_twice}
 use Rattle.qasm_scope.specs.Calls.{Event, applied, u_of, expand, call, body_call, expand_meaning, expand_declared}
-use Rattle.qasm_scope.specs.Faults.{is_in, shape_of, shape_in, is_no_gate, has_other_shape, is_hidden, has_other_name, body_has_unknown, body_has_wrong_count, body_has_same_qubit}
+use Rattle.qasm_scope.specs.Faults.{shape_of, is_no_gate, has_other_shape, is_hidden, has_other_name, body_has_unknown, body_has_wrong_count, body_has_same_qubit, is_other}
 use Rattle.qasm_names.specs.Kept.{IsSound, IsSoundMeaning}
-use Rattle.qasm_scope.specs.Scope.{Scope, Meaning, Qubits, Bits, Gate, meaning_of}
+use Rattle.qasm_scope.specs.Scope.{Scope, Meaning, Qubits, Bits, Gate, meaning_of, lookup_in, shape_in}
 use Rattle.qasm_unroll.proofs.EventLemmas.{applied-append}
 use Rattle.qasm_unroll.specs.Internal.KeptCalls.{u_events, cx_events}
+use Rattle.qasm_names.proofs.Formulas.{is_some-place}
 use Rattle.qasm_names.proofs.Tests.{or-first, or-second, same_number}
 
 -- P holds of each element, by the list
@@ -82,6 +84,13 @@ chosen-place p (n ∷ ns) (q ∷ qs) h = chosen-at (p n) (list_any p ns) q (plac
 -- the qubit that a name stands for
 abbrev named : List ℕ → List (List ℕ) → List ℕ → ℕ
 named qubits ns name = slice_index_or qubits (place_of name ns) 0
+
+-- the name is one of these
+abbrev is_in : List (List ℕ) → List ℕ → Bool
+is_in ns name = list_any (λ other. bytes_eq other name) ns
+
+is_other-names : (ns names : List (List ℕ)) → list_any (is_other (places_among ns)) names ≡ list_any (λ name. not (is_in ns name)) names
+is_other-names ns names = λ i. list_any (λ name. not ((ap is_some (position_from-zero (λ other. bytes_eq other name) ns) ∙ is_some-place (λ other. bytes_eq other name) 0 ns) i)) names
 
 named-chosen : (qubits : List ℕ) (ns : List (List ℕ)) (name : List ℕ) → is_in ns name ≡ true → named qubits ns name ≡ chosen (λ other. bytes_eq other name) ns qubits
 named-chosen qubits ns name h =
@@ -228,40 +237,40 @@ cx-on limit (control ∷ target ∷ []) h =
 cx-on limit (q ∷ r ∷ s ∷ qubits) h = tt
 
 expand-on : (limit : ℕ) (scope : Scope) (gate : Callee) (depth : ℕ) (angles : List Angle) (qubits : List ℕ) → GatesActOn limit scope → AreArguments limit qubits
-    → Takes (shape_of scope gate) (length qubits) → ActsOn limit (expand (λ n d a q. expand_declared scope n d a q) gate depth angles qubits)
+    → Takes (shape_of (lookup_in scope) gate) (length qubits) → ActsOn limit (expand (λ n d a q. expand_declared scope n d a q) gate depth angles qubits)
 expand-on limit scope U depth angles qubits gates h k = u-on limit angles qubits h.below
 expand-on limit scope Cx depth angles qubits gates h k = cx-on limit qubits h
 expand-on limit scope (Declared name) depth angles qubits gates h k = gates name depth angles qubits h k
 
 call-at : (limit : ℕ) (scope : Scope) (gate : Callee) (depth : ℕ) (angles : Result (List Angle) Cause) (qubits : List ℕ) → GatesActOn limit scope → AreArguments limit qubits
-    → Takes (shape_of scope gate) (length qubits) → ActsOn limit (call (λ n d a q. expand_declared scope n d a q) gate depth angles qubits)
+    → Takes (shape_of (lookup_in scope) gate) (length qubits) → ActsOn limit (call (λ n d a q. expand_declared scope n d a q) gate depth angles qubits)
 call-at limit scope gate depth (Err cause) qubits gates h k = tt
 call-at limit scope gate depth (Ok angles) qubits gates h k = expand-on limit scope gate depth angles qubits gates h k
 
 -- the statements of a body
 sentence-on : (limit : ℕ) (scope : Scope) (form : GateForm) (depth : ℕ) (angles : List Angle) (qubits : List ℕ) (s : BodySentence) → GatesActOn limit scope → AreArguments limit qubits
-    → length qubits ≡ length form.qubits → body_has_unknown scope form s ≡ false → body_has_wrong_count scope s ≡ false → body_has_same_qubit s ≡ false
+    → length qubits ≡ length form.qubits → body_has_unknown (lookup_in scope) (places_among form.parameters) (places_among form.qubits) s ≡ false → body_has_wrong_count (lookup_in scope) s ≡ false → body_has_same_qubit s ≡ false
     → ActsOn limit (body_call (λ n d a q. expand_declared scope n d a q) form depth angles qubits s)
 sentence-on limit scope form depth angles qubits (BodyBarrier names) gates h e unknown counts twice = tt
 sentence-on limit scope form depth angles qubits (BodyApplied a) gates h e unknown counts twice =
-    let known = or-second (is_hidden form a.gate || is_no_gate (shape_of scope a.gate) || list_any (has_other_name form.parameters) a.angles) _ unknown in
-    let gate = or-second (is_hidden form a.gate) _ (or-first _ _ (or-first _ _ unknown)) in
+    let known = sym (is_other-names form.qubits a.qubits) ∙ or-second (is_hidden (places_among form.parameters) (places_among form.qubits) a.gate || is_no_gate (shape_of (lookup_in scope) a.gate) || list_any (has_other_name (places_among form.parameters)) a.angles) _ unknown in
+    let gate = or-second (is_hidden (places_among form.parameters) (places_among form.qubits) a.gate) _ (or-first _ _ (or-first _ _ unknown)) in
     let arguments : AreArguments limit (map (named qubits form.qubits) a.qubits) = record {
       below = named-below limit qubits form.qubits a.qubits e h.below known;
       distinct = named-distinct qubits form.qubits a.qubits e h.distinct known twice;
     } in
     call-at limit scope a.gate (depth + 1) (angles_of form.parameters angles a.angles) (map (named qubits form.qubits) a.qubits) gates arguments
-    (subst (Takes (shape_of scope a.gate)) (sym (length-map a.qubits (named qubits form.qubits))) (takes-from (shape_of scope a.gate) (length a.angles) (length a.qubits) gate counts))
+    (subst (Takes (shape_of (lookup_in scope) a.gate)) (sym (length-map a.qubits (named qubits form.qubits))) (takes-from (shape_of (lookup_in scope) a.gate) (length a.angles) (length a.qubits) gate counts))
 
 body-on : (limit : ℕ) (scope : Scope) (form : GateForm) (depth : ℕ) (angles : List Angle) (qubits : List ℕ) (body : List BodySentence) → GatesActOn limit scope → AreArguments limit qubits
-    → length qubits ≡ length form.qubits → list_any (body_has_unknown scope form) body ≡ false → list_any (body_has_wrong_count scope) body ≡ false → list_any body_has_same_qubit body ≡ false
+    → length qubits ≡ length form.qubits → list_any (body_has_unknown (lookup_in scope) (places_among form.parameters) (places_among form.qubits)) body ≡ false → list_any (body_has_wrong_count (lookup_in scope)) body ≡ false → list_any body_has_same_qubit body ≡ false
     → ActsOn limit (flat_map (body_call (λ n d a q. expand_declared scope n d a q) form depth angles qubits) body)
 body-on limit scope form depth angles qubits [] gates h e unknown counts twice = tt
 body-on limit scope form depth angles qubits (s ∷ body) gates h e unknown counts twice =
     ActsOn-append limit (body_call (λ n d a q. expand_declared scope n d a q) form depth angles qubits s) _
     (sentence-on limit scope form depth angles qubits s gates h e (or-first _ _ unknown) (or-first _ _ counts) (or-first _ _ twice))
-    (body-on limit scope form depth angles qubits body gates h e (or-second (body_has_unknown scope form s) _ unknown)
-    (or-second (body_has_wrong_count scope s) _ counts) (or-second (body_has_same_qubit s) _ twice))
+    (body-on limit scope form depth angles qubits body gates h e (or-second (body_has_unknown (lookup_in scope) (places_among form.parameters) (places_among form.qubits) s) _ unknown)
+    (or-second (body_has_wrong_count (lookup_in scope) s) _ counts) (or-second (body_has_same_qubit s) _ twice))
 
 meaning-on : (b : Bool) (limit : ℕ) (scope : Scope) (m : Meaning) (replaceable : Bool) (name : List ℕ) (depth : ℕ) (angles : List Angle) (qubits : List ℕ)
     → GatesActOn limit scope → IsSoundMeaning scope m replaceable → AreArguments limit qubits
@@ -280,5 +289,5 @@ gates-on limit (d ∷ scope) sound name depth angles qubits h k =
 
 -- a call with as many qubits as the gate has
 pub call-on : (limit : ℕ) (scope : Scope) (gate : Callee) (depth : ℕ) (angles : Result (List Angle) Cause) (qubits : List ℕ) → IsSound scope → AreArguments limit qubits
-    → Takes (shape_of scope gate) (length qubits) → ActsOn limit (call (expand_declared scope) gate depth angles qubits)
+    → Takes (shape_of (lookup_in scope) gate) (length qubits) → ActsOn limit (call (expand_declared scope) gate depth angles qubits)
 call-on limit scope gate depth angles qubits sound h k = call-at limit scope gate depth angles qubits (gates-on limit scope sound) h k

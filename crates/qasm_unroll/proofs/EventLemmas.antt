@@ -7,13 +7,13 @@ use Rattle.qasm_scope.specs.Calls.{Event, Called, Undefined, Applied, applied, c
 use Rattle.std.specs.List.{flat_map}
 use Rattle.std.specs.Option.{option_or}
 use Rattle.qasm_reader.specs.Syntax.{Apply}
-use Rattle.qasm_scope.specs.Angles.{angles_of, numbered}
+use Rattle.qasm_scope.specs.Angles.{angles_of, numbered, places_among}
 use Rattle.qasm_scope.specs.Applications.{application_events, instances, ranges_of}
 use Rattle.qasm_scope.specs.Faults.{is_no_gate, shape_of}
-use Rattle.qasm_names.specs.Kept.{called_for}
+use Rattle.qasm_names.specs.Kept.{called_for, kept_names}
 use Rattle.qasm_unroll.specs.Internal.KeptCalls.{expand_number}
 use Rattle.qasm_unroll.specs.Internal.KeptCalls.{Continues, called_events, values_of}
-use Rattle.qasm_scope.specs.Scope.{Scope}
+use Rattle.qasm_scope.specs.Scope.{Scope, lookup_in}
 use Rattle.qasm_unroll.proofs.Keeping.{call-same, Agrees-itself, numbered-angles}
 use Rattle.qasm_unroll.proofs.Unrolling.{Continues-join}
 
@@ -62,12 +62,12 @@ flat_map-same f g [] h = refl
 flat_map-same f g (x ∷ xs) h = ap (λ ys. ys ++ flat_map f xs) (h x) ∙ ap (λ ys. g x ++ ys) (flat_map-same f g xs h)
 
 -- an application in a statement comes to calls of kept gates
-pub application-numbered : (scope : Scope) (a : Apply) → is_no_gate (shape_of scope a.gate) ≡ false
-    → application_events scope a ≡ flat_map (called_events (expand_number scope) (called_for scope a.gate) 1 (values_of (map (numbered []) a.angles) [])) (instances (ranges_of scope a.qubits))
+pub application-numbered : (scope : Scope) (a : Apply) → is_no_gate (shape_of (lookup_in scope) a.gate) ≡ false
+    → application_events scope a ≡ flat_map (called_events (expand_number scope) (called_for (kept_names scope) a.gate) 1 (values_of (map (numbered (places_among [])) a.angles) [])) (instances (ranges_of (lookup_in scope) a.qubits))
 application-numbered scope a h =
-    flat_map-same _ _ (instances (ranges_of scope a.qubits)) (λ qubits.
+    flat_map-same _ _ (instances (ranges_of (lookup_in scope) a.qubits)) (λ qubits.
     call-same (expand_number scope) scope a.gate 1 (angles_of [] [] a.angles) qubits (Agrees-itself scope) h
-    ∙ ap (λ v. called_events (expand_number scope) (called_for scope a.gate) 1 v qubits) (numbered-angles [] [] a.angles))
+    ∙ ap (λ v. called_events (expand_number scope) (called_for (kept_names scope) a.gate) 1 v qubits) (numbered-angles [] [] a.angles))
 
 -- an instance that is done, and those after it
 pub Continues-next : (most a : ℕ) (first : List ElementaryGate) (all : List Event) (b : ℕ) (second : List ElementaryGate) (e rest : List Event) (c : ℕ) (third : List ElementaryGate)

@@ -6,14 +6,14 @@ use Rattle.qasm_angle.specs.declared.angle.Angle.{Angle}
 use Rattle.qasm_reader.specs.Syntax.{Formula, Callee, Declared, U, Cx, GateForm, BodySentence, BodyApplied, BodyBarrier}
 use Rattle.qasm_scope.specs.declared.causes.Cause.{Cause}
 use Rattle.qasm_names.specs.declared.gates.GateCall.{GateCall}
-use Rattle.qasm_scope.specs.Angles.{in_prefix, angle_of, angles_of, numbered, place_of}
+use Rattle.qasm_scope.specs.Angles.{in_prefix, angle_of, angles_of, numbered, place_of, places_among}
 use Rattle.qasm_scope.specs.Calls.{Event, Called, after_angles, call, expand, body_call, expand_meaning, expand_declared}
-use Rattle.qasm_scope.specs.Faults.{shape_of, shape_in, is_no_gate, body_has_unknown}
-use Rattle.qasm_names.specs.Kept.{KeptCall, kept_call, gate_count, gates_in, symbol_of, symbol_in, number_in, called_for, kept_calls}
+use Rattle.qasm_scope.specs.Faults.{shape_of, is_no_gate, body_has_unknown}
+use Rattle.qasm_names.specs.Kept.{KeptCall, kept_call, gate_count, gates_in, symbol_of, symbol_in, number_in, called_for, kept_calls, kept_names}
 use Rattle.qasm_unroll.specs.Internal.KeptCalls.{is_numbered, expand_number}
 use Rattle.qasm_names.proofs.Tests.{if-true, if-false, or-first, or-second, same_number, other_number}
 use Rattle.qasm_unroll.specs.Internal.KeptCalls.{Numbered, call_events, calls_events, expand_called, called_events, values_of, picked}
-use Rattle.qasm_scope.specs.Scope.{Scope, Declaration, Meaning, Qubits, Bits, Gate, meaning_of}
+use Rattle.qasm_scope.specs.Scope.{Scope, Declaration, Meaning, Qubits, Bits, Gate, meaning_of, lookup_in, shape_in}
 
 -- a number below the count isn't that of the next gate
 pub not-numbered : (n count : ℕ) (m : Meaning) → n < count → is_numbered n count m ≡ false
@@ -64,7 +64,7 @@ number-name name (d ∷ scope) depth angles qubits h =
     number-name-at (bytes_eq d.name name) d d.meaning name scope depth angles qubits refl (number-name name scope depth angles qubits) h
 
 -- angles with parameters by their places
-pub numbered-angles : (names : List (List ℕ)) (angles : List Angle) (fs : List Formula) → angles_of names angles fs ≡ values_of (map (numbered names) fs) angles
+pub numbered-angles : (names : List (List ℕ)) (angles : List Angle) (fs : List Formula) → angles_of names angles fs ≡ values_of (map (numbered (places_among names)) fs) angles
 unfolding angle_of
 numbered-angles names angles [] = refl
 numbered-angles names angles (f ∷ fs) = ap (in_prefix (angle_of names angles f)) (numbered-angles names angles fs)
@@ -92,8 +92,8 @@ after_angles-same (Err cause) f g h = refl
 after_angles-same (Ok values) f g h = h values
 
 expand-same : (numbers : Numbered) (scope : Scope) (gate : Callee) (depth : ℕ) (angles : List Angle) (qubits : List ℕ)
-    → Agrees numbers scope → is_no_gate (shape_of scope gate) ≡ false
-    → expand (λ n d a q. expand_declared scope n d a q) gate depth angles qubits ≡ expand_called numbers (called_for scope gate) depth angles qubits
+    → Agrees numbers scope → is_no_gate (shape_of (lookup_in scope) gate) ≡ false
+    → expand (λ n d a q. expand_declared scope n d a q) gate depth angles qubits ≡ expand_called numbers (called_for (kept_names scope) gate) depth angles qubits
 expand-same numbers scope U depth angles qubits h k = refl
 expand-same numbers scope Cx depth angles qubits h k = refl
 expand-same numbers scope (Declared name) depth angles qubits h k =
@@ -101,8 +101,8 @@ expand-same numbers scope (Declared name) depth angles qubits h k =
 
 -- a call by name is a call by number
 pub call-same : (numbers : Numbered) (scope : Scope) (gate : Callee) (depth : ℕ) (angles : Result (List Angle) Cause) (qubits : List ℕ)
-    → Agrees numbers scope → is_no_gate (shape_of scope gate) ≡ false
-    → call (λ n d a q. expand_declared scope n d a q) gate depth angles qubits ≡ called_events numbers (called_for scope gate) depth angles qubits
+    → Agrees numbers scope → is_no_gate (shape_of (lookup_in scope) gate) ≡ false
+    → call (λ n d a q. expand_declared scope n d a q) gate depth angles qubits ≡ called_events numbers (called_for (kept_names scope) gate) depth angles qubits
 call-same numbers scope gate depth angles qubits h k =
     ap (λ events. Called depth ∷ events)
     (after_angles-same angles _ _ (λ values. expand-same numbers scope gate depth values qubits h k))
@@ -121,8 +121,8 @@ kept_events-calls numbers depth angles qubits (c ∷ calls) =
 
 -- a body by name and by number
 pub body-same : (numbers : Numbered) (scope : Scope) (form : GateForm) (depth : ℕ) (angles : List Angle) (qubits : List ℕ) (body : List BodySentence)
-    → Agrees numbers scope → list_any (body_has_unknown scope form) body ≡ false
-    → flat_map (body_call (λ n d a q. expand_declared scope n d a q) form depth angles qubits) body ≡ kept_events numbers depth angles qubits (kept_calls scope form body)
+    → Agrees numbers scope → list_any (body_has_unknown (lookup_in scope) (places_among form.parameters) (places_among form.qubits)) body ≡ false
+    → flat_map (body_call (λ n d a q. expand_declared scope n d a q) form depth angles qubits) body ≡ kept_events numbers depth angles qubits (kept_calls (kept_names scope) (places_among form.parameters) (places_among form.qubits) body)
 body-same numbers scope form depth angles qubits [] h k = refl
 body-same numbers scope form depth angles qubits (BodyBarrier names ∷ body) h k =
     body-same numbers scope form depth angles qubits body h (or-second _ _ k)
@@ -133,7 +133,7 @@ body-same numbers scope form depth angles qubits (BodyApplied a ∷ body) h k =
     let values = numbered-angles form.parameters angles a.angles in
     let places = picked-places qubits form.qubits a.qubits in
     ap (λ events. body_call (λ n d a q. expand_declared scope n d a q) form depth angles qubits (BodyApplied a) ++ events) rest
-    ∙ ap (λ events. events ++ kept_events numbers depth angles qubits (kept_calls scope form body))
+    ∙ ap (λ events. events ++ kept_events numbers depth angles qubits (kept_calls (kept_names scope) (places_among form.parameters) (places_among form.qubits) body))
     (call-same numbers scope a.gate (depth + 1) (angles_of form.parameters angles a.angles) (map (λ name. slice_index_or qubits (place_of name form.qubits) 0) a.qubits) h known
-    ∙ ap (λ v. called_events numbers (called_for scope a.gate) (depth + 1) v (map (λ name. slice_index_or qubits (place_of name form.qubits) 0) a.qubits)) values
-    ∙ ap (λ p. called_events numbers (called_for scope a.gate) (depth + 1) (values_of (map (numbered form.parameters) a.angles) angles) p) places)
+    ∙ ap (λ v. called_events numbers (called_for (kept_names scope) a.gate) (depth + 1) v (map (λ name. slice_index_or qubits (place_of name form.qubits) 0) a.qubits)) values
+    ∙ ap (λ p. called_events numbers (called_for (kept_names scope) a.gate) (depth + 1) (values_of (map (numbered (places_among form.parameters)) a.angles) angles) p) places)

@@ -11,7 +11,7 @@ use Rattle.zx_gates.specs.Circuit.{most_qubits}
 use Rattle.zx_gates.specs.Elementary.{IsElementaryGateOn, IsMeasureOn, most_bits}
 use Rattle.qasm_reader.specs.Syntax.{Operand, Apply, Applied, Measured, Reset, GateForm, Sentence, Version, Include, QubitRegister, BitRegister, DeclareGate, Opaque, If, Barrier, Act, Placed}
 use Rattle.qasm_scope.specs.declared.causes.Cause.{Cause}
-use Rattle.qasm_scope.specs.Angles.{angles_of}
+use Rattle.qasm_scope.specs.Angles.{angles_of, places_among}
 use Rattle.qasm_scope.specs.Applications.{Range, Single, Register, range_in, range_of, ranges_of, register_of, register_sizes, place_at, instances, has_twice, application_events}
 use Rattle.qasm_scope.specs.Calls.{call, call_count, expand_declared}
 use Rattle.qasm_scope.specs.Faults.{wrong_in, first_cause, statement_tests, has_unknown, has_other_shape, has_other_size, is_no_gate, is_no_register, is_past, shape_of, has_other_name}
@@ -19,7 +19,7 @@ use Rattle.qasm_scope.specs.HeaderGates.{first_gates, further_gates}
 use Rattle.qasm_scope.specs.Measurements.{are_unlike, bit_range_of, bit_register_of, count_in, measured_by}
 use Rattle.qasm_names.specs.Kept.{IsSound}
 use Rattle.qasm_scope.specs.Meaning.{after_statement, events_of, fault_after, first_fault, gates_after, is_version, measures_after, scope_after, with_first, with_further, with_header, wrong_with}
-use Rattle.qasm_scope.specs.Scope.{Scope, Gate, bit_count, declared, is_declared, qubit_count}
+use Rattle.qasm_scope.specs.Scope.{Scope, Gate, bit_count, declared, is_declared, qubit_count, lookup_in}
 use Rattle.qasm_scope.proofs.Placing.{placed_or}
 use Rattle.qasm_unroll.proofs.CallLemmas.{Each, Each-append, ActsOn, ActsOn-flat_map, AreArguments, Takes, takes-from, call-on}
 use Rattle.qasm_unroll.specs.Internal.Spans.{instance_count}
@@ -130,16 +130,16 @@ sizes-at size (Single qubit) ranges h = (refl, h)
 sizes-at size (Register first n) ranges h = (or-first _ _ h, or-second (not (n == size)) _ h)
 
 ranges-on : (limit size : ℕ) (scope : Scope) (operands : List Operand) → IsSound scope → qubit_count scope ≤ limit
-    → list_any (λ operand. is_no_register (register_of scope operand)) operands ≡ false
-    → list_any (λ operand. is_past (register_of scope operand) operand.index) operands ≡ false
-    → list_any (λ other. not (other == size)) (register_sizes (ranges_of scope operands)) ≡ false → Each (RangeOn limit size) (ranges_of scope operands)
+    → list_any (λ operand. is_no_register (register_of (lookup_in scope) operand)) operands ≡ false
+    → list_any (λ operand. is_past (register_of (lookup_in scope) operand) operand.index) operands ≡ false
+    → list_any (λ other. not (other == size)) (register_sizes (ranges_of (lookup_in scope) operands)) ≡ false → Each (RangeOn limit size) (ranges_of (lookup_in scope) operands)
 ranges-on limit size scope [] sound few registers past same = tt
 ranges-on limit size scope (o ∷ operands) sound few registers past same =
-    let both = sizes-at size (range_of scope o) (ranges_of scope operands) same in
-    let lies = lies-more (register_of scope o) (qubit_count scope) limit few (register-below o.register scope sound) in (
-      range-on limit size (register_of scope o) o.index lies (or-first _ _ registers) (or-first _ _ past) both.0,
-      ranges-on limit size scope operands sound few (or-second (is_no_register (register_of scope o)) _ registers)
-          (or-second (is_past (register_of scope o) o.index) _ past) both.1,
+    let both = sizes-at size (range_of (lookup_in scope) o) (ranges_of (lookup_in scope) operands) same in
+    let lies = lies-more (register_of (lookup_in scope) o) (qubit_count scope) limit few (register-below o.register scope sound) in (
+      range-on limit size (register_of (lookup_in scope) o) o.index lies (or-first _ _ registers) (or-first _ _ past) both.0,
+      ranges-on limit size scope operands sound few (or-second (is_no_register (register_of (lookup_in scope) o)) _ registers)
+          (or-second (is_past (register_of (lookup_in scope) o) o.index) _ past) both.1,
     )
 
 -- all sizes are the first one
@@ -168,26 +168,26 @@ instances-on limit size from (suc count) ranges h on twice = (
   instances-on limit size (from + 1) count ranges (omega arith) on (or-second (has_twice ◌==◌ (map (place_at from) ranges)) _ twice),
 )
 
-calls-on : (limit : ℕ) (scope : Scope) (a : Apply) (many : List (List ℕ)) → IsSound scope → is_no_gate (shape_of scope a.gate) ≡ false → has_other_shape (shape_of scope a.gate) (length a.angles) (length a.qubits) ≡ false
-    → Each (λ qubits. AreArguments limit qubits × (length qubits ≡ length (ranges_of scope a.qubits))) many
+calls-on : (limit : ℕ) (scope : Scope) (a : Apply) (many : List (List ℕ)) → IsSound scope → is_no_gate (shape_of (lookup_in scope) a.gate) ≡ false → has_other_shape (shape_of (lookup_in scope) a.gate) (length a.angles) (length a.qubits) ≡ false
+    → Each (λ qubits. AreArguments limit qubits × (length qubits ≡ length (ranges_of (lookup_in scope) a.qubits))) many
     → Each (λ qubits. ActsOn limit (call (expand_declared scope) a.gate 1 (angles_of [] [] a.angles) qubits)) many
 calls-on limit scope a [] sound gate counts h = tt
 calls-on limit scope a (qubits ∷ many) sound gate counts h =
-    let same : length qubits ≡ length a.qubits = h.0.1 ∙ length-map a.qubits (range_of scope) in
-    let takes = takes-from (shape_of scope a.gate) (length a.angles) (length a.qubits) gate counts in (
-      call-on limit scope a.gate 1 (angles_of [] [] a.angles) qubits sound h.0.0 (subst (Takes (shape_of scope a.gate)) (sym same) takes),
+    let same : length qubits ≡ length a.qubits = h.0.1 ∙ length-map a.qubits (range_of (lookup_in scope)) in
+    let takes = takes-from (shape_of (lookup_in scope) a.gate) (length a.angles) (length a.qubits) gate counts in (
+      call-on limit scope a.gate 1 (angles_of [] [] a.angles) qubits sound h.0.0 (subst (Takes (shape_of (lookup_in scope) a.gate)) (sym same) takes),
       calls-on limit scope a many sound gate counts h.1,
     )
 
 application-on : (limit : ℕ) (scope : Scope) (a : Apply) → IsSound scope → qubit_count scope ≤ limit → wrong_in scope (Act (Applied a)) ≡ None → ActsOn limit (application_events scope a)
 application-on limit scope a sound few h =
     let p = (passes scope (Act (Applied a)) h).1 in
-    let known : has_unknown scope a ≡ false = p.0 in
-    let sizes : has_other_size (register_sizes (ranges_of scope a.qubits)) ≡ false = p.1.1.1.0 in
-    let ranges = ranges_of scope a.qubits in
+    let known : has_unknown (lookup_in scope) a ≡ false = p.0 in
+    let sizes : has_other_size (register_sizes (ranges_of (lookup_in scope) a.qubits)) ≡ false = p.1.1.1.0 in
+    let ranges = ranges_of (lookup_in scope) a.qubits in
     let count = instance_count (register_sizes ranges) in
-    let gate = or-first (is_no_gate (shape_of scope a.gate)) _ (or-first _ _ known) in
-    let registers = or-second (is_no_gate (shape_of scope a.gate) || list_any (has_other_name []) a.angles) _ known in
+    let gate = or-first (is_no_gate (shape_of (lookup_in scope) a.gate)) _ (or-first _ _ known) in
+    let registers = or-second (is_no_gate (shape_of (lookup_in scope) a.gate) || list_any (has_other_name (places_among [])) a.angles) _ known in
     let on = ranges-on limit count scope a.qubits sound few registers p.1.1.0 (same-sizes (register_sizes ranges) sizes) in
     ActsOn-flat_map limit (call (expand_declared scope) a.gate 1 (angles_of [] [] a.angles)) (instances ranges)
     (calls-on limit scope a (instances ranges) sound gate p.1.0 (instances-on limit count 0 count ranges (omega arith) on p.1.1.1.1.0))
@@ -228,14 +228,14 @@ measure-on : (limit bits : ℕ) (scope : Scope) (from to : Operand) → IsSound 
     → Each (IsMeasureOn limit bits) (measured_by scope (Act (Measured from to)))
 measure-on limit bits scope from to sound few few_bits h =
     let p = passes scope (Act (Measured from to)) h in
-    let like : are_unlike (range_of scope from) (bit_range_of scope to) ≡ false = p.1.1.0 in
-    let size = count_in (range_of scope from) in
-    let lies = lies-more (register_of scope from) (qubit_count scope) limit few (register-below from.register scope sound) in
-    let bits_lie = lies-more (bit_register_of scope to) (bit_count scope) bits few_bits (bits-below to.register scope sound) in
-    measures-from limit bits size 0 size (range_of scope from) (bit_range_of scope to) (omega arith)
-    (range-on limit size (register_of scope from) from.index lies (or-first _ _ p.0) (or-first _ _ p.1.0) (same-size (range_of scope from)))
-    (range-on bits size (bit_register_of scope to) to.index bits_lie (or-second (is_no_register (register_of scope from)) _ p.0) (or-second (is_past (register_of scope from) from.index) _ p.1.0)
-    (like-size (range_of scope from) (bit_range_of scope to) like))
+    let like : are_unlike (range_of (lookup_in scope) from) (bit_range_of (lookup_in scope) to) ≡ false = p.1.1.0 in
+    let size = count_in (range_of (lookup_in scope) from) in
+    let lies = lies-more (register_of (lookup_in scope) from) (qubit_count scope) limit few (register-below from.register scope sound) in
+    let bits_lie = lies-more (bit_register_of (lookup_in scope) to) (bit_count scope) bits few_bits (bits-below to.register scope sound) in
+    measures-from limit bits size 0 size (range_of (lookup_in scope) from) (bit_range_of (lookup_in scope) to) (omega arith)
+    (range-on limit size (register_of (lookup_in scope) from) from.index lies (or-first _ _ p.0) (or-first _ _ p.1.0) (same-size (range_of (lookup_in scope) from)))
+    (range-on bits size (bit_register_of (lookup_in scope) to) to.index bits_lie (or-second (is_no_register (register_of (lookup_in scope) from)) _ p.0) (or-second (is_past (register_of (lookup_in scope) from) from.index) _ p.1.0)
+    (like-size (range_of (lookup_in scope) from) (bit_range_of (lookup_in scope) to) like))
 
 measures-on : (limit bits : ℕ) (scope : Scope) (sentence : Sentence) → IsSound scope → qubit_count scope ≤ limit → bit_count scope ≤ bits → wrong_in scope sentence ≡ None
     → Each (IsMeasureOn limit bits) (measured_by scope sentence)

@@ -15,17 +15,16 @@ use Rattle.qasm_scope.specs.declared.causes.Cause.{Cause}
 use Rattle.qasm_scope.specs.declared.causes.Cause.TheVariants as cause
 use Rattle.qasm_scope.specs.Faults.{is_no_register, is_past, wrong_behind, wrong_in}
 use Rattle.qasm_scope.specs.Measurements.{are_unlike, bit_range_of, bit_register_of, bits_of, count_in, holds, holds_any, measures_of, qubits_of}
-use Rattle.qasm_scope.specs.Scope.{Scope}
-use Rattle.qasm_names.specs.Checks.{Symbols}
+use Rattle.qasm_scope.specs.Scope.{Scope, Lookup, lookup_in}
+use Rattle.qasm_names.specs.Checks.{Symbols, lookup_by}
 use Rattle.qasm_names.specs.Kept.{IsSound}
 use Rattle.qasm_unroll.specs.declared.measured.Measured.{Measured}
 use Rattle.qasm_unroll.specs.Internal.KeptMeasures.{Adds, AreFoundSpans, Inserts, cut_measure, cut_measures, found_cause, named_cause, wrong_measure}
-use Rattle.qasm_unroll.specs.Internal.Spans.{span_in}
-use Rattle.qasm_names.proofs.CheckLemmas.{AreNames, list_any-same}
-use Rattle.qasm_names.proofs.Tests.{or-first, or-second}
+use Rattle.qasm_names.proofs.CheckLemmas.{AreNames, same-lookup}
+use Rattle.qasm_names.proofs.Tests.{list_any-same, or-first, or-second}
 use Rattle.qasm_unroll.proofs.ApplyLemmas.{IsSmall, cut-at, small-at}
 use Rattle.qasm_unroll.proofs.MemberLemmas.{any-members, member-append}
-use Rattle.qasm_unroll.proofs.SpanLemmas.{bits-names, few-bits, few-register, register-names, span-at}
+use Rattle.qasm_unroll.proofs.SpanLemmas.{few-bits, few-register, span-at}
 
 -- ---- causes
 abbrev named : Bool → Bool → Option Cause
@@ -51,51 +50,58 @@ found-then : (s a t : Bool) → option_or (sized s) (if a then Some cause.AfterM
 found-then true a t = refl
 found-then false a t = refl
 
-named-kept : (symbols : Symbols) (scope : Scope) (from to : Operand) → AreNames symbols scope → named_cause symbols from to
-    ≡ named (is_no_register (register_of scope from) || is_no_register (bit_register_of scope to)) (is_past (register_of scope from) from.index || is_past (bit_register_of scope to) to.index)
-named-kept symbols scope from to h =
-    ap₂ (λ r b. named (is_no_register r || is_no_register b) (is_past r from.index || is_past b to.index)) (register-names symbols scope from h) (bits-names symbols scope to h)
-
-wrong-measure : (symbols : Symbols) (scope : Scope) (from to : Operand) → AreNames symbols scope
-    → wrong_in scope (Act (MeasuredAs from to)) ≡ option_or (named_cause symbols from to) (sized (are_unlike (range_of scope from) (bit_range_of scope to)))
+wrong-measure : (scope : Scope) (from to : Operand)
+    → wrong_in scope (Act (MeasuredAs from to)) ≡ option_or (named_cause (lookup_in scope) from to) (sized (are_unlike (range_of (lookup_in scope) from) (bit_range_of (lookup_in scope) to)))
 unfolding wrong_in
-wrong-measure symbols scope from to h =
-    named-then (is_no_register (register_of scope from) || is_no_register (bit_register_of scope to)) (is_past (register_of scope from) from.index || is_past (bit_register_of scope to) to.index) (are_unlike (range_of scope from) (bit_range_of scope to))
-    ∙ ap (λ o. option_or o (sized (are_unlike (range_of scope from) (bit_range_of scope to)))) (sym (named-kept symbols scope from to h))
+wrong-measure scope from to = let names = lookup_in scope in
+    named-then (is_no_register (register_of names from) || is_no_register (bit_register_of names to)) (is_past (register_of names from) from.index || is_past (bit_register_of names to) to.index)
+    (are_unlike (range_of names from) (bit_range_of names to))
+
+-- a measurement where this is wrong with what the arguments name
+wrong-from : (scope : Scope) (measured : List Measure) (from to : Operand) (what : Option Cause) → named_cause (lookup_in scope) from to ≡ what
+    → wrong_measure scope measured from to
+    ≡ option_or (option_or what (sized (are_unlike (range_of (lookup_in scope) from) (bit_range_of (lookup_in scope) to)))) (wrong_behind scope measured (Act (MeasuredAs from to)))
+wrong-from scope measured from to what e =
+    ap (λ o. option_or o (wrong_behind scope measured (Act (MeasuredAs from to))))
+    (wrong-measure scope from to ∙ ap (λ o. option_or o (sized (are_unlike (range_of (lookup_in scope) from) (bit_range_of (lookup_in scope) to)))) e)
 
 -- something is wrong with what the arguments name
-pub wrong-named : (symbols : Symbols) (scope : Scope) (measured : List Measure) (from to : Operand) (what : Cause) → AreNames symbols scope → named_cause symbols from to ≡ Some what
+pub wrong-named : (symbols : Symbols) (scope : Scope) (measured : List Measure) (from to : Operand) (what : Cause) → AreNames symbols scope → named_cause (lookup_by symbols) from to ≡ Some what
     → wrong_measure scope measured from to ≡ Some what
 wrong-named symbols scope measured from to what h e =
-    ap (λ o. option_or o (wrong_behind scope measured (Act (MeasuredAs from to))))
-    (wrong-measure symbols scope from to h ∙ ap (λ o. option_or o (sized (are_unlike (range_of scope from) (bit_range_of scope to)))) e)
+    wrong-from scope measured from to (Some what) (ap (λ names. named_cause names from to) (sym (same-lookup symbols scope h)) ∙ e)
 
 -- no index is past its register
-indices-within : (symbols : Symbols) (scope : Scope) (from to : Operand) → AreNames symbols scope → named_cause symbols from to ≡ None
-    → (is_past (register_of scope from) from.index ≡ false) × (is_past (bit_register_of scope to) to.index ≡ false)
-indices-within symbols scope from to h fine =
-    let clear = named-clear (is_no_register (register_of scope from) || is_no_register (bit_register_of scope to)) _ (sym (named-kept symbols scope from to h) ∙ fine) in
-    (or-first _ _ clear.1, or-second (is_past (register_of scope from) from.index) _ clear.1)
+indices-within : (names : Lookup) (from to : Operand) → named_cause names from to ≡ None
+    → (is_past (register_of names from) from.index ≡ false) × (is_past (bit_register_of names to) to.index ≡ false)
+indices-within names from to fine =
+    let clear = named-clear (is_no_register (register_of names from) || is_no_register (bit_register_of names to)) _ fine in
+    (or-first _ _ clear.1, or-second (is_past (register_of names from) from.index) _ clear.1)
 
-found-qubits : (symbols : Symbols) (scope : Scope) (from to : Operand) (qubits bits : Range) → AreNames symbols scope → IsSound scope → AreFoundSpans symbols from to qubits bits → qubits ≡ range_of scope from
-found-qubits symbols scope from to qubits bits h sound found =
-    found.same_qubits ∙ ap (λ r. span_in r from.index) (register-names symbols scope from h)
-    ∙ span-at most_qubits (register_of scope from) from.index (omega arith) (few-register from.register scope sound) (indices-within symbols scope from to h found.named).0
+found-in : (symbols : Symbols) (scope : Scope) (from to : Operand) (qubits bits : Range) → AreNames symbols scope → AreFoundSpans (lookup_by symbols) from to qubits bits
+    → AreFoundSpans (lookup_in scope) from to qubits bits
+found-in symbols scope from to qubits bits h found = subst (λ names. AreFoundSpans names from to qubits bits) (same-lookup symbols scope h) found
 
-found-bits : (symbols : Symbols) (scope : Scope) (from to : Operand) (qubits bits : Range) → AreNames symbols scope → IsSound scope → AreFoundSpans symbols from to qubits bits → bits ≡ bit_range_of scope to
-found-bits symbols scope from to qubits bits h sound found =
-    found.same_bits ∙ ap (λ r. span_in r to.index) (bits-names symbols scope to h)
-    ∙ span-at most_bits (bit_register_of scope to) to.index (omega arith) (few-bits to.register scope sound) (indices-within symbols scope from to h found.named).1
+found-qubits : (scope : Scope) (from to : Operand) (qubits bits : Range) → IsSound scope → AreFoundSpans (lookup_in scope) from to qubits bits → qubits ≡ range_of (lookup_in scope) from
+found-qubits scope from to qubits bits sound found =
+    found.same_qubits
+    ∙ span-at most_qubits (register_of (lookup_in scope) from) from.index (omega arith) (few-register from.register scope sound) (indices-within (lookup_in scope) from to found.named).0
+
+found-bits : (scope : Scope) (from to : Operand) (qubits bits : Range) → IsSound scope → AreFoundSpans (lookup_in scope) from to qubits bits → bits ≡ bit_range_of (lookup_in scope) to
+found-bits scope from to qubits bits sound found =
+    found.same_bits
+    ∙ span-at most_bits (bit_register_of (lookup_in scope) to) to.index (omega arith) (few-bits to.register scope sound) (indices-within (lookup_in scope) from to found.named).1
 
 -- what is wrong with a measurement whose arguments stand for these
-pub wrong-found : (symbols : Symbols) (scope : Scope) (measured : List Measure) (from to : Operand) (qubits bits : Range) → AreNames symbols scope → IsSound scope → AreFoundSpans symbols from to qubits bits
-    → wrong_measure scope measured from to ≡ found_cause measured qubits bits
-wrong-found symbols scope measured from to qubits bits h sound found =
-    ap (λ o. option_or o (wrong_behind scope measured (Act (MeasuredAs from to))))
-    (wrong-measure symbols scope from to h ∙ ap (λ o. option_or o (sized (are_unlike (range_of scope from) (bit_range_of scope to)))) found.named)
-    ∙ found-then (are_unlike (range_of scope from) (bit_range_of scope to)) (holds_any (qubits_of measured) (range_of scope from)) (holds_any (bits_of measured) (bit_range_of scope to))
-    ∙ ap₂ (found_cause measured)
-    (sym (found-qubits symbols scope from to qubits bits h sound found)) (sym (found-bits symbols scope from to qubits bits h sound found))
+pub wrong-found : (symbols : Symbols) (scope : Scope) (measured : List Measure) (from to : Operand) (qubits bits : Range) → AreNames symbols scope → IsSound scope
+    → AreFoundSpans (lookup_by symbols) from to qubits bits → wrong_measure scope measured from to ≡ found_cause measured qubits bits
+wrong-found symbols scope measured from to qubits bits h sound by =
+    let found = found-in symbols scope from to qubits bits h by in
+    let from_is = range_of (lookup_in scope) from in
+    let to_is = bit_range_of (lookup_in scope) to in
+    wrong-from scope measured from to None found.named
+    ∙ found-then (are_unlike from_is to_is) (holds_any (qubits_of measured) from_is) (holds_any (bits_of measured) to_is)
+    ∙ ap₂ (found_cause measured) (sym (found-qubits scope from to qubits bits sound found)) (sym (found-bits scope from to qubits bits sound found))
 
 -- ---- numbers that are cut off
 cut-bit : (t : Range) (index : ℕ) → IsSmall most_bits t → index ≤ most_qubits → min (place_at index t) (2 ^ 32 - 1) ≡ place_at index t
@@ -113,21 +119,23 @@ few-in : (t : Range) → IsSmall most_qubits t → count_in t ≤ most_qubits
 few-in (Single place) small = omega arith
 few-in (Register first size) small = small.1
 
-measures-are : (symbols : Symbols) (scope : Scope) (from to : Operand) → AreNames symbols scope → IsSound scope → named_cause symbols from to ≡ None
-    → cut_measures (range_of scope from) (bit_range_of scope to) ≡ measures_of (range_of scope from) (bit_range_of scope to)
-measures-are symbols scope from to h sound fine =
-    let within = indices-within symbols scope from to h fine in
-    let small = small-at most_qubits (register_of scope from) from.index (few-register from.register scope sound) within.0 in
-    let few = few-in (range_of scope from) small in
-    cut-from (range_of scope from) (bit_range_of scope to) 0 (count_in (range_of scope from)) small
-    (small-at most_bits (bit_register_of scope to) to.index (few-bits to.register scope sound) within.1) (omega arith)
+measures-are : (scope : Scope) (from to : Operand) → IsSound scope → named_cause (lookup_in scope) from to ≡ None
+    → cut_measures (range_of (lookup_in scope) from) (bit_range_of (lookup_in scope) to) ≡ measures_of (range_of (lookup_in scope) from) (bit_range_of (lookup_in scope) to)
+measures-are scope from to sound fine =
+    let names = lookup_in scope in
+    let within = indices-within names from to fine in
+    let small = small-at most_qubits (register_of names from) from.index (few-register from.register scope sound) within.0 in
+    let few = few-in (range_of names from) small in
+    cut-from (range_of names from) (bit_range_of names to) 0 (count_in (range_of names from)) small
+    (small-at most_bits (bit_register_of names to) to.index (few-bits to.register scope sound) within.1) (omega arith)
 
 -- what was measured is what the statement measures
-pub adds-found : (symbols : Symbols) (scope : Scope) (before after : Measured) (from to : Operand) (qubits bits : Range) → AreNames symbols scope → IsSound scope → AreFoundSpans symbols from to qubits bits
-    → Adds before after (cut_measures qubits bits) → Adds before after (measures_of (range_of scope from) (bit_range_of scope to))
-adds-found symbols scope before after from to qubits bits h sound found adds =
+pub adds-found : (symbols : Symbols) (scope : Scope) (before after : Measured) (from to : Operand) (qubits bits : Range) → AreNames symbols scope → IsSound scope
+    → AreFoundSpans (lookup_by symbols) from to qubits bits → Adds before after (cut_measures qubits bits) → Adds before after (measures_of (range_of (lookup_in scope) from) (bit_range_of (lookup_in scope) to))
+adds-found symbols scope before after from to qubits bits h sound by adds =
+    let found = found-in symbols scope from to qubits bits h by in
     subst (Adds before after)
-    (ap₂ cut_measures (found-qubits symbols scope from to qubits bits h sound found) (found-bits symbols scope from to qubits bits h sound found) ∙ measures-are symbols scope from to h sound found.named) adds
+    (ap₂ cut_measures (found-qubits scope from to qubits bits sound found) (found-bits scope from to qubits bits sound found) ∙ measures-are scope from to sound found.named) adds
 
 -- ---- what is kept
 there-at : (b : Bool) (other number : ℕ) (numbers : List ℕ) → (other == number) ≡ b → member number numbers ≡ true → member other numbers ≡ (member other numbers || b)

@@ -8,7 +8,7 @@ use Rattle.qasm_angle.specs.declared.angle.Angle.{Angle}
 use Rattle.qasm_reader.specs.Syntax.{GateForm}
 use Rattle.qasm_names.specs.declared.gates.GateBody.{GateBody}
 use Rattle.qasm_scope.specs.Calls.{expand_meaning, expand_declared}
-use Rattle.qasm_names.specs.Kept.{KeptCall, kept_call, kept_body, gate_count, gates_in, kept_calls, kept_in, kept_gates, IsSound, IsSoundGate, IsSoundMeaning}
+use Rattle.qasm_names.specs.Kept.{KeptCall, kept_call, kept_body, gate_count, gates_in, kept_in, kept_gates, IsSound, IsSoundGate, IsSoundMeaning, form_calls}
 use Rattle.qasm_unroll.specs.Internal.KeptCalls.{is_numbered, expand_number}
 use Rattle.qasm_unroll.specs.Internal.KeptCalls.{Numbered, Unrolls, calls_of}
 use Rattle.qasm_scope.specs.Scope.{Scope, Meaning, Qubits, Bits, Gate}
@@ -35,16 +35,16 @@ gate-at : (b : Bool) (numbers : Numbered) (form : GateForm) (scope : Scope) (n d
     → IsSoundGate scope form → Agrees numbers scope → n < 1 + gate_count scope
     → (n < gate_count scope → expand_number scope n depth angles qubits ≡ kept_events numbers depth angles qubits (kept_at (slice_get (kept_gates scope) n)))
     → (if b then expand_meaning (λ n d a q. expand_declared scope n d a q) (Gate form) depth angles qubits else expand_number scope n depth angles qubits)
-    ≡ kept_events numbers depth angles qubits (kept_at (slice_get (kept_gates scope ++ kept_calls scope form form.body ∷ []) n))
+    ≡ kept_events numbers depth angles qubits (kept_at (slice_get (kept_gates scope ++ form_calls scope form ∷ []) n))
 gate-at true numbers form scope n depth angles qubits e sound agrees h before =
     let same : n ≡ length (kept_gates scope) = let k = kept-length scope in grind (arith, nat_tests) in
     body-same numbers scope form depth angles qubits form.body agrees sound.all_known
     ∙ ap (λ o. kept_events numbers depth angles qubits (kept_at o))
-    (sym (slice_get-end (kept_gates scope) (kept_calls scope form form.body)) ∙ ap (slice_get (kept_gates scope ++ kept_calls scope form form.body ∷ [])) (sym same))
+    (sym (slice_get-end (kept_gates scope) (form_calls scope form)) ∙ ap (slice_get (kept_gates scope ++ form_calls scope form ∷ [])) (sym same))
 gate-at false numbers form scope n depth angles qubits e sound agrees h before =
     let below : n < gate_count scope = grind (arith, nat_tests) in
     let k : n < length (kept_gates scope) = let l = kept-length scope in omega arith in
-    before below ∙ ap (λ o. kept_events numbers depth angles qubits (kept_at o)) (sym (slice_get-before (kept_gates scope) (kept_calls scope form form.body ∷ []) n k))
+    before below ∙ ap (λ o. kept_events numbers depth angles qubits (kept_at o)) (sym (slice_get-before (kept_gates scope) (form_calls scope form ∷ []) n k))
 
 meaning-at : (m : Meaning) (replaceable : Bool) (numbers : Numbered) (scope : Scope) (n depth : ℕ) (angles : List Angle) (qubits : List ℕ)
     → IsSoundMeaning scope m replaceable → Agrees numbers scope → n < gates_in m + gate_count scope

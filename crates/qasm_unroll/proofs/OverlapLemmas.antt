@@ -4,8 +4,7 @@ use Rattle.std.specs.List.{list_any, range_with_len}
 use Rattle.std.proofs.lemmas.Bool.Decides.{nat_tests}
 use Rattle.qasm_scope.specs.Applications.{Range, Single, Register, place_at, has_twice}
 use Rattle.qasm_unroll.specs.Internal.Spans.{is_within, overlaps, any_overlap}
-use Rattle.qasm_names.proofs.CheckLemmas.{list_any-same}
-use Rattle.qasm_names.proofs.Tests.{any_map, any_or}
+use Rattle.qasm_names.proofs.Tests.{any_map, any_or, list_any-same}
 
 any-none : {A : Type 0} (xs : List A) → list_any (λ x. false) xs ≡ false
 any-none [] = refl

@@ -1,17 +1,13 @@
 -- Names that are remembered, and applications without angles by them.
-use Rattle.std.proofs.Common.{◌≡◌, ℕ, zero, suc, get_or, ◌+◌, Bool, true, false, if◌then◌else◌, List, [], ◌∷◌, ◌++◌, map, Option, None, Some, Ok, refl, sym, ap, ap₂, ◌∙◌, append-nil, arith}
-use Rattle.std.specs.Prelude.{nat_lt}
+use Rattle.std.proofs.Common.{◌≡◌, ℕ, zero, suc, get_or, ◌+◌, if◌then◌else◌, List, [], ◌∷◌, ◌++◌, map, Option, None, Some, Ok, sym, ap, ap₂, ◌∙◌, append-nil}
 use Rattle.std.specs.List.{All, flat_map, range_with_len}
 use Rattle.std.specs.Option.{option_or}
-use Rattle.std.proofs.lemmas.Bool.Decides.{nat_tests}
 use Rattle.std.proofs.lemmas.List.Elements.{All-head, All-tail}
-use Rattle.zx_gates.specs.declared.elementary.ElementaryGate.{ElementaryGate}
 use Rattle.qasm_reader.specs.Syntax.{Act, Applied, Callee, Operand, Placed}
-use Rattle.qasm_scope.specs.declared.causes.Cause.{Cause}
-use Rattle.qasm_scope.specs.declared.causes.Cause.TheVariants.{AfterMeasure, TooManyGates, TooDeep}
+use Rattle.qasm_scope.specs.declared.causes.Cause.TheVariants.{AfterMeasure}
 use Rattle.qasm_scope.specs.Applications.{Range, application_events, register_sizes}
-use Rattle.qasm_scope.specs.Calls.{call_count, deepest, first_wrong}
-use Rattle.qasm_scope.specs.Faults.{has_other_shape, has_other_size, wrong_behind, wrong_in}
+use Rattle.qasm_scope.specs.Calls.{first_wrong}
+use Rattle.qasm_scope.specs.Faults.{has_other_size, wrong_behind, wrong_in}
 use Rattle.qasm_scope.specs.Meaning.{most_calls}
 use Rattle.qasm_names.specs.declared.gates.CalledGate.{CalledGate}
 use Rattle.qasm_names.specs.declared.gates.CalledGate.TheVariants as called_gate
@@ -22,7 +18,7 @@ use Rattle.qasm_unroll.specs.declared.measured.Measured.{Measured}
 use Rattle.qasm_unroll.specs.declared.plain.NamedGate.{NamedGate}
 use Rattle.qasm_unroll.specs.declared.unroll.Unrolled.{Unrolled}
 use Rattle.qasm_unroll.specs.Circuits.{IsOpen, applied_at}
-use Rattle.qasm_unroll.specs.Internal.KeptCalls.{Numbered, called_events, expand_number, gate_events}
+use Rattle.qasm_unroll.specs.Internal.KeptCalls.{Numbered, called_events, expand_number}
 use Rattle.qasm_unroll.specs.Internal.Recents.{IsPlainlyApplied, IsRow, plainly_applied}
 use Rattle.qasm_unroll.specs.Internal.Spans.{cut_instance, instance_count, instances_events, resolved_cause}
 use Rattle.qasm_unroll.proofs.ApplyLemmas.{behind-resolved, wrong-resolved, resolved-events}
@@ -35,24 +31,6 @@ pub row-at : (symbols : Symbols) (rows : List (Option NamedGate)) (k : ℕ) → 
 row-at symbols [] k all = tt
 row-at symbols (row ∷ rows) zero all = All-head (IsRow symbols) row rows all
 row-at symbols (row ∷ rows) (suc k) all = row-at symbols rows k (All-tail (IsRow symbols) row rows all)
-
--- ---- arguments
-
-same-shape : (n : ℕ) → has_other_shape (Some (0, n)) 0 n ≡ false
-same-shape n = grind (arith, nat_tests)
-
--- ---- calls
-first-called : (many : Bool) (rest : Option Cause) → many ≡ false → rest ≡ None → (if many then Some TooManyGates else (if nat_lt deepest 1 then Some TooDeep else rest)) ≡ None
-first-called true rest h k = absurd (cc)
-first-called false rest h k = k
-
-gate-right : (calls : ℕ) (gate : Option ElementaryGate) → first_wrong most_calls calls (gate_events gate) ≡ None
-gate-right calls None = refl
-gate-right calls (Some gate) = refl
-
-gate-count : (gate : Option ElementaryGate) → call_count (gate_events gate) ≡ 0
-gate-count None = refl
-gate-count (Some gate) = refl
 
 -- one instance alone
 one-instance : (numbered : Numbered) (called : CalledGate) (ranges : List Range) → register_sizes ranges ≡ []
@@ -69,13 +47,13 @@ plain-taken program place gate operands names measured before after is same p =
     let a = plainly_applied gate operands in
     let r = is.represents in
     let right : wrong_in is.scope (Act (Applied a)) ≡ None =
-    wrong-resolved is.scope r.same_symbols r.sound p.resolved
+    wrong-resolved names.symbols is.scope r.same_symbols r.sound p.resolved
     ∙ ap₂ (λ sizes twice. resolved_cause (has_other_size sizes) twice) p.single p.calls.differ in
     let behind : wrong_behind is.scope measured.list (Act (Applied a)) ≡ None =
-    behind-resolved is.scope measured.list r.same_symbols r.sound p.resolved
+    behind-resolved names.symbols is.scope measured.list r.same_symbols r.sound p.resolved
     ∙ ap (λ b. if b then Some AfterMeasure else None) p.calls.unmeasured in
     let events : application_events is.scope a ≡ called_events (expand_number is.scope) p.called 1 (Ok []) (cut_instance p.ranges 0) =
-    sym (resolved-events is.scope r.same_symbols r.sound p.resolved) ∙ one-instance (expand_number is.scope) p.called p.ranges p.single in
+    sym (resolved-events names.symbols is.scope r.same_symbols r.sound p.resolved) ∙ one-instance (expand_number is.scope) p.called p.ranges p.single in
     let comes = Continues-join _ _ _ _ _ _ _ _ _ _ (Continues-same most_calls before.calls before.gates _ _ events)
     (p.calls.comes (expand_number is.scope) names.gates.items (gate_count is.scope) (kept-unrolls names.gates.items is.scope r.sound r.same_gates) is.knows) in
     record {

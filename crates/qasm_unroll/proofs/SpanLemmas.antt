@@ -1,5 +1,5 @@
--- Arguments by what names are kept as stand for what they stand for in the scope.
-use Rattle.std.proofs.Common.{◌≡◌, ℕ, ◌+◌, ◌-◌, ◌^◌, ◌<◌, ◌≤◌, min, Bool, true, false, ◌||◌, if◌then◌else◌, List, [], ◌∷◌, Option, None, Some, refl, sym, ap, ap₂, ◌∙◌, arith}
+-- Arguments in numbers that are cut off stand for what they stand for in the scope.
+use Rattle.std.proofs.Common.{◌≡◌, ℕ, ◌+◌, ◌-◌, ◌^◌, ◌<◌, ◌≤◌, min, Bool, true, false, ◌||◌, if◌then◌else◌, List, [], ◌∷◌, Option, None, Some, refl, sym, ap, ◌∙◌, arith}
 use Rattle.std.specs.List.{list_any}
 use Rattle.std.specs.Str.{bytes_eq}
 use Rattle.std.proofs.lemmas.Bool.Decides.{nat_tests}
@@ -7,30 +7,15 @@ use Rattle.zx_gates.specs.Circuit.{most_qubits}
 use Rattle.zx_gates.specs.Elementary.{most_bits}
 use Rattle.qasm_reader.specs.Syntax.{Operand, Barrier}
 use Rattle.qasm_scope.specs.Applications.{Single, range_in, range_of, register_of}
-use Rattle.qasm_scope.specs.Measurements.{bit_register_of}
-use Rattle.qasm_names.specs.Checks.{Symbols}
+use Rattle.qasm_names.specs.Checks.{Symbols, lookup_by}
 use Rattle.qasm_scope.specs.declared.causes.Cause.{Cause}
-use Rattle.qasm_names.specs.Kept.{symbol_bits, symbol_register, IsSound, IsSoundMeaning}
-use Rattle.qasm_scope.specs.Faults.{is_no_register, is_past, wrong_in}
-use Rattle.qasm_scope.specs.Scope.{Scope, Meaning, Qubits, Bits, Gate, bit_count, bit_register, bits_in, meaning_of, numeral, qubit_count, qubit_register, size_of}
-use Rattle.qasm_unroll.specs.Internal.KeptMeasures.{bits_by}
-use Rattle.qasm_unroll.specs.Internal.Spans.{register_by, no_register_by, past_by, any_missing, span_in, span_by}
-use Rattle.qasm_names.proofs.CheckLemmas.{AreNames, list_any-same}
-use Rattle.qasm_names.proofs.Symbols.{symbol-bits, symbol-register}
+use Rattle.qasm_names.specs.Kept.{IsSound, IsSoundMeaning}
+use Rattle.qasm_scope.specs.Faults.{is_past, wrong_in, has_no_register, has_past_index}
+use Rattle.qasm_scope.specs.Scope.{Scope, Meaning, Qubits, Bits, Gate, bit_count, bit_register, bits_in, meaning_of, numeral, qubit_count, qubit_register, size_of, lookup_in}
+use Rattle.qasm_unroll.specs.Internal.Spans.{any_missing, span_in, span_of}
+use Rattle.qasm_names.proofs.CheckLemmas.{AreNames, same-lookup}
 use Rattle.qasm_names.proofs.Tests.{any_or}
 use Rattle.qasm_scope.specs.declared.causes.Cause.TheVariants as cause
-
-pub register-names : (symbols : Symbols) (scope : Scope) (o : Operand) → AreNames symbols scope → register_by symbols o ≡ register_of scope o
-register-names symbols scope o h = ap symbol_register (h o.register) ∙ symbol-register o.register scope
-
-pub bits-names : (symbols : Symbols) (scope : Scope) (o : Operand) → AreNames symbols scope → bits_by symbols o ≡ bit_register_of scope o
-bits-names symbols scope o h = ap symbol_bits (h o.register) ∙ symbol-bits o.register scope
-
-pub no_register-names : (symbols : Symbols) (scope : Scope) (o : Operand) → AreNames symbols scope → no_register_by symbols o ≡ is_no_register (register_of scope o)
-no_register-names symbols scope o h = ap is_no_register (register-names symbols scope o h)
-
-pub past-names : (symbols : Symbols) (scope : Scope) (o : Operand) → AreNames symbols scope → past_by symbols o ≡ is_past (register_of scope o) o.index
-past-names symbols scope o h = ap (λ r. is_past r o.index) (register-names symbols scope o h)
 
 -- a register lies below a number of qubits or bits
 abbrev pub LiesBelow : ℕ → Option (ℕ × ℕ) → Type 0
@@ -91,10 +76,8 @@ span-at limit (Some register) (Some text) large few h =
     ap Single same
 
 -- an argument stands for its qubits
-pub span-names : (symbols : Symbols) (scope : Scope) (o : Operand) → AreNames symbols scope → IsSound scope → past_by symbols o ≡ false → span_by symbols o ≡ range_of scope o
-span-names symbols scope o h sound within =
-    ap (λ r. span_in r o.index) (register-names symbols scope o h)
-    ∙ span-at most_qubits (register_of scope o) o.index (omega arith) (few-register o.register scope sound) (sym (past-names symbols scope o h) ∙ within)
+pub span-range : (scope : Scope) (o : Operand) → IsSound scope → has_past_index (lookup_in scope) o ≡ false → span_of (lookup_in scope) o ≡ range_of (lookup_in scope) o
+span-range scope o sound within = span-at most_qubits (register_of (lookup_in scope) o) o.index (omega arith) (few-register o.register scope sound) within
 
 -- the first cause of a barrier
 abbrev barrier_cause : Bool → Bool → Option Cause
@@ -114,19 +97,18 @@ barrier-clear false true h = absurd (cc)
 barrier-clear false false h = refl
 
 barrier-kept : (symbols : Symbols) (scope : Scope) (operands : List Operand) → AreNames symbols scope
-    → wrong_in scope (Barrier operands) ≡ barrier_cause (list_any (no_register_by symbols) operands) (list_any (past_by symbols) operands)
+    → wrong_in scope (Barrier operands) ≡ barrier_cause (list_any (has_no_register (lookup_by symbols)) operands) (list_any (has_past_index (lookup_by symbols)) operands)
 unfolding wrong_in
-barrier-kept symbols scope operands h = ap₂ barrier_cause
-    (list_any-same _ (no_register_by symbols) operands (λ o. sym (no_register-names symbols scope o h)))
-    (list_any-same _ (past_by symbols) operands (λ o. sym (past-names symbols scope o h)))
+barrier-kept symbols scope operands h =
+    ap (λ names. barrier_cause (list_any (has_no_register names) operands) (list_any (has_past_index names) operands)) (sym (same-lookup symbols scope h))
 
 pub wrong_in-barrier : (symbols : Symbols) (scope : Scope) (operands : List Operand) → AreNames symbols scope
-    → any_missing symbols operands ≡ true
-    → wrong_in scope (Barrier operands) ≡ Some (if list_any (no_register_by symbols) operands then cause.Unknown else cause.Index)
+    → any_missing (lookup_by symbols) operands ≡ true
+    → wrong_in scope (Barrier operands) ≡ Some (if list_any (has_no_register (lookup_by symbols)) operands then cause.Unknown else cause.Index)
 wrong_in-barrier symbols scope operands h missing =
-    barrier-kept symbols scope operands h ∙ barrier-at (list_any (no_register_by symbols) operands) (list_any (past_by symbols) operands) (sym (any_or (no_register_by symbols) (past_by symbols) operands) ∙ missing)
+    barrier-kept symbols scope operands h ∙ barrier-at (list_any (has_no_register (lookup_by symbols)) operands) (list_any (has_past_index (lookup_by symbols)) operands) (sym (any_or (has_no_register (lookup_by symbols)) (has_past_index (lookup_by symbols)) operands) ∙ missing)
 
 pub clear-barrier : (symbols : Symbols) (scope : Scope) (operands : List Operand) → AreNames symbols scope
-    → any_missing symbols operands ≡ false → wrong_in scope (Barrier operands) ≡ None
+    → any_missing (lookup_by symbols) operands ≡ false → wrong_in scope (Barrier operands) ≡ None
 clear-barrier symbols scope operands h clear =
-    barrier-kept symbols scope operands h ∙ barrier-clear (list_any (no_register_by symbols) operands) (list_any (past_by symbols) operands) (sym (any_or (no_register_by symbols) (past_by symbols) operands) ∙ clear)
+    barrier-kept symbols scope operands h ∙ barrier-clear (list_any (has_no_register (lookup_by symbols)) operands) (list_any (has_past_index (lookup_by symbols)) operands) (sym (any_or (has_no_register (lookup_by symbols)) (has_past_index (lookup_by symbols)) operands) ∙ clear)

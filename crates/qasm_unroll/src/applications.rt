@@ -7,10 +7,11 @@ ghost use Rattle.qasm_reader.specs.Syntax.{Barrier};
 ghost use Rattle.qasm_reader.specs.Views.{operand};
 ghost use Rattle.qasm_scope.specs.declared.causes.Cause.{Cause};
 ghost use Rattle.qasm_names.specs.Kept.{Represents, found, symbol_register};
+ghost use Rattle.qasm_names.specs.Checks.{lookup_by};
 ghost use Rattle.qasm_scope.specs.Applications.{register_size, register_sizes};
-ghost use Rattle.qasm_scope.specs.Faults.{has_other_size, is_past, wrong_in};
+ghost use Rattle.qasm_scope.specs.Faults.{has_no_register, has_other_size, is_past, wrong_in};
 ghost use Rattle.qasm_scope.specs.Scope.{Scope, numeral};
-ghost use Rattle.qasm_unroll.specs.Internal.Spans.{span_range, span_in, no_register_by, is_missing, any_missing, IsSpan, AreSpans, instance_count, IsLastRegister};
+ghost use Rattle.qasm_unroll.specs.Internal.Spans.{span_range, span_in, is_missing, any_missing, IsSpan, AreSpans, instance_count, IsLastRegister};
 
 use qasm_names::{Names, StatementError, number};
 use qasm_reader::Argument;
@@ -44,7 +45,7 @@ pub struct LastRegister<'a> {
 impl<'a> LastRegister<'a> {
     /// This name is looked up.
     pub fn look_up(names: &Names<'a>, name: &'a [u8]) -> LastRegister<'a>
-        ensures is { IsLastRegister names.now.symbols result }
+        ensures is { IsLastRegister (lookup_by names.now.symbols) result }
         ensures name { result.name.now ≡ name.now }
     {
         LastRegister {
@@ -56,9 +57,9 @@ impl<'a> LastRegister<'a> {
     // The first qubit and the size of the register of a name, which is looked up unless it was last.
     #[inline(always)]
     fn find(&mut self, names: &Names<'a>, name: &'a [u8]) -> Option<(usize, usize)>
-        requires { IsLastRegister names.now.symbols self.old }
+        requires { IsLastRegister (lookup_by names.now.symbols) self.old }
         ensures found { result ≡ symbol_register (found name.now names.now.symbols) }
-        ensures last { IsLastRegister names.now.symbols self.new }
+        ensures last { IsLastRegister (lookup_by names.now.symbols) self.new }
     {
         if self.name != name {
             *self = LastRegister::look_up(names, name);
@@ -69,7 +70,7 @@ impl<'a> LastRegister<'a> {
 
 /// Whether an argument isn't a register of qubits or one of its qubits.
 pub fn any_no_register<'a>(names: &Names<'a>, arguments: &[Argument<'a>]) -> bool
-    ensures { result ≡ list_any (no_register_by names.now.symbols) (map operand arguments.now) }
+    ensures { result ≡ list_any (has_no_register (lookup_by names.now.symbols)) (map operand arguments.now) }
 {
     for argument in arguments {
         if names.register(argument.register).is_none() {
@@ -86,9 +87,9 @@ pub fn spans<'a>(
     arguments: &[Argument<'a>],
 ) -> Result<Option<Vec<Span>>, AllocError>
     ensures some { IfOk result (λ found. IfSome found (λ spans.
-        AreSpans names.now.symbols (map operand arguments.now) (map span_range spans.items))) }
+        AreSpans (lookup_by names.now.symbols) (map operand arguments.now) (map span_range spans.items))) }
     ensures none { IfOk result (λ found. IfNone found (
-        any_missing names.now.symbols (map operand arguments.now) ≡ true)) }
+        any_missing (lookup_by names.now.symbols) (map operand arguments.now) ≡ true)) }
 {
     let mut spans = Vec::with_capacity(alloc, arguments.len())?;
     let Some(first) = arguments.first() else {
@@ -148,7 +149,7 @@ pub fn barrier<'a>(names: &Names<'a>, arguments: &[Argument<'a>]) -> Result<(), 
 
 // Whether an argument isn't a register of qubits, nor one of the qubits that it has.
 fn any_missing<'a>(names: &Names<'a>, arguments: &[Argument<'a>]) -> bool
-    ensures { result ≡ any_missing names.now.symbols (map operand arguments.now) }
+    ensures { result ≡ any_missing (lookup_by names.now.symbols) (map operand arguments.now) }
 {
     let Some(first) = arguments.first() else {
         return false;
@@ -169,11 +170,11 @@ fn argument_span<'a>(
     last: &mut LastRegister<'a>,
     argument: &Argument<'a>,
 ) -> Option<Span>
-    requires { IsLastRegister names.now.symbols last.old }
-    ensures last { IsLastRegister names.now.symbols last.new }
+    requires { IsLastRegister (lookup_by names.now.symbols) last.old }
+    ensures last { IsLastRegister (lookup_by names.now.symbols) last.new }
     ensures some { IfSome result (λ span.
-        IsSpan names.now.symbols (operand argument.now) (span_range span)) }
-    ensures none { IfNone result (is_missing names.now.symbols (operand argument.now) ≡ true) }
+        IsSpan (lookup_by names.now.symbols) (operand argument.now) (span_range span)) }
+    ensures none { IfNone result (is_missing (lookup_by names.now.symbols) (operand argument.now) ≡ true) }
 {
     let register = last.find(names, argument.register)?;
     span_of(register, argument.index)

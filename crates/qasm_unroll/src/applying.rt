@@ -7,12 +7,13 @@ ghost use Rattle.qasm_reader.specs.Views as views;
 ghost use Rattle.qasm_scope.specs.Angles.{is_unsupported};
 ghost use Rattle.qasm_scope.specs.Applications.{application_events, has_twice, instances, register_sizes};
 ghost use Rattle.qasm_names.specs.Kept.{Represents};
+ghost use Rattle.qasm_names.specs.Checks.{lookup_by};
 ghost use Rattle.qasm_unroll.specs.Internal.KeptCalls.{ComesTo};
 ghost use Rattle.qasm_unroll.specs.Internal.KeptMeasures.{Remembers, wrong_next};
 ghost use Rattle.qasm_unroll.specs.Internal.KnownCalls.{Knows};
-ghost use Rattle.qasm_scope.specs.Faults.{has_other_size, wrong_behind, wrong_in};
+ghost use Rattle.qasm_scope.specs.Faults.{has_no_register, has_other_size, has_unknown, has_wrong_count, wrong_behind, wrong_in};
 ghost use Rattle.qasm_scope.specs.Scope.{Scope};
-ghost use Rattle.qasm_unroll.specs.Internal.Spans.{span_range, no_register_by, is_unknown, is_wrong_count, IsResolved, is_unresolved, unresolved_cause, resolved_cause};
+ghost use Rattle.qasm_unroll.specs.Internal.Spans.{span_range, IsResolved, is_unresolved, unresolved_cause, resolved_cause};
 ghost use Rattle.qasm_scope.specs.declared.causes.Cause.{Cause};
 
 use crate::applications::{Span, any_no_register, has_other_sizes, spans};
@@ -95,7 +96,7 @@ fn resolved<'a>(
     ensures some { IfOk result (λ found. IfSome found (λ r. IsResolved names.now.symbols
         (views.application application.now) r.gate r.angles.items (map span_range r.spans.items))) }
     ensures none { IfOk result (λ found. IfNone found (
-        is_unresolved names.now.symbols (views.application application.now) ≡ true)) }
+        is_unresolved (lookup_by names.now.symbols) (views.application application.now) ≡ true)) }
 {
     let formals = Formals::none(alloc);
     let count = application.qubits.len();
@@ -117,8 +118,8 @@ fn resolved<'a>(
 // The first cause of an application that can't be resolved.
 fn unresolved_cause<'a>(alloc: Global, names: &Names<'a>, application: &Application<'a>) -> Cause
     ensures { let a = views.application application.now in result
-        ≡ unresolved_cause (list_any is_unsupported a.angles) (is_unknown names.now.symbols a)
-        (is_wrong_count names.now.symbols a) }
+        ≡ unresolved_cause (list_any is_unsupported a.angles) (has_unknown (lookup_by names.now.symbols) a)
+        (has_wrong_count (lookup_by names.now.symbols) a) }
 {
     let formals = Formals::none(alloc);
     let count = application.qubits.len();
@@ -142,7 +143,7 @@ fn unresolved_cause<'a>(alloc: Global, names: &Names<'a>, application: &Applicat
 
 // Whether a name in an application isn't known, or isn't what is needed there, where this is wrong with its gate.
 fn is_unknown<'a>(names: &Names<'a>, faults: GateFaults, application: &Application<'a>) -> bool
-    ensures { result ≡ (faults.unknown || list_any (no_register_by names.now.symbols)
+    ensures { result ≡ (faults.unknown || list_any (has_no_register (lookup_by names.now.symbols))
         (views.application application.now).qubits) }
 {
     faults.unknown || any_no_register(names, &application.qubits)

@@ -7,6 +7,7 @@ ghost use Rattle.qasm_scope.specs.declared.causes.Cause.{Cause};
 ghost use Rattle.qasm_scope.specs.Measurements.{are_unlike, measured_by};
 ghost use Rattle.qasm_scope.specs.Scope.{Scope};
 ghost use Rattle.qasm_names.specs.Kept.{Represents};
+ghost use Rattle.qasm_names.specs.Checks.{lookup_by};
 ghost use Rattle.qasm_unroll.specs.Internal.KeptMeasures.{Adds, AreFoundSpans, Remembers, found_cause, named_cause, wrong_measure};
 ghost use Rattle.qasm_unroll.specs.Internal.Spans.{span_range};
 
@@ -61,10 +62,10 @@ fn found<'a>(
     from: &Argument<'a>,
     to: &Argument<'a>,
 ) -> Result<MeasuredSpans, Cause>
-    ensures ok { IfOk result (λ spans. AreFoundSpans names.now.symbols (operand from.now)
+    ensures ok { IfOk result (λ spans. AreFoundSpans (lookup_by names.now.symbols) (operand from.now)
         (operand to.now) (span_range spans.from) (span_range spans.to)) }
     ensures err { IfErr result (λ cause.
-        named_cause names.now.symbols (operand from.now) (operand to.now) ≡ Some cause) }
+        named_cause (lookup_by names.now.symbols) (operand from.now) (operand to.now) ≡ Some cause) }
 {
     let Some(qubits) = names.register(from.register) else {
         return Err(Cause::Unknown);

@@ -1,7 +1,9 @@
 //! Applications without angles, whose names were looked up before.
 
 ghost use Rattle.std.specs.Prelude.{◌≡◌, ◌<◌, map, IfOk, IfSome, true, false, None, Some};
-ghost use Rattle.qasm_names.specs.Checks.{Symbols, gate_shape, shape_by, called_by};
+ghost use Rattle.qasm_names.specs.Checks.{Symbols, gate_shape, kept_by, lookup_by};
+ghost use Rattle.qasm_names.specs.Kept.{called_for};
+ghost use Rattle.qasm_scope.specs.Faults.{shape_of};
 ghost use Rattle.qasm_reader.specs.Syntax.{Declared};
 ghost use Rattle.qasm_reader.specs.Views.{callee, operand};
 ghost use Rattle.qasm_scope.specs.Applications.{Single};
@@ -92,8 +94,8 @@ impl<'a> Recent<'a> {
     // What the name of a gate stands for, where it is remembered.
     fn named(&self, name: &[u8]) -> Option<KnownGate>
         ensures { IfSome result (λ gate. (symbols : Symbols) → IsRecent symbols self.now
-            → (shape_by symbols (Declared name.now) ≡ Some (gate_shape gate))
-            × (gate.called ≡ called_by symbols (Declared name.now))) }
+            → (shape_of (lookup_by symbols) (Declared name.now) ≡ Some (gate_shape gate))
+            × (gate.called ≡ called_for (kept_by symbols) (Declared name.now))) }
     {
         match &self.gates[row_of(name)] {
             Some(known) => {
@@ -135,7 +137,7 @@ impl<'a> Recent<'a> {
     // The qubit at an index of the register that was last, if it has one.
     fn place(&self, argument: &Argument<'_>) -> Option<usize>
         ensures { IfSome result (λ place. (symbols : Symbols) → IsRecent symbols self.now
-            → IsSpan symbols (operand argument.now) (Single place)) }
+            → IsSpan (lookup_by symbols) (operand argument.now) (Single place)) }
     {
         let last = self.register?;
         if last.name != argument.register {

@@ -22,7 +22,7 @@ use Rattle.qasm_scope.specs.declared.causes.Cause.TheVariants as cause
 use Rattle.qasm_scope.specs.Faults.{wrong_behind, wrong_in}
 use Rattle.qasm_scope.specs.Meaning.{with_header, after_statement, events_of, fault_after, scope_after, gates_after, measures_after}
 use Rattle.qasm_scope.specs.Measurements.{bits_of, holds_any, measured_by, qubits_of}
-use Rattle.qasm_scope.specs.Scope.{Scope, Bits, Qubits, bit_count, declared, is_taken, numeral, qubit_count}
+use Rattle.qasm_scope.specs.Scope.{Scope, Bits, Qubits, bit_count, declared, is_taken, numeral, qubit_count, lookup_in}
 use Rattle.qasm_scope.specs.Texts.{instances_in, size_after}
 use Rattle.qasm_scope.proofs.Placing.{placed_or}
 use Rattle.qasm_writer.specs.Elements.{elements, elements_of}
@@ -196,7 +196,7 @@ gate_does : (scope : Scope) (name : List ℕ) (angles : List Formula) (operands 
     → Comes scope (application name angles operands) gates → Does scope [] (application name angles operands) scope gates [] 1
 gate_does scope name angles operands gates c = record {
   fine = c.fine;
-  fine_behind = no_cause ((list_any (holds_any []) (ranges_of scope operands), cause.AfterMeasure) ∷ []) (none_held (ranges_of scope operands), tt);
+  fine_behind = no_cause ((list_any (holds_any []) (ranges_of (lookup_in scope) operands), cause.AfterMeasure) ∷ []) (none_held (ranges_of (lookup_in scope) operands), tt);
   calm = c.calm;
   few = omega (arith, c.few);
   next_is = refl;
@@ -238,10 +238,6 @@ bit_register m = BitRegister (codes "c") (decimal m)
 no_qubits : qubit_count (with_header []) ≡ 0
 unfolding with_header
 no_qubits = refl
-
-no_bits : bit_count (with_header []) ≡ 0
-unfolding with_header
-no_bits = refl
 
 register_fine : (n : ℕ) → n ≤ most_qubits → (n == 0) ≡ false → numeral (decimal n) ≡ n → wrong_in (with_header []) (register n) ≡ None
 unfolding wrong_in with_header

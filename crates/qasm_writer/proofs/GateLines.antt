@@ -27,7 +27,7 @@ use Rattle.qasm_scope.specs.declared.causes.Cause.TheVariants as causes
 use Rattle.qasm_scope.specs.Angles.{angle_of}
 use Rattle.qasm_scope.specs.Faults.{has_unknown}
 use Rattle.qasm_scope.specs.Meaning.{with_header, events_of}
-use Rattle.qasm_scope.specs.Scope.{Scope, numeral}
+use Rattle.qasm_scope.specs.Scope.{Scope, numeral, lookup_in}
 use Rattle.qasm_scope.specs.Internal.Numerals.{numeral_from}
 use Rattle.qasm_writer.specs.Elements.{elements}
 use Rattle.qasm_writer.specs.Written.{gate_line, on_one, on_two}
@@ -116,7 +116,7 @@ module _ (place n m q : ℕ) (few : n ≤ most_qubits) (below : q < n) where
   -- the angle as the line has it is k sixteenth turns
   abbrev IsAngle : Formula → ℕ → Type 0
   IsAngle f k =
-      (has_unknown (register_scope n) (apply (codes "u1") (f ∷ []) (operand (decimal q) ∷ [])) ≡ false)
+      (has_unknown (lookup_in (register_scope n)) (apply (codes "u1") (f ∷ []) (operand (decimal q) ∷ [])) ≡ false)
       × (events_of (register_scope n) (application (codes "u1") (f ∷ []) (operand (decimal q) ∷ []))
       ≡ Called 1 ∷ Called 2 ∷ Applied (elementary.U (0 + numeral (decimal q)) 0 0 k) ∷ [])
 

@@ -16,14 +16,14 @@ use Rattle.qasm_angle.specs.Values as values
 use Rattle.std.specs.List.{flat_map, list_any}
 use Rattle.std.specs.Str.{bytes_eq}
 use Rattle.qasm_angle.specs.declared.angle.Angle.{Angle}
-use Rattle.qasm_scope.specs.Angles.{angle_of, angles_of, is_unsupported}
+use Rattle.qasm_scope.specs.Angles.{angle_of, angles_of, is_unsupported, places_among}
 use Rattle.qasm_scope.specs.Applications.{has_twice, instances, ranges_of, register_sizes}
 use Rattle.qasm_scope.specs.Calls.{Event, Called, Undefined, Applied, after_angles, applied, call_count, deepest, expand_declared}
 use Rattle.qasm_scope.specs.declared.causes.Cause.{Cause}
 use Rattle.qasm_scope.specs.declared.causes.Cause.TheVariants as cause
-use Rattle.qasm_scope.specs.Faults.{wrong_in, first_cause, has_no_register, has_other_name, has_unknown, has_other_shape, has_other_size, has_past_index, is_no_gate, shape_in, shape_of}
+use Rattle.qasm_scope.specs.Faults.{wrong_in, first_cause, has_no_register, has_other_name, has_unknown, has_other_shape, has_other_size, has_past_index, is_no_gate, shape_of}
 use Rattle.qasm_scope.specs.Meaning.{with_header, events_of}
-use Rattle.qasm_scope.specs.Scope.{Scope, Meaning, Bits, Qubits, declared, meaning_of, numeral}
+use Rattle.qasm_scope.specs.Scope.{Scope, Meaning, Bits, Qubits, declared, meaning_of, numeral, lookup_in, shape_in}
 use Rattle.qasm_scope.specs.Texts.{instances_in}
 
 -- the qubit of the register at an index
@@ -95,21 +95,21 @@ no_cause (test ∷ tests) h = fails test.0 test.1 tests h.0 (no_cause tests h.1)
 -- the tests that an application may fail
 pub right : (scope : Scope) (name : List ℕ) (angles : List Formula) (operands : List Operand)
     → list_any is_unsupported angles ≡ false
-    → has_unknown scope (apply name angles operands) ≡ false
-    → has_other_shape (shape_of scope (Declared name)) (length angles) (length operands) ≡ false
-    → has_past_index scope operands ≡ false
-    → has_other_size (register_sizes (ranges_of scope operands)) ≡ false
-    → list_any (has_twice ◌==◌) (instances (ranges_of scope operands)) ≡ false
+    → has_unknown (lookup_in scope) (apply name angles operands) ≡ false
+    → has_other_shape (shape_of (lookup_in scope) (Declared name)) (length angles) (length operands) ≡ false
+    → list_any (has_past_index (lookup_in scope)) operands ≡ false
+    → has_other_size (register_sizes (ranges_of (lookup_in scope) operands)) ≡ false
+    → list_any (has_twice ◌==◌) (instances (ranges_of (lookup_in scope) operands)) ≡ false
     → wrong_in scope (application name angles operands) ≡ None
 unfolding wrong_in
 right scope name angles operands unsupported unknown count index sizes twice =
     no_cause (
     (list_any is_unsupported angles, cause.Unsupported)
-    ∷ (has_unknown scope (apply name angles operands), cause.Unknown)
-    ∷ (has_other_shape (shape_of scope (Declared name)) (length angles) (length operands), cause.WrongCount)
-    ∷ (has_past_index scope operands, cause.Index)
-    ∷ (has_other_size (register_sizes (ranges_of scope operands)), cause.Sizes)
-    ∷ (list_any (has_twice ◌==◌) (instances (ranges_of scope operands)), cause.SameQubit)
+    ∷ (has_unknown (lookup_in scope) (apply name angles operands), cause.Unknown)
+    ∷ (has_other_shape (shape_of (lookup_in scope) (Declared name)) (length angles) (length operands), cause.WrongCount)
+    ∷ (list_any (has_past_index (lookup_in scope)) operands, cause.Index)
+    ∷ (has_other_size (register_sizes (ranges_of (lookup_in scope) operands)), cause.Sizes)
+    ∷ (list_any (has_twice ◌==◌) (instances (ranges_of (lookup_in scope) operands)), cause.SameQubit)
     ∷ [])
     (unsupported, (unknown, (count, (index, (sizes, (twice, tt))))))
 
@@ -136,8 +136,8 @@ pub record Comes (scope : Scope) (s : Sentence) (gates : List ElementaryGate) : 
 module _ (n : ℕ) (i : List ℕ) (name : List ℕ) (angles : List Formula) (gate : ℕ → List ElementaryGate) (events : List Event) where
   pub on_one_comes : (q : ℕ) → 0 + numeral i ≡ q → nat_le n (numeral i) ≡ false
       → list_any is_unsupported angles ≡ false
-      → has_unknown (register_scope n) (apply name angles (operand i ∷ [])) ≡ false
-      → has_other_shape (shape_of (register_scope n) (Declared name)) (length angles) 1 ≡ false
+      → has_unknown (lookup_in (register_scope n)) (apply name angles (operand i ∷ [])) ≡ false
+      → has_other_shape (shape_of (lookup_in (register_scope n)) (Declared name)) (length angles) 1 ≡ false
       → events_of (register_scope n) (application name angles (operand i ∷ [])) ≡ events
       → are_calm events ≡ true → call_count events ≤ most_of_one → applied events ≡ gate (0 + numeral i)
       → Comes (register_scope n) (application name angles (operand i ∷ [])) (gate q)
@@ -152,8 +152,8 @@ module _ (n : ℕ) (i : List ℕ) (name : List ℕ) (angles : List Formula) (gat
 module _ (n : ℕ) (i j : List ℕ) (name : List ℕ) (gate : ℕ → ℕ → List ElementaryGate) (events : List Event) where
   pub on_two_comes : (q r : ℕ) → 0 + numeral i ≡ q → 0 + numeral j ≡ r → nat_le n (numeral i) ≡ false → nat_le n (numeral j) ≡ false
       → ((0 + numeral j) == (0 + numeral i)) ≡ false
-      → has_unknown (register_scope n) (apply name [] (operand i ∷ operand j ∷ [])) ≡ false
-      → has_other_shape (shape_of (register_scope n) (Declared name)) 0 2 ≡ false
+      → has_unknown (lookup_in (register_scope n)) (apply name [] (operand i ∷ operand j ∷ [])) ≡ false
+      → has_other_shape (shape_of (lookup_in (register_scope n)) (Declared name)) 0 2 ≡ false
       → events_of (register_scope n) (application name [] (operand i ∷ operand j ∷ [])) ≡ events
       → are_calm events ≡ true → call_count events ≤ most_of_one → applied events ≡ gate (0 + numeral i) (0 + numeral j)
       → Comes (register_scope n) (application name [] (operand i ∷ operand j ∷ [])) (gate q r)
@@ -178,17 +178,17 @@ module _ (n m : ℕ) (name : List ℕ) (angles : List Formula) (other : bytes_eq
   abbrev wrong_by : Option Meaning → List Operand → Option Cause
   wrong_by meaning operands = first_cause (
       (list_any is_unsupported angles, cause.Unsupported)
-      ∷ (is_no_gate (shape_in meaning) || list_any (has_other_name []) angles || has_no_register (register_scope n) operands, cause.Unknown)
+      ∷ (is_no_gate (shape_in meaning) || list_any (has_other_name (places_among [])) angles || list_any (has_no_register (lookup_in (register_scope n))) operands, cause.Unknown)
       ∷ (has_other_shape (shape_in meaning) (length angles) (length operands), cause.WrongCount)
-      ∷ (has_past_index (register_scope n) operands, cause.Index)
-      ∷ (has_other_size (register_sizes (ranges_of (register_scope n) operands)), cause.Sizes)
-      ∷ (list_any (has_twice ◌==◌) (instances (ranges_of (register_scope n) operands)), cause.SameQubit)
+      ∷ (list_any (has_past_index (lookup_in (register_scope n))) operands, cause.Index)
+      ∷ (has_other_size (register_sizes (ranges_of (lookup_in (register_scope n)) operands)), cause.Sizes)
+      ∷ (list_any (has_twice ◌==◌) (instances (ranges_of (lookup_in (register_scope n)) operands)), cause.SameQubit)
       ∷ [])
 
   abbrev events_by : (ℕ → List Angle → List ℕ → List Event) → List Operand → List Event
   events_by expansion operands =
       flat_map (λ qubits. Called 1 ∷ after_angles (angles_of [] [] angles) (λ values. expansion 1 values qubits))
-      (instances (ranges_of (register_scope n) operands))
+      (instances (ranges_of (lookup_in (register_scope n)) operands))
 
   also : (operands : List Operand) (gates : List ElementaryGate)
       → wrong_in (both_scope n m) (application name angles operands) ≡ wrong_by (meaning_of name (both_scope n m)) operands
@@ -263,7 +263,7 @@ module _ (n : ℕ) (i : List ℕ) (q : ℕ) (is : 0 + numeral i ≡ q) (below : 
 
   -- u1 of an angle that is k sixteenth turns
   pub u1_comes : (f : Formula) (k : ℕ) → list_any is_unsupported (f ∷ []) ≡ false
-      → has_unknown (register_scope n) (apply (codes "u1") (f ∷ []) (operand i ∷ [])) ≡ false
+      → has_unknown (lookup_in (register_scope n)) (apply (codes "u1") (f ∷ []) (operand i ∷ [])) ≡ false
       → events_of (register_scope n) (application (codes "u1") (f ∷ []) (operand i ∷ []))
       ≡ Called 1 ∷ Called 2 ∷ Applied (elementary.U (0 + numeral i) 0 0 k) ∷ []
       → Comes (register_scope n) (application (codes "u1") (f ∷ []) (operand i ∷ [])) (elementary.U q 0 0 k ∷ [])

@@ -1,10 +1,10 @@
 -- What is left of a source, and what a sink took, where they are told.
-use Rattle.std.proofs.Common.{◌≡◌, ℕ, ◌+◌, ◌-◌, ◌≤◌, List, [], ◌∷◌, ◌++◌, length, take, drop, None, Some, refl, sym, ap, subst, ◌∙◌, arith, length-append, append-nil}
+use Rattle.std.proofs.Common.{◌≡◌, ℕ, ◌+◌, ◌-◌, ◌≤◌, List, ◌++◌, length, take, drop, None, Some, sym, ap, subst, ◌∙◌, arith, length-append}
 use Rattle.std.proofs.lemmas.Grind.{common_steps}
 use Rattle.std.proofs.lemmas.List.{take-take, take-append-drop, drop-drop, length-take}
 use Rattle.std.proofs.Math.Seq.{drop-append_seam, take-append_seam, take-add}
 use Rattle.std.proofs.KnownBytes.{Consumes-trans, Appends-trans}
-use Rattle.std.specs.Io.KnownBytes.{Consumes, Appends, Keeps, IsAtEnd}
+use Rattle.std.specs.Io.KnownBytes.{Consumes, Appends}
 use Rattle.std.specs.declared.option.Option.{Option}
 
 -- what is left after k bytes were consumed of told ones
@@ -22,32 +22,6 @@ pub Consumes-told_more : (a b c : Option (List ℕ)) (bs more bytes : List ℕ) 
     → length bs ≡ k → length more ≡ count → a ≡ Some bytes → (k + count ≤ length bytes) × (c ≡ Some (drop (k + count) bytes))
 Consumes-told_more a b c bs more bytes k count p q n m e =
     Consumes-told a c (bs ++ more) bytes (k + count) (Consumes-trans a b c bs more p q) e (length-append bs more ∙ ap (λ i. i + length more) n ∙ ap (λ i. k + i) m)
-
--- no bytes were consumed
-pub Consumes-none : (a : Option (List ℕ)) → Consumes a a []
-Consumes-none None = tt
-Consumes-none (Some x) = refl
-
--- what is left stays after bytes were consumed
-pub Consumes-kept : (a b c : Option (List ℕ)) (bs : List ℕ) → Consumes a b bs → Keeps b c → Consumes a c bs
-Consumes-kept None b c bs p k = tt
-Consumes-kept (Some x) None c bs p k = absurd p
-Consumes-kept (Some x) (Some y) None bs p k = absurd k
-Consumes-kept (Some x) (Some y) (Some z) bs p k = p ∙ ap (λ l. bs ++ l) (sym k)
-
-no_bytes : (bs : List ℕ) → length bs ≡ 0 → bs ≡ []
-no_bytes [] none = refl
-no_bytes (b ∷ bs) none = absurd (omega arith)
-
--- all of told bytes were consumed, where no more were and none is left
-pub Consumes-all : (a b c : Option (List ℕ)) (bs more bytes : List ℕ) → Consumes a b bs → Consumes b c more → length more ≡ 0 → IsAtEnd c
-    → a ≡ Some bytes → (bs ≡ bytes) × (c ≡ Some [])
-Consumes-all None b c bs more bytes p q none end e = absurd (cc)
-Consumes-all (Some x) None c bs more bytes p q none end e = absurd p
-Consumes-all (Some x) (Some y) None bs more bytes p q none end e = absurd q
-Consumes-all (Some x) (Some y) (Some z) bs more bytes p q none end e =
-    let whole : bytes ≡ x = cc in
-    (sym (whole ∙ p ∙ ap (λ l. bs ++ l) (q ∙ ap (λ l. l ++ z) (no_bytes more none) ∙ end) ∙ append-nil bs), ap Some end)
 
 -- a piece that is the rest past done holds no more than that rest
 pub length-rest : (bytes : List ℕ) (done count : ℕ) → done ≤ length bytes → count ≤ length (take (length bytes - done) (drop done bytes)) → done + count ≤ length bytes

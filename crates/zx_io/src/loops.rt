@@ -5,11 +5,9 @@ ghost use Rattle.std.specs.Io.KnownBytes.{Appends};
 ghost use Rattle.zx_io.specs.Causes.{Rose};
 
 use crate::errors::{ReadError, WriteFault};
+use crate::pieces::read_pieces;
 use crate::streams::{Failed, Sink, Source};
 use std::alloc::Global;
-
-// The most bytes that one read asks for.
-const LONGEST_PIECE: usize = 65_536;
 
 /// Reads all bytes of the source, up to its end, where they are at most `limit`.
 /// It takes at most `limit + 1` bytes, and knows by the last one that they are too many.
@@ -33,19 +31,9 @@ pub fn read_all<S: Source>(
         → (k : ℕ) × (k ≤ limit + 1) × (S.left source.new ≡ Some (drop k bytes)) }
     ensures later { S.faults source.old ≤ S.faults source.new }
 {
-    let mut storage = vec![in alloc; 0u8; LONGEST_PIECE.min(limit + 1)]?;
-    let buffer = storage.as_mut_slice();
     let mut bytes = Vec::new(alloc);
-    loop {
-        let room = limit + 1 - bytes.len();
-        let asked = room.min(buffer.len());
-        match source.read(&mut buffer[..asked]) {
-            Err(Failed) => return Err(ReadError::ReadFault),
-            Ok(0) => return Ok(bytes),
-            Ok(count) if count == room => return Err(ReadError::TooLong),
-            Ok(count) => bytes.extend_from_slice(&buffer[..count])?,
-        }
-    }
+    read_pieces(source, limit, &mut bytes)?;
+    Ok(bytes)
 }
 
 /// Writes all bytes to the sink, and flushes it.

@@ -20,6 +20,15 @@ pub trait Pieces {
             → OnOk result (stands_for self.new (bytes ++ piece.now)) };
 }
 
+// A list of bytes stands for the bytes that it has.
+impl Pieces for Vec<u8> {
+    ghost stands_for = { λ taken bytes. taken.items ≡ bytes };
+
+    fn take(&mut self, piece: &[u8]) -> Result<(), AllocError> {
+        self.extend_from_slice(piece)
+    }
+}
+
 // The most bytes that one read asks for.
 const LONGEST_PIECE: usize = 4_096;
 

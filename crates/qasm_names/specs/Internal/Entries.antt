@@ -9,8 +9,10 @@ use Rattle.qasm_reader.specs.declared.expression.Operator.TheVariants.{Add, Subt
 use Rattle.qasm_reader.specs.Syntax.{Formula}
 use Rattle.qasm_reader.specs.Postfix.{Entry, NumberEntry, PiEntry, NameEntry, NegateEntry, BinaryEntry, CallEntry}
 use Rattle.qasm_scope.specs.Angles.{is_power, is_unsupported, place_or_zero}
+use Rattle.qasm_scope.specs.Faults.{has_other_name}
+use Rattle.qasm_scope.specs.Angles.{numbered}
 use Rattle.qasm_names.specs.declared.places.Places.{Places}
-use Rattle.qasm_names.specs.Places.{has_unplaced, place_in, placed}
+use Rattle.qasm_names.specs.Places.{place_in}
 use Rattle.qasm_angle.specs.declared.expression.Operation as angle_operator
 use Rattle.qasm_angle.specs.declared.expression.Operation.TheVariants as operators
 use Rattle.qasm_angle.specs.declared.expression.ExprItem.TheVariants as step
@@ -57,7 +59,7 @@ step_of places (CallEntry function) = step.Pi
 
 -- an expression holds `^`, a function or a name that has no place
 abbrev pub has_other : Places → Formula → Bool
-has_other places f = is_unsupported f || has_unplaced places f
+has_other places f = is_unsupported f || has_other_name (place_in places) f
 
 -- the item is none of those, and is this step
 pub record IsStep (places : Places) (e : Entry) (item_step : ExprItem) : Type 0 where
@@ -73,5 +75,5 @@ pub record AreSteps (places : Places) (entries : List Entry) (steps : List ExprI
 -- places
 pub record IsPlaced (places : Places) (f : Formula) (placed_tree : tree.Tree) : Type 0 where
   pub supported : is_unsupported f ≡ false
-  pub all_placed : has_unplaced places f ≡ false
-  pub same : placed_tree ≡ placed places f
+  pub all_placed : has_other_name (place_in places) f ≡ false
+  pub same : placed_tree ≡ numbered (place_in places) f

@@ -21,7 +21,7 @@ use Rattle.qasm_names.specs.declared.header_table.HeaderCalled.TheVariants as he
 use Rattle.qasm_names.specs.declared.header_table.HeaderGate.{HeaderGate}
 use Rattle.qasm_names.specs.declared.header_table.Turn.{Turn}
 use Rattle.qasm_names.specs.declared.header_table.Turn.TheVariants as turn
-use Rattle.qasm_names.specs.Kept.{KeptCall, kept_calls}
+use Rattle.qasm_names.specs.Kept.{KeptCall, form_calls}
 
 -- the file that the header stands for
 abbrev pub header_name : List ℕ
@@ -84,7 +84,7 @@ body_after base gate = map (call_after base) gate.calls.now
 abbrev pub IsRow : ℕ → Scope → HeaderGate → GateForm → Type 0
 IsRow base scope gate form =
     (gate.name.now ≡ form.name) × (gate.angles ≡ length form.parameters) × (gate.qubits ≡ length form.qubits)
-    × (body_after base gate ≡ kept_calls scope form form.body)
+    × (body_after base gate ≡ form_calls scope form)
 
 -- each is, in the scope after those before it
 abbrev pub AreFirstRows : List HeaderGate → List GateForm → ℕ → Scope → Type 0

@@ -5,18 +5,16 @@ use Rattle.std.specs.Option.{option_or}
 use Rattle.zx_model.specs.Bits.{member}
 use Rattle.zx_gates.specs.declared.elementary.Measure.{Measure}
 use Rattle.qasm_reader.specs.Syntax.{Operand, Sentence, Act, Measured as MeasuredAs}
-use Rattle.qasm_scope.specs.Applications.{Range, place_at}
+use Rattle.qasm_scope.specs.Applications.{Range, place_at, register_of}
 use Rattle.qasm_scope.specs.declared.causes.Cause.{Cause}
 use Rattle.qasm_scope.specs.declared.causes.Cause.TheVariants as cause
 use Rattle.qasm_scope.specs.Faults.{is_no_register, is_past, wrong_behind, wrong_in}
 use Rattle.qasm_scope.specs.Meaning.{most_calls, wrong_with}
-use Rattle.qasm_scope.specs.Measurements.{are_unlike, bits_of, count_in, holds_any, qubits_of}
-use Rattle.qasm_scope.specs.Scope.{Scope}
-use Rattle.qasm_names.specs.Checks.{Symbols}
-use Rattle.qasm_names.specs.Kept.{found, symbol_bits}
+use Rattle.qasm_scope.specs.Measurements.{are_unlike, bits_of, count_in, holds_any, qubits_of, bit_register_of}
+use Rattle.qasm_scope.specs.Scope.{Scope, Lookup}
 use Rattle.qasm_unroll.specs.declared.measured.Measured.{Measured}
 use Rattle.qasm_unroll.specs.declared.unroll.Unrolled.{Unrolled}
-use Rattle.qasm_unroll.specs.Internal.Spans.{cut_place_at, register_by, span_by, span_in}
+use Rattle.qasm_unroll.specs.Internal.Spans.{cut_place_at, span_in, span_of}
 
 -- the sets are those of the qubits and the bits of the list
 pub record Remembers (measured : Measured) : Type 0 where
@@ -40,22 +38,18 @@ cut_measure from to index =
 abbrev pub cut_measures : Range → Range → List Measure
 cut_measures from to = map (cut_measure from to) (range_with_len 0 (count_in from))
 
--- the register of bits of an argument
-abbrev pub bits_by : Symbols → Operand → Option (ℕ × ℕ)
-bits_by symbols operand = symbol_bits (found operand.register symbols)
-
 -- the first cause of a measurement by what its arguments name
-abbrev pub named_cause : Symbols → Operand → Operand → Option Cause
-named_cause symbols from to =
-    if is_no_register (register_by symbols from) || is_no_register (bits_by symbols to) then Some cause.Unknown else
-    if is_past (register_by symbols from) from.index || is_past (bits_by symbols to) to.index then Some cause.Index
+abbrev pub named_cause : Lookup → Operand → Operand → Option Cause
+named_cause names from to =
+    if is_no_register (register_of names from) || is_no_register (bit_register_of names to) then Some cause.Unknown else
+    if is_past (register_of names from) from.index || is_past (bit_register_of names to) to.index then Some cause.Index
     else None
 
 -- nothing is wrong with what they name, and this is what they stand for
-pub record AreFoundSpans (symbols : Symbols) (from to : Operand) (qubits bits : Range) : Type 0 where
-  pub named : named_cause symbols from to ≡ None
-  pub same_qubits : qubits ≡ span_by symbols from
-  pub same_bits : bits ≡ span_in (bits_by symbols to) to.index
+pub record AreFoundSpans (names : Lookup) (from to : Operand) (qubits bits : Range) : Type 0 where
+  pub named : named_cause names from to ≡ None
+  pub same_qubits : qubits ≡ span_of names from
+  pub same_bits : bits ≡ span_in (bit_register_of names to) to.index
 
 -- the first cause, behind others, of one whose arguments stand for these qubits and bits
 abbrev pub found_cause : List Measure → Range → Range → Option Cause

@@ -1,14 +1,14 @@
--- Arguments of applications by what names are kept as: a private matter of the program.
+-- Arguments of applications, in numbers that are cut off: a private matter of the program.
 use Rattle.std.specs.Prelude.{ℕ, ◌+◌, ◌-◌, ◌^◌, ◌==◌, Bool, false, ◌&&◌, ◌||◌, if◌then◌else◌, ◌≡◌, List, [], ◌∷◌}
-use Rattle.std.specs.Prelude.{map, length, min, get_or, Option, None, Some, Result, nat_le, nat_lt}
+use Rattle.std.specs.Prelude.{map, min, get_or, Option, None, Some, Result, nat_le, nat_lt}
 use Rattle.std.specs.List.{flat_map, list_any, range_with_len}
 use Rattle.qasm_reader.specs.Syntax.{Operand, Apply}
-use Rattle.qasm_scope.specs.Applications.{Range, Single, Register, place_at, register_sizes}
-use Rattle.qasm_scope.specs.Angles.{is_unsupported, numbered}
-use Rattle.qasm_names.specs.Checks.{Symbols, shape_by, called_by}
-use Rattle.qasm_names.specs.Kept.{found, symbol_register}
-use Rattle.qasm_scope.specs.Faults.{is_no_gate, is_no_register, is_past, has_other_name, has_other_shape}
-use Rattle.qasm_scope.specs.Scope.{numeral}
+use Rattle.qasm_scope.specs.Applications.{Range, Single, Register, place_at, register_of, register_sizes}
+use Rattle.qasm_scope.specs.Angles.{is_unsupported, numbered, places_among}
+use Rattle.qasm_names.specs.Checks.{Symbols, kept_by, lookup_by}
+use Rattle.qasm_names.specs.Kept.{KeptNames, called_for}
+use Rattle.qasm_scope.specs.Faults.{has_no_register, has_past_index, has_unknown, has_wrong_count}
+use Rattle.qasm_scope.specs.Scope.{Lookup, numeral}
 use Rattle.qasm_angle.specs.Trees.{Tree}
 use Rattle.qasm_angle.specs.declared.angle.Angle.{Angle}
 use Rattle.qasm_scope.specs.Calls.{Event}
@@ -25,26 +25,17 @@ abbrev pub span_range : Span → Range
 span_range (span.Single qubit) = Single qubit
 span_range (span.Register first size) = Register first size
 
-abbrev pub register_by : Symbols → Operand → Option (ℕ × ℕ)
-register_by symbols operand = symbol_register (found operand.register symbols)
-
 -- what the name that was looked up last stands for
-abbrev pub IsLastRegister : Symbols → LastRegister → Type 0
-IsLastRegister symbols last = last.register ≡ symbol_register (found last.name.now symbols)
-
-abbrev pub no_register_by : Symbols → Operand → Bool
-no_register_by symbols operand = is_no_register (register_by symbols operand)
-
-abbrev pub past_by : Symbols → Operand → Bool
-past_by symbols operand = is_past (register_by symbols operand) operand.index
+abbrev pub IsLastRegister : Lookup → LastRegister → Type 0
+IsLastRegister names last = last.register ≡ names.qubits last.name.now
 
 -- the argument is no register of qubits, nor one of the qubits that it has
-abbrev pub is_missing : Symbols → Operand → Bool
-is_missing symbols operand = no_register_by symbols operand || past_by symbols operand
+abbrev pub is_missing : Lookup → Operand → Bool
+is_missing names operand = has_no_register names operand || has_past_index names operand
 
 -- one of the arguments isn't
-abbrev pub any_missing : Symbols → List Operand → Bool
-any_missing symbols operands = list_any (is_missing symbols) operands
+abbrev pub any_missing : Lookup → List Operand → Bool
+any_missing names operands = list_any (is_missing names) operands
 
 -- sums past the largest number of the program are cut off there
 abbrev pub span_in : Option (ℕ × ℕ) → Option (List ℕ) → Range
@@ -52,8 +43,8 @@ span_in (Some register) (Some index) = Single (min (register.0 + min (numeral in
 span_in (Some register) None = Register register.0 register.1
 span_in None index = Single 0
 
-abbrev pub span_by : Symbols → Operand → Range
-span_by symbols operand = span_in (register_by symbols operand) operand.index
+abbrev pub span_of : Lookup → Operand → Range
+span_of names operand = span_in (register_of names operand) operand.index
 
 -- a qubit is one of so many from the first on
 abbrev pub is_within : ℕ → ℕ → ℕ → Bool
@@ -95,42 +86,36 @@ instances_events numbered called values ranges =
     flat_map (called_events numbered called 1 values) (cut_instances ranges)
 
 -- the argument is one, and this is what it stands for
-pub record IsSpan (symbols : Symbols) (operand : Operand) (range : Range) : Type 0 where
-  pub a_register : no_register_by symbols operand ≡ false
-  pub within : past_by symbols operand ≡ false
-  pub same : range ≡ span_by symbols operand
+pub record IsSpan (names : Lookup) (operand : Operand) (range : Range) : Type 0 where
+  pub a_register : has_no_register names operand ≡ false
+  pub within : has_past_index names operand ≡ false
+  pub same : range ≡ span_of names operand
 
 -- each argument is a register of qubits or one of the qubits that it has, and these are what they stand for
-pub record AreSpans (symbols : Symbols) (operands : List Operand) (ranges : List Range) : Type 0 where
-  pub all_registers : list_any (no_register_by symbols) operands ≡ false
-  pub all_within : list_any (past_by symbols) operands ≡ false
-  pub same : ranges ≡ map (span_by symbols) operands
-
--- a name in an application isn't known, or isn't what is needed there
-abbrev pub is_unknown : Symbols → Apply → Bool
-is_unknown symbols a =
-    is_no_gate (shape_by symbols a.gate) || list_any (has_other_name []) a.angles
-    || list_any (no_register_by symbols) a.qubits
-
-abbrev pub is_wrong_count : Symbols → Apply → Bool
-is_wrong_count symbols a = has_other_shape (shape_by symbols a.gate) (length a.angles) (length a.qubits)
+pub record AreSpans (names : Lookup) (operands : List Operand) (ranges : List Range) : Type 0 where
+  pub all_registers : list_any (has_no_register names) operands ≡ false
+  pub all_within : list_any (has_past_index names) operands ≡ false
+  pub same : ranges ≡ map (span_of names) operands
 
 -- an application is that of this gate with these angles to these qubits, its sizes and repeated qubits aside
-pub record IsResolved (symbols : Symbols) (a : Apply) (gate : CalledGate) (angles : List Tree)
+pub record IsResolvedIn (names : Lookup) (kept : KeptNames) (a : Apply) (gate : CalledGate) (angles : List Tree)
     (ranges : List Range) : Type 0 where
   pub supported : list_any is_unsupported a.angles ≡ false
-  pub all_known : is_unknown symbols a ≡ false
-  pub same_counts : is_wrong_count symbols a ≡ false
-  pub within : list_any (past_by symbols) a.qubits ≡ false
-  pub same_gate : gate ≡ called_by symbols a.gate
-  pub same_angles : angles ≡ map (numbered []) a.angles
-  pub same_spans : ranges ≡ map (span_by symbols) a.qubits
+  pub all_known : has_unknown names a ≡ false
+  pub same_counts : has_wrong_count names a ≡ false
+  pub within : list_any (has_past_index names) a.qubits ≡ false
+  pub same_gate : gate ≡ called_for kept a.gate
+  pub same_angles : angles ≡ map (numbered (places_among [])) a.angles
+  pub same_spans : ranges ≡ map (span_of names) a.qubits
+
+abbrev pub IsResolved : Symbols → Apply → CalledGate → List Tree → List Range → Type 0
+IsResolved symbols a gate angles ranges = IsResolvedIn (lookup_by symbols) (kept_by symbols) a gate angles ranges
 
 -- something in it isn't known, isn't supported, or isn't there
-abbrev pub is_unresolved : Symbols → Apply → Bool
-is_unresolved symbols a =
-    list_any is_unsupported a.angles || is_unknown symbols a || is_wrong_count symbols a
-    || list_any (past_by symbols) a.qubits
+abbrev pub is_unresolved : Lookup → Apply → Bool
+is_unresolved names a =
+    list_any is_unsupported a.angles || has_unknown names a || has_wrong_count names a
+    || list_any (has_past_index names) a.qubits
 
 -- the first cause of one that isn't resolved
 abbrev pub unresolved_cause : Bool → Bool → Bool → Cause

@@ -1,9 +1,10 @@
 use Rattle.std.proofs.Common.{◌≡◌, map, drop}
 use Rattle.std.specs.List.{list_any}
 use Rattle.qasm_reader.specs.Postfix.{formula_of}
-use Rattle.qasm_names.specs.Places.{has_unplaced}
 use Rattle.qasm_names.proofs.expressions.any_other_name.Given as goal
+use Rattle.qasm_scope.specs.Faults.{has_other_name}
+use Rattle.qasm_names.specs.Places.{place_in}
 
 abbrev pub invariant-loop-expression : goal.invariant-loop-expression
 invariant-loop-expression l =
-    list_any (has_unplaced l.places) (map formula_of l.expressions) ≡ list_any (has_unplaced l.places) (map formula_of (drop l.expression-index l.expressions))
+    list_any (has_other_name (place_in l.places)) (map formula_of l.expressions) ≡ list_any (has_other_name (place_in l.places)) (map formula_of (drop l.expression-index l.expressions))

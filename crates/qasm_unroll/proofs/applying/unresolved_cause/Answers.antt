@@ -3,18 +3,20 @@ use Rattle.std.proofs.Common.{◌≡◌, false, map, length, sym, ap, ap₂, ◌
 use Rattle.std.proofs.lemmas.List.{length-map}
 use Rattle.std.specs.List.{list_any}
 use Rattle.qasm_scope.specs.Angles.{is_unsupported}
+use Rattle.qasm_scope.specs.Faults.{has_unknown, has_wrong_count}
 use Rattle.qasm_reader.specs.Postfix.{formula_of}
 use Rattle.qasm_reader.specs.Views.{application, operand}
 use Rattle.qasm_names.specs.AppliedGates.{gate_faults}
-use Rattle.qasm_unroll.specs.Internal.Spans.{is_unknown, is_wrong_count, unresolved_cause}
+use Rattle.qasm_names.specs.Checks.{lookup_by}
+use Rattle.qasm_unroll.specs.Internal.Spans.{unresolved_cause}
 use Rattle.qasm_unroll.proofs.ApplyLemmas.{same-causes}
 use Rattle.qasm_unroll.proofs.applying.unresolved_cause.Goals as goal
 use Rattle.qasm_unroll.proofs.applying.unresolved_cause.Goals.{After-is_unknown}
 
 -- the causes by the gate's faults
 causes : (c : After-is_unknown) → unresolved_cause c.gate_faults-faults.result.unsupported c.is_unknown.result c.gate_faults-faults.result.wrong_count
-    ≡ unresolved_cause (list_any is_unsupported (application c.args.application.now).angles) (is_unknown c.args.names.now.symbols (application c.args.application.now))
-    (is_wrong_count c.args.names.now.symbols (application c.args.application.now))
+    ≡ unresolved_cause (list_any is_unsupported (application c.args.application.now).angles) (has_unknown (lookup_by c.args.names.now.symbols) (application c.args.application.now))
+    (has_wrong_count (lookup_by c.args.names.now.symbols) (application c.args.application.now))
 causes c =
     let a = application c.args.application.now in
     let symbols = c.args.names.now.symbols in
